@@ -1,0 +1,3 @@
+-- Laws of the definitions, for every crate above.
+pub mod Tests
+pub mod Lists

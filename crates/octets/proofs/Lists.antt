@@ -1,0 +1,42 @@
+-- Laws of `part`, `placed`, `front` and `sized`.
+use Prim.Native.Nat.{ℕ, zero, suc, _+_, _-_, _≤_, _<_}
+use mathlib.Core.Path.{_≡_, refl, sym, ap, ap₂, _∙_}
+use mathlib.Core.List.{List, [], _∷_, _++_, append-assoc, append-nil}
+use native.Mathlib.Nat.{zero-add}
+use native.Mathlib.Omega.{arith}
+use lib.ListN.{length, take, drop, replicate, length-append, length-take, length-drop, length-replicate, take-append-drop, drop-of-length-le}
+use lib.Seq.{take-all, take-at, drop-at, drop-drop, length-take-le, take-append-le, take-length}
+use Rattle.octets.specs.Octets.{part, placed, front, sized}
+
+pub placed-length : (at : ℕ) (e d : List ℕ) → at + length e ≤ length d → length (placed at e d) ≡ length d
+unfolding placed
+placed-length at e d h = simp (length-append, length-take, length-drop) (omega arith)
+
+pub front-is-placed : (e d : List ℕ) → front e d ≡ placed 0 e d
+unfolding front placed
+front-is-placed e d = rw zero-add
+
+-- what a copy to the front of a part leaves, the part having been lent from `at` to the end
+pub lent-placed : (at : ℕ) (e d y : List ℕ) → at + length e ≤ length d → y ≡ take (length e) e ++ drop (length e) (take (length d - at) (drop at d))
+    → take at d ++ (y ++ drop (length d - at) (drop at d)) ≡ placed at e d
+unfolding placed
+lent-placed at e d y h q =
+    rw (q, take-length e, take-all (length d - at) (drop at d) (simp length-drop (omega arith)), drop-drop (length d - at) at d, drop-of-length-le d {i = at + (length d - at)} (omega arith), append-nil)
+    (rw drop-drop)
+
+-- two writes, one straight after the other, are one
+pub placed-placed : (at : ℕ) (e f d : List ℕ) → at + length e + length f ≤ length d → placed (at + length e) f (placed at e d) ≡ placed at (e ++ f) d
+unfolding placed
+placed-placed at e f d h =
+    let p : List ℕ = take at d in
+    let x : List ℕ = drop (at + length e) d in
+    let lp : length p ≡ at = length-take-le at d (omega arith) in
+    let lpe : length (p ++ e) ≡ at + length e = simp (length-append, lp) in
+    let low : take (at + length e) (p ++ (e ++ x)) ≡ p ++ e = rw (← append-assoc p e x) (take-at (p ++ e) x (at + length e) lpe) in
+    let mid : drop (at + length e) (p ++ (e ++ x)) ≡ x = rw (← append-assoc p e x) (drop-at (p ++ e) x (at + length e) lpe) in
+    let high : drop (at + length e + length f) (p ++ (e ++ x)) ≡ drop (at + length e + length f) d =
+    sym (drop-drop (length f) (at + length e) (p ++ (e ++ x))) ∙ ap (drop (length f)) mid ∙ drop-drop (length f) (at + length e) d in
+    let sum : at + length e + length f ≡ at + length (e ++ f) = simp length-append (omega arith) in
+    ap₂ (λ (a b : List ℕ). a ++ (f ++ b)) low (high ∙ ap (λ (n : ℕ). drop n d) sum)
+    ∙ append-assoc p e (f ++ drop (at + length (e ++ f)) d)
+    ∙ ap (λ (l : List ℕ). p ++ l) (sym (append-assoc e f (drop (at + length (e ++ f)) d)))

@@ -1,0 +1,32 @@
+use Prim.Native.Nat.{ℕ}
+use native.Mathlib.Nat.{add-sub-cancel-left}
+use mathlib.Core.Path.{ap}
+use denote.Ref.{now}
+use lib.ListN.{take, drop}
+use Rattle.octets.specs.Octets.{part}
+use borrow.Author.Needs.{needs}
+use Rattle.octets.proofs.parts.between.Statement.{statement}
+use Rattle.octets.proofs.parts.between.Tie as tie
+use Rattle.octets.proofs.parts.between.Reads as reads
+use Rattle.octets.proofs.parts.between.Lts as lts
+
+add-result : tie.Need-add-result
+add-result c = search needs
+
+sub-result : tie.Need-sub-result
+sub-result c = search needs
+
+part-result-start : tie.Need-part-result-start
+part-result-start c = search needs
+
+part-result-end : tie.Need-part-result-end
+part-result-end c = search needs
+
+returns : tie.Need-returns
+unfolding part
+returns c =
+    let a = c .before .args in
+    ap (λ (k : ℕ). take k (drop (a .start) (now (a .s)))) (add-sub-cancel-left (a .start) (a .size))
+
+pub between-spec : {M : Type 1} → statement M
+between-spec = tie.close (tie.spec add-result sub-result part-result-start part-result-end returns)

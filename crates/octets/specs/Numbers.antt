@@ -1,0 +1,54 @@
+-- Document 01, "The numbers a call gives back".
+use Prim.Native.Nat.{ℕ}
+
+-- the work was done
+abbrev pub DONE : ℕ
+DONE = 0
+
+-- fewer octets than the header, or than the Length field, asks
+abbrev pub SHORT : ℕ
+SHORT = 1
+
+-- route type not 1 to 7
+abbrev pub TYPE : ℕ
+TYPE = 2
+
+-- the body ends inside a field, or what remains is not the last field, or octets follow a single NLRI
+abbrev pub LENGTH : ℕ
+LENGTH = 3
+
+-- an address length the type and family do not allow; at writing also an originator not of 4 or 16 octets
+abbrev pub WIDTH : ℕ
+WIDTH = 4
+
+-- a Leaf's key is not a well-formed NLRI of type 1, 2 or 3
+abbrev pub KEY : ℕ
+KEY = 5
+
+-- tunnel type not in the table of identifiers
+abbrev pub TUNNEL : ℕ
+TUNNEL = 6
+
+-- identifier not of that type's form
+abbrev pub IDENT : ℕ
+IDENT = 7
+
+-- attribute over 64 octets, or run over 4,096
+abbrev pub LONG : ℕ
+LONG = 8
+
+-- a label field over 16,777,215 at writing
+abbrev pub LABEL : ℕ
+LABEL = 9
+
+-- AFI not 1 or 2
+abbrev pub FAMILY : ℕ
+FAMILY = 10
+
+-- a group not of the family's size, or not multicast
+abbrev pub FLOW : ℕ
+FLOW = 15
+
+-- output buffer too small
+abbrev pub SPACE : ℕ
+SPACE = 16

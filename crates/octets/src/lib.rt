@@ -1,0 +1,18 @@
+// Octets in slices, and the numbers that calls give back: what the codecs share. Neither installed nor exported to C, so
+// its helpers may have a `requires`.
+pub mod number;
+pub mod parts;
+
+// A part of a slice: `size` octets from octet `start`.
+#[repr(C)]
+pub struct Span {
+    pub start: usize,
+    pub size: usize,
+}
+
+// What a writer answers: DONE and the octets written, or the refusal's number and 0.
+#[repr(C)]
+pub struct Written {
+    pub number: u32,
+    pub size: usize,
+}

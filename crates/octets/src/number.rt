@@ -1,0 +1,26 @@
+// The numbers a call gives back (document 01, "The numbers a call gives back").
+pub const DONE: u32 = 0;
+
+pub const SHORT: u32 = 1;
+
+pub const TYPE: u32 = 2;
+
+pub const LENGTH: u32 = 3;
+
+pub const WIDTH: u32 = 4;
+
+pub const KEY: u32 = 5;
+
+pub const TUNNEL: u32 = 6;
+
+pub const IDENT: u32 = 7;
+
+pub const LONG: u32 = 8;
+
+pub const LABEL: u32 = 9;
+
+pub const FAMILY: u32 = 10;
+
+pub const FLOW: u32 = 15;
+
+pub const SPACE: u32 = 16;

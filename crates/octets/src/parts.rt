@@ -1,0 +1,29 @@
+// Parts of a slice: cut out to read, and filled to write.
+ghost use mathlib.Core.Path.{_≡_};
+ghost use Prim.Native.Nat.{_+_, _≤_};
+ghost use lib.ListN.{length, drop};
+ghost use Rattle.octets.specs.Octets.{part, placed};
+
+// The octets from `at` on.
+pub fn after(s: &[u8], at: usize) -> &[u8]
+    requires { ⌜ at ≤ length (now s) ⌝ }
+    ensures { λ r. ⌜ now r ≡ drop at (now (s .entry)) ⌝ }
+{
+    &s[at..]
+}
+
+// `size` octets from `start` on.
+pub fn between(s: &[u8], start: usize, size: usize) -> &[u8]
+    requires { ⌜ start + size ≤ length (now s) ⌝ }
+    ensures { λ r. ⌜ now r ≡ part (now (s .entry)) start size ⌝ }
+{
+    &s[start..start + size]
+}
+
+// Puts all of `octets` into `output` from `at` on, and answers the place just past them.
+pub fn place(octets: &[u8], output: &mut [u8], at: usize) -> usize
+    requires { ⌜ at + length (now octets) ≤ length (now output) ⌝ }
+    ensures { λ r. ⌜ (r ≡ at + length (now (octets .entry))) × (now (output .exit) ≡ placed at (now (octets .entry)) (now (output .entry))) ⌝ }
+{
+    at + bytes::copy(octets, &mut output[at..])
+}

@@ -1,0 +1,180 @@
+/*
+ * mvpn.h: MCAST-VPN NLRI (RFC 6514, RFC 6625) and the PMSI Tunnel attribute (RFC 6514, RFC 8556), read and written.
+ *
+ * Every call ends with a stated answer on any octets. A call that refuses returns its number, changes no octet of any
+ * buffer, and leaves every other field of its answer 0, but for the count and offset of a walk and the cursor of a step.
+ *
+ * What the caller owes: a pointer is valid for the length given beside it; where the length is 0 the pointer may be any
+ * non-null address. A buffer that is written overlaps no other argument. The library keeps nothing between calls, has
+ * no state of its own and takes no memory, so calls from several threads are independent unless they share a buffer
+ * that one of them writes.
+ *
+ * Octets are in network order, as on the wire. AFI is 1 (IPv4) or 2 (IPv6), the whole 16-bit number.
+ */
+#ifndef MVPN_H
+#define MVPN_H
+
+#include <stddef.h>
+#include <stdint.h>
+
+#ifdef __cplusplus
+extern "C" {
+#endif
+
+/* The numbers a call gives back. */
+enum {
+    MVPN_DONE = 0,    /* the work was done */
+    MVPN_SHORT = 1,   /* fewer octets than the header, or than the Length field, asks */
+    MVPN_TYPE = 2,    /* route type not 1 to 7 */
+    MVPN_LENGTH = 3,  /* the body ends inside a field, or what remains is not the last field, or octets follow a single NLRI */
+    MVPN_WIDTH = 4,   /* an address length that the type and family do not allow; at writing also an originator not of 4 or 16 octets */
+    MVPN_KEY = 5,     /* a Leaf's key is not a well-formed NLRI of type 1, 2 or 3 */
+    MVPN_TUNNEL = 6,  /* tunnel type not 0 to 7 or 11 */
+    MVPN_IDENT = 7,   /* identifier not of that tunnel type's form */
+    MVPN_LONG = 8,    /* attribute over 64 octets, or run over 4,096 */
+    MVPN_LABEL = 9,   /* a label field over 16,777,215 at writing */
+    MVPN_FAMILY = 10, /* AFI not 1 or 2 */
+    MVPN_FLOW = 15,   /* a group not of the family's size, or not multicast */
+    MVPN_SPACE = 16   /* output buffer too small */
+};
+
+/* Route types (RFC 6514, section 4). */
+enum {
+    MVPN_INTRA_AS_I_PMSI = 1,
+    MVPN_INTER_AS_I_PMSI = 2,
+    MVPN_S_PMSI = 3,
+    MVPN_LEAF = 4,
+    MVPN_SOURCE_ACTIVE = 5,
+    MVPN_SHARED_TREE_JOIN = 6,
+    MVPN_SOURCE_TREE_JOIN = 7
+};
+
+/* Tunnel types (RFC 6514, section 5; RFC 8556, section 2). */
+enum {
+    MVPN_TUNNEL_NONE = 0,
+    MVPN_TUNNEL_RSVP_TE_P2MP = 1,
+    MVPN_TUNNEL_MLDP_P2MP = 2,
+    MVPN_TUNNEL_PIM_SSM = 3,
+    MVPN_TUNNEL_PIM_SM = 4,
+    MVPN_TUNNEL_BIDIR_PIM = 5,
+    MVPN_TUNNEL_INGRESS_REPLICATION = 6,
+    MVPN_TUNNEL_MLDP_MP2MP = 7,
+    MVPN_TUNNEL_BIER = 11
+};
+
+/* Group classes (RFC 4607): 232.0.0.0/8 and FF3x::/32 are SSM, any other multicast group is ASM. */
+enum { MVPN_ASM = 1, MVPN_SSM = 2 };
+
+/* A part of a buffer: `size` octets from octet `start`. */
+typedef struct { size_t start, size; } mvpn_span;
+
+/* Eight octets, kept as they came. */
+typedef struct { uint8_t octets[8]; } mvpn_route_distinguisher;
+
+/* An address: 4 or 16 octets, or, in a source or group of type 3, 0 octets: the wildcard. In an answer the octets past
+ * `size` are 0; in an argument they are not looked at. */
+typedef struct { uint8_t octets[16]; uint8_t size; } mvpn_address;
+
+/* The fields of an NLRI. In an answer the fields that the route type lacks are 0; in an argument they are not looked at.
+ * A Leaf's key is not among them: reading gives its span, writing takes its octets. */
+typedef struct {
+    mvpn_route_distinguisher distinguisher; /* types 1, 2, 3, 5, 6, 7 */
+    mvpn_address source;                    /* types 3, 5, 6, 7 */
+    mvpn_address group;                     /* types 3, 5, 6, 7 */
+    mvpn_address originator;                /* types 1, 3, 4 */
+    uint32_t source_as;                     /* types 2, 6, 7 */
+    uint8_t route_type;
+} mvpn_nlri;
+
+typedef struct {
+    uint32_t number;
+    mvpn_nlri nlri;
+    mvpn_span key; /* type 4: where in the NLRI read its key stands */
+} mvpn_nlri_reading;
+
+typedef struct {
+    uint32_t number;
+    size_t size; /* octets written at the front of the output; those past it are untouched */
+} mvpn_written;
+
+/*
+ * Reads a single NLRI. FAMILY, SHORT, TYPE, then the body left to right (LENGTH, WIDTH, KEY), then LENGTH for octets
+ * after it.
+ */
+mvpn_nlri_reading mvpn_nlri_read(uint16_t afi, const uint8_t *nlri, size_t nlri_len);
+
+/*
+ * Writes an NLRI at the front of the output. FAMILY, TYPE, WIDTH, KEY, SPACE. `key` is a Leaf's key: exactly one NLRI of
+ * type 1, 2 or 3 under the same AFI; it is not looked at for other types.
+ */
+mvpn_written mvpn_nlri_write(uint16_t afi, mvpn_nlri nlri, const uint8_t *key, size_t key_len, uint8_t *output, size_t output_len);
+
+/* How an NLRI is laid out: its route type, its Length field, and the size in octets of each field whose size varies (0
+ * for a wildcard and for a field that the type lacks). */
+typedef struct {
+    size_t route_type;
+    size_t length;
+    size_t source;
+    size_t group;
+    size_t originator;
+    size_t key; /* with its header */
+} mvpn_layout;
+
+typedef struct {
+    size_t cursor;      /* just past the NLRI read; else the cursor given */
+    uint32_t number;
+    mvpn_layout layout; /* all 0 at the run's end, where the number is DONE */
+} mvpn_stepped;
+
+typedef struct { uint32_t number, count, offset; } mvpn_walked;
+
+/*
+ * Reads the NLRI of a run at a cursor (0 at first): run[cursor] up to run[answer.cursor]. FAMILY, LONG (a run over 4,096
+ * octets), then NLRI reading. At the run's end: DONE with route type 0. With a cursor past the end: SHORT.
+ */
+mvpn_stepped mvpn_step(uint16_t afi, const uint8_t *run, size_t run_len, size_t cursor);
+
+/*
+ * Walks a run of NLRIs up to the first refusal: how many were read, the offset just past the last one read, and the
+ * number of the refusal, or DONE at the run's end. A bad AFI gives 0, 0, FAMILY; a run over 4,096 octets 0, 0, LONG.
+ */
+mvpn_walked mvpn_walk(uint16_t afi, const uint8_t *run, size_t run_len);
+
+typedef struct { uint32_t number, group_class; } mvpn_group;
+
+/* The class of a customer group. FAMILY, FLOW. */
+mvpn_group mvpn_group_class(uint16_t afi, const uint8_t *group, size_t group_len);
+
+/* The shape of an mLDP FEC element (RFC 6388, section 2.2): its type (6, 7 or 8), its address family (1 or 2), and where
+ * in the attribute read its root address and its opaque value stand. */
+typedef struct {
+    uint32_t fec_type, address_family;
+    mvpn_span root, opaque;
+} mvpn_fec;
+
+typedef struct {
+    uint32_t number;
+    uint32_t flags;
+    uint32_t tunnel_type;
+    uint32_t label_field;               /* the whole 24-bit field */
+    uint32_t label;                     /* the field divided by 16 */
+    uint32_t leaf_information_required; /* 0 or 1: flag bit value 1 */
+    mvpn_span identifier;               /* where in the attribute read its tunnel identifier stands */
+    mvpn_fec fec;                       /* tunnel types 2 and 7; else 0 */
+} mvpn_attribute_reading;
+
+/* Reads a PMSI Tunnel attribute. LONG (over 64 octets), SHORT (under 5), TUNNEL, IDENT. */
+mvpn_attribute_reading mvpn_attribute_read(const uint8_t *attribute, size_t attribute_len);
+
+/*
+ * Writes a PMSI Tunnel attribute at the front of the output. LONG (an identifier over 59 octets), TUNNEL, IDENT, LABEL
+ * (a label field over 16,777,215), SPACE.
+ */
+mvpn_written mvpn_attribute_write(uint8_t flags, uint8_t tunnel_type, uint32_t label_field,
+                                  const uint8_t *identifier, size_t identifier_len, uint8_t *output, size_t output_len);
+
+#ifdef __cplusplus
+}
+#endif
+
+#endif
