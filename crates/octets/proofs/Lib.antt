@@ -1,3 +1,5 @@
 -- Laws of the definitions, for every crate above.
 pub mod Tests
+pub mod Outcomes
+pub mod Inversions
 pub mod Lists

@@ -1,0 +1,124 @@
+-- The NLRI at the front of octets: the inner functions' definitions are the page's.
+use mathlib.Core.Path.{_≡_, refl, sym, _∙_, ap}
+use mathlib.Core.Bool.{Bool, true, false}
+use mathlib.Core.List.{List, [], _∷_}
+use Prim.Native.Nat.{ℕ, _+_, _-_, _≤_}
+use native.Mathlib.Omega.{arith}
+use borrow.Author.Tests.{ltb-false, ne-eqb}
+use lib.ListN.{length, getD, take, drop, length-take, length-drop}
+use lib.Seq.{length-take-le}
+use lib.Dec.{eqb, ltb}
+use Rattle.octets.specs.Numbers.{SHORT, TYPE}
+use Rattle.octets.specs.Choice.{pick}
+use Rattle.octets.specs.Outcome.{Outcome, given, refused, andThen, onOutcome}
+use Rattle.octets.specs.Octets.{part}
+use Rattle.octets.proofs.Outcomes.{and-assoc, and-cong, and-pick, and-given, and-refused, on-mapped, pick-cong, pick-false}
+use Rattle.octets.proofs.Inversions.{never, unless, only, passed, Passed, given-same, on-given-given}
+use Rattle.nlri.specs.declared.layout.Layout.{Layout}
+use Rattle.nlri.specs.Bodies.{Kind, Row, row, bodies, onBody}
+use Rattle.nlri.specs.Reading.{Laid, fieldSize, sizesOf, laidWith, laidAt, noKey, keyField}
+use Rattle.nlri.specs.Layouts.{layoutOf, layoutAt}
+use Rattle.nlri.specs.Inner.{header, leaf, bodyWith, unkeyedBody, anyBody, unkeyed, anyFront, keySize}
+use Rattle.nlri.proofs.Rows.{rowLayout, laidFor, rows}
+
+and-on-body : {A B : Type 0} (table : List Row) (type n : ℕ) (f : List Kind → Outcome A) (next : A → Outcome B)
+    → andThen (onBody table type (refused n) f) next ≡ onBody table type (refused n) (λ body. andThen (f body) next)
+unfolding onBody
+and-on-body [] type n f next = and-refused _ _
+and-on-body (row k body ∷ table) type n f next = and-pick _ _ _ _ ∙ ap (pick _ _) (and-on-body table type n f next)
+
+-- a body found for a type
+pub record Found {A : Type 0} (next : List Kind → Outcome A) (a : A) : Type 0 where
+  pub body : List Kind
+  pub gives : next body ≡ given a
+
+choice : {A : Type 0} (b : Bool) (body : List Kind) (next : List Kind → Outcome A) (other : Outcome A) (a : A) → pick b (next body) other ≡ given a → (other ≡ given a → Found next a) → Found next a
+unfolding pick
+choice true body next other a q later = record { body = body; gives = q }
+choice false body next other a q later = later q
+
+pub found : {A : Type 0} (table : List Row) (type n : ℕ) (next : List Kind → Outcome A) (a : A) → onBody table type (refused n) next ≡ given a → Found next a
+unfolding onBody
+found [] type n next a e = absurd (never e refl)
+found (row k body ∷ table) type n next a e = choice (eqb type k) body next _ a e (λ q. found table type n next a q)
+
+part-length : (s : List ℕ) (start size : ℕ) → start + size ≤ length s → length (part s start size) ≡ size
+unfolding part
+part-length s start size h = length-take-le size (drop start s) (rw length-drop (omega arith))
+
+two-refusals : {A B : Type 0} (b d : Bool) (n : ℕ) (o : Outcome A) (next : A → Outcome B)
+    → andThen (pick b (refused n) (pick d (refused n) o)) next ≡ pick b (refused n) (pick d (refused n) (andThen o next))
+two-refusals b d n o next = simp (and-pick, and-refused)
+
+module _ (kf : List ℕ → Outcome ℕ) (family : ℕ) (s : List ℕ) where
+  front-rows : andThen (laidWith kf family s) (λ laid. given (layoutOf laid))
+      ≡ andThen (header s) (λ h. onBody bodies (h .0) (refused TYPE) (rowLayout (fieldSize kf family (h .0)) (h .0) (part s 2 (h .1))))
+  unfolding laidWith header rowLayout laidFor
+  front-rows =
+      two-refusals _ _ _ _ _
+      ∙ pick-cong _ _ _ _ _ (λ _. refl) (λ enough. pick-cong _ _ _ _ _ (λ _. refl) (λ whole. and-on-body bodies _ _ _ _ ∙ same enough whole ∙ sym (and-given _ _)))
+      ∙ sym (two-refusals _ _ _ _ _)
+    where
+      same : ltb (length s) 2 ≡ false → ltb (length s - 2) (getD s 1 0) ≡ false
+          → onBody bodies (getD s 0 0) (refused TYPE) (λ body. andThen (andThen (sizesOf (fieldSize kf family (getD s 0 0)) body (part s 2 (getD s 1 0))) (λ sizes. given (record { type = getD s 0 0; length = getD s 1 0; body = body; sizes = sizes }))) (λ laid. given (layoutOf laid)))
+          ≡ onBody bodies (getD s 0 0) (refused TYPE) (rowLayout (fieldSize kf family (getD s 0 0)) (getD s 0 0) (part s 2 (getD s 1 0)))
+      same enough whole =
+          ap (λ (n : ℕ). onBody bodies (getD s 0 0) (refused TYPE) (λ body. andThen (andThen (sizesOf (fieldSize kf family (getD s 0 0)) body (part s 2 (getD s 1 0))) (λ sizes. given (record { type = getD s 0 0; length = n; body = body; sizes = sizes }))) (λ laid. given (layoutOf laid))))
+          (sym (part-length s 2 (getD s 1 0) (omega (arith, ltb-false))))
+
+  laid-within : (laid : Laid) → laidWith kf family s ≡ given laid → (2 ≤ length s) × (2 + laid .length ≤ length s) × (laid .type ≡ getD s 0 0) × (laid .length ≡ getD s 1 0)
+  unfolding laidWith
+  laid-within laid e =
+      let p = unless _ _ _ _ e in
+      let q = unless _ _ _ _ (p .1) in
+      let r = found bodies _ _ _ laid (q .1) in
+      let w = passed _ _ _ (r .gives) in
+      let same = given-same (w .second) in
+      let n : laid .length ≡ getD s 1 0 = ap (λ (x : Laid). x .length) (sym same) in
+      let t : laid .type ≡ getD s 0 0 = ap (λ (x : Laid). x .type) (sym same) in
+      (omega (arith, ltb-false), omega (arith, ltb-false), t, n)
+
+unkeyed-is : (family : ℕ) (s : List ℕ) → andThen (laidWith noKey family s) (λ laid. given (layoutOf laid)) ≡ unkeyed family s
+unfolding unkeyed unkeyedBody noKey
+unkeyed-is family s =
+    front-rows noKey family s
+    ∙ and-cong _ _ _ (λ h e. rows noKey family (part s 2 (h .1)) (h .0) ∙ ap (λ (o : Outcome Layout). bodyWith o family (h .0) (part s 2 (h .1))) (no-key (part s 2 (h .1)) _))
+  where
+    no-key : {B : Type 0} (p : List ℕ) (next : ℕ → Outcome B) → andThen (noKey p) next ≡ refused 5
+    no-key p next = and-refused _ _
+
+-- the layout at the front, by the inner functions' definition
+pub front-is : (o : Outcome Layout) (family : ℕ) (s : List ℕ) → o ≡ anyFront family s → o ≡ layoutAt family s
+unfolding anyFront anyBody leaf layoutAt laidAt
+front-is o family s e = e ∙ sym (front-rows (keyField family) family s ∙ and-cong _ _ _ (λ h e. rows (keyField family) family (part s 2 (h .1)) (h .0)))
+
+pub key-is : (o : Outcome ℕ) (family : ℕ) (s : List ℕ) → o ≡ keySize family s → o ≡ keyField family s
+unfolding keySize keyField layoutOf
+key-is o family s e = e ∙ ap (onOutcome _ _) (sym (unkeyed-is family s)) ∙ on-mapped _ _ _ _
+
+pub unkeyed-within : (family : ℕ) (s : List ℕ) (l : Layout) → unkeyed family s ≡ given l → 2 + l .length ≤ length s
+unfolding layoutOf
+unkeyed-within family s l e =
+    let w = passed _ _ _ (unkeyed-is family s ∙ e) in
+    let same = given-same (w .second) in
+    let n : w .value .length ≡ l .length = ap (λ (x : Layout). x .length) same in
+    let h = laid-within noKey family s (w .value) (w .first) in
+    omega arith
+
+pub key-within : (family : ℕ) (s : List ℕ) (k : ℕ) → keyField family s ≡ given k → (2 ≤ k) × (k ≤ length s)
+unfolding keyField
+key-within family s k e =
+    let w = on-given-given _ _ _ _ e in
+    let p = unless _ _ _ _ (w .second) in
+    let q = given-same (p .1) in
+    let h = laid-within noKey family s (w .value) (w .first) in
+    (omega arith, omega arith)
+
+-- a body whose type is 4 is a Leaf's, and any other body has no key
+pub leaf-body : (family type : ℕ) (s : List ℕ) → type ≡ 4 → leaf family s ≡ anyBody family type s
+unfolding anyBody bodyWith pick
+leaf-body family type s e = rw e
+
+pub other-body : (family type : ℕ) (s : List ℕ) → (type ≡ 4 → ⊥) → unkeyedBody family type s ≡ anyBody family type s
+unfolding unkeyedBody anyBody bodyWith pick
+other-body family type s h = rw (ne-eqb type 4 h)

@@ -1,0 +1,5 @@
+-- Laws of the definitions, and how the functions' proofs use them.
+pub mod Via
+pub mod Sizes
+pub mod Rows
+pub mod Fronts

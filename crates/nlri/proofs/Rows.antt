@@ -1,0 +1,196 @@
+-- The inner functions' definitions of a body are the page's, row by row.
+use mathlib.Core.Path.{_≡_, refl, sym, _∙_, ap, ap₂, subst}
+use mathlib.Core.Bool.{Bool, true, false}
+use mathlib.Core.List.{List, [], _∷_}
+use Prim.Native.Nat.{ℕ, _+_, _-_, _≤_}
+use native.Mathlib.Omega.{arith}
+use native.Mathlib.Nat.{sub-self}
+use borrow.Author.Tests.{eqb-true, eq-eqb, ltb-false, ltb-true, lt-ltb, le-ltb}
+use lib.ListN.{length, getD, drop, length-drop}
+use lib.Seq.{drop-drop, drop-length}
+use lib.Dec.{eqb, ltb}
+use Rattle.octets.specs.Numbers.{LENGTH, TYPE}
+use Rattle.octets.specs.Choice.{pick}
+use Rattle.octets.specs.Outcome.{Outcome, given, refused, andThen}
+use Rattle.octets.proofs.Outcomes.{and-assoc, and-cong, and-pick, and-given, and-refused, pick-cong, pick-true, pick-false}
+use Rattle.nlri.specs.declared.layout.Layout.{Layout}
+use Rattle.nlri.specs.Family.{originatorSize}
+use Rattle.nlri.specs.Bodies.{Kind, distinguisher, sourceAs, source, group, originator, key, fieldIn, sameKind, codeOf, bodies, onBody}
+use Rattle.nlri.specs.Reading.{Laid, fixedField, addressField, originatorField, fieldSize, sizesOf}
+use Rattle.nlri.specs.Layouts.{layoutOf}
+use Rattle.nlri.specs.Inner.{layoutWith, originatorLast, endsAt, groupSize, flowSizes, flowEnd, flowRoute, intraAs, interAs, bodyWith}
+
+-- a body laid out, and then its layout
+unfoldable pub laidFor : (Kind → List ℕ → Outcome ℕ) → (type : ℕ) → List ℕ → List Kind → Outcome Laid
+laidFor size type s body = andThen (sizesOf size body s) (λ sizes. given (record { type = type; length = length s; body = body; sizes = sizes }))
+
+unfoldable pub rowLayout : (Kind → List ℕ → Outcome ℕ) → (type : ℕ) → List ℕ → List Kind → Outcome Layout
+rowLayout size type s body = andThen (laidFor size type s body) (λ laid. given (layoutOf laid))
+
+layoutFor : (type n : ℕ) → List Kind → List ℕ → Layout
+layoutFor type n body sizes = layoutOf (record { type = type; length = n; body = body; sizes = sizes })
+
+row-is : (size : Kind → List ℕ → Outcome ℕ) (type : ℕ) (s : List ℕ) (body : List Kind) → rowLayout size type s body ≡ andThen (sizesOf size body s) (λ sizes. given (layoutFor type (length s) body sizes))
+unfolding rowLayout laidFor layoutFor
+row-is size type s body = and-assoc _ _ _ ∙ and-cong _ _ _ (λ sizes e. and-given _ _)
+
+lay-cons : {B : Type 0} (size : Kind → List ℕ → Outcome ℕ) (k : Kind) (body : List Kind) (s : List ℕ) (next : List ℕ → Outcome B)
+    → andThen (sizesOf size (k ∷ body) s) next ≡ andThen (size k s) (λ n. andThen (sizesOf size body (drop n s)) (λ sizes. next (n ∷ sizes)))
+unfolding sizesOf
+lay-cons size k body s next = and-assoc _ _ _ ∙ and-cong _ _ _ (λ n e. and-assoc _ _ _ ∙ and-cong _ _ _ (λ sizes e′. and-given _ _))
+
+lay-nil : {B : Type 0} (size : Kind → List ℕ → Outcome ℕ) (s : List ℕ) (next : List ℕ → Outcome B)
+    → andThen (sizesOf size [] s) next ≡ pick (eqb (length s) 0) (next []) (refused LENGTH)
+unfolding sizesOf
+lay-nil size s next = and-pick _ _ _ _ ∙ ap₂ (pick _) (and-given _ _) (and-refused _ _)
+
+fixed-then : {B : Type 0} (n : ℕ) (s : List ℕ) (next : ℕ → Outcome B) → andThen (fixedField n s) next ≡ pick (ltb (length s) n) (refused LENGTH) (next n)
+unfolding fixedField
+fixed-then n s next = and-pick _ _ _ _ ∙ ap₂ (pick _) (and-refused _ _) (and-given _ _)
+
+module _ (keyField : List ℕ → Outcome ℕ) (family type : ℕ) where
+  size : Kind → List ℕ → Outcome ℕ
+  size = fieldSize keyField family type
+
+  originator-last : {B : Type 0} (s : List ℕ) (next : List ℕ → Outcome B)
+      → andThen (sizesOf size (originator ∷ []) s) next ≡ pick (originatorSize (length s)) (next (length s ∷ [])) (refused LENGTH)
+  unfolding size fieldSize originatorField
+  originator-last s next =
+      lay-cons _ _ _ _ _ ∙ and-pick _ _ _ _
+      ∙ ap₂ (pick _) (and-given _ _ ∙ lay-nil _ _ _ ∙ pick-true _ _ _ (eq-eqb _ _ (ap length (drop-length s)))) (and-refused _ _)
+
+  flow-then : {B : Type 0} (rest : List Kind) (s : List ℕ) (next : List ℕ → Outcome B)
+      → andThen (sizesOf size (source ∷ group ∷ rest) s) next
+      ≡ andThen (flowSizes family type s) (λ ab. andThen (sizesOf size rest (drop (ab .1) (drop (ab .0) s))) (λ sizes. next (ab .0 ∷ ab .1 ∷ sizes)))
+  unfolding size fieldSize flowSizes groupSize
+  flow-then rest s next =
+      lay-cons _ _ _ _ _
+      ∙ and-cong _ _ _ (λ a e. lay-cons _ _ _ _ _ ∙ and-cong _ _ _ (λ b e′. sym (and-given _ _)) ∙ sym (and-assoc _ _ _))
+      ∙ sym (and-assoc _ _ _)
+
+  -- the two fixed fields of types 2, 6 and 7 refuse alike
+  source-as-then : {B : Type 0} (rest : List Kind) (s : List ℕ) (next : List ℕ → Outcome B)
+      → andThen (sizesOf size (distinguisher ∷ sourceAs ∷ rest) s) next
+      ≡ pick (ltb (length s) 12) (refused LENGTH) (andThen (sizesOf size rest (drop 12 s)) (λ sizes. next (8 ∷ 4 ∷ sizes)))
+  unfolding size fieldSize
+  source-as-then rest s next =
+      lay-cons _ _ _ _ _ ∙ fixed-then _ _ _ ∙ ap (pick _ _) (lay-cons _ _ _ _ _ ∙ fixed-then _ _ _)
+      ∙ two-tests (length s) (length (drop 8 s)) (length-drop 8 s) _ _
+      ∙ ap (λ (d : List ℕ). pick (ltb (length s) 12) (refused LENGTH) (andThen (sizesOf size rest d) (λ sizes. next (8 ∷ 4 ∷ sizes)))) (drop-drop 4 8 s)
+    where
+      two-tests : {A : Type 0} (n m : ℕ) → m ≡ n - 8 → (x y : A) → pick (ltb n 8) x (pick (ltb m 4) x y) ≡ pick (ltb n 12) x y
+      two-tests n m e x y = go (ltb n 8) refl (ltb m 4) refl
+        where
+          go : (b : Bool) → ltb n 8 ≡ b → (d : Bool) → ltb m 4 ≡ d → pick (ltb n 8) x (pick (ltb m 4) x y) ≡ pick (ltb n 12) x y
+          go true p d q = pick-true _ _ _ p ∙ sym (pick-true _ _ _ (lt-ltb n 12 (omega (arith, ltb-true))))
+          go false p true q = pick-false _ _ _ p ∙ pick-true _ _ _ q ∙ sym (pick-true _ _ _ (lt-ltb n 12 (omega (arith, ltb-true, ltb-false))))
+          go false p false q = pick-false _ _ _ p ∙ pick-false _ _ _ q ∙ sym (pick-false _ _ _ (le-ltb n 12 (omega (arith, ltb-false))))
+
+  distinguisher-then : {B : Type 0} (rest : List Kind) (s : List ℕ) (next : List ℕ → Outcome B)
+      → andThen (sizesOf size (distinguisher ∷ rest) s) next
+      ≡ pick (ltb (length s) 8) (refused LENGTH) (andThen (sizesOf size rest (drop 8 s)) (λ sizes. next (8 ∷ sizes)))
+  unfolding size fieldSize
+  distinguisher-then rest s next = lay-cons _ _ _ _ _ ∙ fixed-then _ _ _
+
+-- the layout of each body from its sizes
+layout-intra-as : (n o : ℕ) → layoutFor 1 n (distinguisher ∷ originator ∷ []) (8 ∷ o ∷ []) ≡ layoutWith 1 n 0 0 o 0
+unfolding layoutFor layoutOf layoutWith fieldIn sameKind codeOf pick
+layout-intra-as n o = refl
+
+layout-inter-as : (n : ℕ) → layoutFor 2 n (distinguisher ∷ sourceAs ∷ []) (8 ∷ 4 ∷ []) ≡ layoutWith 2 n 0 0 0 0
+unfolding layoutFor layoutOf layoutWith fieldIn sameKind codeOf pick
+layout-inter-as n = refl
+
+layout-s-pmsi : (n a b o : ℕ) → layoutFor 3 n (distinguisher ∷ source ∷ group ∷ originator ∷ []) (8 ∷ a ∷ b ∷ o ∷ []) ≡ layoutWith 3 n (a - 1) (b - 1) o 0
+unfolding layoutFor layoutOf layoutWith fieldIn sameKind codeOf pick
+layout-s-pmsi n a b o = refl
+
+layout-leaf : (n k o : ℕ) → layoutFor 4 n (key ∷ originator ∷ []) (k ∷ o ∷ []) ≡ layoutWith 4 n 0 0 o k
+unfolding layoutFor layoutOf layoutWith fieldIn sameKind codeOf pick
+layout-leaf n k o = refl
+
+layout-source-active : (n a b : ℕ) → layoutFor 5 n (distinguisher ∷ source ∷ group ∷ []) (8 ∷ a ∷ b ∷ []) ≡ layoutWith 5 n (a - 1) (b - 1) 0 0
+unfolding layoutFor layoutOf layoutWith fieldIn sameKind codeOf pick
+layout-source-active n a b = refl
+
+layout-join : (type n a b : ℕ) → layoutFor type n (distinguisher ∷ sourceAs ∷ source ∷ group ∷ []) (8 ∷ 4 ∷ a ∷ b ∷ []) ≡ layoutWith type n (a - 1) (b - 1) 0 0
+unfolding layoutFor layoutOf layoutWith fieldIn sameKind codeOf pick
+layout-join type n a b = refl
+
+-- how a body ends
+last-is : (type n a b k rest rest′ : ℕ) (l : Layout) → l ≡ layoutWith type n a b rest k → rest ≡ rest′ → pick (originatorSize rest) (given l) (refused LENGTH) ≡ originatorLast (layoutWith type n a b 0 k) rest′
+unfolding originatorLast layoutWith
+last-is type n a b k rest rest′ l e q = ap (λ (x : Layout). pick (originatorSize rest) (given x) (refused LENGTH)) e ∙ ap (λ (m : ℕ). originatorLast (layoutWith type n a b 0 k) m) q
+
+end-is : (type n a b rest rest′ : ℕ) (l : Layout) → l ≡ layoutWith type n a b 0 0 → rest ≡ rest′ → pick (eqb rest 0) (given l) (refused LENGTH) ≡ endsAt (layoutWith type n a b 0 0) rest′
+unfolding endsAt
+end-is type n a b rest rest′ l e q = ap (λ (x : Layout). pick (eqb rest 0) (given x) (refused LENGTH)) e ∙ ap (endsAt (layoutWith type n a b 0 0)) q
+
+flow-ends-in-originator : (n a b rest : ℕ) → originatorLast (layoutWith 3 n (a - 1) (b - 1) 0 0) rest ≡ flowEnd 3 n a b rest
+unfolding flowEnd
+flow-ends-in-originator n a b rest = sym (pick-true _ _ _ refl)
+
+flow-ends : (type n a b rest : ℕ) → eqb type 3 ≡ false → endsAt (layoutWith type n (a - 1) (b - 1) 0 0) rest ≡ flowEnd type n a b rest
+unfolding flowEnd
+flow-ends type n a b rest h = sym (pick-false _ _ _ h)
+
+lengths : (fixed a b : ℕ) (s : List ℕ) → length (drop b (drop a (drop fixed s))) ≡ length s - fixed - a - b
+lengths fixed a b s = simp length-drop
+
+module _ (keyField : List ℕ → Outcome ℕ) (family : ℕ) (s : List ℕ) where
+  intra-as-row : rowLayout (fieldSize keyField family 1) 1 s (distinguisher ∷ originator ∷ []) ≡ intraAs s
+  unfolding intraAs size
+  intra-as-row =
+      row-is _ _ _ _ ∙ distinguisher-then keyField family 1 _ _ _
+      ∙ ap (pick _ _) (originator-last keyField family 1 _ _ ∙ last-is 1 _ 0 0 0 _ _ _ (layout-intra-as _ _) (length-drop 8 s))
+
+  inter-as-row : rowLayout (fieldSize keyField family 2) 2 s (distinguisher ∷ sourceAs ∷ []) ≡ interAs s
+  unfolding interAs size
+  inter-as-row =
+      row-is _ _ _ _ ∙ source-as-then keyField family 2 _ _ _
+      ∙ ap (pick _ _) (lay-nil _ _ _ ∙ end-is 2 _ 0 0 _ _ _ (layout-inter-as _) (length-drop 12 s))
+
+  s-pmsi-row : rowLayout (fieldSize keyField family 3) 3 s (distinguisher ∷ source ∷ group ∷ originator ∷ []) ≡ flowRoute family 3 8 s
+  unfolding flowRoute size
+  s-pmsi-row =
+      row-is _ _ _ _ ∙ distinguisher-then keyField family 3 _ _ _
+      ∙ ap (pick _ _) (flow-then keyField family 3 _ _ _ ∙ and-cong _ _ _ (λ ab e. originator-last keyField family 3 _ _
+      ∙ last-is 3 _ _ _ 0 _ _ _ (layout-s-pmsi _ (ab .0) (ab .1) _) (lengths 8 (ab .0) (ab .1) s) ∙ flow-ends-in-originator _ (ab .0) (ab .1) _))
+
+  source-active-row : rowLayout (fieldSize keyField family 5) 5 s (distinguisher ∷ source ∷ group ∷ []) ≡ flowRoute family 5 8 s
+  unfolding flowRoute size
+  source-active-row =
+      row-is _ _ _ _ ∙ distinguisher-then keyField family 5 _ _ _
+      ∙ ap (pick _ _) (flow-then keyField family 5 _ _ _ ∙ and-cong _ _ _ (λ ab e. lay-nil _ _ _
+      ∙ end-is 5 _ _ _ _ _ _ (layout-source-active _ (ab .0) (ab .1)) (lengths 8 (ab .0) (ab .1) s) ∙ flow-ends 5 _ (ab .0) (ab .1) _ refl))
+
+  -- types 6 and 7 have one body
+  join-row : (type : ℕ) → eqb type 3 ≡ false → rowLayout (fieldSize keyField family type) type s (distinguisher ∷ sourceAs ∷ source ∷ group ∷ []) ≡ flowRoute family type 12 s
+  unfolding flowRoute size
+  join-row type other =
+      row-is _ _ _ _ ∙ source-as-then keyField family type _ _ _
+      ∙ ap (pick _ _) (flow-then keyField family type _ _ _ ∙ and-cong _ _ _ (λ ab e. lay-nil _ _ _
+      ∙ end-is type _ _ _ _ _ _ (layout-join type _ (ab .0) (ab .1)) (lengths 12 (ab .0) (ab .1) s) ∙ flow-ends type _ (ab .0) (ab .1) _ other))
+
+  leaf-row : rowLayout (fieldSize keyField family 4) 4 s (key ∷ originator ∷ [])
+      ≡ andThen (keyField s) (λ size. originatorLast (layoutWith 4 (length s) 0 0 0 size) (length s - size))
+  unfolding size fieldSize
+  leaf-row =
+      row-is _ _ _ _ ∙ lay-cons _ _ _ _ _
+      ∙ and-cong _ _ _ (λ n e. originator-last keyField family 4 _ _ ∙ last-is 4 _ 0 0 n _ _ _ (layout-leaf _ n _) (length-drop n s))
+
+  -- every row: the page's table of bodies is the chain of tests
+  pub rows : (type : ℕ) → onBody bodies type (refused TYPE) (rowLayout (fieldSize keyField family type) type s)
+      ≡ bodyWith (andThen (keyField s) (λ size. originatorLast (layoutWith 4 (length s) 0 0 0 size) (length s - size))) family type s
+  unfolding onBody bodies bodyWith
+  rows type =
+      pick-cong _ _ _ _ _ (λ e. at 1 e (λ n. rowLayout (fieldSize keyField family n) n s (distinguisher ∷ originator ∷ []) ≡ intraAs s) intra-as-row)
+      (λ _. pick-cong _ _ _ _ _ (λ e. at 2 e (λ n. rowLayout (fieldSize keyField family n) n s (distinguisher ∷ sourceAs ∷ []) ≡ interAs s) inter-as-row)
+      (λ _. pick-cong _ _ _ _ _ (λ e. at 3 e (λ n. rowLayout (fieldSize keyField family n) n s (distinguisher ∷ source ∷ group ∷ originator ∷ []) ≡ flowRoute family n 8 s) s-pmsi-row)
+      (λ other. pick-cong _ _ _ _ _ (λ e. at 4 e (λ n. rowLayout (fieldSize keyField family n) n s (key ∷ originator ∷ []) ≡ andThen (keyField s) (λ size. originatorLast (layoutWith 4 (length s) 0 0 0 size) (length s - size))) leaf-row)
+      (λ _. pick-cong _ _ _ _ _ (λ e. at 5 e (λ n. rowLayout (fieldSize keyField family n) n s (distinguisher ∷ source ∷ group ∷ []) ≡ flowRoute family n 8 s) source-active-row)
+      (λ _. pick-cong _ _ _ _ _ (λ e. join-row type other)
+      (λ _. pick-cong _ _ _ _ _ (λ e. join-row type other) (λ _. refl)))))))
+    where
+      at : (k : ℕ) → eqb type k ≡ true → (P : ℕ → Type 0) → P k → P type
+      at k e P p = subst P (sym (eqb-true type k e)) p

@@ -1,0 +1,63 @@
+-- What a `match` on an answer tells: how a definition goes on after a step, by the case that the step's answer was.
+use mathlib.Core.Path.{_≡_, sym, _∙_, ap}
+use Prim.Native.Nat.{ℕ}
+use Rattle.octets.specs.Outcome.{Outcome, given, refused, onOutcome, andThen}
+use Rattle.octets.proofs.Tests.{tests, goes, stops, on-given, on-refused}
+use Rattle.nlri.specs.declared.layout.Layout.{Layout}
+use Rattle.nlri.specs.declared.layout.Reading.{Reading}
+use Rattle.nlri.specs.declared.layout.Reading.the-variants.{Nlri, Refused}
+use Rattle.nlri.specs.declared.layout.Part.{Part}
+use Rattle.nlri.specs.declared.layout.Part.the-variants.{Size, Fault}
+use Rattle.nlri.specs.declared.body.Flow.{Flow}
+use Rattle.nlri.specs.declared.body.Flow.the-variants.{Sizes, Bad}
+use Rattle.nlri.specs.declared.read.Header.{Header}
+use Rattle.nlri.specs.declared.read.Header.the-variants.{Typed, Short}
+use Rattle.nlri.specs.Layouts.{readingOf}
+use Rattle.nlri.specs.Inner.{partOf, flowOf, headerOf}
+
+-- the case of an answer, as the definition's outcome
+pub size-given : (r : Part) (o : Outcome ℕ) (n : ℕ) → partOf r ≡ o → r ≡ Size n → o ≡ given n
+unfolding partOf
+size-given r o n p q = sym p ∙ ap partOf q
+
+pub sizes-given : (r : Flow) (o : Outcome (ℕ × ℕ)) (a b : ℕ) → flowOf r ≡ o → r ≡ Sizes a b → o ≡ given (a, b)
+unfolding flowOf
+sizes-given r o a b p q = sym p ∙ ap flowOf q
+
+pub typed-given : (r : Header) (o : Outcome (ℕ × ℕ)) (a b : ℕ) → headerOf r ≡ o → r ≡ Typed a b → o ≡ given (a, b)
+unfolding headerOf
+typed-given r o a b p q = sym p ∙ ap headerOf q
+
+pub size-goes : {B : Type 0} (t : Outcome B) (r : Part) (o : Outcome ℕ) (n : ℕ) (next : ℕ → Outcome B) → partOf r ≡ o → r ≡ Size n → t ≡ next n → t ≡ andThen o next
+size-goes t r o n next p q h = goes t o n next (size-given r o n p q) h
+
+pub fault-stops : {B : Type 0} (r : Part) (o : Outcome ℕ) (n : ℕ) (next : ℕ → Outcome B) → partOf r ≡ o → r ≡ Fault n → refused n ≡ andThen o next
+unfolding partOf
+fault-stops r o n next p q = stops o n next (sym p ∙ ap partOf q)
+
+pub sizes-go : {B : Type 0} (t : Outcome B) (r : Flow) (o : Outcome (ℕ × ℕ)) (a b : ℕ) (next : ℕ × ℕ → Outcome B) → flowOf r ≡ o → r ≡ Sizes a b → t ≡ next (a, b) → t ≡ andThen o next
+sizes-go t r o a b next p q h = goes t o (a, b) next (sizes-given r o a b p q) h
+
+pub bad-stops : {B : Type 0} (r : Flow) (o : Outcome (ℕ × ℕ)) (n : ℕ) (next : ℕ × ℕ → Outcome B) → flowOf r ≡ o → r ≡ Bad n → refused n ≡ andThen o next
+unfolding flowOf
+bad-stops r o n next p q = stops o n next (sym p ∙ ap flowOf q)
+
+pub typed-goes : {B : Type 0} (t : Outcome B) (r : Header) (o : Outcome (ℕ × ℕ)) (a b : ℕ) (next : ℕ × ℕ → Outcome B) → headerOf r ≡ o → r ≡ Typed a b → t ≡ next (a, b) → t ≡ andThen o next
+typed-goes t r o a b next p q h = goes t o (a, b) next (typed-given r o a b p q) h
+
+pub short-stops : {B : Type 0} (r : Header) (o : Outcome (ℕ × ℕ)) (n : ℕ) (next : ℕ × ℕ → Outcome B) → headerOf r ≡ o → r ≡ Short n → refused n ≡ andThen o next
+unfolding headerOf
+short-stops r o n next p q = stops o n next (sym p ∙ ap headerOf q)
+
+pub nlri-given : (r : Reading) (o : Outcome Layout) (l : Layout) → readingOf r ≡ o → r ≡ Nlri l → o ≡ given l
+unfolding readingOf
+nlri-given r o l p q = sym p ∙ ap readingOf q
+
+pub on-nlri : {B : Type 0} (t : B) (r : Reading) (o : Outcome Layout) (l : Layout) (bad : ℕ → B) (good : Layout → B) → readingOf r ≡ o → r ≡ Nlri l → t ≡ good l → t ≡ onOutcome bad good o
+on-nlri t r o l bad good p q h = on-given t o l bad good (nlri-given r o l p q) h
+
+pub on-refusal : {B : Type 0} (t : B) (r : Reading) (o : Outcome Layout) (n : ℕ) (bad : ℕ → B) (good : Layout → B) → readingOf r ≡ o → r ≡ Refused n → t ≡ bad n → t ≡ onOutcome bad good o
+unfolding readingOf
+on-refusal t r o n bad good p q h = on-refused t o n bad good (sym p ∙ ap readingOf q) h
+
+pub ruleset reads = (tests, size-goes, fault-stops, sizes-go, bad-stops, typed-goes, short-stops, on-nlri, on-refusal)

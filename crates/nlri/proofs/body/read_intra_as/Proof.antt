@@ -1,0 +1,28 @@
+use Rattle.nlri.specs.Layouts.{readingOf}
+use Rattle.nlri.specs.Inner.{intraAs}
+use Rattle.nlri.specs.Inner.{layoutWith}
+use Rattle.octets.proofs.Tests.{tests}
+use borrow.Author.Needs.{needs}
+use Rattle.nlri.proofs.body.read_intra_as.Statement.{statement}
+use Rattle.nlri.proofs.body.read_intra_as.Tie as tie
+use Rattle.nlri.proofs.body.read_intra_as.Reads as reads
+use Rattle.nlri.proofs.body.read_intra_as.Lts as lts
+use Rattle.nlri.proofs.body.ends_in_originator.Reads as ends-in-originator-reads
+
+returns : tie.Need-returns
+unfolding readingOf intraAs layoutWith
+returns c = search tests
+
+sub-ends-in-originator : tie.Need-sub-ends-in-originator
+sub-ends-in-originator c = search needs
+
+ends-in-originator-requires : tie.Need-ends-in-originator-requires
+ends-in-originator-requires c κs = search needs
+
+returns-2 : tie.Need-returns-2
+unfolding readingOf intraAs layoutWith
+returns-2 c = search tests
+
+pub read-intra-as-spec : {M : Type 1} → statement M
+read-intra-as-spec =
+    tie.close (tie.spec returns sub-ends-in-originator ends-in-originator-requires returns-2)

@@ -1,0 +1,49 @@
+use native.Mathlib.Omega.{arith}
+use Rattle.nlri.specs.Inner.{headerOf}
+use Rattle.nlri.specs.Inner.{header}
+use Rattle.octets.proofs.Tests.{tests}
+use borrow.Author.Needs.{needs}
+use Rattle.nlri.proofs.read.read_header.Statement.{statement}
+use Rattle.nlri.proofs.read.read_header.Tie as tie
+use Rattle.nlri.proofs.read.read_header.Reads as reads
+use Rattle.nlri.proofs.read.read_header.Lts as lts
+
+returns : tie.Need-returns
+unfolding headerOf header
+returns c = search tests
+
+shared-slice-read-length : tie.Need-shared-slice-read-length
+shared-slice-read-length c = search needs
+
+cast-length : tie.Need-cast-length
+cast-length c = omega (arith, c .shared-slice-known .given 1)
+
+sub-if2 : tie.Need-sub-if2
+sub-if2 c = search needs
+
+returns-2 : tie.Need-returns-2
+unfolding headerOf header
+returns-2 c = search tests
+
+shared-slice-read-t6 : tie.Need-shared-slice-read-t6
+shared-slice-read-t6 c = search needs
+
+cast-t3 : tie.Need-cast-t3
+cast-t3 c = omega (arith, c .shared-slice-known2 .given 0)
+
+returns-3 : tie.Need-returns-3
+unfolding headerOf header
+returns-3 c = search tests
+
+pub read-header-spec : {M : Type 1} → statement M
+read-header-spec =
+    tie.close
+    (tie.spec
+    returns
+    shared-slice-read-length
+    cast-length
+    sub-if2
+    returns-2
+    shared-slice-read-t6
+    cast-t3
+    returns-3)

@@ -1,0 +1,49 @@
+-- The table of bodies (document 01, "NLRI on the wire"), as data.
+use Prim.Native.Nat.{ℕ}
+use mathlib.Core.Bool.{Bool}
+use mathlib.Core.List.{List, [], _∷_}
+use lib.Dec.{eqb}
+use Rattle.octets.specs.Choice.{pick}
+
+pub data Kind : Type 0 where
+  distinguisher sourceAs source group originator key : Kind
+
+pub data Row : Type 0 where
+  row : ℕ → List Kind → Row
+
+unfoldable pub bodies : List Row
+bodies =
+    row 1 (distinguisher ∷ originator ∷ [])
+    ∷ row 2 (distinguisher ∷ sourceAs ∷ [])
+    ∷ row 3 (distinguisher ∷ source ∷ group ∷ originator ∷ [])
+    ∷ row 4 (key ∷ originator ∷ [])
+    ∷ row 5 (distinguisher ∷ source ∷ group ∷ [])
+    ∷ row 6 (distinguisher ∷ sourceAs ∷ source ∷ group ∷ [])
+    ∷ row 7 (distinguisher ∷ sourceAs ∷ source ∷ group ∷ [])
+    ∷ []
+
+-- what `next` makes of the body of a route type, or `other` where no row has the type
+unfoldable pub onBody : {B : Type 0} → List Row → ℕ → B → (List Kind → B) → B
+onBody [] type other next = other
+onBody (row n body ∷ rows) type other next = pick (eqb type n) (next body) (onBody rows type other next)
+
+-- the body of a route type; no fields where the type is unknown
+unfoldable pub bodyOf : ℕ → List Kind
+bodyOf type = onBody bodies type [] (λ body. body)
+
+unfoldable pub codeOf : Kind → ℕ
+codeOf distinguisher = 0
+codeOf sourceAs = 1
+codeOf source = 2
+codeOf group = 3
+codeOf originator = 4
+codeOf key = 5
+
+unfoldable pub sameKind : Kind → Kind → Bool
+sameKind a b = eqb (codeOf a) (codeOf b)
+
+-- of a list that goes along a body, the element of one kind of field, or `none` where the body lacks that kind
+unfoldable pub fieldIn : {A : Type 0} → A → Kind → List Kind → List A → A
+fieldIn none kind [] xs = none
+fieldIn none kind (k ∷ body) [] = none
+fieldIn none kind (k ∷ body) (x ∷ xs) = pick (sameKind kind k) x (fieldIn none kind body xs)

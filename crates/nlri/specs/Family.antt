@@ -1,0 +1,19 @@
+-- Families and address lengths (document 01, "NLRI on the wire").
+use Prim.Native.Nat.{ℕ}
+use mathlib.Core.Bool.{Bool}
+use lib.Dec.{eqb}
+use Rattle.octets.specs.Numbers.{FAMILY}
+use Rattle.octets.specs.Choice.{pick, both, either}
+use Rattle.octets.specs.Outcome.{Outcome, given, refused}
+
+-- the bits of the family's addresses: 32 for AFI 1, 128 for AFI 2; FAMILY for any other AFI
+unfoldable pub familyBits : ℕ → Outcome ℕ
+familyBits afi = pick (eqb afi 1) (given 32) (pick (eqb afi 2) (given 128) (refused FAMILY))
+
+-- a source or group length is the family's; in type 3 only it may be 0, the wildcard
+unfoldable pub allowed : (family type bits : ℕ) → Bool
+allowed family type bits = either (eqb bits family) (both (eqb type 3) (eqb bits 0))
+
+-- an originator has 4 or 16 octets, independent of the family
+unfoldable pub originatorSize : ℕ → Bool
+originatorSize size = either (eqb size 4) (eqb size 16)

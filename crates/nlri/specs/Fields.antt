@@ -1,0 +1,68 @@
+-- An NLRI's fields, their encoding, and which are well-formed (document 01, "NLRI on the wire"). Nothing here reads or writes.
+use Prim.Native.Nat.{ℕ, _*_, _^_, _≤_, _<_}
+use mathlib.Core.Path.{_≡_}
+use mathlib.Core.Bool.{true}
+use mathlib.Core.List.{List, [], _∷_, _++_}
+use lib.ListN.{length}
+use Rattle.octets.specs.Octets.{AllOctets, bigEndian}
+use Rattle.nlri.specs.Family.{allowed, originatorSize}
+use Rattle.nlri.specs.Bodies.{Kind, distinguisher, sourceAs, source, group, originator, key, bodyOf}
+
+-- the fields of an NLRI as lists of octets; a wildcard is no octets, and so is a field that the type lacks
+pub record Fields : Type 0 where
+  pub type : ℕ
+  pub distinguisher : List ℕ
+  pub sourceAs : ℕ
+  pub source : List ℕ
+  pub group : List ℕ
+  pub originator : List ℕ
+  pub key : List ℕ
+
+-- a source or group: a length octet in bits, then that many bits
+unfoldable pub encodeAddress : List ℕ → List ℕ
+encodeAddress a = 8 * length a ∷ a
+
+unfoldable pub encodeField : Fields → Kind → List ℕ
+encodeField f distinguisher = f .distinguisher
+encodeField f sourceAs = bigEndian 4 (f .sourceAs)
+encodeField f source = encodeAddress (f .source)
+encodeField f group = encodeAddress (f .group)
+encodeField f originator = f .originator
+encodeField f key = f .key
+
+unfoldable pub encodeBody : Fields → List Kind → List ℕ
+encodeBody f [] = []
+encodeBody f (k ∷ body) = encodeField f k ++ encodeBody f body
+
+-- Route Type (1), Length (1), then the body
+unfoldable pub encodeNlri : Fields → List ℕ
+encodeNlri f = f .type ∷ length (encodeBody f (bodyOf (f .type))) ∷ encodeBody f (bodyOf (f .type))
+
+-- a field of the size that the type and the family's bits allow, its octets octets; of a key, what `Key` says
+abbrev pub WellFormedField : (List ℕ → Type 0) → ℕ → Fields → Kind → Type 0
+WellFormedField Key family f distinguisher = (length (f .distinguisher) ≡ 8) × AllOctets (f .distinguisher)
+WellFormedField Key family f sourceAs = f .sourceAs < 2 ^ 32
+WellFormedField Key family f source = (allowed family (f .type) (8 * length (f .source)) ≡ true) × AllOctets (f .source)
+WellFormedField Key family f group = (allowed family (f .type) (8 * length (f .group)) ≡ true) × AllOctets (f .group)
+WellFormedField Key family f originator = (originatorSize (length (f .originator)) ≡ true) × AllOctets (f .originator)
+WellFormedField Key family f key = Key (f .key)
+
+abbrev pub WellFormedBody : (List ℕ → Type 0) → ℕ → Fields → List Kind → Type 0
+WellFormedBody Key family f [] = Unit {0}
+WellFormedBody Key family f (k ∷ body) = WellFormedField Key family f k × WellFormedBody Key family f body
+
+-- no octets are a key: of the NLRIs that may stand in a key, none has a key
+abbrev pub NoKey : List ℕ → Type 0
+NoKey octets = ⊥
+
+-- octets that are a whole NLRI of type 1, 2 or 3 of the same family, header included
+pub record KeyOf (family : ℕ) (octets : List ℕ) : Type 0 where
+  pub fields : Fields
+  pub typed : (1 ≤ fields .type) × (fields .type ≤ 3)
+  pub wellFormed : WellFormedBody NoKey family fields (bodyOf (fields .type))
+  pub encoded : octets ≡ encodeNlri fields
+
+-- fields of an NLRI of type 1 to 7 whose every field is well-formed and which fits its Length octet
+pub record WellFormed (family : ℕ) (f : Fields) : Type 0 where
+  pub typed : (1 ≤ f .type) × (f .type ≤ 7)
+  pub body : WellFormedBody (KeyOf family) family f (bodyOf (f .type))

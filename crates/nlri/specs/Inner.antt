@@ -1,0 +1,105 @@
+-- Definitions that mirror the inner functions, one for each; laws tie them to the page's definitions in `Reading`.
+use Prim.Native.Nat.{ℕ, _+_, _-_}
+use mathlib.Core.List.{List}
+use lib.ListN.{length, getD, drop}
+use lib.Dec.{ltb, eqb}
+use Rattle.octets.specs.Numbers.{SHORT, TYPE, LENGTH, KEY}
+use Rattle.octets.specs.Choice.{pick}
+use Rattle.octets.specs.Outcome.{Outcome, given, refused, onOutcome, andThen}
+use Rattle.octets.specs.Octets.{part}
+use Rattle.nlri.specs.declared.layout.Layout.{Layout}
+use Rattle.nlri.specs.declared.layout.Part.{Part}
+use Rattle.nlri.specs.declared.layout.Part.the-variants.{Size, Fault}
+use Rattle.nlri.specs.declared.body.Flow.{Flow}
+use Rattle.nlri.specs.declared.body.Flow.the-variants.{Sizes, Bad}
+use Rattle.nlri.specs.declared.read.Header.{Header}
+use Rattle.nlri.specs.declared.read.Header.the-variants.{Typed, Short}
+use Rattle.nlri.specs.Family.{originatorSize}
+use Rattle.nlri.specs.Reading.{addressField, keyField}
+
+-- a size, or the refusal's number
+unfoldable pub partOf : Part → Outcome ℕ
+partOf (Size size) = given size
+partOf (Fault number) = refused number
+
+-- the sizes of a source and a group, or the refusal's number
+unfoldable pub flowOf : Flow → Outcome (ℕ × ℕ)
+flowOf (Sizes a b) = given (a, b)
+flowOf (Bad number) = refused number
+
+-- a route type and a Length, or the refusal's number
+unfoldable pub headerOf : Header → Outcome (ℕ × ℕ)
+headerOf (Typed type size) = given (type, size)
+headerOf (Short number) = refused number
+
+unfoldable pub layoutWith : (type size source group originator key : ℕ) → Layout
+layoutWith type size source group originator key =
+    record { «route_type» = type; length = size; source = source; group = group; originator = originator; key = key }
+
+unfoldable pub originatorLast : Layout → ℕ → Outcome Layout
+originatorLast l rest =
+    pick (originatorSize rest) (given (layoutWith (l .«route_type») (l .length) (l .source) (l .group) rest (l .key)))
+    (refused LENGTH)
+
+unfoldable pub endsAt : Layout → ℕ → Outcome Layout
+endsAt l rest = pick (eqb rest 0) (given l) (refused LENGTH)
+
+unfoldable pub groupSize : (family type source : ℕ) → List ℕ → Outcome (ℕ × ℕ)
+groupSize family type source s = andThen (addressField family type s) (λ group. given (source, group))
+
+unfoldable pub flowSizes : (family type : ℕ) → List ℕ → Outcome (ℕ × ℕ)
+flowSizes family type s = andThen (addressField family type s) (λ source. groupSize family type source (drop source s))
+
+unfoldable pub flowEnd : (type size source group rest : ℕ) → Outcome Layout
+flowEnd type size source group rest =
+    pick (eqb type 3) (originatorLast (layoutWith type size (source - 1) (group - 1) 0 0) rest)
+    (endsAt (layoutWith type size (source - 1) (group - 1) 0 0) rest)
+
+unfoldable pub flowRoute : (family type fixed : ℕ) → List ℕ → Outcome Layout
+flowRoute family type fixed s =
+    pick (ltb (length s) fixed) (refused LENGTH)
+    (andThen (flowSizes family type (drop fixed s))
+    (λ sizes. flowEnd type (length s) (sizes .0) (sizes .1) (length s - fixed - sizes .0 - sizes .1)))
+
+unfoldable pub intraAs : List ℕ → Outcome Layout
+intraAs s = pick (ltb (length s) 8) (refused LENGTH) (originatorLast (layoutWith 1 (length s) 0 0 0 0) (length s - 8))
+
+unfoldable pub interAs : List ℕ → Outcome Layout
+interAs s = pick (ltb (length s) 12) (refused LENGTH) (endsAt (layoutWith 2 (length s) 0 0 0 0) (length s - 12))
+
+unfoldable pub leaf : ℕ → List ℕ → Outcome Layout
+leaf family s = andThen (keyField family s) (λ size. originatorLast (layoutWith 4 (length s) 0 0 0 size) (length s - size))
+
+-- the body of a route type, where `keyed` is what a Leaf's comes to
+unfoldable pub bodyWith : Outcome Layout → (family type : ℕ) → List ℕ → Outcome Layout
+bodyWith keyed family type s =
+    pick (eqb type 1) (intraAs s)
+    (pick (eqb type 2) (interAs s)
+    (pick (eqb type 3) (flowRoute family type 8 s)
+    (pick (eqb type 4) keyed
+    (pick (eqb type 5) (flowRoute family type 8 s)
+    (pick (eqb type 6) (flowRoute family type 12 s)
+    (pick (eqb type 7) (flowRoute family type 12 s)
+    (refused TYPE)))))))
+
+unfoldable pub unkeyedBody : (family type : ℕ) → List ℕ → Outcome Layout
+unkeyedBody family type s = bodyWith (refused KEY) family type s
+
+unfoldable pub anyBody : (family type : ℕ) → List ℕ → Outcome Layout
+anyBody family type s = bodyWith (leaf family s) family type s
+
+unfoldable pub header : List ℕ → Outcome (ℕ × ℕ)
+header s =
+    pick (ltb (length s) 2) (refused SHORT)
+    (pick (ltb (length s - 2) (getD s 1 0)) (refused SHORT) (given (getD s 0 0, getD s 1 0)))
+
+unfoldable pub unkeyed : ℕ → List ℕ → Outcome Layout
+unkeyed family s = andThen (header s) (λ h. unkeyedBody family (h .0) (part s 2 (h .1)))
+
+unfoldable pub anyFront : ℕ → List ℕ → Outcome Layout
+anyFront family s = andThen (header s) (λ h. anyBody family (h .0) (part s 2 (h .1)))
+
+-- a key's size by the layout of the NLRI that it is
+unfoldable pub keySize : ℕ → List ℕ → Outcome ℕ
+keySize family s =
+    onOutcome (λ fault. refused KEY) (λ l. pick (ltb 3 (l .«route_type»)) (refused KEY) (given (2 + l .length))) (unkeyed family s)

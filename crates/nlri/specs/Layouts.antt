@@ -1,0 +1,30 @@
+-- What the functions that read by layout answer, by cases, and the layout of what was laid out.
+use Prim.Native.Nat.{ℕ, _-_}
+use mathlib.Core.List.{List}
+use Rattle.octets.specs.Outcome.{Outcome, given, refused, andThen}
+use Rattle.nlri.specs.declared.layout.Layout.{Layout}
+use Rattle.nlri.specs.declared.layout.Reading.{Reading}
+use Rattle.nlri.specs.declared.layout.Reading.the-variants.{Nlri, Refused}
+use Rattle.nlri.specs.Bodies.{source, group, originator, key, fieldIn}
+use Rattle.nlri.specs.Reading.{Laid, laidAt, laidSingle}
+
+-- an NLRI's layout, or the refusal's number
+unfoldable pub readingOf : Reading → Outcome Layout
+readingOf (Nlri layout) = given layout
+readingOf (Refused number) = refused number
+
+-- the sizes that vary, of addresses without their length octet; 0 for a field that the type lacks
+unfoldable pub layoutOf : Laid → Layout
+layoutOf laid =
+    record {
+      «route_type» = laid .type;
+      length = laid .length;
+      source = fieldIn 0 source (laid .body) (laid .sizes) - 1;
+      group = fieldIn 0 group (laid .body) (laid .sizes) - 1;
+      originator = fieldIn 0 originator (laid .body) (laid .sizes);
+      key = fieldIn 0 key (laid .body) (laid .sizes);
+    }
+
+-- the layout of the NLRI at the front of s
+unfoldable pub layoutAt : ℕ → List ℕ → Outcome Layout
+layoutAt family s = andThen (laidAt family s) (λ laid. given (layoutOf laid))

@@ -1,0 +1,99 @@
+-- Reading an NLRI (document 01, "NLRI on the wire" and the order of NLRI reading): first where its fields lie, then the fields.
+use Prim.Native.Nat.{ℕ, _+_, _-_, _/_}
+use mathlib.Core.List.{List, [], _∷_}
+use lib.ListN.{length, getD, take, drop}
+use lib.Dec.{ltb, leb, eqb}
+use Rattle.octets.specs.Numbers.{SHORT, TYPE, LENGTH, WIDTH, KEY}
+use Rattle.octets.specs.Choice.{pick}
+use Rattle.octets.specs.Outcome.{Outcome, given, refused, onOutcome, andThen}
+use Rattle.octets.specs.Octets.{part, numberIn}
+use Rattle.nlri.specs.Family.{familyBits, allowed, originatorSize}
+use Rattle.nlri.specs.Bodies.{Kind, distinguisher, sourceAs, source, group, originator, key, bodies, onBody, fieldIn}
+use Rattle.nlri.specs.Fields.{Fields}
+
+-- a field of n octets, n known
+unfoldable pub fixedField : ℕ → List ℕ → Outcome ℕ
+fixedField n s = pick (ltb (length s) n) (refused LENGTH) (given n)
+
+-- an address of so many octets after its length octet, where s begins with that length octet
+unfoldable pub addressEnd : ℕ → List ℕ → Outcome ℕ
+addressEnd octets s = pick (leb (length s) octets) (refused LENGTH) (given (1 + octets))
+
+-- a source or group; a bad length octet is WIDTH before its address is looked for
+unfoldable pub addressField : (family type : ℕ) → List ℕ → Outcome ℕ
+addressField family type s =
+    pick (eqb (length s) 0) (refused LENGTH)
+    (pick (allowed family type (getD s 0 0)) (addressEnd (getD s 0 0 / 8) s) (refused WIDTH))
+
+-- the originator is what remains
+unfoldable pub originatorField : List ℕ → Outcome ℕ
+originatorField s = pick (originatorSize (length s)) (given (length s)) (refused LENGTH)
+
+-- how many octets the field at the front of s takes, or the number that refuses it; `keyField` judges a key
+unfoldable pub fieldSize : (List ℕ → Outcome ℕ) → (family type : ℕ) → Kind → List ℕ → Outcome ℕ
+fieldSize keyField family type distinguisher s = fixedField 8 s
+fieldSize keyField family type sourceAs s = fixedField 4 s
+fieldSize keyField family type source s = addressField family type s
+fieldSize keyField family type group s = addressField family type s
+fieldSize keyField family type originator s = originatorField s
+fieldSize keyField family type key s = keyField s
+
+-- the sizes of a body's fields from left to right, the first fault deciding; nothing may remain
+unfoldable pub sizesOf : (Kind → List ℕ → Outcome ℕ) → List Kind → List ℕ → Outcome (List ℕ)
+sizesOf size [] s = pick (eqb (length s) 0) (given []) (refused LENGTH)
+sizesOf size (k ∷ body) s = andThen (size k s) (λ n. andThen (sizesOf size body (drop n s)) (λ sizes. given (n ∷ sizes)))
+
+-- where the fields of an NLRI lie: its type, its Length, its body's kinds of fields, and the size of each
+pub record Laid : Type 0 where
+  pub type : ℕ
+  pub length : ℕ
+  pub body : List Kind
+  pub sizes : List ℕ
+
+-- the NLRI at the front of s: SHORT, TYPE, then its body
+unfoldable pub laidWith : (List ℕ → Outcome ℕ) → ℕ → List ℕ → Outcome Laid
+laidWith keyField family s =
+    pick (ltb (length s) 2) (refused SHORT)
+    (pick (ltb (length s - 2) (getD s 1 0)) (refused SHORT)
+    (onBody bodies (getD s 0 0) (refused TYPE)
+    (λ body. andThen (sizesOf (fieldSize keyField family (getD s 0 0)) body (part s 2 (getD s 1 0)))
+    (λ sizes. given (record { type = getD s 0 0; length = getD s 1 0; body = body; sizes = sizes })))))
+
+-- a key inside an NLRI that may stand in a key: there is none
+unfoldable pub noKey : List ℕ → Outcome ℕ
+noKey s = refused KEY
+
+-- a key is a whole NLRI of type 1, 2 or 3, header included; any fault inside it is KEY
+unfoldable pub keyField : ℕ → List ℕ → Outcome ℕ
+keyField family s =
+    onOutcome (λ fault. refused KEY) (λ laid. pick (ltb 3 (laid .type)) (refused KEY) (given (2 + laid .length)))
+    (laidWith noKey family s)
+
+unfoldable pub laidAt : ℕ → List ℕ → Outcome Laid
+laidAt family s = laidWith (keyField family) family s
+
+-- a list cut into pieces of the sizes given
+unfoldable pub cut : List ℕ → List ℕ → List (List ℕ)
+cut [] s = []
+cut (n ∷ sizes) s = take n s ∷ cut sizes (drop n s)
+
+-- the fields of an NLRI whose body goes as `laid` says
+unfoldable pub fieldsOf : Laid → List ℕ → Fields
+fieldsOf laid s =
+    let field : Kind → List ℕ = λ kind. fieldIn [] kind (laid .body) (cut (laid .sizes) (drop 2 s)) in
+    record {
+      type = laid .type;
+      distinguisher = field distinguisher;
+      sourceAs = numberIn (field sourceAs) 0;
+      source = drop 1 (field source);
+      group = drop 1 (field group);
+      originator = field originator;
+      key = field key;
+    }
+
+-- a single NLRI: FAMILY, then reading, then LENGTH for octets after it
+unfoldable pub laidSingle : ℕ → List ℕ → Outcome Laid
+laidSingle family s = andThen (laidAt family s) (λ laid. pick (eqb (length s - 2) (laid .length)) (given laid) (refused LENGTH))
+
+unfoldable pub readNlri : ℕ → List ℕ → Outcome Fields
+readNlri afi s = andThen (familyBits afi) (λ family. andThen (laidSingle family s) (λ laid. given (fieldsOf laid s)))

@@ -1,0 +1,36 @@
+// Where the fields of an NLRI lie, as numbers: no octet is copied to read, compare or walk.
+ghost use mathlib.Core.Path.{_≡_};
+ghost use Rattle.nlri.specs.Inner.{layoutWith};
+
+// Route type, Length, and the size in octets of each field whose size varies: 0 for a wildcard and for a field that the
+// type lacks.
+#[repr(C)]
+pub struct Layout {
+    pub route_type: usize,
+    pub length: usize,
+    pub source: usize,
+    pub group: usize,
+    pub originator: usize,
+    pub key: usize,
+}
+
+impl Layout {
+    pub(crate) fn with_originator(mut self, size: usize) -> Self
+        ensures { λ r. ⌜ r ≡ layoutWith (self .«route_type») (self .length) (self .source) (self .group) size (self .key) ⌝ }
+    {
+        self.originator = size;
+        self
+    }
+}
+
+// What reading an NLRI comes to: its layout, or the refusal's number.
+pub enum Reading {
+    Nlri(Layout),
+    Refused(u32),
+}
+
+// A size in octets, or the refusal's number.
+pub(crate) enum Part {
+    Size(usize),
+    Fault(u32),
+}

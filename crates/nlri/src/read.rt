@@ -1,0 +1,108 @@
+// Reading an NLRI by its layout: header, body, and the key of a Leaf.
+ghost use mathlib.Core.Path.{_≡_};
+ghost use lib.ListN.{length};
+ghost use Rattle.nlri.specs.Reading.{keyField};
+ghost use Rattle.nlri.specs.Layouts.{readingOf, layoutAt};
+ghost use Rattle.nlri.specs.Inner.{partOf, headerOf, header, unkeyed, leaf, anyBody, anyFront};
+use crate::body;
+use crate::layout::Layout;
+use crate::layout::Part;
+use crate::layout::Reading;
+use crate::route::RouteType;
+use octets::number::KEY;
+use octets::number::SHORT;
+
+// Route Type and Length.
+pub(crate) const HEADER: usize = 2;
+
+// The header at the front: a route type and a Length with as many octets behind it, or SHORT.
+pub(crate) enum Header {
+    Typed(usize, usize),
+    Short(u32),
+}
+
+fn read_header(s: &[u8]) -> Header
+    ensures { λ r. ⌜ headerOf r ≡ header (now (s .entry)) ⌝ }
+{
+    if s.len() < HEADER {
+        return Header::Short(SHORT);
+    }
+    let length = s[1] as usize;
+    if s.len() - HEADER < length {
+        return Header::Short(SHORT);
+    }
+    Header::Typed(s[0] as usize, length)
+}
+
+// The NLRI at the front of `s`, if its type has no key.
+fn read_unkeyed(family: usize, s: &[u8]) -> Reading
+    ensures { λ r. ⌜ readingOf r ≡ unkeyed family (now (s .entry)) ⌝ }
+{
+    match read_header(s) {
+        Header::Short(number) => Reading::Refused(number),
+        Header::Typed(route_type, length) => {
+            body::read_unkeyed_body(
+                family,
+                route_type,
+                octets::parts::between(s, HEADER, length),
+            )
+        }
+    }
+}
+
+// The size of the key at the front of `s`: a whole NLRI of type 1, 2 or 3. Any fault inside it is KEY.
+pub(crate) fn read_key(family: usize, s: &[u8]) -> Part
+    ensures { λ r. ⌜ partOf r ≡ keyField family (now (s .entry)) ⌝ }
+{
+    let Reading::Nlri(layout) = read_unkeyed(family, s) else {
+        return Part::Fault(KEY);
+    };
+    if RouteType::S_PMSI < layout.route_type {
+        return Part::Fault(KEY);
+    }
+    Part::Size(HEADER + layout.length)
+}
+
+fn read_leaf(family: usize, s: &[u8]) -> Reading
+    ensures { λ r. ⌜ readingOf r ≡ leaf family (now (s .entry)) ⌝ }
+{
+    match read_key(family, s) {
+        Part::Fault(number) => Reading::Refused(number),
+        Part::Size(key) => {
+            let layout = Layout {
+                route_type: RouteType::LEAF,
+                length: s.len(),
+                source: 0,
+                group: 0,
+                originator: 0,
+                key,
+            };
+            body::ends_in_originator(layout, s.len() - key)
+        }
+    }
+}
+
+fn read_body(family: usize, route_type: usize, s: &[u8]) -> Reading
+    ensures { λ r. ⌜ readingOf r ≡ anyBody family «route_type» (now (s .entry)) ⌝ }
+{
+    if route_type == RouteType::LEAF {
+        return read_leaf(family, s);
+    }
+    body::read_unkeyed_body(family, route_type, s)
+}
+
+// The NLRI at the front of `s`, under a family given by the bits of its addresses.
+pub(crate) fn read_front(family: usize, s: &[u8]) -> Reading
+    ensures { λ r. ⌜ readingOf r ≡ layoutAt family (now (s .entry)) ⌝ }
+{
+    match read_header(s) {
+        Header::Short(number) => Reading::Refused(number),
+        Header::Typed(route_type, length) => {
+            read_body(
+                family,
+                route_type,
+                octets::parts::between(s, HEADER, length),
+            )
+        }
+    }
+}

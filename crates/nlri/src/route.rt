@@ -1,0 +1,20 @@
+// Route types (RFC 6514, section 4).
+pub struct RouteType {
+    pub code: usize,
+}
+
+impl RouteType {
+    pub const INTRA_AS_I_PMSI: usize = 1;
+
+    pub const INTER_AS_I_PMSI: usize = 2;
+
+    pub const S_PMSI: usize = 3;
+
+    pub const LEAF: usize = 4;
+
+    pub const SOURCE_ACTIVE: usize = 5;
+
+    pub const SHARED_TREE_JOIN: usize = 6;
+
+    pub const SOURCE_TREE_JOIN: usize = 7;
+}
