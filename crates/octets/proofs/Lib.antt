@@ -1,3 +1,4 @@
 -- Laws of the definitions, for every crate above.
 pub mod Tests
 pub mod Lists
+pub mod NetworkOrder
