@@ -54,11 +54,10 @@ pub number-part : (s : List ℕ) (at n : ℕ) → at + n < length s → numberIn
 unfolding part
 number-part s at n h = rw (take-suc (drop at s) n 0 (simp length-drop (omega arith)), getD-drop at s n 0) (number-snoc (take n (drop at s)) (getD s (at + n) 0) 0)
 
--- the number in three octets
-pub number-three : (s : List ℕ) (at : ℕ) → at + 3 ≤ length s
-    → (getD s at 0 * 256 + getD s (at + 1) 0) * 256 + getD s (at + 2) 0 ≡ numberIn (part s at 3) 0
+-- the number in two octets
+pub number-two : (s : List ℕ) (at : ℕ) → at + 2 ≤ length s → getD s at 0 * 256 + getD s (at + 1) 0 ≡ numberIn (part s at 2) 0
 unfolding part numberIn
-number-three s at h = sym (rw (number-part s at 2 (omega arith), number-part s at 1 (omega arith), number-part s at 0 (omega arith), add-zero) (omega arith))
+number-two s at h = sym (rw (number-part s at 1 (omega arith), number-part s at 0 (omega arith), add-zero) (omega arith))
 
 -- the last octet put straight after the others
 pub placed-last : (at next n x : ℕ) (d y z : List ℕ) → at + suc n ≤ length d → next ≡ at + n → y ≡ placed at (bigEndian n (x / 256)) d → z ≡ placed next (x % 256 ∷ []) y

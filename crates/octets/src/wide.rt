@@ -1,9 +1,17 @@
 // Numbers of several octets in network order.
 ghost use mathlib.Core.Path.{_≡_};
-ghost use mathlib.Core.List.{[], _∷_};
-ghost use Prim.Native.Nat.{_+_, _^_, _<_, _≤_, _/_};
-ghost use lib.ListN.{length, getD};
+ghost use Prim.Native.Nat.{_+_, _^_, _<_, _≤_};
+ghost use lib.ListN.{length};
 ghost use Rattle.octets.specs.Octets.{part, placed, numberIn, bigEndian};
+
+// The number in two octets from `at` on.
+pub fn two(s: &[u8], at: usize) -> u32
+    requires { ⌜ at + 2 ≤ length (now s) ⌝ }
+    ensures { λ r. ⌜ r ≡ numberIn (part (now (s .entry)) at 2) 0 ⌝ }
+    ensures { λ r. ⌜ r < 2 ^ 16 ⌝ }
+{
+    s[at] as u32 * 256 + s[at + 1] as u32
+}
 
 // The number in three octets from `at` on.
 pub fn three(s: &[u8], at: usize) -> u32
@@ -11,7 +19,7 @@ pub fn three(s: &[u8], at: usize) -> u32
     ensures { λ r. ⌜ r ≡ numberIn (part (now (s .entry)) at 3) 0 ⌝ }
     ensures { λ r. ⌜ r < 2 ^ 24 ⌝ }
 {
-    (s[at] as u32 * 256 + s[at + 1] as u32) * 256 + s[at + 2] as u32
+    two(s, at) * 256 + s[at + 2] as u32
 }
 
 // The number in four octets from `at` on.

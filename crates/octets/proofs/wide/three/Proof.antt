@@ -1,67 +1,44 @@
--- `octets::wide::three` meets its contract: each octet is below 256, so that the number fits.
+-- `octets::wide::three` meets its contract: the number in two octets, and one octet more.
 use Prim.Native.Nat.{_+_}
+use mathlib.Core.Path.{sym}
 use native.Mathlib.Omega.{arith}
 use denote.Ref.{now}
-use Rattle.octets.proofs.NetworkOrder.{number-three}
+use Rattle.octets.proofs.NetworkOrder.{number-part}
 use borrow.Author.Needs.{needs}
 use Rattle.octets.proofs.wide.three.Statement.{statement}
 use Rattle.octets.proofs.wide.three.Tie as tie
+
+two-requires : tie.Need-two-requires
+two-requires c κs = search needs
+
+mul-result : tie.Need-mul-result
+mul-result c = search needs
+
+add-result : tie.Need-add-result
+add-result c = search needs
 
 shared-slice-read-result : tie.Need-shared-slice-read-result
 shared-slice-read-result c = search needs
 
 cast-result : tie.Need-cast-result
-cast-result c = omega (arith, c .shared-slice-known .given (c .before .args .at))
-
-mul-result : tie.Need-mul-result
-mul-result c = omega (arith, c .shared-slice-known .given (c .before .args .at))
-
-add-result : tie.Need-add-result
-add-result c = search needs
-
-shared-slice-read-result-2 : tie.Need-shared-slice-read-result-2
-shared-slice-read-result-2 c = search needs
-
-cast-result-2 : tie.Need-cast-result-2
-cast-result-2 c = omega (arith, c .before .shared-slice-known .given (c .before .before .args .at), c .shared-slice-known2 .given (c .before .before .args .at + 1))
+cast-result c = omega (arith, c .shared-slice-known2 .given (c .before .before .before .args .at + 2))
 
 add-result-2 : tie.Need-add-result-2
-add-result-2 c = omega (arith, c .before .shared-slice-known .given (c .before .before .args .at), c .shared-slice-known2 .given (c .before .before .args .at + 1))
-
-mul-result-2 : tie.Need-mul-result-2
-mul-result-2 c = omega (arith, c .before .shared-slice-known .given (c .before .before .args .at), c .shared-slice-known2 .given (c .before .before .args .at + 1))
-
-add-result-3 : tie.Need-add-result-3
-add-result-3 c = search needs
-
-shared-slice-read-result-3 : tie.Need-shared-slice-read-result-3
-shared-slice-read-result-3 c = search needs
-
-cast-result-3 : tie.Need-cast-result-3
-cast-result-3 c = omega (arith, c .before .before .shared-slice-known .given (c .before .before .before .args .at), c .before .shared-slice-known2 .given (c .before .before .before .args .at + 1), c .shared-slice-known3 .given (c .before .before .before .args .at + 2))
-
-add-result-4 : tie.Need-add-result-4
-add-result-4 c = omega (arith, c .before .before .shared-slice-known .given (c .before .before .before .args .at), c .before .shared-slice-known2 .given (c .before .before .before .args .at + 1), c .shared-slice-known3 .given (c .before .before .before .args .at + 2))
+add-result-2 c = omega (arith, c .shared-slice-known2 .given (c .before .before .before .args .at + 2))
 
 returns : tie.Need-returns
 returns c =
     let a = c .before .before .before .args in
-    (number-three (now (a .s)) (a .at) (search needs), omega (arith, c .before .before .shared-slice-known .given (a .at), c .before .shared-slice-known2 .given (a .at + 1), c .shared-slice-known3 .given (a .at + 2)))
+    (rw (c .before .two .ensures .0) (sym (number-part (now (a .s)) (a .at) 2 (search needs))), omega (arith, c .shared-slice-known2 .given (a .at + 2)))
 
 pub three-spec : {M : Type 1} → statement M
 three-spec =
     tie.close
     (tie.spec
-    shared-slice-read-result
-    cast-result
+    two-requires
     mul-result
     add-result
-    shared-slice-read-result-2
-    cast-result-2
+    shared-slice-read-result
+    cast-result
     add-result-2
-    mul-result-2
-    add-result-3
-    shared-slice-read-result-3
-    cast-result-3
-    add-result-4
     returns)
