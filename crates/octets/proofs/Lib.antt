@@ -3,3 +3,4 @@ pub mod Tests
 pub mod Outcomes
 pub mod Inversions
 pub mod Lists
+pub mod NetworkOrder

@@ -2,6 +2,7 @@
 // its helpers may have a `requires`.
 pub mod number;
 pub mod parts;
+pub mod wide;
 
 // A part of a slice: `size` octets from octet `start`.
 #[repr(C)]

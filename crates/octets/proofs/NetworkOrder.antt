@@ -1,0 +1,69 @@
+-- Numbers in network order: reading undoes writing, and writing undoes reading, at every width.
+use Prim.Native.Nat.{ℕ, zero, suc, _+_, _*_, _/_, _%_, _^_, _≤_, _<_}
+use mathlib.Core.Path.{_≡_, refl, sym, ap, ap₂, _∙_}
+use mathlib.Core.List.{List, [], _∷_, _++_, append-assoc, append-nil}
+use native.Mathlib.Nat.{mod-lt, div-add-mod', div-lt-iff-lt-mul, pow-suc, mul-add-div-right, mul-add-mod-self-right, mod-eq-of-lt, div-eq-of-lt, add-zero, zero-add}
+use native.Mathlib.Omega.{arith}
+use lib.ListN.{length, take, drop, getD, length-append, length-drop}
+use lib.Seq.{take-suc, getD-drop}
+use Rattle.octets.proofs.Lists.{placed-placed}
+use Rattle.octets.specs.Octets.{AllOctets, none, one, part, placed, numberIn, bigEndian}
+
+pub octets-append : {xs ys : List ℕ} → AllOctets xs → AllOctets ys → AllOctets (xs ++ ys)
+octets-append none b = b
+octets-append (one h a) b = one h (octets-append a b)
+
+pub big-endian-length : (n x : ℕ) → length (bigEndian n x) ≡ n
+unfolding bigEndian
+big-endian-length zero x = refl
+big-endian-length (suc n) x = simp (length-append, big-endian-length n (x / 256)) (omega arith)
+
+pub big-endian-octets : (n x : ℕ) → AllOctets (bigEndian n x)
+unfolding bigEndian
+big-endian-octets zero x = none
+big-endian-octets (suc n) x = octets-append (big-endian-octets n (x / 256)) (one (mod-lt x (omega arith)) none)
+
+number-snoc : (xs : List ℕ) (x high : ℕ) → numberIn (xs ++ (x ∷ [])) high ≡ numberIn xs high * 256 + x
+unfolding numberIn
+number-snoc [] x high = refl
+number-snoc (y ∷ ys) x high = number-snoc ys x (high * 256 + y)
+
+-- reading what was written
+pub number-of-big-endian : (n x : ℕ) → x < 256 ^ n → numberIn (bigEndian n x) 0 ≡ x
+unfolding numberIn bigEndian
+number-of-big-endian zero x h = omega arith
+number-of-big-endian (suc n) x h =
+    rw (number-snoc (bigEndian n (x / 256)) (x % 256) 0, number-of-big-endian n (x / 256) (div-lt-iff-lt-mul {k = 256} (omega arith) .1 (rw (pow-suc 256 n) at h)))
+    (div-add-mod' x 256)
+
+big-endian-number : (m high : ℕ) {xs : List ℕ} → AllOctets xs → bigEndian (length xs + m) (numberIn xs high) ≡ bigEndian m high ++ xs
+unfolding numberIn bigEndian
+big-endian-number m high none = rw (zero-add, append-nil)
+big-endian-number m high (one {x} {xs} h a) =
+    let sum : suc (length xs) + m ≡ length xs + suc m = omega arith in
+    rw (sum, big-endian-number (suc m) (high * 256 + x) a, mul-add-div-right {m = 256} (omega arith) high x, div-eq-of-lt h, add-zero, mul-add-mod-self-right high 256 x, mod-eq-of-lt h)
+    (append-assoc (bigEndian m high) (x ∷ []) xs)
+
+-- writing what was read
+pub big-endian-of-number : {xs : List ℕ} → AllOctets xs → bigEndian (length xs) (numberIn xs 0) ≡ xs
+unfolding bigEndian
+big-endian-of-number {xs} a = rw add-zero at (big-endian-number 0 0 a)
+
+-- the number in one octet more
+pub number-part : (s : List ℕ) (at n : ℕ) → at + n < length s → numberIn (part s at (suc n)) 0 ≡ numberIn (part s at n) 0 * 256 + getD s (at + n) 0
+unfolding part
+number-part s at n h = rw (take-suc (drop at s) n 0 (simp length-drop (omega arith)), getD-drop at s n 0) (number-snoc (take n (drop at s)) (getD s (at + n) 0) 0)
+
+-- the number in two octets
+pub number-two : (s : List ℕ) (at : ℕ) → at + 2 ≤ length s → getD s at 0 * 256 + getD s (at + 1) 0 ≡ numberIn (part s at 2) 0
+unfolding part numberIn
+number-two s at h = sym (rw (number-part s at 1 (omega arith), number-part s at 0 (omega arith), add-zero) (omega arith))
+
+-- the last octet put straight after the others
+pub placed-last : (at next n x : ℕ) (d y z : List ℕ) → at + suc n ≤ length d → next ≡ at + n → y ≡ placed at (bigEndian n (x / 256)) d → z ≡ placed next (x % 256 ∷ []) y
+    → z ≡ placed at (bigEndian (suc n) x) d
+unfolding bigEndian
+placed-last at next n x d y z h k p q =
+    let e : List ℕ = bigEndian n (x / 256) in
+    let l : at + length e ≡ next = rw (big-endian-length n (x / 256)) (sym k) in
+    q ∙ ap₂ (λ (i : ℕ) (l : List ℕ). placed i (x % 256 ∷ []) l) (sym l) p ∙ placed-placed at e (x % 256 ∷ []) d (omega arith)

@@ -1,0 +1,54 @@
+// Numbers of several octets in network order.
+ghost use mathlib.Core.Path.{_≡_};
+ghost use Prim.Native.Nat.{_+_, _^_, _<_, _≤_};
+ghost use lib.ListN.{length};
+ghost use Rattle.octets.specs.Octets.{part, placed, numberIn, bigEndian};
+
+// The number in two octets from `at` on.
+pub fn two(s: &[u8], at: usize) -> u32
+    requires { ⌜ at + 2 ≤ length (now s) ⌝ }
+    ensures { λ r. ⌜ r ≡ numberIn (part (now (s .entry)) at 2) 0 ⌝ }
+    ensures { λ r. ⌜ r < 2 ^ 16 ⌝ }
+{
+    s[at] as u32 * 256 + s[at + 1] as u32
+}
+
+// The number in three octets from `at` on.
+pub fn three(s: &[u8], at: usize) -> u32
+    requires { ⌜ at + 3 ≤ length (now s) ⌝ }
+    ensures { λ r. ⌜ r ≡ numberIn (part (now (s .entry)) at 3) 0 ⌝ }
+    ensures { λ r. ⌜ r < 2 ^ 24 ⌝ }
+{
+    two(s, at) * 256 + s[at + 2] as u32
+}
+
+// The number in four octets from `at` on.
+pub fn four(s: &[u8], at: usize) -> u32
+    requires { ⌜ at + 4 ≤ length (now s) ⌝ }
+    ensures { λ r. ⌜ r ≡ numberIn (part (now (s .entry)) at 4) 0 ⌝ }
+{
+    three(s, at) * 256 + s[at + 3] as u32
+}
+
+// Puts the last three octets of a number into `output` from `at` on, and answers the place just past them.
+pub fn place_three(x: u32, output: &mut [u8], at: usize) -> usize
+    requires { ⌜ at + 3 ≤ length (now output) ⌝ }
+    ensures { λ r. ⌜ (r ≡ at + 3) × (now (output .exit) ≡ placed at (bigEndian 3 x) (now (output .entry))) ⌝ }
+{
+    let octets = [
+        (x / 256 / 256 % 256) as u8,
+        (x / 256 % 256) as u8,
+        (x % 256) as u8,
+    ];
+    crate::parts::place(&octets, output, at)
+}
+
+// Puts the four octets of a number into `output` from `at` on, and answers the place just past them.
+pub fn place_four(x: u32, output: &mut [u8], at: usize) -> usize
+    requires { ⌜ at + 4 ≤ length (now output) ⌝ }
+    ensures { λ r. ⌜ (r ≡ at + 4) × (now (output .exit) ≡ placed at (bigEndian 4 x) (now (output .entry))) ⌝ }
+{
+    let next = place_three(x / 256, output, at);
+    let octets = [(x % 256) as u8];
+    crate::parts::place(&octets, output, next)
+}
