@@ -1,9 +1,9 @@
 -- The table of bodies (document 01, "NLRI on the wire"), as data.
 use Prim.Native.Nat.{ℕ}
-use mathlib.Core.Bool.{Bool}
+use mathlib.Core.Bool.{Bool, false}
 use mathlib.Core.List.{List, [], _∷_}
 use lib.Dec.{eqb}
-use Rattle.octets.specs.Choice.{pick}
+use Rattle.octets.specs.Choice.{pick, either}
 
 pub data Kind : Type 0 where
   distinguisher sourceAs source group originator key : Kind
@@ -47,3 +47,8 @@ unfoldable pub fieldIn : {A : Type 0} → A → Kind → List Kind → List A �
 fieldIn none kind [] xs = none
 fieldIn none kind (k ∷ body) [] = none
 fieldIn none kind (k ∷ body) (x ∷ xs) = pick (sameKind kind k) x (fieldIn none kind body xs)
+
+-- whether a body has a kind of field
+unfoldable pub has : Kind → List Kind → Bool
+has kind [] = false
+has kind (k ∷ body) = either (sameKind kind k) (has kind body)

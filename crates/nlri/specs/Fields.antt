@@ -4,9 +4,10 @@ use mathlib.Core.Path.{_≡_}
 use mathlib.Core.Bool.{true}
 use mathlib.Core.List.{List, [], _∷_, _++_}
 use lib.ListN.{length}
+use Rattle.octets.specs.Choice.{pick}
 use Rattle.octets.specs.Octets.{AllOctets, bigEndian}
 use Rattle.nlri.specs.Family.{allowed, originatorSize}
-use Rattle.nlri.specs.Bodies.{Kind, distinguisher, sourceAs, source, group, originator, key, bodyOf}
+use Rattle.nlri.specs.Bodies.{Kind, distinguisher, sourceAs, source, group, originator, key, bodyOf, has}
 
 -- the fields of an NLRI as lists of octets; a wildcard is no octets, and so is a field that the type lacks
 pub record Fields : Type 0 where
@@ -62,7 +63,21 @@ pub record KeyOf (family : ℕ) (octets : List ℕ) : Type 0 where
   pub wellFormed : WellFormedBody NoKey family fields (bodyOf (fields .type))
   pub encoded : octets ≡ encodeNlri fields
 
--- fields of an NLRI of type 1 to 7 whose every field is well-formed and which fits its Length octet
+-- fields of an NLRI of type 1 to 7 of which every field of its body is well-formed
 pub record WellFormed (family : ℕ) (f : Fields) : Type 0 where
   pub typed : (1 ≤ f .type) × (f .type ≤ 7)
   pub body : WellFormedBody (KeyOf family) family f (bodyOf (f .type))
+
+-- f with the fields that its type lacks emptied
+unfoldable pub restricted : Fields → Fields
+restricted f =
+    let body : List Kind = bodyOf (f .type) in
+    record {
+      type = f .type;
+      distinguisher = pick (has distinguisher body) (f .distinguisher) [];
+      sourceAs = pick (has sourceAs body) (f .sourceAs) 0;
+      source = pick (has source body) (f .source) [];
+      group = pick (has group body) (f .group) [];
+      originator = pick (has originator body) (f .originator) [];
+      key = pick (has key body) (f .key) [];
+    }

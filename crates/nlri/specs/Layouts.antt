@@ -28,3 +28,7 @@ layoutOf laid =
 -- the layout of the NLRI at the front of s
 unfoldable pub layoutAt : ℕ → List ℕ → Outcome Layout
 layoutAt family s = andThen (laidAt family s) (λ laid. given (layoutOf laid))
+
+-- no layout: every number 0
+unfoldable pub noLayout : Layout
+noLayout = record { «route_type» = 0; length = 0; source = 0; group = 0; originator = 0; key = 0 }

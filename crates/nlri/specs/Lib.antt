@@ -1,7 +1,11 @@
--- MCAST-VPN NLRI: definitions in document 01's order, then what the calls answer.
+-- MCAST-VPN NLRI: definitions in document 01's order, then what the calls answer, then what mirrors inner functions.
 pub mod Family
 pub mod Bodies
 pub mod Fields
 pub mod Reading
 pub mod Layouts
+pub mod Walking
+pub mod Groups
+pub mod Writing
+pub mod Answers
 pub mod Inner

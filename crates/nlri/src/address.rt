@@ -12,6 +12,13 @@ impl RouteDistinguisher {
     pub const WITH_SOURCE_AS: usize = 12;
 }
 
+// An address: its octets, then zeros, and its size. No octets: the wildcard.
+#[repr(C)]
+pub struct Address {
+    pub octets: [u8; 16],
+    pub size: u8,
+}
+
 // The kind of an address by its length in bits: the wildcard, IPv4 or IPv6.
 pub struct AddressKind {
     pub bits: usize,

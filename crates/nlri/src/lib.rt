@@ -1,11 +1,22 @@
 // MCAST-VPN NLRI (RFC 6514, section 4; RFC 6625): read, written and walked.
 mod address;
 mod body;
+mod fields;
+mod group;
 mod layout;
 mod read;
 mod route;
+mod walk;
 
+pub use address::Address;
 pub use address::AddressKind;
+pub use address::RouteDistinguisher;
+pub use fields::Nlri;
+pub use fields::NlriReading;
+pub use group::Group;
 pub use layout::Layout;
 pub use layout::Reading;
 pub use route::RouteType;
+pub use walk::Cursor;
+pub use walk::Step;
+pub use walk::Walked;

@@ -1,0 +1,60 @@
+-- What the calls on single NLRIs take and answer, in terms of the page's fields.
+use Prim.Native.Nat.{ℕ}
+use mathlib.Core.List.{List, []}
+use lib.ListN.{length}
+use lib.Dec.{eqb}
+use Rattle.octets.specs.Numbers.{DONE}
+use Rattle.octets.specs.Choice.{pick}
+use Rattle.octets.specs.Outcome.{Outcome, onOutcome}
+use Rattle.octets.specs.Octets.{sized}
+use Rattle.octets.specs.declared.Span.{Span}
+use Rattle.nlri.specs.declared.address.Address.{Address}
+use Rattle.nlri.specs.declared.fields.Nlri.{Nlri}
+use Rattle.nlri.specs.declared.fields.NlriReading.{NlriReading}
+use Rattle.nlri.specs.Fields.{Fields}
+
+-- an address as a struct: its octets, then zeros, and its size
+unfoldable pub addressOf : List ℕ → Address
+addressOf octets = record { octets = sized 16 octets; size = length octets }
+
+-- the octets of an address struct, as many as its size says
+unfoldable pub octetsOf : Address → List ℕ
+octetsOf address = sized (address .size) (address .octets)
+
+unfoldable pub nlriOf : Fields → Nlri
+nlriOf f =
+    record {
+      distinguisher = record { octets = sized 8 (f .distinguisher) };
+      source = addressOf (f .source);
+      group = addressOf (f .group);
+      originator = addressOf (f .originator);
+      «source_as» = f .sourceAs;
+      «route_type» = f .type;
+    }
+
+-- the fields that an NLRI struct and a key's octets stand for
+unfoldable pub fieldsIn : Nlri → List ℕ → Fields
+fieldsIn nlri key =
+    record {
+      type = nlri .«route_type»;
+      distinguisher = nlri .distinguisher .octets;
+      sourceAs = nlri .«source_as»;
+      source = octetsOf (nlri .source);
+      group = octetsOf (nlri .group);
+      originator = octetsOf (nlri .originator);
+      key = key;
+    }
+
+-- no fields
+unfoldable pub noFields : Fields
+noFields = record { type = 0; distinguisher = []; sourceAs = 0; source = []; group = []; originator = []; key = [] }
+
+-- a key stands straight after the header
+unfoldable pub keySpan : Fields → Span
+keySpan f = record { start = pick (eqb (f .type) 4) 2 0; size = length (f .key) }
+
+-- the answer of reading a single NLRI: on a refusal its number and empty fields
+unfoldable pub readAnswer : Outcome Fields → NlriReading
+readAnswer outcome =
+    onOutcome (λ number. record { number = number; nlri = nlriOf noFields; key = keySpan noFields })
+    (λ f. record { number = DONE; nlri = nlriOf f; key = keySpan f }) outcome

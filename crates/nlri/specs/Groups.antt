@@ -1,0 +1,39 @@
+-- The class of a customer group (document 01, "Which route a flow takes"; RFC 4607).
+use Prim.Native.Nat.{ℕ, _*_, _/_}
+use mathlib.Core.Bool.{Bool}
+use mathlib.Core.List.{List}
+use lib.ListN.{length, getD}
+use lib.Dec.{leb, eqb}
+use Rattle.octets.specs.Numbers.{FLOW}
+use Rattle.octets.specs.Choice.{pick, both}
+use Rattle.octets.specs.Outcome.{Outcome, given, refused, onOutcome, andThen, numberOf}
+use Rattle.nlri.specs.declared.group.Group.{Group}
+use Rattle.nlri.specs.Family.{familyBits}
+
+abbrev pub ASM : ℕ
+ASM = 1
+
+abbrev pub SSM : ℕ
+SSM = 2
+
+-- 224.0.0.0/4, FF00::/8
+unfoldable pub multicast : ℕ → List ℕ → Bool
+multicast family g = pick (eqb family 32) (both (leb 224 (getD g 0 0)) (leb (getD g 0 0) 239)) (eqb (getD g 0 0) 255)
+
+-- 232.0.0.0/8, FF3x::/32
+unfoldable pub sourceSpecific : ℕ → List ℕ → Bool
+sourceSpecific family g =
+    pick (eqb family 32) (eqb (getD g 0 0) 232)
+    (both (eqb (getD g 0 0) 255) (both (eqb (getD g 1 0 / 16) 3) (both (eqb (getD g 2 0) 0) (eqb (getD g 3 0) 0))))
+
+-- FAMILY, FLOW; any multicast group that is not SSM is ASM
+unfoldable pub classOf : ℕ → List ℕ → Outcome ℕ
+classOf afi g =
+    andThen (familyBits afi)
+    (λ family.
+    pick (eqb (length g) (family / 8))
+    (pick (multicast family g) (given (pick (sourceSpecific family g) SSM ASM)) (refused FLOW))
+    (refused FLOW))
+
+unfoldable pub groupOf : Outcome ℕ → Group
+groupOf class = record { number = numberOf class; «group_class» = onOutcome (λ number. 0) (λ c. c) class }

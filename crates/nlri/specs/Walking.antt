@@ -1,0 +1,58 @@
+-- Walking a run (document 01, "NLRI on the wire"): the step from a cursor, and the walk as its iteration.
+use Prim.Native.Nat.{ℕ, zero, suc, _+_}
+use mathlib.Core.Bool.{Bool, true, false}
+use mathlib.Core.List.{List}
+use lib.ListN.{length, drop}
+use lib.Dec.{ltb, eqb}
+use Rattle.octets.specs.Numbers.{DONE, SHORT, LONG}
+use Rattle.octets.specs.Choice.{pick}
+use Rattle.octets.specs.Outcome.{Outcome, given, refused, onOutcome}
+use Rattle.nlri.specs.declared.layout.Layout.{Layout}
+use Rattle.nlri.specs.declared.walk.Step.{Step}
+use Rattle.nlri.specs.declared.walk.Step.the-variants.{Nlri, End, Refused}
+use Rattle.nlri.specs.declared.walk.Walked.{Walked}
+use Rattle.nlri.specs.Family.{familyBits}
+use Rattle.nlri.specs.Reading.{laidAt}
+use Rattle.nlri.specs.Layouts.{layoutOf, noLayout}
+
+-- what a step answers: the number, whether an NLRI was read, its layout, and the next cursor
+pub record Stepped : Type 0 where
+  pub number : ℕ
+  pub read : Bool
+  pub layout : Layout
+  pub cursor : ℕ
+
+unfoldable pub readTo : Layout → ℕ → Stepped
+readTo layout cursor = record { number = DONE; read = true; layout = layout; cursor = cursor }
+
+-- no NLRI; the cursor given is handed back
+unfoldable pub stoppedAt : (number cursor : ℕ) → Stepped
+stoppedAt number cursor = record { number = number; read = false; layout = noLayout; cursor = cursor }
+
+-- FAMILY, LONG, then the cursor, then NLRI reading; a cursor just past the NLRI read
+unfoldable pub stepFrom : ℕ → List ℕ → ℕ → Stepped
+stepFrom afi run at =
+    onOutcome (λ number. stoppedAt number at)
+    (λ family.
+    pick (ltb 4096 (length run)) (stoppedAt LONG at)
+    (pick (eqb at (length run)) (stoppedAt DONE at)
+    (pick (ltb (length run) at) (stoppedAt SHORT at)
+    (onOutcome (λ number. stoppedAt number at) (λ laid. readTo (layoutOf laid) (at + (2 + laid .length))) (laidAt family (drop at run))))))
+    (familyBits afi)
+
+-- the number and values of each case of `Step`
+unfoldable pub steppedOf : Step → Stepped
+steppedOf (Nlri layout cursor) = readTo layout (cursor .at)
+steppedOf (End cursor) = stoppedAt DONE (cursor .at)
+steppedOf (Refused number cursor) = stoppedAt number (cursor .at)
+
+-- at most so many steps on from a cursor, with the count read so far: the first stop decides
+unfoldable pub walkFrom : ℕ → ℕ → List ℕ → (at count : ℕ) → Walked
+walkFrom zero afi run at count = record { number = DONE; count = count; offset = at }
+walkFrom (suc left) afi run at count =
+    pick (stepFrom afi run at .read) (walkFrom left afi run (stepFrom afi run at .cursor) (count + 1))
+    (record { number = stepFrom afi run at .number; count = count; offset = at })
+
+-- the walk: the count read, the offset of the stop and its number. Each step that reads passes octets, so that more steps than octets suffice
+unfoldable pub walkOf : ℕ → List ℕ → Walked
+walkOf afi run = walkFrom (suc (length run)) afi run 0 0
