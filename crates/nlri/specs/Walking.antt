@@ -12,8 +12,7 @@ use Rattle.nlri.specs.declared.walk.Step.{Step}
 use Rattle.nlri.specs.declared.walk.Step.the-variants.{Nlri, End, Refused}
 use Rattle.nlri.specs.declared.walk.Walked.{Walked}
 use Rattle.nlri.specs.Family.{familyBits}
-use Rattle.nlri.specs.Reading.{laidAt}
-use Rattle.nlri.specs.Layouts.{layoutOf, noLayout}
+use Rattle.nlri.specs.Layouts.{layoutAt, noLayout}
 
 -- what a step answers: the number, whether an NLRI was read, its layout, and the next cursor
 pub record Stepped : Type 0 where
@@ -29,16 +28,17 @@ readTo layout cursor = record { number = DONE; read = true; layout = layout; cur
 unfoldable pub stoppedAt : (number cursor : ℕ) → Stepped
 stoppedAt number cursor = record { number = number; read = false; layout = noLayout; cursor = cursor }
 
--- FAMILY, LONG, then the cursor, then NLRI reading; a cursor just past the NLRI read
-unfoldable pub stepFrom : ℕ → List ℕ → ℕ → Stepped
-stepFrom afi run at =
-    onOutcome (λ number. stoppedAt number at)
-    (λ family.
+-- under a family: LONG, then the cursor, then NLRI reading; a cursor just past the NLRI read
+unfoldable pub stepUnder : ℕ → List ℕ → ℕ → Stepped
+stepUnder family run at =
     pick (ltb 4096 (length run)) (stoppedAt LONG at)
     (pick (eqb at (length run)) (stoppedAt DONE at)
     (pick (ltb (length run) at) (stoppedAt SHORT at)
-    (onOutcome (λ number. stoppedAt number at) (λ laid. readTo (layoutOf laid) (at + (2 + laid .length))) (laidAt family (drop at run))))))
-    (familyBits afi)
+    (onOutcome (λ number. stoppedAt number at) (λ layout. readTo layout (at + (2 + layout .length))) (layoutAt family (drop at run)))))
+
+-- FAMILY first
+unfoldable pub stepFrom : ℕ → List ℕ → ℕ → Stepped
+stepFrom afi run at = onOutcome (λ number. stoppedAt number at) (λ family. stepUnder family run at) (familyBits afi)
 
 -- the number and values of each case of `Step`
 unfoldable pub steppedOf : Step → Stepped
