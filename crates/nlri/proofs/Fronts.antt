@@ -66,7 +66,7 @@ module _ (kf : List ℕ → Outcome ℕ) (family : ℕ) (s : List ℕ) where
           ap (λ (n : ℕ). onBody bodies (getD s 0 0) (refused TYPE) (λ body. andThen (andThen (sizesOf (fieldSize kf family (getD s 0 0)) body (part s 2 (getD s 1 0))) (λ sizes. given (record { type = getD s 0 0; length = n; body = body; sizes = sizes }))) (λ laid. given (layoutOf laid))))
           (sym (part-length s 2 (getD s 1 0) (omega (arith, ltb-false))))
 
-  laid-within : (laid : Laid) → laidWith kf family s ≡ given laid → (2 ≤ length s) × (2 + laid .length ≤ length s) × (laid .type ≡ getD s 0 0) × (laid .length ≡ getD s 1 0)
+  pub laid-within : (laid : Laid) → laidWith kf family s ≡ given laid → (2 ≤ length s) × (2 + laid .length ≤ length s) × (laid .type ≡ getD s 0 0) × (laid .length ≡ getD s 1 0)
   unfolding laidWith
   laid-within laid e =
       let p = unless _ _ _ _ e in

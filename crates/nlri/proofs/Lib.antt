@@ -1,5 +1,7 @@
 -- Laws of the definitions, and how the functions' proofs use them.
+pub mod Families
 pub mod Via
 pub mod Sizes
 pub mod Rows
 pub mod Fronts
+pub mod Walks

@@ -12,6 +12,8 @@ use Rattle.nlri.specs.declared.body.Flow.{Flow}
 use Rattle.nlri.specs.declared.body.Flow.the-variants.{Sizes, Bad}
 use Rattle.nlri.specs.declared.read.Header.{Header}
 use Rattle.nlri.specs.declared.read.Header.the-variants.{Typed, Short}
+use Rattle.nlri.specs.declared.group.Group.{Group}
+use Rattle.nlri.specs.Groups.{groupOf}
 use Rattle.nlri.specs.Layouts.{readingOf}
 use Rattle.nlri.specs.Inner.{partOf, flowOf, headerOf}
 
@@ -60,4 +62,14 @@ pub on-refusal : {B : Type 0} (t : B) (r : Reading) (o : Outcome Layout) (n : �
 unfolding readingOf
 on-refusal t r o n bad good p q h = on-refused t o n bad good (sym p ∙ ap readingOf q) h
 
-pub ruleset reads = (tests, size-goes, fault-stops, sizes-go, bad-stops, typed-goes, short-stops, on-nlri, on-refusal)
+pub on-size : {B : Type 0} (t : B) (r : Part) (o : Outcome ℕ) (n : ℕ) (bad : ℕ → B) (good : ℕ → B) → partOf r ≡ o → r ≡ Size n → t ≡ good n → t ≡ onOutcome bad good o
+on-size t r o n bad good p q h = on-given t o n bad good (size-given r o n p q) h
+
+pub on-fault : {B : Type 0} (t : B) (r : Part) (o : Outcome ℕ) (n : ℕ) (bad : ℕ → B) (good : ℕ → B) → partOf r ≡ o → r ≡ Fault n → t ≡ bad n → t ≡ onOutcome bad good o
+unfolding partOf
+on-fault t r o n bad good p q h = on-refused t o n bad good (sym p ∙ ap partOf q) h
+
+pub group-is : (g : Group) (o p : Outcome ℕ) → g ≡ groupOf o → o ≡ p → g ≡ groupOf p
+group-is g o p e q = e ∙ ap groupOf q
+
+pub ruleset reads = (tests, size-goes, fault-stops, sizes-go, bad-stops, typed-goes, short-stops, on-nlri, on-refusal, on-size, on-fault)

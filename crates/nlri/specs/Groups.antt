@@ -26,14 +26,16 @@ sourceSpecific family g =
     pick (eqb family 32) (eqb (getD g 0 0) 232)
     (both (eqb (getD g 0 0) 255) (both (eqb (getD g 1 0 / 16) 3) (both (eqb (getD g 2 0) 0) (eqb (getD g 3 0) 0))))
 
--- FAMILY, FLOW; any multicast group that is not SSM is ASM
-unfoldable pub classOf : ℕ → List ℕ → Outcome ℕ
-classOf afi g =
-    andThen (familyBits afi)
-    (λ family.
+-- under a family: FLOW for a group of another size or one that is not multicast; any multicast group that is not SSM is ASM
+unfoldable pub classUnder : ℕ → List ℕ → Outcome ℕ
+classUnder family g =
     pick (eqb (length g) (family / 8))
-    (pick (multicast family g) (given (pick (sourceSpecific family g) SSM ASM)) (refused FLOW))
-    (refused FLOW))
+    (pick (multicast family g) (pick (sourceSpecific family g) (given SSM) (given ASM)) (refused FLOW))
+    (refused FLOW)
+
+-- FAMILY first
+unfoldable pub classOf : ℕ → List ℕ → Outcome ℕ
+classOf afi g = andThen (familyBits afi) (λ family. classUnder family g)
 
 unfoldable pub groupOf : Outcome ℕ → Group
 groupOf class = record { number = numberOf class; «group_class» = onOutcome (λ number. 0) (λ c. c) class }

@@ -8,9 +8,9 @@ use Rattle.octets.specs.Numbers.{DONE, SHORT, LONG}
 use Rattle.octets.specs.Choice.{pick}
 use Rattle.octets.specs.Outcome.{Outcome, given, refused, onOutcome}
 use Rattle.nlri.specs.declared.layout.Layout.{Layout}
-use Rattle.nlri.specs.declared.walk.Step.{Step}
-use Rattle.nlri.specs.declared.walk.Step.the-variants.{Nlri, End, Refused}
-use Rattle.nlri.specs.declared.walk.Walked.{Walked}
+use Rattle.nlri.specs.declared.run.Step.{Step}
+use Rattle.nlri.specs.declared.run.Step.the-variants.{Nlri, End, Refused}
+use Rattle.nlri.specs.declared.run.Walked.{Walked}
 use Rattle.nlri.specs.Family.{familyBits}
 use Rattle.nlri.specs.Layouts.{layoutAt, noLayout}
 

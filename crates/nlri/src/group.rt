@@ -1,14 +1,102 @@
 // The class of a customer group (RFC 4607).
 ghost use mathlib.Core.Path.{_≡_};
-ghost use Rattle.nlri.specs.Groups.{classOf, groupOf};
+ghost use Prim.Native.Nat.{_≤_};
+ghost use lib.ListN.{length};
+ghost use Rattle.octets.specs.Outcome.{given, refused};
+ghost use Rattle.nlri.specs.Groups.{multicast, sourceSpecific, classUnder, classOf, groupOf};
 use crate::address::AddressKind;
+use crate::family;
+use crate::layout::Part;
 use octets::number::DONE;
-use octets::number::FAMILY;
 use octets::number::FLOW;
 
-// The number, and 1 for ASM, 2 for SSM, 0 on a refusal.
+// The number, and the class, or 0 on a refusal.
 #[repr(C)]
 pub struct Group {
     pub number: u32,
     pub group_class: u32,
+}
+
+impl Group {
+    pub const ASM: u32 = 1;
+
+    pub const SSM: u32 = 2;
+
+    fn given(group_class: u32) -> Group
+        ensures { λ r. ⌜ r ≡ groupOf (given «group_class») ⌝ }
+    {
+        Group {
+            number: DONE,
+            group_class,
+        }
+    }
+
+    fn refused(number: u32) -> Group
+        ensures { λ r. ⌜ r ≡ groupOf (refused number) ⌝ }
+    {
+        Group {
+            number,
+            group_class: 0,
+        }
+    }
+}
+
+// 224.0.0.0/4, FF00::/8
+fn is_multicast(family: usize, group: &[u8]) -> bool
+    requires { ⌜ 4 ≤ length (now group) ⌝ }
+    ensures { λ r. ⌜ r ≡ multicast family (now (group .entry)) ⌝ }
+{
+    if family == AddressKind::IPV4 {
+        if group[0] < 224 {
+            return false;
+        }
+        return group[0] <= 239;
+    }
+    group[0] == 255
+}
+
+// 232.0.0.0/8, FF3x::/32
+fn is_source_specific(family: usize, group: &[u8]) -> bool
+    requires { ⌜ 4 ≤ length (now group) ⌝ }
+    ensures { λ r. ⌜ r ≡ sourceSpecific family (now (group .entry)) ⌝ }
+{
+    if family == AddressKind::IPV4 {
+        return group[0] == 232;
+    }
+    if group[0] != 255 {
+        return false;
+    }
+    if group[1] / 16 != 3 {
+        return false;
+    }
+    if group[2] != 0 {
+        return false;
+    }
+    group[3] == 0
+}
+
+fn class_under(family: usize, group: &[u8]) -> Group
+    requires { ⌜ 32 ≤ family ⌝ }
+    ensures { λ r. ⌜ r ≡ groupOf (classUnder family (now (group .entry))) ⌝ }
+{
+    if group.len() != family / 8 {
+        return Group::refused(FLOW);
+    }
+    if is_multicast(family, group) {
+        if is_source_specific(family, group) {
+            return Group::given(Group::SSM);
+        }
+        return Group::given(Group::ASM);
+    }
+    Group::refused(FLOW)
+}
+
+// The class of a group. FAMILY, FLOW.
+pub fn group_class(afi: u16, group: &[u8]) -> Group
+    ensures { λ r. ⌜ r ≡ groupOf (classOf afi (now (group .entry))) ⌝ }
+{
+    match family::family_bits(afi) {
+        Part::Fault(number) => Group::refused(number),
+        Part::Size(family) => class_under(family, group),
+    }
 }

@@ -1,12 +1,13 @@
 // MCAST-VPN NLRI (RFC 6514, section 4; RFC 6625): read, written and walked.
 mod address;
 mod body;
+mod family;
 mod fields;
 mod group;
 mod layout;
 mod read;
 mod route;
-mod walk;
+mod run;
 
 pub use address::Address;
 pub use address::AddressKind;
@@ -14,9 +15,11 @@ pub use address::RouteDistinguisher;
 pub use fields::Nlri;
 pub use fields::NlriReading;
 pub use group::Group;
+pub use group::group_class;
 pub use layout::Layout;
 pub use layout::Reading;
 pub use route::RouteType;
-pub use walk::Cursor;
-pub use walk::Step;
-pub use walk::Walked;
+pub use run::Cursor;
+pub use run::Step;
+pub use run::Walked;
+pub use run::walk;

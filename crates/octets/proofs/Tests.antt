@@ -40,6 +40,24 @@ pub either-false : (a b : Bool) → a ≡ false → b ≡ false → either a b �
 unfolding either
 either-false a b p q = rw p q
 
+-- a test whose value is a flag that the code branched on
+pub flag-true : (flag b : Bool) → flag ≡ b → flag ≡ true → b ≡ true
+flag-true flag b p q = sym p ∙ q
+
+pub flag-false : (flag b : Bool) → flag ≡ b → flag ≡ false → b ≡ false
+flag-false flag b p q = sym p ∙ q
+
+pub true-is : (b : Bool) → b ≡ true → true ≡ b
+true-is b p = sym p
+
+pub false-is : (b : Bool) → b ≡ false → false ≡ b
+false-is b p = sym p
+
+-- the last of tests joined
+pub both-last : (a b c : Bool) → a ≡ true → c ≡ b → c ≡ both a b
+unfolding both
+both-last a b c p q = rw p q
+
 -- where a definition goes on by what an earlier step came to
 pub goes : {A B : Type 0} (r : Outcome B) (o : Outcome A) (a : A) (next : A → Outcome B) → o ≡ given a → r ≡ next a → r ≡ andThen o next
 unfolding andThen
@@ -58,3 +76,6 @@ unfolding onOutcome
 on-refused r o n bad good p q = rw p q
 
 pub ruleset tests = (needs, picks, skips, both-true, both-left, both-right, either-left, either-right, either-false, lt-ltb, le-ltb, le-leb, lt-leb, eq-eqb, ne-eqb)
+
+-- the same where the code's tests are flags
+pub ruleset flags = (tests, flag-true, flag-false, true-is, false-is, both-last)
