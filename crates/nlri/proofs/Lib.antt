@@ -5,3 +5,4 @@ pub mod Sizes
 pub mod Rows
 pub mod Fronts
 pub mod Walks
+pub mod Shapes

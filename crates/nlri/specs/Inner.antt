@@ -1,12 +1,13 @@
 -- Definitions that mirror the inner functions, one for each; laws tie them to the page's definitions in `Reading`.
 use Prim.Native.Nat.{ℕ, _+_, _-_}
-use mathlib.Core.List.{List}
+use mathlib.Core.Bool.{Bool}
+use mathlib.Core.List.{List, []}
 use lib.ListN.{length, getD, drop}
 use lib.Dec.{ltb, eqb}
 use Rattle.octets.specs.Numbers.{SHORT, TYPE, LENGTH, KEY}
-use Rattle.octets.specs.Choice.{pick}
+use Rattle.octets.specs.Choice.{pick, either}
 use Rattle.octets.specs.Outcome.{Outcome, given, refused, onOutcome, andThen}
-use Rattle.octets.specs.Octets.{part}
+use Rattle.octets.specs.Octets.{part, numberIn}
 use Rattle.nlri.specs.declared.layout.Layout.{Layout}
 use Rattle.nlri.specs.declared.layout.Part.{Part}
 use Rattle.nlri.specs.declared.layout.Part.the-variants.{Size, Fault}
@@ -15,7 +16,9 @@ use Rattle.nlri.specs.declared.body.Flow.the-variants.{Sizes, Bad}
 use Rattle.nlri.specs.declared.read.Header.{Header}
 use Rattle.nlri.specs.declared.read.Header.the-variants.{Typed, Short}
 use Rattle.nlri.specs.Family.{originatorSize}
+use Rattle.nlri.specs.Fields.{Fields}
 use Rattle.nlri.specs.Reading.{addressField, keyField}
+use Rattle.nlri.specs.Layouts.{layoutAt}
 
 -- a size, or the refusal's number
 unfoldable pub partOf : Part → Outcome ℕ
@@ -103,3 +106,28 @@ anyFront family s = andThen (header s) (λ h. anyBody family (h .0) (part s 2 (h
 unfoldable pub keySize : ℕ → List ℕ → Outcome ℕ
 keySize family s =
     onOutcome (λ fault. refused KEY) (λ l. pick (ltb 3 (l .«route_type»)) (refused KEY) (given (2 + l .length))) (unkeyed family s)
+
+-- whether a source AS stands behind the route distinguisher
+unfoldable pub withSourceAs : ℕ → Bool
+withSourceAs type = either (eqb type 2) (either (eqb type 6) (eqb type 7))
+
+-- where the octets of a source begin in an NLRI, behind its length octet
+unfoldable pub sourceStart : ℕ → ℕ
+sourceStart type = pick (withSourceAs type) 15 11
+
+-- the fields of a single NLRI by its layout
+unfoldable pub fieldsAt : Layout → List ℕ → Fields
+fieldsAt l s =
+    record {
+      type = l .«route_type»;
+      distinguisher = pick (eqb (l .«route_type») 4) [] (part s 2 8);
+      sourceAs = pick (withSourceAs (l .«route_type»)) (numberIn (part s 10 4) 0) 0;
+      source = part s (sourceStart (l .«route_type»)) (l .source);
+      group = part s (sourceStart (l .«route_type») + l .source + 1) (l .group);
+      originator = part s (length s - l .originator) (l .originator);
+      key = part s 2 (l .key)
+    }
+
+-- a single NLRI's layout by the layout at its front
+unfoldable pub single : ℕ → List ℕ → Outcome Layout
+single family s = andThen (layoutAt family s) (λ l. pick (eqb (length s - 2) (l .length)) (given l) (refused LENGTH))

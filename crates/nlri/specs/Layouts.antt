@@ -5,6 +5,7 @@ use Rattle.octets.specs.Outcome.{Outcome, given, refused, andThen}
 use Rattle.nlri.specs.declared.layout.Layout.{Layout}
 use Rattle.nlri.specs.declared.layout.Reading.{Reading}
 use Rattle.nlri.specs.declared.layout.Reading.the-variants.{Nlri, Refused}
+use Rattle.nlri.specs.Family.{familyBits}
 use Rattle.nlri.specs.Bodies.{source, group, originator, key, fieldIn}
 use Rattle.nlri.specs.Reading.{Laid, laidAt, laidSingle}
 
@@ -28,6 +29,10 @@ layoutOf laid =
 -- the layout of the NLRI at the front of s
 unfoldable pub layoutAt : ℕ → List ℕ → Outcome Layout
 layoutAt family s = andThen (laidAt family s) (λ laid. given (layoutOf laid))
+
+-- the layout of a single NLRI, with nothing after it
+unfoldable pub layoutSingle : ℕ → List ℕ → Outcome Layout
+layoutSingle afi s = andThen (familyBits afi) (λ family. andThen (laidSingle family s) (λ laid. given (layoutOf laid)))
 
 -- no layout: every number 0
 unfoldable pub noLayout : Layout
