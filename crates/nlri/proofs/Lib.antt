@@ -6,3 +6,5 @@ pub mod Rows
 pub mod Fronts
 pub mod Walks
 pub mod Shapes
+pub mod Copies
+pub mod Singles

@@ -21,7 +21,7 @@ use Rattle.nlri.specs.Bodies.{Kind, distinguisher, sourceAs, source, gro
 use Rattle.nlri.specs.Fields.{Fields}
 use Rattle.nlri.specs.Reading.{Laid, fixedField, addressEnd, addressField, originatorField, fieldSize, sizesOf, laidWith, laidAt, laidSingle, keyField, cut, fieldsOf}
 use Rattle.nlri.specs.Layouts.{layoutOf}
-use Rattle.nlri.specs.Inner.{withSourceAs, sourceStart, fieldsAt}
+use Rattle.nlri.specs.Inner.{withSourceAs, sourceStart, distinguisherAt, sourceAsAt, fieldsAt, Within}
 use Rattle.nlri.proofs.Fronts.{laid-within, key-within}
 use Rattle.nlri.proofs.Sizes.{address-within}
 
@@ -78,8 +78,10 @@ originator-is s n e = go (either-true _ _ (p .0))
   where
     p : (either (eqb (length s) 4) (eqb (length s) 16) ≡ true) × (given (length s) ≡ given n)
     p = only _ _ _ _ e
+
     q : length s ≡ n
     q = given-same (p .1)
+
     go : (eqb (length s) 4 ≡ true) ⊎ (eqb (length s) 16 ≡ true) → (length s ≡ n) × (n ≤ 16)
     go (inl t) = let h : length s ≡ 4 = eqb-true _ _ t in (q, omega (arith, q))
     go (inr t) = let h : length s ≡ 16 = eqb-true _ _ t in (q, omega (arith, q))
@@ -127,16 +129,7 @@ at-part s start start′ size size′ p q = ap₂ (part s) p q
 -- what a single NLRI's layout says of it
 pub record Shaped (laid : Laid) (s : List ℕ) : Type 0 where
   pub fields : fieldsOf laid s ≡ fieldsAt (layoutOf laid) s
-  pub typed : laid .type ≤ 7
-  pub distinguished : (laid .type ≡ 4 → ⊥) → 10 ≤ length s
-  pub numbered : withSourceAs (laid .type) ≡ true → 14 ≤ length s
-  pub source : 0 < layoutOf laid .source → sourceStart (laid .type) + layoutOf laid .source ≤ length s
-  pub group : 0 < layoutOf laid .group → sourceStart (laid .type) + layoutOf laid .source + 1 + layoutOf laid .group ≤ length s
-  pub originator : layoutOf laid .originator ≤ length s
-  pub key : 2 + layoutOf laid .key ≤ length s
-  pub sourceMost : layoutOf laid .source ≤ 16
-  pub groupMost : layoutOf laid .group ≤ 16
-  pub originatorMost : layoutOf laid .originator ≤ 16
+  pub within : Within (layoutOf laid) s
 
 fields-same : (type type′ x x′ : ℕ) (d d′ a a′ g g′ o o′ k k′ : List ℕ) → type ≡ type′ → d ≡ d′ → x ≡ x′ → a ≡ a′ → g ≡ g′ → o ≡ o′ → k ≡ k′
     → _≡_ {A = Fields} (record { type = type; distinguisher = d; sourceAs = x; source = a; group = g; originator = o; key = k }) (record { type = type′; distinguisher = d′; sourceAs = x′; source = a′; group = g′; originator = o′; key = k′ })
@@ -156,66 +149,63 @@ module _ (family n : ℕ) (s : List ℕ) (small : family / 8 ≤ 16) (enough : 2
 
   shaped-intra-as : (o : ℕ) → 8 ≤ length (drop 2 s) → length (drop 8 (drop 2 s)) ≡ o → o ≤ 16
       → Shaped (laidRow 1 n (distinguisher ∷ originator ∷ []) (8 ∷ o ∷ [])) s
-  unfolding laidRow fieldsOf fieldsAt layoutOf cut fieldIn sameKind codeOf pick withSourceAs either sourceStart numberIn part
+  unfolding laidRow fieldsOf fieldsAt distinguisherAt sourceAsAt layoutOf cut fieldIn sameKind codeOf pick withSourceAs either sourceStart numberIn part
   shaped-intra-as o h e m =
       let l₂ = length-drop 8 (drop 2 s) in
       record {
         fields = fields-same _ _ _ _ _ _ _ _ _ _ _ _ _ _ refl refl refl (no-part s 11) (no-part s 12)
             (ap (take o) (drop-drop 8 2 s) ∙ at-part s 10 (length s - o) o o (omega (arith, l₁)) refl) (no-part s 2);
-        typed = omega arith;
-        distinguished = λ _. omega (arith, l₁);
-        numbered = λ q. absurd (opposite {b = true} refl (sym q));
-        source = λ q. omega arith;
-        group = λ q. omega arith;
-        originator = omega (arith, l₁);
-        key = omega arith;
-        sourceMost = omega arith;
-        groupMost = omega arith;
-        originatorMost = m
+        within = record {
+          typed = omega arith;
+          distinguished = λ _. omega (arith, l₁);
+          numbered = λ q. absurd (opposite {b = true} refl (sym q));
+          source = (omega arith, λ q. omega arith);
+          group = (omega arith, λ q. omega arith);
+          originator = (m, omega (arith, l₁));
+          key = omega arith;
+        };
       }
 
   shaped-inter-as : 8 ≤ length (drop 2 s) → 4 ≤ length (drop 8 (drop 2 s)) → Shaped (laidRow 2 n (distinguisher ∷ sourceAs ∷ []) (8 ∷ 4 ∷ [])) s
-  unfolding laidRow fieldsOf fieldsAt layoutOf cut fieldIn sameKind codeOf pick withSourceAs either sourceStart part
+  unfolding laidRow fieldsOf fieldsAt distinguisherAt sourceAsAt layoutOf cut fieldIn sameKind codeOf pick withSourceAs either sourceStart part
   shaped-inter-as h h₂ =
       let l₂ = length-drop 8 (drop 2 s) in
       record {
         fields = fields-same _ _ _ _ _ _ _ _ _ _ _ _ _ _ refl refl (ap (λ (x : List ℕ). numberIn (take 4 x) 0) (drop-drop 8 2 s)) (no-part s 15) (no-part s 16) (no-part s (length s)) (no-part s 2);
-        typed = omega arith;
-        distinguished = λ _. omega (arith, l₁);
-        numbered = λ _. omega (arith, l₁);
-        source = λ q. omega arith;
-        group = λ q. omega arith;
-        originator = omega arith;
-        key = omega arith;
-        sourceMost = omega arith;
-        groupMost = omega arith;
-        originatorMost = omega arith
+        within = record {
+          typed = omega arith;
+          distinguished = λ _. omega (arith, l₁);
+          numbered = λ _. omega (arith, l₁);
+          source = (omega arith, λ q. omega arith);
+          group = (omega arith, λ q. omega arith);
+          originator = (omega arith, omega arith);
+          key = omega arith;
+        };
       }
 
   shaped-leaf : (k o : ℕ) → 2 ≤ k → k ≤ length (drop 2 s) → length (drop k (drop 2 s)) ≡ o → o ≤ 16
       → Shaped (laidRow 4 n (key ∷ originator ∷ []) (k ∷ o ∷ [])) s
-  unfolding laidRow fieldsOf fieldsAt layoutOf cut fieldIn sameKind codeOf pick withSourceAs either sourceStart numberIn part
+  unfolding laidRow fieldsOf fieldsAt distinguisherAt sourceAsAt layoutOf cut fieldIn sameKind codeOf pick withSourceAs either sourceStart numberIn part
   shaped-leaf k o h₁ h e m =
       let l₂ = length-drop k (drop 2 s) in
       record {
         fields = fields-same _ _ _ _ _ _ _ _ _ _ _ _ _ _ refl refl refl (no-part s 11) (no-part s 12)
             (ap (take o) (drop-drop k 2 s) ∙ at-part s (2 + k) (length s - o) o o (omega (arith, l₁)) refl) refl;
-        typed = omega arith;
-        distinguished = λ q. absurd (q refl);
-        numbered = λ q. absurd (opposite {b = true} refl (sym q));
-        source = λ q. omega arith;
-        group = λ q. omega arith;
-        originator = omega (arith, l₁);
-        key = omega (arith, l₁);
-        sourceMost = omega arith;
-        groupMost = omega arith;
-        originatorMost = m
+        within = record {
+          typed = omega arith;
+          distinguished = λ q. absurd (q refl);
+          numbered = λ q. absurd (opposite {b = true} refl (sym q));
+          source = (omega arith, λ q. omega arith);
+          group = (omega arith, λ q. omega arith);
+          originator = (m, omega (arith, l₁));
+          key = omega (arith, l₁);
+        };
       }
 
   module _ (a b : ℕ) (ha : 1 ≤ a) (hb : 1 ≤ b) (ma : a ≤ 17) (mb : b ≤ 17) where
     shaped-s-pmsi : (o : ℕ) → 8 + a + b ≤ length (drop 2 s) → length (drop b (drop a (drop 8 (drop 2 s)))) ≡ o → o ≤ 16
         → Shaped (laidRow 3 n (distinguisher ∷ source ∷ group ∷ originator ∷ []) (8 ∷ a ∷ b ∷ o ∷ [])) s
-    unfolding laidRow fieldsOf fieldsAt layoutOf cut fieldIn sameKind codeOf pick withSourceAs either sourceStart numberIn part
+    unfolding laidRow fieldsOf fieldsAt distinguisherAt sourceAsAt layoutOf cut fieldIn sameKind codeOf pick withSourceAs either sourceStart numberIn part
     shaped-s-pmsi o h e m =
         let l₂ : length (drop b (drop a (drop 8 (drop 2 s)))) ≡ length s - 2 - 8 - a - b = simp length-drop in
         let d : drop a (drop 8 (drop 2 s)) ≡ drop (10 + a) s = ap (drop a) (drop-drop 8 2 s) ∙ drop-drop a 10 s in
@@ -225,20 +215,19 @@ module _ (family n : ℕ) (s : List ℕ) (small : family / 8 ≤ 16) (enough : 2
               (ap (λ (x : List ℕ). drop 1 (take b x)) d ∙ address-part (10 + a) b s hb ∙ at-part s (10 + a + 1) (11 + (a - 1) + 1) (b - 1) (b - 1) (omega arith) refl)
               (ap (λ (x : List ℕ). take o (drop b x)) d ∙ ap (take o) (drop-drop b (10 + a) s) ∙ at-part s (10 + a + b) (length s - o) o o (omega (arith, l₁)) refl)
               (no-part s 2);
-          typed = omega arith;
-          distinguished = λ _. omega (arith, l₁);
-          numbered = λ q. absurd (opposite {b = true} refl (sym q));
-          source = λ _. omega (arith, l₁);
-          group = λ _. omega (arith, l₁);
-          originator = omega (arith, l₁);
-          key = omega arith;
-          sourceMost = omega arith;
-          groupMost = omega arith;
-          originatorMost = m
+          within = record {
+            typed = omega arith;
+            distinguished = λ _. omega (arith, l₁);
+            numbered = λ q. absurd (opposite {b = true} refl (sym q));
+            source = (omega arith, λ _. omega (arith, l₁));
+            group = (omega arith, λ _. omega (arith, l₁));
+            originator = (m, omega (arith, l₁));
+            key = omega arith;
+          };
         }
 
     shaped-source-active : 8 + a + b ≤ length (drop 2 s) → Shaped (laidRow 5 n (distinguisher ∷ source ∷ group ∷ []) (8 ∷ a ∷ b ∷ [])) s
-    unfolding laidRow fieldsOf fieldsAt layoutOf cut fieldIn sameKind codeOf pick withSourceAs either sourceStart numberIn part
+    unfolding laidRow fieldsOf fieldsAt distinguisherAt sourceAsAt layoutOf cut fieldIn sameKind codeOf pick withSourceAs either sourceStart numberIn part
     shaped-source-active h =
         let d : drop a (drop 8 (drop 2 s)) ≡ drop (10 + a) s = ap (drop a) (drop-drop 8 2 s) ∙ drop-drop a 10 s in
         record {
@@ -246,21 +235,20 @@ module _ (family n : ℕ) (s : List ℕ) (small : family / 8 ≤ 16) (enough : 2
               (ap (λ (x : List ℕ). drop 1 (take a x)) (drop-drop 8 2 s) ∙ address-part 10 a s ha)
               (ap (λ (x : List ℕ). drop 1 (take b x)) d ∙ address-part (10 + a) b s hb ∙ at-part s (10 + a + 1) (11 + (a - 1) + 1) (b - 1) (b - 1) (omega arith) refl)
               (no-part s (length s)) (no-part s 2);
-          typed = omega arith;
-          distinguished = λ _. omega (arith, l₁);
-          numbered = λ q. absurd (opposite {b = true} refl (sym q));
-          source = λ _. omega (arith, l₁);
-          group = λ _. omega (arith, l₁);
-          originator = omega arith;
-          key = omega arith;
-          sourceMost = omega arith;
-          groupMost = omega arith;
-          originatorMost = omega arith
+          within = record {
+            typed = omega arith;
+            distinguished = λ _. omega (arith, l₁);
+            numbered = λ q. absurd (opposite {b = true} refl (sym q));
+            source = (omega arith, λ _. omega (arith, l₁));
+            group = (omega arith, λ _. omega (arith, l₁));
+            originator = (omega arith, omega arith);
+            key = omega arith;
+          };
         }
 
     shaped-join : (type : ℕ) → type ≤ 7 → withSourceAs type ≡ true → eqb type 4 ≡ false → 12 + a + b ≤ length (drop 2 s)
         → Shaped (laidRow type n (distinguisher ∷ sourceAs ∷ source ∷ group ∷ []) (8 ∷ 4 ∷ a ∷ b ∷ [])) s
-    unfolding laidRow fieldsOf fieldsAt layoutOf cut fieldIn sameKind codeOf pick numberIn part
+    unfolding laidRow fieldsOf fieldsAt distinguisherAt sourceAsAt layoutOf cut fieldIn sameKind codeOf pick numberIn part
     shaped-join type low joined other h =
         let d₂ : drop 4 (drop 8 (drop 2 s)) ≡ drop 14 s = ap (drop 4) (drop-drop 8 2 s) ∙ drop-drop 4 10 s in
         let d : drop a (drop 4 (drop 8 (drop 2 s))) ≡ drop (14 + a) s = ap (drop a) d₂ ∙ drop-drop a 14 s in
@@ -271,16 +259,15 @@ module _ (family n : ℕ) (s : List ℕ) (small : family / 8 ≤ 16) (enough : 2
               (ap (λ (x : List ℕ). drop 1 (take a x)) d₂ ∙ address-part 14 a s ha ∙ at-part s 15 (sourceStart type) (a - 1) (a - 1) (sym at) refl)
               (ap (λ (x : List ℕ). drop 1 (take b x)) d ∙ address-part (14 + a) b s hb ∙ at-part s (14 + a + 1) (sourceStart type + (a - 1) + 1) (b - 1) (b - 1) (omega (arith, at)) refl)
               (no-part s (length s)) (no-part s 2);
-          typed = low;
-          distinguished = λ _. omega (arith, l₁);
-          numbered = λ _. omega (arith, l₁);
-          source = λ _. omega (arith, l₁, at);
-          group = λ _. omega (arith, l₁, at);
-          originator = omega arith;
-          key = omega arith;
-          sourceMost = omega arith;
-          groupMost = omega arith;
-          originatorMost = omega arith
+          within = record {
+            typed = low;
+            distinguished = λ _. omega (arith, l₁);
+            numbered = λ _. omega (arith, l₁);
+            source = (omega arith, λ _. omega (arith, l₁, at));
+            group = (omega arith, λ _. omega (arith, l₁, at));
+            originator = (omega arith, omega arith);
+            key = omega arith;
+          };
         }
 
   -- each row from the sizes that its fields came to
@@ -343,12 +330,14 @@ module _ (family n : ℕ) (s : List ℕ) (small : family / 8 ≤ 16) (enough : 2
         let mq = address-most family type (drop (p .here) x) (q .here) (q .taken) in
         let l = length-drop (p .here) x in
         record {
-          a = p .here; b = q .here; rest = q .rest;
+          a = p .here;
+          b = q .here;
+          rest = q .rest;
           low = (wp .0, wq .0);
           most = (omega (arith, small), omega (arith, small));
           within = omega arith;
           left = q .left;
-          all = ap (λ (y : List ℕ). p .here ∷ y) (q .all) ∙ p .all
+          all = ap (λ (y : List ℕ). p .here ∷ y) (q .all) ∙ p .all;
         }
 
     row-s-pmsi : (sizes : List ℕ) → sizesOf (fieldSize kf family 3) (distinguisher ∷ source ∷ group ∷ originator ∷ []) (drop 2 s) ≡ given sizes → Shaped (laidRow 3 n (distinguisher ∷ source ∷ group ∷ originator ∷ []) sizes) s
@@ -407,7 +396,7 @@ module _ (family : ℕ) (s : List ℕ) (laid : Laid) (n : length s - 2 ≡ getD 
   by-row type body t r shape =
       let p = passed _ _ _ r in
       let sizes : sizesOf (fieldSize (keyField family) family type) body (drop 2 s) ≡ given (p .value) =
-          ap₂ (λ (k : ℕ) (x : List ℕ). sizesOf (fieldSize (keyField family) family k) body x) (sym t) (sym (whole-part s (getD s 1 0) n)) ∙ p .first in
+      ap₂ (λ (k : ℕ) (x : List ℕ). sizesOf (fieldSize (keyField family) family k) body x) (sym t) (sym (whole-part s (getD s 1 0) n)) ∙ p .first in
       let same : laidRow type (getD s 1 0) body (p .value) ≡ laid = ap (λ (k : ℕ). laidRow k (getD s 1 0) body (p .value)) (sym t) ∙ given-same (p .second) in
       subst (λ (x : Laid). Shaped x s) same (shape (p .value) sizes)
 

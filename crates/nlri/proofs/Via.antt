@@ -55,12 +55,21 @@ pub nlri-given : (r : Reading) (o : Outcome Layout) (l : Layout) → readingOf r
 unfolding readingOf
 nlri-given r o l p q = sym p ∙ ap readingOf q
 
+pub nlri-goes : {B : Type 0} (t : Outcome B) (r : Reading) (o : Outcome Layout) (l : Layout) (next : Layout → Outcome B) → readingOf r ≡ o → r ≡ Nlri l → t ≡ next l → t ≡ andThen o next
+nlri-goes t r o l next p q h = goes t o l next (nlri-given r o l p q) h
+
+pub reading-refused : (r : Reading) (o : Outcome Layout) (n : ℕ) → readingOf r ≡ o → r ≡ Refused n → o ≡ refused n
+unfolding readingOf
+reading-refused r o n p q = sym p ∙ ap readingOf q
+
+pub refusal-stops : {B : Type 0} (r : Reading) (o : Outcome Layout) (n : ℕ) (next : Layout → Outcome B) → readingOf r ≡ o → r ≡ Refused n → refused n ≡ andThen o next
+refusal-stops r o n next p q = stops o n next (reading-refused r o n p q)
+
 pub on-nlri : {B : Type 0} (t : B) (r : Reading) (o : Outcome Layout) (l : Layout) (bad : ℕ → B) (good : Layout → B) → readingOf r ≡ o → r ≡ Nlri l → t ≡ good l → t ≡ onOutcome bad good o
 on-nlri t r o l bad good p q h = on-given t o l bad good (nlri-given r o l p q) h
 
 pub on-refusal : {B : Type 0} (t : B) (r : Reading) (o : Outcome Layout) (n : ℕ) (bad : ℕ → B) (good : Layout → B) → readingOf r ≡ o → r ≡ Refused n → t ≡ bad n → t ≡ onOutcome bad good o
-unfolding readingOf
-on-refusal t r o n bad good p q h = on-refused t o n bad good (sym p ∙ ap readingOf q) h
+on-refusal t r o n bad good p q h = on-refused t o n bad good (reading-refused r o n p q) h
 
 pub on-size : {B : Type 0} (t : B) (r : Part) (o : Outcome ℕ) (n : ℕ) (bad : ℕ → B) (good : ℕ → B) → partOf r ≡ o → r ≡ Size n → t ≡ good n → t ≡ onOutcome bad good o
 on-size t r o n bad good p q h = on-given t o n bad good (size-given r o n p q) h
@@ -72,4 +81,4 @@ on-fault t r o n bad good p q h = on-refused t o n bad good (sym p ∙ ap partOf
 pub group-is : (g : Group) (o p : Outcome ℕ) → g ≡ groupOf o → o ≡ p → g ≡ groupOf p
 group-is g o p e q = e ∙ ap groupOf q
 
-pub ruleset reads = (tests, size-goes, fault-stops, sizes-go, bad-stops, typed-goes, short-stops, on-nlri, on-refusal, on-size, on-fault)
+pub ruleset reads = (tests, size-goes, fault-stops, sizes-go, bad-stops, typed-goes, short-stops, on-nlri, on-refusal, nlri-goes, refusal-stops, on-size, on-fault)

@@ -9,6 +9,7 @@ use Rattle.octets.specs.Outcome.{Outcome, onOutcome}
 use Rattle.octets.specs.Octets.{sized}
 use Rattle.octets.specs.declared.Span.{Span}
 use Rattle.nlri.specs.declared.address.Address.{Address}
+use Rattle.nlri.specs.declared.address.RouteDistinguisher.{RouteDistinguisher}
 use Rattle.nlri.specs.declared.fields.Nlri.{Nlri}
 use Rattle.nlri.specs.declared.fields.NlriReading.{NlriReading}
 use Rattle.nlri.specs.Fields.{Fields}
@@ -17,6 +18,9 @@ use Rattle.nlri.specs.Fields.{Fields}
 unfoldable pub addressOf : List ℕ → Address
 addressOf octets = record { octets = sized 16 octets; size = length octets }
 
+unfoldable pub distinguisherOf : List ℕ → RouteDistinguisher
+distinguisherOf octets = record { octets = sized 8 octets }
+
 -- the octets of an address struct, as many as its size says
 unfoldable pub octetsOf : Address → List ℕ
 octetsOf address = sized (address .size) (address .octets)
@@ -24,7 +28,7 @@ octetsOf address = sized (address .size) (address .octets)
 unfoldable pub nlriOf : Fields → Nlri
 nlriOf f =
     record {
-      distinguisher = record { octets = sized 8 (f .distinguisher) };
+      distinguisher = distinguisherOf (f .distinguisher);
       source = addressOf (f .source);
       group = addressOf (f .group);
       originator = addressOf (f .originator);

@@ -1,6 +1,7 @@
 -- Definitions that mirror the inner functions, one for each; laws tie them to the page's definitions in `Reading`.
-use Prim.Native.Nat.{ℕ, _+_, _-_}
-use mathlib.Core.Bool.{Bool}
+use Prim.Native.Nat.{ℕ, _+_, _-_, _≤_, _<_}
+use mathlib.Core.Path.{_≡_}
+use mathlib.Core.Bool.{Bool, true}
 use mathlib.Core.List.{List, []}
 use lib.ListN.{length, getD, drop}
 use lib.Dec.{ltb, eqb}
@@ -8,6 +9,7 @@ use Rattle.octets.specs.Numbers.{SHORT, TYPE, LENGTH, KEY}
 use Rattle.octets.specs.Choice.{pick, either}
 use Rattle.octets.specs.Outcome.{Outcome, given, refused, onOutcome, andThen}
 use Rattle.octets.specs.Octets.{part, numberIn}
+use Rattle.octets.specs.declared.Span.{Span}
 use Rattle.nlri.specs.declared.layout.Layout.{Layout}
 use Rattle.nlri.specs.declared.layout.Part.{Part}
 use Rattle.nlri.specs.declared.layout.Part.the-variants.{Size, Fault}
@@ -115,19 +117,42 @@ withSourceAs type = either (eqb type 2) (either (eqb type 6) (eqb type 7))
 unfoldable pub sourceStart : ℕ → ℕ
 sourceStart type = pick (withSourceAs type) 15 11
 
+unfoldable pub distinguisherAt : ℕ → List ℕ → List ℕ
+distinguisherAt type s = pick (eqb type 4) [] (part s 2 8)
+
+unfoldable pub sourceAsAt : ℕ → List ℕ → ℕ
+sourceAsAt type s = pick (withSourceAs type) (numberIn (part s 10 4) 0) 0
+
 -- the fields of a single NLRI by its layout
 unfoldable pub fieldsAt : Layout → List ℕ → Fields
 fieldsAt l s =
     record {
       type = l .«route_type»;
-      distinguisher = pick (eqb (l .«route_type») 4) [] (part s 2 8);
-      sourceAs = pick (withSourceAs (l .«route_type»)) (numberIn (part s 10 4) 0) 0;
+      distinguisher = distinguisherAt (l .«route_type») s;
+      sourceAs = sourceAsAt (l .«route_type») s;
       source = part s (sourceStart (l .«route_type»)) (l .source);
       group = part s (sourceStart (l .«route_type») + l .source + 1) (l .group);
       originator = part s (length s - l .originator) (l .originator);
-      key = part s 2 (l .key)
+      key = part s 2 (l .key);
     }
+
+unfoldable pub keyAt : Layout → Span
+keyAt l = record { start = pick (eqb (l .«route_type») 4) 2 0; size = l .key }
+
+-- a layout's fields lie within the NLRI, and have the sizes of addresses
+pub record Within (l : Layout) (s : List ℕ) : Type 0 where
+  pub typed : l .«route_type» ≤ 7
+  pub distinguished : (l .«route_type» ≡ 4 → ⊥) → 10 ≤ length s
+  pub numbered : withSourceAs (l .«route_type») ≡ true → 14 ≤ length s
+  pub source : (l .source ≤ 16) × (0 < l .source → sourceStart (l .«route_type») + l .source ≤ length s)
+  pub group : (l .group ≤ 16) × (0 < l .group → sourceStart (l .«route_type») + l .source + 1 + l .group ≤ length s)
+  pub originator : (l .originator ≤ 16) × (l .originator ≤ length s)
+  pub key : 2 + l .key ≤ length s
+
+-- nothing stands behind the NLRI
+unfoldable pub endsWith : Layout → List ℕ → Outcome Layout
+endsWith l s = pick (eqb (length s - 2) (l .length)) (given l) (refused LENGTH)
 
 -- a single NLRI's layout by the layout at its front
 unfoldable pub single : ℕ → List ℕ → Outcome Layout
-single family s = andThen (layoutAt family s) (λ l. pick (eqb (length s - 2) (l .length)) (given l) (refused LENGTH))
+single family s = andThen (layoutAt family s) (λ l. endsWith l s)

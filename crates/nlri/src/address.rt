@@ -1,4 +1,9 @@
 // Route distinguishers and addresses, and the lengths that addresses have on the wire.
+ghost use mathlib.Core.Path.{_≡_};
+ghost use mathlib.Core.List.{[]};
+ghost use Prim.Native.Nat.{_≤_};
+ghost use lib.ListN.{length, take};
+ghost use Rattle.nlri.specs.Answers.{addressOf};
 
 // A route distinguisher: eight octets, kept as they came.
 #[repr(C)]
@@ -34,4 +39,51 @@ impl AddressKind {
     pub const IPV4_OCTETS: usize = 4;
 
     pub const IPV6_OCTETS: usize = 16;
+
+    // The wildcard.
+    pub fn wildcard() -> Address
+        ensures { λ r. ⌜ r ≡ addressOf [] ⌝ }
+    {
+        Address {
+            octets: [0; 16],
+            size: 0,
+        }
+    }
+
+    // An IPv4 address: the first four octets.
+    pub fn ipv4(octets: &[u8]) -> Address
+        ensures { λ r. ⌜ r ≡ addressOf (take 4 (now (octets .entry))) ⌝ }
+    {
+        first(octets, AddressKind::IPV4_OCTETS)
+    }
+
+    // An IPv6 address: the first sixteen octets.
+    pub fn ipv6(octets: &[u8]) -> Address
+        ensures { λ r. ⌜ r ≡ addressOf (take 16 (now (octets .entry))) ⌝ }
+    {
+        first(octets, AddressKind::IPV6_OCTETS)
+    }
+}
+
+// An address of the first octets, at most so many.
+fn first(octets: &[u8], most: usize) -> Address
+    requires { ⌜ most ≤ 16 ⌝ }
+    ensures { λ r. ⌜ r ≡ addressOf (take most (now (octets .entry))) ⌝ }
+{
+    if octets.len() <= most {
+        return whole(octets);
+    }
+    whole(octets::parts::between(octets, 0, most))
+}
+
+fn whole(octets: &[u8]) -> Address
+    requires { ⌜ length (now octets) ≤ 16 ⌝ }
+    ensures { λ r. ⌜ r ≡ addressOf (now (octets .entry)) ⌝ }
+{
+    let mut held = [0u8; 16];
+    let size = bytes::copy(octets, &mut held);
+    Address {
+        octets: held,
+        size: size as u8,
+    }
 }

@@ -1,7 +1,23 @@
-// The fields of an NLRI, copied out of it.
+// The fields of an NLRI, copied out of it by its layout.
+ghost use mathlib.Core.Path.{_≡_};
+ghost use mathlib.Core.Bool.{true};
+ghost use Prim.Native.Nat.{_+_, _≤_, _<_};
+ghost use lib.ListN.{length};
+ghost use Rattle.octets.specs.Octets.{part};
+ghost use Rattle.octets.specs.Outcome.{refused};
+ghost use Rattle.nlri.specs.Reading.{readNlri};
+ghost use Rattle.nlri.specs.Answers.{addressOf, distinguisherOf, nlriOf, readAnswer};
+ghost use Rattle.nlri.specs.Inner.{withSourceAs, sourceStart, distinguisherAt, sourceAsAt, fieldsAt, keyAt, Within};
 use crate::address::Address;
+use crate::address::AddressKind;
 use crate::address::RouteDistinguisher;
+use crate::layout::Layout;
+use crate::layout::Reading;
+use crate::read;
+use crate::read::HEADER;
+use crate::route::RouteType;
 use octets::Span;
+use octets::number::DONE;
 
 // A field that the route type lacks is zeros in an answer, and is not looked at in an argument.
 #[repr(C)]
@@ -20,4 +36,134 @@ pub struct NlriReading {
     pub number: u32,
     pub nlri: Nlri,
     pub key: Span,
+}
+
+fn address_at(s: &[u8], start: usize, size: usize) -> Address
+    requires { ⌜ (size ≤ 16) × ((0 < size → start + size ≤ length (now s))) ⌝ }
+    ensures { λ r. ⌜ r ≡ addressOf (part (now (s .entry)) start size) ⌝ }
+{
+    if size == 0 {
+        return AddressKind::wildcard();
+    }
+    if size == AddressKind::IPV4_OCTETS {
+        return AddressKind::ipv4(octets::parts::between(s, start, size));
+    }
+    AddressKind::ipv6(octets::parts::between(s, start, size))
+}
+
+fn distinguisher_in(route_type: usize, s: &[u8]) -> RouteDistinguisher
+    requires { ⌜ ((«route_type» ≡ 4 → ⊥) → 10 ≤ length (now s)) ⌝ }
+    ensures { λ r. ⌜ r ≡ distinguisherOf (distinguisherAt «route_type» (now (s .entry))) ⌝ }
+{
+    let mut octets = [0u8; 8];
+    if route_type == RouteType::LEAF {
+        return RouteDistinguisher { octets };
+    }
+    bytes::copy(
+        octets::parts::between(s, HEADER, RouteDistinguisher::OCTETS),
+        &mut octets,
+    );
+    RouteDistinguisher { octets }
+}
+
+// Where the octets of a source begin, behind its length octet.
+fn source_start(route_type: usize) -> usize
+    ensures { λ r. ⌜ r ≡ sourceStart «route_type» ⌝ }
+{
+    if has_source_as(route_type) {
+        return HEADER + RouteDistinguisher::WITH_SOURCE_AS + 1;
+    }
+    HEADER + RouteDistinguisher::OCTETS + 1
+}
+
+fn has_source_as(route_type: usize) -> bool
+    ensures { λ r. ⌜ r ≡ withSourceAs «route_type» ⌝ }
+{
+    if route_type == RouteType::INTER_AS_I_PMSI {
+        return true;
+    }
+    if route_type == RouteType::SHARED_TREE_JOIN {
+        return true;
+    }
+    route_type == RouteType::SOURCE_TREE_JOIN
+}
+
+fn source_as_in(route_type: usize, s: &[u8]) -> u32
+    requires { ⌜ (withSourceAs «route_type» ≡ true → 14 ≤ length (now s)) ⌝ }
+    ensures { λ r. ⌜ r ≡ sourceAsAt «route_type» (now (s .entry)) ⌝ }
+{
+    if has_source_as(route_type) {
+        return octets::wide::four(s, HEADER + RouteDistinguisher::OCTETS);
+    }
+    0
+}
+
+fn nlri_in(layout: Layout, s: &[u8]) -> Nlri
+    requires { ⌜ Within layout (now s) ⌝ }
+    ensures { λ r. ⌜ r ≡ nlriOf (fieldsAt layout (now (s .entry))) ⌝ }
+{
+    let route_type = layout.route_type;
+    let start = source_start(route_type);
+    let source = address_at(s, start, layout.source);
+    let group = address_at(s, start + layout.source + 1, layout.group);
+    let originator = address_at(s, s.len() - layout.originator, layout.originator);
+    let distinguisher = distinguisher_in(route_type, s);
+    Nlri {
+        distinguisher,
+        source,
+        group,
+        originator,
+        source_as: source_as_in(route_type, s),
+        route_type: route_type as u8,
+    }
+}
+
+fn refusal(number: u32) -> NlriReading
+    ensures { λ r. ⌜ r ≡ readAnswer (refused number) ⌝ }
+{
+    NlriReading {
+        number,
+        nlri: Nlri {
+            distinguisher: RouteDistinguisher { octets: [0; 8] },
+            source: AddressKind::wildcard(),
+            group: AddressKind::wildcard(),
+            originator: AddressKind::wildcard(),
+            source_as: 0,
+            route_type: 0,
+        },
+        key: Span { start: 0, size: 0 },
+    }
+}
+
+// A key stands straight after the header.
+fn key_in(layout: Layout) -> Span
+    ensures { λ r. ⌜ r ≡ keyAt layout ⌝ }
+{
+    if layout.route_type == RouteType::LEAF {
+        return Span {
+            start: HEADER,
+            size: layout.key,
+        };
+    }
+    Span {
+        start: 0,
+        size: layout.key,
+    }
+}
+
+// Reads a single NLRI: FAMILY, SHORT, TYPE, then the body left to right, then LENGTH for octets after it.
+pub fn read_nlri(afi: u16, s: &[u8]) -> NlriReading
+    ensures { λ r. ⌜ r ≡ readAnswer (readNlri afi (now (s .entry))) ⌝ }
+{
+    match read::read_layout(afi, s) {
+        Reading::Refused(number) => refusal(number),
+        Reading::Nlri(layout) => {
+            let nlri = nlri_in(layout, s);
+            NlriReading {
+                number: DONE,
+                nlri,
+                key: key_in(layout),
+            }
+        }
+    }
 }

@@ -1,15 +1,18 @@
 // Reading an NLRI by its layout: header, body, and the key of a Leaf.
 ghost use mathlib.Core.Path.{_≡_};
+ghost use Prim.Native.Nat.{_≤_};
 ghost use lib.ListN.{length};
 ghost use Rattle.nlri.specs.Reading.{keyField};
-ghost use Rattle.nlri.specs.Layouts.{readingOf, layoutAt};
-ghost use Rattle.nlri.specs.Inner.{partOf, headerOf, header, unkeyed, leaf, anyBody, anyFront};
+ghost use Rattle.nlri.specs.Layouts.{readingOf, layoutAt, layoutSingle};
+ghost use Rattle.nlri.specs.Inner.{partOf, headerOf, header, unkeyed, leaf, anyBody, anyFront, endsWith, single};
 use crate::body;
+use crate::family;
 use crate::layout::Layout;
 use crate::layout::Part;
 use crate::layout::Reading;
 use crate::route::RouteType;
 use octets::number::KEY;
+use octets::number::LENGTH;
 use octets::number::SHORT;
 
 // Route Type and Length.
@@ -104,5 +107,35 @@ pub(crate) fn read_front(family: usize, s: &[u8]) -> Reading
                 octets::parts::between(s, HEADER, length),
             )
         }
+    }
+}
+
+// A single NLRI: octets after it are LENGTH.
+fn read_single(family: usize, s: &[u8]) -> Reading
+    ensures { λ r. ⌜ readingOf r ≡ single family (now (s .entry)) ⌝ }
+{
+    match read_front(family, s) {
+        Reading::Refused(number) => Reading::Refused(number),
+        Reading::Nlri(layout) => ends_at(layout, s),
+    }
+}
+
+fn ends_at(layout: Layout, s: &[u8]) -> Reading
+    requires { ⌜ 2 ≤ length (now s) ⌝ }
+    ensures { λ r. ⌜ readingOf r ≡ endsWith layout (now (s .entry)) ⌝ }
+{
+    if s.len() - HEADER == layout.length {
+        return Reading::Nlri(layout);
+    }
+    Reading::Refused(LENGTH)
+}
+
+// The layout of a single NLRI.
+pub fn read_layout(afi: u16, s: &[u8]) -> Reading
+    ensures { λ r. ⌜ readingOf r ≡ layoutSingle afi (now (s .entry)) ⌝ }
+{
+    match family::family_bits(afi) {
+        Part::Fault(number) => Reading::Refused(number),
+        Part::Size(family) => read_single(family, s),
     }
 }

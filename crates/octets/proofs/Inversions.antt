@@ -59,3 +59,14 @@ pub on-given-given : {A B : Type 0} (n : ℕ) (next : A → Outcome B) (o : Outc
 unfolding onOutcome
 on-given-given n next (given a) b e = record { value = a; first = refl; second = e }
 on-given-given n next (refused m) b e = absurd (never e refl)
+
+-- two steps and then a value: what refuses does not depend on the value
+pub refused-alike : {A B C D : Type 0} (o : Outcome A) (next : A → Outcome B) (f : A → B → C) (g : A → B → D) (n : ℕ)
+    → andThen o (λ a. andThen (next a) (λ b. given (f a b))) ≡ refused n → andThen o (λ a. andThen (next a) (λ b. given (g a b))) ≡ refused n
+unfolding andThen
+refused-alike (refused m) next f g n e = cc
+refused-alike {B = B} (given a) next f g n e = go (next a) e
+  where
+    go : (x : Outcome B) → andThen x (λ b. given (f a b)) ≡ refused n → andThen x (λ b. given (g a b)) ≡ refused n
+    go (given b) q = absurd (never {o = given (f a b)} refl q)
+    go (refused m) q = cc

@@ -4,8 +4,8 @@ use mathlib.Core.Path.{_≡_, refl, sym, ap, ap₂, _∙_}
 use mathlib.Core.List.{List, [], _∷_, _++_, append-assoc, append-nil}
 use native.Mathlib.Nat.{zero-add}
 use native.Mathlib.Omega.{arith}
-use lib.ListN.{length, take, drop, replicate, length-append, length-take, length-drop, length-replicate, take-append-drop, drop-of-length-le}
-use lib.Seq.{take-all, take-at, drop-at, drop-drop, length-take-le, take-append-le, take-length}
+use lib.ListN.{length, take, drop, replicate, length-append, length-take, length-drop, length-replicate, replicate-append-replicate, take-append-drop, drop-of-length-le}
+use lib.Seq.{take-all, take-at, drop-at, drop-drop, length-take-le, take-append-le, take-length, take-append-add}
 use Rattle.octets.specs.Octets.{part, placed, front, sized}
 
 pub placed-length : (at : ℕ) (e d : List ℕ) → at + length e ≤ length d → length (placed at e d) ≡ length d
@@ -40,3 +40,25 @@ placed-placed at e f d h =
     ap₂ (λ (a b : List ℕ). a ++ (f ++ b)) low (high ∙ ap (λ (n : ℕ). drop n d) sum)
     ∙ append-assoc p e (f ++ drop (at + length (e ++ f)) d)
     ∙ ap (λ (l : List ℕ). p ++ l) (sym (append-assoc e f (drop (at + length (e ++ f)) d)))
+
+zeros : ℕ → List ℕ
+zeros n = replicate n 0
+
+-- zeros with xs copied over their front
+pub copied-sized : (n : ℕ) (xs : List ℕ) → length xs ≤ n → take (length xs) xs ++ drop (length xs) (replicate n 0) ≡ sized n xs
+unfolding sized zeros
+copied-sized n xs h =
+    let k : ℕ = n - length xs in
+    let low : zeros n ≡ zeros (length xs) ++ zeros k = ap (λ (m : ℕ). zeros m) (split (length xs) n h) ∙ sym (replicate-append-replicate (length xs) k 0) in
+    let high : zeros n ≡ zeros k ++ zeros (length xs) = ap (λ (m : ℕ). zeros m) (split′ (length xs) n h) ∙ sym (replicate-append-replicate k (length xs) 0) in
+    let dropped : drop (length xs) (zeros n) ≡ zeros k = ap (drop (length xs)) low ∙ drop-at (zeros (length xs)) (zeros k) (length xs) (length-replicate (length xs) 0) in
+    let taken : take k (zeros n) ≡ zeros k = ap (take k) high ∙ take-at (zeros k) (zeros (length xs)) k (length-replicate k 0) in
+    ap₂ (λ (a b : List ℕ). a ++ b) (take-length xs) (dropped ∙ sym taken)
+    ∙ sym (take-append-add xs (zeros n) k)
+    ∙ ap (λ (m : ℕ). take m (xs ++ zeros n)) (sym (split (length xs) n h))
+  where
+    split : (a b : ℕ) → a ≤ b → b ≡ a + (b - a)
+    split a b q = omega arith
+
+    split′ : (a b : ℕ) → a ≤ b → b ≡ (b - a) + a
+    split′ a b q = omega arith

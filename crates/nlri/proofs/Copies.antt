@@ -1,0 +1,42 @@
+-- What is copied out of an NLRI into structs.
+use mathlib.Core.Path.{_≡_, refl, sym, _∙_, ap}
+use mathlib.Core.List.{List, [], _∷_, _++_}
+use Prim.Native.Nat.{ℕ, _+_, _≤_, _<_}
+use native.Mathlib.Omega.{arith}
+use lib.ListN.{length, take, drop, replicate, length-drop}
+use lib.Seq.{take-all, length-take-le}
+use Rattle.octets.specs.Octets.{part, sized}
+use Rattle.octets.proofs.Lists.{copied-sized}
+use Rattle.nlri.specs.declared.address.Address.{Address}
+use Rattle.nlri.specs.declared.address.RouteDistinguisher.{RouteDistinguisher}
+use Rattle.nlri.specs.Answers.{addressOf, distinguisherOf}
+
+pub address-held : (held xs : List ℕ) (n : ℕ) → held ≡ take (length xs) xs ++ drop (length xs) (replicate 16 0) → n ≡ length xs → length xs ≤ 16 → record { octets = held; size = n } ≡ addressOf xs
+unfolding addressOf
+address-held held xs n e q h = λ i. record { octets = (e ∙ copied-sized 16 xs h) i; size = q i }
+
+pub distinguisher-held : (held xs : List ℕ) → held ≡ take (length xs) xs ++ drop (length xs) (replicate 8 0) → length xs ≤ 8 → record { octets = held } ≡ distinguisherOf xs
+unfolding distinguisherOf
+distinguisher-held held xs e h = λ i. record { octets = (e ∙ copied-sized 8 xs h) i }
+
+pub no-address : record { octets = replicate 16 0; size = 0 } ≡ addressOf []
+unfolding addressOf sized
+no-address = refl
+
+pub no-distinguisher : record { octets = replicate 8 0 } ≡ distinguisherOf []
+unfolding distinguisherOf sized
+no-distinguisher = refl
+
+pub part-length : (s : List ℕ) (start size : ℕ) → start + size ≤ length s → length (part s start size) ≡ size
+unfolding part
+part-length s start size h = length-take-le size (drop start s) (rw length-drop (omega arith))
+
+pub take-part : (s : List ℕ) (start size most : ℕ) → start + size ≤ length s → size ≤ most → take most (part s start size) ≡ part s start size
+take-part s start size most h m = let l = part-length s start size h in take-all most (part s start size) (omega arith)
+
+pub empty-part : (s : List ℕ) (start size : ℕ) → size ≡ 0 → [] ≡ part s start size
+unfolding part
+empty-part s start size e = rw e
+
+pub positive : (n : ℕ) → (n ≡ 0 → ⊥) → 0 < n
+positive n h = omega arith

@@ -1,0 +1,89 @@
+-- A single NLRI: its layout, and its fields by its layout.
+use mathlib.Core.Path.{_≡_, refl, sym, _∙_, ap, ap₂, subst}
+use mathlib.Core.Bool.{Bool, true, false}
+use mathlib.Core.Logic.{_⊎_, inl, inr}
+use mathlib.Core.List.{List, []}
+use Prim.Native.Nat.{ℕ, _+_, _-_, _/_, _≤_}
+use native.Mathlib.Omega.{arith}
+use lib.ListN.{length}
+use lib.Dec.{eqb}
+use Rattle.octets.specs.Numbers.{LENGTH}
+use Rattle.octets.specs.Choice.{pick}
+use Rattle.octets.specs.Outcome.{Outcome, given, refused, andThen, onOutcome}
+use Rattle.octets.specs.Octets.{part}
+use Rattle.octets.specs.declared.Span.{Span}
+use Rattle.octets.proofs.Tests.{goes}
+use Rattle.octets.proofs.Outcomes.{and-assoc, and-cong, and-pick, and-given, and-refused}
+use Rattle.octets.proofs.Inversions.{passed, given-same, refused-alike}
+use Rattle.nlri.specs.declared.layout.Layout.{Layout}
+use Rattle.nlri.specs.declared.address.Address.{Address}
+use Rattle.nlri.specs.declared.address.RouteDistinguisher.{RouteDistinguisher}
+use Rattle.nlri.specs.declared.fields.Nlri.{Nlri}
+use Rattle.nlri.specs.declared.fields.NlriReading.{NlriReading}
+use Rattle.nlri.specs.Family.{familyBits}
+use Rattle.nlri.specs.Fields.{Fields}
+use Rattle.nlri.specs.Reading.{Laid, laidAt, laidSingle, fieldsOf, readNlri}
+use Rattle.nlri.specs.Layouts.{layoutOf, layoutAt, layoutSingle}
+use Rattle.nlri.specs.Answers.{nlriOf, keySpan, readAnswer}
+use Rattle.nlri.specs.Inner.{withSourceAs, sourceStart, fieldsAt, keyAt, Within, endsWith, single}
+use Rattle.nlri.proofs.Families.{family-is}
+use Rattle.nlri.proofs.Copies.{part-length}
+use Rattle.nlri.proofs.Shapes.{Shaped, shaped}
+
+single-laid : (family : ℕ) (s : List ℕ) → single family s ≡ andThen (laidSingle family s) (λ laid. given (layoutOf laid))
+unfolding single endsWith layoutAt laidSingle layoutOf
+single-laid family s =
+    and-assoc _ _ _ ∙ and-cong _ _ _ (λ laid e. and-given _ _ ∙ sym (and-pick _ _ _ _ ∙ ap₂ (pick _) (and-given _ _) (and-refused _ _))) ∙ sym (and-assoc _ _ _)
+
+pub single-is : (o : Outcome Layout) (afi : ℕ) (s : List ℕ) → o ≡ andThen (familyBits afi) (λ family. single family s) → o ≡ layoutSingle afi s
+unfolding layoutSingle
+single-is o afi s e = e ∙ and-cong _ _ _ (λ family q. single-laid family s)
+
+small : (afi family : ℕ) → familyBits afi ≡ given family → family / 8 ≤ 16
+small afi family e = go (family-is afi family e)
+  where
+    go : (family ≡ 32) ⊎ (family ≡ 128) → family / 8 ≤ 16
+    go (inl p) = omega arith
+    go (inr p) = omega arith
+
+module _ (afi : ℕ) (s : List ℕ) where
+  -- the fields are those that the layout says, and they lie within the NLRI
+  pub read-by-layout : (l : Layout) → layoutSingle afi s ≡ given l → (readNlri afi s ≡ given (fieldsAt l s)) × Within l s
+  unfolding layoutSingle readNlri
+  read-by-layout l e =
+      let f = passed _ _ _ e in
+      let w = passed _ _ _ (f .second) in
+      let same : layoutOf (w .value) ≡ l = given-same (w .second) in
+      let shape = shaped (f .value) s (w .value) (small afi (f .value) (f .first)) (w .first) in (
+        sym (goes (given (fieldsAt l s)) _ (f .value) _ (f .first) (goes (given (fieldsAt l s)) _ (w .value) _ (w .first) (ap given (ap (λ (x : Layout). fieldsAt x s) (sym same) ∙ sym (shape .fields))))),
+        subst (λ (x : Layout). Within x s) same (shape .within),
+      )
+
+  pub read-refused : (n : ℕ) → layoutSingle afi s ≡ refused n → readNlri afi s ≡ refused n
+  unfolding layoutSingle readNlri
+  read-refused n e = refused-alike (familyBits afi) (λ family. laidSingle family s) (λ family laid. layoutOf laid) (λ family laid. fieldsOf laid s) n e
+
+most : (b : Bool) → pick b 15 11 ≤ 15
+unfolding pick
+most true = omega arith
+most false = omega arith
+
+pub start-most : (type : ℕ) → sourceStart type ≤ 15
+unfolding sourceStart
+start-most type = most (withSourceAs type)
+
+-- a struct by its fields
+pub nlri-same : (d d′ : RouteDistinguisher) (a a′ g g′ o o′ : Address) (x x′ t t′ : ℕ) → d ≡ d′ → a ≡ a′ → g ≡ g′ → o ≡ o′ → x ≡ x′ → t ≡ t′
+    → _≡_ {A = Nlri} (record { distinguisher = d; source = a; group = g; originator = o; «source_as» = x; «route_type» = t }) (record { distinguisher = d′; source = a′; group = g′; originator = o′; «source_as» = x′; «route_type» = t′ })
+nlri-same d d′ a a′ g g′ o o′ x x′ t t′ pd pa pg po px pt = λ i. record { distinguisher = pd i; source = pa i; group = pg i; originator = po i; «source_as» = px i; «route_type» = pt i }
+
+pub key-same : (l : Layout) (s : List ℕ) → 2 + l .key ≤ length s → keyAt l ≡ keySpan (fieldsAt l s)
+unfolding keyAt keySpan fieldsAt
+key-same l s h = λ i. record { start = pick (eqb (l .«route_type») 4) 2 0; size = sym (part-length s 2 (l .key) h) i }
+
+pub answer-given : (afi : ℕ) (s : List ℕ) (f : Fields) (nlri : Nlri) (key : Span) → readNlri afi s ≡ given f → nlri ≡ nlriOf f → key ≡ keySpan f → record { number = 0; nlri = nlri; key = key } ≡ readAnswer (readNlri afi s)
+unfolding readAnswer onOutcome
+answer-given afi s f nlri key e p q = (λ i. record { number = 0; nlri = p i; key = q i }) ∙ ap readAnswer (sym e)
+
+pub answer-refused : (r : NlriReading) (afi : ℕ) (s : List ℕ) (n : ℕ) → r ≡ readAnswer (refused n) → readNlri afi s ≡ refused n → r ≡ readAnswer (readNlri afi s)
+answer-refused r afi s n p e = p ∙ ap readAnswer (sym e)

@@ -1,0 +1,11 @@
+use Rattle.nlri.proofs.Copies.{no-address}
+use Rattle.nlri.proofs.address.AddressKind.wildcard.Statement.{statement}
+use Rattle.nlri.proofs.address.AddressKind.wildcard.Tie as tie
+use Rattle.nlri.proofs.address.AddressKind.wildcard.Reads as reads
+use Rattle.nlri.proofs.address.AddressKind.wildcard.Lts as lts
+
+returns : tie.Need-returns
+returns c = no-address
+
+pub wildcard-spec : {M : Type 1} → statement M
+wildcard-spec = tie.close (tie.spec returns)

@@ -1,0 +1,43 @@
+use denote.Ref.{now}
+use mathlib.Core.Path.{_≡_, _∙_, sym, ap}
+use native.Mathlib.Omega.{arith}
+use lib.ListN.{length}
+use borrow.Author.Tests.{eq-eqb, ne-eqb}
+use Rattle.octets.proofs.Outcomes.{pick-true, pick-false}
+use Rattle.nlri.specs.Answers.{distinguisherOf}
+use Rattle.nlri.specs.Inner.{distinguisherAt}
+use Rattle.nlri.proofs.Copies.{no-distinguisher, distinguisher-held, part-length}
+use borrow.Author.Needs.{needs}
+use Rattle.nlri.proofs.fields.distinguisher_in.Statement.{statement}
+use Rattle.nlri.proofs.fields.distinguisher_in.Tie as tie
+use Rattle.nlri.proofs.fields.distinguisher_in.Reads as reads
+use Rattle.nlri.proofs.fields.distinguisher_in.Lts as lts
+use Rattle.bytes.proofs.copy.Reads as copy-reads
+use Rattle.octets.proofs.parts.between.Reads as between-reads
+
+returns : tie.Need-returns
+unfolding distinguisherAt
+returns c = no-distinguisher ∙ ap distinguisherOf (sym (pick-true _ _ _ (eq-eqb _ _ (c .if1 .taken))))
+
+between-requires : tie.Need-between-requires
+between-requires c κs = c .before .before .pre (c .if1 .left)
+
+slice-aggregate-copy : tie.Need-slice-aggregate-copy
+slice-aggregate-copy c = search needs
+
+held : (c : tie.After-octets) → length (now (c .before .between .result)) ≡ 8
+held c = ap length (c .before .between .ensures) ∙ part-length (now (c .before .before .before .before .args .s)) 2 8 (c .before .before .before .before .pre (c .before .before .if1 .left))
+
+copy-requires : tie.Need-copy-requires
+copy-requires c κs = let l = held c in omega arith
+
+returns-2 : tie.Need-returns-2
+unfolding distinguisherAt
+returns-2 c =
+    let l = ap length (c .before .before .before .between .ensures) ∙ part-length (now (c .before .before .before .before .before .before .args .s)) 2 8 (c .before .before .before .before .before .before .pre (c .before .before .before .before .if1 .left)) in
+    distinguisher-held _ (now (c .before .before .before .between .result)) (c .before .copy .ensures .1) (omega arith)
+    ∙ ap distinguisherOf (c .before .before .before .between .ensures ∙ sym (pick-false _ _ _ (ne-eqb _ _ (c .before .before .before .before .if1 .left))))
+
+pub distinguisher-in-spec : {M : Type 1} → statement M
+distinguisher-in-spec =
+    tie.close (tie.spec returns between-requires slice-aggregate-copy copy-requires returns-2)

@@ -1,0 +1,20 @@
+use mathlib.Core.Path.{sym}
+use borrow.Author.Tests.{eq-eqb, ne-eqb}
+use Rattle.octets.proofs.Outcomes.{pick-true, pick-false}
+use Rattle.nlri.specs.Inner.{keyAt}
+use Rattle.octets.proofs.Tests.{tests}
+use Rattle.nlri.proofs.fields.key_in.Statement.{statement}
+use Rattle.nlri.proofs.fields.key_in.Tie as tie
+use Rattle.nlri.proofs.fields.key_in.Reads as reads
+use Rattle.nlri.proofs.fields.key_in.Lts as lts
+
+returns : tie.Need-returns
+unfolding keyAt
+returns c = λ i. record { start = sym (pick-true _ 2 0 (eq-eqb _ _ (c .if1 .taken))) i; size = c .before .before .args .layout .key }
+
+returns-2 : tie.Need-returns-2
+unfolding keyAt
+returns-2 c = λ i. record { start = sym (pick-false _ 2 0 (ne-eqb _ _ (c .if1 .left))) i; size = c .before .before .args .layout .key }
+
+pub key-in-spec : {M : Type 1} → statement M
+key-in-spec = tie.close (tie.spec returns returns-2)

@@ -1,0 +1,54 @@
+use denote.Ref.{now}
+use mathlib.Core.Path.{_≡_, _∙_, sym, ap}
+use native.Mathlib.Omega.{arith}
+use Rattle.nlri.proofs.Singles.{read-by-layout, read-refused, key-same, answer-given, answer-refused}
+use Rattle.nlri.proofs.Via.{nlri-given, reading-refused}
+use borrow.Author.Needs.{needs}
+use Rattle.nlri.proofs.fields.read_nlri.Statement.{statement}
+use Rattle.nlri.proofs.fields.read_nlri.Tie as tie
+use Rattle.nlri.proofs.fields.read_nlri.Reads as reads
+use Rattle.nlri.proofs.fields.read_nlri.Lts as lts
+use Rattle.nlri.proofs.fields.key_in.Reads as key-in-reads
+use Rattle.nlri.proofs.fields.nlri_in.Reads as nlri-in-reads
+use Rattle.nlri.proofs.fields.refusal.Reads as refusal-reads
+use Rattle.nlri.proofs.read.read_layout.Reads as read-layout-reads
+
+read-layout-requires : tie.Need-read-layout-requires
+read-layout-requires c κs = search needs
+
+enum-known-number : tie.Need-enum-known-number
+enum-known-number c = search needs
+
+refusal-requires : tie.Need-refusal-requires
+refusal-requires c κs = search needs
+
+enum-known-layout : tie.Need-enum-known-layout
+enum-known-layout c = search needs
+
+nlri-in-requires : tie.Need-nlri-in-requires
+nlri-in-requires c κs = read-by-layout _ _ _ (nlri-given _ _ _ (c .before .before .before .read-layout .ensures) (c .before .layout .given .1)) .1
+
+key-in-requires : tie.Need-key-in-requires
+key-in-requires c κs = search needs
+
+returns : tie.Need-returns
+returns c = answer-refused _ _ _ _ (c .refusal .ensures) (read-refused _ _ _ (reading-refused _ _ _ (c .before .before .before .before .read-layout .ensures) (c .before .before .number .given .1)))
+
+returns-2 : tie.Need-returns-2
+returns-2 c =
+    let a = c .before .before .before .before .before .before .before .args in
+    let h = read-by-layout (a .afi) (now (a .s)) _ (nlri-given _ _ _ (c .before .before .before .before .before .read-layout .ensures) (c .before .before .before .layout .given .1)) in
+    answer-given (a .afi) (now (a .s)) _ _ _ (h .0) (c .before .nlri-in .ensures) (c .key-in .ensures ∙ key-same _ _ (h .1 .key))
+
+pub read-nlri-spec : {M : Type 1} → statement M
+read-nlri-spec =
+    tie.close
+    (tie.spec
+    read-layout-requires
+    enum-known-number
+    refusal-requires
+    enum-known-layout
+    nlri-in-requires
+    key-in-requires
+    returns
+    returns-2)

@@ -1,0 +1,29 @@
+use mathlib.Core.Path.{refl}
+use Rattle.nlri.proofs.Copies.{no-distinguisher}
+use Rattle.nlri.proofs.Singles.{nlri-same}
+use Rattle.octets.specs.Choice.{pick}
+use Rattle.octets.specs.Outcome.{onOutcome}
+use Rattle.nlri.specs.Answers.{readAnswer, nlriOf, noFields, keySpan}
+use borrow.Author.Needs.{needs}
+use Rattle.nlri.proofs.fields.refusal.Statement.{statement}
+use Rattle.nlri.proofs.fields.refusal.Tie as tie
+use Rattle.nlri.proofs.fields.refusal.Reads as reads
+use Rattle.nlri.proofs.fields.refusal.Lts as lts
+use Rattle.nlri.proofs.address.AddressKind.wildcard.Reads as wildcard-reads
+
+wildcard-requires : tie.Need-wildcard-requires
+wildcard-requires c κs = search needs
+
+wildcard-requires-2 : tie.Need-wildcard-requires-2
+wildcard-requires-2 c κs = search needs
+
+wildcard-requires-3 : tie.Need-wildcard-requires-3
+wildcard-requires-3 c κs = search needs
+
+returns : tie.Need-returns
+unfolding readAnswer onOutcome nlriOf noFields keySpan pick
+returns c = λ i. record { number = c .before .before .before .args .number; nlri = nlri-same _ _ _ _ _ _ _ _ 0 0 0 0 no-distinguisher (c .before .before .wildcard .ensures) (c .before .wildcard2 .ensures) (c .wildcard3 .ensures) refl refl i; key = keySpan noFields }
+
+pub refusal-spec : {M : Type 1} → statement M
+refusal-spec =
+    tie.close (tie.spec wildcard-requires wildcard-requires-2 wildcard-requires-3 returns)

@@ -1,0 +1,44 @@
+use native.Mathlib.Omega.{arith}
+use Rattle.nlri.proofs.Walks.{layout-within}
+use Rattle.nlri.proofs.Via.{nlri-given}
+use Rattle.nlri.specs.Layouts.{readingOf}
+use Rattle.nlri.specs.Inner.{single}
+use Rattle.nlri.proofs.Via.{reads}
+use borrow.Author.Needs.{needs}
+use Rattle.nlri.proofs.read.read_single.Statement.{statement}
+use Rattle.nlri.proofs.read.read_single.Tie as tie
+use Rattle.nlri.proofs.read.read_single.Reads as reads
+use Rattle.nlri.proofs.read.read_single.Lts as lts
+use Rattle.nlri.proofs.read.ends_at.Reads as ends-at-reads
+use Rattle.nlri.proofs.read.read_front.Reads as read-front-reads
+
+read-front-requires : tie.Need-read-front-requires
+read-front-requires c κs = search needs
+
+enum-known-number : tie.Need-enum-known-number
+enum-known-number c = search needs
+
+enum-known-layout : tie.Need-enum-known-layout
+enum-known-layout c = search needs
+
+ends-at-requires : tie.Need-ends-at-requires
+ends-at-requires c κs = let h = layout-within _ _ _ (nlri-given _ _ _ (c .before .before .before .read-front .ensures) (c .before .layout .given .1)) in omega arith
+
+returns : tie.Need-returns
+unfolding readingOf single
+returns c = search reads
+
+returns-2 : tie.Need-returns-2
+unfolding readingOf single
+returns-2 c = search reads
+
+pub read-single-spec : {M : Type 1} → statement M
+read-single-spec =
+    tie.close
+    (tie.spec
+    read-front-requires
+    enum-known-number
+    enum-known-layout
+    ends-at-requires
+    returns
+    returns-2)
