@@ -40,3 +40,7 @@ placed-placed at e f d h =
     ap₂ (λ (a b : List ℕ). a ++ (f ++ b)) low (high ∙ ap (λ (n : ℕ). drop n d) sum)
     ∙ append-assoc p e (f ++ drop (at + length (e ++ f)) d)
     ∙ ap (λ (l : List ℕ). p ++ l) (sym (append-assoc e f (drop (at + length (e ++ f)) d)))
+
+-- the same, as two calls leave it
+pub placed-then : (at next : ℕ) (e f d y z : List ℕ) → at + length e + length f ≤ length d → next ≡ at + length e → y ≡ placed at e d → z ≡ placed next f y → z ≡ placed at (e ++ f) d
+placed-then at next e f d y z h k p q = q ∙ ap₂ (λ (i : ℕ) (l : List ℕ). placed i f l) k p ∙ placed-placed at e f d h

@@ -1,0 +1,7 @@
+-- Definitions of the PMSI Tunnel attribute: `Fec`, `Identifier`, `Attribute` are document 01's; `Answers` says what the public calls answer;
+-- `Inner` has what only inner functions cite.
+pub mod Fec
+pub mod Identifier
+pub mod Attribute
+pub mod Answers
+pub mod Inner
