@@ -13,15 +13,15 @@ use Rattle.octets.specs.Numbers.{DONE, SHORT, LONG, IDENT, LABEL, SPACE}
 use Rattle.octets.specs.Outcome.{Outcome, given, refused, andThen, onOutcome, numberOf}
 use Rattle.octets.specs.Octets.{part, numberIn, bigEndian, front, placed}
 use Rattle.octets.proofs.Tests.{tests}
-use Rattle.octets.proofs.Picked.{tested, pick-then, pick-else, pick-passed, pick-held, both-held}
+use Rattle.octets.proofs.Picked.{tested, pick-then, pick-else, pick-passed, pick-held, both-held, was-given}
 use Rattle.octets.proofs.NetworkOrder.{big-endian-length}
 use Rattle.octets.specs.declared.Written.{Written}
 use Rattle.tunnel.specs.declared.fec.Fec.{Fec}
 use Rattle.tunnel.specs.declared.Attribute.{Attribute}
 use Rattle.tunnel.specs.Fec.{familySuits, endsAt, wholeFec, fecIn}
-use Rattle.tunnel.specs.Identifier.{Form, Row, table, formIn, formOf, fits, oneOf, judged}
+use Rattle.tunnel.specs.Identifier.{Form, sizes, fec, Row, table, formIn, formOf, fits, oneOf, judged}
 use Rattle.tunnel.specs.Attribute.{Fields, labelOf, leafInformationRequired, fieldsIn, encodeAttribute, readAttribute, writeAttribute}
-use Rattle.tunnel.specs.Answers.{fecSpans, fecOf, attributeOf, readAnswer, writtenOf, outputOf}
+use Rattle.tunnel.specs.Answers.{fecSpans, noFec, fecOfForm, fecOf, attributeOf, readAnswer, writtenOf, outputOf}
 use Rattle.tunnel.specs.Inner.{formFault, faultIn, faultOf}
 
 -- a test that a call made, in the definition's words
@@ -104,23 +104,21 @@ pub judged-fine : (t : ℕ) (i : List ℕ) → faultOf t i ≡ 0 → judged t i 
 unfolding judged judgedBy formOf faultOf asOutcome
 judged-fine t i e = rows-judged table t i ∙ pick-then (eqb (faultOf t i) 0) (given i) (refused (faultOf t i)) (eq-eqb (faultOf t i) 0 e)
 
--- an mLDP tunnel type's identifier without a fault is a FEC
-done-held : (b : Bool) → pick b DONE IDENT ≡ 0 → b ≡ true
-unfolding pick
-done-held true h = refl
-done-held false h = absurd (omega arith)
+-- the rows of the mLDP tunnel types
+pub p2mp-row : (t : ℕ) → t ≡ 2 → formOf t ≡ given (fec (6 ∷ []))
+unfolding formOf formIn table pick
+p2mp-row t e = rw e
 
-pub fec-of-p2mp : (t : ℕ) (i : List ℕ) → t ≡ 2 → faultOf t i ≡ 0 → wholeFec i ≡ true
-unfolding faultOf faultIn table formFault fits pick
-fec-of-p2mp t i e h =
-    let p : faultOf 2 i ≡ 0 = rw e at h in
-    both-held (wholeFec i) (oneOf (getD i 0 0) (6 ∷ [])) (done-held (both (wholeFec i) (oneOf (getD i 0 0) (6 ∷ []))) p) .0
+pub mp2mp-row : (t : ℕ) → t ≡ 7 → formOf t ≡ given (fec (7 ∷ 8 ∷ []))
+unfolding formOf formIn table pick
+mp2mp-row t e = rw e
 
-pub fec-of-mp2mp : (t : ℕ) (i : List ℕ) → t ≡ 7 → faultOf t i ≡ 0 → wholeFec i ≡ true
-unfolding faultOf faultIn table formFault fits pick
-fec-of-mp2mp t i e h =
-    let p : faultOf 7 i ≡ 0 = rw e at h in
-    both-held (wholeFec i) (oneOf (getD i 0 0) (7 ∷ 8 ∷ [])) (done-held (both (wholeFec i) (oneOf (getD i 0 0) (7 ∷ 8 ∷ []))) p) .0
+-- where a row's form is a FEC, an identifier without a fault is one
+pub fec-without-fault : (t : ℕ) (i ns : List ℕ) → formOf t ≡ given (fec ns) → faultOf t i ≡ 0 → wholeFec i ≡ true
+unfolding judged andThen fits
+fec-without-fault t i ns e h =
+    let j : pick (fits (fec ns) i) (given i) (refused IDENT) ≡ given i = rw e at (judged-fine t i h) in
+    both-held (wholeFec i) (oneOf (getD i 0 0) ns) (was-given (fits (fec ns) i) i i IDENT j .0) .0
 
 -- a FEC's spans, from its length octet and the identifier's length
 pub fec-span : (i : List ℕ) (family : ℕ) → wholeFec i ≡ true → family ≡ numberIn (part i 1 2) 0
@@ -135,13 +133,30 @@ pub fec-span : (i : List ℕ) (family : ℕ) → wholeFec i ≡ true → family 
 unfolding fecSpans fecIn
 fec-span i family h e = rw (root-length i h, opaque-length i h, e)
 
-pub p2mp-fec : (s rest : List ℕ) (r : Fec) → getD s 1 0 ≡ 2 → rest ≡ drop 5 s → r ≡ fecSpans (fecIn rest) → r ≡ fecOf (fieldsIn s)
-unfolding fecOf fieldsIn pick
-p2mp-fec s rest r t k e = rw (t, ← k) e
+-- the FEC of a tunnel type, by its row
+pub fec-by-row : (s rest ns : List ℕ) (r : Fec) → formOf (getD s 1 0) ≡ given (fec ns) → rest ≡ drop 5 s → r ≡ fecSpans (fecIn rest) → r ≡ fecOf (fieldsIn s)
+unfolding fecOf fecOfForm fieldsIn onOutcome
+fec-by-row s rest ns r t k e = rw (t, ← k) e
 
-pub mp2mp-fec : (s rest : List ℕ) (r : Fec) → getD s 1 0 ≡ 7 → rest ≡ drop 5 s → r ≡ fecSpans (fecIn rest) → r ≡ fecOf (fieldsIn s)
-unfolding fecOf fieldsIn pick
-mp2mp-fec s rest r t k e = rw (t, ← k) e
+fecFrom : List ℕ → Outcome Form → Fec
+fecFrom i o = onOutcome (λ _. noFec) (λ form. fecOfForm form i) o
+
+sized-row : (b : Bool) (ns i : List ℕ) (rest : Outcome Form) → noFec ≡ fecFrom i rest → noFec ≡ fecFrom i (pick b (given (sizes ns)) rest)
+unfolding fecFrom fecOfForm onOutcome pick
+sized-row true ns i rest h = refl
+sized-row false ns i rest h = h
+
+fec-row : (b : Bool) (ns i : List ℕ) (rest : Outcome Form) → b ≡ false → noFec ≡ fecFrom i rest → noFec ≡ fecFrom i (pick b (given (fec ns)) rest)
+unfolding pick
+fec-row b ns i rest p h = rw p h
+
+no-row : (i : List ℕ) (n : ℕ) → noFec ≡ fecFrom i (refused n)
+unfolding fecFrom onOutcome
+no-row i n = refl
+
+pub other-fec : (s : List ℕ) → (getD s 1 0 ≡ 2 → ⊥) → (getD s 1 0 ≡ 7 → ⊥) → noFec ≡ fecOf (fieldsIn s)
+unfolding fecOf formOf formIn table fieldsIn fecFrom
+other-fec s a b = search (sized-row, fec-row, no-row, ne-eqb) depth 14
 
 -- the fields, from where they stand
 pub fields-are : (s : List ℕ) (label : ℕ) (fec : Fec) → 5 ≤ length s → label ≡ numberIn (part s 2 3) 0 → fec ≡ fecOf (fieldsIn s)
@@ -157,7 +172,7 @@ pub fields-are : (s : List ℕ) (label : ℕ) (fec : Fec) → 5 ≤ length s →
     })
     (attributeOf (fieldsIn s))
 unfolding attributeOf fieldsIn labelOf leafInformationRequired
-fields-are s label fec h p q = rw (p, q, length-drop 5 s)
+fields-are s label shape h p q = rw (p, q, length-drop 5 s)
 
 pub fault-none : (t n : ℕ) (rest i : List ℕ) → rest ≡ i → n ≡ faultOf t rest → n ≡ 0 → faultOf t i ≡ 0
 fault-none t n rest i k e z = sym (rw (k, z) at e)

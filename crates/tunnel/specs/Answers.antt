@@ -1,10 +1,7 @@
 -- What the public calls answer, in document 01's numbers and values.
 use Prim.Native.Nat.{ℕ, _+_}
 use mathlib.Core.List.{List}
-use lib.Dec.{eqb}
 use lib.ListN.{length}
-use Rattle.octets.specs.Choice.{pick}
-use Rattle.octets.specs.Numbers.{DONE}
 use Rattle.octets.specs.Outcome.{Outcome, given, refused, andThen, onOutcome, numberOf}
 use Rattle.octets.specs.Octets.{front}
 use Rattle.octets.specs.declared.Span.{Span}
@@ -14,6 +11,7 @@ use Rattle.tunnel.specs.declared.Reading.the-variants.{Attribute as read
 use Rattle.tunnel.specs.declared.Attribute.{Attribute}
 use Rattle.tunnel.specs.declared.fec.Fec.{Fec}
 use Rattle.tunnel.specs.Fec.{FecFields, fecIn}
+use Rattle.tunnel.specs.Identifier.{Form, sizes, fec, formOf}
 use Rattle.tunnel.specs.Attribute.{Fields, labelOf, leafInformationRequired, readAttribute}
 
 -- what a reading's cases mean
@@ -38,9 +36,13 @@ fecSpans f =
 unfoldable pub noFec : Fec
 noFec = record { «fec_type» = 0; «address_family» = 0; root = span 0 0; opaque = span 0 0 }
 
--- the FEC of an mLDP tunnel type
+-- the FEC of an identifier whose form is one
+unfoldable pub fecOfForm : Form → List ℕ → Fec
+fecOfForm (sizes ns) i = noFec
+fecOfForm (fec ns) i = fecSpans (fecIn i)
+
 unfoldable pub fecOf : Fields → Fec
-fecOf f = pick (eqb (f .tunnelType) 2) (fecSpans (fecIn (f .identifier))) (pick (eqb (f .tunnelType) 7) (fecSpans (fecIn (f .identifier))) noFec)
+fecOf f = onOutcome (λ _. noFec) (λ form. fecOfForm form (f .identifier)) (formOf (f .tunnelType))
 
 -- an attribute's fields, the identifier from octet 5 on
 unfoldable pub attributeOf : Fields → Attribute

@@ -8,7 +8,7 @@ use Rattle.octets.specs.Choice.{pick}
 use Rattle.octets.specs.Numbers.{SHORT, LONG, LABEL, SPACE}
 use Rattle.octets.specs.Outcome.{Outcome, given, refused, andThen}
 use Rattle.octets.specs.Octets.{AllOctets, part, numberIn, bigEndian}
-use Rattle.tunnel.specs.Identifier.{Form, formOf, Identifier, judged}
+use Rattle.tunnel.specs.Identifier.{OfType, judged}
 
 -- the fields of an attribute; flags and the whole label field are kept
 pub record Fields : Type 0 where
@@ -31,12 +31,10 @@ encodeAttribute f = f .flags ∷ (f .tunnelType ∷ (bigEndian 3 (f .labelField)
 
 pub record WellFormedAttribute (f : Fields) : Type 0 where
   pub flagsFit : f .flags < 256
-  pub form : Form
-  pub inTable : formOf (f .tunnelType) ≡ given form
   pub labelFits : f .labelField < 2 ^ 24
   pub identifierSize : length (f .identifier) ≤ 59
   pub identifierOctets : AllOctets (f .identifier)
-  pub ofForm : Identifier form (f .identifier)
+  pub ofType : OfType (f .tunnelType) (f .identifier)
 
 -- the fields where they stand
 unfoldable pub fieldsIn : List ℕ → Fields

@@ -54,6 +54,12 @@ pub data Identifier : Form → List ℕ → Type 0 where
   sized : {ns i : List ℕ} → OneOf (length i) ns → Identifier (sizes ns) i
   encoded : {ns : List ℕ} {f : FecFields} → WellFormedFec f → OneOf (f .fecType) ns → Identifier (fec ns) (encodeFec f)
 
+-- an identifier of the form in a tunnel type's row
+pub record OfType (t : ℕ) (i : List ℕ) : Type 0 where
+  pub form : Form
+  pub inTable : formOf t ≡ given form
+  pub ofForm : Identifier form i
+
 -- the same as `OneOf`, computed
 unfoldable pub oneOf : ℕ → List ℕ → Bool
 oneOf n [] = false
