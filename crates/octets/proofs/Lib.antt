@@ -3,3 +3,4 @@ pub mod Tests
 pub mod Lists
 pub mod NetworkOrder
 pub mod Picked
+pub mod AllOctets

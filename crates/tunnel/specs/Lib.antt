@@ -5,3 +5,4 @@ pub mod Identifier
 pub mod Attribute
 pub mod Answers
 pub mod Inner
+pub mod Statements
