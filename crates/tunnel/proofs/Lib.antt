@@ -1,3 +1,4 @@
 -- Laws of the definitions, and the theorems.
 pub mod Laws
 pub mod FecTheorem
+pub mod IdentifierTheorem
