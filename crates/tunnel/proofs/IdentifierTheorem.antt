@@ -137,8 +137,8 @@ unknown-row t h =
     let a = absent table t TUNNEL h in
     let b = a .1 .1 .1 .1 in
     record {
-        over = over-seven t (over-three t (a .0) (a .1 .0) (a .1 .1 .0) (a .1 .1 .1 .0)) (b .0) (b .1 .0) (b .1 .1 .0) (b .1 .1 .1 .0);
-        notBier = b .1 .1 .1 .1 .0
+      over = over-seven t (over-three t (a .0) (a .1 .0) (a .1 .1 .0) (a .1 .1 .1 .0)) (b .0) (b .1 .0) (b .1 .1 .0) (b .1 .1 .1 .0);
+      notBier = b .1 .1 .1 .1 .0;
     }
 
 absent-refused : (rows : List Row) (t : ℕ) → Absent rows t → formIn rows t ≡ refused TUNNEL

@@ -2,3 +2,4 @@
 pub mod Laws
 pub mod FecTheorem
 pub mod IdentifierTheorem
+pub mod ReadingTheorem
