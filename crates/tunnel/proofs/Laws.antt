@@ -178,27 +178,44 @@ pub fault-none : (t n : ℕ) (rest i : List ℕ) → rest ≡ i → n ≡ faultO
 fault-none t n rest i k e z = sym (rw (k, z) at e)
 
 -- reading, by the tests that the code makes
-pub read-long : (s : List ℕ) → 64 < length s → refused LONG ≡ readAnswer s
-unfolding readAnswer readAttribute andThen pick
+pub read-long : (s : List ℕ) → 64 < length s → readAttribute s ≡ refused LONG
+unfolding readAttribute pick
 read-long s h = rw (lt-ltb 64 (length s) h)
 
-pub read-short : (s : List ℕ) → length s < 5 → refused SHORT ≡ readAnswer s
-unfolding readAnswer readAttribute andThen pick
+pub read-short : (s : List ℕ) → length s < 5 → readAttribute s ≡ refused SHORT
+unfolding readAttribute pick
 read-short s h = rw (le-ltb 64 (length s) (omega arith), lt-ltb (length s) 5 h)
 
-pub read-faulty : (s rest : List ℕ) (n : ℕ) → length s ≤ 64 → 5 ≤ length s → rest ≡ drop 5 s → n ≡ faultOf (getD s 1 0) rest → (n ≡ 0 → ⊥) → refused n ≡ readAnswer s
-unfolding readAnswer readAttribute andThen pick
-read-faulty s rest n a b k e d = rw (le-ltb 64 (length s) a, le-ltb (length s) 5 b, judged-faulty (getD s 1 0) (drop 5 s) n (rw k at e) d)
+-- past LONG and SHORT the identifier decides
+pub read-judged : (s : List ℕ) → length s ≤ 64 → 5 ≤ length s → readAttribute s ≡ andThen (judged (getD s 1 0) (drop 5 s)) (λ _. given (fieldsIn s))
+unfolding readAttribute pick
+read-judged s a b = rw (le-ltb 64 (length s) a, le-ltb (length s) 5 b)
 
-pub read-fine : (s rest : List ℕ) (n : ℕ) (a : Attribute) → length s ≤ 64 → 5 ≤ length s → rest ≡ drop 5 s → n ≡ faultOf (getD s 1 0) rest → n ≡ 0 → a ≡ attributeOf (fieldsIn s)
-    → given a ≡ readAnswer s
-unfolding readAnswer readAttribute andThen pick
-read-fine s rest n r a b k e z q = rw (le-ltb 64 (length s) a, le-ltb (length s) 5 b, judged-fine (getD s 1 0) (drop 5 s) (sym (rw (k, z) at e)), q)
+pub read-faulty : (s rest : List ℕ) (n : ℕ) → length s ≤ 64 → 5 ≤ length s → rest ≡ drop 5 s → n ≡ faultOf (getD s 1 0) rest → (n ≡ 0 → ⊥) → readAttribute s ≡ refused n
+unfolding andThen
+read-faulty s rest n a b k e d = read-judged s a b ∙ rw (judged-faulty (getD s 1 0) (drop 5 s) n (rw k at e) d)
+
+pub read-fine : (s rest : List ℕ) (n : ℕ) → length s ≤ 64 → 5 ≤ length s → rest ≡ drop 5 s → n ≡ faultOf (getD s 1 0) rest → n ≡ 0 → readAttribute s ≡ given (fieldsIn s)
+unfolding andThen
+read-fine s rest n a b k e z = read-judged s a b ∙ rw (judged-fine (getD s 1 0) (drop 5 s) (sym (rw (k, z) at e)))
+
+-- what the answer then is
+pub answer-refused : (s : List ℕ) (n : ℕ) → readAttribute s ≡ refused n → refused n ≡ readAnswer s
+unfolding readAnswer andThen
+answer-refused s n e = rw e
+
+pub answer-given : (s : List ℕ) (f : Fields) (a : Attribute) → readAttribute s ≡ given f → a ≡ attributeOf f → given a ≡ readAnswer s
+unfolding readAnswer andThen
+answer-given s f a e q = rw (e, q)
 
 -- writing, by the tests that the code makes
 pub attribute-length : (f : Fields) → length (encodeAttribute f) ≡ 5 + length (f .identifier)
 unfolding encodeAttribute
 attribute-length f = simp (length-append, big-endian-length) (omega arith)
+
+-- past LONG, TUNNEL and IDENT
+unfoldable pub fieldsWritten : Fields → ℕ → Outcome (List ℕ)
+fieldsWritten f space = pick (ltb 16777215 (f .labelField)) (refused LABEL) (pick (ltb space (length (encodeAttribute f))) (refused SPACE) (given (encodeAttribute f)))
 
 abbrev written : ℕ → ℕ → Written
 written n s = record { number = n; size = s }
@@ -208,25 +225,30 @@ module _ (f : Fields) (space : ℕ) where
   unfolding writeAttribute pick
   write-long h = rw (lt-ltb 59 (length (f .identifier)) h)
 
+  pub write-judged : length (f .identifier) ≤ 59 → writeAttribute f space ≡ andThen (judged (f .tunnelType) (f .identifier)) (λ _. fieldsWritten f space)
+  unfolding writeAttribute fieldsWritten pick
+  write-judged h = rw (le-ltb 59 (length (f .identifier)) h)
+
   pub write-faulty : length (f .identifier) ≤ 59 → (n : ℕ) → n ≡ faultOf (f .tunnelType) (f .identifier) → (n ≡ 0 → ⊥) → writeAttribute f space ≡ refused n
-  unfolding writeAttribute pick andThen
-  write-faulty h n e d = rw (le-ltb 59 (length (f .identifier)) h, judged-faulty (f .tunnelType) (f .identifier) n e d)
+  unfolding andThen
+  write-faulty h n e d = write-judged h ∙ rw (judged-faulty (f .tunnelType) (f .identifier) n e d)
 
   module _ (h : length (f .identifier) ≤ 59) (n : ℕ) (e : n ≡ faultOf (f .tunnelType) (f .identifier)) (z : n ≡ 0) where
-    judged-here : judged (f .tunnelType) (f .identifier) ≡ given (f .identifier)
-    judged-here = judged-fine (f .tunnelType) (f .identifier) (sym e ∙ z)
+    judged-here : writeAttribute f space ≡ fieldsWritten f space
+    unfolding andThen
+    judged-here = write-judged h ∙ rw (judged-fine (f .tunnelType) (f .identifier) (sym e ∙ z))
 
     pub write-label : 16777215 < f .labelField → writeAttribute f space ≡ refused LABEL
-    unfolding writeAttribute pick andThen
-    write-label l = rw (le-ltb 59 (length (f .identifier)) h, judged-here, lt-ltb 16777215 (f .labelField) l)
+    unfolding fieldsWritten pick
+    write-label l = judged-here ∙ rw (lt-ltb 16777215 (f .labelField) l)
 
     pub write-space : f .labelField ≤ 16777215 → space < 5 + length (f .identifier) → writeAttribute f space ≡ refused SPACE
-    unfolding writeAttribute pick andThen
-    write-space l k = rw (le-ltb 59 (length (f .identifier)) h, judged-here, le-ltb 16777215 (f .labelField) l, lt-ltb space (length (encodeAttribute f)) (rw (attribute-length f) k))
+    unfolding fieldsWritten pick
+    write-space l k = judged-here ∙ rw (le-ltb 16777215 (f .labelField) l, lt-ltb space (length (encodeAttribute f)) (rw (attribute-length f) k))
 
     pub write-fine : f .labelField ≤ 16777215 → 5 + length (f .identifier) ≤ space → writeAttribute f space ≡ given (encodeAttribute f)
-    unfolding writeAttribute pick andThen
-    write-fine l k = rw (le-ltb 59 (length (f .identifier)) h, judged-here, le-ltb 16777215 (f .labelField) l, le-ltb space (length (encodeAttribute f)) (rw (attribute-length f) k))
+    unfolding fieldsWritten pick
+    write-fine l k = judged-here ∙ rw (le-ltb 16777215 (f .labelField) l, le-ltb space (length (encodeAttribute f)) (rw (attribute-length f) k))
 
 pub refusal-wrote : (o : Outcome (List ℕ)) (n : ℕ) (w : Written) (d : List ℕ) → o ≡ refused n → (w .number ≡ n) × (w .size ≡ 0) → (w ≡ writtenOf o) × (d ≡ outputOf o d)
 unfolding writtenOf outputOf onOutcome numberOf

@@ -3,3 +3,4 @@ pub mod Laws
 pub mod FecTheorem
 pub mod IdentifierTheorem
 pub mod ReadingTheorem
+pub mod WritingTheorem

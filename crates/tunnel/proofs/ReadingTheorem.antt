@@ -18,22 +18,9 @@ use Rattle.octets.proofs.NetworkOrder.{number-of-big-endian}
 use Rattle.tunnel.specs.Identifier.{Form, formOf, OneOf, here, there, OfType, fits, judged}
 use Rattle.tunnel.specs.Attribute.{Fields, WellFormedAttribute, encodeAttribute, fieldsIn, readAttribute}
 use Rattle.tunnel.specs.Statements.{Unknown, Known, Sized, ReadingStatement}
-use Rattle.tunnel.proofs.Laws.{attribute-length}
+use Rattle.tunnel.proofs.Laws.{attribute-length, read-long, read-short, read-judged}
 use Rattle.tunnel.proofs.FecTheorem.{part-number, part-fits}
 use Rattle.tunnel.proofs.IdentifierTheorem.{Judged, noRow, noFit, fit, judged-is, of-type, of-type-judged, not-of-type, unknown-row, row-unknown}
-
--- past LONG and SHORT the identifier decides
-read-judged : (s : List ℕ) → Sized s → readAttribute s ≡ andThen (judged (getD s 1 0) (drop 5 s)) (λ _. given (fieldsIn s))
-unfolding readAttribute pick
-read-judged s z = rw (le-ltb 64 (length s) (z .most), le-ltb (length s) 5 (z .least))
-
-read-long : (s : List ℕ) → 64 < length s → readAttribute s ≡ refused LONG
-unfolding readAttribute pick
-read-long s h = rw (lt-ltb 64 (length s) h)
-
-read-short : (s : List ℕ) → length s < 5 → readAttribute s ≡ refused SHORT
-unfolding readAttribute pick
-read-short s h = rw (le-ltb 64 (length s) (omega arith), lt-ltb (length s) 5 h)
 
 -- the cases of reading, each with its answer
 pub data ReadCase (s : List ℕ) : Outcome Fields → Type 0 where
@@ -56,7 +43,7 @@ read-case s =
     (λ p. tested (ltb (length s) 5)
     (λ q. let h : length s < 5 = ltb-true (length s) 5 q in subst (ReadCase s) (sym (read-short s h)) (tooShort h))
     (λ q. let z : Sized s = record { least = ltb-false (length s) 5 q; most = ltb-false 64 (length s) p } in
-    subst (ReadCase s) (sym (read-judged s z)) (sized-case s z (judged-is (getD s 1 0) (drop 5 s)))))
+    subst (ReadCase s) (sym (read-judged s (z .most) (z .least))) (sized-case s z (judged-is (getD s 1 0) (drop 5 s)))))
 
 -- the fields where they stand are well-formed, and encode to the octets
 attribute-parts : (s : List ℕ) → 5 ≤ length s → s ≡ getD s 0 0 ∷ (getD s 1 0 ∷ (part s 2 3 ++ drop 5 s))
@@ -108,7 +95,7 @@ module _ (f : Fields) (w : WellFormedAttribute f) where
 
   pub encoding-read : readAttribute (encodeAttribute f) ≡ given f
   unfolding andThen
-  encoding-read = read-judged (encodeAttribute f) encoding-sized ∙ rw (encoding-type, encoding-identifier, of-type-judged (w .ofType)) (ap given encoding-fields)
+  encoding-read = read-judged (encodeAttribute f) (encoding-sized .most) (encoding-sized .least) ∙ rw (encoding-type, encoding-identifier, of-type-judged (w .ofType)) (ap given encoding-fields)
 
 -- what an answer tells
 accepted-case : (s : List ℕ) (f : Fields) → AllOctets s → {o : Outcome Fields} → ReadCase s o → o ≡ given f → WellFormedAttribute f × (s ≡ encodeAttribute f)
@@ -169,7 +156,7 @@ module _ (s : List ℕ) where
 
 tunnel-refused : (s : List ℕ) → Sized s → formOf (getD s 1 0) ≡ refused TUNNEL → readAttribute s ≡ refused TUNNEL
 unfolding andThen judged
-tunnel-refused s z e = read-judged s z ∙ rw e
+tunnel-refused s z e = read-judged s (z .most) (z .least) ∙ rw e
 
 pub reading : ReadingStatement
 unfolding numberOf
