@@ -4,3 +4,4 @@ pub mod FecTheorem
 pub mod IdentifierTheorem
 pub mod ReadingTheorem
 pub mod WritingTheorem
+pub mod Theorems

@@ -16,7 +16,7 @@ use Rattle.tunnel.specs.Identifier.{Form, formOf, OneOf, here, there, Of
 use Rattle.tunnel.specs.Attribute.{Fields, WellFormedAttribute, encodeAttribute, writeAttribute}
 use Rattle.tunnel.specs.Statements.{Unknown, Known, OctetFields, Writable, WritingStatement}
 use Rattle.tunnel.proofs.Laws.{write-long, write-judged, fieldsWritten}
-use Rattle.tunnel.proofs.IdentifierTheorem.{Judged, noRow, noFit, fit, judged-is, of-type, of-type-judged, not-of-type, identifier-computed, unknown-row, row-unknown}
+use Rattle.tunnel.proofs.IdentifierTheorem.{Judged, noRow, noFit, fit, judged-is, judged-known, judged-unknown, of-type, of-type-judged, not-of-type, unknown-row, row-unknown}
 
 module _ (f : Fields) (space : ℕ) where
   -- a tunnel type and an identifier of its form, computed
@@ -57,3 +57,114 @@ module _ (f : Fields) (space : ℕ) where
       (λ p. let h : 59 < length (f .identifier) = ltb-true 59 (length (f .identifier)) p in subst WriteCase (sym (write-long f space h)) (tooLong h))
       (λ p. let h : length (f .identifier) ≤ 59 = ltb-false 59 (length (f .identifier)) p in
       subst WriteCase (sym (write-judged f space h)) (sized-case h (judged-is (f .tunnelType) (f .identifier))))
+
+  -- what an answer tells
+  long-case : {o : Outcome (List ℕ)} → WriteCase o → numberOf o ≡ LONG → 59 < length (f .identifier)
+  unfolding numberOf
+  long-case (tooLong h) e = h
+  long-case (unknownType h u) e = absurd (omega arith)
+  long-case (badIdentifier h form t p) e = absurd (omega arith)
+  long-case (badLabel k l) e = absurd (omega arith)
+  long-case (noSpace k l r) e = absurd (omega arith)
+  long-case (fine k l r) e = absurd (omega arith)
+
+  tunnel-case : {o : Outcome (List ℕ)} → WriteCase o → numberOf o ≡ TUNNEL → (length (f .identifier) ≤ 59) × Unknown (f .tunnelType)
+  unfolding numberOf
+  tunnel-case (tooLong h) e = absurd (omega arith)
+  tunnel-case (unknownType h u) e = (h, unknown-row (f .tunnelType) u)
+  tunnel-case (badIdentifier h form t p) e = absurd (omega arith)
+  tunnel-case (badLabel k l) e = absurd (omega arith)
+  tunnel-case (noSpace k l r) e = absurd (omega arith)
+  tunnel-case (fine k l r) e = absurd (omega arith)
+
+  ident-case : {o : Outcome (List ℕ)} → WriteCase o → numberOf o ≡ IDENT → (length (f .identifier) ≤ 59) × Known (f .tunnelType) × (OfType (f .tunnelType) (f .identifier) → ⊥)
+  unfolding numberOf
+  ident-case (tooLong h) e = absurd (omega arith)
+  ident-case (unknownType h u) e = absurd (omega arith)
+  ident-case (badIdentifier h form t p) e = (h, record { form = form; inTable = t }, not-of-type form t p)
+  ident-case (badLabel k l) e = absurd (omega arith)
+  ident-case (noSpace k l r) e = absurd (omega arith)
+  ident-case (fine k l r) e = absurd (omega arith)
+
+  module _ (o : OctetFields f) where
+    writable : Fine → Writable f
+    writable k = record { most = k .most; ofType = of-type (f .tunnelType) (f .identifier) (k .form) (o .identifierOctets) (k .inTable) (k .fitting) }
+
+    label-case : {o : Outcome (List ℕ)} → WriteCase o → numberOf o ≡ LABEL → Writable f × (16777215 < f .labelField)
+    unfolding numberOf
+    label-case (tooLong h) e = absurd (omega arith)
+    label-case (unknownType h u) e = absurd (omega arith)
+    label-case (badIdentifier h form t p) e = absurd (omega arith)
+    label-case (badLabel k l) e = (writable k, l)
+    label-case (noSpace k l r) e = absurd (omega arith)
+    label-case (fine k l r) e = absurd (omega arith)
+
+    space-case : {o : Outcome (List ℕ)} → WriteCase o → numberOf o ≡ SPACE → Writable f × (f .labelField ≤ 16777215) × (space < length (encodeAttribute f))
+    unfolding numberOf
+    space-case (tooLong h) e = absurd (omega arith)
+    space-case (unknownType h u) e = absurd (omega arith)
+    space-case (badIdentifier h form t p) e = absurd (omega arith)
+    space-case (badLabel k l) e = absurd (omega arith)
+    space-case (noSpace k l r) e = (writable k, l, r)
+    space-case (fine k l r) e = absurd (omega arith)
+
+    encoded-case : (e : List ℕ) {o : Outcome (List ℕ)} → WriteCase o → o ≡ given e → WellFormedAttribute f × (length (encodeAttribute f) ≤ space) × (e ≡ encodeAttribute f)
+    encoded-case e (tooLong h) q = absurd (let z : _≡_ {A = ℕ} 0 1 = cc in omega arith)
+    encoded-case e (unknownType h u) q = absurd (let z : _≡_ {A = ℕ} 0 1 = cc in omega arith)
+    encoded-case e (badIdentifier h form t p) q = absurd (let z : _≡_ {A = ℕ} 0 1 = cc in omega arith)
+    encoded-case e (badLabel k l) q = absurd (let z : _≡_ {A = ℕ} 0 1 = cc in omega arith)
+    encoded-case e (noSpace k l r) q = absurd (let z : _≡_ {A = ℕ} 0 1 = cc in omega arith)
+    encoded-case e (fine k l r) q =
+        let w = writable k in
+        (record { flagsFit = o .flagsFit; labelFits = omega arith; identifierSize = w .most; identifierOctets = o .identifierOctets; ofType = w .ofType }, r, cc)
+
+  number-case : (n : ℕ) {o : Outcome (List ℕ)} → WriteCase o → o ≡ refused n → OneOf n (LONG ∷ TUNNEL ∷ IDENT ∷ LABEL ∷ SPACE ∷ [])
+  number-case n (tooLong h) e = let q : LONG ≡ n = cc in subst (λ (m : ℕ). OneOf m (LONG ∷ TUNNEL ∷ IDENT ∷ LABEL ∷ SPACE ∷ [])) q here
+  number-case n (unknownType h u) e = let q : TUNNEL ≡ n = cc in subst (λ (m : ℕ). OneOf m (LONG ∷ TUNNEL ∷ IDENT ∷ LABEL ∷ SPACE ∷ [])) q (there here)
+  number-case n (badIdentifier h form t p) e = let q : IDENT ≡ n = cc in subst (λ (m : ℕ). OneOf m (LONG ∷ TUNNEL ∷ IDENT ∷ LABEL ∷ SPACE ∷ [])) q (there (there here))
+  number-case n (badLabel k l) e = let q : LABEL ≡ n = cc in subst (λ (m : ℕ). OneOf m (LONG ∷ TUNNEL ∷ IDENT ∷ LABEL ∷ SPACE ∷ [])) q (there (there (there here)))
+  number-case n (noSpace k l r) e = let q : SPACE ≡ n = cc in subst (λ (m : ℕ). OneOf m (LONG ∷ TUNNEL ∷ IDENT ∷ LABEL ∷ SPACE ∷ [])) q (there (there (there (there here))))
+  number-case n (fine k l r) e = absurd (let z : _≡_ {A = ℕ} 0 1 = cc in omega arith)
+
+  -- and what answers follow
+  of-type-written : length (f .identifier) ≤ 59 → OfType (f .tunnelType) (f .identifier) → writeAttribute f space ≡ fieldsWritten f space
+  unfolding andThen
+  of-type-written h o = write-judged f space h ∙ rw (of-type-judged o)
+
+  tunnel-refused : length (f .identifier) ≤ 59 → Unknown (f .tunnelType) → writeAttribute f space ≡ refused TUNNEL
+  unfolding andThen
+  tunnel-refused h u = write-judged f space h ∙ rw (judged-unknown (f .tunnelType) (f .identifier) (row-unknown (f .tunnelType) u))
+
+  ident-refused : OctetFields f → (length (f .identifier) ≤ 59) × Known (f .tunnelType) × (OfType (f .tunnelType) (f .identifier) → ⊥) → writeAttribute f space ≡ refused IDENT
+  unfolding andThen
+  ident-refused o k =
+      let form = k .1 .form in
+      let e = k .1 .inTable in
+      tested (fits form (f .identifier))
+      (λ p. absurd (k .2 (of-type (f .tunnelType) (f .identifier) form (o .identifierOctets) e p)))
+      (λ p. write-judged f space (k .0) ∙ rw (judged-known (f .tunnelType) (f .identifier) form e, pick-else (fits form (f .identifier)) (given (f .identifier)) (refused IDENT) p))
+
+  label-refused : Writable f → 16777215 < f .labelField → writeAttribute f space ≡ refused LABEL
+  unfolding fieldsWritten pick
+  label-refused w l = of-type-written (w .most) (w .ofType) ∙ rw (lt-ltb 16777215 (f .labelField) l)
+
+  space-refused : Writable f → f .labelField ≤ 16777215 → space < length (encodeAttribute f) → writeAttribute f space ≡ refused SPACE
+  unfolding fieldsWritten pick
+  space-refused w l r = of-type-written (w .most) (w .ofType) ∙ rw (le-ltb 16777215 (f .labelField) l, lt-ltb space (length (encodeAttribute f)) r)
+
+  pub well-formed-written : WellFormedAttribute f → length (encodeAttribute f) ≤ space → writeAttribute f space ≡ given (encodeAttribute f)
+  unfolding fieldsWritten pick
+  well-formed-written w r = of-type-written (w .identifierSize) (w .ofType) ∙ rw (le-ltb 16777215 (f .labelField) (omega (arith, w .labelFits)), le-ltb space (length (encodeAttribute f)) r)
+
+pub writing : WritingStatement
+unfolding numberOf
+writing =
+    record {
+      encoded = λ f space e o. (encoded-case f space o e (write-case f space), λ p. rw (p .2) (well-formed-written f space (p .0) (p .1)));
+      long = λ f space. (λ e. long-case f space (write-case f space) (ap numberOf e), write-long f space);
+      tunnel = λ f space. (λ e. tunnel-case f space (write-case f space) (ap numberOf e), λ p. tunnel-refused f space (p .0) (p .1));
+      ident = λ f space o. (λ e. ident-case f space (write-case f space) (ap numberOf e), ident-refused f space o);
+      label = λ f space o. (λ e. label-case f space o (write-case f space) (ap numberOf e), λ p. label-refused f space (p .0) (p .1));
+      space = λ f space o. (λ e. space-case f space o (write-case f space) (ap numberOf e), λ p. space-refused f space (p .0) (p .1) (p .2));
+      numbers = λ f space n. number-case f space n (write-case f space);
+    }
