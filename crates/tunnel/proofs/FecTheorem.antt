@@ -1,24 +1,23 @@
 -- A FEC is read exactly when it is the encoding of a well-formed one.
-use Prim.Native.Nat.{ℕ, zero, suc, _+_, _-_, _^_, _≤_, _<_}
+use Prim.Native.Nat.{ℕ, _+_, _^_, _≤_, _<_}
 use mathlib.Core.Path.{_≡_, refl, sym, ap, subst, _∙_}
-use mathlib.Core.Logic.{_↔_}
-use mathlib.Core.Bool.{Bool, true, false}
+use mathlib.Core.Bool.{true, false}
 use mathlib.Core.List.{List, [], _∷_, _++_}
 use native.Mathlib.Omega.{arith}
-use lib.Dec.{ltb, eqb}
-use lib.ListN.{length, getD, take, drop, length-append, length-take, length-drop, take-append-drop}
+use lib.Dec.{eqb}
+use lib.ListN.{length, getD, take, drop, length-append, length-drop, take-append-drop}
 use lib.Seq.{length-take-le, drop-drop, take-append-seam, drop-append-seam, drop-append-add, take-at, drop-at}
 use borrow.Author.Tests.{eqb-true, eq-eqb, le-ltb}
 use Rattle.octets.specs.Choice.{pick}
 use Rattle.octets.specs.Numbers.{IDENT}
-use Rattle.octets.specs.Outcome.{Outcome, given, refused}
+use Rattle.octets.specs.Outcome.{given, refused}
 use Rattle.octets.specs.Octets.{AllOctets, part, numberIn, bigEndian}
 use Rattle.octets.proofs.Picked.{tested, pick-then, pick-else, was-given, pick-held}
 use Rattle.octets.proofs.AllOctets.{octet-at, octets-take, octets-drop, number-fits}
 use Rattle.octets.proofs.NetworkOrder.{big-endian-length, number-of-big-endian, big-endian-of-number}
 use Rattle.tunnel.specs.Fec.{FecFields, encodeFec, Suits, ipv4, ipv6, WellFormedFec, familySuits, endsAt, wholeFec, fecIn, readFec}
 use Rattle.tunnel.specs.Statements.{FecStatement}
-use Rattle.tunnel.proofs.Laws.{Tested, fec-tested, root-length, opaque-length}
+use Rattle.tunnel.proofs.Laws.{fec-tested, root-length}
 
 -- the two forms of a family's address size
 suits-of : (family size : ℕ) → familySuits family size ≡ true → Suits family size

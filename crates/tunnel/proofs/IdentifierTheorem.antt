@@ -1,22 +1,21 @@
 -- Judging an identifier finds exactly the identifiers of the tunnel type's form.
-use Prim.Native.Nat.{ℕ, zero, suc, _≤_, _<_}
-use mathlib.Core.Path.{_≡_, refl, sym, ap, subst, _∙_}
-use mathlib.Core.Logic.{_↔_}
+use Prim.Native.Nat.{ℕ, _<_}
+use mathlib.Core.Path.{_≡_, refl, sym, subst, _∙_}
 use mathlib.Core.Bool.{Bool, true, false}
 use mathlib.Core.List.{List, [], _∷_}
 use native.Mathlib.Omega.{arith}
 use lib.Dec.{eqb}
 use lib.ListN.{length, getD}
 use borrow.Author.Tests.{eqb-true, eqb-false, eq-eqb, ne-eqb}
-use Rattle.octets.specs.Choice.{pick, both, either}
+use Rattle.octets.specs.Choice.{pick, either}
 use Rattle.octets.specs.Numbers.{TUNNEL, IDENT}
 use Rattle.octets.specs.Outcome.{Outcome, given, refused, andThen}
 use Rattle.octets.specs.Octets.{AllOctets}
 use Rattle.octets.proofs.Tests.{both-true, either-left}
-use Rattle.octets.proofs.Picked.{tested, pick-then, pick-else, both-held, was-given}
-use Rattle.tunnel.specs.Fec.{FecFields, encodeFec, WellFormedFec, wholeFec, fecIn}
+use Rattle.octets.proofs.Picked.{tested, pick-then, pick-else, both-held}
+use Rattle.tunnel.specs.Fec.{encodeFec, wholeFec, fecIn}
 use Rattle.tunnel.specs.Identifier.{Form, sizes, fec, Row, table, formIn, formOf, OneOf, here, there, Identifier, sized, encoded, OfType, oneOf, fits, judged}
-use Rattle.tunnel.specs.Statements.{Unknown, Known}
+use Rattle.tunnel.specs.Statements.{Unknown}
 use Rattle.tunnel.proofs.FecTheorem.{fec-whole, encoded-whole, encoding-type}
 
 -- one of a list, computed

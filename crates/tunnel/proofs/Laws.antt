@@ -2,18 +2,18 @@
 use Prim.Native.Nat.{ℕ, _+_, _-_, _/_, _%_, _≤_, _<_}
 use mathlib.Core.Path.{_≡_, refl, sym, ap₂, _∙_}
 use mathlib.Core.Bool.{Bool, true, false}
-use mathlib.Core.List.{List, [], _∷_, _++_}
+use mathlib.Core.List.{List, [], _∷_}
 use native.Mathlib.Omega.{arith}
 use lib.Dec.{ltb, eqb}
 use lib.ListN.{length, getD, take, drop, length-append, length-drop}
 use lib.Seq.{length-take-le}
-use borrow.Author.Tests.{ltb-true, ltb-false, eqb-true, eqb-false, eq-eqb, ne-eqb, le-ltb, lt-ltb}
-use Rattle.octets.specs.Choice.{pick, both}
+use borrow.Author.Tests.{ltb-false, eqb-true, eq-eqb, ne-eqb, le-ltb, lt-ltb}
+use Rattle.octets.specs.Choice.{pick}
 use Rattle.octets.specs.Numbers.{DONE, SHORT, LONG, IDENT, LABEL, SPACE}
 use Rattle.octets.specs.Outcome.{Outcome, given, refused, andThen, onOutcome, numberOf}
-use Rattle.octets.specs.Octets.{part, numberIn, bigEndian, front, placed}
+use Rattle.octets.specs.Octets.{part, numberIn, front}
 use Rattle.octets.proofs.Tests.{tests}
-use Rattle.octets.proofs.Picked.{tested, pick-then, pick-else, pick-passed, pick-held, both-held, was-given}
+use Rattle.octets.proofs.Picked.{pick-then, pick-else, pick-passed, pick-held, both-held, was-given}
 use Rattle.octets.proofs.NetworkOrder.{big-endian-length}
 use Rattle.octets.specs.declared.Written.{Written}
 use Rattle.tunnel.specs.declared.fec.Fec.{Fec}

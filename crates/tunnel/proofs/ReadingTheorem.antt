@@ -1,14 +1,12 @@
 -- Reading accepts exactly the encodings of well-formed fields, and refuses the rest by document 01's numbers.
-use Prim.Native.Nat.{ℕ, _+_, _^_, _≤_, _<_}
+use Prim.Native.Nat.{ℕ, _≤_, _<_}
 use mathlib.Core.Path.{_≡_, refl, sym, ap, subst, _∙_}
-use mathlib.Core.Logic.{_↔_}
-use mathlib.Core.Bool.{Bool, true, false}
+use mathlib.Core.Bool.{true, false}
 use mathlib.Core.List.{List, [], _∷_, _++_}
 use native.Mathlib.Omega.{arith}
 use lib.Dec.{ltb}
 use lib.ListN.{length, getD, drop, length-drop}
-use borrow.Author.Tests.{ltb-true, ltb-false, le-ltb, lt-ltb}
-use Rattle.octets.specs.Choice.{pick}
+use borrow.Author.Tests.{ltb-true, ltb-false}
 use Rattle.octets.specs.Numbers.{SHORT, TUNNEL, IDENT, LONG}
 use Rattle.octets.specs.Outcome.{Outcome, given, refused, andThen, numberOf}
 use Rattle.octets.specs.Octets.{AllOctets, part, numberIn, bigEndian}

@@ -1,21 +1,20 @@
 -- The statements of `specs/Statements.antt`, proved. Those on reading, writing and FECs have a file each.
-use Prim.Native.Nat.{ℕ, _+_, _≤_}
-use mathlib.Core.Path.{_≡_, refl, sym, ap, subst, _∙_}
+use Prim.Native.Nat.{ℕ, _+_}
+use mathlib.Core.Path.{_≡_, sym, ap, subst, _∙_}
 use mathlib.Core.Bool.{true}
 use mathlib.Core.List.{List}
 use native.Mathlib.Omega.{arith}
-use lib.ListN.{length, getD, take, drop, length-drop}
+use lib.ListN.{length, getD, drop}
 use lib.Seq.{take-length, drop-drop}
-use Rattle.octets.specs.Choice.{pick}
 use Rattle.octets.specs.Numbers.{IDENT}
-use Rattle.octets.specs.Outcome.{Outcome, given, refused, andThen}
-use Rattle.octets.specs.Octets.{AllOctets, part}
+use Rattle.octets.specs.Outcome.{Outcome, given, refused}
+use Rattle.octets.specs.Octets.{part}
 use Rattle.octets.proofs.Picked.{pick-then, was-given, both-held}
 use Rattle.tunnel.specs.Fec.{FecFields, wholeFec, fecIn, readFec}
 use Rattle.tunnel.specs.Identifier.{Form, fec, formOf, oneOf, fits}
-use Rattle.tunnel.specs.Attribute.{Fields, encodeAttribute, fieldsIn, readAttribute, writeAttribute}
-use Rattle.tunnel.specs.Statements.{Sized, OctetFields, ReadingStatement, WritingStatement, RoundTripStatement, FecStatement, SpansStatement}
-use Rattle.tunnel.proofs.Laws.{root-length, opaque-length, fec-long}
+use Rattle.tunnel.specs.Attribute.{Fields, fieldsIn}
+use Rattle.tunnel.specs.Statements.{ReadingStatement, WritingStatement, RoundTripStatement, FecStatement, SpansStatement}
+use Rattle.tunnel.proofs.Laws.{root-length}
 use Rattle.tunnel.proofs.FecTheorem.{fec-read}
 use Rattle.tunnel.proofs.ReadingTheorem.{reading, ReadCase, tooLong, tooShort, unknownType, badIdentifier, fine, read-case, encoding-read}
 use Rattle.tunnel.proofs.WritingTheorem.{writing, well-formed-written}

@@ -1,9 +1,8 @@
 -- Writing gives the encoding exactly of well-formed fields that it has room for, and refuses the rest by document 01's numbers.
-use Prim.Native.Nat.{ℕ, _+_, _^_, _≤_, _<_}
-use mathlib.Core.Path.{_≡_, refl, sym, ap, subst, _∙_}
-use mathlib.Core.Logic.{_↔_}
-use mathlib.Core.Bool.{Bool, true, false}
-use mathlib.Core.List.{List, [], _∷_, _++_}
+use Prim.Native.Nat.{ℕ, _≤_, _<_}
+use mathlib.Core.Path.{_≡_, sym, ap, subst, _∙_}
+use mathlib.Core.Bool.{true, false}
+use mathlib.Core.List.{List, [], _∷_}
 use native.Mathlib.Omega.{arith}
 use lib.Dec.{ltb}
 use lib.ListN.{length}
@@ -12,7 +11,7 @@ use Rattle.octets.specs.Choice.{pick}
 use Rattle.octets.specs.Numbers.{TUNNEL, IDENT, LONG, LABEL, SPACE}
 use Rattle.octets.specs.Outcome.{Outcome, given, refused, andThen, numberOf}
 use Rattle.octets.proofs.Picked.{tested, pick-then, pick-else}
-use Rattle.tunnel.specs.Identifier.{Form, formOf, OneOf, here, there, OfType, fits, judged}
+use Rattle.tunnel.specs.Identifier.{Form, formOf, OneOf, here, there, OfType, fits}
 use Rattle.tunnel.specs.Attribute.{Fields, WellFormedAttribute, encodeAttribute, writeAttribute}
 use Rattle.tunnel.specs.Statements.{Unknown, Known, OctetFields, Writable, WritingStatement}
 use Rattle.tunnel.proofs.Laws.{write-long, write-judged, fieldsWritten}

@@ -1,11 +1,11 @@
 -- What is claimed of the definitions; `proofs/Theorems.antt` proves it.
-use Prim.Native.Nat.{ℕ, _+_, _^_, _<_, _≤_}
+use Prim.Native.Nat.{ℕ, _+_, _<_, _≤_}
 use mathlib.Core.Path.{_≡_}
 use mathlib.Core.Logic.{_↔_}
 use mathlib.Core.List.{List, [], _∷_}
 use lib.ListN.{length, getD, drop}
 use Rattle.octets.specs.Numbers.{SHORT, TUNNEL, IDENT, LONG, LABEL, SPACE}
-use Rattle.octets.specs.Outcome.{Outcome, given, refused}
+use Rattle.octets.specs.Outcome.{given, refused}
 use Rattle.octets.specs.Octets.{AllOctets, part}
 use Rattle.tunnel.specs.Fec.{FecFields, WellFormedFec, encodeFec, fecIn, readFec}
 use Rattle.tunnel.specs.Identifier.{Form, fec, formOf, OneOf, OfType}

@@ -7,9 +7,7 @@ use crate::tunnel_type::TunnelType;
 use octets::number;
 
 // The sizes of identifiers.
-struct Size {
-    octets: usize,
-}
+struct Size {}
 
 impl Size {
     const NONE: usize = 0;
@@ -30,9 +28,7 @@ impl Size {
 }
 
 // The types of FECs.
-struct FecType {
-    code: u8,
-}
+struct FecType {}
 
 impl FecType {
     const P2MP: u8 = 6;

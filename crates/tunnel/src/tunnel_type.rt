@@ -1,7 +1,5 @@
 // The tunnel types (RFC 6514, section 5; RFC 8556, section 2).
-pub struct TunnelType {
-    pub code: u8,
-}
+pub struct TunnelType {}
 
 impl TunnelType {
     pub const NONE: u8 = 0;

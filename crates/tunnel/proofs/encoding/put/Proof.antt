@@ -1,6 +1,5 @@
 -- `tunnel::encoding::put` meets its contract: the identifier stands straight after the header.
 use denote.Ref.{now}
-use Prim.Native.Nat.{_+_}
 use mathlib.Core.Path.{_≡_, refl, sym, _∙_}
 use mathlib.Core.List.{_∷_}
 use lib.ListN.{length}

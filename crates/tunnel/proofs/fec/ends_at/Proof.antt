@@ -1,10 +1,5 @@
 -- `tunnel::fec::ends_at` meets its contract.
 use Rattle.octets.proofs.Tests.{tests}
-use mathlib.Core.Path.{ap}
-use Prim.Native.Nat.{ℕ, _+_}
-use lib.Dec.{eqb}
-use lib.ListN.{length}
-use denote.Ref.{now}
 use Rattle.tunnel.specs.Fec.{endsAt}
 use borrow.Author.Needs.{needs}
 use Rattle.tunnel.proofs.fec.ends_at.Statement.{statement}
