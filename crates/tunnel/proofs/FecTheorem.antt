@@ -1,25 +1,25 @@
 -- A FEC is read exactly when it is the encoding of a well-formed one.
-use Prim.Native.Nat.{ℕ, _+_, _^_, _≤_, _<_}
+use Prim.Native.Nat.{ℕ, _+_, _≤_, _<_}
 use mathlib.Core.Path.{_≡_, refl, sym, ap, subst, _∙_}
 use mathlib.Core.Bool.{true, false}
 use mathlib.Core.List.{List, [], _∷_, _++_}
 use native.Mathlib.Omega.{arith}
 use lib.Dec.{eqb}
 use lib.ListN.{length, getD, take, drop, length-append, length-drop, take-append-drop}
-use lib.Seq.{length-take-le, drop-drop, take-append-seam, drop-append-seam, drop-append-add, take-at, drop-at}
+use lib.Seq.{drop-drop, take-append-seam, drop-append-seam, drop-append-add, take-at, drop-at}
 use borrow.Author.Tests.{eqb-true, eq-eqb, le-ltb}
 use Rattle.octets.specs.Choice.{pick}
 use Rattle.octets.specs.Numbers.{IDENT}
 use Rattle.octets.specs.Outcome.{given, refused}
 use Rattle.octets.specs.Octets.{AllOctets, part, numberIn, bigEndian}
 use Rattle.octets.proofs.Picked.{tested, pick-then, pick-else, was-given, pick-held}
-use Rattle.octets.proofs.AllOctets.{octet-at, octets-take, octets-drop, number-fits}
-use Rattle.octets.proofs.NetworkOrder.{big-endian-length, number-of-big-endian, big-endian-of-number}
+use Rattle.octets.proofs.AllOctets.{octet-at, octets-take, octets-drop}
+use Rattle.octets.proofs.NetworkOrder.{big-endian-length, number-of-big-endian, part-number, part-fits}
 use Rattle.tunnel.specs.Fec.{FecFields, encodeFec, Suits, ipv4, ipv6, WellFormedFec, familySuits, endsAt, wholeFec, fecIn, readFec}
 use Rattle.tunnel.specs.Statements.{FecStatement}
 use Rattle.tunnel.proofs.Laws.{fec-tested, root-length}
 
--- the two forms of a family's address size
+-- a family's address size, computed
 suits-of : (family size : ℕ) → familySuits family size ≡ true → Suits family size
 unfolding familySuits
 suits-of family size h =
@@ -39,20 +39,7 @@ suits-small : {family size : ℕ} → Suits family size → family < 65536
 suits-small ipv4 = omega arith
 suits-small ipv6 = omega arith
 
--- number and octets of a part
-pub part-number : {s : List ℕ} → AllOctets s → (at n : ℕ) → at + n ≤ length s → bigEndian n (numberIn (part s at n) 0) ≡ part s at n
-unfolding part
-part-number {s} a at n h =
-    let l : length (take n (drop at s)) ≡ n = length-take-le n (drop at s) (simp length-drop (omega arith)) in
-    rw l at (big-endian-of-number (octets-take n (octets-drop at a)))
-
-pub part-fits : {s : List ℕ} → AllOctets s → (at n : ℕ) → at + n ≤ length s → numberIn (part s at n) 0 < 256 ^ n
-unfolding part
-part-fits {s} a at n h =
-    let l : length (take n (drop at s)) ≡ n = length-take-le n (drop at s) (simp length-drop (omega arith)) in
-    rw l at (number-fits (octets-take n (octets-drop at a)))
-
--- a list is its parts
+-- a FEC is its parts
 header-parts : (i : List ℕ) → 4 ≤ length i → i ≡ getD i 0 0 ∷ (part i 1 2 ++ (getD i 3 0 ∷ drop 4 i))
 unfolding part
 header-parts [] h = absurd (omega arith)

@@ -19,7 +19,7 @@ use Rattle.octets.specs.declared.Written.{Written}
 use Rattle.tunnel.specs.declared.fec.Fec.{Fec}
 use Rattle.tunnel.specs.declared.Attribute.{Attribute}
 use Rattle.tunnel.specs.Fec.{familySuits, endsAt, wholeFec, fecIn}
-use Rattle.tunnel.specs.Identifier.{Form, sizes, fec, Row, table, formIn, formOf, fits, oneOf, judged}
+use Rattle.tunnel.specs.Identifier.{IdentifierForm, sizes, fecTypes, TableRow, table, formIn, formOf, fits, oneOf, judged}
 use Rattle.tunnel.specs.Attribute.{Fields, labelOf, leafInformationRequired, fieldsIn, encodeAttribute, readAttribute, writeAttribute}
 use Rattle.tunnel.specs.Answers.{fecSpans, noFec, fecOfForm, fecOf, attributeOf, readAnswer, writtenOf, outputOf}
 use Rattle.tunnel.specs.Inner.{formFault, faultIn, faultOf}
@@ -42,13 +42,13 @@ unfolding wholeFec pick
 whole-no i family suits h p q t = rw (le-ltb (length i) 4 h, ← p, ← q, t)
 
 -- the tests that a FEC passes
-pub record Tested (i : List ℕ) : Type 0 where
+pub record FecTests (i : List ℕ) : Type 0 where
   pub header : 4 ≤ length i
   pub family : familySuits (numberIn (part i 1 2) 0) (getD i 3 0) ≡ true
   pub lengths : getD i 3 0 + 2 ≤ length (drop 4 i)
   pub end : getD i 3 0 + 2 + numberIn (part (drop 4 i) (getD i 3 0) 2) 0 ≡ length (drop 4 i)
 
-pub fec-tested : (i : List ℕ) → wholeFec i ≡ true → Tested i
+pub fec-tested : (i : List ℕ) → wholeFec i ≡ true → FecTests i
 unfolding wholeFec endsAt
 fec-tested i h =
     let size = getD i 3 0 in
@@ -74,7 +74,7 @@ pub opaque-length : (i : List ℕ) → wholeFec i ≡ true → length (drop (get
 opaque-length i h = let t = fec-tested i h in simp length-drop (omega (arith, length-drop 4 i))
 
 -- the number of an identifier's first fault is what judging it comes to
-judgedBy : Form → List ℕ → Outcome (List ℕ)
+judgedBy : IdentifierForm → List ℕ → Outcome (List ℕ)
 judgedBy form i = pick (fits form i) (given i) (refused IDENT)
 
 asOutcome : ℕ → List ℕ → Outcome (List ℕ)
@@ -85,13 +85,13 @@ unfolding asOutcome pick
 fits-step true i = refl
 fits-step false i = refl
 
-row-step : (b : Bool) (form : Form) (rest : Outcome Form) (n : ℕ) (i : List ℕ) → andThen rest (λ f. judgedBy f i) ≡ asOutcome n i
+row-step : (b : Bool) (form : IdentifierForm) (rest : Outcome IdentifierForm) (n : ℕ) (i : List ℕ) → andThen rest (λ f. judgedBy f i) ≡ asOutcome n i
     → andThen (pick b (given form) rest) (λ f. judgedBy f i) ≡ asOutcome (pick b (formFault form i) n) i
 unfolding judgedBy formFault andThen pick
 row-step true form rest n i h = fits-step (fits form i) i
 row-step false form rest n i h = h
 
-rows-judged : (rows : List Row) (t : ℕ) (i : List ℕ) → andThen (formIn rows t) (λ f. judgedBy f i) ≡ asOutcome (faultIn rows t i) i
+rows-judged : (rows : List TableRow) (t : ℕ) (i : List ℕ) → andThen (formIn rows t) (λ f. judgedBy f i) ≡ asOutcome (faultIn rows t i) i
 unfolding formIn faultIn andThen asOutcome pick
 rows-judged [] t i = refl
 rows-judged (r ∷ rs) t i = row-step (eqb t (r .tunnelType)) (r .form) (formIn rs t) (faultIn rs t i) i (rows-judged rs t i)
@@ -105,20 +105,20 @@ unfolding judged judgedBy formOf faultOf asOutcome
 judged-fine t i e = rows-judged table t i ∙ pick-then (eqb (faultOf t i) 0) (given i) (refused (faultOf t i)) (eq-eqb (faultOf t i) 0 e)
 
 -- the rows of the mLDP tunnel types
-pub p2mp-row : (t : ℕ) → t ≡ 2 → formOf t ≡ given (fec (6 ∷ []))
+pub p2mp-row : (t : ℕ) → t ≡ 2 → formOf t ≡ given (fecTypes (6 ∷ []))
 unfolding formOf formIn table pick
 p2mp-row t e = rw e
 
-pub mp2mp-row : (t : ℕ) → t ≡ 7 → formOf t ≡ given (fec (7 ∷ 8 ∷ []))
+pub mp2mp-row : (t : ℕ) → t ≡ 7 → formOf t ≡ given (fecTypes (7 ∷ 8 ∷ []))
 unfolding formOf formIn table pick
 mp2mp-row t e = rw e
 
 -- where a row's form is a FEC, an identifier without a fault is one
-pub fec-without-fault : (t : ℕ) (i ns : List ℕ) → formOf t ≡ given (fec ns) → faultOf t i ≡ 0 → wholeFec i ≡ true
+pub fec-without-fault : (t : ℕ) (i ns : List ℕ) → formOf t ≡ given (fecTypes ns) → faultOf t i ≡ 0 → wholeFec i ≡ true
 unfolding judged andThen fits
 fec-without-fault t i ns e h =
-    let j : pick (fits (fec ns) i) (given i) (refused IDENT) ≡ given i = rw e at (judged-fine t i h) in
-    both-held (wholeFec i) (oneOf (getD i 0 0) ns) (was-given (fits (fec ns) i) i i IDENT j .0) .0
+    let j : pick (fits (fecTypes ns) i) (given i) (refused IDENT) ≡ given i = rw e at (judged-fine t i h) in
+    both-held (wholeFec i) (oneOf (getD i 0 0) ns) (was-given (fits (fecTypes ns) i) i i IDENT j .0) .0
 
 -- a FEC's spans, from its length octet and the identifier's length
 pub fec-span : (i : List ℕ) (family : ℕ) → wholeFec i ≡ true → family ≡ numberIn (part i 1 2) 0
@@ -134,19 +134,19 @@ unfolding fecSpans fecIn
 fec-span i family h e = rw (root-length i h, opaque-length i h, e)
 
 -- the FEC of a tunnel type, by its row
-pub fec-by-row : (s rest ns : List ℕ) (r : Fec) → formOf (getD s 1 0) ≡ given (fec ns) → rest ≡ drop 5 s → r ≡ fecSpans (fecIn rest) → r ≡ fecOf (fieldsIn s)
+pub fec-by-row : (s rest ns : List ℕ) (r : Fec) → formOf (getD s 1 0) ≡ given (fecTypes ns) → rest ≡ drop 5 s → r ≡ fecSpans (fecIn rest) → r ≡ fecOf (fieldsIn s)
 unfolding fecOf fecOfForm fieldsIn onOutcome
 fec-by-row s rest ns r t k e = rw (t, ← k) e
 
-fecFrom : List ℕ → Outcome Form → Fec
+fecFrom : List ℕ → Outcome IdentifierForm → Fec
 fecFrom i o = onOutcome (λ _. noFec) (λ form. fecOfForm form i) o
 
-sized-row : (b : Bool) (ns i : List ℕ) (rest : Outcome Form) → noFec ≡ fecFrom i rest → noFec ≡ fecFrom i (pick b (given (sizes ns)) rest)
+sized-row : (b : Bool) (ns i : List ℕ) (rest : Outcome IdentifierForm) → noFec ≡ fecFrom i rest → noFec ≡ fecFrom i (pick b (given (sizes ns)) rest)
 unfolding fecFrom fecOfForm onOutcome pick
 sized-row true ns i rest h = refl
 sized-row false ns i rest h = h
 
-fec-row : (b : Bool) (ns i : List ℕ) (rest : Outcome Form) → b ≡ false → noFec ≡ fecFrom i rest → noFec ≡ fecFrom i (pick b (given (fec ns)) rest)
+fec-row : (b : Bool) (ns i : List ℕ) (rest : Outcome IdentifierForm) → b ≡ false → noFec ≡ fecFrom i rest → noFec ≡ fecFrom i (pick b (given (fecTypes ns)) rest)
 unfolding pick
 fec-row b ns i rest p h = rw p h
 
@@ -215,46 +215,46 @@ attribute-length f = simp (length-append, big-endian-length) (omega arith)
 
 -- past LONG, TUNNEL and IDENT
 unfoldable pub fieldsWritten : Fields → ℕ → Outcome (List ℕ)
-fieldsWritten f space = pick (ltb 16777215 (f .labelField)) (refused LABEL) (pick (ltb space (length (encodeAttribute f))) (refused SPACE) (given (encodeAttribute f)))
+fieldsWritten f capacity = pick (ltb 16777215 (f .labelField)) (refused LABEL) (pick (ltb capacity (length (encodeAttribute f))) (refused SPACE) (given (encodeAttribute f)))
 
-abbrev written : ℕ → ℕ → Written
-written n s = record { number = n; size = s }
+abbrev writtenAs : ℕ → ℕ → Written
+writtenAs n s = record { number = n; size = s }
 
-module _ (f : Fields) (space : ℕ) where
-  pub write-long : 59 < length (f .identifier) → writeAttribute f space ≡ refused LONG
+module _ (f : Fields) (capacity : ℕ) where
+  pub write-long : 59 < length (f .identifier) → writeAttribute f capacity ≡ refused LONG
   unfolding writeAttribute pick
   write-long h = rw (lt-ltb 59 (length (f .identifier)) h)
 
-  pub write-judged : length (f .identifier) ≤ 59 → writeAttribute f space ≡ andThen (judged (f .tunnelType) (f .identifier)) (λ _. fieldsWritten f space)
+  pub write-judged : length (f .identifier) ≤ 59 → writeAttribute f capacity ≡ andThen (judged (f .tunnelType) (f .identifier)) (λ _. fieldsWritten f capacity)
   unfolding writeAttribute fieldsWritten pick
   write-judged h = rw (le-ltb 59 (length (f .identifier)) h)
 
-  pub write-faulty : length (f .identifier) ≤ 59 → (n : ℕ) → n ≡ faultOf (f .tunnelType) (f .identifier) → (n ≡ 0 → ⊥) → writeAttribute f space ≡ refused n
+  pub write-faulty : length (f .identifier) ≤ 59 → (n : ℕ) → n ≡ faultOf (f .tunnelType) (f .identifier) → (n ≡ 0 → ⊥) → writeAttribute f capacity ≡ refused n
   unfolding andThen
   write-faulty h n e d = write-judged h ∙ rw (judged-faulty (f .tunnelType) (f .identifier) n e d)
 
   module _ (h : length (f .identifier) ≤ 59) (n : ℕ) (e : n ≡ faultOf (f .tunnelType) (f .identifier)) (z : n ≡ 0) where
-    judged-here : writeAttribute f space ≡ fieldsWritten f space
+    judged-here : writeAttribute f capacity ≡ fieldsWritten f capacity
     unfolding andThen
     judged-here = write-judged h ∙ rw (judged-fine (f .tunnelType) (f .identifier) (sym e ∙ z))
 
-    pub write-label : 16777215 < f .labelField → writeAttribute f space ≡ refused LABEL
+    pub write-label : 16777215 < f .labelField → writeAttribute f capacity ≡ refused LABEL
     unfolding fieldsWritten pick
     write-label l = judged-here ∙ rw (lt-ltb 16777215 (f .labelField) l)
 
-    pub write-space : f .labelField ≤ 16777215 → space < 5 + length (f .identifier) → writeAttribute f space ≡ refused SPACE
+    pub write-space : f .labelField ≤ 16777215 → capacity < 5 + length (f .identifier) → writeAttribute f capacity ≡ refused SPACE
     unfolding fieldsWritten pick
-    write-space l k = judged-here ∙ rw (le-ltb 16777215 (f .labelField) l, lt-ltb space (length (encodeAttribute f)) (rw (attribute-length f) k))
+    write-space l k = judged-here ∙ rw (le-ltb 16777215 (f .labelField) l, lt-ltb capacity (length (encodeAttribute f)) (rw (attribute-length f) k))
 
-    pub write-fine : f .labelField ≤ 16777215 → 5 + length (f .identifier) ≤ space → writeAttribute f space ≡ given (encodeAttribute f)
+    pub write-fine : f .labelField ≤ 16777215 → 5 + length (f .identifier) ≤ capacity → writeAttribute f capacity ≡ given (encodeAttribute f)
     unfolding fieldsWritten pick
-    write-fine l k = judged-here ∙ rw (le-ltb 16777215 (f .labelField) l, le-ltb space (length (encodeAttribute f)) (rw (attribute-length f) k))
+    write-fine l k = judged-here ∙ rw (le-ltb 16777215 (f .labelField) l, le-ltb capacity (length (encodeAttribute f)) (rw (attribute-length f) k))
 
 pub refusal-wrote : (o : Outcome (List ℕ)) (n : ℕ) (w : Written) (d : List ℕ) → o ≡ refused n → (w .number ≡ n) × (w .size ≡ 0) → (w ≡ writtenOf o) × (d ≡ outputOf o d)
 unfolding writtenOf outputOf onOutcome numberOf
-refusal-wrote o n w d e p = (rw e (ap₂ written (p .0) (p .1)), rw e)
+refusal-wrote o n w d e p = (rw e (ap₂ writtenAs (p .0) (p .1)), rw e)
 
 pub encoding-wrote : (o : Outcome (List ℕ)) (f : Fields) (w : Written) (d x : List ℕ) → o ≡ given (encodeAttribute f)
     → (w .number ≡ 0) × (w .size ≡ 5 + length (f .identifier)) × (x ≡ front (encodeAttribute f) d) → (w ≡ writtenOf o) × (x ≡ outputOf o d)
 unfolding writtenOf outputOf onOutcome numberOf
-encoding-wrote o f w d x e p = (rw e (ap₂ written (p .0) (p .1 ∙ sym (attribute-length f))), rw e (p .2))
+encoding-wrote o f w d x e p = (rw e (ap₂ writtenAs (p .0) (p .1 ∙ sym (attribute-length f))), rw e (p .2))

@@ -12,23 +12,22 @@ use Rattle.octets.specs.Outcome.{Outcome, given, refused, andThen, numberOf}
 use Rattle.octets.specs.Octets.{AllOctets, part, numberIn, bigEndian}
 use Rattle.octets.proofs.Picked.{tested}
 use Rattle.octets.proofs.AllOctets.{octet-at, octets-drop}
-use Rattle.octets.proofs.NetworkOrder.{number-of-big-endian}
-use Rattle.tunnel.specs.Identifier.{Form, formOf, OneOf, here, there, OfType, fits, judged}
+use Rattle.octets.proofs.NetworkOrder.{number-of-big-endian, part-number, part-fits}
+use Rattle.tunnel.specs.Identifier.{IdentifierForm, formOf, Among, here, there, OfType, fits, judged}
 use Rattle.tunnel.specs.Attribute.{Fields, WellFormedAttribute, encodeAttribute, fieldsIn, readAttribute}
-use Rattle.tunnel.specs.Statements.{Unknown, Known, Sized, ReadingStatement}
+use Rattle.tunnel.specs.Statements.{Unknown, Known, ReadableSize, ReadingStatement}
 use Rattle.tunnel.proofs.Laws.{attribute-length, read-long, read-short, read-judged}
-use Rattle.tunnel.proofs.FecTheorem.{part-number, part-fits}
-use Rattle.tunnel.proofs.IdentifierTheorem.{Judged, noRow, noFit, fit, judged-is, of-type, of-type-judged, not-of-type, unknown-row, row-unknown}
+use Rattle.tunnel.proofs.IdentifierTheorem.{JudgedCase, noRow, noFit, fit, judged-is, of-type, of-type-judged, not-of-type, refused-among, unknown-row, row-unknown}
 
 -- the cases of reading, each with its answer
 pub data ReadCase (s : List ℕ) : Outcome Fields → Type 0 where
   tooLong : 64 < length s → ReadCase s (refused LONG)
   tooShort : length s < 5 → ReadCase s (refused SHORT)
-  unknownType : Sized s → formOf (getD s 1 0) ≡ refused TUNNEL → ReadCase s (refused TUNNEL)
-  badIdentifier : Sized s → (form : Form) → formOf (getD s 1 0) ≡ given form → fits form (drop 5 s) ≡ false → ReadCase s (refused IDENT)
-  fine : Sized s → (form : Form) → formOf (getD s 1 0) ≡ given form → fits form (drop 5 s) ≡ true → ReadCase s (given (fieldsIn s))
+  unknownType : ReadableSize s → formOf (getD s 1 0) ≡ refused TUNNEL → ReadCase s (refused TUNNEL)
+  badIdentifier : ReadableSize s → (form : IdentifierForm) → formOf (getD s 1 0) ≡ given form → fits form (drop 5 s) ≡ false → ReadCase s (refused IDENT)
+  fine : ReadableSize s → (form : IdentifierForm) → formOf (getD s 1 0) ≡ given form → fits form (drop 5 s) ≡ true → ReadCase s (given (fieldsIn s))
 
-sized-case : (s : List ℕ) → Sized s → {o : Outcome (List ℕ)} → Judged (getD s 1 0) (drop 5 s) o → ReadCase s (andThen o (λ _. given (fieldsIn s)))
+sized-case : (s : List ℕ) → ReadableSize s → {o : Outcome (List ℕ)} → JudgedCase (getD s 1 0) (drop 5 s) o → ReadCase s (andThen o (λ _. given (fieldsIn s)))
 unfolding andThen
 sized-case s z (noRow e) = unknownType z e
 sized-case s z (noFit form e p) = badIdentifier z form e p
@@ -40,7 +39,7 @@ read-case s =
     (λ p. let h : 64 < length s = ltb-true 64 (length s) p in subst (ReadCase s) (sym (read-long s h)) (tooLong h))
     (λ p. tested (ltb (length s) 5)
     (λ q. let h : length s < 5 = ltb-true (length s) 5 q in subst (ReadCase s) (sym (read-short s h)) (tooShort h))
-    (λ q. let z : Sized s = record { least = ltb-false (length s) 5 q; most = ltb-false 64 (length s) p } in
+    (λ q. let z : ReadableSize s = record { least = ltb-false (length s) 5 q; most = ltb-false 64 (length s) p } in
     subst (ReadCase s) (sym (read-judged s (z .most) (z .least))) (sized-case s z (judged-is (getD s 1 0) (drop 5 s)))))
 
 -- the fields where they stand are well-formed, and encode to the octets
@@ -53,7 +52,7 @@ attribute-parts (a ∷ (b ∷ (c ∷ []))) h = absurd (omega arith)
 attribute-parts (a ∷ (b ∷ (c ∷ (d ∷ [])))) h = absurd (omega arith)
 attribute-parts (a ∷ (b ∷ (c ∷ (d ∷ (e ∷ r))))) h = refl
 
-fields-well-formed : (s : List ℕ) → AllOctets s → Sized s → OfType (getD s 1 0) (drop 5 s) → WellFormedAttribute (fieldsIn s) × (s ≡ encodeAttribute (fieldsIn s))
+fields-well-formed : (s : List ℕ) → AllOctets s → ReadableSize s → OfType (getD s 1 0) (drop 5 s) → WellFormedAttribute (fieldsIn s) × (s ≡ encodeAttribute (fieldsIn s))
 unfolding fieldsIn encodeAttribute
 fields-well-formed s a z o = (
   record {
@@ -68,7 +67,7 @@ fields-well-formed s a z o = (
 
 -- an encoding is read as the fields that it encodes
 module _ (f : Fields) (w : WellFormedAttribute f) where
-  encoding-sized : Sized (encodeAttribute f)
+  encoding-sized : ReadableSize (encodeAttribute f)
   encoding-sized = record { least = omega (arith, attribute-length f); most = omega (arith, attribute-length f, w .identifierSize) }
 
   encoding-type : getD (encodeAttribute f) 1 0 ≡ f .tunnelType
@@ -122,7 +121,7 @@ module _ (s : List ℕ) where
   short-case (badIdentifier z form t p) e = absurd (omega arith)
   short-case (fine z form t p) e = absurd (omega arith)
 
-  tunnel-case : {o : Outcome Fields} → ReadCase s o → numberOf o ≡ TUNNEL → Sized s × Unknown (getD s 1 0)
+  tunnel-case : {o : Outcome Fields} → ReadCase s o → numberOf o ≡ TUNNEL → ReadableSize s × Unknown (getD s 1 0)
   unfolding numberOf
   tunnel-case (tooLong h) e = absurd (omega arith)
   tunnel-case (tooShort h) e = absurd (omega arith)
@@ -130,7 +129,7 @@ module _ (s : List ℕ) where
   tunnel-case (badIdentifier z form t p) e = absurd (omega arith)
   tunnel-case (fine z form t p) e = absurd (omega arith)
 
-  ident-case : {o : Outcome Fields} → ReadCase s o → numberOf o ≡ IDENT → Sized s × Known (getD s 1 0) × (OfType (getD s 1 0) (drop 5 s) → ⊥)
+  ident-case : {o : Outcome Fields} → ReadCase s o → numberOf o ≡ IDENT → ReadableSize s × Known (getD s 1 0) × (OfType (getD s 1 0) (drop 5 s) → ⊥)
   unfolding numberOf
   ident-case (tooLong h) e = absurd (omega arith)
   ident-case (tooShort h) e = absurd (omega arith)
@@ -138,32 +137,32 @@ module _ (s : List ℕ) where
   ident-case (badIdentifier z form t p) e = (z, record { form = form; inTable = t }, not-of-type form t p)
   ident-case (fine z form t p) e = absurd (omega arith)
 
-  ident-refused : AllOctets s → {o : Outcome Fields} → ReadCase s o → Sized s × Known (getD s 1 0) × (OfType (getD s 1 0) (drop 5 s) → ⊥) → o ≡ refused IDENT
+  ident-refused : AllOctets s → {o : Outcome Fields} → ReadCase s o → ReadableSize s × Known (getD s 1 0) × (OfType (getD s 1 0) (drop 5 s) → ⊥) → o ≡ refused IDENT
   ident-refused a (tooLong h) k = absurd (omega (arith, k .0))
   ident-refused a (tooShort h) k = absurd (omega (arith, k .0))
   ident-refused a (unknownType z u) k = absurd (let z : _≡_ {A = ℕ} 0 1 = cc (k .1 .inTable) in omega arith)
   ident-refused a (badIdentifier z form t p) k = refl
   ident-refused a (fine z form t p) k = absurd (k .2 (of-type (getD s 1 0) (drop 5 s) form (octets-drop 5 a) t p))
 
-  number-case : (n : ℕ) {o : Outcome Fields} → ReadCase s o → o ≡ refused n → OneOf n (LONG ∷ SHORT ∷ TUNNEL ∷ IDENT ∷ [])
-  number-case n (tooLong h) e = let q : LONG ≡ n = cc in subst (λ (m : ℕ). OneOf m (LONG ∷ SHORT ∷ TUNNEL ∷ IDENT ∷ [])) q here
-  number-case n (tooShort h) e = let q : SHORT ≡ n = cc in subst (λ (m : ℕ). OneOf m (LONG ∷ SHORT ∷ TUNNEL ∷ IDENT ∷ [])) q (there here)
-  number-case n (unknownType z u) e = let q : TUNNEL ≡ n = cc in subst (λ (m : ℕ). OneOf m (LONG ∷ SHORT ∷ TUNNEL ∷ IDENT ∷ [])) q (there (there here))
-  number-case n (badIdentifier z form t p) e = let q : IDENT ≡ n = cc in subst (λ (m : ℕ). OneOf m (LONG ∷ SHORT ∷ TUNNEL ∷ IDENT ∷ [])) q (there (there (there here)))
+  number-case : (n : ℕ) {o : Outcome Fields} → ReadCase s o → o ≡ refused n → Among n (LONG ∷ SHORT ∷ TUNNEL ∷ IDENT ∷ [])
+  number-case n (tooLong h) e = refused-among LONG n e here
+  number-case n (tooShort h) e = refused-among SHORT n e (there here)
+  number-case n (unknownType z u) e = refused-among TUNNEL n e (there (there here))
+  number-case n (badIdentifier z form t p) e = refused-among IDENT n e (there (there (there here)))
   number-case n (fine z form t p) e = absurd (let z : _≡_ {A = ℕ} 0 1 = cc in omega arith)
 
-tunnel-refused : (s : List ℕ) → Sized s → formOf (getD s 1 0) ≡ refused TUNNEL → readAttribute s ≡ refused TUNNEL
+tunnel-refused : (s : List ℕ) → ReadableSize s → formOf (getD s 1 0) ≡ refused TUNNEL → readAttribute s ≡ refused TUNNEL
 unfolding andThen judged
 tunnel-refused s z e = read-judged s (z .most) (z .least) ∙ rw e
 
-pub reading : ReadingStatement
+pub reading-proved : ReadingStatement
 unfolding numberOf
-reading =
+reading-proved =
     record {
       accepted = λ s f a. (accepted-case s f a (read-case s), λ p. rw (p .1) (encoding-read f (p .0)));
-      long = λ s. (λ e. long-case s (read-case s) (ap numberOf e), read-long s);
-      short = λ s. (λ e. short-case s (read-case s) (ap numberOf e), read-short s);
-      tunnel = λ s. (λ e. tunnel-case s (read-case s) (ap numberOf e), λ k. tunnel-refused s (k .0) (row-unknown (getD s 1 0) (k .1)));
-      ident = λ s a. (λ e. ident-case s (read-case s) (ap numberOf e), ident-refused s a (read-case s));
+      whenLong = λ s. (λ e. long-case s (read-case s) (ap numberOf e), read-long s);
+      whenShort = λ s. (λ e. short-case s (read-case s) (ap numberOf e), read-short s);
+      whenTunnel = λ s. (λ e. tunnel-case s (read-case s) (ap numberOf e), λ k. tunnel-refused s (k .0) (row-unknown (getD s 1 0) (k .1)));
+      whenIdent = λ s a. (λ e. ident-case s (read-case s) (ap numberOf e), ident-refused s a (read-case s));
       numbers = λ s n. number-case s n (read-case s);
     }

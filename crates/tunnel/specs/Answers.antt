@@ -11,8 +11,8 @@ use Rattle.tunnel.specs.declared.Reading.the-variants.{Attribute as read
 use Rattle.tunnel.specs.declared.Attribute.{Attribute}
 use Rattle.tunnel.specs.declared.fec.Fec.{Fec}
 use Rattle.tunnel.specs.Fec.{FecFields, fecIn}
-use Rattle.tunnel.specs.Identifier.{Form, sizes, fec, formOf}
-use Rattle.tunnel.specs.Attribute.{Fields, labelOf, leafInformationRequired, readAttribute}
+use Rattle.tunnel.specs.Identifier.{IdentifierForm, sizes, fecTypes, formOf}
+use Rattle.tunnel.specs.Attribute.{Fields, labelOf, leafInformationRequired, readAttribute, writeAttribute}
 
 -- what a reading's cases mean
 unfoldable pub outcomeOf : Reading → Outcome Attribute
@@ -32,15 +32,16 @@ fecSpans f =
       opaque = span (11 + length (f .root)) (length (f .opaqueValue));
     }
 
--- no FEC
+-- no FEC: all 0
 unfoldable pub noFec : Fec
 noFec = record { «fec_type» = 0; «address_family» = 0; root = span 0 0; opaque = span 0 0 }
 
 -- the FEC of an identifier whose form is one
-unfoldable pub fecOfForm : Form → List ℕ → Fec
+unfoldable pub fecOfForm : IdentifierForm → List ℕ → Fec
 fecOfForm (sizes ns) i = noFec
-fecOfForm (fec ns) i = fecSpans (fecIn i)
+fecOfForm (fecTypes ns) i = fecSpans (fecIn i)
 
+-- the FEC of an attribute, by its tunnel type's row
 unfoldable pub fecOf : Fields → Fec
 fecOf f = onOutcome (λ _. noFec) (λ form. fecOfForm form (f .identifier)) (formOf (f .tunnelType))
 
@@ -57,12 +58,17 @@ attributeOf f =
       fec = fecOf f;
     }
 
+-- what reading answers: the attribute, or the number alone
 unfoldable pub readAnswer : List ℕ → Outcome Attribute
 readAnswer s = andThen (readAttribute s) (λ f. given (attributeOf f))
 
 -- a writer's arguments
 abbrev pub fieldsOf : ℕ → ℕ → ℕ → List ℕ → Fields
 fieldsOf flags type label identifier = record { flags = flags; tunnelType = type; labelField = label; identifier = identifier }
+
+-- what writing them into an output comes to
+abbrev pub writeOutcome : ℕ → ℕ → ℕ → List ℕ → List ℕ → Outcome (List ℕ)
+writeOutcome flags type label identifier output = writeAttribute (fieldsOf flags type label identifier) (length output)
 
 -- a writer's number, and how many octets it wrote
 unfoldable pub writtenOf : Outcome (List ℕ) → Written

@@ -1,4 +1,4 @@
--- Document 01, "PMSI Tunnel attribute".
+-- Document 01, "PMSI Tunnel attribute", and the order of refusals in "The numbers a call gives back".
 use Prim.Native.Nat.{ℕ, _/_, _%_, _^_, _<_, _≤_}
 use mathlib.Core.List.{List, _∷_, _++_}
 use lib.Dec.{ltb}
@@ -28,6 +28,7 @@ leafInformationRequired f = f .flags % 2
 unfoldable pub encodeAttribute : Fields → List ℕ
 encodeAttribute f = f .flags ∷ (f .tunnelType ∷ (bigEndian 3 (f .labelField) ++ f .identifier))
 
+-- what fields must be to stand on the wire; 59 octets of identifier make an attribute of 64
 pub record WellFormedAttribute (f : Fields) : Type 0 where
   pub flagsFit : f .flags < 256
   pub labelFits : f .labelField < 2 ^ 24
@@ -39,18 +40,18 @@ pub record WellFormedAttribute (f : Fields) : Type 0 where
 unfoldable pub fieldsIn : List ℕ → Fields
 fieldsIn s = record { flags = getD s 0 0; tunnelType = getD s 1 0; labelField = numberIn (part s 2 3) 0; identifier = drop 5 s }
 
--- reading: LONG, SHORT, TUNNEL, IDENT
+-- "Attribute reading: LONG, SHORT, TUNNEL, IDENT"
 unfoldable pub readAttribute : List ℕ → Outcome Fields
 readAttribute s =
     pick (ltb 64 (length s)) (refused LONG)
     (pick (ltb (length s) 5) (refused SHORT)
     (andThen (judged (getD s 1 0) (drop 5 s)) (λ _. given (fieldsIn s))))
 
--- writing into `space` octets: LONG, TUNNEL, IDENT, LABEL, SPACE
+-- "Attribute writing: LONG (identifier over 59 octets), TUNNEL, IDENT, LABEL, SPACE", into an output of `capacity` octets
 unfoldable pub writeAttribute : Fields → ℕ → Outcome (List ℕ)
-writeAttribute f space =
+writeAttribute f capacity =
     pick (ltb 59 (length (f .identifier))) (refused LONG)
     (andThen (judged (f .tunnelType) (f .identifier)) (λ _.
     pick (ltb 16777215 (f .labelField)) (refused LABEL)
-    (pick (ltb space (length (encodeAttribute f))) (refused SPACE)
+    (pick (ltb capacity (length (encodeAttribute f))) (refused SPACE)
     (given (encodeAttribute f)))))

@@ -25,6 +25,7 @@ pub data Suits : ℕ → ℕ → Type 0 where
   ipv4 : Suits 1 4
   ipv6 : Suits 2 16
 
+-- what fields must be to stand on the wire
 pub record WellFormedFec (f : FecFields) : Type 0 where
   pub typeFits : f .fecType < 256
   pub rootSuits : Suits (f .addressFamily) (length (f .root))
@@ -54,5 +55,6 @@ fecIn i =
       opaqueValue = drop (getD i 3 0 + 2) (drop 4 i);
     }
 
+-- a FEC read; its every fault is IDENT
 unfoldable pub readFec : List ℕ → Outcome FecFields
 readFec i = pick (wholeFec i) (given (fecIn i)) (refused IDENT)

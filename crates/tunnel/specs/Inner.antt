@@ -4,14 +4,14 @@ use mathlib.Core.List.{List, [], _∷_}
 use lib.Dec.{eqb}
 use Rattle.octets.specs.Choice.{pick}
 use Rattle.octets.specs.Numbers.{DONE, TUNNEL, IDENT}
-use Rattle.tunnel.specs.Identifier.{Row, table, Form, fits}
+use Rattle.tunnel.specs.Identifier.{TableRow, table, IdentifierForm, fits}
 
 -- IDENT, or DONE for an identifier of the form
-unfoldable pub formFault : Form → List ℕ → ℕ
+unfoldable pub formFault : IdentifierForm → List ℕ → ℕ
 formFault form i = pick (fits form i) DONE IDENT
 
 -- the number of an identifier's first fault, or DONE
-unfoldable pub faultIn : List Row → ℕ → List ℕ → ℕ
+unfoldable pub faultIn : List TableRow → ℕ → List ℕ → ℕ
 faultIn [] t i = TUNNEL
 faultIn (r ∷ rs) t i = pick (eqb t (r .tunnelType)) (formFault (r .form) i) (faultIn rs t i)
 

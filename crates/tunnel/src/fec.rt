@@ -4,6 +4,7 @@ ghost use mathlib.Core.Bool.{true};
 ghost use Prim.Native.Nat.{_<_};
 ghost use Rattle.tunnel.specs.Fec.{familySuits, endsAt, wholeFec, fecIn};
 ghost use Rattle.tunnel.specs.Answers.{fecSpans};
+use crate::sizes::Sizes;
 use octets::Span;
 
 // A FEC's type and address family, and where in the attribute its root address and its opaque value stand.
@@ -15,15 +16,38 @@ pub struct Fec {
     pub opaque: Span,
 }
 
+// The types of FECs.
+pub(crate) struct FecType {}
+
+impl FecType {
+    pub(crate) const P2MP: u8 = 6;
+
+    pub(crate) const MP2MP_UP: u8 = 7;
+
+    pub(crate) const MP2MP_DOWN: u8 = 8;
+}
+
+// Address families (RFC 4760).
+struct AddressFamily {}
+
+impl AddressFamily {
+    const IPV4: u32 = 1;
+
+    const IPV6: u32 = 2;
+}
+
+// Type 1, address family 2, address length 1.
+const HEADER: usize = 4;
+
 // An address family has the size of its addresses.
 fn family_suits(family: u32, size: usize) -> bool
     ensures { λ r. ⌜ r ≡ familySuits family size ⌝ }
 {
-    if family == 1 {
-        return size == 4;
+    if family == AddressFamily::IPV4 {
+        return size == Sizes::IPV4;
     }
-    if family == 2 {
-        return size == 16;
+    if family == AddressFamily::IPV6 {
+        return size == Sizes::IPV6;
     }
     false
 }
@@ -43,17 +67,17 @@ fn ends_at(rest: &[u8], size: usize) -> bool
 pub(crate) fn whole(identifier: &[u8]) -> bool
     ensures { λ r. ⌜ r ≡ wholeFec (now (identifier .entry)) ⌝ }
 {
-    if identifier.len() < 4 {
+    if identifier.len() < HEADER {
         return false;
     }
     let size = identifier[3] as usize;
     if family_suits(octets::wide::two(identifier, 1), size) {
-        return ends_at(octets::parts::after(identifier, 4), size);
+        return ends_at(octets::parts::after(identifier, HEADER), size);
     }
     false
 }
 
-// The FEC that an identifier is, placed in its attribute.
+// The FEC that an identifier is, placed in its attribute, where 5 octets stand before it.
 pub(crate) fn spans(identifier: &[u8]) -> Fec
     requires { ⌜ wholeFec (now identifier) ≡ true ⌝ }
     ensures { λ r. ⌜ r ≡ fecSpans (fecIn (now (identifier .entry))) ⌝ }

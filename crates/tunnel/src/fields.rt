@@ -18,10 +18,10 @@ fn fec_of(s: &[u8]) -> Fec
 {
     let tunnel_type = s[1];
     if tunnel_type == TunnelType::MLDP_P2MP {
-        return crate::fec::spans(octets::parts::after(s, 5));
+        return crate::fec::spans(octets::parts::after(s, crate::HEADER));
     }
     if tunnel_type == TunnelType::MLDP_MP2MP {
-        return crate::fec::spans(octets::parts::after(s, 5));
+        return crate::fec::spans(octets::parts::after(s, crate::HEADER));
     }
     Fec {
         fec_type: 0,
@@ -41,14 +41,17 @@ pub(crate) fn fields(s: &[u8]) -> Attribute
     let fec = fec_of(s);
     let flags = s[0] as u32;
     let tunnel_type = s[1] as u32;
-    let size = s.len() - 5;
+    let size = s.len() - crate::HEADER;
     Attribute {
         flags,
         tunnel_type,
         label_field,
         label: label_field / 16,
         leaf_information_required: flags % 2,
-        identifier: Span { start: 5, size },
+        identifier: Span {
+            start: crate::HEADER,
+            size,
+        },
         fec,
     }
 }

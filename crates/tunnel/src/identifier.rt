@@ -1,42 +1,12 @@
 // Which identifiers each tunnel type takes (document 01, the table of "PMSI Tunnel attribute").
 ghost use mathlib.Core.Path.{_≡_};
 ghost use mathlib.Core.List.{[], _∷_};
-ghost use Rattle.tunnel.specs.Identifier.{sizes, fec};
+ghost use Rattle.tunnel.specs.Identifier.{sizes, fecTypes};
 ghost use Rattle.tunnel.specs.Inner.{formFault, faultOf};
+use crate::fec::FecType;
+use crate::sizes::Sizes;
 use crate::tunnel_type::TunnelType;
 use octets::number;
-
-// The sizes of identifiers.
-struct Size {}
-
-impl Size {
-    const NONE: usize = 0;
-    // extended tunnel, reserved, tunnel and P2MP identifiers, in IPv4 form
-    const SESSION: usize = 12;
-
-    const TWO_IPV4: usize = 8;
-
-    const TWO_IPV6: usize = 32;
-
-    const IPV4: usize = 4;
-
-    const IPV6: usize = 16;
-    // sub-domain 1, BFR-id 2, prefix
-    const BIER_IPV4: usize = 7;
-
-    const BIER_IPV6: usize = 19;
-}
-
-// The types of FECs.
-struct FecType {}
-
-impl FecType {
-    const P2MP: u8 = 6;
-
-    const MP2MP_UP: u8 = 7;
-
-    const MP2MP_DOWN: u8 = 8;
-}
 
 // An identifier of one size.
 fn of_size(identifier: &[u8], size: usize) -> u32
@@ -63,7 +33,7 @@ fn of_sizes(identifier: &[u8], first: usize, second: usize) -> u32
 
 // A FEC of one type, which is its first octet.
 fn of_fec(identifier: &[u8], first: u8) -> u32
-    ensures { λ r. ⌜ r ≡ formFault (fec (first ∷ [])) (now (identifier .entry)) ⌝ }
+    ensures { λ r. ⌜ r ≡ formFault (fecTypes (first ∷ [])) (now (identifier .entry)) ⌝ }
 {
     if crate::fec::whole(identifier) {
         if identifier[0] == first {
@@ -76,7 +46,7 @@ fn of_fec(identifier: &[u8], first: u8) -> u32
 
 // A FEC of one of two types.
 fn of_fecs(identifier: &[u8], first: u8, second: u8) -> u32
-    ensures { λ r. ⌜ r ≡ formFault (fec (first ∷ second ∷ [])) (now (identifier .entry)) ⌝ }
+    ensures { λ r. ⌜ r ≡ formFault (fecTypes (first ∷ second ∷ [])) (now (identifier .entry)) ⌝ }
 {
     if crate::fec::whole(identifier) {
         let code = identifier[0];
@@ -96,31 +66,31 @@ pub(crate) fn fault(tunnel_type: u8, identifier: &[u8]) -> u32
     ensures { λ r. ⌜ r ≡ faultOf «tunnel_type» (now (identifier .entry)) ⌝ }
 {
     if tunnel_type == TunnelType::NONE {
-        return of_size(identifier, Size::NONE);
+        return of_size(identifier, Sizes::NONE);
     }
     if tunnel_type == TunnelType::RSVP_TE_P2MP {
-        return of_size(identifier, Size::SESSION);
+        return of_size(identifier, Sizes::RSVP_TE_SESSION);
     }
     if tunnel_type == TunnelType::MLDP_P2MP {
         return of_fec(identifier, FecType::P2MP);
     }
     if tunnel_type == TunnelType::PIM_SSM {
-        return of_sizes(identifier, Size::TWO_IPV4, Size::TWO_IPV6);
+        return of_sizes(identifier, Sizes::TWO_IPV4, Sizes::TWO_IPV6);
     }
     if tunnel_type == TunnelType::PIM_SM {
-        return of_sizes(identifier, Size::TWO_IPV4, Size::TWO_IPV6);
+        return of_sizes(identifier, Sizes::TWO_IPV4, Sizes::TWO_IPV6);
     }
     if tunnel_type == TunnelType::BIDIR_PIM {
-        return of_sizes(identifier, Size::TWO_IPV4, Size::TWO_IPV6);
+        return of_sizes(identifier, Sizes::TWO_IPV4, Sizes::TWO_IPV6);
     }
     if tunnel_type == TunnelType::INGRESS_REPLICATION {
-        return of_sizes(identifier, Size::IPV4, Size::IPV6);
+        return of_sizes(identifier, Sizes::IPV4, Sizes::IPV6);
     }
     if tunnel_type == TunnelType::MLDP_MP2MP {
         return of_fecs(identifier, FecType::MP2MP_UP, FecType::MP2MP_DOWN);
     }
     if tunnel_type == TunnelType::BIER {
-        return of_sizes(identifier, Size::BIER_IPV4, Size::BIER_IPV6);
+        return of_sizes(identifier, Sizes::BIER_IPV4, Sizes::BIER_IPV6);
     }
     number::TUNNEL
 }

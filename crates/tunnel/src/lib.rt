@@ -1,8 +1,6 @@
 // The PMSI Tunnel attribute (RFC 6514, section 5; RFC 8556, section 2): read and written (document 01, "PMSI Tunnel attribute").
 ghost use mathlib.Core.Path.{_≡_};
-ghost use lib.ListN.{length};
-ghost use Rattle.tunnel.specs.Attribute.{writeAttribute};
-ghost use Rattle.tunnel.specs.Answers.{outcomeOf, readAnswer, fieldsOf, writtenOf, outputOf};
+ghost use Rattle.tunnel.specs.Answers.{outcomeOf, readAnswer, writeOutcome, writtenOf, outputOf};
 use octets::Span;
 use octets::Written;
 use octets::number;
@@ -11,7 +9,19 @@ mod encoding;
 pub mod fec;
 mod fields;
 mod identifier;
+mod sizes;
 mod tunnel_type;
+
+// Flags 1, tunnel type 1, label field 3.
+const HEADER: usize = 5;
+
+// The most octets of an attribute, and of its identifier.
+const MOST: usize = 64;
+
+const MOST_IDENTIFIER: usize = 59;
+
+// The highest number in 24 bits.
+const MOST_LABEL_FIELD: u32 = 16777215;
 
 // The fields of an attribute. Spans count from the attribute's first octet.
 #[repr(C)]
@@ -39,13 +49,13 @@ pub enum Reading {
 pub fn read(s: &[u8]) -> Reading
     ensures { λ r. ⌜ outcomeOf r ≡ readAnswer (now (s .entry)) ⌝ }
 {
-    if 64 < s.len() {
+    if MOST < s.len() {
         return Reading::Refused(number::LONG);
     }
-    if s.len() < 5 {
+    if s.len() < HEADER {
         return Reading::Refused(number::SHORT);
     }
-    let fault = identifier::fault(s[1], octets::parts::after(s, 5));
+    let fault = identifier::fault(s[1], octets::parts::after(s, HEADER));
     if fault != number::DONE {
         return Reading::Refused(fault);
     }
@@ -67,20 +77,20 @@ pub fn write(
     identifier: &[u8],
     output: &mut [u8],
 ) -> Written
-    ensures { λ r. ⌜ r ≡ writtenOf (writeAttribute (fieldsOf flags «tunnel_type» «label_field» (now (identifier .entry))) (length (now (output .entry)))) ⌝ }
-    ensures { λ r. ⌜ now (output .exit) ≡ outputOf (writeAttribute (fieldsOf flags «tunnel_type» «label_field» (now (identifier .entry))) (length (now (output .entry)))) (now (output .entry)) ⌝ }
+    ensures { λ r. ⌜ r ≡ writtenOf (writeOutcome flags «tunnel_type» «label_field» (now (identifier .entry)) (now (output .entry))) ⌝ }
+    ensures { λ r. ⌜ now (output .exit) ≡ outputOf (writeOutcome flags «tunnel_type» «label_field» (now (identifier .entry)) (now (output .entry))) (now (output .entry)) ⌝ }
 {
-    if 59 < identifier.len() {
+    if MOST_IDENTIFIER < identifier.len() {
         return refusal(number::LONG);
     }
     let fault = identifier::fault(tunnel_type, identifier);
     if fault != number::DONE {
         return refusal(fault);
     }
-    if 16777215 < label_field {
+    if MOST_LABEL_FIELD < label_field {
         return refusal(number::LABEL);
     }
-    if output.len() < 5 + identifier.len() {
+    if output.len() < HEADER + identifier.len() {
         return refusal(number::SPACE);
     }
     encoding::put(flags, tunnel_type, label_field, identifier, output)

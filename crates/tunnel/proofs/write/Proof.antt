@@ -16,8 +16,8 @@ returns : tie.Need-returns
 returns c =
     let a = c .before .before .before .before .args in
     let f = fieldsOf (a .flags) (a .tunnel-type) (a .label-field) (now (a .identifier)) in
-    let space = length (now (a .output)) in
-    refusal-wrote (writeAttribute f space) LONG (c .refusal .result) (now (a .output)) (write-long f space (search needs)) (c .refusal .ensures)
+    let capacity = length (now (a .output)) in
+    refusal-wrote (writeAttribute f capacity) LONG (c .refusal .result) (now (a .output)) (write-long f capacity (search needs)) (c .refusal .ensures)
 
 fault-requires : tie.Need-fault-requires
 fault-requires c κs = search needs
@@ -29,8 +29,8 @@ returns-2 : tie.Need-returns-2
 returns-2 c =
     let a = c .before .before .before .before .before .before .args in
     let f = fieldsOf (a .flags) (a .tunnel-type) (a .label-field) (now (a .identifier)) in
-    let space = length (now (a .output)) in
-    refusal-wrote (writeAttribute f space) (c .before .before .fault .result) (c .refusal2 .result) (now (a .output)) (write-faulty f space (search needs) (c .before .before .fault .result) (c .before .before .fault .ensures) (c .before .if2 .taken)) (c .refusal2 .ensures)
+    let capacity = length (now (a .output)) in
+    refusal-wrote (writeAttribute f capacity) (c .before .before .fault .result) (c .refusal2 .result) (now (a .output)) (write-faulty f capacity (search needs) (c .before .before .fault .result) (c .before .before .fault .ensures) (c .before .if2 .taken)) (c .refusal2 .ensures)
 
 refusal-requires-3 : tie.Need-refusal-requires-3
 refusal-requires-3 c κs = search needs
@@ -39,8 +39,8 @@ returns-3 : tie.Need-returns-3
 returns-3 c =
     let a = c .before .before .before .before .before .before .before .args in
     let f = fieldsOf (a .flags) (a .tunnel-type) (a .label-field) (now (a .identifier)) in
-    let space = length (now (a .output)) in
-    refusal-wrote (writeAttribute f space) LABEL (c .refusal3 .result) (now (a .output)) (write-label f space (search needs) (c .before .before .before .fault .result) (c .before .before .before .fault .ensures) (c .before .before .if2 .left) (search needs)) (c .refusal3 .ensures)
+    let capacity = length (now (a .output)) in
+    refusal-wrote (writeAttribute f capacity) LABEL (c .refusal3 .result) (now (a .output)) (write-label f capacity (search needs) (c .before .before .before .fault .result) (c .before .before .before .fault .ensures) (c .before .before .if2 .left) (search needs)) (c .refusal3 .ensures)
 
 add-if4 : tie.Need-add-if4
 add-if4 c = search needs
@@ -52,8 +52,8 @@ returns-4 : tie.Need-returns-4
 returns-4 c =
     let a = c .before .before .before .before .before .before .before .before .args in
     let f = fieldsOf (a .flags) (a .tunnel-type) (a .label-field) (now (a .identifier)) in
-    let space = length (now (a .output)) in
-    refusal-wrote (writeAttribute f space) SPACE (c .refusal4 .result) (now (a .output)) (write-space f space (search needs) (c .before .before .before .before .fault .result) (c .before .before .before .before .fault .ensures) (c .before .before .before .if2 .left) (search needs) (search needs)) (c .refusal4 .ensures)
+    let capacity = length (now (a .output)) in
+    refusal-wrote (writeAttribute f capacity) SPACE (c .refusal4 .result) (now (a .output)) (write-space f capacity (search needs) (c .before .before .before .before .fault .result) (c .before .before .before .before .fault .ensures) (c .before .before .before .if2 .left) (search needs) (search needs)) (c .refusal4 .ensures)
 
 put-requires : tie.Need-put-requires
 put-requires c κs = search needs
@@ -65,10 +65,10 @@ returns-5 : tie.Need-returns-5
 returns-5 c =
     let a = c .before .before .before .before .before .before .before .before .before .before .before .args in
     let f = fieldsOf (a .flags) (a .tunnel-type) (a .label-field) (now (a .identifier)) in
-    let space = length (now (a .output)) in
+    let capacity = length (now (a .output)) in
     let p = c .before .before .put in
-    encoding-wrote (writeAttribute f space) f (p .result) (now (a .output)) (p .last .1 .1 .1 .1 .0)
-    (write-fine f space (search needs) (c .before .before .before .before .before .before .before .fault .result) (c .before .before .before .before .before .before .before .fault .ensures) (c .before .before .before .before .before .before .if2 .left) (search needs) (search needs)) (p .ensures)
+    encoding-wrote (writeAttribute f capacity) f (p .result) (now (a .output)) (p .last .1 .1 .1 .1 .0)
+    (write-fine f capacity (search needs) (c .before .before .before .before .before .before .before .fault .result) (c .before .before .before .before .before .before .before .fault .ensures) (c .before .before .before .before .before .before .if2 .left) (search needs) (search needs)) (p .ensures)
 
 pub write-spec : {M : Type 1} → statement M
 write-spec =
