@@ -255,6 +255,6 @@ unfolding writtenOf outputOf onOutcome numberOf
 refusal-wrote o n w d e p = (rw e (ap₂ writtenAs (p .0) (p .1)), rw e)
 
 pub encoding-wrote : (o : Outcome (List ℕ)) (f : Fields) (w : Written) (d x : List ℕ) → o ≡ given (encodeAttribute f)
-    → (w .number ≡ 0) × (w .size ≡ 5 + length (f .identifier)) × (x ≡ front (encodeAttribute f) d) → (w ≡ writtenOf o) × (x ≡ outputOf o d)
+    → (w .number ≡ 0) × ((w .size ≡ 5 + length (f .identifier)) × (x ≡ front (encodeAttribute f) d)) → (w ≡ writtenOf o) × (x ≡ outputOf o d)
 unfolding writtenOf outputOf onOutcome numberOf
-encoding-wrote o f w d x e p = (rw e (ap₂ writtenAs (p .0) (p .1 ∙ sym (attribute-length f))), rw e (p .2))
+encoding-wrote o f w d x e p = (rw e (ap₂ writtenAs (p .0) (p .1 .0 ∙ sym (attribute-length f))), rw e (p .1 .1))

@@ -14,8 +14,8 @@ fn put_header(flags: u8, tunnel_type: u8, label_field: u32, output: &mut [u8]) -
     requires { ⌜ 5 ≤ length (now output) ⌝ }
     ensures { λ r. ⌜ (r ≡ 5) × (now (output .exit) ≡ placed 0 (flags ∷ («tunnel_type» ∷ bigEndian 3 «label_field»)) (now (output .entry))) ⌝ }
 {
-    let types = [flags, tunnel_type];
-    let next = octets::parts::place(&types, output, 0);
+    let first_two = [flags, tunnel_type];
+    let next = octets::parts::place(&first_two, output, 0);
     octets::wide::place_three(label_field, output, next)
 }
 
@@ -28,7 +28,9 @@ pub(crate) fn put(
     output: &mut [u8],
 ) -> Written
     requires { ⌜ 5 + length (now identifier) ≤ length (now output) ⌝ }
-    ensures { λ r. ⌜ (r .number ≡ 0) × (r .size ≡ 5 + length (now (identifier .entry))) × (now (output .exit) ≡ front (encodeAttribute (fieldsOf flags «tunnel_type» «label_field» (now (identifier .entry)))) (now (output .entry))) ⌝ }
+    ensures { λ r. ⌜ r .number ≡ 0 ⌝ }
+    ensures { λ r. ⌜ r .size ≡ 5 + length (now (identifier .entry)) ⌝ }
+    ensures { λ r. ⌜ now (output .exit) ≡ front (encodeAttribute (fieldsOf flags «tunnel_type» «label_field» (now (identifier .entry)))) (now (output .entry)) ⌝ }
 {
     let next = put_header(flags, tunnel_type, label_field, output);
     let size = octets::parts::place(identifier, output, next);

@@ -77,7 +77,8 @@ pub(crate) fn whole(identifier: &[u8]) -> bool
     false
 }
 
-// The FEC that an identifier is, placed in its attribute, where 5 octets stand before it.
+// The FEC that an identifier is, placed in its attribute: the root straight after the attribute's header of 5 octets and
+// the FEC's of 4, the opaque value after the root and the 2 octets of the opaque length.
 pub(crate) fn spans(identifier: &[u8]) -> Fec
     requires { ⌜ wholeFec (now identifier) ≡ true ⌝ }
     ensures { λ r. ⌜ r ≡ fecSpans (fecIn (now (identifier .entry))) ⌝ }

@@ -30,7 +30,10 @@ returns-2 c =
     let a = c .before .before .before .before .before .before .args in
     let f = fieldsOf (a .flags) (a .tunnel-type) (a .label-field) (now (a .identifier)) in
     let capacity = length (now (a .output)) in
-    refusal-wrote (writeAttribute f capacity) (c .before .before .fault .result) (c .refusal2 .result) (now (a .output)) (write-faulty f capacity (search needs) (c .before .before .fault .result) (c .before .before .fault .ensures) (c .before .if2 .taken)) (c .refusal2 .ensures)
+    let n = c .before .before .fault in
+    refusal-wrote (writeAttribute f capacity) (n .result) (c .refusal2 .result) (now (a .output))
+    (write-faulty f capacity (search needs) (n .result) (n .ensures) (c .before .if2 .taken))
+    (c .refusal2 .ensures)
 
 refusal-requires-3 : tie.Need-refusal-requires-3
 refusal-requires-3 c κs = search needs
@@ -40,7 +43,10 @@ returns-3 c =
     let a = c .before .before .before .before .before .before .before .args in
     let f = fieldsOf (a .flags) (a .tunnel-type) (a .label-field) (now (a .identifier)) in
     let capacity = length (now (a .output)) in
-    refusal-wrote (writeAttribute f capacity) LABEL (c .refusal3 .result) (now (a .output)) (write-label f capacity (search needs) (c .before .before .before .fault .result) (c .before .before .before .fault .ensures) (c .before .before .if2 .left) (search needs)) (c .refusal3 .ensures)
+    let n = c .before .before .before .fault in
+    refusal-wrote (writeAttribute f capacity) LABEL (c .refusal3 .result) (now (a .output))
+    (write-label f capacity (search needs) (n .result) (n .ensures) (c .before .before .if2 .left) (search needs))
+    (c .refusal3 .ensures)
 
 add-if4 : tie.Need-add-if4
 add-if4 c = search needs
@@ -53,7 +59,10 @@ returns-4 c =
     let a = c .before .before .before .before .before .before .before .before .args in
     let f = fieldsOf (a .flags) (a .tunnel-type) (a .label-field) (now (a .identifier)) in
     let capacity = length (now (a .output)) in
-    refusal-wrote (writeAttribute f capacity) SPACE (c .refusal4 .result) (now (a .output)) (write-space f capacity (search needs) (c .before .before .before .before .fault .result) (c .before .before .before .before .fault .ensures) (c .before .before .before .if2 .left) (search needs) (search needs)) (c .refusal4 .ensures)
+    let n = c .before .before .before .before .fault in
+    refusal-wrote (writeAttribute f capacity) SPACE (c .refusal4 .result) (now (a .output))
+    (write-space f capacity (search needs) (n .result) (n .ensures) (c .before .before .before .if2 .left) (search needs) (search needs))
+    (c .refusal4 .ensures)
 
 put-requires : tie.Need-put-requires
 put-requires c κs = search needs
@@ -66,9 +75,11 @@ returns-5 c =
     let a = c .before .before .before .before .before .before .before .before .before .before .before .args in
     let f = fieldsOf (a .flags) (a .tunnel-type) (a .label-field) (now (a .identifier)) in
     let capacity = length (now (a .output)) in
+    let n = c .before .before .before .before .before .before .before .fault in
     let p = c .before .before .put in
     encoding-wrote (writeAttribute f capacity) f (p .result) (now (a .output)) (p .last .1 .1 .1 .1 .0)
-    (write-fine f capacity (search needs) (c .before .before .before .before .before .before .before .fault .result) (c .before .before .before .before .before .before .before .fault .ensures) (c .before .before .before .before .before .before .if2 .left) (search needs) (search needs)) (p .ensures)
+    (write-fine f capacity (search needs) (n .result) (n .ensures) (c .before .before .before .before .before .before .if2 .left) (search needs) (search needs))
+    (p .ensures)
 
 pub write-spec : {M : Type 1} → statement M
 write-spec =

@@ -29,12 +29,9 @@ returns c =
     let h = c .before .before .before .before .before .before .put-header in
     let p = c .before .before .place in
     let e = a .flags ∷ (a .tunnel-type ∷ bigEndian 3 (a .label-field)) in
-    let l : length e ≡ 5 = omega (arith, big-endian-length 3 (a .label-field)) in (
-      refl,
-      search needs,
-      placed-then 0 (h .result) e (now (a .identifier)) (now (a .output)) (h .last .1 .1 .1 .0) (p .last .1 .0) (omega (arith, c .before .before .before .before .before .before .before .before .before .before .pre)) (omega (arith, h .ensures .0)) (h .ensures .1) (p .ensures .1)
-          ∙ sym (front-is-placed (encodeAttribute (fieldsOf (a .flags) (a .tunnel-type) (a .label-field) (now (a .identifier)))) (now (a .output))),
-    )
+    let l : length e ≡ 5 = omega (arith, big-endian-length 3 (a .label-field)) in
+    let octets = placed-then 0 (h .result) e (now (a .identifier)) (now (a .output)) (h .last .1 .1 .1 .0) (p .last .1 .0) (omega (arith, c .before .before .before .before .before .before .before .before .before .before .pre)) (omega (arith, h .ensures .0)) (h .ensures .1) (p .ensures .1) in
+    (refl, (search needs, octets ∙ sym (front-is-placed (encodeAttribute (fieldsOf (a .flags) (a .tunnel-type) (a .label-field) (now (a .identifier)))) (now (a .output)))))
 
 pub put-spec : {M : Type 1} → statement M
 put-spec = tie.close (tie.spec put-header-requires place-requires same-length returns)
