@@ -5,3 +5,4 @@ pub mod IdentifierTheorem
 pub mod ReadingTheorem
 pub mod WritingTheorem
 pub mod Theorems
+pub mod Examples
