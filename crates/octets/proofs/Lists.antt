@@ -41,6 +41,10 @@ placed-placed at e f d h =
     ∙ append-assoc p e (f ++ drop (at + length (e ++ f)) d)
     ∙ ap (λ (l : List ℕ). p ++ l) (sym (append-assoc e f (drop (at + length (e ++ f)) d)))
 
+-- the same, as two calls leave it
+pub placed-then : (at next : ℕ) (e f d y z : List ℕ) → at + length e + length f ≤ length d → next ≡ at + length e → y ≡ placed at e d → z ≡ placed next f y → z ≡ placed at (e ++ f) d
+placed-then at next e f d y z h k p q = q ∙ ap₂ (λ (i : ℕ) (l : List ℕ). placed i f l) k p ∙ placed-placed at e f d h
+
 zeros : ℕ → List ℕ
 zeros n = replicate n 0
 

@@ -1,12 +1,13 @@
 -- Numbers in network order: reading undoes writing, and writing undoes reading, at every width.
 use Prim.Native.Nat.{ℕ, zero, suc, _+_, _*_, _/_, _%_, _^_, _≤_, _<_}
-use mathlib.Core.Path.{_≡_, refl, sym, ap, ap₂, _∙_}
+use mathlib.Core.Path.{_≡_, refl, sym}
 use mathlib.Core.List.{List, [], _∷_, _++_, append-assoc, append-nil}
 use native.Mathlib.Nat.{mod-lt, div-add-mod', div-lt-iff-lt-mul, pow-suc, mul-add-div-right, mul-add-mod-self-right, mod-eq-of-lt, div-eq-of-lt, add-zero, zero-add}
 use native.Mathlib.Omega.{arith}
 use lib.ListN.{length, take, drop, getD, length-append, length-drop}
-use lib.Seq.{take-suc, getD-drop}
-use Rattle.octets.proofs.Lists.{placed-placed}
+use lib.Seq.{take-suc, getD-drop, length-take-le}
+use Rattle.octets.proofs.AllOctets.{octets-take, octets-drop, number-fits}
+use Rattle.octets.proofs.Lists.{placed-then}
 use Rattle.octets.specs.Octets.{AllOctets, none, one, part, placed, numberIn, bigEndian}
 
 pub octets-append : {xs ys : List ℕ} → AllOctets xs → AllOctets ys → AllOctets (xs ++ ys)
@@ -65,5 +66,18 @@ pub placed-last : (at next n x : ℕ) (d y z : List ℕ) → at + suc n ≤ leng
 unfolding bigEndian
 placed-last at next n x d y z h k p q =
     let e : List ℕ = bigEndian n (x / 256) in
-    let l : at + length e ≡ next = rw (big-endian-length n (x / 256)) (sym k) in
-    q ∙ ap₂ (λ (i : ℕ) (l : List ℕ). placed i (x % 256 ∷ []) l) (sym l) p ∙ placed-placed at e (x % 256 ∷ []) d (omega arith)
+    let l : length e ≡ n = big-endian-length n (x / 256) in
+    placed-then at next e (x % 256 ∷ []) d y z (omega arith) (rw l k) p q
+
+-- the number in a part, and the part of a number
+pub part-number : {s : List ℕ} → AllOctets s → (at n : ℕ) → at + n ≤ length s → bigEndian n (numberIn (part s at n) 0) ≡ part s at n
+unfolding part
+part-number {s} a at n h =
+    let l : length (take n (drop at s)) ≡ n = length-take-le n (drop at s) (simp length-drop (omega arith)) in
+    rw l at (big-endian-of-number (octets-take n (octets-drop at a)))
+
+pub part-fits : {s : List ℕ} → AllOctets s → (at n : ℕ) → at + n ≤ length s → numberIn (part s at n) 0 < 256 ^ n
+unfolding part
+part-fits {s} a at n h =
+    let l : length (take n (drop at s)) ≡ n = length-take-le n (drop at s) (simp length-drop (omega arith)) in
+    rw l at (number-fits (octets-take n (octets-drop at a)))

@@ -1,0 +1,260 @@
+-- Laws of the definitions that the functions' proofs cite.
+use Prim.Native.Nat.{ℕ, _+_, _-_, _/_, _%_, _≤_, _<_}
+use mathlib.Core.Path.{_≡_, refl, sym, ap₂, _∙_}
+use mathlib.Core.Bool.{Bool, true, false}
+use mathlib.Core.List.{List, [], _∷_}
+use native.Mathlib.Omega.{arith}
+use lib.Dec.{ltb, eqb}
+use lib.ListN.{length, getD, take, drop, length-append, length-drop}
+use lib.Seq.{length-take-le}
+use borrow.Author.Tests.{ltb-false, eqb-true, eq-eqb, ne-eqb, le-ltb, lt-ltb}
+use Rattle.octets.specs.Choice.{pick}
+use Rattle.octets.specs.Numbers.{DONE, SHORT, LONG, IDENT, LABEL, SPACE}
+use Rattle.octets.specs.Outcome.{Outcome, given, refused, andThen, onOutcome, numberOf}
+use Rattle.octets.specs.Octets.{part, numberIn, front}
+use Rattle.octets.proofs.Tests.{tests}
+use Rattle.octets.proofs.Picked.{pick-then, pick-else, pick-passed, pick-held, both-held, was-given}
+use Rattle.octets.proofs.NetworkOrder.{big-endian-length}
+use Rattle.octets.specs.declared.Written.{Written}
+use Rattle.tunnel.specs.declared.fec.Fec.{Fec}
+use Rattle.tunnel.specs.declared.Attribute.{Attribute}
+use Rattle.tunnel.specs.Fec.{familySuits, endsAt, wholeFec, fecIn}
+use Rattle.tunnel.specs.Identifier.{IdentifierForm, sizes, fecTypes, TableRow, table, formIn, formOf, fits, oneOf, judged}
+use Rattle.tunnel.specs.Attribute.{Fields, labelOf, leafInformationRequired, fieldsIn, encodeAttribute, readAttribute, writeAttribute}
+use Rattle.tunnel.specs.Answers.{fecSpans, noFec, fecOfForm, fecOf, attributeOf, readAnswer, writtenOf, outputOf}
+use Rattle.tunnel.specs.Inner.{formFault, faultIn, faultOf}
+
+-- a test that a call made, in the definition's words
+pub told : (r t v : Bool) → r ≡ t → r ≡ v → t ≡ v
+told r t v p q = sym p ∙ q
+
+pub ruleset calls = (tests, told)
+
+-- judging a FEC, by the tests that the code makes
+pub whole-ends : (i rest : List ℕ) (family : ℕ) (suits r : Bool) → 4 ≤ length i → family ≡ numberIn (part i 1 2) 0 → suits ≡ familySuits family (getD i 3 0) → suits ≡ true
+    → rest ≡ drop 4 i → r ≡ endsAt rest (getD i 3 0) → r ≡ wholeFec i
+unfolding wholeFec pick
+whole-ends i rest family suits r h p q t e o = rw (le-ltb (length i) 4 h, ← p, ← q, t, ← e) o
+
+pub whole-no : (i : List ℕ) (family : ℕ) (suits : Bool) → 4 ≤ length i → family ≡ numberIn (part i 1 2) 0 → suits ≡ familySuits family (getD i 3 0) → suits ≡ false
+    → false ≡ wholeFec i
+unfolding wholeFec pick
+whole-no i family suits h p q t = rw (le-ltb (length i) 4 h, ← p, ← q, t)
+
+-- the tests that a FEC passes
+pub record FecTests (i : List ℕ) : Type 0 where
+  pub header : 4 ≤ length i
+  pub family : familySuits (numberIn (part i 1 2) 0) (getD i 3 0) ≡ true
+  pub lengths : getD i 3 0 + 2 ≤ length (drop 4 i)
+  pub end : getD i 3 0 + 2 + numberIn (part (drop 4 i) (getD i 3 0) 2) 0 ≡ length (drop 4 i)
+
+pub fec-tested : (i : List ℕ) → wholeFec i ≡ true → FecTests i
+unfolding wholeFec endsAt
+fec-tested i h =
+    let size = getD i 3 0 in
+    let rest = drop 4 i in
+    let a = pick-passed (ltb (length i) 4) (pick (familySuits (numberIn (part i 1 2) 0) size) (endsAt rest size) false) h in
+    let b = pick-held (familySuits (numberIn (part i 1 2) 0) size) (endsAt rest size) (a .1) in
+    let d = pick-passed (ltb (length rest) (size + 2)) (eqb (size + 2 + numberIn (part rest size 2) 0) (length rest)) (b .1) in
+    record {
+      header = ltb-false (length i) 4 (a .0);
+      family = b .0;
+      lengths = ltb-false (length rest) (size + 2) (d .0);
+      end = eqb-true (size + 2 + numberIn (part rest size 2) 0) (length rest) (d .1);
+    }
+
+-- the six octets of a FEC's header and opaque length, and the root, are there
+pub fec-long : (i : List ℕ) → wholeFec i ≡ true → 6 + getD i 3 0 ≤ length i
+fec-long i h = let t = fec-tested i h in omega (arith, length-drop 4 i)
+
+pub root-length : (i : List ℕ) → wholeFec i ≡ true → length (take (getD i 3 0) (drop 4 i)) ≡ getD i 3 0
+root-length i h = let t = fec-tested i h in length-take-le (getD i 3 0) (drop 4 i) (omega arith)
+
+pub opaque-length : (i : List ℕ) → wholeFec i ≡ true → length (drop (getD i 3 0 + 2) (drop 4 i)) ≡ length i - 6 - getD i 3 0
+opaque-length i h = let t = fec-tested i h in simp length-drop (omega (arith, length-drop 4 i))
+
+-- the number of an identifier's first fault is what judging it comes to
+judgedBy : IdentifierForm → List ℕ → Outcome (List ℕ)
+judgedBy form i = pick (fits form i) (given i) (refused IDENT)
+
+asOutcome : ℕ → List ℕ → Outcome (List ℕ)
+asOutcome n i = pick (eqb n 0) (given i) (refused n)
+
+fits-step : (b : Bool) (i : List ℕ) → pick b (given i) (refused IDENT) ≡ asOutcome (pick b DONE IDENT) i
+unfolding asOutcome pick
+fits-step true i = refl
+fits-step false i = refl
+
+row-step : (b : Bool) (form : IdentifierForm) (rest : Outcome IdentifierForm) (n : ℕ) (i : List ℕ) → andThen rest (λ f. judgedBy f i) ≡ asOutcome n i
+    → andThen (pick b (given form) rest) (λ f. judgedBy f i) ≡ asOutcome (pick b (formFault form i) n) i
+unfolding judgedBy formFault andThen pick
+row-step true form rest n i h = fits-step (fits form i) i
+row-step false form rest n i h = h
+
+rows-judged : (rows : List TableRow) (t : ℕ) (i : List ℕ) → andThen (formIn rows t) (λ f. judgedBy f i) ≡ asOutcome (faultIn rows t i) i
+unfolding formIn faultIn andThen asOutcome pick
+rows-judged [] t i = refl
+rows-judged (r ∷ rs) t i = row-step (eqb t (r .tunnelType)) (r .form) (formIn rs t) (faultIn rs t i) i (rows-judged rs t i)
+
+pub judged-faulty : (t : ℕ) (i : List ℕ) (n : ℕ) → n ≡ faultOf t i → (n ≡ 0 → ⊥) → judged t i ≡ refused n
+unfolding judged judgedBy formOf faultOf asOutcome
+judged-faulty t i n e d = rows-judged table t i ∙ rw (← e) (pick-else (eqb n 0) (given i) (refused n) (ne-eqb n 0 d))
+
+pub judged-fine : (t : ℕ) (i : List ℕ) → faultOf t i ≡ 0 → judged t i ≡ given i
+unfolding judged judgedBy formOf faultOf asOutcome
+judged-fine t i e = rows-judged table t i ∙ pick-then (eqb (faultOf t i) 0) (given i) (refused (faultOf t i)) (eq-eqb (faultOf t i) 0 e)
+
+-- the rows of the mLDP tunnel types
+pub p2mp-row : (t : ℕ) → t ≡ 2 → formOf t ≡ given (fecTypes (6 ∷ []))
+unfolding formOf formIn table pick
+p2mp-row t e = rw e
+
+pub mp2mp-row : (t : ℕ) → t ≡ 7 → formOf t ≡ given (fecTypes (7 ∷ 8 ∷ []))
+unfolding formOf formIn table pick
+mp2mp-row t e = rw e
+
+-- where a row's form is a FEC, an identifier without a fault is one
+pub fec-without-fault : (t : ℕ) (i ns : List ℕ) → formOf t ≡ given (fecTypes ns) → faultOf t i ≡ 0 → wholeFec i ≡ true
+unfolding judged andThen fits
+fec-without-fault t i ns e h =
+    let j : pick (fits (fecTypes ns) i) (given i) (refused IDENT) ≡ given i = rw e at (judged-fine t i h) in
+    both-held (wholeFec i) (oneOf (getD i 0 0) ns) (was-given (fits (fecTypes ns) i) i i IDENT j .0) .0
+
+-- a FEC's spans, from its length octet and the identifier's length
+pub fec-span : (i : List ℕ) (family : ℕ) → wholeFec i ≡ true → family ≡ numberIn (part i 1 2) 0
+    → _≡_ {A = Fec}
+    (record {
+      «fec_type» = getD i 0 0;
+      «address_family» = family;
+      root = record { start = 9; size = getD i 3 0 };
+      opaque = record { start = 11 + getD i 3 0; size = length i - 6 - getD i 3 0 };
+    })
+    (fecSpans (fecIn i))
+unfolding fecSpans fecIn
+fec-span i family h e = rw (root-length i h, opaque-length i h, e)
+
+-- the FEC of a tunnel type, by its row
+pub fec-by-row : (s rest ns : List ℕ) (r : Fec) → formOf (getD s 1 0) ≡ given (fecTypes ns) → rest ≡ drop 5 s → r ≡ fecSpans (fecIn rest) → r ≡ fecOf (fieldsIn s)
+unfolding fecOf fecOfForm fieldsIn onOutcome
+fec-by-row s rest ns r t k e = rw (t, ← k) e
+
+fecFrom : List ℕ → Outcome IdentifierForm → Fec
+fecFrom i o = onOutcome (λ _. noFec) (λ form. fecOfForm form i) o
+
+sized-row : (b : Bool) (ns i : List ℕ) (rest : Outcome IdentifierForm) → noFec ≡ fecFrom i rest → noFec ≡ fecFrom i (pick b (given (sizes ns)) rest)
+unfolding fecFrom fecOfForm onOutcome pick
+sized-row true ns i rest h = refl
+sized-row false ns i rest h = h
+
+fec-row : (b : Bool) (ns i : List ℕ) (rest : Outcome IdentifierForm) → b ≡ false → noFec ≡ fecFrom i rest → noFec ≡ fecFrom i (pick b (given (fecTypes ns)) rest)
+unfolding pick
+fec-row b ns i rest p h = rw p h
+
+no-row : (i : List ℕ) (n : ℕ) → noFec ≡ fecFrom i (refused n)
+unfolding fecFrom onOutcome
+no-row i n = refl
+
+pub other-fec : (s : List ℕ) → (getD s 1 0 ≡ 2 → ⊥) → (getD s 1 0 ≡ 7 → ⊥) → noFec ≡ fecOf (fieldsIn s)
+unfolding fecOf formOf formIn table fieldsIn fecFrom
+other-fec s a b = search (sized-row, fec-row, no-row, ne-eqb) depth 14
+
+-- the fields, from where they stand
+pub fields-are : (s : List ℕ) (label : ℕ) (fec : Fec) → 5 ≤ length s → label ≡ numberIn (part s 2 3) 0 → fec ≡ fecOf (fieldsIn s)
+    → _≡_ {A = Attribute}
+    (record {
+      flags = getD s 0 0;
+      «tunnel_type» = getD s 1 0;
+      «label_field» = label;
+      label = label / 16;
+      «leaf_information_required» = getD s 0 0 % 2;
+      identifier = record { start = 5; size = length s - 5 };
+      fec = fec;
+    })
+    (attributeOf (fieldsIn s))
+unfolding attributeOf fieldsIn labelOf leafInformationRequired
+fields-are s label shape h p q = rw (p, q, length-drop 5 s)
+
+pub fault-none : (t n : ℕ) (rest i : List ℕ) → rest ≡ i → n ≡ faultOf t rest → n ≡ 0 → faultOf t i ≡ 0
+fault-none t n rest i k e z = sym (rw (k, z) at e)
+
+-- reading, by the tests that the code makes
+pub read-long : (s : List ℕ) → 64 < length s → readAttribute s ≡ refused LONG
+unfolding readAttribute pick
+read-long s h = rw (lt-ltb 64 (length s) h)
+
+pub read-short : (s : List ℕ) → length s < 5 → readAttribute s ≡ refused SHORT
+unfolding readAttribute pick
+read-short s h = rw (le-ltb 64 (length s) (omega arith), lt-ltb (length s) 5 h)
+
+-- past LONG and SHORT the identifier decides
+pub read-judged : (s : List ℕ) → length s ≤ 64 → 5 ≤ length s → readAttribute s ≡ andThen (judged (getD s 1 0) (drop 5 s)) (λ _. given (fieldsIn s))
+unfolding readAttribute pick
+read-judged s a b = rw (le-ltb 64 (length s) a, le-ltb (length s) 5 b)
+
+pub read-faulty : (s rest : List ℕ) (n : ℕ) → length s ≤ 64 → 5 ≤ length s → rest ≡ drop 5 s → n ≡ faultOf (getD s 1 0) rest → (n ≡ 0 → ⊥) → readAttribute s ≡ refused n
+unfolding andThen
+read-faulty s rest n a b k e d = read-judged s a b ∙ rw (judged-faulty (getD s 1 0) (drop 5 s) n (rw k at e) d)
+
+pub read-fine : (s rest : List ℕ) (n : ℕ) → length s ≤ 64 → 5 ≤ length s → rest ≡ drop 5 s → n ≡ faultOf (getD s 1 0) rest → n ≡ 0 → readAttribute s ≡ given (fieldsIn s)
+unfolding andThen
+read-fine s rest n a b k e z = read-judged s a b ∙ rw (judged-fine (getD s 1 0) (drop 5 s) (sym (rw (k, z) at e)))
+
+-- what the answer then is
+pub answer-refused : (s : List ℕ) (n : ℕ) → readAttribute s ≡ refused n → refused n ≡ readAnswer s
+unfolding readAnswer andThen
+answer-refused s n e = rw e
+
+pub answer-given : (s : List ℕ) (f : Fields) (a : Attribute) → readAttribute s ≡ given f → a ≡ attributeOf f → given a ≡ readAnswer s
+unfolding readAnswer andThen
+answer-given s f a e q = rw (e, q)
+
+-- writing, by the tests that the code makes
+pub attribute-length : (f : Fields) → length (encodeAttribute f) ≡ 5 + length (f .identifier)
+unfolding encodeAttribute
+attribute-length f = simp (length-append, big-endian-length) (omega arith)
+
+-- past LONG, TUNNEL and IDENT
+unfoldable pub fieldsWritten : Fields → ℕ → Outcome (List ℕ)
+fieldsWritten f capacity = pick (ltb 16777215 (f .labelField)) (refused LABEL) (pick (ltb capacity (length (encodeAttribute f))) (refused SPACE) (given (encodeAttribute f)))
+
+abbrev writtenAs : ℕ → ℕ → Written
+writtenAs n s = record { number = n; size = s }
+
+module _ (f : Fields) (capacity : ℕ) where
+  pub write-long : 59 < length (f .identifier) → writeAttribute f capacity ≡ refused LONG
+  unfolding writeAttribute pick
+  write-long h = rw (lt-ltb 59 (length (f .identifier)) h)
+
+  pub write-judged : length (f .identifier) ≤ 59 → writeAttribute f capacity ≡ andThen (judged (f .tunnelType) (f .identifier)) (λ _. fieldsWritten f capacity)
+  unfolding writeAttribute fieldsWritten pick
+  write-judged h = rw (le-ltb 59 (length (f .identifier)) h)
+
+  pub write-faulty : length (f .identifier) ≤ 59 → (n : ℕ) → n ≡ faultOf (f .tunnelType) (f .identifier) → (n ≡ 0 → ⊥) → writeAttribute f capacity ≡ refused n
+  unfolding andThen
+  write-faulty h n e d = write-judged h ∙ rw (judged-faulty (f .tunnelType) (f .identifier) n e d)
+
+  module _ (h : length (f .identifier) ≤ 59) (n : ℕ) (e : n ≡ faultOf (f .tunnelType) (f .identifier)) (z : n ≡ 0) where
+    judged-here : writeAttribute f capacity ≡ fieldsWritten f capacity
+    unfolding andThen
+    judged-here = write-judged h ∙ rw (judged-fine (f .tunnelType) (f .identifier) (sym e ∙ z))
+
+    pub write-label : 16777215 < f .labelField → writeAttribute f capacity ≡ refused LABEL
+    unfolding fieldsWritten pick
+    write-label l = judged-here ∙ rw (lt-ltb 16777215 (f .labelField) l)
+
+    pub write-space : f .labelField ≤ 16777215 → capacity < 5 + length (f .identifier) → writeAttribute f capacity ≡ refused SPACE
+    unfolding fieldsWritten pick
+    write-space l k = judged-here ∙ rw (le-ltb 16777215 (f .labelField) l, lt-ltb capacity (length (encodeAttribute f)) (rw (attribute-length f) k))
+
+    pub write-fine : f .labelField ≤ 16777215 → 5 + length (f .identifier) ≤ capacity → writeAttribute f capacity ≡ given (encodeAttribute f)
+    unfolding fieldsWritten pick
+    write-fine l k = judged-here ∙ rw (le-ltb 16777215 (f .labelField) l, le-ltb capacity (length (encodeAttribute f)) (rw (attribute-length f) k))
+
+pub refusal-wrote : (o : Outcome (List ℕ)) (n : ℕ) (w : Written) (d : List ℕ) → o ≡ refused n → (w .number ≡ n) × (w .size ≡ 0) → (w ≡ writtenOf o) × (d ≡ outputOf o d)
+unfolding writtenOf outputOf onOutcome numberOf
+refusal-wrote o n w d e p = (rw e (ap₂ writtenAs (p .0) (p .1)), rw e)
+
+pub encoding-wrote : (o : Outcome (List ℕ)) (f : Fields) (w : Written) (d x : List ℕ) → o ≡ given (encodeAttribute f)
+    → (w .number ≡ 0) × ((w .size ≡ 5 + length (f .identifier)) × (x ≡ front (encodeAttribute f) d)) → (w ≡ writtenOf o) × (x ≡ outputOf o d)
+unfolding writtenOf outputOf onOutcome numberOf
+encoding-wrote o f w d x e p = (rw e (ap₂ writtenAs (p .0) (p .1 .0 ∙ sym (attribute-length f))), rw e (p .1 .1))

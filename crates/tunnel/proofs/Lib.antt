@@ -1,0 +1,8 @@
+-- Laws of the definitions, and the theorems.
+pub mod Laws
+pub mod FecTheorem
+pub mod IdentifierTheorem
+pub mod ReadingTheorem
+pub mod WritingTheorem
+pub mod Theorems
+pub mod Examples

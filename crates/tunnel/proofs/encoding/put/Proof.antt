@@ -1,0 +1,37 @@
+-- `tunnel::encoding::put` meets its contract: the identifier stands straight after the header.
+use denote.Ref.{now}
+use mathlib.Core.Path.{_≡_, refl, sym, _∙_}
+use mathlib.Core.List.{_∷_}
+use lib.ListN.{length}
+use Rattle.octets.specs.Octets.{bigEndian}
+use Rattle.octets.proofs.Lists.{placed-then, front-is-placed}
+use Rattle.octets.proofs.NetworkOrder.{big-endian-length}
+use native.Mathlib.Omega.{arith}
+use Rattle.tunnel.specs.Attribute.{encodeAttribute}
+use Rattle.tunnel.specs.Answers.{fieldsOf}
+use borrow.Author.Needs.{needs}
+use Rattle.tunnel.proofs.encoding.put.Statement.{statement}
+use Rattle.tunnel.proofs.encoding.put.Tie as tie
+
+put-header-requires : tie.Need-put-header-requires
+put-header-requires c κs = search needs
+
+place-requires : tie.Need-place-requires
+place-requires c κs = search needs
+
+same-length : tie.Need-same-length
+same-length c = search needs
+
+returns : tie.Need-returns
+unfolding encodeAttribute
+returns c =
+    let a = c .before .before .before .before .before .before .before .before .before .before .args in
+    let h = c .before .before .before .before .before .before .put-header in
+    let p = c .before .before .place in
+    let e = a .flags ∷ (a .tunnel-type ∷ bigEndian 3 (a .label-field)) in
+    let l : length e ≡ 5 = omega (arith, big-endian-length 3 (a .label-field)) in
+    let octets = placed-then 0 (h .result) e (now (a .identifier)) (now (a .output)) (h .last .1 .1 .1 .0) (p .last .1 .0) (omega (arith, c .before .before .before .before .before .before .before .before .before .before .pre)) (omega (arith, h .ensures .0)) (h .ensures .1) (p .ensures .1) in
+    (refl, (search needs, octets ∙ sym (front-is-placed (encodeAttribute (fieldsOf (a .flags) (a .tunnel-type) (a .label-field) (now (a .identifier)))) (now (a .output)))))
+
+pub put-spec : {M : Type 1} → statement M
+put-spec = tie.close (tie.spec put-header-requires place-requires same-length returns)

@@ -1,0 +1,79 @@
+-- What the public calls answer, in document 01's numbers and values.
+use Prim.Native.Nat.{ℕ, _+_}
+use mathlib.Core.List.{List}
+use lib.ListN.{length}
+use Rattle.octets.specs.Outcome.{Outcome, given, refused, andThen, onOutcome, numberOf}
+use Rattle.octets.specs.Octets.{front}
+use Rattle.octets.specs.declared.Span.{Span}
+use Rattle.octets.specs.declared.Written.{Written}
+use Rattle.tunnel.specs.declared.Reading.{Reading}
+use Rattle.tunnel.specs.declared.Reading.the-variants.{Attribute as read, Refused as no}
+use Rattle.tunnel.specs.declared.Attribute.{Attribute}
+use Rattle.tunnel.specs.declared.fec.Fec.{Fec}
+use Rattle.tunnel.specs.Fec.{FecFields, fecIn}
+use Rattle.tunnel.specs.Identifier.{IdentifierForm, sizes, fecTypes, formOf}
+use Rattle.tunnel.specs.Attribute.{Fields, labelOf, leafInformationRequired, readAttribute, writeAttribute}
+
+-- what a reading's cases mean
+unfoldable pub outcomeOf : Reading → Outcome Attribute
+outcomeOf (read a) = given a
+outcomeOf (no n) = refused n
+
+abbrev span : ℕ → ℕ → Span
+span start size = record { start = start; size = size }
+
+-- a FEC in its attribute: the root from octet 9 on, the opaque value after it and the opaque length
+unfoldable pub fecSpans : FecFields → Fec
+fecSpans f =
+    record {
+      «fec_type» = f .fecType;
+      «address_family» = f .addressFamily;
+      root = span 9 (length (f .root));
+      opaque = span (11 + length (f .root)) (length (f .opaqueValue));
+    }
+
+-- no FEC: all 0
+unfoldable pub noFec : Fec
+noFec = record { «fec_type» = 0; «address_family» = 0; root = span 0 0; opaque = span 0 0 }
+
+-- the FEC of an identifier whose form is one
+unfoldable pub fecOfForm : IdentifierForm → List ℕ → Fec
+fecOfForm (sizes ns) i = noFec
+fecOfForm (fecTypes ns) i = fecSpans (fecIn i)
+
+-- the FEC of an attribute, by its tunnel type's row
+unfoldable pub fecOf : Fields → Fec
+fecOf f = onOutcome (λ _. noFec) (λ form. fecOfForm form (f .identifier)) (formOf (f .tunnelType))
+
+-- an attribute's fields, the identifier from octet 5 on
+unfoldable pub attributeOf : Fields → Attribute
+attributeOf f =
+    record {
+      flags = f .flags;
+      «tunnel_type» = f .tunnelType;
+      «label_field» = f .labelField;
+      label = labelOf f;
+      «leaf_information_required» = leafInformationRequired f;
+      identifier = span 5 (length (f .identifier));
+      fec = fecOf f;
+    }
+
+-- what reading answers: the attribute, or the number alone
+unfoldable pub readAnswer : List ℕ → Outcome Attribute
+readAnswer s = andThen (readAttribute s) (λ f. given (attributeOf f))
+
+-- a writer's arguments
+abbrev pub fieldsOf : ℕ → ℕ → ℕ → List ℕ → Fields
+fieldsOf flags type label identifier = record { flags = flags; tunnelType = type; labelField = label; identifier = identifier }
+
+-- what writing them into an output comes to
+abbrev pub writeOutcome : ℕ → ℕ → ℕ → List ℕ → List ℕ → Outcome (List ℕ)
+writeOutcome flags type label identifier output = writeAttribute (fieldsOf flags type label identifier) (length output)
+
+-- a writer's number, and how many octets it wrote
+unfoldable pub writtenOf : Outcome (List ℕ) → Written
+writtenOf o = record { number = numberOf o; size = onOutcome (λ _. 0) length o }
+
+-- the output afterwards: the encoding at its front, or as it was
+unfoldable pub outputOf : Outcome (List ℕ) → List ℕ → List ℕ
+outputOf o d = onOutcome (λ _. d) (λ e. front e d) o

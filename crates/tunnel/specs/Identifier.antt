@@ -1,0 +1,76 @@
+-- Document 01, "PMSI Tunnel attribute": the table of identifiers.
+use Prim.Native.Nat.{ℕ}
+use mathlib.Core.Path.{_≡_}
+use mathlib.Core.Bool.{Bool, false}
+use mathlib.Core.List.{List, [], _∷_}
+use lib.Dec.{eqb}
+use lib.ListN.{length, getD}
+use Rattle.octets.specs.Choice.{pick, both, either}
+use Rattle.octets.specs.Numbers.{TUNNEL, IDENT}
+use Rattle.octets.specs.Outcome.{Outcome, given, refused, andThen}
+use Rattle.tunnel.specs.Fec.{FecFields, WellFormedFec, encodeFec, wholeFec}
+
+-- a form of identifiers: of one of these sizes; or a FEC whose first octet is one of these
+pub data IdentifierForm : Type 0 where
+  sizes : List ℕ → IdentifierForm
+  fecTypes : List ℕ → IdentifierForm
+
+pub record TableRow : Type 0 where
+  pub tunnelType : ℕ
+  pub form : IdentifierForm
+
+abbrev row : ℕ → IdentifierForm → TableRow
+row t f = record { tunnelType = t; form = f }
+
+-- the table: a tunnel type and its identifier's form to a row
+unfoldable pub table : List TableRow
+table =
+    row 0 (sizes (0 ∷ []))
+    ∷ row 1 (sizes (12 ∷ []))
+    ∷ row 2 (fecTypes (6 ∷ []))
+    ∷ row 3 (sizes (8 ∷ 32 ∷ []))
+    ∷ row 4 (sizes (8 ∷ 32 ∷ []))
+    ∷ row 5 (sizes (8 ∷ 32 ∷ []))
+    ∷ row 6 (sizes (4 ∷ 16 ∷ []))
+    ∷ row 7 (fecTypes (7 ∷ 8 ∷ []))
+    ∷ row 11 (sizes (7 ∷ 19 ∷ []))
+    ∷ []
+
+-- the form in a tunnel type's row; TUNNEL where there is none
+unfoldable pub formIn : List TableRow → ℕ → Outcome IdentifierForm
+formIn [] t = refused TUNNEL
+formIn (r ∷ rs) t = pick (eqb t (r .tunnelType)) (given (r .form)) (formIn rs t)
+
+-- the same in document 01's table
+unfoldable pub formOf : ℕ → Outcome IdentifierForm
+formOf t = formIn table t
+
+-- a number is one of a list's
+pub data Among (n : ℕ) : List ℕ → Type 0 where
+  here : {ns : List ℕ} → Among n (n ∷ ns)
+  there : {m : ℕ} {ns : List ℕ} → Among n ns → Among n (m ∷ ns)
+
+-- an identifier of a form
+pub data IsIdentifier : IdentifierForm → List ℕ → Type 0 where
+  ofSize : {ns i : List ℕ} → Among (length i) ns → IsIdentifier (sizes ns) i
+  ofFec : {ns : List ℕ} {f : FecFields} → WellFormedFec f → Among (f .fecType) ns → IsIdentifier (fecTypes ns) (encodeFec f)
+
+-- an identifier of the form in a tunnel type's row
+pub record OfType (t : ℕ) (i : List ℕ) : Type 0 where
+  pub form : IdentifierForm
+  pub inTable : formOf t ≡ given form
+  pub ofForm : IsIdentifier form i
+
+-- the same as `Among`, computed
+unfoldable pub oneOf : ℕ → List ℕ → Bool
+oneOf n [] = false
+oneOf n (m ∷ ms) = either (eqb n m) (oneOf n ms)
+
+-- the same as `IsIdentifier`, computed
+unfoldable pub fits : IdentifierForm → List ℕ → Bool
+fits (sizes ns) i = oneOf (length i) ns
+fits (fecTypes ns) i = both (wholeFec i) (oneOf (getD i 0 0) ns)
+
+-- an identifier judged by its tunnel type: TUNNEL, IDENT, or the identifier itself
+unfoldable pub judged : ℕ → List ℕ → Outcome (List ℕ)
+judged t i = andThen (formOf t) (λ form. pick (fits form i) (given i) (refused IDENT))

@@ -1,0 +1,57 @@
+// The fields of an attribute, taken from where they stand.
+ghost use mathlib.Core.Path.{_≡_};
+ghost use Prim.Native.Nat.{_≤_};
+ghost use lib.ListN.{length, getD, drop};
+ghost use Rattle.tunnel.specs.Attribute.{fieldsIn};
+ghost use Rattle.tunnel.specs.Inner.{faultOf};
+ghost use Rattle.tunnel.specs.Answers.{attributeOf, fecOf};
+use crate::Attribute;
+use crate::fec::Fec;
+use crate::tunnel_type::TunnelType;
+use octets::Span;
+
+// The FEC of an mLDP tunnel type.
+fn fec_of(s: &[u8]) -> Fec
+    requires { ⌜ 5 ≤ length (now s) ⌝ }
+    requires { ⌜ faultOf (getD (now s) 1 0) (drop 5 (now s)) ≡ 0 ⌝ }
+    ensures { λ r. ⌜ r ≡ fecOf (fieldsIn (now (s .entry))) ⌝ }
+{
+    let tunnel_type = s[1];
+    if tunnel_type == TunnelType::MLDP_P2MP {
+        return crate::fec::spans(octets::parts::after(s, crate::HEADER));
+    }
+    if tunnel_type == TunnelType::MLDP_MP2MP {
+        return crate::fec::spans(octets::parts::after(s, crate::HEADER));
+    }
+    Fec {
+        fec_type: 0,
+        address_family: 0,
+        root: Span { start: 0, size: 0 },
+        opaque: Span { start: 0, size: 0 },
+    }
+}
+
+// All the fields of an attribute whose identifier has no fault.
+pub(crate) fn fields(s: &[u8]) -> Attribute
+    requires { ⌜ 5 ≤ length (now s) ⌝ }
+    requires { ⌜ faultOf (getD (now s) 1 0) (drop 5 (now s)) ≡ 0 ⌝ }
+    ensures { λ r. ⌜ r ≡ attributeOf (fieldsIn (now (s .entry))) ⌝ }
+{
+    let label_field = octets::wide::three(s, 2);
+    let fec = fec_of(s);
+    let flags = s[0] as u32;
+    let tunnel_type = s[1] as u32;
+    let size = s.len() - crate::HEADER;
+    Attribute {
+        flags,
+        tunnel_type,
+        label_field,
+        label: label_field / 16,
+        leaf_information_required: flags % 2,
+        identifier: Span {
+            start: crate::HEADER,
+            size,
+        },
+        fec,
+    }
+}
