@@ -1,0 +1,126 @@
+//! The listing program: its whole output and exit status beside the second decoder's text.
+
+use super::{
+    document::{LISTED, LISTED_TEXT},
+    near,
+    samples::nlris,
+};
+use crate::{
+    compare::{disagree, Checked, Disagreement, Harness},
+    hexadecimal::{encode, octets},
+    random::Random,
+};
+use std::{
+    io::{self, Write},
+    process::{Child, Command, Stdio},
+    thread::sleep,
+    time::Duration,
+};
+
+/// A run for each refusal, 1 to 5, behind one well-formed NLRI.
+const REFUSALS: [&str; 8] = ["03", "0305 00", "0900", "0300", "0309 0000006400000007 18", "0400", "0401 05", "0905 00"];
+
+const RANDOM_RUNS: usize = 250;
+
+pub fn all(harness: &mut Harness, random: &mut Random, program: &str) -> Checked {
+    let text = output(program, &octets(LISTED), &Pace::Whole)?;
+    if text != LISTED_TEXT {
+        return disagree("document 01, the listing".into(), text, LISTED_TEXT.into());
+    }
+    let whole = nlris(1).into_iter().flat_map(|sample| sample.octets).collect::<Vec<u8>>();
+    for run in fixed_runs(random, &whole) {
+        compare(harness, program, &run, &Pace::Whole)?;
+        compare(harness, program, &run, &Pace::Pieces(1 + run.len() / 9))?;
+    }
+    compare(harness, program, &octets(LISTED), &Pace::Pieces(1))?;
+    for number in 0..RANDOM_RUNS {
+        let run = random_run(random);
+        let pace = if number % 5 == 0 { Pace::Pieces(1 + random.below(200)) } else { Pace::Whole };
+        compare(harness, program, &run, &pace)?;
+    }
+    Ok(())
+}
+
+/// Empty, each refusal, each sample, and sizes about the limit.
+fn fixed_runs(random: &mut Random, whole: &[u8]) -> Vec<Vec<u8>> {
+    let mut runs = vec![Vec::new(), whole.to_vec(), octets(LISTED)];
+    runs.extend(REFUSALS.map(octets));
+    runs.extend(REFUSALS.map(|refused| [whole, &octets(refused)].concat()));
+    for size in [4_094, 4_095, 4_096, 4_097, 4_098, 8_192, 10_000, 70_000] {
+        runs.push(near::run_of(random, 1, size));
+        runs.push(vec![0; size]);
+    }
+    runs
+}
+
+fn random_run(random: &mut Random) -> Vec<u8> {
+    if random.once_in(6) {
+        let size = random.below(5_000);
+        return random.octets(size);
+    }
+    let count = random.below(60);
+    let mut run = Vec::new();
+    for _ in 0..count {
+        let mut octets = near::nlri(random, 1);
+        if random.once_in(20) {
+            near::disturb_nlri(random, &mut octets);
+        }
+        run.extend(octets);
+    }
+    run
+}
+
+/// How standard input is fed: at once, or in pieces with a pause after each.
+enum Pace {
+    Whole,
+    Pieces(usize),
+}
+
+fn compare(harness: &mut Harness, program: &str, run: &[u8], pace: &Pace) -> Checked {
+    harness.inputs += 1;
+    harness.calls += 1;
+    let second = harness.second.listing(run);
+    let archive = output(program, run, pace)?;
+    match archive == second {
+        true => Ok(()),
+        false => disagree(format!("listing of {}", encode(run)), archive, second),
+    }
+}
+
+/// The program's standard output; its exit status must be 0.
+fn output(program: &str, run: &[u8], pace: &Pace) -> Result<String, Disagreement> {
+    let failed = |what: String| Disagreement {
+        call: format!("listing of {}", encode(run)),
+        archive: what,
+        second: "exit status 0".into(),
+    };
+    let mut child = Command::new(program)
+        .stdin(Stdio::piped())
+        .stdout(Stdio::piped())
+        .spawn()
+        .map_err(|error| failed(format!("cannot start {program}: {error}")))?;
+    feed(&mut child, run, pace).map_err(|error| failed(format!("cannot feed standard input: {error}")))?;
+    let output = child.wait_with_output().map_err(|error| failed(error.to_string()))?;
+    if !output.status.success() {
+        return Err(failed(format!("{}", output.status)));
+    }
+    Ok(String::from_utf8_lossy(&output.stdout).into_owned())
+}
+
+/// Writes the run and closes the pipe. A program that has seen enough may close its end first.
+fn feed(child: &mut Child, run: &[u8], pace: &Pace) -> io::Result<()> {
+    let mut pipe = child.stdin.take().expect("standard input is piped");
+    let result = match pace {
+        Pace::Whole => pipe.write_all(run),
+        Pace::Pieces(size) => run.chunks(*size).try_for_each(|piece| {
+            pipe.write_all(piece)?;
+            pipe.flush()?;
+            sleep(Duration::from_micros(300));
+            Ok(())
+        }),
+    };
+    match result {
+        Err(error) if error.kind() == io::ErrorKind::BrokenPipe => Ok(()),
+        other => other,
+    }
+}

@@ -1,0 +1,158 @@
+//! Writing NLRIs: every output size, every address size, junk in fields that the type lacks, good and bad keys.
+
+use super::{
+    near,
+    samples::{all_nlris, Sample, BAD_AFIS, GOOD_AFIS},
+};
+use crate::{
+    compare::{Checked, Harness, Input},
+    ffi::{Address, Nlri, RouteDistinguisher},
+    random::Random,
+};
+
+pub fn all(harness: &mut Harness, random: &mut Random) -> Checked {
+    for sample in all_nlris() {
+        outputs(harness, random, &sample)?;
+        address_sizes(harness, &sample)?;
+        route_types(harness, random, &sample)?;
+        if sample.nlri.route_type == 4 {
+            keys(harness, &sample)?;
+        }
+    }
+    Ok(())
+}
+
+/// Every output size, with the fields as read and with junk wherever it does not count.
+fn outputs(harness: &mut Harness, random: &mut Random, sample: &Sample) -> Checked {
+    for room in 0..=sample.octets.len() + 2 {
+        harness.inputs += 2;
+        harness.nlri_write(sample.afi, sample.nlri, &sample.key, room)?;
+        let (nlri, key) = with_junk(random, sample);
+        harness.nlri_write(sample.afi, nlri, &key, room)?;
+    }
+    for room in [100, 255, 4_096] {
+        harness.nlri_write(sample.afi, sample.nlri, &sample.key, room)?;
+    }
+    Ok(())
+}
+
+/// The sample with junk in the fields that its type lacks and in the octets past an address's size.
+fn with_junk(random: &mut Random, sample: &Sample) -> (Nlri, Vec<u8>) {
+    let (mut nlri, read) = (fields(random), sample.nlri);
+    let route_type = read.route_type;
+    nlri.route_type = route_type;
+    if route_type != 4 {
+        nlri.distinguisher = read.distinguisher;
+    }
+    if matches!(route_type, 2 | 6 | 7) {
+        nlri.source_as = read.source_as;
+    }
+    if matches!(route_type, 3 | 5..=7) {
+        nlri.source = padded(random, read.source);
+        nlri.group = padded(random, read.group);
+    }
+    if matches!(route_type, 1 | 3 | 4) {
+        nlri.originator = padded(random, read.originator);
+    }
+    let junk = random.below(40);
+    let key = if route_type == 4 { sample.key.clone() } else { random.octets(junk) };
+    (nlri, key)
+}
+
+/// The address with junk past its size.
+fn padded(random: &mut Random, address: Address) -> Address {
+    let mut octets = random.array::<16>();
+    let size = usize::from(address.size);
+    octets[..size].copy_from_slice(&address.octets[..size]);
+    Address { octets, size: address.size }
+}
+
+/// Every value of each size octet, and pairs of bad sizes.
+fn address_sizes(harness: &mut Harness, sample: &Sample) -> Checked {
+    let room = sample.octets.len();
+    for size in 0..=255 {
+        let choices: [fn(&mut Nlri) -> &mut Address; 3] =
+            [|nlri| &mut nlri.source, |nlri| &mut nlri.group, |nlri| &mut nlri.originator];
+        for address in choices {
+            let mut nlri = sample.nlri;
+            address(&mut nlri).size = size;
+            harness.inputs += 1;
+            harness.nlri_write(sample.afi, nlri, &sample.key, room + 16)?;
+            harness.nlri_write(sample.afi, nlri, &[], room)?;
+        }
+    }
+    Ok(())
+}
+
+/// The sample's fields under every route type and AFI.
+fn route_types(harness: &mut Harness, random: &mut Random, sample: &Sample) -> Checked {
+    for route_type in 0..=255 {
+        let nlri = Nlri { route_type, ..sample.nlri };
+        let room = random.below(90);
+        for afi in GOOD_AFIS.into_iter().chain(BAD_AFIS) {
+            harness.inputs += 1;
+            harness.nlri_write(afi, nlri, &sample.key, room)?;
+        }
+    }
+    Ok(())
+}
+
+/// Every truncation and single-octet change of a key, octets after it, and a bad originator beside a bad key.
+fn keys(harness: &mut Harness, sample: &Sample) -> Checked {
+    let (afi, nlri, room) = (sample.afi, sample.nlri, sample.octets.len());
+    let mut bad_originator = nlri;
+    bad_originator.originator.size = 5;
+    for size in 0..=sample.key.len() {
+        harness.nlri_write(afi, nlri, Input::cut(&sample.key, size), room)?;
+        harness.nlri_write(afi, bad_originator, Input::cut(&sample.key, size), 0)?;
+    }
+    for extra in [1, 2, 16, 254, 255, 256, 512, 65_536] {
+        let key = [sample.key.clone(), vec![0; extra]].concat();
+        harness.nlri_write(afi, nlri, &key, room + 600)?;
+    }
+    for place in 0..sample.key.len() {
+        for value in 0..=255 {
+            let mut key = sample.key.clone();
+            key[place] = value;
+            harness.inputs += 1;
+            harness.nlri_write(afi, nlri, &key, room)?;
+        }
+    }
+    Ok(())
+}
+
+/// Random fields with mostly allowed sizes.
+pub fn fields(random: &mut Random) -> Nlri {
+    Nlri {
+        distinguisher: RouteDistinguisher { octets: random.array() },
+        source: address(random),
+        group: address(random),
+        originator: address(random),
+        source_as: random.number() as u32,
+        route_type: random.octet() % 9,
+    }
+}
+
+fn address(random: &mut Random) -> Address {
+    let size = if random.once_in(16) { random.octet() } else { random.pick(&[0, 4, 16]) };
+    Address { octets: random.array(), size }
+}
+
+/// One random writing call.
+pub fn random_case(harness: &mut Harness, random: &mut Random) -> Checked {
+    let afi = near::afi(random);
+    let mut nlri = fields(random);
+    // Sizes that suit the family, most of the time.
+    let size = if afi == 2 { 16 } else { 4 };
+    for address in [&mut nlri.source, &mut nlri.group] {
+        if !random.once_in(4) {
+            address.size = size;
+        }
+    }
+    let mut key = near::key(random, afi);
+    if random.once_in(3) {
+        near::disturb_nlri(random, &mut key);
+    }
+    let room = random.below(96);
+    harness.nlri_write(afi, nlri, &key, room)
+}

@@ -1,0 +1,111 @@
+//! Each call of the archive beside the second decoder: all fields of the answer, and every lent octet afterwards.
+
+pub mod attribute;
+pub mod group;
+pub mod nlri;
+pub mod run;
+
+use crate::{coverage::Coverage, hexadecimal::encode, lent::Lent, second::Second};
+use std::fmt::{self, Debug, Display};
+
+/// A call on which the archive does not answer as it should.
+#[derive(Debug)]
+pub struct Disagreement {
+    pub call: String,
+    pub archive: String,
+    pub second: String,
+}
+
+impl Display for Disagreement {
+    fn fmt(&self, formatter: &mut fmt::Formatter) -> fmt::Result {
+        write!(formatter, "call    {}\narchive {}\nsecond  {}", self.call, self.archive, self.second)
+    }
+}
+
+pub type Checked = Result<(), Disagreement>;
+
+/// Octets for a call, and what stands right behind them in memory, which the call must not look at.
+#[derive(Clone, Copy)]
+pub struct Input<'a> {
+    pub octets: &'a [u8],
+    pub after: &'a [u8],
+}
+
+impl<'a> Input<'a> {
+    /// The first `size` octets, with the rest standing behind them.
+    pub fn cut(whole: &'a [u8], size: usize) -> Self {
+        let (octets, after) = whole.split_at(size);
+        Input { octets, after }
+    }
+}
+
+impl<'a> From<&'a [u8]> for Input<'a> {
+    fn from(octets: &'a [u8]) -> Self {
+        Input { octets, after: &[] }
+    }
+}
+
+impl<'a> From<&'a Vec<u8>> for Input<'a> {
+    fn from(octets: &'a Vec<u8>) -> Self {
+        Input { octets, after: &[] }
+    }
+}
+
+impl<'a, const SIZE: usize> From<&'a [u8; SIZE]> for Input<'a> {
+    fn from(octets: &'a [u8; SIZE]) -> Self {
+        Input { octets, after: &[] }
+    }
+}
+
+/// The comparison's state: the second decoder, the lent buffers and what has been met.
+#[derive(Default)]
+pub struct Harness {
+    pub second: Second,
+    pub coverage: Coverage,
+    /// Calls compared.
+    pub calls: u64,
+    /// Inputs made, each given to one call or more.
+    pub inputs: u64,
+    input: Lent,
+    output: Lent,
+}
+
+impl Harness {
+    pub fn new(second: Second) -> Self {
+        Harness { second, ..Default::default() }
+    }
+
+    /// Lends the octets with a guard pattern that changes from call to call.
+    fn lend(&mut self, input: Input) {
+        self.input.place(input.octets, input.after, (self.calls % 251) as u8);
+    }
+
+    fn lend_output(&mut self, size: usize) {
+        self.output.place_output(size, (self.calls % 239) as u8);
+    }
+
+    /// Checks one answer, and that the lent buffers hold what they should.
+    fn agree<Answer: PartialEq + Debug>(
+        &mut self,
+        call: impl Fn() -> String,
+        archive: &Answer,
+        second: &Answer,
+    ) -> Checked {
+        self.calls += 1;
+        if archive != second {
+            return disagree(call(), format!("{archive:?}"), format!("{second:?}"));
+        }
+        for (name, lent) in [("input", &self.input), ("output", &self.output)] {
+            if let Some(place) = lent.disturbed() {
+                let archive = format!("{archive:?}, octet {place} of the {name} is wrong: {}", encode(lent.octets()));
+                return disagree(call(), archive, format!("{second:?}, {name}: {}", encode(lent.expected())));
+            }
+        }
+        Ok(())
+    }
+}
+
+/// A disagreement as an error.
+pub fn disagree(call: String, archive: String, second: String) -> Checked {
+    Err(Disagreement { call, archive, second })
+}

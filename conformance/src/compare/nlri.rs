@@ -1,0 +1,81 @@
+//! `mvpn_nlri_read` and `mvpn_nlri_write`.
+
+use super::{disagree, Checked, Harness, Input};
+use crate::{
+    coverage::{Call, Seen},
+    ffi::{self, Nlri, NlriReading},
+    hexadecimal::encode,
+    second::answers,
+};
+
+impl Harness {
+    pub fn nlri_read<'a>(&mut self, afi: u16, input: impl Into<Input<'a>>) -> Checked {
+        self.nlri_reading(afi, input).map(|_| ())
+    }
+
+    /// Compares a reading and hands the archive's answer on.
+    pub fn nlri_reading<'a>(
+        &mut self,
+        afi: u16,
+        input: impl Into<Input<'a>>,
+    ) -> Result<NlriReading, super::Disagreement> {
+        let input = input.into();
+        self.lend(input);
+        let archive = ffi::nlri_read(afi, &mut self.input);
+        let second = self.second.answer_nlri_read(afi, input.octets);
+        self.agree(|| format!("mvpn_nlri_read(afi {afi}, nlri {})", encode(input.octets)), &archive, &second)?;
+        self.count_reading(afi, &archive, input.octets);
+        Ok(archive)
+    }
+
+    fn count_reading(&mut self, afi: u16, reading: &NlriReading, octets: &[u8]) {
+        self.coverage.count(Call::NlriRead, Seen::Number(reading.number));
+        if reading.number != 0 {
+            return;
+        }
+        let nlri = &reading.nlri;
+        let originator = usize::from(nlri.originator.size);
+        self.coverage.count(Call::NlriRead, Seen::Route(nlri.route_type.into(), afi));
+        if nlri.route_type == 3 {
+            let (source, group) = (nlri.source.size == 0, nlri.group.size == 0);
+            self.coverage.count(Call::NlriRead, Seen::SPmsi(afi, source, group, originator));
+        }
+        if nlri.route_type == 4 {
+            self.coverage.count(Call::NlriRead, Seen::Leaf(afi, octets[2], originator));
+        }
+    }
+
+    pub fn nlri_write<'a>(&mut self, afi: u16, nlri: Nlri, key: impl Into<Input<'a>>, room: usize) -> Checked {
+        let key = key.into();
+        self.lend(key);
+        self.lend_output(room);
+        let archive = ffi::nlri_write(afi, nlri, &mut self.input, &mut self.output);
+        let encoding = self.second.nlri_write(afi, &nlri, key.octets, room);
+        self.output.expect_front(encoding.as_deref().unwrap_or(&[]));
+        self.agree(
+            || format!("mvpn_nlri_write(afi {afi}, {nlri:?}, key {}, output of {room})", encode(key.octets)),
+            &archive,
+            &answers::written(&encoding),
+        )?;
+        self.coverage.count(Call::NlriWrite, Seen::Number(archive.number));
+        if archive.number == 0 {
+            self.coverage.count(Call::NlriWrite, Seen::Route(nlri.route_type.into(), afi));
+        }
+        Ok(())
+    }
+
+    /// What the archive reads, the archive writes back to the same octets. Gives whether it was read.
+    pub fn nlri_round_trip(&mut self, afi: u16, octets: &[u8]) -> Result<bool, super::Disagreement> {
+        let reading = self.nlri_reading(afi, octets)?;
+        if reading.number != 0 {
+            return Ok(false);
+        }
+        let key = octets[reading.key.start..][..reading.key.size].to_vec();
+        self.nlri_write(afi, reading.nlri, &key, octets.len())?;
+        if self.output.octets() != octets {
+            let written = encode(self.output.octets());
+            disagree(format!("read and write back (afi {afi}, nlri {})", encode(octets)), written, encode(octets))?;
+        }
+        Ok(true)
+    }
+}

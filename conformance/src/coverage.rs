@@ -1,0 +1,97 @@
+//! What the comparison has met: the numbers of each call, route types, tunnel types and group classes.
+
+use std::collections::BTreeMap;
+
+/// Each row must be met this often.
+pub const LEAST: u64 = 100;
+
+#[derive(Clone, Copy, Debug, PartialEq, Eq, PartialOrd, Ord)]
+pub enum Call {
+    NlriRead,
+    NlriWrite,
+    Step,
+    Walk,
+    GroupClass,
+    AttributeRead,
+    AttributeWrite,
+}
+
+#[derive(Clone, Copy, Debug, PartialEq, Eq, PartialOrd, Ord)]
+pub enum Seen {
+    Number(u32),
+    /// An accepted route type and its AFI.
+    Route(usize, u16),
+    /// An accepted S-PMSI route: AFI, wildcard source, wildcard group, octets of the originator.
+    SPmsi(u16, bool, bool, usize),
+    /// An accepted Leaf: AFI, route type of its key, octets of the originator.
+    Leaf(u16, u8, usize),
+    /// A step at the run's end.
+    End,
+    /// AFI and class.
+    Class(u16, u32),
+    Tunnel(u32),
+    /// Tunnel type, FEC type and address family.
+    Fec(u32, u32, u32),
+}
+
+/// The numbers that each call can give (document 01, "Order").
+const NUMBERS: [(Call, &[u32]); 7] = [
+    (Call::NlriRead, &[0, 1, 2, 3, 4, 5, 10]),
+    (Call::NlriWrite, &[0, 2, 4, 5, 10, 16]),
+    (Call::Step, &[0, 1, 2, 3, 4, 5, 8, 10]),
+    (Call::Walk, &[0, 1, 2, 3, 4, 5, 8, 10]),
+    (Call::GroupClass, &[0, 10, 15]),
+    (Call::AttributeRead, &[0, 1, 6, 7, 8]),
+    (Call::AttributeWrite, &[0, 6, 7, 8, 9, 16]),
+];
+
+const TUNNELS: [u32; 9] = [0, 1, 2, 3, 4, 5, 6, 7, 11];
+
+#[derive(Default)]
+pub struct Coverage {
+    rows: BTreeMap<(Call, Seen), u64>,
+}
+
+impl Coverage {
+    pub fn count(&mut self, call: Call, seen: Seen) {
+        *self.rows.entry((call, seen)).or_default() += 1;
+    }
+
+    /// The rows that were met too rarely, with their counts.
+    pub fn unmet(&self) -> Vec<((Call, Seen), u64)> {
+        let met = |row: &(Call, Seen)| self.rows.get(row).copied().unwrap_or(0);
+        required().into_iter().map(|row| (row, met(&row))).filter(|(_, count)| *count < LEAST).collect()
+    }
+
+    /// One line for each row.
+    pub fn report(&self) -> String {
+        self.rows.iter().map(|((call, seen), count)| format!("  {call:?} {seen:?}: {count}\n")).collect()
+    }
+}
+
+fn required() -> Vec<(Call, Seen)> {
+    let numbers =
+        NUMBERS.iter().flat_map(|(call, numbers)| numbers.iter().map(|number| (*call, Seen::Number(*number))));
+    let families = [1, 2].into_iter().flat_map(required_of_family);
+    let tunnels = [Call::AttributeRead, Call::AttributeWrite]
+        .into_iter()
+        .flat_map(|call| TUNNELS.map(|tunnel_type| (call, Seen::Tunnel(tunnel_type))));
+    let elements = [(2, 6), (7, 7), (7, 8)]
+        .into_iter()
+        .flat_map(|(tunnel, element)| [1, 2].map(|family| (Call::AttributeRead, Seen::Fec(tunnel, element, family))));
+    numbers.chain(families).chain(tunnels).chain(elements).chain([(Call::Step, Seen::End)]).collect()
+}
+
+fn required_of_family(afi: u16) -> Vec<(Call, Seen)> {
+    let mut rows = vec![(Call::GroupClass, Seen::Class(afi, 1)), (Call::GroupClass, Seen::Class(afi, 2))];
+    for call in [Call::NlriRead, Call::NlriWrite, Call::Step] {
+        rows.extend((1..=7).map(|route_type| (call, Seen::Route(route_type, afi))));
+    }
+    for originator in [4, 16] {
+        for (source, group) in [(false, false), (false, true), (true, false), (true, true)] {
+            rows.push((Call::NlriRead, Seen::SPmsi(afi, source, group, originator)));
+        }
+        rows.extend((1..=3).map(|key| (Call::NlriRead, Seen::Leaf(afi, key, originator))));
+    }
+    rows
+}

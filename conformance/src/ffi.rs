@@ -1,0 +1,210 @@
+//! The C interface of the archive (`mvpn.h`), declared by hand, and a safe function for each call.
+//!
+//! The safe functions take `Lent` buffers, whose pointer is good for the whole guarded memory: a stray write of the
+//! archive is seen by the guards.
+
+use crate::{hexadecimal::encode, lent::Lent};
+use std::{
+    fmt::{self, Debug, Formatter},
+    mem::size_of,
+};
+
+#[repr(C)]
+#[derive(Clone, Copy, Debug, Default, PartialEq, Eq)]
+pub struct Span {
+    pub start: usize,
+    pub size: usize,
+}
+
+#[repr(C)]
+#[derive(Clone, Copy, Default, PartialEq, Eq)]
+pub struct RouteDistinguisher {
+    pub octets: [u8; 8],
+}
+
+#[repr(C)]
+#[derive(Clone, Copy, Default, PartialEq, Eq)]
+pub struct Address {
+    pub octets: [u8; 16],
+    pub size: u8,
+}
+
+// Octets are shown in hexadecimal, all sixteen of an address: those past its size count too.
+impl Debug for RouteDistinguisher {
+    fn fmt(&self, formatter: &mut Formatter) -> fmt::Result {
+        formatter.write_str(&encode(&self.octets))
+    }
+}
+
+impl Debug for Address {
+    fn fmt(&self, formatter: &mut Formatter) -> fmt::Result {
+        write!(formatter, "{} of size {}", encode(&self.octets), self.size)
+    }
+}
+
+#[repr(C)]
+#[derive(Clone, Copy, Debug, Default, PartialEq, Eq)]
+pub struct Nlri {
+    pub distinguisher: RouteDistinguisher,
+    pub source: Address,
+    pub group: Address,
+    pub originator: Address,
+    pub source_as: u32,
+    pub route_type: u8,
+}
+
+#[repr(C)]
+#[derive(Clone, Copy, Debug, Default, PartialEq, Eq)]
+pub struct NlriReading {
+    pub number: u32,
+    pub nlri: Nlri,
+    pub key: Span,
+}
+
+#[repr(C)]
+#[derive(Clone, Copy, Debug, Default, PartialEq, Eq)]
+pub struct Written {
+    pub number: u32,
+    pub size: usize,
+}
+
+#[repr(C)]
+#[derive(Clone, Copy, Debug, Default, PartialEq, Eq)]
+pub struct Layout {
+    pub route_type: usize,
+    pub length: usize,
+    pub source: usize,
+    pub group: usize,
+    pub originator: usize,
+    pub key: usize,
+}
+
+#[repr(C)]
+#[derive(Clone, Copy, Debug, Default, PartialEq, Eq)]
+pub struct Stepped {
+    pub cursor: usize,
+    pub number: u32,
+    pub layout: Layout,
+}
+
+#[repr(C)]
+#[derive(Clone, Copy, Debug, Default, PartialEq, Eq)]
+pub struct Walked {
+    pub number: u32,
+    pub count: u32,
+    pub offset: u32,
+}
+
+#[repr(C)]
+#[derive(Clone, Copy, Debug, Default, PartialEq, Eq)]
+pub struct Group {
+    pub number: u32,
+    pub group_class: u32,
+}
+
+#[repr(C)]
+#[derive(Clone, Copy, Debug, Default, PartialEq, Eq)]
+pub struct Fec {
+    pub fec_type: u32,
+    pub address_family: u32,
+    pub root: Span,
+    pub opaque: Span,
+}
+
+#[repr(C)]
+#[derive(Clone, Copy, Debug, Default, PartialEq, Eq)]
+pub struct AttributeReading {
+    pub number: u32,
+    pub flags: u32,
+    pub tunnel_type: u32,
+    pub label_field: u32,
+    pub label: u32,
+    pub leaf_information_required: u32,
+    pub identifier: Span,
+    pub fec: Fec,
+}
+
+// The sizes that a C compiler gives these structs where size_t has eight octets.
+#[cfg(target_pointer_width = "64")]
+const _: () = assert!(
+    size_of::<Address>() == 17
+        && size_of::<Nlri>() == 68
+        && size_of::<NlriReading>() == 88
+        && size_of::<Stepped>() == 64
+        && size_of::<AttributeReading>() == 80
+);
+
+/// The calls as C declares them.
+pub mod raw {
+    use super::*;
+
+    pub type NlriRead = unsafe extern "C" fn(u16, *const u8, usize) -> NlriReading;
+    pub type NlriWrite = unsafe extern "C" fn(u16, Nlri, *const u8, usize, *mut u8, usize) -> Written;
+    pub type Step = unsafe extern "C" fn(u16, *const u8, usize, usize) -> Stepped;
+    pub type Walk = unsafe extern "C" fn(u16, *const u8, usize) -> Walked;
+    pub type GroupClass = unsafe extern "C" fn(u16, *const u8, usize) -> Group;
+    pub type AttributeRead = unsafe extern "C" fn(*const u8, usize) -> AttributeReading;
+    pub type AttributeWrite = unsafe extern "C" fn(u8, u8, u32, *const u8, usize, *mut u8, usize) -> Written;
+
+    extern "C" {
+        pub fn mvpn_nlri_read(afi: u16, nlri: *const u8, nlri_len: usize) -> NlriReading;
+        pub fn mvpn_nlri_write(
+            afi: u16,
+            nlri: Nlri,
+            key: *const u8,
+            key_len: usize,
+            output: *mut u8,
+            output_len: usize,
+        ) -> Written;
+        pub fn mvpn_step(afi: u16, run: *const u8, run_len: usize, cursor: usize) -> Stepped;
+        pub fn mvpn_walk(afi: u16, run: *const u8, run_len: usize) -> Walked;
+        pub fn mvpn_group_class(afi: u16, group: *const u8, group_len: usize) -> Group;
+        pub fn mvpn_attribute_read(attribute: *const u8, attribute_len: usize) -> AttributeReading;
+        pub fn mvpn_attribute_write(
+            flags: u8,
+            tunnel_type: u8,
+            label_field: u32,
+            identifier: *const u8,
+            identifier_len: usize,
+            output: *mut u8,
+            output_len: usize,
+        ) -> Written;
+    }
+}
+
+// Each call below is sound: `Lent` gives a pointer that is valid for its length, and no two of them overlap.
+
+pub fn nlri_read(afi: u16, nlri: &mut Lent) -> NlriReading {
+    unsafe { raw::mvpn_nlri_read(afi, nlri.pointer(), nlri.len()) }
+}
+
+pub fn nlri_write(afi: u16, nlri: Nlri, key: &mut Lent, output: &mut Lent) -> Written {
+    unsafe { raw::mvpn_nlri_write(afi, nlri, key.pointer(), key.len(), output.pointer(), output.len()) }
+}
+
+pub fn step(afi: u16, run: &mut Lent, cursor: usize) -> Stepped {
+    unsafe { raw::mvpn_step(afi, run.pointer(), run.len(), cursor) }
+}
+
+pub fn walk(afi: u16, run: &mut Lent) -> Walked {
+    unsafe { raw::mvpn_walk(afi, run.pointer(), run.len()) }
+}
+
+pub fn group_class(afi: u16, group: &mut Lent) -> Group {
+    unsafe { raw::mvpn_group_class(afi, group.pointer(), group.len()) }
+}
+
+pub fn attribute_read(attribute: &mut Lent) -> AttributeReading {
+    unsafe { raw::mvpn_attribute_read(attribute.pointer(), attribute.len()) }
+}
+
+pub fn attribute_write(
+    flags: u8,
+    tunnel_type: u8,
+    label_field: u32,
+    identifier: &mut Lent,
+    output: &mut Lent,
+) -> Written {
+    let (octets, size) = (identifier.pointer(), identifier.len());
+    unsafe { raw::mvpn_attribute_write(flags, tunnel_type, label_field, octets, size, output.pointer(), output.len()) }
+}

@@ -1,0 +1,108 @@
+//! Compares the archive `libmvpn.a` with an independent second decoder, call by call.
+//!
+//! ```text
+//! conformance [--seed N] [--cases N] [--listing PATH] [--outside] [--fault NAME | --every-fault] [--list-faults]
+//! ```
+//!
+//! Every answer is compared in all its fields, and every lent buffer with guard octets around it. The run prints its
+//! seed and counts. It ends with status 1 at the first disagreement, shown with the call, the input in hexadecimal and
+//! both answers, or where a number, route type, tunnel type or group class was met fewer than 100 times.
+//!
+//! With `--fault NAME` one wrong behaviour is switched on in the second decoder; the status is then 0 only if the
+//! comparison finds no disagreement without the fault, and one with it. `--every-fault` does this for each fault in turn.
+//! The same seed and number of cases give the same inputs.
+
+use conformance::{
+    cases,
+    compare::Harness,
+    coverage::LEAST,
+    options::Options,
+    second::{
+        fault::{Fault, FAULTS},
+        Second,
+    },
+};
+use std::{env, process::ExitCode, time::Instant};
+
+fn main() -> ExitCode {
+    let options = match Options::parse(env::args().skip(1)) {
+        Ok(options) => options,
+        Err(message) => {
+            eprintln!("conformance: {message}");
+            return ExitCode::from(2);
+        }
+    };
+    if options.list_faults {
+        FAULTS.iter().for_each(|(_, name, does)| println!("{name}: {does}"));
+        return ExitCode::SUCCESS;
+    }
+    println!("seed {}, random cases {}", options.seed, options.cases);
+    let passed = match options.fault {
+        _ if options.every_fault => agrees(&options) && every_fault(&options),
+        Some(fault) => agrees(&options) && finds(&options, fault),
+        None => compare(&options),
+    };
+    if passed {
+        ExitCode::SUCCESS
+    } else {
+        ExitCode::FAILURE
+    }
+}
+
+/// The comparison without fault, and its coverage.
+fn compare(options: &Options) -> bool {
+    let start = Instant::now();
+    let mut harness = Harness::new(Second::sound());
+    let result = cases::all(&mut harness, options);
+    print!("{}", harness.coverage.report());
+    let seconds = start.elapsed().as_secs_f64();
+    println!("{} inputs, {} calls compared, {seconds:.1} seconds", harness.inputs, harness.calls);
+    if let Err(disagreement) = result {
+        println!("DISAGREEMENT\n{disagreement}");
+        return false;
+    }
+    let unmet = harness.coverage.unmet();
+    for ((call, seen), count) in &unmet {
+        println!("NOT COVERED: {call:?} {seen:?} met {count} times, fewer than {LEAST}");
+    }
+    if unmet.is_empty() {
+        println!("no disagreement");
+    }
+    unmet.is_empty()
+}
+
+/// Whether the decoder without fault agrees throughout: only then is a disagreement the fault's.
+fn agrees(options: &Options) -> bool {
+    match cases::all(&mut Harness::new(Second::sound()), options) {
+        Ok(()) => true,
+        Err(disagreement) => {
+            println!("DISAGREEMENT without any fault\n{disagreement}");
+            false
+        }
+    }
+}
+
+/// Whether the comparison notices the fault.
+fn finds(options: &Options, fault: Fault) -> bool {
+    let mut harness = Harness::new(Second::with_fault(Some(fault)));
+    match cases::all(&mut harness, options) {
+        Err(disagreement) => {
+            println!("{fault:?} found after {} calls compared", harness.calls);
+            if !options.every_fault {
+                println!("{disagreement}");
+            }
+            true
+        }
+        Ok(()) => {
+            println!("{fault:?} NOT FOUND in {} calls", harness.calls);
+            false
+        }
+    }
+}
+
+/// Each fault in turn; all must be found.
+fn every_fault(options: &Options) -> bool {
+    let missed: Vec<_> = FAULTS.iter().filter(|(fault, _, _)| !finds(options, *fault)).collect();
+    println!("{} of {} faults found", FAULTS.len() - missed.len(), FAULTS.len());
+    missed.is_empty()
+}

@@ -1,0 +1,54 @@
+//! The plain calls do the same work as the archive only if they refuse the same inputs.
+
+use crate::{
+    cases::{near, nlri_writing::fields},
+    plain,
+    random::Random,
+    second::{answers::written, Second},
+};
+
+const CASES: usize = 60_000;
+
+#[test]
+fn reading_as_the_second_decoder() {
+    let (second, mut random) = (Second::sound(), Random::new(1));
+    for _ in 0..CASES {
+        let afi = near::afi(&mut random);
+        let mut octets = near::nlri(&mut random, afi);
+        near::disturb_nlri(&mut random, &mut octets);
+        let (pointer, size) = (octets.as_ptr(), octets.len());
+        assert_eq!(unsafe { plain::nlri_read(afi, pointer, size) }, second.answer_nlri_read(afi, &octets));
+        assert_eq!(unsafe { plain::walk(afi, pointer, size) }, second.answer_walk(afi, &octets));
+        let cursor = random.below(3);
+        assert_eq!(unsafe { plain::step(afi, pointer, size, cursor) }, second.answer_step(afi, &octets, cursor));
+        assert_eq!(unsafe { plain::group_class(afi, pointer, size) }, second.answer_group_class(afi, &octets));
+        let mut octets = near::attribute(&mut random);
+        near::disturb(&mut random, &mut octets);
+        let reading = unsafe { plain::attribute_read(octets.as_ptr(), octets.len()) };
+        assert_eq!(reading, second.answer_attribute_read(&octets));
+    }
+}
+
+#[test]
+fn writing_as_the_second_decoder() {
+    let (second, mut random) = (Second::sound(), Random::new(2));
+    for _ in 0..CASES {
+        let afi = near::afi(&mut random);
+        let (nlri, mut key) = (fields(&mut random), near::key(&mut random, afi));
+        near::disturb_nlri(&mut random, &mut key);
+        let mut output = vec![0; random.below(90)];
+        let encoding = second.nlri_write(afi, &nlri, &key, output.len());
+        let (pointer, room) = (output.as_mut_ptr(), output.len());
+        let answer = unsafe { plain::nlri_write(afi, nlri, key.as_ptr(), key.len(), pointer, room) };
+        assert_eq!(answer, written(&encoding));
+        assert_eq!(output[..answer.size], encoding.unwrap_or_default());
+        let tunnel_type = near::tunnel_type(&mut random);
+        let identifier = near::identifier(&mut random, tunnel_type);
+        let label_field = random.number() as u32 >> random.below(16);
+        let encoding = second.attribute_write(7, tunnel_type, label_field, &identifier, room);
+        let (octets, size) = (identifier.as_ptr(), identifier.len());
+        let answer = unsafe { plain::attribute_write(7, tunnel_type, label_field, octets, size, pointer, room) };
+        assert_eq!(answer, written(&encoding));
+        assert_eq!(output[..answer.size], encoding.unwrap_or_default());
+    }
+}

@@ -1,0 +1,144 @@
+//! The second decoder's results in the shape of the C interface, so that answers compare field by field. A refusal has
+//! empty fields, but for a walk's count and offset and a step's cursor.
+
+use super::{
+    attribute::{Attribute, Fec},
+    fault::Fault,
+    nlri::Reading,
+    number::Number,
+    rows::Field,
+    Second,
+};
+use crate::ffi;
+
+/// Where an identifier starts, and a FEC's root in it (RFC 6514, section 5; RFC 6388, section 2.2).
+const IDENTIFIER: usize = 5;
+const ROOT: usize = IDENTIFIER + 4;
+
+impl Second {
+    pub fn answer_nlri_read(&self, afi: u16, octets: &[u8]) -> ffi::NlriReading {
+        match self.single(afi, octets) {
+            Ok(reading) => nlri_reading(&reading),
+            Err(number) => {
+                let mut refusal = ffi::NlriReading { number: number.value(), ..Default::default() };
+                if self.has(Fault::RefusalKeepsType) {
+                    refusal.nlri.route_type = octets.first().copied().unwrap_or(0);
+                }
+                refusal
+            }
+        }
+    }
+
+    pub fn answer_step(&self, afi: u16, run: &[u8], cursor: usize) -> ffi::Stepped {
+        match self.step(afi, run, cursor) {
+            Ok(Some((reading, next))) => ffi::Stepped { cursor: next, number: 0, layout: layout(&reading) },
+            Ok(None) => ffi::Stepped { cursor, ..Default::default() },
+            Err(_) if self.has(Fault::RefusedStepRewinds) => self.answer_step_rewound(afi, run, cursor),
+            Err(number) => ffi::Stepped { cursor, number: number.value(), ..Default::default() },
+        }
+    }
+
+    /// The wrong answer of `RefusedStepRewinds`.
+    fn answer_step_rewound(&self, afi: u16, run: &[u8], cursor: usize) -> ffi::Stepped {
+        let number = self.step(afi, run, cursor).err().map_or(0, Number::value);
+        ffi::Stepped { number, ..Default::default() }
+    }
+
+    pub fn answer_walk(&self, afi: u16, run: &[u8]) -> ffi::Walked {
+        let walk = self.walk(afi, run);
+        let refused = walk.number != Number::Done;
+        let extra = u32::from(refused && self.has(Fault::WalkCountOffByOne));
+        let past = 2 * u32::from(refused && self.has(Fault::WalkOffsetPastHeader));
+        ffi::Walked {
+            number: walk.number.value(),
+            count: walk.read.len() as u32 + extra,
+            offset: walk.offset as u32 + past,
+        }
+    }
+
+    pub fn answer_group_class(&self, afi: u16, group: &[u8]) -> ffi::Group {
+        match self.group_class(afi, group) {
+            Ok(class) => ffi::Group { number: 0, group_class: class as u32 },
+            Err(number) => ffi::Group { number: number.value(), group_class: 0 },
+        }
+    }
+
+    pub fn answer_attribute_read(&self, octets: &[u8]) -> ffi::AttributeReading {
+        match self.attribute(octets) {
+            Ok(attribute) => self.attribute_reading(&attribute),
+            Err(number) => ffi::AttributeReading { number: number.value(), ..Default::default() },
+        }
+    }
+
+    fn attribute_reading(&self, attribute: &Attribute) -> ffi::AttributeReading {
+        let bit = if self.has(Fault::LirOtherBit) { 0x80 } else { 0x01 };
+        let shift = if self.has(Fault::LabelNotDivided) { 0 } else { 4 };
+        ffi::AttributeReading {
+            number: 0,
+            flags: u32::from(attribute.flags),
+            tunnel_type: u32::from(attribute.tunnel_type),
+            label_field: attribute.label_field,
+            label: attribute.label_field >> shift,
+            leaf_information_required: u32::from(attribute.flags & bit != 0),
+            identifier: span(IDENTIFIER, attribute.identifier),
+            fec: attribute.fec.as_ref().map(fec).unwrap_or_default(),
+        }
+    }
+}
+
+/// The number and size of a written encoding.
+pub fn written(encoding: &Result<Vec<u8>, Number>) -> ffi::Written {
+    match encoding {
+        Ok(octets) => ffi::Written { number: 0, size: octets.len() },
+        Err(number) => ffi::Written { number: number.value(), size: 0 },
+    }
+}
+
+fn span(start: usize, octets: &[u8]) -> ffi::Span {
+    ffi::Span { start, size: octets.len() }
+}
+
+fn fec(fec: &Fec) -> ffi::Fec {
+    ffi::Fec {
+        fec_type: u32::from(fec.fec_type),
+        address_family: u32::from(fec.address_family),
+        root: span(ROOT, fec.root),
+        opaque: span(ROOT + fec.root.len() + 2, fec.opaque),
+    }
+}
+
+fn address(octets: &[u8]) -> ffi::Address {
+    let mut padded = [0; 16];
+    padded[..octets.len()].copy_from_slice(octets);
+    ffi::Address { octets: padded, size: octets.len() as u8 }
+}
+
+fn nlri_reading(reading: &Reading) -> ffi::NlriReading {
+    let distinguisher = reading.octets(Field::Distinguisher).try_into().unwrap_or_default();
+    let source_as = reading.octets(Field::SourceAs).try_into().unwrap_or_default();
+    let key = reading.octets(Field::Key);
+    ffi::NlriReading {
+        number: 0,
+        nlri: ffi::Nlri {
+            distinguisher: ffi::RouteDistinguisher { octets: distinguisher },
+            source: address(reading.octets(Field::Source)),
+            group: address(reading.octets(Field::Group)),
+            originator: address(reading.octets(Field::Originator)),
+            source_as: u32::from_be_bytes(source_as),
+            route_type: reading.route_type,
+        },
+        // A key stands right behind the header.
+        key: if key.is_empty() { ffi::Span::default() } else { span(2, key) },
+    }
+}
+
+fn layout(reading: &Reading) -> ffi::Layout {
+    ffi::Layout {
+        route_type: usize::from(reading.route_type),
+        length: usize::from(reading.length),
+        source: reading.octets(Field::Source).len(),
+        group: reading.octets(Field::Group).len(),
+        originator: reading.octets(Field::Originator).len(),
+        key: reading.octets(Field::Key).len(),
+    }
+}

@@ -1,0 +1,98 @@
+//! Wrong behaviours that can be switched on in the second decoder, one at a time. A comparison that does not notice one
+//! is too weak.
+
+use Fault::*;
+
+#[derive(Clone, Copy, Debug, PartialEq, Eq)]
+pub enum Fault {
+    AfiLowOctet,
+    FamilyAfterShort,
+    TypeBeforeShort,
+    OctetsAfterIgnored,
+    LeftoverIgnored,
+    OriginatorTiedToFamily,
+    OriginatorWidthAtReading,
+    WildcardOutsideType3,
+    WildcardGroupRefused,
+    WildcardRefusedInKey,
+    WidthAfterAddress,
+    KeyFaultInner,
+    KeyTypesToSeven,
+    RefusalKeepsType,
+    ZeroLengthEndsRun,
+    StepPastEndDone,
+    RefusedStepRewinds,
+    LongLimit4095,
+    WalkCountOffByOne,
+    WalkOffsetPastHeader,
+    Ssm233,
+    SsmIpv6As16,
+    SsmFlagsZeroRefused,
+    AttributeLimit65,
+    TunnelsUpTo11,
+    PimMixed20,
+    BierSevenOnly,
+    FecType8Refused,
+    FecAddressFreeOfFamily,
+    OpaqueNotToTheEnd,
+    OpaqueEmptyRefused,
+    LirOtherBit,
+    LabelNotDivided,
+    SpaceAgainstMaximum,
+    LackingFieldsJudged,
+    KeyBeforeWidth,
+    KeyTrailingAllowed,
+    SourceAsLittleEndian,
+    LabelLimitOff,
+    LabelBeforeIdent,
+}
+
+/// Each fault, its name on the command line, and what it does.
+pub const FAULTS: [(Fault, &str, &str); 40] = [
+    (AfiLowOctet, "afi-low-octet", "only the low octet of the AFI is compared"),
+    (FamilyAfterShort, "family-after-short", "reading finds a short header before a bad AFI"),
+    (TypeBeforeShort, "type-before-short", "a bad route type is found before a short body"),
+    (OctetsAfterIgnored, "octets-after-ignored", "octets after a single NLRI are allowed"),
+    (LeftoverIgnored, "leftover-ignored", "octets left in a body of type 2, 5, 6 or 7 are allowed"),
+    (OriginatorTiedToFamily, "originator-tied-to-family", "an originator must have the family's size"),
+    (OriginatorWidthAtReading, "originator-width-at-reading", "a bad originator size is read as WIDTH"),
+    (WildcardOutsideType3, "wildcard-outside-type-3", "any route type may carry a wildcard"),
+    (WildcardGroupRefused, "wildcard-group-refused", "a type 3 group may not be a wildcard"),
+    (WildcardRefusedInKey, "wildcard-refused-in-key", "a key may not carry a wildcard"),
+    (WidthAfterAddress, "width-after-address", "a bad length octet with too few octets behind it is LENGTH"),
+    (KeyFaultInner, "key-fault-inner", "a fault inside a key gives its own number"),
+    (KeyTypesToSeven, "key-types-to-seven", "a key may be of type 4 to 7"),
+    (RefusalKeepsType, "refusal-keeps-type", "a refused reading gives the route type"),
+    (ZeroLengthEndsRun, "zero-length-ends-run", "a header with Length 0 ends the run"),
+    (StepPastEndDone, "step-past-end-done", "a cursor past the end gives DONE"),
+    (RefusedStepRewinds, "refused-step-rewinds", "a refused step hands back cursor 0"),
+    (LongLimit4095, "long-limit-4095", "a run of 4,096 octets is LONG"),
+    (WalkCountOffByOne, "walk-count-off-by-one", "a refused NLRI is counted"),
+    (WalkOffsetPastHeader, "walk-offset-past-header", "a stop's offset is past the refused header"),
+    (Ssm233, "ssm-233", "233.0.0.0/8 is SSM"),
+    (SsmIpv6As16, "ssm-ipv6-as-16", "FF3x::/16 is SSM"),
+    (SsmFlagsZeroRefused, "ssm-flags-zero-refused", "FF30::/32 is ASM"),
+    (AttributeLimit65, "attribute-limit-65", "an attribute of 65 octets is not LONG"),
+    (TunnelsUpTo11, "tunnels-up-to-11", "tunnel types 8, 9 and 10 are allowed"),
+    (PimMixed20, "pim-mixed-20", "a PIM identifier may mix the two address sizes"),
+    (BierSevenOnly, "bier-seven-only", "a BIER identifier of 19 octets is refused"),
+    (FecType8Refused, "fec-type-8-refused", "an MP2MP tunnel may not carry FEC type 8"),
+    (FecAddressFreeOfFamily, "fec-address-free-of-family", "a FEC's address length need not suit its family"),
+    (OpaqueNotToTheEnd, "opaque-not-to-the-end", "octets may follow the opaque value"),
+    (OpaqueEmptyRefused, "opaque-empty-refused", "an opaque value of no octets is refused"),
+    (LirOtherBit, "lir-other-bit", "LIR is read from flag bit value 128"),
+    (LabelNotDivided, "label-not-divided", "the label is the whole field"),
+    (SpaceAgainstMaximum, "space-against-maximum", "an output must hold the longest encoding"),
+    (LackingFieldsJudged, "lacking-fields-judged", "writing judges addresses that the type lacks"),
+    (KeyBeforeWidth, "key-before-width", "writing finds a bad key before a bad originator size"),
+    (KeyTrailingAllowed, "key-trailing-allowed", "octets may follow a key at writing"),
+    (SourceAsLittleEndian, "source-as-little-endian", "the source AS is written low octet first"),
+    (LabelLimitOff, "label-limit-off", "a label field of 16,777,216 is allowed"),
+    (LabelBeforeIdent, "label-before-ident", "writing finds a bad label field before a bad tunnel or identifier"),
+];
+
+impl Fault {
+    pub fn named(name: &str) -> Option<Fault> {
+        FAULTS.iter().find(|(_, known, _)| *known == name).map(|(fault, _, _)| *fault)
+    }
+}

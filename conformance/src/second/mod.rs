@@ -1,0 +1,62 @@
+//! The second decoder and encoder, written from RFC 6514, RFC 6625, RFC 8556, RFC 4607 and document 01: tables of rows
+//! that one routine interprets.
+
+pub mod answers;
+pub mod attribute;
+pub mod attribute_writing;
+pub mod fault;
+pub mod forms;
+pub mod group;
+pub mod listing;
+pub mod nlri;
+pub mod nlri_writing;
+pub mod number;
+pub mod rows;
+pub mod run;
+#[cfg(test)]
+mod tests;
+
+use fault::Fault;
+use number::Number;
+use rows::Family;
+
+/// The second decoder, with at most one wrong behaviour switched on.
+#[derive(Clone, Copy, Debug, Default)]
+pub struct Second {
+    fault: Option<Fault>,
+}
+
+impl Second {
+    /// The decoder as the papers ask.
+    pub fn sound() -> Self {
+        Second { fault: None }
+    }
+
+    pub fn with_fault(fault: Option<Fault>) -> Self {
+        Second { fault }
+    }
+
+    fn has(&self, fault: Fault) -> bool {
+        self.fault == Some(fault)
+    }
+
+    /// AFI 1 or 2, the whole 16-bit number.
+    fn family(&self, afi: u16) -> Result<Family, Number> {
+        let afi = if self.has(Fault::AfiLowOctet) { afi & 0xFF } else { afi };
+        match afi {
+            1 => Ok(Family::Ipv4),
+            2 => Ok(Family::Ipv6),
+            _ => Err(Number::Family),
+        }
+    }
+
+    /// The encoding, if the output has room for it. `most` is the largest encoding of its kind.
+    fn fitted(&self, encoding: Vec<u8>, most: usize, room: usize) -> Result<Vec<u8>, Number> {
+        let needed = if self.has(Fault::SpaceAgainstMaximum) { most } else { encoding.len() };
+        if room < needed {
+            Err(Number::Space)
+        } else {
+            Ok(encoding)
+        }
+    }
+}

@@ -1,0 +1,164 @@
+//! Reading one NLRI: its row of fields taken from the body, left to right, the first fault deciding.
+
+use super::{
+    fault::Fault,
+    number::Number,
+    rows::{row, Family, Field, S_PMSI},
+    Second,
+};
+
+/// A field and its octets. An address is given without its length octet, a key with its header.
+#[derive(Clone, Debug, PartialEq, Eq)]
+pub struct Part<'a> {
+    pub field: Field,
+    pub octets: &'a [u8],
+}
+
+#[derive(Clone, Debug, PartialEq, Eq)]
+pub struct Reading<'a> {
+    pub route_type: u8,
+    pub length: u8,
+    pub parts: Vec<Part<'a>>,
+    /// What stands behind the NLRI.
+    pub after: &'a [u8],
+}
+
+impl<'a> Reading<'a> {
+    /// The octets of a field; none if the type lacks it.
+    pub fn octets(&self, field: Field) -> &'a [u8] {
+        self.parts.iter().find(|part| part.field == field).map_or(&[], |part| part.octets)
+    }
+
+    fn has_wildcard(&self) -> bool {
+        let address = |part: &&Part| matches!(part.field, Field::Source | Field::Group);
+        self.parts.iter().filter(address).any(|part| part.octets.is_empty())
+    }
+}
+
+/// A field's octets and what remains of the body, or the fault.
+type Taken<'a> = Result<(&'a [u8], &'a [u8]), Number>;
+
+impl Second {
+    /// Reads exactly one NLRI: FAMILY, SHORT, TYPE, the body, then LENGTH for octets after it.
+    pub fn single<'a>(&self, afi: u16, octets: &'a [u8]) -> Result<Reading<'a>, Number> {
+        if self.has(Fault::FamilyAfterShort) && octets.len() < 2 {
+            return Err(Number::Short);
+        }
+        self.whole(self.family(afi)?, octets)
+    }
+
+    fn whole<'a>(&self, family: Family, octets: &'a [u8]) -> Result<Reading<'a>, Number> {
+        let reading = self.front(family, octets)?;
+        if reading.after.is_empty() || self.has(Fault::OctetsAfterIgnored) {
+            Ok(reading)
+        } else {
+            Err(Number::Length)
+        }
+    }
+
+    /// Reads the NLRI at the front of the octets.
+    pub fn front<'a>(&self, family: Family, octets: &'a [u8]) -> Result<Reading<'a>, Number> {
+        let [route_type, length, rest @ ..] = octets else {
+            return Err(Number::Short);
+        };
+        if self.has(Fault::TypeBeforeShort) && row(*route_type).is_none() {
+            return Err(Number::Type);
+        }
+        let (body, after) = rest.split_at_checked(usize::from(*length)).ok_or(Number::Short)?;
+        let fields = row(*route_type).ok_or(Number::Type)?;
+        let parts = self.parts(family, *route_type, fields, body)?;
+        Ok(Reading { route_type: *route_type, length: *length, parts, after })
+    }
+
+    /// Splits a body into the fields of its row.
+    fn parts<'a>(
+        &self,
+        family: Family,
+        route_type: u8,
+        fields: &[Field],
+        body: &'a [u8],
+    ) -> Result<Vec<Part<'a>>, Number> {
+        let mut rest = body;
+        let take = |field: &Field| {
+            let (octets, left) = self.take(family, route_type, *field, rest)?;
+            rest = left;
+            Ok(Part { field: *field, octets })
+        };
+        let parts = fields.iter().map(take).collect::<Result<Vec<_>, _>>()?;
+        if rest.is_empty() || self.has(Fault::LeftoverIgnored) {
+            Ok(parts)
+        } else {
+            Err(Number::Length)
+        }
+    }
+
+    fn take<'a>(&self, family: Family, route_type: u8, field: Field, rest: &'a [u8]) -> Taken<'a> {
+        match field {
+            Field::Distinguisher => rest.split_at_checked(8).ok_or(Number::Length),
+            Field::SourceAs => rest.split_at_checked(4).ok_or(Number::Length),
+            Field::Source | Field::Group => self.take_address(family, route_type, field, rest),
+            Field::Originator => self.take_originator(family, rest),
+            Field::Key => self.take_key(family, rest),
+        }
+    }
+
+    /// A length octet in bits and that many bits. A bad length is WIDTH before its address is looked for.
+    fn take_address<'a>(&self, family: Family, route_type: u8, field: Field, rest: &'a [u8]) -> Taken<'a> {
+        let (bits, rest) = rest.split_first().ok_or(Number::Length)?;
+        let bits = usize::from(*bits);
+        if bits == family.bits() || bits == 0 && self.wildcard_allowed(route_type, field) {
+            rest.split_at_checked(bits / 8).ok_or(Number::Length)
+        } else if self.has(Fault::WidthAfterAddress) && rest.len() < bits.div_ceil(8) {
+            Err(Number::Length)
+        } else {
+            Err(Number::Width)
+        }
+    }
+
+    /// The wildcard is a length of 0, in type 3 only (RFC 6625, section 2).
+    fn wildcard_allowed(&self, route_type: u8, field: Field) -> bool {
+        match field {
+            Field::Group if self.has(Fault::WildcardGroupRefused) => false,
+            _ => route_type == S_PMSI || self.has(Fault::WildcardOutsideType3),
+        }
+    }
+
+    /// What remains, 4 or 16 octets, whatever the family.
+    fn take_originator<'a>(&self, family: Family, rest: &'a [u8]) -> Taken<'a> {
+        let family_allows = !self.has(Fault::OriginatorTiedToFamily) || rest.len() == family.octets();
+        match rest.len() {
+            4 | 16 if family_allows => Ok((rest, &[])),
+            _ if self.has(Fault::OriginatorWidthAtReading) => Err(Number::Width),
+            _ => Err(Number::Length),
+        }
+    }
+
+    /// A whole NLRI of type 1, 2 or 3 (RFC 6514, section 4.4); any fault inside it is KEY.
+    fn take_key<'a>(&self, family: Family, rest: &'a [u8]) -> Taken<'a> {
+        let key = self.front(family, rest).map_err(|inner| match self.has(Fault::KeyFaultInner) {
+            true => inner,
+            false => Number::Key,
+        })?;
+        if !self.key_type_allowed(key.route_type) || self.has(Fault::WildcardRefusedInKey) && key.has_wildcard() {
+            return Err(Number::Key);
+        }
+        Ok(rest.split_at(rest.len() - key.after.len()))
+    }
+
+    fn key_type_allowed(&self, route_type: u8) -> bool {
+        match route_type {
+            1..=3 => true,
+            4..=7 => self.has(Fault::KeyTypesToSeven),
+            _ => false,
+        }
+    }
+
+    /// True where the octets are exactly one NLRI that a Leaf may carry as its key.
+    pub(super) fn is_key(&self, family: Family, octets: &[u8]) -> bool {
+        let reading = match self.has(Fault::KeyTrailingAllowed) {
+            true => self.front(family, octets),
+            false => self.whole(family, octets),
+        };
+        reading.is_ok_and(|key| self.key_type_allowed(key.route_type))
+    }
+}

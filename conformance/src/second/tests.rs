@@ -1,0 +1,92 @@
+//! The second decoder on document 01's examples, and on layouts spelled out from the RFCs.
+
+use super::{
+    fault::{Fault, FAULTS},
+    number::Number,
+    rows::Field,
+    Second,
+};
+use crate::{
+    cases::{
+        document::{ATTRIBUTES, GROUPS, LISTED, LISTED_TEXT, NLRIS, RD},
+        samples::{all_nlris, identifiers},
+    },
+    ffi::{Group, Span},
+    hexadecimal::octets,
+};
+
+#[test]
+fn page_examples() {
+    let second = Second::sound();
+    for (afi, group, number, group_class) in GROUPS {
+        assert_eq!(second.answer_group_class(afi, &octets(group)), Group { number, group_class }, "{group}");
+    }
+    for (shows, afi, text, number) in NLRIS {
+        let nlri = octets(&text.replace("RD", RD));
+        assert_eq!(second.answer_nlri_read(afi, &nlri).number, number, "{shows}");
+    }
+    for (shows, text, number, label) in ATTRIBUTES {
+        let reading = second.answer_attribute_read(&octets(text));
+        assert_eq!((reading.number, reading.label), (number, label), "{shows}");
+    }
+}
+
+#[test]
+fn listing_text() {
+    let second = Second::sound();
+    assert_eq!(second.listing(&octets(LISTED)), LISTED_TEXT);
+    assert_eq!(second.listing(&[]), "MVT list 1\nend 0 0\n");
+    assert_eq!(second.listing(&[0; 4_097]), "MVT list 1\nstop 0 8\n");
+}
+
+/// RFC 6514, section 4.4: the key of a Leaf is the whole NLRI it answers, here an IPv6 S-PMSI route for one source and
+/// every group (RFC 6625, section 2).
+#[test]
+fn leaf_of_a_wildcard_route() {
+    let key = octets("032E 0000006400000007 80 20010DB8000000000000000000000001 00 20010DB80000000000000000000000FE");
+    let leaf = [&[4, 0x30], &key[..], &[10, 0, 0, 2]].concat();
+    let reading = Second::sound().single(2, &leaf);
+    assert_eq!(reading, Err(Number::Key), "the key's Length is wrong by four");
+    let key = octets("032A 0000006400000007 80 20010DB8000000000000000000000001 00 20010DB80000000000000000000000FE");
+    let leaf = [&[4, 0x30], &key[..], &[10, 0, 0, 2]].concat();
+    let reading = Second::sound().single(2, &leaf).expect("a Leaf");
+    assert_eq!(reading.octets(Field::Key), key);
+    assert_eq!(reading.octets(Field::Originator), [10, 0, 0, 2]);
+}
+
+/// RFC 6388, section 2.2, in a PMSI Tunnel attribute (RFC 6514, section 5).
+#[test]
+fn fec_spans() {
+    let attribute = octets("81 07 000641 08 0002 10 20010DB8000000000000000000000001 0003 0A0B0C");
+    let reading = Second::sound().answer_attribute_read(&attribute);
+    assert_eq!((reading.number, reading.label, reading.leaf_information_required), (0, 0x64, 1));
+    assert_eq!(reading.identifier, Span { start: 5, size: 25 });
+    assert_eq!((reading.fec.fec_type, reading.fec.address_family), (8, 2));
+    assert_eq!((reading.fec.root, reading.fec.opaque), (Span { start: 9, size: 16 }, Span { start: 27, size: 3 }));
+}
+
+/// The samples are laid out without the encoder, so the two check each other.
+#[test]
+fn samples_are_read_and_written_back() {
+    let second = Second::sound();
+    for sample in all_nlris() {
+        let reading = second.answer_nlri_read(sample.afi, &sample.octets);
+        assert_eq!((reading.number, reading.nlri), (0, sample.nlri));
+        let size = sample.octets.len();
+        assert_eq!(second.nlri_write(sample.afi, &sample.nlri, &sample.key, size), Ok(sample.octets));
+        assert_eq!(second.nlri_write(sample.afi, &sample.nlri, &sample.key, size - 1), Err(Number::Space));
+    }
+    for (tunnel_type, identifier) in identifiers() {
+        let size = 5 + identifier.len();
+        let attribute = second.attribute_write(0xFE, tunnel_type, 0xAB_CDEF, &identifier, size).expect("room");
+        assert_eq!(attribute[..5], [0xFE, tunnel_type, 0xAB, 0xCD, 0xEF]);
+        assert_eq!(second.attribute(&attribute).expect("well-formed").identifier, identifier);
+    }
+}
+
+#[test]
+fn each_fault_has_its_own_name() {
+    for (fault, name, _) in FAULTS {
+        assert_eq!(Fault::named(name), Some(fault));
+    }
+}
