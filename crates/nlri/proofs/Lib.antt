@@ -4,7 +4,7 @@ pub mod Via
 pub mod Sizes
 pub mod Rows
 pub mod Fronts
-pub mod Walks
+pub mod Steps
 pub mod Shapes
 pub mod Copies
 pub mod Singles

@@ -1,5 +1,5 @@
 use native.Mathlib.Omega.{arith}
-use Rattle.nlri.proofs.Walks.{layout-within}
+use Rattle.nlri.proofs.Steps.{layout-within}
 use Rattle.nlri.proofs.Via.{nlri-given}
 use Rattle.nlri.specs.Layouts.{readingOf}
 use Rattle.nlri.specs.Inner.{single}

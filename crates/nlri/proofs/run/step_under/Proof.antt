@@ -7,7 +7,7 @@ use Rattle.octets.proofs.Tests.{tests}
 use Rattle.nlri.specs.Layouts.{layoutAt}
 use Rattle.nlri.specs.Walking.{steppedOf, stepUnder}
 use Rattle.nlri.proofs.Via.{reads, nlri-given}
-use Rattle.nlri.proofs.Walks.{layout-within}
+use Rattle.nlri.proofs.Steps.{layout-within}
 use borrow.Author.Needs.{needs}
 use Rattle.nlri.proofs.run.step_under.Statement.{statement}
 use Rattle.nlri.proofs.run.step_under.Tie as tie

@@ -2,7 +2,7 @@ use Prim.Native.Nat.{_-_}
 use native.Mathlib.Omega.{arith}
 use borrow.Author.Needs.{needs}
 use lib.ListN.{length}
-use Rattle.nlri.proofs.Walks.{Going, going-first, going-next, going-last, step-read, step-ended, step-refused, step-moves}
+use Rattle.nlri.proofs.Steps.{Going, going-first, going-next, going-last, step-read, step-ended, step-refused, step-moves}
 use Rattle.nlri.proofs.run.walk.Statement.{statement}
 use Rattle.nlri.proofs.run.walk.Tie as tie
 use Rattle.nlri.proofs.run.walk.Reads as reads
