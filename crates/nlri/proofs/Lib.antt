@@ -8,3 +8,4 @@ pub mod Steps
 pub mod Shapes
 pub mod Copies
 pub mod Singles
+pub mod Puts

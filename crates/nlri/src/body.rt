@@ -2,6 +2,7 @@
 ghost use mathlib.Core.Path.{_≡_};
 ghost use Prim.Native.Nat.{_≤_};
 ghost use lib.ListN.{length};
+ghost use Rattle.nlri.specs.Family.{allowed, originatorSize};
 ghost use Rattle.nlri.specs.Reading.{addressEnd, addressField};
 ghost use Rattle.nlri.specs.Layouts.{readingOf};
 ghost use Rattle.nlri.specs.Inner.{partOf, flowOf, originatorLast, endsAt, groupSize, flowSizes, flowEnd, flowRoute, intraAs, interAs, unkeyedBody};
@@ -22,6 +23,29 @@ pub(crate) enum Flow {
     Bad(u32),
 }
 
+// A source or group length is the family's; in type 3 only it may be 0, the wildcard.
+pub(crate) fn is_allowed(family: usize, route_type: usize, bits: usize) -> bool
+    ensures { λ r. ⌜ r ≡ allowed family «route_type» bits ⌝ }
+{
+    if bits == family {
+        return true;
+    }
+    if route_type == RouteType::S_PMSI {
+        return bits == AddressKind::WILDCARD;
+    }
+    false
+}
+
+// An originator has 4 or 16 octets, independent of the family.
+pub(crate) fn is_originator_size(size: usize) -> bool
+    ensures { λ r. ⌜ r ≡ originatorSize size ⌝ }
+{
+    if size == AddressKind::IPV4_OCTETS {
+        return true;
+    }
+    size == AddressKind::IPV6_OCTETS
+}
+
 // An address of so many octets behind the length octet at the front of `s`.
 fn address_end(octets: usize, s: &[u8]) -> Part
     ensures { λ r. ⌜ partOf r ≡ addressEnd octets (now (s .entry)) ⌝ }
@@ -40,13 +64,8 @@ fn read_address(family: usize, route_type: usize, s: &[u8]) -> Part
         return Part::Fault(LENGTH);
     }
     let bits = s[0] as usize;
-    if bits == family {
+    if is_allowed(family, route_type, bits) {
         return address_end(bits / 8, s);
-    }
-    if route_type == RouteType::S_PMSI {
-        if bits == AddressKind::WILDCARD {
-            return address_end(bits / 8, s);
-        }
     }
     Part::Fault(WIDTH)
 }
@@ -72,14 +91,11 @@ fn read_flow(family: usize, route_type: usize, s: &[u8]) -> Flow
     }
 }
 
-// The originator is what remains: 4 or 16 octets, independent of the family.
+// The originator is what remains.
 pub(crate) fn ends_in_originator(layout: Layout, rest: usize) -> Reading
     ensures { λ r. ⌜ readingOf r ≡ originatorLast layout rest ⌝ }
 {
-    if rest == AddressKind::IPV4_OCTETS {
-        return Reading::Nlri(layout.with_originator(rest));
-    }
-    if rest == AddressKind::IPV6_OCTETS {
+    if is_originator_size(rest) {
         return Reading::Nlri(layout.with_originator(rest));
     }
     Reading::Refused(LENGTH)

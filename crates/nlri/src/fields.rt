@@ -76,7 +76,7 @@ fn source_start(route_type: usize) -> usize
     HEADER + RouteDistinguisher::OCTETS + 1
 }
 
-fn has_source_as(route_type: usize) -> bool
+pub(crate) fn has_source_as(route_type: usize) -> bool
     ensures { λ r. ⌜ r ≡ withSourceAs «route_type» ⌝ }
 {
     if route_type == RouteType::INTER_AS_I_PMSI {

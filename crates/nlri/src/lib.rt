@@ -8,6 +8,7 @@ mod layout;
 mod read;
 mod route;
 mod run;
+mod write;
 
 pub use address::Address;
 pub use address::AddressKind;
@@ -25,3 +26,4 @@ pub use run::Cursor;
 pub use run::Step;
 pub use run::Walked;
 pub use run::walk;
+pub use write::write_nlri;

@@ -2,7 +2,7 @@
 use mathlib.Core.Path.{_≡_, refl}
 use mathlib.Core.Bool.{Bool, true, false}
 use Prim.Native.Nat.{ℕ}
-use Rattle.octets.specs.Choice.{pick, either}
+use Rattle.octets.specs.Choice.{pick}
 use Rattle.octets.specs.Outcome.{Outcome, given, refused, andThen, onOutcome}
 
 pub and-assoc : {A B C : Type 0} (o : Outcome A) (f : A → Outcome B) (g : B → Outcome C) → andThen (andThen o f) g ≡ andThen o (λ a. andThen (f a) g)
@@ -46,7 +46,3 @@ pick-true b x y p = rw p
 pub pick-false : {A : Type 0} (b : Bool) (x y : A) → b ≡ false → pick b x y ≡ y
 unfolding pick
 pick-false b x y p = rw p
-
-pub either-other : (a b : Bool) → a ≡ false → either a b ≡ b
-unfolding either
-either-other a b p = rw p

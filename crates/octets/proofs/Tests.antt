@@ -58,6 +58,10 @@ pub both-last : (a b c : Bool) → a ≡ true → c ≡ b → c ≡ both a b
 unfolding both
 both-last a b c p q = rw p q
 
+pub either-last : (a b c : Bool) → a ≡ false → c ≡ b → c ≡ either a b
+unfolding either
+either-last a b c p q = rw p q
+
 -- where a definition goes on by what an earlier step came to
 pub goes : {A B : Type 0} (r : Outcome B) (o : Outcome A) (a : A) (next : A → Outcome B) → o ≡ given a → r ≡ next a → r ≡ andThen o next
 unfolding andThen
@@ -78,4 +82,4 @@ on-refused r o n bad good p q = rw p q
 pub ruleset tests = (needs, picks, skips, both-true, both-left, both-right, either-left, either-right, either-false, lt-ltb, le-ltb, le-leb, lt-leb, eq-eqb, ne-eqb)
 
 -- the same where the code's tests are flags
-pub ruleset flags = (tests, flag-true, flag-false, true-is, false-is, both-last)
+pub ruleset flags = (tests, flag-true, flag-false, true-is, false-is, both-last, either-last)

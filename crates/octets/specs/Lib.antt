@@ -1,5 +1,6 @@
--- Definitions that both codecs use: the numbers, choices by a test, outcomes, and lists of octets.
+-- Definitions that both codecs use: the numbers, choices by a test, outcomes, lists of octets, and what writers leave.
 pub mod Numbers
 pub mod Choice
 pub mod Outcome
 pub mod Octets
+pub mod Outputs

@@ -21,7 +21,8 @@ use Rattle.tunnel.specs.declared.Attribute.{Attribute}
 use Rattle.tunnel.specs.Fec.{familySuits, endsAt, wholeFec, fecIn}
 use Rattle.tunnel.specs.Identifier.{IdentifierForm, sizes, fecTypes, TableRow, table, formIn, formOf, fits, oneOf, judged}
 use Rattle.tunnel.specs.Attribute.{Fields, labelOf, leafInformationRequired, fieldsIn, encodeAttribute, readAttribute, writeAttribute}
-use Rattle.tunnel.specs.Answers.{fecSpans, noFec, fecOfForm, fecOf, attributeOf, readAnswer, writtenOf, outputOf}
+use Rattle.tunnel.specs.Answers.{fecSpans, noFec, fecOfForm, fecOf, attributeOf, readAnswer}
+use Rattle.octets.specs.Outputs.{writtenOf, outputOf}
 use Rattle.tunnel.specs.Inner.{formFault, faultIn, faultOf}
 
 -- a test that a call made, in the definition's words

@@ -2,10 +2,8 @@
 use Prim.Native.Nat.{ℕ, _+_}
 use mathlib.Core.List.{List}
 use lib.ListN.{length}
-use Rattle.octets.specs.Outcome.{Outcome, given, refused, andThen, onOutcome, numberOf}
-use Rattle.octets.specs.Octets.{front}
+use Rattle.octets.specs.Outcome.{Outcome, given, refused, andThen}
 use Rattle.octets.specs.declared.Span.{Span}
-use Rattle.octets.specs.declared.Written.{Written}
 use Rattle.tunnel.specs.declared.Reading.{Reading}
 use Rattle.tunnel.specs.declared.Reading.the-variants.{Attribute as read, Refused as no}
 use Rattle.tunnel.specs.declared.Attribute.{Attribute}
@@ -69,11 +67,3 @@ fieldsOf flags type label identifier = record { flags = flags; tunnelType = type
 -- what writing them into an output comes to
 abbrev pub writeOutcome : ℕ → ℕ → ℕ → List ℕ → List ℕ → Outcome (List ℕ)
 writeOutcome flags type label identifier output = writeAttribute (fieldsOf flags type label identifier) (length output)
-
--- a writer's number, and how many octets it wrote
-unfoldable pub writtenOf : Outcome (List ℕ) → Written
-writtenOf o = record { number = numberOf o; size = onOutcome (λ _. 0) length o }
-
--- the output afterwards: the encoding at its front, or as it was
-unfoldable pub outputOf : Outcome (List ℕ) → List ℕ → List ℕ
-outputOf o d = onOutcome (λ _. d) (λ e. front e d) o

@@ -1,6 +1,7 @@
 // The PMSI Tunnel attribute (RFC 6514, section 5; RFC 8556, section 2): read and written (document 01, "PMSI Tunnel attribute").
 ghost use mathlib.Core.Path.{_≡_};
-ghost use Rattle.tunnel.specs.Answers.{outcomeOf, readAnswer, writeOutcome, writtenOf, outputOf};
+ghost use Rattle.tunnel.specs.Answers.{outcomeOf, readAnswer, writeOutcome};
+ghost use Rattle.octets.specs.Outputs.{writtenOf, outputOf};
 use octets::Span;
 use octets::Written;
 use octets::number;

@@ -1,6 +1,3 @@
-use mathlib.Core.Path.{sym, _∙_}
-use borrow.Author.Tests.{ne-eqb}
-use Rattle.octets.proofs.Outcomes.{either-other}
 use Rattle.nlri.specs.Inner.{withSourceAs}
 use Rattle.octets.proofs.Tests.{flags}
 use Rattle.nlri.proofs.fields.has_source_as.Statement.{statement}
@@ -18,7 +15,7 @@ returns-2 c = search flags
 
 returns-3 : tie.Need-returns-3
 unfolding withSourceAs
-returns-3 c = sym (either-other _ _ (ne-eqb _ _ (c .before .if1 .left)) ∙ either-other _ _ (ne-eqb _ _ (c .if2 .left)))
+returns-3 c = search flags
 
 pub has-source-as-spec : {M : Type 1} → statement M
 has-source-as-spec = tie.close (tie.spec returns returns-2 returns-3)

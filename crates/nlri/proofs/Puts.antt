@@ -1,0 +1,154 @@
+-- What the inner functions of writing put, and how much room it takes.
+use mathlib.Core.Path.{_≡_, refl, sym, _∙_, ap, ap₂}
+use mathlib.Core.Bool.{Bool, true, false}
+use mathlib.Core.List.{List, [], _∷_, _++_}
+use Prim.Native.Nat.{ℕ, _+_, _-_, _*_, _≤_, _<_}
+use native.Mathlib.Nat.{add-sub-cancel-left}
+use native.Mathlib.Omega.{arith}
+use lib.ListN.{length, take, length-append}
+use lib.Dec.{eqb}
+use borrow.Author.Tests.{eqb-true}
+use Rattle.octets.specs.Choice.{pick}
+use Rattle.octets.specs.Outcome.{Outcome, given, onOutcome, numberOf}
+use Rattle.octets.specs.Octets.{bigEndian, front, placed}
+use Rattle.octets.specs.Outputs.{writtenOf, outputOf}
+use Rattle.octets.specs.declared.Written.{Written}
+use Rattle.octets.proofs.Lists.{Put, sized-length, sized-taken, front-is-placed}
+use Rattle.octets.proofs.Outcomes.{pick-true, pick-false}
+use Rattle.octets.proofs.NetworkOrder.{big-endian-length}
+use Rattle.nlri.specs.declared.address.Address.{Address}
+use Rattle.nlri.specs.declared.fields.Nlri.{Nlri}
+use Rattle.nlri.specs.Fields.{encodeAddress}
+use Rattle.nlri.specs.Answers.{octetsOf}
+use Rattle.nlri.specs.Inner.{withSourceAs}
+use Rattle.nlri.specs.InnerWriting.{hasFlow, hasOriginator, fixedSize, flowSize, originatorLength, sizeOf, numberOctets, fixedOctets, flowOctets, originatorOctets, bodyOctets, allOctets}
+
+pub octets-length : (a : Address) → length (octetsOf a) ≡ a .size
+unfolding octetsOf
+octets-length a = sized-length (a .size) (a .octets)
+
+pub octets-taken : (a : Address) → a .size ≤ length (a .octets) → take (a .size) (a .octets) ≡ octetsOf a
+unfolding octetsOf
+octets-taken a h = sym (sized-taken (a .size) (a .octets) h)
+
+pub address-split : (a : Address) → (8 * a .size ∷ []) ++ octetsOf a ≡ encodeAddress (octetsOf a)
+unfolding encodeAddress
+address-split a = ap (λ (n : ℕ). 8 * n ∷ octetsOf a) (sym (octets-length a))
+
+pub address-room : (a : Address) → length (encodeAddress (octetsOf a)) ≡ 1 + length (octetsOf a)
+unfolding encodeAddress
+address-room a = omega arith
+
+module _ (nlri : Nlri) (key : List ℕ) where
+  pub number-there : withSourceAs (nlri .«route_type») ≡ true → bigEndian 4 (nlri .«source_as») ≡ numberOctets nlri
+  unfolding numberOctets
+  number-there h = sym (pick-true _ _ _ h)
+
+  pub number-none : withSourceAs (nlri .«route_type») ≡ false → [] ≡ numberOctets nlri
+  unfolding numberOctets
+  number-none h = sym (pick-false _ _ _ h)
+
+  pub fixed-key : eqb (nlri .«route_type») 4 ≡ true → key ≡ fixedOctets nlri key
+  unfolding fixedOctets
+  fixed-key h = sym (pick-true _ _ _ h)
+
+  pub fixed-distinguisher : eqb (nlri .«route_type») 4 ≡ false → nlri .distinguisher .octets ++ numberOctets nlri ≡ fixedOctets nlri key
+  unfolding fixedOctets
+  fixed-distinguisher h = sym (pick-false _ _ _ h)
+
+  pub flow-there : hasFlow (nlri .«route_type») ≡ true → encodeAddress (octetsOf (nlri .source)) ++ encodeAddress (octetsOf (nlri .group)) ≡ flowOctets nlri
+  unfolding flowOctets
+  flow-there h = sym (pick-true _ _ _ h)
+
+  pub flow-none : hasFlow (nlri .«route_type») ≡ false → [] ≡ flowOctets nlri
+  unfolding flowOctets
+  flow-none h = sym (pick-false _ _ _ h)
+
+  pub originator-there : hasOriginator (nlri .«route_type») ≡ true → octetsOf (nlri .originator) ≡ originatorOctets nlri
+  unfolding originatorOctets
+  originator-there h = sym (pick-true _ _ _ h)
+
+  pub originator-none : hasOriginator (nlri .«route_type») ≡ false → [] ≡ originatorOctets nlri
+  unfolding originatorOctets
+  originator-none h = sym (pick-false _ _ _ h)
+
+  pub body-length : length (bodyOctets nlri key) ≡ length (fixedOctets nlri key) + length (flowOctets nlri) + length (originatorOctets nlri)
+  unfolding bodyOctets
+  body-length = simp length-append (omega arith)
+
+  pub all-length : length (allOctets nlri key) ≡ 2 + length (bodyOctets nlri key)
+  unfolding allOctets
+  all-length = omega arith
+
+  pub all-put : (n : ℕ) → n ≡ length (bodyOctets nlri key) → (nlri .«route_type» ∷ n ∷ []) ++ bodyOctets nlri key ≡ allOctets nlri key
+  unfolding allOctets
+  all-put n e = ap (λ (m : ℕ). nlri .«route_type» ∷ m ∷ bodyOctets nlri key) e
+
+-- what is answered and left where all was put
+pub put-all : (e d : List ℕ) (size next : ℕ) (z : List ℕ) → size ≡ length e → Put 0 e d next z → (record { number = 0; size = size } ≡ writtenOf (given e)) × (z ≡ outputOf (given e) d)
+unfolding writtenOf outputOf numberOf onOutcome
+put-all e d size next z s p = ((λ i. record { number = 0; size = s i }), p .1 ∙ sym (front-is-placed e d))
+
+-- sizes without their octets
+two : (b : Bool) (x y : ℕ) → (n : ℕ) → x ≤ n → y ≤ n → pick b x y ≤ n
+unfolding pick
+two true x y n h k = h
+two false x y n h k = k
+
+pub flow-most : (type a b : ℕ) → flowSize type a b ≤ 2 + a + b
+unfolding flowSize
+flow-most type a b = two _ _ _ _ (omega arith) (omega arith)
+
+pub originator-most : (type o : ℕ) → originatorLength type o ≤ o
+unfolding originatorLength
+originator-most type o = two _ _ _ _ (omega arith) (omega arith)
+
+fixed-other : (b d : Bool) (k : ℕ) → (b ≡ true → k < 1024) → pick b k (pick d 12 8) < 1024
+unfolding pick
+fixed-other true d k h = h refl
+fixed-other false true k h = omega arith
+fixed-other false false k h = omega arith
+
+pub fixed-most : (type k : ℕ) → (type ≡ 4 → k < 1024) → fixedSize type k < 1024
+unfolding fixedSize
+fixed-most type k h = fixed-other (eqb type 4) (withSourceAs type) k (λ e. h (eqb-true type 4 e))
+
+eight-and : (b : Bool) → 8 + pick b 4 0 ≡ pick b 12 8
+unfolding pick
+eight-and true = refl
+eight-and false = refl
+
+pick-length : (b : Bool) (x y : List ℕ) → length (pick b x y) ≡ pick b (length x) (length y)
+unfolding pick
+pick-length true x y = refl
+pick-length false x y = refl
+
+module _ (nlri : Nlri) (key : List ℕ) (eight : length (nlri .distinguisher .octets) ≡ 8) where
+  fixed-size : length (fixedOctets nlri key) ≡ fixedSize (nlri .«route_type») (length key)
+  unfolding fixedOctets fixedSize numberOctets
+  fixed-size =
+      pick-length _ _ _ ∙ ap (pick _ _) (length-append (nlri .distinguisher .octets) _ ∙ ap₂ _+_ eight (pick-length _ _ _ ∙ ap (λ (n : ℕ). pick (withSourceAs (nlri .«route_type»)) n 0) (big-endian-length 4 (nlri .«source_as»))) ∙ eight-and (withSourceAs (nlri .«route_type»)))
+
+  flow-size : length (flowOctets nlri) ≡ flowSize (nlri .«route_type») (nlri .source .size) (nlri .group .size)
+  unfolding flowOctets flowSize
+  flow-size =
+      let a = address-room (nlri .source) in
+      let b = address-room (nlri .group) in
+      let la = octets-length (nlri .source) in
+      let lb = octets-length (nlri .group) in
+      let l = length-append (encodeAddress (octetsOf (nlri .source))) (encodeAddress (octetsOf (nlri .group))) in
+      pick-length _ _ _ ∙ ap (λ (n : ℕ). pick (hasFlow (nlri .«route_type»)) n 0) (omega arith)
+
+  originator-size : length (originatorOctets nlri) ≡ originatorLength (nlri .«route_type») (nlri .originator .size)
+  unfolding originatorOctets originatorLength
+  originator-size = pick-length _ _ _ ∙ ap (λ (n : ℕ). pick (hasOriginator (nlri .«route_type»)) n 0) (octets-length (nlri .originator))
+
+  pub size-is : sizeOf nlri (length key) ≡ length (allOctets nlri key)
+  unfolding sizeOf
+  size-is =
+      let a = all-length nlri key in
+      let b = body-length nlri key in
+      let f = fixed-size in
+      let w = flow-size in
+      let o = originator-size in
+      omega arith

@@ -1,0 +1,17 @@
+use Rattle.nlri.specs.Family.{originatorSize}
+use Rattle.octets.proofs.Tests.{flags}
+use Rattle.nlri.proofs.body.is_originator_size.Statement.{statement}
+use Rattle.nlri.proofs.body.is_originator_size.Tie as tie
+use Rattle.nlri.proofs.body.is_originator_size.Reads as reads
+use Rattle.nlri.proofs.body.is_originator_size.Lts as lts
+
+returns : tie.Need-returns
+unfolding originatorSize
+returns c = search flags
+
+returns-2 : tie.Need-returns-2
+unfolding originatorSize
+returns-2 c = search flags
+
+pub is-originator-size-spec : {M : Type 1} → statement M
+is-originator-size-spec = tie.close (tie.spec returns returns-2)

@@ -1,0 +1,32 @@
+use Rattle.nlri.specs.InnerWriting.{fixedSize}
+use Rattle.octets.proofs.Tests.{tests}
+use mathlib.Core.Path.{sym, _∙_}
+use borrow.Author.Needs.{needs}
+use Rattle.nlri.proofs.write.fixed_size.Statement.{statement}
+use Rattle.nlri.proofs.write.fixed_size.Tie as tie
+use Rattle.nlri.proofs.write.fixed_size.Reads as reads
+use Rattle.nlri.proofs.write.fixed_size.Lts as lts
+use Rattle.nlri.proofs.fields.has_source_as.Reads as has-source-as-reads
+
+returns : tie.Need-returns
+unfolding fixedSize
+returns c =
+    search tests
+
+has-source-as-requires : tie.Need-has-source-as-requires
+has-source-as-requires c κs = search needs
+
+returns-2 : tie.Need-returns-2
+unfolding fixedSize
+returns-2 c =
+    let f0 = sym (c .before .has-source-as .ensures) ∙ c .if2 .taken in
+    search tests
+
+returns-3 : tie.Need-returns-3
+unfolding fixedSize
+returns-3 c =
+    let f0 = sym (c .before .has-source-as .ensures) ∙ c .if2 .left in
+    search tests
+
+pub fixed-size-spec : {M : Type 1} → statement M
+fixed-size-spec = tie.close (tie.spec returns has-source-as-requires returns-2 returns-3)

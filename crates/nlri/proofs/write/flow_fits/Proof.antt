@@ -1,0 +1,58 @@
+use Rattle.nlri.specs.InnerWriting.{flowFits}
+use Rattle.octets.proofs.Tests.{flags}
+use mathlib.Core.Path.{sym, _∙_}
+use borrow.Author.Needs.{needs}
+use Rattle.nlri.proofs.write.flow_fits.Statement.{statement}
+use Rattle.nlri.proofs.write.flow_fits.Tie as tie
+use Rattle.nlri.proofs.write.flow_fits.Reads as reads
+use Rattle.nlri.proofs.write.flow_fits.Lts as lts
+use Rattle.nlri.proofs.body.is_allowed.Reads as is-allowed-reads
+use Rattle.nlri.proofs.write.has_flow.Reads as has-flow-reads
+
+has-flow-requires : tie.Need-has-flow-requires
+has-flow-requires c κs = search needs
+
+mul-is-allowed : tie.Need-mul-is-allowed
+mul-is-allowed c = search needs
+
+is-allowed-requires : tie.Need-is-allowed-requires
+is-allowed-requires c κs = search needs
+
+mul-is-allowed-2 : tie.Need-mul-is-allowed-2
+mul-is-allowed-2 c = search needs
+
+is-allowed-requires-2 : tie.Need-is-allowed-requires-2
+is-allowed-requires-2 c κs = search needs
+
+returns : tie.Need-returns
+unfolding flowFits
+returns c =
+    let f0 = sym (c .before .before .is-allowed .ensures) ∙ c .before .if2 .taken in
+    let f1 = sym (c .before .before .before .before .has-flow .ensures) ∙ c .before .before .before .if1 .taken in
+    search flags
+
+returns-2 : tie.Need-returns-2
+unfolding flowFits
+returns-2 c =
+    let f0 = sym (c .before .is-allowed .ensures) ∙ c .if2 .left in
+    let f1 = sym (c .before .before .before .has-flow .ensures) ∙ c .before .before .if1 .taken in
+    search flags
+
+returns-3 : tie.Need-returns-3
+unfolding flowFits
+returns-3 c =
+    let f0 = sym (c .before .has-flow .ensures) ∙ c .if1 .left in
+    search flags
+
+pub flow-fits-spec : {M : Type 1} → statement M
+flow-fits-spec =
+    tie.close
+    (tie.spec
+    has-flow-requires
+    mul-is-allowed
+    is-allowed-requires
+    mul-is-allowed-2
+    is-allowed-requires-2
+    returns
+    returns-2
+    returns-3)

@@ -1,0 +1,33 @@
+use Rattle.nlri.specs.InnerWriting.{flowSize}
+use Rattle.octets.proofs.Tests.{tests}
+use mathlib.Core.Path.{sym, _∙_}
+use borrow.Author.Needs.{needs}
+use Rattle.nlri.proofs.write.flow_size.Statement.{statement}
+use Rattle.nlri.proofs.write.flow_size.Tie as tie
+use Rattle.nlri.proofs.write.flow_size.Reads as reads
+use Rattle.nlri.proofs.write.flow_size.Lts as lts
+use Rattle.nlri.proofs.write.has_flow.Reads as has-flow-reads
+
+has-flow-requires : tie.Need-has-flow-requires
+has-flow-requires c κs = search needs
+
+add-result : tie.Need-add-result
+add-result c = search needs
+
+add-result-2 : tie.Need-add-result-2
+add-result-2 c = search needs
+
+returns : tie.Need-returns
+unfolding flowSize
+returns c =
+    let f0 = sym (c .before .has-flow .ensures) ∙ c .if1 .taken in
+    search tests
+
+returns-2 : tie.Need-returns-2
+unfolding flowSize
+returns-2 c =
+    let f0 = sym (c .before .has-flow .ensures) ∙ c .if1 .left in
+    search tests
+
+pub flow-size-spec : {M : Type 1} → statement M
+flow-size-spec = tie.close (tie.spec has-flow-requires add-result add-result-2 returns returns-2)

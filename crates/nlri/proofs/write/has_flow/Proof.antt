@@ -1,0 +1,17 @@
+use Rattle.nlri.specs.InnerWriting.{hasFlow}
+use Rattle.octets.proofs.Tests.{flags}
+use Rattle.nlri.proofs.write.has_flow.Statement.{statement}
+use Rattle.nlri.proofs.write.has_flow.Tie as tie
+use Rattle.nlri.proofs.write.has_flow.Reads as reads
+use Rattle.nlri.proofs.write.has_flow.Lts as lts
+
+returns : tie.Need-returns
+unfolding hasFlow
+returns c = search flags
+
+returns-2 : tie.Need-returns-2
+unfolding hasFlow
+returns-2 c = search flags
+
+pub has-flow-spec : {M : Type 1} → statement M
+has-flow-spec = tie.close (tie.spec returns returns-2)

@@ -1,0 +1,21 @@
+use Rattle.nlri.specs.InnerWriting.{hasOriginator}
+use Rattle.octets.proofs.Tests.{flags}
+use Rattle.nlri.proofs.write.has_originator.Statement.{statement}
+use Rattle.nlri.proofs.write.has_originator.Tie as tie
+use Rattle.nlri.proofs.write.has_originator.Reads as reads
+use Rattle.nlri.proofs.write.has_originator.Lts as lts
+
+returns : tie.Need-returns
+unfolding hasOriginator
+returns c = search flags
+
+returns-2 : tie.Need-returns-2
+unfolding hasOriginator
+returns-2 c = search flags
+
+returns-3 : tie.Need-returns-3
+unfolding hasOriginator
+returns-3 c = search flags
+
+pub has-originator-spec : {M : Type 1} → statement M
+has-originator-spec = tie.close (tie.spec returns returns-2 returns-3)

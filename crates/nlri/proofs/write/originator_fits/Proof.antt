@@ -1,0 +1,32 @@
+use Rattle.nlri.specs.InnerWriting.{originatorFits}
+use Rattle.octets.proofs.Tests.{tests}
+use mathlib.Core.Path.{sym, _∙_}
+use borrow.Author.Needs.{needs}
+use Rattle.nlri.proofs.write.originator_fits.Statement.{statement}
+use Rattle.nlri.proofs.write.originator_fits.Tie as tie
+use Rattle.nlri.proofs.write.originator_fits.Reads as reads
+use Rattle.nlri.proofs.write.originator_fits.Lts as lts
+use Rattle.nlri.proofs.body.is_originator_size.Reads as is-originator-size-reads
+use Rattle.nlri.proofs.write.has_originator.Reads as has-originator-reads
+
+has-originator-requires : tie.Need-has-originator-requires
+has-originator-requires c κs = search needs
+
+is-originator-size-requires : tie.Need-is-originator-size-requires
+is-originator-size-requires c κs = search needs
+
+returns : tie.Need-returns
+unfolding originatorFits
+returns c =
+    let f0 = sym (c .before .before .has-originator .ensures) ∙ c .before .if1 .taken in
+    search tests
+
+returns-2 : tie.Need-returns-2
+unfolding originatorFits
+returns-2 c =
+    let f0 = sym (c .before .has-originator .ensures) ∙ c .if1 .left in
+    search tests
+
+pub originator-fits-spec : {M : Type 1} → statement M
+originator-fits-spec =
+    tie.close (tie.spec has-originator-requires is-originator-size-requires returns returns-2)

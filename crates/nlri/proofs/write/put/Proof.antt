@@ -1,0 +1,57 @@
+use Rattle.octets.proofs.Lists.{put-as, put-then, put-length}
+use Rattle.nlri.proofs.Puts.{all-length, all-put, put-all}
+use lib.Seq.{length-take-le}
+use lib.ListN.{length, take}
+use native.Mathlib.Omega.{arith}
+use Prim.Native.Nat.{ℕ, _+_, _≤_, _<_}
+use mathlib.Core.Path.{_≡_, refl, _∙_, sym, ap}
+use denote.Ref.{now}
+use borrow.Author.Needs.{needs}
+use Rattle.nlri.proofs.write.put.Statement.{statement}
+use Rattle.nlri.proofs.write.put.Tie as tie
+use Rattle.nlri.proofs.write.put.Reads as reads
+use Rattle.nlri.proofs.write.put.Lts as lts
+use Rattle.nlri.proofs.write.put_body.Reads as put-body-reads
+use Rattle.nlri.proofs.write.put_header.Reads as put-header-reads
+
+sub-put-header : tie.Need-sub-put-header
+sub-put-header c =
+    let l = all-length (c .before .before .args .nlri) (now (c .before .before .args .key)) in
+    let w = c .before .before .pre in
+    omega (arith, w .exact)
+
+cast-put-header : tie.Need-cast-put-header
+cast-put-header c = search needs
+
+put-header-requires : tie.Need-put-header-requires
+put-header-requires c κs =
+    let l = all-length (c .before .before .before .args .nlri) (now (c .before .before .before .args .key)) in
+    let w = c .before .before .before .pre in
+    omega (arith, w .exact, w .room)
+
+put-body-requires : tie.Need-put-body-requires
+put-body-requires c κs =
+    let l = all-length (c .before .before .before .before .before .before .before .args .nlri) (now (c .before .before .before .before .before .before .before .args .key)) in
+    let w = c .before .before .before .before .before .before .before .pre in
+    let k = put-length _ _ _ _ _ (omega (arith, w .exact, w .room)) (c .before .before .before .put-header .ensures) in
+    (w .sized, omega (arith, w .exact, w .room, c .before .before .before .put-header .ensures .0))
+
+same-length : tie.Need-same-length
+same-length c = search needs
+
+returns : tie.Need-returns
+returns c =
+    let l = all-length (c .before .before .before .before .before .before .before .before .before .before .args .nlri) (now (c .before .before .before .before .before .before .before .before .before .before .args .key)) in
+    let w = c .before .before .before .before .before .before .before .before .before .before .pre in
+    put-all _ _ _ _ _ (w .exact) (put-as _ _ _ _ _ _ (all-put (c .before .before .before .before .before .before .before .before .before .before .args .nlri) (now (c .before .before .before .before .before .before .before .before .before .before .args .key)) _ (omega (arith, w .exact))) (put-then _ _ _ _ _ _ _ _ (omega (arith, w .exact, w .room)) (c .before .before .before .before .before .before .put-header .ensures) (c .before .before .put-body .ensures)))
+
+pub put-spec : {M : Type 1} → statement M
+put-spec =
+    tie.close
+    (tie.spec
+    sub-put-header
+    cast-put-header
+    put-header-requires
+    put-body-requires
+    same-length
+    returns)

@@ -1,0 +1,49 @@
+use Prim.Native.Nat.{_*_}
+use mathlib.Core.List.{[], _∷_}
+use Rattle.nlri.specs.Answers.{octetsOf}
+use Rattle.octets.proofs.Lists.{put-as, put-then, put-length}
+use Rattle.nlri.proofs.Puts.{address-room, address-split}
+use lib.Seq.{length-take-le}
+use lib.ListN.{length, take}
+use native.Mathlib.Omega.{arith}
+use Prim.Native.Nat.{ℕ, _+_, _≤_, _<_}
+use mathlib.Core.Path.{_≡_, refl, _∙_, sym, ap}
+use denote.Ref.{now}
+use borrow.Author.Needs.{needs}
+use Rattle.nlri.proofs.write.put_address.Statement.{statement}
+use Rattle.nlri.proofs.write.put_address.Tie as tie
+use Rattle.nlri.proofs.write.put_address.Reads as reads
+use Rattle.nlri.proofs.write.put_address.Lts as lts
+use Rattle.nlri.proofs.write.put_octets.Reads as put-octets-reads
+use Rattle.octets.proofs.parts.place.Reads as place-reads
+
+mul-t6 : tie.Need-mul-t6
+mul-t6 c = search needs
+
+slice-aggregate-place : tie.Need-slice-aggregate-place
+slice-aggregate-place c = search needs
+
+place-requires : tie.Need-place-requires
+place-requires c κs =
+    let l = address-room (c .before .before .before .before .args .address) in omega (arith, c .before .before .before .before .pre .1)
+
+put-octets-requires : tie.Need-put-octets-requires
+put-octets-requires c κs =
+    let a = c .before .before .before .before .before .before .before .before .args in
+    let l = address-room (a .address) in
+    let k = put-length _ _ _ _ _ (omega (arith, c .before .before .before .before .before .before .before .before .pre .1)) (c .before .before .before .place .ensures) in
+    (c .before .before .before .before .before .before .before .before .pre .0, omega (arith, c .before .before .before .before .before .before .before .before .pre .1, c .before .before .before .place .ensures .0))
+
+same-length : tie.Need-same-length
+same-length c = search needs
+
+returns : tie.Need-returns
+returns c =
+    let a = c .before .before .before .before .before .before .before .before .before .before .before .args in
+    let l = address-room (a .address) in
+    put-as _ _ _ _ _ _ (address-split (a .address)) (put-then (a .at) (8 * a .address .size ∷ []) (octetsOf (a .address)) (now (a .output)) _ _ _ _ (omega (arith, c .before .before .before .before .before .before .before .before .before .before .before .pre .1)) (c .before .before .before .before .before .before .place .ensures) (c .before .before .put-octets .ensures))
+
+pub put-address-spec : {M : Type 1} → statement M
+put-address-spec =
+    tie.close
+    (tie.spec mul-t6 slice-aggregate-place place-requires put-octets-requires same-length returns)

@@ -1,0 +1,62 @@
+use Rattle.nlri.specs.Fields.{encodeAddress}
+use lib.ListN.{length-append}
+use mathlib.Core.List.{[]}
+use Rattle.nlri.specs.Answers.{octetsOf}
+use Rattle.octets.proofs.Lists.{put-as, put-none, put-then, put-length}
+use Rattle.nlri.proofs.Puts.{flow-there, flow-none}
+use lib.Seq.{length-take-le}
+use lib.ListN.{length, take}
+use native.Mathlib.Omega.{arith}
+use Prim.Native.Nat.{ℕ, _+_, _≤_, _<_}
+use mathlib.Core.Path.{_≡_, refl, _∙_, sym, ap}
+use denote.Ref.{now}
+use borrow.Author.Needs.{needs}
+use Rattle.nlri.proofs.write.put_flow.Statement.{statement}
+use Rattle.nlri.proofs.write.put_flow.Tie as tie
+use Rattle.nlri.proofs.write.put_flow.Reads as reads
+use Rattle.nlri.proofs.write.put_flow.Lts as lts
+use Rattle.nlri.proofs.write.has_flow.Reads as has-flow-reads
+use Rattle.nlri.proofs.write.put_address.Reads as put-address-reads
+
+cast-has-flow : tie.Need-cast-has-flow
+cast-has-flow c = search needs
+
+has-flow-requires : tie.Need-has-flow-requires
+has-flow-requires c κs = search needs
+
+put-address-requires : tie.Need-put-address-requires
+put-address-requires c κs =
+    let f = sym (c .before .before .before .before .has-flow .ensures) ∙ c .before .before .before .if1 .taken in
+    let e = sym (length-append (encodeAddress (octetsOf (c .before .before .before .before .before .before .before .args .nlri .source))) (encodeAddress (octetsOf (c .before .before .before .before .before .before .before .args .nlri .group)))) ∙ ap length (flow-there (c .before .before .before .before .before .before .before .args .nlri) [] (sym (c .before .before .before .before .has-flow .ensures) ∙ c .before .before .before .if1 .taken)) in
+    (c .before .before .before .before .before .before .before .pre .0 .source f, omega (arith, c .before .before .before .before .before .before .before .pre .1))
+
+put-address-requires-2 : tie.Need-put-address-requires-2
+put-address-requires-2 c κs =
+    let f = sym (c .before .before .before .before .before .before .before .before .has-flow .ensures) ∙ c .before .before .before .before .before .before .before .if1 .taken in
+    let e = sym (length-append (encodeAddress (octetsOf (c .before .before .before .before .before .before .before .before .before .before .before .args .nlri .source))) (encodeAddress (octetsOf (c .before .before .before .before .before .before .before .before .before .before .before .args .nlri .group)))) ∙ ap length (flow-there (c .before .before .before .before .before .before .before .before .before .before .before .args .nlri) [] (sym (c .before .before .before .before .before .before .before .before .has-flow .ensures) ∙ c .before .before .before .before .before .before .before .if1 .taken)) in
+    let k = put-length _ _ _ _ _ (omega (arith, c .before .before .before .before .before .before .before .before .before .before .before .pre .1)) (c .before .before .before .put-address .ensures) in
+    (c .before .before .before .before .before .before .before .before .before .before .before .pre .0 .group f, omega (arith, c .before .before .before .before .before .before .before .before .before .before .before .pre .1, c .before .before .before .put-address .ensures .0))
+
+same-length : tie.Need-same-length
+same-length c = search needs
+
+returns : tie.Need-returns
+returns c =
+    let e = sym (length-append (encodeAddress (octetsOf (c .before .before .before .before .before .before .before .before .before .before .before .before .before .before .args .nlri .source))) (encodeAddress (octetsOf (c .before .before .before .before .before .before .before .before .before .before .before .before .before .before .args .nlri .group)))) ∙ ap length (flow-there (c .before .before .before .before .before .before .before .before .before .before .before .before .before .before .args .nlri) [] (sym (c .before .before .before .before .before .before .before .before .before .before .before .has-flow .ensures) ∙ c .before .before .before .before .before .before .before .before .before .before .if1 .taken)) in
+    put-as _ _ _ _ _ _ (flow-there (c .before .before .before .before .before .before .before .before .before .before .before .before .before .before .args .nlri) [] (sym (c .before .before .before .before .before .before .before .before .before .before .before .has-flow .ensures) ∙ c .before .before .before .before .before .before .before .before .before .before .if1 .taken)) (put-then _ _ _ _ _ _ _ _ (omega (arith, c .before .before .before .before .before .before .before .before .before .before .before .before .before .before .pre .1)) (c .before .before .before .before .before .before .put-address .ensures) (c .before .before .put-address2 .ensures))
+
+returns-2 : tie.Need-returns-2
+returns-2 c =
+    put-as _ _ _ _ _ _ (flow-none (c .before .before .before .before .args .nlri) [] (sym (c .before .has-flow .ensures) ∙ c .if1 .left)) (put-none _ _)
+
+pub put-flow-spec : {M : Type 1} → statement M
+put-flow-spec =
+    tie.close
+    (tie.spec
+    cast-has-flow
+    has-flow-requires
+    put-address-requires
+    put-address-requires-2
+    same-length
+    returns
+    returns-2)

@@ -1,0 +1,50 @@
+use mathlib.Core.List.{[]}
+use Rattle.octets.proofs.Lists.{put-as, put-none}
+use Rattle.nlri.proofs.Puts.{originator-there, originator-none}
+use lib.Seq.{length-take-le}
+use lib.ListN.{length, take}
+use native.Mathlib.Omega.{arith}
+use Prim.Native.Nat.{ℕ, _+_, _≤_, _<_}
+use mathlib.Core.Path.{_≡_, refl, _∙_, sym, ap}
+use denote.Ref.{now}
+use borrow.Author.Needs.{needs}
+use Rattle.nlri.proofs.write.put_originator.Statement.{statement}
+use Rattle.nlri.proofs.write.put_originator.Tie as tie
+use Rattle.nlri.proofs.write.put_originator.Reads as reads
+use Rattle.nlri.proofs.write.put_originator.Lts as lts
+use Rattle.nlri.proofs.write.has_originator.Reads as has-originator-reads
+use Rattle.nlri.proofs.write.put_octets.Reads as put-octets-reads
+
+cast-has-originator : tie.Need-cast-has-originator
+cast-has-originator c = search needs
+
+has-originator-requires : tie.Need-has-originator-requires
+has-originator-requires c κs = search needs
+
+put-octets-requires : tie.Need-put-octets-requires
+put-octets-requires c κs =
+    let f = sym (c .before .before .before .has-originator .ensures) ∙ c .before .before .if1 .taken in
+    let e = ap length (originator-there (c .before .before .before .before .before .before .args .nlri) [] f) in
+    (c .before .before .before .before .before .before .pre .0 .originator f, omega (arith, c .before .before .before .before .before .before .pre .1))
+
+same-length : tie.Need-same-length
+same-length c = search needs
+
+returns : tie.Need-returns
+returns c =
+    put-as _ _ _ _ _ _ (originator-there (c .before .before .before .before .before .before .before .before .before .args .nlri) [] (sym (c .before .before .before .before .before .before .has-originator .ensures) ∙ c .before .before .before .before .before .if1 .taken)) (c .before .before .put-octets .ensures)
+
+returns-2 : tie.Need-returns-2
+returns-2 c =
+    put-as _ _ _ _ _ _ (originator-none (c .before .before .before .before .args .nlri) [] (sym (c .before .has-originator .ensures) ∙ c .if1 .left)) (put-none _ _)
+
+pub put-originator-spec : {M : Type 1} → statement M
+put-originator-spec =
+    tie.close
+    (tie.spec
+    cast-has-originator
+    has-originator-requires
+    put-octets-requires
+    same-length
+    returns
+    returns-2)

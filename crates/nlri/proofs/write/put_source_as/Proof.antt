@@ -1,0 +1,53 @@
+use Rattle.octets.proofs.NetworkOrder.{big-endian-length}
+use mathlib.Core.List.{[]}
+use Rattle.octets.proofs.Lists.{put-as, put-none}
+use Rattle.nlri.proofs.Puts.{number-there, number-none}
+use lib.Seq.{length-take-le}
+use lib.ListN.{length, take}
+use native.Mathlib.Omega.{arith}
+use Prim.Native.Nat.{ℕ, _+_, _≤_, _<_}
+use mathlib.Core.Path.{_≡_, refl, _∙_, sym, ap}
+use denote.Ref.{now}
+use borrow.Author.Needs.{needs}
+use Rattle.nlri.proofs.write.put_source_as.Statement.{statement}
+use Rattle.nlri.proofs.write.put_source_as.Tie as tie
+use Rattle.nlri.proofs.write.put_source_as.Reads as reads
+use Rattle.nlri.proofs.write.put_source_as.Lts as lts
+use Rattle.nlri.proofs.fields.has_source_as.Reads as has-source-as-reads
+use Rattle.octets.proofs.wide.place_four.Reads as place-four-reads
+
+cast-has-source-as : tie.Need-cast-has-source-as
+cast-has-source-as c = search needs
+
+has-source-as-requires : tie.Need-has-source-as-requires
+has-source-as-requires c κs = search needs
+
+place-four-requires : tie.Need-place-four-requires
+place-four-requires c κs =
+    let e = ap length (number-there (c .before .before .before .before .before .args .nlri) [] (sym (c .before .before .has-source-as .ensures) ∙ c .before .if1 .taken)) in
+    let l = big-endian-length 4 (c .before .before .before .before .before .args .nlri .«source_as») in
+    omega (arith, c .before .before .before .before .before .pre)
+
+same-length : tie.Need-same-length
+same-length c = search needs
+
+returns : tie.Need-returns
+returns c =
+    let e = number-there (c .before .before .before .before .before .before .before .before .args .nlri) [] (sym (c .before .before .before .before .before .has-source-as .ensures) ∙ c .before .before .before .before .if1 .taken) in
+    let l = big-endian-length 4 (c .before .before .before .before .before .before .before .before .args .nlri .«source_as») in
+    put-as _ _ _ _ _ _ e (c .before .before .place-four .ensures .0 ∙ ap (λ (k : ℕ). c .before .before .before .before .before .before .before .before .args .at + k) (sym l), c .before .before .place-four .ensures .1)
+
+returns-2 : tie.Need-returns-2
+returns-2 c =
+    put-as _ _ _ _ _ _ (number-none (c .before .before .before .before .args .nlri) [] (sym (c .before .has-source-as .ensures) ∙ c .if1 .left)) (put-none _ _)
+
+pub put-source-as-spec : {M : Type 1} → statement M
+put-source-as-spec =
+    tie.close
+    (tie.spec
+    cast-has-source-as
+    has-source-as-requires
+    place-four-requires
+    same-length
+    returns
+    returns-2)

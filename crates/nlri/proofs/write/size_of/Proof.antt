@@ -1,0 +1,80 @@
+use Rattle.nlri.specs.InnerWriting.{sizeOf}
+use Rattle.nlri.proofs.Puts.{fixed-most, flow-most, originator-most}
+use lib.Seq.{length-take-le}
+use lib.ListN.{length, take}
+use native.Mathlib.Omega.{arith}
+use Prim.Native.Nat.{ℕ, _+_, _≤_, _<_}
+use mathlib.Core.Path.{_≡_, refl, _∙_, sym, ap}
+use denote.Ref.{now}
+use borrow.Author.Needs.{needs}
+use Rattle.nlri.proofs.write.size_of.Statement.{statement}
+use Rattle.nlri.proofs.write.size_of.Tie as tie
+use Rattle.nlri.proofs.write.size_of.Reads as reads
+use Rattle.nlri.proofs.write.size_of.Lts as lts
+use Rattle.nlri.proofs.write.fixed_size.Reads as fixed-size-reads
+use Rattle.nlri.proofs.write.flow_size.Reads as flow-size-reads
+use Rattle.nlri.proofs.write.originator_length.Reads as originator-length-reads
+
+cast-route-type : tie.Need-cast-route-type
+cast-route-type c = search needs
+
+fixed-size-requires : tie.Need-fixed-size-requires
+fixed-size-requires c κs = search needs
+
+cast-flow-size : tie.Need-cast-flow-size
+cast-flow-size c = search needs
+
+cast-flow-size-2 : tie.Need-cast-flow-size-2
+cast-flow-size-2 c = search needs
+
+flow-size-requires : tie.Need-flow-size-requires
+flow-size-requires c κs = search needs
+
+add-result : tie.Need-add-result
+add-result c =
+    let h = fixed-most (c .before .before .before .before .before .before .before .before .args .nlri .«route_type») (c .before .before .before .before .before .before .before .before .args .key) (c .before .before .before .before .before .before .before .before .pre) in omega (arith, c .before .before .before .fixed-size .ensures)
+
+add-result-2 : tie.Need-add-result-2
+add-result-2 c =
+    let hsource : c .before .before .before .before .before .before .before .before .args .nlri .source .size < 256 = search needs in
+    let hgroup : c .before .before .before .before .before .before .before .before .args .nlri .group .size < 256 = search needs in
+    let h = fixed-most (c .before .before .before .before .before .before .before .before .args .nlri .«route_type») (c .before .before .before .before .before .before .before .before .args .key) (c .before .before .before .before .before .before .before .before .pre) in
+    let w = flow-most (c .before .before .before .before .before .before .before .before .args .nlri .«route_type») (c .before .before .before .before .before .before .before .before .args .nlri .source .size) (c .before .before .before .before .before .before .before .before .args .nlri .group .size) in
+    omega (arith, c .before .before .before .fixed-size .ensures, c .flow-size .ensures)
+
+cast-originator-length : tie.Need-cast-originator-length
+cast-originator-length c = search needs
+
+originator-length-requires : tie.Need-originator-length-requires
+originator-length-requires c κs = search needs
+
+add-result-3 : tie.Need-add-result-3
+add-result-3 c =
+    let hsource : c .before .before .before .before .before .before .before .before .before .before .args .nlri .source .size < 256 = search needs in
+    let hgroup : c .before .before .before .before .before .before .before .before .before .before .args .nlri .group .size < 256 = search needs in
+    let horiginator : c .before .before .before .before .before .before .before .before .before .before .args .nlri .originator .size < 256 = search needs in
+    let h = fixed-most (c .before .before .before .before .before .before .before .before .before .before .args .nlri .«route_type») (c .before .before .before .before .before .before .before .before .before .before .args .key) (c .before .before .before .before .before .before .before .before .before .before .pre) in
+    let w = flow-most (c .before .before .before .before .before .before .before .before .before .before .args .nlri .«route_type») (c .before .before .before .before .before .before .before .before .before .before .args .nlri .source .size) (c .before .before .before .before .before .before .before .before .before .before .args .nlri .group .size) in
+    let o = originator-most (c .before .before .before .before .before .before .before .before .before .before .args .nlri .«route_type») (c .before .before .before .before .before .before .before .before .before .before .args .nlri .originator .size) in
+    omega (arith, c .before .before .before .before .before .fixed-size .ensures, c .before .before .flow-size .ensures, c .originator-length .ensures)
+
+returns : tie.Need-returns
+unfolding sizeOf
+returns c =
+    omega (arith, c .before .before .before .before .before .fixed-size .ensures, c .before .before .flow-size .ensures, c .originator-length .ensures)
+
+pub size-of-spec : {M : Type 1} → statement M
+size-of-spec =
+    tie.close
+    (tie.spec
+    cast-route-type
+    fixed-size-requires
+    cast-flow-size
+    cast-flow-size-2
+    flow-size-requires
+    add-result
+    add-result-2
+    cast-originator-length
+    originator-length-requires
+    add-result-3
+    returns)

@@ -1,0 +1,99 @@
+-- Definitions that mirror the inner functions of writing, one for each; laws tie them to the page's in `Writing`.
+use Prim.Native.Nat.{ℕ, _+_, _*_, _≤_, _<_}
+use mathlib.Core.Path.{_≡_}
+use mathlib.Core.Bool.{Bool, true}
+use mathlib.Core.List.{List, [], _∷_, _++_}
+use lib.ListN.{length}
+use lib.Dec.{ltb, eqb}
+use Rattle.octets.specs.Numbers.{DONE, TYPE, WIDTH, KEY, SPACE}
+use Rattle.octets.specs.Choice.{pick, both, either}
+use Rattle.octets.specs.Outcome.{Outcome, given, refused}
+use Rattle.octets.specs.Octets.{bigEndian}
+use Rattle.nlri.specs.declared.fields.Nlri.{Nlri}
+use Rattle.nlri.specs.Family.{allowed, originatorSize}
+use Rattle.nlri.specs.Fields.{encodeAddress}
+use Rattle.nlri.specs.Writing.{isKey}
+use Rattle.nlri.specs.Answers.{octetsOf}
+use Rattle.nlri.specs.Inner.{withSourceAs}
+
+-- types 3, 5, 6 and 7 have a source and a group
+unfoldable pub hasFlow : ℕ → Bool
+hasFlow type = either (eqb type 3) (ltb 4 type)
+
+-- types 1, 3 and 4 have an originator
+unfoldable pub hasOriginator : ℕ → Bool
+hasOriginator type = either (eqb type 1) (either (eqb type 3) (eqb type 4))
+
+unfoldable pub flowFits : (family type source group : ℕ) → Bool
+flowFits family type source group = pick (hasFlow type) (both (allowed family type (8 * source)) (allowed family type (8 * group))) true
+
+unfoldable pub originatorFits : (type size : ℕ) → Bool
+originatorFits type size = pick (hasOriginator type) (originatorSize size) true
+
+unfoldable pub leafFits : (family type : ℕ) → List ℕ → Bool
+leafFits family type key = pick (eqb type 4) (isKey family key) true
+
+-- DONE, or the first of TYPE, WIDTH and KEY
+unfoldable pub judged : ℕ → Nlri → List ℕ → ℕ
+judged family nlri key =
+    pick (ltb (nlri .«route_type») 1) TYPE
+    (pick (ltb 7 (nlri .«route_type»)) TYPE
+    (pick (flowFits family (nlri .«route_type») (nlri .source .size) (nlri .group .size))
+    (pick (originatorFits (nlri .«route_type») (nlri .originator .size))
+    (pick (leafFits family (nlri .«route_type») key) DONE KEY)
+    WIDTH)
+    WIDTH))
+
+-- sizes in octets, and their sum with the header
+unfoldable pub fixedSize : (type key : ℕ) → ℕ
+fixedSize type key = pick (eqb type 4) key (pick (withSourceAs type) 12 8)
+
+unfoldable pub flowSize : (type source group : ℕ) → ℕ
+flowSize type source group = pick (hasFlow type) (2 + source + group) 0
+
+unfoldable pub originatorLength : (type size : ℕ) → ℕ
+originatorLength type size = pick (hasOriginator type) size 0
+
+unfoldable pub sizeOf : Nlri → ℕ → ℕ
+sizeOf nlri key =
+    2 + fixedSize (nlri .«route_type») key + flowSize (nlri .«route_type») (nlri .source .size) (nlri .group .size)
+    + originatorLength (nlri .«route_type») (nlri .originator .size)
+
+-- what stands there
+unfoldable pub numberOctets : Nlri → List ℕ
+numberOctets nlri = pick (withSourceAs (nlri .«route_type»)) (bigEndian 4 (nlri .«source_as»)) []
+
+unfoldable pub fixedOctets : Nlri → List ℕ → List ℕ
+fixedOctets nlri key = pick (eqb (nlri .«route_type») 4) key (nlri .distinguisher .octets ++ numberOctets nlri)
+
+unfoldable pub flowOctets : Nlri → List ℕ
+flowOctets nlri = pick (hasFlow (nlri .«route_type»)) (encodeAddress (octetsOf (nlri .source)) ++ encodeAddress (octetsOf (nlri .group))) []
+
+unfoldable pub originatorOctets : Nlri → List ℕ
+originatorOctets nlri = pick (hasOriginator (nlri .«route_type»)) (octetsOf (nlri .originator)) []
+
+unfoldable pub bodyOctets : Nlri → List ℕ → List ℕ
+bodyOctets nlri key = fixedOctets nlri key ++ (flowOctets nlri ++ originatorOctets nlri)
+
+unfoldable pub allOctets : Nlri → List ℕ → List ℕ
+allOctets nlri key = nlri .«route_type» ∷ length (bodyOctets nlri key) ∷ bodyOctets nlri key
+
+-- addresses that fit their arrays
+pub record Sized (nlri : Nlri) : Type 0 where
+  pub source : hasFlow (nlri .«route_type») ≡ true → nlri .source .size ≤ 16
+  pub group : hasFlow (nlri .«route_type») ≡ true → nlri .group .size ≤ 16
+  pub originator : hasOriginator (nlri .«route_type») ≡ true → nlri .originator .size ≤ 16
+
+-- an NLRI of so many octets that fits its Length octet and the output
+pub record Putting (nlri : Nlri) (key : List ℕ) (size : ℕ) (output : List ℕ) : Type 0 where
+  pub sized : Sized nlri
+  pub exact : size ≡ length (allOctets nlri key)
+  pub short : size < 258
+  pub room : size ≤ length output
+
+-- under a family
+unfoldable pub writeUnder : ℕ → Nlri → List ℕ → ℕ → Outcome (List ℕ)
+writeUnder family nlri key space =
+    pick (eqb (judged family nlri key) 0)
+    (pick (ltb space (sizeOf nlri (length key))) (refused SPACE) (given (allOctets nlri key)))
+    (refused (judged family nlri key))

@@ -1,0 +1,297 @@
+// Writing an NLRI: FAMILY, TYPE, WIDTH, KEY, SPACE. Fields that the route type lacks are not looked at.
+ghost use mathlib.Core.Path.{_≡_};
+ghost use mathlib.Core.List.{[], _∷_, _++_};
+ghost use Prim.Native.Nat.{_+_, _-_, _*_, _≤_, _<_};
+ghost use lib.ListN.{length};
+ghost use Rattle.octets.specs.Octets.{placed};
+ghost use Rattle.octets.specs.Outcome.{given, refused};
+ghost use Rattle.octets.specs.Outputs.{writtenOf, outputOf};
+ghost use Rattle.nlri.specs.Fields.{encodeAddress};
+ghost use Rattle.nlri.specs.Writing.{isKey, writeNlri};
+ghost use Rattle.nlri.specs.Answers.{octetsOf, fieldsIn};
+ghost use Rattle.nlri.specs.InnerWriting.{hasFlow, hasOriginator, flowFits, originatorFits, leafFits, judged, fixedSize, flowSize, originatorLength, sizeOf, numberOctets, fixedOctets, flowOctets, originatorOctets, bodyOctets, allOctets, Sized, Putting, writeUnder};
+use crate::address::Address;
+use crate::address::RouteDistinguisher;
+use crate::body;
+use crate::family;
+use crate::fields;
+use crate::fields::Nlri;
+use crate::layout::Part;
+use crate::read;
+use crate::read::HEADER;
+use crate::route::RouteType;
+use octets::Written;
+use octets::number::DONE;
+use octets::number::KEY;
+use octets::number::SPACE;
+use octets::number::TYPE;
+use octets::number::WIDTH;
+
+// Types 3, 5, 6 and 7 have a source and a group.
+fn has_flow(route_type: usize) -> bool
+    ensures { λ r. ⌜ r ≡ hasFlow «route_type» ⌝ }
+{
+    if route_type == RouteType::S_PMSI {
+        return true;
+    }
+    RouteType::LEAF < route_type
+}
+
+// Types 1, 3 and 4 have an originator.
+fn has_originator(route_type: usize) -> bool
+    ensures { λ r. ⌜ r ≡ hasOriginator «route_type» ⌝ }
+{
+    if route_type == RouteType::INTRA_AS_I_PMSI {
+        return true;
+    }
+    if route_type == RouteType::S_PMSI {
+        return true;
+    }
+    route_type == RouteType::LEAF
+}
+
+fn flow_fits(family: usize, route_type: usize, source: usize, group: usize) -> bool
+    requires { ⌜ (source < 256) × (group < 256) ⌝ }
+    ensures { λ r. ⌜ r ≡ flowFits family «route_type» source group ⌝ }
+{
+    if has_flow(route_type) {
+        if body::is_allowed(family, route_type, 8 * source) {
+            return body::is_allowed(family, route_type, 8 * group);
+        }
+        return false;
+    }
+    true
+}
+
+fn originator_fits(route_type: usize, size: usize) -> bool
+    ensures { λ r. ⌜ r ≡ originatorFits «route_type» size ⌝ }
+{
+    if has_originator(route_type) {
+        return body::is_originator_size(size);
+    }
+    true
+}
+
+// A Leaf's key is exactly one NLRI of type 1, 2 or 3.
+fn key_fits(family: usize, route_type: usize, key: &[u8]) -> bool
+    ensures { λ r. ⌜ r ≡ leafFits family «route_type» (now (key .entry)) ⌝ }
+{
+    if route_type == RouteType::LEAF {
+        return is_key(family, key);
+    }
+    true
+}
+
+fn is_key(family: usize, key: &[u8]) -> bool
+    ensures { λ r. ⌜ r ≡ isKey family (now (key .entry)) ⌝ }
+{
+    match read::read_key(family, key) {
+        Part::Fault(_) => false,
+        Part::Size(size) => size == key.len(),
+    }
+}
+
+// DONE, or the first of TYPE, WIDTH and KEY.
+fn judge(family: usize, nlri: Nlri, key: &[u8]) -> u32
+    ensures { λ r. ⌜ r ≡ judged family nlri (now (key .entry)) ⌝ }
+{
+    let route_type = nlri.route_type as usize;
+    let source = nlri.source;
+    let group = nlri.group;
+    let originator = nlri.originator;
+    if route_type < RouteType::INTRA_AS_I_PMSI {
+        return TYPE;
+    }
+    if RouteType::SOURCE_TREE_JOIN < route_type {
+        return TYPE;
+    }
+    if flow_fits(
+        family,
+        route_type,
+        source.size as usize,
+        group.size as usize,
+    ) {
+        if originator_fits(route_type, originator.size as usize) {
+            if key_fits(family, route_type, key) {
+                return DONE;
+            }
+            return KEY;
+        }
+        return WIDTH;
+    }
+    WIDTH
+}
+
+fn fixed_size(route_type: usize, key: usize) -> usize
+    ensures { λ r. ⌜ r ≡ fixedSize «route_type» key ⌝ }
+{
+    if route_type == RouteType::LEAF {
+        return key;
+    }
+    if fields::has_source_as(route_type) {
+        return RouteDistinguisher::WITH_SOURCE_AS;
+    }
+    RouteDistinguisher::OCTETS
+}
+
+fn flow_size(route_type: usize, source: usize, group: usize) -> usize
+    requires { ⌜ (source < 256) × (group < 256) ⌝ }
+    ensures { λ r. ⌜ r ≡ flowSize «route_type» source group ⌝ }
+{
+    if has_flow(route_type) {
+        return 2 + source + group;
+    }
+    0
+}
+
+fn originator_length(route_type: usize, size: usize) -> usize
+    ensures { λ r. ⌜ r ≡ originatorLength «route_type» size ⌝ }
+{
+    if has_originator(route_type) {
+        return size;
+    }
+    0
+}
+
+// The octets of the whole NLRI.
+fn size_of(nlri: Nlri, key: usize) -> usize
+    requires { ⌜ (nlri .«route_type» ≡ 4 → key < 1024) ⌝ }
+    ensures { λ r. ⌜ r ≡ sizeOf nlri key ⌝ }
+{
+    let route_type = nlri.route_type as usize;
+    let source = nlri.source;
+    let group = nlri.group;
+    let originator = nlri.originator;
+    let fixed = fixed_size(route_type, key);
+    let flow = flow_size(route_type, source.size as usize, group.size as usize);
+    HEADER + fixed + flow + originator_length(route_type, originator.size as usize)
+}
+
+// The octets of an address, from `at` on.
+fn put_octets(address: Address, output: &mut [u8], at: usize) -> usize
+    requires { ⌜ (address .size ≤ 16) × (at + length (octetsOf address) ≤ length (now output)) ⌝ }
+    ensures { λ r. ⌜ (r ≡ at + length (octetsOf address)) × (now (output .exit) ≡ placed at (octetsOf address) (now (output .entry))) ⌝ }
+{
+    let octets = address.octets;
+    let size = address.size as usize;
+    octets::parts::place(&octets[..size], output, at)
+}
+
+// A source or group with its length octet, from `at` on.
+fn put_address(address: Address, output: &mut [u8], at: usize) -> usize
+    requires { ⌜ (address .size ≤ 16) × (at + length (encodeAddress (octetsOf address)) ≤ length (now output)) ⌝ }
+    ensures { λ r. ⌜ (r ≡ at + length (encodeAddress (octetsOf address))) × (now (output .exit) ≡ placed at (encodeAddress (octetsOf address)) (now (output .entry))) ⌝ }
+{
+    let bits = [8 * address.size];
+    let next = octets::parts::place(&bits, output, at);
+    put_octets(address, output, next)
+}
+
+fn put_header(route_type: u8, size: u8, output: &mut [u8]) -> usize
+    requires { ⌜ 2 ≤ length (now output) ⌝ }
+    ensures { λ r. ⌜ (r ≡ 0 + length («route_type» ∷ size ∷ [])) × (now (output .exit) ≡ placed 0 («route_type» ∷ size ∷ []) (now (output .entry))) ⌝ }
+{
+    let header = [route_type, size];
+    octets::parts::place(&header, output, 0)
+}
+
+// A source AS behind the route distinguisher, where the type has one.
+fn put_source_as(nlri: Nlri, output: &mut [u8], at: usize) -> usize
+    requires { ⌜ at + length (numberOctets nlri) ≤ length (now output) ⌝ }
+    ensures { λ r. ⌜ (r ≡ at + length (numberOctets nlri)) × (now (output .exit) ≡ placed at (numberOctets nlri) (now (output .entry))) ⌝ }
+{
+    if fields::has_source_as(nlri.route_type as usize) {
+        return octets::wide::place_four(nlri.source_as, output, at);
+    }
+    at
+}
+
+// What stands before source and group: the key, or the route distinguisher with a source AS.
+fn put_fixed(nlri: Nlri, key: &[u8], output: &mut [u8], at: usize) -> usize
+    requires { ⌜ at + length (fixedOctets nlri (now key)) ≤ length (now output) ⌝ }
+    ensures { λ r. ⌜ (r ≡ at + length (fixedOctets nlri (now (key .entry)))) × (now (output .exit) ≡ placed at (fixedOctets nlri (now (key .entry))) (now (output .entry))) ⌝ }
+{
+    if nlri.route_type as usize == RouteType::LEAF {
+        return octets::parts::place(key, output, at);
+    }
+    let distinguisher = nlri.distinguisher;
+    let octets = distinguisher.octets;
+    let next = octets::parts::place(&octets, output, at);
+    put_source_as(nlri, output, next)
+}
+
+fn put_flow(nlri: Nlri, output: &mut [u8], at: usize) -> usize
+    requires { ⌜ Sized nlri × (at + length (flowOctets nlri) ≤ length (now output)) ⌝ }
+    ensures { λ r. ⌜ (r ≡ at + length (flowOctets nlri)) × (now (output .exit) ≡ placed at (flowOctets nlri) (now (output .entry))) ⌝ }
+{
+    if has_flow(nlri.route_type as usize) {
+        let source = nlri.source;
+        let group = nlri.group;
+        let next = put_address(source, output, at);
+        return put_address(group, output, next);
+    }
+    at
+}
+
+fn put_originator(nlri: Nlri, output: &mut [u8], at: usize) -> usize
+    requires { ⌜ Sized nlri × (at + length (originatorOctets nlri) ≤ length (now output)) ⌝ }
+    ensures { λ r. ⌜ (r ≡ at + length (originatorOctets nlri)) × (now (output .exit) ≡ placed at (originatorOctets nlri) (now (output .entry))) ⌝ }
+{
+    if has_originator(nlri.route_type as usize) {
+        let originator = nlri.originator;
+        return put_octets(originator, output, at);
+    }
+    at
+}
+
+// The body from `at` on.
+fn put_body(nlri: Nlri, key: &[u8], output: &mut [u8], at: usize) -> usize
+    requires { ⌜ Sized nlri × (at + length (bodyOctets nlri (now key)) ≤ length (now output)) ⌝ }
+    ensures { λ r. ⌜ (r ≡ at + length (bodyOctets nlri (now (key .entry)))) × (now (output .exit) ≡ placed at (bodyOctets nlri (now (key .entry))) (now (output .entry))) ⌝ }
+{
+    let flow = put_fixed(nlri, key, output, at);
+    let originator = put_flow(nlri, output, flow);
+    put_originator(nlri, output, originator)
+}
+
+// The whole NLRI of `size` octets at the front of the output.
+fn put(nlri: Nlri, key: &[u8], size: usize, output: &mut [u8]) -> Written
+    requires { ⌜ Putting nlri (now key) size (now output) ⌝ }
+    ensures { λ r. ⌜ (r ≡ writtenOf (given (allOctets nlri (now (key .entry))))) × (now (output .exit) ≡ outputOf (given (allOctets nlri (now (key .entry)))) (now (output .entry))) ⌝ }
+{
+    let at = put_header(nlri.route_type, (size - HEADER) as u8, output);
+    put_body(nlri, key, output, at);
+    Written { number: DONE, size }
+}
+
+fn refusal(number: u32) -> Written
+    ensures { λ r. ⌜ r ≡ writtenOf (refused number) ⌝ }
+{
+    Written { number, size: 0 }
+}
+
+fn write_under(family: usize, nlri: Nlri, key: &[u8], output: &mut [u8]) -> Written
+    requires { ⌜ family ≤ 128 ⌝ }
+    ensures { λ r. ⌜ (r ≡ writtenOf (writeUnder family nlri (now (key .entry)) (length (now (output .entry))))) × (now (output .exit) ≡ outputOf (writeUnder family nlri (now (key .entry)) (length (now (output .entry)))) (now (output .entry))) ⌝ }
+{
+    let fault = judge(family, nlri, key);
+    if fault != DONE {
+        return refusal(fault);
+    }
+    let size = size_of(nlri, key.len());
+    if output.len() < size {
+        return refusal(SPACE);
+    }
+    put(nlri, key, size, output)
+}
+
+// Writes an NLRI at the front of the output; `key` is a Leaf's key. FAMILY, TYPE, WIDTH, KEY, SPACE.
+pub fn write_nlri(afi: u16, nlri: Nlri, key: &[u8], output: &mut [u8]) -> Written
+    ensures { λ r. ⌜ r ≡ writtenOf (writeNlri afi (fieldsIn nlri (now (key .entry))) (length (now (output .entry)))) ⌝ }
+    ensures { λ r. ⌜ now (output .exit) ≡ outputOf (writeNlri afi (fieldsIn nlri (now (key .entry))) (length (now (output .entry)))) (now (output .entry)) ⌝ }
+{
+    match family::family_bits(afi) {
+        Part::Fault(number) => refusal(number),
+        Part::Size(family) => write_under(family, nlri, key, output),
+    }
+}
