@@ -3,3 +3,8 @@ pub mod Via
 pub mod Sizes
 pub mod Rows
 pub mod Fronts
+pub mod Table
+pub mod Judged
+pub mod Whole
+pub mod Keys
+pub mod Acceptance

@@ -9,3 +9,4 @@ pub mod Groups
 pub mod Writing
 pub mod Answers
 pub mod Inner
+pub mod Statements

@@ -4,3 +4,5 @@ pub mod Outcomes
 pub mod Inversions
 pub mod Lists
 pub mod NetworkOrder
+pub mod OctetLists
+pub mod Refusals

@@ -1,0 +1,43 @@
+-- What a refusal tells of the tests that led to it.
+use mathlib.Core.Path.{_≡_, refl, sym, _∙_}
+use mathlib.Core.Bool.{Bool, true, false}
+use mathlib.Core.Logic.{_⊎_, inl, inr}
+use Prim.Native.Nat.{ℕ}
+use Rattle.octets.specs.Choice.{pick, both, either}
+use Rattle.octets.specs.Outcome.{Outcome, given, refused, andThen, onOutcome}
+use Rattle.octets.proofs.Inversions.{never, opposite}
+
+pub refused-same : {A : Type 0} {m n : ℕ} → _≡_ {A = Outcome A} (refused m) (refused n) → m ≡ n
+refused-same p = cc
+
+-- a refusal behind a choice
+pub picked : {A : Type 0} (b : Bool) (x y : A) (r : A) → pick b x y ≡ r → ((b ≡ true) × (x ≡ r)) ⊎ ((b ≡ false) × (y ≡ r))
+unfolding pick
+picked true x y r e = inl (refl, e)
+picked false x y r e = inr (refl, e)
+
+-- a refusal of two steps: the first refused, or it gave a value of which the second refused
+pub record Later {A B : Type 0} (o : Outcome A) (next : A → Outcome B) (n : ℕ) : Type 0 where
+  pub value : A
+  pub first : o ≡ given value
+  pub second : next value ≡ refused n
+
+pub stopped : {A B : Type 0} (o : Outcome A) (next : A → Outcome B) (n : ℕ) → andThen o next ≡ refused n → (o ≡ refused n) ⊎ Later o next n
+unfolding andThen
+stopped (given a) next n e = inr (record { value = a; first = refl; second = e })
+stopped {A} {B} (refused m) next n e = inl (let same : m ≡ n = refused-same {A = B} e in rw same)
+
+-- a value, or a refusal
+pub outcome : {A : Type 0} (o : Outcome A) → ((a : A) × (o ≡ given a)) ⊎ ((n : ℕ) × (o ≡ refused n))
+outcome (given a) = inl (a, refl)
+outcome (refused n) = inr (n, refl)
+
+pub either-false-left : (a b : Bool) → either a b ≡ false → a ≡ false
+unfolding either
+either-false-left true b e = e
+either-false-left false b e = refl
+
+pub either-false-right : (a b : Bool) → either a b ≡ false → b ≡ false
+unfolding either
+either-false-right true b e = absurd (opposite {b = true} refl e)
+either-false-right false b e = e
