@@ -8,3 +8,4 @@ pub mod Judged
 pub mod Whole
 pub mod Keys
 pub mod Acceptance
+pub mod Writes

@@ -9,8 +9,8 @@ use lib.ListN.{length}
 use lib.Dec.{eqb, leb}
 use Rattle.octets.specs.Choice.{pick, both, either}
 use Rattle.octets.proofs.Outcomes.{pick-true, pick-false}
-use Rattle.octets.proofs.Tests.{either-left, either-right}
-use Rattle.octets.proofs.Refusals.{either-false-left, either-false-right}
+use Rattle.octets.proofs.Tests.{either-left}
+use Rattle.octets.proofs.Refusals.{either-false-left, either-false-right, either-second}
 use Rattle.octets.proofs.Inversions.{opposite, both-true-left, both-true-right}
 use Rattle.nlri.specs.Bodies.{Kind, distinguisher, sourceAs, source, group, originator, key, Row, row, bodies, onBody, bodyOf, codeOf, sameKind, fieldIn, has}
 
@@ -170,16 +170,18 @@ Along field [] xs = Unit {0}
 Along field (k ∷ body) [] = ⊥
 Along field (k ∷ body) (x ∷ xs) = (field k ≡ x) × Along field body xs
 
-along-same : {A : Type 0} (field other : Kind → A) (body : List Kind) (xs : List A) → ((kind : Kind) → has kind body ≡ true → other kind ≡ field kind) → Along field body xs → Along other body xs
+pub has-first : (k : Kind) (body : List Kind) → has k (k ∷ body) ≡ true
 unfolding has
+has-first k body = either-left _ _ (same-self k)
+
+pub has-later : (kind k : Kind) (body : List Kind) → has kind body ≡ true → has kind (k ∷ body) ≡ true
+unfolding has
+has-later kind k body h = either-second _ _ h
+
+along-same : {A : Type 0} (field other : Kind → A) (body : List Kind) (xs : List A) → ((kind : Kind) → has kind body ≡ true → other kind ≡ field kind) → Along field body xs → Along other body xs
 along-same field other [] xs h a = tt
 along-same field other (k ∷ body) [] h a = a
-along-same field other (k ∷ body) (x ∷ xs) h a =
-    (h k (either-left _ _ (same-self k)) ∙ a .0, along-same field other body xs (λ kind e. h kind (later (sameKind kind k) (has kind body) e)) (a .1))
-  where
-    later : (b d : Bool) → d ≡ true → either b d ≡ true
-    later true d e = either-left true d refl
-    later false d e = either-right false d refl e
+along-same field other (k ∷ body) (x ∷ xs) h a = (h k (has-first k body) ∙ a .0, along-same field other body xs (λ kind e. h kind (has-later kind k body e)) (a .1))
 
 apart : (kind k : Kind) (body : List Kind) → has kind body ≡ true → has k body ≡ false → sameKind kind k ≡ false
 apart kind k body h n = go (sameKind kind k) refl

@@ -41,3 +41,8 @@ pub either-false-right : (a b : Bool) → either a b ≡ false → b ≡ false
 unfolding either
 either-false-right true b e = absurd (opposite {b = true} refl e)
 either-false-right false b e = e
+
+pub either-second : (a b : Bool) → b ≡ true → either a b ≡ true
+unfolding either
+either-second true b e = refl
+either-second false b e = e
