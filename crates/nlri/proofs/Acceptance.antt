@@ -26,7 +26,7 @@ use Rattle.nlri.proofs.Whole.{piecesOf, sizesIn, cut-body, LaidOut, lai
 use Rattle.nlri.proofs.Keys.{key-judges, key-octets}
 
 -- fields are equal that are equal one by one
-fields-same : {f g : Fields} → f .type ≡ g .type → f .distinguisher ≡ g .distinguisher → f .sourceAs ≡ g .sourceAs → f .source ≡ g .source → f .group ≡ g .group → f .originator ≡ g .originator
+pub fields-same : {f g : Fields} → f .type ≡ g .type → f .distinguisher ≡ g .distinguisher → f .sourceAs ≡ g .sourceAs → f .source ≡ g .source → f .group ≡ g .group → f .originator ≡ g .originator
     → f .key ≡ g .key → f ≡ g
 fields-same t d a s g o k = λ i. record { type = t i; distinguisher = d i; sourceAs = a i; source = s i; group = g i; originator = o i; key = k i }
 
@@ -46,7 +46,7 @@ from-restricted type body pieces e =
     (keep _ _ _ (λ h. ap (drop 1) (none group h))) (keep _ _ _ (none originator)) (keep _ _ _ (none key))
 
 -- a field of a well-formed body
-field-in-body : (Key : List ℕ → Type 0) (family : ℕ) (f : Fields) (kind : Kind) (body : List Kind) → WellFormedBody Key family f body → has kind body ≡ true → WellFormedField Key family f kind
+pub field-in-body : (Key : List ℕ → Type 0) (family : ℕ) (f : Fields) (kind : Kind) (body : List Kind) → WellFormedBody Key family f body → has kind body ≡ true → WellFormedField Key family f kind
 unfolding has either
 field-in-body Key family f kind [] w h = absurd (opposite h refl)
 field-in-body Key family f kind (k ∷ body) w h = go (sameKind kind k) refl h (λ later. field-in-body Key family f kind body (w .1) later)
@@ -118,14 +118,14 @@ module _ (afi family : ℕ) (bits : familyBits afi ≡ given family) where
       let row = rowOf (f .type) (known (f .type) (w .typed .0) (w .typed .1)) in
       nlri-octets (keyField family) (KeyOf family) (key-judges family whole) family whole 60 (key-octets family whole small) small f (w .typed) (w .body) 76 (row .keyed) (omega arith)
 
-read-sound : (afi : ℕ) (s : List ℕ) (f : Fields) → AllOctets s → readNlri afi s ≡ given f → ReadAs afi s f
+pub read-sound : (afi : ℕ) (s : List ℕ) (f : Fields) → AllOctets s → readNlri afi s ≡ given f → ReadAs afi s f
 unfolding readNlri
 read-sound afi s f a e =
     let p = passed _ _ _ e in
     let q = passed _ _ _ (p .second) in
     subst (ReadAs afi s) (given-same (q .second)) (single-sound afi (p .value) (p .first) s (q .value) a (q .first))
 
-read-encoded : (afi family : ℕ) (f : Fields) → familyBits afi ≡ given family → WellFormed family f → readNlri afi (encodeNlri f) ≡ given (restricted f)
+pub read-encoded : (afi family : ℕ) (f : Fields) → familyBits afi ≡ given family → WellFormed family f → readNlri afi (encodeNlri f) ≡ given (restricted f)
 unfolding readNlri
 read-encoded afi family f bits w = sym (goes _ _ _ _ bits (sym (single-complete afi family bits f w)))
 

@@ -110,7 +110,7 @@ unfolding originatorField
 originator-given n s e = let p = only _ _ _ _ e in (p .0, sym (given-same (p .1)))
 
 -- sizes
-address-most : (family type : ℕ) (x : List ℕ) → family ≤ 128 → allowed family type (8 * length x) ≡ true → suc (length x) ≤ 17
+pub address-most : (family type : ℕ) (x : List ℕ) → family ≤ 128 → allowed family type (8 * length x) ≡ true → suc (length x) ≤ 17
 unfolding allowed
 address-most family type x small e =
     ⊎-elim (λ same. let h : 8 * length x ≡ family = eqb-true _ _ same in omega arith)
@@ -121,7 +121,7 @@ address-octets : (family type : ℕ) (x : List ℕ) → family ≤ 128 → allow
 unfolding encodeAddress
 address-octets family type x small e a = let h : 8 * length x < 256 = omega (arith, address-most family type x small e) in one h a
 
-originator-most : (n : ℕ) → originatorSize n ≡ true → n ≤ 16
+pub originator-most : (n : ℕ) → originatorSize n ≡ true → n ≤ 16
 unfolding originatorSize
 originator-most n e =
     ⊎-elim (λ four. let h : n ≡ 4 = eqb-true _ _ four in omega arith) (λ sixteen. let h : n ≡ 16 = eqb-true _ _ sixteen in omega arith) (either-true _ _ e)

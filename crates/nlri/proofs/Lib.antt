@@ -9,3 +9,4 @@ pub mod Whole
 pub mod Keys
 pub mod Acceptance
 pub mod Writes
+pub mod RoundTrips

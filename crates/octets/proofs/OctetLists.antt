@@ -2,11 +2,12 @@
 use Prim.Native.Nat.{ℕ, zero, suc, _+_, _*_, _^_, _≤_, _<_}
 use mathlib.Core.Path.{_≡_, refl, sym, ap, _∙_}
 use mathlib.Core.List.{List, [], _∷_, _++_}
-use native.Mathlib.Nat.{pow-suc, mul-le-mul-right, le-trans, mul-one}
+use native.Mathlib.Nat.{pow-suc, mul-le-mul-right}
 use native.Mathlib.Omega.{arith}
-use lib.ListN.{length, take, drop, getD}
-use lib.Seq.{drop-cons}
-use Rattle.octets.specs.Octets.{AllOctets, none, one, part, numberIn}
+use lib.ListN.{length, take, drop, getD, replicate, length-append, length-replicate}
+use lib.Seq.{length-take-le, take-at, take-take, take-append-le, take-append-seam}
+use Rattle.octets.proofs.NetworkOrder.{octets-append}
+use Rattle.octets.specs.Octets.{AllOctets, none, one, part, sized, numberIn}
 
 pub octets-take : (n : ℕ) {s : List ℕ} → AllOctets s → AllOctets (take n s)
 octets-take zero none = none
@@ -50,3 +51,25 @@ number-bound high (one {x} {xs} h a) =
 
 pub number-below : {xs : List ℕ} → AllOctets xs → numberIn xs 0 < 256 ^ length xs
 number-below {xs} a = let h : numberIn xs 0 < 1 * 256 ^ length xs = number-bound 0 a in omega arith
+
+-- a list given the size that it has
+pub sized-same : (n : ℕ) (xs : List ℕ) → length xs ≡ n → sized n xs ≡ xs
+unfolding sized
+sized-same n xs h = take-at xs (replicate n 0) n h
+
+-- a list filled up with zeros, and cut to its size again
+pub sized-back : (n : ℕ) (xs : List ℕ) → length xs ≤ n → sized (length xs) (sized n xs) ≡ xs
+unfolding sized
+sized-back n xs h =
+    let l : length xs ≤ length (take n (xs ++ replicate n 0)) = rw (length-take-le n (xs ++ replicate n 0) (simp (length-append, length-replicate) (omega arith))) h in
+    take-append-le (length xs) (take n (xs ++ replicate n 0)) (replicate (length xs) 0) l
+    ∙ take-take (length xs) n (xs ++ replicate n 0) h
+    ∙ take-append-seam xs (replicate n 0)
+
+octets-zeros : (n : ℕ) → AllOctets (replicate n 0)
+octets-zeros zero = none
+octets-zeros (suc n) = let h : 0 < 256 = omega arith in one h (octets-zeros n)
+
+pub octets-sized : (n : ℕ) {xs : List ℕ} → AllOctets xs → AllOctets (sized n xs)
+unfolding sized
+octets-sized n a = octets-take n (octets-append a (octets-zeros n))
