@@ -22,6 +22,7 @@ use Rattle.nlri.specs.Family.{familyBits, allowed, originatorSize}
 use Rattle.nlri.specs.Bodies.{Kind, distinguisher, sourceAs, source, group, originator, key}
 use Rattle.nlri.specs.Fields.{Fields, encodeAddress, encodeField, WellFormedField}
 use Rattle.nlri.specs.Reading.{fixedField, addressEnd, addressField, originatorField, fieldSize}
+use Rattle.nlri.specs.Statements.{Closes}
 use Rattle.nlri.proofs.Table.{most}
 
 -- a judge of keys that says of octets how many a key at their front takes
@@ -42,15 +43,6 @@ fieldsFrom type field =
       originator = field originator;
       key = field key;
     }
-
--- an originator is what remains
-abbrev pub Closes : Kind → List ℕ → Type 0
-Closes distinguisher t = Unit {0}
-Closes sourceAs t = Unit {0}
-Closes source t = Unit {0}
-Closes group t = Unit {0}
-Closes originator t = t ≡ []
-Closes key t = Unit {0}
 
 fixed-given : (m n : ℕ) (s : List ℕ) → fixedField m s ≡ given n → (n ≡ m) × (n ≤ length s)
 unfolding fixedField
@@ -105,7 +97,7 @@ address-stands family type x t h =
     ∙ pick-false _ _ _ (lt-leb (suc (length (x ++ t))) (8 * length x / 8) (simp length-append (omega arith)))
     ∙ ap given (omega arith)
 
-originator-given : (n : ℕ) (s : List ℕ) → originatorField s ≡ given n → (originatorSize (length s) ≡ true) × (n ≡ length s)
+pub originator-given : (n : ℕ) (s : List ℕ) → originatorField s ≡ given n → (originatorSize (length s) ≡ true) × (n ≡ length s)
 unfolding originatorField
 originator-given n s e = let p = only _ _ _ _ e in (p .0, sym (given-same (p .1)))
 

@@ -10,3 +10,5 @@ pub mod Keys
 pub mod Acceptance
 pub mod Writes
 pub mod RoundTrips
+pub mod Faults
+pub mod ReadRefusals

@@ -19,8 +19,9 @@ use Rattle.octets.proofs.NetworkOrder.{octets-append}
 use Rattle.nlri.specs.Bodies.{Kind, distinguisher, sourceAs, source, group, originator, key, bodies, onBody, bodyOf, fieldIn}
 use Rattle.nlri.specs.Fields.{Fields, encodeField, encodeBody, encodeNlri, WellFormedField, WellFormedBody}
 use Rattle.nlri.specs.Reading.{Laid, fieldSize, sizesOf, laidWith, cut}
+use Rattle.nlri.specs.Statements.{Closes}
 use Rattle.nlri.proofs.Table.{listed, on-body, known, RowOf, rowOf, closes, closed, mostIn, Along, along-fields}
-use Rattle.nlri.proofs.Judged.{Judges, fieldsFrom, Closes, field-sound, field-complete, field-most, field-octets}
+use Rattle.nlri.proofs.Judged.{Judges, fieldsFrom, field-sound, field-complete, field-most, field-octets}
 
 -- the encodings of the fields of a body, and their sizes
 abbrev pub piecesOf : Fields → List Kind → List (List ℕ)

@@ -1,13 +1,16 @@
 -- What holds of the definitions as a whole, in document 01's notions. Stated here, proved in proofs/.
-use Prim.Native.Nat.{ℕ, _^_, _≤_, _<_}
+use Prim.Native.Nat.{ℕ, _+_, _*_, _-_, _/_, _^_, _≤_, _<_}
 use mathlib.Core.Path.{_≡_}
-use mathlib.Core.List.{List}
-use mathlib.Core.Logic.{_↔_}
-use lib.ListN.{length}
-use Rattle.octets.specs.Outcome.{given}
-use Rattle.octets.specs.Octets.{AllOctets}
-use Rattle.nlri.specs.Family.{familyBits}
-use Rattle.nlri.specs.Fields.{Fields, encodeNlri, WellFormed, restricted}
+use mathlib.Core.Bool.{true, false}
+use mathlib.Core.List.{List, [], _∷_, _++_}
+use mathlib.Core.Logic.{_↔_, _≢_, _⊎_}
+use lib.ListN.{length, getD, take}
+use Rattle.octets.specs.Numbers.{SHORT, TYPE, LENGTH, WIDTH, KEY, FAMILY, SPACE}
+use Rattle.octets.specs.Outcome.{given, refused}
+use Rattle.octets.specs.Octets.{AllOctets, part}
+use Rattle.nlri.specs.Family.{familyBits, allowed, originatorSize}
+use Rattle.nlri.specs.Bodies.{Kind, distinguisher, sourceAs, source, group, originator, key, bodyOf, has}
+use Rattle.nlri.specs.Fields.{Fields, encodeField, encodeNlri, WellFormedField, WellFormed, KeyOf, restricted}
 use Rattle.nlri.specs.Reading.{readNlri}
 use Rattle.nlri.specs.Writing.{writeNlri}
 use Rattle.nlri.specs.declared.fields.Nlri.{Nlri}
@@ -60,3 +63,94 @@ pub record RoundTrips : Type 0 where
   -- what a struct and a key's octets stand for comes back when it was written
   pub structRead : (afi : ℕ) (nlri : Nlri) (key : List ℕ) (space : ℕ) (e : List ℕ) → HeldNlri nlri → AllOctets key → writeNlri afi (fieldsIn nlri key) space ≡ given e
       → readNlri afi e ≡ given (restricted (fieldsIn nlri key))
+
+-- an originator is what remains
+abbrev pub Closes : Kind → List ℕ → Type 0
+Closes distinguisher t = Unit {0}
+Closes sourceAs t = Unit {0}
+Closes source t = Unit {0}
+Closes group t = Unit {0}
+Closes originator t = t ≡ []
+Closes key t = Unit {0}
+
+-- x is the encoding of a well-formed field of one kind, with t after it
+pub record FieldAt (family type : ℕ) (k : Kind) (x t : List ℕ) : Type 0 where
+  pub fields : Fields
+  pub typed : fields .type ≡ type
+  pub wellFormed : WellFormedField (KeyOf family) family fields k
+  pub encoded : x ≡ encodeField fields k
+  pub last : Closes k t
+
+-- the fault of a source or group where s is what remains of the body: a missing length octet; a bad one, before its address is looked for; an end inside the address
+pub data AddressFault (family type : ℕ) (s : List ℕ) : ℕ → Type 0 where
+  missing : length s ≡ 0 → AddressFault family type s LENGTH
+  width : 1 ≤ length s → allowed family type (getD s 0 0) ≡ false → AddressFault family type s WIDTH
+  ends : 1 ≤ length s → allowed family type (getD s 0 0) ≡ true → length s < 1 + getD s 0 0 / 8 → AddressFault family type s LENGTH
+
+-- the fault of a field where s is what remains of the body, and its number; a key's is that no octets at the front are a key
+abbrev pub Fault : (family type : ℕ) → Kind → List ℕ → ℕ → Type 0
+Fault family type distinguisher s n = (length s < 8) × (n ≡ LENGTH)
+Fault family type sourceAs s n = (length s < 4) × (n ≡ LENGTH)
+Fault family type source s n = AddressFault family type s n
+Fault family type group s n = AddressFault family type s n
+Fault family type originator s n = (originatorSize (length s) ≡ false) × (n ≡ LENGTH)
+Fault family type key s n = ((size : ℕ) → size ≤ length s → KeyOf family (take size s) → ⊥) × (n ≡ KEY)
+
+-- the first fault of a body from left to right: octets remain after its last field, its first field faults, or its first field stands and a later one faults
+pub data Faulty (family type : ℕ) : List Kind → List ℕ → ℕ → Type 0 where
+  remains : {s : List ℕ} → 0 < length s → Faulty family type [] s LENGTH
+  here : {k : Kind} {body : List Kind} {s : List ℕ} {n : ℕ} → Fault family type k s n → Faulty family type (k ∷ body) s n
+  later : {k : Kind} {body : List Kind} {s : List ℕ} {n : ℕ} (x t : List ℕ) → s ≡ x ++ t → FieldAt family type k x t → Faulty family type body t n → Faulty family type (k ∷ body) s n
+
+-- fewer octets than the header, or than the Length field, asks
+abbrev pub Short : List ℕ → Type 0
+Short s = (length s < 2) ⊎ (length s - 2 < getD s 1 0)
+
+abbrev pub Typed : ℕ → Type 0
+Typed type = (1 ≤ type) × (type ≤ 7)
+
+-- why reading a single NLRI refuses, in the order FAMILY, SHORT, TYPE, the body, octets after it
+pub data ReadRefusal (afi : ℕ) (s : List ℕ) : ℕ → Type 0 where
+  badFamily : afi ≢ 1 → afi ≢ 2 → ReadRefusal afi s FAMILY
+  short : (family : ℕ) → familyBits afi ≡ given family → Short s → ReadRefusal afi s SHORT
+  badType : (family : ℕ) → familyBits afi ≡ given family → (Short s → ⊥) → (Typed (getD s 0 0) → ⊥) → ReadRefusal afi s TYPE
+  badBody : (family : ℕ) {n : ℕ} → familyBits afi ≡ given family → (Short s → ⊥) → Typed (getD s 0 0)
+      → Faulty family (getD s 0 0) (bodyOf (getD s 0 0)) (part s 2 (getD s 1 0)) n → ReadRefusal afi s n
+  after : (family : ℕ) (f : Fields) (t : List ℕ) → familyBits afi ≡ given family → WellFormed family f → s ≡ encodeNlri f ++ t → 0 < length t → ReadRefusal afi s LENGTH
+
+-- "The numbers a call gives back", at NLRI reading: every list of octets is accepted or refused by one number, each given exactly when the page says
+pub record ReadRefusals : Type 0 where
+  pub exactly : (afi : ℕ) (s : List ℕ) (n : ℕ) → AllOctets s → (readNlri afi s ≡ refused n) ↔ ReadRefusal afi s n
+  pub decided : (afi : ℕ) (s : List ℕ) → AllOctets s → ((f : Fields) × ReadAs afi s f) ⊎ ((n : ℕ) × ReadRefusal afi s n)
+  pub one : (afi : ℕ) (s : List ℕ) (m n : ℕ) → AllOctets s → ReadRefusal afi s m → ReadRefusal afi s n → m ≡ n
+  pub never : (afi : ℕ) (s : List ℕ) (f : Fields) (n : ℕ) → AllOctets s → ReadAs afi s f → ReadRefusal afi s n → ⊥
+  -- FAMILY, SHORT and TYPE by themselves
+  pub family : (afi : ℕ) (s : List ℕ) → AllOctets s → (readNlri afi s ≡ refused FAMILY) ↔ ((afi ≢ 1) × (afi ≢ 2))
+  pub short : (afi : ℕ) (s : List ℕ) → AllOctets s → (readNlri afi s ≡ refused SHORT) ↔ (((afi ≡ 1) ⊎ (afi ≡ 2)) × Short s)
+  pub type : (afi : ℕ) (s : List ℕ) → AllOctets s → (readNlri afi s ≡ refused TYPE) ↔ (((afi ≡ 1) ⊎ (afi ≡ 2)) × (Short s → ⊥) × (Typed (getD s 0 0) → ⊥))
+  -- a body's fault is LENGTH, WIDTH or KEY
+  pub bodies : (family type : ℕ) (body : List Kind) (s : List ℕ) (n : ℕ) → Faulty family type body s n → (n ≡ LENGTH) ⊎ (n ≡ WIDTH) ⊎ (n ≡ KEY)
+
+-- a source or group of a length that the type and family do not allow, an originator not of 4 or 16 octets
+abbrev pub WidthFault : ℕ → Fields → Kind → Type 0
+WidthFault family f distinguisher = ⊥
+WidthFault family f sourceAs = ⊥
+WidthFault family f source = allowed family (f .type) (8 * length (f .source)) ≡ false
+WidthFault family f group = allowed family (f .type) (8 * length (f .group)) ≡ false
+WidthFault family f originator = originatorSize (length (f .originator)) ≡ false
+WidthFault family f key = ⊥
+
+-- why writing refuses, in the order FAMILY, TYPE, WIDTH, KEY, SPACE; only fields of the type's body are judged
+pub data WriteRefusal (afi : ℕ) (f : Fields) (space : ℕ) : ℕ → Type 0 where
+  badFamily : afi ≢ 1 → afi ≢ 2 → WriteRefusal afi f space FAMILY
+  badType : (family : ℕ) → familyBits afi ≡ given family → (Typed (f .type) → ⊥) → WriteRefusal afi f space TYPE
+  badWidth : (family : ℕ) → familyBits afi ≡ given family → Typed (f .type) → (k : Kind) → has k (bodyOf (f .type)) ≡ true → WidthFault family f k → WriteRefusal afi f space WIDTH
+  badKey : (family : ℕ) → familyBits afi ≡ given family → Typed (f .type) → ((k : Kind) → has k (bodyOf (f .type)) ≡ true → WidthFault family f k → ⊥)
+      → has key (bodyOf (f .type)) ≡ true → (KeyOf family (f .key) → ⊥) → WriteRefusal afi f space KEY
+  noSpace : (family : ℕ) → familyBits afi ≡ given family → WellFormed family f → space < length (encodeNlri f) → WriteRefusal afi f space SPACE
+
+-- "The numbers a call gives back", at NLRI writing: well-formed fields are written where there is space, and any others are refused by one number
+pub record WriteRefusals : Type 0 where
+  pub exactly : (afi : ℕ) (f : Fields) (space n : ℕ) → Held f → (writeNlri afi f space ≡ refused n) ↔ WriteRefusal afi f space n
+  pub accepted : (afi : ℕ) (f : Fields) (space : ℕ) (e : List ℕ) → Held f
+      → (writeNlri afi f space ≡ given e) ↔ ((family : ℕ) × (familyBits afi ≡ given family) × WellFormed family f × (length e ≤ space) × (e ≡ encodeNlri f))
