@@ -12,3 +12,4 @@ pub mod Writes
 pub mod RoundTrips
 pub mod Faults
 pub mod ReadRefusals
+pub mod WriteRefusals

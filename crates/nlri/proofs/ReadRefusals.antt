@@ -22,19 +22,12 @@ use Rattle.nlri.specs.Bodies.{bodies, bodyOf}
 use Rattle.nlri.specs.Fields.{Fields, encodeBody, encodeNlri, WellFormed, KeyOf}
 use Rattle.nlri.specs.Reading.{Laid, keyField, laidWith, laidAt, laidSingle, fieldsOf, readNlri}
 use Rattle.nlri.specs.Statements.{ReadAs, Short, Typed, Faulty, ReadRefusal, badFamily, short, badType, badBody, after, ReadRefusals}
-use Rattle.nlri.proofs.Table.{listed, on-body, known, RowOf, rowOf}
+use Rattle.nlri.proofs.Table.{listed, on-body, known, RowOf, rowOf, unlisted}
 use Rattle.nlri.proofs.Judged.{family-octets}
 use Rattle.nlri.proofs.Whole.{LaidOut, laid-out, laid-sound, laid-complete, fieldsAt}
 use Rattle.nlri.proofs.Keys.{key-judges}
 use Rattle.nlri.proofs.Acceptance.{acceptance}
 use Rattle.nlri.proofs.Faults.{body-refused, faulty-refuses, faulty-numbers, family-refused, family-refuses, good-family, family-good}
-
-unlisted : (type : ℕ) → (Typed type → ⊥) → listed bodies type ≡ false
-unlisted type h = go (listed bodies type) refl
-  where
-    go : (b : Bool) → listed bodies type ≡ b → b ≡ false
-    go true l = let row = rowOf type l in absurd (h (row .low, row .high))
-    go false l = refl
 
 module _ (afi family : ℕ) (bits : familyBits afi ≡ given family) (s : List ℕ) (a : AllOctets s) where
   whole : 8 * (family / 8) ≡ family

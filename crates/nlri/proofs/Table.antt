@@ -132,6 +132,13 @@ rowOf type l =
       keyed = leb-true _ _ (both-true-right _ _ size);
     }
 
+pub unlisted : (type : ℕ) → ((1 ≤ type) × (type ≤ 7) → ⊥) → listed bodies type ≡ false
+unlisted type h = go (listed bodies type) refl
+  where
+    go : (b : Bool) → listed bodies type ≡ b → b ≡ false
+    go true l = let row = rowOf type l in absurd (h (row .low, row .high))
+    go false l = refl
+
 -- kinds by their codes
 pub same-self : (k : Kind) → sameKind k k ≡ true
 unfolding sameKind

@@ -80,10 +80,10 @@ same-body family f g t (k ∷ body) same =
     (ap₂ (λ (x y : List ℕ). x ++ y) (same-encoding f g k here) (later .0), ap₂ both (same-width family f g t k here) (later .1), ap₂ both (same-key family f g k here) (later .2))
 
 -- the order of writing: WIDTH, KEY, SPACE
-pub verdict : ℕ → List ℕ → (widths keys : Bool) → Outcome (List ℕ)
+unfoldable pub verdict : ℕ → List ℕ → (widths keys : Bool) → Outcome (List ℕ)
 verdict space e widths keys = pick widths (pick keys (pick (ltb space (length e)) (refused SPACE) (given e)) (refused KEY)) (refused WIDTH)
 
-pub verdictOf : ℕ → Fields → ℕ → Outcome (List ℕ)
+unfoldable pub verdictOf : ℕ → Fields → ℕ → Outcome (List ℕ)
 verdictOf family f space = verdict space (encodeNlri f) (widthsFit family f (bodyOf (f .type))) (keysFit family f (bodyOf (f .type)))
 
 pub write-is : (afi : ℕ) (f : Fields) (space : ℕ) → writeNlri afi f space ≡ andThen (familyBits afi) (λ family. pick (listed bodies (f .type)) (verdictOf family f space) (refused TYPE))
@@ -103,7 +103,7 @@ write-restricted afi f space =
     ∙ sym (write-is afi f space)
 
 -- octets that the writer takes for a key
-key-judged : (afi family : ℕ) → familyBits afi ≡ given family → (k : List ℕ) → AllOctets k → isKey family k ≡ true → KeyOf family k
+pub key-judged : (afi family : ℕ) → familyBits afi ≡ given family → (k : List ℕ) → AllOctets k → isKey family k ≡ true → KeyOf family k
 unfolding isKey onOutcome
 key-judged afi family bits k a e = go (keyField family k) refl e
   where
@@ -113,7 +113,7 @@ key-judged afi family bits k a e = go (keyField family k) refl e
         subst (KeyOf family) (take-all n k (omega arith)) (key-judges family (family-octets afi family bits .0) .sound k n a p .1)
     go (refused n) p q = absurd (opposite q refl)
 
-key-fits : (afi family : ℕ) → familyBits afi ≡ given family → (k : List ℕ) → KeyOf family k → isKey family k ≡ true
+pub key-fits : (afi family : ℕ) → familyBits afi ≡ given family → (k : List ℕ) → KeyOf family k → isKey family k ≡ true
 unfolding isKey
 key-fits afi family bits k of =
     sym (on-given _ _ _ _ _ (ap (keyField family) (sym (append-nil k)) ∙ key-judges family (family-octets afi family bits .0) .complete k [] of) (sym (eq-eqb (length k) (length k) refl)))
@@ -135,7 +135,7 @@ module _ (afi family : ℕ) (bits : familyBits afi ≡ given family) (f : Fields
       at originator h = (h .0, refl)
       at key h = (refl, key-fits afi family bits (f .key) h)
 
-  well-fits : Held f → (body : List Kind) → widthsFit family f body ≡ true → keysFit family f body ≡ true → WellFormedBody (KeyOf family) family f body
+  pub well-fits : Held f → (body : List Kind) → widthsFit family f body ≡ true → keysFit family f body ≡ true → WellFormedBody (KeyOf family) family f body
   unfolding widthsFit keysFit widthFits keyFits
   well-fits held [] w k = tt
   well-fits held (kind ∷ body) w k = (at kind (both-true-left _ _ w) (both-true-left _ _ k), well-fits held body (both-true-right (widthFits family f kind) _ w) (both-true-right (keyFits family f kind) _ k))
