@@ -21,7 +21,7 @@ use Rattle.nlri.specs.Family.{familyBits}
 use Rattle.nlri.specs.Bodies.{bodies, bodyOf}
 use Rattle.nlri.specs.Fields.{Fields, encodeBody, encodeNlri, WellFormed, KeyOf}
 use Rattle.nlri.specs.Reading.{Laid, keyField, laidWith, laidAt, laidSingle, fieldsOf, readNlri}
-use Rattle.nlri.specs.Statements.{ReadAs, Short, Typed, Faulty, ReadRefusal, badFamily, short, badType, badBody, after, ReadRefusals}
+use Rattle.nlri.specs.Statements.{ReadAs, Short, Typed, Faulty, FrontRefusal, short, badType, badBody, ReadRefusal, badFamily, front, after, ReadRefusals}
 use Rattle.nlri.proofs.Table.{listed, on-body, known, RowOf, rowOf, unlisted}
 use Rattle.nlri.proofs.Judged.{family-octets}
 use Rattle.nlri.proofs.Whole.{LaidOut, laid-out, laid-sound, laid-complete, fieldsAt}
@@ -36,20 +36,20 @@ module _ (afi family : ℕ) (bits : familyBits afi ≡ given family) (s : List �
   not-short : ltb (length s) 2 ≡ false → ltb (length s - 2) (getD s 1 0) ≡ false → Short s → ⊥
   not-short enough fits sh = ⊎-elim (λ h. omega (arith, ltb-false)) (λ h. omega (arith, ltb-false)) sh
 
-  laid-refused : (n : ℕ) → laidAt family s ≡ refused n → ReadRefusal afi s n
+  laid-refused : (n : ℕ) → laidAt family s ≡ refused n → FrontRefusal family s n
   unfolding laidAt laidWith
   laid-refused n e =
-      ⊎-elim (λ h. subst (ReadRefusal afi s) (refused-same {A = Laid} (h .1)) (short family bits (inl (ltb-true _ _ (h .0)))))
+      ⊎-elim (λ h. subst (FrontRefusal family s) (refused-same {A = Laid} (h .1)) (short (inl (ltb-true _ _ (h .0)))))
       (λ enough.
-      ⊎-elim (λ h. subst (ReadRefusal afi s) (refused-same {A = Laid} (h .1)) (short family bits (inr (ltb-true _ _ (h .0)))))
+      ⊎-elim (λ h. subst (FrontRefusal family s) (refused-same {A = Laid} (h .1)) (short (inr (ltb-true _ _ (h .0)))))
       (λ fits.
       ⊎-elim
       (λ good.
       let row = rowOf (getD s 0 0) (good .0) in
-      badBody family bits (not-short (enough .0) (fits .0)) (row .low, row .high)
+      badBody (not-short (enough .0) (fits .0)) (row .low, row .high)
       (body-refused family whole (getD s 0 0) (bodyOf (getD s 0 0)) (part s 2 (getD s 1 0)) n (octets-part 2 (getD s 1 0) a)
       (⊎-elim (λ first. first) (λ none. absurd (never refl (none .second))) (stopped _ _ _ (good .1)))))
-      (λ bad. subst (ReadRefusal afi s) (refused-same {A = Laid} (bad .1)) (badType family bits (not-short (enough .0) (fits .0)) (λ typed. opposite (known _ (typed .0) (typed .1)) (bad .0))))
+      (λ bad. subst (FrontRefusal family s) (refused-same {A = Laid} (bad .1)) (badType (not-short (enough .0) (fits .0)) (λ typed. opposite (known _ (typed .0) (typed .1)) (bad .0))))
       (picked _ _ _ _ (sym (on-body _ _ _) ∙ fits .1)))
       (picked _ _ _ _ (enough .1)))
       (picked _ _ _ _ e)
@@ -57,7 +57,7 @@ module _ (afi family : ℕ) (bits : familyBits afi ≡ given family) (s : List �
   single-refused : (n : ℕ) → laidSingle family s ≡ refused n → ReadRefusal afi s n
   unfolding laidSingle laidAt
   single-refused n e =
-      ⊎-elim (λ first. laid-refused n first)
+      ⊎-elim (λ first. front family bits (laid-refused n first))
       (λ next.
       let laid : Laid = next .value in
       let o = laid-out (keyField family) family s laid (next .first) in
@@ -114,14 +114,19 @@ module _ (afi family : ℕ) (bits : familyBits afi ≡ given family) (s : List �
       sym (goes _ _ _ _ (ap (laidAt family) e ∙ laid-complete (keyField family) (KeyOf family) (key-judges family whole) family whole f t (w .typed) (w .body))
       (sym (pick-false _ _ _ (ne-eqb (length s - 2) (length (encodeBody f body)) (λ q. omega arith)))))
 
-  -- a refusal of the layout, or of the single NLRI, is the call's
+  laid-stops : (n : ℕ) → FrontRefusal family s n → laidAt family s ≡ refused n
+  laid-stops n (short h) = laid-short h
+  laid-stops n (badType h t) = laid-untyped h t
+  laid-stops n (badBody h t fault) = laid-faulty n h t fault
+
+  -- a refusal of the front, or of the single NLRI, is the call's
   read-stops : (n : ℕ) → laidSingle family s ≡ refused n → readNlri afi s ≡ refused n
   unfolding readNlri
   read-stops n e = sym (goes _ _ _ _ bits (stops _ _ _ e))
 
-  laid-stops : (n : ℕ) → laidAt family s ≡ refused n → readNlri afi s ≡ refused n
+  front-stops : (n : ℕ) → FrontRefusal family s n → readNlri afi s ≡ refused n
   unfolding laidSingle
-  laid-stops n e = read-stops n (sym (stops _ _ _ e))
+  front-stops n h = read-stops n (sym (stops _ _ _ (laid-stops n h)))
 
 refusal-sound : (afi : ℕ) (s : List ℕ) (n : ℕ) → AllOctets s → readNlri afi s ≡ refused n → ReadRefusal afi s n
 unfolding readNlri
@@ -133,9 +138,7 @@ refusal-sound afi s n a e =
 refusal-complete : (afi : ℕ) (s : List ℕ) (n : ℕ) → AllOctets s → ReadRefusal afi s n → readNlri afi s ≡ refused n
 unfolding readNlri
 refusal-complete afi s n a (badFamily one two) = sym (stops _ _ _ (family-refuses afi one two))
-refusal-complete afi s n a (short family bits h) = laid-stops afi family bits s a SHORT (laid-short afi family bits s a h)
-refusal-complete afi s n a (badType family bits h t) = laid-stops afi family bits s a TYPE (laid-untyped afi family bits s a h t)
-refusal-complete afi s n a (badBody family bits h t fault) = laid-stops afi family bits s a n (laid-faulty afi family bits s a n h t fault)
+refusal-complete afi s n a (front family bits h) = front-stops afi family bits s a n h
 refusal-complete afi s n a (after family f t bits w e some) = read-stops afi family bits s a LENGTH (single-after afi family bits s a f t w e some)
 
 -- a body's number is another than FAMILY, SHORT and TYPE
@@ -144,40 +147,41 @@ faulty-other family type s n fault = ⊎-elim (λ e. omega arith) (λ rest. ⊎-
 
 by-family : (afi : ℕ) (s : List ℕ) (n : ℕ) → ReadRefusal afi s n → n ≡ FAMILY → (afi ≢ 1) × (afi ≢ 2)
 by-family afi s n (badFamily one two) e = (one, two)
-by-family afi s n (short family bits h) e = absurd (omega arith)
-by-family afi s n (badType family bits h t) e = absurd (omega arith)
-by-family afi s n (badBody family bits h t fault) e = absurd (faulty-other family _ _ n fault .0 e)
+by-family afi s n (front family bits (short h)) e = absurd (omega arith)
+by-family afi s n (front family bits (badType h t)) e = absurd (omega arith)
+by-family afi s n (front family bits (badBody h t fault)) e = absurd (faulty-other family _ _ n fault .0 e)
 by-family afi s n (after family f t bits w q some) e = absurd (omega arith)
 
 by-short : (afi : ℕ) (s : List ℕ) (n : ℕ) → ReadRefusal afi s n → n ≡ SHORT → ((afi ≡ 1) ⊎ (afi ≡ 2)) × Short s
 by-short afi s n (badFamily one two) e = absurd (omega arith)
-by-short afi s n (short family bits h) e = (good-family afi family bits, h)
-by-short afi s n (badType family bits h t) e = absurd (omega arith)
-by-short afi s n (badBody family bits h t fault) e = absurd (faulty-other family _ _ n fault .1 e)
+by-short afi s n (front family bits (short h)) e = (good-family afi family bits, h)
+by-short afi s n (front family bits (badType h t)) e = absurd (omega arith)
+by-short afi s n (front family bits (badBody h t fault)) e = absurd (faulty-other family _ _ n fault .1 e)
 by-short afi s n (after family f t bits w q some) e = absurd (omega arith)
 
 by-type : (afi : ℕ) (s : List ℕ) (n : ℕ) → ReadRefusal afi s n → n ≡ TYPE → ((afi ≡ 1) ⊎ (afi ≡ 2)) × (Short s → ⊥) × (Typed (getD s 0 0) → ⊥)
 by-type afi s n (badFamily one two) e = absurd (omega arith)
-by-type afi s n (short family bits h) e = absurd (omega arith)
-by-type afi s n (badType family bits h t) e = (good-family afi family bits, h, t)
-by-type afi s n (badBody family bits h t fault) e = absurd (faulty-other family _ _ n fault .2 e)
+by-type afi s n (front family bits (short h)) e = absurd (omega arith)
+by-type afi s n (front family bits (badType h t)) e = (good-family afi family bits, h, t)
+by-type afi s n (front family bits (badBody h t fault)) e = absurd (faulty-other family _ _ n fault .2 e)
 by-type afi s n (after family f t bits w q some) e = absurd (omega arith)
 
 pub readRefusals : ReadRefusals
 readRefusals =
     record {
       exactly = λ afi s n a. (refusal-sound afi s n a, refusal-complete afi s n a);
+      front = λ afi family s n bits a. (laid-refused afi family bits s a n, laid-stops afi family bits s a n);
       decided = λ afi s a. ⊎-elim (λ yes. inl (yes .0, acceptance .exactly afi s (yes .0) a .0 (yes .1))) (λ no. inr (no .0, refusal-sound afi s (no .0) a (no .1))) (outcome (readNlri afi s));
       one = λ afi s m n a p q. refused-same {A = Fields} (sym (refusal-complete afi s m a p) ∙ refusal-complete afi s n a q);
       never = λ afi s f n a p q. never (acceptance .exactly afi s f a .1 p) (refusal-complete afi s n a q);
       family = λ afi s a. (λ e. by-family afi s FAMILY (refusal-sound afi s FAMILY a e) refl, λ h. refusal-complete afi s FAMILY a (badFamily (h .0) (h .1)));
       short = λ afi s a. (
         λ e. by-short afi s SHORT (refusal-sound afi s SHORT a e) refl,
-        λ h. let g = family-good afi (h .0) in refusal-complete afi s SHORT a (short (g .0) (g .1) (h .1)),
+        λ h. let g = family-good afi (h .0) in refusal-complete afi s SHORT a (front (g .0) (g .1) (short (h .1))),
       );
       type = λ afi s a. (
         λ e. by-type afi s TYPE (refusal-sound afi s TYPE a e) refl,
-        λ h. let g = family-good afi (h .0) in refusal-complete afi s TYPE a (badType (g .0) (g .1) (h .1) (h .2)),
+        λ h. let g = family-good afi (h .0) in refusal-complete afi s TYPE a (front (g .0) (g .1) (badType (h .1) (h .2))),
       );
       bodies = faulty-numbers;
     }

@@ -11,7 +11,7 @@ use Rattle.octets.specs.Octets.{AllOctets, part}
 use Rattle.nlri.specs.Family.{familyBits, allowed, originatorSize}
 use Rattle.nlri.specs.Bodies.{Kind, distinguisher, sourceAs, source, group, originator, key, bodyOf, has}
 use Rattle.nlri.specs.Fields.{Fields, encodeField, encodeNlri, WellFormedField, WellFormed, KeyOf, restricted}
-use Rattle.nlri.specs.Reading.{readNlri}
+use Rattle.nlri.specs.Reading.{laidAt, readNlri}
 use Rattle.nlri.specs.Writing.{writeNlri}
 use Rattle.nlri.specs.declared.fields.Nlri.{Nlri}
 use Rattle.nlri.specs.Answers.{nlriOf, fieldsIn}
@@ -109,18 +109,23 @@ Short s = (length s < 2) ⊎ (length s - 2 < getD s 1 0)
 abbrev pub Typed : ℕ → Type 0
 Typed type = (1 ≤ type) × (type ≤ 7)
 
--- why reading a single NLRI refuses, in the order FAMILY, SHORT, TYPE, the body, octets after it
+-- why reading the NLRI at the front of octets refuses: SHORT, TYPE, then the body
+pub data FrontRefusal (family : ℕ) (s : List ℕ) : ℕ → Type 0 where
+  short : Short s → FrontRefusal family s SHORT
+  badType : (Short s → ⊥) → (Typed (getD s 0 0) → ⊥) → FrontRefusal family s TYPE
+  badBody : {n : ℕ} → (Short s → ⊥) → Typed (getD s 0 0) → Faulty family (getD s 0 0) (bodyOf (getD s 0 0)) (part s 2 (getD s 1 0)) n → FrontRefusal family s n
+
+-- why reading a single NLRI refuses: FAMILY, then its front, then octets after it
 pub data ReadRefusal (afi : ℕ) (s : List ℕ) : ℕ → Type 0 where
   badFamily : afi ≢ 1 → afi ≢ 2 → ReadRefusal afi s FAMILY
-  short : (family : ℕ) → familyBits afi ≡ given family → Short s → ReadRefusal afi s SHORT
-  badType : (family : ℕ) → familyBits afi ≡ given family → (Short s → ⊥) → (Typed (getD s 0 0) → ⊥) → ReadRefusal afi s TYPE
-  badBody : (family : ℕ) {n : ℕ} → familyBits afi ≡ given family → (Short s → ⊥) → Typed (getD s 0 0)
-      → Faulty family (getD s 0 0) (bodyOf (getD s 0 0)) (part s 2 (getD s 1 0)) n → ReadRefusal afi s n
+  front : (family : ℕ) {n : ℕ} → familyBits afi ≡ given family → FrontRefusal family s n → ReadRefusal afi s n
   after : (family : ℕ) (f : Fields) (t : List ℕ) → familyBits afi ≡ given family → WellFormed family f → s ≡ encodeNlri f ++ t → 0 < length t → ReadRefusal afi s LENGTH
 
 -- "The numbers a call gives back", at NLRI reading: every list of octets is accepted or refused by one number, each given exactly when the page says
 pub record ReadRefusals : Type 0 where
   pub exactly : (afi : ℕ) (s : List ℕ) (n : ℕ) → AllOctets s → (readNlri afi s ≡ refused n) ↔ ReadRefusal afi s n
+  -- the NLRI at the front of octets, whatever stands after it
+  pub front : (afi family : ℕ) (s : List ℕ) (n : ℕ) → familyBits afi ≡ given family → AllOctets s → (laidAt family s ≡ refused n) ↔ FrontRefusal family s n
   pub decided : (afi : ℕ) (s : List ℕ) → AllOctets s → ((f : Fields) × ReadAs afi s f) ⊎ ((n : ℕ) × ReadRefusal afi s n)
   pub one : (afi : ℕ) (s : List ℕ) (m n : ℕ) → AllOctets s → ReadRefusal afi s m → ReadRefusal afi s n → m ≡ n
   pub never : (afi : ℕ) (s : List ℕ) (f : Fields) (n : ℕ) → AllOctets s → ReadAs afi s f → ReadRefusal afi s n → ⊥
