@@ -13,3 +13,4 @@ pub mod RoundTrips
 pub mod Faults
 pub mod ReadRefusals
 pub mod WriteRefusals
+pub mod Walks

@@ -5,7 +5,7 @@ use mathlib.Core.Bool.{true, false}
 use mathlib.Core.List.{List, [], _∷_, _++_}
 use mathlib.Core.Logic.{_↔_, _≢_, _⊎_}
 use lib.ListN.{length, getD, take}
-use Rattle.octets.specs.Numbers.{SHORT, TYPE, LENGTH, WIDTH, KEY, FAMILY, SPACE}
+use Rattle.octets.specs.Numbers.{DONE, SHORT, TYPE, LENGTH, WIDTH, KEY, LONG, FAMILY, SPACE}
 use Rattle.octets.specs.Outcome.{given, refused}
 use Rattle.octets.specs.Octets.{AllOctets, part}
 use Rattle.nlri.specs.Family.{familyBits, allowed, originatorSize}
@@ -13,7 +13,9 @@ use Rattle.nlri.specs.Bodies.{Kind, distinguisher, sourceAs, source, gro
 use Rattle.nlri.specs.Fields.{Fields, encodeField, encodeNlri, WellFormedField, WellFormed, KeyOf, restricted}
 use Rattle.nlri.specs.Reading.{laidAt, readNlri}
 use Rattle.nlri.specs.Writing.{writeNlri}
+use Rattle.nlri.specs.Walking.{stepFrom, walkOf}
 use Rattle.nlri.specs.declared.fields.Nlri.{Nlri}
+use Rattle.nlri.specs.declared.walk.Walked.{Walked}
 use Rattle.nlri.specs.Answers.{nlriOf, fieldsIn}
 
 -- octets that are the encoding of well-formed fields of the AFI's family, fields that the type lacks being empty
@@ -159,3 +161,50 @@ pub record WriteRefusals : Type 0 where
   pub exactly : (afi : ℕ) (f : Fields) (space n : ℕ) → Held f → (writeNlri afi f space ≡ refused n) ↔ WriteRefusal afi f space n
   pub accepted : (afi : ℕ) (f : Fields) (space : ℕ) (e : List ℕ) → Held f
       → (writeNlri afi f space ≡ given e) ↔ ((family : ℕ) × (familyBits afi ≡ given family) × WellFormed family f × (length e ≤ space) × (e ≡ encodeNlri f))
+
+-- the walk from a cursor as the iteration of the step: it goes on from the cursor that a step that read hands back, and stops at any other step
+pub data Walks (afi : ℕ) (run : List ℕ) : (at count : ℕ) → Walked → Type 0 where
+  stopping : {at count : ℕ} → stepFrom afi run at .read ≡ false → Walks afi run at count (record { number = stepFrom afi run at .number; count = count; offset = at })
+  going : {at count : ℕ} {w : Walked} → stepFrom afi run at .read ≡ true → Walks afi run (stepFrom afi run at .cursor) (count + 1) w → Walks afi run at count w
+
+-- NLRIs that follow each other
+unfoldable pub encodeRun : List Fields → List ℕ
+encodeRun [] = []
+encodeRun (f ∷ fs) = encodeNlri f ++ encodeRun fs
+
+abbrev pub AllWellFormed : ℕ → List Fields → Type 0
+AllWellFormed family [] = Unit {0}
+AllWellFormed family (f ∷ fs) = WellFormed family f × AllWellFormed family fs
+
+-- what may stand after the NLRIs of a run, and the number there: nothing, or octets that NLRI reading refuses
+pub data RunEnd (family : ℕ) : List ℕ → ℕ → Type 0 where
+  nothing : RunEnd family [] DONE
+  refusal : {t : List ℕ} {n : ℕ} → 0 < length t → FrontRefusal family t n → RunEnd family t n
+
+-- a run as NLRIs and then its end
+pub record RunOf (family : ℕ) (run : List ℕ) : Type 0 where
+  pub nlris : List Fields
+  pub tail : List ℕ
+  pub number : ℕ
+  pub wellFormed : AllWellFormed family nlris
+  pub end : RunEnd family tail number
+  pub is : run ≡ encodeRun nlris ++ tail
+
+-- "Walking a run"
+pub record WalkRule : Type 0 where
+  -- every run of octets is NLRIs and then its end
+  pub splits : (afi family : ℕ) (run : List ℕ) → familyBits afi ≡ given family → AllOctets run → RunOf family run
+  -- the walk counts these NLRIs, and stops where they end with the number there
+  pub counts : (afi family : ℕ) (run : List ℕ) (r : RunOf family run) → familyBits afi ≡ given family → AllOctets run → length run ≤ 4096
+      → walkOf afi run ≡ record { number = r .number; count = length (r .nlris); offset = length (encodeRun (r .nlris)) }
+  -- a bad AFI, and a run that is too long
+  pub family : (afi : ℕ) (run : List ℕ) → afi ≢ 1 → afi ≢ 2 → walkOf afi run ≡ record { number = FAMILY; count = 0; offset = 0 }
+  pub long : (afi family : ℕ) (run : List ℕ) → familyBits afi ≡ given family → 4096 < length run → walkOf afi run ≡ record { number = LONG; count = 0; offset = 0 }
+  -- the walk is the iteration of the step, and nothing else is
+  pub iterates : (afi : ℕ) (run : List ℕ) → Walks afi run 0 0 (walkOf afi run)
+  pub only : (afi : ℕ) (run : List ℕ) (at count : ℕ) (v w : Walked) → Walks afi run at count v → Walks afi run at count w → v ≡ w
+  -- a step that reads hands back a cursor just past the NLRI read
+  pub moves : (afi : ℕ) (run : List ℕ) (at : ℕ) → stepFrom afi run at .read ≡ true
+      → (stepFrom afi run at .cursor ≡ at + (2 + stepFrom afi run at .layout .length)) × (at < stepFrom afi run at .cursor) × (stepFrom afi run at .cursor ≤ length run)
+  -- any other hands back the cursor that it was given
+  pub stays : (afi : ℕ) (run : List ℕ) (at : ℕ) → stepFrom afi run at .read ≡ false → stepFrom afi run at .cursor ≡ at
