@@ -14,3 +14,5 @@ pub mod Faults
 pub mod ReadRefusals
 pub mod WriteRefusals
 pub mod Walks
+pub mod Marked
+pub mod Theorems

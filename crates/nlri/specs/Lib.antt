@@ -10,3 +10,4 @@ pub mod Writing
 pub mod Answers
 pub mod Inner
 pub mod Statements
+pub mod Examples
