@@ -1,10 +1,11 @@
 -- Reading accepts exactly the encodings of well-formed fields (document 01, "NLRI on the wire").
 use mathlib.Core.Path.{_≡_, refl, sym, _∙_, ap, subst}
 use mathlib.Core.Bool.{Bool, true, false}
-use mathlib.Core.List.{List, [], _∷_, _++_, map, append-nil}
+use mathlib.Core.List.{List, [], _∷_, append-nil}
+use mathlib.Core.Logic.{_↔_, _⊎_, inl, inr, ⊎-elim}
 use Prim.Native.Nat.{ℕ, suc, _+_, _*_, _/_, _-_, _^_, _≤_, _<_}
 use native.Mathlib.Omega.{arith}
-use borrow.Author.Tests.{eqb-true, eq-eqb}
+use borrow.Author.Tests.{eqb-true, eq-eqb, ne-eqb}
 use lib.ListN.{length, take, drop, length-drop}
 use lib.Seq.{take-all}
 use lib.Dec.{eqb}
@@ -12,15 +13,16 @@ use Rattle.octets.specs.Choice.{pick, either}
 use Rattle.octets.specs.Outcome.{Outcome, given, refused, andThen}
 use Rattle.octets.specs.Octets.{AllOctets, part, numberIn, bigEndian}
 use Rattle.octets.proofs.Outcomes.{pick-true, pick-false}
-use Rattle.octets.proofs.Tests.{goes}
-use Rattle.octets.proofs.Inversions.{unless, only, passed, given-same, opposite}
+use Rattle.octets.proofs.Tests.{goes, both-true, either-left}
+use Rattle.octets.proofs.Inversions.{only, passed, given-same, opposite, either-true, both-true-left, both-true-right}
+use Rattle.octets.proofs.Refusals.{picked, either-second}
 use Rattle.octets.proofs.NetworkOrder.{number-of-big-endian}
-use Rattle.nlri.specs.Family.{familyBits}
+use Rattle.nlri.specs.Family.{familyBits, allowed, originatorSize}
 use Rattle.nlri.specs.Bodies.{Kind, distinguisher, sourceAs, source, group, originator, key, bodyOf, fieldIn, sameKind, has}
 use Rattle.nlri.specs.Fields.{Fields, encodeAddress, encodeField, encodeBody, encodeNlri, WellFormedField, WellFormedBody, WellFormed, KeyOf, restricted}
 use Rattle.nlri.specs.Reading.{Laid, keyField, laidAt, laidSingle, cut, fieldsOf, readNlri}
-use Rattle.nlri.specs.Statements.{ReadAs, Acceptance}
-use Rattle.nlri.proofs.Table.{rowOf, known, field-of-map, lacks, same-kind}
+use Rattle.nlri.specs.Statements.{ReadAs, Acceptance, Lengths}
+use Rattle.nlri.proofs.Table.{RowOf, rowOf, known, mostIn, field-of-map, lacks, same-kind}
 use Rattle.nlri.proofs.Judged.{fieldsFrom, family-octets}
 use Rattle.nlri.proofs.Whole.{piecesOf, sizesIn, cut-body, LaidOut, laid-out, fieldsAt, laid-sound, laid-complete, nlri-octets}
 use Rattle.nlri.proofs.Keys.{key-judges, key-octets}
@@ -112,11 +114,13 @@ module _ (afi family : ℕ) (bits : familyBits afi ≡ given family) where
       sym (goes _ _ _ _ (sym (goes _ _ _ _ laid (sym (pick-true _ _ _ (eq-eqb (suc (suc (length (encodeBody f body))) - 2) (length (encodeBody f body)) (omega arith))))))
       (ap given (sym (ap (λ (x : List (List ℕ)). fieldsFrom (f .type) (λ kind. fieldIn [] kind body x)) cuts ∙ from-encoded (KeyOf family) family f (w .body)))))
 
-  octets : (f : Fields) → WellFormed family f → (length (encodeNlri f) ≤ 78) × AllOctets (encodeNlri f)
-  octets f w =
+  octets : (f : Fields) → WellFormed family f → (most : ℕ) → mostIn 60 (bodyOf (f .type)) ≤ most → most < 256 → (length (encodeNlri f) ≤ 2 + most) × AllOctets (encodeNlri f)
+  octets f w most within fits =
       let small = family-octets afi family bits .1 in
-      let row = rowOf (f .type) (known (f .type) (w .typed .0) (w .typed .1)) in
-      nlri-octets (keyField family) (KeyOf family) (key-judges family whole) family whole 60 (key-octets family whole small) small f (w .typed) (w .body) 76 (row .keyed) (omega arith)
+      nlri-octets (keyField family) (KeyOf family) (key-judges family whole) family whole 60 (key-octets family whole small) small f (w .typed) (w .body) most within fits
+
+  row : (f : Fields) → WellFormed family f → RowOf (f .type)
+  row f w = rowOf (f .type) (known (f .type) (w .typed .0) (w .typed .1))
 
 pub read-sound : (afi : ℕ) (s : List ℕ) (f : Fields) → AllOctets s → readNlri afi s ≡ given f → ReadAs afi s f
 unfolding readNlri
@@ -134,9 +138,32 @@ acceptance =
     record {
       exactly = λ afi s f a. (read-sound afi s f a, λ r. ap (readNlri afi) (r .encoded) ∙ read-encoded afi (r .family) f (r .bits) (r .wellFormed) ∙ ap given (r .whole));
       encoded = read-encoded;
-      octets = λ afi family f bits w. octets afi family bits f w .1;
+      octets = λ afi family f bits w. octets afi family bits f w 76 (row afi family bits f w .most) (omega arith) .1;
+      most = λ afi family f bits w. octets afi family bits f w 76 (row afi family bits f w .most) (omega arith) .0;
+      plain = λ afi family f bits w other. octets afi family bits f w 58 (row afi family bits f w .plain other .1) (omega arith) .0;
+      same = λ afi family f g bits w v e. given-same (sym (read-encoded afi family f bits w) ∙ ap (readNlri afi) e ∙ read-encoded afi family g bits v);
     }
 
--- a well-formed NLRI takes at most 78 octets, a key at most 60
-pub encoded-octets : (afi family : ℕ) (f : Fields) → familyBits afi ≡ given family → WellFormed family f → length (encodeNlri f) ≤ 78
-encoded-octets afi family f bits w = octets afi family bits f w .0
+family-exactly : (afi family : ℕ) → (familyBits afi ≡ given family) ↔ (((afi ≡ 1) × (family ≡ 32)) ⊎ ((afi ≡ 2) × (family ≡ 128)))
+unfolding familyBits
+family-exactly afi family =
+    (λ e.
+    ⊎-elim (λ one. inl (eqb-true _ _ (one .0), sym (given-same (one .1)))) (λ other. let p = only _ _ _ _ (other .1) in inr (eqb-true _ _ (p .0), sym (given-same (p .1)))) (picked _ _ _ _ e),
+    λ h.
+    ⊎-elim (λ one. pick-true _ _ _ (eq-eqb afi 1 (one .0)) ∙ ap given (sym (one .1)))
+    (λ two. pick-false _ _ _ (ne-eqb afi 1 (λ e. omega (arith, two .0))) ∙ pick-true _ _ _ (eq-eqb afi 2 (two .0)) ∙ ap given (sym (two .1))) h)
+
+allowed-exactly : (family type bits : ℕ) → (allowed family type bits ≡ true) ↔ ((bits ≡ family) ⊎ ((type ≡ 3) × (bits ≡ 0)))
+unfolding allowed
+allowed-exactly family type bits =
+    (λ e. ⊎-elim (λ same. inl (eqb-true _ _ same)) (λ none. inr (eqb-true _ _ (both-true-left _ _ none), eqb-true _ _ (both-true-right _ _ none))) (either-true _ _ e),
+    λ h. ⊎-elim (λ same. either-left _ _ (eq-eqb bits family same)) (λ none. either-second _ _ (both-true _ _ (eq-eqb type 3 (none .0)) (eq-eqb bits 0 (none .1)))) h)
+
+originator-exactly : (size : ℕ) → (originatorSize size ≡ true) ↔ ((size ≡ 4) ⊎ (size ≡ 16))
+unfolding originatorSize
+originator-exactly size =
+    (λ e. ⊎-elim (λ four. inl (eqb-true _ _ four)) (λ sixteen. inr (eqb-true _ _ sixteen)) (either-true _ _ e),
+    λ h. ⊎-elim (λ four. either-left _ _ (eq-eqb size 4 four)) (λ sixteen. either-second _ _ (eq-eqb size 16 sixteen)) h)
+
+pub lengths : Lengths
+lengths = record { families = family-exactly; addresses = allowed-exactly; originators = originator-exactly }

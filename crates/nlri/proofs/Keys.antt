@@ -81,5 +81,5 @@ module _ (family : ℕ) (whole : 8 * (family / 8) ≡ family) where
       let f : Fields = of .fields in
       let range : (1 ≤ f .type) × (f .type ≤ 7) = omega (arith, of .typed) in
       let row = rowOf (f .type) (known (f .type) (range .0) (range .1)) in
-      let h = nlri-octets noKey NoKey none-judges family whole 0 (λ k none. absurd none) small f range (of .wellFormed) 58 (row .unkeyed) (omega arith) in
+      let h = nlri-octets noKey NoKey none-judges family whole 60 (λ k none. absurd none) small f range (of .wellFormed) 58 (row .plain (λ e. omega (arith, of .typed)) .1) (omega arith) in
       rw (of .encoded) (omega (arith, h .0), h .1)

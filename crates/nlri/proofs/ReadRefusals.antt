@@ -8,7 +8,7 @@ use native.Mathlib.Omega.{arith}
 use borrow.Author.Tests.{eqb-false, ne-eqb, ltb-true, ltb-false, lt-ltb, le-ltb}
 use lib.ListN.{length, getD, take, drop, length-append, length-drop, take-append-drop}
 use lib.Dec.{eqb, ltb}
-use Rattle.octets.specs.Numbers.{SHORT, TYPE, LENGTH, FAMILY}
+use Rattle.octets.specs.Numbers.{DONE, SHORT, TYPE, LENGTH, FAMILY}
 use Rattle.octets.specs.Choice.{pick}
 use Rattle.octets.specs.Outcome.{Outcome, given, refused, andThen}
 use Rattle.octets.specs.Octets.{AllOctets, part}
@@ -141,9 +141,16 @@ refusal-complete afi s n a (badFamily one two) = sym (stops _ _ _ (family-refuse
 refusal-complete afi s n a (front family bits h) = front-stops afi family bits s a n h
 refusal-complete afi s n a (after family f t bits w e some) = read-stops afi family bits s a LENGTH (single-after afi family bits s a f t w e some)
 
--- a body's number is another than FAMILY, SHORT and TYPE
-faulty-other : (family type : ℕ) (s : List ℕ) (n : ℕ) → Faulty family type (bodyOf type) s n → (n ≡ FAMILY → ⊥) × (n ≡ SHORT → ⊥) × (n ≡ TYPE → ⊥)
+-- a body's number is another than FAMILY, SHORT, TYPE and DONE
+faulty-other : (family type : ℕ) (s : List ℕ) (n : ℕ) → Faulty family type (bodyOf type) s n → (n ≡ FAMILY → ⊥) × (n ≡ SHORT → ⊥) × (n ≡ TYPE → ⊥) × (n ≡ DONE → ⊥)
 faulty-other family type s n fault = ⊎-elim (λ e. omega arith) (λ rest. ⊎-elim (λ e. omega arith) (λ e. omega arith) rest) (faulty-numbers family type (bodyOf type) s n fault)
+
+pub not-done : (afi : ℕ) (s : List ℕ) (n : ℕ) → ReadRefusal afi s n → n ≡ DONE → ⊥
+not-done afi s n (badFamily one two) e = omega arith
+not-done afi s n (front family bits (short h)) e = omega arith
+not-done afi s n (front family bits (badType h t)) e = omega arith
+not-done afi s n (front family bits (badBody h t fault)) e = faulty-other family _ _ n fault .3 e
+not-done afi s n (after family f t bits w q some) e = omega arith
 
 by-family : (afi : ℕ) (s : List ℕ) (n : ℕ) → ReadRefusal afi s n → n ≡ FAMILY → (afi ≢ 1) × (afi ≢ 2)
 by-family afi s n (badFamily one two) e = (one, two)
@@ -174,6 +181,7 @@ readRefusals =
       decided = λ afi s a. ⊎-elim (λ yes. inl (yes .0, acceptance .exactly afi s (yes .0) a .0 (yes .1))) (λ no. inr (no .0, refusal-sound afi s (no .0) a (no .1))) (outcome (readNlri afi s));
       one = λ afi s m n a p q. refused-same {A = Fields} (sym (refusal-complete afi s m a p) ∙ refusal-complete afi s n a q);
       never = λ afi s f n a p q. never (acceptance .exactly afi s f a .1 p) (refusal-complete afi s n a q);
+      done = λ afi s h. not-done afi s DONE h refl;
       family = λ afi s a. (λ e. by-family afi s FAMILY (refusal-sound afi s FAMILY a e) refl, λ h. refusal-complete afi s FAMILY a (badFamily (h .0) (h .1)));
       short = λ afi s a. (
         λ e. by-short afi s SHORT (refusal-sound afi s SHORT a e) refl,

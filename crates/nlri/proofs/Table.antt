@@ -2,6 +2,7 @@
 use mathlib.Core.Path.{_≡_, refl, sym, _∙_, ap, subst}
 use mathlib.Core.Bool.{Bool, true, false, not}
 use mathlib.Core.List.{List, [], _∷_, map}
+use mathlib.Core.Logic.{⊎-elim}
 use Prim.Native.Nat.{ℕ, zero, suc, _+_, _≤_, _<_}
 use native.Mathlib.Omega.{arith}
 use borrow.Author.Tests.{eqb-true, eq-eqb, leb-true, not-true}
@@ -11,7 +12,7 @@ use Rattle.octets.specs.Choice.{pick, both, either}
 use Rattle.octets.proofs.Outcomes.{pick-true, pick-false}
 use Rattle.octets.proofs.Tests.{either-left}
 use Rattle.octets.proofs.Refusals.{either-false-left, either-false-right, either-second}
-use Rattle.octets.proofs.Inversions.{opposite, both-true-left, both-true-right}
+use Rattle.octets.proofs.Inversions.{opposite, either-true, both-true-left, both-true-right}
 use Rattle.nlri.specs.Bodies.{Kind, distinguisher, sourceAs, source, group, originator, key, Row, row, bodies, onBody, bodyOf, codeOf, sameKind, fieldIn, has}
 
 unfoldable pub listed : List Row → ℕ → Bool
@@ -100,7 +101,7 @@ mostIn w (k ∷ body) = most w k + mostIn w body
 rowTest : ℕ → List Kind → Bool
 rowTest n body =
     both (both (leb 1 n) (leb n 7))
-    (both (both (distinct body) (closed body)) (both (leb (mostIn 0 body) 58) (leb (mostIn 60 body) 76)))
+    (both (both (distinct body) (closed body)) (both (leb (mostIn 60 body) 76) (either (eqb n 4) (both (not (has key body)) (leb (mostIn 60 body) 58)))))
 
 -- what holds of the row of a type
 pub record RowOf (type : ℕ) : Type 0 where
@@ -108,8 +109,9 @@ pub record RowOf (type : ℕ) : Type 0 where
   pub high : type ≤ 7
   pub distinct : distinct (bodyOf type) ≡ true
   pub closed : closed (bodyOf type) ≡ true
-  pub unkeyed : mostIn 0 (bodyOf type) ≤ 58
-  pub keyed : mostIn 60 (bodyOf type) ≤ 76
+  pub most : mostIn 60 (bodyOf type) ≤ 76
+  -- only a Leaf has a key
+  pub plain : (type ≡ 4 → ⊥) → (has key (bodyOf type) ≡ false) × (mostIn 60 (bodyOf type) ≤ 58)
 
 tested : every rowTest bodies ≡ true
 unfolding every rowTest bodies both distinct closed closes mostIn most has either sameKind codeOf
@@ -128,8 +130,9 @@ rowOf type l =
       high = leb-true _ _ (both-true-right _ _ range);
       distinct = both-true-left _ _ shape;
       closed = both-true-right _ _ shape;
-      unkeyed = leb-true _ _ (both-true-left _ _ size);
-      keyed = leb-true _ _ (both-true-right _ _ size);
+      most = leb-true _ _ (both-true-left _ _ size);
+      plain = λ other.
+      ⊎-elim (λ leaf. absurd (other (eqb-true _ _ leaf))) (λ h. (not-true _ (both-true-left _ _ h), leb-true _ _ (both-true-right _ _ h))) (either-true _ _ (both-true-right _ _ size));
     }
 
 pub unlisted : (type : ℕ) → ((1 ≤ type) × (type ≤ 7) → ⊥) → listed bodies type ≡ false

@@ -16,7 +16,16 @@ use Rattle.nlri.specs.Writing.{writeNlri}
 use Rattle.nlri.specs.Walking.{stepFrom, walkOf}
 use Rattle.nlri.specs.declared.fields.Nlri.{Nlri}
 use Rattle.nlri.specs.declared.walk.Walked.{Walked}
-use Rattle.nlri.specs.Answers.{nlriOf, fieldsIn}
+use Rattle.nlri.specs.Answers.{nlriOf, fieldsIn, keySpan, readAnswer}
+
+-- "NLRI on the wire": the lengths
+pub record Lengths : Type 0 where
+  -- 32 bits for AFI 1, 128 for AFI 2
+  pub families : (afi family : ℕ) → (familyBits afi ≡ given family) ↔ (((afi ≡ 1) × (family ≡ 32)) ⊎ ((afi ≡ 2) × (family ≡ 128)))
+  -- a source or group length is the family's, or 0 in type 3
+  pub addresses : (family type bits : ℕ) → (allowed family type bits ≡ true) ↔ ((bits ≡ family) ⊎ ((type ≡ 3) × (bits ≡ 0)))
+  -- an originator has 4 or 16 octets
+  pub originators : (size : ℕ) → (originatorSize size ≡ true) ↔ ((size ≡ 4) ⊎ (size ≡ 16))
 
 -- octets that are the encoding of well-formed fields of the AFI's family, fields that the type lacks being empty
 pub record ReadAs (afi : ℕ) (s : List ℕ) (f : Fields) : Type 0 where
@@ -32,6 +41,11 @@ pub record Acceptance : Type 0 where
   -- whatever stands in the fields that the type lacks, their encoding is read as the fields without these
   pub encoded : (afi family : ℕ) (f : Fields) → familyBits afi ≡ given family → WellFormed family f → readNlri afi (encodeNlri f) ≡ given (restricted f)
   pub octets : (afi family : ℕ) (f : Fields) → familyBits afi ≡ given family → WellFormed family f → AllOctets (encodeNlri f)
+  -- an encoding has at most 78 octets, and at most 60 where it is no Leaf's
+  pub most : (afi family : ℕ) (f : Fields) → familyBits afi ≡ given family → WellFormed family f → length (encodeNlri f) ≤ 78
+  pub plain : (afi family : ℕ) (f : Fields) → familyBits afi ≡ given family → WellFormed family f → f .type ≢ 4 → length (encodeNlri f) ≤ 60
+  -- one encoding is of one NLRI
+  pub same : (afi family : ℕ) (f g : Fields) → familyBits afi ≡ given family → WellFormed family f → WellFormed family g → encodeNlri f ≡ encodeNlri g → restricted f ≡ restricted g
 
 -- fields that hold octets and a 32-bit number, as those do that a struct and a buffer of octets stand for
 pub record Held (f : Fields) : Type 0 where
@@ -60,8 +74,13 @@ pub record RoundTrips : Type 0 where
   pub unseen : (afi : ℕ) (f : Fields) (space : ℕ) → writeNlri afi (restricted f) space ≡ writeNlri afi f space
   -- the struct and the key's octets that reading answers stand for the fields read
   pub struct : (afi : ℕ) (s : List ℕ) (f : Fields) → AllOctets s → readNlri afi s ≡ given f → restricted (fieldsIn (nlriOf f) (f .key)) ≡ f
-  -- and writing these gives the same octets
+  -- the key's octets stand where the answer's span says
+  pub spanned : (afi : ℕ) (s : List ℕ) (f : Fields) → AllOctets s → readNlri afi s ≡ given f → part s (keySpan f .start) (keySpan f .size) ≡ f .key
+  -- writing the struct and the key's octets gives the same octets
   pub structWritten : (afi : ℕ) (s : List ℕ) (f : Fields) (space : ℕ) → AllOctets s → readNlri afi s ≡ given f → length s ≤ space → writeNlri afi (fieldsIn (nlriOf f) (f .key)) space ≡ given s
+  -- so writing what the call of reading answers, the key taken from the octets read, gives these octets
+  pub answered : (afi : ℕ) (s : List ℕ) (space : ℕ) → AllOctets s → readAnswer (readNlri afi s) .number ≡ DONE → length s ≤ space
+      → writeNlri afi (fieldsIn (readAnswer (readNlri afi s) .nlri) (part s (readAnswer (readNlri afi s) .key .start) (readAnswer (readNlri afi s) .key .size))) space ≡ given s
   -- what a struct and a key's octets stand for comes back when it was written
   pub structRead : (afi : ℕ) (nlri : Nlri) (key : List ℕ) (space : ℕ) (e : List ℕ) → HeldNlri nlri → AllOctets key → writeNlri afi (fieldsIn nlri key) space ≡ given e
       → readNlri afi e ≡ given (restricted (fieldsIn nlri key))
@@ -131,6 +150,8 @@ pub record ReadRefusals : Type 0 where
   pub decided : (afi : ℕ) (s : List ℕ) → AllOctets s → ((f : Fields) × ReadAs afi s f) ⊎ ((n : ℕ) × ReadRefusal afi s n)
   pub one : (afi : ℕ) (s : List ℕ) (m n : ℕ) → AllOctets s → ReadRefusal afi s m → ReadRefusal afi s n → m ≡ n
   pub never : (afi : ℕ) (s : List ℕ) (f : Fields) (n : ℕ) → AllOctets s → ReadAs afi s f → ReadRefusal afi s n → ⊥
+  -- no refusal is DONE
+  pub done : (afi : ℕ) (s : List ℕ) → ReadRefusal afi s DONE → ⊥
   -- FAMILY, SHORT and TYPE by themselves
   pub family : (afi : ℕ) (s : List ℕ) → AllOctets s → (readNlri afi s ≡ refused FAMILY) ↔ ((afi ≢ 1) × (afi ≢ 2))
   pub short : (afi : ℕ) (s : List ℕ) → AllOctets s → (readNlri afi s ≡ refused SHORT) ↔ (((afi ≡ 1) ⊎ (afi ≡ 2)) × Short s)
