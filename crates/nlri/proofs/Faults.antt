@@ -3,26 +3,25 @@ use mathlib.Core.Path.{_≡_, refl, sym, _∙_, ap, subst}
 use mathlib.Core.Bool.{Bool, true, false}
 use mathlib.Core.Logic.{_⊎_, inl, inr, ⊎-elim}
 use mathlib.Core.List.{List, [], _∷_, _++_}
-use Prim.Native.Nat.{ℕ, zero, suc, _+_, _*_, _/_, _-_, _≤_, _<_}
+use Prim.Native.Nat.{ℕ, _*_, _/_, _≤_, _<_}
 use native.Mathlib.Omega.{arith}
-use borrow.Author.Tests.{eqb-true, eqb-false, eq-eqb, ne-eqb, ltb-true, ltb-false, lt-ltb, le-ltb, leb-true, le-leb, lt-leb}
-use lib.ListN.{length, getD, take, drop, length-append, length-drop, take-append-drop}
+use borrow.Author.Tests.{eqb-true, eqb-false, eq-eqb, ne-eqb, ltb-true, lt-ltb, leb-true, le-leb}
+use lib.ListN.{length, getD, take, drop, take-append-drop}
 use lib.Seq.{drop-append-seam, drop-length}
-use lib.Dec.{eqb, ltb, leb}
-use Rattle.octets.specs.Numbers.{SHORT, TYPE, LENGTH, WIDTH, KEY, FAMILY}
+use Rattle.octets.specs.Numbers.{LENGTH, WIDTH, KEY, FAMILY}
 use Rattle.octets.specs.Choice.{pick}
-use Rattle.octets.specs.Outcome.{Outcome, given, refused, andThen}
-use Rattle.octets.specs.Octets.{AllOctets, part}
+use Rattle.octets.specs.Outcome.{given, refused}
+use Rattle.octets.specs.Octets.{AllOctets}
 use Rattle.octets.proofs.Outcomes.{pick-true, pick-false}
 use Rattle.octets.proofs.Tests.{goes, stops}
-use Rattle.octets.proofs.Inversions.{never, unless, only, passed, given-same}
-use Rattle.octets.proofs.Refusals.{refused-same, picked, stopped, Later, outcome}
-use Rattle.octets.proofs.OctetLists.{octets-take, octets-drop, octets-part}
-use Rattle.nlri.specs.Family.{familyBits, allowed, originatorSize}
-use Rattle.nlri.specs.Bodies.{Kind, distinguisher, sourceAs, source, group, originator, key, bodies, bodyOf}
+use Rattle.octets.proofs.Inversions.{never, only}
+use Rattle.octets.proofs.Refusals.{refused-same, picked, stopped, outcome}
+use Rattle.octets.proofs.OctetLists.{octets-drop}
+use Rattle.nlri.specs.Family.{familyBits, originatorSize}
+use Rattle.nlri.specs.Bodies.{Kind, distinguisher, sourceAs, source, group, originator, key}
 use Rattle.nlri.specs.Fields.{Fields, encodeField, KeyOf}
 use Rattle.nlri.specs.Reading.{fixedField, addressEnd, addressField, originatorField, fieldSize, sizesOf, keyField}
-use Rattle.nlri.specs.Statements.{Closes, FieldAt, AddressFault, missing, width, ends, Fault, Faulty, remains, here, later}
+use Rattle.nlri.specs.Statements.{Closes, AddressFault, missing, width, ends, Fault, Faulty, remains, here, later}
 use Rattle.nlri.proofs.Judged.{Judges, fieldsFrom, originator-given, field-sound, field-complete}
 use Rattle.nlri.proofs.Keys.{key-judges}
 

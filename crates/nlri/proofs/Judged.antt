@@ -1,16 +1,14 @@
 -- A field is read exactly where it stands encoded and well-formed, for every judge of keys.
 use mathlib.Core.Path.{_≡_, refl, sym, _∙_, ap, subst}
-use mathlib.Core.Bool.{Bool, true, false}
-use mathlib.Core.Logic.{_⊎_, inl, inr, ⊎-elim}
-use mathlib.Core.List.{List, [], _∷_, _++_, append-nil}
-use Prim.Native.Nat.{ℕ, zero, suc, _+_, _*_, _/_, _-_, _^_, _≤_, _<_}
+use mathlib.Core.Bool.{true}
+use mathlib.Core.Logic.{⊎-elim}
+use mathlib.Core.List.{List, _∷_, _++_, append-nil}
+use Prim.Native.Nat.{ℕ, suc, _+_, _*_, _/_, _-_, _≤_, _<_}
 use native.Mathlib.Omega.{arith}
-use borrow.Author.Tests.{eqb-true, eqb-false, eq-eqb, ne-eqb, ltb-false, le-ltb, leb-false, lt-leb}
+use borrow.Author.Tests.{eqb-true, ne-eqb, ltb-false, le-ltb, leb-false, lt-leb}
 use lib.ListN.{length, getD, take, drop, length-append, length-drop}
 use lib.Seq.{length-take-le, getD-take}
-use lib.Dec.{eqb, ltb, leb}
 use Rattle.octets.specs.Numbers.{KEY}
-use Rattle.octets.specs.Choice.{pick, both, either}
 use Rattle.octets.specs.Outcome.{Outcome, given, refused}
 use Rattle.octets.specs.Octets.{AllOctets, one, numberIn, bigEndian}
 use Rattle.octets.proofs.Outcomes.{pick-true, pick-false}

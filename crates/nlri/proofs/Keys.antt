@@ -1,27 +1,23 @@
 -- A key is read exactly where octets begin with an NLRI of type 1, 2 or 3 encoded and well-formed (document 01, "NLRI on the wire").
-use mathlib.Core.Path.{_≡_, refl, sym, _∙_, ap, subst}
-use mathlib.Core.Bool.{Bool, true, false}
+use mathlib.Core.Path.{_≡_, refl, sym, _∙_, ap}
 use mathlib.Core.Logic.{⊎-elim}
-use mathlib.Core.List.{List, [], _∷_, _++_}
-use Prim.Native.Nat.{ℕ, _+_, _*_, _/_, _≤_, _<_}
+use mathlib.Core.List.{List, _++_}
+use Prim.Native.Nat.{ℕ, _+_, _*_, _/_, _≤_}
 use native.Mathlib.Omega.{arith}
 use borrow.Author.Tests.{ltb-false, le-ltb}
 use lib.ListN.{length, take}
-use lib.Dec.{ltb}
 use Rattle.octets.specs.Numbers.{KEY}
-use Rattle.octets.specs.Choice.{pick}
 use Rattle.octets.specs.Outcome.{Outcome, given, refused, onOutcome}
 use Rattle.octets.specs.Octets.{AllOctets}
 use Rattle.octets.proofs.Outcomes.{pick-false}
 use Rattle.octets.proofs.Tests.{on-given}
 use Rattle.octets.proofs.Inversions.{never, unless, given-same, on-given-given}
 use Rattle.octets.proofs.Refusals.{refused-same, picked}
-use Rattle.nlri.specs.Bodies.{bodyOf}
 use Rattle.nlri.specs.Fields.{Fields, encodeNlri, NoKey, KeyOf}
-use Rattle.nlri.specs.Reading.{Laid, laidWith, noKey, keyField}
+use Rattle.nlri.specs.Reading.{laidWith, noKey, keyField}
 use Rattle.nlri.proofs.Table.{rowOf, known}
 use Rattle.nlri.proofs.Judged.{Judges}
-use Rattle.nlri.proofs.Whole.{LaidOut, laid-out, fieldsAt, laid-sound, laid-complete, nlri-octets}
+use Rattle.nlri.proofs.Whole.{laid-out, fieldsAt, laid-sound, laid-complete, nlri-octets}
 
 -- no octets are a key
 pub none-judges : Judges noKey NoKey

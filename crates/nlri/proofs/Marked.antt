@@ -5,7 +5,7 @@ use Rattle.octets.specs.Outcome.{onOutcome, andThen}
 use Rattle.octets.specs.Octets.{part, numberIn}
 use Rattle.nlri.specs.Family.{familyBits, allowed, originatorSize}
 use Rattle.nlri.specs.Bodies.{bodies, onBody, codeOf, sameKind, fieldIn}
-use Rattle.nlri.specs.Reading.{fixedField, addressEnd, addressField, originatorField, fieldSize, sizesOf, laidWith, noKey, keyField, laidAt, cut, fieldsOf, laidSingle, readNlri}
+use Rattle.nlri.specs.Reading.{fixedField, addressEnd, addressField, originatorField, fieldSize, sizesOf, laidWith, laidAt, cut, fieldsOf, laidSingle, readNlri}
 use Rattle.nlri.specs.Groups.{multicast, sourceSpecific, classOf}
 use Rattle.nlri.specs.Examples.{MarkedExamples}
 

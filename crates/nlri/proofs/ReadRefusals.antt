@@ -2,29 +2,28 @@
 use mathlib.Core.Path.{_≡_, refl, sym, _∙_, ap, subst}
 use mathlib.Core.Bool.{Bool, true, false}
 use mathlib.Core.Logic.{_⊎_, inl, inr, ⊎-elim, _≢_}
-use mathlib.Core.List.{List, [], _∷_, _++_}
-use Prim.Native.Nat.{ℕ, suc, _+_, _*_, _/_, _-_, _≤_, _<_}
+use mathlib.Core.List.{List, _++_}
+use Prim.Native.Nat.{ℕ, suc, _+_, _*_, _/_, _-_, _<_}
 use native.Mathlib.Omega.{arith}
-use borrow.Author.Tests.{eqb-false, ne-eqb, ltb-true, ltb-false, lt-ltb, le-ltb}
-use lib.ListN.{length, getD, take, drop, length-append, length-drop, take-append-drop}
-use lib.Dec.{eqb, ltb}
+use borrow.Author.Tests.{eqb-false, ne-eqb, ltb-true, ltb-false, lt-ltb}
+use lib.ListN.{length, getD, drop, length-append, length-drop, take-append-drop}
+use lib.Dec.{ltb}
 use Rattle.octets.specs.Numbers.{DONE, SHORT, TYPE, LENGTH, FAMILY}
-use Rattle.octets.specs.Choice.{pick}
-use Rattle.octets.specs.Outcome.{Outcome, given, refused, andThen}
+use Rattle.octets.specs.Outcome.{given, refused}
 use Rattle.octets.specs.Octets.{AllOctets, part}
 use Rattle.octets.proofs.Outcomes.{pick-true, pick-false}
 use Rattle.octets.proofs.Tests.{goes, stops}
 use Rattle.octets.proofs.Inversions.{never, opposite}
-use Rattle.octets.proofs.Refusals.{refused-same, picked, stopped, Later, outcome}
+use Rattle.octets.proofs.Refusals.{refused-same, picked, stopped, outcome}
 use Rattle.octets.proofs.OctetLists.{octets-part}
 use Rattle.nlri.specs.Family.{familyBits}
 use Rattle.nlri.specs.Bodies.{bodies, bodyOf}
 use Rattle.nlri.specs.Fields.{Fields, encodeBody, encodeNlri, WellFormed, KeyOf}
-use Rattle.nlri.specs.Reading.{Laid, keyField, laidWith, laidAt, laidSingle, fieldsOf, readNlri}
-use Rattle.nlri.specs.Statements.{ReadAs, Short, Typed, Faulty, FrontRefusal, short, badType, badBody, ReadRefusal, badFamily, front, after, ReadRefusals}
-use Rattle.nlri.proofs.Table.{listed, on-body, known, RowOf, rowOf, unlisted}
+use Rattle.nlri.specs.Reading.{Laid, keyField, laidWith, laidAt, laidSingle, readNlri}
+use Rattle.nlri.specs.Statements.{Short, Typed, Faulty, FrontRefusal, short, badType, badBody, ReadRefusal, badFamily, front, after, ReadRefusals}
+use Rattle.nlri.proofs.Table.{on-body, known, rowOf, unlisted}
 use Rattle.nlri.proofs.Judged.{family-octets}
-use Rattle.nlri.proofs.Whole.{LaidOut, laid-out, laid-sound, laid-complete, fieldsAt}
+use Rattle.nlri.proofs.Whole.{laid-out, laid-sound, laid-complete, fieldsAt}
 use Rattle.nlri.proofs.Keys.{key-judges}
 use Rattle.nlri.proofs.Acceptance.{acceptance}
 use Rattle.nlri.proofs.Faults.{body-refused, faulty-refuses, faulty-numbers, family-refused, family-refuses, good-family, family-good}

@@ -2,7 +2,7 @@
 use mathlib.Core.Path.{_≡_, refl, sym, _∙_, ap}
 use mathlib.Core.Bool.{Bool, true, false}
 use mathlib.Core.List.{List, [], _++_}
-use Prim.Native.Nat.{ℕ, suc, _*_, _≤_, _<_}
+use Prim.Native.Nat.{ℕ, _≤_}
 use native.Mathlib.Omega.{arith}
 use borrow.Author.Tests.{le-ltb, eqb-true, eqb-false}
 use lib.ListN.{length, take, drop}
@@ -15,7 +15,7 @@ use Rattle.octets.specs.Octets.{AllOctets, part}
 use Rattle.octets.proofs.Outcomes.{pick-cong, pick-true, pick-false}
 use Rattle.octets.proofs.Inversions.{passed}
 use Rattle.octets.proofs.OctetLists.{sized-same, sized-back, octets-sized}
-use Rattle.nlri.specs.Family.{familyBits, allowed}
+use Rattle.nlri.specs.Family.{familyBits}
 use Rattle.nlri.specs.Bodies.{Kind, distinguisher, sourceAs, source, group, originator, key, bodies, onBody, bodyOf, has}
 use Rattle.nlri.specs.Fields.{Fields, encodeField, encodeBody, encodeNlri, WellFormedField, WellFormed, KeyOf, restricted}
 use Rattle.nlri.specs.Reading.{readNlri}
@@ -93,6 +93,7 @@ key-spanned afi s f a e = go (eqb (f .type) 4) refl
   where
     r : ReadAs afi s f
     r = read-sound afi s f a e
+
     go : (b : Bool) → eqb (f .type) 4 ≡ b → take (length (f .key)) (drop (pick (eqb (f .type) 4) 2 0) s) ≡ f .key
     go true leaf =
         ap (λ (n : ℕ). take (length (f .key)) (drop n s)) (pick-true _ _ _ leaf) ∙ ap (λ (x : List ℕ). take (length (f .key)) (drop 2 x)) (r .encoded)

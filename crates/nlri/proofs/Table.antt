@@ -3,7 +3,7 @@ use mathlib.Core.Path.{_≡_, refl, sym, _∙_, ap, subst}
 use mathlib.Core.Bool.{Bool, true, false, not}
 use mathlib.Core.List.{List, [], _∷_, map}
 use mathlib.Core.Logic.{⊎-elim}
-use Prim.Native.Nat.{ℕ, zero, suc, _+_, _≤_, _<_}
+use Prim.Native.Nat.{ℕ, zero, suc, _+_, _≤_}
 use native.Mathlib.Omega.{arith}
 use borrow.Author.Tests.{eqb-true, eq-eqb, leb-true, not-true}
 use lib.ListN.{length}
@@ -132,7 +132,7 @@ rowOf type l =
       closed = both-true-right _ _ shape;
       most = leb-true _ _ (both-true-left _ _ size);
       plain = λ other.
-      ⊎-elim (λ leaf. absurd (other (eqb-true _ _ leaf))) (λ h. (not-true _ (both-true-left _ _ h), leb-true _ _ (both-true-right _ _ h))) (either-true _ _ (both-true-right _ _ size));
+          ⊎-elim (λ leaf. absurd (other (eqb-true _ _ leaf))) (λ h. (not-true _ (both-true-left _ _ h), leb-true _ _ (both-true-right _ _ h))) (either-true _ _ (both-true-right _ _ size));
     }
 
 pub unlisted : (type : ℕ) → ((1 ≤ type) × (type ≤ 7) → ⊥) → listed bodies type ≡ false

@@ -3,20 +3,18 @@ use mathlib.Core.Path.{_≡_, refl, sym, _∙_, ap, ap₂, subst}
 use mathlib.Core.Bool.{Bool, true, false}
 use mathlib.Core.Logic.{_⊎_, inl, inr, ⊎-elim}
 use mathlib.Core.List.{List, [], _∷_, _++_, append-assoc}
-use Prim.Native.Nat.{ℕ, zero, suc, _+_, _*_, _/_, _-_, _≤_, _<_}
+use Prim.Native.Nat.{ℕ, zero, suc, _+_, _*_, _/_, _≤_, _<_}
 use native.Mathlib.Omega.{arith}
-use native.Mathlib.Nat.{zero-add, add-zero}
 use borrow.Author.Tests.{eqb-true, eqb-false, eq-eqb, ne-eqb, ltb-false, lt-ltb, le-ltb}
-use lib.ListN.{length, getD, take, drop, length-append, length-drop, take-append-drop}
+use lib.ListN.{length, drop, length-append, length-drop, take-append-drop}
 use lib.Seq.{drop-drop, drop-append-seam}
 use lib.Dec.{eqb, ltb}
 use Rattle.octets.specs.Numbers.{DONE, SHORT, LONG, FAMILY}
-use Rattle.octets.specs.Choice.{pick}
-use Rattle.octets.specs.Outcome.{Outcome, given, refused, andThen, onOutcome}
+use Rattle.octets.specs.Outcome.{given, refused, onOutcome}
 use Rattle.octets.specs.Octets.{AllOctets}
 use Rattle.octets.proofs.Outcomes.{pick-true, pick-false}
 use Rattle.octets.proofs.Tests.{goes, stops, on-given, on-refused}
-use Rattle.octets.proofs.Inversions.{never, opposite, passed, given-same}
+use Rattle.octets.proofs.Inversions.{opposite, passed, given-same}
 use Rattle.octets.proofs.Refusals.{outcome}
 use Rattle.octets.proofs.OctetLists.{octets-drop, empty-list}
 use Rattle.nlri.specs.declared.layout.Layout.{Layout}
@@ -27,9 +25,9 @@ use Rattle.nlri.specs.Fields.{Fields, encodeBody, encodeNlri, WellFormed
 use Rattle.nlri.specs.Reading.{Laid, keyField, laidAt}
 use Rattle.nlri.specs.Layouts.{layoutOf, layoutAt}
 use Rattle.nlri.specs.Walking.{Stepped, readTo, stoppedAt, stepUnder, stepFrom, walkFrom, walkOf}
-use Rattle.nlri.specs.Statements.{FrontRefusal, Walks, stopping, going, encodeRun, AllWellFormed, RunEnd, nothing, refusal, RunOf, WalkRule}
+use Rattle.nlri.specs.Statements.{Walks, stopping, going, encodeRun, AllWellFormed, RunEnd, nothing, refusal, RunOf, WalkRule}
 use Rattle.nlri.proofs.Judged.{family-octets}
-use Rattle.nlri.proofs.Whole.{LaidOut, laid-out, laid-sound, laid-complete, fieldsAt, sizesIn}
+use Rattle.nlri.proofs.Whole.{laid-out, laid-sound, laid-complete, fieldsAt, sizesIn}
 use Rattle.nlri.proofs.Keys.{key-judges}
 use Rattle.nlri.proofs.Faults.{family-refuses}
 use Rattle.nlri.proofs.ReadRefusals.{readRefusals}

@@ -1,27 +1,25 @@
 -- Well-formed fields are written where there is space, and any others are refused by the one number that document 01 gives them.
-use mathlib.Core.Path.{_≡_, refl, sym, _∙_, ap, ap₂, subst}
+use mathlib.Core.Path.{_≡_, refl, sym, _∙_, ap, subst}
 use mathlib.Core.Bool.{Bool, true, false}
-use mathlib.Core.Logic.{_⊎_, inl, inr, ⊎-elim}
+use mathlib.Core.Logic.{⊎-elim}
 use mathlib.Core.List.{List, [], _∷_}
-use Prim.Native.Nat.{ℕ, _*_, _≤_, _<_}
+use Prim.Native.Nat.{ℕ, _≤_}
 use native.Mathlib.Omega.{arith}
 use borrow.Author.Tests.{ltb-true, ltb-false, lt-ltb, le-ltb}
 use lib.ListN.{length}
-use lib.Dec.{ltb}
-use Rattle.octets.specs.Numbers.{TYPE, WIDTH, KEY, SPACE, FAMILY}
-use Rattle.octets.specs.Choice.{pick, both, either}
-use Rattle.octets.specs.Outcome.{Outcome, given, refused, andThen}
-use Rattle.octets.specs.Octets.{AllOctets}
+use Rattle.octets.specs.Numbers.{WIDTH, KEY, SPACE}
+use Rattle.octets.specs.Choice.{both, either}
+use Rattle.octets.specs.Outcome.{Outcome, given, refused}
 use Rattle.octets.proofs.Outcomes.{pick-true, pick-false}
 use Rattle.octets.proofs.Tests.{goes, stops}
-use Rattle.octets.proofs.Inversions.{never, opposite, passed, unless, only, both-true-left, both-true-right}
-use Rattle.octets.proofs.Refusals.{refused-same, picked, stopped, Later, outcome}
-use Rattle.nlri.specs.Family.{familyBits, allowed, originatorSize}
-use Rattle.nlri.specs.Bodies.{Kind, distinguisher, sourceAs, source, group, originator, key, bodies, bodyOf, sameKind, has}
+use Rattle.octets.proofs.Inversions.{never, opposite, passed, unless, both-true-left, both-true-right}
+use Rattle.octets.proofs.Refusals.{refused-same, picked, stopped}
+use Rattle.nlri.specs.Family.{familyBits}
+use Rattle.nlri.specs.Bodies.{Kind, distinguisher, sourceAs, source, group, originator, key, bodyOf, sameKind, has}
 use Rattle.nlri.specs.Fields.{Fields, encodeNlri, WellFormed, KeyOf}
 use Rattle.nlri.specs.Writing.{widthFits, widthsFit, isKey, keyFits, keysFit, writeNlri}
 use Rattle.nlri.specs.Statements.{Held, Typed, WidthFault, WriteRefusal, badFamily, badType, badWidth, badKey, noSpace, WriteRefusals}
-use Rattle.nlri.proofs.Table.{listed, known, RowOf, rowOf, same-kind, has-first, has-later, unlisted}
+use Rattle.nlri.proofs.Table.{known, rowOf, same-kind, has-first, has-later, unlisted}
 use Rattle.nlri.proofs.Writes.{verdict, verdictOf, write-is, write-well, written, key-judged, key-fits, well-fits}
 use Rattle.nlri.proofs.Faults.{family-refused, family-refuses}
 

@@ -2,27 +2,27 @@
 use mathlib.Core.Path.{_≡_, refl, sym, _∙_, ap, ap₂, subst}
 use mathlib.Core.Bool.{Bool, true, false}
 use mathlib.Core.List.{List, [], _∷_, _++_, append-nil}
-use Prim.Native.Nat.{ℕ, suc, _+_, _*_, _/_, _^_, _≤_, _<_}
+use Prim.Native.Nat.{ℕ, _*_}
 use native.Mathlib.Omega.{arith}
-use borrow.Author.Tests.{eqb-true, eq-eqb, le-ltb}
-use lib.ListN.{length, take}
+use borrow.Author.Tests.{eqb-true, eq-eqb}
+use lib.ListN.{length}
 use lib.Seq.{take-all}
 use lib.Dec.{eqb, ltb}
 use Rattle.octets.specs.Numbers.{TYPE, WIDTH, KEY, SPACE}
-use Rattle.octets.specs.Choice.{pick, both, either}
+use Rattle.octets.specs.Choice.{pick, both}
 use Rattle.octets.specs.Outcome.{Outcome, given, refused, onOutcome, andThen}
 use Rattle.octets.specs.Octets.{AllOctets, bigEndian}
-use Rattle.octets.proofs.Outcomes.{and-cong, pick-true, pick-false, pick-cong}
-use Rattle.octets.proofs.Tests.{goes, on-given, both-true, either-left}
+use Rattle.octets.proofs.Outcomes.{and-cong, pick-true}
+use Rattle.octets.proofs.Tests.{goes, on-given, both-true}
 use Rattle.octets.proofs.Inversions.{unless, only, passed, given-same, opposite, both-true-left, both-true-right}
 use Rattle.nlri.specs.Family.{familyBits, allowed, originatorSize}
-use Rattle.nlri.specs.Bodies.{Kind, distinguisher, sourceAs, source, group, originator, key, bodies, onBody, bodyOf, sameKind, has}
+use Rattle.nlri.specs.Bodies.{Kind, distinguisher, sourceAs, source, group, originator, key, bodies, bodyOf, has}
 use Rattle.nlri.specs.Fields.{Fields, encodeAddress, encodeField, encodeBody, encodeNlri, WellFormedField, WellFormedBody, WellFormed, KeyOf, restricted}
 use Rattle.nlri.specs.Reading.{keyField}
 use Rattle.nlri.specs.Writing.{widthFits, widthsFit, isKey, keyFits, keysFit, writeNlri}
 use Rattle.nlri.specs.Statements.{Held}
 use Rattle.nlri.proofs.Table.{listed, on-body, known, rowOf, has-first, has-later}
-use Rattle.nlri.proofs.Judged.{Judges, family-octets}
+use Rattle.nlri.proofs.Judged.{family-octets}
 use Rattle.nlri.proofs.Keys.{key-judges}
 
 -- two fields records agree in a kind of field

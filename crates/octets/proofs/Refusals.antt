@@ -1,11 +1,11 @@
 -- What a refusal tells of the tests that led to it.
-use mathlib.Core.Path.{_≡_, refl, sym, _∙_}
+use mathlib.Core.Path.{_≡_, refl}
 use mathlib.Core.Bool.{Bool, true, false}
 use mathlib.Core.Logic.{_⊎_, inl, inr}
 use Prim.Native.Nat.{ℕ}
-use Rattle.octets.specs.Choice.{pick, both, either}
-use Rattle.octets.specs.Outcome.{Outcome, given, refused, andThen, onOutcome}
-use Rattle.octets.proofs.Inversions.{never, opposite}
+use Rattle.octets.specs.Choice.{pick, either}
+use Rattle.octets.specs.Outcome.{Outcome, given, refused, andThen}
+use Rattle.octets.proofs.Inversions.{opposite}
 
 pub refused-same : {A : Type 0} {m n : ℕ} → _≡_ {A = Outcome A} (refused m) (refused n) → m ≡ n
 refused-same p = cc
