@@ -2,27 +2,26 @@
 use mathlib.Core.Path.{_≡_, refl, sym, _∙_, ap, subst}
 use mathlib.Core.Bool.{Bool, true, false}
 use mathlib.Core.List.{List, [], _∷_, append-nil}
-use mathlib.Core.Logic.{_↔_, _⊎_, inl, inr, ⊎-elim}
 use Prim.Native.Nat.{ℕ, suc, _+_, _*_, _/_, _-_, _^_, _≤_, _<_}
 use native.Mathlib.Omega.{arith}
-use borrow.Author.Tests.{eqb-true, eq-eqb, ne-eqb}
+use borrow.Author.Tests.{eqb-true, eq-eqb}
 use lib.ListN.{length, take, drop, length-drop}
 use lib.Seq.{take-all}
 use Rattle.octets.specs.Choice.{pick, either}
 use Rattle.octets.specs.Outcome.{given, andThen}
 use Rattle.octets.specs.Octets.{AllOctets, part, numberIn, bigEndian}
-use Rattle.octets.proofs.Outcomes.{pick-true, pick-false}
-use Rattle.octets.proofs.Tests.{goes, both-true, either-left}
-use Rattle.octets.proofs.Inversions.{only, passed, given-same, opposite, either-true, both-true-left, both-true-right}
-use Rattle.octets.proofs.Refusals.{picked, either-second}
+use Rattle.octets.proofs.Outcomes.{pick-true}
+use Rattle.octets.proofs.Tests.{goes}
+use Rattle.octets.proofs.Inversions.{only, passed, given-same, opposite}
 use Rattle.octets.proofs.NetworkOrder.{number-of-big-endian}
-use Rattle.nlri.specs.Family.{familyBits, allowed, originatorSize}
+use Rattle.nlri.specs.Family.{familyBits}
 use Rattle.nlri.specs.Bodies.{Kind, distinguisher, sourceAs, source, group, originator, key, bodyOf, fieldIn, sameKind, has}
 use Rattle.nlri.specs.Fields.{Fields, encodeAddress, encodeField, encodeBody, encodeNlri, WellFormedField, WellFormedBody, WellFormed, KeyOf, restricted}
 use Rattle.nlri.specs.Reading.{Laid, keyField, laidAt, laidSingle, cut, fieldsOf, readNlri}
-use Rattle.nlri.specs.Statements.{ReadAs, Acceptance, Lengths}
+use Rattle.nlri.specs.Statements.{ReadAs, Acceptance}
 use Rattle.nlri.proofs.Table.{RowOf, rowOf, known, mostIn, field-of-map, lacks, same-kind}
-use Rattle.nlri.proofs.Judged.{fieldsFrom, family-octets}
+use Rattle.nlri.proofs.Judged.{fieldsFrom}
+use Rattle.nlri.proofs.Lengths.{family-octets}
 use Rattle.nlri.proofs.Whole.{piecesOf, sizesIn, cut-body, laid-out, fieldsAt, laid-sound, laid-complete, nlri-octets}
 use Rattle.nlri.proofs.Keys.{key-judges, key-octets}
 
@@ -142,30 +141,3 @@ acceptance =
       plain = λ afi family f bits w other. octets afi family bits f w 58 (row afi family bits f w .plain other .1) (omega arith) .0;
       same = λ afi family f g bits w v e. given-same (sym (read-encoded afi family f bits w) ∙ ap (readNlri afi) e ∙ read-encoded afi family g bits v);
     }
-
-family-exactly : (afi family : ℕ) → (familyBits afi ≡ given family) ↔ (((afi ≡ 1) × (family ≡ 32)) ⊎ ((afi ≡ 2) × (family ≡ 128)))
-unfolding familyBits
-family-exactly afi family = (
-  λ e.
-      ⊎-elim (λ one. inl (eqb-true _ _ (one .0), sym (given-same (one .1)))) (λ other. let p = only _ _ _ _ (other .1) in inr (eqb-true _ _ (p .0), sym (given-same (p .1)))) (picked _ _ _ _ e),
-  λ h.
-      ⊎-elim (λ one. pick-true _ _ _ (eq-eqb afi 1 (one .0)) ∙ ap given (sym (one .1)))
-      (λ two. pick-false _ _ _ (ne-eqb afi 1 (λ e. omega (arith, two .0))) ∙ pick-true _ _ _ (eq-eqb afi 2 (two .0)) ∙ ap given (sym (two .1))) h,
-)
-
-allowed-exactly : (family type bits : ℕ) → (allowed family type bits ≡ true) ↔ ((bits ≡ family) ⊎ ((type ≡ 3) × (bits ≡ 0)))
-unfolding allowed
-allowed-exactly family type bits = (
-  λ e. ⊎-elim (λ same. inl (eqb-true _ _ same)) (λ none. inr (eqb-true _ _ (both-true-left _ _ none), eqb-true _ _ (both-true-right _ _ none))) (either-true _ _ e),
-  λ h. ⊎-elim (λ same. either-left _ _ (eq-eqb bits family same)) (λ none. either-second _ _ (both-true _ _ (eq-eqb type 3 (none .0)) (eq-eqb bits 0 (none .1)))) h,
-)
-
-originator-exactly : (size : ℕ) → (originatorSize size ≡ true) ↔ ((size ≡ 4) ⊎ (size ≡ 16))
-unfolding originatorSize
-originator-exactly size = (
-  λ e. ⊎-elim (λ four. inl (eqb-true _ _ four)) (λ sixteen. inr (eqb-true _ _ sixteen)) (either-true _ _ e),
-  λ h. ⊎-elim (λ four. either-left _ _ (eq-eqb size 4 four)) (λ sixteen. either-second _ _ (eq-eqb size 16 sixteen)) h,
-)
-
-pub lengths : Lengths
-lengths = record { families = family-exactly; addresses = allowed-exactly; originators = originator-exactly }

@@ -14,7 +14,7 @@ use Rattle.octets.specs.Outcome.{given, refused}
 use Rattle.octets.specs.Octets.{AllOctets}
 use Rattle.octets.proofs.Outcomes.{pick-true, pick-false}
 use Rattle.octets.proofs.Tests.{goes, stops}
-use Rattle.octets.proofs.Inversions.{never, only}
+use Rattle.octets.proofs.Inversions.{never}
 use Rattle.octets.proofs.Refusals.{refused-same, picked, stopped, outcome}
 use Rattle.octets.proofs.OctetLists.{octets-drop}
 use Rattle.nlri.specs.Family.{familyBits, originatorSize}
@@ -161,13 +161,3 @@ family-refused afi n e =
 pub family-refuses : (afi : ℕ) → (afi ≡ 1 → ⊥) → (afi ≡ 2 → ⊥) → familyBits afi ≡ refused FAMILY
 unfolding familyBits
 family-refuses afi one two = pick-false _ _ _ (ne-eqb afi 1 one) ∙ pick-false _ _ _ (ne-eqb afi 2 two)
-
--- a family is that of AFI 1 or 2
-pub good-family : (afi family : ℕ) → familyBits afi ≡ given family → (afi ≡ 1) ⊎ (afi ≡ 2)
-unfolding familyBits
-good-family afi family e = ⊎-elim (λ one. inl (eqb-true _ _ (one .0))) (λ other. inr (eqb-true _ _ (only _ _ _ _ (other .1) .0))) (picked _ _ _ _ e)
-
-pub family-good : (afi : ℕ) → (afi ≡ 1) ⊎ (afi ≡ 2) → (family : ℕ) × (familyBits afi ≡ given family)
-unfolding familyBits
-family-good afi (inl e) = (32, pick-true _ _ _ (eq-eqb afi 1 e))
-family-good afi (inr e) = (128, pick-false _ _ _ (ne-eqb afi 1 (λ q. omega arith)) ∙ pick-true _ _ _ (eq-eqb afi 2 e))

@@ -1,27 +1,26 @@
 -- A field is read exactly where it stands encoded and well-formed, for every judge of keys.
-use mathlib.Core.Path.{_≡_, refl, sym, _∙_, ap, subst}
+use mathlib.Core.Path.{_≡_, sym, _∙_, ap, subst}
 use mathlib.Core.Bool.{true}
-use mathlib.Core.Logic.{⊎-elim}
 use mathlib.Core.List.{List, _∷_, _++_, append-nil}
 use Prim.Native.Nat.{ℕ, suc, _+_, _*_, _/_, _-_, _≤_, _<_}
 use native.Mathlib.Omega.{arith}
-use borrow.Author.Tests.{eqb-true, ne-eqb, ltb-false, le-ltb, leb-false, lt-leb}
+use borrow.Author.Tests.{ne-eqb, ltb-false, le-ltb, leb-false, lt-leb}
 use lib.ListN.{length, getD, take, drop, length-append, length-drop}
 use lib.Seq.{length-take-le, getD-take}
 use Rattle.octets.specs.Numbers.{KEY}
 use Rattle.octets.specs.Outcome.{Outcome, given, refused}
 use Rattle.octets.specs.Octets.{AllOctets, one, numberIn, bigEndian}
 use Rattle.octets.proofs.Outcomes.{pick-true, pick-false}
-use Rattle.octets.proofs.Inversions.{unless, only, given-same, either-true, both-true-right}
-use Rattle.octets.proofs.Refusals.{picked}
+use Rattle.octets.proofs.Inversions.{unless, only, given-same}
 use Rattle.octets.proofs.OctetLists.{octets-take, octets-drop, front-rest, number-below}
 use Rattle.octets.proofs.NetworkOrder.{big-endian-length, big-endian-octets, big-endian-of-number}
-use Rattle.nlri.specs.Family.{familyBits, allowed, originatorSize}
+use Rattle.nlri.specs.Family.{allowed, originatorSize}
 use Rattle.nlri.specs.Bodies.{Kind, distinguisher, sourceAs, source, group, originator, key}
 use Rattle.nlri.specs.Fields.{Fields, encodeAddress, encodeField, WellFormedField}
 use Rattle.nlri.specs.Reading.{fixedField, addressEnd, addressField, originatorField, fieldSize}
 use Rattle.nlri.specs.Statements.{Closes}
 use Rattle.nlri.proofs.Table.{most}
+use Rattle.nlri.proofs.Lengths.{whole-octets, address-most, originator-most}
 
 -- a judge of keys that says of octets how many a key at their front takes
 pub record Judges (judge : List ℕ → Outcome ℕ) (Key : List ℕ → Type 0) : Type 0 where
@@ -52,14 +51,6 @@ fixed-given m n s e =
 fixed-stands : (m : ℕ) (x t : List ℕ) → length x ≡ m → fixedField m (x ++ t) ≡ given (length x)
 unfolding fixedField
 fixed-stands m x t e = pick-false _ _ _ (le-ltb (length (x ++ t)) m (simp length-append (omega arith))) ∙ ap given (sym e)
-
--- whole octets: a length that is allowed is eight times a number of octets
-whole-octets : (family type bits : ℕ) → 8 * (family / 8) ≡ family → allowed family type bits ≡ true → 8 * (bits / 8) ≡ bits
-unfolding allowed
-whole-octets family type bits whole e =
-    ⊎-elim (λ same. let h : bits ≡ family = eqb-true bits family same in subst (λ (n : ℕ). 8 * (n / 8) ≡ n) (sym h) whole)
-    (λ none. let h : bits ≡ 0 = eqb-true bits 0 (both-true-right _ _ none) in omega arith)
-    (either-true _ _ e)
 
 -- an address read, as its octets encoded
 pub record AddressRead (family type : ℕ) (piece : List ℕ) : Type 0 where
@@ -99,22 +90,9 @@ pub originator-given : (n : ℕ) (s : List ℕ) → originatorField s ≡ given 
 unfolding originatorField
 originator-given n s e = let p = only _ _ _ _ e in (p .0, sym (given-same (p .1)))
 
--- sizes
-pub address-most : (family type : ℕ) (x : List ℕ) → family ≤ 128 → allowed family type (8 * length x) ≡ true → suc (length x) ≤ 17
-unfolding allowed
-address-most family type x small e =
-    ⊎-elim (λ same. let h : 8 * length x ≡ family = eqb-true _ _ same in omega arith)
-    (λ none. let h : 8 * length x ≡ 0 = eqb-true _ _ (both-true-right _ _ none) in omega arith)
-    (either-true _ _ e)
-
 address-octets : (family type : ℕ) (x : List ℕ) → family ≤ 128 → allowed family type (8 * length x) ≡ true → AllOctets x → AllOctets (encodeAddress x)
 unfolding encodeAddress
 address-octets family type x small e a = let h : 8 * length x < 256 = omega (arith, address-most family type x small e) in one h a
-
-pub originator-most : (n : ℕ) → originatorSize n ≡ true → n ≤ 16
-unfolding originatorSize
-originator-most n e =
-    ⊎-elim (λ four. let h : n ≡ 4 = eqb-true _ _ four in omega arith) (λ sixteen. let h : n ≡ 16 = eqb-true _ _ sixteen in omega arith) (either-true _ _ e)
 
 module _ (judge : List ℕ → Outcome ℕ) (Key : List ℕ → Type 0) (judges : Judges judge Key) (family : ℕ) (whole : 8 * (family / 8) ≡ family) where
   -- a field read is well-formed, and is its encoding
@@ -175,13 +153,3 @@ module _ (judge : List ℕ → Outcome ℕ) (Key : List ℕ → Type 0) (judges 
   field-octets ofKey small f group h = address-octets family (f .type) (f .group) small (h .0) (h .1)
   field-octets ofKey small f originator h = h .1
   field-octets ofKey small f key h = ofKey (f .key) h
-
--- the bits of a family are those of whole octets, and at most 128
-pub family-octets : (afi family : ℕ) → familyBits afi ≡ given family → (8 * (family / 8) ≡ family) × (family ≤ 128)
-unfolding familyBits
-family-octets afi family e =
-    ⊎-elim (λ one. small 32 (given-same (one .1)) refl (omega arith))
-    (λ other. small 128 (given-same (only _ _ _ _ (other .1) .1)) refl (omega arith)) (picked _ _ _ _ e)
-  where
-    small : (n : ℕ) → n ≡ family → 8 * (n / 8) ≡ n → n ≤ 128 → (8 * (family / 8) ≡ family) × (family ≤ 128)
-    small n same whole h = subst (λ (m : ℕ). (8 * (m / 8) ≡ m) × (m ≤ 128)) same (whole, h)

@@ -4,6 +4,7 @@ pub mod Sizes
 pub mod Rows
 pub mod Fronts
 pub mod Table
+pub mod Lengths
 pub mod Judged
 pub mod Whole
 pub mod Keys

@@ -22,11 +22,11 @@ use Rattle.nlri.specs.Fields.{Fields, encodeBody, encodeNlri, WellFormed
 use Rattle.nlri.specs.Reading.{Laid, keyField, laidWith, laidAt, laidSingle, readNlri}
 use Rattle.nlri.specs.Statements.{Short, Typed, Faulty, FrontRefusal, short, badType, badBody, ReadRefusal, badFamily, front, after, ReadRefusals}
 use Rattle.nlri.proofs.Table.{on-body, known, rowOf, unlisted}
-use Rattle.nlri.proofs.Judged.{family-octets}
+use Rattle.nlri.proofs.Lengths.{good-family, family-good, family-octets}
 use Rattle.nlri.proofs.Whole.{laid-out, laid-sound, laid-complete, fieldsAt}
 use Rattle.nlri.proofs.Keys.{key-judges}
 use Rattle.nlri.proofs.Acceptance.{acceptance}
-use Rattle.nlri.proofs.Faults.{body-refused, faulty-refuses, faulty-numbers, family-refused, family-refuses, good-family, family-good}
+use Rattle.nlri.proofs.Faults.{body-refused, faulty-refuses, faulty-numbers, family-refused, family-refuses}
 
 module _ (afi family : ℕ) (bits : familyBits afi ≡ given family) (s : List ℕ) (a : AllOctets s) where
   whole : 8 * (family / 8) ≡ family

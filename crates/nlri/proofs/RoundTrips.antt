@@ -25,7 +25,7 @@ use Rattle.nlri.specs.declared.fields.Nlri.{Nlri}
 use Rattle.nlri.specs.Statements.{ReadAs, Held, HeldNlri, RoundTrips}
 use Rattle.nlri.proofs.Table.{rowOf, known}
 use Rattle.nlri.proofs.ReadRefusals.{readRefusals, not-done}
-use Rattle.nlri.proofs.Judged.{address-most, originator-most, family-octets}
+use Rattle.nlri.proofs.Lengths.{address-most, originator-most, family-octets}
 use Rattle.nlri.proofs.Acceptance.{fields-same, field-in-body, read-sound, read-encoded}
 use Rattle.nlri.proofs.Writes.{write-is, write-well, write-restricted, written}
 

@@ -26,7 +26,7 @@ use Rattle.nlri.specs.Reading.{Laid, keyField, laidAt}
 use Rattle.nlri.specs.Layouts.{layoutOf, layoutAt}
 use Rattle.nlri.specs.Walking.{Stepped, readTo, stoppedAt, stepUnder, stepFrom, walkFrom, walkOf}
 use Rattle.nlri.specs.Statements.{Walks, stopping, going, encodeRun, AllWellFormed, RunEnd, nothing, refusal, RunOf, WalkRule}
-use Rattle.nlri.proofs.Judged.{family-octets}
+use Rattle.nlri.proofs.Lengths.{family-octets}
 use Rattle.nlri.proofs.Whole.{laid-out, laid-sound, laid-complete, fieldsAt, sizesIn}
 use Rattle.nlri.proofs.Keys.{key-judges}
 use Rattle.nlri.proofs.Faults.{family-refuses}

@@ -22,7 +22,7 @@ use Rattle.nlri.specs.Reading.{keyField}
 use Rattle.nlri.specs.Writing.{widthFits, widthsFit, isKey, keyFits, keysFit, writeNlri}
 use Rattle.nlri.specs.Statements.{Held}
 use Rattle.nlri.proofs.Table.{listed, on-body, known, rowOf, has-first, has-later}
-use Rattle.nlri.proofs.Judged.{family-octets}
+use Rattle.nlri.proofs.Lengths.{family-octets}
 use Rattle.nlri.proofs.Keys.{key-judges}
 
 -- two fields records agree in a kind of field

@@ -30,12 +30,6 @@ pub front-rest : (s : List ℕ) → 1 ≤ length s → s ≡ getD s 0 0 ∷ drop
 front-rest [] h = absurd (omega arith)
 front-rest (x ∷ s) h = refl
 
--- a list by its first two elements and the rest
-pub front-two : (s : List ℕ) → 2 ≤ length s → s ≡ getD s 0 0 ∷ (getD s 1 0 ∷ drop 2 s)
-front-two [] h = absurd (omega arith)
-front-two (x ∷ []) h = absurd (omega arith)
-front-two (x ∷ (y ∷ s)) h = refl
-
 -- no elements
 pub empty-list : {A : Type 0} (s : List A) → length s ≡ 0 → s ≡ []
 empty-list [] h = refl
