@@ -16,4 +16,5 @@ pub mod ReadRefusals
 pub mod WriteRefusals
 pub mod Walks
 pub mod Marked
+pub mod Classes
 pub mod Theorems

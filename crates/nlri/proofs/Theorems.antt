@@ -6,3 +6,4 @@ pub use Rattle.nlri.proofs.ReadRefusals.{readRefusals}
 pub use Rattle.nlri.proofs.WriteRefusals.{writeRefusals}
 pub use Rattle.nlri.proofs.Walks.{walkRule}
 pub use Rattle.nlri.proofs.Marked.{markedExamples}
+pub use Rattle.nlri.proofs.Classes.{groupRule}

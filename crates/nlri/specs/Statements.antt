@@ -5,7 +5,7 @@ use mathlib.Core.Bool.{true, false}
 use mathlib.Core.List.{List, [], _∷_, _++_}
 use mathlib.Core.Logic.{_↔_, _≢_, _⊎_}
 use lib.ListN.{length, getD, take}
-use Rattle.octets.specs.Numbers.{DONE, SHORT, TYPE, LENGTH, WIDTH, KEY, LONG, FAMILY, SPACE}
+use Rattle.octets.specs.Numbers.{DONE, SHORT, TYPE, LENGTH, WIDTH, KEY, LONG, FAMILY, FLOW, SPACE}
 use Rattle.octets.specs.Outcome.{given, refused}
 use Rattle.octets.specs.Octets.{AllOctets, part}
 use Rattle.nlri.specs.Family.{familyBits, allowed, originatorSize}
@@ -14,6 +14,7 @@ use Rattle.nlri.specs.Fields.{Fields, encodeField, encodeNlri, WellForme
 use Rattle.nlri.specs.Reading.{laidAt, readNlri}
 use Rattle.nlri.specs.Writing.{writeNlri}
 use Rattle.nlri.specs.Walking.{stepFrom, walkOf}
+use Rattle.nlri.specs.Groups.{ASM, SSM, classOf}
 use Rattle.nlri.specs.declared.fields.Nlri.{Nlri}
 use Rattle.nlri.specs.declared.walk.Walked.{Walked}
 use Rattle.nlri.specs.Answers.{nlriOf, fieldsIn, keySpan, readAnswer}
@@ -229,3 +230,20 @@ pub record WalkRule : Type 0 where
       → (stepFrom afi run at .cursor ≡ at + (2 + stepFrom afi run at .layout .length)) × (at < stepFrom afi run at .cursor) × (stepFrom afi run at .cursor ≤ length run)
   -- any other hands back the cursor that it was given
   pub stays : (afi : ℕ) (run : List ℕ) (at : ℕ) → stepFrom afi run at .read ≡ false → stepFrom afi run at .cursor ≡ at
+
+-- "Which route a flow takes": 224.0.0.0/4, FF00::/8
+pub data Multicast : (afi : ℕ) → List ℕ → Type 0 where
+  ipv4 : {g : List ℕ} → length g ≡ 4 → 224 ≤ getD g 0 0 → getD g 0 0 ≤ 239 → Multicast 1 g
+  ipv6 : {g : List ℕ} → length g ≡ 16 → getD g 0 0 ≡ 255 → Multicast 2 g
+
+-- 232.0.0.0/8, FF3x::/32
+pub data SourceSpecific : (afi : ℕ) → List ℕ → Type 0 where
+  ipv4 : {g : List ℕ} → length g ≡ 4 → getD g 0 0 ≡ 232 → SourceSpecific 1 g
+  ipv6 : {g : List ℕ} → length g ≡ 16 → getD g 0 0 ≡ 255 → getD g 1 0 / 16 ≡ 3 → getD g 2 0 ≡ 0 → getD g 3 0 ≡ 0 → SourceSpecific 2 g
+
+-- the class of a group: FAMILY, FLOW, SSM, and ASM for any other multicast group
+pub record GroupRule : Type 0 where
+  pub family : (afi : ℕ) (g : List ℕ) → (classOf afi g ≡ refused FAMILY) ↔ ((afi ≢ 1) × (afi ≢ 2))
+  pub flow : (afi : ℕ) (g : List ℕ) → (classOf afi g ≡ refused FLOW) ↔ (((afi ≡ 1) ⊎ (afi ≡ 2)) × (Multicast afi g → ⊥))
+  pub ssm : (afi : ℕ) (g : List ℕ) → (classOf afi g ≡ given SSM) ↔ SourceSpecific afi g
+  pub asm : (afi : ℕ) (g : List ℕ) → (classOf afi g ≡ given ASM) ↔ (Multicast afi g × (SourceSpecific afi g → ⊥))
