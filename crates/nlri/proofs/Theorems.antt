@@ -4,6 +4,6 @@ pub use Rattle.nlri.proofs.Acceptance.{acceptance}
 pub use Rattle.nlri.proofs.RoundTrips.{roundTrips}
 pub use Rattle.nlri.proofs.ReadRefusals.{readRefusals}
 pub use Rattle.nlri.proofs.WriteRefusals.{writeRefusals}
-pub use Rattle.nlri.proofs.Walks.{walkRule}
+pub use Rattle.nlri.proofs.Walks.{stepRule, walkRule}
 pub use Rattle.nlri.proofs.Marked.{markedExamples}
 pub use Rattle.nlri.proofs.Classes.{groupRule}

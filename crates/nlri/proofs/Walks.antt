@@ -3,13 +3,14 @@ use mathlib.Core.Path.{_≡_, refl, sym, _∙_, ap, ap₂, subst}
 use mathlib.Core.Bool.{Bool, true, false}
 use mathlib.Core.Logic.{_⊎_, inl, inr, ⊎-elim}
 use mathlib.Core.List.{List, [], _∷_, _++_, append-assoc}
-use Prim.Native.Nat.{ℕ, zero, suc, _+_, _*_, _/_, _≤_, _<_}
+use Prim.Native.Nat.{ℕ, zero, suc, _+_, _*_, _/_, _-_, _≤_, _<_}
 use native.Mathlib.Omega.{arith}
 use borrow.Author.Tests.{eqb-true, eqb-false, eq-eqb, ne-eqb, ltb-false, lt-ltb, le-ltb}
 use lib.ListN.{length, drop, length-append, length-drop, take-append-drop}
 use lib.Seq.{drop-drop, drop-append-seam}
 use lib.Dec.{eqb, ltb}
 use Rattle.octets.specs.Numbers.{DONE, SHORT, LONG, FAMILY}
+use Rattle.octets.specs.Choice.{pick}
 use Rattle.octets.specs.Outcome.{given, refused, onOutcome}
 use Rattle.octets.specs.Octets.{AllOctets}
 use Rattle.octets.proofs.Outcomes.{pick-true, pick-false}
@@ -20,13 +21,14 @@ use Rattle.octets.proofs.OctetLists.{octets-drop, empty-list}
 use Rattle.nlri.specs.declared.layout.Layout.{Layout}
 use Rattle.nlri.specs.declared.walk.Walked.{Walked}
 use Rattle.nlri.specs.Family.{familyBits}
-use Rattle.nlri.specs.Bodies.{bodyOf}
-use Rattle.nlri.specs.Fields.{Fields, encodeBody, encodeNlri, WellFormed, KeyOf}
+use Rattle.nlri.specs.Bodies.{Kind, source, group, originator, key, bodyOf, fieldIn, has}
+use Rattle.nlri.specs.Fields.{Fields, encodeAddress, encodeField, encodeBody, encodeNlri, restricted, WellFormed, KeyOf}
 use Rattle.nlri.specs.Reading.{Laid, keyField, laidAt}
 use Rattle.nlri.specs.Layouts.{layoutOf, layoutAt}
 use Rattle.nlri.specs.Walking.{Stepped, readTo, stoppedAt, stepUnder, stepFrom, walkFrom, walkOf}
-use Rattle.nlri.specs.Statements.{Walks, stopping, going, encodeRun, AllWellFormed, RunEnd, nothing, refusal, RunOf, WalkRule}
+use Rattle.nlri.specs.Statements.{layoutFor, StepRule, Walks, stopping, going, encodeRun, AllWellFormed, RunEnd, nothing, refusal, RunOf, WalkRule}
 use Rattle.nlri.proofs.Lengths.{family-octets}
+use Rattle.nlri.proofs.Table.{field-of-map}
 use Rattle.nlri.proofs.Whole.{laid-out, laid-sound, laid-complete, fieldsAt, sizesIn}
 use Rattle.nlri.proofs.Keys.{key-judges}
 use Rattle.nlri.proofs.Faults.{family-refuses}
@@ -158,16 +160,38 @@ encoded-length : (f : Fields) → 2 + length (encodeBody f (bodyOf (f .type))) �
 unfolding encodeNlri
 encoded-length f = omega arith
 
+laidOf : Fields → Laid
+laidOf f = record { type = f .type; length = length (encodeBody f (bodyOf (f .type))); body = bodyOf (f .type); sizes = sizesIn f (bodyOf (f .type)) }
+
+kept-address : (b : Bool) (x : List ℕ) → pick b (length (encodeAddress x)) 0 - 1 ≡ length (pick b x [])
+unfolding pick encodeAddress
+kept-address true x = omega arith
+kept-address false x = refl
+
+kept-size : (b : Bool) (x : List ℕ) → pick b (length x) 0 ≡ length (pick b x [])
+unfolding pick
+kept-size true x = refl
+kept-size false x = refl
+
+layout-is : (f : Fields) → layoutOf (laidOf f) ≡ layoutFor f
+unfolding layoutOf laidOf layoutFor encodeField encodeNlri restricted
+layout-is f =
+    let body : List Kind = bodyOf (f .type) in
+    let at : (kind : Kind) → fieldIn 0 kind body (sizesIn f body) ≡ pick (has kind body) (length (encodeField f kind)) 0 = λ kind. field-of-map 0 (λ k. length (encodeField f k)) kind body in
+    let len : length (encodeBody f body) ≡ suc (suc (length (encodeBody f body))) - 2 = omega arith in
+    let s = ap (λ (n : ℕ). n - 1) (at source) ∙ kept-address (has source body) (f .source) in
+    let g = ap (λ (n : ℕ). n - 1) (at group) ∙ kept-address (has group body) (f .group) in
+    let o = at originator ∙ kept-size (has originator body) (f .originator) in
+    let k = at key ∙ kept-size (has key body) (f .key) in
+    λ i. record { «route_type» = f .type; length = len i; source = s i; group = g i; originator = o i; key = k i }
+
 module _ (afi family : ℕ) (bits : familyBits afi ≡ given family) where
   whole : 8 * (family / 8) ≡ family
   whole = family-octets afi family bits .0
 
-  laidOf : Fields → Laid
-  laidOf f = record { type = f .type; length = length (encodeBody f (bodyOf (f .type))); body = bodyOf (f .type); sizes = sizesIn f (bodyOf (f .type)) }
-
-  layout-complete : (f : Fields) (t : List ℕ) → WellFormed family f → layoutAt family (encodeNlri f ++ t) ≡ given (layoutOf (laidOf f))
+  layout-complete : (f : Fields) (t : List ℕ) → WellFormed family f → layoutAt family (encodeNlri f ++ t) ≡ given (layoutFor f)
   unfolding layoutAt laidAt laidOf
-  layout-complete f t w = sym (goes _ _ _ _ (laid-complete (keyField family) (KeyOf family) (key-judges family whole) family whole f t (w .typed) (w .body)) refl)
+  layout-complete f t w = sym (goes _ _ _ _ (laid-complete (keyField family) (KeyOf family) (key-judges family whole) family whole f t (w .typed) (w .body)) (ap given (sym (layout-is f))))
 
   layout-refused : (s : List ℕ) (n : ℕ) → laidAt family s ≡ refused n → layoutAt family s ≡ refused n
   unfolding layoutAt
@@ -180,19 +204,26 @@ module _ (afi family : ℕ) (bits : familyBits afi ≡ given family) where
       sym (step-under afi family run at bits) ∙ under-reads family run at short (omega arith)
       ∙ sym (on-refused _ _ _ _ _ (ap (layoutAt family) here ∙ layout-refused t n (readRefusals .front afi family t n bits a .1 why)) refl)
 
+  step-reads : (run : List ℕ) (at : ℕ) (f : Fields) (t : List ℕ) → length run ≤ 4096 → WellFormed family f → drop at run ≡ encodeNlri f ++ t
+      → stepFrom afi run at ≡ readTo (layoutFor f) (at + length (encodeNlri f))
+  unfolding layoutFor
+  step-reads run at f t short w now =
+      let len : 2 + (length (encodeNlri f) - 2) ≡ length (encodeNlri f) = omega (arith, encoded-length f) in
+      let before : at < length run = omega (arith, encoded-length f, sym (length-drop at run) ∙ ap length now ∙ length-append (encodeNlri f) t) in
+      sym (step-under afi family run at bits) ∙ under-reads family run at short before
+      ∙ sym (on-given _ _ _ _ _ (ap (layoutAt family) now ∙ layout-complete f t w) (ap (λ (m : ℕ). readTo (layoutFor f) (at + m)) (sym len)))
+
   walks-run : (run : List ℕ) (t : List ℕ) (n : ℕ) → length run ≤ 4096 → AllOctets t → RunEnd family t n → (fs : List Fields) (at count : ℕ) → AllWellFormed family fs
       → at + length (encodeRun fs ++ t) ≡ length run → drop at run ≡ encodeRun fs ++ t → Walks afi run at count (record { number = n; count = count + length fs; offset = at + length (encodeRun fs) })
-  unfolding encodeRun laidOf layoutOf readTo
+  unfolding encodeRun readTo
   walks-run run t n short a end [] at count w size here =
       stops-at afi run at count n (end-stops run at t n short a end size here) _ (walked-same n _ _ _ _ (omega arith) (omega arith))
   walks-run run t n short a end (f ∷ fs) at count w size here =
       let rest : List ℕ = encodeRun fs ++ t in
       let now : drop at run ≡ encodeNlri f ++ rest = here ∙ append-assoc (encodeNlri f) (encodeRun fs) t in
       let total : length ((encodeNlri f ++ encodeRun fs) ++ t) ≡ length (encodeNlri f) + length rest = ap length (append-assoc (encodeNlri f) (encodeRun fs) t) ∙ length-append (encodeNlri f) rest in
-      let len : 2 + length (encodeBody f (bodyOf (f .type))) ≡ length (encodeNlri f) = encoded-length f in
-      let is : stepFrom afi run at ≡ readTo (layoutOf (laidOf f)) (at + (2 + layoutOf (laidOf f) .length)) =
-      sym (step-under afi family run at bits) ∙ under-reads family run at short (omega arith) ∙ sym (on-given _ _ _ _ _ (ap (layoutAt family) now ∙ layout-complete f rest (w .0)) refl) in
-      let cursor : stepFrom afi run at .cursor ≡ at + length (encodeNlri f) = ap (λ (x : Stepped). x .cursor) is ∙ ap (λ (m : ℕ). at + m) len in
+      let is : stepFrom afi run at ≡ readTo (layoutFor f) (at + length (encodeNlri f)) = step-reads run at f rest short (w .0) now in
+      let cursor : stepFrom afi run at .cursor ≡ at + length (encodeNlri f) = ap (λ (x : Stepped). x .cursor) is in
       let later : drop (at + length (encodeNlri f)) run ≡ rest = sym (drop-drop (length (encodeNlri f)) at run) ∙ ap (drop (length (encodeNlri f))) now ∙ drop-append-seam (encodeNlri f) rest in
       let ih = walks-run run t n short a end fs (at + length (encodeNlri f)) (count + 1) (w .1) (omega arith) later in
       subst (Walks afi run at count) (walked-same n _ _ _ _ (omega arith) (rw length-append (omega arith)))
@@ -243,6 +274,21 @@ bad-family : (afi : ℕ) (run : List ℕ) → (afi ≡ 1 → ⊥) → (afi ≡ 2
 bad-family afi run one two =
     walks-once afi run 0 0 _ _ (iterates afi run) (stops-at afi run 0 0 FAMILY (step-refused afi run 0 (family-refuses afi one two)) _ refl)
 
+pub stepRule : StepRule
+stepRule =
+    record {
+      family = λ afi run at one two. step-refused afi run at (family-refuses afi one two);
+      long = λ afi family run at bits h. sym (step-under afi family run at bits) ∙ under-long family run at (lt-ltb 4096 (length run) h);
+      ends = λ afi family run at bits short e. sym (step-under afi family run at bits) ∙ under-ends family run at short e;
+      past = λ afi family run at bits short h. sym (step-under afi family run at bits) ∙ under-past family run at short (λ e. omega arith) (lt-ltb (length run) at h);
+      refuses = λ afi family run at n bits a short before why.
+          let some : 0 < length (drop at run) = rw length-drop (omega arith) in
+          end-stops afi family bits run at (drop at run) n short (octets-drop at a) (refusal some why) (rw length-drop (omega arith)) refl;
+      reads = λ afi family run at f t bits short w now. step-reads afi family bits run at f t short w now;
+      moves = step-moves;
+      stays = step-stays;
+    }
+
 pub walkRule : WalkRule
 walkRule =
     record {
@@ -252,6 +298,4 @@ walkRule =
       long = λ afi family run bits h. long-run afi family bits run h;
       iterates = iterates;
       only = walks-once;
-      moves = step-moves;
-      stays = step-stays;
     }

@@ -4,7 +4,7 @@ use mathlib.Core.Path.{_≡_}
 use mathlib.Core.Bool.{true, false}
 use mathlib.Core.List.{List, [], _∷_, _++_}
 use mathlib.Core.Logic.{_↔_, _≢_, _⊎_}
-use lib.ListN.{length, getD, take}
+use lib.ListN.{length, getD, take, drop}
 use Rattle.octets.specs.Numbers.{DONE, SHORT, TYPE, LENGTH, WIDTH, KEY, LONG, FAMILY, FLOW, SPACE}
 use Rattle.octets.specs.Outcome.{given, refused}
 use Rattle.octets.specs.Octets.{AllOctets, part}
@@ -13,9 +13,10 @@ use Rattle.nlri.specs.Bodies.{Kind, distinguisher, sourceAs, source, gro
 use Rattle.nlri.specs.Fields.{Fields, encodeField, encodeNlri, WellFormedField, WellFormed, KeyOf, restricted}
 use Rattle.nlri.specs.Reading.{laidAt, readNlri}
 use Rattle.nlri.specs.Writing.{writeNlri}
-use Rattle.nlri.specs.Walking.{stepFrom, walkOf}
+use Rattle.nlri.specs.Walking.{readTo, stoppedAt, stepFrom, walkOf}
 use Rattle.nlri.specs.Groups.{ASM, SSM, classOf}
 use Rattle.nlri.specs.declared.fields.Nlri.{Nlri}
+use Rattle.nlri.specs.declared.layout.Layout.{Layout}
 use Rattle.nlri.specs.declared.walk.Walked.{Walked}
 use Rattle.nlri.specs.Answers.{nlriOf, fieldsIn, keySpan, readAnswer}
 
@@ -184,6 +185,35 @@ pub record WriteRefusals : Type 0 where
   pub accepted : (afi : ℕ) (f : Fields) (space : ℕ) (e : List ℕ) → Held f
       → (writeNlri afi f space ≡ given e) ↔ ((family : ℕ) × (familyBits afi ≡ given family) × WellFormed family f × (length e ≤ space) × (e ≡ encodeNlri f))
 
+-- the layout of an NLRI's encoding: its type, its Length, and the sizes that vary
+unfoldable pub layoutFor : Fields → Layout
+layoutFor f =
+    record {
+      «route_type» = f .type;
+      length = length (encodeNlri f) - 2;
+      source = length (restricted f .source);
+      group = length (restricted f .group);
+      originator = length (restricted f .originator);
+      key = length (restricted f .key);
+    }
+
+-- "Walking a run": a step's answer, in the order FAMILY, LONG, the cursor, NLRI reading
+pub record StepRule : Type 0 where
+  pub family : (afi : ℕ) (run : List ℕ) (at : ℕ) → afi ≢ 1 → afi ≢ 2 → stepFrom afi run at ≡ stoppedAt FAMILY at
+  pub long : (afi family : ℕ) (run : List ℕ) (at : ℕ) → familyBits afi ≡ given family → 4096 < length run → stepFrom afi run at ≡ stoppedAt LONG at
+  -- at the run's end DONE with no NLRI, past it SHORT
+  pub ends : (afi family : ℕ) (run : List ℕ) (at : ℕ) → familyBits afi ≡ given family → length run ≤ 4096 → at ≡ length run → stepFrom afi run at ≡ stoppedAt DONE at
+  pub past : (afi family : ℕ) (run : List ℕ) (at : ℕ) → familyBits afi ≡ given family → length run ≤ 4096 → length run < at → stepFrom afi run at ≡ stoppedAt SHORT at
+  pub refuses : (afi family : ℕ) (run : List ℕ) (at n : ℕ) → familyBits afi ≡ given family → AllOctets run → length run ≤ 4096 → at < length run → FrontRefusal family (drop at run) n
+      → stepFrom afi run at ≡ stoppedAt n at
+  -- an NLRI with its layout, and the cursor just past it
+  pub reads : (afi family : ℕ) (run : List ℕ) (at : ℕ) (f : Fields) (t : List ℕ) → familyBits afi ≡ given family → length run ≤ 4096 → WellFormed family f → drop at run ≡ encodeNlri f ++ t
+      → stepFrom afi run at ≡ readTo (layoutFor f) (at + length (encodeNlri f))
+  -- a step that reads moves the cursor by 2 and the Length, within the run; any other hands back the cursor that it was given
+  pub moves : (afi : ℕ) (run : List ℕ) (at : ℕ) → stepFrom afi run at .read ≡ true
+      → (stepFrom afi run at .cursor ≡ at + (2 + stepFrom afi run at .layout .length)) × (at < stepFrom afi run at .cursor) × (stepFrom afi run at .cursor ≤ length run)
+  pub stays : (afi : ℕ) (run : List ℕ) (at : ℕ) → stepFrom afi run at .read ≡ false → stepFrom afi run at .cursor ≡ at
+
 -- the walk from a cursor as the iteration of the step: it goes on from the cursor that a step that read hands back, and stops at any other step
 pub data Walks (afi : ℕ) (run : List ℕ) : (at count : ℕ) → Walked → Type 0 where
   stopping : {at count : ℕ} → stepFrom afi run at .read ≡ false → Walks afi run at count (record { number = stepFrom afi run at .number; count = count; offset = at })
@@ -225,11 +255,6 @@ pub record WalkRule : Type 0 where
   -- the walk is the iteration of the step, and nothing else is
   pub iterates : (afi : ℕ) (run : List ℕ) → Walks afi run 0 0 (walkOf afi run)
   pub only : (afi : ℕ) (run : List ℕ) (at count : ℕ) (v w : Walked) → Walks afi run at count v → Walks afi run at count w → v ≡ w
-  -- a step that reads hands back a cursor just past the NLRI read
-  pub moves : (afi : ℕ) (run : List ℕ) (at : ℕ) → stepFrom afi run at .read ≡ true
-      → (stepFrom afi run at .cursor ≡ at + (2 + stepFrom afi run at .layout .length)) × (at < stepFrom afi run at .cursor) × (stepFrom afi run at .cursor ≤ length run)
-  -- any other hands back the cursor that it was given
-  pub stays : (afi : ℕ) (run : List ℕ) (at : ℕ) → stepFrom afi run at .read ≡ false → stepFrom afi run at .cursor ≡ at
 
 -- "Which route a flow takes": 224.0.0.0/4, FF00::/8
 pub data Multicast : (afi : ℕ) → List ℕ → Type 0 where
