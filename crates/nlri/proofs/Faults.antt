@@ -1,6 +1,6 @@
 -- Reading refuses exactly as the first fault says (document 01, "The numbers a call gives back").
 use mathlib.Core.Path.{_≡_, refl, sym, _∙_, ap, subst}
-use mathlib.Core.Bool.{Bool, true, false}
+use mathlib.Core.Bool.{false}
 use mathlib.Core.Logic.{_⊎_, inl, inr, ⊎-elim}
 use mathlib.Core.List.{List, [], _∷_, _++_}
 use Prim.Native.Nat.{ℕ, _*_, _/_, _≤_, _<_}
@@ -9,13 +9,12 @@ use borrow.Author.Tests.{eqb-true, eqb-false, eq-eqb, ne-eqb, ltb-true, lt-ltb, 
 use lib.ListN.{length, getD, take, drop, take-append-drop}
 use lib.Seq.{drop-append-seam, drop-length}
 use Rattle.octets.specs.Numbers.{LENGTH, WIDTH, KEY, FAMILY}
-use Rattle.octets.specs.Choice.{pick}
 use Rattle.octets.specs.Outcome.{given, refused}
 use Rattle.octets.specs.Octets.{AllOctets}
 use Rattle.octets.proofs.Outcomes.{pick-true, pick-false}
 use Rattle.octets.proofs.Tests.{goes, stops}
 use Rattle.octets.proofs.Inversions.{never}
-use Rattle.octets.proofs.Refusals.{refused-same, picked, stopped, outcome}
+use Rattle.octets.proofs.Refusals.{refused-same, picked, stopped, outcome, refuses-where, refuses-unless}
 use Rattle.octets.proofs.OctetLists.{octets-drop}
 use Rattle.nlri.specs.Family.{familyBits, originatorSize}
 use Rattle.nlri.specs.Bodies.{Kind, distinguisher, sourceAs, source, group, originator, key}
@@ -24,14 +23,6 @@ use Rattle.nlri.specs.Reading.{fixedField, addressEnd, addressField, ori
 use Rattle.nlri.specs.Statements.{Closes, AddressFault, missing, width, ends, Fault, Faulty, remains, here, later}
 use Rattle.nlri.proofs.Judged.{Judges, fieldsFrom, originator-given, field-sound, field-complete}
 use Rattle.nlri.proofs.Keys.{key-judges}
-
--- a refusal under a test that refuses, or else gives
-refuses-where : {A : Type 0} (k n : ℕ) (b : Bool) (a : A) → pick b (refused k) (given a) ≡ refused n → (b ≡ true) × (n ≡ k)
-refuses-where {A} k n b a e = ⊎-elim (λ yes. (yes .0, sym (refused-same {A = A} (yes .1)))) (λ no. absurd (never refl (no .1))) (picked _ _ _ _ e)
-
--- a refusal where a test that must hold fails
-refuses-unless : {A : Type 0} (k n : ℕ) (b : Bool) (a : A) → pick b (given a) (refused k) ≡ refused n → (b ≡ false) × (n ≡ k)
-refuses-unless {A} k n b a e = ⊎-elim (λ yes. absurd (never refl (yes .1))) (λ no. (no .0, sym (refused-same {A = A} (no .1)))) (picked _ _ _ _ e)
 
 fixed-refused : (m n : ℕ) (s : List ℕ) → fixedField m s ≡ refused n → (length s < m) × (n ≡ LENGTH)
 unfolding fixedField

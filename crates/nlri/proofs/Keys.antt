@@ -7,12 +7,12 @@ use native.Mathlib.Omega.{arith}
 use borrow.Author.Tests.{ltb-false, le-ltb}
 use lib.ListN.{length, take}
 use Rattle.octets.specs.Numbers.{KEY}
-use Rattle.octets.specs.Outcome.{Outcome, given, refused, onOutcome}
+use Rattle.octets.specs.Outcome.{given, refused}
 use Rattle.octets.specs.Octets.{AllOctets}
 use Rattle.octets.proofs.Outcomes.{pick-false}
 use Rattle.octets.proofs.Tests.{on-given}
 use Rattle.octets.proofs.Inversions.{never, unless, given-same, on-given-given}
-use Rattle.octets.proofs.Refusals.{refused-same, picked}
+use Rattle.octets.proofs.Refusals.{refused-same, picked, turned}
 use Rattle.nlri.specs.Fields.{Fields, encodeNlri, NoKey, KeyOf}
 use Rattle.nlri.specs.Reading.{laidWith, noKey, keyField}
 use Rattle.nlri.proofs.Table.{rowOf, known}
@@ -28,11 +28,6 @@ none-judges =
       complete = λ k t none. absurd none;
       refuses = λ s n e. sym (refused-same {A = ℕ} e);
     }
-
-turned : {A B : Type 0} (k n : ℕ) (good : A → Outcome B) (o : Outcome A) → ((a : A) (m : ℕ) → good a ≡ refused m → m ≡ k) → onOutcome (λ fault. refused k) good o ≡ refused n → n ≡ k
-unfolding onOutcome
-turned k n good (given a) h e = h a n e
-turned {A} {B} k n good (refused m) h e = sym (refused-same {A = B} e)
 
 module _ (family : ℕ) (whole : 8 * (family / 8) ≡ family) where
   key-sound : (s : List ℕ) (n : ℕ) → AllOctets s → keyField family s ≡ given n → (n ≤ length s) × KeyOf family (take n s)

@@ -14,7 +14,7 @@ use Rattle.octets.specs.Octets.{AllOctets, part}
 use Rattle.octets.proofs.Outcomes.{pick-true, pick-false}
 use Rattle.octets.proofs.Tests.{goes, stops}
 use Rattle.octets.proofs.Inversions.{never, opposite}
-use Rattle.octets.proofs.Refusals.{refused-same, picked, stopped, outcome}
+use Rattle.octets.proofs.Refusals.{refused-same, picked, stopped, outcome, is-false}
 use Rattle.octets.proofs.OctetLists.{octets-part}
 use Rattle.nlri.specs.Family.{familyBits}
 use Rattle.nlri.specs.Bodies.{bodies, bodyOf}
@@ -82,18 +82,10 @@ module _ (afi family : ℕ) (bits : familyBits afi ≡ given family) (s : List �
 
   -- past SHORT
   enough : (Short s → ⊥) → ltb (length s) 2 ≡ false
-  enough h = go (ltb (length s) 2) refl
-    where
-      go : (b : Bool) → ltb (length s) 2 ≡ b → b ≡ false
-      go true few = absurd (h (inl (ltb-true _ _ few)))
-      go false few = refl
+  enough h = is-false _ (λ few. h (inl (ltb-true _ _ few)))
 
   fits : (Short s → ⊥) → ltb (length s - 2) (getD s 1 0) ≡ false
-  fits h = go (ltb (length s - 2) (getD s 1 0)) refl
-    where
-      go : (b : Bool) → ltb (length s - 2) (getD s 1 0) ≡ b → b ≡ false
-      go true few = absurd (h (inr (ltb-true _ _ few)))
-      go false few = refl
+  fits h = is-false _ (λ few. h (inr (ltb-true _ _ few)))
 
   laid-untyped : (Short s → ⊥) → (Typed (getD s 0 0) → ⊥) → laidAt family s ≡ refused TYPE
   unfolding laidAt laidWith

@@ -11,7 +11,7 @@ use lib.Dec.{eqb, leb}
 use Rattle.octets.specs.Choice.{pick, both, either}
 use Rattle.octets.proofs.Outcomes.{pick-true, pick-false}
 use Rattle.octets.proofs.Tests.{either-left}
-use Rattle.octets.proofs.Refusals.{either-false-left, either-false-right, either-second}
+use Rattle.octets.proofs.Refusals.{either-false-left, either-false-right, either-second, is-false}
 use Rattle.octets.proofs.Inversions.{opposite, either-true, both-true-left, both-true-right}
 use Rattle.nlri.specs.Bodies.{Kind, distinguisher, sourceAs, source, group, originator, key, Row, row, bodies, onBody, bodyOf, codeOf, sameKind, fieldIn, has}
 
@@ -136,11 +136,7 @@ rowOf type l =
     }
 
 pub unlisted : (type : ℕ) → ((1 ≤ type) × (type ≤ 7) → ⊥) → listed bodies type ≡ false
-unlisted type h = go (listed bodies type) refl
-  where
-    go : (b : Bool) → listed bodies type ≡ b → b ≡ false
-    go true l = let row = rowOf type l in absurd (h (row .low, row .high))
-    go false l = refl
+unlisted type h = is-false _ (λ l. let row = rowOf type l in h (row .low, row .high))
 
 -- kinds by their codes
 pub same-self : (k : Kind) → sameKind k k ≡ true
@@ -194,11 +190,7 @@ along-same field other (k ∷ body) [] h a = a
 along-same field other (k ∷ body) (x ∷ xs) h a = (h k (has-first k body) ∙ a .0, along-same field other body xs (λ kind e. h kind (has-later kind k body e)) (a .1))
 
 apart : (kind k : Kind) (body : List Kind) → has kind body ≡ true → has k body ≡ false → sameKind kind k ≡ false
-apart kind k body h n = go (sameKind kind k) refl
-  where
-    go : (b : Bool) → sameKind kind k ≡ b → b ≡ false
-    go true e = absurd (opposite (ap (λ (x : Kind). has x body) (sym (same-kind kind k e)) ∙ h) n)
-    go false e = refl
+apart kind k body h n = is-false _ (λ e. opposite (ap (λ (x : Kind). has x body) (sym (same-kind kind k e)) ∙ h) n)
 
 pub along-fields : {A : Type 0} (none : A) (body : List Kind) (xs : List A) → distinct body ≡ true → length xs ≡ length body → Along (λ kind. fieldIn none kind body xs) body xs
 unfolding fieldIn distinct

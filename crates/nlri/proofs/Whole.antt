@@ -5,14 +5,14 @@ use mathlib.Core.List.{List, [], _∷_, _++_, map, append-assoc}
 use Prim.Native.Nat.{ℕ, suc, _+_, _*_, _/_, _-_, _≤_, _<_}
 use native.Mathlib.Omega.{arith}
 use borrow.Author.Tests.{eqb-true, ltb-false, le-ltb}
-use lib.ListN.{length, getD, take, drop, length-append, length-drop, take-append-drop}
-use lib.Seq.{length-take-le, take-append-seam, drop-append-seam}
+use lib.ListN.{length, getD, take, drop, length-append, take-append-drop}
+use lib.Seq.{take-append-seam, drop-append-seam}
 use Rattle.octets.specs.Outcome.{Outcome, given}
 use Rattle.octets.specs.Octets.{AllOctets, none, one, part}
 use Rattle.octets.proofs.Outcomes.{pick-true, pick-false}
 use Rattle.octets.proofs.Tests.{goes}
 use Rattle.octets.proofs.Inversions.{unless, only, passed, given-same, opposite, both-true-left, both-true-right}
-use Rattle.octets.proofs.OctetLists.{octets-drop, octets-part, empty-list}
+use Rattle.octets.proofs.OctetLists.{octets-drop, octets-part, empty-list, take-two, part-size}
 use Rattle.octets.proofs.NetworkOrder.{octets-append}
 use Rattle.nlri.specs.Bodies.{Kind, distinguisher, sourceAs, source, group, originator, key, bodies, bodyOf, fieldIn}
 use Rattle.nlri.specs.Fields.{Fields, encodeField, encodeBody, encodeNlri, WellFormedBody}
@@ -48,16 +48,6 @@ closes-body f group body h = tt
 closes-body f originator [] h = refl
 closes-body f originator (k ∷ body) h = absurd (opposite h refl)
 closes-body f key body h = tt
-
-take-two : (s : List ℕ) (n : ℕ) → 2 ≤ length s → take (2 + n) s ≡ getD s 0 0 ∷ (getD s 1 0 ∷ part s 2 n)
-unfolding part
-take-two [] n h = absurd (omega arith)
-take-two (x ∷ []) n h = absurd (omega arith)
-take-two (x ∷ (y ∷ s)) n h = let e : 2 + n ≡ suc (suc n) = omega arith in rw e
-
-part-size : (s : List ℕ) (n : ℕ) → n ≤ length s - 2 → length (part s 2 n) ≡ n
-unfolding part
-part-size s n h = length-take-le n (drop 2 s) (rw length-drop h)
 
 -- what was laid out
 pub record LaidOut (judge : List ℕ → Outcome ℕ) (family : ℕ) (s : List ℕ) (laid : Laid) : Type 0 where
@@ -143,7 +133,7 @@ module _ (judge : List ℕ → Outcome ℕ) (Key : List ℕ → Type 0) (judges 
       let along : Along (λ kind. fieldIn [] kind (laid .body) (cut (laid .sizes) rest)) (bodyOf (laid .type)) (cut (laid .sizes) rest) =
       rw (o .body) (along-fields [] (bodyOf (laid .type)) (cut (laid .sizes) rest) (o .row .distinct) (cut-length _ _ ∙ sizes-length (laid .type) _ _ _ (o .sizes))) in
       let b = body-sound (laid .type) (bodyOf (laid .type)) rest (laid .sizes) _ (octets-part 2 (laid .length) a) (o .sizes) along in
-      let len : laid .length ≡ length (encodeBody (fieldsAt s laid) (bodyOf (laid .type))) = sym (ap length (b .1) ∙ part-size s (laid .length) (o .fits)) in
+      let len : laid .length ≡ length (encodeBody (fieldsAt s laid) (bodyOf (laid .type))) = sym (ap length (b .1) ∙ part-size s 2 (laid .length) (omega (arith, o .fits, o .enough))) in
       (b .0, take-two s (laid .length) (o .enough) ∙ ap₂ (λ (x : ℕ) (y : List ℕ). x ∷ y) (sym (o .typed)) (ap₂ (λ (x : ℕ) (y : List ℕ). x ∷ y) (sym (o .sized) ∙ len) (sym (b .1))))
 
   -- a well-formed NLRI that stands encoded is read

@@ -13,7 +13,7 @@ use Rattle.octets.specs.Outcome.{Outcome, given, refused}
 use Rattle.octets.proofs.Outcomes.{pick-true, pick-false}
 use Rattle.octets.proofs.Tests.{goes, stops}
 use Rattle.octets.proofs.Inversions.{never, opposite, passed, unless, both-true-left, both-true-right}
-use Rattle.octets.proofs.Refusals.{refused-same, picked, stopped}
+use Rattle.octets.proofs.Refusals.{refused-same, picked, stopped, is-false, is-true}
 use Rattle.nlri.specs.Family.{familyBits}
 use Rattle.nlri.specs.Bodies.{Kind, distinguisher, sourceAs, source, group, originator, key, bodyOf, sameKind, has}
 use Rattle.nlri.specs.Fields.{Fields, encodeNlri, WellFormed, KeyOf}
@@ -49,19 +49,11 @@ all-false test (k ∷ body) h = go (test k) refl h (all-false test body)
 
 -- one kind that fails
 all-fails : (test : Kind → Bool) (body : List Kind) (kind : Kind) → has kind body ≡ true → test kind ≡ false → all test body ≡ false
-all-fails test body kind h fails = go (all test body) refl
-  where
-    go : (b : Bool) → all test body ≡ b → b ≡ false
-    go true e = absurd (opposite (all-true test body e kind h) fails)
-    go false e = refl
+all-fails test body kind h fails = is-false _ (λ e. opposite (all-true test body e kind h) fails)
 
 -- no kind that fails
 all-holds : (test : Kind → Bool) (body : List Kind) → ((kind : Kind) → has kind body ≡ true → test kind ≡ false → ⊥) → all test body ≡ true
-all-holds test body h = go (all test body) refl
-  where
-    go : (b : Bool) → all test body ≡ b → b ≡ true
-    go true e = refl
-    go false e = let r = all-false test body e in absurd (h (r .0) (r .1) (r .2))
+all-holds test body h = is-true _ (λ e. let r = all-false test body e in h (r .0) (r .1) (r .2))
 
 widths-all : (family : ℕ) (f : Fields) (body : List Kind) → widthsFit family f body ≡ all (widthFits family f) body
 unfolding widthsFit all
@@ -141,11 +133,7 @@ module _ (afi family : ℕ) (bits : familyBits afi ≡ given family) (f : Fields
   unfolding verdictOf verdict keyFits
   key-stops typed widths h none =
       typed-stops _ typed (pick-true _ _ _ (widths-all family f _ ∙ all-holds (widthFits family f) _ (λ k h e. widths k h (width-fault family f k e)))
-      ∙ pick-false _ _ _ (keys-all family f _ ∙ all-fails (keyFits family f) _ key h (no-key (isKey family (f .key)) refl)))
-    where
-      no-key : (b : Bool) → isKey family (f .key) ≡ b → isKey family (f .key) ≡ false
-      no-key true e = absurd (none (key-judged afi family bits (f .key) (held .key) e))
-      no-key false e = e
+      ∙ pick-false _ _ _ (keys-all family f _ ∙ all-fails (keyFits family f) _ key h (is-false _ (λ e. none (key-judged afi family bits (f .key) (held .key) e)))))
 
 refusal-sound : (afi : ℕ) (f : Fields) (space n : ℕ) → Held f → writeNlri afi f space ≡ refused n → WriteRefusal afi f space n
 refusal-sound afi f space n held e =

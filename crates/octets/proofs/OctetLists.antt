@@ -4,7 +4,7 @@ use mathlib.Core.Path.{_≡_, refl, _∙_}
 use mathlib.Core.List.{List, [], _∷_, _++_}
 use native.Mathlib.Nat.{pow-suc, mul-le-mul-right}
 use native.Mathlib.Omega.{arith}
-use lib.ListN.{length, take, drop, getD, replicate, length-append, length-replicate}
+use lib.ListN.{length, take, drop, getD, replicate, length-append, length-replicate, length-drop}
 use lib.Seq.{length-take-le, take-at, take-take, take-append-le, take-append-seam}
 use Rattle.octets.proofs.NetworkOrder.{octets-append}
 use Rattle.octets.specs.Octets.{AllOctets, none, one, part, sized, numberIn}
@@ -29,6 +29,17 @@ octets-part start size a = octets-take size (octets-drop start a)
 pub front-rest : (s : List ℕ) → 1 ≤ length s → s ≡ getD s 0 0 ∷ drop 1 s
 front-rest [] h = absurd (omega arith)
 front-rest (x ∷ s) h = refl
+
+-- the first two elements, and a part after them
+pub take-two : (s : List ℕ) (n : ℕ) → 2 ≤ length s → take (2 + n) s ≡ getD s 0 0 ∷ (getD s 1 0 ∷ part s 2 n)
+unfolding part
+take-two [] n h = absurd (omega arith)
+take-two (x ∷ []) n h = absurd (omega arith)
+take-two (x ∷ (y ∷ s)) n h = let e : 2 + n ≡ suc (suc n) = omega arith in rw e
+
+pub part-size : (s : List ℕ) (start size : ℕ) → start + size ≤ length s → length (part s start size) ≡ size
+unfolding part
+part-size s start size h = length-take-le size (drop start s) (rw length-drop (omega arith))
 
 -- no elements
 pub empty-list : {A : Type 0} (s : List A) → length s ≡ 0 → s ≡ []
