@@ -53,7 +53,7 @@ unfolding fixedField
 fixed-stands m x t e = pick-false _ _ _ (le-ltb (length (x ++ t)) m (simp length-append (omega arith))) ∙ ap given (sym e)
 
 -- an address read, as its octets encoded
-pub record AddressRead (family type : ℕ) (piece : List ℕ) : Type 0 where
+record AddressRead (family type : ℕ) (piece : List ℕ) : Type 0 where
   pub fits : allowed family type (8 * length (drop 1 piece)) ≡ true
   pub octets : AllOctets (drop 1 piece)
   pub encoded : encodeAddress (drop 1 piece) ≡ piece

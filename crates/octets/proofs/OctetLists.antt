@@ -1,4 +1,4 @@
--- Parts of a list of octets are octets, and the number in n octets is below 256 to the n.
+-- Lists of octets: their parts, the number in them, and their sizes filled up with zeros.
 use Prim.Native.Nat.{ℕ, zero, suc, _+_, _*_, _^_, _≤_, _<_}
 use mathlib.Core.Path.{_≡_, refl, _∙_}
 use mathlib.Core.List.{List, [], _∷_, _++_}

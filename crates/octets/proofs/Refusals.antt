@@ -1,4 +1,4 @@
--- What a refusal tells of the tests that led to it.
+-- What a refusal, or any outcome, tells of the tests that led to it.
 use mathlib.Core.Path.{_≡_, refl, sym}
 use mathlib.Core.Bool.{Bool, true, false}
 use mathlib.Core.Logic.{_⊎_, inl, inr, ⊎-elim}
@@ -10,7 +10,7 @@ use Rattle.octets.proofs.Inversions.{never, opposite}
 pub refused-same : {A : Type 0} {m n : ℕ} → _≡_ {A = Outcome A} (refused m) (refused n) → m ≡ n
 refused-same p = cc
 
--- a refusal behind a choice
+-- what a choice came to, by its test
 pub picked : {A : Type 0} (b : Bool) (x y : A) (r : A) → pick b x y ≡ r → ((b ≡ true) × (x ≡ r)) ⊎ ((b ≡ false) × (y ≡ r))
 unfolding pick
 picked true x y r e = inl (refl, e)
