@@ -118,6 +118,24 @@ unfolding pick
 eight-and true = refl
 eight-and false = refl
 
+-- the same for what fits
+under : (b : Bool) (x y n : ℕ) → (b ≡ true → x ≤ n) → y ≤ n → pick b x y ≤ n
+unfolding pick
+under true x y n h k = h refl
+under false x y n h k = k
+
+pub fixed-short : (type k : ℕ) → (type ≡ 4 → k ≤ 60) → fixedSize type k ≤ 60
+unfolding fixedSize
+fixed-short type k h = under (eqb type 4) _ _ 60 (λ e. h (eqb-true type 4 e)) (under (withSourceAs type) 12 8 60 (λ e. omega arith) (omega arith))
+
+pub flow-short : (type a b : ℕ) → (hasFlow type ≡ true → a ≤ 16) → (hasFlow type ≡ true → b ≤ 16) → flowSize type a b ≤ 34
+unfolding flowSize
+flow-short type a b ha hb = under (hasFlow type) _ _ 34 (λ e. let p = ha e in let q = hb e in omega arith) (omega arith)
+
+pub originator-short : (type o : ℕ) → (hasOriginator type ≡ true → o ≤ 16) → originatorLength type o ≤ 16
+unfolding originatorLength
+originator-short type o h = under (hasOriginator type) _ _ 16 h (omega arith)
+
 pick-length : (b : Bool) (x y : List ℕ) → length (pick b x y) ≡ pick b (length x) (length y)
 unfolding pick
 pick-length true x y = refl

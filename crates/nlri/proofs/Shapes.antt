@@ -87,7 +87,7 @@ originator-is s n e = go (either-true _ _ (p .0))
     go (inr t) = let h : length s ≡ 16 = eqb-true _ _ t in (q, omega (arith, q))
 
 -- an address has no more octets than the family's
-bits-most : (family type bits : ℕ) → allowed family type bits ≡ true → bits / 8 ≤ family / 8
+pub bits-most : (family type bits : ℕ) → allowed family type bits ≡ true → bits / 8 ≤ family / 8
 unfolding allowed
 bits-most family type bits e = go (either-true _ _ e)
   where

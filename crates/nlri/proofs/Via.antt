@@ -33,9 +33,12 @@ typed-given r o a b p q = sym p ∙ ap headerOf q
 pub size-goes : {B : Type 0} (t : Outcome B) (r : Part) (o : Outcome ℕ) (n : ℕ) (next : ℕ → Outcome B) → partOf r ≡ o → r ≡ Size n → t ≡ next n → t ≡ andThen o next
 size-goes t r o n next p q h = goes t o n next (size-given r o n p q) h
 
-pub fault-stops : {B : Type 0} (r : Part) (o : Outcome ℕ) (n : ℕ) (next : ℕ → Outcome B) → partOf r ≡ o → r ≡ Fault n → refused n ≡ andThen o next
+pub fault-given : (r : Part) (o : Outcome ℕ) (n : ℕ) → partOf r ≡ o → r ≡ Fault n → o ≡ refused n
 unfolding partOf
-fault-stops r o n next p q = stops o n next (sym p ∙ ap partOf q)
+fault-given r o n p q = sym p ∙ ap partOf q
+
+pub fault-stops : {B : Type 0} (r : Part) (o : Outcome ℕ) (n : ℕ) (next : ℕ → Outcome B) → partOf r ≡ o → r ≡ Fault n → refused n ≡ andThen o next
+fault-stops r o n next p q = stops o n next (fault-given r o n p q)
 
 pub sizes-go : {B : Type 0} (t : Outcome B) (r : Flow) (o : Outcome (ℕ × ℕ)) (a b : ℕ) (next : ℕ × ℕ → Outcome B) → flowOf r ≡ o → r ≡ Sizes a b → t ≡ next (a, b) → t ≡ andThen o next
 sizes-go t r o a b next p q h = goes t o (a, b) next (sizes-given r o a b p q) h
@@ -75,8 +78,7 @@ pub on-size : {B : Type 0} (t : B) (r : Part) (o : Outcome ℕ) (n : ℕ) (bad :
 on-size t r o n bad good p q h = on-given t o n bad good (size-given r o n p q) h
 
 pub on-fault : {B : Type 0} (t : B) (r : Part) (o : Outcome ℕ) (n : ℕ) (bad : ℕ → B) (good : ℕ → B) → partOf r ≡ o → r ≡ Fault n → t ≡ bad n → t ≡ onOutcome bad good o
-unfolding partOf
-on-fault t r o n bad good p q h = on-refused t o n bad good (sym p ∙ ap partOf q) h
+on-fault t r o n bad good p q h = on-refused t o n bad good (fault-given r o n p q) h
 
 pub group-is : (g : Group) (o p : Outcome ℕ) → g ≡ groupOf o → o ≡ p → g ≡ groupOf p
 group-is g o p e q = e ∙ ap groupOf q

@@ -10,3 +10,5 @@ pub mod Writing
 pub mod Answers
 pub mod Inner
 pub mod InnerWriting
+pub mod Statements
+pub mod Examples

@@ -1,6 +1,7 @@
 // Writing an NLRI: FAMILY, TYPE, WIDTH, KEY, SPACE. Fields that the route type lacks are not looked at.
 ghost use mathlib.Core.Path.{_≡_};
-ghost use mathlib.Core.List.{[], _∷_, _++_};
+ghost use mathlib.Core.Logic.{_⊎_};
+ghost use mathlib.Core.List.{[], _∷_};
 ghost use Prim.Native.Nat.{_+_, _-_, _*_, _≤_, _<_};
 ghost use lib.ListN.{length};
 ghost use Rattle.octets.specs.Octets.{placed};
@@ -271,7 +272,7 @@ fn refusal(number: u32) -> Written
 }
 
 fn write_under(family: usize, nlri: Nlri, key: &[u8], output: &mut [u8]) -> Written
-    requires { ⌜ family ≤ 128 ⌝ }
+    requires { ⌜ (family ≡ 32) ⊎ (family ≡ 128) ⌝ }
     ensures { λ r. ⌜ (r ≡ writtenOf (writeUnder family nlri (now (key .entry)) (length (now (output .entry))))) × (now (output .exit) ≡ outputOf (writeUnder family nlri (now (key .entry)) (length (now (output .entry)))) (now (output .entry))) ⌝ }
 {
     let fault = judge(family, nlri, key);

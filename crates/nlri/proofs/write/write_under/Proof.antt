@@ -1,3 +1,10 @@
+use Rattle.nlri.proofs.Judges.{answers, untouched, refused-under, space-under, given-under, key-short, keyed, sized-nlri, size-short, at-most}
+use Rattle.nlri.proofs.Puts.{size-is}
+use Rattle.octets.specs.Outcome.{refused}
+use lib.ListN.{length}
+use native.Mathlib.Omega.{arith}
+use mathlib.Core.Path.{_≡_, _∙_, sym, ap}
+use denote.Ref.{now}
 use borrow.Author.Needs.{needs}
 use Rattle.nlri.proofs.write.write_under.Statement.{statement}
 use Rattle.nlri.proofs.write.write_under.Tie as tie
@@ -15,25 +22,36 @@ refusal-requires : tie.Need-refusal-requires
 refusal-requires c κs = search needs
 
 returns : tie.Need-returns
-returns c = ?
+returns c =
+    answers _ _ _ _ _ (ap refused (c .before .before .judge .ensures) ∙ refused-under (c .before .before .before .before .before .args .family) (c .before .before .before .before .before .args .nlri) (now (c .before .before .before .before .before .args .key)) _ (λ e. c .before .if1 .taken (c .before .before .judge .ensures ∙ e))) (c .refusal .ensures, untouched _ _)
 
 size-of-requires : tie.Need-size-of-requires
-size-of-requires c κs = ?
+size-of-requires c κs =
+    let none = sym (c .before .judge .ensures) ∙ c .if1 .left in
+    λ e. let k = key-short (c .before .before .before .before .args .family) (now (c .before .before .before .before .args .key)) (c .before .before .before .before .pre) (λ i. c .before .before .before .shared-slice-known .given i .fits) (keyed (c .before .before .before .before .args .family) (c .before .before .before .before .args .nlri) (now (c .before .before .before .before .args .key)) (at-most _ (c .before .before .before .before .pre)) none e) in omega arith
 
 refusal-requires-2 : tie.Need-refusal-requires-2
 refusal-requires-2 c κs = search needs
 
 returns-2 : tie.Need-returns-2
-returns-2 c = ?
+returns-2 c =
+    let none = sym (c .before .before .before .before .judge .ensures) ∙ c .before .before .before .if1 .left in
+    answers _ _ _ _ _ (space-under (c .before .before .before .before .before .before .before .args .family) (c .before .before .before .before .before .before .before .args .nlri) (now (c .before .before .before .before .before .before .before .args .key)) _ none (omega (arith, c .before .before .size-of .ensures, c .before .if2 .taken))) (c .refusal2 .ensures, untouched _ _)
 
 put-requires : tie.Need-put-requires
-put-requires c κs = ?
+put-requires c κs =
+    let none = sym (c .before .before .before .before .judge .ensures) ∙ c .before .before .before .if1 .left in
+    let eight : length (c .before .before .before .before .before .before .before .args .nlri .distinguisher .octets) ≡ 8 = search needs in
+    let short = size-short (c .before .before .before .before .before .before .before .args .family) (c .before .before .before .before .before .before .before .args .nlri) (now (c .before .before .before .before .before .before .before .args .key)) (at-most _ (c .before .before .before .before .before .before .before .pre)) none (λ e. key-short (c .before .before .before .before .before .before .before .args .family) (now (c .before .before .before .before .before .before .before .args .key)) (c .before .before .before .before .before .before .before .pre) (λ i. c .before .before .before .before .before .before .shared-slice-known .given i .fits) (keyed (c .before .before .before .before .before .before .before .args .family) (c .before .before .before .before .before .before .before .args .nlri) (now (c .before .before .before .before .before .before .before .args .key)) (at-most _ (c .before .before .before .before .before .before .before .pre)) none e)) in
+    record { sized = sized-nlri (c .before .before .before .before .before .before .before .args .family) (c .before .before .before .before .before .before .before .args .nlri) (now (c .before .before .before .before .before .before .before .args .key)) (at-most _ (c .before .before .before .before .before .before .before .pre)) none; exact = c .before .before .size-of .ensures ∙ size-is (c .before .before .before .before .before .before .before .args .nlri) (now (c .before .before .before .before .before .before .before .args .key)) eight; short = omega (arith, c .before .before .size-of .ensures); room = c .before .if2 .left }
 
 same-length : tie.Need-same-length
 same-length c = search needs
 
 returns-3 : tie.Need-returns-3
-returns-3 c = ?
+returns-3 c =
+    let none = sym (c .before .before .before .before .before .before .before .judge .ensures) ∙ c .before .before .before .before .before .before .if1 .left in
+    answers _ _ _ _ _ (given-under (c .before .before .before .before .before .before .before .before .before .before .args .family) (c .before .before .before .before .before .before .before .before .before .before .args .nlri) (now (c .before .before .before .before .before .before .before .before .before .before .args .key)) _ none (omega (arith, c .before .before .before .before .before .size-of .ensures, c .before .before .before .before .if2 .left))) (c .before .before .put .ensures)
 
 pub write-under-spec : {M : Type 1} → statement M
 write-under-spec =

@@ -1,0 +1,143 @@
+-- Reading accepts exactly the encodings of well-formed fields (document 01, "NLRI on the wire").
+use mathlib.Core.Path.{_≡_, refl, sym, _∙_, ap, subst}
+use mathlib.Core.Bool.{Bool, true, false}
+use mathlib.Core.List.{List, [], _∷_, append-nil}
+use Prim.Native.Nat.{ℕ, suc, _+_, _*_, _/_, _-_, _^_, _≤_, _<_}
+use native.Mathlib.Omega.{arith}
+use borrow.Author.Tests.{eqb-true, eq-eqb}
+use lib.ListN.{length, take, drop, length-drop}
+use lib.Seq.{take-all}
+use Rattle.octets.specs.Choice.{pick, either}
+use Rattle.octets.specs.Outcome.{given, andThen}
+use Rattle.octets.specs.Octets.{AllOctets, part, numberIn, bigEndian}
+use Rattle.octets.proofs.Outcomes.{pick-true}
+use Rattle.octets.proofs.Tests.{goes}
+use Rattle.octets.proofs.Inversions.{only, passed, given-same, opposite}
+use Rattle.octets.proofs.NetworkOrder.{number-of-big-endian}
+use Rattle.nlri.specs.Family.{familyBits}
+use Rattle.nlri.specs.Bodies.{Kind, distinguisher, sourceAs, source, group, originator, key, bodyOf, fieldIn, sameKind, has}
+use Rattle.nlri.specs.Fields.{Fields, encodeAddress, encodeField, encodeBody, encodeNlri, WellFormedField, WellFormedBody, WellFormed, KeyOf, restricted}
+use Rattle.nlri.specs.Reading.{Laid, keyField, laidAt, laidSingle, cut, fieldsOf, readNlri}
+use Rattle.nlri.specs.Statements.{ReadAs, Acceptance}
+use Rattle.nlri.proofs.Table.{RowOf, rowOf, known, mostIn, field-of-map, lacks, same-kind}
+use Rattle.nlri.proofs.Judged.{fieldsFrom}
+use Rattle.nlri.proofs.Lengths.{family-octets}
+use Rattle.nlri.proofs.Whole.{piecesOf, sizesIn, cut-body, laid-out, fieldsAt, laid-sound, laid-complete, nlri-octets}
+use Rattle.nlri.proofs.Keys.{key-judges, key-octets}
+
+-- fields are equal that are equal one by one
+pub fields-same : {f g : Fields} → f .type ≡ g .type → f .distinguisher ≡ g .distinguisher → f .sourceAs ≡ g .sourceAs → f .source ≡ g .source → f .group ≡ g .group → f .originator ≡ g .originator
+    → f .key ≡ g .key → f ≡ g
+fields-same t d a s g o k = λ i. record { type = t i; distinguisher = d i; sourceAs = a i; source = s i; group = g i; originator = o i; key = k i }
+
+-- what is nothing where a test fails
+keep : {A : Type 0} (b : Bool) (x none : A) → (b ≡ false → x ≡ none) → pick b x none ≡ x
+unfolding pick
+keep true x none h = refl
+keep false x none h = sym (h refl)
+
+-- fields from pieces along a body have nothing where the body lacks the kind
+from-restricted : (type : ℕ) (body : List Kind) (pieces : List (List ℕ)) → body ≡ bodyOf type
+    → restricted (fieldsFrom type (λ kind. fieldIn [] kind body pieces)) ≡ fieldsFrom type (λ kind. fieldIn [] kind body pieces)
+unfolding restricted numberIn
+from-restricted type body pieces e =
+    let none : (kind : Kind) → has kind (bodyOf type) ≡ false → fieldIn [] kind body pieces ≡ [] = λ kind h. lacks [] kind body pieces (ap (has kind) e ∙ h) in
+    fields-same refl (keep _ _ _ (none distinguisher)) (keep _ _ _ (λ h. ap (λ (x : List ℕ). numberIn x 0) (none sourceAs h))) (keep _ _ _ (λ h. ap (drop 1) (none source h)))
+    (keep _ _ _ (λ h. ap (drop 1) (none group h))) (keep _ _ _ (none originator)) (keep _ _ _ (none key))
+
+-- a field of a well-formed body
+pub field-in-body : (Key : List ℕ → Type 0) (family : ℕ) (f : Fields) (kind : Kind) (body : List Kind) → WellFormedBody Key family f body → has kind body ≡ true → WellFormedField Key family f kind
+unfolding has either
+field-in-body Key family f kind [] w h = absurd (opposite h refl)
+field-in-body Key family f kind (k ∷ body) w h = go (sameKind kind k) refl h (λ later. field-in-body Key family f kind body (w .1) later)
+  where
+    go : (b : Bool) → sameKind kind k ≡ b → either b (has kind body) ≡ true → (has kind body ≡ true → WellFormedField Key family f kind) → WellFormedField Key family f kind
+    go true same h later = subst (WellFormedField Key family f) (sym (same-kind kind k same)) (w .0)
+    go false other h later = later h
+
+-- a number in four octets, where the body has it
+kept-number : (b : Bool) (x : ℕ) → (b ≡ true → x < 2 ^ 32) → numberIn (pick b (bigEndian 4 x) []) 0 ≡ pick b x 0
+unfolding pick numberIn
+kept-number true x h = number-of-big-endian 4 x (h refl)
+kept-number false x h = refl
+
+kept-address : (b : Bool) (x : List ℕ) → drop 1 (pick b (encodeAddress x) []) ≡ pick b x []
+unfolding pick encodeAddress
+kept-address true x = refl
+kept-address false x = refl
+
+-- the fields that the pieces of an encoding give
+from-encoded : (Key : List ℕ → Type 0) (family : ℕ) (f : Fields) → WellFormedBody Key family f (bodyOf (f .type))
+    → fieldsFrom (f .type) (λ kind. fieldIn [] kind (bodyOf (f .type)) (piecesOf f (bodyOf (f .type)))) ≡ restricted f
+unfolding restricted encodeField
+from-encoded Key family f w =
+    let body : List Kind = bodyOf (f .type) in
+    let at : (kind : Kind) → fieldIn [] kind body (piecesOf f body) ≡ pick (has kind body) (encodeField f kind) [] = λ kind. field-of-map [] (encodeField f) kind body in
+    fields-same refl (at distinguisher) (ap (λ (x : List ℕ). numberIn x 0) (at sourceAs) ∙ kept-number _ _ (field-in-body Key family f sourceAs body w))
+    (ap (drop 1) (at source) ∙ kept-address _ _) (ap (drop 1) (at group) ∙ kept-address _ _) (at originator) (at key)
+
+module _ (afi family : ℕ) (bits : familyBits afi ≡ given family) where
+  whole : 8 * (family / 8) ≡ family
+  whole = family-octets afi family bits .0
+
+  single-sound : (s : List ℕ) (laid : Laid) → AllOctets s → laidSingle family s ≡ given laid → ReadAs afi s (fieldsOf laid s)
+  unfolding laidSingle laidAt fieldsOf part
+  single-sound s laid a e =
+      let p = passed _ _ _ e in
+      let q = only _ _ _ _ (p .second) in
+      let same : p .value ≡ laid = given-same (q .1) in
+      let first : laidAt family s ≡ given laid = p .first ∙ ap given same in
+      let size : length s - 2 ≡ laid .length = eqb-true _ _ (q .0) ∙ ap (λ (x : Laid). x .length) same in
+      let o = laid-out (keyField family) family s laid first in
+      let r = laid-sound (keyField family) (KeyOf family) (key-judges family whole) family whole s laid a first in
+      let rest : part s 2 (laid .length) ≡ drop 2 s = take-all (laid .length) (drop 2 s) (rw length-drop (omega arith)) in
+      let fields : fieldsAt (keyField family) (KeyOf family) (key-judges family whole) family whole s laid ≡ fieldsOf laid s =
+      ap (λ (x : List ℕ). fieldsFrom (laid .type) (λ kind. fieldIn [] kind (laid .body) (cut (laid .sizes) x))) rest in
+      let all : take (2 + laid .length) s ≡ s = take-all (2 + laid .length) s (omega (arith, o .enough)) in
+      record {
+        family = family;
+        bits = bits;
+        wellFormed = record { typed = (o .row .low, o .row .high); body = subst (λ (f : Fields). WellFormedBody (KeyOf family) family f (bodyOf (laid .type))) fields (r .0) };
+        whole = from-restricted (laid .type) (laid .body) _ (o .body);
+        encoded = sym all ∙ r .1 ∙ ap encodeNlri fields;
+      }
+
+  single-complete : (f : Fields) → WellFormed family f → andThen (laidSingle family (encodeNlri f)) (λ laid. given (fieldsOf laid (encodeNlri f))) ≡ given (restricted f)
+  unfolding laidSingle laidAt fieldsOf encodeNlri
+  single-complete f w =
+      let body : List Kind = bodyOf (f .type) in
+      let laid : laidAt family (encodeNlri f) ≡ given (record { type = f .type; length = length (encodeBody f body); body = body; sizes = sizesIn f body }) =
+      ap (laidAt family) (sym (append-nil (encodeNlri f))) ∙ laid-complete (keyField family) (KeyOf family) (key-judges family whole) family whole f [] (w .typed) (w .body) in
+      let cuts : cut (sizesIn f body) (encodeBody f body) ≡ piecesOf f body = ap (cut (sizesIn f body)) (sym (append-nil (encodeBody f body))) ∙ cut-body f body [] in
+      sym (goes _ _ _ _ (sym (goes _ _ _ _ laid (sym (pick-true _ _ _ (eq-eqb (suc (suc (length (encodeBody f body))) - 2) (length (encodeBody f body)) (omega arith))))))
+      (ap given (sym (ap (λ (x : List (List ℕ)). fieldsFrom (f .type) (λ kind. fieldIn [] kind body x)) cuts ∙ from-encoded (KeyOf family) family f (w .body)))))
+
+  octets : (f : Fields) → WellFormed family f → (most : ℕ) → mostIn 60 (bodyOf (f .type)) ≤ most → most < 256 → (length (encodeNlri f) ≤ 2 + most) × AllOctets (encodeNlri f)
+  octets f w most within fits =
+      let small = family-octets afi family bits .1 in
+      nlri-octets (keyField family) (KeyOf family) (key-judges family whole) family whole 60 (key-octets family whole small) small f (w .typed) (w .body) most within fits
+
+  row : (f : Fields) → WellFormed family f → RowOf (f .type)
+  row f w = rowOf (f .type) (known (f .type) (w .typed .0) (w .typed .1))
+
+pub read-sound : (afi : ℕ) (s : List ℕ) (f : Fields) → AllOctets s → readNlri afi s ≡ given f → ReadAs afi s f
+unfolding readNlri
+read-sound afi s f a e =
+    let p = passed _ _ _ e in
+    let q = passed _ _ _ (p .second) in
+    subst (ReadAs afi s) (given-same (q .second)) (single-sound afi (p .value) (p .first) s (q .value) a (q .first))
+
+pub read-encoded : (afi family : ℕ) (f : Fields) → familyBits afi ≡ given family → WellFormed family f → readNlri afi (encodeNlri f) ≡ given (restricted f)
+unfolding readNlri
+read-encoded afi family f bits w = sym (goes _ _ _ _ bits (sym (single-complete afi family bits f w)))
+
+pub acceptance : Acceptance
+acceptance =
+    record {
+      exactly = λ afi s f a. (read-sound afi s f a, λ r. ap (readNlri afi) (r .encoded) ∙ read-encoded afi (r .family) f (r .bits) (r .wellFormed) ∙ ap given (r .whole));
+      encoded = read-encoded;
+      octets = λ afi family f bits w. octets afi family bits f w 76 (row afi family bits f w .most) (omega arith) .1;
+      most = λ afi family f bits w. octets afi family bits f w 76 (row afi family bits f w .most) (omega arith) .0;
+      plain = λ afi family f bits w other. octets afi family bits f w 58 (row afi family bits f w .plain other .1) (omega arith) .0;
+      same = λ afi family f g bits w v e. given-same (sym (read-encoded afi family f bits w) ∙ ap (readNlri afi) e ∙ read-encoded afi family g bits v);
+    }

@@ -1,0 +1,65 @@
+-- The lengths that document 01, "NLRI on the wire", allows: what the tests of families, addresses and originators say.
+use mathlib.Core.Path.{_≡_, refl, sym, _∙_, ap}
+use mathlib.Core.Bool.{true}
+use mathlib.Core.List.{List}
+use mathlib.Core.Logic.{_↔_, _⊎_, inl, inr, ⊎-elim}
+use Prim.Native.Nat.{ℕ, suc, _*_, _/_, _≤_}
+use native.Mathlib.Omega.{arith}
+use borrow.Author.Tests.{eqb-true, eq-eqb, ne-eqb}
+use lib.ListN.{length}
+use Rattle.octets.specs.Outcome.{given}
+use Rattle.octets.proofs.Outcomes.{pick-true, pick-false}
+use Rattle.octets.proofs.Tests.{both-true, either-left}
+use Rattle.octets.proofs.Inversions.{only, given-same, either-true, both-true-left, both-true-right}
+use Rattle.octets.proofs.Refusals.{picked, either-second}
+use Rattle.nlri.specs.Family.{familyBits, allowed, originatorSize}
+use Rattle.nlri.specs.Statements.{Lengths}
+
+family-exactly : (afi family : ℕ) → (familyBits afi ≡ given family) ↔ (((afi ≡ 1) × (family ≡ 32)) ⊎ ((afi ≡ 2) × (family ≡ 128)))
+unfolding familyBits
+family-exactly afi family = (
+  λ e.
+      ⊎-elim (λ one. inl (eqb-true _ _ (one .0), sym (given-same (one .1)))) (λ other. let p = only _ _ _ _ (other .1) in inr (eqb-true _ _ (p .0), sym (given-same (p .1)))) (picked _ _ _ _ e),
+  λ h.
+      ⊎-elim (λ one. pick-true _ _ _ (eq-eqb afi 1 (one .0)) ∙ ap given (sym (one .1)))
+      (λ two. pick-false _ _ _ (ne-eqb afi 1 (λ e. omega (arith, two .0))) ∙ pick-true _ _ _ (eq-eqb afi 2 (two .0)) ∙ ap given (sym (two .1))) h,
+)
+
+allowed-exactly : (family type bits : ℕ) → (allowed family type bits ≡ true) ↔ ((bits ≡ family) ⊎ ((type ≡ 3) × (bits ≡ 0)))
+unfolding allowed
+allowed-exactly family type bits = (
+  λ e. ⊎-elim (λ same. inl (eqb-true _ _ same)) (λ none. inr (eqb-true _ _ (both-true-left _ _ none), eqb-true _ _ (both-true-right _ _ none))) (either-true _ _ e),
+  λ h. ⊎-elim (λ same. either-left _ _ (eq-eqb bits family same)) (λ none. either-second _ _ (both-true _ _ (eq-eqb type 3 (none .0)) (eq-eqb bits 0 (none .1)))) h,
+)
+
+originator-exactly : (size : ℕ) → (originatorSize size ≡ true) ↔ ((size ≡ 4) ⊎ (size ≡ 16))
+unfolding originatorSize
+originator-exactly size = (
+  λ e. ⊎-elim (λ four. inl (eqb-true _ _ four)) (λ sixteen. inr (eqb-true _ _ sixteen)) (either-true _ _ e),
+  λ h. ⊎-elim (λ four. either-left _ _ (eq-eqb size 4 four)) (λ sixteen. either-second _ _ (eq-eqb size 16 sixteen)) h,
+)
+
+pub lengths : Lengths
+lengths = record { families = family-exactly; addresses = allowed-exactly; originators = originator-exactly }
+
+-- a family is that of AFI 1 or 2
+pub good-family : (afi family : ℕ) → familyBits afi ≡ given family → (afi ≡ 1) ⊎ (afi ≡ 2)
+good-family afi family e = ⊎-elim (λ one. inl (one .0)) (λ two. inr (two .0)) (family-exactly afi family .0 e)
+
+pub family-good : (afi : ℕ) → (afi ≡ 1) ⊎ (afi ≡ 2) → (family : ℕ) × (familyBits afi ≡ given family)
+family-good afi (inl e) = (32, family-exactly afi 32 .1 (inl (e, refl)))
+family-good afi (inr e) = (128, family-exactly afi 128 .1 (inr (e, refl)))
+
+-- the bits of a family are those of whole octets, and at most 128
+pub family-octets : (afi family : ℕ) → familyBits afi ≡ given family → (8 * (family / 8) ≡ family) × (family ≤ 128)
+family-octets afi family e = ⊎-elim (λ one. omega (arith, one .1)) (λ two. omega (arith, two .1)) (family-exactly afi family .0 e)
+
+-- a length that is allowed is eight times a number of octets
+pub whole-octets : (family type bits : ℕ) → 8 * (family / 8) ≡ family → allowed family type bits ≡ true → 8 * (bits / 8) ≡ bits
+whole-octets family type bits whole e = ⊎-elim (λ same. omega arith) (λ none. omega (arith, none .1)) (allowed-exactly family type bits .0 e)
+
+pub address-most : (family type : ℕ) (x : List ℕ) → family ≤ 128 → allowed family type (8 * length x) ≡ true → suc (length x) ≤ 17
+address-most family type x small e = ⊎-elim (λ same. omega arith) (λ none. omega (arith, none .1)) (allowed-exactly family type (8 * length x) .0 e)
+
+pub originator-most : (n : ℕ) → originatorSize n ≡ true → n ≤ 16
+originator-most n e = ⊎-elim (λ four. omega arith) (λ sixteen. omega arith) (originator-exactly n .0 e)

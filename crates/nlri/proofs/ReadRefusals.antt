@@ -1,0 +1,186 @@
+-- Every list of octets is read, or refused by the one number that document 01 gives it.
+use mathlib.Core.Path.{_≡_, refl, sym, _∙_, ap, subst}
+use mathlib.Core.Bool.{Bool, true, false}
+use mathlib.Core.Logic.{_⊎_, inl, inr, ⊎-elim, _≢_}
+use mathlib.Core.List.{List, _++_}
+use Prim.Native.Nat.{ℕ, suc, _+_, _*_, _/_, _-_, _<_}
+use native.Mathlib.Omega.{arith}
+use borrow.Author.Tests.{eqb-false, ne-eqb, ltb-true, ltb-false, lt-ltb}
+use lib.ListN.{length, getD, drop, length-append, length-drop, take-append-drop}
+use lib.Dec.{ltb}
+use Rattle.octets.specs.Numbers.{DONE, SHORT, TYPE, LENGTH, FAMILY}
+use Rattle.octets.specs.Outcome.{given, refused}
+use Rattle.octets.specs.Octets.{AllOctets, part}
+use Rattle.octets.proofs.Outcomes.{pick-true, pick-false}
+use Rattle.octets.proofs.Tests.{goes, stops}
+use Rattle.octets.proofs.Inversions.{never, opposite}
+use Rattle.octets.proofs.Refusals.{refused-same, picked, stopped, outcome, is-false}
+use Rattle.octets.proofs.OctetLists.{octets-part}
+use Rattle.nlri.specs.Family.{familyBits}
+use Rattle.nlri.specs.Bodies.{bodies, bodyOf}
+use Rattle.nlri.specs.Fields.{Fields, encodeBody, encodeNlri, WellFormed, KeyOf}
+use Rattle.nlri.specs.Reading.{Laid, keyField, laidWith, laidAt, laidSingle, readNlri}
+use Rattle.nlri.specs.Statements.{Short, Typed, Faulty, FrontRefusal, short, badType, badBody, ReadRefusal, badFamily, front, after, ReadRefusals}
+use Rattle.nlri.proofs.Table.{on-body, known, rowOf, unlisted}
+use Rattle.nlri.proofs.Lengths.{good-family, family-good, family-octets}
+use Rattle.nlri.proofs.Whole.{laid-out, laid-sound, laid-complete, fieldsAt}
+use Rattle.nlri.proofs.Keys.{key-judges}
+use Rattle.nlri.proofs.Acceptance.{acceptance}
+use Rattle.nlri.proofs.Faults.{body-refused, faulty-refuses, faulty-numbers, family-refused, family-refuses}
+
+module _ (afi family : ℕ) (bits : familyBits afi ≡ given family) (s : List ℕ) (a : AllOctets s) where
+  whole : 8 * (family / 8) ≡ family
+  whole = family-octets afi family bits .0
+
+  not-short : ltb (length s) 2 ≡ false → ltb (length s - 2) (getD s 1 0) ≡ false → Short s → ⊥
+  not-short enough fits sh = ⊎-elim (λ h. omega (arith, ltb-false)) (λ h. omega (arith, ltb-false)) sh
+
+  laid-refused : (n : ℕ) → laidAt family s ≡ refused n → FrontRefusal family s n
+  unfolding laidAt laidWith
+  laid-refused n e =
+      ⊎-elim (λ h. subst (FrontRefusal family s) (refused-same {A = Laid} (h .1)) (short (inl (ltb-true _ _ (h .0)))))
+      (λ enough.
+      ⊎-elim (λ h. subst (FrontRefusal family s) (refused-same {A = Laid} (h .1)) (short (inr (ltb-true _ _ (h .0)))))
+      (λ fits.
+      ⊎-elim
+      (λ good.
+      let row = rowOf (getD s 0 0) (good .0) in
+      badBody (not-short (enough .0) (fits .0)) (row .low, row .high)
+      (body-refused family whole (getD s 0 0) (bodyOf (getD s 0 0)) (part s 2 (getD s 1 0)) n (octets-part 2 (getD s 1 0) a)
+      (⊎-elim (λ first. first) (λ none. absurd (never refl (none .second))) (stopped _ _ _ (good .1)))))
+      (λ bad. subst (FrontRefusal family s) (refused-same {A = Laid} (bad .1)) (badType (not-short (enough .0) (fits .0)) (λ typed. opposite (known _ (typed .0) (typed .1)) (bad .0))))
+      (picked _ _ _ _ (sym (on-body _ _ _) ∙ fits .1)))
+      (picked _ _ _ _ (enough .1)))
+      (picked _ _ _ _ e)
+
+  single-refused : (n : ℕ) → laidSingle family s ≡ refused n → ReadRefusal afi s n
+  unfolding laidSingle laidAt
+  single-refused n e =
+      ⊎-elim (λ first. front family bits (laid-refused n first))
+      (λ next.
+      let laid : Laid = next .value in
+      let o = laid-out (keyField family) family s laid (next .first) in
+      let r = laid-sound (keyField family) (KeyOf family) (key-judges family whole) family whole s laid a (next .first) in
+      ⊎-elim (λ same. absurd (never refl (same .1)))
+      (λ more.
+      let other : length s - 2 ≡ laid .length → ⊥ = eqb-false (length s - 2) (laid .length) (more .0) in
+      let some : 0 < length (drop (2 + laid .length) s) = rw length-drop (omega (arith, o .fits, o .enough)) in
+      subst (ReadRefusal afi s) (refused-same {A = Laid} (more .1))
+      (after family (fieldsAt (keyField family) (KeyOf family) (key-judges family whole) family whole s laid) (drop (2 + laid .length) s) bits
+      (record { typed = (o .row .low, o .row .high); body = r .0 })
+      (sym (take-append-drop (2 + laid .length) s) ∙ ap (λ (x : List ℕ). x ++ drop (2 + laid .length) s) (r .1)) some))
+      (picked _ _ _ _ (next .second)))
+      (stopped _ _ _ e)
+
+  laid-short : Short s → laidAt family s ≡ refused SHORT
+  unfolding laidAt laidWith
+  laid-short sh = go (ltb (length s) 2) refl
+    where
+      go : (b : Bool) → ltb (length s) 2 ≡ b → laidAt family s ≡ refused SHORT
+      go true h = pick-true _ _ _ h
+      go false h = pick-false _ _ _ h ∙ pick-true _ _ _ (⊎-elim (λ few. absurd (omega (arith, ltb-false))) (λ few. lt-ltb (length s - 2) (getD s 1 0) few) sh)
+
+  -- past SHORT
+  enough : (Short s → ⊥) → ltb (length s) 2 ≡ false
+  enough h = is-false _ (λ few. h (inl (ltb-true _ _ few)))
+
+  fits : (Short s → ⊥) → ltb (length s - 2) (getD s 1 0) ≡ false
+  fits h = is-false _ (λ few. h (inr (ltb-true _ _ few)))
+
+  laid-untyped : (Short s → ⊥) → (Typed (getD s 0 0) → ⊥) → laidAt family s ≡ refused TYPE
+  unfolding laidAt laidWith
+  laid-untyped h t = pick-false _ _ _ (enough h) ∙ pick-false _ _ _ (fits h) ∙ on-body _ _ _ ∙ pick-false _ _ _ (unlisted (getD s 0 0) t)
+
+  laid-faulty : (n : ℕ) → (Short s → ⊥) → Typed (getD s 0 0) → Faulty family (getD s 0 0) (bodyOf (getD s 0 0)) (part s 2 (getD s 1 0)) n → laidAt family s ≡ refused n
+  unfolding laidAt laidWith
+  laid-faulty n h t fault =
+      pick-false _ _ _ (enough h) ∙ pick-false _ _ _ (fits h) ∙ on-body _ _ _ ∙ pick-true _ _ _ (known (getD s 0 0) (t .0) (t .1))
+      ∙ sym (stops _ _ _ (faulty-refuses family whole (getD s 0 0) (bodyOf (getD s 0 0)) (part s 2 (getD s 1 0)) n (octets-part 2 (getD s 1 0) a) fault))
+
+  single-after : (f : Fields) (t : List ℕ) → WellFormed family f → s ≡ encodeNlri f ++ t → 0 < length t → laidSingle family s ≡ refused LENGTH
+  unfolding laidSingle laidAt encodeNlri
+  single-after f t w e some =
+      let body = bodyOf (f .type) in
+      let len : length s ≡ suc (suc (length (encodeBody f body) + length t)) = ap length e ∙ ap (λ (n : ℕ). suc (suc n)) (length-append (encodeBody f body) t) in
+      sym (goes _ _ _ _ (ap (laidAt family) e ∙ laid-complete (keyField family) (KeyOf family) (key-judges family whole) family whole f t (w .typed) (w .body))
+      (sym (pick-false _ _ _ (ne-eqb (length s - 2) (length (encodeBody f body)) (λ q. omega arith)))))
+
+  laid-stops : (n : ℕ) → FrontRefusal family s n → laidAt family s ≡ refused n
+  laid-stops n (short h) = laid-short h
+  laid-stops n (badType h t) = laid-untyped h t
+  laid-stops n (badBody h t fault) = laid-faulty n h t fault
+
+  -- a refusal of the front, or of the single NLRI, is the call's
+  read-stops : (n : ℕ) → laidSingle family s ≡ refused n → readNlri afi s ≡ refused n
+  unfolding readNlri
+  read-stops n e = sym (goes _ _ _ _ bits (stops _ _ _ e))
+
+  front-stops : (n : ℕ) → FrontRefusal family s n → readNlri afi s ≡ refused n
+  unfolding laidSingle
+  front-stops n h = read-stops n (sym (stops _ _ _ (laid-stops n h)))
+
+refusal-sound : (afi : ℕ) (s : List ℕ) (n : ℕ) → AllOctets s → readNlri afi s ≡ refused n → ReadRefusal afi s n
+unfolding readNlri
+refusal-sound afi s n a e =
+    ⊎-elim (λ first. let p = family-refused afi n first in subst (ReadRefusal afi s) (sym (p .0)) (badFamily (p .1 .0) (p .1 .1)))
+    (λ next. single-refused afi (next .value) (next .first) s a n (⊎-elim (λ first. first) (λ none. absurd (never refl (none .second))) (stopped _ _ _ (next .second))))
+    (stopped _ _ _ e)
+
+refusal-complete : (afi : ℕ) (s : List ℕ) (n : ℕ) → AllOctets s → ReadRefusal afi s n → readNlri afi s ≡ refused n
+unfolding readNlri
+refusal-complete afi s n a (badFamily one two) = sym (stops _ _ _ (family-refuses afi one two))
+refusal-complete afi s n a (front family bits h) = front-stops afi family bits s a n h
+refusal-complete afi s n a (after family f t bits w e some) = read-stops afi family bits s a LENGTH (single-after afi family bits s a f t w e some)
+
+-- a body's number is another than FAMILY, SHORT, TYPE and DONE
+faulty-other : (family type : ℕ) (s : List ℕ) (n : ℕ) → Faulty family type (bodyOf type) s n → (n ≡ FAMILY → ⊥) × (n ≡ SHORT → ⊥) × (n ≡ TYPE → ⊥) × (n ≡ DONE → ⊥)
+faulty-other family type s n fault = ⊎-elim (λ e. omega arith) (λ rest. ⊎-elim (λ e. omega arith) (λ e. omega arith) rest) (faulty-numbers family type (bodyOf type) s n fault)
+
+pub not-done : (afi : ℕ) (s : List ℕ) (n : ℕ) → ReadRefusal afi s n → n ≡ DONE → ⊥
+not-done afi s n (badFamily one two) e = omega arith
+not-done afi s n (front family bits (short h)) e = omega arith
+not-done afi s n (front family bits (badType h t)) e = omega arith
+not-done afi s n (front family bits (badBody h t fault)) e = faulty-other family _ _ n fault .3 e
+not-done afi s n (after family f t bits w q some) e = omega arith
+
+by-family : (afi : ℕ) (s : List ℕ) (n : ℕ) → ReadRefusal afi s n → n ≡ FAMILY → (afi ≢ 1) × (afi ≢ 2)
+by-family afi s n (badFamily one two) e = (one, two)
+by-family afi s n (front family bits (short h)) e = absurd (omega arith)
+by-family afi s n (front family bits (badType h t)) e = absurd (omega arith)
+by-family afi s n (front family bits (badBody h t fault)) e = absurd (faulty-other family _ _ n fault .0 e)
+by-family afi s n (after family f t bits w q some) e = absurd (omega arith)
+
+by-short : (afi : ℕ) (s : List ℕ) (n : ℕ) → ReadRefusal afi s n → n ≡ SHORT → ((afi ≡ 1) ⊎ (afi ≡ 2)) × Short s
+by-short afi s n (badFamily one two) e = absurd (omega arith)
+by-short afi s n (front family bits (short h)) e = (good-family afi family bits, h)
+by-short afi s n (front family bits (badType h t)) e = absurd (omega arith)
+by-short afi s n (front family bits (badBody h t fault)) e = absurd (faulty-other family _ _ n fault .1 e)
+by-short afi s n (after family f t bits w q some) e = absurd (omega arith)
+
+by-type : (afi : ℕ) (s : List ℕ) (n : ℕ) → ReadRefusal afi s n → n ≡ TYPE → ((afi ≡ 1) ⊎ (afi ≡ 2)) × (Short s → ⊥) × (Typed (getD s 0 0) → ⊥)
+by-type afi s n (badFamily one two) e = absurd (omega arith)
+by-type afi s n (front family bits (short h)) e = absurd (omega arith)
+by-type afi s n (front family bits (badType h t)) e = (good-family afi family bits, h, t)
+by-type afi s n (front family bits (badBody h t fault)) e = absurd (faulty-other family _ _ n fault .2 e)
+by-type afi s n (after family f t bits w q some) e = absurd (omega arith)
+
+pub readRefusals : ReadRefusals
+readRefusals =
+    record {
+      exactly = λ afi s n a. (refusal-sound afi s n a, refusal-complete afi s n a);
+      front = λ afi family s n bits a. (laid-refused afi family bits s a n, laid-stops afi family bits s a n);
+      decided = λ afi s a. ⊎-elim (λ yes. inl (yes .0, acceptance .exactly afi s (yes .0) a .0 (yes .1))) (λ no. inr (no .0, refusal-sound afi s (no .0) a (no .1))) (outcome (readNlri afi s));
+      one = λ afi s m n a p q. refused-same {A = Fields} (sym (refusal-complete afi s m a p) ∙ refusal-complete afi s n a q);
+      never = λ afi s f n a p q. never (acceptance .exactly afi s f a .1 p) (refusal-complete afi s n a q);
+      done = λ afi s h. not-done afi s DONE h refl;
+      family = λ afi s a. (λ e. by-family afi s FAMILY (refusal-sound afi s FAMILY a e) refl, λ h. refusal-complete afi s FAMILY a (badFamily (h .0) (h .1)));
+      short = λ afi s a. (
+        λ e. by-short afi s SHORT (refusal-sound afi s SHORT a e) refl,
+        λ h. let g = family-good afi (h .0) in refusal-complete afi s SHORT a (front (g .0) (g .1) (short (h .1))),
+      );
+      type = λ afi s a. (
+        λ e. by-type afi s TYPE (refusal-sound afi s TYPE a e) refl,
+        λ h. let g = family-good afi (h .0) in refusal-complete afi s TYPE a (front (g .0) (g .1) (badType (h .1) (h .2))),
+      );
+      bodies = faulty-numbers;
+    }

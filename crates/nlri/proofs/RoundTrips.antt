@@ -1,0 +1,127 @@
+-- Reading and writing undo each other.
+use mathlib.Core.Path.{_≡_, refl, sym, _∙_, ap}
+use mathlib.Core.Bool.{Bool, true, false}
+use mathlib.Core.List.{List, [], _++_}
+use Prim.Native.Nat.{ℕ, _≤_}
+use native.Mathlib.Omega.{arith}
+use borrow.Author.Tests.{le-ltb, eqb-true, eqb-false}
+use lib.ListN.{length, take, drop}
+use lib.Seq.{take-append-seam}
+use lib.Dec.{eqb}
+use Rattle.octets.specs.Numbers.{DONE}
+use Rattle.octets.specs.Choice.{pick}
+use Rattle.octets.specs.Outcome.{Outcome, given, refused, onOutcome}
+use Rattle.octets.specs.Octets.{AllOctets, part}
+use Rattle.octets.proofs.Outcomes.{pick-cong, pick-true, pick-false}
+use Rattle.octets.proofs.Inversions.{passed}
+use Rattle.octets.proofs.OctetLists.{sized-same, sized-back, octets-sized}
+use Rattle.nlri.specs.Family.{familyBits}
+use Rattle.nlri.specs.Bodies.{Kind, distinguisher, sourceAs, source, group, originator, key, bodies, onBody, bodyOf, has}
+use Rattle.nlri.specs.Fields.{Fields, encodeField, encodeBody, encodeNlri, WellFormedField, WellFormed, KeyOf, restricted}
+use Rattle.nlri.specs.Reading.{readNlri}
+use Rattle.nlri.specs.Writing.{writeNlri}
+use Rattle.nlri.specs.Answers.{addressOf, distinguisherOf, octetsOf, nlriOf, fieldsIn, keySpan, readAnswer}
+use Rattle.nlri.specs.declared.fields.Nlri.{Nlri}
+use Rattle.nlri.specs.Statements.{ReadAs, Held, HeldNlri, RoundTrips}
+use Rattle.nlri.proofs.Table.{rowOf, known}
+use Rattle.nlri.proofs.ReadRefusals.{readRefusals, not-done}
+use Rattle.nlri.proofs.Lengths.{address-most, originator-most, family-octets}
+use Rattle.nlri.proofs.Acceptance.{fields-same, field-in-body, read-sound, read-encoded}
+use Rattle.nlri.proofs.Writes.{write-is, write-well, write-restricted, written}
+
+write-read : (afi : ℕ) (s : List ℕ) (f : Fields) (space : ℕ) → AllOctets s → readNlri afi s ≡ given f → length s ≤ space → writeNlri afi f space ≡ given s
+write-read afi s f space a e room =
+    let r = read-sound afi s f a e in
+    let len : length (encodeNlri f) ≤ space = omega (arith, ap length (r .encoded)) in
+    write-well afi (r .family) (r .bits) f space (r .wellFormed) ∙ pick-false _ _ _ (le-ltb space (length (encodeNlri f)) len) ∙ ap given (sym (r .encoded))
+
+read-written : (afi : ℕ) (f : Fields) (space : ℕ) (e : List ℕ) → Held f → writeNlri afi f space ≡ given e → readNlri afi e ≡ given (restricted f)
+read-written afi f space e held w =
+    let p = passed _ _ _ (sym (write-is afi f space) ∙ w) in
+    let r = written afi (p .value) (p .first) f held space e w in
+    ap (readNlri afi) (sym (r .1)) ∙ read-encoded afi (p .value) f (p .first) (r .0)
+
+-- an address as a struct, and back
+address-back : (x : List ℕ) → length x ≤ 16 → octetsOf (addressOf x) ≡ x
+unfolding octetsOf addressOf
+address-back x h = sized-back 16 x h
+
+struct-back : (afi family : ℕ) (f : Fields) → familyBits afi ≡ given family → WellFormed family f → restricted f ≡ f → restricted (fieldsIn (nlriOf f) (f .key)) ≡ f
+unfolding restricted fieldsIn nlriOf distinguisherOf
+struct-back afi family f bits w whole =
+    let body : List Kind = bodyOf (f .type) in
+    let small : family ≤ 128 = family-octets afi family bits .1 in
+    let at : (k : Kind) → has k body ≡ true → WellFormedField (KeyOf family) family f k = λ k h. field-in-body (KeyOf family) family f k body (w .body) h in
+    fields-same refl
+    (pick-cong _ _ _ _ _ (λ h. sized-same 8 (f .distinguisher) (at distinguisher h .0)) (λ _. refl))
+    refl
+    (pick-cong _ _ _ _ _ (λ h. address-back (f .source) (omega (arith, address-most family (f .type) (f .source) small (at source h .0)))) (λ _. refl))
+    (pick-cong _ _ _ _ _ (λ h. address-back (f .group) (omega (arith, address-most family (f .type) (f .group) small (at group h .0)))) (λ _. refl))
+    (pick-cong _ _ _ _ _ (λ h. address-back (f .originator) (originator-most (length (f .originator)) (at originator h .0))) (λ _. refl))
+    refl
+    ∙ whole
+
+struct-same : (afi : ℕ) (s : List ℕ) (f : Fields) → AllOctets s → readNlri afi s ≡ given f → restricted (fieldsIn (nlriOf f) (f .key)) ≡ f
+struct-same afi s f a e = let r = read-sound afi s f a e in struct-back afi (r .family) f (r .bits) (r .wellFormed) (r .whole)
+
+write-struct : (afi : ℕ) (s : List ℕ) (f : Fields) (space : ℕ) → AllOctets s → readNlri afi s ≡ given f → length s ≤ space → writeNlri afi (fieldsIn (nlriOf f) (f .key)) space ≡ given s
+write-struct afi s f space a e room =
+    sym (write-restricted afi (fieldsIn (nlriOf f) (f .key)) space) ∙ ap (λ (g : Fields). writeNlri afi g space) (struct-same afi s f a e) ∙ write-read afi s f space a e room
+
+struct-held : (nlri : Nlri) (octets : List ℕ) → HeldNlri nlri → AllOctets octets → Held (fieldsIn nlri octets)
+unfolding fieldsIn octetsOf
+struct-held nlri octets h k =
+    record {
+      distinguisher = h .distinguisher;
+      sourceAs = h .sourceAs;
+      source = octets-sized _ (h .source);
+      group = octets-sized _ (h .group);
+      originator = octets-sized _ (h .originator);
+      key = k;
+    }
+
+take-none : (x y : List ℕ) → x ≡ [] → take (length x) y ≡ x
+take-none x y e = rw e
+
+leaf-body : (f : Fields) → f .type ≡ 4 → encodeBody f (bodyOf (f .type)) ≡ f .key ++ (f .originator ++ [])
+unfolding encodeBody encodeField bodyOf bodies onBody pick
+leaf-body f e = ap (λ (n : ℕ). encodeBody f (bodyOf n)) e
+
+key-spanned : (afi : ℕ) (s : List ℕ) (f : Fields) → AllOctets s → readNlri afi s ≡ given f → part s (keySpan f .start) (keySpan f .size) ≡ f .key
+unfolding part keySpan restricted encodeNlri
+key-spanned afi s f a e = go (eqb (f .type) 4) refl
+  where
+    r : ReadAs afi s f
+    r = read-sound afi s f a e
+
+    go : (b : Bool) → eqb (f .type) 4 ≡ b → take (length (f .key)) (drop (pick (eqb (f .type) 4) 2 0) s) ≡ f .key
+    go true leaf =
+        ap (λ (n : ℕ). take (length (f .key)) (drop n s)) (pick-true _ _ _ leaf) ∙ ap (λ (x : List ℕ). take (length (f .key)) (drop 2 x)) (r .encoded)
+        ∙ ap (take (length (f .key))) (leaf-body f (eqb-true _ _ leaf)) ∙ take-append-seam (f .key) (f .originator ++ [])
+    go false other =
+        let row = rowOf (f .type) (known (f .type) (r .wellFormed .typed .0) (r .wellFormed .typed .1)) in
+        take-none (f .key) _ (ap (λ (g : Fields). g .key) (sym (r .whole)) ∙ pick-false _ _ _ (row .plain (eqb-false _ _ other) .0))
+
+-- what the call of reading answers where it is DONE
+answered : (afi : ℕ) (s : List ℕ) (space : ℕ) → AllOctets s → readAnswer (readNlri afi s) .number ≡ DONE → length s ≤ space
+    → writeNlri afi (fieldsIn (readAnswer (readNlri afi s) .nlri) (part s (readAnswer (readNlri afi s) .key .start) (readAnswer (readNlri afi s) .key .size))) space ≡ given s
+unfolding readAnswer onOutcome
+answered afi s space a done room = go (readNlri afi s) refl done
+  where
+    go : (o : Outcome Fields) → readNlri afi s ≡ o → readAnswer o .number ≡ DONE
+        → writeNlri afi (fieldsIn (readAnswer o .nlri) (part s (readAnswer o .key .start) (readAnswer o .key .size))) space ≡ given s
+    go (given f) e done = ap (λ (k : List ℕ). writeNlri afi (fieldsIn (nlriOf f) k) space) (key-spanned afi s f a e) ∙ write-struct afi s f space a e room
+    go (refused n) e done = absurd (not-done afi s n (readRefusals .exactly afi s n a .0 e) done)
+
+pub roundTrips : RoundTrips
+roundTrips =
+    record {
+      written = write-read;
+      read = read-written;
+      unseen = write-restricted;
+      struct = struct-same;
+      spanned = key-spanned;
+      structWritten = write-struct;
+      answered = answered;
+      structRead = λ afi nlri octets space e h k w. read-written afi (fieldsIn nlri octets) space e (struct-held nlri octets h k) w;
+    }

@@ -1,0 +1,210 @@
+-- Laws of the table of bodies: which types it lists, and what holds of each of its rows, by computation.
+use mathlib.Core.Path.{_≡_, refl, sym, _∙_, ap, subst}
+use mathlib.Core.Bool.{Bool, true, false, not}
+use mathlib.Core.List.{List, [], _∷_, map}
+use mathlib.Core.Logic.{⊎-elim}
+use Prim.Native.Nat.{ℕ, zero, suc, _+_, _≤_}
+use native.Mathlib.Omega.{arith}
+use borrow.Author.Tests.{eqb-true, eq-eqb, leb-true, not-true}
+use lib.ListN.{length}
+use lib.Dec.{eqb, leb}
+use Rattle.octets.specs.Choice.{pick, both, either}
+use Rattle.octets.proofs.Outcomes.{pick-true, pick-false}
+use Rattle.octets.proofs.Tests.{either-left}
+use Rattle.octets.proofs.Refusals.{either-false-left, either-false-right, either-second, is-false}
+use Rattle.octets.proofs.Inversions.{opposite, either-true, both-true-left, both-true-right}
+use Rattle.nlri.specs.Bodies.{Kind, distinguisher, sourceAs, source, group, originator, key, Row, row, bodies, onBody, bodyOf, codeOf, sameKind, fieldIn, has}
+
+unfoldable pub listed : List Row → ℕ → Bool
+listed [] type = false
+listed (row n body ∷ rows) type = either (eqb type n) (listed rows type)
+
+bodyIn : List Row → ℕ → List Kind
+bodyIn table type = onBody table type [] (λ body. body)
+
+step : {B : Type 0} (b d : Bool) (body rest : List Kind) (x other : B) (next : List Kind → B) → x ≡ pick d (next rest) other
+    → pick b (next body) x ≡ pick (either b d) (next (pick b body rest)) other
+unfolding pick either
+step true d body rest x other next e = refl
+step false d body rest x other next e = e
+
+on-table : {B : Type 0} (table : List Row) (type : ℕ) (other : B) (next : List Kind → B) → onBody table type other next ≡ pick (listed table type) (next (bodyIn table type)) other
+unfolding onBody listed pick bodyIn
+on-table [] type other next = refl
+on-table (row n body ∷ rows) type other next = step (eqb type n) (listed rows type) body (bodyIn rows type) _ other next (on-table rows type other next)
+
+-- the table either lists the type, or not
+pub on-body : {B : Type 0} (type : ℕ) (other : B) (next : List Kind → B) → onBody bodies type other next ≡ pick (listed bodies type) (next (bodyOf type)) other
+unfolding bodyOf bodyIn
+on-body type other next = on-table bodies type other next
+
+pub known : (type : ℕ) → 1 ≤ type → type ≤ 7 → listed bodies type ≡ true
+unfolding listed bodies either
+known zero low high = absurd (omega arith)
+known (suc zero) low high = refl
+known (suc (suc zero)) low high = refl
+known (suc (suc (suc zero))) low high = refl
+known (suc (suc (suc (suc zero)))) low high = refl
+known (suc (suc (suc (suc (suc zero))))) low high = refl
+known (suc (suc (suc (suc (suc (suc zero)))))) low high = refl
+known (suc (suc (suc (suc (suc (suc (suc zero))))))) low high = refl
+known (suc (suc (suc (suc (suc (suc (suc (suc n)))))))) low high = absurd (omega arith)
+
+-- a test that every row passes
+every : (ℕ → List Kind → Bool) → List Row → Bool
+every test [] = true
+every test (row n body ∷ rows) = both (test n body) (every test rows)
+
+every-listed : (test : ℕ → List Kind → Bool) (table : List Row) (type : ℕ) → every test table ≡ true → listed table type ≡ true → test type (bodyIn table type) ≡ true
+unfolding every listed bodyIn onBody either pick
+every-listed test [] type e l = absurd (opposite l refl)
+every-listed test (row n body ∷ rows) type e l =
+    go (eqb type n) refl l (both-true-left _ _ e) (λ later. every-listed test rows type (both-true-right (test n body) _ e) later)
+  where
+    go : (b : Bool) → eqb type n ≡ b → either b (listed rows type) ≡ true → test n body ≡ true → (listed rows type ≡ true → test type (bodyIn rows type) ≡ true)
+        → test type (pick b body (bodyIn rows type)) ≡ true
+    go true same l here later = subst (λ (m : ℕ). test m body ≡ true) (sym (eqb-true type n same)) here
+    go false other l here later = later l
+
+-- no kind of field stands twice
+unfoldable pub distinct : List Kind → Bool
+distinct [] = true
+distinct (k ∷ body) = both (not (has k body)) (distinct body)
+
+-- an originator is what remains: nothing stands after it
+unfoldable pub closes : Kind → List Kind → Bool
+closes distinguisher body = true
+closes sourceAs body = true
+closes source body = true
+closes group body = true
+closes originator [] = true
+closes originator (k ∷ body) = false
+closes key body = true
+
+unfoldable pub closed : List Kind → Bool
+closed [] = true
+closed (k ∷ body) = both (closes k body) (closed body)
+
+-- the most octets that a body takes, where a key takes at most `w`
+unfoldable pub most : ℕ → Kind → ℕ
+most w distinguisher = 8
+most w sourceAs = 4
+most w source = 17
+most w group = 17
+most w originator = 16
+most w key = w
+
+unfoldable pub mostIn : ℕ → List Kind → ℕ
+mostIn w [] = 0
+mostIn w (k ∷ body) = most w k + mostIn w body
+
+rowTest : ℕ → List Kind → Bool
+rowTest n body =
+    both (both (leb 1 n) (leb n 7))
+    (both (both (distinct body) (closed body)) (both (leb (mostIn 60 body) 76) (either (eqb n 4) (both (not (has key body)) (leb (mostIn 60 body) 58)))))
+
+-- what holds of the row of a type
+pub record RowOf (type : ℕ) : Type 0 where
+  pub low : 1 ≤ type
+  pub high : type ≤ 7
+  pub distinct : distinct (bodyOf type) ≡ true
+  pub closed : closed (bodyOf type) ≡ true
+  pub most : mostIn 60 (bodyOf type) ≤ 76
+  -- only a Leaf has a key
+  pub plain : (type ≡ 4 → ⊥) → (has key (bodyOf type) ≡ false) × (mostIn 60 (bodyOf type) ≤ 58)
+
+tested : every rowTest bodies ≡ true
+unfolding every rowTest bodies both distinct closed closes mostIn most has either sameKind codeOf
+tested = refl
+
+pub rowOf : (type : ℕ) → listed bodies type ≡ true → RowOf type
+unfolding rowTest bodyOf bodyIn
+rowOf type l =
+    let h = every-listed rowTest bodies type tested l in
+    let range = both-true-left _ _ h in
+    let rest = both-true-right _ _ h in
+    let shape = both-true-left _ _ rest in
+    let size = both-true-right _ _ rest in
+    record {
+      low = leb-true _ _ (both-true-left _ _ range);
+      high = leb-true _ _ (both-true-right _ _ range);
+      distinct = both-true-left _ _ shape;
+      closed = both-true-right _ _ shape;
+      most = leb-true _ _ (both-true-left _ _ size);
+      plain = λ other.
+          ⊎-elim (λ leaf. absurd (other (eqb-true _ _ leaf))) (λ h. (not-true _ (both-true-left _ _ h), leb-true _ _ (both-true-right _ _ h))) (either-true _ _ (both-true-right _ _ size));
+    }
+
+pub unlisted : (type : ℕ) → ((1 ≤ type) × (type ≤ 7) → ⊥) → listed bodies type ≡ false
+unlisted type h = is-false _ (λ l. let row = rowOf type l in h (row .low, row .high))
+
+-- kinds by their codes
+pub same-self : (k : Kind) → sameKind k k ≡ true
+unfolding sameKind
+same-self k = eq-eqb (codeOf k) (codeOf k) refl
+
+kindAt : ℕ → Kind
+kindAt n = pick (eqb n 0) distinguisher (pick (eqb n 1) sourceAs (pick (eqb n 2) source (pick (eqb n 3) group (pick (eqb n 4) originator key))))
+
+by-code : (k : Kind) → k ≡ kindAt (codeOf k)
+unfolding kindAt codeOf pick
+by-code distinguisher = refl
+by-code sourceAs = refl
+by-code source = refl
+by-code group = refl
+by-code originator = refl
+by-code key = refl
+
+pub same-kind : (a b : Kind) → sameKind a b ≡ true → a ≡ b
+unfolding sameKind
+same-kind a b e = by-code a ∙ ap kindAt (eqb-true (codeOf a) (codeOf b) e) ∙ sym (by-code b)
+
+-- of what a function makes of each kind along a body, the one of a kind is the function's at that kind
+pub field-of-map : {A : Type 0} (none : A) (g : Kind → A) (kind : Kind) (body : List Kind) → fieldIn none kind body (map g body) ≡ pick (has kind body) (g kind) none
+unfolding fieldIn has pick either
+field-of-map none g kind [] = refl
+field-of-map none g kind (k ∷ body) = go (sameKind kind k) refl (field-of-map none g kind body)
+  where
+    go : (b : Bool) → sameKind kind k ≡ b → fieldIn none kind body (map g body) ≡ pick (has kind body) (g kind) none
+        → pick b (g k) (fieldIn none kind body (map g body)) ≡ pick (either b (has kind body)) (g kind) none
+    go true e later = ap g (sym (same-kind kind k e))
+    go false e later = later
+
+-- the elements of a list that goes along a body, each as a function has it at its kind
+abbrev pub Along : {A : Type 0} → (Kind → A) → List Kind → List A → Type 0
+Along field [] xs = Unit {0}
+Along field (k ∷ body) [] = ⊥
+Along field (k ∷ body) (x ∷ xs) = (field k ≡ x) × Along field body xs
+
+pub has-first : (k : Kind) (body : List Kind) → has k (k ∷ body) ≡ true
+unfolding has
+has-first k body = either-left _ _ (same-self k)
+
+pub has-later : (kind k : Kind) (body : List Kind) → has kind body ≡ true → has kind (k ∷ body) ≡ true
+unfolding has
+has-later kind k body h = either-second _ _ h
+
+along-same : {A : Type 0} (field other : Kind → A) (body : List Kind) (xs : List A) → ((kind : Kind) → has kind body ≡ true → other kind ≡ field kind) → Along field body xs → Along other body xs
+along-same field other [] xs h a = tt
+along-same field other (k ∷ body) [] h a = a
+along-same field other (k ∷ body) (x ∷ xs) h a = (h k (has-first k body) ∙ a .0, along-same field other body xs (λ kind e. h kind (has-later kind k body e)) (a .1))
+
+apart : (kind k : Kind) (body : List Kind) → has kind body ≡ true → has k body ≡ false → sameKind kind k ≡ false
+apart kind k body h n = is-false _ (λ e. opposite (ap (λ (x : Kind). has x body) (sym (same-kind kind k e)) ∙ h) n)
+
+pub along-fields : {A : Type 0} (none : A) (body : List Kind) (xs : List A) → distinct body ≡ true → length xs ≡ length body → Along (λ kind. fieldIn none kind body xs) body xs
+unfolding fieldIn distinct
+along-fields none [] xs d l = tt
+along-fields none (k ∷ body) [] d l = absurd (omega arith)
+along-fields none (k ∷ body) (x ∷ xs) d l = (
+  pick-true _ _ _ (same-self k),
+  along-same (λ kind. fieldIn none kind body xs) _ body xs
+      (λ kind e. pick-false _ _ _ (apart kind k body e (not-true _ (both-true-left _ _ d)))) (along-fields none body xs (both-true-right _ _ d) (omega arith)),
+)
+
+-- a field that the body lacks
+pub lacks : {A : Type 0} (none : A) (kind : Kind) (body : List Kind) (xs : List A) → has kind body ≡ false → fieldIn none kind body xs ≡ none
+unfolding fieldIn has
+lacks none kind [] xs h = refl
+lacks none kind (k ∷ body) [] h = refl
+lacks none kind (k ∷ body) (x ∷ xs) h = pick-false _ _ _ (either-false-left _ _ h) ∙ lacks none kind body xs (either-false-right _ _ h)

@@ -1,0 +1,160 @@
+-- A body, and a whole NLRI, is read exactly where it stands encoded and well-formed, for every judge of keys.
+use mathlib.Core.Path.{_≡_, refl, sym, _∙_, ap, ap₂, subst}
+use mathlib.Core.Bool.{true}
+use mathlib.Core.List.{List, [], _∷_, _++_, map, append-assoc}
+use Prim.Native.Nat.{ℕ, suc, _+_, _*_, _/_, _-_, _≤_, _<_}
+use native.Mathlib.Omega.{arith}
+use borrow.Author.Tests.{eqb-true, ltb-false, le-ltb}
+use lib.ListN.{length, getD, take, drop, length-append, take-append-drop}
+use lib.Seq.{take-append-seam, drop-append-seam}
+use Rattle.octets.specs.Outcome.{Outcome, given}
+use Rattle.octets.specs.Octets.{AllOctets, none, one, part}
+use Rattle.octets.proofs.Outcomes.{pick-true, pick-false}
+use Rattle.octets.proofs.Tests.{goes}
+use Rattle.octets.proofs.Inversions.{unless, only, passed, given-same, opposite, both-true-left, both-true-right}
+use Rattle.octets.proofs.OctetLists.{octets-drop, octets-part, empty-list, take-two, part-size}
+use Rattle.octets.proofs.NetworkOrder.{octets-append}
+use Rattle.nlri.specs.Bodies.{Kind, distinguisher, sourceAs, source, group, originator, key, bodies, bodyOf, fieldIn}
+use Rattle.nlri.specs.Fields.{Fields, encodeField, encodeBody, encodeNlri, WellFormedBody}
+use Rattle.nlri.specs.Reading.{Laid, fieldSize, sizesOf, laidWith, cut}
+use Rattle.nlri.specs.Statements.{Closes}
+use Rattle.nlri.proofs.Table.{listed, on-body, known, RowOf, rowOf, closes, closed, mostIn, Along, along-fields}
+use Rattle.nlri.proofs.Judged.{Judges, fieldsFrom, field-sound, field-complete, field-most, field-octets}
+
+-- the encodings of the fields of a body, and their sizes
+abbrev pub piecesOf : Fields → List Kind → List (List ℕ)
+piecesOf f body = map (encodeField f) body
+
+abbrev pub sizesIn : Fields → List Kind → List ℕ
+sizesIn f body = map (λ k. length (encodeField f k)) body
+
+pub cut-body : (f : Fields) (body : List Kind) (t : List ℕ) → cut (sizesIn f body) (encodeBody f body ++ t) ≡ piecesOf f body
+unfolding cut encodeBody
+cut-body f [] t = refl
+cut-body f (k ∷ body) t =
+    rw (append-assoc (encodeField f k) (encodeBody f body) t, take-append-seam (encodeField f k) (encodeBody f body ++ t), drop-append-seam (encodeField f k) (encodeBody f body ++ t), cut-body f body t)
+
+pub cut-length : (sizes s : List ℕ) → length (cut sizes s) ≡ length sizes
+unfolding cut
+cut-length [] s = refl
+cut-length (n ∷ sizes) s = ap suc (cut-length sizes (drop n s))
+
+closes-body : (f : Fields) (k : Kind) (body : List Kind) → closes k body ≡ true → Closes k (encodeBody f body)
+unfolding closes encodeBody
+closes-body f distinguisher body h = tt
+closes-body f sourceAs body h = tt
+closes-body f source body h = tt
+closes-body f group body h = tt
+closes-body f originator [] h = refl
+closes-body f originator (k ∷ body) h = absurd (opposite h refl)
+closes-body f key body h = tt
+
+-- what was laid out
+pub record LaidOut (judge : List ℕ → Outcome ℕ) (family : ℕ) (s : List ℕ) (laid : Laid) : Type 0 where
+  pub row : RowOf (laid .type)
+  pub body : laid .body ≡ bodyOf (laid .type)
+  pub enough : 2 ≤ length s
+  pub typed : laid .type ≡ getD s 0 0
+  pub sized : laid .length ≡ getD s 1 0
+  pub fits : laid .length ≤ length s - 2
+  pub sizes : sizesOf (fieldSize judge family (laid .type)) (bodyOf (laid .type)) (part s 2 (laid .length)) ≡ given (laid .sizes)
+
+pub laid-out : (judge : List ℕ → Outcome ℕ) (family : ℕ) (s : List ℕ) (laid : Laid) → laidWith judge family s ≡ given laid → LaidOut judge family s laid
+unfolding laidWith
+laid-out judge family s laid e =
+    let p = unless _ _ _ _ e in
+    let q = unless _ _ _ _ (p .1) in
+    let r = only _ _ _ _ (sym (on-body _ _ _) ∙ q .1) in
+    let w = passed _ _ _ (r .1) in
+    subst (LaidOut judge family s) (given-same (w .second))
+    (record {
+      row = rowOf _ (r .0);
+      body = refl;
+      enough = omega (arith, ltb-false);
+      typed = refl;
+      sized = refl;
+      fits = omega (arith, ltb-false);
+      sizes = w .first;
+    })
+
+module _ (judge : List ℕ → Outcome ℕ) (Key : List ℕ → Type 0) (judges : Judges judge Key) (family : ℕ) (whole : 8 * (family / 8) ≡ family) where
+  sizes-length : (type : ℕ) (body : List Kind) (s sizes : List ℕ) → sizesOf (fieldSize judge family type) body s ≡ given sizes → length sizes ≡ length body
+  unfolding sizesOf
+  sizes-length type [] s sizes e = ap length (sym (given-same (only _ _ _ _ e .1)))
+  sizes-length type (k ∷ body) s sizes e =
+      let p = passed _ _ _ e in
+      let q = passed _ _ _ (p .second) in
+      ap length (sym (given-same (q .second))) ∙ ap suc (sizes-length type body _ (q .value) (q .first))
+
+  -- a body read is well-formed, and is its encoding
+  body-sound : (type : ℕ) (body : List Kind) (s sizes : List ℕ) (field : Kind → List ℕ) → AllOctets s → sizesOf (fieldSize judge family type) body s ≡ given sizes → Along field body (cut sizes s)
+      → WellFormedBody Key family (fieldsFrom type field) body × (encodeBody (fieldsFrom type field) body ≡ s)
+  unfolding sizesOf encodeBody cut
+  body-sound type [] s sizes field a e al = (tt, sym (empty-list s (eqb-true _ _ (only _ _ _ _ e .0))))
+  body-sound type (k ∷ body) s sizes field a e al =
+      let p = passed _ _ _ e in
+      let q = passed _ _ _ (p .second) in
+      let n : ℕ = p .value in
+      let cuts : Along field (k ∷ body) (cut (n ∷ q .value) s) = subst (λ (z : List ℕ). Along field (k ∷ body) (cut z s)) (sym (given-same (q .second))) al in
+      let here = field-sound judge Key judges family whole type k s n field a (p .first) (cuts .0) in
+      let later = body-sound type body (drop n s) (q .value) field (octets-drop n a) (q .first) (cuts .1) in
+      ((here .1, later .0), ap₂ (λ (x y : List ℕ). x ++ y) (here .2) (later .1) ∙ take-append-drop n s)
+
+  -- a well-formed body that stands encoded is read
+  body-complete : (f : Fields) (body : List Kind) → closed body ≡ true → WellFormedBody Key family f body → sizesOf (fieldSize judge family (f .type)) body (encodeBody f body) ≡ given (sizesIn f body)
+  unfolding sizesOf encodeBody closed
+  body-complete f [] c w = pick-true _ _ _ refl
+  body-complete f (k ∷ body) c w =
+      sym (goes _ _ _ _ (field-complete judge Key judges family whole f k (encodeBody f body) (w .0) (closes-body f k body (both-true-left _ _ c)))
+      (goes _ _ _ _ (ap (sizesOf (fieldSize judge family (f .type)) body) (drop-append-seam (encodeField f k) (encodeBody f body)) ∙ body-complete f body (both-true-right (closes k body) _ c) (w .1)) refl))
+
+  body-most : (w : ℕ) → ((k : List ℕ) → Key k → length k ≤ w) → family ≤ 128 → (f : Fields) (body : List Kind) → WellFormedBody Key family f body → length (encodeBody f body) ≤ mostIn w body
+  unfolding encodeBody mostIn
+  body-most w bound small f [] h = omega arith
+  body-most w bound small f (k ∷ body) h =
+      rw length-append (omega (arith, field-most judge Key judges family whole w bound small f k (h .0), body-most w bound small f body (h .1)))
+
+  body-octets : ((k : List ℕ) → Key k → AllOctets k) → family ≤ 128 → (f : Fields) (body : List Kind) → WellFormedBody Key family f body → AllOctets (encodeBody f body)
+  unfolding encodeBody
+  body-octets ofKey small f [] h = none
+  body-octets ofKey small f (k ∷ body) h = octets-append (field-octets judge Key judges family whole ofKey small f k (h .0)) (body-octets ofKey small f body (h .1))
+
+  -- the fields of what was laid out
+  abbrev pub fieldsAt : List ℕ → Laid → Fields
+  fieldsAt s laid = fieldsFrom (laid .type) (λ kind. fieldIn [] kind (laid .body) (cut (laid .sizes) (part s 2 (laid .length))))
+
+  -- an NLRI read is well-formed, and is its encoding
+  pub laid-sound : (s : List ℕ) (laid : Laid) → AllOctets s → laidWith judge family s ≡ given laid
+      → WellFormedBody Key family (fieldsAt s laid) (bodyOf (laid .type)) × (take (2 + laid .length) s ≡ encodeNlri (fieldsAt s laid))
+  unfolding encodeNlri
+  laid-sound s laid a e =
+      let o = laid-out judge family s laid e in
+      let rest : List ℕ = part s 2 (laid .length) in
+      let along : Along (λ kind. fieldIn [] kind (laid .body) (cut (laid .sizes) rest)) (bodyOf (laid .type)) (cut (laid .sizes) rest) =
+      rw (o .body) (along-fields [] (bodyOf (laid .type)) (cut (laid .sizes) rest) (o .row .distinct) (cut-length _ _ ∙ sizes-length (laid .type) _ _ _ (o .sizes))) in
+      let b = body-sound (laid .type) (bodyOf (laid .type)) rest (laid .sizes) _ (octets-part 2 (laid .length) a) (o .sizes) along in
+      let len : laid .length ≡ length (encodeBody (fieldsAt s laid) (bodyOf (laid .type))) = sym (ap length (b .1) ∙ part-size s 2 (laid .length) (omega (arith, o .fits, o .enough))) in
+      (b .0, take-two s (laid .length) (o .enough) ∙ ap₂ (λ (x : ℕ) (y : List ℕ). x ∷ y) (sym (o .typed)) (ap₂ (λ (x : ℕ) (y : List ℕ). x ∷ y) (sym (o .sized) ∙ len) (sym (b .1))))
+
+  -- a well-formed NLRI that stands encoded is read
+  pub laid-complete : (f : Fields) (t : List ℕ) → (1 ≤ f .type) × (f .type ≤ 7) → WellFormedBody Key family f (bodyOf (f .type))
+      → laidWith judge family (encodeNlri f ++ t) ≡ given (record { type = f .type; length = length (encodeBody f (bodyOf (f .type))); body = bodyOf (f .type); sizes = sizesIn f (bodyOf (f .type)) })
+  unfolding laidWith encodeNlri part
+  laid-complete f t range w =
+      let l : listed bodies (f .type) ≡ true = known (f .type) (range .0) (range .1) in
+      let body : List Kind = bodyOf (f .type) in
+      pick-false _ _ _ (le-ltb (suc (suc (length (encodeBody f body ++ t)))) 2 (omega arith))
+      ∙ pick-false _ _ _ (le-ltb (suc (suc (length (encodeBody f body ++ t))) - 2) (length (encodeBody f body)) (simp length-append (omega arith)))
+      ∙ on-body (f .type) _ _
+      ∙ pick-true _ _ _ l
+      ∙ sym (goes _ _ _ _ (ap (sizesOf (fieldSize judge family (f .type)) body) (take-append-seam (encodeBody f body) t) ∙ body-complete f body (rowOf (f .type) l .closed) w) refl)
+
+  -- a well-formed NLRI in octets: its Length fits an octet
+  pub nlri-octets : (w : ℕ) → ((k : List ℕ) → Key k → (length k ≤ w) × AllOctets k) → family ≤ 128 → (f : Fields) → (1 ≤ f .type) × (f .type ≤ 7) → WellFormedBody Key family f (bodyOf (f .type))
+      → (most : ℕ) → mostIn w (bodyOf (f .type)) ≤ most → most < 256 → (length (encodeNlri f) ≤ 2 + most) × AllOctets (encodeNlri f)
+  unfolding encodeNlri
+  nlri-octets w ofKey small f range h most within fits =
+      let len = body-most w (λ k key. ofKey k key .0) small f (bodyOf (f .type)) h in
+      let first : f .type < 256 = omega arith in
+      let second : length (encodeBody f (bodyOf (f .type))) < 256 = omega arith in
+      (omega arith, one first (one second (body-octets (λ k key. ofKey k key .1) small f (bodyOf (f .type)) h)))

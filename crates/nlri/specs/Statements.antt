@@ -1,0 +1,274 @@
+-- What holds of the definitions as a whole, in document 01's notions. Stated here, proved in proofs/.
+use Prim.Native.Nat.{ℕ, _+_, _*_, _-_, _/_, _^_, _≤_, _<_}
+use mathlib.Core.Path.{_≡_}
+use mathlib.Core.Bool.{true, false}
+use mathlib.Core.List.{List, [], _∷_, _++_}
+use mathlib.Core.Logic.{_↔_, _≢_, _⊎_}
+use lib.ListN.{length, getD, take, drop}
+use Rattle.octets.specs.Numbers.{DONE, SHORT, TYPE, LENGTH, WIDTH, KEY, LONG, FAMILY, FLOW, SPACE}
+use Rattle.octets.specs.Outcome.{given, refused}
+use Rattle.octets.specs.Octets.{AllOctets, part}
+use Rattle.nlri.specs.Family.{familyBits, allowed, originatorSize}
+use Rattle.nlri.specs.Bodies.{Kind, distinguisher, sourceAs, source, group, originator, key, bodyOf, has}
+use Rattle.nlri.specs.Fields.{Fields, encodeField, encodeNlri, WellFormedField, WellFormed, KeyOf, restricted}
+use Rattle.nlri.specs.Reading.{laidAt, readNlri}
+use Rattle.nlri.specs.Writing.{writeNlri}
+use Rattle.nlri.specs.Walking.{readTo, stoppedAt, stepFrom, walkOf}
+use Rattle.nlri.specs.Groups.{ASM, SSM, classOf}
+use Rattle.nlri.specs.declared.fields.Nlri.{Nlri}
+use Rattle.nlri.specs.declared.layout.Layout.{Layout}
+use Rattle.nlri.specs.declared.run.Walked.{Walked}
+use Rattle.nlri.specs.Answers.{nlriOf, fieldsIn, keySpan, readAnswer}
+
+-- "NLRI on the wire": the lengths
+pub record Lengths : Type 0 where
+  -- 32 bits for AFI 1, 128 for AFI 2
+  pub families : (afi family : ℕ) → (familyBits afi ≡ given family) ↔ (((afi ≡ 1) × (family ≡ 32)) ⊎ ((afi ≡ 2) × (family ≡ 128)))
+  -- a source or group length is the family's, or 0 in type 3
+  pub addresses : (family type bits : ℕ) → (allowed family type bits ≡ true) ↔ ((bits ≡ family) ⊎ ((type ≡ 3) × (bits ≡ 0)))
+  -- an originator has 4 or 16 octets
+  pub originators : (size : ℕ) → (originatorSize size ≡ true) ↔ ((size ≡ 4) ⊎ (size ≡ 16))
+
+-- octets that are the encoding of well-formed fields of the AFI's family, fields that the type lacks being empty
+pub record ReadAs (afi : ℕ) (s : List ℕ) (f : Fields) : Type 0 where
+  pub family : ℕ
+  pub bits : familyBits afi ≡ given family
+  pub wellFormed : WellFormed family f
+  pub whole : restricted f ≡ f
+  pub encoded : s ≡ encodeNlri f
+
+-- "NLRI on the wire": octets are accepted exactly when they are the encoding of well-formed fields, and reading gives those fields
+pub record Acceptance : Type 0 where
+  pub exactly : (afi : ℕ) (s : List ℕ) (f : Fields) → AllOctets s → (readNlri afi s ≡ given f) ↔ ReadAs afi s f
+  -- whatever stands in the fields that the type lacks, their encoding is read as the fields without these
+  pub encoded : (afi family : ℕ) (f : Fields) → familyBits afi ≡ given family → WellFormed family f → readNlri afi (encodeNlri f) ≡ given (restricted f)
+  pub octets : (afi family : ℕ) (f : Fields) → familyBits afi ≡ given family → WellFormed family f → AllOctets (encodeNlri f)
+  -- an encoding has at most 78 octets, and at most 60 where it is no Leaf's
+  pub most : (afi family : ℕ) (f : Fields) → familyBits afi ≡ given family → WellFormed family f → length (encodeNlri f) ≤ 78
+  pub plain : (afi family : ℕ) (f : Fields) → familyBits afi ≡ given family → WellFormed family f → f .type ≢ 4 → length (encodeNlri f) ≤ 60
+  -- one encoding is of one NLRI
+  pub same : (afi family : ℕ) (f g : Fields) → familyBits afi ≡ given family → WellFormed family f → WellFormed family g → encodeNlri f ≡ encodeNlri g → restricted f ≡ restricted g
+
+-- fields that hold octets and a 32-bit number, as those do that a struct and a buffer of octets stand for
+pub record Held (f : Fields) : Type 0 where
+  pub distinguisher : (length (f .distinguisher) ≡ 8) × AllOctets (f .distinguisher)
+  pub sourceAs : f .sourceAs < 2 ^ 32
+  pub source : AllOctets (f .source)
+  pub group : AllOctets (f .group)
+  pub originator : AllOctets (f .originator)
+  pub key : AllOctets (f .key)
+
+-- an NLRI struct that holds octets and a 32-bit number
+pub record HeldNlri (nlri : Nlri) : Type 0 where
+  pub distinguisher : (length (nlri .distinguisher .octets) ≡ 8) × AllOctets (nlri .distinguisher .octets)
+  pub sourceAs : nlri .«source_as» < 2 ^ 32
+  pub source : AllOctets (nlri .source .octets)
+  pub group : AllOctets (nlri .group .octets)
+  pub originator : AllOctets (nlri .originator .octets)
+
+-- reading and writing undo each other ("NLRI on the wire", and the order of NLRI writing)
+pub record RoundTrips : Type 0 where
+  -- writing what was read gives the same octets
+  pub written : (afi : ℕ) (s : List ℕ) (f : Fields) (space : ℕ) → AllOctets s → readNlri afi s ≡ given f → length s ≤ space → writeNlri afi f space ≡ given s
+  -- reading what was written gives the same fields, those that the type lacks being empty
+  pub read : (afi : ℕ) (f : Fields) (space : ℕ) (e : List ℕ) → Held f → writeNlri afi f space ≡ given e → readNlri afi e ≡ given (restricted f)
+  -- a writer does not look at fields that the type lacks
+  pub unseen : (afi : ℕ) (f : Fields) (space : ℕ) → writeNlri afi (restricted f) space ≡ writeNlri afi f space
+  -- the struct and the key's octets that reading answers stand for the fields read
+  pub struct : (afi : ℕ) (s : List ℕ) (f : Fields) → AllOctets s → readNlri afi s ≡ given f → restricted (fieldsIn (nlriOf f) (f .key)) ≡ f
+  -- the key's octets stand where the answer's span says
+  pub spanned : (afi : ℕ) (s : List ℕ) (f : Fields) → AllOctets s → readNlri afi s ≡ given f → part s (keySpan f .start) (keySpan f .size) ≡ f .key
+  -- writing the struct and the key's octets gives the same octets
+  pub structWritten : (afi : ℕ) (s : List ℕ) (f : Fields) (space : ℕ) → AllOctets s → readNlri afi s ≡ given f → length s ≤ space → writeNlri afi (fieldsIn (nlriOf f) (f .key)) space ≡ given s
+  -- so writing what the call of reading answers, the key taken from the octets read, gives these octets
+  pub answered : (afi : ℕ) (s : List ℕ) (space : ℕ) → AllOctets s → readAnswer (readNlri afi s) .number ≡ DONE → length s ≤ space
+      → writeNlri afi (fieldsIn (readAnswer (readNlri afi s) .nlri) (part s (readAnswer (readNlri afi s) .key .start) (readAnswer (readNlri afi s) .key .size))) space ≡ given s
+  -- what a struct and a key's octets stand for comes back when it was written
+  pub structRead : (afi : ℕ) (nlri : Nlri) (key : List ℕ) (space : ℕ) (e : List ℕ) → HeldNlri nlri → AllOctets key → writeNlri afi (fieldsIn nlri key) space ≡ given e
+      → readNlri afi e ≡ given (restricted (fieldsIn nlri key))
+
+-- an originator is what remains
+abbrev pub Closes : Kind → List ℕ → Type 0
+Closes distinguisher t = Unit {0}
+Closes sourceAs t = Unit {0}
+Closes source t = Unit {0}
+Closes group t = Unit {0}
+Closes originator t = t ≡ []
+Closes key t = Unit {0}
+
+-- x is the encoding of a well-formed field of one kind, with t after it
+pub record FieldAt (family type : ℕ) (k : Kind) (x t : List ℕ) : Type 0 where
+  pub fields : Fields
+  pub typed : fields .type ≡ type
+  pub wellFormed : WellFormedField (KeyOf family) family fields k
+  pub encoded : x ≡ encodeField fields k
+  pub last : Closes k t
+
+-- the fault of a source or group where s is what remains of the body: a missing length octet; a bad one, before its address is looked for; an end inside the address
+pub data AddressFault (family type : ℕ) (s : List ℕ) : ℕ → Type 0 where
+  missing : length s ≡ 0 → AddressFault family type s LENGTH
+  width : 1 ≤ length s → allowed family type (getD s 0 0) ≡ false → AddressFault family type s WIDTH
+  ends : 1 ≤ length s → allowed family type (getD s 0 0) ≡ true → length s < 1 + getD s 0 0 / 8 → AddressFault family type s LENGTH
+
+-- the fault of a field where s is what remains of the body, and its number; a key's is that no octets at the front are a key
+abbrev pub Fault : (family type : ℕ) → Kind → List ℕ → ℕ → Type 0
+Fault family type distinguisher s n = (length s < 8) × (n ≡ LENGTH)
+Fault family type sourceAs s n = (length s < 4) × (n ≡ LENGTH)
+Fault family type source s n = AddressFault family type s n
+Fault family type group s n = AddressFault family type s n
+Fault family type originator s n = (originatorSize (length s) ≡ false) × (n ≡ LENGTH)
+Fault family type key s n = ((size : ℕ) → size ≤ length s → KeyOf family (take size s) → ⊥) × (n ≡ KEY)
+
+-- the first fault of a body from left to right: octets remain after its last field, its first field faults, or its first field stands and a later one faults
+pub data Faulty (family type : ℕ) : List Kind → List ℕ → ℕ → Type 0 where
+  remains : {s : List ℕ} → 0 < length s → Faulty family type [] s LENGTH
+  here : {k : Kind} {body : List Kind} {s : List ℕ} {n : ℕ} → Fault family type k s n → Faulty family type (k ∷ body) s n
+  later : {k : Kind} {body : List Kind} {s : List ℕ} {n : ℕ} (x t : List ℕ) → s ≡ x ++ t → FieldAt family type k x t → Faulty family type body t n → Faulty family type (k ∷ body) s n
+
+-- fewer octets than the header, or than the Length field, asks
+abbrev pub Short : List ℕ → Type 0
+Short s = (length s < 2) ⊎ (length s - 2 < getD s 1 0)
+
+abbrev pub Typed : ℕ → Type 0
+Typed type = (1 ≤ type) × (type ≤ 7)
+
+-- why reading the NLRI at the front of octets refuses: SHORT, TYPE, then the body
+pub data FrontRefusal (family : ℕ) (s : List ℕ) : ℕ → Type 0 where
+  short : Short s → FrontRefusal family s SHORT
+  badType : (Short s → ⊥) → (Typed (getD s 0 0) → ⊥) → FrontRefusal family s TYPE
+  badBody : {n : ℕ} → (Short s → ⊥) → Typed (getD s 0 0) → Faulty family (getD s 0 0) (bodyOf (getD s 0 0)) (part s 2 (getD s 1 0)) n → FrontRefusal family s n
+
+-- why reading a single NLRI refuses: FAMILY, then its front, then octets after it
+pub data ReadRefusal (afi : ℕ) (s : List ℕ) : ℕ → Type 0 where
+  badFamily : afi ≢ 1 → afi ≢ 2 → ReadRefusal afi s FAMILY
+  front : (family : ℕ) {n : ℕ} → familyBits afi ≡ given family → FrontRefusal family s n → ReadRefusal afi s n
+  after : (family : ℕ) (f : Fields) (t : List ℕ) → familyBits afi ≡ given family → WellFormed family f → s ≡ encodeNlri f ++ t → 0 < length t → ReadRefusal afi s LENGTH
+
+-- "The numbers a call gives back", at NLRI reading: every list of octets is accepted or refused by one number, each given exactly when the page says
+pub record ReadRefusals : Type 0 where
+  pub exactly : (afi : ℕ) (s : List ℕ) (n : ℕ) → AllOctets s → (readNlri afi s ≡ refused n) ↔ ReadRefusal afi s n
+  -- the NLRI at the front of octets, whatever stands after it
+  pub front : (afi family : ℕ) (s : List ℕ) (n : ℕ) → familyBits afi ≡ given family → AllOctets s → (laidAt family s ≡ refused n) ↔ FrontRefusal family s n
+  pub decided : (afi : ℕ) (s : List ℕ) → AllOctets s → ((f : Fields) × ReadAs afi s f) ⊎ ((n : ℕ) × ReadRefusal afi s n)
+  pub one : (afi : ℕ) (s : List ℕ) (m n : ℕ) → AllOctets s → ReadRefusal afi s m → ReadRefusal afi s n → m ≡ n
+  pub never : (afi : ℕ) (s : List ℕ) (f : Fields) (n : ℕ) → AllOctets s → ReadAs afi s f → ReadRefusal afi s n → ⊥
+  -- no refusal is DONE
+  pub done : (afi : ℕ) (s : List ℕ) → ReadRefusal afi s DONE → ⊥
+  -- FAMILY, SHORT and TYPE by themselves
+  pub family : (afi : ℕ) (s : List ℕ) → AllOctets s → (readNlri afi s ≡ refused FAMILY) ↔ ((afi ≢ 1) × (afi ≢ 2))
+  pub short : (afi : ℕ) (s : List ℕ) → AllOctets s → (readNlri afi s ≡ refused SHORT) ↔ (((afi ≡ 1) ⊎ (afi ≡ 2)) × Short s)
+  pub type : (afi : ℕ) (s : List ℕ) → AllOctets s → (readNlri afi s ≡ refused TYPE) ↔ (((afi ≡ 1) ⊎ (afi ≡ 2)) × (Short s → ⊥) × (Typed (getD s 0 0) → ⊥))
+  -- a body's fault is LENGTH, WIDTH or KEY
+  pub bodies : (family type : ℕ) (body : List Kind) (s : List ℕ) (n : ℕ) → Faulty family type body s n → (n ≡ LENGTH) ⊎ (n ≡ WIDTH) ⊎ (n ≡ KEY)
+
+-- a source or group of a length that the type and family do not allow, an originator not of 4 or 16 octets
+abbrev pub WidthFault : ℕ → Fields → Kind → Type 0
+WidthFault family f distinguisher = ⊥
+WidthFault family f sourceAs = ⊥
+WidthFault family f source = allowed family (f .type) (8 * length (f .source)) ≡ false
+WidthFault family f group = allowed family (f .type) (8 * length (f .group)) ≡ false
+WidthFault family f originator = originatorSize (length (f .originator)) ≡ false
+WidthFault family f key = ⊥
+
+-- why writing refuses, in the order FAMILY, TYPE, WIDTH, KEY, SPACE; only fields of the type's body are judged
+pub data WriteRefusal (afi : ℕ) (f : Fields) (space : ℕ) : ℕ → Type 0 where
+  badFamily : afi ≢ 1 → afi ≢ 2 → WriteRefusal afi f space FAMILY
+  badType : (family : ℕ) → familyBits afi ≡ given family → (Typed (f .type) → ⊥) → WriteRefusal afi f space TYPE
+  badWidth : (family : ℕ) → familyBits afi ≡ given family → Typed (f .type) → (k : Kind) → has k (bodyOf (f .type)) ≡ true → WidthFault family f k → WriteRefusal afi f space WIDTH
+  badKey : (family : ℕ) → familyBits afi ≡ given family → Typed (f .type) → ((k : Kind) → has k (bodyOf (f .type)) ≡ true → WidthFault family f k → ⊥)
+      → has key (bodyOf (f .type)) ≡ true → (KeyOf family (f .key) → ⊥) → WriteRefusal afi f space KEY
+  noSpace : (family : ℕ) → familyBits afi ≡ given family → WellFormed family f → space < length (encodeNlri f) → WriteRefusal afi f space SPACE
+
+-- "The numbers a call gives back", at NLRI writing: well-formed fields are written where there is space, and any others are refused by one number
+pub record WriteRefusals : Type 0 where
+  pub exactly : (afi : ℕ) (f : Fields) (space n : ℕ) → Held f → (writeNlri afi f space ≡ refused n) ↔ WriteRefusal afi f space n
+  pub accepted : (afi : ℕ) (f : Fields) (space : ℕ) (e : List ℕ) → Held f
+      → (writeNlri afi f space ≡ given e) ↔ ((family : ℕ) × (familyBits afi ≡ given family) × WellFormed family f × (length e ≤ space) × (e ≡ encodeNlri f))
+
+-- the layout of an NLRI's encoding: its type, its Length, and the sizes that vary
+unfoldable pub layoutFor : Fields → Layout
+layoutFor f =
+    record {
+      «route_type» = f .type;
+      length = length (encodeNlri f) - 2;
+      source = length (restricted f .source);
+      group = length (restricted f .group);
+      originator = length (restricted f .originator);
+      key = length (restricted f .key);
+    }
+
+-- "Walking a run": a step's answer, in the order FAMILY, LONG, the cursor, NLRI reading
+pub record StepRule : Type 0 where
+  pub family : (afi : ℕ) (run : List ℕ) (at : ℕ) → afi ≢ 1 → afi ≢ 2 → stepFrom afi run at ≡ stoppedAt FAMILY at
+  pub long : (afi family : ℕ) (run : List ℕ) (at : ℕ) → familyBits afi ≡ given family → 4096 < length run → stepFrom afi run at ≡ stoppedAt LONG at
+  -- at the run's end DONE with no NLRI, past it SHORT
+  pub ends : (afi family : ℕ) (run : List ℕ) (at : ℕ) → familyBits afi ≡ given family → length run ≤ 4096 → at ≡ length run → stepFrom afi run at ≡ stoppedAt DONE at
+  pub past : (afi family : ℕ) (run : List ℕ) (at : ℕ) → familyBits afi ≡ given family → length run ≤ 4096 → length run < at → stepFrom afi run at ≡ stoppedAt SHORT at
+  pub refuses : (afi family : ℕ) (run : List ℕ) (at n : ℕ) → familyBits afi ≡ given family → AllOctets run → length run ≤ 4096 → at < length run → FrontRefusal family (drop at run) n
+      → stepFrom afi run at ≡ stoppedAt n at
+  -- an NLRI with its layout, and the cursor just past it
+  pub reads : (afi family : ℕ) (run : List ℕ) (at : ℕ) (f : Fields) (t : List ℕ) → familyBits afi ≡ given family → length run ≤ 4096 → WellFormed family f → drop at run ≡ encodeNlri f ++ t
+      → stepFrom afi run at ≡ readTo (layoutFor f) (at + length (encodeNlri f))
+  -- a step that reads moves the cursor by 2 and the Length, within the run; any other hands back the cursor that it was given
+  pub moves : (afi : ℕ) (run : List ℕ) (at : ℕ) → stepFrom afi run at .read ≡ true
+      → (stepFrom afi run at .cursor ≡ at + (2 + stepFrom afi run at .layout .length)) × (at < stepFrom afi run at .cursor) × (stepFrom afi run at .cursor ≤ length run)
+  pub stays : (afi : ℕ) (run : List ℕ) (at : ℕ) → stepFrom afi run at .read ≡ false → stepFrom afi run at .cursor ≡ at
+
+-- the walk from a cursor as the iteration of the step: it goes on from the cursor that a step that read hands back, and stops at any other step
+pub data Walks (afi : ℕ) (run : List ℕ) : (at count : ℕ) → Walked → Type 0 where
+  stopping : {at count : ℕ} → stepFrom afi run at .read ≡ false → Walks afi run at count (record { number = stepFrom afi run at .number; count = count; offset = at })
+  going : {at count : ℕ} {w : Walked} → stepFrom afi run at .read ≡ true → Walks afi run (stepFrom afi run at .cursor) (count + 1) w → Walks afi run at count w
+
+-- NLRIs that follow each other
+unfoldable pub encodeRun : List Fields → List ℕ
+encodeRun [] = []
+encodeRun (f ∷ fs) = encodeNlri f ++ encodeRun fs
+
+abbrev pub AllWellFormed : ℕ → List Fields → Type 0
+AllWellFormed family [] = Unit {0}
+AllWellFormed family (f ∷ fs) = WellFormed family f × AllWellFormed family fs
+
+-- what may stand after the NLRIs of a run, and the number there: nothing, or octets that NLRI reading refuses
+pub data RunEnd (family : ℕ) : List ℕ → ℕ → Type 0 where
+  nothing : RunEnd family [] DONE
+  refusal : {t : List ℕ} {n : ℕ} → 0 < length t → FrontRefusal family t n → RunEnd family t n
+
+-- a run as NLRIs and then its end
+pub record RunOf (family : ℕ) (run : List ℕ) : Type 0 where
+  pub nlris : List Fields
+  pub tail : List ℕ
+  pub number : ℕ
+  pub wellFormed : AllWellFormed family nlris
+  pub end : RunEnd family tail number
+  pub is : run ≡ encodeRun nlris ++ tail
+
+-- "Walking a run"
+pub record WalkRule : Type 0 where
+  -- every run of octets is NLRIs and then its end
+  pub splits : (afi family : ℕ) (run : List ℕ) → familyBits afi ≡ given family → AllOctets run → RunOf family run
+  -- the walk counts these NLRIs, and stops where they end with the number there
+  pub counts : (afi family : ℕ) (run : List ℕ) (r : RunOf family run) → familyBits afi ≡ given family → AllOctets run → length run ≤ 4096
+      → walkOf afi run ≡ record { number = r .number; count = length (r .nlris); offset = length (encodeRun (r .nlris)) }
+  -- a bad AFI, and a run that is too long
+  pub family : (afi : ℕ) (run : List ℕ) → afi ≢ 1 → afi ≢ 2 → walkOf afi run ≡ record { number = FAMILY; count = 0; offset = 0 }
+  pub long : (afi family : ℕ) (run : List ℕ) → familyBits afi ≡ given family → 4096 < length run → walkOf afi run ≡ record { number = LONG; count = 0; offset = 0 }
+  -- the walk is the iteration of the step, and nothing else is
+  pub iterates : (afi : ℕ) (run : List ℕ) → Walks afi run 0 0 (walkOf afi run)
+  pub only : (afi : ℕ) (run : List ℕ) (at count : ℕ) (v w : Walked) → Walks afi run at count v → Walks afi run at count w → v ≡ w
+
+-- "Which route a flow takes": 224.0.0.0/4, FF00::/8
+pub data Multicast : (afi : ℕ) → List ℕ → Type 0 where
+  ipv4 : {g : List ℕ} → length g ≡ 4 → 224 ≤ getD g 0 0 → getD g 0 0 ≤ 239 → Multicast 1 g
+  ipv6 : {g : List ℕ} → length g ≡ 16 → getD g 0 0 ≡ 255 → Multicast 2 g
+
+-- 232.0.0.0/8, FF3x::/32
+pub data SourceSpecific : (afi : ℕ) → List ℕ → Type 0 where
+  ipv4 : {g : List ℕ} → length g ≡ 4 → getD g 0 0 ≡ 232 → SourceSpecific 1 g
+  ipv6 : {g : List ℕ} → length g ≡ 16 → getD g 0 0 ≡ 255 → getD g 1 0 / 16 ≡ 3 → getD g 2 0 ≡ 0 → getD g 3 0 ≡ 0 → SourceSpecific 2 g
+
+-- the class of a group: FAMILY, FLOW, SSM, and ASM for any other multicast group
+pub record GroupRule : Type 0 where
+  pub family : (afi : ℕ) (g : List ℕ) → (classOf afi g ≡ refused FAMILY) ↔ ((afi ≢ 1) × (afi ≢ 2))
+  pub flow : (afi : ℕ) (g : List ℕ) → (classOf afi g ≡ refused FLOW) ↔ (((afi ≡ 1) ⊎ (afi ≡ 2)) × (Multicast afi g → ⊥))
+  pub ssm : (afi : ℕ) (g : List ℕ) → (classOf afi g ≡ given SSM) ↔ SourceSpecific afi g
+  pub asm : (afi : ℕ) (g : List ℕ) → (classOf afi g ≡ given ASM) ↔ (Multicast afi g × (SourceSpecific afi g → ⊥))
