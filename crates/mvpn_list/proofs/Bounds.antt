@@ -1,29 +1,15 @@
 -- How long the listing of a run is at most.
-use mathlib.Core.Path.{_≡_, refl, sym, _∙_, ap}
+use mathlib.Core.Path.{_≡_, _∙_, ap}
 use mathlib.Core.List.{List, [], _∷_, _++_}
 use Prim.Native.Nat.{ℕ, zero, suc, _+_, _*_, _^_, _≤_, _<_}
 use native.Mathlib.Omega.{arith}
 use lib.ListN.{length, length-append}
-use Rattle.octets.proofs.Outcomes.{pick-true, pick-false}
-use Rattle.nlri.specs.declared.layout.Layout.{Layout}
-use Rattle.nlri.specs.Walking.{Stepped, readTo, stoppedAt, stepFrom}
+use Rattle.nlri.specs.Walking.{stepFrom}
 use Rattle.nlri.proofs.Walks.{step-moves}
 use Rattle.mvpn_list.specs.Listing.{decimalOf, fieldOf, lineOf, openingOf, lastLine, headerLine, linesFrom, linesOf, listingOf}
 use Rattle.mvpn_list.proofs.Choices.{picked}
 use Rattle.mvpn_list.proofs.Decimals.{decimal-within}
-use Rattle.mvpn_list.proofs.Steps.{Comes, reads, stops, step-comes}
-
--- how the lines go on by a step
-module _ (left : ℕ) (run : List ℕ) (at : ℕ) where
-  pub lines-go : (l : Layout) (c : ℕ) → stepFrom 1 run at ≡ readTo l c → linesFrom (suc left) run at ≡ lineOf at (l .«route_type») (l .length) ++ linesFrom left run c
-  unfolding linesFrom readTo
-  lines-go l c e =
-      pick-true _ _ _ (ap (λ (s : Stepped). s .read) e)
-      ∙ ap (λ (s : Stepped). lineOf at (s .layout .«route_type») (s .layout .length) ++ linesFrom left run (s .cursor)) e
-
-  pub lines-stop : (n x : ℕ) → stepFrom 1 run at ≡ stoppedAt n x → linesFrom (suc left) run at ≡ lastLine n at
-  unfolding linesFrom stoppedAt
-  lines-stop n x e = pick-false _ _ _ (ap (λ (s : Stepped). s .read) e) ∙ ap (λ (s : Stepped). lastLine (s .number) at) e
+use Rattle.mvpn_list.proofs.Steps.{Comes, reads, stops, step-comes, lines-go, lines-stop}
 
 field-within : (k n ending : ℕ) → n < 10 ^ suc k → length (fieldOf n ending) ≤ suc (suc k)
 unfolding fieldOf

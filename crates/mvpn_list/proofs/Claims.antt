@@ -2,13 +2,13 @@
 use mathlib.Core.Path.{_≡_, refl, sym, _∙_, ap}
 use mathlib.Core.List.{List, [], _∷_, _++_, append-assoc}
 use mathlib.Core.Bool.{Bool, true, false}
-use Prim.Native.Nat.{ℕ, zero, suc, _+_, _≤_, _<_}
+use Prim.Native.Nat.{ℕ, zero, suc, _+_, _-_, _*_, _/_, _%_, _<_}
 use native.Mathlib.Omega.{arith}
-use borrow.Author.Tests.{lt-ltb, leb-true, leb-false}
-use lib.Dec.{leb}
-use lib.ListN.{length, take, length-take}
+use borrow.Author.Tests.{lt-ltb, ltb-true, ltb-false, leb-true, leb-false}
+use lib.Dec.{ltb, leb}
+use lib.ListN.{length, take}
 use lib.Seq.{take-all, length-take-le}
-use Rattle.octets.specs.Numbers.{DONE, LONG}
+use Rattle.octets.specs.Numbers.{LONG}
 use Rattle.octets.specs.Choice.{pick, both, either}
 use Rattle.octets.specs.Octets.{part}
 use Rattle.octets.specs.Outcome.{onOutcome, andThen}
@@ -21,8 +21,29 @@ use Rattle.nlri.specs.Layouts.{layoutOf, layoutAt}
 use Rattle.nlri.specs.Walking.{readTo, stoppedAt, stepUnder, stepFrom, walkFrom, walkOf}
 use Rattle.nlri.proofs.Walks.{walk-goes, walk-stops}
 use Rattle.mvpn_list.specs.Listing.{lastDigit, digitsWithin, decimalOf, fieldOf, headerLine, lineOf, openingOf, lastLine, linesFrom, linesOf, listingOf}
-use Rattle.mvpn_list.proofs.Bounds.{lines-go, lines-stop}
-use Rattle.mvpn_list.proofs.Steps.{Comes, reads, stops, step-comes}
+use Rattle.mvpn_list.proofs.Choices.{picked}
+use Rattle.mvpn_list.proofs.Steps.{Comes, reads, stops, step-comes, lines-go, lines-stop}
+
+-- the number that decimal digits stand for, the most significant first
+abbrev valueOf : List ℕ → ℕ → ℕ
+valueOf [] high = high
+valueOf (digit ∷ digits) high = valueOf digits (high * 10 + (digit - 48))
+
+value-append : (digits : List ℕ) (digit high : ℕ) → valueOf (digits ++ (digit ∷ [])) high ≡ valueOf digits high * 10 + (digit - 48)
+value-append [] digit high = refl
+value-append (x ∷ digits) digit high = value-append digits digit (high * 10 + (x - 48))
+
+value-within : (most n : ℕ) → n < most → valueOf (digitsWithin most n) 0 ≡ n
+unfolding digitsWithin lastDigit
+value-within zero n h = absurd (omega arith)
+value-within (suc most) n h =
+    picked (λ (x : List ℕ). valueOf x 0 ≡ n) (ltb n 10) _ _ (λ t. omega (arith, ltb-true n 10 t))
+    (λ t. let high = value-within most (n / 10) (omega (arith, ltb-false n 10 t)) in value-append (digitsWithin most (n / 10)) (48 + n % 10) 0 ∙ omega arith)
+
+-- a number in decimal stands for that number
+pub decimal-value : (n : ℕ) → valueOf (decimalOf n) 0 ≡ n
+unfolding decimalOf
+decimal-value n = value-within (suc n) n (omega arith)
 
 long-stops : (run : List ℕ) → 4096 < length run → stepFrom 1 run 0 ≡ stoppedAt LONG 0
 unfolding stepFrom stepUnder familyBits pick onOutcome

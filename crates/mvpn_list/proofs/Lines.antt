@@ -8,7 +8,7 @@ use Rattle.nlri.specs.declared.layout.Layout.{Layout}
 use Rattle.nlri.specs.Walking.{readTo, stoppedAt, stepFrom}
 use Rattle.nlri.proofs.Walks.{step-moves}
 use Rattle.mvpn_list.specs.Listing.{lineOf, lastLine, linesFrom, linesOf}
-use Rattle.mvpn_list.proofs.Bounds.{lines-go, lines-stop}
+use Rattle.mvpn_list.proofs.Steps.{lines-go, lines-stop}
 use Rattle.mvpn_list.proofs.Writes.{Wrote, room-next, wrote-both, wrote-none, wrote-length, written-is}
 
 -- from `start` on, `output` has the lines of the NLRIs before `offset`, and `at` is the place just past them

@@ -1,23 +1,25 @@
--- What every step comes to: an NLRI of a known type whose Length lies before the next cursor, or a stop with a number of two digits.
-use mathlib.Core.Path.{_≡_, refl, sym, _∙_, ap}
-use mathlib.Core.Bool.{Bool, true, false}
-use mathlib.Core.List.{List, [], _∷_}
-use Prim.Native.Nat.{ℕ, _+_, _≤_, _<_}
+-- What every step comes to: an NLRI of a known type whose Length is below the next cursor, or a stop whose number has at most two digits; and how the lines go on by it.
+use mathlib.Core.Path.{_≡_, refl, _∙_, ap}
+use mathlib.Core.Bool.{Bool}
+use mathlib.Core.List.{List, [], _∷_, _++_}
+use Prim.Native.Nat.{ℕ, suc, _≤_, _<_}
 use native.Mathlib.Omega.{arith}
 use borrow.Author.Tests.{eqb-true}
 use lib.ListN.{length, drop}
 use lib.Dec.{eqb}
 use Rattle.octets.specs.Choice.{pick}
 use Rattle.octets.specs.Outcome.{Outcome, given, refused, onOutcome, andThen}
+use Rattle.octets.proofs.Outcomes.{pick-true, pick-false}
 use Rattle.nlri.specs.declared.layout.Layout.{Layout}
 use Rattle.nlri.specs.Family.{familyBits}
 use Rattle.nlri.specs.Bodies.{Kind, distinguisher, sourceAs, source, group, originator, key, Row, row, bodies, onBody}
 use Rattle.nlri.specs.Reading.{Laid, fixedField, addressEnd, addressField, originatorField, fieldSize, sizesOf, laidWith, noKey, keyField, laidAt}
 use Rattle.nlri.specs.Layouts.{layoutOf, layoutAt}
 use Rattle.nlri.specs.Walking.{Stepped, readTo, stoppedAt, stepUnder, stepFrom}
+use Rattle.mvpn_list.specs.Listing.{lineOf, lastLine, linesFrom}
 use Rattle.mvpn_list.proofs.Choices.{picked}
 
--- a value of which Q holds, or a refusal whose number has two digits
+-- a value of which Q holds, or a refusal whose number has at most two digits
 data All {A : Type 0} (Q : A → Type 0) : Outcome A → Type 0 where
   good : {a : A} → Q a → All Q (given a)
   bad : {n : ℕ} → n < 100 → All Q (refused n)
@@ -113,3 +115,15 @@ step-comes afi run at =
     (λ _. picked Comes _ _ _ (λ _. stops _ at refl (omega arith))
     (λ _. picked Comes _ _ _ (λ _. stops _ at refl (omega arith))
     (λ _. all-on _ Comes _ _ _ (layout-all family (drop at run)) (λ n l. stops n at refl l) (λ layout known. reads layout _ refl known (omega arith))))))
+
+-- how the lines go on by a step
+module _ (left : ℕ) (run : List ℕ) (at : ℕ) where
+  pub lines-go : (l : Layout) (c : ℕ) → stepFrom 1 run at ≡ readTo l c → linesFrom (suc left) run at ≡ lineOf at (l .«route_type») (l .length) ++ linesFrom left run c
+  unfolding linesFrom readTo
+  lines-go l c e =
+      pick-true _ _ _ (ap (λ (s : Stepped). s .read) e)
+      ∙ ap (λ (s : Stepped). lineOf at (s .layout .«route_type») (s .layout .length) ++ linesFrom left run (s .cursor)) e
+
+  pub lines-stop : (n x : ℕ) → stepFrom 1 run at ≡ stoppedAt n x → linesFrom (suc left) run at ≡ lastLine n at
+  unfolding linesFrom stoppedAt
+  lines-stop n x e = pick-false _ _ _ (ap (λ (s : Stepped). s .read) e) ∙ ap (λ (s : Stepped). lastLine (s .number) at) e

@@ -1,11 +1,10 @@
 -- `mvpn_list::format::field` meets its contract: the digits, and the ending straight after them.
-use mathlib.Core.Path.{_≡_, _∙_}
-use mathlib.Core.List.{List, [], _∷_}
-use lib.ListN.{take}
+use mathlib.Core.Path.{_∙_}
+use mathlib.Core.List.{[], _∷_}
 use denote.Ref.{now}
 use Rattle.mvpn_list.specs.Listing.{decimalOf, fieldOf}
 use Rattle.mvpn_list.proofs.Decimals.{decimal-is}
-use Rattle.mvpn_list.proofs.Writes.{Wrote, room-first, room-next, wrote-both, written-is}
+use Rattle.mvpn_list.proofs.Writes.{room-first, room-next, wrote-both, written-is}
 use borrow.Author.Needs.{needs}
 use Rattle.mvpn_list.proofs.format.field.Statement.{statement}
 use Rattle.mvpn_list.proofs.format.field.Tie as tie
