@@ -1,0 +1,8 @@
+-- Laws of the listing.
+pub mod Choices
+pub mod Decimals
+pub mod Writes
+pub mod Steps
+pub mod Bounds
+pub mod Lines
+pub mod Claims

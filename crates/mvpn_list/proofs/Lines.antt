@@ -1,0 +1,71 @@
+-- What holds of the lines so far, as a walk goes on.
+use mathlib.Core.Path.{_≡_, refl, sym, _∙_, ap}
+use mathlib.Core.List.{List, [], _++_, append-assoc}
+use Prim.Native.Nat.{ℕ, suc, _+_, _-_, _≤_}
+use native.Mathlib.Omega.{arith}
+use lib.ListN.{length, length-append}
+use Rattle.nlri.specs.declared.layout.Layout.{Layout}
+use Rattle.nlri.specs.Walking.{readTo, stoppedAt, stepFrom}
+use Rattle.nlri.proofs.Walks.{step-moves}
+use Rattle.mvpn_list.specs.Listing.{lineOf, lastLine, linesFrom, linesOf}
+use Rattle.mvpn_list.proofs.Steps.{lines-go, lines-stop}
+use Rattle.mvpn_list.proofs.Writes.{Wrote, room-next, wrote-both, wrote-none, wrote-length, written-is}
+
+-- from `start` on, `output` has the lines of the NLRIs before `offset`, and `at` is the place just past them
+pub record Listed (run output₀ : List ℕ) (start offset at : ℕ) (output : List ℕ) : Type 0 where
+  pub done : List ℕ
+  pub left : ℕ
+  pub within : offset ≤ length run
+  pub enough : length run ≤ left + offset
+  pub wrote : Wrote start done output₀ at output
+  pub goes : linesOf run ≡ done ++ linesFrom (suc left) run offset
+
+pub listed-first : (run output : List ℕ) (start : ℕ) → Listed run output start 0 start output
+unfolding linesOf
+listed-first run output start =
+    record { done = []; left = length run; within = omega arith; enough = omega arith; wrote = wrote-none start output; goes = refl }
+
+module _ (run output₀ : List ℕ) (start offset at : ℕ) (output : List ℕ) (fits : start + length (linesOf run) ≤ length output₀) (so-far : Listed run output₀ start offset at output) where
+  module _ (l : Layout) (c : ℕ) (e : stepFrom 1 run offset ≡ readTo l c) where
+    abbrev this : List ℕ
+    this = lineOf offset (l .«route_type») (l .length)
+
+    onward : linesOf run ≡ (so-far .done ++ this) ++ linesFrom (so-far .left) run c
+    onward = so-far .goes ∙ ap (λ (x : List ℕ). so-far .done ++ x) (lines-go (so-far .left) run offset l c e) ∙ sym (append-assoc (so-far .done) this (linesFrom (so-far .left) run c))
+
+    this-fits : start + length (so-far .done ++ this) ≤ length output₀
+    this-fits = omega (arith, ap length onward, length-append (so-far .done ++ this) (linesFrom (so-far .left) run c))
+
+    pub line-room : at + length this ≤ length output
+    line-room = room-next start (so-far .done) this output₀ this-fits at output (so-far .wrote)
+
+    pub listed-next : (r : ℕ) (x : List ℕ) → Wrote at this output r x → Listed run output₀ start c r x
+    listed-next r x w =
+        let m = step-moves 1 run offset l c e in
+        let n : so-far .left ≡ suc (so-far .left - 1) = omega (arith, so-far .enough) in
+        record {
+          done = so-far .done ++ this;
+          left = so-far .left - 1;
+          within = omega arith;
+          enough = omega (arith, so-far .enough);
+          wrote = wrote-both start (so-far .done) this output₀ this-fits at output r x (so-far .wrote) w;
+          goes = onward ∙ ap (λ (k : ℕ). (so-far .done ++ this) ++ linesFrom k run c) n;
+        }
+
+  module _ (n x : ℕ) (e : stepFrom 1 run offset ≡ stoppedAt n x) where
+    whole : linesOf run ≡ so-far .done ++ lastLine n offset
+    whole = so-far .goes ∙ ap (λ (x : List ℕ). so-far .done ++ x) (lines-stop (so-far .left) run offset n x e)
+
+    all-fits : start + length (so-far .done ++ lastLine n offset) ≤ length output₀
+    all-fits = omega (arith, ap length whole)
+
+    pub last-room : at + length (lastLine n offset) ≤ length output
+    last-room = room-next start (so-far .done) (lastLine n offset) output₀ all-fits at output (so-far .wrote)
+
+    pub listed-last : (r : ℕ) (y : List ℕ) → Wrote at (lastLine n offset) output r y → Wrote start (linesOf run) output₀ r y
+    listed-last r y w =
+        written-is start (so-far .done ++ lastLine n offset) (linesOf run) output₀ r y (sym whole)
+        (wrote-both start (so-far .done) (lastLine n offset) output₀ all-fits at output r y (so-far .wrote) w)
+
+    pub last-length : (r : ℕ) (y : List ℕ) → Wrote at (lastLine n offset) output r y → length y ≡ length output₀
+    last-length r y w = wrote-length start (linesOf run) output₀ r y fits (listed-last r y w)

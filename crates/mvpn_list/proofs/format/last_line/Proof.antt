@@ -1,0 +1,42 @@
+-- `mvpn_list::format::last_line` meets its contract: the opening and two fields, one straight after the other.
+use denote.Ref.{now}
+use Rattle.mvpn_list.specs.Listing.{fieldOf, openingOf, lastLine}
+use Rattle.mvpn_list.proofs.Writes.{room-first, room-second, room-third, wrote-three}
+use borrow.Author.Needs.{needs}
+use Rattle.mvpn_list.proofs.format.last_line.Statement.{statement}
+use Rattle.mvpn_list.proofs.format.last_line.Tie as tie
+
+opening-requires : tie.Need-opening-requires
+unfolding lastLine
+opening-requires c κs = let a = c .before .before .args in room-first (a .at) (openingOf (a .number)) _ (now (a .output)) (c .before .before .pre)
+
+field-requires : tie.Need-field-requires
+unfolding lastLine
+field-requires c κs =
+    let a = c .before .before .before .before .before .before .args in
+    let w = c .before .before .before .opening in
+    room-second (a .at) (openingOf (a .number)) (fieldOf (a .offset) 32) (fieldOf (a .number) 10) (now (a .output)) (c .before .before .before .before .before .before .pre) (w .result) (w .last .1 .0) (w .ensures)
+
+field-requires-2 : tie.Need-field-requires-2
+unfolding lastLine
+field-requires-2 c κs =
+    let a = c .before .before .before .before .before .before .before .before .before .before .args in
+    let w = c .before .before .before .before .before .before .before .opening in
+    let w₂ = c .before .before .before .field in
+    room-third (a .at) (openingOf (a .number)) (fieldOf (a .offset) 32) (fieldOf (a .number) 10) (now (a .output)) (c .before .before .before .before .before .before .before .before .before .before .pre) (w .result) (w .last .1 .0) (w .ensures) (w₂ .result) (w₂ .last .1 .1 .0) (w₂ .ensures)
+
+same-length : tie.Need-same-length
+same-length c = search needs
+
+returns : tie.Need-returns
+unfolding lastLine
+returns c =
+    let a = c .before .before .before .before .before .before .before .before .before .before .before .before .before .args in
+    let w = c .before .before .before .before .before .before .before .before .before .before .opening in
+    let w₂ = c .before .before .before .before .before .before .field in
+    let w₃ = c .before .before .field2 in
+    wrote-three (a .at) (openingOf (a .number)) (fieldOf (a .offset) 32) (fieldOf (a .number) 10) (now (a .output)) (c .before .before .before .before .before .before .before .before .before .before .before .before .before .pre) (w .result) (w .last .1 .0) (w .ensures) (w₂ .result) (w₂ .last .1 .1 .0) (w₂ .ensures) (w₃ .result) (w₃ .last .1 .1 .0) (w₃ .ensures)
+
+pub last-line-spec : {M : Type 1} → statement M
+last-line-spec =
+    tie.close (tie.spec opening-requires field-requires field-requires-2 same-length returns)

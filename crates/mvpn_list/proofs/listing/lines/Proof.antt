@@ -1,0 +1,78 @@
+-- `mvpn_list::listing::lines` meets its contract. The loop's invariant: the lines of the NLRIs before the cursor are written.
+use Prim.Native.Nat.{_-_}
+use native.Mathlib.Omega.{arith}
+use borrow.Author.Needs.{needs}
+use lib.ListN.{length}
+use Rattle.nlri.proofs.Walks.{step-moves, step-read, step-ended, step-refused}
+use Rattle.mvpn_list.proofs.Lines.{Listed, listed-first, listed-next, listed-last, line-room, last-room, last-length}
+use Rattle.mvpn_list.proofs.listing.lines.Statement.{statement}
+use Rattle.mvpn_list.proofs.listing.lines.Tie as tie
+
+abbrev Inv-loop : tie.InvT-loop
+Inv-loop run output₀ start cursor₀ at₀ output cursor at = Listed run output₀ start (cursor .at) at output
+
+abbrev μ-loop : tie.MeasureT-loop
+μ-loop run output₀ start cursor₀ at₀ output cursor at = length run - cursor .at
+
+loop-holds : tie.Need-loop-holds Inv-loop μ-loop
+loop-holds c = listed-first _ _ _
+
+step-requires : tie.Need-step-requires Inv-loop μ-loop
+step-requires c κs = search needs
+
+enum-known-layout : tie.Need-enum-known-layout Inv-loop μ-loop
+enum-known-layout c = search needs
+
+line-requires : tie.Need-line-requires Inv-loop μ-loop
+line-requires c κs = line-room _ _ _ _ _ _ (c .before .before .before .before .before .before .before .before .pre) (c .before .before .before .before .before .loop .inv) _ _ (step-read _ _ _ _ (c .before .before .before .before .step .ensures) (c .before .before .layout .given .1))
+
+loop-less : tie.Need-loop-less Inv-loop μ-loop
+loop-less c = let m = step-moves _ _ _ _ _ (step-read _ _ _ _ (c .before .before .before .before .before .before .before .step .ensures) (c .before .before .before .before .before .layout .given .1)) in omega arith
+
+loop-again : tie.Need-loop-again Inv-loop μ-loop
+loop-again c = listed-next _ _ _ _ _ _ (c .before .before .before .before .before .before .before .before .before .before .before .pre) (c .before .before .before .before .before .before .before .before .loop .inv) _ _ (step-read _ _ _ _ (c .before .before .before .before .before .before .before .step .ensures) (c .before .before .before .before .before .layout .given .1)) _ _ (c .before .before .line .ensures)
+
+enum-told : tie.Need-enum-told Inv-loop μ-loop
+enum-told c = search needs
+
+last-line-requires : tie.Need-last-line-requires Inv-loop μ-loop
+last-line-requires c κs = last-room _ _ _ _ _ _ (c .before .before .before .before .before .before .before .pre) (c .before .before .before .before .loop .inv) _ _ (step-ended _ _ _ (c .before .before .before .step .ensures) (c .before .enum-told .given .1))
+
+same-length : tie.Need-same-length Inv-loop μ-loop
+same-length c = last-length _ _ _ _ _ _ (c .before .before .before .before .before .before .before .before .before .before .pre) (c .before .before .before .before .before .before .before .loop .inv) _ _ (step-ended _ _ _ (c .before .before .before .before .before .before .step .ensures) (c .before .before .before .before .enum-told .given .1)) _ _ (c .before .before .last-line .ensures)
+
+returns : tie.Need-returns Inv-loop μ-loop
+returns c = listed-last _ _ _ _ _ _ (c .before .before .before .before .before .before .before .before .before .before .pre) (c .before .before .before .before .before .before .before .loop .inv) _ _ (step-ended _ _ _ (c .before .before .before .before .before .before .step .ensures) (c .before .before .before .before .enum-told .given .1)) _ _ (c .before .before .last-line .ensures)
+
+enum-known-number : tie.Need-enum-known-number Inv-loop μ-loop
+enum-known-number c = search needs
+
+last-line-requires-2 : tie.Need-last-line-requires-2 Inv-loop μ-loop
+last-line-requires-2 c κs = last-room _ _ _ _ _ _ (c .before .before .before .before .before .before .before .before .pre) (c .before .before .before .before .before .loop .inv) _ _ (step-refused _ _ _ _ (c .before .before .before .before .step .ensures) (c .before .before .number .given .1))
+
+same-length-2 : tie.Need-same-length-2 Inv-loop μ-loop
+same-length-2 c = last-length _ _ _ _ _ _ (c .before .before .before .before .before .before .before .before .before .before .before .pre) (c .before .before .before .before .before .before .before .before .loop .inv) _ _ (step-refused _ _ _ _ (c .before .before .before .before .before .before .before .step .ensures) (c .before .before .before .before .before .number .given .1)) _ _ (c .before .before .last-line2 .ensures)
+
+returns-2 : tie.Need-returns-2 Inv-loop μ-loop
+returns-2 c = listed-last _ _ _ _ _ _ (c .before .before .before .before .before .before .before .before .before .before .before .pre) (c .before .before .before .before .before .before .before .before .loop .inv) _ _ (step-refused _ _ _ _ (c .before .before .before .before .before .before .before .step .ensures) (c .before .before .before .before .before .number .given .1)) _ _ (c .before .before .last-line2 .ensures)
+
+pub lines-spec : {M : Type 1} → statement M
+lines-spec =
+    tie.close
+    (tie.spec
+    Inv-loop
+    μ-loop
+    loop-holds
+    step-requires
+    enum-known-layout
+    line-requires
+    loop-less
+    loop-again
+    enum-told
+    last-line-requires
+    same-length
+    returns
+    enum-known-number
+    last-line-requires-2
+    same-length-2
+    returns-2)

@@ -1,0 +1,2 @@
+-- The listing program: what it prints for every run.
+pub mod Listing

@@ -1,0 +1,65 @@
+// The lines of the listing (document 01, "Marked examples", the listing). Each is put into `output` from `at` on, where it
+// fits, and the answer is the place just past it.
+ghost use mathlib.Core.Path.{_≡_};
+ghost use Prim.Native.Nat.{_+_, _≤_};
+ghost use lib.ListN.{length};
+ghost use Rattle.octets.specs.Octets.{placed};
+ghost use Rattle.mvpn_list.specs.Listing.{fieldOf, headerLine, lineOf, openingOf, lastLine};
+use octets::number::DONE;
+use octets::parts::place;
+
+// A number in decimal, and the octet that ends its field.
+fn field(number: u64, ending: u8, output: &mut [u8], at: usize) -> usize
+    requires { ⌜ at + length (fieldOf number ending) ≤ length (now output) ⌝ }
+    ensures { λ r. ⌜ (r ≡ at + length (fieldOf number ending)) × (now (output .exit) ≡ placed at (fieldOf number ending) (now (output .entry))) ⌝ }
+{
+    let mut digits = [0u8; 20];
+    let count = io::decimal(number, &mut digits);
+    let next = place(&digits[..count], output, at);
+    place(&[ending], output, next)
+}
+
+// The first line, which ends in the AFI.
+pub fn header(output: &mut [u8], at: usize) -> usize
+    requires { ⌜ at + length headerLine ≤ length (now output) ⌝ }
+    ensures { λ r. ⌜ (r ≡ at + length headerLine) × (now (output .exit) ≡ placed at headerLine (now (output .entry))) ⌝ }
+{
+    place(b"MVT list 1\n", output, at)
+}
+
+// The line of an NLRI.
+pub fn line(
+    offset: usize,
+    route_type: usize,
+    length_field: usize,
+    output: &mut [u8],
+    at: usize,
+) -> usize
+    requires { ⌜ at + length (lineOf offset «route_type» «length_field») ≤ length (now output) ⌝ }
+    ensures { λ r. ⌜ (r ≡ at + length (lineOf offset «route_type» «length_field»)) × (now (output .exit) ≡ placed at (lineOf offset «route_type» «length_field») (now (output .entry))) ⌝ }
+{
+    let second = field(offset as u64, b' ', output, at);
+    let third = field(route_type as u64, b' ', output, second);
+    field(length_field as u64, b'\n', output, third)
+}
+
+// What opens the last line: whether the walk came to the run's end.
+fn opening(number: u32, output: &mut [u8], at: usize) -> usize
+    requires { ⌜ at + length (openingOf number) ≤ length (now output) ⌝ }
+    ensures { λ r. ⌜ (r ≡ at + length (openingOf number)) × (now (output .exit) ≡ placed at (openingOf number) (now (output .entry))) ⌝ }
+{
+    if number == DONE {
+        return place(b"end ", output, at);
+    }
+    place(b"stop ", output, at)
+}
+
+// The last line: where the walk stopped, and its number.
+pub fn last_line(number: u32, offset: usize, output: &mut [u8], at: usize) -> usize
+    requires { ⌜ at + length (lastLine number offset) ≤ length (now output) ⌝ }
+    ensures { λ r. ⌜ (r ≡ at + length (lastLine number offset)) × (now (output .exit) ≡ placed at (lastLine number offset) (now (output .entry))) ⌝ }
+{
+    let second = opening(number, output, at);
+    let third = field(offset as u64, b' ', output, second);
+    field(number as u64, b'\n', output, third)
+}
