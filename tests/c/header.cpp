@@ -1,0 +1,31 @@
+// mvpn.h in C++: it may be included twice, its types have the sizes that callers are built with (64-bit), and its calls
+// link.
+#include "mvpn.h"
+#include "mvpn.h"
+
+static_assert(sizeof(mvpn_span) == 16, "mvpn_span");
+static_assert(sizeof(mvpn_route_distinguisher) == 8, "mvpn_route_distinguisher");
+static_assert(sizeof(mvpn_address) == 17, "mvpn_address");
+static_assert(sizeof(mvpn_nlri) == 68, "mvpn_nlri");
+static_assert(sizeof(mvpn_nlri_reading) == 88, "mvpn_nlri_reading");
+static_assert(sizeof(mvpn_written) == 16, "mvpn_written");
+static_assert(sizeof(mvpn_layout) == 48, "mvpn_layout");
+static_assert(sizeof(mvpn_stepped) == 64, "mvpn_stepped");
+static_assert(sizeof(mvpn_walked) == 12, "mvpn_walked");
+static_assert(sizeof(mvpn_group) == 8, "mvpn_group");
+static_assert(sizeof(mvpn_fec) == 40, "mvpn_fec");
+static_assert(sizeof(mvpn_attribute_reading) == 80, "mvpn_attribute_reading");
+
+int main()
+{
+    const uint8_t octets[] = {0};
+    uint8_t output[] = {0};
+    // With no octets: DONE of step and walk, and each other call's first refusal.
+    bool as_expected = mvpn_nlri_read(1, octets, 0).number == MVPN_SHORT &&
+                       mvpn_nlri_write(1, mvpn_nlri{}, octets, 0, output, 0).number == MVPN_TYPE &&
+                       mvpn_step(1, octets, 0, 0).number == MVPN_DONE && mvpn_walk(1, octets, 0).number == MVPN_DONE &&
+                       mvpn_group_class(1, octets, 0).number == MVPN_FLOW &&
+                       mvpn_attribute_read(octets, 0).number == MVPN_SHORT &&
+                       mvpn_attribute_write(0, 0, 0, octets, 0, output, 0).number == MVPN_SPACE;
+    return as_expected ? 0 : 1;
+}
