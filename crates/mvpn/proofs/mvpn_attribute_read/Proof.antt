@@ -1,0 +1,49 @@
+use Rattle.mvpn.specs.Answers.{attributeAnswer}
+use Rattle.tunnel.specs.Answers.{outcomeOf}
+use Rattle.octets.proofs.Tests.{on-given, on-refused}
+use mathlib.Core.Path.{refl, _∙_, sym, ap}
+use borrow.Author.Needs.{needs}
+use Rattle.mvpn.proofs.mvpn_attribute_read.Statement.{statement}
+use Rattle.mvpn.proofs.mvpn_attribute_read.Tie as tie
+use Rattle.mvpn.proofs.mvpn_attribute_read.Reads as reads
+use Rattle.mvpn.proofs.mvpn_attribute_read.Lts as lts
+use Rattle.mvpn.proofs.read_answer.Reads as read-answer-reads
+use Rattle.mvpn.proofs.refusal.Reads as refusal-reads
+use Rattle.tunnel.proofs.read.Reads as read-reads
+
+read-requires : tie.Need-read-requires
+read-requires c κs = search needs
+
+enum-known-fields : tie.Need-enum-known-fields
+enum-known-fields c = search needs
+
+read-answer-requires : tie.Need-read-answer-requires
+read-answer-requires c κs = search needs
+
+enum-known-number : tie.Need-enum-known-number
+enum-known-number c = search needs
+
+refusal-requires : tie.Need-refusal-requires
+refusal-requires c κs = search needs
+
+returns : tie.Need-returns
+unfolding outcomeOf attributeAnswer
+returns c =
+    c .read-answer .ensures ∙ on-given _ _ _ _ _ (sym (c .before .before .before .before .read .ensures) ∙ ap outcomeOf (c .before .before .fields .given .1)) refl
+
+returns-2 : tie.Need-returns-2
+unfolding outcomeOf attributeAnswer
+returns-2 c =
+    c .refusal .ensures ∙ on-refused _ _ _ _ _ (sym (c .before .before .before .before .read .ensures) ∙ ap outcomeOf (c .before .before .number .given .1)) refl
+
+pub mvpn-attribute-read-spec : {M : Type 1} → statement M
+mvpn-attribute-read-spec =
+    tie.close
+    (tie.spec
+    read-requires
+    enum-known-fields
+    read-answer-requires
+    enum-known-number
+    refusal-requires
+    returns
+    returns-2)

@@ -1,0 +1,14 @@
+use Rattle.mvpn.specs.Answers.{attributeGiven}
+use mathlib.Core.Path.{refl}
+use Rattle.mvpn.proofs.read_answer.Statement.{statement}
+use Rattle.mvpn.proofs.read_answer.Tie as tie
+use Rattle.mvpn.proofs.read_answer.Reads as reads
+use Rattle.mvpn.proofs.read_answer.Lts as lts
+
+returns : tie.Need-returns
+unfolding attributeGiven
+returns c =
+    refl
+
+pub read-answer-spec : {M : Type 1} → statement M
+read-answer-spec = tie.close (tie.spec returns)

@@ -1,0 +1,45 @@
+-- The structs that the calls from C answer, where no crate below has them: the number beside the values, which are 0 on a refusal.
+use Prim.Native.Nat.{ℕ}
+use Rattle.octets.specs.Numbers.{DONE}
+use Rattle.octets.specs.Outcome.{Outcome, onOutcome}
+use Rattle.octets.specs.declared.Span.{Span}
+use Rattle.nlri.specs.Walking.{Stepped}
+use Rattle.tunnel.specs.declared.Attribute.{Attribute}
+use Rattle.tunnel.specs.Answers.{noFec}
+use Rattle.mvpn.specs.declared.StepAnswer.{StepAnswer}
+use Rattle.mvpn.specs.declared.AttributeAnswer.{AttributeAnswer}
+
+-- a step: the next cursor, the number, and the layout of the NLRI read
+unfoldable pub stepAnswer : Stepped → StepAnswer
+stepAnswer s = record { cursor = s .cursor; number = s .number; layout = s .layout }
+
+-- an attribute read
+unfoldable pub attributeGiven : Attribute → AttributeAnswer
+attributeGiven a =
+    record {
+      number = DONE;
+      flags = a .flags;
+      «tunnel_type» = a .«tunnel_type»;
+      «label_field» = a .«label_field»;
+      label = a .label;
+      «leaf_information_required» = a .«leaf_information_required»;
+      identifier = a .identifier;
+      fec = a .fec;
+    }
+
+-- an attribute refused
+unfoldable pub attributeRefused : ℕ → AttributeAnswer
+attributeRefused number =
+    record {
+      number = number;
+      flags = 0;
+      «tunnel_type» = 0;
+      «label_field» = 0;
+      label = 0;
+      «leaf_information_required» = 0;
+      identifier = record { start = 0; size = 0 };
+      fec = noFec;
+    }
+
+unfoldable pub attributeAnswer : Outcome Attribute → AttributeAnswer
+attributeAnswer outcome = onOutcome attributeRefused attributeGiven outcome

@@ -1,0 +1,167 @@
+// The calls from C, as include/mvpn.h declares them. Each calls one function, and its contract cites the same definition.
+ghost use mathlib.Core.Path.{_≡_};
+ghost use lib.ListN.{length};
+ghost use Rattle.octets.specs.Outputs.{writtenOf, outputOf};
+ghost use Rattle.nlri.specs.Reading.{readNlri};
+ghost use Rattle.nlri.specs.Writing.{writeNlri};
+ghost use Rattle.nlri.specs.Walking.{stepFrom, stoppedAt, walkOf};
+ghost use Rattle.nlri.specs.Groups.{classOf, groupOf};
+ghost use Rattle.nlri.specs.Answers.{fieldsIn};
+ghost use Rattle.nlri.specs.Answers.{readAnswer as nlriAnswer};
+ghost use Rattle.tunnel.specs.Answers.{readAnswer, writeOutcome};
+ghost use Rattle.mvpn.specs.Answers.{stepAnswer, attributeGiven, attributeRefused, attributeAnswer};
+use nlri::Cursor;
+use nlri::Group;
+use nlri::Layout;
+use nlri::Nlri;
+use nlri::NlriReading;
+use nlri::Step;
+use nlri::Walked;
+use octets::Span;
+use octets::Written;
+use octets::number::DONE;
+use tunnel::Attribute;
+use tunnel::Reading;
+use tunnel::fec::Fec;
+
+#[repr(C)]
+pub struct StepAnswer {
+    pub cursor: usize,
+    pub number: u32,
+    pub layout: Layout,
+}
+
+#[repr(C)]
+pub struct AttributeAnswer {
+    pub number: u32,
+    pub flags: u32,
+    pub tunnel_type: u32,
+    pub label_field: u32,
+    pub label: u32,
+    pub leaf_information_required: u32,
+    pub identifier: Span,
+    pub fec: Fec,
+}
+
+#[no_mangle]
+pub extern "C" fn mvpn_nlri_read(afi: u16, nlri: &[u8]) -> NlriReading
+    ensures { λ r. ⌜ r ≡ nlriAnswer (readNlri afi (now (nlri .entry))) ⌝ }
+{
+    nlri::read_nlri(afi, nlri)
+}
+
+#[no_mangle]
+pub extern "C" fn mvpn_nlri_write(afi: u16, nlri: Nlri, key: &[u8], output: &mut [u8]) -> Written
+    ensures { λ r. ⌜ r ≡ writtenOf (writeNlri afi (fieldsIn nlri (now (key .entry))) (length (now (output .entry)))) ⌝ }
+    ensures { λ r. ⌜ now (output .exit) ≡ outputOf (writeNlri afi (fieldsIn nlri (now (key .entry))) (length (now (output .entry)))) (now (output .entry)) ⌝ }
+{
+    nlri::write_nlri(afi, nlri, key, output)
+}
+
+#[no_mangle]
+pub extern "C" fn mvpn_step(afi: u16, run: &[u8], cursor: usize) -> StepAnswer
+    ensures { λ r. ⌜ r ≡ stepAnswer (stepFrom afi (now (run .entry)) cursor) ⌝ }
+{
+    let at = Cursor { at: cursor };
+    match at.step(afi, run) {
+        Step::Nlri(layout, next) => StepAnswer {
+            cursor: next.at,
+            number: DONE,
+            layout,
+        },
+        Step::End(last) => stopped(last.at, DONE),
+        Step::Refused(number, last) => stopped(last.at, number),
+    }
+}
+
+fn stopped(cursor: usize, number: u32) -> StepAnswer
+    ensures { λ r. ⌜ r ≡ stepAnswer (stoppedAt number cursor) ⌝ }
+{
+    StepAnswer {
+        cursor,
+        number,
+        layout: Layout {
+            route_type: 0,
+            length: 0,
+            source: 0,
+            group: 0,
+            originator: 0,
+            key: 0,
+        },
+    }
+}
+
+#[no_mangle]
+pub extern "C" fn mvpn_walk(afi: u16, run: &[u8]) -> Walked
+    ensures { λ r. ⌜ r ≡ walkOf afi (now (run .entry)) ⌝ }
+{
+    nlri::walk(afi, run)
+}
+
+#[no_mangle]
+pub extern "C" fn mvpn_group_class(afi: u16, group: &[u8]) -> Group
+    ensures { λ r. ⌜ r ≡ groupOf (classOf afi (now (group .entry))) ⌝ }
+{
+    nlri::group_class(afi, group)
+}
+
+#[no_mangle]
+pub extern "C" fn mvpn_attribute_read(attribute: &[u8]) -> AttributeAnswer
+    ensures { λ r. ⌜ r ≡ attributeAnswer (readAnswer (now (attribute .entry))) ⌝ }
+{
+    match tunnel::read(attribute) {
+        Reading::Attribute(fields) => read_answer(fields),
+        Reading::Refused(number) => refusal(number),
+    }
+}
+
+fn read_answer(fields: Attribute) -> AttributeAnswer
+    ensures { λ r. ⌜ r ≡ attributeGiven fields ⌝ }
+{
+    let identifier = fields.identifier;
+    let fec = fields.fec;
+    AttributeAnswer {
+        number: DONE,
+        flags: fields.flags,
+        tunnel_type: fields.tunnel_type,
+        label_field: fields.label_field,
+        label: fields.label,
+        leaf_information_required: fields.leaf_information_required,
+        identifier,
+        fec,
+    }
+}
+
+fn refusal(number: u32) -> AttributeAnswer
+    ensures { λ r. ⌜ r ≡ attributeRefused number ⌝ }
+{
+    AttributeAnswer {
+        number,
+        flags: 0,
+        tunnel_type: 0,
+        label_field: 0,
+        label: 0,
+        leaf_information_required: 0,
+        identifier: Span { start: 0, size: 0 },
+        fec: Fec {
+            fec_type: 0,
+            address_family: 0,
+            root: Span { start: 0, size: 0 },
+            opaque: Span { start: 0, size: 0 },
+        },
+    }
+}
+
+#[no_mangle]
+pub extern "C" fn mvpn_attribute_write(
+    flags: u8,
+    tunnel_type: u8,
+    label_field: u32,
+    identifier: &[u8],
+    output: &mut [u8],
+) -> Written
+    ensures { λ r. ⌜ r ≡ writtenOf (writeOutcome flags «tunnel_type» «label_field» (now (identifier .entry)) (now (output .entry))) ⌝ }
+    ensures { λ r. ⌜ now (output .exit) ≡ outputOf (writeOutcome flags «tunnel_type» «label_field» (now (identifier .entry)) (now (output .entry))) (now (output .entry)) ⌝ }
+{
+    tunnel::write(flags, tunnel_type, label_field, identifier, output)
+}
