@@ -5,7 +5,7 @@ use Prim.Native.Nat.{ℕ, zero, suc, _+_, _*_, _^_, _≤_, _<_}
 use native.Mathlib.Omega.{arith}
 use lib.ListN.{length, length-append}
 use Rattle.nlri.specs.Walking.{stepFrom}
-use Rattle.nlri.proofs.Walks.{step-moves}
+use Rattle.nlri.proofs.Steps.{step-moves}
 use Rattle.mvpn_list.specs.Listing.{decimalOf, fieldOf, lineOf, openingOf, lastLine, headerLine, linesFrom, linesOf, listingOf}
 use Rattle.mvpn_list.proofs.Choices.{picked}
 use Rattle.mvpn_list.proofs.Decimals.{decimal-within}

@@ -19,7 +19,7 @@ use Rattle.nlri.specs.Bodies.{bodies, onBody, fieldIn, sameKind, codeOf}
 use Rattle.nlri.specs.Reading.{fixedField, addressEnd, addressField, originatorField, fieldSize, sizesOf, laidWith, laidAt}
 use Rattle.nlri.specs.Layouts.{layoutOf, layoutAt}
 use Rattle.nlri.specs.Walking.{readTo, stoppedAt, stepUnder, stepFrom, walkFrom, walkOf}
-use Rattle.nlri.proofs.Walks.{walk-goes, walk-stops}
+use Rattle.nlri.proofs.Steps.{walk-goes, walk-stops}
 use Rattle.mvpn_list.specs.Listing.{lastDigit, digitsWithin, decimalOf, fieldOf, headerLine, lineOf, openingOf, lastLine, linesFrom, linesOf, listingOf}
 use Rattle.mvpn_list.proofs.Choices.{picked}
 use Rattle.mvpn_list.proofs.Steps.{Comes, reads, stops, step-comes, lines-go, lines-stop}

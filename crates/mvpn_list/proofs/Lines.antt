@@ -6,7 +6,7 @@ use native.Mathlib.Omega.{arith}
 use lib.ListN.{length, length-append}
 use Rattle.nlri.specs.declared.layout.Layout.{Layout}
 use Rattle.nlri.specs.Walking.{readTo, stoppedAt, stepFrom}
-use Rattle.nlri.proofs.Walks.{step-moves}
+use Rattle.nlri.proofs.Steps.{step-moves}
 use Rattle.mvpn_list.specs.Listing.{lineOf, lastLine, linesFrom, linesOf}
 use Rattle.mvpn_list.proofs.Steps.{lines-go, lines-stop}
 use Rattle.mvpn_list.proofs.Writes.{Wrote, room-next, wrote-both, wrote-none, wrote-length, written-is}

@@ -3,7 +3,7 @@ use Prim.Native.Nat.{_-_}
 use native.Mathlib.Omega.{arith}
 use borrow.Author.Needs.{needs}
 use lib.ListN.{length}
-use Rattle.nlri.proofs.Walks.{step-moves, step-read, step-ended, step-refused}
+use Rattle.nlri.proofs.Steps.{step-moves, step-read, step-ended, step-refused}
 use Rattle.mvpn_list.proofs.Lines.{Listed, listed-first, listed-next, listed-last, line-room, last-room, last-length}
 use Rattle.mvpn_list.proofs.listing.lines.Statement.{statement}
 use Rattle.mvpn_list.proofs.listing.lines.Tie as tie
