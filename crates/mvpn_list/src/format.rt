@@ -20,7 +20,7 @@ fn field(number: u64, ending: u8, output: &mut [u8], at: usize) -> usize
 }
 
 // The first line, which ends in the AFI.
-pub fn header(output: &mut [u8], at: usize) -> usize
+pub(crate) fn header(output: &mut [u8], at: usize) -> usize
     requires { ⌜ at + length headerLine ≤ length (now output) ⌝ }
     ensures { λ r. ⌜ (r ≡ at + length headerLine) × (now (output .exit) ≡ placed at headerLine (now (output .entry))) ⌝ }
 {
@@ -28,7 +28,7 @@ pub fn header(output: &mut [u8], at: usize) -> usize
 }
 
 // The line of an NLRI.
-pub fn line(
+pub(crate) fn line(
     offset: usize,
     route_type: usize,
     length_field: usize,
@@ -55,7 +55,7 @@ fn opening(number: u32, output: &mut [u8], at: usize) -> usize
 }
 
 // The last line: where the walk stopped, and its number.
-pub fn last_line(number: u32, offset: usize, output: &mut [u8], at: usize) -> usize
+pub(crate) fn last_line(number: u32, offset: usize, output: &mut [u8], at: usize) -> usize
     requires { ⌜ at + length (lastLine number offset) ≤ length (now output) ⌝ }
     ensures { λ r. ⌜ (r ≡ at + length (lastLine number offset)) × (now (output .exit) ≡ placed at (lastLine number offset) (now (output .entry))) ⌝ }
 {

@@ -13,7 +13,7 @@ use octets::number::DONE;
 const AFI: u16 = 1;
 
 // Puts the listing of `run` at the front of `output`, and answers its size.
-pub fn list(run: &[u8], output: &mut [u8]) -> usize
+pub(crate) fn list(run: &[u8], output: &mut [u8]) -> usize
     requires { ⌜ length (listingOf (now run)) ≤ length (now output) ⌝ }
     ensures { λ r. ⌜ (r ≡ length (listingOf (now (run .entry)))) × (now (output .exit) ≡ front (listingOf (now (run .entry))) (now (output .entry))) ⌝ }
 {
