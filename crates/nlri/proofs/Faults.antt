@@ -15,7 +15,7 @@ use Rattle.octets.proofs.Outcomes.{pick-true, pick-false}
 use Rattle.octets.proofs.Tests.{goes, stops}
 use Rattle.octets.proofs.Inversions.{never}
 use Rattle.octets.proofs.Refusals.{refused-same, picked, stopped, outcome, refuses-where, refuses-unless}
-use Rattle.octets.proofs.OctetLists.{octets-drop}
+use Rattle.octets.proofs.AllOctets.{octets-drop}
 use Rattle.nlri.specs.Family.{familyBits, originatorSize}
 use Rattle.nlri.specs.Bodies.{Kind, distinguisher, sourceAs, source, group, originator, key}
 use Rattle.nlri.specs.Fields.{Fields, encodeField, KeyOf}

@@ -12,7 +12,8 @@ use Rattle.octets.specs.Outcome.{Outcome, given, refused}
 use Rattle.octets.specs.Octets.{AllOctets, one, numberIn, bigEndian}
 use Rattle.octets.proofs.Outcomes.{pick-true, pick-false}
 use Rattle.octets.proofs.Inversions.{unless, only, given-same}
-use Rattle.octets.proofs.OctetLists.{octets-take, octets-drop, front-rest, number-below}
+use Rattle.octets.proofs.AllOctets.{octets-take, octets-drop, number-fits}
+use Rattle.octets.proofs.Lists.{front-rest}
 use Rattle.octets.proofs.NetworkOrder.{big-endian-length, big-endian-octets, big-endian-of-number}
 use Rattle.nlri.specs.Family.{allowed, originatorSize}
 use Rattle.nlri.specs.Bodies.{Kind, distinguisher, sourceAs, source, group, originator, key}
@@ -106,7 +107,7 @@ module _ (judge : List ℕ → Outcome ℕ) (Key : List ℕ → Type 0) (judges 
       let p = fixed-given 4 n s e in
       let o : AllOctets (field sourceAs) = subst AllOctets (sym at) (octets-take n a) in
       let l : length (field sourceAs) ≡ 4 = ap length at ∙ length-take-le n s (p .1) ∙ p .0 in
-      (p .1, rw l at (number-below o), (rw l at (big-endian-of-number o)) ∙ at)
+      (p .1, rw l at (number-fits o), (rw l at (big-endian-of-number o)) ∙ at)
   field-sound type source s n field a e at =
       let p = address-given family type n s whole a e in
       let r : AddressRead family type (field source) = subst (AddressRead family type) (sym at) (p .1) in

@@ -13,7 +13,7 @@ use Rattle.octets.specs.Choice.{pick, both, either}
 use Rattle.octets.specs.Outcome.{Outcome, given, refused, andThen, onOutcome}
 use Rattle.octets.specs.Outputs.{writtenOf, outputOf}
 use Rattle.octets.specs.declared.Written.{Written}
-use Rattle.octets.proofs.OctetLists.{octets-of}
+use Rattle.octets.proofs.AllOctets.{octets-of}
 use Rattle.octets.proofs.Inversions.{both-true-left, both-true-right, either-true}
 use Rattle.octets.proofs.Outcomes.{and-cong, pick-true, pick-false}
 use Rattle.nlri.specs.declared.fields.Nlri.{Nlri}

@@ -15,7 +15,7 @@ use Rattle.octets.proofs.Outcomes.{pick-true, pick-false}
 use Rattle.octets.proofs.Tests.{goes, stops}
 use Rattle.octets.proofs.Inversions.{never, opposite}
 use Rattle.octets.proofs.Refusals.{refused-same, picked, stopped, outcome, is-false}
-use Rattle.octets.proofs.OctetLists.{octets-part}
+use Rattle.octets.proofs.AllOctets.{octets-part}
 use Rattle.nlri.specs.Family.{familyBits}
 use Rattle.nlri.specs.Bodies.{bodies, bodyOf}
 use Rattle.nlri.specs.Fields.{Fields, encodeBody, encodeNlri, WellFormed, KeyOf}

@@ -14,7 +14,8 @@ use Rattle.octets.specs.Outcome.{Outcome, given, refused, onOutcome}
 use Rattle.octets.specs.Octets.{AllOctets, part}
 use Rattle.octets.proofs.Outcomes.{pick-cong, pick-true, pick-false}
 use Rattle.octets.proofs.Inversions.{passed}
-use Rattle.octets.proofs.OctetLists.{sized-same, sized-back, octets-sized}
+use Rattle.octets.proofs.AllOctets.{octets-sized}
+use Rattle.octets.proofs.Lists.{sized-same, sized-back}
 use Rattle.nlri.specs.Family.{familyBits}
 use Rattle.nlri.specs.Bodies.{Kind, distinguisher, sourceAs, source, group, originator, key, bodies, onBody, bodyOf, has}
 use Rattle.nlri.specs.Fields.{Fields, encodeField, encodeBody, encodeNlri, WellFormedField, WellFormed, KeyOf, restricted}

@@ -17,7 +17,8 @@ use Rattle.octets.proofs.Outcomes.{pick-true, pick-false}
 use Rattle.octets.proofs.Tests.{goes, stops, on-given, on-refused}
 use Rattle.octets.proofs.Inversions.{opposite, passed, given-same}
 use Rattle.octets.proofs.Refusals.{outcome}
-use Rattle.octets.proofs.OctetLists.{octets-drop, empty-list}
+use Rattle.octets.proofs.AllOctets.{octets-drop}
+use Rattle.octets.proofs.Lists.{empty-list}
 use Rattle.nlri.specs.declared.layout.Layout.{Layout}
 use Rattle.nlri.specs.declared.run.Walked.{Walked}
 use Rattle.nlri.specs.Family.{familyBits}

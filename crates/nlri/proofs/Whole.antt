@@ -12,8 +12,8 @@ use Rattle.octets.specs.Octets.{AllOctets, none, one, part}
 use Rattle.octets.proofs.Outcomes.{pick-true, pick-false}
 use Rattle.octets.proofs.Tests.{goes}
 use Rattle.octets.proofs.Inversions.{unless, only, passed, given-same, opposite, both-true-left, both-true-right}
-use Rattle.octets.proofs.OctetLists.{octets-drop, octets-part, empty-list, take-two, part-size}
-use Rattle.octets.proofs.NetworkOrder.{octets-append}
+use Rattle.octets.proofs.AllOctets.{octets-drop, octets-part, octets-append}
+use Rattle.octets.proofs.Lists.{empty-list, take-two, part-length}
 use Rattle.nlri.specs.Bodies.{Kind, distinguisher, sourceAs, source, group, originator, key, bodies, bodyOf, fieldIn}
 use Rattle.nlri.specs.Fields.{Fields, encodeField, encodeBody, encodeNlri, WellFormedBody}
 use Rattle.nlri.specs.Reading.{Laid, fieldSize, sizesOf, laidWith, cut}
@@ -133,7 +133,7 @@ module _ (judge : List ℕ → Outcome ℕ) (Key : List ℕ → Type 0) (judges 
       let along : Along (λ kind. fieldIn [] kind (laid .body) (cut (laid .sizes) rest)) (bodyOf (laid .type)) (cut (laid .sizes) rest) =
       rw (o .body) (along-fields [] (bodyOf (laid .type)) (cut (laid .sizes) rest) (o .row .distinct) (cut-length _ _ ∙ sizes-length (laid .type) _ _ _ (o .sizes))) in
       let b = body-sound (laid .type) (bodyOf (laid .type)) rest (laid .sizes) _ (octets-part 2 (laid .length) a) (o .sizes) along in
-      let len : laid .length ≡ length (encodeBody (fieldsAt s laid) (bodyOf (laid .type))) = sym (ap length (b .1) ∙ part-size s 2 (laid .length) (omega (arith, o .fits, o .enough))) in
+      let len : laid .length ≡ length (encodeBody (fieldsAt s laid) (bodyOf (laid .type))) = sym (ap length (b .1) ∙ part-length s 2 (laid .length) (omega (arith, o .fits, o .enough))) in
       (b .0, take-two s (laid .length) (o .enough) ∙ ap₂ (λ (x : ℕ) (y : List ℕ). x ∷ y) (sym (o .typed)) (ap₂ (λ (x : ℕ) (y : List ℕ). x ∷ y) (sym (o .sized) ∙ len) (sym (b .1))))
 
   -- a well-formed NLRI that stands encoded is read

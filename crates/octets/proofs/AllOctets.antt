@@ -1,10 +1,10 @@
 -- Laws of `AllOctets`.
 use Prim.Native.Nat.{ℕ, zero, suc, _+_, _*_, _^_, _<_}
-use mathlib.Core.List.{List}
+use mathlib.Core.List.{List, [], _∷_, _++_}
 use native.Mathlib.Nat.{pow-suc}
 use native.Mathlib.Omega.{arith}
-use lib.ListN.{length, getD, take, drop}
-use Rattle.octets.specs.Octets.{AllOctets, none, one, numberIn}
+use lib.ListN.{length, getD, take, drop, replicate}
+use Rattle.octets.specs.Octets.{AllOctets, none, one, part, sized, numberIn}
 
 pub octet-at : {xs : List ℕ} → AllOctets xs → (i : ℕ) → getD xs i 0 < 256
 octet-at none i = omega arith
@@ -20,6 +20,27 @@ pub octets-drop : {xs : List ℕ} (n : ℕ) → AllOctets xs → AllOctets (drop
 octets-drop zero a = a
 octets-drop (suc n) none = none
 octets-drop (suc n) (one h a) = octets-drop n a
+
+pub octets-part : (start size : ℕ) {s : List ℕ} → AllOctets s → AllOctets (part s start size)
+unfolding part
+octets-part start size a = octets-take size (octets-drop start a)
+
+-- what a slice tells of each element, of all
+pub octets-of : (s : List ℕ) → ((i : ℕ) → getD s i 0 < 256) → AllOctets s
+octets-of [] h = none
+octets-of (x ∷ xs) h = one (h 0) (octets-of xs (λ i. h (suc i)))
+
+pub octets-append : {xs ys : List ℕ} → AllOctets xs → AllOctets ys → AllOctets (xs ++ ys)
+octets-append none b = b
+octets-append (one h a) b = one h (octets-append a b)
+
+octets-zeros : (n : ℕ) → AllOctets (replicate n 0)
+octets-zeros zero = none
+octets-zeros (suc n) = let h : 0 < 256 = omega arith in one h (octets-zeros n)
+
+pub octets-sized : (n : ℕ) {xs : List ℕ} → AllOctets xs → AllOctets (sized n xs)
+unfolding sized
+octets-sized n a = octets-take n (octets-append a (octets-zeros n))
 
 number-below : {xs : List ℕ} → AllOctets xs → (high m : ℕ) → high < m → numberIn xs high < m * 256 ^ length xs
 unfolding numberIn

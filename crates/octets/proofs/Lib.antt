@@ -6,5 +6,4 @@ pub mod Lists
 pub mod NetworkOrder
 pub mod Picked
 pub mod AllOctets
-pub mod OctetLists
 pub mod Refusals

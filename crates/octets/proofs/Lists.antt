@@ -4,8 +4,8 @@ use mathlib.Core.Path.{_≡_, refl, sym, ap, ap₂, subst, _∙_}
 use mathlib.Core.List.{List, [], _∷_, _++_, append-assoc, append-nil}
 use native.Mathlib.Nat.{zero-add, add-zero, add-assoc}
 use native.Mathlib.Omega.{arith}
-use lib.ListN.{length, take, drop, replicate, length-append, length-take, length-drop, length-replicate, replicate-append-replicate, take-append-drop, drop-of-length-le}
-use lib.Seq.{take-all, take-at, drop-at, drop-drop, length-take-le, take-append-le, take-length, take-append-add}
+use lib.ListN.{length, getD, take, drop, replicate, length-append, length-take, length-drop, length-replicate, replicate-append-replicate, take-append-drop, drop-of-length-le}
+use lib.Seq.{take-all, take-at, drop-at, drop-drop, length-take-le, take-append-le, take-length, take-append-add, take-take, take-append-seam}
 use Rattle.octets.specs.Octets.{part, placed, front, sized}
 
 pub placed-length : (at : ℕ) (e d : List ℕ) → at + length e ≤ length d → length (placed at e d) ≡ length d
@@ -94,3 +94,38 @@ copied-sized n xs h =
 
     split′ : (a b : ℕ) → a ≤ b → b ≡ (b - a) + a
     split′ a b q = omega arith
+
+-- a list by its first element and the rest
+pub front-rest : (s : List ℕ) → 1 ≤ length s → s ≡ getD s 0 0 ∷ drop 1 s
+front-rest [] h = absurd (omega arith)
+front-rest (x ∷ s) h = refl
+
+-- the first two elements, and a part after them
+pub take-two : (s : List ℕ) (n : ℕ) → 2 ≤ length s → take (2 + n) s ≡ getD s 0 0 ∷ (getD s 1 0 ∷ part s 2 n)
+unfolding part
+take-two [] n h = absurd (omega arith)
+take-two (x ∷ []) n h = absurd (omega arith)
+take-two (x ∷ (y ∷ s)) n h = let e : 2 + n ≡ suc (suc n) = omega arith in rw e
+
+pub part-length : (s : List ℕ) (start size : ℕ) → start + size ≤ length s → length (part s start size) ≡ size
+unfolding part
+part-length s start size h = length-take-le size (drop start s) (rw length-drop (omega arith))
+
+-- no elements
+pub empty-list : {A : Type 0} (s : List A) → length s ≡ 0 → s ≡ []
+empty-list [] h = refl
+empty-list (x ∷ s) h = absurd (omega arith)
+
+-- a list given the size that it has
+pub sized-same : (n : ℕ) (xs : List ℕ) → length xs ≡ n → sized n xs ≡ xs
+unfolding sized
+sized-same n xs h = take-at xs (replicate n 0) n h
+
+-- a list filled up with zeros, and cut to its size again
+pub sized-back : (n : ℕ) (xs : List ℕ) → length xs ≤ n → sized (length xs) (sized n xs) ≡ xs
+unfolding sized
+sized-back n xs h =
+    let l : length xs ≤ length (take n (xs ++ replicate n 0)) = rw (length-take-le n (xs ++ replicate n 0) (simp (length-append, length-replicate) (omega arith))) h in
+    take-append-le (length xs) (take n (xs ++ replicate n 0)) (replicate (length xs) 0) l
+    ∙ take-take (length xs) n (xs ++ replicate n 0) h
+    ∙ take-append-seam xs (replicate n 0)

@@ -6,13 +6,9 @@ use native.Mathlib.Nat.{mod-lt, div-add-mod', div-lt-iff-lt-mul, pow-suc, mul-ad
 use native.Mathlib.Omega.{arith}
 use lib.ListN.{length, take, drop, getD, length-append, length-drop}
 use lib.Seq.{take-suc, getD-drop, length-take-le}
-use Rattle.octets.proofs.AllOctets.{octets-take, octets-drop, number-fits}
+use Rattle.octets.proofs.AllOctets.{octets-take, octets-drop, number-fits, octets-append}
 use Rattle.octets.proofs.Lists.{placed-then}
 use Rattle.octets.specs.Octets.{AllOctets, none, one, part, placed, numberIn, bigEndian}
-
-pub octets-append : {xs ys : List ℕ} → AllOctets xs → AllOctets ys → AllOctets (xs ++ ys)
-octets-append none b = b
-octets-append (one h a) b = one h (octets-append a b)
 
 pub big-endian-length : (n x : ℕ) → length (bigEndian n x) ≡ n
 unfolding bigEndian
