@@ -2,7 +2,6 @@
 use Prim.Native.Nat.{ℕ}
 use Rattle.octets.specs.Numbers.{DONE}
 use Rattle.octets.specs.Outcome.{Outcome, onOutcome}
-use Rattle.octets.specs.declared.Span.{Span}
 use Rattle.nlri.specs.Walking.{Stepped}
 use Rattle.tunnel.specs.declared.Attribute.{Attribute}
 use Rattle.tunnel.specs.Answers.{noFec}

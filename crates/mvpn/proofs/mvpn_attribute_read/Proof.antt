@@ -1,3 +1,4 @@
+-- `mvpn::mvpn_attribute_read` meets its contract.
 use Rattle.mvpn.specs.Answers.{attributeAnswer}
 use Rattle.tunnel.specs.Answers.{outcomeOf}
 use Rattle.octets.proofs.Tests.{on-given, on-refused}
@@ -5,11 +6,6 @@ use mathlib.Core.Path.{refl, _∙_, sym, ap}
 use borrow.Author.Needs.{needs}
 use Rattle.mvpn.proofs.mvpn_attribute_read.Statement.{statement}
 use Rattle.mvpn.proofs.mvpn_attribute_read.Tie as tie
-use Rattle.mvpn.proofs.mvpn_attribute_read.Reads as reads
-use Rattle.mvpn.proofs.mvpn_attribute_read.Lts as lts
-use Rattle.mvpn.proofs.read_answer.Reads as read-answer-reads
-use Rattle.mvpn.proofs.refusal.Reads as refusal-reads
-use Rattle.tunnel.proofs.read.Reads as read-reads
 
 read-requires : tie.Need-read-requires
 read-requires c κs = search needs

@@ -1,3 +1,4 @@
+-- `mvpn::mvpn_step` meets its contract.
 use Rattle.nlri.proofs.Steps.{step-read, step-ended, step-refused}
 use Rattle.nlri.specs.Walking.{readTo}
 use Rattle.mvpn.specs.Answers.{stepAnswer}
@@ -5,10 +6,6 @@ use mathlib.Core.Path.{_∙_, sym, ap}
 use borrow.Author.Needs.{needs}
 use Rattle.mvpn.proofs.mvpn_step.Statement.{statement}
 use Rattle.mvpn.proofs.mvpn_step.Tie as tie
-use Rattle.mvpn.proofs.mvpn_step.Reads as reads
-use Rattle.mvpn.proofs.mvpn_step.Lts as lts
-use Rattle.mvpn.proofs.stopped.Reads as stopped-reads
-use Rattle.nlri.proofs.run.Cursor.step.Reads as step-reads
 
 step-requires : tie.Need-step-requires
 step-requires c κs = search needs

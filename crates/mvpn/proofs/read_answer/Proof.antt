@@ -1,9 +1,8 @@
+-- `mvpn::read_answer` meets its contract.
 use Rattle.mvpn.specs.Answers.{attributeGiven}
 use mathlib.Core.Path.{refl}
 use Rattle.mvpn.proofs.read_answer.Statement.{statement}
 use Rattle.mvpn.proofs.read_answer.Tie as tie
-use Rattle.mvpn.proofs.read_answer.Reads as reads
-use Rattle.mvpn.proofs.read_answer.Lts as lts
 
 returns : tie.Need-returns
 unfolding attributeGiven

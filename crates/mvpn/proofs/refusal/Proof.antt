@@ -1,10 +1,9 @@
+-- `mvpn::refusal` meets its contract.
 use Rattle.tunnel.specs.Answers.{noFec}
 use Rattle.mvpn.specs.Answers.{attributeRefused}
 use mathlib.Core.Path.{refl}
 use Rattle.mvpn.proofs.refusal.Statement.{statement}
 use Rattle.mvpn.proofs.refusal.Tie as tie
-use Rattle.mvpn.proofs.refusal.Reads as reads
-use Rattle.mvpn.proofs.refusal.Lts as lts
 
 returns : tie.Need-returns
 unfolding attributeRefused noFec

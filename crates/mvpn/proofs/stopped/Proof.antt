@@ -1,11 +1,10 @@
+-- `mvpn::stopped` meets its contract.
 use Rattle.nlri.specs.Layouts.{noLayout}
 use Rattle.nlri.specs.Walking.{stoppedAt}
 use Rattle.mvpn.specs.Answers.{stepAnswer}
 use mathlib.Core.Path.{refl}
 use Rattle.mvpn.proofs.stopped.Statement.{statement}
 use Rattle.mvpn.proofs.stopped.Tie as tie
-use Rattle.mvpn.proofs.stopped.Reads as reads
-use Rattle.mvpn.proofs.stopped.Lts as lts
 
 returns : tie.Need-returns
 unfolding stepAnswer stoppedAt noLayout
