@@ -70,7 +70,7 @@ fn first(octets: &[u8], most: usize) -> Address
     requires { ⌜ most ≤ 16 ⌝ }
     ensures { λ r. ⌜ r ≡ addressOf (take most (now (octets .entry))) ⌝ }
 {
-    if octets.len() <= most {
+    if octets.len() < most {
         return whole(octets);
     }
     whole(octets::parts::between(octets, 0, most))

@@ -2,6 +2,7 @@ use denote.Ref.{now}
 use mathlib.Core.Path.{_∙_, sym, ap}
 use native.Mathlib.Omega.{arith}
 use mathlib.Core.Path.{_≡_}
+use Prim.Native.Nat.{_≤_}
 use lib.ListN.{length}
 use lib.Seq.{take-all, length-take-le}
 use Rattle.octets.specs.Octets.{part}
@@ -18,7 +19,10 @@ whole-requires : tie.Need-whole-requires
 whole-requires c κs = search needs
 
 returns : tie.Need-returns
-returns c = c .whole .ensures ∙ ap addressOf (sym (take-all _ _ (c .before .if1 .taken)))
+returns c =
+    let a = c .before .before .before .args in
+    let short : length (now (a .octets)) ≤ a .most = omega (arith, c .before .if1 .taken) in
+    c .whole .ensures ∙ ap addressOf (sym (take-all _ _ short))
 
 between-requires : tie.Need-between-requires
 between-requires c κs = search needs
