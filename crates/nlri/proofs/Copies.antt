@@ -1,10 +1,10 @@
 -- What is copied out of an NLRI into structs.
 use mathlib.Core.Path.{_≡_, refl, sym, _∙_, ap}
 use mathlib.Core.List.{List, [], _∷_, _++_}
-use Prim.Native.Nat.{ℕ, _+_, _≤_, _<_}
+use Prim.Native.Nat.{ℕ, zero, suc, _+_, _≤_, _<_}
 use native.Mathlib.Omega.{arith}
-use lib.ListN.{length, take, drop, replicate, length-drop}
-use lib.Seq.{take-all, length-take-le}
+use lib.ListN.{length, getD, take, drop, replicate, length-drop}
+use lib.Seq.{take-all, drop-cons, length-take-le}
 use Rattle.octets.specs.Octets.{part, sized}
 use Rattle.octets.proofs.Lists.{copied-sized}
 use Rattle.nlri.specs.declared.address.Address.{Address}
@@ -14,6 +14,24 @@ use Rattle.nlri.specs.Answers.{addressOf, distinguisherOf}
 pub address-held : (held xs : List ℕ) (n : ℕ) → held ≡ take (length xs) xs ++ drop (length xs) (replicate 16 0) → n ≡ length xs → length xs ≤ 16 → record { octets = held; size = n } ≡ addressOf xs
 unfolding addressOf
 address-held held xs n e q h = λ i. record { octets = (e ∙ copied-sized 16 xs h) i; size = q i }
+
+-- so many octets from a place on, one by one
+unfoldable pub octetsFrom : (at n : ℕ) → List ℕ → List ℕ
+octetsFrom at zero s = []
+octetsFrom at (suc n) s = getD s at 0 ∷ octetsFrom (suc at) n s
+
+taken-octets : (at n : ℕ) (s : List ℕ) → at + n ≤ length s → take n (drop at s) ≡ octetsFrom at n s
+unfolding octetsFrom
+taken-octets at zero s h = refl
+taken-octets at (suc n) s h = ap (take (suc n)) (drop-cons s at 0 (omega arith)) ∙ ap (λ (rest : List ℕ). getD s at 0 ∷ rest) (taken-octets (suc at) n s (omega arith))
+
+pub ipv4-held : (s : List ℕ) → 4 ≤ length s → record { octets = octetsFrom 0 4 s ++ replicate 12 0; size = 4 } ≡ addressOf (take 4 s)
+unfolding addressOf sized octetsFrom
+ipv4-held s h = ap addressOf (sym (taken-octets 0 4 s h))
+
+pub ipv6-held : (s : List ℕ) → 16 ≤ length s → record { octets = octetsFrom 0 16 s; size = 16 } ≡ addressOf (take 16 s)
+unfolding addressOf sized octetsFrom
+ipv6-held s h = ap addressOf (sym (taken-octets 0 16 s h))
 
 pub distinguisher-held : (held xs : List ℕ) → held ≡ take (length xs) xs ++ drop (length xs) (replicate 8 0) → length xs ≤ 8 → record { octets = held } ≡ distinguisherOf xs
 unfolding distinguisherOf

@@ -54,29 +54,65 @@ impl AddressKind {
     pub fn ipv4(octets: &[u8]) -> Address
         ensures { λ r. ⌜ r ≡ addressOf (take 4 (now (octets .entry))) ⌝ }
     {
-        first(octets, AddressKind::IPV4_OCTETS)
+        if octets.len() < AddressKind::IPV4_OCTETS {
+            return shorter(octets);
+        }
+        Address {
+            octets: [
+                octets[0],
+                octets[1],
+                octets[2],
+                octets[3],
+                0,
+                0,
+                0,
+                0,
+                0,
+                0,
+                0,
+                0,
+                0,
+                0,
+                0,
+                0,
+            ],
+            size: AddressKind::IPV4_OCTETS as u8,
+        }
     }
 
     // An IPv6 address: the first sixteen octets.
     pub fn ipv6(octets: &[u8]) -> Address
         ensures { λ r. ⌜ r ≡ addressOf (take 16 (now (octets .entry))) ⌝ }
     {
-        first(octets, AddressKind::IPV6_OCTETS)
+        if octets.len() < AddressKind::IPV6_OCTETS {
+            return shorter(octets);
+        }
+        Address {
+            octets: [
+                octets[0],
+                octets[1],
+                octets[2],
+                octets[3],
+                octets[4],
+                octets[5],
+                octets[6],
+                octets[7],
+                octets[8],
+                octets[9],
+                octets[10],
+                octets[11],
+                octets[12],
+                octets[13],
+                octets[14],
+                octets[15],
+            ],
+            size: AddressKind::IPV6_OCTETS as u8,
+        }
     }
 }
 
-// An address of the first octets, at most so many.
-fn first(octets: &[u8], most: usize) -> Address
-    requires { ⌜ most ≤ 16 ⌝ }
-    ensures { λ r. ⌜ r ≡ addressOf (take most (now (octets .entry))) ⌝ }
-{
-    if octets.len() <= most {
-        return whole(octets);
-    }
-    whole(octets::parts::between(octets, 0, most))
-}
-
-fn whole(octets: &[u8]) -> Address
+// An address of fewer octets than its kind has.
+fn shorter(octets: &[u8]) -> Address
     requires { ⌜ length (now octets) ≤ 16 ⌝ }
     ensures { λ r. ⌜ r ≡ addressOf (now (octets .entry)) ⌝ }
 {

@@ -131,7 +131,7 @@ fn end_flow(route_type: usize, length: usize, source: usize, group: usize, rest:
 }
 
 // A body of `fixed` octets, then source and group.
-fn read_flow_route(family: usize, route_type: usize, fixed: usize, s: &[u8]) -> Reading
+pub(crate) fn read_flow_route(family: usize, route_type: usize, fixed: usize, s: &[u8]) -> Reading
     ensures { λ r. ⌜ readingOf r ≡ flowRoute family «route_type» fixed (now (s .entry)) ⌝ }
 {
     if s.len() < fixed {
@@ -151,7 +151,7 @@ fn read_flow_route(family: usize, route_type: usize, fixed: usize, s: &[u8]) -> 
     }
 }
 
-fn read_intra_as(s: &[u8]) -> Reading
+pub(crate) fn read_intra_as(s: &[u8]) -> Reading
     ensures { λ r. ⌜ readingOf r ≡ intraAs (now (s .entry)) ⌝ }
 {
     if s.len() < RouteDistinguisher::OCTETS {
@@ -168,7 +168,7 @@ fn read_intra_as(s: &[u8]) -> Reading
     ends_in_originator(layout, s.len() - RouteDistinguisher::OCTETS)
 }
 
-fn read_inter_as(s: &[u8]) -> Reading
+pub(crate) fn read_inter_as(s: &[u8]) -> Reading
     ensures { λ r. ⌜ readingOf r ≡ interAs (now (s .entry)) ⌝ }
 {
     if s.len() < RouteDistinguisher::WITH_SOURCE_AS {

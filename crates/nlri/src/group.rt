@@ -97,6 +97,17 @@ pub fn group_class(afi: u16, group: &[u8]) -> Group
 {
     match family::family_bits(afi) {
         Part::Fault(number) => Group::refused(number),
-        Part::Size(family) => class_under(family, group),
+        Part::Size(family) => class_in(family, group),
     }
+}
+
+// A branch for each family: what is compiled of each tests no family.
+fn class_in(family: usize, group: &[u8]) -> Group
+    requires { ⌜ 32 ≤ family ⌝ }
+    ensures { λ r. ⌜ r ≡ groupOf (classUnder family (now (group .entry))) ⌝ }
+{
+    if family == AddressKind::IPV4 {
+        return class_under(AddressKind::IPV4, group);
+    }
+    class_under(family, group)
 }

@@ -4,7 +4,8 @@ ghost use Prim.Native.Nat.{_≤_};
 ghost use lib.ListN.{length};
 ghost use Rattle.nlri.specs.Reading.{keyField};
 ghost use Rattle.nlri.specs.Layouts.{readingOf, layoutAt, layoutSingle};
-ghost use Rattle.nlri.specs.Inner.{partOf, headerOf, header, unkeyed, leaf, anyBody, anyFront, endsWith, single};
+ghost use Rattle.nlri.specs.Inner.{partOf, headerOf, header, unkeyed, leaf, anyBody, endsWith, single};
+use crate::address::RouteDistinguisher;
 use crate::body;
 use crate::family;
 use crate::layout::Layout;
@@ -14,6 +15,7 @@ use crate::route::RouteType;
 use octets::number::KEY;
 use octets::number::LENGTH;
 use octets::number::SHORT;
+use octets::number::TYPE;
 
 // Route Type and Length.
 pub(crate) const HEADER: usize = 2;
@@ -102,6 +104,50 @@ pub(crate) fn read_front(family: usize, s: &[u8]) -> Reading
         Header::Short(number) => Reading::Refused(number),
         Header::Typed(route_type, length) => {
             read_body(
+                family,
+                route_type,
+                octets::parts::between(s, HEADER, length),
+            )
+        }
+    }
+}
+
+// As `read_body`, for the walk.
+fn pass_body(family: usize, route_type: usize, s: &[u8]) -> Reading
+    ensures { λ r. ⌜ readingOf r ≡ anyBody family «route_type» (now (s .entry)) ⌝ }
+{
+    if route_type == RouteType::INTRA_AS_I_PMSI {
+        return body::read_intra_as(s);
+    }
+    if route_type == RouteType::INTER_AS_I_PMSI {
+        return body::read_inter_as(s);
+    }
+    if route_type == RouteType::S_PMSI {
+        return body::read_flow_route(family, route_type, RouteDistinguisher::OCTETS, s);
+    }
+    if route_type == RouteType::LEAF {
+        return read_leaf(family, s);
+    }
+    if route_type == RouteType::SOURCE_ACTIVE {
+        return body::read_flow_route(family, route_type, RouteDistinguisher::OCTETS, s);
+    }
+    if route_type == RouteType::SHARED_TREE_JOIN {
+        return body::read_flow_route(family, route_type, RouteDistinguisher::WITH_SOURCE_AS, s);
+    }
+    if route_type == RouteType::SOURCE_TREE_JOIN {
+        return body::read_flow_route(family, route_type, RouteDistinguisher::WITH_SOURCE_AS, s);
+    }
+    Reading::Refused(TYPE)
+}
+
+// As `read_front`, for the walk alone: compiled into its loop, where no layout is kept.
+pub(crate) fn read_passing(family: usize, s: &[u8]) -> Reading
+    ensures { λ r. ⌜ readingOf r ≡ layoutAt family (now (s .entry)) ⌝ }
+{
+    match read_header(s) {
+        Header::Short(number) => Reading::Refused(number),
+        Header::Typed(route_type, length) => {
+            pass_body(
                 family,
                 route_type,
                 octets::parts::between(s, HEADER, length),

@@ -8,7 +8,7 @@ use Rattle.nlri.proofs.group.group_class.Reads as reads
 use Rattle.nlri.proofs.group.group_class.Lts as lts
 use Rattle.nlri.proofs.family.family_bits.Reads as family-bits-reads
 use Rattle.nlri.proofs.group.Group.refused.Reads as refused-reads
-use Rattle.nlri.proofs.group.class_under.Reads as class-under-reads
+use Rattle.nlri.proofs.group.class_in.Reads as class-in-reads
 
 family-bits-requires : tie.Need-family-bits-requires
 family-bits-requires c κs = search needs
@@ -22,8 +22,8 @@ refused-requires c κs = search needs
 enum-known-family : tie.Need-enum-known-family
 enum-known-family c = search needs
 
-class-under-requires : tie.Need-class-under-requires
-class-under-requires c κs = family-least _ _ (size-given _ _ _ (c .before .before .before .family-bits .ensures) (c .before .family .given .1))
+class-in-requires : tie.Need-class-in-requires
+class-in-requires c κs = family-least _ _ (size-given _ _ _ (c .before .before .before .family-bits .ensures) (c .before .family .given .1))
 
 returns : tie.Need-returns
 unfolding classOf
@@ -41,6 +41,6 @@ group-class-spec =
     enum-known-number
     refused-requires
     enum-known-family
-    class-under-requires
+    class-in-requires
     returns
     returns-2)

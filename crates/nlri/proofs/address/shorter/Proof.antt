@@ -2,10 +2,10 @@ use denote.Ref.{now}
 use mathlib.Core.Path.{_∙_, sym, ap}
 use Rattle.nlri.proofs.Copies.{address-held}
 use borrow.Author.Needs.{needs}
-use Rattle.nlri.proofs.address.whole.Statement.{statement}
-use Rattle.nlri.proofs.address.whole.Tie as tie
-use Rattle.nlri.proofs.address.whole.Reads as reads
-use Rattle.nlri.proofs.address.whole.Lts as lts
+use Rattle.nlri.proofs.address.shorter.Statement.{statement}
+use Rattle.nlri.proofs.address.shorter.Tie as tie
+use Rattle.nlri.proofs.address.shorter.Reads as reads
+use Rattle.nlri.proofs.address.shorter.Lts as lts
 use Rattle.bytes.proofs.copy.Reads as copy-reads
 
 slice-aggregate-copy : tie.Need-slice-aggregate-copy
@@ -20,5 +20,5 @@ cast-t7 c = search needs
 returns : tie.Need-returns
 returns c = address-held _ (now (c .before .before .before .before .args .octets)) _ (c .before .copy .ensures .1) (c .before .copy .ensures .0) (c .before .before .before .before .pre)
 
-pub whole-spec : {M : Type 1} → statement M
-whole-spec = tie.close (tie.spec slice-aggregate-copy copy-requires cast-t7 returns)
+pub shorter-spec : {M : Type 1} → statement M
+shorter-spec = tie.close (tie.spec slice-aggregate-copy copy-requires cast-t7 returns)

@@ -1,0 +1,50 @@
+use denote.Ref.{now}
+use mathlib.Core.Path.{_∙_, sym, ap}
+use native.Mathlib.Nat.{le-of-lt}
+use lib.Seq.{take-all}
+use Rattle.nlri.specs.Answers.{addressOf}
+use Rattle.nlri.proofs.Copies.{octetsFrom, ipv4-held}
+use borrow.Author.Needs.{needs}
+use Rattle.nlri.proofs.address.AddressKind.ipv4.Statement.{statement}
+use Rattle.nlri.proofs.address.AddressKind.ipv4.Tie as tie
+use Rattle.nlri.proofs.address.AddressKind.ipv4.Reads as reads
+use Rattle.nlri.proofs.address.AddressKind.ipv4.Lts as lts
+use Rattle.nlri.proofs.address.shorter.Reads as shorter-reads
+
+shorter-requires : tie.Need-shorter-requires
+shorter-requires c κs = search needs
+
+returns : tie.Need-returns
+returns c = c .shorter .ensures ∙ ap addressOf (sym (take-all _ _ (le-of-lt (c .before .if1 .taken))))
+
+shared-slice-read-t5 : tie.Need-shared-slice-read-t5
+shared-slice-read-t5 c = search needs
+
+shared-slice-read-t7 : tie.Need-shared-slice-read-t7
+shared-slice-read-t7 c = search needs
+
+shared-slice-read-t9 : tie.Need-shared-slice-read-t9
+shared-slice-read-t9 c = search needs
+
+shared-slice-read-t11 : tie.Need-shared-slice-read-t11
+shared-slice-read-t11 c = search needs
+
+cast-t13 : tie.Need-cast-t13
+cast-t13 c = search needs
+
+returns-2 : tie.Need-returns-2
+unfolding octetsFrom
+returns-2 c = ipv4-held (now (c .before .before .before .before .before .before .args .octets)) (c .before .before .before .before .if1 .left)
+
+pub ipv4-spec : {M : Type 1} → statement M
+ipv4-spec =
+    tie.close
+    (tie.spec
+    shorter-requires
+    returns
+    shared-slice-read-t5
+    shared-slice-read-t7
+    shared-slice-read-t9
+    shared-slice-read-t11
+    cast-t13
+    returns-2)

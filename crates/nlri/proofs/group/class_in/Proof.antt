@@ -1,0 +1,21 @@
+use borrow.Author.Needs.{needs}
+use Rattle.nlri.proofs.group.class_in.Statement.{statement}
+use Rattle.nlri.proofs.group.class_in.Tie as tie
+use Rattle.nlri.proofs.group.class_in.Reads as reads
+use Rattle.nlri.proofs.group.class_in.Lts as lts
+use Rattle.nlri.proofs.group.class_under.Reads as class-under-reads
+
+class-under-requires : tie.Need-class-under-requires
+class-under-requires c κs = search needs
+
+returns : tie.Need-returns
+returns c = cc (c .class-under .ensures, c .before .if1 .taken)
+
+class-under-requires-2 : tie.Need-class-under-requires-2
+class-under-requires-2 c κs = search needs
+
+returns-2 : tie.Need-returns-2
+returns-2 c = search needs
+
+pub class-in-spec : {M : Type 1} → statement M
+class-in-spec = tie.close (tie.spec class-under-requires returns class-under-requires-2 returns-2)
