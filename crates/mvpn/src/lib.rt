@@ -110,8 +110,8 @@ pub extern "C" fn mvpn_attribute_read(attribute: &[u8]) -> AttributeAnswer
     ensures { λ r. ⌜ r ≡ attributeAnswer (readAnswer (now (attribute .entry))) ⌝ }
 {
     match tunnel::read(attribute) {
-        Reading::Attribute(fields) => read_answer(fields),
-        Reading::Refused(number) => refusal(number),
+        Reading::Attribute(fields) => return read_answer(fields),
+        Reading::Refused(number) => return refusal(number),
     }
 }
 

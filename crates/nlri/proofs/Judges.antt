@@ -23,7 +23,7 @@ use Rattle.nlri.specs.Fields.{Fields, encodeAddress, encodeField, encode
 use Rattle.nlri.specs.Writing.{widthFits, widthsFit, keyFits, keysFit, isKey, writeNlri}
 use Rattle.nlri.specs.Answers.{octetsOf, fieldsIn}
 use Rattle.nlri.specs.Inner.{withSourceAs}
-use Rattle.nlri.specs.InnerWriting.{hasFlow, hasOriginator, flowFits, originatorFits, leafFits, judged, sizeOf, numberOctets, fixedOctets, flowOctets, originatorOctets, bodyOctets, allOctets, Sized, writeUnder}
+use Rattle.nlri.specs.InnerWriting.{hasFlow, hasOriginator, flowFits, originatorFits, leafFits, judged, sizeOf, numberOctets, fixedOctets, flowOctets, originatorOctets, bodyOctets, allOctets, AddressSize, Sized, writeUnder}
 use Rattle.nlri.proofs.Keys.{key-octets}
 use Rattle.nlri.proofs.Writes.{key-judged}
 use Rattle.nlri.proofs.Shapes.{bits-most}
@@ -215,16 +215,22 @@ unfolding pick
 number-only true k n h e = (refl, e)
 number-only false k n h e = absurd (h e)
 
-octets-most : (family type size : ℕ) → family ≤ 128 → allowed family type (8 * size) ≡ true → size ≤ 16
-octets-most family type size small h = let m = bits-most family type (8 * size) h in omega arith
-
-originator-sixteen : (size : ℕ) → originatorSize size ≡ true → size ≤ 16
-unfolding originatorSize
-originator-sixteen size h = go (either-true _ _ h)
+octets-size : (family type size : ℕ) → (family ≡ 32) ⊎ (family ≡ 128) → allowed family type (8 * size) ≡ true → AddressSize size
+unfolding allowed
+octets-size family type size f h = go f (either-true _ _ h)
   where
-    go : (eqb size 4 ≡ true) ⊎ (eqb size 16 ≡ true) → size ≤ 16
-    go (inl e) = let q : size ≡ 4 = eqb-true _ _ e in omega arith
-    go (inr e) = let q : size ≡ 16 = eqb-true _ _ e in omega arith
+    go : (family ≡ 32) ⊎ (family ≡ 128) → (eqb (8 * size) family ≡ true) ⊎ (both (eqb type 3) (eqb (8 * size) 0) ≡ true) → AddressSize size
+    go (inl e) (inl b) = let q : 8 * size ≡ family = eqb-true _ _ b in (omega arith, λ four sixteen. omega arith)
+    go (inr e) (inl b) = let q : 8 * size ≡ family = eqb-true _ _ b in (omega arith, λ four sixteen. omega arith)
+    go g (inr b) = let q : 8 * size ≡ 0 = eqb-true _ _ (both-true-right _ _ b) in (omega arith, λ four sixteen. omega arith)
+
+originator-octets : (size : ℕ) → originatorSize size ≡ true → AddressSize size
+unfolding originatorSize
+originator-octets size h = go (either-true _ _ h)
+  where
+    go : (eqb size 4 ≡ true) ⊎ (eqb size 16 ≡ true) → AddressSize size
+    go (inl e) = let q : size ≡ 4 = eqb-true _ _ e in (omega arith, λ four sixteen. omega arith)
+    go (inr e) = let q : size ≡ 16 = eqb-true _ _ e in (omega arith, λ four sixteen. omega arith)
 
 module _ (family : ℕ) (nlri : Nlri) (key : List ℕ) (small : family ≤ 128) (none : judged family nlri key ≡ 0) where
   record Faultless : Type 0 where
@@ -243,25 +249,25 @@ module _ (family : ℕ) (nlri : Nlri) (key : List ℕ) (small : family ≤ 128) 
       let t = number-only _ 5 _ (λ e. omega arith) (s .1) in
       record { typed = ltb-false 7 (nlri .«route_type») (q .0); flow = r .0; origin = s .0; leaf = t .0 }
 
-  pub sized-nlri : Sized nlri
+  pub sized-nlri : (family ≡ 32) ⊎ (family ≡ 128) → Sized nlri
   unfolding flowFits originatorFits
-  sized-nlri =
+  sized-nlri f =
       record {
-        source = λ h. octets-most family _ _ small (both-true-left _ _ (sym (pick-true _ _ _ h) ∙ faultless .flow));
-        group = λ h. octets-most family _ _ small (both-true-right _ _ (sym (pick-true _ _ _ h) ∙ faultless .flow));
-        originator = λ h. originator-sixteen _ (sym (pick-true _ _ _ h) ∙ faultless .origin);
+        source = λ h. octets-size family _ _ f (both-true-left _ _ (sym (pick-true _ _ _ h) ∙ faultless .flow));
+        group = λ h. octets-size family _ _ f (both-true-right _ _ (sym (pick-true _ _ _ h) ∙ faultless .flow));
+        originator = λ h. originator-octets _ (sym (pick-true _ _ _ h) ∙ faultless .origin);
       }
 
   pub keyed : nlri .«route_type» ≡ 4 → isKey family key ≡ true
   unfolding leafFits
   keyed e = sym (pick-true _ _ _ (eq-eqb _ _ e)) ∙ faultless .leaf
 
-  pub size-short : (nlri .«route_type» ≡ 4 → length key ≤ 60) → sizeOf nlri (length key) < 258
+  pub size-short : (family ≡ 32) ⊎ (family ≡ 128) → (nlri .«route_type» ≡ 4 → length key ≤ 60) → sizeOf nlri (length key) < 258
   unfolding sizeOf
-  size-short bound =
+  size-short f bound =
       let a = fixed-short (nlri .«route_type») (length key) bound in
-      let b = flow-short (nlri .«route_type») (nlri .source .size) (nlri .group .size) (λ h. sized-nlri .source h) (λ h. sized-nlri .group h) in
-      let c = originator-short (nlri .«route_type») (nlri .originator .size) (λ h. sized-nlri .originator h) in
+      let b = flow-short (nlri .«route_type») (nlri .source .size) (nlri .group .size) (λ h. sized-nlri f .source h .0) (λ h. sized-nlri f .group h .0) in
+      let c = originator-short (nlri .«route_type») (nlri .originator .size) (λ h. sized-nlri f .originator h .0) in
       omega arith
 
 module _ (family : ℕ) (nlri : Nlri) (key : List ℕ) (space : ℕ) where

@@ -6,6 +6,7 @@ use Prim.Native.Nat.{ℕ, _+_, _-_, _*_, _≤_, _<_}
 use native.Mathlib.Nat.{add-sub-cancel-left}
 use native.Mathlib.Omega.{arith}
 use lib.ListN.{length, take, length-append}
+use lib.Seq.{take-length}
 use lib.Dec.{eqb}
 use borrow.Author.Tests.{eqb-true}
 use Rattle.octets.specs.Choice.{pick}
@@ -27,9 +28,15 @@ pub octets-length : (a : Address) → length (octetsOf a) ≡ a .size
 unfolding octetsOf
 octets-length a = sized-length (a .size) (a .octets)
 
-pub octets-taken : (a : Address) → a .size ≤ length (a .octets) → take (a .size) (a .octets) ≡ octetsOf a
+pub octets-taken : (a : Address) (n : ℕ) → a .size ≡ n → n ≤ length (a .octets) → take n (a .octets) ≡ octetsOf a
 unfolding octetsOf
-octets-taken a h = sym (sized-taken (a .size) (a .octets) h)
+octets-taken a n e h = rw e (sym (sized-taken n (a .octets) h))
+
+pub octets-all : (a : Address) → a .size ≡ length (a .octets) → a .octets ≡ octetsOf a
+octets-all a e = sym (take-length (a .octets)) ∙ octets-taken a (length (a .octets)) e (omega arith)
+
+pub octets-none : (a : Address) → a .size ≡ 0 → [] ≡ octetsOf a
+octets-none a e = octets-taken a 0 e (omega arith)
 
 pub address-split : (a : Address) → (8 * a .size ∷ []) ++ octetsOf a ≡ encodeAddress (octetsOf a)
 unfolding encodeAddress

@@ -78,11 +78,15 @@ bodyOctets nlri key = fixedOctets nlri key ++ (flowOctets nlri ++ originatorOcte
 unfoldable pub allOctets : Nlri → List ℕ → List ℕ
 allOctets nlri key = nlri .«route_type» ∷ length (bodyOctets nlri key) ∷ bodyOctets nlri key
 
--- addresses that fit their arrays
+-- a wildcard's size, IPv4's or IPv6's
+abbrev pub AddressSize : ℕ → Type 0
+AddressSize size = (size ≤ 16) × ((size ≡ 4 → ⊥) → (size ≡ 16 → ⊥) → size ≡ 0)
+
+-- addresses of such sizes
 pub record Sized (nlri : Nlri) : Type 0 where
-  pub source : hasFlow (nlri .«route_type») ≡ true → nlri .source .size ≤ 16
-  pub group : hasFlow (nlri .«route_type») ≡ true → nlri .group .size ≤ 16
-  pub originator : hasOriginator (nlri .«route_type») ≡ true → nlri .originator .size ≤ 16
+  pub source : hasFlow (nlri .«route_type») ≡ true → AddressSize (nlri .source .size)
+  pub group : hasFlow (nlri .«route_type») ≡ true → AddressSize (nlri .group .size)
+  pub originator : hasOriginator (nlri .«route_type») ≡ true → AddressSize (nlri .originator .size)
 
 -- an NLRI of so many octets that fits its Length octet and the output
 pub record Putting (nlri : Nlri) (key : List ℕ) (size : ℕ) (output : List ℕ) : Type 0 where

@@ -10,8 +10,9 @@ ghost use Rattle.octets.specs.Outputs.{writtenOf, outputOf};
 ghost use Rattle.nlri.specs.Fields.{encodeAddress};
 ghost use Rattle.nlri.specs.Writing.{isKey, writeNlri};
 ghost use Rattle.nlri.specs.Answers.{octetsOf, fieldsIn};
-ghost use Rattle.nlri.specs.InnerWriting.{hasFlow, hasOriginator, flowFits, originatorFits, leafFits, judged, fixedSize, flowSize, originatorLength, sizeOf, numberOctets, fixedOctets, flowOctets, originatorOctets, bodyOctets, allOctets, Sized, Putting, writeUnder};
+ghost use Rattle.nlri.specs.InnerWriting.{hasFlow, hasOriginator, flowFits, originatorFits, leafFits, judged, fixedSize, flowSize, originatorLength, sizeOf, numberOctets, fixedOctets, flowOctets, originatorOctets, bodyOctets, allOctets, AddressSize, Sized, Putting, writeUnder};
 use crate::address::Address;
+use crate::address::AddressKind;
 use crate::address::RouteDistinguisher;
 use crate::body;
 use crate::family;
@@ -168,19 +169,25 @@ fn size_of(nlri: Nlri, key: usize) -> usize
     HEADER + fixed + flow + originator_length(route_type, originator.size as usize)
 }
 
-// The octets of an address, from `at` on.
+// The octets of an address, from `at` on: copies of a known size are single moves.
 fn put_octets(address: Address, output: &mut [u8], at: usize) -> usize
-    requires { ⌜ (address .size ≤ 16) × (at + length (octetsOf address) ≤ length (now output)) ⌝ }
+    requires { ⌜ AddressSize (address .size) × (at + length (octetsOf address) ≤ length (now output)) ⌝ }
     ensures { λ r. ⌜ (r ≡ at + length (octetsOf address)) × (now (output .exit) ≡ placed at (octetsOf address) (now (output .entry))) ⌝ }
 {
     let octets = address.octets;
     let size = address.size as usize;
-    octets::parts::place(&octets[..size], output, at)
+    if size == AddressKind::IPV4_OCTETS {
+        return octets::parts::place(&octets[..AddressKind::IPV4_OCTETS], output, at);
+    }
+    if size == AddressKind::IPV6_OCTETS {
+        return octets::parts::place(&octets, output, at);
+    }
+    at
 }
 
 // A source or group with its length octet, from `at` on.
 fn put_address(address: Address, output: &mut [u8], at: usize) -> usize
-    requires { ⌜ (address .size ≤ 16) × (at + length (encodeAddress (octetsOf address)) ≤ length (now output)) ⌝ }
+    requires { ⌜ AddressSize (address .size) × (at + length (encodeAddress (octetsOf address)) ≤ length (now output)) ⌝ }
     ensures { λ r. ⌜ (r ≡ at + length (encodeAddress (octetsOf address))) × (now (output .exit) ≡ placed at (encodeAddress (octetsOf address)) (now (output .entry))) ⌝ }
 {
     let bits = [8 * address.size];

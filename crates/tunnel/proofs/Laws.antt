@@ -7,13 +7,13 @@ use native.Mathlib.Omega.{arith}
 use lib.Dec.{ltb, eqb}
 use lib.ListN.{length, getD, take, drop, length-append, length-drop}
 use lib.Seq.{length-take-le}
-use borrow.Author.Tests.{ltb-false, eqb-true, eq-eqb, ne-eqb, le-ltb, lt-ltb}
-use Rattle.octets.specs.Choice.{pick}
-use Rattle.octets.specs.Numbers.{DONE, SHORT, LONG, IDENT, LABEL, SPACE}
+use borrow.Author.Tests.{ltb-true, ltb-false, eqb-true, eqb-false, eq-eqb, ne-eqb, le-ltb, lt-ltb}
+use Rattle.octets.specs.Choice.{pick, both, either}
+use Rattle.octets.specs.Numbers.{DONE, SHORT, LONG, TUNNEL, IDENT, LABEL, SPACE}
 use Rattle.octets.specs.Outcome.{Outcome, given, refused, andThen, onOutcome, numberOf}
 use Rattle.octets.specs.Octets.{part, numberIn, front}
 use Rattle.octets.proofs.Tests.{tests}
-use Rattle.octets.proofs.Picked.{pick-then, pick-else, pick-passed, pick-held, both-held, was-given}
+use Rattle.octets.proofs.Picked.{tested, pick-then, pick-else, pick-passed, pick-held, both-held, was-given}
 use Rattle.octets.proofs.NetworkOrder.{big-endian-length}
 use Rattle.octets.specs.declared.Written.{Written}
 use Rattle.tunnel.specs.declared.fec.Fec.{Fec}
@@ -23,7 +23,7 @@ use Rattle.tunnel.specs.Identifier.{IdentifierForm, sizes, fecTypes, Tab
 use Rattle.tunnel.specs.Attribute.{Fields, labelOf, leafInformationRequired, fieldsIn, encodeAttribute, readAttribute, writeAttribute}
 use Rattle.tunnel.specs.Answers.{fecSpans, noFec, fecOfForm, fecOf, attributeOf, readAnswer}
 use Rattle.octets.specs.Outputs.{writtenOf, outputOf}
-use Rattle.tunnel.specs.Inner.{formFault, faultIn, faultOf}
+use Rattle.tunnel.specs.Inner.{unknown, mldp, typeSuits, formFault, faultIn, faultOf, TakesSizes}
 
 -- a test that a call made, in the definition's words
 pub told : (r t v : Bool) → r ≡ t → r ≡ v → t ≡ v
@@ -106,11 +106,11 @@ unfolding judged judgedBy formOf faultOf asOutcome
 judged-fine t i e = rows-judged table t i ∙ pick-then (eqb (faultOf t i) 0) (given i) (refused (faultOf t i)) (eq-eqb (faultOf t i) 0 e)
 
 -- the rows of the mLDP tunnel types
-pub p2mp-row : (t : ℕ) → t ≡ 2 → formOf t ≡ given (fecTypes (6 ∷ []))
+p2mp-row : (t : ℕ) → t ≡ 2 → formOf t ≡ given (fecTypes (6 ∷ []))
 unfolding formOf formIn table pick
 p2mp-row t e = rw e
 
-pub mp2mp-row : (t : ℕ) → t ≡ 7 → formOf t ≡ given (fecTypes (7 ∷ 8 ∷ []))
+mp2mp-row : (t : ℕ) → t ≡ 7 → formOf t ≡ given (fecTypes (7 ∷ 8 ∷ []))
 unfolding formOf formIn table pick
 mp2mp-row t e = rw e
 
@@ -120,6 +120,106 @@ unfolding judged andThen fits
 fec-without-fault t i ns e h =
     let j : pick (fits (fecTypes ns) i) (given i) (refused IDENT) ≡ given i = rw e at (judged-fine t i h) in
     both-held (wholeFec i) (oneOf (getD i 0 0) ns) (was-given (fits (fecTypes ns) i) i i IDENT j .0) .0
+
+-- a tunnel type that the table lacks
+pub unknown-fault : (t : ℕ) (i : List ℕ) → unknown t ≡ true → TUNNEL ≡ faultOf t i
+unfolding unknown faultOf faultIn table pick
+unknown-fault t i h =
+    let p = pick-passed (eqb t 11) (ltb 7 t) h in
+    let over : 7 < t = ltb-true 7 t (p .1) in
+    let n : (k : ℕ) → k ≤ 7 → eqb t k ≡ false = λ k l. ne-eqb t k (λ e. omega arith) in
+    rw (n 0 (omega arith), n 1 (omega arith), n 2 (omega arith), n 3 (omega arith), n 4 (omega arith), n 5 (omega arith), n 6 (omega arith), n 7 (omega arith), p .0)
+
+-- rows of sizes
+twice : (b : Bool) → pick (either b false) DONE IDENT ≡ pick (either b (either b false)) DONE IDENT
+unfolding pick either
+twice true = refl
+twice false = refl
+
+one-size : (n : ℕ) (i : List ℕ) → formFault (sizes (n ∷ [])) i ≡ formFault (sizes (n ∷ n ∷ [])) i
+unfolding formFault fits oneOf
+one-size n i = twice (eqb (length i) n)
+
+pub none-row : (t : ℕ) → t ≡ 0 → TakesSizes t 0 0
+unfolding faultOf faultIn table pick
+none-row t e i = rw e (one-size 0 i)
+
+pub session-row : (t : ℕ) → t ≡ 1 → TakesSizes t 12 12
+unfolding faultOf faultIn table pick
+session-row t e i = rw e (one-size 12 i)
+
+pub replication-row : (t : ℕ) → t ≡ 6 → TakesSizes t 4 16
+unfolding faultOf faultIn table pick
+replication-row t e i = rw e
+
+pub bier-row : (t : ℕ) → t ≡ 11 → TakesSizes t 7 19
+unfolding faultOf faultIn table pick
+bier-row t e i = rw e
+
+ssm-row : (t : ℕ) → t ≡ 3 → TakesSizes t 8 32
+unfolding faultOf faultIn table pick
+ssm-row t e i = rw e
+
+sm-row : (t : ℕ) → t ≡ 4 → TakesSizes t 8 32
+unfolding faultOf faultIn table pick
+sm-row t e i = rw e
+
+bidir-row : (t : ℕ) → t ≡ 5 → TakesSizes t 8 32
+unfolding faultOf faultIn table pick
+bidir-row t e i = rw e
+
+over-two : (t : ℕ) → (t ≡ 0 → ⊥) → (t ≡ 1 → ⊥) → (t ≡ 2 → ⊥) → 2 < t
+over-two t a b c = omega arith
+
+last-pim : (t : ℕ) → 2 < t → t ≤ 7 → (t ≡ 3 → ⊥) → (t ≡ 4 → ⊥) → (t ≡ 6 → ⊥) → (t ≡ 7 → ⊥) → t ≡ 5
+last-pim t l h d e f g = omega arith
+
+neither : (a b : Bool) → either a b ≡ false → (a ≡ false) × (b ≡ false)
+unfolding either
+neither true b h = (h, cc)
+neither false b h = (refl, h)
+
+-- every other tunnel type of the table is one of PIM's
+pub pim-row : (t : ℕ) → unknown t ≡ false → mldp t ≡ false → (t ≡ 0 → ⊥) → (t ≡ 1 → ⊥) → (t ≡ 6 → ⊥) → (t ≡ 11 → ⊥) → TakesSizes t 8 32
+unfolding unknown mldp
+pim-row t u m a b c d =
+    let p = neither (eqb t 2) (eqb t 7) m in
+    let most : t ≤ 7 = ltb-false 7 t (sym (pick-else (eqb t 11) false (ltb 7 t) (ne-eqb t 11 d)) ∙ u) in
+    let two = eqb-false t 2 (p .0) in
+    let seven = eqb-false t 7 (p .1) in
+    tested (eqb t 3)
+    (λ q. ssm-row t (eqb-true t 3 q))
+    (λ q. tested (eqb t 4)
+    (λ r. sm-row t (eqb-true t 4 r))
+    (λ r. bidir-row t (last-pim t (over-two t a b two) most (eqb-false t 3 q) (eqb-false t 4 r) c seven)))
+
+-- rows of FECs
+seven-of : (t : ℕ) → mldp t ≡ true → eqb t 2 ≡ false → t ≡ 7
+unfolding mldp either
+seven-of t m p = eqb-true t 7 (rw p at m)
+
+or-none : (b : Bool) → either b false ≡ b
+unfolding either
+or-none true = refl
+or-none false = refl
+
+fecFault : ℕ → List ℕ → ℕ
+fecFault t i = pick (both (wholeFec i) (typeSuits t (getD i 0 0))) DONE IDENT
+
+p2mp-fault : (t : ℕ) (i : List ℕ) → t ≡ 2 → fecFault t i ≡ faultOf t i
+unfolding fecFault typeSuits faultOf faultIn table formFault fits oneOf pick
+p2mp-fault t i e = rw (e, or-none (eqb (getD i 0 0) 6))
+
+mp2mp-fault : (t : ℕ) (i : List ℕ) → t ≡ 7 → fecFault t i ≡ faultOf t i
+unfolding fecFault typeSuits faultOf faultIn table formFault fits oneOf pick
+mp2mp-fault t i e = rw (e, or-none (eqb (getD i 0 0) 8))
+
+pub mldp-fault : (t : ℕ) (i : List ℕ) (r : ℕ) → mldp t ≡ true → r ≡ pick (both (wholeFec i) (typeSuits t (getD i 0 0))) DONE IDENT → r ≡ faultOf t i
+unfolding fecFault
+mldp-fault t i r m e =
+    e ∙ tested (eqb t 2)
+    (λ p. p2mp-fault t i (eqb-true t 2 p))
+    (λ p. mp2mp-fault t i (seven-of t m p))
 
 -- a FEC's spans, from its length octet and the identifier's length
 pub fec-span : (i : List ℕ) (family : ℕ) → wholeFec i ≡ true → family ≡ numberIn (part i 1 2) 0
@@ -135,7 +235,7 @@ unfolding fecSpans fecIn
 fec-span i family h e = rw (root-length i h, opaque-length i h, e)
 
 -- the FEC of a tunnel type, by its row
-pub fec-by-row : (s rest ns : List ℕ) (r : Fec) → formOf (getD s 1 0) ≡ given (fecTypes ns) → rest ≡ drop 5 s → r ≡ fecSpans (fecIn rest) → r ≡ fecOf (fieldsIn s)
+fec-by-row : (s rest ns : List ℕ) (r : Fec) → formOf (getD s 1 0) ≡ given (fecTypes ns) → rest ≡ drop 5 s → r ≡ fecSpans (fecIn rest) → r ≡ fecOf (fieldsIn s)
 unfolding fecOf fecOfForm fieldsIn onOutcome
 fec-by-row s rest ns r t k e = rw (t, ← k) e
 
@@ -155,9 +255,31 @@ no-row : (i : List ℕ) (n : ℕ) → noFec ≡ fecFrom i (refused n)
 unfolding fecFrom onOutcome
 no-row i n = refl
 
-pub other-fec : (s : List ℕ) → (getD s 1 0 ≡ 2 → ⊥) → (getD s 1 0 ≡ 7 → ⊥) → noFec ≡ fecOf (fieldsIn s)
+other-fec : (s : List ℕ) → (getD s 1 0 ≡ 2 → ⊥) → (getD s 1 0 ≡ 7 → ⊥) → noFec ≡ fecOf (fieldsIn s)
 unfolding fecOf formOf formIn table fieldsIn fecFrom
 other-fec s a b = search (sized-row, fec-row, no-row, ne-eqb) depth 14
+
+-- the same by the code's test
+pub mldp-whole : (t : ℕ) (i rest : List ℕ) → mldp t ≡ true → faultOf t i ≡ 0 → rest ≡ i → wholeFec rest ≡ true
+mldp-whole t i rest m h e =
+    rw e
+    (tested (eqb t 2)
+    (λ p. fec-without-fault t i (6 ∷ []) (p2mp-row t (eqb-true t 2 p)) h)
+    (λ p. fec-without-fault t i (7 ∷ 8 ∷ []) (mp2mp-row t (seven-of t m p)) h))
+
+pub mldp-fec : (s rest : List ℕ) (r : Fec) → mldp (getD s 1 0) ≡ true → rest ≡ drop 5 s → r ≡ fecSpans (fecIn rest) → r ≡ fecOf (fieldsIn s)
+mldp-fec s rest r m k e =
+    let t = getD s 1 0 in
+    tested (eqb t 2)
+    (λ p. fec-by-row s rest (6 ∷ []) r (p2mp-row t (eqb-true t 2 p)) k e)
+    (λ p. fec-by-row s rest (7 ∷ 8 ∷ []) r (mp2mp-row t (seven-of t m p)) k e)
+
+pub no-mldp : (s : List ℕ) → mldp (getD s 1 0) ≡ false → noFec ≡ fecOf (fieldsIn s)
+unfolding mldp
+no-mldp s m =
+    let t = getD s 1 0 in
+    let p = neither (eqb t 2) (eqb t 7) m in
+    other-fec s (eqb-false t 2 (p .0)) (eqb-false t 7 (p .1))
 
 -- the fields, from where they stand
 pub fields-are : (s : List ℕ) (label : ℕ) (fec : Fec) → 5 ≤ length s → label ≡ numberIn (part s 2 3) 0 → fec ≡ fecOf (fieldsIn s)

@@ -1,10 +1,23 @@
 -- What inner functions answer; laws tie it to document 01's definitions.
 use Prim.Native.Nat.{ℕ}
+use mathlib.Core.Path.{_≡_}
+use mathlib.Core.Bool.{Bool, false}
 use mathlib.Core.List.{List, [], _∷_}
-use lib.Dec.{eqb}
-use Rattle.octets.specs.Choice.{pick}
+use lib.Dec.{ltb, eqb}
+use Rattle.octets.specs.Choice.{pick, either}
 use Rattle.octets.specs.Numbers.{DONE, TUNNEL, IDENT}
-use Rattle.tunnel.specs.Identifier.{TableRow, table, IdentifierForm, fits}
+use Rattle.tunnel.specs.Identifier.{TableRow, table, IdentifierForm, sizes, fits}
+
+-- a tunnel type that the table lacks
+unfoldable pub unknown : ℕ → Bool
+unknown t = pick (eqb t 11) false (ltb 7 t)
+
+-- one whose identifier is a FEC, and the FEC types that it takes
+unfoldable pub mldp : ℕ → Bool
+mldp t = either (eqb t 2) (eqb t 7)
+
+unfoldable pub typeSuits : ℕ → ℕ → Bool
+typeSuits t fec = pick (eqb t 2) (eqb fec 6) (either (eqb fec 7) (eqb fec 8))
 
 -- IDENT, or DONE for an identifier of the form
 unfoldable pub formFault : IdentifierForm → List ℕ → ℕ
@@ -17,3 +30,7 @@ faultIn (r ∷ rs) t i = pick (eqb t (r .tunnelType)) (formFault (r .form) i) (f
 
 unfoldable pub faultOf : ℕ → List ℕ → ℕ
 faultOf t i = faultIn table t i
+
+-- a tunnel type whose identifiers have one of two sizes
+abbrev pub TakesSizes : ℕ → ℕ → ℕ → Type 0
+TakesSizes t first second = (i : List ℕ) → faultOf t i ≡ formFault (sizes (first ∷ second ∷ [])) i

@@ -7,7 +7,6 @@ ghost use Rattle.tunnel.specs.Inner.{faultOf};
 ghost use Rattle.tunnel.specs.Answers.{attributeOf, fecOf};
 use crate::Attribute;
 use crate::fec::Fec;
-use crate::tunnel_type::TunnelType;
 use octets::Span;
 
 // The FEC of an mLDP tunnel type.
@@ -16,11 +15,7 @@ fn fec_of(s: &[u8]) -> Fec
     requires { ⌜ faultOf (getD (now s) 1 0) (drop 5 (now s)) ≡ 0 ⌝ }
     ensures { λ r. ⌜ r ≡ fecOf (fieldsIn (now (s .entry))) ⌝ }
 {
-    let tunnel_type = s[1];
-    if tunnel_type == TunnelType::MLDP_P2MP {
-        return crate::fec::spans(octets::parts::after(s, crate::HEADER));
-    }
-    if tunnel_type == TunnelType::MLDP_MP2MP {
+    if crate::identifier::is_mldp(s[1]) {
         return crate::fec::spans(octets::parts::after(s, crate::HEADER));
     }
     Fec {

@@ -1,21 +1,73 @@
 // Which identifiers each tunnel type takes (document 01, the table of "PMSI Tunnel attribute").
 ghost use mathlib.Core.Path.{_≡_};
+ghost use mathlib.Core.Bool.{true, false};
 ghost use mathlib.Core.List.{[], _∷_};
-ghost use Rattle.tunnel.specs.Identifier.{sizes, fecTypes};
-ghost use Rattle.tunnel.specs.Inner.{formFault, faultOf};
+ghost use Rattle.tunnel.specs.Identifier.{sizes};
+ghost use Rattle.tunnel.specs.Inner.{unknown, mldp, typeSuits, formFault, faultOf, TakesSizes};
 use crate::fec::FecType;
 use crate::sizes::Sizes;
 use crate::tunnel_type::TunnelType;
 use octets::number;
 
-// An identifier of one size.
-fn of_size(identifier: &[u8], size: usize) -> u32
-    ensures { λ r. ⌜ r ≡ formFault (sizes (size ∷ [])) (now (identifier .entry)) ⌝ }
+// The two sizes of an identifier, the same where it has one.
+struct SizePair {
+    first: usize,
+    second: usize,
+}
+
+// A tunnel type that the table lacks.
+fn is_unknown(tunnel_type: u8) -> bool
+    ensures { λ r. ⌜ r ≡ unknown «tunnel_type» ⌝ }
 {
-    if identifier.len() == size {
-        return number::DONE;
+    if tunnel_type == TunnelType::BIER {
+        return false;
     }
-    number::IDENT
+    TunnelType::MLDP_MP2MP < tunnel_type
+}
+
+// A tunnel type whose identifier is a FEC.
+pub(crate) fn is_mldp(tunnel_type: u8) -> bool
+    ensures { λ r. ⌜ r ≡ mldp «tunnel_type» ⌝ }
+{
+    if tunnel_type == TunnelType::MLDP_P2MP {
+        return true;
+    }
+    tunnel_type == TunnelType::MLDP_MP2MP
+}
+
+// The sizes in the row of any other tunnel type.
+fn sizes_of(tunnel_type: u8) -> SizePair
+    requires { ⌜ (unknown «tunnel_type» ≡ false) × (mldp «tunnel_type» ≡ false) ⌝ }
+    ensures { λ r. ⌜ TakesSizes «tunnel_type» (r .first) (r .second) ⌝ }
+{
+    if tunnel_type == TunnelType::NONE {
+        return SizePair {
+            first: Sizes::NONE,
+            second: Sizes::NONE,
+        };
+    }
+    if tunnel_type == TunnelType::RSVP_TE_P2MP {
+        return SizePair {
+            first: Sizes::RSVP_TE_SESSION,
+            second: Sizes::RSVP_TE_SESSION,
+        };
+    }
+    if tunnel_type == TunnelType::INGRESS_REPLICATION {
+        return SizePair {
+            first: Sizes::IPV4,
+            second: Sizes::IPV6,
+        };
+    }
+    if tunnel_type == TunnelType::BIER {
+        return SizePair {
+            first: Sizes::BIER_IPV4,
+            second: Sizes::BIER_IPV6,
+        };
+    }
+    SizePair {
+        first: Sizes::TWO_IPV4,
+        second: Sizes::TWO_IPV6,
+    }
 }
 
 // An identifier of one of two sizes.
@@ -31,29 +83,26 @@ fn of_sizes(identifier: &[u8], first: usize, second: usize) -> u32
     number::IDENT
 }
 
-// A FEC of one type, which is its first octet.
-fn of_fec(identifier: &[u8], first: u8) -> u32
-    ensures { λ r. ⌜ r ≡ formFault (fecTypes (first ∷ [])) (now (identifier .entry)) ⌝ }
+// The FEC types that an mLDP tunnel type takes.
+fn type_suits(tunnel_type: u8, fec_type: u8) -> bool
+    ensures { λ r. ⌜ r ≡ typeSuits «tunnel_type» «fec_type» ⌝ }
 {
-    if crate::fec::whole(identifier) {
-        if identifier[0] == first {
-            return number::DONE;
-        }
-        return number::IDENT;
+    if tunnel_type == TunnelType::MLDP_P2MP {
+        return fec_type == FecType::P2MP;
     }
-    number::IDENT
+    if fec_type == FecType::MP2MP_UP {
+        return true;
+    }
+    fec_type == FecType::MP2MP_DOWN
 }
 
-// A FEC of one of two types.
-fn of_fecs(identifier: &[u8], first: u8, second: u8) -> u32
-    ensures { λ r. ⌜ r ≡ formFault (fecTypes (first ∷ second ∷ [])) (now (identifier .entry)) ⌝ }
+// A FEC, whose type is its first octet.
+fn of_fec(tunnel_type: u8, identifier: &[u8]) -> u32
+    requires { ⌜ mldp «tunnel_type» ≡ true ⌝ }
+    ensures { λ r. ⌜ r ≡ faultOf «tunnel_type» (now (identifier .entry)) ⌝ }
 {
     if crate::fec::whole(identifier) {
-        let code = identifier[0];
-        if code == first {
-            return number::DONE;
-        }
-        if code == second {
+        if type_suits(tunnel_type, identifier[0]) {
             return number::DONE;
         }
         return number::IDENT;
@@ -65,32 +114,12 @@ fn of_fecs(identifier: &[u8], first: u8, second: u8) -> u32
 pub(crate) fn fault(tunnel_type: u8, identifier: &[u8]) -> u32
     ensures { λ r. ⌜ r ≡ faultOf «tunnel_type» (now (identifier .entry)) ⌝ }
 {
-    if tunnel_type == TunnelType::NONE {
-        return of_size(identifier, Sizes::NONE);
+    if is_mldp(tunnel_type) {
+        return of_fec(tunnel_type, identifier);
     }
-    if tunnel_type == TunnelType::RSVP_TE_P2MP {
-        return of_size(identifier, Sizes::RSVP_TE_SESSION);
+    if is_unknown(tunnel_type) {
+        return number::TUNNEL;
     }
-    if tunnel_type == TunnelType::MLDP_P2MP {
-        return of_fec(identifier, FecType::P2MP);
-    }
-    if tunnel_type == TunnelType::PIM_SSM {
-        return of_sizes(identifier, Sizes::TWO_IPV4, Sizes::TWO_IPV6);
-    }
-    if tunnel_type == TunnelType::PIM_SM {
-        return of_sizes(identifier, Sizes::TWO_IPV4, Sizes::TWO_IPV6);
-    }
-    if tunnel_type == TunnelType::BIDIR_PIM {
-        return of_sizes(identifier, Sizes::TWO_IPV4, Sizes::TWO_IPV6);
-    }
-    if tunnel_type == TunnelType::INGRESS_REPLICATION {
-        return of_sizes(identifier, Sizes::IPV4, Sizes::IPV6);
-    }
-    if tunnel_type == TunnelType::MLDP_MP2MP {
-        return of_fecs(identifier, FecType::MP2MP_UP, FecType::MP2MP_DOWN);
-    }
-    if tunnel_type == TunnelType::BIER {
-        return of_sizes(identifier, Sizes::BIER_IPV4, Sizes::BIER_IPV6);
-    }
-    number::TUNNEL
+    let sizes = sizes_of(tunnel_type);
+    of_sizes(identifier, sizes.first, sizes.second)
 }

@@ -39,7 +39,7 @@ mvpn-attribute-read-spec =
     read-requires
     enum-known-fields
     read-answer-requires
+    returns
     enum-known-number
     refusal-requires
-    returns
     returns-2)
