@@ -4,7 +4,7 @@ use mathlib.Core.Bool.{Bool, true, false}
 use mathlib.Core.List.{List, [], _∷_}
 use Prim.Native.Nat.{ℕ, _+_, _-_, _≤_}
 use native.Mathlib.Omega.{arith}
-use borrow.Author.Tests.{ltb-false, ne-eqb}
+use borrow.Author.Tests.{ltb-false}
 use lib.ListN.{length, getD, take, drop, length-take, length-drop}
 use lib.Seq.{length-take-le}
 use lib.Dec.{eqb, ltb}
@@ -113,12 +113,3 @@ key-within family s k e =
     let q = given-same (p .1) in
     let h = laid-within noKey family s (w .value) (w .first) in
     (omega arith, omega arith)
-
--- a body whose type is 4 is a Leaf's, and any other body has no key
-pub leaf-body : (family type : ℕ) (s : List ℕ) → type ≡ 4 → leaf family s ≡ anyBody family type s
-unfolding anyBody bodyWith pick
-leaf-body family type s e = rw e
-
-pub other-body : (family type : ℕ) (s : List ℕ) → (type ≡ 4 → ⊥) → unkeyedBody family type s ≡ anyBody family type s
-unfolding unkeyedBody anyBody bodyWith pick
-other-body family type s h = rw (ne-eqb type 4 h)

@@ -118,19 +118,21 @@ unfolding layoutFor layoutOf layoutWith fieldIn sameKind codeOf pick
 layout-join type n a b = refl
 
 -- how a body ends
-last-is : (type n a b k rest rest′ : ℕ) (l : Layout) → l ≡ layoutWith type n a b rest k → rest ≡ rest′ → pick (originatorSize rest) (given l) (refused LENGTH) ≡ originatorLast (layoutWith type n a b 0 k) rest′
+last-is : (type n a b k rest rest′ : ℕ) (l : Layout) → l ≡ layoutWith type n a b rest k → rest ≡ rest′ → pick (originatorSize rest) (given l) (refused LENGTH) ≡ originatorLast (layoutWith type n a b rest′ k)
 unfolding originatorLast layoutWith
-last-is type n a b k rest rest′ l e q = ap (λ (x : Layout). pick (originatorSize rest) (given x) (refused LENGTH)) e ∙ ap (λ (m : ℕ). originatorLast (layoutWith type n a b 0 k) m) q
+last-is type n a b k rest rest′ l e q = ap (λ (x : Layout). pick (originatorSize rest) (given x) (refused LENGTH)) e ∙ ap (λ (m : ℕ). originatorLast (layoutWith type n a b m k)) q
 
-end-is : (type n a b rest rest′ : ℕ) (l : Layout) → l ≡ layoutWith type n a b 0 0 → rest ≡ rest′ → pick (eqb rest 0) (given l) (refused LENGTH) ≡ endsAt (layoutWith type n a b 0 0) rest′
-unfolding endsAt
-end-is type n a b rest rest′ l e q = ap (λ (x : Layout). pick (eqb rest 0) (given x) (refused LENGTH)) e ∙ ap (endsAt (layoutWith type n a b 0 0)) q
+end-is : (type n a b rest rest′ : ℕ) (l : Layout) → l ≡ layoutWith type n a b 0 0 → rest ≡ rest′ → pick (eqb rest 0) (given l) (refused LENGTH) ≡ endsAt (layoutWith type n a b rest′ 0)
+unfolding endsAt layoutWith
+end-is type n a b rest rest′ l e q =
+    pick-cong _ _ _ _ _ (λ none. ap given (e ∙ ap (λ (m : ℕ). layoutWith type n a b m 0) (sym (eqb-true rest 0 none)))) (λ _. refl)
+    ∙ ap (λ (m : ℕ). endsAt (layoutWith type n a b m 0)) q
 
-flow-ends-in-originator : (n a b rest : ℕ) → originatorLast (layoutWith 3 n (a - 1) (b - 1) 0 0) rest ≡ flowEnd 3 n a b rest
+flow-ends-in-originator : (n a b rest : ℕ) → originatorLast (layoutWith 3 n (a - 1) (b - 1) rest 0) ≡ flowEnd 3 n a b rest
 unfolding flowEnd
 flow-ends-in-originator n a b rest = sym (pick-true _ _ _ refl)
 
-flow-ends : (type n a b rest : ℕ) → eqb type 3 ≡ false → endsAt (layoutWith type n (a - 1) (b - 1) 0 0) rest ≡ flowEnd type n a b rest
+flow-ends : (type n a b rest : ℕ) → eqb type 3 ≡ false → endsAt (layoutWith type n (a - 1) (b - 1) rest 0) ≡ flowEnd type n a b rest
 unfolding flowEnd
 flow-ends type n a b rest h = sym (pick-false _ _ _ h)
 
@@ -173,7 +175,7 @@ module _ (keyField : List ℕ → Outcome ℕ) (family : ℕ) (s : List ℕ) whe
       ∙ end-is type _ _ _ _ _ _ (layout-join type _ (ab .0) (ab .1)) (lengths 12 (ab .0) (ab .1) s) ∙ flow-ends type _ (ab .0) (ab .1) _ other))
 
   leaf-row : rowLayout (fieldSize keyField family 4) 4 s (key ∷ originator ∷ [])
-      ≡ andThen (keyField s) (λ size. originatorLast (layoutWith 4 (length s) 0 0 0 size) (length s - size))
+      ≡ andThen (keyField s) (λ size. originatorLast (layoutWith 4 (length s) 0 0 (length s - size) size))
   unfolding size fieldSize
   leaf-row =
       row-is _ _ _ _ ∙ lay-cons _ _ _ _ _
@@ -181,13 +183,13 @@ module _ (keyField : List ℕ → Outcome ℕ) (family : ℕ) (s : List ℕ) whe
 
   -- every row: the page's table of bodies is the chain of tests
   pub rows : (type : ℕ) → onBody bodies type (refused TYPE) (rowLayout (fieldSize keyField family type) type s)
-      ≡ bodyWith (andThen (keyField s) (λ size. originatorLast (layoutWith 4 (length s) 0 0 0 size) (length s - size))) family type s
+      ≡ bodyWith (andThen (keyField s) (λ size. originatorLast (layoutWith 4 (length s) 0 0 (length s - size) size))) family type s
   unfolding onBody bodies bodyWith
   rows type =
       pick-cong _ _ _ _ _ (λ e. at 1 e (λ n. rowLayout (fieldSize keyField family n) n s (distinguisher ∷ originator ∷ []) ≡ intraAs s) intra-as-row)
       (λ _. pick-cong _ _ _ _ _ (λ e. at 2 e (λ n. rowLayout (fieldSize keyField family n) n s (distinguisher ∷ sourceAs ∷ []) ≡ interAs s) inter-as-row)
       (λ _. pick-cong _ _ _ _ _ (λ e. at 3 e (λ n. rowLayout (fieldSize keyField family n) n s (distinguisher ∷ source ∷ group ∷ originator ∷ []) ≡ flowRoute family n 8 s) s-pmsi-row)
-      (λ other. pick-cong _ _ _ _ _ (λ e. at 4 e (λ n. rowLayout (fieldSize keyField family n) n s (key ∷ originator ∷ []) ≡ andThen (keyField s) (λ size. originatorLast (layoutWith 4 (length s) 0 0 0 size) (length s - size))) leaf-row)
+      (λ other. pick-cong _ _ _ _ _ (λ e. at 4 e (λ n. rowLayout (fieldSize keyField family n) n s (key ∷ originator ∷ []) ≡ andThen (keyField s) (λ size. originatorLast (layoutWith 4 (length s) 0 0 (length s - size) size))) leaf-row)
       (λ _. pick-cong _ _ _ _ _ (λ e. at 5 e (λ n. rowLayout (fieldSize keyField family n) n s (distinguisher ∷ source ∷ group ∷ []) ≡ flowRoute family n 8 s) source-active-row)
       (λ _. pick-cong _ _ _ _ _ (λ e. join-row type other)
       (λ _. pick-cong _ _ _ _ _ (λ e. join-row type other) (λ _. refl)))))))

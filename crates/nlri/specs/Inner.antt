@@ -41,13 +41,12 @@ unfoldable pub layoutWith : (type size source group originator key : ℕ) → La
 layoutWith type size source group originator key =
     record { «route_type» = type; length = size; source = source; group = group; originator = originator; key = key }
 
-unfoldable pub originatorLast : Layout → ℕ → Outcome Layout
-originatorLast l rest =
-    pick (originatorSize rest) (given (layoutWith (l .«route_type») (l .length) (l .source) (l .group) rest (l .key)))
-    (refused LENGTH)
+-- what remains stands in the layout as its originator
+unfoldable pub originatorLast : Layout → Outcome Layout
+originatorLast l = pick (originatorSize (l .originator)) (given l) (refused LENGTH)
 
-unfoldable pub endsAt : Layout → ℕ → Outcome Layout
-endsAt l rest = pick (eqb rest 0) (given l) (refused LENGTH)
+unfoldable pub endsAt : Layout → Outcome Layout
+endsAt l = pick (eqb (l .originator) 0) (given l) (refused LENGTH)
 
 unfoldable pub groupSize : (family type source : ℕ) → List ℕ → Outcome (ℕ × ℕ)
 groupSize family type source s = andThen (addressField family type s) (λ group. given (source, group))
@@ -57,8 +56,8 @@ flowSizes family type s = andThen (addressField family type s) (λ source. group
 
 unfoldable pub flowEnd : (type size source group rest : ℕ) → Outcome Layout
 flowEnd type size source group rest =
-    pick (eqb type 3) (originatorLast (layoutWith type size (source - 1) (group - 1) 0 0) rest)
-    (endsAt (layoutWith type size (source - 1) (group - 1) 0 0) rest)
+    pick (eqb type 3) (originatorLast (layoutWith type size (source - 1) (group - 1) rest 0))
+    (endsAt (layoutWith type size (source - 1) (group - 1) rest 0))
 
 unfoldable pub flowRoute : (family type fixed : ℕ) → List ℕ → Outcome Layout
 flowRoute family type fixed s =
@@ -67,13 +66,13 @@ flowRoute family type fixed s =
     (λ sizes. flowEnd type (length s) (sizes .0) (sizes .1) (length s - fixed - sizes .0 - sizes .1)))
 
 unfoldable pub intraAs : List ℕ → Outcome Layout
-intraAs s = pick (ltb (length s) 8) (refused LENGTH) (originatorLast (layoutWith 1 (length s) 0 0 0 0) (length s - 8))
+intraAs s = pick (ltb (length s) 8) (refused LENGTH) (originatorLast (layoutWith 1 (length s) 0 0 (length s - 8) 0))
 
 unfoldable pub interAs : List ℕ → Outcome Layout
-interAs s = pick (ltb (length s) 12) (refused LENGTH) (endsAt (layoutWith 2 (length s) 0 0 0 0) (length s - 12))
+interAs s = pick (ltb (length s) 12) (refused LENGTH) (endsAt (layoutWith 2 (length s) 0 0 (length s - 12) 0))
 
 unfoldable pub leaf : ℕ → List ℕ → Outcome Layout
-leaf family s = andThen (keyField family s) (λ size. originatorLast (layoutWith 4 (length s) 0 0 0 size) (length s - size))
+leaf family s = andThen (keyField family s) (λ size. originatorLast (layoutWith 4 (length s) 0 0 (length s - size) size))
 
 -- the body of a route type, where `keyed` is what a Leaf's comes to
 unfoldable pub bodyWith : Outcome Layout → (family type : ℕ) → List ℕ → Outcome Layout

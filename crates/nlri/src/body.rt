@@ -91,21 +91,21 @@ fn read_flow(family: usize, route_type: usize, s: &[u8]) -> Flow
     }
 }
 
-// The originator is what remains.
-pub(crate) fn ends_in_originator(layout: Layout, rest: usize) -> Reading
-    ensures { λ r. ⌜ readingOf r ≡ originatorLast layout rest ⌝ }
+// What remains, given as the originator's size, is an originator.
+pub(crate) fn ends_in_originator(layout: Layout) -> Reading
+    ensures { λ r. ⌜ readingOf r ≡ originatorLast layout ⌝ }
 {
-    if is_originator_size(rest) {
-        return Reading::Nlri(layout.with_originator(rest));
+    if is_originator_size(layout.originator) {
+        return Reading::Nlri(layout);
     }
     Reading::Refused(LENGTH)
 }
 
 // Nothing may remain.
-fn ends(layout: Layout, rest: usize) -> Reading
-    ensures { λ r. ⌜ readingOf r ≡ endsAt layout rest ⌝ }
+fn ends(layout: Layout) -> Reading
+    ensures { λ r. ⌜ readingOf r ≡ endsAt layout ⌝ }
 {
-    if rest == 0 {
+    if layout.originator == 0 {
         return Reading::Nlri(layout);
     }
     Reading::Refused(LENGTH)
@@ -121,13 +121,13 @@ fn end_flow(route_type: usize, length: usize, source: usize, group: usize, rest:
         length,
         source: source - 1,
         group: group - 1,
-        originator: 0,
+        originator: rest,
         key: 0,
     };
     if route_type == RouteType::S_PMSI {
-        return ends_in_originator(layout, rest);
+        return ends_in_originator(layout);
     }
-    ends(layout, rest)
+    ends(layout)
 }
 
 // A body of `fixed` octets, then source and group.
@@ -162,10 +162,10 @@ pub(crate) fn read_intra_as(s: &[u8]) -> Reading
         length: s.len(),
         source: 0,
         group: 0,
-        originator: 0,
+        originator: s.len() - RouteDistinguisher::OCTETS,
         key: 0,
     };
-    ends_in_originator(layout, s.len() - RouteDistinguisher::OCTETS)
+    ends_in_originator(layout)
 }
 
 pub(crate) fn read_inter_as(s: &[u8]) -> Reading
@@ -179,10 +179,10 @@ pub(crate) fn read_inter_as(s: &[u8]) -> Reading
         length: s.len(),
         source: 0,
         group: 0,
-        originator: 0,
+        originator: s.len() - RouteDistinguisher::WITH_SOURCE_AS,
         key: 0,
     };
-    ends(layout, s.len() - RouteDistinguisher::WITH_SOURCE_AS)
+    ends(layout)
 }
 
 // A body that has no key, of the route type given.

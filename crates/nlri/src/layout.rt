@@ -1,6 +1,4 @@
 // Where the fields of an NLRI lie, as numbers: no octet is copied to read, compare or walk.
-ghost use mathlib.Core.Path.{_≡_};
-ghost use Rattle.nlri.specs.Inner.{layoutWith};
 
 // Route type, Length, and the size in octets of each field whose size varies: 0 for a wildcard and for a field that the
 // type lacks.
@@ -12,15 +10,6 @@ pub struct Layout {
     pub group: usize,
     pub originator: usize,
     pub key: usize,
-}
-
-impl Layout {
-    pub(crate) fn with_originator(mut self, size: usize) -> Self
-        ensures { λ r. ⌜ r ≡ layoutWith (self .«route_type») (self .length) (self .source) (self .group) size (self .key) ⌝ }
-    {
-        self.originator = size;
-        self
-    }
 }
 
 // What reading an NLRI comes to: its layout, or the refusal's number.

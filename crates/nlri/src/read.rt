@@ -79,21 +79,40 @@ fn read_leaf(family: usize, s: &[u8]) -> Reading
                 length: s.len(),
                 source: 0,
                 group: 0,
-                originator: 0,
+                originator: s.len() - key,
                 key,
             };
-            body::ends_in_originator(layout, s.len() - key)
+            body::ends_in_originator(layout)
         }
     }
 }
 
+// A body of any route type.
 fn read_body(family: usize, route_type: usize, s: &[u8]) -> Reading
     ensures { λ r. ⌜ readingOf r ≡ anyBody family «route_type» (now (s .entry)) ⌝ }
 {
+    if route_type == RouteType::INTRA_AS_I_PMSI {
+        return body::read_intra_as(s);
+    }
+    if route_type == RouteType::INTER_AS_I_PMSI {
+        return body::read_inter_as(s);
+    }
+    if route_type == RouteType::S_PMSI {
+        return body::read_flow_route(family, route_type, RouteDistinguisher::OCTETS, s);
+    }
     if route_type == RouteType::LEAF {
         return read_leaf(family, s);
     }
-    body::read_unkeyed_body(family, route_type, s)
+    if route_type == RouteType::SOURCE_ACTIVE {
+        return body::read_flow_route(family, route_type, RouteDistinguisher::OCTETS, s);
+    }
+    if route_type == RouteType::SHARED_TREE_JOIN {
+        return body::read_flow_route(family, route_type, RouteDistinguisher::WITH_SOURCE_AS, s);
+    }
+    if route_type == RouteType::SOURCE_TREE_JOIN {
+        return body::read_flow_route(family, route_type, RouteDistinguisher::WITH_SOURCE_AS, s);
+    }
+    Reading::Refused(TYPE)
 }
 
 // The NLRI at the front of `s`, under a family given by the bits of its addresses.

@@ -8,26 +8,17 @@ use Rattle.nlri.proofs.body.ends_in_originator.Tie as tie
 use Rattle.nlri.proofs.body.ends_in_originator.Reads as reads
 use Rattle.nlri.proofs.body.ends_in_originator.Lts as lts
 use Rattle.nlri.proofs.body.is_originator_size.Reads as is-originator-size-reads
-use Rattle.nlri.proofs.layout.Layout.with_originator.Reads as with-originator-reads
 
 is-originator-size-requires : tie.Need-is-originator-size-requires
 is-originator-size-requires c κs = search needs
 
-with-originator-requires : tie.Need-with-originator-requires
-with-originator-requires c κs = search needs
-
 returns : tie.Need-returns
 unfolding readingOf originatorLast
-returns c =
-    let f0 = sym (c .before .before .is-originator-size .ensures) ∙ c .before .if1 .taken in
-    search tests
+returns c = let f0 = sym (c .before .is-originator-size .ensures) ∙ c .if1 .taken in search tests
 
 returns-2 : tie.Need-returns-2
 unfolding readingOf originatorLast
-returns-2 c =
-    let f0 = sym (c .before .is-originator-size .ensures) ∙ c .if1 .left in
-    search tests
+returns-2 c = let f0 = sym (c .before .is-originator-size .ensures) ∙ c .if1 .left in search tests
 
 pub ends-in-originator-spec : {M : Type 1} → statement M
-ends-in-originator-spec =
-    tie.close (tie.spec is-originator-size-requires with-originator-requires returns returns-2)
+ends-in-originator-spec = tie.close (tie.spec is-originator-size-requires returns returns-2)

@@ -1,6 +1,5 @@
 use Rattle.nlri.specs.Layouts.{readingOf}
-use Rattle.nlri.specs.Inner.{intraAs}
-use Rattle.nlri.specs.Inner.{layoutWith}
+use Rattle.nlri.specs.Inner.{intraAs, layoutWith}
 use Rattle.octets.proofs.Tests.{tests}
 use borrow.Author.Needs.{needs}
 use Rattle.nlri.proofs.body.read_intra_as.Statement.{statement}
@@ -13,8 +12,8 @@ returns : tie.Need-returns
 unfolding readingOf intraAs layoutWith
 returns c = search tests
 
-sub-ends-in-originator : tie.Need-sub-ends-in-originator
-sub-ends-in-originator c = search needs
+sub-t6 : tie.Need-sub-t6
+sub-t6 c = search needs
 
 ends-in-originator-requires : tie.Need-ends-in-originator-requires
 ends-in-originator-requires c κs = search needs
@@ -24,5 +23,4 @@ unfolding readingOf intraAs layoutWith
 returns-2 c = search tests
 
 pub read-intra-as-spec : {M : Type 1} → statement M
-read-intra-as-spec =
-    tie.close (tie.spec returns sub-ends-in-originator ends-in-originator-requires returns-2)
+read-intra-as-spec = tie.close (tie.spec returns sub-t6 ends-in-originator-requires returns-2)

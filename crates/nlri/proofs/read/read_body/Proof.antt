@@ -1,28 +1,85 @@
-use mathlib.Core.Path.{_∙_}
-use Rattle.nlri.proofs.Fronts.{leaf-body, other-body}
 use Rattle.nlri.specs.Layouts.{readingOf}
-use Rattle.nlri.specs.Inner.{anyBody}
+use Rattle.nlri.specs.Inner.{anyBody, bodyWith}
 use Rattle.nlri.proofs.Via.{reads}
 use borrow.Author.Needs.{needs}
 use Rattle.nlri.proofs.read.read_body.Statement.{statement}
 use Rattle.nlri.proofs.read.read_body.Tie as tie
 use Rattle.nlri.proofs.read.read_body.Reads as reads
 use Rattle.nlri.proofs.read.read_body.Lts as lts
-use Rattle.nlri.proofs.body.read_unkeyed_body.Reads as read-unkeyed-body-reads
+use Rattle.nlri.proofs.body.read_flow_route.Reads as read-flow-route-reads
+use Rattle.nlri.proofs.body.read_inter_as.Reads as read-inter-as-reads
+use Rattle.nlri.proofs.body.read_intra_as.Reads as read-intra-as-reads
 use Rattle.nlri.proofs.read.read_leaf.Reads as read-leaf-reads
+
+read-intra-as-requires : tie.Need-read-intra-as-requires
+read-intra-as-requires c κs = search needs
+
+returns : tie.Need-returns
+unfolding readingOf anyBody bodyWith
+returns c = search reads depth 20
+
+read-inter-as-requires : tie.Need-read-inter-as-requires
+read-inter-as-requires c κs = search needs
+
+returns-2 : tie.Need-returns-2
+unfolding readingOf anyBody bodyWith
+returns-2 c = search reads depth 20
+
+read-flow-route-requires : tie.Need-read-flow-route-requires
+read-flow-route-requires c κs = search needs
+
+returns-3 : tie.Need-returns-3
+unfolding readingOf anyBody bodyWith
+returns-3 c = search reads depth 20
 
 read-leaf-requires : tie.Need-read-leaf-requires
 read-leaf-requires c κs = search needs
 
-returns : tie.Need-returns
-returns c = c .read-leaf .ensures ∙ leaf-body _ _ _ (c .before .if1 .taken)
+returns-4 : tie.Need-returns-4
+unfolding readingOf anyBody bodyWith
+returns-4 c = search reads depth 20
 
-read-unkeyed-body-requires : tie.Need-read-unkeyed-body-requires
-read-unkeyed-body-requires c κs = search needs
+read-flow-route-requires-2 : tie.Need-read-flow-route-requires-2
+read-flow-route-requires-2 c κs = search needs
 
-returns-2 : tie.Need-returns-2
-returns-2 c = c .read-unkeyed-body .ensures ∙ other-body _ _ _ (c .before .if1 .left)
+returns-5 : tie.Need-returns-5
+unfolding readingOf anyBody bodyWith
+returns-5 c = search reads depth 20
+
+read-flow-route-requires-3 : tie.Need-read-flow-route-requires-3
+read-flow-route-requires-3 c κs = search needs
+
+returns-6 : tie.Need-returns-6
+unfolding readingOf anyBody bodyWith
+returns-6 c = search reads depth 20
+
+read-flow-route-requires-4 : tie.Need-read-flow-route-requires-4
+read-flow-route-requires-4 c κs = search needs
+
+returns-7 : tie.Need-returns-7
+unfolding readingOf anyBody bodyWith
+returns-7 c = search reads depth 20
+
+returns-8 : tie.Need-returns-8
+unfolding readingOf anyBody bodyWith
+returns-8 c = search reads depth 20
 
 pub read-body-spec : {M : Type 1} → statement M
 read-body-spec =
-    tie.close (tie.spec read-leaf-requires returns read-unkeyed-body-requires returns-2)
+    tie.close
+    (tie.spec
+    read-intra-as-requires
+    returns
+    read-inter-as-requires
+    returns-2
+    read-flow-route-requires
+    returns-3
+    read-leaf-requires
+    returns-4
+    read-flow-route-requires-2
+    returns-5
+    read-flow-route-requires-3
+    returns-6
+    read-flow-route-requires-4
+    returns-7
+    returns-8)

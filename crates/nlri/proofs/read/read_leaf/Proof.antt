@@ -1,9 +1,7 @@
 use Rattle.nlri.proofs.Fronts.{key-within}
-use Rattle.nlri.proofs.Via.{size-given}
+use Rattle.nlri.proofs.Via.{size-given, reads}
 use Rattle.nlri.specs.Layouts.{readingOf}
-use Rattle.nlri.specs.Inner.{leaf}
-use Rattle.nlri.specs.Inner.{layoutWith}
-use Rattle.nlri.proofs.Via.{reads}
+use Rattle.nlri.specs.Inner.{leaf, layoutWith}
 use borrow.Author.Needs.{needs}
 use Rattle.nlri.proofs.read.read_leaf.Statement.{statement}
 use Rattle.nlri.proofs.read.read_leaf.Tie as tie
@@ -21,8 +19,8 @@ enum-known-number c = search needs
 enum-known-key : tie.Need-enum-known-key
 enum-known-key c = search needs
 
-sub-ends-in-originator : tie.Need-sub-ends-in-originator
-sub-ends-in-originator c = key-within _ _ _ (size-given _ _ _ (c .before .before .before .read-key .ensures) (c .before .key .given .1)) .1
+sub-t10 : tie.Need-sub-t10
+sub-t10 c = key-within _ _ _ (size-given _ _ _ (c .before .before .before .read-key .ensures) (c .before .key .given .1)) .1
 
 ends-in-originator-requires : tie.Need-ends-in-originator-requires
 ends-in-originator-requires c κs = search needs
@@ -42,7 +40,7 @@ read-leaf-spec =
     read-key-requires
     enum-known-number
     enum-known-key
-    sub-ends-in-originator
+    sub-t10
     ends-in-originator-requires
     returns
     returns-2)
