@@ -131,50 +131,6 @@ pub(crate) fn read_front(family: usize, s: &[u8]) -> Reading
     }
 }
 
-// As `read_body`, for the walk.
-fn pass_body(family: usize, route_type: usize, s: &[u8]) -> Reading
-    ensures { λ r. ⌜ readingOf r ≡ anyBody family «route_type» (now (s .entry)) ⌝ }
-{
-    if route_type == RouteType::INTRA_AS_I_PMSI {
-        return body::read_intra_as(s);
-    }
-    if route_type == RouteType::INTER_AS_I_PMSI {
-        return body::read_inter_as(s);
-    }
-    if route_type == RouteType::S_PMSI {
-        return body::read_flow_route(family, route_type, RouteDistinguisher::OCTETS, s);
-    }
-    if route_type == RouteType::LEAF {
-        return read_leaf(family, s);
-    }
-    if route_type == RouteType::SOURCE_ACTIVE {
-        return body::read_flow_route(family, route_type, RouteDistinguisher::OCTETS, s);
-    }
-    if route_type == RouteType::SHARED_TREE_JOIN {
-        return body::read_flow_route(family, route_type, RouteDistinguisher::WITH_SOURCE_AS, s);
-    }
-    if route_type == RouteType::SOURCE_TREE_JOIN {
-        return body::read_flow_route(family, route_type, RouteDistinguisher::WITH_SOURCE_AS, s);
-    }
-    Reading::Refused(TYPE)
-}
-
-// As `read_front`, for the walk alone: compiled into its loop, where no layout is kept.
-pub(crate) fn read_passing(family: usize, s: &[u8]) -> Reading
-    ensures { λ r. ⌜ readingOf r ≡ layoutAt family (now (s .entry)) ⌝ }
-{
-    match read_header(s) {
-        Header::Short(number) => Reading::Refused(number),
-        Header::Typed(route_type, length) => {
-            pass_body(
-                family,
-                route_type,
-                octets::parts::between(s, HEADER, length),
-            )
-        }
-    }
-}
-
 // A single NLRI: octets after it are LENGTH.
 fn read_single(family: usize, s: &[u8]) -> Reading
     ensures { λ r. ⌜ readingOf r ≡ single family (now (s .entry)) ⌝ }

@@ -68,39 +68,6 @@ fn step_under(family: usize, run: &[u8], at: usize) -> Step
     }
 }
 
-// The step of the walk, which keeps no layout: by contract the same as `Cursor::step`.
-fn pass(cursor: Cursor, afi: u16, run: &[u8]) -> Step
-    ensures { λ r. ⌜ steppedOf r ≡ stepFrom afi (now (run .entry)) (cursor .at) ⌝ }
-{
-    match family::family_bits(afi) {
-        Part::Fault(number) => Step::Refused(number, cursor),
-        Part::Size(family) => pass_under(family, run, cursor.at),
-    }
-}
-
-fn pass_under(family: usize, run: &[u8], at: usize) -> Step
-    ensures { λ r. ⌜ steppedOf r ≡ stepUnder family (now (run .entry)) at ⌝ }
-{
-    if RUN < run.len() {
-        return Step::Refused(LONG, Cursor { at });
-    }
-    if at == run.len() {
-        return Step::End(Cursor { at });
-    }
-    if run.len() < at {
-        return Step::Refused(SHORT, Cursor { at });
-    }
-    match read::read_passing(family, octets::parts::after(run, at)) {
-        Reading::Refused(number) => Step::Refused(number, Cursor { at }),
-        Reading::Nlri(layout) => Step::Nlri(
-            layout,
-            Cursor {
-                at: at + (HEADER + layout.length),
-            },
-        ),
-    }
-}
-
 // The count read up to the first stop, its offset and its number.
 pub fn walk(afi: u16, run: &[u8]) -> Walked
     ensures { λ r. ⌜ r ≡ walkOf afi (now (run .entry)) ⌝ }
@@ -109,7 +76,7 @@ pub fn walk(afi: u16, run: &[u8]) -> Walked
     let mut count: u32 = 0;
     loop {
         let at = cursor.at;
-        match pass(cursor, afi, run) {
+        match cursor.step(afi, run) {
             Step::Nlri(_, next) => {
                 cursor = next;
                 count += 1;

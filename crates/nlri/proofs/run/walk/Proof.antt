@@ -7,7 +7,7 @@ use Rattle.nlri.proofs.run.walk.Statement.{statement}
 use Rattle.nlri.proofs.run.walk.Tie as tie
 use Rattle.nlri.proofs.run.walk.Reads as reads
 use Rattle.nlri.proofs.run.walk.Lts as lts
-use Rattle.nlri.proofs.run.pass.Reads as pass-reads
+use Rattle.nlri.proofs.run.Cursor.step.Reads as step-reads
 
 abbrev Inv-loop : tie.InvT-loop
 Inv-loop afi run cursor₀ count₀ cursor count = Going afi run (cursor .at) count
@@ -18,8 +18,8 @@ abbrev μ-loop : tie.MeasureT-loop
 loop-holds : tie.Need-loop-holds Inv-loop μ-loop
 loop-holds c = going-first _ _
 
-pass-requires : tie.Need-pass-requires Inv-loop μ-loop
-pass-requires c κs = search needs
+step-requires : tie.Need-step-requires Inv-loop μ-loop
+step-requires c κs = search needs
 
 enum-known-next : tie.Need-enum-known-next Inv-loop μ-loop
 enum-known-next c = search needs
@@ -28,10 +28,10 @@ add-count : tie.Need-add-count Inv-loop μ-loop
 add-count c = let h = c .before .before .before .before .loop .inv in omega (arith, h .counted, h .short)
 
 loop-less : tie.Need-loop-less Inv-loop μ-loop
-loop-less c = let m = step-moves _ _ _ _ _ (step-read _ _ _ _ (c .before .before .before .pass .ensures) (c .before .next .given .1)) in omega arith
+loop-less c = let m = step-moves _ _ _ _ _ (step-read _ _ _ _ (c .before .before .before .step .ensures) (c .before .next .given .1)) in omega arith
 
 loop-again : tie.Need-loop-again Inv-loop μ-loop
-loop-again c = going-next _ _ _ _ (c .before .before .before .before .loop .inv) _ _ (step-read _ _ _ _ (c .before .before .before .pass .ensures) (c .before .next .given .1))
+loop-again c = going-next _ _ _ _ (c .before .before .before .before .loop .inv) _ _ (step-read _ _ _ _ (c .before .before .before .step .ensures) (c .before .next .given .1))
 
 enum-told : tie.Need-enum-told Inv-loop μ-loop
 enum-told c = search needs
@@ -40,7 +40,7 @@ cast-t9 : tie.Need-cast-t9 Inv-loop μ-loop
 cast-t9 c = let h = c .before .before .before .loop .inv .short in omega arith
 
 returns : tie.Need-returns Inv-loop μ-loop
-returns c = going-last _ _ _ _ (c .before .before .before .loop .inv) _ _ (step-ended _ _ _ (c .before .before .pass .ensures) (c .enum-told .given .1))
+returns c = going-last _ _ _ _ (c .before .before .before .loop .inv) _ _ (step-ended _ _ _ (c .before .before .step .ensures) (c .enum-told .given .1))
 
 enum-known-number : tie.Need-enum-known-number Inv-loop μ-loop
 enum-known-number c = search needs
@@ -49,7 +49,7 @@ cast-t10 : tie.Need-cast-t10 Inv-loop μ-loop
 cast-t10 c = let h = c .before .before .before .before .loop .inv .short in omega arith
 
 returns-2 : tie.Need-returns-2 Inv-loop μ-loop
-returns-2 c = going-last _ _ _ _ (c .before .before .before .before .loop .inv) _ _ (step-refused _ _ _ _ (c .before .before .before .pass .ensures) (c .before .number .given .1))
+returns-2 c = going-last _ _ _ _ (c .before .before .before .before .loop .inv) _ _ (step-refused _ _ _ _ (c .before .before .before .step .ensures) (c .before .number .given .1))
 
 pub walk-spec : {M : Type 1} → statement M
 walk-spec =
@@ -58,7 +58,7 @@ walk-spec =
     Inv-loop
     μ-loop
     loop-holds
-    pass-requires
+    step-requires
     enum-known-next
     add-count
     loop-less
