@@ -87,13 +87,13 @@ module _ (afi family : ℕ) (bits : familyBits afi ≡ given family) where
       let q = only _ _ _ _ (p .second) in
       let same : p .value ≡ laid = given-same (q .1) in
       let first : laidAt family s ≡ given laid = p .first ∙ ap given same in
-      let size : length s - 2 ≡ laid .length = eqb-true _ _ (q .0) ∙ ap (λ (x : Laid). x .length) same in
+      let size : length s - 2 ≡ laid .size = eqb-true _ _ (q .0) ∙ ap (λ (x : Laid). x .size) same in
       let o = laid-out (keyField family) family s laid first in
       let r = laid-sound (keyField family) (KeyOf family) (key-judges family whole) family whole s laid a first in
-      let rest : part s 2 (laid .length) ≡ drop 2 s = take-all (laid .length) (drop 2 s) (rw length-drop (omega arith)) in
+      let rest : part s 2 (laid .size) ≡ drop 2 s = take-all (laid .size) (drop 2 s) (rw length-drop (omega arith)) in
       let fields : fieldsAt (keyField family) (KeyOf family) (key-judges family whole) family whole s laid ≡ fieldsOf laid s =
       ap (λ (x : List ℕ). fieldsFrom (laid .type) (λ kind. fieldIn [] kind (laid .body) (cut (laid .sizes) x))) rest in
-      let all : take (2 + laid .length) s ≡ s = take-all (2 + laid .length) s (omega (arith, o .enough)) in
+      let all : take (2 + laid .size) s ≡ s = take-all (2 + laid .size) s (omega (arith, o .enough)) in
       record {
         family = family;
         bits = bits;
@@ -106,7 +106,7 @@ module _ (afi family : ℕ) (bits : familyBits afi ≡ given family) where
   unfolding laidSingle laidAt fieldsOf encodeNlri
   single-complete f w =
       let body : List Kind = bodyOf (f .type) in
-      let laid : laidAt family (encodeNlri f) ≡ given (record { type = f .type; length = length (encodeBody f body); body = body; sizes = sizesIn f body }) =
+      let laid : laidAt family (encodeNlri f) ≡ given (record { type = f .type; size = length (encodeBody f body); body = body; sizes = sizesIn f body }) =
       ap (laidAt family) (sym (append-nil (encodeNlri f))) ∙ laid-complete (keyField family) (KeyOf family) (key-judges family whole) family whole f [] (w .typed) (w .body) in
       let cuts : cut (sizesIn f body) (encodeBody f body) ≡ piecesOf f body = ap (cut (sizesIn f body)) (sym (append-nil (encodeBody f body))) ∙ cut-body f body [] in
       sym (goes _ _ _ _ (sym (goes _ _ _ _ laid (sym (pick-true _ _ _ (eq-eqb (suc (suc (length (encodeBody f body))) - 2) (length (encodeBody f body)) (omega arith))))))

@@ -60,13 +60,13 @@ module _ (kf : List ℕ → Outcome ℕ) (family : ℕ) (s : List ℕ) where
       ∙ sym (two-refusals _ _ _ _ _)
     where
       same : ltb (length s) 2 ≡ false → ltb (length s - 2) (getD s 1 0) ≡ false
-          → onBody bodies (getD s 0 0) (refused TYPE) (λ body. andThen (andThen (sizesOf (fieldSize kf family (getD s 0 0)) body (part s 2 (getD s 1 0))) (λ sizes. given (record { type = getD s 0 0; length = getD s 1 0; body = body; sizes = sizes }))) (λ laid. given (layoutOf laid)))
+          → onBody bodies (getD s 0 0) (refused TYPE) (λ body. andThen (andThen (sizesOf (fieldSize kf family (getD s 0 0)) body (part s 2 (getD s 1 0))) (λ sizes. given (record { type = getD s 0 0; size = getD s 1 0; body = body; sizes = sizes }))) (λ laid. given (layoutOf laid)))
           ≡ onBody bodies (getD s 0 0) (refused TYPE) (rowLayout (fieldSize kf family (getD s 0 0)) (getD s 0 0) (part s 2 (getD s 1 0)))
       same enough whole =
-          ap (λ (n : ℕ). onBody bodies (getD s 0 0) (refused TYPE) (λ body. andThen (andThen (sizesOf (fieldSize kf family (getD s 0 0)) body (part s 2 (getD s 1 0))) (λ sizes. given (record { type = getD s 0 0; length = n; body = body; sizes = sizes }))) (λ laid. given (layoutOf laid))))
+          ap (λ (n : ℕ). onBody bodies (getD s 0 0) (refused TYPE) (λ body. andThen (andThen (sizesOf (fieldSize kf family (getD s 0 0)) body (part s 2 (getD s 1 0))) (λ sizes. given (record { type = getD s 0 0; size = n; body = body; sizes = sizes }))) (λ laid. given (layoutOf laid))))
           (sym (part-length s 2 (getD s 1 0) (omega (arith, ltb-false))))
 
-  pub laid-within : (laid : Laid) → laidWith kf family s ≡ given laid → (2 ≤ length s) × (2 + laid .length ≤ length s) × (laid .type ≡ getD s 0 0) × (laid .length ≡ getD s 1 0)
+  pub laid-within : (laid : Laid) → laidWith kf family s ≡ given laid → (2 ≤ length s) × (2 + laid .size ≤ length s) × (laid .type ≡ getD s 0 0) × (laid .size ≡ getD s 1 0)
   unfolding laidWith
   laid-within laid e =
       let p = unless _ _ _ _ e in
@@ -74,7 +74,7 @@ module _ (kf : List ℕ → Outcome ℕ) (family : ℕ) (s : List ℕ) where
       let r = found bodies _ _ _ laid (q .1) in
       let w = passed _ _ _ (r .gives) in
       let same = given-same (w .second) in
-      let n : laid .length ≡ getD s 1 0 = ap (λ (x : Laid). x .length) (sym same) in
+      let n : laid .size ≡ getD s 1 0 = ap (λ (x : Laid). x .size) (sym same) in
       let t : laid .type ≡ getD s 0 0 = ap (λ (x : Laid). x .type) (sym same) in
       (omega (arith, ltb-false), omega (arith, ltb-false), t, n)
 
@@ -101,7 +101,7 @@ unfolding layoutOf
 unkeyed-within family s l e =
     let w = passed _ _ _ (unkeyed-is family s ∙ e) in
     let same = given-same (w .second) in
-    let n : w .value .length ≡ l .length = ap (λ (x : Layout). x .length) same in
+    let n : w .value .size ≡ l .length = ap (λ (x : Layout). x .length) same in
     let h = laid-within noKey family s (w .value) (w .first) in
     omega arith
 

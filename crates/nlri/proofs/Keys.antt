@@ -35,7 +35,7 @@ module _ (family : ℕ) (whole : 8 * (family / 8) ≡ family) where
   key-sound s n a e =
       let p = on-given-given _ _ _ _ e in
       let q = unless _ _ _ _ (p .second) in
-      let size : 2 + p .value .length ≡ n = given-same (q .1) in
+      let size : 2 + p .value .size ≡ n = given-same (q .1) in
       let o = laid-out noKey family s (p .value) (p .first) in
       let r = laid-sound noKey NoKey none-judges family whole s (p .value) a (p .first) in
       let low : 1 ≤ p .value .type = o .row .low in

@@ -63,12 +63,12 @@ module _ (afi family : ℕ) (bits : familyBits afi ≡ given family) (s : List �
       let r = laid-sound (keyField family) (KeyOf family) (key-judges family whole) family whole s laid a (next .first) in
       ⊎-elim (λ same. absurd (never refl (same .1)))
       (λ more.
-      let other : length s - 2 ≡ laid .length → ⊥ = eqb-false (length s - 2) (laid .length) (more .0) in
-      let some : 0 < length (drop (2 + laid .length) s) = rw length-drop (omega (arith, o .fits, o .enough)) in
+      let other : length s - 2 ≡ laid .size → ⊥ = eqb-false (length s - 2) (laid .size) (more .0) in
+      let some : 0 < length (drop (2 + laid .size) s) = rw length-drop (omega (arith, o .fits, o .enough)) in
       subst (ReadRefusal afi s) (refused-same {A = Laid} (more .1))
-      (after family (fieldsAt (keyField family) (KeyOf family) (key-judges family whole) family whole s laid) (drop (2 + laid .length) s) bits
+      (after family (fieldsAt (keyField family) (KeyOf family) (key-judges family whole) family whole s laid) (drop (2 + laid .size) s) bits
       (record { typed = (o .row .low, o .row .high); body = r .0 })
-      (sym (take-append-drop (2 + laid .length) s) ∙ ap (λ (x : List ℕ). x ++ drop (2 + laid .length) s) (r .1)) some))
+      (sym (take-append-drop (2 + laid .size) s) ∙ ap (λ (x : List ℕ). x ++ drop (2 + laid .size) s) (r .1)) some))
       (picked _ _ _ _ (next .second)))
       (stopped _ _ _ e)
 

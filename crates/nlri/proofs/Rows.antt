@@ -22,13 +22,13 @@ use Rattle.nlri.specs.Inner.{layoutWith, originatorLast, endsAt, groupSi
 
 -- a body laid out, and then its layout
 unfoldable pub laidFor : (Kind → List ℕ → Outcome ℕ) → (type : ℕ) → List ℕ → List Kind → Outcome Laid
-laidFor size type s body = andThen (sizesOf size body s) (λ sizes. given (record { type = type; length = length s; body = body; sizes = sizes }))
+laidFor size type s body = andThen (sizesOf size body s) (λ sizes. given (record { type = type; size = length s; body = body; sizes = sizes }))
 
 unfoldable pub rowLayout : (Kind → List ℕ → Outcome ℕ) → (type : ℕ) → List ℕ → List Kind → Outcome Layout
 rowLayout size type s body = andThen (laidFor size type s body) (λ laid. given (layoutOf laid))
 
 layoutFor : (type n : ℕ) → List Kind → List ℕ → Layout
-layoutFor type n body sizes = layoutOf (record { type = type; length = n; body = body; sizes = sizes })
+layoutFor type n body sizes = layoutOf (record { type = type; size = n; body = body; sizes = sizes })
 
 row-is : (size : Kind → List ℕ → Outcome ℕ) (type : ℕ) (s : List ℕ) (body : List Kind) → rowLayout size type s body ≡ andThen (sizesOf size body s) (λ sizes. given (layoutFor type (length s) body sizes))
 unfolding rowLayout laidFor layoutFor

@@ -141,7 +141,7 @@ unfolding sourceStart
 starts type h = pick-true _ _ _ h
 
 laidRow : (type n : ℕ) → List Kind → List ℕ → Laid
-laidRow type n body sizes = record { type = type; length = n; body = body; sizes = sizes }
+laidRow type n body sizes = record { type = type; size = n; body = body; sizes = sizes }
 
 module _ (family n : ℕ) (s : List ℕ) (small : family / 8 ≤ 16) (enough : 2 ≤ length s) where
   l₁ : length (drop 2 s) ≡ length s - 2

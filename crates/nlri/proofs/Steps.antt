@@ -28,7 +28,7 @@ unfolding layoutAt laidAt layoutOf
 layout-within family s l e =
     let w = passed _ _ _ e in
     let same = given-same (w .second) in
-    let n : w .value .length ≡ l .length = ap (λ (x : Layout). x .length) same in
+    let n : w .value .size ≡ l .length = ap (λ (x : Layout). x .length) same in
     let h = laid-within (keyField family) family s (w .value) (w .first) in
     omega arith
 

@@ -51,7 +51,7 @@ unfolding layoutAt layoutOf laidAt
 layout-fits family s layout e =
     let p = passed _ _ _ e in
     let o = laid-out (keyField family) family s (p .value) (p .first) in
-    let same : p .value .length ≡ layout .length = ap (λ (l : Layout). l .length) (given-same (p .second)) in
+    let same : p .value .size ≡ layout .length = ap (λ (l : Layout). l .length) (given-same (p .second)) in
     omega (arith, o .fits, o .enough)
 
 -- past LONG and the run's end, the step is what reading says
@@ -162,7 +162,7 @@ unfolding encodeNlri
 encoded-length f = omega arith
 
 laidOf : Fields → Laid
-laidOf f = record { type = f .type; length = length (encodeBody f (bodyOf (f .type))); body = bodyOf (f .type); sizes = sizesIn f (bodyOf (f .type)) }
+laidOf f = record { type = f .type; size = length (encodeBody f (bodyOf (f .type))); body = bodyOf (f .type); sizes = sizesIn f (bodyOf (f .type)) }
 
 kept-address : (b : Bool) (x : List ℕ) → pick b (length (encodeAddress x)) 0 - 1 ≡ length (pick b x [])
 unfolding pick encodeAddress
@@ -253,14 +253,14 @@ module _ (afi family : ℕ) (bits : familyBits afi ≡ given family) where
       let o = laid-out (keyField family) family s laid (yes .1) in
       let r = laid-sound (keyField family) (KeyOf family) (key-judges family whole) family whole s laid a (yes .1) in
       let f : Fields = fieldsAt (keyField family) (KeyOf family) (key-judges family whole) family whole s laid in
-      let later = split left (drop (2 + laid .length) s) (rw length-drop (omega arith)) (octets-drop (2 + laid .length) a) in
+      let later = split left (drop (2 + laid .size) s) (rw length-drop (omega arith)) (octets-drop (2 + laid .size) a) in
       record {
         nlris = f ∷ later .nlris;
         tail = later .tail;
         number = later .number;
         wellFormed = (record { typed = (o .row .low, o .row .high); body = r .0 }, later .wellFormed);
         end = later .end;
-        is = sym (take-append-drop (2 + laid .length) s) ∙ ap₂ (λ (x y : List ℕ). x ++ y) (r .1) (later .is) ∙ sym (append-assoc (encodeNlri f) (encodeRun (later .nlris)) (later .tail));
+        is = sym (take-append-drop (2 + laid .size) s) ∙ ap₂ (λ (x y : List ℕ). x ++ y) (r .1) (later .is) ∙ sym (append-assoc (encodeNlri f) (encodeRun (later .nlris)) (later .tail));
       })
       (λ bad. stop (length s) refl (bad .0) (bad .1))
       (outcome (laidAt family s))

@@ -55,9 +55,9 @@ pub record LaidOut (judge : List ℕ → Outcome ℕ) (family : ℕ) (s : List �
   pub body : laid .body ≡ bodyOf (laid .type)
   pub enough : 2 ≤ length s
   pub typed : laid .type ≡ getD s 0 0
-  pub sized : laid .length ≡ getD s 1 0
-  pub fits : laid .length ≤ length s - 2
-  pub sizes : sizesOf (fieldSize judge family (laid .type)) (bodyOf (laid .type)) (part s 2 (laid .length)) ≡ given (laid .sizes)
+  pub sized : laid .size ≡ getD s 1 0
+  pub fits : laid .size ≤ length s - 2
+  pub sizes : sizesOf (fieldSize judge family (laid .type)) (bodyOf (laid .type)) (part s 2 (laid .size)) ≡ given (laid .sizes)
 
 pub laid-out : (judge : List ℕ → Outcome ℕ) (family : ℕ) (s : List ℕ) (laid : Laid) → laidWith judge family s ≡ given laid → LaidOut judge family s laid
 unfolding laidWith
@@ -121,24 +121,24 @@ module _ (judge : List ℕ → Outcome ℕ) (Key : List ℕ → Type 0) (judges 
 
   -- the fields of what was laid out
   abbrev pub fieldsAt : List ℕ → Laid → Fields
-  fieldsAt s laid = fieldsFrom (laid .type) (λ kind. fieldIn [] kind (laid .body) (cut (laid .sizes) (part s 2 (laid .length))))
+  fieldsAt s laid = fieldsFrom (laid .type) (λ kind. fieldIn [] kind (laid .body) (cut (laid .sizes) (part s 2 (laid .size))))
 
   -- an NLRI read is well-formed, and is its encoding
   pub laid-sound : (s : List ℕ) (laid : Laid) → AllOctets s → laidWith judge family s ≡ given laid
-      → WellFormedBody Key family (fieldsAt s laid) (bodyOf (laid .type)) × (take (2 + laid .length) s ≡ encodeNlri (fieldsAt s laid))
+      → WellFormedBody Key family (fieldsAt s laid) (bodyOf (laid .type)) × (take (2 + laid .size) s ≡ encodeNlri (fieldsAt s laid))
   unfolding encodeNlri
   laid-sound s laid a e =
       let o = laid-out judge family s laid e in
-      let rest : List ℕ = part s 2 (laid .length) in
+      let rest : List ℕ = part s 2 (laid .size) in
       let along : Along (λ kind. fieldIn [] kind (laid .body) (cut (laid .sizes) rest)) (bodyOf (laid .type)) (cut (laid .sizes) rest) =
       rw (o .body) (along-fields [] (bodyOf (laid .type)) (cut (laid .sizes) rest) (o .row .distinct) (cut-length _ _ ∙ sizes-length (laid .type) _ _ _ (o .sizes))) in
-      let b = body-sound (laid .type) (bodyOf (laid .type)) rest (laid .sizes) _ (octets-part 2 (laid .length) a) (o .sizes) along in
-      let len : laid .length ≡ length (encodeBody (fieldsAt s laid) (bodyOf (laid .type))) = sym (ap length (b .1) ∙ part-length s 2 (laid .length) (omega (arith, o .fits, o .enough))) in
-      (b .0, take-two s (laid .length) (o .enough) ∙ ap₂ (λ (x : ℕ) (y : List ℕ). x ∷ y) (sym (o .typed)) (ap₂ (λ (x : ℕ) (y : List ℕ). x ∷ y) (sym (o .sized) ∙ len) (sym (b .1))))
+      let b = body-sound (laid .type) (bodyOf (laid .type)) rest (laid .sizes) _ (octets-part 2 (laid .size) a) (o .sizes) along in
+      let len : laid .size ≡ length (encodeBody (fieldsAt s laid) (bodyOf (laid .type))) = sym (ap length (b .1) ∙ part-length s 2 (laid .size) (omega (arith, o .fits, o .enough))) in
+      (b .0, take-two s (laid .size) (o .enough) ∙ ap₂ (λ (x : ℕ) (y : List ℕ). x ∷ y) (sym (o .typed)) (ap₂ (λ (x : ℕ) (y : List ℕ). x ∷ y) (sym (o .sized) ∙ len) (sym (b .1))))
 
   -- a well-formed NLRI that stands encoded is read
   pub laid-complete : (f : Fields) (t : List ℕ) → (1 ≤ f .type) × (f .type ≤ 7) → WellFormedBody Key family f (bodyOf (f .type))
-      → laidWith judge family (encodeNlri f ++ t) ≡ given (record { type = f .type; length = length (encodeBody f (bodyOf (f .type))); body = bodyOf (f .type); sizes = sizesIn f (bodyOf (f .type)) })
+      → laidWith judge family (encodeNlri f ++ t) ≡ given (record { type = f .type; size = length (encodeBody f (bodyOf (f .type))); body = bodyOf (f .type); sizes = sizesIn f (bodyOf (f .type)) })
   unfolding laidWith encodeNlri part
   laid-complete f t range w =
       let l : listed bodies (f .type) ≡ true = known (f .type) (range .0) (range .1) in

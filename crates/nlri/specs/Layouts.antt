@@ -19,7 +19,7 @@ unfoldable pub layoutOf : Laid → Layout
 layoutOf laid =
     record {
       «route_type» = laid .type;
-      length = laid .length;
+      length = laid .size;
       source = fieldIn 0 source (laid .body) (laid .sizes) - 1;
       group = fieldIn 0 group (laid .body) (laid .sizes) - 1;
       originator = fieldIn 0 originator (laid .body) (laid .sizes);

@@ -43,10 +43,10 @@ unfoldable pub sizesOf : (Kind → List ℕ → Outcome ℕ) → List Kind → L
 sizesOf size [] s = pick (eqb (length s) 0) (given []) (refused LENGTH)
 sizesOf size (k ∷ body) s = andThen (size k s) (λ n. andThen (sizesOf size body (drop n s)) (λ sizes. given (n ∷ sizes)))
 
--- where the fields of an NLRI lie: its type, its Length, its body's kinds of fields, and the size of each
+-- where the fields of an NLRI lie: its type, its Length (`size`), its body's kinds of fields, and the size of each
 pub record Laid : Type 0 where
   pub type : ℕ
-  pub length : ℕ
+  pub size : ℕ
   pub body : List Kind
   pub sizes : List ℕ
 
@@ -57,7 +57,7 @@ laidWith keyField family s =
     (pick (ltb (length s - 2) (getD s 1 0)) (refused SHORT)
     (onBody bodies (getD s 0 0) (refused TYPE)
     (λ body. andThen (sizesOf (fieldSize keyField family (getD s 0 0)) body (part s 2 (getD s 1 0)))
-    (λ sizes. given (record { type = getD s 0 0; length = getD s 1 0; body = body; sizes = sizes })))))
+    (λ sizes. given (record { type = getD s 0 0; size = getD s 1 0; body = body; sizes = sizes })))))
 
 -- a key inside an NLRI that may stand in a key: there is none
 unfoldable pub noKey : List ℕ → Outcome ℕ
@@ -66,7 +66,7 @@ noKey s = refused KEY
 -- a key is a whole NLRI of type 1, 2 or 3, header included; any fault inside it is KEY
 unfoldable pub keyField : ℕ → List ℕ → Outcome ℕ
 keyField family s =
-    onOutcome (λ fault. refused KEY) (λ laid. pick (ltb 3 (laid .type)) (refused KEY) (given (2 + laid .length)))
+    onOutcome (λ fault. refused KEY) (λ laid. pick (ltb 3 (laid .type)) (refused KEY) (given (2 + laid .size)))
     (laidWith noKey family s)
 
 unfoldable pub laidAt : ℕ → List ℕ → Outcome Laid
@@ -93,7 +93,7 @@ fieldsOf laid s =
 
 -- a single NLRI: FAMILY, then reading, then LENGTH for octets after it
 unfoldable pub laidSingle : ℕ → List ℕ → Outcome Laid
-laidSingle family s = andThen (laidAt family s) (λ laid. pick (eqb (length s - 2) (laid .length)) (given laid) (refused LENGTH))
+laidSingle family s = andThen (laidAt family s) (λ laid. pick (eqb (length s - 2) (laid .size)) (given laid) (refused LENGTH))
 
 unfoldable pub readNlri : ℕ → List ℕ → Outcome Fields
 readNlri afi s = andThen (familyBits afi) (λ family. andThen (laidSingle family s) (λ laid. given (fieldsOf laid s)))
