@@ -64,13 +64,15 @@ pub extern "C" fn mvpn_step(afi: u16, run: &[u8], cursor: usize) -> StepAnswer
 {
     let at = Cursor { at: cursor };
     match at.step(afi, run) {
-        Step::Nlri(layout, next) => StepAnswer {
-            cursor: next.at,
-            number: DONE,
-            layout,
-        },
-        Step::End(last) => stopped(last.at, DONE),
-        Step::Refused(number, last) => stopped(last.at, number),
+        Step::Nlri(layout, next) => {
+            return StepAnswer {
+                cursor: next.at,
+                number: DONE,
+                layout,
+            };
+        }
+        Step::End(last) => return stopped(last.at, DONE),
+        Step::Refused(number, last) => return stopped(last.at, number),
     }
 }
 

@@ -19,16 +19,12 @@ use Rattle.nlri.specs.Bodies.{Kind, distinguisher, sourceAs, source, gro
 use Rattle.nlri.specs.Fields.{Fields, encodeAddress, encodeField, encodeBody, encodeNlri, WellFormedField, WellFormedBody, WellFormed, KeyOf, restricted}
 use Rattle.nlri.specs.Reading.{Laid, keyField, laidAt, laidSingle, cut, fieldsOf, readNlri}
 use Rattle.nlri.specs.Statements.{ReadAs, Acceptance}
+use Rattle.nlri.proofs.FieldRecords.{fields-same}
 use Rattle.nlri.proofs.Table.{RowOf, rowOf, known, mostIn, field-of-map, lacks, same-kind}
 use Rattle.nlri.proofs.Judged.{fieldsFrom}
 use Rattle.nlri.proofs.Lengths.{family-octets}
 use Rattle.nlri.proofs.Whole.{piecesOf, sizesIn, cut-body, laid-out, fieldsAt, laid-sound, laid-complete, nlri-octets}
 use Rattle.nlri.proofs.Keys.{key-judges, key-octets}
-
--- fields are equal that are equal one by one
-pub fields-same : {f g : Fields} → f .type ≡ g .type → f .distinguisher ≡ g .distinguisher → f .sourceAs ≡ g .sourceAs → f .source ≡ g .source → f .group ≡ g .group → f .originator ≡ g .originator
-    → f .key ≡ g .key → f ≡ g
-fields-same t d a s g o k = λ i. record { type = t i; distinguisher = d i; sourceAs = a i; source = s i; group = g i; originator = o i; key = k i }
 
 -- what is nothing where a test fails
 keep : {A : Type 0} (b : Bool) (x none : A) → (b ≡ false → x ≡ none) → pick b x none ≡ x

@@ -3,12 +3,10 @@ use mathlib.Core.Path.{_≡_, refl, sym, _∙_, ap}
 use mathlib.Core.List.{List, [], _∷_, _++_}
 use Prim.Native.Nat.{ℕ, zero, suc, _+_, _≤_, _<_}
 use native.Mathlib.Omega.{arith}
-use lib.ListN.{length, getD, take, drop, replicate, length-drop}
-use lib.Seq.{take-all, drop-cons, length-take-le}
+use lib.ListN.{length, getD, take, drop, replicate}
+use lib.Seq.{take-all, drop-cons}
 use Rattle.octets.specs.Octets.{part, sized}
-use Rattle.octets.proofs.Lists.{copied-sized}
-use Rattle.nlri.specs.declared.address.Address.{Address}
-use Rattle.nlri.specs.declared.address.RouteDistinguisher.{RouteDistinguisher}
+use Rattle.octets.proofs.Lists.{copied-sized, part-length}
 use Rattle.nlri.specs.Answers.{addressOf, distinguisherOf}
 
 pub address-held : (held xs : List ℕ) (n : ℕ) → held ≡ take (length xs) xs ++ drop (length xs) (replicate 16 0) → n ≡ length xs → length xs ≤ 16 → record { octets = held; size = n } ≡ addressOf xs
@@ -44,10 +42,6 @@ no-address = refl
 pub no-distinguisher : record { octets = replicate 8 0 } ≡ distinguisherOf []
 unfolding distinguisherOf sized
 no-distinguisher = refl
-
-pub part-length : (s : List ℕ) (start size : ℕ) → start + size ≤ length s → length (part s start size) ≡ size
-unfolding part
-part-length s start size h = length-take-le size (drop start s) (rw length-drop (omega arith))
 
 pub take-part : (s : List ℕ) (start size most : ℕ) → start + size ≤ length s → size ≤ most → take most (part s start size) ≡ part s start size
 take-part s start size most h m = let l = part-length s start size h in take-all most (part s start size) (omega arith)

@@ -5,15 +5,15 @@ use mathlib.Core.List.{List, [], _∷_}
 use Prim.Native.Nat.{ℕ, _+_, _-_, _≤_}
 use native.Mathlib.Omega.{arith}
 use borrow.Author.Tests.{ltb-false}
-use lib.ListN.{length, getD, take, drop, length-take, length-drop}
-use lib.Seq.{length-take-le}
+use lib.ListN.{length, getD}
 use lib.Dec.{eqb, ltb}
-use Rattle.octets.specs.Numbers.{SHORT, TYPE}
+use Rattle.octets.specs.Numbers.{TYPE}
 use Rattle.octets.specs.Choice.{pick}
 use Rattle.octets.specs.Outcome.{Outcome, given, refused, andThen, onOutcome}
 use Rattle.octets.specs.Octets.{part}
-use Rattle.octets.proofs.Outcomes.{and-assoc, and-cong, and-pick, and-given, and-refused, on-mapped, pick-cong, pick-false}
-use Rattle.octets.proofs.Inversions.{never, unless, only, passed, Passed, given-same, on-given-given}
+use Rattle.octets.proofs.Lists.{part-length}
+use Rattle.octets.proofs.Outcomes.{and-cong, and-pick, and-given, and-refused, on-mapped, pick-cong}
+use Rattle.octets.proofs.Inversions.{never, unless, passed, given-same, on-given-given}
 use Rattle.nlri.specs.declared.layout.Layout.{Layout}
 use Rattle.nlri.specs.Bodies.{Kind, Row, row, bodies, onBody}
 use Rattle.nlri.specs.Reading.{Laid, fieldSize, sizesOf, laidWith, laidAt, noKey, keyField}
@@ -41,10 +41,6 @@ pub found : {A : Type 0} (table : List Row) (type n : ℕ) (next : List Kind →
 unfolding onBody
 found [] type n next a e = absurd (never e refl)
 found (row k body ∷ table) type n next a e = choice (eqb type k) body next _ a e (λ q. found table type n next a q)
-
-part-length : (s : List ℕ) (start size : ℕ) → start + size ≤ length s → length (part s start size) ≡ size
-unfolding part
-part-length s start size h = length-take-le size (drop start s) (rw length-drop (omega arith))
 
 two-refusals : {A B : Type 0} (b d : Bool) (n : ℕ) (o : Outcome A) (next : A → Outcome B)
     → andThen (pick b (refused n) (pick d (refused n) o)) next ≡ pick b (refused n) (pick d (refused n) (andThen o next))

@@ -2,8 +2,8 @@
 use mathlib.Core.Path.{_≡_, refl, sym, _∙_, ap, ap₂, subst}
 use mathlib.Core.Bool.{Bool, true, false}
 use mathlib.Core.Logic.{_⊎_, inl, inr}
-use mathlib.Core.List.{List, [], _∷_, _++_, append-nil, append-assoc}
-use Prim.Native.Nat.{ℕ, _+_, _*_, _/_, _≤_, _<_}
+use mathlib.Core.List.{List, _∷_, append-nil, append-assoc}
+use Prim.Native.Nat.{ℕ, _+_, _*_, _≤_, _<_}
 use native.Mathlib.Omega.{arith}
 use borrow.Author.Tests.{eqb-true, eqb-false, ltb-true, ltb-false, eq-eqb, ne-eqb, lt-ltb, le-ltb}
 use lib.ListN.{length, getD}
@@ -18,15 +18,14 @@ use Rattle.octets.proofs.Inversions.{both-true-left, both-true-right, either-tr
 use Rattle.octets.proofs.Outcomes.{and-cong, pick-true, pick-false}
 use Rattle.nlri.specs.declared.fields.Nlri.{Nlri}
 use Rattle.nlri.specs.Family.{familyBits, allowed, originatorSize}
-use Rattle.nlri.specs.Bodies.{Kind, bodies, onBody, bodyOf}
-use Rattle.nlri.specs.Fields.{Fields, encodeAddress, encodeField, encodeBody, encodeNlri}
+use Rattle.nlri.specs.Bodies.{bodies, onBody, bodyOf}
+use Rattle.nlri.specs.Fields.{Fields, encodeField, encodeBody, encodeNlri}
 use Rattle.nlri.specs.Writing.{widthFits, widthsFit, keyFits, keysFit, isKey, writeNlri}
 use Rattle.nlri.specs.Answers.{octetsOf, fieldsIn}
 use Rattle.nlri.specs.Inner.{withSourceAs}
 use Rattle.nlri.specs.InnerWriting.{hasFlow, hasOriginator, flowFits, originatorFits, leafFits, judged, sizeOf, numberOctets, fixedOctets, flowOctets, originatorOctets, bodyOctets, allOctets, AddressSize, Sized, writeUnder}
 use Rattle.nlri.proofs.Keys.{key-octets}
 use Rattle.nlri.proofs.Writes.{key-judged}
-use Rattle.nlri.proofs.Shapes.{bits-most}
 use Rattle.nlri.proofs.Puts.{octets-length, size-is, fixed-short, flow-short, originator-short}
 
 more : (type k : ℕ) → k ≤ type → (type ≡ k → ⊥) → k + 1 ≤ type

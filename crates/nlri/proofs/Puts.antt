@@ -3,17 +3,15 @@ use mathlib.Core.Path.{_≡_, refl, sym, _∙_, ap, ap₂}
 use mathlib.Core.Bool.{Bool, true, false}
 use mathlib.Core.List.{List, [], _∷_, _++_}
 use Prim.Native.Nat.{ℕ, _+_, _-_, _*_, _≤_, _<_}
-use native.Mathlib.Nat.{add-sub-cancel-left}
 use native.Mathlib.Omega.{arith}
 use lib.ListN.{length, take, length-append}
 use lib.Seq.{take-length}
 use lib.Dec.{eqb}
 use borrow.Author.Tests.{eqb-true}
 use Rattle.octets.specs.Choice.{pick}
-use Rattle.octets.specs.Outcome.{Outcome, given, onOutcome, numberOf}
-use Rattle.octets.specs.Octets.{bigEndian, front, placed}
+use Rattle.octets.specs.Outcome.{given, onOutcome, numberOf}
+use Rattle.octets.specs.Octets.{bigEndian}
 use Rattle.octets.specs.Outputs.{writtenOf, outputOf}
-use Rattle.octets.specs.declared.Written.{Written}
 use Rattle.octets.proofs.Lists.{Put, sized-length, sized-taken, front-is-placed}
 use Rattle.octets.proofs.Outcomes.{pick-true, pick-false}
 use Rattle.octets.proofs.NetworkOrder.{big-endian-length}

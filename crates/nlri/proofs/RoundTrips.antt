@@ -27,7 +27,8 @@ use Rattle.nlri.specs.Statements.{ReadAs, Held, HeldNlri, RoundTrips}
 use Rattle.nlri.proofs.Table.{rowOf, known}
 use Rattle.nlri.proofs.ReadRefusals.{readRefusals, not-done}
 use Rattle.nlri.proofs.Lengths.{address-most, originator-most, family-octets}
-use Rattle.nlri.proofs.Acceptance.{fields-same, field-in-body, read-sound, read-encoded}
+use Rattle.nlri.proofs.Acceptance.{field-in-body, read-sound, read-encoded}
+use Rattle.nlri.proofs.FieldRecords.{fields-same}
 use Rattle.nlri.proofs.Writes.{write-is, write-well, write-restricted, written}
 
 write-read : (afi : ℕ) (s : List ℕ) (f : Fields) (space : ℕ) → AllOctets s → readNlri afi s ≡ given f → length s ≤ space → writeNlri afi f space ≡ given s

@@ -2,11 +2,10 @@
 use mathlib.Core.Path.{_≡_, refl, sym, _∙_, ap, ap₂, subst}
 use mathlib.Core.Bool.{Bool, true, false}
 use mathlib.Core.List.{List, [], _∷_}
-use Prim.Native.Nat.{ℕ, _+_, _-_, _≤_}
+use Prim.Native.Nat.{ℕ, _-_}
 use native.Mathlib.Omega.{arith}
-use native.Mathlib.Nat.{sub-self}
 use borrow.Author.Tests.{eqb-true, eq-eqb, ltb-false, ltb-true, lt-ltb, le-ltb}
-use lib.ListN.{length, getD, drop, length-drop}
+use lib.ListN.{length, drop, length-drop}
 use lib.Seq.{drop-drop, drop-length}
 use lib.Dec.{eqb, ltb}
 use Rattle.octets.specs.Numbers.{LENGTH, TYPE}
@@ -16,7 +15,7 @@ use Rattle.octets.proofs.Outcomes.{and-assoc, and-cong, and-pick, and-given, an
 use Rattle.nlri.specs.declared.layout.Layout.{Layout}
 use Rattle.nlri.specs.Family.{originatorSize}
 use Rattle.nlri.specs.Bodies.{Kind, distinguisher, sourceAs, source, group, originator, key, fieldIn, sameKind, codeOf, bodies, onBody}
-use Rattle.nlri.specs.Reading.{Laid, fixedField, addressField, originatorField, fieldSize, sizesOf}
+use Rattle.nlri.specs.Reading.{Laid, fixedField, originatorField, fieldSize, sizesOf}
 use Rattle.nlri.specs.Layouts.{layoutOf}
 use Rattle.nlri.specs.Inner.{layoutWith, originatorLast, endsAt, groupSize, flowSizes, flowEnd, flowRoute, intraAs, interAs, bodyWith}
 

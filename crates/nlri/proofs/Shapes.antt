@@ -3,24 +3,23 @@ use mathlib.Core.Path.{_≡_, refl, sym, _∙_, ap, ap₂, subst}
 use mathlib.Core.Bool.{Bool, true, false}
 use mathlib.Core.Logic.{_⊎_, inl, inr, ⊎-elim}
 use mathlib.Core.List.{List, [], _∷_}
-use Prim.Native.Nat.{ℕ, zero, suc, _+_, _-_, _/_, _≤_, _<_}
+use Prim.Native.Nat.{ℕ, zero, suc, _+_, _-_, _/_, _≤_}
 use native.Mathlib.Omega.{arith}
-use borrow.Author.Tests.{ltb-false, leb-false, eqb-true}
-use lib.ListN.{length, getD, take, drop, length-drop, length-take}
-use lib.Seq.{drop-drop, take-all, take-nil, drop-nil}
-use lib.Dec.{eqb, ltb}
+use borrow.Author.Tests.{ltb-false, eqb-true}
+use lib.ListN.{length, getD, take, drop, length-drop}
+use lib.Seq.{drop-drop, take-all, take-nil}
+use lib.Dec.{eqb}
 use Rattle.octets.specs.Numbers.{TYPE}
 use Rattle.octets.specs.Choice.{pick, either, both}
 use Rattle.octets.specs.Outcome.{Outcome, given, refused, andThen}
 use Rattle.octets.specs.Octets.{part, numberIn}
 use Rattle.octets.proofs.Outcomes.{pick-true, pick-false}
 use Rattle.octets.proofs.Inversions.{never, opposite, unless, only, passed, given-same, either-true, both-true-right}
-use Rattle.nlri.specs.declared.layout.Layout.{Layout}
-use Rattle.nlri.specs.Family.{familyBits, allowed, originatorSize}
+use Rattle.nlri.specs.Family.{allowed, originatorSize}
 use Rattle.nlri.specs.Bodies.{Kind, distinguisher, sourceAs, source, group, originator, key, bodies, onBody, fieldIn, sameKind, codeOf}
-use Rattle.nlri.specs.Fields.{Fields}
 use Rattle.nlri.specs.Reading.{Laid, fixedField, addressEnd, addressField, originatorField, fieldSize, sizesOf, laidWith, laidAt, laidSingle, keyField, cut, fieldsOf}
 use Rattle.nlri.specs.Layouts.{layoutOf}
+use Rattle.nlri.proofs.FieldRecords.{fields-same}
 use Rattle.nlri.specs.Inner.{withSourceAs, sourceStart, distinguisherAt, sourceAsAt, fieldsAt, Within}
 use Rattle.nlri.proofs.Fronts.{laid-within, key-within}
 use Rattle.nlri.proofs.Sizes.{address-within}
@@ -131,11 +130,6 @@ pub record Shaped (laid : Laid) (s : List ℕ) : Type 0 where
   pub fields : fieldsOf laid s ≡ fieldsAt (layoutOf laid) s
   pub within : Within (layoutOf laid) s
 
-fields-same : (type type′ x x′ : ℕ) (d d′ a a′ g g′ o o′ k k′ : List ℕ) → type ≡ type′ → d ≡ d′ → x ≡ x′ → a ≡ a′ → g ≡ g′ → o ≡ o′ → k ≡ k′
-    → _≡_ {A = Fields} (record { type = type; distinguisher = d; sourceAs = x; source = a; group = g; originator = o; key = k }) (record { type = type′; distinguisher = d′; sourceAs = x′; source = a′; group = g′; originator = o′; key = k′ })
-fields-same type type′ x x′ d d′ a a′ g g′ o o′ k k′ pt pd px pa pg po pk =
-    λ i. record { type = pt i; distinguisher = pd i; sourceAs = px i; source = pa i; group = pg i; originator = po i; key = pk i }
-
 starts : (type : ℕ) → withSourceAs type ≡ true → sourceStart type ≡ 15
 unfolding sourceStart
 starts type h = pick-true _ _ _ h
@@ -153,7 +147,7 @@ module _ (family n : ℕ) (s : List ℕ) (small : family / 8 ≤ 16) (enough : 2
   shaped-intra-as o h e m =
       let l₂ = length-drop 8 (drop 2 s) in
       record {
-        fields = fields-same _ _ _ _ _ _ _ _ _ _ _ _ _ _ refl refl refl (no-part s 11) (no-part s 12)
+        fields = fields-same refl refl refl (no-part s 11) (no-part s 12)
             (ap (take o) (drop-drop 8 2 s) ∙ at-part s 10 (length s - o) o o (omega (arith, l₁)) refl) (no-part s 2);
         within = record {
           typed = omega arith;
@@ -171,7 +165,7 @@ module _ (family n : ℕ) (s : List ℕ) (small : family / 8 ≤ 16) (enough : 2
   shaped-inter-as h h₂ =
       let l₂ = length-drop 8 (drop 2 s) in
       record {
-        fields = fields-same _ _ _ _ _ _ _ _ _ _ _ _ _ _ refl refl (ap (λ (x : List ℕ). numberIn (take 4 x) 0) (drop-drop 8 2 s)) (no-part s 15) (no-part s 16) (no-part s (length s)) (no-part s 2);
+        fields = fields-same refl refl (ap (λ (x : List ℕ). numberIn (take 4 x) 0) (drop-drop 8 2 s)) (no-part s 15) (no-part s 16) (no-part s (length s)) (no-part s 2);
         within = record {
           typed = omega arith;
           distinguished = λ _. omega (arith, l₁);
@@ -189,7 +183,7 @@ module _ (family n : ℕ) (s : List ℕ) (small : family / 8 ≤ 16) (enough : 2
   shaped-leaf k o h₁ h e m =
       let l₂ = length-drop k (drop 2 s) in
       record {
-        fields = fields-same _ _ _ _ _ _ _ _ _ _ _ _ _ _ refl refl refl (no-part s 11) (no-part s 12)
+        fields = fields-same refl refl refl (no-part s 11) (no-part s 12)
             (ap (take o) (drop-drop k 2 s) ∙ at-part s (2 + k) (length s - o) o o (omega (arith, l₁)) refl) refl;
         within = record {
           typed = omega arith;
@@ -210,7 +204,7 @@ module _ (family n : ℕ) (s : List ℕ) (small : family / 8 ≤ 16) (enough : 2
         let l₂ : length (drop b (drop a (drop 8 (drop 2 s)))) ≡ length s - 2 - 8 - a - b = simp length-drop in
         let d : drop a (drop 8 (drop 2 s)) ≡ drop (10 + a) s = ap (drop a) (drop-drop 8 2 s) ∙ drop-drop a 10 s in
         record {
-          fields = fields-same _ _ _ _ _ _ _ _ _ _ _ _ _ _ refl refl refl
+          fields = fields-same refl refl refl
               (ap (λ (x : List ℕ). drop 1 (take a x)) (drop-drop 8 2 s) ∙ address-part 10 a s ha)
               (ap (λ (x : List ℕ). drop 1 (take b x)) d ∙ address-part (10 + a) b s hb ∙ at-part s (10 + a + 1) (11 + (a - 1) + 1) (b - 1) (b - 1) (omega arith) refl)
               (ap (λ (x : List ℕ). take o (drop b x)) d ∙ ap (take o) (drop-drop b (10 + a) s) ∙ at-part s (10 + a + b) (length s - o) o o (omega (arith, l₁)) refl)
@@ -231,7 +225,7 @@ module _ (family n : ℕ) (s : List ℕ) (small : family / 8 ≤ 16) (enough : 2
     shaped-source-active h =
         let d : drop a (drop 8 (drop 2 s)) ≡ drop (10 + a) s = ap (drop a) (drop-drop 8 2 s) ∙ drop-drop a 10 s in
         record {
-          fields = fields-same _ _ _ _ _ _ _ _ _ _ _ _ _ _ refl refl refl
+          fields = fields-same refl refl refl
               (ap (λ (x : List ℕ). drop 1 (take a x)) (drop-drop 8 2 s) ∙ address-part 10 a s ha)
               (ap (λ (x : List ℕ). drop 1 (take b x)) d ∙ address-part (10 + a) b s hb ∙ at-part s (10 + a + 1) (11 + (a - 1) + 1) (b - 1) (b - 1) (omega arith) refl)
               (no-part s (length s)) (no-part s 2);
@@ -254,7 +248,7 @@ module _ (family n : ℕ) (s : List ℕ) (small : family / 8 ≤ 16) (enough : 2
         let d : drop a (drop 4 (drop 8 (drop 2 s))) ≡ drop (14 + a) s = ap (drop a) d₂ ∙ drop-drop a 14 s in
         let at : sourceStart type ≡ 15 = starts type joined in
         record {
-          fields = fields-same _ _ _ _ _ _ _ _ _ _ _ _ _ _ refl (sym (pick-false (eqb type 4) [] (part s 2 8) other))
+          fields = fields-same refl (sym (pick-false (eqb type 4) [] (part s 2 8) other))
               (ap (λ (x : List ℕ). numberIn (take 4 x) 0) (drop-drop 8 2 s) ∙ sym (pick-true (withSourceAs type) (numberIn (part s 10 4) 0) 0 joined))
               (ap (λ (x : List ℕ). drop 1 (take a x)) d₂ ∙ address-part 14 a s ha ∙ at-part s 15 (sourceStart type) (a - 1) (a - 1) (sym at) refl)
               (ap (λ (x : List ℕ). drop 1 (take b x)) d ∙ address-part (14 + a) b s hb ∙ at-part s (14 + a + 1) (sourceStart type + (a - 1) + 1) (b - 1) (b - 1) (omega (arith, at)) refl)

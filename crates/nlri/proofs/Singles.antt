@@ -1,16 +1,14 @@
 -- A single NLRI: its layout, and its fields by its layout.
-use mathlib.Core.Path.{_≡_, refl, sym, _∙_, ap, ap₂, subst}
+use mathlib.Core.Path.{_≡_, sym, _∙_, ap, ap₂, subst}
 use mathlib.Core.Bool.{Bool, true, false}
 use mathlib.Core.Logic.{_⊎_, inl, inr}
-use mathlib.Core.List.{List, []}
+use mathlib.Core.List.{List}
 use Prim.Native.Nat.{ℕ, _+_, _-_, _/_, _≤_}
 use native.Mathlib.Omega.{arith}
 use lib.ListN.{length}
 use lib.Dec.{eqb}
-use Rattle.octets.specs.Numbers.{LENGTH}
 use Rattle.octets.specs.Choice.{pick}
 use Rattle.octets.specs.Outcome.{Outcome, given, refused, andThen, onOutcome}
-use Rattle.octets.specs.Octets.{part}
 use Rattle.octets.specs.declared.Span.{Span}
 use Rattle.octets.proofs.Tests.{goes}
 use Rattle.octets.proofs.Outcomes.{and-assoc, and-cong, and-pick, and-given, and-refused}
@@ -22,13 +20,13 @@ use Rattle.nlri.specs.declared.fields.Nlri.{Nlri}
 use Rattle.nlri.specs.declared.fields.NlriReading.{NlriReading}
 use Rattle.nlri.specs.Family.{familyBits}
 use Rattle.nlri.specs.Fields.{Fields}
-use Rattle.nlri.specs.Reading.{Laid, laidAt, laidSingle, fieldsOf, readNlri}
+use Rattle.nlri.specs.Reading.{laidSingle, fieldsOf, readNlri}
 use Rattle.nlri.specs.Layouts.{layoutOf, layoutAt, layoutSingle}
 use Rattle.nlri.specs.Answers.{nlriOf, keySpan, readAnswer}
 use Rattle.nlri.specs.Inner.{withSourceAs, sourceStart, fieldsAt, keyAt, Within, endsWith, single}
 use Rattle.nlri.proofs.Families.{family-is}
-use Rattle.nlri.proofs.Copies.{part-length}
-use Rattle.nlri.proofs.Shapes.{Shaped, shaped}
+use Rattle.octets.proofs.Lists.{part-length}
+use Rattle.nlri.proofs.Shapes.{shaped}
 
 single-laid : (family : ℕ) (s : List ℕ) → single family s ≡ andThen (laidSingle family s) (λ laid. given (layoutOf laid))
 unfolding single endsWith layoutAt laidSingle layoutOf

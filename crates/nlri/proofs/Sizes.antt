@@ -1,12 +1,11 @@
 -- Bounds on the sizes that fields come to.
-use mathlib.Core.Path.{_≡_, sym, _∙_, ap}
+use mathlib.Core.Path.{_≡_, ap}
 use mathlib.Core.List.{List}
-use Prim.Native.Nat.{ℕ, _+_, _-_, _/_, _≤_}
+use Prim.Native.Nat.{ℕ, _+_, _-_, _≤_}
 use native.Mathlib.Omega.{arith}
 use borrow.Author.Tests.{leb-false, ltb-false}
 use lib.ListN.{length, getD, drop, length-drop}
-use lib.Dec.{eqb, ltb}
-use Rattle.octets.specs.Outcome.{Outcome, given, refused}
+use Rattle.octets.specs.Outcome.{given}
 use Rattle.octets.proofs.Inversions.{unless, only, passed, given-same}
 use Rattle.nlri.specs.Reading.{addressEnd, addressField}
 use Rattle.nlri.specs.Inner.{flowSizes, groupSize, header}

@@ -2,12 +2,11 @@
 use mathlib.Core.Path.{_≡_, refl, sym, _∙_, ap}
 use mathlib.Core.Bool.{Bool, true, false}
 use mathlib.Core.List.{List}
-use Prim.Native.Nat.{ℕ, zero, suc, _+_, _-_, _≤_, _<_}
+use Prim.Native.Nat.{ℕ, suc, _+_, _-_, _≤_}
 use native.Mathlib.Nat.{sub-zero}
 use native.Mathlib.Omega.{arith}
-use borrow.Author.Tests.{ltb-false, eqb-false}
+use borrow.Author.Tests.{ltb-false}
 use lib.ListN.{length, drop, length-drop}
-use lib.Dec.{ltb, eqb}
 use Rattle.octets.specs.Choice.{pick}
 use Rattle.octets.specs.Outcome.{Outcome, given, refused, onOutcome}
 use Rattle.octets.proofs.Inversions.{opposite, passed, given-same}
@@ -16,8 +15,6 @@ use Rattle.nlri.specs.declared.layout.Layout.{Layout}
 use Rattle.nlri.specs.declared.run.Cursor.{Cursor}
 use Rattle.nlri.specs.declared.run.Step.{Step}
 use Rattle.nlri.specs.declared.run.Step.the-variants.{Nlri, End, Refused}
-use Rattle.nlri.specs.declared.run.Walked.{Walked}
-use Rattle.nlri.specs.Family.{familyBits}
 use Rattle.nlri.specs.Reading.{keyField, laidAt}
 use Rattle.nlri.specs.Layouts.{layoutOf, layoutAt}
 use Rattle.nlri.specs.Walking.{Stepped, readTo, stoppedAt, stepUnder, stepFrom, steppedOf, walkFrom, walkOf}

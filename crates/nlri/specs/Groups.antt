@@ -1,5 +1,5 @@
 -- The class of a customer group (document 01, "Which route a flow takes"; RFC 4607).
-use Prim.Native.Nat.{ℕ, _*_, _/_}
+use Prim.Native.Nat.{ℕ, _/_}
 use mathlib.Core.Bool.{Bool}
 use mathlib.Core.List.{List}
 use lib.ListN.{length, getD}

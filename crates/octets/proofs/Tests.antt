@@ -1,6 +1,6 @@
 -- How a `return` is shown to be what a definition picks: each lemma concludes in the goal's direction, so that `search tests` walks the
 -- definition backwards along the tests that the code has made.
-use mathlib.Core.Path.{_≡_, refl, sym, _∙_}
+use mathlib.Core.Path.{_≡_, sym, _∙_}
 use mathlib.Core.Bool.{Bool, true, false}
 use Prim.Native.Nat.{ℕ}
 use borrow.Author.Needs.{needs}

@@ -12,7 +12,8 @@ use Rattle.octets.specs.Choice.{pick}
 use Rattle.octets.specs.Numbers.{IDENT}
 use Rattle.octets.specs.Outcome.{given, refused}
 use Rattle.octets.specs.Octets.{AllOctets, part, numberIn, bigEndian}
-use Rattle.octets.proofs.Picked.{tested, pick-then, pick-else, was-given, pick-held}
+use Rattle.octets.proofs.Picked.{tested, was-given, pick-held}
+use Rattle.octets.proofs.Outcomes.{pick-true, pick-false}
 use Rattle.octets.proofs.AllOctets.{octet-at, octets-take, octets-drop}
 use Rattle.octets.proofs.NetworkOrder.{big-endian-length, number-of-big-endian, part-number, part-fits}
 use Rattle.tunnel.specs.Fec.{FecFields, encodeFec, Suits, ipv4, ipv6, WellFormedFec, familySuits, endsAt, wholeFec, fecIn, readFec}
@@ -24,9 +25,9 @@ suits-of : (family size : ℕ) → familySuits family size ≡ true → Suits fa
 unfolding familySuits
 suits-of family size h =
     tested (eqb family 1)
-    (λ p. let q : eqb size 4 ≡ true = sym (pick-then (eqb family 1) (eqb size 4) (pick (eqb family 2) (eqb size 16) false) p) ∙ h in
+    (λ p. let q : eqb size 4 ≡ true = sym (pick-true (eqb family 1) (eqb size 4) (pick (eqb family 2) (eqb size 16) false) p) ∙ h in
     rw (eqb-true family 1 p, eqb-true size 4 q) ipv4)
-    (λ p. let q : pick (eqb family 2) (eqb size 16) false ≡ true = sym (pick-else (eqb family 1) (eqb size 4) (pick (eqb family 2) (eqb size 16) false) p) ∙ h in
+    (λ p. let q : pick (eqb family 2) (eqb size 16) false ≡ true = sym (pick-false (eqb family 1) (eqb size 4) (pick (eqb family 2) (eqb size 16) false) p) ∙ h in
     let r = pick-held (eqb family 2) (eqb size 16) q in
     rw (eqb-true family 2 (r .0), eqb-true size 16 (r .1)) ipv6)
 
@@ -130,7 +131,7 @@ module _ (f : FecFields) (w : WellFormedFec f) where
 
   encoded-read : readFec (encodeFec f) ≡ given f
   unfolding readFec
-  encoded-read = pick-then (wholeFec (encodeFec f)) (given (fecIn (encodeFec f))) (refused IDENT) encoded-whole ∙ ap given encoded-fields
+  encoded-read = pick-true (wholeFec (encodeFec f)) (given (fecIn (encodeFec f))) (refused IDENT) encoded-whole ∙ ap given encoded-fields
 
 pub fec-read : FecStatement
 unfolding readFec

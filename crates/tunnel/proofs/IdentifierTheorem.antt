@@ -12,7 +12,8 @@ use Rattle.octets.specs.Numbers.{TUNNEL, IDENT}
 use Rattle.octets.specs.Outcome.{Outcome, given, refused, andThen}
 use Rattle.octets.specs.Octets.{AllOctets}
 use Rattle.octets.proofs.Tests.{both-true, either-left}
-use Rattle.octets.proofs.Picked.{tested, pick-then, pick-else, both-held}
+use Rattle.octets.proofs.Picked.{tested, both-held}
+use Rattle.octets.proofs.Outcomes.{pick-true, pick-false}
 use Rattle.tunnel.specs.Fec.{encodeFec, wholeFec, fecIn}
 use Rattle.tunnel.specs.Identifier.{IdentifierForm, sizes, fecTypes, TableRow, table, formIn, formOf, Among, here, there, IsIdentifier, ofSize, ofFec, OfType, oneOf, fits, judged}
 use Rattle.tunnel.specs.Statements.{Unknown}
@@ -89,8 +90,8 @@ looked (r ∷ rs) t = pick-looked (eqb t (r .tunnelType)) (r .form) (formIn rs t
 judged-looked : (t : ℕ) (i : List ℕ) (o : Outcome IdentifierForm) → formOf t ≡ o → LookedUp o → JudgedCase t i (judged t i)
 judged-looked t i o e (found form) =
     tested (fits form i)
-    (λ p. subst (JudgedCase t i) (sym (judged-known t i form e ∙ pick-then (fits form i) (given i) (refused IDENT) p)) (fit form e p))
-    (λ p. subst (JudgedCase t i) (sym (judged-known t i form e ∙ pick-else (fits form i) (given i) (refused IDENT) p)) (noFit form e p))
+    (λ p. subst (JudgedCase t i) (sym (judged-known t i form e ∙ pick-true (fits form i) (given i) (refused IDENT) p)) (fit form e p))
+    (λ p. subst (JudgedCase t i) (sym (judged-known t i form e ∙ pick-false (fits form i) (given i) (refused IDENT) p)) (noFit form e p))
 judged-looked t i o e missing = subst (JudgedCase t i) (sym (judged-unknown t i e)) (noRow e)
 
 pub judged-is : (t : ℕ) (i : List ℕ) → JudgedCase t i (judged t i)
@@ -102,7 +103,7 @@ pub of-type : (t : ℕ) (i : List ℕ) (form : IdentifierForm) → AllOctets i �
 of-type t i form a e h = record { form = form; inTable = e; ofForm = identifier-of form i a h }
 
 pub of-type-judged : {t : ℕ} {i : List ℕ} → OfType t i → judged t i ≡ given i
-of-type-judged {t} {i} o = judged-known t i (o .form) (o .inTable) ∙ pick-then (fits (o .form) i) (given i) (refused IDENT) (identifier-computed (o .ofForm))
+of-type-judged {t} {i} o = judged-known t i (o .form) (o .inTable) ∙ pick-true (fits (o .form) i) (given i) (refused IDENT) (identifier-computed (o .ofForm))
 
 pub not-of-type : {t : ℕ} {i : List ℕ} (form : IdentifierForm) → formOf t ≡ given form → fits form i ≡ false → OfType t i → ⊥
 not-of-type {t} {i} form e h o =
@@ -147,7 +148,7 @@ unknown-row t h =
 absent-refused : (rows : List TableRow) (t : ℕ) → HasNone rows t → formIn rows t ≡ refused TUNNEL
 unfolding formIn HasNone
 absent-refused [] t a = refl
-absent-refused (r ∷ rs) t a = pick-else (eqb t (r .tunnelType)) (given (r .form)) (formIn rs t) (ne-eqb t (r .tunnelType) (a .0)) ∙ absent-refused rs t (a .1)
+absent-refused (r ∷ rs) t a = pick-false (eqb t (r .tunnelType)) (given (r .form)) (formIn rs t) (ne-eqb t (r .tunnelType) (a .0)) ∙ absent-refused rs t (a .1)
 
 pub row-unknown : (t : ℕ) → Unknown t → formOf t ≡ refused TUNNEL
 unfolding formOf table HasNone

@@ -13,7 +13,8 @@ use Rattle.octets.specs.Numbers.{DONE, SHORT, LONG, TUNNEL, IDENT, LABEL, SPACE
 use Rattle.octets.specs.Outcome.{Outcome, given, refused, andThen, onOutcome, numberOf}
 use Rattle.octets.specs.Octets.{part, numberIn, front}
 use Rattle.octets.proofs.Tests.{tests}
-use Rattle.octets.proofs.Picked.{tested, pick-then, pick-else, pick-passed, pick-held, both-held, was-given}
+use Rattle.octets.proofs.Picked.{tested, pick-passed, pick-held, both-held, was-given}
+use Rattle.octets.proofs.Outcomes.{pick-true, pick-false}
 use Rattle.octets.proofs.NetworkOrder.{big-endian-length}
 use Rattle.octets.specs.declared.Written.{Written}
 use Rattle.tunnel.specs.declared.fec.Fec.{Fec}
@@ -99,11 +100,11 @@ rows-judged (r ∷ rs) t i = row-step (eqb t (r .tunnelType)) (r .form) (formIn 
 
 pub judged-faulty : (t : ℕ) (i : List ℕ) (n : ℕ) → n ≡ faultOf t i → (n ≡ 0 → ⊥) → judged t i ≡ refused n
 unfolding judged judgedBy formOf faultOf asOutcome
-judged-faulty t i n e d = rows-judged table t i ∙ rw (← e) (pick-else (eqb n 0) (given i) (refused n) (ne-eqb n 0 d))
+judged-faulty t i n e d = rows-judged table t i ∙ rw (← e) (pick-false (eqb n 0) (given i) (refused n) (ne-eqb n 0 d))
 
 pub judged-fine : (t : ℕ) (i : List ℕ) → faultOf t i ≡ 0 → judged t i ≡ given i
 unfolding judged judgedBy formOf faultOf asOutcome
-judged-fine t i e = rows-judged table t i ∙ pick-then (eqb (faultOf t i) 0) (given i) (refused (faultOf t i)) (eq-eqb (faultOf t i) 0 e)
+judged-fine t i e = rows-judged table t i ∙ pick-true (eqb (faultOf t i) 0) (given i) (refused (faultOf t i)) (eq-eqb (faultOf t i) 0 e)
 
 -- the rows of the mLDP tunnel types
 p2mp-row : (t : ℕ) → t ≡ 2 → formOf t ≡ given (fecTypes (6 ∷ []))
@@ -184,7 +185,7 @@ pub pim-row : (t : ℕ) → unknown t ≡ false → mldp t ≡ false → (t ≡ 
 unfolding unknown mldp
 pim-row t u m a b c d =
     let p = neither (eqb t 2) (eqb t 7) m in
-    let most : t ≤ 7 = ltb-false 7 t (sym (pick-else (eqb t 11) false (ltb 7 t) (ne-eqb t 11 d)) ∙ u) in
+    let most : t ≤ 7 = ltb-false 7 t (sym (pick-false (eqb t 11) false (ltb 7 t) (ne-eqb t 11 d)) ∙ u) in
     let two = eqb-false t 2 (p .0) in
     let seven = eqb-false t 7 (p .1) in
     tested (eqb t 3)

@@ -6,4 +6,3 @@ pub mod IdentifierTheorem
 pub mod ReadingTheorem
 pub mod WritingTheorem
 pub mod Theorems
-pub mod Examples

@@ -10,7 +10,8 @@ use borrow.Author.Tests.{ltb-true, ltb-false, le-ltb, lt-ltb}
 use Rattle.octets.specs.Choice.{pick}
 use Rattle.octets.specs.Numbers.{TUNNEL, IDENT, LONG, LABEL, SPACE}
 use Rattle.octets.specs.Outcome.{Outcome, given, refused, andThen, numberOf}
-use Rattle.octets.proofs.Picked.{tested, pick-then, pick-else}
+use Rattle.octets.proofs.Picked.{tested}
+use Rattle.octets.proofs.Outcomes.{pick-true, pick-false}
 use Rattle.tunnel.specs.Identifier.{IdentifierForm, formOf, Among, here, there, OfType, fits}
 use Rattle.tunnel.specs.Attribute.{Fields, WellFormedAttribute, encodeAttribute, writeAttribute}
 use Rattle.tunnel.specs.Statements.{Unknown, Known, OctetFields, Writable, WritingStatement}
@@ -38,11 +39,11 @@ module _ (f : Fields) (capacity : ℕ) where
   unfolding fieldsWritten
   fine-case k =
       tested (ltb 16777215 (f .labelField))
-      (λ p. subst WriteCase (sym (pick-then (ltb 16777215 (f .labelField)) (refused LABEL) (pick (ltb capacity (length (encodeAttribute f))) (refused SPACE) (given (encodeAttribute f))) p)) (badLabel k (ltb-true 16777215 (f .labelField) p)))
-      (λ p. subst WriteCase (sym (pick-else (ltb 16777215 (f .labelField)) (refused LABEL) (pick (ltb capacity (length (encodeAttribute f))) (refused SPACE) (given (encodeAttribute f))) p))
+      (λ p. subst WriteCase (sym (pick-true (ltb 16777215 (f .labelField)) (refused LABEL) (pick (ltb capacity (length (encodeAttribute f))) (refused SPACE) (given (encodeAttribute f))) p)) (badLabel k (ltb-true 16777215 (f .labelField) p)))
+      (λ p. subst WriteCase (sym (pick-false (ltb 16777215 (f .labelField)) (refused LABEL) (pick (ltb capacity (length (encodeAttribute f))) (refused SPACE) (given (encodeAttribute f))) p))
       (tested (ltb capacity (length (encodeAttribute f)))
-      (λ q. subst WriteCase (sym (pick-then (ltb capacity (length (encodeAttribute f))) (refused SPACE) (given (encodeAttribute f)) q)) (noSpace k (ltb-false 16777215 (f .labelField) p) (ltb-true capacity (length (encodeAttribute f)) q)))
-      (λ q. subst WriteCase (sym (pick-else (ltb capacity (length (encodeAttribute f))) (refused SPACE) (given (encodeAttribute f)) q)) (fine k (ltb-false 16777215 (f .labelField) p) (ltb-false capacity (length (encodeAttribute f)) q)))))
+      (λ q. subst WriteCase (sym (pick-true (ltb capacity (length (encodeAttribute f))) (refused SPACE) (given (encodeAttribute f)) q)) (noSpace k (ltb-false 16777215 (f .labelField) p) (ltb-true capacity (length (encodeAttribute f)) q)))
+      (λ q. subst WriteCase (sym (pick-false (ltb capacity (length (encodeAttribute f))) (refused SPACE) (given (encodeAttribute f)) q)) (fine k (ltb-false 16777215 (f .labelField) p) (ltb-false capacity (length (encodeAttribute f)) q)))))
 
   sized-case : length (f .identifier) ≤ 59 → {o : Outcome (List ℕ)} → JudgedCase (f .tunnelType) (f .identifier) o → WriteCase (andThen o (λ _. fieldsWritten f capacity))
   unfolding andThen
@@ -141,7 +142,7 @@ module _ (f : Fields) (capacity : ℕ) where
       let e = k .1 .inTable in
       tested (fits form (f .identifier))
       (λ p. absurd (k .2 (of-type (f .tunnelType) (f .identifier) form (o .identifierOctets) e p)))
-      (λ p. write-judged f capacity (k .0) ∙ rw (judged-known (f .tunnelType) (f .identifier) form e, pick-else (fits form (f .identifier)) (given (f .identifier)) (refused IDENT) p))
+      (λ p. write-judged f capacity (k .0) ∙ rw (judged-known (f .tunnelType) (f .identifier) form e, pick-false (fits form (f .identifier)) (given (f .identifier)) (refused IDENT) p))
 
   label-refused : Writable f → 16777215 < f .labelField → writeAttribute f capacity ≡ refused LABEL
   unfolding fieldsWritten pick

@@ -1,12 +1,9 @@
+-- `nlri::address::shorter` meets its contract.
 use denote.Ref.{now}
-use mathlib.Core.Path.{_∙_, sym, ap}
 use Rattle.nlri.proofs.Copies.{address-held}
 use borrow.Author.Needs.{needs}
 use Rattle.nlri.proofs.address.shorter.Statement.{statement}
 use Rattle.nlri.proofs.address.shorter.Tie as tie
-use Rattle.nlri.proofs.address.shorter.Reads as reads
-use Rattle.nlri.proofs.address.shorter.Lts as lts
-use Rattle.bytes.proofs.copy.Reads as copy-reads
 
 slice-aggregate-copy : tie.Need-slice-aggregate-copy
 slice-aggregate-copy c = search needs

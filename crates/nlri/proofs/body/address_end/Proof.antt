@@ -1,11 +1,10 @@
+-- `nlri::body::address_end` meets its contract.
 use Rattle.nlri.specs.Inner.{partOf}
 use Rattle.nlri.specs.Reading.{addressEnd}
 use Rattle.octets.proofs.Tests.{tests}
 use borrow.Author.Needs.{needs}
 use Rattle.nlri.proofs.body.address_end.Statement.{statement}
 use Rattle.nlri.proofs.body.address_end.Tie as tie
-use Rattle.nlri.proofs.body.address_end.Reads as reads
-use Rattle.nlri.proofs.body.address_end.Lts as lts
 
 returns : tie.Need-returns
 unfolding partOf addressEnd

@@ -1,14 +1,10 @@
+-- `nlri::body::end_flow` meets its contract.
 use Rattle.nlri.specs.Layouts.{readingOf}
-use Rattle.nlri.specs.Inner.{flowEnd}
-use Rattle.nlri.specs.Inner.{layoutWith}
+use Rattle.nlri.specs.Inner.{flowEnd, layoutWith}
 use Rattle.octets.proofs.Tests.{tests}
 use borrow.Author.Needs.{needs}
 use Rattle.nlri.proofs.body.end_flow.Statement.{statement}
 use Rattle.nlri.proofs.body.end_flow.Tie as tie
-use Rattle.nlri.proofs.body.end_flow.Reads as reads
-use Rattle.nlri.proofs.body.end_flow.Lts as lts
-use Rattle.nlri.proofs.body.ends.Reads as ends-reads
-use Rattle.nlri.proofs.body.ends_in_originator.Reads as ends-in-originator-reads
 
 sub-t7 : tie.Need-sub-t7
 sub-t7 c = search needs

@@ -1,10 +1,9 @@
+-- `nlri::body::ends` meets its contract.
 use Rattle.nlri.specs.Layouts.{readingOf}
 use Rattle.nlri.specs.Inner.{endsAt}
 use Rattle.octets.proofs.Tests.{tests}
 use Rattle.nlri.proofs.body.ends.Statement.{statement}
 use Rattle.nlri.proofs.body.ends.Tie as tie
-use Rattle.nlri.proofs.body.ends.Reads as reads
-use Rattle.nlri.proofs.body.ends.Lts as lts
 
 returns : tie.Need-returns
 unfolding readingOf endsAt

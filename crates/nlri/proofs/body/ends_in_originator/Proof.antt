@@ -1,3 +1,4 @@
+-- `nlri::body::ends_in_originator` meets its contract.
 use Rattle.nlri.specs.Layouts.{readingOf}
 use Rattle.nlri.specs.Inner.{originatorLast}
 use Rattle.octets.proofs.Tests.{tests}
@@ -5,9 +6,6 @@ use mathlib.Core.Path.{sym, _∙_}
 use borrow.Author.Needs.{needs}
 use Rattle.nlri.proofs.body.ends_in_originator.Statement.{statement}
 use Rattle.nlri.proofs.body.ends_in_originator.Tie as tie
-use Rattle.nlri.proofs.body.ends_in_originator.Reads as reads
-use Rattle.nlri.proofs.body.ends_in_originator.Lts as lts
-use Rattle.nlri.proofs.body.is_originator_size.Reads as is-originator-size-reads
 
 is-originator-size-requires : tie.Need-is-originator-size-requires
 is-originator-size-requires c κs = search needs

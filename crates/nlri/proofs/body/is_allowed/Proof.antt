@@ -1,9 +1,8 @@
+-- `nlri::body::is_allowed` meets its contract.
 use Rattle.nlri.specs.Family.{allowed}
 use Rattle.octets.proofs.Tests.{flags}
 use Rattle.nlri.proofs.body.is_allowed.Statement.{statement}
 use Rattle.nlri.proofs.body.is_allowed.Tie as tie
-use Rattle.nlri.proofs.body.is_allowed.Reads as reads
-use Rattle.nlri.proofs.body.is_allowed.Lts as lts
 
 returns : tie.Need-returns
 unfolding allowed

@@ -1,9 +1,8 @@
+-- `nlri::body::is_originator_size` meets its contract.
 use Rattle.nlri.specs.Family.{originatorSize}
 use Rattle.octets.proofs.Tests.{flags}
 use Rattle.nlri.proofs.body.is_originator_size.Statement.{statement}
 use Rattle.nlri.proofs.body.is_originator_size.Tie as tie
-use Rattle.nlri.proofs.body.is_originator_size.Reads as reads
-use Rattle.nlri.proofs.body.is_originator_size.Lts as lts
 
 returns : tie.Need-returns
 unfolding originatorSize

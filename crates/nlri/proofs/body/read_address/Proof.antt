@@ -1,3 +1,4 @@
+-- `nlri::body::read_address` meets its contract.
 use Rattle.nlri.specs.Reading.{addressField}
 use Rattle.nlri.specs.Inner.{partOf}
 use Rattle.octets.proofs.Tests.{tests}
@@ -6,10 +7,6 @@ use mathlib.Core.Path.{sym, _∙_}
 use borrow.Author.Needs.{needs}
 use Rattle.nlri.proofs.body.read_address.Statement.{statement}
 use Rattle.nlri.proofs.body.read_address.Tie as tie
-use Rattle.nlri.proofs.body.read_address.Reads as reads
-use Rattle.nlri.proofs.body.read_address.Lts as lts
-use Rattle.nlri.proofs.body.address_end.Reads as address-end-reads
-use Rattle.nlri.proofs.body.is_allowed.Reads as is-allowed-reads
 
 returns : tie.Need-returns
 unfolding partOf addressField

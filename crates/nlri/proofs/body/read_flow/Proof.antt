@@ -1,20 +1,12 @@
-use mathlib.Core.Path.{_∙_, sym, ap}
+-- `nlri::body::read_flow` meets its contract.
+use mathlib.Core.Path.{_∙_, ap}
 use denote.Ref.{now}
-use lib.ListN.{length, drop}
 use Rattle.nlri.proofs.Sizes.{address-within}
-use Rattle.nlri.proofs.Via.{size-given}
-use Rattle.nlri.specs.Inner.{groupSize}
-use Rattle.nlri.specs.Inner.{flowOf}
-use Rattle.nlri.specs.Inner.{flowSizes}
-use Rattle.nlri.proofs.Via.{reads}
+use Rattle.nlri.proofs.Via.{size-given, reads}
+use Rattle.nlri.specs.Inner.{groupSize, flowOf, flowSizes}
 use borrow.Author.Needs.{needs}
 use Rattle.nlri.proofs.body.read_flow.Statement.{statement}
 use Rattle.nlri.proofs.body.read_flow.Tie as tie
-use Rattle.nlri.proofs.body.read_flow.Reads as reads
-use Rattle.nlri.proofs.body.read_flow.Lts as lts
-use Rattle.nlri.proofs.body.read_address.Reads as read-address-reads
-use Rattle.nlri.proofs.body.read_group.Reads as read-group-reads
-use Rattle.octets.proofs.parts.after.Reads as after-reads
 
 read-address-requires : tie.Need-read-address-requires
 read-address-requires c κs = search needs

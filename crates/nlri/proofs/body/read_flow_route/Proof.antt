@@ -1,22 +1,16 @@
-use mathlib.Core.Path.{_∙_, sym, ap}
+-- `nlri::body::read_flow_route` meets its contract.
+use mathlib.Core.Path.{_∙_, ap}
 use denote.Ref.{now}
 use lib.ListN.{length, drop, length-drop}
 use Prim.Native.Nat.{_+_, _-_, _≤_}
 use native.Mathlib.Omega.{arith}
 use Rattle.nlri.proofs.Sizes.{flow-within}
-use Rattle.nlri.proofs.Via.{sizes-given}
-use Rattle.nlri.specs.Inner.{flowSizes}
+use Rattle.nlri.proofs.Via.{sizes-given, reads}
+use Rattle.nlri.specs.Inner.{flowSizes, flowRoute}
 use Rattle.nlri.specs.Layouts.{readingOf}
-use Rattle.nlri.specs.Inner.{flowRoute}
-use Rattle.nlri.proofs.Via.{reads}
 use borrow.Author.Needs.{needs}
 use Rattle.nlri.proofs.body.read_flow_route.Statement.{statement}
 use Rattle.nlri.proofs.body.read_flow_route.Tie as tie
-use Rattle.nlri.proofs.body.read_flow_route.Reads as reads
-use Rattle.nlri.proofs.body.read_flow_route.Lts as lts
-use Rattle.nlri.proofs.body.end_flow.Reads as end-flow-reads
-use Rattle.nlri.proofs.body.read_flow.Reads as read-flow-reads
-use Rattle.octets.proofs.parts.after.Reads as after-reads
 
 returns : tie.Need-returns
 unfolding readingOf flowRoute

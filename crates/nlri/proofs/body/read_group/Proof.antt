@@ -1,12 +1,9 @@
-use Rattle.nlri.specs.Inner.{flowOf}
-use Rattle.nlri.specs.Inner.{groupSize}
+-- `nlri::body::read_group` meets its contract.
+use Rattle.nlri.specs.Inner.{flowOf, groupSize}
 use Rattle.nlri.proofs.Via.{reads}
 use borrow.Author.Needs.{needs}
 use Rattle.nlri.proofs.body.read_group.Statement.{statement}
 use Rattle.nlri.proofs.body.read_group.Tie as tie
-use Rattle.nlri.proofs.body.read_group.Reads as reads
-use Rattle.nlri.proofs.body.read_group.Lts as lts
-use Rattle.nlri.proofs.body.read_address.Reads as read-address-reads
 
 read-address-requires : tie.Need-read-address-requires
 read-address-requires c κs = search needs

@@ -1,12 +1,10 @@
+-- `nlri::body::read_inter_as` meets its contract.
 use Rattle.nlri.specs.Layouts.{readingOf}
 use Rattle.nlri.specs.Inner.{interAs, layoutWith}
 use Rattle.octets.proofs.Tests.{tests}
 use borrow.Author.Needs.{needs}
 use Rattle.nlri.proofs.body.read_inter_as.Statement.{statement}
 use Rattle.nlri.proofs.body.read_inter_as.Tie as tie
-use Rattle.nlri.proofs.body.read_inter_as.Reads as reads
-use Rattle.nlri.proofs.body.read_inter_as.Lts as lts
-use Rattle.nlri.proofs.body.ends.Reads as ends-reads
 
 returns : tie.Need-returns
 unfolding readingOf interAs layoutWith

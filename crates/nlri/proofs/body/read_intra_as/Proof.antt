@@ -1,12 +1,10 @@
+-- `nlri::body::read_intra_as` meets its contract.
 use Rattle.nlri.specs.Layouts.{readingOf}
 use Rattle.nlri.specs.Inner.{intraAs, layoutWith}
 use Rattle.octets.proofs.Tests.{tests}
 use borrow.Author.Needs.{needs}
 use Rattle.nlri.proofs.body.read_intra_as.Statement.{statement}
 use Rattle.nlri.proofs.body.read_intra_as.Tie as tie
-use Rattle.nlri.proofs.body.read_intra_as.Reads as reads
-use Rattle.nlri.proofs.body.read_intra_as.Lts as lts
-use Rattle.nlri.proofs.body.ends_in_originator.Reads as ends-in-originator-reads
 
 returns : tie.Need-returns
 unfolding readingOf intraAs layoutWith

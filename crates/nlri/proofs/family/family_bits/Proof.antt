@@ -1,10 +1,9 @@
+-- `nlri::family::family_bits` meets its contract.
 use Rattle.nlri.specs.Inner.{partOf}
 use Rattle.nlri.specs.Family.{familyBits}
 use Rattle.octets.proofs.Tests.{tests}
 use Rattle.nlri.proofs.family.family_bits.Statement.{statement}
 use Rattle.nlri.proofs.family.family_bits.Tie as tie
-use Rattle.nlri.proofs.family.family_bits.Reads as reads
-use Rattle.nlri.proofs.family.family_bits.Lts as lts
 
 returns : tie.Need-returns
 unfolding partOf familyBits

@@ -1,5 +1,6 @@
+-- `nlri::fields::address_at` meets its contract.
 use denote.Ref.{now}
-use mathlib.Core.Path.{_≡_, _∙_, sym, ap}
+use mathlib.Core.Path.{_∙_, ap}
 use native.Mathlib.Omega.{arith}
 use mathlib.Core.List.{List}
 use Prim.Native.Nat.{ℕ}
@@ -9,12 +10,6 @@ use Rattle.nlri.proofs.Copies.{empty-part, positive, take-part}
 use borrow.Author.Needs.{needs}
 use Rattle.nlri.proofs.fields.address_at.Statement.{statement}
 use Rattle.nlri.proofs.fields.address_at.Tie as tie
-use Rattle.nlri.proofs.fields.address_at.Reads as reads
-use Rattle.nlri.proofs.fields.address_at.Lts as lts
-use Rattle.nlri.proofs.address.AddressKind.ipv4.Reads as ipv4-reads
-use Rattle.nlri.proofs.address.AddressKind.ipv6.Reads as ipv6-reads
-use Rattle.nlri.proofs.address.AddressKind.wildcard.Reads as wildcard-reads
-use Rattle.octets.proofs.parts.between.Reads as between-reads
 
 wildcard-requires : tie.Need-wildcard-requires
 wildcard-requires c κs = search needs

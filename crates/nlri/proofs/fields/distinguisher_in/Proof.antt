@@ -1,3 +1,4 @@
+-- `nlri::fields::distinguisher_in` meets its contract.
 use denote.Ref.{now}
 use mathlib.Core.Path.{_≡_, _∙_, sym, ap}
 use native.Mathlib.Omega.{arith}
@@ -6,14 +7,11 @@ use borrow.Author.Tests.{eq-eqb, ne-eqb}
 use Rattle.octets.proofs.Outcomes.{pick-true, pick-false}
 use Rattle.nlri.specs.Answers.{distinguisherOf}
 use Rattle.nlri.specs.Inner.{distinguisherAt}
-use Rattle.nlri.proofs.Copies.{no-distinguisher, distinguisher-held, part-length}
+use Rattle.nlri.proofs.Copies.{no-distinguisher, distinguisher-held}
+use Rattle.octets.proofs.Lists.{part-length}
 use borrow.Author.Needs.{needs}
 use Rattle.nlri.proofs.fields.distinguisher_in.Statement.{statement}
 use Rattle.nlri.proofs.fields.distinguisher_in.Tie as tie
-use Rattle.nlri.proofs.fields.distinguisher_in.Reads as reads
-use Rattle.nlri.proofs.fields.distinguisher_in.Lts as lts
-use Rattle.bytes.proofs.copy.Reads as copy-reads
-use Rattle.octets.proofs.parts.between.Reads as between-reads
 
 returns : tie.Need-returns
 unfolding distinguisherAt

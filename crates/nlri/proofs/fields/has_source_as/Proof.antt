@@ -1,9 +1,8 @@
+-- `nlri::fields::has_source_as` meets its contract.
 use Rattle.nlri.specs.Inner.{withSourceAs}
 use Rattle.octets.proofs.Tests.{flags}
 use Rattle.nlri.proofs.fields.has_source_as.Statement.{statement}
 use Rattle.nlri.proofs.fields.has_source_as.Tie as tie
-use Rattle.nlri.proofs.fields.has_source_as.Reads as reads
-use Rattle.nlri.proofs.fields.has_source_as.Lts as lts
 
 returns : tie.Need-returns
 unfolding withSourceAs

@@ -1,12 +1,10 @@
+-- `nlri::fields::key_in` meets its contract.
 use mathlib.Core.Path.{sym}
 use borrow.Author.Tests.{eq-eqb, ne-eqb}
 use Rattle.octets.proofs.Outcomes.{pick-true, pick-false}
 use Rattle.nlri.specs.Inner.{keyAt}
-use Rattle.octets.proofs.Tests.{tests}
 use Rattle.nlri.proofs.fields.key_in.Statement.{statement}
 use Rattle.nlri.proofs.fields.key_in.Tie as tie
-use Rattle.nlri.proofs.fields.key_in.Reads as reads
-use Rattle.nlri.proofs.fields.key_in.Lts as lts
 
 returns : tie.Need-returns
 unfolding keyAt

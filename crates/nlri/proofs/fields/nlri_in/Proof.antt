@@ -1,5 +1,6 @@
+-- `nlri::fields::nlri_in` meets its contract.
 use denote.Ref.{now}
-use mathlib.Core.Path.{_≡_, refl, _∙_, sym, ap}
+use mathlib.Core.Path.{refl, _∙_, ap}
 use native.Mathlib.Omega.{arith}
 use Prim.Native.Nat.{ℕ, _+_}
 use Rattle.octets.specs.Octets.{part}
@@ -9,12 +10,6 @@ use Rattle.nlri.proofs.Singles.{start-most, nlri-same}
 use borrow.Author.Needs.{needs}
 use Rattle.nlri.proofs.fields.nlri_in.Statement.{statement}
 use Rattle.nlri.proofs.fields.nlri_in.Tie as tie
-use Rattle.nlri.proofs.fields.nlri_in.Reads as reads
-use Rattle.nlri.proofs.fields.nlri_in.Lts as lts
-use Rattle.nlri.proofs.fields.address_at.Reads as address-at-reads
-use Rattle.nlri.proofs.fields.distinguisher_in.Reads as distinguisher-in-reads
-use Rattle.nlri.proofs.fields.source_as_in.Reads as source-as-in-reads
-use Rattle.nlri.proofs.fields.source_start.Reads as source-start-reads
 
 source-start-requires : tie.Need-source-start-requires
 source-start-requires c κs = search needs

@@ -1,17 +1,11 @@
+-- `nlri::fields::read_nlri` meets its contract.
 use denote.Ref.{now}
-use mathlib.Core.Path.{_≡_, _∙_, sym, ap}
-use native.Mathlib.Omega.{arith}
+use mathlib.Core.Path.{_∙_}
 use Rattle.nlri.proofs.Singles.{read-by-layout, read-refused, key-same, answer-given, answer-refused}
 use Rattle.nlri.proofs.Via.{nlri-given, reading-refused}
 use borrow.Author.Needs.{needs}
 use Rattle.nlri.proofs.fields.read_nlri.Statement.{statement}
 use Rattle.nlri.proofs.fields.read_nlri.Tie as tie
-use Rattle.nlri.proofs.fields.read_nlri.Reads as reads
-use Rattle.nlri.proofs.fields.read_nlri.Lts as lts
-use Rattle.nlri.proofs.fields.key_in.Reads as key-in-reads
-use Rattle.nlri.proofs.fields.nlri_in.Reads as nlri-in-reads
-use Rattle.nlri.proofs.fields.refusal.Reads as refusal-reads
-use Rattle.nlri.proofs.read.read_layout.Reads as read-layout-reads
 
 read-layout-requires : tie.Need-read-layout-requires
 read-layout-requires c κs = search needs

@@ -1,3 +1,4 @@
+-- `nlri::fields::refusal` meets its contract.
 use mathlib.Core.Path.{refl}
 use Rattle.nlri.proofs.Copies.{no-distinguisher}
 use Rattle.nlri.proofs.Singles.{nlri-same}
@@ -7,9 +8,6 @@ use Rattle.nlri.specs.Answers.{readAnswer, nlriOf, noFields, keySpan}
 use borrow.Author.Needs.{needs}
 use Rattle.nlri.proofs.fields.refusal.Statement.{statement}
 use Rattle.nlri.proofs.fields.refusal.Tie as tie
-use Rattle.nlri.proofs.fields.refusal.Reads as reads
-use Rattle.nlri.proofs.fields.refusal.Lts as lts
-use Rattle.nlri.proofs.address.AddressKind.wildcard.Reads as wildcard-reads
 
 wildcard-requires : tie.Need-wildcard-requires
 wildcard-requires c κs = search needs

@@ -1,13 +1,10 @@
+-- `nlri::fields::source_as_in` meets its contract.
 use mathlib.Core.Path.{sym, _∙_}
 use Rattle.octets.proofs.Outcomes.{pick-true, pick-false}
 use Rattle.nlri.specs.Inner.{sourceAsAt}
 use borrow.Author.Needs.{needs}
 use Rattle.nlri.proofs.fields.source_as_in.Statement.{statement}
 use Rattle.nlri.proofs.fields.source_as_in.Tie as tie
-use Rattle.nlri.proofs.fields.source_as_in.Reads as reads
-use Rattle.nlri.proofs.fields.source_as_in.Lts as lts
-use Rattle.nlri.proofs.fields.has_source_as.Reads as has-source-as-reads
-use Rattle.octets.proofs.wide.four.Reads as four-reads
 
 has-source-as-requires : tie.Need-has-source-as-requires
 has-source-as-requires c κs = search needs

@@ -1,12 +1,10 @@
+-- `nlri::fields::source_start` meets its contract.
 use mathlib.Core.Path.{sym, _∙_}
 use Rattle.octets.proofs.Outcomes.{pick-true, pick-false}
 use Rattle.nlri.specs.Inner.{sourceStart}
 use borrow.Author.Needs.{needs}
 use Rattle.nlri.proofs.fields.source_start.Statement.{statement}
 use Rattle.nlri.proofs.fields.source_start.Tie as tie
-use Rattle.nlri.proofs.fields.source_start.Reads as reads
-use Rattle.nlri.proofs.fields.source_start.Lts as lts
-use Rattle.nlri.proofs.fields.has_source_as.Reads as has-source-as-reads
 
 has-source-as-requires : tie.Need-has-source-as-requires
 has-source-as-requires c κs = search needs

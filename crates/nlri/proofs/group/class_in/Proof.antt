@@ -1,9 +1,7 @@
+-- `nlri::group::class_in` meets its contract.
 use borrow.Author.Needs.{needs}
 use Rattle.nlri.proofs.group.class_in.Statement.{statement}
 use Rattle.nlri.proofs.group.class_in.Tie as tie
-use Rattle.nlri.proofs.group.class_in.Reads as reads
-use Rattle.nlri.proofs.group.class_in.Lts as lts
-use Rattle.nlri.proofs.group.class_under.Reads as class-under-reads
 
 class-under-requires : tie.Need-class-under-requires
 class-under-requires c κs = search needs

@@ -1,3 +1,4 @@
+-- `nlri::group::class_under` meets its contract.
 use mathlib.Core.Path.{sym, _∙_}
 use Rattle.octets.proofs.Tests.{tests}
 use Rattle.nlri.proofs.Via.{group-is}
@@ -5,12 +6,6 @@ use Rattle.nlri.specs.Groups.{classUnder}
 use borrow.Author.Needs.{needs}
 use Rattle.nlri.proofs.group.class_under.Statement.{statement}
 use Rattle.nlri.proofs.group.class_under.Tie as tie
-use Rattle.nlri.proofs.group.class_under.Reads as reads
-use Rattle.nlri.proofs.group.class_under.Lts as lts
-use Rattle.nlri.proofs.group.Group.given.Reads as given-reads
-use Rattle.nlri.proofs.group.Group.refused.Reads as refused-reads
-use Rattle.nlri.proofs.group.is_multicast.Reads as is-multicast-reads
-use Rattle.nlri.proofs.group.is_source_specific.Reads as is-source-specific-reads
 
 refused-requires : tie.Need-refused-requires
 refused-requires c κs = search needs

@@ -1,14 +1,10 @@
+-- `nlri::group::group_class` meets its contract.
 use Rattle.nlri.proofs.Families.{family-least}
 use Rattle.nlri.proofs.Via.{reads, group-is, size-given}
 use Rattle.nlri.specs.Groups.{classOf}
 use borrow.Author.Needs.{needs}
 use Rattle.nlri.proofs.group.group_class.Statement.{statement}
 use Rattle.nlri.proofs.group.group_class.Tie as tie
-use Rattle.nlri.proofs.group.group_class.Reads as reads
-use Rattle.nlri.proofs.group.group_class.Lts as lts
-use Rattle.nlri.proofs.family.family_bits.Reads as family-bits-reads
-use Rattle.nlri.proofs.group.Group.refused.Reads as refused-reads
-use Rattle.nlri.proofs.group.class_in.Reads as class-in-reads
 
 family-bits-requires : tie.Need-family-bits-requires
 family-bits-requires c κs = search needs

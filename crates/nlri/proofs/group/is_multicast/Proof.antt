@@ -1,10 +1,9 @@
+-- `nlri::group::is_multicast` meets its contract.
 use Rattle.nlri.specs.Groups.{multicast}
 use Rattle.octets.proofs.Tests.{flags}
 use borrow.Author.Needs.{needs}
 use Rattle.nlri.proofs.group.is_multicast.Statement.{statement}
 use Rattle.nlri.proofs.group.is_multicast.Tie as tie
-use Rattle.nlri.proofs.group.is_multicast.Reads as reads
-use Rattle.nlri.proofs.group.is_multicast.Lts as lts
 
 shared-slice-read-if2 : tie.Need-shared-slice-read-if2
 shared-slice-read-if2 c = search needs

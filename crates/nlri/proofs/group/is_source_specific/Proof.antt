@@ -1,10 +1,9 @@
+-- `nlri::group::is_source_specific` meets its contract.
 use Rattle.nlri.specs.Groups.{sourceSpecific}
 use Rattle.octets.proofs.Tests.{flags}
 use borrow.Author.Needs.{needs}
 use Rattle.nlri.proofs.group.is_source_specific.Statement.{statement}
 use Rattle.nlri.proofs.group.is_source_specific.Tie as tie
-use Rattle.nlri.proofs.group.is_source_specific.Reads as reads
-use Rattle.nlri.proofs.group.is_source_specific.Lts as lts
 
 shared-slice-read-result : tie.Need-shared-slice-read-result
 shared-slice-read-result c = search needs

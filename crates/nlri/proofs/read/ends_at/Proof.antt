@@ -1,11 +1,10 @@
+-- `nlri::read::ends_at` meets its contract.
 use Rattle.nlri.specs.Layouts.{readingOf}
 use Rattle.nlri.specs.Inner.{endsWith}
 use Rattle.octets.proofs.Tests.{tests}
 use borrow.Author.Needs.{needs}
 use Rattle.nlri.proofs.read.ends_at.Statement.{statement}
 use Rattle.nlri.proofs.read.ends_at.Tie as tie
-use Rattle.nlri.proofs.read.ends_at.Reads as reads
-use Rattle.nlri.proofs.read.ends_at.Lts as lts
 
 sub-if1 : tie.Need-sub-if1
 sub-if1 c = search needs

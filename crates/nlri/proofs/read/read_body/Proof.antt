@@ -1,15 +1,10 @@
+-- `nlri::read::read_body` meets its contract.
 use Rattle.nlri.specs.Layouts.{readingOf}
 use Rattle.nlri.specs.Inner.{anyBody, bodyWith}
 use Rattle.nlri.proofs.Via.{reads}
 use borrow.Author.Needs.{needs}
 use Rattle.nlri.proofs.read.read_body.Statement.{statement}
 use Rattle.nlri.proofs.read.read_body.Tie as tie
-use Rattle.nlri.proofs.read.read_body.Reads as reads
-use Rattle.nlri.proofs.read.read_body.Lts as lts
-use Rattle.nlri.proofs.body.read_flow_route.Reads as read-flow-route-reads
-use Rattle.nlri.proofs.body.read_inter_as.Reads as read-inter-as-reads
-use Rattle.nlri.proofs.body.read_intra_as.Reads as read-intra-as-reads
-use Rattle.nlri.proofs.read.read_leaf.Reads as read-leaf-reads
 
 read-intra-as-requires : tie.Need-read-intra-as-requires
 read-intra-as-requires c κs = search needs

@@ -1,6 +1,5 @@
-use mathlib.Core.Path.{_∙_, sym, ap}
-use denote.Ref.{now}
-use lib.ListN.{length, drop}
+-- `nlri::read::read_front` meets its contract.
+use mathlib.Core.Path.{_∙_, ap}
 use Rattle.nlri.proofs.Sizes.{header-within}
 use Rattle.nlri.proofs.Via.{typed-given, reads}
 use Rattle.nlri.proofs.Fronts.{front-is}
@@ -9,11 +8,6 @@ use Rattle.nlri.specs.Layouts.{readingOf}
 use borrow.Author.Needs.{needs}
 use Rattle.nlri.proofs.read.read_front.Statement.{statement}
 use Rattle.nlri.proofs.read.read_front.Tie as tie
-use Rattle.nlri.proofs.read.read_front.Reads as reads
-use Rattle.nlri.proofs.read.read_front.Lts as lts
-use Rattle.nlri.proofs.read.read_body.Reads as read-body-reads
-use Rattle.nlri.proofs.read.read_header.Reads as read-header-reads
-use Rattle.octets.proofs.parts.between.Reads as between-reads
 
 read-header-requires : tie.Need-read-header-requires
 read-header-requires c κs = search needs

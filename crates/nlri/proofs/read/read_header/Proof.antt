@@ -1,12 +1,10 @@
+-- `nlri::read::read_header` meets its contract.
 use native.Mathlib.Omega.{arith}
-use Rattle.nlri.specs.Inner.{headerOf}
-use Rattle.nlri.specs.Inner.{header}
+use Rattle.nlri.specs.Inner.{headerOf, header}
 use Rattle.octets.proofs.Tests.{tests}
 use borrow.Author.Needs.{needs}
 use Rattle.nlri.proofs.read.read_header.Statement.{statement}
 use Rattle.nlri.proofs.read.read_header.Tie as tie
-use Rattle.nlri.proofs.read.read_header.Reads as reads
-use Rattle.nlri.proofs.read.read_header.Lts as lts
 
 returns : tie.Need-returns
 unfolding headerOf header

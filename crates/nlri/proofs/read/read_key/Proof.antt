@@ -1,3 +1,4 @@
+-- `nlri::read::read_key` meets its contract.
 use native.Mathlib.Omega.{arith}
 use Rattle.nlri.proofs.Via.{nlri-given, reads}
 use Rattle.nlri.proofs.Fronts.{key-is, unkeyed-within}
@@ -5,9 +6,6 @@ use Rattle.nlri.specs.Inner.{partOf, keySize}
 use borrow.Author.Needs.{needs}
 use Rattle.nlri.proofs.read.read_key.Statement.{statement}
 use Rattle.nlri.proofs.read.read_key.Tie as tie
-use Rattle.nlri.proofs.read.read_key.Reads as reads
-use Rattle.nlri.proofs.read.read_key.Lts as lts
-use Rattle.nlri.proofs.read.read_unkeyed.Reads as read-unkeyed-reads
 
 read-unkeyed-requires : tie.Need-read-unkeyed-requires
 read-unkeyed-requires c κs = search needs

@@ -1,13 +1,10 @@
+-- `nlri::read::read_layout` meets its contract.
 use Rattle.nlri.specs.Layouts.{readingOf}
 use Rattle.nlri.proofs.Via.{reads}
 use Rattle.nlri.proofs.Singles.{single-is}
 use borrow.Author.Needs.{needs}
 use Rattle.nlri.proofs.read.read_layout.Statement.{statement}
 use Rattle.nlri.proofs.read.read_layout.Tie as tie
-use Rattle.nlri.proofs.read.read_layout.Reads as reads
-use Rattle.nlri.proofs.read.read_layout.Lts as lts
-use Rattle.nlri.proofs.family.family_bits.Reads as family-bits-reads
-use Rattle.nlri.proofs.read.read_single.Reads as read-single-reads
 
 family-bits-requires : tie.Need-family-bits-requires
 family-bits-requires c κs = search needs

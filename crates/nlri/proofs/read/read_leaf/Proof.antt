@@ -1,3 +1,4 @@
+-- `nlri::read::read_leaf` meets its contract.
 use Rattle.nlri.proofs.Fronts.{key-within}
 use Rattle.nlri.proofs.Via.{size-given, reads}
 use Rattle.nlri.specs.Layouts.{readingOf}
@@ -5,10 +6,6 @@ use Rattle.nlri.specs.Inner.{leaf, layoutWith}
 use borrow.Author.Needs.{needs}
 use Rattle.nlri.proofs.read.read_leaf.Statement.{statement}
 use Rattle.nlri.proofs.read.read_leaf.Tie as tie
-use Rattle.nlri.proofs.read.read_leaf.Reads as reads
-use Rattle.nlri.proofs.read.read_leaf.Lts as lts
-use Rattle.nlri.proofs.body.ends_in_originator.Reads as ends-in-originator-reads
-use Rattle.nlri.proofs.read.read_key.Reads as read-key-reads
 
 read-key-requires : tie.Need-read-key-requires
 read-key-requires c κs = search needs

@@ -1,16 +1,12 @@
+-- `nlri::read::read_single` meets its contract.
 use native.Mathlib.Omega.{arith}
 use Rattle.nlri.proofs.Steps.{layout-within}
-use Rattle.nlri.proofs.Via.{nlri-given}
+use Rattle.nlri.proofs.Via.{nlri-given, reads}
 use Rattle.nlri.specs.Layouts.{readingOf}
 use Rattle.nlri.specs.Inner.{single}
-use Rattle.nlri.proofs.Via.{reads}
 use borrow.Author.Needs.{needs}
 use Rattle.nlri.proofs.read.read_single.Statement.{statement}
 use Rattle.nlri.proofs.read.read_single.Tie as tie
-use Rattle.nlri.proofs.read.read_single.Reads as reads
-use Rattle.nlri.proofs.read.read_single.Lts as lts
-use Rattle.nlri.proofs.read.ends_at.Reads as ends-at-reads
-use Rattle.nlri.proofs.read.read_front.Reads as read-front-reads
 
 read-front-requires : tie.Need-read-front-requires
 read-front-requires c κs = search needs

@@ -1,20 +1,12 @@
-use mathlib.Core.Path.{_∙_, sym, ap}
-use denote.Ref.{now}
-use lib.ListN.{length, drop}
+-- `nlri::read::read_unkeyed` meets its contract.
+use mathlib.Core.Path.{_∙_, ap}
 use Rattle.nlri.proofs.Sizes.{header-within}
-use Rattle.nlri.proofs.Via.{typed-given}
-use Rattle.nlri.specs.Inner.{unkeyedBody}
+use Rattle.nlri.proofs.Via.{typed-given, reads}
+use Rattle.nlri.specs.Inner.{unkeyedBody, unkeyed}
 use Rattle.nlri.specs.Layouts.{readingOf}
-use Rattle.nlri.specs.Inner.{unkeyed}
-use Rattle.nlri.proofs.Via.{reads}
 use borrow.Author.Needs.{needs}
 use Rattle.nlri.proofs.read.read_unkeyed.Statement.{statement}
 use Rattle.nlri.proofs.read.read_unkeyed.Tie as tie
-use Rattle.nlri.proofs.read.read_unkeyed.Reads as reads
-use Rattle.nlri.proofs.read.read_unkeyed.Lts as lts
-use Rattle.nlri.proofs.body.read_unkeyed_body.Reads as read-unkeyed-body-reads
-use Rattle.nlri.proofs.read.read_header.Reads as read-header-reads
-use Rattle.octets.proofs.parts.between.Reads as between-reads
 
 read-header-requires : tie.Need-read-header-requires
 read-header-requires c κs = search needs

@@ -1,3 +1,4 @@
+-- `nlri::run::step_under` meets its contract.
 use mathlib.Core.Path.{_∙_, ap}
 use Prim.Native.Nat.{_+_, _≤_}
 use native.Mathlib.Omega.{arith}
@@ -11,10 +12,6 @@ use Rattle.nlri.proofs.Steps.{layout-within}
 use borrow.Author.Needs.{needs}
 use Rattle.nlri.proofs.run.step_under.Statement.{statement}
 use Rattle.nlri.proofs.run.step_under.Tie as tie
-use Rattle.nlri.proofs.run.step_under.Reads as reads
-use Rattle.nlri.proofs.run.step_under.Lts as lts
-use Rattle.nlri.proofs.read.read_front.Reads as read-front-reads
-use Rattle.octets.proofs.parts.after.Reads as after-reads
 
 returns : tie.Need-returns
 unfolding steppedOf stepUnder

@@ -1,3 +1,4 @@
+-- `nlri::run::walk` meets its contract.
 use Prim.Native.Nat.{_-_}
 use native.Mathlib.Omega.{arith}
 use borrow.Author.Needs.{needs}
@@ -5,9 +6,6 @@ use lib.ListN.{length}
 use Rattle.nlri.proofs.Steps.{Going, going-first, going-next, going-last, step-read, step-ended, step-refused, step-moves}
 use Rattle.nlri.proofs.run.walk.Statement.{statement}
 use Rattle.nlri.proofs.run.walk.Tie as tie
-use Rattle.nlri.proofs.run.walk.Reads as reads
-use Rattle.nlri.proofs.run.walk.Lts as lts
-use Rattle.nlri.proofs.run.Cursor.step.Reads as step-reads
 
 abbrev Inv-loop : tie.InvT-loop
 Inv-loop afi run cursor₀ count₀ cursor count = Going afi run (cursor .at) count

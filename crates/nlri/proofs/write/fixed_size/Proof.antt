@@ -1,12 +1,10 @@
+-- `nlri::write::fixed_size` meets its contract.
 use Rattle.nlri.specs.InnerWriting.{fixedSize}
 use Rattle.octets.proofs.Tests.{tests}
 use mathlib.Core.Path.{sym, _∙_}
 use borrow.Author.Needs.{needs}
 use Rattle.nlri.proofs.write.fixed_size.Statement.{statement}
 use Rattle.nlri.proofs.write.fixed_size.Tie as tie
-use Rattle.nlri.proofs.write.fixed_size.Reads as reads
-use Rattle.nlri.proofs.write.fixed_size.Lts as lts
-use Rattle.nlri.proofs.fields.has_source_as.Reads as has-source-as-reads
 
 returns : tie.Need-returns
 unfolding fixedSize

@@ -1,13 +1,10 @@
+-- `nlri::write::flow_fits` meets its contract.
 use Rattle.nlri.specs.InnerWriting.{flowFits}
 use Rattle.octets.proofs.Tests.{flags}
 use mathlib.Core.Path.{sym, _∙_}
 use borrow.Author.Needs.{needs}
 use Rattle.nlri.proofs.write.flow_fits.Statement.{statement}
 use Rattle.nlri.proofs.write.flow_fits.Tie as tie
-use Rattle.nlri.proofs.write.flow_fits.Reads as reads
-use Rattle.nlri.proofs.write.flow_fits.Lts as lts
-use Rattle.nlri.proofs.body.is_allowed.Reads as is-allowed-reads
-use Rattle.nlri.proofs.write.has_flow.Reads as has-flow-reads
 
 has-flow-requires : tie.Need-has-flow-requires
 has-flow-requires c κs = search needs

@@ -1,12 +1,10 @@
+-- `nlri::write::flow_size` meets its contract.
 use Rattle.nlri.specs.InnerWriting.{flowSize}
 use Rattle.octets.proofs.Tests.{tests}
 use mathlib.Core.Path.{sym, _∙_}
 use borrow.Author.Needs.{needs}
 use Rattle.nlri.proofs.write.flow_size.Statement.{statement}
 use Rattle.nlri.proofs.write.flow_size.Tie as tie
-use Rattle.nlri.proofs.write.flow_size.Reads as reads
-use Rattle.nlri.proofs.write.flow_size.Lts as lts
-use Rattle.nlri.proofs.write.has_flow.Reads as has-flow-reads
 
 has-flow-requires : tie.Need-has-flow-requires
 has-flow-requires c κs = search needs

@@ -1,9 +1,8 @@
+-- `nlri::write::has_flow` meets its contract.
 use Rattle.nlri.specs.InnerWriting.{hasFlow}
 use Rattle.octets.proofs.Tests.{flags}
 use Rattle.nlri.proofs.write.has_flow.Statement.{statement}
 use Rattle.nlri.proofs.write.has_flow.Tie as tie
-use Rattle.nlri.proofs.write.has_flow.Reads as reads
-use Rattle.nlri.proofs.write.has_flow.Lts as lts
 
 returns : tie.Need-returns
 unfolding hasFlow

@@ -1,9 +1,8 @@
+-- `nlri::write::has_originator` meets its contract.
 use Rattle.nlri.specs.InnerWriting.{hasOriginator}
 use Rattle.octets.proofs.Tests.{flags}
 use Rattle.nlri.proofs.write.has_originator.Statement.{statement}
 use Rattle.nlri.proofs.write.has_originator.Tie as tie
-use Rattle.nlri.proofs.write.has_originator.Reads as reads
-use Rattle.nlri.proofs.write.has_originator.Lts as lts
 
 returns : tie.Need-returns
 unfolding hasOriginator

@@ -1,12 +1,9 @@
+-- `nlri::write::is_key` meets its contract.
 use Rattle.nlri.specs.Writing.{isKey}
 use Rattle.nlri.proofs.Via.{reads}
-use mathlib.Core.Path.{sym, _∙_}
 use borrow.Author.Needs.{needs}
 use Rattle.nlri.proofs.write.is_key.Statement.{statement}
 use Rattle.nlri.proofs.write.is_key.Tie as tie
-use Rattle.nlri.proofs.write.is_key.Reads as reads
-use Rattle.nlri.proofs.write.is_key.Lts as lts
-use Rattle.nlri.proofs.read.read_key.Reads as read-key-reads
 
 read-key-requires : tie.Need-read-key-requires
 read-key-requires c κs = search needs

@@ -1,14 +1,10 @@
+-- `nlri::write::judge` meets its contract.
 use Rattle.nlri.specs.InnerWriting.{judged}
 use Rattle.octets.proofs.Tests.{tests}
 use mathlib.Core.Path.{sym, _∙_}
 use borrow.Author.Needs.{needs}
 use Rattle.nlri.proofs.write.judge.Statement.{statement}
 use Rattle.nlri.proofs.write.judge.Tie as tie
-use Rattle.nlri.proofs.write.judge.Reads as reads
-use Rattle.nlri.proofs.write.judge.Lts as lts
-use Rattle.nlri.proofs.write.flow_fits.Reads as flow-fits-reads
-use Rattle.nlri.proofs.write.key_fits.Reads as key-fits-reads
-use Rattle.nlri.proofs.write.originator_fits.Reads as originator-fits-reads
 
 cast-route-type : tie.Need-cast-route-type
 cast-route-type c = search needs

@@ -1,13 +1,10 @@
+-- `nlri::write::originator_fits` meets its contract.
 use Rattle.nlri.specs.InnerWriting.{originatorFits}
 use Rattle.octets.proofs.Tests.{tests}
 use mathlib.Core.Path.{sym, _∙_}
 use borrow.Author.Needs.{needs}
 use Rattle.nlri.proofs.write.originator_fits.Statement.{statement}
 use Rattle.nlri.proofs.write.originator_fits.Tie as tie
-use Rattle.nlri.proofs.write.originator_fits.Reads as reads
-use Rattle.nlri.proofs.write.originator_fits.Lts as lts
-use Rattle.nlri.proofs.body.is_originator_size.Reads as is-originator-size-reads
-use Rattle.nlri.proofs.write.has_originator.Reads as has-originator-reads
 
 has-originator-requires : tie.Need-has-originator-requires
 has-originator-requires c κs = search needs

@@ -1,12 +1,10 @@
+-- `nlri::write::originator_length` meets its contract.
 use Rattle.nlri.specs.InnerWriting.{originatorLength}
 use Rattle.octets.proofs.Tests.{tests}
 use mathlib.Core.Path.{sym, _∙_}
 use borrow.Author.Needs.{needs}
 use Rattle.nlri.proofs.write.originator_length.Statement.{statement}
 use Rattle.nlri.proofs.write.originator_length.Tie as tie
-use Rattle.nlri.proofs.write.originator_length.Reads as reads
-use Rattle.nlri.proofs.write.originator_length.Lts as lts
-use Rattle.nlri.proofs.write.has_originator.Reads as has-originator-reads
 
 has-originator-requires : tie.Need-has-originator-requires
 has-originator-requires c κs = search needs

@@ -1,18 +1,11 @@
+-- `nlri::write::put` meets its contract.
 use Rattle.octets.proofs.Lists.{put-as, put-then, put-length}
 use Rattle.nlri.proofs.Puts.{all-length, all-put, put-all}
-use lib.Seq.{length-take-le}
-use lib.ListN.{length, take}
 use native.Mathlib.Omega.{arith}
-use Prim.Native.Nat.{ℕ, _+_, _≤_, _<_}
-use mathlib.Core.Path.{_≡_, refl, _∙_, sym, ap}
 use denote.Ref.{now}
 use borrow.Author.Needs.{needs}
 use Rattle.nlri.proofs.write.put.Statement.{statement}
 use Rattle.nlri.proofs.write.put.Tie as tie
-use Rattle.nlri.proofs.write.put.Reads as reads
-use Rattle.nlri.proofs.write.put.Lts as lts
-use Rattle.nlri.proofs.write.put_body.Reads as put-body-reads
-use Rattle.nlri.proofs.write.put_header.Reads as put-header-reads
 
 sub-put-header : tie.Need-sub-put-header
 sub-put-header c =

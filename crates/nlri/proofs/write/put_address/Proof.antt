@@ -1,21 +1,14 @@
+-- `nlri::write::put_address` meets its contract.
 use Prim.Native.Nat.{_*_}
 use mathlib.Core.List.{[], _∷_}
 use Rattle.nlri.specs.Answers.{octetsOf}
 use Rattle.octets.proofs.Lists.{put-as, put-then, put-length}
 use Rattle.nlri.proofs.Puts.{address-room, address-split}
-use lib.Seq.{length-take-le}
-use lib.ListN.{length, take}
 use native.Mathlib.Omega.{arith}
-use Prim.Native.Nat.{ℕ, _+_, _≤_, _<_}
-use mathlib.Core.Path.{_≡_, refl, _∙_, sym, ap}
 use denote.Ref.{now}
 use borrow.Author.Needs.{needs}
 use Rattle.nlri.proofs.write.put_address.Statement.{statement}
 use Rattle.nlri.proofs.write.put_address.Tie as tie
-use Rattle.nlri.proofs.write.put_address.Reads as reads
-use Rattle.nlri.proofs.write.put_address.Lts as lts
-use Rattle.nlri.proofs.write.put_octets.Reads as put-octets-reads
-use Rattle.octets.proofs.parts.place.Reads as place-reads
 
 mul-t6 : tie.Need-mul-t6
 mul-t6 c = search needs

@@ -1,21 +1,13 @@
+-- `nlri::write::put_body` meets its contract.
 use lib.ListN.{length-append}
 use Rattle.nlri.specs.InnerWriting.{bodyOctets, flowOctets, originatorOctets}
 use Rattle.octets.proofs.Lists.{put-then, put-length}
 use Rattle.nlri.proofs.Puts.{body-length}
-use lib.Seq.{length-take-le}
-use lib.ListN.{length, take}
 use native.Mathlib.Omega.{arith}
-use Prim.Native.Nat.{ℕ, _+_, _≤_, _<_}
-use mathlib.Core.Path.{_≡_, refl, _∙_, sym, ap}
 use denote.Ref.{now}
 use borrow.Author.Needs.{needs}
 use Rattle.nlri.proofs.write.put_body.Statement.{statement}
 use Rattle.nlri.proofs.write.put_body.Tie as tie
-use Rattle.nlri.proofs.write.put_body.Reads as reads
-use Rattle.nlri.proofs.write.put_body.Lts as lts
-use Rattle.nlri.proofs.write.put_fixed.Reads as put-fixed-reads
-use Rattle.nlri.proofs.write.put_flow.Reads as put-flow-reads
-use Rattle.nlri.proofs.write.put_originator.Reads as put-originator-reads
 
 put-fixed-requires : tie.Need-put-fixed-requires
 put-fixed-requires c κs =

@@ -1,21 +1,15 @@
+-- `nlri::write::put_fixed` meets its contract.
 use borrow.Author.Tests.{eq-eqb, ne-eqb}
-use lib.ListN.{length-append}
+use lib.ListN.{length-append, length}
 use Rattle.nlri.specs.InnerWriting.{numberOctets}
 use Rattle.octets.proofs.Lists.{put-as, put-then, put-length}
 use Rattle.nlri.proofs.Puts.{fixed-key, fixed-distinguisher}
-use lib.Seq.{length-take-le}
-use lib.ListN.{length, take}
 use native.Mathlib.Omega.{arith}
-use Prim.Native.Nat.{ℕ, _+_, _≤_, _<_}
-use mathlib.Core.Path.{_≡_, refl, _∙_, sym, ap}
+use mathlib.Core.Path.{_∙_, sym, ap}
 use denote.Ref.{now}
 use borrow.Author.Needs.{needs}
 use Rattle.nlri.proofs.write.put_fixed.Statement.{statement}
 use Rattle.nlri.proofs.write.put_fixed.Tie as tie
-use Rattle.nlri.proofs.write.put_fixed.Reads as reads
-use Rattle.nlri.proofs.write.put_fixed.Lts as lts
-use Rattle.nlri.proofs.write.put_source_as.Reads as put-source-as-reads
-use Rattle.octets.proofs.parts.place.Reads as place-reads
 
 cast-if1 : tie.Need-cast-if1
 cast-if1 c = search needs

@@ -1,22 +1,15 @@
+-- `nlri::write::put_flow` meets its contract.
 use Rattle.nlri.specs.Fields.{encodeAddress}
-use lib.ListN.{length-append}
+use lib.ListN.{length-append, length}
 use mathlib.Core.List.{[]}
 use Rattle.nlri.specs.Answers.{octetsOf}
 use Rattle.octets.proofs.Lists.{put-as, put-none, put-then, put-length}
 use Rattle.nlri.proofs.Puts.{flow-there, flow-none}
-use lib.Seq.{length-take-le}
-use lib.ListN.{length, take}
 use native.Mathlib.Omega.{arith}
-use Prim.Native.Nat.{ℕ, _+_, _≤_, _<_}
-use mathlib.Core.Path.{_≡_, refl, _∙_, sym, ap}
-use denote.Ref.{now}
+use mathlib.Core.Path.{_∙_, sym, ap}
 use borrow.Author.Needs.{needs}
 use Rattle.nlri.proofs.write.put_flow.Statement.{statement}
 use Rattle.nlri.proofs.write.put_flow.Tie as tie
-use Rattle.nlri.proofs.write.put_flow.Reads as reads
-use Rattle.nlri.proofs.write.put_flow.Lts as lts
-use Rattle.nlri.proofs.write.has_flow.Reads as has-flow-reads
-use Rattle.nlri.proofs.write.put_address.Reads as put-address-reads
 
 cast-has-flow : tie.Need-cast-has-flow
 cast-has-flow c = search needs

@@ -1,9 +1,10 @@
+-- `nlri::write::put_octets` meets its contract.
 use Rattle.octets.proofs.Lists.{put-as, put-none}
 use Rattle.nlri.proofs.Puts.{octets-length, octets-taken, octets-all, octets-none}
 use lib.Seq.{length-take-le}
 use lib.ListN.{length}
 use native.Mathlib.Omega.{arith}
-use mathlib.Core.Path.{_≡_, sym, _∙_}
+use mathlib.Core.Path.{_≡_, sym}
 use borrow.Author.Needs.{needs}
 use Rattle.nlri.proofs.write.put_octets.Statement.{statement}
 use Rattle.nlri.proofs.write.put_octets.Tie as tie

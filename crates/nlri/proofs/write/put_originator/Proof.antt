@@ -1,19 +1,13 @@
+-- `nlri::write::put_originator` meets its contract.
 use mathlib.Core.List.{[]}
 use Rattle.octets.proofs.Lists.{put-as, put-none}
 use Rattle.nlri.proofs.Puts.{originator-there, originator-none}
-use lib.Seq.{length-take-le}
-use lib.ListN.{length, take}
+use lib.ListN.{length}
 use native.Mathlib.Omega.{arith}
-use Prim.Native.Nat.{ℕ, _+_, _≤_, _<_}
-use mathlib.Core.Path.{_≡_, refl, _∙_, sym, ap}
-use denote.Ref.{now}
+use mathlib.Core.Path.{_∙_, sym, ap}
 use borrow.Author.Needs.{needs}
 use Rattle.nlri.proofs.write.put_originator.Statement.{statement}
 use Rattle.nlri.proofs.write.put_originator.Tie as tie
-use Rattle.nlri.proofs.write.put_originator.Reads as reads
-use Rattle.nlri.proofs.write.put_originator.Lts as lts
-use Rattle.nlri.proofs.write.has_originator.Reads as has-originator-reads
-use Rattle.nlri.proofs.write.put_octets.Reads as put-octets-reads
 
 cast-has-originator : tie.Need-cast-has-originator
 cast-has-originator c = search needs

@@ -1,20 +1,15 @@
+-- `nlri::write::put_source_as` meets its contract.
 use Rattle.octets.proofs.NetworkOrder.{big-endian-length}
 use mathlib.Core.List.{[]}
 use Rattle.octets.proofs.Lists.{put-as, put-none}
 use Rattle.nlri.proofs.Puts.{number-there, number-none}
-use lib.Seq.{length-take-le}
-use lib.ListN.{length, take}
+use lib.ListN.{length}
 use native.Mathlib.Omega.{arith}
-use Prim.Native.Nat.{ℕ, _+_, _≤_, _<_}
-use mathlib.Core.Path.{_≡_, refl, _∙_, sym, ap}
-use denote.Ref.{now}
+use Prim.Native.Nat.{ℕ, _+_}
+use mathlib.Core.Path.{_∙_, sym, ap}
 use borrow.Author.Needs.{needs}
 use Rattle.nlri.proofs.write.put_source_as.Statement.{statement}
 use Rattle.nlri.proofs.write.put_source_as.Tie as tie
-use Rattle.nlri.proofs.write.put_source_as.Reads as reads
-use Rattle.nlri.proofs.write.put_source_as.Lts as lts
-use Rattle.nlri.proofs.fields.has_source_as.Reads as has-source-as-reads
-use Rattle.octets.proofs.wide.place_four.Reads as place-four-reads
 
 cast-has-source-as : tie.Need-cast-has-source-as
 cast-has-source-as c = search needs

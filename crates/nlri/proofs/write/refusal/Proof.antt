@@ -1,10 +1,9 @@
+-- `nlri::write::refusal` meets its contract.
 use Rattle.octets.specs.Outcome.{numberOf, onOutcome}
 use Rattle.octets.specs.Outputs.{writtenOf}
 use mathlib.Core.Path.{refl}
 use Rattle.nlri.proofs.write.refusal.Statement.{statement}
 use Rattle.nlri.proofs.write.refusal.Tie as tie
-use Rattle.nlri.proofs.write.refusal.Reads as reads
-use Rattle.nlri.proofs.write.refusal.Lts as lts
 
 returns : tie.Need-returns
 unfolding writtenOf numberOf onOutcome

@@ -1,19 +1,11 @@
+-- `nlri::write::size_of` meets its contract.
 use Rattle.nlri.specs.InnerWriting.{sizeOf}
 use Rattle.nlri.proofs.Puts.{fixed-most, flow-most, originator-most}
-use lib.Seq.{length-take-le}
-use lib.ListN.{length, take}
 use native.Mathlib.Omega.{arith}
-use Prim.Native.Nat.{ℕ, _+_, _≤_, _<_}
-use mathlib.Core.Path.{_≡_, refl, _∙_, sym, ap}
-use denote.Ref.{now}
+use Prim.Native.Nat.{_<_}
 use borrow.Author.Needs.{needs}
 use Rattle.nlri.proofs.write.size_of.Statement.{statement}
 use Rattle.nlri.proofs.write.size_of.Tie as tie
-use Rattle.nlri.proofs.write.size_of.Reads as reads
-use Rattle.nlri.proofs.write.size_of.Lts as lts
-use Rattle.nlri.proofs.write.fixed_size.Reads as fixed-size-reads
-use Rattle.nlri.proofs.write.flow_size.Reads as flow-size-reads
-use Rattle.nlri.proofs.write.originator_length.Reads as originator-length-reads
 
 cast-route-type : tie.Need-cast-route-type
 cast-route-type c = search needs

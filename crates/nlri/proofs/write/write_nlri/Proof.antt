@@ -1,3 +1,4 @@
+-- `nlri::write::write_nlri` meets its contract.
 use Rattle.nlri.proofs.Judges.{answers, untouched, write-is}
 use Rattle.nlri.proofs.Via.{size-given, fault-given}
 use Rattle.nlri.proofs.Families.{family-is}
@@ -8,11 +9,6 @@ use denote.Ref.{now}
 use borrow.Author.Needs.{needs}
 use Rattle.nlri.proofs.write.write_nlri.Statement.{statement}
 use Rattle.nlri.proofs.write.write_nlri.Tie as tie
-use Rattle.nlri.proofs.write.write_nlri.Reads as reads
-use Rattle.nlri.proofs.write.write_nlri.Lts as lts
-use Rattle.nlri.proofs.family.family_bits.Reads as family-bits-reads
-use Rattle.nlri.proofs.write.refusal.Reads as refusal-reads
-use Rattle.nlri.proofs.write.write_under.Reads as write-under-reads
 
 family-bits-requires : tie.Need-family-bits-requires
 family-bits-requires c κs = search needs

@@ -1,3 +1,4 @@
+-- `nlri::write::write_under` meets its contract.
 use Rattle.nlri.proofs.Judges.{answers, untouched, refused-under, space-under, given-under, key-short, keyed, sized-nlri, size-short, at-most}
 use Rattle.nlri.proofs.Puts.{size-is}
 use Rattle.octets.specs.Outcome.{refused}
@@ -8,12 +9,6 @@ use denote.Ref.{now}
 use borrow.Author.Needs.{needs}
 use Rattle.nlri.proofs.write.write_under.Statement.{statement}
 use Rattle.nlri.proofs.write.write_under.Tie as tie
-use Rattle.nlri.proofs.write.write_under.Reads as reads
-use Rattle.nlri.proofs.write.write_under.Lts as lts
-use Rattle.nlri.proofs.write.judge.Reads as judge-reads
-use Rattle.nlri.proofs.write.put.Reads as put-reads
-use Rattle.nlri.proofs.write.refusal.Reads as refusal-reads
-use Rattle.nlri.proofs.write.size_of.Reads as size-of-reads
 
 judge-requires : tie.Need-judge-requires
 judge-requires c κs = search needs

@@ -1,3 +1,4 @@
+-- `octets::parts::after` meets its contract.
 use Prim.Native.Nat.{_-_}
 use native.Mathlib.Omega.{arith}
 use denote.Ref.{now}
@@ -6,8 +7,6 @@ use lib.Seq.{take-all}
 use borrow.Author.Needs.{needs}
 use Rattle.octets.proofs.parts.after.Statement.{statement}
 use Rattle.octets.proofs.parts.after.Tie as tie
-use Rattle.octets.proofs.parts.after.Reads as reads
-use Rattle.octets.proofs.parts.after.Lts as lts
 
 sub-result : tie.Need-sub-result
 sub-result c = search needs

@@ -1,3 +1,4 @@
+-- `octets::parts::between` meets its contract.
 use Prim.Native.Nat.{ℕ}
 use native.Mathlib.Nat.{add-sub-cancel-left}
 use mathlib.Core.Path.{ap}
@@ -7,8 +8,6 @@ use Rattle.octets.specs.Octets.{part}
 use borrow.Author.Needs.{needs}
 use Rattle.octets.proofs.parts.between.Statement.{statement}
 use Rattle.octets.proofs.parts.between.Tie as tie
-use Rattle.octets.proofs.parts.between.Reads as reads
-use Rattle.octets.proofs.parts.between.Lts as lts
 
 add-result : tie.Need-add-result
 add-result c = search needs

@@ -1,11 +1,9 @@
+-- `octets::parts::place` meets its contract.
 use denote.Ref.{now}
 use Rattle.octets.proofs.Lists.{lent-placed}
 use borrow.Author.Needs.{needs}
 use Rattle.octets.proofs.parts.place.Statement.{statement}
 use Rattle.octets.proofs.parts.place.Tie as tie
-use Rattle.octets.proofs.parts.place.Reads as reads
-use Rattle.octets.proofs.parts.place.Lts as lts
-use Rattle.bytes.proofs.copy.Reads as copy-reads
 
 sub-copy : tie.Need-sub-copy
 sub-copy c = search needs

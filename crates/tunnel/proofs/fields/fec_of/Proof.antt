@@ -1,5 +1,4 @@
 -- `tunnel::fields::fec_of` meets its contract: an mLDP tunnel type's identifier without a fault is a FEC.
-use denote.Ref.{now}
 use Rattle.tunnel.proofs.Laws.{calls, mldp-whole, mldp-fec, no-mldp}
 use Rattle.tunnel.specs.Answers.{noFec}
 use borrow.Author.Needs.{needs}

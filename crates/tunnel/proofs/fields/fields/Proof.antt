@@ -3,7 +3,6 @@ use native.Mathlib.Omega.{arith}
 use denote.Ref.{now}
 use borrow.Author.Needs.{needs}
 use Rattle.tunnel.proofs.Laws.{fields-are}
-use borrow.Author.Needs.{needs}
 use Rattle.tunnel.proofs.fields.fields.Statement.{statement}
 use Rattle.tunnel.proofs.fields.fields.Tie as tie
 

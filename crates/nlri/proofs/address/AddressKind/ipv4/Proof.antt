@@ -1,3 +1,4 @@
+-- `nlri::address::AddressKind::ipv4` meets its contract.
 use denote.Ref.{now}
 use mathlib.Core.Path.{_∙_, sym, ap}
 use native.Mathlib.Nat.{le-of-lt}
@@ -7,9 +8,6 @@ use Rattle.nlri.proofs.Copies.{octetsFrom, ipv4-held}
 use borrow.Author.Needs.{needs}
 use Rattle.nlri.proofs.address.AddressKind.ipv4.Statement.{statement}
 use Rattle.nlri.proofs.address.AddressKind.ipv4.Tie as tie
-use Rattle.nlri.proofs.address.AddressKind.ipv4.Reads as reads
-use Rattle.nlri.proofs.address.AddressKind.ipv4.Lts as lts
-use Rattle.nlri.proofs.address.shorter.Reads as shorter-reads
 
 shorter-requires : tie.Need-shorter-requires
 shorter-requires c κs = search needs

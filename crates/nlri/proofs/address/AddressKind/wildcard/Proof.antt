@@ -1,8 +1,7 @@
+-- `nlri::address::AddressKind::wildcard` meets its contract.
 use Rattle.nlri.proofs.Copies.{no-address}
 use Rattle.nlri.proofs.address.AddressKind.wildcard.Statement.{statement}
 use Rattle.nlri.proofs.address.AddressKind.wildcard.Tie as tie
-use Rattle.nlri.proofs.address.AddressKind.wildcard.Reads as reads
-use Rattle.nlri.proofs.address.AddressKind.wildcard.Lts as lts
 
 returns : tie.Need-returns
 returns c = no-address

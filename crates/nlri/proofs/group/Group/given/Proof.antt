@@ -1,11 +1,9 @@
+-- `nlri::group::Group::given` meets its contract.
 use Rattle.nlri.specs.Groups.{groupOf}
-use Rattle.octets.specs.Outcome.{numberOf}
-use Rattle.octets.specs.Outcome.{onOutcome}
+use Rattle.octets.specs.Outcome.{numberOf, onOutcome}
 use Rattle.octets.proofs.Tests.{tests}
 use Rattle.nlri.proofs.group.Group.given.Statement.{statement}
 use Rattle.nlri.proofs.group.Group.given.Tie as tie
-use Rattle.nlri.proofs.group.Group.given.Reads as reads
-use Rattle.nlri.proofs.group.Group.given.Lts as lts
 
 returns : tie.Need-returns
 unfolding groupOf numberOf onOutcome

@@ -1,12 +1,9 @@
+-- `nlri::run::Cursor::step` meets its contract.
 use Rattle.nlri.specs.Walking.{steppedOf, stepFrom}
 use Rattle.nlri.proofs.Via.{reads}
 use borrow.Author.Needs.{needs}
 use Rattle.nlri.proofs.run.Cursor.step.Statement.{statement}
 use Rattle.nlri.proofs.run.Cursor.step.Tie as tie
-use Rattle.nlri.proofs.run.Cursor.step.Reads as reads
-use Rattle.nlri.proofs.run.Cursor.step.Lts as lts
-use Rattle.nlri.proofs.family.family_bits.Reads as family-bits-reads
-use Rattle.nlri.proofs.run.step_under.Reads as step-under-reads
 
 family-bits-requires : tie.Need-family-bits-requires
 family-bits-requires c κs = search needs
