@@ -231,7 +231,7 @@ originator-octets size h = go (either-true _ _ h)
     go (inl e) = let q : size ≡ 4 = eqb-true _ _ e in (omega arith, λ four sixteen. omega arith)
     go (inr e) = let q : size ≡ 16 = eqb-true _ _ e in (omega arith, λ four sixteen. omega arith)
 
-module _ (family : ℕ) (nlri : Nlri) (key : List ℕ) (small : family ≤ 128) (none : judged family nlri key ≡ 0) where
+module _ (family : ℕ) (nlri : Nlri) (key : List ℕ) (none : judged family nlri key ≡ 0) where
   record Faultless : Type 0 where
     typed : nlri .«route_type» ≤ 7
     flow : flowFits family (nlri .«route_type») (nlri .source .size) (nlri .group .size) ≡ true
@@ -295,7 +295,3 @@ pub key-short : (family : ℕ) (key : List ℕ) → (family ≡ 32) ⊎ (family 
 unfolding familyBits pick
 key-short family key (inl e) octets h = key-octets family (omega arith) (omega arith) key (key-judged 1 family (ap given (sym e)) key (octets-of key octets) h) .0
 key-short family key (inr e) octets h = key-octets family (omega arith) (omega arith) key (key-judged 2 family (ap given (sym e)) key (octets-of key octets) h) .0
-
-pub at-most : (family : ℕ) → (family ≡ 32) ⊎ (family ≡ 128) → family ≤ 128
-at-most family (inl e) = omega arith
-at-most family (inr e) = omega arith

@@ -87,7 +87,7 @@ fn read_leaf(family: usize, s: &[u8]) -> Reading
     }
 }
 
-// A body of any route type.
+// A body of any route type. It makes the tests of `read_unkeyed_body` itself, so that one call reads a body.
 fn read_body(family: usize, route_type: usize, s: &[u8]) -> Reading
     ensures { λ r. ⌜ readingOf r ≡ anyBody family «route_type» (now (s .entry)) ⌝ }
 {

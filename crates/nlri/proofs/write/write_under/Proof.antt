@@ -1,5 +1,5 @@
 -- `nlri::write::write_under` meets its contract.
-use Rattle.nlri.proofs.Judges.{answers, untouched, refused-under, space-under, given-under, key-short, keyed, sized-nlri, size-short, at-most}
+use Rattle.nlri.proofs.Judges.{answers, untouched, refused-under, space-under, given-under, key-short, keyed, sized-nlri, size-short}
 use Rattle.nlri.proofs.Puts.{size-is}
 use Rattle.octets.specs.Outcome.{refused}
 use lib.ListN.{length}
@@ -23,7 +23,7 @@ returns c =
 size-of-requires : tie.Need-size-of-requires
 size-of-requires c κs =
     let none = sym (c .before .judge .ensures) ∙ c .if1 .left in
-    λ e. let k = key-short (c .before .before .before .before .args .family) (now (c .before .before .before .before .args .key)) (c .before .before .before .before .pre) (λ i. c .before .before .before .shared-slice-known .given i .fits) (keyed (c .before .before .before .before .args .family) (c .before .before .before .before .args .nlri) (now (c .before .before .before .before .args .key)) (at-most _ (c .before .before .before .before .pre)) none e) in omega arith
+    λ e. let k = key-short (c .before .before .before .before .args .family) (now (c .before .before .before .before .args .key)) (c .before .before .before .before .pre) (λ i. c .before .before .before .shared-slice-known .given i .fits) (keyed (c .before .before .before .before .args .family) (c .before .before .before .before .args .nlri) (now (c .before .before .before .before .args .key)) none e) in omega arith
 
 refusal-requires-2 : tie.Need-refusal-requires-2
 refusal-requires-2 c κs = search needs
@@ -37,8 +37,8 @@ put-requires : tie.Need-put-requires
 put-requires c κs =
     let none = sym (c .before .before .before .before .judge .ensures) ∙ c .before .before .before .if1 .left in
     let eight : length (c .before .before .before .before .before .before .before .args .nlri .distinguisher .octets) ≡ 8 = search needs in
-    let short = size-short (c .before .before .before .before .before .before .before .args .family) (c .before .before .before .before .before .before .before .args .nlri) (now (c .before .before .before .before .before .before .before .args .key)) (at-most _ (c .before .before .before .before .before .before .before .pre)) none (c .before .before .before .before .before .before .before .pre) (λ e. key-short (c .before .before .before .before .before .before .before .args .family) (now (c .before .before .before .before .before .before .before .args .key)) (c .before .before .before .before .before .before .before .pre) (λ i. c .before .before .before .before .before .before .shared-slice-known .given i .fits) (keyed (c .before .before .before .before .before .before .before .args .family) (c .before .before .before .before .before .before .before .args .nlri) (now (c .before .before .before .before .before .before .before .args .key)) (at-most _ (c .before .before .before .before .before .before .before .pre)) none e)) in
-    record { sized = sized-nlri (c .before .before .before .before .before .before .before .args .family) (c .before .before .before .before .before .before .before .args .nlri) (now (c .before .before .before .before .before .before .before .args .key)) (at-most _ (c .before .before .before .before .before .before .before .pre)) none (c .before .before .before .before .before .before .before .pre); exact = c .before .before .size-of .ensures ∙ size-is (c .before .before .before .before .before .before .before .args .nlri) (now (c .before .before .before .before .before .before .before .args .key)) eight; short = omega (arith, c .before .before .size-of .ensures); room = c .before .if2 .left }
+    let short = size-short (c .before .before .before .before .before .before .before .args .family) (c .before .before .before .before .before .before .before .args .nlri) (now (c .before .before .before .before .before .before .before .args .key)) none (c .before .before .before .before .before .before .before .pre) (λ e. key-short (c .before .before .before .before .before .before .before .args .family) (now (c .before .before .before .before .before .before .before .args .key)) (c .before .before .before .before .before .before .before .pre) (λ i. c .before .before .before .before .before .before .shared-slice-known .given i .fits) (keyed (c .before .before .before .before .before .before .before .args .family) (c .before .before .before .before .before .before .before .args .nlri) (now (c .before .before .before .before .before .before .before .args .key)) none e)) in
+    record { sized = sized-nlri (c .before .before .before .before .before .before .before .args .family) (c .before .before .before .before .before .before .before .args .nlri) (now (c .before .before .before .before .before .before .before .args .key)) none (c .before .before .before .before .before .before .before .pre); exact = c .before .before .size-of .ensures ∙ size-is (c .before .before .before .before .before .before .before .args .nlri) (now (c .before .before .before .before .before .before .before .args .key)) eight; short = omega (arith, c .before .before .size-of .ensures); room = c .before .if2 .left }
 
 same-length : tie.Need-same-length
 same-length c = search needs
