@@ -1,6 +1,5 @@
 -- Laws of the definitions, and the theorems.
 pub mod Laws
-pub mod Moves
 pub mod FecTheorem
 pub mod IdentifierTheorem
 pub mod ReadingTheorem

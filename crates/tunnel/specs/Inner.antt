@@ -1,12 +1,10 @@
 -- What inner functions answer; laws tie it to document 01's definitions.
-use Prim.Native.Nat.{ℕ, _+_, _-_, _≤_}
+use Prim.Native.Nat.{ℕ}
 use mathlib.Core.Path.{_≡_}
 use mathlib.Core.Bool.{Bool, false}
 use mathlib.Core.List.{List, [], _∷_}
 use lib.Dec.{ltb, eqb}
-use lib.ListN.{length}
 use Rattle.octets.specs.Choice.{pick, either}
-use Rattle.octets.specs.Octets.{part, placed}
 use Rattle.octets.specs.Numbers.{DONE, TUNNEL, IDENT}
 use Rattle.tunnel.specs.Identifier.{TableRow, table, IdentifierForm, sizes, fits}
 
@@ -36,7 +34,3 @@ faultOf t i = faultIn table t i
 -- a tunnel type whose identifiers have one of two sizes
 abbrev pub TakesSizes : ℕ → ℕ → ℕ → Type 0
 TakesSizes t first second = (i : List ℕ) → faultOf t i ≡ formFault (sizes (first ∷ second ∷ [])) i
-
--- the octets of s between two places, moved into an output that has room for all of s from `at` on
-abbrev pub Moves : (s : List ℕ) (at from : ℕ) (output : List ℕ) (next : ℕ) (left : List ℕ) → Type 0
-Moves s at from output next left = (from ≤ next) × (next ≤ length s) × (left ≡ placed (at + from) (part s from (next - from)) output)

@@ -33,7 +33,7 @@ pub(crate) fn put(
     ensures { λ r. ⌜ now (output .exit) ≡ front (encodeAttribute (fieldsOf flags «tunnel_type» «label_field» (now (identifier .entry)))) (now (output .entry)) ⌝ }
 {
     let next = put_header(flags, tunnel_type, label_field, output);
-    let size = crate::blocks::place(identifier, output, next);
+    let size = octets::parts::place(identifier, output, next);
     Written {
         number: number::DONE,
         size,
