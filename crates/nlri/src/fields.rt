@@ -42,7 +42,7 @@ fn address_at(s: &[u8], start: usize, size: usize) -> Address
     requires { ⌜ (size ≤ 16) × ((0 < size → start + size ≤ length (now s))) ⌝ }
     ensures { λ r. ⌜ r ≡ addressOf (part (now (s .entry)) start size) ⌝ }
 {
-    if size == 0 {
+    if size == AddressKind::WILDCARD {
         return AddressKind::wildcard();
     }
     if size == AddressKind::IPV4_OCTETS {
