@@ -24,10 +24,9 @@ pub struct Address {
     pub size: u8,
 }
 
-// The kind of an address by its length in bits: the wildcard, IPv4 or IPv6.
-pub struct AddressKind {
-    pub bits: usize,
-}
+// The kinds of addresses: the wildcard, IPv4 and IPv6. Their lengths in bits are named once, and every `Address` is made by
+// its kind's constructor.
+pub struct AddressKind {}
 
 impl AddressKind {
     pub const WILDCARD: usize = 0;

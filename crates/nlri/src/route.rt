@@ -1,7 +1,5 @@
-// Route types (RFC 6514, section 4).
-pub struct RouteType {
-    pub code: usize,
-}
+// Route types (RFC 6514, section 4): their code points, named once.
+pub struct RouteType {}
 
 impl RouteType {
     pub const INTRA_AS_I_PMSI: usize = 1;
