@@ -7,3 +7,4 @@ pub mod NetworkOrder
 pub mod Picked
 pub mod AllOctets
 pub mod Refusals
+pub mod Orders

@@ -4,3 +4,4 @@ pub mod Choice
 pub mod Outcome
 pub mod Octets
 pub mod Outputs
+pub mod Order

@@ -37,7 +37,7 @@ IDENT = 7
 abbrev pub LONG : ℕ
 LONG = 8
 
--- a label field over 16,777,215 at writing
+-- BIER with label 0 at install; a label field over 16,777,215 at writing
 abbrev pub LABEL : ℕ
 LABEL = 9
 
@@ -45,7 +45,23 @@ LABEL = 9
 abbrev pub FAMILY : ℕ
 FAMILY = 10
 
--- a group not of the family's size, or not multicast
+-- lent memory is not a sound table; for making one: not of a table's size
+abbrev pub TABLE : ℕ
+TABLE = 11
+
+-- well-formed NLRI, but not type 3
+abbrev pub KIND : ℕ
+KIND = 12
+
+-- new NLRI and every place taken
+abbrev pub ROOM : ℕ
+ROOM = 13
+
+-- withdrawn NLRI not in the table
+abbrev pub ABSENT : ℕ
+ABSENT = 14
+
+-- router address not 4 or 16 octets, source or group not of the family's size, or group not multicast
 abbrev pub FLOW : ℕ
 FLOW = 15
 

@@ -21,6 +21,14 @@ pub const LABEL: u32 = 9;
 
 pub const FAMILY: u32 = 10;
 
+pub const TABLE: u32 = 11;
+
+pub const KIND: u32 = 12;
+
+pub const ROOM: u32 = 13;
+
+pub const ABSENT: u32 = 14;
+
 pub const FLOW: u32 = 15;
 
 pub const SPACE: u32 = 16;

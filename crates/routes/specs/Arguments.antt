@@ -1,0 +1,49 @@
+-- What a call's arguments and the table's family come to (document 01, "The numbers a call gives back", the order of each call).
+use Prim.Native.Nat.{ℕ, _*_}
+use mathlib.Core.List.{List}
+use lib.ListN.{length}
+use lib.Dec.{ltb, eqb}
+use Rattle.octets.specs.Numbers.{LABEL, KIND, FLOW, SPACE}
+use Rattle.octets.specs.Choice.{pick, both}
+use Rattle.octets.specs.Outcome.{Outcome, given, refused, andThen}
+use Rattle.nlri.specs.Family.{familyBits, originatorSize}
+use Rattle.nlri.specs.Fields.{Fields}
+use Rattle.nlri.specs.Reading.{readNlri}
+use Rattle.nlri.specs.Groups.{classUnder}
+use Rattle.tunnel.specs.Attribute.{labelOf, readAttribute}
+use Rattle.tunnel.specs.Attribute.{Fields as AttributeFields}
+use Rattle.routes.specs.Route.{Route, route}
+
+-- "A well-formed S-PMSI NLRI": octets that NLRI reading under the table's AFI accepts, with none after it, of type 3; else KIND
+unfoldable pub readSPmsi : ℕ → List ℕ → Outcome Fields
+readSPmsi afi nlri = andThen (readNlri afi nlri) (λ f. pick (eqb (f .type) 3) (given f) (refused KIND))
+
+-- an attribute that install takes: attribute reading, then LABEL for BIER with label 0
+unfoldable pub readLabelled : List ℕ → Outcome AttributeFields
+readLabelled attribute = andThen (readAttribute attribute) (λ f. pick (both (eqb (f .tunnelType) 11) (eqb (labelOf f) 0)) (refused LABEL) (given f))
+
+-- install, before ROOM: NLRI reading with no octets after it, KIND, attribute reading, LABEL
+unfoldable pub readRoute : ℕ → List ℕ → List ℕ → Outcome Route
+readRoute afi nlri attribute = andThen (readSPmsi afi nlri) (λ f. andThen (readLabelled attribute) (λ g. given (route nlri attribute)))
+
+-- what a match asks: of which router, and the flow with its group's class
+pub record Query : Type 0 where
+  pub router : List ℕ
+  pub source : List ℕ
+  pub group : List ℕ
+  pub class : ℕ
+
+-- FLOW: a router address not of 4 or 16 octets, a source or group not of the family's size, a group not multicast
+unfoldable pub readFlow : (afi : ℕ) (router source group : List ℕ) → Outcome Query
+readFlow afi router source group =
+    andThen (familyBits afi) (λ family.
+    pick (originatorSize (length router))
+    (pick (eqb (8 * length source) family)
+    (andThen (classUnder family group) (λ class. given (record { router = router; source = source; group = group; class = class })))
+    (refused FLOW))
+    (refused FLOW))
+
+-- match: FLOW, then SPACE for an output under 124 octets
+unfoldable pub readMatch : (afi : ℕ) (router source group output : List ℕ) → Outcome Query
+readMatch afi router source group output =
+    andThen (readFlow afi router source group) (λ query. pick (ltb (length output) 124) (refused SPACE) (given query))

@@ -1,0 +1,88 @@
+-- A router's book (document 01, "Mixed calls and each router's book"; book is its term): NLRIs, each with one attribute, in order of
+-- arrival. It knows nothing of the table: neither order of NLRIs, nor places, nor octets.
+use Prim.Native.Nat.{ℕ}
+use mathlib.Core.Bool.{Bool, true, false}
+use mathlib.Core.List.{List, [], _∷_, _++_}
+use Rattle.octets.specs.Numbers.{DONE, ABSENT}
+use Rattle.octets.specs.Choice.{pick, either}
+use Rattle.octets.specs.Outcome.{Outcome, given, onOutcome, andThen}
+use Rattle.octets.specs.Order.{same}
+use Rattle.routes.specs.declared.Matched.{Matched}
+use Rattle.routes.specs.Route.{Route, route, nlriOf, holds, removed}
+use Rattle.routes.specs.Arguments.{readSPmsi, readRoute, readMatch}
+use Rattle.routes.specs.Matching.{Found, matchIn}
+use Rattle.routes.specs.Calls.{Changed, NEW, REPLACED, installedOf, matchedBy}
+use Rattle.routes.specs.Call.{Call, install, withdraw, match, Answer, installed, withdrawn, matched, Owner, nobody, owner, ownerOf, owns, refusalOf, refusalAnswer}
+
+-- a book with an NLRI given this attribute
+unfoldable pub entered : Route → List Route → List Route
+entered r [] = r ∷ []
+entered r (q ∷ rs) = pick (same (nlriOf r) (nlriOf q)) (r ∷ rs) (q ∷ entered r rs)
+
+-- a match's answer as an answer
+unfoldable pub matchAnswer : Changed Matched → Answer
+matchAnswer changed = matched (changed .answer) (changed .octets)
+
+-- what a book answers to a call: the first refusal that arguments and family cause; else
+-- install: DONE, "replaced" if the book held the NLRI, else "new"; withdrawal: DONE, ABSENT if the book does not hold it;
+-- match: by the rule over the book's routes
+unfoldable pub bookAnswer : (afi : ℕ) (book : List Route) → Call → Answer
+bookAnswer afi book (install nlri attribute) = installed (installedOf (andThen (readRoute afi nlri attribute) (λ r. given (pick (holds nlri book) REPLACED NEW))))
+bookAnswer afi book (withdraw nlri) = withdrawn (onOutcome (λ number. number) (λ f. pick (holds nlri book) DONE ABSENT) (readSPmsi afi nlri))
+bookAnswer afi book (match router source group output) =
+    matchAnswer (matchedBy (andThen (readMatch afi router source group output) (λ q. given (matchIn afi q book))) output)
+
+-- the book afterwards: a refusal and a match leave it, a withdrawal takes the NLRI out
+unfoldable pub bookAfter : (afi : ℕ) (book : List Route) → Call → List Route
+bookAfter afi book (install nlri attribute) = onOutcome (λ number. book) (λ r. entered r book) (readRoute afi nlri attribute)
+bookAfter afi book (withdraw nlri) = onOutcome (λ number. book) (λ f. removed nlri book) (readSPmsi afi nlri)
+bookAfter afi book (match router source group output) = book
+
+-- a book fed calls, in order
+unfoldable pub fed : (afi : ℕ) (book : List Route) → List Call → List Route
+fed afi book [] = book
+fed afi book (c ∷ cs) = fed afi (bookAfter afi book c) cs
+
+-- a router's own calls, in order
+unfoldable pub ownCalls : (afi : ℕ) (router : List ℕ) → List Call → List Call
+ownCalls afi router [] = []
+ownCalls afi router (c ∷ cs) = pick (owns afi router c) (c ∷ ownCalls afi router cs) (ownCalls afi router cs)
+
+-- a router's book after calls of all routers: it is fed that router's calls, and holds nothing at first
+unfoldable pub bookOf : (afi : ℕ) (router : List ℕ) → List Call → List Route
+bookOf afi router calls = fed afi [] (ownCalls afi router calls)
+
+-- whether a list of octet lists has one
+unfoldable pub has : List ℕ → List (List ℕ) → Bool
+has x [] = false
+has x (y ∷ ys) = either (same x y) (has x ys)
+
+-- each element once
+unfoldable pub distinct : List (List ℕ) → List (List ℕ)
+distinct [] = []
+distinct (x ∷ xs) = pick (has x xs) (distinct xs) (x ∷ distinct xs)
+
+unfoldable pub withOwner : Owner → List (List ℕ) → List (List ℕ)
+withOwner nobody routers = routers
+withOwner (owner router) routers = router ∷ routers
+
+-- the routers that calls belong to
+unfoldable pub routersOf : ℕ → List Call → List (List ℕ)
+routersOf afi [] = []
+routersOf afi (c ∷ cs) = withOwner (ownerOf afi c) (routersOf afi cs)
+
+unfoldable pub gathered : ℕ → (routers : List (List ℕ)) → List Call → List Route
+gathered afi [] calls = []
+gathered afi (router ∷ routers) calls = bookOf afi router calls ++ gathered afi routers calls
+
+-- the routes in all books
+unfoldable pub allBooks : ℕ → List Call → List Route
+allBooks afi calls = gathered afi (distinct (routersOf afi calls)) calls
+
+-- what is due to a call after others: its router's book's answer, or the refusal of a call of nobody
+unfoldable pub dueBy : Answer → (List ℕ → Answer) → Owner → Answer
+dueBy none some nobody = none
+dueBy none some (owner router) = some router
+
+unfoldable pub dueAnswer : ℕ → (earlier : List Call) → Call → Answer
+dueAnswer afi earlier c = dueBy (refusalAnswer c (refusalOf afi c)) (λ router. bookAnswer afi (bookOf afi router earlier) c) (ownerOf afi c)

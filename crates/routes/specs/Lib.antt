@@ -1,0 +1,11 @@
+-- Route tables, in document 01's order: arguments, the table memory, which route a flow takes, the calls on octets, and each
+-- router's book.
+pub mod Route
+pub mod Arguments
+pub mod Place
+pub mod Table
+pub mod Matching
+pub mod Calls
+pub mod Call
+pub mod Book
+pub mod Run

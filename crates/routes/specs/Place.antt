@@ -1,0 +1,35 @@
+-- A place (document 01, "The table memory"; a place is its term for the 128 octets that may hold one route).
+use Prim.Native.Nat.{ℕ, _+_, _-_}
+use mathlib.Core.Bool.{Bool, true, false}
+use mathlib.Core.List.{List, _∷_, _++_}
+use lib.ListN.{length, getD, drop}
+use lib.Dec.{leb}
+use Rattle.octets.specs.Choice.{both}
+use Rattle.octets.specs.Outcome.{Outcome, onOutcome}
+use Rattle.octets.specs.Octets.{part}
+use Rattle.octets.specs.Order.{zeros, allZero}
+use Rattle.routes.specs.Route.{Route, route, nlriOf, attributeOf}
+use Rattle.routes.specs.Arguments.{readRoute}
+
+abbrev pub PLACE : ℕ
+PLACE = 128
+
+-- NLRI size, attribute size, the NLRI with its header, the attribute, zeros to the end
+unfoldable pub placeOf : Route → List ℕ
+placeOf (route nlri attribute) = length nlri ∷ (length attribute ∷ (nlri ++ (attribute ++ zeros (126 - (length nlri + length attribute)))))
+
+-- where the attribute of the route in a place ends
+unfoldable pub endIn : List ℕ → ℕ
+endIn place = 2 + (getD place 0 0 + getD place 1 0)
+
+-- the route in a place, by the place's sizes
+unfoldable pub routeIn : List ℕ → Route
+routeIn place = route (part place 2 (getD place 0 0)) (part place (2 + getD place 0 0) (getD place 1 0))
+
+-- a route that install would accept, room apart
+unfoldable pub acceptable : ℕ → Route → Bool
+acceptable afi r = onOutcome (λ number. false) (λ accepted. true) (readRoute afi (nlriOf r) (attributeOf r))
+
+-- a place holds an acceptable route and then zeros
+unfoldable pub placeSound : ℕ → List ℕ → Bool
+placeSound afi place = both (leb (endIn place) PLACE) (both (acceptable afi (routeIn place)) (allZero (drop (endIn place) place)))

@@ -1,0 +1,47 @@
+-- Routes, and what a list of routes holds.
+use Prim.Native.Nat.{ℕ}
+use mathlib.Core.Bool.{Bool, true, false}
+use mathlib.Core.List.{List, [], _∷_}
+use Rattle.octets.specs.Choice.{pick}
+use Rattle.octets.specs.Order.{same, before}
+
+-- a route: the octets of its NLRI, header included, and of its attribute
+pub data Route : Type 0 where
+  route : (nlri attribute : List ℕ) → Route
+
+unfoldable pub nlriOf : Route → List ℕ
+nlriOf (route nlri attribute) = nlri
+
+unfoldable pub attributeOf : Route → List ℕ
+attributeOf (route nlri attribute) = attribute
+
+-- what routes hold of an NLRI: its attribute, or nothing
+pub data Held : Type 0 where
+  absent : Held
+  held : (attribute : List ℕ) → Held
+
+unfoldable pub lookup : List ℕ → List Route → Held
+lookup nlri [] = absent
+lookup nlri (r ∷ rs) = pick (same nlri (nlriOf r)) (held (attributeOf r)) (lookup nlri rs)
+
+unfoldable pub isHeld : Held → Bool
+isHeld absent = false
+isHeld (held attribute) = true
+
+unfoldable pub holds : List ℕ → List Route → Bool
+holds nlri rs = isHeld (lookup nlri rs)
+
+-- routes in increasing order of NLRIs, with this one: in place of one with the same NLRI, else where it belongs
+unfoldable pub inserted : Route → List Route → List Route
+inserted r [] = r ∷ []
+inserted r (q ∷ rs) = pick (same (nlriOf r) (nlriOf q)) (r ∷ rs) (pick (before (nlriOf r) (nlriOf q)) (r ∷ (q ∷ rs)) (q ∷ inserted r rs))
+
+-- routes in any order, in increasing order of NLRIs
+unfoldable pub arranged : List Route → List Route
+arranged [] = []
+arranged (r ∷ rs) = inserted r (arranged rs)
+
+-- routes without the one of an NLRI
+unfoldable pub removed : List ℕ → List Route → List Route
+removed nlri [] = []
+removed nlri (q ∷ rs) = pick (same nlri (nlriOf q)) rs (q ∷ removed nlri rs)
