@@ -1,2 +1,1 @@
 -- Laws of the definitions, and the theorems.
--- pub mod Orders

@@ -9,3 +9,7 @@ pub mod Calls
 pub mod Call
 pub mod Book
 pub mod Run
+pub mod Images
+pub mod LastInstalled
+pub mod MatchRule
+pub mod MixedCalls

@@ -1,7 +1,8 @@
 -- A place (document 01, "The table memory"; a place is its term for the 128 octets that may hold one route).
 use Prim.Native.Nat.{ℕ, _+_, _-_}
+use mathlib.Core.Path.{_≡_}
 use mathlib.Core.Bool.{Bool, true, false}
-use mathlib.Core.List.{List, _∷_, _++_}
+use mathlib.Core.List.{List, [], _∷_, _++_}
 use lib.ListN.{length, getD, drop}
 use lib.Dec.{leb}
 use Rattle.octets.specs.Choice.{both}
@@ -33,3 +34,8 @@ acceptable afi r = onOutcome (λ number. false) (λ accepted. true) (readRoute a
 -- a place holds an acceptable route and then zeros
 unfoldable pub placeSound : ℕ → List ℕ → Bool
 placeSound afi place = both (leb (endIn place) PLACE) (both (acceptable afi (routeIn place)) (allZero (drop (endIn place) place)))
+
+-- all of the routes are acceptable
+pub data AllAcceptable (afi : ℕ) : List Route → Type 0 where
+  none : AllAcceptable afi []
+  one : {r : Route} {rs : List Route} → acceptable afi r ≡ true → AllAcceptable afi rs → AllAcceptable afi (r ∷ rs)

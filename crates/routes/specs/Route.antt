@@ -1,5 +1,6 @@
 -- Routes, and what a list of routes holds.
 use Prim.Native.Nat.{ℕ}
+use mathlib.Core.Path.{_≡_}
 use mathlib.Core.Bool.{Bool, true, false}
 use mathlib.Core.List.{List, [], _∷_}
 use Rattle.octets.specs.Choice.{pick}
@@ -45,3 +46,18 @@ arranged (r ∷ rs) = inserted r (arranged rs)
 unfoldable pub removed : List ℕ → List Route → List Route
 removed nlri [] = []
 removed nlri (q ∷ rs) = pick (same nlri (nlriOf q)) rs (q ∷ removed nlri rs)
+
+-- a route is among routes
+pub data Member (r : Route) : List Route → Type 0 where
+  here : {rs : List Route} → Member r (r ∷ rs)
+  there : {q : Route} {rs : List Route} → Member r rs → Member r (q ∷ rs)
+
+-- no two routes have the same NLRI
+pub data Distinct : List Route → Type 0 where
+  none : Distinct []
+  one : {r : Route} {rs : List Route} → holds (nlriOf r) rs ≡ false → Distinct rs → Distinct (r ∷ rs)
+
+-- NLRIs strictly increase octet by octet, and all come after `previous`
+pub data Increasing : (previous : List ℕ) → List Route → Type 0 where
+  last : {previous : List ℕ} → Increasing previous []
+  next : {previous : List ℕ} {r : Route} {rs : List Route} → before previous (nlriOf r) ≡ true → Increasing (nlriOf r) rs → Increasing previous (r ∷ rs)

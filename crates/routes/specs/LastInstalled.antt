@@ -1,0 +1,1 @@
+-- What a table holds after calls (document 01, "The table memory"; demand 2). Stated here, proved in proofs/LastInstalled.antt.

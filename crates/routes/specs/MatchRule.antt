@@ -1,0 +1,1 @@
+-- What holds of match (document 01, "Which route a flow takes"; demand 2). Stated here, proved in proofs/MatchRule.antt.

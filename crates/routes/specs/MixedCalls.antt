@@ -1,0 +1,1 @@
+-- The claim on mixed calls (document 01, "Mixed calls and each router's book"; demand 3). Stated here, proved in proofs/MixedCalls.antt.

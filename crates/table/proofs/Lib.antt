@@ -1,0 +1,4 @@
+-- Laws that the functions' proofs use.
+pub mod Sounds
+pub mod Changes
+pub mod Scans

@@ -1,0 +1,1 @@
+// Routes entered into a sound table and taken out of it.

@@ -1,0 +1,1 @@
+// Where an NLRI stands, or belongs, in a sound table.

@@ -1,0 +1,7 @@
+// S-PMSI A-D routes of one VRF in lent memory: made, installed, withdrawn and matched (document 01, "The table memory" and
+// "Which route a flow takes").
+mod change;
+mod find;
+mod judge;
+mod scan;
+mod sound;

@@ -1,0 +1,1 @@
+// The route that a flow takes, found in a sound table.

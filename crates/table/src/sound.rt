@@ -1,0 +1,1 @@
+// Whether lent memory is a sound table.
