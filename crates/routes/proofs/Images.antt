@@ -19,7 +19,7 @@ use Rattle.routes.specs.Table.{headerOf, placesOf, imageOf, afiIn, count
 use Rattle.routes.specs.Calls.{makeOutcome, makeOf}
 use Rattle.routes.specs.Images.{Family, Holdable, TableOf, Images}
 use Rattle.routes.proofs.Headers.{header-length, afi-in, count-in, header-sound, past-header, sound-family, sound-header, SizeOf, size-sound, sound-size, places-in}
-use Rattle.routes.proofs.Members.{same-members}
+use Rattle.routes.proofs.Lookups.{increasing-members}
 use Rattle.routes.proofs.NotDone.{done-given, make-not-done}
 use Rattle.routes.proofs.Places.{zeros-length, places-length, routes-from, from-length, places-sound, from-acceptable, from-increasing, from-places}
 
@@ -118,7 +118,7 @@ module _ (afi places : ℕ) (rs : List Route) (h : Holdable afi places rs) where
 one-image : (t u : List ℕ) → AllOctets t → AllOctets u → soundOf t ≡ true → soundOf u ≡ true → afiIn t ≡ afiIn u → length t ≡ length u
     → ((r : Route) → Member r (routesOf t) ↔ Member r (routesOf u)) → t ≡ u
 one-image t u a b h k family size members =
-    let rs : routesOf t ≡ routesOf u = same-members (routesOf t) (routesOf u) (sound-holdable t h .increasing) (sound-holdable u k .increasing) members in
+    let rs : routesOf t ≡ routesOf u = increasing-members (sound-holdable t h .increasing) (sound-holdable u k .increasing) members in
     let places : placesIn t ≡ placesIn u = omega (arith, sound t h .size .is, sound u k .size .is) in
     sound-image t a h
     ∙ ap (λ (afi : ℕ). imageOf afi (placesIn t) (routesOf t)) family
