@@ -1,1 +1,2 @@
 -- Laws of the definitions, and the theorems.
+pub mod SPmsi
