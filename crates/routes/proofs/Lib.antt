@@ -1,4 +1,6 @@
 -- Laws of the definitions, and the theorems.
+pub mod Lookups
 pub mod SPmsi
 pub mod Lowest
 pub mod Conditions
+pub mod MatchSame
