@@ -3,4 +3,5 @@ pub mod Lookups
 pub mod SPmsi
 pub mod Lowest
 pub mod Conditions
+pub mod First
 pub mod MatchSame
