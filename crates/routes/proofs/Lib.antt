@@ -5,3 +5,8 @@ pub mod Places
 pub mod Headers
 pub mod NotDone
 pub mod Images
+pub mod SPmsi
+pub mod Lowest
+pub mod Conditions
+pub mod First
+pub mod MatchSame
