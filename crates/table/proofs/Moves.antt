@@ -1,11 +1,12 @@
 -- Octets moved one at a time: what a loop's turn, or its end, leaves.
 use Prim.Native.Nat.{ℕ, suc, _+_, _-_, _≤_, _<_}
 use mathlib.Core.Path.{_≡_, refl, sym, ap, _∙_}
-use mathlib.Core.List.{List, [], _∷_, _++_, append-nil}
+use mathlib.Core.List.{List, [], _∷_, _++_, append-assoc, append-nil}
 use native.Mathlib.Numerals.{add-one}
 use native.Mathlib.Omega.{arith}
 use lib.ListN.{length, getD, take, drop, set, replicate, length-append, length-take, length-drop, drop-of-length-le, take-append-drop, List·getD-append}
-use lib.Seq.{take-suc, drop-cons, append-snoc, set-at, take-all, getD-take, getD-drop, getD-append-add, length-take-le}
+use lib.Seq.{take-suc, drop-cons, append-snoc, set-at, take-all, getD-take, getD-drop, getD-append-add, length-take-le, take-take, take-add, take-at, drop-at, drop-drop, drop-length}
+use Rattle.octets.specs.Octets.{placed}
 use Rattle.octets.specs.Order.{zeros}
 
 -- all octets filled with zeros
@@ -80,3 +81,55 @@ up-last n at d s h k =
     let e : at ≡ 0 = omega arith in
     let f : at + n ≡ n = omega arith in
     rw (h .2, f, e)
+
+-- a part without its first n octets
+drop-taken : (n m : ℕ) (x : List ℕ) → n ≤ m → m ≤ length x → drop n (take m x) ≡ take (m - n) (drop n x)
+drop-taken n m x h k =
+    let sum : m ≡ n + (m - n) = omega arith in
+    ap (λ (i : ℕ). drop n (take i x)) sum ∙ ap (drop n) (take-add n (m - n) x) ∙ drop-at (take n x) (take (m - n) (drop n x)) n (length-take-le n x (omega arith))
+
+-- what stands after a part
+after-part : (start end : ℕ) (t : List ℕ) → start ≤ end → drop (end - start) (drop start t) ≡ drop end t
+after-part start end t h =
+    let sum : start + (end - start) ≡ end = omega arith in
+    drop-drop (end - start) start t ∙ ap (λ (i : ℕ). drop i t) sum
+
+part-size : (start end : ℕ) (t : List ℕ) → start ≤ end → end ≤ length t → length (take (end - start) (drop start t)) ≡ end - start
+part-size start end t h k = length-take-le (end - start) (drop start t) (simp length-drop (omega arith))
+
+-- a part lent to be moved up by n
+pub lent-up : (n start end : ℕ) (t y : List ℕ) → start + n ≤ end → end ≤ length t
+    → y ≡ take n (take (end - start) (drop start t)) ++ take (length (take (end - start) (drop start t)) - n) (take (end - start) (drop start t))
+    → take start t ++ (y ++ drop (end - start) (drop start t)) ≡ take start t ++ (take n (drop start t) ++ (take (end - start - n) (drop start t) ++ drop end t))
+lent-up n start end t y h k e =
+    let x : List ℕ = drop start t in
+    rw (e, part-size start end t (omega arith) k, take-take n (end - start) x (omega arith), take-take (end - start - n) (end - start) x (omega arith), after-part start end t (omega arith))
+    (ap (λ (l : List ℕ). take start t ++ l) (append-assoc (take n x) (take (end - start - n) x) (drop end t)))
+
+-- a part lent to be moved down by n, with z after it
+pub lent-down : (n start end : ℕ) (t y z : List ℕ) → start + n ≤ end → end ≤ length t → y ≡ drop n (take (end - start) (drop start t)) ++ z
+    → take start t ++ (y ++ drop (end - start) (drop start t)) ≡ take start t ++ (take (end - start - n) (drop (start + n) t) ++ (z ++ drop end t))
+lent-down n start end t y z h k e =
+    let x : List ℕ = drop start t in
+    rw (e, drop-taken n (end - start) x (omega arith) (simp length-drop (omega arith)), drop-drop n start t, after-part start end t (omega arith))
+    (ap (λ (l : List ℕ). take start t ++ l) (append-assoc (take (end - start - n) (drop (start + n) t)) z (drop end t)))
+
+-- a part lent to be written over
+pub lent-over : (n start : ℕ) (t p : List ℕ) → length p ≡ n → take start t ++ (p ++ drop (start + n - start) (drop start t)) ≡ placed start p t
+unfolding placed
+lent-over n start t p e = rw (after-part start (start + n) t (omega arith), e)
+
+-- the first octets moved down by n, and then the last n cleared
+pub gap-closed : (n : ℕ) (d y z : List ℕ) → n ≤ length d → length y ≡ length d → y ≡ drop n d ++ drop (length d - n) d
+    → z ≡ zeros (length (take (length y - (length y - n)) (drop (length y - n) y)))
+    → take (length y - n) y ++ (z ++ drop (length y - (length y - n)) (drop (length y - n) y)) ≡ drop n d ++ zeros n
+gap-closed n d y z h l e f =
+    let k : ℕ = length y - n in
+    let size : length (drop n d) ≡ k = simp length-drop (omega arith) in
+    let low : take k y ≡ drop n d = ap (take k) e ∙ take-at (drop n d) (drop (length d - n) d) k size in
+    let high : length (take (length y - k) (drop k y)) ≡ n = part-size k (length y) y (omega arith) (omega arith) ∙ back (length y) n (omega arith) in
+    let none : drop (length y - k) (drop k y) ≡ [] = after-part k (length y) y (omega arith) ∙ drop-length y in
+    rw (f, high, low, none) (ap (λ (m : List ℕ). drop n d ++ m) (append-nil (zeros n)))
+  where
+    back : (a b : ℕ) → b ≤ a → a - (a - b) ≡ b
+    back a b q = omega arith

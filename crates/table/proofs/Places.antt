@@ -20,6 +20,10 @@ pub zeros-split : (m n : ℕ) → zeros (m + n) ≡ zeros m ++ zeros n
 unfolding zeros
 zeros-split m n = sym (replicate-append-replicate m n 0)
 
+pub place-length : (n a : List ℕ) → 2 + (length n + length a) ≤ 128 → length (placeOf (route n a)) ≡ 128
+unfolding placeOf
+place-length n a h = simp (length-append, zeros-length) (omega arith)
+
 -- zeros with octets put over their front
 over-zeros : (size : ℕ) (e : List ℕ) → length e ≤ size → placed 0 e (zeros size) ≡ e ++ zeros (size - length e)
 unfolding placed

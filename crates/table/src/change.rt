@@ -60,3 +60,47 @@ fn move_down(tail: &mut [u8])
         at += 1;
     }
 }
+
+// Moves all octets down by one place, with zeros in the last place.
+fn close_gap(tail: &mut [u8])
+    requires { ⌜ 128 ≤ length (now tail) ⌝ }
+    ensures { λ _. ⌜ now (tail .exit) ≡ drop 128 (now (tail .entry)) ++ zeros 128 ⌝ }
+{
+    move_down(tail);
+    let last = tail.len() - PLACE;
+    clear(&mut tail[last..]);
+}
+
+// A route's place written from `start` on.
+fn write_at(table: &mut [u8], start: usize, nlri: &[u8], attribute: &[u8])
+    requires { ⌜ start + 128 ≤ length (now table) ⌝ }
+    requires { ⌜ 2 + (length (now nlri) + length (now attribute)) ≤ 128 ⌝ }
+    ensures { λ _. ⌜ now (table .exit) ≡ placed start (placeOf (route (now (nlri .entry)) (now (attribute .entry)))) (now (table .entry)) ⌝ }
+{
+    write_place(&mut table[start..start + PLACE], nlri, attribute);
+}
+
+// Opens a gap of one place at `start`, up to `end`.
+fn open(table: &mut [u8], start: usize, end: usize)
+    requires { ⌜ (start + 128 ≤ end) × (end ≤ length (now table)) ⌝ }
+    ensures { λ _. ⌜ now (table .exit) ≡ opened start end (now (table .entry)) ⌝ }
+{
+    move_up(&mut table[start..end]);
+}
+
+// Closes the place at `start`, up to `end`.
+fn close(table: &mut [u8], start: usize, end: usize)
+    requires { ⌜ (start + 128 ≤ end) × (end ≤ length (now table)) ⌝ }
+    ensures { λ _. ⌜ now (table .exit) ≡ closed start end (now (table .entry)) ⌝ }
+{
+    close_gap(&mut table[start..end]);
+}
+
+// The count in the header.
+fn write_count(table: &mut [u8], count: usize)
+    requires { ⌜ 8 ≤ length (now table) ⌝ }
+    ensures { λ _. ⌜ now (table .exit) ≡ placed 6 (bigEndian 2 count) (now (table .entry)) ⌝ }
+{
+    let octets = [(count / 256 % 256) as u8, (count % 256) as u8];
+    octets::parts::place(&octets, table, 6);
+}
