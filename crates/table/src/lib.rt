@@ -2,6 +2,7 @@
 // "Which route a flow takes").
 mod change;
 mod find;
+mod header;
 mod judge;
 mod scan;
 mod sound;
