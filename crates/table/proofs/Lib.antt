@@ -2,3 +2,4 @@
 pub mod Sounds
 pub mod Changes
 pub mod Scans
+pub mod Standing
