@@ -1,10 +1,13 @@
 -- Laws of `same`, `before` and `allZero`.
-use Prim.Native.Nat.{ℕ, zero, suc, _<_, _≤_}
-use mathlib.Core.Path.{_≡_, refl, sym, ap₂, _∙_}
+use Prim.Native.Nat.{ℕ, zero, suc, _+_, _<_, _≤_}
+use mathlib.Core.Path.{_≡_, refl, sym, ap, ap₂, _∙_}
 use mathlib.Core.Bool.{Bool, true, false}
 use mathlib.Core.List.{List, [], _∷_}
+use native.Mathlib.Numerals.{add-one}
 use native.Mathlib.Omega.{arith}
-use lib.ListN.{length}
+use lib.Bits.{bitOr, or-add-and, and-le-l, and-le-r}
+use lib.ListN.{length, getD, drop, drop-of-length-le}
+use lib.Seq.{drop-cons}
 use lib.Dec.{ltb, eqb}
 use borrow.Author.Tests.{ltb-true, ltb-false, eqb-true, eqb-false, eq-eqb, ne-eqb, lt-ltb, le-ltb}
 use Rattle.octets.specs.Choice.{pick, both}
@@ -120,3 +123,89 @@ pub all-zeros : (s : List ℕ) → allZero s ≡ true → s ≡ zeros (length s)
 unfolding zeros allZero
 all-zeros [] h = refl
 all-zeros (x ∷ s) h = ap₂ (λ (a : ℕ) (l : List ℕ). a ∷ l) (eqb-true x 0 (both-true-left _ _ h)) (all-zeros s (both-true-right _ _ h))
+
+-- lists of different lengths
+pub lengths-differ : (xs ys : List ℕ) → (length xs ≡ length ys → ⊥) → same xs ys ≡ false
+lengths-differ xs ys h = unequal-other xs ys (λ e. h (ap length e))
+
+-- one octet of each looked at
+same-from : (a b : List ℕ) (i : ℕ) → i < length a → i < length b
+    → same (drop i a) (drop i b) ≡ both (eqb (getD a i 0) (getD b i 0)) (same (drop (i + 1) a) (drop (i + 1) b))
+unfolding same
+same-from a b i h k = rw (drop-cons a i 0, drop-cons b i 0, add-one)
+
+before-from : (a b : List ℕ) (i : ℕ) → i < length a → i < length b
+    → before (drop i a) (drop i b) ≡ pick (eqb (getD a i 0) (getD b i 0)) (before (drop (i + 1) a) (drop (i + 1) b)) (ltb (getD a i 0) (getD b i 0))
+unfolding before
+before-from a b i h k = rw (drop-cons a i 0, drop-cons b i 0, add-one)
+
+zero-from : (s : List ℕ) (i : ℕ) → i < length s → allZero (drop i s) ≡ both (eqb (getD s i 0) 0) (allZero (drop (i + 1) s))
+unfolding allZero
+zero-from s i h = rw (drop-cons s i 0, add-one)
+
+-- a pass over two lists: what is left decides
+module _ (a b : List ℕ) (i : ℕ) where
+  pub same-next : i < length a → length a ≡ length b → same a b ≡ same (drop i a) (drop i b) → getD a i 0 ≡ getD b i 0 → same a b ≡ same (drop (i + 1) a) (drop (i + 1) b)
+  unfolding both
+  same-next h k p e = p ∙ same-from a b i h (omega arith) ∙ rw (eq-eqb (getD a i 0) (getD b i 0) e)
+
+  pub same-stops : i < length a → length a ≡ length b → same a b ≡ same (drop i a) (drop i b) → (getD a i 0 ≡ getD b i 0 → ⊥) → false ≡ same a b
+  unfolding both
+  same-stops h k p n = sym (p ∙ same-from a b i h (omega arith) ∙ rw (ne-eqb (getD a i 0) (getD b i 0) n))
+
+  pub same-ends : length a ≤ i → length a ≡ length b → same a b ≡ same (drop i a) (drop i b) → true ≡ same a b
+  same-ends h k p = sym (p ∙ equal-same (drop i a) (drop i b) (drop-of-length-le a h ∙ sym (drop-of-length-le b {i = i} (omega arith))))
+
+  pub before-next : i < length a → i < length b → before a b ≡ before (drop i a) (drop i b) → getD a i 0 ≡ getD b i 0 → before a b ≡ before (drop (i + 1) a) (drop (i + 1) b)
+  before-next h k p e = p ∙ before-from a b i h k ∙ pick-true _ _ _ (eq-eqb (getD a i 0) (getD b i 0) e)
+
+  pub before-stops : i < length a → i < length b → before a b ≡ before (drop i a) (drop i b) → (getD a i 0 ≡ getD b i 0 → ⊥) → ltb (getD a i 0) (getD b i 0) ≡ before a b
+  before-stops h k p n = sym (p ∙ before-from a b i h k ∙ pick-false _ _ _ (ne-eqb (getD a i 0) (getD b i 0) n))
+
+  pub before-longer : i < length a → length b ≤ i → before a b ≡ before (drop i a) (drop i b) → false ≡ before a b
+  unfolding before
+  before-longer h k p = sym (p ∙ rw (drop-cons a i 0, drop-of-length-le b k))
+
+  pub before-ends : length a ≤ i → i ≤ length a → before a b ≡ before (drop i a) (drop i b) → ltb (length a) (length b) ≡ before a b
+  unfolding before
+  before-ends h k p =
+      sym
+      (p
+      ∙ tested (ltb (length a) (length b))
+      (λ t.
+      let l : i < length b = omega (arith, ltb-true) in
+      rw (drop-of-length-le a h, drop-cons b i 0, t))
+      (λ f.
+      let l : length b ≤ i = omega (arith, ltb-false) in
+      rw (drop-of-length-le a h, drop-of-length-le b l, f)))
+
+both-assoc : (a b c : Bool) → both (both a b) c ≡ both a (both b c)
+unfolding both
+both-assoc true b c = refl
+both-assoc false b c = refl
+
+both-then-true : (a : Bool) → both a true ≡ a
+unfolding both
+both-then-true true = refl
+both-then-true false = refl
+
+-- octets put together by `bitOr` are zero where each is
+pub or-zero : (x y : ℕ) → eqb (bitOr x y) 0 ≡ both (eqb x 0) (eqb y 0)
+or-zero x y =
+    tested (eqb (bitOr x y) 0)
+    (λ t.
+    let e : bitOr x y ≡ 0 = eqb-true _ _ t in
+    t ∙ sym (both-true _ _ (eq-eqb x 0 (omega (arith, or-add-and x y, and-le-r x y))) (eq-eqb y 0 (omega (arith, or-add-and x y, and-le-l x y)))))
+    (λ f. f ∙ sym (is-false _ (λ t. eqb-false _ _ f (joined (eqb-true x 0 (both-true-left _ _ t)) (eqb-true y 0 (both-true-right _ _ t))))))
+  where
+    joined : x ≡ 0 → y ≡ 0 → bitOr x y ≡ 0
+    joined p q = omega (arith, or-add-and x y)
+
+-- a pass over octets that puts them together: nothing so far, and zeros left
+module _ (s : List ℕ) (i any : ℕ) where
+  pub zero-next : i < length s → both (eqb any 0) (allZero (drop i s)) ≡ allZero s → both (eqb (bitOr any (getD s i 0)) 0) (allZero (drop (i + 1) s)) ≡ allZero s
+  zero-next h p = rw (or-zero any (getD s i 0)) (both-assoc _ _ _ ∙ ap (both (eqb any 0)) (sym (zero-from s i h)) ∙ p)
+
+  pub zero-ends : length s ≤ i → both (eqb any 0) (allZero (drop i s)) ≡ allZero s → eqb any 0 ≡ allZero s
+  unfolding allZero
+  zero-ends h p = sym (both-then-true (eqb any 0)) ∙ ap (both (eqb any 0)) (rw (drop-of-length-le s h)) ∙ p

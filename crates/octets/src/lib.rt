@@ -1,6 +1,7 @@
 // Octets in slices, and the numbers that calls give back: what the codecs share. Neither installed nor exported to C, so
 // its helpers may have a `requires`.
 pub mod number;
+pub mod order;
 pub mod parts;
 pub mod wide;
 
