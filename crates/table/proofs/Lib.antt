@@ -4,3 +4,4 @@ pub mod Moves
 pub mod Places
 pub mod Changes
 pub mod Scans
+pub mod Standing
