@@ -1,0 +1,232 @@
+//! Mixed calls of several routers on one table, in several orders (document 01, "Mixed calls and each router's book").
+//!
+//! Where the installs name no more well-formed NLRIs than there are places, each call is compared with its router's
+//! book, and the list is run again in other orders that keep each router's own. Elsewhere it is compared with the table.
+
+use super::{
+    routes::{bad_attributes, bad_nlris, good_attributes, picked, Addresses},
+    samples::GOOD_AFIS,
+};
+use crate::{
+    compare::{disagree, Checked, Disagreement, Harness},
+    coverage::{Call, Seen, PLACES},
+    random::Random,
+    second::{
+        books::{Books, Router},
+        choice::Flow,
+        rows::Field,
+        table::{size, Table, MOST_PLACES},
+        table_calls::{TableAnswer, TableCall},
+        Second,
+    },
+};
+use std::collections::{BTreeMap, BTreeSet};
+
+/// Runs of a list in other orders.
+const ORDERS: usize = 4;
+
+/// Calls of sequences on small tables: one for so many random cases.
+const CASES_A_CALL: u64 = 10;
+
+pub fn all(harness: &mut Harness, random: &mut Random, cases: u64) -> Checked {
+    while harness.sequence_calls < cases / CASES_A_CALL {
+        for afi in GOOD_AFIS {
+            for places in PLACES.into_iter().filter(|places| *places < MOST_PLACES) {
+                let length = 10 + random.below(70);
+                both(harness, random, afi, places, length)?;
+            }
+        }
+    }
+    GOOD_AFIS.into_iter().try_for_each(|afi| both(harness, random, afi, MOST_PLACES, 1_200))
+}
+
+/// A list that keeps the premise of demand 3 and one that has NLRIs for more than the places.
+fn both(harness: &mut Harness, random: &mut Random, afi: u16, places: usize, length: usize) -> Checked {
+    let within = Stock::new(random, afi, places);
+    Sequence::new(&within, random, places, length).compare(harness, random)?;
+    let over = places + 1 + random.below(places + 2);
+    let beyond = Stock::new(random, afi, over);
+    Sequence::new(&beyond, random, places, length).compare(harness, random)
+}
+
+/// What the calls of a list draw from.
+struct Stock {
+    addresses: Addresses,
+    /// The well-formed NLRIs that installs name.
+    installed: Vec<Vec<u8>>,
+    /// Other well-formed NLRIs, for withdrawals.
+    absent: Vec<Vec<u8>>,
+    bad_nlris: Vec<Vec<u8>>,
+    attributes: Vec<Vec<u8>>,
+    bad_attributes: Vec<Vec<u8>>,
+    outputs: Vec<Vec<u8>>,
+}
+
+impl Stock {
+    fn new(random: &mut Random, afi: u16, installed: usize) -> Self {
+        let addresses = Addresses::of_family(afi);
+        Stock {
+            installed: addresses.nlris(random, installed),
+            absent: addresses.nlris(random, 3),
+            bad_nlris: bad_nlris(afi),
+            attributes: good_attributes(),
+            bad_attributes: bad_attributes(),
+            outputs: [0, 60, 123, 124, 124, 124, 130, 200].map(|size| random.octets(size)).to_vec(),
+            addresses,
+        }
+    }
+
+    fn call(&self, random: &mut Random) -> TableCall<'_> {
+        match random.below(20) {
+            0..=7 => TableCall::Install {
+                nlri: self.nlri(random, &self.installed),
+                attribute: match random.once_in(6) {
+                    true => picked(random, &self.bad_attributes),
+                    false => picked(random, &self.attributes),
+                },
+            },
+            8..=12 => {
+                let well_formed = if random.once_in(6) { &self.absent } else { &self.installed };
+                TableCall::Withdraw { nlri: self.nlri(random, well_formed) }
+            }
+            _ => TableCall::Match { flow: self.flow(random), output: picked(random, &self.outputs) },
+        }
+    }
+
+    /// One of these NLRIs; now and then, and where there are none, one that is not a well-formed S-PMSI NLRI.
+    fn nlri<'a>(&'a self, random: &mut Random, well_formed: &'a [Vec<u8>]) -> &'a [u8] {
+        match well_formed.is_empty() || random.once_in(10) {
+            true => picked(random, &self.bad_nlris),
+            false => picked(random, well_formed),
+        }
+    }
+
+    /// A flow, half the time one that an installed NLRI may take; now and then one field has another size.
+    fn flow(&self, random: &mut Random) -> Flow<'_> {
+        let mut flow = self.addresses.flow(random);
+        if !self.installed.is_empty() && random.once_in(2) {
+            flow = self.towards(flow, picked(random, &self.installed));
+        }
+        let size = random.below(4);
+        match random.below(20) {
+            0 => Flow { router: &flow.router[..size], ..flow },
+            1 => Flow { source: &flow.source[..size], ..flow },
+            2 => Flow { group: &flow.group[..size], ..flow },
+            _ => flow,
+        }
+    }
+
+    /// The flow with the originator and the addresses of a well-formed NLRI; its wildcards leave the flow's own.
+    fn towards<'a>(&'a self, flow: Flow<'a>, nlri: &'a [u8]) -> Flow<'a> {
+        let second = Second::sound();
+        let Ok(reading) = second.single(self.addresses.afi, nlri) else { return flow };
+        let of = |field, own| Some(reading.octets(field)).filter(|octets| !octets.is_empty()).unwrap_or(own);
+        Flow {
+            router: reading.octets(Field::Originator),
+            source: of(Field::Source, flow.source),
+            group: of(Field::Group, flow.group),
+        }
+    }
+}
+
+/// A list of calls on a table just made.
+struct Sequence<'a> {
+    afi: u16,
+    places: usize,
+    calls: Vec<TableCall<'a>>,
+    /// The router that each call belongs to.
+    routers: Vec<Option<Router>>,
+    premise: bool,
+}
+
+/// Each call's answer, in the order of the list, and the table octets at the end.
+type Outcome = (Vec<TableAnswer>, Vec<u8>);
+
+impl<'a> Sequence<'a> {
+    /// At first mostly an install of each NLRI in turn, so that the table fills, then any calls.
+    fn new(stock: &'a Stock, random: &mut Random, places: usize, length: usize) -> Self {
+        let mut next = stock.installed.iter();
+        let mut call = || match (!random.once_in(8)).then(|| next.next()).flatten() {
+            Some(nlri) => TableCall::Install { nlri, attribute: picked(random, &stock.attributes) },
+            None => stock.call(random),
+        };
+        let calls: Vec<TableCall> = (0..length).map(|_| call()).collect();
+        let afi = stock.addresses.afi;
+        let routers: Vec<_> = calls.iter().map(|call| Second::sound().router(afi, call)).collect();
+        let installed = calls.iter().zip(&routers).filter_map(|(call, router)| match call {
+            TableCall::Install { nlri, .. } if router.is_some() => Some(nlri),
+            _ => None,
+        });
+        let premise = installed.collect::<BTreeSet<_>>().len() <= places;
+        Sequence { afi, places, calls, routers, premise }
+    }
+
+    fn compare(&self, harness: &mut Harness, random: &mut Random) -> Checked {
+        let listed: Vec<usize> = (0..self.calls.len()).collect();
+        let first = self.run(harness, random, &listed)?;
+        if !self.premise {
+            return Ok(());
+        }
+        for number in 0..ORDERS {
+            let order = if number == 0 { self.one_after_another(random) } else { self.interleaved(random) };
+            let again = self.run(harness, random, &order)?;
+            if again != first {
+                return disagree(format!("{:?} in the order {order:?}", self.calls), shown(&again), shown(&first));
+            }
+        }
+        Ok(())
+    }
+
+    /// Makes a table and the calls in this order; after each, the answer and the table octets are compared.
+    fn run(&self, harness: &mut Harness, random: &mut Random, order: &[usize]) -> Result<Outcome, Disagreement> {
+        harness.make(self.afi, &random.octets(size(self.places)))?;
+        let mut books = Books::new(harness.second, self.afi, self.places);
+        let mut table = Table::new(self.afi, self.places);
+        let mut answers = BTreeMap::new();
+        for occurrence in order {
+            let call = &self.calls[*occurrence];
+            let (answer, image) = match self.premise {
+                true => (books.answer(call), books.image()),
+                false => (harness.second.on_table(&mut table, call), table.image()),
+            };
+            answers.insert(*occurrence, harness.next_call(call, &answer, &image)?);
+            harness.coverage.count(Call::Sequence, Seen::Places(self.afi, self.places, self.premise));
+            if self.routers[*occurrence].is_none() {
+                harness.coverage.count(Call::Sequence, Seen::Nobody);
+            }
+        }
+        Ok((answers.into_values().collect(), harness.table().to_vec()))
+    }
+
+    /// All calls of one router, then all of another; calls of nobody before, between or after them.
+    fn one_after_another(&self, random: &mut Random) -> Vec<usize> {
+        let ranks: BTreeMap<_, _> = self.routers.iter().flatten().map(|router| (router, random.number())).collect();
+        let rank = |router: &Option<Router>| router.as_ref().map_or_else(|| random.number(), |router| ranks[router]);
+        sorted(self.routers.iter().map(rank).collect())
+    }
+
+    /// The routers' calls mixed anew, each router's in its own order; calls of nobody anywhere.
+    fn interleaved(&self, random: &mut Random) -> Vec<usize> {
+        let mut ranks: Vec<u64> = self.routers.iter().map(|_| random.number()).collect();
+        let routers: BTreeSet<_> = self.routers.iter().flatten().collect();
+        for router in routers {
+            let own = |place: &usize| self.routers[*place].as_ref() == Some(router);
+            let places: Vec<usize> = (0..ranks.len()).filter(own).collect();
+            let mut drawn: Vec<u64> = places.iter().map(|place| ranks[*place]).collect();
+            drawn.sort();
+            places.iter().zip(drawn).for_each(|(place, rank)| ranks[*place] = rank);
+        }
+        sorted(ranks)
+    }
+}
+
+/// The places of the ranks, the lowest first; equal ranks stay in order.
+fn sorted(ranks: Vec<u64>) -> Vec<usize> {
+    let mut order: Vec<usize> = (0..ranks.len()).collect();
+    order.sort_by_key(|place| ranks[*place]);
+    order
+}
+
+fn shown((answers, image): &Outcome) -> String {
+    format!("{answers:?} and then {}", crate::hexadecimal::encode(image))
+}
