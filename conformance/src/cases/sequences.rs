@@ -22,8 +22,9 @@ use crate::{
 };
 use std::collections::{BTreeMap, BTreeSet};
 
-/// Runs of a list in other orders.
+/// Runs of a list in other orders: on small tables and on the largest.
 const ORDERS: usize = 4;
+const ORDERS_OF_LARGEST: usize = 2;
 
 /// Calls of sequences on small tables: one for so many random cases.
 const CASES_A_CALL: u64 = 10;
@@ -167,7 +168,8 @@ impl<'a> Sequence<'a> {
         if !self.premise {
             return Ok(());
         }
-        for number in 0..ORDERS {
+        let orders = if self.places == MOST_PLACES { ORDERS_OF_LARGEST } else { ORDERS };
+        for number in 0..orders {
             let order = if number == 0 { self.one_after_another(random) } else { self.interleaved(random) };
             let again = self.run(harness, random, &order)?;
             if again != first {

@@ -2,7 +2,7 @@
 
 use super::{
     damage::DAMAGES,
-    routes::{bad_attributes, bad_nlris, good_attributes, picked, Addresses},
+    routes::{bad_attributes, bad_nlris, good_attributes, picked, s_pmsi, Addresses},
     samples::{BAD_AFIS, GOOD_AFIS},
 };
 use crate::{
@@ -141,7 +141,7 @@ fn each_call(
     Ok(())
 }
 
-/// A match that a (C-*,C-*) route takes, where there is one.
+/// A match of one flow, which a (C-*,C-*) route of its router takes too.
 fn match_any(harness: &mut Harness, addresses: &Addresses, memory: Input) -> Checked {
     let flow = Flow { router: &addresses.routers[0], source: &addresses.sources[0], group: &addresses.groups[0] };
     harness.table_call(memory, TableCall::Match { flow, output: &OUTPUT }).map(drop)
@@ -181,21 +181,37 @@ fn memory_sizes(harness: &mut Harness, random: &mut Random, addresses: &Addresse
     Ok(())
 }
 
-/// Every other value at each octet of a table with a place taken and one free.
+/// Every other value at each octet of tables with a place taken and one free: a route for a single flow, and one for all.
+/// Some other values at each octet of a table with two places taken.
 fn every_octet(harness: &mut Harness, random: &mut Random, addresses: &Addresses) -> Checked {
-    for (places, count) in [(2, 1), (3, 2)] {
-        let table = addresses.table(random, places, count);
-        let mut memory = table.image();
-        for place in 0..memory.len() {
-            let kept = memory[place];
-            let differences = if count == 1 { 1..=255 } else { 1..=8 };
-            for difference in differences {
-                memory[place] = kept ^ difference;
-                match_any(harness, addresses, Input::from(&memory))?;
-            }
-            each_call(harness, random, addresses, &table, &memory)?;
-            memory[place] = kept;
+    let Addresses { distinguishers, sources, groups, routers, .. } = addresses;
+    let attribute = good_attributes().swap_remove(1);
+    for (source, group) in [(&sources[0][..], &groups[0][..]), (&[], &[])] {
+        let mut table = Table::new(addresses.afi, 2);
+        table.routes.insert(s_pmsi(&distinguishers[1], source, group, &routers[0]), attribute.clone());
+        changes(harness, random, addresses, &table, 255)?;
+    }
+    let two = addresses.table(random, 3, 2);
+    changes(harness, random, addresses, &two, 8)
+}
+
+/// Other values at each octet of the table, so many of them.
+fn changes(
+    harness: &mut Harness,
+    random: &mut Random,
+    addresses: &Addresses,
+    table: &Table,
+    differences: u8,
+) -> Checked {
+    let mut memory = table.image();
+    for place in 0..memory.len() {
+        let kept = memory[place];
+        for difference in 1..=differences {
+            memory[place] = kept ^ difference;
+            match_any(harness, addresses, Input::from(&memory))?;
         }
+        each_call(harness, random, addresses, table, &memory)?;
+        memory[place] = kept;
     }
     Ok(())
 }

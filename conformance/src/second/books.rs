@@ -62,6 +62,9 @@ impl Second {
     /// A call of the book's router. A book has no places, so none of its installs lacks room.
     fn in_book(&self, afi: u16, book: &mut Routes, call: &TableCall) -> TableAnswer {
         if let Some(number) = self.refusal(afi, call) {
+            if let (TableCall::Install { nlri, attribute }, true) = (call, self.has(Fault::BookTakesRefused)) {
+                book.insert(nlri.to_vec(), attribute.to_vec());
+            }
             return self.refused(call, number);
         }
         match *call {

@@ -87,6 +87,7 @@ pub enum Fault {
     DistinguisherSigned,
     OutputCleared,
     OneBook,
+    BookTakesRefused,
 }
 
 /// Each fault, its name on the command line, and what it does.
@@ -134,7 +135,7 @@ pub const FAULTS: [(Fault, &str, &str); 40] = [
 ];
 
 /// The faults of the table and of the books, which only the table calls show.
-pub const TABLE_FAULTS: [(Fault, &str, &str); 42] = [
+pub const TABLE_FAULTS: [(Fault, &str, &str); 43] = [
     (PlacesLimitOff, "places-limit-off", "a table may have 501 places"),
     (PartPlaceAllowed, "part-place-allowed", "a table's size need not be a whole number of places"),
     (VersionUnchecked, "version-unchecked", "any version is sound"),
@@ -177,6 +178,7 @@ pub const TABLE_FAULTS: [(Fault, &str, &str); 42] = [
     (DistinguisherSigned, "distinguisher-signed", "distinguishers are compared as signed octets"),
     (OutputCleared, "output-cleared", "a match clears the output past its answer"),
     (OneBook, "one-book", "all routers share one book"),
+    (BookTakesRefused, "book-takes-refused", "a refused install enters its router's book"),
 ];
 
 impl Fault {
