@@ -11,7 +11,7 @@ use crate::{
     random::Random,
     second::{
         choice::Flow,
-        table::{size, Table, MOST_PLACES},
+        table::{size, Table, MOST_PLACES, PLACE},
         table_calls::TableCall,
     },
 };
@@ -38,14 +38,14 @@ pub fn all(harness: &mut Harness, random: &mut Random) -> Checked {
 
 /// Making a table in any memory: every size about a few places and about the most, every AFI.
 fn making(harness: &mut Harness, random: &mut Random) -> Checked {
-    let whole = random.octets(size(MOST_PLACES + 20));
+    let whole = random.octets(size(520));
     let about = |places: usize| size(places) - 2..=size(places) + 2;
     let sizes = (0..=size(3)).chain(about(16)).chain(about(MOST_PLACES)).chain(about(MOST_PLACES + 1));
     // 512 places have the octets of none in the low 16 bits of their size.
     for octets in sizes.chain([size(512)]) {
         for afi in GOOD_AFIS.into_iter().chain(BAD_AFIS) {
             harness.inputs += 1;
-            harness.make(afi, Input::cut(&whole, octets))?;
+            harness.make(afi, Input { octets: &whole[..octets], after: &whole[octets..octets + PLACE] })?;
         }
     }
     Ok(())
