@@ -4,7 +4,7 @@
 //! book, and the list is run again in other orders that keep each router's own. Elsewhere it is compared with the table.
 
 use super::{
-    routes::{bad_attributes, bad_nlris, good_attributes, picked, Addresses},
+    routes::{bad_attributes, bad_nlris, good_attributes, picked, s_pmsi, Addresses},
     samples::GOOD_AFIS,
 };
 use crate::{
@@ -13,7 +13,7 @@ use crate::{
     random::Random,
     second::{
         books::{Books, Router},
-        choice::Flow,
+        choice::{Flow, LEAST_OUTPUT},
         rows::Field,
         table::{size, Table, MOST_PLACES},
         table_calls::{TableAnswer, TableCall},
@@ -30,7 +30,11 @@ const ORDERS_OF_LARGEST: usize = 2;
 const CASES_A_CALL: u64 = 10;
 
 pub fn all(harness: &mut Harness, random: &mut Random, cases: u64) -> Checked {
-    while harness.sequence_calls < cases / CASES_A_CALL {
+    for afi in GOOD_AFIS {
+        [0, 1, 2].into_iter().try_for_each(|places| short_lists(harness, random, afi, places))?;
+    }
+    let short = harness.sequence_calls;
+    while harness.sequence_calls - short < cases / CASES_A_CALL {
         for afi in GOOD_AFIS {
             for places in PLACES.into_iter().filter(|places| *places < MOST_PLACES) {
                 let length = 10 + random.below(70);
@@ -39,6 +43,34 @@ pub fn all(harness: &mut Harness, random: &mut Random, cases: u64) -> Checked {
         }
     }
     GOOD_AFIS.into_iter().try_for_each(|afi| both(harness, random, afi, MOST_PLACES, 1_200))
+}
+
+/// Every list of three calls, of these: installs, withdrawals and matches of two routers, and calls of nobody.
+fn short_lists(harness: &mut Harness, random: &mut Random, afi: u16, places: usize) -> Checked {
+    let Addresses { distinguishers, sources, groups, routers, .. } = Addresses::of_family(afi);
+    let nlris = [(0, 2), (0, 1), (1, 1)].map(|(router, distinguisher)| {
+        s_pmsi(&distinguishers[distinguisher], &sources[0], &groups[0], &routers[router])
+    });
+    let (good, bad, output) = (good_attributes(), bad_attributes(), random.octets(LEAST_OUTPUT));
+    let mut calls = Vec::new();
+    for nlri in &nlris {
+        let attributes = [&good[1], &good[2], &bad[8]];
+        calls.extend(attributes.map(|attribute| TableCall::Install { nlri, attribute }));
+        calls.push(TableCall::Withdraw { nlri });
+    }
+    for router in [&routers[0][..], &routers[1], &[10, 0, 0]] {
+        let flow = Flow { router, source: &sources[0], group: &groups[0] };
+        calls.push(TableCall::Match { flow, output: &output });
+    }
+    let cut = &nlris[0][..20];
+    calls.extend([TableCall::Install { nlri: cut, attribute: &good[1] }, TableCall::Withdraw { nlri: cut }]);
+    for (first, second) in calls.iter().flat_map(|first| calls.iter().map(move |second| (first, second))) {
+        for third in &calls {
+            let list = Sequence::of(afi, places, vec![*first, *second, *third]);
+            list.run(harness, random, &[0, 1, 2])?;
+        }
+    }
+    Ok(())
 }
 
 /// A list that keeps the premise of demand 3 and one that has NLRIs for more than the places.
@@ -151,8 +183,11 @@ impl<'a> Sequence<'a> {
             Some(nlri) => TableCall::Install { nlri, attribute: picked(random, &stock.attributes) },
             None => stock.call(random),
         };
-        let calls: Vec<TableCall> = (0..length).map(|_| call()).collect();
-        let afi = stock.addresses.afi;
+        let calls = (0..length).map(|_| call()).collect();
+        Sequence::of(stock.addresses.afi, places, calls)
+    }
+
+    fn of(afi: u16, places: usize, calls: Vec<TableCall<'a>>) -> Self {
         let routers: Vec<_> = calls.iter().map(|call| Second::sound().router(afi, call)).collect();
         let installed = calls.iter().zip(&routers).filter_map(|(call, router)| match call {
             TableCall::Install { nlri, .. } if router.is_some() => Some(nlri),

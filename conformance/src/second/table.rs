@@ -129,7 +129,7 @@ impl Second {
         }
     }
 
-    /// Whether the label suits the tunnel: BIER may not have label 0 (RFC 8556, section 2).
+    /// Whether the label suits the tunnel: BIER may not have label 0 (document 01, LABEL).
     fn labelled(&self, attribute: &Attribute) -> bool {
         let shift = if self.has(Fault::FieldTestedForLabel) { 0 } else { 4 };
         attribute.tunnel_type != BIER || attribute.label_field >> shift != 0
