@@ -10,6 +10,7 @@ use super::{
 use crate::{
     compare::{disagree, Checked, Disagreement, Harness},
     coverage::{Call, Seen, PLACES},
+    hexadecimal::encode,
     random::Random,
     second::{
         books::{Books, Router},
@@ -67,7 +68,7 @@ fn short_lists(harness: &mut Harness, random: &mut Random, afi: u16, places: usi
     for (first, second) in calls.iter().flat_map(|first| calls.iter().map(move |second| (first, second))) {
         for third in &calls {
             let list = Sequence::of(afi, places, vec![*first, *second, *third]);
-            list.run(harness, random, &[0, 1, 2])?;
+            list.run(harness, random, &[0, 1, 2], None)?;
         }
     }
     Ok(())
@@ -199,23 +200,31 @@ impl<'a> Sequence<'a> {
 
     fn compare(&self, harness: &mut Harness, random: &mut Random) -> Checked {
         let listed: Vec<usize> = (0..self.calls.len()).collect();
-        let first = self.run(harness, random, &listed)?;
+        let (answers, octets) = self.run(harness, random, &listed, None)?;
         if !self.premise {
             return Ok(());
         }
         let orders = if self.places == MOST_PLACES { ORDERS_OF_LARGEST } else { ORDERS };
         for number in 0..orders {
             let order = if number == 0 { self.one_after_another(random) } else { self.interleaved(random) };
-            let again = self.run(harness, random, &order)?;
-            if again != first {
-                return disagree(format!("{:?} in the order {order:?}", self.calls), shown(&again), shown(&first));
+            let (_, again) = self.run(harness, random, &order, Some(&answers))?;
+            if again != octets {
+                let call = format!("{:?} in the order {order:?}", self.calls);
+                return disagree(call, encode(&again), encode(&octets));
             }
         }
         Ok(())
     }
 
-    /// Makes a table and the calls in this order; after each, the answer and the table octets are compared.
-    fn run(&self, harness: &mut Harness, random: &mut Random, order: &[usize]) -> Result<Outcome, Disagreement> {
+    /// Makes a table and the calls in this order. Each call must get the answer it got in an earlier order, at first that
+    /// of its book or of the table; after it the table octets are compared.
+    fn run(
+        &self,
+        harness: &mut Harness,
+        random: &mut Random,
+        order: &[usize],
+        earlier: Option<&[TableAnswer]>,
+    ) -> Result<Outcome, Disagreement> {
         harness.make(self.afi, &random.octets(size(self.places)))?;
         let mut books = Books::new(harness.second, self.afi, self.places);
         let mut table = Table::new(self.afi, self.places);
@@ -226,7 +235,8 @@ impl<'a> Sequence<'a> {
                 true => (books.answer(call), books.image()),
                 false => (harness.second.on_table(&mut table, call), table.image()),
             };
-            answers.insert(*occurrence, harness.next_call(call, &answer, &image)?);
+            let answer = earlier.map_or(&answer, |answers| &answers[*occurrence]);
+            answers.insert(*occurrence, harness.next_call(call, answer, &image)?);
             harness.coverage.count(Call::Sequence, Seen::Places(self.afi, self.places, self.premise));
             if self.routers[*occurrence].is_none() {
                 harness.coverage.count(Call::Sequence, Seen::Nobody);
@@ -247,23 +257,53 @@ impl<'a> Sequence<'a> {
         let mut ranks: Vec<u64> = self.routers.iter().map(|_| random.number()).collect();
         let routers: BTreeSet<_> = self.routers.iter().flatten().collect();
         for router in routers {
-            let own = |place: &usize| self.routers[*place].as_ref() == Some(router);
-            let places: Vec<usize> = (0..ranks.len()).filter(own).collect();
-            let mut drawn: Vec<u64> = places.iter().map(|place| ranks[*place]).collect();
+            let own = |occurrence: &usize| self.routers[*occurrence].as_ref() == Some(router);
+            let calls: Vec<usize> = (0..ranks.len()).filter(own).collect();
+            let mut drawn: Vec<u64> = calls.iter().map(|occurrence| ranks[*occurrence]).collect();
             drawn.sort();
-            places.iter().zip(drawn).for_each(|(place, rank)| ranks[*place] = rank);
+            calls.iter().zip(drawn).for_each(|(occurrence, rank)| ranks[*occurrence] = rank);
         }
         sorted(ranks)
     }
 }
 
-/// The places of the ranks, the lowest first; equal ranks stay in order.
+/// The calls by rank, the lowest first; calls of equal rank stay in order.
 fn sorted(ranks: Vec<u64>) -> Vec<usize> {
     let mut order: Vec<usize> = (0..ranks.len()).collect();
-    order.sort_by_key(|place| ranks[*place]);
+    order.sort_by_key(|occurrence| ranks[*occurrence]);
     order
 }
 
-fn shown((answers, image): &Outcome) -> String {
-    format!("{answers:?} and then {}", crate::hexadecimal::encode(image))
+#[cfg(test)]
+mod tests {
+    use super::*;
+
+    /// The router's calls in an order.
+    fn calls_of(sequence: &Sequence, order: &[usize], router: &Router) -> Vec<usize> {
+        let own = |occurrence: &usize| sequence.routers[*occurrence].as_ref() == Some(router);
+        order.iter().copied().filter(own).collect()
+    }
+
+    #[test]
+    fn orders_keep_each_routers_own() {
+        let mut random = Random::new(3);
+        let stock = Stock::new(&mut random, 1, 16);
+        let sequence = Sequence::new(&stock, &mut random, 16, 200);
+        let listed: Vec<usize> = (0..200).collect();
+        let routers: BTreeSet<Router> = sequence.routers.iter().flatten().cloned().collect();
+        assert!(routers.len() > 3 && sequence.routers.contains(&None) && sequence.premise);
+        let (one_after_another, interleaved) =
+            (sequence.one_after_another(&mut random), sequence.interleaved(&mut random));
+        for order in [&one_after_another, &interleaved] {
+            assert_eq!(order.iter().copied().collect::<BTreeSet<_>>().len(), 200);
+            assert_ne!(*order, listed);
+            for router in &routers {
+                assert_eq!(calls_of(&sequence, order, router), calls_of(&sequence, &listed, router));
+            }
+        }
+        let mut owners: Vec<_> =
+            one_after_another.iter().filter_map(|occurrence| sequence.routers[*occurrence].clone()).collect();
+        owners.dedup();
+        assert_eq!(owners.len(), routers.len());
+    }
 }
