@@ -1,4 +1,4 @@
-//! What the comparison has met: the numbers of each call, route types, tunnel types and group classes.
+//! What the comparison has met: the numbers of each call, route types, tunnel types, group classes, outcomes and tiers.
 
 use std::collections::BTreeMap;
 
@@ -14,6 +14,12 @@ pub enum Call {
     GroupClass,
     AttributeRead,
     AttributeWrite,
+    Make,
+    Install,
+    Withdraw,
+    Match,
+    /// A call in a sequence on one table.
+    Sequence,
 }
 
 #[derive(Clone, Copy, Debug, PartialEq, Eq, PartialOrd, Ord)]
@@ -32,10 +38,20 @@ pub enum Seen {
     Tunnel(u32),
     /// Tunnel type, FEC type and address family.
     Fec(u32, u32, u32),
+    /// A table made or a route withdrawn: AFI.
+    Family(u16),
+    /// AFI and outcome of an install.
+    Outcome(u16, u32),
+    /// AFI and tier of a match.
+    Tier(u16, u32),
+    /// AFI and places of a sequence's table, and whether the premise of demand 3 holds.
+    Places(u16, usize, bool),
+    /// A call of a sequence that belongs to nobody.
+    Nobody,
 }
 
 /// The numbers that each call can give (document 01, "Order").
-const NUMBERS: [(Call, &[u32]); 7] = [
+const NUMBERS: [(Call, &[u32]); 11] = [
     (Call::NlriRead, &[0, 1, 2, 3, 4, 5, 10]),
     (Call::NlriWrite, &[0, 2, 4, 5, 10, 16]),
     (Call::Step, &[0, 1, 2, 3, 4, 5, 8, 10]),
@@ -43,7 +59,14 @@ const NUMBERS: [(Call, &[u32]); 7] = [
     (Call::GroupClass, &[0, 10, 15]),
     (Call::AttributeRead, &[0, 1, 6, 7, 8]),
     (Call::AttributeWrite, &[0, 6, 7, 8, 9, 16]),
+    (Call::Make, &[0, 10, 11]),
+    (Call::Install, &[0, 1, 2, 3, 4, 5, 6, 7, 8, 9, 11, 12, 13]),
+    (Call::Withdraw, &[0, 1, 2, 3, 4, 5, 11, 12, 14]),
+    (Call::Match, &[0, 11, 15, 16]),
 ];
+
+/// The numbers of places that sequences and table cases use.
+pub const PLACES: [usize; 5] = [0, 1, 2, 16, 500];
 
 const TUNNELS: [u32; 9] = [0, 1, 2, 3, 4, 5, 6, 7, 11];
 
@@ -79,7 +102,19 @@ fn required() -> Vec<(Call, Seen)> {
     let elements = [(2, 6), (7, 7), (7, 8)]
         .into_iter()
         .flat_map(|(tunnel, element)| [1, 2].map(|family| (Call::AttributeRead, Seen::Fec(tunnel, element, family))));
-    numbers.chain(families).chain(tunnels).chain(elements).chain([(Call::Step, Seen::End)]).collect()
+    let tables = [1, 2].into_iter().flat_map(required_of_tables);
+    let single = [(Call::Step, Seen::End), (Call::Sequence, Seen::Nobody)];
+    numbers.chain(families).chain(tunnels).chain(elements).chain(tables).chain(single).collect()
+}
+
+fn required_of_tables(afi: u16) -> Vec<(Call, Seen)> {
+    let mut rows = vec![(Call::Make, Seen::Family(afi)), (Call::Withdraw, Seen::Family(afi))];
+    rows.extend((1..=2).map(|outcome| (Call::Install, Seen::Outcome(afi, outcome))));
+    rows.extend((0..=4).map(|tier| (Call::Match, Seen::Tier(afi, tier))));
+    for places in PLACES {
+        rows.extend([true, false].map(|premise| (Call::Sequence, Seen::Places(afi, places, premise))));
+    }
+    rows
 }
 
 fn required_of_family(afi: u16) -> Vec<(Call, Seen)> {

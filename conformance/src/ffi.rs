@@ -124,6 +124,23 @@ pub struct AttributeReading {
     pub fec: Fec,
 }
 
+#[repr(C)]
+#[derive(Clone, Copy, Debug, Default, PartialEq, Eq)]
+pub struct Installed {
+    pub number: u32,
+    /// 1 new, 2 replaced, 0 where the install is refused.
+    pub outcome: u32,
+}
+
+#[repr(C)]
+#[derive(Clone, Copy, Debug, Default, PartialEq, Eq)]
+pub struct Matched {
+    pub number: u32,
+    pub tier: u32,
+    pub nlri_size: u32,
+    pub attribute_size: u32,
+}
+
 // The sizes that a C compiler gives these structs where size_t has eight octets.
 #[cfg(target_pointer_width = "64")]
 const _: () = assert!(
@@ -132,6 +149,8 @@ const _: () = assert!(
         && size_of::<NlriReading>() == 88
         && size_of::<Stepped>() == 64
         && size_of::<AttributeReading>() == 80
+        && size_of::<Installed>() == 8
+        && size_of::<Matched>() == 16
 );
 
 /// The calls as C declares them.
@@ -145,6 +164,13 @@ pub mod raw {
     pub type GroupClass = unsafe extern "C" fn(u16, *const u8, usize) -> Group;
     pub type AttributeRead = unsafe extern "C" fn(*const u8, usize) -> AttributeReading;
     pub type AttributeWrite = unsafe extern "C" fn(u8, u8, u32, *const u8, usize, *mut u8, usize) -> Written;
+    pub type Make = unsafe extern "C" fn(u16, *mut u8, usize) -> u32;
+    pub type Install = unsafe extern "C" fn(*mut u8, usize, *const u8, usize, *const u8, usize) -> Installed;
+    pub type Withdraw = unsafe extern "C" fn(*mut u8, usize, *const u8, usize) -> u32;
+    #[rustfmt::skip]
+    pub type Match = unsafe extern "C" fn(
+        *const u8, usize, *const u8, usize, *const u8, usize, *const u8, usize, *mut u8, usize,
+    ) -> Matched;
 
     extern "C" {
         pub fn mvpn_nlri_read(afi: u16, nlri: *const u8, nlri_len: usize) -> NlriReading;
@@ -169,6 +195,28 @@ pub mod raw {
             output: *mut u8,
             output_len: usize,
         ) -> Written;
+        pub fn mvpn_make(afi: u16, table: *mut u8, table_len: usize) -> u32;
+        pub fn mvpn_install(
+            table: *mut u8,
+            table_len: usize,
+            nlri: *const u8,
+            nlri_len: usize,
+            attribute: *const u8,
+            attribute_len: usize,
+        ) -> Installed;
+        pub fn mvpn_withdraw(table: *mut u8, table_len: usize, nlri: *const u8, nlri_len: usize) -> u32;
+        pub fn mvpn_match(
+            table: *const u8,
+            table_len: usize,
+            router: *const u8,
+            router_len: usize,
+            source: *const u8,
+            source_len: usize,
+            group: *const u8,
+            group_len: usize,
+            output: *mut u8,
+            output_len: usize,
+        ) -> Matched;
     }
 }
 
@@ -207,4 +255,37 @@ pub fn attribute_write(
 ) -> Written {
     let (octets, size) = (identifier.pointer(), identifier.len());
     unsafe { raw::mvpn_attribute_write(flags, tunnel_type, label_field, octets, size, output.pointer(), output.len()) }
+}
+
+pub fn make(afi: u16, table: &mut Lent) -> u32 {
+    unsafe { raw::mvpn_make(afi, table.pointer(), table.len()) }
+}
+
+pub fn install(table: &mut Lent, nlri: &mut Lent, attribute: &mut Lent) -> Installed {
+    let (octets, size) = (nlri.pointer(), nlri.len());
+    unsafe { raw::mvpn_install(table.pointer(), table.len(), octets, size, attribute.pointer(), attribute.len()) }
+}
+
+pub fn withdraw(table: &mut Lent, nlri: &mut Lent) -> u32 {
+    unsafe { raw::mvpn_withdraw(table.pointer(), table.len(), nlri.pointer(), nlri.len()) }
+}
+
+/// `flow` is the router, the source and the group.
+pub fn match_flow(table: &mut Lent, flow: &mut [Lent; 3], output: &mut Lent) -> Matched {
+    let [router, source, group] = flow.each_mut().map(|field| (field.pointer(), field.len()));
+    let (place, room) = (output.pointer(), output.len());
+    unsafe {
+        raw::mvpn_match(
+            table.pointer(),
+            table.len(),
+            router.0,
+            router.1,
+            source.0,
+            source.1,
+            group.0,
+            group.1,
+            place,
+            room,
+        )
+    }
 }

@@ -1,5 +1,5 @@
-//! An independent second decoder for MCAST-VPN NLRI and the PMSI Tunnel attribute, and the comparison of the archive
-//! `libmvpn.a` with it.
+//! An independent second decoder for MCAST-VPN NLRI and the PMSI Tunnel attribute, a second route table with each router's
+//! book, and the comparison of the archive `libmvpn.a` with them.
 
 pub mod cases;
 pub mod compare;

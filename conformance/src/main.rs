@@ -6,7 +6,8 @@
 //!
 //! Every answer is compared in all its fields, and every lent buffer with guard octets around it. The run prints its
 //! seed and counts. It ends with status 1 at the first disagreement, shown with the call, the input in hexadecimal and
-//! both answers, or where a number, route type, tunnel type or group class was met fewer than 100 times.
+//! both answers, or where a number, route type, tunnel type, group class, outcome, tier or kind of sequence was met fewer
+//! than 100 times.
 //!
 //! With `--fault NAME` one wrong behaviour is switched on in the second decoder; the status is then 0 only if the
 //! comparison finds no disagreement without the fault, and one with it. `--every-fault` does this for each fault in turn.
@@ -17,10 +18,7 @@ use conformance::{
     compare::Harness,
     coverage::LEAST,
     options::Options,
-    second::{
-        fault::{Fault, FAULTS},
-        Second,
-    },
+    second::{fault::Fault, Second},
 };
 use std::{env, process::ExitCode, time::Instant};
 
@@ -33,7 +31,7 @@ fn main() -> ExitCode {
         }
     };
     if options.list_faults {
-        FAULTS.iter().for_each(|(_, name, does)| println!("{name}: {does}"));
+        Fault::rows().for_each(|(_, name, does)| println!("{name}: {does}"));
         return ExitCode::SUCCESS;
     }
     println!("seed {}, random cases {}", options.seed, options.cases);
@@ -56,6 +54,7 @@ fn compare(options: &Options) -> bool {
     let result = cases::all(&mut harness, options);
     print!("{}", harness.coverage.report());
     let seconds = start.elapsed().as_secs_f64();
+    println!("{} calls compared in sequences", harness.sequence_calls);
     println!("{} inputs, {} calls compared, {seconds:.1} seconds", harness.inputs, harness.calls);
     if let Err(disagreement) = result {
         println!("DISAGREEMENT\n{disagreement}");
@@ -82,10 +81,14 @@ fn agrees(options: &Options) -> bool {
     }
 }
 
-/// Whether the comparison notices the fault.
+/// Whether the comparison notices the fault, on the calls that it concerns.
 fn finds(options: &Options, fault: Fault) -> bool {
     let mut harness = Harness::new(Second::with_fault(Some(fault)));
-    match cases::all(&mut harness, options) {
+    let result = match fault.of_tables() {
+        true => cases::of_tables(&mut harness, options),
+        false => cases::of_encodings(&mut harness, options),
+    };
+    match result {
         Err(disagreement) => {
             println!("{fault:?} found after {} calls compared", harness.calls);
             if !options.every_fault {
@@ -102,7 +105,8 @@ fn finds(options: &Options, fault: Fault) -> bool {
 
 /// Each fault in turn; all must be found.
 fn every_fault(options: &Options) -> bool {
-    let missed: Vec<_> = FAULTS.iter().filter(|(fault, _, _)| !finds(options, *fault)).collect();
-    println!("{} of {} faults found", FAULTS.len() - missed.len(), FAULTS.len());
-    missed.is_empty()
+    let faults = Fault::rows().count();
+    let found = Fault::rows().filter(|(fault, _, _)| finds(options, *fault)).count();
+    println!("{found} of {faults} faults found");
+    found == faults
 }

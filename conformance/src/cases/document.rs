@@ -1,11 +1,15 @@
 //! Document 01's marked examples and the points settled beside it, with the answers written from the page.
 
-use super::samples::BAD_AFIS;
+use super::{samples::BAD_AFIS, tables::OUTPUT};
 use crate::{
-    compare::{disagree, Checked, Harness},
-    ffi::{Group, Walked},
+    compare::{disagree, Checked, Disagreement, Harness},
+    ffi::{Group, Installed, Matched, Walked},
     hexadecimal::octets,
-    second::Second,
+    second::{
+        choice::Flow,
+        table_calls::{TableAnswer, TableCall},
+        Second,
+    },
 };
 
 /// The distinguisher 100:7 of the listing example.
@@ -80,6 +84,51 @@ pub const ATTRIBUTES: [(&str, &str, u32, u32); 14] = [
     ("FEC of family 1 with 16 octets", "00 07 000000 08 0001 10 00000000000000000000000000000000 0000", 7, 0),
 ];
 
+/// The routes A to E of router 10.0.0.1, NLRI with `RD` for the distinguisher and attribute, no two attributes the same.
+pub const ROUTES: [(&str, &str, &str); 5] = [
+    ("A", "0316 RD 20 C0000201 20 E8010101 0A000001", "01 06 000010 0A000001"),
+    ("B", "0312 RD 20 C0000201 00 0A000001", "00 0B 000020 01 0002 0A000001"),
+    ("C", "0312 RD 00 20 EF010101 0A000001", "00 03 000030 0A000001 E8000001"),
+    ("D", "030E RD 00 00 0A000001", "00 01 000040 0A000001 00000001 0A000001"),
+    ("E", "0312 RD 00 20 E8090909 0A000001", "00 02 000050 06 0001 04 0A000001 0000"),
+];
+
+/// The order of their NLRIs, octet by octet: the Length field first, then wildcards before addresses.
+pub const ORDER: [&str; 5] = ["D", "E", "C", "B", "A"];
+
+/// What it shows, router, source, group, tier, route.
+pub const FLOWS: [(&str, &str, &str, &str, u32, &str); 6] = [
+    ("P1", "0A000001", "C0000201", "E8010101", 1, "A"),
+    ("P2", "0A000001", "C0000201", "E8010102", 2, "B"),
+    ("P3: C, not B", "0A000001", "C0000201", "EF010101", 3, "C"),
+    ("P4", "0A000001", "C0000202", "E8010101", 4, "D"),
+    ("P5: D, not E", "0A000001", "C0000202", "E8090909", 4, "D"),
+    ("P6: another router", "0A000002", "C0000201", "E8010101", 0, ""),
+];
+
+/// What it shows, attribute, number, outcome of the install of a new route.
+pub const LABELS: [(&str, &str, u32, u32); 2] = [
+    ("P12: label field 00 00 0F", "00 0B 00000F 01 0002 0A000001", 9, 0),
+    ("P12: label field 00 00 10", "00 0B 000010 01 0002 0A000001", 0, 1),
+];
+
+/// The NLRI and attribute of one of A to E; no octets where there is none of that name.
+pub fn route(name: &str) -> (Vec<u8>, Vec<u8>) {
+    let named = ROUTES.iter().find(|(known, _, _)| *known == name);
+    named.map_or_else(Default::default, |(_, nlri, attribute)| (octets(&nlri.replace("RD", RD)), octets(attribute)))
+}
+
+/// The image of A to E in a table of six places, laid out from the page.
+pub fn table_image() -> Vec<u8> {
+    let places = ORDER.map(|name| {
+        let (nlri, attribute) = route(name);
+        let mut place = [&[nlri.len() as u8, attribute.len() as u8], &nlri[..], &attribute].concat();
+        place.resize(128, 0);
+        place
+    });
+    [b"MVT\x00\x01\x01\x00\x05", &places.concat()[..], &[0; 128]].concat()
+}
+
 pub fn all(harness: &mut Harness) -> Checked {
     groups(harness)?;
     nlris(harness)?;
@@ -139,6 +188,50 @@ fn runs(harness: &mut Harness) -> Checked {
         let refusal = Walked { number: 10, count: 0, offset: 0 };
         on_page("a bad AFI", harness.walk(afi, &listed)?, refusal)?;
         on_page("a bad AFI, empty run", harness.walk(afi, &[])?, refusal)?;
+    }
+    Ok(())
+}
+
+/// P1 to P6 and P12 with their whole answers, whatever the order of the installs.
+pub fn tables(harness: &mut Harness) -> Checked {
+    let mut names = ORDER;
+    for _ in 0..names.len() {
+        names.rotate_left(1);
+        on_page("A to E installed", installed(harness, &names)?, table_image())?;
+    }
+    let image = table_image();
+    flows(harness, &image)?;
+    for (shows, attribute, number, outcome) in LABELS {
+        let nlri = octets(&"030E RD 00 00 0A000002".replace("RD", RD));
+        let answer = harness.table_call(&image, TableCall::Install { nlri: &nlri, attribute: &octets(attribute) })?;
+        on_page(shows, answer, TableAnswer::Installed(Installed { number, outcome }))?;
+    }
+    Ok(())
+}
+
+/// The table after these routes are installed.
+fn installed(harness: &mut Harness, names: &[&str]) -> Result<Vec<u8>, Disagreement> {
+    let mut memory = vec![0xFF; 8 + 6 * 128];
+    on_page("making a table", harness.make(1, &memory)?, 0)?;
+    for name in names {
+        memory = harness.table().to_vec();
+        let (nlri, attribute) = route(name);
+        let answer = harness.table_call(&memory, TableCall::Install { nlri: &nlri, attribute: &attribute })?;
+        on_page(name, answer, TableAnswer::Installed(Installed { number: 0, outcome: 1 }))?;
+    }
+    Ok(harness.table().to_vec())
+}
+
+fn flows(harness: &mut Harness, image: &[u8]) -> Checked {
+    for (shows, router, source, group, tier, name) in FLOWS {
+        let [router, source, group] = [router, source, group].map(octets);
+        let flow = Flow { router: &router, source: &source, group: &group };
+        let (nlri, attribute) = route(name);
+        let [nlri_size, attribute_size] = [&nlri, &attribute].map(|octets| octets.len() as u32);
+        let mut output = [nlri, attribute].concat();
+        output.resize(OUTPUT.len(), OUTPUT[0]);
+        let page = TableAnswer::Matched(Matched { number: 0, tier, nlri_size, attribute_size }, output);
+        on_page(shows, harness.table_call(image, TableCall::Match { flow, output: &OUTPUT })?, page)?;
     }
     Ok(())
 }

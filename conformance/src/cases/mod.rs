@@ -1,7 +1,9 @@
 //! The inputs of the comparison, in the order they are given.
 
 pub mod attribute_writing;
+pub mod damage;
 pub mod document;
+pub mod flows;
 pub mod groups;
 pub mod headers;
 pub mod limits;
@@ -11,7 +13,10 @@ pub mod near;
 pub mod nlri_writing;
 pub mod outside;
 pub mod random_cases;
+pub mod routes;
 pub mod samples;
+pub mod sequences;
+pub mod tables;
 
 use crate::{
     compare::{Checked, Harness},
@@ -21,6 +26,12 @@ use crate::{
 
 /// Runs every kind of case; stops at the first disagreement.
 pub fn all(harness: &mut Harness, options: &Options) -> Checked {
+    of_encodings(harness, options)?;
+    of_tables(harness, options)
+}
+
+/// The calls that read and write, and the listing program.
+pub fn of_encodings(harness: &mut Harness, options: &Options) -> Checked {
     let mut random = Random::new(options.seed);
     document::all(harness)?;
     outside::all(harness, options.outside)?;
@@ -35,4 +46,13 @@ pub fn all(harness: &mut Harness, options: &Options) -> Checked {
         Some(program) => listing::all(harness, &mut random, program),
         None => Ok(()),
     }
+}
+
+/// The table calls.
+pub fn of_tables(harness: &mut Harness, options: &Options) -> Checked {
+    let mut random = Random::new(options.seed);
+    document::tables(harness)?;
+    flows::all(harness, &mut random)?;
+    tables::all(harness, &mut random)?;
+    sequences::all(harness, &mut random, options.cases)
 }

@@ -4,6 +4,7 @@ pub mod attribute;
 pub mod group;
 pub mod nlri;
 pub mod run;
+pub mod table;
 
 use crate::{coverage::Coverage, hexadecimal::encode, lent::Lent, second::Second};
 use std::fmt::{self, Debug, Display};
@@ -66,8 +67,15 @@ pub struct Harness {
     pub calls: u64,
     /// Inputs made, each given to one call or more.
     pub inputs: u64,
+    /// Calls compared in sequences on one table.
+    pub sequence_calls: u64,
+    /// The NLRI of a table call, and the only input of the calls without a table.
     input: Lent,
     output: Lent,
+    table: Lent,
+    attribute: Lent,
+    /// Router, source and group.
+    flow: [Lent; 3],
 }
 
 impl Harness {
@@ -92,17 +100,27 @@ impl Harness {
         second: &Answer,
     ) -> Checked {
         self.calls += 1;
-        if archive != second {
-            return disagree(call(), format!("{archive:?}"), format!("{second:?}"));
-        }
-        for (name, lent) in [("input", &self.input), ("output", &self.output)] {
-            if let Some(place) = lent.disturbed() {
-                let archive = format!("{archive:?}, octet {place} of the {name} is wrong: {}", encode(lent.octets()));
-                return disagree(call(), archive, format!("{second:?}, {name}: {}", encode(lent.expected())));
-            }
-        }
-        Ok(())
+        agreed(call, archive, second, &[("input", &self.input), ("output", &self.output)])
     }
+}
+
+/// Checks one answer, and that these buffers hold what they should.
+fn agreed<Answer: PartialEq + Debug>(
+    call: impl Fn() -> String,
+    archive: &Answer,
+    second: &Answer,
+    buffers: &[(&str, &Lent)],
+) -> Checked {
+    if archive != second {
+        return disagree(call(), format!("{archive:?}"), format!("{second:?}"));
+    }
+    for (name, lent) in buffers {
+        if let Some(place) = lent.disturbed() {
+            let archive = format!("{archive:?}, octet {place} of the {name} is wrong: {}", encode(lent.octets()));
+            return disagree(call(), archive, format!("{second:?}, {name}: {}", encode(lent.expected())));
+        }
+    }
+    Ok(())
 }
 
 /// A disagreement as an error.

@@ -45,6 +45,49 @@ pub enum Fault {
     SourceAsLittleEndian,
     LabelLimitOff,
     LabelBeforeIdent,
+    PlacesLimitOff,
+    PartPlaceAllowed,
+    VersionUnchecked,
+    CountUnchecked,
+    IncreasingNotStrict,
+    OrderUnchecked,
+    PlaceKindUnchecked,
+    PlaceAttributeUnchecked,
+    PlaceLabelUnchecked,
+    PaddingUnchecked,
+    RestUnchecked,
+    TableBeforeFamily,
+    TableLast,
+    AttributeBeforeNlri,
+    KindAfterAttribute,
+    FieldTestedForLabel,
+    RoomBeforeNlri,
+    RoomBeforeLabel,
+    ReplacementNeedsRoom,
+    ReplacementKeepsOld,
+    FirstInstallOnly,
+    RefusedInstallWithdraws,
+    RefusedInstallNew,
+    AbsentBeforeNlri,
+    AbsentDone,
+    WithdrawnNotZeroed,
+    RouterSizeUnjudged,
+    SourceSizeUnjudged,
+    GroupNotJudged,
+    SpaceBeforeFlow,
+    SpaceWhenNeeded,
+    OriginatorSizeIgnored,
+    RouterMapped,
+    SourceRouteForAsm,
+    GroupRouteForSsm,
+    TierHighest,
+    DistinguisherBeforeTier,
+    DistinguisherHighest,
+    DistinguisherFromTheEnd,
+    DistinguisherSigned,
+    OutputCleared,
+    OneBook,
+    BookTakesRefused,
 }
 
 /// Each fault, its name on the command line, and what it does.
@@ -91,8 +134,65 @@ pub const FAULTS: [(Fault, &str, &str); 40] = [
     (LabelBeforeIdent, "label-before-ident", "writing finds a bad label field before a bad tunnel or identifier"),
 ];
 
+/// The faults of the table and of the books, which only the table calls show.
+pub const TABLE_FAULTS: [(Fault, &str, &str); 43] = [
+    (PlacesLimitOff, "places-limit-off", "a table may have 501 places"),
+    (PartPlaceAllowed, "part-place-allowed", "a table's size need not be a whole number of places"),
+    (VersionUnchecked, "version-unchecked", "any version is sound"),
+    (CountUnchecked, "count-unchecked", "a count over the places is sound"),
+    (IncreasingNotStrict, "increasing-not-strict", "an NLRI may stand in two places"),
+    (OrderUnchecked, "order-unchecked", "places may stand in any order"),
+    (PlaceKindUnchecked, "place-kind-unchecked", "a place may hold an NLRI of another type"),
+    (PlaceAttributeUnchecked, "place-attribute-unchecked", "a place may hold a malformed attribute"),
+    (PlaceLabelUnchecked, "place-label-unchecked", "a place may hold BIER with label 0"),
+    (PaddingUnchecked, "padding-unchecked", "octets behind a place's attribute need not be zero"),
+    (RestUnchecked, "rest-unchecked", "octets behind the last taken place need not be zero"),
+    (TableBeforeFamily, "table-before-family", "making a table finds a bad size before a bad AFI"),
+    (TableLast, "table-last", "the other arguments are judged before the table"),
+    (AttributeBeforeNlri, "attribute-before-nlri", "install reads the attribute before the NLRI"),
+    (KindAfterAttribute, "kind-after-attribute", "install finds KIND after a bad attribute"),
+    (FieldTestedForLabel, "field-tested-for-label", "the 24-bit field is tested instead of the label"),
+    (RoomBeforeNlri, "room-before-nlri", "a full table is found before a bad NLRI or attribute"),
+    (RoomBeforeLabel, "room-before-label", "a full table is found before BIER with label 0"),
+    (ReplacementNeedsRoom, "replacement-needs-room", "a full table refuses a replacement"),
+    (ReplacementKeepsOld, "replacement-keeps-old", "a replacement leaves the old attribute"),
+    (FirstInstallOnly, "first-install-only", "later installs are answered but not done"),
+    (RefusedInstallWithdraws, "refused-install-withdraws", "a refused install takes the held NLRI out"),
+    (RefusedInstallNew, "refused-install-new", "a refused install answers with the outcome new"),
+    (AbsentBeforeNlri, "absent-before-nlri", "withdraw finds ABSENT before it reads the NLRI"),
+    (AbsentDone, "absent-done", "withdrawing an NLRI that is not held is DONE"),
+    (WithdrawnNotZeroed, "withdrawn-not-zeroed", "the place that a withdrawal frees keeps its octets"),
+    (RouterSizeUnjudged, "router-size-unjudged", "a router address may have any size"),
+    (SourceSizeUnjudged, "source-size-unjudged", "a flow's source may have any size"),
+    (GroupNotJudged, "group-not-judged", "a flow's group need not be multicast"),
+    (SpaceBeforeFlow, "space-before-flow", "a small output is found before a bad flow"),
+    (SpaceWhenNeeded, "space-when-needed", "SPACE is given only where the answer does not fit"),
+    (OriginatorSizeIgnored, "originator-size-ignored", "an originator is compared without its size"),
+    (RouterMapped, "router-mapped", "an IPv4 router is also its IPv4-mapped originator"),
+    (SourceRouteForAsm, "source-route-for-asm", "(C-S,C-*) takes an ASM flow"),
+    (GroupRouteForSsm, "group-route-for-ssm", "(C-*,C-G) takes an SSM flow"),
+    (TierHighest, "tier-highest", "the highest tier wins"),
+    (DistinguisherBeforeTier, "distinguisher-before-tier", "the lowest distinguisher wins, whatever its tier"),
+    (DistinguisherHighest, "distinguisher-highest", "the highest distinguisher wins"),
+    (DistinguisherFromTheEnd, "distinguisher-from-the-end", "distinguishers are compared from the last octet"),
+    (DistinguisherSigned, "distinguisher-signed", "distinguishers are compared as signed octets"),
+    (OutputCleared, "output-cleared", "a match clears the output past its answer"),
+    (OneBook, "one-book", "all routers share one book"),
+    (BookTakesRefused, "book-takes-refused", "a refused install enters its router's book"),
+];
+
 impl Fault {
     pub fn named(name: &str) -> Option<Fault> {
-        FAULTS.iter().find(|(_, known, _)| *known == name).map(|(fault, _, _)| *fault)
+        Fault::rows().find(|(_, known, _)| *known == name).map(|(fault, _, _)| *fault)
+    }
+
+    /// Every fault.
+    pub fn rows() -> impl Iterator<Item = &'static (Fault, &'static str, &'static str)> {
+        FAULTS.iter().chain(&TABLE_FAULTS)
+    }
+
+    /// Whether only the table calls show it.
+    pub fn of_tables(self) -> bool {
+        TABLE_FAULTS.iter().any(|(fault, _, _)| *fault == self)
     }
 }

@@ -1,9 +1,11 @@
 //! The second decoder and encoder, written from RFC 6514, RFC 6625, RFC 8556, RFC 4607 and document 01: tables of rows
-//! that one routine interprets.
+//! that one routine interprets. A route table is a map of attributes by NLRI, and its octets are the image of that map.
 
 pub mod answers;
 pub mod attribute;
 pub mod attribute_writing;
+pub mod books;
+pub mod choice;
 pub mod fault;
 pub mod forms;
 pub mod group;
@@ -13,6 +15,10 @@ pub mod nlri_writing;
 pub mod number;
 pub mod rows;
 pub mod run;
+pub mod table;
+pub mod table_calls;
+#[cfg(test)]
+mod table_tests;
 #[cfg(test)]
 mod tests;
 

@@ -13,6 +13,10 @@ pub enum Number {
     Long = 8,
     Label = 9,
     Family = 10,
+    Table = 11,
+    Kind = 12,
+    Room = 13,
+    Absent = 14,
     Flow = 15,
     Space = 16,
 }

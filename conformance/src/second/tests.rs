@@ -1,11 +1,6 @@
 //! The second decoder on document 01's examples, and on layouts spelled out from the RFCs.
 
-use super::{
-    fault::{Fault, FAULTS},
-    number::Number,
-    rows::Field,
-    Second,
-};
+use super::{fault::Fault, number::Number, rows::Field, Second};
 use crate::{
     cases::{
         document::{ATTRIBUTES, GROUPS, LISTED, LISTED_TEXT, NLRIS, RD},
@@ -86,7 +81,7 @@ fn samples_are_read_and_written_back() {
 
 #[test]
 fn each_fault_has_its_own_name() {
-    for (fault, name, _) in FAULTS {
-        assert_eq!(Fault::named(name), Some(fault));
+    for (fault, name, _) in Fault::rows() {
+        assert_eq!(Fault::named(name), Some(*fault));
     }
 }

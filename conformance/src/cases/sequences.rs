@@ -1,0 +1,309 @@
+//! Mixed calls of several routers on one table, in several orders (document 01, "Mixed calls and each router's book").
+//!
+//! Where the installs name no more well-formed NLRIs than there are places, each call is compared with its router's
+//! book, and the list is run again in other orders that keep each router's own. Elsewhere it is compared with the table.
+
+use super::{
+    routes::{bad_attributes, bad_nlris, good_attributes, picked, s_pmsi, Addresses},
+    samples::GOOD_AFIS,
+};
+use crate::{
+    compare::{disagree, Checked, Disagreement, Harness},
+    coverage::{Call, Seen, PLACES},
+    hexadecimal::encode,
+    random::Random,
+    second::{
+        books::{Books, Router},
+        choice::{Flow, LEAST_OUTPUT},
+        rows::Field,
+        table::{size, Table, MOST_PLACES},
+        table_calls::{TableAnswer, TableCall},
+        Second,
+    },
+};
+use std::collections::{BTreeMap, BTreeSet};
+
+/// Runs of a list in other orders: on small tables and on the largest.
+const ORDERS: usize = 4;
+const ORDERS_OF_LARGEST: usize = 2;
+
+/// Calls of sequences on small tables: one for so many random cases.
+const CASES_A_CALL: u64 = 10;
+
+pub fn all(harness: &mut Harness, random: &mut Random, cases: u64) -> Checked {
+    for afi in GOOD_AFIS {
+        [0, 1, 2].into_iter().try_for_each(|places| short_lists(harness, random, afi, places))?;
+    }
+    let short = harness.sequence_calls;
+    while harness.sequence_calls - short < cases / CASES_A_CALL {
+        for afi in GOOD_AFIS {
+            for places in PLACES.into_iter().filter(|places| *places < MOST_PLACES) {
+                let length = 10 + random.below(70);
+                both(harness, random, afi, places, length)?;
+            }
+        }
+    }
+    GOOD_AFIS.into_iter().try_for_each(|afi| both(harness, random, afi, MOST_PLACES, 1_200))
+}
+
+/// Every list of three calls, of these: installs, withdrawals and matches of two routers, and calls of nobody.
+fn short_lists(harness: &mut Harness, random: &mut Random, afi: u16, places: usize) -> Checked {
+    let Addresses { distinguishers, sources, groups, routers, .. } = Addresses::of_family(afi);
+    let nlris = [(0, 2), (0, 1), (1, 1)].map(|(router, distinguisher)| {
+        s_pmsi(&distinguishers[distinguisher], &sources[0], &groups[0], &routers[router])
+    });
+    let (good, bad, output) = (good_attributes(), bad_attributes(), random.octets(LEAST_OUTPUT));
+    let mut calls = Vec::new();
+    for nlri in &nlris {
+        let attributes = [&good[1], &good[2], &bad[8]];
+        calls.extend(attributes.map(|attribute| TableCall::Install { nlri, attribute }));
+        calls.push(TableCall::Withdraw { nlri });
+    }
+    for router in [&routers[0][..], &routers[1], &[10, 0, 0]] {
+        let flow = Flow { router, source: &sources[0], group: &groups[0] };
+        calls.push(TableCall::Match { flow, output: &output });
+    }
+    let cut = &nlris[0][..20];
+    calls.extend([TableCall::Install { nlri: cut, attribute: &good[1] }, TableCall::Withdraw { nlri: cut }]);
+    for (first, second) in calls.iter().flat_map(|first| calls.iter().map(move |second| (first, second))) {
+        for third in &calls {
+            let list = Sequence::of(afi, places, vec![*first, *second, *third]);
+            list.run(harness, random, &[0, 1, 2], None)?;
+        }
+    }
+    Ok(())
+}
+
+/// A list that keeps the premise of demand 3 and one that has NLRIs for more than the places.
+fn both(harness: &mut Harness, random: &mut Random, afi: u16, places: usize, length: usize) -> Checked {
+    let within = Stock::new(random, afi, places);
+    Sequence::new(&within, random, places, length).compare(harness, random)?;
+    let over = places + 1 + random.below(places + 2);
+    let beyond = Stock::new(random, afi, over);
+    Sequence::new(&beyond, random, places, length).compare(harness, random)
+}
+
+/// What the calls of a list draw from.
+struct Stock {
+    addresses: Addresses,
+    /// The well-formed NLRIs that installs name.
+    installed: Vec<Vec<u8>>,
+    /// Other well-formed NLRIs, for withdrawals.
+    absent: Vec<Vec<u8>>,
+    bad_nlris: Vec<Vec<u8>>,
+    attributes: Vec<Vec<u8>>,
+    bad_attributes: Vec<Vec<u8>>,
+    outputs: Vec<Vec<u8>>,
+}
+
+impl Stock {
+    fn new(random: &mut Random, afi: u16, installed: usize) -> Self {
+        let addresses = Addresses::of_family(afi);
+        Stock {
+            installed: addresses.nlris(random, installed),
+            absent: addresses.nlris(random, 3),
+            bad_nlris: bad_nlris(afi),
+            attributes: good_attributes(),
+            bad_attributes: bad_attributes(),
+            outputs: [0, 60, 123, 124, 124, 124, 130, 200].map(|size| random.octets(size)).to_vec(),
+            addresses,
+        }
+    }
+
+    fn call(&self, random: &mut Random) -> TableCall<'_> {
+        match random.below(20) {
+            0..=7 => TableCall::Install {
+                nlri: self.nlri(random, &self.installed),
+                attribute: match random.once_in(6) {
+                    true => picked(random, &self.bad_attributes),
+                    false => picked(random, &self.attributes),
+                },
+            },
+            8..=12 => {
+                let well_formed = if random.once_in(6) { &self.absent } else { &self.installed };
+                TableCall::Withdraw { nlri: self.nlri(random, well_formed) }
+            }
+            _ => TableCall::Match { flow: self.flow(random), output: picked(random, &self.outputs) },
+        }
+    }
+
+    /// One of these NLRIs; now and then, and where there are none, one that is not a well-formed S-PMSI NLRI.
+    fn nlri<'a>(&'a self, random: &mut Random, well_formed: &'a [Vec<u8>]) -> &'a [u8] {
+        match well_formed.is_empty() || random.once_in(10) {
+            true => picked(random, &self.bad_nlris),
+            false => picked(random, well_formed),
+        }
+    }
+
+    /// A flow, half the time one that an installed NLRI may take; now and then one field has another size.
+    fn flow(&self, random: &mut Random) -> Flow<'_> {
+        let mut flow = self.addresses.flow(random);
+        if !self.installed.is_empty() && random.once_in(2) {
+            flow = self.towards(flow, picked(random, &self.installed));
+        }
+        let size = random.below(4);
+        match random.below(20) {
+            0 => Flow { router: &flow.router[..size], ..flow },
+            1 => Flow { source: &flow.source[..size], ..flow },
+            2 => Flow { group: &flow.group[..size], ..flow },
+            _ => flow,
+        }
+    }
+
+    /// The flow with the originator and the addresses of a well-formed NLRI; its wildcards leave the flow's own.
+    fn towards<'a>(&'a self, flow: Flow<'a>, nlri: &'a [u8]) -> Flow<'a> {
+        let second = Second::sound();
+        let Ok(reading) = second.single(self.addresses.afi, nlri) else { return flow };
+        let of = |field, own| Some(reading.octets(field)).filter(|octets| !octets.is_empty()).unwrap_or(own);
+        Flow {
+            router: reading.octets(Field::Originator),
+            source: of(Field::Source, flow.source),
+            group: of(Field::Group, flow.group),
+        }
+    }
+}
+
+/// A list of calls on a table just made.
+struct Sequence<'a> {
+    afi: u16,
+    places: usize,
+    calls: Vec<TableCall<'a>>,
+    /// The router that each call belongs to.
+    routers: Vec<Option<Router>>,
+    premise: bool,
+}
+
+/// Each call's answer, in the order of the list, and the table octets at the end.
+type Outcome = (Vec<TableAnswer>, Vec<u8>);
+
+impl<'a> Sequence<'a> {
+    /// At first mostly an install of each NLRI in turn, so that the table fills, then any calls.
+    fn new(stock: &'a Stock, random: &mut Random, places: usize, length: usize) -> Self {
+        let mut next = stock.installed.iter();
+        let mut call = || match (!random.once_in(8)).then(|| next.next()).flatten() {
+            Some(nlri) => TableCall::Install { nlri, attribute: picked(random, &stock.attributes) },
+            None => stock.call(random),
+        };
+        let calls = (0..length).map(|_| call()).collect();
+        Sequence::of(stock.addresses.afi, places, calls)
+    }
+
+    fn of(afi: u16, places: usize, calls: Vec<TableCall<'a>>) -> Self {
+        let routers: Vec<_> = calls.iter().map(|call| Second::sound().router(afi, call)).collect();
+        let installed = calls.iter().zip(&routers).filter_map(|(call, router)| match call {
+            TableCall::Install { nlri, .. } if router.is_some() => Some(nlri),
+            _ => None,
+        });
+        let premise = installed.collect::<BTreeSet<_>>().len() <= places;
+        Sequence { afi, places, calls, routers, premise }
+    }
+
+    fn compare(&self, harness: &mut Harness, random: &mut Random) -> Checked {
+        let listed: Vec<usize> = (0..self.calls.len()).collect();
+        let (answers, octets) = self.run(harness, random, &listed, None)?;
+        if !self.premise {
+            return Ok(());
+        }
+        let orders = if self.places == MOST_PLACES { ORDERS_OF_LARGEST } else { ORDERS };
+        for number in 0..orders {
+            let order = if number == 0 { self.one_after_another(random) } else { self.interleaved(random) };
+            let (_, again) = self.run(harness, random, &order, Some(&answers))?;
+            if again != octets {
+                let call = format!("{:?} in the order {order:?}", self.calls);
+                return disagree(call, encode(&again), encode(&octets));
+            }
+        }
+        Ok(())
+    }
+
+    /// Makes a table and the calls in this order. Each call must get the answer it got in an earlier order, at first that
+    /// of its book or of the table; after it the table octets are compared.
+    fn run(
+        &self,
+        harness: &mut Harness,
+        random: &mut Random,
+        order: &[usize],
+        earlier: Option<&[TableAnswer]>,
+    ) -> Result<Outcome, Disagreement> {
+        harness.make(self.afi, &random.octets(size(self.places)))?;
+        let mut books = Books::new(harness.second, self.afi, self.places);
+        let mut table = Table::new(self.afi, self.places);
+        let mut answers = BTreeMap::new();
+        for occurrence in order {
+            let call = &self.calls[*occurrence];
+            let (answer, image) = match self.premise {
+                true => (books.answer(call), books.image()),
+                false => (harness.second.on_table(&mut table, call), table.image()),
+            };
+            let answer = earlier.map_or(&answer, |answers| &answers[*occurrence]);
+            answers.insert(*occurrence, harness.next_call(call, answer, &image)?);
+            harness.coverage.count(Call::Sequence, Seen::Places(self.afi, self.places, self.premise));
+            if self.routers[*occurrence].is_none() {
+                harness.coverage.count(Call::Sequence, Seen::Nobody);
+            }
+        }
+        Ok((answers.into_values().collect(), harness.table().to_vec()))
+    }
+
+    /// All calls of one router, then all of another; calls of nobody before, between or after them.
+    fn one_after_another(&self, random: &mut Random) -> Vec<usize> {
+        let ranks: BTreeMap<_, _> = self.routers.iter().flatten().map(|router| (router, random.number())).collect();
+        let rank = |router: &Option<Router>| router.as_ref().map_or_else(|| random.number(), |router| ranks[router]);
+        sorted(self.routers.iter().map(rank).collect())
+    }
+
+    /// The routers' calls mixed anew, each router's in its own order; calls of nobody anywhere.
+    fn interleaved(&self, random: &mut Random) -> Vec<usize> {
+        let mut ranks: Vec<u64> = self.routers.iter().map(|_| random.number()).collect();
+        let routers: BTreeSet<_> = self.routers.iter().flatten().collect();
+        for router in routers {
+            let own = |occurrence: &usize| self.routers[*occurrence].as_ref() == Some(router);
+            let calls: Vec<usize> = (0..ranks.len()).filter(own).collect();
+            let mut drawn: Vec<u64> = calls.iter().map(|occurrence| ranks[*occurrence]).collect();
+            drawn.sort();
+            calls.iter().zip(drawn).for_each(|(occurrence, rank)| ranks[*occurrence] = rank);
+        }
+        sorted(ranks)
+    }
+}
+
+/// The calls by rank, the lowest first; calls of equal rank stay in order.
+fn sorted(ranks: Vec<u64>) -> Vec<usize> {
+    let mut order: Vec<usize> = (0..ranks.len()).collect();
+    order.sort_by_key(|occurrence| ranks[*occurrence]);
+    order
+}
+
+#[cfg(test)]
+mod tests {
+    use super::*;
+
+    /// The router's calls in an order.
+    fn calls_of(sequence: &Sequence, order: &[usize], router: &Router) -> Vec<usize> {
+        let own = |occurrence: &usize| sequence.routers[*occurrence].as_ref() == Some(router);
+        order.iter().copied().filter(own).collect()
+    }
+
+    #[test]
+    fn orders_keep_each_routers_own() {
+        let mut random = Random::new(3);
+        let stock = Stock::new(&mut random, 1, 16);
+        let sequence = Sequence::new(&stock, &mut random, 16, 200);
+        let listed: Vec<usize> = (0..200).collect();
+        let routers: BTreeSet<Router> = sequence.routers.iter().flatten().cloned().collect();
+        assert!(routers.len() > 3 && sequence.routers.contains(&None) && sequence.premise);
+        let (one_after_another, interleaved) =
+            (sequence.one_after_another(&mut random), sequence.interleaved(&mut random));
+        for order in [&one_after_another, &interleaved] {
+            assert_eq!(order.iter().copied().collect::<BTreeSet<_>>().len(), 200);
+            assert_ne!(*order, listed);
+            for router in &routers {
+                assert_eq!(calls_of(&sequence, order, router), calls_of(&sequence, &listed, router));
+            }
+        }
+        let mut owners: Vec<_> =
+            one_after_another.iter().filter_map(|occurrence| sequence.routers[*occurrence].clone()).collect();
+        owners.dedup();
+        assert_eq!(owners.len(), routers.len());
+    }
+}

@@ -1,0 +1,156 @@
+//! `mvpn_make`, `mvpn_install`, `mvpn_withdraw` and `mvpn_match`.
+
+use super::{agreed, Checked, Disagreement, Harness, Input};
+use crate::{
+    coverage::{Call, Seen},
+    ffi,
+    hexadecimal::encode,
+    second::table_calls::{TableAnswer, TableCall},
+};
+
+impl Harness {
+    /// Makes a table in the memory, which stays lent for a sequence of calls.
+    pub fn make<'a>(&mut self, afi: u16, memory: impl Into<Input<'a>>) -> Result<u32, Disagreement> {
+        let memory = memory.into();
+        self.lend_table(memory);
+        let archive = ffi::make(afi, &mut self.table);
+        let second = self.second.make(afi, memory.octets.len());
+        self.table.expect_front(second.as_deref().unwrap_or(&[]));
+        let second = second.err().map_or(0, |number| number.value());
+        self.agree_on_table(|| format!("mvpn_make(afi {afi}) in {}", encode(memory.octets)), &archive, &second)?;
+        self.coverage.count(Call::Make, Seen::Number(archive));
+        if archive == 0 {
+            self.coverage.count(Call::Make, Seen::Family(afi));
+        }
+        Ok(archive)
+    }
+
+    /// A call on the table memory, whatever it holds.
+    pub fn table_call<'a>(
+        &mut self,
+        memory: impl Into<Input<'a>>,
+        call: TableCall,
+    ) -> Result<TableAnswer, Disagreement> {
+        self.table_call_before(memory, call, &[])
+    }
+
+    /// The same, with `after` standing right behind each of the call's inputs.
+    pub fn table_call_before<'a>(
+        &mut self,
+        memory: impl Into<Input<'a>>,
+        call: TableCall,
+        after: &[u8],
+    ) -> Result<TableAnswer, Disagreement> {
+        let memory = memory.into();
+        self.inputs += 1;
+        self.lend_table(memory);
+        let (second, image) = self.second.on_memory(memory.octets, &call);
+        self.called(&call, after, &second, &image)
+    }
+
+    /// A call on the table as the last one left it, with the answer and the table octets that it must give.
+    pub fn next_call(
+        &mut self,
+        call: &TableCall,
+        answer: &TableAnswer,
+        image: &[u8],
+    ) -> Result<TableAnswer, Disagreement> {
+        self.sequence_calls += 1;
+        self.called(call, &[], answer, image)
+    }
+
+    /// The table memory as the last call left it.
+    pub fn table(&self) -> &[u8] {
+        self.table.octets()
+    }
+
+    fn lend_table(&mut self, memory: Input) {
+        self.table.place(memory.octets, memory.after, (self.calls % 241) as u8);
+    }
+
+    /// Calls the archive on the lent table and compares.
+    fn called(
+        &mut self,
+        call: &TableCall,
+        after: &[u8],
+        second: &TableAnswer,
+        image: &[u8],
+    ) -> Result<TableAnswer, Disagreement> {
+        let before = self.table.octets().to_vec();
+        self.lend_arguments(call, after);
+        self.table.expect_front(image);
+        if let TableAnswer::Matched(_, output) = second {
+            self.output.expect_front(output);
+        }
+        let archive = self.archive_answer(call);
+        self.agree_on_table(|| format!("{call:?} on {}", encode(&before)), &archive, second)?;
+        self.count_answer(&archive);
+        Ok(archive)
+    }
+
+    fn lend_arguments(&mut self, call: &TableCall, after: &[u8]) {
+        let pattern = (self.calls % 233) as u8;
+        match *call {
+            TableCall::Install { nlri, attribute } => {
+                self.lend(Input { octets: nlri, after });
+                self.attribute.place(attribute, after, pattern);
+            }
+            TableCall::Withdraw { nlri } => self.lend(Input { octets: nlri, after }),
+            TableCall::Match { flow, output } => {
+                for (lent, octets) in self.flow.iter_mut().zip([flow.router, flow.source, flow.group]) {
+                    lent.place(octets, after, pattern);
+                }
+                self.output.place(output, &[], pattern);
+            }
+        }
+    }
+
+    fn archive_answer(&mut self, call: &TableCall) -> TableAnswer {
+        match call {
+            TableCall::Install { .. } => {
+                TableAnswer::Installed(ffi::install(&mut self.table, &mut self.input, &mut self.attribute))
+            }
+            TableCall::Withdraw { .. } => TableAnswer::Withdrawn(ffi::withdraw(&mut self.table, &mut self.input)),
+            TableCall::Match { .. } => {
+                let matched = ffi::match_flow(&mut self.table, &mut self.flow, &mut self.output);
+                TableAnswer::Matched(matched, self.output.octets().to_vec())
+            }
+        }
+    }
+
+    fn agree_on_table<Answer: PartialEq + std::fmt::Debug>(
+        &mut self,
+        call: impl Fn() -> String,
+        archive: &Answer,
+        second: &Answer,
+    ) -> Checked {
+        self.calls += 1;
+        let [router, source, group] = &self.flow;
+        let buffers = [
+            ("table", &self.table),
+            ("NLRI", &self.input),
+            ("attribute", &self.attribute),
+            ("router", router),
+            ("source", source),
+            ("group", group),
+            ("output", &self.output),
+        ];
+        agreed(call, archive, second, &buffers)
+    }
+
+    fn count_answer(&mut self, answer: &TableAnswer) {
+        // Only a sound table has an answer that counts by its family.
+        let afi = self.table.octets().get(5).map_or(0, |afi| u16::from(*afi));
+        let (call, number, seen) = match answer {
+            TableAnswer::Installed(installed) => {
+                (Call::Install, installed.number, Seen::Outcome(afi, installed.outcome))
+            }
+            TableAnswer::Withdrawn(number) => (Call::Withdraw, *number, Seen::Family(afi)),
+            TableAnswer::Matched(matched, _) => (Call::Match, matched.number, Seen::Tier(afi, matched.tier)),
+        };
+        self.coverage.count(call, Seen::Number(number));
+        if number == 0 {
+            self.coverage.count(call, seen);
+        }
+    }
+}

@@ -1,0 +1,108 @@
+//! The route that a customer flow takes (RFC 6625, sections 3.1 and 3.2; document 01, "Which route a flow takes").
+
+use super::{
+    fault::Fault,
+    group::Class,
+    nlri::Reading,
+    number::Number,
+    rows::{Family, Field},
+    table::Route,
+    Second,
+};
+
+/// A router asked about and a flow (C-S,C-G).
+#[derive(Clone, Copy, Debug, PartialEq, Eq)]
+pub struct Flow<'a> {
+    pub router: &'a [u8],
+    pub source: &'a [u8],
+    pub group: &'a [u8],
+}
+
+/// The route chosen, with its tier.
+#[derive(Clone, Copy, Debug, PartialEq, Eq)]
+pub struct Choice<'a> {
+    pub tier: u32,
+    pub nlri: &'a [u8],
+    pub attribute: &'a [u8],
+}
+
+/// The fewest octets of a match's output: the longest S-PMSI NLRI and the longest attribute.
+pub const LEAST_OUTPUT: usize = 124;
+
+impl Second {
+    /// What match refuses for its arguments and the family alone: FLOW, SPACE. Gives the group's class.
+    pub(super) fn flow_class(&self, afi: u16, flow: &Flow, room: usize) -> Result<Class, Number> {
+        let small = room < LEAST_OUTPUT && !self.has(Fault::SpaceWhenNeeded);
+        if small && self.has(Fault::SpaceBeforeFlow) {
+            return Err(Number::Space);
+        }
+        let width = self.family(afi).map(Family::octets)?;
+        let router = matches!(flow.router.len(), 4 | 16) || self.has(Fault::RouterSizeUnjudged);
+        let source = flow.source.len() == width || self.has(Fault::SourceSizeUnjudged);
+        if !router || !source {
+            return Err(Number::Flow);
+        }
+        let class = match self.group_class(afi, flow.group) {
+            Err(_) if self.has(Fault::GroupNotJudged) && flow.group.len() == width => Class::Asm,
+            class => class?,
+        };
+        match small {
+            true => Err(Number::Space),
+            false => Ok(class),
+        }
+    }
+
+    /// The first of these routes in tier order, in a tier the one of the lowest distinguisher. FLOW, SPACE.
+    pub(super) fn choice<'a>(
+        &self,
+        afi: u16,
+        flow: &Flow,
+        room: usize,
+        routes: impl Iterator<Item = Route<'a>>,
+    ) -> Result<Option<Choice<'a>>, Number> {
+        let class = self.flow_class(afi, flow, room)?;
+        let ranked = routes.filter_map(|(nlri, attribute)| {
+            let reading = self.single(afi, nlri).ok()?;
+            let tier = self.tier(&reading, flow, class)?;
+            Some((self.rank(tier, &reading), Choice { tier, nlri, attribute }))
+        });
+        let chosen = ranked.min_by_key(|(rank, _)| *rank).map(|(_, choice)| choice);
+        // Only under `SpaceWhenNeeded` has a smaller output come this far.
+        match chosen {
+            Some(choice) if choice.nlri.len() + choice.attribute.len() > room => Err(Number::Space),
+            chosen => Ok(chosen),
+        }
+    }
+
+    /// The tier in which a route of the router takes the flow.
+    fn tier(&self, route: &Reading, flow: &Flow, class: Class) -> Option<u32> {
+        match (route.octets(Field::Source), route.octets(Field::Group), class) {
+            (source, group, _) if (source, group) == (flow.source, flow.group) => Some(1),
+            (source, [], Class::Ssm) if source == flow.source => Some(2),
+            (source, [], Class::Asm) if source == flow.source && self.has(Fault::SourceRouteForAsm) => Some(2),
+            ([], group, Class::Asm) if group == flow.group => Some(3),
+            ([], group, Class::Ssm) if group == flow.group && self.has(Fault::GroupRouteForSsm) => Some(3),
+            ([], [], _) => Some(4),
+            _ => None,
+        }
+    }
+
+    /// What decides between routes, the lowest first: the tier, then the distinguisher as eight octets.
+    fn rank(&self, tier: u32, route: &Reading) -> (u32, [u8; 8]) {
+        let mut distinguisher: [u8; 8] = route.octets(Field::Distinguisher).try_into().unwrap_or_default();
+        if self.has(Fault::DistinguisherHighest) {
+            distinguisher = distinguisher.map(|octet| !octet);
+        }
+        if self.has(Fault::DistinguisherFromTheEnd) {
+            distinguisher.reverse();
+        }
+        if self.has(Fault::DistinguisherSigned) {
+            distinguisher = distinguisher.map(|octet| octet ^ 0x80);
+        }
+        match tier {
+            _ if self.has(Fault::TierHighest) => (u32::MAX - tier, distinguisher),
+            _ if self.has(Fault::DistinguisherBeforeTier) => (0, distinguisher),
+            _ => (tier, distinguisher),
+        }
+    }
+}

@@ -1,0 +1,156 @@
+//! A route table as a map of attributes by NLRI, and its one image in octets (document 01, "The table memory").
+
+use super::{attribute::Attribute, fault::Fault, nlri::Reading, number::Number, rows::S_PMSI, Second};
+use std::collections::BTreeMap;
+
+/// Octets of the header and of a place, and the most places.
+pub const HEADER: usize = 8;
+pub const PLACE: usize = 128;
+pub const MOST_PLACES: usize = 500;
+
+const BIER: u8 = 11;
+
+/// Installed S-PMSI A-D routes: the attribute of each NLRI. The map's order is that of the places.
+pub type Routes = BTreeMap<Vec<u8>, Vec<u8>>;
+
+#[derive(Clone, Debug, PartialEq, Eq)]
+pub struct Table {
+    pub afi: u16,
+    pub places: usize,
+    pub routes: Routes,
+}
+
+impl Table {
+    pub fn new(afi: u16, places: usize) -> Self {
+        Table { afi, places, routes: Routes::new() }
+    }
+
+    pub fn image(&self) -> Vec<u8> {
+        image(self.afi, size(self.places), self.routes.iter())
+    }
+}
+
+/// The octets of memory for so many places.
+pub fn size(places: usize) -> usize {
+    HEADER + PLACE * places
+}
+
+/// A route's NLRI and attribute.
+pub type Route<'a> = (&'a Vec<u8>, &'a Vec<u8>);
+
+/// The octets of a table that holds these routes.
+pub fn image<'a>(afi: u16, size: usize, routes: impl Iterator<Item = Route<'a>>) -> Vec<u8> {
+    let taken: Vec<Vec<u8>> = routes.map(place).collect();
+    let [_, family] = afi.to_be_bytes();
+    let [high, low] = (taken.len() as u16).to_be_bytes();
+    let mut image = vec![b'M', b'V', b'T', 0, 1, family, high, low];
+    image.extend(taken.concat());
+    image.resize(size, 0);
+    image
+}
+
+/// A taken place: both sizes, the NLRI, the attribute, zeros to the end.
+fn place((nlri, attribute): Route) -> Vec<u8> {
+    let mut place = [&[nlri.len() as u8, attribute.len() as u8], &nlri[..], attribute].concat();
+    place.resize(PLACE, 0);
+    place
+}
+
+impl Second {
+    /// The number of places in memory of a table's size.
+    pub(super) fn places(&self, size: usize) -> Option<usize> {
+        let most = if self.has(Fault::PlacesLimitOff) { MOST_PLACES + 1 } else { MOST_PLACES };
+        let rest = size.checked_sub(HEADER)?;
+        let whole = rest % PLACE == 0 || self.has(Fault::PartPlaceAllowed);
+        (whole && rest / PLACE <= most).then_some(rest / PLACE)
+    }
+
+    /// The table that the memory is the image of: TABLE where there is none.
+    pub fn table(&self, memory: &[u8]) -> Result<Table, Number> {
+        self.decoded(memory).ok_or(Number::Table)
+    }
+
+    fn decoded(&self, memory: &[u8]) -> Option<Table> {
+        let places = self.places(memory.len())?;
+        let (afi, count) = self.header(memory)?;
+        let count = match self.has(Fault::CountUnchecked) {
+            true => count.min(places),
+            false => (count <= places).then_some(count)?,
+        };
+        let taken = memory[HEADER..].chunks(PLACE).take(count);
+        let listed = taken.map(|place| self.route(afi, place)).collect::<Option<Vec<_>>>()?;
+        let increasing = listed.windows(2).all(|pair| match self.has(Fault::IncreasingNotStrict) {
+            true => pair[0].0 <= pair[1].0,
+            false => pair[0].0 < pair[1].0,
+        });
+        let ordered = increasing || self.has(Fault::OrderUnchecked);
+        let expected = image(afi, memory.len(), listed.iter().map(|(nlri, attribute)| (nlri, attribute)));
+        let same = self.same_octets(memory, &expected, count);
+        (ordered && same).then(|| Table { afi, places, routes: listed.into_iter().collect() })
+    }
+
+    /// AFI and count of a good header.
+    fn header(&self, memory: &[u8]) -> Option<(u16, usize)> {
+        let [name @ .., version_high, version_low, afi, high, low] = memory.get(..HEADER)? else { return None };
+        let version = [*version_high, *version_low] == [0, 1] || self.has(Fault::VersionUnchecked);
+        let family = self.family(u16::from(*afi)).is_ok();
+        (name == b"MVT" && version && family).then(|| (u16::from(*afi), usize::from(u16::from_be_bytes([*high, *low]))))
+    }
+
+    /// The route of a taken place; none where install would not accept it.
+    fn route(&self, afi: u16, place: &[u8]) -> Option<(Vec<u8>, Vec<u8>)> {
+        let [nlri_size, attribute_size, rest @ ..] = place else { return None };
+        let (nlri, rest) = rest.split_at_checked(usize::from(*nlri_size))?;
+        let (attribute, _) = rest.split_at_checked(usize::from(*attribute_size))?;
+        let reading = self.single(afi, nlri).ok()?;
+        let kind = reading.route_type == S_PMSI || self.has(Fault::PlaceKindUnchecked);
+        let tunnel = self.attribute(attribute).ok();
+        let label = tunnel.is_some_and(|tunnel| self.labelled(&tunnel) || self.has(Fault::PlaceLabelUnchecked));
+        let accepted = kind && (label || self.has(Fault::PlaceAttributeUnchecked));
+        accepted.then(|| (nlri.to_vec(), attribute.to_vec()))
+    }
+
+    /// Whether the memory behind the header is that of the image: with it every octet that must be zero.
+    fn same_octets(&self, memory: &[u8], image: &[u8], count: usize) -> bool {
+        let end = if self.has(Fault::RestUnchecked) { size(count) } else { memory.len() };
+        let (memory, image) = (&memory[HEADER..end], &image[HEADER..]);
+        match self.has(Fault::PaddingUnchecked) {
+            true => memory.chunks(PLACE).skip(count).flatten().all(|octet| *octet == 0),
+            false => memory.iter().eq(image.iter().take(memory.len())),
+        }
+    }
+
+    /// NLRI reading with no octets after it, then KIND.
+    pub(super) fn s_pmsi<'a>(&self, afi: u16, nlri: &'a [u8]) -> Result<Reading<'a>, Number> {
+        let reading = self.single(afi, nlri)?;
+        match reading.route_type {
+            S_PMSI => Ok(reading),
+            _ => Err(Number::Kind),
+        }
+    }
+
+    /// Whether the label suits the tunnel: BIER may not have label 0 (document 01, LABEL).
+    fn labelled(&self, attribute: &Attribute) -> bool {
+        let shift = if self.has(Fault::FieldTestedForLabel) { 0 } else { 4 };
+        attribute.tunnel_type != BIER || attribute.label_field >> shift != 0
+    }
+
+    /// What install refuses for its arguments and the family alone: NLRI reading, KIND, attribute reading, LABEL.
+    pub(super) fn accepted<'a>(&self, afi: u16, nlri: &'a [u8], attribute: &[u8]) -> Result<Reading<'a>, Number> {
+        if self.has(Fault::AttributeBeforeNlri) {
+            self.attribute(attribute)?;
+        }
+        let reading = match self.has(Fault::KindAfterAttribute) {
+            true => self.single(afi, nlri)?,
+            false => self.s_pmsi(afi, nlri)?,
+        };
+        let tunnel = self.attribute(attribute)?;
+        if reading.route_type != S_PMSI {
+            return Err(Number::Kind);
+        }
+        match self.labelled(&tunnel) {
+            true => Ok(reading),
+            false => Err(Number::Label),
+        }
+    }
+}

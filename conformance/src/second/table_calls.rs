@@ -1,0 +1,222 @@
+//! Making a table, install, withdraw and match, on a table and on lent memory.
+
+use super::{
+    choice::{Choice, Flow},
+    fault::Fault,
+    number::Number,
+    rows::Field,
+    table::{size, Table, PLACE},
+    Second,
+};
+use crate::{
+    ffi::{Installed, Matched},
+    hexadecimal::encode,
+};
+use std::fmt::{self, Debug, Formatter};
+
+/// A call on a table, with every argument but the table.
+#[derive(Clone, Copy)]
+pub enum TableCall<'a> {
+    Install {
+        nlri: &'a [u8],
+        attribute: &'a [u8],
+    },
+    Withdraw {
+        nlri: &'a [u8],
+    },
+    /// `output` is what the output holds beforehand.
+    Match {
+        flow: Flow<'a>,
+        output: &'a [u8],
+    },
+}
+
+/// The number, its fields and, for a match, the output octets afterwards.
+#[derive(Clone, PartialEq, Eq)]
+pub enum TableAnswer {
+    Installed(Installed),
+    Withdrawn(u32),
+    Matched(Matched, Vec<u8>),
+}
+
+impl Debug for TableCall<'_> {
+    fn fmt(&self, formatter: &mut Formatter) -> fmt::Result {
+        match self {
+            TableCall::Install { nlri, attribute } => {
+                write!(formatter, "mvpn_install(nlri {}, attribute {})", encode(nlri), encode(attribute))
+            }
+            TableCall::Withdraw { nlri } => write!(formatter, "mvpn_withdraw(nlri {})", encode(nlri)),
+            TableCall::Match { flow: Flow { router, source, group }, output } => {
+                let [router, source, group] = [router, source, group].map(|octets| encode(octets));
+                let room = output.len();
+                write!(formatter, "mvpn_match(router {router}, source {source}, group {group}, output of {room})")
+            }
+        }
+    }
+}
+
+impl Debug for TableAnswer {
+    fn fmt(&self, formatter: &mut Formatter) -> fmt::Result {
+        match self {
+            TableAnswer::Installed(installed) => write!(formatter, "{installed:?}"),
+            TableAnswer::Withdrawn(number) => write!(formatter, "number {number}"),
+            TableAnswer::Matched(matched, output) => write!(formatter, "{matched:?}, output {}", encode(output)),
+        }
+    }
+}
+
+/// The outcome of an accepted install.
+#[derive(Clone, Copy, Debug, PartialEq, Eq)]
+pub enum Outcome {
+    New = 1,
+    Replaced = 2,
+}
+
+impl Second {
+    /// The image of the table made: FAMILY, TABLE.
+    pub fn make(&self, afi: u16, octets: usize) -> Result<Vec<u8>, Number> {
+        if self.has(Fault::TableBeforeFamily) && self.places(octets).is_none() {
+            return Err(Number::Table);
+        }
+        self.family(afi)?;
+        let places = self.places(octets).ok_or(Number::Table)?;
+        let mut image = Table::new(afi, places).image();
+        image.resize(octets, 0);
+        Ok(image)
+    }
+
+    /// A call on lent memory, TABLE first, and the memory afterwards.
+    pub fn on_memory(&self, memory: &[u8], call: &TableCall) -> (TableAnswer, Vec<u8>) {
+        let mut table = match self.table(memory) {
+            Ok(table) => table,
+            Err(number) => return (self.refused(call, self.unsound(memory, call, number)), memory.to_vec()),
+        };
+        let answer = self.on_table(&mut table, call);
+        let mut image = table.image();
+        image.resize(memory.len(), 0);
+        if self.has(Fault::WithdrawnNotZeroed) && answer == TableAnswer::Withdrawn(0) {
+            let left = size(table.routes.len())..size(table.routes.len()) + PLACE;
+            image[left.clone()].copy_from_slice(&memory[left]);
+        }
+        (answer, image)
+    }
+
+    /// The number for unsound memory: TABLE, whatever the other arguments are.
+    fn unsound(&self, memory: &[u8], call: &TableCall, number: Number) -> Number {
+        match memory.get(5) {
+            Some(afi) if self.has(Fault::TableLast) => self.refusal(u16::from(*afi), call).unwrap_or(number),
+            _ => number,
+        }
+    }
+
+    /// The first number in the call's order that its arguments and the family cause.
+    pub(super) fn refusal(&self, afi: u16, call: &TableCall) -> Option<Number> {
+        match *call {
+            TableCall::Install { nlri, attribute } => self.accepted(afi, nlri, attribute).err(),
+            TableCall::Withdraw { nlri } => self.s_pmsi(afi, nlri).err(),
+            TableCall::Match { flow, output } => self.flow_class(afi, &flow, output.len()).err(),
+        }
+    }
+
+    /// A refusal: its number and empty fields, the output as it was.
+    pub(super) fn refused(&self, call: &TableCall, number: Number) -> TableAnswer {
+        match call {
+            TableCall::Install { .. } => self.installed(Err(number)),
+            TableCall::Withdraw { .. } => withdrawn(Err(number)),
+            TableCall::Match { output, .. } => self.matched(Err(number), output),
+        }
+    }
+
+    /// A call on a sound table.
+    pub fn on_table(&self, table: &mut Table, call: &TableCall) -> TableAnswer {
+        match *call {
+            TableCall::Install { nlri, attribute } => self.installed(self.install(table, nlri, attribute)),
+            TableCall::Withdraw { nlri } => withdrawn(self.withdraw(table, nlri)),
+            TableCall::Match { flow, output } => self.matched(self.match_route(table, &flow, output.len()), output),
+        }
+    }
+
+    fn install(&self, table: &mut Table, nlri: &[u8], attribute: &[u8]) -> Result<Outcome, Number> {
+        let held = table.routes.contains_key(nlri);
+        let full = table.routes.len() >= table.places && (!held || self.has(Fault::ReplacementNeedsRoom));
+        if full && self.has(Fault::RoomBeforeNlri) {
+            return Err(Number::Room);
+        }
+        let accepted = self.accepted(table.afi, nlri, attribute);
+        if accepted.is_err() && self.has(Fault::RefusedInstallWithdraws) {
+            table.routes.remove(nlri);
+        }
+        let room_first = full && self.has(Fault::RoomBeforeLabel) && accepted == Err(Number::Label);
+        if room_first {
+            return Err(Number::Room);
+        }
+        accepted?;
+        if full {
+            return Err(Number::Room);
+        }
+        let nods = self.has(Fault::FirstInstallOnly) && !table.routes.is_empty();
+        let keeps = self.has(Fault::ReplacementKeepsOld) && held;
+        if !nods && !keeps {
+            table.routes.insert(nlri.to_vec(), attribute.to_vec());
+        }
+        Ok(if held { Outcome::Replaced } else { Outcome::New })
+    }
+
+    fn withdraw(&self, table: &mut Table, nlri: &[u8]) -> Result<(), Number> {
+        if self.has(Fault::AbsentBeforeNlri) && !table.routes.contains_key(nlri) {
+            return Err(Number::Absent);
+        }
+        self.s_pmsi(table.afi, nlri)?;
+        match table.routes.remove(nlri) {
+            None if !self.has(Fault::AbsentDone) => Err(Number::Absent),
+            _ => Ok(()),
+        }
+    }
+
+    fn match_route<'a>(&self, table: &'a Table, flow: &Flow, room: usize) -> Result<Option<Choice<'a>>, Number> {
+        let candidates = table.routes.iter().filter(|(nlri, _)| self.originates(table.afi, nlri, flow.router));
+        self.choice(table.afi, flow, room, candidates)
+    }
+
+    /// Whether the route's originator is the router, in size and octets.
+    fn originates(&self, afi: u16, nlri: &[u8], router: &[u8]) -> bool {
+        let originator = self.single(afi, nlri).map_or(&[][..], |reading| reading.octets(Field::Originator));
+        let mapped = [&[0; 10][..], &[0xFF; 2], router].concat();
+        originator == router
+            || self.has(Fault::OriginatorSizeIgnored)
+                && (originator.starts_with(router) || router.starts_with(originator))
+            || self.has(Fault::RouterMapped) && originator == mapped
+    }
+
+    pub(super) fn installed(&self, outcome: Result<Outcome, Number>) -> TableAnswer {
+        TableAnswer::Installed(match outcome {
+            Ok(outcome) => Installed { number: 0, outcome: outcome as u32 },
+            Err(number) => {
+                let outcome = u32::from(self.has(Fault::RefusedInstallNew));
+                Installed { number: number.value(), outcome }
+            }
+        })
+    }
+
+    /// The chosen route stands at the front of the output, the attribute straight after the NLRI.
+    pub(super) fn matched(&self, choice: Result<Option<Choice>, Number>, output: &[u8]) -> TableAnswer {
+        match choice {
+            Ok(Some(Choice { tier, nlri, attribute })) => {
+                let written = [nlri, attribute].concat();
+                let kept = output[written.len()..].iter();
+                let rest = kept.map(|octet| if self.has(Fault::OutputCleared) { 0 } else { *octet });
+                let sizes = (nlri.len() as u32, attribute.len() as u32);
+                let answer = Matched { number: 0, tier, nlri_size: sizes.0, attribute_size: sizes.1 };
+                TableAnswer::Matched(answer, written.iter().copied().chain(rest).collect())
+            }
+            Ok(None) => TableAnswer::Matched(Matched::default(), output.to_vec()),
+            Err(number) => {
+                TableAnswer::Matched(Matched { number: number.value(), ..Default::default() }, output.to_vec())
+            }
+        }
+    }
+}
+
+pub(super) fn withdrawn(result: Result<(), Number>) -> TableAnswer {
+    TableAnswer::Withdrawn(result.err().map_or(0, Number::value))
+}

@@ -1,0 +1,189 @@
+//! The table and the books on document 01's examples, on octets laid out by hand, and beside each other.
+
+use super::{
+    books::Books,
+    choice::Flow,
+    number::Number,
+    table::Table,
+    table_calls::{TableAnswer, TableCall},
+    Second,
+};
+use crate::{
+    cases::{
+        damage::DAMAGES,
+        document::{route, table_image, FLOWS, LABELS, ORDER, RD},
+        routes::{bad_attributes, good_attributes, picked, Addresses},
+        samples::GOOD_AFIS,
+    },
+    ffi::{Installed, Matched},
+    hexadecimal::octets,
+    random::Random,
+};
+
+fn installed(number: u32, outcome: u32) -> TableAnswer {
+    TableAnswer::Installed(Installed { number, outcome })
+}
+
+/// The table of P1 to P6.
+fn page_table() -> Table {
+    let mut table = Table::new(1, 6);
+    table.routes.extend(ORDER.map(route));
+    table
+}
+
+#[test]
+fn page_examples() {
+    let second = Second::sound();
+    let mut table = page_table();
+    assert_eq!(table.image(), table_image());
+    assert_eq!(second.table(&table_image()), Ok(table.clone()));
+    for (shows, router, source, group, tier, name) in FLOWS {
+        let [router, source, group] = [router, source, group].map(octets);
+        let (nlri, attribute) = route(name);
+        let flow = Flow { router: &router, source: &source, group: &group };
+        let page = Matched { number: 0, tier, nlri_size: nlri.len() as u32, attribute_size: attribute.len() as u32 };
+        let mut output = [nlri, attribute].concat();
+        output.resize(124, 7);
+        let answer = second.on_table(&mut table, &TableCall::Match { flow, output: &[7; 124] });
+        assert_eq!(answer, TableAnswer::Matched(page, output), "{shows}");
+    }
+    for (shows, attribute, number, outcome) in LABELS {
+        let nlri = octets(&"030E RD 00 00 0A000002".replace("RD", RD));
+        let call = TableCall::Install { nlri: &nlri, attribute: &octets(attribute) };
+        assert_eq!(second.on_table(&mut table, &call), installed(number, outcome), "{shows}");
+    }
+}
+
+/// Document 01, "The table memory": what sound means, one rule after the other.
+#[test]
+fn sound_memory() {
+    let second = Second::sound();
+    assert_eq!(second.table(b"MVT\x00\x01\x02\x00\x00"), Ok(Table::new(2, 0)));
+    let bad_headers: [&[u8]; 7] = [
+        b"MVT\x00\x01\x02\x00",
+        b"MVT\x00\x01\x02\x00\x00\x00",
+        b"MVT\x00\x01\x02\x00\x01",
+        b"MVT\x00\x01\x03\x00\x00",
+        b"MVT\x00\x02\x02\x00\x00",
+        b"MVT\x01\x01\x02\x00\x00",
+        b"MVS\x00\x01\x02\x00\x00",
+    ];
+    for memory in bad_headers {
+        assert_eq!(second.table(memory), Err(Number::Table), "{memory:?}");
+    }
+    // An octet behind the last place taken, one behind an attribute, and the first place repeated or moved.
+    let changes: [fn(&mut [u8]); 5] = [
+        |memory| memory[8 + 5 * 128] = 1,
+        |memory| memory[8 + 127] = 1,
+        |memory| memory.copy_within(8..8 + 128, 8 + 128),
+        |memory| memory[8..8 + 256].rotate_left(128),
+        |memory| memory[7] = 4,
+    ];
+    for (number, change) in changes.into_iter().enumerate() {
+        let mut memory = table_image();
+        change(&mut memory);
+        assert_eq!(second.table(&memory), Err(Number::Table), "change {number}");
+    }
+}
+
+/// Sound memory is the image of what is read from it.
+#[test]
+fn one_image() {
+    let mut random = Random::new(1);
+    let (mut sound, mut unsound) = (0, 0);
+    for afi in GOOD_AFIS {
+        let addresses = Addresses::of_family(afi);
+        for round in 0..20 {
+            let table = addresses.table(&mut random, 4, round % 5);
+            assert_eq!(Second::sound().table(&table.image()), Ok(table.clone()));
+            for damage in DAMAGES {
+                let mut memory = table.image();
+                damage(&mut random, &mut memory, round % 5);
+                match Second::sound().table(&memory) {
+                    Ok(read) => {
+                        assert_eq!(read.image(), memory);
+                        sound += 1;
+                    }
+                    Err(number) => {
+                        assert_eq!(number, Number::Table);
+                        unsound += 1;
+                    }
+                }
+            }
+        }
+    }
+    assert!(sound > 100 && unsound > 500, "{sound} sound, {unsound} unsound");
+}
+
+#[test]
+fn making() {
+    let second = Second::sound();
+    assert_eq!(second.make(2, 8 + 128), Ok([&b"MVT\x00\x01\x02\x00\x00"[..], &[0; 128]].concat()));
+    assert_eq!(second.make(3, 9), Err(Number::Family));
+    assert_eq!(second.make(1, 9), Err(Number::Table));
+    assert_eq!(second.make(1, 8 + 501 * 128), Err(Number::Table));
+}
+
+/// A full table refuses a new NLRI, takes a replacement, and has room again after a withdrawal.
+#[test]
+fn room_is_used_again() {
+    let second = Second::sound();
+    let mut table = Table::new(1, 2);
+    let [a, b, c] = ["A", "B", "C"].map(route);
+    let install = |nlri, attribute| TableCall::Install { nlri, attribute };
+    let steps = [
+        (install(&a.0, &a.1), installed(0, 1)),
+        (install(&b.0, &b.1), installed(0, 1)),
+        (install(&c.0, &c.1), installed(13, 0)),
+        (install(&a.0, &c.1), installed(0, 2)),
+        (TableCall::Withdraw { nlri: &c.0 }, TableAnswer::Withdrawn(14)),
+        (TableCall::Withdraw { nlri: &b.0 }, TableAnswer::Withdrawn(0)),
+        (install(&c.0, &c.1), installed(0, 1)),
+    ];
+    for (number, (call, answer)) in steps.iter().enumerate() {
+        assert_eq!(second.on_table(&mut table, call), *answer, "step {number}");
+    }
+    assert_eq!(table.routes, [(a.0, c.1.clone()), c].into_iter().collect());
+}
+
+/// With room for every NLRI that installs name, the books together answer as the table does.
+#[test]
+fn books_and_table() {
+    let mut random = Random::new(2);
+    let second = Second::sound();
+    let attributes: Vec<_> = good_attributes().into_iter().chain(bad_attributes()).collect();
+    for (afi, _) in GOOD_AFIS.into_iter().flat_map(|afi| (0..20).map(move |round| (afi, round))) {
+        let addresses = Addresses::of_family(afi);
+        let nlris = addresses.nlris(&mut random, 12);
+        let mut table = Table::new(afi, 12);
+        let mut books = Books::new(second, afi, 12);
+        for _ in 0..100 {
+            let nlri = picked(&mut random, &nlris);
+            let call = match random.below(3) {
+                0 => TableCall::Install { nlri, attribute: picked(&mut random, &attributes) },
+                1 => TableCall::Withdraw { nlri },
+                _ => TableCall::Match { flow: addresses.flow(&mut random), output: &[9; 124] },
+            };
+            assert_eq!(books.answer(&call), second.on_table(&mut table, &call), "{call:?}");
+            assert_eq!(books.image(), table.image());
+        }
+    }
+}
+
+/// A call belongs to its NLRI's originator or to the router asked about; a call without one belongs to nobody.
+#[test]
+fn routers_of_calls() {
+    let second = Second::sound();
+    let (nlri, attribute) = route("A");
+    let router = |call| second.router(1, &call);
+    assert_eq!(router(TableCall::Install { nlri: &nlri, attribute: &[] }), Some(vec![10, 0, 0, 1]));
+    assert_eq!(router(TableCall::Withdraw { nlri: &nlri }), Some(vec![10, 0, 0, 1]));
+    assert_eq!(router(TableCall::Withdraw { nlri: &nlri[..23] }), None);
+    assert_eq!(
+        router(TableCall::Install { nlri: &[1, 12, 0, 0, 0, 0, 0, 0, 0, 0, 10, 0, 0, 1], attribute: &attribute }),
+        None
+    );
+    let asked = |router| TableCall::Match { flow: Flow { router, source: &[], group: &[] }, output: &[] };
+    assert_eq!(router(asked(&[10, 0, 0, 2])), Some(vec![10, 0, 0, 2]));
+    assert_eq!(router(asked(&[10, 0, 0, 2, 0])), None);
+}
