@@ -187,8 +187,8 @@ mvpn_written mvpn_attribute_write(uint8_t flags, uint8_t tunnel_type, uint32_t l
  * PMSI Tunnel attribute. Routes stand in the order of their NLRIs, octet by octet, and every octet behind them is 0, so for
  * one family and number of places a set of routes has one image. A table may be copied, stored and lent again anywhere.
  *
- * Each call looks at every octet of the table and refuses one that is not sound; beyond that, its cost grows with the
- * places that are taken.
+ * Install, withdraw and match look at every octet of the table, and refuse one that is not sound; beyond that, their cost
+ * grows with the places that are taken.
  */
 enum {
     MVPN_TABLE_HEADER = 8,
