@@ -91,9 +91,12 @@ fn filled(rows: &mut Rows) {
     rows.matching("match found", &table, &route.flow, Some(route));
     let [_, source, group] = route.flow.clone();
     rows.matching("match none", &table, &[vec![10, 9, 9, 9], source, group], None);
-    rows.install("install new", &before, &table, route, NEW);
     rows.install("install replaced", &table, &table, route, REPLACED);
     rows.withdraw("withdraw", &table, &before, route);
+    if rows.held > 1 {
+        rows.held -= 1;
+        rows.install("install new", &before, &table, route, NEW);
+    }
 }
 
 /// A table that holds these routes.
@@ -111,7 +114,7 @@ fn table_of(afi: u16, places: usize, routes: &[&Route]) -> Vec<u8> {
 
 impl Rows<'_> {
     fn name(&self, call: &str) -> String {
-        format!("{call}, {} places, {} held, afi {}", self.places, self.held, self.afi)
+        format!("{call}, afi {}, places {}, held {}", self.afi, self.places, self.held)
     }
 
     fn install(&mut self, call: &str, before: &[u8], after: &[u8], route: &Route, outcome: u32) {
