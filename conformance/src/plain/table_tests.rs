@@ -1,13 +1,20 @@
-//! The plain table calls against document 01: its marked examples, the order of refusals, what makes a table unsound, and
-//! mixed calls beside a map of routes.
+//! The plain table calls against document 01: its marked examples, the order of refusals, what makes a table unsound; and
+//! mixed calls against the second table.
 
 use crate::{
-    cases::near,
+    cases::{
+        damage::DAMAGES,
+        routes::{bad_attributes, bad_nlris, good_attributes, picked, Addresses},
+    },
     ffi::{Installed, Matched},
     plain,
     random::Random,
+    second::{
+        choice::Flow,
+        table_calls::{TableAnswer, TableCall},
+        Second,
+    },
 };
-use std::collections::BTreeMap;
 
 const NEW: u32 = 1;
 const REPLACED: u32 = 2;
@@ -25,9 +32,6 @@ const NO_ROUTE: [Vec<u8>; 2] = [Vec::new(), Vec::new()];
 
 struct Table(Vec<u8>);
 
-/// Attributes by NLRI.
-type Routes = BTreeMap<Vec<u8>, Vec<u8>>;
-
 impl Table {
     fn made(afi: u16, places: usize) -> Self {
         let mut octets = vec![0xA5; 8 + 128 * places];
@@ -35,32 +39,62 @@ impl Table {
         Table(octets)
     }
 
-    fn install(&mut self, nlri: &[u8], attribute: &[u8]) -> (u32, u32) {
+    fn answer(&mut self, call: &TableCall) -> TableAnswer {
         let (table, size) = (self.0.as_mut_ptr(), self.0.len());
-        let (octets, nlri_size) = (nlri.as_ptr(), nlri.len());
-        let Installed { number, outcome } =
-            unsafe { plain::install(table, size, octets, nlri_size, attribute.as_ptr(), attribute.len()) };
-        (number, outcome)
+        match *call {
+            TableCall::Install { nlri, attribute } => TableAnswer::Installed(unsafe {
+                plain::install(table, size, nlri.as_ptr(), nlri.len(), attribute.as_ptr(), attribute.len())
+            }),
+            TableCall::Withdraw { nlri } => {
+                TableAnswer::Withdrawn(unsafe { plain::withdraw(table, size, nlri.as_ptr(), nlri.len()) })
+            }
+            TableCall::Match { flow, output } => {
+                let mut output = output.to_vec();
+                TableAnswer::Matched(matched(&self.0, flow, &mut output), output)
+            }
+        }
+    }
+
+    fn install(&mut self, nlri: &[u8], attribute: &[u8]) -> (u32, u32) {
+        match self.answer(&TableCall::Install { nlri, attribute }) {
+            TableAnswer::Installed(Installed { number, outcome }) => (number, outcome),
+            other => panic!("install answered {other:?}"),
+        }
     }
 
     fn withdraw(&mut self, nlri: &[u8]) -> u32 {
-        unsafe { plain::withdraw(self.0.as_mut_ptr(), self.0.len(), nlri.as_ptr(), nlri.len()) }
+        match self.answer(&TableCall::Withdraw { nlri }) {
+            TableAnswer::Withdrawn(number) => number,
+            other => panic!("withdraw answered {other:?}"),
+        }
     }
 
     /// The number and the tier, and the NLRI and attribute that stand in an output of `room` octets.
     fn matched(&self, [router, source, group]: [&[u8]; 3], room: usize) -> (u32, u32, [Vec<u8>; 2]) {
         let mut output = vec![0x5A; room];
-        let (table, size) = (self.0.as_ptr(), self.0.len());
-        let (router, router_size) = (router.as_ptr(), router.len());
-        let (source, source_size) = (source.as_ptr(), source.len());
-        let (group, group_size, octets) = (group.as_ptr(), group.len(), output.as_mut_ptr());
-        let Matched { number, tier, nlri_size, attribute_size } = unsafe {
-            plain::match_flow(table, size, router, router_size, source, source_size, group, group_size, octets, room)
-        };
+        let flow = Flow { router, source, group };
+        let Matched { number, tier, nlri_size, attribute_size } = matched(&self.0, flow, &mut output);
         let mut attribute = output.split_off(nlri_size as usize);
         let rest = attribute.split_off(attribute_size as usize);
         assert!(rest.iter().all(|octet| *octet == 0x5A), "written past the route");
         (number, tier, [output, attribute])
+    }
+}
+
+fn matched(table: &[u8], Flow { router, source, group }: Flow, output: &mut [u8]) -> Matched {
+    unsafe {
+        plain::match_flow(
+            table.as_ptr(),
+            table.len(),
+            router.as_ptr(),
+            router.len(),
+            source.as_ptr(),
+            source.len(),
+            group.as_ptr(),
+            group.len(),
+            output.as_mut_ptr(),
+            output.len(),
+        )
     }
 }
 
@@ -78,15 +112,6 @@ fn place(nlri: &[u8], attribute: &[u8]) -> Vec<u8> {
     place
 }
 
-/// The one image of these routes.
-fn image(afi: u8, places: usize, routes: &Routes) -> Vec<u8> {
-    let [high, low] = (routes.len() as u16).to_be_bytes();
-    let mut table = vec![b'M', b'V', b'T', 0, 1, afi, high, low];
-    routes.iter().for_each(|(nlri, attribute)| table.extend(place(nlri, attribute)));
-    table.resize(8 + 128 * places, 0);
-    table
-}
-
 #[test]
 fn making_a_table() {
     let number = |afi, size| {
@@ -98,7 +123,7 @@ fn making_a_table() {
     let sizes = [(0, 11), (7, 11), (8, 0), (9, 11), (135, 11), (136, 0), (64_008, 0), (64_136, 11)];
     sizes.into_iter().for_each(|(size, expected)| assert_eq!(number(2, size), expected, "{size} octets"));
     [0, 3, 257].into_iter().for_each(|afi| assert_eq!(number(afi, 7), 10, "AFI {afi}"));
-    assert_eq!(Table::made(2, 3).0, image(2, 3, &Routes::new()));
+    assert_eq!(Table::made(2, 3).0, [&[b'M', b'V', b'T', 0, 1, 2, 0, 0][..], &[0; 384]].concat());
 }
 
 #[test]
@@ -251,49 +276,47 @@ fn unsound_tables() -> Vec<Vec<u8>> {
     ]
 }
 
-/// Mixed calls on few NLRIs: after each the table is the image of the map.
+/// Each call on the table as the last one left it, and on a damaged copy.
 #[test]
-fn as_a_map_of_routes() {
-    let mut random = Random::new(3);
+fn mixed_calls_as_the_second_table() {
+    let (second, mut random) = (Second::sound(), Random::new(3));
     for (places, afi) in [0, 1, 3, 20].into_iter().flat_map(|places| [(places, 1), (places, 2)]) {
-        let nlris: Vec<_> = (0..24).map(|_| s_pmsi(&mut random, afi)).collect();
-        let (mut table, mut routes) = (Table::made(afi, places), Routes::new());
-        for _ in 0..2_000 {
-            let nlri = &nlris[random.below(nlris.len())];
-            if random.once_in(2) {
-                let held = routes.remove(nlri).is_some();
-                assert_eq!(table.withdraw(nlri), if held { 0 } else { 14 });
-            } else {
-                let attribute = near::attribute(&mut random);
-                let expected = expected_of_install(&routes, places, nlri, &attribute);
-                assert_eq!(table.install(nlri, &attribute), expected);
-                if expected.0 == 0 {
-                    routes.insert(nlri.clone(), attribute);
-                }
+        let stock = Stock::new(&mut random, afi);
+        let mut table = Table::made(afi, places);
+        for _ in 0..3_000 {
+            let call = stock.call(&mut random);
+            let mut damaged = Table(table.0.clone());
+            let count = u16::from_be_bytes([damaged.0[6], damaged.0[7]]);
+            DAMAGES[random.below(DAMAGES.len())](&mut random, &mut damaged.0, usize::from(count));
+            for table in [&mut damaged, &mut table] {
+                let (answer, after) = second.on_memory(&table.0, &call);
+                assert_eq!(table.answer(&call), answer, "{call:?}");
+                assert_eq!(table.0, after, "{call:?}");
             }
-            assert_eq!(table.0, image(afi as u8, places, &routes));
         }
     }
 }
 
-/// A well-formed NLRI of type 3.
-fn s_pmsi(random: &mut Random, afi: u16) -> Vec<u8> {
-    loop {
-        let octets = near::nlri(random, afi);
-        let reading = unsafe { plain::nlri_read(afi, octets.as_ptr(), octets.len()) };
-        if reading.number == 0 && reading.nlri.route_type == 3 {
-            return octets;
-        }
-    }
+/// What the calls draw from: few NLRIs, so that they meet.
+struct Stock {
+    addresses: Addresses,
+    nlris: Vec<Vec<u8>>,
+    attributes: Vec<Vec<u8>>,
 }
 
-fn expected_of_install(routes: &Routes, places: usize, nlri: &[u8], attribute: &[u8]) -> (u32, u32) {
-    let reading = unsafe { plain::attribute_read(attribute.as_ptr(), attribute.len()) };
-    match reading.number {
-        0 if reading.tunnel_type == 11 && reading.label == 0 => (9, 0),
-        0 if routes.contains_key(nlri) => (0, REPLACED),
-        0 if routes.len() == places => (13, 0),
-        0 => (0, NEW),
-        number => (number, 0),
+impl Stock {
+    fn new(random: &mut Random, afi: u16) -> Self {
+        let addresses = Addresses::of_family(afi);
+        let nlris = [addresses.nlris(random, 24), bad_nlris(afi)].concat();
+        Stock { addresses, nlris, attributes: [good_attributes(), bad_attributes()].concat() }
+    }
+
+    fn call(&self, random: &mut Random) -> TableCall<'_> {
+        let nlri = picked(random, &self.nlris);
+        match random.below(3) {
+            0 => TableCall::Install { nlri, attribute: picked(random, &self.attributes) },
+            1 => TableCall::Withdraw { nlri },
+            _ => TableCall::Match { flow: self.addresses.flow(random), output: &[0x5A; 130][random.below(9)..] },
+        }
     }
 }
