@@ -46,8 +46,8 @@ impl Report {
 
     /// A row of two calls that leave their buffers as they would leave them again.
     pub fn row<Answer: PartialEq + Debug>(&mut self, name: String, calls: [impl Fn() -> Answer; 2]) {
-        let [archive, plain] = calls.each_ref().map(|call| call());
-        self.check(&archive, &plain, &name);
+        let answers = calls.each_ref().map(|call| call());
+        self.check(&name, &answers, &answers[1]);
         self.line(&name, best(&calls), None);
     }
 
@@ -81,13 +81,16 @@ impl Report {
             std::slice::from_raw_parts(output, room).to_vec()
         });
         let expected = [front, &vec![0x5A; room - front.len()]].concat();
-        outputs.iter().for_each(|written| self.check(written, &expected, name));
+        self.check(name, &outputs, &expected);
     }
 
-    pub fn check<Answer: PartialEq + Debug>(&mut self, archive: Answer, plain: Answer, name: &str) {
-        if archive != plain {
-            println!("ANSWERS DIFFER: {name}\narchive {archive:?}\nplain   {plain:?}");
-            self.differ = true;
+    /// Checks what the archive and plain Rust gave.
+    pub fn check<Answer: PartialEq + Debug>(&mut self, name: &str, got: &[Answer; 2], expected: &Answer) {
+        for (whose, got) in ["archive", "plain"].into_iter().zip(got) {
+            if got != expected {
+                println!("ANSWERS DIFFER: {name}\n{whose} {got:?}\nexpected {expected:?}");
+                self.differ = true;
+            }
         }
     }
 }

@@ -8,6 +8,10 @@ use conformance::{
     cases::samples::GOOD_AFIS,
     ffi::{raw, Installed, Matched},
     plain,
+    second::{
+        choice::LEAST_OUTPUT,
+        table::{size, MOST_PLACES},
+    },
 };
 use std::{
     ffi::{c_int, c_void},
@@ -15,12 +19,9 @@ use std::{
     hint::black_box,
 };
 
-const PLACES: [usize; 5] = [0, 1, 50, 250, 500];
+const PLACES: [usize; 5] = [0, 1, 50, 250, MOST_PLACES];
 /// Routes that a sparse table holds.
 const FEW: usize = 5;
-
-/// Octets of a match's output.
-const OUTPUT: usize = 124;
 
 /// Outcomes of install.
 const NEW: u32 = 1;
@@ -33,7 +34,13 @@ extern "C" {
 pub fn rows(report: &mut Report) {
     for places in PLACES {
         let nanoseconds = memcmp_of(places);
-        empty(&mut Rows { report, memcmp: Memcmp { nanoseconds, has_goal: places == 500 }, afi: 1, places, held: 0 });
+        empty(&mut Rows {
+            report,
+            memcmp: Memcmp { nanoseconds, has_goal: places == MOST_PLACES },
+            afi: 1,
+            places,
+            held: 0,
+        });
         let fills = match places {
             0 => &[][..],
             1 => &[1],
@@ -48,13 +55,13 @@ pub fn rows(report: &mut Report) {
 
 /// Nanoseconds of comparing two equal buffers of the table's size.
 fn memcmp_of(places: usize) -> f64 {
-    let size = 8 + 128 * places;
-    let [left, right] = [vec![0u8; size], vec![0u8; size]];
+    let octets = size(places);
+    let [left, right] = [vec![0u8; octets], vec![0u8; octets]];
     let [nanoseconds] = best(&[|| unsafe {
         let [left, right] = black_box([&left, &right]).map(|buffer| buffer.as_ptr().cast());
-        memcmp(left, right, black_box(size))
+        memcmp(left, right, black_box(octets))
     }]);
-    println!("{:<48} {nanoseconds:>10.2}", format!("memcmp of {size} octets"));
+    println!("{:<48} {nanoseconds:>10.2}", format!("memcmp of {octets} octets"));
     nanoseconds
 }
 
@@ -72,7 +79,7 @@ fn empty(rows: &mut Rows) {
     let made = table_of(afi, places, &[]);
     let [route] = &routes(afi, 1)[..] else { unreachable!("one route was asked for") };
     let calls = black_box([raw::mvpn_make as raw::Make, plain::make]);
-    let make = calls.map(|call| move |table| unsafe { call(afi, table, 8 + 128 * places) });
+    let make = calls.map(|call| move |table| unsafe { call(afi, table, size(places)) });
     rows.changing("make", &vec![0xA5; made.len()], &made, 0, make);
     rows.matching("match none", &made, &route.flow, None);
     if places > 0 {
@@ -101,7 +108,7 @@ fn filled(rows: &mut Rows) {
 
 /// A table that holds these routes.
 fn table_of(afi: u16, places: usize, routes: &[&Route]) -> Vec<u8> {
-    let mut table = vec![0; 8 + 128 * places];
+    let mut table = vec![0; size(places)];
     let (octets, size) = (table.as_mut_ptr(), table.len());
     assert_eq!(unsafe { plain::make(afi, octets, size) }, 0);
     for Route { nlri, attribute, .. } in routes {
@@ -143,11 +150,13 @@ impl Rows<'_> {
         calls: [impl Fn(*mut u8) -> Answer; 2],
     ) {
         let name = self.name(call);
-        for call in &calls {
+        let results = calls.each_ref().map(|call| {
             let mut table = before.to_vec();
             let answer = call(table.as_mut_ptr());
-            self.report.check((&answer, &table[..]), (&expected, after), &name);
-        }
+            // Where the first octet stands that is not as it should be.
+            (answer, table.iter().zip(after).position(|(is, should)| is != should))
+        });
+        self.report.check(&name, &results, &(expected, None));
         self.report.line(&name, best_on_copies(before, &calls), Some(self.memcmp));
     }
 
@@ -162,7 +171,7 @@ impl Rows<'_> {
                 (answer, [&nlri[..], attribute].concat())
             }
         };
-        let mut buffer = [0u8; OUTPUT];
+        let mut buffer = [0u8; LEAST_OUTPUT];
         let output = buffer.as_mut_ptr();
         let [router, source, group] = flow.each_ref().map(|octets| &octets[..]);
         let calls = black_box([raw::mvpn_match as raw::Match, plain::match_flow]).map(|call| {
@@ -171,11 +180,11 @@ impl Rows<'_> {
                 let (source, source_size) = (source.as_ptr(), source.len());
                 let (group, group_size) = (group.as_ptr(), group.len());
                 let (table, size) = (table.as_ptr(), table.len());
-                call(table, size, router, router_size, source, source_size, group, group_size, output, OUTPUT)
+                call(table, size, router, router_size, source, source_size, group, group_size, output, LEAST_OUTPUT)
             }
         });
-        calls.iter().for_each(|call| self.report.check(call(), expected, &name));
-        self.report.check_output(&calls, output, OUTPUT, &written, &name);
+        self.report.check(&name, &calls.map(|call| call()), &expected);
+        self.report.check_output(&calls, output, LEAST_OUTPUT, &written, &name);
         self.report.line(&name, best(&calls), Some(self.memcmp));
     }
 }
