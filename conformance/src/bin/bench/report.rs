@@ -58,7 +58,7 @@ impl Report {
         let shown = to_memcmp.map(|ratio| format!("{ratio:.2}")).unwrap_or_default();
         let has_goal = memcmp.is_some_and(|memcmp| memcmp.has_goal);
         let over_memcmp = has_goal && to_memcmp.is_some_and(|ratio| ratio > MEMCMP_GOAL);
-        let marks = [(ratio > GOAL, " over"), (over_memcmp, " over memcmp's")];
+        let marks = [(ratio > GOAL, " over plain"), (over_memcmp, " over memcmp")];
         let mark: String = marks.into_iter().filter_map(|(over, mark)| over.then_some(mark)).collect();
         println!("{name:<48} {archive:>10.2} {plain:>10.2} {ratio:>7.2} {shown:>10}{mark}");
         self.rows += 1;
