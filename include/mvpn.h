@@ -1,5 +1,10 @@
 /*
- * mvpn.h: MCAST-VPN NLRI (RFC 6514, RFC 6625) and the PMSI Tunnel attribute (RFC 6514, RFC 8556), read and written.
+ * mvpn.h: MCAST-VPN NLRI (RFC 6514, RFC 6625) and the PMSI Tunnel attribute (RFC 6514, RFC 8556), read and written; one
+ * VRF's S-PMSI A-D routes for one address family, kept in memory that the caller lends, and the route that a customer
+ * flow (C-S,C-G) matches.
+ *
+ * Best paths, Route Targets, BGP sessions and joining tunnels are the daemon's. BIDIR groups and (C-*,C-G) reception are
+ * not in the base.
  *
  * Every call ends with a stated answer on any octets. A call that refuses returns its number, changes no octet of any
  * buffer, and leaves every other field of its answer 0, but for the count and offset of a walk and the cursor of a step.
@@ -7,7 +12,7 @@
  * What the caller owes: a pointer is valid for the length given beside it; where the length is 0 the pointer may be any
  * non-null address. A buffer that is written overlaps no other argument. The library keeps nothing between calls, has
  * no state of its own and takes no memory, so calls from several threads are independent unless they share a buffer
- * that one of them writes.
+ * that one of them writes. Calls on different tables are independent; one table is used by one thread at a time.
  *
  * Octets are in network order, as on the wire. AFI is 1 (IPv4) or 2 (IPv6), the whole 16-bit number.
  */
@@ -32,9 +37,13 @@ enum {
     MVPN_TUNNEL = 6,  /* tunnel type not 0 to 7 or 11 */
     MVPN_IDENT = 7,   /* identifier not of that tunnel type's form */
     MVPN_LONG = 8,    /* attribute over 64 octets, or run over 4,096 */
-    MVPN_LABEL = 9,   /* a label field over 16,777,215 at writing */
+    MVPN_LABEL = 9,   /* BIER with label 0 at install; a label field over 16,777,215 at writing */
     MVPN_FAMILY = 10, /* AFI not 1 or 2 */
-    MVPN_FLOW = 15,   /* a group not of the family's size, or not multicast */
+    MVPN_TABLE = 11,  /* lent memory is not a sound table; for making one: not of a table's size */
+    MVPN_KIND = 12,   /* well-formed NLRI, but not type 3 */
+    MVPN_ROOM = 13,   /* new NLRI and every place taken */
+    MVPN_ABSENT = 14, /* withdrawn NLRI not in the table */
+    MVPN_FLOW = 15,   /* router address not 4 or 16 octets, source or group not of the family's size, or group not multicast */
     MVPN_SPACE = 16   /* output buffer too small */
 };
 
@@ -172,6 +181,74 @@ mvpn_attribute_reading mvpn_attribute_read(const uint8_t *attribute, size_t attr
  */
 mvpn_written mvpn_attribute_write(uint8_t flags, uint8_t tunnel_type, uint32_t label_field,
                                   const uint8_t *identifier, size_t identifier_len, uint8_t *output, size_t output_len);
+
+/*
+ * A table: 8 octets of header, then 0 to 500 places of 128 octets. A place holds one S-PMSI A-D route, its NLRI with its
+ * PMSI Tunnel attribute. Routes stand in the order of their NLRIs, octet by octet, and every octet behind them is 0, so for
+ * one family and number of places a set of routes has one image. A table may be copied, stored and lent again anywhere.
+ *
+ * Install, withdraw and match look at every octet of the table, and refuse one that is not sound; beyond that, their cost
+ * grows with the places that are taken.
+ */
+enum {
+    MVPN_TABLE_HEADER = 8,
+    MVPN_PLACE = 128,
+    MVPN_MOST_PLACES = 500,
+    MVPN_MATCH_OUTPUT = 124 /* the longest NLRI of type 3 (60 octets) and the longest attribute (64) */
+};
+
+/* The octets of a table of `places` places. */
+#define MVPN_TABLE_SIZE(places) ((size_t)MVPN_TABLE_HEADER + (size_t)MVPN_PLACE * (size_t)(places))
+
+/* What an install did. */
+enum { MVPN_NEW = 1, MVPN_REPLACED = 2 };
+
+typedef struct { uint32_t number, outcome; } mvpn_installed; /* MVPN_NEW or MVPN_REPLACED */
+
+typedef struct {
+    uint32_t number;
+    uint32_t tier; /* 1 to 4; 0 where no route matches */
+    uint32_t nlri_size, attribute_size;
+} mvpn_matched;
+
+/*
+ * Makes an empty table of the lent memory, whatever it held: every octet is written. FAMILY, TABLE (a length other than
+ * MVPN_TABLE_SIZE of 0 to 500).
+ */
+uint32_t mvpn_make(uint16_t afi, uint8_t *table, size_t table_len);
+
+/*
+ * Installs an S-PMSI A-D route with its attribute, or gives a route that the table holds this attribute. TABLE, then NLRI
+ * reading under the table's AFI (LENGTH for octets after it), KIND, attribute reading, LABEL, ROOM. A route that the table
+ * holds is replaced in a full table too.
+ */
+mvpn_installed mvpn_install(uint8_t *table, size_t table_len, const uint8_t *nlri, size_t nlri_len,
+                            const uint8_t *attribute, size_t attribute_len);
+
+/*
+ * Takes the route with this NLRI out of the table; its room is used again. TABLE, then NLRI reading under the table's AFI
+ * (LENGTH for octets after it), KIND, ABSENT.
+ */
+uint32_t mvpn_withdraw(uint8_t *table, size_t table_len, const uint8_t *nlri, size_t nlri_len);
+
+/*
+ * The route that the flow (source, group) takes (RFC 6625, section 3), among those whose originator equals `router` in size
+ * and octets: ourselves for sending, the upstream PE for receiving. TABLE, FLOW, SPACE (an output under MVPN_MATCH_OUTPUT
+ * octets, also where the answer would fit or nothing matches).
+ *
+ * The lowest tier that has a route wins:
+ *   1  source and group both equal
+ *   2  source equal, group wildcard, and the group SSM
+ *   3  source wildcard, group equal, and the group ASM
+ *   4  both wildcard
+ * Ties go to the lowest route distinguisher, compared as eight octets.
+ *
+ * The NLRI is written at the front of the output and the attribute straight after it; octets past them are untouched. No
+ * place number is given. Where no route matches: DONE with tier 0, both sizes 0 and the output untouched.
+ */
+mvpn_matched mvpn_match(const uint8_t *table, size_t table_len, const uint8_t *router, size_t router_len,
+                        const uint8_t *source, size_t source_len, const uint8_t *group, size_t group_len,
+                        uint8_t *output, size_t output_len);
 
 #ifdef __cplusplus
 }

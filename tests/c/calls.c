@@ -1,16 +1,9 @@
 /*
- * Every call of mvpn.h, accepted and refused. The expected answers are written from document 01, not from any program.
+ * Every call of mvpn.h but the table's, accepted and refused. The expected answers are written from document 01, not from any program.
  *
  * Each table row gives all fields of the answer; a field left out is expected to be 0.
  */
-#include "mvpn.h"
-
-#include <inttypes.h>
-#include <stdio.h>
-#include <stdlib.h>
-#include <string.h>
-
-#define ROWS(table) (sizeof(table) / sizeof((table)[0]))
+#include "checks.h"
 
 /* Route distinguisher 100:7, as text in a row's octets and as a field. */
 #define RD "0000006400000007 "
@@ -32,111 +25,6 @@
 
 /* A run's most octets. */
 enum { RUN = 4096 };
-
-/* ---- checks */
-
-static unsigned checks, failures;
-
-static void fail(const char *shows, const char *field)
-{
-    failures++;
-    printf("FAILED: %s: %s", shows, field);
-}
-
-static void same(const char *shows, const char *field, uintmax_t got, uintmax_t expected)
-{
-    checks++;
-    if (got != expected) {
-        fail(shows, field);
-        printf(" is %" PRIuMAX ", expected %" PRIuMAX "\n", got, expected);
-    }
-}
-
-static void print_octets(const uint8_t *octets, size_t size)
-{
-    for (size_t i = 0; i < size; i++)
-        printf(" %02X", octets[i]);
-}
-
-static void same_octets(const char *shows, const char *field, const uint8_t *got, const uint8_t *expected, size_t size)
-{
-    checks++;
-    if (memcmp(got, expected, size) != 0) {
-        fail(shows, field);
-        printf(" is");
-        print_octets(got, size);
-        printf(", expected");
-        print_octets(expected, size);
-        printf("\n");
-    }
-}
-
-static void same_span(const char *shows, const char *field, mvpn_span got, mvpn_span expected)
-{
-    char part[64];
-    snprintf(part, sizeof part, "%s.start", field);
-    same(shows, part, got.start, expected.start);
-    snprintf(part, sizeof part, "%s.size", field);
-    same(shows, part, got.size, expected.size);
-}
-
-/* ---- octets lent to a call: on the heap, of exactly their size */
-
-typedef struct { uint8_t *at; size_t size; } lent;
-
-static lent lent_of(size_t size, uint8_t value)
-{
-    lent l = { malloc(size ? size : 1), size };
-    if (!l.at) {
-        fprintf(stderr, "no memory\n");
-        exit(2);
-    }
-    memset(l.at, value, size);
-    return l;
-}
-
-static unsigned digit(char c)
-{
-    const char *digits = "0123456789ABCDEF", *found = c ? strchr(digits, c) : NULL;
-    if (!found) {
-        fprintf(stderr, "bad hexadecimal in a row\n");
-        exit(2);
-    }
-    return (unsigned)(found - digits);
-}
-
-/* Octets in hexadecimal, with blanks between them. */
-static lent hex(const char *text)
-{
-    lent l = lent_of(strlen(text) / 2, 0);
-    size_t size = 0;
-    for (; *text; text++)
-        if (*text != ' ') {
-            l.at[size++] = (uint8_t)(digit(text[0]) << 4 | digit(text[1]));
-            text++;
-        }
-    uint8_t *exact = realloc(l.at, size ? size : 1);
-    l.at = exact ? exact : l.at;
-    l.size = size;
-    return l;
-}
-
-/* What an output holds before a call. */
-enum { FILL = 0xA5 };
-
-/* Whether the output holds `written` at its front and its old octets behind. */
-static void same_output(const char *shows, lent output, const uint8_t *written, size_t size)
-{
-    lent expected = lent_of(output.size, FILL);
-    memcpy(expected.at, written, size);
-    same_octets(shows, "output", output.at, expected.at, output.size);
-    free(expected.at);
-}
-
-static void untouched(const char *shows, lent output)
-{
-    same_output(shows, output, output.at, 0);
-}
 
 /* ---- reading and writing an NLRI */
 
@@ -200,6 +88,15 @@ static void same_address(const char *shows, const char *field, mvpn_address got,
 {
     same_octets(shows, field, got.octets, expected.octets, sizeof got.octets);
     same(shows, field, got.size, expected.size);
+}
+
+static void same_span(const char *shows, const char *field, mvpn_span got, mvpn_span expected)
+{
+    char part[64];
+    snprintf(part, sizeof part, "%s.start", field);
+    same(shows, part, got.start, expected.start);
+    snprintf(part, sizeof part, "%s.size", field);
+    same(shows, part, got.size, expected.size);
 }
 
 static void read_nlri(const nlri_row *row)
@@ -611,6 +508,5 @@ int main(void)
     for (size_t i = 0; i < ROWS(groups); i++)
         group_class(&groups[i]);
     attributes();
-    printf("C calls: %u checks, %u failed\n", checks, failures);
-    return failures ? EXIT_FAILURE : EXIT_SUCCESS;
+    return verdict("C calls");
 }

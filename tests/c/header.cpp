@@ -15,6 +15,9 @@ static_assert(sizeof(mvpn_walked) == 12, "mvpn_walked");
 static_assert(sizeof(mvpn_group) == 8, "mvpn_group");
 static_assert(sizeof(mvpn_fec) == 40, "mvpn_fec");
 static_assert(sizeof(mvpn_attribute_reading) == 80, "mvpn_attribute_reading");
+static_assert(sizeof(mvpn_installed) == 8, "mvpn_installed");
+static_assert(sizeof(mvpn_matched) == 16, "mvpn_matched");
+static_assert(MVPN_TABLE_SIZE(MVPN_MOST_PLACES) == 64008, "MVPN_TABLE_SIZE");
 
 int main()
 {
@@ -26,6 +29,10 @@ int main()
                        mvpn_step(1, octets, 0, 0).number == MVPN_DONE && mvpn_walk(1, octets, 0).number == MVPN_DONE &&
                        mvpn_group_class(1, octets, 0).number == MVPN_FLOW &&
                        mvpn_attribute_read(octets, 0).number == MVPN_SHORT &&
-                       mvpn_attribute_write(0, 0, 0, octets, 0, output, 0).number == MVPN_SPACE;
+                       mvpn_attribute_write(0, 0, 0, octets, 0, output, 0).number == MVPN_SPACE &&
+                       mvpn_make(1, output, 0) == MVPN_TABLE &&
+                       mvpn_install(output, 0, octets, 0, octets, 0).number == MVPN_TABLE &&
+                       mvpn_withdraw(output, 0, octets, 0) == MVPN_TABLE &&
+                       mvpn_match(octets, 0, octets, 0, octets, 0, octets, 0, output, 0).number == MVPN_TABLE;
     return as_expected ? 0 : 1;
 }

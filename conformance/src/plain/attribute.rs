@@ -33,6 +33,22 @@ pub unsafe extern "C" fn attribute_read(attribute: *const u8, attribute_len: usi
     }
 }
 
+/// Attribute reading, then LABEL: what install asks of an attribute.
+#[inline(always)]
+pub fn installable(attribute: &[u8]) -> Result<(), u32> {
+    if attribute.len() > LONGEST {
+        return Err(LONG);
+    }
+    let [_, tunnel_type, high, middle, low, identifier @ ..] = attribute else {
+        return Err(SHORT);
+    };
+    identified(*tunnel_type, identifier)?;
+    match (tunnel_type, high, middle, low) {
+        (11, 0, 0, 0..=15) => Err(LABEL),
+        _ => Ok(()),
+    }
+}
+
 /// TUNNEL, IDENT, or the FEC's shape.
 #[inline(always)]
 fn identified(tunnel_type: u8, identifier: &[u8]) -> Result<Fec, u32> {

@@ -2,19 +2,26 @@
 //! results by value, no allocation, not inlined into the measurement.
 
 mod attribute;
+mod flow;
 mod group;
 mod nlri_read;
 mod nlri_write;
 mod run;
 mod shape;
+mod sound;
+mod table;
+#[cfg(test)]
+mod table_tests;
 #[cfg(test)]
 mod tests;
 
 pub use attribute::{attribute_read, attribute_write};
+pub use flow::match_flow;
 pub use group::group_class;
 pub use nlri_read::nlri_read;
 pub use nlri_write::nlri_write;
 pub use run::{step, walk};
+pub use table::{install, make, withdraw};
 
 const DONE: u32 = 0;
 const SHORT: u32 = 1;
@@ -27,6 +34,10 @@ const IDENT: u32 = 7;
 const LONG: u32 = 8;
 const LABEL: u32 = 9;
 const FAMILY: u32 = 10;
+const TABLE: u32 = 11;
+const KIND: u32 = 12;
+const ROOM: u32 = 13;
+const ABSENT: u32 = 14;
 const FLOW: u32 = 15;
 const SPACE: u32 = 16;
 

@@ -29,6 +29,14 @@ pub fn shape(family: usize, octets: &[u8]) -> Result<Shape, u32> {
     }
 }
 
+/// Whether the octets are one NLRI of type 3.
+#[inline(always)]
+pub fn is_s_pmsi(family: usize, octets: &[u8]) -> bool {
+    let [3, length, body @ ..] = octets else { return false };
+    let bare = Shape { route_type: 3, length: body.len(), source: 0, group: 0, originator: 0, key: 0 };
+    usize::from(*length) == body.len() && s_pmsi(family, body, bare).is_ok()
+}
+
 /// Types 1, 2 and 3, which a Leaf may carry as its key.
 #[inline(always)]
 fn keyed(family: usize, body: &[u8], bare: Shape) -> Result<Shape, u32> {

@@ -1,7 +1,12 @@
-//! The archive's calls beside the same work in plain Rust (`src/plain`): nanoseconds of each, and their ratio.
+//! The archive's calls beside the same work in plain Rust (`src/plain`): nanoseconds of each, and their ratio. The rows of
+//! the table's calls also give the ratio to `memcmp` of as many octets as the table has.
 //!
 //! Both calls take the same buffers, warm in the cache, through a function pointer; their batches alternate, and the
 //! best batch of many rounds counts. The run ends with status 1 only where the two give different answers.
+
+mod report;
+mod routes;
+mod table;
 
 use conformance::{
     cases::{
@@ -13,29 +18,14 @@ use conformance::{
     plain,
     random::Random,
 };
-use std::{fmt::Debug, hint::black_box, process::ExitCode, time::Instant};
+use report::Report;
+use std::{hint::black_box, process::ExitCode};
 
-const ROUNDS: usize = 1_500;
 /// Octets of a writer's output, more than any encoding.
 const ROOM: usize = 128;
 
-const GOAL: f64 = 1.10;
-
-/// A batch takes about this many nanoseconds, far more than reading the clock.
-const BATCH: f64 = 20_000.0;
-
-#[derive(Default)]
-struct Report {
-    rows: usize,
-    over: usize,
-    worst: f64,
-    differ: bool,
-}
-
 fn main() -> ExitCode {
-    println!("inputs and outputs: the same buffers for both calls, warm in the cache; best of {ROUNDS} rounds");
-    println!("{:<44} {:>10} {:>10} {:>7}  goal {GOAL:.2}", "call", "archive ns", "plain ns", "ratio");
-    let mut report = Report::default();
+    let mut report = Report::begin();
     runs(&mut report);
     for afi in GOOD_AFIS {
         for sample in one_of_each_type(afi) {
@@ -46,11 +36,11 @@ fn main() -> ExitCode {
         tunnel(&mut report, &attribute);
     }
     groups(&mut report);
-    println!("{} of {} rows over the goal; worst ratio {:.2}", report.over, report.rows, report.worst);
-    if report.differ {
-        ExitCode::FAILURE
-    } else {
+    table::rows(&mut report);
+    if report.end() {
         ExitCode::SUCCESS
+    } else {
+        ExitCode::FAILURE
     }
 }
 
@@ -97,7 +87,7 @@ fn nlri(report: &mut Report, sample: &Sample) {
     let writes = calls
         .map(|call| move || unsafe { call(afi, nlri, key.as_ptr(), black_box(key.len()), black_box(output), ROOM) });
     report.row(format!("nlri_write {name}"), writes);
-    report.check_output(writes, output, octets, &name);
+    report.check_output(&writes, output, ROOM, octets, &name);
 }
 
 fn tunnel(report: &mut Report, attribute: &[u8]) {
@@ -119,7 +109,7 @@ fn tunnel(report: &mut Report, attribute: &[u8]) {
         }
     });
     report.row(format!("attribute_write {name}"), writes);
-    report.check_output(writes, output, attribute, &name);
+    report.check_output(&writes, output, ROOM, attribute, &name);
 }
 
 fn groups(report: &mut Report) {
@@ -151,54 +141,4 @@ fn one_of_each_form() -> Vec<Vec<u8>> {
         ends
     };
     [0, 1, 2, 3, 4, 5, 6, 7, 11].into_iter().flat_map(of_type).collect()
-}
-
-impl Report {
-    /// Measures the archive's call and the plain one, and prints the row.
-    fn row<Answer: PartialEq + Debug>(&mut self, name: String, calls: [impl Fn() -> Answer; 2]) {
-        let [archive, plain] = calls.each_ref().map(|call| call());
-        self.check(&archive, &plain, &name);
-        let repeats = (BATCH / batch(&calls[1], 1_000)).max(1.0) as usize;
-        let mut best = [f64::MAX; 2];
-        for round in 0..ROUNDS {
-            // Either call goes first in turn.
-            for which in [round % 2, 1 - round % 2] {
-                best[which] = best[which].min(batch(&calls[which], repeats));
-            }
-        }
-        let ratio = best[0] / best[1];
-        let mark = if ratio > GOAL { "over" } else { "" };
-        println!("{name:<44} {:>10.2} {:>10.2} {ratio:>7.2}  {mark}", best[0], best[1]);
-        self.rows += 1;
-        self.over += usize::from(ratio > GOAL);
-        self.worst = self.worst.max(ratio);
-    }
-
-    /// Checks that each writer puts the encoding into an output of `ROOM` octets, and nothing past it.
-    fn check_output<Answer>(&mut self, writes: [impl Fn() -> Answer; 2], output: *mut u8, encoding: &[u8], name: &str) {
-        let outputs = writes.map(|write| unsafe {
-            output.write_bytes(0x5A, ROOM);
-            write();
-            std::slice::from_raw_parts(output, ROOM).to_vec()
-        });
-        let expected = [encoding, &[0x5A; ROOM][encoding.len()..]].concat();
-        outputs.iter().for_each(|written| self.check(written, &expected, name));
-    }
-
-    fn check<Answer: PartialEq + Debug>(&mut self, archive: Answer, plain: Answer, name: &str) {
-        if archive != plain {
-            println!("ANSWERS DIFFER: {name}\narchive {archive:?}\nplain   {plain:?}");
-            self.differ = true;
-        }
-    }
-}
-
-/// Nanoseconds of one call in a batch.
-fn batch<Answer>(call: &impl Fn() -> Answer, repeats: usize) -> f64 {
-    let start = Instant::now();
-    for _ in 0..repeats {
-        // By reference: a copy of the answer would be timed with the call.
-        black_box(&call());
-    }
-    start.elapsed().as_nanos() as f64 / repeats as f64
 }

@@ -1,0 +1,190 @@
+//! Rows of the table's calls, by places and by routes held; of both families where routes are held.
+
+use crate::{
+    report::{best, best_on_copies, Memcmp, Report},
+    routes::{routes, Route},
+};
+use conformance::{
+    cases::samples::GOOD_AFIS,
+    ffi::{raw, Installed, Matched},
+    plain,
+    second::{
+        choice::LEAST_OUTPUT,
+        table::{size, MOST_PLACES},
+    },
+};
+use std::{
+    ffi::{c_int, c_void},
+    fmt::Debug,
+    hint::black_box,
+};
+
+const PLACES: [usize; 5] = [0, 1, 50, 250, MOST_PLACES];
+/// Routes that a sparse table holds.
+const FEW: usize = 5;
+
+/// Outcomes of install.
+const NEW: u32 = 1;
+const REPLACED: u32 = 2;
+
+extern "C" {
+    fn memcmp(left: *const c_void, right: *const c_void, size: usize) -> c_int;
+}
+
+pub fn rows(report: &mut Report) {
+    for places in PLACES {
+        let nanoseconds = memcmp_of(places);
+        empty(&mut Rows {
+            report,
+            memcmp: Memcmp { nanoseconds, has_goal: places == MOST_PLACES },
+            afi: 1,
+            places,
+            held: 0,
+        });
+        let fills = match places {
+            0 => &[][..],
+            1 => &[1],
+            _ => &[FEW, places],
+        };
+        for (held, afi) in fills.iter().flat_map(|held| GOOD_AFIS.map(|afi| (*held, afi))) {
+            let memcmp = Memcmp { nanoseconds, has_goal: false };
+            filled(&mut Rows { report, memcmp, afi, places, held });
+        }
+    }
+}
+
+/// Nanoseconds of comparing two equal buffers of the table's size.
+fn memcmp_of(places: usize) -> f64 {
+    let octets = size(places);
+    let [left, right] = [vec![0u8; octets], vec![0u8; octets]];
+    let [nanoseconds] = best(&[|| unsafe {
+        let [left, right] = black_box([&left, &right]).map(|buffer| buffer.as_ptr().cast());
+        memcmp(left, right, black_box(octets))
+    }]);
+    println!("{:<48} {nanoseconds:>10.2}", format!("memcmp of {octets} octets"));
+    nanoseconds
+}
+
+/// What the rows of one kind of table share.
+struct Rows<'a> {
+    report: &'a mut Report,
+    memcmp: Memcmp,
+    afi: u16,
+    places: usize,
+    held: usize,
+}
+
+fn empty(rows: &mut Rows) {
+    let (afi, places) = (rows.afi, rows.places);
+    let made = table_of(afi, places, &[]);
+    let [route] = &routes(afi, 1)[..] else { unreachable!("one route was asked for") };
+    let calls = black_box([raw::mvpn_make as raw::Make, plain::make]);
+    let make = calls.map(|call| move |table| unsafe { call(afi, table, size(places)) });
+    rows.changing("make", &vec![0xA5; made.len()], &made, 0, make);
+    rows.matching("match none", &made, &route.flow, None);
+    if places > 0 {
+        rows.install("install new", &made, &table_of(afi, places, &[route]), route, NEW);
+    }
+}
+
+/// The route that is matched, installed and withdrawn stands about in the middle.
+fn filled(rows: &mut Rows) {
+    let all = routes(rows.afi, rows.held);
+    let middle = (all.len() / 2..all.len()).find(|at| all[*at].tier == 1).expect("the longest NLRIs are of tier 1");
+    let route = &all[middle];
+    let others: Vec<&Route> = all.iter().filter(|other| other.nlri != route.nlri).collect();
+    let before = table_of(rows.afi, rows.places, &others);
+    let table = table_of(rows.afi, rows.places, &all.iter().collect::<Vec<_>>());
+    rows.matching("match found", &table, &route.flow, Some(route));
+    let [_, source, group] = route.flow.clone();
+    rows.matching("match none", &table, &[vec![10, 9, 9, 9], source, group], None);
+    rows.install("install replaced", &table, &table, route, REPLACED);
+    rows.withdraw("withdraw", &table, &before, route);
+    if rows.held > 1 {
+        rows.held -= 1;
+        rows.install("install new", &before, &table, route, NEW);
+    }
+}
+
+/// A table that holds these routes.
+fn table_of(afi: u16, places: usize, routes: &[&Route]) -> Vec<u8> {
+    let mut table = vec![0; size(places)];
+    let (octets, size) = (table.as_mut_ptr(), table.len());
+    assert_eq!(unsafe { plain::make(afi, octets, size) }, 0);
+    for Route { nlri, attribute, .. } in routes {
+        let (nlri, nlri_size) = (nlri.as_ptr(), nlri.len());
+        let answer = unsafe { plain::install(octets, size, nlri, nlri_size, attribute.as_ptr(), attribute.len()) };
+        assert_eq!(answer, Installed { number: 0, outcome: NEW });
+    }
+    table
+}
+
+impl Rows<'_> {
+    fn name(&self, call: &str) -> String {
+        format!("{call}, afi {}, places {}, held {}", self.afi, self.places, self.held)
+    }
+
+    fn install(&mut self, call: &str, before: &[u8], after: &[u8], route: &Route, outcome: u32) {
+        let Route { nlri, attribute, .. } = route;
+        let (size, nlri, attribute) = (before.len(), &nlri[..], &attribute[..]);
+        let calls = black_box([raw::mvpn_install as raw::Install, plain::install]).map(|call| {
+            move |table| unsafe { call(table, size, nlri.as_ptr(), nlri.len(), attribute.as_ptr(), attribute.len()) }
+        });
+        self.changing(call, before, after, Installed { number: 0, outcome }, calls);
+    }
+
+    fn withdraw(&mut self, call: &str, before: &[u8], after: &[u8], route: &Route) {
+        let (size, nlri) = (before.len(), &route.nlri[..]);
+        let calls = black_box([raw::mvpn_withdraw as raw::Withdraw, plain::withdraw]);
+        let calls = calls.map(|call| move |table| unsafe { call(table, size, nlri.as_ptr(), nlri.len()) });
+        self.changing(call, before, after, 0, calls);
+    }
+
+    /// A row of calls that write the table: they must give this answer and leave these octets.
+    fn changing<Answer: PartialEq + Debug>(
+        &mut self,
+        call: &str,
+        before: &[u8],
+        after: &[u8],
+        expected: Answer,
+        calls: [impl Fn(*mut u8) -> Answer; 2],
+    ) {
+        let name = self.name(call);
+        let results = calls.each_ref().map(|call| {
+            let mut table = before.to_vec();
+            let answer = call(table.as_mut_ptr());
+            // Where the first octet stands that is not as it should be.
+            (answer, table.iter().zip(after).position(|(is, should)| is != should))
+        });
+        self.report.check(&name, &results, &(expected, None));
+        self.report.line(&name, best_on_copies(before, &calls), Some(self.memcmp));
+    }
+
+    /// A row of matches: they must give this route, or tier 0.
+    fn matching(&mut self, call: &str, table: &[u8], flow: &[Vec<u8>; 3], route: Option<&Route>) {
+        let name = self.name(call);
+        let (expected, written) = match route {
+            None => (Matched::default(), Vec::new()),
+            Some(Route { nlri, attribute, tier, .. }) => {
+                let [nlri_size, attribute_size] = [nlri, attribute].map(|octets| octets.len() as u32);
+                let answer = Matched { number: 0, tier: *tier, nlri_size, attribute_size };
+                (answer, [&nlri[..], attribute].concat())
+            }
+        };
+        let mut buffer = [0u8; LEAST_OUTPUT];
+        let output = buffer.as_mut_ptr();
+        let [router, source, group] = flow.each_ref().map(|octets| &octets[..]);
+        let calls = black_box([raw::mvpn_match as raw::Match, plain::match_flow]).map(|call| {
+            move || unsafe {
+                let (router, router_size) = (router.as_ptr(), router.len());
+                let (source, source_size) = (source.as_ptr(), source.len());
+                let (group, group_size) = (group.as_ptr(), group.len());
+                let (table, size) = (table.as_ptr(), table.len());
+                call(table, size, router, router_size, source, source_size, group, group_size, output, LEAST_OUTPUT)
+            }
+        });
+        self.report.check(&name, &calls.map(|call| call()), &expected);
+        self.report.check_output(&calls, output, LEAST_OUTPUT, &written, &name);
+        self.report.line(&name, best(&calls), Some(self.memcmp));
+    }
+}

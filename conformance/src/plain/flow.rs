@@ -1,0 +1,97 @@
+//! `mvpn_match` in plain Rust.
+
+use super::{
+    family_size,
+    group::{class, SSM},
+    lent,
+    sound::{sound, Place, Sound},
+    DONE, FLOW, SPACE, TABLE,
+};
+use crate::ffi::Matched;
+
+/// The least output: the longest NLRI of type 3 and the longest attribute.
+const OUTPUT: usize = 124;
+
+/// # Safety
+/// As `mvpn.h` says: each pointer is valid for the length beside it, and the output overlaps nothing.
+#[allow(clippy::too_many_arguments)]
+#[inline(never)]
+pub unsafe extern "C" fn match_flow(
+    table: *const u8,
+    table_len: usize,
+    router: *const u8,
+    router_len: usize,
+    source: *const u8,
+    source_len: usize,
+    group: *const u8,
+    group_len: usize,
+    output: *mut u8,
+    output_len: usize,
+) -> Matched {
+    let (router, source, group) = (lent(router, router_len), lent(source, source_len), lent(group, group_len));
+    let output = std::slice::from_raw_parts_mut(output, output_len);
+    match taken_by(lent(table, table_len), router, source, group, output.len()) {
+        Err(number) => Matched { number, ..Default::default() },
+        Ok(None) => Matched::default(),
+        Ok(Some((tier, place))) => {
+            let [nlri_size, attribute_size] = [place[0], place[1]].map(u32::from);
+            let size = (nlri_size + attribute_size) as usize;
+            output[..size].copy_from_slice(&place[2..][..size]);
+            Matched { number: DONE, tier, nlri_size, attribute_size }
+        }
+    }
+}
+
+/// The tier and the route that the flow takes, or TABLE, FLOW, SPACE.
+#[inline(always)]
+fn taken_by<'a>(
+    table: &'a [u8],
+    router: &[u8],
+    source: &[u8],
+    group: &[u8],
+    room: usize,
+) -> Result<Option<(u32, &'a Place)>, u32> {
+    let Sound { afi, taken } = sound(table).ok_or(TABLE)?;
+    let (number, class) = class(afi, group);
+    if !matches!(router.len(), 4 | 16) || source.len() != family_size(afi) || number != DONE {
+        return Err(FLOW);
+    }
+    if room < OUTPUT {
+        return Err(SPACE);
+    }
+    let wildcard = &source[..0];
+    let route = |tier, source, group| Some((tier, lowest(taken, source, group, router)?));
+    let half = || if class == SSM { route(2, source, wildcard) } else { route(3, wildcard, group) };
+    Ok(route(1, source, group).or_else(half).or_else(|| route(4, wildcard, wildcard)))
+}
+
+/// The route of this source, group (each may be the wildcard, no octets) and originator with the lowest distinguisher: the
+/// first one, as such routes differ in nothing else and stand in order. Those of one NLRI size stand together.
+#[inline(always)]
+fn lowest<'a>(taken: &'a [Place], source: &[u8], group: &[u8], originator: &[u8]) -> Option<&'a Place> {
+    let size = 12 + source.len() + group.len() + originator.len();
+    let ending = originator.last_chunk::<4>()?;
+    let first = taken.partition_point(|place| usize::from(place[0]) < size);
+    for place in &taken[first..] {
+        if usize::from(place[0]) != size {
+            break;
+        }
+        let nlri = &place[2..][..size];
+        if nlri.ends_with(ending) && holds(&nlri[10..], source, group, originator) {
+            return Some(place);
+        }
+    }
+    None
+}
+
+/// Whether the octets after the distinguisher are these.
+#[inline(always)]
+fn holds(octets: &[u8], source: &[u8], group: &[u8], originator: &[u8]) -> bool {
+    let (left, right) = octets.split_at(1 + source.len());
+    let [source_bits, group_bits] = [source, group].map(|address| address.len() as u8 * 8);
+    left[0] == source_bits
+        && right[0] == group_bits
+        && left[1..] == *source
+        && right[1..].starts_with(group)
+        && right.ends_with(originator)
+}

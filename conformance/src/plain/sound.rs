@@ -1,0 +1,77 @@
+//! What makes lent memory a sound table (document 01, "The table memory").
+
+use super::{attribute::installable, shape::is_s_pmsi};
+
+pub const HEADER: usize = 8;
+pub const PLACE: usize = 128;
+const MOST_PLACES: usize = 500;
+
+/// NLRI size, attribute size, NLRI, attribute, zeros.
+pub type Place = [u8; PLACE];
+
+/// A sound table: its AFI, and its routes in the order of their NLRIs.
+pub struct Sound<'a> {
+    pub afi: u16,
+    pub taken: &'a [Place],
+}
+
+/// The header and the places of memory that has a table's size.
+#[inline(always)]
+pub fn divided(table: &[u8]) -> Option<(&[u8; HEADER], &[Place])> {
+    let (header, rest) = table.split_first_chunk()?;
+    match rest.as_chunks() {
+        (places, []) if places.len() <= MOST_PLACES => Some((header, places)),
+        _ => None,
+    }
+}
+
+#[inline(always)]
+pub fn sound(table: &[u8]) -> Option<Sound<'_>> {
+    let (&[b'M', b'V', b'T', 0, 1, afi, high, low], places) = divided(table)? else { return None };
+    let (taken, free) = places.split_at_checked(usize::from(u16::from_be_bytes([high, low])))?;
+    let routes = match afi {
+        1 => are_routes::<4>(taken),
+        2 => are_routes::<16>(taken),
+        _ => false,
+    };
+    // Every octet is looked at, so that the compiler can take many at once.
+    let zero = || free.as_flattened().iter().fold(0, |seen, octet| seen | octet) == 0;
+    (routes && zero()).then_some(Sound { afi: u16::from(afi), taken })
+}
+
+/// Whether each place holds a route that install would accept, the NLRIs strictly increasing.
+fn are_routes<const FAMILY: usize>(taken: &[Place]) -> bool {
+    let mut last = None;
+    for place in taken {
+        let Some((nlri, attribute, rest)) = parts(place) else { return false };
+        let accepted = is_s_pmsi(FAMILY, nlri) && installable(attribute).is_ok();
+        if !accepted || !is_zero(rest) || last.is_some_and(|last| last >= nlri) {
+            return false;
+        }
+        last = Some(nlri);
+    }
+    true
+}
+
+/// The NLRI, the attribute and the octets behind them, as the place's two sizes divide it.
+#[inline(always)]
+fn parts(place: &Place) -> Option<(&[u8], &[u8], &[u8])> {
+    let [nlri_size, attribute_size, octets @ ..] = place;
+    let (nlri, rest) = octets.split_at_checked(usize::from(*nlri_size))?;
+    let (attribute, rest) = rest.split_at_checked(usize::from(*attribute_size))?;
+    Some((nlri, attribute, rest))
+}
+
+/// By words from the end; a word at the front takes what they leave.
+#[inline(always)]
+fn is_zero(octets: &[u8]) -> bool {
+    let Some(front) = octets.first_chunk() else { return octets.iter().all(|octet| *octet == 0) };
+    let (_, words) = octets.as_rchunks();
+    words.iter().fold(u128::from_ne_bytes(*front), |seen, word| seen | u128::from_ne_bytes(*word)) == 0
+}
+
+/// The NLRI of a taken place.
+#[inline(always)]
+pub fn nlri_of(place: &Place) -> &[u8] {
+    &place[2..][..usize::from(place[0])]
+}

@@ -1,0 +1,96 @@
+#include "checks.h"
+
+/* ---- checks */
+
+static unsigned checks, failures;
+
+static void fail(const char *shows, const char *field)
+{
+    failures++;
+    printf("FAILED: %s: %s", shows, field);
+}
+
+void same(const char *shows, const char *field, uintmax_t got, uintmax_t expected)
+{
+    checks++;
+    if (got != expected) {
+        fail(shows, field);
+        printf(" is %" PRIuMAX ", expected %" PRIuMAX "\n", got, expected);
+    }
+}
+
+static void print_octets(const uint8_t *octets, size_t size)
+{
+    for (size_t i = 0; i < size; i++)
+        printf(" %02X", octets[i]);
+}
+
+void same_octets(const char *shows, const char *field, const uint8_t *got, const uint8_t *expected, size_t size)
+{
+    checks++;
+    if (memcmp(got, expected, size) != 0) {
+        fail(shows, field);
+        printf(" is");
+        print_octets(got, size);
+        printf(", expected");
+        print_octets(expected, size);
+        printf("\n");
+    }
+}
+
+int verdict(const char *test)
+{
+    printf("%s: %u checks, %u failed\n", test, checks, failures);
+    return failures ? EXIT_FAILURE : EXIT_SUCCESS;
+}
+
+/* ---- octets lent to a call */
+
+lent lent_of(size_t size, uint8_t value)
+{
+    lent l = { malloc(size ? size : 1), size };
+    if (!l.at) {
+        fprintf(stderr, "no memory\n");
+        exit(2);
+    }
+    memset(l.at, value, size);
+    return l;
+}
+
+static unsigned digit(char c)
+{
+    const char *digits = "0123456789ABCDEF", *found = c ? strchr(digits, c) : NULL;
+    if (!found) {
+        fprintf(stderr, "bad hexadecimal in a row\n");
+        exit(2);
+    }
+    return (unsigned)(found - digits);
+}
+
+lent hex(const char *text)
+{
+    lent l = lent_of(strlen(text) / 2, 0);
+    size_t size = 0;
+    for (; *text; text++)
+        if (*text != ' ') {
+            l.at[size++] = (uint8_t)(digit(text[0]) << 4 | digit(text[1]));
+            text++;
+        }
+    uint8_t *exact = realloc(l.at, size ? size : 1);
+    l.at = exact ? exact : l.at;
+    l.size = size;
+    return l;
+}
+
+void same_output(const char *shows, lent output, const uint8_t *written, size_t size)
+{
+    lent expected = lent_of(output.size, FILL);
+    memcpy(expected.at, written, size);
+    same_octets(shows, "output", output.at, expected.at, output.size);
+    free(expected.at);
+}
+
+void untouched(const char *shows, lent output)
+{
+    same_output(shows, output, output.at, 0);
+}

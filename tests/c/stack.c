@@ -1,0 +1,253 @@
+/*
+ * How much stack each call of mvpn.h takes, in octets: its frames, its return address, and the arguments and the answer
+ * that stand on the stack. Each call runs on a painted stack of its own; the deepest octet that lost its paint counts, and
+ * of several runs of a call the deepest.
+ */
+#define _XOPEN_SOURCE 700
+#include "mvpn.h"
+
+#include <stdbool.h>
+#include <stdio.h>
+#include <stdlib.h>
+#include <string.h>
+#include <ucontext.h>
+
+#define ROWS(table) (sizeof(table) / sizeof((table)[0]))
+
+/* The smallest box has 2 KiB of stack. */
+enum { MOST_OCTETS = 2048 };
+
+/* ---- octets for the calls; AFI 2, every address of 16 octets, so that no field is short */
+
+#define RD 0, 0, 0, 100, 0, 0, 0, 7
+#define SOURCE 0x20, 0x01, 0x0D, 0xB8, 0, 0, 0, 0, 0, 0, 0, 0, 0, 0, 0, 1
+#define GROUP 0xFF, 0x3E, 0, 0, 0, 0, 0, 0, 0, 0, 0, 0, 0, 0, 0, 1
+#define ORIGINATOR 0x20, 0x01, 0x0D, 0xB8, 0, 0, 0, 0, 0, 0, 0, 0, 0, 0, 0, 2
+#define S_PMSI 3, 58, RD, 128, SOURCE, 128, GROUP, ORIGINATOR
+
+static const uint8_t source[] = { SOURCE }, group[] = { GROUP }, originator[] = { ORIGINATOR };
+static const uint8_t intra[] = { 1, 24, RD, ORIGINATOR }, inter[] = { 2, 12, RD, 0, 0, 0, 1 }, s_pmsi[] = { S_PMSI };
+static const uint8_t leaf[] = { 4, 76, S_PMSI, ORIGINATOR }, active[] = { 5, 42, RD, 128, SOURCE, 128, GROUP };
+static const uint8_t join[] = { 7, 46, RD, 0, 0, 0, 1, 128, SOURCE, 128, GROUP };
+static const uint8_t run[] = { 4, 76, S_PMSI, ORIGINATOR, S_PMSI, 1, 24, RD, ORIGINATOR };
+
+static const uint8_t mldp[] = { 0, 2, 0, 0, 0, 6, 0, 2, 16, ORIGINATOR, 0, 3, 1, 2, 3 };
+static const uint8_t bier[] = { 0, 11, 0, 0, 16, 1, 0, 2, ORIGINATOR }, pim[] = { 0, 3, 0, 0, 0, SOURCE, GROUP };
+
+static uint8_t output[MVPN_MATCH_OUTPUT];
+
+/* What NLRI writing takes; a type lacks some of it. */
+static mvpn_nlri fields = { .distinguisher = { { RD } }, .source = { { SOURCE }, 16 }, .group = { { GROUP }, 16 },
+                            .originator = { { ORIGINATOR }, 16 }, .source_as = 1 };
+
+/* ---- tables: every place taken; all but one; the one that a run works on */
+
+static uint8_t full[MVPN_TABLE_SIZE(MVPN_MOST_PLACES)], roomy[sizeof full], table[sizeof full];
+
+/* The first and the last NLRI of the full table, and one that it does not hold. */
+static uint8_t first[sizeof s_pmsi], last[sizeof s_pmsi], absent[sizeof s_pmsi];
+
+/* The NLRI whose RD ends in this number. */
+static void number_nlri(uint8_t *nlri, unsigned number)
+{
+    memcpy(nlri, s_pmsi, sizeof s_pmsi);
+    nlri[8] = (uint8_t)(number >> 8);
+    nlri[9] = (uint8_t)number;
+}
+
+/* Routes from this number on, with attributes of several forms. */
+static void fill(uint8_t *memory, unsigned from)
+{
+    static const struct { const uint8_t *octets; size_t size; } attributes[] = {
+        { mldp, sizeof mldp }, { bier, sizeof bier }, { pim, sizeof pim },
+    };
+    mvpn_make(2, memory, sizeof full);
+    for (unsigned i = from; i < MVPN_MOST_PLACES; i++) {
+        uint8_t nlri[sizeof s_pmsi];
+        number_nlri(nlri, i);
+        mvpn_install(memory, sizeof full, nlri, sizeof nlri, attributes[i % 3].octets, attributes[i % 3].size);
+    }
+}
+
+/* ---- the runs; each tells whether the answer is the one that it is meant to measure */
+
+static bool as_expected;
+
+#define RUN(name, condition) static void name(void) { as_expected = (condition); }
+
+RUN(nothing, true)
+
+#define READS(nlri) mvpn_nlri_read(2, nlri, sizeof nlri).number == MVPN_DONE
+RUN(read_intra, READS(intra))
+RUN(read_inter, READS(inter))
+RUN(read_s_pmsi, READS(s_pmsi))
+RUN(read_leaf, READS(leaf))
+RUN(read_active, READS(active))
+RUN(read_join, READS(join))
+
+#define WRITES(nlri) \
+    (fields.route_type = nlri[0], \
+     mvpn_nlri_write(2, fields, s_pmsi, sizeof s_pmsi, output, sizeof output).size == sizeof nlri)
+RUN(write_intra, WRITES(intra))
+RUN(write_inter, WRITES(inter))
+RUN(write_s_pmsi, WRITES(s_pmsi))
+RUN(write_leaf, WRITES(leaf))
+RUN(write_active, WRITES(active))
+RUN(write_join, WRITES(join))
+
+RUN(step_leaf, mvpn_step(2, run, sizeof run, 0).layout.key == sizeof s_pmsi)
+RUN(step_s_pmsi, mvpn_step(2, run, sizeof run, sizeof leaf).layout.group == 16)
+RUN(walk_run, mvpn_walk(2, run, sizeof run).count == 3)
+RUN(class_group, mvpn_group_class(2, group, sizeof group).group_class == MVPN_SSM)
+
+#define READS_ATTRIBUTE(octets) mvpn_attribute_read(octets, sizeof octets).number == MVPN_DONE
+RUN(read_mldp, READS_ATTRIBUTE(mldp))
+RUN(read_bier, READS_ATTRIBUTE(bier))
+RUN(read_pim, READS_ATTRIBUTE(pim))
+
+#define WRITES_ATTRIBUTE(octets) \
+    mvpn_attribute_write(0, octets[1], octets[4], octets + 5, sizeof octets - 5, output, sizeof output).size == sizeof octets
+RUN(write_mldp, WRITES_ATTRIBUTE(mldp))
+RUN(write_bier, WRITES_ATTRIBUTE(bier))
+RUN(write_pim, WRITES_ATTRIBUTE(pim))
+
+RUN(make_table, mvpn_make(2, table, sizeof table) == MVPN_DONE)
+
+#define INSTALL(nlri, attribute) mvpn_install(table, sizeof table, nlri, sizeof nlri, attribute, sizeof attribute)
+RUN(install_first, INSTALL(first, mldp).outcome == MVPN_NEW)
+RUN(install_last, INSTALL(last, bier).outcome == MVPN_REPLACED)
+RUN(install_without_room, INSTALL(absent, pim).number == MVPN_ROOM)
+RUN(install_leaf, INSTALL(leaf, mldp).number == MVPN_KIND)
+
+#define WITHDRAW(nlri) mvpn_withdraw(table, sizeof table, nlri, sizeof nlri)
+RUN(withdraw_first, WITHDRAW(first) == MVPN_DONE)
+RUN(withdraw_last, WITHDRAW(last) == MVPN_DONE)
+RUN(withdraw_absent, WITHDRAW(absent) == MVPN_ABSENT)
+RUN(withdraw_leaf, WITHDRAW(leaf) == MVPN_KIND)
+
+static mvpn_matched matched;
+
+#define MATCHES(router, wanted) \
+    (matched = mvpn_match(table, sizeof table, router, sizeof router, source, sizeof source, group, sizeof group, output, \
+                          sizeof output), \
+     matched.number == MVPN_DONE && matched.tier == (wanted))
+RUN(match_found, MATCHES(originator, 1))
+RUN(match_none, MATCHES(source, 0))
+
+/* Runs of one call stand together. */
+static const struct {
+    const char *name;
+    void (*run)(void);
+    const uint8_t *before; /* what the table holds */
+} runs[] = {
+    { "mvpn_nlri_read", read_intra, full },
+    { "mvpn_nlri_read", read_inter, full },
+    { "mvpn_nlri_read", read_s_pmsi, full },
+    { "mvpn_nlri_read", read_leaf, full },
+    { "mvpn_nlri_read", read_active, full },
+    { "mvpn_nlri_read", read_join, full },
+    { "mvpn_nlri_write", write_intra, full },
+    { "mvpn_nlri_write", write_inter, full },
+    { "mvpn_nlri_write", write_s_pmsi, full },
+    { "mvpn_nlri_write", write_leaf, full },
+    { "mvpn_nlri_write", write_active, full },
+    { "mvpn_nlri_write", write_join, full },
+    { "mvpn_step", step_leaf, full },
+    { "mvpn_step", step_s_pmsi, full },
+    { "mvpn_walk", walk_run, full },
+    { "mvpn_group_class", class_group, full },
+    { "mvpn_attribute_read", read_mldp, full },
+    { "mvpn_attribute_read", read_bier, full },
+    { "mvpn_attribute_read", read_pim, full },
+    { "mvpn_attribute_write", write_mldp, full },
+    { "mvpn_attribute_write", write_bier, full },
+    { "mvpn_attribute_write", write_pim, full },
+    { "mvpn_make", make_table, full },
+    { "mvpn_install", install_first, roomy },
+    { "mvpn_install", install_last, full },
+    { "mvpn_install", install_without_room, full },
+    { "mvpn_install", install_leaf, full },
+    { "mvpn_withdraw", withdraw_first, full },
+    { "mvpn_withdraw", withdraw_last, full },
+    { "mvpn_withdraw", withdraw_absent, full },
+    { "mvpn_withdraw", withdraw_leaf, full },
+    { "mvpn_match", match_found, full },
+    { "mvpn_match", match_none, full },
+};
+
+/* ---- the painted stack */
+
+static uint8_t stack[1 << 16];
+
+/* How deep a run goes into a stack of this paint. */
+static size_t depth_over(void (*run)(void), uint8_t paint)
+{
+    static ucontext_t here, there;
+    size_t kept = 0;
+    memset(stack, paint, sizeof stack);
+    as_expected = false;
+    if (getcontext(&there) != 0)
+        return SIZE_MAX;
+    there.uc_stack.ss_sp = stack;
+    there.uc_stack.ss_size = sizeof stack;
+    there.uc_link = &here;
+    makecontext(&there, run, 0);
+    if (swapcontext(&here, &there) != 0 || !as_expected)
+        return SIZE_MAX;
+    while (kept < sizeof stack && stack[kept] == paint)
+        kept++;
+    return sizeof stack - kept;
+}
+
+/* Of two paints, as a run may write one of them itself. A first run, off the painted stack, has the loader find the C
+ * library's functions that the call uses. */
+static size_t depth(void (*run)(void), const uint8_t *before)
+{
+    static const uint8_t paints[] = { 0xA5, 0x5A };
+    size_t deepest = 0;
+    memcpy(table, before, sizeof table);
+    run();
+    for (size_t i = 0; i < ROWS(paints); i++) {
+        memcpy(table, before, sizeof table);
+        size_t reached = depth_over(run, paints[i]);
+        deepest = reached > deepest ? reached : deepest;
+    }
+    return deepest;
+}
+
+/* The octets of the call that the runs from `i` on are of; `i` moves past them. */
+static size_t deepest_of(size_t *i, size_t base)
+{
+    const char *name = runs[*i].name;
+    size_t deepest = 0;
+    for (; *i < ROWS(runs) && strcmp(runs[*i].name, name) == 0; ++*i) {
+        size_t reached = depth(runs[*i].run, runs[*i].before);
+        if (reached == SIZE_MAX) {
+            printf("FAILED: run %zu, of %s, gave another answer\n", *i, name);
+            exit(EXIT_FAILURE);
+        }
+        deepest = reached - base > deepest ? reached - base : deepest;
+    }
+    return deepest;
+}
+
+int main(void)
+{
+    int status = EXIT_SUCCESS;
+    number_nlri(first, 0);
+    number_nlri(last, MVPN_MOST_PLACES - 1);
+    number_nlri(absent, MVPN_MOST_PLACES);
+    fill(full, 0);
+    fill(roomy, 1);
+    size_t base = depth(nothing, full);
+    for (size_t i = 0; i < ROWS(runs);) {
+        const char *name = runs[i].name;
+        size_t octets = deepest_of(&i, base);
+        printf("%s %zu\n", name, octets);
+        if (octets > MOST_OCTETS) {
+            printf("FAILED: %s takes more than %d octets of stack\n", name, MOST_OCTETS);
+            status = EXIT_FAILURE;
+        }
+    }
+    return status;
+}
