@@ -1,2 +1,3 @@
 -- Laws of the definitions, and the theorems.
 pub mod Lookups
+pub mod Premise
