@@ -5,3 +5,5 @@ pub mod Places
 pub mod Headers
 pub mod NotDone
 pub mod Images
+pub mod Distincts
+pub mod Premise

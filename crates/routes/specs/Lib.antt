@@ -12,4 +12,5 @@ pub mod Run
 pub mod Images
 pub mod LastInstalled
 pub mod MatchRule
+pub mod Occurrences
 pub mod MixedCalls
