@@ -7,5 +7,10 @@ pub mod ByArguments
 pub mod Images
 pub mod Holding
 pub mod ArgumentRules
+pub mod Answered
+pub mod MakeRules
+pub mod InstallRules
+pub mod WithdrawRules
+pub mod MatchRefusals
 pub mod Distincts
 pub mod Premise
