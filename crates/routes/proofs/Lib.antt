@@ -4,4 +4,5 @@ pub mod Distincts
 pub mod Ownership
 pub mod Numbered
 pub mod Books
+pub mod AllBooks
 pub mod Premise
