@@ -5,3 +5,4 @@ pub mod Lowest
 pub mod Conditions
 pub mod First
 pub mod MatchSame
+pub mod OnePass
