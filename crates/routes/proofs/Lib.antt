@@ -6,3 +6,10 @@ pub mod Conditions
 pub mod First
 pub mod MatchSame
 pub mod OnePass
+pub mod Bounds
+pub mod Places
+pub mod Headers
+pub mod NotDone
+pub mod Images
+pub mod Distincts
+pub mod Premise

@@ -13,4 +13,5 @@ pub mod Run
 pub mod Images
 pub mod LastInstalled
 pub mod MatchRule
+pub mod Occurrences
 pub mod MixedCalls
