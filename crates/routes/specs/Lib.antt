@@ -5,6 +5,7 @@ pub mod Arguments
 pub mod Place
 pub mod Table
 pub mod Matching
+pub mod OnePass
 pub mod Calls
 pub mod Call
 pub mod Book
