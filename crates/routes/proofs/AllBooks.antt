@@ -1,7 +1,7 @@
 -- Laws of books fed calls: what one router's book and all books together hold of an NLRI, and that a table can hold all of them.
 use Prim.Native.Nat.{ℕ, _≤_}
 use mathlib.Core.Path.{_≡_, refl, sym, ap, _∙_}
-use mathlib.Core.Bool.{Bool, true, false}
+use mathlib.Core.Bool.{true, false}
 use mathlib.Core.List.{List, [], _∷_, _++_}
 use mathlib.Core.Logic.{⊎-elim}
 use native.Mathlib.Omega.{arith}
@@ -14,21 +14,20 @@ use Rattle.octets.proofs.Inversions.{opposite}
 use Rattle.octets.proofs.Outcomes.{pick-true, pick-false}
 use Rattle.octets.proofs.Picked.{tested}
 use Rattle.octets.proofs.Refusals.{is-true}
-use Rattle.octets.proofs.Tests.{either-left}
 use Rattle.octets.proofs.Orders.{same-equal, other-unequal}
 use Rattle.nlri.specs.Fields.{Fields}
-use Rattle.routes.specs.Route.{Route, nlriOf, Held, absent, held, lookup, isHeld, holds, arranged, Distinct, Member, Increasing}
+use Rattle.routes.specs.Route.{Route, nlriOf, Held, absent, held, lookup, arranged, Distinct, Increasing}
 use Rattle.routes.specs.Arguments.{readSPmsi, readRoute}
 use Rattle.routes.specs.Place.{AllAcceptable}
 use Rattle.routes.specs.Images.{Family, Holdable}
-use Rattle.routes.specs.Call.{Call, install, withdraw, match, Owner, nobody, owner, originatorOf, ownerOf, ownedBy, owns}
+use Rattle.routes.specs.Call.{Call, install, withdraw, match, Owner, nobody, owner, originatorOf, ownerOf, owns}
 use Rattle.routes.specs.Book.{bookAfter, fed, ownCalls, bookOf, has, distinct, withOwner, routersOf, gathered, allBooks}
 use Rattle.routes.specs.Run.{namedBy, Fits}
 use Rattle.routes.specs.Occurrences.{Among, first, later}
-use Rattle.routes.proofs.Lookups.{lookup-none, lookup-first, lookup-later, lookup-arranged, held-or-absent, held-absent, holds-held, holds-absent, holds-alike, held-holds, increasing-arranged, increasing-distinct, acceptable-arranged, acceptable-member}
-use Rattle.routes.proofs.Distincts.{has-among, among-has, among-distinct, distinct-among, among-cases, routes-fewer}
-use Rattle.routes.proofs.Ownership.{accepted, acceptable-nonempty, owned-itself, owned-nobody, owned-by}
-use Rattle.routes.proofs.Books.{heldAfter, heldAfterAll, lookup-after, distinct-after, acceptable-after, Apart, held-apart}
+use Rattle.routes.proofs.Lookups.{lookup-none, lookup-first, lookup-later, lookup-arranged, held-or-absent, held-absent, held-holds, increasing-arranged, increasing-distinct, acceptable-arranged, acceptable-member}
+use Rattle.routes.proofs.Distincts.{has-among, among-has, among-distinct, among-cases, routes-fewer}
+use Rattle.routes.proofs.Ownership.{route-accepted, acceptable-after-none, owned-itself, owned-nobody, owned-by}
+use Rattle.routes.proofs.Books.{heldAfter, heldAfterAll, lookup-after, distinct-after, acceptable-after, held-apart}
 
 -- a router's own calls
 
@@ -230,8 +229,8 @@ named-first afi nlri (install named attribute) cs a h = go (readRoute afi named 
   where
     go : (o : Outcome Route) → readRoute afi named attribute ≡ o → onOutcome (λ number. absent) (λ r. pick (same nlri named) (held attribute) absent) o ≡ held a → Among nlri (namedBy afi (install named attribute ∷ cs))
     go (given r) e h =
-      let x = accepted afi named attribute r e in
-      tested (same nlri named) (λ t. rw (x .named) (first (same-equal nlri named t))) (λ f. absurd (held-absent h (pick-false _ _ _ f)))
+      let x = route-accepted afi named attribute r e in
+      tested (same nlri named) (λ t. rw (x .read) (first (same-equal nlri named t))) (λ f. absurd (held-absent h (pick-false _ _ _ f)))
     go (refused n) e h = absurd (held-absent h refl)
 named-first afi nlri (withdraw named) cs a h = absurd (go (readSPmsi afi named) h)
   where
@@ -265,7 +264,7 @@ unfolding allBooks
 all-acceptable afi calls = gathered-acceptable afi (distinct (routersOf afi calls)) calls
 
 pub books-increasing : (afi : ℕ) (calls : List Call) → Increasing [] (arranged (allBooks afi calls))
-books-increasing afi calls = increasing-arranged [] (allBooks afi calls) (λ r m. acceptable-nonempty afi r (acceptable-member (all-acceptable afi calls) m))
+books-increasing afi calls = increasing-arranged [] (allBooks afi calls) (λ r m. acceptable-after-none afi r (acceptable-member (all-acceptable afi calls) m))
 
 books-few : (afi : ℕ) (calls : List Call) → length (arranged (allBooks afi calls)) ≤ length (distinct (namedBy afi calls))
 books-few afi calls =

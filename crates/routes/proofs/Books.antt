@@ -1,30 +1,22 @@
 -- Laws of books: what they hold of an NLRI, one router's and all together, and that a table can hold them.
-use Prim.Native.Nat.{ℕ, _≤_}
+use Prim.Native.Nat.{ℕ}
 use mathlib.Core.Path.{_≡_, refl, sym, ap, _∙_}
-use mathlib.Core.Bool.{Bool, true, false}
-use mathlib.Core.List.{List, [], _∷_, _++_}
-use mathlib.Core.Logic.{_⊎_, inl, inr, ⊎-elim}
-use native.Mathlib.Omega.{arith}
-use lib.ListN.{length}
+use mathlib.Core.List.{List, [], _∷_}
 use Rattle.octets.specs.Choice.{pick}
 use Rattle.octets.specs.Outcome.{Outcome, given, refused, onOutcome}
-use Rattle.octets.specs.Order.{same, before}
-use Rattle.octets.proofs.Inversions.{opposite}
+use Rattle.octets.specs.Order.{same}
 use Rattle.octets.proofs.Outcomes.{pick-true, pick-false}
 use Rattle.octets.proofs.Picked.{tested}
-use Rattle.octets.proofs.Orders.{same-equal, same-itself}
+use Rattle.octets.proofs.Orders.{same-equal}
 use Rattle.nlri.specs.Fields.{Fields}
-use Rattle.routes.specs.Route.{Route, route, nlriOf, attributeOf, Held, absent, held, lookup, isHeld, holds, removed, arranged, Distinct, none, Member, Increasing}
+use Rattle.routes.specs.Route.{Route, nlriOf, attributeOf, Held, absent, held, lookup, removed, Distinct}
 use Rattle.routes.specs.Arguments.{readSPmsi, readRoute}
 use Rattle.routes.specs.Place.{AllAcceptable}
-use Rattle.routes.specs.Images.{Family, Holdable}
-use Rattle.routes.specs.Call.{Call, install, withdraw, match, Owner, nobody, owner, originatorOf, ownerOf, ownedBy, owns}
-use Rattle.routes.specs.Book.{entered, bookAfter, fed, ownCalls, bookOf, has, distinct, withOwner, routersOf, gathered, allBooks}
-use Rattle.routes.specs.Run.{namedBy, Fits}
-use Rattle.routes.specs.Occurrences.{Among, first, later}
-use Rattle.routes.proofs.Lookups.{lookup-none, lookup-first, lookup-later, lookup-own, lookup-entered, lookup-removed-same, lookup-removed-other, lookup-arranged, held-or-absent, held-absent, holds-held, holds-alike, distinct-entered, distinct-removed, increasing-arranged, increasing-distinct, acceptable-entered, acceptable-removed, acceptable-arranged, acceptable-member, held-holds}
-use Rattle.routes.proofs.Distincts.{has-among, among-has, among-distinct, distinct-among, routes-fewer}
-use Rattle.routes.proofs.Ownership.{accepted, read-acceptable, acceptable-nonempty, owner-read, owned-itself, owned-nobody, owned-by}
+use Rattle.routes.specs.Call.{Call, install, withdraw, match, owner, originatorOf, ownerOf}
+use Rattle.routes.specs.Book.{entered, bookAfter}
+use Rattle.routes.proofs.Lookups.{lookup-entered, lookup-removed-same, lookup-removed-other, distinct-entered, distinct-removed, acceptable-entered, acceptable-removed}
+use Rattle.routes.proofs.Ownership.{route-accepted, route-acceptable, owner-read}
+use Rattle.routes.proofs.Bounds.{route-read}
 
 -- what is held of an NLRI after a call, by what was held before
 unfoldable pub heldAfter : ℕ → Call → (nlri : List ℕ) → Held → Held
@@ -50,7 +42,7 @@ lookup-after afi nlri (install named attribute) {book} d = go (readRoute afi nam
   where
     go : (o : Outcome Route) → readRoute afi named attribute ≡ o
         → lookup nlri (onOutcome (λ number. book) (λ r. entered r book) o) ≡ onOutcome (λ number. lookup nlri book) (λ r. pick (same nlri named) (held attribute) (lookup nlri book)) o
-    go (given r) e = lookup-entered nlri r book ∙ ap (λ (x : Route). lookup nlri (x ∷ book)) (accepted afi named attribute r e .itself)
+    go (given r) e = lookup-entered nlri r book ∙ ap (λ (x : Route). lookup nlri (x ∷ book)) (route-read afi named attribute r e)
     go (refused n) e = refl
 lookup-after afi nlri (withdraw named) {book} d = go (readSPmsi afi named)
   where
@@ -79,7 +71,7 @@ unfolding bookAfter onOutcome
 acceptable-after afi (install named attribute) {book} a = go (readRoute afi named attribute) refl
   where
     go : (o : Outcome Route) → readRoute afi named attribute ≡ o → AllAcceptable afi (onOutcome (λ number. book) (λ r. entered r book) o)
-    go (given r) e = acceptable-entered afi r (read-acceptable afi named attribute r e) a
+    go (given r) e = acceptable-entered afi r (route-acceptable afi named attribute r e) a
     go (refused n) e = a
 acceptable-after afi (withdraw named) {book} a = go (readSPmsi afi named)
   where
@@ -99,8 +91,8 @@ held-apart afi nlri (install named attribute) h apart = go (readRoute afi named 
   where
     go : (o : Outcome Route) → readRoute afi named attribute ≡ o → onOutcome (λ number. h) (λ r. pick (same nlri named) (held attribute) h) o ≡ h
     go (given r) e =
-      let a = accepted afi named attribute r e in
-      let own = owner-read afi named (a .fields) (a .named) in
+      let a = route-accepted afi named attribute r e in
+      let own = owner-read afi named (a .fields) (a .read) in
       tested (same nlri named) (λ t. absurd (apart _ (rw (same-equal nlri named t) own) own)) (λ f. pick-false _ _ _ f)
     go (refused n) e = refl
 held-apart afi nlri (withdraw named) h apart = go (readSPmsi afi named) refl

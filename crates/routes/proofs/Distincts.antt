@@ -1,6 +1,6 @@
 -- Laws of `Among`, `PutIn` and `distinct`: what is drawn from a list, each element once, is no more than the list's distinct elements.
 use Prim.Native.Nat.{ℕ, suc, _≤_}
-use mathlib.Core.Path.{_≡_, refl, sym, ap, _∙_}
+use mathlib.Core.Path.{_≡_, refl, ap, _∙_}
 use mathlib.Core.Bool.{true, false}
 use mathlib.Core.List.{List, [], _∷_, _++_}
 use mathlib.Core.Logic.{_⊎_, inl, inr, ⊎-elim}
@@ -11,7 +11,7 @@ use Rattle.octets.proofs.Inversions.{opposite, either-true}
 use Rattle.octets.proofs.Tests.{either-left}
 use Rattle.octets.proofs.Outcomes.{pick-true, pick-false}
 use Rattle.octets.proofs.Picked.{tested}
-use Rattle.octets.proofs.Refusals.{either-second, is-false}
+use Rattle.octets.proofs.Refusals.{either-second}
 use Rattle.octets.proofs.Orders.{same-equal, equal-same}
 use Rattle.routes.specs.Route.{Route, nlriOf, attributeOf, holds, Distinct}
 use Rattle.routes.specs.Book.{has, distinct}

@@ -1,76 +1,34 @@
 -- What a call's arguments come to: what is known of a route, an NLRI or a query that was read, and whom the call belongs to.
-use Prim.Native.Nat.{ℕ, suc, _<_}
+use Prim.Native.Nat.{ℕ}
 use mathlib.Core.Path.{_≡_, refl, sym, ap, _∙_}
-use mathlib.Core.Bool.{Bool, true, false}
-use mathlib.Core.List.{List, [], _∷_}
-use mathlib.Core.Logic.{⊎-elim, _≢_}
+use mathlib.Core.Bool.{true, false}
+use mathlib.Core.List.{List, []}
 use native.Mathlib.Omega.{arith}
-use lib.ListN.{length, drop}
-use Rattle.octets.specs.Numbers.{DONE, SHORT, TYPE, LENGTH, WIDTH, KEY, FAMILY, KIND, FLOW}
-use Rattle.octets.specs.Choice.{pick}
-use Rattle.octets.specs.Outcome.{Outcome, given, refused, onOutcome, andThen}
-use Rattle.octets.specs.Order.{same, before}
-use Rattle.octets.proofs.Inversions.{never, opposite, given-same, only, unless, passed}
+use lib.ListN.{length}
+use Rattle.octets.specs.Outcome.{given, refused, onOutcome}
+use Rattle.octets.specs.Order.{before}
+use Rattle.octets.proofs.Inversions.{opposite, given-same, only, unless, passed}
 use Rattle.octets.proofs.Orders.{same-equal, equal-same, before-none}
-use Rattle.octets.proofs.Refusals.{refused-same, picked, stopped, turned, refuses-where}
-use Rattle.nlri.specs.Family.{familyBits, originatorSize}
+use Rattle.nlri.specs.Family.{originatorSize}
 use Rattle.nlri.specs.Fields.{Fields}
-use Rattle.nlri.specs.Reading.{fixedField, addressEnd, addressField, originatorField, fieldSize, sizesOf, keyField, laidWith, laidAt, laidSingle, readNlri}
 use Rattle.routes.specs.Route.{Route, route, nlriOf, attributeOf}
 use Rattle.routes.specs.Arguments.{Query, readSPmsi, readRoute, readFlow, readMatch}
 use Rattle.routes.specs.Place.{acceptable}
+use Rattle.routes.proofs.Bounds.{Accepted, accepted, route-read, read-acceptable, sizes-of}
 use Rattle.routes.specs.Call.{Owner, nobody, owner, originatorOf, ownedBy}
 
--- an accepted install is of its own NLRI and attribute, and the NLRI is a well-formed S-PMSI NLRI
-pub record Accepted (afi : ℕ) (nlri attribute : List ℕ) (r : Route) : Type 0 where
-  pub itself : r ≡ route nlri attribute
-  pub fields : Fields
-  pub named : readSPmsi afi nlri ≡ given fields
+-- an accepted install
+pub route-accepted : (afi : ℕ) (nlri attribute : List ℕ) (r : Route) → readRoute afi nlri attribute ≡ given r → Accepted afi nlri attribute
+unfolding nlriOf attributeOf
+route-accepted afi nlri attribute r e = accepted afi (route nlri attribute) (read-acceptable afi (route nlri attribute) r e)
 
-pub accepted : (afi : ℕ) (nlri attribute : List ℕ) (r : Route) → readRoute afi nlri attribute ≡ given r → Accepted afi nlri attribute r
-unfolding readRoute
-accepted afi nlri attribute r e =
-    let p = passed _ _ _ e in
-    let q = passed _ _ _ (p .second) in
-    record { itself = sym (given-same (q .second)); fields = p .value; named = p .first }
+pub route-acceptable : (afi : ℕ) (nlri attribute : List ℕ) (r : Route) → readRoute afi nlri attribute ≡ given r → acceptable afi r ≡ true
+unfolding nlriOf attributeOf
+route-acceptable afi nlri attribute r e = rw (route-read afi nlri attribute r e) (read-acceptable afi (route nlri attribute) r e)
 
-pub read-acceptable : (afi : ℕ) (nlri attribute : List ℕ) (r : Route) → readRoute afi nlri attribute ≡ given r → acceptable afi r ≡ true
-unfolding acceptable onOutcome nlriOf attributeOf
-read-acceptable afi nlri attribute r e = rw (accepted afi nlri attribute r e .itself, e)
-
-pub acceptable-read : (afi : ℕ) (r : Route) → acceptable afi r ≡ true → (q : Route) × (readRoute afi (nlriOf r) (attributeOf r) ≡ given q)
-unfolding acceptable onOutcome
-acceptable-read afi r = go (readRoute afi (nlriOf r) (attributeOf r))
-  where
-    go : (o : Outcome Route) → onOutcome (λ number. false) (λ q. true) o ≡ true → (q : Route) × (o ≡ given q)
-    go (given q) e = (q, refl)
-    go (refused n) e = absurd (opposite {b = false} e refl)
-
-pub acceptable-named : (afi : ℕ) (r : Route) → acceptable afi r ≡ true → (f : Fields) × (readSPmsi afi (nlriOf r) ≡ given f)
-acceptable-named afi r h =
-    let p = acceptable-read afi r h in
-    let a = accepted afi (nlriOf r) (attributeOf r) (p .0) (p .1) in
-    (a .fields, a .named)
-
--- no NLRI has no octets
-laid-none : (family : ℕ) → laidSingle family [] ≡ refused SHORT
-unfolding laidSingle laidAt laidWith pick andThen
-laid-none family = refl
-
-read-none : (afi : ℕ) (f : Fields) → readSPmsi afi [] ≡ given f → ⊥
-unfolding readSPmsi readNlri
-read-none afi f e =
-    let p = passed _ _ _ e in
-    let q = passed _ _ _ (p .first) in
-    let r = passed _ _ _ (q .second) in
-    never (r .first) (laid-none (q .value))
-
-pub acceptable-nonempty : (afi : ℕ) (r : Route) → acceptable afi r ≡ true → before [] (nlriOf r) ≡ true
-acceptable-nonempty afi r h = go (nlriOf r) (acceptable-named afi r h)
-  where
-    go : (nlri : List ℕ) → (f : Fields) × (readSPmsi afi nlri ≡ given f) → before [] nlri ≡ true
-    go [] p = absurd (read-none afi (p .0) (p .1))
-    go (x ∷ xs) p = before-none (x ∷ xs) (omega arith)
+-- no acceptable NLRI is empty
+pub acceptable-after-none : (afi : ℕ) (r : Route) → acceptable afi r ≡ true → before [] (nlriOf r) ≡ true
+acceptable-after-none afi r h = before-none (nlriOf r) (omega (arith, sizes-of afi r h .least))
 
 -- whom an NLRI belongs to
 
