@@ -29,7 +29,7 @@ unfoldable pub heldAfterAll : ℕ → List Call → (nlri : List ℕ) → Held �
 heldAfterAll afi [] nlri h = h
 heldAfterAll afi (c ∷ cs) nlri h = heldAfterAll afi cs nlri (heldAfter afi c nlri h)
 
-lookup-removed : (nlri named : List ℕ) {rs : List Route} → Distinct rs → lookup nlri (removed named rs) ≡ pick (same nlri named) absent (lookup nlri rs)
+pub lookup-removed : (nlri named : List ℕ) {rs : List Route} → Distinct rs → lookup nlri (removed named rs) ≡ pick (same nlri named) absent (lookup nlri rs)
 lookup-removed nlri named {rs} d =
     tested (same nlri named)
     (λ t. rw (pick-true _ absent (lookup nlri rs) t, same-equal nlri named t) (lookup-removed-same named d))

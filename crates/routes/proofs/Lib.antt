@@ -16,4 +16,5 @@ pub mod Ownership
 pub mod Numbered
 pub mod Books
 pub mod AllBooks
+pub mod DueSteps
 pub mod Premise

@@ -14,7 +14,7 @@ use Rattle.nlri.specs.Fields.{Fields}
 use Rattle.routes.specs.Route.{Route, route, nlriOf, attributeOf}
 use Rattle.routes.specs.Arguments.{Query, readSPmsi, readRoute, readFlow, readMatch}
 use Rattle.routes.specs.Place.{acceptable}
-use Rattle.routes.proofs.Bounds.{Accepted, accepted, route-read, read-acceptable, sizes-of}
+use Rattle.routes.proofs.Bounds.{Accepted, accepted, route-read, read-acceptable, nlri-size}
 use Rattle.routes.specs.Call.{Owner, nobody, owner, originatorOf, ownedBy}
 
 -- an accepted install
@@ -26,9 +26,12 @@ pub route-acceptable : (afi : ℕ) (nlri attribute : List ℕ) (r : Route) → r
 unfolding nlriOf attributeOf
 route-acceptable afi nlri attribute r e = rw (route-read afi nlri attribute r e) (read-acceptable afi (route nlri attribute) r e)
 
--- no acceptable NLRI is empty
+-- no well-formed S-PMSI NLRI is empty
+pub named-after-none : (afi : ℕ) (nlri : List ℕ) (f : Fields) → readSPmsi afi nlri ≡ given f → before [] nlri ≡ true
+named-after-none afi nlri f e = before-none nlri (omega (arith, nlri-size afi nlri f e))
+
 pub acceptable-after-none : (afi : ℕ) (r : Route) → acceptable afi r ≡ true → before [] (nlriOf r) ≡ true
-acceptable-after-none afi r h = before-none (nlriOf r) (omega (arith, sizes-of afi r h .least))
+acceptable-after-none afi r h = let a = accepted afi r h in named-after-none afi (nlriOf r) (a .fields) (a .read)
 
 -- whom an NLRI belongs to
 
