@@ -213,7 +213,7 @@ lookup-all-next afi nlri earlier c =
 
 -- what is held was named by an install
 
-named-later : {nlri : List ℕ} (afi : ℕ) (c : Call) (cs : List Call) → Among nlri (namedBy afi cs) → Among nlri (namedBy afi (c ∷ cs))
+pub named-later : {nlri : List ℕ} (afi : ℕ) (c : Call) (cs : List Call) → Among nlri (namedBy afi cs) → Among nlri (namedBy afi (c ∷ cs))
 unfolding namedBy onOutcome
 named-later {nlri} afi (install named attribute) cs m = go (readSPmsi afi named)
   where

@@ -31,6 +31,9 @@ among-either [] ys m = inr m
 among-either (z ∷ xs) ys (first e) = inl (first e)
 among-either (z ∷ xs) ys (later m) = ⊎-elim (λ a. inl (later a)) (λ b. inr b) (among-either xs ys m)
 
+pub nowhere : {A : Type 0} {x : A} → Among x [] → ⊥
+nowhere m = elim m [ ]
+
 pub among-cases : {A : Type 0} {x y : A} {ys : List A} → Among x (y ∷ ys) → (x ≡ y) ⊎ Among x ys
 among-cases (first e) = inl e
 among-cases (later m) = inr m

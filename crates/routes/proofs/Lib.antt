@@ -17,4 +17,5 @@ pub mod Numbered
 pub mod Books
 pub mod AllBooks
 pub mod DueSteps
+pub mod Runs
 pub mod Premise
