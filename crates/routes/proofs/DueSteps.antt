@@ -55,11 +55,11 @@ match-on afi places rs t router source group output of = rw (of .family, of .rou
 
 -- what is due where arguments and family refuse, whoever owns the call
 
-due-owned : (afi : ℕ) (earlier : List Call) (c : Call) (router : List ℕ) → ownerOf afi c ≡ owner router → dueAnswer afi earlier c ≡ bookAnswer afi (bookOf afi router earlier) c
+pub due-owned : (afi : ℕ) (earlier : List Call) (c : Call) (router : List ℕ) → ownerOf afi c ≡ owner router → dueAnswer afi earlier c ≡ bookAnswer afi (bookOf afi router earlier) c
 unfolding dueAnswer dueBy
 due-owned afi earlier c router e = rw e
 
-due-nobody : (afi : ℕ) (earlier : List Call) (c : Call) → ownerOf afi c ≡ nobody → dueAnswer afi earlier c ≡ refusalAnswer c (refusalOf afi c)
+pub due-nobody : (afi : ℕ) (earlier : List Call) (c : Call) → ownerOf afi c ≡ nobody → dueAnswer afi earlier c ≡ refusalAnswer c (refusalOf afi c)
 unfolding dueAnswer dueBy
 due-nobody afi earlier c e = rw e
 
@@ -95,9 +95,6 @@ with-room false size places h = pick-true _ _ _ (lt-ltb size places (h refl))
 pub record DueStep (afi places : ℕ) (earlier : List Call) (t : List ℕ) (c : Call) : Type 0 where
   pub answer : stepOf t c .answer ≡ dueAnswer afi earlier c
   pub octets : stepOf t c .octets ≡ imageOfBooks afi places (earlier ++ (c ∷ []))
-
-step-equal : (s : Step) (answer : Answer) (octets : List ℕ) → s .answer ≡ answer → s .octets ≡ octets → s ≡ record { answer = answer; octets = octets }
-step-equal s answer octets p q = λ i. record { answer = p i; octets = q i }
 
 module _ (afi places : ℕ) (earlier : List Call) where
   -- routes in increasing order that hold what is held after a call are those of all books after it

@@ -17,5 +17,6 @@ pub mod Numbered
 pub mod Books
 pub mod AllBooks
 pub mod DueSteps
+pub mod Chosen
 pub mod Runs
 pub mod Premise
