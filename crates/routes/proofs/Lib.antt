@@ -19,4 +19,5 @@ pub mod AllBooks
 pub mod DueSteps
 pub mod Chosen
 pub mod Runs
+pub mod Reorders
 pub mod Premise
