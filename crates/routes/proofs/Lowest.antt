@@ -1,10 +1,10 @@
 -- Which route `lowestIn` is: a candidate that meets the tier's condition, with no candidate of a lower route distinguisher that does.
 use Prim.Native.Nat.{ℕ}
-use mathlib.Core.Path.{_≡_, refl, sym, _∙_, subst}
+use mathlib.Core.Path.{_≡_, refl, sym, subst}
 use mathlib.Core.Bool.{Bool, true, false}
 use mathlib.Core.List.{List, [], _∷_}
 use native.Mathlib.Omega.{arith}
-use Rattle.octets.specs.Choice.{pick, both}
+use Rattle.octets.specs.Choice.{both}
 use Rattle.octets.specs.Order.{same, before}
 use Rattle.octets.proofs.Inversions.{opposite}
 use Rattle.octets.proofs.Outcomes.{pick-true, pick-false}
@@ -20,12 +20,12 @@ pub of-members : (P : Route → Type 0) (r : Route) (rs : List Route) → P r �
 of-members P r rs p f u here = p
 of-members P r rs p f u (there m) = f u m
 
-no-member : {r : Route} {rs : List Route} → Member r rs → rs ≡ [] → ⊥
+pub no-member : {r : Route} {rs : List Route} → Member r rs → rs ≡ [] → ⊥
 no-member here e = let z : _≡_ {A = ℕ} 0 1 = cc in omega arith
 no-member (there m) e = let z : _≡_ {A = ℕ} 0 1 = cc in omega arith
 
 -- where one does not come before a second, nor the second before a third, the first does not come before the third
-pub not-before : (x y z : List ℕ) → before x y ≡ false → before y z ≡ false → before x z ≡ false
+not-before : (x y z : List ℕ) → before x y ≡ false → before y z ≡ false → before x z ≡ false
 not-before x y z h k =
     is-false (before x z) (λ b.
     tested (same y z)

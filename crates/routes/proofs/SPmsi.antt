@@ -1,7 +1,6 @@
 -- A well-formed S-PMSI NLRI is the encoding of its fields, octets or not: its distinguisher, source, group and originator decide it.
 use mathlib.Core.Path.{_≡_, refl, sym, _∙_, ap, ap₂, subst}
-use mathlib.Core.Bool.{true}
-use mathlib.Core.List.{List, [], _∷_, _++_, append-nil}
+use mathlib.Core.List.{List, [], _∷_, _++_}
 use Prim.Native.Nat.{ℕ, _+_, _*_, _/_, _-_, _≤_}
 use native.Mathlib.Omega.{arith}
 use borrow.Author.Tests.{eqb-true, leb-false}
@@ -12,7 +11,6 @@ use Rattle.octets.specs.Outcome.{Outcome, given}
 use Rattle.octets.specs.Octets.{part}
 use Rattle.octets.proofs.Inversions.{unless, only, passed, given-same}
 use Rattle.octets.proofs.Lists.{front-rest, empty-list}
-use Rattle.nlri.specs.Family.{familyBits}
 use Rattle.nlri.specs.Bodies.{Kind, distinguisher, source, group, originator, bodies, onBody, bodyOf, fieldIn, sameKind, codeOf}
 use Rattle.nlri.specs.Fields.{Fields, encodeAddress, encodeField, encodeBody, encodeNlri}
 use Rattle.nlri.specs.Reading.{Laid, addressEnd, addressField, fieldSize, sizesOf, keyField, laidAt, laidSingle, cut, fieldsOf, readNlri}
