@@ -6,6 +6,7 @@ pub mod Conditions
 pub mod First
 pub mod MatchSame
 pub mod OnePass
+pub mod Flows
 pub mod Bounds
 pub mod Places
 pub mod Headers
