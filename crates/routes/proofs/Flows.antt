@@ -1,15 +1,13 @@
 -- The flows that a match takes (document 01, "The numbers a call gives back", FLOW).
 use Prim.Native.Nat.{ℕ, _*_, _≤_}
 use mathlib.Core.Path.{_≡_, refl, sym, _∙_, ap, subst}
-use mathlib.Core.Bool.{Bool, true, false}
 use mathlib.Core.List.{List}
 use mathlib.Core.Logic.{_↔_, _⊎_, inl, inr, ⊎-elim}
 use native.Mathlib.Omega.{arith}
 use lib.ListN.{length, getD}
 use borrow.Author.Tests.{eqb-true, eq-eqb}
-use Rattle.octets.specs.Numbers.{FLOW, FAMILY}
-use Rattle.octets.specs.Choice.{pick}
-use Rattle.octets.specs.Outcome.{Outcome, given, refused, andThen}
+use Rattle.octets.specs.Numbers.{FLOW}
+use Rattle.octets.specs.Outcome.{given, refused}
 use Rattle.octets.proofs.Inversions.{never, only, passed, given-same}
 use Rattle.octets.proofs.Outcomes.{pick-true}
 use Rattle.octets.proofs.Refusals.{picked, stopped, refused-same, outcome}
@@ -109,11 +107,12 @@ pub flow-given : (afi : ℕ) (router source group : List ℕ) → GoodFlow afi r
 unfolding readFlow
 flow-given afi router source group f =
     let family = family-good afi (source-family afi source (f .sourced)) in
-    let class = multicast-classed afi (family .0) group (family .1) (f .multicast) in
-    (record { router = router; source = source; group = group; class = class .0 },
-    sym (goes _ _ _ _ (family .1) (sym (pick-true _ _ _ (lengths .originators (length router) .1 (f .addressed))
-    ∙ pick-true _ _ _ (eq-eqb _ _ (source-sized afi (family .0) source (family .1) .1 (f .sourced)))
-    ∙ sym (goes _ _ _ _ (class .1) refl)))))
+    let class = multicast-classed afi (family .0) group (family .1) (f .multicast) in (
+      record { router = router; source = source; group = group; class = class .0 },
+      sym (goes _ _ _ _ (family .1) (sym (pick-true _ _ _ (lengths .originators (length router) .1 (f .addressed))
+          ∙ pick-true _ _ _ (eq-eqb _ _ (source-sized afi (family .0) source (family .1) .1 (f .sourced)))
+          ∙ sym (goes _ _ _ _ (class .1) refl)))),
+    )
 
 pub flow-refused : (afi : ℕ) (router source group : List ℕ) (n : ℕ) → Family afi → readFlow afi router source group ≡ refused n → n ≡ FLOW
 unfolding readFlow

@@ -7,6 +7,8 @@ pub mod First
 pub mod MatchSame
 pub mod OnePass
 pub mod Flows
+pub mod Taken
+pub mod MatchRule
 pub mod Bounds
 pub mod Places
 pub mod Headers
