@@ -18,6 +18,9 @@ pub mod InstallRules
 pub mod WithdrawRules
 pub mod MatchRefusals
 pub mod OnePass
+pub mod Flows
+pub mod Taken
+pub mod MatchRule
 pub mod Bounds
 pub mod Places
 pub mod Headers
