@@ -1,4 +1,6 @@
 -- Laws that the functions' proofs use.
 pub mod Sounds
+pub mod Moves
+pub mod Places
 pub mod Changes
 pub mod Scans
