@@ -3,36 +3,32 @@ use Prim.Native.Nat.{ℕ}
 use mathlib.Core.Path.{_≡_, refl, sym, _∙_, ap}
 use mathlib.Core.Logic.{_⊎_, ⊎-elim}
 use mathlib.Core.Bool.{Bool, true, false}
-use mathlib.Core.List.{List, [], _∷_}
-use native.Mathlib.Omega.{arith}
+use mathlib.Core.List.{List}
 use borrow.Author.Tests.{eq-eqb, ne-eqb}
-use Rattle.octets.specs.Numbers.{DONE, SHORT, TUNNEL, IDENT, LONG, LABEL, KIND}
+use Rattle.octets.specs.Numbers.{DONE, LABEL, KIND}
 use Rattle.octets.specs.Choice.{pick}
 use Rattle.octets.specs.Outcome.{Outcome, given, refused, andThen, numberOf}
-use Rattle.octets.specs.Octets.{AllOctets}
 use Rattle.octets.proofs.Tests.{both-true, both-left, both-right}
 use Rattle.octets.proofs.Inversions.{never, passed, given-same}
-use Rattle.octets.proofs.Refusals.{stopped, refuses-unless, refuses-where}
+use Rattle.octets.proofs.Refusals.{stopped}
 use Rattle.nlri.specs.declared.layout.Layout.{Layout}
 use Rattle.nlri.specs.declared.layout.Reading.{Reading}
 use Rattle.nlri.specs.declared.layout.Reading.the-variants.{Nlri, Refused}
 use Rattle.nlri.specs.Fields.{Fields}
-use Rattle.nlri.specs.Reading.{readNlri}
 use Rattle.nlri.specs.Layouts.{readingOf, layoutSingle}
 use Rattle.nlri.specs.Inner.{fieldsAt}
 use Rattle.nlri.proofs.Via.{nlri-given, reading-refused}
 use Rattle.nlri.proofs.Singles.{read-by-layout, read-refused}
-use Rattle.nlri.proofs.Theorems.{readRefusals}
 use Rattle.tunnel.specs.declared.Attribute.{Attribute}
 use Rattle.tunnel.specs.declared.Reading.{Reading as AttributeReading}
 use Rattle.tunnel.specs.declared.Reading.the-variants.{Attribute as read, Refused as no}
-use Rattle.tunnel.specs.Identifier.{Among, here, there}
 use Rattle.tunnel.specs.Attribute.{readAttribute, labelOf}
 use Rattle.tunnel.specs.Attribute.{Fields as AttributeFields}
 use Rattle.tunnel.specs.Answers.{outcomeOf, attributeOf, readAnswer}
-use Rattle.tunnel.proofs.Theorems.{readingHolds}
 use Rattle.routes.specs.Route.{Route, route}
 use Rattle.routes.specs.Arguments.{readSPmsi, readLabelled, readRoute}
+use Rattle.routes.proofs.NotDone.{done-given, s-pmsi-not-done, route-not-done}
+use Rattle.routes.proofs.Bounds.{route-read}
 
 -- the number of two steps: the first refusal's, or the second step's
 module _ {A B : Type 0} (o : Outcome A) (next : A → Outcome B) where
@@ -114,60 +110,29 @@ module _ (s : List ℕ) (r : AttributeReading) (e : outcomeOf r ≡ readAnswer s
       let p = answered a q in
       number-goes _ _ (p .fields) 0 (p .is) (number-skips _ _ _ 0 (both-left _ _ (ne-eqb _ 11 (λ z. t (sym (p .type) ∙ z)))) refl)
 
--- a number of an outcome whose refusals are not DONE
-given-of : {A : Type 0} (o : Outcome A) → (o ≡ refused DONE → ⊥) → numberOf o ≡ DONE → (a : A) × (o ≡ given a)
-unfolding numberOf
-given-of (given a) h e = (a, refl)
-given-of (refused n) h e = absurd (h (ap refused e))
-
+-- a number other than DONE is a refusal's
 refused-of : {A : Type 0} (o : Outcome A) (n : ℕ) → n ≡ numberOf o → (n ≡ DONE → ⊥) → o ≡ refused n
 unfolding numberOf
 refused-of (given a) n e h = absurd (h e)
 refused-of (refused m) n e h = ap refused (sym e)
 
--- no refusal is DONE
-s-pmsi-not-done : (afi : ℕ) (s : List ℕ) → AllOctets s → readSPmsi afi s ≡ refused DONE → ⊥
-unfolding readSPmsi
-s-pmsi-not-done afi s octets e =
-    ⊎-elim (λ first. readRefusals .done afi s (readRefusals .exactly afi s DONE octets .0 first))
-    (λ next. let q = refuses-unless KIND DONE _ _ (next .second) in omega arith) (stopped _ _ _ e)
+-- where the number is DONE, what reading gives
+pub s-pmsi-fault-none : (afi : ℕ) (nlri : List ℕ) → numberOf (readSPmsi afi nlri) ≡ DONE → (f : Fields) × (readSPmsi afi nlri ≡ given f)
+s-pmsi-fault-none afi nlri e = done-given (readSPmsi afi nlri) (s-pmsi-not-done afi nlri) e
 
-labelled-not-done : (s : List ℕ) → readLabelled s ≡ refused DONE → ⊥
-unfolding readLabelled
-labelled-not-done s e =
-    ⊎-elim (λ first. not-among (readingHolds .numbers s DONE first)) (λ next. let q = refuses-where LABEL DONE _ _ (next .second) in omega arith) (stopped _ _ _ e)
-  where
-    nothing : Among DONE [] → ⊥
-    nothing = elim [ ]
-
-    not-among : Among DONE (LONG ∷ (SHORT ∷ (TUNNEL ∷ (IDENT ∷ [])))) → ⊥
-    not-among (there (there (there (there x)))) = nothing x
-
--- a number that is DONE, and what reading then gives
-pub s-pmsi-fault-none : (afi : ℕ) (s : List ℕ) → AllOctets s → numberOf (readSPmsi afi s) ≡ DONE → (f : Fields) × (readSPmsi afi s ≡ given f)
-s-pmsi-fault-none afi s octets e = given-of (readSPmsi afi s) (s-pmsi-not-done afi s octets) e
-
-pub route-fault-none : (afi : ℕ) (n a : List ℕ) → AllOctets n → numberOf (readRoute afi n a) ≡ DONE → readRoute afi n a ≡ given (route n a)
-unfolding readRoute
-route-fault-none afi n a octets e =
-    let g = given-of (readRoute afi n a) not-done e in
-    let p = passed _ _ _ (g .1) in
-    let q = passed _ _ _ (p .second) in
-    g .1 ∙ ap given (sym (given-same (q .second)))
-  where
-    not-done : andThen (readSPmsi afi n) (λ f. andThen (readLabelled a) (λ g. given (route n a))) ≡ refused DONE → ⊥
-    not-done h =
-        ⊎-elim (s-pmsi-not-done afi n octets)
-        (λ next. ⊎-elim (labelled-not-done a) (λ last. never refl (last .second)) (stopped _ _ _ (next .second))) (stopped _ _ _ h)
+pub route-fault-none : (afi : ℕ) (nlri attribute : List ℕ) → numberOf (readRoute afi nlri attribute) ≡ DONE → readRoute afi nlri attribute ≡ given (route nlri attribute)
+route-fault-none afi nlri attribute e =
+    let r = done-given (readRoute afi nlri attribute) (route-not-done afi nlri attribute) e in
+    r .1 ∙ ap given (route-read afi nlri attribute (r .0) (r .1))
 
 -- the number of a route's two judgements
-pub route-stops : (afi : ℕ) (n a : List ℕ) (fault : ℕ) → fault ≡ numberOf (readSPmsi afi n) → (fault ≡ DONE → ⊥) → fault ≡ numberOf (readRoute afi n a)
+pub route-stops : (afi : ℕ) (nlri attribute : List ℕ) (fault : ℕ) → fault ≡ numberOf (readSPmsi afi nlri) → (fault ≡ DONE → ⊥) → fault ≡ numberOf (readRoute afi nlri attribute)
 unfolding readRoute
-route-stops afi n a fault e h = number-stops _ _ fault (refused-of _ fault e h)
+route-stops afi nlri attribute fault e h = number-stops _ _ fault (refused-of _ fault e h)
 
-pub route-goes : (afi : ℕ) (n a : List ℕ) (fault second : ℕ) → AllOctets n → fault ≡ numberOf (readSPmsi afi n) → fault ≡ DONE → second ≡ numberOf (readLabelled a)
-    → second ≡ numberOf (readRoute afi n a)
+pub route-goes : (afi : ℕ) (nlri attribute : List ℕ) (fault second : ℕ) → fault ≡ numberOf (readSPmsi afi nlri) → fault ≡ DONE → second ≡ numberOf (readLabelled attribute)
+    → second ≡ numberOf (readRoute afi nlri attribute)
 unfolding readRoute
-route-goes afi n a fault second octets e h q =
-    let f = s-pmsi-fault-none afi n octets (sym e ∙ h) in
-    number-goes _ _ (f .0) second (f .1) (q ∙ number-kept (readLabelled a) (route n a))
+route-goes afi nlri attribute fault second e h q =
+    let f = s-pmsi-fault-none afi nlri (sym e ∙ h) in
+    number-goes _ _ (f .0) second (f .1) (q ∙ number-kept (readLabelled attribute) (route nlri attribute))

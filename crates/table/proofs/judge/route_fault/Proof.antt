@@ -1,5 +1,4 @@
 -- `table::judge::route_fault` meets its contract.
-use Rattle.octets.proofs.AllOctets.{octets-of}
 use Rattle.table.proofs.Sounds.{route-stops, route-goes}
 use borrow.Author.Needs.{needs}
 use Rattle.table.proofs.judge.route_fault.Statement.{statement}
@@ -15,7 +14,7 @@ attribute-fault-requires : tie.Need-attribute-fault-requires
 attribute-fault-requires c κs = search needs
 
 returns-2 : tie.Need-returns-2
-returns-2 c = route-goes _ _ _ _ _ (octets-of _ (λ i. c .before .before .before .before .shared-slice-known .given i .fits)) (c .before .before .s-pmsi-fault .ensures) (c .before .if1 .left) (c .attribute-fault .ensures)
+returns-2 c = route-goes _ _ _ _ _ (c .before .before .s-pmsi-fault .ensures) (c .before .if1 .left) (c .attribute-fault .ensures)
 
 pub route-fault-spec : {M : Type 1} → statement M
 route-fault-spec =
