@@ -2,5 +2,7 @@
 pub mod Sounds
 pub mod Moves
 pub mod Places
+pub mod Ranks
+pub mod Finds
 pub mod Changes
 pub mod Scans
