@@ -2,6 +2,8 @@
 pub mod Sounds
 pub mod Moves
 pub mod Places
+pub mod Ranks
+pub mod Finds
 pub mod Changes
 pub mod Scans
 pub mod Standing
