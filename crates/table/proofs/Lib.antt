@@ -4,5 +4,6 @@ pub mod Moves
 pub mod Places
 pub mod Ranks
 pub mod Finds
+pub mod Gaps
 pub mod Changes
 pub mod Scans

@@ -24,7 +24,7 @@ pub(crate) fn clear(octets: &mut [u8])
 // The sizes, the NLRI and the attribute of a route, and zeros to the end.
 fn write_place(place: &mut [u8], nlri: &[u8], attribute: &[u8])
     requires { ⌜ length (now place) ≡ 128 ⌝ }
-    requires { ⌜ 2 + (length (now nlri) + length (now attribute)) ≤ 128 ⌝ }
+    requires { ⌜ length (now nlri) + length (now attribute) ≤ 126 ⌝ }
     ensures { λ _. ⌜ now (place .exit) ≡ placeOf (route (now (nlri .entry)) (now (attribute .entry))) ⌝ }
 {
     clear(place);
@@ -72,7 +72,7 @@ fn close_gap(tail: &mut [u8])
 // A route's place written from `start` on.
 fn write_at(table: &mut [u8], start: usize, nlri: &[u8], attribute: &[u8])
     requires { ⌜ start + 128 ≤ length (now table) ⌝ }
-    requires { ⌜ 2 + (length (now nlri) + length (now attribute)) ≤ 128 ⌝ }
+    requires { ⌜ length (now nlri) + length (now attribute) ≤ 126 ⌝ }
     ensures { λ _. ⌜ now (table .exit) ≡ placed start (placeOf (route (now (nlri .entry)) (now (attribute .entry)))) (now (table .entry)) ⌝ }
 {
     write_place(&mut table[start..start + PLACE], nlri, attribute);

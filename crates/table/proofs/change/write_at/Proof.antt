@@ -1,8 +1,8 @@
 -- `table::change::write_at` meets its contract.
-use mathlib.Core.Path.{ap}
 use denote.Ref.{now}
 use Rattle.table.proofs.Moves.{lent-over}
-use Rattle.table.proofs.Places.{place-length}
+use Rattle.routes.specs.Route.{route, nlriOf, attributeOf}
+use Rattle.routes.proofs.Places.{place-length}
 use borrow.Author.Needs.{needs}
 use Rattle.table.proofs.change.write_at.Statement.{statement}
 use Rattle.table.proofs.change.write_at.Tie as tie
@@ -26,9 +26,10 @@ same-length : tie.Need-same-length
 same-length c = search needs
 
 returns : tie.Need-returns
+unfolding nlriOf attributeOf
 returns c =
     let a = c .before .before .before .before .before .before .before .args in
-    rw (c .before .before .write-place .ensures) (lent-over 128 (a .start) (now (a .table)) _ (place-length (now (a .nlri)) (now (a .attribute)) (c .before .before .before .before .before .before .before .pre .1)))
+    rw (c .before .before .write-place .ensures) (lent-over 128 (a .start) (now (a .table)) _ (place-length (route (now (a .nlri)) (now (a .attribute))) (c .before .before .before .before .before .before .before .pre .1)))
 
 pub write-at-spec : {M : Type 1} → statement M
 write-at-spec =
