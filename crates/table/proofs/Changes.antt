@@ -72,7 +72,7 @@ image-replaced afi places xs ys q r a p =
 -- a place for one route more
 image-added : (afi places : ℕ) (xs ys : List Route) (r : Route) → AllAcceptable afi (xs ++ ys) → length (placeOf r) ≡ 128 → length (xs ++ ys) < places
     → addedAt (length xs) (length (xs ++ ys)) (placeOf r) (imageOf afi places (xs ++ ys)) ≡ imageOf afi places (xs ++ (r ∷ ys))
-unfolding addedAt placesOf
+unfolding addedAt replacedAt placesOf
 image-added afi places xs ys r a p h =
     let n : ℕ = length (xs ++ ys) in
     let x : List ℕ = headerOf afi n ++ placesOf xs in

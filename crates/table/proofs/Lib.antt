@@ -6,4 +6,6 @@ pub mod Ranks
 pub mod Finds
 pub mod Gaps
 pub mod Changes
+pub mod Installs
+pub mod Withdraws
 pub mod Scans

@@ -39,7 +39,7 @@ replacedAt index place t = placed (HEADER + PLACE * index) place t
 -- a place put in at an index, before the other places from there on
 unfoldable pub addedAt : (index count : ℕ) (place table : List ℕ) → List ℕ
 addedAt index count place t =
-    headerOf (afiIn t) (count + 1) ++ drop HEADER (placed (HEADER + PLACE * index) place (opened (HEADER + PLACE * index) (HEADER + PLACE * (count + 1)) t))
+    headerOf (afiIn t) (count + 1) ++ drop HEADER (replacedAt index place (opened (HEADER + PLACE * index) (HEADER + PLACE * (count + 1)) t))
 
 -- the place of an index taken out
 unfoldable pub takenAt : (index count : ℕ) (table : List ℕ) → List ℕ
