@@ -4,6 +4,9 @@ pub mod Moves
 pub mod Places
 pub mod Ranks
 pub mod Finds
+pub mod Gaps
 pub mod Changes
+pub mod Installs
+pub mod Withdraws
 pub mod Scans
 pub mod Standing

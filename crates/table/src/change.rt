@@ -3,11 +3,11 @@ ghost use mathlib.Core.Path.{_≡_};
 ghost use mathlib.Core.List.{_++_};
 ghost use Prim.Native.Nat.{_+_, _-_, _*_, _≤_, _<_};
 ghost use lib.ListN.{length, take, drop};
-ghost use Rattle.octets.specs.Octets.{placed};
 ghost use Rattle.octets.specs.Order.{zeros};
 ghost use Rattle.routes.specs.Route.{route};
 ghost use Rattle.routes.specs.Place.{placeOf};
-ghost use Rattle.table.specs.Changing.{opened, closed};
+ghost use Rattle.table.specs.Changing.{opened, closed, replacedAt};
+use crate::find::HEADER;
 use crate::find::PLACE;
 
 // Every octet becomes 0.
@@ -24,7 +24,7 @@ pub(crate) fn clear(octets: &mut [u8])
 // The sizes, the NLRI and the attribute of a route, and zeros to the end.
 fn write_place(place: &mut [u8], nlri: &[u8], attribute: &[u8])
     requires { ⌜ length (now place) ≡ 128 ⌝ }
-    requires { ⌜ 2 + (length (now nlri) + length (now attribute)) ≤ 128 ⌝ }
+    requires { ⌜ length (now nlri) + length (now attribute) ≤ 126 ⌝ }
     ensures { λ _. ⌜ now (place .exit) ≡ placeOf (route (now (nlri .entry)) (now (attribute .entry))) ⌝ }
 {
     clear(place);
@@ -69,12 +69,13 @@ fn close_gap(tail: &mut [u8])
     clear(&mut tail[last..]);
 }
 
-// A route's place written from `start` on.
-fn write_at(table: &mut [u8], start: usize, nlri: &[u8], attribute: &[u8])
-    requires { ⌜ start + 128 ≤ length (now table) ⌝ }
-    requires { ⌜ 2 + (length (now nlri) + length (now attribute)) ≤ 128 ⌝ }
-    ensures { λ _. ⌜ now (table .exit) ≡ placed start (placeOf (route (now (nlri .entry)) (now (attribute .entry)))) (now (table .entry)) ⌝ }
+// A route's place written over that of an index.
+pub(crate) fn replace(table: &mut [u8], index: usize, nlri: &[u8], attribute: &[u8])
+    requires { ⌜ 8 + 128 * index + 128 ≤ length (now table) ⌝ }
+    requires { ⌜ length (now nlri) + length (now attribute) ≤ 126 ⌝ }
+    ensures { λ _. ⌜ now (table .exit) ≡ replacedAt index (placeOf (route (now (nlri .entry)) (now (attribute .entry)))) (now (table .entry)) ⌝ }
 {
+    let start = HEADER + PLACE * index;
     write_place(&mut table[start..start + PLACE], nlri, attribute);
 }
 
