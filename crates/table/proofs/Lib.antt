@@ -3,3 +3,5 @@ pub mod Sounds
 pub mod Changes
 pub mod Scans
 pub mod Standing
+pub mod Tiers
+pub mod Answers
