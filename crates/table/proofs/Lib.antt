@@ -1,5 +1,7 @@
 -- Laws that the functions' proofs use.
 pub mod Sounds
+pub mod Moves
+pub mod Places
 pub mod Changes
 pub mod Scans
 pub mod Standing

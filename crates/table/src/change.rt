@@ -1,1 +1,106 @@
-// Routes entered into a sound table and taken out of it.
+// Places written, opened and closed in a table's octets.
+ghost use mathlib.Core.Path.{_≡_};
+ghost use mathlib.Core.List.{_++_};
+ghost use Prim.Native.Nat.{_+_, _-_, _*_, _≤_, _<_};
+ghost use lib.ListN.{length, take, drop};
+ghost use Rattle.octets.specs.Octets.{placed, bigEndian};
+ghost use Rattle.octets.specs.Order.{zeros};
+ghost use Rattle.routes.specs.Route.{route};
+ghost use Rattle.routes.specs.Place.{placeOf};
+ghost use Rattle.table.specs.Changing.{opened, closed};
+
+// The octets of a place.
+const PLACE: usize = 128;
+
+// Every octet becomes 0.
+pub(crate) fn clear(octets: &mut [u8])
+    ensures { λ _. ⌜ now (octets .exit) ≡ zeros (length (now (octets .entry))) ⌝ }
+{
+    let mut at = 0;
+    while at < octets.len() {
+        octets[at] = 0;
+        at += 1;
+    }
+}
+
+// The sizes, the NLRI and the attribute of a route, and zeros to the end.
+fn write_place(place: &mut [u8], nlri: &[u8], attribute: &[u8])
+    requires { ⌜ length (now place) ≡ 128 ⌝ }
+    requires { ⌜ 2 + (length (now nlri) + length (now attribute)) ≤ 128 ⌝ }
+    ensures { λ _. ⌜ now (place .exit) ≡ placeOf (route (now (nlri .entry)) (now (attribute .entry))) ⌝ }
+{
+    clear(place);
+    let sizes = [nlri.len() as u8, attribute.len() as u8];
+    let start = octets::parts::place(&sizes, place, 0);
+    let end = octets::parts::place(nlri, place, start);
+    octets::parts::place(attribute, place, end);
+}
+
+// Moves all octets up by one place, from the last down; the last place's octets fall off, and the first place's stay.
+fn move_up(tail: &mut [u8])
+    requires { ⌜ 128 ≤ length (now tail) ⌝ }
+    ensures { λ _. ⌜ now (tail .exit) ≡ take 128 (now (tail .entry)) ++ take (length (now (tail .entry)) - 128) (now (tail .entry)) ⌝ }
+{
+    let mut at = tail.len() - PLACE;
+    while 0 < at {
+        at -= 1;
+        tail[at + PLACE] = tail[at];
+    }
+}
+
+// Moves all octets down by one place; the first place's octets fall off, and the last place's stay.
+fn move_down(tail: &mut [u8])
+    requires { ⌜ 128 ≤ length (now tail) ⌝ }
+    ensures { λ _. ⌜ now (tail .exit) ≡ drop 128 (now (tail .entry)) ++ drop (length (now (tail .entry)) - 128) (now (tail .entry)) ⌝ }
+{
+    let moved = tail.len() - PLACE;
+    let mut at = 0;
+    while at < moved {
+        tail[at] = tail[at + PLACE];
+        at += 1;
+    }
+}
+
+// Moves all octets down by one place, with zeros in the last place.
+fn close_gap(tail: &mut [u8])
+    requires { ⌜ 128 ≤ length (now tail) ⌝ }
+    ensures { λ _. ⌜ now (tail .exit) ≡ drop 128 (now (tail .entry)) ++ zeros 128 ⌝ }
+{
+    move_down(tail);
+    let last = tail.len() - PLACE;
+    clear(&mut tail[last..]);
+}
+
+// A route's place written from `start` on.
+fn write_at(table: &mut [u8], start: usize, nlri: &[u8], attribute: &[u8])
+    requires { ⌜ start + 128 ≤ length (now table) ⌝ }
+    requires { ⌜ 2 + (length (now nlri) + length (now attribute)) ≤ 128 ⌝ }
+    ensures { λ _. ⌜ now (table .exit) ≡ placed start (placeOf (route (now (nlri .entry)) (now (attribute .entry)))) (now (table .entry)) ⌝ }
+{
+    write_place(&mut table[start..start + PLACE], nlri, attribute);
+}
+
+// Opens a gap of one place at `start`, up to `end`.
+fn open(table: &mut [u8], start: usize, end: usize)
+    requires { ⌜ (start + 128 ≤ end) × (end ≤ length (now table)) ⌝ }
+    ensures { λ _. ⌜ now (table .exit) ≡ opened start end (now (table .entry)) ⌝ }
+{
+    move_up(&mut table[start..end]);
+}
+
+// Closes the place at `start`, up to `end`.
+fn close(table: &mut [u8], start: usize, end: usize)
+    requires { ⌜ (start + 128 ≤ end) × (end ≤ length (now table)) ⌝ }
+    ensures { λ _. ⌜ now (table .exit) ≡ closed start end (now (table .entry)) ⌝ }
+{
+    close_gap(&mut table[start..end]);
+}
+
+// The count in the header.
+fn write_count(table: &mut [u8], count: usize)
+    requires { ⌜ 8 ≤ length (now table) ⌝ }
+    ensures { λ _. ⌜ now (table .exit) ≡ placed 6 (bigEndian 2 count) (now (table .entry)) ⌝ }
+{
+    let octets = [(count / 256 % 256) as u8, (count % 256) as u8];
+    octets::parts::place(&octets, table, 6);
+}

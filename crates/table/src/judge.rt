@@ -1,1 +1,54 @@
-// Arguments of calls and the routes in places, judged: the number of the first refusal, or DONE.
+// Arguments of calls and the routes in places, judged where they stand: the number of the first refusal, or DONE.
+ghost use mathlib.Core.Path.{_≡_};
+ghost use Rattle.octets.specs.Outcome.{numberOf};
+ghost use Rattle.routes.specs.Arguments.{readSPmsi, readLabelled, readRoute};
+use nlri::RouteType;
+use octets::number::DONE;
+use octets::number::KIND;
+use octets::number::LABEL;
+
+// The tunnel type whose label may not be 0 at install.
+const BIER: u32 = 11;
+
+// A well-formed S-PMSI NLRI: NLRI reading with no octets after it, then KIND.
+pub(crate) fn s_pmsi_fault(afi: u16, nlri: &[u8]) -> u32
+    ensures { λ r. ⌜ r ≡ numberOf (readSPmsi afi (now (nlri .entry))) ⌝ }
+{
+    match nlri::read_layout(afi, nlri) {
+        nlri::Reading::Refused(number) => number,
+        nlri::Reading::Nlri(layout) => {
+            if layout.route_type == RouteType::S_PMSI {
+                return DONE;
+            }
+            KIND
+        }
+    }
+}
+
+// An attribute that install takes: attribute reading, then LABEL.
+pub(crate) fn attribute_fault(attribute: &[u8]) -> u32
+    ensures { λ r. ⌜ r ≡ numberOf (readLabelled (now (attribute .entry))) ⌝ }
+{
+    match tunnel::read(attribute) {
+        tunnel::Reading::Refused(number) => number,
+        tunnel::Reading::Attribute(fields) => {
+            if fields.tunnel_type == BIER {
+                if fields.label == 0 {
+                    return LABEL;
+                }
+            }
+            DONE
+        }
+    }
+}
+
+// A route that install takes, room apart.
+pub(crate) fn route_fault(afi: u16, nlri: &[u8], attribute: &[u8]) -> u32
+    ensures { λ r. ⌜ r ≡ numberOf (readRoute afi (now (nlri .entry)) (now (attribute .entry))) ⌝ }
+{
+    let fault = s_pmsi_fault(afi, nlri);
+    if fault != DONE {
+        return fault;
+    }
+    attribute_fault(attribute)
+}

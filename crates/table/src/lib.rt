@@ -4,6 +4,7 @@ mod answer;
 mod change;
 mod find;
 mod flow;
+mod header;
 mod judge;
 mod place;
 mod scan;

@@ -1,0 +1,150 @@
+-- Tables and images (specs/Images.antt).
+use Prim.Native.Nat.{ℕ, _+_, _*_, _-_, _≤_, _<_}
+use mathlib.Core.Path.{_≡_, sym, ap, ap₂, _∙_}
+use mathlib.Core.Bool.{true}
+use mathlib.Core.Logic.{_↔_}
+use mathlib.Core.List.{List, [], _++_}
+use native.Mathlib.Omega.{arith}
+use borrow.Author.Tests.{leb-true, le-leb}
+use lib.ListN.{length, drop, length-append, length-drop}
+use Rattle.octets.specs.Numbers.{DONE}
+use Rattle.octets.specs.Octets.{AllOctets}
+use Rattle.octets.specs.Order.{zeros}
+use Rattle.octets.specs.Outcome.{given, onOutcome}
+use Rattle.octets.proofs.Inversions.{both-true-left, both-true-right, only, passed}
+use Rattle.octets.proofs.Tests.{both-true}
+use Rattle.nlri.proofs.Lengths.{good-family}
+use Rattle.routes.specs.Route.{Route, Member}
+use Rattle.routes.specs.Table.{headerOf, placesOf, imageOf, afiIn, countIn, placesIn, routesOf, tableSize, headerSound, placesSound, soundOf}
+use Rattle.routes.specs.Calls.{makeOutcome, makeOf}
+use Rattle.routes.specs.Images.{Family, Holdable, TableOf, Images}
+use Rattle.routes.proofs.Headers.{header-length, afi-in, count-in, header-sound, past-header, sound-family, sound-header, SizeOf, size-sound, sound-size, places-in}
+use Rattle.routes.proofs.Lookups.{increasing-members}
+use Rattle.routes.proofs.NotDone.{done-given, make-not-done}
+use Rattle.routes.proofs.Places.{zeros-length, places-length, routes-from, from-length, places-sound, from-acceptable, from-increasing, from-places}
+
+-- what a sound table's tests say
+pub record Sound (t : List ℕ) : Type 0 where
+  pub size : SizeOf (length t) (placesIn t)
+  pub header : headerSound t ≡ true
+  pub within : countIn t ≤ placesIn t
+  pub places : placesSound (afiIn t) [] (countIn t) (drop 8 t) ≡ true
+
+pub sound : (t : List ℕ) → soundOf t ≡ true → Sound t
+unfolding soundOf
+sound t h =
+    let later = both-true-right _ _ h in
+    let last = both-true-right _ _ later in
+    record {
+      size = sound-size t (both-true-left _ _ h);
+      header = both-true-left _ _ later;
+      within = leb-true _ _ (both-true-left _ _ last);
+      places = both-true-right _ _ last;
+    }
+
+-- a table has as many routes as its count says
+pub routes-length : (t : List ℕ) → length (routesOf t) ≡ countIn t
+unfolding routesOf
+routes-length t = from-length (countIn t) (drop 8 t)
+
+pub sound-holdable : (t : List ℕ) → soundOf t ≡ true → Holdable (afiIn t) (placesIn t) (routesOf t)
+unfolding routesOf
+sound-holdable t h =
+    let s = sound t h in
+    record {
+      family = sound-family t (s .header);
+      most = s .size .most;
+      within = rw (from-length (countIn t) (drop 8 t)) (s .within);
+      acceptable = from-acceptable (afiIn t) [] (countIn t) (drop 8 t) (s .places);
+      increasing = from-increasing (afiIn t) [] (countIn t) (drop 8 t) (s .places);
+    }
+
+pub sound-image : (t : List ℕ) → AllOctets t → soundOf t ≡ true → t ≡ imageOf (afiIn t) (placesIn t) (routesOf t)
+unfolding imageOf routesOf
+sound-image t a h =
+    let s = sound t h in
+    let is = s .size .is in
+    let within = s .within in
+    let l : length (drop 8 t) ≡ length t - 8 = length-drop 8 t in
+    let left : length (drop 8 t) - 128 * countIn t ≡ 128 * (placesIn t - countIn t) = omega arith in
+    rw (from-length (countIn t) (drop 8 t))
+    (sound-header t a (omega arith) (s .header)
+    ∙ ap (λ (x : List ℕ). headerOf (afiIn t) (countIn t) ++ x)
+    (from-places (afiIn t) [] (countIn t) (drop 8 t) (omega arith) (s .places) ∙ ap (λ (n : ℕ). placesOf (routesOf t) ++ zeros n) left))
+
+module _ (afi places : ℕ) (rs : List Route) (h : Holdable afi places rs) where
+  pub image-length : length (imageOf afi places rs) ≡ 8 + 128 * places
+  unfolding imageOf
+  image-length =
+      rw (length-append (headerOf afi (length rs)) (placesOf rs ++ zeros (128 * (places - length rs))), header-length afi (length rs), length-append (placesOf rs) (zeros (128 * (places - length rs))), places-length afi rs (h .acceptable), zeros-length (128 * (places - length rs)))
+      (omega (arith, h .within))
+
+  small : length rs < 65536
+  small = omega (arith, h .within, h .most)
+
+  pub image-count : countIn (imageOf afi places rs) ≡ length rs
+  unfolding imageOf
+  image-count = count-in afi (length rs) _ small
+
+  pub image-afi : afiIn (imageOf afi places rs) ≡ afi
+  unfolding imageOf
+  image-afi = afi-in afi (length rs) _
+
+  pub image-places : placesIn (imageOf afi places rs) ≡ places
+  image-places = places-in (imageOf afi places rs) places image-length
+
+  rest : drop 8 (imageOf afi places rs) ≡ placesOf rs ++ zeros (128 * (places - length rs))
+  unfolding imageOf
+  rest = past-header afi (length rs) _
+
+  pub image-routes : routesOf (imageOf afi places rs) ≡ rs
+  unfolding routesOf
+  image-routes = rw (image-count, rest) (routes-from afi rs _ (h .acceptable))
+
+  header : headerSound (imageOf afi places rs) ≡ true
+  unfolding imageOf
+  header = header-sound afi (length rs) _ (h .family)
+
+  pub image-sound : soundOf (imageOf afi places rs) ≡ true
+  unfolding soundOf
+  image-sound =
+      both-true _ _ (size-sound _ places image-length (h .most))
+      (both-true _ _ header
+      (rw (image-count, image-places, image-afi, rest) (both-true _ _ (le-leb (length rs) places (h .within)) (places-sound afi [] rs _ (h .acceptable) (h .increasing)))))
+
+  pub image-table : TableOf afi places rs (imageOf afi places rs)
+  image-table = record { sound = image-sound; family = image-afi; size = image-places; routes = image-routes }
+
+one-image : (t u : List ℕ) → AllOctets t → AllOctets u → soundOf t ≡ true → soundOf u ≡ true → afiIn t ≡ afiIn u → length t ≡ length u
+    → ((r : Route) → Member r (routesOf t) ↔ Member r (routesOf u)) → t ≡ u
+one-image t u a b h k family size members =
+    let rs : routesOf t ≡ routesOf u = increasing-members (sound-holdable t h .increasing) (sound-holdable u k .increasing) members in
+    let places : placesIn t ≡ placesIn u = omega (arith, sound t h .size .is, sound u k .size .is) in
+    sound-image t a h
+    ∙ ap (λ (afi : ℕ). imageOf afi (placesIn t) (routesOf t)) family
+    ∙ ap₂ (imageOf (afiIn u)) places rs
+    ∙ sym (sound-image u b k)
+
+-- what making a table comes to
+pub record Made (afi : ℕ) (memory : List ℕ) : Type 0 where
+  pub family : Family afi
+  pub size : tableSize (length memory) ≡ true
+  pub is : makeOutcome afi memory ≡ given (imageOf afi (placesIn memory) [])
+
+made-outcome : (afi : ℕ) (memory octets : List ℕ) → makeOutcome afi memory ≡ given octets → Made afi memory
+unfolding makeOutcome
+made-outcome afi memory octets e =
+    let p = passed _ _ _ e in
+    let q = only _ _ _ _ (p .second) in
+    record { family = good-family afi (p .value) (p .first); size = q .0; is = e ∙ sym (q .1) }
+
+pub makes : (afi : ℕ) (memory : List ℕ) → makeOf afi memory .answer ≡ DONE → Made afi memory
+unfolding makeOf
+makes afi memory e = let p = done-given _ (make-not-done afi memory) e in made-outcome afi memory (p .0) (p .1)
+
+pub made-image : (afi : ℕ) (memory : List ℕ) → makeOf afi memory .answer ≡ DONE → makeOf afi memory .octets ≡ imageOf afi (placesIn memory) []
+unfolding makeOf onOutcome
+made-image afi memory e = rw (makes afi memory e .is)
+
+pub images : Images
+images = record { holdable = sound-holdable; image = sound-image; imaged = image-table; one = one-image; made = made-image }

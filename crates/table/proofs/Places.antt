@@ -1,0 +1,50 @@
+-- Places as they are written.
+use Prim.Native.Nat.{ℕ, _+_, _-_, _≤_}
+use mathlib.Core.Path.{_≡_, refl, sym, ap, ap₂, _∙_}
+use mathlib.Core.List.{List, [], _∷_, _++_, append-assoc}
+use native.Mathlib.Nat.{zero-add}
+use native.Mathlib.Omega.{arith}
+use lib.ListN.{length, take, drop, length-append, length-replicate, replicate-append-replicate}
+use lib.Seq.{drop-at}
+use Rattle.octets.specs.Octets.{placed}
+use Rattle.octets.specs.Order.{zeros}
+use Rattle.octets.proofs.Lists.{Put, put-then}
+use Rattle.routes.specs.Route.{route}
+use Rattle.routes.specs.Place.{placeOf}
+
+pub zeros-length : (n : ℕ) → length (zeros n) ≡ n
+unfolding zeros
+zeros-length n = length-replicate n 0
+
+pub zeros-split : (m n : ℕ) → zeros (m + n) ≡ zeros m ++ zeros n
+unfolding zeros
+zeros-split m n = sym (replicate-append-replicate m n 0)
+
+pub place-length : (n a : List ℕ) → 2 + (length n + length a) ≤ 128 → length (placeOf (route n a)) ≡ 128
+unfolding placeOf
+place-length n a h = simp (length-append, zeros-length) (omega arith)
+
+-- zeros with octets put over their front
+over-zeros : (size : ℕ) (e : List ℕ) → length e ≤ size → placed 0 e (zeros size) ≡ e ++ zeros (size - length e)
+unfolding placed
+over-zeros size e h =
+    let s : size ≡ length e + (size - length e) = omega arith in
+    let rest : drop (length e) (zeros size) ≡ zeros (size - length e) =
+    ap (λ (k : ℕ). drop (length e) (zeros k)) s ∙ ap (drop (length e)) (zeros-split (length e) (size - length e)) ∙ drop-at (zeros (length e)) (zeros (size - length e)) (length e) (zeros-length (length e)) in
+    rw (zero-add (length e), rest)
+
+-- sizes, NLRI and attribute put into zeros one after the other
+pub place-written : (n a z x y w : List ℕ) (i j k : ℕ) → 2 + (length n + length a) ≤ 128 → z ≡ zeros 128 → Put 0 (length n ∷ (length a ∷ [])) z i x → Put i n x j y → Put j a y k w → w ≡ placeOf (route n a)
+unfolding placeOf
+place-written n a z x y w i j k h e p q r =
+    let lz : length z ≡ 128 = ap length e ∙ zeros-length 128 in
+    let sizes : List ℕ = length n ∷ (length a ∷ []) in
+    let two : length sizes ≡ 2 = refl in
+    let both : length (sizes ++ n) ≡ 2 + length n = length-append sizes n in
+    let all : length ((sizes ++ n) ++ a) ≡ 2 + (length n + length a) = simp length-append (omega arith) in
+    let first : Put 0 (sizes ++ n) z j y = put-then 0 sizes n z i x j y (omega arith) p q in
+    let whole : Put 0 ((sizes ++ n) ++ a) z k w = put-then 0 (sizes ++ n) a z j y k w (omega arith) first r in
+    let over : placed 0 ((sizes ++ n) ++ a) (zeros 128) ≡ ((sizes ++ n) ++ a) ++ zeros (128 - length ((sizes ++ n) ++ a)) = over-zeros 128 ((sizes ++ n) ++ a) (omega arith) in
+    let left : 128 - length ((sizes ++ n) ++ a) ≡ 126 - (length n + length a) = omega arith in
+    whole .1 ∙ ap (placed 0 ((sizes ++ n) ++ a)) e ∙ over ∙ ap (λ (m : ℕ). ((sizes ++ n) ++ a) ++ zeros m) left
+    ∙ ap (λ (l : List ℕ). length n ∷ (length a ∷ l)) (append-assoc n a (zeros (126 - (length n + length a))))
