@@ -5,6 +5,7 @@ pub mod Arguments
 pub mod Place
 pub mod Table
 pub mod Matching
+pub mod OnePass
 pub mod Calls
 pub mod Call
 pub mod Book
@@ -12,4 +13,5 @@ pub mod Run
 pub mod Images
 pub mod LastInstalled
 pub mod MatchRule
+pub mod Occurrences
 pub mod MixedCalls

@@ -1,1 +1,75 @@
 -- The claim on mixed calls (document 01, "Mixed calls and each router's book"; demand 3). Stated here, proved in proofs/MixedCalls.antt.
+use Prim.Native.Nat.{ℕ}
+use mathlib.Core.Path.{_≡_}
+use mathlib.Core.List.{List, [], _∷_, _++_}
+use mathlib.Core.Logic.{_↔_, _≢_}
+use Rattle.octets.specs.Numbers.{DONE}
+use Rattle.octets.specs.Order.{zeros}
+use Rattle.routes.specs.Table.{placesIn}
+use Rattle.routes.specs.Calls.{makeOf}
+use Rattle.routes.specs.Call.{Call, install, nobody, ownerOf, refusalOf, refusalAnswer}
+use Rattle.routes.specs.Book.{ownCalls}
+use Rattle.routes.specs.Run.{stepOf, runFrom, endOf, imageOfBooks, dueFrom, Fits}
+use Rattle.routes.specs.Occurrences.{Among, Rearranged, Occurrence, occurrencesOf, callsOf, ownOccurrences, Answered, answersOf, ownAnswers, inTurn}
+
+-- a router's own calls get the answers that they get in a run of their own on the same table, as if no other router had called
+pub record Alone (afi places : ℕ) (table : List ℕ) (calls : List Call) (router : List ℕ) : Type 0 where
+  -- the premise holds of that run too
+  pub fits : Fits afi places (ownCalls afi router calls)
+  pub own : callsOf (ownOccurrences afi router (occurrencesOf calls)) ≡ ownCalls afi router calls
+  pub answers : ownAnswers afi router (answersOf table (occurrencesOf calls)) ≡ answersOf table (ownOccurrences afi router (occurrencesOf calls))
+
+-- a call of nobody is refused, with the first refusal that its arguments and the family cause, and changes no octet
+pub record Refused (afi : ℕ) (table : List ℕ) (call : Call) : Type 0 where
+  pub number : refusalOf afi call ≢ DONE
+  pub answer : stepOf table call .answer ≡ refusalAnswer call (refusalOf afi call)
+  pub octets : stepOf table call .octets ≡ table
+
+-- the same calls in another order that keeps each router's own; nobody's stand anywhere
+pub record Reordered (afi : ℕ) (calls : List Call) (others : List Occurrence) : Type 0 where
+  pub rearranged : Rearranged (occurrencesOf calls) others
+  pub kept : (router : List ℕ) → ownOccurrences afi router others ≡ ownOccurrences afi router (occurrencesOf calls)
+
+-- in another order each call, nobody's included, gets the same answer, and the table octets at the end are the same
+pub record Alike (afi places : ℕ) (table : List ℕ) (calls : List Call) (others : List Occurrence) : Type 0 where
+  -- the premise holds of that order too
+  pub fits : Fits afi places (callsOf others)
+  pub answers : (a : Answered) → Among a (answersOf table (occurrencesOf calls)) ↔ Among a (answersOf table others)
+  pub end : endOf table (callsOf others) ≡ endOf table calls
+
+-- what holds of calls on a table just made
+pub record Claim (afi places : ℕ) (table : List ℕ) (calls : List Call) : Type 0 where
+  -- each call gets the answer of its own router's book, a call of nobody its refusal; the table octets after each call are the image of
+  -- all books together
+  pub due : runFrom table calls ≡ dueFrom afi places [] calls
+  pub end : endOf table calls ≡ imageOfBooks afi places calls
+  pub alone : (router : List ℕ) → Alone afi places table calls router
+  pub nobodys : (earlier later : List Call) (call : Call) → calls ≡ earlier ++ (call ∷ later) → ownerOf afi call ≡ nobody → Refused afi (endOf table earlier) call
+  -- occurrences are those of the calls
+  pub occurrences : callsOf (occurrencesOf calls) ≡ calls
+  pub anyOrder : (others : List Occurrence) → Reordered afi calls others → Alike afi places table calls others
+  -- one router after another is such an order
+  pub turn : Reordered afi calls (inTurn afi calls)
+  pub turned : Alike afi places table calls (inTurn afi calls)
+
+-- demand 3: every list of calls on a table just made, of either family and any number of places, whose installs together name no more
+-- different well-formed S-PMSI NLRIs than there are places
+abbrev pub MixedCalls : Type 0
+MixedCalls =
+    (afi : ℕ) (memory : List ℕ) (calls : List Call) → makeOf afi memory .answer ≡ DONE → Fits afi (placesIn memory) calls
+    → Claim afi (placesIn memory) (makeOf afi memory .octets) calls
+
+-- (C-*,C-*) of the router 10.0.0.n, distinguisher 0:100:7
+unfoldable pub anySource : ℕ → List ℕ
+anySource n = 3 ∷ (14 ∷ (0 ∷ (0 ∷ (0 ∷ (100 ∷ (0 ∷ (0 ∷ (0 ∷ (7 ∷ (0 ∷ (0 ∷ (10 ∷ (0 ∷ (0 ∷ (n ∷ [])))))))))))))))
+
+-- two routers install one route each, with no tunnel
+unfoldable pub twoInstalls : List Call
+twoInstalls = install (anySource 1) (zeros 5) ∷ (install (anySource 2) (zeros 5) ∷ [])
+
+-- the premise can be met, and it is needed: two installs of two routers on a table of two places, and of one
+pub record Premise : Type 0 where
+  pub made : makeOf 1 (zeros 264) .answer ≡ DONE
+  pub met : Fits 1 (placesIn (zeros 264)) twoInstalls
+  pub madeSmaller : makeOf 1 (zeros 136) .answer ≡ DONE
+  pub needed : runFrom (makeOf 1 (zeros 136) .octets) twoInstalls ≢ dueFrom 1 (placesIn (zeros 136)) [] twoInstalls

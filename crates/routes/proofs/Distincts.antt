@@ -1,0 +1,163 @@
+-- Laws of `Among`, `PutIn` and `distinct`: what is drawn from a list, each element once, is no more than the list's distinct elements.
+use Prim.Native.Nat.{ℕ, suc, _≤_}
+use mathlib.Core.Path.{_≡_, refl, sym, ap, _∙_}
+use mathlib.Core.Bool.{true, false}
+use mathlib.Core.List.{List, [], _∷_, _++_}
+use mathlib.Core.Logic.{_⊎_, inl, inr, ⊎-elim}
+use native.Mathlib.Omega.{arith}
+use lib.ListN.{length}
+use Rattle.octets.specs.Order.{same}
+use Rattle.octets.proofs.Inversions.{opposite, either-true}
+use Rattle.octets.proofs.Tests.{either-left}
+use Rattle.octets.proofs.Outcomes.{pick-true, pick-false}
+use Rattle.octets.proofs.Picked.{tested}
+use Rattle.octets.proofs.Refusals.{either-second, is-false}
+use Rattle.octets.proofs.Orders.{same-equal, equal-same}
+use Rattle.routes.specs.Route.{Route, nlriOf, attributeOf, holds, Distinct}
+use Rattle.routes.specs.Book.{has, distinct}
+use Rattle.routes.specs.Occurrences.{Among, first, later, PutIn, front, behind, Rearranged}
+use Rattle.routes.proofs.Lookups.{holds-held, holds-alike, lookup-first, lookup-later}
+
+pub among-left : {A : Type 0} {x : A} {xs : List A} (ys : List A) → Among x xs → Among x (xs ++ ys)
+among-left ys (first e) = first e
+among-left ys (later m) = later (among-left ys m)
+
+pub among-right : {A : Type 0} {x : A} (xs : List A) {ys : List A} → Among x ys → Among x (xs ++ ys)
+among-right [] m = m
+among-right (z ∷ xs) m = later (among-right xs m)
+
+pub among-either : {A : Type 0} {x : A} (xs ys : List A) → Among x (xs ++ ys) → Among x xs ⊎ Among x ys
+among-either [] ys m = inr m
+among-either (z ∷ xs) ys (first e) = inl (first e)
+among-either (z ∷ xs) ys (later m) = ⊎-elim (λ a. inl (later a)) (λ b. inr b) (among-either xs ys m)
+
+pub among-cases : {A : Type 0} {x y : A} {ys : List A} → Among x (y ∷ ys) → (x ≡ y) ⊎ Among x ys
+among-cases (first e) = inl e
+among-cases (later m) = inr m
+
+-- an element that is put in
+
+pub put-among : {A : Type 0} {x : A} {ys : List A} → Among x ys → (zs : List A) × PutIn x zs ys
+put-among (first {y} {ys} e) = (ys, rw e front)
+put-among (later {y} m) = let p = put-among m in (y ∷ p .0, behind (p .1))
+
+pub put-other : {A : Type 0} {x z : A} {zs ys : List A} → PutIn x zs ys → Among z ys → (z ≡ x) ⊎ Among z zs
+put-other front (first e) = inl e
+put-other front (later m) = inr m
+put-other (behind p) (first e) = inr (first e)
+put-other (behind p) (later m) = ⊎-elim (λ e. inl e) (λ a. inr (later a)) (put-other p m)
+
+pub put-itself : {A : Type 0} {x : A} {zs ys : List A} → PutIn x zs ys → Among x ys
+put-itself front = first refl
+put-itself (behind p) = later (put-itself p)
+
+pub put-kept : {A : Type 0} {x z : A} {zs ys : List A} → PutIn x zs ys → Among z zs → Among z ys
+put-kept front m = later m
+put-kept (behind p) (first e) = first e
+put-kept (behind p) (later m) = later (put-kept p m)
+
+put-length : {A : Type 0} {x : A} {zs ys : List A} → PutIn x zs ys → length ys ≡ suc (length zs)
+put-length front = refl
+put-length (behind p) = ap suc (put-length p)
+
+pub rearranged-among : {A : Type 0} {x : A} {xs ys : List A} → Rearranged xs ys → Among x xs → Among x ys
+rearranged-among (Rearranged.one p r) (first e) = rw e (put-itself p)
+rearranged-among (Rearranged.one p r) (later m) = put-kept p (rearranged-among r m)
+
+pub among-rearranged : {A : Type 0} {x : A} {xs ys : List A} → Rearranged xs ys → Among x ys → Among x xs
+among-rearranged Rearranged.none m = m
+among-rearranged (Rearranged.one p r) m = ⊎-elim (λ e. first e) (λ a. later (among-rearranged r a)) (put-other p m)
+
+-- no element twice
+pub data Once {A : Type 0} : List A → Type 0 where
+  none : Once []
+  one : {x : A} {xs : List A} → (Among x xs → ⊥) → Once xs → Once (x ∷ xs)
+
+pub pigeonhole : {A : Type 0} {xs : List A} (ys : List A) → Once xs → ((x : A) → Among x xs → Among x ys) → length xs ≤ length ys
+pigeonhole ys Once.none h = omega arith
+pigeonhole ys (Once.one {x} {xs} n o) h =
+    let p = put-among (h x (first refl)) in
+    let fewer : length xs ≤ length (p .0) =
+    pigeonhole (p .0) o (λ z m. ⊎-elim (λ e. absurd (n (rw (← e) m))) (λ a. a) (put-other (p .1) (h z (later m)))) in
+    rw (put-length (p .1)) (omega arith)
+
+-- `has` and `distinct`
+
+pub has-among : {x : List ℕ} (xs : List (List ℕ)) → has x xs ≡ true → Among x xs
+unfolding has
+has-among [] h = absurd (opposite {b = false} h refl)
+has-among {x} (y ∷ ys) h = ⊎-elim (λ t. first (same-equal x y t)) (λ t. later (has-among ys t)) (either-true _ _ h)
+
+pub among-has : {x : List ℕ} {xs : List (List ℕ)} → Among x xs → has x xs ≡ true
+unfolding has
+among-has {x} (first {y} e) = either-left _ _ (equal-same x y e)
+among-has (later m) = either-second _ _ (among-has m)
+
+distinct-seen : (y : List ℕ) (ys : List (List ℕ)) → has y ys ≡ true → distinct (y ∷ ys) ≡ distinct ys
+unfolding distinct
+distinct-seen y ys t = pick-true _ _ _ t
+
+distinct-unseen : (y : List ℕ) (ys : List (List ℕ)) → has y ys ≡ false → distinct (y ∷ ys) ≡ y ∷ distinct ys
+unfolding distinct
+distinct-unseen y ys f = pick-false _ _ _ f
+
+among-behind : {A : Type 0} {x y : A} {xs ys : List A} → (Among x xs → Among x ys) → Among x (y ∷ xs) → Among x (y ∷ ys)
+among-behind h (first e) = first e
+among-behind h (later m) = later (h m)
+
+pub distinct-among : {x : List ℕ} (xs : List (List ℕ)) → Among x (distinct xs) → Among x xs
+unfolding distinct
+distinct-among [] m = m
+distinct-among {x} (y ∷ ys) m =
+    tested (has y ys)
+    (λ t. later (distinct-among ys (rw (distinct-seen y ys t) at m)))
+    (λ f. among-behind (λ a. distinct-among ys a) (rw (distinct-unseen y ys f) at m))
+
+pub among-distinct : {x : List ℕ} (xs : List (List ℕ)) → Among x xs → Among x (distinct xs)
+unfolding distinct
+among-distinct [] m = m
+among-distinct {x} (y ∷ ys) m =
+    tested (has y ys)
+    (λ t. rw (distinct-seen y ys t) (among-distinct ys (⊎-elim (λ e. rw e (has-among ys t)) (λ a. a) (among-cases m))))
+    (λ f. rw (distinct-unseen y ys f) (among-behind (λ a. among-distinct ys a) m))
+
+pub once-distinct : (xs : List (List ℕ)) → Once (distinct xs)
+unfolding distinct
+once-distinct [] = Once.none
+once-distinct (y ∷ ys) =
+    tested (has y ys)
+    (λ t. rw (distinct-seen y ys t) (once-distinct ys))
+    (λ f. rw (distinct-unseen y ys f) (Once.one (λ m. opposite (among-has (distinct-among ys m)) f) (once-distinct ys)))
+
+-- elements of one list are elements of another: it has no more distinct ones
+pub distinct-fewer : (xs ys : List (List ℕ)) → ((x : List ℕ) → Among x xs → Among x ys) → length (distinct xs) ≤ length (distinct ys)
+distinct-fewer xs ys h = pigeonhole (distinct ys) (once-distinct xs) (λ x m. among-distinct ys (h x (distinct-among xs m)))
+
+-- the NLRIs of routes
+
+namesOf : List Route → List (List ℕ)
+namesOf [] = []
+namesOf (r ∷ rs) = nlriOf r ∷ namesOf rs
+
+names-held : {nlri : List ℕ} (rs : List Route) → Among nlri (namesOf rs) → holds nlri rs ≡ true
+unfolding namesOf
+names-held {nlri} (r ∷ rs) m =
+    tested (same nlri (nlriOf r))
+    (λ t. holds-held nlri (r ∷ rs) (attributeOf r) (lookup-first nlri r rs t))
+    (λ f.
+    holds-alike nlri (r ∷ rs) rs (lookup-later nlri r rs f)
+    ∙ names-held rs (⊎-elim (λ e. absurd (opposite (equal-same nlri (nlriOf r) e) f)) (λ a. a) (among-cases m)))
+
+names-once : {rs : List Route} → Distinct rs → Once (namesOf rs)
+unfolding namesOf
+names-once Distinct.none = none
+names-once (Distinct.one {rs = rs} h d) = one (λ m. opposite (names-held rs m) h) (names-once d)
+
+names-length : (rs : List Route) → length (namesOf rs) ≡ length rs
+unfolding namesOf
+names-length [] = refl
+names-length (r ∷ rs) = ap suc (names-length rs)
+
+-- distinct NLRIs that are all named in a list are no more than its distinct elements
+pub routes-fewer : {rs : List Route} (names : List (List ℕ)) → Distinct rs → ((nlri : List ℕ) → holds nlri rs ≡ true → Among nlri names) → length rs ≤ length (distinct names)
+routes-fewer {rs} names d h = rw names-length at (pigeonhole (distinct names) (names-once d) (λ nlri m. among-distinct names (h nlri (names-held rs m))))
