@@ -10,3 +10,5 @@ pub mod Installs
 pub mod Withdraws
 pub mod Scans
 pub mod Standing
+pub mod Tiers
+pub mod Answers

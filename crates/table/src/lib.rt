@@ -1,8 +1,12 @@
 // S-PMSI A-D routes of one VRF in lent memory: made, installed, withdrawn and matched (document 01, "The table memory" and
 // "Which route a flow takes").
+mod answer;
 mod change;
 mod find;
+mod flow;
 mod header;
 mod judge;
+mod place;
 mod scan;
 mod sound;
+mod tier;

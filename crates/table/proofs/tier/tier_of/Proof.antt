@@ -1,0 +1,25 @@
+-- `table::tier::tier_of` meets its contract.
+use Rattle.table.proofs.Tiers.{candidate-tier, other-tier}
+use borrow.Author.Needs.{needs}
+use Rattle.table.proofs.tier.tier_of.Statement.{statement}
+use Rattle.table.proofs.tier.tier_of.Tie as tie
+
+originator-in-requires : tie.Need-originator-in-requires
+originator-in-requires c κs = search needs
+
+is-same-requires : tie.Need-is-same-requires
+is-same-requires c κs = search needs
+
+flow-tier-requires : tie.Need-flow-tier-requires
+flow-tier-requires c κs = search needs
+
+returns : tie.Need-returns
+returns c = candidate-tier _ _ _ _ _ _ _ (c .before .before .before .originator-in .ensures) (c .before .before .is-same .ensures) _ (c .before .if1 .taken) (c .flow-tier .ensures)
+
+returns-2 : tie.Need-returns-2
+returns-2 c = other-tier _ _ _ _ _ _ _ (c .before .before .originator-in .ensures) (c .before .is-same .ensures) (c .if1 .left)
+
+pub tier-of-spec : {M : Type 1} → statement M
+tier-of-spec =
+    tie.close
+    (tie.spec originator-in-requires is-same-requires flow-tier-requires returns returns-2)

@@ -1,0 +1,48 @@
+// The route that was found, written at the front of the output.
+ghost use mathlib.Core.Path.{_≡_};
+ghost use Prim.Native.Nat.{_+_, _≤_};
+ghost use lib.ListN.{length};
+ghost use Rattle.octets.specs.Outcome.{given};
+ghost use Rattle.octets.specs.Octets.{placed};
+ghost use Rattle.tunnel.specs.Attribute.{fieldsIn, readAttribute};
+ghost use Rattle.routes.specs.Place.{routeIn};
+ghost use Rattle.routes.specs.Matching.{found};
+ghost use Rattle.routes.specs.Calls.{foundAnswer, foundOutput};
+ghost use Rattle.table.specs.Scanning.{Writable};
+use crate::place;
+use octets::number::DONE;
+use routes::Matched;
+
+// Writes an attribute as it was read, into the output's remaining part, and answers its size.
+fn write_attribute(attribute: &[u8], output: &mut [u8], at: usize) -> usize
+    requires { ⌜ (readAttribute (now attribute) ≡ given (fieldsIn (now attribute))) × (at + length (now attribute) ≤ length (now output)) ⌝ }
+    ensures { λ r. ⌜ r ≡ length (now (attribute .entry)) ⌝ }
+    ensures { λ r. ⌜ now (output .exit) ≡ placed at (now (attribute .entry)) (now (output .entry)) ⌝ }
+{
+    let label_field = octets::wide::three(attribute, 2);
+    let identifier = octets::parts::after(attribute, 5);
+    let written = tunnel::write(
+        attribute[0],
+        attribute[1],
+        label_field,
+        identifier,
+        &mut output[at..],
+    );
+    written.size
+}
+
+// NLRI and attribute, one straight after the other.
+pub(crate) fn write_route(tier: u32, place: &[u8], output: &mut [u8]) -> Matched
+    requires { ⌜ Writable (now place) (now output) ⌝ }
+    ensures { λ r. ⌜ r ≡ foundAnswer (found tier (routeIn (now (place .entry)))) ⌝ }
+    ensures { λ r. ⌜ now (output .exit) ≡ foundOutput (found tier (routeIn (now (place .entry)))) (now (output .entry)) ⌝ }
+{
+    let nlri_size = octets::parts::place(place::nlri_in(place), output, 0);
+    let attribute_size = write_attribute(place::attribute_in(place), output, nlri_size);
+    Matched {
+        number: DONE,
+        tier,
+        nlri_size: nlri_size as u32,
+        attribute_size: attribute_size as u32,
+    }
+}

@@ -1,0 +1,1 @@
+// The flow that a match asks about, judged.

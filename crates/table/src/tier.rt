@@ -1,0 +1,106 @@
+// The tier of a route for a flow (document 01, "Which route a flow takes"), by the octets of its NLRI where they stand.
+ghost use mathlib.Core.Path.{_≡_};
+ghost use Prim.Native.Nat.{_+_};
+ghost use Rattle.table.specs.Scanning.{Bounded, sourceSize, standing, sourceTier, anySourceTier, flowTier, tierAt};
+use nlri::Group;
+use octets::order;
+use octets::parts;
+
+// Where the source's length octet stands, in bits.
+const SOURCE_LENGTH: usize = 10;
+
+pub(crate) fn distinguisher_in(nlri: &[u8]) -> &[u8]
+    requires { ⌜ Bounded (now nlri) ⌝ }
+    ensures { λ r. ⌜ now r ≡ standing (now (nlri .entry)) .distinguisher ⌝ }
+{
+    parts::between(nlri, 2, 8)
+}
+
+fn source_in(nlri: &[u8]) -> &[u8]
+    requires { ⌜ Bounded (now nlri) ⌝ }
+    ensures { λ r. ⌜ now r ≡ standing (now (nlri .entry)) .source ⌝ }
+{
+    parts::between(nlri, SOURCE_LENGTH + 1, nlri[SOURCE_LENGTH] as usize / 8)
+}
+
+// Where the group's length octet stands.
+fn group_length_at(nlri: &[u8]) -> usize
+    requires { ⌜ Bounded (now nlri) ⌝ }
+    ensures { λ r. ⌜ r ≡ 11 + sourceSize (now (nlri .entry)) ⌝ }
+{
+    SOURCE_LENGTH + 1 + nlri[SOURCE_LENGTH] as usize / 8
+}
+
+fn group_in(nlri: &[u8]) -> &[u8]
+    requires { ⌜ Bounded (now nlri) ⌝ }
+    ensures { λ r. ⌜ now r ≡ standing (now (nlri .entry)) .group ⌝ }
+{
+    let length_at = group_length_at(nlri);
+    parts::between(nlri, length_at + 1, nlri[length_at] as usize / 8)
+}
+
+fn originator_in(nlri: &[u8]) -> &[u8]
+    requires { ⌜ Bounded (now nlri) ⌝ }
+    ensures { λ r. ⌜ now r ≡ standing (now (nlri .entry)) .originator ⌝ }
+{
+    let length_at = group_length_at(nlri);
+    parts::after(nlri, length_at + 1 + nlri[length_at] as usize / 8)
+}
+
+// The source agrees: tier 1 or 2.
+fn source_tier(route_group: &[u8], group: &[u8], class: u32) -> u32
+    ensures { λ r. ⌜ r ≡ sourceTier (now (group .entry)) class (now («route_group» .entry)) ⌝ }
+{
+    if order::is_same(route_group, group) {
+        return 1;
+    }
+    if route_group.len() != 0 {
+        return 0;
+    }
+    if class == Group::SSM {
+        return 2;
+    }
+    0
+}
+
+// The source is a wildcard: tier 4 or 3.
+fn any_source_tier(route_group: &[u8], group: &[u8], class: u32) -> u32
+    ensures { λ r. ⌜ r ≡ anySourceTier (now (group .entry)) class (now («route_group» .entry)) ⌝ }
+{
+    if route_group.len() == 0 {
+        return 4;
+    }
+    if class != Group::ASM {
+        return 0;
+    }
+    if order::is_same(route_group, group) {
+        return 3;
+    }
+    0
+}
+
+// 0 where the flow meets the condition of no tier.
+fn flow_tier(nlri: &[u8], source: &[u8], group: &[u8], class: u32) -> u32
+    requires { ⌜ Bounded (now nlri) ⌝ }
+    ensures { λ r. ⌜ r ≡ flowTier (now (source .entry)) (now (group .entry)) class (standing (now (nlri .entry))) ⌝ }
+{
+    let route_source = source_in(nlri);
+    if route_source.len() == 0 {
+        return any_source_tier(group_in(nlri), group, class);
+    }
+    if order::is_same(route_source, source) {
+        return source_tier(group_in(nlri), group, class);
+    }
+    0
+}
+
+// The tier of a candidate; 0 for a route of another router, or where no tier's condition is met.
+pub(crate) fn tier_of(nlri: &[u8], router: &[u8], source: &[u8], group: &[u8], class: u32) -> u32
+    requires { ⌜ Bounded (now nlri) ⌝ }
+    ensures { λ r. ⌜ r ≡ tierAt (now (router .entry)) (now (source .entry)) (now (group .entry)) class (now (nlri .entry)) ⌝ }
+{
+    if order::is_same(originator_in(nlri), router) {
+        return flow_tier(nlri, source, group, class);
+    }
+    0
+}
