@@ -9,6 +9,7 @@ ghost use Rattle.nlri.specs.Groups.{classOf, groupOf};
 ghost use Rattle.nlri.specs.Answers.{fieldsIn};
 ghost use Rattle.nlri.specs.Answers.{readAnswer as nlriAnswer};
 ghost use Rattle.tunnel.specs.Answers.{readAnswer, writeOutcome};
+ghost use Rattle.routes.specs.Calls.{makeOf, installOf, withdrawOf, matchOf};
 ghost use Rattle.mvpn.specs.Answers.{stepAnswer, attributeGiven, attributeRefused, attributeAnswer};
 use nlri::Cursor;
 use nlri::Group;
@@ -20,6 +21,8 @@ use nlri::Walked;
 use octets::Span;
 use octets::Written;
 use octets::number::DONE;
+use routes::Installed;
+use routes::Matched;
 use tunnel::Attribute;
 use tunnel::Reading;
 use tunnel::fec::Fec;
@@ -166,4 +169,42 @@ pub extern "C" fn mvpn_attribute_write(
     ensures { λ r. ⌜ now (output .exit) ≡ outputOf (writeOutcome flags «tunnel_type» «label_field» (now (identifier .entry)) (now (output .entry))) (now (output .entry)) ⌝ }
 {
     tunnel::write(flags, tunnel_type, label_field, identifier, output)
+}
+
+#[no_mangle]
+pub extern "C" fn mvpn_make(afi: u16, table: &mut [u8]) -> u32
+    ensures { λ r. ⌜ r ≡ makeOf afi (now (table .entry)) .answer ⌝ }
+    ensures { λ r. ⌜ now (table .exit) ≡ makeOf afi (now (table .entry)) .octets ⌝ }
+{
+    table::make(afi, table)
+}
+
+#[no_mangle]
+pub extern "C" fn mvpn_install(table: &mut [u8], nlri: &[u8], attribute: &[u8]) -> Installed
+    ensures { λ r. ⌜ r ≡ installOf (now (table .entry)) (now (nlri .entry)) (now (attribute .entry)) .answer ⌝ }
+    ensures { λ r. ⌜ now (table .exit) ≡ installOf (now (table .entry)) (now (nlri .entry)) (now (attribute .entry)) .octets ⌝ }
+{
+    table::install(table, nlri, attribute)
+}
+
+#[no_mangle]
+pub extern "C" fn mvpn_withdraw(table: &mut [u8], nlri: &[u8]) -> u32
+    ensures { λ r. ⌜ r ≡ withdrawOf (now (table .entry)) (now (nlri .entry)) .answer ⌝ }
+    ensures { λ r. ⌜ now (table .exit) ≡ withdrawOf (now (table .entry)) (now (nlri .entry)) .octets ⌝ }
+{
+    table::withdraw(table, nlri)
+}
+
+#[no_mangle]
+pub extern "C" fn mvpn_match(
+    table: &[u8],
+    router: &[u8],
+    source: &[u8],
+    group: &[u8],
+    output: &mut [u8],
+) -> Matched
+    ensures { λ r. ⌜ r ≡ matchOf (now (table .entry)) (now (router .entry)) (now (source .entry)) (now (group .entry)) (now (output .entry)) .answer ⌝ }
+    ensures { λ r. ⌜ now (output .exit) ≡ matchOf (now (table .entry)) (now (router .entry)) (now (source .entry)) (now (group .entry)) (now (output .entry)) .octets ⌝ }
+{
+    table::match_flow(table, router, source, group, output)
 }
