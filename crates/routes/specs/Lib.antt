@@ -15,3 +15,4 @@ pub mod LastInstalled
 pub mod MatchRule
 pub mod Occurrences
 pub mod MixedCalls
+pub mod Examples
