@@ -20,4 +20,5 @@ pub mod DueSteps
 pub mod Chosen
 pub mod Runs
 pub mod Reorders
+pub mod Turns
 pub mod Premise
