@@ -12,5 +12,7 @@ pub mod MakeRules
 pub mod InstallRules
 pub mod WithdrawRules
 pub mod MatchRefusals
+pub mod Decisions
+pub mod LastInstalled
 pub mod Distincts
 pub mod Premise
