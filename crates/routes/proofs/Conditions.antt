@@ -112,7 +112,7 @@ qualified afi q tier r h =
     let c = of-fields afi r _ (b .0) in
     record { fields = c .0; read = c .1; own = same-equal _ _ (c .2); met = sym (fields-of afi r (condition q tier) (c .0) (c .1)) ∙ b .1 }
 
-distinguisher-is : (afi : ℕ) (r : Route) (f : Fields) → readSPmsi afi (nlriOf r) ≡ given f → distinguisherOf afi r ≡ f .distinguisher
+pub distinguisher-is : (afi : ℕ) (r : Route) (f : Fields) → readSPmsi afi (nlriOf r) ≡ given f → distinguisherOf afi r ≡ f .distinguisher
 unfolding distinguisherOf onOutcome
 distinguisher-is afi r f e = rw e
 

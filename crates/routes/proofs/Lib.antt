@@ -6,6 +6,9 @@ pub mod Conditions
 pub mod First
 pub mod MatchSame
 pub mod OnePass
+pub mod Flows
+pub mod Taken
+pub mod MatchRule
 pub mod Bounds
 pub mod Places
 pub mod Headers

@@ -1,1 +1,103 @@
 -- What holds of match (document 01, "Which route a flow takes"; demand 2). Stated here, proved in proofs/MatchRule.antt.
+use Prim.Native.Nat.{ℕ, _+_, _≤_, _<_}
+use mathlib.Core.Path.{_≡_}
+use mathlib.Core.Bool.{true, false}
+use mathlib.Core.List.{List, []}
+use mathlib.Core.Logic.{_↔_, _⊎_, _≢_}
+use lib.ListN.{length, getD}
+use Rattle.octets.specs.Numbers.{DONE, TABLE, FLOW, SPACE}
+use Rattle.octets.specs.Outcome.{given}
+use Rattle.octets.specs.Octets.{part}
+use Rattle.octets.specs.Order.{before}
+use Rattle.nlri.specs.Fields.{Fields}
+use Rattle.nlri.specs.Statements.{Multicast, SourceSpecific}
+use Rattle.routes.specs.declared.Matched.{Matched}
+use Rattle.routes.specs.Route.{Route, nlriOf, attributeOf, Member, Distinct}
+use Rattle.routes.specs.Arguments.{Query, readSPmsi, readFlow}
+use Rattle.routes.specs.Table.{afiIn, routesOf, soundOf}
+use Rattle.routes.specs.Matching.{nothing, found, matchIn}
+use Rattle.routes.specs.Calls.{Changed, matchOf}
+
+-- a flow that a match takes: a router address of 4 or 16 octets, a source of the family's size, a multicast group of that size
+pub record GoodFlow (afi : ℕ) (router source group : List ℕ) : Type 0 where
+  pub addressed : (length router ≡ 4) ⊎ (length router ≡ 16)
+  pub sourced : ((afi ≡ 1) × (length source ≡ 4)) ⊎ ((afi ≡ 2) × (length source ≡ 16))
+  pub multicast : Multicast afi group
+
+-- a route of a router: its NLRI is a well-formed S-PMSI NLRI with that originator, in size and octets
+pub record RouteOf (afi : ℕ) (router : List ℕ) (r : Route) : Type 0 where
+  pub fields : Fields
+  pub read : readSPmsi afi (nlriOf r) ≡ given fields
+  pub own : fields .originator ≡ router
+
+-- the condition of each tier, 1 to 4; a wildcard is no octets, and a multicast group that is not SSM is ASM
+pub data InTier (afi : ℕ) (source group : List ℕ) (f : Fields) : (tier : ℕ) → Type 0 where
+  bothEqual : f .source ≡ source → f .group ≡ group → InTier afi source group f 1
+  sourceEqual : f .source ≡ source → f .group ≡ [] → SourceSpecific afi group → InTier afi source group f 2
+  groupEqual : f .source ≡ [] → f .group ≡ group → (SourceSpecific afi group → ⊥) → InTier afi source group f 3
+  bothWildcard : f .source ≡ [] → f .group ≡ [] → InTier afi source group f 4
+
+-- a candidate that meets the condition of a tier
+pub record Eligible (afi : ℕ) (router source group : List ℕ) (tier : ℕ) (r : Route) : Type 0 where
+  pub candidate : RouteOf afi router r
+  pub met : InTier afi source group (candidate .fields) tier
+
+-- the route that a flow takes of some routes, with its tier
+pub record Taken (afi : ℕ) (router source group : List ℕ) (rs : List Route) (tier : ℕ) (r : Route) : Type 0 where
+  pub member : Member r rs
+  pub eligible : Eligible afi router source group tier r
+  -- no candidate meets the condition of a lower tier
+  pub lowest : (other : ℕ) (u : Route) → other < tier → Member u rs → Eligible afi router source group other u → ⊥
+  -- none of its tier has a lower route distinguisher, compared as eight octets
+  pub first : (u : Route) → Member u rs → (e : Eligible afi router source group tier u)
+      → before (e .candidate .fields .distinguisher) (eligible .candidate .fields .distinguisher) ≡ false
+  -- it is the only route of that tier and route distinguisher
+  pub only : (u : Route) → Member u rs → (e : Eligible afi router source group tier u)
+      → e .candidate .fields .distinguisher ≡ eligible .candidate .fields .distinguisher → u ≡ r
+
+-- no candidate meets the condition of any tier
+abbrev pub NoneTaken : (afi : ℕ) (router source group : List ℕ) (rs : List Route) → Type 0
+NoneTaken afi router source group rs = (tier : ℕ) (u : Route) → Member u rs → Eligible afi router source group tier u → ⊥
+
+-- a route told: its tier and sizes as numbers; its NLRI and its attribute at the front of the output, one straight after the other, at
+-- most 124 octets; every octet past them as it was
+pub record Told (tier : ℕ) (r : Route) (output : List ℕ) (changed : Changed Matched) : Type 0 where
+  pub number : changed .answer .number ≡ DONE
+  pub ofTier : changed .answer .tier ≡ tier
+  pub sizes : (changed .answer .«nlri_size» ≡ length (nlriOf r)) × (changed .answer .«attribute_size» ≡ length (attributeOf r))
+  pub most : length (nlriOf r) + length (attributeOf r) ≤ 124
+  pub size : length (changed .octets) ≡ length output
+  pub nlri : part (changed .octets) 0 (length (nlriOf r)) ≡ nlriOf r
+  pub attribute : part (changed .octets) (length (nlriOf r)) (length (attributeOf r)) ≡ attributeOf r
+  pub past : (i : ℕ) → length (nlriOf r) + length (attributeOf r) ≤ i → getD (changed .octets) i 0 ≡ getD output i 0
+
+-- no route told: empty fields, and the output untouched
+pub record Untold (output : List ℕ) (changed : Changed Matched) : Type 0 where
+  pub tierless : changed .answer .tier ≡ 0
+  pub sizes : (changed .answer .«nlri_size» ≡ 0) × (changed .answer .«attribute_size» ≡ 0)
+  pub untouched : changed .octets ≡ output
+
+pub record MatchRule : Type 0 where
+  -- over any routes with no NLRI twice, in any order
+  pub taken : (afi : ℕ) (router source group : List ℕ) (q : Query) (rs : List Route) → readFlow afi router source group ≡ given q → Distinct rs
+      → (tier : ℕ) (r : Route) → (matchIn afi q rs ≡ found tier r) ↔ Taken afi router source group rs tier r
+  pub none : (afi : ℕ) (router source group : List ℕ) (q : Query) (rs : List Route) → readFlow afi router source group ≡ given q
+      → (matchIn afi q rs ≡ nothing) ↔ NoneTaken afi router source group rs
+  -- over a table: each number, and when
+  pub table : (t router source group output : List ℕ) → (matchOf t router source group output .answer .number ≡ TABLE) ↔ (soundOf t ≡ false)
+  pub flow : (t router source group output : List ℕ) → soundOf t ≡ true
+      → (matchOf t router source group output .answer .number ≡ FLOW) ↔ (GoodFlow (afiIn t) router source group → ⊥)
+  pub space : (t router source group output : List ℕ) → soundOf t ≡ true
+      → (matchOf t router source group output .answer .number ≡ SPACE) ↔ (GoodFlow (afiIn t) router source group × (length output < 124))
+  pub done : (t router source group output : List ℕ)
+      → (matchOf t router source group output .answer .number ≡ DONE) ↔ ((soundOf t ≡ true) × GoodFlow (afiIn t) router source group × (124 ≤ length output))
+  pub refusal : (t router source group output : List ℕ) → matchOf t router source group output .answer .number ≢ DONE → Untold output (matchOf t router source group output)
+  -- tier 0 exactly when no candidate meets any tier's condition
+  pub tierless : (t router source group output : List ℕ) → matchOf t router source group output .answer .number ≡ DONE
+      → (matchOf t router source group output .answer .tier ≡ 0) ↔ NoneTaken (afiIn t) router source group (routesOf t)
+  pub untold : (t router source group output : List ℕ) → matchOf t router source group output .answer .number ≡ DONE → matchOf t router source group output .answer .tier ≡ 0
+      → Untold output (matchOf t router source group output)
+  -- any other tier is that of the route that the flow takes, which is told
+  pub told : (t router source group output : List ℕ) → matchOf t router source group output .answer .number ≡ DONE → matchOf t router source group output .answer .tier ≢ 0
+      → (r : Route) × Taken (afiIn t) router source group (routesOf t) (matchOf t router source group output .answer .tier) r
+      × Told (matchOf t router source group output .answer .tier) r output (matchOf t router source group output)
