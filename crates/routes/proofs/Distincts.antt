@@ -1,6 +1,6 @@
 -- Laws of `Among`, `PutIn` and `distinct`: what is drawn from a list, each element once, is no more than the list's distinct elements.
 use Prim.Native.Nat.{ℕ, suc, _≤_}
-use mathlib.Core.Path.{_≡_, refl, sym, ap, _∙_}
+use mathlib.Core.Path.{_≡_, refl, ap, _∙_}
 use mathlib.Core.Bool.{true, false}
 use mathlib.Core.List.{List, [], _∷_, _++_}
 use mathlib.Core.Logic.{_⊎_, inl, inr, ⊎-elim}
@@ -11,7 +11,7 @@ use Rattle.octets.proofs.Inversions.{opposite, either-true}
 use Rattle.octets.proofs.Tests.{either-left}
 use Rattle.octets.proofs.Outcomes.{pick-true, pick-false}
 use Rattle.octets.proofs.Picked.{tested}
-use Rattle.octets.proofs.Refusals.{either-second, is-false}
+use Rattle.octets.proofs.Refusals.{either-second}
 use Rattle.octets.proofs.Orders.{same-equal, equal-same}
 use Rattle.routes.specs.Route.{Route, nlriOf, attributeOf, holds, Distinct}
 use Rattle.routes.specs.Book.{has, distinct}
@@ -30,6 +30,9 @@ pub among-either : {A : Type 0} {x : A} (xs ys : List A) → Among x (xs ++ ys) 
 among-either [] ys m = inr m
 among-either (z ∷ xs) ys (first e) = inl (first e)
 among-either (z ∷ xs) ys (later m) = ⊎-elim (λ a. inl (later a)) (λ b. inr b) (among-either xs ys m)
+
+pub nowhere : {A : Type 0} {x : A} → Among x [] → ⊥
+nowhere m = elim m [ ]
 
 pub among-cases : {A : Type 0} {x y : A} {ys : List A} → Among x (y ∷ ys) → (x ≡ y) ⊎ Among x ys
 among-cases (first e) = inl e

@@ -1,18 +1,20 @@
 -- Tables and images (specs/Images.antt).
 use Prim.Native.Nat.{ℕ, _+_, _*_, _-_, _≤_, _<_}
-use mathlib.Core.Path.{_≡_, sym, ap, ap₂, _∙_}
-use mathlib.Core.Bool.{true}
-use mathlib.Core.Logic.{_↔_}
+use mathlib.Core.Path.{_≡_, refl, sym, ap, ap₂, _∙_}
+use mathlib.Core.Bool.{true, false}
+use mathlib.Core.Logic.{_↔_, _≢_, _⊎_, inl, inr, ⊎-elim}
 use mathlib.Core.List.{List, [], _++_}
 use native.Mathlib.Omega.{arith}
 use borrow.Author.Tests.{leb-true, le-leb}
 use lib.ListN.{length, drop, length-append, length-drop}
-use Rattle.octets.specs.Numbers.{DONE}
+use Rattle.octets.specs.Numbers.{DONE, FAMILY, TABLE}
 use Rattle.octets.specs.Octets.{AllOctets}
 use Rattle.octets.specs.Order.{zeros}
-use Rattle.octets.specs.Outcome.{given, onOutcome}
-use Rattle.octets.proofs.Inversions.{both-true-left, both-true-right, only, passed}
+use Rattle.octets.specs.Outcome.{Outcome, given, refused, onOutcome, numberOf}
+use Rattle.octets.proofs.Inversions.{both-true-left, both-true-right, given-same, only, passed}
+use Rattle.octets.proofs.Refusals.{refuses-unless, stopped}
 use Rattle.octets.proofs.Tests.{both-true}
+use Rattle.nlri.proofs.Faults.{family-refused}
 use Rattle.nlri.proofs.Lengths.{good-family}
 use Rattle.routes.specs.Route.{Route, Member}
 use Rattle.routes.specs.Table.{headerOf, placesOf, imageOf, afiIn, countIn, placesIn, routesOf, tableSize, headerSound, placesSound, soundOf}
@@ -20,7 +22,6 @@ use Rattle.routes.specs.Calls.{makeOutcome, makeOf}
 use Rattle.routes.specs.Images.{Family, Holdable, TableOf, Images}
 use Rattle.routes.proofs.Headers.{header-length, afi-in, count-in, header-sound, past-header, sound-family, sound-header, SizeOf, size-sound, sound-size, places-in}
 use Rattle.routes.proofs.Lookups.{increasing-members}
-use Rattle.routes.proofs.NotDone.{done-given, make-not-done}
 use Rattle.routes.proofs.Places.{zeros-length, places-length, routes-from, from-length, places-sound, from-acceptable, from-increasing, from-places}
 
 -- what a sound table's tests say
@@ -125,26 +126,30 @@ one-image t u a b h k family size members =
     ∙ ap₂ (imageOf (afiIn u)) places rs
     ∙ sym (sound-image u b k)
 
--- what making a table comes to
-pub record Made (afi : ℕ) (memory : List ℕ) : Type 0 where
-  pub family : Family afi
-  pub size : tableSize (length memory) ≡ true
-  pub is : makeOutcome afi memory ≡ given (imageOf afi (placesIn memory) [])
-
-made-outcome : (afi : ℕ) (memory octets : List ℕ) → makeOutcome afi memory ≡ given octets → Made afi memory
+-- what making a table gives, where it does not refuse
+pub make-given : (afi : ℕ) (memory octets : List ℕ) → makeOutcome afi memory ≡ given octets → Family afi × (tableSize (length memory) ≡ true) × (octets ≡ imageOf afi (placesIn memory) [])
 unfolding makeOutcome
-made-outcome afi memory octets e =
+make-given afi memory octets e =
     let p = passed _ _ _ e in
     let q = only _ _ _ _ (p .second) in
-    record { family = good-family afi (p .value) (p .first); size = q .0; is = e ∙ sym (q .1) }
+    (good-family afi (p .value) (p .first), q .0, sym (given-same (q .1)))
 
-pub makes : (afi : ℕ) (memory : List ℕ) → makeOf afi memory .answer ≡ DONE → Made afi memory
-unfolding makeOf
-makes afi memory e = let p = done-given _ (make-not-done afi memory) e in made-outcome afi memory (p .0) (p .1)
+-- why it refuses
+pub make-refused : (afi : ℕ) (memory : List ℕ) (n : ℕ) → makeOutcome afi memory ≡ refused n
+    → ((n ≡ FAMILY) × (afi ≢ 1) × (afi ≢ 2)) ⊎ ((n ≡ TABLE) × Family afi × (tableSize (length memory) ≡ false))
+unfolding makeOutcome
+make-refused afi memory n e =
+    ⊎-elim (λ first. let p = family-refused afi n first in inl (p .0, p .1 .0, p .1 .1))
+    (λ later. let p = refuses-unless TABLE n _ _ (later .second) in inr (p .1, good-family afi (later .value) (later .first), p .0))
+    (stopped _ _ _ e)
 
-pub made-image : (afi : ℕ) (memory : List ℕ) → makeOf afi memory .answer ≡ DONE → makeOf afi memory .octets ≡ imageOf afi (placesIn memory) []
-unfolding makeOf onOutcome
-made-image afi memory e = rw (makes afi memory e .is)
+made-image : (afi : ℕ) (memory : List ℕ) → makeOf afi memory .answer ≡ DONE → makeOf afi memory .octets ≡ imageOf afi (placesIn memory) []
+unfolding makeOf numberOf onOutcome
+made-image afi memory = go (makeOutcome afi memory) refl
+  where
+    go : (o : Outcome (List ℕ)) → makeOutcome afi memory ≡ o → numberOf o ≡ DONE → onOutcome (λ number. memory) (λ octets. octets) o ≡ imageOf afi (placesIn memory) []
+    go (given octets) e d = make-given afi memory octets e .2
+    go (refused n) e d = absurd (⊎-elim (λ family. omega arith) (λ size. omega arith) (make-refused afi memory n e))
 
 pub images : Images
 images = record { holdable = sound-holdable; image = sound-image; imaged = image-table; one = one-image; made = made-image }

@@ -11,6 +11,7 @@ pub mod Call
 pub mod Book
 pub mod Run
 pub mod Images
+pub mod CallRules
 pub mod LastInstalled
 pub mod MatchRule
 pub mod Occurrences

@@ -43,10 +43,14 @@ unfoldable pub callsOf : List Occurrence → List Call
 callsOf [] = []
 callsOf (o ∷ os) = callIn o ∷ callsOf os
 
+-- those that a test chooses, in order
+unfoldable pub chosen : {A : Type 0} → (A → Bool) → List A → List A
+chosen test [] = []
+chosen test (x ∷ xs) = pick (test x) (x ∷ chosen test xs) (chosen test xs)
+
 -- a router's own occurrences, in order
 unfoldable pub ownOccurrences : (afi : ℕ) (router : List ℕ) → List Occurrence → List Occurrence
-ownOccurrences afi router [] = []
-ownOccurrences afi router (o ∷ os) = pick (owns afi router (callIn o)) (o ∷ ownOccurrences afi router os) (ownOccurrences afi router os)
+ownOccurrences afi router os = chosen (λ o. owns afi router (callIn o)) os
 
 -- an occurrence, and the answer that it gets
 pub data Answered : Type 0 where
@@ -67,9 +71,7 @@ answersOf t os = answersWith os (runFrom t (callsOf os))
 
 -- the answers to a router's own occurrences, in order
 unfoldable pub ownAnswers : (afi : ℕ) (router : List ℕ) → List Answered → List Answered
-ownAnswers afi router [] = []
-ownAnswers afi router (a ∷ answers) =
-    pick (owns afi router (callIn (occurrenceIn a))) (a ∷ ownAnswers afi router answers) (ownAnswers afi router answers)
+ownAnswers afi router answers = chosen (λ a. owns afi router (callIn (occurrenceIn a))) answers
 
 unfoldable pub isNobody : Owner → Bool
 isNobody nobody = true
@@ -77,8 +79,7 @@ isNobody (owner router) = false
 
 -- the occurrences of nobody's calls, in order
 unfoldable pub nobodysOccurrences : ℕ → List Occurrence → List Occurrence
-nobodysOccurrences afi [] = []
-nobodysOccurrences afi (o ∷ os) = pick (isNobody (ownerOf afi (callIn o))) (o ∷ nobodysOccurrences afi os) (nobodysOccurrences afi os)
+nobodysOccurrences afi os = chosen (λ o. isNobody (ownerOf afi (callIn o))) os
 
 unfoldable pub turns : ℕ → (routers : List (List ℕ)) → List Occurrence → List Occurrence
 turns afi [] os = []

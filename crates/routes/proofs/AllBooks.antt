@@ -1,0 +1,284 @@
+-- Laws of books fed calls: what one router's book and all books together hold of an NLRI, and that a table can hold all of them.
+use Prim.Native.Nat.{ℕ, _≤_}
+use mathlib.Core.Path.{_≡_, refl, sym, ap, _∙_}
+use mathlib.Core.Bool.{true, false}
+use mathlib.Core.List.{List, [], _∷_, _++_}
+use mathlib.Core.Logic.{⊎-elim}
+use native.Mathlib.Omega.{arith}
+use native.Mathlib.Nat.{le-trans}
+use lib.ListN.{length}
+use Rattle.octets.specs.Choice.{pick}
+use Rattle.octets.specs.Outcome.{Outcome, given, refused, onOutcome}
+use Rattle.octets.specs.Order.{same}
+use Rattle.octets.proofs.Inversions.{opposite}
+use Rattle.octets.proofs.Outcomes.{pick-true, pick-false}
+use Rattle.octets.proofs.Picked.{tested}
+use Rattle.octets.proofs.Refusals.{is-true}
+use Rattle.octets.proofs.Orders.{same-equal, other-unequal}
+use Rattle.nlri.specs.Fields.{Fields}
+use Rattle.routes.specs.Route.{Route, nlriOf, Held, absent, held, lookup, arranged, Distinct, Increasing}
+use Rattle.routes.specs.Arguments.{readSPmsi, readRoute}
+use Rattle.routes.specs.Place.{AllAcceptable}
+use Rattle.routes.specs.Images.{Family, Holdable}
+use Rattle.routes.specs.Call.{Call, install, withdraw, match, Owner, nobody, owner, originatorOf, ownerOf, owns}
+use Rattle.routes.specs.Book.{bookAfter, fed, ownCalls, bookOf, has, distinct, withOwner, routersOf, gathered, allBooks}
+use Rattle.routes.specs.Run.{namedBy, Fits}
+use Rattle.routes.specs.Occurrences.{Among, first, later}
+use Rattle.routes.proofs.Lookups.{lookup-none, lookup-first, lookup-later, lookup-arranged, held-or-absent, held-absent, held-holds, increasing-arranged, increasing-distinct, acceptable-arranged, acceptable-member}
+use Rattle.routes.proofs.Distincts.{has-among, among-has, among-distinct, among-cases, routes-fewer}
+use Rattle.routes.proofs.Ownership.{route-accepted, acceptable-after-none, owned-itself, owned-nobody, owned-by}
+use Rattle.routes.proofs.Books.{heldAfter, heldAfterAll, lookup-after, distinct-after, acceptable-after, held-apart}
+
+-- a router's own calls
+
+pub own-first : (afi : ℕ) (router : List ℕ) (c : Call) (cs : List Call) → owns afi router c ≡ true → ownCalls afi router (c ∷ cs) ≡ c ∷ ownCalls afi router cs
+unfolding ownCalls
+own-first afi router c cs t = pick-true _ _ _ t
+
+pub own-later : (afi : ℕ) (router : List ℕ) (c : Call) (cs : List Call) → owns afi router c ≡ false → ownCalls afi router (c ∷ cs) ≡ ownCalls afi router cs
+unfolding ownCalls
+own-later afi router c cs f = pick-false _ _ _ f
+
+pub own-append : (afi : ℕ) (router : List ℕ) (xs ys : List Call) → ownCalls afi router (xs ++ ys) ≡ ownCalls afi router xs ++ ownCalls afi router ys
+unfolding ownCalls
+own-append afi router [] ys = refl
+own-append afi router (c ∷ xs) ys =
+    tested (owns afi router c)
+    (λ t. own-first afi router c (xs ++ ys) t ∙ ap (λ (l : List Call). c ∷ l) (own-append afi router xs ys) ∙ sym (ap (λ (l : List Call). l ++ ownCalls afi router ys) (own-first afi router c xs t)))
+    (λ f. own-later afi router c (xs ++ ys) f ∙ own-append afi router xs ys ∙ sym (ap (λ (l : List Call). l ++ ownCalls afi router ys) (own-later afi router c xs f)))
+
+pub own-owner : (afi : ℕ) (router : List ℕ) (c : Call) → owns afi router c ≡ true → ownerOf afi c ≡ owner router
+unfolding owns
+own-owner afi router c h = owned-by router (ownerOf afi c) h
+
+pub owner-own : (afi : ℕ) (router : List ℕ) (c : Call) → ownerOf afi c ≡ owner router → owns afi router c ≡ true
+unfolding owns
+owner-own afi router c h = owned-itself router (ownerOf afi c) h
+
+pub nobody-owns : (afi : ℕ) (router : List ℕ) (c : Call) → ownerOf afi c ≡ nobody → owns afi router c ≡ false
+unfolding owns
+nobody-owns afi router c h = owned-nobody router (ownerOf afi c) h
+
+pub owners-same : {x y : List ℕ} {o : Owner} → o ≡ owner x → o ≡ owner y → x ≡ y
+owners-same p q = cc
+
+pub nobody-owner : {x : List ℕ} {o : Owner} → o ≡ nobody → o ≡ owner x → ⊥
+nobody-owner p q = let z : _≡_ {A = ℕ} 0 1 = cc in omega arith
+
+pub own-none : (afi : ℕ) (router : List ℕ) (calls : List Call) → (Among router (routersOf afi calls) → ⊥) → ownCalls afi router calls ≡ []
+unfolding routersOf ownCalls withOwner
+own-none afi router [] h = refl
+own-none afi router (c ∷ cs) h =
+    tested (owns afi router c)
+    (λ t. absurd (h (rw (own-owner afi router c t) (first refl))))
+    (λ f. own-later afi router c cs f ∙ own-none afi router cs (λ m. h (behind (ownerOf afi c) m)))
+  where
+    behind : (o : Owner) → Among router (routersOf afi cs) → Among router (withOwner o (routersOf afi cs))
+    behind nobody m = m
+    behind (owner other) m = later m
+
+-- fed books
+
+fed-kept : (P : List Route → Type 0) (afi : ℕ) → ((c : Call) (book : List Route) → P book → P (bookAfter afi book c)) → (book : List Route) (calls : List Call) → P book → P (fed afi book calls)
+unfolding fed
+fed-kept P afi step book [] p = p
+fed-kept P afi step book (c ∷ cs) p = fed-kept P afi step (bookAfter afi book c) cs (step c book p)
+
+pub book-distinct : (afi : ℕ) (router : List ℕ) (calls : List Call) → Distinct (bookOf afi router calls)
+unfolding bookOf
+book-distinct afi router calls = fed-kept Distinct afi (λ c book d. distinct-after afi c d) [] (ownCalls afi router calls) Distinct.none
+
+pub book-acceptable : (afi : ℕ) (router : List ℕ) (calls : List Call) → AllAcceptable afi (bookOf afi router calls)
+unfolding bookOf
+book-acceptable afi router calls = fed-kept (AllAcceptable afi) afi (λ c book a. acceptable-after afi c a) [] (ownCalls afi router calls) AllAcceptable.none
+
+-- of its own NLRIs a router's book holds what its calls, and so all calls, leave
+fed-own : (afi : ℕ) (router nlri : List ℕ) → originatorOf afi nlri ≡ owner router → (calls : List Call) {book : List Route} → Distinct book
+    → lookup nlri (fed afi book (ownCalls afi router calls)) ≡ heldAfterAll afi calls nlri (lookup nlri book)
+unfolding fed heldAfterAll ownCalls
+fed-own afi router nlri own [] d = refl
+fed-own afi router nlri own (c ∷ cs) {book} d =
+    tested (owns afi router c)
+    (λ t.
+    ap (λ (l : List Call). lookup nlri (fed afi book l)) (own-first afi router c cs t)
+    ∙ fed-own afi router nlri own cs (distinct-after afi c d)
+    ∙ ap (heldAfterAll afi cs nlri) (lookup-after afi nlri c d))
+    (λ f.
+    ap (λ (l : List Call). lookup nlri (fed afi book l)) (own-later afi router c cs f)
+    ∙ fed-own afi router nlri own cs d
+    ∙ ap (heldAfterAll afi cs nlri) (sym (held-apart afi nlri c (lookup nlri book) (λ other p q. opposite (owner-own afi router c (rw (owners-same own p) q)) f))))
+
+pub lookup-book : (afi : ℕ) (router nlri : List ℕ) (calls : List Call) → originatorOf afi nlri ≡ owner router → lookup nlri (bookOf afi router calls) ≡ heldAfterAll afi calls nlri absent
+unfolding bookOf
+lookup-book afi router nlri calls own = fed-own afi router nlri own calls Distinct.none ∙ ap (heldAfterAll afi calls nlri) (lookup-none nlri)
+
+-- and nothing of the others
+fed-foreign : (afi : ℕ) (router nlri : List ℕ) → (originatorOf afi nlri ≡ owner router → ⊥) → (calls : List Call) {book : List Route} → Distinct book
+    → lookup nlri (fed afi book (ownCalls afi router calls)) ≡ lookup nlri book
+unfolding fed ownCalls
+fed-foreign afi router nlri foreign [] d = refl
+fed-foreign afi router nlri foreign (c ∷ cs) {book} d =
+    tested (owns afi router c)
+    (λ t.
+    ap (λ (l : List Call). lookup nlri (fed afi book l)) (own-first afi router c cs t)
+    ∙ fed-foreign afi router nlri foreign cs (distinct-after afi c d)
+    ∙ lookup-after afi nlri c d
+    ∙ held-apart afi nlri c (lookup nlri book) (λ other p q. foreign (rw (owners-same (own-owner afi router c t) q) p)))
+    (λ f. ap (λ (l : List Call). lookup nlri (fed afi book l)) (own-later afi router c cs f) ∙ fed-foreign afi router nlri foreign cs d)
+
+pub lookup-foreign : (afi : ℕ) (router nlri : List ℕ) (calls : List Call) → (originatorOf afi nlri ≡ owner router → ⊥) → lookup nlri (bookOf afi router calls) ≡ absent
+unfolding bookOf
+lookup-foreign afi router nlri calls foreign = fed-foreign afi router nlri foreign calls Distinct.none ∙ lookup-none nlri
+
+-- all books together
+
+lookup-front : (nlri a : List ℕ) (xs ys : List Route) → lookup nlri xs ≡ held a → lookup nlri (xs ++ ys) ≡ held a
+lookup-front nlri a [] ys h = absurd (held-absent h (lookup-none nlri))
+lookup-front nlri a (r ∷ xs) ys h =
+    tested (same nlri (nlriOf r))
+    (λ t. lookup-first nlri r (xs ++ ys) t ∙ sym (lookup-first nlri r xs t) ∙ h)
+    (λ f. lookup-later nlri r (xs ++ ys) f ∙ lookup-front nlri a xs ys (sym (lookup-later nlri r xs f) ∙ h))
+
+lookup-back : (nlri : List ℕ) (xs ys : List Route) → lookup nlri xs ≡ absent → lookup nlri (xs ++ ys) ≡ lookup nlri ys
+lookup-back nlri [] ys h = refl
+lookup-back nlri (r ∷ xs) ys h =
+    tested (same nlri (nlriOf r))
+    (λ t. absurd (held-absent (lookup-first nlri r xs t) h))
+    (λ f. lookup-later nlri r (xs ++ ys) f ∙ lookup-back nlri xs ys (sym (lookup-later nlri r xs f) ∙ h))
+
+gathered-foreign : (afi : ℕ) (nlri : List ℕ) (routers : List (List ℕ)) (calls : List Call) → ((router : List ℕ) → Among router routers → originatorOf afi nlri ≡ owner router → ⊥)
+    → lookup nlri (gathered afi routers calls) ≡ absent
+unfolding gathered
+gathered-foreign afi nlri [] calls h = lookup-none nlri
+gathered-foreign afi nlri (router ∷ routers) calls h =
+    lookup-back nlri (bookOf afi router calls) (gathered afi routers calls) (lookup-foreign afi router nlri calls (h router (first refl)))
+    ∙ gathered-foreign afi nlri routers calls (λ other m. h other (later m))
+
+gathered-own : (afi : ℕ) (router nlri : List ℕ) (routers : List (List ℕ)) (calls : List Call) → originatorOf afi nlri ≡ owner router → Among router routers
+    → lookup nlri (gathered afi routers calls) ≡ lookup nlri (bookOf afi router calls)
+unfolding gathered
+gathered-own afi router nlri (other ∷ routers) calls own m =
+    ⊎-elim
+    (λ p.
+    let e : other ≡ router = same-equal other router (is-true _ (λ f. held-absent (p .1) (lookup-foreign afi other nlri calls (λ q. other-unequal other router f (owners-same q own))))) in
+    rw (← e) (lookup-front nlri (p .0) (bookOf afi other calls) (gathered afi routers calls) (p .1) ∙ sym (p .1)))
+    (λ p.
+    lookup-back nlri (bookOf afi other calls) (gathered afi routers calls) p
+    ∙ tested (has router routers)
+    (λ t. gathered-own afi router nlri routers calls own (has-among routers t))
+    (λ f.
+    let e : router ≡ other = ⊎-elim (λ q. q) (λ a. absurd (opposite (among-has a) f)) (among-cases m) in
+    gathered-foreign afi nlri routers calls (λ x a q. opposite (among-has (rw (owners-same own q) a)) f) ∙ sym p ∙ rw e))
+    (held-or-absent nlri (bookOf afi other calls))
+
+-- all books hold of an NLRI what its router's book holds
+pub lookup-all : (afi : ℕ) (router nlri : List ℕ) (calls : List Call) → originatorOf afi nlri ≡ owner router → lookup nlri (allBooks afi calls) ≡ lookup nlri (bookOf afi router calls)
+unfolding allBooks bookOf fed
+lookup-all afi router nlri calls own =
+    tested (has router (distinct (routersOf afi calls)))
+    (λ t. gathered-own afi router nlri (distinct (routersOf afi calls)) calls own (has-among _ t))
+    (λ f.
+    let nowhere : ownCalls afi router calls ≡ [] = own-none afi router calls (λ m. opposite (among-has (among-distinct (routersOf afi calls) m)) f) in
+    gathered-foreign afi nlri (distinct (routersOf afi calls)) calls (λ x a q. opposite (among-has (rw (owners-same own q) a)) f)
+    ∙ sym (lookup-none nlri)
+    ∙ ap (λ (l : List Call). lookup nlri (fed afi [] l)) (sym nowhere))
+
+pub lookup-nobody : (afi : ℕ) (nlri : List ℕ) (calls : List Call) → originatorOf afi nlri ≡ nobody → lookup nlri (allBooks afi calls) ≡ absent
+unfolding allBooks
+lookup-nobody afi nlri calls h = gathered-foreign afi nlri (distinct (routersOf afi calls)) calls (λ router m q. nobody-owner h q)
+
+-- whatever the owner, what all calls leave
+held-nobody : (afi : ℕ) (nlri : List ℕ) (calls : List Call) (h : Held) → originatorOf afi nlri ≡ nobody → heldAfterAll afi calls nlri h ≡ h
+unfolding heldAfterAll
+held-nobody afi nlri [] h own = refl
+held-nobody afi nlri (c ∷ cs) h own = held-nobody afi nlri cs (heldAfter afi c nlri h) own ∙ held-apart afi nlri c h (λ router p q. nobody-owner own p)
+
+pub lookup-all-after : (afi : ℕ) (nlri : List ℕ) (calls : List Call) → lookup nlri (allBooks afi calls) ≡ heldAfterAll afi calls nlri absent
+lookup-all-after afi nlri calls = go (originatorOf afi nlri) refl
+  where
+    go : (o : Owner) → originatorOf afi nlri ≡ o → lookup nlri (allBooks afi calls) ≡ heldAfterAll afi calls nlri absent
+    go nobody e = lookup-nobody afi nlri calls e ∙ sym (held-nobody afi nlri calls absent e)
+    go (owner router) e = lookup-all afi router nlri calls e ∙ lookup-book afi router nlri calls e
+
+held-append : (afi : ℕ) (nlri : List ℕ) (xs ys : List Call) (h : Held) → heldAfterAll afi (xs ++ ys) nlri h ≡ heldAfterAll afi ys nlri (heldAfterAll afi xs nlri h)
+unfolding heldAfterAll
+held-append afi nlri [] ys h = refl
+held-append afi nlri (c ∷ xs) ys h = held-append afi nlri xs ys (heldAfter afi c nlri h)
+
+-- one call more
+pub lookup-all-next : (afi : ℕ) (nlri : List ℕ) (earlier : List Call) (c : Call) → lookup nlri (allBooks afi (earlier ++ (c ∷ []))) ≡ heldAfter afi c nlri (lookup nlri (allBooks afi earlier))
+unfolding heldAfterAll
+lookup-all-next afi nlri earlier c =
+    lookup-all-after afi nlri (earlier ++ (c ∷ [])) ∙ held-append afi nlri earlier (c ∷ []) absent ∙ ap (heldAfter afi c nlri) (sym (lookup-all-after afi nlri earlier))
+
+-- what is held was named by an install
+
+pub named-later : {nlri : List ℕ} (afi : ℕ) (c : Call) (cs : List Call) → Among nlri (namedBy afi cs) → Among nlri (namedBy afi (c ∷ cs))
+unfolding namedBy onOutcome
+named-later {nlri} afi (install named attribute) cs m = go (readSPmsi afi named)
+  where
+    go : (o : Outcome Fields) → Among nlri (onOutcome (λ number. namedBy afi cs) (λ f. named ∷ namedBy afi cs) o)
+    go (given f) = later m
+    go (refused n) = m
+named-later afi (withdraw named) cs m = m
+named-later afi (match router source group output) cs m = m
+
+named-first : (afi : ℕ) (nlri : List ℕ) (c : Call) (cs : List Call) (a : List ℕ) → heldAfter afi c nlri absent ≡ held a → Among nlri (namedBy afi (c ∷ cs))
+unfolding namedBy onOutcome heldAfter
+named-first afi nlri (install named attribute) cs a h = go (readRoute afi named attribute) refl h
+  where
+    go : (o : Outcome Route) → readRoute afi named attribute ≡ o → onOutcome (λ number. absent) (λ r. pick (same nlri named) (held attribute) absent) o ≡ held a → Among nlri (namedBy afi (install named attribute ∷ cs))
+    go (given r) e h =
+      let x = route-accepted afi named attribute r e in
+      tested (same nlri named) (λ t. rw (x .read) (first (same-equal nlri named t))) (λ f. absurd (held-absent h (pick-false _ _ _ f)))
+    go (refused n) e h = absurd (held-absent h refl)
+named-first afi nlri (withdraw named) cs a h = absurd (go (readSPmsi afi named) h)
+  where
+    go : (o : Outcome Fields) → onOutcome (λ number. absent) (λ f. pick (same nlri named) absent absent) o ≡ held a → ⊥
+    go (given f) e = held-absent e (tested (same nlri named) (λ t. pick-true _ _ _ t) (λ g. pick-false _ _ _ g))
+    go (refused n) e = held-absent e refl
+named-first afi nlri (match router source group output) cs a h = absurd (held-absent h refl)
+
+held-named : (afi : ℕ) (nlri : List ℕ) (calls : List Call) (a : List ℕ) → heldAfterAll afi calls nlri absent ≡ held a → Among nlri (namedBy afi calls)
+unfolding heldAfterAll
+held-named afi nlri [] a h = absurd (held-absent h refl)
+held-named afi nlri (c ∷ cs) a h = go (heldAfter afi c nlri absent) refl h (held-named afi nlri cs a)
+  where
+    go : (x : Held) → heldAfter afi c nlri absent ≡ x → heldAfterAll afi cs nlri x ≡ held a → (heldAfterAll afi cs nlri absent ≡ held a → Among nlri (namedBy afi cs)) → Among nlri (namedBy afi (c ∷ cs))
+    go absent e k again = named-later afi c cs (again k)
+    go (held b) e k again = named-first afi nlri c cs b e
+
+-- a table can hold all books
+
+acceptable-append : {afi : ℕ} {xs ys : List Route} → AllAcceptable afi xs → AllAcceptable afi ys → AllAcceptable afi (xs ++ ys)
+acceptable-append AllAcceptable.none b = b
+acceptable-append (AllAcceptable.one h a) b = AllAcceptable.one h (acceptable-append a b)
+
+gathered-acceptable : (afi : ℕ) (routers : List (List ℕ)) (calls : List Call) → AllAcceptable afi (gathered afi routers calls)
+unfolding gathered
+gathered-acceptable afi [] calls = AllAcceptable.none
+gathered-acceptable afi (router ∷ routers) calls = acceptable-append (book-acceptable afi router calls) (gathered-acceptable afi routers calls)
+
+all-acceptable : (afi : ℕ) (calls : List Call) → AllAcceptable afi (allBooks afi calls)
+unfolding allBooks
+all-acceptable afi calls = gathered-acceptable afi (distinct (routersOf afi calls)) calls
+
+pub books-increasing : (afi : ℕ) (calls : List Call) → Increasing [] (arranged (allBooks afi calls))
+books-increasing afi calls = increasing-arranged [] (allBooks afi calls) (λ r m. acceptable-after-none afi r (acceptable-member (all-acceptable afi calls) m))
+
+books-few : (afi : ℕ) (calls : List Call) → length (arranged (allBooks afi calls)) ≤ length (distinct (namedBy afi calls))
+books-few afi calls =
+    routes-fewer (namedBy afi calls) (increasing-distinct (books-increasing afi calls))
+    (λ nlri h.
+    let p = held-holds nlri (arranged (allBooks afi calls)) h in
+    held-named afi nlri calls (p .0) (sym (lookup-all-after afi nlri calls) ∙ sym (lookup-arranged nlri (allBooks afi calls)) ∙ p .1))
+
+pub books-holdable : (afi places : ℕ) (calls : List Call) → Family afi → places ≤ 500 → Fits afi places calls → Holdable afi places (arranged (allBooks afi calls))
+books-holdable afi places calls family most fits =
+    record {
+      family = family;
+      most = most;
+      within = le-trans (books-few afi calls) fits;
+      acceptable = acceptable-arranged afi (all-acceptable afi calls);
+      increasing = books-increasing afi calls;
+    }
