@@ -21,13 +21,14 @@ use Rattle.routes.specs.Table.{imageOf, afiIn, placesIn, routesOf, sound
 use Rattle.routes.specs.Calls.{NEW, REPLACED, installedOf, entering, installOutcome, installOf}
 use Rattle.routes.specs.Images.{Holdable, TableOf}
 use Rattle.routes.specs.CallRules.{InstallRefusal, installUnsound, badRoute, noRoom, Installable, IsHeld, Free, Full, InstallRule}
-use Rattle.routes.proofs.Answered.{number-refused, refused-number, given-number, done-given}
+use Rattle.routes.proofs.Answered.{number-refused, refused-number, given-number}
 use Rattle.routes.proofs.ArgumentRules.{argumentRule}
 use Rattle.routes.proofs.Bounds.{route-read, read-acceptable}
 use Rattle.routes.proofs.ByArguments.{route-number}
 use Rattle.routes.proofs.Holding.{holdable-inserted}
 use Rattle.routes.proofs.Images.{images, sound, sound-holdable, image-length}
 use Rattle.routes.proofs.Lookups.{absent-holds, holds-absent, held-holds, holds-held, lookup-inserted-same, lookup-inserted-other}
+use Rattle.routes.proofs.NotDone.{done-given}
 
 -- a route that is acceptable enters a table
 module _ (t : List ℕ) (r : Route) where
@@ -154,40 +155,40 @@ module _ (t nlri attribute : List ℕ) where
   new-free e = ⊎-elim (λ no. absurd (omega (arith, no .1))) (λ yes. yes .0) (install-given NEW (outcome-is NEW e) .found)
 
   -- the octets by the outcome
-  pub octets-given : (o : ℕ) → installOutcome t nlri attribute ≡ given o → installOf t nlri attribute .octets ≡ imageOf (afiIn t) (placesIn t) (inserted (route nlri attribute) (routesOf t))
+  pub install-octets : (o : ℕ) → installOutcome t nlri attribute ≡ given o → installOf t nlri attribute .octets ≡ imageOf (afiIn t) (placesIn t) (inserted (route nlri attribute) (routesOf t))
   unfolding installOf onOutcome
-  octets-given o e = rw e
+  install-octets o e = rw e
 
-  octets-refused : (n : ℕ) → installOutcome t nlri attribute ≡ refused n → installOf t nlri attribute .octets ≡ t
+  install-leaves : (n : ℕ) → installOutcome t nlri attribute ≡ refused n → installOf t nlri attribute .octets ≡ t
   unfolding installOf onOutcome
-  octets-refused n e = rw e
+  install-leaves n e = rw e
 
-  pub holdable-after : (o : ℕ) → installOutcome t nlri attribute ≡ given o → Holdable (afiIn t) (placesIn t) (inserted (route nlri attribute) (routesOf t))
+  pub install-holdable : (o : ℕ) → installOutcome t nlri attribute ≡ given o → Holdable (afiIn t) (placesIn t) (inserted (route nlri attribute) (routesOf t))
   unfolding nlriOf attributeOf
-  holdable-after o e =
+  install-holdable o e =
       let p = install-given o e in
       holdable-inserted (afiIn t) (placesIn t) (routesOf t) (sound-holdable t (p .asked .sound)) (route nlri attribute)
       (read-acceptable (afiIn t) (route nlri attribute) (route nlri attribute) (p .asked .accepted))
       (⊎-elim (λ yes. inl (holds-held nlri (routesOf t) (yes .0 .0) (yes .0 .1))) (λ no. inr (no .0 .place)) (p .found))
 
   after-given : (o : ℕ) → installOutcome t nlri attribute ≡ given o → TableOf (afiIn t) (placesIn t) (inserted (route nlri attribute) (routesOf t)) (installOf t nlri attribute .octets)
-  after-given o e = subst (TableOf _ _ _) (sym (octets-given o e)) (images .imaged (afiIn t) (placesIn t) (inserted (route nlri attribute) (routesOf t)) (holdable-after o e))
+  after-given o e = subst (TableOf _ _ _) (sym (install-octets o e)) (images .imaged (afiIn t) (placesIn t) (inserted (route nlri attribute) (routesOf t)) (install-holdable o e))
 
   others : (other : List ℕ) → other ≢ nlri → lookup other (routesOf (installOf t nlri attribute .octets)) ≡ lookup other (routesOf t)
   unfolding nlriOf
   others other d =
       ⊎-elim
       (λ p. ap (lookup other) (after-given (p .0) (p .1) .routes) ∙ lookup-inserted-other other (route nlri attribute) (routesOf t) (unequal-other other nlri d))
-      (λ p. ap (λ (x : List ℕ). lookup other (routesOf x)) (octets-refused (p .0) (p .1)))
+      (λ p. ap (λ (x : List ℕ). lookup other (routesOf x)) (install-leaves (p .0) (p .1)))
       (outcome (installOutcome t nlri attribute))
 
   size : length (installOf t nlri attribute .octets) ≡ length t
   size =
       ⊎-elim
       (λ p.
-      ap length (octets-given (p .0) (p .1)) ∙ image-length (afiIn t) (placesIn t) (inserted (route nlri attribute) (routesOf t)) (holdable-after (p .0) (p .1))
+      ap length (install-octets (p .0) (p .1)) ∙ image-length (afiIn t) (placesIn t) (inserted (route nlri attribute) (routesOf t)) (install-holdable (p .0) (p .1))
       ∙ sym (sound t (install-given (p .0) (p .1) .asked .sound) .size .is))
-      (λ p. ap length (octets-refused (p .0) (p .1)))
+      (λ p. ap length (install-leaves (p .0) (p .1)))
       (outcome (installOutcome t nlri attribute))
 
   empty : installOf t nlri attribute .answer .number ≢ DONE → installOf t nlri attribute .answer .outcome ≡ 0
@@ -235,5 +236,5 @@ installRule =
       size = size;
       empty = empty;
       untouched = λ t nlri attribute h.
-          ⊎-elim (λ p. absurd (h (number t nlri attribute ∙ given-number (p .1)))) (λ p. octets-refused t nlri attribute (p .0) (p .1)) (outcome (installOutcome t nlri attribute));
+          ⊎-elim (λ p. absurd (h (number t nlri attribute ∙ given-number (p .1)))) (λ p. install-leaves t nlri attribute (p .0) (p .1)) (outcome (installOutcome t nlri attribute));
     }

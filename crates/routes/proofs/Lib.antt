@@ -1,9 +1,20 @@
 -- Laws of the definitions, and the theorems.
 pub mod Lookups
+pub mod SPmsi
+pub mod Lowest
+pub mod Conditions
+pub mod First
+pub mod MatchSame
+pub mod OnePass
+pub mod Flows
+pub mod Taken
+pub mod MatchRule
+pub mod Marked
 pub mod Bounds
 pub mod Places
 pub mod Headers
 pub mod ByArguments
+pub mod NotDone
 pub mod Images
 pub mod SPmsi
 pub mod Lowest
@@ -26,6 +37,8 @@ pub mod Places
 pub mod Headers
 pub mod NotDone
 pub mod Images
+pub mod Decisions
+pub mod LastInstalled
 pub mod Distincts
 pub mod Ownership
 pub mod Numbered
@@ -35,4 +48,5 @@ pub mod DueSteps
 pub mod Chosen
 pub mod Runs
 pub mod Reorders
+pub mod Turns
 pub mod Premise

@@ -18,12 +18,13 @@ use Rattle.routes.specs.Table.{imageOf, afiIn, placesIn, routesOf, sound
 use Rattle.routes.specs.Calls.{leaving, withdrawOutcome, withdrawOf}
 use Rattle.routes.specs.Images.{Holdable, TableOf}
 use Rattle.routes.specs.CallRules.{WithdrawRefusal, withdrawUnsound, badName, notHeld, Withdrawable, IsHeld, WithdrawRule}
-use Rattle.routes.proofs.Answered.{number-refused, refused-number, given-number, done-given}
+use Rattle.routes.proofs.Answered.{number-refused, refused-number, given-number}
 use Rattle.routes.proofs.ArgumentRules.{argumentRule, nlri-accepted, nlri-accepts}
 use Rattle.routes.proofs.ByArguments.{s-pmsi-number}
 use Rattle.routes.proofs.Holding.{holdable-removed}
 use Rattle.routes.proofs.Images.{images, sound, sound-holdable, image-length}
 use Rattle.routes.proofs.Lookups.{absent-holds, holds-absent, held-holds, holds-held, lookup-removed-same, lookup-removed-other, increasing-distinct, length-removed-held}
+use Rattle.routes.proofs.NotDone.{done-given}
 
 -- what a withdrawal that is not refused found
 pub record Left (t nlri : List ℕ) : Type 0 where
@@ -92,19 +93,19 @@ module _ (t nlri : List ℕ) where
       p .1 ∙ ap given (withdraw-given (p .0) (p .1) .1)
 
   -- the octets by the outcome
-  pub octets-given : withdrawOutcome t nlri ≡ given nlri → withdrawOf t nlri .octets ≡ imageOf (afiIn t) (placesIn t) (removed nlri (routesOf t))
+  pub withdraw-octets : withdrawOutcome t nlri ≡ given nlri → withdrawOf t nlri .octets ≡ imageOf (afiIn t) (placesIn t) (removed nlri (routesOf t))
   unfolding withdrawOf onOutcome
-  octets-given e = rw e
+  withdraw-octets e = rw e
 
-  octets-refused : (n : ℕ) → withdrawOutcome t nlri ≡ refused n → withdrawOf t nlri .octets ≡ t
+  withdraw-leaves : (n : ℕ) → withdrawOutcome t nlri ≡ refused n → withdrawOf t nlri .octets ≡ t
   unfolding withdrawOf onOutcome
-  octets-refused n e = rw e
+  withdraw-leaves n e = rw e
 
-  pub holdable-after : withdrawOutcome t nlri ≡ given nlri → Holdable (afiIn t) (placesIn t) (removed nlri (routesOf t))
-  holdable-after e = holdable-removed (afiIn t) (placesIn t) (routesOf t) (sound-holdable t (withdraw-given nlri e .0 .asked .sound)) nlri
+  pub withdraw-holdable : withdrawOutcome t nlri ≡ given nlri → Holdable (afiIn t) (placesIn t) (removed nlri (routesOf t))
+  withdraw-holdable e = holdable-removed (afiIn t) (placesIn t) (routesOf t) (sound-holdable t (withdraw-given nlri e .0 .asked .sound)) nlri
 
   after-given : withdrawOutcome t nlri ≡ given nlri → TableOf (afiIn t) (placesIn t) (removed nlri (routesOf t)) (withdrawOf t nlri .octets)
-  after-given e = subst (TableOf _ _ _) (sym (octets-given e)) (images .imaged (afiIn t) (placesIn t) (removed nlri (routesOf t)) (holdable-after e))
+  after-given e = subst (TableOf _ _ _) (sym (withdraw-octets e)) (images .imaged (afiIn t) (placesIn t) (removed nlri (routesOf t)) (withdraw-holdable e))
 
   -- by what the outcome is
   either-outcome : {P : Type 0} → (withdrawOutcome t nlri ≡ given nlri → P) → ((n : ℕ) → withdrawOutcome t nlri ≡ refused n → P) → P
@@ -113,15 +114,15 @@ module _ (t nlri : List ℕ) where
   others : (other : List ℕ) → other ≢ nlri → lookup other (routesOf (withdrawOf t nlri .octets)) ≡ lookup other (routesOf t)
   others other d =
       either-outcome (λ e. ap (lookup other) (after-given e .routes) ∙ lookup-removed-other other nlri (routesOf t) (unequal-other other nlri d))
-      (λ n e. ap (λ (x : List ℕ). lookup other (routesOf x)) (octets-refused n e))
+      (λ n e. ap (λ (x : List ℕ). lookup other (routesOf x)) (withdraw-leaves n e))
 
   size : length (withdrawOf t nlri .octets) ≡ length t
   size =
       either-outcome
       (λ e.
-      ap length (octets-given e) ∙ image-length (afiIn t) (placesIn t) (removed nlri (routesOf t)) (holdable-after e)
+      ap length (withdraw-octets e) ∙ image-length (afiIn t) (placesIn t) (removed nlri (routesOf t)) (withdraw-holdable e)
       ∙ sym (sound t (withdraw-given nlri e .0 .asked .sound) .size .is))
-      (λ n e. ap length (octets-refused n e))
+      (λ n e. ap length (withdraw-leaves n e))
 
   withdrawn : withdrawOutcome t nlri ≡ given nlri → lookup nlri (routesOf (withdrawOf t nlri .octets)) ≡ absent
   withdrawn e =
@@ -154,5 +155,5 @@ withdrawRule =
       room = λ t nlri e. room t nlri (withdraw-done t nlri e);
       after = λ t nlri e. after-given t nlri (withdraw-done t nlri e);
       size = size;
-      untouched = λ t nlri h. either-outcome t nlri (λ e. absurd (h (number t nlri ∙ given-number e))) (octets-refused t nlri);
+      untouched = λ t nlri h. either-outcome t nlri (λ e. absurd (h (number t nlri ∙ given-number e))) (withdraw-leaves t nlri);
     }
