@@ -25,7 +25,6 @@ pub mod Decisions
 pub mod LastInstalled
 pub mod Distincts
 pub mod Ownership
-pub mod Numbered
 pub mod Books
 pub mod AllBooks
 pub mod DueSteps
@@ -34,3 +33,4 @@ pub mod Runs
 pub mod Reorders
 pub mod Turns
 pub mod Premise
+pub mod MixedCalls
