@@ -4,7 +4,6 @@ use mathlib.Core.Path.{_≡_, refl, sym, ap, _∙_}
 use mathlib.Core.Bool.{true, false}
 use mathlib.Core.List.{List, [], _∷_, _++_}
 use mathlib.Core.Logic.{⊎-elim}
-use native.Mathlib.Omega.{arith}
 use native.Mathlib.Nat.{le-trans}
 use lib.ListN.{length}
 use Rattle.octets.specs.Choice.{pick}
@@ -26,7 +25,7 @@ use Rattle.routes.specs.Run.{namedBy, Fits}
 use Rattle.routes.specs.Occurrences.{Among, first, later}
 use Rattle.routes.proofs.Lookups.{lookup-none, lookup-first, lookup-later, lookup-arranged, held-or-absent, held-absent, held-holds, increasing-arranged, increasing-distinct, acceptable-arranged, acceptable-member}
 use Rattle.routes.proofs.Distincts.{has-among, among-has, among-distinct, among-cases, routes-fewer}
-use Rattle.routes.proofs.Ownership.{route-accepted, acceptable-after-none, owned-itself, owned-nobody, owned-by}
+use Rattle.routes.proofs.Ownership.{owner-nobody, route-accepted, acceptable-after-none, owned-itself, owned-nobody, owned-by}
 use Rattle.routes.proofs.Books.{heldAfter, heldAfterAll, lookup-after, distinct-after, acceptable-after, held-apart}
 
 -- a router's own calls
@@ -47,6 +46,14 @@ own-append afi router (c ∷ xs) ys =
     (λ t. own-first afi router c (xs ++ ys) t ∙ ap (λ (l : List Call). c ∷ l) (own-append afi router xs ys) ∙ sym (ap (λ (l : List Call). l ++ ownCalls afi router ys) (own-first afi router c xs t)))
     (λ f. own-later afi router c (xs ++ ys) f ∙ own-append afi router xs ys ∙ sym (ap (λ (l : List Call). l ++ ownCalls afi router ys) (own-later afi router c xs f)))
 
+pub own-drawn : {c : Call} (afi : ℕ) (router : List ℕ) (calls : List Call) → Among c (ownCalls afi router calls) → Among c calls
+unfolding ownCalls
+own-drawn afi router [] m = m
+own-drawn afi router (x ∷ xs) m =
+    tested (owns afi router x)
+    (λ t. ⊎-elim (λ e. first e) (λ a. later (own-drawn afi router xs a)) (among-cases (rw (own-first afi router x xs t) at m)))
+    (λ f. later (own-drawn afi router xs (rw (own-later afi router x xs f) at m)))
+
 pub own-owner : (afi : ℕ) (router : List ℕ) (c : Call) → owns afi router c ≡ true → ownerOf afi c ≡ owner router
 unfolding owns
 own-owner afi router c h = owned-by router (ownerOf afi c) h
@@ -61,9 +68,6 @@ nobody-owns afi router c h = owned-nobody router (ownerOf afi c) h
 
 pub owners-same : {x y : List ℕ} {o : Owner} → o ≡ owner x → o ≡ owner y → x ≡ y
 owners-same p q = cc
-
-pub nobody-owner : {x : List ℕ} {o : Owner} → o ≡ nobody → o ≡ owner x → ⊥
-nobody-owner p q = let z : _≡_ {A = ℕ} 0 1 = cc in omega arith
 
 pub own-none : (afi : ℕ) (router : List ℕ) (calls : List Call) → (Among router (routersOf afi calls) → ⊥) → ownCalls afi router calls ≡ []
 unfolding routersOf ownCalls withOwner
@@ -185,13 +189,13 @@ lookup-all afi router nlri calls own =
 
 pub lookup-nobody : (afi : ℕ) (nlri : List ℕ) (calls : List Call) → originatorOf afi nlri ≡ nobody → lookup nlri (allBooks afi calls) ≡ absent
 unfolding allBooks
-lookup-nobody afi nlri calls h = gathered-foreign afi nlri (distinct (routersOf afi calls)) calls (λ router m q. nobody-owner h q)
+lookup-nobody afi nlri calls h = gathered-foreign afi nlri (distinct (routersOf afi calls)) calls (λ router m q. owner-nobody h q)
 
 -- whatever the owner, what all calls leave
 held-nobody : (afi : ℕ) (nlri : List ℕ) (calls : List Call) (h : Held) → originatorOf afi nlri ≡ nobody → heldAfterAll afi calls nlri h ≡ h
 unfolding heldAfterAll
 held-nobody afi nlri [] h own = refl
-held-nobody afi nlri (c ∷ cs) h own = held-nobody afi nlri cs (heldAfter afi c nlri h) own ∙ held-apart afi nlri c h (λ router p q. nobody-owner own p)
+held-nobody afi nlri (c ∷ cs) h own = held-nobody afi nlri cs (heldAfter afi c nlri h) own ∙ held-apart afi nlri c h (λ router p q. owner-nobody own p)
 
 pub lookup-all-after : (afi : ℕ) (nlri : List ℕ) (calls : List Call) → lookup nlri (allBooks afi calls) ≡ heldAfterAll afi calls nlri absent
 lookup-all-after afi nlri calls = go (originatorOf afi nlri) refl
@@ -229,8 +233,8 @@ named-first afi nlri (install named attribute) cs a h = go (readRoute afi named 
   where
     go : (o : Outcome Route) → readRoute afi named attribute ≡ o → onOutcome (λ number. absent) (λ r. pick (same nlri named) (held attribute) absent) o ≡ held a → Among nlri (namedBy afi (install named attribute ∷ cs))
     go (given r) e h =
-      let x = route-accepted afi named attribute r e in
-      tested (same nlri named) (λ t. rw (x .read) (first (same-equal nlri named t))) (λ f. absurd (held-absent h (pick-false _ _ _ f)))
+        let x = route-accepted afi named attribute r e in
+        tested (same nlri named) (λ t. rw (x .read) (first (same-equal nlri named t))) (λ f. absurd (held-absent h (pick-false _ _ _ f)))
     go (refused n) e h = absurd (held-absent h refl)
 named-first afi nlri (withdraw named) cs a h = absurd (go (readSPmsi afi named) h)
   where

@@ -91,15 +91,15 @@ held-apart afi nlri (install named attribute) h apart = go (readRoute afi named 
   where
     go : (o : Outcome Route) → readRoute afi named attribute ≡ o → onOutcome (λ number. h) (λ r. pick (same nlri named) (held attribute) h) o ≡ h
     go (given r) e =
-      let a = route-accepted afi named attribute r e in
-      let own = owner-read afi named (a .fields) (a .read) in
-      tested (same nlri named) (λ t. absurd (apart _ (rw (same-equal nlri named t) own) own)) (λ f. pick-false _ _ _ f)
+        let a = route-accepted afi named attribute r e in
+        let own = owner-read afi named (a .fields) (a .read) in
+        tested (same nlri named) (λ t. absurd (apart _ (rw (same-equal nlri named t) own) own)) (λ f. pick-false _ _ _ f)
     go (refused n) e = refl
 held-apart afi nlri (withdraw named) h apart = go (readSPmsi afi named) refl
   where
     go : (o : Outcome Fields) → readSPmsi afi named ≡ o → onOutcome (λ number. h) (λ f. pick (same nlri named) absent h) o ≡ h
     go (given f) e =
-      let own = owner-read afi named f e in
-      tested (same nlri named) (λ t. absurd (apart _ (rw (same-equal nlri named t) own) own)) (λ g. pick-false _ _ _ g)
+        let own = owner-read afi named f e in
+        tested (same nlri named) (λ t. absurd (apart _ (rw (same-equal nlri named t) own) own)) (λ g. pick-false _ _ _ g)
     go (refused n) e = refl
 held-apart afi nlri (match router source group output) h apart = refl

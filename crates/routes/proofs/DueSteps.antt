@@ -1,6 +1,6 @@
 -- A call on the image of all books gets what is due to it, and leaves the image of all books after it.
 use Prim.Native.Nat.{ℕ, suc, _≤_, _<_}
-use mathlib.Core.Path.{_≡_, refl, sym, ap, ap₂, _∙_}
+use mathlib.Core.Path.{_≡_, refl, sym, ap, _∙_}
 use mathlib.Core.Bool.{Bool, true, false}
 use mathlib.Core.List.{List, [], _∷_, _++_}
 use native.Mathlib.Omega.{arith}
@@ -11,26 +11,24 @@ use Rattle.octets.specs.Numbers.{DONE, ROOM, ABSENT}
 use Rattle.octets.specs.Choice.{pick}
 use Rattle.octets.specs.Outcome.{Outcome, given, refused, onOutcome, andThen, numberOf}
 use Rattle.octets.specs.Order.{before}
-use Rattle.octets.proofs.Outcomes.{pick-true, pick-false}
+use Rattle.octets.proofs.Outcomes.{pick-true}
 use Rattle.octets.proofs.Picked.{tested}
-use Rattle.octets.proofs.Inversions.{opposite}
-use Rattle.nlri.specs.Family.{originatorSize}
 use Rattle.nlri.specs.Fields.{Fields}
-use Rattle.routes.specs.Route.{Route, route, nlriOf, attributeOf, Held, absent, held, lookup, holds, inserted, removed, arranged, Increasing}
+use Rattle.routes.specs.Route.{Route, route, nlriOf, attributeOf, Held, lookup, holds, inserted, removed, arranged, Increasing}
 use Rattle.routes.specs.Arguments.{Query, readSPmsi, readRoute, readMatch}
-use Rattle.routes.specs.Table.{imageOf, afiIn, placesIn, routesOf, soundOf}
-use Rattle.routes.specs.Images.{Family, Holdable, TableOf, Images}
+use Rattle.routes.specs.Table.{imageOf, afiIn, placesIn}
+use Rattle.routes.specs.Images.{Family, TableOf}
 use Rattle.routes.specs.Matching.{Found, matchIn}
-use Rattle.routes.specs.Calls.{Changed, NEW, REPLACED, installedOf, entering, installOutcome, installOf, leaving, withdrawOutcome, withdrawOf, matchedBy, matchOutcome, matchOf, refusedMatch}
+use Rattle.routes.specs.Calls.{NEW, REPLACED, installedOf, entering, installOutcome, installOf, leaving, withdrawOutcome, withdrawOf, matchedBy, matchOutcome, matchOf, refusedMatch}
 use Rattle.routes.specs.Call.{Call, install, withdraw, match, Answer, installed, withdrawn, matched, Owner, nobody, owner, originatorOf, ownerOf, refusalOf, refusalAnswer}
 use Rattle.routes.specs.Book.{bookOf, bookAnswer, allBooks, matchAnswer, dueBy, dueAnswer}
-use Rattle.routes.specs.Run.{Step, stepOf, imageOfBooks, Fits}
-use Rattle.routes.proofs.Lookups.{lookup-inserted, lookup-first, lookup-later, lookup-arranged, holds-alike, increasing-equal, increasing-inserted, increasing-removed, increasing-distinct, length-inserted-new, absent-holds, removed-absent}
+use Rattle.routes.specs.Run.{stepOf, imageOfBooks, Fits}
+use Rattle.routes.proofs.Lookups.{lookup-inserted, lookup-arranged, holds-alike, increasing-equal, increasing-inserted, increasing-removed, increasing-distinct, length-inserted-new, absent-holds, removed-absent}
 use Rattle.routes.proofs.Bounds.{route-read}
 use Rattle.routes.proofs.Images.{images}
 use Rattle.routes.proofs.MatchSame.{match-same}
-use Rattle.routes.proofs.Ownership.{route-accepted, named-after-none, owner-read, owned-by, query-router}
-use Rattle.routes.proofs.Books.{heldAfter, lookup-removed, held-apart}
+use Rattle.routes.proofs.Ownership.{route-accepted, named-after-none, owner-read, owned-by, match-owner, query-router}
+use Rattle.routes.proofs.Books.{heldAfter, lookup-removed}
 use Rattle.routes.proofs.AllBooks.{book-distinct, lookup-all, lookup-all-next, books-increasing, books-holdable}
 
 -- the routes of all books, as the table holds them
@@ -159,10 +157,6 @@ module _ (afi places : ℕ) (earlier : List Call) where
   unfolding bookAnswer onOutcome ownerOf
   withdraw-due nlri f e = due-owned afi earlier (withdraw nlri) (f .originator) (owner-read afi nlri f e) ∙ rw (e, table-book nlri f e)
 
-  match-owner : (router source group output : List ℕ) → originatorSize (length router) ≡ true → ownerOf afi (match router source group output) ≡ owner router
-  unfolding ownerOf
-  match-owner router source group output h = pick-true _ _ _ h
-
   -- the table's routes and the asked router's book give one match
   match-book : (router source group output : List ℕ) (q : Query) → readMatch afi router source group output ≡ given q → matchIn afi q (tableRoutes afi earlier) ≡ matchIn afi q (bookOf afi router earlier)
   match-book router source group output q e =
@@ -175,7 +169,7 @@ module _ (afi places : ℕ) (earlier : List Call) where
       → dueAnswer afi earlier (match router source group output) ≡ matchAnswer (matchedBy (given (matchIn afi q (tableRoutes afi earlier))) output)
   unfolding bookAnswer andThen
   match-due router source group output q e =
-      due-owned afi earlier (match router source group output) router (match-owner router source group output (query-router afi router source group output q e .1))
+      due-owned afi earlier (match router source group output) router (match-owner afi router source group output (query-router afi router source group output q e .1))
       ∙ rw (e, match-book router source group output q e)
 
   module _ (family : Family afi) (most : places ≤ 500) (t : List ℕ) (of : TableOf afi places (tableRoutes afi earlier) t) (is : t ≡ imageOf afi places (tableRoutes afi earlier)) where
@@ -277,6 +271,7 @@ module _ (afi places : ℕ) (earlier : List Call) where
       where
         on : matchOutcome t router source group output ≡ andThen (readMatch afi router source group output) (λ q. given (matchIn afi q (tableRoutes afi earlier)))
         on = match-on afi places (tableRoutes afi earlier) t router source group output of
+
         go : (o : Outcome Query) → readMatch afi router source group output ≡ o
             → matchAnswer (matchedBy (matchOutcome t router source group output) output) ≡ dueAnswer afi earlier (match router source group output)
         go (given q) e = ap (λ (x : Outcome Found). matchAnswer (matchedBy x output)) (on ∙ rw e) ∙ sym (match-due router source group output q e)

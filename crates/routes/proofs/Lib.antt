@@ -41,7 +41,6 @@ pub mod Decisions
 pub mod LastInstalled
 pub mod Distincts
 pub mod Ownership
-pub mod Numbered
 pub mod Books
 pub mod AllBooks
 pub mod DueSteps
@@ -50,3 +49,4 @@ pub mod Runs
 pub mod Reorders
 pub mod Turns
 pub mod Premise
+pub mod MixedCalls

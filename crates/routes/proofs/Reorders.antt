@@ -6,12 +6,12 @@ use mathlib.Core.Bool.{true, false}
 use mathlib.Core.List.{List, [], _∷_, _++_, append-nil}
 use mathlib.Core.Logic.{⊎-elim}
 use Rattle.octets.proofs.Picked.{tested}
-use Rattle.routes.specs.Route.{Route, lookup, arranged}
+use Rattle.routes.specs.Route.{lookup}
 use Rattle.routes.specs.Table.{imageOf}
 use Rattle.routes.specs.Call.{Call, Answer, Owner, nobody, owner, originatorOf, ownerOf, owns, refusalOf, refusalAnswer}
 use Rattle.routes.specs.Book.{fed, ownCalls, bookOf, bookAnswer, allBooks, dueAnswer}
 use Rattle.routes.specs.Run.{imageOfBooks, dueFrom}
-use Rattle.routes.specs.Occurrences.{Among, first, later, Occurrence, occurrence, callIn, numberedFrom, occurrencesOf, callsOf, chosen, ownOccurrences, Answered, answered, occurrenceIn, answersWith, ownAnswers}
+use Rattle.routes.specs.Occurrences.{Among, first, later, Occurrence, callIn, numberedFrom, occurrencesOf, callsOf, chosen, ownOccurrences, Answered, answered, occurrenceIn, answersWith, ownAnswers}
 use Rattle.routes.proofs.Lookups.{lookup-arranged, increasing-equal}
 use Rattle.routes.proofs.Distincts.{nowhere, among-cases}
 use Rattle.routes.proofs.AllBooks.{own-first, own-later, own-append, own-owner, owner-own, lookup-all, lookup-nobody, books-increasing}
@@ -78,7 +78,7 @@ own-then : (afi : ℕ) (router : List ℕ) (earlier : List Call) (c : Call) → 
 unfolding ownCalls
 own-then afi router earlier c t = own-append afi router earlier (c ∷ []) ∙ ap (λ (l : List Call). ownCalls afi router earlier ++ l) (own-first afi router c [] t)
 
-own-not : (afi : ℕ) (router : List ℕ) (earlier : List Call) (c : Call) → owns afi router c ≡ false → ownCalls afi router (earlier ++ (c ∷ [])) ≡ ownCalls afi router earlier
+pub own-not : (afi : ℕ) (router : List ℕ) (earlier : List Call) (c : Call) → owns afi router c ≡ false → ownCalls afi router (earlier ++ (c ∷ [])) ≡ ownCalls afi router earlier
 unfolding ownCalls
 own-not afi router earlier c f = own-append afi router earlier (c ∷ []) ∙ ap (λ (l : List Call). ownCalls afi router earlier ++ l) (own-later afi router c [] f) ∙ append-nil (ownCalls afi router earlier)
 
@@ -141,8 +141,8 @@ module _ (afi : ℕ) (xs ys : List Occurrence) (kept : (router : List ℕ) → o
     where
       go : (w : Owner) → ownerOf afi (callIn o) ≡ w → Among (answered o x) (dueAnswers afi [] ys)
       go nobody e =
-        let p = nobodys-answer afi o x [] xs e m in
-        subst (λ (b : Answer). Among (answered o b) (dueAnswers afi [] ys)) (sym (p .0)) (answer-nobodys afi o [] ys e (h o (p .1)))
+          let p = nobodys-answer afi o x [] xs e m in
+          subst (λ (b : Answer). Among (answered o b) (dueAnswers afi [] ys)) (sym (p .0)) (answer-nobodys afi o [] ys e (h o (p .1)))
       go (owner router) e = owned-carried router (answered o x) (owner-own afi router (callIn o) e) m
 
 -- calls with the same own calls for every router have the same books
@@ -156,4 +156,4 @@ same-books afi places xs ys h =
     alike : (nlri : List ℕ) (w : Owner) → originatorOf afi nlri ≡ w → lookup nlri (allBooks afi xs) ≡ lookup nlri (allBooks afi ys)
     alike nlri nobody e = lookup-nobody afi nlri xs e ∙ sym (lookup-nobody afi nlri ys e)
     alike nlri (owner router) e =
-      lookup-all afi router nlri xs e ∙ ap (λ (l : List Call). lookup nlri (fed afi [] l)) (h router) ∙ sym (lookup-all afi router nlri ys e)
+        lookup-all afi router nlri xs e ∙ ap (λ (l : List Call). lookup nlri (fed afi [] l)) (h router) ∙ sym (lookup-all afi router nlri ys e)

@@ -1,6 +1,6 @@
 -- Runs of calls: the premise holds of every list of calls drawn from one of which it holds, and under it a run is what is due.
 use Prim.Native.Nat.{ℕ, _≤_}
-use mathlib.Core.Path.{_≡_, refl, sym, ap, ap₂, subst, _∙_}
+use mathlib.Core.Path.{_≡_, refl, ap, ap₂, subst, _∙_}
 use mathlib.Core.List.{List, [], _∷_, _++_, append-assoc, append-nil}
 use mathlib.Core.Logic.{_⊎_, inl, inr, ⊎-elim}
 use native.Mathlib.Nat.{le-trans}
@@ -9,10 +9,9 @@ use Rattle.nlri.specs.Fields.{Fields}
 use Rattle.routes.specs.Arguments.{readSPmsi}
 use Rattle.routes.specs.Images.{Family}
 use Rattle.routes.specs.Call.{Call, install, withdraw, match}
-use Rattle.routes.specs.Book.{distinct, ownCalls}
-use Rattle.routes.specs.Run.{Step, stepOf, runFrom, endOf, imageOfBooks, dueFrom, namedBy, Fits}
+use Rattle.routes.specs.Run.{Step, runFrom, endOf, imageOfBooks, dueFrom, namedBy, Fits}
 use Rattle.routes.specs.Occurrences.{Among, first, later}
-use Rattle.routes.proofs.Distincts.{among-left, among-right, nowhere, among-cases, distinct-fewer}
+use Rattle.routes.proofs.Distincts.{among-left, nowhere, among-cases, distinct-fewer}
 use Rattle.routes.proofs.AllBooks.{named-later}
 use Rattle.routes.proofs.DueSteps.{DueStep, due-step}
 
@@ -51,13 +50,13 @@ named-drawn afi (c ∷ xs) ys h m = ⊎-elim (λ a. named-of afi (h c (first ref
 pub fits-drawn : (afi places : ℕ) (xs ys : List Call) → ((c : Call) → Among c xs → Among c ys) → Fits afi places ys → Fits afi places xs
 fits-drawn afi places xs ys h fits = le-trans (distinct-fewer (namedBy afi xs) (namedBy afi ys) (λ nlri m. named-drawn afi xs ys h m)) fits
 
-fits-earlier : (afi places : ℕ) (xs ys : List Call) → Fits afi places (xs ++ ys) → Fits afi places xs
+pub fits-earlier : (afi places : ℕ) (xs ys : List Call) → Fits afi places (xs ++ ys) → Fits afi places xs
 fits-earlier afi places xs ys fits = fits-drawn afi places xs (xs ++ ys) (λ c m. among-left ys m) fits
 
 -- a run on the image of all books
 
 module _ (afi places : ℕ) (family : Family afi) (most : places ≤ 500) where
-  next-step : (earlier : List Call) (c : Call) (cs : List Call) → Fits afi places (earlier ++ (c ∷ cs)) → DueStep afi places earlier (imageOfBooks afi places earlier) c
+  pub next-step : (earlier : List Call) (c : Call) (cs : List Call) → Fits afi places (earlier ++ (c ∷ cs)) → DueStep afi places earlier (imageOfBooks afi places earlier) c
   next-step earlier c cs fits =
       due-step afi places earlier c family most (fits-earlier afi places earlier (c ∷ cs) fits) (fits-earlier afi places (earlier ++ (c ∷ [])) cs (rw append-assoc fits))
 

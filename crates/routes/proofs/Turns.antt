@@ -9,13 +9,14 @@ use Rattle.octets.proofs.Inversions.{opposite}
 use Rattle.octets.proofs.Picked.{tested}
 use Rattle.octets.proofs.Refusals.{is-false}
 use Rattle.octets.proofs.Orders.{same-equal, other-unequal}
-use Rattle.routes.specs.Call.{Call, Owner, nobody, owner, ownerOf, owns}
+use Rattle.routes.specs.Call.{Call, Owner, nobody, owner, ownerOf}
 use Rattle.routes.specs.Book.{has, distinct, withOwner, routersOf}
-use Rattle.routes.specs.Occurrences.{Among, first, later, PutIn, front, behind, Rearranged, none, one, Occurrence, callIn, occurrencesOf, callsOf, chosen, ownOccurrences, isNobody, nobodysOccurrences, turns, inTurn}
+use Rattle.routes.specs.Occurrences.{Among, first, later, PutIn, front, behind, Rearranged, none, one, Occurrence, callIn, occurrencesOf, chosen, ownOccurrences, isNobody, nobodysOccurrences, turns, inTurn}
 use Rattle.routes.specs.MixedCalls.{Reordered}
 use Rattle.routes.proofs.Distincts.{nowhere, among-cases, Once, has-among, among-has, among-distinct, once-distinct}
 use Rattle.routes.proofs.Chosen.{chosen-first, chosen-later, chosen-append, chosen-passes, chosen-all, chosen-none}
-use Rattle.routes.proofs.AllBooks.{own-owner, owner-own, nobody-owns, owners-same, nobody-owner}
+use Rattle.routes.proofs.AllBooks.{own-owner, owner-own, owners-same}
+use Rattle.routes.proofs.Ownership.{owner-nobody}
 use Rattle.routes.proofs.Reorders.{call-among, occurrences-calls}
 
 put-left : {A : Type 0} {x : A} {ys zs : List A} (ws : List A) → PutIn x ys zs → PutIn x (ys ++ ws) (zs ++ ws)
@@ -103,7 +104,7 @@ module _ (afi : ℕ) where
   own-nobodys : (router : List ℕ) (os : List Occurrence) → ownOccurrences afi router (nobodysOccurrences afi os) ≡ []
   unfolding ownOccurrences nobodysOccurrences
   own-nobodys router os =
-      chosen-none _ (chosen _ os) (λ o m t. nobody-owner (is-nobody (ownerOf afi (callIn o)) (chosen-passes _ os m)) (own-owner afi router (callIn o) t))
+      chosen-none _ (chosen _ os) (λ o m t. owner-nobody (is-nobody (ownerOf afi (callIn o)) (chosen-passes _ os m)) (own-owner afi router (callIn o) t))
 
   none-own : (router : List ℕ) (os : List Occurrence) → ((o : Occurrence) → Among o os → ownerOf afi (callIn o) ≡ owner router → ⊥) → ownOccurrences afi router os ≡ []
   unfolding ownOccurrences
@@ -144,7 +145,7 @@ module _ (afi : ℕ) where
     turns-rearranged (o ∷ os) h = one (put (ownerOf afi (callIn o)) refl) (turns-rearranged os (λ x router m. h x router (later m)))
       where
         put : (w : Owner) → ownerOf afi (callIn o) ≡ w → PutIn o (turns afi routers os ++ nobodysOccurrences afi os) (turns afi routers (o ∷ os) ++ nobodysOccurrences afi (o ∷ os))
-        put nobody e = rw (turns-other routers o os (λ router m q. nobody-owner e q), nobodys-added o os e) (put-right (turns afi routers os) front)
+        put nobody e = rw (turns-other routers o os (λ router m q. owner-nobody e q), nobodys-added o os e) (put-right (turns afi routers os) front)
         put (owner router) e = rw (nobodys-other router o os e) (put-left (nobodysOccurrences afi os) (turns-put router o os once e (h o router (first refl) e)))
 
     turns-kept : (os : List Occurrence) → ((o : Occurrence) (router : List ℕ) → Among o os → ownerOf afi (callIn o) ≡ owner router → Among router routers)
@@ -157,8 +158,8 @@ module _ (afi : ℕ) where
         own : (b : Bool) → has router routers ≡ b → ownOccurrences afi router (turns afi routers os) ≡ ownOccurrences afi router os
         own true t = turns-own router os once (has-among routers t)
         own false f =
-          turns-foreign router routers os (λ m. opposite (among-has m) f)
-          ∙ sym (none-own router os (λ o m e. opposite (among-has (h o router m e)) f))
+            turns-foreign router routers os (λ m. opposite (among-has m) f)
+            ∙ sym (none-own router os (λ o m e. opposite (among-has (h o router m e)) f))
 
 pub in-turn : (afi : ℕ) (calls : List Call) → Reordered afi calls (inTurn afi calls)
 unfolding inTurn
