@@ -4,5 +4,8 @@ mod change;
 mod find;
 mod header;
 mod judge;
+mod making;
 mod scan;
 mod sound;
+
+pub use making::make;
