@@ -1,5 +1,5 @@
 -- Laws of making a table.
-use Prim.Native.Nat.{ℕ, _+_, _-_, _*_, _<_, _≤_}
+use Prim.Native.Nat.{ℕ, _-_, _*_, _<_, _≤_}
 use mathlib.Core.Path.{_≡_, refl, sym, _∙_, ap}
 use mathlib.Core.Logic.{inl, inr, ⊎-elim}
 use mathlib.Core.Bool.{Bool, true, false}
@@ -13,8 +13,7 @@ use Rattle.octets.specs.Numbers.{DONE, FAMILY, TABLE}
 use Rattle.octets.specs.Choice.{pick, either}
 use Rattle.octets.specs.Outcome.{given, refused, onOutcome, andThen, numberOf}
 use Rattle.octets.specs.Order.{zeros}
-use Rattle.octets.proofs.Outcomes.{pick-true, pick-false}
-use Rattle.octets.proofs.Tests.{goes, stops}
+use Rattle.octets.proofs.Outcomes.{pick-false}
 use Rattle.octets.proofs.Inversions.{either-true}
 use Rattle.octets.proofs.Refusals.{either-false-left, either-false-right}
 use Rattle.nlri.specs.Family.{familyBits}
