@@ -109,11 +109,12 @@ pub flow-given : (afi : ℕ) (router source group : List ℕ) → GoodFlow afi r
 unfolding readFlow
 flow-given afi router source group f =
     let family = family-good afi (source-family afi source (f .sourced)) in
-    let class = multicast-classed afi (family .0) group (family .1) (f .multicast) in
-    (record { router = router; source = source; group = group; class = class .0 },
-    sym (goes _ _ _ _ (family .1) (sym (pick-true _ _ _ (lengths .originators (length router) .1 (f .addressed))
-    ∙ pick-true _ _ _ (eq-eqb _ _ (source-sized afi (family .0) source (family .1) .1 (f .sourced)))
-    ∙ sym (goes _ _ _ _ (class .1) refl)))))
+    let class = multicast-classed afi (family .0) group (family .1) (f .multicast) in (
+      record { router = router; source = source; group = group; class = class .0 },
+      sym (goes _ _ _ _ (family .1) (sym (pick-true _ _ _ (lengths .originators (length router) .1 (f .addressed))
+          ∙ pick-true _ _ _ (eq-eqb _ _ (source-sized afi (family .0) source (family .1) .1 (f .sourced)))
+          ∙ sym (goes _ _ _ _ (class .1) refl)))),
+    )
 
 pub flow-refused : (afi : ℕ) (router source group : List ℕ) (n : ℕ) → Family afi → readFlow afi router source group ≡ refused n → n ≡ FLOW
 unfolding readFlow
