@@ -1,1 +1,126 @@
--- Laws of the scan.
+-- The scan over a table's places: its functions' branches and its loop.
+use Prim.Native.Nat.{ℕ, zero, suc, _+_, _*_, _-_, _≤_, _<_}
+use mathlib.Core.Path.{_≡_, refl, sym, _∙_, ap, ap₂, subst}
+use mathlib.Core.Bool.{Bool, true, false}
+use mathlib.Core.List.{List}
+use native.Mathlib.Omega.{arith}
+use borrow.Author.Tests.{eq-eqb, ne-eqb}
+use lib.Dec.{eqb}
+use lib.ListN.{length}
+use Rattle.octets.specs.Choice.{pick}
+use Rattle.octets.specs.Octets.{part}
+use Rattle.octets.specs.Order.{before}
+use Rattle.octets.proofs.Lists.{part-length}
+use Rattle.octets.proofs.Tests.{picks, skips}
+use Rattle.octets.proofs.Outcomes.{pick-true, pick-false}
+use Rattle.octets.proofs.Picked.{tested}
+use Rattle.routes.specs.Place.{endIn, routeIn}
+use Rattle.routes.specs.Matching.{Found, nothing, found}
+use Rattle.table.specs.declared.scan.Best.{Best}
+use Rattle.table.specs.Scanning.{standing, tierAt, nlriAt, Readable, aheadAt, betterAt, scanAt, noneYet, bestIn, Writable, Answerable}
+
+-- what a place's functions need of a place cut out of the table
+pub place-ends : (t place : List ℕ) (at : ℕ) → Readable t at → place ≡ part t at 128 → endIn place ≤ length place
+place-ends t place at r e = rw e (let ends = r .ends in omega (arith, part-length t at 128 (r .within)))
+
+-- route distinguishers of two places, compared
+pub lower-is : (t : List ℕ) (at other : ℕ) (flag : Bool) (n m x y : List ℕ) → n ≡ nlriAt t at → m ≡ nlriAt t other → x ≡ standing n .distinguisher → y ≡ standing m .distinguisher
+    → flag ≡ before x y → flag ≡ before (standing (nlriAt t at) .distinguisher) (standing (nlriAt t other) .distinguisher)
+lower-is t at other flag n m x y p q d e f =
+    f ∙ ap₂ before (d ∙ ap (λ (s : List ℕ). standing s .distinguisher) p) (e ∙ ap (λ (s : List ℕ). standing s .distinguisher) q)
+
+-- something of the best route's place, where there is a best route
+abbrev pub Kept : (ℕ → Type 0) → Best → Type 0
+Kept P best = (best .tier ≡ 0 → ⊥) → P (best .start)
+
+picked-one : (P : ℕ → Type 0) (none ahead : Bool) (best new : Best) → Kept P best → Kept P new → Kept P (pick none best (pick ahead new best))
+unfolding pick
+picked-one P true ahead best new old fresh = old
+picked-one P false true best new old fresh = fresh
+picked-one P false false best new old fresh = old
+
+module _ (router source group : List ℕ) (class : ℕ) (t : List ℕ) where
+  -- the branches of one step
+  module _ (best : Best) (at : ℕ) (nlri : List ℕ) (tier : ℕ) (stands : nlri ≡ nlriAt t at) (is : tier ≡ tierAt router source group class nlri) where
+    here : tier ≡ tierAt router source group class (nlriAt t at)
+    here = is ∙ ap (tierAt router source group class) stands
+
+    pub no-tier : tier ≡ 0 → best ≡ betterAt router source group class t best at
+    unfolding betterAt
+    no-tier e = picks _ _ _ _ (eq-eqb _ _ (sym here ∙ e)) refl
+
+    pub goes-ahead : (flag : Bool) → (tier ≡ 0 → ⊥) → flag ≡ aheadAt t tier at best → flag ≡ true → record { tier = tier; start = at } ≡ betterAt router source group class t best at
+    unfolding betterAt
+    goes-ahead flag some f holds =
+        skips _ _ _ _ (ne-eqb _ _ (λ e. some (here ∙ e)))
+        (picks _ _ _ _ (ap (λ (k : ℕ). aheadAt t k at best) (sym here) ∙ sym f ∙ holds) (ap (λ (k : ℕ). record { tier = k; start = at }) here))
+
+    pub stays-behind : (flag : Bool) → (tier ≡ 0 → ⊥) → flag ≡ aheadAt t tier at best → flag ≡ false → best ≡ betterAt router source group class t best at
+    unfolding betterAt
+    stays-behind flag some f fails =
+        skips _ _ _ _ (ne-eqb _ _ (λ e. some (here ∙ e))) (skips _ _ _ _ (ap (λ (k : ℕ). aheadAt t k at best) (sym here) ∙ sym f ∙ fails) refl)
+
+  -- what is the best after a step was the best before, or stands at the step's place
+  better-one : (P : ℕ → Type 0) (best : Best) (at : ℕ) → Kept P best → P at → Kept P (betterAt router source group class t best at)
+  unfolding betterAt
+  better-one P best at old new = picked-one P _ _ best _ old (λ h. new)
+
+  -- so many places less to go
+  scan-step : (left at : ℕ) (best : Best) → 0 < left → scanAt router source group class t left at best ≡ scanAt router source group class t (left - 1) (at + 128) (betterAt router source group class t best at)
+  unfolding scanAt
+  scan-step zero at best h = absurd (omega arith)
+  scan-step (suc left) at best h = ap (λ (k : ℕ). scanAt router source group class t k (at + 128) (betterAt router source group class t best at)) (sym (less left))
+    where
+      less : (n : ℕ) → suc n - 1 ≡ n
+      less n = omega arith
+
+  scan-end : (left at : ℕ) (best : Best) → left ≤ 0 → scanAt router source group class t left at best ≡ best
+  unfolding scanAt
+  scan-end zero at best h = refl
+  scan-end (suc left) at best h = absurd (omega arith)
+
+-- places still to come
+place-here : (P : ℕ → Type 0) (left at : ℕ) → ((k : ℕ) → k < left → P (at + 128 * k)) → 0 < left → P at
+place-here P left at all some = let e : at + 128 * 0 ≡ at = omega arith in subst P e (all 0 some)
+
+places-next : (P : ℕ → Type 0) (left at : ℕ) → ((k : ℕ) → k < left → P (at + 128 * k)) → 0 < left → (k : ℕ) → k < left - 1 → P (at + 128 + 128 * k)
+places-next P left at all some k h = let e : at + 128 * (k + 1) ≡ at + 128 + 128 * k = omega arith in subst P e (all (k + 1) (omega arith))
+
+-- the loop: what the scan comes to is what the rest of it comes to from the best so far on
+pub record Going (router source group : List ℕ) (class : ℕ) (t : List ℕ) (count : ℕ) (best : Best) (at left : ℕ) : Type 0 where
+  pub same : scanAt router source group class t count 8 noneYet ≡ scanAt router source group class t left at best
+  pub coming : (k : ℕ) → k < left → Readable t (at + 128 * k)
+  pub kept : Kept (Readable t) best
+
+module _ (router source group : List ℕ) (class : ℕ) (t : List ℕ) (count : ℕ) where
+  pub going-first : ((k : ℕ) → k < count → Readable t (8 + 128 * k)) → Going router source group class t count (record { tier = 0; start = 0 }) 8 count
+  unfolding noneYet
+  going-first all = record { same = refl; coming = all; kept = λ h. absurd (h refl) }
+
+  module _ (best : Best) (at left : ℕ) (going : Going router source group class t count best at left) where
+    pub going-here : 0 < left → Readable t at × Kept (Readable t) best
+    going-here some = (place-here (Readable t) left at (going .coming) some, going .kept)
+
+    pub going-next : 0 < left → (next : Best) → next ≡ betterAt router source group class t best at → Going router source group class t count next (at + 128) (left - 1)
+    going-next some next e =
+        rw e (record {
+          same = going .same ∙ scan-step router source group class t left at best some;
+          coming = places-next (Readable t) left at (going .coming) some;
+          kept = better-one router source group class t (Readable t) best at (going .kept) (going-here some .0);
+        })
+
+    pub going-last : left ≤ 0 → best ≡ scanAt router source group class t count 8 noneYet
+    going-last none = sym (going .same ∙ scan-end router source group class t left at best none)
+
+-- no route so far, and one
+pub best-none : (t : List ℕ) (best : Best) → best .tier ≡ 0 → bestIn t best ≡ nothing
+unfolding bestIn
+best-none t best e = pick-true _ _ _ (eq-eqb _ _ e)
+
+pub best-some : (t : List ℕ) (best : Best) → (best .tier ≡ 0 → ⊥) → bestIn t best ≡ found (best .tier) (routeIn (part t (best .start) 128))
+unfolding bestIn
+best-some t best h = pick-false _ _ _ (ne-eqb _ _ h)
+
+-- the place of the best route, cut out of the table
+pub best-writable : (t place output : List ℕ) (best : Best) → Answerable t best output → (best .tier ≡ 0 → ⊥) → place ≡ part t (best .start) 128 → Writable place output
+best-writable t place output best all some e = rw e (all some .1)

@@ -1,19 +1,23 @@
 -- What the scan for a flow computes.
-use Prim.Native.Nat.{ℕ, _+_, _/_, _≤_}
+use Prim.Native.Nat.{ℕ, zero, suc, _+_, _/_, _≤_}
 use mathlib.Core.Path.{_≡_}
+use mathlib.Core.Bool.{Bool, true, false}
 use mathlib.Core.List.{List, []}
-use lib.Dec.{eqb}
+use lib.Dec.{ltb, eqb}
 use lib.ListN.{length, getD, drop}
+use Rattle.octets.specs.Numbers.{FLOW}
 use Rattle.octets.specs.Choice.{pick}
-use Rattle.octets.specs.Outcome.{given}
+use Rattle.octets.specs.Outcome.{Outcome, given, refused}
 use Rattle.octets.specs.Octets.{part}
-use Rattle.octets.specs.Order.{same}
+use Rattle.octets.specs.Order.{same, before}
 use Rattle.nlri.specs.Fields.{Fields}
-use Rattle.nlri.specs.Groups.{ASM, SSM}
+use Rattle.nlri.specs.Family.{originatorSize}
+use Rattle.nlri.specs.Groups.{ASM, SSM, classOf}
 use Rattle.tunnel.specs.Attribute.{fieldsIn, readAttribute}
 use Rattle.routes.specs.Route.{nlriOf, attributeOf}
-use Rattle.routes.specs.Place.{endIn, routeIn}
-use Rattle.routes.specs.Matching.{wildcard}
+use Rattle.routes.specs.Place.{PLACE, endIn, routeIn}
+use Rattle.routes.specs.Matching.{wildcard, Found, nothing, found}
+use Rattle.table.specs.declared.scan.Best.{Best}
 
 -- Where the fields of an S-PMSI NLRI stand: the distinguisher behind the header, then a source and a group, each behind its length octet
 -- in bits, then the originator.
@@ -68,3 +72,48 @@ pub record Writable (place output : List ℕ) : Type 0 where
   pub read : readAttribute (attributeOf (routeIn place)) ≡ given (fieldsIn (attributeOf (routeIn place)))
   pub most : length (nlriOf (routeIn place)) + length (attributeOf (routeIn place)) ≤ 124
   pub room : 124 ≤ length output
+
+-- the NLRI in the place that starts at an octet of the table
+unfoldable pub nlriAt : (table : List ℕ) (at : ℕ) → List ℕ
+nlriAt t at = nlriOf (routeIn (part t at PLACE))
+
+-- a place starts there, and the fields of its NLRI stand within it
+pub record Readable (t : List ℕ) (at : ℕ) : Type 0 where
+  pub within : at + PLACE ≤ length t
+  pub ends : endIn (part t at PLACE) ≤ PLACE
+  pub bounded : Bounded (nlriAt t at)
+
+-- a route of a tier goes ahead of the best so far
+unfoldable pub aheadAt : (table : List ℕ) (tier at : ℕ) → Best → Bool
+aheadAt t tier at best =
+    pick (eqb (best .tier) 0) true
+    (pick (ltb tier (best .tier)) true
+    (pick (eqb tier (best .tier)) (before (standing (nlriAt t at) .distinguisher) (standing (nlriAt t (best .start)) .distinguisher)) false))
+
+module _ (router source group : List ℕ) (class : ℕ) (t : List ℕ) where
+  -- the best so far with the route at one more place
+  unfoldable pub betterAt : Best → (at : ℕ) → Best
+  betterAt best at =
+      pick (eqb (tierAt router source group class (nlriAt t at)) 0) best
+      (pick (aheadAt t (tierAt router source group class (nlriAt t at)) at best) (record { tier = tierAt router source group class (nlriAt t at); start = at }) best)
+
+  -- with the routes at so many places more
+  unfoldable pub scanAt : ℕ → (at : ℕ) → Best → Best
+  scanAt zero at best = best
+  scanAt (suc count) at best = scanAt count (at + PLACE) (betterAt best at)
+
+unfoldable pub noneYet : Best
+noneYet = record { tier = 0; start = 0 }
+
+-- the route that is the best so far
+unfoldable pub bestIn : (table : List ℕ) → Best → Found
+bestIn t best = pick (eqb (best .tier) 0) nothing (found (best .tier) (routeIn (part t (best .start) PLACE)))
+
+-- where there is a best route so far, its place is in the table, and its route can be written
+abbrev pub Answerable : (table : List ℕ) → Best → (output : List ℕ) → Type 0
+Answerable t best output = (best .tier ≡ 0 → ⊥) → (best .start + PLACE ≤ length t) × Writable (part t (best .start) PLACE) output
+
+-- the class of a flow's group under a good AFI; FLOW for a flow that a match does not take
+unfoldable pub flowClass : (afi : ℕ) (router source group : List ℕ) → Outcome ℕ
+flowClass afi router source group =
+    pick (originatorSize (length router)) (pick (eqb (length source) (length group)) (classOf afi group) (refused FLOW)) (refused FLOW)

@@ -8,10 +8,13 @@ ghost use Rattle.tunnel.specs.Attribute.{fieldsIn, readAttribute};
 ghost use Rattle.routes.specs.Place.{routeIn};
 ghost use Rattle.routes.specs.Matching.{found};
 ghost use Rattle.routes.specs.Calls.{foundAnswer, foundOutput};
-ghost use Rattle.table.specs.Scanning.{Writable};
+ghost use Rattle.table.specs.Scanning.{Writable, bestIn, Answerable};
 use crate::place;
+use crate::scan::Best;
 use octets::number::DONE;
 use routes::Matched;
+
+const PLACE: usize = 128;
 
 // Writes an attribute as it was read, into the output's remaining part, and answers its size.
 fn write_attribute(attribute: &[u8], output: &mut [u8], at: usize) -> usize
@@ -45,4 +48,23 @@ pub(crate) fn write_route(tier: u32, place: &[u8], output: &mut [u8]) -> Matched
         nlri_size: nlri_size as u32,
         attribute_size: attribute_size as u32,
     }
+}
+
+// No match leaves the output untouched.
+pub(crate) fn answer(table: &[u8], best: Best, output: &mut [u8]) -> Matched
+    requires { ⌜ Answerable (now table) best (now output) ⌝ }
+    ensures { λ r. ⌜ r ≡ foundAnswer (bestIn (now (table .entry)) best) ⌝ }
+    ensures { λ r. ⌜ now (output .exit) ≡ foundOutput (bestIn (now (table .entry)) best) (now (output .entry)) ⌝ }
+{
+    let tier = best.tier;
+    let start = best.start;
+    if tier == 0 {
+        return Matched {
+            number: DONE,
+            tier: 0,
+            nlri_size: 0,
+            attribute_size: 0,
+        };
+    }
+    write_route(tier, octets::parts::between(table, start, PLACE), output)
 }

@@ -1,1 +1,100 @@
-// The route that a flow takes, found in a sound table.
+// The best route for a flow, found in one pass over a sound table's places.
+ghost use mathlib.Core.Path.{_≡_};
+ghost use mathlib.Core.List.{List};
+ghost use Prim.Native.Nat.{ℕ, _+_, _*_, _<_};
+ghost use Rattle.octets.specs.Order.{before};
+ghost use Rattle.table.specs.Scanning.{standing, nlriAt, Readable, aheadAt, betterAt, scanAt, noneYet};
+use crate::place;
+use crate::tier;
+use octets::order;
+use octets::parts;
+
+const HEADER: usize = 8;
+
+const PLACE: usize = 128;
+
+// The best route so far: its tier, and where its place starts. Tier 0 is no route.
+pub(crate) struct Best {
+    pub tier: u32,
+    pub start: usize,
+}
+
+fn nlri_at(table: &[u8], at: usize) -> &[u8]
+    requires { ⌜ Readable (now table) at ⌝ }
+    ensures { λ r. ⌜ now r ≡ nlriAt (now (table .entry)) at ⌝ }
+{
+    place::nlri_in(parts::between(table, at, PLACE))
+}
+
+// Route distinguishers are compared as eight octets.
+fn is_lower(table: &[u8], at: usize, other: usize) -> bool
+    requires { ⌜ Readable (now table) at × Readable (now table) other ⌝ }
+    ensures { λ r. ⌜ r ≡ before (standing (nlriAt (now (table .entry)) at) .distinguisher) (standing (nlriAt (now (table .entry)) other) .distinguisher) ⌝ }
+{
+    order::comes_before(
+        tier::distinguisher_in(nlri_at(table, at)),
+        tier::distinguisher_in(nlri_at(table, other)),
+    )
+}
+
+// The lower tier, then the lower route distinguisher.
+fn is_ahead(table: &[u8], tier: u32, at: usize, best: Best) -> bool
+    requires { ⌜ Readable (now table) at × ((best .tier ≡ 0 → ⊥) → Readable (now table) (best .start)) ⌝ }
+    ensures { λ r. ⌜ r ≡ aheadAt (now (table .entry)) tier at best ⌝ }
+{
+    if best.tier == 0 {
+        return true;
+    }
+    if tier < best.tier {
+        return true;
+    }
+    if tier != best.tier {
+        return false;
+    }
+    let start = best.start;
+    is_lower(table, at, start)
+}
+
+fn better(
+    table: &[u8],
+    router: &[u8],
+    source: &[u8],
+    group: &[u8],
+    class: u32,
+    best: Best,
+    at: usize,
+) -> Best
+    requires { ⌜ Readable (now table) at × ((best .tier ≡ 0 → ⊥) → Readable (now table) (best .start)) ⌝ }
+    ensures { λ r. ⌜ r ≡ betterAt (now (router .entry)) (now (source .entry)) (now (group .entry)) class (now (table .entry)) best at ⌝ }
+{
+    let tier = tier::tier_of(nlri_at(table, at), router, source, group, class);
+    if tier == 0 {
+        return best;
+    }
+    if is_ahead(table, tier, at, best) {
+        return Best { tier, start: at };
+    }
+    best
+}
+
+pub(crate) fn scan(
+    table: &[u8],
+    count: usize,
+    router: &[u8],
+    source: &[u8],
+    group: &[u8],
+    class: u32,
+) -> Best
+    requires { ⌜ ((k : ℕ) → k < count → Readable (now table) (8 + 128 * k)) ⌝ }
+    ensures { λ r. ⌜ r ≡ scanAt (now (router .entry)) (now (source .entry)) (now (group .entry)) class (now (table .entry)) count 8 noneYet ⌝ }
+{
+    let mut best = Best { tier: 0, start: 0 };
+    let mut at = HEADER;
+    let mut left = count;
+    while 0 < left {
+        best = better(table, router, source, group, class, best, at);
+        at += PLACE;
+        left -= 1;
+    }
+    best
+}
