@@ -6,12 +6,10 @@ mod find;
 mod flow;
 mod header;
 mod judge;
+mod making;
 mod place;
 mod scan;
 mod sound;
 mod tier;
-mod making;
-mod scan;
-mod sound;
 
 pub use making::make;
