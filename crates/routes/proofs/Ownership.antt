@@ -43,10 +43,6 @@ pub owner-read : (afi : ℕ) (nlri : List ℕ) (f : Fields) → readSPmsi afi nl
 unfolding originatorOf onOutcome
 owner-read afi nlri f e = rw e
 
-pub owner-unread : (afi : ℕ) (nlri : List ℕ) (n : ℕ) → readSPmsi afi nlri ≡ refused n → originatorOf afi nlri ≡ nobody
-unfolding originatorOf onOutcome
-owner-unread afi nlri n e = rw e
-
 pub owned-itself : (router : List ℕ) (o : Owner) → o ≡ owner router → ownedBy router o ≡ true
 unfolding ownedBy
 owned-itself router o e = rw e (equal-same router router refl)
