@@ -1,6 +1,6 @@
 -- What the number that a call answers tells of its outcome.
 use Prim.Native.Nat.{ℕ}
-use mathlib.Core.Path.{_≡_, refl, sym, ap}
+use mathlib.Core.Path.{_≡_, sym, ap}
 use mathlib.Core.Logic.{_≢_}
 use Rattle.octets.specs.Numbers.{DONE}
 use Rattle.octets.specs.Outcome.{Outcome, given, refused, numberOf}
@@ -17,9 +17,3 @@ refused-number e = rw e
 pub given-number : {A : Type 0} {o : Outcome A} {a : A} → o ≡ given a → numberOf o ≡ DONE
 unfolding numberOf
 given-number e = rw e
-
--- where no refusal is DONE, DONE comes with a value
-pub done-given : {A : Type 0} (o : Outcome A) → ((n : ℕ) → o ≡ refused n → n ≢ DONE) → numberOf o ≡ DONE → (a : A) × (o ≡ given a)
-unfolding numberOf
-done-given (given a) h e = (a, refl)
-done-given (refused n) h e = absurd (h n refl e)

@@ -21,13 +21,14 @@ use Rattle.routes.specs.Table.{imageOf, afiIn, placesIn, routesOf, sound
 use Rattle.routes.specs.Calls.{NEW, REPLACED, installedOf, entering, installOutcome, installOf}
 use Rattle.routes.specs.Images.{Holdable, TableOf}
 use Rattle.routes.specs.CallRules.{InstallRefusal, installUnsound, badRoute, noRoom, Installable, IsHeld, Free, Full, InstallRule}
-use Rattle.routes.proofs.Answered.{number-refused, refused-number, given-number, done-given}
+use Rattle.routes.proofs.Answered.{number-refused, refused-number, given-number}
 use Rattle.routes.proofs.ArgumentRules.{argumentRule}
 use Rattle.routes.proofs.Bounds.{route-read, read-acceptable}
 use Rattle.routes.proofs.ByArguments.{route-number}
 use Rattle.routes.proofs.Holding.{holdable-inserted}
 use Rattle.routes.proofs.Images.{images, sound, sound-holdable, image-length}
 use Rattle.routes.proofs.Lookups.{absent-holds, holds-absent, held-holds, holds-held, lookup-inserted-same, lookup-inserted-other}
+use Rattle.routes.proofs.NotDone.{done-given}
 
 -- a route that is acceptable enters a table
 module _ (t : List ℕ) (r : Route) where

@@ -27,7 +27,6 @@ use Rattle.routes.proofs.Images.{images, sound-holdable}
 use Rattle.routes.proofs.InstallRules.{installRule, install-done, install-octets}
 use Rattle.routes.proofs.Lookups.{lookup-none, lookup-member, member-lookup, increasing-distinct}
 use Rattle.routes.proofs.MakeRules.{makeRule}
-use Rattle.routes.proofs.MatchRefusals.{matchRefusals}
 use Rattle.routes.proofs.WithdrawRules.{withdrawRule, withdraw-done, withdraw-octets}
 
 -- octets that a call on a sound table leaves
@@ -152,4 +151,4 @@ module _ (afi : ℕ) (memory : List ℕ) (calls : List Call) (done : makeOf afi 
 
 pub lastInstalled : LastInstalled
 lastInstalled =
-    record { arguments = argumentRule; make = makeRule; install = installRule; withdraw = withdrawRule; match = matchRefusals; kept = kept; each = each }
+    record { arguments = argumentRule; make = makeRule; install = installRule; withdraw = withdrawRule; kept = kept; each = each }

@@ -13,6 +13,7 @@ pub mod Bounds
 pub mod Places
 pub mod Headers
 pub mod ByArguments
+pub mod NotDone
 pub mod Images
 pub mod Holding
 pub mod ArgumentRules
@@ -20,7 +21,6 @@ pub mod Answered
 pub mod MakeRules
 pub mod InstallRules
 pub mod WithdrawRules
-pub mod MatchRefusals
 pub mod Decisions
 pub mod LastInstalled
 pub mod Distincts

@@ -20,9 +20,10 @@ use Rattle.routes.specs.Table.{imageOf, placesIn, tableSize}
 use Rattle.routes.specs.Calls.{makeOutcome, makeOf}
 use Rattle.routes.specs.Images.{Family, Holdable, TableOf}
 use Rattle.routes.specs.CallRules.{TableSize, MakeRefusal, noFamily, badSize, MakeRule}
-use Rattle.routes.proofs.Answered.{number-refused, refused-number, given-number, done-given}
+use Rattle.routes.proofs.Answered.{number-refused, refused-number, given-number}
 use Rattle.routes.proofs.Headers.{size-sound, sound-size}
 use Rattle.routes.proofs.Images.{images, make-given, make-refused, image-length}
+use Rattle.routes.proofs.NotDone.{done-given}
 
 -- a table's size, as it is tested
 size-is : (memory : List ℕ) → tableSize (length memory) ≡ true → TableSize (length memory)

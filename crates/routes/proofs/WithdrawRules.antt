@@ -18,12 +18,13 @@ use Rattle.routes.specs.Table.{imageOf, afiIn, placesIn, routesOf, sound
 use Rattle.routes.specs.Calls.{leaving, withdrawOutcome, withdrawOf}
 use Rattle.routes.specs.Images.{Holdable, TableOf}
 use Rattle.routes.specs.CallRules.{WithdrawRefusal, withdrawUnsound, badName, notHeld, Withdrawable, IsHeld, WithdrawRule}
-use Rattle.routes.proofs.Answered.{number-refused, refused-number, given-number, done-given}
+use Rattle.routes.proofs.Answered.{number-refused, refused-number, given-number}
 use Rattle.routes.proofs.ArgumentRules.{argumentRule, nlri-accepted, nlri-accepts}
 use Rattle.routes.proofs.ByArguments.{s-pmsi-number}
 use Rattle.routes.proofs.Holding.{holdable-removed}
 use Rattle.routes.proofs.Images.{images, sound, sound-holdable, image-length}
 use Rattle.routes.proofs.Lookups.{absent-holds, holds-absent, held-holds, holds-held, lookup-removed-same, lookup-removed-other, increasing-distinct, length-removed-held}
+use Rattle.routes.proofs.NotDone.{done-given}
 
 -- what a withdrawal that is not refused found
 pub record Left (t nlri : List ℕ) : Type 0 where

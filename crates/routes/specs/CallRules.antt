@@ -1,22 +1,21 @@
--- What the calls on a table answer and leave, in document 01's notions ("The numbers a call gives back", "The table memory").
--- Stated here, proved in proofs/CallRules.antt.
+-- What making a table, install and withdraw answer and leave, in document 01's notions ("The numbers a call gives back", "The table
+-- memory"). Proved in proofs/ArgumentRules, MakeRules, InstallRules and WithdrawRules; specs/MatchRule.antt is on match.
 use Prim.Native.Nat.{ℕ, suc, _+_, _*_, _≤_, _<_}
 use mathlib.Core.Path.{_≡_}
 use mathlib.Core.Bool.{true, false}
 use mathlib.Core.List.{List, []}
 use mathlib.Core.Logic.{_↔_, _≢_, _⊎_}
 use lib.ListN.{length}
-use Rattle.octets.specs.Numbers.{DONE, LABEL, FAMILY, TABLE, KIND, ROOM, ABSENT, FLOW, SPACE}
+use Rattle.octets.specs.Numbers.{DONE, LABEL, FAMILY, TABLE, KIND, ROOM, ABSENT}
 use Rattle.octets.specs.Outcome.{given, refused}
 use Rattle.nlri.specs.Fields.{Fields}
 use Rattle.nlri.specs.Reading.{readNlri}
-use Rattle.nlri.specs.Statements.{Multicast}
 use Rattle.tunnel.specs.Attribute.{labelOf, readAttribute}
 use Rattle.tunnel.specs.Attribute.{Fields as AttributeFields}
 use Rattle.routes.specs.Route.{route, absent, held, lookup, inserted, removed}
 use Rattle.routes.specs.Arguments.{readSPmsi, readRoute}
 use Rattle.routes.specs.Table.{afiIn, placesIn, routesOf, soundOf}
-use Rattle.routes.specs.Calls.{NEW, REPLACED, makeOf, installOf, withdrawOf, matchOf}
+use Rattle.routes.specs.Calls.{NEW, REPLACED, makeOf, installOf, withdrawOf}
 use Rattle.routes.specs.Images.{Family, TableOf}
 
 -- a well-formed S-PMSI NLRI: NLRI reading accepts it with no octets after it, and it is of type 3
@@ -136,30 +135,3 @@ pub record WithdrawRule : Type 0 where
   pub size : (t nlri : List ℕ) → length (withdrawOf t nlri .octets) ≡ length t
   -- a refusal changes no octet
   pub untouched : (t nlri : List ℕ) → withdrawOf t nlri .answer ≢ DONE → withdrawOf t nlri .octets ≡ t
-
--- an address of the family's size
-pub data AddressSize : (afi size : ℕ) → Type 0 where
-  ipv4 : AddressSize 1 4
-  ipv6 : AddressSize 2 16
-
--- a router address of 4 or 16 octets, a source of the family's size, a multicast group of the family
-pub record FlowOf (afi : ℕ) (router source group : List ℕ) : Type 0 where
-  pub routerSize : (length router ≡ 4) ⊎ (length router ≡ 16)
-  pub sourceSize : AddressSize afi (length source)
-  pub multicast : Multicast afi group
-
--- why match refuses: TABLE, FLOW, SPACE
-pub data MatchRefusal (t router source group output : List ℕ) : ℕ → Type 0 where
-  matchUnsound : soundOf t ≡ false → MatchRefusal t router source group output TABLE
-  badFlow : soundOf t ≡ true → (FlowOf (afiIn t) router source group → ⊥) → MatchRefusal t router source group output FLOW
-  noSpace : soundOf t ≡ true → FlowOf (afiIn t) router source group → length output < 124 → MatchRefusal t router source group output SPACE
-
-pub record MatchRefusals : Type 0 where
-  pub refuses : (t router source group output : List ℕ) (n : ℕ) → n ≢ DONE → (matchOf t router source group output .answer .number ≡ n) ↔ MatchRefusal t router source group output n
-  pub table : (t router source group output : List ℕ) → (matchOf t router source group output .answer .number ≡ TABLE) ↔ (soundOf t ≡ false)
-  pub done : (t router source group output : List ℕ)
-      → (matchOf t router source group output .answer .number ≡ DONE) ↔ ((soundOf t ≡ true) × FlowOf (afiIn t) router source group × (124 ≤ length output))
-  -- a refusal has empty fields and leaves the output as it was
-  pub empty : (t router source group output : List ℕ) (n : ℕ) → n ≢ DONE → matchOf t router source group output .answer .number ≡ n
-      → matchOf t router source group output .answer ≡ record { number = n; tier = 0; «nlri_size» = 0; «attribute_size» = 0 }
-  pub untouched : (t router source group output : List ℕ) → matchOf t router source group output .answer .number ≢ DONE → matchOf t router source group output .octets ≡ output

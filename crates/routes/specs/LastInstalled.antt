@@ -14,7 +14,7 @@ use Rattle.routes.specs.Table.{imageOf, afiIn, placesIn, routesOf, sound
 use Rattle.routes.specs.Calls.{makeOf}
 use Rattle.routes.specs.Call.{Call, install, withdraw, match, Answer, installed, withdrawn, matched}
 use Rattle.routes.specs.Run.{Step, stepOf, runFrom, endOf}
-use Rattle.routes.specs.CallRules.{ArgumentRule, MakeRule, InstallRule, WithdrawRule, MatchRefusals}
+use Rattle.routes.specs.CallRules.{ArgumentRule, MakeRule, InstallRule, WithdrawRule}
 
 -- a call was accepted: it answers DONE
 unfoldable pub accepted : Answer → Bool
@@ -72,7 +72,6 @@ pub record LastInstalled : Type 0 where
   pub make : MakeRule
   pub install : InstallRule
   pub withdraw : WithdrawRule
-  pub match : MatchRefusals
   -- every list of calls, with no premise on room; so it holds after each call, since calls as far as that one are a list of calls
   pub kept : (afi : ℕ) (memory : List ℕ) (calls : List Call) → makeOf afi memory .answer ≡ DONE → Kept afi memory calls
   pub each : (t : List ℕ) (earlier : List Call) (c : Call) (later : List Call)
