@@ -23,6 +23,5 @@ pub mod Faults
 pub mod ReadRefusals
 pub mod WriteRefusals
 pub mod Walks
-pub mod Marked
 pub mod Classes
 pub mod Theorems

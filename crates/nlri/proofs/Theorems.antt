@@ -1,9 +1,8 @@
--- What is proved of the definitions as a whole; specs/Statements.antt and specs/Examples.antt say what each states.
+-- What is proved of the definitions as a whole; specs/Statements.antt says what each states.
 pub use Rattle.nlri.proofs.Lengths.{lengths}
 pub use Rattle.nlri.proofs.Acceptance.{acceptance}
 pub use Rattle.nlri.proofs.RoundTrips.{roundTrips}
 pub use Rattle.nlri.proofs.ReadRefusals.{readRefusals}
 pub use Rattle.nlri.proofs.WriteRefusals.{writeRefusals}
 pub use Rattle.nlri.proofs.Walks.{stepRule, walkRule}
-pub use Rattle.nlri.proofs.Marked.{markedExamples}
 pub use Rattle.nlri.proofs.Classes.{groupRule}

@@ -11,4 +11,3 @@ pub mod Answers
 pub mod Inner
 pub mod InnerWriting
 pub mod Statements
-pub mod Examples

@@ -9,6 +9,7 @@ pub mod OnePass
 pub mod Flows
 pub mod Taken
 pub mod MatchRule
+pub mod Marked
 pub mod Bounds
 pub mod Places
 pub mod Headers

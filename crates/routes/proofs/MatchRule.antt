@@ -56,32 +56,32 @@ data Cause (t router source group output : List ℕ) : (number : ℕ) → Type 0
   unsound : soundOf t ≡ false → Cause t router source group output TABLE
   misled : soundOf t ≡ true → (GoodFlow (afiIn t) router source group → ⊥) → Cause t router source group output FLOW
   cramped : soundOf t ≡ true → GoodFlow (afiIn t) router source group → length output < 124 → Cause t router source group output SPACE
-  served : soundOf t ≡ true → GoodFlow (afiIn t) router source group → 124 ≤ length output → Cause t router source group output DONE
+  answered : soundOf t ≡ true → GoodFlow (afiIn t) router source group → 124 ≤ length output → Cause t router source group output DONE
 
 module _ (t router source group output : List ℕ) where
   caused-table : {n : ℕ} → Cause t router source group output n → (n ≡ TABLE) ↔ (soundOf t ≡ false)
   caused-table (unsound b) = (λ e. b, λ b. refl)
   caused-table (misled s g) = (λ e. absurd (omega arith), λ b. absurd (opposite s b))
   caused-table (cramped s g l) = (λ e. absurd (omega arith), λ b. absurd (opposite s b))
-  caused-table (served s g l) = (λ e. absurd (omega arith), λ b. absurd (opposite s b))
+  caused-table (answered s g l) = (λ e. absurd (omega arith), λ b. absurd (opposite s b))
 
   caused-flow : {n : ℕ} → soundOf t ≡ true → Cause t router source group output n → (n ≡ FLOW) ↔ (GoodFlow (afiIn t) router source group → ⊥)
   caused-flow sound (unsound b) = absurd (opposite sound b)
   caused-flow sound (misled s g) = (λ e. g, λ g. refl)
   caused-flow sound (cramped s g l) = (λ e. absurd (omega arith), λ bad. absurd (bad g))
-  caused-flow sound (served s g l) = (λ e. absurd (omega arith), λ bad. absurd (bad g))
+  caused-flow sound (answered s g l) = (λ e. absurd (omega arith), λ bad. absurd (bad g))
 
   caused-space : {n : ℕ} → soundOf t ≡ true → Cause t router source group output n → (n ≡ SPACE) ↔ (GoodFlow (afiIn t) router source group × (length output < 124))
   caused-space sound (unsound b) = absurd (opposite sound b)
   caused-space sound (misled s g) = (λ e. absurd (omega arith), λ h. absurd (g (h .0)))
   caused-space sound (cramped s g l) = (λ e. (g, l), λ h. refl)
-  caused-space sound (served s g l) = (λ e. absurd (omega arith), λ h. absurd (omega (arith, h .1)))
+  caused-space sound (answered s g l) = (λ e. absurd (omega arith), λ h. absurd (omega (arith, h .1)))
 
   caused-done : {n : ℕ} → Cause t router source group output n → (n ≡ DONE) ↔ ((soundOf t ≡ true) × GoodFlow (afiIn t) router source group × (124 ≤ length output))
   caused-done (unsound b) = (λ e. absurd (omega arith), λ h. absurd (opposite (h .0) b))
   caused-done (misled s g) = (λ e. absurd (omega arith), λ h. absurd (g (h .1)))
   caused-done (cramped s g l) = (λ e. absurd (omega arith), λ h. absurd (omega (arith, h .2)))
-  caused-done (served s g l) = (λ e. (s, g, l), λ h. refl)
+  caused-done (answered s g l) = (λ e. (s, g, l), λ h. refl)
 
   -- a flow that is good, with room for the answer, on a sound table
   served-outcome : (q : Query) → soundOf t ≡ true → readFlow (afiIn t) router source group ≡ given q → 124 ≤ length output
@@ -124,7 +124,7 @@ module _ (t router source group output : List ℕ) where
       (λ less. refusing SPACE (refused-outcome SPACE sound (sym (goes _ _ _ _ (flow .1) (sym (pick-true _ _ _ less))))) (cramped sound good (ltb-true _ _ less)))
       (λ enough.
       let room : 124 ≤ length output = ltb-false _ _ enough in
-      subst (Cause t router source group output) (sym (ap (λ (c : Changed Matched). c .answer .number) (serving sound (flow .0) (flow .1) room) ∙ found-number _)) (served sound good room)))
+      subst (Cause t router source group output) (sym (ap (λ (c : Changed Matched). c .answer .number) (serving sound (flow .0) (flow .1) room) ∙ found-number _)) (answered sound good room)))
       (λ flow.
       let is : flow .0 ≡ FLOW = flow-refused (afiIn t) router source group (flow .0) (sound-holdable t sound .family) (flow .1) in
       refusing FLOW (refused-outcome FLOW sound (sym (stops _ _ _ (flow .1 ∙ ap refused is)))) (misled sound (λ good. never (flow-given (afiIn t) router source group good .1) (flow .1))))
@@ -233,7 +233,7 @@ module _ (t router source group output : List ℕ) where
 pub matchRule : MatchRule
 matchRule =
     record {
-      taken = λ afi router source group q rs e d. found-taken afi router source group q (flow-asked afi router source group q e) rs d;
+      chosen = λ afi router source group q rs e d. found-taken afi router source group q (flow-asked afi router source group q e) rs d;
       none = λ afi router source group q rs e. nothing-taken afi router source group q (flow-asked afi router source group q e) rs;
       table = λ t router source group output. caused-table t router source group output (cause t router source group output);
       flow = λ t router source group output sound. caused-flow t router source group output sound (cause t router source group output);
@@ -241,6 +241,6 @@ matchRule =
       done = λ t router source group output. caused-done t router source group output (cause t router source group output);
       refusal = refused-untold;
       tierless = found-tierless;
-      untold = found-untold;
-      told = found-taken-told;
+      silent = found-untold;
+      tells = found-taken-told;
     }

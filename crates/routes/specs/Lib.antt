@@ -16,3 +16,4 @@ pub mod LastInstalled
 pub mod MatchRule
 pub mod Occurrences
 pub mod MixedCalls
+pub mod Examples

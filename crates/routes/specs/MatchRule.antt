@@ -79,7 +79,7 @@ pub record Untold (output : List ℕ) (changed : Changed Matched) : Type 0 where
 
 pub record MatchRule : Type 0 where
   -- over any routes with no NLRI twice, in any order
-  pub taken : (afi : ℕ) (router source group : List ℕ) (q : Query) (rs : List Route) → readFlow afi router source group ≡ given q → Distinct rs
+  pub chosen : (afi : ℕ) (router source group : List ℕ) (q : Query) (rs : List Route) → readFlow afi router source group ≡ given q → Distinct rs
       → (tier : ℕ) (r : Route) → (matchIn afi q rs ≡ found tier r) ↔ Taken afi router source group rs tier r
   pub none : (afi : ℕ) (router source group : List ℕ) (q : Query) (rs : List Route) → readFlow afi router source group ≡ given q
       → (matchIn afi q rs ≡ nothing) ↔ NoneTaken afi router source group rs
@@ -95,9 +95,9 @@ pub record MatchRule : Type 0 where
   -- tier 0 exactly when no candidate meets any tier's condition
   pub tierless : (t router source group output : List ℕ) → matchOf t router source group output .answer .number ≡ DONE
       → (matchOf t router source group output .answer .tier ≡ 0) ↔ NoneTaken (afiIn t) router source group (routesOf t)
-  pub untold : (t router source group output : List ℕ) → matchOf t router source group output .answer .number ≡ DONE → matchOf t router source group output .answer .tier ≡ 0
+  pub silent : (t router source group output : List ℕ) → matchOf t router source group output .answer .number ≡ DONE → matchOf t router source group output .answer .tier ≡ 0
       → Untold output (matchOf t router source group output)
   -- any other tier is that of the route that the flow takes, which is told
-  pub told : (t router source group output : List ℕ) → matchOf t router source group output .answer .number ≡ DONE → matchOf t router source group output .answer .tier ≢ 0
+  pub tells : (t router source group output : List ℕ) → matchOf t router source group output .answer .number ≡ DONE → matchOf t router source group output .answer .tier ≢ 0
       → (r : Route) × Taken (afiIn t) router source group (routesOf t) (matchOf t router source group output .answer .tier) r
       × Told (matchOf t router source group output .answer .tier) r output (matchOf t router source group output)
