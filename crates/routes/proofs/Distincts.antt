@@ -1,9 +1,9 @@
 -- Laws of `Among`, `PutIn` and `distinct`: what is drawn from a list, each element once, is no more than the list's distinct elements.
 use Prim.Native.Nat.{ℕ, suc, _≤_}
-use mathlib.Core.Path.{_≡_, refl, ap, _∙_}
+use mathlib.Core.Path.{_≡_, refl, sym, ap, subst, _∙_}
 use mathlib.Core.Bool.{true, false}
 use mathlib.Core.List.{List, [], _∷_, _++_}
-use mathlib.Core.Logic.{_⊎_, inl, inr, ⊎-elim}
+use mathlib.Core.Logic.{_↔_, _⊎_, inl, inr, ⊎-elim}
 use native.Mathlib.Omega.{arith}
 use lib.ListN.{length}
 use Rattle.octets.specs.Order.{same}
@@ -22,17 +22,11 @@ pub among-left : {A : Type 0} {x : A} {xs : List A} (ys : List A) → Among x xs
 among-left ys (first e) = first e
 among-left ys (later m) = later (among-left ys m)
 
-pub among-right : {A : Type 0} {x : A} (xs : List A) {ys : List A} → Among x ys → Among x (xs ++ ys)
-among-right [] m = m
-among-right (z ∷ xs) m = later (among-right xs m)
-
-pub among-either : {A : Type 0} {x : A} (xs ys : List A) → Among x (xs ++ ys) → Among x xs ⊎ Among x ys
-among-either [] ys m = inr m
-among-either (z ∷ xs) ys (first e) = inl (first e)
-among-either (z ∷ xs) ys (later m) = ⊎-elim (λ a. inl (later a)) (λ b. inr b) (among-either xs ys m)
-
 pub nowhere : {A : Type 0} {x : A} → Among x [] → ⊥
 nowhere m = elim m [ ]
+
+among-as : {A : Type 0} {x y : A} {xs : List A} → x ≡ y → Among x xs → Among y xs
+among-as {xs = xs} e m = subst (λ z. Among z xs) e m
 
 pub among-cases : {A : Type 0} {x y : A} {ys : List A} → Among x (y ∷ ys) → (x ≡ y) ⊎ Among x ys
 among-cases (first e) = inl e
@@ -76,12 +70,40 @@ pub data Once {A : Type 0} : List A → Type 0 where
   none : Once []
   one : {x : A} {xs : List A} → (Among x xs → ⊥) → Once xs → Once (x ∷ xs)
 
+once-put : {A : Type 0} {x : A} {ys zs : List A} → PutIn x ys zs → (Among x ys → ⊥) → Once ys → Once zs
+once-put front n o = one n o
+once-put {x = x} (behind {y} p) n (Once.one k o) = one (λ m. ⊎-elim (λ e. n (first (sym e))) k (put-other p m)) (once-put p (λ m. n (later m)) o)
+
+put-once : {A : Type 0} {x : A} {ys zs : List A} → PutIn x ys zs → Once zs → (Among x ys → ⊥) × Once ys
+put-once front (Once.one n o) = (n, o)
+put-once (behind p) (Once.one n o) =
+    let q = put-once p o in
+    (λ m. ⊎-elim (λ e. n (rw (← e) (put-itself p))) (λ a. q .0 a) (among-cases m), one (λ m. n (put-kept p m)) (q .1))
+
+pub once-rearranged : {A : Type 0} {xs ys : List A} → Rearranged xs ys → Once xs → Once ys
+once-rearranged Rearranged.none o = o
+once-rearranged (Rearranged.one p r) (Once.one n o) = once-put p (λ m. n (among-rearranged r m)) (once-rearranged r o)
+
+-- lists without repetition that have the same elements are rearranged
+pub rearranged-once : {A : Type 0} {xs : List A} (ys : List A) → Once xs → Once ys → ((x : A) → Among x xs ↔ Among x ys) → Rearranged xs ys
+rearranged-once [] Once.none o h = Rearranged.none
+rearranged-once (y ∷ ys) Once.none o h = absurd (nowhere (h y .1 (first refl)))
+rearranged-once ys (Once.one {x} {xs} n u) o h =
+    let p = put-among (h x .0 (first refl)) in
+    let q = put-once (p .1) o in
+    Rearranged.one (p .1)
+    (rearranged-once (p .0) u (q .1)
+    (λ z. (
+      λ m. ⊎-elim (λ e. absurd (n (among-as e m))) (λ a. a) (put-other (p .1) (h z .0 (later m))),
+      λ m. ⊎-elim (λ e. absurd (q .0 (among-as e m))) (λ a. a) (among-cases (h z .1 (put-kept (p .1) m))),
+    )))
+
 pub pigeonhole : {A : Type 0} {xs : List A} (ys : List A) → Once xs → ((x : A) → Among x xs → Among x ys) → length xs ≤ length ys
 pigeonhole ys Once.none h = omega arith
 pigeonhole ys (Once.one {x} {xs} n o) h =
     let p = put-among (h x (first refl)) in
     let fewer : length xs ≤ length (p .0) =
-    pigeonhole (p .0) o (λ z m. ⊎-elim (λ e. absurd (n (rw (← e) m))) (λ a. a) (put-other (p .1) (h z (later m)))) in
+    pigeonhole (p .0) o (λ z m. ⊎-elim (λ e. absurd (n (among-as e m))) (λ a. a) (put-other (p .1) (h z (later m)))) in
     rw (put-length (p .1)) (omega arith)
 
 -- `has` and `distinct`

@@ -161,9 +161,6 @@ lookup-inserted-same r rs = lookup-inserted (nlriOf r) r rs ∙ lookup-own r rs
 pub lookup-inserted-other : (nlri : List ℕ) (r : Route) (rs : List Route) → same nlri (nlriOf r) ≡ false → lookup nlri (inserted r rs) ≡ lookup nlri rs
 lookup-inserted-other nlri r rs d = lookup-inserted nlri r rs ∙ lookup-later nlri r rs d
 
-pub lookup-entered-same : (r : Route) (rs : List Route) → lookup (nlriOf r) (entered r rs) ≡ held (attributeOf r)
-lookup-entered-same r rs = lookup-entered (nlriOf r) r rs ∙ lookup-own r rs
-
 pub lookup-entered-other : (nlri : List ℕ) (r : Route) (rs : List Route) → same nlri (nlriOf r) ≡ false → lookup nlri (entered r rs) ≡ lookup nlri rs
 lookup-entered-other nlri r rs d = lookup-entered nlri r rs ∙ lookup-later nlri r rs d
 
@@ -389,10 +386,6 @@ length-removed-held nlri (q ∷ rs) h =
 pub acceptable-member : {afi : ℕ} {r : Route} {rs : List Route} → AllAcceptable afi rs → Member r rs → acceptable afi r ≡ true
 acceptable-member (AllAcceptable.one h a) here = h
 acceptable-member (AllAcceptable.one h a) (there m) = acceptable-member a m
-
-pub members-acceptable : (afi : ℕ) (rs : List Route) → ((r : Route) → Member r rs → acceptable afi r ≡ true) → AllAcceptable afi rs
-members-acceptable afi [] h = AllAcceptable.none
-members-acceptable afi (r ∷ rs) h = AllAcceptable.one (h r here) (members-acceptable afi rs (λ q m. h q (there m)))
 
 pub acceptable-inserted : (afi : ℕ) (r : Route) {rs : List Route} → acceptable afi r ≡ true → AllAcceptable afi rs → AllAcceptable afi (inserted r rs)
 unfolding inserted

@@ -8,18 +8,18 @@ use Rattle.routes.specs.Table.{imageOf, placesIn}
 use Rattle.routes.specs.Images.{Family}
 use Rattle.routes.specs.Calls.{makeOf}
 use Rattle.routes.specs.Call.{Call, nobody, ownerOf}
-use Rattle.routes.specs.Book.{ownCalls, distinct, routersOf, gathered, allBooks}
+use Rattle.routes.specs.Book.{fed, ownCalls, bookOf, distinct, routersOf, gathered, allBooks}
 use Rattle.routes.specs.Run.{stepOf, runFrom, endOf, imageOfBooks, Fits}
-use Rattle.routes.specs.Occurrences.{Among, Occurrence, callIn, occurrencesOf, callsOf, ownOccurrences, Answered, answersWith, answersOf, ownAnswers, inTurn}
-use Rattle.routes.specs.MixedCalls.{Alone, Refused, Reordered, Alike, Claim, MixedCalls}
+use Rattle.routes.specs.Occurrences.{Among, Rearranged, Occurrence, callIn, occurrencesOf, callsOf, ownOccurrences, Answered, answersWith, answersOf, ownAnswers, inTurn}
+use Rattle.routes.specs.MixedCalls.{Alone, OfNobody, Reordered, Alike, Claim, MixedCalls}
 use Rattle.routes.proofs.Images.{images}
 use Rattle.routes.proofs.MakeRules.{made-holdable}
 use Rattle.routes.proofs.Ownership.{nobody-refused}
 use Rattle.routes.proofs.AllBooks.{own-drawn, nobody-owns}
-use Rattle.routes.proofs.Distincts.{rearranged-among, among-rearranged}
+use Rattle.routes.proofs.Distincts.{rearranged-among, among-rearranged, once-rearranged, rearranged-once}
 use Rattle.routes.proofs.DueSteps.{due-nobody}
 use Rattle.routes.proofs.Runs.{fits-drawn, fits-earlier, next-step, run-due, end-due}
-use Rattle.routes.proofs.Reorders.{occurrences-calls, own-calls, call-among, among-calls, dueAnswers, answers-due, own-answers, own-not, answers-carried, same-books}
+use Rattle.routes.proofs.Reorders.{occurrences-calls, own-calls, call-among, among-calls, dueAnswers, answers-due, occurrences-once, answers-once, own-answers, own-not, answers-carried, same-books}
 use Rattle.routes.proofs.Turns.{in-turn}
 
 made-books : (afi places : ℕ) → imageOf afi places [] ≡ imageOfBooks afi places []
@@ -58,15 +58,18 @@ module _ (afi places : ℕ) (family : Family afi) (most : places ≤ 500) (t : L
               ∙ sym (answers-are (ownOccurrences afi router (occurrencesOf calls)) (subst (Fits afi places) (sym (own-is router)) own));
         }
 
-    of-nobody : (earlier later : List Call) (c : Call) → calls ≡ earlier ++ (c ∷ later) → ownerOf afi c ≡ nobody → Refused afi (endOf t earlier) c
+    of-nobody : (earlier later : List Call) (c : Call) → calls ≡ earlier ++ (c ∷ later) → ownerOf afi c ≡ nobody → OfNobody afi t earlier c
+    unfolding bookOf
     of-nobody earlier later c e h =
         let room : Fits afi places (earlier ++ (c ∷ later)) = subst (Fits afi places) e fits in
         let end : endOf t earlier ≡ imageOfBooks afi places earlier = ends earlier (fits-earlier afi places earlier (c ∷ later) room) in
         let s = next-step afi places family most earlier c later room in
+        let own : (router : List ℕ) → ownCalls afi router (earlier ++ (c ∷ [])) ≡ ownCalls afi router earlier = λ router. own-not afi router earlier c (nobody-owns afi router c h) in
         record {
           number = nobody-refused afi c h;
           answer = ap (λ (x : List ℕ). stepOf x c .answer) end ∙ s .answer ∙ due-nobody afi earlier c h;
-          octets = ap (λ (x : List ℕ). stepOf x c .octets) end ∙ s .octets ∙ same-books afi places (earlier ++ (c ∷ [])) earlier (λ router. own-not afi router earlier c (nobody-owns afi router c h)) ∙ sym end;
+          books = λ router. ap (fed afi []) (own router);
+          octets = ap (λ (x : List ℕ). stepOf x c .octets) end ∙ s .octets ∙ same-books afi places (earlier ++ (c ∷ [])) earlier own ∙ sym end;
         }
 
     module _ (others : List Occurrence) (order : Reordered afi calls others) where
@@ -81,16 +84,24 @@ module _ (afi places : ℕ) (family : Family afi) (most : places ≤ 500) (t : L
       same-own : (router : List ℕ) → ownCalls afi router (callsOf others) ≡ ownCalls afi router calls
       same-own router = sym (own-calls afi router others) ∙ ap callsOf (order .kept router) ∙ own-is router
 
+      each : (a : Answered) → Among a (dueAnswers afi [] (occurrencesOf calls)) ↔ Among a (dueAnswers afi [] others)
+      each a = (
+        answers-carried afi (occurrencesOf calls) others (λ router. sym (order .kept router)) (λ o m. rearranged-among (order .rearranged) m) a,
+        answers-carried afi others (occurrencesOf calls) (order .kept) (λ o m. among-rearranged (order .rearranged) m) a,
+      )
+
+      same-answers : Rearranged (dueAnswers afi [] (occurrencesOf calls)) (dueAnswers afi [] others)
+      same-answers =
+          rearranged-once (dueAnswers afi [] others) (answers-once afi [] (occurrences-once calls)) (answers-once afi [] (once-rearranged (order .rearranged) (occurrences-once calls))) each
+
       any-order : Alike afi places t calls others
       any-order =
+          let here : dueAnswers afi [] (occurrencesOf calls) ≡ answersOf t (occurrencesOf calls) = sym (answers-are (occurrencesOf calls) fits-occurrences) in
+          let there : dueAnswers afi [] others ≡ answersOf t others = sym (answers-are others fits-others) in
           record {
             fits = fits-others;
-            answers =
-                λ a.
-                subst₂ (λ (x y : List Answered). Among a x ↔ Among a y) (sym (answers-are (occurrencesOf calls) fits-occurrences)) (sym (answers-are others fits-others)) (
-                  answers-carried afi (occurrencesOf calls) others (λ router. sym (order .kept router)) (λ o m. rearranged-among (order .rearranged) m) a,
-                  answers-carried afi others (occurrencesOf calls) (order .kept) (λ o m. among-rearranged (order .rearranged) m) a,
-                );
+            answers = subst₂ (λ (x y : List Answered). Rearranged x y) here there same-answers;
+            each = λ a. subst₂ (λ (x y : List Answered). Among a x ↔ Among a y) here there (each a);
             end = ends (callsOf others) fits-others ∙ same-books afi places (callsOf others) calls same-own ∙ sym (ends calls fits);
           }
 
@@ -104,7 +115,7 @@ module _ (afi places : ℕ) (family : Family afi) (most : places ≤ 500) (t : L
           occurrences = occurrences-calls calls;
           anyOrder = any-order;
           turn = in-turn afi calls;
-          turned = any-order (inTurn afi calls) (in-turn afi calls);
+          turned = λ routers order. any-order (inTurn afi routers calls) (in-turn afi calls routers order);
         }
 
 pub mixedCalls : MixedCalls

@@ -8,8 +8,8 @@ use native.Mathlib.Omega.{arith}
 use lib.ListN.{length}
 use Rattle.octets.specs.Numbers.{DONE}
 use Rattle.octets.specs.Outcome.{Outcome, given, refused, onOutcome, numberOf}
-use Rattle.octets.proofs.Outcomes.{pick-true}
 use Rattle.octets.specs.Order.{before}
+use Rattle.octets.proofs.Outcomes.{pick-true}
 use Rattle.octets.proofs.Inversions.{opposite, given-same, only, unless, passed}
 use Rattle.octets.proofs.Orders.{same-equal, equal-same, before-none}
 use Rattle.nlri.specs.Family.{originatorSize}
@@ -17,9 +17,9 @@ use Rattle.nlri.specs.Fields.{Fields}
 use Rattle.routes.specs.Route.{Route, route, nlriOf, attributeOf}
 use Rattle.routes.specs.Arguments.{Query, readSPmsi, readRoute, readFlow, readMatch}
 use Rattle.routes.specs.Place.{acceptable}
+use Rattle.routes.specs.Call.{Call, install, withdraw, match, Owner, nobody, owner, originatorOf, ownerOf, ownedBy, refusalOf}
 use Rattle.routes.proofs.Bounds.{Accepted, accepted, route-read, read-acceptable, nlri-size}
 use Rattle.routes.proofs.ByArguments.{s-pmsi-number, route-number, match-number}
-use Rattle.routes.specs.Call.{Call, install, withdraw, match, Owner, nobody, owner, originatorOf, ownerOf, ownedBy, refusalOf}
 
 -- an accepted install
 pub route-accepted : (afi : ℕ) (nlri attribute : List ℕ) (r : Route) → readRoute afi nlri attribute ≡ given r → Accepted afi nlri attribute
@@ -42,10 +42,6 @@ acceptable-after-none afi r h = let a = accepted afi r h in named-after-none afi
 pub owner-read : (afi : ℕ) (nlri : List ℕ) (f : Fields) → readSPmsi afi nlri ≡ given f → originatorOf afi nlri ≡ owner (f .originator)
 unfolding originatorOf onOutcome
 owner-read afi nlri f e = rw e
-
-pub owner-unread : (afi : ℕ) (nlri : List ℕ) (n : ℕ) → readSPmsi afi nlri ≡ refused n → originatorOf afi nlri ≡ nobody
-unfolding originatorOf onOutcome
-owner-unread afi nlri n e = rw e
 
 pub owned-itself : (router : List ℕ) (o : Owner) → o ≡ owner router → ownedBy router o ≡ true
 unfolding ownedBy

@@ -1,19 +1,20 @@
 -- Answers of occurrences: a router's own do not depend on the other calls, so that another order that keeps each router's own gives
 -- the same answers and the same end.
-use Prim.Native.Nat.{ℕ, suc}
+use Prim.Native.Nat.{ℕ, suc, _≤_}
 use mathlib.Core.Path.{_≡_, refl, sym, ap, ap₂, subst, _∙_}
 use mathlib.Core.Bool.{true, false}
 use mathlib.Core.List.{List, [], _∷_, _++_, append-nil}
 use mathlib.Core.Logic.{⊎-elim}
+use native.Mathlib.Omega.{arith}
 use Rattle.octets.proofs.Picked.{tested}
 use Rattle.routes.specs.Route.{lookup}
 use Rattle.routes.specs.Table.{imageOf}
 use Rattle.routes.specs.Call.{Call, Answer, Owner, nobody, owner, originatorOf, ownerOf, owns, refusalOf, refusalAnswer}
 use Rattle.routes.specs.Book.{fed, ownCalls, bookOf, bookAnswer, allBooks, dueAnswer}
 use Rattle.routes.specs.Run.{imageOfBooks, dueFrom}
-use Rattle.routes.specs.Occurrences.{Among, first, later, Occurrence, callIn, numberedFrom, occurrencesOf, callsOf, chosen, ownOccurrences, Answered, answered, occurrenceIn, answersWith, ownAnswers}
+use Rattle.routes.specs.Occurrences.{Among, first, later, Occurrence, occurrence, callIn, numberedFrom, occurrencesOf, callsOf, chosen, ownOccurrences, Answered, answered, occurrenceIn, answersWith, ownAnswers}
 use Rattle.routes.proofs.Lookups.{lookup-arranged, increasing-equal}
-use Rattle.routes.proofs.Distincts.{nowhere, among-cases}
+use Rattle.routes.proofs.Distincts.{nowhere, among-cases, Once}
 use Rattle.routes.proofs.AllBooks.{own-first, own-later, own-append, own-owner, owner-own, lookup-all, lookup-nobody, books-increasing}
 use Rattle.routes.proofs.DueSteps.{due-owned, due-nobody}
 use Rattle.routes.proofs.Chosen.{chosen-first, chosen-later, chosen-among, among-chosen}
@@ -47,6 +48,22 @@ unfolding callsOf
 among-calls [] m = absurd (nowhere m)
 among-calls (o ∷ os) m = ⊎-elim (λ e. (o, e, first refl)) (λ a. let p = among-calls os a in (p .0, p .1, later (p .2))) (among-cases m)
 
+-- no occurrence stands twice
+
+numbered-from : (n m : ℕ) (c : Call) (calls : List Call) → Among (occurrence m c) (numberedFrom n calls) → n ≤ m
+unfolding numberedFrom
+numbered-from n m c [] k = absurd (nowhere k)
+numbered-from n m c (x ∷ xs) k = ⊎-elim (λ e. let p : m ≡ n = cc in omega arith) (λ a. omega (arith, numbered-from (suc n) m c xs a)) (among-cases k)
+
+numbered-once : (n : ℕ) (calls : List Call) → Once (numberedFrom n calls)
+unfolding numberedFrom
+numbered-once n [] = Once.none
+numbered-once n (c ∷ cs) = Once.one (λ (m : Among (occurrence n c) (numberedFrom (suc n) cs)). omega (arith, numbered-from (suc n) n c cs m)) (numbered-once (suc n) cs)
+
+pub occurrences-once : (calls : List Call) → Once (occurrencesOf calls)
+unfolding occurrencesOf
+occurrences-once calls = numbered-once 0 calls
+
 -- what occurrences are due after other calls
 pub dueAnswers : ℕ → (earlier : List Call) → List Occurrence → List Answered
 dueAnswers afi earlier [] = []
@@ -56,6 +73,20 @@ pub answers-due : (afi places : ℕ) (earlier : List Call) (os : List Occurrence
 unfolding answersWith dueFrom callsOf dueAnswers
 answers-due afi places earlier [] = refl
 answers-due afi places earlier (o ∷ os) = ap (λ (l : List Answered). answered o (dueAnswer afi earlier (callIn o)) ∷ l) (answers-due afi places (earlier ++ (callIn o ∷ [])) os)
+
+answered-parts : {o x : Occurrence} {a b : Answer} → answered o a ≡ answered x b → (o ≡ x) × (a ≡ b)
+answered-parts e = (cc, cc)
+
+answer-among : {o : Occurrence} {a : Answer} (afi : ℕ) (earlier : List Call) (os : List Occurrence) → Among (answered o a) (dueAnswers afi earlier os) → Among o os
+unfolding dueAnswers
+answer-among afi earlier [] m = absurd (nowhere m)
+answer-among afi earlier (x ∷ os) m = ⊎-elim (λ e. first (answered-parts e .0)) (λ b. later (answer-among afi (earlier ++ (callIn x ∷ [])) os b)) (among-cases m)
+
+pub answers-once : (afi : ℕ) (earlier : List Call) {os : List Occurrence} → Once os → Once (dueAnswers afi earlier os)
+unfolding dueAnswers
+answers-once afi earlier Once.none = Once.none
+answers-once afi earlier (Once.one {x = o} {xs = os} n u) =
+    Once.one (λ m. n (answer-among afi (earlier ++ (callIn o ∷ [])) os m)) (answers-once afi (earlier ++ (callIn o ∷ [])) u)
 
 -- a router's own
 
@@ -101,9 +132,6 @@ own-answers afi router earlier (o ∷ os) =
     ∙ sym (ap (dueAnswers afi (ownCalls afi router earlier)) (chosen-later _ o os f)))
 
 -- nobody's
-
-answered-parts : {o x : Occurrence} {a b : Answer} → answered o a ≡ answered x b → (o ≡ x) × (a ≡ b)
-answered-parts e = (cc, cc)
 
 nobodys-answer : (afi : ℕ) (o : Occurrence) (a : Answer) (earlier : List Call) (os : List Occurrence) → ownerOf afi (callIn o) ≡ nobody → Among (answered o a) (dueAnswers afi earlier os)
     → (a ≡ refusalAnswer (callIn o) (refusalOf afi (callIn o))) × Among o os

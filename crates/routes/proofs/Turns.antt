@@ -13,7 +13,7 @@ use Rattle.routes.specs.Call.{Call, Owner, nobody, owner, ownerOf}
 use Rattle.routes.specs.Book.{has, distinct, withOwner, routersOf}
 use Rattle.routes.specs.Occurrences.{Among, first, later, PutIn, front, behind, Rearranged, none, one, Occurrence, callIn, occurrencesOf, chosen, ownOccurrences, isNobody, nobodysOccurrences, turns, inTurn}
 use Rattle.routes.specs.MixedCalls.{Reordered}
-use Rattle.routes.proofs.Distincts.{nowhere, among-cases, Once, has-among, among-has, among-distinct, once-distinct}
+use Rattle.routes.proofs.Distincts.{nowhere, among-cases, Once, has-among, among-has, among-distinct, once-distinct, rearranged-among, once-rearranged}
 use Rattle.routes.proofs.Chosen.{chosen-first, chosen-later, chosen-append, chosen-passes, chosen-all, chosen-none}
 use Rattle.routes.proofs.AllBooks.{own-owner, owner-own, owners-same}
 use Rattle.routes.proofs.Ownership.{owner-nobody}
@@ -161,13 +161,11 @@ module _ (afi : ℕ) where
             turns-foreign router routers os (λ m. opposite (among-has m) f)
             ∙ sym (none-own router os (λ o m e. opposite (among-has (h o router m e)) f))
 
-pub in-turn : (afi : ℕ) (calls : List Call) → Reordered afi calls (inTurn afi calls)
+pub in-turn : (afi : ℕ) (calls : List Call) (routers : List (List ℕ)) → Rearranged (distinct (routersOf afi calls)) routers → Reordered afi calls (inTurn afi routers calls)
 unfolding inTurn
-in-turn afi calls =
-    record {
-      rearranged = turns-rearranged afi (distinct (routersOf afi calls)) (once-distinct (routersOf afi calls)) (occurrencesOf calls) owners;
-      kept = turns-kept afi (distinct (routersOf afi calls)) (once-distinct (routersOf afi calls)) (occurrencesOf calls) owners;
-    }
+in-turn afi calls routers order =
+    let once : Once routers = once-rearranged order (once-distinct (routersOf afi calls)) in
+    record { rearranged = turns-rearranged afi routers once (occurrencesOf calls) owners; kept = turns-kept afi routers once (occurrencesOf calls) owners }
   where
-    owners : (o : Occurrence) (router : List ℕ) → Among o (occurrencesOf calls) → ownerOf afi (callIn o) ≡ owner router → Among router (distinct (routersOf afi calls))
-    owners o router m h = among-distinct (routersOf afi calls) (router-among afi (subst (Among (callIn o)) (occurrences-calls calls) (call-among m)) h)
+    owners : (o : Occurrence) (router : List ℕ) → Among o (occurrencesOf calls) → ownerOf afi (callIn o) ≡ owner router → Among router routers
+    owners o router m h = rearranged-among order (among-distinct (routersOf afi calls) (router-among afi (subst (Among (callIn o)) (occurrences-calls calls) (call-among m)) h))

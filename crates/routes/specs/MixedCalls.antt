@@ -8,7 +8,7 @@ use Rattle.octets.specs.Order.{zeros}
 use Rattle.routes.specs.Table.{placesIn}
 use Rattle.routes.specs.Calls.{makeOf}
 use Rattle.routes.specs.Call.{Call, install, nobody, ownerOf, refusalOf, refusalAnswer}
-use Rattle.routes.specs.Book.{ownCalls}
+use Rattle.routes.specs.Book.{ownCalls, bookOf, distinct, routersOf}
 use Rattle.routes.specs.Run.{stepOf, runFrom, endOf, imageOfBooks, dueFrom, Fits}
 use Rattle.routes.specs.Occurrences.{Among, Rearranged, Occurrence, occurrencesOf, callsOf, ownOccurrences, Answered, answersOf, ownAnswers, inTurn}
 
@@ -19,11 +19,12 @@ pub record Alone (afi places : ℕ) (table : List ℕ) (calls : List Call) (rout
   pub own : callsOf (ownOccurrences afi router (occurrencesOf calls)) ≡ ownCalls afi router calls
   pub answers : ownAnswers afi router (answersOf table (occurrencesOf calls)) ≡ answersOf table (ownOccurrences afi router (occurrencesOf calls))
 
--- a call of nobody is refused, with the first refusal that its arguments and the family cause, and changes no octet
-pub record Refused (afi : ℕ) (table : List ℕ) (call : Call) : Type 0 where
+-- a call of nobody after others is refused, with the first refusal that its arguments and the family cause; it changes no book and no octet
+pub record OfNobody (afi : ℕ) (table : List ℕ) (earlier : List Call) (call : Call) : Type 0 where
   pub number : refusalOf afi call ≢ DONE
-  pub answer : stepOf table call .answer ≡ refusalAnswer call (refusalOf afi call)
-  pub octets : stepOf table call .octets ≡ table
+  pub answer : stepOf (endOf table earlier) call .answer ≡ refusalAnswer call (refusalOf afi call)
+  pub books : (router : List ℕ) → bookOf afi router (earlier ++ (call ∷ [])) ≡ bookOf afi router earlier
+  pub octets : stepOf (endOf table earlier) call .octets ≡ endOf table earlier
 
 -- the same calls in another order that keeps each router's own; nobody's stand anywhere
 pub record Reordered (afi : ℕ) (calls : List Call) (others : List Occurrence) : Type 0 where
@@ -34,7 +35,9 @@ pub record Reordered (afi : ℕ) (calls : List Call) (others : List Occurrence) 
 pub record Alike (afi places : ℕ) (table : List ℕ) (calls : List Call) (others : List Occurrence) : Type 0 where
   -- the premise holds of that order too
   pub fits : Fits afi places (callsOf others)
-  pub answers : (a : Answered) → Among a (answersOf table (occurrencesOf calls)) ↔ Among a (answersOf table others)
+  -- the same occurrences with the same answers
+  pub answers : Rearranged (answersOf table (occurrencesOf calls)) (answersOf table others)
+  pub each : (a : Answered) → Among a (answersOf table (occurrencesOf calls)) ↔ Among a (answersOf table others)
   pub end : endOf table (callsOf others) ≡ endOf table calls
 
 -- what holds of calls on a table just made
@@ -44,13 +47,13 @@ pub record Claim (afi places : ℕ) (table : List ℕ) (calls : List Call) : Typ
   pub due : runFrom table calls ≡ dueFrom afi places [] calls
   pub end : endOf table calls ≡ imageOfBooks afi places calls
   pub alone : (router : List ℕ) → Alone afi places table calls router
-  pub nobodys : (earlier later : List Call) (call : Call) → calls ≡ earlier ++ (call ∷ later) → ownerOf afi call ≡ nobody → Refused afi (endOf table earlier) call
+  pub nobodys : (earlier later : List Call) (call : Call) → calls ≡ earlier ++ (call ∷ later) → ownerOf afi call ≡ nobody → OfNobody afi table earlier call
   -- occurrences are those of the calls
   pub occurrences : callsOf (occurrencesOf calls) ≡ calls
   pub anyOrder : (others : List Occurrence) → Reordered afi calls others → Alike afi places table calls others
-  -- one router after another is such an order
-  pub turn : Reordered afi calls (inTurn afi calls)
-  pub turned : Alike afi places table calls (inTurn afi calls)
+  -- one router after another is such an order, whichever router comes first
+  pub turn : (routers : List (List ℕ)) → Rearranged (distinct (routersOf afi calls)) routers → Reordered afi calls (inTurn afi routers calls)
+  pub turned : (routers : List (List ℕ)) → Rearranged (distinct (routersOf afi calls)) routers → Alike afi places table calls (inTurn afi routers calls)
 
 -- demand 3: every list of calls on a table just made, of either family and any number of places, whose installs together name no more
 -- different well-formed S-PMSI NLRIs than there are places

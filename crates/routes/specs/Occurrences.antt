@@ -5,7 +5,6 @@ use mathlib.Core.Bool.{Bool, true, false}
 use mathlib.Core.List.{List, [], _∷_, _++_}
 use Rattle.octets.specs.Choice.{pick}
 use Rattle.routes.specs.Call.{Call, Answer, Owner, nobody, owner, ownerOf, owns}
-use Rattle.routes.specs.Book.{distinct, routersOf}
 use Rattle.routes.specs.Run.{Step, runFrom}
 
 -- x is among these
@@ -86,5 +85,5 @@ turns afi [] os = []
 turns afi (router ∷ routers) os = ownOccurrences afi router os ++ turns afi routers os
 
 -- one router after another, and then nobody's calls
-unfoldable pub inTurn : ℕ → List Call → List Occurrence
-inTurn afi calls = turns afi (distinct (routersOf afi calls)) (occurrencesOf calls) ++ nobodysOccurrences afi (occurrencesOf calls)
+unfoldable pub inTurn : ℕ → (routers : List (List ℕ)) → List Call → List Occurrence
+inTurn afi routers calls = turns afi routers (occurrencesOf calls) ++ nobodysOccurrences afi (occurrencesOf calls)
