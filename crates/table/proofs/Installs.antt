@@ -10,7 +10,6 @@ use Rattle.octets.specs.Numbers.{DONE, TABLE, ROOM}
 use Rattle.octets.specs.Outcome.{Outcome, given, refused, onOutcome, andThen, numberOf}
 use Rattle.octets.specs.Octets.{AllOctets}
 use Rattle.octets.proofs.Outcomes.{pick-true, pick-false}
-use Rattle.routes.specs.declared.Installed.{Installed}
 use Rattle.routes.specs.Route.{route, nlriOf, attributeOf, inserted}
 use Rattle.routes.specs.Arguments.{readRoute}
 use Rattle.routes.specs.Place.{placeOf}
@@ -20,13 +19,9 @@ use Rattle.routes.proofs.Bounds.{route-read, read-acceptable, sizes-of}
 use Rattle.routes.proofs.Images.{routes-length, sound-holdable, sound-image}
 use Rattle.routes.proofs.NotDone.{done-given, route-not-done}
 use Rattle.routes.proofs.Places.{place-length}
-use Rattle.table.specs.Changing.{rank, firstIs, replacedAt, addedAt}
+use Rattle.table.specs.Changing.{rank, firstIs, replacedAt, addedAt, Installs}
 use Rattle.table.proofs.Finds.{held-by}
 use Rattle.table.proofs.Changes.{image-entered-held, image-entered-new}
-
--- install on t answers r and leaves u
-abbrev pub Installs : (t n a : List ℕ) (r : Installed) (u : List ℕ) → Type 0
-Installs t n a r u = (r ≡ installOf t n a .answer) × (u ≡ installOf t n a .octets)
 
 refuses : (t n a : List ℕ) (m : ℕ) → installOutcome t n a ≡ refused m → Installs t n a (record { number = m; outcome = 0 }) t
 unfolding installOf installedOf onOutcome numberOf

@@ -14,14 +14,10 @@ use Rattle.routes.specs.Table.{afiIn, countIn, placesIn, routesOf, imageOf, sou
 use Rattle.routes.specs.Calls.{leaving, withdrawOutcome, withdrawOf}
 use Rattle.routes.proofs.Images.{routes-length, sound-holdable, sound-image}
 use Rattle.routes.proofs.NotDone.{done-given, s-pmsi-not-done}
-use Rattle.table.specs.Changing.{rank, firstIs, takenAt}
+use Rattle.table.specs.Changing.{rank, firstIs, takenAt, Withdraws}
 use Rattle.table.proofs.Finds.{held-by}
 use Rattle.table.proofs.Changes.{image-left}
 use Rattle.table.proofs.Installs.{refused-by}
-
--- withdraw on t answers r and leaves u
-abbrev pub Withdraws : (t n : List ℕ) (r : ℕ) (u : List ℕ) → Type 0
-Withdraws t n r u = (r ≡ withdrawOf t n .answer) × (u ≡ withdrawOf t n .octets)
 
 refuses : (t n : List ℕ) (m : ℕ) → withdrawOutcome t n ≡ refused m → Withdraws t n m t
 unfolding withdrawOf onOutcome numberOf

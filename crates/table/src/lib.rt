@@ -3,6 +3,11 @@
 mod change;
 mod find;
 mod header;
+mod installing;
 mod judge;
 mod scan;
 mod sound;
+mod withdrawing;
+
+pub use installing::install;
+pub use withdrawing::withdraw;
