@@ -1,5 +1,6 @@
 -- Laws that the functions' proofs use.
 pub mod Sounds
+pub mod Makes
 pub mod Moves
 pub mod Places
 pub mod Ranks

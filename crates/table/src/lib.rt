@@ -5,9 +5,12 @@ mod find;
 mod header;
 mod installing;
 mod judge;
+mod making;
 mod scan;
 mod sound;
 mod withdrawing;
 
 pub use installing::install;
 pub use withdrawing::withdraw;
+
+pub use making::make;
