@@ -4,7 +4,7 @@ ghost use mathlib.Core.Bool.{true, false};
 ghost use lib.ListN.{drop};
 ghost use Rattle.octets.specs.Outcome.{numberOf};
 ghost use Rattle.routes.specs.Arguments.{readRoute};
-ghost use Rattle.routes.specs.Table.{afiIn, countIn, routesOf, soundOf};
+ghost use Rattle.routes.specs.Table.{afiIn, routesOf, soundOf};
 ghost use Rattle.routes.specs.Calls.{installOf};
 ghost use Rattle.table.specs.Changing.{rank, firstIs, Installs};
 use crate::change;

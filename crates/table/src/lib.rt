@@ -11,6 +11,5 @@ mod sound;
 mod withdrawing;
 
 pub use installing::install;
-pub use withdrawing::withdraw;
-
 pub use making::make;
+pub use withdrawing::withdraw;
