@@ -128,9 +128,6 @@ image-taken afi places xs ys q a h =
 nowhere : Route
 nowhere = route [] []
 
-taken-size : {A : Type 0} (k : ℕ) (rs : List A) → k ≤ length rs → length (take k rs) ≡ k
-taken-size k rs h = length-take-le k rs h
-
 -- a table's octets with a route entered over the one of the same NLRI
 pub image-entered-held : (afi places : ℕ) (rs : List Route) (r : Route) → Holdable afi places rs → length (placeOf r) ≡ 128 → firstIs (nlriOf r) (drop (rank (nlriOf r) rs) rs) ≡ true
     → replacedAt (rank (nlriOf r) rs) (placeOf r) (imageOf afi places rs) ≡ imageOf afi places (inserted r rs)
@@ -139,7 +136,7 @@ image-entered-held afi places rs r h p f =
     let q : Route = getD rs k nowhere in
     let within : k < length rs = first-within (nlriOf r) rs k f in
     let split : rs ≡ take k rs ++ (q ∷ drop (suc k) rs) = split-at rs k nowhere within in
-    let size : length (take k rs) ≡ k = taken-size k rs (omega arith) in
+    let size : length (take k rs) ≡ k = length-take-le k rs (omega arith) in
     ap₂ (λ (i : ℕ) (l : List Route). replacedAt i (placeOf r) (imageOf afi places l)) (sym size) split
     ∙ image-replaced afi places (take k rs) (drop (suc k) rs) q r (subst (AllAcceptable afi) split (h .acceptable)) p
     ∙ ap (imageOf afi places) (sym (inserted-held r rs f))
@@ -150,7 +147,7 @@ pub image-entered-new : (afi places : ℕ) (rs : List Route) (r : Route) → Hol
 image-entered-new afi places rs r h p f room =
     let k : ℕ = rank (nlriOf r) rs in
     let split : rs ≡ take k rs ++ drop k rs = sym (take-append-drop k rs) in
-    let size : length (take k rs) ≡ k = taken-size k rs (rank-most (nlriOf r) rs) in
+    let size : length (take k rs) ≡ k = length-take-le k rs (rank-most (nlriOf r) rs) in
     ap₂ (λ (i : ℕ) (l : List Route). addedAt i (length l) (placeOf r) (imageOf afi places l)) (sym size) split
     ∙ image-added afi places (take k rs) (drop k rs) r (subst (AllAcceptable afi) split (h .acceptable)) p (subst (λ (l : List Route). length l < places) split room)
     ∙ ap (imageOf afi places) (sym (inserted-new r rs f))
@@ -163,7 +160,7 @@ image-left afi places rs n h f =
     let q : Route = getD rs k nowhere in
     let within : k < length rs = first-within n rs k f in
     let split : rs ≡ take k rs ++ (q ∷ drop (suc k) rs) = split-at rs k nowhere within in
-    let size : length (take k rs) ≡ k = taken-size k rs (omega arith) in
+    let size : length (take k rs) ≡ k = length-take-le k rs (omega arith) in
     ap₂ (λ (i : ℕ) (l : List Route). takenAt i (length l) (imageOf afi places l)) (sym size) split
     ∙ image-taken afi places (take k rs) (drop (suc k) rs) q (subst (AllAcceptable afi) split (h .acceptable)) (subst (λ (l : List Route). length l ≤ places) split (h .within))
     ∙ ap (imageOf afi places) (sym (removed-held n rs f))

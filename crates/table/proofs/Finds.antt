@@ -49,6 +49,14 @@ unfolding routesOf routeAt
 routes-from-index t i h =
     from-index i (countIn t) (drop 8 t) h ∙ ap (λ (x : List ℕ). routeIn x ∷ drop (suc i) (routesFrom (countIn t) (drop 8 t))) (place-part i t)
 
+-- a sound table has a header
+pub header-within : (t : List ℕ) → soundOf t ≡ true → 8 ≤ length t
+header-within t h = let is = sound t h .size .is in omega arith
+
+-- so many places lie within the table
+pub places-within : (t : List ℕ) (n : ℕ) → soundOf t ≡ true → n ≤ placesIn t → 8 + 128 * n ≤ length t
+places-within t n h k = let is = sound t h .size .is in omega arith
+
 -- a taken place lies within the table
 pub place-within : (t : List ℕ) (i : ℕ) → soundOf t ≡ true → i < countIn t → 8 + 128 * i + 128 ≤ length t
 place-within t i h k =

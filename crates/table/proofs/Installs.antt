@@ -7,26 +7,21 @@ use native.Mathlib.Omega.{arith}
 use borrow.Author.Tests.{lt-ltb, le-ltb}
 use lib.ListN.{length, drop}
 use Rattle.octets.specs.Numbers.{DONE, TABLE, ROOM}
-use Rattle.octets.specs.Outcome.{Outcome, given, refused, onOutcome, andThen, numberOf}
+use Rattle.octets.specs.Outcome.{given, refused, onOutcome, andThen, numberOf}
 use Rattle.octets.specs.Octets.{AllOctets}
 use Rattle.octets.proofs.Outcomes.{pick-true, pick-false}
-use Rattle.routes.specs.declared.Installed.{Installed}
 use Rattle.routes.specs.Route.{route, nlriOf, attributeOf, inserted}
 use Rattle.routes.specs.Arguments.{readRoute}
 use Rattle.routes.specs.Place.{placeOf}
 use Rattle.routes.specs.Table.{afiIn, countIn, placesIn, routesOf, imageOf, soundOf}
 use Rattle.routes.specs.Calls.{NEW, REPLACED, installedOf, entering, installOutcome, installOf}
-use Rattle.routes.proofs.Bounds.{route-read, read-acceptable, sizes-of}
+use Rattle.routes.proofs.Bounds.{read-acceptable, sizes-of}
 use Rattle.routes.proofs.Images.{routes-length, sound-holdable, sound-image}
-use Rattle.routes.proofs.NotDone.{done-given, route-not-done}
 use Rattle.routes.proofs.Places.{place-length}
-use Rattle.table.specs.Changing.{rank, firstIs, replacedAt, addedAt}
+use Rattle.table.specs.Changing.{rank, firstIs, replacedAt, addedAt, Installs}
+use Rattle.table.proofs.Sounds.{refused-of, route-fault-none}
 use Rattle.table.proofs.Finds.{held-by}
 use Rattle.table.proofs.Changes.{image-entered-held, image-entered-new}
-
--- install on t answers r and leaves u
-abbrev pub Installs : (t n a : List ℕ) (r : Installed) (u : List ℕ) → Type 0
-Installs t n a r u = (r ≡ installOf t n a .answer) × (u ≡ installOf t n a .octets)
 
 refuses : (t n a : List ℕ) (m : ℕ) → installOutcome t n a ≡ refused m → Installs t n a (record { number = m; outcome = 0 }) t
 unfolding installOf installedOf onOutcome numberOf
@@ -41,26 +36,15 @@ pub install-unsound : (t n a : List ℕ) → soundOf t ≡ false → Installs t 
 unfolding installOutcome
 install-unsound t n a h = refuses t n a TABLE (pick-false _ _ _ h)
 
--- a refusal by its number
-pub refused-by : {A : Type 0} (o : Outcome A) (m : ℕ) → m ≡ numberOf o → (m ≡ DONE → ⊥) → o ≡ refused m
-unfolding numberOf
-refused-by (given a) m e h = absurd (h e)
-refused-by (refused n) m e h = ap refused (sym e)
-
 pub install-faulty : (t n a : List ℕ) (m : ℕ) → soundOf t ≡ true → m ≡ numberOf (readRoute (afiIn t) n a) → (m ≡ DONE → ⊥) → Installs t n a (record { number = m; outcome = 0 }) t
 unfolding installOutcome andThen
-install-faulty t n a m h e d = refuses t n a m (pick-true _ _ _ h ∙ rw (refused-by (readRoute (afiIn t) n a) m e d))
-
-read-done : (afi : ℕ) (n a : List ℕ) → numberOf (readRoute afi n a) ≡ DONE → readRoute afi n a ≡ given (route n a)
-read-done afi n a e =
-    let p = done-given (readRoute afi n a) (route-not-done afi n a) e in
-    p .1 ∙ ap given (route-read afi n a (p .0) (p .1))
+install-faulty t n a m h e d = refuses t n a m (pick-true _ _ _ h ∙ rw (refused-of (readRoute (afiIn t) n a) m e d))
 
 -- a route that is acceptable fits a place
 pub route-fits : (afi : ℕ) (n a : List ℕ) → numberOf (readRoute afi n a) ≡ DONE → length n + length a ≤ 126
 unfolding nlriOf attributeOf
 route-fits afi n a e =
-    let s = sizes-of afi (route n a) (read-acceptable afi (route n a) (route n a) (read-done afi n a e)) in
+    let s = sizes-of afi (route n a) (read-acceptable afi (route n a) (route n a) (route-fault-none afi n a e)) in
     omega (arith, s .nlri, s .attribute)
 
 fits-place : (afi : ℕ) (n a : List ℕ) → numberOf (readRoute afi n a) ≡ DONE → length (placeOf (route n a)) ≡ 128
@@ -69,7 +53,7 @@ fits-place afi n a e = place-length (route n a) (route-fits afi n a e)
 
 outcome-enters : (t n a : List ℕ) → soundOf t ≡ true → numberOf (readRoute (afiIn t) n a) ≡ DONE → installOutcome t n a ≡ entering (placesIn t) (routesOf t) (route n a)
 unfolding installOutcome andThen
-outcome-enters t n a h e = pick-true _ _ _ h ∙ rw (read-done (afiIn t) n a e)
+outcome-enters t n a h e = pick-true _ _ _ h ∙ rw (route-fault-none (afiIn t) n a e)
 
 pub install-replaces : (t n a u : List ℕ) (k : ℕ) → AllOctets t → soundOf t ≡ true → numberOf (readRoute (afiIn t) n a) ≡ DONE → k ≡ rank n (routesOf t)
     → firstIs n (drop k (routesOf t)) ≡ true → u ≡ replacedAt k (placeOf (route n a)) t → Installs t n a (record { number = DONE; outcome = REPLACED }) u

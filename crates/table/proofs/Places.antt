@@ -1,10 +1,10 @@
 -- Places as they are written.
 use Prim.Native.Nat.{ℕ, _+_, _-_, _≤_}
-use mathlib.Core.Path.{_≡_, refl, sym, ap, ap₂, _∙_}
+use mathlib.Core.Path.{_≡_, refl, sym, ap, _∙_}
 use mathlib.Core.List.{List, [], _∷_, _++_, append-assoc}
 use native.Mathlib.Nat.{zero-add}
 use native.Mathlib.Omega.{arith}
-use lib.ListN.{length, take, drop, length-append, replicate-append-replicate}
+use lib.ListN.{length, drop, length-append, replicate-append-replicate}
 use lib.Seq.{drop-at}
 use Rattle.octets.specs.Octets.{placed}
 use Rattle.octets.specs.Order.{zeros}

@@ -13,15 +13,10 @@ use Rattle.routes.specs.Arguments.{readSPmsi}
 use Rattle.routes.specs.Table.{afiIn, countIn, placesIn, routesOf, imageOf, soundOf}
 use Rattle.routes.specs.Calls.{leaving, withdrawOutcome, withdrawOf}
 use Rattle.routes.proofs.Images.{routes-length, sound-holdable, sound-image}
-use Rattle.routes.proofs.NotDone.{done-given, s-pmsi-not-done}
-use Rattle.table.specs.Changing.{rank, firstIs, takenAt}
+use Rattle.table.specs.Changing.{rank, firstIs, takenAt, Withdraws}
+use Rattle.table.proofs.Sounds.{refused-of, s-pmsi-fault-none}
 use Rattle.table.proofs.Finds.{held-by}
 use Rattle.table.proofs.Changes.{image-left}
-use Rattle.table.proofs.Installs.{refused-by}
-
--- withdraw on t answers r and leaves u
-abbrev pub Withdraws : (t n : List ℕ) (r : ℕ) (u : List ℕ) → Type 0
-Withdraws t n r u = (r ≡ withdrawOf t n .answer) × (u ≡ withdrawOf t n .octets)
 
 refuses : (t n : List ℕ) (m : ℕ) → withdrawOutcome t n ≡ refused m → Withdraws t n m t
 unfolding withdrawOf onOutcome numberOf
@@ -33,11 +28,11 @@ withdraw-unsound t n h = refuses t n TABLE (pick-false _ _ _ h)
 
 pub withdraw-faulty : (t n : List ℕ) (m : ℕ) → soundOf t ≡ true → m ≡ numberOf (readSPmsi (afiIn t) n) → (m ≡ DONE → ⊥) → Withdraws t n m t
 unfolding withdrawOutcome andThen
-withdraw-faulty t n m h e d = refuses t n m (pick-true _ _ _ h ∙ rw (refused-by (readSPmsi (afiIn t) n) m e d))
+withdraw-faulty t n m h e d = refuses t n m (pick-true _ _ _ h ∙ rw (refused-of (readSPmsi (afiIn t) n) m e d))
 
 outcome-leaves : (t n : List ℕ) → soundOf t ≡ true → numberOf (readSPmsi (afiIn t) n) ≡ DONE → withdrawOutcome t n ≡ leaving (routesOf t) n
 unfolding withdrawOutcome andThen
-outcome-leaves t n h e = pick-true _ _ _ h ∙ rw (done-given (readSPmsi (afiIn t) n) (s-pmsi-not-done (afiIn t) n) e .1)
+outcome-leaves t n h e = pick-true _ _ _ h ∙ rw (s-pmsi-fault-none (afiIn t) n e .1)
 
 pub withdraw-absent : (t n : List ℕ) (k : ℕ) → soundOf t ≡ true → numberOf (readSPmsi (afiIn t) n) ≡ DONE → k ≡ rank n (routesOf t)
     → firstIs n (drop k (routesOf t)) ≡ false → Withdraws t n ABSENT t

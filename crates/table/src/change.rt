@@ -6,9 +6,11 @@ ghost use lib.ListN.{length, take, drop};
 ghost use Rattle.octets.specs.Order.{zeros};
 ghost use Rattle.routes.specs.Route.{route};
 ghost use Rattle.routes.specs.Place.{placeOf};
-ghost use Rattle.table.specs.Changing.{opened, closed, replacedAt};
+ghost use Rattle.table.specs.Changing.{opened, closed, replacedAt, addedAt, takenAt};
 use crate::find::HEADER;
 use crate::find::PLACE;
+use crate::header;
+use crate::sound;
 
 // Every octet becomes 0.
 pub(crate) fn clear(octets: &mut [u8])
@@ -80,7 +82,7 @@ pub(crate) fn replace(table: &mut [u8], index: usize, nlri: &[u8], attribute: &[
 }
 
 // Opens a gap of one place at `start`, up to `end`.
-fn open(table: &mut [u8], start: usize, end: usize)
+fn open_place(table: &mut [u8], start: usize, end: usize)
     requires { ⌜ (start + 128 ≤ end) × (end ≤ length (now table)) ⌝ }
     ensures { λ _. ⌜ now (table .exit) ≡ opened start end (now (table .entry)) ⌝ }
 {
@@ -88,9 +90,31 @@ fn open(table: &mut [u8], start: usize, end: usize)
 }
 
 // Closes the place at `start`, up to `end`.
-fn close(table: &mut [u8], start: usize, end: usize)
+fn close_place(table: &mut [u8], start: usize, end: usize)
     requires { ⌜ (start + 128 ≤ end) × (end ≤ length (now table)) ⌝ }
     ensures { λ _. ⌜ now (table .exit) ≡ closed start end (now (table .entry)) ⌝ }
 {
     close_gap(&mut table[start..end]);
+}
+
+// A route's place put in at an index, before the other places from there on.
+pub(crate) fn add(table: &mut [u8], index: usize, count: usize, nlri: &[u8], attribute: &[u8])
+    requires { ⌜ (index ≤ count) × (8 + 128 * (count + 1) ≤ length (now table)) ⌝ }
+    requires { ⌜ length (now nlri) + length (now attribute) ≤ 126 ⌝ }
+    ensures { λ _. ⌜ now (table .exit) ≡ addedAt index count (placeOf (route (now (nlri .entry)) (now (attribute .entry)))) (now (table .entry)) ⌝ }
+{
+    let afi = sound::afi_of(table);
+    open_place(table, HEADER + PLACE * index, HEADER + PLACE * (count + 1));
+    replace(table, index, nlri, attribute);
+    header::write_header(afi, count + 1, table);
+}
+
+// The place of an index taken out.
+pub(crate) fn remove(table: &mut [u8], index: usize, count: usize)
+    requires { ⌜ (index < count) × (8 + 128 * count ≤ length (now table)) ⌝ }
+    ensures { λ _. ⌜ now (table .exit) ≡ takenAt index count (now (table .entry)) ⌝ }
+{
+    let afi = sound::afi_of(table);
+    close_place(table, HEADER + PLACE * index, HEADER + PLACE * count);
+    header::write_header(afi, count - 1, table);
 }

@@ -5,11 +5,15 @@ mod change;
 mod find;
 mod flow;
 mod header;
+mod installing;
 mod judge;
 mod making;
 mod place;
 mod scan;
 mod sound;
 mod tier;
+mod withdrawing;
 
+pub use installing::install;
 pub use making::make;
+pub use withdrawing::withdraw;
