@@ -1,7 +1,10 @@
 -- Laws that the functions' proofs use.
 pub mod Sounds
+pub mod Makes
 pub mod Moves
 pub mod Places
+pub mod Ranks
+pub mod Finds
 pub mod Changes
 pub mod Scans
 pub mod Standing

@@ -83,7 +83,7 @@ up-last n at d s h k =
     rw (h .2, f, e)
 
 -- a part without its first n octets
-drop-taken : (n m : ℕ) (x : List ℕ) → n ≤ m → m ≤ length x → drop n (take m x) ≡ take (m - n) (drop n x)
+pub drop-taken : (n m : ℕ) (x : List ℕ) → n ≤ m → m ≤ length x → drop n (take m x) ≡ take (m - n) (drop n x)
 drop-taken n m x h k =
     let sum : m ≡ n + (m - n) = omega arith in
     ap (λ (i : ℕ). drop n (take i x)) sum ∙ ap (drop n) (take-add n (m - n) x) ∙ drop-at (take n x) (take (m - n) (drop n x)) n (length-take-le n x (omega arith))

@@ -1,15 +1,22 @@
 -- Laws of the soundness pass, and of judging what a place or a call's arguments hold.
-use Prim.Native.Nat.{ℕ}
-use mathlib.Core.Path.{_≡_, refl, sym, _∙_, ap}
-use mathlib.Core.Logic.{_⊎_, ⊎-elim}
+use Prim.Native.Nat.{ℕ, suc, _+_, _-_, _*_, _<_, _≤_}
+use mathlib.Core.Path.{_≡_, refl, sym, _∙_, ap, ap₂}
+use mathlib.Core.Logic.{⊎-elim}
 use mathlib.Core.Bool.{Bool, true, false}
-use mathlib.Core.List.{List}
-use borrow.Author.Tests.{eq-eqb, ne-eqb}
+use mathlib.Core.List.{List, []}
+use native.Mathlib.Nat.{add-zero}
+use native.Mathlib.Omega.{arith}
+use borrow.Author.Tests.{eq-eqb, ne-eqb, lt-leb, le-leb, leb-true}
+use lib.Dec.{eqb}
+use lib.ListN.{length, getD, take, drop, length-drop}
+use lib.Seq.{getD-take, getD-drop, take-take, drop-drop}
 use Rattle.octets.specs.Numbers.{DONE, LABEL, KIND}
-use Rattle.octets.specs.Choice.{pick}
-use Rattle.octets.specs.Outcome.{Outcome, given, refused, andThen, numberOf}
-use Rattle.octets.proofs.Tests.{both-true, both-left, both-right}
-use Rattle.octets.proofs.Inversions.{never, passed, given-same}
+use Rattle.octets.specs.Choice.{pick, both, either}
+use Rattle.octets.specs.Outcome.{Outcome, given, refused, onOutcome, andThen, numberOf}
+use Rattle.octets.specs.Octets.{part}
+use Rattle.octets.specs.Order.{same, before, allZero}
+use Rattle.octets.proofs.Tests.{both-true, both-left, both-right, both-last}
+use Rattle.octets.proofs.Inversions.{never, passed, given-same, both-true-left, both-true-right}
 use Rattle.octets.proofs.Refusals.{stopped}
 use Rattle.nlri.specs.declared.layout.Layout.{Layout}
 use Rattle.nlri.specs.declared.layout.Reading.{Reading}
@@ -24,11 +31,16 @@ use Rattle.tunnel.specs.declared.Reading.{Reading as AttributeReading}
 use Rattle.tunnel.specs.declared.Reading.the-variants.{Attribute as read, Refused as no}
 use Rattle.tunnel.specs.Attribute.{readAttribute, labelOf}
 use Rattle.tunnel.specs.Attribute.{Fields as AttributeFields}
-use Rattle.tunnel.specs.Answers.{outcomeOf, attributeOf, readAnswer}
-use Rattle.routes.specs.Route.{Route, route}
+use Rattle.tunnel.specs.Answers.{outcomeOf, readAnswer}
+use Rattle.tunnel.specs.Answers.{attributeOf as answerOf}
+use Rattle.routes.specs.Route.{route, nlriOf, attributeOf}
 use Rattle.routes.specs.Arguments.{readSPmsi, readLabelled, readRoute}
+use Rattle.routes.specs.Place.{endIn, routeIn, acceptable, placeSound}
+use Rattle.routes.specs.Table.{afiIn, countIn, placesIn, headerStart, tableSize, headerSound, placesSound, soundOf}
 use Rattle.routes.proofs.NotDone.{done-given, s-pmsi-not-done, route-not-done}
-use Rattle.routes.proofs.Bounds.{route-read}
+use Rattle.routes.proofs.Bounds.{route-read, read-acceptable}
+use Rattle.routes.proofs.Headers.{SizeOf, sound-size}
+use Rattle.table.proofs.Moves.{drop-taken}
 
 -- the number of two steps: the first refusal's, or the second step's
 module _ {A B : Type 0} (o : Outcome A) (next : A → Outcome B) where
@@ -81,10 +93,10 @@ record AnswerOf (s : List ℕ) (a : Attribute) : Type 0 where
 -- the number of an attribute, by what reading it answers
 module _ (s : List ℕ) (r : AttributeReading) (e : outcomeOf r ≡ readAnswer s) where
   answered : (a : Attribute) → r ≡ read a → AnswerOf s a
-  unfolding outcomeOf readAnswer attributeOf
+  unfolding outcomeOf readAnswer answerOf
   answered a q =
       let p = passed _ _ a (sym e ∙ ap outcomeOf q) in
-      let same : attributeOf (p .value) ≡ a = given-same (p .second) in
+      let same : answerOf (p .value) ≡ a = given-same (p .second) in
       record { fields = p .value; is = p .first; type = ap (λ (x : Attribute). x .«tunnel_type») same; label = ap (λ (x : Attribute). x .label) same }
 
   pub attribute-refused : (n : ℕ) → r ≡ no n → n ≡ numberOf (readLabelled s)
@@ -136,3 +148,166 @@ unfolding readRoute
 route-goes afi nlri attribute fault second e h q =
     let f = s-pmsi-fault-none afi nlri (sym e ∙ h) in
     number-goes _ _ (f .0) second (f .1) (q ∙ number-kept (readLabelled attribute) (route nlri attribute))
+
+-- a header, by the two tests of it
+module _ (t start : List ℕ) (flag : Bool) (s : start ≡ part t 0 6) (e : flag ≡ same start (headerStart (afiIn t))) where
+  start-is : flag ≡ same (take 6 t) (headerStart (afiIn t))
+  unfolding part
+  start-is = e ∙ ap (λ (l : List ℕ). same l (headerStart (afiIn t))) s
+
+  pub header-good : (r : Bool) → flag ≡ true → r ≡ either (eqb (afiIn t) 1) (eqb (afiIn t) 2) → r ≡ headerSound t
+  unfolding headerSound
+  header-good r h q = both-last _ _ _ (sym start-is ∙ h) q
+
+  pub header-bad : flag ≡ false → false ≡ headerSound t
+  unfolding headerSound
+  header-bad h = sym (both-left _ _ (sym start-is ∙ h))
+
+-- a route is acceptable where its number is DONE
+fault-acceptable : (afi : ℕ) (nlri attribute : List ℕ) → numberOf (readRoute afi nlri attribute) ≡ DONE → acceptable afi (route nlri attribute) ≡ true
+unfolding nlriOf attributeOf
+fault-acceptable afi nlri attribute e = read-acceptable afi (route nlri attribute) (route nlri attribute) (route-fault-none afi nlri attribute e)
+
+fault-unacceptable : (afi : ℕ) (nlri attribute : List ℕ) (fault : ℕ) → fault ≡ numberOf (readRoute afi nlri attribute) → (fault ≡ DONE → ⊥) → acceptable afi (route nlri attribute) ≡ false
+unfolding acceptable nlriOf attributeOf onOutcome
+fault-unacceptable afi nlri attribute fault e h = let q : readRoute afi nlri attribute ≡ refused fault = refused-of _ fault e h in rw q
+
+-- a place, by the tests of it
+module _ (afi : ℕ) (place : List ℕ) where
+  pub place-over : 128 < endIn place → false ≡ placeSound afi place
+  unfolding placeSound
+  place-over h = sym (both-left _ _ (lt-leb (endIn place) 128 h))
+
+  module _ (nlri attribute : List ℕ) (fault : ℕ) (n : nlri ≡ part place 2 (getD place 0 0)) (a : attribute ≡ part place (2 + getD place 0 0) (getD place 1 0))
+      (e : fault ≡ numberOf (readRoute afi nlri attribute)) where
+    route-is : route nlri attribute ≡ routeIn place
+    unfolding routeIn
+    route-is = ap₂ route n a
+
+    pub place-refused : endIn place ≤ 128 → (fault ≡ DONE → ⊥) → false ≡ placeSound afi place
+    unfolding placeSound
+    place-refused h f =
+        sym (both-right _ _ (le-leb (endIn place) 128 h) (both-left _ _ (ap (acceptable afi) (sym route-is) ∙ fault-unacceptable afi nlri attribute fault e f)))
+
+    pub place-accepted : endIn place ≤ 128 → fault ≡ DONE → (rest : List ℕ) (r : Bool) → rest ≡ drop (endIn place) place → r ≡ allZero rest → r ≡ placeSound afi place
+    unfolding placeSound
+    place-accepted h f rest r d z =
+        both-last _ _ r (le-leb (endIn place) 128 h)
+        (both-last _ _ r (ap (acceptable afi) (sym route-is) ∙ fault-acceptable afi nlri attribute (sym e ∙ f)) (z ∙ ap allZero d))
+
+  pub sound-end : placeSound afi place ≡ true → endIn place ≤ 128
+  unfolding placeSound
+  sound-end h = leb-true _ _ (both-true-left _ _ h)
+
+-- a part of a part
+part-within : (s : List ℕ) (at n start size : ℕ) → at + n ≤ length s → start + size ≤ n → part (part s at n) start size ≡ part s (at + start) size
+unfolding part
+part-within s at n start size h k =
+    ap (take size) (drop-taken start n (drop at s) (omega arith) (simp length-drop (omega arith))) ∙ take-take size (n - start) (drop start (drop at s)) (omega arith) ∙ ap (take size) (drop-drop start at s)
+
+part-first : (t : List ℕ) (at : ℕ) → getD (part t at 128) 0 0 ≡ getD t at 0
+unfolding part
+part-first t at = getD-take 128 (drop at t) 0 0 (omega arith) ∙ getD-drop at t 0 0 ∙ ap (λ (i : ℕ). getD t i 0) (add-zero at)
+
+-- the NLRI of the place from `at` on
+nlri-within : (t : List ℕ) (at : ℕ) → at + 128 ≤ length t → endIn (part t at 128) ≤ 128
+    → (nlriOf (routeIn (part t at 128)) ≡ part t (at + 2) (getD t at 0)) × (at + 2 + getD t at 0 ≤ length t)
+unfolding endIn routeIn nlriOf
+nlri-within t at h k =
+    let first : getD (part t at 128) 0 0 ≡ getD t at 0 = part-first t at in
+    let fits : 2 + getD t at 0 ≤ 128 = omega arith in
+    (ap (part (part t at 128) 2) first ∙ part-within t at 128 2 (getD t at 0) h fits, omega arith)
+
+-- tests joined, the last of which is left
+both-passed : (a b c : Bool) → both a b ≡ true → both a (both b c) ≡ c
+unfolding both
+both-passed a b c h = rw (both-true-left a b h, both-true-right a b h)
+
+both-stopped : (a b c : Bool) → both a b ≡ false → both a (both b c) ≡ false
+unfolding both
+both-stopped true b c h = rw h
+both-stopped false b c h = refl
+
+-- the pass over the places: the places left lie in the table, and the previous NLRI; what is left decides
+pub record Passing (afi count : ℕ) (t : List ℕ) (at left start size : ℕ) : Type 0 where
+  pub room : at + 128 * left ≤ length t
+  pub known : start + size ≤ length t
+  pub is : placesSound afi [] count (drop 8 t) ≡ placesSound afi (part t start size) left (drop at t)
+
+pub passing-first : (afi count : ℕ) (t : List ℕ) → 8 + 128 * count ≤ length t → Passing afi count t 8 count 0 0
+unfolding part
+passing-first afi count t h = record { room = h; known = omega arith; is = refl }
+
+module _ (afi count : ℕ) (t : List ℕ) (at left start size : ℕ) (p : Passing afi count t at left start size) where
+  places-step : (k : ℕ)
+      → placesSound afi (part t start size) (suc k) (drop at t)
+      ≡ both (placeSound afi (part t at 128))
+      (both (before (part t start size) (nlriOf (routeIn (part t at 128)))) (placesSound afi (nlriOf (routeIn (part t at 128))) k (drop (at + 128) t)))
+  unfolding placesSound part
+  places-step k = rw (drop-drop 128 at t)
+
+  module _ (some : 0 < left) (previous place : List ℕ) (r : Bool) (q : previous ≡ part t start size) (s : place ≡ part t at 128)
+      (e : r ≡ both (placeSound afi place) (before previous (nlriOf (routeIn place)))) where
+    judged : r ≡ both (placeSound afi (part t at 128)) (before (part t start size) (nlriOf (routeIn (part t at 128))))
+    judged = e ∙ ap₂ (λ (x y : List ℕ). both (placeSound afi y) (before x (nlriOf (routeIn y)))) q s
+
+    whole : placesSound afi [] count (drop 8 t)
+        ≡ both (placeSound afi (part t at 128))
+        (both (before (part t start size) (nlriOf (routeIn (part t at 128)))) (placesSound afi (nlriOf (routeIn (part t at 128))) (left - 1) (drop (at + 128) t)))
+    whole =
+        let one : left ≡ suc (left - 1) = omega arith in
+        p .is ∙ ap (λ (k : ℕ). placesSound afi (part t start size) k (drop at t)) one ∙ places-step (left - 1)
+
+    pub passing-stops : r ≡ false → false ≡ placesSound afi [] count (drop 8 t)
+    passing-stops h = sym (whole ∙ both-stopped _ _ _ (sym judged ∙ h))
+
+    pub passing-next : r ≡ true → Passing afi count t (at + 128) (left - 1) (at + 2) (getD t at 0)
+    passing-next h =
+        let held : both (placeSound afi (part t at 128)) (before (part t start size) (nlriOf (routeIn (part t at 128)))) ≡ true = sym judged ∙ h in
+        let inside = nlri-within t at (omega (arith, p .room)) (sound-end afi (part t at 128) (both-true-left _ _ held)) in
+        record {
+          room = omega (arith, p .room);
+          known = inside .1;
+          is = whole ∙ both-passed _ _ _ held ∙ ap (λ (l : List ℕ). placesSound afi l (left - 1) (drop (at + 128) t)) (inside .0);
+        }
+
+  pub passing-ends : left ≤ 0 → (rest : List ℕ) (r : Bool) → rest ≡ drop at t → r ≡ allZero rest → r ≡ placesSound afi [] count (drop 8 t)
+  unfolding placesSound
+  passing-ends h rest r d z =
+      let none : left ≡ 0 = omega arith in
+      z ∙ ap allZero d ∙ sym (p .is ∙ ap (λ (k : ℕ). placesSound afi (part t start size) k (drop at t)) none)
+
+-- a table's size has room for the header
+pub header-room : (size : ℕ) (flag : Bool) → flag ≡ tableSize size → flag ≡ true → 8 ≤ size
+unfolding tableSize
+header-room size flag s h = leb-true _ _ (both-true-left _ _ (sym s ∙ h))
+
+-- a table, by the tests of it in their order
+module _ (t : List ℕ) (size : Bool) (s : size ≡ tableSize (length t)) where
+  pub missized : size ≡ false → false ≡ soundOf t
+  unfolding soundOf
+  missized h = sym (both-left _ _ (sym s ∙ h))
+
+  module _ (sized : size ≡ true) where
+    measured : SizeOf (length t) (placesIn t)
+    measured = sound-size t (sym s ∙ sized)
+
+    pub places-room : (count places : ℕ) → places ≡ placesIn t → count ≤ places → 8 + 128 * count ≤ length t
+    places-room count places p h = omega (arith, measured .is)
+
+    module _ (header : Bool) (g : header ≡ headerSound t) where
+      pub headless : header ≡ false → false ≡ soundOf t
+      unfolding soundOf
+      headless h = sym (both-right _ _ (sym s ∙ sized) (both-left _ _ (sym g ∙ h)))
+
+      module _ (headed : header ≡ true) (count places : ℕ) (c : count ≡ countIn t) (p : places ≡ placesIn t) where
+        pub overfull : places < count → false ≡ soundOf t
+        unfolding soundOf
+        overfull h = sym (both-right _ _ (sym s ∙ sized) (both-right _ _ (sym g ∙ headed) (both-left _ _ (lt-leb (countIn t) (placesIn t) (omega arith)))))
+
+        pub placed-soundly : count ≤ places → (afi : ℕ) (r : Bool) → afi ≡ afiIn t → r ≡ placesSound afi [] count (drop 8 t) → r ≡ soundOf t
+        unfolding soundOf
+        placed-soundly h afi r a e =
+            both-last _ _ r (sym s ∙ sized)
+            (both-last _ _ r (sym g ∙ headed)
+            (both-last _ _ r (le-leb (countIn t) (placesIn t) (omega arith)) (e ∙ ap₂ (λ (x y : ℕ). placesSound x [] y (drop 8 t)) a c)))

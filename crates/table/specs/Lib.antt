@@ -1,4 +1,3 @@
 -- Definitions that mirror the inner functions; laws tie them to those of `routes`.
-pub mod Sounding
 pub mod Changing
 pub mod Scanning

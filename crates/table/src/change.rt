@@ -3,14 +3,12 @@ ghost use mathlib.Core.Path.{_≡_};
 ghost use mathlib.Core.List.{_++_};
 ghost use Prim.Native.Nat.{_+_, _-_, _*_, _≤_, _<_};
 ghost use lib.ListN.{length, take, drop};
-ghost use Rattle.octets.specs.Octets.{placed, bigEndian};
+ghost use Rattle.octets.specs.Octets.{placed};
 ghost use Rattle.octets.specs.Order.{zeros};
 ghost use Rattle.routes.specs.Route.{route};
 ghost use Rattle.routes.specs.Place.{placeOf};
 ghost use Rattle.table.specs.Changing.{opened, closed};
-
-// The octets of a place.
-const PLACE: usize = 128;
+use crate::find::PLACE;
 
 // Every octet becomes 0.
 pub(crate) fn clear(octets: &mut [u8])
@@ -94,13 +92,4 @@ fn close(table: &mut [u8], start: usize, end: usize)
     ensures { λ _. ⌜ now (table .exit) ≡ closed start end (now (table .entry)) ⌝ }
 {
     close_gap(&mut table[start..end]);
-}
-
-// The count in the header.
-fn write_count(table: &mut [u8], count: usize)
-    requires { ⌜ 8 ≤ length (now table) ⌝ }
-    ensures { λ _. ⌜ now (table .exit) ≡ placed 6 (bigEndian 2 count) (now (table .entry)) ⌝ }
-{
-    let octets = [(count / 256 % 256) as u8, (count % 256) as u8];
-    octets::parts::place(&octets, table, 6);
 }

@@ -3,9 +3,16 @@ ghost use mathlib.Core.Path.{_≡_};
 ghost use mathlib.Core.List.{_++_};
 ghost use Prim.Native.Nat.{_≤_, _<_};
 ghost use lib.ListN.{length, drop};
-ghost use Rattle.routes.specs.Table.{headerOf};
+ghost use lib.Dec.{eqb};
+ghost use Rattle.octets.specs.Choice.{either};
+ghost use Rattle.routes.specs.Table.{headerOf, headerSound};
 
 const VERSION: u8 = 1;
+
+// Address family identifiers.
+const AFI_IPV4: u16 = 1;
+
+const AFI_IPV6: u16 = 2;
 
 // Writes the header; the places stay as they are.
 pub(crate) fn write_header(afi: u16, count: usize, table: &mut [u8])
@@ -23,4 +30,25 @@ pub(crate) fn write_header(afi: u16, count: usize, table: &mut [u8])
         (count % 256) as u8,
     ];
     octets::parts::place(&header, table, 0);
+}
+
+pub(crate) fn is_family(afi: u16) -> bool
+    ensures { λ r. ⌜ r ≡ either (eqb afi 1) (eqb afi 2) ⌝ }
+{
+    if afi == AFI_IPV4 {
+        return true;
+    }
+    afi == AFI_IPV6
+}
+
+// A good header: "MVT", the version and an AFI.
+pub(crate) fn is_header_sound(table: &[u8]) -> bool
+    requires { ⌜ 8 ≤ length (now table) ⌝ }
+    ensures { λ r. ⌜ r ≡ headerSound (now (table .entry)) ⌝ }
+{
+    let start = [b'M', b'V', b'T', 0, VERSION, table[5]];
+    if octets::order::is_same(octets::parts::between(table, 0, 6), &start) {
+        return is_family(table[5] as u16);
+    }
+    false
 }

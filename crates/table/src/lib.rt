@@ -10,3 +10,8 @@ mod place;
 mod scan;
 mod sound;
 mod tier;
+mod making;
+mod scan;
+mod sound;
+
+pub use making::make;

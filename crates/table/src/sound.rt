@@ -1,1 +1,125 @@
-// Whether lent memory is a sound table.
+// Whether lent memory is a sound table (document 01, "The table memory").
+ghost use mathlib.Core.Path.{_≡_};
+ghost use mathlib.Core.List.{[]};
+ghost use Prim.Native.Nat.{_+_, _*_, _≤_, _<_};
+ghost use lib.ListN.{length, drop};
+ghost use Rattle.octets.specs.Choice.{both};
+ghost use Rattle.octets.specs.Order.{before};
+ghost use Rattle.routes.specs.Route.{nlriOf};
+ghost use Rattle.routes.specs.Place.{routeIn, placeSound};
+ghost use Rattle.routes.specs.Table.{afiIn, countIn, placesIn, tableSize, placesSound, soundOf};
+use crate::find;
+use crate::find::HEADER;
+use crate::find::PLACE;
+use crate::header;
+use crate::judge;
+use octets::number::DONE;
+
+// The most places of a table.
+const MOST_PLACES: usize = 500;
+
+pub(crate) fn afi_of(table: &[u8]) -> u16
+    requires { ⌜ 8 ≤ length (now table) ⌝ }
+    ensures { λ r. ⌜ (r ≡ afiIn (now (table .entry))) × (r < 256) ⌝ }
+{
+    table[5] as u16
+}
+
+pub(crate) fn count_of(table: &[u8]) -> usize
+    requires { ⌜ 8 ≤ length (now table) ⌝ }
+    ensures { λ r. ⌜ (r ≡ countIn (now (table .entry))) × (r < 65536) ⌝ }
+{
+    octets::wide::two(table, 6) as usize
+}
+
+pub(crate) fn places_of(table: &[u8]) -> usize
+    requires { ⌜ 8 ≤ length (now table) ⌝ }
+    ensures { λ r. ⌜ r ≡ placesIn (now (table .entry)) ⌝ }
+{
+    (table.len() - HEADER) / PLACE
+}
+
+// A table's size: 8 octets plus a multiple of 128, 0 to 500 places.
+pub(crate) fn is_table_size(size: usize) -> bool
+    ensures { λ r. ⌜ r ≡ tableSize size ⌝ }
+{
+    if size < HEADER {
+        return false;
+    }
+    if (size - HEADER) % PLACE == 0 {
+        return (size - HEADER) / PLACE <= MOST_PLACES;
+    }
+    false
+}
+
+// A place holds a route that install would accept and then zeros. Nothing is copied out of it.
+pub(crate) fn is_place_sound(afi: u16, place: &[u8]) -> bool
+    requires { ⌜ length (now place) ≡ 128 ⌝ }
+    ensures { λ r. ⌜ r ≡ placeSound afi (now (place .entry)) ⌝ }
+{
+    let nlri = place[0] as usize;
+    let attribute = place[1] as usize;
+    let end = 2 + (nlri + attribute);
+    if PLACE < end {
+        return false;
+    }
+    let fault = judge::route_fault(
+        afi,
+        octets::parts::between(place, 2, nlri),
+        octets::parts::between(place, 2 + nlri, attribute),
+    );
+    if fault != DONE {
+        return false;
+    }
+    octets::order::is_zero(octets::parts::after(place, end))
+}
+
+// A sound place whose NLRI comes after the previous one.
+fn follows(afi: u16, previous: &[u8], place: &[u8]) -> bool
+    requires { ⌜ length (now place) ≡ 128 ⌝ }
+    ensures { λ r. ⌜ r ≡ both (placeSound afi (now (place .entry))) (before (now (previous .entry)) (nlriOf (routeIn (now (place .entry))))) ⌝ }
+{
+    if is_place_sound(afi, place) {
+        return octets::order::comes_before(previous, find::nlri_in(place));
+    }
+    false
+}
+
+// The first `count` places are sound, their NLRIs strictly increase, and everything after them is zero. The previous NLRI is
+// known by where it stands; before the first there is none.
+fn are_places_sound(afi: u16, count: usize, table: &[u8]) -> bool
+    requires { ⌜ 8 + 128 * count ≤ length (now table) ⌝ }
+    ensures { λ r. ⌜ r ≡ placesSound afi [] count (drop 8 (now (table .entry))) ⌝ }
+{
+    let mut at = HEADER;
+    let mut left = count;
+    let mut start = 0;
+    let mut size = 0;
+    while 0 < left {
+        let previous = octets::parts::between(table, start, size);
+        if follows(afi, previous, octets::parts::between(table, at, PLACE)) {
+            start = at + 2;
+            size = table[at] as usize;
+            at += PLACE;
+            left -= 1;
+        } else {
+            return false;
+        }
+    }
+    octets::order::is_zero(octets::parts::after(table, at))
+}
+
+// Sound: the size; a good header; count not over the places; the places.
+pub(crate) fn is_sound(table: &[u8]) -> bool
+    ensures { λ r. ⌜ r ≡ soundOf (now (table .entry)) ⌝ }
+{
+    if is_table_size(table.len()) {
+        if header::is_header_sound(table) {
+            let count = count_of(table);
+            if count <= places_of(table) {
+                return are_places_sound(afi_of(table), count, table);
+            }
+        }
+    }
+    false
+}

@@ -1,0 +1,126 @@
+-- Where an NLRI stands, or belongs, among routes: what is at the front of the routes from its rank on.
+use Prim.Native.Nat.{ℕ, zero, suc, _+_, _≤_, _<_}
+use mathlib.Core.Path.{_≡_, refl, sym, ap, _∙_}
+use mathlib.Core.Bool.{Bool, true, false}
+use mathlib.Core.List.{List, [], _∷_, _++_}
+use native.Mathlib.Numerals.{add-one}
+use native.Mathlib.Omega.{arith}
+use lib.ListN.{length, take, drop, drop-of-length-le}
+use Rattle.octets.specs.Choice.{pick}
+use Rattle.octets.specs.Order.{same, before}
+use Rattle.octets.proofs.Inversions.{opposite}
+use Rattle.octets.proofs.Orders.{same-swapped, before-other, before-differs, before-once}
+use Rattle.octets.proofs.Outcomes.{pick-true, pick-false}
+use Rattle.octets.proofs.Picked.{tested}
+use Rattle.routes.specs.Route.{Route, route, nlriOf, holds, inserted, removed, Increasing, last, next}
+use Rattle.routes.proofs.Lookups.{lookup-first, lookup-later, lookup-early, holds-held, holds-absent, holds-alike, lookup-none}
+use Rattle.table.specs.Changing.{rank, firstIs}
+
+rank-more : (n : List ℕ) (q : Route) (rs : List Route) → before (nlriOf q) n ≡ true → rank n (q ∷ rs) ≡ suc (rank n rs)
+unfolding rank
+rank-more n q rs h = pick-true _ _ _ h
+
+rank-none : (n : List ℕ) (q : Route) (rs : List Route) → before (nlriOf q) n ≡ false → rank n (q ∷ rs) ≡ 0
+unfolding rank
+rank-none n q rs h = pick-false _ _ _ h
+
+-- a scan at index i, with the routes before it passed
+abbrev pub Passed : (n : List ℕ) (rs : List Route) (i : ℕ) → Type 0
+Passed n rs i = rank n rs ≡ i + rank n (drop i rs)
+
+pub passed-first : (n : List ℕ) (rs : List Route) → Passed n rs 0
+passed-first n rs = omega arith
+
+pub passed-next : (n : List ℕ) (rs : List Route) (i : ℕ) (q : Route) → drop i rs ≡ q ∷ drop (suc i) rs → before (nlriOf q) n ≡ true → Passed n rs i → Passed n rs (i + 1)
+passed-next n rs i q e h p =
+    let more : rank n (drop i rs) ≡ suc (rank n (drop (suc i) rs)) = ap (rank n) e ∙ rank-more n q (drop (suc i) rs) h in
+    rw (add-one i) (omega arith)
+
+pub passed-stops : (n : List ℕ) (rs : List Route) (i : ℕ) (q : Route) → drop i rs ≡ q ∷ drop (suc i) rs → before (nlriOf q) n ≡ false → Passed n rs i → i ≡ rank n rs
+passed-stops n rs i q e h p =
+    let none : rank n (drop i rs) ≡ 0 = ap (rank n) e ∙ rank-none n q (drop (suc i) rs) h in
+    omega arith
+
+pub passed-all : (n : List ℕ) (rs : List Route) (i : ℕ) → length rs ≤ i → Passed n rs i → i ≡ rank n rs
+unfolding rank
+passed-all n rs i h p =
+    let none : rank n (drop i rs) ≡ 0 = ap (rank n) (drop-of-length-le rs h) in
+    omega arith
+
+pub rank-most : (n : List ℕ) (rs : List Route) → rank n rs ≤ length rs
+unfolding rank
+rank-most n [] = omega arith
+rank-most n (q ∷ rs) =
+    tested (before (nlriOf q) n)
+    (λ h. rw (pick-true _ _ _ h) (omega (arith, rank-most n rs)))
+    (λ h. rw (pick-false _ _ _ h) (omega arith))
+
+-- one that comes before another is neither the same nor after it
+other : (n m : List ℕ) → before m n ≡ true → same n m ≡ false
+other n m h = same-swapped n m ∙ before-differs m n h
+
+-- in increasing routes an NLRI is held exactly where it belongs
+pub held-at-rank : (n : List ℕ) {p : List ℕ} {rs : List Route} → Increasing p rs → holds n rs ≡ firstIs n (drop (rank n rs) rs)
+unfolding firstIs rank
+held-at-rank n last = holds-absent n [] (lookup-none n)
+held-at-rank n (next {r} {rs} b i) =
+    tested (before (nlriOf r) n)
+    (λ h. rw (rank-more n r rs h) (holds-alike n (r ∷ rs) rs (lookup-later n r rs (other n (nlriOf r) h)) ∙ held-at-rank n i))
+    (λ h.
+    rw (rank-none n r rs h)
+    (tested (same n (nlriOf r))
+    (λ s. holds-held n (r ∷ rs) _ (lookup-first n r rs s) ∙ sym s)
+    (λ s. holds-absent n (r ∷ rs) (lookup-later n r rs s ∙ lookup-early n i h) ∙ sym s)))
+
+-- entering a route whose NLRI is held replaces the route there
+pub inserted-held : (r : Route) (rs : List Route) → firstIs (nlriOf r) (drop (rank (nlriOf r) rs) rs) ≡ true
+    → inserted r rs ≡ take (rank (nlriOf r) rs) rs ++ (r ∷ drop (suc (rank (nlriOf r) rs)) rs)
+unfolding firstIs inserted rank
+inserted-held r [] h = absurd (opposite {b = true} refl (sym h))
+inserted-held r (q ∷ rs) h =
+    tested (before (nlriOf q) (nlriOf r))
+    (λ b.
+    let here : firstIs (nlriOf r) (drop (rank (nlriOf r) rs) rs) ≡ true = rw (rank-more (nlriOf r) q rs b) at h in
+    rw (rank-more (nlriOf r) q rs b, pick-false _ _ _ (other (nlriOf r) (nlriOf q) b), pick-false _ _ _ (before-once (nlriOf q) (nlriOf r) b))
+    (ap (λ (l : List Route). q ∷ l) (inserted-held r rs here)))
+    (λ b.
+    let here : same (nlriOf r) (nlriOf q) ≡ true = rw (rank-none (nlriOf r) q rs b) at h in
+    rw (rank-none (nlriOf r) q rs b, pick-true _ _ _ here))
+
+-- entering another route puts it where it belongs
+pub inserted-new : (r : Route) (rs : List Route) → firstIs (nlriOf r) (drop (rank (nlriOf r) rs) rs) ≡ false
+    → inserted r rs ≡ take (rank (nlriOf r) rs) rs ++ (r ∷ drop (rank (nlriOf r) rs) rs)
+unfolding firstIs inserted rank
+inserted-new r [] h = refl
+inserted-new r (q ∷ rs) h =
+    tested (before (nlriOf q) (nlriOf r))
+    (λ b.
+    let here : firstIs (nlriOf r) (drop (rank (nlriOf r) rs) rs) ≡ false = rw (rank-more (nlriOf r) q rs b) at h in
+    rw (rank-more (nlriOf r) q rs b, pick-false _ _ _ (other (nlriOf r) (nlriOf q) b), pick-false _ _ _ (before-once (nlriOf q) (nlriOf r) b))
+    (ap (λ (l : List Route). q ∷ l) (inserted-new r rs here)))
+    (λ b.
+    let here : same (nlriOf r) (nlriOf q) ≡ false = rw (rank-none (nlriOf r) q rs b) at h in
+    let after : before (nlriOf r) (nlriOf q) ≡ true = before-other (nlriOf q) (nlriOf r) (same-swapped (nlriOf q) (nlriOf r) ∙ here) b in
+    rw (rank-none (nlriOf r) q rs b, pick-false _ _ _ here, pick-true _ _ _ after))
+
+-- taking an NLRI out takes the route there out
+pub removed-held : (n : List ℕ) (rs : List Route) → firstIs n (drop (rank n rs) rs) ≡ true → removed n rs ≡ take (rank n rs) rs ++ drop (suc (rank n rs)) rs
+unfolding firstIs removed rank
+removed-held n [] h = absurd (opposite {b = true} refl (sym h))
+removed-held n (q ∷ rs) h =
+    tested (before (nlriOf q) n)
+    (λ b.
+    let here : firstIs n (drop (rank n rs) rs) ≡ true = rw (rank-more n q rs b) at h in
+    rw (rank-more n q rs b, pick-false _ _ _ (other n (nlriOf q) b))
+    (ap (λ (l : List Route). q ∷ l) (removed-held n rs here)))
+    (λ b.
+    let here : same n (nlriOf q) ≡ true = rw (rank-none n q rs b) at h in
+    rw (rank-none n q rs b, pick-true _ _ _ here))
+
+-- what is first from an index on stands at the index
+pub first-within : (n : List ℕ) (rs : List Route) (i : ℕ) → firstIs n (drop i rs) ≡ true → i < length rs
+unfolding firstIs
+first-within n [] zero h = absurd (opposite {b = true} refl (sym h))
+first-within n [] (suc i) h = absurd (opposite {b = true} refl (sym h))
+first-within n (q ∷ rs) zero h = omega arith
+first-within n (q ∷ rs) (suc i) h = omega (arith, first-within n rs i h)

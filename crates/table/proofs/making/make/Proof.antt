@@ -1,0 +1,42 @@
+-- `table::making::make` meets its contract.
+use Rattle.table.proofs.Makes.{zeros-room, afi-octet, no-family, no-table, table-made}
+use borrow.Author.Needs.{needs}
+use Rattle.table.proofs.making.make.Statement.{statement}
+use Rattle.table.proofs.making.make.Tie as tie
+
+is-family-requires : tie.Need-is-family-requires
+is-family-requires c κs = search needs
+
+is-table-size-requires : tie.Need-is-table-size-requires
+is-table-size-requires c κs = search needs
+
+clear-requires : tie.Need-clear-requires
+clear-requires c κs = search needs
+
+write-header-requires : tie.Need-write-header-requires
+write-header-requires c κs = (afi-octet _ _ (c .before .before .before .before .before .before .before .before .is-family .ensures) (c .before .before .before .before .before .before .before .if1 .taken), zeros-room _ _ _ (c .before .before .before .before .before .before .is-table-size .ensures) (c .before .before .before .before .before .if2 .taken) (c .before .before .before .clear .ensures))
+
+same-length : tie.Need-same-length
+same-length c = search needs
+
+returns : tie.Need-returns
+returns c = table-made _ _ (c .before .before .before .before .before .before .before .before .before .before .before .is-family .ensures) _ (c .before .before .before .before .before .before .before .before .before .before .if1 .taken) _ (c .before .before .before .before .before .before .before .before .before .is-table-size .ensures) (c .before .before .before .before .before .before .before .before .if2 .taken) _ _ (c .before .before .before .before .before .before .clear .ensures) (c .before .before .write-header .ensures)
+
+returns-2 : tie.Need-returns-2
+returns-2 c = no-table _ _ (c .before .before .before .is-family .ensures) _ (c .before .before .if1 .taken) _ (c .before .is-table-size .ensures) (c .if2 .left)
+
+returns-3 : tie.Need-returns-3
+returns-3 c = no-family _ _ (c .before .is-family .ensures) _ (c .if1 .left)
+
+pub make-spec : {M : Type 1} → statement M
+make-spec =
+    tie.close
+    (tie.spec
+    is-family-requires
+    is-table-size-requires
+    clear-requires
+    write-header-requires
+    same-length
+    returns
+    returns-2
+    returns-3)

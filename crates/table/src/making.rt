@@ -1,0 +1,25 @@
+// A table made in lent memory.
+ghost use mathlib.Core.Path.{_≡_};
+ghost use Rattle.routes.specs.Calls.{makeOf};
+use crate::change;
+use crate::header;
+use crate::sound;
+use octets::number::DONE;
+use octets::number::FAMILY;
+use octets::number::TABLE;
+
+// Makes a table of no routes in all of the memory: FAMILY, TABLE, then every octet is written.
+pub fn make(afi: u16, table: &mut [u8]) -> u32
+    ensures { λ r. ⌜ r ≡ makeOf afi (now (table .entry)) .answer ⌝ }
+    ensures { λ r. ⌜ now (table .exit) ≡ makeOf afi (now (table .entry)) .octets ⌝ }
+{
+    if header::is_family(afi) {
+        if sound::is_table_size(table.len()) {
+            change::clear(table);
+            header::write_header(afi, 0, table);
+            return DONE;
+        }
+        return TABLE;
+    }
+    FAMILY
+}
