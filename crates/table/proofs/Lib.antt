@@ -13,3 +13,5 @@ pub mod Scans
 pub mod Standing
 pub mod Tiers
 pub mod Answers
+pub mod Taken
+pub mod BestRoutes

@@ -61,7 +61,7 @@ module _ (router source group : List ℕ) (class : ℕ) (t : List ℕ) where
         skips _ _ _ _ (ne-eqb _ _ (λ e. some (here ∙ e))) (skips _ _ _ _ (ap (λ (k : ℕ). aheadAt t k at best) (sym here) ∙ sym f ∙ fails) refl)
 
   -- what is the best after a step was the best before, or stands at the step's place
-  better-one : (P : ℕ → Type 0) (best : Best) (at : ℕ) → Kept P best → P at → Kept P (betterAt router source group class t best at)
+  pub better-one : (P : ℕ → Type 0) (best : Best) (at : ℕ) → Kept P best → P at → Kept P (betterAt router source group class t best at)
   unfolding betterAt
   better-one P best at old new = picked-one P _ _ best _ old (λ h. new)
 
@@ -80,10 +80,10 @@ module _ (router source group : List ℕ) (class : ℕ) (t : List ℕ) where
   scan-end (suc left) at best h = absurd (omega arith)
 
 -- places still to come
-place-here : (P : ℕ → Type 0) (left at : ℕ) → ((k : ℕ) → k < left → P (at + 128 * k)) → 0 < left → P at
+pub place-here : (P : ℕ → Type 0) (left at : ℕ) → ((k : ℕ) → k < left → P (at + 128 * k)) → 0 < left → P at
 place-here P left at all some = let e : at + 128 * 0 ≡ at = omega arith in subst P e (all 0 some)
 
-places-next : (P : ℕ → Type 0) (left at : ℕ) → ((k : ℕ) → k < left → P (at + 128 * k)) → 0 < left → (k : ℕ) → k < left - 1 → P (at + 128 + 128 * k)
+pub places-next : (P : ℕ → Type 0) (left at : ℕ) → ((k : ℕ) → k < left → P (at + 128 * k)) → 0 < left → (k : ℕ) → k < left - 1 → P (at + 128 + 128 * k)
 places-next P left at all some k h = let e : at + 128 * (k + 1) ≡ at + 128 + 128 * k = omega arith in subst P e (all (k + 1) (omega arith))
 
 -- the loop: what the scan comes to is what the rest of it comes to from the best so far on

@@ -166,10 +166,6 @@ fields-standing s n h =
     ap (λ (k : ℕ). part s k (length s - originatorStart s)) start ∙ take-all (length s - originatorStart s) (drop (originatorStart s) s) (rw length-drop (omega arith)) in
     fields-same refl refl refl refl (ap (λ (k : ℕ). part s k (groupSize s)) at) rest refl
 
--- at most 60 octets: two addresses and an originator of at most 16 octets
-sixty : (n k a b source group rest : ℕ) → source ≤ 16 → group ≤ 16 → rest ≤ 16 → a ≡ source → b ≡ group → n - k ≡ rest → k ≡ 12 + a + b → n ≤ 60
-sixty n k a b source group rest hs hg hr es eg er ek = omega arith
-
 module _ (afi : ℕ) (s : List ℕ) (l : Layout) (laid : layoutSingle afi s ≡ given l) (third : l .«route_type» ≡ 3) where
   all-of-it : Whole s l
   all-of-it = whole afi s l laid
@@ -182,16 +178,7 @@ module _ (afi : ℕ) (s : List ℕ) (l : Layout) (laid : layoutSingle afi s ≡ 
       ap (λ (x : Layout). fieldsAt x s) (sym (layout-is s l (all-of-it .long) body)) ∙ fields-standing s _ (stands-within s l (all-of-it .long) body)
 
   layout-bounded : Bounded s
-  unfolding layoutWith originatorStart
-  layout-bounded =
-      let w = read-by-layout afi s l laid .1 in
-      let same = layout-is s l (all-of-it .long) body in
-      let inside = stands-within s l (all-of-it .long) body in
-      record {
-        within = inside;
-        most = sixty (length s) (originatorStart s) (sourceSize s) (groupSize s) (l .source) (l .group) (l .originator) (w .source .0) (w .group .0) (w .originator .0)
-            (ap (λ (x : Layout). x .source) same) (ap (λ (x : Layout). x .group) same) (ap (λ (x : Layout). x .originator) same) refl;
-      }
+  layout-bounded = record { within = stands-within s l (all-of-it .long) body }
 
 module _ (afi : ℕ) (s : List ℕ) (f : Fields) (e : readSPmsi afi s ≡ given f) where
   -- read by a layout of type 3

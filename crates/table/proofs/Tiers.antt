@@ -1,16 +1,26 @@
 -- The tier of a route by the octets of its NLRI.
-use Prim.Native.Nat.{ℕ, _+_, _/_, _≤_}
+use Prim.Native.Nat.{ℕ, _+_, _/_, _≤_, _<_}
 use mathlib.Core.Path.{_≡_, refl, sym, _∙_, ap}
 use mathlib.Core.Bool.{Bool, true, false}
 use mathlib.Core.List.{List, []}
-use borrow.Author.Tests.{eq-eqb, ne-eqb}
+use borrow.Author.Tests.{eq-eqb, ne-eqb, eqb-true}
+use lib.Dec.{eqb}
 use native.Mathlib.Omega.{arith}
 use lib.ListN.{length, getD, drop}
 use Rattle.octets.specs.Octets.{part}
+use Rattle.octets.specs.Choice.{pick, both}
+use Rattle.octets.specs.Outcome.{given, onOutcome}
 use Rattle.octets.specs.Order.{same}
+use Rattle.octets.proofs.Inversions.{opposite}
+use Rattle.octets.proofs.Orders.{unequal-other}
 use Rattle.octets.proofs.Tests.{picks, skips}
 use Rattle.nlri.specs.Fields.{Fields}
-use Rattle.routes.specs.Matching.{wildcard}
+use Rattle.nlri.specs.Groups.{ASM, SSM}
+use Rattle.routes.specs.Route.{Route, nlriOf}
+use Rattle.routes.specs.Arguments.{Query, readSPmsi}
+use Rattle.routes.specs.Matching.{ofFields, candidate, wildcard, condition, meets, distinguisherOf}
+use Rattle.routes.specs.OnePass.{tierOf}
+use Rattle.table.proofs.Standing.{fields-stand}
 use Rattle.table.specs.Scanning.{sourceSize, groupSize, originatorStart, Bounded, standing, sourceTier, anySourceTier, flowTier, tierAt}
 
 -- where the group and the originator stand, by the place of the group's length octet
@@ -66,3 +76,52 @@ module _ (router source group : List ℕ) (class : ℕ) (nlri originator : List 
   pub other-tier : flag ≡ false → 0 ≡ tierAt router source group class nlri
   unfolding tierAt
   other-tier fails = skips _ _ _ _ (ap (λ (x : List ℕ). same x router) (sym stands) ∙ sym is ∙ fails) refl
+
+-- the tiers' conditions, one after the other, by the tests of source and group: same, wildcard; of the class: SSM, ASM
+in-order : (sameSource wildSource sameGroup wildGroup ssm asm : Bool) → (wildSource ≡ true → sameSource ≡ false) → (wildGroup ≡ true → sameGroup ≡ false)
+    → _≡_ {A = ℕ} (pick wildSource (pick wildGroup 4 (pick asm (pick sameGroup 3 0) 0)) (pick sameSource (pick sameGroup 1 (pick wildGroup (pick ssm 2 0) 0)) 0))
+    (pick (both sameSource sameGroup) 1 (pick (both sameSource (both wildGroup ssm)) 2 (pick (both wildSource (both sameGroup asm)) 3 (pick (both wildSource wildGroup) 4 0))))
+unfolding pick both
+in-order true true g v s m p q = absurd (opposite {b = true} refl (p refl))
+in-order false true true true s m p q = absurd (opposite {b = true} refl (q refl))
+in-order false true false true s m p q = refl
+in-order false true true false s true p q = refl
+in-order false true true false s false p q = refl
+in-order false true false false s true p q = refl
+in-order false true false false s false p q = refl
+in-order true false true v s m p q = refl
+in-order true false false true s m p q = refl
+in-order true false false false s m p q = refl
+in-order false false g v s m p q = refl
+
+-- a wildcard is not an address of a flow
+wild-other : (address flow : List ℕ) → 0 < length flow → wildcard address ≡ true → same address flow ≡ false
+unfolding wildcard
+wild-other address flow h w =
+    let none : length address ≡ 0 = eqb-true _ _ w in
+    unequal-other address flow (λ e. let l : length address ≡ length flow = ap length e in omega arith)
+
+module _ (afi : ℕ) (q : Query) (r : Route) (f : Fields) (read : readSPmsi afi (nlriOf r) ≡ given f) where
+  -- what a test of fields says of a route whose NLRI reads
+  of-fields : (test : Fields → Bool) → ofFields afi r test ≡ test f
+  unfolding ofFields onOutcome
+  of-fields test = rw read
+
+  pub distinguisher-stands : distinguisherOf afi r ≡ standing (nlriOf r) .distinguisher
+  unfolding distinguisherOf onOutcome
+  distinguisher-stands = rw read (ap (λ (x : Fields). x .distinguisher) (fields-stand afi (nlriOf r) f read))
+
+  by-condition : 0 < length (q .source) → 0 < length (q .group)
+      → flowTier (q .source) (q .group) (q .class) f ≡ pick (condition q 1 f) 1 (pick (condition q 2 f) 2 (pick (condition q 3 f) 3 (pick (condition q 4 f) 4 0)))
+  unfolding flowTier sourceTier anySourceTier condition pick
+  by-condition hs hg =
+      in-order (same (f .source) (q .source)) (wildcard (f .source)) (same (f .group) (q .group)) (wildcard (f .group)) (eqb (q .class) SSM) (eqb (q .class) ASM)
+      (wild-other (f .source) (q .source) hs) (wild-other (f .group) (q .group) hg)
+
+  -- the tier by the octets is the first whose condition the route meets
+  pub tier-stands : 0 < length (q .source) → 0 < length (q .group) → tierAt (q .router) (q .source) (q .group) (q .class) (nlriOf r) ≡ tierOf afi q r
+  unfolding tierAt tierOf candidate meets
+  tier-stands hs hg =
+      ap (λ (x : Fields). pick (same (x .originator) (q .router)) (flowTier (q .source) (q .group) (q .class) x) 0) (sym (fields-stand afi (nlriOf r) f read))
+      ∙ rw (of-fields (λ g. same (g .originator) (q .router)), of-fields (condition q 1), of-fields (condition q 2), of-fields (condition q 3), of-fields (condition q 4))
+      (ap (λ (n : ℕ). pick (same (f .originator) (q .router)) n 0) (by-condition hs hg))

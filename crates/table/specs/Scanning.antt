@@ -43,10 +43,9 @@ standing s =
       key = [];
     }
 
--- they lie within the NLRI, which is no longer than two addresses and an originator of 16 octets each make it
+-- they lie within the NLRI
 pub record Bounded (s : List ℕ) : Type 0 where
   pub within : originatorStart s ≤ length s
-  pub most : length s ≤ 60
 
 -- the tier of a route whose source is the flow's, by its group
 unfoldable pub sourceTier : (group : List ℕ) (class : ℕ) (routeGroup : List ℕ) → ℕ

@@ -1,0 +1,130 @@
+-- The best place that the scan finds holds the route that the match's rule takes.
+use Prim.Native.Nat.{ℕ, zero, suc, _+_, _*_, _≤_, _<_}
+use mathlib.Core.Path.{_≡_, refl, sym, _∙_, ap, ap₂, subst}
+use mathlib.Core.Bool.{Bool, true, false}
+use mathlib.Core.List.{List, []}
+use native.Mathlib.Omega.{arith}
+use borrow.Author.Tests.{eq-eqb, ne-eqb, eqb-true, eqb-false}
+use lib.Dec.{ltb, eqb}
+use lib.ListN.{length, take, drop}
+use lib.Seq.{drop-drop}
+use Rattle.octets.specs.Choice.{pick, both, either}
+use Rattle.octets.specs.Octets.{part}
+use Rattle.octets.specs.Order.{before}
+use Rattle.octets.proofs.Outcomes.{pick-true, pick-false}
+use Rattle.octets.proofs.Picked.{tested}
+use Rattle.routes.specs.Route.{Route, nlriOf}
+use Rattle.routes.specs.Arguments.{Query}
+use Rattle.routes.specs.Place.{routeIn}
+use Rattle.routes.specs.Table.{afiIn, countIn, routesFrom, routesOf, soundOf}
+use Rattle.routes.specs.Matching.{distinguisherOf, Found, nothing, found, matchIn}
+use Rattle.routes.specs.OnePass.{tierOf, ahead, against, better, scanned}
+use Rattle.routes.proofs.Bounds.{Accepted}
+use Rattle.routes.proofs.Places.{from-increasing}
+use Rattle.routes.proofs.Lookups.{increasing-distinct}
+use Rattle.routes.proofs.OnePass.{one-pass}
+use Rattle.routes.proofs.Images.{Sound, sound}
+use Rattle.table.specs.declared.scan.Best.{Best}
+use Rattle.table.specs.Scanning.{standing, tierAt, nlriAt, aheadAt, betterAt, scanAt, noneYet, bestIn}
+use Rattle.table.proofs.Tiers.{tier-stands, distinguisher-stands}
+use Rattle.table.proofs.Taken.{Taken, route-accepted, places-taken}
+use Rattle.table.proofs.Scans.{Kept, better-one, place-here, places-next, best-none, best-some}
+
+-- of two tests in order, and of both at once
+in-turn : (a b c : Bool) → pick a true (pick b c false) ≡ either a (both b c)
+unfolding pick either both
+in-turn true b c = refl
+in-turn false true c = refl
+in-turn false false c = refl
+
+best-picked : (t : List ℕ) (b : Bool) (x y : Best) → bestIn t (pick b x y) ≡ pick b (bestIn t x) (bestIn t y)
+unfolding pick
+best-picked t true x y = refl
+best-picked t false x y = refl
+
+-- any route goes ahead of none
+ahead-first : (t : List ℕ) (tier at : ℕ) (best : Best) → eqb (best .tier) 0 ≡ true → aheadAt t tier at best ≡ true
+unfolding aheadAt
+ahead-first t tier at best h = pick-true _ _ _ h
+
+routeAt : List ℕ → ℕ → Route
+routeAt t at = routeIn (part t at 128)
+
+module _ (afi : ℕ) (q : Query) (source : 0 < length (q .source)) (group : 0 < length (q .group)) (t : List ℕ) where
+  tier-here : (at : ℕ) → Taken afi t at → tierAt (q .router) (q .source) (q .group) (q .class) (nlriAt t at) ≡ tierOf afi q (routeAt t at)
+  unfolding nlriAt routeAt
+  tier-here at taken = let a = route-accepted afi t at taken in tier-stands afi q (routeIn (part t at 128)) (a .fields) (a .read) source group
+
+  distinguisher-here : (at : ℕ) → Taken afi t at → standing (nlriAt t at) .distinguisher ≡ distinguisherOf afi (routeAt t at)
+  unfolding nlriAt routeAt
+  distinguisher-here at taken = let a = route-accepted afi t at taken in sym (distinguisher-stands afi q (routeIn (part t at 128)) (a .fields) (a .read))
+
+  ahead-here : (tier at : ℕ) (best : Best) → Taken afi t at → Taken afi t (best .start) → (best .tier ≡ 0 → ⊥)
+      → aheadAt t tier at best ≡ ahead afi tier (routeAt t at) (best .tier) (routeAt t (best .start))
+  unfolding aheadAt ahead
+  ahead-here tier at best new old some =
+      pick-false _ _ _ (ne-eqb _ _ some) ∙ in-turn _ _ _
+      ∙ ap₂ (λ (x y : List ℕ). either (ltb tier (best .tier)) (both (eqb tier (best .tier)) (before x y))) (distinguisher-here at new) (distinguisher-here (best .start) old)
+
+  -- one step, where the route has a tier
+  against-here : (tier at : ℕ) (best : Best) → Taken afi t at → Kept (Taken afi t) best → (tier ≡ 0 → ⊥)
+      → bestIn t (pick (aheadAt t tier at best) (record { tier = tier; start = at }) best) ≡ against afi tier (routeAt t at) (bestIn t best)
+  unfolding against routeAt
+  against-here tier at best new old some =
+      best-picked t _ _ _ ∙ ap (λ (f : Found). pick (aheadAt t tier at best) f (bestIn t best)) (best-some t (record { tier = tier; start = at }) some)
+      ∙ tested (eqb (best .tier) 0)
+      (λ h.
+      let none : bestIn t best ≡ nothing = best-none t best (eqb-true _ _ h) in
+      pick-true _ _ _ (ahead-first t tier at best h) ∙ sym (ap (against afi tier (routeAt t at)) none))
+      (λ h.
+      let there : best .tier ≡ 0 → ⊥ = eqb-false _ _ h in
+      let one : bestIn t best ≡ found (best .tier) (routeAt t (best .start)) = best-some t best there in
+      ap₂ (λ (b : Bool) (f : Found). pick b (found tier (routeAt t at)) f) (ahead-here tier at best new (old there) there) one
+      ∙ sym (ap (against afi tier (routeAt t at)) one))
+
+  better-here : (at : ℕ) (best : Best) → Taken afi t at → Kept (Taken afi t) best
+      → bestIn t (betterAt (q .router) (q .source) (q .group) (q .class) t best at) ≡ better afi q (bestIn t best) (routeAt t at)
+  unfolding betterAt better
+  better-here at best new old =
+      let tier : ℕ = tierAt (q .router) (q .source) (q .group) (q .class) (nlriAt t at) in
+      let is : tier ≡ tierOf afi q (routeAt t at) = tier-here at new in
+      best-picked t _ _ _
+      ∙ tested (eqb tier 0)
+      (λ h. pick-true _ _ _ h ∙ sym (pick-true _ _ _ (ap (λ (n : ℕ). eqb n 0) (sym is) ∙ h)))
+      (λ h.
+      pick-false _ _ _ h ∙ against-here tier at best new old (eqb-false _ _ h) ∙ ap (λ (n : ℕ). against afi n (routeAt t at) (bestIn t best)) is
+      ∙ sym (pick-false _ _ _ (ap (λ (n : ℕ). eqb n 0) (sym is) ∙ h)))
+
+  scan-here : (count at : ℕ) (best : Best) → ((k : ℕ) → k < count → Taken afi t (at + 128 * k)) → Kept (Taken afi t) best
+      → (bestIn t (scanAt (q .router) (q .source) (q .group) (q .class) t count at best) ≡ scanned afi q (bestIn t best) (routesFrom count (drop at t)))
+      × Kept (Taken afi t) (scanAt (q .router) (q .source) (q .group) (q .class) t count at best)
+  unfolding scanAt scanned routesFrom routeAt part
+  scan-here zero at best all old = (refl, old)
+  scan-here (suc count) at best all old =
+      let new : Taken afi t at = place-here (Taken afi t) (suc count) at all (omega arith) in
+      let next : Best = betterAt (q .router) (q .source) (q .group) (q .class) t best at in
+      let rest = scan-here count (at + 128) next (λ k h. places-next (Taken afi t) (suc count) at all (omega arith) k (omega arith)) (better-one _ _ _ _ t (Taken afi t) best at old new) in
+      (rest .0 ∙ ap₂ (λ (f : Found) (s : List ℕ). scanned afi q f (routesFrom count s)) (better-here at best new old) (sym (drop-drop 128 at t)), rest .1)
+
+-- what the scan of a sound table finds is the match, and where it finds a route, its place is taken
+module _ (t : List ℕ) (is : soundOf t ≡ true) (q : Query) (source : 0 < length (q .source)) (group : 0 < length (q .group)) where
+  pub table-taken : (k : ℕ) → k < countIn t → Taken (afiIn t) t (8 + 128 * k)
+  table-taken =
+      let s = sound t is in
+      let size = s .size .is in
+      let within = s .within in
+      places-taken (afiIn t) [] (countIn t) t 8 (s .places) (omega arith)
+
+  whole : (bestIn t (scanAt (q .router) (q .source) (q .group) (q .class) t (countIn t) 8 noneYet) ≡ scanned (afiIn t) q (bestIn t noneYet) (routesFrom (countIn t) (drop 8 t)))
+      × Kept (Taken (afiIn t) t) (scanAt (q .router) (q .source) (q .group) (q .class) t (countIn t) 8 noneYet)
+  unfolding noneYet
+  whole = scan-here (afiIn t) q source group t (countIn t) 8 noneYet table-taken (λ h. absurd (h refl))
+
+  pub scan-matches : bestIn t (scanAt (q .router) (q .source) (q .group) (q .class) t (countIn t) 8 noneYet) ≡ matchIn (afiIn t) q (routesOf t)
+  unfolding noneYet routesOf
+  scan-matches =
+      whole .0 ∙ ap (λ (f : Found). scanned (afiIn t) q f (routesFrom (countIn t) (drop 8 t))) (best-none t noneYet refl)
+      ∙ one-pass (afiIn t) q (routesOf t) (increasing-distinct (from-increasing (afiIn t) [] (countIn t) (drop 8 t) (sound t is .places)))
+
+  pub scan-taken : Kept (Taken (afiIn t) t) (scanAt (q .router) (q .source) (q .group) (q .class) t (countIn t) 8 noneYet)
+  scan-taken = whole .1

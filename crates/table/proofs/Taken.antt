@@ -1,0 +1,76 @@
+-- The taken places of a sound table.
+use Prim.Native.Nat.{ℕ, zero, suc, _+_, _*_, _≤_, _<_}
+use mathlib.Core.Path.{_≡_, refl, sym, _∙_, ap, subst}
+use mathlib.Core.Bool.{true}
+use mathlib.Core.List.{List, []}
+use native.Mathlib.Omega.{arith}
+use borrow.Author.Tests.{leb-true}
+use lib.ListN.{length, take, drop}
+use lib.Seq.{drop-drop}
+use Rattle.octets.specs.Outcome.{given}
+use Rattle.octets.specs.Octets.{part}
+use Rattle.octets.proofs.Inversions.{both-true-left, both-true-right, unless, passed, given-same}
+use Rattle.octets.proofs.Lists.{part-length}
+use Rattle.tunnel.specs.Attribute.{Fields, fieldsIn, readAttribute}
+use Rattle.routes.specs.Route.{nlriOf, attributeOf}
+use Rattle.routes.specs.Arguments.{readLabelled}
+use Rattle.routes.specs.Place.{endIn, routeIn, placeSound}
+use Rattle.routes.specs.Table.{placesSound}
+use Rattle.routes.proofs.Bounds.{Accepted, accepted, sizes-of}
+use Rattle.routes.proofs.Places.{sound-acceptable}
+use Rattle.table.specs.Scanning.{nlriAt, Readable, Writable}
+use Rattle.table.proofs.Standing.{fields-bounded}
+
+-- a sound place starts there
+pub record Taken (afi : ℕ) (t : List ℕ) (at : ℕ) : Type 0 where
+  pub within : at + 128 ≤ length t
+  pub sound : placeSound afi (part t at 128) ≡ true
+
+-- an attribute that reads gives the fields that stand in it
+fields-in : (s : List ℕ) (f : Fields) → readAttribute s ≡ given f → readAttribute s ≡ given (fieldsIn s)
+unfolding readAttribute
+fields-in s f e = e ∙ ap given (sym (given-same (passed _ _ _ (unless _ _ _ _ (unless _ _ _ _ e .1) .1) .second)))
+
+labelled-read : (s : List ℕ) (f : Fields) → readLabelled s ≡ given f → readAttribute s ≡ given (fieldsIn s)
+unfolding readLabelled
+labelled-read s f e = let p = passed _ _ _ e in fields-in s (p .value) (p .first)
+
+module _ (afi : ℕ) (t : List ℕ) (at : ℕ) (taken : Taken afi t at) where
+  place-end : endIn (part t at 128) ≤ 128
+  unfolding placeSound
+  place-end = leb-true _ _ (both-true-left _ _ (taken .sound))
+
+  -- its route is acceptable
+  pub route-accepted : Accepted afi (nlriOf (routeIn (part t at 128))) (attributeOf (routeIn (part t at 128)))
+  route-accepted = accepted afi (routeIn (part t at 128)) (sound-acceptable afi (part t at 128) (taken .sound))
+
+  -- so its octets can be read where they stand
+  pub taken-readable : Readable t at
+  unfolding nlriAt
+  taken-readable = record { within = taken .within; ends = place-end; bounded = fields-bounded afi _ (route-accepted .fields) (route-accepted .read) }
+
+  -- and its route can be written
+  pub taken-writable : (output : List ℕ) → 124 ≤ length output → Writable (part t at 128) output
+  taken-writable output room =
+      let sizes = sizes-of afi (routeIn (part t at 128)) (sound-acceptable afi (part t at 128) (taken .sound)) in
+      let n = sizes .nlri in
+      let a = sizes .attribute in
+      record {
+        within = rw (part-length t at 128 (taken .within)) place-end;
+        read = labelled-read _ (route-accepted .attributeFields) (route-accepted .labelled);
+        most = omega arith;
+        room = room;
+      }
+
+-- the places that soundness has judged
+pub places-taken : (afi : ℕ) (previous : List ℕ) (count : ℕ) (t : List ℕ) (at : ℕ) → placesSound afi previous count (drop at t) ≡ true → at + 128 * count ≤ length t
+    → (k : ℕ) → k < count → Taken afi t (at + 128 * k)
+unfolding placesSound part
+places-taken afi previous zero t at h l k some = absurd (omega arith)
+places-taken afi previous (suc count) t at h l zero some =
+    let e : at ≡ at + 128 * zero = omega arith in
+    subst (Taken afi t) e (record { within = omega arith; sound = both-true-left _ _ h })
+places-taken afi previous (suc count) t at h l (suc k) some =
+    let e : at + 128 + 128 * k ≡ at + 128 * suc k = omega arith in
+    let later = both-true-right _ _ (both-true-right _ _ h) in
+    subst (Taken afi t) e (places-taken afi _ count t (at + 128) (ap (placesSound afi _ count) (sym (drop-drop 128 at t)) ∙ later) (omega arith) k (omega arith))
