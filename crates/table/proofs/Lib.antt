@@ -12,3 +12,5 @@ pub mod Tiers
 pub mod Answers
 pub mod Taken
 pub mod BestRoutes
+pub mod FlowClasses
+pub mod Matches

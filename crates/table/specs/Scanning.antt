@@ -15,6 +15,7 @@ use Rattle.nlri.specs.Family.{originatorSize}
 use Rattle.nlri.specs.Groups.{ASM, SSM, classOf}
 use Rattle.tunnel.specs.Attribute.{fieldsIn, readAttribute}
 use Rattle.routes.specs.Route.{nlriOf, attributeOf}
+use Rattle.routes.specs.Arguments.{Query}
 use Rattle.routes.specs.Place.{PLACE, endIn, routeIn}
 use Rattle.routes.specs.Matching.{wildcard, Found, nothing, found}
 use Rattle.table.specs.declared.scan.Best.{Best}
@@ -116,3 +117,7 @@ Answerable t best output = (best .tier ≡ 0 → ⊥) → (best .start + PLACE �
 unfoldable pub flowClass : (afi : ℕ) (router source group : List ℕ) → Outcome ℕ
 flowClass afi router source group =
     pick (originatorSize (length router)) (pick (eqb (length source) (length group)) (classOf afi group) (refused FLOW)) (refused FLOW)
+
+-- a flow that a match takes, asked of a router
+unfoldable pub asked : (router source group : List ℕ) (class : ℕ) → Query
+asked router source group class = record { router = router; source = source; group = group; class = class }

@@ -6,12 +6,11 @@ mod find;
 mod flow;
 mod header;
 mod judge;
-mod place;
+mod making;
+mod matching;
 mod scan;
 mod sound;
 mod tier;
-mod making;
-mod scan;
-mod sound;
 
 pub use making::make;
+pub use matching::match_flow;
