@@ -1,7 +1,6 @@
 -- A flow judged by its router's size, by source and group of one size, and by the group's class.
 use Prim.Native.Nat.{ℕ, _*_, _/_, _<_}
-use mathlib.Core.Path.{_≡_, refl, sym, _∙_, ap, ap₂}
-use mathlib.Core.Bool.{Bool, true, false}
+use mathlib.Core.Path.{_≡_, refl, sym, _∙_, ap}
 use mathlib.Core.Logic.{_⊎_, inl, inr, ⊎-elim}
 use mathlib.Core.List.{List}
 use native.Mathlib.Omega.{arith}
@@ -23,7 +22,7 @@ use Rattle.nlri.proofs.Lengths.{family-octets, family-good}
 use Rattle.routes.specs.Arguments.{Query, readFlow}
 use Rattle.routes.specs.Images.{Family}
 use Rattle.routes.proofs.Flows.{flow-asked, flow-refused}
-use Rattle.table.specs.Scanning.{asked, flowClass}
+use Rattle.table.specs.Scanning.{queryOf, flowClass}
 
 -- a group of another size than the family's
 unsized : (family : ℕ) (g : List ℕ) → (length g ≡ family / 8 → ⊥) → classUnder family g ≡ refused FLOW
@@ -55,8 +54,8 @@ module _ (family : ℕ) (whole : 8 * (family / 8) ≡ family) (source group : Li
       (λ s. pick-false _ _ _ s ∙ sym (pick-false _ _ _ unlike)))
 
 module _ (afi : ℕ) (router source group : List ℕ) (good : Family afi) where
-  by-class : readFlow afi router source group ≡ andThen (flowClass afi router source group) (λ class. given (asked router source group class))
-  unfolding readFlow flowClass asked
+  by-class : readFlow afi router source group ≡ andThen (flowClass afi router source group) (λ class. given (queryOf router source group class))
+  unfolding readFlow flowClass queryOf
   by-class =
       let family = family-good afi good in
       let next : ℕ → Outcome Query = λ class. given (record { router = router; source = source; group = group; class = class }) in
@@ -74,11 +73,8 @@ module _ (afi : ℕ) (router source group : List ℕ) (good : Family afi) where
     unfolding groupOf
     class-is = ap (λ (c : Group). c .«group_class») is
 
-    Judged : Type 0
-    Judged = (flowClass afi router source group ≡ given (class .«group_class»)) ⊎ (readFlow afi router source group ≡ refused (class .number))
-
-    judged : Judged
-    unfolding Judged numberOf onOutcome
+    judged : (flowClass afi router source group ≡ given (class .«group_class»)) ⊎ (readFlow afi router source group ≡ refused (class .number))
+    unfolding numberOf onOutcome
     judged =
         ⊎-elim
         (λ g. inl (g .1 ∙ ap given (sym (class-is ∙ rw (g .1)))))
@@ -90,14 +86,12 @@ module _ (afi : ℕ) (router source group : List ℕ) (good : Family afi) where
     done e = number-is ∙ rw e
 
     pub flow-stopped : (class .number ≡ 0 → ⊥) → readFlow afi router source group ≡ refused (class .number)
-    unfolding Judged
     flow-stopped h = ⊎-elim (λ g. absurd (h (done g))) (λ n. n) judged
 
     given-class : class .number ≡ 0 → flowClass afi router source group ≡ given (class .«group_class»)
-    unfolding Judged
     given-class h = ⊎-elim (λ g. g) (λ n. let e : class .number ≡ FLOW = flow-refused afi router source group _ good n in absurd (omega arith)) judged
 
-    pub flow-taken : class .number ≡ 0 → readFlow afi router source group ≡ given (asked router source group (class .«group_class»))
+    pub flow-taken : class .number ≡ 0 → readFlow afi router source group ≡ given (queryOf router source group (class .«group_class»))
     flow-taken h = by-class ∙ sym (goes _ _ _ _ (given-class h) refl)
 
     -- a flow that is taken has a source and a group

@@ -7,9 +7,9 @@ pub mod Ranks
 pub mod Finds
 pub mod Changes
 pub mod Scans
-pub mod Standing
+pub mod FieldStarts
 pub mod Tiers
-pub mod Answers
+pub mod RouteWrites
 pub mod Taken
 pub mod BestRoutes
 pub mod FlowClasses

@@ -1,7 +1,7 @@
 -- What a match answers, case by case.
 use Prim.Native.Nat.{ℕ, _≤_, _<_}
 use mathlib.Core.Path.{_≡_, refl, sym, _∙_, ap}
-use mathlib.Core.Bool.{Bool, true, false}
+use mathlib.Core.Bool.{true, false}
 use mathlib.Core.List.{List}
 use borrow.Author.Tests.{lt-ltb, le-ltb}
 use lib.ListN.{length}
@@ -19,7 +19,7 @@ use Rattle.routes.specs.Calls.{Changed, refusedMatch, foundAnswer, foundOutput,
 use Rattle.routes.specs.Images.{Family}
 use Rattle.routes.proofs.Headers.{sound-family}
 use Rattle.routes.proofs.Images.{sound}
-use Rattle.table.specs.Scanning.{asked, flowClass}
+use Rattle.table.specs.Scanning.{queryOf, flowClass}
 use Rattle.table.proofs.FlowClasses.{flow-stopped, flow-taken, flow-some}
 
 -- an answer and what it leaves in the output
@@ -87,6 +87,6 @@ module _ (t router source group : List ℕ) (is : soundOf t ≡ true) (afi : ℕ
     answers-space done h a = match-crowded t router source group output answer is _ (flow-taken (afiIn t) router source group good class judges-its done) h a
 
     pub answers-search : class .number ≡ 0 → 124 ≤ length output → (left : List ℕ)
-        → answer ≡ foundAnswer (matchIn (afiIn t) (asked router source group (class .«group_class»)) (routesOf t))
-        → left ≡ foundOutput (matchIn (afiIn t) (asked router source group (class .«group_class»)) (routesOf t)) output → Answers (matchOf t router source group output) answer left
+        → answer ≡ foundAnswer (matchIn (afiIn t) (queryOf router source group (class .«group_class»)) (routesOf t))
+        → left ≡ foundOutput (matchIn (afiIn t) (queryOf router source group (class .«group_class»)) (routesOf t)) output → Answers (matchOf t router source group output) answer left
     answers-search done h left a l = match-searched t router source group output answer is _ (flow-taken (afiIn t) router source group good class judges-its done) left h a l

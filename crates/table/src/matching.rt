@@ -6,7 +6,7 @@ ghost use lib.ListN.{length};
 ghost use Rattle.routes.specs.Table.{afiIn, routesOf, soundOf};
 ghost use Rattle.routes.specs.Matching.{matchIn};
 ghost use Rattle.routes.specs.Calls.{refusedMatch, foundAnswer, foundOutput, matchOf};
-ghost use Rattle.table.specs.Scanning.{asked};
+ghost use Rattle.table.specs.Scanning.{queryOf};
 use crate::answer;
 use crate::flow;
 use crate::scan;
@@ -40,8 +40,8 @@ fn search(
     output: &mut [u8],
 ) -> Matched
     requires { ⌜ (soundOf (now table) ≡ true) × (124 ≤ length (now output)) × (0 < length (now source)) × (0 < length (now group)) ⌝ }
-    ensures { λ r. ⌜ r ≡ foundAnswer (matchIn (afiIn (now (table .entry))) (asked (now (router .entry)) (now (source .entry)) (now (group .entry)) class) (routesOf (now (table .entry)))) ⌝ }
-    ensures { λ r. ⌜ now (output .exit) ≡ foundOutput (matchIn (afiIn (now (table .entry))) (asked (now (router .entry)) (now (source .entry)) (now (group .entry)) class) (routesOf (now (table .entry)))) (now (output .entry)) ⌝ }
+    ensures { λ r. ⌜ r ≡ foundAnswer (matchIn (afiIn (now (table .entry))) (queryOf (now (router .entry)) (now (source .entry)) (now (group .entry)) class) (routesOf (now (table .entry)))) ⌝ }
+    ensures { λ r. ⌜ now (output .exit) ≡ foundOutput (matchIn (afiIn (now (table .entry))) (queryOf (now (router .entry)) (now (source .entry)) (now (group .entry)) class) (routesOf (now (table .entry)))) (now (output .entry)) ⌝ }
 {
     let count = sound::count_of(table);
     let best = scan::scan(table, count, router, source, group, class);

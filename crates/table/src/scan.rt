@@ -1,6 +1,5 @@
 // The best route for a flow, found in one pass over a sound table's places.
 ghost use mathlib.Core.Path.{_≡_};
-ghost use mathlib.Core.List.{List};
 ghost use Prim.Native.Nat.{ℕ, _+_, _*_, _<_};
 ghost use Rattle.octets.specs.Order.{before};
 ghost use Rattle.table.specs.Scanning.{standing, nlriAt, Readable, aheadAt, betterAt, scanAt, noneYet};
