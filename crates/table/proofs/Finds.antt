@@ -1,7 +1,7 @@
 -- The places of a sound table by their indexes.
 use Prim.Native.Nat.{ℕ, zero, suc, _+_, _*_, _≤_, _<_}
 use mathlib.Core.Path.{_≡_, refl, sym, ap, _∙_}
-use mathlib.Core.Bool.{true, false}
+use mathlib.Core.Bool.{Bool, true, false}
 use mathlib.Core.List.{List, [], _∷_}
 use native.Mathlib.Omega.{arith}
 use borrow.Author.Tests.{leb-true}
@@ -11,11 +11,12 @@ use Rattle.octets.specs.Octets.{part}
 use Rattle.octets.specs.Order.{same}
 use Rattle.octets.proofs.Inversions.{both-true-left, both-true-right}
 use Rattle.octets.proofs.Lists.{part-length}
-use Rattle.routes.specs.Route.{Route, nlriOf}
+use Rattle.routes.specs.Route.{nlriOf, holds}
 use Rattle.routes.specs.Place.{endIn, routeIn, placeSound}
 use Rattle.routes.specs.Table.{afiIn, countIn, placesIn, routesFrom, routesOf, placesSound, soundOf}
-use Rattle.routes.proofs.Images.{sound, routes-length}
-use Rattle.table.specs.Changing.{routeAt, firstIs}
+use Rattle.routes.proofs.Images.{sound, routes-length, sound-holdable}
+use Rattle.table.specs.Changing.{routeAt, rank, firstIs}
+use Rattle.table.proofs.Ranks.{held-at-rank, first-within}
 
 next-place : (i : ℕ) (s : List ℕ) → drop (128 * i) (drop 128 s) ≡ drop (128 * suc i) s
 next-place i s =
@@ -48,6 +49,14 @@ unfolding routesOf routeAt
 routes-from-index t i h =
     from-index i (countIn t) (drop 8 t) h ∙ ap (λ (x : List ℕ). routeIn x ∷ drop (suc i) (routesFrom (countIn t) (drop 8 t))) (place-part i t)
 
+-- a sound table has a header
+pub header-within : (t : List ℕ) → soundOf t ≡ true → 8 ≤ length t
+header-within t h = let is = sound t h .size .is in omega arith
+
+-- so many places lie within the table
+pub places-within : (t : List ℕ) (n : ℕ) → soundOf t ≡ true → n ≤ placesIn t → 8 + 128 * n ≤ length t
+places-within t n h k = let is = sound t h .size .is in omega arith
+
 -- a taken place lies within the table
 pub place-within : (t : List ℕ) (i : ℕ) → soundOf t ≡ true → i < countIn t → 8 + 128 * i + 128 ≤ length t
 place-within t i h k =
@@ -73,3 +82,11 @@ first-at t n i h = ap (firstIs n) (routes-from-index t i h)
 pub first-past : (t n : List ℕ) (i : ℕ) → countIn t ≤ i → firstIs n (drop i (routesOf t)) ≡ false
 unfolding firstIs
 first-past t n i h = ap (firstIs n) (drop-of-length-le (routesOf t) {i = i} (rw (routes-length t) h))
+
+-- an NLRI is held where it stands
+pub held-by : (t n : List ℕ) (k : ℕ) (b : Bool) → soundOf t ≡ true → k ≡ rank n (routesOf t) → firstIs n (drop k (routesOf t)) ≡ b → holds n (routesOf t) ≡ b
+held-by t n k b h e f = held-at-rank n (sound-holdable t h .increasing) ∙ ap (λ (i : ℕ). firstIs n (drop i (routesOf t))) (sym e) ∙ f
+
+-- where a held NLRI stands
+pub held-within : (t n : List ℕ) (k : ℕ) → soundOf t ≡ true → firstIs n (drop k (routesOf t)) ≡ true → k < countIn t
+held-within t n k h f = let s = first-within n (routesOf t) k f in omega (arith, routes-length t)

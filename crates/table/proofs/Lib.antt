@@ -5,7 +5,10 @@ pub mod Moves
 pub mod Places
 pub mod Ranks
 pub mod Finds
+pub mod Gaps
 pub mod Changes
+pub mod Installs
+pub mod Withdraws
 pub mod Scans
 pub mod FieldStarts
 pub mod Tiers

@@ -21,7 +21,8 @@ use Rattle.nlri.proofs.Theorems.{lengths}
 use Rattle.routes.specs.Table.{headerOf, placesOf, imageOf, placesIn, tableSize}
 use Rattle.routes.specs.Calls.{makeOutcome, makeOf}
 use Rattle.routes.proofs.Headers.{sound-size}
-use Rattle.table.proofs.Places.{zeros-length, zeros-split}
+use Rattle.routes.proofs.Places.{zeros-length}
+use Rattle.table.proofs.Places.{zeros-split}
 use Rattle.table.proofs.Sounds.{header-room}
 
 -- zeros of a table's size have room for the header

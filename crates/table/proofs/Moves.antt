@@ -4,7 +4,7 @@ use mathlib.Core.Path.{_≡_, refl, sym, ap, _∙_}
 use mathlib.Core.List.{List, [], _∷_, _++_, append-assoc, append-nil}
 use native.Mathlib.Numerals.{add-one}
 use native.Mathlib.Omega.{arith}
-use lib.ListN.{length, getD, take, drop, set, replicate, length-append, length-take, length-drop, drop-of-length-le, take-append-drop, List·getD-append}
+use lib.ListN.{length, getD, take, drop, set, replicate, length-take, length-drop, drop-of-length-le, List·getD-append}
 use lib.Seq.{take-suc, drop-cons, append-snoc, set-at, take-all, getD-take, getD-drop, getD-append-add, length-take-le, take-take, take-add, take-at, drop-at, drop-drop, drop-length}
 use Rattle.octets.specs.Octets.{placed}
 use Rattle.octets.specs.Order.{zeros}

@@ -1,28 +1,21 @@
 -- Places as they are written.
 use Prim.Native.Nat.{ℕ, _+_, _-_, _≤_}
-use mathlib.Core.Path.{_≡_, refl, sym, ap, ap₂, _∙_}
+use mathlib.Core.Path.{_≡_, refl, sym, ap, _∙_}
 use mathlib.Core.List.{List, [], _∷_, _++_, append-assoc}
 use native.Mathlib.Nat.{zero-add}
 use native.Mathlib.Omega.{arith}
-use lib.ListN.{length, take, drop, length-append, length-replicate, replicate-append-replicate}
+use lib.ListN.{length, drop, length-append, replicate-append-replicate}
 use lib.Seq.{drop-at}
 use Rattle.octets.specs.Octets.{placed}
 use Rattle.octets.specs.Order.{zeros}
 use Rattle.octets.proofs.Lists.{Put, put-then}
 use Rattle.routes.specs.Route.{route}
 use Rattle.routes.specs.Place.{placeOf}
-
-pub zeros-length : (n : ℕ) → length (zeros n) ≡ n
-unfolding zeros
-zeros-length n = length-replicate n 0
+use Rattle.routes.proofs.Places.{zeros-length}
 
 pub zeros-split : (m n : ℕ) → zeros (m + n) ≡ zeros m ++ zeros n
 unfolding zeros
 zeros-split m n = sym (replicate-append-replicate m n 0)
-
-pub place-length : (n a : List ℕ) → 2 + (length n + length a) ≤ 128 → length (placeOf (route n a)) ≡ 128
-unfolding placeOf
-place-length n a h = simp (length-append, zeros-length) (omega arith)
 
 -- zeros with octets put over their front
 over-zeros : (size : ℕ) (e : List ℕ) → length e ≤ size → placed 0 e (zeros size) ≡ e ++ zeros (size - length e)
@@ -34,7 +27,7 @@ over-zeros size e h =
     rw (zero-add (length e), rest)
 
 -- sizes, NLRI and attribute put into zeros one after the other
-pub place-written : (n a z x y w : List ℕ) (i j k : ℕ) → 2 + (length n + length a) ≤ 128 → z ≡ zeros 128 → Put 0 (length n ∷ (length a ∷ [])) z i x → Put i n x j y → Put j a y k w → w ≡ placeOf (route n a)
+pub place-written : (n a z x y w : List ℕ) (i j k : ℕ) → length n + length a ≤ 126 → z ≡ zeros 128 → Put 0 (length n ∷ (length a ∷ [])) z i x → Put i n x j y → Put j a y k w → w ≡ placeOf (route n a)
 unfolding placeOf
 place-written n a z x y w i j k h e p q r =
     let lz : length z ≡ 128 = ap length e ∙ zeros-length 128 in

@@ -1,18 +1,17 @@
 -- Where an NLRI stands, or belongs, among routes: what is at the front of the routes from its rank on.
 use Prim.Native.Nat.{ℕ, zero, suc, _+_, _≤_, _<_}
 use mathlib.Core.Path.{_≡_, refl, sym, ap, _∙_}
-use mathlib.Core.Bool.{Bool, true, false}
+use mathlib.Core.Bool.{true, false}
 use mathlib.Core.List.{List, [], _∷_, _++_}
 use native.Mathlib.Numerals.{add-one}
 use native.Mathlib.Omega.{arith}
 use lib.ListN.{length, take, drop, drop-of-length-le}
-use Rattle.octets.specs.Choice.{pick}
 use Rattle.octets.specs.Order.{same, before}
 use Rattle.octets.proofs.Inversions.{opposite}
 use Rattle.octets.proofs.Orders.{same-swapped, before-other, before-differs, before-once}
 use Rattle.octets.proofs.Outcomes.{pick-true, pick-false}
 use Rattle.octets.proofs.Picked.{tested}
-use Rattle.routes.specs.Route.{Route, route, nlriOf, holds, inserted, removed, Increasing, last, next}
+use Rattle.routes.specs.Route.{Route, nlriOf, holds, inserted, removed, Increasing, last, next}
 use Rattle.routes.proofs.Lookups.{lookup-first, lookup-later, lookup-early, holds-held, holds-absent, holds-alike, lookup-none}
 use Rattle.table.specs.Changing.{rank, firstIs}
 

@@ -123,7 +123,7 @@ module _ (s : List ℕ) (r : AttributeReading) (e : outcomeOf r ≡ readAnswer s
       number-goes _ _ (p .fields) 0 (p .is) (number-skips _ _ _ 0 (both-left _ _ (ne-eqb _ 11 (λ z. t (sym (p .type) ∙ z)))) refl)
 
 -- a number other than DONE is a refusal's
-refused-of : {A : Type 0} (o : Outcome A) (n : ℕ) → n ≡ numberOf o → (n ≡ DONE → ⊥) → o ≡ refused n
+pub refused-of : {A : Type 0} (o : Outcome A) (n : ℕ) → n ≡ numberOf o → (n ≡ DONE → ⊥) → o ≡ refused n
 unfolding numberOf
 refused-of (given a) n e h = absurd (h e)
 refused-of (refused m) n e h = ap refused (sym e)

@@ -1,14 +1,17 @@
 -- What finding and changing compute.
 use Prim.Native.Nat.{ℕ, suc, _+_, _-_, _*_}
+use mathlib.Core.Path.{_≡_}
 use mathlib.Core.Bool.{Bool, false}
 use mathlib.Core.List.{List, [], _∷_, _++_}
-use lib.ListN.{length, take, drop}
-use Rattle.octets.specs.Octets.{part}
+use lib.ListN.{take, drop}
+use Rattle.octets.specs.Octets.{part, placed}
 use Rattle.octets.specs.Choice.{pick}
 use Rattle.octets.specs.Order.{same, before, zeros}
+use Rattle.routes.specs.declared.Installed.{Installed}
 use Rattle.routes.specs.Route.{Route, nlriOf}
 use Rattle.routes.specs.Place.{PLACE, routeIn}
-use Rattle.routes.specs.Table.{HEADER}
+use Rattle.routes.specs.Table.{HEADER, headerOf, afiIn}
+use Rattle.routes.specs.Calls.{installOf, withdrawOf}
 
 -- the route in the place of an index
 unfoldable pub routeAt : (index : ℕ) (table : List ℕ) → Route
@@ -31,3 +34,24 @@ opened start end t = take start t ++ (part t start PLACE ++ (part t start (end -
 -- the octets from `start` to `end` moved down by one place, and zeros in the last place of them
 unfoldable pub closed : (start end : ℕ) → List ℕ → List ℕ
 closed start end t = take start t ++ (part t (start + PLACE) (end - start - PLACE) ++ (zeros PLACE ++ drop end t))
+
+-- the place of an index written over
+unfoldable pub replacedAt : (index : ℕ) (place table : List ℕ) → List ℕ
+replacedAt index place t = placed (HEADER + PLACE * index) place t
+
+-- a place put in at an index, before the other places from there on
+unfoldable pub addedAt : (index count : ℕ) (place table : List ℕ) → List ℕ
+addedAt index count place t =
+    headerOf (afiIn t) (count + 1) ++ drop HEADER (replacedAt index place (opened (HEADER + PLACE * index) (HEADER + PLACE * (count + 1)) t))
+
+-- the place of an index taken out
+unfoldable pub takenAt : (index count : ℕ) (table : List ℕ) → List ℕ
+takenAt index count t = headerOf (afiIn t) (count - 1) ++ drop HEADER (closed (HEADER + PLACE * index) (HEADER + PLACE * count) t)
+
+-- install on t answers r and leaves u
+abbrev pub Installs : (t nlri attribute : List ℕ) (r : Installed) (u : List ℕ) → Type 0
+Installs t nlri attribute r u = (r ≡ installOf t nlri attribute .answer) × (u ≡ installOf t nlri attribute .octets)
+
+-- withdraw on t answers r and leaves u
+abbrev pub Withdraws : (t nlri : List ℕ) (r : ℕ) (u : List ℕ) → Type 0
+Withdraws t nlri r u = (r ≡ withdrawOf t nlri .answer) × (u ≡ withdrawOf t nlri .octets)

@@ -3,12 +3,14 @@ ghost use mathlib.Core.Path.{_≡_};
 ghost use mathlib.Core.List.{_++_};
 ghost use Prim.Native.Nat.{_+_, _-_, _*_, _≤_, _<_};
 ghost use lib.ListN.{length, take, drop};
-ghost use Rattle.octets.specs.Octets.{placed};
 ghost use Rattle.octets.specs.Order.{zeros};
 ghost use Rattle.routes.specs.Route.{route};
 ghost use Rattle.routes.specs.Place.{placeOf};
-ghost use Rattle.table.specs.Changing.{opened, closed};
+ghost use Rattle.table.specs.Changing.{opened, closed, replacedAt, addedAt, takenAt};
+use crate::find::HEADER;
 use crate::find::PLACE;
+use crate::header;
+use crate::sound;
 
 // Every octet becomes 0.
 pub(crate) fn clear(octets: &mut [u8])
@@ -24,7 +26,7 @@ pub(crate) fn clear(octets: &mut [u8])
 // The sizes, the NLRI and the attribute of a route, and zeros to the end.
 fn write_place(place: &mut [u8], nlri: &[u8], attribute: &[u8])
     requires { ⌜ length (now place) ≡ 128 ⌝ }
-    requires { ⌜ 2 + (length (now nlri) + length (now attribute)) ≤ 128 ⌝ }
+    requires { ⌜ length (now nlri) + length (now attribute) ≤ 126 ⌝ }
     ensures { λ _. ⌜ now (place .exit) ≡ placeOf (route (now (nlri .entry)) (now (attribute .entry))) ⌝ }
 {
     clear(place);
@@ -69,17 +71,18 @@ fn close_gap(tail: &mut [u8])
     clear(&mut tail[last..]);
 }
 
-// A route's place written from `start` on.
-fn write_at(table: &mut [u8], start: usize, nlri: &[u8], attribute: &[u8])
-    requires { ⌜ start + 128 ≤ length (now table) ⌝ }
-    requires { ⌜ 2 + (length (now nlri) + length (now attribute)) ≤ 128 ⌝ }
-    ensures { λ _. ⌜ now (table .exit) ≡ placed start (placeOf (route (now (nlri .entry)) (now (attribute .entry)))) (now (table .entry)) ⌝ }
+// A route's place written over that of an index.
+pub(crate) fn replace(table: &mut [u8], index: usize, nlri: &[u8], attribute: &[u8])
+    requires { ⌜ 8 + 128 * index + 128 ≤ length (now table) ⌝ }
+    requires { ⌜ length (now nlri) + length (now attribute) ≤ 126 ⌝ }
+    ensures { λ _. ⌜ now (table .exit) ≡ replacedAt index (placeOf (route (now (nlri .entry)) (now (attribute .entry)))) (now (table .entry)) ⌝ }
 {
+    let start = HEADER + PLACE * index;
     write_place(&mut table[start..start + PLACE], nlri, attribute);
 }
 
 // Opens a gap of one place at `start`, up to `end`.
-fn open(table: &mut [u8], start: usize, end: usize)
+fn open_place(table: &mut [u8], start: usize, end: usize)
     requires { ⌜ (start + 128 ≤ end) × (end ≤ length (now table)) ⌝ }
     ensures { λ _. ⌜ now (table .exit) ≡ opened start end (now (table .entry)) ⌝ }
 {
@@ -87,9 +90,31 @@ fn open(table: &mut [u8], start: usize, end: usize)
 }
 
 // Closes the place at `start`, up to `end`.
-fn close(table: &mut [u8], start: usize, end: usize)
+fn close_place(table: &mut [u8], start: usize, end: usize)
     requires { ⌜ (start + 128 ≤ end) × (end ≤ length (now table)) ⌝ }
     ensures { λ _. ⌜ now (table .exit) ≡ closed start end (now (table .entry)) ⌝ }
 {
     close_gap(&mut table[start..end]);
+}
+
+// A route's place put in at an index, before the other places from there on.
+pub(crate) fn add(table: &mut [u8], index: usize, count: usize, nlri: &[u8], attribute: &[u8])
+    requires { ⌜ (index ≤ count) × (8 + 128 * (count + 1) ≤ length (now table)) ⌝ }
+    requires { ⌜ length (now nlri) + length (now attribute) ≤ 126 ⌝ }
+    ensures { λ _. ⌜ now (table .exit) ≡ addedAt index count (placeOf (route (now (nlri .entry)) (now (attribute .entry)))) (now (table .entry)) ⌝ }
+{
+    let afi = sound::afi_of(table);
+    open_place(table, HEADER + PLACE * index, HEADER + PLACE * (count + 1));
+    replace(table, index, nlri, attribute);
+    header::write_header(afi, count + 1, table);
+}
+
+// The place of an index taken out.
+pub(crate) fn remove(table: &mut [u8], index: usize, count: usize)
+    requires { ⌜ (index < count) × (8 + 128 * count ≤ length (now table)) ⌝ }
+    ensures { λ _. ⌜ now (table .exit) ≡ takenAt index count (now (table .entry)) ⌝ }
+{
+    let afi = sound::afi_of(table);
+    close_place(table, HEADER + PLACE * index, HEADER + PLACE * count);
+    header::write_header(afi, count - 1, table);
 }

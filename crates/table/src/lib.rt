@@ -5,12 +5,16 @@ mod change;
 mod find;
 mod flow;
 mod header;
+mod installing;
 mod judge;
 mod making;
 mod matching;
 mod scan;
 mod sound;
 mod tier;
+mod withdrawing;
 
+pub use installing::install;
 pub use making::make;
 pub use matching::match_flow;
+pub use withdrawing::withdraw;

@@ -1,10 +1,8 @@
 -- `table::change::move_down` meets its contract.
-use Prim.Native.Nat.{_-_, _≤_}
-use mathlib.Core.Path.{_≡_, refl}
+use Prim.Native.Nat.{_-_}
 use native.Mathlib.Omega.{arith}
 use borrow.Author.Needs.{needs}
 use denote.Ref.{now}
-use lib.ListN.{length, take, drop}
 use Rattle.table.proofs.Moves.{Down, down-next, down-last}
 use Rattle.table.proofs.change.move_down.Statement.{statement}
 use Rattle.table.proofs.change.move_down.Tie as tie

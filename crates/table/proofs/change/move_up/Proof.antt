@@ -1,10 +1,7 @@
 -- `table::change::move_up` meets its contract.
-use Prim.Native.Nat.{_-_, _≤_}
-use mathlib.Core.Path.{_≡_, refl}
 use native.Mathlib.Omega.{arith}
 use borrow.Author.Needs.{needs}
 use denote.Ref.{now}
-use lib.ListN.{length, take, drop}
 use Rattle.table.proofs.Moves.{Up, up-first, up-next, up-last}
 use Rattle.table.proofs.change.move_up.Statement.{statement}
 use Rattle.table.proofs.change.move_up.Tie as tie

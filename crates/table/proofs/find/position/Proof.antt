@@ -4,7 +4,6 @@ use mathlib.Core.Path.{sym, ap, _∙_}
 use native.Mathlib.Omega.{arith}
 use borrow.Author.Needs.{needs}
 use denote.Ref.{now}
-use lib.ListN.{length}
 use Rattle.octets.specs.Order.{before}
 use Rattle.routes.specs.Table.{routesOf}
 use Rattle.routes.proofs.Images.{routes-length}

@@ -1,11 +1,11 @@
--- `table::change::open` meets its contract.
+-- `table::change::open_place` meets its contract.
 use denote.Ref.{now}
 use Rattle.octets.specs.Octets.{part}
 use Rattle.table.specs.Changing.{opened}
 use Rattle.table.proofs.Moves.{lent-up}
 use borrow.Author.Needs.{needs}
-use Rattle.table.proofs.change.open.Statement.{statement}
-use Rattle.table.proofs.change.open.Tie as tie
+use Rattle.table.proofs.change.open_place.Statement.{statement}
+use Rattle.table.proofs.change.open_place.Tie as tie
 
 sub-move-up : tie.Need-sub-move-up
 sub-move-up c = search needs
@@ -28,7 +28,7 @@ returns c =
     let a = c .before .before .before .before .before .args in
     lent-up 128 (a .start) (a .end) (now (a .table)) (c .before .before .move-up .last .0) (c .before .before .before .before .before .pre .0) (c .before .before .before .before .before .pre .1) (c .before .before .move-up .ensures)
 
-pub open-spec : {M : Type 1} → statement M
-open-spec =
+pub open-place-spec : {M : Type 1} → statement M
+open-place-spec =
     tie.close
     (tie.spec sub-move-up part-move-up-start part-move-up-end move-up-requires same-length returns)

@@ -1,11 +1,19 @@
--- `table::change::write_at` meets its contract.
-use mathlib.Core.Path.{ap}
+-- `table::change::replace` meets its contract.
+use Prim.Native.Nat.{_+_, _*_}
 use denote.Ref.{now}
+use Rattle.routes.specs.Route.{route, nlriOf, attributeOf}
+use Rattle.routes.proofs.Places.{place-length}
+use Rattle.table.specs.Changing.{replacedAt}
 use Rattle.table.proofs.Moves.{lent-over}
-use Rattle.table.proofs.Places.{place-length}
 use borrow.Author.Needs.{needs}
-use Rattle.table.proofs.change.write_at.Statement.{statement}
-use Rattle.table.proofs.change.write_at.Tie as tie
+use Rattle.table.proofs.change.replace.Statement.{statement}
+use Rattle.table.proofs.change.replace.Tie as tie
+
+mul-start : tie.Need-mul-start
+mul-start c = search needs
+
+add-start : tie.Need-add-start
+add-start c = search needs
 
 add-write-place : tie.Need-add-write-place
 add-write-place c = search needs
@@ -26,14 +34,17 @@ same-length : tie.Need-same-length
 same-length c = search needs
 
 returns : tie.Need-returns
+unfolding replacedAt nlriOf attributeOf
 returns c =
     let a = c .before .before .before .before .before .before .before .args in
-    rw (c .before .before .write-place .ensures) (lent-over 128 (a .start) (now (a .table)) _ (place-length (now (a .nlri)) (now (a .attribute)) (c .before .before .before .before .before .before .before .pre .1)))
+    rw (c .before .before .write-place .ensures) (lent-over 128 (8 + 128 * a .index) (now (a .table)) _ (place-length (route (now (a .nlri)) (now (a .attribute))) (c .before .before .before .before .before .before .before .pre .1)))
 
-pub write-at-spec : {M : Type 1} → statement M
-write-at-spec =
+pub replace-spec : {M : Type 1} → statement M
+replace-spec =
     tie.close
     (tie.spec
+    mul-start
+    add-start
     add-write-place
     sub-write-place
     part-write-place-start

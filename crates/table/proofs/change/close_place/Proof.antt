@@ -1,12 +1,12 @@
--- `table::change::close` meets its contract.
+-- `table::change::close_place` meets its contract.
 use denote.Ref.{now}
 use Rattle.octets.specs.Octets.{part}
 use Rattle.octets.specs.Order.{zeros}
 use Rattle.table.specs.Changing.{closed}
 use Rattle.table.proofs.Moves.{lent-down}
 use borrow.Author.Needs.{needs}
-use Rattle.table.proofs.change.close.Statement.{statement}
-use Rattle.table.proofs.change.close.Tie as tie
+use Rattle.table.proofs.change.close_place.Statement.{statement}
+use Rattle.table.proofs.change.close_place.Tie as tie
 
 sub-close-gap : tie.Need-sub-close-gap
 sub-close-gap c = search needs
@@ -29,8 +29,8 @@ returns c =
     let a = c .before .before .before .before .before .args in
     lent-down 128 (a .start) (a .end) (now (a .table)) (c .before .before .close-gap .last .0) (zeros 128) (c .before .before .before .before .before .pre .0) (c .before .before .before .before .before .pre .1) (c .before .before .close-gap .ensures)
 
-pub close-spec : {M : Type 1} → statement M
-close-spec =
+pub close-place-spec : {M : Type 1} → statement M
+close-place-spec =
     tie.close
     (tie.spec
     sub-close-gap

@@ -1,0 +1,86 @@
+// Install: TABLE, then its arguments, then ROOM (document 01, "The numbers a call gives back").
+ghost use mathlib.Core.Path.{_≡_};
+ghost use mathlib.Core.Bool.{true, false};
+ghost use lib.ListN.{drop};
+ghost use Rattle.octets.specs.Outcome.{numberOf};
+ghost use Rattle.routes.specs.Arguments.{readRoute};
+ghost use Rattle.routes.specs.Table.{afiIn, routesOf, soundOf};
+ghost use Rattle.routes.specs.Calls.{installOf};
+ghost use Rattle.table.specs.Changing.{rank, firstIs, Installs};
+use crate::change;
+use crate::find;
+use crate::judge;
+use crate::sound;
+use octets::number::DONE;
+use octets::number::ROOM;
+use octets::number::TABLE;
+use routes::Installed;
+
+// A route of an NLRI that is not held, entered at the index where it belongs.
+fn enter_new(table: &mut [u8], index: usize, nlri: &[u8], attribute: &[u8]) -> Installed
+    requires { ⌜ soundOf (now table) ≡ true ⌝ }
+    requires { ⌜ numberOf (readRoute (afiIn (now table)) (now nlri) (now attribute)) ≡ 0 ⌝ }
+    requires { ⌜ index ≡ rank (now nlri) (routesOf (now table)) ⌝ }
+    requires { ⌜ firstIs (now nlri) (drop index (routesOf (now table))) ≡ false ⌝ }
+    ensures { λ r. ⌜ Installs (now (table .entry)) (now (nlri .entry)) (now (attribute .entry)) r (now (table .exit)) ⌝ }
+{
+    let count = sound::count_of(table);
+    if sound::places_of(table) <= count {
+        return Installed {
+            number: ROOM,
+            outcome: 0,
+        };
+    }
+    change::add(table, index, count, nlri, attribute);
+    Installed {
+        number: DONE,
+        outcome: Installed::NEW,
+    }
+}
+
+// A route that is acceptable, entered where its NLRI stands or belongs.
+fn enter(table: &mut [u8], nlri: &[u8], attribute: &[u8]) -> Installed
+    requires { ⌜ soundOf (now table) ≡ true ⌝ }
+    requires { ⌜ numberOf (readRoute (afiIn (now table)) (now nlri) (now attribute)) ≡ 0 ⌝ }
+    ensures { λ r. ⌜ Installs (now (table .entry)) (now (nlri .entry)) (now (attribute .entry)) r (now (table .exit)) ⌝ }
+{
+    let count = sound::count_of(table);
+    let index = find::position(table, count, nlri);
+    if find::stands_at(table, index, count, nlri) {
+        change::replace(table, index, nlri, attribute);
+        return Installed {
+            number: DONE,
+            outcome: Installed::REPLACED,
+        };
+    }
+    enter_new(table, index, nlri, attribute)
+}
+
+// Install into a sound table.
+fn install_sound(table: &mut [u8], nlri: &[u8], attribute: &[u8]) -> Installed
+    requires { ⌜ soundOf (now table) ≡ true ⌝ }
+    ensures { λ r. ⌜ Installs (now (table .entry)) (now (nlri .entry)) (now (attribute .entry)) r (now (table .exit)) ⌝ }
+{
+    let fault = judge::route_fault(sound::afi_of(table), nlri, attribute);
+    if fault != DONE {
+        return Installed {
+            number: fault,
+            outcome: 0,
+        };
+    }
+    enter(table, nlri, attribute)
+}
+
+// Enters a route, or gives the route of its NLRI this attribute. A refusal leaves every octet as it was.
+pub fn install(table: &mut [u8], nlri: &[u8], attribute: &[u8]) -> Installed
+    ensures { λ r. ⌜ r ≡ installOf (now (table .entry)) (now (nlri .entry)) (now (attribute .entry)) .answer ⌝ }
+    ensures { λ _. ⌜ now (table .exit) ≡ installOf (now (table .entry)) (now (nlri .entry)) (now (attribute .entry)) .octets ⌝ }
+{
+    if sound::is_sound(table) {
+        return install_sound(table, nlri, attribute);
+    }
+    Installed {
+        number: TABLE,
+        outcome: 0,
+    }
+}
