@@ -4,30 +4,31 @@ use mathlib.Core.Path.{_≡_, refl, sym, _∙_, ap, ap₂, subst}
 use mathlib.Core.Bool.{Bool, true, false}
 use mathlib.Core.List.{List, []}
 use native.Mathlib.Omega.{arith}
-use borrow.Author.Tests.{eq-eqb, ne-eqb, eqb-true, eqb-false}
+use borrow.Author.Tests.{ne-eqb, eqb-true, eqb-false}
 use lib.Dec.{ltb, eqb}
-use lib.ListN.{length, take, drop}
+use lib.ListN.{length, drop}
 use lib.Seq.{drop-drop}
 use Rattle.octets.specs.Choice.{pick, both, either}
 use Rattle.octets.specs.Octets.{part}
 use Rattle.octets.specs.Order.{before}
 use Rattle.octets.proofs.Outcomes.{pick-true, pick-false}
 use Rattle.octets.proofs.Picked.{tested}
-use Rattle.routes.specs.Route.{Route, nlriOf}
+use Rattle.routes.specs.Route.{Route}
 use Rattle.routes.specs.Arguments.{Query}
 use Rattle.routes.specs.Place.{routeIn}
 use Rattle.routes.specs.Table.{afiIn, countIn, routesFrom, routesOf, soundOf}
 use Rattle.routes.specs.Matching.{distinguisherOf, Found, nothing, found, matchIn}
+use Rattle.routes.specs.declared.Matched.{Matched}
+use Rattle.routes.specs.Calls.{foundAnswer, foundOutput}
 use Rattle.routes.specs.OnePass.{tierOf, ahead, against, better, scanned}
-use Rattle.routes.proofs.Bounds.{Accepted}
 use Rattle.routes.proofs.Places.{from-increasing}
 use Rattle.routes.proofs.Lookups.{increasing-distinct}
 use Rattle.routes.proofs.OnePass.{one-pass}
-use Rattle.routes.proofs.Images.{Sound, sound}
+use Rattle.routes.proofs.Images.{sound}
 use Rattle.table.specs.declared.scan.Best.{Best}
-use Rattle.table.specs.Scanning.{standing, tierAt, nlriAt, aheadAt, betterAt, scanAt, noneYet, bestIn}
+use Rattle.table.specs.Scanning.{standing, tierAt, nlriAt, Readable, aheadAt, betterAt, scanAt, noneYet, bestIn, Answerable, queryOf}
 use Rattle.table.proofs.Tiers.{tier-stands, distinguisher-stands}
-use Rattle.table.proofs.Taken.{Taken, route-accepted, places-taken}
+use Rattle.table.proofs.Taken.{Taken, route-accepted, taken-readable, taken-writable, places-taken}
 use Rattle.table.proofs.Scans.{Kept, better-one, place-here, places-next, best-none, best-some}
 
 -- of two tests in order, and of both at once
@@ -106,25 +107,44 @@ module _ (afi : ℕ) (q : Query) (source : 0 < length (q .source)) (group : 0 < 
       let rest = scan-here count (at + 128) next (λ k h. places-next (Taken afi t) (suc count) at all (omega arith) k (omega arith)) (better-one _ _ _ _ t (Taken afi t) best at old new) in
       (rest .0 ∙ ap₂ (λ (f : Found) (s : List ℕ). scanned afi q f (routesFrom count s)) (better-here at best new old) (sym (drop-drop 128 at t)), rest .1)
 
--- what the scan of a sound table finds is the match, and where it finds a route, its place is taken
-module _ (t : List ℕ) (is : soundOf t ≡ true) (q : Query) (source : 0 < length (q .source)) (group : 0 < length (q .group)) where
-  pub table-taken : (k : ℕ) → k < countIn t → Taken (afiIn t) t (8 + 128 * k)
+-- what the scan of a sound table's taken places finds is the match, and where it finds a route, its place is taken
+module _ (t : List ℕ) (is : soundOf t ≡ true) where
+  table-taken : (k : ℕ) → k < countIn t → Taken (afiIn t) t (8 + 128 * k)
   table-taken =
       let s = sound t is in
       let size = s .size .is in
       let within = s .within in
       places-taken (afiIn t) [] (countIn t) t 8 (s .places) (omega arith)
 
-  whole : (bestIn t (scanAt (q .router) (q .source) (q .group) (q .class) t (countIn t) 8 noneYet) ≡ scanned (afiIn t) q (bestIn t noneYet) (routesFrom (countIn t) (drop 8 t)))
-      × Kept (Taken (afiIn t) t) (scanAt (q .router) (q .source) (q .group) (q .class) t (countIn t) 8 noneYet)
-  unfolding noneYet
-  whole = scan-here (afiIn t) q source group t (countIn t) 8 noneYet table-taken (λ h. absurd (h refl))
+  pub scan-ready : (count : ℕ) → count ≡ countIn t → (k : ℕ) → k < count → Readable t (8 + 128 * k)
+  scan-ready count counted k h = taken-readable (afiIn t) t (8 + 128 * k) (table-taken k (omega arith))
 
-  pub scan-matches : bestIn t (scanAt (q .router) (q .source) (q .group) (q .class) t (countIn t) 8 noneYet) ≡ matchIn (afiIn t) q (routesOf t)
-  unfolding noneYet routesOf
-  scan-matches =
-      whole .0 ∙ ap (λ (f : Found). scanned (afiIn t) q f (routesFrom (countIn t) (drop 8 t))) (best-none t noneYet refl)
-      ∙ one-pass (afiIn t) q (routesOf t) (increasing-distinct (from-increasing (afiIn t) [] (countIn t) (drop 8 t) (sound t is .places)))
+  module _ (router source group : List ℕ) (class : ℕ) (sourced : 0 < length source) (grouped : 0 < length group) where
+    whole : (bestIn t (scanAt router source group class t (countIn t) 8 noneYet) ≡ scanned (afiIn t) (queryOf router source group class) (bestIn t noneYet) (routesFrom (countIn t) (drop 8 t)))
+        × Kept (Taken (afiIn t) t) (scanAt router source group class t (countIn t) 8 noneYet)
+    unfolding noneYet queryOf
+    whole = scan-here (afiIn t) (queryOf router source group class) sourced grouped t (countIn t) 8 noneYet table-taken (λ h. absurd (h refl))
 
-  pub scan-taken : Kept (Taken (afiIn t) t) (scanAt (q .router) (q .source) (q .group) (q .class) t (countIn t) 8 noneYet)
-  scan-taken = whole .1
+    module _ (count : ℕ) (best : Best) (counted : count ≡ countIn t) (scans : best ≡ scanAt router source group class t count 8 noneYet) where
+      all : best ≡ scanAt router source group class t (countIn t) 8 noneYet
+      all = scans ∙ ap (λ (n : ℕ). scanAt router source group class t n 8 noneYet) counted
+
+      pub scan-matches : bestIn t best ≡ matchIn (afiIn t) (queryOf router source group class) (routesOf t)
+      unfolding noneYet routesOf
+      scan-matches =
+          ap (bestIn t) all ∙ whole .0 ∙ ap (λ (f : Found). scanned (afiIn t) (queryOf router source group class) f (routesFrom (countIn t) (drop 8 t))) (best-none t noneYet refl)
+          ∙ one-pass (afiIn t) (queryOf router source group class) (routesOf t) (increasing-distinct (from-increasing (afiIn t) [] (countIn t) (drop 8 t) (sound t is .places)))
+
+      pub scan-answerable : (output : List ℕ) → 124 ≤ length output → Answerable t best output
+      scan-answerable output room some =
+          let taken : Taken (afiIn t) t (best .start) = subst (Kept (Taken (afiIn t) t)) (sym all) (whole .1) some in
+          (taken .within, taken-writable (afiIn t) t (best .start) taken output room)
+
+      -- what the search answers, and leaves in the output
+      pub search-answers : (answer : Matched) (output left : List ℕ) → answer ≡ foundAnswer (bestIn t best) → left ≡ foundOutput (bestIn t best) output
+          → (answer ≡ foundAnswer (matchIn (afiIn t) (queryOf router source group class) (routesOf t)))
+          × (left ≡ foundOutput (matchIn (afiIn t) (queryOf router source group class) (routesOf t)) output)
+      search-answers answer output left a l = (a ∙ ap foundAnswer scan-matches, l ∙ ap (λ (f : Found). foundOutput f output) scan-matches)
+
+pub sound-least : (t : List ℕ) → soundOf t ≡ true → 8 ≤ length t
+sound-least t is = let size = sound t is .size .is in omega arith

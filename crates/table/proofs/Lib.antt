@@ -10,8 +10,10 @@ pub mod Changes
 pub mod Installs
 pub mod Withdraws
 pub mod Scans
-pub mod Standing
+pub mod FieldStarts
 pub mod Tiers
-pub mod Answers
+pub mod RouteWrites
 pub mod Taken
 pub mod BestRoutes
+pub mod FlowClasses
+pub mod Matches

@@ -5,7 +5,6 @@ use mathlib.Core.Bool.{Bool, true, false}
 use mathlib.Core.List.{List}
 use native.Mathlib.Omega.{arith}
 use borrow.Author.Tests.{eq-eqb, ne-eqb}
-use lib.Dec.{eqb}
 use lib.ListN.{length}
 use Rattle.octets.specs.Choice.{pick}
 use Rattle.octets.specs.Octets.{part}
@@ -13,11 +12,10 @@ use Rattle.octets.specs.Order.{before}
 use Rattle.octets.proofs.Lists.{part-length}
 use Rattle.octets.proofs.Tests.{picks, skips}
 use Rattle.octets.proofs.Outcomes.{pick-true, pick-false}
-use Rattle.octets.proofs.Picked.{tested}
 use Rattle.routes.specs.Place.{endIn, routeIn}
-use Rattle.routes.specs.Matching.{Found, nothing, found}
+use Rattle.routes.specs.Matching.{nothing, found}
 use Rattle.table.specs.declared.scan.Best.{Best}
-use Rattle.table.specs.Scanning.{standing, tierAt, nlriAt, Readable, aheadAt, betterAt, scanAt, noneYet, bestIn, Writable, Answerable}
+use Rattle.table.specs.Scanning.{standing, tierAt, nlriAt, Readable, aheadAt, betterAt, scanAt, noneYet, bestIn, RouteFits, Answerable}
 
 -- what a place's functions need of a place cut out of the table
 pub place-ends : (t place : List ℕ) (at : ℕ) → Readable t at → place ≡ part t at 128 → endIn place ≤ length place
@@ -122,5 +120,5 @@ unfolding bestIn
 best-some t best h = pick-false _ _ _ (ne-eqb _ _ h)
 
 -- the place of the best route, cut out of the table
-pub best-writable : (t place output : List ℕ) (best : Best) → Answerable t best output → (best .tier ≡ 0 → ⊥) → place ≡ part t (best .start) 128 → Writable place output
+pub best-writable : (t place output : List ℕ) (best : Best) → Answerable t best output → (best .tier ≡ 0 → ⊥) → place ≡ part t (best .start) 128 → RouteFits place output
 best-writable t place output best all some e = rw e (all some .1)

@@ -1,11 +1,11 @@
 -- The taken places of a sound table.
 use Prim.Native.Nat.{ℕ, zero, suc, _+_, _*_, _≤_, _<_}
-use mathlib.Core.Path.{_≡_, refl, sym, _∙_, ap, subst}
+use mathlib.Core.Path.{_≡_, sym, _∙_, ap, subst}
 use mathlib.Core.Bool.{true}
 use mathlib.Core.List.{List, []}
 use native.Mathlib.Omega.{arith}
 use borrow.Author.Tests.{leb-true}
-use lib.ListN.{length, take, drop}
+use lib.ListN.{length, drop}
 use lib.Seq.{drop-drop}
 use Rattle.octets.specs.Outcome.{given}
 use Rattle.octets.specs.Octets.{part}
@@ -18,8 +18,8 @@ use Rattle.routes.specs.Place.{endIn, routeIn, placeSound}
 use Rattle.routes.specs.Table.{placesSound}
 use Rattle.routes.proofs.Bounds.{Accepted, accepted, sizes-of}
 use Rattle.routes.proofs.Places.{sound-acceptable}
-use Rattle.table.specs.Scanning.{nlriAt, Readable, Writable}
-use Rattle.table.proofs.Standing.{fields-bounded}
+use Rattle.table.specs.Scanning.{nlriAt, Readable, RouteFits}
+use Rattle.table.proofs.FieldStarts.{fields-bounded}
 
 -- a sound place starts there
 pub record Taken (afi : ℕ) (t : List ℕ) (at : ℕ) : Type 0 where
@@ -50,7 +50,7 @@ module _ (afi : ℕ) (t : List ℕ) (at : ℕ) (taken : Taken afi t at) where
   taken-readable = record { within = taken .within; ends = place-end; bounded = fields-bounded afi _ (route-accepted .fields) (route-accepted .read) }
 
   -- and its route can be written
-  pub taken-writable : (output : List ℕ) → 124 ≤ length output → Writable (part t at 128) output
+  pub taken-writable : (output : List ℕ) → 124 ≤ length output → RouteFits (part t at 128) output
   taken-writable output room =
       let sizes = sizes-of afi (routeIn (part t at 128)) (sound-acceptable afi (part t at 128) (taken .sound)) in
       let n = sizes .nlri in

@@ -20,7 +20,7 @@ use Rattle.routes.specs.Route.{Route, nlriOf}
 use Rattle.routes.specs.Arguments.{Query, readSPmsi}
 use Rattle.routes.specs.Matching.{ofFields, candidate, wildcard, condition, meets, distinguisherOf}
 use Rattle.routes.specs.OnePass.{tierOf}
-use Rattle.table.proofs.Standing.{fields-stand}
+use Rattle.table.proofs.FieldStarts.{fields-stand}
 use Rattle.table.specs.Scanning.{sourceSize, groupSize, originatorStart, Bounded, standing, sourceTier, anySourceTier, flowTier, tierAt}
 
 -- where the group and the originator stand, by the place of the group's length octet
@@ -67,7 +67,7 @@ unfolding flowTier
 tier-none source group class f routeSource flag stands some is fails =
     skips _ _ _ _ (tame source group class f routeSource [] 0 stands some) (skips _ _ _ _ (ap (λ (x : List ℕ). same x source) (sym stands) ∙ sym is ∙ fails) refl)
 
--- a route of the router asked about, and one of another
+-- a route of the router queryOf about, and one of another
 module _ (router source group : List ℕ) (class : ℕ) (nlri originator : List ℕ) (flag : Bool) (stands : originator ≡ standing nlri .originator) (is : flag ≡ same originator router) where
   pub candidate-tier : (tier : ℕ) → flag ≡ true → tier ≡ flowTier source group class (standing nlri) → tier ≡ tierAt router source group class nlri
   unfolding tierAt

@@ -15,6 +15,7 @@ use Rattle.nlri.specs.Family.{originatorSize}
 use Rattle.nlri.specs.Groups.{ASM, SSM, classOf}
 use Rattle.tunnel.specs.Attribute.{fieldsIn, readAttribute}
 use Rattle.routes.specs.Route.{nlriOf, attributeOf}
+use Rattle.routes.specs.Arguments.{Query}
 use Rattle.routes.specs.Place.{PLACE, endIn, routeIn}
 use Rattle.routes.specs.Matching.{wildcard, Found, nothing, found}
 use Rattle.table.specs.declared.scan.Best.{Best}
@@ -66,7 +67,7 @@ unfoldable pub tierAt : (router source group : List ℕ) (class : ℕ) → (nlri
 tierAt router source group class nlri = pick (same (standing nlri .originator) router) (flowTier source group class (standing nlri)) 0
 
 -- a place whose attribute reads, and an output of a size that every route fits into
-pub record Writable (place output : List ℕ) : Type 0 where
+pub record RouteFits (place output : List ℕ) : Type 0 where
   pub within : endIn place ≤ length place
   pub read : readAttribute (attributeOf (routeIn place)) ≡ given (fieldsIn (attributeOf (routeIn place)))
   pub most : length (nlriOf (routeIn place)) + length (attributeOf (routeIn place)) ≤ 124
@@ -110,9 +111,13 @@ bestIn t best = pick (eqb (best .tier) 0) nothing (found (best .tier) (routeIn (
 
 -- where there is a best route so far, its place is in the table, and its route can be written
 abbrev pub Answerable : (table : List ℕ) → Best → (output : List ℕ) → Type 0
-Answerable t best output = (best .tier ≡ 0 → ⊥) → (best .start + PLACE ≤ length t) × Writable (part t (best .start) PLACE) output
+Answerable t best output = (best .tier ≡ 0 → ⊥) → (best .start + PLACE ≤ length t) × RouteFits (part t (best .start) PLACE) output
 
 -- the class of a flow's group under a good AFI; FLOW for a flow that a match does not take
 unfoldable pub flowClass : (afi : ℕ) (router source group : List ℕ) → Outcome ℕ
 flowClass afi router source group =
     pick (originatorSize (length router)) (pick (eqb (length source) (length group)) (classOf afi group) (refused FLOW)) (refused FLOW)
+
+-- a flow that a match takes, queryOf of a router
+unfoldable pub queryOf : (router source group : List ℕ) (class : ℕ) → Query
+queryOf router source group class = record { router = router; source = source; group = group; class = class }

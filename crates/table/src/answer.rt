@@ -5,16 +5,29 @@ ghost use lib.ListN.{length};
 ghost use Rattle.octets.specs.Outcome.{given};
 ghost use Rattle.octets.specs.Octets.{placed};
 ghost use Rattle.tunnel.specs.Attribute.{fieldsIn, readAttribute};
-ghost use Rattle.routes.specs.Place.{routeIn};
+ghost use Rattle.routes.specs.Route.{attributeOf};
+ghost use Rattle.routes.specs.Place.{endIn, routeIn};
 ghost use Rattle.routes.specs.Matching.{found};
 ghost use Rattle.routes.specs.Calls.{foundAnswer, foundOutput};
-ghost use Rattle.table.specs.Scanning.{Writable, bestIn, Answerable};
-use crate::place;
+ghost use Rattle.table.specs.Scanning.{RouteFits, bestIn, Answerable};
+use crate::find;
+use crate::find::PLACE;
 use crate::scan::Best;
 use octets::number::DONE;
 use routes::Matched;
 
-const PLACE: usize = 128;
+// Where the label field and the identifier stand in an attribute.
+const LABEL_FIELD: usize = 2;
+
+const IDENTIFIER: usize = 5;
+
+// The attribute in a place.
+fn attribute_in(place: &[u8]) -> &[u8]
+    requires { ⌜ endIn (now place) ≤ length (now place) ⌝ }
+    ensures { λ r. ⌜ now r ≡ attributeOf (routeIn (now (place .entry))) ⌝ }
+{
+    octets::parts::between(place, 2 + place[0] as usize, place[1] as usize)
+}
 
 // Writes an attribute as it was read, into the output's remaining part, and answers its size.
 fn write_attribute(attribute: &[u8], output: &mut [u8], at: usize) -> usize
@@ -22,8 +35,8 @@ fn write_attribute(attribute: &[u8], output: &mut [u8], at: usize) -> usize
     ensures { λ r. ⌜ r ≡ length (now (attribute .entry)) ⌝ }
     ensures { λ r. ⌜ now (output .exit) ≡ placed at (now (attribute .entry)) (now (output .entry)) ⌝ }
 {
-    let label_field = octets::wide::three(attribute, 2);
-    let identifier = octets::parts::after(attribute, 5);
+    let label_field = octets::wide::three(attribute, LABEL_FIELD);
+    let identifier = octets::parts::after(attribute, IDENTIFIER);
     let written = tunnel::write(
         attribute[0],
         attribute[1],
@@ -36,12 +49,12 @@ fn write_attribute(attribute: &[u8], output: &mut [u8], at: usize) -> usize
 
 // NLRI and attribute, one straight after the other.
 pub(crate) fn write_route(tier: u32, place: &[u8], output: &mut [u8]) -> Matched
-    requires { ⌜ Writable (now place) (now output) ⌝ }
+    requires { ⌜ RouteFits (now place) (now output) ⌝ }
     ensures { λ r. ⌜ r ≡ foundAnswer (found tier (routeIn (now (place .entry)))) ⌝ }
     ensures { λ r. ⌜ now (output .exit) ≡ foundOutput (found tier (routeIn (now (place .entry)))) (now (output .entry)) ⌝ }
 {
-    let nlri_size = octets::parts::place(place::nlri_in(place), output, 0);
-    let attribute_size = write_attribute(place::attribute_in(place), output, nlri_size);
+    let nlri_size = octets::parts::place(find::nlri_in(place), output, 0);
+    let attribute_size = write_attribute(attribute_in(place), output, nlri_size);
     Matched {
         number: DONE,
         tier,

@@ -9,6 +9,7 @@ mod installing;
 mod judge;
 mod making;
 mod place;
+mod matching;
 mod scan;
 mod sound;
 mod tier;
@@ -16,4 +17,5 @@ mod withdrawing;
 
 pub use installing::install;
 pub use making::make;
+pub use matching::match_flow;
 pub use withdrawing::withdraw;

@@ -1,17 +1,14 @@
 // The best route for a flow, found in one pass over a sound table's places.
 ghost use mathlib.Core.Path.{_≡_};
-ghost use mathlib.Core.List.{List};
 ghost use Prim.Native.Nat.{ℕ, _+_, _*_, _<_};
 ghost use Rattle.octets.specs.Order.{before};
 ghost use Rattle.table.specs.Scanning.{standing, nlriAt, Readable, aheadAt, betterAt, scanAt, noneYet};
-use crate::place;
+use crate::find;
+use crate::find::HEADER;
+use crate::find::PLACE;
 use crate::tier;
 use octets::order;
 use octets::parts;
-
-const HEADER: usize = 8;
-
-const PLACE: usize = 128;
 
 // The best route so far: its tier, and where its place starts. Tier 0 is no route.
 pub(crate) struct Best {
@@ -19,11 +16,12 @@ pub(crate) struct Best {
     pub start: usize,
 }
 
-fn nlri_at(table: &[u8], at: usize) -> &[u8]
+// The NLRI in the place that starts there.
+fn nlri_from(table: &[u8], at: usize) -> &[u8]
     requires { ⌜ Readable (now table) at ⌝ }
     ensures { λ r. ⌜ now r ≡ nlriAt (now (table .entry)) at ⌝ }
 {
-    place::nlri_in(parts::between(table, at, PLACE))
+    find::nlri_in(parts::between(table, at, PLACE))
 }
 
 // Route distinguishers are compared as eight octets.
@@ -32,8 +30,8 @@ fn is_lower(table: &[u8], at: usize, other: usize) -> bool
     ensures { λ r. ⌜ r ≡ before (standing (nlriAt (now (table .entry)) at) .distinguisher) (standing (nlriAt (now (table .entry)) other) .distinguisher) ⌝ }
 {
     order::comes_before(
-        tier::distinguisher_in(nlri_at(table, at)),
-        tier::distinguisher_in(nlri_at(table, other)),
+        tier::distinguisher_in(nlri_from(table, at)),
+        tier::distinguisher_in(nlri_from(table, other)),
     )
 }
 
@@ -67,7 +65,7 @@ fn better(
     requires { ⌜ Readable (now table) at × ((best .tier ≡ 0 → ⊥) → Readable (now table) (best .start)) ⌝ }
     ensures { λ r. ⌜ r ≡ betterAt (now (router .entry)) (now (source .entry)) (now (group .entry)) class (now (table .entry)) best at ⌝ }
 {
-    let tier = tier::tier_of(nlri_at(table, at), router, source, group, class);
+    let tier = tier::tier_of(nlri_from(table, at), router, source, group, class);
     if tier == 0 {
         return best;
     }

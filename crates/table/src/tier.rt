@@ -6,14 +6,18 @@ use nlri::Group;
 use octets::order;
 use octets::parts;
 
-// Where the source's length octet stands, in bits.
+// Where the route distinguisher stands, behind the header, and its size; behind it the source's length octet, in bits.
+const DISTINGUISHER: usize = 2;
+
+const DISTINGUISHER_SIZE: usize = 8;
+
 const SOURCE_LENGTH: usize = 10;
 
 pub(crate) fn distinguisher_in(nlri: &[u8]) -> &[u8]
     requires { ⌜ Bounded (now nlri) ⌝ }
     ensures { λ r. ⌜ now r ≡ standing (now (nlri .entry)) .distinguisher ⌝ }
 {
-    parts::between(nlri, 2, 8)
+    parts::between(nlri, DISTINGUISHER, DISTINGUISHER_SIZE)
 }
 
 fn source_in(nlri: &[u8]) -> &[u8]

@@ -1,8 +1,8 @@
 -- `table::answer::write_attribute` meets its contract. The octets that were read are written again.
 use native.Mathlib.Omega.{arith}
 use borrow.Author.Needs.{needs}
-use Rattle.table.proofs.Answers.{attribute-least, attribute-size, attribute-placed}
-use mathlib.Core.Path.{_≡_, refl}
+use Rattle.table.proofs.RouteWrites.{attribute-least, attribute-size, attribute-placed}
+use mathlib.Core.Path.{refl}
 use mathlib.Core.List.{List}
 use Prim.Native.Nat.{ℕ}
 use denote.Ref.{now}

@@ -1,7 +1,7 @@
 -- `table::answer::write_route` meets its contract.
 use native.Mathlib.Omega.{arith}
 use borrow.Author.Needs.{needs}
-use Rattle.table.proofs.Answers.{route-written, nlri-room, attribute-room, nlri-small, attribute-small, route-answer}
+use Rattle.table.proofs.RouteWrites.{route-written, nlri-room, attribute-room, nlri-small, attribute-small, route-answer}
 use denote.Ref.{now}
 use Rattle.routes.specs.Place.{routeIn}
 use Rattle.table.proofs.answer.write_route.Statement.{statement}

@@ -6,25 +6,25 @@ use Rattle.table.proofs.Scans.{no-tier, goes-ahead, stays-behind}
 use Rattle.table.proofs.scan.better.Statement.{statement}
 use Rattle.table.proofs.scan.better.Tie as tie
 
-nlri-at-requires : tie.Need-nlri-at-requires
-nlri-at-requires c κs = search needs
+nlri-from-requires : tie.Need-nlri-from-requires
+nlri-from-requires c κs = search needs
 
 tier-of-requires : tie.Need-tier-of-requires
-tier-of-requires c κs = subst Bounded (sym (c .nlri-at .ensures)) (c .before .before .before .before .before .pre .0 .bounded)
+tier-of-requires c κs = subst Bounded (sym (c .nlri-from .ensures)) (c .before .before .before .before .before .pre .0 .bounded)
 
 returns : tie.Need-returns
-returns c = no-tier _ _ _ _ _ _ _ _ _ (c .before .before .nlri-at .ensures) (c .before .tier-of .ensures) (c .if1 .taken)
+returns c = no-tier _ _ _ _ _ _ _ _ _ (c .before .before .nlri-from .ensures) (c .before .tier-of .ensures) (c .if1 .taken)
 
 is-ahead-requires : tie.Need-is-ahead-requires
 is-ahead-requires c κs = search needs
 
 returns-2 : tie.Need-returns-2
-returns-2 c = goes-ahead _ _ _ _ _ _ _ _ _ (c .before .before .before .before .nlri-at .ensures) (c .before .before .before .tier-of .ensures) _ (c .before .before .if1 .left) (c .before .is-ahead .ensures) (c .if2 .taken)
+returns-2 c = goes-ahead _ _ _ _ _ _ _ _ _ (c .before .before .before .before .nlri-from .ensures) (c .before .before .before .tier-of .ensures) _ (c .before .before .if1 .left) (c .before .is-ahead .ensures) (c .if2 .taken)
 
 returns-3 : tie.Need-returns-3
-returns-3 c = stays-behind _ _ _ _ _ _ _ _ _ (c .before .before .before .before .nlri-at .ensures) (c .before .before .before .tier-of .ensures) _ (c .before .before .if1 .left) (c .before .is-ahead .ensures) (c .if2 .left)
+returns-3 c = stays-behind _ _ _ _ _ _ _ _ _ (c .before .before .before .before .nlri-from .ensures) (c .before .before .before .tier-of .ensures) _ (c .before .before .if1 .left) (c .before .is-ahead .ensures) (c .if2 .left)
 
 pub better-spec : {M : Type 1} → statement M
 better-spec =
     tie.close
-    (tie.spec nlri-at-requires tier-of-requires returns is-ahead-requires returns-2 returns-3)
+    (tie.spec nlri-from-requires tier-of-requires returns is-ahead-requires returns-2 returns-3)

@@ -6,31 +6,31 @@ use Rattle.table.proofs.Scans.{lower-is}
 use Rattle.table.proofs.scan.is_lower.Statement.{statement}
 use Rattle.table.proofs.scan.is_lower.Tie as tie
 
-nlri-at-requires : tie.Need-nlri-at-requires
-nlri-at-requires c κs = search needs
+nlri-from-requires : tie.Need-nlri-from-requires
+nlri-from-requires c κs = search needs
 
 distinguisher-in-requires : tie.Need-distinguisher-in-requires
-distinguisher-in-requires c κs = subst Bounded (sym (c .nlri-at .ensures)) (c .before .before .pre .0 .bounded)
+distinguisher-in-requires c κs = subst Bounded (sym (c .nlri-from .ensures)) (c .before .before .pre .0 .bounded)
 
-nlri-at-requires-2 : tie.Need-nlri-at-requires-2
-nlri-at-requires-2 c κs = search needs
+nlri-from-requires-2 : tie.Need-nlri-from-requires-2
+nlri-from-requires-2 c κs = search needs
 
 distinguisher-in-requires-2 : tie.Need-distinguisher-in-requires-2
-distinguisher-in-requires-2 c κs = subst Bounded (sym (c .nlri-at2 .ensures)) (c .before .before .before .before .pre .1 .bounded)
+distinguisher-in-requires-2 c κs = subst Bounded (sym (c .nlri-from2 .ensures)) (c .before .before .before .before .pre .1 .bounded)
 
 comes-before-requires : tie.Need-comes-before-requires
 comes-before-requires c κs = search needs
 
 returns : tie.Need-returns
-returns c = lower-is _ _ _ _ _ _ _ _ (c .before .before .before .before .nlri-at .ensures) (c .before .before .nlri-at2 .ensures) (c .before .before .before .distinguisher-in .ensures) (c .before .distinguisher-in2 .ensures) (c .comes-before .ensures)
+returns c = lower-is _ _ _ _ _ _ _ _ (c .before .before .before .before .nlri-from .ensures) (c .before .before .nlri-from2 .ensures) (c .before .before .before .distinguisher-in .ensures) (c .before .distinguisher-in2 .ensures) (c .comes-before .ensures)
 
 pub is-lower-spec : {M : Type 1} → statement M
 is-lower-spec =
     tie.close
     (tie.spec
-    nlri-at-requires
+    nlri-from-requires
     distinguisher-in-requires
-    nlri-at-requires-2
+    nlri-from-requires-2
     distinguisher-in-requires-2
     comes-before-requires
     returns)

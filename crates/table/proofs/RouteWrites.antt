@@ -1,10 +1,10 @@
 -- The route that was found, as it is written.
 use Prim.Native.Nat.{ℕ, _+_, _-_, _≤_}
-use mathlib.Core.Path.{_≡_, refl, sym, _∙_, ap}
+use mathlib.Core.Path.{_≡_, sym, _∙_, ap}
 use mathlib.Core.List.{List, _++_}
 use native.Mathlib.Omega.{arith}
 use borrow.Author.Tests.{ltb-false}
-use lib.ListN.{length, getD, take, drop, length-take, length-drop, length-append}
+use lib.ListN.{length, getD, take, drop, length-take, length-drop}
 use lib.Seq.{take-length}
 use Rattle.octets.specs.Outcome.{Outcome, given, onOutcome}
 use Rattle.octets.specs.Octets.{AllOctets, part, placed, front, numberIn}
@@ -20,7 +20,7 @@ use Rattle.routes.specs.Place.{routeIn}
 use Rattle.routes.specs.Matching.{found}
 use Rattle.routes.specs.declared.Matched.{Matched}
 use Rattle.routes.specs.Calls.{foundAnswer, foundOutput}
-use Rattle.table.specs.Scanning.{Writable}
+use Rattle.table.specs.Scanning.{RouteFits}
 
 pub attribute-least : (s : List ℕ) (f : Fields) → readAttribute s ≡ given f → 5 ≤ length s
 unfolding readAttribute
@@ -64,7 +64,7 @@ route-written tier r d y z nlri attribute next room n a k p q =
     ∙ sym (front-is-placed (nlriOf r ++ attributeOf r) d)
 
 -- what the function that writes a route needs of sizes
-module _ (place output nlri : List ℕ) (w : Writable place output) (n : nlri ≡ nlriOf (routeIn place)) where
+module _ (place output nlri : List ℕ) (w : RouteFits place output) (n : nlri ≡ nlriOf (routeIn place)) where
   nlri-length : length nlri ≡ length (nlriOf (routeIn place))
   nlri-length = ap length n
 

@@ -1,15 +1,14 @@
 -- Where the fields of a well-formed S-PMSI NLRI stand.
 use Prim.Native.Nat.{ℕ, _+_, _-_, _/_, _≤_}
-use mathlib.Core.Path.{_≡_, refl, sym, _∙_, ap, ap₂, subst}
-use mathlib.Core.Bool.{true}
+use mathlib.Core.Path.{_≡_, refl, sym, _∙_, ap, ap₂}
 use mathlib.Core.List.{List, []}
-use mathlib.Core.Logic.{_⊎_, inl, inr, ⊎-elim}
+use mathlib.Core.Logic.{⊎-elim}
 use native.Mathlib.Omega.{arith}
-use borrow.Author.Tests.{ltb-false, leb-false, eqb-true}
-use lib.ListN.{length, getD, take, drop, length-drop}
-use lib.Seq.{drop-drop, take-all, getD-drop}
+use borrow.Author.Tests.{ltb-false, eqb-true}
+use lib.ListN.{length, getD, drop, length-drop}
+use lib.Seq.{take-all, getD-drop}
 use Rattle.octets.specs.Choice.{pick, either}
-use Rattle.octets.specs.Outcome.{Outcome, given, refused, andThen}
+use Rattle.octets.specs.Outcome.{given}
 use Rattle.octets.specs.Octets.{part}
 use Rattle.octets.proofs.Tests.{goes}
 use Rattle.octets.proofs.Outcomes.{pick-true}
@@ -17,11 +16,11 @@ use Rattle.octets.proofs.Inversions.{never, unless, only, passed, given-same}
 use Rattle.octets.proofs.Refusals.{outcome}
 use Rattle.nlri.specs.declared.layout.Layout.{Layout}
 use Rattle.nlri.specs.Fields.{Fields}
-use Rattle.nlri.specs.Reading.{addressEnd, addressField, keyField, laidAt, laidSingle, readNlri}
+use Rattle.nlri.specs.Reading.{addressEnd, addressField, keyField, laidAt, laidSingle}
 use Rattle.nlri.specs.Layouts.{layoutOf, layoutAt, layoutSingle}
-use Rattle.nlri.specs.Inner.{layoutWith, originatorLast, groupSize as bothSizes, flowSizes, flowEnd, flowRoute, bodyWith, header, anyBody, anyFront, withSourceAs, sourceStart, distinguisherAt, sourceAsAt, fieldsAt, Within}
+use Rattle.nlri.specs.Inner.{layoutWith, originatorLast, groupSize as bothSizes, flowSizes, flowEnd, flowRoute, bodyWith, header, anyBody, anyFront, withSourceAs, sourceStart, distinguisherAt, sourceAsAt, fieldsAt}
 use Rattle.nlri.proofs.FieldRecords.{fields-same}
-use Rattle.nlri.proofs.Sizes.{address-within, flow-within}
+use Rattle.nlri.proofs.Sizes.{flow-within}
 use Rattle.nlri.proofs.Fronts.{laid-within, front-is}
 use Rattle.nlri.proofs.Singles.{read-by-layout, read-refused}
 use Rattle.routes.specs.Arguments.{readSPmsi}

@@ -1,4 +1,4 @@
--- `table::scan::nlri_at` meets its contract.
+-- `table::scan::nlri_from` meets its contract.
 use borrow.Author.Needs.{needs}
 use mathlib.Core.Path.{_∙_, ap}
 use mathlib.Core.List.{List}
@@ -7,8 +7,8 @@ use Rattle.routes.specs.Route.{nlriOf}
 use Rattle.routes.specs.Place.{routeIn}
 use Rattle.table.specs.Scanning.{nlriAt}
 use Rattle.table.proofs.Scans.{place-ends}
-use Rattle.table.proofs.scan.nlri_at.Statement.{statement}
-use Rattle.table.proofs.scan.nlri_at.Tie as tie
+use Rattle.table.proofs.scan.nlri_from.Statement.{statement}
+use Rattle.table.proofs.scan.nlri_from.Tie as tie
 
 between-requires : tie.Need-between-requires
 between-requires c κs = search needs
@@ -20,5 +20,5 @@ returns : tie.Need-returns
 unfolding nlriAt
 returns c = c .nlri-in .ensures ∙ ap (λ (x : List ℕ). nlriOf (routeIn x)) (c .before .between .ensures)
 
-pub nlri-at-spec : {M : Type 1} → statement M
-nlri-at-spec = tie.close (tie.spec between-requires nlri-in-requires returns)
+pub nlri-from-spec : {M : Type 1} → statement M
+nlri-from-spec = tie.close (tie.spec between-requires nlri-in-requires returns)

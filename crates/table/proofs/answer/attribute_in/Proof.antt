@@ -1,10 +1,10 @@
--- `table::place::attribute_in` meets its contract.
+-- `table::answer::attribute_in` meets its contract.
 use native.Mathlib.Omega.{arith}
 use borrow.Author.Needs.{needs}
 use Rattle.routes.specs.Place.{endIn, routeIn}
 use Rattle.routes.specs.Route.{attributeOf}
-use Rattle.table.proofs.place.attribute_in.Statement.{statement}
-use Rattle.table.proofs.place.attribute_in.Tie as tie
+use Rattle.table.proofs.answer.attribute_in.Statement.{statement}
+use Rattle.table.proofs.answer.attribute_in.Tie as tie
 
 shared-slice-read-between : tie.Need-shared-slice-read-between
 unfolding endIn

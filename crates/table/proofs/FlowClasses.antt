@@ -1,0 +1,103 @@
+-- A flow judged by its router's size, by source and group of one size, and by the group's class.
+use Prim.Native.Nat.{ℕ, _*_, _/_, _<_}
+use mathlib.Core.Path.{_≡_, refl, sym, _∙_, ap}
+use mathlib.Core.Logic.{_⊎_, inl, inr, ⊎-elim}
+use mathlib.Core.List.{List}
+use native.Mathlib.Omega.{arith}
+use borrow.Author.Tests.{eqb-true, eqb-false, ne-eqb}
+use lib.Dec.{eqb}
+use lib.ListN.{length}
+use Rattle.octets.specs.Numbers.{FLOW}
+use Rattle.octets.specs.Choice.{pick}
+use Rattle.octets.specs.Outcome.{Outcome, given, refused, onOutcome, andThen, numberOf}
+use Rattle.octets.proofs.Inversions.{only}
+use Rattle.octets.proofs.Outcomes.{and-pick, and-refused, pick-true, pick-false}
+use Rattle.octets.proofs.Picked.{tested}
+use Rattle.octets.proofs.Refusals.{outcome}
+use Rattle.octets.proofs.Tests.{goes, stops}
+use Rattle.nlri.specs.declared.group.Group.{Group}
+use Rattle.nlri.specs.Family.{familyBits, originatorSize}
+use Rattle.nlri.specs.Groups.{classUnder, classOf, groupOf}
+use Rattle.nlri.proofs.Lengths.{family-octets, family-good}
+use Rattle.routes.specs.Arguments.{Query, readFlow}
+use Rattle.routes.specs.Images.{Family}
+use Rattle.routes.proofs.Flows.{flow-asked, flow-refused}
+use Rattle.table.specs.Scanning.{queryOf, flowClass}
+
+-- a group of another size than the family's
+unsized : (family : ℕ) (g : List ℕ) → (length g ≡ family / 8 → ⊥) → classUnder family g ≡ refused FLOW
+unfolding classUnder
+unsized family g h = pick-false _ _ _ (ne-eqb _ _ h)
+
+classed : (afi family : ℕ) (g : List ℕ) → familyBits afi ≡ given family → classOf afi g ≡ classUnder family g
+unfolding classOf
+classed afi family g bits = sym (goes _ _ _ _ bits refl)
+
+-- source and group of the family's size: one of it, and the other of the same
+module _ (family : ℕ) (whole : 8 * (family / 8) ≡ family) (source group : List ℕ) (next : ℕ → Outcome Query) where
+  sized-alike : pick (eqb (8 * length source) family) (andThen (classUnder family group) next) (refused FLOW)
+      ≡ pick (eqb (length source) (length group)) (andThen (classUnder family group) next) (refused FLOW)
+  sized-alike =
+      tested (eqb (length source) (length group))
+      (λ alike.
+      let e : length source ≡ length group = eqb-true _ _ alike in
+      tested (eqb (8 * length source) family) (λ s. pick-true _ _ _ s ∙ sym (pick-true _ _ _ alike))
+      (λ s.
+      let other : 8 * length source ≡ family → ⊥ = eqb-false _ _ s in
+      pick-false _ _ _ s ∙ sym (pick-true _ _ _ alike ∙ sym (stops _ _ next (unsized family group (λ g. other (omega arith)))))))
+      (λ unlike.
+      let other : length source ≡ length group → ⊥ = eqb-false _ _ unlike in
+      tested (eqb (8 * length source) family)
+      (λ s.
+      let e : 8 * length source ≡ family = eqb-true _ _ s in
+      pick-true _ _ _ s ∙ sym (stops _ _ next (unsized family group (λ g. other (omega arith)))) ∙ sym (pick-false _ _ _ unlike))
+      (λ s. pick-false _ _ _ s ∙ sym (pick-false _ _ _ unlike)))
+
+module _ (afi : ℕ) (router source group : List ℕ) (good : Family afi) where
+  by-class : readFlow afi router source group ≡ andThen (flowClass afi router source group) (λ class. given (queryOf router source group class))
+  unfolding readFlow flowClass queryOf
+  by-class =
+      let family = family-good afi good in
+      let next : ℕ → Outcome Query = λ class. given (record { router = router; source = source; group = group; class = class }) in
+      sym (goes _ _ _ _ (family .1) (sym
+      (ap (λ (o : Outcome Query). pick (originatorSize (length router)) o (refused FLOW)) (sized-alike (family .0) (family-octets afi (family .0) (family .1) .0) source group next)
+      ∙ sym (rw (and-pick, and-pick, and-refused, classed afi (family .0) group (family .1))))))
+
+  -- what the function that judges a flow answers: the class, with DONE, or the number of the refusal
+  module _ (class : Group) (is : class ≡ groupOf (flowClass afi router source group)) where
+    number-is : class .number ≡ numberOf (flowClass afi router source group)
+    unfolding groupOf
+    number-is = ap (λ (c : Group). c .number) is
+
+    class-is : class .«group_class» ≡ onOutcome (λ number. 0) (λ c. c) (flowClass afi router source group)
+    unfolding groupOf
+    class-is = ap (λ (c : Group). c .«group_class») is
+
+    judged : (flowClass afi router source group ≡ given (class .«group_class»)) ⊎ (readFlow afi router source group ≡ refused (class .number))
+    unfolding numberOf onOutcome
+    judged =
+        ⊎-elim
+        (λ g. inl (g .1 ∙ ap given (sym (class-is ∙ rw (g .1)))))
+        (λ n. inr (by-class ∙ sym (stops _ (n .0) _ (n .1)) ∙ ap refused (sym (number-is ∙ rw (n .1)))))
+        (outcome (flowClass afi router source group))
+
+    done : flowClass afi router source group ≡ given (class .«group_class») → class .number ≡ 0
+    unfolding numberOf
+    done e = number-is ∙ rw e
+
+    pub flow-stopped : (class .number ≡ 0 → ⊥) → readFlow afi router source group ≡ refused (class .number)
+    flow-stopped h = ⊎-elim (λ g. absurd (h (done g))) (λ n. n) judged
+
+    given-class : class .number ≡ 0 → flowClass afi router source group ≡ given (class .«group_class»)
+    given-class h = ⊎-elim (λ g. g) (λ n. let e : class .number ≡ FLOW = flow-refused afi router source group _ good n in absurd (omega arith)) judged
+
+    pub flow-taken : class .number ≡ 0 → readFlow afi router source group ≡ given (queryOf router source group (class .«group_class»))
+    flow-taken h = by-class ∙ sym (goes _ _ _ _ (given-class h) refl)
+
+    -- a flow that is taken has a source and a group
+    pub flow-some : class .number ≡ 0 → (0 < length source) × (0 < length group)
+    unfolding flowClass
+    flow-some h =
+        let alike : length source ≡ length group = eqb-true _ _ (only _ _ _ _ (only _ _ _ _ (given-class h) .1) .0) in
+        ⊎-elim (λ a. (omega (arith, a .1), omega (arith, a .1))) (λ a. (omega (arith, a .1), omega (arith, a .1)))
+        (flow-asked afi router source group _ (flow-taken h) .good .sourced)

@@ -1,0 +1,88 @@
+// The call that finds the route that a customer flow takes (document 01, "Which route a flow takes").
+ghost use mathlib.Core.Path.{_≡_};
+ghost use mathlib.Core.Bool.{true};
+ghost use Prim.Native.Nat.{_≤_, _<_};
+ghost use lib.ListN.{length};
+ghost use Rattle.routes.specs.Table.{afiIn, routesOf, soundOf};
+ghost use Rattle.routes.specs.Matching.{matchIn};
+ghost use Rattle.routes.specs.Calls.{refusedMatch, foundAnswer, foundOutput, matchOf};
+ghost use Rattle.table.specs.Scanning.{queryOf};
+use crate::answer;
+use crate::flow;
+use crate::scan;
+use crate::sound;
+use octets::number::DONE;
+use octets::number::SPACE;
+use octets::number::TABLE;
+use routes::Matched;
+
+// An output that every route fits into.
+const LEAST_OUTPUT: usize = 124;
+
+fn refusal(number: u32) -> Matched
+    ensures { λ r. ⌜ r ≡ refusedMatch number ⌝ }
+{
+    Matched {
+        number,
+        tier: 0,
+        nlri_size: 0,
+        attribute_size: 0,
+    }
+}
+
+// The search, for a flow of this class.
+fn search(
+    table: &[u8],
+    router: &[u8],
+    source: &[u8],
+    group: &[u8],
+    class: u32,
+    output: &mut [u8],
+) -> Matched
+    requires { ⌜ (soundOf (now table) ≡ true) × (124 ≤ length (now output)) × (0 < length (now source)) × (0 < length (now group)) ⌝ }
+    ensures { λ r. ⌜ r ≡ foundAnswer (matchIn (afiIn (now (table .entry))) (queryOf (now (router .entry)) (now (source .entry)) (now (group .entry)) class) (routesOf (now (table .entry)))) ⌝ }
+    ensures { λ r. ⌜ now (output .exit) ≡ foundOutput (matchIn (afiIn (now (table .entry))) (queryOf (now (router .entry)) (now (source .entry)) (now (group .entry)) class) (routesOf (now (table .entry)))) (now (output .entry)) ⌝ }
+{
+    let count = sound::count_of(table);
+    let best = scan::scan(table, count, router, source, group, class);
+    answer::answer(table, best, output)
+}
+
+// FLOW, SPACE, then the search.
+fn match_sound(
+    table: &[u8],
+    router: &[u8],
+    source: &[u8],
+    group: &[u8],
+    output: &mut [u8],
+) -> Matched
+    requires { ⌜ soundOf (now table) ≡ true ⌝ }
+    ensures { λ r. ⌜ r ≡ matchOf (now (table .entry)) (now (router .entry)) (now (source .entry)) (now (group .entry)) (now (output .entry)) .answer ⌝ }
+    ensures { λ r. ⌜ now (output .exit) ≡ matchOf (now (table .entry)) (now (router .entry)) (now (source .entry)) (now (group .entry)) (now (output .entry)) .octets ⌝ }
+{
+    let flow = flow::flow_class(sound::afi_of(table), router, source, group);
+    if flow.number != DONE {
+        return refusal(flow.number);
+    }
+    if output.len() < LEAST_OUTPUT {
+        return refusal(SPACE);
+    }
+    search(table, router, source, group, flow.group_class, output)
+}
+
+// Finds the route that a flow takes, and writes it at the front of the output: TABLE, FLOW, SPACE.
+pub fn match_flow(
+    table: &[u8],
+    router: &[u8],
+    source: &[u8],
+    group: &[u8],
+    output: &mut [u8],
+) -> Matched
+    ensures { λ r. ⌜ r ≡ matchOf (now (table .entry)) (now (router .entry)) (now (source .entry)) (now (group .entry)) (now (output .entry)) .answer ⌝ }
+    ensures { λ r. ⌜ now (output .exit) ≡ matchOf (now (table .entry)) (now (router .entry)) (now (source .entry)) (now (group .entry)) (now (output .entry)) .octets ⌝ }
+{
+    if sound::is_sound(table) {
+        return match_sound(table, router, source, group, output);
+    }
+    refusal(TABLE)
+}
