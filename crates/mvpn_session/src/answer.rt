@@ -31,11 +31,16 @@ fn wide(octet: u8) -> u64 {
 }
 
 fn octets_of(s: &[u8]) {
-    text(b" ");
     let mut i = 0;
     while i < s.len() {
         io::print_hex(STDOUT_FILENO, wide(s[i]), 2);
         i += 1;
+    }
+}
+
+fn route(size: usize, output: &[u8]) {
+    if size <= output.len() {
+        octets_of(octets::parts::between(output, 0, size));
     }
 }
 
@@ -46,9 +51,12 @@ pub(crate) fn matched(answer: Matched, output: &[u8]) {
     number(answer.tier);
     number(answer.nlri_size);
     number(answer.attribute_size);
-    let size = answer.nlri_size as usize + answer.attribute_size as usize;
-    if size <= output.len() {
-        octets_of(octets::parts::between(output, 0, size));
+    if 0 < answer.tier {
+        text(b" ");
+        route(
+            answer.nlri_size as usize + answer.attribute_size as usize,
+            output,
+        );
     }
     text(b"\n");
 }

@@ -9,7 +9,6 @@ mod installing;
 mod judge;
 mod making;
 mod matching;
-mod place;
 mod scan;
 mod sound;
 mod tier;
