@@ -35,3 +35,4 @@ pub mod Reorders
 pub mod Turns
 pub mod Premise
 pub mod MixedCalls
+pub mod Theorems
