@@ -1,22 +1,27 @@
 -- `table::scan::is_lower` meets its contract.
 use borrow.Author.Needs.{needs}
-use mathlib.Core.Path.{sym, subst}
-use Rattle.table.specs.Scanning.{Bounded}
+use mathlib.Core.Path.{_≡_, sym, subst}
+use mathlib.Core.List.{List}
+use Prim.Native.Nat.{ℕ}
+use Rattle.table.specs.Scanning.{Bounded, nlriAt, Readable}
 use Rattle.table.proofs.Scans.{lower-is}
 use Rattle.table.proofs.scan.is_lower.Statement.{statement}
 use Rattle.table.proofs.scan.is_lower.Tie as tie
+
+bounded-from : (s t : List ℕ) (at : ℕ) → s ≡ nlriAt t at → Readable t at → Bounded s
+bounded-from s t at same readable = subst Bounded (sym same) (readable .bounded)
 
 nlri-from-requires : tie.Need-nlri-from-requires
 nlri-from-requires c κs = search needs
 
 distinguisher-in-requires : tie.Need-distinguisher-in-requires
-distinguisher-in-requires c κs = subst Bounded (sym (c .nlri-from .ensures)) (c .before .before .pre .0 .bounded)
+distinguisher-in-requires c κs = search (needs, bounded-from)
 
 nlri-from-requires-2 : tie.Need-nlri-from-requires-2
 nlri-from-requires-2 c κs = search needs
 
 distinguisher-in-requires-2 : tie.Need-distinguisher-in-requires-2
-distinguisher-in-requires-2 c κs = subst Bounded (sym (c .nlri-from2 .ensures)) (c .before .before .before .before .pre .1 .bounded)
+distinguisher-in-requires-2 c κs = search (needs, bounded-from)
 
 comes-before-requires : tie.Need-comes-before-requires
 comes-before-requires c κs = search needs
