@@ -38,6 +38,9 @@ LIBDIR = $(PREFIX)/lib
 PKGCONFIGDIR = $(LIBDIR)/pkgconfig
 MANDIR = $(PREFIX)/share/man
 
+# The calls; the manual page of each leads to mvpn(3).
+calls = ${shell sed -n 's/^[a-z].* \(mvpn_[a-z_]*\)(.*/\1/p' include/mvpn.h}
+
 # A directory as mvpn.pc writes it.
 in_prefix = $(patsubst $(PREFIX)/%,$${prefix}/%,$(1))
 
@@ -52,6 +55,7 @@ install:
 	install -m 644 target/staticlib/libmvpn.a '$(DESTDIR)$(LIBDIR)'
 	install -m 644 man/mvpn_list.1 '$(DESTDIR)$(MANDIR)/man1'
 	install -m 644 man/mvpn.3 '$(DESTDIR)$(MANDIR)/man3'
+	for call in $(calls); do install -m 644 man/call.3 '$(DESTDIR)$(MANDIR)/man3/'$$call.3; done
 	sed -e 's|@PREFIX@|$(abspath $(PREFIX))|' -e 's|@INCLUDEDIR@|$(call in_prefix,$(INCLUDEDIR))|' \
 	    -e 's|@LIBDIR@|$(call in_prefix,$(LIBDIR))|' -e "s|@VERSION@|$$(cat VERSION)|" \
 	    mvpn.pc.in >'$(DESTDIR)$(PKGCONFIGDIR)/mvpn.pc'
@@ -60,6 +64,7 @@ install:
 uninstall:
 	rm -f '$(DESTDIR)$(BINDIR)/mvpn_list' '$(DESTDIR)$(INCLUDEDIR)/mvpn.h' '$(DESTDIR)$(LIBDIR)/libmvpn.a' \
 	    '$(DESTDIR)$(PKGCONFIGDIR)/mvpn.pc' '$(DESTDIR)$(MANDIR)/man1/mvpn_list.1' '$(DESTDIR)$(MANDIR)/man3/mvpn.3'
+	for call in $(calls); do rm -f '$(DESTDIR)$(MANDIR)/man3/'$$call.3; done
 
 clean:
 	rm -rf target
