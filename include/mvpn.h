@@ -16,6 +16,7 @@
  * thread may make any call, and an answer depends on the call's arguments alone. Octets that are only read, a table apart,
  * may be lent to several calls at once; a buffer that a call writes is used by nobody else until the call ends. Calls on
  * different tables are independent; one table is used by one thread at a time, and handing it on is the caller's.
+ * A call takes at most 2 KiB of stack.
  *
  * Octets are in network order, as on the wire. AFI is 1 (IPv4) or 2 (IPv6), the whole 16-bit number.
  */
