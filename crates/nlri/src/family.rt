@@ -7,17 +7,21 @@ use crate::layout::Part;
 use octets::number::FAMILY;
 
 // Address family identifiers.
-const AFI_IPV4: u16 = 1;
+pub struct AddressFamily {}
 
-const AFI_IPV6: u16 = 2;
+impl AddressFamily {
+    pub const IPV4: u16 = 1;
+
+    pub const IPV6: u16 = 2;
+}
 
 pub(crate) fn family_bits(afi: u16) -> Part
     ensures { λ r. ⌜ partOf r ≡ familyBits afi ⌝ }
 {
-    if afi == AFI_IPV4 {
+    if afi == AddressFamily::IPV4 {
         return Part::Size(AddressKind::IPV4);
     }
-    if afi == AFI_IPV6 {
+    if afi == AddressFamily::IPV6 {
         return Part::Size(AddressKind::IPV6);
     }
     Part::Fault(FAMILY)

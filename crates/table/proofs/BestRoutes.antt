@@ -145,6 +145,3 @@ module _ (t : List ℕ) (is : soundOf t ≡ true) where
           → (answer ≡ foundAnswer (matchIn (afiIn t) (queryOf router source group class) (routesOf t)))
           × (left ≡ foundOutput (matchIn (afiIn t) (queryOf router source group class) (routesOf t)) output)
       search-answers answer output left a l = (a ∙ ap foundAnswer scan-matches, l ∙ ap (λ (f : Found). foundOutput f output) scan-matches)
-
-pub sound-least : (t : List ℕ) → soundOf t ≡ true → 8 ≤ length t
-sound-least t is = let size = sound t is .size .is in omega arith

@@ -51,7 +51,7 @@ unfolding flowEnd originatorLast
 end-is size a b rest l e = given-same (only _ _ _ _ (sym (pick-true _ _ _ refl) ∙ e) .1)
 
 -- what the body of an S-PMSI NLRI came to: the sizes of source and group with their length octets, and what remains
-record Laid (body : List ℕ) (l : Layout) : Type 0 where
+record FlowLaid (body : List ℕ) (l : Layout) : Type 0 where
   source : ℕ
   group : ℕ
   sourceIs : source ≡ 1 + getD body 8 0 / 8
@@ -59,7 +59,7 @@ record Laid (body : List ℕ) (l : Layout) : Type 0 where
   within : 8 + source + group ≤ length body
   layout : layoutWith 3 (length body) (source - 1) (group - 1) (length body - 8 - source - group) 0 ≡ l
 
-body-laid : (family : ℕ) (body : List ℕ) (l : Layout) → flowRoute family 3 8 body ≡ given l → Laid body l
+body-laid : (family : ℕ) (body : List ℕ) (l : Layout) → flowRoute family 3 8 body ≡ given l → FlowLaid body l
 unfolding flowRoute
 body-laid family body l e =
     let p = unless _ _ _ _ e in
@@ -79,16 +79,16 @@ body-laid family body l e =
     }
 
 -- a single NLRI's layout is that at its front, which is all of it
-record Whole (s : List ℕ) (l : Layout) : Type 0 where
+record WholeFront (s : List ℕ) (l : Layout) : Type 0 where
   family : ℕ
   front : anyFront family s ≡ given l
   typed : l .«route_type» ≡ getD s 0 0
   long : 2 ≤ length s
   all : length s - 2 ≡ getD s 1 0
 
-whole : (afi : ℕ) (s : List ℕ) (l : Layout) → layoutSingle afi s ≡ given l → Whole s l
+front-whole : (afi : ℕ) (s : List ℕ) (l : Layout) → layoutSingle afi s ≡ given l → WholeFront s l
 unfolding layoutSingle laidSingle laidAt layoutAt layoutOf
-whole afi s l e =
+front-whole afi s l e =
     let f = passed _ _ _ e in
     let family : ℕ = f .value in
     let w = passed _ _ _ (f .second) in
@@ -114,7 +114,7 @@ unfolding part
 rest-part s = take-all (length s - 2) (drop 2 s) (rw length-drop (omega arith))
 
 -- the body of an S-PMSI NLRI is all that stands behind its header
-body-of : (s : List ℕ) (l : Layout) → l .«route_type» ≡ 3 → Whole s l → Laid (drop 2 s) l
+body-of : (s : List ℕ) (l : Layout) → l .«route_type» ≡ 3 → WholeFront s l → FlowLaid (drop 2 s) l
 unfolding anyFront header
 body-of s l t w =
     let p = passed _ _ _ (w .front) in
@@ -127,7 +127,7 @@ body-of s l t w =
 left : (n m a b k : ℕ) → m ≡ n - 2 → k ≡ 10 + a + b → n - k ≡ m - 8 - a - b
 left n m a b k p q = omega arith
 
-module _ (s : List ℕ) (l : Layout) (long : 2 ≤ length s) (b : Laid (drop 2 s) l) where
+module _ (s : List ℕ) (l : Layout) (long : 2 ≤ length s) (b : FlowLaid (drop 2 s) l) where
   size-left : length (drop 2 s) ≡ length s - 2
   size-left = length-drop 2 s
 
@@ -166,10 +166,10 @@ fields-standing s n h =
     fields-same refl refl refl refl (ap (λ (k : ℕ). part s k (groupSize s)) at) rest refl
 
 module _ (afi : ℕ) (s : List ℕ) (l : Layout) (laid : layoutSingle afi s ≡ given l) (third : l .«route_type» ≡ 3) where
-  all-of-it : Whole s l
-  all-of-it = whole afi s l laid
+  all-of-it : WholeFront s l
+  all-of-it = front-whole afi s l laid
 
-  body : Laid (drop 2 s) l
+  body : FlowLaid (drop 2 s) l
   body = body-of s l third all-of-it
 
   layout-stands : fieldsAt l s ≡ standing s
@@ -181,13 +181,13 @@ module _ (afi : ℕ) (s : List ℕ) (l : Layout) (laid : layoutSingle afi s ≡ 
 
 module _ (afi : ℕ) (s : List ℕ) (f : Fields) (e : readSPmsi afi s ≡ given f) where
   -- read by a layout of type 3
-  record ReadBy : Type 0 where
+  record ThirdLayout : Type 0 where
     layout : Layout
     laid : layoutSingle afi s ≡ given layout
     third : layout .«route_type» ≡ 3
     fields : fieldsAt layout s ≡ f
 
-  read-by : ReadBy
+  read-by : ThirdLayout
   unfolding readSPmsi fieldsAt
   read-by =
       let p = passed _ _ _ e in

@@ -5,6 +5,7 @@ ghost use Rattle.octets.specs.Outcome.{refused};
 ghost use Rattle.nlri.specs.Family.{originatorSize};
 ghost use Rattle.nlri.specs.Groups.{groupOf};
 ghost use Rattle.table.specs.Scanning.{flowClass};
+use nlri::AddressKind;
 use nlri::Group;
 use octets::number::FLOW;
 
@@ -12,10 +13,10 @@ use octets::number::FLOW;
 fn is_router_size(size: usize) -> bool
     ensures { λ r. ⌜ r ≡ originatorSize size ⌝ }
 {
-    if size == 4 {
+    if size == AddressKind::IPV4_OCTETS {
         return true;
     }
-    size == 16
+    size == AddressKind::IPV6_OCTETS
 }
 
 fn refusal() -> Group

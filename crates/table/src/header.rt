@@ -6,13 +6,9 @@ ghost use lib.ListN.{length, drop};
 ghost use lib.Dec.{eqb};
 ghost use Rattle.octets.specs.Choice.{either};
 ghost use Rattle.routes.specs.Table.{headerOf, headerSound};
+use nlri::AddressFamily;
 
 const VERSION: u8 = 1;
-
-// Address family identifiers.
-const AFI_IPV4: u16 = 1;
-
-const AFI_IPV6: u16 = 2;
 
 // Writes the header; the places stay as they are.
 pub(crate) fn write_header(afi: u16, count: usize, table: &mut [u8])
@@ -35,10 +31,10 @@ pub(crate) fn write_header(afi: u16, count: usize, table: &mut [u8])
 pub(crate) fn is_family(afi: u16) -> bool
     ensures { λ r. ⌜ r ≡ either (eqb afi 1) (eqb afi 2) ⌝ }
 {
-    if afi == AFI_IPV4 {
+    if afi == AddressFamily::IPV4 {
         return true;
     }
-    afi == AFI_IPV6
+    afi == AddressFamily::IPV6
 }
 
 // A good header: "MVT", the version and an AFI.

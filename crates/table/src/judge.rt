@@ -6,9 +6,7 @@ use nlri::RouteType;
 use octets::number::DONE;
 use octets::number::KIND;
 use octets::number::LABEL;
-
-// The tunnel type whose label may not be 0 at install.
-const BIER: u32 = 11;
+use tunnel::TunnelType;
 
 // A well-formed S-PMSI NLRI: NLRI reading with no octets after it, then KIND.
 pub(crate) fn s_pmsi_fault(afi: u16, nlri: &[u8]) -> u32
@@ -32,7 +30,7 @@ pub(crate) fn attribute_fault(attribute: &[u8]) -> u32
     match tunnel::read(attribute) {
         tunnel::Reading::Refused(number) => number,
         tunnel::Reading::Attribute(fields) => {
-            if fields.tunnel_type == BIER {
+            if fields.tunnel_type == TunnelType::BIER as u32 {
                 if fields.label == 0 {
                     return LABEL;
                 }

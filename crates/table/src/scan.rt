@@ -53,6 +53,7 @@ fn is_ahead(table: &[u8], tier: u32, at: usize, best: Best) -> bool
     is_lower(table, at, start)
 }
 
+// The best so far, with the route in one more place.
 fn better(
     table: &[u8],
     router: &[u8],
@@ -75,6 +76,7 @@ fn better(
     best
 }
 
+// The best route in the first `count` places.
 pub(crate) fn scan(
     table: &[u8],
     count: usize,

@@ -20,6 +20,7 @@ pub(crate) fn distinguisher_in(nlri: &[u8]) -> &[u8]
     parts::between(nlri, DISTINGUISHER, DISTINGUISHER_SIZE)
 }
 
+// No octets are a wildcard.
 fn source_in(nlri: &[u8]) -> &[u8]
     requires { ⌜ Bounded (now nlri) ⌝ }
     ensures { λ r. ⌜ now r ≡ standing (now (nlri .entry)) .source ⌝ }
@@ -43,6 +44,7 @@ fn group_in(nlri: &[u8]) -> &[u8]
     parts::between(nlri, length_at + 1, nlri[length_at] as usize / 8)
 }
 
+// The originator is what remains.
 fn originator_in(nlri: &[u8]) -> &[u8]
     requires { ⌜ Bounded (now nlri) ⌝ }
     ensures { λ r. ⌜ now r ≡ standing (now (nlri .entry)) .originator ⌝ }

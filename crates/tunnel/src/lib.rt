@@ -13,6 +13,8 @@ mod identifier;
 mod sizes;
 mod tunnel_type;
 
+pub use tunnel_type::TunnelType;
+
 // Flags 1, tunnel type 1, label field 3.
 const HEADER: usize = 5;
 

@@ -13,6 +13,9 @@ enum-known-number c = search needs
 enum-known-fields : tie.Need-enum-known-fields
 enum-known-fields c = search needs
 
+cast-if1 : tie.Need-cast-if1
+cast-if1 c = search needs
+
 returns : tie.Need-returns
 returns c = attribute-unlabelled _ _ (c .before .before .before .before .before .before .before .read .ensures) _ (c .before .before .before .before .before .fields .given .1) (c .before .before .if1 .taken) (c .if2 .taken)
 
@@ -32,6 +35,7 @@ attribute-fault-spec =
     read-requires
     enum-known-number
     enum-known-fields
+    cast-if1
     returns
     returns-2
     returns-3

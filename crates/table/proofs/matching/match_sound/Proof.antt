@@ -1,12 +1,12 @@
 -- `table::matching::match_sound` meets its contract.
-use Rattle.table.proofs.BestRoutes.{sound-least}
+use Rattle.table.proofs.Finds.{header-within}
 use Rattle.table.proofs.Matches.{some-flow, answers-flow, answers-space, answers-search}
 use borrow.Author.Needs.{needs}
 use Rattle.table.proofs.matching.match_sound.Statement.{statement}
 use Rattle.table.proofs.matching.match_sound.Tie as tie
 
 afi-of-requires : tie.Need-afi-of-requires
-afi-of-requires c κs = sound-least _ (c .before .before .before .before .before .pre)
+afi-of-requires c κs = header-within _ (c .before .before .before .before .before .pre)
 
 flow-class-requires : tie.Need-flow-class-requires
 flow-class-requires c κs = search needs

@@ -1,11 +1,12 @@
 -- `table::matching::search` meets its contract.
-use Rattle.table.proofs.BestRoutes.{sound-least, scan-ready, scan-answerable, search-answers}
+use Rattle.table.proofs.Finds.{header-within}
+use Rattle.table.proofs.BestRoutes.{scan-ready, scan-answerable, search-answers}
 use borrow.Author.Needs.{needs}
 use Rattle.table.proofs.matching.search.Statement.{statement}
 use Rattle.table.proofs.matching.search.Tie as tie
 
 count-of-requires : tie.Need-count-of-requires
-count-of-requires c κs = sound-least _ (c .before .before .before .before .before .pre .0)
+count-of-requires c κs = header-within _ (c .before .before .before .before .before .pre .0)
 
 scan-requires : tie.Need-scan-requires
 scan-requires c κs = scan-ready _ (c .before .before .before .before .before .before .pre .0) _ (c .count-of .ensures .0)
