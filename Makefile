@@ -1,7 +1,7 @@
 # Needs the Rattle toolchain (`rt`); `make test` and `make bench` also a C and C++ compiler and cargo.
 # Everything that is made lies in target/. `rt` itself knows what has changed, so no target is a file.
 
-.PHONY: all archive listing list test bench clean
+.PHONY: all archive listing list test bench sizes install uninstall clean
 .NOTPARALLEL:
 
 # The archive for C, target/staticlib/libmvpn.a, and the listing program, target/bin/mvpn_list.
@@ -25,6 +25,46 @@ test:
 bench: archive
 	CARGO_TARGET_DIR='$(CURDIR)/target/cargo' MVPN_LIB_DIR='$(CURDIR)/target/staticlib' \
 	    cargo run --release --offline --manifest-path conformance/Cargo.toml --bin bench
+
+# A row for each crate: lines of code, contracts, definitions and proofs, functions, and the gate's seconds.
+sizes:
+	tools/sizes
+
+# Where `make install` puts things; DESTDIR, if given, goes before each.
+PREFIX = /usr/local
+BINDIR = $(PREFIX)/bin
+INCLUDEDIR = $(PREFIX)/include
+LIBDIR = $(PREFIX)/lib
+PKGCONFIGDIR = $(LIBDIR)/pkgconfig
+MANDIR = $(PREFIX)/share/man
+
+# The calls; the manual page of each leads to mvpn(3).
+calls = ${shell sed -n 's/^[a-z].* \(mvpn_[a-z_]*\)(.*/\1/p' include/mvpn.h}
+
+# A directory as mvpn.pc writes it.
+in_prefix = $(patsubst $(PREFIX)/%,$${prefix}/%,$(1))
+
+# Installs what `make` has built. It builds nothing, so that it can run where the toolchain is not.
+install:
+	@test -f target/staticlib/libmvpn.a && test -x target/bin/mvpn_list || \
+	    { echo "make install: nothing is built; run 'make' first" >&2; exit 1; }
+	install -d '$(DESTDIR)$(BINDIR)' '$(DESTDIR)$(INCLUDEDIR)' '$(DESTDIR)$(LIBDIR)' '$(DESTDIR)$(PKGCONFIGDIR)' \
+	    '$(DESTDIR)$(MANDIR)/man1' '$(DESTDIR)$(MANDIR)/man3'
+	install -m 755 target/bin/mvpn_list '$(DESTDIR)$(BINDIR)'
+	install -m 644 include/mvpn.h '$(DESTDIR)$(INCLUDEDIR)'
+	install -m 644 target/staticlib/libmvpn.a '$(DESTDIR)$(LIBDIR)'
+	install -m 644 man/mvpn_list.1 '$(DESTDIR)$(MANDIR)/man1'
+	install -m 644 man/mvpn.3 '$(DESTDIR)$(MANDIR)/man3'
+	for call in $(calls); do install -m 644 man/call.3 '$(DESTDIR)$(MANDIR)/man3/'$$call.3; done
+	sed -e 's|@PREFIX@|$(abspath $(PREFIX))|' -e 's|@INCLUDEDIR@|$(call in_prefix,$(INCLUDEDIR))|' \
+	    -e 's|@LIBDIR@|$(call in_prefix,$(LIBDIR))|' -e "s|@VERSION@|$$(cat VERSION)|" \
+	    mvpn.pc.in >'$(DESTDIR)$(PKGCONFIGDIR)/mvpn.pc'
+	chmod 644 '$(DESTDIR)$(PKGCONFIGDIR)/mvpn.pc'
+
+uninstall:
+	rm -f '$(DESTDIR)$(BINDIR)/mvpn_list' '$(DESTDIR)$(INCLUDEDIR)/mvpn.h' '$(DESTDIR)$(LIBDIR)/libmvpn.a' \
+	    '$(DESTDIR)$(PKGCONFIGDIR)/mvpn.pc' '$(DESTDIR)$(MANDIR)/man1/mvpn_list.1' '$(DESTDIR)$(MANDIR)/man3/mvpn.3'
+	for call in $(calls); do rm -f '$(DESTDIR)$(MANDIR)/man3/'$$call.3; done
 
 clean:
 	rm -rf target

@@ -9,10 +9,14 @@
  * Every call ends with a stated answer on any octets. A call that refuses returns its number, changes no octet of any
  * buffer, and leaves every other field of its answer 0, but for the count and offset of a walk and the cursor of a step.
  *
- * What the caller owes: a pointer is valid for the length given beside it; where the length is 0 the pointer may be any
- * non-null address. A buffer that is written overlaps no other argument. The library keeps nothing between calls, has
- * no state of its own and takes no memory, so calls from several threads are independent unless they share a buffer
- * that one of them writes. Calls on different tables are independent; one table is used by one thread at a time.
+ * What the caller owes: a pointer is valid for the length given beside it, which is at most PTRDIFF_MAX; where the length
+ * is 0 the pointer may be any non-null address. No alignment is asked. A buffer that is written overlaps no other argument.
+ *
+ * Threads: the library keeps nothing between calls, has no state of its own, and takes no memory and no lock, so any
+ * thread may make any call, and an answer depends on the call's arguments alone. Octets that are only read, a table apart,
+ * may be lent to several calls at once; a buffer that a call writes is used by nobody else until the call ends. Calls on
+ * different tables are independent; one table is used by one thread at a time, and handing it on is the caller's.
+ * A call takes at most 2 KiB of stack.
  *
  * Octets are in network order, as on the wire. AFI is 1 (IPv4) or 2 (IPv6), the whole 16-bit number.
  */
@@ -21,6 +25,12 @@
 
 #include <stddef.h>
 #include <stdint.h>
+
+/* The version of this header and its archive; before 1.0.0 a new minor version may change calls. */
+#define MVPN_VERSION "0.3.0"
+#define MVPN_VERSION_MAJOR 0
+#define MVPN_VERSION_MINOR 3
+#define MVPN_VERSION_PATCH 0
 
 #ifdef __cplusplus
 extern "C" {
