@@ -15,43 +15,45 @@
 #include "words.h"
 
 #include <arpa/inet.h>
-#include <stdlib.h>
+#include <stdbool.h>
+#include <stdio.h>
 #include <string.h>
 
-/* Places for the routes of each family. A call looks at all of them, so a table is made no larger than needed. */
-enum { PLACES = 64 };
+/* The memory of a family's table, for 64 routes. A call looks at all of it, so it is made no larger than needed. */
+enum { TABLE_SIZE = MVPN_TABLE_SIZE(64) };
 
 /* The two octets in front of an NLRI's body: route type and Length. */
 enum { NLRI_HEADER = 2 };
 
 typedef struct {
-    uint8_t tables[2][MVPN_TABLE_SIZE(PLACES)]; /* of AFI 1 and AFI 2 */
-    size_t messages, dropped, damaged;
-    size_t added, replaced, withdrawn, refused, other;
-} vrf;
+    uint8_t tables[2][TABLE_SIZE];                     /* of AFI 1 and AFI 2 */
+    size_t messages, dropped, damaged_runs;            /* a run is the NLRIs of one attribute */
+    size_t added, replaced, withdrawn, refused, other; /* NLRIs, by what became of them */
+} customer_vrf;
 
 /* ---- the table of a family */
 
-static uint8_t *table_of(vrf *v, uint16_t afi)
+static uint8_t *table_of(customer_vrf *vrf, uint16_t afi)
 {
-    return v->tables[afi - 1];
+    return vrf->tables[afi - 1];
 }
 
-static void make_tables(vrf *v)
+/* The AFIs and the size are right, so neither call is refused. */
+static void make_tables(customer_vrf *vrf)
 {
-    memset(v, 0, sizeof *v);
-    mvpn_make(1, table_of(v, 1), sizeof v->tables[0]);
-    mvpn_make(2, table_of(v, 2), sizeof v->tables[0]);
+    memset(vrf, 0, sizeof *vrf);
+    mvpn_make(1, table_of(vrf, 1), TABLE_SIZE);
+    mvpn_make(2, table_of(vrf, 2), TABLE_SIZE);
 }
 
-static void withdraw(vrf *v, uint16_t afi, octets nlri)
+static void withdraw(customer_vrf *vrf, uint16_t afi, octets nlri)
 {
-    uint32_t number = mvpn_withdraw(table_of(v, afi), sizeof v->tables[0], nlri.at, nlri.size);
+    uint32_t number = mvpn_withdraw(table_of(vrf, afi), TABLE_SIZE, nlri.at, nlri.size);
     if (number == MVPN_DONE) {
-        v->withdrawn++;
+        vrf->withdrawn++;
         printf("withdrawn");
     } else {
-        v->refused++;
+        vrf->refused++;
         printf("not withdrawn, ");
         print_number(number);
     }
@@ -59,33 +61,32 @@ static void withdraw(vrf *v, uint16_t afi, octets nlri)
 
 /* A route that is refused is no longer offered in a form that we can use, so what the table holds for it must go as well
  * ("treat-as-withdraw", RFC 7606, section 2). The library leaves that to us: a refusal changes nothing. */
-static void treat_as_withdrawn(vrf *v, uint16_t afi, octets nlri)
+static void treat_as_withdrawn(customer_vrf *vrf, uint16_t afi, octets nlri)
 {
-    v->refused++;
-    if (mvpn_withdraw(table_of(v, afi), sizeof v->tables[0], nlri.at, nlri.size) == MVPN_DONE) {
-        v->withdrawn++;
+    vrf->refused++;
+    if (mvpn_withdraw(table_of(vrf, afi), TABLE_SIZE, nlri.at, nlri.size) == MVPN_DONE) {
+        vrf->withdrawn++;
         printf("; treated as withdrawn");
     }
 }
 
-static void install(vrf *v, uint16_t afi, octets nlri, octets tunnel)
+static void install(customer_vrf *vrf, uint16_t afi, octets nlri, octets tunnel)
 {
     if (!tunnel.at) {
         printf("not installed, no PMSI Tunnel attribute");
-        treat_as_withdrawn(v, afi, nlri);
+        treat_as_withdrawn(vrf, afi, nlri);
         return;
     }
-    mvpn_installed installed =
-        mvpn_install(table_of(v, afi), sizeof v->tables[0], nlri.at, nlri.size, tunnel.at, tunnel.size);
+    mvpn_installed installed = mvpn_install(table_of(vrf, afi), TABLE_SIZE, nlri.at, nlri.size, tunnel.at, tunnel.size);
     if (installed.number != MVPN_DONE) {
         printf("not installed, ");
         print_number(installed.number);
-        treat_as_withdrawn(v, afi, nlri);
+        treat_as_withdrawn(vrf, afi, nlri);
     } else if (installed.outcome == MVPN_NEW) {
-        v->added++;
+        vrf->added++;
         printf("installed, new");
     } else {
-        v->replaced++;
+        vrf->replaced++;
         printf("installed, replaces the attribute it had");
     }
 }
@@ -116,118 +117,106 @@ static mvpn_walked walk_run(uint16_t afi, octets run)
     return whole;
 }
 
-/* One NLRI of a run: the octets between two cursors. */
-static octets nlri_at(uint16_t afi, octets run, size_t at, mvpn_stepped *step)
+/* One NLRI of a run that has been walked: the octets between two cursors. Its route type is 0 if the library does not know
+ * it; no other step of such a run is refused. */
+static octets nlri_at(const route_run *routes, size_t at, size_t *route_type)
 {
-    *step = mvpn_step(afi, run.at, run.size, at);
-    return (octets){ run.at + at, step->number == MVPN_TYPE ? unknown_size(run, at) : step->cursor - at };
+    mvpn_stepped step = mvpn_step(routes->afi, routes->run.at, routes->run.size, at);
+    *route_type = step.layout.route_type;
+    return (octets){ routes->run.at + at, step.number == MVPN_TYPE ? unknown_size(routes->run, at) : step.cursor - at };
 }
 
 typedef enum { INSTALL, WITHDRAW } change;
 
-/* Route types other than S-PMSI A-D are not for the table; they are named and counted. */
-static void use_nlri(vrf *v, change what, uint16_t afi, octets nlri, const mvpn_stepped *step, octets tunnel)
+static void change_route(customer_vrf *vrf, change what, uint16_t afi, octets nlri, octets tunnel)
 {
-    if (step->layout.route_type != MVPN_S_PMSI) {
-        v->other++;
-        printf("route type %u, %s: not for the table", nlri.at[0], route_type_name(nlri.at[0]));
-        return;
-    }
     mvpn_nlri route = mvpn_nlri_read(afi, nlri.at, nlri.size).nlri;
     print_route(&route);
     printf(": ");
     if (what == INSTALL)
-        install(v, afi, nlri, tunnel);
+        install(vrf, afi, nlri, tunnel);
     else
-        withdraw(v, afi, nlri);
+        withdraw(vrf, afi, nlri);
 }
 
-/* The whole run is walked before any of it is used. Where an NLRI is damaged, nobody can tell where the next one begins,
- * nor which routes were meant; so nothing of that run is installed or withdrawn, not even the NLRIs before the damage, and
- * what the table holds stays. (RFC 7606, section 5.3, then resets the session or gives up the family; there is no session
- * here.) */
-static void use_run(vrf *v, change what, const route_run *routes, octets tunnel)
+/* Only S-PMSI A-D routes are for the table; others are named and counted. */
+static void use_nlris(customer_vrf *vrf, change what, const route_run *routes, octets tunnel)
 {
-    mvpn_walked walked = walk_run(routes->afi, routes->run);
-    printf("  %s, %s: ", what == INSTALL ? "MP_REACH_NLRI" : "MP_UNREACH_NLRI", family_name(routes->afi));
-    if (walked.number != MVPN_DONE) {
-        v->damaged++;
-        printf("nothing of it is used\n    octet %u: damaged NLRI, ", (unsigned)walked.offset);
-        print_number(walked.number);
-        printf("\n");
-        return;
-    }
-    printf("%u NLRI%s\n", (unsigned)walked.count, walked.count == 1 ? "" : "s");
     for (size_t at = 0; at < routes->run.size;) {
-        mvpn_stepped step;
-        octets nlri = nlri_at(routes->afi, routes->run, at, &step);
+        size_t route_type;
+        octets nlri = nlri_at(routes, at, &route_type);
         printf("    octet %zu: ", at);
-        use_nlri(v, what, routes->afi, nlri, &step, tunnel);
+        if (route_type == MVPN_S_PMSI)
+            change_route(vrf, what, routes->afi, nlri, tunnel);
+        else {
+            vrf->other++;
+            printf("route type %u, %s: not for the table", nlri.at[0], route_type_name(nlri.at[0]));
+        }
         printf("\n");
         at += nlri.size;
     }
 }
 
-/* ---- messages */
-
-static const char *message_type_name(uint8_t type)
+/* The whole run is walked before any of it is used. Where an NLRI is damaged, nobody can tell which routes were meant, so
+ * nothing of that run is installed or withdrawn, not even the NLRIs before the damage, and what the table holds stays.
+ * (RFC 7606, section 3, asks for more then: to reset the session or to give up the family. Here there is no session.) */
+static void use_run(customer_vrf *vrf, change what, const route_run *routes, octets tunnel)
 {
-    switch (type) {
-    case BGP_OPEN:
-        return "OPEN";
-    case BGP_UPDATE:
-        return "UPDATE";
-    case BGP_NOTIFICATION:
-        return "NOTIFICATION";
-    case BGP_KEEPALIVE:
-        return "KEEPALIVE";
-    case BGP_ROUTE_REFRESH:
-        return "ROUTE-REFRESH";
-    default:
-        return NULL;
+    mvpn_walked walked = walk_run(routes->afi, routes->run);
+    printf("  %s, %s: ", what == INSTALL ? "MP_REACH_NLRI" : "MP_UNREACH_NLRI", family_name(routes->afi));
+    if (walked.number == MVPN_DONE) {
+        printf("%u NLRI%s\n", (unsigned)walked.count, walked.count == 1 ? "" : "s");
+        use_nlris(vrf, what, routes, tunnel);
+    } else {
+        vrf->damaged_runs++;
+        printf("nothing of it is used\n    octet %u: damaged NLRI, ", (unsigned)walked.offset);
+        print_number(walked.number);
+        printf("\n");
     }
 }
 
-static void drop(vrf *v, fault damage)
+/* ---- messages */
+
+static void drop(customer_vrf *vrf, fault damage)
 {
-    v->dropped++;
+    vrf->dropped++;
     printf("dropped, octet %zu: %s\n", damage.offset, damage.text);
 }
 
 /* Withdrawals come first: a route that is in both attributes is announced. */
-static void use_update(vrf *v, octets message)
+static void use_update(customer_vrf *vrf, octets message)
 {
     update found;
     fault damage = update_read(message, &found);
     if (damage.text) {
-        drop(v, damage);
+        drop(vrf, damage);
         return;
     }
     printf("path attributes %zu, skipped %zu\n", found.attributes, found.skipped);
     if (found.unreach.afi)
-        use_run(v, WITHDRAW, &found.unreach, found.tunnel);
+        use_run(vrf, WITHDRAW, &found.unreach, found.tunnel);
     if (found.reach.afi)
-        use_run(v, INSTALL, &found.reach, found.tunnel);
+        use_run(vrf, INSTALL, &found.reach, found.tunnel);
 }
 
-static void use_message(vrf *v, octets message)
+static void use_message(customer_vrf *vrf, octets message)
 {
     uint8_t type = message_type(message);
     const char *name = message_type_name(type);
     printf("%s, %zu octets", name ? name : "unknown type", message.size);
     if (type == BGP_UPDATE) {
         printf(": ");
-        use_update(v, message);
+        use_update(vrf, message);
     } else if (name)
         printf("\n");
     else {
         printf(": ");
-        drop(v, (fault){ "the type is not 1 to 5", BGP_HEADER - 1 });
+        drop(vrf, (fault){ "the type is not 1 to 5", BGP_HEADER - 1 });
     }
 }
 
 /* Whether the input was read to its end. */
-static bool use_messages(vrf *v, FILE *input)
+static bool use_messages(customer_vrf *vrf, FILE *input)
 {
     uint8_t buffer[BGP_LONGEST_MESSAGE];
     for (;;) {
@@ -235,27 +224,28 @@ static bool use_messages(vrf *v, FILE *input)
         fault damage = message_read(input, buffer, &message);
         if (!damage.text && message.size == 0)
             return !ferror(input);
-        v->messages++;
-        printf("message %zu: ", v->messages);
+        vrf->messages++;
+        printf("message %zu: ", vrf->messages);
         if (damage.text) {
-            drop(v, damage);
+            drop(vrf, damage);
             printf("where the next message begins cannot be told: no more are read\n");
             return false;
         }
-        use_message(v, message);
+        use_message(vrf, message);
     }
 }
 
-static void print_counts(const vrf *v)
+static void print_counts(const customer_vrf *vrf)
 {
-    printf("\nmessages: %zu, dropped %zu, with a damaged NLRI %zu\n", v->messages, v->dropped, v->damaged);
-    printf("routes: new %zu, replaced %zu, withdrawn %zu, refused %zu; other NLRIs %zu\n", v->added, v->replaced,
-           v->withdrawn, v->refused, v->other);
+    printf("\nmessages: read %zu, dropped %zu; runs with a damaged NLRI %zu\n", vrf->messages - vrf->dropped, vrf->dropped,
+           vrf->damaged_runs);
+    printf("routes: new %zu, replaced %zu, withdrawn %zu, refused %zu; other NLRIs %zu\n", vrf->added, vrf->replaced,
+           vrf->withdrawn, vrf->refused, vrf->other);
 }
 
 /* ---- flows */
 
-typedef struct { mvpn_address router, source, group; } flow;
+typedef struct { mvpn_address router, source, group; } customer_flow;
 
 static bool parse_address(const char *text, mvpn_address *address)
 {
@@ -266,20 +256,21 @@ static bool parse_address(const char *text, mvpn_address *address)
     return false;
 }
 
-static bool parse_flow(char **words, flow *f)
+static bool parse_flow(char **words, customer_flow *flow)
 {
-    return parse_address(words[0], &f->router) && parse_address(words[1], &f->source) && parse_address(words[2], &f->group);
+    return parse_address(words[0], &flow->router) && parse_address(words[1], &flow->source) &&
+           parse_address(words[2], &flow->group);
 }
 
-static void print_flow(const flow *f, uint16_t afi)
+static void print_flow(const customer_flow *flow, uint16_t afi)
 {
-    mvpn_group group = mvpn_group_class(afi, f->group.octets, f->group.size);
+    mvpn_group group = mvpn_group_class(afi, flow->group.octets, flow->group.size);
     printf("\nflow (");
-    print_address(f->source.octets, f->source.size);
+    print_address(flow->source.octets, flow->source.size);
     printf(", ");
-    print_address(f->group.octets, f->group.size);
+    print_address(flow->group.octets, flow->group.size);
     printf(") of router ");
-    print_address(f->router.octets, f->router.size);
+    print_address(flow->router.octets, flow->router.size);
     if (group.number == MVPN_DONE)
         printf(", %s group", group_class_name(group.group_class));
     printf("\n");
@@ -302,14 +293,14 @@ static void print_match(uint16_t afi, mvpn_matched match, const uint8_t *output)
 }
 
 /* The group tells the family, and with it the table. */
-static void answer(vrf *v, const flow *f)
+static void answer(customer_vrf *vrf, const customer_flow *flow)
 {
-    uint16_t afi = f->group.size == 4 ? 1 : 2;
+    uint16_t afi = flow->group.size == 4 ? 1 : 2;
     uint8_t output[MVPN_MATCH_OUTPUT];
-    mvpn_matched match = mvpn_match(table_of(v, afi), sizeof v->tables[0], f->router.octets, f->router.size,
-                                    f->source.octets, f->source.size, f->group.octets, f->group.size,
+    mvpn_matched match = mvpn_match(table_of(vrf, afi), TABLE_SIZE, flow->router.octets, flow->router.size,
+                                    flow->source.octets, flow->source.size, flow->group.octets, flow->group.size,
                                     output, sizeof output);
-    print_flow(f, afi);
+    print_flow(flow, afi);
     if (match.number != MVPN_DONE) {
         printf("  refused, ");
         print_number(match.number);
@@ -333,25 +324,27 @@ static FILE *open_input(const char *name)
 /* 0: all was read and answered; 1: the input could not be read to its end; 2: the command line is wrong. */
 int main(int argc, char **argv)
 {
-    static vrf v;
-    flow f;
+    static customer_vrf vrf;
+    customer_flow flow;
     if (argc < 2 || (argc - 2) % 3 != 0) {
         fprintf(stderr, "usage: pe_daemon FILE [ROUTER SOURCE GROUP]...\n");
         return 2;
     }
     for (int i = 2; i < argc; i += 3)
-        if (!parse_flow(argv + i, &f))
+        if (!parse_flow(argv + i, &flow))
             return 2;
     FILE *input = open_input(argv[1]);
     if (!input)
         return 1;
 
-    make_tables(&v);
-    bool whole = use_messages(&v, input);
-    print_counts(&v);
+    make_tables(&vrf);
+    bool whole = use_messages(&vrf, input);
+    if (ferror(input))
+        fprintf(stderr, "pe_daemon: %s cannot be read\n", argv[1]);
+    print_counts(&vrf);
     for (int i = 2; i < argc; i += 3)
-        if (parse_flow(argv + i, &f))
-            answer(&v, &f);
+        if (parse_flow(argv + i, &flow))
+            answer(&vrf, &flow);
     fclose(input);
     return whole ? 0 : 1;
 }

@@ -47,3 +47,13 @@ run damaged.bin 10.0.0.1 192.0.2.1 239.1.1.1 10.0.0.1 192.0.2.1 232.1.1.1
 # Standard input that ends inside a message, and inside a header.
 head -c 100 ipv4.bin | run -
 head -c 29 ipv4.bin | run -
+
+# header LENGTH: the header of an UPDATE.
+header() {
+    printf '\xFF%.0s' {1..16}
+    printf "$1\x02"
+}
+
+# Lengths of 18 and of 4,097 octets.
+header '\x00\x12' | run -
+header '\x10\x01' | run -

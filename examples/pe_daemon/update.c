@@ -4,7 +4,7 @@
 
 enum { MARKER = 16, TYPE_OFFSET = 18 };
 
-/* The only attribute flag that matters for finding the next attribute. */
+/* The one attribute flag that says where the next attribute begins; the others are not judged here. */
 enum { EXTENDED_LENGTH = 0x10 };
 
 enum { MP_REACH_NLRI = 14, MP_UNREACH_NLRI = 15, PMSI_TUNNEL = 22 };
@@ -79,6 +79,24 @@ fault message_read(FILE *input, uint8_t buffer[BGP_LONGEST_MESSAGE], octets *mes
 uint8_t message_type(octets message)
 {
     return message.at[TYPE_OFFSET];
+}
+
+const char *message_type_name(uint8_t type)
+{
+    switch (type) {
+    case BGP_OPEN:
+        return "OPEN";
+    case BGP_UPDATE:
+        return "UPDATE";
+    case BGP_NOTIFICATION:
+        return "NOTIFICATION";
+    case BGP_KEEPALIVE:
+        return "KEEPALIVE";
+    case BGP_ROUTE_REFRESH:
+        return "ROUTE-REFRESH";
+    default:
+        return NULL;
+    }
 }
 
 /* ---- path attributes: NULL, or what is wrong with the attribute */

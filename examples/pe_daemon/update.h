@@ -35,8 +35,9 @@ typedef struct {
  * where the next message begins. */
 fault message_read(FILE *input, uint8_t buffer[BGP_LONGEST_MESSAGE], octets *message);
 
-/* The type in the header of a whole message. */
+/* The type in the header of a whole message, and its name; NULL where the type is not defined. */
 uint8_t message_type(octets message);
+const char *message_type_name(uint8_t type);
 
 /* Takes a whole message of type UPDATE apart. After a fault nothing of the message is to be used. */
 fault update_read(octets message, update *found);

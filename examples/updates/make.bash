@@ -101,9 +101,11 @@ extended() {
     sized 2 "$3"
 }
 
-# reach_value AFI NLRIS, unreach_value AFI NLRIS: the next hop is 10.0.0.1.
+# reach_value AFI NLRIS, unreach_value AFI NLRIS: of SAFI 5; the next hop is of the same family.
 reach_value() {
-    printf '%s05040A00000100%s' "$(number 2 "$1")" "$2"
+    local next_hop=10.0.0.1
+    [ "$1" -ne 2 ] || next_hop=2001:db8::1
+    printf '%s05%s00%s' "$(number 2 "$1")" "$(sized 1 "$(address $next_hop)")" "$2"
 }
 
 unreach_value() {
@@ -279,9 +281,10 @@ both() {
     unicast_update 18C63364 18CB0071 "$(usual)" "$(reach 1 "$(s_pmsi 0:100:7 '*' '*' 10.0.0.1)")" \
         "$(bier 00 1001 0 1 10.0.0.1)"
 
-    # MP_REACH_NLRI of SAFI 128
+    # MP_REACH_NLRI of SAFI 128, and of an AFI that SAFI 5 does not go with
     update "$(usual)" "$(attribute 80 14 "000180$(sized 1 "0000000000000000$(address 10.0.0.1)")00")" \
         "$(unreach 1 "$(s_pmsi 0:100:7 '*' '*' 10.0.0.1)")"
+    update "$(usual)" "$(reach 25 "$ipv4")" "$(bier 00 1001 0 1 10.0.0.1)"
 
     # a route in both attributes is announced; of two PMSI Tunnel attributes the first counts
     update "$(usual)" "$(reach 1 "$ipv4")" "$(unreach 1 "$ipv4")" "$(bier 00 1002 0 1 10.0.0.1)" "$(no_tunnel 00)"
