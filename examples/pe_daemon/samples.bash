@@ -57,3 +57,7 @@ header() {
 # Lengths of 18 and of 4,097 octets.
 header '\x00\x12' | run -
 header '\x10\x01' | run -
+
+# Two addresses of three, and a word that is no address.
+run ipv4.bin 10.0.0.1 192.0.2.1 2>&1
+run ipv4.bin 10.0.0.1 192.0.2.1 all 2>&1

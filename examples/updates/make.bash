@@ -219,7 +219,11 @@ unicast_update() {
 # ---- the samples
 
 ipv4() {
+    # OPEN (version 4, AS 100, hold time 90), KEEPALIVE, ROUTE-REFRESH: no routes in them
+    message 1 "04$(number 2 100)$(number 2 90)$(address 10.0.0.1)00"
     message 4 ''
+    message 5 00010005
+
     update "$(usual)" "$(reach 1 "$(s_pmsi 0:100:7 192.0.2.1 232.1.1.1 10.0.0.1)")" "$(mldp_p2mp 10.0.0.1 "$(generic 42)")"
     update "$(usual)" "$(reach 1 "$(s_pmsi 0:100:7 192.0.2.1 '*' 10.0.0.1)" "$(s_pmsi 0:100:7 192.0.2.9 '*' 10.0.0.1)")" \
         "$(pim 3 10.0.0.1 232.0.0.1)"
@@ -246,8 +250,9 @@ ipv4() {
     update "$(usual)" "$(reach 1 "$(s_pmsi 0:100:7 '*' 239.1.1.1 10.0.0.1)")" "$(bier 01 1000 0 1 10.0.0.1)"
     update "$(unreach 1 "$(s_pmsi 0:100:7 192.0.2.9 '*' 10.0.0.1)")"
 
-    # End-of-RIB (RFC 4724, section 2): no NLRIs
+    # End-of-RIB (RFC 4724, section 2): no NLRIs; then NOTIFICATION: administrative shutdown
     update "$(unreach 1)"
+    message 3 0602
 }
 
 ipv6() {
