@@ -46,7 +46,7 @@ run damaged.bin 10.0.0.1 192.0.2.1 239.1.1.1 10.0.0.1 192.0.2.1 232.1.1.1
 
 # Standard input that ends inside a message, and inside a header.
 head -c 100 ipv4.bin | run -
-head -c 29 ipv4.bin | run -
+head -c 39 ipv4.bin | run -
 
 # header LENGTH: the header of an UPDATE.
 header() {
