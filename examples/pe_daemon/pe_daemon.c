@@ -117,8 +117,8 @@ static mvpn_walked walk_run(uint16_t afi, octets run)
     return whole;
 }
 
-/* One NLRI of a run that has been walked: the octets between two cursors. Its route type is 0 if the library does not know
- * it; no other step of such a run is refused. */
+/* One NLRI of a run that has been walked: the octets between two cursors, none at the run's end. Its route type is 0 if the
+ * library does not know it; no other step of such a run is refused. */
 static octets nlri_at(const route_run *routes, size_t at, size_t *route_type)
 {
     mvpn_stepped step = mvpn_step(routes->afi, routes->run.at, routes->run.size, at);
@@ -142,9 +142,9 @@ static void change_route(customer_vrf *vrf, change what, uint16_t afi, octets nl
 /* Only S-PMSI A-D routes are for the table; others are named and counted. */
 static void use_nlris(customer_vrf *vrf, change what, const route_run *routes, octets tunnel)
 {
-    for (size_t at = 0; at < routes->run.size;) {
-        size_t route_type;
-        octets nlri = nlri_at(routes, at, &route_type);
+    size_t at = 0, route_type;
+    octets nlri;
+    while ((nlri = nlri_at(routes, at, &route_type)).size > 0) {
         printf("    octet %zu: ", at);
         if (route_type == MVPN_S_PMSI)
             change_route(vrf, what, routes->afi, nlri, tunnel);
