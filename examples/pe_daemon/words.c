@@ -1,0 +1,248 @@
+#include "words.h"
+
+#include <arpa/inet.h>
+#include <inttypes.h>
+#include <stdio.h>
+
+#define COUNT(list) (sizeof(list) / sizeof((list)[0]))
+
+/* ---- names of numbers */
+
+typedef struct { const char *name, *meaning; } number_words;
+
+#define WORDS(number, meaning) [number] = { #number, meaning }
+
+static const number_words numbers[] = {
+    WORDS(MVPN_DONE, "done"),
+    WORDS(MVPN_SHORT, "too few octets"),
+    WORDS(MVPN_TYPE, "unknown route type"),
+    WORDS(MVPN_LENGTH, "the fields do not end where the Length field says"),
+    WORDS(MVPN_WIDTH, "an address length that the route type and family do not allow"),
+    WORDS(MVPN_KEY, "a Leaf's key is not a well-formed NLRI of type 1, 2 or 3"),
+    WORDS(MVPN_TUNNEL, "unknown tunnel type"),
+    WORDS(MVPN_IDENT, "the tunnel identifier is not of the tunnel type's form"),
+    WORDS(MVPN_LONG, "more octets than the library takes"),
+    WORDS(MVPN_LABEL, "BIER with label 0"),
+    WORDS(MVPN_FAMILY, "the AFI is not 1 or 2"),
+    WORDS(MVPN_TABLE, "the memory is not a sound table"),
+    WORDS(MVPN_KIND, "not an S-PMSI A-D route"),
+    WORDS(MVPN_ROOM, "every place of the table is taken"),
+    WORDS(MVPN_ABSENT, "the table does not hold this route"),
+    WORDS(MVPN_FLOW, "an address of the wrong size, or a group that is not multicast"),
+    WORDS(MVPN_SPACE, "the output is too small"),
+};
+
+const char *number_name(uint32_t number)
+{
+    return number < COUNT(numbers) ? numbers[number].name : "a number that mvpn.h does not have";
+}
+
+const char *number_meaning(uint32_t number)
+{
+    return number < COUNT(numbers) ? numbers[number].meaning : "";
+}
+
+/* The text that a list has for a number, if it has one. */
+static const char *listed(const char *const *list, size_t count, size_t number, const char *otherwise)
+{
+    return number < count && list[number] ? list[number] : otherwise;
+}
+
+const char *family_name(uint16_t afi)
+{
+    static const char *const names[] = { [1] = "IPv4", [2] = "IPv6" };
+    return listed(names, COUNT(names), afi, "unknown family");
+}
+
+const char *route_type_name(size_t route_type)
+{
+    static const char *const names[] = {
+        [MVPN_INTRA_AS_I_PMSI] = "Intra-AS I-PMSI A-D",
+        [MVPN_INTER_AS_I_PMSI] = "Inter-AS I-PMSI A-D",
+        [MVPN_S_PMSI] = "S-PMSI A-D",
+        [MVPN_LEAF] = "Leaf A-D",
+        [MVPN_SOURCE_ACTIVE] = "Source Active A-D",
+        [MVPN_SHARED_TREE_JOIN] = "Shared Tree Join",
+        [MVPN_SOURCE_TREE_JOIN] = "Source Tree Join",
+    };
+    return listed(names, COUNT(names), route_type, "unknown route type");
+}
+
+const char *tunnel_type_name(uint32_t tunnel_type)
+{
+    static const char *const names[] = {
+        [MVPN_TUNNEL_NONE] = "no tunnel information",
+        [MVPN_TUNNEL_RSVP_TE_P2MP] = "RSVP-TE P2MP LSP",
+        [MVPN_TUNNEL_MLDP_P2MP] = "mLDP P2MP LSP",
+        [MVPN_TUNNEL_PIM_SSM] = "PIM-SSM tree",
+        [MVPN_TUNNEL_PIM_SM] = "PIM-SM tree",
+        [MVPN_TUNNEL_BIDIR_PIM] = "BIDIR-PIM tree",
+        [MVPN_TUNNEL_INGRESS_REPLICATION] = "ingress replication",
+        [MVPN_TUNNEL_MLDP_MP2MP] = "mLDP MP2MP LSP",
+        [MVPN_TUNNEL_BIER] = "BIER",
+    };
+    return listed(names, COUNT(names), tunnel_type, "unknown tunnel type");
+}
+
+const char *group_class_name(uint32_t group_class)
+{
+    static const char *const names[] = { [MVPN_ASM] = "ASM", [MVPN_SSM] = "SSM" };
+    return listed(names, COUNT(names), group_class, "unknown group class");
+}
+
+const char *tier_name(uint32_t tier)
+{
+    static const char *const names[] = {
+        [1] = "(C-S,C-G): source and group both equal",
+        [2] = "(C-S,C-*): source equal, any group, as the group is SSM",
+        [3] = "(C-*,C-G): any source, group equal, as the group is ASM",
+        [4] = "(C-*,C-*): any source, any group",
+    };
+    return listed(names, COUNT(names), tier, "unknown tier");
+}
+
+void print_number(uint32_t number)
+{
+    printf("%s (%s)", number_name(number), number_meaning(number));
+}
+
+/* ---- addresses and route distinguishers */
+
+static uint32_t big_endian(const uint8_t *octets, size_t size)
+{
+    uint32_t number = 0;
+    for (size_t i = 0; i < size; i++)
+        number = number << 8 | octets[i];
+    return number;
+}
+
+static void print_hexadecimal(const uint8_t *octets, size_t size)
+{
+    for (size_t i = 0; i < size; i++)
+        printf("%s%02X", i ? " " : "", octets[i]);
+}
+
+/* An address of no octets is the wildcard. */
+void print_address(const uint8_t *address, size_t size)
+{
+    char text[INET6_ADDRSTRLEN];
+    if (size == 0)
+        printf("*");
+    else
+        printf("%s", inet_ntop(size == 4 ? AF_INET : AF_INET6, address, text, sizeof text));
+}
+
+/* RFC 4364, section 4.2: the first two octets say how the other six are divided. */
+void print_distinguisher(mvpn_route_distinguisher distinguisher)
+{
+    const uint8_t *value = distinguisher.octets + 2;
+    switch (big_endian(distinguisher.octets, 2)) {
+    case 0: /* AS of two octets, number of four */
+        printf("%" PRIu32 ":%" PRIu32, big_endian(value, 2), big_endian(value + 2, 4));
+        break;
+    case 1: /* IPv4 address, number of two octets */
+        print_address(value, 4);
+        printf(":%" PRIu32, big_endian(value + 4, 2));
+        break;
+    case 2: /* AS of four octets, number of two */
+        printf("%" PRIu32 ":%" PRIu32, big_endian(value, 4), big_endian(value + 4, 2));
+        break;
+    default:
+        print_hexadecimal(distinguisher.octets, sizeof distinguisher.octets);
+    }
+}
+
+void print_route(const mvpn_nlri *route)
+{
+    printf("%s, RD ", route_type_name(route->route_type));
+    print_distinguisher(route->distinguisher);
+    printf(", (");
+    print_address(route->source.octets, route->source.size);
+    printf(", ");
+    print_address(route->group.octets, route->group.size);
+    printf("), originator ");
+    print_address(route->originator.octets, route->originator.size);
+}
+
+/* ---- tunnels (RFC 6514, section 5; RFC 8556, section 2) */
+
+void print_tunnel(const mvpn_attribute_reading *tunnel)
+{
+    printf("%s, ", tunnel_type_name(tunnel->tunnel_type));
+    if (tunnel->label)
+        printf("label %" PRIu32, tunnel->label);
+    else
+        printf("no label");
+    if (tunnel->flags)
+        printf(", flags 0x%02" PRIX32, tunnel->flags);
+    if (tunnel->leaf_information_required)
+        printf(", leaf information required");
+}
+
+/* Extended tunnel ID (the root's address) 4, reserved 2, tunnel ID 2, P2MP ID 4. */
+static void print_rsvp_te(const uint8_t *identifier)
+{
+    printf("extended tunnel ID ");
+    print_address(identifier, 4);
+    printf(", tunnel ID %" PRIu32 ", P2MP ID %" PRIu32, big_endian(identifier + 6, 2), big_endian(identifier + 8, 4));
+}
+
+/* Two addresses of one size. */
+static void print_pim(const char *first, const uint8_t *identifier, size_t size)
+{
+    printf("%s ", first);
+    print_address(identifier, size / 2);
+    printf(", P-multicast group ");
+    print_address(identifier + size / 2, size / 2);
+}
+
+/* The library has taken the FEC element apart; its spans stand in the whole attribute. */
+static void print_fec(const mvpn_fec *fec, const uint8_t *attribute)
+{
+    static const char *const names[] = { [6] = "P2MP", [7] = "MP2MP upstream", [8] = "MP2MP downstream" };
+    printf("%s FEC, root ", listed(names, COUNT(names), fec->fec_type, "unknown"));
+    print_address(attribute + fec->root.start, fec->root.size);
+    printf(", opaque value ");
+    if (fec->opaque.size == 0)
+        printf("empty");
+    print_hexadecimal(attribute + fec->opaque.start, fec->opaque.size);
+}
+
+/* Sub-domain 1, BFR-id 2, BFR-prefix 4 or 16. */
+static void print_bier(const uint8_t *identifier, size_t size)
+{
+    printf("sub-domain %u, BFR-id %" PRIu32 ", BFR-prefix ", identifier[0], big_endian(identifier + 1, 2));
+    print_address(identifier + 3, size - 3);
+}
+
+/* The library has read the attribute, so the identifier has its tunnel type's form. */
+void print_identifier(const mvpn_attribute_reading *tunnel, const uint8_t *attribute)
+{
+    const uint8_t *identifier = attribute + tunnel->identifier.start;
+    size_t size = tunnel->identifier.size;
+    switch (tunnel->tunnel_type) {
+    case MVPN_TUNNEL_RSVP_TE_P2MP:
+        print_rsvp_te(identifier);
+        break;
+    case MVPN_TUNNEL_MLDP_P2MP:
+    case MVPN_TUNNEL_MLDP_MP2MP:
+        print_fec(&tunnel->fec, attribute);
+        break;
+    case MVPN_TUNNEL_PIM_SSM:
+        print_pim("P-root node", identifier, size);
+        break;
+    case MVPN_TUNNEL_PIM_SM:
+    case MVPN_TUNNEL_BIDIR_PIM:
+        print_pim("sender", identifier, size);
+        break;
+    case MVPN_TUNNEL_INGRESS_REPLICATION:
+        printf("endpoint ");
+        print_address(identifier, size);
+        break;
+    case MVPN_TUNNEL_BIER:
+        print_bier(identifier, size);
+        break;
+    default:
+        printf("none");
+    }
+}

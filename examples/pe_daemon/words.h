@@ -1,0 +1,30 @@
+/* The library's numbers, routes and tunnels in words. */
+#ifndef WORDS_H
+#define WORDS_H
+
+#include "mvpn.h"
+
+/* ---- names of numbers */
+
+const char *number_name(uint32_t number);    /* "MVPN_SHORT" */
+const char *number_meaning(uint32_t number); /* "too few octets" */
+const char *family_name(uint16_t afi);
+const char *route_type_name(size_t route_type);
+const char *tunnel_type_name(uint32_t tunnel_type);
+const char *group_class_name(uint32_t group_class);
+const char *tier_name(uint32_t tier);
+
+/* ---- printing: no line feed before or after */
+
+void print_number(uint32_t number);
+void print_address(const uint8_t *address, size_t size);
+void print_distinguisher(mvpn_route_distinguisher distinguisher);
+
+/* An S-PMSI A-D route. */
+void print_route(const mvpn_nlri *route);
+
+/* Tunnel type, label and flags; then the tunnel identifier. `tunnel` is what reading the attribute gave. */
+void print_tunnel(const mvpn_attribute_reading *tunnel);
+void print_identifier(const mvpn_attribute_reading *tunnel, const uint8_t *attribute);
+
+#endif

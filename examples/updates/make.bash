@@ -1,0 +1,355 @@
+#!/usr/bin/env bash
+# Writes the sample messages as files of octets: make.bash FOLDER.
+#
+# Every function prints octets as hexadecimal digits. Lengths are counted, so what is damaged is damaged on purpose.
+set -euo pipefail
+folder=$1
+
+# ---- numbers and addresses
+
+# number OCTETS VALUE
+number() {
+    printf "%0$((2 * $1))X" "$2"
+}
+
+# sized OCTETS PART: the part behind its size, a number of that many octets.
+sized() {
+    number "$1" $((${#2} / 2))
+    printf '%s' "$2"
+}
+
+# parts SEPARATOR FORMAT TEXT: each part of the text in that format.
+parts() {
+    local list
+    IFS=$1 read -ra list <<<"$3"
+    [ ${#list[@]} -eq 0 ] || printf "$2" "${list[@]}"
+}
+
+# address TEXT: an IPv4 address, or an IPv6 address in which '::' stands once; '*' is the wildcard, no octets.
+address() {
+    local front back
+    case $1 in
+    '*') ;;
+    *::*)
+        front=$(parts : '%4s' "${1%%::*}") back=$(parts : '%4s' "${1##*::}")
+        printf "$front%$((32 - ${#front} - ${#back}))s$back" '' | tr ' a-f' '0A-F'
+        ;;
+    *) parts . '%02X' "$1" ;;
+    esac
+}
+
+# rd TYPE:AS:NUMBER, rd 1:ADDRESS:NUMBER: a route distinguisher (RFC 4364, section 4.2); other types as six octets.
+rd() {
+    local type part last
+    IFS=: read -r type part last <<<"$1"
+    number 2 "$type"
+    case $type in
+    0) printf '%s%s' "$(number 2 "$part")" "$(number 4 "$last")" ;;
+    1) printf '%s%s' "$(address "$part")" "$(number 2 "$last")" ;;
+    2) printf '%s%s' "$(number 4 "$part")" "$(number 2 "$last")" ;;
+    *) printf '%s' "$part" ;;
+    esac
+}
+
+# ---- NLRIs (RFC 6514, section 4; RFC 6625, section 2)
+
+# nlri TYPE BODY
+nlri() {
+    number 1 "$1"
+    sized 1 "$2"
+}
+
+# field ADDRESS: the address behind its length in bits.
+field() {
+    local octets
+    octets=$(address "$1")
+    number 1 $((4 * ${#octets}))
+    printf '%s' "$octets"
+}
+
+# s_pmsi RD SOURCE GROUP ORIGINATOR
+s_pmsi() {
+    nlri 3 "$(rd "$1")$(field "$2")$(field "$3")$(address "$4")"
+}
+
+# one_of_each: an NLRI of each route type but S-PMSI A-D, and one of a route type that is not defined.
+one_of_each() {
+    local rd as=0000FDE8
+    rd=$(rd 0:100:7)
+    nlri 1 "$rd$(address 10.0.0.1)"
+    nlri 2 "$rd$as"
+    nlri 4 "$(s_pmsi 0:100:7 '*' '*' 10.0.0.1)$(address 10.0.0.2)"
+    nlri 5 "$rd$(field 192.0.2.1)$(field 239.1.1.1)"
+    nlri 6 "$rd$as$(field 192.0.2.9)$(field 239.1.1.1)"
+    nlri 7 "$rd$as$(field 192.0.2.1)$(field 232.1.1.1)"
+    nlri 9 ABCDEF
+}
+
+# ---- path attributes (RFC 4271, section 4.3; RFC 4760)
+
+# attribute FLAGS TYPE VALUE
+attribute() {
+    printf '%s' "$1"
+    number 1 "$2"
+    sized 1 "$3"
+}
+
+# extended FLAGS TYPE VALUE: with the length in two octets.
+extended() {
+    number 1 $((0x$1 | 0x10))
+    number 1 "$2"
+    sized 2 "$3"
+}
+
+# reach_value AFI NLRIS, unreach_value AFI NLRIS: of SAFI 5; the next hop is of the same family.
+reach_value() {
+    local next_hop=10.0.0.1
+    [ "$1" -ne 2 ] || next_hop=2001:db8::1
+    printf '%s05%s00%s' "$(number 2 "$1")" "$(sized 1 "$(address $next_hop)")" "$2"
+}
+
+unreach_value() {
+    printf '%s05%s' "$(number 2 "$1")" "$2"
+}
+
+# reach AFI NLRI..., unreach AFI NLRI...
+reach() {
+    local IFS=
+    attribute 80 14 "$(reach_value "$1" "${*:2}")"
+}
+
+unreach() {
+    local IFS=
+    attribute 80 15 "$(unreach_value "$1" "${*:2}")"
+}
+
+# The attributes that any BGP route has, and a Route Target: ORIGIN, AS_PATH, LOCAL_PREF, EXTENDED COMMUNITIES.
+usual() {
+    attribute 40 1 00
+    attribute 40 2 ''
+    attribute 40 5 00000064
+    attribute C0 16 0002006400000007
+}
+
+# ---- tunnels (RFC 6514, section 5; RFC 8556, section 2)
+
+# tunnel_value FLAGS TYPE LABEL IDENTIFIER
+tunnel_value() {
+    printf '%s' "$1"
+    number 1 "$2"
+    number 3 $(($3 * 16))
+    printf '%s' "$4"
+}
+
+# tunnel FLAGS TYPE LABEL IDENTIFIER
+tunnel() {
+    attribute C0 22 "$(tunnel_value "$@")"
+}
+
+no_tunnel() {
+    tunnel "$1" 0 0 ''
+}
+
+# rsvp_te ROOT TUNNEL P2MP
+rsvp_te() {
+    tunnel 00 1 0 "$(address "$1")0000$(number 2 "$2")$(number 4 "$3")"
+}
+
+# fec TYPE ROOT OPAQUE: an mLDP FEC element (RFC 6388, section 2.2).
+fec() {
+    local root family=0001
+    root=$(address "$2")
+    [ ${#root} -eq 8 ] || family=0002
+    printf '%s%s' "$1" "$family"
+    sized 1 "$root"
+    sized 2 "$3"
+}
+
+# generic NUMBER: the opaque value that is a number of four octets.
+generic() {
+    printf '01'
+    sized 2 "$(number 4 "$1")"
+}
+
+# mldp_p2mp ROOT OPAQUE, mldp_mp2mp FEC_TYPE ROOT OPAQUE
+mldp_p2mp() {
+    tunnel 00 2 0 "$(fec 06 "$1" "$2")"
+}
+
+mldp_mp2mp() {
+    tunnel 00 7 0 "$(fec "$1" "$2" "$3")"
+}
+
+# pim TYPE ADDRESS GROUP
+pim() {
+    tunnel 00 "$1" 0 "$(address "$2")$(address "$3")"
+}
+
+# ingress_replication FLAGS LABEL ENDPOINT
+ingress_replication() {
+    tunnel "$1" 6 "$2" "$(address "$3")"
+}
+
+# bier FLAGS LABEL SUBDOMAIN BFR_ID PREFIX
+bier() {
+    tunnel "$1" 11 "$2" "$(number 1 "$3")$(number 2 "$4")$(address "$5")"
+}
+
+# ---- messages (RFC 4271, section 4)
+
+marker=FFFFFFFFFFFFFFFFFFFFFFFFFFFFFFFF
+
+# message TYPE BODY
+message() {
+    printf '%s%s%s%s' "$marker" "$(number 2 $((19 + ${#2} / 2)))" "$(number 1 "$1")" "$2"
+}
+
+# update ATTRIBUTE...
+update() {
+    local IFS=
+    message 2 "0000$(sized 2 "$*")"
+}
+
+# unicast_update WITHDRAWN NLRI ATTRIBUTE...: an UPDATE that speaks of IPv4 unicast routes as well.
+unicast_update() {
+    local IFS=
+    message 2 "$(sized 2 "$1")$(sized 2 "${*:3}")$2"
+}
+
+# ---- the samples
+
+ipv4() {
+    # OPEN (version 4, AS 100, hold time 90), KEEPALIVE, ROUTE-REFRESH: no routes in them
+    message 1 "04$(number 2 100)$(number 2 90)$(address 10.0.0.1)00"
+    message 4 ''
+    message 5 00010005
+
+    update "$(usual)" "$(reach 1 "$(s_pmsi 0:100:7 192.0.2.1 232.1.1.1 10.0.0.1)")" "$(mldp_p2mp 10.0.0.1 "$(generic 42)")"
+    update "$(usual)" "$(reach 1 "$(s_pmsi 0:100:7 192.0.2.1 '*' 10.0.0.1)" "$(s_pmsi 0:100:7 192.0.2.9 '*' 10.0.0.1)")" \
+        "$(pim 3 10.0.0.1 232.0.0.1)"
+    update "$(usual)" "$(reach 1 "$(s_pmsi 0:100:7 '*' 239.1.1.1 10.0.0.1)")" "$(rsvp_te 10.0.0.1 5 1)"
+    update "$(usual)" "$(reach 1 "$(s_pmsi 0:100:7 '*' '*' 10.0.0.1)" "$(s_pmsi 0:100:7 '*' 232.9.9.9 10.0.0.1)")" \
+        "$(ingress_replication 01 3000 10.0.0.1)"
+
+    # one source and group under three route distinguishers, the lowest neither first nor last
+    update "$(usual)" "$(reach 1 "$(s_pmsi 1:10.0.0.1:9 192.0.2.1 239.2.2.2 10.0.0.1)")" "$(pim 3 10.0.0.1 232.0.0.2)"
+    update "$(usual)" "$(reach 1 "$(s_pmsi 0:100:9 192.0.2.1 239.2.2.2 10.0.0.1)")" "$(pim 3 10.0.0.1 232.0.0.3)"
+    update "$(usual)" "$(reach 1 "$(s_pmsi 2:65536:9 192.0.2.1 239.2.2.2 10.0.0.1)")" "$(pim 3 10.0.0.1 232.0.0.4)"
+
+    # routers with one route for everything, each with another kind of tunnel and of route distinguisher
+    update "$(usual)" "$(reach 1 "$(s_pmsi 1:10.0.0.2:7 '*' '*' 10.0.0.2)")" "$(pim 4 10.0.0.2 239.0.0.1)"
+    update "$(usual)" "$(reach 1 "$(s_pmsi 2:65536:7 '*' '*' 10.0.0.3)")" "$(pim 5 10.0.0.3 239.0.0.2)"
+    update "$(usual)" "$(reach 1 "$(s_pmsi 0:100:8 '*' '*' 10.0.0.4)")" "$(rsvp_te 10.0.0.4 6 2)"
+    update "$(usual)" "$(reach 1 "$(s_pmsi 0:100:8 '*' '*' 10.0.0.5)")" "$(mldp_mp2mp 08 10.0.0.99 "$(generic 43)")"
+    update "$(usual)" "$(reach 1 "$(s_pmsi 0:100:8 '*' '*' 10.0.0.6)")" "$(no_tunnel 01)"
+
+    update "$(usual)" "$(reach 1 "$(one_of_each)" "$(s_pmsi 0:100:7 192.0.2.7 232.7.7.7 10.0.0.1)")" \
+        "$(bier 00 1001 0 1 10.0.0.1)"
+
+    # another tunnel for a route that is held, and one route less
+    update "$(usual)" "$(reach 1 "$(s_pmsi 0:100:7 '*' 239.1.1.1 10.0.0.1)")" "$(bier 01 1000 0 1 10.0.0.1)"
+    update "$(unreach 1 "$(s_pmsi 0:100:7 192.0.2.9 '*' 10.0.0.1)")"
+
+    # End-of-RIB (RFC 4724, section 2): no NLRIs; then NOTIFICATION: administrative shutdown
+    update "$(unreach 1)"
+    message 3 0602
+}
+
+ipv6() {
+    local source=2001:db8:1::1 pe=2001:db8::1
+    update "$(usual)" "$(reach 2 "$(s_pmsi 0:100:7 $source ff3e::1 $pe)")" "$(mldp_p2mp $pe "$(generic 42)")"
+    update "$(usual)" "$(reach 2 "$(s_pmsi 0:100:7 $source '*' $pe)" "$(s_pmsi 0:100:7 2001:db8:1::9 '*' $pe)")" \
+        "$(pim 3 $pe ff3e::8000:1)"
+    update "$(usual)" "$(reach 2 "$(s_pmsi 0:100:7 '*' ff0e::1 $pe)")" "$(ingress_replication 00 3000 $pe)"
+    update "$(usual)" "$(reach 2 "$(s_pmsi 0:100:7 '*' '*' $pe)")" "$(bier 01 1000 1 258 $pe)"
+    update "$(usual)" "$(reach 2 "$(s_pmsi 2:65536:7 '*' '*' $pe)")" "$(bier 01 1001 1 258 $pe)"
+
+    # a router that is known by an IPv4 address: another router, in the same family
+    update "$(usual)" "$(reach 2 "$(s_pmsi 1:10.0.0.1:7 '*' '*' 10.0.0.1)")" "$(mldp_mp2mp 07 10.0.0.99 '')"
+    update "$(usual)" "$(reach 2 "$(s_pmsi 3:000000ABCDEF '*' '*' 10.0.0.2)")" "$(pim 5 2001:db8::2 ff0e::8000:3)"
+
+    update "$(usual)" "$(reach 2 "$(s_pmsi 0:100:7 '*' ff0e::1 $pe)")" "$(pim 4 $pe ff0e::8000:2)"
+    update "$(unreach 2 "$(s_pmsi 0:100:7 2001:db8:1::9 '*' $pe)")"
+}
+
+both() {
+    local ipv4 ipv6 unknown
+    ipv4=$(s_pmsi 0:100:7 192.0.2.1 232.1.1.1 10.0.0.1) ipv6=$(s_pmsi 0:100:7 2001:db8:1::1 ff3e::1 10.0.0.1)
+    unknown=$(attribute C0 99 010203)
+    update "$(usual)" "$(reach 2 "$ipv6" "$(s_pmsi 0:100:7 '*' '*' 10.0.0.1)")" "$(bier 00 1000 0 1 10.0.0.1)"
+
+    # IPv4 routes announced and an IPv6 route withdrawn; an unknown attribute; lengths of two octets
+    update "$(usual)" "$unknown" "$(extended 80 14 "$(reach_value 1 "$ipv4")")" \
+        "$(extended C0 22 "$(tunnel_value 01 6 3000 "$(address 10.0.0.1)")")" "$(unreach 2 "$ipv6")"
+
+    # 198.51.100.0/24 withdrawn and 203.0.113.0/24 announced: IPv4 unicast, before and behind the attributes
+    unicast_update 18C63364 18CB0071 "$(usual)" "$(reach 1 "$(s_pmsi 0:100:7 '*' '*' 10.0.0.1)")" \
+        "$(bier 00 1001 0 1 10.0.0.1)"
+
+    # MP_REACH_NLRI of SAFI 128, and of an AFI that SAFI 5 does not go with
+    update "$(usual)" "$(attribute 80 14 "000180$(sized 1 "0000000000000000$(address 10.0.0.1)")00")" \
+        "$(unreach 1 "$(s_pmsi 0:100:7 '*' '*' 10.0.0.1)")"
+    update "$(usual)" "$(reach 25 "$ipv4")" "$(bier 00 1001 0 1 10.0.0.1)"
+
+    # a route in both attributes is announced; of two PMSI Tunnel attributes the first counts
+    update "$(usual)" "$(reach 1 "$ipv4")" "$(unreach 1 "$ipv4")" "$(bier 00 1002 0 1 10.0.0.1)" "$(no_tunnel 00)"
+}
+
+# Announces a route with a tunnel: announce NLRI TUNNEL.
+announce() {
+    update "$(usual)" "$(reach 1 "$1")" "$2"
+}
+
+damaged_nlris() {
+    local rd good=$1 tunnel=$2
+    rd=$(rd 0:100:7)
+    announce "$good$(nlri 3 "${rd}18C0000200")" "$tunnel"                       # a source of 24 bits
+    announce "$(nlri 9 AB)$(nlri 3 "$rd$(field '*')$(field '*')0A0000")" "$tunnel" # an originator of three octets
+    announce "${good}0320$rd" "$tunnel"                                         # a Length past the run's end
+    announce "$(nlri 4 "$(nlri 5 "$rd")$(address 10.0.0.1)")" "$tunnel"         # a Leaf's key that is Source Active
+    update "$(unreach 1 "$(s_pmsi 0:100:7 '*' '*' 10.0.0.1)" 03)"                 # a withdrawal, and half a header
+}
+
+damaged_tunnels() {
+    local route=$1
+    announce "$route" "$(tunnel 00 1 0 "$(address 10.0.0.1)00000005000000")" # an RSVP-TE identifier of 11 octets
+    announce "$route" "$(tunnel 00 8 0 '')"                                  # a tunnel type that is not defined
+    announce "$route" "$(attribute C0 22 0006)"                              # two octets
+    announce "$route" "$(tunnel 00 2 0 "$(fec 06 10.0.0.1 "$(generic 42)$(printf '%090d' 0)")")" # over 64 octets
+    update "$(usual)" "$(reach 1 "$route")"                                  # none
+}
+
+damaged_frames() {
+    local announced=$1
+    update "$(usual)" "${announced}C01608"                    # an attribute past the end
+    update "$(usual)" "$announced$announced"                  # MP_REACH_NLRI twice
+    update "$(usual)" "$(attribute 80 14 000105040A0000)"     # a next hop past the end
+    update "$(unreach 1)" "$(unreach 2)"                      # MP_UNREACH_NLRI twice
+    update "$(attribute 80 15 0001)"                          # no SAFI
+    message 2 "0009$(sized 2 "$announced")"                   # withdrawn routes past the attributes' length
+    message 2 "0000$(number 2 $((${#announced} / 2 + 1)))$announced" # path attributes past the end
+    message 2 00                                              # half a length
+    message 9 ''                                              # a message type that is not defined
+}
+
+damaged() {
+    local held bier
+    held=$(s_pmsi 0:100:7 192.0.2.1 232.1.1.1 10.0.0.1) bier=$(bier 00 1000 0 1 10.0.0.1)
+    announce "$held$(s_pmsi 0:100:7 '*' '*' 10.0.0.1)" "$bier"
+    damaged_nlris "$(s_pmsi 0:100:7 192.0.2.1 239.1.1.1 10.0.0.1)" "$bier"
+    damaged_tunnels "$(s_pmsi 0:100:7 192.0.2.2 232.1.1.1 10.0.0.1)"
+    announce "$held" "$(bier 00 0 0 1 10.0.0.1)" # BIER needs a label; the route was held
+    update "$(unreach 1 "$held")"                # and is gone
+    damaged_frames "$(reach 1 "$held")"
+    printf 'FE%s' "$(announce "$held" "$bier" | tail -c +3)" # a marker with a bit off: the end of what can be read
+    announce "$held" "$bier"
+}
+
+# octets NAME: the sample of that name, as a file of octets.
+octets() {
+    printf "$("$1" | sed 's/../\\x&/g')" >"$folder/$1.bin"
+}
+
+for sample in ipv4 ipv6 both damaged; do
+    octets "$sample"
+done
