@@ -57,6 +57,12 @@ enum {
     MVPN_SPACE = 16   /* output buffer too small */
 };
 
+/* Address families. */
+enum { MVPN_AFI_IPV4 = 1, MVPN_AFI_IPV6 = 2 };
+
+/* The octets of an NLRI before its body: route type and Length. */
+enum { MVPN_NLRI_HEADER = 2 };
+
 /* Route types (RFC 6514, section 4). */
 enum {
     MVPN_INTRA_AS_I_PMSI = 1,
@@ -68,18 +74,24 @@ enum {
     MVPN_SOURCE_TREE_JOIN = 7
 };
 
-/* Tunnel types (RFC 6514, section 5; RFC 8556, section 2). */
+/* Tunnel types (RFC 6514, section 5; RFC 8556, section 2), with the octets of the identifier. */
 enum {
-    MVPN_TUNNEL_NONE = 0,
-    MVPN_TUNNEL_RSVP_TE_P2MP = 1,
-    MVPN_TUNNEL_MLDP_P2MP = 2,
-    MVPN_TUNNEL_PIM_SSM = 3,
-    MVPN_TUNNEL_PIM_SM = 4,
-    MVPN_TUNNEL_BIDIR_PIM = 5,
-    MVPN_TUNNEL_INGRESS_REPLICATION = 6,
-    MVPN_TUNNEL_MLDP_MP2MP = 7,
-    MVPN_TUNNEL_BIER = 11
+    MVPN_TUNNEL_NONE = 0,                /* none */
+    MVPN_TUNNEL_RSVP_TE_P2MP = 1,        /* P2MP ID 4, reserved 2, tunnel ID 2, extended tunnel ID 4 */
+    MVPN_TUNNEL_MLDP_P2MP = 2,           /* a FEC element of type 6 */
+    MVPN_TUNNEL_PIM_SSM = 3,             /* sender and group, each 4 or each 16 */
+    MVPN_TUNNEL_PIM_SM = 4,              /* sender and group, each 4 or each 16 */
+    MVPN_TUNNEL_BIDIR_PIM = 5,           /* sender and group, each 4 or each 16 */
+    MVPN_TUNNEL_INGRESS_REPLICATION = 6, /* the tunnel's end point, 4 or 16 */
+    MVPN_TUNNEL_MLDP_MP2MP = 7,          /* a FEC element of type 7 or 8 */
+    MVPN_TUNNEL_BIER = 11                /* sub-domain 1, BFR-id 2, BFR-prefix 4 or 16 */
 };
+
+/* The flag of an attribute that asks for Leaf A-D routes (RFC 6514, section 5). */
+enum { MVPN_LEAF_INFORMATION_REQUIRED = 1 };
+
+/* Types of FEC elements (RFC 6388). */
+enum { MVPN_FEC_P2MP = 6, MVPN_FEC_MP2MP_UP = 7, MVPN_FEC_MP2MP_DOWN = 8 };
 
 /* Group classes (RFC 4607): 232.0.0.0/8 and FF3x::/32 are SSM, any other multicast group is ASM. */
 enum { MVPN_ASM = 1, MVPN_SSM = 2 };
@@ -156,6 +168,7 @@ mvpn_stepped mvpn_step(uint16_t afi, const uint8_t *run, size_t run_len, size_t 
 /*
  * Walks a run of NLRIs up to the first refusal: how many were read, the offset just past the last one read, and the
  * number of the refusal, or DONE at the run's end. A bad AFI gives 0, 0, FAMILY; a run over 4,096 octets 0, 0, LONG.
+ * An NLRI refused with TYPE is whole: a caller may go on behind it, run[offset + 1] octets past its header.
  */
 mvpn_walked mvpn_walk(uint16_t afi, const uint8_t *run, size_t run_len);
 
@@ -210,6 +223,15 @@ enum {
 /* The octets of a table of `places` places. */
 #define MVPN_TABLE_SIZE(places) ((size_t)MVPN_TABLE_HEADER + (size_t)MVPN_PLACE * (size_t)(places))
 
+/* Tiers of a match, in the order in which they are tried; no tier where no route matches. */
+enum {
+    MVPN_NO_TIER = 0,
+    MVPN_SOURCE_AND_GROUP = 1,
+    MVPN_SOURCE_ANY_GROUP = 2, /* SSM groups only */
+    MVPN_ANY_SOURCE_GROUP = 3, /* ASM groups only */
+    MVPN_ANY_SOURCE_ANY_GROUP = 4
+};
+
 /* What an install did. */
 enum { MVPN_NEW = 1, MVPN_REPLACED = 2 };
 
@@ -230,7 +252,8 @@ uint32_t mvpn_make(uint16_t afi, uint8_t *table, size_t table_len);
 /*
  * Installs an S-PMSI A-D route with its attribute, or gives a route that the table holds this attribute. TABLE, then NLRI
  * reading under the table's AFI (LENGTH for octets after it), KIND, attribute reading, LABEL, ROOM. A route that the table
- * holds is replaced in a full table too.
+ * holds is replaced in a full table too. A refusal leaves the attribute that the route had: a daemon that treats a bad
+ * update as a withdrawal withdraws it itself.
  */
 mvpn_installed mvpn_install(uint8_t *table, size_t table_len, const uint8_t *nlri, size_t nlri_len,
                             const uint8_t *attribute, size_t attribute_len);
