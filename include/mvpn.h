@@ -77,11 +77,11 @@ enum {
 /* Tunnel types (RFC 6514, section 5; RFC 8556, section 2), with the octets of the identifier. */
 enum {
     MVPN_TUNNEL_NONE = 0,                /* none */
-    MVPN_TUNNEL_RSVP_TE_P2MP = 1,        /* P2MP ID 4, reserved 2, tunnel ID 2, extended tunnel ID 4 */
+    MVPN_TUNNEL_RSVP_TE_P2MP = 1,        /* extended tunnel ID 4, reserved 2, tunnel ID 2, P2MP ID 4 */
     MVPN_TUNNEL_MLDP_P2MP = 2,           /* a FEC element of type 6 */
-    MVPN_TUNNEL_PIM_SSM = 3,             /* sender and group, each 4 or each 16 */
-    MVPN_TUNNEL_PIM_SM = 4,              /* sender and group, each 4 or each 16 */
-    MVPN_TUNNEL_BIDIR_PIM = 5,           /* sender and group, each 4 or each 16 */
+    MVPN_TUNNEL_PIM_SSM = 3,             /* P-root node and P-multicast group, each 4 or each 16 */
+    MVPN_TUNNEL_PIM_SM = 4,              /* sender and P-multicast group, each 4 or each 16 */
+    MVPN_TUNNEL_BIDIR_PIM = 5,           /* sender and P-multicast group, each 4 or each 16 */
     MVPN_TUNNEL_INGRESS_REPLICATION = 6, /* the tunnel's end point, 4 or 16 */
     MVPN_TUNNEL_MLDP_MP2MP = 7,          /* a FEC element of type 7 or 8 */
     MVPN_TUNNEL_BIER = 11                /* sub-domain 1, BFR-id 2, BFR-prefix 4 or 16 */

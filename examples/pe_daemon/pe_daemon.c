@@ -35,15 +35,15 @@ typedef struct {
 
 static uint8_t *table_of(customer_vrf *vrf, uint16_t afi)
 {
-    return vrf->tables[afi - 1];
+    return vrf->tables[afi - MVPN_AFI_IPV4];
 }
 
 /* The AFIs and the size are right, so neither call is refused. */
 static void make_tables(customer_vrf *vrf)
 {
     memset(vrf, 0, sizeof *vrf);
-    mvpn_make(1, table_of(vrf, 1), TABLE_SIZE);
-    mvpn_make(2, table_of(vrf, 2), TABLE_SIZE);
+    mvpn_make(MVPN_AFI_IPV4, table_of(vrf, MVPN_AFI_IPV4), TABLE_SIZE);
+    mvpn_make(MVPN_AFI_IPV6, table_of(vrf, MVPN_AFI_IPV6), TABLE_SIZE);
 }
 
 static void withdraw(customer_vrf *vrf, uint16_t afi, octets nlri)
@@ -295,7 +295,7 @@ static void print_match(uint16_t afi, mvpn_matched match, const uint8_t *output)
 /* The group tells the family, and with it the table. */
 static void answer(customer_vrf *vrf, const customer_flow *flow)
 {
-    uint16_t afi = flow->group.size == 4 ? 1 : 2;
+    uint16_t afi = flow->group.size == 4 ? MVPN_AFI_IPV4 : MVPN_AFI_IPV6;
     uint8_t output[MVPN_MATCH_OUTPUT];
     mvpn_matched match = mvpn_match(table_of(vrf, afi), TABLE_SIZE, flow->router.octets, flow->router.size,
                                     flow->source.octets, flow->source.size, flow->group.octets, flow->group.size,
@@ -305,7 +305,7 @@ static void answer(customer_vrf *vrf, const customer_flow *flow)
         printf("  refused, ");
         print_number(match.number);
         printf("\n");
-    } else if (match.tier == 0)
+    } else if (match.tier == MVPN_NO_TIER)
         printf("  no route\n");
     else
         print_match(afi, match, output);

@@ -1,5 +1,7 @@
 #include "update.h"
 
+#include "mvpn.h"
+
 #include <string.h>
 
 enum { MARKER = 16, TYPE_OFFSET = 18 };
@@ -9,7 +11,7 @@ enum { EXTENDED_LENGTH = 0x10 };
 
 enum { MP_REACH_NLRI = 14, MP_UNREACH_NLRI = 15, PMSI_TUNNEL = 22 };
 
-enum { AFI_IPV4 = 1, AFI_IPV6 = 2, SAFI_MCAST_VPN = 5 };
+enum { SAFI_MCAST_VPN = 5 };
 
 /* ---- octets off the front of what remains; false, with nothing taken, where too few remain */
 
@@ -104,7 +106,7 @@ const char *message_type_name(uint8_t type)
 /* Keeps the NLRIs of a family that we use; counts the attribute as skipped otherwise. */
 static void keep_run(update *found, route_run *kept, size_t afi, size_t safi, octets run)
 {
-    if (safi == SAFI_MCAST_VPN && (afi == AFI_IPV4 || afi == AFI_IPV6)) {
+    if (safi == SAFI_MCAST_VPN && (afi == MVPN_AFI_IPV4 || afi == MVPN_AFI_IPV6)) {
         kept->afi = (uint16_t)afi;
         kept->run = run;
     } else

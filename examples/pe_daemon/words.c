@@ -93,10 +93,10 @@ const char *group_class_name(uint32_t group_class)
 const char *tier_name(uint32_t tier)
 {
     static const char *const names[] = {
-        [1] = "(C-S,C-G): source and group both equal",
-        [2] = "(C-S,C-*): source equal, any group, as the group is SSM",
-        [3] = "(C-*,C-G): any source, group equal, as the group is ASM",
-        [4] = "(C-*,C-*): any source, any group",
+        [MVPN_SOURCE_AND_GROUP] = "(C-S,C-G): source and group both equal",
+        [MVPN_SOURCE_ANY_GROUP] = "(C-S,C-*): source equal, any group, as the group is SSM",
+        [MVPN_ANY_SOURCE_GROUP] = "(C-*,C-G): any source, group equal, as the group is ASM",
+        [MVPN_ANY_SOURCE_ANY_GROUP] = "(C-*,C-*): any source, any group",
     };
     return listed(names, COUNT(names), tier, "unknown tier");
 }
@@ -199,7 +199,7 @@ static void print_pim(const char *first, const uint8_t *identifier, size_t size)
 /* The library has taken the FEC element apart; its spans stand in the whole attribute. */
 static void print_fec(const mvpn_fec *fec, const uint8_t *attribute)
 {
-    static const char *const names[] = { [6] = "P2MP", [7] = "MP2MP upstream", [8] = "MP2MP downstream" };
+    static const char *const names[] = { [MVPN_FEC_P2MP] = "P2MP", [MVPN_FEC_MP2MP_UP] = "MP2MP upstream", [MVPN_FEC_MP2MP_DOWN] = "MP2MP downstream" };
     printf("%s FEC, root ", listed(names, COUNT(names), fec->fec_type, "unknown"));
     print_address(attribute + fec->root.start, fec->root.size);
     printf(", opaque value ");
