@@ -1,7 +1,7 @@
 # Needs the Rattle toolchain (`rt`); `make test` and `make bench` also a C and C++ compiler and cargo.
-# Everything that is made lies in target/. `rt` itself knows what has changed, so no target is a file.
+# Everything that is made lies in target/, but for the README's plot. `rt` itself knows what has changed, so no target is a file.
 
-.PHONY: all archive listing list test bench sizes install uninstall clean
+.PHONY: all archive listing list test bench plot sizes install uninstall clean
 .NOTPARALLEL:
 
 # The archive for C, target/staticlib/libmvpn.a, and the listing program, target/bin/mvpn_list.
@@ -21,10 +21,15 @@ list: listing
 test:
 	.ci/run
 
-# The archive's calls beside the same work in plain Rust.
+# The archive's calls beside the same work in plain Rust; what is printed is kept in target/bench.txt.
 bench: archive
 	CARGO_TARGET_DIR='$(CURDIR)/target/cargo' MVPN_LIB_DIR='$(CURDIR)/target/staticlib' \
-	    cargo run --release --offline --manifest-path conformance/Cargo.toml --bin bench
+	    cargo run --release --offline --manifest-path conformance/Cargo.toml --bin bench >target/bench.txt; \
+	    status=$$?; cat target/bench.txt; exit $$status
+
+# The README's plot, from the last benchmark.
+plot:
+	tools/plot <target/bench.txt >docs/match.svg
 
 # A row for each crate: lines of code, contracts, definitions and proofs, functions, and the gate's seconds.
 sizes:
