@@ -338,10 +338,15 @@ zero-covered s m n h =
     whole : allZero (take n (take m s)) ≡ true → allZero (drop n s) ≡ true → allZero s ≡ true
     whole p q = ap allZero (sym (take-append-drop n s)) ∙ zero-append (take n s) (drop n s) ∙ both-true _ _ (ap allZero (sym (take-take n m s h)) ∙ p) q
 
--- octets put together in a front part and in the last part
-pub zero-parts : (s : List ℕ) (m n x y : ℕ) → m ≤ length s → length s - n ≤ m → n ≤ length s → eqb x 0 ≡ allZero (part s 0 m) → eqb y 0 ≡ allZero (part s (length s - n) n) → eqb (bitOr x y) 0 ≡ allZero s
-unfolding part
-zero-parts s m n x y h k l p q =
-    or-zero x y
-    ∙ ap₂ both p (q ∙ ap allZero (take-all n (drop (length s - n) s) (simp length-drop (omega arith))))
-    ∙ zero-covered s m (length s - n) k
+-- the last n octets: they are zero, so that those before them decide; or they are not
+module _ (s : List ℕ) (n : ℕ) (fits : n ≤ length s) where
+  last-part : part s (length s - n) n ≡ drop (length s - n) s
+  unfolding part
+  last-part = take-all n (drop (length s - n) s) (simp length-drop (omega arith))
+
+  pub zero-last : (m : ℕ) → length s - n ≤ m → allZero (part s (length s - n) n) ≡ true → allZero (part s 0 m) ≡ allZero s
+  unfolding part
+  zero-last m h t = sym (both-then-true (allZero (take m s))) ∙ ap (both (allZero (take m s))) (sym (sym (ap allZero last-part) ∙ t)) ∙ zero-covered s m (length s - n) h
+
+  pub other-last : allZero (part s (length s - n) n) ≡ false → false ≡ allZero s
+  other-last f = sym (is-false _ (λ t. opposite (zero-rest (length s - n) s t) (sym (ap allZero last-part) ∙ f)))

@@ -1,14 +1,14 @@
-// Equality and order of octets, and zeros: many octets at once, where there are many. What is left over at the end is looked
-// at together with octets before it, a second time.
+// Equality and order of octets, and zeros: many octets at once, where there are many. Those left over at the end are looked
+// at together with some before them, which are then looked at twice.
 ghost use mathlib.Core.Path.{_≡_};
-ghost use Prim.Native.Nat.{_≤_, min};
-ghost use lib.Dec.{eqb};
+ghost use Prim.Native.Nat.{min};
 ghost use lib.ListN.{length};
 ghost use Rattle.octets.specs.Order.{same, before, allZero};
 use crate::parts::between;
 use crate::wide::eight;
+use crate::wide::four;
 
-// The octets of a number that is compared at once, and those of which zeros are looked for at once.
+// The octets that are compared at once, as one number, and those that are tested for zeros at once.
 const WORD: usize = 8;
 
 const BLOCK: usize = 32;
@@ -21,7 +21,7 @@ pub fn is_same(a: &[u8], b: &[u8]) -> bool
         return false;
     }
     if a.len() < WORD {
-        return is_each_same(a, b);
+        return is_short_same(a, b);
     }
     let last = a.len() - WORD;
     let mut i = 0;
@@ -34,11 +34,14 @@ pub fn is_same(a: &[u8], b: &[u8]) -> bool
     eight(a, last) == eight(b, last)
 }
 
-// The same octets, one by one.
-fn is_each_same(a: &[u8], b: &[u8]) -> bool
+// Fewer octets than a word: four, as of an IPv4 address, at once; else one by one.
+fn is_short_same(a: &[u8], b: &[u8]) -> bool
     requires { ⌜ length (now a) ≡ length (now b) ⌝ }
     ensures { λ r. ⌜ r ≡ same (now (a .entry)) (now (b .entry)) ⌝ }
 {
+    if a.len() == 4 {
+        return four(a, 0) == four(b, 0);
+    }
     let mut i = 0;
     while i < a.len() {
         if a[i] != b[i] {
@@ -53,11 +56,11 @@ fn is_each_same(a: &[u8], b: &[u8]) -> bool
 pub fn comes_before(a: &[u8], b: &[u8]) -> bool
     ensures { λ r. ⌜ r ≡ before (now (a .entry)) (now (b .entry)) ⌝ }
 {
-    let shorter = shorter(a.len(), b.len());
-    if shorter < WORD {
+    let size = shorter(a.len(), b.len());
+    if size < WORD {
         return comes_each_before(a, b);
     }
-    let last = shorter - WORD;
+    let last = size - WORD;
     let mut i = 0;
     while i < last {
         let x = eight(a, i);
@@ -75,6 +78,7 @@ pub fn comes_before(a: &[u8], b: &[u8]) -> bool
     a.len() < b.len()
 }
 
+// The lower of two sizes.
 fn shorter(m: usize, n: usize) -> usize
     ensures { λ r. ⌜ r ≡ min m n ⌝ }
 {
@@ -101,20 +105,22 @@ fn comes_each_before(a: &[u8], b: &[u8]) -> bool
     a.len() < b.len()
 }
 
+// Every octet is zero: the last block, which may begin inside the others, and the whole blocks.
 pub fn is_zero(s: &[u8]) -> bool
     ensures { λ r. ⌜ r ≡ allZero (now (s .entry)) ⌝ }
 {
     if s.len() < BLOCK {
-        return any_of(s) == 0;
+        return is_each_zero(s);
     }
-    let blocks = any_of(between(s, 0, s.len() / BLOCK * BLOCK));
-    let last = any_of(between(s, s.len() - BLOCK, BLOCK));
-    blocks | last == 0
+    if is_each_zero(between(s, s.len() - BLOCK, BLOCK)) {
+        return is_each_zero(between(s, 0, s.len() / BLOCK * BLOCK));
+    }
+    false
 }
 
-// 0 exactly where each octet is. Every octet is looked at, with no early exit: so many octets are put together at once.
-fn any_of(s: &[u8]) -> u8
-    ensures { λ r. ⌜ eqb r 0 ≡ allZero (now (s .entry)) ⌝ }
+// Every octet is looked at, with no early exit: so many octets are tested at once.
+fn is_each_zero(s: &[u8]) -> bool
+    ensures { λ r. ⌜ r ≡ allZero (now (s .entry)) ⌝ }
 {
     let mut any = 0;
     let mut i = 0;
@@ -122,5 +128,5 @@ fn any_of(s: &[u8]) -> u8
         any |= s[i];
         i += 1;
     }
-    any
+    any == 0
 }

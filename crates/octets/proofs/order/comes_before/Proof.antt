@@ -9,10 +9,10 @@ use Rattle.octets.proofs.order.comes_before.Statement.{statement}
 use Rattle.octets.proofs.order.comes_before.Tie as tie
 
 abbrev Inv-loop : tie.InvT-loop
-Inv-loop a b shorter last i₀ i = take i a ≡ take i b
+Inv-loop a b size last i₀ i = take i a ≡ take i b
 
 abbrev μ-loop : tie.MeasureT-loop
-μ-loop a b shorter last i₀ i = last - i
+μ-loop a b size last i₀ i = last - i
 
 shorter-requires : tie.Need-shorter-requires Inv-loop μ-loop
 shorter-requires c κs = search needs

@@ -1,5 +1,5 @@
 -- `octets::order::is_same` meets its contract: as far as the loop has come, both begin alike.
-use Prim.Native.Nat.{ℕ, _+_, _-_}
+use Prim.Native.Nat.{ℕ, _-_}
 use mathlib.Core.Path.{_≡_, refl, sym}
 use lib.ListN.{length, take}
 use denote.Ref.{now}
@@ -17,8 +17,8 @@ abbrev μ-loop : tie.MeasureT-loop
 returns : tie.Need-returns Inv-loop μ-loop
 returns c = sym (lengths-differ _ _ (c .if1 .taken))
 
-is-each-same-requires : tie.Need-is-each-same-requires Inv-loop μ-loop
-is-each-same-requires c κs = search needs
+is-short-same-requires : tie.Need-is-short-same-requires Inv-loop μ-loop
+is-short-same-requires c κs = search needs
 
 returns-2 : tie.Need-returns-2 Inv-loop μ-loop
 returns-2 c = search needs
@@ -74,7 +74,7 @@ is-same-spec =
     Inv-loop
     μ-loop
     returns
-    is-each-same-requires
+    is-short-same-requires
     returns-2
     sub-last
     loop-holds

@@ -1,4 +1,4 @@
--- `octets::order::any_of` meets its contract.
+-- `octets::order::is_each_zero` meets its contract.
 use Prim.Native.Nat.{_≤_, _-_}
 use mathlib.Core.Path.{_≡_, refl}
 use lib.ListN.{length, drop}
@@ -7,8 +7,8 @@ use borrow.Author.Needs.{needs}
 use Rattle.octets.specs.Choice.{both}
 use Rattle.octets.specs.Order.{allZero}
 use Rattle.octets.proofs.Orders.{zero-next, zero-ends}
-use Rattle.octets.proofs.order.any_of.Statement.{statement}
-use Rattle.octets.proofs.order.any_of.Tie as tie
+use Rattle.octets.proofs.order.is_each_zero.Statement.{statement}
+use Rattle.octets.proofs.order.is_each_zero.Tie as tie
 
 abbrev Inv-loop : tie.InvT-loop
 Inv-loop s any₀ i₀ any i = (i ≤ length s) × (both (eqb any 0) (allZero (drop i s)) ≡ allZero s)
@@ -35,7 +35,7 @@ loop-again c = let l = c .before .before .loop in (search needs, zero-next _ (l 
 returns : tie.Need-returns Inv-loop μ-loop
 returns c = let l = c .before .loop in zero-ends _ (l .i) (l .any) (search needs) (l .inv .1)
 
-pub any-of-spec : {M : Type 1} → statement M
-any-of-spec =
+pub is-each-zero-spec : {M : Type 1} → statement M
+is-each-zero-spec =
     tie.close
     (tie.spec Inv-loop μ-loop loop-holds shared-slice-read-any add-i loop-less loop-again returns)
