@@ -42,7 +42,7 @@ pub octets-sized : (n : ℕ) {xs : List ℕ} → AllOctets xs → AllOctets (siz
 unfolding sized
 octets-sized n a = octets-take n (octets-append a (octets-zeros n))
 
-number-below : {xs : List ℕ} → AllOctets xs → (high m : ℕ) → high < m → numberIn xs high < m * 256 ^ length xs
+pub number-below : {xs : List ℕ} → AllOctets xs → (high m : ℕ) → high < m → numberIn xs high < m * 256 ^ length xs
 unfolding numberIn
 number-below none high m h = omega arith
 number-below (one {x} {xs} k a) high m h = rw (pow-suc 256 (length xs)) (omega (arith, number-below a (high * 256 + x) (m * 256) (omega arith)))

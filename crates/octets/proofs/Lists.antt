@@ -5,7 +5,7 @@ use mathlib.Core.List.{List, [], _∷_, _++_, append-assoc, append-nil}
 use native.Mathlib.Nat.{zero-add, add-zero, add-assoc}
 use native.Mathlib.Omega.{arith}
 use lib.ListN.{length, getD, take, drop, replicate, length-append, length-take, length-drop, length-replicate, replicate-append-replicate, take-append-drop, drop-of-length-le}
-use lib.Seq.{take-all, take-at, drop-at, drop-drop, length-take-le, take-append-le, take-length, take-append-add, take-take, take-append-seam}
+use lib.Seq.{take-all, take-at, drop-at, drop-drop, length-take-le, take-append-le, take-length, take-append-add, take-add, take-take, take-append-seam}
 use Rattle.octets.specs.Octets.{part, placed, front, sized}
 
 pub placed-length : (at : ℕ) (e d : List ℕ) → at + length e ≤ length d → length (placed at e d) ≡ length d
@@ -110,6 +110,16 @@ take-two (x ∷ (y ∷ s)) n h = let e : 2 + n ≡ suc (suc n) = omega arith in 
 pub part-length : (s : List ℕ) (start size : ℕ) → start + size ≤ length s → length (part s start size) ≡ size
 unfolding part
 part-length s start size h = length-take-le size (drop start s) (rw length-drop (omega arith))
+
+-- a part, and the part straight after it
+pub part-then : (s : List ℕ) (start m n : ℕ) → part s start (m + n) ≡ part s start m ++ part s (start + m) n
+unfolding part
+part-then s start m n = rw (take-add m n (drop start s), drop-drop m start s)
+
+-- what a part adds to the front before it
+pub take-then : (s : List ℕ) (at n : ℕ) → take (at + n) s ≡ take at s ++ part s at n
+unfolding part
+take-then s at n = take-add at n s
 
 -- no elements
 pub empty-list : {A : Type 0} (s : List A) → length s ≡ 0 → s ≡ []

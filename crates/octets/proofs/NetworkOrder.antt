@@ -1,13 +1,13 @@
 -- Numbers in network order: reading undoes writing, and writing undoes reading, at every width.
 use Prim.Native.Nat.{ℕ, zero, suc, _+_, _*_, _/_, _%_, _^_, _≤_, _<_}
-use mathlib.Core.Path.{_≡_, refl, sym}
+use mathlib.Core.Path.{_≡_, refl, sym, ap, _∙_}
 use mathlib.Core.List.{List, [], _∷_, _++_, append-assoc, append-nil}
 use native.Mathlib.Nat.{mod-lt, div-add-mod', div-lt-iff-lt-mul, pow-suc, mul-add-div-right, mul-add-mod-self-right, mod-eq-of-lt, div-eq-of-lt, add-zero, zero-add}
 use native.Mathlib.Omega.{arith}
 use lib.ListN.{length, take, drop, getD, length-append, length-drop}
 use lib.Seq.{take-suc, getD-drop, length-take-le}
 use Rattle.octets.proofs.AllOctets.{octets-take, octets-drop, number-fits, octets-append}
-use Rattle.octets.proofs.Lists.{placed-then}
+use Rattle.octets.proofs.Lists.{placed-then, part-length, part-then}
 use Rattle.octets.specs.Octets.{AllOctets, none, one, part, placed, numberIn, bigEndian}
 
 pub big-endian-length : (n x : ℕ) → length (bigEndian n x) ≡ n
@@ -51,6 +51,23 @@ pub number-part : (s : List ℕ) (at n : ℕ) → at + n < length s → numberIn
 unfolding part
 number-part s at n h = rw (take-suc (drop at s) n 0 (simp length-drop (omega arith)), getD-drop at s n 0) (number-snoc (take n (drop at s)) (getD s (at + n) 0) 0)
 
+-- what stands before the octets counts as many times as there are numbers in them
+pub number-high : (xs : List ℕ) (high : ℕ) → numberIn xs high ≡ high * 256 ^ length xs + numberIn xs 0
+unfolding numberIn
+number-high [] high = omega arith
+number-high (x ∷ xs) high = rw (number-high xs (high * 256 + x), number-high xs (0 * 256 + x), pow-suc 256 (length xs)) (omega arith)
+
+number-append : (xs ys : List ℕ) (high : ℕ) → numberIn (xs ++ ys) high ≡ numberIn ys (numberIn xs high)
+unfolding numberIn
+number-append [] ys high = refl
+number-append (x ∷ xs) ys high = number-append xs ys (high * 256 + x)
+
+-- the number in a part, and in the part straight after it
+pub number-then : (s : List ℕ) (at m n : ℕ) → at + m + n ≤ length s → numberIn (part s at m) 0 * 256 ^ n + numberIn (part s (at + m) n) 0 ≡ numberIn (part s at (m + n)) 0
+number-then s at m n h =
+    let l : length (part s (at + m) n) ≡ n = part-length s (at + m) n h in
+    sym (rw (part-then s at m n, number-append (part s at m) (part s (at + m) n) 0, number-high (part s (at + m) n) (numberIn (part s at m) 0), l))
+
 -- the number in two octets
 pub number-two : (s : List ℕ) (at : ℕ) → at + 2 ≤ length s → getD s at 0 * 256 + getD s (at + 1) 0 ≡ numberIn (part s at 2) 0
 unfolding part numberIn
@@ -71,6 +88,10 @@ unfolding part
 part-number {s} a at n h =
     let l : length (take n (drop at s)) ≡ n = length-take-le n (drop at s) (simp length-drop (omega arith)) in
     rw l at (big-endian-of-number (octets-take n (octets-drop at a)))
+
+-- parts of the same number are the same
+pub same-number : {a b : List ℕ} → AllOctets a → AllOctets b → (at n : ℕ) → at + n ≤ length a → at + n ≤ length b → numberIn (part a at n) 0 ≡ numberIn (part b at n) 0 → part a at n ≡ part b at n
+same-number p q at n h k e = sym (part-number p at n h) ∙ ap (bigEndian n) e ∙ part-number q at n k
 
 pub part-fits : {s : List ℕ} → AllOctets s → (at n : ℕ) → at + n ≤ length s → numberIn (part s at n) 0 < 256 ^ n
 unfolding part

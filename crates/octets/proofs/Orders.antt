@@ -1,22 +1,27 @@
 -- Laws of `same`, `before` and `allZero`.
-use Prim.Native.Nat.{ℕ, zero, suc, _+_, _<_, _≤_}
+use Prim.Native.Nat.{ℕ, zero, suc, _+_, _*_, _-_, _<_, _≤_, min}
 use mathlib.Core.Path.{_≡_, refl, sym, ap, ap₂, _∙_}
 use mathlib.Core.Bool.{Bool, true, false}
-use mathlib.Core.List.{List, [], _∷_}
+use mathlib.Core.List.{List, [], _∷_, _++_}
+use native.Mathlib.Nat.{le-of-lt}
 use native.Mathlib.Numerals.{add-one}
 use native.Mathlib.Omega.{arith}
 use lib.Bits.{bitOr, or-add-and, and-le-l, and-le-r}
-use lib.ListN.{length, getD, drop, drop-of-length-le}
-use lib.Seq.{drop-cons}
+use lib.ListN.{length, getD, take, drop, length-drop, take-append-drop, drop-of-length-le}
+use lib.Seq.{drop-cons, take-all, take-take}
 use lib.Dec.{ltb, eqb}
 use borrow.Author.Tests.{ltb-true, ltb-false, eqb-true, eqb-false, eq-eqb, ne-eqb, lt-ltb, le-ltb}
 use Rattle.octets.specs.Choice.{pick, both}
+use Rattle.octets.specs.Octets.{AllOctets, none, one, part, numberIn}
 use Rattle.octets.specs.Order.{same, before, zeros, allZero}
 use Rattle.octets.proofs.Inversions.{opposite, both-true-left, both-true-right}
 use Rattle.octets.proofs.Tests.{both-true}
 use Rattle.octets.proofs.Outcomes.{pick-true, pick-false}
 use Rattle.octets.proofs.Picked.{tested}
 use Rattle.octets.proofs.Refusals.{is-false}
+use Rattle.octets.proofs.AllOctets.{octets-of, octets-part, number-below}
+use Rattle.octets.proofs.Lists.{part-length, take-then}
+use Rattle.octets.proofs.NetworkOrder.{number-high, same-number}
 
 pub same-itself : (xs : List ℕ) → same xs xs ≡ true
 unfolding same
@@ -114,6 +119,11 @@ unfolding before
 before-none [] h = absurd (omega arith)
 before-none (x ∷ xs) h = refl
 
+none-after : (xs : List ℕ) → before xs [] ≡ false
+unfolding before
+none-after [] = refl
+none-after (x ∷ xs) = refl
+
 pub zeros-all : (n : ℕ) → allZero (zeros n) ≡ true
 unfolding zeros allZero both
 zeros-all zero = refl
@@ -179,6 +189,103 @@ module _ (a b : List ℕ) (i : ℕ) where
       let l : length b ≤ i = omega (arith, ltb-false) in
       rw (drop-of-length-le a h, drop-of-length-le b l, f)))
 
+-- lists that begin alike: what is left decides
+before-past : (n : ℕ) (a b : List ℕ) → take n a ≡ take n b → before a b ≡ before (drop n a) (drop n b)
+unfolding before
+before-past zero a b e = refl
+before-past (suc n) [] [] e = refl
+before-past (suc n) [] (y ∷ b) e = let z : _≡_ {A = ℕ} 0 1 = cc in absurd (omega arith)
+before-past (suc n) (x ∷ a) [] e = let z : _≡_ {A = ℕ} 0 1 = cc in absurd (omega arith)
+before-past (suc n) (x ∷ a) (y ∷ b) e =
+    let p : x ≡ y = cc in
+    let q : take n a ≡ take n b = cc in
+    pick-true _ _ _ (eq-eqb x y p) ∙ before-past n a b q
+
+-- lists of one length that differ decide, whatever follows them
+before-first : (xs ys p q : List ℕ) → length xs ≡ length ys → (xs ≡ ys → ⊥) → before (xs ++ p) (ys ++ q) ≡ before xs ys
+unfolding before
+before-first [] [] p q h n = absurd (n refl)
+before-first [] (y ∷ ys) p q h n = absurd (omega arith)
+before-first (x ∷ xs) [] p q h n = absurd (omega arith)
+before-first (x ∷ xs) (y ∷ ys) p q h n =
+    tested (eqb x y)
+    (λ t.
+    let e : x ≡ y = eqb-true x y t in
+    let k : length xs ≡ length ys = omega arith in
+    rw (pick-true _ (before (xs ++ p) (ys ++ q)) (ltb x y) t, pick-true _ (before xs ys) (ltb x y) t)
+    (before-first xs ys p q k (λ l. n (ap₂ (λ (a : ℕ) (l : List ℕ). a ∷ l) e l))))
+    (λ f. rw (pick-false _ (before (xs ++ p) (ys ++ q)) (ltb x y) f, pick-false _ (before xs ys) (ltb x y) f))
+
+-- octets come in the order of the numbers in them
+number-lower : {xs : List ℕ} → AllOctets xs → (ys : List ℕ) (h k : ℕ) → length xs ≡ length ys → h < k → numberIn xs h < numberIn ys k
+number-lower {xs} a ys h k l m = rw (number-high ys k, ← l) (omega (arith, number-below a h k m))
+
+number-before : {xs ys : List ℕ} → AllOctets xs → AllOctets ys → (high : ℕ) → length xs ≡ length ys → ltb (numberIn xs high) (numberIn ys high) ≡ before xs ys
+unfolding before numberIn
+number-before none none high l = le-ltb high high (omega arith)
+number-before none (one p a) high l = absurd (omega arith)
+number-before (one p a) none high l = absurd (omega arith)
+number-before (one {x} {xs} p a) (one {x = y} {xs = ys} q b) high l =
+    let k : length xs ≡ length ys = omega arith in
+    tested (eqb x y)
+    (λ t.
+    let e : x ≡ y = eqb-true x y t in
+    rw (pick-true _ (before xs ys) (ltb x y) t, ← e) (number-before a b (high * 256 + x) k))
+    (λ f.
+    rw (pick-false _ (before xs ys) (ltb x y) f)
+    (tested (ltb x y)
+    (λ t. lt-ltb _ _ (number-lower a ys (high * 256 + x) (high * 256 + y) k (omega (arith, ltb-true x y t))) ∙ sym t)
+    (λ g. le-ltb _ _ (le-of-lt (number-lower b xs (high * 256 + y) (high * 256 + x) (sym k) (below x y (eqb-false x y f) (ltb-false x y g) high))) ∙ sym g)))
+  where
+    below : (x y : ℕ) → (x ≡ y → ⊥) → y ≤ x → (high : ℕ) → high * 256 + y < high * 256 + x
+    below x y n l high = omega arith
+
+-- numbers that differ
+pub numbers-differ : (a b : List ℕ) (i n x y : ℕ) → x ≡ numberIn (part a i n) 0 → y ≡ numberIn (part b i n) 0 → (x ≡ y → ⊥) → false ≡ same a b
+numbers-differ a b i n x y p q d = sym (unequal-other a b (λ e. d (p ∙ ap (λ (s : List ℕ). numberIn (part s i n) 0) e ∙ sym q)))
+
+-- octets that begin alike, and the numbers in n of each after that
+module _ (a b : List ℕ) (each-a : (k : ℕ) → getD a k 0 < 256) (each-b : (k : ℕ) → getD b k 0 < 256) (i n x y : ℕ) (fits-a : i + n ≤ length a) (fits-b : i + n ≤ length b)
+    (front : take i a ≡ take i b) (in-a : x ≡ numberIn (part a i n) 0) (in-b : y ≡ numberIn (part b i n) 0) where
+  pub numbers-go-on : x ≡ y → take (i + n) a ≡ take (i + n) b
+  numbers-go-on e =
+      take-then a i n
+      ∙ ap₂ (λ (p q : List ℕ). p ++ q) front (same-number (octets-of a each-a) (octets-of b each-b) i n fits-a fits-b (sym in-a ∙ e ∙ in-b))
+      ∙ sym (take-then b i n)
+
+  pub numbers-decide : (x ≡ y → ⊥) → ltb x y ≡ before a b
+  unfolding part
+  numbers-decide d =
+      let l : length (part a i n) ≡ length (part b i n) = part-length a i n fits-a ∙ sym (part-length b i n fits-b) in
+      rw (in-a, in-b)
+      (number-before (octets-part i n (octets-of a each-a)) (octets-part i n (octets-of b each-b)) 0 l
+      ∙ sym (before-first (part a i n) (part b i n) (drop n (drop i a)) (drop n (drop i b)) l (λ e. d (in-a ∙ ap (λ (s : List ℕ). numberIn s 0) e ∙ sym in-b)))
+      ∙ ap₂ before (take-append-drop n (drop i a)) (take-append-drop n (drop i b))
+      ∙ sym (before-past i a b front))
+
+  pub numbers-end : length a ≡ i + n → length b ≡ i + n → eqb x y ≡ same a b
+  numbers-end h k =
+      tested (eqb x y)
+      (λ t. t ∙ sym (equal-same a b (sym (take-all (i + n) a (omega arith)) ∙ numbers-go-on (eqb-true x y t) ∙ take-all (i + n) b (omega arith))))
+      (λ f. f ∙ numbers-differ a b i n x y in-a in-b (eqb-false x y f))
+
+-- lists that begin alike begin alike before that too
+pub alike-before : (a b : List ℕ) (i j : ℕ) → i ≤ j → take j a ≡ take j b → take i a ≡ take i b
+alike-before a b i j h e = sym (take-take i j a h) ∙ ap (take i) e ∙ take-take i j b h
+
+-- lists that are alike as far as the shorter goes
+pub lengths-decide : (a b : List ℕ) (n : ℕ) → n ≡ min (length a) (length b) → take n a ≡ take n b → ltb (length a) (length b) ≡ before a b
+lengths-decide a b n h e =
+    sym
+    (before-past n a b e
+    ∙ tested (ltb (length a) (length b))
+    (λ t.
+    let l : length a < length b = ltb-true _ _ t in
+    rw (drop-of-length-le a {i = n} (omega arith), t) (before-none (drop n b) (simp length-drop (omega arith))))
+    (λ f.
+    let l : length b ≤ length a = ltb-false _ _ f in
+    rw (drop-of-length-le b {i = n} (omega arith), f) (none-after (drop n a))))
+
 both-assoc : (a b c : Bool) → both (both a b) c ≡ both a (both b c)
 unfolding both
 both-assoc true b c = refl
@@ -209,3 +316,37 @@ module _ (s : List ℕ) (i any : ℕ) where
   pub zero-ends : length s ≤ i → both (eqb any 0) (allZero (drop i s)) ≡ allZero s → eqb any 0 ≡ allZero s
   unfolding allZero
   zero-ends h p = sym (both-then-true (eqb any 0)) ∙ ap (both (eqb any 0)) (rw (drop-of-length-le s h)) ∙ p
+
+zero-append : (xs ys : List ℕ) → allZero (xs ++ ys) ≡ both (allZero xs) (allZero ys)
+unfolding allZero both
+zero-append [] ys = refl
+zero-append (x ∷ xs) ys = rw (zero-append xs ys) (sym (both-assoc (eqb x 0) (allZero xs) (allZero ys)))
+
+zero-front : (n : ℕ) (s : List ℕ) → allZero s ≡ true → allZero (take n s) ≡ true
+zero-front n s h = both-true-left _ _ (sym (zero-append (take n s) (drop n s)) ∙ ap allZero (take-append-drop n s) ∙ h)
+
+zero-rest : (n : ℕ) (s : List ℕ) → allZero s ≡ true → allZero (drop n s) ≡ true
+zero-rest n s h = both-true-right _ _ (sym (zero-append (take n s) (drop n s)) ∙ ap allZero (take-append-drop n s) ∙ h)
+
+-- a front and a rest that leave nothing out between them
+zero-covered : (s : List ℕ) (m n : ℕ) → n ≤ m → both (allZero (take m s)) (allZero (drop n s)) ≡ allZero s
+zero-covered s m n h =
+    tested (allZero s)
+    (λ t. both-true _ _ (zero-front m s t) (zero-rest n s t) ∙ sym t)
+    (λ f. is-false _ (λ t. opposite (whole (zero-front n (take m s) (both-true-left _ _ t)) (both-true-right _ _ t)) f) ∙ sym f)
+  where
+    whole : allZero (take n (take m s)) ≡ true → allZero (drop n s) ≡ true → allZero s ≡ true
+    whole p q = ap allZero (sym (take-append-drop n s)) ∙ zero-append (take n s) (drop n s) ∙ both-true _ _ (ap allZero (sym (take-take n m s h)) ∙ p) q
+
+-- the last n octets: they are zero, so that those before them decide; or they are not
+module _ (s : List ℕ) (n : ℕ) (fits : n ≤ length s) where
+  last-part : part s (length s - n) n ≡ drop (length s - n) s
+  unfolding part
+  last-part = take-all n (drop (length s - n) s) (simp length-drop (omega arith))
+
+  pub zero-last : (m : ℕ) → length s - n ≤ m → allZero (part s (length s - n) n) ≡ true → allZero (part s 0 m) ≡ allZero s
+  unfolding part
+  zero-last m h t = sym (both-then-true (allZero (take m s))) ∙ ap (both (allZero (take m s))) (sym (sym (ap allZero last-part) ∙ t)) ∙ zero-covered s m (length s - n) h
+
+  pub other-last : allZero (part s (length s - n) n) ≡ false → false ≡ allZero s
+  other-last f = sym (is-false _ (λ t. opposite (zero-rest (length s - n) s t) (sym (ap allZero last-part) ∙ f)))

@@ -1,6 +1,17 @@
-// Equality and order of octets, and zeros.
+// Equality and order of octets, and zeros: many octets at once, where there are many. Those left over at the end are looked
+// at together with some before them, which are then looked at twice.
 ghost use mathlib.Core.Path.{_≡_};
+ghost use Prim.Native.Nat.{min};
+ghost use lib.ListN.{length};
 ghost use Rattle.octets.specs.Order.{same, before, allZero};
+use crate::parts::between;
+use crate::wide::eight;
+use crate::wide::four;
+
+// The octets that are compared at once, as one number, and those that are tested for zeros at once.
+const WORD: usize = 8;
+
+const BLOCK: usize = 32;
 
 // The same size and octets.
 pub fn is_same(a: &[u8], b: &[u8]) -> bool
@@ -8,6 +19,28 @@ pub fn is_same(a: &[u8], b: &[u8]) -> bool
 {
     if a.len() != b.len() {
         return false;
+    }
+    if a.len() < WORD {
+        return is_short_same(a, b);
+    }
+    let last = a.len() - WORD;
+    let mut i = 0;
+    while i < last {
+        if eight(a, i) != eight(b, i) {
+            return false;
+        }
+        i += WORD;
+    }
+    eight(a, last) == eight(b, last)
+}
+
+// Fewer octets than a word: four, as of an IPv4 address, at once; else one by one.
+fn is_short_same(a: &[u8], b: &[u8]) -> bool
+    requires { ⌜ length (now a) ≡ length (now b) ⌝ }
+    ensures { λ r. ⌜ r ≡ same (now (a .entry)) (now (b .entry)) ⌝ }
+{
+    if a.len() == 4 {
+        return four(a, 0) == four(b, 0);
     }
     let mut i = 0;
     while i < a.len() {
@@ -23,6 +56,42 @@ pub fn is_same(a: &[u8], b: &[u8]) -> bool
 pub fn comes_before(a: &[u8], b: &[u8]) -> bool
     ensures { λ r. ⌜ r ≡ before (now (a .entry)) (now (b .entry)) ⌝ }
 {
+    let size = shorter(a.len(), b.len());
+    if size < WORD {
+        return comes_each_before(a, b);
+    }
+    let last = size - WORD;
+    let mut i = 0;
+    while i < last {
+        let x = eight(a, i);
+        let y = eight(b, i);
+        if x != y {
+            return x < y;
+        }
+        i += WORD;
+    }
+    let x = eight(a, last);
+    let y = eight(b, last);
+    if x != y {
+        return x < y;
+    }
+    a.len() < b.len()
+}
+
+// The lower of two sizes.
+fn shorter(m: usize, n: usize) -> usize
+    ensures { λ r. ⌜ r ≡ min m n ⌝ }
+{
+    if m < n {
+        return m;
+    }
+    n
+}
+
+// The order, octet by octet.
+fn comes_each_before(a: &[u8], b: &[u8]) -> bool
+    ensures { λ r. ⌜ r ≡ before (now (a .entry)) (now (b .entry)) ⌝ }
+{
     let mut i = 0;
     while i < a.len() {
         if b.len() <= i {
@@ -36,8 +105,21 @@ pub fn comes_before(a: &[u8], b: &[u8]) -> bool
     a.len() < b.len()
 }
 
-// Every octet is looked at, with no early exit: so many octets are tested at once.
+// Every octet is zero: the last block, which may begin inside the others, and the whole blocks.
 pub fn is_zero(s: &[u8]) -> bool
+    ensures { λ r. ⌜ r ≡ allZero (now (s .entry)) ⌝ }
+{
+    if s.len() < BLOCK {
+        return is_each_zero(s);
+    }
+    if is_each_zero(between(s, s.len() - BLOCK, BLOCK)) {
+        return is_each_zero(between(s, 0, s.len() / BLOCK * BLOCK));
+    }
+    false
+}
+
+// Every octet is looked at, with no early exit: so many octets are tested at once.
+fn is_each_zero(s: &[u8]) -> bool
     ensures { λ r. ⌜ r ≡ allZero (now (s .entry)) ⌝ }
 {
     let mut any = 0;

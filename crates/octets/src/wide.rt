@@ -30,6 +30,14 @@ pub fn four(s: &[u8], at: usize) -> u32
     three(s, at) * 256 + s[at + 3] as u32
 }
 
+// The number in eight octets from `at` on: one load.
+pub fn eight(s: &[u8], at: usize) -> u64
+    requires { ⌜ at + 8 ≤ length (now s) ⌝ }
+    ensures { λ r. ⌜ r ≡ numberIn (part (now (s .entry)) at 8) 0 ⌝ }
+{
+    four(s, at) as u64 * 4294967296 + four(s, at + 4) as u64
+}
+
 // Puts the last three octets of a number into `output` from `at` on, and answers the place just past them.
 pub fn place_three(x: u32, output: &mut [u8], at: usize) -> usize
     requires { ⌜ at + 3 ≤ length (now output) ⌝ }

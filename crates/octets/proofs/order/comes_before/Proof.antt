@@ -1,39 +1,43 @@
--- `octets::order::comes_before` meets its contract.
-use Prim.Native.Nat.{_≤_, _-_}
+-- `octets::order::comes_before` meets its contract: as far as the loop has come, both begin alike.
+use Prim.Native.Nat.{ℕ, _+_, _-_}
 use mathlib.Core.Path.{_≡_, refl}
-use lib.ListN.{length, drop}
+use lib.ListN.{length, take}
+use denote.Ref.{now}
 use borrow.Author.Needs.{needs}
-use Rattle.octets.specs.Order.{before}
-use Rattle.octets.proofs.Orders.{before-next, before-stops, before-longer, before-ends}
+use Rattle.octets.proofs.Orders.{numbers-go-on, numbers-decide, lengths-decide, alike-before}
 use Rattle.octets.proofs.order.comes_before.Statement.{statement}
 use Rattle.octets.proofs.order.comes_before.Tie as tie
 
 abbrev Inv-loop : tie.InvT-loop
-Inv-loop a b i₀ i = (i ≤ length a) × (i ≤ length b) × (before a b ≡ before (drop i a) (drop i b))
+Inv-loop a b size last i₀ i = take i a ≡ take i b
 
 abbrev μ-loop : tie.MeasureT-loop
-μ-loop a b i₀ i = length a - i
+μ-loop a b size last i₀ i = last - i
 
-loop-holds : tie.Need-loop-holds Inv-loop μ-loop
-loop-holds c = (search needs, search needs, refl)
+shorter-requires : tie.Need-shorter-requires Inv-loop μ-loop
+shorter-requires c κs = search needs
+
+comes-each-before-requires : tie.Need-comes-each-before-requires Inv-loop μ-loop
+comes-each-before-requires c κs = search needs
 
 returns : tie.Need-returns Inv-loop μ-loop
-returns c = let l = c .before .before .loop in before-longer _ _ (l .i) (search needs) (search needs) (l .inv .2)
+returns c = search needs
 
-shared-slice-read-if2 : tie.Need-shared-slice-read-if2 Inv-loop μ-loop
-shared-slice-read-if2 c = search needs
+loop-holds : tie.Need-loop-holds Inv-loop μ-loop
+loop-holds c = refl
 
-shared-slice-read-if2-2 : tie.Need-shared-slice-read-if2-2 Inv-loop μ-loop
-shared-slice-read-if2-2 c = search needs
+eight-requires : tie.Need-eight-requires Inv-loop μ-loop
+eight-requires c κs = search needs
 
-shared-slice-read-result : tie.Need-shared-slice-read-result Inv-loop μ-loop
-shared-slice-read-result c = search needs
-
-shared-slice-read-result-2 : tie.Need-shared-slice-read-result-2 Inv-loop μ-loop
-shared-slice-read-result-2 c = search needs
+eight-requires-2 : tie.Need-eight-requires-2 Inv-loop μ-loop
+eight-requires-2 c κs = search needs
 
 returns-2 : tie.Need-returns-2 Inv-loop μ-loop
-returns-2 c = let l = c .before .before .before .before .before .before .before .loop in before-stops _ _ (l .i) (search needs) (search needs) (l .inv .2) (c .before .before .if2 .taken)
+returns-2 c =
+    let o = c .before .before .before .before .before .before .before in
+    let s = o .before .before .args in
+    let l = c .before .before .before .before .loop in
+    numbers-decide (now (s .a)) (now (s .b)) (λ k. o .before .shared-slice-known .given k .fits) (λ k. o .shared-slice-known2 .given k .fits) (l .i) 8 _ _ (search needs) (search needs) (l .inv) (c .before .before .eight .ensures) (c .before .eight2 .ensures) (c .if2 .taken)
 
 add-i : tie.Need-add-i Inv-loop μ-loop
 add-i c = search needs
@@ -42,10 +46,34 @@ loop-less : tie.Need-loop-less Inv-loop μ-loop
 loop-less c = search needs
 
 loop-again : tie.Need-loop-again Inv-loop μ-loop
-loop-again c = let l = c .before .before .before .before .before .loop in (search needs, search needs, before-next _ _ (l .i) (search needs) (search needs) (l .inv .2) (c .if2 .left))
+loop-again c =
+    let o = c .before .before .before .before .before .before .before in
+    let s = o .before .before .args in
+    let l = c .before .before .before .before .loop in
+    numbers-go-on (now (s .a)) (now (s .b)) (λ k. o .before .shared-slice-known .given k .fits) (λ k. o .shared-slice-known2 .given k .fits) (l .i) 8 _ _ (search needs) (search needs) (l .inv) (c .before .before .eight .ensures) (c .before .eight2 .ensures) (c .if2 .left)
+
+eight-requires-3 : tie.Need-eight-requires-3 Inv-loop μ-loop
+eight-requires-3 c κs = search needs
+
+eight-requires-4 : tie.Need-eight-requires-4 Inv-loop μ-loop
+eight-requires-4 c κs = search needs
 
 returns-3 : tie.Need-returns-3 Inv-loop μ-loop
-returns-3 c = let l = c .before .loop in before-ends _ _ (l .i) (search needs) (search needs) (l .inv .2)
+returns-3 c =
+    let o = c .before .before .before .before .before .before .before in
+    let s = o .before .before .args in
+    let l = c .before .before .before .before .loop in
+    let last : ℕ = c .before .before .before .before .before .before .shorter .result - 8 in
+    numbers-decide (now (s .a)) (now (s .b)) (λ k. o .before .shared-slice-known .given k .fits) (λ k. o .shared-slice-known2 .given k .fits) last 8 _ _ (search needs) (search needs) (alike-before (now (s .a)) (now (s .b)) last (l .i) (search needs) (l .inv)) (c .before .before .eight3 .ensures) (c .before .eight4 .ensures) (c .if3 .taken)
+
+returns-4 : tie.Need-returns-4 Inv-loop μ-loop
+returns-4 c =
+    let o = c .before .before .before .before .before .before .before in
+    let s = o .before .before .args in
+    let l = c .before .before .before .before .loop in
+    let last : ℕ = c .before .before .before .before .before .before .shorter .result - 8 in
+    lengths-decide (now (s .a)) (now (s .b)) (last + 8) (search needs)
+    (numbers-go-on (now (s .a)) (now (s .b)) (λ k. o .before .shared-slice-known .given k .fits) (λ k. o .shared-slice-known2 .given k .fits) last 8 _ _ (search needs) (search needs) (alike-before (now (s .a)) (now (s .b)) last (l .i) (search needs) (l .inv)) (c .before .before .eight3 .ensures) (c .before .eight4 .ensures) (c .if3 .left))
 
 pub comes-before-spec : {M : Type 1} → statement M
 comes-before-spec =
@@ -53,14 +81,17 @@ comes-before-spec =
     (tie.spec
     Inv-loop
     μ-loop
-    loop-holds
+    shorter-requires
+    comes-each-before-requires
     returns
-    shared-slice-read-if2
-    shared-slice-read-if2-2
-    shared-slice-read-result
-    shared-slice-read-result-2
+    loop-holds
+    eight-requires
+    eight-requires-2
     returns-2
     add-i
     loop-less
     loop-again
-    returns-3)
+    eight-requires-3
+    eight-requires-4
+    returns-3
+    returns-4)

@@ -1,41 +1,63 @@
 -- `octets::order::is_zero` meets its contract.
-use Prim.Native.Nat.{_≤_, _-_}
-use mathlib.Core.Path.{_≡_, refl}
-use lib.ListN.{length, drop}
-use lib.Dec.{eqb}
-use borrow.Author.Needs.{needs}
-use Rattle.octets.specs.Choice.{both}
+use Prim.Native.Nat.{_*_, _/_}
+use mathlib.Core.Path.{sym, ap, _∙_}
+use lib.ListN.{length}
+use denote.Ref.{now}
 use Rattle.octets.specs.Order.{allZero}
-use Rattle.octets.proofs.Orders.{zero-next, zero-ends}
+use Rattle.octets.proofs.Orders.{zero-last, other-last}
+use borrow.Author.Needs.{needs}
 use Rattle.octets.proofs.order.is_zero.Statement.{statement}
 use Rattle.octets.proofs.order.is_zero.Tie as tie
 
-abbrev Inv-loop : tie.InvT-loop
-Inv-loop s any₀ i₀ any i = (i ≤ length s) × (both (eqb any 0) (allZero (drop i s)) ≡ allZero s)
+is-each-zero-requires : tie.Need-is-each-zero-requires
+is-each-zero-requires c κs = search needs
 
-abbrev μ-loop : tie.MeasureT-loop
-μ-loop s any₀ i₀ any i = length s - i
+returns : tie.Need-returns
+returns c = search needs
 
-loop-holds : tie.Need-loop-holds Inv-loop μ-loop
-unfolding both
-loop-holds c = (search needs, refl)
+sub-between : tie.Need-sub-between
+sub-between c = search needs
 
-shared-slice-read-any : tie.Need-shared-slice-read-any Inv-loop μ-loop
-shared-slice-read-any c = search needs
+between-requires : tie.Need-between-requires
+between-requires c κs = search needs
 
-add-i : tie.Need-add-i Inv-loop μ-loop
-add-i c = search needs
+is-each-zero-requires-2 : tie.Need-is-each-zero-requires-2
+is-each-zero-requires-2 c κs = search needs
 
-loop-less : tie.Need-loop-less Inv-loop μ-loop
-loop-less c = search needs
+mul-between : tie.Need-mul-between
+mul-between c = search needs
 
-loop-again : tie.Need-loop-again Inv-loop μ-loop
-loop-again c = let l = c .before .before .loop in (search needs, zero-next _ (l .i) (l .any) (search needs) (l .inv .1))
+between-requires-2 : tie.Need-between-requires-2
+between-requires-2 c κs = search needs
 
-returns : tie.Need-returns Inv-loop μ-loop
-returns c = let l = c .before .loop in zero-ends _ (l .i) (l .any) (search needs) (l .inv .1)
+is-each-zero-requires-3 : tie.Need-is-each-zero-requires-3
+is-each-zero-requires-3 c κs = search needs
+
+returns-2 : tie.Need-returns-2
+returns-2 c =
+    let s = now (c .before .before .before .before .before .before .before .args .s) in
+    let e = c .before .before .before in
+    c .is-each-zero3 .ensures
+    ∙ ap allZero (c .before .between2 .ensures)
+    ∙ zero-last s 32 (search needs) (length s / 32 * 32) (search needs) (sym (ap allZero (e .before .between .ensures)) ∙ sym (e .is-each-zero2 .ensures) ∙ c .before .before .if2 .taken)
+
+returns-3 : tie.Need-returns-3
+returns-3 c =
+    let s = now (c .before .before .before .before .before .args .s) in
+    let e = c .before in
+    other-last s 32 (search needs) (sym (ap allZero (e .before .between .ensures)) ∙ sym (e .is-each-zero2 .ensures) ∙ c .if2 .left)
 
 pub is-zero-spec : {M : Type 1} → statement M
 is-zero-spec =
     tie.close
-    (tie.spec Inv-loop μ-loop loop-holds shared-slice-read-any add-i loop-less loop-again returns)
+    (tie.spec
+    is-each-zero-requires
+    returns
+    sub-between
+    between-requires
+    is-each-zero-requires-2
+    mul-between
+    between-requires-2
+    is-each-zero-requires-3
+    returns-2
+    returns-3)
