@@ -1,5 +1,5 @@
 -- Laws of the soundness pass, and of judging what a place or a call's arguments hold.
-use Prim.Native.Nat.{ℕ, suc, _+_, _-_, _*_, _<_, _≤_}
+use Prim.Native.Nat.{ℕ, suc, _+_, _-_, _*_, _/_, _<_, _≤_}
 use mathlib.Core.Path.{_≡_, refl, sym, _∙_, ap, ap₂}
 use mathlib.Core.Logic.{⊎-elim}
 use mathlib.Core.Bool.{Bool, true, false}
@@ -13,7 +13,7 @@ use lib.Seq.{getD-take, getD-drop, take-take, drop-drop}
 use Rattle.octets.specs.Numbers.{DONE, LABEL, KIND}
 use Rattle.octets.specs.Choice.{pick, both, either}
 use Rattle.octets.specs.Outcome.{Outcome, given, refused, onOutcome, andThen, numberOf}
-use Rattle.octets.specs.Octets.{part}
+use Rattle.octets.specs.Octets.{part, numberIn}
 use Rattle.octets.specs.Order.{same, before, allZero}
 use Rattle.octets.proofs.Tests.{both-true, both-left, both-right, both-last}
 use Rattle.octets.proofs.Inversions.{never, passed, given-same, both-true-left, both-true-right}
@@ -26,13 +26,8 @@ use Rattle.nlri.specs.Layouts.{readingOf, layoutSingle}
 use Rattle.nlri.specs.Inner.{fieldsAt}
 use Rattle.nlri.proofs.Via.{nlri-given, reading-refused}
 use Rattle.nlri.proofs.Singles.{read-by-layout, read-refused}
-use Rattle.tunnel.specs.declared.Attribute.{Attribute}
-use Rattle.tunnel.specs.declared.Reading.{Reading as AttributeReading}
-use Rattle.tunnel.specs.declared.Reading.the-variants.{Attribute as read, Refused as no}
-use Rattle.tunnel.specs.Attribute.{readAttribute, labelOf}
-use Rattle.tunnel.specs.Attribute.{Fields as AttributeFields}
-use Rattle.tunnel.specs.Answers.{outcomeOf, readAnswer}
-use Rattle.tunnel.specs.Answers.{attributeOf as answerOf}
+use Rattle.tunnel.specs.Attribute.{readAttribute, fieldsIn, labelOf}
+use Rattle.tunnel.proofs.Laws.{read-done}
 use Rattle.routes.specs.Route.{route, nlriOf, attributeOf}
 use Rattle.routes.specs.Arguments.{readSPmsi, readLabelled, readRoute}
 use Rattle.routes.specs.Place.{endIn, routeIn, acceptable, placeSound}
@@ -83,50 +78,33 @@ module _ (afi : ℕ) (s : List ℕ) (r : Reading) (e : readingOf r ≡ layoutSin
   s-pmsi-other l q t =
       number-goes _ _ (fieldsAt l s) KIND (read-by-layout afi s l (nlri-given r _ l e q) .0) (number-skips _ _ _ KIND (ne-eqb (l .«route_type») 3 t) refl)
 
--- the fields of an attribute that reading answers
-record AnswerOf (s : List ℕ) (a : Attribute) : Type 0 where
-  fields : AttributeFields
-  is : readAttribute s ≡ given fields
-  type : fields .tunnelType ≡ a .«tunnel_type»
-  label : labelOf fields ≡ a .label
-
--- the number of an attribute, by what reading it answers
-module _ (s : List ℕ) (r : AttributeReading) (e : outcomeOf r ≡ readAnswer s) where
-  answered : (a : Attribute) → r ≡ read a → AnswerOf s a
-  unfolding outcomeOf readAnswer answerOf
-  answered a q =
-      let p = passed _ _ a (sym e ∙ ap outcomeOf q) in
-      let same : answerOf (p .value) ≡ a = given-same (p .second) in
-      record { fields = p .value; is = p .first; type = ap (λ (x : Attribute). x .«tunnel_type») same; label = ap (λ (x : Attribute). x .label) same }
-
-  pub attribute-refused : (n : ℕ) → r ≡ no n → n ≡ numberOf (readLabelled s)
-  unfolding outcomeOf readAnswer readLabelled
-  attribute-refused n q =
-      ⊎-elim (λ first. number-stops _ _ n first) (λ next. absurd (never refl (next .second))) (stopped _ _ n (sym e ∙ ap outcomeOf q))
-
-  pub attribute-unlabelled : (a : Attribute) → r ≡ read a → a .«tunnel_type» ≡ 11 → a .label ≡ 0 → LABEL ≡ numberOf (readLabelled s)
-  unfolding readLabelled numberOf
-  attribute-unlabelled a q t l =
-      let p = answered a q in
-      number-goes _ _ (p .fields) LABEL (p .is) (number-picks _ _ _ LABEL (both-true _ _ (eq-eqb _ 11 (p .type ∙ t)) (eq-eqb _ 0 (p .label ∙ l))) refl)
-
-  pub attribute-labelled : (a : Attribute) → r ≡ read a → a .«tunnel_type» ≡ 11 → (a .label ≡ 0 → ⊥) → 0 ≡ numberOf (readLabelled s)
-  unfolding readLabelled numberOf
-  attribute-labelled a q t l =
-      let p = answered a q in
-      number-goes _ _ (p .fields) 0 (p .is) (number-skips _ _ _ 0 (both-right _ _ (eq-eqb _ 11 (p .type ∙ t)) (ne-eqb _ 0 (λ z. l (sym (p .label) ∙ z)))) refl)
-
-  pub attribute-other : (a : Attribute) → r ≡ read a → (a .«tunnel_type» ≡ 11 → ⊥) → 0 ≡ numberOf (readLabelled s)
-  unfolding readLabelled numberOf
-  attribute-other a q t =
-      let p = answered a q in
-      number-goes _ _ (p .fields) 0 (p .is) (number-skips _ _ _ 0 (both-left _ _ (ne-eqb _ 11 (λ z. t (sym (p .type) ∙ z)))) refl)
-
 -- a number other than DONE is a refusal's
 pub refused-of : {A : Type 0} (o : Outcome A) (n : ℕ) → n ≡ numberOf o → (n ≡ DONE → ⊥) → o ≡ refused n
 unfolding numberOf
 refused-of (given a) n e h = absurd (h e)
 refused-of (refused m) n e h = ap refused (sym e)
+
+-- the number of an attribute, by that of reading it
+module _ (s : List ℕ) (n : ℕ) (e : n ≡ numberOf (readAttribute s)) where
+  pub attribute-refused : (n ≡ DONE → ⊥) → n ≡ numberOf (readLabelled s)
+  unfolding readLabelled
+  attribute-refused d = number-stops _ _ n (refused-of _ n e d)
+
+  module _ (z : n ≡ DONE) where
+    pub attribute-other : (getD s 1 0 ≡ 11 → ⊥) → DONE ≡ numberOf (readLabelled s)
+    unfolding readLabelled numberOf fieldsIn
+    attribute-other t = number-goes _ _ (fieldsIn s) DONE (read-done s n e z) (number-skips _ _ _ DONE (both-left _ _ (ne-eqb _ 11 t)) refl)
+
+    module _ (t : getD s 1 0 ≡ 11) (field : ℕ) (at : field ≡ numberIn (part s 2 3) 0) where
+      pub attribute-unlabelled : field / 16 ≡ 0 → LABEL ≡ numberOf (readLabelled s)
+      unfolding readLabelled numberOf fieldsIn labelOf
+      attribute-unlabelled l =
+          number-goes _ _ (fieldsIn s) LABEL (read-done s n e z) (number-picks _ _ _ LABEL (both-true _ _ (eq-eqb _ 11 t) (rw (← at) (eq-eqb _ 0 l))) refl)
+
+      pub attribute-labelled : (field / 16 ≡ 0 → ⊥) → DONE ≡ numberOf (readLabelled s)
+      unfolding readLabelled numberOf fieldsIn labelOf
+      attribute-labelled l =
+          number-goes _ _ (fieldsIn s) DONE (read-done s n e z) (number-skips _ _ _ DONE (both-right _ _ (eq-eqb _ 11 t) (rw (← at) (ne-eqb _ 0 l))) refl)
 
 -- where the number is DONE, what reading gives
 pub s-pmsi-fault-none : (afi : ℕ) (nlri : List ℕ) → numberOf (readSPmsi afi nlri) ≡ DONE → (f : Fields) × (readSPmsi afi nlri ≡ given f)

@@ -12,13 +12,12 @@ ghost use Rattle.routes.specs.Calls.{foundAnswer, foundOutput};
 ghost use Rattle.table.specs.Scanning.{RouteFits, bestIn, Answerable};
 use crate::find;
 use crate::find::PLACE;
+use crate::judge::LABEL_FIELD;
 use crate::scan::Best;
 use octets::number::DONE;
 use routes::Matched;
 
-// Where the label field and the identifier stand in an attribute.
-const LABEL_FIELD: usize = 2;
-
+// Where the identifier stands in an attribute.
 const IDENTIFIER: usize = 5;
 
 // The attribute in a place.

@@ -8,6 +8,9 @@ use octets::number::KIND;
 use octets::number::LABEL;
 use tunnel::TunnelType;
 
+// Where the label field stands in an attribute.
+pub(crate) const LABEL_FIELD: usize = 2;
+
 // A well-formed S-PMSI NLRI: NLRI reading with no octets after it, then KIND.
 pub(crate) fn s_pmsi_fault(afi: u16, nlri: &[u8]) -> u32
     ensures { λ r. ⌜ r ≡ numberOf (readSPmsi afi (now (nlri .entry))) ⌝ }
@@ -27,17 +30,16 @@ pub(crate) fn s_pmsi_fault(afi: u16, nlri: &[u8]) -> u32
 pub(crate) fn attribute_fault(attribute: &[u8]) -> u32
     ensures { λ r. ⌜ r ≡ numberOf (readLabelled (now (attribute .entry))) ⌝ }
 {
-    match tunnel::read(attribute) {
-        tunnel::Reading::Refused(number) => number,
-        tunnel::Reading::Attribute(fields) => {
-            if fields.tunnel_type == TunnelType::BIER as u32 {
-                if fields.label == 0 {
-                    return LABEL;
-                }
-            }
-            DONE
+    let fault = tunnel::fault(attribute);
+    if fault != DONE {
+        return fault;
+    }
+    if attribute[1] == TunnelType::BIER {
+        if octets::wide::three(attribute, LABEL_FIELD) / 16 == 0 {
+            return LABEL;
         }
     }
+    DONE
 }
 
 // A route that install takes, room apart.

@@ -1,6 +1,6 @@
 -- Laws of the definitions that the functions' proofs cite.
 use Prim.Native.Nat.{ℕ, _+_, _-_, _/_, _%_, _≤_, _<_}
-use mathlib.Core.Path.{_≡_, refl, sym, ap₂, _∙_}
+use mathlib.Core.Path.{_≡_, refl, sym, ap, ap₂, _∙_}
 use mathlib.Core.Bool.{Bool, true, false}
 use mathlib.Core.List.{List, [], _∷_}
 use native.Mathlib.Omega.{arith}
@@ -24,7 +24,8 @@ use Rattle.tunnel.specs.Identifier.{IdentifierForm, sizes, fecTypes, Tab
 use Rattle.tunnel.specs.Attribute.{Fields, labelOf, leafInformationRequired, fieldsIn, encodeAttribute, readAttribute, writeAttribute}
 use Rattle.tunnel.specs.Answers.{fecSpans, noFec, fecOfForm, fecOf, attributeOf, readAnswer}
 use Rattle.octets.specs.Outputs.{writtenOf, outputOf}
-use Rattle.tunnel.specs.Inner.{unknown, mldp, typeSuits, formFault, faultIn, faultOf, TakesSizes}
+use Rattle.tunnel.specs.Inner.{unknown, mldp, typeSuits, formFault, faultIn, faultOf, TakesSizes, readFault, writeFault}
+use Rattle.tunnel.proofs.ByNumber.{byNumber, when-done, when-not-done, number-is, number-picked, number-then, number-kept}
 
 -- a test that a call made, in the definition's words
 pub told : (r t v : Bool) → r ≡ t → r ≡ v → t ≡ v
@@ -79,32 +80,25 @@ opaque-length i h = let t = fec-tested i h in simp length-drop (omega (arith, le
 judgedBy : IdentifierForm → List ℕ → Outcome (List ℕ)
 judgedBy form i = pick (fits form i) (given i) (refused IDENT)
 
-asOutcome : ℕ → List ℕ → Outcome (List ℕ)
-asOutcome n i = pick (eqb n 0) (given i) (refused n)
-
-fits-step : (b : Bool) (i : List ℕ) → pick b (given i) (refused IDENT) ≡ asOutcome (pick b DONE IDENT) i
-unfolding asOutcome pick
+fits-step : (b : Bool) (i : List ℕ) → pick b (given i) (refused IDENT) ≡ byNumber (pick b DONE IDENT) i
+unfolding byNumber pick
 fits-step true i = refl
 fits-step false i = refl
 
-row-step : (b : Bool) (form : IdentifierForm) (rest : Outcome IdentifierForm) (n : ℕ) (i : List ℕ) → andThen rest (λ f. judgedBy f i) ≡ asOutcome n i
-    → andThen (pick b (given form) rest) (λ f. judgedBy f i) ≡ asOutcome (pick b (formFault form i) n) i
+row-step : (b : Bool) (form : IdentifierForm) (rest : Outcome IdentifierForm) (n : ℕ) (i : List ℕ) → andThen rest (λ f. judgedBy f i) ≡ byNumber n i
+    → andThen (pick b (given form) rest) (λ f. judgedBy f i) ≡ byNumber (pick b (formFault form i) n) i
 unfolding judgedBy formFault andThen pick
 row-step true form rest n i h = fits-step (fits form i) i
 row-step false form rest n i h = h
 
-rows-judged : (rows : List TableRow) (t : ℕ) (i : List ℕ) → andThen (formIn rows t) (λ f. judgedBy f i) ≡ asOutcome (faultIn rows t i) i
-unfolding formIn faultIn andThen asOutcome pick
+rows-judged : (rows : List TableRow) (t : ℕ) (i : List ℕ) → andThen (formIn rows t) (λ f. judgedBy f i) ≡ byNumber (faultIn rows t i) i
+unfolding formIn faultIn andThen byNumber pick
 rows-judged [] t i = refl
 rows-judged (r ∷ rs) t i = row-step (eqb t (r .tunnelType)) (r .form) (formIn rs t) (faultIn rs t i) i (rows-judged rs t i)
 
-pub judged-faulty : (t : ℕ) (i : List ℕ) (n : ℕ) → n ≡ faultOf t i → (n ≡ 0 → ⊥) → judged t i ≡ refused n
-unfolding judged judgedBy formOf faultOf asOutcome
-judged-faulty t i n e d = rows-judged table t i ∙ rw (← e) (pick-false (eqb n 0) (given i) (refused n) (ne-eqb n 0 d))
-
-pub judged-fine : (t : ℕ) (i : List ℕ) → faultOf t i ≡ 0 → judged t i ≡ given i
-unfolding judged judgedBy formOf faultOf asOutcome
-judged-fine t i e = rows-judged table t i ∙ pick-true (eqb (faultOf t i) 0) (given i) (refused (faultOf t i)) (eq-eqb (faultOf t i) 0 e)
+judged-by-number : (t : ℕ) (i : List ℕ) → judged t i ≡ byNumber (faultOf t i) i
+unfolding judged judgedBy formOf faultOf
+judged-by-number t i = rows-judged table t i
 
 -- the rows of the mLDP tunnel types
 p2mp-row : (t : ℕ) → t ≡ 2 → formOf t ≡ given (fecTypes (6 ∷ []))
@@ -119,7 +113,7 @@ mp2mp-row t e = rw e
 pub fec-without-fault : (t : ℕ) (i ns : List ℕ) → formOf t ≡ given (fecTypes ns) → faultOf t i ≡ 0 → wholeFec i ≡ true
 unfolding judged andThen fits
 fec-without-fault t i ns e h =
-    let j : pick (fits (fecTypes ns) i) (given i) (refused IDENT) ≡ given i = rw e at (judged-fine t i h) in
+    let j : pick (fits (fecTypes ns) i) (given i) (refused IDENT) ≡ given i = rw e at (judged-by-number t i ∙ when-done (faultOf t i) i h) in
     both-held (wholeFec i) (oneOf (getD i 0 0) ns) (was-given (fits (fecTypes ns) i) i i IDENT j .0) .0
 
 -- a tunnel type that the table lacks
@@ -298,9 +292,6 @@ pub fields-are : (s : List ℕ) (label : ℕ) (fec : Fec) → 5 ≤ length s →
 unfolding attributeOf fieldsIn labelOf leafInformationRequired
 fields-are s label shape h p q = rw (p, q, length-drop 5 s)
 
-pub fault-none : (t n : ℕ) (rest i : List ℕ) → rest ≡ i → n ≡ faultOf t rest → n ≡ 0 → faultOf t i ≡ 0
-fault-none t n rest i k e z = sym (rw (k, z) at e)
-
 -- reading, by the tests that the code makes
 pub read-long : (s : List ℕ) → 64 < length s → readAttribute s ≡ refused LONG
 unfolding readAttribute pick
@@ -315,22 +306,64 @@ pub read-judged : (s : List ℕ) → length s ≤ 64 → 5 ≤ length s → read
 unfolding readAttribute pick
 read-judged s a b = rw (le-ltb 64 (length s) a, le-ltb (length s) 5 b)
 
-pub read-faulty : (s rest : List ℕ) (n : ℕ) → length s ≤ 64 → 5 ≤ length s → rest ≡ drop 5 s → n ≡ faultOf (getD s 1 0) rest → (n ≡ 0 → ⊥) → readAttribute s ≡ refused n
-unfolding andThen
-read-faulty s rest n a b k e d = read-judged s a b ∙ rw (judged-faulty (getD s 1 0) (drop 5 s) n (rw k at e) d)
+-- what a call that judged an identifier tells
+pub identifier-fault : (t n : ℕ) (rest i : List ℕ) → rest ≡ i → n ≡ faultOf t rest → n ≡ faultOf t i
+identifier-fault t n rest i k e = rw k at e
 
-pub read-fine : (s rest : List ℕ) (n : ℕ) → length s ≤ 64 → 5 ≤ length s → rest ≡ drop 5 s → n ≡ faultOf (getD s 1 0) rest → n ≡ 0 → readAttribute s ≡ given (fieldsIn s)
-unfolding andThen
-read-fine s rest n a b k e z = read-judged s a b ∙ rw (judged-fine (getD s 1 0) (drop 5 s) (sym (rw (k, z) at e)))
+pub fault-done : (n m : ℕ) → n ≡ m → n ≡ DONE → eqb m DONE ≡ true
+fault-done n m e z = eq-eqb m DONE (sym e ∙ z)
 
--- what the answer then is
-pub answer-refused : (s : List ℕ) (n : ℕ) → readAttribute s ≡ refused n → refused n ≡ readAnswer s
-unfolding readAnswer andThen
-answer-refused s n e = rw e
+pub fault-not-done : (n m : ℕ) → n ≡ m → (n ≡ DONE → ⊥) → eqb m DONE ≡ false
+fault-not-done n m e d = ne-eqb m DONE (λ z. d (e ∙ z))
 
-pub answer-given : (s : List ℕ) (f : Fields) (a : Attribute) → readAttribute s ≡ given f → a ≡ attributeOf f → given a ≡ readAnswer s
-unfolding readAnswer andThen
-answer-given s f a e q = rw (e, q)
+-- a test that refuses failed where the number is DONE
+pick-done : (b : Bool) (m n : ℕ) → (m ≡ DONE → ⊥) → pick b m n ≡ DONE → (b ≡ false) × (n ≡ DONE)
+unfolding pick
+pick-done true m n d e = absurd (d e)
+pick-done false m n d e = (refl, e)
+
+pick-both : (n m : ℕ) → pick (eqb n DONE) m n ≡ DONE → m ≡ DONE
+unfolding pick
+pick-both n m e =
+    tested (eqb n DONE)
+    (λ p. rw p at e)
+    (λ p. absurd (eqb-false n DONE p (rw p at e)))
+
+-- the number of reading
+read-by-number : (s : List ℕ) → readAttribute s ≡ byNumber (readFault s) (fieldsIn s)
+unfolding readAttribute readFault
+read-by-number s =
+    let t = getD s 1 0 in
+    let i = drop 5 s in
+    let judged-here = judged-by-number t i in
+    rw (judged-here, number-kept (faultOf t i) i (fieldsIn s), number-picked (ltb (length s) 5) SHORT (faultOf t i) (fieldsIn s) (λ e. omega arith))
+    (number-picked (ltb 64 (length s)) LONG (pick (ltb (length s) 5) SHORT (faultOf t i)) (fieldsIn s) (λ e. omega arith))
+
+pub read-number : (s : List ℕ) (n : ℕ) → n ≡ readFault s → n ≡ numberOf (readAttribute s)
+read-number s n e = e ∙ sym (ap numberOf (read-by-number s) ∙ number-is (readFault s) (fieldsIn s))
+
+module _ (s : List ℕ) (n : ℕ) (e : n ≡ numberOf (readAttribute s)) where
+  fault-is : readFault s ≡ n
+  fault-is = sym (number-is (readFault s) (fieldsIn s)) ∙ sym (ap numberOf (read-by-number s)) ∙ sym e
+
+  pub read-tests : n ≡ DONE → (5 ≤ length s) × (faultOf (getD s 1 0) (drop 5 s) ≡ DONE)
+  unfolding readFault
+  read-tests z =
+      let p = pick-done (ltb 64 (length s)) LONG _ (λ e. omega arith) (fault-is ∙ z) in
+      let q = pick-done (ltb (length s) 5) SHORT _ (λ e. omega arith) (p .1) in
+      (ltb-false (length s) 5 (q .0), q .1)
+
+  pub read-done : n ≡ DONE → readAttribute s ≡ given (fieldsIn s)
+  read-done z = read-by-number s ∙ when-done (readFault s) (fieldsIn s) (fault-is ∙ z)
+
+  -- what reading then answers
+  pub answer-refused : (n ≡ DONE → ⊥) → refused n ≡ readAnswer s
+  unfolding readAnswer andThen
+  answer-refused d = rw (read-by-number s, fault-is, when-not-done n (fieldsIn s) d)
+
+  pub answer-given : n ≡ DONE → (a : Attribute) → a ≡ attributeOf (fieldsIn s) → given a ≡ readAnswer s
+  unfolding readAnswer andThen
+  answer-given z a q = rw (read-done z, q)
 
 -- writing, by the tests that the code makes
 pub attribute-length : (f : Fields) → length (encodeAttribute f) ≡ 5 + length (f .identifier)
@@ -353,30 +386,47 @@ module _ (f : Fields) (capacity : ℕ) where
   unfolding writeAttribute fieldsWritten pick
   write-judged h = rw (le-ltb 59 (length (f .identifier)) h)
 
-  pub write-faulty : length (f .identifier) ≤ 59 → (n : ℕ) → n ≡ faultOf (f .tunnelType) (f .identifier) → (n ≡ 0 → ⊥) → writeAttribute f capacity ≡ refused n
-  unfolding andThen
-  write-faulty h n e d = write-judged h ∙ rw (judged-faulty (f .tunnelType) (f .identifier) n e d)
+  afterwards : ℕ
+  afterwards = pick (ltb 16777215 (f .labelField)) LABEL (pick (ltb capacity (5 + length (f .identifier))) SPACE DONE)
 
-  module _ (h : length (f .identifier) ≤ 59) (n : ℕ) (e : n ≡ faultOf (f .tunnelType) (f .identifier)) (z : n ≡ 0) where
-    judged-here : writeAttribute f capacity ≡ fieldsWritten f capacity
-    unfolding andThen
-    judged-here = write-judged h ∙ rw (judged-fine (f .tunnelType) (f .identifier) (sym e ∙ z))
+  written-by-number : fieldsWritten f capacity ≡ byNumber afterwards (encodeAttribute f)
+  unfolding fieldsWritten afterwards
+  written-by-number =
+      let e = encodeAttribute f in
+      let last : given e ≡ byNumber DONE e = sym (when-done DONE e refl) in
+      rw (attribute-length f, last, number-picked (ltb capacity (5 + length (f .identifier))) SPACE DONE e (λ z. omega arith))
+      (number-picked (ltb 16777215 (f .labelField)) LABEL (pick (ltb capacity (5 + length (f .identifier))) SPACE DONE) e (λ z. omega arith))
 
-    pub write-label : 16777215 < f .labelField → writeAttribute f capacity ≡ refused LABEL
-    unfolding fieldsWritten pick
-    write-label l = judged-here ∙ rw (lt-ltb 16777215 (f .labelField) l)
+  -- the number of writing
+  write-by-number : writeAttribute f capacity ≡ byNumber (writeFault (f .tunnelType) (f .labelField) (f .identifier) capacity) (encodeAttribute f)
+  unfolding writeAttribute writeFault fieldsWritten afterwards
+  write-by-number =
+      let t = f .tunnelType in
+      let i = f .identifier in
+      let e = encodeAttribute f in
+      rw (judged-by-number t i, written-by-number, number-then (faultOf t i) afterwards i e)
+      (number-picked (ltb 59 (length i)) LONG (pick (eqb (faultOf t i) DONE) afterwards (faultOf t i)) e (λ z. omega arith))
 
-    pub write-space : f .labelField ≤ 16777215 → capacity < 5 + length (f .identifier) → writeAttribute f capacity ≡ refused SPACE
-    unfolding fieldsWritten pick
-    write-space l k = judged-here ∙ rw (le-ltb 16777215 (f .labelField) l, lt-ltb capacity (length (encodeAttribute f)) (rw (attribute-length f) k))
+  module _ (n : ℕ) (e : n ≡ writeFault (f .tunnelType) (f .labelField) (f .identifier) capacity) where
+    pub write-refused : (n ≡ DONE → ⊥) → writeAttribute f capacity ≡ refused n
+    write-refused d = write-by-number ∙ rw (← e) (when-not-done n (encodeAttribute f) d)
 
-    pub write-fine : f .labelField ≤ 16777215 → 5 + length (f .identifier) ≤ capacity → writeAttribute f capacity ≡ given (encodeAttribute f)
-    unfolding fieldsWritten pick
-    write-fine l k = judged-here ∙ rw (le-ltb 16777215 (f .labelField) l, le-ltb capacity (length (encodeAttribute f)) (rw (attribute-length f) k))
+    pub write-done : n ≡ DONE → writeAttribute f capacity ≡ given (encodeAttribute f)
+    write-done z = write-by-number ∙ when-done _ (encodeAttribute f) (sym e ∙ z)
 
-pub refusal-wrote : (o : Outcome (List ℕ)) (n : ℕ) (w : Written) (d : List ℕ) → o ≡ refused n → (w .number ≡ n) × (w .size ≡ 0) → (w ≡ writtenOf o) × (d ≡ outputOf o d)
+    pub write-room : n ≡ DONE → 5 + length (f .identifier) ≤ capacity
+    unfolding writeFault
+    write-room z =
+        let t = f .tunnelType in
+        let i = f .identifier in
+        let p = pick-done (ltb 59 (length i)) LONG _ (λ q. omega arith) (sym e ∙ z) in
+        let q = pick-both (faultOf t i) _ (p .1) in
+        let r = pick-done (ltb 16777215 (f .labelField)) LABEL _ (λ s. omega arith) q in
+        ltb-false capacity (5 + length i) (pick-done (ltb capacity (5 + length i)) SPACE DONE (λ s. omega arith) (r .1) .0)
+
+pub refusal-wrote : (o : Outcome (List ℕ)) (n : ℕ) (d : List ℕ) → o ≡ refused n → (writtenAs n 0 ≡ writtenOf o) × (d ≡ outputOf o d)
 unfolding writtenOf outputOf onOutcome numberOf
-refusal-wrote o n w d e p = (rw e (ap₂ writtenAs (p .0) (p .1)), rw e)
+refusal-wrote o n d e = (rw e, rw e)
 
 pub encoding-wrote : (o : Outcome (List ℕ)) (f : Fields) (w : Written) (d x : List ℕ) → o ≡ given (encodeAttribute f)
     → (w .number ≡ 0) × ((w .size ≡ 5 + length (f .identifier)) × (x ≡ front (encodeAttribute f) d)) → (w ≡ writtenOf o) × (x ≡ outputOf o d)

@@ -1,4 +1,5 @@
 -- Laws of the definitions, and the theorems.
+pub mod ByNumber
 pub mod Laws
 pub mod FecTheorem
 pub mod IdentifierTheorem

@@ -1,11 +1,12 @@
 -- What inner functions answer; laws tie it to document 01's definitions.
-use Prim.Native.Nat.{ℕ}
+use Prim.Native.Nat.{ℕ, _+_}
 use mathlib.Core.Path.{_≡_}
 use mathlib.Core.Bool.{Bool, false}
 use mathlib.Core.List.{List, [], _∷_}
 use lib.Dec.{ltb, eqb}
+use lib.ListN.{length, getD, drop}
 use Rattle.octets.specs.Choice.{pick, either}
-use Rattle.octets.specs.Numbers.{DONE, TUNNEL, IDENT}
+use Rattle.octets.specs.Numbers.{DONE, SHORT, TUNNEL, IDENT, LONG, LABEL, SPACE}
 use Rattle.tunnel.specs.Identifier.{TableRow, table, IdentifierForm, sizes, fits}
 
 -- a tunnel type that the table lacks
@@ -34,3 +35,15 @@ faultOf t i = faultIn table t i
 -- a tunnel type whose identifiers have one of two sizes
 abbrev pub TakesSizes : ℕ → ℕ → ℕ → Type 0
 TakesSizes t first second = (i : List ℕ) → faultOf t i ≡ formFault (sizes (first ∷ second ∷ [])) i
+
+-- the number that reading answers
+unfoldable pub readFault : List ℕ → ℕ
+readFault s = pick (ltb 64 (length s)) LONG (pick (ltb (length s) 5) SHORT (faultOf (getD s 1 0) (drop 5 s)))
+
+-- the number that writing into an output of `capacity` octets answers
+unfoldable pub writeFault : (type label : ℕ) (identifier : List ℕ) (capacity : ℕ) → ℕ
+writeFault type label i capacity =
+    pick (ltb 59 (length i)) LONG
+    (pick (eqb (faultOf type i) DONE)
+    (pick (ltb 16777215 label) LABEL (pick (ltb capacity (5 + length i)) SPACE DONE))
+    (faultOf type i))

@@ -1,7 +1,10 @@
 // The PMSI Tunnel attribute (RFC 6514, section 5; RFC 8556, section 2): read and written (document 01, "PMSI Tunnel attribute").
 ghost use mathlib.Core.Path.{_≡_};
-ghost use Rattle.tunnel.specs.Answers.{outcomeOf, readAnswer, writeOutcome};
+ghost use Rattle.octets.specs.Outcome.{numberOf};
 ghost use Rattle.octets.specs.Outputs.{writtenOf, outputOf};
+ghost use Rattle.tunnel.specs.Attribute.{readAttribute};
+ghost use Rattle.tunnel.specs.Answers.{outcomeOf, readAnswer, writeOutcome};
+ghost use Rattle.tunnel.specs.Inner.{writeFault};
 use octets::Span;
 use octets::Written;
 use octets::number;
@@ -48,31 +51,51 @@ pub enum Reading {
     Refused(u32),
 }
 
-// Reads an attribute: LONG, SHORT, TUNNEL, IDENT.
+// The number of an attribute's first fault, LONG, SHORT, TUNNEL or IDENT, or DONE.
+pub fn fault(s: &[u8]) -> u32
+    ensures { λ r. ⌜ r ≡ numberOf (readAttribute (now (s .entry))) ⌝ }
+{
+    if MOST < s.len() {
+        return number::LONG;
+    }
+    if s.len() < HEADER {
+        return number::SHORT;
+    }
+    identifier::fault(s[1], octets::parts::after(s, HEADER))
+}
+
+// Reads an attribute.
 pub fn read(s: &[u8]) -> Reading
     ensures { λ r. ⌜ outcomeOf r ≡ readAnswer (now (s .entry)) ⌝ }
 {
-    if MOST < s.len() {
-        return Reading::Refused(number::LONG);
-    }
-    if s.len() < HEADER {
-        return Reading::Refused(number::SHORT);
-    }
-    let fault = identifier::fault(s[1], octets::parts::after(s, HEADER));
+    let fault = fault(s);
     if fault != number::DONE {
         return Reading::Refused(fault);
     }
     Reading::Attribute(fields::fields(s))
 }
 
-// A refusal: nothing is written.
-fn refusal(number: u32) -> Written
-    ensures { λ r. ⌜ (r .number ≡ number) × (r .size ≡ 0) ⌝ }
+// The number of the first fault of what is to be written into `space` octets, LONG, TUNNEL, IDENT, LABEL or SPACE, or DONE.
+fn write_fault(tunnel_type: u8, label_field: u32, identifier: &[u8], space: usize) -> u32
+    ensures { λ r. ⌜ r ≡ writeFault «tunnel_type» «label_field» (now (identifier .entry)) space ⌝ }
 {
-    Written { number, size: 0 }
+    if MOST_IDENTIFIER < identifier.len() {
+        return number::LONG;
+    }
+    let fault = identifier::fault(tunnel_type, identifier);
+    if fault != number::DONE {
+        return fault;
+    }
+    if MOST_LABEL_FIELD < label_field {
+        return number::LABEL;
+    }
+    if space < HEADER + identifier.len() {
+        return number::SPACE;
+    }
+    number::DONE
 }
 
-// Writes an attribute at the front of the output: LONG, TUNNEL, IDENT, LABEL, SPACE.
+// Writes an attribute at the front of the output.
 pub fn write(
     flags: u8,
     tunnel_type: u8,
@@ -83,18 +106,12 @@ pub fn write(
     ensures { λ r. ⌜ r ≡ writtenOf (writeOutcome flags «tunnel_type» «label_field» (now (identifier .entry)) (now (output .entry))) ⌝ }
     ensures { λ r. ⌜ now (output .exit) ≡ outputOf (writeOutcome flags «tunnel_type» «label_field» (now (identifier .entry)) (now (output .entry))) (now (output .entry)) ⌝ }
 {
-    if MOST_IDENTIFIER < identifier.len() {
-        return refusal(number::LONG);
-    }
-    let fault = identifier::fault(tunnel_type, identifier);
+    let fault = write_fault(tunnel_type, label_field, identifier, output.len());
     if fault != number::DONE {
-        return refusal(fault);
-    }
-    if MOST_LABEL_FIELD < label_field {
-        return refusal(number::LABEL);
-    }
-    if output.len() < HEADER + identifier.len() {
-        return refusal(number::SPACE);
+        return Written {
+            number: fault,
+            size: 0,
+        };
     }
     encoding::put(flags, tunnel_type, label_field, identifier, output)
 }
