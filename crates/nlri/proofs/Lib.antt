@@ -9,6 +9,7 @@ pub mod Steps
 pub mod Shapes
 pub mod Copies
 pub mod Singles
+pub mod SPmsis
 pub mod Puts
 pub mod Judges
 pub mod Table

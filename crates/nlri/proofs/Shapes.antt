@@ -378,7 +378,7 @@ module _ (family n : ℕ) (s : List ℕ) (small : family / 8 ≤ 16) (enough : 2
         subst (λ (z : List ℕ). Shaped (laidRow type n (distinguisher ∷ sourceAs ∷ source ∷ group ∷ []) z) s) all
         (shaped-join (f .a) (f .b) (f .low .0) (f .low .1) (f .most .0) (f .most .1) type low joined other (omega (arith, fd .0, fd .1, fq .0, fq .1, f .within)))
 
-whole-part : (s : List ℕ) (n : ℕ) → length s - 2 ≡ n → part s 2 n ≡ drop 2 s
+pub whole-part : (s : List ℕ) (n : ℕ) → length s - 2 ≡ n → part s 2 n ≡ drop 2 s
 unfolding part
 whole-part s n e = take-all n (drop 2 s) (rw length-drop (omega arith))
 

@@ -28,7 +28,7 @@ use Rattle.nlri.proofs.Families.{family-is}
 use Rattle.octets.proofs.Lists.{part-length}
 use Rattle.nlri.proofs.Shapes.{shaped}
 
-single-laid : (family : ℕ) (s : List ℕ) → single family s ≡ andThen (laidSingle family s) (λ laid. given (layoutOf laid))
+pub single-laid : (family : ℕ) (s : List ℕ) → single family s ≡ andThen (laidSingle family s) (λ laid. given (layoutOf laid))
 unfolding single endsWith layoutAt laidSingle layoutOf
 single-laid family s =
     and-assoc _ _ _ ∙ and-cong _ _ _ (λ laid e. and-given _ _ ∙ sym (and-pick _ _ _ _ ∙ ap₂ (pick _) (and-given _ _) (and-refused _ _))) ∙ sym (and-assoc _ _ _)

@@ -1,12 +1,12 @@
 -- Definitions that mirror the inner functions, one for each; laws tie them to the page's definitions in `Reading`.
 use Prim.Native.Nat.{ℕ, _+_, _-_, _≤_, _<_}
 use mathlib.Core.Path.{_≡_}
-use mathlib.Core.Bool.{Bool, true}
+use mathlib.Core.Bool.{Bool, true, false}
 use mathlib.Core.List.{List, []}
 use lib.ListN.{length, getD, drop}
-use lib.Dec.{ltb, eqb}
+use lib.Dec.{ltb, leb, eqb}
 use Rattle.octets.specs.Numbers.{SHORT, TYPE, LENGTH, KEY}
-use Rattle.octets.specs.Choice.{pick, either}
+use Rattle.octets.specs.Choice.{pick, either, both}
 use Rattle.octets.specs.Outcome.{Outcome, given, refused, onOutcome, andThen}
 use Rattle.octets.specs.Octets.{part, numberIn}
 use Rattle.octets.specs.declared.Span.{Span}
@@ -155,3 +155,15 @@ endsWith l s = pick (eqb (length s - 2) (l .length)) (given l) (refused LENGTH)
 -- a single NLRI's layout by the layout at its front
 unfoldable pub single : ℕ → List ℕ → Outcome Layout
 single family s = andThen (layoutAt family s) (λ l. endsWith l s)
+
+-- what a single NLRI comes to is of type 3
+unfoldable pub ofSPmsi : Outcome Layout → Bool
+ofSPmsi o = onOutcome (λ number. false) (λ l. eqb (l .«route_type») 3) o
+
+-- the same by the octets: the header, source and group, and what remains
+unfoldable pub sPmsiUnder : ℕ → List ℕ → Bool
+sPmsiUnder family s =
+    both (leb 10 (length s))
+    (both (eqb (getD s 0 0) 3)
+    (both (eqb (getD s 1 0) (length s - 2))
+    (onOutcome (λ number. false) (λ sizes. originatorSize (length s - 10 - sizes .0 - sizes .1)) (flowSizes family 3 (drop 10 s)))))

@@ -1,5 +1,6 @@
 -- Reading an NLRI (document 01, "NLRI on the wire" and the order of NLRI reading): first where its fields lie, then the fields.
 use Prim.Native.Nat.{ℕ, _+_, _-_, _/_}
+use mathlib.Core.Bool.{Bool, false}
 use mathlib.Core.List.{List, [], _∷_}
 use lib.ListN.{length, getD, take, drop}
 use lib.Dec.{ltb, leb, eqb}
@@ -97,3 +98,7 @@ laidSingle family s = andThen (laidAt family s) (λ laid. pick (eqb (length s - 
 
 unfoldable pub readNlri : ℕ → List ℕ → Outcome Fields
 readNlri afi s = andThen (familyBits afi) (λ family. andThen (laidSingle family s) (λ laid. given (fieldsOf laid s)))
+
+-- whether octets are a single NLRI of type 3
+unfoldable pub isSPmsi : ℕ → List ℕ → Bool
+isSPmsi afi s = onOutcome (λ number. false) (λ f. eqb (f .type) 3) (readNlri afi s)

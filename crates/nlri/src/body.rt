@@ -80,7 +80,7 @@ fn read_group(family: usize, route_type: usize, source: usize, s: &[u8]) -> Flow
 }
 
 // A source and a group at the front of `s`.
-fn read_flow(family: usize, route_type: usize, s: &[u8]) -> Flow
+pub(crate) fn read_flow(family: usize, route_type: usize, s: &[u8]) -> Flow
     ensures { λ r. ⌜ flowOf r ≡ flowSizes family «route_type» (now (s .entry)) ⌝ }
 {
     match read_address(family, route_type, s) {

@@ -21,6 +21,7 @@ pub use group::Group;
 pub use group::group_class;
 pub use layout::Layout;
 pub use layout::Reading;
+pub use read::is_s_pmsi;
 pub use read::read_layout;
 pub use route::RouteType;
 pub use run::Cursor;

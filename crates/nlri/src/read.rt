@@ -2,11 +2,12 @@
 ghost use mathlib.Core.Path.{_≡_};
 ghost use Prim.Native.Nat.{_≤_};
 ghost use lib.ListN.{length};
-ghost use Rattle.nlri.specs.Reading.{keyField};
+ghost use Rattle.nlri.specs.Reading.{keyField, isSPmsi};
 ghost use Rattle.nlri.specs.Layouts.{readingOf, layoutAt, layoutSingle};
-ghost use Rattle.nlri.specs.Inner.{partOf, headerOf, header, unkeyed, leaf, anyBody, endsWith, single};
+ghost use Rattle.nlri.specs.Inner.{partOf, headerOf, header, unkeyed, leaf, anyBody, endsWith, single, sPmsiUnder};
 use crate::address::RouteDistinguisher;
 use crate::body;
+use crate::body::Flow;
 use crate::family;
 use crate::layout::Layout;
 use crate::layout::Part;
@@ -158,5 +159,35 @@ pub fn read_layout(afi: u16, s: &[u8]) -> Reading
     match family::family_bits(afi) {
         Part::Fault(number) => Reading::Refused(number),
         Part::Size(family) => read_single(family, s),
+    }
+}
+
+// A single NLRI of type 3 under a family. Its octets are judged where they stand, with no layout.
+fn is_s_pmsi_under(family: usize, s: &[u8]) -> bool
+    ensures { λ r. ⌜ r ≡ sPmsiUnder family (now (s .entry)) ⌝ }
+{
+    if s.len() < HEADER + RouteDistinguisher::OCTETS {
+        return false;
+    }
+    if s[0] as usize != RouteType::S_PMSI {
+        return false;
+    }
+    if s[1] as usize != s.len() - HEADER {
+        return false;
+    }
+    let rest = octets::parts::after(s, HEADER + RouteDistinguisher::OCTETS);
+    match body::read_flow(family, RouteType::S_PMSI, rest) {
+        Flow::Bad(_) => false,
+        Flow::Sizes(source, group) => body::is_originator_size(rest.len() - source - group),
+    }
+}
+
+// Whether octets are a single NLRI of type 3.
+pub fn is_s_pmsi(afi: u16, s: &[u8]) -> bool
+    ensures { λ r. ⌜ r ≡ isSPmsi afi (now (s .entry)) ⌝ }
+{
+    match family::family_bits(afi) {
+        Part::Fault(_) => false,
+        Part::Size(family) => is_s_pmsi_under(family, s),
     }
 }

@@ -16,12 +16,14 @@ use Rattle.octets.specs.Outcome.{Outcome, given, refused, onOutcome, andThen, n
 use Rattle.octets.specs.Octets.{part, numberIn}
 use Rattle.octets.specs.Order.{same, before, allZero}
 use Rattle.octets.proofs.Tests.{both-true, both-left, both-right, both-last}
-use Rattle.octets.proofs.Inversions.{never, passed, given-same, both-true-left, both-true-right}
+use Rattle.octets.proofs.Outcomes.{pick-true, pick-false}
+use Rattle.octets.proofs.Inversions.{never, opposite, passed, given-same, both-true-left, both-true-right}
 use Rattle.octets.proofs.Refusals.{stopped}
 use Rattle.nlri.specs.declared.layout.Layout.{Layout}
 use Rattle.nlri.specs.declared.layout.Reading.{Reading}
 use Rattle.nlri.specs.declared.layout.Reading.the-variants.{Nlri, Refused}
 use Rattle.nlri.specs.Fields.{Fields}
+use Rattle.nlri.specs.Reading.{readNlri, isSPmsi}
 use Rattle.nlri.specs.Layouts.{readingOf, layoutSingle}
 use Rattle.nlri.specs.Inner.{fieldsAt}
 use Rattle.nlri.proofs.Via.{nlri-given, reading-refused}
@@ -127,6 +129,31 @@ route-goes afi nlri attribute fault second e h q =
     let f = s-pmsi-fault-none afi nlri (sym e ∙ h) in
     number-goes _ _ (f .0) second (f .1) (q ∙ number-kept (readLabelled attribute) (route nlri attribute))
 
+-- an NLRI of type 3, and any other
+module _ (afi : ℕ) (nlri : List ℕ) where
+  s-pmsi-read : isSPmsi afi nlri ≡ true → (f : Fields) × (readSPmsi afi nlri ≡ given f)
+  unfolding isSPmsi readSPmsi onOutcome andThen
+  s-pmsi-read e = go (readNlri afi nlri) e
+    where
+      go : (o : Outcome Fields) → onOutcome (λ number. false) (λ f. eqb (f .type) 3) o ≡ true
+          → (f : Fields) × (andThen o (λ f. pick (eqb (f .type) 3) (given f) (refused KIND)) ≡ given f)
+      go (given f) q = (f, pick-true _ _ _ q)
+      go (refused n) q = absurd (opposite {b = true} refl (sym q))
+
+  s-pmsi-unread : isSPmsi afi nlri ≡ false → (n : ℕ) × (readSPmsi afi nlri ≡ refused n)
+  unfolding isSPmsi readSPmsi onOutcome andThen
+  s-pmsi-unread e = go (readNlri afi nlri) e
+    where
+      go : (o : Outcome Fields) → onOutcome (λ number. false) (λ f. eqb (f .type) 3) o ≡ false
+          → (n : ℕ) × (andThen o (λ f. pick (eqb (f .type) 3) (given f) (refused KIND)) ≡ refused n)
+      go (given f) q = (KIND, pick-false _ _ _ q)
+      go (refused n) q = (n, refl)
+
+  -- a route's number, where its NLRI is of type 3: its attribute's
+  judged-route : isSPmsi afi nlri ≡ true → (attribute : List ℕ) (fault : ℕ) → fault ≡ numberOf (readLabelled attribute) → fault ≡ numberOf (readRoute afi nlri attribute)
+  unfolding numberOf
+  judged-route e attribute fault q = route-goes afi nlri attribute DONE fault (sym (ap numberOf (s-pmsi-read e .1))) refl q
+
 -- a header, by the two tests of it
 module _ (t start : List ℕ) (flag : Bool) (s : start ≡ part t 0 6) (e : flag ≡ same start (headerStart (afiIn t))) where
   start-is : flag ≡ same (take 6 t) (headerStart (afiIn t))
@@ -150,28 +177,40 @@ fault-unacceptable : (afi : ℕ) (nlri attribute : List ℕ) (fault : ℕ) → f
 unfolding acceptable nlriOf attributeOf onOutcome
 fault-unacceptable afi nlri attribute fault e h = let q : readRoute afi nlri attribute ≡ refused fault = refused-of _ fault e h in rw q
 
+other-unacceptable : (afi : ℕ) (nlri attribute : List ℕ) → isSPmsi afi nlri ≡ false → acceptable afi (route nlri attribute) ≡ false
+unfolding acceptable readRoute nlriOf attributeOf onOutcome andThen
+other-unacceptable afi nlri attribute e = rw (s-pmsi-unread afi nlri e .1)
+
 -- a place, by the tests of it
 module _ (afi : ℕ) (place : List ℕ) where
   pub place-over : 128 < endIn place → false ≡ placeSound afi place
   unfolding placeSound
   place-over h = sym (both-left _ _ (lt-leb (endIn place) 128 h))
 
-  module _ (nlri attribute : List ℕ) (fault : ℕ) (n : nlri ≡ part place 2 (getD place 0 0)) (a : attribute ≡ part place (2 + getD place 0 0) (getD place 1 0))
-      (e : fault ≡ numberOf (readRoute afi nlri attribute)) where
-    route-is : route nlri attribute ≡ routeIn place
+  module _ (within : endIn place ≤ 128) (nlri : List ℕ) (flag : Bool) (n : nlri ≡ part place 2 (getD place 0 0)) (e : flag ≡ isSPmsi afi nlri) where
+    route-is : (attribute : List ℕ) → attribute ≡ part place (2 + getD place 0 0) (getD place 1 0) → route nlri attribute ≡ routeIn place
     unfolding routeIn
-    route-is = ap₂ route n a
+    route-is attribute a = ap₂ route n a
 
-    pub place-refused : endIn place ≤ 128 → (fault ≡ DONE → ⊥) → false ≡ placeSound afi place
+    unacceptable : (attribute : List ℕ) → attribute ≡ part place (2 + getD place 0 0) (getD place 1 0) → acceptable afi (route nlri attribute) ≡ false → false ≡ placeSound afi place
     unfolding placeSound
-    place-refused h f =
-        sym (both-right _ _ (le-leb (endIn place) 128 h) (both-left _ _ (ap (acceptable afi) (sym route-is) ∙ fault-unacceptable afi nlri attribute fault e f)))
+    unacceptable attribute a q = sym (both-right _ _ (le-leb (endIn place) 128 within) (both-left _ _ (ap (acceptable afi) (sym (route-is attribute a)) ∙ q)))
 
-    pub place-accepted : endIn place ≤ 128 → fault ≡ DONE → (rest : List ℕ) (r : Bool) → rest ≡ drop (endIn place) place → r ≡ allZero rest → r ≡ placeSound afi place
-    unfolding placeSound
-    place-accepted h f rest r d z =
-        both-last _ _ r (le-leb (endIn place) 128 h)
-        (both-last _ _ r (ap (acceptable afi) (sym route-is) ∙ fault-acceptable afi nlri attribute (sym e ∙ f)) (z ∙ ap allZero d))
+    pub place-other : flag ≡ false → false ≡ placeSound afi place
+    place-other h = unacceptable _ refl (other-unacceptable afi nlri _ (sym e ∙ h))
+
+    module _ (h : flag ≡ true) (attribute : List ℕ) (fault : ℕ) (a : attribute ≡ part place (2 + getD place 0 0) (getD place 1 0)) (f : fault ≡ numberOf (readLabelled attribute)) where
+      judged-place : fault ≡ numberOf (readRoute afi nlri attribute)
+      judged-place = judged-route afi nlri (sym e ∙ h) attribute fault f
+
+      pub place-refused : (fault ≡ DONE → ⊥) → false ≡ placeSound afi place
+      place-refused q = unacceptable attribute a (fault-unacceptable afi nlri attribute fault judged-place q)
+
+      pub place-accepted : fault ≡ DONE → (rest : List ℕ) (r : Bool) → rest ≡ drop (endIn place) place → r ≡ allZero rest → r ≡ placeSound afi place
+      unfolding placeSound
+      place-accepted q rest r d z =
+          both-last _ _ r (le-leb (endIn place) 128 within)
+          (both-last _ _ r (ap (acceptable afi) (sym (route-is attribute a)) ∙ fault-acceptable afi nlri attribute (sym judged-place ∙ q)) (z ∙ ap allZero d))
 
   pub sound-end : placeSound afi place ≡ true → endIn place ≤ 128
   unfolding placeSound

@@ -63,15 +63,13 @@ pub(crate) fn is_place_sound(afi: u16, place: &[u8]) -> bool
     if PLACE < end {
         return false;
     }
-    let fault = judge::route_fault(
-        afi,
-        octets::parts::between(place, 2, nlri),
-        octets::parts::between(place, 2 + nlri, attribute),
-    );
-    if fault != DONE {
-        return false;
+    if nlri::is_s_pmsi(afi, octets::parts::between(place, 2, nlri)) {
+        let fault = judge::attribute_fault(octets::parts::between(place, 2 + nlri, attribute));
+        if fault == DONE {
+            return octets::order::is_zero(octets::parts::after(place, end));
+        }
     }
-    octets::order::is_zero(octets::parts::after(place, end))
+    false
 }
 
 // A sound place whose NLRI comes after the previous one.
