@@ -6,7 +6,7 @@ use lib.ListN.{length, drop}
 use lib.Dec.{ltb, eqb}
 use Rattle.octets.specs.Numbers.{DONE, SHORT, LONG}
 use Rattle.octets.specs.Choice.{pick}
-use Rattle.octets.specs.Outcome.{given, onOutcome}
+use Rattle.octets.specs.Outcome.{onOutcome}
 use Rattle.nlri.specs.declared.layout.Layout.{Layout}
 use Rattle.nlri.specs.declared.run.Step.{Step}
 use Rattle.nlri.specs.declared.run.Step.the-variants.{Nlri, End, Refused}

@@ -5,8 +5,8 @@ use mathlib.Core.Logic.{_≢_}
 use mathlib.Core.List.{List}
 use Rattle.octets.specs.Numbers.{DONE}
 use Rattle.octets.specs.Outcome.{Outcome, given, refused, numberOf}
-use Rattle.routes.specs.Arguments.{readSPmsi, readRoute, readMatch}
-use Rattle.routes.proofs.ByArguments.{s-pmsi-number, route-number, match-number}
+use Rattle.routes.specs.Arguments.{readSPmsi, readRoute}
+use Rattle.routes.proofs.ByArguments.{s-pmsi-number, route-number}
 
 -- where no refusal is DONE, DONE comes with a value
 pub done-given : {A : Type 0} (o : Outcome A) → ((n : ℕ) → o ≡ refused n → n ≢ DONE) → numberOf o ≡ DONE → (a : A) × (o ≡ given a)
@@ -19,6 +19,3 @@ s-pmsi-not-done afi nlri n e = s-pmsi-number afi nlri n e .0
 
 pub route-not-done : (afi : ℕ) (nlri attribute : List ℕ) (n : ℕ) → readRoute afi nlri attribute ≡ refused n → n ≢ DONE
 route-not-done afi nlri attribute n e = route-number afi nlri attribute n e .0
-
-pub match-not-done : (afi : ℕ) (router source group output : List ℕ) (n : ℕ) → readMatch afi router source group output ≡ refused n → n ≢ DONE
-match-not-done afi router source group output n e = match-number afi router source group output n e .0

@@ -1,16 +1,16 @@
 -- A router's book (document 01, "Mixed calls and each router's book"; book is its term): NLRIs, each with one attribute, in order of
 -- arrival. It knows nothing of the table: neither order of NLRIs, nor places, nor octets.
 use Prim.Native.Nat.{ℕ}
-use mathlib.Core.Bool.{Bool, true, false}
+use mathlib.Core.Bool.{Bool, false}
 use mathlib.Core.List.{List, [], _∷_, _++_}
 use Rattle.octets.specs.Numbers.{DONE, ABSENT}
 use Rattle.octets.specs.Choice.{pick, either}
-use Rattle.octets.specs.Outcome.{Outcome, given, onOutcome, andThen}
+use Rattle.octets.specs.Outcome.{given, onOutcome, andThen}
 use Rattle.octets.specs.Order.{same}
 use Rattle.routes.specs.declared.Matched.{Matched}
-use Rattle.routes.specs.Route.{Route, route, nlriOf, holds, removed}
+use Rattle.routes.specs.Route.{Route, nlriOf, holds, removed}
 use Rattle.routes.specs.Arguments.{readSPmsi, readRoute, readMatch}
-use Rattle.routes.specs.Matching.{Found, matchIn}
+use Rattle.routes.specs.Matching.{matchIn}
 use Rattle.routes.specs.Calls.{Changed, NEW, REPLACED, installedOf, matchedBy}
 use Rattle.routes.specs.Call.{Call, install, withdraw, match, Answer, installed, withdrawn, matched, Owner, nobody, owner, ownerOf, owns, refusalOf, refusalAnswer}
 

@@ -5,7 +5,7 @@ use mathlib.Core.List.{List, [], _∷_}
 use lib.ListN.{length}
 use lib.Dec.{eqb}
 use Rattle.octets.specs.Choice.{pick, both}
-use Rattle.octets.specs.Outcome.{Outcome, onOutcome}
+use Rattle.octets.specs.Outcome.{onOutcome}
 use Rattle.octets.specs.Order.{same, before}
 use Rattle.nlri.specs.Fields.{Fields}
 use Rattle.nlri.specs.Groups.{ASM, SSM}

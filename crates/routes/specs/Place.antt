@@ -6,7 +6,7 @@ use mathlib.Core.List.{List, [], _∷_, _++_}
 use lib.ListN.{length, getD, drop}
 use lib.Dec.{leb}
 use Rattle.octets.specs.Choice.{both}
-use Rattle.octets.specs.Outcome.{Outcome, onOutcome}
+use Rattle.octets.specs.Outcome.{onOutcome}
 use Rattle.octets.specs.Octets.{part}
 use Rattle.octets.specs.Order.{zeros, allZero}
 use Rattle.routes.specs.Route.{Route, route, nlriOf, attributeOf}

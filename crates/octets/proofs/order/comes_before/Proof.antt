@@ -1,7 +1,7 @@
 -- `octets::order::comes_before` meets its contract: as far as the loop has come, both begin alike.
 use Prim.Native.Nat.{ℕ, _+_, _-_}
 use mathlib.Core.Path.{_≡_, refl}
-use lib.ListN.{length, take}
+use lib.ListN.{take}
 use denote.Ref.{now}
 use borrow.Author.Needs.{needs}
 use Rattle.octets.proofs.Orders.{numbers-go-on, numbers-decide, lengths-decide, alike-before}

@@ -1,5 +1,4 @@
 -- `octets::wide::eight` meets its contract: the number in four octets, and in the four after them.
-use mathlib.Core.Path.{sym}
 use denote.Ref.{now}
 use Rattle.octets.proofs.NetworkOrder.{number-then}
 use borrow.Author.Needs.{needs}
