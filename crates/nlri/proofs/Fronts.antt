@@ -74,7 +74,7 @@ module _ (kf : List ℕ → Outcome ℕ) (family : ℕ) (s : List ℕ) where
       let t : laid .type ≡ getD s 0 0 = ap (λ (x : Laid). x .type) (sym same) in
       (omega (arith, ltb-false), omega (arith, ltb-false), t, n)
 
-unkeyed-is : (family : ℕ) (s : List ℕ) → andThen (laidWith noKey family s) (λ laid. given (layoutOf laid)) ≡ unkeyed family s
+pub unkeyed-is : (family : ℕ) (s : List ℕ) → andThen (laidWith noKey family s) (λ laid. given (layoutOf laid)) ≡ unkeyed family s
 unfolding unkeyed unkeyedBody noKey
 unkeyed-is family s =
     front-rows noKey family s

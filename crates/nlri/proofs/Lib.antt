@@ -5,6 +5,8 @@ pub mod Via
 pub mod Sizes
 pub mod Rows
 pub mod Fronts
+pub mod Numbered
+pub mod Standing
 pub mod Steps
 pub mod Shapes
 pub mod Copies

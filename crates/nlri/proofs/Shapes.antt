@@ -25,7 +25,7 @@ use Rattle.nlri.proofs.Fronts.{laid-within, key-within}
 use Rattle.nlri.proofs.Sizes.{address-within}
 
 -- the row of the table that gave a value, and its type
-choose : {A : Type 0} {C : Type 0} (b : Bool) (x y : Outcome A) (a : A) → pick b x y ≡ given a → (b ≡ true → x ≡ given a → C) → (b ≡ false → y ≡ given a → C) → C
+pub choose : {A : Type 0} {C : Type 0} (b : Bool) (x y : Outcome A) (a : A) → pick b x y ≡ given a → (b ≡ true → x ≡ given a → C) → (b ≡ false → y ≡ given a → C) → C
 unfolding pick
 choose true x y a e f g = f refl e
 choose false x y a e f g = g refl e

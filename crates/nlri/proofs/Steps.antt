@@ -5,20 +5,27 @@ use mathlib.Core.List.{List}
 use Prim.Native.Nat.{ℕ, suc, _+_, _-_, _≤_}
 use native.Mathlib.Nat.{sub-zero}
 use native.Mathlib.Omega.{arith}
-use borrow.Author.Tests.{ltb-false}
-use lib.ListN.{length, drop, length-drop}
+use borrow.Author.Tests.{ltb-false, le-ltb, eq-eqb, ne-eqb}
+use lib.ListN.{length, getD, drop, length-drop}
+use lib.Seq.{getD-drop}
+use lib.Dec.{eqb}
+use Rattle.octets.specs.Numbers.{DONE, SHORT, LONG, FAMILY}
 use Rattle.octets.specs.Choice.{pick}
-use Rattle.octets.specs.Outcome.{Outcome, given, refused, onOutcome}
-use Rattle.octets.proofs.Inversions.{opposite, passed, given-same}
+use Rattle.octets.specs.Outcome.{Outcome, given, refused, onOutcome, numberOf}
+use Rattle.octets.proofs.Tests.{skips, on-given, on-refused}
+use Rattle.octets.proofs.Inversions.{never, opposite, passed, given-same}
 use Rattle.octets.proofs.Outcomes.{pick-true, pick-false}
 use Rattle.nlri.specs.declared.layout.Layout.{Layout}
 use Rattle.nlri.specs.declared.run.Cursor.{Cursor}
 use Rattle.nlri.specs.declared.run.Step.{Step}
 use Rattle.nlri.specs.declared.run.Step.the-variants.{Nlri, End, Refused}
+use Rattle.nlri.specs.Family.{familyBits}
 use Rattle.nlri.specs.Reading.{keyField, laidAt}
 use Rattle.nlri.specs.Layouts.{layoutOf, layoutAt}
 use Rattle.nlri.specs.Walking.{Stepped, readTo, stoppedAt, stepUnder, stepFrom, steppedOf, walkFrom, walkOf}
+use Rattle.nlri.specs.Inner.{layoutIn, Stands}
 use Rattle.nlri.proofs.Fronts.{laid-within}
+use Rattle.nlri.proofs.Standing.{laid-in}
 
 pub layout-within : (family : ℕ) (s : List ℕ) (l : Layout) → layoutAt family s ≡ given l → 2 + l .length ≤ length s
 unfolding layoutAt laidAt layoutOf
@@ -28,6 +35,112 @@ layout-within family s l e =
     let n : w .value .size ≡ l .length = ap (λ (x : Layout). x .length) same in
     let h = laid-within (keyField family) family s (w .value) (w .first) in
     omega arith
+
+-- its Length is the NLRI's second octet
+layout-length : (family : ℕ) (run : List ℕ) (at : ℕ) (l : Layout) → layoutAt family (drop at run) ≡ given l → l .length ≡ getD run (at + 1) 0
+unfolding layoutAt laidAt layoutOf
+layout-length family run at l e =
+    let w = passed _ _ _ e in
+    let n : w .value .size ≡ l .length = ap (λ (x : Layout). x .length) (given-same (w .second)) in
+    sym n ∙ laid-within (keyField family) family (drop at run) (w .value) (w .first) .3 ∙ getD-drop at run 1 0
+
+-- a step's number
+pub step-picks : (n : ℕ) (x y : Stepped) (b : Bool) → b ≡ true → n ≡ x .number → n ≡ pick b x y .number
+unfolding pick
+step-picks n x y b p q = rw p q
+
+pub step-skips : (n : ℕ) (x y : Stepped) (b : Bool) → b ≡ false → n ≡ y .number → n ≡ pick b x y .number
+unfolding pick
+step-skips n x y b p q = rw p q
+
+step-on : (n at : ℕ) (next : Layout → ℕ) (o : Outcome Layout) → n ≡ numberOf o → n ≡ onOutcome (λ number. stoppedAt number at) (λ l. readTo l (next l)) o .number
+unfolding onOutcome numberOf stoppedAt readTo
+step-on n at next (given l) e = e
+step-on n at next (refused m) e = e
+
+pub step-fronts : (n family : ℕ) (run : List ℕ) (at : ℕ) → length run ≤ 4096 → (at ≡ length run → ⊥) → at ≤ length run → n ≡ numberOf (layoutAt family (drop at run)) → n ≡ stepUnder family run at .number
+unfolding stepUnder
+step-fronts n family run at short more within e =
+    step-skips n _ _ _ (le-ltb 4096 (length run) short)
+    (step-skips n _ _ _ (ne-eqb at (length run) more) (step-skips n _ _ _ (le-ltb (length run) at within) (step-on n at (λ l. at + (2 + l .length)) _ e)))
+
+-- what a step's number says of it: `long`, `last` and `past` are its tests
+module _ (at : ℕ) (next : Layout → ℕ) (o : Outcome Layout) where
+  abbrev stepBy : (long last past : Bool) → Stepped
+  stepBy long last past =
+      pick long (stoppedAt LONG at)
+      (pick last (stoppedAt DONE at) (pick past (stoppedAt SHORT at) (onOutcome (λ number. stoppedAt number at) (λ l. readTo l (next l)) o)))
+
+stops-by : (at : ℕ) (next : Layout → ℕ) (o : Outcome Layout) (long last past : Bool) → (stepBy at next o long last past .number ≡ 0 → ⊥) → stoppedAt (stepBy at next o long last past .number) at ≡ stepBy at next o long last past
+unfolding pick onOutcome stoppedAt readTo
+stops-by at next o true last past h = refl
+stops-by at next o false true past h = refl
+stops-by at next o false false true h = refl
+stops-by at next (given l) false false false h = absurd (h refl)
+stops-by at next (refused n) false false false h = refl
+
+ends-by : (at : ℕ) (next : Layout → ℕ) (o : Outcome Layout) (long past : Bool) → stepBy at next o long true past .number ≡ 0 → stoppedAt 0 at ≡ stepBy at next o long true past
+unfolding pick stoppedAt
+ends-by at next o true past e = let z : ⊥ = omega arith in absurd z
+ends-by at next o false past e = refl
+
+reads-by : (at : ℕ) (next : Layout → ℕ) (o : Outcome Layout) (long past : Bool) → stepBy at next o long false past .number ≡ 0 → (long ≡ false) × (past ≡ false) × (numberOf o ≡ 0)
+unfolding pick onOutcome stoppedAt readTo numberOf
+reads-by at next o true past e = let z : ⊥ = omega arith in absurd z
+reads-by at next o false true e = let z : ⊥ = omega arith in absurd z
+reads-by at next (given l) false false e = (refl, refl, refl)
+reads-by at next (refused n) false false e = (refl, refl, e)
+
+-- a step that reads: the run is short, and the NLRI's octets stand at the cursor
+pub record Reads (family : ℕ) (run : List ℕ) (at : ℕ) : Type 0 where
+  pub short : length run ≤ 4096
+  pub within : at ≤ length run
+  pub stands : Stands (drop at run)
+  pub is : layoutAt family (drop at run) ≡ given (layoutIn (drop at run))
+
+module _ (family : ℕ) (run : List ℕ) (at number : ℕ) (e : number ≡ stepUnder family run at .number) where
+  pub step-stops : (number ≡ 0 → ⊥) → stoppedAt number at ≡ stepUnder family run at
+  unfolding stepUnder
+  step-stops h = ap (λ (n : ℕ). stoppedAt n at) e ∙ stops-by at (λ l. at + (2 + l .length)) _ _ _ _ (λ q. h (e ∙ q))
+
+  pub step-ends : number ≡ 0 → at ≡ length run → stoppedAt 0 at ≡ stepUnder family run at
+  unfolding stepUnder
+  step-ends z last = let b : eqb at (length run) ≡ true = eq-eqb _ _ last in rw b (ends-by at (λ l. at + (2 + l .length)) _ _ _ (rw b at (sym e ∙ z)))
+
+  pub step-reads : number ≡ 0 → (at ≡ length run → ⊥) → Reads family run at
+  unfolding stepUnder
+  step-reads z more =
+      let b : eqb at (length run) ≡ false = ne-eqb _ _ more in
+      let r = reads-by at (λ l. at + (2 + l .length)) _ _ _ (rw b at (sym e ∙ z)) in
+      let laid = laid-in family (drop at run) 0 (sym (r .2)) refl in
+      record { short = ltb-false _ _ (r .0); within = ltb-false _ _ (r .1); stands = laid .0; is = sym (laid .1) }
+
+module _ (family : ℕ) (run : List ℕ) (at : ℕ) (more : at ≡ length run → ⊥) (r : Reads family run at) where
+  pub read-under : readTo (layoutIn (drop at run)) (at + (2 + layoutIn (drop at run) .length)) ≡ stepUnder family run at
+  unfolding stepUnder
+  read-under =
+      skips _ _ _ _ (le-ltb 4096 (length run) (r .short))
+      (skips _ _ _ _ (ne-eqb at (length run) more)
+      (skips _ _ _ _ (le-ltb (length run) at (r .within)) (on-given _ _ (layoutIn (drop at run)) _ _ (r .is) refl)))
+
+  -- by the Length octet in the run
+  pub read-by-octet : readTo (layoutIn (drop at run)) (at + (2 + getD run (at + 1) 0)) ≡ stepUnder family run at
+  read-by-octet = ap (λ (n : ℕ). readTo (layoutIn (drop at run)) (at + (2 + n))) (sym (layout-length family run at _ (r .is))) ∙ read-under
+
+-- under an AFI
+pub step-under-is : (afi family : ℕ) (run : List ℕ) (at : ℕ) (x : Stepped) → familyBits afi ≡ given family → x ≡ stepUnder family run at → stepFrom afi run at ≡ x
+unfolding stepFrom
+step-under-is afi family run at x e q = sym (on-given x (familyBits afi) family _ _ e q)
+
+no-family : (one two : Bool) (n : ℕ) → pick {A = Outcome ℕ} one (given 32) (pick two (given 128) (refused FAMILY)) ≡ refused n → FAMILY ≡ n
+unfolding pick
+no-family true two n e = absurd (never refl e)
+no-family false true n e = absurd (never refl e)
+no-family false false n e = cc
+
+pub step-without : (afi n : ℕ) (run : List ℕ) (at : ℕ) → familyBits afi ≡ refused n → stepFrom afi run at ≡ stoppedAt FAMILY at
+unfolding stepFrom familyBits
+step-without afi n run at e = sym (on-refused (stoppedAt FAMILY at) _ n _ _ e (ap (λ (k : ℕ). stoppedAt k at) (no-family _ _ n e)))
 
 never-both : (number x c : ℕ) (l : Layout) → stoppedAt number x ≡ readTo l c → ⊥
 unfolding stoppedAt readTo

@@ -11,7 +11,7 @@ use Rattle.nlri.specs.declared.layout.Part.the-variants.{Size, Fault}
 use Rattle.nlri.specs.declared.body.Flow.{Flow}
 use Rattle.nlri.specs.declared.body.Flow.the-variants.{Sizes, Bad}
 use Rattle.nlri.specs.declared.read.Header.{Header}
-use Rattle.nlri.specs.declared.read.Header.the-variants.{Typed, Short}
+use Rattle.nlri.specs.declared.read.Header.the-variants.{Typed, Unread}
 use Rattle.nlri.specs.declared.group.Group.{Group}
 use Rattle.nlri.specs.Groups.{groupOf}
 use Rattle.nlri.specs.Layouts.{readingOf}
@@ -50,9 +50,9 @@ bad-stops r o n next p q = stops o n next (sym p ∙ ap flowOf q)
 pub typed-goes : {B : Type 0} (t : Outcome B) (r : Header) (o : Outcome (ℕ × ℕ)) (a b : ℕ) (next : ℕ × ℕ → Outcome B) → headerOf r ≡ o → r ≡ Typed a b → t ≡ next (a, b) → t ≡ andThen o next
 typed-goes t r o a b next p q h = goes t o (a, b) next (typed-given r o a b p q) h
 
-pub short-stops : {B : Type 0} (r : Header) (o : Outcome (ℕ × ℕ)) (n : ℕ) (next : ℕ × ℕ → Outcome B) → headerOf r ≡ o → r ≡ Short n → refused n ≡ andThen o next
+pub unread-stops : {B : Type 0} (r : Header) (o : Outcome (ℕ × ℕ)) (n : ℕ) (next : ℕ × ℕ → Outcome B) → headerOf r ≡ o → r ≡ Unread n → refused n ≡ andThen o next
 unfolding headerOf
-short-stops r o n next p q = stops o n next (sym p ∙ ap headerOf q)
+unread-stops r o n next p q = stops o n next (sym p ∙ ap headerOf q)
 
 pub nlri-given : (r : Reading) (o : Outcome Layout) (l : Layout) → readingOf r ≡ o → r ≡ Nlri l → o ≡ given l
 unfolding readingOf
@@ -83,4 +83,4 @@ on-fault t r o n bad good p q h = on-refused t o n bad good (fault-given r o n p
 pub group-is : (g : Group) (o p : Outcome ℕ) → g ≡ groupOf o → o ≡ p → g ≡ groupOf p
 group-is g o p e q = e ∙ ap groupOf q
 
-pub ruleset reads = (tests, size-goes, fault-stops, sizes-go, bad-stops, typed-goes, short-stops, on-nlri, on-refusal, nlri-goes, refusal-stops, on-size, on-fault)
+pub ruleset reads = (tests, size-goes, fault-stops, sizes-go, bad-stops, typed-goes, unread-stops, on-nlri, on-refusal, nlri-goes, refusal-stops, on-size, on-fault)

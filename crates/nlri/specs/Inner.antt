@@ -1,11 +1,11 @@
 -- Definitions that mirror the inner functions, one for each; laws tie them to the page's definitions in `Reading`.
-use Prim.Native.Nat.{ℕ, _+_, _-_, _≤_, _<_}
+use Prim.Native.Nat.{ℕ, _+_, _-_, _/_, _≤_, _<_}
 use mathlib.Core.Path.{_≡_}
 use mathlib.Core.Bool.{Bool, true, false}
 use mathlib.Core.List.{List, []}
 use lib.ListN.{length, getD, drop}
 use lib.Dec.{ltb, leb, eqb}
-use Rattle.octets.specs.Numbers.{SHORT, TYPE, LENGTH, KEY}
+use Rattle.octets.specs.Numbers.{DONE, SHORT, TYPE, LENGTH, KEY}
 use Rattle.octets.specs.Choice.{pick, either, both}
 use Rattle.octets.specs.Outcome.{Outcome, given, refused, onOutcome, andThen}
 use Rattle.octets.specs.Octets.{part, numberIn}
@@ -16,7 +16,7 @@ use Rattle.nlri.specs.declared.layout.Part.the-variants.{Size, Fault}
 use Rattle.nlri.specs.declared.body.Flow.{Flow}
 use Rattle.nlri.specs.declared.body.Flow.the-variants.{Sizes, Bad}
 use Rattle.nlri.specs.declared.read.Header.{Header}
-use Rattle.nlri.specs.declared.read.Header.the-variants.{Typed, Short}
+use Rattle.nlri.specs.declared.read.Header.the-variants.{Typed, Unread}
 use Rattle.nlri.specs.Family.{originatorSize}
 use Rattle.nlri.specs.Fields.{Fields}
 use Rattle.nlri.specs.Reading.{addressField, keyField}
@@ -35,7 +35,7 @@ flowOf (Bad number) = refused number
 -- a route type and a Length, or the refusal's number
 unfoldable pub headerOf : Header → Outcome (ℕ × ℕ)
 headerOf (Typed type size) = given (type, size)
-headerOf (Short number) = refused number
+headerOf (Unread number) = refused number
 
 unfoldable pub layoutWith : (type size source group originator key : ℕ) → Layout
 layoutWith type size source group originator key =
@@ -48,6 +48,10 @@ originatorLast l = pick (originatorSize (l .originator)) (given l) (refused LENG
 unfoldable pub endsAt : Layout → Outcome Layout
 endsAt l = pick (eqb (l .originator) 0) (given l) (refused LENGTH)
 
+-- the number where a test of what remains decides
+unfoldable pub lastFault : Bool → ℕ
+lastFault good = pick good DONE LENGTH
+
 unfoldable pub groupSize : (family type source : ℕ) → List ℕ → Outcome (ℕ × ℕ)
 groupSize family type source s = andThen (addressField family type s) (λ group. given (source, group))
 
@@ -58,6 +62,10 @@ unfoldable pub flowEnd : (type size source group rest : ℕ) → Outcome Layout
 flowEnd type size source group rest =
     pick (eqb type 3) (originatorLast (layoutWith type size (source - 1) (group - 1) rest 0))
     (endsAt (layoutWith type size (source - 1) (group - 1) rest 0))
+
+-- the number of what follows source and group
+unfoldable pub flowEndFault : (type rest : ℕ) → ℕ
+flowEndFault type rest = pick (eqb type 3) (lastFault (originatorSize rest)) (lastFault (eqb rest 0))
 
 unfoldable pub flowRoute : (family type fixed : ℕ) → List ℕ → Outcome Layout
 flowRoute family type fixed s =
@@ -100,6 +108,10 @@ header s =
 unfoldable pub unkeyed : ℕ → List ℕ → Outcome Layout
 unkeyed family s = andThen (header s) (λ h. unkeyedBody family (h .0) (part s 2 (h .1)))
 
+-- type and Length of an NLRI that has no key
+unfoldable pub unkeyedHeader : ℕ → List ℕ → Outcome (ℕ × ℕ)
+unkeyedHeader family s = andThen (unkeyed family s) (λ l. given (l .«route_type», l .length))
+
 unfoldable pub anyFront : ℕ → List ℕ → Outcome Layout
 anyFront family s = andThen (header s) (λ h. anyBody family (h .0) (part s 2 (h .1)))
 
@@ -115,6 +127,36 @@ withSourceAs type = either (eqb type 2) (either (eqb type 6) (eqb type 7))
 -- where the octets of a source begin in an NLRI, behind its length octet
 unfoldable pub sourceStart : ℕ → ℕ
 sourceStart type = pick (withSourceAs type) 15 11
+
+-- an address's size by its length octet
+unfoldable pub sizeAt : List ℕ → ℕ → ℕ
+sizeAt s at = getD s at 0 / 8
+
+-- the layout of an accepted NLRI by its octets, where a source's length octet stands at `at`
+unfoldable pub flowLayout : (type at : ℕ) → List ℕ → Layout
+flowLayout type at s =
+    layoutWith type (getD s 1 0) (sizeAt s at) (sizeAt s (at + 1 + sizeAt s at)) (getD s 1 0 - at - sizeAt s at - sizeAt s (at + 1 + sizeAt s at)) 0
+
+unfoldable pub leafLayout : List ℕ → Layout
+leafLayout s = layoutWith 4 (getD s 1 0) 0 0 (getD s 1 0 - (2 + getD s 3 0)) (2 + getD s 3 0)
+
+unfoldable pub layoutIn : List ℕ → Layout
+layoutIn s =
+    pick (eqb (getD s 0 0) 1) (layoutWith 1 (getD s 1 0) 0 0 (getD s 1 0 - 8) 0)
+    (pick (eqb (getD s 0 0) 2) (layoutWith 2 (getD s 1 0) 0 0 0 0)
+    (pick (eqb (getD s 0 0) 4) (leafLayout s) (flowLayout (getD s 0 0) (sourceStart (getD s 0 0) - 1) s)))
+
+-- source and group lie within the body
+pub record FlowStands (at : ℕ) (s : List ℕ) : Type 0 where
+  pub group : at + 1 + sizeAt s at < length s
+  pub sizes : at + sizeAt s at + sizeAt s (at + 1 + sizeAt s at) ≤ getD s 1 0
+
+-- the octets that a layout goes by stand there
+pub record Stands (s : List ℕ) : Type 0 where
+  pub header : 2 ≤ length s
+  pub intraAs : getD s 0 0 ≡ 1 → 8 ≤ getD s 1 0
+  pub leaf : getD s 0 0 ≡ 4 → (4 ≤ length s) × (2 + getD s 3 0 ≤ getD s 1 0)
+  pub flow : (getD s 0 0 ≡ 1 → ⊥) → (getD s 0 0 ≡ 2 → ⊥) → (getD s 0 0 ≡ 4 → ⊥) → FlowStands (sourceStart (getD s 0 0) - 1) s
 
 unfoldable pub distinguisherAt : ℕ → List ℕ → List ℕ
 distinguisherAt type s = pick (eqb type 4) [] (part s 2 8)

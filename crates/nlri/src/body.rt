@@ -1,17 +1,16 @@
-// The bodies of NLRIs, field by field from left to right (document 01, "NLRI on the wire").
+// The bodies of NLRIs, judged field by field from left to right (document 01, "NLRI on the wire"): the number of the first fault,
+// or DONE.
 ghost use mathlib.Core.Path.{_≡_};
-ghost use Prim.Native.Nat.{_≤_};
-ghost use lib.ListN.{length};
+ghost use lib.Dec.{eqb};
+ghost use Rattle.octets.specs.Outcome.{numberOf};
 ghost use Rattle.nlri.specs.Family.{allowed, originatorSize};
 ghost use Rattle.nlri.specs.Reading.{addressEnd, addressField};
-ghost use Rattle.nlri.specs.Layouts.{readingOf};
-ghost use Rattle.nlri.specs.Inner.{partOf, flowOf, originatorLast, endsAt, groupSize, flowSizes, flowEnd, flowRoute, intraAs, interAs, unkeyedBody};
+ghost use Rattle.nlri.specs.Inner.{partOf, flowOf, lastFault, groupSize, flowSizes, flowEndFault, flowRoute, intraAs, interAs, unkeyedBody};
 use crate::address::AddressKind;
 use crate::address::RouteDistinguisher;
-use crate::layout::Layout;
 use crate::layout::Part;
-use crate::layout::Reading;
 use crate::route::RouteType;
+use octets::number::DONE;
 use octets::number::KEY;
 use octets::number::LENGTH;
 use octets::number::TYPE;
@@ -91,124 +90,93 @@ pub(crate) fn read_flow(family: usize, route_type: usize, s: &[u8]) -> Flow
     }
 }
 
-// What remains, given as the originator's size, is an originator.
-pub(crate) fn ends_in_originator(layout: Layout) -> Reading
-    ensures { λ r. ⌜ readingOf r ≡ originatorLast layout ⌝ }
+// DONE where what remains is an originator.
+pub(crate) fn originator_fault(rest: usize) -> u32
+    ensures { λ r. ⌜ r ≡ lastFault (originatorSize rest) ⌝ }
 {
-    if is_originator_size(layout.originator) {
-        return Reading::Nlri(layout);
+    if is_originator_size(rest) {
+        return DONE;
     }
-    Reading::Refused(LENGTH)
+    LENGTH
 }
 
 // Nothing may remain.
-fn ends(layout: Layout) -> Reading
-    ensures { λ r. ⌜ readingOf r ≡ endsAt layout ⌝ }
+fn rest_fault(rest: usize) -> u32
+    ensures { λ r. ⌜ r ≡ lastFault (eqb rest 0) ⌝ }
 {
-    if layout.originator == 0 {
-        return Reading::Nlri(layout);
+    if rest == 0 {
+        return DONE;
     }
-    Reading::Refused(LENGTH)
+    LENGTH
 }
 
 // What follows source and group: in type 3 the originator, else nothing.
-fn end_flow(route_type: usize, length: usize, source: usize, group: usize, rest: usize) -> Reading
-    requires { ⌜ (1 ≤ source) × (1 ≤ group) ⌝ }
-    ensures { λ r. ⌜ readingOf r ≡ flowEnd «route_type» length source group rest ⌝ }
+fn flow_end_fault(route_type: usize, rest: usize) -> u32
+    ensures { λ r. ⌜ r ≡ flowEndFault «route_type» rest ⌝ }
 {
-    let layout = Layout {
-        route_type,
-        length,
-        source: source - 1,
-        group: group - 1,
-        originator: rest,
-        key: 0,
-    };
     if route_type == RouteType::S_PMSI {
-        return ends_in_originator(layout);
+        return originator_fault(rest);
     }
-    ends(layout)
+    rest_fault(rest)
 }
 
 // A body of `fixed` octets, then source and group.
-pub(crate) fn read_flow_route(family: usize, route_type: usize, fixed: usize, s: &[u8]) -> Reading
-    ensures { λ r. ⌜ readingOf r ≡ flowRoute family «route_type» fixed (now (s .entry)) ⌝ }
+pub(crate) fn flow_route_fault(family: usize, route_type: usize, fixed: usize, s: &[u8]) -> u32
+    ensures { λ r. ⌜ r ≡ numberOf (flowRoute family «route_type» fixed (now (s .entry))) ⌝ }
 {
     if s.len() < fixed {
-        return Reading::Refused(LENGTH);
+        return LENGTH;
     }
     match read_flow(family, route_type, octets::parts::after(s, fixed)) {
-        Flow::Bad(number) => Reading::Refused(number),
+        Flow::Bad(number) => number,
         Flow::Sizes(source, group) => {
-            end_flow(
-                route_type,
-                s.len(),
-                source,
-                group,
-                s.len() - fixed - source - group,
-            )
+            flow_end_fault(route_type, s.len() - fixed - source - group)
         }
     }
 }
 
-pub(crate) fn read_intra_as(s: &[u8]) -> Reading
-    ensures { λ r. ⌜ readingOf r ≡ intraAs (now (s .entry)) ⌝ }
+pub(crate) fn intra_as_fault(s: &[u8]) -> u32
+    ensures { λ r. ⌜ r ≡ numberOf (intraAs (now (s .entry))) ⌝ }
 {
     if s.len() < RouteDistinguisher::OCTETS {
-        return Reading::Refused(LENGTH);
+        return LENGTH;
     }
-    let layout = Layout {
-        route_type: RouteType::INTRA_AS_I_PMSI,
-        length: s.len(),
-        source: 0,
-        group: 0,
-        originator: s.len() - RouteDistinguisher::OCTETS,
-        key: 0,
-    };
-    ends_in_originator(layout)
+    originator_fault(s.len() - RouteDistinguisher::OCTETS)
 }
 
-pub(crate) fn read_inter_as(s: &[u8]) -> Reading
-    ensures { λ r. ⌜ readingOf r ≡ interAs (now (s .entry)) ⌝ }
+pub(crate) fn inter_as_fault(s: &[u8]) -> u32
+    ensures { λ r. ⌜ r ≡ numberOf (interAs (now (s .entry))) ⌝ }
 {
     if s.len() < RouteDistinguisher::WITH_SOURCE_AS {
-        return Reading::Refused(LENGTH);
+        return LENGTH;
     }
-    let layout = Layout {
-        route_type: RouteType::INTER_AS_I_PMSI,
-        length: s.len(),
-        source: 0,
-        group: 0,
-        originator: s.len() - RouteDistinguisher::WITH_SOURCE_AS,
-        key: 0,
-    };
-    ends(layout)
+    rest_fault(s.len() - RouteDistinguisher::WITH_SOURCE_AS)
 }
 
 // A body that has no key, of the route type given.
-pub(crate) fn read_unkeyed_body(family: usize, route_type: usize, s: &[u8]) -> Reading
-    ensures { λ r. ⌜ readingOf r ≡ unkeyedBody family «route_type» (now (s .entry)) ⌝ }
+pub(crate) fn unkeyed_body_fault(family: usize, route_type: usize, s: &[u8]) -> u32
+    ensures { λ r. ⌜ r ≡ numberOf (unkeyedBody family «route_type» (now (s .entry))) ⌝ }
 {
     if route_type == RouteType::INTRA_AS_I_PMSI {
-        return read_intra_as(s);
+        return intra_as_fault(s);
     }
     if route_type == RouteType::INTER_AS_I_PMSI {
-        return read_inter_as(s);
+        return inter_as_fault(s);
     }
     if route_type == RouteType::S_PMSI {
-        return read_flow_route(family, route_type, RouteDistinguisher::OCTETS, s);
+        return flow_route_fault(family, route_type, RouteDistinguisher::OCTETS, s);
     }
     if route_type == RouteType::LEAF {
-        return Reading::Refused(KEY);
+        return KEY;
     }
     if route_type == RouteType::SOURCE_ACTIVE {
-        return read_flow_route(family, route_type, RouteDistinguisher::OCTETS, s);
+        return flow_route_fault(family, route_type, RouteDistinguisher::OCTETS, s);
     }
     if route_type == RouteType::SHARED_TREE_JOIN {
-        return read_flow_route(family, route_type, RouteDistinguisher::WITH_SOURCE_AS, s);
+        return flow_route_fault(family, route_type, RouteDistinguisher::WITH_SOURCE_AS, s);
     }
     if route_type == RouteType::SOURCE_TREE_JOIN {
-        return read_flow_route(family, route_type, RouteDistinguisher::WITH_SOURCE_AS, s);
+        return flow_route_fault(family, route_type, RouteDistinguisher::WITH_SOURCE_AS, s);
     }
-    Reading::Refused(TYPE)
+    TYPE
 }

@@ -67,7 +67,7 @@ fn distinguisher_in(route_type: usize, s: &[u8]) -> RouteDistinguisher
 }
 
 // Where the octets of a source begin, behind its length octet.
-fn source_start(route_type: usize) -> usize
+pub(crate) fn source_start(route_type: usize) -> usize
     ensures { λ r. ⌜ r ≡ sourceStart «route_type» ⌝ }
 {
     if has_source_as(route_type) {

@@ -1,18 +1,21 @@
-// Reading an NLRI by its layout: header, body, and the key of a Leaf.
+// Reading an NLRI: header, body, and the key of a Leaf are judged by a number alone, and an accepted NLRI is laid out by its octets.
 ghost use mathlib.Core.Path.{_≡_};
-ghost use Prim.Native.Nat.{_≤_};
-ghost use lib.ListN.{length};
+ghost use Prim.Native.Nat.{_+_, _≤_};
+ghost use lib.ListN.{length, getD};
+ghost use Rattle.octets.specs.Outcome.{numberOf};
 ghost use Rattle.nlri.specs.Reading.{keyField, isSPmsi};
 ghost use Rattle.nlri.specs.Layouts.{readingOf, layoutAt, layoutSingle};
-ghost use Rattle.nlri.specs.Inner.{partOf, headerOf, header, unkeyed, leaf, anyBody, endsWith, single, sPmsiUnder};
+ghost use Rattle.nlri.specs.Inner.{partOf, headerOf, header, unkeyedHeader, leaf, anyBody, layoutWith, flowLayout, leafLayout, layoutIn, FlowStands, Stands, endsWith, single, sPmsiUnder};
 use crate::address::RouteDistinguisher;
 use crate::body;
 use crate::body::Flow;
 use crate::family;
+use crate::fields;
 use crate::layout::Layout;
 use crate::layout::Part;
 use crate::layout::Reading;
 use crate::route::RouteType;
+use octets::number::DONE;
 use octets::number::KEY;
 use octets::number::LENGTH;
 use octets::number::SHORT;
@@ -21,37 +24,38 @@ use octets::number::TYPE;
 // Route Type and Length.
 pub(crate) const HEADER: usize = 2;
 
-// The header at the front: a route type and a Length with as many octets behind it, or SHORT.
+// A route type and a Length with as many octets behind it, or the refusal's number.
 pub(crate) enum Header {
     Typed(usize, usize),
-    Short(u32),
+    Unread(u32),
 }
 
 fn read_header(s: &[u8]) -> Header
     ensures { λ r. ⌜ headerOf r ≡ header (now (s .entry)) ⌝ }
 {
     if s.len() < HEADER {
-        return Header::Short(SHORT);
+        return Header::Unread(SHORT);
     }
     let length = s[1] as usize;
     if s.len() - HEADER < length {
-        return Header::Short(SHORT);
+        return Header::Unread(SHORT);
     }
     Header::Typed(s[0] as usize, length)
 }
 
-// The NLRI at the front of `s`, if its type has no key.
-fn read_unkeyed(family: usize, s: &[u8]) -> Reading
-    ensures { λ r. ⌜ readingOf r ≡ unkeyed family (now (s .entry)) ⌝ }
+// Type and Length of the NLRI at the front of `s`, if its type has no key.
+fn read_unkeyed(family: usize, s: &[u8]) -> Header
+    ensures { λ r. ⌜ headerOf r ≡ unkeyedHeader family (now (s .entry)) ⌝ }
 {
     match read_header(s) {
-        Header::Short(number) => Reading::Refused(number),
+        Header::Unread(number) => Header::Unread(number),
         Header::Typed(route_type, length) => {
-            body::read_unkeyed_body(
-                family,
-                route_type,
-                octets::parts::between(s, HEADER, length),
-            )
+            let body = octets::parts::between(s, HEADER, length);
+            let fault = body::unkeyed_body_fault(family, route_type, body);
+            if fault != DONE {
+                return Header::Unread(fault);
+            }
+            Header::Typed(route_type, length)
         }
     }
 }
@@ -60,76 +64,148 @@ fn read_unkeyed(family: usize, s: &[u8]) -> Reading
 pub(crate) fn read_key(family: usize, s: &[u8]) -> Part
     ensures { λ r. ⌜ partOf r ≡ keyField family (now (s .entry)) ⌝ }
 {
-    let Reading::Nlri(layout) = read_unkeyed(family, s) else {
+    let Header::Typed(route_type, length) = read_unkeyed(family, s) else {
         return Part::Fault(KEY);
     };
-    if RouteType::S_PMSI < layout.route_type {
+    if RouteType::S_PMSI < route_type {
         return Part::Fault(KEY);
     }
-    Part::Size(HEADER + layout.length)
+    Part::Size(HEADER + length)
 }
 
-fn read_leaf(family: usize, s: &[u8]) -> Reading
-    ensures { λ r. ⌜ readingOf r ≡ leaf family (now (s .entry)) ⌝ }
+fn leaf_fault(family: usize, s: &[u8]) -> u32
+    ensures { λ r. ⌜ r ≡ numberOf (leaf family (now (s .entry))) ⌝ }
 {
     match read_key(family, s) {
-        Part::Fault(number) => Reading::Refused(number),
-        Part::Size(key) => {
-            let layout = Layout {
-                route_type: RouteType::LEAF,
-                length: s.len(),
-                source: 0,
-                group: 0,
-                originator: s.len() - key,
-                key,
-            };
-            body::ends_in_originator(layout)
-        }
+        Part::Fault(number) => number,
+        Part::Size(key) => body::originator_fault(s.len() - key),
     }
 }
 
-// A body of any route type. It makes the tests of `read_unkeyed_body` itself, so that one call reads a body.
-fn read_body(family: usize, route_type: usize, s: &[u8]) -> Reading
-    ensures { λ r. ⌜ readingOf r ≡ anyBody family «route_type» (now (s .entry)) ⌝ }
+// A body of any route type. It makes the tests of `unkeyed_body_fault` itself, so that one call judges a body.
+fn body_fault(family: usize, route_type: usize, s: &[u8]) -> u32
+    ensures { λ r. ⌜ r ≡ numberOf (anyBody family «route_type» (now (s .entry))) ⌝ }
 {
     if route_type == RouteType::INTRA_AS_I_PMSI {
-        return body::read_intra_as(s);
+        return body::intra_as_fault(s);
     }
     if route_type == RouteType::INTER_AS_I_PMSI {
-        return body::read_inter_as(s);
+        return body::inter_as_fault(s);
     }
     if route_type == RouteType::S_PMSI {
-        return body::read_flow_route(family, route_type, RouteDistinguisher::OCTETS, s);
+        return body::flow_route_fault(family, route_type, RouteDistinguisher::OCTETS, s);
     }
     if route_type == RouteType::LEAF {
-        return read_leaf(family, s);
+        return leaf_fault(family, s);
     }
     if route_type == RouteType::SOURCE_ACTIVE {
-        return body::read_flow_route(family, route_type, RouteDistinguisher::OCTETS, s);
+        return body::flow_route_fault(family, route_type, RouteDistinguisher::OCTETS, s);
     }
     if route_type == RouteType::SHARED_TREE_JOIN {
-        return body::read_flow_route(family, route_type, RouteDistinguisher::WITH_SOURCE_AS, s);
+        return body::flow_route_fault(family, route_type, RouteDistinguisher::WITH_SOURCE_AS, s);
     }
     if route_type == RouteType::SOURCE_TREE_JOIN {
-        return body::read_flow_route(family, route_type, RouteDistinguisher::WITH_SOURCE_AS, s);
+        return body::flow_route_fault(family, route_type, RouteDistinguisher::WITH_SOURCE_AS, s);
     }
-    Reading::Refused(TYPE)
+    TYPE
 }
 
-// The NLRI at the front of `s`, under a family given by the bits of its addresses.
-pub(crate) fn read_front(family: usize, s: &[u8]) -> Reading
-    ensures { λ r. ⌜ readingOf r ≡ layoutAt family (now (s .entry)) ⌝ }
+// The number of the NLRI at the front of `s`, under a family given by the bits of its addresses.
+pub(crate) fn front_fault(family: usize, s: &[u8]) -> u32
+    ensures { λ r. ⌜ r ≡ numberOf (layoutAt family (now (s .entry))) ⌝ }
 {
     match read_header(s) {
-        Header::Short(number) => Reading::Refused(number),
+        Header::Unread(number) => number,
         Header::Typed(route_type, length) => {
-            read_body(
+            body_fault(
                 family,
                 route_type,
                 octets::parts::between(s, HEADER, length),
             )
         }
     }
+}
+
+// The layout of an NLRI whose source has its length octet at `at`.
+fn flow_layout(route_type: usize, at: usize, s: &[u8]) -> Layout
+    requires { ⌜ FlowStands at (now s) ⌝ }
+    ensures { λ r. ⌜ r ≡ flowLayout «route_type» at (now (s .entry)) ⌝ }
+{
+    let length = s[1] as usize;
+    let source = s[at] as usize / 8;
+    let group = s[at + 1 + source] as usize / 8;
+    Layout {
+        route_type,
+        length,
+        source,
+        group,
+        originator: length - at - source - group,
+        key: 0,
+    }
+}
+
+fn leaf_layout(s: &[u8]) -> Layout
+    requires { ⌜ (4 ≤ length (now s)) × (2 + getD (now s) 3 0 ≤ getD (now s) 1 0) ⌝ }
+    ensures { λ r. ⌜ r ≡ leafLayout (now (s .entry)) ⌝ }
+{
+    let length = s[1] as usize;
+    let key = HEADER + s[HEADER + 1] as usize;
+    Layout {
+        route_type: RouteType::LEAF,
+        length,
+        source: 0,
+        group: 0,
+        originator: length - key,
+        key,
+    }
+}
+
+// The layout of an NLRI without source, group and key.
+fn plain_layout(route_type: usize, length: usize, originator: usize) -> Layout
+    ensures { λ r. ⌜ r ≡ layoutWith «route_type» length 0 0 originator 0 ⌝ }
+{
+    Layout {
+        route_type,
+        length,
+        source: 0,
+        group: 0,
+        originator,
+        key: 0,
+    }
+}
+
+// The layout of the NLRI at the front of `s`, which `front_fault` has accepted.
+pub(crate) fn layout_in(s: &[u8]) -> Layout
+    requires { ⌜ Stands (now s) ⌝ }
+    ensures { λ r. ⌜ r ≡ layoutIn (now (s .entry)) ⌝ }
+{
+    let route_type = s[0] as usize;
+    let length = s[1] as usize;
+    if route_type == RouteType::INTRA_AS_I_PMSI {
+        return plain_layout(
+            RouteType::INTRA_AS_I_PMSI,
+            length,
+            length - RouteDistinguisher::OCTETS,
+        );
+    }
+    if route_type == RouteType::INTER_AS_I_PMSI {
+        return plain_layout(RouteType::INTER_AS_I_PMSI, length, 0);
+    }
+    if route_type == RouteType::LEAF {
+        return leaf_layout(s);
+    }
+    flow_layout(route_type, fields::source_start(route_type) - 1, s)
+}
+
+// The NLRI at the front of `s`.
+fn read_front(family: usize, s: &[u8]) -> Reading
+    ensures { λ r. ⌜ readingOf r ≡ layoutAt family (now (s .entry)) ⌝ }
+{
+    let fault = front_fault(family, s);
+    if fault != DONE {
+        return Reading::Refused(fault);
+    }
+    Reading::Nlri(layout_in(s))
 }
 
 // A single NLRI: octets after it are LENGTH.

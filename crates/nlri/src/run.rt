@@ -4,10 +4,10 @@ ghost use Rattle.nlri.specs.Walking.{steppedOf, stepUnder, stepFrom, wal
 use crate::family;
 use crate::layout::Layout;
 use crate::layout::Part;
-use crate::layout::Reading;
 use crate::read;
 use crate::read::HEADER;
 use octets::number::DONE;
+use octets::number::FAMILY;
 use octets::number::LONG;
 use octets::number::SHORT;
 
@@ -45,56 +45,72 @@ impl Cursor {
     }
 }
 
+// The number of the step from `at`, whether or not an NLRI stands there.
+fn step_fault(family: usize, run: &[u8], at: usize) -> u32
+    ensures { λ r. ⌜ r ≡ stepUnder family (now (run .entry)) at .number ⌝ }
+{
+    if RUN < run.len() {
+        return LONG;
+    }
+    if at == run.len() {
+        return DONE;
+    }
+    if run.len() < at {
+        return SHORT;
+    }
+    read::front_fault(family, octets::parts::after(run, at))
+}
+
 fn step_under(family: usize, run: &[u8], at: usize) -> Step
     ensures { λ r. ⌜ steppedOf r ≡ stepUnder family (now (run .entry)) at ⌝ }
 {
-    if RUN < run.len() {
-        return Step::Refused(LONG, Cursor { at });
+    let fault = step_fault(family, run, at);
+    if fault != DONE {
+        return Step::Refused(fault, Cursor { at });
     }
     if at == run.len() {
         return Step::End(Cursor { at });
     }
-    if run.len() < at {
-        return Step::Refused(SHORT, Cursor { at });
-    }
-    match read::read_front(family, octets::parts::after(run, at)) {
-        Reading::Refused(number) => Step::Refused(number, Cursor { at }),
-        Reading::Nlri(layout) => Step::Nlri(
-            layout,
-            Cursor {
-                at: at + (HEADER + layout.length),
-            },
-        ),
-    }
+    let layout = read::layout_in(octets::parts::after(run, at));
+    Step::Nlri(
+        layout,
+        Cursor {
+            at: at + (HEADER + layout.length),
+        },
+    )
 }
 
-// The count read up to the first stop, its offset and its number.
+// The count read up to the first stop, its offset and its number. Each turn goes by the step's number and the Length octet, so
+// that no layout is made.
 pub fn walk(afi: u16, run: &[u8]) -> Walked
     ensures { λ r. ⌜ r ≡ walkOf afi (now (run .entry)) ⌝ }
 {
-    let mut cursor = Cursor { at: 0 };
+    let Part::Size(family) = family::family_bits(afi) else {
+        return Walked {
+            number: FAMILY,
+            count: 0,
+            offset: 0,
+        };
+    };
+    let mut at: usize = 0;
     let mut count: u32 = 0;
     loop {
-        let at = cursor.at;
-        match cursor.step(afi, run) {
-            Step::Nlri(_, next) => {
-                cursor = next;
-                count += 1;
-            }
-            Step::End(_) => {
-                return Walked {
-                    number: DONE,
-                    count,
-                    offset: at as u32,
-                };
-            }
-            Step::Refused(number, _) => {
-                return Walked {
-                    number,
-                    count,
-                    offset: at as u32,
-                };
-            }
+        let number = step_fault(family, run, at);
+        if number != DONE {
+            return Walked {
+                number,
+                count,
+                offset: at as u32,
+            };
         }
+        if at == run.len() {
+            return Walked {
+                number,
+                count,
+                offset: at as u32,
+            };
+        }
+        at += HEADER + run[at + 1] as usize;
+        count += 1;
     }
 }

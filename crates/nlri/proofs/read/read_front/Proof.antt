@@ -1,48 +1,26 @@
 -- `nlri::read::read_front` meets its contract.
-use mathlib.Core.Path.{_∙_, ap}
-use Rattle.nlri.proofs.Sizes.{header-within}
-use Rattle.nlri.proofs.Via.{typed-given, reads}
-use Rattle.nlri.proofs.Fronts.{front-is}
-use Rattle.nlri.specs.Inner.{anyFront, anyBody}
+use mathlib.Core.Path.{sym, _∙_, ap}
+use Rattle.octets.specs.Outcome.{given}
 use Rattle.nlri.specs.Layouts.{readingOf}
+use Rattle.nlri.proofs.Numbered.{refused-of}
+use Rattle.nlri.proofs.Standing.{laid-in}
 use borrow.Author.Needs.{needs}
 use Rattle.nlri.proofs.read.read_front.Statement.{statement}
 use Rattle.nlri.proofs.read.read_front.Tie as tie
 
-read-header-requires : tie.Need-read-header-requires
-read-header-requires c κs = search needs
-
-enum-known-number : tie.Need-enum-known-number
-enum-known-number c = search needs
-
-enum-known-route-type : tie.Need-enum-known-route-type
-enum-known-route-type c = search needs
-
-between-requires : tie.Need-between-requires
-between-requires c κs = header-within _ _ _ (typed-given _ _ _ _ (c .before .before .before .read-header .ensures) (c .before .route-type .given .1))
-
-read-body-requires : tie.Need-read-body-requires
-read-body-requires c κs = search needs
+front-fault-requires : tie.Need-front-fault-requires
+front-fault-requires c κs = search needs
 
 returns : tie.Need-returns
-unfolding readingOf anyFront
-returns c = search (reads, front-is)
+unfolding readingOf
+returns c = sym (refused-of _ _ (c .before .front-fault .ensures) (c .if1 .taken))
+
+layout-in-requires : tie.Need-layout-in-requires
+layout-in-requires c κs = laid-in _ _ _ (c .before .front-fault .ensures) (c .if1 .left) .0
 
 returns-2 : tie.Need-returns-2
-unfolding readingOf anyFront
-returns-2 c =
-    let a = c .before .before .before .before .before .before .before .args in
-    let moved = c .read-body .ensures ∙ ap (anyBody (a .family) _) (c .before .between .ensures) in
-    search (reads, front-is)
+unfolding readingOf
+returns-2 c = ap given (c .layout-in .ensures) ∙ laid-in _ _ _ (c .before .before .front-fault .ensures) (c .before .if1 .left) .1
 
 pub read-front-spec : {M : Type 1} → statement M
-read-front-spec =
-    tie.close
-    (tie.spec
-    read-header-requires
-    enum-known-number
-    enum-known-route-type
-    between-requires
-    read-body-requires
-    returns
-    returns-2)
+read-front-spec = tie.close (tie.spec front-fault-requires returns layout-in-requires returns-2)

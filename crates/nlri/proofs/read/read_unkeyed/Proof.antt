@@ -1,9 +1,7 @@
 -- `nlri::read::read_unkeyed` meets its contract.
-use mathlib.Core.Path.{_∙_, ap}
 use Rattle.nlri.proofs.Sizes.{header-within}
-use Rattle.nlri.proofs.Via.{typed-given, reads}
-use Rattle.nlri.specs.Inner.{unkeyedBody, unkeyed}
-use Rattle.nlri.specs.Layouts.{readingOf}
+use Rattle.nlri.proofs.Via.{typed-given}
+use Rattle.nlri.proofs.Standing.{unkeyed-unread, unkeyed-refused, unkeyed-typed}
 use borrow.Author.Needs.{needs}
 use Rattle.nlri.proofs.read.read_unkeyed.Statement.{statement}
 use Rattle.nlri.proofs.read.read_unkeyed.Tie as tie
@@ -20,19 +18,17 @@ enum-known-route-type c = search needs
 between-requires : tie.Need-between-requires
 between-requires c κs = header-within _ _ _ (typed-given _ _ _ _ (c .before .before .before .read-header .ensures) (c .before .route-type .given .1))
 
-read-unkeyed-body-requires : tie.Need-read-unkeyed-body-requires
-read-unkeyed-body-requires c κs = search needs
+unkeyed-body-fault-requires : tie.Need-unkeyed-body-fault-requires
+unkeyed-body-fault-requires c κs = search needs
 
 returns : tie.Need-returns
-unfolding readingOf unkeyed
-returns c = search reads
+returns c = unkeyed-refused _ _ _ _ (typed-given _ _ _ _ (c .before .before .before .before .before .before .read-header .ensures) (c .before .before .before .before .route-type .given .1)) _ _ (c .before .before .between .ensures) (c .before .unkeyed-body-fault .ensures) (c .if1 .taken)
 
 returns-2 : tie.Need-returns-2
-unfolding readingOf unkeyed
-returns-2 c =
-    let a = c .before .before .before .before .before .before .before .args in
-    let moved = c .read-unkeyed-body .ensures ∙ ap (unkeyedBody (a .family) _) (c .before .between .ensures) in
-    search reads
+returns-2 c = unkeyed-unread _ _ _ _ (c .before .before .before .read-header .ensures) (c .before .number .given .1)
+
+returns-3 : tie.Need-returns-3
+returns-3 c = unkeyed-typed _ _ _ _ (typed-given _ _ _ _ (c .before .before .before .before .before .before .read-header .ensures) (c .before .before .before .before .route-type .given .1)) _ _ (c .before .before .between .ensures) (c .before .unkeyed-body-fault .ensures) (c .if1 .left)
 
 pub read-unkeyed-spec : {M : Type 1} → statement M
 read-unkeyed-spec =
@@ -42,6 +38,7 @@ read-unkeyed-spec =
     enum-known-number
     enum-known-route-type
     between-requires
-    read-unkeyed-body-requires
+    unkeyed-body-fault-requires
     returns
-    returns-2)
+    returns-2
+    returns-3)

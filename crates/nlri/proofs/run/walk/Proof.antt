@@ -1,53 +1,81 @@
 -- `nlri::run::walk` meets its contract.
-use Prim.Native.Nat.{_-_}
+use mathlib.Core.Path.{_≡_, _∙_, ap}
+use Prim.Native.Nat.{ℕ, _+_, _-_}
 use native.Mathlib.Omega.{arith}
+use denote.Ref.{now}
 use borrow.Author.Needs.{needs}
-use lib.ListN.{length}
-use Rattle.nlri.proofs.Steps.{Going, going-first, going-next, going-last, step-read, step-ended, step-refused, step-moves}
+use lib.ListN.{length, getD, drop}
+use Rattle.octets.specs.Numbers.{FAMILY}
+use Rattle.nlri.specs.Inner.{layoutIn}
+use Rattle.nlri.specs.Walking.{readTo, stoppedAt, stepFrom}
+use Rattle.nlri.proofs.Via.{size-given, fault-given}
+use Rattle.nlri.proofs.Steps.{Going, going-first, going-next, going-last, step-moves, step-stops, step-ends, step-reads, read-by-octet, step-under-is, step-without}
 use Rattle.nlri.proofs.run.walk.Statement.{statement}
 use Rattle.nlri.proofs.run.walk.Tie as tie
 
 abbrev Inv-loop : tie.InvT-loop
-Inv-loop afi run cursor₀ count₀ cursor count = Going afi run (cursor .at) count
+Inv-loop afi run family at₀ count₀ at count = Going afi run at count
 
 abbrev μ-loop : tie.MeasureT-loop
-μ-loop afi run cursor₀ count₀ cursor count = length run - cursor .at
+μ-loop afi run family at₀ count₀ at count = length run - at
+
+family-bits-requires : tie.Need-family-bits-requires Inv-loop μ-loop
+family-bits-requires c κs = search needs
+
+enum-known-family : tie.Need-enum-known-family Inv-loop μ-loop
+enum-known-family c = search needs
+
+enum-told : tie.Need-enum-told Inv-loop μ-loop
+enum-told c = search needs
+
+returns : tie.Need-returns Inv-loop μ-loop
+returns c = going-last _ _ _ _ (going-first _ _) FAMILY 0 (step-without _ _ _ 0 (fault-given _ _ _ (c .before .before .family-bits .ensures) (c .enum-told .given .1)))
 
 loop-holds : tie.Need-loop-holds Inv-loop μ-loop
 loop-holds c = going-first _ _
 
-step-requires : tie.Need-step-requires Inv-loop μ-loop
-step-requires c κs = search needs
+step-fault-requires : tie.Need-step-fault-requires Inv-loop μ-loop
+step-fault-requires c κs = search needs
 
-enum-known-next : tie.Need-enum-known-next Inv-loop μ-loop
-enum-known-next c = search needs
+cast-t9 : tie.Need-cast-t9 Inv-loop μ-loop
+cast-t9 c = let h = c .before .before .loop .inv .short in omega arith
+
+returns-2 : tie.Need-returns-2 Inv-loop μ-loop
+returns-2 c = going-last _ _ _ _ (c .before .before .loop .inv) _ _ (step-under-is _ _ _ _ _ (size-given _ _ _ (c .before .before .before .before .before .before .family-bits .ensures) (c .before .before .before .before .family .given .1)) (step-stops _ _ _ _ (c .before .step-fault .ensures) (c .if1 .taken)))
+
+cast-t11 : tie.Need-cast-t11 Inv-loop μ-loop
+cast-t11 c = let h = c .before .before .before .loop .inv .short in omega arith
+
+returns-3 : tie.Need-returns-3 Inv-loop μ-loop
+returns-3 c = going-last _ _ _ _ (c .before .before .before .loop .inv) _ _ (step-under-is _ _ _ _ _ (size-given _ _ _ (c .before .before .before .before .before .before .before .family-bits .ensures) (c .before .before .before .before .before .family .given .1)) (ap (λ (n : ℕ). stoppedAt n (c .before .before .before .loop .at)) (c .before .if1 .left) ∙ step-ends _ _ _ _ (c .before .before .step-fault .ensures) (c .before .if1 .left) (c .if2 .taken)))
+
+add-at : tie.Need-add-at Inv-loop μ-loop
+add-at c = let h = c .before .before .before .loop .inv .short in omega arith
+
+-- the step of a turn that goes on
+read : (c : tie.After-shared-slice-known2 Inv-loop μ-loop) → stepFrom (c .before .before .before .before .before .before .before .before .before .before .args .afi) (now (c .before .before .before .before .before .before .before .before .before .before .args .run)) (c .before .before .before .before .loop .at) ≡ readTo (layoutIn (drop (c .before .before .before .before .loop .at) (now (c .before .before .before .before .before .before .before .before .before .before .args .run)))) (c .before .before .before .before .loop .at + (2 + getD (now (c .before .before .before .before .before .before .before .before .before .before .args .run)) (c .before .before .before .before .loop .at + 1) 0))
+read c = step-under-is _ _ _ _ _ (size-given _ _ _ (c .before .before .before .before .before .before .before .before .family-bits .ensures) (c .before .before .before .before .before .before .family .given .1)) (read-by-octet _ _ _ (c .before .if2 .left) (step-reads _ _ _ _ (c .before .before .before .step-fault .ensures) (c .before .before .if1 .left) (c .before .if2 .left)))
+
+shared-slice-read-at : tie.Need-shared-slice-read-at Inv-loop μ-loop
+shared-slice-read-at c = let m = step-moves _ _ _ _ _ (read c) in omega arith
+
+cast-at : tie.Need-cast-at Inv-loop μ-loop
+cast-at c = omega (arith, c .shared-slice-known2 .given (c .before .before .before .before .loop .at + 1))
+
+add-at-2 : tie.Need-add-at-2 Inv-loop μ-loop
+add-at-2 c = omega (arith, c .shared-slice-known2 .given (c .before .before .before .before .loop .at + 1))
+
+add-at-3 : tie.Need-add-at-3 Inv-loop μ-loop
+add-at-3 c = let m = step-moves _ _ _ _ _ (read c) in omega arith
 
 add-count : tie.Need-add-count Inv-loop μ-loop
 add-count c = let h = c .before .before .before .before .loop .inv in omega (arith, h .counted, h .short)
 
 loop-less : tie.Need-loop-less Inv-loop μ-loop
-loop-less c = let m = step-moves _ _ _ _ _ (step-read _ _ _ _ (c .before .before .before .step .ensures) (c .before .next .given .1)) in omega arith
+loop-less c = let m = step-moves _ _ _ _ _ (read c) in omega arith
 
 loop-again : tie.Need-loop-again Inv-loop μ-loop
-loop-again c = going-next _ _ _ _ (c .before .before .before .before .loop .inv) _ _ (step-read _ _ _ _ (c .before .before .before .step .ensures) (c .before .next .given .1))
-
-enum-told : tie.Need-enum-told Inv-loop μ-loop
-enum-told c = search needs
-
-cast-t9 : tie.Need-cast-t9 Inv-loop μ-loop
-cast-t9 c = let h = c .before .before .before .loop .inv .short in omega arith
-
-returns : tie.Need-returns Inv-loop μ-loop
-returns c = going-last _ _ _ _ (c .before .before .before .loop .inv) _ _ (step-ended _ _ _ (c .before .before .step .ensures) (c .enum-told .given .1))
-
-enum-known-number : tie.Need-enum-known-number Inv-loop μ-loop
-enum-known-number c = search needs
-
-cast-t10 : tie.Need-cast-t10 Inv-loop μ-loop
-cast-t10 c = let h = c .before .before .before .before .loop .inv .short in omega arith
-
-returns-2 : tie.Need-returns-2 Inv-loop μ-loop
-returns-2 c = going-last _ _ _ _ (c .before .before .before .before .loop .inv) _ _ (step-refused _ _ _ _ (c .before .before .before .step .ensures) (c .before .number .given .1))
+loop-again c = going-next _ _ _ _ (c .before .before .before .before .loop .inv) _ _ (read c)
 
 pub walk-spec : {M : Type 1} → statement M
 walk-spec =
@@ -55,15 +83,21 @@ walk-spec =
     (tie.spec
     Inv-loop
     μ-loop
+    family-bits-requires
+    enum-known-family
+    enum-told
+    returns
     loop-holds
-    step-requires
-    enum-known-next
+    step-fault-requires
+    cast-t9
+    returns-2
+    cast-t11
+    returns-3
+    add-at
+    shared-slice-read-at
+    cast-at
+    add-at-2
+    add-at-3
     add-count
     loop-less
-    loop-again
-    enum-told
-    cast-t9
-    returns
-    enum-known-number
-    cast-t10
-    returns-2)
+    loop-again)

@@ -1,0 +1,258 @@
+-- An accepted NLRI is laid out as its octets say.
+use mathlib.Core.Path.{_≡_, refl, sym, _∙_, ap, ap₂}
+use mathlib.Core.Bool.{Bool, true, false}
+use mathlib.Core.List.{List}
+use Prim.Native.Nat.{ℕ, _+_, _-_, _/_, _≤_, _<_}
+use native.Mathlib.Nat.{add-zero}
+use native.Mathlib.Omega.{arith}
+use borrow.Author.Tests.{ltb-false, eqb-true, ne-eqb}
+use lib.ListN.{length, getD, drop, length-drop}
+use lib.Dec.{ltb}
+use lib.Seq.{getD-take, getD-drop, drop-drop}
+use Rattle.octets.specs.Choice.{pick, either}
+use Rattle.octets.specs.Numbers.{KEY}
+use Rattle.octets.specs.Outcome.{Outcome, given, refused, onOutcome, numberOf}
+use Rattle.octets.specs.Octets.{part}
+use Rattle.octets.proofs.Lists.{part-length}
+use Rattle.octets.proofs.Tests.{picks, skips, goes, stops, on-given, on-refused}
+use Rattle.octets.proofs.Outcomes.{on-mapped}
+use Rattle.octets.proofs.Inversions.{never, unless, only, passed, given-same, on-given-given}
+use Rattle.nlri.specs.declared.layout.Layout.{Layout}
+use Rattle.nlri.specs.declared.read.Header.{Header}
+use Rattle.nlri.specs.declared.read.Header.the-variants.{Typed, Unread}
+use Rattle.nlri.specs.Reading.{addressEnd, addressField, noKey, keyField}
+use Rattle.nlri.specs.Layouts.{layoutOf, layoutAt}
+use Rattle.nlri.specs.Inner.{headerOf, layoutWith, originatorLast, endsAt, groupSize, flowSizes, flowEnd, flowRoute, intraAs, interAs, leaf, bodyWith, unkeyedBody, anyBody, header, unkeyed, unkeyedHeader, anyFront, keySize, withSourceAs, sourceStart, sizeAt, flowLayout, leafLayout, layoutIn, FlowStands, Stands}
+use Rattle.nlri.proofs.Sizes.{address-within}
+use Rattle.nlri.proofs.Fronts.{front-is, key-is, laid-within, key-within, unkeyed-is, unkeyed-within}
+use Rattle.nlri.proofs.Via.{typed-given}
+use Rattle.nlri.proofs.Numbered.{refused-of, unkeyed-done, front-done}
+use Rattle.nlri.proofs.Shapes.{choose}
+
+-- an address takes its length octet and as many bits as that says
+address-is : (family type : ℕ) (s : List ℕ) (n : ℕ) → addressField family type s ≡ given n → n ≡ 1 + getD s 0 0 / 8
+unfolding addressField addressEnd
+address-is family type s n e = sym (given-same (unless _ _ _ _ (only _ _ _ _ (unless _ _ _ _ e .1) .1) .1))
+
+-- a key takes its header and as many octets as its Length says
+key-is-long : (family : ℕ) (s : List ℕ) (k : ℕ) → keyField family s ≡ given k → k ≡ 2 + getD s 1 0
+unfolding keyField
+key-is-long family s k e =
+    let w = on-given-given _ _ _ _ e in
+    let q = given-same (unless _ _ _ _ (w .second) .1) in
+    let h = laid-within noKey family s (w .value) (w .first) in
+    omega (arith, h .3)
+
+originator-kept : (l m : Layout) → originatorLast l ≡ given m → l ≡ m
+unfolding originatorLast
+originator-kept l m e = given-same (only _ _ _ _ e .1)
+
+ends-kept : (l m : Layout) → endsAt l ≡ given m → l ≡ m
+unfolding endsAt
+ends-kept l m e = given-same (only _ _ _ _ e .1)
+
+last-is : (b : Bool) (l m : Layout) → pick b (originatorLast l) (endsAt l) ≡ given m → l ≡ m
+unfolding pick
+last-is true l m e = originator-kept l m e
+last-is false l m e = ends-kept l m e
+
+rest-is : (n f a b r : ℕ) → f + a + b + r ≡ n → n - f - a - b ≡ r
+rest-is n f a b r e = omega arith
+
+layout-same : (type n n′ a a′ b b′ o o′ : ℕ) → n ≡ n′ → a ≡ a′ → b ≡ b′ → o ≡ o′ → layoutWith type n a b o 0 ≡ layoutWith type n′ a′ b′ o′ 0
+layout-same type n n′ a a′ b b′ o o′ pn pa pb po = λ i. layoutWith type (pn i) (pa i) (pb i) (po i) 0
+
+-- type and Length stand in the first two octets
+header-octets : (s : List ℕ) (type size : ℕ) → header s ≡ given (type, size) → (getD s 0 0 ≡ type) × (getD s 1 0 ≡ size)
+unfolding header
+header-octets s type size e =
+    let same = given-same (unless _ _ _ _ (unless _ _ _ _ e .1) .1) in
+    (ap (λ (z : ℕ × ℕ). z .0) same, ap (λ (z : ℕ × ℕ). z .1) same)
+
+unkeyed-octets : (family : ℕ) (s : List ℕ) (l : Layout) → unkeyed family s ≡ given l → (l .«route_type» ≡ getD s 0 0) × (l .length ≡ getD s 1 0)
+unfolding layoutOf
+unkeyed-octets family s l e =
+    let w = passed _ _ _ (unkeyed-is family s ∙ e) in
+    let same = given-same (w .second) in
+    let h = laid-within noKey family s (w .value) (w .first) in
+    (ap (λ (x : Layout). x .«route_type») (sym same) ∙ h .2, ap (λ (x : Layout). x .length) (sym same) ∙ h .3)
+
+module _ (s : List ℕ) (within : 2 + getD s 1 0 ≤ length s) where
+  body-length : length (part s 2 (getD s 1 0)) ≡ getD s 1 0
+  body-length = part-length s 2 (getD s 1 0) within
+
+  octet : (i : ℕ) → i < getD s 1 0 → getD (part s 2 (getD s 1 0)) i 0 ≡ getD s (2 + i) 0
+  unfolding part
+  octet i h = getD-take (getD s 1 0) (drop 2 s) i 0 h ∙ getD-drop 2 s i 0
+
+  first-octet : (k : ℕ) → k < getD s 1 0 → getD (drop k (part s 2 (getD s 1 0))) 0 0 ≡ getD s (2 + k) 0
+  first-octet k h = getD-drop k (part s 2 (getD s 1 0)) 0 0 ∙ ap (λ (i : ℕ). getD (part s 2 (getD s 1 0)) i 0) (add-zero k) ∙ octet k h
+
+  intra-laid : (l : Layout) → intraAs (part s 2 (getD s 1 0)) ≡ given l → (8 ≤ getD s 1 0) × (l ≡ layoutWith 1 (getD s 1 0) 0 0 (getD s 1 0 - 8) 0)
+  unfolding intraAs originatorLast
+  intra-laid l e =
+      let p = unless _ _ _ _ e in
+      (omega (arith, ltb-false, body-length), sym (given-same (only _ _ _ _ (p .1) .1)) ∙ ap (λ (m : ℕ). layoutWith 1 m 0 0 (m - 8) 0) body-length)
+
+  inter-laid : (l : Layout) → interAs (part s 2 (getD s 1 0)) ≡ given l → l ≡ layoutWith 2 (getD s 1 0) 0 0 0 0
+  unfolding interAs endsAt layoutWith
+  inter-laid l e =
+      let p = only _ _ _ _ (unless _ _ _ _ e .1) in
+      sym (given-same (p .1)) ∙ ap₂ (λ (m o : ℕ). layoutWith 2 m 0 0 o 0) body-length (eqb-true _ _ (p .0))
+
+  leaf-laid : (family : ℕ) (l : Layout) → leaf family (part s 2 (getD s 1 0)) ≡ given l → ((4 ≤ length s) × (2 + getD s 3 0 ≤ getD s 1 0)) × (l ≡ leafLayout s)
+  unfolding leaf originatorLast leafLayout
+  leaf-laid family l e =
+      let p = passed _ _ _ e in
+      let h = key-within family _ (p .value) (p .first) in
+      let n : length (part s 2 (getD s 1 0)) ≡ getD s 1 0 = body-length in
+      let k : p .value ≡ 2 + getD s 3 0 = key-is-long family _ (p .value) (p .first) ∙ ap (λ (x : ℕ). 2 + x) (octet 1 (omega arith)) in
+      ((omega arith, omega arith), sym (given-same (only _ _ _ _ (p .second) .1)) ∙ ap₂ (λ (m x : ℕ). layoutWith 4 m 0 0 (m - x) x) n k)
+
+  module _ (family type fixed at : ℕ) (start : at ≡ 2 + fixed) where
+    flow-laid : (l : Layout) → flowRoute family type fixed (part s 2 (getD s 1 0)) ≡ given l → FlowStands at s × (l ≡ flowLayout type at s)
+    unfolding flowRoute flowSizes groupSize flowEnd flowLayout sizeAt
+    flow-laid l e =
+        let p = passed _ _ _ (unless _ _ _ _ e .1) in
+        let q = passed _ _ _ (p .first) in
+        let r = passed _ _ _ (q .second) in
+        let a : ℕ = q .value in
+        let b : ℕ = r .value in
+        let za : a ≡ p .value .0 = ap (λ (z : ℕ × ℕ). z .0) (given-same (r .second)) in
+        let zb : b ≡ p .value .1 = ap (λ (z : ℕ × ℕ). z .1) (given-same (r .second)) in
+        let ha = address-within family type _ a (q .first) in
+        let hb = address-within family type _ b (r .first) in
+        let la : length (drop fixed (part s 2 (getD s 1 0))) ≡ getD s 1 0 - fixed = length-drop fixed _ ∙ ap (λ (k : ℕ). k - fixed) body-length in
+        let lb : length (drop a (drop fixed (part s 2 (getD s 1 0)))) ≡ getD s 1 0 - fixed - a = length-drop a _ ∙ ap (λ (k : ℕ). k - a) la in
+        let fits : fixed + a + b ≤ getD s 1 0 = omega (arith, ha .1, hb .0, hb .1) in
+        let sa : 1 + getD s at 0 / 8 ≡ a =
+        ap (λ (k : ℕ). 1 + getD s k 0 / 8) start ∙ ap (λ (v : ℕ). 1 + v / 8) (sym (first-octet fixed (omega (arith, ha .0, hb .0)))) ∙ sym (address-is family type _ a (q .first)) in
+        let next : at + 1 + getD s at 0 / 8 ≡ 2 + (fixed + a) = omega arith in
+        let sb : 1 + getD s (at + 1 + getD s at 0 / 8) 0 / 8 ≡ b =
+        ap (λ (k : ℕ). 1 + getD s k 0 / 8) next
+        ∙ ap (λ (v : ℕ). 1 + v / 8) (sym (ap (λ (y : List ℕ). getD y 0 0) (drop-drop a fixed (part s 2 (getD s 1 0))) ∙ first-octet (fixed + a) (omega (arith, hb .0))))
+        ∙ sym (address-is family type _ b (r .first)) in
+        let left : ℕ = getD s 1 0 - (fixed + a + b) in
+        let whole : fixed + a + b + left ≡ getD s 1 0 = omega arith in (
+          record { group = omega (arith, hb .0); sizes = omega arith },
+          sym (last-is _ _ _ (p .second))
+              ∙ layout-same type _ _ _ _ _ _ _ _ body-length (omega arith) (omega arith)
+              (ap (λ (k : ℕ). k - fixed - p .value .0 - p .value .1) body-length ∙ rest-is (getD s 1 0) fixed (p .value .0) (p .value .1) left (omega arith)
+              ∙ sym (rest-is (getD s 1 0) at (getD s at 0 / 8) (getD s (at + 1 + getD s at 0 / 8) 0 / 8) left (omega arith))),
+        )
+
+  module _ (family : ℕ) (l : Layout) (enough : 2 ≤ length s) where
+    as-flow : (fixed : ℕ) → (getD s 0 0 ≡ 1 → ⊥) → (getD s 0 0 ≡ 2 → ⊥) → (getD s 0 0 ≡ 4 → ⊥) → sourceStart (getD s 0 0) - 1 ≡ 2 + fixed
+        → flowRoute family (getD s 0 0) fixed (part s 2 (getD s 1 0)) ≡ given l → Stands s × (l ≡ layoutIn s)
+    unfolding layoutIn
+    as-flow fixed one two four start r =
+        let c = flow-laid family (getD s 0 0) fixed (sourceStart (getD s 0 0) - 1) start l r in (
+          record { header = enough; intraAs = λ q. absurd (one q); leaf = λ q. absurd (four q); flow = λ _ _ _. c .0 },
+          skips _ _ _ _ (ne-eqb (getD s 0 0) 1 one) (skips _ _ _ _ (ne-eqb (getD s 0 0) 2 two) (skips _ _ _ _ (ne-eqb (getD s 0 0) 4 four) (c .1))),
+        )
+
+    other : {k : ℕ} (a b : ℕ) → (a ≡ b → ⊥) → k ≡ a → k ≡ b → ⊥
+    other a b h p q = h (sym p ∙ q)
+
+    laid-out : anyBody family (getD s 0 0) (part s 2 (getD s 1 0)) ≡ given l → Stands s × (l ≡ layoutIn s)
+    unfolding anyBody bodyWith layoutIn sourceStart withSourceAs either pick
+    laid-out e =
+        choose _ _ _ l e
+        (λ t r. let one : getD s 0 0 ≡ 1 = eqb-true _ _ t in let c = intra-laid l r in (
+          record { header = enough; intraAs = λ _. c .0; leaf = λ q. absurd (other 1 4 (λ z. omega arith) one q); flow = λ n _ _. absurd (n one) },
+          picks _ _ _ _ t (c .1),
+        ))
+        (λ n₁ e₂. choose _ _ _ l e₂
+        (λ t r. let two : getD s 0 0 ≡ 2 = eqb-true _ _ t in (
+          record { header = enough; intraAs = λ q. absurd (other 2 1 (λ z. omega arith) two q); leaf = λ q. absurd (other 2 4 (λ z. omega arith) two q); flow = λ _ n _. absurd (n two) },
+          skips _ _ _ _ n₁ (picks _ _ _ _ t (inter-laid l r)),
+        ))
+        (λ n₂ e₃. choose _ _ _ l e₃
+        (λ t r. let three : getD s 0 0 ≡ 3 = eqb-true _ _ t in
+        as-flow 8 (other 3 1 (λ z. omega arith) three) (other 3 2 (λ z. omega arith) three) (other 3 4 (λ z. omega arith) three) (ap (λ (k : ℕ). sourceStart k - 1) three) r)
+        (λ _ e₄. choose _ _ _ l e₄
+        (λ t r. let four : getD s 0 0 ≡ 4 = eqb-true _ _ t in let c = leaf-laid family l r in (
+          record { header = enough; intraAs = λ q. absurd (other 4 1 (λ z. omega arith) four q); leaf = λ _. c .0; flow = λ _ _ n. absurd (n four) },
+          skips _ _ _ _ n₁ (skips _ _ _ _ n₂ (picks _ _ _ _ t (c .1))),
+        ))
+        (λ _ e₅. choose _ _ _ l e₅
+        (λ t r. let five : getD s 0 0 ≡ 5 = eqb-true _ _ t in
+        as-flow 8 (other 5 1 (λ z. omega arith) five) (other 5 2 (λ z. omega arith) five) (other 5 4 (λ z. omega arith) five) (ap (λ (k : ℕ). sourceStart k - 1) five) r)
+        (λ _ e₆. choose _ _ _ l e₆
+        (λ t r. let six : getD s 0 0 ≡ 6 = eqb-true _ _ t in
+        as-flow 12 (other 6 1 (λ z. omega arith) six) (other 6 2 (λ z. omega arith) six) (other 6 4 (λ z. omega arith) six) (ap (λ (k : ℕ). sourceStart k - 1) six) r)
+        (λ _ e₇. choose _ _ _ l e₇
+        (λ t r. let seven : getD s 0 0 ≡ 7 = eqb-true _ _ t in
+        as-flow 12 (other 7 1 (λ z. omega arith) seven) (other 7 2 (λ z. omega arith) seven) (other 7 4 (λ z. omega arith) seven) (ap (λ (k : ℕ). sourceStart k - 1) seven) r)
+        (λ _ e₈. absurd (never e₈ refl))))))))
+
+pub stands : (family : ℕ) (s : List ℕ) (l : Layout) → layoutAt family s ≡ given l → Stands s × (l ≡ layoutIn s)
+unfolding anyFront header
+stands family s l e =
+    let p = passed _ _ _ (front-is (anyFront family s) family s refl ∙ e) in
+    let first = unless _ _ _ _ (p .first) in
+    let second = unless _ _ _ _ (first .1) in
+    let enough : 2 ≤ length s = ltb-false _ _ (first .0) in
+    let long : getD s 1 0 ≤ length s - 2 = ltb-false _ _ (second .0) in
+    laid-out s (omega arith) family l enough (ap (λ (h : ℕ × ℕ). anyBody family (h .0) (part s 2 (h .1))) (given-same (second .1)) ∙ p .second)
+
+-- by the number
+pub laid-in : (family : ℕ) (s : List ℕ) (n : ℕ) → n ≡ numberOf (layoutAt family s) → n ≡ 0 → Stands s × (given (layoutIn s) ≡ layoutAt family s)
+laid-in family s n p q =
+    let r = front-done family s (sym p ∙ q) in
+    let c = stands family s (r .0) (r .1) in
+    (c .0, ap given (sym (c .1)) ∙ sym (r .1))
+
+least : (b : Bool) → 1 ≤ pick b 15 11
+unfolding pick
+least true = omega arith
+least false = omega arith
+
+pub start-least : (type : ℕ) → 1 ≤ sourceStart type
+unfolding sourceStart
+start-least type = least (withSourceAs type)
+
+-- type and Length of an NLRI without a key, by its header and its body's number
+module _ (family : ℕ) (s : List ℕ) where
+  pub unkeyed-unread : (r : Header) (n : ℕ) → headerOf r ≡ header s → r ≡ Unread n → headerOf (Unread n) ≡ unkeyedHeader family s
+  unfolding unkeyedHeader unkeyed headerOf
+  unkeyed-unread r n p q = stops _ n _ (sym (stops (header s) n _ (sym p ∙ ap headerOf q)))
+
+  module _ (type size : ℕ) (h : header s ≡ given (type, size)) (body : List ℕ) (fault : ℕ) (b : body ≡ part s 2 size) (f : fault ≡ numberOf (unkeyedBody family type body)) where
+    body-number : fault ≡ numberOf (unkeyedBody family type (part s 2 size))
+    body-number = f ∙ ap (λ (x : List ℕ). numberOf (unkeyedBody family type x)) b
+
+    unkeyed-by : unkeyed family s ≡ unkeyedBody family type (part s 2 size)
+    unfolding unkeyed
+    unkeyed-by = sym (goes _ _ _ _ h refl)
+
+    pub unkeyed-refused : (fault ≡ 0 → ⊥) → headerOf (Unread fault) ≡ unkeyedHeader family s
+    unfolding unkeyedHeader headerOf
+    unkeyed-refused no-fault = stops _ fault _ (unkeyed-by ∙ refused-of _ fault body-number no-fault)
+
+    pub unkeyed-typed : fault ≡ 0 → headerOf (Typed type size) ≡ unkeyedHeader family s
+    unfolding unkeyedHeader headerOf
+    unkeyed-typed q =
+        let r = unkeyed-done family type (part s 2 size) (sym body-number ∙ q) in
+        let o = unkeyed-octets family s (r .0) (unkeyed-by ∙ r .1) in
+        let t = header-octets s type size h in
+        goes _ _ (r .0) _ (unkeyed-by ∙ r .1) (λ i. given ((sym (t .0) ∙ sym (o .0)) i, (sym (t .1) ∙ sym (o .1)) i))
+
+  pub unkeyed-header-within : (type size : ℕ) → unkeyedHeader family s ≡ given (type, size) → 2 + size ≤ length s
+  unfolding unkeyedHeader
+  unkeyed-header-within type size e =
+      let p = passed _ _ _ e in
+      let n : p .value .length ≡ size = ap (λ (z : ℕ × ℕ). z .1) (given-same (p .second)) in
+      let h = unkeyed-within family s (p .value) (p .first) in
+      omega arith
+
+pub key-by : (o : Outcome ℕ) (family : ℕ) (s : List ℕ) → o ≡ onOutcome (λ fault. refused KEY) (λ h. pick (ltb 3 (h .0)) (refused KEY) (given (2 + h .1))) (unkeyedHeader family s) → o ≡ keyField family s
+unfolding unkeyedHeader keySize
+key-by o family s e = key-is o family s (e ∙ on-mapped _ _ _ _)
+
+pub on-typed : {B : Type 0} (t : B) (r : Header) (o : Outcome (ℕ × ℕ)) (a b : ℕ) (bad : ℕ → B) (good : ℕ × ℕ → B) → headerOf r ≡ o → r ≡ Typed a b → t ≡ good (a, b) → t ≡ onOutcome bad good o
+on-typed t r o a b bad good p q h = on-given t o (a, b) bad good (typed-given r o a b p q) h
+
+pub on-unread : {B : Type 0} (t : B) (r : Header) (o : Outcome (ℕ × ℕ)) (n : ℕ) (bad : ℕ → B) (good : ℕ × ℕ → B) → headerOf r ≡ o → r ≡ Unread n → t ≡ bad n → t ≡ onOutcome bad good o
+unfolding headerOf
+on-unread t r o n bad good p q h = on-refused t o n bad good (sym p ∙ ap headerOf q) h

@@ -1,0 +1,83 @@
+-- `nlri::read::layout_in` meets its contract.
+use mathlib.Core.Path.{sym, _∙_, ap, subst}
+use Prim.Native.Nat.{ℕ, _-_}
+use native.Mathlib.Omega.{arith}
+use denote.Ref.{now}
+use lib.ListN.{getD}
+use Rattle.octets.proofs.Tests.{tests}
+use Rattle.nlri.specs.Inner.{flowLayout, layoutIn, FlowStands}
+use Rattle.nlri.proofs.Standing.{start-least}
+use borrow.Author.Needs.{needs}
+use Rattle.nlri.proofs.read.layout_in.Statement.{statement}
+use Rattle.nlri.proofs.read.layout_in.Tie as tie
+
+shared-slice-read-route-type : tie.Need-shared-slice-read-route-type
+shared-slice-read-route-type c = search needs
+
+cast-route-type : tie.Need-cast-route-type
+cast-route-type c = omega (arith, c .shared-slice-known2 .given 0)
+
+shared-slice-read-length : tie.Need-shared-slice-read-length
+shared-slice-read-length c = search needs
+
+cast-length : tie.Need-cast-length
+cast-length c = omega (arith, c .shared-slice-known3 .given 1)
+
+sub-plain-layout : tie.Need-sub-plain-layout
+sub-plain-layout c = omega (arith, c .before .before .before .before .pre .intraAs (c .if1 .taken))
+
+plain-layout-requires : tie.Need-plain-layout-requires
+plain-layout-requires c κs = search needs
+
+returns : tie.Need-returns
+unfolding layoutIn
+returns c = search tests
+
+plain-layout-requires-2 : tie.Need-plain-layout-requires-2
+plain-layout-requires-2 c κs = search needs
+
+returns-2 : tie.Need-returns-2
+unfolding layoutIn
+returns-2 c = search tests
+
+leaf-layout-requires : tie.Need-leaf-layout-requires
+leaf-layout-requires c κs = c .before .before .before .before .before .before .pre .leaf (c .if3 .taken)
+
+returns-3 : tie.Need-returns-3
+unfolding layoutIn
+returns-3 c = search tests
+
+source-start-requires : tie.Need-source-start-requires
+source-start-requires c κs = search needs
+
+sub-flow-layout : tie.Need-sub-flow-layout
+sub-flow-layout c = omega (arith, c .source-start .ensures, start-least (getD (now (c .before .before .before .before .before .before .before .args .s)) 0 0))
+
+flow-layout-requires : tie.Need-flow-layout-requires
+flow-layout-requires c κs = subst (λ (k : ℕ). FlowStands (k - 1) (now (c .before .before .before .before .before .before .before .args .s))) (sym (c .source-start .ensures)) (c .before .before .before .before .before .before .before .pre .flow (c .before .before .before .if1 .left) (c .before .before .if2 .left) (c .before .if3 .left))
+
+returns-4 : tie.Need-returns-4
+unfolding layoutIn
+returns-4 c =
+    let moved = c .flow-layout .ensures ∙ ap (λ (k : ℕ). flowLayout (getD (now (c .before .before .before .before .before .before .before .before .args .s)) 0 0) (k - 1) (now (c .before .before .before .before .before .before .before .before .args .s))) (c .before .source-start .ensures) in
+    search tests
+
+pub layout-in-spec : {M : Type 1} → statement M
+layout-in-spec =
+    tie.close
+    (tie.spec
+    shared-slice-read-route-type
+    cast-route-type
+    shared-slice-read-length
+    cast-length
+    sub-plain-layout
+    plain-layout-requires
+    returns
+    plain-layout-requires-2
+    returns-2
+    leaf-layout-requires
+    returns-3
+    source-start-requires
+    sub-flow-layout
+    flow-layout-requires
+    returns-4)

@@ -1,0 +1,44 @@
+-- `nlri::read::leaf_fault` meets its contract.
+use Rattle.octets.specs.Outcome.{numberOf}
+use Rattle.nlri.specs.Inner.{layoutWith, leaf}
+use Rattle.nlri.proofs.Fronts.{key-within}
+use Rattle.nlri.proofs.Via.{size-given}
+use Rattle.nlri.proofs.Numbered.{numbers}
+use borrow.Author.Needs.{needs}
+use Rattle.nlri.proofs.read.leaf_fault.Statement.{statement}
+use Rattle.nlri.proofs.read.leaf_fault.Tie as tie
+
+read-key-requires : tie.Need-read-key-requires
+read-key-requires c κs = search needs
+
+enum-known-number : tie.Need-enum-known-number
+enum-known-number c = search needs
+
+enum-known-key : tie.Need-enum-known-key
+enum-known-key c = search needs
+
+sub-originator-fault : tie.Need-sub-originator-fault
+sub-originator-fault c = key-within _ _ _ (size-given _ _ _ (c .before .before .before .read-key .ensures) (c .before .key .given .1)) .1
+
+originator-fault-requires : tie.Need-originator-fault-requires
+originator-fault-requires c κs = search needs
+
+returns : tie.Need-returns
+unfolding numberOf leaf layoutWith
+returns c = search numbers
+
+returns-2 : tie.Need-returns-2
+unfolding numberOf leaf layoutWith
+returns-2 c = search numbers
+
+pub leaf-fault-spec : {M : Type 1} → statement M
+leaf-fault-spec =
+    tie.close
+    (tie.spec
+    read-key-requires
+    enum-known-number
+    enum-known-key
+    sub-originator-fault
+    originator-fault-requires
+    returns
+    returns-2)
