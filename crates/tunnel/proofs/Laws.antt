@@ -468,7 +468,7 @@ module _ (f : Fields) (capacity : ℕ) where
     pub write-done : n ≡ DONE → writeAttribute f capacity ≡ given (encodeAttribute f)
     write-done z = write-by-number ∙ when-done _ (encodeAttribute f) (sym e ∙ z)
 
-    pub write-room : n ≡ DONE → 5 + length (f .identifier) ≤ capacity
+    pub write-room : n ≡ DONE → (length (f .identifier) ≤ 59) × (5 + length (f .identifier) ≤ capacity)
     unfolding writeFault
     write-room z =
         let t = f .tunnelType in
@@ -476,7 +476,7 @@ module _ (f : Fields) (capacity : ℕ) where
         let p = pick-done (ltb 59 (length i)) LONG _ (λ q. omega arith) (sym e ∙ z) in
         let q = pick-both (faultOf t i) _ (p .1) in
         let r = pick-done (ltb 16777215 (f .labelField)) LABEL _ (λ s. omega arith) q in
-        ltb-false capacity (5 + length i) (pick-done (ltb capacity (5 + length i)) SPACE DONE (λ s. omega arith) (r .1) .0)
+        (ltb-false 59 (length i) (p .0), ltb-false capacity (5 + length i) (pick-done (ltb capacity (5 + length i)) SPACE DONE (λ s. omega arith) (r .1) .0))
 
 pub refusal-wrote : (o : Outcome (List ℕ)) (n : ℕ) (d : List ℕ) → o ≡ refused n → (writtenAs n 0 ≡ writtenOf o) × (d ≡ outputOf o d)
 unfolding writtenOf outputOf onOutcome numberOf

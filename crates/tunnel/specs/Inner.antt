@@ -1,5 +1,5 @@
 -- What inner functions answer; laws tie it to document 01's definitions.
-use Prim.Native.Nat.{ℕ, _+_, _-_}
+use Prim.Native.Nat.{ℕ, _+_, _-_, _≤_}
 use mathlib.Core.Path.{_≡_}
 use mathlib.Core.Bool.{Bool, false}
 use mathlib.Core.List.{List, [], _∷_}
@@ -56,3 +56,7 @@ writeFault type label i capacity =
     (pick (eqb (faultOf type i) DONE)
     (pick (ltb 16777215 label) LABEL (pick (ltb capacity (5 + length i)) SPACE DONE))
     (faultOf type i))
+
+-- `size` octets of s from `from` on, and room for them in d from `at` on
+abbrev pub Within : (s : List ℕ) (from size : ℕ) (d : List ℕ) (at : ℕ) → Type 0
+Within s from size d at = (from + size ≤ length s) × (at + size ≤ length d)
