@@ -4,8 +4,8 @@ use mathlib.Core.Path.{_≡_, refl, sym, ap, ap₂, _∙_}
 use mathlib.Core.List.{List, [], _∷_, _++_, append-assoc}
 use native.Mathlib.Nat.{zero-add}
 use native.Mathlib.Omega.{arith}
-use lib.ListN.{length, getD, take, drop, length-drop, length-append, take-append-drop}
-use lib.Seq.{drop-cons, drop-drop, take-add, take-take, length-take-le, take-all, take-append-le, drop-append-add, take-at, drop-at}
+use lib.ListN.{length, getD, take, drop, length-append}
+use lib.Seq.{drop-cons, drop-drop, take-add, length-take-le, take-all, take-at, drop-at}
 use Rattle.octets.specs.Octets.{part, placed}
 use Rattle.octets.proofs.Lists.{placed-placed, placed-then, placed-length, part-length}
 
@@ -17,6 +17,16 @@ part-cons s at next n e h = let k : next ≡ suc at = omega arith in rw (drop-co
 part-none : (s : List ℕ) (at : ℕ) → part s at 0 ≡ []
 unfolding part
 part-none s at = refl
+
+pub four-octets : (s : List ℕ) (k : ℕ) → k + 4 ≤ length s → getD s k 0 ∷ (getD s (k + 1) 0 ∷ (getD s (k + 2) 0 ∷ (getD s (k + 3) 0 ∷ []))) ≡ part s k 4
+four-octets s k h =
+    rw (
+      part-cons s k (k + 1) 3 (omega arith) (omega arith),
+      part-cons s (k + 1) (k + 2) 2 (omega arith) (omega arith),
+      part-cons s (k + 2) (k + 3) 1 (omega arith) (omega arith),
+      part-cons s (k + 3) (k + 4) 0 (omega arith) (omega arith),
+      part-none s (k + 4),
+    )
 
 pub eight-octets : (s : List ℕ) (k : ℕ) → k + 8 ≤ length s
     → getD s k 0 ∷ (getD s (k + 1) 0 ∷ (getD s (k + 2) 0 ∷ (getD s (k + 3) 0 ∷ (getD s (k + 4) 0 ∷ (getD s (k + 5) 0 ∷ (getD s (k + 6) 0 ∷ (getD s (k + 7) 0 ∷ [])))))))
