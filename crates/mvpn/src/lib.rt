@@ -168,7 +168,12 @@ pub extern "C" fn mvpn_attribute_write(
     ensures { λ r. ⌜ r ≡ writtenOf (writeOutcome flags «tunnel_type» «label_field» (now (identifier .entry)) (now (output .entry))) ⌝ }
     ensures { λ r. ⌜ now (output .exit) ≡ outputOf (writeOutcome flags «tunnel_type» «label_field» (now (identifier .entry)) (now (output .entry))) (now (output .entry)) ⌝ }
 {
-    tunnel::write(flags, tunnel_type, label_field, identifier, output)
+    // field by field: the answer then leaves in registers
+    let written = tunnel::write(flags, tunnel_type, label_field, identifier, output);
+    Written {
+        number: written.number,
+        size: written.size,
+    }
 }
 
 #[no_mangle]

@@ -1,12 +1,13 @@
 -- Laws of the definitions that the functions' proofs cite.
-use Prim.Native.Nat.{ℕ, _+_, _-_, _/_, _%_, _≤_, _<_}
+use Prim.Native.Nat.{ℕ, _+_, _-_, _*_, _/_, _%_, _≤_, _<_}
 use mathlib.Core.Path.{_≡_, refl, sym, ap, ap₂, _∙_}
+use mathlib.Core.Logic.{_⊎_, inl, inr, ⊎-elim}
 use mathlib.Core.Bool.{Bool, true, false}
 use mathlib.Core.List.{List, [], _∷_}
 use native.Mathlib.Omega.{arith}
 use lib.Dec.{ltb, eqb}
 use lib.ListN.{length, getD, take, drop, length-append, length-drop}
-use lib.Seq.{length-take-le}
+use lib.Seq.{length-take-le, drop-drop}
 use borrow.Author.Tests.{ltb-true, ltb-false, eqb-true, eqb-false, eq-eqb, ne-eqb, le-ltb, lt-ltb}
 use Rattle.octets.specs.Choice.{pick, both, either}
 use Rattle.octets.specs.Numbers.{DONE, SHORT, LONG, TUNNEL, IDENT, LABEL, SPACE}
@@ -15,7 +16,8 @@ use Rattle.octets.specs.Octets.{part, numberIn, front}
 use Rattle.octets.proofs.Tests.{tests}
 use Rattle.octets.proofs.Picked.{tested, pick-passed, pick-held, both-held, was-given}
 use Rattle.octets.proofs.Outcomes.{pick-true, pick-false}
-use Rattle.octets.proofs.NetworkOrder.{big-endian-length}
+use Rattle.octets.proofs.Refusals.{picked}
+use Rattle.octets.proofs.NetworkOrder.{big-endian-length, number-part}
 use Rattle.octets.specs.declared.Written.{Written}
 use Rattle.tunnel.specs.declared.fec.Fec.{Fec}
 use Rattle.tunnel.specs.declared.Attribute.{Attribute}
@@ -24,7 +26,7 @@ use Rattle.tunnel.specs.Identifier.{IdentifierForm, sizes, fecTypes, Tab
 use Rattle.tunnel.specs.Attribute.{Fields, labelOf, leafInformationRequired, fieldsIn, encodeAttribute, readAttribute, writeAttribute}
 use Rattle.tunnel.specs.Answers.{fecSpans, noFec, fecOfForm, fecOf, attributeOf, readAnswer}
 use Rattle.octets.specs.Outputs.{writtenOf, outputOf}
-use Rattle.tunnel.specs.Inner.{unknown, mldp, typeSuits, formFault, faultIn, faultOf, TakesSizes, readFault, writeFault}
+use Rattle.tunnel.specs.Inner.{unknown, mldp, typeSuits, formFault, faultIn, faultOf, TakesSizes, readFault, writeFault, opaqueStart, endsFrom}
 use Rattle.tunnel.proofs.ByNumber.{byNumber, when-done, when-not-done, number-is, number-picked, number-then, number-kept}
 
 -- a test that a call made, in the definition's words
@@ -34,15 +36,67 @@ told r t v p q = sym p ∙ q
 pub ruleset calls = (tests, told)
 
 -- judging a FEC, by the tests that the code makes
-pub whole-ends : (i rest : List ℕ) (family : ℕ) (suits r : Bool) → 4 ≤ length i → family ≡ numberIn (part i 1 2) 0 → suits ≡ familySuits family (getD i 3 0) → suits ≡ true
-    → rest ≡ drop 4 i → r ≡ endsAt rest (getD i 3 0) → r ≡ wholeFec i
-unfolding wholeFec pick
-whole-ends i rest family suits r h p q t e o = rw (le-ltb (length i) 4 h, ← p, ← q, t, ← e) o
+same-under : (a b c d : ℕ) → (a < b → c < d) → (c < d → a < b) → ltb a b ≡ ltb c d
+same-under a b c d f g =
+    tested (ltb a b)
+    (λ p. p ∙ sym (lt-ltb c d (f (ltb-true a b p))))
+    (λ p. p ∙ sym (tested (ltb c d) (λ q. absurd (over-under a b (ltb-false a b p) (g (ltb-true c d q)))) (λ q. q)))
+  where
+    over-under : (a b : ℕ) → b ≤ a → a < b → ⊥
+    over-under a b h l = omega arith
 
-pub whole-no : (i : List ℕ) (family : ℕ) (suits : Bool) → 4 ≤ length i → family ≡ numberIn (part i 1 2) 0 → suits ≡ familySuits family (getD i 3 0) → suits ≡ false
-    → false ≡ wholeFec i
-unfolding wholeFec pick
-whole-no i family suits h p q t = rw (le-ltb (length i) 4 h, ← p, ← q, t)
+same-equal : (a b c d : ℕ) → (a ≡ b → c ≡ d) → (c ≡ d → a ≡ b) → eqb a b ≡ eqb c d
+same-equal a b c d f g =
+    tested (eqb a b)
+    (λ p. p ∙ sym (eq-eqb c d (f (eqb-true a b p))))
+    (λ p. p ∙ sym (ne-eqb c d (λ e. eqb-false a b p (g e))))
+
+ends-after-header : (i : List ℕ) (size start : ℕ) → 4 ≤ length i → start ≡ size + 6 → endsFrom i start ≡ endsAt (drop 4 i) size
+unfolding endsFrom endsAt part
+ends-after-header i size start h e =
+    let rest = drop 4 i in
+    let l : length rest ≡ length i - 4 = length-drop 4 i in
+    let at : drop (start - 2) i ≡ drop size rest = ap (λ (n : ℕ). drop n i) (place start size e) ∙ sym (drop-drop size 4 i) in
+    let n = numberIn (take 2 (drop size rest)) 0 in
+    rw (at, same-under (length i) start (length rest) (size + 2) (λ p. omega arith) (λ p. omega arith), same-equal (start + n) (length i) (size + 2 + n) (length rest) (λ p. omega arith) (λ p. omega arith))
+  where
+    place : (start size : ℕ) → start ≡ size + 6 → start - 2 ≡ 4 + size
+    place start size e = omega arith
+
+family-suits : (family size : ℕ) → familySuits family size ≡ true → ((family ≡ 1) × (size ≡ 4)) ⊎ ((family ≡ 2) × (size ≡ 16))
+unfolding familySuits
+family-suits family size e =
+    ⊎-elim
+    (λ p. inl (eqb-true family 1 (p .0), eqb-true size 4 (p .1)))
+    (λ p. let q = pick-held (eqb family 2) (eqb size 16) (p .1) in inr (eqb-true family 2 (q .0), eqb-true size 16 (q .1)))
+    (picked (eqb family 1) (eqb size 4) (pick (eqb family 2) (eqb size 16) false) true e)
+
+module _ (i : List ℕ) (h : 4 ≤ length i) (m : length i ≤ 59) (b : getD i 3 0 < 256) (root : ℕ) (e : root ≡ numberIn (part i 1 3) 0) where
+  root-parts : root ≡ numberIn (part i 1 2) 0 * 256 + getD i 3 0
+  root-parts = e ∙ number-part i 1 2 (omega arith)
+
+  rooted : (family size start : ℕ) → numberIn (part i 1 2) 0 ≡ family → getD i 3 0 ≡ size → familySuits family size ≡ true → start ≡ size + 6 → endsFrom i start ≡ wholeFec i
+  unfolding wholeFec pick
+  rooted family size start f s t q = rw (le-ltb (length i) 4 h, f, s, t) (ends-after-header i size start h q)
+
+  unrooted : (root ≡ 260 → ⊥) → (root ≡ 528 → ⊥) → endsFrom i 60 ≡ wholeFec i
+  unfolding wholeFec endsFrom pick
+  unrooted p q =
+      let suits = familySuits (numberIn (part i 1 2) 0) (getD i 3 0) in
+      let no : suits ≡ false = tested suits (λ t. absurd (⊎-elim (λ x. p (omega (arith, root-parts, x .0, x .1))) (λ x. q (omega (arith, root-parts, x .0, x .1))) (family-suits (numberIn (part i 1 2) 0) (getD i 3 0) t))) (λ t. t) in
+      rw (le-ltb (length i) 4 h, no, lt-ltb (length i) 60 (omega arith))
+
+  whole-by-root : endsFrom i (opaqueStart root) ≡ wholeFec i
+  unfolding opaqueStart familySuits pick
+  whole-by-root =
+      tested (eqb root 260)
+      (λ p. let z = eqb-true root 260 p in rw p (rooted 1 4 10 (omega (arith, root-parts)) (omega (arith, root-parts)) refl refl))
+      (λ p. tested (eqb root 528)
+      (λ q. let z = eqb-true root 528 q in rw (p, q) (rooted 2 16 22 (omega (arith, root-parts)) (omega (arith, root-parts)) refl refl))
+      (λ q. rw (p, q) (unrooted (eqb-false root 260 p) (eqb-false root 528 q))))
+
+  pub whole-ends : (start : ℕ) (r : Bool) → start ≡ opaqueStart root → r ≡ endsFrom i start → r ≡ wholeFec i
+  whole-ends start r s q = q ∙ ap (endsFrom i) s ∙ whole-by-root
 
 -- the tests that a FEC passes
 pub record FecTests (i : List ℕ) : Type 0 where
@@ -414,7 +468,7 @@ module _ (f : Fields) (capacity : ℕ) where
     pub write-done : n ≡ DONE → writeAttribute f capacity ≡ given (encodeAttribute f)
     write-done z = write-by-number ∙ when-done _ (encodeAttribute f) (sym e ∙ z)
 
-    pub write-room : n ≡ DONE → 5 + length (f .identifier) ≤ capacity
+    pub write-room : n ≡ DONE → (length (f .identifier) ≤ 59) × (5 + length (f .identifier) ≤ capacity)
     unfolding writeFault
     write-room z =
         let t = f .tunnelType in
@@ -422,7 +476,7 @@ module _ (f : Fields) (capacity : ℕ) where
         let p = pick-done (ltb 59 (length i)) LONG _ (λ q. omega arith) (sym e ∙ z) in
         let q = pick-both (faultOf t i) _ (p .1) in
         let r = pick-done (ltb 16777215 (f .labelField)) LABEL _ (λ s. omega arith) q in
-        ltb-false capacity (5 + length i) (pick-done (ltb capacity (5 + length i)) SPACE DONE (λ s. omega arith) (r .1) .0)
+        (ltb-false 59 (length i) (p .0), ltb-false capacity (5 + length i) (pick-done (ltb capacity (5 + length i)) SPACE DONE (λ s. omega arith) (r .1) .0))
 
 pub refusal-wrote : (o : Outcome (List ℕ)) (n : ℕ) (d : List ℕ) → o ≡ refused n → (writtenAs n 0 ≡ writtenOf o) × (d ≡ outputOf o d)
 unfolding writtenOf outputOf onOutcome numberOf

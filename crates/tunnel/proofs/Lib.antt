@@ -1,4 +1,5 @@
 -- Laws of the definitions, and the theorems.
+pub mod Copies
 pub mod ByNumber
 pub mod Laws
 pub mod FecTheorem

@@ -1,11 +1,12 @@
 -- What inner functions answer; laws tie it to document 01's definitions.
-use Prim.Native.Nat.{ℕ, _+_}
+use Prim.Native.Nat.{ℕ, _+_, _-_, _≤_}
 use mathlib.Core.Path.{_≡_}
 use mathlib.Core.Bool.{Bool, false}
 use mathlib.Core.List.{List, [], _∷_}
 use lib.Dec.{ltb, eqb}
 use lib.ListN.{length, getD, drop}
 use Rattle.octets.specs.Choice.{pick, either}
+use Rattle.octets.specs.Octets.{part, numberIn}
 use Rattle.octets.specs.Numbers.{DONE, SHORT, TUNNEL, IDENT, LONG, LABEL, SPACE}
 use Rattle.tunnel.specs.Identifier.{TableRow, table, IdentifierForm, sizes, fits}
 
@@ -19,6 +20,14 @@ mldp t = either (eqb t 2) (eqb t 7)
 
 unfoldable pub typeSuits : ℕ → ℕ → Bool
 typeSuits t fec = pick (eqb t 2) (eqb fec 6) (either (eqb fec 7) (eqb fec 8))
+
+-- where a FEC's opaque value starts, by address family and address length as one number; past every identifier's end where these do not suit
+unfoldable pub opaqueStart : ℕ → ℕ
+opaqueStart root = pick (eqb root 260) 10 (pick (eqb root 528) 22 60)
+
+-- from `start` on as many octets as the opaque length before it says
+unfoldable pub endsFrom : List ℕ → ℕ → Bool
+endsFrom i start = pick (ltb (length i) start) false (eqb (start + numberIn (part i (start - 2) 2) 0) (length i))
 
 -- IDENT, or DONE for an identifier of the form
 unfoldable pub formFault : IdentifierForm → List ℕ → ℕ
@@ -47,3 +56,7 @@ writeFault type label i capacity =
     (pick (eqb (faultOf type i) DONE)
     (pick (ltb 16777215 label) LABEL (pick (ltb capacity (5 + length i)) SPACE DONE))
     (faultOf type i))
+
+-- `size` octets of s from `from` on, and room for them in d from `at` on
+abbrev pub Within : (s : List ℕ) (from size : ℕ) (d : List ℕ) (at : ℕ) → Type 0
+Within s from size d at = (from + size ≤ length s) × (at + size ≤ length d)

@@ -27,15 +27,15 @@ pub(crate) fn put(
     identifier: &[u8],
     output: &mut [u8],
 ) -> Written
-    requires { ⌜ 5 + length (now identifier) ≤ length (now output) ⌝ }
+    requires { ⌜ (length (now identifier) ≤ 59) × (5 + length (now identifier) ≤ length (now output)) ⌝ }
     ensures { λ r. ⌜ r .number ≡ 0 ⌝ }
     ensures { λ r. ⌜ r .size ≡ 5 + length (now (identifier .entry)) ⌝ }
     ensures { λ r. ⌜ now (output .exit) ≡ front (encodeAttribute (fieldsOf flags «tunnel_type» «label_field» (now (identifier .entry)))) (now (output .entry)) ⌝ }
 {
     let next = put_header(flags, tunnel_type, label_field, output);
-    let size = octets::parts::place(identifier, output, next);
+    crate::blocks::place(identifier, output, next);
     Written {
         number: number::DONE,
-        size,
+        size: next + identifier.len(),
     }
 }

@@ -1,8 +1,10 @@
 // The mLDP FEC element that an identifier may be (RFC 6388, section 2.2).
 ghost use mathlib.Core.Path.{_≡_};
 ghost use mathlib.Core.Bool.{true};
-ghost use Prim.Native.Nat.{_<_};
-ghost use Rattle.tunnel.specs.Fec.{familySuits, endsAt, wholeFec, fecIn};
+ghost use Prim.Native.Nat.{_<_, _≤_};
+ghost use lib.ListN.{length};
+ghost use Rattle.tunnel.specs.Fec.{wholeFec, fecIn};
+ghost use Rattle.tunnel.specs.Inner.{opaqueStart, endsFrom};
 ghost use Rattle.tunnel.specs.Answers.{fecSpans};
 use crate::sizes::Sizes;
 use octets::Span;
@@ -27,54 +29,54 @@ impl FecType {
     pub(crate) const MP2MP_DOWN: u8 = 8;
 }
 
-// Address families (RFC 4760).
-struct AddressFamily {}
+// Address family and address length (RFC 4760), as one number of three octets.
+struct Root {}
 
-impl AddressFamily {
-    const IPV4: u32 = 1;
-
-    const IPV6: u32 = 2;
+impl Root {
+    // family 1, 4 octets
+    const IPV4: u32 = 260;
+    // family 2, 16 octets
+    const IPV6: u32 = 528;
 }
 
 // Type 1, address family 2, address length 1.
 const HEADER: usize = 4;
 
-// An address family has the size of its addresses.
-fn family_suits(family: u32, size: usize) -> bool
-    ensures { λ r. ⌜ r ≡ familySuits family size ⌝ }
+// Where the opaque value starts: after the header, the root and the 2 octets of the opaque length. Past every identifier's end
+// where address family and address length do not suit.
+fn opaque_start(root: u32) -> usize
+    ensures { λ r. ⌜ (r ≡ opaqueStart root) × ((2 ≤ r) × (r < 256)) ⌝ }
 {
-    if family == AddressFamily::IPV4 {
-        return size == Sizes::IPV4;
+    if root == Root::IPV4 {
+        return HEADER + Sizes::IPV4 + 2;
     }
-    if family == AddressFamily::IPV6 {
-        return size == Sizes::IPV6;
+    if root == Root::IPV6 {
+        return HEADER + Sizes::IPV6 + 2;
     }
-    false
+    crate::MOST_IDENTIFIER + 1
 }
 
-// A root of `size` octets, the opaque length, and as many octets as it says.
-fn ends_at(rest: &[u8], size: usize) -> bool
-    requires { ⌜ size < 256 ⌝ }
-    ensures { λ r. ⌜ r ≡ endsAt (now (rest .entry)) size ⌝ }
+// From `start` on as many octets as the opaque length before it says.
+fn ends_from(identifier: &[u8], start: usize) -> bool
+    requires { ⌜ (2 ≤ start) × (start < 256) ⌝ }
+    ensures { λ r. ⌜ r ≡ endsFrom (now (identifier .entry)) start ⌝ }
 {
-    if rest.len() < size + 2 {
+    if identifier.len() < start {
         return false;
     }
-    size + 2 + octets::wide::two(rest, size) as usize == rest.len()
+    start + octets::wide::two(identifier, start - 2) as usize == identifier.len()
 }
 
 // The octets are one FEC, whatever its type. Every length is judged where it stands, before its content.
 pub(crate) fn whole(identifier: &[u8]) -> bool
+    requires { ⌜ length (now identifier) ≤ 59 ⌝ }
     ensures { λ r. ⌜ r ≡ wholeFec (now (identifier .entry)) ⌝ }
 {
     if identifier.len() < HEADER {
         return false;
     }
-    let size = identifier[3] as usize;
-    if family_suits(octets::wide::two(identifier, 1), size) {
-        return ends_at(octets::parts::after(identifier, HEADER), size);
-    }
-    false
+    let root = octets::wide::three(identifier, 1);
+    ends_from(identifier, opaque_start(root))
 }
 
 // The FEC that an identifier is, placed in its attribute: the root straight after the attribute's header of 5 octets and

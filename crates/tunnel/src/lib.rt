@@ -9,6 +9,7 @@ use octets::Span;
 use octets::Written;
 use octets::number;
 
+mod blocks;
 mod encoding;
 pub mod fec;
 mod fields;

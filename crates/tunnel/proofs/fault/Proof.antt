@@ -1,6 +1,7 @@
 -- `tunnel::fault` meets its contract: its tests are document 01's, in the same order.
 use denote.Ref.{now}
-use lib.ListN.{getD, drop}
+use native.Mathlib.Omega.{arith}
+use lib.ListN.{getD, drop, length-drop}
 use Rattle.tunnel.specs.Inner.{readFault}
 use Rattle.tunnel.proofs.Laws.{calls, read-number, identifier-fault}
 use borrow.Author.Needs.{needs}
@@ -22,7 +23,7 @@ after-requires : tie.Need-after-requires
 after-requires c κs = search needs
 
 fault-requires : tie.Need-fault-requires
-fault-requires c κs = search needs
+fault-requires c κs = rw (c .after .ensures, length-drop) (omega arith)
 
 returns-3 : tie.Need-returns-3
 unfolding readFault

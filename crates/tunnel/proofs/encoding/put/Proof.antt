@@ -19,19 +19,23 @@ put-header-requires c κs = search needs
 place-requires : tie.Need-place-requires
 place-requires c κs = search needs
 
+add-t13 : tie.Need-add-t13
+add-t13 c = search needs
+
 same-length : tie.Need-same-length
 same-length c = search needs
 
 returns : tie.Need-returns
 unfolding encodeAttribute
 returns c =
-    let a = c .before .before .before .before .before .before .before .before .before .before .args in
+    let start = c .before .before .before .before .before .before .before .before .before .before in
+    let a = start .args in
     let h = c .before .before .before .before .before .before .put-header in
     let p = c .before .before .place in
     let e = a .flags ∷ (a .tunnel-type ∷ bigEndian 3 (a .label-field)) in
     let l : length e ≡ 5 = omega (arith, big-endian-length 3 (a .label-field)) in
-    let octets = placed-then 0 (h .result) e (now (a .identifier)) (now (a .output)) (h .last .1 .1 .1 .0) (p .last .1 .0) (omega (arith, c .before .before .before .before .before .before .before .before .before .before .pre)) (omega (arith, h .ensures .0)) (h .ensures .1) (p .ensures .1) in
-    (refl, (search needs, octets ∙ sym (front-is-placed (encodeAttribute (fieldsOf (a .flags) (a .tunnel-type) (a .label-field) (now (a .identifier)))) (now (a .output)))))
+    let octets = placed-then 0 (h .result) e (now (a .identifier)) (now (a .output)) (h .last .1 .1 .1 .0) (p .last .1 .0) (omega (arith, start .pre)) (omega (arith, h .ensures .0)) (h .ensures .1) (p .ensures) in
+    (refl, (omega (arith, h .ensures .0), octets ∙ sym (front-is-placed (encodeAttribute (fieldsOf (a .flags) (a .tunnel-type) (a .label-field) (now (a .identifier)))) (now (a .output)))))
 
 pub put-spec : {M : Type 1} → statement M
-put-spec = tie.close (tie.spec put-header-requires place-requires same-length returns)
+put-spec = tie.close (tie.spec put-header-requires place-requires add-t13 same-length returns)

@@ -1,8 +1,7 @@
--- `tunnel::fec::whole` meets its contract.
+-- `tunnel::fec::whole` meets its contract: address family and address length are judged as one number.
 use denote.Ref.{now}
 use Rattle.octets.proofs.Tests.{tests}
-use Rattle.tunnel.proofs.Laws.{whole-ends, whole-no}
-use native.Mathlib.Omega.{arith}
+use Rattle.tunnel.proofs.Laws.{whole-ends}
 use Rattle.tunnel.specs.Fec.{wholeFec}
 use borrow.Author.Needs.{needs}
 use Rattle.tunnel.proofs.fec.whole.Statement.{statement}
@@ -12,48 +11,23 @@ returns : tie.Need-returns
 unfolding wholeFec
 returns c = search tests
 
-shared-slice-read-size : tie.Need-shared-slice-read-size
-shared-slice-read-size c = search needs
+three-requires : tie.Need-three-requires
+three-requires c κs = search needs
 
-cast-size : tie.Need-cast-size
-cast-size c = omega (arith, c .shared-slice-known2 .given 3)
+opaque-start-requires : tie.Need-opaque-start-requires
+opaque-start-requires c κs = search needs
 
-two-requires : tie.Need-two-requires
-two-requires c κs = search needs
-
-family-suits-requires : tie.Need-family-suits-requires
-family-suits-requires c κs = search needs
-
-after-requires : tie.Need-after-requires
-after-requires c κs = search needs
-
-ends-at-requires : tie.Need-ends-at-requires
-ends-at-requires c κs = omega (arith, c .before .before .before .before .shared-slice-known2 .given 3)
+ends-from-requires : tie.Need-ends-from-requires
+ends-from-requires c κs = search needs
 
 returns-2 : tie.Need-returns-2
 returns-2 c =
-    let i = now (c .before .before .before .before .before .before .before .before .args .identifier) in
-    let f = c .before .before .before .family-suits in
-    let w = c .before .before .before .before .two in
-    whole-ends i (now (c .before .after .result)) (w .result) (f .result) (c .ends-at .result) (search needs) (w .ensures .0) (f .ensures) (c .before .before .if2 .taken) (c .before .after .ensures) (c .ends-at .ensures)
-
-returns-3 : tie.Need-returns-3
-returns-3 c =
-    let i = now (c .before .before .before .before .before .before .args .identifier) in
-    let f = c .before .family-suits in
-    let w = c .before .before .two in
-    whole-no i (w .result) (f .result) (search needs) (w .ensures .0) (f .ensures) (c .if2 .left)
+    let start = c .before .before .before .before .before in
+    let known = c .before .before .before .before .shared-slice-known in
+    let three = c .before .before .three in
+    let opaque = c .before .opaque-start in
+    whole-ends (now (start .args .identifier)) (search needs) (start .pre) (known .given 3 .fits) (three .result) (three .ensures .0) (opaque .result) (c .ends-from .result) (opaque .ensures .0) (c .ends-from .ensures)
 
 pub whole-spec : {M : Type 1} → statement M
 whole-spec =
-    tie.close
-    (tie.spec
-    returns
-    shared-slice-read-size
-    cast-size
-    two-requires
-    family-suits-requires
-    after-requires
-    ends-at-requires
-    returns-2
-    returns-3)
+    tie.close (tie.spec returns three-requires opaque-start-requires ends-from-requires returns-2)

@@ -1,0 +1,108 @@
+-- Laws of copies in blocks.
+use Prim.Native.Nat.{ℕ, suc, _+_, _-_, _≤_, _<_}
+use mathlib.Core.Path.{_≡_, refl, sym, ap, ap₂, _∙_}
+use mathlib.Core.List.{List, [], _∷_, _++_, append-assoc}
+use native.Mathlib.Nat.{zero-add}
+use native.Mathlib.Omega.{arith}
+use lib.ListN.{length, getD, take, drop, length-append}
+use lib.Seq.{drop-cons, drop-drop, take-add, length-take-le, take-all, take-at, drop-at}
+use Rattle.octets.specs.Octets.{part, placed}
+use Rattle.octets.proofs.Lists.{placed-placed, placed-then, placed-length, part-length}
+
+-- a part by its first octet and the rest
+part-cons : (s : List ℕ) (at next n : ℕ) → next ≡ at + 1 → at < length s → part s at (suc n) ≡ getD s at 0 ∷ part s next n
+unfolding part
+part-cons s at next n e h = let k : next ≡ suc at = omega arith in rw (drop-cons s at 0, k)
+
+part-none : (s : List ℕ) (at : ℕ) → part s at 0 ≡ []
+unfolding part
+part-none s at = refl
+
+pub four-octets : (s : List ℕ) (k : ℕ) → k + 4 ≤ length s → getD s k 0 ∷ (getD s (k + 1) 0 ∷ (getD s (k + 2) 0 ∷ (getD s (k + 3) 0 ∷ []))) ≡ part s k 4
+four-octets s k h =
+    rw (
+      part-cons s k (k + 1) 3 (omega arith) (omega arith),
+      part-cons s (k + 1) (k + 2) 2 (omega arith) (omega arith),
+      part-cons s (k + 2) (k + 3) 1 (omega arith) (omega arith),
+      part-cons s (k + 3) (k + 4) 0 (omega arith) (omega arith),
+      part-none s (k + 4),
+    )
+
+pub eight-octets : (s : List ℕ) (k : ℕ) → k + 8 ≤ length s
+    → getD s k 0 ∷ (getD s (k + 1) 0 ∷ (getD s (k + 2) 0 ∷ (getD s (k + 3) 0 ∷ (getD s (k + 4) 0 ∷ (getD s (k + 5) 0 ∷ (getD s (k + 6) 0 ∷ (getD s (k + 7) 0 ∷ [])))))))
+    ≡ part s k 8
+eight-octets s k h =
+    rw (
+      part-cons s k (k + 1) 7 (omega arith) (omega arith),
+      part-cons s (k + 1) (k + 2) 6 (omega arith) (omega arith),
+      part-cons s (k + 2) (k + 3) 5 (omega arith) (omega arith),
+      part-cons s (k + 3) (k + 4) 4 (omega arith) (omega arith),
+      part-cons s (k + 4) (k + 5) 3 (omega arith) (omega arith),
+      part-cons s (k + 5) (k + 6) 2 (omega arith) (omega arith),
+      part-cons s (k + 6) (k + 7) 1 (omega arith) (omega arith),
+      part-cons s (k + 7) (k + 8) 0 (omega arith) (omega arith),
+      part-none s (k + 8),
+    )
+
+-- two parts, one straight after the other
+part-part : (s : List ℕ) (k m n : ℕ) → part s k m ++ part s (k + m) n ≡ part s k (m + n)
+unfolding part
+part-part s k m n = ap (λ (l : List ℕ). take m (drop k s) ++ take n l) (sym (drop-drop m k s)) ∙ sym (take-add m n (drop k s))
+
+start-part : (s : List ℕ) (n : ℕ) → part s 0 n ≡ take n s
+unfolding part
+start-part s n = refl
+
+-- two blocks of one size, one straight after the other, as two calls leave them
+pub two-blocks : (s d y z : List ℕ) (k at m : ℕ) → k + (m + m) ≤ length s → at + (m + m) ≤ length d → y ≡ placed at (part s k m) d → z ≡ placed (at + m) (part s (k + m) m) y
+    → z ≡ placed at (part s k (m + m)) d
+two-blocks s d y z k at m h r p q =
+    let l : length (part s k m) ≡ m = part-length s k m (omega arith) in
+    let l′ : length (part s (k + m) m) ≡ m = part-length s (k + m) m (omega arith) in
+    placed-then at (at + m) (part s k m) (part s (k + m) m) d y z (omega arith) (ap (λ (n : ℕ). at + n) (sym l)) p q ∙ ap (λ (e : List ℕ). placed at e d) (part-part s k m m)
+
+-- what is written over is gone
+pub placed-over : (at : ℕ) (e f d : List ℕ) → length e ≤ length f → at + length f ≤ length d → placed at f (placed at e d) ≡ placed at f d
+unfolding placed
+placed-over at e f d l h =
+    let p = take at d in
+    let rest = drop (at + length e) d in
+    let lp : length p ≡ at = length-take-le at d (omega arith) in
+    let n = length f - length e in
+    let lpe : length (p ++ e) ≡ at + length e = simp (length-append, lp) in
+    let low : take at (p ++ (e ++ rest)) ≡ p = take-at p (e ++ rest) at lp in
+    let mid : drop (at + length e) (p ++ (e ++ rest)) ≡ rest = rw (← append-assoc p e rest) (drop-at (p ++ e) rest (at + length e) lpe) in
+    let high : drop (at + length f) (p ++ (e ++ rest)) ≡ drop (at + length f) d =
+    ap (λ (k : ℕ). drop k (p ++ (e ++ rest))) (sum at (length e) (length f) l) ∙ sym (drop-drop n (at + length e) (p ++ (e ++ rest))) ∙ ap (drop n) mid
+    ∙ drop-drop n (at + length e) d ∙ ap (λ (k : ℕ). drop k d) (sym (sum at (length e) (length f) l)) in
+    ap₂ (λ (a b : List ℕ). a ++ (f ++ b)) low high
+  where
+    sum : (at m n : ℕ) → m ≤ n → at + n ≡ at + m + (n - m)
+    sum at m n l = omega arith
+
+-- the first octets and the last ones, as two calls leave them
+pub both-ends : (s d y z : List ℕ) (at m : ℕ) → m ≤ length s → length s ≤ m + m → at + length s ≤ length d → y ≡ placed at (part s 0 m) d → z ≡ placed (at + (length s - m)) (part s (length s - m) m) y
+    → z ≡ placed at s d
+both-ends s d y z at m h l r p q =
+    let j : ℕ = length s - m in
+    let e : List ℕ = part s 0 j in
+    let g : List ℕ = part s (0 + j) (m - j) in
+    let f : List ℕ = part s (0 + j) m in
+    let le : length e ≡ j = part-length s 0 j (omega arith) in
+    let lg : length g ≡ m - j = part-length s (0 + j) (m - j) (omega arith) in
+    let lf : length f ≡ m = part-length s (0 + j) m (omega arith) in
+    let first : part s 0 m ≡ e ++ g = ap (part s 0) (sum j m (omega arith)) ∙ sym (part-part s 0 j (m - j)) in
+    let last : e ++ f ≡ s = part-part s 0 j m ∙ whole-part s (j + m) (omega arith) in
+    let x : List ℕ = placed at e d in
+    let lx : length x ≡ length d = placed-length at e d (omega arith) in
+    let y′ : y ≡ placed (at + length e) g x = p ∙ ap (λ (a : List ℕ). placed at a d) first ∙ sym (placed-placed at e g d (omega arith)) in
+    let start : at + j ≡ at + length e = ap (λ (n : ℕ). at + n) (sym le) in
+    let from : part s j m ≡ f = ap (λ (n : ℕ). part s n m) (sym (zero-add j)) in
+    q ∙ ap₂ (λ (a : ℕ) (b : List ℕ). placed a b y) start from ∙ ap (placed (at + length e) f) y′ ∙ placed-over (at + length e) g f x (omega arith) (omega arith)
+    ∙ placed-placed at e f d (omega arith) ∙ ap (λ (a : List ℕ). placed at a d) last
+  where
+    sum : (j m : ℕ) → j ≤ m → m ≡ j + (m - j)
+    sum j m l = omega arith
+
+    whole-part : (s : List ℕ) (n : ℕ) → length s ≤ n → part s 0 n ≡ s
+    whole-part s n l = start-part s n ∙ take-all n s l
