@@ -1,7 +1,6 @@
 -- Laws of the soundness pass, and of judging what a place or a call's arguments hold.
 use Prim.Native.Nat.{ℕ, suc, _+_, _-_, _*_, _/_, _<_, _≤_}
 use mathlib.Core.Path.{_≡_, refl, sym, _∙_, ap, ap₂}
-use mathlib.Core.Logic.{⊎-elim}
 use mathlib.Core.Bool.{Bool, true, false}
 use mathlib.Core.List.{List, []}
 use native.Mathlib.Nat.{add-zero}
@@ -16,8 +15,7 @@ use Rattle.octets.specs.Outcome.{Outcome, given, refused, onOutcome, andThen, n
 use Rattle.octets.specs.Octets.{part, numberIn}
 use Rattle.octets.specs.Order.{same, before, allZero}
 use Rattle.octets.proofs.Tests.{both-true, both-left, both-right, both-last}
-use Rattle.octets.proofs.Inversions.{never, passed, given-same, both-true-left, both-true-right}
-use Rattle.octets.proofs.Refusals.{stopped}
+use Rattle.octets.proofs.Inversions.{both-true-left, both-true-right}
 use Rattle.nlri.specs.declared.layout.Layout.{Layout}
 use Rattle.nlri.specs.declared.layout.Reading.{Reading}
 use Rattle.nlri.specs.declared.layout.Reading.the-variants.{Nlri, Refused}
