@@ -63,7 +63,7 @@ ends-after-header i size start h e =
     place : (start size : ℕ) → start ≡ size + 6 → start - 2 ≡ 4 + size
     place start size e = omega arith
 
-family-suits : (family size : ℕ) → familySuits family size ≡ true → ((family ≡ 1) × (size ≡ 4)) ⊎ ((family ≡ 2) × (size ≡ 16))
+pub family-suits : (family size : ℕ) → familySuits family size ≡ true → ((family ≡ 1) × (size ≡ 4)) ⊎ ((family ≡ 2) × (size ≡ 16))
 unfolding familySuits
 family-suits family size e =
     ⊎-elim
