@@ -1,35 +1,28 @@
 -- A FEC is read exactly when it is the encoding of a well-formed one.
 use Prim.Native.Nat.{ℕ, _+_, _≤_, _<_}
 use mathlib.Core.Path.{_≡_, refl, sym, ap, subst, _∙_}
-use mathlib.Core.Bool.{true, false}
+use mathlib.Core.Logic.{⊎-elim}
+use mathlib.Core.Bool.{true}
 use mathlib.Core.List.{List, [], _∷_, _++_}
 use native.Mathlib.Omega.{arith}
-use lib.Dec.{eqb}
 use lib.ListN.{length, getD, take, drop, length-append, length-drop, take-append-drop}
 use lib.Seq.{drop-drop, take-append-seam, drop-append-seam, drop-append-add, take-at, drop-at}
-use borrow.Author.Tests.{eqb-true, eq-eqb, le-ltb}
+use borrow.Author.Tests.{eq-eqb, le-ltb}
 use Rattle.octets.specs.Choice.{pick}
 use Rattle.octets.specs.Numbers.{IDENT}
 use Rattle.octets.specs.Outcome.{given, refused}
 use Rattle.octets.specs.Octets.{AllOctets, part, numberIn, bigEndian}
-use Rattle.octets.proofs.Picked.{tested, was-given, pick-held}
-use Rattle.octets.proofs.Outcomes.{pick-true, pick-false}
+use Rattle.octets.proofs.Picked.{was-given}
+use Rattle.octets.proofs.Outcomes.{pick-true}
 use Rattle.octets.proofs.AllOctets.{octet-at, octets-take, octets-drop}
 use Rattle.octets.proofs.NetworkOrder.{big-endian-length, number-of-big-endian, part-number, part-fits}
 use Rattle.tunnel.specs.Fec.{FecFields, encodeFec, Suits, ipv4, ipv6, WellFormedFec, familySuits, endsAt, wholeFec, fecIn, readFec}
 use Rattle.tunnel.specs.Statements.{FecStatement}
-use Rattle.tunnel.proofs.Laws.{fec-tested, root-length}
+use Rattle.tunnel.proofs.Laws.{family-suits, fec-tested, root-length}
 
 -- a family's address size, computed
 suits-of : (family size : ℕ) → familySuits family size ≡ true → Suits family size
-unfolding familySuits
-suits-of family size h =
-    tested (eqb family 1)
-    (λ p. let q : eqb size 4 ≡ true = sym (pick-true (eqb family 1) (eqb size 4) (pick (eqb family 2) (eqb size 16) false) p) ∙ h in
-    rw (eqb-true family 1 p, eqb-true size 4 q) ipv4)
-    (λ p. let q : pick (eqb family 2) (eqb size 16) false ≡ true = sym (pick-false (eqb family 1) (eqb size 4) (pick (eqb family 2) (eqb size 16) false) p) ∙ h in
-    let r = pick-held (eqb family 2) (eqb size 16) q in
-    rw (eqb-true family 2 (r .0), eqb-true size 16 (r .1)) ipv6)
+suits-of family size h = ⊎-elim (λ p. rw (p .0, p .1) ipv4) (λ p. rw (p .0, p .1) ipv6) (family-suits family size h)
 
 suits-computed : {family size : ℕ} → Suits family size → familySuits family size ≡ true
 unfolding familySuits pick

@@ -15,7 +15,7 @@ use Rattle.octets.specs.Outcome.{Outcome, given, refused, andThen, onOutcome, n
 use Rattle.octets.specs.Octets.{part, numberIn, front}
 use Rattle.octets.proofs.Tests.{tests}
 use Rattle.octets.proofs.Picked.{tested, pick-passed, pick-held, both-held, was-given}
-use Rattle.octets.proofs.Outcomes.{pick-true, pick-false}
+use Rattle.octets.proofs.Outcomes.{pick-false}
 use Rattle.octets.proofs.Refusals.{picked}
 use Rattle.octets.proofs.NetworkOrder.{big-endian-length, number-part}
 use Rattle.octets.specs.declared.Written.{Written}
@@ -63,7 +63,7 @@ ends-after-header i size start h e =
     place : (start size : ℕ) → start ≡ size + 6 → start - 2 ≡ 4 + size
     place start size e = omega arith
 
-family-suits : (family size : ℕ) → familySuits family size ≡ true → ((family ≡ 1) × (size ≡ 4)) ⊎ ((family ≡ 2) × (size ≡ 16))
+pub family-suits : (family size : ℕ) → familySuits family size ≡ true → ((family ≡ 1) × (size ≡ 4)) ⊎ ((family ≡ 2) × (size ≡ 16))
 unfolding familySuits
 family-suits family size e =
     ⊎-elim

@@ -84,15 +84,10 @@ fn place_to_64(s: &[u8], output: &mut [u8], at: usize)
     place_32(s, last, output, at + last);
 }
 
-// From 4 octets on.
-fn place_blocks(s: &[u8], output: &mut [u8], at: usize)
-    requires { ⌜ (4 ≤ length (now s)) × ((length (now s) ≤ 64) × (at + length (now s) ≤ length (now output))) ⌝ }
+fn place_from_8(s: &[u8], output: &mut [u8], at: usize)
+    requires { ⌜ (8 ≤ length (now s)) × ((length (now s) ≤ 64) × (at + length (now s) ≤ length (now output))) ⌝ }
     ensures { λ _. ⌜ now (output .exit) ≡ placed at (now (s .entry)) (now (output .entry)) ⌝ }
 {
-    if s.len() <= 8 {
-        place_to_8(s, output, at);
-        return;
-    }
     if s.len() <= 16 {
         place_to_16(s, output, at);
         return;
@@ -109,9 +104,13 @@ pub(crate) fn place(s: &[u8], output: &mut [u8], at: usize)
     requires { ⌜ (length (now s) ≤ 64) × (at + length (now s) ≤ length (now output)) ⌝ }
     ensures { λ _. ⌜ now (output .exit) ≡ placed at (now (s .entry)) (now (output .entry)) ⌝ }
 {
-    if s.len() < 4 {
-        octets::parts::place(s, output, at);
+    if 8 <= s.len() {
+        place_from_8(s, output, at);
         return;
     }
-    place_blocks(s, output, at);
+    if 4 <= s.len() {
+        place_to_8(s, output, at);
+        return;
+    }
+    octets::parts::place(s, output, at);
 }

@@ -1,5 +1,4 @@
 -- `tunnel::read` meets its contract: it goes by the number of the first fault.
-use denote.Ref.{now}
 use Rattle.tunnel.proofs.Laws.{answer-refused, answer-given, read-tests}
 use Rattle.tunnel.specs.Answers.{outcomeOf}
 use borrow.Author.Needs.{needs}

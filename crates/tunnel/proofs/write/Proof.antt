@@ -1,7 +1,6 @@
 -- `tunnel::write` meets its contract: it goes by the number of the first fault.
 use denote.Ref.{now}
 use lib.ListN.{length}
-use native.Mathlib.Omega.{arith}
 use Rattle.tunnel.proofs.Laws.{write-refused, write-done, write-room, refusal-wrote, encoding-wrote}
 use Rattle.tunnel.specs.Attribute.{writeAttribute}
 use Rattle.tunnel.specs.Answers.{fieldsOf}
