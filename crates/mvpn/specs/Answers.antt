@@ -40,5 +40,6 @@ attributeRefused number =
       fec = noFec;
     }
 
+-- the answer of reading an attribute
 unfoldable pub attributeAnswer : Outcome Attribute → AttributeAnswer
 attributeAnswer outcome = onOutcome attributeRefused attributeGiven outcome

@@ -18,6 +18,7 @@ use Rattle.nlri.specs.Fields.{Fields}
 unfoldable pub addressOf : List ℕ → Address
 addressOf octets = record { octets = sized 16 octets; size = length octets }
 
+-- a route distinguisher as a struct
 unfoldable pub distinguisherOf : List ℕ → RouteDistinguisher
 distinguisherOf octets = record { octets = sized 8 octets }
 
@@ -25,6 +26,7 @@ distinguisherOf octets = record { octets = sized 8 octets }
 unfoldable pub octetsOf : Address → List ℕ
 octetsOf address = sized (address .size) (address .octets)
 
+-- fields as a struct; the key is told by its span
 unfoldable pub nlriOf : Fields → Nlri
 nlriOf f =
     record {

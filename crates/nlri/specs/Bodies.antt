@@ -5,12 +5,15 @@ use mathlib.Core.List.{List, [], _∷_}
 use lib.Dec.{eqb}
 use Rattle.octets.specs.Choice.{pick, either}
 
+-- the kinds of fields
 pub data Kind : Type 0 where
   distinguisher sourceAs source group originator key : Kind
 
+-- a route type and its body
 pub data Row : Type 0 where
   row : ℕ → List Kind → Row
 
+-- document 01's table
 unfoldable pub bodies : List Row
 bodies =
     row 1 (distinguisher ∷ originator ∷ [])
@@ -31,6 +34,7 @@ onBody (row n body ∷ rows) type other next = pick (eqb type n) (next body) (on
 unfoldable pub bodyOf : ℕ → List Kind
 bodyOf type = onBody bodies type [] (λ body. body)
 
+-- kinds told apart by numbers
 unfoldable pub codeOf : Kind → ℕ
 codeOf distinguisher = 0
 codeOf sourceAs = 1
@@ -39,6 +43,7 @@ codeOf group = 3
 codeOf originator = 4
 codeOf key = 5
 
+-- the same kind of field
 unfoldable pub sameKind : Kind → Kind → Bool
 sameKind a b = eqb (codeOf a) (codeOf b)
 

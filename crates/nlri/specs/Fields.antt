@@ -23,6 +23,7 @@ pub record Fields : Type 0 where
 unfoldable pub encodeAddress : List ℕ → List ℕ
 encodeAddress a = 8 * length a ∷ a
 
+-- a field on the wire
 unfoldable pub encodeField : Fields → Kind → List ℕ
 encodeField f distinguisher = f .distinguisher
 encodeField f sourceAs = bigEndian 4 (f .sourceAs)
@@ -31,6 +32,7 @@ encodeField f group = encodeAddress (f .group)
 encodeField f originator = f .originator
 encodeField f key = f .key
 
+-- the fields of a body, one after the other
 unfoldable pub encodeBody : Fields → List Kind → List ℕ
 encodeBody f [] = []
 encodeBody f (k ∷ body) = encodeField f k ++ encodeBody f body
@@ -48,6 +50,7 @@ WellFormedField Key family f group = (allowed family (f .type) (8 * length (f .g
 WellFormedField Key family f originator = (originatorSize (length (f .originator)) ≡ true) × AllOctets (f .originator)
 WellFormedField Key family f key = Key (f .key)
 
+-- every field of a body is well-formed
 abbrev pub WellFormedBody : (List ℕ → Type 0) → ℕ → Fields → List Kind → Type 0
 WellFormedBody Key family f [] = Unit {0}
 WellFormedBody Key family f (k ∷ body) = WellFormedField Key family f k × WellFormedBody Key family f body

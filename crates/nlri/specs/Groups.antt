@@ -10,9 +10,11 @@ use Rattle.octets.specs.Outcome.{Outcome, given, refused, onOutcome, andThen, n
 use Rattle.nlri.specs.declared.group.Group.{Group}
 use Rattle.nlri.specs.Family.{familyBits}
 
+-- the classes: any-source multicast
 abbrev pub ASM : ℕ
 ASM = 1
 
+-- source-specific multicast
 abbrev pub SSM : ℕ
 SSM = 2
 
@@ -37,5 +39,6 @@ classUnder family g =
 unfoldable pub classOf : ℕ → List ℕ → Outcome ℕ
 classOf afi g = andThen (familyBits afi) (λ family. classUnder family g)
 
+-- the call's answer: on a refusal its number and class 0
 unfoldable pub groupOf : Outcome ℕ → Group
 groupOf class = record { number = numberOf class; «group_class» = onOutcome (λ number. 0) (λ c. c) class }

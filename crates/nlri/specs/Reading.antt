@@ -70,6 +70,7 @@ keyField family s =
     onOutcome (λ fault. refused KEY) (λ laid. pick (ltb 3 (laid .type)) (refused KEY) (given (2 + laid .size)))
     (laidWith noKey family s)
 
+-- the NLRI at the front of s, of any type
 unfoldable pub laidAt : ℕ → List ℕ → Outcome Laid
 laidAt family s = laidWith (keyField family) family s
 
@@ -92,10 +93,11 @@ fieldsOf laid s =
       key = field key;
     }
 
--- a single NLRI: FAMILY, then reading, then LENGTH for octets after it
+-- a single NLRI under a family: reading, then LENGTH for octets after it
 unfoldable pub laidSingle : ℕ → List ℕ → Outcome Laid
 laidSingle family s = andThen (laidAt family s) (λ laid. pick (eqb (length s - 2) (laid .size)) (given laid) (refused LENGTH))
 
+-- the fields of a single NLRI; FAMILY first
 unfoldable pub readNlri : ℕ → List ℕ → Outcome Fields
 readNlri afi s = andThen (familyBits afi) (λ family. andThen (laidSingle family s) (λ laid. given (fieldsOf laid s)))
 

@@ -21,6 +21,7 @@ pub record Stepped : Type 0 where
   pub layout : Layout
   pub cursor : ℕ
 
+-- an NLRI, and the cursor just past it
 unfoldable pub readTo : Layout → ℕ → Stepped
 readTo layout cursor = record { number = DONE; read = true; layout = layout; cursor = cursor }
 

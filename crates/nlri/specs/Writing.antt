@@ -21,6 +21,7 @@ widthFits family f group = allowed family (f .type) (8 * length (f .group))
 widthFits family f originator = originatorSize (length (f .originator))
 widthFits family f key = true
 
+-- every address of a body fits
 unfoldable pub widthsFit : ℕ → Fields → List Kind → Bool
 widthsFit family f [] = true
 widthsFit family f (k ∷ body) = both (widthFits family f k) (widthsFit family f body)
@@ -29,6 +30,7 @@ widthsFit family f (k ∷ body) = both (widthFits family f k) (widthsFit family 
 unfoldable pub isKey : ℕ → List ℕ → Bool
 isKey family octets = onOutcome (λ fault. false) (λ size. eqb size (length octets)) (keyField family octets)
 
+-- a field that is a key holds exactly one key
 unfoldable pub keyFits : ℕ → Fields → Kind → Bool
 keyFits family f distinguisher = true
 keyFits family f sourceAs = true
@@ -37,6 +39,7 @@ keyFits family f group = true
 keyFits family f originator = true
 keyFits family f key = isKey family (f .key)
 
+-- every key of a body fits
 unfoldable pub keysFit : ℕ → Fields → List Kind → Bool
 keysFit family f [] = true
 keysFit family f (k ∷ body) = both (keyFits family f k) (keysFit family f body)

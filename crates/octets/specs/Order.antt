@@ -20,9 +20,11 @@ before [] (y ∷ ys) = true
 before (x ∷ xs) [] = false
 before (x ∷ xs) (y ∷ ys) = pick (eqb x y) (before xs ys) (ltb x y)
 
+-- so many zeros
 unfoldable pub zeros : ℕ → List ℕ
 zeros n = replicate n 0
 
+-- every octet is zero
 unfoldable pub allZero : List ℕ → Bool
 allZero [] = true
 allZero (x ∷ xs) = both (eqb x 0) (allZero xs)

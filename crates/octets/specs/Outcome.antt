@@ -1,6 +1,7 @@
 -- What a call comes to: a value, or the number that refuses it (document 01, "The numbers a call gives back").
 use Prim.Native.Nat.{ℕ}
 
+-- the value of work that was done, or a refusal
 pub data Outcome (A : Type 0) : Type 0 where
   given : A → Outcome A
   refused : ℕ → Outcome A

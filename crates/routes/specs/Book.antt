@@ -62,6 +62,7 @@ unfoldable pub distinct : List (List ℕ) → List (List ℕ)
 distinct [] = []
 distinct (x ∷ xs) = pick (has x xs) (distinct xs) (x ∷ distinct xs)
 
+-- routers, and the one that a call belongs to
 unfoldable pub withOwner : Owner → List (List ℕ) → List (List ℕ)
 withOwner nobody routers = routers
 withOwner (owner router) routers = router ∷ routers
@@ -71,6 +72,7 @@ unfoldable pub routersOf : ℕ → List Call → List (List ℕ)
 routersOf afi [] = []
 routersOf afi (c ∷ cs) = withOwner (ownerOf afi c) (routersOf afi cs)
 
+-- the routes in the books of these routers, one book after the other
 unfoldable pub gathered : ℕ → (routers : List (List ℕ)) → List Call → List Route
 gathered afi [] calls = []
 gathered afi (router ∷ routers) calls = bookOf afi router calls ++ gathered afi routers calls
@@ -84,5 +86,6 @@ unfoldable pub dueBy : Answer → (List ℕ → Answer) → Owner → Answer
 dueBy none some nobody = none
 dueBy none some (owner router) = some router
 
+-- what is due to a call after the earlier ones
 unfoldable pub dueAnswer : ℕ → (earlier : List Call) → Call → Answer
 dueAnswer afi earlier c = dueBy (refusalAnswer c (refusalOf afi c)) (λ router. bookAnswer afi (bookOf afi router earlier) c) (ownerOf afi c)

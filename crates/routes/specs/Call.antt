@@ -44,6 +44,7 @@ unfoldable pub ownedBy : (router : List ℕ) → Owner → Bool
 ownedBy router nobody = false
 ownedBy router (owner other) = same router other
 
+-- a call is one of a router's own
 unfoldable pub owns : (afi : ℕ) (router : List ℕ) → Call → Bool
 owns afi router call = ownedBy router (ownerOf afi call)
 

@@ -59,6 +59,7 @@ pub data MakeRefusal (afi : ℕ) (memory : List ℕ) : ℕ → Type 0 where
   noFamily : afi ≢ 1 → afi ≢ 2 → MakeRefusal afi memory FAMILY
   badSize : Family afi → (TableSize (length memory) → ⊥) → MakeRefusal afi memory TABLE
 
+-- making a table: each refusal exactly when, and what it leaves
 pub record MakeRule : Type 0 where
   pub refuses : (afi : ℕ) (memory : List ℕ) (n : ℕ) → n ≢ DONE → (makeOf afi memory .answer ≡ n) ↔ MakeRefusal afi memory n
   pub done : (afi : ℕ) (memory : List ℕ) → (makeOf afi memory .answer ≡ DONE) ↔ (Family afi × TableSize (length memory))
@@ -92,6 +93,7 @@ pub record Full (t nlri : List ℕ) : Type 0 where
   pub missing : lookup nlri (routesOf t) ≡ absent
   pub places : length (routesOf t) ≡ placesIn t
 
+-- install: each number exactly when, and what it leaves
 pub record InstallRule : Type 0 where
   pub refuses : (t nlri attribute : List ℕ) (n : ℕ) → n ≢ DONE → (installOf t nlri attribute .answer .number ≡ n) ↔ InstallRefusal t nlri attribute n
   pub table : (t nlri attribute : List ℕ) → (installOf t nlri attribute .answer .number ≡ TABLE) ↔ (soundOf t ≡ false)
@@ -121,6 +123,7 @@ pub record Withdrawable (t nlri : List ℕ) : Type 0 where
   pub sound : soundOf t ≡ true
   pub accepted : SPmsi (afiIn t) nlri
 
+-- withdraw: each number exactly when, and what it leaves
 pub record WithdrawRule : Type 0 where
   pub refuses : (t nlri : List ℕ) (n : ℕ) → n ≢ DONE → (withdrawOf t nlri .answer ≡ n) ↔ WithdrawRefusal t nlri n
   pub table : (t nlri : List ℕ) → (withdrawOf t nlri .answer ≡ TABLE) ↔ (soundOf t ≡ false)

@@ -21,9 +21,11 @@ pub record Changed (A : Type 0) : Type 0 where
   pub answer : A
   pub octets : List ℕ
 
+-- what an install answers besides DONE: the NLRI was not held
 abbrev pub NEW : ℕ
 NEW = 1
 
+-- the NLRI was held, and has another attribute now
 abbrev pub REPLACED : ℕ
 REPLACED = 2
 
@@ -31,6 +33,7 @@ REPLACED = 2
 unfoldable pub makeOutcome : ℕ → List ℕ → Outcome (List ℕ)
 makeOutcome afi memory = andThen (familyBits afi) (λ family. pick (tableSize (length memory)) (given (imageOf afi (placesIn memory) [])) (refused TABLE))
 
+-- the number, and the memory afterwards
 unfoldable pub makeOf : ℕ → List ℕ → Changed ℕ
 makeOf afi memory = record { answer = numberOf (makeOutcome afi memory); octets = onOutcome (λ number. memory) (λ octets. octets) (makeOutcome afi memory) }
 
@@ -46,6 +49,7 @@ entering places rs r = pick (holds (nlriOf r) rs) (given REPLACED) (pick (ltb (l
 unfoldable pub installOutcome : (table nlri attribute : List ℕ) → Outcome ℕ
 installOutcome t nlri attribute = pick (soundOf t) (andThen (readRoute (afiIn t) nlri attribute) (λ r. entering (placesIn t) (routesOf t) r)) (refused TABLE)
 
+-- the answer, and the table afterwards: the image of its routes with this one
 unfoldable pub installOf : (table nlri attribute : List ℕ) → Changed Installed
 installOf t nlri attribute =
     record {
@@ -61,6 +65,7 @@ leaving rs nlri = pick (holds nlri rs) (given nlri) (refused ABSENT)
 unfoldable pub withdrawOutcome : (table nlri : List ℕ) → Outcome (List ℕ)
 withdrawOutcome t nlri = pick (soundOf t) (andThen (readSPmsi (afiIn t) nlri) (λ f. leaving (routesOf t) nlri)) (refused TABLE)
 
+-- the number, and the table afterwards: the image of its routes without this one
 unfoldable pub withdrawOf : (table nlri : List ℕ) → Changed ℕ
 withdrawOf t nlri =
     record {
@@ -73,6 +78,7 @@ unfoldable pub foundAnswer : Found → Matched
 foundAnswer nothing = record { number = DONE; tier = 0; «nlri_size» = 0; «attribute_size» = 0 }
 foundAnswer (found tier r) = record { number = DONE; tier = tier; «nlri_size» = length (nlriOf r); «attribute_size» = length (attributeOf r) }
 
+-- a refusal has empty fields
 unfoldable pub refusedMatch : ℕ → Matched
 refusedMatch number = record { number = number; tier = 0; «nlri_size» = 0; «attribute_size» = 0 }
 
@@ -91,5 +97,6 @@ unfoldable pub matchOutcome : (table router source group output : List ℕ) → 
 matchOutcome t router source group output =
     pick (soundOf t) (andThen (readMatch (afiIn t) router source group output) (λ q. given (matchIn (afiIn t) q (routesOf t)))) (refused TABLE)
 
+-- the answer, and the output afterwards
 unfoldable pub matchOf : (table router source group output : List ℕ) → Changed Matched
 matchOf t router source group output = matchedBy (matchOutcome t router source group output) output

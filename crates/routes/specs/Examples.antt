@@ -30,6 +30,7 @@ Holds (reading afi s fields) = readNlri afi s ≡ fields
 Holds (matching t router source group output answer) = matchOf t router source group output ≡ answer
 Holds (installing t nlri attribute answer) = installOf t nlri attribute ≡ answer
 
+-- every one of these cases
 abbrev pub AllHold : List Example → Type 0
 AllHold [] = Unit {0}
 AllHold (e ∷ es) = Holds e × AllHold es
@@ -95,6 +96,7 @@ unfoldable pub afterInstalls : List ℕ → List Route → List ℕ
 afterInstalls t [] = t
 afterInstalls t (r ∷ rs) = afterInstalls (installOf t (nlriOf r) (attributeOf r) .octets) rs
 
+-- the table of the examples: A to E installed in it
 unfoldable pub someTable : List ℕ
 someTable = afterInstalls emptyTable (routeA ∷ (routeB ∷ (routeC ∷ (routeD ∷ (routeE ∷ [])))))
 
@@ -110,9 +112,11 @@ tells tier r nlriSize attributeSize left =
       octets = nlriOf r ++ (attributeOf r ++ replicate left 255);
     }
 
+-- no route told: the output as it was
 abbrev pub tellsNone : Changed Matched
 tellsNone = record { answer = record { number = DONE; tier = 0; «nlri_size» = 0; «attribute_size» = 0 }; octets = someOutput }
 
+-- P1 to P12
 abbrev pub examples : List Example
 examples =
     -- P1 to P5: A, B, C and not B, D, D and not E

@@ -31,6 +31,7 @@ pub record TableOf (afi places : ℕ) (rs : List Route) (t : List ℕ) : Type 0 
   pub size : placesIn t ≡ places
   pub routes : routesOf t ≡ rs
 
+-- a sound table is the one image of its routes
 pub record Images : Type 0 where
   -- a sound table is the image of its routes, which it can hold
   pub holdable : (t : List ℕ) → soundOf t ≡ true → Holdable (afiIn t) (placesIn t) (routesOf t)

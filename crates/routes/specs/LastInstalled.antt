@@ -41,6 +41,7 @@ lastFrom nlri h [] steps = h
 lastFrom nlri h (c ∷ cs) [] = h
 lastFrom nlri h (c ∷ cs) (step ∷ steps) = lastFrom nlri (pick (decides nlri c (step .answer)) (leftBy c) h) cs steps
 
+-- the same, of which nothing was held
 unfoldable pub lastOf : (nlri : List ℕ) → List Call → List Step → Held
 lastOf nlri calls steps = lastFrom nlri absent calls steps
 
@@ -67,6 +68,7 @@ pub record Kept (afi : ℕ) (memory : List ℕ) (calls : List Call) : Type 0 whe
   pub exactly : (nlri attribute : List ℕ)
       → Member (route nlri attribute) (routesOf (endOf (makeOf afi memory .octets) calls)) ↔ LastInstall nlri attribute (makeOf afi memory .octets) calls
 
+-- a table after calls, on any list of calls
 pub record LastInstalled : Type 0 where
   pub arguments : ArgumentRule
   pub make : MakeRule

@@ -77,6 +77,7 @@ pub record Untold (output : List ℕ) (changed : Changed Matched) : Type 0 where
   pub sizes : (changed .answer .«nlri_size» ≡ 0) × (changed .answer .«attribute_size» ≡ 0)
   pub untouched : changed .octets ≡ output
 
+-- match: what it chooses, each number exactly when, and what it tells
 pub record MatchRule : Type 0 where
   -- over any routes with no NLRI twice, in any order
   pub chosen : (afi : ℕ) (router source group : List ℕ) (q : Query) (rs : List Route) → readFlow afi router source group ≡ given q → Distinct rs

@@ -33,6 +33,7 @@ condition q tier f =
     (pick (eqb tier 4) (both (wildcard (f .source)) (wildcard (f .group)))
     false)))
 
+-- a route meets a tier's condition
 unfoldable pub meets : ℕ → Query → ℕ → Route → Bool
 meets afi q tier r = ofFields afi r (condition q tier)
 
@@ -55,6 +56,7 @@ unfoldable pub lowestIn : ℕ → Query → (tier : ℕ) → List Route → Foun
 lowestIn afi q tier [] = nothing
 lowestIn afi q tier (r ∷ rs) = pick (both (candidate afi q r) (meets afi q tier r)) (lower afi tier r (lowestIn afi q tier rs)) (lowestIn afi q tier rs)
 
+-- the first found
 unfoldable pub orElse : Found → Found → Found
 orElse nothing other = other
 orElse (found tier r) other = found tier r

@@ -26,9 +26,11 @@ pub data Rearranged {A : Type 0} : List A → List A → Type 0 where
 pub data Occurrence : Type 0 where
   occurrence : (position : ℕ) → Call → Occurrence
 
+-- its call
 unfoldable pub callIn : Occurrence → Call
 callIn (occurrence position c) = c
 
+-- calls numbered from a position on
 unfoldable pub numberedFrom : ℕ → List Call → List Occurrence
 numberedFrom position [] = []
 numberedFrom position (c ∷ cs) = occurrence position c ∷ numberedFrom (suc position) cs
@@ -55,6 +57,7 @@ ownOccurrences afi router os = chosen (λ o. owns afi router (callIn o)) os
 pub data Answered : Type 0 where
   answered : Occurrence → Answer → Answered
 
+-- what is answered
 unfoldable pub occurrenceIn : Answered → Occurrence
 occurrenceIn (answered o answer) = o
 
@@ -72,6 +75,7 @@ answersOf t os = answersWith os (runFrom t (callsOf os))
 unfoldable pub ownAnswers : (afi : ℕ) (router : List ℕ) → List Answered → List Answered
 ownAnswers afi router answers = chosen (λ a. owns afi router (callIn (occurrenceIn a))) answers
 
+-- the owner of a call of nobody
 unfoldable pub isNobody : Owner → Bool
 isNobody nobody = true
 isNobody (owner router) = false
@@ -80,6 +84,7 @@ isNobody (owner router) = false
 unfoldable pub nobodysOccurrences : ℕ → List Occurrence → List Occurrence
 nobodysOccurrences afi os = chosen (λ o. isNobody (ownerOf afi (callIn o))) os
 
+-- each of these routers' own occurrences, one router after another
 unfoldable pub turns : ℕ → (routers : List (List ℕ)) → List Occurrence → List Occurrence
 turns afi [] os = []
 turns afi (router ∷ routers) os = ownOccurrences afi router os ++ turns afi routers os

@@ -12,6 +12,7 @@ use Rattle.octets.specs.Order.{zeros, allZero}
 use Rattle.routes.specs.Route.{Route, route, nlriOf, attributeOf}
 use Rattle.routes.specs.Arguments.{readRoute}
 
+-- the octets of a place
 abbrev pub PLACE : ℕ
 PLACE = 128
 

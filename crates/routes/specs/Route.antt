@@ -1,4 +1,4 @@
--- Routes, and what a list of routes holds.
+-- Routes, and what a list of routes holds (document 01, "The table memory").
 use Prim.Native.Nat.{ℕ}
 use mathlib.Core.Path.{_≡_}
 use mathlib.Core.Bool.{Bool, true, false}
@@ -10,9 +10,11 @@ use Rattle.octets.specs.Order.{same, before}
 pub data Route : Type 0 where
   route : (nlri attribute : List ℕ) → Route
 
+-- its NLRI
 unfoldable pub nlriOf : Route → List ℕ
 nlriOf (route nlri attribute) = nlri
 
+-- its attribute
 unfoldable pub attributeOf : Route → List ℕ
 attributeOf (route nlri attribute) = attribute
 
@@ -21,14 +23,17 @@ pub data Held : Type 0 where
   absent : Held
   held : (attribute : List ℕ) → Held
 
+-- the first route of an NLRI decides what is held of it
 unfoldable pub lookup : List ℕ → List Route → Held
 lookup nlri [] = absent
 lookup nlri (r ∷ rs) = pick (same nlri (nlriOf r)) (held (attributeOf r)) (lookup nlri rs)
 
+-- something is held
 unfoldable pub isHeld : Held → Bool
 isHeld absent = false
 isHeld (held attribute) = true
 
+-- routes hold an NLRI
 unfoldable pub holds : List ℕ → List Route → Bool
 holds nlri rs = isHeld (lookup nlri rs)
 

@@ -10,6 +10,7 @@ use Rattle.octets.specs.Order.{same, before, zeros, allZero}
 use Rattle.routes.specs.Route.{Route, nlriOf}
 use Rattle.routes.specs.Place.{PLACE, placeOf, routeIn, placeSound}
 
+-- the octets before the places
 abbrev pub HEADER : ℕ
 HEADER = 8
 
@@ -30,9 +31,11 @@ placesOf (r ∷ rs) = placeOf r ++ placesOf rs
 unfoldable pub imageOf : (afi places : ℕ) → List Route → List ℕ
 imageOf afi places rs = headerOf afi (length rs) ++ (placesOf rs ++ zeros (PLACE * (places - length rs)))
 
+-- the AFI that a table says
 unfoldable pub afiIn : List ℕ → ℕ
 afiIn t = getD t 5 0
 
+-- the count that a table says
 unfoldable pub countIn : List ℕ → ℕ
 countIn t = numberIn (part t 6 2) 0
 
@@ -40,6 +43,7 @@ countIn t = numberIn (part t 6 2) 0
 unfoldable pub placesIn : List ℕ → ℕ
 placesIn t = (length t - HEADER) / PLACE
 
+-- the routes in so many places, one after the other
 unfoldable pub routesFrom : ℕ → List ℕ → List Route
 routesFrom zero s = []
 routesFrom (suc count) s = routeIn (take PLACE s) ∷ routesFrom count (drop PLACE s)
@@ -52,6 +56,7 @@ routesOf t = routesFrom (countIn t) (drop HEADER t)
 unfoldable pub tableSize : ℕ → Bool
 tableSize size = both (leb HEADER size) (both (eqb ((size - HEADER) % PLACE) 0) (leb ((size - HEADER) / PLACE) 500))
 
+-- a good header: "MVT", the version, and AFI 1 or 2
 unfoldable pub headerSound : List ℕ → Bool
 headerSound t = both (same (take 6 t) (headerStart (afiIn t))) (either (eqb (afiIn t) 1) (eqb (afiIn t) 2))
 

@@ -15,6 +15,7 @@ pub data IdentifierForm : Type 0 where
   sizes : List ℕ → IdentifierForm
   fecTypes : List ℕ → IdentifierForm
 
+-- a tunnel type and its identifier's form
 pub record TableRow : Type 0 where
   pub tunnelType : ℕ
   pub form : IdentifierForm
@@ -22,7 +23,7 @@ pub record TableRow : Type 0 where
 abbrev row : ℕ → IdentifierForm → TableRow
 row t f = record { tunnelType = t; form = f }
 
--- the table: a tunnel type and its identifier's form to a row
+-- document 01's table
 unfoldable pub table : List TableRow
 table =
     row 0 (sizes (0 ∷ []))
