@@ -8,6 +8,13 @@ use lib.ListN.{length, getD, take, drop, replicate, length-append, length-take, 
 use lib.Seq.{take-all, take-at, drop-at, drop-drop, length-take-le, take-append-le, take-length, take-append-add, take-add, take-take, take-append-seam}
 use Rattle.octets.specs.Octets.{part, placed, front, sized}
 
+-- a slice lent from `at` to its end, and one lent from its start to its end
+pub lent-rest : (at : ℕ) (s : List ℕ) → take (length s - at) (drop at s) ≡ drop at s
+lent-rest at s = take-all (length s - at) (drop at s) (simp length-drop (omega arith))
+
+pub lent-whole : (s : List ℕ) → take (length s - 0) (drop 0 s) ≡ s
+lent-whole s = lent-rest 0 s
+
 pub placed-length : (at : ℕ) (e d : List ℕ) → at + length e ≤ length d → length (placed at e d) ≡ length d
 unfolding placed
 placed-length at e d h = simp (length-append, length-take, length-drop) (omega arith)
@@ -21,7 +28,7 @@ pub lent-placed : (at : ℕ) (e d y : List ℕ) → at + length e ≤ length d �
     → take at d ++ (y ++ drop (length d - at) (drop at d)) ≡ placed at e d
 unfolding placed
 lent-placed at e d y h q =
-    rw (q, take-length e, take-all (length d - at) (drop at d) (simp length-drop (omega arith)), drop-drop (length d - at) at d, drop-of-length-le d {i = at + (length d - at)} (omega arith), append-nil)
+    rw (q, take-length e, lent-rest at d, drop-drop (length d - at) at d, drop-of-length-le d {i = at + (length d - at)} (omega arith), append-nil)
     (rw drop-drop)
 
 -- two writes, one straight after the other, are one

@@ -1,5 +1,8 @@
 // Equality and order of octets, and zeros: many octets at once, where there are many. Those left over at the end are looked
 // at together with some before them, which are then looked at twice.
+//
+// Each public function hands on parts of its slices and not the slices themselves: the compiler then passes a slice to it by two
+// registers and not by memory.
 ghost use mathlib.Core.Path.{_≡_};
 ghost use Prim.Native.Nat.{min};
 ghost use lib.ListN.{length};
@@ -15,6 +18,12 @@ const BLOCK: usize = 32;
 
 // The same size and octets.
 pub fn is_same(a: &[u8], b: &[u8]) -> bool
+    ensures { λ r. ⌜ r ≡ same (now (a .entry)) (now (b .entry)) ⌝ }
+{
+    is_same_by_words(&a[0..], &b[0..])
+}
+
+fn is_same_by_words(a: &[u8], b: &[u8]) -> bool
     ensures { λ r. ⌜ r ≡ same (now (a .entry)) (now (b .entry)) ⌝ }
 {
     if a.len() != b.len() {
@@ -54,6 +63,12 @@ fn is_short_same(a: &[u8], b: &[u8]) -> bool
 
 // The lower octet where they first differ decides; what ends there comes first.
 pub fn comes_before(a: &[u8], b: &[u8]) -> bool
+    ensures { λ r. ⌜ r ≡ before (now (a .entry)) (now (b .entry)) ⌝ }
+{
+    comes_before_by_words(&a[0..], &b[0..])
+}
+
+fn comes_before_by_words(a: &[u8], b: &[u8]) -> bool
     ensures { λ r. ⌜ r ≡ before (now (a .entry)) (now (b .entry)) ⌝ }
 {
     let size = shorter(a.len(), b.len());
@@ -105,8 +120,15 @@ fn comes_each_before(a: &[u8], b: &[u8]) -> bool
     a.len() < b.len()
 }
 
-// Every octet is zero: the last block, which may begin inside the others, and the whole blocks.
+// Every octet is zero.
 pub fn is_zero(s: &[u8]) -> bool
+    ensures { λ r. ⌜ r ≡ allZero (now (s .entry)) ⌝ }
+{
+    is_zero_by_blocks(&s[0..])
+}
+
+// The last block, which may begin inside the others, and the whole blocks.
+fn is_zero_by_blocks(s: &[u8]) -> bool
     ensures { λ r. ⌜ r ≡ allZero (now (s .entry)) ⌝ }
 {
     if s.len() < BLOCK {

@@ -1,89 +1,45 @@
--- `octets::order::is_same` meets its contract: as far as the loop has come, both begin alike.
-use Prim.Native.Nat.{ℕ, _-_}
-use mathlib.Core.Path.{_≡_, refl, sym}
-use lib.ListN.{length, take}
+-- `octets::order::is_same` meets its contract.
+use mathlib.Core.Path.{ap₂, _∙_}
 use denote.Ref.{now}
+use Rattle.octets.specs.Order.{same}
+use Rattle.octets.proofs.Lists.{lent-whole}
 use borrow.Author.Needs.{needs}
-use Rattle.octets.proofs.Orders.{lengths-differ, numbers-go-on, numbers-differ, numbers-end, alike-before}
 use Rattle.octets.proofs.order.is_same.Statement.{statement}
 use Rattle.octets.proofs.order.is_same.Tie as tie
 
-abbrev Inv-loop : tie.InvT-loop
-Inv-loop a b last i₀ i = take i a ≡ take i b
+sub-is-same-by-words : tie.Need-sub-is-same-by-words
+sub-is-same-by-words c = search needs
 
-abbrev μ-loop : tie.MeasureT-loop
-μ-loop a b last i₀ i = length a - i
+part-is-same-by-words-start : tie.Need-part-is-same-by-words-start
+part-is-same-by-words-start c = search needs
 
-returns : tie.Need-returns Inv-loop μ-loop
-returns c = sym (lengths-differ _ _ (c .if1 .taken))
+part-is-same-by-words-end : tie.Need-part-is-same-by-words-end
+part-is-same-by-words-end c = search needs
 
-is-short-same-requires : tie.Need-is-short-same-requires Inv-loop μ-loop
-is-short-same-requires c κs = search needs
+sub-is-same-by-words-2 : tie.Need-sub-is-same-by-words-2
+sub-is-same-by-words-2 c = search needs
 
-returns-2 : tie.Need-returns-2 Inv-loop μ-loop
-returns-2 c = search needs
+part-is-same-by-words-start-2 : tie.Need-part-is-same-by-words-start-2
+part-is-same-by-words-start-2 c = search needs
 
-sub-last : tie.Need-sub-last Inv-loop μ-loop
-sub-last c = search needs
+part-is-same-by-words-end-2 : tie.Need-part-is-same-by-words-end-2
+part-is-same-by-words-end-2 c = search needs
 
-loop-holds : tie.Need-loop-holds Inv-loop μ-loop
-loop-holds c = refl
+is-same-by-words-requires : tie.Need-is-same-by-words-requires
+is-same-by-words-requires c κs = search needs
 
-eight-requires : tie.Need-eight-requires Inv-loop μ-loop
-eight-requires c κs = search needs
-
-eight-requires-2 : tie.Need-eight-requires-2 Inv-loop μ-loop
-eight-requires-2 c κs = search needs
-
-returns-3 : tie.Need-returns-3 Inv-loop μ-loop
-returns-3 c =
-    let l = c .before .before .before .before .loop in
-    numbers-differ _ _ (l .i) 8 _ _ (c .before .before .eight .ensures) (c .before .eight2 .ensures) (c .if3 .taken)
-
-add-i : tie.Need-add-i Inv-loop μ-loop
-add-i c = search needs
-
-loop-less : tie.Need-loop-less Inv-loop μ-loop
-loop-less c = search needs
-
-loop-again : tie.Need-loop-again Inv-loop μ-loop
-loop-again c =
-    let o = c .before .before .before .before .before .before .before in
-    let s = o .before .before .args in
-    let l = c .before .before .before .before .loop in
-    numbers-go-on (now (s .a)) (now (s .b)) (λ k. o .before .shared-slice-known .given k .fits) (λ k. o .shared-slice-known2 .given k .fits) (l .i) 8 _ _ (search needs) (search needs) (l .inv) (c .before .before .eight .ensures) (c .before .eight2 .ensures) (c .if3 .left)
-
-eight-requires-3 : tie.Need-eight-requires-3 Inv-loop μ-loop
-eight-requires-3 c κs = search needs
-
-eight-requires-4 : tie.Need-eight-requires-4 Inv-loop μ-loop
-eight-requires-4 c κs = search needs
-
-returns-4 : tie.Need-returns-4 Inv-loop μ-loop
-returns-4 c =
-    let o = c .before .before .before .before .before .before in
-    let s = o .before .before .args in
-    let l = c .before .before .before .loop in
-    let last : ℕ = length (now (s .a)) - 8 in
-    numbers-end (now (s .a)) (now (s .b)) (λ k. o .before .shared-slice-known .given k .fits) (λ k. o .shared-slice-known2 .given k .fits) last 8 _ _ (search needs) (search needs) (alike-before (now (s .a)) (now (s .b)) last (l .i) (search needs) (l .inv)) (c .before .eight3 .ensures) (c .eight4 .ensures) (search needs) (search needs)
+returns : tie.Need-returns
+returns c = c .is-same-by-words .ensures ∙ ap₂ same (lent-whole (now (c .before .before .before .before .before .args .a))) (lent-whole (now (c .before .before .before .before .before .args .b)))
 
 pub is-same-spec : {M : Type 1} → statement M
 is-same-spec =
     tie.close
     (tie.spec
-    Inv-loop
-    μ-loop
-    returns
-    is-short-same-requires
-    returns-2
-    sub-last
-    loop-holds
-    eight-requires
-    eight-requires-2
-    returns-3
-    add-i
-    loop-less
-    loop-again
-    eight-requires-3
-    eight-requires-4
-    returns-4)
+    sub-is-same-by-words
+    part-is-same-by-words-start
+    part-is-same-by-words-end
+    sub-is-same-by-words-2
+    part-is-same-by-words-start-2
+    part-is-same-by-words-end-2
+    is-same-by-words-requires
+    returns)

@@ -1,0 +1,97 @@
+-- `octets::order::comes_before_by_words` meets its contract: as far as the loop has come, both begin alike.
+use Prim.Native.Nat.{ℕ, _+_, _-_}
+use mathlib.Core.Path.{_≡_, refl}
+use lib.ListN.{take}
+use denote.Ref.{now}
+use borrow.Author.Needs.{needs}
+use Rattle.octets.proofs.Orders.{numbers-go-on, numbers-decide, lengths-decide, alike-before}
+use Rattle.octets.proofs.order.comes_before_by_words.Statement.{statement}
+use Rattle.octets.proofs.order.comes_before_by_words.Tie as tie
+
+abbrev Inv-loop : tie.InvT-loop
+Inv-loop a b size last i₀ i = take i a ≡ take i b
+
+abbrev μ-loop : tie.MeasureT-loop
+μ-loop a b size last i₀ i = last - i
+
+shorter-requires : tie.Need-shorter-requires Inv-loop μ-loop
+shorter-requires c κs = search needs
+
+comes-each-before-requires : tie.Need-comes-each-before-requires Inv-loop μ-loop
+comes-each-before-requires c κs = search needs
+
+returns : tie.Need-returns Inv-loop μ-loop
+returns c = search needs
+
+loop-holds : tie.Need-loop-holds Inv-loop μ-loop
+loop-holds c = refl
+
+eight-requires : tie.Need-eight-requires Inv-loop μ-loop
+eight-requires c κs = search needs
+
+eight-requires-2 : tie.Need-eight-requires-2 Inv-loop μ-loop
+eight-requires-2 c κs = search needs
+
+returns-2 : tie.Need-returns-2 Inv-loop μ-loop
+returns-2 c =
+    let o = c .before .before .before .before .before .before .before in
+    let s = o .before .before .args in
+    let l = c .before .before .before .before .loop in
+    numbers-decide (now (s .a)) (now (s .b)) (λ k. o .before .shared-slice-known .given k .fits) (λ k. o .shared-slice-known2 .given k .fits) (l .i) 8 _ _ (search needs) (search needs) (l .inv) (c .before .before .eight .ensures) (c .before .eight2 .ensures) (c .if2 .taken)
+
+add-i : tie.Need-add-i Inv-loop μ-loop
+add-i c = search needs
+
+loop-less : tie.Need-loop-less Inv-loop μ-loop
+loop-less c = search needs
+
+loop-again : tie.Need-loop-again Inv-loop μ-loop
+loop-again c =
+    let o = c .before .before .before .before .before .before .before in
+    let s = o .before .before .args in
+    let l = c .before .before .before .before .loop in
+    numbers-go-on (now (s .a)) (now (s .b)) (λ k. o .before .shared-slice-known .given k .fits) (λ k. o .shared-slice-known2 .given k .fits) (l .i) 8 _ _ (search needs) (search needs) (l .inv) (c .before .before .eight .ensures) (c .before .eight2 .ensures) (c .if2 .left)
+
+eight-requires-3 : tie.Need-eight-requires-3 Inv-loop μ-loop
+eight-requires-3 c κs = search needs
+
+eight-requires-4 : tie.Need-eight-requires-4 Inv-loop μ-loop
+eight-requires-4 c κs = search needs
+
+returns-3 : tie.Need-returns-3 Inv-loop μ-loop
+returns-3 c =
+    let o = c .before .before .before .before .before .before .before in
+    let s = o .before .before .args in
+    let l = c .before .before .before .before .loop in
+    let last : ℕ = c .before .before .before .before .before .before .shorter .result - 8 in
+    numbers-decide (now (s .a)) (now (s .b)) (λ k. o .before .shared-slice-known .given k .fits) (λ k. o .shared-slice-known2 .given k .fits) last 8 _ _ (search needs) (search needs) (alike-before (now (s .a)) (now (s .b)) last (l .i) (search needs) (l .inv)) (c .before .before .eight3 .ensures) (c .before .eight4 .ensures) (c .if3 .taken)
+
+returns-4 : tie.Need-returns-4 Inv-loop μ-loop
+returns-4 c =
+    let o = c .before .before .before .before .before .before .before in
+    let s = o .before .before .args in
+    let l = c .before .before .before .before .loop in
+    let last : ℕ = c .before .before .before .before .before .before .shorter .result - 8 in
+    lengths-decide (now (s .a)) (now (s .b)) (last + 8) (search needs)
+    (numbers-go-on (now (s .a)) (now (s .b)) (λ k. o .before .shared-slice-known .given k .fits) (λ k. o .shared-slice-known2 .given k .fits) last 8 _ _ (search needs) (search needs) (alike-before (now (s .a)) (now (s .b)) last (l .i) (search needs) (l .inv)) (c .before .before .eight3 .ensures) (c .before .eight4 .ensures) (c .if3 .left))
+
+pub comes-before-by-words-spec : {M : Type 1} → statement M
+comes-before-by-words-spec =
+    tie.close
+    (tie.spec
+    Inv-loop
+    μ-loop
+    shorter-requires
+    comes-each-before-requires
+    returns
+    loop-holds
+    eight-requires
+    eight-requires-2
+    returns-2
+    add-i
+    loop-less
+    loop-again
+    eight-requires-3
+    eight-requires-4
+    returns-3
+    returns-4)
