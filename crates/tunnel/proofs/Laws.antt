@@ -26,7 +26,7 @@ use Rattle.tunnel.specs.Identifier.{IdentifierForm, sizes, fecTypes, Tab
 use Rattle.tunnel.specs.Attribute.{Fields, labelOf, leafInformationRequired, fieldsIn, encodeAttribute, readAttribute, writeAttribute}
 use Rattle.tunnel.specs.Answers.{fecSpans, noFec, fecOfForm, fecOf, attributeOf, readAnswer}
 use Rattle.octets.specs.Outputs.{writtenOf, outputOf}
-use Rattle.tunnel.specs.Inner.{unknown, mldp, typeSuits, formFault, faultIn, faultOf, TakesSizes, readFault, writeFault, opaqueStart, endsFrom}
+use Rattle.tunnel.specs.Inner.{unknown, mldp, typeSuits, formFault, faultIn, faultOf, TakesSizes, readFault, writeFault, endsFrom}
 use Rattle.tunnel.proofs.ByNumber.{byNumber, when-done, when-not-done, number-is, number-picked, number-then, number-kept}
 
 -- a test that a call made, in the definition's words
@@ -71,7 +71,23 @@ family-suits family size e =
     (λ p. let q = pick-held (eqb family 2) (eqb size 16) (p .1) in inr (eqb-true family 2 (q .0), eqb-true size 16 (q .1)))
     (picked (eqb family 1) (eqb size 4) (pick (eqb family 2) (eqb size 16) false) true e)
 
-module _ (i : List ℕ) (h : 4 ≤ length i) (m : length i ≤ 59) (b : getD i 3 0 < 256) (root : ℕ) (e : root ≡ numberIn (part i 1 3) 0) where
+-- no FEC has fewer octets than one with an IPv4 root and no opaque value
+pub whole-short : (i : List ℕ) → length i < 10 → false ≡ wholeFec i
+unfolding wholeFec endsAt pick
+whole-short i h =
+    let suits = familySuits (numberIn (part i 1 2) 0) (getD i 3 0) in
+    tested (ltb (length i) 4)
+    (λ p. rw p)
+    (λ p. tested suits (λ t. rw (p, t, no-room (ltb-false (length i) 4 p) (room (getD i 3 0) (family-suits (numberIn (part i 1 2) 0) (getD i 3 0) t)))) (λ t. rw (p, t)))
+  where
+    room : {family : ℕ} (size : ℕ) → ((family ≡ 1) × (size ≡ 4)) ⊎ ((family ≡ 2) × (size ≡ 16)) → 4 ≤ size
+    room size s = ⊎-elim (λ x. omega (arith, x .1)) (λ x. omega (arith, x .1)) s
+
+    no-room : 4 ≤ length i → 4 ≤ getD i 3 0 → endsAt (drop 4 i) (getD i 3 0) ≡ false
+    no-room f g = let l : length (drop 4 i) ≡ length i - 4 = length-drop 4 i in rw (lt-ltb (length (drop 4 i)) (getD i 3 0 + 2) (omega arith))
+
+-- address family and address length as one number
+module _ (i : List ℕ) (h : 4 ≤ length i) (b : getD i 3 0 < 256) (root : ℕ) (e : root ≡ numberIn (part i 1 3) 0) where
   root-parts : root ≡ numberIn (part i 1 2) 0 * 256 + getD i 3 0
   root-parts = e ∙ number-part i 1 2 (omega arith)
 
@@ -79,24 +95,20 @@ module _ (i : List ℕ) (h : 4 ≤ length i) (m : length i ≤ 59) (b : getD i 3
   unfolding wholeFec pick
   rooted family size start f s t q = rw (le-ltb (length i) 4 h, f, s, t) (ends-after-header i size start h q)
 
-  unrooted : (root ≡ 260 → ⊥) → (root ≡ 528 → ⊥) → endsFrom i 60 ≡ wholeFec i
-  unfolding wholeFec endsFrom pick
-  unrooted p q =
+  pub whole-ipv4 : (r : Bool) → root ≡ 260 → r ≡ endsFrom i 10 → r ≡ wholeFec i
+  unfolding familySuits pick
+  whole-ipv4 r z q = q ∙ rooted 1 4 10 (omega (arith, root-parts)) (omega (arith, root-parts)) refl refl
+
+  pub whole-ipv6 : (r : Bool) → root ≡ 528 → r ≡ endsFrom i 22 → r ≡ wholeFec i
+  unfolding familySuits pick
+  whole-ipv6 r z q = q ∙ rooted 2 16 22 (omega (arith, root-parts)) (omega (arith, root-parts)) refl refl
+
+  pub whole-unrooted : (root ≡ 260 → ⊥) → (root ≡ 528 → ⊥) → false ≡ wholeFec i
+  unfolding wholeFec pick
+  whole-unrooted p q =
       let suits = familySuits (numberIn (part i 1 2) 0) (getD i 3 0) in
       let no : suits ≡ false = tested suits (λ t. absurd (⊎-elim (λ x. p (omega (arith, root-parts, x .0, x .1))) (λ x. q (omega (arith, root-parts, x .0, x .1))) (family-suits (numberIn (part i 1 2) 0) (getD i 3 0) t))) (λ t. t) in
-      rw (le-ltb (length i) 4 h, no, lt-ltb (length i) 60 (omega arith))
-
-  whole-by-root : endsFrom i (opaqueStart root) ≡ wholeFec i
-  unfolding opaqueStart familySuits pick
-  whole-by-root =
-      tested (eqb root 260)
-      (λ p. let z = eqb-true root 260 p in rw p (rooted 1 4 10 (omega (arith, root-parts)) (omega (arith, root-parts)) refl refl))
-      (λ p. tested (eqb root 528)
-      (λ q. let z = eqb-true root 528 q in rw (p, q) (rooted 2 16 22 (omega (arith, root-parts)) (omega (arith, root-parts)) refl refl))
-      (λ q. rw (p, q) (unrooted (eqb-false root 260 p) (eqb-false root 528 q))))
-
-  pub whole-ends : (start : ℕ) (r : Bool) → start ≡ opaqueStart root → r ≡ endsFrom i start → r ≡ wholeFec i
-  whole-ends start r s q = q ∙ ap (endsFrom i) s ∙ whole-by-root
+      rw (le-ltb (length i) 4 h, no)
 
 -- the tests that a FEC passes
 pub record FecTests (i : List ℕ) : Type 0 where

@@ -21,10 +21,6 @@ mldp t = either (eqb t 2) (eqb t 7)
 unfoldable pub typeSuits : ℕ → ℕ → Bool
 typeSuits t fec = pick (eqb t 2) (eqb fec 6) (either (eqb fec 7) (eqb fec 8))
 
--- where a FEC's opaque value starts, by address family and address length as one number; past every identifier's end where these do not suit
-unfoldable pub opaqueStart : ℕ → ℕ
-opaqueStart root = pick (eqb root 260) 10 (pick (eqb root 528) 22 60)
-
 -- from `start` on as many octets as the opaque length before it says
 unfoldable pub endsFrom : List ℕ → ℕ → Bool
 endsFrom i start = pick (ltb (length i) start) false (eqb (start + numberIn (part i (start - 2) 2) 0) (length i))

@@ -4,9 +4,8 @@ ghost use mathlib.Core.Bool.{true};
 ghost use Prim.Native.Nat.{_<_, _≤_};
 ghost use lib.ListN.{length};
 ghost use Rattle.tunnel.specs.Fec.{wholeFec, fecIn};
-ghost use Rattle.tunnel.specs.Inner.{opaqueStart, endsFrom};
+ghost use Rattle.tunnel.specs.Inner.{endsFrom};
 ghost use Rattle.tunnel.specs.Answers.{fecSpans};
-use crate::sizes::Sizes;
 use octets::Span;
 
 // A FEC's type and address family, and where in the attribute its root address and its opaque value stand.
@@ -39,21 +38,13 @@ impl Root {
     const IPV6: u32 = 528;
 }
 
-// Type 1, address family 2, address length 1.
-const HEADER: usize = 4;
+// Where the opaque value starts: after type 1, address family 2, address length 1, the root and the 2 octets of the opaque length.
+struct OpaqueStart {}
 
-// Where the opaque value starts: after the header, the root and the 2 octets of the opaque length. Past every identifier's end
-// where address family and address length do not suit.
-fn opaque_start(root: u32) -> usize
-    ensures { λ r. ⌜ (r ≡ opaqueStart root) × ((2 ≤ r) × (r < 256)) ⌝ }
-{
-    if root == Root::IPV4 {
-        return HEADER + Sizes::IPV4 + 2;
-    }
-    if root == Root::IPV6 {
-        return HEADER + Sizes::IPV6 + 2;
-    }
-    crate::MOST_IDENTIFIER + 1
+impl OpaqueStart {
+    const IPV4: usize = 10;
+
+    const IPV6: usize = 22;
 }
 
 // From `start` on as many octets as the opaque length before it says.
@@ -67,16 +58,21 @@ fn ends_from(identifier: &[u8], start: usize) -> bool
     start + octets::wide::two(identifier, start - 2) as usize == identifier.len()
 }
 
-// The octets are one FEC, whatever its type. Every length is judged where it stands, before its content.
+// The octets are one FEC, whatever its type. None is shorter than one with an IPv4 root and no opaque value.
 pub(crate) fn whole(identifier: &[u8]) -> bool
-    requires { ⌜ length (now identifier) ≤ 59 ⌝ }
     ensures { λ r. ⌜ r ≡ wholeFec (now (identifier .entry)) ⌝ }
 {
-    if identifier.len() < HEADER {
+    if identifier.len() < OpaqueStart::IPV4 {
         return false;
     }
     let root = octets::wide::three(identifier, 1);
-    ends_from(identifier, opaque_start(root))
+    if root == Root::IPV4 {
+        return ends_from(identifier, OpaqueStart::IPV4);
+    }
+    if root == Root::IPV6 {
+        return ends_from(identifier, OpaqueStart::IPV6);
+    }
+    false
 }
 
 // The FEC that an identifier is, placed in its attribute: the root straight after the attribute's header of 5 octets and

@@ -62,7 +62,8 @@ pub fn fault(s: &[u8]) -> u32
     if s.len() < HEADER {
         return number::SHORT;
     }
-    identifier::fault(s[1], octets::parts::after(s, HEADER))
+    // a part handed on, so that the slice reaches this function in registers
+    identifier::fault(s[1], &s[HEADER..])
 }
 
 // Reads an attribute.

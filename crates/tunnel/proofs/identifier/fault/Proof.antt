@@ -10,7 +10,7 @@ is-mldp-requires : tie.Need-is-mldp-requires
 is-mldp-requires c κs = search needs
 
 of-fec-requires : tie.Need-of-fec-requires
-of-fec-requires c κs = (search calls, search needs)
+of-fec-requires c κs = search calls
 
 returns : tie.Need-returns
 returns c = search needs
