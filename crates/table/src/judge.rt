@@ -1,6 +1,8 @@
 // Arguments of calls and the routes in places, judged where they stand: the number of the first refusal, or DONE.
 ghost use mathlib.Core.Path.{_≡_};
+ghost use Rattle.octets.specs.Numbers.{DONE};
 ghost use Rattle.octets.specs.Outcome.{numberOf};
+ghost use Rattle.tunnel.specs.Attribute.{readAttribute};
 ghost use Rattle.routes.specs.Arguments.{readSPmsi, readLabelled, readRoute};
 use nlri::RouteType;
 use octets::number::DONE;
@@ -26,20 +28,28 @@ pub(crate) fn s_pmsi_fault(afi: u16, nlri: &[u8]) -> u32
     }
 }
 
-// An attribute that install takes: attribute reading, then LABEL.
-pub(crate) fn attribute_fault(attribute: &[u8]) -> u32
+// LABEL, or DONE, for an attribute that reading accepts.
+pub(crate) fn label_fault(attribute: &[u8]) -> u32
+    requires { ⌜ numberOf (readAttribute (now attribute)) ≡ DONE ⌝ }
     ensures { λ r. ⌜ r ≡ numberOf (readLabelled (now (attribute .entry))) ⌝ }
 {
-    let fault = tunnel::fault(attribute);
-    if fault != DONE {
-        return fault;
-    }
     if attribute[1] == TunnelType::BIER {
         if octets::wide::three(attribute, LABEL_FIELD) / 16 == 0 {
             return LABEL;
         }
     }
     DONE
+}
+
+// An attribute that install takes: attribute reading, then LABEL.
+fn attribute_fault(attribute: &[u8]) -> u32
+    ensures { λ r. ⌜ r ≡ numberOf (readLabelled (now (attribute .entry))) ⌝ }
+{
+    let fault = tunnel::fault(attribute);
+    if fault != DONE {
+        return fault;
+    }
+    label_fault(attribute)
 }
 
 // A route that install takes, room apart.

@@ -52,21 +52,24 @@ pub(crate) fn is_table_size(size: usize) -> bool
     false
 }
 
-// A place holds a route that install would accept and then zeros. Nothing is copied out of it.
+// A place holds a route that install would accept and then zeros. Nothing is copied out of it. The attribute's two judges are
+// called one by one: each is small enough that the compiler puts it into the loop over the places.
 pub(crate) fn is_place_sound(afi: u16, place: &[u8]) -> bool
     requires { ⌜ length (now place) ≡ 128 ⌝ }
     ensures { λ r. ⌜ r ≡ placeSound afi (now (place .entry)) ⌝ }
 {
-    let nlri = place[0] as usize;
-    let attribute = place[1] as usize;
-    let end = 2 + (nlri + attribute);
+    let nlri_size = place[0] as usize;
+    let attribute_size = place[1] as usize;
+    let end = 2 + (nlri_size + attribute_size);
     if PLACE < end {
         return false;
     }
-    if nlri::is_s_pmsi(afi, octets::parts::between(place, 2, nlri)) {
-        let fault = judge::attribute_fault(octets::parts::between(place, 2 + nlri, attribute));
-        if fault == DONE {
-            return octets::order::is_zero(octets::parts::after(place, end));
+    if nlri::is_s_pmsi(afi, octets::parts::between(place, 2, nlri_size)) {
+        let attribute = octets::parts::between(place, 2 + nlri_size, attribute_size);
+        if tunnel::fault(attribute) == DONE {
+            if judge::label_fault(attribute) == DONE {
+                return octets::order::is_zero(octets::parts::after(place, end));
+            }
         }
     }
     false

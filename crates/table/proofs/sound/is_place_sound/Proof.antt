@@ -1,22 +1,22 @@
 -- `table::sound::is_place_sound` meets its contract.
 use native.Mathlib.Omega.{arith}
 use Rattle.routes.specs.Place.{endIn}
-use Rattle.table.proofs.Sounds.{place-over, place-other, place-refused, place-accepted}
+use Rattle.table.proofs.Sounds.{attribute-refused, place-over, place-other, place-refused, place-accepted}
 use borrow.Author.Needs.{needs}
 use Rattle.table.proofs.sound.is_place_sound.Statement.{statement}
 use Rattle.table.proofs.sound.is_place_sound.Tie as tie
 
-shared-slice-read-nlri : tie.Need-shared-slice-read-nlri
-shared-slice-read-nlri c = search needs
+shared-slice-read-nlri-size : tie.Need-shared-slice-read-nlri-size
+shared-slice-read-nlri-size c = search needs
 
-cast-nlri : tie.Need-cast-nlri
-cast-nlri c = omega (arith, c .shared-slice-known2 .given 0)
+cast-nlri-size : tie.Need-cast-nlri-size
+cast-nlri-size c = omega (arith, c .shared-slice-known2 .given 0)
 
-shared-slice-read-attribute : tie.Need-shared-slice-read-attribute
-shared-slice-read-attribute c = search needs
+shared-slice-read-attribute-size : tie.Need-shared-slice-read-attribute-size
+shared-slice-read-attribute-size c = search needs
 
-cast-attribute : tie.Need-cast-attribute
-cast-attribute c = omega (arith, c .shared-slice-known3 .given 1)
+cast-attribute-size : tie.Need-cast-attribute-size
+cast-attribute-size c = omega (arith, c .shared-slice-known3 .given 1)
 
 add-end : tie.Need-add-end
 add-end c = omega (arith, c .shared-slice-known3 .given 0, c .shared-slice-known3 .given 1)
@@ -40,8 +40,11 @@ add-between c = search needs
 between-requires-2 : tie.Need-between-requires-2
 between-requires-2 c κs = search needs
 
-attribute-fault-requires : tie.Need-attribute-fault-requires
-attribute-fault-requires c κs = search needs
+fault-requires : tie.Need-fault-requires
+fault-requires c κs = search needs
+
+label-fault-requires : tie.Need-label-fault-requires
+label-fault-requires c κs = search needs
 
 after-requires : tie.Need-after-requires
 after-requires c κs = search needs
@@ -51,24 +54,30 @@ is-zero-requires c κs = search needs
 
 returns-2 : tie.Need-returns-2
 unfolding endIn
-returns-2 c = place-accepted _ _ (c .before .before .before .before .before .before .before .before .if1 .left) _ _ (c .before .before .before .before .before .before .before .between .ensures) (c .before .before .before .before .before .before .is-s-pmsi .ensures) (c .before .before .before .before .before .if2 .taken) _ _ (c .before .before .before .before .between2 .ensures) (c .before .before .before .attribute-fault .ensures) (c .before .before .if3 .taken) _ _ (c .before .after .ensures) (c .is-zero .ensures)
+returns-2 c =
+    let judged = c .before .before .before .before in
+    place-accepted _ _ (judged .before .before .before .before .before .before .if1 .left) _ _ (judged .before .before .before .before .before .between .ensures) (judged .before .before .before .before .is-s-pmsi .ensures) (judged .before .before .before .if2 .taken) _ _ (judged .before .before .between2 .ensures) (c .before .before .before .label-fault .ensures) (c .before .before .if4 .taken) _ _ (c .before .after .ensures) (c .is-zero .ensures)
 
 returns-3 : tie.Need-returns-3
 unfolding endIn
-returns-3 c = place-refused _ _ (c .before .before .before .before .before .before .if1 .left) _ _ (c .before .before .before .before .before .between .ensures) (c .before .before .before .before .is-s-pmsi .ensures) (c .before .before .before .if2 .taken) _ _ (c .before .before .between2 .ensures) (c .before .attribute-fault .ensures) (c .if3 .left)
+returns-3 c = place-refused _ _ (c .before .before .before .before .before .before .before .before .if1 .left) _ _ (c .before .before .before .before .before .before .before .between .ensures) (c .before .before .before .before .before .before .is-s-pmsi .ensures) (c .before .before .before .before .before .if2 .taken) _ _ (c .before .before .before .before .between2 .ensures) (c .before .label-fault .ensures) (c .if4 .left)
 
 returns-4 : tie.Need-returns-4
 unfolding endIn
-returns-4 c = place-other _ _ (c .before .before .before .if1 .left) _ _ (c .before .before .between .ensures) (c .before .is-s-pmsi .ensures) (c .if2 .left)
+returns-4 c = place-refused _ _ (c .before .before .before .before .before .before .if1 .left) _ _ (c .before .before .before .before .before .between .ensures) (c .before .before .before .before .is-s-pmsi .ensures) (c .before .before .before .if2 .taken) _ _ (c .before .before .between2 .ensures) (attribute-refused _ _ (c .before .fault .ensures) (c .if3 .left)) (c .if3 .left)
+
+returns-5 : tie.Need-returns-5
+unfolding endIn
+returns-5 c = place-other _ _ (c .before .before .before .if1 .left) _ _ (c .before .before .between .ensures) (c .before .is-s-pmsi .ensures) (c .if2 .left)
 
 pub is-place-sound-spec : {M : Type 1} → statement M
 is-place-sound-spec =
     tie.close
     (tie.spec
-    shared-slice-read-nlri
-    cast-nlri
-    shared-slice-read-attribute
-    cast-attribute
+    shared-slice-read-nlri-size
+    cast-nlri-size
+    shared-slice-read-attribute-size
+    cast-attribute-size
     add-end
     add-end-2
     returns
@@ -76,9 +85,11 @@ is-place-sound-spec =
     is-s-pmsi-requires
     add-between
     between-requires-2
-    attribute-fault-requires
+    fault-requires
+    label-fault-requires
     after-requires
     is-zero-requires
     returns-2
     returns-3
-    returns-4)
+    returns-4
+    returns-5)
