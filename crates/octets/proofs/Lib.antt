@@ -4,6 +4,7 @@ pub mod Outcomes
 pub mod Inversions
 pub mod Lists
 pub mod NetworkOrder
+pub mod LowFirst
 pub mod Picked
 pub mod AllOctets
 pub mod Refusals

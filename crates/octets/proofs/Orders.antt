@@ -19,9 +19,9 @@ use Rattle.octets.proofs.Tests.{both-true}
 use Rattle.octets.proofs.Outcomes.{pick-true, pick-false}
 use Rattle.octets.proofs.Picked.{tested}
 use Rattle.octets.proofs.Refusals.{is-false}
-use Rattle.octets.proofs.AllOctets.{octets-of, octets-part, number-below}
+use Rattle.octets.proofs.AllOctets.{octets-part, number-below}
 use Rattle.octets.proofs.Lists.{part-length, take-then}
-use Rattle.octets.proofs.NetworkOrder.{number-high, same-number}
+use Rattle.octets.proofs.NetworkOrder.{number-high}
 
 pub same-itself : (xs : List ℕ) → same xs xs ≡ true
 unfolding same
@@ -240,34 +240,40 @@ number-before (one {x} {xs} p a) (one {x = y} {xs = ys} q b) high l =
     below : (x y : ℕ) → (x ≡ y → ⊥) → y ≤ x → (high : ℕ) → high * 256 + y < high * 256 + x
     below x y n l high = omega arith
 
--- numbers that differ
-pub numbers-differ : (a b : List ℕ) (i n x y : ℕ) → x ≡ numberIn (part a i n) 0 → y ≡ numberIn (part b i n) 0 → (x ≡ y → ⊥) → false ≡ same a b
-numbers-differ a b i n x y p q d = sym (unequal-other a b (λ e. d (p ∙ ap (λ (s : List ℕ). numberIn (part s i n) 0) e ∙ sym q)))
+-- octets that begin alike, and n of each after that
+module _ (a b : List ℕ) (i n : ℕ) (front : take i a ≡ take i b) where
+  parts-go-on : part a i n ≡ part b i n → take (i + n) a ≡ take (i + n) b
+  parts-go-on e = take-then a i n ∙ ap₂ (λ (p q : List ℕ). p ++ q) front e ∙ sym (take-then b i n)
 
--- octets that begin alike, and the numbers in n of each after that
-module _ (a b : List ℕ) (each-a : (k : ℕ) → getD a k 0 < 256) (each-b : (k : ℕ) → getD b k 0 < 256) (i n x y : ℕ) (fits-a : i + n ≤ length a) (fits-b : i + n ≤ length b)
-    (front : take i a ≡ take i b) (in-a : x ≡ numberIn (part a i n) 0) (in-b : y ≡ numberIn (part b i n) 0) where
-  pub numbers-go-on : x ≡ y → take (i + n) a ≡ take (i + n) b
-  numbers-go-on e =
-      take-then a i n
-      ∙ ap₂ (λ (p q : List ℕ). p ++ q) front (same-number (octets-of a each-a) (octets-of b each-b) i n fits-a fits-b (sym in-a ∙ e ∙ in-b))
-      ∙ sym (take-then b i n)
-
-  pub numbers-decide : (x ≡ y → ⊥) → ltb x y ≡ before a b
+  pub parts-decide : AllOctets a → AllOctets b → i + n ≤ length a → i + n ≤ length b → (x y : ℕ) → x ≡ numberIn (part a i n) 0 → y ≡ numberIn (part b i n) 0
+      → (part a i n ≡ part b i n → ⊥) → ltb x y ≡ before a b
   unfolding part
-  numbers-decide d =
+  parts-decide each-a each-b fits-a fits-b x y in-a in-b d =
       let l : length (part a i n) ≡ length (part b i n) = part-length a i n fits-a ∙ sym (part-length b i n fits-b) in
       rw (in-a, in-b)
-      (number-before (octets-part i n (octets-of a each-a)) (octets-part i n (octets-of b each-b)) 0 l
-      ∙ sym (before-first (part a i n) (part b i n) (drop n (drop i a)) (drop n (drop i b)) l (λ e. d (in-a ∙ ap (λ (s : List ℕ). numberIn s 0) e ∙ sym in-b)))
+      (number-before (octets-part i n each-a) (octets-part i n each-b) 0 l
+      ∙ sym (before-first (part a i n) (part b i n) (drop n (drop i a)) (drop n (drop i b)) l d)
       ∙ ap₂ before (take-append-drop n (drop i a)) (take-append-drop n (drop i b))
       ∙ sym (before-past i a b front))
 
-  pub numbers-end : length a ≡ i + n → length b ≡ i + n → eqb x y ≡ same a b
-  numbers-end h k =
-      tested (eqb x y)
-      (λ t. t ∙ sym (equal-same a b (sym (take-all (i + n) a (omega arith)) ∙ numbers-go-on (eqb-true x y t) ∙ take-all (i + n) b (omega arith))))
-      (λ f. f ∙ numbers-differ a b i n x y in-a in-b (eqb-false x y f))
+-- numbers that n octets of each stand for
+module _ (number : List ℕ → ℕ) (a b : List ℕ) (i n x y : ℕ) (in-a : x ≡ number (part a i n)) (in-b : y ≡ number (part b i n)) where
+  pub parts-differ : (x ≡ y → ⊥) → part a i n ≡ part b i n → ⊥
+  parts-differ d e = d (in-a ∙ ap number e ∙ sym in-b)
+
+  pub parts-other : (x ≡ y → ⊥) → false ≡ same a b
+  parts-other d = sym (unequal-other a b (λ e. parts-differ d (ap (λ (s : List ℕ). part s i n) e)))
+
+  -- where octets are told by their numbers
+  module _ (told : number (part a i n) ≡ number (part b i n) → part a i n ≡ part b i n) (front : take i a ≡ take i b) where
+    pub parts-alike : x ≡ y → take (i + n) a ≡ take (i + n) b
+    parts-alike e = parts-go-on a b i n front (told (sym in-a ∙ e ∙ in-b))
+
+    pub parts-end : length a ≡ i + n → length b ≡ i + n → eqb x y ≡ same a b
+    parts-end h k =
+        tested (eqb x y)
+        (λ t. t ∙ sym (equal-same a b (sym (take-all (i + n) a (omega arith)) ∙ parts-alike (eqb-true x y t) ∙ take-all (i + n) b (omega arith))))
+        (λ f. f ∙ parts-other (eqb-false x y f))
 
 -- lists that begin alike begin alike before that too
 pub alike-before : (a b : List ℕ) (i j : ℕ) → i ≤ j → take j a ≡ take j b → take i a ≡ take i b

@@ -1,4 +1,4 @@
--- Lists of octets, and numbers in network order.
+-- Lists of octets, and numbers in them.
 use Prim.Native.Nat.{ℕ, zero, suc, _+_, _*_, _/_, _%_, _<_}
 use mathlib.Core.List.{List, [], _∷_, _++_}
 use lib.ListN.{length, take, drop, replicate}
@@ -28,6 +28,11 @@ sized n xs = take n (xs ++ replicate n 0)
 unfoldable pub numberIn : List ℕ → ℕ → ℕ
 numberIn [] high = high
 numberIn (x ∷ xs) high = numberIn xs (high * 256 + x)
+
+-- the number that octets stand for, the least significant first
+unfoldable pub lowFirst : List ℕ → ℕ
+lowFirst [] = 0
+lowFirst (x ∷ xs) = x + 256 * lowFirst xs
 
 -- the last n octets of a number, the most significant first
 unfoldable pub bigEndian : ℕ → ℕ → List ℕ

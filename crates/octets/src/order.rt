@@ -9,7 +9,8 @@ ghost use lib.ListN.{length};
 ghost use Rattle.octets.specs.Order.{same, before, allZero};
 use crate::parts::between;
 use crate::wide::eight;
-use crate::wide::four;
+use crate::wide::eight_low_first;
+use crate::wide::four_low_first;
 
 // The octets that are compared at once, as one number, and those that are tested for zeros at once.
 const WORD: usize = 8;
@@ -35,12 +36,12 @@ fn is_same_by_words(a: &[u8], b: &[u8]) -> bool
     let last = a.len() - WORD;
     let mut i = 0;
     while i < last {
-        if eight(a, i) != eight(b, i) {
+        if eight_low_first(a, i) != eight_low_first(b, i) {
             return false;
         }
         i += WORD;
     }
-    eight(a, last) == eight(b, last)
+    eight_low_first(a, last) == eight_low_first(b, last)
 }
 
 // Fewer octets than a word: four, as of an IPv4 address, at once; else one by one.
@@ -49,7 +50,7 @@ fn is_short_same(a: &[u8], b: &[u8]) -> bool
     ensures { λ r. ⌜ r ≡ same (now (a .entry)) (now (b .entry)) ⌝ }
 {
     if a.len() == 4 {
-        return four(a, 0) == four(b, 0);
+        return four_low_first(a, 0) == four_low_first(b, 0);
     }
     let mut i = 0;
     while i < a.len() {
@@ -78,10 +79,8 @@ fn comes_before_by_words(a: &[u8], b: &[u8]) -> bool
     let last = size - WORD;
     let mut i = 0;
     while i < last {
-        let x = eight(a, i);
-        let y = eight(b, i);
-        if x != y {
-            return x < y;
+        if eight_low_first(a, i) != eight_low_first(b, i) {
+            return eight(a, i) < eight(b, i);
         }
         i += WORD;
     }

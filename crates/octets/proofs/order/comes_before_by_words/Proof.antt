@@ -1,10 +1,15 @@
 -- `octets::order::comes_before_by_words` meets its contract: as far as the loop has come, both begin alike.
 use Prim.Native.Nat.{ℕ, _+_, _-_}
 use mathlib.Core.Path.{_≡_, refl}
+use mathlib.Core.List.{List}
 use lib.ListN.{take}
 use denote.Ref.{now}
 use borrow.Author.Needs.{needs}
-use Rattle.octets.proofs.Orders.{numbers-go-on, numbers-decide, lengths-decide, alike-before}
+use Rattle.octets.specs.Octets.{lowFirst, numberIn}
+use Rattle.octets.proofs.AllOctets.{octets-of}
+use Rattle.octets.proofs.LowFirst.{same-low}
+use Rattle.octets.proofs.NetworkOrder.{same-number}
+use Rattle.octets.proofs.Orders.{parts-decide, parts-differ, parts-alike, lengths-decide, alike-before}
 use Rattle.octets.proofs.order.comes_before_by_words.Statement.{statement}
 use Rattle.octets.proofs.order.comes_before_by_words.Tie as tie
 
@@ -26,6 +31,12 @@ returns c = search needs
 loop-holds : tie.Need-loop-holds Inv-loop μ-loop
 loop-holds c = refl
 
+eight-low-first-requires : tie.Need-eight-low-first-requires Inv-loop μ-loop
+eight-low-first-requires c κs = search needs
+
+eight-low-first-requires-2 : tie.Need-eight-low-first-requires-2 Inv-loop μ-loop
+eight-low-first-requires-2 c κs = search needs
+
 eight-requires : tie.Need-eight-requires Inv-loop μ-loop
 eight-requires c κs = search needs
 
@@ -34,10 +45,13 @@ eight-requires-2 c κs = search needs
 
 returns-2 : tie.Need-returns-2 Inv-loop μ-loop
 returns-2 c =
-    let o = c .before .before .before .before .before .before .before in
+    let o = c .before .before .before .before .before .before .before .before .before in
     let s = o .before .before .args in
-    let l = c .before .before .before .before .loop in
-    numbers-decide (now (s .a)) (now (s .b)) (λ k. o .before .shared-slice-known .given k .fits) (λ k. o .shared-slice-known2 .given k .fits) (l .i) 8 _ _ (search needs) (search needs) (l .inv) (c .before .before .eight .ensures) (c .before .eight2 .ensures) (c .if2 .taken)
+    let l = c .before .before .before .before .before .before .loop in
+    let each-a = octets-of (now (s .a)) (λ k. o .before .shared-slice-known .given k .fits) in
+    let each-b = octets-of (now (s .b)) (λ k. o .shared-slice-known2 .given k .fits) in
+    parts-decide (now (s .a)) (now (s .b)) (l .i) 8 (l .inv) each-a each-b (search needs) (search needs) _ _ (c .before .eight .ensures) (c .eight2 .ensures)
+    (parts-differ lowFirst (now (s .a)) (now (s .b)) (l .i) 8 _ _ (c .before .before .before .before .eight-low-first .ensures) (c .before .before .before .eight-low-first2 .ensures) (c .before .before .if2 .taken))
 
 add-i : tie.Need-add-i Inv-loop μ-loop
 add-i c = search needs
@@ -50,7 +64,9 @@ loop-again c =
     let o = c .before .before .before .before .before .before .before in
     let s = o .before .before .args in
     let l = c .before .before .before .before .loop in
-    numbers-go-on (now (s .a)) (now (s .b)) (λ k. o .before .shared-slice-known .given k .fits) (λ k. o .shared-slice-known2 .given k .fits) (l .i) 8 _ _ (search needs) (search needs) (l .inv) (c .before .before .eight .ensures) (c .before .eight2 .ensures) (c .if2 .left)
+    let each-a = octets-of (now (s .a)) (λ k. o .before .shared-slice-known .given k .fits) in
+    let each-b = octets-of (now (s .b)) (λ k. o .shared-slice-known2 .given k .fits) in
+    parts-alike lowFirst (now (s .a)) (now (s .b)) (l .i) 8 _ _ (c .before .before .eight-low-first .ensures) (c .before .eight-low-first2 .ensures) (same-low each-a each-b (l .i) 8 (search needs) (search needs)) (l .inv) (c .if2 .left)
 
 eight-requires-3 : tie.Need-eight-requires-3 Inv-loop μ-loop
 eight-requires-3 c κs = search needs
@@ -64,7 +80,10 @@ returns-3 c =
     let s = o .before .before .args in
     let l = c .before .before .before .before .loop in
     let last : ℕ = c .before .before .before .before .before .before .shorter .result - 8 in
-    numbers-decide (now (s .a)) (now (s .b)) (λ k. o .before .shared-slice-known .given k .fits) (λ k. o .shared-slice-known2 .given k .fits) last 8 _ _ (search needs) (search needs) (alike-before (now (s .a)) (now (s .b)) last (l .i) (search needs) (l .inv)) (c .before .before .eight3 .ensures) (c .before .eight4 .ensures) (c .if3 .taken)
+    let each-a = octets-of (now (s .a)) (λ k. o .before .shared-slice-known .given k .fits) in
+    let each-b = octets-of (now (s .b)) (λ k. o .shared-slice-known2 .given k .fits) in
+    parts-decide (now (s .a)) (now (s .b)) last 8 (alike-before (now (s .a)) (now (s .b)) last (l .i) (search needs) (l .inv)) each-a each-b (search needs) (search needs) _ _ (c .before .before .eight3 .ensures) (c .before .eight4 .ensures)
+    (parts-differ (λ (s : List ℕ). numberIn s 0) (now (s .a)) (now (s .b)) last 8 _ _ (c .before .before .eight3 .ensures) (c .before .eight4 .ensures) (c .if3 .taken))
 
 returns-4 : tie.Need-returns-4 Inv-loop μ-loop
 returns-4 c =
@@ -72,8 +91,10 @@ returns-4 c =
     let s = o .before .before .args in
     let l = c .before .before .before .before .loop in
     let last : ℕ = c .before .before .before .before .before .before .shorter .result - 8 in
+    let each-a = octets-of (now (s .a)) (λ k. o .before .shared-slice-known .given k .fits) in
+    let each-b = octets-of (now (s .b)) (λ k. o .shared-slice-known2 .given k .fits) in
     lengths-decide (now (s .a)) (now (s .b)) (last + 8) (search needs)
-    (numbers-go-on (now (s .a)) (now (s .b)) (λ k. o .before .shared-slice-known .given k .fits) (λ k. o .shared-slice-known2 .given k .fits) last 8 _ _ (search needs) (search needs) (alike-before (now (s .a)) (now (s .b)) last (l .i) (search needs) (l .inv)) (c .before .before .eight3 .ensures) (c .before .eight4 .ensures) (c .if3 .left))
+    (parts-alike (λ (s : List ℕ). numberIn s 0) (now (s .a)) (now (s .b)) last 8 _ _ (c .before .before .eight3 .ensures) (c .before .eight4 .ensures) (same-number each-a each-b last 8 (search needs) (search needs)) (alike-before (now (s .a)) (now (s .b)) last (l .i) (search needs) (l .inv)) (c .if3 .left))
 
 pub comes-before-by-words-spec : {M : Type 1} → statement M
 comes-before-by-words-spec =
@@ -85,6 +106,8 @@ comes-before-by-words-spec =
     comes-each-before-requires
     returns
     loop-holds
+    eight-low-first-requires
+    eight-low-first-requires-2
     eight-requires
     eight-requires-2
     returns-2

@@ -4,7 +4,10 @@ use mathlib.Core.Path.{_≡_, refl, sym}
 use lib.ListN.{length, take}
 use denote.Ref.{now}
 use borrow.Author.Needs.{needs}
-use Rattle.octets.proofs.Orders.{lengths-differ, numbers-go-on, numbers-differ, numbers-end, alike-before}
+use Rattle.octets.specs.Octets.{lowFirst}
+use Rattle.octets.proofs.AllOctets.{octets-of}
+use Rattle.octets.proofs.LowFirst.{same-low}
+use Rattle.octets.proofs.Orders.{lengths-differ, parts-other, parts-alike, parts-end, alike-before}
 use Rattle.octets.proofs.order.is_same_by_words.Statement.{statement}
 use Rattle.octets.proofs.order.is_same_by_words.Tie as tie
 
@@ -29,16 +32,16 @@ sub-last c = search needs
 loop-holds : tie.Need-loop-holds Inv-loop μ-loop
 loop-holds c = refl
 
-eight-requires : tie.Need-eight-requires Inv-loop μ-loop
-eight-requires c κs = search needs
+eight-low-first-requires : tie.Need-eight-low-first-requires Inv-loop μ-loop
+eight-low-first-requires c κs = search needs
 
-eight-requires-2 : tie.Need-eight-requires-2 Inv-loop μ-loop
-eight-requires-2 c κs = search needs
+eight-low-first-requires-2 : tie.Need-eight-low-first-requires-2 Inv-loop μ-loop
+eight-low-first-requires-2 c κs = search needs
 
 returns-3 : tie.Need-returns-3 Inv-loop μ-loop
 returns-3 c =
     let l = c .before .before .before .before .loop in
-    numbers-differ _ _ (l .i) 8 _ _ (c .before .before .eight .ensures) (c .before .eight2 .ensures) (c .if3 .taken)
+    parts-other lowFirst _ _ (l .i) 8 _ _ (c .before .before .eight-low-first .ensures) (c .before .eight-low-first2 .ensures) (c .if3 .taken)
 
 add-i : tie.Need-add-i Inv-loop μ-loop
 add-i c = search needs
@@ -51,13 +54,15 @@ loop-again c =
     let o = c .before .before .before .before .before .before .before in
     let s = o .before .before .args in
     let l = c .before .before .before .before .loop in
-    numbers-go-on (now (s .a)) (now (s .b)) (λ k. o .before .shared-slice-known .given k .fits) (λ k. o .shared-slice-known2 .given k .fits) (l .i) 8 _ _ (search needs) (search needs) (l .inv) (c .before .before .eight .ensures) (c .before .eight2 .ensures) (c .if3 .left)
+    let each-a = octets-of (now (s .a)) (λ k. o .before .shared-slice-known .given k .fits) in
+    let each-b = octets-of (now (s .b)) (λ k. o .shared-slice-known2 .given k .fits) in
+    parts-alike lowFirst (now (s .a)) (now (s .b)) (l .i) 8 _ _ (c .before .before .eight-low-first .ensures) (c .before .eight-low-first2 .ensures) (same-low each-a each-b (l .i) 8 (search needs) (search needs)) (l .inv) (c .if3 .left)
 
-eight-requires-3 : tie.Need-eight-requires-3 Inv-loop μ-loop
-eight-requires-3 c κs = search needs
+eight-low-first-requires-3 : tie.Need-eight-low-first-requires-3 Inv-loop μ-loop
+eight-low-first-requires-3 c κs = search needs
 
-eight-requires-4 : tie.Need-eight-requires-4 Inv-loop μ-loop
-eight-requires-4 c κs = search needs
+eight-low-first-requires-4 : tie.Need-eight-low-first-requires-4 Inv-loop μ-loop
+eight-low-first-requires-4 c κs = search needs
 
 returns-4 : tie.Need-returns-4 Inv-loop μ-loop
 returns-4 c =
@@ -65,7 +70,9 @@ returns-4 c =
     let s = o .before .before .args in
     let l = c .before .before .before .loop in
     let last : ℕ = length (now (s .a)) - 8 in
-    numbers-end (now (s .a)) (now (s .b)) (λ k. o .before .shared-slice-known .given k .fits) (λ k. o .shared-slice-known2 .given k .fits) last 8 _ _ (search needs) (search needs) (alike-before (now (s .a)) (now (s .b)) last (l .i) (search needs) (l .inv)) (c .before .eight3 .ensures) (c .eight4 .ensures) (search needs) (search needs)
+    let each-a = octets-of (now (s .a)) (λ k. o .before .shared-slice-known .given k .fits) in
+    let each-b = octets-of (now (s .b)) (λ k. o .shared-slice-known2 .given k .fits) in
+    parts-end lowFirst (now (s .a)) (now (s .b)) last 8 _ _ (c .before .eight-low-first3 .ensures) (c .eight-low-first4 .ensures) (same-low each-a each-b last 8 (search needs) (search needs)) (alike-before (now (s .a)) (now (s .b)) last (l .i) (search needs) (l .inv)) (search needs) (search needs)
 
 pub is-same-by-words-spec : {M : Type 1} → statement M
 is-same-by-words-spec =
@@ -78,12 +85,12 @@ is-same-by-words-spec =
     returns-2
     sub-last
     loop-holds
-    eight-requires
-    eight-requires-2
+    eight-low-first-requires
+    eight-low-first-requires-2
     returns-3
     add-i
     loop-less
     loop-again
-    eight-requires-3
-    eight-requires-4
+    eight-low-first-requires-3
+    eight-low-first-requires-4
     returns-4)

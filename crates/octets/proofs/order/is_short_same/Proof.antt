@@ -4,8 +4,11 @@ use mathlib.Core.Path.{_≡_, refl}
 use lib.ListN.{length, drop}
 use denote.Ref.{now}
 use borrow.Author.Needs.{needs}
+use Rattle.octets.specs.Octets.{lowFirst}
 use Rattle.octets.specs.Order.{same}
-use Rattle.octets.proofs.Orders.{same-next, same-stops, same-ends, numbers-end}
+use Rattle.octets.proofs.AllOctets.{octets-of}
+use Rattle.octets.proofs.LowFirst.{same-low}
+use Rattle.octets.proofs.Orders.{same-next, same-stops, same-ends, parts-end}
 use Rattle.octets.proofs.order.is_short_same.Statement.{statement}
 use Rattle.octets.proofs.order.is_short_same.Tie as tie
 
@@ -15,17 +18,19 @@ Inv-loop a b i₀ i = (i ≤ length a) × (same a b ≡ same (drop i a) (drop i 
 abbrev μ-loop : tie.MeasureT-loop
 μ-loop a b i₀ i = length a - i
 
-four-requires : tie.Need-four-requires Inv-loop μ-loop
-four-requires c κs = search needs
+four-low-first-requires : tie.Need-four-low-first-requires Inv-loop μ-loop
+four-low-first-requires c κs = search needs
 
-four-requires-2 : tie.Need-four-requires-2 Inv-loop μ-loop
-four-requires-2 c κs = search needs
+four-low-first-requires-2 : tie.Need-four-low-first-requires-2 Inv-loop μ-loop
+four-low-first-requires-2 c κs = search needs
 
 returns : tie.Need-returns Inv-loop μ-loop
 returns c =
     let o = c .before .before .before in
     let s = o .before .before .args in
-    numbers-end (now (s .a)) (now (s .b)) (λ k. o .before .shared-slice-known .given k .fits) (λ k. o .shared-slice-known2 .given k .fits) 0 4 _ _ (search needs) (search needs) refl (c .before .four .ensures) (c .four2 .ensures) (search needs) (search needs)
+    let each-a = octets-of (now (s .a)) (λ k. o .before .shared-slice-known .given k .fits) in
+    let each-b = octets-of (now (s .b)) (λ k. o .shared-slice-known2 .given k .fits) in
+    parts-end lowFirst (now (s .a)) (now (s .b)) 0 4 _ _ (c .before .four-low-first .ensures) (c .four-low-first2 .ensures) (same-low each-a each-b 0 4 (search needs) (search needs)) refl (search needs) (search needs)
 
 loop-holds : tie.Need-loop-holds Inv-loop μ-loop
 loop-holds c = (search needs, refl)
@@ -57,8 +62,8 @@ is-short-same-spec =
     (tie.spec
     Inv-loop
     μ-loop
-    four-requires
-    four-requires-2
+    four-low-first-requires
+    four-low-first-requires-2
     returns
     loop-holds
     shared-slice-read-if2
