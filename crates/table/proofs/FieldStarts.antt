@@ -20,6 +20,7 @@ use Rattle.nlri.specs.Reading.{addressEnd, addressField, keyField, laidAt, laid
 use Rattle.nlri.specs.Layouts.{layoutOf, layoutAt, layoutSingle}
 use Rattle.nlri.specs.Inner.{layoutWith, originatorLast, groupSize as bothSizes, flowSizes, flowEnd, flowRoute, bodyWith, header, anyBody, anyFront, withSourceAs, sourceStart, distinguisherAt, sourceAsAt, fieldsAt}
 use Rattle.nlri.proofs.FieldRecords.{fields-same}
+use Rattle.nlri.proofs.Lengths.{lengths}
 use Rattle.nlri.proofs.Sizes.{flow-within}
 use Rattle.nlri.proofs.Fronts.{laid-within, front-is}
 use Rattle.nlri.proofs.Singles.{read-by-layout, read-refused}
@@ -46,9 +47,11 @@ flow-is family type s a b e =
           ∙ ap (λ (n : ℕ). 1 + n / 8) (getD-drop (p .value) s 0 0 ∙ ap (λ (n : ℕ). getD s n 0) sum),
     )
 
-end-is : (size a b rest : ℕ) (l : Layout) → flowEnd 3 size a b rest ≡ given l → layoutWith 3 size (a - 1) (b - 1) rest 0 ≡ l
-unfolding flowEnd originatorLast
-end-is size a b rest l e = given-same (only _ _ _ _ (sym (pick-true _ _ _ refl) ∙ e) .1)
+end-is : (size a b rest : ℕ) (l : Layout) → flowEnd 3 size a b rest ≡ given l → (4 ≤ rest) × (layoutWith 3 size (a - 1) (b - 1) rest 0 ≡ l)
+unfolding flowEnd originatorLast layoutWith
+end-is size a b rest l e =
+    let p = only _ _ _ _ (sym (pick-true _ _ _ refl) ∙ e) in
+    (⊎-elim (λ four. omega arith) (λ sixteen. omega arith) (lengths .originators rest .0 (p .0)), given-same (p .1))
 
 -- what the body of an S-PMSI NLRI came to: the sizes of source and group with their length octets, and what remains
 record FlowLaid (body : List ℕ) (l : Layout) : Type 0 where
@@ -56,7 +59,7 @@ record FlowLaid (body : List ℕ) (l : Layout) : Type 0 where
   group : ℕ
   sourceIs : source ≡ 1 + getD body 8 0 / 8
   groupIs : group ≡ 1 + getD body (8 + source) 0 / 8
-  within : 8 + source + group ≤ length body
+  within : 8 + source + group + 4 ≤ length body
   layout : layoutWith 3 (length body) (source - 1) (group - 1) (length body - 8 - source - group) 0 ≡ l
 
 body-laid : (family : ℕ) (body : List ℕ) (l : Layout) → flowRoute family 3 8 body ≡ given l → FlowLaid body l
@@ -69,13 +72,14 @@ body-laid family body l e =
     let w = flow-within family 3 (drop 8 body) a b (q .first) in
     let i = flow-is family 3 (drop 8 body) a b (q .first) in
     let ld = length-drop 8 body in
+    let last = end-is _ a b _ l (q .second) in
     record {
       source = a;
       group = b;
       sourceIs = i .0 ∙ ap (λ (n : ℕ). 1 + n / 8) (getD-drop 8 body 0 0);
       groupIs = i .1 ∙ ap (λ (n : ℕ). 1 + n / 8) (getD-drop 8 body a 0);
       within = omega (arith, ltb-false);
-      layout = end-is _ a b _ l (q .second);
+      layout = last .1;
     }
 
 -- a single NLRI's layout is that at its front, which is all of it
@@ -145,7 +149,7 @@ module _ (s : List ℕ) (l : Layout) (long : 2 ≤ length s) (b : FlowLaid (drop
   unfolding originatorStart
   start-is = omega (arith, source-size, group-size)
 
-  stands-within : originatorStart s ≤ length s
+  stands-within : originatorStart s + 4 ≤ length s
   stands-within = omega (arith, start-is, b .within, size-left)
 
   layout-is : layoutWith 3 (length (drop 2 s)) (sourceSize s) (groupSize s) (length s - originatorStart s) 0 ≡ l
@@ -156,7 +160,7 @@ module _ (s : List ℕ) (l : Layout) (long : 2 ≤ length s) (b : FlowLaid (drop
       rw (es, eg, eo) (b .layout)
 
 -- the fields of a layout of type 3 that says where they stand
-fields-standing : (s : List ℕ) (n : ℕ) → originatorStart s ≤ length s → fieldsAt (layoutWith 3 n (sourceSize s) (groupSize s) (length s - originatorStart s) 0) s ≡ standing s
+fields-standing : (s : List ℕ) (n : ℕ) → originatorStart s + 4 ≤ length s → fieldsAt (layoutWith 3 n (sourceSize s) (groupSize s) (length s - originatorStart s) 0) s ≡ standing s
 unfolding fieldsAt layoutWith standing distinguisherAt sourceAsAt withSourceAs sourceStart pick either part
 fields-standing s n h =
     let at : 11 + sourceSize s + 1 ≡ 12 + sourceSize s = omega arith in

@@ -8,7 +8,7 @@ use borrow.Author.Tests.{leb-true}
 use lib.ListN.{length, take, drop, drop-of-length-le}
 use lib.Seq.{drop-drop}
 use Rattle.octets.specs.Octets.{part}
-use Rattle.octets.specs.Order.{same}
+use Rattle.octets.specs.Order.{same, before}
 use Rattle.octets.proofs.Inversions.{both-true-left, both-true-right}
 use Rattle.octets.proofs.Lists.{part-length}
 use Rattle.routes.specs.Route.{nlriOf, holds}
@@ -16,7 +16,7 @@ use Rattle.routes.specs.Place.{endIn, routeIn, placeSound}
 use Rattle.routes.specs.Table.{afiIn, countIn, placesIn, routesFrom, routesOf, placesSound, soundOf}
 use Rattle.routes.proofs.Images.{sound, routes-length, sound-holdable}
 use Rattle.table.specs.Changing.{routeAt, rank, firstIs}
-use Rattle.table.proofs.Ranks.{held-at-rank, first-within}
+use Rattle.table.proofs.Ranks.{rank-upto, rank-past, rank-most, held-at-rank, first-within}
 
 next-place : (i : ℕ) (s : List ℕ) → drop (128 * i) (drop 128 s) ≡ drop (128 * suc i) s
 next-place i s =
@@ -82,6 +82,33 @@ first-at t n i h = ap (firstIs n) (routes-from-index t i h)
 pub first-past : (t n : List ℕ) (i : ℕ) → countIn t ≤ i → firstIs n (drop i (routesOf t)) ≡ false
 unfolding firstIs
 first-past t n i h = ap (firstIs n) (drop-of-length-le (routesOf t) {i = i} (rw (routes-length t) h))
+
+-- a search for the rank of an NLRI: it lies from `low` to `high`
+pub record Bracketed (t n : List ℕ) (low high : ℕ) : Type 0 where
+  pub least : low ≤ rank n (routesOf t)
+  pub most : rank n (routesOf t) ≤ high
+  pub within : high ≤ countIn t
+
+pub bracketed-first : (t n : List ℕ) (count : ℕ) → count ≡ countIn t → Bracketed t n 0 count
+bracketed-first t n count h = record { least = omega arith; most = omega (arith, rank-most n (routesOf t), routes-length t); within = omega arith }
+
+-- the route between them is looked at
+module _ (t n : List ℕ) (low high middle : ℕ) (b : Bracketed t n low high) (inside : middle < high) (flag : Bool) (here : List ℕ) (is : here ≡ nlriOf (routeAt middle t)) (f : flag ≡ before here n) where
+  its-flag : before (nlriOf (routeAt middle t)) n ≡ flag
+  its-flag = ap (λ (x : List ℕ). before x n) (sym is) ∙ sym f
+
+  its-routes : drop middle (routesOf t) ≡ routeAt middle t ∷ drop (suc middle) (routesOf t)
+  its-routes = let within = b .within in routes-from-index t middle (omega arith)
+
+  pub bracketed-behind : soundOf t ≡ true → flag ≡ true → Bracketed t n (middle + 1) high
+  bracketed-behind h e =
+      let past = rank-past n (sound-holdable t h .increasing) middle (routeAt middle t) _ its-routes (its-flag ∙ e) .1 in
+      record { least = omega arith; most = b .most; within = b .within }
+
+  pub bracketed-upto : flag ≡ false → Bracketed t n low middle
+  bracketed-upto e =
+      let within = b .within in
+      record { least = b .least; most = rank-upto n (routesOf t) middle (routeAt middle t) _ its-routes (its-flag ∙ e); within = omega arith }
 
 -- an NLRI is held where it stands
 pub held-by : (t n : List ℕ) (k : ℕ) (b : Bool) → soundOf t ≡ true → k ≡ rank n (routesOf t) → firstIs n (drop k (routesOf t)) ≡ b → holds n (routesOf t) ≡ b

@@ -1,5 +1,5 @@
 -- A flow judged by its router's size, by source and group of one size, and by the group's class.
-use Prim.Native.Nat.{ℕ, _*_, _/_, _<_}
+use Prim.Native.Nat.{ℕ, _*_, _/_, _≤_, _<_}
 use mathlib.Core.Path.{_≡_, refl, sym, _∙_, ap}
 use mathlib.Core.Logic.{_⊎_, inl, inr, ⊎-elim}
 use mathlib.Core.List.{List}
@@ -94,10 +94,11 @@ module _ (afi : ℕ) (router source group : List ℕ) (good : Family afi) where
     pub flow-taken : class .number ≡ 0 → readFlow afi router source group ≡ given (queryOf router source group (class .«group_class»))
     flow-taken h = by-class ∙ sym (goes _ _ _ _ (given-class h) refl)
 
-    -- a flow that is taken has a source and a group
-    pub flow-some : class .number ≡ 0 → (0 < length source) × (0 < length group)
+    -- a flow that is taken has a source and a group, and a router address of four octets or more
+    pub flow-some : class .number ≡ 0 → (0 < length source) × (0 < length group) × (4 ≤ length router)
     unfolding flowClass
     flow-some h =
         let alike : length source ≡ length group = eqb-true _ _ (only _ _ _ _ (only _ _ _ _ (given-class h) .1) .0) in
-        ⊎-elim (λ a. (omega (arith, a .1), omega (arith, a .1))) (λ a. (omega (arith, a .1), omega (arith, a .1)))
-        (flow-asked afi router source group _ (flow-taken h) .good .sourced)
+        let flow = flow-asked afi router source group _ (flow-taken h) .good in
+        let some : 0 < length source = ⊎-elim (λ a. omega (arith, a .1)) (λ a. omega (arith, a .1)) (flow .sourced) in
+        (some, omega arith, ⊎-elim (λ four. omega arith) (λ sixteen. omega arith) (flow .addressed))

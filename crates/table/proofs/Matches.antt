@@ -76,7 +76,7 @@ module _ (t router source group : List ℕ) (is : soundOf t ≡ true) (afi : ℕ
   judges-its : class ≡ groupOf (flowClass (afiIn t) router source group)
   judges-its = judges ∙ ap (λ (a : ℕ). groupOf (flowClass a router source group)) family
 
-  pub some-flow : class .number ≡ 0 → (0 < length source) × (0 < length group)
+  pub some-flow : class .number ≡ 0 → (0 < length source) × (0 < length group) × (4 ≤ length router)
   some-flow done = flow-some (afiIn t) router source group good class judges-its done
 
   module _ (output : List ℕ) (answer : Matched) where

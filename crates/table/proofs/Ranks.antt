@@ -1,14 +1,13 @@
 -- Where an NLRI stands, or belongs, among routes: what is at the front of the routes from its rank on.
-use Prim.Native.Nat.{ℕ, zero, suc, _+_, _≤_, _<_}
+use Prim.Native.Nat.{ℕ, zero, suc, _≤_, _<_}
 use mathlib.Core.Path.{_≡_, refl, sym, ap, _∙_}
 use mathlib.Core.Bool.{true, false}
 use mathlib.Core.List.{List, [], _∷_, _++_}
-use native.Mathlib.Numerals.{add-one}
 use native.Mathlib.Omega.{arith}
-use lib.ListN.{length, take, drop, drop-of-length-le}
+use lib.ListN.{length, take, drop}
 use Rattle.octets.specs.Order.{same, before}
 use Rattle.octets.proofs.Inversions.{opposite}
-use Rattle.octets.proofs.Orders.{same-swapped, before-other, before-differs, before-once}
+use Rattle.octets.proofs.Orders.{same-swapped, before-other, before-then, before-differs, before-once}
 use Rattle.octets.proofs.Outcomes.{pick-true, pick-false}
 use Rattle.octets.proofs.Picked.{tested}
 use Rattle.routes.specs.Route.{Route, nlriOf, holds, inserted, removed, Increasing, last, next}
@@ -23,28 +22,28 @@ rank-none : (n : List ℕ) (q : Route) (rs : List Route) → before (nlriOf q) n
 unfolding rank
 rank-none n q rs h = pick-false _ _ _ h
 
--- a scan at index i, with the routes before it passed
-abbrev pub Passed : (n : List ℕ) (rs : List Route) (i : ℕ) → Type 0
-Passed n rs i = rank n rs ≡ i + rank n (drop i rs)
-
-pub passed-first : (n : List ℕ) (rs : List Route) → Passed n rs 0
-passed-first n rs = omega arith
-
-pub passed-next : (n : List ℕ) (rs : List Route) (i : ℕ) (q : Route) → drop i rs ≡ q ∷ drop (suc i) rs → before (nlriOf q) n ≡ true → Passed n rs i → Passed n rs (i + 1)
-passed-next n rs i q e h p =
-    let more : rank n (drop i rs) ≡ suc (rank n (drop (suc i) rs)) = ap (rank n) e ∙ rank-more n q (drop (suc i) rs) h in
-    rw (add-one i) (omega arith)
-
-pub passed-stops : (n : List ℕ) (rs : List Route) (i : ℕ) (q : Route) → drop i rs ≡ q ∷ drop (suc i) rs → before (nlriOf q) n ≡ false → Passed n rs i → i ≡ rank n rs
-passed-stops n rs i q e h p =
-    let none : rank n (drop i rs) ≡ 0 = ap (rank n) e ∙ rank-none n q (drop (suc i) rs) h in
-    omega arith
-
-pub passed-all : (n : List ℕ) (rs : List Route) (i : ℕ) → length rs ≤ i → Passed n rs i → i ≡ rank n rs
+-- a route whose NLRI does not come before this one stands at its rank or behind it
+pub rank-upto : (n : List ℕ) (rs : List Route) (i : ℕ) (q : Route) (later : List Route) → drop i rs ≡ q ∷ later → before (nlriOf q) n ≡ false → rank n rs ≤ i
 unfolding rank
-passed-all n rs i h p =
-    let none : rank n (drop i rs) ≡ 0 = ap (rank n) (drop-of-length-le rs h) in
-    omega arith
+rank-upto n [] i q later e h = omega arith
+rank-upto n (r ∷ rs) zero q later e h = let same : r ≡ q = cc in rw (rank-none n r rs (ap (λ (x : Route). before (nlriOf x) n) same ∙ h)) (omega arith)
+rank-upto n (r ∷ rs) (suc i) q later e h =
+    tested (before (nlriOf r) n)
+    (λ b. rw (rank-more n r rs b) (omega (arith, rank-upto n rs i q later e h)))
+    (λ b. rw (rank-none n r rs b) (omega arith))
+
+-- in increasing routes one whose NLRI comes before this one stands before its rank
+pub rank-past : (n : List ℕ) {p : List ℕ} {rs : List Route} → Increasing p rs → (i : ℕ) (q : Route) (later : List Route) → drop i rs ≡ q ∷ later → before (nlriOf q) n ≡ true
+    → (before p n ≡ true) × (i < rank n rs)
+rank-past n last zero q later e h = let z : _≡_ {A = ℕ} 0 1 = cc in absurd (omega arith)
+rank-past n last (suc i) q later e h = let z : _≡_ {A = ℕ} 0 1 = cc in absurd (omega arith)
+rank-past n {p} (next {r} {rs} b increasing) zero q later e h =
+    let same : r ≡ q = cc in
+    let first : before (nlriOf r) n ≡ true = ap (λ (x : Route). before (nlriOf x) n) same ∙ h in
+    (before-then p (nlriOf r) n b first, rw (rank-more n r rs first) (omega arith))
+rank-past n {p} (next {r} {rs} b increasing) (suc i) q later e h =
+    let rest = rank-past n increasing i q later e h in
+    (before-then p (nlriOf r) n b (rest .0), rw (rank-more n r rs (rest .0)) (omega arith))
 
 pub rank-most : (n : List ℕ) (rs : List Route) → rank n rs ≤ length rs
 unfolding rank

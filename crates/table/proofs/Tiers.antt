@@ -1,13 +1,14 @@
 -- The tier of a route by the octets of its NLRI.
-use Prim.Native.Nat.{ℕ, _+_, _/_, _≤_, _<_}
+use Prim.Native.Nat.{ℕ, _+_, _-_, _/_, _≤_, _<_}
 use mathlib.Core.Path.{_≡_, refl, sym, _∙_, ap}
 use mathlib.Core.Bool.{Bool, true, false}
 use mathlib.Core.List.{List, []}
 use borrow.Author.Tests.{eq-eqb, ne-eqb, eqb-true}
 use lib.Dec.{eqb}
 use native.Mathlib.Omega.{arith}
-use lib.ListN.{length, getD, drop}
-use Rattle.octets.specs.Octets.{part}
+use lib.ListN.{length, getD, take, drop, length-drop}
+use lib.Seq.{drop-drop}
+use Rattle.octets.specs.Octets.{part, numberIn}
 use Rattle.octets.specs.Choice.{pick, both}
 use Rattle.octets.specs.Outcome.{given, onOutcome}
 use Rattle.octets.specs.Order.{same}
@@ -67,15 +68,35 @@ unfolding flowTier
 tier-none source group class f routeSource flag stands some is fails =
     skips _ _ _ _ (tame source group class f routeSource [] 0 stands some) (skips _ _ _ _ (ap (λ (x : List ℕ). same x source) (sym stands) ∙ sym is ∙ fails) refl)
 
--- a route of the router queryOf about, and one of another
+-- the last four octets of what stands behind others, and of all
+end-of-rest : (s : List ℕ) (start : ℕ) → start + 4 ≤ length s → part (drop start s) (length (drop start s) - 4) 4 ≡ part s (length s - 4) 4
+unfolding part
+end-of-rest s start h =
+    let e : start + (length (drop start s) - 4) ≡ length s - 4 = simp length-drop (omega arith) in
+    ap (take 4) (drop-drop (length (drop start s) - 4) start s ∙ ap (λ (k : ℕ). drop k s) e)
+
+-- an NLRI whose last four octets are not the router's is another router's
+pub other-end : (nlri router : List ℕ) (x y : ℕ) → Bounded nlri → x ≡ numberIn (part nlri (length nlri - 4) 4) 0 → y ≡ numberIn (part router (length router - 4) 4) 0 → (x ≡ y → ⊥)
+    → same (standing nlri .originator) router ≡ false
+unfolding standing
+other-end nlri router x y b p q differ =
+    unequal-other (drop (originatorStart nlri) nlri) router
+    (λ e.
+    differ
+    (p ∙ ap (λ (s : List ℕ). numberIn s 0) (sym (end-of-rest nlri (originatorStart nlri) (b .within))) ∙ ap (λ (s : List ℕ). numberIn (part s (length s - 4) 4) 0) e ∙ sym q))
+
+pub other-router : (router source group : List ℕ) (class : ℕ) (nlri : List ℕ) → same (standing nlri .originator) router ≡ false → 0 ≡ tierAt router source group class nlri
+unfolding tierAt
+other-router router source group class nlri fails = skips _ _ _ _ fails refl
+
+-- a route of the router asked about, and one of another
 module _ (router source group : List ℕ) (class : ℕ) (nlri originator : List ℕ) (flag : Bool) (stands : originator ≡ standing nlri .originator) (is : flag ≡ same originator router) where
   pub candidate-tier : (tier : ℕ) → flag ≡ true → tier ≡ flowTier source group class (standing nlri) → tier ≡ tierAt router source group class nlri
   unfolding tierAt
   candidate-tier tier holds e = picks _ _ _ _ (ap (λ (x : List ℕ). same x router) (sym stands) ∙ sym is ∙ holds) e
 
   pub other-tier : flag ≡ false → 0 ≡ tierAt router source group class nlri
-  unfolding tierAt
-  other-tier fails = skips _ _ _ _ (ap (λ (x : List ℕ). same x router) (sym stands) ∙ sym is ∙ fails) refl
+  other-tier fails = other-router router source group class nlri (ap (λ (x : List ℕ). same x router) (sym stands) ∙ sym is ∙ fails)
 
 -- the tiers' conditions, one after the other, by the tests of source and group: same, wildcard; of the class: SSM, ASM
 in-order : (sameSource wildSource sameGroup wildGroup ssm asm : Bool) → (wildSource ≡ true → sameSource ≡ false) → (wildGroup ≡ true → sameGroup ≡ false)

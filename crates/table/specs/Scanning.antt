@@ -44,9 +44,9 @@ standing s =
       key = [];
     }
 
--- they lie within the NLRI
+-- they lie within the NLRI, and the originator has four octets or more
 pub record Bounded (s : List ℕ) : Type 0 where
-  pub within : originatorStart s ≤ length s
+  pub within : originatorStart s + 4 ≤ length s
 
 -- the tier of a route whose source is the flow's, by its group
 unfoldable pub sourceTier : (group : List ℕ) (class : ℕ) (routeGroup : List ℕ) → ℕ
@@ -118,6 +118,6 @@ unfoldable pub flowClass : (afi : ℕ) (router source group : List ℕ) → Outc
 flowClass afi router source group =
     pick (originatorSize (length router)) (pick (eqb (length source) (length group)) (classOf afi group) (refused FLOW)) (refused FLOW)
 
--- a flow that a match takes, queryOf of a router
+-- a flow that a match takes, asked of a router
 unfoldable pub queryOf : (router source group : List ℕ) (class : ℕ) → Query
 queryOf router source group class = record { router = router; source = source; group = group; class = class }

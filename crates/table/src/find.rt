@@ -38,20 +38,22 @@ pub(crate) fn nlri_at(table: &[u8], index: usize) -> &[u8]
     nlri_in(place_at(table, index))
 }
 
-// The number of routes whose NLRI comes before this one: where it stands, or belongs.
+// The number of routes whose NLRI comes before this one: where it stands, or belongs. NLRIs increase, so halving finds it.
 pub(crate) fn position(table: &[u8], count: usize, nlri: &[u8]) -> usize
     requires { ⌜ (soundOf (now table) ≡ true) × (count ≡ countIn (now table)) ⌝ }
     ensures { λ r. ⌜ r ≡ rank (now (nlri .entry)) (routesOf (now (table .entry))) ⌝ }
 {
-    let mut index = 0;
-    while index < count {
-        if octets::order::comes_before(nlri_at(table, index), nlri) {
-            index += 1;
+    let mut low = 0;
+    let mut high = count;
+    while low < high {
+        let middle = low + (high - low) / 2;
+        if octets::order::comes_before(nlri_at(table, middle), nlri) {
+            low = middle + 1;
         } else {
-            return index;
+            high = middle;
         }
     }
-    index
+    low
 }
 
 // Whether the route at an index has this NLRI.

@@ -39,7 +39,7 @@ fn search(
     class: u32,
     output: &mut [u8],
 ) -> Matched
-    requires { ⌜ (soundOf (now table) ≡ true) × (124 ≤ length (now output)) × (0 < length (now source)) × (0 < length (now group)) ⌝ }
+    requires { ⌜ (soundOf (now table) ≡ true) × (124 ≤ length (now output)) × (0 < length (now source)) × (0 < length (now group)) × (4 ≤ length (now router)) ⌝ }
     ensures { λ r. ⌜ r ≡ foundAnswer (matchIn (afiIn (now (table .entry))) (queryOf (now (router .entry)) (now (source .entry)) (now (group .entry)) class) (routesOf (now (table .entry)))) ⌝ }
     ensures { λ r. ⌜ now (output .exit) ≡ foundOutput (matchIn (afiIn (now (table .entry))) (queryOf (now (router .entry)) (now (source .entry)) (now (group .entry)) class) (routesOf (now (table .entry)))) (now (output .entry)) ⌝ }
 {

@@ -1,6 +1,7 @@
 // The best route for a flow, found in one pass over a sound table's places.
 ghost use mathlib.Core.Path.{_≡_};
-ghost use Prim.Native.Nat.{ℕ, _+_, _*_, _<_};
+ghost use Prim.Native.Nat.{ℕ, _+_, _*_, _≤_, _<_};
+ghost use lib.ListN.{length};
 ghost use Rattle.octets.specs.Order.{before};
 ghost use Rattle.table.specs.Scanning.{standing, nlriAt, Readable, aheadAt, betterAt, scanAt, noneYet};
 use crate::find;
@@ -64,6 +65,7 @@ fn better(
     at: usize,
 ) -> Best
     requires { ⌜ Readable (now table) at × ((best .tier ≡ 0 → ⊥) → Readable (now table) (best .start)) ⌝ }
+    requires { ⌜ 4 ≤ length (now router) ⌝ }
     ensures { λ r. ⌜ r ≡ betterAt (now (router .entry)) (now (source .entry)) (now (group .entry)) class (now (table .entry)) best at ⌝ }
 {
     let tier = tier::tier_of(nlri_from(table, at), router, source, group, class);
@@ -86,6 +88,7 @@ pub(crate) fn scan(
     class: u32,
 ) -> Best
     requires { ⌜ ((k : ℕ) → k < count → Readable (now table) (8 + 128 * k)) ⌝ }
+    requires { ⌜ 4 ≤ length (now router) ⌝ }
     ensures { λ r. ⌜ r ≡ scanAt (now (router .entry)) (now (source .entry)) (now (group .entry)) class (now (table .entry)) count 8 noneYet ⌝ }
 {
     let mut best = Best { tier: 0, start: 0 };

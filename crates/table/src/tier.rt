@@ -1,10 +1,14 @@
 // The tier of a route for a flow (document 01, "Which route a flow takes"), by the octets of its NLRI where they stand.
 ghost use mathlib.Core.Path.{_≡_};
-ghost use Prim.Native.Nat.{_+_};
+ghost use mathlib.Core.Bool.{true, false};
+ghost use Prim.Native.Nat.{_+_, _≤_};
+ghost use lib.ListN.{length};
+ghost use Rattle.octets.specs.Order.{same};
 ghost use Rattle.table.specs.Scanning.{Bounded, sourceSize, standing, sourceTier, anySourceTier, flowTier, tierAt};
 use nlri::Group;
 use octets::order;
 use octets::parts;
+use octets::wide;
 
 // Where the route distinguisher stands, behind the header, and its size; behind it the source's length octet, in bits.
 const DISTINGUISHER: usize = 2;
@@ -12,6 +16,9 @@ const DISTINGUISHER: usize = 2;
 const DISTINGUISHER_SIZE: usize = 8;
 
 const SOURCE_LENGTH: usize = 10;
+
+// The octets at the end that are compared first.
+const ENDING: usize = 4;
 
 pub(crate) fn distinguisher_in(nlri: &[u8]) -> &[u8]
     requires { ⌜ Bounded (now nlri) ⌝ }
@@ -100,11 +107,22 @@ fn flow_tier(nlri: &[u8], source: &[u8], group: &[u8], class: u32) -> u32
     0
 }
 
+// The last four octets are not the router's: this tells most routes of other routers, and needs no field to be found.
+fn ends_otherwise(nlri: &[u8], router: &[u8]) -> bool
+    requires { ⌜ Bounded (now nlri) × (4 ≤ length (now router)) ⌝ }
+    ensures { λ r. ⌜ (r ≡ true → same (standing (now (nlri .entry)) .originator) (now (router .entry)) ≡ false) ⌝ }
+{
+    wide::four(nlri, nlri.len() - ENDING) != wide::four(router, router.len() - ENDING)
+}
+
 // The tier of a candidate; 0 for a route of another router, or where no tier's condition is met.
 pub(crate) fn tier_of(nlri: &[u8], router: &[u8], source: &[u8], group: &[u8], class: u32) -> u32
-    requires { ⌜ Bounded (now nlri) ⌝ }
+    requires { ⌜ Bounded (now nlri) × (4 ≤ length (now router)) ⌝ }
     ensures { λ r. ⌜ r ≡ tierAt (now (router .entry)) (now (source .entry)) (now (group .entry)) class (now (nlri .entry)) ⌝ }
 {
+    if ends_otherwise(nlri, router) {
+        return 0;
+    }
     if order::is_same(originator_in(nlri), router) {
         return flow_tier(nlri, source, group, class);
     }

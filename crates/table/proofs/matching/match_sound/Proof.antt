@@ -24,7 +24,7 @@ returns-2 : tie.Need-returns-2
 returns-2 c = answers-space _ _ _ _ (c .before .before .before .before .before .before .before .before .before .before .before .pre) _ _ (c .before .before .before .before .before .afi-of .ensures .0) (c .before .before .before .before .flow-class .ensures) _ _ (c .before .before .if1 .left) (c .before .if2 .taken) (c .refusal2 .ensures)
 
 search-requires : tie.Need-search-requires
-search-requires c κs = let some = some-flow _ _ _ _ (c .before .before .before .before .before .before .before .before .before .before .before .pre) _ _ (c .before .before .before .before .before .afi-of .ensures .0) (c .before .before .before .before .flow-class .ensures) (c .before .before .if1 .left) in ((c .before .before .before .before .before .before .before .before .before .before .before .pre), c .before .if2 .left, some .0, some .1)
+search-requires c κs = let some = some-flow _ _ _ _ (c .before .before .before .before .before .before .before .before .before .before .before .pre) _ _ (c .before .before .before .before .before .afi-of .ensures .0) (c .before .before .before .before .flow-class .ensures) (c .before .before .if1 .left) in ((c .before .before .before .before .before .before .before .before .before .before .before .pre), c .before .if2 .left, some .0, some .1, some .2)
 
 same-length : tie.Need-same-length
 same-length c = search needs

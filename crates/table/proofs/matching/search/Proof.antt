@@ -9,7 +9,7 @@ count-of-requires : tie.Need-count-of-requires
 count-of-requires c κs = header-within _ (c .before .before .before .before .before .pre .0)
 
 scan-requires : tie.Need-scan-requires
-scan-requires c κs = scan-ready _ (c .before .before .before .before .before .before .pre .0) _ (c .count-of .ensures .0)
+scan-requires c κs = (scan-ready _ (c .before .before .before .before .before .before .pre .0) _ (c .count-of .ensures .0), c .before .before .before .before .before .before .pre .4)
 
 answer-requires : tie.Need-answer-requires
 answer-requires c κs = scan-answerable _ (c .before .before .before .before .before .before .before .before .pre .0) _ _ _ _ (c .before .before .before .before .before .before .before .before .pre .2) (c .before .before .before .before .before .before .before .before .pre .3) _ _ (c .before .before .count-of .ensures .0) (c .before .scan .ensures) _ (c .before .before .before .before .before .before .before .before .pre .1)

@@ -10,7 +10,7 @@ nlri-from-requires : tie.Need-nlri-from-requires
 nlri-from-requires c κs = search needs
 
 tier-of-requires : tie.Need-tier-of-requires
-tier-of-requires c κs = subst Bounded (sym (c .nlri-from .ensures)) (c .before .before .before .before .before .pre .0 .bounded)
+tier-of-requires c κs = (subst Bounded (sym (c .nlri-from .ensures)) (c .before .before .before .before .before .pre .0 .0 .bounded), c .before .before .before .before .before .pre .1)
 
 returns : tie.Need-returns
 returns c = no-tier _ _ _ _ _ _ _ _ _ (c .before .before .nlri-from .ensures) (c .before .tier-of .ensures) (c .if1 .taken)

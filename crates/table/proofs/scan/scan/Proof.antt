@@ -11,10 +11,10 @@ abbrev μ-loop : tie.MeasureT-loop
 μ-loop table count router source group class best₀ at₀ left₀ best at left = left
 
 loop-holds : tie.Need-loop-holds Inv-loop μ-loop
-loop-holds c = going-first _ _ _ _ _ _ (c .before .before .before .before .pre)
+loop-holds c = going-first _ _ _ _ _ _ (c .before .before .before .before .pre .0)
 
 better-requires : tie.Need-better-requires Inv-loop μ-loop
-better-requires c κs = going-here _ _ _ _ _ _ _ _ _ (c .before .loop .inv) (c .loop-test .taken)
+better-requires c κs = (going-here _ _ _ _ _ _ _ _ _ (c .before .loop .inv) (c .loop-test .taken), c .before .before .before .before .before .before .pre .1)
 
 add-at : tie.Need-add-at Inv-loop μ-loop
 add-at c = let h = going-here _ _ _ _ _ _ _ _ _ (c .before .before .loop .inv) (c .before .loop-test .taken) .0 .within in omega arith

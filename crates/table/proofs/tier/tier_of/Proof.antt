@@ -1,8 +1,14 @@
 -- `table::tier::tier_of` meets its contract.
-use Rattle.table.proofs.Tiers.{candidate-tier, other-tier}
+use Rattle.table.proofs.Tiers.{other-router, candidate-tier, other-tier}
 use borrow.Author.Needs.{needs}
 use Rattle.table.proofs.tier.tier_of.Statement.{statement}
 use Rattle.table.proofs.tier.tier_of.Tie as tie
+
+ends-otherwise-requires : tie.Need-ends-otherwise-requires
+ends-otherwise-requires c κs = search needs
+
+returns : tie.Need-returns
+returns c = other-router _ _ _ _ _ (c .before .ends-otherwise .ensures (c .if1 .taken))
 
 originator-in-requires : tie.Need-originator-in-requires
 originator-in-requires c κs = search needs
@@ -13,13 +19,20 @@ is-same-requires c κs = search needs
 flow-tier-requires : tie.Need-flow-tier-requires
 flow-tier-requires c κs = search needs
 
-returns : tie.Need-returns
-returns c = candidate-tier _ _ _ _ _ _ _ (c .before .before .before .originator-in .ensures) (c .before .before .is-same .ensures) _ (c .before .if1 .taken) (c .flow-tier .ensures)
-
 returns-2 : tie.Need-returns-2
-returns-2 c = other-tier _ _ _ _ _ _ _ (c .before .before .originator-in .ensures) (c .before .is-same .ensures) (c .if1 .left)
+returns-2 c = candidate-tier _ _ _ _ _ _ _ (c .before .before .before .originator-in .ensures) (c .before .before .is-same .ensures) _ (c .before .if2 .taken) (c .flow-tier .ensures)
+
+returns-3 : tie.Need-returns-3
+returns-3 c = other-tier _ _ _ _ _ _ _ (c .before .before .originator-in .ensures) (c .before .is-same .ensures) (c .if2 .left)
 
 pub tier-of-spec : {M : Type 1} → statement M
 tier-of-spec =
     tie.close
-    (tie.spec originator-in-requires is-same-requires flow-tier-requires returns returns-2)
+    (tie.spec
+    ends-otherwise-requires
+    returns
+    originator-in-requires
+    is-same-requires
+    flow-tier-requires
+    returns-2
+    returns-3)

@@ -1,0 +1,28 @@
+-- `table::tier::ends_otherwise` meets its contract.
+use mathlib.Core.Path.{ap}
+use mathlib.Core.Bool.{not}
+use borrow.Author.Needs.{needs}
+use borrow.Author.Tests.{eq-eqb}
+use Rattle.octets.proofs.Inversions.{opposite}
+use Rattle.table.proofs.Tiers.{other-end}
+use Rattle.table.proofs.tier.ends_otherwise.Statement.{statement}
+use Rattle.table.proofs.tier.ends_otherwise.Tie as tie
+
+sub-four : tie.Need-sub-four
+sub-four c = search needs
+
+four-requires : tie.Need-four-requires
+four-requires c κs = search needs
+
+sub-four-2 : tie.Need-sub-four-2
+sub-four-2 c = search needs
+
+four-requires-2 : tie.Need-four-requires-2
+four-requires-2 c κs = search needs
+
+returns : tie.Need-returns
+returns c h = other-end _ _ _ _ (c .before .before .before .before .pre .0) (c .before .four .ensures) (c .four2 .ensures) (λ e. opposite h (ap not (eq-eqb _ _ e)))
+
+pub ends-otherwise-spec : {M : Type 1} → statement M
+ends-otherwise-spec =
+    tie.close (tie.spec sub-four four-requires sub-four-2 four-requires-2 returns)
