@@ -8,7 +8,7 @@ use lib.Dec.{eqb}
 use native.Mathlib.Omega.{arith}
 use lib.ListN.{length, getD, take, drop, length-drop}
 use lib.Seq.{drop-drop}
-use Rattle.octets.specs.Octets.{part, numberIn}
+use Rattle.octets.specs.Octets.{part, lowFirst}
 use Rattle.octets.specs.Choice.{pick, both}
 use Rattle.octets.specs.Outcome.{given, onOutcome}
 use Rattle.octets.specs.Order.{same}
@@ -76,14 +76,14 @@ end-of-rest s start h =
     ap (take 4) (drop-drop (length (drop start s) - 4) start s ∙ ap (λ (k : ℕ). drop k s) e)
 
 -- an NLRI whose last four octets are not the router's is another router's
-pub other-end : (nlri router : List ℕ) (x y : ℕ) → Bounded nlri → x ≡ numberIn (part nlri (length nlri - 4) 4) 0 → y ≡ numberIn (part router (length router - 4) 4) 0 → (x ≡ y → ⊥)
+pub other-end : (nlri router : List ℕ) (x y : ℕ) → Bounded nlri → x ≡ lowFirst (part nlri (length nlri - 4) 4) → y ≡ lowFirst (part router (length router - 4) 4) → (x ≡ y → ⊥)
     → same (standing nlri .originator) router ≡ false
 unfolding standing
 other-end nlri router x y b p q differ =
     unequal-other (drop (originatorStart nlri) nlri) router
     (λ e.
     differ
-    (p ∙ ap (λ (s : List ℕ). numberIn s 0) (sym (end-of-rest nlri (originatorStart nlri) (b .within))) ∙ ap (λ (s : List ℕ). numberIn (part s (length s - 4) 4) 0) e ∙ sym q))
+    (p ∙ ap lowFirst (sym (end-of-rest nlri (originatorStart nlri) (b .within))) ∙ ap (λ (s : List ℕ). lowFirst (part s (length s - 4) 4)) e ∙ sym q))
 
 pub other-router : (router source group : List ℕ) (class : ℕ) (nlri : List ℕ) → same (standing nlri .originator) router ≡ false → 0 ≡ tierAt router source group class nlri
 unfolding tierAt

@@ -112,7 +112,8 @@ fn ends_otherwise(nlri: &[u8], router: &[u8]) -> bool
     requires { ⌜ Bounded (now nlri) × (4 ≤ length (now router)) ⌝ }
     ensures { λ r. ⌜ (r ≡ true → same (standing (now (nlri .entry)) .originator) (now (router .entry)) ≡ false) ⌝ }
 {
-    wide::four(nlri, nlri.len() - ENDING) != wide::four(router, router.len() - ENDING)
+    wide::four_low_first(nlri, nlri.len() - ENDING)
+        != wide::four_low_first(router, router.len() - ENDING)
 }
 
 // The tier of a candidate; 0 for a route of another router, or where no tier's condition is met.
