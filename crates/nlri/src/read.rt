@@ -64,7 +64,8 @@ fn read_unkeyed(family: usize, s: &[u8]) -> Header
 pub(crate) fn read_key(family: usize, s: &[u8]) -> Part
     ensures { λ r. ⌜ partOf r ≡ keyField family (now (s .entry)) ⌝ }
 {
-    let Header::Typed(route_type, length) = read_unkeyed(family, s) else {
+    // A part of the slice is handed on, not the slice: then its address and size come in registers.
+    let Header::Typed(route_type, length) = read_unkeyed(family, &s[0..]) else {
         return Part::Fault(KEY);
     };
     if RouteType::S_PMSI < route_type {
@@ -114,14 +115,10 @@ fn body_fault(family: usize, route_type: usize, s: &[u8]) -> u32
 pub(crate) fn front_fault(family: usize, s: &[u8]) -> u32
     ensures { λ r. ⌜ r ≡ numberOf (layoutAt family (now (s .entry))) ⌝ }
 {
-    match read_header(s) {
+    match read_header(&s[0..]) {
         Header::Unread(number) => number,
         Header::Typed(route_type, length) => {
-            body_fault(
-                family,
-                route_type,
-                octets::parts::between(s, HEADER, length),
-            )
+            body_fault(family, route_type, &s[HEADER..HEADER + length])
         }
     }
 }
