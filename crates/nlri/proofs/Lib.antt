@@ -7,6 +7,7 @@ pub mod Sizes
 pub mod Rows
 pub mod Fronts
 pub mod Numbered
+pub mod Ends
 pub mod Standing
 pub mod Steps
 pub mod Shapes
