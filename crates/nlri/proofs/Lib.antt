@@ -1,11 +1,13 @@
 -- Laws of the definitions, and how the functions' proofs use them.
 pub mod Families
 pub mod FieldRecords
+pub mod Parts
 pub mod Via
 pub mod Sizes
 pub mod Rows
 pub mod Fronts
 pub mod Numbered
+pub mod Ends
 pub mod Standing
 pub mod Steps
 pub mod Shapes

@@ -2,9 +2,8 @@
 use mathlib.Core.Path.{_≡_, refl, sym, _∙_, ap}
 use mathlib.Core.Bool.{Bool, true, false}
 use mathlib.Core.List.{List}
-use Prim.Native.Nat.{ℕ, _-_}
+use Prim.Native.Nat.{ℕ}
 use native.Mathlib.Omega.{arith}
-use lib.Dec.{eqb}
 use Rattle.octets.specs.Choice.{pick}
 use Rattle.octets.specs.Outcome.{Outcome, given, refused, onOutcome, andThen, numberOf}
 use Rattle.octets.specs.Octets.{part}
@@ -12,30 +11,20 @@ use Rattle.octets.proofs.Tests.{tests}
 use Rattle.nlri.specs.declared.layout.Layout.{Layout}
 use Rattle.nlri.specs.declared.layout.Part.{Part}
 use Rattle.nlri.specs.declared.layout.Part.the-variants.{Size, Fault}
-use Rattle.nlri.specs.declared.body.Flow.{Flow}
-use Rattle.nlri.specs.declared.body.Flow.the-variants.{Sizes, Bad}
 use Rattle.nlri.specs.declared.read.Header.{Header}
 use Rattle.nlri.specs.declared.read.Header.the-variants.{Typed, Unread}
 use Rattle.nlri.specs.Family.{originatorSize}
 use Rattle.nlri.specs.Reading.{addressEnd, addressField, keyField}
 use Rattle.nlri.specs.Layouts.{layoutAt}
-use Rattle.nlri.specs.Inner.{partOf, flowOf, headerOf, layoutWith, originatorLast, endsAt, lastFault, groupSize, flowSizes, flowEnd, flowEndFault, flowRoute, intraAs, interAs, leaf, bodyWith, unkeyedBody, anyBody, header, anyFront}
-use Rattle.nlri.proofs.Via.{size-given, fault-given, sizes-given, typed-given}
+use Rattle.nlri.specs.Inner.{partOf, headerOf, originatorLast, endsAt, lastFault, groupSize, flowSizes, flowEnd, flowRoute, intraAs, interAs, leaf, bodyWith, unkeyedBody, anyBody, header, anyFront}
+use Rattle.nlri.proofs.Via.{size-given, fault-given, typed-given}
 use Rattle.nlri.proofs.Fronts.{front-is}
 
-pub number-picks : {A : Type 0} (n : ℕ) (x y : Outcome A) (b : Bool) → b ≡ true → n ≡ numberOf x → n ≡ numberOf (pick b x y)
-unfolding pick
-number-picks n x y b p q = rw p q
-
-pub number-skips : {A : Type 0} (n : ℕ) (x y : Outcome A) (b : Bool) → b ≡ false → n ≡ numberOf y → n ≡ numberOf (pick b x y)
-unfolding pick
-number-skips n x y b p q = rw p q
-
-number-goes : {A B : Type 0} (n : ℕ) (o : Outcome A) (a : A) (next : A → Outcome B) → o ≡ given a → n ≡ numberOf (next a) → n ≡ numberOf (andThen o next)
+pub number-goes : {A B : Type 0} (n : ℕ) (o : Outcome A) (a : A) (next : A → Outcome B) → o ≡ given a → n ≡ numberOf (next a) → n ≡ numberOf (andThen o next)
 unfolding andThen
 number-goes n o a next p q = rw p q
 
-number-stops : {A B : Type 0} (n : ℕ) (o : Outcome A) (next : A → Outcome B) → o ≡ refused n → n ≡ numberOf (andThen o next)
+pub number-stops : {A B : Type 0} (n : ℕ) (o : Outcome A) (next : A → Outcome B) → o ≡ refused n → n ≡ numberOf (andThen o next)
 unfolding andThen numberOf
 number-stops n o next p = rw p
 
@@ -46,13 +35,6 @@ number-size t r o n next p q h = number-goes t o n next (size-given r o n p q) h
 pub number-fault : {B : Type 0} (r : Part) (o : Outcome ℕ) (n : ℕ) (next : ℕ → Outcome B) → partOf r ≡ o → r ≡ Fault n → n ≡ numberOf (andThen o next)
 number-fault r o n next p q = number-stops n o next (fault-given r o n p q)
 
-pub number-sizes : {B : Type 0} (t : ℕ) (r : Flow) (o : Outcome (ℕ × ℕ)) (a b : ℕ) (next : ℕ × ℕ → Outcome B) → flowOf r ≡ o → r ≡ Sizes a b → t ≡ numberOf (next (a, b)) → t ≡ numberOf (andThen o next)
-number-sizes t r o a b next p q h = number-goes t o (a, b) next (sizes-given r o a b p q) h
-
-pub number-bad : {B : Type 0} (r : Flow) (o : Outcome (ℕ × ℕ)) (n : ℕ) (next : ℕ × ℕ → Outcome B) → flowOf r ≡ o → r ≡ Bad n → n ≡ numberOf (andThen o next)
-unfolding flowOf
-number-bad r o n next p q = number-stops n o next (sym p ∙ ap flowOf q)
-
 pub number-typed : {B : Type 0} (t : ℕ) (r : Header) (o : Outcome (ℕ × ℕ)) (a b : ℕ) (next : ℕ × ℕ → Outcome B) → headerOf r ≡ o → r ≡ Typed a b → t ≡ numberOf (next (a, b)) → t ≡ numberOf (andThen o next)
 number-typed t r o a b next p q h = number-goes t o (a, b) next (typed-given r o a b p q) h
 
@@ -61,7 +43,7 @@ unfolding headerOf
 number-unread r o n next p q = number-stops n o next (sym p ∙ ap headerOf q)
 
 -- by a test of what remains
-last-number : {A : Type 0} (b : Bool) (a : A) → lastFault b ≡ numberOf (pick b (given a) (refused 3))
+pub last-number : {A : Type 0} (b : Bool) (a : A) → lastFault b ≡ numberOf (pick b (given a) (refused 3))
 unfolding lastFault pick numberOf
 last-number true a = refl
 last-number false a = refl
@@ -70,23 +52,10 @@ pub number-originator : (t : ℕ) (l : Layout) → t ≡ lastFault (originatorSi
 unfolding originatorLast
 number-originator t l p = p ∙ last-number _ l
 
-pub number-ends : (t : ℕ) (l : Layout) → t ≡ lastFault (eqb (l .originator) 0) → t ≡ numberOf (endsAt l)
-unfolding endsAt
-number-ends t l p = p ∙ last-number _ l
-
-either-last : (b : Bool) (l : Layout) → pick b (lastFault (originatorSize (l .originator))) (lastFault (eqb (l .originator) 0)) ≡ numberOf (pick b (originatorLast l) (endsAt l))
-unfolding pick
-either-last true l = number-originator _ l refl
-either-last false l = number-ends _ l refl
-
-pub number-flow-end : (t type size a b rest : ℕ) → t ≡ flowEndFault type rest → t ≡ numberOf (flowEnd type size a b rest)
-unfolding flowEnd flowEndFault layoutWith
-number-flow-end t type size a b rest p = p ∙ either-last (eqb type 3) (layoutWith type size (a - 1) (b - 1) rest 0)
-
 pub front-number : (t family : ℕ) (s : List ℕ) → t ≡ numberOf (anyFront family s) → t ≡ numberOf (layoutAt family s)
 front-number t family s p = p ∙ ap numberOf (front-is (anyFront family s) family s refl)
 
-pub ruleset numbers = (tests, number-picks, number-skips, number-size, number-fault, number-sizes, number-bad, number-typed, number-unread, number-originator, number-ends, number-flow-end)
+pub ruleset numbers = (tests, number-size, number-fault, number-typed, number-unread, number-originator)
 
 -- a number other than DONE is a refusal's
 pub refused-of : {A : Type 0} (o : Outcome A) (n : ℕ) → n ≡ numberOf o → (n ≡ 0 → ⊥) → o ≡ refused n

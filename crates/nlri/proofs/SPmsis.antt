@@ -4,26 +4,25 @@ use mathlib.Core.Bool.{Bool, true, false}
 use mathlib.Core.List.{List}
 use Prim.Native.Nat.{ℕ, _-_, _≤_}
 use native.Mathlib.Omega.{arith}
-use borrow.Author.Tests.{eq-eqb, eqb-true, ltb-false, leb-true, le-ltb, le-leb}
+use borrow.Author.Tests.{eq-eqb, eqb-true, eqb-false, ltb-false, leb-true, le-ltb, le-leb}
 use lib.ListN.{length, getD, drop, length-drop}
 use lib.Seq.{drop-drop}
 use lib.Dec.{eqb}
-use Rattle.octets.specs.Numbers.{LENGTH}
 use Rattle.octets.specs.Choice.{pick, both}
-use Rattle.octets.specs.Outcome.{Outcome, given, refused, andThen, onOutcome}
+use Rattle.octets.specs.Outcome.{Outcome, given, refused, andThen, onOutcome, numberOf}
 use Rattle.octets.specs.Octets.{part}
-use Rattle.octets.proofs.Outcomes.{on-mapped, and-given, pick-false}
-use Rattle.octets.proofs.Tests.{goes, on-given, on-refused, both-last}
+use Rattle.octets.proofs.Outcomes.{on-mapped, and-given, pick-true, pick-false}
+use Rattle.octets.proofs.Picked.{tested}
+use Rattle.octets.proofs.Tests.{goes, stops, on-given, on-refused}
 use Rattle.octets.proofs.Inversions.{opposite, unless, only, passed, given-same}
 use Rattle.nlri.specs.declared.layout.Layout.{Layout}
-use Rattle.nlri.specs.declared.body.Flow.{Flow}
-use Rattle.nlri.specs.declared.body.Flow.the-variants.{Sizes, Bad}
 use Rattle.nlri.specs.Family.{familyBits, originatorSize}
 use Rattle.nlri.specs.Reading.{keyField, laidAt, fieldsOf, readNlri, isSPmsi}
 use Rattle.nlri.specs.Layouts.{layoutOf, layoutAt}
-use Rattle.nlri.specs.Inner.{flowOf, layoutWith, originatorLast, flowSizes, flowEnd, flowRoute, bodyWith, anyBody, header, anyFront, endsWith, single, ofSPmsi, sPmsiUnder}
-use Rattle.nlri.proofs.Via.{sizes-given}
+use Rattle.nlri.specs.Inner.{layoutWith, originatorLast, lastFault, flowSizes, flowEnd, flowFault, flowRoute, bodyWith, anyBody, header, anyFront, endsWith, single, ofSPmsi, sPmsiUnder}
 use Rattle.nlri.proofs.Fronts.{front-is, laid-within}
+use Rattle.nlri.proofs.Numbered.{refused-of, front-done, last-number}
+use Rattle.nlri.proofs.Ends.{flow-number}
 use Rattle.nlri.proofs.Shapes.{whole-part}
 use Rattle.nlri.proofs.Singles.{single-laid}
 
@@ -43,21 +42,23 @@ none-of (given l) h = go (eqb (l .«route_type») 3) refl
     go true e = absurd (h l refl (eqb-true _ _ e))
     go false e = e
 
--- a flow's end in type 3
-ends-of : (b : Bool) (l : Layout) (s : List ℕ) → length s - 2 ≡ l .length → l .«route_type» ≡ 3 → ofSPmsi (andThen (pick b (given l) (refused LENGTH)) (λ x. endsWith x s)) ≡ b
-unfolding pick andThen endsWith ofSPmsi onOutcome
-ends-of true l s n t = rw (eq-eqb (length s - 2) (l .length) n) (eq-eqb (l .«route_type») 3 t)
-ends-of false l s n t = refl
+-- a source and a group judged in the whole NLRI, where they stand two octets further
+end-alone : (size size′ a b rest rest′ : ℕ) → rest ≡ rest′ → numberOf (flowEnd 3 size a b rest) ≡ numberOf (flowEnd 3 size′ a b rest′)
+unfolding flowEnd originatorLast layoutWith pick
+end-alone size size′ a b rest rest′ e = sym (last-number _ _) ∙ ap (λ (k : ℕ). lastFault (originatorSize k)) e ∙ last-number _ _
 
-flow-of : (s : List ℕ) (size : ℕ) (o : Outcome (ℕ × ℕ)) → size ≡ length s - 2
-    → ofSPmsi (andThen (andThen o (λ sizes. flowEnd 3 size (sizes .0) (sizes .1) (size - 8 - sizes .0 - sizes .1))) (λ l. endsWith l s))
-    ≡ onOutcome (λ number. false) (λ sizes. originatorSize (length s - 10 - sizes .0 - sizes .1)) o
-unfolding andThen onOutcome flowEnd pick originatorLast layoutWith ofSPmsi
-flow-of s size (refused n) e = refl
-flow-of s size (given sizes) e =
-    let r : size - 8 ≡ length s - 10 = omega arith in
-    ends-of (originatorSize (size - 8 - sizes .0 - sizes .1)) (layoutWith 3 size (sizes .0 - 1) (sizes .1 - 1) (size - 8 - sizes .0 - sizes .1) 0) s (sym e) refl
-    ∙ ap (λ (k : ℕ). originatorSize (k - sizes .0 - sizes .1)) r
+ends-alike : (o : Outcome (ℕ × ℕ)) (n m : ℕ) → m - 8 ≡ n - 10
+    → numberOf (andThen o (λ sizes. flowEnd 3 m (sizes .0) (sizes .1) (m - 8 - sizes .0 - sizes .1))) ≡ numberOf (andThen o (λ sizes. flowEnd 3 n (sizes .0) (sizes .1) (n - 10 - sizes .0 - sizes .1)))
+unfolding andThen
+ends-alike (given sizes) n m e = end-alone m n (sizes .0) (sizes .1) (m - 8 - sizes .0 - sizes .1) (n - 10 - sizes .0 - sizes .1) (ap (λ (k : ℕ). k - sizes .0 - sizes .1) e)
+ends-alike (refused k) n m e = refl
+
+flow-whole : (family : ℕ) (s : List ℕ) → 10 ≤ length s → numberOf (flowRoute family 3 8 (drop 2 s)) ≡ numberOf (flowRoute family 3 10 s)
+unfolding flowRoute
+flow-whole family s enough =
+    let l : length (drop 2 s) ≡ length s - 2 = length-drop 2 s in
+    ap numberOf (pick-false _ _ _ (le-ltb (length (drop 2 s)) 8 (omega arith))) ∙ ends-alike (flowSizes family 3 (drop 8 (drop 2 s))) (length s) (length (drop 2 s)) (omega arith)
+    ∙ sym (ap numberOf (pick-false _ _ _ (le-ltb (length s) 10 enough) ∙ ap (λ (x : List ℕ). andThen (flowSizes family 3 x) (λ sizes. flowEnd 3 (length s) (sizes .0) (sizes .1) (length s - 10 - sizes .0 - sizes .1))) (sym (drop-drop 8 2 s))))
 
 module _ (family : ℕ) (s : List ℕ) where
   front : layoutAt family s ≡ anyFront family s
@@ -70,55 +71,48 @@ module _ (family : ℕ) (s : List ℕ) where
       let typed : header s ≡ given (3, length s - 2) = rw (le-ltb (length s) 2 enough, le-ltb (length s - 2) (getD s 1 0) (omega arith), t, n) in
       front ∙ ap (λ (o : Outcome (ℕ × ℕ)). andThen o (λ h. anyBody family (h .0) (part s 2 (h .1)))) typed ∙ and-given _ _ ∙ ap (flowRoute family 3 8) (whole-part s (length s - 2) refl)
 
+  -- type and Length of what was laid out
+  headed : (l : Layout) → layoutAt family s ≡ given l → (2 ≤ length s) × (l .«route_type» ≡ getD s 0 0) × (l .length ≡ getD s 1 0)
+  unfolding layoutAt laidAt layoutOf
+  headed l e =
+      let p = passed _ _ _ e in
+      let same : layoutOf (p .value) ≡ l = given-same (p .second) in
+      let facts = laid-within (keyField family) family s (p .value) (p .first) in
+      (facts .0, ap (λ (x : Layout). x .«route_type») (sym same) ∙ facts .2, ap (λ (x : Layout). x .length) (sym same) ∙ facts .3)
+
   -- the octets of a single NLRI of type 3
   opens : (l : Layout) → single family s ≡ given l → l .«route_type» ≡ 3 → (getD s 0 0 ≡ 3) × (getD s 1 0 ≡ length s - 2) × (10 ≤ length s)
-  unfolding single endsWith layoutAt laidAt layoutOf flowRoute
+  unfolding single endsWith flowRoute
   opens l e three =
       let w = passed _ _ _ e in
       let end = only _ _ _ _ (w .second) in
-      let p = passed _ _ _ (w .first) in
-      let facts = laid-within (keyField family) family s (p .value) (p .first) in
-      let same : layoutOf (p .value) ≡ l = given-same (p .second) ∙ given-same (end .1) in
-      let t : getD s 0 0 ≡ 3 = sym (facts .2) ∙ ap (λ (x : Layout). x .«route_type») same ∙ three in
-      let n : getD s 1 0 ≡ length s - 2 = sym (facts .3) ∙ ap (λ (x : Layout). x .length) (given-same (p .second)) ∙ sym (eqb-true _ _ (end .0)) in
-      let long = unless _ _ _ _ (sym (front-three (facts .0) t n) ∙ w .first) .0 in
+      let h = headed (w .value) (w .first) in
+      let t : getD s 0 0 ≡ 3 = sym (h .1) ∙ ap (λ (x : Layout). x .«route_type») (given-same (end .1)) ∙ three in
+      let n : getD s 1 0 ≡ length s - 2 = sym (h .2) ∙ sym (eqb-true _ _ (end .0)) in
+      let long = unless _ _ _ _ (sym (front-three (h .0) t n) ∙ w .first) .0 in
       (t, n, omega (arith, ltb-false, length-drop 2 s))
+
+  -- with the header of a single NLRI of type 3, the number decides
+  by-number : getD s 0 0 ≡ 3 → getD s 1 0 ≡ length s - 2 → ofSPmsi (single family s) ≡ eqb (numberOf (layoutAt family s)) 0
+  unfolding single endsWith ofSPmsi
+  by-number t n =
+      tested (eqb (numberOf (layoutAt family s)) 0)
+      (λ yes. let r = front-done family s (eqb-true _ _ yes) in let h = headed (r .0) (r .1) in
+      sym (on-given true _ (r .0) _ _ (sym (goes _ _ (r .0) _ (r .1) (sym (pick-true _ _ _ (eq-eqb (length s - 2) (r .0 .length) (sym n ∙ sym (h .2))))))) (sym (eq-eqb _ 3 (h .1 ∙ t)))) ∙ sym yes)
+      (λ no. sym (on-refused false _ _ _ _ (sym (stops _ _ _ (refused-of _ _ refl (eqb-false _ _ no)))) refl) ∙ sym no)
 
   -- the page's reading of a single NLRI, by the octets
   pub s-pmsi-by-octets : ofSPmsi (single family s) ≡ sPmsiUnder family s
-  unfolding sPmsiUnder single flowRoute
+  unfolding sPmsiUnder
   s-pmsi-by-octets =
       by-both _ _ _ (λ off. none-of _ (λ l e t. opposite (le-leb _ _ (opens l e t .2)) off))
       (λ enough. by-both _ _ _ (λ off. none-of _ (λ l e t. opposite (eq-eqb _ _ (opens l e t .0)) off))
       (λ t. by-both _ _ _ (λ off. none-of _ (λ l e q. opposite (eq-eqb _ _ (opens l e q .1)) off))
       (λ n. flow (leb-true _ _ enough) (eqb-true _ _ t) (eqb-true _ _ n))))
     where
-      flow : 10 ≤ length s → getD s 0 0 ≡ 3 → getD s 1 0 ≡ length s - 2
-          → ofSPmsi (andThen (layoutAt family s) (λ l. endsWith l s)) ≡ onOutcome (λ number. false) (λ sizes. originatorSize (length s - 10 - sizes .0 - sizes .1)) (flowSizes family 3 (drop 10 s))
+      flow : 10 ≤ length s → getD s 0 0 ≡ 3 → getD s 1 0 ≡ length s - 2 → ofSPmsi (single family s) ≡ eqb (flowFault family 3 10 s) 0
       flow enough t n =
-          let long : 8 ≤ length (drop 2 s) = omega (arith, length-drop 2 s) in
-          ap (λ (o : Outcome Layout). ofSPmsi (andThen o (λ l. endsWith l s))) (front-three (omega arith) t n ∙ pick-false _ _ _ (le-ltb (length (drop 2 s)) 8 long))
-          ∙ flow-of s (length (drop 2 s)) (flowSizes family 3 (drop 8 (drop 2 s))) (length-drop 2 s)
-          ∙ ap (λ (x : List ℕ). onOutcome (λ number. false) (λ sizes. originatorSize (length s - 10 - sizes .0 - sizes .1)) (flowSizes family 3 x)) (drop-drop 8 2 s)
-
--- the octets, by what reading source and group answers
-module _ (family : ℕ) (s rest : List ℕ) (r : Flow) (long : 10 ≤ length s) (t : getD s 0 0 ≡ 3) (n : getD s 1 0 ≡ length s - 2) (d : rest ≡ drop 10 s) (e : flowOf r ≡ flowSizes family 3 rest) where
-  tested : (flag : Bool) → flag ≡ onOutcome (λ number. false) (λ sizes. originatorSize (length s - 10 - sizes .0 - sizes .1)) (flowSizes family 3 (drop 10 s)) → flag ≡ sPmsiUnder family s
-  unfolding sPmsiUnder
-  tested flag q =
-      both-last _ _ flag (le-leb 10 (length s) long) (both-last _ _ flag (eq-eqb (getD s 0 0) 3 t) (both-last _ _ flag (eq-eqb (getD s 1 0) (length s - 2) n) q))
-
-  flow-is : flowOf r ≡ flowSizes family 3 (drop 10 s)
-  flow-is = e ∙ ap (flowSizes family 3) d
-
-  pub octets-bad : (number : ℕ) → r ≡ Bad number → false ≡ sPmsiUnder family s
-  unfolding flowOf
-  octets-bad number q = tested false (on-refused _ _ number _ _ (sym flow-is ∙ ap flowOf q) refl)
-
-  pub octets-sized : (a b : ℕ) → r ≡ Sizes a b → (flag : Bool) → flag ≡ originatorSize (length rest - a - b) → flag ≡ sPmsiUnder family s
-  octets-sized a b q flag last =
-      let size : length rest ≡ length s - 10 = ap length d ∙ length-drop 10 s in
-      tested flag (on-given _ _ (a, b) _ _ (sizes-given r _ a b flow-is q) (last ∙ ap (λ (k : ℕ). originatorSize (k - a - b)) size))
+          by-number t n ∙ ap (λ (k : ℕ). eqb k 0) (ap numberOf (front-three (omega arith) t n) ∙ flow-whole family s enough ∙ sym (flow-number family 3 10 s))
 
 -- under an AFI
 module _ (afi : ℕ) (s : List ℕ) where

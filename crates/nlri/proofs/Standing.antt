@@ -35,7 +35,7 @@ unfolding addressField addressEnd
 address-is family type s n e = sym (given-same (unless _ _ _ _ (only _ _ _ _ (unless _ _ _ _ e .1) .1) .1))
 
 -- a key takes its header and as many octets as its Length says
-key-is-long : (family : ℕ) (s : List ℕ) (k : ℕ) → keyField family s ≡ given k → k ≡ 2 + getD s 1 0
+pub key-is-long : (family : ℕ) (s : List ℕ) (k : ℕ) → keyField family s ≡ given k → k ≡ 2 + getD s 1 0
 unfolding keyField
 key-is-long family s k e =
     let w = on-given-given _ _ _ _ e in
@@ -203,12 +203,12 @@ laid-in family s n p q =
     let c = stands family s (r .0) (r .1) in
     (c .0, ap given (sym (c .1)) ∙ sym (r .1))
 
-least : (b : Bool) → 1 ≤ pick b 15 11
+least : (b : Bool) → 3 ≤ pick b 15 11
 unfolding pick
 least true = omega arith
 least false = omega arith
 
-pub start-least : (type : ℕ) → 1 ≤ sourceStart type
+pub start-least : (type : ℕ) → 3 ≤ sourceStart type
 unfolding sourceStart
 start-least type = least (withSourceAs type)
 

@@ -8,23 +8,17 @@ use Rattle.nlri.specs.declared.layout.Reading.{Reading}
 use Rattle.nlri.specs.declared.layout.Reading.the-variants.{Nlri, Refused}
 use Rattle.nlri.specs.declared.layout.Part.{Part}
 use Rattle.nlri.specs.declared.layout.Part.the-variants.{Size, Fault}
-use Rattle.nlri.specs.declared.body.Flow.{Flow}
-use Rattle.nlri.specs.declared.body.Flow.the-variants.{Sizes, Bad}
 use Rattle.nlri.specs.declared.read.Header.{Header}
 use Rattle.nlri.specs.declared.read.Header.the-variants.{Typed, Unread}
 use Rattle.nlri.specs.declared.group.Group.{Group}
 use Rattle.nlri.specs.Groups.{groupOf}
 use Rattle.nlri.specs.Layouts.{readingOf}
-use Rattle.nlri.specs.Inner.{partOf, flowOf, headerOf}
+use Rattle.nlri.specs.Inner.{partOf, headerOf}
 
 -- the case of an answer, as the definition's outcome
 pub size-given : (r : Part) (o : Outcome ℕ) (n : ℕ) → partOf r ≡ o → r ≡ Size n → o ≡ given n
 unfolding partOf
 size-given r o n p q = sym p ∙ ap partOf q
-
-pub sizes-given : (r : Flow) (o : Outcome (ℕ × ℕ)) (a b : ℕ) → flowOf r ≡ o → r ≡ Sizes a b → o ≡ given (a, b)
-unfolding flowOf
-sizes-given r o a b p q = sym p ∙ ap flowOf q
 
 pub typed-given : (r : Header) (o : Outcome (ℕ × ℕ)) (a b : ℕ) → headerOf r ≡ o → r ≡ Typed a b → o ≡ given (a, b)
 unfolding headerOf
@@ -39,13 +33,6 @@ fault-given r o n p q = sym p ∙ ap partOf q
 
 pub fault-stops : {B : Type 0} (r : Part) (o : Outcome ℕ) (n : ℕ) (next : ℕ → Outcome B) → partOf r ≡ o → r ≡ Fault n → refused n ≡ andThen o next
 fault-stops r o n next p q = stops o n next (fault-given r o n p q)
-
-pub sizes-go : {B : Type 0} (t : Outcome B) (r : Flow) (o : Outcome (ℕ × ℕ)) (a b : ℕ) (next : ℕ × ℕ → Outcome B) → flowOf r ≡ o → r ≡ Sizes a b → t ≡ next (a, b) → t ≡ andThen o next
-sizes-go t r o a b next p q h = goes t o (a, b) next (sizes-given r o a b p q) h
-
-pub bad-stops : {B : Type 0} (r : Flow) (o : Outcome (ℕ × ℕ)) (n : ℕ) (next : ℕ × ℕ → Outcome B) → flowOf r ≡ o → r ≡ Bad n → refused n ≡ andThen o next
-unfolding flowOf
-bad-stops r o n next p q = stops o n next (sym p ∙ ap flowOf q)
 
 pub typed-goes : {B : Type 0} (t : Outcome B) (r : Header) (o : Outcome (ℕ × ℕ)) (a b : ℕ) (next : ℕ × ℕ → Outcome B) → headerOf r ≡ o → r ≡ Typed a b → t ≡ next (a, b) → t ≡ andThen o next
 typed-goes t r o a b next p q h = goes t o (a, b) next (typed-given r o a b p q) h
@@ -83,4 +70,4 @@ on-fault t r o n bad good p q h = on-refused t o n bad good (fault-given r o n p
 pub group-is : (g : Group) (o p : Outcome ℕ) → g ≡ groupOf o → o ≡ p → g ≡ groupOf p
 group-is g o p e q = e ∙ ap groupOf q
 
-pub ruleset reads = (tests, size-goes, fault-stops, sizes-go, bad-stops, typed-goes, unread-stops, on-nlri, on-refusal, nlri-goes, refusal-stops, on-size, on-fault)
+pub ruleset reads = (tests, size-goes, fault-stops, typed-goes, unread-stops, on-nlri, on-refusal, nlri-goes, refusal-stops, on-size, on-fault)

@@ -5,7 +5,7 @@ use mathlib.Core.Bool.{Bool, true, false}
 use mathlib.Core.List.{List, []}
 use lib.ListN.{length, getD, drop}
 use lib.Dec.{ltb, leb, eqb}
-use Rattle.octets.specs.Numbers.{DONE, SHORT, TYPE, LENGTH, KEY}
+use Rattle.octets.specs.Numbers.{DONE, SHORT, TYPE, LENGTH, WIDTH, KEY}
 use Rattle.octets.specs.Choice.{pick, either, both}
 use Rattle.octets.specs.Outcome.{Outcome, given, refused, onOutcome, andThen}
 use Rattle.octets.specs.Octets.{part, numberIn}
@@ -13,11 +13,9 @@ use Rattle.octets.specs.declared.Span.{Span}
 use Rattle.nlri.specs.declared.layout.Layout.{Layout}
 use Rattle.nlri.specs.declared.layout.Part.{Part}
 use Rattle.nlri.specs.declared.layout.Part.the-variants.{Size, Fault}
-use Rattle.nlri.specs.declared.body.Flow.{Flow}
-use Rattle.nlri.specs.declared.body.Flow.the-variants.{Sizes, Bad}
 use Rattle.nlri.specs.declared.read.Header.{Header}
 use Rattle.nlri.specs.declared.read.Header.the-variants.{Typed, Unread}
-use Rattle.nlri.specs.Family.{originatorSize}
+use Rattle.nlri.specs.Family.{allowed, originatorSize}
 use Rattle.nlri.specs.Fields.{Fields}
 use Rattle.nlri.specs.Reading.{addressField, keyField}
 use Rattle.nlri.specs.Layouts.{layoutAt}
@@ -26,11 +24,6 @@ use Rattle.nlri.specs.Layouts.{layoutAt}
 unfoldable pub partOf : Part → Outcome ℕ
 partOf (Size size) = given size
 partOf (Fault number) = refused number
-
--- the sizes of a source and a group, or the refusal's number
-unfoldable pub flowOf : Flow → Outcome (ℕ × ℕ)
-flowOf (Sizes a b) = given (a, b)
-flowOf (Bad number) = refused number
 
 -- a route type and a Length, or the refusal's number
 unfoldable pub headerOf : Header → Outcome (ℕ × ℕ)
@@ -52,6 +45,10 @@ endsAt l = pick (eqb (l .originator) 0) (given l) (refused LENGTH)
 unfoldable pub lastFault : Bool → ℕ
 lastFault good = pick good DONE LENGTH
 
+-- the same of what stands from `at` to the end
+unfoldable pub restFault : (ℕ → Bool) → (at size : ℕ) → ℕ
+restFault good at size = pick (ltb size at) LENGTH (lastFault (good (size - at)))
+
 unfoldable pub groupSize : (family type source : ℕ) → List ℕ → Outcome (ℕ × ℕ)
 groupSize family type source s = andThen (addressField family type s) (λ group. given (source, group))
 
@@ -64,8 +61,20 @@ flowEnd type size source group rest =
     (endsAt (layoutWith type size (source - 1) (group - 1) rest 0))
 
 -- the number of what follows source and group
-unfoldable pub flowEndFault : (type rest : ℕ) → ℕ
-flowEndFault type rest = pick (eqb type 3) (lastFault (originatorSize rest)) (lastFault (eqb rest 0))
+unfoldable pub flowEndFault : (type at size : ℕ) → ℕ
+flowEndFault type at size = pick (eqb type 3) (restFault originatorSize at size) (restFault (λ rest. eqb rest 0) at size)
+
+-- the number of an address whose length octet stands at `at`, and of what follows its end
+unfoldable pub addressFault : (family type at : ℕ) → List ℕ → (ℕ → ℕ) → ℕ
+addressFault family type at s next =
+    pick (leb (length s) at) LENGTH
+    (pick (allowed family type (getD s at 0)) (next (at + 1 + getD s at 0 / 8)) WIDTH)
+
+unfoldable pub groupFault : (family type at : ℕ) → List ℕ → ℕ
+groupFault family type at s = addressFault family type at s (λ end. flowEndFault type end (length s))
+
+unfoldable pub flowFault : (family type at : ℕ) → List ℕ → ℕ
+flowFault family type at s = addressFault family type at s (λ end. groupFault family type end s)
 
 unfoldable pub flowRoute : (family type fixed : ℕ) → List ℕ → Outcome Layout
 flowRoute family type fixed s =
@@ -202,10 +211,10 @@ single family s = andThen (layoutAt family s) (λ l. endsWith l s)
 unfoldable pub ofSPmsi : Outcome Layout → Bool
 ofSPmsi o = onOutcome (λ number. false) (λ l. eqb (l .«route_type») 3) o
 
--- the same by the octets: the header, source and group, and what remains
+-- the same by the octets: the header, then source, group and what remains
 unfoldable pub sPmsiUnder : ℕ → List ℕ → Bool
 sPmsiUnder family s =
     both (leb 10 (length s))
     (both (eqb (getD s 0 0) 3)
     (both (eqb (getD s 1 0) (length s - 2))
-    (onOutcome (λ number. false) (λ sizes. originatorSize (length s - 10 - sizes .0 - sizes .1)) (flowSizes family 3 (drop 10 s)))))
+    (eqb (flowFault family 3 10 s) DONE)))

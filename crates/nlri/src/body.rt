@@ -1,26 +1,21 @@
 // The bodies of NLRIs, judged field by field from left to right (document 01, "NLRI on the wire"): the number of the first fault,
-// or DONE.
+// or DONE. Fields are judged by where they end in the octets, so that a length octet that is there says that all before it is.
 ghost use mathlib.Core.Path.{_≡_};
+ghost use Prim.Native.Nat.{_<_};
 ghost use lib.Dec.{eqb};
 ghost use Rattle.octets.specs.Outcome.{numberOf};
 ghost use Rattle.nlri.specs.Family.{allowed, originatorSize};
-ghost use Rattle.nlri.specs.Reading.{addressEnd, addressField};
-ghost use Rattle.nlri.specs.Inner.{partOf, flowOf, lastFault, groupSize, flowSizes, flowEndFault, flowRoute, intraAs, interAs, unkeyedBody};
+ghost use Rattle.nlri.specs.Inner.{restFault, flowEndFault, groupFault, flowFault, unkeyedBody};
 use crate::address::AddressKind;
 use crate::address::RouteDistinguisher;
-use crate::layout::Part;
+use crate::fields;
+use crate::read::HEADER;
 use crate::route::RouteType;
 use octets::number::DONE;
 use octets::number::KEY;
 use octets::number::LENGTH;
 use octets::number::TYPE;
 use octets::number::WIDTH;
-
-// The sizes of a source and a group, their length octets included, or the refusal's number.
-pub(crate) enum Flow {
-    Sizes(usize, usize),
-    Bad(u32),
-}
 
 // A source or group length is the family's; in type 3 only it may be 0, the wildcard.
 pub(crate) fn is_allowed(family: usize, route_type: usize, bits: usize) -> bool
@@ -45,112 +40,69 @@ pub(crate) fn is_originator_size(size: usize) -> bool
     size == AddressKind::IPV6_OCTETS
 }
 
-// An address of so many octets behind the length octet at the front of `s`.
-fn address_end(octets: usize, s: &[u8]) -> Part
-    ensures { λ r. ⌜ partOf r ≡ addressEnd octets (now (s .entry)) ⌝ }
+// An originator stands from `at` to the end.
+pub(crate) fn originator_fault(at: usize, size: usize) -> u32
+    requires { ⌜ at < 512 ⌝ }
+    ensures { λ r. ⌜ r ≡ restFault originatorSize at size ⌝ }
 {
-    if s.len() <= octets {
-        return Part::Fault(LENGTH);
+    if size == at + AddressKind::IPV4_OCTETS {
+        return DONE;
     }
-    Part::Size(1 + octets)
-}
-
-// A source or group at the front of `s`. A bad length octet is WIDTH before its address is looked for.
-fn read_address(family: usize, route_type: usize, s: &[u8]) -> Part
-    ensures { λ r. ⌜ partOf r ≡ addressField family «route_type» (now (s .entry)) ⌝ }
-{
-    if s.len() == 0 {
-        return Part::Fault(LENGTH);
-    }
-    let bits = s[0] as usize;
-    if is_allowed(family, route_type, bits) {
-        return address_end(bits / 8, s);
-    }
-    Part::Fault(WIDTH)
-}
-
-fn read_group(family: usize, route_type: usize, source: usize, s: &[u8]) -> Flow
-    ensures { λ r. ⌜ flowOf r ≡ groupSize family «route_type» source (now (s .entry)) ⌝ }
-{
-    match read_address(family, route_type, s) {
-        Part::Fault(number) => Flow::Bad(number),
-        Part::Size(group) => Flow::Sizes(source, group),
-    }
-}
-
-// A source and a group at the front of `s`.
-pub(crate) fn read_flow(family: usize, route_type: usize, s: &[u8]) -> Flow
-    ensures { λ r. ⌜ flowOf r ≡ flowSizes family «route_type» (now (s .entry)) ⌝ }
-{
-    match read_address(family, route_type, s) {
-        Part::Fault(number) => Flow::Bad(number),
-        Part::Size(source) => {
-            read_group(family, route_type, source, octets::parts::after(s, source))
-        }
-    }
-}
-
-// DONE where what remains is an originator.
-pub(crate) fn originator_fault(rest: usize) -> u32
-    ensures { λ r. ⌜ r ≡ lastFault (originatorSize rest) ⌝ }
-{
-    if is_originator_size(rest) {
+    if size == at + AddressKind::IPV6_OCTETS {
         return DONE;
     }
     LENGTH
 }
 
-// Nothing may remain.
-fn rest_fault(rest: usize) -> u32
-    ensures { λ r. ⌜ r ≡ lastFault (eqb rest 0) ⌝ }
+// Nothing stands from `at` on.
+fn end_fault(at: usize, size: usize) -> u32
+    ensures { λ r. ⌜ r ≡ restFault (λ rest. eqb rest 0) at size ⌝ }
 {
-    if rest == 0 {
+    if size == at {
         return DONE;
     }
     LENGTH
 }
 
 // What follows source and group: in type 3 the originator, else nothing.
-fn flow_end_fault(route_type: usize, rest: usize) -> u32
-    ensures { λ r. ⌜ r ≡ flowEndFault «route_type» rest ⌝ }
+fn flow_end_fault(route_type: usize, at: usize, size: usize) -> u32
+    requires { ⌜ at < 512 ⌝ }
+    ensures { λ r. ⌜ r ≡ flowEndFault «route_type» at size ⌝ }
 {
     if route_type == RouteType::S_PMSI {
-        return originator_fault(rest);
+        return originator_fault(at, size);
     }
-    rest_fault(rest)
+    end_fault(at, size)
 }
 
-// A body of `fixed` octets, then source and group.
-pub(crate) fn flow_route_fault(family: usize, route_type: usize, fixed: usize, s: &[u8]) -> u32
-    ensures { λ r. ⌜ r ≡ numberOf (flowRoute family «route_type» fixed (now (s .entry))) ⌝ }
+// A group, whose length octet is at `at`, and what follows it.
+fn group_fault(family: usize, route_type: usize, at: usize, s: &[u8]) -> u32
+    requires { ⌜ at < 256 ⌝ }
+    ensures { λ r. ⌜ r ≡ groupFault family «route_type» at (now (s .entry)) ⌝ }
 {
-    if s.len() < fixed {
+    if s.len() <= at {
         return LENGTH;
     }
-    match read_flow(family, route_type, octets::parts::after(s, fixed)) {
-        Flow::Bad(number) => number,
-        Flow::Sizes(source, group) => {
-            flow_end_fault(route_type, s.len() - fixed - source - group)
-        }
+    let bits = s[at] as usize;
+    if is_allowed(family, route_type, bits) {
+        return flow_end_fault(route_type, at + 1 + bits / 8, s.len());
     }
+    WIDTH
 }
 
-pub(crate) fn intra_as_fault(s: &[u8]) -> u32
-    ensures { λ r. ⌜ r ≡ numberOf (intraAs (now (s .entry))) ⌝ }
+// A source, whose length octet is at `at`, and what follows it.
+pub(crate) fn flow_fault(family: usize, route_type: usize, at: usize, s: &[u8]) -> u32
+    requires { ⌜ at < 128 ⌝ }
+    ensures { λ r. ⌜ r ≡ flowFault family «route_type» at (now (s .entry)) ⌝ }
 {
-    if s.len() < RouteDistinguisher::OCTETS {
+    if s.len() <= at {
         return LENGTH;
     }
-    originator_fault(s.len() - RouteDistinguisher::OCTETS)
-}
-
-pub(crate) fn inter_as_fault(s: &[u8]) -> u32
-    ensures { λ r. ⌜ r ≡ numberOf (interAs (now (s .entry))) ⌝ }
-{
-    if s.len() < RouteDistinguisher::WITH_SOURCE_AS {
-        return LENGTH;
+    let bits = s[at] as usize;
+    if is_allowed(family, route_type, bits) {
+        return group_fault(family, route_type, at + 1 + bits / 8, s);
     }
-    rest_fault(s.len() - RouteDistinguisher::WITH_SOURCE_AS)
+    WIDTH
 }
 
 // A body that has no key, of the route type given.
@@ -158,25 +110,24 @@ pub(crate) fn unkeyed_body_fault(family: usize, route_type: usize, s: &[u8]) -> 
     ensures { λ r. ⌜ r ≡ numberOf (unkeyedBody family «route_type» (now (s .entry))) ⌝ }
 {
     if route_type == RouteType::INTRA_AS_I_PMSI {
-        return intra_as_fault(s);
+        return originator_fault(RouteDistinguisher::OCTETS, s.len());
     }
     if route_type == RouteType::INTER_AS_I_PMSI {
-        return inter_as_fault(s);
-    }
-    if route_type == RouteType::S_PMSI {
-        return flow_route_fault(family, route_type, RouteDistinguisher::OCTETS, s);
+        return end_fault(RouteDistinguisher::WITH_SOURCE_AS, s.len());
     }
     if route_type == RouteType::LEAF {
         return KEY;
     }
-    if route_type == RouteType::SOURCE_ACTIVE {
-        return flow_route_fault(family, route_type, RouteDistinguisher::OCTETS, s);
+    if route_type < RouteType::INTRA_AS_I_PMSI {
+        return TYPE;
     }
-    if route_type == RouteType::SHARED_TREE_JOIN {
-        return flow_route_fault(family, route_type, RouteDistinguisher::WITH_SOURCE_AS, s);
+    if RouteType::SOURCE_TREE_JOIN < route_type {
+        return TYPE;
     }
-    if route_type == RouteType::SOURCE_TREE_JOIN {
-        return flow_route_fault(family, route_type, RouteDistinguisher::WITH_SOURCE_AS, s);
-    }
-    TYPE
+    flow_fault(
+        family,
+        route_type,
+        fields::source_start(route_type) - (HEADER + 1),
+        s,
+    )
 }

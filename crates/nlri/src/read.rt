@@ -8,7 +8,6 @@ ghost use Rattle.nlri.specs.Layouts.{readingOf, layoutAt, layoutSingle};
 ghost use Rattle.nlri.specs.Inner.{partOf, headerOf, header, unkeyedHeader, leaf, anyBody, layoutWith, flowLayout, leafLayout, layoutIn, FlowStands, Stands, endsWith, single, sPmsiUnder};
 use crate::address::RouteDistinguisher;
 use crate::body;
-use crate::body::Flow;
 use crate::family;
 use crate::fields;
 use crate::layout::Layout;
@@ -19,7 +18,6 @@ use octets::number::DONE;
 use octets::number::KEY;
 use octets::number::LENGTH;
 use octets::number::SHORT;
-use octets::number::TYPE;
 
 // Route Type and Length.
 pub(crate) const HEADER: usize = 2;
@@ -64,7 +62,8 @@ fn read_unkeyed(family: usize, s: &[u8]) -> Header
 pub(crate) fn read_key(family: usize, s: &[u8]) -> Part
     ensures { λ r. ⌜ partOf r ≡ keyField family (now (s .entry)) ⌝ }
 {
-    let Header::Typed(route_type, length) = read_unkeyed(family, s) else {
+    // A part of the slice is handed on, not the slice: then its address and size come in registers.
+    let Header::Typed(route_type, length) = read_unkeyed(family, &s[0..]) else {
         return Part::Fault(KEY);
     };
     if RouteType::S_PMSI < route_type {
@@ -78,50 +77,28 @@ fn leaf_fault(family: usize, s: &[u8]) -> u32
 {
     match read_key(family, s) {
         Part::Fault(number) => number,
-        Part::Size(key) => body::originator_fault(s.len() - key),
+        Part::Size(key) => body::originator_fault(key, s.len()),
     }
 }
 
-// A body of any route type. It makes the tests of `unkeyed_body_fault` itself, so that one call judges a body.
+// A body of any route type.
 fn body_fault(family: usize, route_type: usize, s: &[u8]) -> u32
     ensures { λ r. ⌜ r ≡ numberOf (anyBody family «route_type» (now (s .entry))) ⌝ }
 {
-    if route_type == RouteType::INTRA_AS_I_PMSI {
-        return body::intra_as_fault(s);
-    }
-    if route_type == RouteType::INTER_AS_I_PMSI {
-        return body::inter_as_fault(s);
-    }
-    if route_type == RouteType::S_PMSI {
-        return body::flow_route_fault(family, route_type, RouteDistinguisher::OCTETS, s);
-    }
     if route_type == RouteType::LEAF {
         return leaf_fault(family, s);
     }
-    if route_type == RouteType::SOURCE_ACTIVE {
-        return body::flow_route_fault(family, route_type, RouteDistinguisher::OCTETS, s);
-    }
-    if route_type == RouteType::SHARED_TREE_JOIN {
-        return body::flow_route_fault(family, route_type, RouteDistinguisher::WITH_SOURCE_AS, s);
-    }
-    if route_type == RouteType::SOURCE_TREE_JOIN {
-        return body::flow_route_fault(family, route_type, RouteDistinguisher::WITH_SOURCE_AS, s);
-    }
-    TYPE
+    body::unkeyed_body_fault(family, route_type, s)
 }
 
 // The number of the NLRI at the front of `s`, under a family given by the bits of its addresses.
 pub(crate) fn front_fault(family: usize, s: &[u8]) -> u32
     ensures { λ r. ⌜ r ≡ numberOf (layoutAt family (now (s .entry))) ⌝ }
 {
-    match read_header(s) {
+    match read_header(&s[0..]) {
         Header::Unread(number) => number,
         Header::Typed(route_type, length) => {
-            body_fault(
-                family,
-                route_type,
-                octets::parts::between(s, HEADER, length),
-            )
+            body_fault(family, route_type, &s[HEADER..HEADER + length])
         }
     }
 }
@@ -251,11 +228,13 @@ fn is_s_pmsi_under(family: usize, s: &[u8]) -> bool
     if s[1] as usize != s.len() - HEADER {
         return false;
     }
-    let rest = octets::parts::after(s, HEADER + RouteDistinguisher::OCTETS);
-    match body::read_flow(family, RouteType::S_PMSI, rest) {
-        Flow::Bad(_) => false,
-        Flow::Sizes(source, group) => body::is_originator_size(rest.len() - source - group),
-    }
+    body::flow_fault(
+        family,
+        RouteType::S_PMSI,
+        HEADER + RouteDistinguisher::OCTETS,
+        s,
+    )
+        == DONE
 }
 
 // Whether octets are a single NLRI of type 3.

@@ -12,8 +12,8 @@ returns : tie.Need-returns
 unfolding flowEndFault
 returns c = search tests
 
-rest-fault-requires : tie.Need-rest-fault-requires
-rest-fault-requires c κs = search needs
+end-fault-requires : tie.Need-end-fault-requires
+end-fault-requires c κs = search needs
 
 returns-2 : tie.Need-returns-2
 unfolding flowEndFault
@@ -21,4 +21,4 @@ returns-2 c = search tests
 
 pub flow-end-fault-spec : {M : Type 1} → statement M
 flow-end-fault-spec =
-    tie.close (tie.spec originator-fault-requires returns rest-fault-requires returns-2)
+    tie.close (tie.spec originator-fault-requires returns end-fault-requires returns-2)

@@ -1,20 +1,28 @@
 -- `nlri::body::originator_fault` meets its contract.
-use Rattle.octets.proofs.Tests.{flags}
-use Rattle.nlri.specs.Inner.{lastFault}
+use mathlib.Core.Path.{refl}
+use Rattle.octets.specs.Choice.{either}
+use Rattle.nlri.specs.Family.{originatorSize}
+use Rattle.nlri.proofs.Ends.{rest-good, no-originator}
 use borrow.Author.Needs.{needs}
 use Rattle.nlri.proofs.body.originator_fault.Statement.{statement}
 use Rattle.nlri.proofs.body.originator_fault.Tie as tie
 
-is-originator-size-requires : tie.Need-is-originator-size-requires
-is-originator-size-requires c κs = search needs
+add-if1 : tie.Need-add-if1
+add-if1 c = search needs
 
 returns : tie.Need-returns
-unfolding lastFault
-returns c = search flags
+unfolding originatorSize either
+returns c = rest-good _ _ _ 4 (c .if1 .taken) refl
+
+add-if2 : tie.Need-add-if2
+add-if2 c = search needs
 
 returns-2 : tie.Need-returns-2
-unfolding lastFault
-returns-2 c = search flags
+unfolding originatorSize either
+returns-2 c = rest-good _ _ _ 16 (c .if2 .taken) refl
+
+returns-3 : tie.Need-returns-3
+returns-3 c = no-originator _ _ (c .before .if1 .left) (c .if2 .left)
 
 pub originator-fault-spec : {M : Type 1} → statement M
-originator-fault-spec = tie.close (tie.spec is-originator-size-requires returns returns-2)
+originator-fault-spec = tie.close (tie.spec add-if1 returns add-if2 returns-2 returns-3)

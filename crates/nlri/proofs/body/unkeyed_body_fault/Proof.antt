@@ -1,76 +1,77 @@
 -- `nlri::body::unkeyed_body_fault` meets its contract.
-use Rattle.octets.specs.Outcome.{numberOf}
-use Rattle.nlri.specs.Inner.{bodyWith, unkeyedBody}
-use Rattle.nlri.proofs.Numbered.{numbers}
+use mathlib.Core.Path.{refl, _∙_, ap}
+use Prim.Native.Nat.{ℕ, _-_}
+use native.Mathlib.Omega.{arith}
+use denote.Ref.{now}
+use Rattle.octets.specs.Choice.{pick}
+use Rattle.octets.specs.Numbers.{TYPE, KEY}
+use Rattle.octets.specs.Outcome.{refused, numberOf}
+use Rattle.nlri.specs.Inner.{flowFault, bodyWith, unkeyedBody}
+use Rattle.nlri.proofs.Ends.{intra-number, inter-number, flow-number, of-type, of-none, of-flow}
+use Rattle.nlri.proofs.Standing.{start-least}
+use Rattle.nlri.proofs.Singles.{start-most}
 use borrow.Author.Needs.{needs}
 use Rattle.nlri.proofs.body.unkeyed_body_fault.Statement.{statement}
 use Rattle.nlri.proofs.body.unkeyed_body_fault.Tie as tie
 
-intra-as-fault-requires : tie.Need-intra-as-fault-requires
-intra-as-fault-requires c κs = search needs
+originator-fault-requires : tie.Need-originator-fault-requires
+originator-fault-requires c κs = search needs
 
 returns : tie.Need-returns
-unfolding numberOf unkeyedBody bodyWith
-returns c = search numbers depth 20
+unfolding unkeyedBody bodyWith pick
+returns c = c .originator-fault .ensures ∙ intra-number (now (c .before .before .before .args .s)) ∙ ap numberOf (of-type _ _ _ _ 1 _ (c .before .if1 .taken) refl)
 
-inter-as-fault-requires : tie.Need-inter-as-fault-requires
-inter-as-fault-requires c κs = search needs
+end-fault-requires : tie.Need-end-fault-requires
+end-fault-requires c κs = search needs
 
 returns-2 : tie.Need-returns-2
-unfolding numberOf unkeyedBody bodyWith
-returns-2 c = search numbers depth 20
-
-flow-route-fault-requires : tie.Need-flow-route-fault-requires
-flow-route-fault-requires c κs = search needs
+unfolding unkeyedBody bodyWith pick
+returns-2 c = c .end-fault .ensures ∙ inter-number (now (c .before .before .before .before .args .s)) ∙ ap numberOf (of-type _ _ _ _ 2 _ (c .before .if2 .taken) refl)
 
 returns-3 : tie.Need-returns-3
-unfolding numberOf unkeyedBody bodyWith
-returns-3 c = search numbers depth 20
+unfolding unkeyedBody bodyWith pick numberOf
+returns-3 c = ap numberOf (of-type (refused KEY) _ _ _ 4 _ (c .if3 .taken) refl)
 
 returns-4 : tie.Need-returns-4
-unfolding numberOf unkeyedBody bodyWith
-returns-4 c = search numbers depth 20
-
-flow-route-fault-requires-2 : tie.Need-flow-route-fault-requires-2
-flow-route-fault-requires-2 c κs = search needs
+unfolding unkeyedBody bodyWith pick numberOf
+returns-4 c = ap numberOf (of-type (refused KEY) _ (c .before .before .before .before .before .args .route-type) _ 0 (refused TYPE) (search needs) refl)
 
 returns-5 : tie.Need-returns-5
-unfolding numberOf unkeyedBody bodyWith
-returns-5 c = search numbers depth 20
+unfolding unkeyedBody numberOf
+returns-5 c = ap numberOf (of-none (refused KEY) _ _ _ (c .if5 .taken))
 
-flow-route-fault-requires-3 : tie.Need-flow-route-fault-requires-3
-flow-route-fault-requires-3 c κs = search needs
+source-start-requires : tie.Need-source-start-requires
+source-start-requires c κs = search needs
+
+add-flow-fault : tie.Need-add-flow-fault
+add-flow-fault c = search needs
+
+sub-flow-fault : tie.Need-sub-flow-fault
+sub-flow-fault c = omega (arith, c .source-start .ensures, start-least (c .before .before .before .before .before .before .before .args .route-type))
+
+flow-fault-requires : tie.Need-flow-fault-requires
+flow-fault-requires c κs = omega (arith, c .source-start .ensures, start-most (c .before .before .before .before .before .before .before .args .route-type))
 
 returns-6 : tie.Need-returns-6
-unfolding numberOf unkeyedBody bodyWith
-returns-6 c = search numbers depth 20
-
-flow-route-fault-requires-4 : tie.Need-flow-route-fault-requires-4
-flow-route-fault-requires-4 c κs = search needs
-
-returns-7 : tie.Need-returns-7
-unfolding numberOf unkeyedBody bodyWith
-returns-7 c = search numbers depth 20
-
-returns-8 : tie.Need-returns-8
-unfolding numberOf unkeyedBody bodyWith
-returns-8 c = search numbers depth 20
+unfolding unkeyedBody
+returns-6 c =
+    let a = c .before .before .before .before .before .before .before .before .args in
+    c .flow-fault .ensures ∙ ap (λ (k : ℕ). flowFault (a .family) (a .route-type) (k - 3) (now (a .s))) (c .before .source-start .ensures) ∙ flow-number _ _ _ _
+    ∙ ap numberOf (of-flow _ _ _ _ (search needs) (search needs) (search needs) (search needs) (search needs))
 
 pub unkeyed-body-fault-spec : {M : Type 1} → statement M
 unkeyed-body-fault-spec =
     tie.close
     (tie.spec
-    intra-as-fault-requires
+    originator-fault-requires
     returns
-    inter-as-fault-requires
+    end-fault-requires
     returns-2
-    flow-route-fault-requires
     returns-3
     returns-4
-    flow-route-fault-requires-2
     returns-5
-    flow-route-fault-requires-3
-    returns-6
-    flow-route-fault-requires-4
-    returns-7
-    returns-8)
+    source-start-requires
+    add-flow-fault
+    sub-flow-fault
+    flow-fault-requires
+    returns-6)

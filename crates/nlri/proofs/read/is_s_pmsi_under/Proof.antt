@@ -1,10 +1,10 @@
 -- `nlri::read::is_s_pmsi_under` meets its contract.
+use mathlib.Core.Path.{ap}
+use Prim.Native.Nat.{ℕ}
 use native.Mathlib.Omega.{arith}
+use lib.Dec.{eqb}
 use Rattle.octets.proofs.Tests.{flags}
 use Rattle.nlri.specs.Inner.{sPmsiUnder}
-use Rattle.nlri.proofs.Sizes.{flow-within}
-use Rattle.nlri.proofs.Via.{sizes-given}
-use Rattle.nlri.proofs.SPmsis.{octets-bad, octets-sized}
 use borrow.Author.Needs.{needs}
 use Rattle.nlri.proofs.read.is_s_pmsi_under.Statement.{statement}
 use Rattle.nlri.proofs.read.is_s_pmsi_under.Tie as tie
@@ -39,41 +39,17 @@ returns-3 : tie.Need-returns-3
 unfolding sPmsiUnder
 returns-3 c = search flags
 
-add-after : tie.Need-add-after
-add-after c = search needs
+add-flow-fault : tie.Need-add-flow-fault
+add-flow-fault c = search needs
 
-after-requires : tie.Need-after-requires
-after-requires c κs = search needs
-
-read-flow-requires : tie.Need-read-flow-requires
-read-flow-requires c κs = search needs
-
-enum-told : tie.Need-enum-told
-enum-told c = search needs
-
-enum-known-source : tie.Need-enum-known-source
-enum-known-source c = search needs
-
-sub-is-originator-size : tie.Need-sub-is-originator-size
-sub-is-originator-size c =
-    let h = flow-within _ _ _ _ _ (sizes-given _ _ _ _ (c .before .before .before .read-flow .ensures) (c .before .source .given .1)) in
-    omega (arith, h .1)
-
-sub-is-originator-size-2 : tie.Need-sub-is-originator-size-2
-sub-is-originator-size-2 c =
-    let h = flow-within _ _ _ _ _ (sizes-given _ _ _ _ (c .before .before .before .read-flow .ensures) (c .before .source .given .1)) in
-    omega (arith, h .1)
-
-is-originator-size-requires : tie.Need-is-originator-size-requires
-is-originator-size-requires c κs = search needs
+flow-fault-requires : tie.Need-flow-fault-requires
+flow-fault-requires c κs = search needs
 
 returns-4 : tie.Need-returns-4
+unfolding sPmsiUnder
 returns-4 c =
-    octets-bad _ _ _ _ (search needs) (search needs) (search needs) (c .before .before .before .after .ensures) (c .before .before .read-flow .ensures) _ (c .enum-told .given .1)
-
-returns-5 : tie.Need-returns-5
-returns-5 c =
-    octets-sized _ _ _ _ (search needs) (search needs) (search needs) (c .before .before .before .before .before .after .ensures) (c .before .before .before .before .read-flow .ensures) _ _ (c .before .before .source .given .1) _ (c .is-originator-size .ensures)
+    let last = ap (λ (n : ℕ). eqb n 0) (c .flow-fault .ensures) in
+    search flags
 
 pub is-s-pmsi-under-spec : {M : Type 1} → statement M
 is-s-pmsi-under-spec =
@@ -88,13 +64,6 @@ is-s-pmsi-under-spec =
     cast-if3
     sub-if3
     returns-3
-    add-after
-    after-requires
-    read-flow-requires
-    enum-told
-    enum-known-source
-    sub-is-originator-size
-    sub-is-originator-size-2
-    is-originator-size-requires
-    returns-4
-    returns-5)
+    add-flow-fault
+    flow-fault-requires
+    returns-4)

@@ -1,9 +1,13 @@
 -- `nlri::read::leaf_fault` meets its contract.
+use mathlib.Core.Path.{_∙_}
+use native.Mathlib.Omega.{arith}
 use Rattle.octets.specs.Outcome.{numberOf}
 use Rattle.nlri.specs.Inner.{layoutWith, leaf}
 use Rattle.nlri.proofs.Fronts.{key-within}
 use Rattle.nlri.proofs.Via.{size-given}
 use Rattle.nlri.proofs.Numbered.{numbers}
+use Rattle.nlri.proofs.Ends.{rest-within}
+use Rattle.nlri.proofs.Standing.{key-is-long}
 use borrow.Author.Needs.{needs}
 use Rattle.nlri.proofs.read.leaf_fault.Statement.{statement}
 use Rattle.nlri.proofs.read.leaf_fault.Tie as tie
@@ -17,11 +21,10 @@ enum-known-number c = search needs
 enum-known-key : tie.Need-enum-known-key
 enum-known-key c = search needs
 
-sub-originator-fault : tie.Need-sub-originator-fault
-sub-originator-fault c = key-within _ _ _ (size-given _ _ _ (c .before .before .before .read-key .ensures) (c .before .key .given .1)) .1
-
 originator-fault-requires : tie.Need-originator-fault-requires
-originator-fault-requires c κs = search needs
+originator-fault-requires c κs =
+    let long = key-is-long _ _ _ (size-given _ _ _ (c .before .before .before .read-key .ensures) (c .before .key .given .1)) in
+    omega (arith, c .before .before .before .before .shared-slice-known .given 1)
 
 returns : tie.Need-returns
 unfolding numberOf leaf layoutWith
@@ -29,7 +32,10 @@ returns c = search numbers
 
 returns-2 : tie.Need-returns-2
 unfolding numberOf leaf layoutWith
-returns-2 c = search numbers
+returns-2 c =
+    let within = key-within _ _ _ (size-given _ _ _ (c .before .before .before .before .read-key .ensures) (c .before .before .key .given .1)) in
+    let judged = c .originator-fault .ensures ∙ rest-within _ _ _ (within .1) in
+    search numbers
 
 pub leaf-fault-spec : {M : Type 1} → statement M
 leaf-fault-spec =
@@ -38,7 +44,6 @@ leaf-fault-spec =
     read-key-requires
     enum-known-number
     enum-known-key
-    sub-originator-fault
     originator-fault-requires
     returns
     returns-2)

@@ -1,0 +1,51 @@
+-- `nlri::body::flow_fault` meets its contract.
+use native.Mathlib.Omega.{arith}
+use Rattle.octets.proofs.Tests.{flags}
+use Rattle.nlri.specs.Inner.{addressFault, flowFault}
+use borrow.Author.Needs.{needs}
+use Rattle.nlri.proofs.body.flow_fault.Statement.{statement}
+use Rattle.nlri.proofs.body.flow_fault.Tie as tie
+
+returns : tie.Need-returns
+unfolding flowFault addressFault
+returns c = search flags
+
+shared-slice-read-bits : tie.Need-shared-slice-read-bits
+shared-slice-read-bits c = search needs
+
+cast-bits : tie.Need-cast-bits
+cast-bits c = omega (arith, c .shared-slice-known2 .given (c .before .before .before .args .at))
+
+is-allowed-requires : tie.Need-is-allowed-requires
+is-allowed-requires c κs = search needs
+
+add-group-fault : tie.Need-add-group-fault
+add-group-fault c = search needs
+
+add-group-fault-2 : tie.Need-add-group-fault-2
+add-group-fault-2 c = omega (arith, c .before .before .shared-slice-known2 .given (c .before .before .before .before .before .args .at))
+
+group-fault-requires : tie.Need-group-fault-requires
+group-fault-requires c κs = omega (arith, c .before .before .shared-slice-known2 .given (c .before .before .before .before .before .args .at))
+
+returns-2 : tie.Need-returns-2
+unfolding flowFault addressFault
+returns-2 c = search flags
+
+returns-3 : tie.Need-returns-3
+unfolding flowFault addressFault
+returns-3 c = search flags
+
+pub flow-fault-spec : {M : Type 1} → statement M
+flow-fault-spec =
+    tie.close
+    (tie.spec
+    returns
+    shared-slice-read-bits
+    cast-bits
+    is-allowed-requires
+    add-group-fault
+    add-group-fault-2
+    group-fault-requires
+    returns-2
+    returns-3)

@@ -1,0 +1,51 @@
+-- `nlri::body::group_fault` meets its contract.
+use native.Mathlib.Omega.{arith}
+use Rattle.octets.proofs.Tests.{flags}
+use Rattle.nlri.specs.Inner.{addressFault, groupFault}
+use borrow.Author.Needs.{needs}
+use Rattle.nlri.proofs.body.group_fault.Statement.{statement}
+use Rattle.nlri.proofs.body.group_fault.Tie as tie
+
+returns : tie.Need-returns
+unfolding groupFault addressFault
+returns c = search flags
+
+shared-slice-read-bits : tie.Need-shared-slice-read-bits
+shared-slice-read-bits c = search needs
+
+cast-bits : tie.Need-cast-bits
+cast-bits c = omega (arith, c .shared-slice-known2 .given (c .before .before .before .args .at))
+
+is-allowed-requires : tie.Need-is-allowed-requires
+is-allowed-requires c κs = search needs
+
+add-flow-end-fault : tie.Need-add-flow-end-fault
+add-flow-end-fault c = search needs
+
+add-flow-end-fault-2 : tie.Need-add-flow-end-fault-2
+add-flow-end-fault-2 c = omega (arith, c .before .before .shared-slice-known2 .given (c .before .before .before .before .before .args .at))
+
+flow-end-fault-requires : tie.Need-flow-end-fault-requires
+flow-end-fault-requires c κs = omega (arith, c .before .before .shared-slice-known2 .given (c .before .before .before .before .before .args .at))
+
+returns-2 : tie.Need-returns-2
+unfolding groupFault addressFault
+returns-2 c = search flags
+
+returns-3 : tie.Need-returns-3
+unfolding groupFault addressFault
+returns-3 c = search flags
+
+pub group-fault-spec : {M : Type 1} → statement M
+group-fault-spec =
+    tie.close
+    (tie.spec
+    returns
+    shared-slice-read-bits
+    cast-bits
+    is-allowed-requires
+    add-flow-end-fault
+    add-flow-end-fault-2
+    flow-end-fault-requires
+    returns-2
+    returns-3)
