@@ -1,7 +1,6 @@
 -- Laws of the definitions, and how the functions' proofs use them.
 pub mod Families
 pub mod FieldRecords
-pub mod Parts
 pub mod Via
 pub mod Sizes
 pub mod Rows

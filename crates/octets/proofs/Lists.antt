@@ -2,13 +2,17 @@
 use Prim.Native.Nat.{ℕ, suc, _+_, _-_, _≤_}
 use mathlib.Core.Path.{_≡_, refl, sym, ap, ap₂, subst, _∙_}
 use mathlib.Core.List.{List, [], _∷_, _++_, append-assoc, append-nil}
-use native.Mathlib.Nat.{zero-add, add-zero, add-assoc}
+use native.Mathlib.Nat.{zero-add, add-zero, add-assoc, add-sub-cancel-left}
 use native.Mathlib.Omega.{arith}
 use lib.ListN.{length, getD, take, drop, replicate, length-append, length-take, length-drop, length-replicate, replicate-append-replicate, take-append-drop, drop-of-length-le}
 use lib.Seq.{take-all, take-at, drop-at, drop-drop, length-take-le, take-append-le, take-length, take-append-add, take-add, take-take, take-append-seam}
 use Rattle.octets.specs.Octets.{part, placed, front, sized}
 
--- a slice lent from `at` to its end, and one lent from its start to its end
+-- what a slice hands on: its part from `start` on, all of it from `at` on, and all of it
+pub lent-part : (start size : ℕ) (s : List ℕ) → take (start + size - start) (drop start s) ≡ part s start size
+unfolding part
+lent-part start size s = ap (λ (k : ℕ). take k (drop start s)) (add-sub-cancel-left start size)
+
 pub lent-rest : (at : ℕ) (s : List ℕ) → take (length s - at) (drop at s) ≡ drop at s
 lent-rest at s = take-all (length s - at) (drop at s) (simp length-drop (omega arith))
 

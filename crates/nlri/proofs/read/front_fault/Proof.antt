@@ -8,7 +8,7 @@ use mathlib.Core.List.{List}
 use Rattle.octets.specs.Outcome.{numberOf}
 use Rattle.nlri.specs.Inner.{headerOf, header, anyBody, anyFront}
 use Rattle.nlri.proofs.Sizes.{header-within}
-use Rattle.nlri.proofs.Parts.{from-first, from-to}
+use Rattle.octets.proofs.Lists.{lent-part, lent-whole}
 use Rattle.nlri.proofs.Via.{typed-given}
 use Rattle.nlri.proofs.Numbered.{numbers, front-number}
 use borrow.Author.Needs.{needs}
@@ -35,7 +35,7 @@ enum-known-route-type c = search needs
 
 -- the header that was read is that of the whole slice, and its Length stays within
 headed : (c : tie.After-read-header) → headerOf (c .read-header .result) ≡ header (now (c .before .before .before .args .s))
-headed c = c .read-header .ensures ∙ ap header (from-first (now (c .before .before .before .args .s)))
+headed c = c .read-header .ensures ∙ ap header (lent-whole (now (c .before .before .before .args .s)))
 
 within : (c : tie.After-known-told2) → 2 + c .before .route-type .given .0 .1 .0 ≤ length (now (c .before .before .before .before .before .before .args .s))
 within c = header-within _ _ _ (typed-given _ _ _ _ (headed (c .before .before .before)) (c .before .route-type .given .1))
@@ -67,7 +67,7 @@ returns-2 c =
     let moved = headed (c .before .before .before .before .before) in
     let a = c .before .before .before .before .before .before .before .before .args in
     let h = c .before .before .before .route-type .given .0 in
-    let body = c .body-fault .ensures ∙ ap (λ (x : List ℕ). numberOf (anyBody (a .family) (h .0) x)) (from-to (now (a .s)) 2 (h .1 .0)) in
+    let body = c .body-fault .ensures ∙ ap (λ (x : List ℕ). numberOf (anyBody (a .family) (h .0) x)) (lent-part 2 (h .1 .0) (now (a .s))) in
     search (numbers, front-number)
 
 pub front-fault-spec : {M : Type 1} → statement M

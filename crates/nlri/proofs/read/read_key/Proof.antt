@@ -4,7 +4,7 @@ use native.Mathlib.Omega.{arith}
 use denote.Ref.{now}
 use Rattle.octets.proofs.Tests.{tests}
 use Rattle.nlri.specs.Inner.{partOf, unkeyedHeader}
-use Rattle.nlri.proofs.Parts.{from-first}
+use Rattle.octets.proofs.Lists.{lent-whole}
 use Rattle.nlri.proofs.Via.{typed-given}
 use Rattle.nlri.proofs.Standing.{key-by, on-typed, on-unread, unkeyed-header-within}
 use borrow.Author.Needs.{needs}
@@ -32,13 +32,13 @@ enum-told c = search needs
 returns : tie.Need-returns
 unfolding partOf
 returns c =
-    let moved = c .before .before .read-unkeyed .ensures ∙ ap (unkeyedHeader _) (from-first (now (c .before .before .before .before .before .args .s))) in
+    let moved = c .before .before .read-unkeyed .ensures ∙ ap (unkeyedHeader _) (lent-whole (now (c .before .before .before .before .before .args .s))) in
     search (tests, key-by, on-typed, on-unread)
 
 returns-2 : tie.Need-returns-2
 unfolding partOf
 returns-2 c =
-    let moved = c .before .before .before .before .read-unkeyed .ensures ∙ ap (unkeyedHeader _) (from-first (now (c .before .before .before .before .before .before .before .args .s))) in
+    let moved = c .before .before .before .before .read-unkeyed .ensures ∙ ap (unkeyedHeader _) (lent-whole (now (c .before .before .before .before .before .before .before .args .s))) in
     search (tests, key-by, on-typed, on-unread)
 
 add-t7 : tie.Need-add-t7
@@ -47,7 +47,7 @@ add-t7 c = let h = unkeyed-header-within _ _ _ _ (typed-given _ _ _ _ (c .before
 returns-3 : tie.Need-returns-3
 unfolding partOf
 returns-3 c =
-    let moved = c .before .before .before .before .read-unkeyed .ensures ∙ ap (unkeyedHeader _) (from-first (now (c .before .before .before .before .before .before .before .args .s))) in
+    let moved = c .before .before .before .before .read-unkeyed .ensures ∙ ap (unkeyedHeader _) (lent-whole (now (c .before .before .before .before .before .before .before .args .s))) in
     search (tests, key-by, on-typed, on-unread)
 
 pub read-key-spec : {M : Type 1} → statement M

@@ -1,10 +1,6 @@
 -- `octets::parts::between` meets its contract.
-use Prim.Native.Nat.{ℕ}
-use native.Mathlib.Nat.{add-sub-cancel-left}
-use mathlib.Core.Path.{ap}
 use denote.Ref.{now}
-use lib.ListN.{take, drop}
-use Rattle.octets.specs.Octets.{part}
+use Rattle.octets.proofs.Lists.{lent-part}
 use borrow.Author.Needs.{needs}
 use Rattle.octets.proofs.parts.between.Statement.{statement}
 use Rattle.octets.proofs.parts.between.Tie as tie
@@ -22,10 +18,7 @@ part-result-end : tie.Need-part-result-end
 part-result-end c = search needs
 
 returns : tie.Need-returns
-unfolding part
-returns c =
-    let a = c .before .args in
-    ap (λ (k : ℕ). take k (drop (a .start) (now (a .s)))) (add-sub-cancel-left (a .start) (a .size))
+returns c = let a = c .before .args in lent-part (a .start) (a .size) (now (a .s))
 
 pub between-spec : {M : Type 1} → statement M
 between-spec = tie.close (tie.spec add-result sub-result part-result-start part-result-end returns)
