@@ -8,6 +8,7 @@ pub mod Fronts
 pub mod Numbered
 pub mod Ends
 pub mod Standing
+pub mod KeyTests
 pub mod Steps
 pub mod Shapes
 pub mod Copies

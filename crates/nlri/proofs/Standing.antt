@@ -69,7 +69,7 @@ header-octets s type size e =
     let same = given-same (unless _ _ _ _ (unless _ _ _ _ e .1) .1) in
     (ap (λ (z : ℕ × ℕ). z .0) same, ap (λ (z : ℕ × ℕ). z .1) same)
 
-unkeyed-octets : (family : ℕ) (s : List ℕ) (l : Layout) → unkeyed family s ≡ given l → (l .«route_type» ≡ getD s 0 0) × (l .length ≡ getD s 1 0)
+pub unkeyed-octets : (family : ℕ) (s : List ℕ) (l : Layout) → unkeyed family s ≡ given l → (l .«route_type» ≡ getD s 0 0) × (l .length ≡ getD s 1 0)
 unfolding layoutOf
 unkeyed-octets family s l e =
     let w = passed _ _ _ (unkeyed-is family s ∙ e) in

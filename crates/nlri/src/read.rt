@@ -59,11 +59,10 @@ fn read_unkeyed(family: usize, s: &[u8]) -> Header
 }
 
 // The size of the key at the front of `s`: a whole NLRI of type 1, 2 or 3. Any fault inside it is KEY.
-pub(crate) fn read_key(family: usize, s: &[u8]) -> Part
+fn read_key(family: usize, s: &[u8]) -> Part
     ensures { λ r. ⌜ partOf r ≡ keyField family (now (s .entry)) ⌝ }
 {
-    // A part of the slice is handed on, not the slice: then its address and size come in registers.
-    let Header::Typed(route_type, length) = read_unkeyed(family, &s[0..]) else {
+    let Header::Typed(route_type, length) = read_unkeyed(family, s) else {
         return Part::Fault(KEY);
     };
     if RouteType::S_PMSI < route_type {
@@ -95,6 +94,7 @@ fn body_fault(family: usize, route_type: usize, s: &[u8]) -> u32
 pub(crate) fn front_fault(family: usize, s: &[u8]) -> u32
     ensures { λ r. ⌜ r ≡ numberOf (layoutAt family (now (s .entry))) ⌝ }
 {
+    // parts handed on, so that the slice reaches this function in registers
     match read_header(&s[0..]) {
         Header::Unread(number) => number,
         Header::Typed(route_type, length) => {

@@ -84,13 +84,20 @@ fn key_fits(family: usize, route_type: usize, key: &[u8]) -> bool
     true
 }
 
+// Type and Length are tested first, so that the judge of a front, whatever its type, decides.
 fn is_key(family: usize, key: &[u8]) -> bool
     ensures { λ r. ⌜ r ≡ isKey family (now (key .entry)) ⌝ }
 {
-    match read::read_key(family, key) {
-        Part::Fault(_) => false,
-        Part::Size(size) => size == key.len(),
+    if key.len() < HEADER {
+        return false;
     }
+    if RouteType::S_PMSI < key[0] as usize {
+        return false;
+    }
+    if key.len() - HEADER != key[1] as usize {
+        return false;
+    }
+    read::front_fault(family, key) == DONE
 }
 
 // DONE, or the first of TYPE, WIDTH and KEY.

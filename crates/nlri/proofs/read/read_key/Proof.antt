@@ -1,24 +1,12 @@
 -- `nlri::read::read_key` meets its contract.
-use mathlib.Core.Path.{_∙_, ap}
 use native.Mathlib.Omega.{arith}
-use denote.Ref.{now}
 use Rattle.octets.proofs.Tests.{tests}
-use Rattle.nlri.specs.Inner.{partOf, unkeyedHeader}
-use Rattle.octets.proofs.Lists.{lent-whole}
+use Rattle.nlri.specs.Inner.{partOf}
 use Rattle.nlri.proofs.Via.{typed-given}
 use Rattle.nlri.proofs.Standing.{key-by, on-typed, on-unread, unkeyed-header-within}
 use borrow.Author.Needs.{needs}
 use Rattle.nlri.proofs.read.read_key.Statement.{statement}
 use Rattle.nlri.proofs.read.read_key.Tie as tie
-
-sub-read-unkeyed : tie.Need-sub-read-unkeyed
-sub-read-unkeyed c = search needs
-
-part-read-unkeyed-start : tie.Need-part-read-unkeyed-start
-part-read-unkeyed-start c = search needs
-
-part-read-unkeyed-end : tie.Need-part-read-unkeyed-end
-part-read-unkeyed-end c = search needs
 
 read-unkeyed-requires : tie.Need-read-unkeyed-requires
 read-unkeyed-requires c κs = search needs
@@ -31,32 +19,23 @@ enum-told c = search needs
 
 returns : tie.Need-returns
 unfolding partOf
-returns c =
-    let moved = c .before .before .read-unkeyed .ensures ∙ ap (unkeyedHeader _) (lent-whole (now (c .before .before .before .before .before .args .s))) in
-    search (tests, key-by, on-typed, on-unread)
+returns c = search (tests, key-by, on-typed, on-unread)
 
 returns-2 : tie.Need-returns-2
 unfolding partOf
-returns-2 c =
-    let moved = c .before .before .before .before .read-unkeyed .ensures ∙ ap (unkeyedHeader _) (lent-whole (now (c .before .before .before .before .before .before .before .args .s))) in
-    search (tests, key-by, on-typed, on-unread)
+returns-2 c = search (tests, key-by, on-typed, on-unread)
 
 add-t7 : tie.Need-add-t7
 add-t7 c = let h = unkeyed-header-within _ _ _ _ (typed-given _ _ _ _ (c .before .before .before .before .read-unkeyed .ensures) (c .before .before .route-type .given .1)) in omega arith
 
 returns-3 : tie.Need-returns-3
 unfolding partOf
-returns-3 c =
-    let moved = c .before .before .before .before .read-unkeyed .ensures ∙ ap (unkeyedHeader _) (lent-whole (now (c .before .before .before .before .before .before .before .args .s))) in
-    search (tests, key-by, on-typed, on-unread)
+returns-3 c = search (tests, key-by, on-typed, on-unread)
 
 pub read-key-spec : {M : Type 1} → statement M
 read-key-spec =
     tie.close
     (tie.spec
-    sub-read-unkeyed
-    part-read-unkeyed-start
-    part-read-unkeyed-end
     read-unkeyed-requires
     enum-known-route-type
     enum-told
