@@ -1,4 +1,4 @@
-# Needs the Rattle toolchain (`rt`); `make test` and `make bench` also a C and C++ compiler and cargo.
+# Needs the Rattle toolchain (`rt`); `make bench` also cargo, `make test` also cargo and a C and a C++ compiler.
 # Everything that is made lies in target/, but for the README's plot. `rt` itself knows what has changed, so no target is a file.
 
 .PHONY: all archive listing list test bench plot sizes install uninstall clean

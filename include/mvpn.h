@@ -4,7 +4,7 @@
  * flow (C-S,C-G) matches.
  *
  * Best paths, Route Targets, BGP sessions and joining tunnels are the daemon's. BIDIR groups and (C-*,C-G) reception are
- * not in the base.
+ * out of its scope.
  *
  * Every call ends with a stated answer on any octets. A call that refuses returns its number, changes no octet of any
  * buffer, and leaves every other field of its answer 0, but for the count and offset of a walk and the cursor of a step.

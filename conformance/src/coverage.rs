@@ -1,4 +1,5 @@
-//! What the comparison has met: the numbers of each call, route types, tunnel types, group classes, outcomes and tiers.
+//! What the comparison has met: the numbers of each call, route types, families, tunnel types, group classes, outcomes,
+//! tiers and kinds of sequence.
 
 use std::collections::BTreeMap;
 
@@ -50,7 +51,7 @@ pub enum Seen {
     Nobody,
 }
 
-/// The numbers that each call can give (document 01, "Order").
+/// The numbers that each call can give (document 01, "The numbers a call gives back").
 const NUMBERS: [(Call, &[u32]); 11] = [
     (Call::NlriRead, &[0, 1, 2, 3, 4, 5, 10]),
     (Call::NlriWrite, &[0, 2, 4, 5, 10, 16]),

@@ -6,8 +6,8 @@
 //!
 //! Every answer is compared in all its fields, and every lent buffer with guard octets around it. The run prints its
 //! seed and counts. It ends with status 1 at the first disagreement, shown with the call, the input in hexadecimal and
-//! both answers, or where a number, route type, tunnel type, group class, outcome, tier or kind of sequence was met fewer
-//! than 100 times.
+//! both answers, or where a number, route type, family, tunnel type, group class, outcome, tier or kind of sequence was
+//! met fewer than 100 times.
 //!
 //! With `--fault NAME` one wrong behaviour is switched on in the second decoder; the status is then 0 only if the
 //! comparison finds no disagreement without the fault, and one with it. `--every-fault` does this for each fault in turn.
@@ -83,7 +83,7 @@ fn agrees(options: &Options) -> bool {
 
 /// Whether the comparison notices the fault, on the calls that it concerns.
 fn finds(options: &Options, fault: Fault) -> bool {
-    let mut harness = Harness::new(Second::with_fault(Some(fault)));
+    let mut harness = Harness::new(Second::with_fault(fault));
     let result = match fault.of_tables() {
         true => cases::of_tables(&mut harness, options),
         false => cases::of_encodings(&mut harness, options),

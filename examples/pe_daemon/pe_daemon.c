@@ -7,8 +7,8 @@
  * FILE holds whole messages, one after another; `-` is standard input. ROUTER is the PE that the flow comes from: ourselves
  * for sending, the upstream PE for receiving.
  *
- * Every call of the library is in this file. update.c takes BGP messages apart, words.c prints. There is one peer and one
- * VRF, so every route is the best path and every route is imported; a router with more chooses first and then installs.
+ * Only this file calls the library; update.c takes BGP messages apart, words.c prints. There is one peer and one VRF, so
+ * every route is the best path and every route is imported; a router with more chooses first and then installs.
  */
 #include "mvpn.h"
 #include "update.h"
@@ -21,9 +21,6 @@
 
 /* The memory of a family's table, for 64 routes. A call looks at all of it, so it is made no larger than needed. */
 enum { TABLE_SIZE = MVPN_TABLE_SIZE(64) };
-
-/* The two octets in front of an NLRI's body: route type and Length. */
-enum { NLRI_HEADER = 2 };
 
 typedef struct {
     uint8_t tables[2][TABLE_SIZE];                     /* of AFI 1 and AFI 2 */
@@ -97,7 +94,7 @@ static void install(customer_vrf *vrf, uint16_t afi, octets nlri, octets tunnel)
  * section 5.4). The library gives TYPE only where all octets of that NLRI are there. */
 static size_t unknown_size(octets run, size_t at)
 {
-    return NLRI_HEADER + (size_t)run.at[at + 1];
+    return MVPN_NLRI_HEADER + (size_t)run.at[at + 1];
 }
 
 /* Walks a whole run, also past NLRIs of unknown type. The number is DONE where no NLRI of the run is damaged. */
@@ -265,11 +262,9 @@ static bool parse_flow(char **words, customer_flow *flow)
 static void print_flow(const customer_flow *flow, uint16_t afi)
 {
     mvpn_group group = mvpn_group_class(afi, flow->group.octets, flow->group.size);
-    printf("\nflow (");
-    print_address(flow->source.octets, flow->source.size);
-    printf(", ");
-    print_address(flow->group.octets, flow->group.size);
-    printf(") of router ");
+    printf("\nflow ");
+    print_pair(&flow->source, &flow->group);
+    printf(" of router ");
     print_address(flow->router.octets, flow->router.size);
     if (group.number == MVPN_DONE)
         printf(", %s group", group_class_name(group.group_class));

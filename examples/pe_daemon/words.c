@@ -32,14 +32,12 @@ static const number_words numbers[] = {
     WORDS(MVPN_SPACE, "the output is too small"),
 };
 
-const char *number_name(uint32_t number)
+void print_number(uint32_t number)
 {
-    return number < COUNT(numbers) ? numbers[number].name : "a number that mvpn.h does not have";
-}
-
-const char *number_meaning(uint32_t number)
-{
-    return number < COUNT(numbers) ? numbers[number].meaning : "";
+    if (number < COUNT(numbers))
+        printf("%s (%s)", numbers[number].name, numbers[number].meaning);
+    else
+        printf("a number that mvpn.h does not have");
 }
 
 /* The text that a list has for a number, if it has one. */
@@ -68,7 +66,7 @@ const char *route_type_name(size_t route_type)
     return listed(names, COUNT(names), route_type, "unknown route type");
 }
 
-const char *tunnel_type_name(uint32_t tunnel_type)
+static const char *tunnel_type_name(uint32_t tunnel_type)
 {
     static const char *const names[] = {
         [MVPN_TUNNEL_NONE] = "no tunnel information",
@@ -101,11 +99,6 @@ const char *tier_name(uint32_t tier)
     return listed(names, COUNT(names), tier, "unknown tier");
 }
 
-void print_number(uint32_t number)
-{
-    printf("%s (%s)", number_name(number), number_meaning(number));
-}
-
 /* ---- addresses and route distinguishers */
 
 static uint32_t big_endian(const uint8_t *octets, size_t size)
@@ -132,8 +125,17 @@ void print_address(const uint8_t *address, size_t size)
         printf("%s", inet_ntop(size == 4 ? AF_INET : AF_INET6, address, text, sizeof text));
 }
 
+void print_pair(const mvpn_address *source, const mvpn_address *group)
+{
+    printf("(");
+    print_address(source->octets, source->size);
+    printf(", ");
+    print_address(group->octets, group->size);
+    printf(")");
+}
+
 /* RFC 4364, section 4.2: the first two octets say how the other six are divided. */
-void print_distinguisher(mvpn_route_distinguisher distinguisher)
+static void print_distinguisher(mvpn_route_distinguisher distinguisher)
 {
     const uint8_t *value = distinguisher.octets + 2;
     switch (big_endian(distinguisher.octets, 2)) {
@@ -156,11 +158,9 @@ void print_route(const mvpn_nlri *route)
 {
     printf("%s, RD ", route_type_name(route->route_type));
     print_distinguisher(route->distinguisher);
-    printf(", (");
-    print_address(route->source.octets, route->source.size);
     printf(", ");
-    print_address(route->group.octets, route->group.size);
-    printf("), originator ");
+    print_pair(&route->source, &route->group);
+    printf(", originator ");
     print_address(route->originator.octets, route->originator.size);
 }
 

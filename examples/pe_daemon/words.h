@@ -6,19 +6,20 @@
 
 /* ---- names of numbers */
 
-const char *number_name(uint32_t number);    /* "MVPN_SHORT" */
-const char *number_meaning(uint32_t number); /* "too few octets" */
 const char *family_name(uint16_t afi);
 const char *route_type_name(size_t route_type);
-const char *tunnel_type_name(uint32_t tunnel_type);
 const char *group_class_name(uint32_t group_class);
 const char *tier_name(uint32_t tier);
 
 /* ---- printing: no line feed before or after */
 
+/* "MVPN_SHORT (too few octets)" */
 void print_number(uint32_t number);
+
 void print_address(const uint8_t *address, size_t size);
-void print_distinguisher(mvpn_route_distinguisher distinguisher);
+
+/* "(192.0.2.1, 232.1.1.1)" */
+void print_pair(const mvpn_address *source, const mvpn_address *group);
 
 /* An S-PMSI A-D route. */
 void print_route(const mvpn_nlri *route);

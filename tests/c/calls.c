@@ -1,5 +1,6 @@
 /*
- * Every call of mvpn.h but the table's, accepted and refused. The expected answers are written from document 01, not from any program.
+ * Every call of mvpn.h but the table's, accepted and refused. The expected answers are written from document 01, not from
+ * any program.
  *
  * Each table row gives all fields of the answer; a field left out is expected to be 0.
  */
@@ -114,6 +115,21 @@ static void read_nlri(const nlri_row *row)
     free(nlri.at);
 }
 
+/* What a writer answers, and its output, where it was done and where it was refused. */
+static void same_writing(const char *shows, mvpn_written w, lent output, lent expected)
+{
+    same(shows, "number of writing", w.number, MVPN_DONE);
+    same(shows, "size", w.size, expected.size);
+    same_output(shows, output, expected.at, expected.size);
+}
+
+static void same_refusal(const char *shows, mvpn_written w, lent output, uint32_t number)
+{
+    same(shows, "number of refused writing", w.number, number);
+    same(shows, "size of refused writing", w.size, 0);
+    untouched(shows, output);
+}
+
 /* Writes the row's fields, with its key where its octets have it. */
 static mvpn_written write_nlri(const nlri_row *row, lent nlri, lent output)
 {
@@ -124,14 +140,8 @@ static mvpn_written write_nlri(const nlri_row *row, lent nlri, lent output)
 static void write_back_nlri(const nlri_row *row)
 {
     lent nlri = hex(row->octets), roomy = lent_of(nlri.size + 1, FILL), tight = lent_of(nlri.size - 1, FILL);
-    mvpn_written w = write_nlri(row, nlri, roomy);
-    same(row->shows, "number of writing", w.number, MVPN_DONE);
-    same(row->shows, "size", w.size, nlri.size);
-    same_output(row->shows, roomy, nlri.at, nlri.size);
-    w = write_nlri(row, nlri, tight);
-    same(row->shows, "number of writing, one octet short", w.number, MVPN_SPACE);
-    same(row->shows, "size, one octet short", w.size, 0);
-    untouched(row->shows, tight);
+    same_writing(row->shows, write_nlri(row, nlri, roomy), roomy, nlri);
+    same_refusal(row->shows, write_nlri(row, nlri, tight), tight, MVPN_SPACE);
     free(nlri.at);
     free(roomy.at);
     free(tight.at);
@@ -166,9 +176,7 @@ static void refuse_writing(const refused_writing *row)
 {
     lent key = hex(row->key), output = lent_of(row->output, FILL);
     mvpn_written w = mvpn_nlri_write(row->afi, row->nlri, key.at, key.size, output.at, output.size);
-    same(row->shows, "number", w.number, row->number);
-    same(row->shows, "size", w.size, 0);
-    untouched(row->shows, output);
+    same_refusal(row->shows, w, output, row->number);
     free(key.at);
     free(output.at);
 }
@@ -180,10 +188,7 @@ static void ignore_lacked_fields(void)
     lent expected = hex("020C " RD "0000FDE8"), key = hex("0900"), output = lent_of(expected.size, FILL);
     mvpn_nlri nlri = { .route_type = 2, .distinguisher = RD_FIELD, .source_as = 65000,
                        .source = { .size = 255 }, .group = { .size = 3 }, .originator = { .size = 5 } };
-    mvpn_written w = mvpn_nlri_write(1, nlri, key.at, key.size, output.at, output.size);
-    same(shows, "number", w.number, MVPN_DONE);
-    same(shows, "size", w.size, expected.size);
-    same_output(shows, output, expected.at, expected.size);
+    same_writing(shows, mvpn_nlri_write(1, nlri, key.at, key.size, output.at, output.size), output, expected);
     free(expected.at);
     free(key.at);
     free(output.at);
@@ -420,14 +425,8 @@ static mvpn_written write_attribute(const attribute_row *row, lent attribute, le
 static void write_back_attribute(const attribute_row *row)
 {
     lent attribute = hex(row->octets), roomy = lent_of(attribute.size + 1, FILL), tight = lent_of(attribute.size - 1, FILL);
-    mvpn_written w = write_attribute(row, attribute, roomy);
-    same(row->shows, "number of writing", w.number, MVPN_DONE);
-    same(row->shows, "size", w.size, attribute.size);
-    same_output(row->shows, roomy, attribute.at, attribute.size);
-    w = write_attribute(row, attribute, tight);
-    same(row->shows, "number of writing, one octet short", w.number, MVPN_SPACE);
-    same(row->shows, "size, one octet short", w.size, 0);
-    untouched(row->shows, tight);
+    same_writing(row->shows, write_attribute(row, attribute, roomy), roomy, attribute);
+    same_refusal(row->shows, write_attribute(row, attribute, tight), tight, MVPN_SPACE);
     free(attribute.at);
     free(roomy.at);
     free(tight.at);
@@ -457,9 +456,7 @@ static void refuse_attribute_writing(const refused_attribute_writing *row)
     lent identifier = lent_of(row->identifier, 0), output = lent_of(row->output, FILL);
     mvpn_written w = mvpn_attribute_write(0, row->tunnel_type, row->label_field, identifier.at, identifier.size,
                                           output.at, output.size);
-    same(row->shows, "number", w.number, row->number);
-    same(row->shows, "size", w.size, 0);
-    untouched(row->shows, output);
+    same_refusal(row->shows, w, output, row->number);
     free(identifier.at);
     free(output.at);
 }

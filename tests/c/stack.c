@@ -4,17 +4,12 @@
  * of several runs of a call the deepest.
  */
 #define _XOPEN_SOURCE 700
-#include "mvpn.h"
+#include "checks.h"
 
 #include <stdbool.h>
-#include <stdio.h>
-#include <stdlib.h>
-#include <string.h>
 #include <ucontext.h>
 
-#define ROWS(table) (sizeof(table) / sizeof((table)[0]))
-
-/* The smallest box has 2 KiB of stack. */
+/* What mvpn.h promises: 2 KiB. */
 enum { MOST_OCTETS = 2048 };
 
 /* ---- octets for the calls; AFI 2, every address of 16 octets, so that no field is short */

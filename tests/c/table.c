@@ -77,6 +77,13 @@ static mvpn_matched match(lent table, flow f, lent output)
     return m;
 }
 
+static lent copy_of(lent table)
+{
+    lent copy = lent_of(table.size, 0);
+    memcpy(copy.at, table.at, table.size);
+    return copy;
+}
+
 static lent holding(uint16_t afi, size_t places, const route *routes, size_t count)
 {
     lent table = made(afi, places);
@@ -193,8 +200,7 @@ static const match_row marked_flows[] = {
 
 static void marked_examples(void)
 {
-    lent table = holding(1, MOST, marked, ROWS(marked)), before = lent_of(table.size, 0);
-    memcpy(before.at, table.at, table.size);
+    lent table = holding(1, MOST, marked, ROWS(marked)), before = copy_of(table);
     for (size_t i = 0; i < ROWS(marked_flows); i++)
         same_match(marked_flows[i].shows, table, marked_flows[i].flow, marked_flows[i].tier, marked_flows[i].expected);
     same_table("match leaves the table", table, before);
@@ -335,8 +341,7 @@ static void refuse_nlri(const refused_nlri *row, lent table, lent before)
 
 static void refusals(void)
 {
-    lent table = holding(1, 2, marked, 1), before = lent_of(table.size, 0);
-    memcpy(before.at, table.at, table.size);
+    lent table = holding(1, 2, marked, 1), before = copy_of(table);
     for (size_t i = 0; i < ROWS(refused_nlris); i++)
         refuse_nlri(&refused_nlris[i], table, before);
     for (size_t i = 0; i < ROWS(refused_matches); i++)
@@ -382,8 +387,7 @@ static const damage damages[] = {
 /* Every other argument is refused as well: TABLE comes first. */
 static void refuse_table(const char *shows, lent table)
 {
-    lent before = lent_of(table.size, 0);
-    memcpy(before.at, table.at, table.size);
+    lent before = copy_of(table);
     mvpn_installed installed = install(table, "", "");
     same(shows, "number of install", installed.number, MVPN_TABLE);
     same(shows, "outcome", installed.outcome, 0);
@@ -411,7 +415,7 @@ static void unsound_memory(void)
 
 /* ---- the most places */
 
-/* (C-*,C-*) routes of 500 routers, installed from the highest RD down; the one over is refused. */
+/* (C-*,C-*) routes of one router, installed from the highest RD down; after 500 the next one is refused. */
 static void most_places(void)
 {
     const char *shows = "500 routes";
@@ -423,9 +427,7 @@ static void most_places(void)
         same(shows, "number", installed.number, i > 0 ? MVPN_DONE : MVPN_ROOM);
         same(shows, "outcome", installed.outcome, i > 0 ? MVPN_NEW : 0);
     }
-    lent router = hex(ROUTER), source = hex("C0000201"), group = hex("E8010101");
-    mvpn_matched m = mvpn_match(table.at, table.size, router.at, router.size, source.at, source.size, group.at, group.size,
-                                output.at, output.size);
+    mvpn_matched m = match(table, (flow){ ROUTER, "C0000201", "E8010101" }, output);
     nlri.at[9] = 1;
     same(shows, "tier", m.tier, 4);
     same_octets(shows, "the route with the lowest RD", output.at, nlri.at, nlri.size);
@@ -435,9 +437,6 @@ static void most_places(void)
     free(nlri.at);
     free(attribute.at);
     free(output.at);
-    free(router.at);
-    free(source.at);
-    free(group.at);
 }
 
 int main(void)

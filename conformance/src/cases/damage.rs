@@ -8,7 +8,7 @@ use crate::{
 
 /// Changes a sound table that has so many places taken. Some changes leave it sound, and where no place is taken most
 /// have nothing to change.
-pub type Damage = fn(&mut Random, &mut Vec<u8>, usize);
+type Damage = fn(&mut Random, &mut Vec<u8>, usize);
 
 pub const DAMAGES: [Damage; 27] = [
     // Size.

@@ -85,7 +85,7 @@ pub const ATTRIBUTES: [(&str, &str, u32, u32); 14] = [
 ];
 
 /// The routes A to E of router 10.0.0.1, NLRI with `RD` for the distinguisher and attribute, no two attributes the same.
-pub const ROUTES: [(&str, &str, &str); 5] = [
+const ROUTES: [(&str, &str, &str); 5] = [
     ("A", "0316 RD 20 C0000201 20 E8010101 0A000001", "01 06 000010 0A000001"),
     ("B", "0312 RD 20 C0000201 00 0A000001", "00 0B 000020 01 0002 0A000001"),
     ("C", "0312 RD 00 20 EF010101 0A000001", "00 03 000030 0A000001 E8000001"),

@@ -9,8 +9,8 @@ use crate::{
     random::Random,
 };
 
-/// The most octets of a run (document 01, "Walking a run").
-pub const LONGEST_RUN: usize = 4_096;
+/// The most octets of a run (document 01, "NLRI on the wire").
+const LONGEST_RUN: usize = 4_096;
 
 const SIZES: [usize; 12] = [0, 1, 2, 4_094, 4_095, 4_096, 4_097, 4_098, 8_192, 10_000, 65_536, 70_001];
 

@@ -1,6 +1,6 @@
 //! Octets near to well-formed ones: composed from fields, then now and then disturbed.
 
-use super::samples::{fec, GOOD_AFIS};
+use super::samples::{fec, nlris, GOOD_AFIS};
 use crate::random::Random;
 
 /// Octets at which the rules turn.
@@ -64,7 +64,7 @@ fn originator(random: &mut Random) -> Vec<u8> {
 
 /// Well-formed NLRIs of every type, one after the other, cut at exactly `size` octets.
 pub fn run_of(random: &mut Random, afi: u16, size: usize) -> Vec<u8> {
-    let samples = super::samples::nlris(if afi == 1 { 1 } else { 2 });
+    let samples = nlris(if afi == 1 { 1 } else { 2 });
     let mut run = Vec::with_capacity(size + 100);
     while run.len() < size {
         run.extend_from_slice(&samples[random.below(samples.len())].octets);

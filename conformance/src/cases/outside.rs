@@ -38,7 +38,7 @@ pub fn all(harness: &mut Harness, required: bool) -> Checked {
 }
 
 /// Compares every block of the text.
-pub fn compare_text(harness: &mut Harness, text: &str) -> Checked {
+fn compare_text(harness: &mut Harness, text: &str) -> Checked {
     let lines = text.lines().map(|line| line.split('#').next().unwrap_or("").trim()).filter(|line| !line.is_empty());
     let mut run: Option<Run> = None;
     let mut attribute: Option<Vec<u8>> = None;
@@ -52,7 +52,7 @@ pub fn compare_text(harness: &mut Harness, text: &str) -> Checked {
             }
             ("attribute", None, None) => attribute = Some(octets(&line, line.plain.first().copied())?),
             ("fields", None, Some(octets)) => fields(harness, &octets, &line)?,
-            _ => return misplaced(&line).map(|_: ()| ()),
+            _ => return misplaced(&line),
         }
     }
     match run.is_none() && attribute.is_none() {

@@ -92,7 +92,7 @@ impl Harness {
         self.output.place_output(size, (self.calls % 239) as u8);
     }
 
-    /// Checks one answer, and that the lent buffers hold what they should.
+    /// Checks one answer, and that every lent buffer holds what it should; those of earlier calls still do.
     fn agree<Answer: PartialEq + Debug>(
         &mut self,
         call: impl Fn() -> String,
@@ -100,27 +100,30 @@ impl Harness {
         second: &Answer,
     ) -> Checked {
         self.calls += 1;
-        agreed(call, archive, second, &[("input", &self.input), ("output", &self.output)])
-    }
-}
-
-/// Checks one answer, and that these buffers hold what they should.
-fn agreed<Answer: PartialEq + Debug>(
-    call: impl Fn() -> String,
-    archive: &Answer,
-    second: &Answer,
-    buffers: &[(&str, &Lent)],
-) -> Checked {
-    if archive != second {
-        return disagree(call(), format!("{archive:?}"), format!("{second:?}"));
-    }
-    for (name, lent) in buffers {
-        if let Some(place) = lent.disturbed() {
-            let archive = format!("{archive:?}, octet {place} of the {name} is wrong: {}", encode(lent.octets()));
-            return disagree(call(), archive, format!("{second:?}, {name}: {}", encode(lent.expected())));
+        if archive != second {
+            return disagree(call(), format!("{archive:?}"), format!("{second:?}"));
         }
+        for (name, lent) in self.buffers() {
+            if let Some(place) = lent.disturbed() {
+                let archive = format!("{archive:?}, octet {place} of the {name} is wrong: {}", encode(lent.octets()));
+                return disagree(call(), archive, format!("{second:?}, {name}: {}", encode(lent.expected())));
+            }
+        }
+        Ok(())
     }
-    Ok(())
+
+    fn buffers(&self) -> [(&'static str, &Lent); 7] {
+        let [router, source, group] = &self.flow;
+        [
+            ("input", &self.input),
+            ("output", &self.output),
+            ("table", &self.table),
+            ("attribute", &self.attribute),
+            ("router", router),
+            ("source", source),
+            ("group", group),
+        ]
+    }
 }
 
 /// A disagreement as an error.

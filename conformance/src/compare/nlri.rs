@@ -1,6 +1,6 @@
 //! `mvpn_nlri_read` and `mvpn_nlri_write`.
 
-use super::{disagree, Checked, Harness, Input};
+use super::{disagree, Checked, Disagreement, Harness, Input};
 use crate::{
     coverage::{Call, Seen},
     ffi::{self, Nlri, NlriReading},
@@ -14,11 +14,7 @@ impl Harness {
     }
 
     /// Compares a reading and hands the archive's answer on.
-    pub fn nlri_reading<'a>(
-        &mut self,
-        afi: u16,
-        input: impl Into<Input<'a>>,
-    ) -> Result<NlriReading, super::Disagreement> {
+    pub fn nlri_reading<'a>(&mut self, afi: u16, input: impl Into<Input<'a>>) -> Result<NlriReading, Disagreement> {
         let input = input.into();
         self.lend(input);
         let archive = ffi::nlri_read(afi, &mut self.input);
@@ -65,7 +61,7 @@ impl Harness {
     }
 
     /// What the archive reads, the archive writes back to the same octets. Gives whether it was read.
-    pub fn nlri_round_trip(&mut self, afi: u16, octets: &[u8]) -> Result<bool, super::Disagreement> {
+    pub fn nlri_round_trip(&mut self, afi: u16, octets: &[u8]) -> Result<bool, Disagreement> {
         let reading = self.nlri_reading(afi, octets)?;
         if reading.number != 0 {
             return Ok(false);

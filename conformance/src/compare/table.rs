@@ -1,6 +1,6 @@
 //! `mvpn_make`, `mvpn_install`, `mvpn_withdraw` and `mvpn_match`.
 
-use super::{agreed, Checked, Disagreement, Harness, Input};
+use super::{Disagreement, Harness, Input};
 use crate::{
     coverage::{Call, Seen},
     ffi,
@@ -17,7 +17,7 @@ impl Harness {
         let second = self.second.make(afi, memory.octets.len());
         self.table.expect_front(second.as_deref().unwrap_or(&[]));
         let second = second.err().map_or(0, |number| number.value());
-        self.agree_on_table(|| format!("mvpn_make(afi {afi}) in {}", encode(memory.octets)), &archive, &second)?;
+        self.agree(|| format!("mvpn_make(afi {afi}) in {}", encode(memory.octets)), &archive, &second)?;
         self.coverage.count(Call::Make, Seen::Number(archive));
         if archive == 0 {
             self.coverage.count(Call::Make, Seen::Family(afi));
@@ -83,7 +83,7 @@ impl Harness {
             self.output.expect_front(output);
         }
         let archive = self.archive_answer(call);
-        self.agree_on_table(|| format!("{call:?} on {}", encode(&before)), &archive, second)?;
+        self.agree(|| format!("{call:?} on {}", encode(&before)), &archive, second)?;
         self.count_answer(&archive);
         Ok(archive)
     }
@@ -116,26 +116,6 @@ impl Harness {
                 TableAnswer::Matched(matched, self.output.octets().to_vec())
             }
         }
-    }
-
-    fn agree_on_table<Answer: PartialEq + std::fmt::Debug>(
-        &mut self,
-        call: impl Fn() -> String,
-        archive: &Answer,
-        second: &Answer,
-    ) -> Checked {
-        self.calls += 1;
-        let [router, source, group] = &self.flow;
-        let buffers = [
-            ("table", &self.table),
-            ("NLRI", &self.input),
-            ("attribute", &self.attribute),
-            ("router", router),
-            ("source", source),
-            ("group", group),
-            ("output", &self.output),
-        ];
-        agreed(call, archive, second, &buffers)
     }
 
     fn count_answer(&mut self, answer: &TableAnswer) {

@@ -4,7 +4,7 @@
 use crate::{
     cases::{
         damage::DAMAGES,
-        routes::{bad_attributes, bad_nlris, good_attributes, picked, Addresses},
+        routes::{bad_attributes, bad_nlris, good_attributes, picked, s_pmsi, Addresses},
     },
     ffi::{Installed, Matched},
     plain,
@@ -100,9 +100,7 @@ fn matched(table: &[u8], Flow { router, source, group }: Flow, output: &mut [u8]
 
 /// A type 3 NLRI; `last` ends the distinguisher.
 fn nlri(last: u8, source: &[u8], group: &[u8], originator: &[u8]) -> Vec<u8> {
-    let bits = |address: &[u8]| address.len() as u8 * 8;
-    let body = [&[0, 0, 0, 100, 0, 0, 0, last, bits(source)], source, &[bits(group)], group, originator].concat();
-    [&[3, body.len() as u8], &body[..]].concat()
+    s_pmsi(&[0, 0, 0, 100, 0, 0, 0, last], source, group, originator)
 }
 
 /// A place as document 01 lays it out.

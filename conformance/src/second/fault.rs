@@ -91,7 +91,7 @@ pub enum Fault {
 }
 
 /// Each fault, its name on the command line, and what it does.
-pub const FAULTS: [(Fault, &str, &str); 40] = [
+const FAULTS: [(Fault, &str, &str); 40] = [
     (AfiLowOctet, "afi-low-octet", "only the low octet of the AFI is compared"),
     (FamilyAfterShort, "family-after-short", "reading finds a short header before a bad AFI"),
     (TypeBeforeShort, "type-before-short", "a bad route type is found before a short body"),
@@ -135,7 +135,7 @@ pub const FAULTS: [(Fault, &str, &str); 40] = [
 ];
 
 /// The faults of the table and of the books, which only the table calls show.
-pub const TABLE_FAULTS: [(Fault, &str, &str); 43] = [
+const TABLE_FAULTS: [(Fault, &str, &str); 43] = [
     (PlacesLimitOff, "places-limit-off", "a table may have 501 places"),
     (PartPlaceAllowed, "part-place-allowed", "a table's size need not be a whole number of places"),
     (VersionUnchecked, "version-unchecked", "any version is sound"),

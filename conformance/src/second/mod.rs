@@ -33,13 +33,13 @@ pub struct Second {
 }
 
 impl Second {
-    /// The decoder as the papers ask.
+    /// The decoder as the RFCs and document 01 ask.
     pub fn sound() -> Self {
         Second { fault: None }
     }
 
-    pub fn with_fault(fault: Option<Fault>) -> Self {
-        Second { fault }
+    pub fn with_fault(fault: Fault) -> Self {
+        Second { fault: Some(fault) }
     }
 
     fn has(&self, fault: Fault) -> bool {

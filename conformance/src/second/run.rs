@@ -1,4 +1,4 @@
-//! Stepping and walking through a run of NLRIs (document 01, "Walking a run").
+//! Stepping and walking through a run of NLRIs (document 01, "NLRI on the wire").
 
 use super::{fault::Fault, nlri::Reading, number::Number, Second};
 

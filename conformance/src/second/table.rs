@@ -136,7 +136,7 @@ impl Second {
     }
 
     /// What install refuses for its arguments and the family alone: NLRI reading, KIND, attribute reading, LABEL.
-    pub(super) fn accepted<'a>(&self, afi: u16, nlri: &'a [u8], attribute: &[u8]) -> Result<Reading<'a>, Number> {
+    pub(super) fn accepted(&self, afi: u16, nlri: &[u8], attribute: &[u8]) -> Result<(), Number> {
         if self.has(Fault::AttributeBeforeNlri) {
             self.attribute(attribute)?;
         }
@@ -149,7 +149,7 @@ impl Second {
             return Err(Number::Kind);
         }
         match self.labelled(&tunnel) {
-            true => Ok(reading),
+            true => Ok(()),
             false => Err(Number::Label),
         }
     }

@@ -1,6 +1,6 @@
 //! Routes that the measured tables hold.
 
-use conformance::cases::samples::attributes;
+use conformance::cases::{routes::s_pmsi, samples::attributes};
 
 /// Each router has one route distinguisher and one tunnel.
 const ROUTERS: usize = 10;
@@ -42,14 +42,10 @@ fn route(afi: u16, router: u8, index: u8, tier: u32, attribute: Vec<u8>) -> Rout
         address(afi, [0x20, 1, 0x0D, 0xB8], [192, 0, 2, index]),
         address(afi, prefix, group),
     ];
-    let [originator, source, group] = &flow;
-    let customer = |octets: &[u8], wildcard: bool| match wildcard {
-        true => vec![0],
-        false => [&[octets.len() as u8 * 8], octets].concat(),
-    };
-    let [source, group] = [customer(source, tier >= 3), customer(group, tier == 2 || tier == 4)];
-    let body = [&[0, 0, 0, 100, 0, 0, 0, router], &source[..], &group, originator].concat();
-    let nlri = [&[3, body.len() as u8], &body[..]].concat();
+    let [originator, source, group] = flow.each_ref().map(|octets| &octets[..]);
+    let source = if tier >= 3 { &[] } else { source };
+    let group = if tier == 2 || tier == 4 { &[] } else { group };
+    let nlri = s_pmsi(&[0, 0, 0, 100, 0, 0, 0, router], source, group, originator);
     Route { nlri, attribute, flow, tier }
 }
 
