@@ -102,7 +102,7 @@ module _ (family : ℕ) (s : List ℕ) where
       (λ no. sym (on-refused false _ _ _ _ (sym (stops _ _ _ (refused-of _ _ refl (eqb-false _ _ no)))) refl) ∙ sym no)
 
   -- the page's reading of a single NLRI, by the octets
-  pub s-pmsi-by-octets : ofSPmsi (single family s) ≡ sPmsiUnder family s
+  s-pmsi-by-octets : ofSPmsi (single family s) ≡ sPmsiUnder family s
   unfolding sPmsiUnder
   s-pmsi-by-octets =
       by-both _ _ _ (λ off. none-of _ (λ l e t. opposite (le-leb _ _ (opens l e t .2)) off))

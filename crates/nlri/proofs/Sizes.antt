@@ -10,7 +10,7 @@ use Rattle.octets.proofs.Inversions.{unless, only, passed, given-same}
 use Rattle.nlri.specs.Reading.{addressEnd, addressField}
 use Rattle.nlri.specs.Inner.{flowSizes, groupSize, header}
 
-pub address-end-within : (octets : ℕ) (s : List ℕ) (n : ℕ) → addressEnd octets s ≡ given n → (1 ≤ n) × (n ≤ length s)
+address-end-within : (octets : ℕ) (s : List ℕ) (n : ℕ) → addressEnd octets s ≡ given n → (1 ≤ n) × (n ≤ length s)
 unfolding addressEnd
 address-end-within octets s n e =
     let p = unless _ _ _ _ e in

@@ -1,6 +1,6 @@
 -- The statements of `specs/Statements.antt`, proved. Those on reading, writing and FECs have a file each.
 use Prim.Native.Nat.{ℕ, _+_}
-use mathlib.Core.Path.{_≡_, sym, ap, subst, _∙_}
+use mathlib.Core.Path.{_≡_, refl, sym, ap, subst, _∙_}
 use mathlib.Core.Bool.{true}
 use mathlib.Core.List.{List}
 use native.Mathlib.Omega.{arith}
@@ -10,6 +10,7 @@ use Rattle.octets.specs.Numbers.{IDENT}
 use Rattle.octets.specs.Outcome.{Outcome, given, refused}
 use Rattle.octets.specs.Octets.{part}
 use Rattle.octets.proofs.Picked.{was-given, both-held}
+use Rattle.octets.proofs.Inversions.{never}
 use Rattle.octets.proofs.Outcomes.{pick-true}
 use Rattle.tunnel.specs.Fec.{FecFields, wholeFec, fecIn, readFec}
 use Rattle.tunnel.specs.Identifier.{IdentifierForm, fecTypes, formOf, oneOf, fits}
@@ -32,8 +33,8 @@ fecHolds = fec-read
 pub roundTripHolds : RoundTripStatement
 roundTripHolds =
     record {
-      writtenRead = λ f capacity e o h. let p = writing-proved .encoded f capacity e o .0 h in rw (p .2) (encoding-read f (p .0));
-      readWritten = λ s f capacity a h k. let p = reading-proved .accepted s f a .0 h in well-formed-written f capacity (p .0) (rw (p .1) at k) ∙ ap given (sym (p .1));
+      writtenRead = λ f space e o h. let p = writing-proved .encoded f space e o .0 h in rw (p .2) (encoding-read f (p .0));
+      readWritten = λ s f space a h k. let p = reading-proved .accepted s f a .0 h in well-formed-written f space (p .0) (rw (p .1) at k) ∙ ap given (sym (p .1));
     }
 
 -- what an accepted attribute is known to be
@@ -44,10 +45,10 @@ record AcceptedAs (s : List ℕ) (f : Fields) : Type 0 where
   fields : fieldsIn s ≡ f
 
 given-case : (s : List ℕ) (f : Fields) {o : Outcome Fields} → ReadCase s o → o ≡ given f → AcceptedAs s f
-given-case s f (tooLong h) e = absurd (let z : _≡_ {A = ℕ} 0 1 = cc in omega arith)
-given-case s f (tooShort h) e = absurd (let z : _≡_ {A = ℕ} 0 1 = cc in omega arith)
-given-case s f (unknownType z u) e = absurd (let z : _≡_ {A = ℕ} 0 1 = cc in omega arith)
-given-case s f (badIdentifier z form t p) e = absurd (let z : _≡_ {A = ℕ} 0 1 = cc in omega arith)
+given-case s f (tooLong h) e = absurd (never e refl)
+given-case s f (tooShort h) e = absurd (never e refl)
+given-case s f (unknownType z u) e = absurd (never e refl)
+given-case s f (badIdentifier z form t p) e = absurd (never e refl)
 given-case s f (fine z form t p) e = record { form = form; inTable = t; fitting = p; fields = cc }
 
 identifier-span : (s : List ℕ) (f : Fields) → AcceptedAs s f → part s 5 (length (f .identifier)) ≡ f .identifier

@@ -1,5 +1,5 @@
 -- `nlri::write::write_under` meets its contract.
-use Rattle.nlri.proofs.Judges.{answers, untouched, refused-under, space-under, given-under, key-short, keyed, sized-nlri, size-short}
+use Rattle.nlri.proofs.Verdicts.{answers, untouched, refused-under, space-under, given-under, key-short, keyed, sized-nlri, size-short}
 use Rattle.nlri.proofs.Puts.{size-is}
 use Rattle.octets.specs.Outcome.{refused}
 use lib.ListN.{length}
