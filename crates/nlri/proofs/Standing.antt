@@ -123,7 +123,6 @@ module _ (s : List ℕ) (within : 2 + getD s 1 0 ≤ length s) where
         let hb = address-within family type _ b (r .first) in
         let la : length (drop fixed (part s 2 (getD s 1 0))) ≡ getD s 1 0 - fixed = length-drop fixed _ ∙ ap (λ (k : ℕ). k - fixed) body-length in
         let lb : length (drop a (drop fixed (part s 2 (getD s 1 0)))) ≡ getD s 1 0 - fixed - a = length-drop a _ ∙ ap (λ (k : ℕ). k - a) la in
-        let fits : fixed + a + b ≤ getD s 1 0 = omega (arith, ha .1, hb .0, hb .1) in
         let sa : 1 + getD s at 0 / 8 ≡ a =
         ap (λ (k : ℕ). 1 + getD s k 0 / 8) start ∙ ap (λ (v : ℕ). 1 + v / 8) (sym (first-octet fixed (omega (arith, ha .0, hb .0)))) ∙ sym (address-is family type _ a (q .first)) in
         let next : at + 1 + getD s at 0 / 8 ≡ 2 + (fixed + a) = omega arith in

@@ -139,8 +139,8 @@ fec-long i h = let t = fec-tested i h in omega (arith, length-drop 4 i)
 pub root-length : (i : List ℕ) → wholeFec i ≡ true → length (take (getD i 3 0) (drop 4 i)) ≡ getD i 3 0
 root-length i h = let t = fec-tested i h in length-take-le (getD i 3 0) (drop 4 i) (omega arith)
 
-opaque-length : (i : List ℕ) → wholeFec i ≡ true → length (drop (getD i 3 0 + 2) (drop 4 i)) ≡ length i - 6 - getD i 3 0
-opaque-length i h = let t = fec-tested i h in simp length-drop (omega (arith, length-drop 4 i))
+opaque-length : (i : List ℕ) → length (drop (getD i 3 0 + 2) (drop 4 i)) ≡ length i - 6 - getD i 3 0
+opaque-length i = simp length-drop (omega (arith, length-drop 4 i))
 
 -- the number of an identifier's first fault is what judging it comes to
 judgedBy : IdentifierForm → List ℕ → Outcome (List ℕ)
@@ -287,7 +287,7 @@ pub fec-span : (i : List ℕ) (family : ℕ) → wholeFec i ≡ true → family 
     })
     (fecSpans (fecIn i))
 unfolding fecSpans fecIn
-fec-span i family h e = rw (root-length i h, opaque-length i h, e)
+fec-span i family h e = rw (root-length i h, opaque-length i, e)
 
 -- the FEC of a tunnel type, by its row
 fec-by-row : (s rest ns : List ℕ) (r : Fec) → formOf (getD s 1 0) ≡ given (fecTypes ns) → rest ≡ drop 5 s → r ≡ fecSpans (fecIn rest) → r ≡ fecOf (fieldsIn s)

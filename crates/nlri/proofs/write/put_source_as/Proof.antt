@@ -19,18 +19,20 @@ has-source-as-requires c κs = search needs
 
 place-four-requires : tie.Need-place-four-requires
 place-four-requires c κs =
-    let e = ap length (source-as-there (c .before .before .before .before .before .args .nlri) [] (sym (c .before .before .has-source-as .ensures) ∙ c .before .if1 .taken)) in
-    let l = big-endian-length 4 (c .before .before .before .before .before .args .nlri .«source_as») in
-    omega (arith, c .before .before .before .before .before .pre)
+    let start = c .before .before .before .before .before in
+    let e = ap length (source-as-there (start .args .nlri) [] (sym (c .before .before .has-source-as .ensures) ∙ c .before .if1 .taken)) in
+    let l = big-endian-length 4 (start .args .nlri .«source_as») in
+    omega (arith, start .pre)
 
 same-length : tie.Need-same-length
 same-length c = search needs
 
 returns : tie.Need-returns
 returns c =
-    let e = source-as-there (c .before .before .before .before .before .before .before .before .args .nlri) [] (sym (c .before .before .before .before .before .has-source-as .ensures) ∙ c .before .before .before .before .if1 .taken) in
-    let l = big-endian-length 4 (c .before .before .before .before .before .before .before .before .args .nlri .«source_as») in
-    put-as _ _ _ _ _ _ e (c .before .before .place-four .ensures .0 ∙ ap (λ (k : ℕ). c .before .before .before .before .before .before .before .before .args .at + k) (sym l), c .before .before .place-four .ensures .1)
+    let start = c .before .before .before .before .before .before .before .before in
+    let e = source-as-there (start .args .nlri) [] (sym (c .before .before .before .before .before .has-source-as .ensures) ∙ c .before .before .before .before .if1 .taken) in
+    let l = big-endian-length 4 (start .args .nlri .«source_as») in
+    put-as _ _ _ _ _ _ e (c .before .before .place-four .ensures .0 ∙ ap (λ (k : ℕ). start .args .at + k) (sym l), c .before .before .place-four .ensures .1)
 
 returns-2 : tie.Need-returns-2
 returns-2 c =
