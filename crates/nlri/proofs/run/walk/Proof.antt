@@ -55,7 +55,6 @@ add-at c = omega arith
 -- the step of a turn that goes on
 read : (c : tie.After-shared-slice-known2 Inv-loop μ-loop) → stepFrom (c .before .before .before .before .before .before .before .before .before .before .args .afi) (now (c .before .before .before .before .before .before .before .before .before .before .args .run)) (c .before .before .before .before .loop .at) ≡ readTo (layoutIn (drop (c .before .before .before .before .loop .at) (now (c .before .before .before .before .before .before .before .before .before .before .args .run)))) (c .before .before .before .before .loop .at + (2 + getD (now (c .before .before .before .before .before .before .before .before .before .before .args .run)) (c .before .before .before .before .loop .at + 1) 0))
 read c =
-    let start = c .before .before .before .before .before .before .before .before .before .before in
     step-under-is _ _ _ _ _ (size-given _ _ _ (c .before .before .before .before .before .before .before .before .family-bits .ensures) (c .before .before .before .before .before .before .family .given .1)) (read-by-octet _ _ _ (c .before .if2 .left) (step-reads _ _ _ _ (c .before .before .before .step-fault .ensures) (c .before .before .if1 .left) (c .before .if2 .left)))
 
 shared-slice-read-at : tie.Need-shared-slice-read-at Inv-loop μ-loop

@@ -1,7 +1,7 @@
 -- `nlri::write::put_body` meets its contract.
 use lib.ListN.{length-append}
 use Rattle.nlri.specs.InnerWriting.{bodyOctets, flowOctets, originatorOctets}
-use Rattle.octets.proofs.Lists.{put-then, put-length}
+use Rattle.octets.proofs.Lists.{put-then}
 use Rattle.nlri.proofs.Puts.{body-length}
 use native.Mathlib.Omega.{arith}
 use denote.Ref.{now}
@@ -25,7 +25,6 @@ put-originator-requires : tie.Need-put-originator-requires
 put-originator-requires c κs =
     let start = c .before .before .before .before .before .before .before .before .before .before .before in
     let b = body-length (start .args .nlri) (now (start .args .key)) in
-    let j = put-length _ _ _ _ _ (omega (arith, start .pre .1, c .before .before .before .before .before .before .before .put-fixed .ensures .0)) (c .before .before .before .put-flow .ensures) in
     (start .pre .0, omega (arith, start .pre .1, c .before .before .before .before .before .before .before .put-fixed .ensures .0, c .before .before .before .put-flow .ensures .0))
 
 same-length : tie.Need-same-length

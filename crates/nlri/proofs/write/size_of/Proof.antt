@@ -2,7 +2,6 @@
 use Rattle.nlri.specs.InnerWriting.{sizeOf}
 use Rattle.nlri.proofs.Puts.{fixed-most, flow-most, originator-most}
 use native.Mathlib.Omega.{arith}
-use Prim.Native.Nat.{_<_}
 use borrow.Author.Needs.{needs}
 use Rattle.nlri.proofs.write.size_of.Statement.{statement}
 use Rattle.nlri.proofs.write.size_of.Tie as tie
