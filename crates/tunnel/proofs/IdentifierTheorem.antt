@@ -12,9 +12,9 @@ use Rattle.octets.specs.Numbers.{TUNNEL, IDENT}
 use Rattle.octets.specs.Outcome.{Outcome, given, refused, andThen}
 use Rattle.octets.specs.Octets.{AllOctets}
 use Rattle.octets.proofs.Tests.{both-true, either-left}
-use Rattle.octets.proofs.Picked.{tested, both-held}
+use Rattle.octets.proofs.Picked.{tested}
 use Rattle.octets.proofs.Outcomes.{pick-true, pick-false}
-use Rattle.octets.proofs.Inversions.{opposite}
+use Rattle.octets.proofs.Inversions.{opposite, both-true-left, both-true-right}
 use Rattle.octets.proofs.Refusals.{either-second}
 use Rattle.tunnel.specs.Fec.{encodeFec, wholeFec, fecIn}
 use Rattle.tunnel.specs.Identifier.{IdentifierForm, sizes, fecTypes, TableRow, table, formIn, formOf, Among, here, there, IsIdentifier, ofSize, ofFec, OfType, oneOf, fits, judged}
@@ -44,9 +44,8 @@ identifier-of : (form : IdentifierForm) (i : List ℕ) → AllOctets i → fits 
 unfolding fits fecIn
 identifier-of (sizes ns) i a h = ofSize (one-of (length i) ns h)
 identifier-of (fecTypes ns) i a h =
-    let p = both-held (wholeFec i) (oneOf (getD i 0 0) ns) h in
-    let q = fec-whole i a (p .0) in
-    subst (λ (l : List ℕ). IsIdentifier (fecTypes ns) l) (sym (q .1)) (ofFec (q .0) (one-of (getD i 0 0) ns (p .1)))
+    let q = fec-whole i a (both-true-left (wholeFec i) (oneOf (getD i 0 0) ns) h) in
+    subst (λ (l : List ℕ). IsIdentifier (fecTypes ns) l) (sym (q .1)) (ofFec (q .0) (one-of (getD i 0 0) ns (both-true-right (wholeFec i) (oneOf (getD i 0 0) ns) h)))
 
 identifier-computed : {form : IdentifierForm} {i : List ℕ} → IsIdentifier form i → fits form i ≡ true
 unfolding fits

@@ -14,7 +14,8 @@ use Rattle.octets.specs.Numbers.{DONE, SHORT, LONG, TUNNEL, IDENT, LABEL, SPACE
 use Rattle.octets.specs.Outcome.{Outcome, given, refused, andThen, onOutcome, numberOf}
 use Rattle.octets.specs.Octets.{part, numberIn, front}
 use Rattle.octets.proofs.Tests.{tests}
-use Rattle.octets.proofs.Picked.{tested, pick-passed, pick-held, pick-done, both-held, was-given}
+use Rattle.octets.proofs.Picked.{tested, pick-passed, pick-held, pick-done, was-given}
+use Rattle.octets.proofs.Inversions.{both-true-left}
 use Rattle.octets.proofs.Outcomes.{pick-false}
 use Rattle.octets.proofs.Refusals.{picked, either-false-left, either-false-right}
 use Rattle.octets.proofs.NetworkOrder.{big-endian-length, number-part}
@@ -180,7 +181,7 @@ fec-without-fault : (t : ℕ) (i ns : List ℕ) → formOf t ≡ given (fecTypes
 unfolding judged andThen fits
 fec-without-fault t i ns e h =
     let j : pick (fits (fecTypes ns) i) (given i) (refused IDENT) ≡ given i = rw e at (judged-by-number t i ∙ when-done (faultOf t i) i h) in
-    both-held (wholeFec i) (oneOf (getD i 0 0) ns) (was-given (fits (fecTypes ns) i) i i IDENT j .0) .0
+    both-true-left (wholeFec i) (oneOf (getD i 0 0) ns) (was-given (fits (fecTypes ns) i) i i IDENT j .0)
 
 -- a tunnel type that the table lacks
 pub unknown-fault : (t : ℕ) (i : List ℕ) → unknown t ≡ true → TUNNEL ≡ faultOf t i

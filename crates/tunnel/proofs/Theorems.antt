@@ -9,8 +9,8 @@ use lib.Seq.{take-length, drop-drop}
 use Rattle.octets.specs.Numbers.{IDENT}
 use Rattle.octets.specs.Outcome.{Outcome, given, refused}
 use Rattle.octets.specs.Octets.{part}
-use Rattle.octets.proofs.Picked.{was-given, both-held}
-use Rattle.octets.proofs.Inversions.{never}
+use Rattle.octets.proofs.Picked.{was-given}
+use Rattle.octets.proofs.Inversions.{never, both-true-left}
 use Rattle.octets.proofs.Outcomes.{pick-true}
 use Rattle.tunnel.specs.Fec.{FecFields, wholeFec, fecIn, readFec}
 use Rattle.tunnel.specs.Identifier.{IdentifierForm, fecTypes, formOf, oneOf, fits}
@@ -62,7 +62,7 @@ fec-read-in s ns f a t =
     let k : getD s 1 0 ≡ f .tunnelType = ap (λ (g : Fields). g .tunnelType) (a .fields) in
     let q : a .form ≡ fecTypes ns = cc (a .inTable, ap formOf k) in
     let w : fits (fecTypes ns) (f .identifier) ≡ true = rw (q, i) at (a .fitting) in
-    pick-true (wholeFec (f .identifier)) (given (fecIn (f .identifier))) (refused IDENT) (both-held (wholeFec (f .identifier)) (oneOf (getD (f .identifier) 0 0) ns) w .0)
+    pick-true (wholeFec (f .identifier)) (given (fecIn (f .identifier))) (refused IDENT) (both-true-left (wholeFec (f .identifier)) (oneOf (getD (f .identifier) 0 0) ns) w)
 
 -- a FEC's parts, counted from the attribute's first octet
 root-at : (s : List ℕ) → wholeFec (drop 5 s) ≡ true → part s 9 (length (fecIn (drop 5 s) .root)) ≡ fecIn (drop 5 s) .root
