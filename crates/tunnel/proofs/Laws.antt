@@ -13,7 +13,6 @@ use Rattle.octets.specs.Choice.{pick, both, either}
 use Rattle.octets.specs.Numbers.{DONE, SHORT, LONG, TUNNEL, IDENT, LABEL, SPACE}
 use Rattle.octets.specs.Outcome.{Outcome, given, refused, andThen, onOutcome, numberOf}
 use Rattle.octets.specs.Octets.{part, numberIn, front}
-use Rattle.octets.proofs.Tests.{tests}
 use Rattle.octets.proofs.Picked.{tested, pick-passed, pick-held, pick-done, was-given}
 use Rattle.octets.proofs.Inversions.{both-true-left}
 use Rattle.octets.proofs.Outcomes.{pick-false}
@@ -29,12 +28,6 @@ use Rattle.tunnel.specs.Answers.{fecSpans, noFec, fecOfForm, fecOf, attr
 use Rattle.octets.specs.Outputs.{writtenOf, outputOf}
 use Rattle.tunnel.specs.Inner.{unknown, mldp, typeSuits, formFault, faultIn, faultOf, TakesSizes, readFault, writeFault, endsFrom}
 use Rattle.tunnel.proofs.ByNumber.{byNumber, when-done, when-not-done, number-is, number-picked, number-then, number-kept}
-
--- a test that a call made, in the definition's words
-pub told : (r t v : Bool) → r ≡ t → r ≡ v → t ≡ v
-told r t v p q = sym p ∙ q
-
-pub ruleset calls = (tests, told)
 
 -- judging a FEC, by the tests that the code makes
 same-under : (a b c d : ℕ) → (a < b → c < d) → (c < d → a < b) → ltb a b ≡ ltb c d
