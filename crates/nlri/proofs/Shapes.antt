@@ -5,7 +5,7 @@ use mathlib.Core.Logic.{_⊎_, inl, inr, ⊎-elim}
 use mathlib.Core.List.{List, [], _∷_}
 use Prim.Native.Nat.{ℕ, zero, suc, _+_, _-_, _/_, _≤_}
 use native.Mathlib.Omega.{arith}
-use borrow.Author.Tests.{ltb-false, eqb-true}
+use borrow.Author.Tests.{eqb-true}
 use lib.ListN.{length, getD, take, drop, length-drop}
 use lib.Seq.{drop-drop, take-all, take-nil}
 use lib.Dec.{eqb}
@@ -17,12 +17,12 @@ use Rattle.octets.proofs.Outcomes.{pick-true, pick-false}
 use Rattle.octets.proofs.Inversions.{never, opposite, unless, only, passed, given-same, either-true, both-true-right}
 use Rattle.nlri.specs.Family.{allowed, originatorSize}
 use Rattle.nlri.specs.Bodies.{Kind, distinguisher, sourceAs, source, group, originator, key, bodies, onBody, fieldIn, sameKind, codeOf}
-use Rattle.nlri.specs.Reading.{Laid, fixedField, addressEnd, addressField, originatorField, fieldSize, sizesOf, laidWith, laidAt, laidSingle, keyField, cut, fieldsOf}
+use Rattle.nlri.specs.Reading.{Laid, addressEnd, addressField, originatorField, fieldSize, sizesOf, laidWith, laidAt, laidSingle, keyField, cut, fieldsOf}
 use Rattle.nlri.specs.Layouts.{layoutOf}
 use Rattle.nlri.proofs.FieldRecords.{fields-same}
 use Rattle.nlri.specs.Inner.{withSourceAs, sourceStart, distinguisherAt, sourceAsAt, fieldsAt, Within}
 use Rattle.nlri.proofs.Fronts.{laid-within, key-within}
-use Rattle.nlri.proofs.Sizes.{address-within}
+use Rattle.nlri.proofs.Sizes.{fixed-is, address-within}
 
 -- the row of the table that gave a value, and its type
 pub choose : {A : Type 0} {C : Type 0} (b : Bool) (x y : Outcome A) (a : A) → pick b x y ≡ given a → (b ≡ true → x ≡ given a → C) → (b ≡ false → y ≡ given a → C) → C
@@ -66,10 +66,6 @@ first size k body s sizes e =
 none : (size : Kind → List ℕ → Outcome ℕ) (s sizes : List ℕ) → sizesOf size [] s ≡ given sizes → (length s ≡ 0) × ([] ≡ sizes)
 unfolding sizesOf
 none size s sizes e = let p = only _ _ _ _ e in (eqb-true _ _ (p .0), given-same (p .1))
-
-fixed-is : (n m : ℕ) (s : List ℕ) → fixedField n s ≡ given m → (n ≡ m) × (n ≤ length s)
-unfolding fixedField
-fixed-is n m s e = let p = unless _ _ _ _ e in (given-same (p .1), omega (arith, ltb-false))
 
 originator-is : (s : List ℕ) (n : ℕ) → originatorField s ≡ given n → (length s ≡ n) × (n ≤ 16)
 unfolding originatorField originatorSize
