@@ -5,7 +5,7 @@ use mathlib.Core.List.{List, [], _∷_, append-nil}
 use Prim.Native.Nat.{ℕ, suc, _+_, _*_, _/_, _-_, _^_, _≤_, _<_}
 use native.Mathlib.Omega.{arith}
 use borrow.Author.Tests.{eqb-true, eq-eqb}
-use lib.ListN.{length, take, drop, length-drop}
+use lib.ListN.{length, take, drop}
 use lib.Seq.{take-all}
 use Rattle.octets.specs.Choice.{pick, either}
 use Rattle.octets.specs.Outcome.{given, andThen}
@@ -23,6 +23,7 @@ use Rattle.nlri.proofs.FieldRecords.{fields-same}
 use Rattle.nlri.proofs.Table.{RowOf, rowOf, known, mostIn, field-of-map, lacks, same-kind}
 use Rattle.nlri.proofs.Judged.{fieldsFrom}
 use Rattle.nlri.proofs.Lengths.{family-octets}
+use Rattle.nlri.proofs.Shapes.{whole-part}
 use Rattle.nlri.proofs.Whole.{piecesOf, sizesIn, cut-body, laid-out, fieldsAt, laid-sound, laid-complete, nlri-octets}
 use Rattle.nlri.proofs.Keys.{key-judges, key-octets}
 
@@ -86,7 +87,7 @@ module _ (afi family : ℕ) (bits : familyBits afi ≡ given family) where
       let size : length s - 2 ≡ laid .size = eqb-true _ _ (q .0) ∙ ap (λ (x : Laid). x .size) same in
       let o = laid-out (keyField family) family s laid first in
       let r = laid-sound (keyField family) (KeyOf family) (key-judges family whole) family whole s laid a first in
-      let rest : part s 2 (laid .size) ≡ drop 2 s = take-all (laid .size) (drop 2 s) (rw length-drop (omega arith)) in
+      let rest : part s 2 (laid .size) ≡ drop 2 s = whole-part s (laid .size) size in
       let fields : fieldsAt (keyField family) (KeyOf family) (key-judges family whole) family whole s laid ≡ fieldsOf laid s =
       ap (λ (x : List ℕ). fieldsFrom (laid .type) (λ kind. fieldIn [] kind (laid .body) (cut (laid .sizes) x))) rest in
       let all : take (2 + laid .size) s ≡ s = take-all (2 + laid .size) s (omega (arith, o .enough)) in

@@ -74,6 +74,16 @@ module _ (kf : List ℕ → Outcome ℕ) (family : ℕ) (s : List ℕ) where
       let t : laid .type ≡ getD s 0 0 = ap (λ (x : Laid). x .type) (sym same) in
       (omega (arith, ltb-false), omega (arith, ltb-false), t, n)
 
+-- type and Length of what was laid out, and that it lies within the octets
+pub layout-octets : (family : ℕ) (s : List ℕ) (l : Layout) → layoutAt family s ≡ given l → (2 ≤ length s) × (2 + l .length ≤ length s) × (l .«route_type» ≡ getD s 0 0) × (l .length ≡ getD s 1 0)
+unfolding layoutAt laidAt layoutOf
+layout-octets family s l e =
+    let w = passed _ _ _ e in
+    let same : layoutOf (w .value) ≡ l = given-same (w .second) in
+    let h = laid-within (keyField family) family s (w .value) (w .first) in
+    let n : w .value .size ≡ l .length = ap (λ (x : Layout). x .length) same in
+    (h .0, omega (arith, h .1), ap (λ (x : Layout). x .«route_type») (sym same) ∙ h .2, sym n ∙ h .3)
+
 pub unkeyed-is : (family : ℕ) (s : List ℕ) → andThen (laidWith noKey family s) (λ laid. given (layoutOf laid)) ≡ unkeyed family s
 unfolding unkeyed unkeyedBody noKey
 unkeyed-is family s =

@@ -4,7 +4,7 @@ use mathlib.Core.Bool.{true}
 use mathlib.Core.List.{List, _∷_, _++_, append-nil}
 use Prim.Native.Nat.{ℕ, suc, _+_, _*_, _/_, _-_, _≤_, _<_}
 use native.Mathlib.Omega.{arith}
-use borrow.Author.Tests.{ne-eqb, ltb-false, le-ltb, leb-false, lt-leb}
+use borrow.Author.Tests.{ne-eqb, le-ltb, leb-false, lt-leb}
 use lib.ListN.{length, getD, take, drop, length-append, length-drop}
 use lib.Seq.{length-take-le, getD-take}
 use Rattle.octets.specs.Numbers.{KEY}
@@ -21,6 +21,7 @@ use Rattle.nlri.specs.Fields.{Fields, encodeAddress, encodeField, WellFo
 use Rattle.nlri.specs.Reading.{fixedField, addressEnd, addressField, originatorField, fieldSize}
 use Rattle.nlri.specs.Statements.{Closes}
 use Rattle.nlri.proofs.Table.{most}
+use Rattle.nlri.proofs.Sizes.{fixed-is}
 use Rattle.nlri.proofs.Lengths.{whole-octets, address-most, originator-most}
 
 -- a judge of keys that says of octets how many a key at their front takes
@@ -41,13 +42,6 @@ fieldsFrom type field =
       originator = field originator;
       key = field key;
     }
-
-fixed-given : (m n : ℕ) (s : List ℕ) → fixedField m s ≡ given n → (n ≡ m) × (n ≤ length s)
-unfolding fixedField
-fixed-given m n s e =
-    let p = unless _ _ _ _ e in
-    let q : m ≡ n = given-same (p .1) in
-    (sym q, omega (arith, ltb-false))
 
 fixed-stands : (m : ℕ) (x t : List ℕ) → length x ≡ m → fixedField m (x ++ t) ≡ given (length x)
 unfolding fixedField
@@ -101,13 +95,15 @@ module _ (judge : List ℕ → Outcome ℕ) (Key : List ℕ → Type 0) (judges 
       → (n ≤ length s) × WellFormedField Key family (fieldsFrom type field) k × (encodeField (fieldsFrom type field) k ≡ take n s)
   unfolding fieldSize encodeField
   field-sound type distinguisher s n field a e at =
-      let p = fixed-given 8 n s e in
-      (p .1, (ap length at ∙ length-take-le n s (p .1) ∙ p .0, subst AllOctets (sym at) (octets-take n a)), at)
+      let p = fixed-is 8 n s e in
+      let fits : n ≤ length s = omega (arith, p .0, p .1) in
+      (fits, (ap length at ∙ length-take-le n s fits ∙ sym (p .0), subst AllOctets (sym at) (octets-take n a)), at)
   field-sound type sourceAs s n field a e at =
-      let p = fixed-given 4 n s e in
+      let p = fixed-is 4 n s e in
+      let fits : n ≤ length s = omega (arith, p .0, p .1) in
       let o : AllOctets (field sourceAs) = subst AllOctets (sym at) (octets-take n a) in
-      let l : length (field sourceAs) ≡ 4 = ap length at ∙ length-take-le n s (p .1) ∙ p .0 in
-      (p .1, rw l at (number-fits o), (rw l at (big-endian-of-number o)) ∙ at)
+      let l : length (field sourceAs) ≡ 4 = ap length at ∙ length-take-le n s fits ∙ sym (p .0) in
+      (fits, rw l at (number-fits o), (rw l at (big-endian-of-number o)) ∙ at)
   field-sound type source s n field a e at =
       let p = address-given family type n s whole a e in
       let r : AddressRead family type (field source) = subst (AddressRead family type) (sym at) (p .1) in

@@ -1,6 +1,6 @@
 -- Octets that are exactly one key, by the tests that the writer makes of them: a single NLRI of type 1, 2 or 3.
 use mathlib.Core.Path.{_≡_, refl, sym, _∙_, ap}
-use mathlib.Core.Bool.{Bool, true, false}
+use mathlib.Core.Bool.{true, false}
 use mathlib.Core.List.{List}
 use Prim.Native.Nat.{ℕ, _+_, _-_, _≤_, _<_}
 use native.Mathlib.Omega.{arith}
@@ -10,7 +10,6 @@ use lib.Dec.{ltb, eqb}
 use Rattle.octets.specs.Numbers.{DONE}
 use Rattle.octets.specs.Choice.{pick}
 use Rattle.octets.specs.Outcome.{Outcome, given, refused, onOutcome, andThen, numberOf}
-use Rattle.octets.specs.Octets.{part}
 use Rattle.octets.proofs.Tests.{skips, on-given}
 use Rattle.octets.proofs.Picked.{tested}
 use Rattle.octets.proofs.Inversions.{unless, on-given-given}

@@ -20,7 +20,7 @@ use Rattle.nlri.proofs.Judged.{Judges}
 use Rattle.nlri.proofs.Whole.{laid-out, fieldsAt, laid-sound, laid-complete, nlri-octets}
 
 -- no octets are a key
-pub none-judges : Judges noKey NoKey
+none-judges : Judges noKey NoKey
 unfolding noKey
 none-judges =
     record {

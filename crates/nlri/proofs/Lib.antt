@@ -15,7 +15,7 @@ pub mod Copies
 pub mod Singles
 pub mod SPmsis
 pub mod Puts
-pub mod Judges
+pub mod Verdicts
 pub mod Table
 pub mod Lengths
 pub mod Judged

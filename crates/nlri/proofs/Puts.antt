@@ -20,7 +20,7 @@ use Rattle.nlri.specs.declared.fields.Nlri.{Nlri}
 use Rattle.nlri.specs.Fields.{encodeAddress}
 use Rattle.nlri.specs.Answers.{octetsOf}
 use Rattle.nlri.specs.Inner.{withSourceAs}
-use Rattle.nlri.specs.InnerWriting.{hasFlow, hasOriginator, fixedSize, flowSize, originatorLength, sizeOf, numberOctets, fixedOctets, flowOctets, originatorOctets, bodyOctets, allOctets}
+use Rattle.nlri.specs.InnerWriting.{hasFlow, hasOriginator, fixedSize, flowSize, originatorLength, sizeOf, sourceAsOctets, fixedOctets, flowOctets, originatorOctets, bodyOctets, allOctets}
 
 pub octets-length : (a : Address) → length (octetsOf a) ≡ a .size
 unfolding octetsOf
@@ -45,19 +45,19 @@ unfolding encodeAddress
 address-room a = omega arith
 
 module _ (nlri : Nlri) (key : List ℕ) where
-  pub number-there : withSourceAs (nlri .«route_type») ≡ true → bigEndian 4 (nlri .«source_as») ≡ numberOctets nlri
-  unfolding numberOctets
-  number-there h = sym (pick-true _ _ _ h)
+  pub source-as-there : withSourceAs (nlri .«route_type») ≡ true → bigEndian 4 (nlri .«source_as») ≡ sourceAsOctets nlri
+  unfolding sourceAsOctets
+  source-as-there h = sym (pick-true _ _ _ h)
 
-  pub number-none : withSourceAs (nlri .«route_type») ≡ false → [] ≡ numberOctets nlri
-  unfolding numberOctets
-  number-none h = sym (pick-false _ _ _ h)
+  pub source-as-none : withSourceAs (nlri .«route_type») ≡ false → [] ≡ sourceAsOctets nlri
+  unfolding sourceAsOctets
+  source-as-none h = sym (pick-false _ _ _ h)
 
   pub fixed-key : eqb (nlri .«route_type») 4 ≡ true → key ≡ fixedOctets nlri key
   unfolding fixedOctets
   fixed-key h = sym (pick-true _ _ _ h)
 
-  pub fixed-distinguisher : eqb (nlri .«route_type») 4 ≡ false → nlri .distinguisher .octets ++ numberOctets nlri ≡ fixedOctets nlri key
+  pub fixed-distinguisher : eqb (nlri .«route_type») 4 ≡ false → nlri .distinguisher .octets ++ sourceAsOctets nlri ≡ fixedOctets nlri key
   unfolding fixedOctets
   fixed-distinguisher h = sym (pick-false _ _ _ h)
 
@@ -95,18 +95,18 @@ unfolding writtenOf outputOf numberOf onOutcome
 put-all e d size next z s p = ((λ i. record { number = 0; size = s i }), p .1 ∙ sym (front-is-placed e d))
 
 -- sizes without their octets
-two : (b : Bool) (x y : ℕ) → (n : ℕ) → x ≤ n → y ≤ n → pick b x y ≤ n
+under : (b : Bool) (x y n : ℕ) → (b ≡ true → x ≤ n) → y ≤ n → pick b x y ≤ n
 unfolding pick
-two true x y n h k = h
-two false x y n h k = k
+under true x y n h k = h refl
+under false x y n h k = k
 
 pub flow-most : (type a b : ℕ) → flowSize type a b ≤ 2 + a + b
 unfolding flowSize
-flow-most type a b = two _ _ _ _ (omega arith) (omega arith)
+flow-most type a b = under _ _ _ _ (λ e. omega arith) (omega arith)
 
 pub originator-most : (type o : ℕ) → originatorLength type o ≤ o
 unfolding originatorLength
-originator-most type o = two _ _ _ _ (omega arith) (omega arith)
+originator-most type o = under _ _ _ _ (λ e. omega arith) (omega arith)
 
 fixed-other : (b d : Bool) (k : ℕ) → (b ≡ true → k < 1024) → pick b k (pick d 12 8) < 1024
 unfolding pick
@@ -124,11 +124,6 @@ eight-and true = refl
 eight-and false = refl
 
 -- the same for what fits
-under : (b : Bool) (x y n : ℕ) → (b ≡ true → x ≤ n) → y ≤ n → pick b x y ≤ n
-unfolding pick
-under true x y n h k = h refl
-under false x y n h k = k
-
 pub fixed-short : (type k : ℕ) → (type ≡ 4 → k ≤ 60) → fixedSize type k ≤ 60
 unfolding fixedSize
 fixed-short type k h = under (eqb type 4) _ _ 60 (λ e. h (eqb-true type 4 e)) (under (withSourceAs type) 12 8 60 (λ e. omega arith) (omega arith))
@@ -148,7 +143,7 @@ pick-length false x y = refl
 
 module _ (nlri : Nlri) (key : List ℕ) (eight : length (nlri .distinguisher .octets) ≡ 8) where
   fixed-size : length (fixedOctets nlri key) ≡ fixedSize (nlri .«route_type») (length key)
-  unfolding fixedOctets fixedSize numberOctets
+  unfolding fixedOctets fixedSize sourceAsOctets
   fixed-size =
       pick-length _ _ _ ∙ ap (pick _ _) (length-append (nlri .distinguisher .octets) _ ∙ ap₂ _+_ eight (pick-length _ _ _ ∙ ap (λ (n : ℕ). pick (withSourceAs (nlri .«route_type»)) n 0) (big-endian-length 4 (nlri .«source_as»))) ∙ eight-and (withSourceAs (nlri .«route_type»)))
 

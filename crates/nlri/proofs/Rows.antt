@@ -26,11 +26,11 @@ laidFor size type s body = andThen (sizesOf size body s) (λ sizes. given (recor
 unfoldable pub rowLayout : (Kind → List ℕ → Outcome ℕ) → (type : ℕ) → List ℕ → List Kind → Outcome Layout
 rowLayout size type s body = andThen (laidFor size type s body) (λ laid. given (layoutOf laid))
 
-layoutFor : (type n : ℕ) → List Kind → List ℕ → Layout
-layoutFor type n body sizes = layoutOf (record { type = type; size = n; body = body; sizes = sizes })
+layoutFrom : (type n : ℕ) → List Kind → List ℕ → Layout
+layoutFrom type n body sizes = layoutOf (record { type = type; size = n; body = body; sizes = sizes })
 
-row-is : (size : Kind → List ℕ → Outcome ℕ) (type : ℕ) (s : List ℕ) (body : List Kind) → rowLayout size type s body ≡ andThen (sizesOf size body s) (λ sizes. given (layoutFor type (length s) body sizes))
-unfolding rowLayout laidFor layoutFor
+row-is : (size : Kind → List ℕ → Outcome ℕ) (type : ℕ) (s : List ℕ) (body : List Kind) → rowLayout size type s body ≡ andThen (sizesOf size body s) (λ sizes. given (layoutFrom type (length s) body sizes))
+unfolding rowLayout laidFor layoutFrom
 row-is size type s body = and-assoc _ _ _ ∙ and-cong _ _ _ (λ sizes e. and-given _ _)
 
 lay-cons : {B : Type 0} (size : Kind → List ℕ → Outcome ℕ) (k : Kind) (body : List Kind) (s : List ℕ) (next : List ℕ → Outcome B)
@@ -92,28 +92,28 @@ module _ (keyField : List ℕ → Outcome ℕ) (family type : ℕ) where
   distinguisher-then rest s next = lay-cons _ _ _ _ _ ∙ fixed-then _ _ _
 
 -- the layout of each body from its sizes
-layout-intra-as : (n o : ℕ) → layoutFor 1 n (distinguisher ∷ originator ∷ []) (8 ∷ o ∷ []) ≡ layoutWith 1 n 0 0 o 0
-unfolding layoutFor layoutOf layoutWith fieldIn sameKind codeOf pick
+layout-intra-as : (n o : ℕ) → layoutFrom 1 n (distinguisher ∷ originator ∷ []) (8 ∷ o ∷ []) ≡ layoutWith 1 n 0 0 o 0
+unfolding layoutFrom layoutOf layoutWith fieldIn sameKind codeOf pick
 layout-intra-as n o = refl
 
-layout-inter-as : (n : ℕ) → layoutFor 2 n (distinguisher ∷ sourceAs ∷ []) (8 ∷ 4 ∷ []) ≡ layoutWith 2 n 0 0 0 0
-unfolding layoutFor layoutOf layoutWith fieldIn sameKind codeOf pick
+layout-inter-as : (n : ℕ) → layoutFrom 2 n (distinguisher ∷ sourceAs ∷ []) (8 ∷ 4 ∷ []) ≡ layoutWith 2 n 0 0 0 0
+unfolding layoutFrom layoutOf layoutWith fieldIn sameKind codeOf pick
 layout-inter-as n = refl
 
-layout-s-pmsi : (n a b o : ℕ) → layoutFor 3 n (distinguisher ∷ source ∷ group ∷ originator ∷ []) (8 ∷ a ∷ b ∷ o ∷ []) ≡ layoutWith 3 n (a - 1) (b - 1) o 0
-unfolding layoutFor layoutOf layoutWith fieldIn sameKind codeOf pick
+layout-s-pmsi : (n a b o : ℕ) → layoutFrom 3 n (distinguisher ∷ source ∷ group ∷ originator ∷ []) (8 ∷ a ∷ b ∷ o ∷ []) ≡ layoutWith 3 n (a - 1) (b - 1) o 0
+unfolding layoutFrom layoutOf layoutWith fieldIn sameKind codeOf pick
 layout-s-pmsi n a b o = refl
 
-layout-leaf : (n k o : ℕ) → layoutFor 4 n (key ∷ originator ∷ []) (k ∷ o ∷ []) ≡ layoutWith 4 n 0 0 o k
-unfolding layoutFor layoutOf layoutWith fieldIn sameKind codeOf pick
+layout-leaf : (n k o : ℕ) → layoutFrom 4 n (key ∷ originator ∷ []) (k ∷ o ∷ []) ≡ layoutWith 4 n 0 0 o k
+unfolding layoutFrom layoutOf layoutWith fieldIn sameKind codeOf pick
 layout-leaf n k o = refl
 
-layout-source-active : (n a b : ℕ) → layoutFor 5 n (distinguisher ∷ source ∷ group ∷ []) (8 ∷ a ∷ b ∷ []) ≡ layoutWith 5 n (a - 1) (b - 1) 0 0
-unfolding layoutFor layoutOf layoutWith fieldIn sameKind codeOf pick
+layout-source-active : (n a b : ℕ) → layoutFrom 5 n (distinguisher ∷ source ∷ group ∷ []) (8 ∷ a ∷ b ∷ []) ≡ layoutWith 5 n (a - 1) (b - 1) 0 0
+unfolding layoutFrom layoutOf layoutWith fieldIn sameKind codeOf pick
 layout-source-active n a b = refl
 
-layout-join : (type n a b : ℕ) → layoutFor type n (distinguisher ∷ sourceAs ∷ source ∷ group ∷ []) (8 ∷ 4 ∷ a ∷ b ∷ []) ≡ layoutWith type n (a - 1) (b - 1) 0 0
-unfolding layoutFor layoutOf layoutWith fieldIn sameKind codeOf pick
+layout-join : (type n a b : ℕ) → layoutFrom type n (distinguisher ∷ sourceAs ∷ source ∷ group ∷ []) (8 ∷ 4 ∷ a ∷ b ∷ []) ≡ layoutWith type n (a - 1) (b - 1) 0 0
+unfolding layoutFrom layoutOf layoutWith fieldIn sameKind codeOf pick
 layout-join type n a b = refl
 
 -- how a body ends

@@ -17,10 +17,10 @@ use Rattle.octets.proofs.Tests.{goes, stops, on-given, on-refused}
 use Rattle.octets.proofs.Inversions.{opposite, unless, only, passed, given-same}
 use Rattle.nlri.specs.declared.layout.Layout.{Layout}
 use Rattle.nlri.specs.Family.{familyBits, originatorSize}
-use Rattle.nlri.specs.Reading.{keyField, laidAt, fieldsOf, readNlri, isSPmsi}
+use Rattle.nlri.specs.Reading.{fieldsOf, readNlri, isSPmsi}
 use Rattle.nlri.specs.Layouts.{layoutOf, layoutAt}
 use Rattle.nlri.specs.Inner.{layoutWith, originatorLast, lastFault, flowSizes, flowEnd, flowFault, flowRoute, bodyWith, anyBody, header, anyFront, endsWith, single, ofSPmsi, sPmsiUnder}
-use Rattle.nlri.proofs.Fronts.{front-is, laid-within}
+use Rattle.nlri.proofs.Fronts.{front-is, layout-octets}
 use Rattle.nlri.proofs.Numbered.{refused-of, front-done, last-number}
 use Rattle.nlri.proofs.Ends.{flow-number}
 use Rattle.nlri.proofs.Shapes.{whole-part}
@@ -71,24 +71,15 @@ module _ (family : ℕ) (s : List ℕ) where
       let typed : header s ≡ given (3, length s - 2) = rw (le-ltb (length s) 2 enough, le-ltb (length s - 2) (getD s 1 0) (omega arith), t, n) in
       front ∙ ap (λ (o : Outcome (ℕ × ℕ)). andThen o (λ h. anyBody family (h .0) (part s 2 (h .1)))) typed ∙ and-given _ _ ∙ ap (flowRoute family 3 8) (whole-part s (length s - 2) refl)
 
-  -- type and Length of what was laid out
-  headed : (l : Layout) → layoutAt family s ≡ given l → (2 ≤ length s) × (l .«route_type» ≡ getD s 0 0) × (l .length ≡ getD s 1 0)
-  unfolding layoutAt laidAt layoutOf
-  headed l e =
-      let p = passed _ _ _ e in
-      let same : layoutOf (p .value) ≡ l = given-same (p .second) in
-      let facts = laid-within (keyField family) family s (p .value) (p .first) in
-      (facts .0, ap (λ (x : Layout). x .«route_type») (sym same) ∙ facts .2, ap (λ (x : Layout). x .length) (sym same) ∙ facts .3)
-
   -- the octets of a single NLRI of type 3
   opens : (l : Layout) → single family s ≡ given l → l .«route_type» ≡ 3 → (getD s 0 0 ≡ 3) × (getD s 1 0 ≡ length s - 2) × (10 ≤ length s)
   unfolding single endsWith flowRoute
   opens l e three =
       let w = passed _ _ _ e in
       let end = only _ _ _ _ (w .second) in
-      let h = headed (w .value) (w .first) in
-      let t : getD s 0 0 ≡ 3 = sym (h .1) ∙ ap (λ (x : Layout). x .«route_type») (given-same (end .1)) ∙ three in
-      let n : getD s 1 0 ≡ length s - 2 = sym (h .2) ∙ sym (eqb-true _ _ (end .0)) in
+      let h = layout-octets family s (w .value) (w .first) in
+      let t : getD s 0 0 ≡ 3 = sym (h .2) ∙ ap (λ (x : Layout). x .«route_type») (given-same (end .1)) ∙ three in
+      let n : getD s 1 0 ≡ length s - 2 = sym (h .3) ∙ sym (eqb-true _ _ (end .0)) in
       let long = unless _ _ _ _ (sym (front-three (h .0) t n) ∙ w .first) .0 in
       (t, n, omega (arith, ltb-false, length-drop 2 s))
 
@@ -97,12 +88,12 @@ module _ (family : ℕ) (s : List ℕ) where
   unfolding single endsWith ofSPmsi
   by-number t n =
       tested (eqb (numberOf (layoutAt family s)) 0)
-      (λ yes. let r = front-done family s (eqb-true _ _ yes) in let h = headed (r .0) (r .1) in
-      sym (on-given true _ (r .0) _ _ (sym (goes _ _ (r .0) _ (r .1) (sym (pick-true _ _ _ (eq-eqb (length s - 2) (r .0 .length) (sym n ∙ sym (h .2))))))) (sym (eq-eqb _ 3 (h .1 ∙ t)))) ∙ sym yes)
+      (λ yes. let r = front-done family s (eqb-true _ _ yes) in let h = layout-octets family s (r .0) (r .1) in
+      sym (on-given true _ (r .0) _ _ (sym (goes _ _ (r .0) _ (r .1) (sym (pick-true _ _ _ (eq-eqb (length s - 2) (r .0 .length) (sym n ∙ sym (h .3))))))) (sym (eq-eqb _ 3 (h .2 ∙ t)))) ∙ sym yes)
       (λ no. sym (on-refused false _ _ _ _ (sym (stops _ _ _ (refused-of _ _ refl (eqb-false _ _ no)))) refl) ∙ sym no)
 
   -- the page's reading of a single NLRI, by the octets
-  pub s-pmsi-by-octets : ofSPmsi (single family s) ≡ sPmsiUnder family s
+  s-pmsi-by-octets : ofSPmsi (single family s) ≡ sPmsiUnder family s
   unfolding sPmsiUnder
   s-pmsi-by-octets =
       by-both _ _ _ (λ off. none-of _ (λ l e t. opposite (le-leb _ _ (opens l e t .2)) off))

@@ -5,7 +5,7 @@ use mathlib.Core.Logic.{_⊎_, inl, inr, ⊎-elim}
 use mathlib.Core.List.{List, [], _∷_}
 use Prim.Native.Nat.{ℕ, zero, suc, _+_, _-_, _/_, _≤_}
 use native.Mathlib.Omega.{arith}
-use borrow.Author.Tests.{ltb-false, eqb-true}
+use borrow.Author.Tests.{eqb-true}
 use lib.ListN.{length, getD, take, drop, length-drop}
 use lib.Seq.{drop-drop, take-all, take-nil}
 use lib.Dec.{eqb}
@@ -17,12 +17,12 @@ use Rattle.octets.proofs.Outcomes.{pick-true, pick-false}
 use Rattle.octets.proofs.Inversions.{never, opposite, unless, only, passed, given-same, either-true, both-true-right}
 use Rattle.nlri.specs.Family.{allowed, originatorSize}
 use Rattle.nlri.specs.Bodies.{Kind, distinguisher, sourceAs, source, group, originator, key, bodies, onBody, fieldIn, sameKind, codeOf}
-use Rattle.nlri.specs.Reading.{Laid, fixedField, addressEnd, addressField, originatorField, fieldSize, sizesOf, laidWith, laidAt, laidSingle, keyField, cut, fieldsOf}
+use Rattle.nlri.specs.Reading.{Laid, addressEnd, addressField, originatorField, fieldSize, sizesOf, laidWith, laidAt, laidSingle, keyField, cut, fieldsOf}
 use Rattle.nlri.specs.Layouts.{layoutOf}
 use Rattle.nlri.proofs.FieldRecords.{fields-same}
 use Rattle.nlri.specs.Inner.{withSourceAs, sourceStart, distinguisherAt, sourceAsAt, fieldsAt, Within}
 use Rattle.nlri.proofs.Fronts.{laid-within, key-within}
-use Rattle.nlri.proofs.Sizes.{address-within}
+use Rattle.nlri.proofs.Sizes.{fixed-is, address-within}
 
 -- the row of the table that gave a value, and its type
 pub choose : {A : Type 0} {C : Type 0} (b : Bool) (x y : Outcome A) (a : A) → pick b x y ≡ given a → (b ≡ true → x ≡ given a → C) → (b ≡ false → y ≡ given a → C) → C
@@ -30,7 +30,7 @@ unfolding pick
 choose true x y a e f g = f refl e
 choose false x y a e f g = g refl e
 
-pub each-row : {A : Type 0} (C : Type 0) (type n : ℕ) (next : List Kind → Outcome A) (a : A) → onBody bodies type (refused n) next ≡ given a
+each-row : {A : Type 0} (C : Type 0) (type n : ℕ) (next : List Kind → Outcome A) (a : A) → onBody bodies type (refused n) next ≡ given a
     → (type ≡ 1 → next (distinguisher ∷ originator ∷ []) ≡ given a → C)
     → (type ≡ 2 → next (distinguisher ∷ sourceAs ∷ []) ≡ given a → C)
     → (type ≡ 3 → next (distinguisher ∷ source ∷ group ∷ originator ∷ []) ≡ given a → C)
@@ -66,10 +66,6 @@ first size k body s sizes e =
 none : (size : Kind → List ℕ → Outcome ℕ) (s sizes : List ℕ) → sizesOf size [] s ≡ given sizes → (length s ≡ 0) × ([] ≡ sizes)
 unfolding sizesOf
 none size s sizes e = let p = only _ _ _ _ e in (eqb-true _ _ (p .0), given-same (p .1))
-
-fixed-is : (n m : ℕ) (s : List ℕ) → fixedField n s ≡ given m → (n ≡ m) × (n ≤ length s)
-unfolding fixedField
-fixed-is n m s e = let p = unless _ _ _ _ e in (given-same (p .1), omega (arith, ltb-false))
 
 originator-is : (s : List ℕ) (n : ℕ) → originatorField s ≡ given n → (length s ≡ n) × (n ≤ 16)
 unfolding originatorField originatorSize
@@ -118,10 +114,6 @@ address-part : (k a : ℕ) (s : List ℕ) → 1 ≤ a → drop 1 (take a (drop k
 unfolding part
 address-part k a s h = drop-take a (drop k s) h ∙ ap (take (a - 1)) (drop-drop 1 k s)
 
-no-part : (s : List ℕ) (start : ℕ) → [] ≡ part s start 0
-unfolding part
-no-part s start = refl
-
 at-part : (s : List ℕ) (start start′ size size′ : ℕ) → start ≡ start′ → size ≡ size′ → part s start size ≡ part s start′ size′
 at-part s start start′ size size′ p q = ap₂ (part s) p q
 
@@ -147,8 +139,8 @@ module _ (family n : ℕ) (s : List ℕ) (small : family / 8 ≤ 16) (enough : 2
   shaped-intra-as o h e m =
       let l₂ = length-drop 8 (drop 2 s) in
       record {
-        fields = fields-same refl refl refl (no-part s 11) (no-part s 12)
-            (ap (take o) (drop-drop 8 2 s) ∙ at-part s 10 (length s - o) o o (omega (arith, l₁)) refl) (no-part s 2);
+        fields = fields-same refl refl refl refl refl
+            (ap (take o) (drop-drop 8 2 s) ∙ at-part s 10 (length s - o) o o (omega (arith, l₁)) refl) refl;
         within = record {
           typed = omega arith;
           distinguished = λ _. omega (arith, l₁);
@@ -165,7 +157,7 @@ module _ (family n : ℕ) (s : List ℕ) (small : family / 8 ≤ 16) (enough : 2
   shaped-inter-as h h₂ =
       let l₂ = length-drop 8 (drop 2 s) in
       record {
-        fields = fields-same refl refl (ap (λ (x : List ℕ). numberIn (take 4 x) 0) (drop-drop 8 2 s)) (no-part s 15) (no-part s 16) (no-part s (length s)) (no-part s 2);
+        fields = fields-same refl refl (ap (λ (x : List ℕ). numberIn (take 4 x) 0) (drop-drop 8 2 s)) refl refl refl refl;
         within = record {
           typed = omega arith;
           distinguished = λ _. omega (arith, l₁);
@@ -183,7 +175,7 @@ module _ (family n : ℕ) (s : List ℕ) (small : family / 8 ≤ 16) (enough : 2
   shaped-leaf k o h₁ h e m =
       let l₂ = length-drop k (drop 2 s) in
       record {
-        fields = fields-same refl refl refl (no-part s 11) (no-part s 12)
+        fields = fields-same refl refl refl refl refl
             (ap (take o) (drop-drop k 2 s) ∙ at-part s (2 + k) (length s - o) o o (omega (arith, l₁)) refl) refl;
         within = record {
           typed = omega arith;
@@ -208,7 +200,7 @@ module _ (family n : ℕ) (s : List ℕ) (small : family / 8 ≤ 16) (enough : 2
               (ap (λ (x : List ℕ). drop 1 (take a x)) (drop-drop 8 2 s) ∙ address-part 10 a s ha)
               (ap (λ (x : List ℕ). drop 1 (take b x)) d ∙ address-part (10 + a) b s hb ∙ at-part s (10 + a + 1) (11 + (a - 1) + 1) (b - 1) (b - 1) (omega arith) refl)
               (ap (λ (x : List ℕ). take o (drop b x)) d ∙ ap (take o) (drop-drop b (10 + a) s) ∙ at-part s (10 + a + b) (length s - o) o o (omega (arith, l₁)) refl)
-              (no-part s 2);
+              refl;
           within = record {
             typed = omega arith;
             distinguished = λ _. omega (arith, l₁);
@@ -228,7 +220,7 @@ module _ (family n : ℕ) (s : List ℕ) (small : family / 8 ≤ 16) (enough : 2
           fields = fields-same refl refl refl
               (ap (λ (x : List ℕ). drop 1 (take a x)) (drop-drop 8 2 s) ∙ address-part 10 a s ha)
               (ap (λ (x : List ℕ). drop 1 (take b x)) d ∙ address-part (10 + a) b s hb ∙ at-part s (10 + a + 1) (11 + (a - 1) + 1) (b - 1) (b - 1) (omega arith) refl)
-              (no-part s (length s)) (no-part s 2);
+              refl refl;
           within = record {
             typed = omega arith;
             distinguished = λ _. omega (arith, l₁);
@@ -252,7 +244,7 @@ module _ (family n : ℕ) (s : List ℕ) (small : family / 8 ≤ 16) (enough : 2
               (ap (λ (x : List ℕ). numberIn (take 4 x) 0) (drop-drop 8 2 s) ∙ sym (pick-true (withSourceAs type) (numberIn (part s 10 4) 0) 0 joined))
               (ap (λ (x : List ℕ). drop 1 (take a x)) d₂ ∙ address-part 14 a s ha ∙ at-part s 15 (sourceStart type) (a - 1) (a - 1) (sym at) refl)
               (ap (λ (x : List ℕ). drop 1 (take b x)) d ∙ address-part (14 + a) b s hb ∙ at-part s (14 + a + 1) (sourceStart type + (a - 1) + 1) (b - 1) (b - 1) (omega (arith, at)) refl)
-              (no-part s (length s)) (no-part s 2);
+              refl refl;
           within = record {
             typed = low;
             distinguished = λ _. omega (arith, l₁);

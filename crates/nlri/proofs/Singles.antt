@@ -1,7 +1,6 @@
 -- A single NLRI: its layout, and its fields by its layout.
 use mathlib.Core.Path.{_≡_, sym, _∙_, ap, ap₂, subst}
 use mathlib.Core.Bool.{Bool, true, false}
-use mathlib.Core.Logic.{_⊎_, inl, inr}
 use mathlib.Core.List.{List}
 use Prim.Native.Nat.{ℕ, _+_, _/_, _≤_}
 use native.Mathlib.Omega.{arith}
@@ -24,7 +23,7 @@ use Rattle.nlri.specs.Reading.{laidSingle, fieldsOf, readNlri}
 use Rattle.nlri.specs.Layouts.{layoutOf, layoutAt, layoutSingle}
 use Rattle.nlri.specs.Answers.{nlriOf, keySpan, readAnswer}
 use Rattle.nlri.specs.Inner.{withSourceAs, sourceStart, fieldsAt, keyAt, Within, endsWith, single}
-use Rattle.nlri.proofs.Families.{family-is}
+use Rattle.nlri.proofs.Lengths.{family-octets}
 use Rattle.octets.proofs.Lists.{part-length}
 use Rattle.nlri.proofs.Shapes.{shaped}
 
@@ -38,11 +37,7 @@ unfolding layoutSingle
 single-is o afi s e = e ∙ and-cong _ _ _ (λ family q. single-laid family s)
 
 small : (afi family : ℕ) → familyBits afi ≡ given family → family / 8 ≤ 16
-small afi family e = go (family-is afi family e)
-  where
-    go : (family ≡ 32) ⊎ (family ≡ 128) → family / 8 ≤ 16
-    go (inl p) = omega arith
-    go (inr p) = omega arith
+small afi family e = omega (arith, family-octets afi family e)
 
 module _ (afi : ℕ) (s : List ℕ) where
   -- the fields are those that the layout says, and they lie within the NLRI

@@ -7,10 +7,14 @@ use borrow.Author.Tests.{leb-false, ltb-false}
 use lib.ListN.{length, getD, drop, length-drop}
 use Rattle.octets.specs.Outcome.{given}
 use Rattle.octets.proofs.Inversions.{unless, only, passed, given-same}
-use Rattle.nlri.specs.Reading.{addressEnd, addressField}
+use Rattle.nlri.specs.Reading.{fixedField, addressEnd, addressField}
 use Rattle.nlri.specs.Inner.{flowSizes, groupSize, header}
 
-pub address-end-within : (octets : ℕ) (s : List ℕ) (n : ℕ) → addressEnd octets s ≡ given n → (1 ≤ n) × (n ≤ length s)
+pub fixed-is : (n m : ℕ) (s : List ℕ) → fixedField n s ≡ given m → (n ≡ m) × (n ≤ length s)
+unfolding fixedField
+fixed-is n m s e = let p = unless _ _ _ _ e in (given-same (p .1), omega (arith, ltb-false))
+
+address-end-within : (octets : ℕ) (s : List ℕ) (n : ℕ) → addressEnd octets s ≡ given n → (1 ≤ n) × (n ≤ length s)
 unfolding addressEnd
 address-end-within octets s n e =
     let p = unless _ _ _ _ e in

@@ -14,7 +14,7 @@ use Rattle.octets.specs.Numbers.{KEY}
 use Rattle.octets.specs.Outcome.{Outcome, given, refused, onOutcome, numberOf}
 use Rattle.octets.specs.Octets.{part}
 use Rattle.octets.proofs.Lists.{part-length}
-use Rattle.octets.proofs.Tests.{picks, skips, goes, stops, on-given, on-refused}
+use Rattle.octets.proofs.Tests.{picks, skips, goes, stops}
 use Rattle.octets.proofs.Outcomes.{on-mapped}
 use Rattle.octets.proofs.Inversions.{never, unless, only, passed, given-same, on-given-given}
 use Rattle.nlri.specs.declared.layout.Layout.{Layout}
@@ -25,7 +25,6 @@ use Rattle.nlri.specs.Layouts.{layoutOf, layoutAt}
 use Rattle.nlri.specs.Inner.{headerOf, layoutWith, originatorLast, endsAt, groupSize, flowSizes, flowEnd, flowRoute, intraAs, interAs, leaf, bodyWith, unkeyedBody, anyBody, header, unkeyed, unkeyedHeader, anyFront, keySize, withSourceAs, sourceStart, sizeAt, flowLayout, leafLayout, layoutIn, FlowStands, Stands}
 use Rattle.nlri.proofs.Sizes.{address-within}
 use Rattle.nlri.proofs.Fronts.{front-is, key-is, laid-within, key-within, unkeyed-is, unkeyed-within}
-use Rattle.nlri.proofs.Via.{typed-given}
 use Rattle.nlri.proofs.Numbered.{refused-of, unkeyed-done, front-done}
 use Rattle.nlri.proofs.Shapes.{choose}
 
@@ -124,7 +123,6 @@ module _ (s : List ℕ) (within : 2 + getD s 1 0 ≤ length s) where
         let hb = address-within family type _ b (r .first) in
         let la : length (drop fixed (part s 2 (getD s 1 0))) ≡ getD s 1 0 - fixed = length-drop fixed _ ∙ ap (λ (k : ℕ). k - fixed) body-length in
         let lb : length (drop a (drop fixed (part s 2 (getD s 1 0)))) ≡ getD s 1 0 - fixed - a = length-drop a _ ∙ ap (λ (k : ℕ). k - a) la in
-        let fits : fixed + a + b ≤ getD s 1 0 = omega (arith, ha .1, hb .0, hb .1) in
         let sa : 1 + getD s at 0 / 8 ≡ a =
         ap (λ (k : ℕ). 1 + getD s k 0 / 8) start ∙ ap (λ (v : ℕ). 1 + v / 8) (sym (first-octet fixed (omega (arith, ha .0, hb .0)))) ∙ sym (address-is family type _ a (q .first)) in
         let next : at + 1 + getD s at 0 / 8 ≡ 2 + (fixed + a) = omega arith in
@@ -186,7 +184,7 @@ module _ (s : List ℕ) (within : 2 + getD s 1 0 ≤ length s) where
         as-flow 12 (other 7 1 (λ z. omega arith) seven) (other 7 2 (λ z. omega arith) seven) (other 7 4 (λ z. omega arith) seven) (ap (λ (k : ℕ). sourceStart k - 1) seven) r)
         (λ _ e₈. absurd (never e₈ refl))))))))
 
-pub stands : (family : ℕ) (s : List ℕ) (l : Layout) → layoutAt family s ≡ given l → Stands s × (l ≡ layoutIn s)
+stands : (family : ℕ) (s : List ℕ) (l : Layout) → layoutAt family s ≡ given l → Stands s × (l ≡ layoutIn s)
 unfolding anyFront header
 stands family s l e =
     let p = passed _ _ _ (front-is (anyFront family s) family s refl ∙ e) in
@@ -249,10 +247,3 @@ module _ (family : ℕ) (s : List ℕ) where
 pub key-by : (o : Outcome ℕ) (family : ℕ) (s : List ℕ) → o ≡ onOutcome (λ fault. refused KEY) (λ h. pick (ltb 3 (h .0)) (refused KEY) (given (2 + h .1))) (unkeyedHeader family s) → o ≡ keyField family s
 unfolding unkeyedHeader keySize
 key-by o family s e = key-is o family s (e ∙ on-mapped _ _ _ _)
-
-pub on-typed : {B : Type 0} (t : B) (r : Header) (o : Outcome (ℕ × ℕ)) (a b : ℕ) (bad : ℕ → B) (good : ℕ × ℕ → B) → headerOf r ≡ o → r ≡ Typed a b → t ≡ good (a, b) → t ≡ onOutcome bad good o
-on-typed t r o a b bad good p q h = on-given t o (a, b) bad good (typed-given r o a b p q) h
-
-pub on-unread : {B : Type 0} (t : B) (r : Header) (o : Outcome (ℕ × ℕ)) (n : ℕ) (bad : ℕ → B) (good : ℕ × ℕ → B) → headerOf r ≡ o → r ≡ Unread n → t ≡ bad n → t ≡ onOutcome bad good o
-unfolding headerOf
-on-unread t r o n bad good p q h = on-refused t o n bad good (sym p ∙ ap headerOf q) h

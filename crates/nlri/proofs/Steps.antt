@@ -13,36 +13,22 @@ use Rattle.octets.specs.Numbers.{DONE, SHORT, LONG, FAMILY}
 use Rattle.octets.specs.Choice.{pick}
 use Rattle.octets.specs.Outcome.{Outcome, given, refused, onOutcome, numberOf}
 use Rattle.octets.proofs.Tests.{skips, on-given, on-refused}
-use Rattle.octets.proofs.Inversions.{never, opposite, passed, given-same}
+use Rattle.octets.proofs.Inversions.{never, opposite}
 use Rattle.octets.proofs.Outcomes.{pick-true, pick-false}
 use Rattle.nlri.specs.declared.layout.Layout.{Layout}
 use Rattle.nlri.specs.declared.run.Cursor.{Cursor}
 use Rattle.nlri.specs.declared.run.Step.{Step}
 use Rattle.nlri.specs.declared.run.Step.the-variants.{Nlri, End, Refused}
 use Rattle.nlri.specs.Family.{familyBits}
-use Rattle.nlri.specs.Reading.{keyField, laidAt}
-use Rattle.nlri.specs.Layouts.{layoutOf, layoutAt}
+use Rattle.nlri.specs.Layouts.{layoutAt}
 use Rattle.nlri.specs.Walking.{Stepped, readTo, stoppedAt, stepUnder, stepFrom, steppedOf, walkFrom, walkOf}
 use Rattle.nlri.specs.Inner.{layoutIn, Stands}
-use Rattle.nlri.proofs.Fronts.{laid-within}
+use Rattle.nlri.proofs.Fronts.{layout-octets}
 use Rattle.nlri.proofs.Standing.{laid-in}
 
-pub layout-within : (family : ℕ) (s : List ℕ) (l : Layout) → layoutAt family s ≡ given l → 2 + l .length ≤ length s
-unfolding layoutAt laidAt layoutOf
-layout-within family s l e =
-    let w = passed _ _ _ e in
-    let same = given-same (w .second) in
-    let n : w .value .size ≡ l .length = ap (λ (x : Layout). x .length) same in
-    let h = laid-within (keyField family) family s (w .value) (w .first) in
-    omega arith
-
--- its Length is the NLRI's second octet
+-- the Length of an NLRI is its second octet
 layout-length : (family : ℕ) (run : List ℕ) (at : ℕ) (l : Layout) → layoutAt family (drop at run) ≡ given l → l .length ≡ getD run (at + 1) 0
-unfolding layoutAt laidAt layoutOf
-layout-length family run at l e =
-    let w = passed _ _ _ e in
-    let n : w .value .size ≡ l .length = ap (λ (x : Layout). x .length) (given-same (w .second)) in
-    sym n ∙ laid-within (keyField family) family (drop at run) (w .value) (w .first) .3 ∙ getD-drop at run 1 0
+layout-length family run at l e = layout-octets family (drop at run) l e .3 ∙ getD-drop at run 1 0
 
 -- a step's number
 pub step-picks : (n : ℕ) (x y : Stepped) (b : Bool) → b ≡ true → n ≡ x .number → n ≡ pick b x y .number
@@ -171,7 +157,7 @@ step-moves afi run at l c e =
     let end = unless-stopped _ _ _ _ _ _ (long .1) in
     let past = unless-stopped _ _ _ _ _ _ (end .1) in
     let r = read-by _ _ _ _ _ (past .1) in
-    let h = layout-within (f .value) (drop at run) (r .value) (r .first) in
+    let h = layout-octets (f .value) (drop at run) (r .value) (r .first) .1 in
     let n : at + (2 + r .value .length) ≡ c = ap (λ (s : Stepped). s .cursor) (r .second) in
     let d = length-drop at run in
     (omega arith, omega (arith, ltb-false), omega (arith, ltb-false))

@@ -139,7 +139,7 @@ pub unlisted : (type : ℕ) → ((1 ≤ type) × (type ≤ 7) → ⊥) → liste
 unlisted type h = is-false _ (λ l. let row = rowOf type l in h (row .low, row .high))
 
 -- kinds by their codes
-pub same-self : (k : Kind) → sameKind k k ≡ true
+same-self : (k : Kind) → sameKind k k ≡ true
 unfolding sameKind
 same-self k = eq-eqb (codeOf k) (codeOf k) refl
 

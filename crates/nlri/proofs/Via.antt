@@ -67,6 +67,13 @@ on-size t r o n bad good p q h = on-given t o n bad good (size-given r o n p q) 
 pub on-fault : {B : Type 0} (t : B) (r : Part) (o : Outcome ℕ) (n : ℕ) (bad : ℕ → B) (good : ℕ → B) → partOf r ≡ o → r ≡ Fault n → t ≡ bad n → t ≡ onOutcome bad good o
 on-fault t r o n bad good p q h = on-refused t o n bad good (fault-given r o n p q) h
 
+pub on-typed : {B : Type 0} (t : B) (r : Header) (o : Outcome (ℕ × ℕ)) (a b : ℕ) (bad : ℕ → B) (good : ℕ × ℕ → B) → headerOf r ≡ o → r ≡ Typed a b → t ≡ good (a, b) → t ≡ onOutcome bad good o
+on-typed t r o a b bad good p q h = on-given t o (a, b) bad good (typed-given r o a b p q) h
+
+pub on-unread : {B : Type 0} (t : B) (r : Header) (o : Outcome (ℕ × ℕ)) (n : ℕ) (bad : ℕ → B) (good : ℕ × ℕ → B) → headerOf r ≡ o → r ≡ Unread n → t ≡ bad n → t ≡ onOutcome bad good o
+unfolding headerOf
+on-unread t r o n bad good p q h = on-refused t o n bad good (sym p ∙ ap headerOf q) h
+
 pub group-is : (g : Group) (o p : Outcome ℕ) → g ≡ groupOf o → o ≡ p → g ≡ groupOf p
 group-is g o p e q = e ∙ ap groupOf q
 

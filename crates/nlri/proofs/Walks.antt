@@ -117,7 +117,6 @@ module _ (afi : ℕ) (run : List ℕ) where
       (λ s.
       let cursor : stepFrom afi run at .cursor ≡ at + (2 + s .layout .length) = ap (λ (x : Stepped). x .cursor) (s .is) in
       let layout : stepFrom afi run at .layout ≡ s .layout = ap (λ (x : Stepped). x .layout) (s .is) in
-      let fits : at + (2 + s .layout .length) ≤ length run = s .fits in
       (cursor ∙ ap (λ (l : Layout). at + (2 + l .length)) (sym layout), omega arith, omega arith))
       (λ s. absurd (opposite r (ap (λ (x : Stepped). x .read) (s .is))))
       (step afi run at)

@@ -34,7 +34,7 @@ cut-body f [] t = refl
 cut-body f (k ∷ body) t =
     rw (append-assoc (encodeField f k) (encodeBody f body) t, take-append-seam (encodeField f k) (encodeBody f body ++ t), drop-append-seam (encodeField f k) (encodeBody f body ++ t), cut-body f body t)
 
-pub cut-length : (sizes s : List ℕ) → length (cut sizes s) ≡ length sizes
+cut-length : (sizes s : List ℕ) → length (cut sizes s) ≡ length sizes
 unfolding cut
 cut-length [] s = refl
 cut-length (n ∷ sizes) s = ap suc (cut-length sizes (drop n s))

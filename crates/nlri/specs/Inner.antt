@@ -1,4 +1,4 @@
--- Definitions that mirror the inner functions, one for each; laws tie them to the page's definitions in `Reading`.
+-- Definitions that the inner functions of reading cite, and those that lead from them to the page's in `Reading`; laws tie them together.
 use Prim.Native.Nat.{ℕ, _+_, _-_, _/_, _≤_, _<_}
 use mathlib.Core.Path.{_≡_}
 use mathlib.Core.Bool.{Bool, true, false}

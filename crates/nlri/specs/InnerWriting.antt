@@ -59,12 +59,12 @@ sizeOf nlri key =
     2 + fixedSize (nlri .«route_type») key + flowSize (nlri .«route_type») (nlri .source .size) (nlri .group .size)
     + originatorLength (nlri .«route_type») (nlri .originator .size)
 
--- what stands there
-unfoldable pub numberOctets : Nlri → List ℕ
-numberOctets nlri = pick (withSourceAs (nlri .«route_type»)) (bigEndian 4 (nlri .«source_as»)) []
+-- the octets of a source AS, of the fields of a body and of the whole NLRI; none where the type lacks the field
+unfoldable pub sourceAsOctets : Nlri → List ℕ
+sourceAsOctets nlri = pick (withSourceAs (nlri .«route_type»)) (bigEndian 4 (nlri .«source_as»)) []
 
 unfoldable pub fixedOctets : Nlri → List ℕ → List ℕ
-fixedOctets nlri key = pick (eqb (nlri .«route_type») 4) key (nlri .distinguisher .octets ++ numberOctets nlri)
+fixedOctets nlri key = pick (eqb (nlri .«route_type») 4) key (nlri .distinguisher .octets ++ sourceAsOctets nlri)
 
 unfoldable pub flowOctets : Nlri → List ℕ
 flowOctets nlri = pick (hasFlow (nlri .«route_type»)) (encodeAddress (octetsOf (nlri .source)) ++ encodeAddress (octetsOf (nlri .group))) []

@@ -1,4 +1,4 @@
--- MCAST-VPN NLRI: definitions in document 01's order, then what the calls answer, then what mirrors inner functions.
+-- MCAST-VPN NLRI: definitions in document 01's order, then what the calls answer, then what inner functions cite, then the statements of the theorems.
 pub mod Family
 pub mod Bodies
 pub mod Fields

@@ -18,7 +18,7 @@ pub enum Reading {
     Refused(u32),
 }
 
-// A size in octets, or the refusal's number.
+// A size, of a key in octets or of the family's addresses in bits, or the refusal's number.
 pub(crate) enum Part {
     Size(usize),
     Fault(u32),

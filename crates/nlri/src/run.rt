@@ -26,6 +26,7 @@ pub enum Step {
     Refused(u32, Cursor),
 }
 
+// What a walk answers: the number and the offset of its stop, and the count of NLRIs before it.
 #[repr(C)]
 pub struct Walked {
     pub number: u32,
@@ -80,8 +81,7 @@ fn step_under(family: usize, run: &[u8], at: usize) -> Step
     )
 }
 
-// The count read up to the first stop, its offset and its number. Each turn goes by the step's number and the Length octet, so
-// that no layout is made.
+// Walks a run to the first stop. Each turn goes by the step's number and the Length octet, so that no layout is made.
 pub fn walk(afi: u16, run: &[u8]) -> Walked
     ensures { λ r. ⌜ r ≡ walkOf afi (now (run .entry)) ⌝ }
 {

@@ -10,7 +10,7 @@ ghost use Rattle.octets.specs.Outputs.{writtenOf, outputOf};
 ghost use Rattle.nlri.specs.Fields.{encodeAddress};
 ghost use Rattle.nlri.specs.Writing.{isKey, writeNlri};
 ghost use Rattle.nlri.specs.Answers.{octetsOf, fieldsIn};
-ghost use Rattle.nlri.specs.InnerWriting.{hasFlow, hasOriginator, flowFits, originatorFits, leafFits, judged, fixedSize, flowSize, originatorLength, sizeOf, numberOctets, fixedOctets, flowOctets, originatorOctets, bodyOctets, allOctets, AddressSize, Sized, Putting, writeUnder};
+ghost use Rattle.nlri.specs.InnerWriting.{hasFlow, hasOriginator, flowFits, originatorFits, leafFits, judged, fixedSize, flowSize, originatorLength, sizeOf, sourceAsOctets, fixedOctets, flowOctets, originatorOctets, bodyOctets, allOctets, AddressSize, Sized, Putting, writeUnder};
 use crate::address::Address;
 use crate::address::AddressKind;
 use crate::address::RouteDistinguisher;
@@ -84,7 +84,7 @@ fn key_fits(family: usize, route_type: usize, key: &[u8]) -> bool
     true
 }
 
-// Type and Length are tested first, so that the judge of a front, whatever its type, decides.
+// Where type and Length are those of a single NLRI of type 1, 2 or 3, the judge of any NLRI at the front decides.
 fn is_key(family: usize, key: &[u8]) -> bool
     ensures { λ r. ⌜ r ≡ isKey family (now (key .entry)) ⌝ }
 {
@@ -212,8 +212,8 @@ fn put_header(route_type: u8, size: u8, output: &mut [u8]) -> usize
 
 // A source AS behind the route distinguisher, where the type has one.
 fn put_source_as(nlri: Nlri, output: &mut [u8], at: usize) -> usize
-    requires { ⌜ at + length (numberOctets nlri) ≤ length (now output) ⌝ }
-    ensures { λ r. ⌜ (r ≡ at + length (numberOctets nlri)) × (now (output .exit) ≡ placed at (numberOctets nlri) (now (output .entry))) ⌝ }
+    requires { ⌜ at + length (sourceAsOctets nlri) ≤ length (now output) ⌝ }
+    ensures { λ r. ⌜ (r ≡ at + length (sourceAsOctets nlri)) × (now (output .exit) ≡ placed at (sourceAsOctets nlri) (now (output .entry))) ⌝ }
 {
     if fields::has_source_as(nlri.route_type as usize) {
         return octets::wide::place_four(nlri.source_as, output, at);

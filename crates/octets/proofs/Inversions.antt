@@ -1,4 +1,4 @@
--- What an outcome tells of the tests that led to it.
+-- What a value given tells of the tests and steps that led to it.
 use mathlib.Core.Path.{_≡_, refl, sym}
 use mathlib.Core.Bool.{Bool, true, false}
 use mathlib.Core.Logic.{_⊎_, inl, inr}

@@ -7,6 +7,7 @@ use native.Mathlib.Omega.{arith}
 use lib.ListN.{length, getD, take, drop, replicate, length-append, length-take, length-drop, length-replicate, replicate-append-replicate, take-append-drop, drop-of-length-le}
 use lib.Seq.{take-all, take-at, drop-at, drop-drop, length-take-le, take-append-le, take-length, take-append-add, take-add, take-take, take-append-seam}
 use Rattle.octets.specs.Octets.{part, placed, front, sized}
+use Rattle.octets.specs.Order.{zeros}
 
 -- what a slice hands on: its part from `start` on, all of it from `at` on, and all of it
 pub lent-part : (start size : ℕ) (s : List ℕ) → take (start + size - start) (drop start s) ≡ part s start size
@@ -83,9 +84,6 @@ sized-length n xs = length-take-le n (xs ++ replicate n 0) (simp (length-append,
 pub sized-taken : (n : ℕ) (xs : List ℕ) → n ≤ length xs → sized n xs ≡ take n xs
 unfolding sized
 sized-taken n xs h = take-append-le n xs (replicate n 0) h
-
-zeros : ℕ → List ℕ
-zeros n = replicate n 0
 
 -- zeros with xs copied over their front
 pub copied-sized : (n : ℕ) (xs : List ℕ) → length xs ≤ n → take (length xs) xs ++ drop (length xs) (replicate n 0) ≡ sized n xs

@@ -1,12 +1,12 @@
--- Numbers in network order: reading undoes writing, and writing undoes reading, at every width.
+-- Numbers in network order: reading undoes writing, and writing undoes reading, at every width; the number in a part, by its parts.
 use Prim.Native.Nat.{ℕ, zero, suc, _+_, _*_, _/_, _%_, _^_, _≤_, _<_}
 use mathlib.Core.Path.{_≡_, refl, sym, ap, _∙_}
 use mathlib.Core.List.{List, [], _∷_, _++_, append-assoc, append-nil}
 use native.Mathlib.Nat.{mod-lt, div-add-mod', div-lt-iff-lt-mul, pow-suc, mul-add-div-right, mul-add-mod-self-right, mod-eq-of-lt, div-eq-of-lt, add-zero, zero-add}
 use native.Mathlib.Omega.{arith}
 use lib.ListN.{length, take, drop, getD, length-append, length-drop}
-use lib.Seq.{take-suc, getD-drop, length-take-le}
-use Rattle.octets.proofs.AllOctets.{octets-take, octets-drop, number-fits, octets-append}
+use lib.Seq.{take-suc, getD-drop}
+use Rattle.octets.proofs.AllOctets.{octets-part, octets-append, number-fits}
 use Rattle.octets.proofs.Lists.{placed-then, part-length, part-then}
 use Rattle.octets.specs.Octets.{AllOctets, none, one, part, placed, numberIn, bigEndian}
 
@@ -84,17 +84,11 @@ placed-last at next n x d y z h k p q =
 
 -- the number in a part, and the part of a number
 pub part-number : {s : List ℕ} → AllOctets s → (at n : ℕ) → at + n ≤ length s → bigEndian n (numberIn (part s at n) 0) ≡ part s at n
-unfolding part
-part-number {s} a at n h =
-    let l : length (take n (drop at s)) ≡ n = length-take-le n (drop at s) (simp length-drop (omega arith)) in
-    rw l at (big-endian-of-number (octets-take n (octets-drop at a)))
+part-number {s} a at n h = rw (part-length s at n h) at (big-endian-of-number (octets-part at n a))
 
 -- parts of the same number are the same
 pub same-number : {a b : List ℕ} → AllOctets a → AllOctets b → (at n : ℕ) → at + n ≤ length a → at + n ≤ length b → numberIn (part a at n) 0 ≡ numberIn (part b at n) 0 → part a at n ≡ part b at n
 same-number p q at n h k e = sym (part-number p at n h) ∙ ap (bigEndian n) e ∙ part-number q at n k
 
 pub part-fits : {s : List ℕ} → AllOctets s → (at n : ℕ) → at + n ≤ length s → numberIn (part s at n) 0 < 256 ^ n
-unfolding part
-part-fits {s} a at n h =
-    let l : length (take n (drop at s)) ≡ n = length-take-le n (drop at s) (simp length-drop (omega arith)) in
-    rw l at (number-fits (octets-take n (octets-drop at a)))
+part-fits {s} a at n h = rw (part-length s at n h) at (number-fits (octets-part at n a))

@@ -77,14 +77,15 @@ before-other (x ∷ xs) (y ∷ ys) d h =
     below : (a b : ℕ) → (a ≡ b → ⊥) → b ≤ a → b < a
     below a b n l = omega arith
 
+none-after : (xs : List ℕ) → before xs [] ≡ false
+unfolding before
+none-after [] = refl
+none-after (x ∷ xs) = refl
+
 pub before-then : (xs ys zs : List ℕ) → before xs ys ≡ true → before ys zs ≡ true → before xs zs ≡ true
 unfolding before
-before-then xs [] zs h k = absurd (ends xs h)
-  where
-    ends : (xs : List ℕ) → before xs [] ≡ true → ⊥
-    ends [] e = opposite {b = false} (e) refl
-    ends (x ∷ xs) e = opposite {b = false} (e) refl
-before-then xs (y ∷ ys) [] h k = absurd (opposite {b = false} k refl)
+before-then xs [] zs h k = absurd (opposite h (none-after xs))
+before-then xs (y ∷ ys) [] h k = absurd (opposite k (none-after (y ∷ ys)))
 before-then [] (y ∷ ys) (z ∷ zs) h k = refl
 before-then (x ∷ xs) (y ∷ ys) (z ∷ zs) h k =
     tested (eqb x y)
@@ -118,11 +119,6 @@ pub before-none : (xs : List ℕ) → 0 < length xs → before [] xs ≡ true
 unfolding before
 before-none [] h = absurd (omega arith)
 before-none (x ∷ xs) h = refl
-
-none-after : (xs : List ℕ) → before xs [] ≡ false
-unfolding before
-none-after [] = refl
-none-after (x ∷ xs) = refl
 
 pub zeros-all : (n : ℕ) → allZero (zeros n) ≡ true
 unfolding zeros allZero both
@@ -303,7 +299,7 @@ both-then-true true = refl
 both-then-true false = refl
 
 -- octets put together by `bitOr` are zero where each is
-pub or-zero : (x y : ℕ) → eqb (bitOr x y) 0 ≡ both (eqb x 0) (eqb y 0)
+or-zero : (x y : ℕ) → eqb (bitOr x y) 0 ≡ both (eqb x 0) (eqb y 0)
 or-zero x y =
     tested (eqb (bitOr x y) 0)
     (λ t.

@@ -2,6 +2,7 @@
 use Prim.Native.Nat.{ℕ}
 use mathlib.Core.Path.{_≡_, refl, sym}
 use mathlib.Core.Bool.{Bool, true, false}
+use Rattle.octets.specs.Numbers.{DONE}
 use Rattle.octets.specs.Choice.{pick, both}
 use Rattle.octets.specs.Outcome.{given, refused}
 
@@ -26,6 +27,13 @@ unfolding both
 both-held true b h = (refl, h)
 both-held false b h = (h, cc)
 
+-- a number chosen is DONE: the test before another number failed, and what follows is DONE
+pub pick-done : (b : Bool) (m n : ℕ) → (m ≡ DONE → ⊥) → pick b m n ≡ DONE → (b ≡ false) × (n ≡ DONE)
+unfolding pick
+pick-done true m n d e = absurd (d e)
+pick-done false m n d e = (refl, e)
+
+-- a value chosen, else a refusal
 pub was-given : {A : Type 0} (b : Bool) (a a′ : A) (n : ℕ) → pick b (given a) (refused n) ≡ given a′ → (b ≡ true) × (a ≡ a′)
 unfolding pick
 was-given true a a′ n h = (refl, cc)

@@ -1,4 +1,4 @@
--- Definitions that both codecs use: the numbers, choices by a test, outcomes, lists of octets, and what writers leave.
+-- Definitions that the crates above share: the numbers, choices by a test, outcomes, lists of octets, what writers leave, and the order of octets.
 pub mod Numbers
 pub mod Choice
 pub mod Outcome

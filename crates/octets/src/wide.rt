@@ -31,7 +31,7 @@ pub fn four(s: &[u8], at: usize) -> u32
     three(s, at) * 256 + s[at + 3] as u32
 }
 
-// The number in eight octets from `at` on: one load.
+// The number in eight octets from `at` on.
 pub fn eight(s: &[u8], at: usize) -> u64
     requires { ⌜ at + 8 ≤ length (now s) ⌝ }
     ensures { λ r. ⌜ r ≡ numberIn (part (now (s .entry)) at 8) 0 ⌝ }
@@ -55,7 +55,7 @@ pub fn four_low_first(s: &[u8], at: usize) -> u32
     two_low_first(s, at) + two_low_first(s, at + 2) * 65536
 }
 
-// The number in eight octets from `at` on, the least significant first.
+// The number in eight octets from `at` on, the least significant first: one load.
 pub fn eight_low_first(s: &[u8], at: usize) -> u64
     requires { ⌜ at + 8 ≤ length (now s) ⌝ }
     ensures { λ r. ⌜ r ≡ lowFirst (part (now (s .entry)) at 8) ⌝ }

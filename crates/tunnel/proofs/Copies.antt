@@ -5,9 +5,9 @@ use mathlib.Core.List.{List, [], _∷_, _++_, append-assoc}
 use native.Mathlib.Nat.{zero-add}
 use native.Mathlib.Omega.{arith}
 use lib.ListN.{length, getD, take, drop, length-append}
-use lib.Seq.{drop-cons, drop-drop, take-add, length-take-le, take-all, take-at, drop-at}
+use lib.Seq.{drop-cons, drop-drop, length-take-le, take-all, take-at, drop-at}
 use Rattle.octets.specs.Octets.{part, placed}
-use Rattle.octets.proofs.Lists.{placed-placed, placed-then, placed-length, part-length}
+use Rattle.octets.proofs.Lists.{placed-placed, placed-then, placed-length, part-length, part-then}
 
 -- a part by its first octet and the rest
 part-cons : (s : List ℕ) (at next n : ℕ) → next ≡ at + 1 → at < length s → part s at (suc n) ≡ getD s at 0 ∷ part s next n
@@ -44,25 +44,16 @@ eight-octets s k h =
       part-none s (k + 8),
     )
 
--- two parts, one straight after the other
-part-part : (s : List ℕ) (k m n : ℕ) → part s k m ++ part s (k + m) n ≡ part s k (m + n)
-unfolding part
-part-part s k m n = ap (λ (l : List ℕ). take m (drop k s) ++ take n l) (sym (drop-drop m k s)) ∙ sym (take-add m n (drop k s))
-
-start-part : (s : List ℕ) (n : ℕ) → part s 0 n ≡ take n s
-unfolding part
-start-part s n = refl
-
 -- two blocks of one size, one straight after the other, as two calls leave them
 pub two-blocks : (s d y z : List ℕ) (k at m : ℕ) → k + (m + m) ≤ length s → at + (m + m) ≤ length d → y ≡ placed at (part s k m) d → z ≡ placed (at + m) (part s (k + m) m) y
     → z ≡ placed at (part s k (m + m)) d
 two-blocks s d y z k at m h r p q =
     let l : length (part s k m) ≡ m = part-length s k m (omega arith) in
     let l′ : length (part s (k + m) m) ≡ m = part-length s (k + m) m (omega arith) in
-    placed-then at (at + m) (part s k m) (part s (k + m) m) d y z (omega arith) (ap (λ (n : ℕ). at + n) (sym l)) p q ∙ ap (λ (e : List ℕ). placed at e d) (part-part s k m m)
+    placed-then at (at + m) (part s k m) (part s (k + m) m) d y z (omega arith) (ap (λ (n : ℕ). at + n) (sym l)) p q ∙ ap (λ (e : List ℕ). placed at e d) (sym (part-then s k m m))
 
 -- what is written over is gone
-pub placed-over : (at : ℕ) (e f d : List ℕ) → length e ≤ length f → at + length f ≤ length d → placed at f (placed at e d) ≡ placed at f d
+placed-over : (at : ℕ) (e f d : List ℕ) → length e ≤ length f → at + length f ≤ length d → placed at f (placed at e d) ≡ placed at f d
 unfolding placed
 placed-over at e f d l h =
     let p = take at d in
@@ -80,6 +71,10 @@ placed-over at e f d l h =
     sum : (at m n : ℕ) → m ≤ n → at + n ≡ at + m + (n - m)
     sum at m n l = omega arith
 
+whole-part : (s : List ℕ) (n : ℕ) → length s ≤ n → part s 0 n ≡ s
+unfolding part
+whole-part s n l = take-all n s l
+
 -- the first octets and the last ones, as two calls leave them
 pub both-ends : (s d y z : List ℕ) (at m : ℕ) → m ≤ length s → length s ≤ m + m → at + length s ≤ length d → y ≡ placed at (part s 0 m) d → z ≡ placed (at + (length s - m)) (part s (length s - m) m) y
     → z ≡ placed at s d
@@ -91,8 +86,8 @@ both-ends s d y z at m h l r p q =
     let le : length e ≡ j = part-length s 0 j (omega arith) in
     let lg : length g ≡ m - j = part-length s (0 + j) (m - j) (omega arith) in
     let lf : length f ≡ m = part-length s (0 + j) m (omega arith) in
-    let first : part s 0 m ≡ e ++ g = ap (part s 0) (sum j m (omega arith)) ∙ sym (part-part s 0 j (m - j)) in
-    let last : e ++ f ≡ s = part-part s 0 j m ∙ whole-part s (j + m) (omega arith) in
+    let first : part s 0 m ≡ e ++ g = ap (part s 0) (sum j m (omega arith)) ∙ part-then s 0 j (m - j) in
+    let last : e ++ f ≡ s = sym (part-then s 0 j m) ∙ whole-part s (j + m) (omega arith) in
     let x : List ℕ = placed at e d in
     let lx : length x ≡ length d = placed-length at e d (omega arith) in
     let y′ : y ≡ placed (at + length e) g x = p ∙ ap (λ (a : List ℕ). placed at a d) first ∙ sym (placed-placed at e g d (omega arith)) in
@@ -103,6 +98,3 @@ both-ends s d y z at m h l r p q =
   where
     sum : (j m : ℕ) → j ≤ m → m ≡ j + (m - j)
     sum j m l = omega arith
-
-    whole-part : (s : List ℕ) (n : ℕ) → length s ≤ n → part s 0 n ≡ s
-    whole-part s n l = start-part s n ∙ take-all n s l

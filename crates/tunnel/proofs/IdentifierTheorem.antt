@@ -12,8 +12,10 @@ use Rattle.octets.specs.Numbers.{TUNNEL, IDENT}
 use Rattle.octets.specs.Outcome.{Outcome, given, refused, andThen}
 use Rattle.octets.specs.Octets.{AllOctets}
 use Rattle.octets.proofs.Tests.{both-true, either-left}
-use Rattle.octets.proofs.Picked.{tested, both-held}
+use Rattle.octets.proofs.Picked.{tested}
 use Rattle.octets.proofs.Outcomes.{pick-true, pick-false}
+use Rattle.octets.proofs.Inversions.{opposite, both-true-left, both-true-right}
+use Rattle.octets.proofs.Refusals.{either-second}
 use Rattle.tunnel.specs.Fec.{encodeFec, wholeFec, fecIn}
 use Rattle.tunnel.specs.Identifier.{IdentifierForm, sizes, fecTypes, TableRow, table, formIn, formOf, Among, here, there, IsIdentifier, ofSize, ofFec, OfType, oneOf, fits, judged}
 use Rattle.tunnel.specs.Statements.{Unknown}
@@ -22,36 +24,30 @@ use Rattle.tunnel.proofs.FecTheorem.{fec-whole, encoded-whole, encoding
 -- one of a list, computed
 one-of : (n : ℕ) (ns : List ℕ) → oneOf n ns ≡ true → Among n ns
 unfolding oneOf either
-one-of n [] h = absurd (let z : _≡_ {A = ℕ} 0 1 = cc in omega arith)
+one-of n [] h = absurd (opposite h refl)
 one-of n (m ∷ ms) h =
     tested (eqb n m)
     (λ p. subst (λ (k : ℕ). Among n (k ∷ ms)) (eqb-true n m p) here)
     (λ p. there (one-of n ms (rw p at h)))
 
-either-always : (a b : Bool) → b ≡ true → either a b ≡ true
-unfolding either
-either-always true b h = refl
-either-always false b h = h
-
 one-of-computed : {n : ℕ} {ns : List ℕ} → Among n ns → oneOf n ns ≡ true
 unfolding oneOf
 one-of-computed {n} (here {ns}) = either-left (eqb n n) (oneOf n ns) (eq-eqb n n refl)
-one-of-computed {n} (there {m} {ns} o) = either-always (eqb n m) (oneOf n ns) (one-of-computed o)
+one-of-computed {n} (there {m} {ns} o) = either-second (eqb n m) (oneOf n ns) (one-of-computed o)
 
 -- the number of a refusal is one of a list's
 pub refused-among : {A : Type 0} {ns : List ℕ} (m n : ℕ) → _≡_ {A = Outcome A} (refused m) (refused n) → Among m ns → Among n ns
 refused-among {A} {ns} m n e o = let q : m ≡ n = cc in subst (λ (k : ℕ). Among k ns) q o
 
 -- an identifier of a form, computed
-pub identifier-of : (form : IdentifierForm) (i : List ℕ) → AllOctets i → fits form i ≡ true → IsIdentifier form i
+identifier-of : (form : IdentifierForm) (i : List ℕ) → AllOctets i → fits form i ≡ true → IsIdentifier form i
 unfolding fits fecIn
 identifier-of (sizes ns) i a h = ofSize (one-of (length i) ns h)
 identifier-of (fecTypes ns) i a h =
-    let p = both-held (wholeFec i) (oneOf (getD i 0 0) ns) h in
-    let q = fec-whole i a (p .0) in
-    subst (λ (l : List ℕ). IsIdentifier (fecTypes ns) l) (sym (q .1)) (ofFec (q .0) (one-of (getD i 0 0) ns (p .1)))
+    let q = fec-whole i a (both-true-left (wholeFec i) (oneOf (getD i 0 0) ns) h) in
+    subst (λ (l : List ℕ). IsIdentifier (fecTypes ns) l) (sym (q .1)) (ofFec (q .0) (one-of (getD i 0 0) ns (both-true-right (wholeFec i) (oneOf (getD i 0 0) ns) h)))
 
-pub identifier-computed : {form : IdentifierForm} {i : List ℕ} → IsIdentifier form i → fits form i ≡ true
+identifier-computed : {form : IdentifierForm} {i : List ℕ} → IsIdentifier form i → fits form i ≡ true
 unfolding fits
 identifier-computed (ofSize o) = one-of-computed o
 identifier-computed (ofFec {ns} {f} w o) =
@@ -109,8 +105,7 @@ pub not-of-type : {t : ℕ} {i : List ℕ} (form : IdentifierForm) → formOf t 
 not-of-type {t} {i} form e h o =
     let s : o .form ≡ form = cc (o .inTable) in
     let p : fits form i ≡ true = rw s at (identifier-computed (o .ofForm)) in
-    let z : _≡_ {A = ℕ} 0 1 = cc in
-    omega arith
+    opposite p h
 
 -- a type without a row
 HasNone : List TableRow → ℕ → Type 0

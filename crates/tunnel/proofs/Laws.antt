@@ -13,10 +13,10 @@ use Rattle.octets.specs.Choice.{pick, both, either}
 use Rattle.octets.specs.Numbers.{DONE, SHORT, LONG, TUNNEL, IDENT, LABEL, SPACE}
 use Rattle.octets.specs.Outcome.{Outcome, given, refused, andThen, onOutcome, numberOf}
 use Rattle.octets.specs.Octets.{part, numberIn, front}
-use Rattle.octets.proofs.Tests.{tests}
-use Rattle.octets.proofs.Picked.{tested, pick-passed, pick-held, both-held, was-given}
+use Rattle.octets.proofs.Picked.{tested, pick-passed, pick-held, pick-done, was-given}
+use Rattle.octets.proofs.Inversions.{both-true-left}
 use Rattle.octets.proofs.Outcomes.{pick-false}
-use Rattle.octets.proofs.Refusals.{picked}
+use Rattle.octets.proofs.Refusals.{picked, either-false-left, either-false-right}
 use Rattle.octets.proofs.NetworkOrder.{big-endian-length, number-part}
 use Rattle.octets.specs.declared.Written.{Written}
 use Rattle.tunnel.specs.declared.fec.Fec.{Fec}
@@ -28,12 +28,6 @@ use Rattle.tunnel.specs.Answers.{fecSpans, noFec, fecOfForm, fecOf, attr
 use Rattle.octets.specs.Outputs.{writtenOf, outputOf}
 use Rattle.tunnel.specs.Inner.{unknown, mldp, typeSuits, formFault, faultIn, faultOf, TakesSizes, readFault, writeFault, endsFrom}
 use Rattle.tunnel.proofs.ByNumber.{byNumber, when-done, when-not-done, number-is, number-picked, number-then, number-kept}
-
--- a test that a call made, in the definition's words
-pub told : (r t v : Bool) → r ≡ t → r ≡ v → t ≡ v
-told r t v p q = sym p ∙ q
-
-pub ruleset calls = (tests, told)
 
 -- judging a FEC, by the tests that the code makes
 same-under : (a b c d : ℕ) → (a < b → c < d) → (c < d → a < b) → ltb a b ≡ ltb c d
@@ -139,8 +133,8 @@ fec-long i h = let t = fec-tested i h in omega (arith, length-drop 4 i)
 pub root-length : (i : List ℕ) → wholeFec i ≡ true → length (take (getD i 3 0) (drop 4 i)) ≡ getD i 3 0
 root-length i h = let t = fec-tested i h in length-take-le (getD i 3 0) (drop 4 i) (omega arith)
 
-pub opaque-length : (i : List ℕ) → wholeFec i ≡ true → length (drop (getD i 3 0 + 2) (drop 4 i)) ≡ length i - 6 - getD i 3 0
-opaque-length i h = let t = fec-tested i h in simp length-drop (omega (arith, length-drop 4 i))
+opaque-length : (i : List ℕ) → length (drop (getD i 3 0 + 2) (drop 4 i)) ≡ length i - 6 - getD i 3 0
+opaque-length i = simp length-drop (omega (arith, length-drop 4 i))
 
 -- the number of an identifier's first fault is what judging it comes to
 judgedBy : IdentifierForm → List ℕ → Outcome (List ℕ)
@@ -176,11 +170,11 @@ unfolding formOf formIn table pick
 mp2mp-row t e = rw e
 
 -- where a row's form is a FEC, an identifier without a fault is one
-pub fec-without-fault : (t : ℕ) (i ns : List ℕ) → formOf t ≡ given (fecTypes ns) → faultOf t i ≡ 0 → wholeFec i ≡ true
+fec-without-fault : (t : ℕ) (i ns : List ℕ) → formOf t ≡ given (fecTypes ns) → faultOf t i ≡ 0 → wholeFec i ≡ true
 unfolding judged andThen fits
 fec-without-fault t i ns e h =
     let j : pick (fits (fecTypes ns) i) (given i) (refused IDENT) ≡ given i = rw e at (judged-by-number t i ∙ when-done (faultOf t i) i h) in
-    both-held (wholeFec i) (oneOf (getD i 0 0) ns) (was-given (fits (fecTypes ns) i) i i IDENT j .0) .0
+    both-true-left (wholeFec i) (oneOf (getD i 0 0) ns) (was-given (fits (fecTypes ns) i) i i IDENT j .0)
 
 -- a tunnel type that the table lacks
 pub unknown-fault : (t : ℕ) (i : List ℕ) → unknown t ≡ true → TUNNEL ≡ faultOf t i
@@ -235,19 +229,13 @@ over-two t a b c = omega arith
 last-pim : (t : ℕ) → 2 < t → t ≤ 7 → (t ≡ 3 → ⊥) → (t ≡ 4 → ⊥) → (t ≡ 6 → ⊥) → (t ≡ 7 → ⊥) → t ≡ 5
 last-pim t l h d e f g = omega arith
 
-neither : (a b : Bool) → either a b ≡ false → (a ≡ false) × (b ≡ false)
-unfolding either
-neither true b h = (h, cc)
-neither false b h = (refl, h)
-
 -- every other tunnel type of the table is one of PIM's
 pub pim-row : (t : ℕ) → unknown t ≡ false → mldp t ≡ false → (t ≡ 0 → ⊥) → (t ≡ 1 → ⊥) → (t ≡ 6 → ⊥) → (t ≡ 11 → ⊥) → TakesSizes t 8 32
 unfolding unknown mldp
 pim-row t u m a b c d =
-    let p = neither (eqb t 2) (eqb t 7) m in
     let most : t ≤ 7 = ltb-false 7 t (sym (pick-false (eqb t 11) false (ltb 7 t) (ne-eqb t 11 d)) ∙ u) in
-    let two = eqb-false t 2 (p .0) in
-    let seven = eqb-false t 7 (p .1) in
+    let two = eqb-false t 2 (either-false-left (eqb t 2) (eqb t 7) m) in
+    let seven = eqb-false t 7 (either-false-right (eqb t 2) (eqb t 7) m) in
     tested (eqb t 3)
     (λ q. ssm-row t (eqb-true t 3 q))
     (λ q. tested (eqb t 4)
@@ -293,7 +281,7 @@ pub fec-span : (i : List ℕ) (family : ℕ) → wholeFec i ≡ true → family 
     })
     (fecSpans (fecIn i))
 unfolding fecSpans fecIn
-fec-span i family h e = rw (root-length i h, opaque-length i h, e)
+fec-span i family h e = rw (root-length i h, opaque-length i, e)
 
 -- the FEC of a tunnel type, by its row
 fec-by-row : (s rest ns : List ℕ) (r : Fec) → formOf (getD s 1 0) ≡ given (fecTypes ns) → rest ≡ drop 5 s → r ≡ fecSpans (fecIn rest) → r ≡ fecOf (fieldsIn s)
@@ -339,8 +327,7 @@ pub no-mldp : (s : List ℕ) → mldp (getD s 1 0) ≡ false → noFec ≡ fecOf
 unfolding mldp
 no-mldp s m =
     let t = getD s 1 0 in
-    let p = neither (eqb t 2) (eqb t 7) m in
-    other-fec s (eqb-false t 2 (p .0)) (eqb-false t 7 (p .1))
+    other-fec s (eqb-false t 2 (either-false-left (eqb t 2) (eqb t 7) m)) (eqb-false t 7 (either-false-right (eqb t 2) (eqb t 7) m))
 
 -- the fields, from where they stand
 pub fields-are : (s : List ℕ) (label : ℕ) (fec : Fec) → 5 ≤ length s → label ≡ numberIn (part s 2 3) 0 → fec ≡ fecOf (fieldsIn s)
@@ -382,12 +369,7 @@ fault-done n m e z = eq-eqb m DONE (sym e ∙ z)
 pub fault-not-done : (n m : ℕ) → n ≡ m → (n ≡ DONE → ⊥) → eqb m DONE ≡ false
 fault-not-done n m e d = ne-eqb m DONE (λ z. d (e ∙ z))
 
--- a test that refuses failed where the number is DONE
-pick-done : (b : Bool) (m n : ℕ) → (m ≡ DONE → ⊥) → pick b m n ≡ DONE → (b ≡ false) × (n ≡ DONE)
-unfolding pick
-pick-done true m n d e = absurd (d e)
-pick-done false m n d e = (refl, e)
-
+-- a number, or where it is DONE the next
 pick-both : (n m : ℕ) → pick (eqb n DONE) m n ≡ DONE → m ≡ DONE
 unfolding pick
 pick-both n m e =
@@ -438,33 +420,33 @@ attribute-length f = simp (length-append, big-endian-length) (omega arith)
 
 -- past LONG, TUNNEL and IDENT
 unfoldable pub fieldsWritten : Fields → ℕ → Outcome (List ℕ)
-fieldsWritten f capacity = pick (ltb 16777215 (f .labelField)) (refused LABEL) (pick (ltb capacity (length (encodeAttribute f))) (refused SPACE) (given (encodeAttribute f)))
+fieldsWritten f space = pick (ltb 16777215 (f .labelField)) (refused LABEL) (pick (ltb space (length (encodeAttribute f))) (refused SPACE) (given (encodeAttribute f)))
 
 abbrev writtenAs : ℕ → ℕ → Written
 writtenAs n s = record { number = n; size = s }
 
-module _ (f : Fields) (capacity : ℕ) where
-  pub write-long : 59 < length (f .identifier) → writeAttribute f capacity ≡ refused LONG
+module _ (f : Fields) (space : ℕ) where
+  pub write-long : 59 < length (f .identifier) → writeAttribute f space ≡ refused LONG
   unfolding writeAttribute pick
   write-long h = rw (lt-ltb 59 (length (f .identifier)) h)
 
-  pub write-judged : length (f .identifier) ≤ 59 → writeAttribute f capacity ≡ andThen (judged (f .tunnelType) (f .identifier)) (λ _. fieldsWritten f capacity)
+  pub write-judged : length (f .identifier) ≤ 59 → writeAttribute f space ≡ andThen (judged (f .tunnelType) (f .identifier)) (λ _. fieldsWritten f space)
   unfolding writeAttribute fieldsWritten pick
   write-judged h = rw (le-ltb 59 (length (f .identifier)) h)
 
   afterwards : ℕ
-  afterwards = pick (ltb 16777215 (f .labelField)) LABEL (pick (ltb capacity (5 + length (f .identifier))) SPACE DONE)
+  afterwards = pick (ltb 16777215 (f .labelField)) LABEL (pick (ltb space (5 + length (f .identifier))) SPACE DONE)
 
-  written-by-number : fieldsWritten f capacity ≡ byNumber afterwards (encodeAttribute f)
+  written-by-number : fieldsWritten f space ≡ byNumber afterwards (encodeAttribute f)
   unfolding fieldsWritten afterwards
   written-by-number =
       let e = encodeAttribute f in
       let last : given e ≡ byNumber DONE e = sym (when-done DONE e refl) in
-      rw (attribute-length f, last, number-picked (ltb capacity (5 + length (f .identifier))) SPACE DONE e (λ z. omega arith))
-      (number-picked (ltb 16777215 (f .labelField)) LABEL (pick (ltb capacity (5 + length (f .identifier))) SPACE DONE) e (λ z. omega arith))
+      rw (attribute-length f, last, number-picked (ltb space (5 + length (f .identifier))) SPACE DONE e (λ z. omega arith))
+      (number-picked (ltb 16777215 (f .labelField)) LABEL (pick (ltb space (5 + length (f .identifier))) SPACE DONE) e (λ z. omega arith))
 
   -- the number of writing
-  write-by-number : writeAttribute f capacity ≡ byNumber (writeFault (f .tunnelType) (f .labelField) (f .identifier) capacity) (encodeAttribute f)
+  write-by-number : writeAttribute f space ≡ byNumber (writeFault (f .tunnelType) (f .labelField) (f .identifier) space) (encodeAttribute f)
   unfolding writeAttribute writeFault fieldsWritten afterwards
   write-by-number =
       let t = f .tunnelType in
@@ -473,14 +455,14 @@ module _ (f : Fields) (capacity : ℕ) where
       rw (judged-by-number t i, written-by-number, number-then (faultOf t i) afterwards i e)
       (number-picked (ltb 59 (length i)) LONG (pick (eqb (faultOf t i) DONE) afterwards (faultOf t i)) e (λ z. omega arith))
 
-  module _ (n : ℕ) (e : n ≡ writeFault (f .tunnelType) (f .labelField) (f .identifier) capacity) where
-    pub write-refused : (n ≡ DONE → ⊥) → writeAttribute f capacity ≡ refused n
+  module _ (n : ℕ) (e : n ≡ writeFault (f .tunnelType) (f .labelField) (f .identifier) space) where
+    pub write-refused : (n ≡ DONE → ⊥) → writeAttribute f space ≡ refused n
     write-refused d = write-by-number ∙ rw (← e) (when-not-done n (encodeAttribute f) d)
 
-    pub write-done : n ≡ DONE → writeAttribute f capacity ≡ given (encodeAttribute f)
+    pub write-done : n ≡ DONE → writeAttribute f space ≡ given (encodeAttribute f)
     write-done z = write-by-number ∙ when-done _ (encodeAttribute f) (sym e ∙ z)
 
-    pub write-room : n ≡ DONE → (length (f .identifier) ≤ 59) × (5 + length (f .identifier) ≤ capacity)
+    pub write-room : n ≡ DONE → (length (f .identifier) ≤ 59) × (5 + length (f .identifier) ≤ space)
     unfolding writeFault
     write-room z =
         let t = f .tunnelType in
@@ -488,7 +470,7 @@ module _ (f : Fields) (capacity : ℕ) where
         let p = pick-done (ltb 59 (length i)) LONG _ (λ q. omega arith) (sym e ∙ z) in
         let q = pick-both (faultOf t i) _ (p .1) in
         let r = pick-done (ltb 16777215 (f .labelField)) LABEL _ (λ s. omega arith) q in
-        (ltb-false 59 (length i) (p .0), ltb-false capacity (5 + length i) (pick-done (ltb capacity (5 + length i)) SPACE DONE (λ s. omega arith) (r .1) .0))
+        (ltb-false 59 (length i) (p .0), ltb-false space (5 + length i) (pick-done (ltb space (5 + length i)) SPACE DONE (λ s. omega arith) (r .1) .0))
 
 pub refusal-wrote : (o : Outcome (List ℕ)) (n : ℕ) (d : List ℕ) → o ≡ refused n → (writtenAs n 0 ≡ writtenOf o) × (d ≡ outputOf o d)
 unfolding writtenOf outputOf onOutcome numberOf

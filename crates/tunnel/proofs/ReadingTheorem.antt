@@ -11,6 +11,7 @@ use Rattle.octets.specs.Numbers.{SHORT, TUNNEL, IDENT, LONG}
 use Rattle.octets.specs.Outcome.{Outcome, given, refused, andThen, numberOf}
 use Rattle.octets.specs.Octets.{AllOctets, part, numberIn, bigEndian}
 use Rattle.octets.proofs.Picked.{tested}
+use Rattle.octets.proofs.Inversions.{never}
 use Rattle.octets.proofs.AllOctets.{octet-at, octets-drop}
 use Rattle.octets.proofs.NetworkOrder.{number-of-big-endian, part-number, part-fits}
 use Rattle.tunnel.specs.Identifier.{IdentifierForm, formOf, Among, here, there, OfType, fits, judged}
@@ -96,10 +97,10 @@ module _ (f : Fields) (w : WellFormedAttribute f) where
 
 -- what an answer tells
 accepted-case : (s : List ℕ) (f : Fields) → AllOctets s → {o : Outcome Fields} → ReadCase s o → o ≡ given f → WellFormedAttribute f × (s ≡ encodeAttribute f)
-accepted-case s f a (tooLong h) e = absurd (let z : _≡_ {A = ℕ} 0 1 = cc in omega arith)
-accepted-case s f a (tooShort h) e = absurd (let z : _≡_ {A = ℕ} 0 1 = cc in omega arith)
-accepted-case s f a (unknownType z u) e = absurd (let z : _≡_ {A = ℕ} 0 1 = cc in omega arith)
-accepted-case s f a (badIdentifier z form t p) e = absurd (let z : _≡_ {A = ℕ} 0 1 = cc in omega arith)
+accepted-case s f a (tooLong h) e = absurd (never e refl)
+accepted-case s f a (tooShort h) e = absurd (never e refl)
+accepted-case s f a (unknownType z u) e = absurd (never e refl)
+accepted-case s f a (badIdentifier z form t p) e = absurd (never e refl)
 accepted-case s f a (fine z form t p) e =
     let q : fieldsIn s ≡ f = cc in
     subst (λ (g : Fields). WellFormedAttribute g × (s ≡ encodeAttribute g)) q (fields-well-formed s a z (of-type (getD s 1 0) (drop 5 s) form (octets-drop 5 a) t p))
@@ -140,7 +141,7 @@ module _ (s : List ℕ) where
   ident-refused : AllOctets s → {o : Outcome Fields} → ReadCase s o → ReadableSize s × Known (getD s 1 0) × (OfType (getD s 1 0) (drop 5 s) → ⊥) → o ≡ refused IDENT
   ident-refused a (tooLong h) k = absurd (omega (arith, k .0))
   ident-refused a (tooShort h) k = absurd (omega (arith, k .0))
-  ident-refused a (unknownType z u) k = absurd (let z : _≡_ {A = ℕ} 0 1 = cc (k .1 .inTable) in omega arith)
+  ident-refused a (unknownType z u) k = absurd (never (k .1 .inTable) u)
   ident-refused a (badIdentifier z form t p) k = refl
   ident-refused a (fine z form t p) k = absurd (k .2 (of-type (getD s 1 0) (drop 5 s) form (octets-drop 5 a) t p))
 
@@ -149,7 +150,7 @@ module _ (s : List ℕ) where
   number-case n (tooShort h) e = refused-among SHORT n e (there here)
   number-case n (unknownType z u) e = refused-among TUNNEL n e (there (there here))
   number-case n (badIdentifier z form t p) e = refused-among IDENT n e (there (there (there here)))
-  number-case n (fine z form t p) e = absurd (let z : _≡_ {A = ℕ} 0 1 = cc in omega arith)
+  number-case n (fine z form t p) e = absurd (never refl e)
 
 tunnel-refused : (s : List ℕ) → ReadableSize s → formOf (getD s 1 0) ≡ refused TUNNEL → readAttribute s ≡ refused TUNNEL
 unfolding andThen judged

@@ -1,6 +1,6 @@
 -- The statements of `specs/Statements.antt`, proved. Those on reading, writing and FECs have a file each.
 use Prim.Native.Nat.{ℕ, _+_}
-use mathlib.Core.Path.{_≡_, sym, ap, subst, _∙_}
+use mathlib.Core.Path.{_≡_, refl, sym, ap, subst, _∙_}
 use mathlib.Core.Bool.{true}
 use mathlib.Core.List.{List}
 use native.Mathlib.Omega.{arith}
@@ -9,7 +9,8 @@ use lib.Seq.{take-length, drop-drop}
 use Rattle.octets.specs.Numbers.{IDENT}
 use Rattle.octets.specs.Outcome.{Outcome, given, refused}
 use Rattle.octets.specs.Octets.{part}
-use Rattle.octets.proofs.Picked.{was-given, both-held}
+use Rattle.octets.proofs.Picked.{was-given}
+use Rattle.octets.proofs.Inversions.{never, both-true-left}
 use Rattle.octets.proofs.Outcomes.{pick-true}
 use Rattle.tunnel.specs.Fec.{FecFields, wholeFec, fecIn, readFec}
 use Rattle.tunnel.specs.Identifier.{IdentifierForm, fecTypes, formOf, oneOf, fits}
@@ -32,8 +33,8 @@ fecHolds = fec-read
 pub roundTripHolds : RoundTripStatement
 roundTripHolds =
     record {
-      writtenRead = λ f capacity e o h. let p = writing-proved .encoded f capacity e o .0 h in rw (p .2) (encoding-read f (p .0));
-      readWritten = λ s f capacity a h k. let p = reading-proved .accepted s f a .0 h in well-formed-written f capacity (p .0) (rw (p .1) at k) ∙ ap given (sym (p .1));
+      writtenRead = λ f space e o h. let p = writing-proved .encoded f space e o .0 h in rw (p .2) (encoding-read f (p .0));
+      readWritten = λ s f space a h k. let p = reading-proved .accepted s f a .0 h in well-formed-written f space (p .0) (rw (p .1) at k) ∙ ap given (sym (p .1));
     }
 
 -- what an accepted attribute is known to be
@@ -44,10 +45,10 @@ record AcceptedAs (s : List ℕ) (f : Fields) : Type 0 where
   fields : fieldsIn s ≡ f
 
 given-case : (s : List ℕ) (f : Fields) {o : Outcome Fields} → ReadCase s o → o ≡ given f → AcceptedAs s f
-given-case s f (tooLong h) e = absurd (let z : _≡_ {A = ℕ} 0 1 = cc in omega arith)
-given-case s f (tooShort h) e = absurd (let z : _≡_ {A = ℕ} 0 1 = cc in omega arith)
-given-case s f (unknownType z u) e = absurd (let z : _≡_ {A = ℕ} 0 1 = cc in omega arith)
-given-case s f (badIdentifier z form t p) e = absurd (let z : _≡_ {A = ℕ} 0 1 = cc in omega arith)
+given-case s f (tooLong h) e = absurd (never e refl)
+given-case s f (tooShort h) e = absurd (never e refl)
+given-case s f (unknownType z u) e = absurd (never e refl)
+given-case s f (badIdentifier z form t p) e = absurd (never e refl)
 given-case s f (fine z form t p) e = record { form = form; inTable = t; fitting = p; fields = cc }
 
 identifier-span : (s : List ℕ) (f : Fields) → AcceptedAs s f → part s 5 (length (f .identifier)) ≡ f .identifier
@@ -61,7 +62,7 @@ fec-read-in s ns f a t =
     let k : getD s 1 0 ≡ f .tunnelType = ap (λ (g : Fields). g .tunnelType) (a .fields) in
     let q : a .form ≡ fecTypes ns = cc (a .inTable, ap formOf k) in
     let w : fits (fecTypes ns) (f .identifier) ≡ true = rw (q, i) at (a .fitting) in
-    pick-true (wholeFec (f .identifier)) (given (fecIn (f .identifier))) (refused IDENT) (both-held (wholeFec (f .identifier)) (oneOf (getD (f .identifier) 0 0) ns) w .0)
+    pick-true (wholeFec (f .identifier)) (given (fecIn (f .identifier))) (refused IDENT) (both-true-left (wholeFec (f .identifier)) (oneOf (getD (f .identifier) 0 0) ns) w)
 
 -- a FEC's parts, counted from the attribute's first octet
 root-at : (s : List ℕ) → wholeFec (drop 5 s) ≡ true → part s 9 (length (fecIn (drop 5 s) .root)) ≡ fecIn (drop 5 s) .root

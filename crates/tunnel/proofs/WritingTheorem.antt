@@ -1,6 +1,6 @@
 -- Writing gives the encoding exactly of well-formed fields that it has room for, and refuses the rest by document 01's numbers.
 use Prim.Native.Nat.{ℕ, _≤_, _<_}
-use mathlib.Core.Path.{_≡_, sym, ap, subst, _∙_}
+use mathlib.Core.Path.{_≡_, refl, sym, ap, subst, _∙_}
 use mathlib.Core.Bool.{true, false}
 use mathlib.Core.List.{List, [], _∷_}
 use native.Mathlib.Omega.{arith}
@@ -11,6 +11,7 @@ use Rattle.octets.specs.Choice.{pick}
 use Rattle.octets.specs.Numbers.{TUNNEL, IDENT, LONG, LABEL, SPACE}
 use Rattle.octets.specs.Outcome.{Outcome, given, refused, andThen, numberOf}
 use Rattle.octets.proofs.Picked.{tested}
+use Rattle.octets.proofs.Inversions.{never}
 use Rattle.octets.proofs.Outcomes.{pick-true, pick-false}
 use Rattle.tunnel.specs.Identifier.{IdentifierForm, formOf, Among, here, there, OfType, fits}
 use Rattle.tunnel.specs.Attribute.{Fields, WellFormedAttribute, encodeAttribute, writeAttribute}
@@ -18,7 +19,7 @@ use Rattle.tunnel.specs.Statements.{Unknown, Known, OctetFields, Writabl
 use Rattle.tunnel.proofs.Laws.{write-long, write-judged, fieldsWritten}
 use Rattle.tunnel.proofs.IdentifierTheorem.{JudgedCase, noRow, noFit, fit, judged-is, judged-known, judged-unknown, of-type, of-type-judged, not-of-type, refused-among, unknown-row, row-unknown}
 
-module _ (f : Fields) (capacity : ℕ) where
+module _ (f : Fields) (space : ℕ) where
   -- a tunnel type and an identifier of its form, computed
   record Passed : Type 0 where
     most : length (f .identifier) ≤ 59
@@ -32,31 +33,31 @@ module _ (f : Fields) (capacity : ℕ) where
     unknownType : length (f .identifier) ≤ 59 → formOf (f .tunnelType) ≡ refused TUNNEL → WriteCase (refused TUNNEL)
     badIdentifier : length (f .identifier) ≤ 59 → (form : IdentifierForm) → formOf (f .tunnelType) ≡ given form → fits form (f .identifier) ≡ false → WriteCase (refused IDENT)
     badLabel : Passed → 16777215 < f .labelField → WriteCase (refused LABEL)
-    noSpace : Passed → f .labelField ≤ 16777215 → capacity < length (encodeAttribute f) → WriteCase (refused SPACE)
-    fine : Passed → f .labelField ≤ 16777215 → length (encodeAttribute f) ≤ capacity → WriteCase (given (encodeAttribute f))
+    noSpace : Passed → f .labelField ≤ 16777215 → space < length (encodeAttribute f) → WriteCase (refused SPACE)
+    fine : Passed → f .labelField ≤ 16777215 → length (encodeAttribute f) ≤ space → WriteCase (given (encodeAttribute f))
 
-  fine-case : Passed → WriteCase (fieldsWritten f capacity)
+  fine-case : Passed → WriteCase (fieldsWritten f space)
   unfolding fieldsWritten
   fine-case k =
       tested (ltb 16777215 (f .labelField))
-      (λ p. subst WriteCase (sym (pick-true (ltb 16777215 (f .labelField)) (refused LABEL) (pick (ltb capacity (length (encodeAttribute f))) (refused SPACE) (given (encodeAttribute f))) p)) (badLabel k (ltb-true 16777215 (f .labelField) p)))
-      (λ p. subst WriteCase (sym (pick-false (ltb 16777215 (f .labelField)) (refused LABEL) (pick (ltb capacity (length (encodeAttribute f))) (refused SPACE) (given (encodeAttribute f))) p))
-      (tested (ltb capacity (length (encodeAttribute f)))
-      (λ q. subst WriteCase (sym (pick-true (ltb capacity (length (encodeAttribute f))) (refused SPACE) (given (encodeAttribute f)) q)) (noSpace k (ltb-false 16777215 (f .labelField) p) (ltb-true capacity (length (encodeAttribute f)) q)))
-      (λ q. subst WriteCase (sym (pick-false (ltb capacity (length (encodeAttribute f))) (refused SPACE) (given (encodeAttribute f)) q)) (fine k (ltb-false 16777215 (f .labelField) p) (ltb-false capacity (length (encodeAttribute f)) q)))))
+      (λ p. subst WriteCase (sym (pick-true (ltb 16777215 (f .labelField)) (refused LABEL) (pick (ltb space (length (encodeAttribute f))) (refused SPACE) (given (encodeAttribute f))) p)) (badLabel k (ltb-true 16777215 (f .labelField) p)))
+      (λ p. subst WriteCase (sym (pick-false (ltb 16777215 (f .labelField)) (refused LABEL) (pick (ltb space (length (encodeAttribute f))) (refused SPACE) (given (encodeAttribute f))) p))
+      (tested (ltb space (length (encodeAttribute f)))
+      (λ q. subst WriteCase (sym (pick-true (ltb space (length (encodeAttribute f))) (refused SPACE) (given (encodeAttribute f)) q)) (noSpace k (ltb-false 16777215 (f .labelField) p) (ltb-true space (length (encodeAttribute f)) q)))
+      (λ q. subst WriteCase (sym (pick-false (ltb space (length (encodeAttribute f))) (refused SPACE) (given (encodeAttribute f)) q)) (fine k (ltb-false 16777215 (f .labelField) p) (ltb-false space (length (encodeAttribute f)) q)))))
 
-  sized-case : length (f .identifier) ≤ 59 → {o : Outcome (List ℕ)} → JudgedCase (f .tunnelType) (f .identifier) o → WriteCase (andThen o (λ _. fieldsWritten f capacity))
+  sized-case : length (f .identifier) ≤ 59 → {o : Outcome (List ℕ)} → JudgedCase (f .tunnelType) (f .identifier) o → WriteCase (andThen o (λ _. fieldsWritten f space))
   unfolding andThen
   sized-case h (noRow e) = unknownType h e
   sized-case h (noFit form e p) = badIdentifier h form e p
   sized-case h (fit form e p) = fine-case (record { most = h; form = form; inTable = e; fitting = p })
 
-  write-case : WriteCase (writeAttribute f capacity)
+  write-case : WriteCase (writeAttribute f space)
   write-case =
       tested (ltb 59 (length (f .identifier)))
-      (λ p. let h : 59 < length (f .identifier) = ltb-true 59 (length (f .identifier)) p in subst WriteCase (sym (write-long f capacity h)) (tooLong h))
+      (λ p. let h : 59 < length (f .identifier) = ltb-true 59 (length (f .identifier)) p in subst WriteCase (sym (write-long f space h)) (tooLong h))
       (λ p. let h : length (f .identifier) ≤ 59 = ltb-false 59 (length (f .identifier)) p in
-      subst WriteCase (sym (write-judged f capacity h)) (sized-case h (judged-is (f .tunnelType) (f .identifier))))
+      subst WriteCase (sym (write-judged f space h)) (sized-case h (judged-is (f .tunnelType) (f .identifier))))
 
   -- what an answer tells
   long-case : {o : Outcome (List ℕ)} → WriteCase o → numberOf o ≡ LONG → 59 < length (f .identifier)
@@ -99,7 +100,7 @@ module _ (f : Fields) (capacity : ℕ) where
     label-case (noSpace k l r) e = absurd (omega arith)
     label-case (fine k l r) e = absurd (omega arith)
 
-    space-case : {o : Outcome (List ℕ)} → WriteCase o → numberOf o ≡ SPACE → Writable f × (f .labelField ≤ 16777215) × (capacity < length (encodeAttribute f))
+    space-case : {o : Outcome (List ℕ)} → WriteCase o → numberOf o ≡ SPACE → Writable f × (f .labelField ≤ 16777215) × (space < length (encodeAttribute f))
     unfolding numberOf
     space-case (tooLong h) e = absurd (omega arith)
     space-case (unknownType h u) e = absurd (omega arith)
@@ -108,12 +109,12 @@ module _ (f : Fields) (capacity : ℕ) where
     space-case (noSpace k l r) e = (writable k, l, r)
     space-case (fine k l r) e = absurd (omega arith)
 
-    encoded-case : (e : List ℕ) {o : Outcome (List ℕ)} → WriteCase o → o ≡ given e → WellFormedAttribute f × (length (encodeAttribute f) ≤ capacity) × (e ≡ encodeAttribute f)
-    encoded-case e (tooLong h) q = absurd (let z : _≡_ {A = ℕ} 0 1 = cc in omega arith)
-    encoded-case e (unknownType h u) q = absurd (let z : _≡_ {A = ℕ} 0 1 = cc in omega arith)
-    encoded-case e (badIdentifier h form t p) q = absurd (let z : _≡_ {A = ℕ} 0 1 = cc in omega arith)
-    encoded-case e (badLabel k l) q = absurd (let z : _≡_ {A = ℕ} 0 1 = cc in omega arith)
-    encoded-case e (noSpace k l r) q = absurd (let z : _≡_ {A = ℕ} 0 1 = cc in omega arith)
+    encoded-case : (e : List ℕ) {o : Outcome (List ℕ)} → WriteCase o → o ≡ given e → WellFormedAttribute f × (length (encodeAttribute f) ≤ space) × (e ≡ encodeAttribute f)
+    encoded-case e (tooLong h) q = absurd (never q refl)
+    encoded-case e (unknownType h u) q = absurd (never q refl)
+    encoded-case e (badIdentifier h form t p) q = absurd (never q refl)
+    encoded-case e (badLabel k l) q = absurd (never q refl)
+    encoded-case e (noSpace k l r) q = absurd (never q refl)
     encoded-case e (fine k l r) q =
         let w = writable k in
         (record { flagsFit = o .flagsFit; labelFits = omega arith; identifierSize = w .most; identifierOctets = o .identifierOctets; ofType = w .ofType }, r, cc)
@@ -124,47 +125,47 @@ module _ (f : Fields) (capacity : ℕ) where
   number-case n (badIdentifier h form t p) e = refused-among IDENT n e (there (there here))
   number-case n (badLabel k l) e = refused-among LABEL n e (there (there (there here)))
   number-case n (noSpace k l r) e = refused-among SPACE n e (there (there (there (there here))))
-  number-case n (fine k l r) e = absurd (let z : _≡_ {A = ℕ} 0 1 = cc in omega arith)
+  number-case n (fine k l r) e = absurd (never refl e)
 
   -- and what answers follow
-  of-type-written : length (f .identifier) ≤ 59 → OfType (f .tunnelType) (f .identifier) → writeAttribute f capacity ≡ fieldsWritten f capacity
+  of-type-written : length (f .identifier) ≤ 59 → OfType (f .tunnelType) (f .identifier) → writeAttribute f space ≡ fieldsWritten f space
   unfolding andThen
-  of-type-written h o = write-judged f capacity h ∙ rw (of-type-judged o)
+  of-type-written h o = write-judged f space h ∙ rw (of-type-judged o)
 
-  tunnel-refused : length (f .identifier) ≤ 59 → Unknown (f .tunnelType) → writeAttribute f capacity ≡ refused TUNNEL
+  tunnel-refused : length (f .identifier) ≤ 59 → Unknown (f .tunnelType) → writeAttribute f space ≡ refused TUNNEL
   unfolding andThen
-  tunnel-refused h u = write-judged f capacity h ∙ rw (judged-unknown (f .tunnelType) (f .identifier) (row-unknown (f .tunnelType) u))
+  tunnel-refused h u = write-judged f space h ∙ rw (judged-unknown (f .tunnelType) (f .identifier) (row-unknown (f .tunnelType) u))
 
-  ident-refused : OctetFields f → (length (f .identifier) ≤ 59) × Known (f .tunnelType) × (OfType (f .tunnelType) (f .identifier) → ⊥) → writeAttribute f capacity ≡ refused IDENT
+  ident-refused : OctetFields f → (length (f .identifier) ≤ 59) × Known (f .tunnelType) × (OfType (f .tunnelType) (f .identifier) → ⊥) → writeAttribute f space ≡ refused IDENT
   unfolding andThen
   ident-refused o k =
       let form = k .1 .form in
       let e = k .1 .inTable in
       tested (fits form (f .identifier))
       (λ p. absurd (k .2 (of-type (f .tunnelType) (f .identifier) form (o .identifierOctets) e p)))
-      (λ p. write-judged f capacity (k .0) ∙ rw (judged-known (f .tunnelType) (f .identifier) form e, pick-false (fits form (f .identifier)) (given (f .identifier)) (refused IDENT) p))
+      (λ p. write-judged f space (k .0) ∙ rw (judged-known (f .tunnelType) (f .identifier) form e, pick-false (fits form (f .identifier)) (given (f .identifier)) (refused IDENT) p))
 
-  label-refused : Writable f → 16777215 < f .labelField → writeAttribute f capacity ≡ refused LABEL
+  label-refused : Writable f → 16777215 < f .labelField → writeAttribute f space ≡ refused LABEL
   unfolding fieldsWritten pick
   label-refused w l = of-type-written (w .most) (w .ofType) ∙ rw (lt-ltb 16777215 (f .labelField) l)
 
-  space-refused : Writable f → f .labelField ≤ 16777215 → capacity < length (encodeAttribute f) → writeAttribute f capacity ≡ refused SPACE
+  space-refused : Writable f → f .labelField ≤ 16777215 → space < length (encodeAttribute f) → writeAttribute f space ≡ refused SPACE
   unfolding fieldsWritten pick
-  space-refused w l r = of-type-written (w .most) (w .ofType) ∙ rw (le-ltb 16777215 (f .labelField) l, lt-ltb capacity (length (encodeAttribute f)) r)
+  space-refused w l r = of-type-written (w .most) (w .ofType) ∙ rw (le-ltb 16777215 (f .labelField) l, lt-ltb space (length (encodeAttribute f)) r)
 
-  pub well-formed-written : WellFormedAttribute f → length (encodeAttribute f) ≤ capacity → writeAttribute f capacity ≡ given (encodeAttribute f)
+  pub well-formed-written : WellFormedAttribute f → length (encodeAttribute f) ≤ space → writeAttribute f space ≡ given (encodeAttribute f)
   unfolding fieldsWritten pick
-  well-formed-written w r = of-type-written (w .identifierSize) (w .ofType) ∙ rw (le-ltb 16777215 (f .labelField) (omega (arith, w .labelFits)), le-ltb capacity (length (encodeAttribute f)) r)
+  well-formed-written w r = of-type-written (w .identifierSize) (w .ofType) ∙ rw (le-ltb 16777215 (f .labelField) (omega (arith, w .labelFits)), le-ltb space (length (encodeAttribute f)) r)
 
 pub writing-proved : WritingStatement
 unfolding numberOf
 writing-proved =
     record {
-      encoded = λ f capacity e o. (encoded-case f capacity o e (write-case f capacity), λ p. rw (p .2) (well-formed-written f capacity (p .0) (p .1)));
-      whenLong = λ f capacity. (λ e. long-case f capacity (write-case f capacity) (ap numberOf e), write-long f capacity);
-      whenTunnel = λ f capacity. (λ e. tunnel-case f capacity (write-case f capacity) (ap numberOf e), λ p. tunnel-refused f capacity (p .0) (p .1));
-      whenIdent = λ f capacity o. (λ e. ident-case f capacity (write-case f capacity) (ap numberOf e), ident-refused f capacity o);
-      whenLabel = λ f capacity o. (λ e. label-case f capacity o (write-case f capacity) (ap numberOf e), λ p. label-refused f capacity (p .0) (p .1));
-      whenSpace = λ f capacity o. (λ e. space-case f capacity o (write-case f capacity) (ap numberOf e), λ p. space-refused f capacity (p .0) (p .1) (p .2));
-      numbers = λ f capacity n. number-case f capacity n (write-case f capacity);
+      encoded = λ f space e o. (encoded-case f space o e (write-case f space), λ p. rw (p .2) (well-formed-written f space (p .0) (p .1)));
+      whenLong = λ f space. (λ e. long-case f space (write-case f space) (ap numberOf e), write-long f space);
+      whenTunnel = λ f space. (λ e. tunnel-case f space (write-case f space) (ap numberOf e), λ p. tunnel-refused f space (p .0) (p .1));
+      whenIdent = λ f space o. (λ e. ident-case f space (write-case f space) (ap numberOf e), ident-refused f space o);
+      whenLabel = λ f space o. (λ e. label-case f space o (write-case f space) (ap numberOf e), λ p. label-refused f space (p .0) (p .1));
+      whenSpace = λ f space o. (λ e. space-case f space o (write-case f space) (ap numberOf e), λ p. space-refused f space (p .0) (p .1) (p .2));
+      numbers = λ f space n. number-case f space n (write-case f space);
     }

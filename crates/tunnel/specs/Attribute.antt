@@ -47,11 +47,11 @@ readAttribute s =
     (pick (ltb (length s) 5) (refused SHORT)
     (andThen (judged (getD s 1 0) (drop 5 s)) (λ _. given (fieldsIn s))))
 
--- "Attribute writing: LONG (identifier over 59 octets), TUNNEL, IDENT, LABEL, SPACE", into an output of `capacity` octets
+-- "Attribute writing: LONG (identifier over 59 octets), TUNNEL, IDENT, LABEL, SPACE", into an output of `space` octets
 unfoldable pub writeAttribute : Fields → ℕ → Outcome (List ℕ)
-writeAttribute f capacity =
+writeAttribute f space =
     pick (ltb 59 (length (f .identifier))) (refused LONG)
     (andThen (judged (f .tunnelType) (f .identifier)) (λ _.
     pick (ltb 16777215 (f .labelField)) (refused LABEL)
-    (pick (ltb capacity (length (encodeAttribute f))) (refused SPACE)
+    (pick (ltb space (length (encodeAttribute f))) (refused SPACE)
     (given (encodeAttribute f)))))

@@ -45,12 +45,12 @@ TakesSizes t first second = (i : List ℕ) → faultOf t i ≡ formFault (sizes 
 unfoldable pub readFault : List ℕ → ℕ
 readFault s = pick (ltb 64 (length s)) LONG (pick (ltb (length s) 5) SHORT (faultOf (getD s 1 0) (drop 5 s)))
 
--- the number that writing into an output of `capacity` octets answers
-unfoldable pub writeFault : (type label : ℕ) (identifier : List ℕ) (capacity : ℕ) → ℕ
-writeFault type label i capacity =
+-- the number that writing into an output of `space` octets answers
+unfoldable pub writeFault : (type label : ℕ) (identifier : List ℕ) (space : ℕ) → ℕ
+writeFault type label i space =
     pick (ltb 59 (length i)) LONG
     (pick (eqb (faultOf type i) DONE)
-    (pick (ltb 16777215 label) LABEL (pick (ltb capacity (5 + length i)) SPACE DONE))
+    (pick (ltb 16777215 label) LABEL (pick (ltb space (5 + length i)) SPACE DONE))
     (faultOf type i))
 
 -- `size` octets of s from `from` on, and room for them in d from `at` on

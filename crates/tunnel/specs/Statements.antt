@@ -46,23 +46,23 @@ pub record Writable (f : Fields) : Type 0 where
   pub most : length (f .identifier) ≤ 59
   pub ofType : OfType (f .tunnelType) (f .identifier)
 
--- Writing into `capacity` octets. It gives the encoding exactly of well-formed fields that it has room for.
+-- Writing into `space` octets. It gives the encoding exactly of well-formed fields that it has room for.
 pub record WritingStatement : Type 0 where
-  pub encoded : (f : Fields) (capacity : ℕ) (e : List ℕ) → OctetFields f
-      → (writeAttribute f capacity ≡ given e) ↔ (WellFormedAttribute f × (length (encodeAttribute f) ≤ capacity) × (e ≡ encodeAttribute f))
-  pub whenLong : (f : Fields) (capacity : ℕ) → (writeAttribute f capacity ≡ refused LONG) ↔ (59 < length (f .identifier))
-  pub whenTunnel : (f : Fields) (capacity : ℕ) → (writeAttribute f capacity ≡ refused TUNNEL) ↔ ((length (f .identifier) ≤ 59) × Unknown (f .tunnelType))
-  pub whenIdent : (f : Fields) (capacity : ℕ) → OctetFields f
-      → (writeAttribute f capacity ≡ refused IDENT) ↔ ((length (f .identifier) ≤ 59) × Known (f .tunnelType) × (OfType (f .tunnelType) (f .identifier) → ⊥))
-  pub whenLabel : (f : Fields) (capacity : ℕ) → OctetFields f → (writeAttribute f capacity ≡ refused LABEL) ↔ (Writable f × (16777215 < f .labelField))
-  pub whenSpace : (f : Fields) (capacity : ℕ) → OctetFields f
-      → (writeAttribute f capacity ≡ refused SPACE) ↔ (Writable f × (f .labelField ≤ 16777215) × (capacity < length (encodeAttribute f)))
-  pub numbers : (f : Fields) (capacity n : ℕ) → writeAttribute f capacity ≡ refused n → Among n (LONG ∷ TUNNEL ∷ IDENT ∷ LABEL ∷ SPACE ∷ [])
+  pub encoded : (f : Fields) (space : ℕ) (e : List ℕ) → OctetFields f
+      → (writeAttribute f space ≡ given e) ↔ (WellFormedAttribute f × (length (encodeAttribute f) ≤ space) × (e ≡ encodeAttribute f))
+  pub whenLong : (f : Fields) (space : ℕ) → (writeAttribute f space ≡ refused LONG) ↔ (59 < length (f .identifier))
+  pub whenTunnel : (f : Fields) (space : ℕ) → (writeAttribute f space ≡ refused TUNNEL) ↔ ((length (f .identifier) ≤ 59) × Unknown (f .tunnelType))
+  pub whenIdent : (f : Fields) (space : ℕ) → OctetFields f
+      → (writeAttribute f space ≡ refused IDENT) ↔ ((length (f .identifier) ≤ 59) × Known (f .tunnelType) × (OfType (f .tunnelType) (f .identifier) → ⊥))
+  pub whenLabel : (f : Fields) (space : ℕ) → OctetFields f → (writeAttribute f space ≡ refused LABEL) ↔ (Writable f × (16777215 < f .labelField))
+  pub whenSpace : (f : Fields) (space : ℕ) → OctetFields f
+      → (writeAttribute f space ≡ refused SPACE) ↔ (Writable f × (f .labelField ≤ 16777215) × (space < length (encodeAttribute f)))
+  pub numbers : (f : Fields) (space n : ℕ) → writeAttribute f space ≡ refused n → Among n (LONG ∷ TUNNEL ∷ IDENT ∷ LABEL ∷ SPACE ∷ [])
 
 -- Round trips: reading what was written, and writing what was read.
 pub record RoundTripStatement : Type 0 where
-  pub writtenRead : (f : Fields) (capacity : ℕ) (e : List ℕ) → OctetFields f → writeAttribute f capacity ≡ given e → readAttribute e ≡ given f
-  pub readWritten : (s : List ℕ) (f : Fields) (capacity : ℕ) → AllOctets s → readAttribute s ≡ given f → length s ≤ capacity → writeAttribute f capacity ≡ given s
+  pub writtenRead : (f : Fields) (space : ℕ) (e : List ℕ) → OctetFields f → writeAttribute f space ≡ given e → readAttribute e ≡ given f
+  pub readWritten : (s : List ℕ) (f : Fields) (space : ℕ) → AllOctets s → readAttribute s ≡ given f → length s ≤ space → writeAttribute f space ≡ given s
 
 -- FECs: octets are read exactly when they are the encoding of a well-formed FEC, and reading gives that FEC.
 abbrev pub FecStatement : Type 0

@@ -2,7 +2,6 @@
 ghost use mathlib.Core.Path.{_≡_};
 ghost use mathlib.Core.Bool.{true};
 ghost use Prim.Native.Nat.{_<_, _≤_};
-ghost use lib.ListN.{length};
 ghost use Rattle.tunnel.specs.Fec.{wholeFec, fecIn};
 ghost use Rattle.tunnel.specs.Inner.{endsFrom};
 ghost use Rattle.tunnel.specs.Answers.{fecSpans};

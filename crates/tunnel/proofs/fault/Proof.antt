@@ -3,18 +3,19 @@ use denote.Ref.{now}
 use lib.ListN.{getD, drop}
 use Rattle.octets.proofs.Lists.{lent-rest}
 use Rattle.tunnel.specs.Inner.{readFault}
-use Rattle.tunnel.proofs.Laws.{calls, read-number, identifier-fault}
+use Rattle.octets.proofs.Tests.{flags}
+use Rattle.tunnel.proofs.Laws.{read-number, identifier-fault}
 use borrow.Author.Needs.{needs}
 use Rattle.tunnel.proofs.fault.Statement.{statement}
 use Rattle.tunnel.proofs.fault.Tie as tie
 
 returns : tie.Need-returns
 unfolding readFault
-returns c = search (calls, read-number)
+returns c = search (flags, read-number)
 
 returns-2 : tie.Need-returns-2
 unfolding readFault
-returns-2 c = search (calls, read-number)
+returns-2 c = search (flags, read-number)
 
 shared-slice-read-fault : tie.Need-shared-slice-read-fault
 shared-slice-read-fault c = search needs
@@ -36,7 +37,7 @@ unfolding readFault
 returns-3 c =
     let s = now (c .before .before .before .before .before .before .args .s) in
     let f = identifier-fault (getD s 1 0) _ _ (drop 5 s) (lent-rest 5 s) (c .fault .ensures) in
-    read-number _ _ (search (calls, f))
+    read-number _ _ (search (flags, f))
 
 pub fault-spec : {M : Type 1} → statement M
 fault-spec =

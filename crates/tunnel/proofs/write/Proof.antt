@@ -15,9 +15,9 @@ returns : tie.Need-returns
 returns c =
     let a = c .before .before .before .before .args in
     let f = fieldsOf (a .flags) (a .tunnel-type) (a .label-field) (now (a .identifier)) in
-    let capacity = length (now (a .output)) in
+    let space = length (now (a .output)) in
     let n = c .before .write-fault in
-    refusal-wrote (writeAttribute f capacity) (n .result) (now (a .output)) (write-refused f capacity (n .result) (n .ensures) (c .if1 .taken))
+    refusal-wrote (writeAttribute f space) (n .result) (now (a .output)) (write-refused f space (n .result) (n .ensures) (c .if1 .taken))
 
 put-requires : tie.Need-put-requires
 put-requires c κs =
@@ -33,11 +33,11 @@ returns-2 : tie.Need-returns-2
 returns-2 c =
     let a = c .before .before .before .before .before .before .before .before .args in
     let f = fieldsOf (a .flags) (a .tunnel-type) (a .label-field) (now (a .identifier)) in
-    let capacity = length (now (a .output)) in
+    let space = length (now (a .output)) in
     let n = c .before .before .before .before .before .write-fault in
     let p = c .before .before .put in
-    encoding-wrote (writeAttribute f capacity) f (p .result) (now (a .output)) (p .last .1 .1 .1 .1 .0)
-    (write-done f capacity (n .result) (n .ensures) (c .before .before .before .before .if1 .left))
+    encoding-wrote (writeAttribute f space) f (p .result) (now (a .output)) (p .last .1 .1 .1 .1 .0)
+    (write-done f space (n .result) (n .ensures) (c .before .before .before .before .if1 .left))
     (p .ensures)
 
 pub write-spec : {M : Type 1} → statement M

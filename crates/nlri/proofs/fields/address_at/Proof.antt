@@ -39,9 +39,10 @@ ipv6-requires c κs = search needs
 
 returns-3 : tie.Need-returns-3
 returns-3 c =
-    let a = c .before .before .before .before .before .args in
-    let h = c .before .before .before .before .before .pre .1 (positive _ (c .before .before .before .if1 .left)) in
-    c .ipv6 .ensures ∙ ap (λ (x : List ℕ). addressOf (take 16 x)) (c .before .between2 .ensures) ∙ ap addressOf (take-part (now (a .s)) (a .start) (a .size) 16 h (c .before .before .before .before .before .pre .0))
+    let start = c .before .before .before .before .before in
+    let a = start .args in
+    let h = start .pre .1 (positive _ (c .before .before .before .if1 .left)) in
+    c .ipv6 .ensures ∙ ap (λ (x : List ℕ). addressOf (take 16 x)) (c .before .between2 .ensures) ∙ ap addressOf (take-part (now (a .s)) (a .start) (a .size) 16 h (start .pre .0))
 
 pub address-at-spec : {M : Type 1} → statement M
 address-at-spec =

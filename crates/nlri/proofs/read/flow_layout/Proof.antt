@@ -33,7 +33,9 @@ unfolding sizeAt
 shared-slice-read-group c = omega (arith, c .before .before .before .pre .group)
 
 cast-group : tie.Need-cast-group
-cast-group c = omega (arith, c .shared-slice-known3 .given (c .before .before .before .args .at + 1 + getD (now (c .before .before .before .args .s)) (c .before .before .before .args .at) 0 / 8))
+cast-group c =
+    let start = c .before .before .before in
+    omega (arith, c .shared-slice-known3 .given (start .args .at + 1 + getD (now (start .args .s)) (start .args .at) 0 / 8))
 
 sub-t10 : tie.Need-sub-t10
 sub-t10 c = search needs

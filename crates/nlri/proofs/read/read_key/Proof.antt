@@ -2,8 +2,8 @@
 use native.Mathlib.Omega.{arith}
 use Rattle.octets.proofs.Tests.{tests}
 use Rattle.nlri.specs.Inner.{partOf}
-use Rattle.nlri.proofs.Via.{typed-given}
-use Rattle.nlri.proofs.Standing.{key-by, on-typed, on-unread, unkeyed-header-within}
+use Rattle.nlri.proofs.Via.{typed-given, on-typed, on-unread}
+use Rattle.nlri.proofs.Standing.{key-by, unkeyed-header-within}
 use borrow.Author.Needs.{needs}
 use Rattle.nlri.proofs.read.read_key.Statement.{statement}
 use Rattle.nlri.proofs.read.read_key.Tie as tie

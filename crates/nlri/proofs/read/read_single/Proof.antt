@@ -1,6 +1,5 @@
 -- `nlri::read::read_single` meets its contract.
-use native.Mathlib.Omega.{arith}
-use Rattle.nlri.proofs.Steps.{layout-within}
+use Rattle.nlri.proofs.Fronts.{layout-octets}
 use Rattle.nlri.proofs.Via.{nlri-given, reads}
 use Rattle.nlri.specs.Layouts.{readingOf}
 use Rattle.nlri.specs.Inner.{single}
@@ -18,7 +17,7 @@ enum-known-layout : tie.Need-enum-known-layout
 enum-known-layout c = search needs
 
 ends-at-requires : tie.Need-ends-at-requires
-ends-at-requires c κs = let h = layout-within _ _ _ (nlri-given _ _ _ (c .before .before .before .read-front .ensures) (c .before .layout .given .1)) in omega arith
+ends-at-requires c κs = layout-octets _ _ _ (nlri-given _ _ _ (c .before .before .before .read-front .ensures) (c .before .layout .given .1)) .0
 
 returns : tie.Need-returns
 unfolding readingOf single

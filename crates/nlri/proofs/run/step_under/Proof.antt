@@ -7,7 +7,8 @@ use lib.ListN.{drop, length-drop}
 use Rattle.nlri.specs.declared.layout.Layout.{Layout}
 use Rattle.nlri.specs.Inner.{layoutIn, Stands}
 use Rattle.nlri.specs.Walking.{readTo, steppedOf}
-use Rattle.nlri.proofs.Steps.{layout-within, step-stops, step-ends, step-reads, read-under}
+use Rattle.nlri.proofs.Fronts.{layout-octets}
+use Rattle.nlri.proofs.Steps.{step-stops, step-ends, step-reads, read-under}
 use borrow.Author.Needs.{needs}
 use Rattle.nlri.proofs.run.step_under.Statement.{statement}
 use Rattle.nlri.proofs.run.step_under.Tie as tie
@@ -33,7 +34,7 @@ add-t8 : tie.Need-add-t8
 add-t8 c =
     let a = c .before .before .before .before .before .before .before .args in
     let r = step-reads _ _ _ _ (c .before .before .before .before .before .step-fault .ensures) (c .before .before .before .before .if1 .left) (c .before .before .before .if2 .left) in
-    let h = layout-within (a .family) (drop (a .at) (now (a .run))) _ (r .is) in
+    let h = layout-octets (a .family) (drop (a .at) (now (a .run))) _ (r .is) .1 in
     let n = ap (λ (x : Layout). x .length) (c .before .layout-in .ensures ∙ ap layoutIn (c .before .before .after .ensures)) in
     let d = length-drop (a .at) (now (a .run)) in
     omega arith
@@ -42,7 +43,7 @@ add-t11 : tie.Need-add-t11
 add-t11 c =
     let a = c .before .before .before .before .before .before .before .args in
     let r = step-reads _ _ _ _ (c .before .before .before .before .before .step-fault .ensures) (c .before .before .before .before .if1 .left) (c .before .before .before .if2 .left) in
-    let h = layout-within (a .family) (drop (a .at) (now (a .run))) _ (r .is) in
+    let h = layout-octets (a .family) (drop (a .at) (now (a .run))) _ (r .is) .1 in
     let n = ap (λ (x : Layout). x .length) (c .before .layout-in .ensures ∙ ap layoutIn (c .before .before .after .ensures)) in
     let d = length-drop (a .at) (now (a .run)) in
     omega arith

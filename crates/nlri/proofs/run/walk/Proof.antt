@@ -38,23 +38,24 @@ step-fault-requires : tie.Need-step-fault-requires Inv-loop μ-loop
 step-fault-requires c κs = search needs
 
 cast-t9 : tie.Need-cast-t9 Inv-loop μ-loop
-cast-t9 c = let h = c .before .before .loop .inv .short in omega arith
+cast-t9 c = omega arith
 
 returns-2 : tie.Need-returns-2 Inv-loop μ-loop
 returns-2 c = going-last _ _ _ _ (c .before .before .loop .inv) _ _ (step-under-is _ _ _ _ _ (size-given _ _ _ (c .before .before .before .before .before .before .family-bits .ensures) (c .before .before .before .before .family .given .1)) (step-stops _ _ _ _ (c .before .step-fault .ensures) (c .if1 .taken)))
 
 cast-t11 : tie.Need-cast-t11 Inv-loop μ-loop
-cast-t11 c = let h = c .before .before .before .loop .inv .short in omega arith
+cast-t11 c = omega arith
 
 returns-3 : tie.Need-returns-3 Inv-loop μ-loop
 returns-3 c = going-last _ _ _ _ (c .before .before .before .loop .inv) _ _ (step-under-is _ _ _ _ _ (size-given _ _ _ (c .before .before .before .before .before .before .before .family-bits .ensures) (c .before .before .before .before .before .family .given .1)) (ap (λ (n : ℕ). stoppedAt n (c .before .before .before .loop .at)) (c .before .if1 .left) ∙ step-ends _ _ _ _ (c .before .before .step-fault .ensures) (c .before .if1 .left) (c .if2 .taken)))
 
 add-at : tie.Need-add-at Inv-loop μ-loop
-add-at c = let h = c .before .before .before .loop .inv .short in omega arith
+add-at c = omega arith
 
 -- the step of a turn that goes on
 read : (c : tie.After-shared-slice-known2 Inv-loop μ-loop) → stepFrom (c .before .before .before .before .before .before .before .before .before .before .args .afi) (now (c .before .before .before .before .before .before .before .before .before .before .args .run)) (c .before .before .before .before .loop .at) ≡ readTo (layoutIn (drop (c .before .before .before .before .loop .at) (now (c .before .before .before .before .before .before .before .before .before .before .args .run)))) (c .before .before .before .before .loop .at + (2 + getD (now (c .before .before .before .before .before .before .before .before .before .before .args .run)) (c .before .before .before .before .loop .at + 1) 0))
-read c = step-under-is _ _ _ _ _ (size-given _ _ _ (c .before .before .before .before .before .before .before .before .family-bits .ensures) (c .before .before .before .before .before .before .family .given .1)) (read-by-octet _ _ _ (c .before .if2 .left) (step-reads _ _ _ _ (c .before .before .before .step-fault .ensures) (c .before .before .if1 .left) (c .before .if2 .left)))
+read c =
+    step-under-is _ _ _ _ _ (size-given _ _ _ (c .before .before .before .before .before .before .before .before .family-bits .ensures) (c .before .before .before .before .before .before .family .given .1)) (read-by-octet _ _ _ (c .before .if2 .left) (step-reads _ _ _ _ (c .before .before .before .step-fault .ensures) (c .before .before .if1 .left) (c .before .if2 .left)))
 
 shared-slice-read-at : tie.Need-shared-slice-read-at Inv-loop μ-loop
 shared-slice-read-at c = let m = step-moves _ _ _ _ _ (read c) in omega arith
@@ -72,7 +73,7 @@ add-count : tie.Need-add-count Inv-loop μ-loop
 add-count c = let h = c .before .before .before .before .loop .inv in omega (arith, h .counted, h .short)
 
 loop-less : tie.Need-loop-less Inv-loop μ-loop
-loop-less c = let m = step-moves _ _ _ _ _ (read c) in omega arith
+loop-less c = omega arith
 
 loop-again : tie.Need-loop-again Inv-loop μ-loop
 loop-again c = going-next _ _ _ _ (c .before .before .before .before .loop .inv) _ _ (read c)

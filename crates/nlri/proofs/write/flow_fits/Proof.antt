@@ -1,7 +1,6 @@
 -- `nlri::write::flow_fits` meets its contract.
 use Rattle.nlri.specs.InnerWriting.{flowFits}
 use Rattle.octets.proofs.Tests.{flags}
-use mathlib.Core.Path.{sym, _∙_}
 use borrow.Author.Needs.{needs}
 use Rattle.nlri.proofs.write.flow_fits.Statement.{statement}
 use Rattle.nlri.proofs.write.flow_fits.Tie as tie
@@ -23,23 +22,15 @@ is-allowed-requires-2 c κs = search needs
 
 returns : tie.Need-returns
 unfolding flowFits
-returns c =
-    let f0 = sym (c .before .before .is-allowed .ensures) ∙ c .before .if2 .taken in
-    let f1 = sym (c .before .before .before .before .has-flow .ensures) ∙ c .before .before .before .if1 .taken in
-    search flags
+returns c = search flags
 
 returns-2 : tie.Need-returns-2
 unfolding flowFits
-returns-2 c =
-    let f0 = sym (c .before .is-allowed .ensures) ∙ c .if2 .left in
-    let f1 = sym (c .before .before .before .has-flow .ensures) ∙ c .before .before .if1 .taken in
-    search flags
+returns-2 c = search flags
 
 returns-3 : tie.Need-returns-3
 unfolding flowFits
-returns-3 c =
-    let f0 = sym (c .before .has-flow .ensures) ∙ c .if1 .left in
-    search flags
+returns-3 c = search flags
 
 pub flow-fits-spec : {M : Type 1} → statement M
 flow-fits-spec =

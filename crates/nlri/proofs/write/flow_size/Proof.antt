@@ -1,7 +1,6 @@
 -- `nlri::write::flow_size` meets its contract.
 use Rattle.nlri.specs.InnerWriting.{flowSize}
-use Rattle.octets.proofs.Tests.{tests}
-use mathlib.Core.Path.{sym, _∙_}
+use Rattle.octets.proofs.Tests.{flags}
 use borrow.Author.Needs.{needs}
 use Rattle.nlri.proofs.write.flow_size.Statement.{statement}
 use Rattle.nlri.proofs.write.flow_size.Tie as tie
@@ -17,15 +16,11 @@ add-result-2 c = search needs
 
 returns : tie.Need-returns
 unfolding flowSize
-returns c =
-    let f0 = sym (c .before .has-flow .ensures) ∙ c .if1 .taken in
-    search tests
+returns c = search flags
 
 returns-2 : tie.Need-returns-2
 unfolding flowSize
-returns-2 c =
-    let f0 = sym (c .before .has-flow .ensures) ∙ c .if1 .left in
-    search tests
+returns-2 c = search flags
 
 pub flow-size-spec : {M : Type 1} → statement M
 flow-size-spec = tie.close (tie.spec has-flow-requires add-result add-result-2 returns returns-2)

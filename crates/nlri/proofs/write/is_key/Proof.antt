@@ -1,5 +1,4 @@
 -- `nlri::write::is_key` meets its contract.
-use denote.Ref.{now}
 use native.Mathlib.Omega.{arith}
 use Rattle.nlri.proofs.KeyTests.{key-short, key-other-type, key-other-length, key-by-front}
 use borrow.Author.Needs.{needs}

@@ -11,8 +11,7 @@ cast-route-type c = search needs
 
 returns : tie.Need-returns
 unfolding judged
-returns c =
-    search tests depth 10
+returns c = search tests depth 10
 
 returns-2 : tie.Need-returns-2
 unfolding judged

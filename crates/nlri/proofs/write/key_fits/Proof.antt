@@ -10,13 +10,11 @@ is-key-requires c κs = search needs
 
 returns : tie.Need-returns
 unfolding leafFits
-returns c =
-    search tests
+returns c = search tests
 
 returns-2 : tie.Need-returns-2
 unfolding leafFits
-returns-2 c =
-    search tests
+returns-2 c = search tests
 
 pub key-fits-spec : {M : Type 1} → statement M
 key-fits-spec = tie.close (tie.spec is-key-requires returns returns-2)

@@ -1,7 +1,6 @@
 -- `nlri::write::originator_fits` meets its contract.
 use Rattle.nlri.specs.InnerWriting.{originatorFits}
-use Rattle.octets.proofs.Tests.{tests}
-use mathlib.Core.Path.{sym, _∙_}
+use Rattle.octets.proofs.Tests.{flags}
 use borrow.Author.Needs.{needs}
 use Rattle.nlri.proofs.write.originator_fits.Statement.{statement}
 use Rattle.nlri.proofs.write.originator_fits.Tie as tie
@@ -14,15 +13,11 @@ is-originator-size-requires c κs = search needs
 
 returns : tie.Need-returns
 unfolding originatorFits
-returns c =
-    let f0 = sym (c .before .before .has-originator .ensures) ∙ c .before .if1 .taken in
-    search tests
+returns c = search flags
 
 returns-2 : tie.Need-returns-2
 unfolding originatorFits
-returns-2 c =
-    let f0 = sym (c .before .has-originator .ensures) ∙ c .if1 .left in
-    search tests
+returns-2 c = search flags
 
 pub originator-fits-spec : {M : Type 1} → statement M
 originator-fits-spec =

@@ -1,7 +1,6 @@
 -- `nlri::write::originator_length` meets its contract.
 use Rattle.nlri.specs.InnerWriting.{originatorLength}
-use Rattle.octets.proofs.Tests.{tests}
-use mathlib.Core.Path.{sym, _∙_}
+use Rattle.octets.proofs.Tests.{flags}
 use borrow.Author.Needs.{needs}
 use Rattle.nlri.proofs.write.originator_length.Statement.{statement}
 use Rattle.nlri.proofs.write.originator_length.Tie as tie
@@ -11,15 +10,11 @@ has-originator-requires c κs = search needs
 
 returns : tie.Need-returns
 unfolding originatorLength
-returns c =
-    let f0 = sym (c .before .has-originator .ensures) ∙ c .if1 .taken in
-    search tests
+returns c = search flags
 
 returns-2 : tie.Need-returns-2
 unfolding originatorLength
-returns-2 c =
-    let f0 = sym (c .before .has-originator .ensures) ∙ c .if1 .left in
-    search tests
+returns-2 c = search flags
 
 pub originator-length-spec : {M : Type 1} → statement M
 originator-length-spec = tie.close (tie.spec has-originator-requires returns returns-2)

@@ -1,5 +1,5 @@
 -- `nlri::write::put` meets its contract.
-use Rattle.octets.proofs.Lists.{put-as, put-then, put-length}
+use Rattle.octets.proofs.Lists.{put-as, put-then}
 use Rattle.nlri.proofs.Puts.{all-length, all-put, put-all}
 use native.Mathlib.Omega.{arith}
 use denote.Ref.{now}
@@ -18,15 +18,16 @@ cast-put-header c = search needs
 
 put-header-requires : tie.Need-put-header-requires
 put-header-requires c κs =
-    let l = all-length (c .before .before .before .args .nlri) (now (c .before .before .before .args .key)) in
-    let w = c .before .before .before .pre in
+    let start = c .before .before .before in
+    let l = all-length (start .args .nlri) (now (start .args .key)) in
+    let w = start .pre in
     omega (arith, w .exact, w .room)
 
 put-body-requires : tie.Need-put-body-requires
 put-body-requires c κs =
-    let l = all-length (c .before .before .before .before .before .before .before .args .nlri) (now (c .before .before .before .before .before .before .before .args .key)) in
-    let w = c .before .before .before .before .before .before .before .pre in
-    let k = put-length _ _ _ _ _ (omega (arith, w .exact, w .room)) (c .before .before .before .put-header .ensures) in
+    let start = c .before .before .before .before .before .before .before in
+    let l = all-length (start .args .nlri) (now (start .args .key)) in
+    let w = start .pre in
     (w .sized, omega (arith, w .exact, w .room, c .before .before .before .put-header .ensures .0))
 
 same-length : tie.Need-same-length
@@ -34,9 +35,10 @@ same-length c = search needs
 
 returns : tie.Need-returns
 returns c =
-    let l = all-length (c .before .before .before .before .before .before .before .before .before .before .args .nlri) (now (c .before .before .before .before .before .before .before .before .before .before .args .key)) in
-    let w = c .before .before .before .before .before .before .before .before .before .before .pre in
-    put-all _ _ _ _ _ (w .exact) (put-as _ _ _ _ _ _ (all-put (c .before .before .before .before .before .before .before .before .before .before .args .nlri) (now (c .before .before .before .before .before .before .before .before .before .before .args .key)) _ (omega (arith, w .exact))) (put-then _ _ _ _ _ _ _ _ (omega (arith, w .exact, w .room)) (c .before .before .before .before .before .before .put-header .ensures) (c .before .before .put-body .ensures)))
+    let start = c .before .before .before .before .before .before .before .before .before .before in
+    let l = all-length (start .args .nlri) (now (start .args .key)) in
+    let w = start .pre in
+    put-all _ _ _ _ _ (w .exact) (put-as _ _ _ _ _ _ (all-put (start .args .nlri) (now (start .args .key)) _ (omega (arith, w .exact))) (put-then _ _ _ _ _ _ _ _ (omega (arith, w .exact, w .room)) (c .before .before .before .before .before .before .put-header .ensures) (c .before .before .put-body .ensures)))
 
 pub put-spec : {M : Type 1} → statement M
 put-spec =

@@ -2,7 +2,7 @@
 use Prim.Native.Nat.{_*_}
 use mathlib.Core.List.{[], _∷_}
 use Rattle.nlri.specs.Answers.{octetsOf}
-use Rattle.octets.proofs.Lists.{put-as, put-then, put-length}
+use Rattle.octets.proofs.Lists.{put-as, put-then}
 use Rattle.nlri.proofs.Puts.{address-room, address-split}
 use native.Mathlib.Omega.{arith}
 use denote.Ref.{now}
@@ -22,10 +22,10 @@ place-requires c κs =
 
 put-octets-requires : tie.Need-put-octets-requires
 put-octets-requires c κs =
-    let a = c .before .before .before .before .before .before .before .before .args in
+    let start = c .before .before .before .before .before .before .before .before in
+    let a = start .args in
     let l = address-room (a .address) in
-    let k = put-length _ _ _ _ _ (omega (arith, c .before .before .before .before .before .before .before .before .pre .1)) (c .before .before .before .place .ensures) in
-    (c .before .before .before .before .before .before .before .before .pre .0, omega (arith, c .before .before .before .before .before .before .before .before .pre .1, c .before .before .before .place .ensures .0))
+    (start .pre .0, omega (arith, start .pre .1, c .before .before .before .place .ensures .0))
 
 same-length : tie.Need-same-length
 same-length c = search needs

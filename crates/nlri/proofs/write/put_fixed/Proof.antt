@@ -1,8 +1,8 @@
 -- `nlri::write::put_fixed` meets its contract.
 use borrow.Author.Tests.{eq-eqb, ne-eqb}
 use lib.ListN.{length-append, length}
-use Rattle.nlri.specs.InnerWriting.{numberOctets}
-use Rattle.octets.proofs.Lists.{put-as, put-then, put-length}
+use Rattle.nlri.specs.InnerWriting.{sourceAsOctets}
+use Rattle.octets.proofs.Lists.{put-as, put-then}
 use Rattle.nlri.proofs.Puts.{fixed-key, fixed-distinguisher}
 use native.Mathlib.Omega.{arith}
 use mathlib.Core.Path.{_∙_, sym, ap}
@@ -16,7 +16,8 @@ cast-if1 c = search needs
 
 place-requires : tie.Need-place-requires
 place-requires c κs =
-    let e = ap length (fixed-key (c .before .before .before .before .before .args .nlri) (now (c .before .before .before .before .before .args .key)) (eq-eqb _ _ (c .before .if1 .taken))) in omega (arith, c .before .before .before .before .before .pre)
+    let start = c .before .before .before .before .before in
+    let e = ap length (fixed-key (start .args .nlri) (now (start .args .key)) (eq-eqb _ _ (c .before .if1 .taken))) in omega (arith, start .pre)
 
 same-length : tie.Need-same-length
 same-length c = search needs
@@ -30,22 +31,24 @@ slice-aggregate-place c = search needs
 
 place-requires-2 : tie.Need-place-requires-2
 place-requires-2 c κs =
-    let e = sym (length-append (c .before .before .before .before .before .before .before .before .args .nlri .distinguisher .octets) (numberOctets (c .before .before .before .before .before .before .before .before .args .nlri))) ∙ ap length (fixed-distinguisher (c .before .before .before .before .before .before .before .before .args .nlri) (now (c .before .before .before .before .before .before .before .before .args .key)) (ne-eqb _ _ (c .before .before .before .before .if1 .left))) in
-    omega (arith, c .before .before .before .before .before .before .before .before .pre)
+    let start = c .before .before .before .before .before .before .before .before in
+    let e = sym (length-append (start .args .nlri .distinguisher .octets) (sourceAsOctets (start .args .nlri))) ∙ ap length (fixed-distinguisher (start .args .nlri) (now (start .args .key)) (ne-eqb _ _ (c .before .before .before .before .if1 .left))) in
+    omega (arith, start .pre)
 
 put-source-as-requires : tie.Need-put-source-as-requires
 put-source-as-requires c κs =
-    let e = sym (length-append (c .before .before .before .before .before .before .before .before .before .before .before .before .args .nlri .distinguisher .octets) (numberOctets (c .before .before .before .before .before .before .before .before .before .before .before .before .args .nlri))) ∙ ap length (fixed-distinguisher (c .before .before .before .before .before .before .before .before .before .before .before .before .args .nlri) (now (c .before .before .before .before .before .before .before .before .before .before .before .before .args .key)) (ne-eqb _ _ (c .before .before .before .before .before .before .before .before .if1 .left))) in
-    let k = put-length _ _ _ _ _ (omega (arith, c .before .before .before .before .before .before .before .before .before .before .before .before .pre)) (c .before .before .before .place2 .ensures) in
-    omega (arith, c .before .before .before .before .before .before .before .before .before .before .before .before .pre, c .before .before .before .place2 .ensures .0)
+    let start = c .before .before .before .before .before .before .before .before .before .before .before .before in
+    let e = sym (length-append (start .args .nlri .distinguisher .octets) (sourceAsOctets (start .args .nlri))) ∙ ap length (fixed-distinguisher (start .args .nlri) (now (start .args .key)) (ne-eqb _ _ (c .before .before .before .before .before .before .before .before .if1 .left))) in
+    omega (arith, start .pre, c .before .before .before .place2 .ensures .0)
 
 same-length-2 : tie.Need-same-length-2
 same-length-2 c = search needs
 
 returns-2 : tie.Need-returns-2
 returns-2 c =
-    let e = sym (length-append (c .before .before .before .before .before .before .before .before .before .before .before .before .before .before .before .args .nlri .distinguisher .octets) (numberOctets (c .before .before .before .before .before .before .before .before .before .before .before .before .before .before .before .args .nlri))) ∙ ap length (fixed-distinguisher (c .before .before .before .before .before .before .before .before .before .before .before .before .before .before .before .args .nlri) (now (c .before .before .before .before .before .before .before .before .before .before .before .before .before .before .before .args .key)) (ne-eqb _ _ (c .before .before .before .before .before .before .before .before .before .before .before .if1 .left))) in
-    put-as _ _ _ _ _ _ (fixed-distinguisher (c .before .before .before .before .before .before .before .before .before .before .before .before .before .before .before .args .nlri) (now (c .before .before .before .before .before .before .before .before .before .before .before .before .before .before .before .args .key)) (ne-eqb _ _ (c .before .before .before .before .before .before .before .before .before .before .before .if1 .left))) (put-then _ _ _ _ _ _ _ _ (omega (arith, c .before .before .before .before .before .before .before .before .before .before .before .before .before .before .before .pre)) (c .before .before .before .before .before .before .place2 .ensures) (c .before .before .put-source-as .ensures))
+    let start = c .before .before .before .before .before .before .before .before .before .before .before .before .before .before .before in
+    let e = sym (length-append (start .args .nlri .distinguisher .octets) (sourceAsOctets (start .args .nlri))) ∙ ap length (fixed-distinguisher (start .args .nlri) (now (start .args .key)) (ne-eqb _ _ (c .before .before .before .before .before .before .before .before .before .before .before .if1 .left))) in
+    put-as _ _ _ _ _ _ (fixed-distinguisher (start .args .nlri) (now (start .args .key)) (ne-eqb _ _ (c .before .before .before .before .before .before .before .before .before .before .before .if1 .left))) (put-then _ _ _ _ _ _ _ _ (omega (arith, start .pre)) (c .before .before .before .before .before .before .place2 .ensures) (c .before .before .put-source-as .ensures))
 
 pub put-fixed-spec : {M : Type 1} → statement M
 put-fixed-spec =

@@ -3,7 +3,7 @@ use Rattle.nlri.specs.Fields.{encodeAddress}
 use lib.ListN.{length-append, length}
 use mathlib.Core.List.{[]}
 use Rattle.nlri.specs.Answers.{octetsOf}
-use Rattle.octets.proofs.Lists.{put-as, put-none, put-then, put-length}
+use Rattle.octets.proofs.Lists.{put-as, put-none, put-then}
 use Rattle.nlri.proofs.Puts.{flow-there, flow-none}
 use native.Mathlib.Omega.{arith}
 use mathlib.Core.Path.{_∙_, sym, ap}
@@ -19,24 +19,26 @@ has-flow-requires c κs = search needs
 
 put-address-requires : tie.Need-put-address-requires
 put-address-requires c κs =
+    let start = c .before .before .before .before .before .before .before in
     let f = sym (c .before .before .before .before .has-flow .ensures) ∙ c .before .before .before .if1 .taken in
-    let e = sym (length-append (encodeAddress (octetsOf (c .before .before .before .before .before .before .before .args .nlri .source))) (encodeAddress (octetsOf (c .before .before .before .before .before .before .before .args .nlri .group)))) ∙ ap length (flow-there (c .before .before .before .before .before .before .before .args .nlri) [] (sym (c .before .before .before .before .has-flow .ensures) ∙ c .before .before .before .if1 .taken)) in
-    (c .before .before .before .before .before .before .before .pre .0 .source f, omega (arith, c .before .before .before .before .before .before .before .pre .1))
+    let e = sym (length-append (encodeAddress (octetsOf (start .args .nlri .source))) (encodeAddress (octetsOf (start .args .nlri .group)))) ∙ ap length (flow-there (start .args .nlri) [] (sym (c .before .before .before .before .has-flow .ensures) ∙ c .before .before .before .if1 .taken)) in
+    (start .pre .0 .source f, omega (arith, start .pre .1))
 
 put-address-requires-2 : tie.Need-put-address-requires-2
 put-address-requires-2 c κs =
+    let start = c .before .before .before .before .before .before .before .before .before .before .before in
     let f = sym (c .before .before .before .before .before .before .before .before .has-flow .ensures) ∙ c .before .before .before .before .before .before .before .if1 .taken in
-    let e = sym (length-append (encodeAddress (octetsOf (c .before .before .before .before .before .before .before .before .before .before .before .args .nlri .source))) (encodeAddress (octetsOf (c .before .before .before .before .before .before .before .before .before .before .before .args .nlri .group)))) ∙ ap length (flow-there (c .before .before .before .before .before .before .before .before .before .before .before .args .nlri) [] (sym (c .before .before .before .before .before .before .before .before .has-flow .ensures) ∙ c .before .before .before .before .before .before .before .if1 .taken)) in
-    let k = put-length _ _ _ _ _ (omega (arith, c .before .before .before .before .before .before .before .before .before .before .before .pre .1)) (c .before .before .before .put-address .ensures) in
-    (c .before .before .before .before .before .before .before .before .before .before .before .pre .0 .group f, omega (arith, c .before .before .before .before .before .before .before .before .before .before .before .pre .1, c .before .before .before .put-address .ensures .0))
+    let e = sym (length-append (encodeAddress (octetsOf (start .args .nlri .source))) (encodeAddress (octetsOf (start .args .nlri .group)))) ∙ ap length (flow-there (start .args .nlri) [] (sym (c .before .before .before .before .before .before .before .before .has-flow .ensures) ∙ c .before .before .before .before .before .before .before .if1 .taken)) in
+    (start .pre .0 .group f, omega (arith, start .pre .1, c .before .before .before .put-address .ensures .0))
 
 same-length : tie.Need-same-length
 same-length c = search needs
 
 returns : tie.Need-returns
 returns c =
-    let e = sym (length-append (encodeAddress (octetsOf (c .before .before .before .before .before .before .before .before .before .before .before .before .before .before .args .nlri .source))) (encodeAddress (octetsOf (c .before .before .before .before .before .before .before .before .before .before .before .before .before .before .args .nlri .group)))) ∙ ap length (flow-there (c .before .before .before .before .before .before .before .before .before .before .before .before .before .before .args .nlri) [] (sym (c .before .before .before .before .before .before .before .before .before .before .before .has-flow .ensures) ∙ c .before .before .before .before .before .before .before .before .before .before .if1 .taken)) in
-    put-as _ _ _ _ _ _ (flow-there (c .before .before .before .before .before .before .before .before .before .before .before .before .before .before .args .nlri) [] (sym (c .before .before .before .before .before .before .before .before .before .before .before .has-flow .ensures) ∙ c .before .before .before .before .before .before .before .before .before .before .if1 .taken)) (put-then _ _ _ _ _ _ _ _ (omega (arith, c .before .before .before .before .before .before .before .before .before .before .before .before .before .before .pre .1)) (c .before .before .before .before .before .before .put-address .ensures) (c .before .before .put-address2 .ensures))
+    let start = c .before .before .before .before .before .before .before .before .before .before .before .before .before .before in
+    let e = sym (length-append (encodeAddress (octetsOf (start .args .nlri .source))) (encodeAddress (octetsOf (start .args .nlri .group)))) ∙ ap length (flow-there (start .args .nlri) [] (sym (c .before .before .before .before .before .before .before .before .before .before .before .has-flow .ensures) ∙ c .before .before .before .before .before .before .before .before .before .before .if1 .taken)) in
+    put-as _ _ _ _ _ _ (flow-there (start .args .nlri) [] (sym (c .before .before .before .before .before .before .before .before .before .before .before .has-flow .ensures) ∙ c .before .before .before .before .before .before .before .before .before .before .if1 .taken)) (put-then _ _ _ _ _ _ _ _ (omega (arith, start .pre .1)) (c .before .before .before .before .before .before .put-address .ensures) (c .before .before .put-address2 .ensures))
 
 returns-2 : tie.Need-returns-2
 returns-2 c =

@@ -24,10 +24,11 @@ slice-aggregate-place c =
 
 place-requires : tie.Need-place-requires
 place-requires c κs =
-    let h : length (c .before .before .before .before .before .before .args .address .octets) ≡ 16 = search needs in
-    let t = length-take-le 4 (c .before .before .before .before .before .before .args .address .octets) (omega arith) in
-    let l = octets-length (c .before .before .before .before .before .before .args .address) in
-    omega (arith, c .before .before .before .before .before .before .pre .1)
+    let start = c .before .before .before .before .before .before in
+    let h : length (start .args .address .octets) ≡ 16 = search needs in
+    let t = length-take-le 4 (start .args .address .octets) (omega arith) in
+    let l = octets-length (start .args .address) in
+    omega (arith, start .pre .1)
 
 same-length : tie.Need-same-length
 same-length c = search needs
@@ -42,9 +43,10 @@ slice-aggregate-place-2 c = search needs
 
 place-requires-2 : tie.Need-place-requires-2
 place-requires-2 c κs =
-    let h : length (c .before .before .before .before .before .before .before .args .address .octets) ≡ 16 = search needs in
-    let l = octets-length (c .before .before .before .before .before .before .before .args .address) in
-    omega (arith, c .before .before .before .before .before .before .before .pre .1)
+    let start = c .before .before .before .before .before .before .before in
+    let h : length (start .args .address .octets) ≡ 16 = search needs in
+    let l = octets-length (start .args .address) in
+    omega (arith, start .pre .1)
 
 same-length-2 : tie.Need-same-length-2
 same-length-2 c = search needs

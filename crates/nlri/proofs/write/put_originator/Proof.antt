@@ -17,9 +17,10 @@ has-originator-requires c κs = search needs
 
 put-octets-requires : tie.Need-put-octets-requires
 put-octets-requires c κs =
+    let start = c .before .before .before .before .before .before in
     let f = sym (c .before .before .before .has-originator .ensures) ∙ c .before .before .if1 .taken in
-    let e = ap length (originator-there (c .before .before .before .before .before .before .args .nlri) [] f) in
-    (c .before .before .before .before .before .before .pre .0 .originator f, omega (arith, c .before .before .before .before .before .before .pre .1))
+    let e = ap length (originator-there (start .args .nlri) [] f) in
+    (start .pre .0 .originator f, omega (arith, start .pre .1))
 
 same-length : tie.Need-same-length
 same-length c = search needs

@@ -2,7 +2,7 @@
 use Rattle.octets.proofs.NetworkOrder.{big-endian-length}
 use mathlib.Core.List.{[]}
 use Rattle.octets.proofs.Lists.{put-as, put-none}
-use Rattle.nlri.proofs.Puts.{number-there, number-none}
+use Rattle.nlri.proofs.Puts.{source-as-there, source-as-none}
 use lib.ListN.{length}
 use native.Mathlib.Omega.{arith}
 use Prim.Native.Nat.{ℕ, _+_}
@@ -19,22 +19,24 @@ has-source-as-requires c κs = search needs
 
 place-four-requires : tie.Need-place-four-requires
 place-four-requires c κs =
-    let e = ap length (number-there (c .before .before .before .before .before .args .nlri) [] (sym (c .before .before .has-source-as .ensures) ∙ c .before .if1 .taken)) in
-    let l = big-endian-length 4 (c .before .before .before .before .before .args .nlri .«source_as») in
-    omega (arith, c .before .before .before .before .before .pre)
+    let start = c .before .before .before .before .before in
+    let e = ap length (source-as-there (start .args .nlri) [] (sym (c .before .before .has-source-as .ensures) ∙ c .before .if1 .taken)) in
+    let l = big-endian-length 4 (start .args .nlri .«source_as») in
+    omega (arith, start .pre)
 
 same-length : tie.Need-same-length
 same-length c = search needs
 
 returns : tie.Need-returns
 returns c =
-    let e = number-there (c .before .before .before .before .before .before .before .before .args .nlri) [] (sym (c .before .before .before .before .before .has-source-as .ensures) ∙ c .before .before .before .before .if1 .taken) in
-    let l = big-endian-length 4 (c .before .before .before .before .before .before .before .before .args .nlri .«source_as») in
-    put-as _ _ _ _ _ _ e (c .before .before .place-four .ensures .0 ∙ ap (λ (k : ℕ). c .before .before .before .before .before .before .before .before .args .at + k) (sym l), c .before .before .place-four .ensures .1)
+    let start = c .before .before .before .before .before .before .before .before in
+    let e = source-as-there (start .args .nlri) [] (sym (c .before .before .before .before .before .has-source-as .ensures) ∙ c .before .before .before .before .if1 .taken) in
+    let l = big-endian-length 4 (start .args .nlri .«source_as») in
+    put-as _ _ _ _ _ _ e (c .before .before .place-four .ensures .0 ∙ ap (λ (k : ℕ). start .args .at + k) (sym l), c .before .before .place-four .ensures .1)
 
 returns-2 : tie.Need-returns-2
 returns-2 c =
-    put-as _ _ _ _ _ _ (number-none (c .before .before .before .before .args .nlri) [] (sym (c .before .has-source-as .ensures) ∙ c .if1 .left)) (put-none _ _)
+    put-as _ _ _ _ _ _ (source-as-none (c .before .before .before .before .args .nlri) [] (sym (c .before .has-source-as .ensures) ∙ c .if1 .left)) (put-none _ _)
 
 pub put-source-as-spec : {M : Type 1} → statement M
 put-source-as-spec =

@@ -2,7 +2,6 @@
 use Rattle.nlri.specs.InnerWriting.{sizeOf}
 use Rattle.nlri.proofs.Puts.{fixed-most, flow-most, originator-most}
 use native.Mathlib.Omega.{arith}
-use Prim.Native.Nat.{_<_}
 use borrow.Author.Needs.{needs}
 use Rattle.nlri.proofs.write.size_of.Statement.{statement}
 use Rattle.nlri.proofs.write.size_of.Tie as tie
@@ -24,14 +23,14 @@ flow-size-requires c κs = search needs
 
 add-result : tie.Need-add-result
 add-result c =
-    let h = fixed-most (c .before .before .before .before .before .before .before .before .args .nlri .«route_type») (c .before .before .before .before .before .before .before .before .args .key) (c .before .before .before .before .before .before .before .before .pre) in omega (arith, c .before .before .before .fixed-size .ensures)
+    let start = c .before .before .before .before .before .before .before .before in
+    let h = fixed-most (start .args .nlri .«route_type») (start .args .key) (start .pre) in omega (arith, c .before .before .before .fixed-size .ensures)
 
 add-result-2 : tie.Need-add-result-2
 add-result-2 c =
-    let hsource : c .before .before .before .before .before .before .before .before .args .nlri .source .size < 256 = search needs in
-    let hgroup : c .before .before .before .before .before .before .before .before .args .nlri .group .size < 256 = search needs in
-    let h = fixed-most (c .before .before .before .before .before .before .before .before .args .nlri .«route_type») (c .before .before .before .before .before .before .before .before .args .key) (c .before .before .before .before .before .before .before .before .pre) in
-    let w = flow-most (c .before .before .before .before .before .before .before .before .args .nlri .«route_type») (c .before .before .before .before .before .before .before .before .args .nlri .source .size) (c .before .before .before .before .before .before .before .before .args .nlri .group .size) in
+    let start = c .before .before .before .before .before .before .before .before in
+    let h = fixed-most (start .args .nlri .«route_type») (start .args .key) (start .pre) in
+    let w = flow-most (start .args .nlri .«route_type») (start .args .nlri .source .size) (start .args .nlri .group .size) in
     omega (arith, c .before .before .before .fixed-size .ensures, c .flow-size .ensures)
 
 cast-originator-length : tie.Need-cast-originator-length
@@ -42,12 +41,10 @@ originator-length-requires c κs = search needs
 
 add-result-3 : tie.Need-add-result-3
 add-result-3 c =
-    let hsource : c .before .before .before .before .before .before .before .before .before .before .args .nlri .source .size < 256 = search needs in
-    let hgroup : c .before .before .before .before .before .before .before .before .before .before .args .nlri .group .size < 256 = search needs in
-    let horiginator : c .before .before .before .before .before .before .before .before .before .before .args .nlri .originator .size < 256 = search needs in
-    let h = fixed-most (c .before .before .before .before .before .before .before .before .before .before .args .nlri .«route_type») (c .before .before .before .before .before .before .before .before .before .before .args .key) (c .before .before .before .before .before .before .before .before .before .before .pre) in
-    let w = flow-most (c .before .before .before .before .before .before .before .before .before .before .args .nlri .«route_type») (c .before .before .before .before .before .before .before .before .before .before .args .nlri .source .size) (c .before .before .before .before .before .before .before .before .before .before .args .nlri .group .size) in
-    let o = originator-most (c .before .before .before .before .before .before .before .before .before .before .args .nlri .«route_type») (c .before .before .before .before .before .before .before .before .before .before .args .nlri .originator .size) in
+    let start = c .before .before .before .before .before .before .before .before .before .before in
+    let h = fixed-most (start .args .nlri .«route_type») (start .args .key) (start .pre) in
+    let w = flow-most (start .args .nlri .«route_type») (start .args .nlri .source .size) (start .args .nlri .group .size) in
+    let o = originator-most (start .args .nlri .«route_type») (start .args .nlri .originator .size) in
     omega (arith, c .before .before .before .before .before .fixed-size .ensures, c .before .before .flow-size .ensures, c .originator-length .ensures)
 
 returns : tie.Need-returns

@@ -1,5 +1,5 @@
 -- `nlri::write::write_nlri` meets its contract.
-use Rattle.nlri.proofs.Judges.{answers, untouched, write-is}
+use Rattle.nlri.proofs.Verdicts.{answers, untouched, write-is}
 use Rattle.nlri.proofs.Via.{size-given, fault-given}
 use Rattle.nlri.proofs.Families.{family-is}
 use Rattle.octets.proofs.Tests.{stops, goes}

@@ -1,5 +1,5 @@
 -- `nlri::write::write_under` meets its contract.
-use Rattle.nlri.proofs.Judges.{answers, untouched, refused-under, space-under, given-under, key-short, keyed, sized-nlri, size-short}
+use Rattle.nlri.proofs.Verdicts.{answers, untouched, refused-under, space-under, given-under, key-short, keyed, sized-nlri, size-short}
 use Rattle.nlri.proofs.Puts.{size-is}
 use Rattle.octets.specs.Outcome.{refused}
 use lib.ListN.{length}
@@ -18,35 +18,40 @@ refusal-requires c κs = search needs
 
 returns : tie.Need-returns
 returns c =
-    answers _ _ _ _ _ (ap refused (c .before .before .judge .ensures) ∙ refused-under (c .before .before .before .before .before .args .family) (c .before .before .before .before .before .args .nlri) (now (c .before .before .before .before .before .args .key)) _ (λ e. c .before .if1 .taken (c .before .before .judge .ensures ∙ e))) (c .refusal .ensures, untouched _ _)
+    let start = c .before .before .before .before .before in
+    answers _ _ _ _ _ (ap refused (c .before .before .judge .ensures) ∙ refused-under (start .args .family) (start .args .nlri) (now (start .args .key)) _ (λ e. c .before .if1 .taken (c .before .before .judge .ensures ∙ e))) (c .refusal .ensures, untouched _ _)
 
 size-of-requires : tie.Need-size-of-requires
 size-of-requires c κs =
+    let start = c .before .before .before .before in
     let none = sym (c .before .judge .ensures) ∙ c .if1 .left in
-    λ e. let k = key-short (c .before .before .before .before .args .family) (now (c .before .before .before .before .args .key)) (c .before .before .before .before .pre) (λ i. c .before .before .before .shared-slice-known .given i .fits) (keyed (c .before .before .before .before .args .family) (c .before .before .before .before .args .nlri) (now (c .before .before .before .before .args .key)) none e) in omega arith
+    λ e. let k = key-short (start .args .family) (now (start .args .key)) (start .pre) (λ i. c .before .before .before .shared-slice-known .given i .fits) (keyed (start .args .family) (start .args .nlri) (now (start .args .key)) none e) in omega arith
 
 refusal-requires-2 : tie.Need-refusal-requires-2
 refusal-requires-2 c κs = search needs
 
 returns-2 : tie.Need-returns-2
 returns-2 c =
+    let start = c .before .before .before .before .before .before .before in
     let none = sym (c .before .before .before .before .judge .ensures) ∙ c .before .before .before .if1 .left in
-    answers _ _ _ _ _ (space-under (c .before .before .before .before .before .before .before .args .family) (c .before .before .before .before .before .before .before .args .nlri) (now (c .before .before .before .before .before .before .before .args .key)) _ none (omega (arith, c .before .before .size-of .ensures, c .before .if2 .taken))) (c .refusal2 .ensures, untouched _ _)
+    answers _ _ _ _ _ (space-under (start .args .family) (start .args .nlri) (now (start .args .key)) _ none (omega (arith, c .before .before .size-of .ensures, c .before .if2 .taken))) (c .refusal2 .ensures, untouched _ _)
 
 put-requires : tie.Need-put-requires
 put-requires c κs =
+    let start = c .before .before .before .before .before .before .before in
     let none = sym (c .before .before .before .before .judge .ensures) ∙ c .before .before .before .if1 .left in
-    let eight : length (c .before .before .before .before .before .before .before .args .nlri .distinguisher .octets) ≡ 8 = search needs in
-    let short = size-short (c .before .before .before .before .before .before .before .args .family) (c .before .before .before .before .before .before .before .args .nlri) (now (c .before .before .before .before .before .before .before .args .key)) none (c .before .before .before .before .before .before .before .pre) (λ e. key-short (c .before .before .before .before .before .before .before .args .family) (now (c .before .before .before .before .before .before .before .args .key)) (c .before .before .before .before .before .before .before .pre) (λ i. c .before .before .before .before .before .before .shared-slice-known .given i .fits) (keyed (c .before .before .before .before .before .before .before .args .family) (c .before .before .before .before .before .before .before .args .nlri) (now (c .before .before .before .before .before .before .before .args .key)) none e)) in
-    record { sized = sized-nlri (c .before .before .before .before .before .before .before .args .family) (c .before .before .before .before .before .before .before .args .nlri) (now (c .before .before .before .before .before .before .before .args .key)) none (c .before .before .before .before .before .before .before .pre); exact = c .before .before .size-of .ensures ∙ size-is (c .before .before .before .before .before .before .before .args .nlri) (now (c .before .before .before .before .before .before .before .args .key)) eight; short = omega (arith, c .before .before .size-of .ensures); room = c .before .if2 .left }
+    let eight : length (start .args .nlri .distinguisher .octets) ≡ 8 = search needs in
+    let short = size-short (start .args .family) (start .args .nlri) (now (start .args .key)) none (start .pre) (λ e. key-short (start .args .family) (now (start .args .key)) (start .pre) (λ i. c .before .before .before .before .before .before .shared-slice-known .given i .fits) (keyed (start .args .family) (start .args .nlri) (now (start .args .key)) none e)) in
+    record { sized = sized-nlri (start .args .family) (start .args .nlri) (now (start .args .key)) none (start .pre); exact = c .before .before .size-of .ensures ∙ size-is (start .args .nlri) (now (start .args .key)) eight; short = omega (arith, c .before .before .size-of .ensures); room = c .before .if2 .left }
 
 same-length : tie.Need-same-length
 same-length c = search needs
 
 returns-3 : tie.Need-returns-3
 returns-3 c =
+    let start = c .before .before .before .before .before .before .before .before .before .before in
     let none = sym (c .before .before .before .before .before .before .before .judge .ensures) ∙ c .before .before .before .before .before .before .if1 .left in
-    answers _ _ _ _ _ (given-under (c .before .before .before .before .before .before .before .before .before .before .args .family) (c .before .before .before .before .before .before .before .before .before .before .args .nlri) (now (c .before .before .before .before .before .before .before .before .before .before .args .key)) _ none (omega (arith, c .before .before .before .before .before .size-of .ensures, c .before .before .before .before .if2 .left))) (c .before .before .put .ensures)
+    answers _ _ _ _ _ (given-under (start .args .family) (start .args .nlri) (now (start .args .key)) _ none (omega (arith, c .before .before .before .before .before .size-of .ensures, c .before .before .before .before .if2 .left))) (c .before .before .put .ensures)
 
 pub write-under-spec : {M : Type 1} → statement M
 write-under-spec =

@@ -1,5 +1,6 @@
 -- `tunnel::fields::fec_of` meets its contract: an mLDP tunnel type's identifier without a fault is a FEC.
-use Rattle.tunnel.proofs.Laws.{calls, mldp-whole, mldp-fec, no-mldp}
+use Rattle.octets.proofs.Tests.{flags}
+use Rattle.tunnel.proofs.Laws.{mldp-whole, mldp-fec, no-mldp}
 use Rattle.tunnel.specs.Answers.{noFec}
 use borrow.Author.Needs.{needs}
 use Rattle.tunnel.proofs.fields.fec_of.Statement.{statement}
@@ -15,14 +16,14 @@ after-requires : tie.Need-after-requires
 after-requires c κs = search needs
 
 spans-requires : tie.Need-spans-requires
-spans-requires c κs = search (calls, mldp-whole)
+spans-requires c κs = search (flags, mldp-whole)
 
 returns : tie.Need-returns
-returns c = search (calls, mldp-fec)
+returns c = search (flags, mldp-fec)
 
 returns-2 : tie.Need-returns-2
 unfolding noFec
-returns-2 c = search (calls, no-mldp)
+returns-2 c = search (flags, no-mldp)
 
 pub fec-of-spec : {M : Type 1} → statement M
 fec-of-spec =

@@ -1,7 +1,8 @@
 -- `tunnel::identifier::fault` meets its contract: the rows of FECs, then unknown tunnel types, then the rows of sizes.
 use denote.Ref.{now}
 use mathlib.Core.Path.{sym, _∙_}
-use Rattle.tunnel.proofs.Laws.{calls, unknown-fault}
+use Rattle.octets.proofs.Tests.{flags}
+use Rattle.tunnel.proofs.Laws.{unknown-fault}
 use borrow.Author.Needs.{needs}
 use Rattle.tunnel.proofs.identifier.fault.Statement.{statement}
 use Rattle.tunnel.proofs.identifier.fault.Tie as tie
@@ -10,7 +11,7 @@ is-mldp-requires : tie.Need-is-mldp-requires
 is-mldp-requires c κs = search needs
 
 of-fec-requires : tie.Need-of-fec-requires
-of-fec-requires c κs = search calls
+of-fec-requires c κs = search flags
 
 returns : tie.Need-returns
 returns c = search needs
@@ -19,10 +20,10 @@ is-unknown-requires : tie.Need-is-unknown-requires
 is-unknown-requires c κs = search needs
 
 returns-2 : tie.Need-returns-2
-returns-2 c = search (calls, unknown-fault) depth 8
+returns-2 c = search (flags, unknown-fault) depth 8
 
 sizes-of-requires : tie.Need-sizes-of-requires
-sizes-of-requires c κs = (search calls, search calls)
+sizes-of-requires c κs = (search flags, search flags)
 
 of-sizes-requires : tie.Need-of-sizes-requires
 of-sizes-requires c κs = search needs

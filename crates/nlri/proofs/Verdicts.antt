@@ -1,4 +1,4 @@
--- What the writer judges is what the page says, type by type.
+-- The writer's verdict on an NLRI, and what it then writes, is the page's, type by type.
 use mathlib.Core.Path.{_≡_, refl, sym, _∙_, ap, ap₂, subst}
 use mathlib.Core.Bool.{Bool, true, false}
 use mathlib.Core.Logic.{_⊎_, inl, inr}
@@ -16,6 +16,7 @@ use Rattle.octets.specs.declared.Written.{Written}
 use Rattle.octets.proofs.AllOctets.{octets-of}
 use Rattle.octets.proofs.Inversions.{both-true-left, both-true-right, either-true}
 use Rattle.octets.proofs.Outcomes.{and-cong, pick-true, pick-false}
+use Rattle.octets.proofs.Picked.{pick-done}
 use Rattle.nlri.specs.declared.fields.Nlri.{Nlri}
 use Rattle.nlri.specs.Family.{familyBits, allowed, originatorSize}
 use Rattle.nlri.specs.Bodies.{bodies, onBody, bodyOf}
@@ -23,7 +24,7 @@ use Rattle.nlri.specs.Fields.{Fields, encodeField, encodeBody, encodeNlr
 use Rattle.nlri.specs.Writing.{widthFits, widthsFit, keyFits, keysFit, isKey, writeNlri}
 use Rattle.nlri.specs.Answers.{octetsOf, fieldsIn}
 use Rattle.nlri.specs.Inner.{withSourceAs}
-use Rattle.nlri.specs.InnerWriting.{hasFlow, hasOriginator, flowFits, originatorFits, leafFits, judged, sizeOf, numberOctets, fixedOctets, flowOctets, originatorOctets, bodyOctets, allOctets, AddressSize, Sized, writeUnder}
+use Rattle.nlri.specs.InnerWriting.{hasFlow, hasOriginator, flowFits, originatorFits, leafFits, judged, sizeOf, sourceAsOctets, fixedOctets, flowOctets, originatorOctets, bodyOctets, allOctets, AddressSize, Sized, writeUnder}
 use Rattle.nlri.proofs.Keys.{key-octets}
 use Rattle.nlri.proofs.Writes.{key-judged}
 use Rattle.nlri.proofs.Puts.{octets-length, size-is, fixed-short, flow-short, originator-short}
@@ -86,7 +87,7 @@ known P type p₁ p₂ p₃ p₄ p₅ p₆ p₇ low high = by-type P type p₁ p
 module _ (nlri : Nlri) (key : List ℕ) where
   -- the body that is written is the page's, for each type
   body-at : (type : ℕ) → 1 ≤ type → type ≤ 7 → nlri .«route_type» ≡ type → encodeBody (fieldsIn nlri key) (bodyOf type) ≡ bodyOctets nlri key
-  unfolding encodeBody encodeField fieldsIn bodyOf bodies onBody pick either bodyOctets fixedOctets numberOctets flowOctets originatorOctets withSourceAs hasFlow hasOriginator
+  unfolding encodeBody encodeField fieldsIn bodyOf bodies onBody pick either bodyOctets fixedOctets sourceAsOctets flowOctets originatorOctets withSourceAs hasFlow hasOriginator
   body-at type low high =
       known (λ (n : ℕ). nlri .«route_type» ≡ n → encodeBody (fieldsIn nlri key) (bodyOf n) ≡ bodyOctets nlri key) type
       (λ e. rw e (simp (append-nil, append-assoc)))
@@ -98,7 +99,7 @@ module _ (nlri : Nlri) (key : List ℕ) where
       (λ e. rw e (simp (append-nil, append-assoc)))
       low high
 
-  pub all-is : 1 ≤ nlri .«route_type» → nlri .«route_type» ≤ 7 → encodeNlri (fieldsIn nlri key) ≡ allOctets nlri key
+  all-is : 1 ≤ nlri .«route_type» → nlri .«route_type» ≤ 7 → encodeNlri (fieldsIn nlri key) ≡ allOctets nlri key
   unfolding encodeNlri allOctets fieldsIn
   all-is low high = ap (λ (b : List ℕ). nlri .«route_type» ∷ length b ∷ b) (body-at (nlri .«route_type») low high refl)
 
@@ -204,11 +205,6 @@ unfolding writeNlri row-is page f fieldsIn
 write-is afi nlri key space eight = and-cong _ _ _ (λ family e. sym (under-is nlri key space family eight))
 
 -- what follows where the writer finds no fault
-number-unless : (b : Bool) (k n : ℕ) → (k ≡ 0 → ⊥) → pick b k n ≡ 0 → (b ≡ false) × (n ≡ 0)
-unfolding pick
-number-unless true k n h e = absurd (h e)
-number-unless false k n h e = (refl, e)
-
 number-only : (b : Bool) (k n : ℕ) → (k ≡ 0 → ⊥) → pick b n k ≡ 0 → (b ≡ true) × (n ≡ 0)
 unfolding pick
 number-only true k n h e = (refl, e)
@@ -241,8 +237,8 @@ module _ (family : ℕ) (nlri : Nlri) (key : List ℕ) (none : judged family nlr
   faultless : Faultless
   unfolding judged
   faultless =
-      let p = number-unless _ 2 _ (λ e. omega arith) none in
-      let q = number-unless _ 2 _ (λ e. omega arith) (p .1) in
+      let p = pick-done _ 2 _ (λ e. omega arith) none in
+      let q = pick-done _ 2 _ (λ e. omega arith) (p .1) in
       let r = number-only _ 4 _ (λ e. omega arith) (q .1) in
       let s = number-only _ 4 _ (λ e. omega arith) (r .1) in
       let t = number-only _ 5 _ (λ e. omega arith) (s .1) in
