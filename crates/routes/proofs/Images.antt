@@ -64,8 +64,6 @@ pub sound-image : (t : List ℕ) → AllOctets t → soundOf t ≡ true → t �
 unfolding imageOf routesOf
 sound-image t a h =
     let s = sound t h in
-    let is = s .size .is in
-    let within = s .within in
     let l : length (drop 8 t) ≡ length t - 8 = length-drop 8 t in
     let left : length (drop 8 t) - 128 * countIn t ≡ 128 * (placesIn t - countIn t) = omega arith in
     rw (from-length (countIn t) (drop 8 t))

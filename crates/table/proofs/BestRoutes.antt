@@ -113,8 +113,6 @@ module _ (t : List ℕ) (is : soundOf t ≡ true) where
   table-taken : (k : ℕ) → k < countIn t → Taken (afiIn t) t (8 + 128 * k)
   table-taken =
       let s = sound t is in
-      let size = s .size .is in
-      let within = s .within in
       places-taken (afiIn t) [] (countIn t) t 8 (s .places) (omega arith)
 
   pub scan-ready : (count : ℕ) → count ≡ countIn t → (k : ℕ) → k < count → Readable t (8 + 128 * k)

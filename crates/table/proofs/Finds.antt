@@ -61,8 +61,6 @@ places-within t n h k = let is = sound t h .size .is in omega arith
 pub place-within : (t : List ℕ) (i : ℕ) → soundOf t ≡ true → i < countIn t → 8 + 128 * i + 128 ≤ length t
 place-within t i h k =
     let s = sound t h in
-    let is = s .size .is in
-    let within = s .within in
     omega arith
 
 -- and its route within the place

@@ -52,8 +52,6 @@ module _ (afi : ℕ) (t : List ℕ) (at : ℕ) (taken : Taken afi t at) where
   pub taken-writable : (output : List ℕ) → 124 ≤ length output → RouteFits (part t at 128) output
   taken-writable output room =
       let sizes = sizes-of afi (routeIn (part t at 128)) (sound-acceptable afi (part t at 128) (taken .sound)) in
-      let n = sizes .nlri in
-      let a = sizes .attribute in
       record {
         within = rw (part-length t at 128 (taken .within)) place-end;
         read = labelled-read _ (route-accepted .attributeFields) (route-accepted .labelled);
