@@ -49,7 +49,7 @@ lines-within zero run at h = let s = last-within 0 at (omega arith) h in omega a
 lines-within (suc left) run at h = next-within left run at h (lines-within left run) (step-comes 1 run at)
 
 -- the listing of every run
-pub listing-within : (run : List ℕ) → length (listingOf run) ≤ 24600
+listing-within : (run : List ℕ) → length (listingOf run) ≤ 24600
 unfolding listingOf linesOf headerLine
 listing-within run = omega (arith, length-append headerLine (linesOf run), lines-within (suc (length run)) run 0 (omega arith))
 

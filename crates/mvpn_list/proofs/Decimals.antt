@@ -2,7 +2,7 @@
 use mathlib.Core.Path.{_≡_, ap, ap₂}
 use mathlib.Core.List.{List, [], _∷_, _++_}
 use Prim.Native.Nat.{ℕ, zero, suc, _-_, _/_, _%_, _^_, _≤_, _<_}
-use native.Mathlib.Nat.{pow-succ', one-le-pow}
+use native.Mathlib.Nat.{pow-succ'}
 use native.Mathlib.Omega.{arith}
 use borrow.Author.Tests.{ltb-true, ltb-false, lt-ltb}
 use lib.ListN.{length, length-append}
@@ -22,15 +22,11 @@ one-digit : (k n : ℕ) → n < 10 → Fewest 10 1 n (suc k) → digits 10 (suc 
 one-digit zero n h f = ap (λ (d : ℕ). d ∷ []) (last-is n)
 one-digit (suc i) n h f =
     let p = rw (less-one (suc i)) at (f .2 (omega arith)) in
-    let q = pow-succ' 10 i in
-    let o = one-le-pow i 10 (omega arith) in
     absurd (omega arith)
 
 shorter : (n i : ℕ) → Fewest 10 1 n (suc (suc i)) → Fewest 10 1 (n / 10) (suc i)
 shorter n i f =
     let p = rw (less-one (suc i)) at (f .2 (omega arith)) in
-    let q = pow-succ' 10 (suc i) in
-    let o = pow-succ' 10 i in
     (omega arith, omega arith, λ many. rw (less-one i) (omega arith))
 
 digits-are : (k n most : ℕ) → Fewest 10 1 n k → n < most → digits 10 k n ≡ digitsWithin most n

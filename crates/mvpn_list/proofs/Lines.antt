@@ -9,7 +9,8 @@ use Rattle.nlri.specs.Walking.{readTo, stoppedAt, stepFrom}
 use Rattle.nlri.proofs.Steps.{step-moves}
 use Rattle.mvpn_list.specs.Listing.{lineOf, lastLine, linesFrom, linesOf}
 use Rattle.mvpn_list.proofs.Steps.{lines-go, lines-stop}
-use Rattle.mvpn_list.proofs.Writes.{Wrote, room-next, wrote-both, wrote-none, wrote-length, written-is}
+use Rattle.octets.proofs.Lists.{Put, put-none, put-as, put-length}
+use Rattle.mvpn_list.proofs.Writes.{room-next, put-both}
 
 -- from `start` on, `output` has the lines of the NLRIs before `offset`, and `at` is the place just past them
 pub record Listed (run output₀ : List ℕ) (start offset at : ℕ) (output : List ℕ) : Type 0 where
@@ -17,13 +18,13 @@ pub record Listed (run output₀ : List ℕ) (start offset at : ℕ) (output : L
   pub left : ℕ
   pub within : offset ≤ length run
   pub enough : length run ≤ left + offset
-  pub wrote : Wrote start done output₀ at output
+  pub put : Put start done output₀ at output
   pub goes : linesOf run ≡ done ++ linesFrom (suc left) run offset
 
 pub listed-first : (run output : List ℕ) (start : ℕ) → Listed run output start 0 start output
 unfolding linesOf
 listed-first run output start =
-    record { done = []; left = length run; within = omega arith; enough = omega arith; wrote = wrote-none start output; goes = refl }
+    record { done = []; left = length run; within = omega arith; enough = omega arith; put = put-none start output; goes = refl }
 
 module _ (run output₀ : List ℕ) (start offset at : ℕ) (output : List ℕ) (fits : start + length (linesOf run) ≤ length output₀) (so-far : Listed run output₀ start offset at output) where
   module _ (l : Layout) (c : ℕ) (e : stepFrom 1 run offset ≡ readTo l c) where
@@ -37,9 +38,9 @@ module _ (run output₀ : List ℕ) (start offset at : ℕ) (output : List ℕ) 
     this-fits = omega (arith, ap length onward, length-append (so-far .done ++ this) (linesFrom (so-far .left) run c))
 
     pub line-room : at + length this ≤ length output
-    line-room = room-next start (so-far .done) this output₀ this-fits at output (so-far .wrote)
+    line-room = room-next start (so-far .done) this output₀ this-fits at output (so-far .put)
 
-    pub listed-next : (r : ℕ) (x : List ℕ) → Wrote at this output r x → Listed run output₀ start c r x
+    pub listed-next : (r : ℕ) (x : List ℕ) → Put at this output r x → Listed run output₀ start c r x
     listed-next r x w =
         let m = step-moves 1 run offset l c e in
         let n : so-far .left ≡ suc (so-far .left - 1) = omega (arith, so-far .enough) in
@@ -48,7 +49,7 @@ module _ (run output₀ : List ℕ) (start offset at : ℕ) (output : List ℕ) 
           left = so-far .left - 1;
           within = omega arith;
           enough = omega (arith, so-far .enough);
-          wrote = wrote-both start (so-far .done) this output₀ this-fits at output r x (so-far .wrote) w;
+          put = put-both start (so-far .done) this output₀ this-fits at output r x (so-far .put) w;
           goes = onward ∙ ap (λ (k : ℕ). (so-far .done ++ this) ++ linesFrom k run c) n;
         }
 
@@ -60,12 +61,12 @@ module _ (run output₀ : List ℕ) (start offset at : ℕ) (output : List ℕ) 
     all-fits = omega (arith, ap length whole)
 
     pub last-room : at + length (lastLine n offset) ≤ length output
-    last-room = room-next start (so-far .done) (lastLine n offset) output₀ all-fits at output (so-far .wrote)
+    last-room = room-next start (so-far .done) (lastLine n offset) output₀ all-fits at output (so-far .put)
 
-    pub listed-last : (r : ℕ) (y : List ℕ) → Wrote at (lastLine n offset) output r y → Wrote start (linesOf run) output₀ r y
+    pub listed-last : (r : ℕ) (y : List ℕ) → Put at (lastLine n offset) output r y → Put start (linesOf run) output₀ r y
     listed-last r y w =
-        written-is start (so-far .done ++ lastLine n offset) (linesOf run) output₀ r y (sym whole)
-        (wrote-both start (so-far .done) (lastLine n offset) output₀ all-fits at output r y (so-far .wrote) w)
+        put-as start (so-far .done ++ lastLine n offset) (linesOf run) output₀ r y (sym whole)
+        (put-both start (so-far .done) (lastLine n offset) output₀ all-fits at output r y (so-far .put) w)
 
-    pub last-length : (r : ℕ) (y : List ℕ) → Wrote at (lastLine n offset) output r y → length y ≡ length output₀
-    last-length r y w = wrote-length start (linesOf run) output₀ r y fits (listed-last r y w)
+    pub last-length : (r : ℕ) (y : List ℕ) → Put at (lastLine n offset) output r y → length y ≡ length output₀
+    last-length r y w = put-length start (linesOf run) output₀ r y fits (listed-last r y w)

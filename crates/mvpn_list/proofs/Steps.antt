@@ -1,4 +1,5 @@
--- What every step comes to: an NLRI of a known type whose Length is below the next cursor, or a stop whose number has at most two digits; and how the lines go on by it.
+-- What every step comes to: an NLRI of a known type whose Length is at most the next cursor, or a stop whose number has at most two
+-- digits; and how the lines go on by it.
 use mathlib.Core.Path.{_≡_, refl, _∙_, ap}
 use mathlib.Core.Bool.{Bool}
 use mathlib.Core.List.{List, [], _∷_, _++_}

@@ -1,5 +1,5 @@
 // Runs calls on one table, given line by line on standard input as words and hexadecimal octets, and prints what each
-// answers. Thin: reading and printing only.
+// answers. It only reads and prints; every answer is the table crate's.
 mod answer;
 mod line;
 mod script;

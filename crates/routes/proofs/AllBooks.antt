@@ -69,17 +69,19 @@ nobody-owns afi router c h = owned-nobody router (ownerOf afi c) h
 pub owners-same : {x y : List ℕ} {o : Owner} → o ≡ owner x → o ≡ owner y → x ≡ y
 owners-same p q = cc
 
-pub own-none : (afi : ℕ) (router : List ℕ) (calls : List Call) → (Among router (routersOf afi calls) → ⊥) → ownCalls afi router calls ≡ []
+-- a router among some stays among them and a call's owner
+pub beside-owner : {router : List ℕ} {routers : List (List ℕ)} (o : Owner) → Among router routers → Among router (withOwner o routers)
+unfolding withOwner
+beside-owner nobody m = m
+beside-owner (owner other) m = later m
+
+own-none : (afi : ℕ) (router : List ℕ) (calls : List Call) → (Among router (routersOf afi calls) → ⊥) → ownCalls afi router calls ≡ []
 unfolding routersOf ownCalls withOwner
 own-none afi router [] h = refl
 own-none afi router (c ∷ cs) h =
     tested (owns afi router c)
     (λ t. absurd (h (rw (own-owner afi router c t) (first refl))))
-    (λ f. own-later afi router c cs f ∙ own-none afi router cs (λ m. h (behind (ownerOf afi c) m)))
-  where
-    behind : (o : Owner) → Among router (routersOf afi cs) → Among router (withOwner o (routersOf afi cs))
-    behind nobody m = m
-    behind (owner other) m = later m
+    (λ f. own-later afi router c cs f ∙ own-none afi router cs (λ m. h (beside-owner (ownerOf afi c) m)))
 
 -- fed books
 
@@ -92,7 +94,7 @@ pub book-distinct : (afi : ℕ) (router : List ℕ) (calls : List Call) → Dist
 unfolding bookOf
 book-distinct afi router calls = fed-kept Distinct afi (λ c book d. distinct-after afi c d) [] (ownCalls afi router calls) Distinct.none
 
-pub book-acceptable : (afi : ℕ) (router : List ℕ) (calls : List Call) → AllAcceptable afi (bookOf afi router calls)
+book-acceptable : (afi : ℕ) (router : List ℕ) (calls : List Call) → AllAcceptable afi (bookOf afi router calls)
 unfolding bookOf
 book-acceptable afi router calls = fed-kept (AllAcceptable afi) afi (λ c book a. acceptable-after afi c a) [] (ownCalls afi router calls) AllAcceptable.none
 
@@ -112,7 +114,7 @@ fed-own afi router nlri own (c ∷ cs) {book} d =
     ∙ fed-own afi router nlri own cs d
     ∙ ap (heldAfterAll afi cs nlri) (sym (held-apart afi nlri c (lookup nlri book) (λ other p q. opposite (owner-own afi router c (rw (owners-same own p) q)) f))))
 
-pub lookup-book : (afi : ℕ) (router nlri : List ℕ) (calls : List Call) → originatorOf afi nlri ≡ owner router → lookup nlri (bookOf afi router calls) ≡ heldAfterAll afi calls nlri absent
+lookup-book : (afi : ℕ) (router nlri : List ℕ) (calls : List Call) → originatorOf afi nlri ≡ owner router → lookup nlri (bookOf afi router calls) ≡ heldAfterAll afi calls nlri absent
 unfolding bookOf
 lookup-book afi router nlri calls own = fed-own afi router nlri own calls Distinct.none ∙ ap (heldAfterAll afi calls nlri) (lookup-none nlri)
 
@@ -130,7 +132,7 @@ fed-foreign afi router nlri foreign (c ∷ cs) {book} d =
     ∙ held-apart afi nlri c (lookup nlri book) (λ other p q. foreign (rw (owners-same (own-owner afi router c t) q) p)))
     (λ f. ap (λ (l : List Call). lookup nlri (fed afi book l)) (own-later afi router c cs f) ∙ fed-foreign afi router nlri foreign cs d)
 
-pub lookup-foreign : (afi : ℕ) (router nlri : List ℕ) (calls : List Call) → (originatorOf afi nlri ≡ owner router → ⊥) → lookup nlri (bookOf afi router calls) ≡ absent
+lookup-foreign : (afi : ℕ) (router nlri : List ℕ) (calls : List Call) → (originatorOf afi nlri ≡ owner router → ⊥) → lookup nlri (bookOf afi router calls) ≡ absent
 unfolding bookOf
 lookup-foreign afi router nlri calls foreign = fed-foreign afi router nlri foreign calls Distinct.none ∙ lookup-none nlri
 
@@ -197,7 +199,7 @@ unfolding heldAfterAll
 held-nobody afi nlri [] h own = refl
 held-nobody afi nlri (c ∷ cs) h own = held-nobody afi nlri cs (heldAfter afi c nlri h) own ∙ held-apart afi nlri c h (λ router p q. owner-nobody own p)
 
-pub lookup-all-after : (afi : ℕ) (nlri : List ℕ) (calls : List Call) → lookup nlri (allBooks afi calls) ≡ heldAfterAll afi calls nlri absent
+lookup-all-after : (afi : ℕ) (nlri : List ℕ) (calls : List Call) → lookup nlri (allBooks afi calls) ≡ heldAfterAll afi calls nlri absent
 lookup-all-after afi nlri calls = go (originatorOf afi nlri) refl
   where
     go : (o : Owner) → originatorOf afi nlri ≡ o → lookup nlri (allBooks afi calls) ≡ heldAfterAll afi calls nlri absent

@@ -1,4 +1,4 @@
--- Laws of books: what they hold of an NLRI, one router's and all together, and that a table can hold them.
+-- Laws of a book after one call: what it then holds of an NLRI, that its NLRIs stay distinct and its routes acceptable.
 use Prim.Native.Nat.{ℕ}
 use mathlib.Core.Path.{_≡_, refl, sym, ap, _∙_}
 use mathlib.Core.List.{List, [], _∷_}

@@ -70,7 +70,7 @@ small afi family e = go (family-is afi family e)
     go (inr p) = omega arith
 
 -- an NLRI of type 3, whatever its elements
-pub s-pmsi-size : (afi : ℕ) (s : List ℕ) (f : Fields) → readNlri afi s ≡ given f → f .type ≡ 3 → (2 ≤ length s) × (length s ≤ 60)
+s-pmsi-size : (afi : ℕ) (s : List ℕ) (f : Fields) → readNlri afi s ≡ given f → f .type ≡ 3 → (2 ≤ length s) × (length s ≤ 60)
 unfolding readNlri laidSingle laidAt fieldsOf
 s-pmsi-size afi s f e three =
     let bits = passed _ _ _ e in

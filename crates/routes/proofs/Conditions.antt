@@ -22,7 +22,7 @@ use Rattle.routes.specs.Arguments.{Query, readSPmsi}
 use Rattle.routes.specs.Matching.{ofFields, candidate, wildcard, condition, meets, distinguisherOf}
 use Rattle.routes.proofs.SPmsi.{same-s-pmsi}
 
-pub wildcard-empty : (address : List ℕ) → (wildcard address ≡ true) ↔ (address ≡ [])
+wildcard-empty : (address : List ℕ) → (wildcard address ≡ true) ↔ (address ≡ [])
 unfolding wildcard
 wildcard-empty address = (λ h. empty-list address (eqb-true _ _ h), λ e. eq-eqb (length address) 0 (ap length e))
 
@@ -76,7 +76,7 @@ by-tier P q tier f h p₁ p₂ p₃ p₄ =
     (picked _ _ _ _ h)
 
 -- fields that meet one tier's condition have one source and one group
-pub same-flow : (q : Query) (tier : ℕ) (f g : Fields) → condition q tier f ≡ true → condition q tier g ≡ true → (f .source ≡ g .source) × (f .group ≡ g .group)
+same-flow : (q : Query) (tier : ℕ) (f g : Fields) → condition q tier f ≡ true → condition q tier g ≡ true → (f .source ≡ g .source) × (f .group ≡ g .group)
 same-flow q tier f g h k =
     by-tier (λ (n : ℕ). condition q n f ≡ true → condition q n g ≡ true → (f .source ≡ g .source) × (f .group ≡ g .group)) q tier f h
     (λ x y. let a = first-tier q f .0 x in let b = first-tier q g .0 y in (a .0 ∙ sym (b .0), a .1 ∙ sym (b .1)))

@@ -1,4 +1,5 @@
--- Laws of `Among`, `PutIn` and `distinct`: what is drawn from a list, each element once, is no more than the list's distinct elements.
+-- Laws of `Among`, `PutIn`, `Rearranged`, `has` and `distinct`: a list with no element twice, drawn from another, is no longer than that one's
+-- distinct elements.
 use Prim.Native.Nat.{ℕ, suc, _≤_}
 use mathlib.Core.Path.{_≡_, refl, sym, ap, subst, _∙_}
 use mathlib.Core.Bool.{true, false}
@@ -34,21 +35,21 @@ among-cases (later m) = inr m
 
 -- an element that is put in
 
-pub put-among : {A : Type 0} {x : A} {ys : List A} → Among x ys → (zs : List A) × PutIn x zs ys
+put-among : {A : Type 0} {x : A} {ys : List A} → Among x ys → (zs : List A) × PutIn x zs ys
 put-among (first {y} {ys} e) = (ys, rw e front)
 put-among (later {y} m) = let p = put-among m in (y ∷ p .0, behind (p .1))
 
-pub put-other : {A : Type 0} {x z : A} {zs ys : List A} → PutIn x zs ys → Among z ys → (z ≡ x) ⊎ Among z zs
+put-other : {A : Type 0} {x z : A} {zs ys : List A} → PutIn x zs ys → Among z ys → (z ≡ x) ⊎ Among z zs
 put-other front (first e) = inl e
 put-other front (later m) = inr m
 put-other (behind p) (first e) = inr (first e)
 put-other (behind p) (later m) = ⊎-elim (λ e. inl e) (λ a. inr (later a)) (put-other p m)
 
-pub put-itself : {A : Type 0} {x : A} {zs ys : List A} → PutIn x zs ys → Among x ys
+put-itself : {A : Type 0} {x : A} {zs ys : List A} → PutIn x zs ys → Among x ys
 put-itself front = first refl
 put-itself (behind p) = later (put-itself p)
 
-pub put-kept : {A : Type 0} {x z : A} {zs ys : List A} → PutIn x zs ys → Among z zs → Among z ys
+put-kept : {A : Type 0} {x z : A} {zs ys : List A} → PutIn x zs ys → Among z zs → Among z ys
 put-kept front m = later m
 put-kept (behind p) (first e) = first e
 put-kept (behind p) (later m) = later (put-kept p m)
@@ -98,7 +99,7 @@ rearranged-once ys (Once.one {x} {xs} n u) o h =
       λ m. ⊎-elim (λ e. absurd (q .0 (among-as e m))) (λ a. a) (among-cases (h z .1 (put-kept (p .1) m))),
     )))
 
-pub pigeonhole : {A : Type 0} {xs : List A} (ys : List A) → Once xs → ((x : A) → Among x xs → Among x ys) → length xs ≤ length ys
+pigeonhole : {A : Type 0} {xs : List A} (ys : List A) → Once xs → ((x : A) → Among x xs → Among x ys) → length xs ≤ length ys
 pigeonhole ys Once.none h = omega arith
 pigeonhole ys (Once.one {x} {xs} n o) h =
     let p = put-among (h x (first refl)) in
@@ -130,7 +131,7 @@ among-behind : {A : Type 0} {x y : A} {xs ys : List A} → (Among x xs → Among
 among-behind h (first e) = first e
 among-behind h (later m) = later (h m)
 
-pub distinct-among : {x : List ℕ} (xs : List (List ℕ)) → Among x (distinct xs) → Among x xs
+distinct-among : {x : List ℕ} (xs : List (List ℕ)) → Among x (distinct xs) → Among x xs
 unfolding distinct
 distinct-among [] m = m
 distinct-among {x} (y ∷ ys) m =

@@ -51,7 +51,7 @@ match-on : (afi places : ℕ) (rs : List Route) (t router source group output : 
 unfolding matchOutcome
 match-on afi places rs t router source group output of = rw (of .family, of .routes) (pick-true _ _ _ (of .sound))
 
--- what is due where arguments and family refuse, whoever owns the call
+-- what is due, by whom the call belongs to
 
 pub due-owned : (afi : ℕ) (earlier : List Call) (c : Call) (router : List ℕ) → ownerOf afi c ≡ owner router → dueAnswer afi earlier c ≡ bookAnswer afi (bookOf afi router earlier) c
 unfolding dueAnswer dueBy
@@ -60,6 +60,8 @@ due-owned afi earlier c router e = rw e
 pub due-nobody : (afi : ℕ) (earlier : List Call) (c : Call) → ownerOf afi c ≡ nobody → dueAnswer afi earlier c ≡ refusalAnswer c (refusalOf afi c)
 unfolding dueAnswer dueBy
 due-nobody afi earlier c e = rw e
+
+-- what is due where arguments and family refuse, whoever owns the call
 
 due-refused : (afi : ℕ) (earlier : List Call) (c : Call) (answer : Answer) → refusalAnswer c (refusalOf afi c) ≡ answer → ((book : List Route) → bookAnswer afi book c ≡ answer) → dueAnswer afi earlier c ≡ answer
 due-refused afi earlier c answer h k = go (ownerOf afi c) refl

@@ -21,7 +21,7 @@ use Rattle.routes.specs.Arguments.{Query, readFlow}
 use Rattle.routes.specs.Images.{Family}
 use Rattle.routes.specs.MatchRule.{GoodFlow}
 
-class-under : (afi family : ℕ) (g : List ℕ) → familyBits afi ≡ given family → classUnder family g ≡ classOf afi g
+pub class-under : (afi family : ℕ) (g : List ℕ) → familyBits afi ≡ given family → classUnder family g ≡ classOf afi g
 unfolding classOf
 class-under afi family g bits = goes _ _ _ _ bits refl
 

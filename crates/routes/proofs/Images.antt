@@ -64,14 +64,16 @@ pub sound-image : (t : List ℕ) → AllOctets t → soundOf t ≡ true → t �
 unfolding imageOf routesOf
 sound-image t a h =
     let s = sound t h in
-    let is = s .size .is in
-    let within = s .within in
     let l : length (drop 8 t) ≡ length t - 8 = length-drop 8 t in
     let left : length (drop 8 t) - 128 * countIn t ≡ 128 * (placesIn t - countIn t) = omega arith in
     rw (from-length (countIn t) (drop 8 t))
     (sound-header t a (omega arith) (s .header)
     ∙ ap (λ (x : List ℕ). headerOf (afiIn t) (countIn t) ++ x)
     (from-places (afiIn t) [] (countIn t) (drop 8 t) (omega arith) (s .places) ∙ ap (λ (n : ℕ). placesOf (routesOf t) ++ zeros n) left))
+
+pub image-afi : (afi places : ℕ) (rs : List Route) → afiIn (imageOf afi places rs) ≡ afi
+unfolding imageOf
+image-afi afi places rs = afi-in afi (length rs) _
 
 module _ (afi places : ℕ) (rs : List Route) (h : Holdable afi places rs) where
   pub image-length : length (imageOf afi places rs) ≡ 8 + 128 * places
@@ -83,22 +85,18 @@ module _ (afi places : ℕ) (rs : List Route) (h : Holdable afi places rs) where
   small : length rs < 65536
   small = omega (arith, h .within, h .most)
 
-  pub image-count : countIn (imageOf afi places rs) ≡ length rs
+  image-count : countIn (imageOf afi places rs) ≡ length rs
   unfolding imageOf
   image-count = count-in afi (length rs) _ small
 
-  pub image-afi : afiIn (imageOf afi places rs) ≡ afi
-  unfolding imageOf
-  image-afi = afi-in afi (length rs) _
-
-  pub image-places : placesIn (imageOf afi places rs) ≡ places
+  image-places : placesIn (imageOf afi places rs) ≡ places
   image-places = places-in (imageOf afi places rs) places image-length
 
   rest : drop 8 (imageOf afi places rs) ≡ placesOf rs ++ zeros (128 * (places - length rs))
   unfolding imageOf
   rest = past-header afi (length rs) _
 
-  pub image-routes : routesOf (imageOf afi places rs) ≡ rs
+  image-routes : routesOf (imageOf afi places rs) ≡ rs
   unfolding routesOf
   image-routes = rw (image-count, rest) (routes-from afi rs _ (h .acceptable))
 
@@ -106,15 +104,15 @@ module _ (afi places : ℕ) (rs : List Route) (h : Holdable afi places rs) where
   unfolding imageOf
   header = header-sound afi (length rs) _ (h .family)
 
-  pub image-sound : soundOf (imageOf afi places rs) ≡ true
+  image-sound : soundOf (imageOf afi places rs) ≡ true
   unfolding soundOf
   image-sound =
       both-true _ _ (size-sound _ places image-length (h .most))
       (both-true _ _ header
-      (rw (image-count, image-places, image-afi, rest) (both-true _ _ (le-leb (length rs) places (h .within)) (places-sound afi [] rs _ (h .acceptable) (h .increasing)))))
+      (rw (image-count, image-places, image-afi afi places rs, rest) (both-true _ _ (le-leb (length rs) places (h .within)) (places-sound afi [] rs _ (h .acceptable) (h .increasing)))))
 
-  pub image-table : TableOf afi places rs (imageOf afi places rs)
-  image-table = record { sound = image-sound; family = image-afi; size = image-places; routes = image-routes }
+  image-table : TableOf afi places rs (imageOf afi places rs)
+  image-table = record { sound = image-sound; family = image-afi afi places rs; size = image-places; routes = image-routes }
 
 one-image : (t u : List ℕ) → AllOctets t → AllOctets u → soundOf t ≡ true → soundOf u ≡ true → afiIn t ≡ afiIn u → length t ≡ length u
     → ((r : Route) → Member r (routesOf t) ↔ Member r (routesOf u)) → t ≡ u

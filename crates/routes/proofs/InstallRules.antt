@@ -14,6 +14,7 @@ use Rattle.octets.proofs.Orders.{unequal-other}
 use Rattle.octets.proofs.Outcomes.{pick-true, pick-false}
 use Rattle.octets.proofs.Refusals.{outcome, picked, stopped, refused-same, refuses-unless}
 use Rattle.octets.proofs.Tests.{goes, stops}
+use Rattle.nlri.proofs.Numbered.{refused-of}
 use Rattle.routes.specs.declared.Installed.{Installed}
 use Rattle.routes.specs.Route.{Route, route, nlriOf, attributeOf, lookup, inserted}
 use Rattle.routes.specs.Arguments.{readRoute}
@@ -21,14 +22,13 @@ use Rattle.routes.specs.Table.{imageOf, afiIn, placesIn, routesOf, sound
 use Rattle.routes.specs.Calls.{NEW, REPLACED, installedOf, entering, installOutcome, installOf}
 use Rattle.routes.specs.Images.{Holdable, TableOf}
 use Rattle.routes.specs.CallRules.{InstallRefusal, installUnsound, badRoute, noRoom, Installable, IsHeld, Free, Full, InstallRule}
-use Rattle.routes.proofs.Answered.{number-refused, refused-number, given-number}
+use Rattle.routes.proofs.AnswerNumbers.{refused-number, given-number, done-given}
 use Rattle.routes.proofs.ArgumentRules.{argumentRule}
 use Rattle.routes.proofs.Bounds.{route-read, read-acceptable}
 use Rattle.routes.proofs.ByArguments.{route-number}
 use Rattle.routes.proofs.Holding.{holdable-inserted}
 use Rattle.routes.proofs.Images.{images, sound, sound-holdable, image-length}
 use Rattle.routes.proofs.Lookups.{absent-holds, holds-absent, held-holds, holds-held, lookup-inserted-same, lookup-inserted-other}
-use Rattle.routes.proofs.NotDone.{done-given}
 
 -- a route that is acceptable enters a table
 module _ (t : List ℕ) (r : Route) where
@@ -76,7 +76,7 @@ module _ (t nlri attribute : List ℕ) where
   unfolding installOutcome
   entering-decides h = pick-true _ _ _ (h .sound) ∙ sym (goes _ _ _ _ (h .accepted) refl)
 
-  pub install-given : (o : ℕ) → installOutcome t nlri attribute ≡ given o → Entered t nlri attribute o
+  install-given : (o : ℕ) → installOutcome t nlri attribute ≡ given o → Entered t nlri attribute o
   unfolding installOutcome nlriOf
   install-given o e =
       let p = only _ _ _ _ e in
@@ -163,7 +163,7 @@ module _ (t nlri attribute : List ℕ) where
   unfolding installOf onOutcome
   install-leaves n e = rw e
 
-  pub install-holdable : (o : ℕ) → installOutcome t nlri attribute ≡ given o → Holdable (afiIn t) (placesIn t) (inserted (route nlri attribute) (routesOf t))
+  install-holdable : (o : ℕ) → installOutcome t nlri attribute ≡ given o → Holdable (afiIn t) (placesIn t) (inserted (route nlri attribute) (routesOf t))
   unfolding nlriOf attributeOf
   install-holdable o e =
       let p = install-given o e in
@@ -204,11 +204,11 @@ unfolding nlriOf attributeOf
 installRule =
     record {
       refuses = λ t nlri attribute n h. (
-        λ e. refusal t nlri attribute n (number-refused _ n h (sym (number t nlri attribute) ∙ e)),
+        λ e. refusal t nlri attribute n (refused-of _ n (sym e ∙ number t nlri attribute) h),
         λ r. number t nlri attribute ∙ refused-number (refuses t nlri attribute r),
       );
       table = λ t nlri attribute. (
-        λ e. by-table t nlri attribute (refusal t nlri attribute TABLE (number-refused _ TABLE (omega arith) (sym (number t nlri attribute) ∙ e))) refl,
+        λ e. by-table t nlri attribute (refusal t nlri attribute TABLE (refused-of _ TABLE (sym e ∙ number t nlri attribute) (omega arith))) refl,
         λ h. number t nlri attribute ∙ refused-number (refuses t nlri attribute (installUnsound h)),
       );
       done = λ t nlri attribute. (
@@ -221,7 +221,7 @@ installRule =
             ∙ ⊎-elim (λ yes. given-number (gives-replaced t nlri attribute (h .0) yes)) (λ no. given-number (gives-new t nlri attribute (h .0) no)) (h .1),
       );
       room = λ t nlri attribute a. (
-        λ e. by-room t nlri attribute (refusal t nlri attribute ROOM (number-refused _ ROOM (omega arith) (sym (number t nlri attribute) ∙ e))) refl,
+        λ e. by-room t nlri attribute (refusal t nlri attribute ROOM (refused-of _ ROOM (sym e ∙ number t nlri attribute) (omega arith))) refl,
         λ h.
             let ok = argumentRule .acceptedRoute (afiIn t) nlri attribute .0 (a .accepted) in
             number t nlri attribute ∙ refused-number (refuses t nlri attribute (noRoom (a .sound) (ok .0) (ok .1) (h .missing) (h .places))),

@@ -14,11 +14,10 @@ pub mod Bounds
 pub mod Places
 pub mod Headers
 pub mod ByArguments
-pub mod NotDone
 pub mod Images
 pub mod Holding
 pub mod ArgumentRules
-pub mod Answered
+pub mod AnswerNumbers
 pub mod MakeRules
 pub mod InstallRules
 pub mod WithdrawRules

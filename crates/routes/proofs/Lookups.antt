@@ -45,10 +45,10 @@ pub lookup-later : (nlri : List ℕ) (r : Route) (rs : List Route) → same nlri
 unfolding lookup
 lookup-later nlri r rs f = pick-false _ _ _ f
 
-pub lookup-own : (r : Route) (rs : List Route) → lookup (nlriOf r) (r ∷ rs) ≡ held (attributeOf r)
+lookup-own : (r : Route) (rs : List Route) → lookup (nlriOf r) (r ∷ rs) ≡ held (attributeOf r)
 lookup-own r rs = lookup-first (nlriOf r) r rs (same-itself (nlriOf r))
 
-pub lookup-behind : (nlri : List ℕ) (r : Route) (rs us : List Route) → lookup nlri rs ≡ lookup nlri us → lookup nlri (r ∷ rs) ≡ lookup nlri (r ∷ us)
+lookup-behind : (nlri : List ℕ) (r : Route) (rs us : List Route) → lookup nlri rs ≡ lookup nlri us → lookup nlri (r ∷ rs) ≡ lookup nlri (r ∷ us)
 unfolding lookup
 lookup-behind nlri r rs us h = ap (λ (x : Held). pick (same nlri (nlriOf r)) (held (attributeOf r)) x) h
 
@@ -161,7 +161,7 @@ lookup-inserted-same r rs = lookup-inserted (nlriOf r) r rs ∙ lookup-own r rs
 pub lookup-inserted-other : (nlri : List ℕ) (r : Route) (rs : List Route) → same nlri (nlriOf r) ≡ false → lookup nlri (inserted r rs) ≡ lookup nlri rs
 lookup-inserted-other nlri r rs d = lookup-inserted nlri r rs ∙ lookup-later nlri r rs d
 
-pub lookup-entered-other : (nlri : List ℕ) (r : Route) (rs : List Route) → same nlri (nlriOf r) ≡ false → lookup nlri (entered r rs) ≡ lookup nlri rs
+lookup-entered-other : (nlri : List ℕ) (r : Route) (rs : List Route) → same nlri (nlriOf r) ≡ false → lookup nlri (entered r rs) ≡ lookup nlri rs
 lookup-entered-other nlri r rs d = lookup-entered nlri r rs ∙ lookup-later nlri r rs d
 
 -- arranging keeps the lookups
@@ -214,7 +214,7 @@ tail-absent nlri q rs h =
 
 -- distinct NLRIs
 
-pub absent-removed : (nlri other : List ℕ) (rs : List Route) → holds nlri rs ≡ false → holds nlri (removed other rs) ≡ false
+absent-removed : (nlri other : List ℕ) (rs : List Route) → holds nlri rs ≡ false → holds nlri (removed other rs) ≡ false
 unfolding removed
 absent-removed nlri other [] h = h
 absent-removed nlri other (q ∷ rs) h =
@@ -255,7 +255,7 @@ lookup-member nlri a (q ∷ rs) h =
     rw e here)
     (λ f. there (lookup-member nlri a rs (sym (lookup-later nlri q rs f) ∙ h)))
 
-pub member-held : {r : Route} {rs : List Route} → Member r rs → holds (nlriOf r) rs ≡ true
+member-held : {r : Route} {rs : List Route} → Member r rs → holds (nlriOf r) rs ≡ true
 member-held {r} (here {rs}) = holds-held (nlriOf r) (r ∷ rs) (attributeOf r) (lookup-own r rs)
 member-held {r} (there {q} {rs} m) =
     tested (same (nlriOf r) (nlriOf q))
@@ -273,7 +273,7 @@ lookup-carried : {us : List Route} (nlri a : List ℕ) → Distinct us → Membe
 unfolding nlriOf attributeOf
 lookup-carried nlri a e m = member-lookup e m
 
-pub members-lookup : {rs us : List Route} → Distinct rs → Distinct us → ((r : Route) → Member r rs ↔ Member r us) → (nlri : List ℕ) → lookup nlri rs ≡ lookup nlri us
+members-lookup : {rs us : List Route} → Distinct rs → Distinct us → ((r : Route) → Member r rs ↔ Member r us) → (nlri : List ℕ) → lookup nlri rs ≡ lookup nlri us
 members-lookup {rs} {us} d e m nlri = go (held-or-absent nlri rs) (held-or-absent nlri us)
   where
     go : ((a : List ℕ) × (lookup nlri rs ≡ held a)) ⊎ (lookup nlri rs ≡ absent) → ((a : List ℕ) × (lookup nlri us ≡ held a)) ⊎ (lookup nlri us ≡ absent) → lookup nlri rs ≡ lookup nlri us
@@ -283,7 +283,7 @@ members-lookup {rs} {us} d e m nlri = go (held-or-absent nlri rs) (held-or-absen
 
 -- increasing NLRIs
 
-pub increasing-from : (p q : List ℕ) {rs : List Route} → before p q ≡ true → Increasing q rs → Increasing p rs
+increasing-from : (p q : List ℕ) {rs : List Route} → before p q ≡ true → Increasing q rs → Increasing p rs
 increasing-from p q b last = last
 increasing-from p q b (next {r} h i) = next (before-then p q (nlriOf r) b h) i
 

@@ -14,16 +14,16 @@ use Rattle.octets.proofs.Refusals.{is-false}
 use Rattle.octets.proofs.Tests.{goes, stops}
 use Rattle.nlri.proofs.Faults.{family-refuses}
 use Rattle.nlri.proofs.Lengths.{family-good}
+use Rattle.nlri.proofs.Numbered.{refused-of}
 use Rattle.routes.specs.Place.{none}
 use Rattle.routes.specs.Route.{last}
 use Rattle.routes.specs.Table.{imageOf, placesIn, tableSize}
 use Rattle.routes.specs.Calls.{makeOutcome, makeOf}
 use Rattle.routes.specs.Images.{Family, Holdable, TableOf}
 use Rattle.routes.specs.CallRules.{TableSize, MakeRefusal, noFamily, badSize, MakeRule}
-use Rattle.routes.proofs.Answered.{number-refused, refused-number, given-number}
+use Rattle.routes.proofs.AnswerNumbers.{refused-number, given-number, done-given}
 use Rattle.routes.proofs.Headers.{size-sound, sound-size}
 use Rattle.routes.proofs.Images.{images, make-given, make-refused, image-length}
-use Rattle.routes.proofs.NotDone.{done-given}
 
 -- a table's size, as it is tested
 size-is : (memory : List ℕ) → tableSize (length memory) ≡ true → TableSize (length memory)
@@ -33,7 +33,7 @@ size-tested : (size : ℕ) → TableSize size → tableSize size ≡ true
 size-tested size s = size-sound size (s .places) (s .is) (s .most)
 
 -- no routes are what any table can hold
-pub holdable-none : (afi : ℕ) (memory : List ℕ) → Family afi → tableSize (length memory) ≡ true → Holdable afi (placesIn memory) []
+holdable-none : (afi : ℕ) (memory : List ℕ) → Family afi → tableSize (length memory) ≡ true → Holdable afi (placesIn memory) []
 holdable-none afi memory f h = record { family = f; most = sound-size memory h .most; within = omega arith; acceptable = none; increasing = last }
 
 module _ (afi : ℕ) (memory : List ℕ) where
@@ -88,7 +88,7 @@ module _ (afi : ℕ) (memory : List ℕ) where
 pub makeRule : MakeRule
 makeRule =
     record {
-      refuses = λ afi memory n h. (λ e. refusal afi memory n (number-refused _ n h (sym (number afi memory) ∙ e)), λ r. number afi memory ∙ refused-number (refuses afi memory r));
+      refuses = λ afi memory n h. (λ e. refusal afi memory n (refused-of _ n (sym e ∙ number afi memory) h), λ r. number afi memory ∙ refused-number (refuses afi memory r));
       done = λ afi memory. (
         λ e. let p = made-given afi memory e in let q = make-given afi memory (p .0) (p .1) in (q .0, size-is memory (q .1)),
         λ h. number afi memory ∙ given-number (gives afi memory h),

@@ -1,4 +1,4 @@
--- What holds of match: the route that a flow takes, what a table answers, and when.
+-- Match (specs/MatchRule.antt): the route that a flow takes, each number exactly when, and what is told.
 use Prim.Native.Nat.{ℕ, _+_, _-_, _≤_, _<_}
 use mathlib.Core.Path.{_≡_, refl, sym, _∙_, ap, subst}
 use mathlib.Core.Bool.{true, false}

@@ -26,7 +26,7 @@ past-two : (x y n : ℕ) (s : List ℕ) → drop (2 + n) (x ∷ (y ∷ s)) ≡ d
 past-two x y n s = let e : 2 + n ≡ suc (suc n) = omega arith in rw e
 
 -- a place holds its route
-pub place-routed : (r : Route) → routeIn (placeOf r) ≡ r
+place-routed : (r : Route) → routeIn (placeOf r) ≡ r
 unfolding routeIn placeOf part
 place-routed (route n a) =
     let z : List ℕ = zeros (126 - (length n + length a)) in
@@ -34,7 +34,7 @@ place-routed (route n a) =
     ap (take (length a)) (past-two _ _ (length n) (n ++ (a ++ z)) ∙ drop-append-seam n (a ++ z)) ∙ take-append-seam a z in
     ap₂ route (take-append-seam n (a ++ z)) second
 
-pub end-of : (r : Route) → endIn (placeOf r) ≡ 2 + (length (nlriOf r) + length (attributeOf r))
+end-of : (r : Route) → endIn (placeOf r) ≡ 2 + (length (nlriOf r) + length (attributeOf r))
 unfolding endIn placeOf nlriOf attributeOf
 end-of (route n a) = refl
 
@@ -54,7 +54,7 @@ pub acceptable-length : (afi : ℕ) (r : Route) → acceptable afi r ≡ true �
 acceptable-length afi r h = let s = sizes-of afi r h in place-length r (omega arith)
 
 -- a sound place is that of the route in it
-pub place-sound : (afi : ℕ) (r : Route) → acceptable afi r ≡ true → placeSound afi (placeOf r) ≡ true
+place-sound : (afi : ℕ) (r : Route) → acceptable afi r ≡ true → placeSound afi (placeOf r) ≡ true
 unfolding placeSound
 place-sound afi r h =
     let s = sizes-of afi r h in
@@ -86,7 +86,7 @@ sound-cut afi (x ∷ (y ∷ s)) l within z =
     cut-place x y s (omega arith) (omega arith) (ap allZero (sym (past-two x y (x + y) s)) ∙ z)
     ∙ ap (λ (t : List ℕ). placeOf (route (take x s) (take y t))) (sym (past-two x y x s))
 
-pub sound-place : (afi : ℕ) (place : List ℕ) → length place ≡ 128 → placeSound afi place ≡ true → place ≡ placeOf (routeIn place)
+sound-place : (afi : ℕ) (place : List ℕ) → length place ≡ 128 → placeSound afi place ≡ true → place ≡ placeOf (routeIn place)
 unfolding placeSound
 sound-place afi place l h =
     sound-cut afi place l (leb-true _ _ (both-true-left _ _ h)) (both-true-right _ _ (both-true-right _ _ h))
@@ -103,11 +103,11 @@ places-append [] ys = refl
 places-append (x ∷ xs) ys = rw (places-append xs ys) (sym (append-assoc (placeOf x) (placesOf xs) (placesOf ys)))
 
 -- the first place, and what follows it
-pub first-place : (afi : ℕ) (r : Route) (rs : List Route) (z : List ℕ) → acceptable afi r ≡ true → take 128 (placesOf (r ∷ rs) ++ z) ≡ placeOf r
+first-place : (afi : ℕ) (r : Route) (rs : List Route) (z : List ℕ) → acceptable afi r ≡ true → take 128 (placesOf (r ∷ rs) ++ z) ≡ placeOf r
 unfolding placesOf
 first-place afi r rs z h = ap (take 128) (append-assoc (placeOf r) (placesOf rs) z) ∙ take-at (placeOf r) (placesOf rs ++ z) 128 (acceptable-length afi r h)
 
-pub other-places : (afi : ℕ) (r : Route) (rs : List Route) (z : List ℕ) → acceptable afi r ≡ true → drop 128 (placesOf (r ∷ rs) ++ z) ≡ placesOf rs ++ z
+other-places : (afi : ℕ) (r : Route) (rs : List Route) (z : List ℕ) → acceptable afi r ≡ true → drop 128 (placesOf (r ∷ rs) ++ z) ≡ placesOf rs ++ z
 unfolding placesOf
 other-places afi r rs z h = ap (drop 128) (append-assoc (placeOf r) (placesOf rs) z) ∙ drop-at (placeOf r) (placesOf rs ++ z) 128 (acceptable-length afi r h)
 

@@ -22,12 +22,13 @@ use Rattle.routes.specs.Book.{entered, bookAnswer, bookAfter, fed, ownCa
 use Rattle.routes.specs.Run.{Step, stepOf, runFrom, dueFrom, namedBy}
 use Rattle.routes.specs.MixedCalls.{anySource, twoInstalls, Premise}
 
--- the number that the second of two installs is answered
+-- the number in an answer
 numberAnswered : Answer → ℕ
 numberAnswered (installed i) = i .number
 numberAnswered (withdrawn number) = number
 numberAnswered (matched m output) = m .number
 
+-- the number that the second call is answered
 second : List Step → ℕ
 second [] = 0
 second (a ∷ []) = 0

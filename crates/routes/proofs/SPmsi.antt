@@ -109,7 +109,7 @@ single-encoded family s laid whole e t =
     ∙ ap (λ (l : Laid). encodeNlri (fieldsOf l s)) (sym (row-same laid t (o .body)))
 
 -- what a well-formed S-PMSI NLRI is read as encodes to it
-pub read-s-pmsi : (afi : ℕ) (s : List ℕ) (f : Fields) → readSPmsi afi s ≡ given f → (f .type ≡ 3) × (s ≡ encodeNlri f)
+read-s-pmsi : (afi : ℕ) (s : List ℕ) (f : Fields) → readSPmsi afi s ≡ given f → (f .type ≡ 3) × (s ≡ encodeNlri f)
 unfolding readSPmsi readNlri
 read-s-pmsi afi s f e =
     let k = passed _ _ _ e in

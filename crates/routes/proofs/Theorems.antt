@@ -1,4 +1,4 @@
--- What is proved of the definitions as a whole; the file of specs/ named beside each says what it states.
+-- What is proved of the definitions as a whole; the file of specs/ named above each says what it states.
 -- Images
 pub use Rattle.routes.proofs.Images.{images}
 -- LastInstalled, CallRules

@@ -15,7 +15,7 @@ use Rattle.routes.specs.Occurrences.{Among, first, later, PutIn, front, 
 use Rattle.routes.specs.MixedCalls.{Reordered}
 use Rattle.routes.proofs.Distincts.{nowhere, among-cases, Once, has-among, among-has, among-distinct, once-distinct, rearranged-among, once-rearranged}
 use Rattle.routes.proofs.Chosen.{chosen-first, chosen-later, chosen-append, chosen-passes, chosen-all, chosen-none}
-use Rattle.routes.proofs.AllBooks.{own-owner, owner-own, owners-same}
+use Rattle.routes.proofs.AllBooks.{own-owner, owner-own, owners-same, beside-owner}
 use Rattle.routes.proofs.Ownership.{owner-nobody}
 use Rattle.routes.proofs.Reorders.{call-among, occurrences-calls}
 
@@ -36,11 +36,7 @@ is-nobody (owner router) h = absurd (opposite {b = false} h refl)
 router-among : {router : List ℕ} (afi : ℕ) {c : Call} {calls : List Call} → Among c calls → ownerOf afi c ≡ owner router → Among router (routersOf afi calls)
 unfolding routersOf withOwner
 router-among afi (first e) h = rw (← e, h) (first refl)
-router-among {router} afi (later {y} {ys} m) h = go (ownerOf afi y) (router-among afi m h)
-  where
-    go : (w : Owner) → Among router (routersOf afi ys) → Among router (withOwner w (routersOf afi ys))
-    go nobody a = a
-    go (owner other) a = later a
+router-among afi (later {y} m) h = beside-owner (ownerOf afi y) (router-among afi m h)
 
 module _ (afi : ℕ) where
   -- one occurrence more

@@ -13,18 +13,18 @@ use Rattle.octets.proofs.Orders.{unequal-other}
 use Rattle.octets.proofs.Outcomes.{pick-true, pick-false}
 use Rattle.octets.proofs.Refusals.{outcome, picked, stopped, refused-same, refuses-unless}
 use Rattle.octets.proofs.Tests.{goes, stops}
+use Rattle.nlri.proofs.Numbered.{refused-of}
 use Rattle.routes.specs.Route.{lookup, absent, removed}
 use Rattle.routes.specs.Table.{imageOf, afiIn, placesIn, routesOf, soundOf}
 use Rattle.routes.specs.Calls.{leaving, withdrawOutcome, withdrawOf}
 use Rattle.routes.specs.Images.{Holdable, TableOf}
 use Rattle.routes.specs.CallRules.{WithdrawRefusal, withdrawUnsound, badName, notHeld, Withdrawable, IsHeld, WithdrawRule}
-use Rattle.routes.proofs.Answered.{number-refused, refused-number, given-number}
+use Rattle.routes.proofs.AnswerNumbers.{refused-number, given-number, done-given}
 use Rattle.routes.proofs.ArgumentRules.{argumentRule, nlri-accepted, nlri-accepts}
 use Rattle.routes.proofs.ByArguments.{s-pmsi-number}
 use Rattle.routes.proofs.Holding.{holdable-removed}
 use Rattle.routes.proofs.Images.{images, sound, sound-holdable, image-length}
 use Rattle.routes.proofs.Lookups.{absent-holds, holds-absent, held-holds, holds-held, lookup-removed-same, lookup-removed-other, increasing-distinct, length-removed-held}
-use Rattle.routes.proofs.NotDone.{done-given}
 
 -- what a withdrawal that is not refused found
 pub record Left (t nlri : List ℕ) : Type 0 where
@@ -37,7 +37,7 @@ module _ (t nlri : List ℕ) where
   unfolding withdrawOutcome
   leaving-decides h = pick-true _ _ _ (h .sound) ∙ sym (goes _ _ _ _ (nlri-accepts (afiIn t) nlri (h .accepted)) refl)
 
-  pub withdraw-given : (n : List ℕ) → withdrawOutcome t nlri ≡ given n → Left t nlri × (n ≡ nlri)
+  withdraw-given : (n : List ℕ) → withdrawOutcome t nlri ≡ given n → Left t nlri × (n ≡ nlri)
   unfolding withdrawOutcome leaving
   withdraw-given n e =
       let p = only _ _ _ _ e in
@@ -101,7 +101,7 @@ module _ (t nlri : List ℕ) where
   unfolding withdrawOf onOutcome
   withdraw-leaves n e = rw e
 
-  pub withdraw-holdable : withdrawOutcome t nlri ≡ given nlri → Holdable (afiIn t) (placesIn t) (removed nlri (routesOf t))
+  withdraw-holdable : withdrawOutcome t nlri ≡ given nlri → Holdable (afiIn t) (placesIn t) (removed nlri (routesOf t))
   withdraw-holdable e = holdable-removed (afiIn t) (placesIn t) (routesOf t) (sound-holdable t (withdraw-given nlri e .0 .asked .sound)) nlri
 
   after-given : withdrawOutcome t nlri ≡ given nlri → TableOf (afiIn t) (placesIn t) (removed nlri (routesOf t)) (withdrawOf t nlri .octets)
@@ -137,9 +137,9 @@ module _ (t nlri : List ℕ) where
 pub withdrawRule : WithdrawRule
 withdrawRule =
     record {
-      refuses = λ t nlri n h. (λ e. refusal t nlri n (number-refused _ n h (sym (number t nlri) ∙ e)), λ r. number t nlri ∙ refused-number (refuses t nlri r));
+      refuses = λ t nlri n h. (λ e. refusal t nlri n (refused-of _ n (sym e ∙ number t nlri) h), λ r. number t nlri ∙ refused-number (refuses t nlri r));
       table = λ t nlri. (
-        λ e. by-table t nlri (refusal t nlri TABLE (number-refused _ TABLE (omega arith) (sym (number t nlri) ∙ e))) refl,
+        λ e. by-table t nlri (refusal t nlri TABLE (refused-of _ TABLE (sym e ∙ number t nlri) (omega arith))) refl,
         λ h. number t nlri ∙ refused-number (refuses t nlri (withdrawUnsound h)),
       );
       done = λ t nlri. (
@@ -147,7 +147,7 @@ withdrawRule =
         λ h. number t nlri ∙ given-number (gives t nlri (h .0) (h .1)),
       );
       missing = λ t nlri a. (
-        λ e. by-absent t nlri (refusal t nlri ABSENT (number-refused _ ABSENT (omega arith) (sym (number t nlri) ∙ e))) refl,
+        λ e. by-absent t nlri (refusal t nlri ABSENT (refused-of _ ABSENT (sym e ∙ number t nlri) (omega arith))) refl,
         λ h. number t nlri ∙ refused-number (refuses t nlri (notHeld (a .sound) (a .accepted) h)),
       );
       withdrawn = λ t nlri e. withdrawn t nlri (withdraw-done t nlri e);

@@ -81,7 +81,7 @@ gathered afi (router ∷ routers) calls = bookOf afi router calls ++ gathered af
 unfoldable pub allBooks : ℕ → List Call → List Route
 allBooks afi calls = gathered afi (distinct (routersOf afi calls)) calls
 
--- what is due to a call after others: its router's book's answer, or the refusal of a call of nobody
+-- by a call's owner: one answer where it is nobody's, one by the router where it is a router's
 unfoldable pub dueBy : Answer → (List ℕ → Answer) → Owner → Answer
 dueBy none some nobody = none
 dueBy none some (owner router) = some router

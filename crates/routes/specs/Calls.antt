@@ -73,7 +73,7 @@ withdrawOf t nlri =
       octets = onOutcome (λ number. t) (λ n. imageOf (afiIn t) (placesIn t) (removed n (routesOf t))) (withdrawOutcome t nlri);
     }
 
--- DONE with the tier and both sizes; no match: tier 0 and both sizes 0; a refusal: its number and empty fields
+-- DONE with the tier and both sizes; where no route matches, all of them 0
 unfoldable pub foundAnswer : Found → Matched
 foundAnswer nothing = record { number = DONE; tier = 0; «nlri_size» = 0; «attribute_size» = 0 }
 foundAnswer (found tier r) = record { number = DONE; tier = tier; «nlri_size» = length (nlriOf r); «attribute_size» = length (attributeOf r) }

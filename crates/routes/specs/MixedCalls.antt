@@ -62,7 +62,7 @@ MixedCalls =
     (afi : ℕ) (memory : List ℕ) (calls : List Call) → makeOf afi memory .answer ≡ DONE → Fits afi (placesIn memory) calls
     → Claim afi (placesIn memory) (makeOf afi memory .octets) calls
 
--- (C-*,C-*) of the router 10.0.0.n, distinguisher 0:100:7
+-- (C-*,C-*) of the router 10.0.0.n, route distinguisher 100:7
 unfoldable pub anySource : ℕ → List ℕ
 anySource n = 3 ∷ (14 ∷ (0 ∷ (0 ∷ (0 ∷ (100 ∷ (0 ∷ (0 ∷ (0 ∷ (7 ∷ (0 ∷ (0 ∷ (10 ∷ (0 ∷ (0 ∷ (n ∷ [])))))))))))))))
 

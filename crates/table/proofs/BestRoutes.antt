@@ -48,20 +48,21 @@ ahead-first : (t : List ℕ) (tier at : ℕ) (best : Best) → eqb (best .tier) 
 unfolding aheadAt
 ahead-first t tier at best h = pick-true _ _ _ h
 
-routeAt : List ℕ → ℕ → Route
-routeAt t at = routeIn (part t at 128)
+-- the route in the place that starts at an octet of the table
+routeFrom : List ℕ → ℕ → Route
+routeFrom t at = routeIn (part t at 128)
 
 module _ (afi : ℕ) (q : Query) (source : 0 < length (q .source)) (group : 0 < length (q .group)) (t : List ℕ) where
-  tier-here : (at : ℕ) → Taken afi t at → tierAt (q .router) (q .source) (q .group) (q .class) (nlriAt t at) ≡ tierOf afi q (routeAt t at)
-  unfolding nlriAt routeAt
+  tier-here : (at : ℕ) → Taken afi t at → tierAt (q .router) (q .source) (q .group) (q .class) (nlriAt t at) ≡ tierOf afi q (routeFrom t at)
+  unfolding nlriAt routeFrom
   tier-here at taken = let a = route-accepted afi t at taken in tier-stands afi q (routeIn (part t at 128)) (a .fields) (a .read) source group
 
-  distinguisher-here : (at : ℕ) → Taken afi t at → standing (nlriAt t at) .distinguisher ≡ distinguisherOf afi (routeAt t at)
-  unfolding nlriAt routeAt
+  distinguisher-here : (at : ℕ) → Taken afi t at → standing (nlriAt t at) .distinguisher ≡ distinguisherOf afi (routeFrom t at)
+  unfolding nlriAt routeFrom
   distinguisher-here at taken = let a = route-accepted afi t at taken in sym (distinguisher-stands afi q (routeIn (part t at 128)) (a .fields) (a .read))
 
   ahead-here : (tier at : ℕ) (best : Best) → Taken afi t at → Taken afi t (best .start) → (best .tier ≡ 0 → ⊥)
-      → aheadAt t tier at best ≡ ahead afi tier (routeAt t at) (best .tier) (routeAt t (best .start))
+      → aheadAt t tier at best ≡ ahead afi tier (routeFrom t at) (best .tier) (routeFrom t (best .start))
   unfolding aheadAt ahead
   ahead-here tier at best new old some =
       pick-false _ _ _ (ne-eqb _ _ some) ∙ in-turn _ _ _
@@ -69,37 +70,37 @@ module _ (afi : ℕ) (q : Query) (source : 0 < length (q .source)) (group : 0 < 
 
   -- one step, where the route has a tier
   against-here : (tier at : ℕ) (best : Best) → Taken afi t at → Kept (Taken afi t) best → (tier ≡ 0 → ⊥)
-      → bestIn t (pick (aheadAt t tier at best) (record { tier = tier; start = at }) best) ≡ against afi tier (routeAt t at) (bestIn t best)
-  unfolding against routeAt
+      → bestIn t (pick (aheadAt t tier at best) (record { tier = tier; start = at }) best) ≡ against afi tier (routeFrom t at) (bestIn t best)
+  unfolding against routeFrom
   against-here tier at best new old some =
       best-picked t _ _ _ ∙ ap (λ (f : Found). pick (aheadAt t tier at best) f (bestIn t best)) (best-some t (record { tier = tier; start = at }) some)
       ∙ tested (eqb (best .tier) 0)
       (λ h.
       let none : bestIn t best ≡ nothing = best-none t best (eqb-true _ _ h) in
-      pick-true _ _ _ (ahead-first t tier at best h) ∙ sym (ap (against afi tier (routeAt t at)) none))
+      pick-true _ _ _ (ahead-first t tier at best h) ∙ sym (ap (against afi tier (routeFrom t at)) none))
       (λ h.
       let there : best .tier ≡ 0 → ⊥ = eqb-false _ _ h in
-      let one : bestIn t best ≡ found (best .tier) (routeAt t (best .start)) = best-some t best there in
-      ap₂ (λ (b : Bool) (f : Found). pick b (found tier (routeAt t at)) f) (ahead-here tier at best new (old there) there) one
-      ∙ sym (ap (against afi tier (routeAt t at)) one))
+      let one : bestIn t best ≡ found (best .tier) (routeFrom t (best .start)) = best-some t best there in
+      ap₂ (λ (b : Bool) (f : Found). pick b (found tier (routeFrom t at)) f) (ahead-here tier at best new (old there) there) one
+      ∙ sym (ap (against afi tier (routeFrom t at)) one))
 
   better-here : (at : ℕ) (best : Best) → Taken afi t at → Kept (Taken afi t) best
-      → bestIn t (betterAt (q .router) (q .source) (q .group) (q .class) t best at) ≡ better afi q (bestIn t best) (routeAt t at)
+      → bestIn t (betterAt (q .router) (q .source) (q .group) (q .class) t best at) ≡ better afi q (bestIn t best) (routeFrom t at)
   unfolding betterAt better
   better-here at best new old =
       let tier : ℕ = tierAt (q .router) (q .source) (q .group) (q .class) (nlriAt t at) in
-      let is : tier ≡ tierOf afi q (routeAt t at) = tier-here at new in
+      let is : tier ≡ tierOf afi q (routeFrom t at) = tier-here at new in
       best-picked t _ _ _
       ∙ tested (eqb tier 0)
       (λ h. pick-true _ _ _ h ∙ sym (pick-true _ _ _ (ap (λ (n : ℕ). eqb n 0) (sym is) ∙ h)))
       (λ h.
-      pick-false _ _ _ h ∙ against-here tier at best new old (eqb-false _ _ h) ∙ ap (λ (n : ℕ). against afi n (routeAt t at) (bestIn t best)) is
+      pick-false _ _ _ h ∙ against-here tier at best new old (eqb-false _ _ h) ∙ ap (λ (n : ℕ). against afi n (routeFrom t at) (bestIn t best)) is
       ∙ sym (pick-false _ _ _ (ap (λ (n : ℕ). eqb n 0) (sym is) ∙ h)))
 
   scan-here : (count at : ℕ) (best : Best) → ((k : ℕ) → k < count → Taken afi t (at + 128 * k)) → Kept (Taken afi t) best
       → (bestIn t (scanAt (q .router) (q .source) (q .group) (q .class) t count at best) ≡ scanned afi q (bestIn t best) (routesFrom count (drop at t)))
       × Kept (Taken afi t) (scanAt (q .router) (q .source) (q .group) (q .class) t count at best)
-  unfolding scanAt scanned routesFrom routeAt part
+  unfolding scanAt scanned routesFrom routeFrom part
   scan-here zero at best all old = (refl, old)
   scan-here (suc count) at best all old =
       let new : Taken afi t at = place-here (Taken afi t) (suc count) at all (omega arith) in
@@ -112,8 +113,6 @@ module _ (t : List ℕ) (is : soundOf t ≡ true) where
   table-taken : (k : ℕ) → k < countIn t → Taken (afiIn t) t (8 + 128 * k)
   table-taken =
       let s = sound t is in
-      let size = s .size .is in
-      let within = s .within in
       places-taken (afiIn t) [] (countIn t) t 8 (s .places) (omega arith)
 
   pub scan-ready : (count : ℕ) → count ≡ countIn t → (k : ℕ) → k < count → Readable t (8 + 128 * k)
@@ -129,7 +128,7 @@ module _ (t : List ℕ) (is : soundOf t ≡ true) where
       all : best ≡ scanAt router source group class t (countIn t) 8 noneYet
       all = scans ∙ ap (λ (n : ℕ). scanAt router source group class t n 8 noneYet) counted
 
-      pub scan-matches : bestIn t best ≡ matchIn (afiIn t) (queryOf router source group class) (routesOf t)
+      scan-matches : bestIn t best ≡ matchIn (afiIn t) (queryOf router source group class) (routesOf t)
       unfolding noneYet routesOf
       scan-matches =
           ap (bestIn t) all ∙ whole .0 ∙ ap (λ (f : Found). scanned (afiIn t) (queryOf router source group class) f (routesFrom (countIn t) (drop 8 t))) (best-none t noneYet refl)

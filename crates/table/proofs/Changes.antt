@@ -10,9 +10,10 @@ use Rattle.octets.specs.Octets.{placed}
 use Rattle.octets.specs.Order.{zeros}
 use Rattle.routes.specs.Route.{Route, route, nlriOf, inserted, removed}
 use Rattle.routes.specs.Place.{placeOf, AllAcceptable, none, one}
-use Rattle.routes.specs.Table.{headerOf, placesOf, imageOf, afiIn}
+use Rattle.routes.specs.Table.{headerOf, placesOf, imageOf}
 use Rattle.routes.specs.Images.{Holdable}
-use Rattle.routes.proofs.Headers.{header-length, afi-in, past-header}
+use Rattle.routes.proofs.Headers.{header-length, past-header}
+use Rattle.routes.proofs.Images.{image-afi}
 use Rattle.routes.proofs.Places.{zeros-length, acceptable-length, places-length, places-append}
 use Rattle.table.specs.Changing.{rank, firstIs, opened, closed, replacedAt, addedAt, takenAt}
 use Rattle.table.proofs.Places.{zeros-split}
@@ -46,10 +47,6 @@ image-split afi places n xs ys e =
 
 front-size : (afi n : ℕ) (xs : List Route) → AllAcceptable afi xs → length (headerOf afi n ++ placesOf xs) ≡ 8 + 128 * length xs
 front-size afi n xs a = length-append (headerOf afi n) (placesOf xs) ∙ ap₂ (λ (i j : ℕ). i + j) (header-length afi n) (places-length afi xs a)
-
-image-afi : (afi places : ℕ) (rs : List Route) → afiIn (imageOf afi places rs) ≡ afi
-unfolding imageOf
-image-afi afi places rs = afi-in afi (length rs) _
 
 -- a new header before the places
 header-over : (afi m n : ℕ) (xs ys : List ℕ) → headerOf afi m ++ drop 8 ((headerOf afi n ++ xs) ++ ys) ≡ headerOf afi m ++ (xs ++ ys)

@@ -21,7 +21,6 @@ use Rattle.nlri.specs.Layouts.{layoutOf, layoutAt, layoutSingle}
 use Rattle.nlri.specs.Inner.{layoutWith, originatorLast, groupSize as bothSizes, flowSizes, flowEnd, flowRoute, bodyWith, header, anyBody, anyFront, withSourceAs, sourceStart, distinguisherAt, sourceAsAt, fieldsAt}
 use Rattle.nlri.proofs.FieldRecords.{fields-same}
 use Rattle.nlri.proofs.Lengths.{lengths}
-use Rattle.nlri.proofs.Sizes.{flow-within}
 use Rattle.nlri.proofs.Fronts.{laid-within, front-is}
 use Rattle.nlri.proofs.Singles.{read-by-layout, read-refused}
 use Rattle.routes.specs.Arguments.{readSPmsi}
@@ -69,9 +68,7 @@ body-laid family body l e =
     let q = passed _ _ _ (p .1) in
     let a : ℕ = q .value .0 in
     let b : ℕ = q .value .1 in
-    let w = flow-within family 3 (drop 8 body) a b (q .first) in
     let i = flow-is family 3 (drop 8 body) a b (q .first) in
-    let ld = length-drop 8 body in
     let last = end-is _ a b _ l (q .second) in
     record {
       source = a;

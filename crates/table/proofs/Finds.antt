@@ -4,7 +4,6 @@ use mathlib.Core.Path.{_≡_, refl, sym, ap, _∙_}
 use mathlib.Core.Bool.{Bool, true, false}
 use mathlib.Core.List.{List, [], _∷_}
 use native.Mathlib.Omega.{arith}
-use borrow.Author.Tests.{leb-true}
 use lib.ListN.{length, take, drop, drop-of-length-le}
 use lib.Seq.{drop-drop}
 use Rattle.octets.specs.Octets.{part}
@@ -16,6 +15,7 @@ use Rattle.routes.specs.Place.{endIn, routeIn, placeSound}
 use Rattle.routes.specs.Table.{afiIn, countIn, placesIn, routesFrom, routesOf, placesSound, soundOf}
 use Rattle.routes.proofs.Images.{sound, routes-length, sound-holdable}
 use Rattle.table.specs.Changing.{routeAt, rank, firstIs}
+use Rattle.table.proofs.Sounds.{sound-end}
 use Rattle.table.proofs.Ranks.{rank-upto, rank-past, rank-most, held-at-rank, first-within}
 
 next-place : (i : ℕ) (s : List ℕ) → drop (128 * i) (drop 128 s) ≡ drop (128 * suc i) s
@@ -44,7 +44,7 @@ unfolding part
 place-part i t = ap (take 128) (drop-drop (128 * i) 8 t)
 
 -- the routes of a table from an index on begin with the route there
-pub routes-from-index : (t : List ℕ) (i : ℕ) → i < countIn t → drop i (routesOf t) ≡ routeAt i t ∷ drop (suc i) (routesOf t)
+routes-from-index : (t : List ℕ) (i : ℕ) → i < countIn t → drop i (routesOf t) ≡ routeAt i t ∷ drop (suc i) (routesOf t)
 unfolding routesOf routeAt
 routes-from-index t i h =
     from-index i (countIn t) (drop 8 t) h ∙ ap (λ (x : List ℕ). routeIn x ∷ drop (suc i) (routesFrom (countIn t) (drop 8 t))) (place-part i t)
@@ -61,18 +61,15 @@ places-within t n h k = let is = sound t h .size .is in omega arith
 pub place-within : (t : List ℕ) (i : ℕ) → soundOf t ≡ true → i < countIn t → 8 + 128 * i + 128 ≤ length t
 place-within t i h k =
     let s = sound t h in
-    let is = s .size .is in
-    let within = s .within in
     omega arith
 
 -- and its route within the place
 pub end-within : (t : List ℕ) (i : ℕ) → soundOf t ≡ true → i < countIn t → endIn (part t (8 + 128 * i) 128) ≤ length (part t (8 + 128 * i) 128)
-unfolding placeSound
 end-within t i h k =
     let s = sound t h in
     let at : placeSound (afiIn t) (part t (8 + 128 * i) 128) ≡ true =
     ap (placeSound (afiIn t)) (sym (place-part i t)) ∙ sound-index (afiIn t) [] i (countIn t) (drop 8 t) k (s .places) in
-    rw (part-length t (8 + 128 * i) 128 (place-within t i h k)) (leb-true _ _ (both-true-left _ _ at))
+    rw (part-length t (8 + 128 * i) 128 (place-within t i h k)) (sound-end (afiIn t) (part t (8 + 128 * i) 128) at)
 
 -- the route at an index has an NLRI, or no route is there
 pub first-at : (t n : List ℕ) (i : ℕ) → i < countIn t → firstIs n (drop i (routesOf t)) ≡ same n (nlriOf (routeAt i t))

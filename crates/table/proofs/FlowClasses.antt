@@ -16,22 +16,18 @@ use Rattle.octets.proofs.Picked.{tested}
 use Rattle.octets.proofs.Refusals.{outcome}
 use Rattle.octets.proofs.Tests.{goes, stops}
 use Rattle.nlri.specs.declared.group.Group.{Group}
-use Rattle.nlri.specs.Family.{familyBits, originatorSize}
-use Rattle.nlri.specs.Groups.{classUnder, classOf, groupOf}
+use Rattle.nlri.specs.Family.{originatorSize}
+use Rattle.nlri.specs.Groups.{classUnder, groupOf}
 use Rattle.nlri.proofs.Lengths.{family-octets, family-good}
 use Rattle.routes.specs.Arguments.{Query, readFlow}
 use Rattle.routes.specs.Images.{Family}
-use Rattle.routes.proofs.Flows.{flow-asked, flow-refused}
+use Rattle.routes.proofs.Flows.{class-under, flow-asked, flow-refused}
 use Rattle.table.specs.Scanning.{queryOf, flowClass}
 
 -- a group of another size than the family's
 unsized : (family : ℕ) (g : List ℕ) → (length g ≡ family / 8 → ⊥) → classUnder family g ≡ refused FLOW
 unfolding classUnder
 unsized family g h = pick-false _ _ _ (ne-eqb _ _ h)
-
-classed : (afi family : ℕ) (g : List ℕ) → familyBits afi ≡ given family → classOf afi g ≡ classUnder family g
-unfolding classOf
-classed afi family g bits = sym (goes _ _ _ _ bits refl)
 
 -- source and group of the family's size: one of it, and the other of the same
 module _ (family : ℕ) (whole : 8 * (family / 8) ≡ family) (source group : List ℕ) (next : ℕ → Outcome Query) where
@@ -61,7 +57,7 @@ module _ (afi : ℕ) (router source group : List ℕ) (good : Family afi) where
       let next : ℕ → Outcome Query = λ class. given (record { router = router; source = source; group = group; class = class }) in
       sym (goes _ _ _ _ (family .1) (sym
       (ap (λ (o : Outcome Query). pick (originatorSize (length router)) o (refused FLOW)) (sized-alike (family .0) (family-octets afi (family .0) (family .1) .0) source group next)
-      ∙ sym (rw (and-pick, and-pick, and-refused, classed afi (family .0) group (family .1))))))
+      ∙ sym (rw (and-pick, and-pick, and-refused, ← class-under afi (family .0) group (family .1))))))
 
   -- what the function that judges a flow answers: the class, with DONE, or the number of the refusal
   module _ (class : Group) (is : class ≡ groupOf (flowClass afi router source group)) where

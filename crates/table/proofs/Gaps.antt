@@ -27,10 +27,9 @@ gap-filled start end x b z w p e f g h =
     let from : drop start t ≡ b ++ (z ++ w) = drop-at x (b ++ (z ++ w)) start e in
     let size : end - start - 128 ≡ length b = omega arith in
     let mid : take (end - start - 128) (drop start t) ≡ b = ap₂ (λ (n : ℕ) (l : List ℕ). take n l) size from ∙ take-at b (z ++ w) (length b) refl in
-    let sum : end ≡ start + (length b + 128) = h in
     let last : length (b ++ z) ≡ length b + 128 = simp length-append (omega arith) in
     let high : drop end t ≡ w =
-    ap (λ (n : ℕ). drop n t) sum ∙ sym (drop-drop (length b + 128) start t) ∙ ap (drop (length b + 128)) (from ∙ sym (append-assoc b z w)) ∙ drop-at (b ++ z) w (length b + 128) last in
+    ap (λ (n : ℕ). drop n t) h ∙ sym (drop-drop (length b + 128) start t) ∙ ap (drop (length b + 128)) (from ∙ sym (append-assoc b z w)) ∙ drop-at (b ++ z) w (length b + 128) last in
     let first : length (take 128 (drop start t)) ≡ 128 = length-take-le 128 (drop start t) (rw (from, length-append, length-append) (omega arith)) in
     rw (low, mid, high) (over start x (take 128 (drop start t)) (b ++ w) p e (first ∙ sym g))
 

@@ -10,6 +10,7 @@ use Rattle.octets.specs.Numbers.{DONE, TABLE, ROOM}
 use Rattle.octets.specs.Outcome.{given, refused, onOutcome, andThen, numberOf}
 use Rattle.octets.specs.Octets.{AllOctets}
 use Rattle.octets.proofs.Outcomes.{pick-true, pick-false}
+use Rattle.nlri.proofs.Numbered.{refused-of}
 use Rattle.routes.specs.Route.{route, nlriOf, attributeOf, inserted}
 use Rattle.routes.specs.Arguments.{readRoute}
 use Rattle.routes.specs.Place.{placeOf}
@@ -19,7 +20,7 @@ use Rattle.routes.proofs.Bounds.{read-acceptable, sizes-of}
 use Rattle.routes.proofs.Images.{routes-length, sound-holdable, sound-image}
 use Rattle.routes.proofs.Places.{place-length}
 use Rattle.table.specs.Changing.{rank, firstIs, replacedAt, addedAt, Installs}
-use Rattle.table.proofs.Sounds.{refused-of, route-fault-none}
+use Rattle.table.proofs.Sounds.{route-fault-none}
 use Rattle.table.proofs.Finds.{held-by}
 use Rattle.table.proofs.Changes.{image-entered-held, image-entered-new}
 

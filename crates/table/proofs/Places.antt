@@ -1,10 +1,10 @@
 -- Places as they are written.
 use Prim.Native.Nat.{ℕ, _+_, _-_, _≤_}
-use mathlib.Core.Path.{_≡_, refl, sym, ap, _∙_}
+use mathlib.Core.Path.{_≡_, sym, ap, _∙_}
 use mathlib.Core.List.{List, [], _∷_, _++_, append-assoc}
 use native.Mathlib.Nat.{zero-add}
 use native.Mathlib.Omega.{arith}
-use lib.ListN.{length, drop, length-append, replicate-append-replicate}
+use lib.ListN.{length, drop, replicate-append-replicate}
 use lib.Seq.{drop-at}
 use Rattle.octets.specs.Octets.{placed}
 use Rattle.octets.specs.Order.{zeros}
@@ -32,9 +32,6 @@ unfolding placeOf
 place-written n a z x y w i j k h e p q r =
     let lz : length z ≡ 128 = ap length e ∙ zeros-length 128 in
     let sizes : List ℕ = length n ∷ (length a ∷ []) in
-    let two : length sizes ≡ 2 = refl in
-    let both : length (sizes ++ n) ≡ 2 + length n = length-append sizes n in
-    let all : length ((sizes ++ n) ++ a) ≡ 2 + (length n + length a) = simp length-append (omega arith) in
     let first : Put 0 (sizes ++ n) z j y = put-then 0 sizes n z i x j y (omega arith) p q in
     let whole : Put 0 ((sizes ++ n) ++ a) z k w = put-then 0 (sizes ++ n) a z j y k w (omega arith) first r in
     let over : placed 0 ((sizes ++ n) ++ a) (zeros 128) ≡ ((sizes ++ n) ++ a) ++ zeros (128 - length ((sizes ++ n) ++ a)) = over-zeros 128 ((sizes ++ n) ++ a) (omega arith) in

@@ -83,8 +83,6 @@ module _ (place output nlri : List ℕ) (w : RouteFits place output) (n : nlri �
 
     pub attribute-room : (y : List ℕ) (next : ℕ) → Put 0 nlri output next y → (readAttribute attribute ≡ given (fieldsIn attribute)) × (next + length attribute ≤ length y)
     attribute-room y next p =
-        let most = w .most in
-        let room = w .room in
         let same = put-length 0 nlri output next y nlri-room p in
         (rw a (w .read), omega (arith, nlri-length, attribute-length, p .0))
 

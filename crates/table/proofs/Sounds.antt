@@ -25,6 +25,7 @@ use Rattle.nlri.specs.Reading.{readNlri, isSPmsi}
 use Rattle.nlri.specs.Layouts.{readingOf, layoutSingle}
 use Rattle.nlri.specs.Inner.{fieldsAt}
 use Rattle.nlri.proofs.Via.{nlri-given, reading-refused}
+use Rattle.nlri.proofs.Numbered.{number-goes, number-stops, refused-of}
 use Rattle.nlri.proofs.Singles.{read-by-layout, read-refused}
 use Rattle.tunnel.specs.Attribute.{readAttribute, fieldsIn, labelOf}
 use Rattle.tunnel.proofs.Laws.{read-done}
@@ -32,21 +33,13 @@ use Rattle.routes.specs.Route.{route, nlriOf, attributeOf}
 use Rattle.routes.specs.Arguments.{readSPmsi, readLabelled, readRoute}
 use Rattle.routes.specs.Place.{endIn, routeIn, acceptable, placeSound}
 use Rattle.routes.specs.Table.{afiIn, countIn, placesIn, headerStart, tableSize, headerSound, placesSound, soundOf}
-use Rattle.routes.proofs.NotDone.{done-given, s-pmsi-not-done, route-not-done}
+use Rattle.routes.proofs.AnswerNumbers.{done-given}
+use Rattle.routes.proofs.ByArguments.{s-pmsi-number, route-number}
 use Rattle.routes.proofs.Bounds.{route-read, read-acceptable}
 use Rattle.routes.proofs.Headers.{SizeOf, sound-size}
 use Rattle.table.proofs.Moves.{drop-taken}
 
--- the number of two steps: the first refusal's, or the second step's
-module _ {A B : Type 0} (o : Outcome A) (next : A → Outcome B) where
-  number-stops : (n : ℕ) → o ≡ refused n → n ≡ numberOf (andThen o next)
-  unfolding andThen numberOf
-  number-stops n e = rw e
-
-  number-goes : (a : A) (n : ℕ) → o ≡ given a → n ≡ numberOf (next a) → n ≡ numberOf (andThen o next)
-  unfolding andThen
-  number-goes a n e p = rw e p
-
+-- the number of a step is kept where only a value follows
 number-kept : {A B : Type 0} (o : Outcome A) (b : B) → numberOf o ≡ numberOf (andThen o (λ a. given b))
 unfolding numberOf andThen
 number-kept (given a) b = refl
@@ -66,66 +59,60 @@ module _ {A : Type 0} (b : Bool) (x y : Outcome A) (n : ℕ) where
 module _ (afi : ℕ) (s : List ℕ) (r : Reading) (e : readingOf r ≡ layoutSingle afi s) where
   pub s-pmsi-refused : (n : ℕ) → r ≡ Refused n → n ≡ numberOf (readSPmsi afi s)
   unfolding readSPmsi
-  s-pmsi-refused n q = number-stops _ _ n (read-refused afi s n (reading-refused r _ n e q))
+  s-pmsi-refused n q = number-stops n _ _ (read-refused afi s n (reading-refused r _ n e q))
 
   pub s-pmsi-given : (l : Layout) → r ≡ Nlri l → l .«route_type» ≡ 3 → 0 ≡ numberOf (readSPmsi afi s)
   unfolding readSPmsi fieldsAt numberOf
   s-pmsi-given l q t =
-      number-goes _ _ (fieldsAt l s) 0 (read-by-layout afi s l (nlri-given r _ l e q) .0) (number-picks _ _ _ 0 (eq-eqb (l .«route_type») 3 t) refl)
+      number-goes 0 _ (fieldsAt l s) _ (read-by-layout afi s l (nlri-given r _ l e q) .0) (number-picks _ _ _ 0 (eq-eqb (l .«route_type») 3 t) refl)
 
   pub s-pmsi-other : (l : Layout) → r ≡ Nlri l → (l .«route_type» ≡ 3 → ⊥) → KIND ≡ numberOf (readSPmsi afi s)
   unfolding readSPmsi fieldsAt numberOf
   s-pmsi-other l q t =
-      number-goes _ _ (fieldsAt l s) KIND (read-by-layout afi s l (nlri-given r _ l e q) .0) (number-skips _ _ _ KIND (ne-eqb (l .«route_type») 3 t) refl)
-
--- a number other than DONE is a refusal's
-pub refused-of : {A : Type 0} (o : Outcome A) (n : ℕ) → n ≡ numberOf o → (n ≡ DONE → ⊥) → o ≡ refused n
-unfolding numberOf
-refused-of (given a) n e h = absurd (h e)
-refused-of (refused m) n e h = ap refused (sym e)
+      number-goes KIND _ (fieldsAt l s) _ (read-by-layout afi s l (nlri-given r _ l e q) .0) (number-skips _ _ _ KIND (ne-eqb (l .«route_type») 3 t) refl)
 
 -- the number of an attribute, by that of reading it
 module _ (s : List ℕ) (n : ℕ) (e : n ≡ numberOf (readAttribute s)) where
   pub attribute-refused : (n ≡ DONE → ⊥) → n ≡ numberOf (readLabelled s)
   unfolding readLabelled
-  attribute-refused d = number-stops _ _ n (refused-of _ n e d)
+  attribute-refused d = number-stops n _ _ (refused-of _ n e d)
 
   module _ (z : n ≡ DONE) where
     pub attribute-other : (getD s 1 0 ≡ 11 → ⊥) → DONE ≡ numberOf (readLabelled s)
     unfolding readLabelled numberOf fieldsIn
-    attribute-other t = number-goes _ _ (fieldsIn s) DONE (read-done s n e z) (number-skips _ _ _ DONE (both-left _ _ (ne-eqb _ 11 t)) refl)
+    attribute-other t = number-goes DONE _ (fieldsIn s) _ (read-done s n e z) (number-skips _ _ _ DONE (both-left _ _ (ne-eqb _ 11 t)) refl)
 
     module _ (t : getD s 1 0 ≡ 11) (field : ℕ) (at : field ≡ numberIn (part s 2 3) 0) where
       pub attribute-unlabelled : field / 16 ≡ 0 → LABEL ≡ numberOf (readLabelled s)
       unfolding readLabelled numberOf fieldsIn labelOf
       attribute-unlabelled l =
-          number-goes _ _ (fieldsIn s) LABEL (read-done s n e z) (number-picks _ _ _ LABEL (both-true _ _ (eq-eqb _ 11 t) (rw (← at) (eq-eqb _ 0 l))) refl)
+          number-goes LABEL _ (fieldsIn s) _ (read-done s n e z) (number-picks _ _ _ LABEL (both-true _ _ (eq-eqb _ 11 t) (rw (← at) (eq-eqb _ 0 l))) refl)
 
       pub attribute-labelled : (field / 16 ≡ 0 → ⊥) → DONE ≡ numberOf (readLabelled s)
       unfolding readLabelled numberOf fieldsIn labelOf
       attribute-labelled l =
-          number-goes _ _ (fieldsIn s) DONE (read-done s n e z) (number-skips _ _ _ DONE (both-right _ _ (eq-eqb _ 11 t) (rw (← at) (ne-eqb _ 0 l))) refl)
+          number-goes DONE _ (fieldsIn s) _ (read-done s n e z) (number-skips _ _ _ DONE (both-right _ _ (eq-eqb _ 11 t) (rw (← at) (ne-eqb _ 0 l))) refl)
 
 -- where the number is DONE, what reading gives
 pub s-pmsi-fault-none : (afi : ℕ) (nlri : List ℕ) → numberOf (readSPmsi afi nlri) ≡ DONE → (f : Fields) × (readSPmsi afi nlri ≡ given f)
-s-pmsi-fault-none afi nlri e = done-given (readSPmsi afi nlri) (s-pmsi-not-done afi nlri) e
+s-pmsi-fault-none afi nlri e = done-given (readSPmsi afi nlri) (λ n q. s-pmsi-number afi nlri n q .0) e
 
 pub route-fault-none : (afi : ℕ) (nlri attribute : List ℕ) → numberOf (readRoute afi nlri attribute) ≡ DONE → readRoute afi nlri attribute ≡ given (route nlri attribute)
 route-fault-none afi nlri attribute e =
-    let r = done-given (readRoute afi nlri attribute) (route-not-done afi nlri attribute) e in
+    let r = done-given (readRoute afi nlri attribute) (λ n q. route-number afi nlri attribute n q .0) e in
     r .1 ∙ ap given (route-read afi nlri attribute (r .0) (r .1))
 
 -- the number of a route's two judgements
 pub route-stops : (afi : ℕ) (nlri attribute : List ℕ) (fault : ℕ) → fault ≡ numberOf (readSPmsi afi nlri) → (fault ≡ DONE → ⊥) → fault ≡ numberOf (readRoute afi nlri attribute)
 unfolding readRoute
-route-stops afi nlri attribute fault e h = number-stops _ _ fault (refused-of _ fault e h)
+route-stops afi nlri attribute fault e h = number-stops fault _ _ (refused-of _ fault e h)
 
 pub route-goes : (afi : ℕ) (nlri attribute : List ℕ) (fault second : ℕ) → fault ≡ numberOf (readSPmsi afi nlri) → fault ≡ DONE → second ≡ numberOf (readLabelled attribute)
     → second ≡ numberOf (readRoute afi nlri attribute)
 unfolding readRoute
 route-goes afi nlri attribute fault second e h q =
     let f = s-pmsi-fault-none afi nlri (sym e ∙ h) in
-    number-goes _ _ (f .0) second (f .1) (q ∙ number-kept (readLabelled attribute) (route nlri attribute))
+    number-goes second _ (f .0) _ (f .1) (q ∙ number-kept (readLabelled attribute) (route nlri attribute))
 
 -- an NLRI of type 3, and any other
 module _ (afi : ℕ) (nlri : List ℕ) where

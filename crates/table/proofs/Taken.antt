@@ -4,7 +4,6 @@ use mathlib.Core.Path.{_≡_, sym, _∙_, ap, subst}
 use mathlib.Core.Bool.{true}
 use mathlib.Core.List.{List}
 use native.Mathlib.Omega.{arith}
-use borrow.Author.Tests.{leb-true}
 use lib.ListN.{length, drop}
 use lib.Seq.{drop-drop}
 use Rattle.octets.specs.Outcome.{given}
@@ -20,6 +19,7 @@ use Rattle.routes.proofs.Bounds.{Accepted, accepted, sizes-of}
 use Rattle.routes.proofs.Places.{sound-acceptable}
 use Rattle.table.specs.Scanning.{nlriAt, Readable, RouteFits}
 use Rattle.table.proofs.FieldStarts.{fields-bounded}
+use Rattle.table.proofs.Sounds.{sound-end}
 
 -- a sound place starts there
 pub record Taken (afi : ℕ) (t : List ℕ) (at : ℕ) : Type 0 where
@@ -37,8 +37,7 @@ labelled-read s f e = let p = passed _ _ _ e in fields-in s (p .value) (p .first
 
 module _ (afi : ℕ) (t : List ℕ) (at : ℕ) (taken : Taken afi t at) where
   place-end : endIn (part t at 128) ≤ 128
-  unfolding placeSound
-  place-end = leb-true _ _ (both-true-left _ _ (taken .sound))
+  place-end = sound-end afi (part t at 128) (taken .sound)
 
   -- its route is acceptable
   pub route-accepted : Accepted afi (nlriOf (routeIn (part t at 128))) (attributeOf (routeIn (part t at 128)))
@@ -53,8 +52,6 @@ module _ (afi : ℕ) (t : List ℕ) (at : ℕ) (taken : Taken afi t at) where
   pub taken-writable : (output : List ℕ) → 124 ≤ length output → RouteFits (part t at 128) output
   taken-writable output room =
       let sizes = sizes-of afi (routeIn (part t at 128)) (sound-acceptable afi (part t at 128) (taken .sound)) in
-      let n = sizes .nlri in
-      let a = sizes .attribute in
       record {
         within = rw (part-length t at 128 (taken .within)) place-end;
         read = labelled-read _ (route-accepted .attributeFields) (route-accepted .labelled);

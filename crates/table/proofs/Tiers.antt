@@ -10,7 +10,7 @@ use lib.ListN.{length, getD, take, drop, length-drop}
 use lib.Seq.{drop-drop}
 use Rattle.octets.specs.Octets.{part, lowFirst}
 use Rattle.octets.specs.Choice.{pick, both}
-use Rattle.octets.specs.Outcome.{given, onOutcome}
+use Rattle.octets.specs.Outcome.{given}
 use Rattle.octets.specs.Order.{same}
 use Rattle.octets.proofs.Inversions.{opposite}
 use Rattle.octets.proofs.Orders.{unequal-other}
@@ -21,6 +21,7 @@ use Rattle.routes.specs.Route.{Route, nlriOf}
 use Rattle.routes.specs.Arguments.{Query, readSPmsi}
 use Rattle.routes.specs.Matching.{ofFields, candidate, wildcard, condition, meets, distinguisherOf}
 use Rattle.routes.specs.OnePass.{tierOf}
+use Rattle.routes.proofs.Conditions.{fields-of, distinguisher-is}
 use Rattle.table.proofs.FieldStarts.{fields-stand}
 use Rattle.table.specs.Scanning.{sourceSize, groupSize, originatorStart, Bounded, standing, sourceTier, anySourceTier, flowTier, tierAt}
 
@@ -123,14 +124,8 @@ wild-other address flow h w =
     unequal-other address flow (λ e. let l : length address ≡ length flow = ap length e in omega arith)
 
 module _ (afi : ℕ) (q : Query) (r : Route) (f : Fields) (read : readSPmsi afi (nlriOf r) ≡ given f) where
-  -- what a test of fields says of a route whose NLRI reads
-  of-fields : (test : Fields → Bool) → ofFields afi r test ≡ test f
-  unfolding ofFields onOutcome
-  of-fields test = rw read
-
   pub distinguisher-stands : distinguisherOf afi r ≡ standing (nlriOf r) .distinguisher
-  unfolding distinguisherOf onOutcome
-  distinguisher-stands = rw read (ap (λ (x : Fields). x .distinguisher) (fields-stand afi (nlriOf r) f read))
+  distinguisher-stands = distinguisher-is afi r f read ∙ ap (λ (x : Fields). x .distinguisher) (fields-stand afi (nlriOf r) f read)
 
   by-condition : 0 < length (q .source) → 0 < length (q .group)
       → flowTier (q .source) (q .group) (q .class) f ≡ pick (condition q 1 f) 1 (pick (condition q 2 f) 2 (pick (condition q 3 f) 3 (pick (condition q 4 f) 4 0)))
@@ -143,6 +138,7 @@ module _ (afi : ℕ) (q : Query) (r : Route) (f : Fields) (read : readSPmsi afi 
   pub tier-stands : 0 < length (q .source) → 0 < length (q .group) → tierAt (q .router) (q .source) (q .group) (q .class) (nlriOf r) ≡ tierOf afi q r
   unfolding tierAt tierOf candidate meets
   tier-stands hs hg =
+      let by-fields : (test : Fields → Bool) → ofFields afi r test ≡ test f = λ test. fields-of afi r test f read in
       ap (λ (x : Fields). pick (same (x .originator) (q .router)) (flowTier (q .source) (q .group) (q .class) x) 0) (sym (fields-stand afi (nlriOf r) f read))
-      ∙ rw (of-fields (λ g. same (g .originator) (q .router)), of-fields (condition q 1), of-fields (condition q 2), of-fields (condition q 3), of-fields (condition q 4))
+      ∙ rw (by-fields (λ g. same (g .originator) (q .router)), by-fields (condition q 1), by-fields (condition q 2), by-fields (condition q 3), by-fields (condition q 4))
       (ap (λ (n : ℕ). pick (same (f .originator) (q .router)) n 0) (by-condition hs hg))

@@ -8,13 +8,14 @@ use Rattle.octets.specs.Numbers.{DONE, TABLE, ABSENT}
 use Rattle.octets.specs.Outcome.{given, refused, onOutcome, andThen, numberOf}
 use Rattle.octets.specs.Octets.{AllOctets}
 use Rattle.octets.proofs.Outcomes.{pick-true, pick-false}
+use Rattle.nlri.proofs.Numbered.{refused-of}
 use Rattle.routes.specs.Route.{removed}
 use Rattle.routes.specs.Arguments.{readSPmsi}
 use Rattle.routes.specs.Table.{afiIn, countIn, placesIn, routesOf, imageOf, soundOf}
 use Rattle.routes.specs.Calls.{leaving, withdrawOutcome, withdrawOf}
 use Rattle.routes.proofs.Images.{routes-length, sound-holdable, sound-image}
 use Rattle.table.specs.Changing.{rank, firstIs, takenAt, Withdraws}
-use Rattle.table.proofs.Sounds.{refused-of, s-pmsi-fault-none}
+use Rattle.table.proofs.Sounds.{s-pmsi-fault-none}
 use Rattle.table.proofs.Finds.{held-by}
 use Rattle.table.proofs.Changes.{image-left}
 

@@ -56,7 +56,7 @@ sourceTier group class routeGroup = pick (same routeGroup group) 1 (pick (wildca
 unfoldable pub anySourceTier : (group : List ℕ) (class : ℕ) (routeGroup : List ℕ) → ℕ
 anySourceTier group class routeGroup = pick (wildcard routeGroup) 4 (pick (eqb class ASM) (pick (same routeGroup group) 3 0) 0)
 
--- 0 where the flow meets the condition of no tier
+-- 0 where the route meets the condition of no tier
 unfoldable pub flowTier : (source group : List ℕ) (class : ℕ) → Fields → ℕ
 flowTier source group class f =
     pick (wildcard (f .source)) (anySourceTier group class (f .group))

@@ -47,7 +47,7 @@ fn write_attribute(attribute: &[u8], output: &mut [u8], at: usize) -> usize
 }
 
 // NLRI and attribute, one straight after the other.
-pub(crate) fn write_route(tier: u32, place: &[u8], output: &mut [u8]) -> Matched
+fn write_route(tier: u32, place: &[u8], output: &mut [u8]) -> Matched
     requires { ⌜ RouteFits (now place) (now output) ⌝ }
     ensures { λ r. ⌜ r ≡ foundAnswer (found tier (routeIn (now (place .entry)))) ⌝ }
     ensures { λ r. ⌜ now (output .exit) ≡ foundOutput (found tier (routeIn (now (place .entry)))) (now (output .entry)) ⌝ }
@@ -62,7 +62,7 @@ pub(crate) fn write_route(tier: u32, place: &[u8], output: &mut [u8]) -> Matched
     }
 }
 
-// No match leaves the output untouched.
+// The best route written, or, where there is none, the output untouched.
 pub(crate) fn answer(table: &[u8], best: Best, output: &mut [u8]) -> Matched
     requires { ⌜ Answerable (now table) best (now output) ⌝ }
     ensures { λ r. ⌜ r ≡ foundAnswer (bestIn (now (table .entry)) best) ⌝ }

@@ -15,7 +15,7 @@ pub(crate) const HEADER: usize = 8;
 pub(crate) const PLACE: usize = 128;
 
 // The place of an index.
-pub(crate) fn place_at(table: &[u8], index: usize) -> &[u8]
+fn place_at(table: &[u8], index: usize) -> &[u8]
     requires { ⌜ 8 + 128 * index + 128 ≤ length (now table) ⌝ }
     ensures { λ r. ⌜ now r ≡ part (now (table .entry)) (8 + 128 * index) 128 ⌝ }
 {
@@ -31,7 +31,7 @@ pub(crate) fn nlri_in(place: &[u8]) -> &[u8]
 }
 
 // The NLRI of the route at an index.
-pub(crate) fn nlri_at(table: &[u8], index: usize) -> &[u8]
+fn nlri_at(table: &[u8], index: usize) -> &[u8]
     requires { ⌜ (soundOf (now table) ≡ true) × (index < countIn (now table)) ⌝ }
     ensures { λ r. ⌜ now r ≡ nlriOf (routeAt index (now (table .entry))) ⌝ }
 {

@@ -54,7 +54,7 @@ pub(crate) fn is_table_size(size: usize) -> bool
 
 // A place holds a route that install would accept and then zeros. Nothing is copied out of it. The attribute's two judges are
 // called one by one: each is small enough that the compiler puts it into the loop over the places.
-pub(crate) fn is_place_sound(afi: u16, place: &[u8]) -> bool
+fn is_place_sound(afi: u16, place: &[u8]) -> bool
     requires { ⌜ length (now place) ≡ 128 ⌝ }
     ensures { λ r. ⌜ r ≡ placeSound afi (now (place .entry)) ⌝ }
 {

@@ -92,7 +92,7 @@ fn any_source_tier(route_group: &[u8], group: &[u8], class: u32) -> u32
     0
 }
 
-// 0 where the flow meets the condition of no tier.
+// 0 where the route meets the condition of no tier.
 fn flow_tier(nlri: &[u8], source: &[u8], group: &[u8], class: u32) -> u32
     requires { ⌜ Bounded (now nlri) ⌝ }
     ensures { λ r. ⌜ r ≡ flowTier (now (source .entry)) (now (group .entry)) class (standing (now (nlri .entry))) ⌝ }

@@ -4,7 +4,8 @@ use mathlib.Core.List.{[], _∷_}
 use denote.Ref.{now}
 use Rattle.mvpn_list.specs.Listing.{decimalOf, fieldOf}
 use Rattle.mvpn_list.proofs.Decimals.{decimal-is}
-use Rattle.mvpn_list.proofs.Writes.{room-first, room-next, wrote-both, written-is}
+use Rattle.mvpn_list.proofs.Writes.{room-first, room-next, put-both}
+use Rattle.octets.proofs.Lists.{put-as}
 use borrow.Author.Needs.{needs}
 use Rattle.mvpn_list.proofs.format.field.Statement.{statement}
 use Rattle.mvpn_list.proofs.format.field.Tie as tie
@@ -35,7 +36,7 @@ place-requires-2 c κs =
     let d = c .before .before .before .before .before .before .before .decimal .ensures in
     let w = c .before .before .before .before .place in
     room-next (a .at) (decimalOf (a .number)) (a .ending ∷ []) (now (a .output)) (c .before .before .before .before .before .before .before .before .before .before .pre) (w .result) (w .last .1 .0)
-    (written-is (a .at) _ _ (now (a .output)) _ _ (d .1 .1 ∙ decimal-is _ _ (d .1 .0)) (w .ensures))
+    (put-as (a .at) _ _ (now (a .output)) _ _ (d .1 .1 ∙ decimal-is _ _ (d .1 .0)) (w .ensures))
 
 same-length : tie.Need-same-length
 same-length c = search needs
@@ -46,8 +47,8 @@ returns c =
     let a = c .before .before .before .before .before .before .before .before .before .before .before .before .before .args in
     let d = c .before .before .before .before .before .before .before .before .before .before .decimal .ensures in
     let w = c .before .before .before .before .before .before .before .place in
-    wrote-both (a .at) (decimalOf (a .number)) (a .ending ∷ []) (now (a .output)) (c .before .before .before .before .before .before .before .before .before .before .before .before .before .pre) (w .result) (w .last .1 .0) _ _
-    (written-is (a .at) _ _ (now (a .output)) _ _ (d .1 .1 ∙ decimal-is _ _ (d .1 .0)) (w .ensures)) (c .before .before .place2 .ensures)
+    put-both (a .at) (decimalOf (a .number)) (a .ending ∷ []) (now (a .output)) (c .before .before .before .before .before .before .before .before .before .before .before .before .before .pre) (w .result) (w .last .1 .0) _ _
+    (put-as (a .at) _ _ (now (a .output)) _ _ (d .1 .1 ∙ decimal-is _ _ (d .1 .0)) (w .ensures)) (c .before .before .place2 .ensures)
 
 pub field-spec : {M : Type 1} → statement M
 field-spec =

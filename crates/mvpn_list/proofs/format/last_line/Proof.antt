@@ -1,7 +1,7 @@
 -- `mvpn_list::format::last_line` meets its contract: the opening and two fields, one straight after the other.
 use denote.Ref.{now}
 use Rattle.mvpn_list.specs.Listing.{fieldOf, openingOf, lastLine}
-use Rattle.mvpn_list.proofs.Writes.{room-first, room-second, room-third, wrote-three}
+use Rattle.mvpn_list.proofs.Writes.{room-first, room-second, room-third, put-three}
 use borrow.Author.Needs.{needs}
 use Rattle.mvpn_list.proofs.format.last_line.Statement.{statement}
 use Rattle.mvpn_list.proofs.format.last_line.Tie as tie
@@ -35,7 +35,7 @@ returns c =
     let w = c .before .before .before .before .before .before .before .before .before .before .opening in
     let w₂ = c .before .before .before .before .before .before .field in
     let w₃ = c .before .before .field2 in
-    wrote-three (a .at) (openingOf (a .number)) (fieldOf (a .offset) 32) (fieldOf (a .number) 10) (now (a .output)) (c .before .before .before .before .before .before .before .before .before .before .before .before .before .pre) (w .result) (w .last .1 .0) (w .ensures) (w₂ .result) (w₂ .last .1 .1 .0) (w₂ .ensures) (w₃ .result) (w₃ .last .1 .1 .0) (w₃ .ensures)
+    put-three (a .at) (openingOf (a .number)) (fieldOf (a .offset) 32) (fieldOf (a .number) 10) (now (a .output)) (c .before .before .before .before .before .before .before .before .before .before .before .before .before .pre) (w .result) (w .last .1 .0) (w .ensures) (w₂ .result) (w₂ .last .1 .1 .0) (w₂ .ensures) (w₃ .result) (w₃ .last .1 .1 .0) (w₃ .ensures)
 
 pub last-line-spec : {M : Type 1} → statement M
 last-line-spec =

@@ -8,7 +8,6 @@ use Prim.Native.Nat.{ℕ}
 use denote.Ref.{now}
 use Rattle.octets.specs.Octets.{AllOctets}
 use Rattle.octets.proofs.AllOctets.{octets-of}
-use mathlib.Core.Path.{refl}
 use Rattle.table.proofs.answer.write_attribute.Statement.{statement}
 use Rattle.table.proofs.answer.write_attribute.Tie as tie
 
