@@ -31,7 +31,7 @@ pub(crate) fn is_allowed(family: usize, route_type: usize, bits: usize) -> bool
 }
 
 // An originator has 4 or 16 octets, independent of the family.
-pub(crate) fn is_originator_size(size: usize) -> bool
+pub fn is_originator_size(size: usize) -> bool
     ensures { λ r. ⌜ r ≡ originatorSize size ⌝ }
 {
     if size == AddressKind::IPV4_OCTETS {

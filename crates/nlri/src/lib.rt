@@ -13,6 +13,7 @@ mod write;
 pub use address::Address;
 pub use address::AddressKind;
 pub use address::RouteDistinguisher;
+pub use body::is_originator_size;
 pub use family::AddressFamily;
 pub use fields::Nlri;
 pub use fields::NlriReading;

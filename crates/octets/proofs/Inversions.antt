@@ -49,6 +49,9 @@ unfolding both
 both-true-right true b e = e
 both-true-right false b e = absurd (opposite {b = true} refl (sym e))
 
+pub both-held : (a b : Bool) → both a b ≡ true → (a ≡ true) × (b ≡ true)
+both-held a b h = (both-true-left a b h, both-true-right a b h)
+
 pub either-true : (a b : Bool) → either a b ≡ true → (a ≡ true) ⊎ (b ≡ true)
 unfolding either
 either-true true b e = inl refl

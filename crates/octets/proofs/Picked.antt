@@ -3,7 +3,7 @@ use Prim.Native.Nat.{ℕ}
 use mathlib.Core.Path.{_≡_, refl, sym}
 use mathlib.Core.Bool.{Bool, true, false}
 use Rattle.octets.specs.Numbers.{DONE}
-use Rattle.octets.specs.Choice.{pick, both}
+use Rattle.octets.specs.Choice.{pick}
 use Rattle.octets.specs.Outcome.{given, refused}
 
 -- a test and its value
@@ -21,11 +21,6 @@ pub pick-held : (b y : Bool) → pick b y false ≡ true → (b ≡ true) × (y 
 unfolding pick
 pick-held true y h = (refl, h)
 pick-held false y h = (h, cc)
-
-pub both-held : (a b : Bool) → both a b ≡ true → (a ≡ true) × (b ≡ true)
-unfolding both
-both-held true b h = (refl, h)
-both-held false b h = (h, cc)
 
 -- a number chosen is DONE: the test before another number failed, and what follows is DONE
 pub pick-done : (b : Bool) (m n : ℕ) → (m ≡ DONE → ⊥) → pick b m n ≡ DONE → (b ≡ false) × (n ≡ DONE)

@@ -8,35 +8,35 @@ use Rattle.table.specs.Scanning.{flowClass}
 use Rattle.table.proofs.flow.flow_class.Statement.{statement}
 use Rattle.table.proofs.flow.flow_class.Tie as tie
 
-is-router-size-requires : tie.Need-is-router-size-requires
-is-router-size-requires c κs = search needs
+is-originator-size-requires : tie.Need-is-originator-size-requires
+is-originator-size-requires c κs = search needs
 
 group-class-requires : tie.Need-group-class-requires
 group-class-requires c κs = search needs
 
 returns : tie.Need-returns
 unfolding flowClass
-returns c = c .group-class .ensures ∙ ap groupOf (picks _ _ _ _ (sym (c .before .before .before .is-router-size .ensures) ∙ c .before .before .if1 .taken) (picks _ _ _ _ (eq-eqb _ _ (c .before .if2 .taken)) refl))
+returns c = c .group-class .ensures ∙ ap groupOf (picks _ _ _ _ (sym (c .before .before .before .is-originator-size .ensures) ∙ c .before .before .if1 .taken) (picks _ _ _ _ (eq-eqb _ _ (c .before .if2 .taken)) refl))
 
 refusal-requires : tie.Need-refusal-requires
 refusal-requires c κs = search needs
 
 returns-2 : tie.Need-returns-2
 unfolding flowClass
-returns-2 c = c .refusal .ensures ∙ ap groupOf (picks _ _ _ _ (sym (c .before .before .before .is-router-size .ensures) ∙ c .before .before .if1 .taken) (skips _ _ _ _ (ne-eqb _ _ (c .before .if2 .left)) refl))
+returns-2 c = c .refusal .ensures ∙ ap groupOf (picks _ _ _ _ (sym (c .before .before .before .is-originator-size .ensures) ∙ c .before .before .if1 .taken) (skips _ _ _ _ (ne-eqb _ _ (c .before .if2 .left)) refl))
 
 refusal-requires-2 : tie.Need-refusal-requires-2
 refusal-requires-2 c κs = search needs
 
 returns-3 : tie.Need-returns-3
 unfolding flowClass
-returns-3 c = c .refusal2 .ensures ∙ ap groupOf (skips _ _ _ _ (sym (c .before .before .is-router-size .ensures) ∙ c .before .if1 .left) refl)
+returns-3 c = c .refusal2 .ensures ∙ ap groupOf (skips _ _ _ _ (sym (c .before .before .is-originator-size .ensures) ∙ c .before .if1 .left) refl)
 
 pub flow-class-spec : {M : Type 1} → statement M
 flow-class-spec =
     tie.close
     (tie.spec
-    is-router-size-requires
+    is-originator-size-requires
     group-class-requires
     returns
     refusal-requires
