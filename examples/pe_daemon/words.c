@@ -32,12 +32,14 @@ static const number_words numbers[] = {
     WORDS(MVPN_SPACE, "the output is too small"),
 };
 
-void print_number(uint32_t number)
+const char *number_name(uint32_t number)
 {
-    if (number < COUNT(numbers))
-        printf("%s (%s)", numbers[number].name, numbers[number].meaning);
-    else
-        printf("a number that mvpn.h does not have");
+    return number < COUNT(numbers) ? numbers[number].name : "a number that mvpn.h does not have";
+}
+
+const char *number_meaning(uint32_t number)
+{
+    return number < COUNT(numbers) ? numbers[number].meaning : "";
 }
 
 /* The text that a list has for a number, if it has one. */
@@ -66,7 +68,7 @@ const char *route_type_name(size_t route_type)
     return listed(names, COUNT(names), route_type, "unknown route type");
 }
 
-static const char *tunnel_type_name(uint32_t tunnel_type)
+const char *tunnel_type_name(uint32_t tunnel_type)
 {
     static const char *const names[] = {
         [MVPN_TUNNEL_NONE] = "no tunnel information",
@@ -113,6 +115,11 @@ static void print_hexadecimal(const uint8_t *octets, size_t size)
 {
     for (size_t i = 0; i < size; i++)
         printf("%s%02X", i ? " " : "", octets[i]);
+}
+
+void print_number(uint32_t number)
+{
+    printf("%s (%s)", number_name(number), number_meaning(number));
 }
 
 /* An address of no octets is the wildcard. */

@@ -6,8 +6,11 @@
 
 /* ---- names of numbers */
 
+const char *number_name(uint32_t number);    /* "MVPN_SHORT" */
+const char *number_meaning(uint32_t number); /* "too few octets" */
 const char *family_name(uint16_t afi);
 const char *route_type_name(size_t route_type);
+const char *tunnel_type_name(uint32_t tunnel_type);
 const char *group_class_name(uint32_t group_class);
 const char *tier_name(uint32_t tier);
 
