@@ -7,8 +7,8 @@ use mathlib.Core.List.{List, [], _++_}
 use native.Mathlib.Omega.{arith}
 use borrow.Author.Tests.{eqb-true}
 use lib.Dec.{eqb}
-use lib.ListN.{length, drop}
-use lib.Seq.{drop-at}
+use lib.ListN.{length, take, drop, length-append}
+use lib.Seq.{drop-at, length-take-le}
 use Rattle.octets.specs.Numbers.{DONE, FAMILY, TABLE}
 use Rattle.octets.specs.Choice.{pick, either}
 use Rattle.octets.specs.Outcome.{given, refused, onOutcome, andThen, numberOf}
@@ -21,13 +21,13 @@ use Rattle.nlri.proofs.Theorems.{lengths}
 use Rattle.routes.specs.Table.{headerOf, placesOf, imageOf, placesIn, tableSize}
 use Rattle.routes.specs.Calls.{makeOutcome, makeOf}
 use Rattle.routes.proofs.Headers.{sound-size}
-use Rattle.routes.proofs.Places.{zeros-length}
-use Rattle.table.proofs.Places.{zeros-split}
 use Rattle.table.proofs.Sounds.{header-room}
 
--- zeros of a table's size have room for the header
-pub zeros-room : (size : ℕ) (flag : Bool) (x : List ℕ) → flag ≡ tableSize size → flag ≡ true → x ≡ zeros size → 8 ≤ length x
-zeros-room size flag x s h e = rw (ap length e ∙ zeros-length size) (header-room size flag s h)
+-- memory of a table's size has room for the header, and still has it with every place free
+pub cleared-room : (memory : List ℕ) (flag : Bool) (x : List ℕ) → flag ≡ tableSize (length memory) → flag ≡ true → x ≡ take 8 memory ++ zeros (length memory - 8) → 8 ≤ length x
+cleared-room memory flag x s h e =
+    let room : 8 ≤ length memory = header-room (length memory) flag s h in
+    rw (ap length e, length-append, length-take-le 8 memory room) (omega arith)
 
 -- a family, by the test of it
 module _ (afi : ℕ) (flag : Bool) (e : flag ≡ either (eqb afi 1) (eqb afi 2)) where
@@ -57,16 +57,18 @@ module _ (afi : ℕ) (flag : Bool) (e : flag ≡ either (eqb afi 1) (eqb afi 2))
           let z : tableSize (length memory) ≡ false = sym s ∙ h in
           (rw (q, z), rw (q, z))
 
-      -- zeros, and the header over them, are the image of no routes
-      image : size ≡ true → (x y : List ℕ) → x ≡ zeros (length memory) → y ≡ headerOf afi 0 ++ drop 8 x → y ≡ imageOf afi (placesIn memory) []
+      -- free places, and the header before them, are the image of no routes
+      image : size ≡ true → (x y : List ℕ) → x ≡ take 8 memory ++ zeros (length memory - 8) → y ≡ headerOf afi 0 ++ drop 8 x → y ≡ imageOf afi (placesIn memory) []
       unfolding imageOf placesOf
       image h x y p q =
           let m = sound-size memory (sym s ∙ h) .is in
-          let rest : drop 8 x ≡ zeros (128 * placesIn memory) = ap (drop 8) (p ∙ ap zeros m ∙ zeros-split 8 (128 * placesIn memory)) ∙ drop-at (zeros 8) (zeros (128 * placesIn memory)) 8 (zeros-length 8) in
+          let room : 8 ≤ length memory = header-room (length memory) size s h in
+          let free : length memory - 8 ≡ 128 * placesIn memory = omega arith in
+          let rest : drop 8 x ≡ zeros (128 * placesIn memory) = ap (drop 8) p ∙ drop-at (take 8 memory) (zeros (length memory - 8)) 8 (length-take-le 8 memory room) ∙ ap zeros free in
           let all : placesIn memory ≡ placesIn memory - 0 = omega arith in
           q ∙ ap (λ (l : List ℕ). headerOf afi 0 ++ l) rest ∙ ap (λ (n : ℕ). headerOf afi 0 ++ zeros (128 * n)) all
 
-      pub table-made : size ≡ true → (x y : List ℕ) → x ≡ zeros (length memory) → y ≡ headerOf afi 0 ++ drop 8 x
+      pub table-made : size ≡ true → (x y : List ℕ) → x ≡ take 8 memory ++ zeros (length memory - 8) → y ≡ headerOf afi 0 ++ drop 8 x
           → (DONE ≡ makeOf afi memory .answer) × (y ≡ makeOf afi memory .octets)
       unfolding makeOf makeOutcome numberOf onOutcome andThen pick
       table-made h x y p q =

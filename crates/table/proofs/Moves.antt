@@ -1,6 +1,6 @@
 -- Octets moved one at a time: what a loop's turn, or its end, leaves.
 use Prim.Native.Nat.{ℕ, suc, _+_, _-_, _≤_, _<_}
-use mathlib.Core.Path.{_≡_, refl, sym, ap, _∙_}
+use mathlib.Core.Path.{_≡_, refl, sym, ap, ap₂, _∙_}
 use mathlib.Core.List.{List, [], _∷_, _++_, append-assoc, append-nil}
 use native.Mathlib.Numerals.{add-one}
 use native.Mathlib.Omega.{arith}
@@ -120,6 +120,14 @@ unfolding placed
 lent-over n start t p e = rw (after-part start (start + n) t (omega arith), e)
 
 -- the first octets moved down by n, and then the last n cleared
+-- zeros in all octets from k on
+pub rest-cleared : (k : ℕ) (y z : List ℕ) → k ≤ length y → z ≡ zeros (length (take (length y - k) (drop k y)))
+    → take k y ++ (z ++ drop (length y - k) (drop k y)) ≡ take k y ++ zeros (length y - k)
+rest-cleared k y z h f =
+    let size : length (take (length y - k) (drop k y)) ≡ length y - k = part-size k (length y) y h (omega arith) in
+    let none : drop (length y - k) (drop k y) ≡ [] = after-part k (length y) y h ∙ drop-length y in
+    rw (f, size, none) (ap (λ (m : List ℕ). take k y ++ m) (append-nil (zeros (length y - k))))
+
 pub gap-closed : (n : ℕ) (d y z : List ℕ) → n ≤ length d → length y ≡ length d → y ≡ drop n d ++ drop (length d - n) d
     → z ≡ zeros (length (take (length y - (length y - n)) (drop (length y - n) y)))
     → take (length y - n) y ++ (z ++ drop (length y - (length y - n)) (drop (length y - n) y)) ≡ drop n d ++ zeros n
@@ -127,9 +135,7 @@ gap-closed n d y z h l e f =
     let k : ℕ = length y - n in
     let size : length (drop n d) ≡ k = simp length-drop (omega arith) in
     let low : take k y ≡ drop n d = ap (take k) e ∙ take-at (drop n d) (drop (length d - n) d) k size in
-    let high : length (take (length y - k) (drop k y)) ≡ n = part-size k (length y) y (omega arith) (omega arith) ∙ back (length y) n (omega arith) in
-    let none : drop (length y - k) (drop k y) ≡ [] = after-part k (length y) y (omega arith) ∙ drop-length y in
-    rw (f, high, low, none) (ap (λ (m : List ℕ). drop n d ++ m) (append-nil (zeros n)))
+    rest-cleared k y z (omega arith) f ∙ ap₂ (λ (a : List ℕ) (m : ℕ). a ++ zeros m) low (back (length y) n (omega arith))
   where
     back : (a b : ℕ) → b ≤ a → a - (a - b) ≡ b
     back a b q = omega arith

@@ -13,7 +13,7 @@ use crate::header;
 use crate::sound;
 
 // Every octet becomes 0.
-pub(crate) fn clear(octets: &mut [u8])
+fn clear(octets: &mut [u8])
     ensures { λ _. ⌜ now (octets .exit) ≡ zeros (length (now (octets .entry))) ⌝ }
 {
     let mut at = 0;
@@ -21,6 +21,14 @@ pub(crate) fn clear(octets: &mut [u8])
         octets[at] = 0;
         at += 1;
     }
+}
+
+// Every place becomes free; the header's octets stay.
+pub(crate) fn clear_places(table: &mut [u8])
+    requires { ⌜ 8 ≤ length (now table) ⌝ }
+    ensures { λ _. ⌜ now (table .exit) ≡ take 8 (now (table .entry)) ++ zeros (length (now (table .entry)) - 8) ⌝ }
+{
+    clear(&mut table[HEADER..]);
 }
 
 // The sizes, the NLRI and the attribute of a route, and zeros to the end.

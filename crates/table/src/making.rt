@@ -15,7 +15,7 @@ pub fn make(afi: u16, table: &mut [u8]) -> u32
 {
     if header::is_family(afi) {
         if sound::is_table_size(table.len()) {
-            change::clear(table);
+            change::clear_places(table);
             header::write_header(afi, 0, table);
             return DONE;
         }

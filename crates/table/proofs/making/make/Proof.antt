@@ -1,5 +1,7 @@
 -- `table::making::make` meets its contract.
-use Rattle.table.proofs.Makes.{zeros-room, afi-octet, no-family, no-table, table-made}
+use denote.Ref.{now}
+use Rattle.table.proofs.Makes.{cleared-room, afi-octet, no-family, no-table, table-made}
+use Rattle.table.proofs.Sounds.{header-room}
 use borrow.Author.Needs.{needs}
 use Rattle.table.proofs.making.make.Statement.{statement}
 use Rattle.table.proofs.making.make.Tie as tie
@@ -10,17 +12,17 @@ is-family-requires c κs = search needs
 is-table-size-requires : tie.Need-is-table-size-requires
 is-table-size-requires c κs = search needs
 
-clear-requires : tie.Need-clear-requires
-clear-requires c κs = search needs
+clear-places-requires : tie.Need-clear-places-requires
+clear-places-requires c κs = header-room _ _ (c .before .before .is-table-size .ensures) (c .before .if2 .taken)
 
 write-header-requires : tie.Need-write-header-requires
-write-header-requires c κs = (afi-octet _ _ (c .before .before .before .before .before .before .before .before .is-family .ensures) (c .before .before .before .before .before .before .before .if1 .taken), zeros-room _ _ _ (c .before .before .before .before .before .before .is-table-size .ensures) (c .before .before .before .before .before .if2 .taken) (c .before .before .before .clear .ensures))
+write-header-requires c κs = (afi-octet _ _ (c .before .before .before .before .before .before .before .before .is-family .ensures) (c .before .before .before .before .before .before .before .if1 .taken), cleared-room (now (c .before .before .before .before .before .before .before .before .before .before .args .table)) _ _ (c .before .before .before .before .before .before .is-table-size .ensures) (c .before .before .before .before .before .if2 .taken) (c .before .before .before .clear-places .ensures))
 
 same-length : tie.Need-same-length
 same-length c = search needs
 
 returns : tie.Need-returns
-returns c = table-made _ _ (c .before .before .before .before .before .before .before .before .before .before .before .is-family .ensures) _ (c .before .before .before .before .before .before .before .before .before .before .if1 .taken) _ (c .before .before .before .before .before .before .before .before .before .is-table-size .ensures) (c .before .before .before .before .before .before .before .before .if2 .taken) _ _ (c .before .before .before .before .before .before .clear .ensures) (c .before .before .write-header .ensures)
+returns c = table-made _ _ (c .before .before .before .before .before .before .before .before .before .before .before .is-family .ensures) _ (c .before .before .before .before .before .before .before .before .before .before .if1 .taken) _ (c .before .before .before .before .before .before .before .before .before .is-table-size .ensures) (c .before .before .before .before .before .before .before .before .if2 .taken) _ _ (c .before .before .before .before .before .before .clear-places .ensures) (c .before .before .write-header .ensures)
 
 returns-2 : tie.Need-returns-2
 returns-2 c = no-table _ _ (c .before .before .before .is-family .ensures) _ (c .before .before .if1 .taken) _ (c .before .is-table-size .ensures) (c .if2 .left)
@@ -34,7 +36,7 @@ make-spec =
     (tie.spec
     is-family-requires
     is-table-size-requires
-    clear-requires
+    clear-places-requires
     write-header-requires
     same-length
     returns
