@@ -1,5 +1,5 @@
 /*
- * Damaged UPDATE messages for the framing of examples/pe_daemon: mutations OUTPUT FILE... takes every UPDATE of the files,
+ * Damaged UPDATE messages for the framing of examples/pe_daemon.c: mutations OUTPUT FILE... takes every UPDATE of the files,
  * cuts it after each of its octets, and changes each octet behind its header in several ways. Each such message is taken
  * apart in memory of exactly its size, and what is found in it must lie in it; then it goes to the output, for the program.
  */

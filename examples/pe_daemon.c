@@ -7,12 +7,13 @@
  * FILE holds whole messages, one after another; `-` is standard input. ROUTER is the PE that the flow comes from: ourselves
  * for sending, the upstream PE for receiving.
  *
- * Only this file calls the library; update.c takes BGP messages apart, words.c prints. There is one peer and one VRF, so
- * every route is the best path and every route is imported; a router with more chooses first and then installs.
+ * Only this file calls the library; pe_daemon/update.c takes BGP messages apart, pe_daemon/words.c prints. There is one peer
+ * and one VRF, so every route is the best path and every route is imported; a router with more chooses first and then
+ * installs.
  */
 #include "mvpn.h"
-#include "update.h"
-#include "words.h"
+#include "pe_daemon/update.h"
+#include "pe_daemon/words.h"
 
 #include <arpa/inet.h>
 #include <stdbool.h>
