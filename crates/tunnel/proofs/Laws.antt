@@ -211,17 +211,11 @@ pub bier-row : (t : ℕ) → t ≡ 11 → TakesSizes t 7 19
 unfolding faultOf faultIn table pick
 bier-row t e i = rw e
 
-ssm-row : (t : ℕ) → t ≡ 3 → TakesSizes t 8 32
+pim-sizes : (t : ℕ) → (t ≡ 3) ⊎ ((t ≡ 4) ⊎ (t ≡ 5)) → TakesSizes t 8 32
 unfolding faultOf faultIn table pick
-ssm-row t e i = rw e
-
-sm-row : (t : ℕ) → t ≡ 4 → TakesSizes t 8 32
-unfolding faultOf faultIn table pick
-sm-row t e i = rw e
-
-bidir-row : (t : ℕ) → t ≡ 5 → TakesSizes t 8 32
-unfolding faultOf faultIn table pick
-bidir-row t e i = rw e
+pim-sizes t (inl e) i = rw e
+pim-sizes t (inr (inl e)) i = rw e
+pim-sizes t (inr (inr e)) i = rw e
 
 over-two : (t : ℕ) → (t ≡ 0 → ⊥) → (t ≡ 1 → ⊥) → (t ≡ 2 → ⊥) → 2 < t
 over-two t a b c = omega arith
@@ -237,10 +231,10 @@ pim-row t u m a b c d =
     let two = eqb-false t 2 (either-false-left (eqb t 2) (eqb t 7) m) in
     let seven = eqb-false t 7 (either-false-right (eqb t 2) (eqb t 7) m) in
     tested (eqb t 3)
-    (λ q. ssm-row t (eqb-true t 3 q))
+    (λ q. pim-sizes t (inl (eqb-true t 3 q)))
     (λ q. tested (eqb t 4)
-    (λ r. sm-row t (eqb-true t 4 r))
-    (λ r. bidir-row t (last-pim t (over-two t a b two) most (eqb-false t 3 q) (eqb-false t 4 r) c seven)))
+    (λ r. pim-sizes t (inr (inl (eqb-true t 4 r))))
+    (λ r. pim-sizes t (inr (inr (last-pim t (over-two t a b two) most (eqb-false t 3 q) (eqb-false t 4 r) c seven)))))
 
 -- rows of FECs
 seven-of : (t : ℕ) → mldp t ≡ true → eqb t 2 ≡ false → t ≡ 7
