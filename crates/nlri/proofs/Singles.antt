@@ -2,7 +2,7 @@
 use mathlib.Core.Path.{_≡_, sym, _∙_, ap, ap₂, subst}
 use mathlib.Core.Bool.{Bool, true, false}
 use mathlib.Core.List.{List}
-use Prim.Native.Nat.{ℕ, _+_, _/_, _≤_}
+use Prim.Native.Nat.{ℕ, _+_, _≤_}
 use native.Mathlib.Omega.{arith}
 use lib.ListN.{length}
 use lib.Dec.{eqb}
@@ -36,9 +36,6 @@ pub single-is : (o : Outcome Layout) (afi : ℕ) (s : List ℕ) → o ≡ andThe
 unfolding layoutSingle
 single-is o afi s e = e ∙ and-cong _ _ _ (λ family q. single-laid family s)
 
-small : (afi family : ℕ) → familyBits afi ≡ given family → family / 8 ≤ 16
-small afi family e = omega (arith, family-octets afi family e)
-
 module _ (afi : ℕ) (s : List ℕ) where
   -- the fields are those that the layout says, and they lie within the NLRI
   pub read-by-layout : (l : Layout) → layoutSingle afi s ≡ given l → (readNlri afi s ≡ given (fieldsAt l s)) × Within l s
@@ -47,7 +44,7 @@ module _ (afi : ℕ) (s : List ℕ) where
       let f = passed _ _ _ e in
       let w = passed _ _ _ (f .second) in
       let same : layoutOf (w .value) ≡ l = given-same (w .second) in
-      let shape = shaped (f .value) s (w .value) (small afi (f .value) (f .first)) (w .first) in (
+      let shape = shaped (f .value) s (w .value) (omega (arith, family-octets afi (f .value) (f .first))) (w .first) in (
         sym (goes (given (fieldsAt l s)) _ (f .value) _ (f .first) (goes (given (fieldsAt l s)) _ (w .value) _ (w .first) (ap given (ap (λ (x : Layout). fieldsAt x s) (sym same) ∙ sym (shape .fields))))),
         subst (λ (x : Layout). Within x s) same (shape .within),
       )

@@ -2,7 +2,6 @@
 use Prim.Native.Nat.{ℕ, _+_, _-_, _/_, _≤_}
 use mathlib.Core.Path.{_≡_, refl, sym, ap, subst, _∙_}
 use mathlib.Core.Bool.{true, false}
-use mathlib.Core.Logic.{_⊎_, inl, inr}
 use mathlib.Core.List.{List, [], _∷_}
 use native.Mathlib.Omega.{arith}
 use borrow.Author.Tests.{eqb-true, ltb-false}
@@ -12,13 +11,11 @@ use Rattle.octets.specs.Outcome.{Outcome, given, refused, onOutcome}
 use Rattle.octets.specs.Octets.{part}
 use Rattle.octets.proofs.Inversions.{opposite, unless, only, passed, given-same}
 use Rattle.octets.proofs.Lists.{part-length}
-use Rattle.nlri.specs.Family.{familyBits}
 use Rattle.nlri.specs.Bodies.{Kind, distinguisher, source, group, originator, bodies, onBody, bodyOf}
 use Rattle.nlri.specs.Fields.{Fields}
 use Rattle.nlri.specs.Reading.{Laid, fixedField, addressEnd, addressField, originatorField, fieldSize, sizesOf, keyField, laidAt, laidSingle, fieldsOf, readNlri}
-use Rattle.nlri.proofs.Families.{family-is}
 use Rattle.nlri.proofs.Judged.{originator-given}
-use Rattle.nlri.proofs.Lengths.{originator-most}
+use Rattle.nlri.proofs.Lengths.{originator-most, family-octets}
 use Rattle.nlri.proofs.Shapes.{bits-most}
 use Rattle.nlri.proofs.Whole.{laid-out}
 use Rattle.tunnel.specs.Attribute.{readAttribute}
@@ -62,13 +59,6 @@ body-most key family small =
     then-most _ distinguisher _ 8 50 (fixed-most 8)
     (then-most _ source _ 17 33 (address-most family 3 small) (then-most _ group _ 17 16 (address-most family 3 small) (then-most _ originator _ 16 0 last-most (end-most _))))
 
-small : (afi family : ℕ) → familyBits afi ≡ given family → family / 8 ≤ 16
-small afi family e = go (family-is afi family e)
-  where
-    go : (family ≡ 32) ⊎ (family ≡ 128) → family / 8 ≤ 16
-    go (inl p) = omega arith
-    go (inr p) = omega arith
-
 -- an NLRI of type 3, whatever its elements
 s-pmsi-size : (afi : ℕ) (s : List ℕ) (f : Fields) → readNlri afi s ≡ given f → f .type ≡ 3 → (2 ≤ length s) × (length s ≤ 60)
 unfolding readNlri laidSingle laidAt fieldsOf
@@ -85,7 +75,7 @@ s-pmsi-size afi s f e three =
     let whole : length (part s 2 (laid .size)) ≡ laid .size = part-length s 2 (laid .size) (omega (arith, out .enough, out .fits)) in
     let sizes : sizesOf (fieldSize (keyField (bits .value)) (bits .value) 3) (bodyOf 3) (part s 2 (laid .size)) ≡ given (laid .sizes) =
     subst (λ (k : ℕ). sizesOf (fieldSize (keyField (bits .value)) (bits .value) k) (bodyOf k) (part s 2 (laid .size)) ≡ given (laid .sizes)) type (out .sizes) in
-    let most = body-most (keyField (bits .value)) (bits .value) (small afi (bits .value) (bits .first)) (part s 2 (laid .size)) (laid .sizes) sizes in
+    let most = body-most (keyField (bits .value)) (bits .value) (omega (arith, family-octets afi (bits .value) (bits .first))) (part s 2 (laid .size)) (laid .sizes) sizes in
     (out .enough, omega (arith, out .enough))
 
 attribute-size : (s : List ℕ) (f : AttributeFields) → readAttribute s ≡ given f → length s ≤ 64
