@@ -84,14 +84,14 @@ layout-octets family s l e =
     let n : w .value .size ≡ l .length = ap (λ (x : Layout). x .length) same in
     (h .0, omega (arith, h .1), ap (λ (x : Layout). x .«route_type») (sym same) ∙ h .2, sym n ∙ h .3)
 
+-- a body that has no key, by the table's rows
+pub unkeyed-rows : (family type : ℕ) (s : List ℕ) → onBody bodies type (refused TYPE) (rowLayout (fieldSize noKey family type) type s) ≡ unkeyedBody family type s
+unfolding unkeyedBody noKey
+unkeyed-rows family type s = rows noKey family s type ∙ ap (λ (o : Outcome Layout). bodyWith o family type s) (and-refused _ _)
+
 pub unkeyed-is : (family : ℕ) (s : List ℕ) → andThen (laidWith noKey family s) (λ laid. given (layoutOf laid)) ≡ unkeyed family s
-unfolding unkeyed unkeyedBody noKey
-unkeyed-is family s =
-    front-rows noKey family s
-    ∙ and-cong _ _ _ (λ h e. rows noKey family (part s 2 (h .1)) (h .0) ∙ ap (λ (o : Outcome Layout). bodyWith o family (h .0) (part s 2 (h .1))) (no-key (part s 2 (h .1)) _))
-  where
-    no-key : {B : Type 0} (p : List ℕ) (next : ℕ → Outcome B) → andThen (noKey p) next ≡ refused 5
-    no-key p next = and-refused _ _
+unfolding unkeyed
+unkeyed-is family s = front-rows noKey family s ∙ and-cong _ _ _ (λ h e. unkeyed-rows family (h .0) (part s 2 (h .1)))
 
 -- the layout at the front, by the inner functions' definition
 pub front-is : (o : Outcome Layout) (family : ℕ) (s : List ℕ) → o ≡ anyFront family s → o ≡ layoutAt family s

@@ -5,6 +5,7 @@ pub mod Via
 pub mod Sizes
 pub mod Rows
 pub mod Fronts
+pub mod ReadNumbers
 pub mod Numbered
 pub mod Ends
 pub mod Standing

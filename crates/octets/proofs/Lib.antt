@@ -8,4 +8,5 @@ pub mod LowFirst
 pub mod Picked
 pub mod AllOctets
 pub mod Refusals
+pub mod RefusalNumbers
 pub mod Orders

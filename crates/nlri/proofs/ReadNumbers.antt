@@ -1,0 +1,81 @@
+-- The numbers by which reading an NLRI refuses: SHORT to FAMILY, so that none is DONE.
+use mathlib.Core.Path.{subst}
+use mathlib.Core.List.{List, [], _∷_}
+use Prim.Native.Nat.{ℕ, _≤_}
+use native.Mathlib.Omega.{arith}
+use lib.ListN.{drop}
+use Rattle.octets.specs.Numbers.{SHORT, KEY, FAMILY}
+use Rattle.octets.specs.Outcome.{Outcome, refused}
+use Rattle.octets.proofs.RefusalNumbers.{Refuses, value, number, pick-refuses, then-refuses, turned-refuses}
+use Rattle.nlri.specs.Family.{familyBits}
+use Rattle.nlri.specs.Bodies.{Kind, distinguisher, sourceAs, source, group, originator, key, Row, row, bodies, onBody}
+use Rattle.nlri.specs.Reading.{fixedField, addressEnd, addressField, originatorField, fieldSize, sizesOf, laidWith, noKey, keyField, laidAt, laidSingle, readNlri}
+use Rattle.nlri.specs.Layouts.{layoutAt}
+use Rattle.nlri.specs.Inner.{unkeyedBody}
+use Rattle.nlri.proofs.Rows.{rowLayout, laidFor}
+use Rattle.nlri.proofs.Fronts.{unkeyed-rows}
+
+abbrev pub ByReading : ℕ → Type 0
+ByReading n = (SHORT ≤ n) × (n ≤ FAMILY)
+
+body-refuses : {A : Type 0} (rows : List Row) (type n : ℕ) (next : List Kind → Outcome A) → ByReading n → ((body : List Kind) → Refuses ByReading (next body)) → Refuses ByReading (onBody rows type (refused n) next)
+unfolding onBody
+body-refuses [] type n next p v = number p
+body-refuses (row k body ∷ rows) type n next p v = pick-refuses _ _ _ (v body) (body-refuses rows type n next p v)
+
+fixed-refuses : (n : ℕ) (s : List ℕ) → Refuses ByReading (fixedField n s)
+unfolding fixedField
+fixed-refuses n s = pick-refuses _ _ _ (number (omega arith)) value
+
+address-refuses : (family type : ℕ) (s : List ℕ) → Refuses ByReading (addressField family type s)
+unfolding addressField addressEnd
+address-refuses family type s = pick-refuses _ _ _ (number (omega arith)) (pick-refuses _ _ _ (pick-refuses _ _ _ (number (omega arith)) value) (number (omega arith)))
+
+module _ (judge : List ℕ → Outcome ℕ) (judge-refuses : (s : List ℕ) → Refuses ByReading (judge s)) (family : ℕ) where
+  field-refuses : (type : ℕ) (k : Kind) (s : List ℕ) → Refuses ByReading (fieldSize judge family type k s)
+  unfolding fieldSize originatorField
+  field-refuses type distinguisher s = fixed-refuses 8 s
+  field-refuses type sourceAs s = fixed-refuses 4 s
+  field-refuses type source s = address-refuses family type s
+  field-refuses type group s = address-refuses family type s
+  field-refuses type originator s = pick-refuses _ _ _ value (number (omega arith))
+  field-refuses type key s = judge-refuses s
+
+  sizes-refuses : (type : ℕ) (body : List Kind) (s : List ℕ) → Refuses ByReading (sizesOf (fieldSize judge family type) body s)
+  unfolding sizesOf
+  sizes-refuses type [] s = pick-refuses _ _ _ value (number (omega arith))
+  sizes-refuses type (k ∷ body) s = then-refuses _ _ (field-refuses type k s) (λ n. then-refuses _ _ (sizes-refuses type body (drop n s)) (λ sizes. value))
+
+  laid-refuses : (s : List ℕ) → Refuses ByReading (laidWith judge family s)
+  unfolding laidWith
+  laid-refuses s =
+      pick-refuses _ _ _ (number (omega arith))
+      (pick-refuses _ _ _ (number (omega arith)) (body-refuses bodies _ _ _ (omega arith) (λ body. then-refuses _ _ (sizes-refuses _ body _) (λ sizes. value))))
+
+no-key-refuses : (s : List ℕ) → Refuses ByReading (noKey s)
+unfolding noKey
+no-key-refuses s = number {n = KEY} (omega arith)
+
+front-refuses : (family : ℕ) (s : List ℕ) → Refuses ByReading (laidAt family s)
+unfolding laidAt keyField
+front-refuses family s = laid-refuses (keyField family) (λ k. turned-refuses _ _ _ (omega arith) (λ laid. pick-refuses _ _ _ (number (omega arith)) value)) family s
+
+pub layout-refuses : (family : ℕ) (s : List ℕ) → Refuses ByReading (layoutAt family s)
+unfolding layoutAt
+layout-refuses family s = then-refuses _ _ (front-refuses family s) (λ laid. value)
+
+pub unkeyed-refuses : (family type : ℕ) (s : List ℕ) → Refuses ByReading (unkeyedBody family type s)
+unfolding rowLayout laidFor
+unkeyed-refuses family type s =
+    subst (Refuses ByReading) (unkeyed-rows family type s)
+    (body-refuses bodies _ _ _ (omega arith) (λ body. then-refuses _ _ (then-refuses _ _ (sizes-refuses noKey no-key-refuses family type body s) (λ sizes. value)) (λ laid. value)))
+
+pub family-refuses : (afi : ℕ) → Refuses ByReading (familyBits afi)
+unfolding familyBits
+family-refuses afi = pick-refuses _ _ _ value (pick-refuses _ _ _ value (number (omega arith)))
+
+pub nlri-refuses : (afi : ℕ) (s : List ℕ) → Refuses ByReading (readNlri afi s)
+unfolding readNlri laidSingle
+nlri-refuses afi s =
+    then-refuses _ _ (family-refuses afi)
+    (λ family. then-refuses _ _ (then-refuses _ _ (front-refuses family s) (λ laid. pick-refuses _ _ _ value (number (omega arith)))) (λ laid. value))
