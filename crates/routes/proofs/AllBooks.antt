@@ -1,73 +1,29 @@
 -- Laws of books fed calls: what one router's book and all books together hold of an NLRI, and that a table can hold all of them.
 use Prim.Native.Nat.{ℕ, _≤_}
 use mathlib.Core.Path.{_≡_, refl, sym, ap, _∙_}
-use mathlib.Core.Bool.{true, false}
 use mathlib.Core.List.{List, [], _∷_, _++_}
 use mathlib.Core.Logic.{⊎-elim}
 use native.Mathlib.Nat.{le-trans}
 use lib.ListN.{length}
-use Rattle.octets.specs.Choice.{pick}
-use Rattle.octets.specs.Outcome.{Outcome, given, refused, onOutcome}
 use Rattle.octets.specs.Order.{same}
 use Rattle.octets.proofs.Inversions.{opposite}
-use Rattle.octets.proofs.Outcomes.{pick-true, pick-false}
 use Rattle.octets.proofs.Picked.{tested}
 use Rattle.octets.proofs.Refusals.{is-true}
 use Rattle.octets.proofs.Orders.{same-equal, other-unequal}
-use Rattle.nlri.specs.Fields.{Fields}
 use Rattle.routes.specs.Route.{Route, nlriOf, Held, absent, held, lookup, arranged, Distinct, Increasing}
-use Rattle.routes.specs.Arguments.{readSPmsi, readRoute}
 use Rattle.routes.specs.Place.{AllAcceptable}
 use Rattle.routes.specs.Images.{Family, Holdable}
-use Rattle.routes.specs.Call.{Call, install, withdraw, match, Owner, nobody, owner, originatorOf, ownerOf, owns}
+use Rattle.routes.specs.Call.{Call, Owner, nobody, owner, originatorOf, ownerOf, owns}
 use Rattle.routes.specs.Book.{bookAfter, fed, ownCalls, bookOf, has, distinct, withOwner, routersOf, gathered, allBooks}
-use Rattle.routes.specs.Run.{namedBy, Fits}
-use Rattle.routes.specs.Occurrences.{Among, first, later}
+use Rattle.routes.specs.Run.{namedIn, namedBy, Fits}
+use Rattle.routes.specs.Lists.{Among, first, later, chosen}
 use Rattle.routes.proofs.Lookups.{lookup-none, lookup-first, lookup-later, lookup-arranged, held-or-absent, held-absent, held-holds, increasing-arranged, increasing-distinct, acceptable-arranged, acceptable-member}
-use Rattle.routes.proofs.Distincts.{has-among, among-has, among-distinct, among-cases, routes-fewer}
-use Rattle.routes.proofs.Ownership.{owner-nobody, route-accepted, acceptable-after-none, owned-itself, owned-nobody, owned-by}
-use Rattle.routes.proofs.Books.{heldAfter, heldAfterAll, lookup-after, distinct-after, acceptable-after, held-apart}
+use Rattle.routes.proofs.Distincts.{among-left, among-right, has-among, among-has, among-distinct, among-cases, routes-fewer}
+use Rattle.routes.proofs.Chosen.{chosen-first, chosen-later}
+use Rattle.routes.proofs.Ownership.{owner-nobody, owners-same, acceptable-after-none, owned-itself, owned-by}
+use Rattle.routes.proofs.Books.{heldAfter, heldAfterAll, lookup-after, distinct-after, acceptable-after, held-apart, installed-held}
 
--- a router's own calls
-
-pub own-first : (afi : ℕ) (router : List ℕ) (c : Call) (cs : List Call) → owns afi router c ≡ true → ownCalls afi router (c ∷ cs) ≡ c ∷ ownCalls afi router cs
-unfolding ownCalls
-own-first afi router c cs t = pick-true _ _ _ t
-
-pub own-later : (afi : ℕ) (router : List ℕ) (c : Call) (cs : List Call) → owns afi router c ≡ false → ownCalls afi router (c ∷ cs) ≡ ownCalls afi router cs
-unfolding ownCalls
-own-later afi router c cs f = pick-false _ _ _ f
-
-pub own-append : (afi : ℕ) (router : List ℕ) (xs ys : List Call) → ownCalls afi router (xs ++ ys) ≡ ownCalls afi router xs ++ ownCalls afi router ys
-unfolding ownCalls
-own-append afi router [] ys = refl
-own-append afi router (c ∷ xs) ys =
-    tested (owns afi router c)
-    (λ t. own-first afi router c (xs ++ ys) t ∙ ap (λ (l : List Call). c ∷ l) (own-append afi router xs ys) ∙ sym (ap (λ (l : List Call). l ++ ownCalls afi router ys) (own-first afi router c xs t)))
-    (λ f. own-later afi router c (xs ++ ys) f ∙ own-append afi router xs ys ∙ sym (ap (λ (l : List Call). l ++ ownCalls afi router ys) (own-later afi router c xs f)))
-
-pub own-drawn : {c : Call} (afi : ℕ) (router : List ℕ) (calls : List Call) → Among c (ownCalls afi router calls) → Among c calls
-unfolding ownCalls
-own-drawn afi router [] m = m
-own-drawn afi router (x ∷ xs) m =
-    tested (owns afi router x)
-    (λ t. ⊎-elim (λ e. first e) (λ a. later (own-drawn afi router xs a)) (among-cases (rw (own-first afi router x xs t) at m)))
-    (λ f. later (own-drawn afi router xs (rw (own-later afi router x xs f) at m)))
-
-pub own-owner : (afi : ℕ) (router : List ℕ) (c : Call) → owns afi router c ≡ true → ownerOf afi c ≡ owner router
-unfolding owns
-own-owner afi router c h = owned-by router (ownerOf afi c) h
-
-pub owner-own : (afi : ℕ) (router : List ℕ) (c : Call) → ownerOf afi c ≡ owner router → owns afi router c ≡ true
-unfolding owns
-owner-own afi router c h = owned-itself router (ownerOf afi c) h
-
-pub nobody-owns : (afi : ℕ) (router : List ℕ) (c : Call) → ownerOf afi c ≡ nobody → owns afi router c ≡ false
-unfolding owns
-nobody-owns afi router c h = owned-nobody router (ownerOf afi c) h
-
-pub owners-same : {x y : List ℕ} {o : Owner} → o ≡ owner x → o ≡ owner y → x ≡ y
-owners-same p q = cc
+-- whose calls
 
 -- a router among some stays among them and a call's owner
 pub beside-owner : {router : List ℕ} {routers : List (List ℕ)} (o : Owner) → Among router routers → Among router (withOwner o routers)
@@ -75,13 +31,13 @@ unfolding withOwner
 beside-owner nobody m = m
 beside-owner (owner other) m = later m
 
-own-none : (afi : ℕ) (router : List ℕ) (calls : List Call) → (Among router (routersOf afi calls) → ⊥) → ownCalls afi router calls ≡ []
-unfolding routersOf ownCalls withOwner
+pub own-none : (afi : ℕ) (router : List ℕ) (calls : List Call) → (Among router (routersOf afi calls) → ⊥) → ownCalls afi router calls ≡ []
+unfolding routersOf chosen withOwner
 own-none afi router [] h = refl
 own-none afi router (c ∷ cs) h =
     tested (owns afi router c)
-    (λ t. absurd (h (rw (own-owner afi router c t) (first refl))))
-    (λ f. own-later afi router c cs f ∙ own-none afi router cs (λ m. h (beside-owner (ownerOf afi c) m)))
+    (λ t. absurd (h (rw (owned-by router (ownerOf afi c) t) (first refl))))
+    (λ f. chosen-later _ c cs f ∙ own-none afi router cs (λ m. h (beside-owner (ownerOf afi c) m)))
 
 -- fed books
 
@@ -101,18 +57,18 @@ book-acceptable afi router calls = fed-kept (AllAcceptable afi) afi (λ c book a
 -- of its own NLRIs a router's book holds what its calls, and so all calls, leave
 fed-own : (afi : ℕ) (router nlri : List ℕ) → originatorOf afi nlri ≡ owner router → (calls : List Call) {book : List Route} → Distinct book
     → lookup nlri (fed afi book (ownCalls afi router calls)) ≡ heldAfterAll afi calls nlri (lookup nlri book)
-unfolding fed heldAfterAll ownCalls
+unfolding fed heldAfterAll chosen
 fed-own afi router nlri own [] d = refl
 fed-own afi router nlri own (c ∷ cs) {book} d =
     tested (owns afi router c)
     (λ t.
-    ap (λ (l : List Call). lookup nlri (fed afi book l)) (own-first afi router c cs t)
+    ap (λ (l : List Call). lookup nlri (fed afi book l)) (chosen-first _ c cs t)
     ∙ fed-own afi router nlri own cs (distinct-after afi c d)
     ∙ ap (heldAfterAll afi cs nlri) (lookup-after afi nlri c d))
     (λ f.
-    ap (λ (l : List Call). lookup nlri (fed afi book l)) (own-later afi router c cs f)
+    ap (λ (l : List Call). lookup nlri (fed afi book l)) (chosen-later _ c cs f)
     ∙ fed-own afi router nlri own cs d
-    ∙ ap (heldAfterAll afi cs nlri) (sym (held-apart afi nlri c (lookup nlri book) (λ other p q. opposite (owner-own afi router c (rw (owners-same own p) q)) f))))
+    ∙ ap (heldAfterAll afi cs nlri) (sym (held-apart afi nlri c (lookup nlri book) (λ other p q. opposite (owned-itself router (ownerOf afi c) (rw (owners-same own p) q)) f))))
 
 lookup-book : (afi : ℕ) (router nlri : List ℕ) (calls : List Call) → originatorOf afi nlri ≡ owner router → lookup nlri (bookOf afi router calls) ≡ heldAfterAll afi calls nlri absent
 unfolding bookOf
@@ -121,18 +77,18 @@ lookup-book afi router nlri calls own = fed-own afi router nlri own calls Distin
 -- and nothing of the others
 fed-foreign : (afi : ℕ) (router nlri : List ℕ) → (originatorOf afi nlri ≡ owner router → ⊥) → (calls : List Call) {book : List Route} → Distinct book
     → lookup nlri (fed afi book (ownCalls afi router calls)) ≡ lookup nlri book
-unfolding fed ownCalls
+unfolding fed chosen
 fed-foreign afi router nlri foreign [] d = refl
 fed-foreign afi router nlri foreign (c ∷ cs) {book} d =
     tested (owns afi router c)
     (λ t.
-    ap (λ (l : List Call). lookup nlri (fed afi book l)) (own-first afi router c cs t)
+    ap (λ (l : List Call). lookup nlri (fed afi book l)) (chosen-first _ c cs t)
     ∙ fed-foreign afi router nlri foreign cs (distinct-after afi c d)
     ∙ lookup-after afi nlri c d
-    ∙ held-apart afi nlri c (lookup nlri book) (λ other p q. foreign (rw (owners-same (own-owner afi router c t) q) p)))
-    (λ f. ap (λ (l : List Call). lookup nlri (fed afi book l)) (own-later afi router c cs f) ∙ fed-foreign afi router nlri foreign cs d)
+    ∙ held-apart afi nlri c (lookup nlri book) (λ other p q. foreign (rw (owners-same (owned-by router (ownerOf afi c) t) q) p)))
+    (λ f. ap (λ (l : List Call). lookup nlri (fed afi book l)) (chosen-later _ c cs f) ∙ fed-foreign afi router nlri foreign cs d)
 
-lookup-foreign : (afi : ℕ) (router nlri : List ℕ) (calls : List Call) → (originatorOf afi nlri ≡ owner router → ⊥) → lookup nlri (bookOf afi router calls) ≡ absent
+pub lookup-foreign : (afi : ℕ) (router nlri : List ℕ) (calls : List Call) → (originatorOf afi nlri ≡ owner router → ⊥) → lookup nlri (bookOf afi router calls) ≡ absent
 unfolding bookOf
 lookup-foreign afi router nlri calls foreign = fed-foreign afi router nlri foreign calls Distinct.none ∙ lookup-none nlri
 
@@ -219,40 +175,14 @@ lookup-all-next afi nlri earlier c =
 
 -- what is held was named by an install
 
-pub named-later : {nlri : List ℕ} (afi : ℕ) (c : Call) (cs : List Call) → Among nlri (namedBy afi cs) → Among nlri (namedBy afi (c ∷ cs))
-unfolding namedBy onOutcome
-named-later {nlri} afi (install named attribute) cs m = go (readSPmsi afi named)
-  where
-    go : (o : Outcome Fields) → Among nlri (onOutcome (λ number. namedBy afi cs) (λ f. named ∷ namedBy afi cs) o)
-    go (given f) = later m
-    go (refused n) = m
-named-later afi (withdraw named) cs m = m
-named-later afi (match router source group output) cs m = m
-
-named-first : (afi : ℕ) (nlri : List ℕ) (c : Call) (cs : List Call) (a : List ℕ) → heldAfter afi c nlri absent ≡ held a → Among nlri (namedBy afi (c ∷ cs))
-unfolding namedBy onOutcome heldAfter
-named-first afi nlri (install named attribute) cs a h = go (readRoute afi named attribute) refl h
-  where
-    go : (o : Outcome Route) → readRoute afi named attribute ≡ o → onOutcome (λ number. absent) (λ r. pick (same nlri named) (held attribute) absent) o ≡ held a → Among nlri (namedBy afi (install named attribute ∷ cs))
-    go (given r) e h =
-        let x = route-accepted afi named attribute r e in
-        tested (same nlri named) (λ t. rw (x .read) (first (same-equal nlri named t))) (λ f. absurd (held-absent h (pick-false _ _ _ f)))
-    go (refused n) e h = absurd (held-absent h refl)
-named-first afi nlri (withdraw named) cs a h = absurd (go (readSPmsi afi named) h)
-  where
-    go : (o : Outcome Fields) → onOutcome (λ number. absent) (λ f. pick (same nlri named) absent absent) o ≡ held a → ⊥
-    go (given f) e = held-absent e (tested (same nlri named) (λ t. pick-true _ _ _ t) (λ g. pick-false _ _ _ g))
-    go (refused n) e = held-absent e refl
-named-first afi nlri (match router source group output) cs a h = absurd (held-absent h refl)
-
 held-named : (afi : ℕ) (nlri : List ℕ) (calls : List Call) (a : List ℕ) → heldAfterAll afi calls nlri absent ≡ held a → Among nlri (namedBy afi calls)
-unfolding heldAfterAll
+unfolding heldAfterAll namedBy
 held-named afi nlri [] a h = absurd (held-absent h refl)
 held-named afi nlri (c ∷ cs) a h = go (heldAfter afi c nlri absent) refl h (held-named afi nlri cs a)
   where
     go : (x : Held) → heldAfter afi c nlri absent ≡ x → heldAfterAll afi cs nlri x ≡ held a → (heldAfterAll afi cs nlri absent ≡ held a → Among nlri (namedBy afi cs)) → Among nlri (namedBy afi (c ∷ cs))
-    go absent e k again = named-later afi c cs (again k)
-    go (held b) e k again = named-first afi nlri c cs b e
+    go absent e k again = among-right (namedIn afi c) (again k)
+    go (held b) e k again = among-left (namedBy afi cs) (installed-held afi nlri c b e)
 
 -- a table can hold all books
 

@@ -11,6 +11,7 @@ use Rattle.nlri.proofs.ReadNumbers.{ByReading, family-refuses, nlri-refuses}
 use Rattle.tunnel.specs.Attribute.{readAttribute}
 use Rattle.tunnel.specs.Identifier.{TableRow, table, formIn, formOf, judged}
 use Rattle.routes.specs.Arguments.{readSPmsi, readLabelled, readRoute, readFlow, readMatch}
+use Rattle.routes.specs.Call.{Call, install, withdraw, match, argued}
 
 -- a number that the table does not decide
 abbrev pub ByArguments : ℕ → Type 0
@@ -58,5 +59,11 @@ s-pmsi-number afi nlri n e = refuses-by _ n (s-pmsi-argued afi nlri) e
 pub route-number : (afi : ℕ) (nlri attribute : List ℕ) (n : ℕ) → readRoute afi nlri attribute ≡ refused n → ByArguments n
 route-number afi nlri attribute n e = refuses-by _ n (route-argued afi nlri attribute) e
 
-pub match-number : (afi : ℕ) (router source group output : List ℕ) (n : ℕ) → readMatch afi router source group output ≡ refused n → ByArguments n
-match-number afi router source group output n e = refuses-by _ n (match-argued afi router source group output) e
+argued-refuses : (afi : ℕ) (c : Call) → Refuses ByArguments (argued afi c)
+unfolding argued
+argued-refuses afi (install nlri attribute) = then-refuses _ _ (route-argued afi nlri attribute) (λ r. value)
+argued-refuses afi (withdraw nlri) = then-refuses _ _ (s-pmsi-argued afi nlri) (λ f. value)
+argued-refuses afi (match router source group output) = then-refuses _ _ (match-argued afi router source group output) (λ q. value)
+
+pub argued-number : (afi : ℕ) (c : Call) (n : ℕ) → argued afi c ≡ refused n → ByArguments n
+argued-number afi c n e = refuses-by _ n (argued-refuses afi c) e

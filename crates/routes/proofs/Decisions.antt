@@ -22,6 +22,14 @@ not-among : (earlier : List Call) (c : Call) (later : List Call) → [] ≡ earl
 not-among [] c later e = let z : _≡_ {A = ℕ} 0 1 = cc in omega arith
 not-among (b ∷ earlier) c later e = let z : _≡_ {A = ℕ} 0 1 = cc in omega arith
 
+-- a step logs its call
+pub last-step : (nlri : List ℕ) (h : Held) (t : List ℕ) (c : Call) (cs : List Call)
+    → lastFrom nlri h (runFrom t (c ∷ cs)) ≡ lastFrom nlri (pick (decides nlri c (stepOf t c .answer)) (leftBy c) h) (runFrom (stepOf t c .octets) cs)
+unfolding lastFrom runFrom stepOf
+last-step nlri h t (install other attribute) cs = refl
+last-step nlri h t (withdraw other) cs = refl
+last-step nlri h t (match router source group output) cs = refl
+
 -- what decides and leaves an attribute is an accepted install of the NLRI with it
 record Sets (nlri attribute : List ℕ) (c : Call) (answer : Answer) : Type 0 where
   is : c ≡ install nlri attribute
@@ -79,7 +87,7 @@ module _ (nlri attribute : List ℕ) where
         last = subst (λ (x : Call). Undecided nlri (stepOf t x .octets) cs) (s .is) u;
       }
 
-  came-from : (calls : List Call) (t : List ℕ) (h : Held) → lastFrom nlri h calls (runFrom t calls) ≡ held attribute → From t h calls
+  came-from : (calls : List Call) (t : List ℕ) (h : Held) → lastFrom nlri h (runFrom t calls) ≡ held attribute → From t h calls
   unfolding lastFrom runFrom
   came-from [] t h e = inr (e, none-undecided t)
   came-from (c ∷ cs) t h e =
@@ -88,27 +96,29 @@ module _ (nlri attribute : List ℕ) where
       tested (decides nlri c (stepOf t c .answer))
       (λ yes. inl (first-install t c cs (sets nlri attribute c _ yes (sym (pick-true _ (leftBy c) h yes) ∙ first .0)) (first .1)))
       (λ other. inr (sym (pick-false _ (leftBy c) h other) ∙ first .0, undecided-more t c cs other (first .1))))
-      (came-from cs (stepOf t c .octets) (pick (decides nlri c (stepOf t c .answer)) (leftBy c) h) e)
+      (came-from cs (stepOf t c .octets) (pick (decides nlri c (stepOf t c .answer)) (leftBy c) h) (sym (last-step nlri h t c cs) ∙ e))
 
-  stays : (calls : List Call) (t : List ℕ) (h : Held) → h ≡ held attribute → Undecided nlri t calls → lastFrom nlri h calls (runFrom t calls) ≡ held attribute
+  stays : (calls : List Call) (t : List ℕ) (h : Held) → h ≡ held attribute → Undecided nlri t calls → lastFrom nlri h (runFrom t calls) ≡ held attribute
   unfolding lastFrom runFrom
   stays [] t h e u = e
   stays (c ∷ cs) t h e u =
-      stays cs (stepOf t c .octets) (pick (decides nlri c (stepOf t c .answer)) (leftBy c) h)
+      last-step nlri h t c cs
+      ∙ stays cs (stepOf t c .octets) (pick (decides nlri c (stepOf t c .answer)) (leftBy c) h)
       (pick-false _ (leftBy c) h (undecided-first t c cs u) ∙ e) (undecided-rest t c cs u)
 
   set-last : (earlier : List Call) (t : List ℕ) (h : Held) (later : List Call) → accepted (stepOf (endOf t earlier) (install nlri attribute) .answer) ≡ true
       → Undecided nlri (endOf t (earlier ++ (install nlri attribute ∷ []))) later
-      → lastFrom nlri h (earlier ++ (install nlri attribute ∷ later)) (runFrom t (earlier ++ (install nlri attribute ∷ later))) ≡ held attribute
+      → lastFrom nlri h (runFrom t (earlier ++ (install nlri attribute ∷ later))) ≡ held attribute
   unfolding lastFrom runFrom endOf leftBy
   set-last [] t h later a u =
-      stays later (stepOf t (install nlri attribute) .octets) _
+      last-step nlri h t (install nlri attribute) later
+      ∙ stays later (stepOf t (install nlri attribute) .octets) _
       (pick-true _ (held attribute) h (install-decides nlri attribute (stepOf t (install nlri attribute) .answer) a)) u
-  set-last (c ∷ earlier) t h later a u = set-last earlier (stepOf t c .octets) _ later a u
+  set-last (c ∷ earlier) t h later a u = last-step nlri h t c (earlier ++ (install nlri attribute ∷ later)) ∙ set-last earlier (stepOf t c .octets) _ later a u
 
   -- among calls where nothing was held at first
-  pub last-exactly : (t : List ℕ) (calls : List Call) → (lastFrom nlri absent calls (runFrom t calls) ≡ held attribute) ↔ LastInstall nlri attribute t calls
+  pub last-exactly : (t : List ℕ) (calls : List Call) → (lastFrom nlri absent (runFrom t calls) ≡ held attribute) ↔ LastInstall nlri attribute t calls
   last-exactly t calls = (
     λ e. ⊎-elim (λ l. l) (λ first. absurd (held-absent (first .0) refl)) (came-from calls t absent e),
-    λ l. subst (λ (x : List Call). lastFrom nlri absent x (runFrom t x) ≡ held attribute) (sym (l .among)) (set-last (l .earlier) t absent (l .later) (l .done) (l .last)),
+    λ l. subst (λ (x : List Call). lastFrom nlri absent (runFrom t x) ≡ held attribute) (sym (l .among)) (set-last (l .earlier) t absent (l .later) (l .done) (l .last)),
   )

@@ -4,7 +4,7 @@ use Prim.Native.Nat.{ℕ, suc, _≤_}
 use mathlib.Core.Path.{_≡_, refl, sym, ap, subst, _∙_}
 use mathlib.Core.Bool.{true, false}
 use mathlib.Core.List.{List, [], _∷_, _++_}
-use mathlib.Core.Logic.{_↔_, _⊎_, inl, inr, ⊎-elim}
+use mathlib.Core.Logic.{_⊎_, inl, inr, ⊎-elim}
 use native.Mathlib.Omega.{arith}
 use lib.ListN.{length}
 use Rattle.octets.specs.Order.{same}
@@ -16,22 +16,30 @@ use Rattle.octets.proofs.Refusals.{either-second}
 use Rattle.octets.proofs.Orders.{same-equal, equal-same}
 use Rattle.routes.specs.Route.{Route, nlriOf, attributeOf, holds, Distinct}
 use Rattle.routes.specs.Book.{has, distinct}
-use Rattle.routes.specs.Occurrences.{Among, first, later, PutIn, front, behind, Rearranged}
+use Rattle.routes.specs.Lists.{Among, first, later, PutIn, front, behind, Rearranged, Once, none, one}
 use Rattle.routes.proofs.Lookups.{holds-held, holds-alike, lookup-first, lookup-later}
 
 pub among-left : {A : Type 0} {x : A} {xs : List A} (ys : List A) → Among x xs → Among x (xs ++ ys)
 among-left ys (first e) = first e
 among-left ys (later m) = later (among-left ys m)
 
+pub among-right : {A : Type 0} {x : A} (xs : List A) {ys : List A} → Among x ys → Among x (xs ++ ys)
+among-right [] m = m
+among-right (y ∷ xs) m = later (among-right xs m)
+
+pub among-cases : {A : Type 0} {x y : A} {ys : List A} → Among x (y ∷ ys) → (x ≡ y) ⊎ Among x ys
+among-cases (first e) = inl e
+among-cases (later m) = inr m
+
+pub among-either : {A : Type 0} {x : A} (xs : List A) {ys : List A} → Among x (xs ++ ys) → Among x xs ⊎ Among x ys
+among-either [] m = inr m
+among-either (y ∷ xs) m = ⊎-elim (λ e. inl (first e)) (λ a. ⊎-elim (λ b. inl (later b)) (λ b. inr b) (among-either xs a)) (among-cases m)
+
 pub nowhere : {A : Type 0} {x : A} → Among x [] → ⊥
 nowhere m = elim m [ ]
 
 among-as : {A : Type 0} {x y : A} {xs : List A} → x ≡ y → Among x xs → Among y xs
 among-as {xs = xs} e m = subst (λ z. Among z xs) e m
-
-pub among-cases : {A : Type 0} {x y : A} {ys : List A} → Among x (y ∷ ys) → (x ≡ y) ⊎ Among x ys
-among-cases (first e) = inl e
-among-cases (later m) = inr m
 
 -- an element that is put in
 
@@ -58,6 +66,10 @@ put-length : {A : Type 0} {x : A} {zs ys : List A} → PutIn x zs ys → length 
 put-length front = refl
 put-length (behind p) = ap suc (put-length p)
 
+pub rearranged-itself : {A : Type 0} (xs : List A) → Rearranged xs xs
+rearranged-itself [] = Rearranged.none
+rearranged-itself (x ∷ xs) = Rearranged.one front (rearranged-itself xs)
+
 pub rearranged-among : {A : Type 0} {x : A} {xs ys : List A} → Rearranged xs ys → Among x xs → Among x ys
 rearranged-among (Rearranged.one p r) (first e) = rw e (put-itself p)
 rearranged-among (Rearranged.one p r) (later m) = put-kept p (rearranged-among r m)
@@ -66,38 +78,13 @@ pub among-rearranged : {A : Type 0} {x : A} {xs ys : List A} → Rearranged xs y
 among-rearranged Rearranged.none m = m
 among-rearranged (Rearranged.one p r) m = ⊎-elim (λ e. first e) (λ a. later (among-rearranged r a)) (put-other p m)
 
--- no element twice
-pub data Once {A : Type 0} : List A → Type 0 where
-  none : Once []
-  one : {x : A} {xs : List A} → (Among x xs → ⊥) → Once xs → Once (x ∷ xs)
-
 once-put : {A : Type 0} {x : A} {ys zs : List A} → PutIn x ys zs → (Among x ys → ⊥) → Once ys → Once zs
 once-put front n o = one n o
 once-put {x = x} (behind {y} p) n (Once.one k o) = one (λ m. ⊎-elim (λ e. n (first (sym e))) k (put-other p m)) (once-put p (λ m. n (later m)) o)
 
-put-once : {A : Type 0} {x : A} {ys zs : List A} → PutIn x ys zs → Once zs → (Among x ys → ⊥) × Once ys
-put-once front (Once.one n o) = (n, o)
-put-once (behind p) (Once.one n o) =
-    let q = put-once p o in
-    (λ m. ⊎-elim (λ e. n (rw (← e) (put-itself p))) (λ a. q .0 a) (among-cases m), one (λ m. n (put-kept p m)) (q .1))
-
 pub once-rearranged : {A : Type 0} {xs ys : List A} → Rearranged xs ys → Once xs → Once ys
 once-rearranged Rearranged.none o = o
 once-rearranged (Rearranged.one p r) (Once.one n o) = once-put p (λ m. n (among-rearranged r m)) (once-rearranged r o)
-
--- lists without repetition that have the same elements are rearranged
-pub rearranged-once : {A : Type 0} {xs : List A} (ys : List A) → Once xs → Once ys → ((x : A) → Among x xs ↔ Among x ys) → Rearranged xs ys
-rearranged-once [] Once.none o h = Rearranged.none
-rearranged-once (y ∷ ys) Once.none o h = absurd (nowhere (h y .1 (first refl)))
-rearranged-once ys (Once.one {x} {xs} n u) o h =
-    let p = put-among (h x .0 (first refl)) in
-    let q = put-once (p .1) o in
-    Rearranged.one (p .1)
-    (rearranged-once (p .0) u (q .1)
-    (λ z. (
-      λ m. ⊎-elim (λ e. absurd (n (among-as e m))) (λ a. a) (put-other (p .1) (h z .0 (later m))),
-      λ m. ⊎-elim (λ e. absurd (q .0 (among-as e m))) (λ a. a) (among-cases (h z .1 (put-kept (p .1) m))),
-    )))
 
 pigeonhole : {A : Type 0} {xs : List A} (ys : List A) → Once xs → ((x : A) → Among x xs → Among x ys) → length xs ≤ length ys
 pigeonhole ys Once.none h = omega arith
@@ -131,7 +118,7 @@ among-behind : {A : Type 0} {x y : A} {xs ys : List A} → (Among x xs → Among
 among-behind h (first e) = first e
 among-behind h (later m) = later (h m)
 
-distinct-among : {x : List ℕ} (xs : List (List ℕ)) → Among x (distinct xs) → Among x xs
+pub distinct-among : {x : List ℕ} (xs : List (List ℕ)) → Among x (distinct xs) → Among x xs
 unfolding distinct
 distinct-among [] m = m
 distinct-among {x} (y ∷ ys) m =

@@ -10,46 +10,79 @@ use lib.Dec.{ltb}
 use Rattle.octets.specs.Numbers.{DONE, ROOM, ABSENT}
 use Rattle.octets.specs.Choice.{pick}
 use Rattle.octets.specs.Outcome.{Outcome, given, refused, onOutcome, andThen, numberOf}
-use Rattle.octets.specs.Order.{before}
 use Rattle.octets.proofs.Outcomes.{pick-true}
 use Rattle.octets.proofs.Picked.{tested}
 use Rattle.nlri.specs.Fields.{Fields}
-use Rattle.routes.specs.Route.{Route, route, nlriOf, attributeOf, Held, lookup, holds, inserted, removed, arranged, Increasing}
+use Rattle.routes.specs.Route.{Route, nlriOf, lookup, holds, inserted, removed, arranged, Increasing}
 use Rattle.routes.specs.Arguments.{Query, readSPmsi, readRoute, readMatch}
-use Rattle.routes.specs.Table.{imageOf, afiIn, placesIn}
+use Rattle.routes.specs.Table.{imageOf}
+use Rattle.routes.specs.Place.{acceptable}
 use Rattle.routes.specs.Images.{Family, TableOf}
-use Rattle.routes.specs.Matching.{Found, matchIn}
-use Rattle.routes.specs.Calls.{NEW, REPLACED, installedOf, entering, installOutcome, installOf, leaving, withdrawOutcome, withdrawOf, matchedBy, matchOutcome, matchOf, refusedMatch}
-use Rattle.routes.specs.Call.{Call, install, withdraw, match, Answer, installed, withdrawn, matched, Owner, nobody, owner, originatorOf, ownerOf, refusalOf, refusalAnswer}
-use Rattle.routes.specs.Book.{bookOf, bookAnswer, allBooks, matchAnswer, dueBy, dueAnswer}
-use Rattle.routes.specs.Run.{stepOf, imageOfBooks, Fits}
+use Rattle.routes.specs.Matching.{matchIn}
+use Rattle.routes.specs.Calls.{NEW, REPLACED, installedOf, entering, installOutcome, installOf, leaving, withdrawOutcome, withdrawOf, matchedBy, matchOutcome, matchOf, foundAnswer, foundOutput}
+use Rattle.routes.specs.Call.{Call, install, withdraw, match, Answer, installed, withdrawn, matched, Owner, nobody, owner, originatorOf, ownerOf, Act, enter, leave, ask, argued, refusalOf, refusalAnswer}
+use Rattle.routes.specs.Book.{bookOf, actAnswer, bookAnswer, allBooks, dueBy, dueAnswer}
+use Rattle.routes.specs.Run.{Step, stepOf, imageOfBooks, dueStep, Fits}
 use Rattle.routes.proofs.Lookups.{lookup-inserted, lookup-arranged, holds-alike, increasing-equal, increasing-inserted, increasing-removed, increasing-distinct, length-inserted-new, absent-holds, removed-absent}
 use Rattle.routes.proofs.Bounds.{route-read}
 use Rattle.routes.proofs.Images.{images}
 use Rattle.routes.proofs.MatchSame.{match-same}
-use Rattle.routes.proofs.Ownership.{route-accepted, named-after-none, owner-read, owned-by, match-owner, query-router}
-use Rattle.routes.proofs.Books.{heldAfter, lookup-removed}
+use Rattle.routes.proofs.Ownership.{acceptable-after-none, owned-by}
+use Rattle.routes.proofs.Acts.{Known, enters, leaves, asks, argued-cases}
+use Rattle.routes.proofs.Books.{heldBy, heldAfter, lookup-removed}
 use Rattle.routes.proofs.AllBooks.{book-distinct, lookup-all, lookup-all-next, books-increasing, books-holdable}
 
 -- the routes of all books, as the table holds them
 abbrev pub tableRoutes : ℕ → List Call → List Route
 tableRoutes afi calls = arranged (allBooks afi calls)
 
--- the calls' definitions on octets, over a table's routes
+-- calls on octets, over a table's routes
 
-install-on : (afi places : ℕ) (rs : List Route) (t nlri attribute : List ℕ) → TableOf afi places rs t
-    → installOutcome t nlri attribute ≡ andThen (readRoute afi nlri attribute) (λ r. entering places rs r)
-unfolding installOutcome
-install-on afi places rs t nlri attribute of = rw (of .family, of .size, of .routes) (pick-true _ _ _ (of .sound))
+-- what an act does on a table with these routes
+actStep : (afi places : ℕ) (rs : List Route) (t : List ℕ) → Call → Act → Step
+actStep afi places rs t c (enter r) =
+    record { call = c; answer = installed (installedOf (entering places rs r)); octets = onOutcome (λ number. t) (λ o. imageOf afi places (inserted r rs)) (entering places rs r) }
+actStep afi places rs t c (leave nlri) =
+    record { call = c; answer = withdrawn (numberOf (leaving rs nlri)); octets = onOutcome (λ number. t) (λ n. imageOf afi places (removed n rs)) (leaving rs nlri) }
+actStep afi places rs t c (ask q output) = record { call = c; answer = matched (foundAnswer (matchIn afi q rs)) (foundOutput (matchIn afi q rs) output); octets = t }
 
-withdraw-on : (afi places : ℕ) (rs : List Route) (t nlri : List ℕ) → TableOf afi places rs t → withdrawOutcome t nlri ≡ andThen (readSPmsi afi nlri) (λ f. leaving rs nlri)
-unfolding withdrawOutcome
-withdraw-on afi places rs t nlri of = rw (of .family, of .routes) (pick-true _ _ _ (of .sound))
+module _ (afi places : ℕ) (rs : List Route) (t : List ℕ) (of : TableOf afi places rs t) where
+  install-on : (nlri attribute : List ℕ) → installOutcome t nlri attribute ≡ andThen (readRoute afi nlri attribute) (λ r. entering places rs r)
+  unfolding installOutcome
+  install-on nlri attribute = rw (of .family, of .size, of .routes) (pick-true _ _ _ (of .sound))
 
-match-on : (afi places : ℕ) (rs : List Route) (t router source group output : List ℕ) → TableOf afi places rs t
-    → matchOutcome t router source group output ≡ andThen (readMatch afi router source group output) (λ q. given (matchIn afi q rs))
-unfolding matchOutcome
-match-on afi places rs t router source group output of = rw (of .family, of .routes) (pick-true _ _ _ (of .sound))
+  withdraw-on : (nlri : List ℕ) → withdrawOutcome t nlri ≡ andThen (readSPmsi afi nlri) (λ f. leaving rs nlri)
+  unfolding withdrawOutcome
+  withdraw-on nlri = rw (of .family, of .routes) (pick-true _ _ _ (of .sound))
+
+  match-on : (router source group output : List ℕ) → matchOutcome t router source group output ≡ andThen (readMatch afi router source group output) (λ q. given (matchIn afi q rs))
+  unfolding matchOutcome
+  match-on router source group output = rw (of .family, of .routes) (pick-true _ _ _ (of .sound))
+
+  -- a call is refused by its arguments, and leaves the octets, or does its act
+  abbrev argued-step : Call → Outcome Act → Step
+  argued-step c o = onOutcome (λ number. record { call = c; answer = refusalAnswer c number; octets = t }) (actStep afi places rs t c) o
+
+  step-on : (c : Call) → stepOf t c ≡ argued-step c (argued afi c)
+  unfolding stepOf installOf withdrawOf matchOf matchedBy argued andThen onOutcome numberOf actStep refusalAnswer
+  step-on (install nlri attribute) = go (readRoute afi nlri attribute) refl
+    where
+      go : (o : Outcome Route) → readRoute afi nlri attribute ≡ o → stepOf t (install nlri attribute) ≡ argued-step (install nlri attribute) (andThen o (λ r. given (enter r)))
+      go (given r) e =
+          let x : installOutcome t nlri attribute ≡ entering places rs r = install-on nlri attribute ∙ rw e in
+          rw (x, of .family, of .size, of .routes, route-read afi nlri attribute r e)
+      go (refused n) e = let x : installOutcome t nlri attribute ≡ refused n = install-on nlri attribute ∙ rw e in rw x
+  step-on (withdraw nlri) = go (readSPmsi afi nlri) refl
+    where
+      go : (o : Outcome Fields) → readSPmsi afi nlri ≡ o → stepOf t (withdraw nlri) ≡ argued-step (withdraw nlri) (andThen o (λ f. given (leave nlri)))
+      go (given f) e = let x : withdrawOutcome t nlri ≡ leaving rs nlri = withdraw-on nlri ∙ rw e in rw (x, of .family, of .size, of .routes)
+      go (refused n) e = let x : withdrawOutcome t nlri ≡ refused n = withdraw-on nlri ∙ rw e in rw x
+  step-on (match router source group output) = go (readMatch afi router source group output) refl
+    where
+      go : (o : Outcome Query) → readMatch afi router source group output ≡ o
+          → stepOf t (match router source group output) ≡ argued-step (match router source group output) (andThen o (λ q. given (ask q output)))
+      go (given q) e = let x : matchOutcome t router source group output ≡ given (matchIn afi q rs) = match-on router source group output ∙ rw e in rw x
+      go (refused n) e = let x : matchOutcome t router source group output ≡ refused n = match-on router source group output ∙ rw e in rw x
 
 -- what is due, by whom the call belongs to
 
@@ -61,46 +94,17 @@ pub due-nobody : (afi : ℕ) (earlier : List Call) (c : Call) → ownerOf afi c 
 unfolding dueAnswer dueBy
 due-nobody afi earlier c e = rw e
 
--- what is due where arguments and family refuse, whoever owns the call
-
-due-refused : (afi : ℕ) (earlier : List Call) (c : Call) (answer : Answer) → refusalAnswer c (refusalOf afi c) ≡ answer → ((book : List Route) → bookAnswer afi book c ≡ answer) → dueAnswer afi earlier c ≡ answer
-due-refused afi earlier c answer h k = go (ownerOf afi c) refl
-  where
-    go : (o : Owner) → ownerOf afi c ≡ o → dueAnswer afi earlier c ≡ answer
-    go nobody e = due-nobody afi earlier c e ∙ h
-    go (owner router) e = due-owned afi earlier c router e ∙ k (bookOf afi router earlier)
-
-install-due-refused : (afi : ℕ) (earlier : List Call) (nlri attribute : List ℕ) (n : ℕ) → readRoute afi nlri attribute ≡ refused n
-    → dueAnswer afi earlier (install nlri attribute) ≡ installed (installedOf (refused n))
-unfolding refusalAnswer refusalOf numberOf bookAnswer andThen
-install-due-refused afi earlier nlri attribute n e = due-refused afi earlier (install nlri attribute) (installed (installedOf (refused n))) (rw e) (λ book. rw e)
-
-withdraw-due-refused : (afi : ℕ) (earlier : List Call) (nlri : List ℕ) (n : ℕ) → readSPmsi afi nlri ≡ refused n → dueAnswer afi earlier (withdraw nlri) ≡ withdrawn n
-unfolding refusalAnswer refusalOf numberOf bookAnswer onOutcome
-withdraw-due-refused afi earlier nlri n e = due-refused afi earlier (withdraw nlri) (withdrawn n) (rw e) (λ book. rw e)
-
-match-due-refused : (afi : ℕ) (earlier : List Call) (router source group output : List ℕ) (n : ℕ) → readMatch afi router source group output ≡ refused n
-    → dueAnswer afi earlier (match router source group output) ≡ matchAnswer (matchedBy (refused n) output)
-unfolding refusalAnswer refusalOf numberOf bookAnswer andThen matchAnswer matchedBy onOutcome
-match-due-refused afi earlier router source group output n e =
-    due-refused afi earlier (match router source group output) (matched (refusedMatch n) output) (rw e) (λ book. rw e)
-
 -- an acceptable route is refused only for room
 with-room : (b : Bool) (size places : ℕ) → (b ≡ false → size < places) → pick b (given REPLACED) (pick (ltb size places) (given NEW) (refused ROOM)) ≡ given (pick b REPLACED NEW)
 unfolding pick
 with-room true size places h = refl
 with-room false size places h = pick-true _ _ _ (lt-ltb size places (h refl))
 
--- a call on a table gets what is due to it after others, and leaves the image of all books
-pub record DueStep (afi places : ℕ) (earlier : List Call) (t : List ℕ) (c : Call) : Type 0 where
-  pub answer : stepOf t c .answer ≡ dueAnswer afi earlier c
-  pub octets : stepOf t c .octets ≡ imageOfBooks afi places (earlier ++ (c ∷ []))
-
-module _ (afi places : ℕ) (earlier : List Call) where
+module _ (afi places : ℕ) (earlier : List Call) (c : Call) where
   -- routes in increasing order that hold what is held after a call are those of all books after it
-  table-next : (c : Call) (us : List Route) → Increasing [] us → ((nlri : List ℕ) → lookup nlri us ≡ heldAfter afi c nlri (lookup nlri (tableRoutes afi earlier)))
+  table-next : (us : List Route) → Increasing [] us → ((nlri : List ℕ) → lookup nlri us ≡ heldAfter afi c nlri (lookup nlri (tableRoutes afi earlier)))
       → us ≡ tableRoutes afi (earlier ++ (c ∷ []))
-  table-next c us i h =
+  table-next us i h =
       increasing-equal i (books-increasing afi (earlier ++ (c ∷ [])))
       (λ nlri.
       h nlri
@@ -108,186 +112,102 @@ module _ (afi places : ℕ) (earlier : List Call) where
       ∙ sym (lookup-all-next afi nlri earlier c)
       ∙ sym (lookup-arranged nlri (allBooks afi (earlier ++ (c ∷ [])))))
 
-  -- a call that leaves what is held
-  table-kept : (c : Call) → ((nlri : List ℕ) (h : Held) → heldAfter afi c nlri h ≡ h) → tableRoutes afi earlier ≡ tableRoutes afi (earlier ++ (c ∷ []))
-  table-kept c h = table-next c (tableRoutes afi earlier) (books-increasing afi earlier) (λ nlri. sym (h nlri (lookup nlri (tableRoutes afi earlier))))
+  as-due : (answer : Answer) (rs : List Route) (octets : List ℕ) → dueAnswer afi earlier c ≡ answer → rs ≡ tableRoutes afi (earlier ++ (c ∷ [])) → octets ≡ imageOf afi places rs
+      → record { call = c; answer = answer; octets = octets } ≡ dueStep afi places earlier c
+  unfolding dueStep imageOfBooks
+  as-due answer rs octets p q e = let z : octets ≡ imageOf afi places (tableRoutes afi (earlier ++ (c ∷ []))) = e ∙ ap (imageOf afi places) q in λ i. record { call = c; answer = sym p i; octets = z i }
 
-  table-inserted : (nlri attribute : List ℕ) (r : Route) → readRoute afi nlri attribute ≡ given r → inserted (route nlri attribute) (tableRoutes afi earlier) ≡ tableRoutes afi (earlier ++ (install nlri attribute ∷ []))
-  unfolding heldAfter onOutcome lookup nlriOf attributeOf
-  table-inserted nlri attribute r e =
-      let a = route-accepted afi nlri attribute r e in
-      table-next (install nlri attribute) (inserted (route nlri attribute) (tableRoutes afi earlier))
-      (increasing-inserted (route nlri attribute) (named-after-none afi nlri (a .fields) (a .read)) (books-increasing afi earlier))
-      (λ n. rw e (lookup-inserted n (route nlri attribute) (tableRoutes afi earlier)))
+  -- arguments and family refuse, whoever owns the call
 
-  table-removed : (nlri : List ℕ) (f : Fields) → readSPmsi afi nlri ≡ given f → removed nlri (tableRoutes afi earlier) ≡ tableRoutes afi (earlier ++ (withdraw nlri ∷ []))
+  kept-refused : (n : ℕ) → argued afi c ≡ refused n → tableRoutes afi earlier ≡ tableRoutes afi (earlier ++ (c ∷ []))
   unfolding heldAfter onOutcome
-  table-removed nlri f e =
-      table-next (withdraw nlri) (removed nlri (tableRoutes afi earlier)) (increasing-removed nlri (books-increasing afi earlier))
-      (λ n. rw e (lookup-removed n nlri (increasing-distinct (books-increasing afi earlier))))
+  kept-refused n e = table-next (tableRoutes afi earlier) (books-increasing afi earlier) (λ nlri. rw e)
 
-  -- the table holds of an NLRI what its originator's book holds
-  table-book : (nlri : List ℕ) (f : Fields) → readSPmsi afi nlri ≡ given f → holds nlri (tableRoutes afi earlier) ≡ holds nlri (bookOf afi (f .originator) earlier)
-  table-book nlri f e =
-      holds-alike nlri (tableRoutes afi earlier) (bookOf afi (f .originator) earlier)
-      (lookup-arranged nlri (allBooks afi earlier) ∙ lookup-all afi (f .originator) nlri earlier (owner-read afi nlri f e))
+  due-refused : (n : ℕ) → argued afi c ≡ refused n → dueAnswer afi earlier c ≡ refusalAnswer c n
+  unfolding refusalOf numberOf bookAnswer onOutcome
+  due-refused n e = go (ownerOf afi c) refl
+    where
+      go : (o : Owner) → ownerOf afi c ≡ o → dueAnswer afi earlier c ≡ refusalAnswer c n
+      go nobody w = due-nobody afi earlier c w ∙ rw e
+      go (owner router) w = due-owned afi earlier c router w ∙ rw e
 
-  -- what is held stays where arguments and family refuse
-  install-kept : (nlri attribute : List ℕ) (n : ℕ) → readRoute afi nlri attribute ≡ refused n → tableRoutes afi earlier ≡ tableRoutes afi (earlier ++ (install nlri attribute ∷ []))
+  -- routes in increasing order that hold what an act leaves
+  next-act : (act : Act) → argued afi c ≡ given act → (us : List Route) → Increasing [] us → ((nlri : List ℕ) → lookup nlri us ≡ heldBy act nlri (lookup nlri (tableRoutes afi earlier)))
+      → us ≡ tableRoutes afi (earlier ++ (c ∷ []))
   unfolding heldAfter onOutcome
-  install-kept nlri attribute n e = table-kept (install nlri attribute) (λ m h. rw e)
+  next-act act e us i h = table-next us i (λ nlri. rw e (h nlri))
 
-  withdraw-kept : (nlri : List ℕ) (n : ℕ) → readSPmsi afi nlri ≡ refused n → tableRoutes afi earlier ≡ tableRoutes afi (earlier ++ (withdraw nlri ∷ []))
-  unfolding heldAfter onOutcome
-  withdraw-kept nlri n e = table-kept (withdraw nlri) (λ m h. rw e)
+  next-entered : (r : Route) → argued afi c ≡ given (enter r) → acceptable afi r ≡ true → inserted r (tableRoutes afi earlier) ≡ tableRoutes afi (earlier ++ (c ∷ []))
+  unfolding heldBy lookup
+  next-entered r e a =
+      next-act (enter r) e (inserted r (tableRoutes afi earlier)) (increasing-inserted r (acceptable-after-none afi r a) (books-increasing afi earlier))
+      (λ nlri. lookup-inserted nlri r (tableRoutes afi earlier))
 
-  match-kept : (router source group output : List ℕ) → tableRoutes afi earlier ≡ tableRoutes afi (earlier ++ (match router source group output ∷ []))
-  unfolding heldAfter
-  match-kept router source group output = table-kept (match router source group output) (λ m h. refl)
+  next-left : (nlri : List ℕ) → argued afi c ≡ given (leave nlri) → removed nlri (tableRoutes afi earlier) ≡ tableRoutes afi (earlier ++ (c ∷ []))
+  unfolding heldBy
+  next-left nlri e =
+      next-act (leave nlri) e (removed nlri (tableRoutes afi earlier)) (increasing-removed nlri (books-increasing afi earlier)) (λ n. lookup-removed n nlri (increasing-distinct (books-increasing afi earlier)))
 
-  -- what the book answers to an accepted install
-  install-due : (nlri attribute : List ℕ) (r : Route) → readRoute afi nlri attribute ≡ given r
-      → dueAnswer afi earlier (install nlri attribute) ≡ installed (installedOf (given (pick (holds nlri (tableRoutes afi earlier)) REPLACED NEW)))
-  unfolding bookAnswer andThen ownerOf
-  install-due nlri attribute r e =
-      let a = route-accepted afi nlri attribute r e in
-      due-owned afi earlier (install nlri attribute) (a .fields .originator) (owner-read afi nlri (a .fields) (a .read))
-      ∙ rw (e, table-book nlri (a .fields) (a .read))
+  next-asked : (q : Query) (output : List ℕ) → argued afi c ≡ given (ask q output) → tableRoutes afi earlier ≡ tableRoutes afi (earlier ++ (c ∷ []))
+  unfolding heldBy
+  next-asked q output e = next-act (ask q output) e (tableRoutes afi earlier) (books-increasing afi earlier) (λ nlri. refl)
 
-  withdraw-due : (nlri : List ℕ) (f : Fields) → readSPmsi afi nlri ≡ given f
-      → dueAnswer afi earlier (withdraw nlri) ≡ withdrawn (pick (holds nlri (tableRoutes afi earlier)) DONE ABSENT)
-  unfolding bookAnswer onOutcome ownerOf
-  withdraw-due nlri f e = due-owned afi earlier (withdraw nlri) (f .originator) (owner-read afi nlri f e) ∙ rw (e, table-book nlri f e)
+  -- the table has room for every route
+  room : (r : Route) → argued afi c ≡ given (enter r) → acceptable afi r ≡ true → Family afi → places ≤ 500 → Fits afi places (earlier ++ (c ∷ []))
+      → entering places (tableRoutes afi earlier) r ≡ given (pick (holds (nlriOf r) (tableRoutes afi earlier)) REPLACED NEW)
+  unfolding entering
+  room r e a family most fits =
+      with-room (holds (nlriOf r) (tableRoutes afi earlier)) (length (tableRoutes afi earlier)) places
+      (λ h.
+      let new : length (inserted r (tableRoutes afi earlier)) ≡ suc (length (tableRoutes afi earlier)) = length-inserted-new r (tableRoutes afi earlier) (absent-holds (nlriOf r) (tableRoutes afi earlier) h) in
+      let within = books-holdable afi places (earlier ++ (c ∷ [])) family most fits .within in
+      omega (arith, ap length (next-entered r e a)))
 
-  -- the table's routes and the asked router's book give one match
-  match-book : (router source group output : List ℕ) (q : Query) → readMatch afi router source group output ≡ given q → matchIn afi q (tableRoutes afi earlier) ≡ matchIn afi q (bookOf afi router earlier)
-  match-book router source group output q e =
-      match-same afi q (tableRoutes afi earlier) (bookOf afi router earlier) (increasing-distinct (books-increasing afi earlier)) (book-distinct afi router earlier)
-      (λ nlri h.
-      let own : originatorOf afi nlri ≡ owner router = owned-by (q .router) (originatorOf afi nlri) h ∙ ap owner (query-router afi router source group output q e .0) in
-      lookup-arranged nlri (allBooks afi earlier) ∙ lookup-all afi router nlri earlier own)
+  module _ (router : List ℕ) (own : ownerOf afi c ≡ owner router) where
+    due-act : (act : Act) → argued afi c ≡ given act → dueAnswer afi earlier c ≡ actAnswer afi (bookOf afi router earlier) act
+    unfolding bookAnswer onOutcome
+    due-act act e = due-owned afi earlier c router own ∙ rw e
 
-  match-due : (router source group output : List ℕ) (q : Query) → readMatch afi router source group output ≡ given q
-      → dueAnswer afi earlier (match router source group output) ≡ matchAnswer (matchedBy (given (matchIn afi q (tableRoutes afi earlier))) output)
-  unfolding bookAnswer andThen
-  match-due router source group output q e =
-      due-owned afi earlier (match router source group output) router (match-owner afi router source group output (query-router afi router source group output q e .1))
-      ∙ rw (e, match-book router source group output q e)
+    -- the table holds of a router's NLRI what its book holds
+    table-book : (nlri : List ℕ) → originatorOf afi nlri ≡ owner router → holds nlri (bookOf afi router earlier) ≡ holds nlri (tableRoutes afi earlier)
+    table-book nlri mine =
+        sym (holds-alike nlri (tableRoutes afi earlier) (bookOf afi router earlier) (lookup-arranged nlri (allBooks afi earlier) ∙ lookup-all afi router nlri earlier mine))
 
-  module _ (family : Family afi) (most : places ≤ 500) (t : List ℕ) (of : TableOf afi places (tableRoutes afi earlier) t) (is : t ≡ imageOf afi places (tableRoutes afi earlier)) where
-    -- the octets that a call leaves
-    kept-octets : (c : Call) → tableRoutes afi earlier ≡ tableRoutes afi (earlier ++ (c ∷ [])) → t ≡ imageOfBooks afi places (earlier ++ (c ∷ []))
-    unfolding imageOfBooks
-    kept-octets c e = is ∙ ap (imageOf afi places) e
+    -- the table's routes and the asked router's book give one match
+    match-book : (q : Query) → q .router ≡ router → matchIn afi q (bookOf afi router earlier) ≡ matchIn afi q (tableRoutes afi earlier)
+    match-book q mine =
+        match-same afi q (bookOf afi router earlier) (tableRoutes afi earlier) (book-distinct afi router earlier) (increasing-distinct (books-increasing afi earlier))
+        (λ nlri h. sym (lookup-arranged nlri (allBooks afi earlier) ∙ lookup-all afi router nlri earlier (owned-by (q .router) (originatorOf afi nlri) h ∙ ap owner mine)))
 
-    new-octets : (c : Call) (us : List Route) → us ≡ tableRoutes afi (earlier ++ (c ∷ [])) → imageOf (afiIn t) (placesIn t) us ≡ imageOfBooks afi places (earlier ++ (c ∷ []))
-    unfolding imageOfBooks
-    new-octets c us e = rw (of .family, of .size) (ap (imageOf afi places) e)
-
-    -- install
-
-    room : (nlri attribute : List ℕ) (r : Route) → readRoute afi nlri attribute ≡ given r → Fits afi places (earlier ++ (install nlri attribute ∷ []))
-        → holds nlri (tableRoutes afi earlier) ≡ false → length (tableRoutes afi earlier) < places
-    unfolding nlriOf
-    room nlri attribute r e fits h =
-        let new : length (inserted (route nlri attribute) (tableRoutes afi earlier)) ≡ suc (length (tableRoutes afi earlier)) =
-        length-inserted-new (route nlri attribute) (tableRoutes afi earlier) (absent-holds nlri (tableRoutes afi earlier) h) in
-        let within = books-holdable afi places (earlier ++ (install nlri attribute ∷ [])) family most fits .within in
-        omega (arith, ap length (table-inserted nlri attribute r e))
-
-    install-accepted : (nlri attribute : List ℕ) (r : Route) → readRoute afi nlri attribute ≡ given r → Fits afi places (earlier ++ (install nlri attribute ∷ []))
-        → installOutcome t nlri attribute ≡ given (pick (holds nlri (tableRoutes afi earlier)) REPLACED NEW)
-    unfolding andThen entering nlriOf
-    install-accepted nlri attribute r e fits =
-        install-on afi places (tableRoutes afi earlier) t nlri attribute of
-        ∙ rw (e, route-read afi nlri attribute r e) (with-room (holds nlri (tableRoutes afi earlier)) (length (tableRoutes afi earlier)) places (room nlri attribute r e fits))
-
-    installed-step : (nlri attribute : List ℕ) (r : Route) → readRoute afi nlri attribute ≡ given r → Fits afi places (earlier ++ (install nlri attribute ∷ [])) → DueStep afi places earlier t (install nlri attribute)
-    unfolding stepOf installOf onOutcome
-    installed-step nlri attribute r e fits =
-        let o = install-accepted nlri attribute r e fits in
-        record {
-          answer = ap (λ (x : Outcome ℕ). installed (installedOf x)) o ∙ sym (install-due nlri attribute r e);
-          octets = rw (o, of .routes) (new-octets (install nlri attribute) (inserted (route nlri attribute) (tableRoutes afi earlier)) (table-inserted nlri attribute r e));
-        }
-
-    install-refused : (nlri attribute : List ℕ) (n : ℕ) → readRoute afi nlri attribute ≡ refused n → DueStep afi places earlier t (install nlri attribute)
-    unfolding stepOf installOf onOutcome andThen
-    install-refused nlri attribute n e =
-        let o : installOutcome t nlri attribute ≡ refused n = install-on afi places (tableRoutes afi earlier) t nlri attribute of ∙ rw e in
-        record {
-          answer = ap (λ (x : Outcome ℕ). installed (installedOf x)) o ∙ sym (install-due-refused afi earlier nlri attribute n e);
-          octets = rw o (kept-octets (install nlri attribute) (install-kept nlri attribute n e));
-        }
-
-    install-step : (nlri attribute : List ℕ) → Fits afi places (earlier ++ (install nlri attribute ∷ [])) → DueStep afi places earlier t (install nlri attribute)
-    install-step nlri attribute fits = go (readRoute afi nlri attribute) refl
-      where
-        go : (o : Outcome Route) → readRoute afi nlri attribute ≡ o → DueStep afi places earlier t (install nlri attribute)
-        go (given r) e = installed-step nlri attribute r e fits
-        go (refused n) e = install-refused nlri attribute n e
-
-    -- withdraw
-
-    withdrawn-step : (nlri : List ℕ) (f : Fields) → readSPmsi afi nlri ≡ given f → DueStep afi places earlier t (withdraw nlri)
-    unfolding stepOf withdrawOf onOutcome andThen leaving numberOf pick
-    withdrawn-step nlri f e =
-        let on : withdrawOutcome t nlri ≡ leaving (tableRoutes afi earlier) nlri = withdraw-on afi places (tableRoutes afi earlier) t nlri of ∙ rw e in
+    acted : {act : Act} (t : List ℕ) → t ≡ imageOf afi places (tableRoutes afi earlier) → Family afi → places ≤ 500 → Fits afi places (earlier ++ (c ∷ [])) → argued afi c ≡ given act → Known afi c router act
+        → actStep afi places (tableRoutes afi earlier) t c act ≡ dueStep afi places earlier c
+    unfolding actStep actAnswer leaving installedOf onOutcome numberOf pick
+    acted t is family most fits e (enters {r} a mine m) =
+        let due : dueAnswer afi earlier c ≡ installed (record { number = DONE; outcome = pick (holds (nlriOf r) (tableRoutes afi earlier)) REPLACED NEW }) =
+        due-act (enter r) e ∙ rw (table-book (nlriOf r) mine) in
+        rw (room r e a family most fits) (as-due _ (inserted r (tableRoutes afi earlier)) _ due (next-entered r e a) refl)
+    acted t is family most fits e (leaves {nlri} mine) =
         tested (holds nlri (tableRoutes afi earlier))
         (λ y.
-        let o : withdrawOutcome t nlri ≡ given nlri = on ∙ rw y in
-        record {
-          answer = ap (λ (x : Outcome (List ℕ)). withdrawn (numberOf x)) o ∙ sym (withdraw-due nlri f e ∙ rw y);
-          octets = rw (o, of .routes) (new-octets (withdraw nlri) (removed nlri (tableRoutes afi earlier)) (table-removed nlri f e));
-        })
+        let due : dueAnswer afi earlier c ≡ withdrawn DONE = due-act (leave nlri) e ∙ rw (table-book nlri mine, y) in
+        rw y (as-due _ (removed nlri (tableRoutes afi earlier)) _ due (next-left nlri e) refl))
         (λ n.
-        let o : withdrawOutcome t nlri ≡ refused ABSENT = on ∙ rw n in
-        let none : removed nlri (tableRoutes afi earlier) ≡ tableRoutes afi earlier = removed-absent nlri (tableRoutes afi earlier) (absent-holds nlri (tableRoutes afi earlier) n) in
-        record {
-          answer = ap (λ (x : Outcome (List ℕ)). withdrawn (numberOf x)) o ∙ sym (withdraw-due nlri f e ∙ rw n);
-          octets = rw o (kept-octets (withdraw nlri) (sym none ∙ table-removed nlri f e));
-        })
-
-    withdraw-refused : (nlri : List ℕ) (n : ℕ) → readSPmsi afi nlri ≡ refused n → DueStep afi places earlier t (withdraw nlri)
-    unfolding stepOf withdrawOf onOutcome andThen numberOf
-    withdraw-refused nlri n e =
-        let o : withdrawOutcome t nlri ≡ refused n = withdraw-on afi places (tableRoutes afi earlier) t nlri of ∙ rw e in
-        record {
-          answer = ap (λ (x : Outcome (List ℕ)). withdrawn (numberOf x)) o ∙ sym (withdraw-due-refused afi earlier nlri n e);
-          octets = rw o (kept-octets (withdraw nlri) (withdraw-kept nlri n e));
-        }
-
-    withdraw-step : (nlri : List ℕ) → DueStep afi places earlier t (withdraw nlri)
-    withdraw-step nlri = go (readSPmsi afi nlri) refl
-      where
-        go : (o : Outcome Fields) → readSPmsi afi nlri ≡ o → DueStep afi places earlier t (withdraw nlri)
-        go (given f) e = withdrawn-step nlri f e
-        go (refused n) e = withdraw-refused nlri n e
-
-    -- match
-
-    match-step : (router source group output : List ℕ) → DueStep afi places earlier t (match router source group output)
-    unfolding stepOf matchOf andThen
-    match-step router source group output =
-        record { answer = go (readMatch afi router source group output) refl; octets = kept-octets (match router source group output) (match-kept router source group output) }
-      where
-        on : matchOutcome t router source group output ≡ andThen (readMatch afi router source group output) (λ q. given (matchIn afi q (tableRoutes afi earlier)))
-        on = match-on afi places (tableRoutes afi earlier) t router source group output of
-
-        go : (o : Outcome Query) → readMatch afi router source group output ≡ o
-            → matchAnswer (matchedBy (matchOutcome t router source group output) output) ≡ dueAnswer afi earlier (match router source group output)
-        go (given q) e = ap (λ (x : Outcome Found). matchAnswer (matchedBy x output)) (on ∙ rw e) ∙ sym (match-due router source group output q e)
-        go (refused n) e = ap (λ (x : Outcome Found). matchAnswer (matchedBy x output)) (on ∙ rw e) ∙ sym (match-due-refused afi earlier router source group output n e)
-
-    step : (c : Call) → Fits afi places (earlier ++ (c ∷ [])) → DueStep afi places earlier t c
-    step (install nlri attribute) fits = install-step nlri attribute fits
-    step (withdraw nlri) fits = withdraw-step nlri
-    step (match router source group output) fits = match-step router source group output
+        let due : dueAnswer afi earlier c ≡ withdrawn ABSENT = due-act (leave nlri) e ∙ rw (table-book nlri mine, n) in
+        rw n (as-due _ (tableRoutes afi earlier) t due (sym (removed-absent nlri (tableRoutes afi earlier) (absent-holds nlri (tableRoutes afi earlier) n)) ∙ next-left nlri e) is))
+    acted t is family most fits e (asks {q} {output} mine) =
+        let due : dueAnswer afi earlier c ≡ matched (foundAnswer (matchIn afi q (tableRoutes afi earlier))) (foundOutput (matchIn afi q (tableRoutes afi earlier)) output) =
+        due-act (ask q output) e ∙ rw (match-book q mine) in
+        as-due _ (tableRoutes afi earlier) t due (next-asked q output e) is
 
 -- a call on the image of all books
 pub due-step : (afi places : ℕ) (earlier : List Call) (c : Call) → Family afi → places ≤ 500 → Fits afi places earlier → Fits afi places (earlier ++ (c ∷ []))
-    → DueStep afi places earlier (imageOfBooks afi places earlier) c
-unfolding imageOfBooks
+    → stepOf (imageOfBooks afi places earlier) c ≡ dueStep afi places earlier c
+unfolding imageOfBooks onOutcome
 due-step afi places earlier c family most before after =
-    step afi places earlier family most (imageOf afi places (tableRoutes afi earlier))
-    (images .imaged afi places (tableRoutes afi earlier) (books-holdable afi places earlier family most before)) refl c after
+    step-on afi places (tableRoutes afi earlier) t (images .imaged afi places (tableRoutes afi earlier) (books-holdable afi places earlier family most before)) c
+    ∙ argued-cases (λ (o : Outcome Act). onOutcome (λ number. record { call = c; answer = refusalAnswer c number; octets = t }) (actStep afi places (tableRoutes afi earlier) t c) o ≡ dueStep afi places earlier c) afi c
+    (λ n e. as-due afi places earlier c _ (tableRoutes afi earlier) t (due-refused afi places earlier c n e) (kept-refused afi places earlier c n e) refl)
+    (λ act e k. acted afi places earlier c (k .router) (k .own) t refl family most after e (k .known))
+  where
+    t : List ℕ
+    t = imageOf afi places (tableRoutes afi earlier)

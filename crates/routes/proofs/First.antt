@@ -11,7 +11,8 @@ use Rattle.octets.specs.Order.{before}
 use Rattle.octets.proofs.Inversions.{opposite}
 use Rattle.octets.proofs.Refusals.{is-true}
 use Rattle.octets.proofs.Orders.{same-equal, before-other}
-use Rattle.routes.specs.Route.{Route, nlriOf, lookup, Member, Distinct}
+use Rattle.routes.specs.Lists.{Among}
+use Rattle.routes.specs.Route.{Route, nlriOf, lookup, Distinct}
 use Rattle.routes.specs.Arguments.{Query}
 use Rattle.routes.specs.Matching.{distinguisherOf, Found, nothing, found, lowestIn, orElse, firstOf, matchIn}
 use Rattle.routes.proofs.Lookups.{route-equal, held-attribute, member-lookup}
@@ -23,7 +24,7 @@ neither-before : (x y : List ℕ) → before x y ≡ false → before y x ≡ fa
 neither-before x y h k = same-equal x y (is-true _ (λ d. opposite (before-other x y d h) k))
 
 -- with no NLRI twice, members of one NLRI are one
-pub one-member : {rs : List Route} (r u : Route) → Distinct rs → Member r rs → Member u rs → nlriOf r ≡ nlriOf u → r ≡ u
+pub one-member : {rs : List Route} (r u : Route) → Distinct rs → Among r rs → Among u rs → nlriOf r ≡ nlriOf u → r ≡ u
 one-member {rs} r u d m n e = route-equal r u e (held-attribute (sym (member-lookup d m) ∙ ap (λ (x : List ℕ). lookup x rs) e ∙ member-lookup d n))
 
 -- so many tiers, one after the other
@@ -34,7 +35,7 @@ tiersFrom low (suc count) = low ∷ tiersFrom (suc low) count
 module _ (afi : ℕ) (q : Query) where
   -- no candidate meets the condition of a tier from `low` on and below `high`
   abbrev pub None : (low high : ℕ) → List Route → Type 0
-  None low high rs = (tier : ℕ) → low ≤ tier → tier < high → (u : Route) → Member u rs → qualifies afi q tier u ≡ false
+  None low high rs = (tier : ℕ) → low ≤ tier → tier < high → (u : Route) → Among u rs → qualifies afi q tier u ≡ false
 
   -- the answer of the tiers from `low` on and below `high`
   abbrev pub First : (low high : ℕ) → List Route → Found → Type 0
@@ -42,7 +43,7 @@ module _ (afi : ℕ) (q : Query) where
   First low high rs (found t r) = (low ≤ t) × (t < high) × Lowest afi q t rs (found t r) × None low t rs
 
   -- no candidate meets the condition of the lowest tier
-  without : (low high : ℕ) (rs : List Route) → ((u : Route) → Member u rs → qualifies afi q low u ≡ false) → None (suc low) high rs → None low high rs
+  without : (low high : ℕ) (rs : List Route) → ((u : Route) → Among u rs → qualifies afi q low u ≡ false) → None (suc low) high rs → None low high rs
   without low high rs h k tier a b u m = ⊎-elim (λ e. subst (λ (n : ℕ). qualifies afi q n u ≡ false) e (h u m)) (λ l. k tier (omega arith) b u m) (eq-or-lt-of-le a)
 
   first-step : (low high : ℕ) (rs : List Route) (here later : Found) → low < high → Lowest afi q low rs here → First (suc low) high rs later → First low high rs (orElse here later)
@@ -66,7 +67,7 @@ module _ (afi : ℕ) (q : Query) where
 
   -- what qualifies among some routes is among others
   abbrev pub Carried : (rs us : List Route) → Type 0
-  Carried rs us = (tier : ℕ) (r : Route) → qualifies afi q tier r ≡ true → Member r rs → Member r us
+  Carried rs us = (tier : ℕ) (r : Route) → qualifies afi q tier r ≡ true → Among r rs → Among r us
 
   -- the tier of one answer is not below that of the other
   not-lower : (rs us : List Route) → Carried rs us → (t s : ℕ) (r u : Route) → First 1 5 rs (found t r) → First 1 5 us (found s u) → s ≤ t
@@ -77,8 +78,8 @@ module _ (afi : ℕ) (q : Query) where
   module _ (rs us : List Route) (d : Distinct rs) (out : Carried rs us) (back : Carried us rs) where
     of-tier : (t : ℕ) (r u : Route) → Lowest afi q t rs (found t r) → Lowest afi q t us (found t u) → r ≡ u
     of-tier t r u l k =
-        let r-there : Member r us = out t r (l .2) (l .1) in
-        let u-there : Member u rs = back t u (k .2) (k .1) in
+        let r-there : Among r us = out t r (l .2) (l .1) in
+        let u-there : Among u rs = back t u (k .2) (k .1) in
         let rd : distinguisherOf afi r ≡ distinguisherOf afi u = neither-before _ _ (k .3 r r-there (l .2)) (l .3 u u-there (k .2)) in
         one-member r u d (l .1) u-there (same-nlri afi q t r u (l .2) (k .2) rd)
 

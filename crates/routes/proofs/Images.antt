@@ -16,7 +16,8 @@ use Rattle.octets.proofs.Refusals.{refuses-unless, stopped}
 use Rattle.octets.proofs.Tests.{both-true}
 use Rattle.nlri.proofs.Faults.{family-refused}
 use Rattle.nlri.proofs.Lengths.{good-family}
-use Rattle.routes.specs.Route.{Route, Member}
+use Rattle.routes.specs.Lists.{Among}
+use Rattle.routes.specs.Route.{Route}
 use Rattle.routes.specs.Table.{headerOf, placesOf, imageOf, afiIn, countIn, placesIn, routesOf, tableSize, headerSound, placesSound, soundOf}
 use Rattle.routes.specs.Calls.{makeOutcome, makeOf}
 use Rattle.routes.specs.Images.{Family, Holdable, TableOf, Images}
@@ -115,7 +116,7 @@ module _ (afi places : ℕ) (rs : List Route) (h : Holdable afi places rs) where
   image-table = record { sound = image-sound; family = image-afi afi places rs; size = image-places; routes = image-routes }
 
 one-image : (t u : List ℕ) → AllOctets t → AllOctets u → soundOf t ≡ true → soundOf u ≡ true → afiIn t ≡ afiIn u → length t ≡ length u
-    → ((r : Route) → Member r (routesOf t) ↔ Member r (routesOf u)) → t ≡ u
+    → ((r : Route) → Among r (routesOf t) ↔ Among r (routesOf u)) → t ≡ u
 one-image t u a b h k family size members =
     let rs : routesOf t ≡ routesOf u = increasing-members (sound-holdable t h .increasing) (sound-holdable u k .increasing) members in
     let places : placesIn t ≡ placesIn u = omega (arith, sound t h .size .is, sound u k .size .is) in

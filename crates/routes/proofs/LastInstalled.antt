@@ -14,7 +14,8 @@ use Rattle.octets.proofs.Orders.{same-equal, other-unequal}
 use Rattle.octets.proofs.Outcomes.{pick-true, pick-false}
 use Rattle.octets.proofs.Picked.{tested}
 use Rattle.octets.proofs.Tests.{both-true, both-left, both-right}
-use Rattle.routes.specs.Route.{Route, route, nlriOf, attributeOf, Held, absent, held, lookup, inserted, removed, Member}
+use Rattle.routes.specs.Lists.{Among}
+use Rattle.routes.specs.Route.{Route, route, nlriOf, attributeOf, Held, absent, held, lookup, inserted, removed}
 use Rattle.routes.specs.Table.{imageOf, afiIn, placesIn, routesOf, soundOf}
 use Rattle.routes.specs.Calls.{makeOf, installOf, withdrawOf}
 use Rattle.routes.specs.Call.{Call, install, withdraw, match}
@@ -22,7 +23,7 @@ use Rattle.routes.specs.Run.{Step, stepOf, runFrom, endOf}
 use Rattle.routes.specs.Images.{TableOf}
 use Rattle.routes.specs.LastInstalled.{accepted, decides, leftBy, lastFrom, lastOf, LastInstall, Kept, LastInstalled}
 use Rattle.routes.proofs.ArgumentRules.{argumentRule}
-use Rattle.routes.proofs.Decisions.{last-exactly}
+use Rattle.routes.proofs.Decisions.{last-step, last-exactly}
 use Rattle.routes.proofs.Images.{images, sound-holdable}
 use Rattle.routes.proofs.InstallRules.{installRule, install-done, install-octets}
 use Rattle.routes.proofs.Lookups.{lookup-none, lookup-member, member-lookup, increasing-distinct}
@@ -95,11 +96,12 @@ unfolding endOf
 end-next [] t s = next-same t t s refl
 end-next (c ∷ cs) t s = let n = step-next t c s in next-then n (end-next cs (stepOf t c .octets) (n .sound))
 
-end-lookups : (calls : List Call) (t nlri : List ℕ) → lookup nlri (routesOf (endOf t calls)) ≡ lastFrom nlri (lookup nlri (routesOf t)) calls (runFrom t calls)
+end-lookups : (calls : List Call) (t nlri : List ℕ) → lookup nlri (routesOf (endOf t calls)) ≡ lastFrom nlri (lookup nlri (routesOf t)) (runFrom t calls)
 unfolding endOf lastFrom runFrom
 end-lookups [] t nlri = refl
 end-lookups (c ∷ cs) t nlri =
-    end-lookups cs (stepOf t c .octets) nlri ∙ ap (λ (h : Held). lastFrom nlri h cs (runFrom (stepOf t c .octets) cs)) (step-lookups t c nlri)
+    end-lookups cs (stepOf t c .octets) nlri ∙ ap (λ (h : Held). lastFrom nlri h (runFrom (stepOf t c .octets) cs)) (step-lookups t c nlri)
+    ∙ sym (last-step nlri (lookup nlri (routesOf t)) t c cs)
 
 -- a list of calls as one call after others and before others
 each : (t : List ℕ) (earlier : List Call) (c : Call) (later : List Call)
@@ -119,13 +121,13 @@ module _ (afi : ℕ) (memory : List ℕ) (calls : List Call) (done : makeOf afi 
   next : Next (makeOf afi memory .octets) (endOf (makeOf afi memory .octets) calls)
   next = end-next calls (makeOf afi memory .octets) (made .sound)
 
-  lookups : (nlri : List ℕ) → lookup nlri (routesOf (endOf (makeOf afi memory .octets) calls)) ≡ lastOf nlri calls (runFrom (makeOf afi memory .octets) calls)
+  lookups : (nlri : List ℕ) → lookup nlri (routesOf (endOf (makeOf afi memory .octets) calls)) ≡ lastOf nlri (runFrom (makeOf afi memory .octets) calls)
   unfolding lastOf
   lookups nlri =
       end-lookups calls (makeOf afi memory .octets) nlri
-      ∙ ap (λ (h : Held). lastFrom nlri h calls (runFrom (makeOf afi memory .octets) calls)) (ap (lookup nlri) (made .routes) ∙ lookup-none nlri)
+      ∙ ap (λ (h : Held). lastFrom nlri h (runFrom (makeOf afi memory .octets) calls)) (ap (lookup nlri) (made .routes) ∙ lookup-none nlri)
 
-  exactly : (nlri attribute : List ℕ) → Member (route nlri attribute) (routesOf (endOf (makeOf afi memory .octets) calls)) ↔ LastInstall nlri attribute (makeOf afi memory .octets) calls
+  exactly : (nlri attribute : List ℕ) → Among (route nlri attribute) (routesOf (endOf (makeOf afi memory .octets) calls)) ↔ LastInstall nlri attribute (makeOf afi memory .octets) calls
   unfolding lastOf nlriOf attributeOf
   exactly nlri attribute =
       let last = last-exactly nlri attribute (makeOf afi memory .octets) calls in

@@ -14,7 +14,8 @@ use Rattle.octets.proofs.Outcomes.{pick-true, pick-false}
 use Rattle.octets.proofs.Picked.{tested}
 use Rattle.octets.proofs.Refusals.{is-false, is-true}
 use Rattle.octets.proofs.Orders.{same-itself, same-equal, same-swapped, before-itself, before-other, before-then, before-differs}
-use Rattle.routes.specs.Route.{Route, route, nlriOf, attributeOf, Held, absent, held, lookup, isHeld, holds, inserted, arranged, removed, Member, here, there, Distinct, none, one, Increasing, last, next}
+use Rattle.routes.specs.Lists.{Among, first, later}
+use Rattle.routes.specs.Route.{Route, route, nlriOf, attributeOf, Held, absent, held, lookup, isHeld, holds, inserted, arranged, removed, Distinct, none, one, Increasing, last, next}
 use Rattle.routes.specs.Place.{acceptable, AllAcceptable}
 use Rattle.routes.specs.Book.{entered}
 
@@ -246,34 +247,34 @@ distinct-entered r (one {r = q} {rs = rs} h d) =
 
 -- members and lookups
 
-pub lookup-member : (nlri a : List ℕ) (rs : List Route) → lookup nlri rs ≡ held a → Member (route nlri a) rs
+pub lookup-member : (nlri a : List ℕ) (rs : List Route) → lookup nlri rs ≡ held a → Among (route nlri a) rs
 lookup-member nlri a [] h = absurd (held-absent h (lookup-none nlri))
 lookup-member nlri a (q ∷ rs) h =
     tested (same nlri (nlriOf q))
     (λ t.
     let e : route nlri a ≡ q = ap₂ (λ (m b : List ℕ). route m b) (same-equal nlri (nlriOf q) t) (held-attribute (sym h ∙ lookup-first nlri q rs t)) ∙ route-again q in
-    rw e here)
-    (λ f. there (lookup-member nlri a rs (sym (lookup-later nlri q rs f) ∙ h)))
+    rw e (first refl))
+    (λ f. later (lookup-member nlri a rs (sym (lookup-later nlri q rs f) ∙ h)))
 
-member-held : {r : Route} {rs : List Route} → Member r rs → holds (nlriOf r) rs ≡ true
-member-held {r} (here {rs}) = holds-held (nlriOf r) (r ∷ rs) (attributeOf r) (lookup-own r rs)
-member-held {r} (there {q} {rs} m) =
+member-held : {r : Route} {rs : List Route} → Among r rs → holds (nlriOf r) rs ≡ true
+member-held {r} (first {y = q} {ys = rs} e) = rw e (holds-held (nlriOf q) (q ∷ rs) (attributeOf q) (lookup-own q rs))
+member-held {r} (later {y = q} {ys = rs} m) =
     tested (same (nlriOf r) (nlriOf q))
     (λ t. holds-held (nlriOf r) (q ∷ rs) (attributeOf q) (lookup-first (nlriOf r) q rs t))
     (λ f. holds-alike (nlriOf r) (q ∷ rs) rs (lookup-later (nlriOf r) q rs f) ∙ member-held m)
 
-pub member-lookup : {r : Route} {rs : List Route} → Distinct rs → Member r rs → lookup (nlriOf r) rs ≡ held (attributeOf r)
-member-lookup {r} (one {rs} h d) here = lookup-own r rs
-member-lookup {r} (one {r = q} {rs = rs} h d) (there m) =
+pub member-lookup : {r : Route} {rs : List Route} → Distinct rs → Among r rs → lookup (nlriOf r) rs ≡ held (attributeOf r)
+member-lookup {r} (one {r = q} {rs = rs} h d) (first e) = rw e (lookup-own q rs)
+member-lookup {r} (one {r = q} {rs = rs} h d) (later m) =
     let f : same (nlriOf r) (nlriOf q) ≡ false = is-false _ (λ t. opposite (member-held m) (rw (same-equal (nlriOf r) (nlriOf q) t) h)) in
     lookup-later (nlriOf r) q rs f ∙ member-lookup d m
 
 -- what distinct routes hold, others with the same members hold
-lookup-carried : {us : List Route} (nlri a : List ℕ) → Distinct us → Member (route nlri a) us → lookup nlri us ≡ held a
+lookup-carried : {us : List Route} (nlri a : List ℕ) → Distinct us → Among (route nlri a) us → lookup nlri us ≡ held a
 unfolding nlriOf attributeOf
 lookup-carried nlri a e m = member-lookup e m
 
-members-lookup : {rs us : List Route} → Distinct rs → Distinct us → ((r : Route) → Member r rs ↔ Member r us) → (nlri : List ℕ) → lookup nlri rs ≡ lookup nlri us
+members-lookup : {rs us : List Route} → Distinct rs → Distinct us → ((r : Route) → Among r rs ↔ Among r us) → (nlri : List ℕ) → lookup nlri rs ≡ lookup nlri us
 members-lookup {rs} {us} d e m nlri = go (held-or-absent nlri rs) (held-or-absent nlri us)
   where
     go : ((a : List ℕ) × (lookup nlri rs ≡ held a)) ⊎ (lookup nlri rs ≡ absent) → ((a : List ℕ) × (lookup nlri us ≡ held a)) ⊎ (lookup nlri us ≡ absent) → lookup nlri rs ≡ lookup nlri us
@@ -317,10 +318,10 @@ increasing-removed nlri {p} (next {r = q} {rs = rs} b i) =
     (λ f. rw (removed-later nlri q rs f) (next b (increasing-removed nlri i)))
 
 -- every NLRI comes after a previous one
-pub increasing-arranged : (p : List ℕ) (rs : List Route) → ((r : Route) → Member r rs → before p (nlriOf r) ≡ true) → Increasing p (arranged rs)
+pub increasing-arranged : (p : List ℕ) (rs : List Route) → ((r : Route) → Among r rs → before p (nlriOf r) ≡ true) → Increasing p (arranged rs)
 unfolding arranged
 increasing-arranged p [] h = last
-increasing-arranged p (r ∷ rs) h = increasing-inserted r (h r here) (increasing-arranged p rs (λ q m. h q (there m)))
+increasing-arranged p (r ∷ rs) h = increasing-inserted r (h r (first refl)) (increasing-arranged p rs (λ q m. h q (later m)))
 
 -- increasing routes with equal lookups, or equal members, are equal
 
@@ -351,7 +352,7 @@ increasing-equal (next {r} {rs} b i) (next {r = u} {rs = us} c j) h =
         x ∙ sym y)
         (λ f. sym (lookup-later nlri r rs f) ∙ h nlri ∙ lookup-later nlri u us (rw (← n) f))
 
-pub increasing-members : {p : List ℕ} {rs us : List Route} → Increasing p rs → Increasing p us → ((r : Route) → Member r rs ↔ Member r us) → rs ≡ us
+pub increasing-members : {p : List ℕ} {rs us : List Route} → Increasing p rs → Increasing p us → ((r : Route) → Among r rs ↔ Among r us) → rs ≡ us
 increasing-members i j m = increasing-equal i j (members-lookup (increasing-distinct i) (increasing-distinct j) m)
 
 -- how many
@@ -383,9 +384,9 @@ length-removed-held nlri (q ∷ rs) h =
 
 -- acceptable routes
 
-pub acceptable-member : {afi : ℕ} {r : Route} {rs : List Route} → AllAcceptable afi rs → Member r rs → acceptable afi r ≡ true
-acceptable-member (AllAcceptable.one h a) here = h
-acceptable-member (AllAcceptable.one h a) (there m) = acceptable-member a m
+pub acceptable-member : {afi : ℕ} {r : Route} {rs : List Route} → AllAcceptable afi rs → Among r rs → acceptable afi r ≡ true
+acceptable-member (AllAcceptable.one h a) (first e) = rw e h
+acceptable-member (AllAcceptable.one h a) (later m) = acceptable-member a m
 
 pub acceptable-inserted : (afi : ℕ) (r : Route) {rs : List Route} → acceptable afi r ≡ true → AllAcceptable afi rs → AllAcceptable afi (inserted r rs)
 unfolding inserted

@@ -18,7 +18,8 @@ use Rattle.octets.proofs.Picked.{tested}
 use Rattle.octets.proofs.Refusals.{outcome}
 use Rattle.octets.proofs.Tests.{goes, stops}
 use Rattle.routes.specs.declared.Matched.{Matched}
-use Rattle.routes.specs.Route.{Route, nlriOf, attributeOf, Member, Distinct}
+use Rattle.routes.specs.Lists.{Among}
+use Rattle.routes.specs.Route.{Route, nlriOf, attributeOf, Distinct}
 use Rattle.routes.specs.Arguments.{Query, readFlow, readMatch}
 use Rattle.routes.specs.Table.{afiIn, placesIn, routesOf, soundOf}
 use Rattle.routes.specs.Images.{Holdable}
@@ -190,7 +191,7 @@ module _ (t router source group output : List ℕ) where
     unfolding what
     taking tier r e = found-taken (afiIn t) router source group (s .query) (s .asked) (routesOf t) distinct tier r .0 e
 
-    sized : (r : Route) → Member r (routesOf t) → Sized r
+    sized : (r : Route) → Among r (routesOf t) → Sized r
     sized r m = sizes-of (afiIn t) r (acceptable-member (s .holdable .acceptable) m)
 
     none-tierless : (f : Found) → what ≡ f → (matchedBy (given f) output .answer .tier ≡ 0) ↔ NoneTaken (afiIn t) router source group (routesOf t)

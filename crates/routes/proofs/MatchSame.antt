@@ -6,7 +6,8 @@ use mathlib.Core.List.{List}
 use Rattle.octets.specs.Outcome.{given, onOutcome}
 use Rattle.octets.proofs.Orders.{equal-same}
 use Rattle.nlri.specs.Fields.{Fields}
-use Rattle.routes.specs.Route.{Route, nlriOf, attributeOf, lookup, Member, Distinct}
+use Rattle.routes.specs.Lists.{Among}
+use Rattle.routes.specs.Route.{Route, nlriOf, attributeOf, lookup, Distinct}
 use Rattle.routes.specs.Arguments.{Query, readSPmsi}
 use Rattle.routes.specs.Matching.{matchIn}
 use Rattle.routes.specs.Call.{originatorOf, ownedBy}
@@ -27,7 +28,7 @@ module _ (afi : ℕ) (q : Query) where
   carried rs us d alike tier r h m =
       let x = qualified afi q tier r h in
       let l = alike (nlriOf r) (own-nlri afi (q .router) (nlriOf r) (x .fields) (x .read) (x .own)) in
-      subst (λ (w : Route). Member w us) (route-again r) (lookup-member (nlriOf r) (attributeOf r) us (sym l ∙ member-lookup d m))
+      subst (λ (w : Route). Among w us) (route-again r) (lookup-member (nlriOf r) (attributeOf r) us (sym l ∙ member-lookup d m))
 
 pub match-same : (afi : ℕ) (q : Query) (rs us : List Route) → Distinct rs → Distinct us → ((nlri : List ℕ) → ownedBy (q .router) (originatorOf afi nlri) ≡ true → lookup nlri rs ≡ lookup nlri us)
     → matchIn afi q rs ≡ matchIn afi q us

@@ -16,7 +16,8 @@ use Rattle.octets.proofs.Picked.{tested}
 use Rattle.octets.proofs.Refusals.{is-false, either-false-left, either-false-right}
 use Rattle.octets.proofs.Tests.{both-true}
 use Rattle.octets.proofs.Orders.{before-itself, before-then}
-use Rattle.routes.specs.Route.{Route, Member, here, there, Distinct}
+use Rattle.routes.specs.Lists.{Among, first, later}
+use Rattle.routes.specs.Route.{Route, Distinct}
 use Rattle.routes.specs.Arguments.{Query}
 use Rattle.routes.specs.Matching.{candidate, meets, distinguisherOf, Found, nothing, found, lower, lowestIn, orElse, firstOf, matchIn}
 use Rattle.routes.specs.OnePass.{tierOf, ahead, against, better, scanned}
@@ -28,18 +29,18 @@ onto : (rs seen : List Route) → List Route
 onto [] seen = seen
 onto (r ∷ rs) seen = onto rs (r ∷ seen)
 
-into-onto : (u : Route) (rs seen : List Route) → Member u rs ⊎ Member u seen → Member u (onto rs seen)
+into-onto : (u : Route) (rs seen : List Route) → Among u rs ⊎ Among u seen → Among u (onto rs seen)
 unfolding onto
 into-onto u [] seen (inl m) = absurd (no-member m refl)
 into-onto u [] seen (inr m) = m
-into-onto u (r ∷ rs) seen (inl m) = into-onto u rs (r ∷ seen) (of-members (λ (w : Route). Member w rs ⊎ Member w (r ∷ seen)) r rs (inr here) (λ w n. inl n) u m)
-into-onto u (r ∷ rs) seen (inr m) = into-onto u rs (r ∷ seen) (inr (there m))
+into-onto u (r ∷ rs) seen (inl m) = into-onto u rs (r ∷ seen) (of-members (λ (w : Route). Among w rs ⊎ Among w (r ∷ seen)) r rs (inr (first refl)) (λ w n. inl n) u m)
+into-onto u (r ∷ rs) seen (inr m) = into-onto u rs (r ∷ seen) (inr (later m))
 
-from-onto : (u : Route) (rs seen : List Route) → Member u (onto rs seen) → Member u rs ⊎ Member u seen
+from-onto : (u : Route) (rs seen : List Route) → Among u (onto rs seen) → Among u rs ⊎ Among u seen
 unfolding onto
 from-onto u [] seen m = inr m
 from-onto u (r ∷ rs) seen m =
-    ⊎-elim (λ n. inl (there n)) (λ n. of-members (λ (w : Route). Member w (r ∷ rs) ⊎ Member w seen) r seen (inl here) (λ w k. inr k) u n) (from-onto u rs (r ∷ seen) m)
+    ⊎-elim (λ n. inl (later n)) (λ n. of-members (λ (w : Route). Among w (r ∷ rs) ⊎ Among w seen) r seen (inl (first refl)) (λ w k. inr k) u n) (from-onto u rs (r ∷ seen) m)
 
 -- a route by itself, by the tests of its tiers
 alone-by : (r : Route) (c a₁ a₂ a₃ a₄ : Bool)
@@ -60,7 +61,7 @@ module _ (afi : ℕ) (q : Query) where
 
   -- a route of no tier
   tier-none : (r : Route) → eqb (tierOf afi q r) 0 ≡ true → (tier : ℕ) → 1 ≤ tier → tier < 5 → qualifies afi q tier r ≡ false
-  tier-none r e tier a b = subst (First afi q 1 5 (r ∷ [])) (alone r ∙ pick-true _ _ _ e) (first-is afi q (r ∷ [])) tier a b r here
+  tier-none r e tier a b = subst (First afi q 1 5 (r ∷ [])) (alone r ∙ pick-true _ _ _ e) (first-is afi q (r ∷ [])) tier a b r (first refl)
 
   -- a route's tier is the first whose condition it meets
   record Tiered (r : Route) (tier : ℕ) : Type 0 where
@@ -72,25 +73,25 @@ module _ (afi : ℕ) (q : Query) where
   tier-some : (r : Route) → eqb (tierOf afi q r) 0 ≡ false → Tiered r (tierOf afi q r)
   tier-some r e =
       let f : First afi q 1 5 (r ∷ []) (found (tierOf afi q r) r) = subst (First afi q 1 5 (r ∷ [])) (alone r ∙ pick-false _ _ _ e) (first-is afi q (r ∷ [])) in
-      record { least = f .0; most = f .1; met = f .2 .2; lowest = λ other a b. f .3 other a b r here }
+      record { least = f .0; most = f .1; met = f .2 .2; lowest = λ other a b. f .3 other a b r (first refl) }
 
   module _ (r : Route) (seen : List Route) where
     -- the best so far stays
     stays : (t : ℕ) (w : Route) → (qualifies afi q t r ≡ true → before (distinguisherOf afi r) (distinguisherOf afi w) ≡ false)
         → ((tier : ℕ) → 1 ≤ tier → tier < t → qualifies afi q tier r ≡ false) → First afi q 1 5 seen (found t w) → First afi q 1 5 (r ∷ seen) (found t w)
-    stays t w level below f = (f .0, f .1, (refl, there (f .2 .1), f .2 .2, of-members _ r seen level (f .2 .3)), λ tier a b. of-members _ r seen (below tier a b) (f .3 tier a b))
+    stays t w level below f = (f .0, f .1, (refl, later (f .2 .1), f .2 .2, of-members _ r seen level (f .2 .3)), λ tier a b. of-members _ r seen (below tier a b) (f .3 tier a b))
 
     passed-over : (best : Found) → ((tier : ℕ) → 1 ≤ tier → tier < 5 → qualifies afi q tier r ≡ false) → First afi q 1 5 seen best → First afi q 1 5 (r ∷ seen) best
     passed-over nothing h f = λ tier a b. of-members _ r seen (h tier a b) (f tier a b)
     passed-over (found t w) h f = stays t w (λ good. absurd (opposite good (h t (f .0) (f .1)))) (λ tier a b. h tier a (omega (arith, f .1))) f
 
     -- a route that is lower than any before it
-    taken : (t : ℕ) → Tiered r t → None afi q 1 t seen → ((u : Route) → Member u seen → qualifies afi q t u ≡ true → before (distinguisherOf afi u) (distinguisherOf afi r) ≡ false)
+    taken : (t : ℕ) → Tiered r t → None afi q 1 t seen → ((u : Route) → Among u seen → qualifies afi q t u ≡ true → before (distinguisherOf afi u) (distinguisherOf afi r) ≡ false)
         → First afi q 1 5 (r ∷ seen) (found t r)
     taken t y none low = (
       y .least,
       y .most,
-      (refl, here, y .met, of-members _ r seen (λ _. before-itself _) low),
+      (refl, first refl, y .met, of-members _ r seen (λ _. before-itself _) low),
       λ tier a b. of-members _ r seen (y .lowest tier a b) (none tier a b),
     )
 

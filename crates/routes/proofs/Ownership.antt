@@ -3,11 +3,9 @@ use Prim.Native.Nat.{ℕ}
 use mathlib.Core.Path.{_≡_, refl, sym, ap, _∙_}
 use mathlib.Core.Bool.{true, false}
 use mathlib.Core.List.{List, []}
-use mathlib.Core.Logic.{_≢_}
 use native.Mathlib.Omega.{arith}
 use lib.ListN.{length}
-use Rattle.octets.specs.Numbers.{DONE}
-use Rattle.octets.specs.Outcome.{Outcome, given, refused, onOutcome, numberOf}
+use Rattle.octets.specs.Outcome.{given, onOutcome}
 use Rattle.octets.specs.Order.{before}
 use Rattle.octets.proofs.Outcomes.{pick-true}
 use Rattle.octets.proofs.Inversions.{opposite, given-same, only, unless, passed}
@@ -17,9 +15,8 @@ use Rattle.nlri.specs.Fields.{Fields}
 use Rattle.routes.specs.Route.{Route, route, nlriOf, attributeOf}
 use Rattle.routes.specs.Arguments.{Query, readSPmsi, readRoute, readFlow, readMatch}
 use Rattle.routes.specs.Place.{acceptable}
-use Rattle.routes.specs.Call.{Call, install, withdraw, match, Owner, nobody, owner, originatorOf, ownerOf, ownedBy, refusalOf}
+use Rattle.routes.specs.Call.{match, Owner, nobody, owner, originatorOf, ownerOf, ownedBy}
 use Rattle.routes.proofs.Bounds.{Accepted, accepted, route-read, read-acceptable, nlri-size}
-use Rattle.routes.proofs.ByArguments.{s-pmsi-number, route-number, match-number}
 
 -- an accepted install
 pub route-accepted : (afi : ℕ) (nlri attribute : List ℕ) (r : Route) → readRoute afi nlri attribute ≡ given r → Accepted afi nlri attribute
@@ -59,6 +56,9 @@ owned-by router (owner other) h = ap owner (sym (same-equal router other h))
 pub owner-nobody : {o : Owner} {router : List ℕ} → o ≡ nobody → o ≡ owner router → ⊥
 owner-nobody p q = let z : _≡_ {A = ℕ} 0 1 = cc in omega arith
 
+pub owners-same : {x y : List ℕ} {o : Owner} → o ≡ owner x → o ≡ owner y → x ≡ y
+owners-same p q = cc
+
 -- a query that was read asks of the router given, whose address has 4 or 16 octets
 pub query-router : (afi : ℕ) (router source group output : List ℕ) (q : Query) → readMatch afi router source group output ≡ given q → (q .router ≡ router) × (originatorSize (length router) ≡ true)
 unfolding readMatch readFlow
@@ -74,23 +74,3 @@ query-router afi router source group output q e =
 pub match-owner : (afi : ℕ) (router source group output : List ℕ) → originatorSize (length router) ≡ true → ownerOf afi (match router source group output) ≡ owner router
 unfolding ownerOf
 match-owner afi router source group output h = pick-true _ _ _ h
-
--- a call of nobody is refused with a number other than DONE
-
-pub nobody-refused : (afi : ℕ) (c : Call) → ownerOf afi c ≡ nobody → refusalOf afi c ≢ DONE
-unfolding ownerOf refusalOf numberOf
-nobody-refused afi (install nlri attribute) h = go (readRoute afi nlri attribute) refl
-  where
-    go : (o : Outcome Route) → readRoute afi nlri attribute ≡ o → numberOf o ≢ DONE
-    go (given r) e = let a = route-accepted afi nlri attribute r e in absurd (owner-nobody h (owner-read afi nlri (a .fields) (a .read)))
-    go (refused n) e = route-number afi nlri attribute n e .0
-nobody-refused afi (withdraw nlri) h = go (readSPmsi afi nlri) refl
-  where
-    go : (o : Outcome Fields) → readSPmsi afi nlri ≡ o → numberOf o ≢ DONE
-    go (given f) e = absurd (owner-nobody h (owner-read afi nlri f e))
-    go (refused n) e = s-pmsi-number afi nlri n e .0
-nobody-refused afi (match router source group output) h = go (readMatch afi router source group output) refl
-  where
-    go : (o : Outcome Query) → readMatch afi router source group output ≡ o → numberOf o ≢ DONE
-    go (given q) e = absurd (owner-nobody h (match-owner afi router source group output (query-router afi router source group output q e .1)))
-    go (refused n) e = match-number afi router source group output n e .0

@@ -5,38 +5,39 @@ use mathlib.Core.Bool.{Bool, false}
 use mathlib.Core.List.{List, [], _∷_, _++_}
 use Rattle.octets.specs.Numbers.{DONE, ABSENT}
 use Rattle.octets.specs.Choice.{pick, either}
-use Rattle.octets.specs.Outcome.{given, onOutcome, andThen}
+use Rattle.octets.specs.Outcome.{onOutcome}
 use Rattle.octets.specs.Order.{same}
-use Rattle.routes.specs.declared.Matched.{Matched}
+use Rattle.routes.specs.Lists.{chosen}
 use Rattle.routes.specs.Route.{Route, nlriOf, holds, removed}
-use Rattle.routes.specs.Arguments.{readSPmsi, readRoute, readMatch}
 use Rattle.routes.specs.Matching.{matchIn}
-use Rattle.routes.specs.Calls.{Changed, NEW, REPLACED, installedOf, matchedBy}
-use Rattle.routes.specs.Call.{Call, install, withdraw, match, Answer, installed, withdrawn, matched, Owner, nobody, owner, ownerOf, owns, refusalOf, refusalAnswer}
+use Rattle.routes.specs.Calls.{NEW, REPLACED, foundAnswer, foundOutput}
+use Rattle.routes.specs.Call.{Call, Answer, installed, withdrawn, matched, Owner, nobody, owner, ownerOf, owns, isNobody, Act, enter, leave, ask, argued, refusalOf, refusalAnswer}
 
 -- a book with an NLRI given this attribute
 unfoldable pub entered : Route → List Route → List Route
 entered r [] = r ∷ []
 entered r (q ∷ rs) = pick (same (nlriOf r) (nlriOf q)) (r ∷ rs) (q ∷ entered r rs)
 
--- a match's answer as an answer
-unfoldable pub matchAnswer : Changed Matched → Answer
-matchAnswer changed = matched (changed .answer) (changed .octets)
+-- what a book answers to an act. Install: DONE, "replaced" if the book held the NLRI, else "new"; withdrawal: DONE, ABSENT if the book does
+-- not hold it; match: by the rule over the book's routes
+unfoldable pub actAnswer : (afi : ℕ) (book : List Route) → Act → Answer
+actAnswer afi book (enter r) = installed (record { number = DONE; outcome = pick (holds (nlriOf r) book) REPLACED NEW })
+actAnswer afi book (leave nlri) = withdrawn (pick (holds nlri book) DONE ABSENT)
+actAnswer afi book (ask q output) = matched (foundAnswer (matchIn afi q book)) (foundOutput (matchIn afi q book) output)
 
--- what a book answers to a call: the first refusal that arguments and family cause; else
--- install: DONE, "replaced" if the book held the NLRI, else "new"; withdrawal: DONE, ABSENT if the book does not hold it;
--- match: by the rule over the book's routes
+-- the book after an act: an install gives the NLRI this attribute, a withdrawal takes the NLRI out, a match leaves the book
+unfoldable pub actAfter : (book : List Route) → Act → List Route
+actAfter book (enter r) = entered r book
+actAfter book (leave nlri) = removed nlri book
+actAfter book (ask q output) = book
+
+-- what a book answers to a call: the first refusal that arguments and family cause, else what it answers to the act
 unfoldable pub bookAnswer : (afi : ℕ) (book : List Route) → Call → Answer
-bookAnswer afi book (install nlri attribute) = installed (installedOf (andThen (readRoute afi nlri attribute) (λ r. given (pick (holds nlri book) REPLACED NEW))))
-bookAnswer afi book (withdraw nlri) = withdrawn (onOutcome (λ number. number) (λ f. pick (holds nlri book) DONE ABSENT) (readSPmsi afi nlri))
-bookAnswer afi book (match router source group output) =
-    matchAnswer (matchedBy (andThen (readMatch afi router source group output) (λ q. given (matchIn afi q book))) output)
+bookAnswer afi book c = onOutcome (refusalAnswer c) (actAnswer afi book) (argued afi c)
 
--- the book afterwards: a refusal and a match leave it, a withdrawal takes the NLRI out
+-- the book afterwards: a refusal leaves it
 unfoldable pub bookAfter : (afi : ℕ) (book : List Route) → Call → List Route
-bookAfter afi book (install nlri attribute) = onOutcome (λ number. book) (λ r. entered r book) (readRoute afi nlri attribute)
-bookAfter afi book (withdraw nlri) = onOutcome (λ number. book) (λ f. removed nlri book) (readSPmsi afi nlri)
-bookAfter afi book (match router source group output) = book
+bookAfter afi book c = onOutcome (λ number. book) (actAfter book) (argued afi c)
 
 -- a book fed calls, in order
 unfoldable pub fed : (afi : ℕ) (book : List Route) → List Call → List Route
@@ -44,9 +45,12 @@ fed afi book [] = book
 fed afi book (c ∷ cs) = fed afi (bookAfter afi book c) cs
 
 -- a router's own calls, in order
-unfoldable pub ownCalls : (afi : ℕ) (router : List ℕ) → List Call → List Call
-ownCalls afi router [] = []
-ownCalls afi router (c ∷ cs) = pick (owns afi router c) (c ∷ ownCalls afi router cs) (ownCalls afi router cs)
+abbrev pub ownCalls : (afi : ℕ) (router : List ℕ) → List Call → List Call
+ownCalls afi router calls = chosen (owns afi router) calls
+
+-- the calls of nobody, in order
+abbrev pub nobodysCalls : ℕ → List Call → List Call
+nobodysCalls afi calls = chosen (λ c. isNobody (ownerOf afi c)) calls
 
 -- a router's book after calls of all routers: it is fed that router's calls, and holds nothing at first
 unfoldable pub bookOf : (afi : ℕ) (router : List ℕ) → List Call → List Route

@@ -1,15 +1,16 @@
 -- Calls and answers, as lists of mixed calls have them (document 01, "Mixed calls and each router's book").
 use Prim.Native.Nat.{ℕ}
-use mathlib.Core.Bool.{Bool, false}
+use mathlib.Core.Bool.{Bool, true, false}
 use mathlib.Core.List.{List}
 use lib.ListN.{length}
 use Rattle.octets.specs.Choice.{pick}
-use Rattle.octets.specs.Outcome.{refused, onOutcome, numberOf}
+use Rattle.octets.specs.Outcome.{Outcome, given, refused, onOutcome, andThen, numberOf}
 use Rattle.octets.specs.Order.{same}
 use Rattle.nlri.specs.Family.{originatorSize}
 use Rattle.routes.specs.declared.Installed.{Installed}
 use Rattle.routes.specs.declared.Matched.{Matched}
-use Rattle.routes.specs.Arguments.{readSPmsi, readRoute, readMatch}
+use Rattle.routes.specs.Route.{Route}
+use Rattle.routes.specs.Arguments.{Query, readSPmsi, readRoute, readMatch}
 use Rattle.routes.specs.Calls.{installedOf, refusedMatch}
 
 -- a call with every argument whole; a match with what its output holds beforehand
@@ -45,14 +46,29 @@ ownedBy router nobody = false
 ownedBy router (owner other) = same router other
 
 -- a call is one of a router's own
-unfoldable pub owns : (afi : ℕ) (router : List ℕ) → Call → Bool
+abbrev pub owns : (afi : ℕ) (router : List ℕ) → Call → Bool
 owns afi router call = ownedBy router (ownerOf afi call)
 
--- the first refusal in a call's order that its arguments and the table's family cause; DONE where they cause none
+-- the owner of a call of nobody
+unfoldable pub isNobody : Owner → Bool
+isNobody nobody = true
+isNobody (owner router) = false
+
+-- what a call does where its arguments are accepted: a route is entered, an NLRI leaves, a query is asked
+pub data Act : Type 0 where
+  enter : Route → Act
+  leave : (nlri : List ℕ) → Act
+  ask : Query → (output : List ℕ) → Act
+
+-- what a call's arguments and the table's family come to: the call's act, or the first refusal in its order that they cause
+unfoldable pub argued : ℕ → Call → Outcome Act
+argued afi (install nlri attribute) = andThen (readRoute afi nlri attribute) (λ r. given (enter r))
+argued afi (withdraw nlri) = andThen (readSPmsi afi nlri) (λ f. given (leave nlri))
+argued afi (match router source group output) = andThen (readMatch afi router source group output) (λ q. given (ask q output))
+
+-- that refusal; DONE where they cause none
 unfoldable pub refusalOf : ℕ → Call → ℕ
-refusalOf afi (install nlri attribute) = numberOf (readRoute afi nlri attribute)
-refusalOf afi (withdraw nlri) = numberOf (readSPmsi afi nlri)
-refusalOf afi (match router source group output) = numberOf (readMatch afi router source group output)
+refusalOf afi call = numberOf (argued afi call)
 
 -- what a call that is refused with a number answers
 unfoldable pub refusalAnswer : Call → ℕ → Answer

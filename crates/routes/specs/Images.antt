@@ -7,7 +7,8 @@ use mathlib.Core.Logic.{_↔_, _⊎_}
 use lib.ListN.{length}
 use Rattle.octets.specs.Numbers.{DONE}
 use Rattle.octets.specs.Octets.{AllOctets}
-use Rattle.routes.specs.Route.{Route, Member, Increasing}
+use Rattle.routes.specs.Lists.{Among}
+use Rattle.routes.specs.Route.{Route, Increasing}
 use Rattle.routes.specs.Place.{AllAcceptable}
 use Rattle.routes.specs.Table.{imageOf, afiIn, placesIn, routesOf, soundOf}
 use Rattle.routes.specs.Calls.{makeOf}
@@ -40,6 +41,6 @@ pub record Images : Type 0 where
   pub imaged : (afi places : ℕ) (rs : List Route) → Holdable afi places rs → TableOf afi places rs (imageOf afi places rs)
   -- one set of routes, one image: sound tables of one family and size that hold the same routes are equal octet for octet
   pub one : (t u : List ℕ) → AllOctets t → AllOctets u → soundOf t ≡ true → soundOf u ≡ true → afiIn t ≡ afiIn u → length t ≡ length u
-      → ((r : Route) → Member r (routesOf t) ↔ Member r (routesOf u)) → t ≡ u
+      → ((r : Route) → Among r (routesOf t) ↔ Among r (routesOf u)) → t ≡ u
   -- what making a table writes is the image of no routes
   pub made : (afi : ℕ) (memory : List ℕ) → makeOf afi memory .answer ≡ DONE → makeOf afi memory .octets ≡ imageOf afi (placesIn memory) []

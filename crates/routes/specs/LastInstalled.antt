@@ -9,7 +9,8 @@ use lib.Dec.{eqb}
 use Rattle.octets.specs.Numbers.{DONE}
 use Rattle.octets.specs.Choice.{pick, both}
 use Rattle.octets.specs.Order.{same}
-use Rattle.routes.specs.Route.{route, Held, absent, held, lookup, Member}
+use Rattle.routes.specs.Lists.{Among}
+use Rattle.routes.specs.Route.{route, Held, absent, held, lookup}
 use Rattle.routes.specs.Table.{imageOf, afiIn, placesIn, routesOf, soundOf}
 use Rattle.routes.specs.Calls.{makeOf}
 use Rattle.routes.specs.Call.{Call, install, withdraw, match, Answer, installed, withdrawn, matched}
@@ -34,16 +35,15 @@ leftBy (install nlri attribute) = held attribute
 leftBy (withdraw nlri) = absent
 leftBy (match router source group output) = absent
 
--- what calls with their answers leave of an NLRI of which this was held: an accepted install sets it, an accepted withdrawal clears it,
--- every other call leaves it
-unfoldable pub lastFrom : (nlri : List ℕ) → Held → List Call → List Step → Held
-lastFrom nlri h [] steps = h
-lastFrom nlri h (c ∷ cs) [] = h
-lastFrom nlri h (c ∷ cs) (step ∷ steps) = lastFrom nlri (pick (decides nlri c (step .answer)) (leftBy c) h) cs steps
+-- what a run leaves of an NLRI of which this was held: an accepted install sets it, an accepted withdrawal clears it, every other call
+-- leaves it
+unfoldable pub lastFrom : (nlri : List ℕ) → Held → List Step → Held
+lastFrom nlri h [] = h
+lastFrom nlri h (step ∷ steps) = lastFrom nlri (pick (decides nlri (step .call) (step .answer)) (leftBy (step .call)) h) steps
 
 -- the same, of which nothing was held
-unfoldable pub lastOf : (nlri : List ℕ) → List Call → List Step → Held
-lastOf nlri calls steps = lastFrom nlri absent calls steps
+unfoldable pub lastOf : (nlri : List ℕ) → List Step → Held
+lastOf nlri steps = lastFrom nlri absent steps
 
 -- none of the calls on a table is an accepted install or withdrawal of the NLRI
 abbrev pub Undecided : (nlri t : List ℕ) → List Call → Type 0
@@ -64,9 +64,9 @@ pub record Kept (afi : ℕ) (memory : List ℕ) (calls : List Call) : Type 0 whe
   pub family : afiIn (endOf (makeOf afi memory .octets) calls) ≡ afi
   pub size : length (endOf (makeOf afi memory .octets) calls) ≡ length memory
   pub image : endOf (makeOf afi memory .octets) calls ≡ imageOf afi (placesIn memory) (routesOf (endOf (makeOf afi memory .octets) calls))
-  pub lookups : (nlri : List ℕ) → lookup nlri (routesOf (endOf (makeOf afi memory .octets) calls)) ≡ lastOf nlri calls (runFrom (makeOf afi memory .octets) calls)
+  pub lookups : (nlri : List ℕ) → lookup nlri (routesOf (endOf (makeOf afi memory .octets) calls)) ≡ lastOf nlri (runFrom (makeOf afi memory .octets) calls)
   pub exactly : (nlri attribute : List ℕ)
-      → Member (route nlri attribute) (routesOf (endOf (makeOf afi memory .octets) calls)) ↔ LastInstall nlri attribute (makeOf afi memory .octets) calls
+      → Among (route nlri attribute) (routesOf (endOf (makeOf afi memory .octets) calls)) ↔ LastInstall nlri attribute (makeOf afi memory .octets) calls
 
 -- a table after calls, on any list of calls
 pub record LastInstalled : Type 0 where

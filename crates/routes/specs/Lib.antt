@@ -1,5 +1,6 @@
 -- Route tables, in document 01's order: arguments, the table memory, which route a flow takes, the calls on octets, and each
 -- router's book.
+pub mod Lists
 pub mod Route
 pub mod Arguments
 pub mod Place
@@ -14,6 +15,6 @@ pub mod Images
 pub mod CallRules
 pub mod LastInstalled
 pub mod MatchRule
-pub mod Occurrences
+pub mod BookRules
 pub mod MixedCalls
 pub mod Examples

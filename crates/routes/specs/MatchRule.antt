@@ -12,7 +12,8 @@ use Rattle.octets.specs.Order.{before}
 use Rattle.nlri.specs.Fields.{Fields}
 use Rattle.nlri.specs.Statements.{Multicast, SourceSpecific}
 use Rattle.routes.specs.declared.Matched.{Matched}
-use Rattle.routes.specs.Route.{Route, nlriOf, attributeOf, Member, Distinct}
+use Rattle.routes.specs.Lists.{Among}
+use Rattle.routes.specs.Route.{Route, nlriOf, attributeOf, Distinct}
 use Rattle.routes.specs.Arguments.{Query, readSPmsi, readFlow}
 use Rattle.routes.specs.Table.{afiIn, routesOf, soundOf}
 use Rattle.routes.specs.Matching.{nothing, found, matchIn}
@@ -44,20 +45,20 @@ pub record Eligible (afi : ℕ) (router source group : List ℕ) (tier : ℕ) (r
 
 -- the route that a flow takes of some routes, with its tier
 pub record Taken (afi : ℕ) (router source group : List ℕ) (rs : List Route) (tier : ℕ) (r : Route) : Type 0 where
-  pub member : Member r rs
+  pub member : Among r rs
   pub eligible : Eligible afi router source group tier r
   -- no candidate meets the condition of a lower tier
-  pub lowest : (other : ℕ) (u : Route) → other < tier → Member u rs → Eligible afi router source group other u → ⊥
+  pub lowest : (other : ℕ) (u : Route) → other < tier → Among u rs → Eligible afi router source group other u → ⊥
   -- none of its tier has a lower route distinguisher, compared as eight octets
-  pub first : (u : Route) → Member u rs → (e : Eligible afi router source group tier u)
+  pub first : (u : Route) → Among u rs → (e : Eligible afi router source group tier u)
       → before (e .candidate .fields .distinguisher) (eligible .candidate .fields .distinguisher) ≡ false
   -- it is the only route of that tier and route distinguisher
-  pub only : (u : Route) → Member u rs → (e : Eligible afi router source group tier u)
+  pub only : (u : Route) → Among u rs → (e : Eligible afi router source group tier u)
       → e .candidate .fields .distinguisher ≡ eligible .candidate .fields .distinguisher → u ≡ r
 
 -- no candidate meets the condition of any tier
 abbrev pub NoneTaken : (afi : ℕ) (router source group : List ℕ) (rs : List Route) → Type 0
-NoneTaken afi router source group rs = (tier : ℕ) (u : Route) → Member u rs → Eligible afi router source group tier u → ⊥
+NoneTaken afi router source group rs = (tier : ℕ) (u : Route) → Among u rs → Eligible afi router source group tier u → ⊥
 
 -- a route told: its tier and sizes as numbers; its NLRI and its attribute at the front of the output, one straight after the other, at
 -- most 124 octets; every octet past them as it was

@@ -2,22 +2,22 @@
 use Prim.Native.Nat.{ℕ}
 use mathlib.Core.Path.{_≡_}
 use mathlib.Core.List.{List, [], _∷_, _++_}
-use mathlib.Core.Logic.{_↔_, _≢_}
+use mathlib.Core.Logic.{_≢_}
 use Rattle.octets.specs.Numbers.{DONE}
 use Rattle.octets.specs.Order.{zeros}
 use Rattle.routes.specs.Table.{placesIn}
 use Rattle.routes.specs.Calls.{makeOf}
 use Rattle.routes.specs.Call.{Call, install, nobody, ownerOf, refusalOf, refusalAnswer}
-use Rattle.routes.specs.Book.{ownCalls, bookOf, distinct, routersOf}
-use Rattle.routes.specs.Run.{stepOf, runFrom, endOf, imageOfBooks, dueFrom, Fits}
-use Rattle.routes.specs.Occurrences.{Among, Rearranged, Occurrence, occurrencesOf, callsOf, ownOccurrences, Answered, answersOf, ownAnswers, inTurn}
+use Rattle.routes.specs.Book.{ownCalls, nobodysCalls, bookOf, distinct, routersOf}
+use Rattle.routes.specs.Run.{stepOf, runFrom, answersIn, ownAnswers, endOf, imageOfBooks, dueFrom, Fits}
+use Rattle.routes.specs.Lists.{Rearranged}
+use Rattle.routes.specs.BookRules.{OwnerRule, PremiseRule, BookRule}
 
 -- a router's own calls get the answers that they get in a run of their own on the same table, as if no other router had called
 pub record Alone (afi places : ℕ) (table : List ℕ) (calls : List Call) (router : List ℕ) : Type 0 where
   -- the premise holds of that run too
   pub fits : Fits afi places (ownCalls afi router calls)
-  pub own : callsOf (ownOccurrences afi router (occurrencesOf calls)) ≡ ownCalls afi router calls
-  pub answers : ownAnswers afi router (answersOf table (occurrencesOf calls)) ≡ answersOf table (ownOccurrences afi router (occurrencesOf calls))
+  pub answers : ownAnswers afi router (runFrom table calls) ≡ answersIn (runFrom table (ownCalls afi router calls))
 
 -- a call of nobody after others is refused, with the first refusal that its arguments and the family cause; it changes no book and no octet
 pub record OfNobody (afi : ℕ) (table : List ℕ) (earlier : List Call) (call : Call) : Type 0 where
@@ -27,18 +27,27 @@ pub record OfNobody (afi : ℕ) (table : List ℕ) (earlier : List Call) (call :
   pub octets : stepOf (endOf table earlier) call .octets ≡ endOf table earlier
 
 -- the same calls in another order that keeps each router's own; nobody's stand anywhere
-pub record Reordered (afi : ℕ) (calls : List Call) (others : List Occurrence) : Type 0 where
-  pub rearranged : Rearranged (occurrencesOf calls) others
-  pub kept : (router : List ℕ) → ownOccurrences afi router others ≡ ownOccurrences afi router (occurrencesOf calls)
+pub record Reordered (afi : ℕ) (calls others : List Call) : Type 0 where
+  pub rearranged : Rearranged calls others
+  pub kept : (router : List ℕ) → ownCalls afi router others ≡ ownCalls afi router calls
 
--- in another order each call, nobody's included, gets the same answer, and the table octets at the end are the same
-pub record Alike (afi places : ℕ) (table : List ℕ) (calls : List Call) (others : List Occurrence) : Type 0 where
+-- in another order the calls, nobody's included, get the same answers, each router's own in the same order, and the table octets at the end
+-- are the same
+pub record Alike (afi places : ℕ) (table : List ℕ) (calls others : List Call) : Type 0 where
   -- the premise holds of that order too
-  pub fits : Fits afi places (callsOf others)
-  -- the same occurrences with the same answers
-  pub answers : Rearranged (answersOf table (occurrencesOf calls)) (answersOf table others)
-  pub each : (a : Answered) → Among a (answersOf table (occurrencesOf calls)) ↔ Among a (answersOf table others)
-  pub end : endOf table (callsOf others) ≡ endOf table calls
+  pub fits : Fits afi places others
+  pub answers : Rearranged (answersIn (runFrom table calls)) (answersIn (runFrom table others))
+  pub own : (router : List ℕ) → ownAnswers afi router (runFrom table others) ≡ ownAnswers afi router (runFrom table calls)
+  pub end : endOf table others ≡ endOf table calls
+
+-- each of these routers' own calls, one router after another
+unfoldable pub turns : ℕ → (routers : List (List ℕ)) → List Call → List Call
+turns afi [] calls = []
+turns afi (router ∷ routers) calls = ownCalls afi router calls ++ turns afi routers calls
+
+-- one router after another, and then nobody's calls
+abbrev pub inTurn : ℕ → (routers : List (List ℕ)) → List Call → List Call
+inTurn afi routers calls = turns afi routers calls ++ nobodysCalls afi calls
 
 -- what holds of calls on a table just made
 pub record Claim (afi places : ℕ) (table : List ℕ) (calls : List Call) : Type 0 where
@@ -46,21 +55,20 @@ pub record Claim (afi places : ℕ) (table : List ℕ) (calls : List Call) : Typ
   -- all books together
   pub due : runFrom table calls ≡ dueFrom afi places [] calls
   pub end : endOf table calls ≡ imageOfBooks afi places calls
+  pub books : BookRule afi places calls
   pub alone : (router : List ℕ) → Alone afi places table calls router
   pub nobodys : (earlier later : List Call) (call : Call) → calls ≡ earlier ++ (call ∷ later) → ownerOf afi call ≡ nobody → OfNobody afi table earlier call
-  -- occurrences are those of the calls
-  pub occurrences : callsOf (occurrencesOf calls) ≡ calls
-  pub anyOrder : (others : List Occurrence) → Reordered afi calls others → Alike afi places table calls others
+  pub anyOrder : (others : List Call) → Reordered afi calls others → Alike afi places table calls others
   -- one router after another is such an order, whichever router comes first
   pub turn : (routers : List (List ℕ)) → Rearranged (distinct (routersOf afi calls)) routers → Reordered afi calls (inTurn afi routers calls)
-  pub turned : (routers : List (List ℕ)) → Rearranged (distinct (routersOf afi calls)) routers → Alike afi places table calls (inTurn afi routers calls)
 
 -- demand 3: every list of calls on a table just made, of either family and any number of places, whose installs together name no more
 -- different well-formed S-PMSI NLRIs than there are places
-abbrev pub MixedCalls : Type 0
-MixedCalls =
-    (afi : ℕ) (memory : List ℕ) (calls : List Call) → makeOf afi memory .answer ≡ DONE → Fits afi (placesIn memory) calls
-    → Claim afi (placesIn memory) (makeOf afi memory .octets) calls
+pub record MixedCalls : Type 0 where
+  pub owners : OwnerRule
+  pub premise : PremiseRule
+  pub claim : (afi : ℕ) (memory : List ℕ) (calls : List Call) → makeOf afi memory .answer ≡ DONE → Fits afi (placesIn memory) calls
+      → Claim afi (placesIn memory) (makeOf afi memory .octets) calls
 
 -- (C-*,C-*) of the router 10.0.0.n, route distinguisher 100:7
 unfoldable pub anySource : ℕ → List ℕ

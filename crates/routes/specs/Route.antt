@@ -52,11 +52,6 @@ unfoldable pub removed : List ℕ → List Route → List Route
 removed nlri [] = []
 removed nlri (q ∷ rs) = pick (same nlri (nlriOf q)) rs (q ∷ removed nlri rs)
 
--- a route is among routes
-pub data Member (r : Route) : List Route → Type 0 where
-  here : {rs : List Route} → Member r (r ∷ rs)
-  there : {q : Route} {rs : List Route} → Member r rs → Member r (q ∷ rs)
-
 -- no two routes have the same NLRI
 pub data Distinct : List Route → Type 0 where
   none : Distinct []

@@ -3,28 +3,48 @@ use Prim.Native.Nat.{ℕ, _≤_}
 use mathlib.Core.List.{List, [], _∷_, _++_}
 use lib.ListN.{length}
 use Rattle.octets.specs.Outcome.{onOutcome}
+use Rattle.routes.specs.Lists.{chosen}
 use Rattle.routes.specs.Route.{arranged}
 use Rattle.routes.specs.Arguments.{readSPmsi}
 use Rattle.routes.specs.Table.{imageOf}
 use Rattle.routes.specs.Calls.{installOf, withdrawOf, matchOf}
-use Rattle.routes.specs.Call.{Call, install, withdraw, match, Answer, installed, withdrawn}
-use Rattle.routes.specs.Book.{matchAnswer, distinct, allBooks, dueAnswer}
+use Rattle.routes.specs.Call.{Call, install, withdraw, match, Answer, installed, withdrawn, matched, owns}
+use Rattle.routes.specs.Book.{distinct, allBooks, dueAnswer}
 
--- an answer, and the table octets after the call
+-- a call, its answer, and the table octets after it
 pub record Step : Type 0 where
+  pub call : Call
   pub answer : Answer
   pub octets : List ℕ
 
 -- a call on a table: for each kind of call, the definition that its contract cites
 unfoldable pub stepOf : List ℕ → Call → Step
-stepOf t (install nlri attribute) = record { answer = installed (installOf t nlri attribute .answer); octets = installOf t nlri attribute .octets }
-stepOf t (withdraw nlri) = record { answer = withdrawn (withdrawOf t nlri .answer); octets = withdrawOf t nlri .octets }
-stepOf t (match router source group output) = record { answer = matchAnswer (matchOf t router source group output); octets = t }
+stepOf t (install nlri attribute) = record { call = install nlri attribute; answer = installed (installOf t nlri attribute .answer); octets = installOf t nlri attribute .octets }
+stepOf t (withdraw nlri) = record { call = withdraw nlri; answer = withdrawn (withdrawOf t nlri .answer); octets = withdrawOf t nlri .octets }
+stepOf t (match router source group output) =
+    record { call = match router source group output; answer = matched (matchOf t router source group output .answer) (matchOf t router source group output .octets); octets = t }
 
 -- calls one after the other, each on the octets that the last one left
 unfoldable pub runFrom : List ℕ → List Call → List Step
 runFrom t [] = []
 runFrom t (c ∷ cs) = stepOf t c ∷ runFrom (stepOf t c .octets) cs
+
+-- a call with its answer
+pub data Answered : Type 0 where
+  answered : Call → Answer → Answered
+
+-- its call
+unfoldable pub callIn : Answered → Call
+callIn (answered c answer) = c
+
+-- each call of a run with its answer, in order
+unfoldable pub answersIn : List Step → List Answered
+answersIn [] = []
+answersIn (step ∷ steps) = answered (step .call) (step .answer) ∷ answersIn steps
+
+-- the answers to a router's own calls, in order
+abbrev pub ownAnswers : (afi : ℕ) (router : List ℕ) → List Step → List Answered
+ownAnswers afi router steps = chosen (λ a. owns afi router (callIn a)) (answersIn steps)
 
 -- the table octets after all of them
 unfoldable pub endOf : List ℕ → List Call → List ℕ
@@ -35,18 +55,25 @@ endOf t (c ∷ cs) = endOf (stepOf t c .octets) cs
 unfoldable pub imageOfBooks : (afi places : ℕ) → List Call → List ℕ
 imageOfBooks afi places calls = imageOf afi places (arranged (allBooks afi calls))
 
--- what is due to calls that come after others: each one's due answer, and the image of all books
+-- what is due to a call that comes after others: its due answer, and the image of all books
+unfoldable pub dueStep : (afi places : ℕ) (earlier : List Call) → Call → Step
+dueStep afi places earlier c = record { call = c; answer = dueAnswer afi earlier c; octets = imageOfBooks afi places (earlier ++ (c ∷ [])) }
+
+-- and to calls one after the other
 unfoldable pub dueFrom : (afi places : ℕ) (earlier : List Call) → List Call → List Step
 dueFrom afi places earlier [] = []
-dueFrom afi places earlier (c ∷ cs) =
-    record { answer = dueAnswer afi earlier c; octets = imageOfBooks afi places (earlier ++ (c ∷ [])) } ∷ dueFrom afi places (earlier ++ (c ∷ [])) cs
+dueFrom afi places earlier (c ∷ cs) = dueStep afi places earlier c ∷ dueFrom afi places (earlier ++ (c ∷ [])) cs
 
--- the well-formed S-PMSI NLRIs that installs name, refused installs included
+-- the well-formed S-PMSI NLRI that an install names, a refused one included
+unfoldable pub namedIn : ℕ → Call → List (List ℕ)
+namedIn afi (install nlri attribute) = onOutcome (λ number. []) (λ f. nlri ∷ []) (readSPmsi afi nlri)
+namedIn afi (withdraw nlri) = []
+namedIn afi (match router source group output) = []
+
+-- those that calls name
 unfoldable pub namedBy : ℕ → List Call → List (List ℕ)
 namedBy afi [] = []
-namedBy afi (install nlri attribute ∷ cs) = onOutcome (λ number. namedBy afi cs) (λ f. nlri ∷ namedBy afi cs) (readSPmsi afi nlri)
-namedBy afi (withdraw nlri ∷ cs) = namedBy afi cs
-namedBy afi (match router source group output ∷ cs) = namedBy afi cs
+namedBy afi (c ∷ cs) = namedIn afi c ++ namedBy afi cs
 
 -- all installs together name no more different well-formed S-PMSI NLRIs than there are places
 abbrev pub Fits : (afi places : ℕ) → List Call → Type 0

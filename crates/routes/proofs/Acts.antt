@@ -1,0 +1,62 @@
+-- What calls come to by their arguments: whose act it is, and what is known of it.
+use Prim.Native.Nat.{ℕ}
+use mathlib.Core.Path.{_≡_, refl, ap, subst, _∙_}
+use mathlib.Core.Bool.{true}
+use mathlib.Core.List.{List}
+use mathlib.Core.Logic.{_≢_}
+use Rattle.octets.specs.Numbers.{DONE}
+use Rattle.octets.specs.Outcome.{Outcome, given, refused, onOutcome, numberOf}
+use Rattle.octets.proofs.Inversions.{given-same, passed}
+use Rattle.routes.specs.Lists.{Among, first}
+use Rattle.routes.specs.Route.{Route, nlriOf}
+use Rattle.routes.specs.Arguments.{Query}
+use Rattle.routes.specs.Place.{acceptable}
+use Rattle.routes.specs.Call.{Call, install, withdraw, match, nobody, owner, originatorOf, ownerOf, Act, enter, leave, ask, argued, refusalOf}
+use Rattle.routes.specs.Run.{namedIn}
+use Rattle.routes.proofs.Bounds.{route-read}
+use Rattle.routes.proofs.ByArguments.{argued-number}
+use Rattle.routes.proofs.Ownership.{route-accepted, route-acceptable, owner-read, owner-nobody, match-owner, query-router}
+
+-- what is known of an act that a router's call comes to
+pub data Known (afi : ℕ) (c : Call) (router : List ℕ) : Act → Type 0 where
+  enters : {r : Route} → acceptable afi r ≡ true → originatorOf afi (nlriOf r) ≡ owner router → Among (nlriOf r) (namedIn afi c) → Known afi c router (enter r)
+  leaves : {nlri : List ℕ} → originatorOf afi nlri ≡ owner router → Known afi c router (leave nlri)
+  asks : {q : Query} {output : List ℕ} → q .router ≡ router → Known afi c router (ask q output)
+
+-- an act is a router's
+pub record Owned (afi : ℕ) (c : Call) (act : Act) : Type 0 where
+  pub router : List ℕ
+  pub own : ownerOf afi c ≡ owner router
+  pub known : Known afi c router act
+
+pub owned : (afi : ℕ) (c : Call) (act : Act) → argued afi c ≡ given act → Owned afi c act
+unfolding argued ownerOf namedIn onOutcome nlriOf
+owned afi (install nlri attribute) act e =
+    let p = passed _ _ _ e in
+    let a = route-accepted afi nlri attribute (p .value) (p .first) in
+    let own : originatorOf afi nlri ≡ owner (a .fields .originator) = owner-read afi nlri (a .fields) (a .read) in
+    let is : nlriOf (p .value) ≡ nlri = ap nlriOf (route-read afi nlri attribute (p .value) (p .first)) in
+    subst (Owned afi (install nlri attribute)) (given-same (p .second))
+    (record { router = a .fields .originator; own = own; known = enters (route-acceptable afi nlri attribute (p .value) (p .first)) (ap (originatorOf afi) is ∙ own) (rw (a .read) (first is)) })
+owned afi (withdraw nlri) act e =
+    let p = passed _ _ _ e in
+    let own : originatorOf afi nlri ≡ owner (p .value .originator) = owner-read afi nlri (p .value) (p .first) in
+    subst (Owned afi (withdraw nlri)) (given-same (p .second)) (record { router = p .value .originator; own = own; known = leaves own })
+owned afi (match router source group output) act e =
+    let p = passed _ _ _ e in
+    let q = query-router afi router source group output (p .value) (p .first) in
+    subst (Owned afi (match router source group output)) (given-same (p .second))
+    (record { router = router; own = match-owner afi router source group output (q .1); known = asks (q .0) })
+
+-- by what arguments come to
+pub argued-cases : (P : Outcome Act → Type 0) (afi : ℕ) (c : Call) → ((n : ℕ) → argued afi c ≡ refused n → P (refused n)) → ((act : Act) → argued afi c ≡ given act → Owned afi c act → P (given act)) → P (argued afi c)
+argued-cases P afi c bad good = go (argued afi c) refl
+  where
+    go : (o : Outcome Act) → argued afi c ≡ o → P o
+    go (given act) e = good act e (owned afi c act e)
+    go (refused n) e = bad n e
+
+-- a call of nobody is refused with a number other than DONE
+pub nobody-refused : (afi : ℕ) (c : Call) → ownerOf afi c ≡ nobody → refusalOf afi c ≢ DONE
+unfolding refusalOf numberOf
+nobody-refused afi c h = argued-cases (λ (o : Outcome Act). numberOf o ≢ DONE) afi c (λ n e. argued-number afi c n e .0) (λ act e k. absurd (owner-nobody h (k .own)))
