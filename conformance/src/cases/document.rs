@@ -1,4 +1,4 @@
-//! Document 01's marked examples and the points settled beside it, with the answers written from the page.
+//! Document 01's marked examples and the points settled beside it, with the answers written from document 01.
 
 use super::{samples::BAD_AFIS, tables::OUTPUT};
 use crate::{
@@ -118,7 +118,7 @@ pub fn route(name: &str) -> (Vec<u8>, Vec<u8>) {
     named.map_or_else(Default::default, |(_, nlri, attribute)| (octets(&nlri.replace("RD", RD)), octets(attribute)))
 }
 
-/// The image of A to E in a table of six places, laid out from the page.
+/// The image of A to E in a table of six places, laid out from document 01.
 pub fn table_image() -> Vec<u8> {
     let places = ORDER.map(|name| {
         let (nlri, attribute) = route(name);
@@ -138,7 +138,7 @@ pub fn all(harness: &mut Harness) -> Checked {
     on_page("the listing's text", listed, LISTED_TEXT.to_string())
 }
 
-/// Checks an answer against the page.
+/// Checks an answer against document 01.
 fn on_page<Answer: PartialEq + std::fmt::Debug>(shows: &str, answer: Answer, page: Answer) -> Checked {
     match answer == page {
         true => Ok(()),

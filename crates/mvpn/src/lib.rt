@@ -6,9 +6,8 @@ ghost use Rattle.nlri.specs.Reading.{readNlri};
 ghost use Rattle.nlri.specs.Writing.{writeNlri};
 ghost use Rattle.nlri.specs.Walking.{stepFrom, stoppedAt, walkOf};
 ghost use Rattle.nlri.specs.Groups.{classOf, groupOf};
-ghost use Rattle.nlri.specs.Answers.{fieldsIn};
-ghost use Rattle.nlri.specs.Answers.{readAnswer as nlriAnswer};
-ghost use Rattle.tunnel.specs.Answers.{readAnswer, writeOutcome};
+ghost use Rattle.nlri.specs.Answers.{structFields, nlriAnswer};
+ghost use Rattle.tunnel.specs.Answers.{readStruct, writeOutcome};
 ghost use Rattle.routes.specs.Calls.{makeOf, installOf, withdrawOf, matchOf};
 ghost use Rattle.mvpn.specs.Answers.{stepAnswer, attributeGiven, attributeRefused, attributeAnswer};
 use nlri::Cursor;
@@ -55,8 +54,8 @@ pub extern "C" fn mvpn_nlri_read(afi: u16, nlri: &[u8]) -> NlriReading
 
 #[no_mangle]
 pub extern "C" fn mvpn_nlri_write(afi: u16, nlri: Nlri, key: &[u8], output: &mut [u8]) -> Written
-    ensures { λ r. ⌜ r ≡ writtenOf (writeNlri afi (fieldsIn nlri (now (key .entry))) (length (now (output .entry)))) ⌝ }
-    ensures { λ r. ⌜ now (output .exit) ≡ outputOf (writeNlri afi (fieldsIn nlri (now (key .entry))) (length (now (output .entry)))) (now (output .entry)) ⌝ }
+    ensures { λ r. ⌜ r ≡ writtenOf (writeNlri afi (structFields nlri (now (key .entry))) (length (now (output .entry)))) ⌝ }
+    ensures { λ r. ⌜ now (output .exit) ≡ outputOf (writeNlri afi (structFields nlri (now (key .entry))) (length (now (output .entry)))) (now (output .entry)) ⌝ }
 {
     nlri::write_nlri(afi, nlri, key, output)
 }
@@ -112,7 +111,7 @@ pub extern "C" fn mvpn_group_class(afi: u16, group: &[u8]) -> Group
 
 #[no_mangle]
 pub extern "C" fn mvpn_attribute_read(attribute: &[u8]) -> AttributeAnswer
-    ensures { λ r. ⌜ r ≡ attributeAnswer (readAnswer (now (attribute .entry))) ⌝ }
+    ensures { λ r. ⌜ r ≡ attributeAnswer (readStruct (now (attribute .entry))) ⌝ }
 {
     match tunnel::read(attribute) {
         Reading::Attribute(fields) => return read_answer(fields),

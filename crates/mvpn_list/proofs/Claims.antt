@@ -14,7 +14,7 @@ use Rattle.octets.specs.Octets.{part}
 use Rattle.octets.specs.Outcome.{onOutcome, andThen}
 use Rattle.octets.proofs.Outcomes.{pick-true}
 use Rattle.nlri.specs.declared.run.Walked.{Walked}
-use Rattle.nlri.specs.Family.{familyBits, allowed, originatorSize}
+use Rattle.nlri.specs.Family.{familyBits, allowed, isOriginatorSize}
 use Rattle.nlri.specs.Bodies.{bodies, onBody, fieldIn, sameKind, codeOf}
 use Rattle.nlri.specs.Reading.{fixedField, addressEnd, addressField, originatorField, fieldSize, sizesOf, laidWith, laidAt}
 use Rattle.nlri.specs.Layouts.{layoutOf, layoutAt}
@@ -101,5 +101,5 @@ marked = 3 ∷ 14 ∷ 0 ∷ 0 ∷ 0 ∷ 100 ∷ 0 ∷ 0 ∷ 0 ∷ 7 ∷ 0 ∷ 0 
 -- `0 3 14`, then `stop 16 2`
 pub marked-listing : listingOf marked
     ≡ headerLine ++ (48 ∷ 32 ∷ 51 ∷ 32 ∷ 49 ∷ 52 ∷ 10 ∷ 115 ∷ 116 ∷ 111 ∷ 112 ∷ 32 ∷ 49 ∷ 54 ∷ 32 ∷ 50 ∷ 10 ∷ [])
-unfolding listingOf linesOf linesFrom lineOf lastLine openingOf fieldOf decimalOf digitsWithin lastDigit stepFrom stepUnder readTo stoppedAt familyBits layoutAt laidAt laidWith bodies onBody sizesOf fieldSize fixedField addressField addressEnd originatorField originatorSize allowed layoutOf fieldIn sameKind codeOf part pick both either onOutcome andThen
+unfolding listingOf linesOf linesFrom lineOf lastLine openingOf fieldOf decimalOf digitsWithin lastDigit stepFrom stepUnder readTo stoppedAt familyBits layoutAt laidAt laidWith bodies onBody sizesOf fieldSize fixedField addressField addressEnd originatorField isOriginatorSize allowed layoutOf fieldIn sameKind codeOf part pick both either onOutcome andThen
 marked-listing = refl

@@ -10,8 +10,8 @@ use Rattle.nlri.specs.Walking.{stepFrom}
 abbrev pub lineFeed : ℕ
 lineFeed = 10
 
-abbrev pub space : ℕ
-space = 32
+abbrev pub blank : ℕ
+blank = 32
 
 -- the last digit of n
 unfoldable pub lastDigit : ℕ → ℕ
@@ -36,7 +36,7 @@ headerLine = 77 ∷ 86 ∷ 84 ∷ 32 ∷ 108 ∷ 105 ∷ 115 ∷ 116 ∷ 32 ∷ 
 
 -- offset, type, Length
 unfoldable pub lineOf : (offset type length : ℕ) → List ℕ
-lineOf offset type length = fieldOf offset space ++ (fieldOf type space ++ fieldOf length lineFeed)
+lineOf offset type length = fieldOf offset blank ++ (fieldOf type blank ++ fieldOf length lineFeed)
 
 -- `end ` where the number is 0, else `stop `
 unfoldable pub openingOf : ℕ → List ℕ
@@ -44,7 +44,7 @@ openingOf number = pick (eqb number DONE) (101 ∷ 110 ∷ 100 ∷ 32 ∷ []) (1
 
 -- offset and number, opened
 unfoldable pub lastLine : (number offset : ℕ) → List ℕ
-lastLine number offset = openingOf number ++ (fieldOf offset space ++ fieldOf number lineFeed)
+lastLine number offset = openingOf number ++ (fieldOf offset blank ++ fieldOf number lineFeed)
 
 -- at most so many steps on from a cursor (document 01, "NLRI on the wire", walking a run): a line for each NLRI read, and the last line at the first stop
 unfoldable pub linesFrom : ℕ → List ℕ → ℕ → List ℕ

@@ -12,10 +12,10 @@ use Rattle.octets.specs.Outcome.{given, andThen}
 use Rattle.octets.specs.Octets.{AllOctets, part, numberIn, bigEndian}
 use Rattle.octets.proofs.Outcomes.{pick-true}
 use Rattle.octets.proofs.Tests.{goes}
-use Rattle.octets.proofs.Inversions.{only, passed, given-same, opposite}
+use Rattle.octets.proofs.Inversions.{given-unless, passed, given-same, opposite}
 use Rattle.octets.proofs.NetworkOrder.{number-of-big-endian}
 use Rattle.nlri.specs.Family.{familyBits}
-use Rattle.nlri.specs.Bodies.{Kind, distinguisher, sourceAs, source, group, originator, key, bodyOf, fieldIn, sameKind, has}
+use Rattle.nlri.specs.Bodies.{FieldKind, distinguisher, sourceAs, source, group, originator, key, bodyOf, fieldIn, sameKind, hasField}
 use Rattle.nlri.specs.Fields.{Fields, encodeAddress, encodeField, encodeBody, encodeNlri, WellFormedField, WellFormedBody, WellFormed, KeyOf, restricted}
 use Rattle.nlri.specs.Reading.{Laid, keyField, laidAt, laidSingle, cut, fieldsOf, readNlri}
 use Rattle.nlri.specs.Statements.{ReadAs, Acceptance}
@@ -34,21 +34,21 @@ keep true x none h = refl
 keep false x none h = sym (h refl)
 
 -- fields from pieces along a body have nothing where the body lacks the kind
-from-restricted : (type : ℕ) (body : List Kind) (pieces : List (List ℕ)) → body ≡ bodyOf type
+from-restricted : (type : ℕ) (body : List FieldKind) (pieces : List (List ℕ)) → body ≡ bodyOf type
     → restricted (fieldsFrom type (λ kind. fieldIn [] kind body pieces)) ≡ fieldsFrom type (λ kind. fieldIn [] kind body pieces)
 unfolding restricted numberIn
 from-restricted type body pieces e =
-    let none : (kind : Kind) → has kind (bodyOf type) ≡ false → fieldIn [] kind body pieces ≡ [] = λ kind h. lacks [] kind body pieces (ap (has kind) e ∙ h) in
+    let none : (kind : FieldKind) → hasField kind (bodyOf type) ≡ false → fieldIn [] kind body pieces ≡ [] = λ kind h. lacks [] kind body pieces (ap (hasField kind) e ∙ h) in
     fields-same refl (keep _ _ _ (none distinguisher)) (keep _ _ _ (λ h. ap (λ (x : List ℕ). numberIn x 0) (none sourceAs h))) (keep _ _ _ (λ h. ap (drop 1) (none source h)))
     (keep _ _ _ (λ h. ap (drop 1) (none group h))) (keep _ _ _ (none originator)) (keep _ _ _ (none key))
 
 -- a field of a well-formed body
-pub field-in-body : (Key : List ℕ → Type 0) (family : ℕ) (f : Fields) (kind : Kind) (body : List Kind) → WellFormedBody Key family f body → has kind body ≡ true → WellFormedField Key family f kind
-unfolding has either
+pub field-in-body : (Key : List ℕ → Type 0) (family : ℕ) (f : Fields) (kind : FieldKind) (body : List FieldKind) → WellFormedBody Key family f body → hasField kind body ≡ true → WellFormedField Key family f kind
+unfolding hasField either
 field-in-body Key family f kind [] w h = absurd (opposite h refl)
 field-in-body Key family f kind (k ∷ body) w h = go (sameKind kind k) refl h (λ later. field-in-body Key family f kind body (w .1) later)
   where
-    go : (b : Bool) → sameKind kind k ≡ b → either b (has kind body) ≡ true → (has kind body ≡ true → WellFormedField Key family f kind) → WellFormedField Key family f kind
+    go : (b : Bool) → sameKind kind k ≡ b → either b (hasField kind body) ≡ true → (hasField kind body ≡ true → WellFormedField Key family f kind) → WellFormedField Key family f kind
     go true same h later = subst (WellFormedField Key family f) (sym (same-kind kind k same)) (w .0)
     go false other h later = later h
 
@@ -68,8 +68,8 @@ from-encoded : (Key : List ℕ → Type 0) (family : ℕ) (f : Fields) → WellF
     → fieldsFrom (f .type) (λ kind. fieldIn [] kind (bodyOf (f .type)) (piecesOf f (bodyOf (f .type)))) ≡ restricted f
 unfolding restricted encodeField
 from-encoded Key family f w =
-    let body : List Kind = bodyOf (f .type) in
-    let at : (kind : Kind) → fieldIn [] kind body (piecesOf f body) ≡ pick (has kind body) (encodeField f kind) [] = λ kind. field-of-map [] (encodeField f) kind body in
+    let body : List FieldKind = bodyOf (f .type) in
+    let at : (kind : FieldKind) → fieldIn [] kind body (piecesOf f body) ≡ pick (hasField kind body) (encodeField f kind) [] = λ kind. field-of-map [] (encodeField f) kind body in
     fields-same refl (at distinguisher) (ap (λ (x : List ℕ). numberIn x 0) (at sourceAs) ∙ kept-number _ _ (field-in-body Key family f sourceAs body w))
     (ap (drop 1) (at source) ∙ kept-address _ _) (ap (drop 1) (at group) ∙ kept-address _ _) (at originator) (at key)
 
@@ -81,7 +81,7 @@ module _ (afi family : ℕ) (bits : familyBits afi ≡ given family) where
   unfolding laidSingle laidAt fieldsOf part
   single-sound s laid a e =
       let p = passed _ _ _ e in
-      let q = only _ _ _ _ (p .second) in
+      let q = given-unless _ _ _ _ (p .second) in
       let same : p .value ≡ laid = given-same (q .1) in
       let first : laidAt family s ≡ given laid = p .first ∙ ap given same in
       let size : length s - 2 ≡ laid .size = eqb-true _ _ (q .0) ∙ ap (λ (x : Laid). x .size) same in
@@ -102,7 +102,7 @@ module _ (afi family : ℕ) (bits : familyBits afi ≡ given family) where
   single-complete : (f : Fields) → WellFormed family f → andThen (laidSingle family (encodeNlri f)) (λ laid. given (fieldsOf laid (encodeNlri f))) ≡ given (restricted f)
   unfolding laidSingle laidAt fieldsOf encodeNlri
   single-complete f w =
-      let body : List Kind = bodyOf (f .type) in
+      let body : List FieldKind = bodyOf (f .type) in
       let laid : laidAt family (encodeNlri f) ≡ given (record { type = f .type; size = length (encodeBody f body); body = body; sizes = sizesIn f body }) =
       ap (laidAt family) (sym (append-nil (encodeNlri f))) ∙ laid-complete (keyField family) (KeyOf family) (key-judges family whole) family whole f [] (w .typed) (w .body) in
       let cuts : cut (sizesIn f body) (encodeBody f body) ≡ piecesOf f body = ap (cut (sizesIn f body)) (sym (append-nil (encodeBody f body))) ∙ cut-body f body [] in

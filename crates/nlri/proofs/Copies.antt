@@ -7,10 +7,10 @@ use lib.ListN.{length, getD, take, drop, replicate}
 use lib.Seq.{take-all, drop-cons}
 use Rattle.octets.specs.Octets.{part, sized}
 use Rattle.octets.proofs.Lists.{copied-sized, part-length}
-use Rattle.nlri.specs.Answers.{addressOf, distinguisherOf}
+use Rattle.nlri.specs.Answers.{addressStruct, distinguisherStruct}
 
-pub address-held : (held xs : List ℕ) (n : ℕ) → held ≡ take (length xs) xs ++ drop (length xs) (replicate 16 0) → n ≡ length xs → length xs ≤ 16 → record { octets = held; size = n } ≡ addressOf xs
-unfolding addressOf
+pub address-held : (held xs : List ℕ) (n : ℕ) → held ≡ take (length xs) xs ++ drop (length xs) (replicate 16 0) → n ≡ length xs → length xs ≤ 16 → record { octets = held; size = n } ≡ addressStruct xs
+unfolding addressStruct
 address-held held xs n e q h = λ i. record { octets = (e ∙ copied-sized 16 xs h) i; size = q i }
 
 -- so many octets from a place on, one by one
@@ -23,24 +23,24 @@ unfolding octetsFrom
 taken-octets at zero s h = refl
 taken-octets at (suc n) s h = ap (take (suc n)) (drop-cons s at 0 (omega arith)) ∙ ap (λ (rest : List ℕ). getD s at 0 ∷ rest) (taken-octets (suc at) n s (omega arith))
 
-pub ipv4-held : (s : List ℕ) → 4 ≤ length s → record { octets = octetsFrom 0 4 s ++ replicate 12 0; size = 4 } ≡ addressOf (take 4 s)
-unfolding addressOf sized octetsFrom
-ipv4-held s h = ap addressOf (sym (taken-octets 0 4 s h))
+pub ipv4-held : (s : List ℕ) → 4 ≤ length s → record { octets = octetsFrom 0 4 s ++ replicate 12 0; size = 4 } ≡ addressStruct (take 4 s)
+unfolding addressStruct sized octetsFrom
+ipv4-held s h = ap addressStruct (sym (taken-octets 0 4 s h))
 
-pub ipv6-held : (s : List ℕ) → 16 ≤ length s → record { octets = octetsFrom 0 16 s; size = 16 } ≡ addressOf (take 16 s)
-unfolding addressOf sized octetsFrom
-ipv6-held s h = ap addressOf (sym (taken-octets 0 16 s h))
+pub ipv6-held : (s : List ℕ) → 16 ≤ length s → record { octets = octetsFrom 0 16 s; size = 16 } ≡ addressStruct (take 16 s)
+unfolding addressStruct sized octetsFrom
+ipv6-held s h = ap addressStruct (sym (taken-octets 0 16 s h))
 
-pub distinguisher-held : (held xs : List ℕ) → held ≡ take (length xs) xs ++ drop (length xs) (replicate 8 0) → length xs ≤ 8 → record { octets = held } ≡ distinguisherOf xs
-unfolding distinguisherOf
+pub distinguisher-held : (held xs : List ℕ) → held ≡ take (length xs) xs ++ drop (length xs) (replicate 8 0) → length xs ≤ 8 → record { octets = held } ≡ distinguisherStruct xs
+unfolding distinguisherStruct
 distinguisher-held held xs e h = λ i. record { octets = (e ∙ copied-sized 8 xs h) i }
 
-pub no-address : record { octets = replicate 16 0; size = 0 } ≡ addressOf []
-unfolding addressOf sized
+pub no-address : record { octets = replicate 16 0; size = 0 } ≡ addressStruct []
+unfolding addressStruct sized
 no-address = refl
 
-pub no-distinguisher : record { octets = replicate 8 0 } ≡ distinguisherOf []
-unfolding distinguisherOf sized
+pub no-distinguisher : record { octets = replicate 8 0 } ≡ distinguisherStruct []
+unfolding distinguisherStruct sized
 no-distinguisher = refl
 
 pub take-part : (s : List ℕ) (start size most : ℕ) → start + size ≤ length s → size ≤ most → take most (part s start size) ≡ part s start size

@@ -16,9 +16,9 @@ use Rattle.octets.proofs.Outcomes.{and-assoc, and-cong, and-given, pick-true, p
 use Rattle.octets.proofs.Picked.{tested}
 use Rattle.octets.proofs.Tests.{skips, either-false}
 use Rattle.nlri.specs.declared.layout.Layout.{Layout}
-use Rattle.nlri.specs.Family.{allowed, originatorSize}
+use Rattle.nlri.specs.Family.{allowed, isOriginatorSize}
 use Rattle.nlri.specs.Reading.{addressEnd, addressField}
-use Rattle.nlri.specs.Inner.{layoutWith, originatorLast, endsAt, lastFault, restFault, groupSize, flowSizes, flowEnd, flowEndFault, addressFault, groupFault, flowFault, flowRoute, intraAs, interAs, bodyWith, withSourceAs, sourceStart}
+use Rattle.nlri.specs.Inner.{layoutWith, originatorLast, nothingLast, lastFault, restFault, withGroup, flowSizes, flowEnd, flowEndFault, addressThen, groupFault, flowFault, flowRoute, intraAs, interAs, bodyWith, withSourceAs, sourceStart}
 use Rattle.nlri.proofs.Numbered.{number-goes, number-stops, last-number}
 
 -- what stands from `at` to the end
@@ -42,8 +42,8 @@ module _ (good : ℕ → Bool) (at size : ℕ) where
   rest-bad h = tested (ltb size at) (λ t. sym (pick-true _ _ _ t)) (λ f. sym (pick-false _ _ _ f ∙ pick-false _ _ _ (h (ltb-false _ _ f))))
 
 module _ (at size : ℕ) where
-  pub no-originator : (size ≡ at + 4 → ⊥) → (size ≡ at + 16 → ⊥) → LENGTH ≡ restFault originatorSize at size
-  unfolding originatorSize
+  pub no-originator : (size ≡ at + 4 → ⊥) → (size ≡ at + 16 → ⊥) → LENGTH ≡ restFault isOriginatorSize at size
+  unfolding isOriginatorSize
   no-originator p q = rest-bad _ at size (λ h. either-false _ _ (ne-eqb (size - at) 4 (λ e. p (omega arith))) (ne-eqb (size - at) 16 (λ e. q (omega arith))))
 
   pub no-end : (size ≡ at → ⊥) → LENGTH ≡ restFault (λ rest. eqb rest 0) at size
@@ -55,18 +55,18 @@ by-tests true b l = refl
 by-tests false true l = refl
 by-tests false false l = refl
 
-pub intra-number : (s : List ℕ) → restFault originatorSize 8 (length s) ≡ numberOf (intraAs s)
+pub intra-number : (s : List ℕ) → restFault isOriginatorSize 8 (length s) ≡ numberOf (intraAs s)
 unfolding restFault intraAs originatorLast layoutWith
 intra-number s = by-tests _ _ _
 
 pub inter-number : (s : List ℕ) → restFault (λ rest. eqb rest 0) 12 (length s) ≡ numberOf (interAs s)
-unfolding restFault interAs endsAt layoutWith
+unfolding restFault interAs nothingLast layoutWith
 inter-number s = by-tests _ _ _
 
 -- what follows source and group
 module _ (type at n : ℕ) where
   end-within : (size a b : ℕ) → at ≤ n → flowEndFault type at n ≡ numberOf (flowEnd type size a b (n - at))
-  unfolding flowEndFault flowEnd originatorLast endsAt layoutWith
+  unfolding flowEndFault flowEnd originatorLast nothingLast layoutWith
   end-within size a b h =
       tested (eqb type 3)
       (λ t. pick-true _ _ _ t ∙ rest-within _ at n h ∙ last-number _ _ ∙ ap numberOf (sym (pick-true _ _ _ t)))
@@ -78,8 +78,8 @@ module _ (type at n : ℕ) where
 
 -- an address by where its length octet stands, and what follows it by where it ends
 module _ (family type at : ℕ) (s : List ℕ) where
-  address-past : (next : ℕ → ℕ) → length s ≤ at → addressFault family type at s next ≡ LENGTH
-  unfolding addressFault
+  address-past : (next : ℕ → ℕ) → length s ≤ at → addressThen family type at s next ≡ LENGTH
+  unfolding addressThen
   address-past next h = pick-true _ _ _ (le-leb (length s) at h)
 
   octet : getD (drop at s) 0 0 ≡ getD s at 0
@@ -101,8 +101,8 @@ module _ (family type at : ℕ) (s : List ℕ) where
         (λ t. pick-true _ _ _ t ∙ ended (n / 8) ∙ ap (λ (o : Outcome ℕ). numberOf (andThen o after)) (sym (pick-true _ _ _ t)))
         (λ f. pick-false _ _ _ f ∙ number-stops WIDTH _ after (pick-false _ _ _ f))
 
-    address-number : addressFault family type at s next ≡ numberOf (andThen (addressField family type (drop at s)) after)
-    unfolding addressFault addressField
+    address-number : addressThen family type at s next ≡ numberOf (andThen (addressField family type (drop at s)) after)
+    unfolding addressThen addressField
     address-number =
         let l : length (drop at s) ≡ length s - at = length-drop at s in
         tested (leb (length s) at)
@@ -114,8 +114,8 @@ module _ (family type at : ℕ) (s : List ℕ) where
 -- a source and a group, and what follows them
 module _ (family type at : ℕ) (s : List ℕ) where
   group-number : (a : ℕ) → at + a ≤ length s
-      → groupFault family type (at + a) s ≡ numberOf (andThen (groupSize family type a (drop a (drop at s))) (λ sizes. flowEnd type (length s) (sizes .0) (sizes .1) (length s - at - sizes .0 - sizes .1)))
-  unfolding groupFault groupSize
+      → groupFault family type (at + a) s ≡ numberOf (andThen (withGroup family type a (drop a (drop at s))) (λ sizes. flowEnd type (length s) (sizes .0) (sizes .1) (length s - at - sizes .0 - sizes .1)))
+  unfolding groupFault withGroup
   group-number a h =
       address-number family type (at + a) s _ (λ b. flowEnd type (length s) a b (length s - at - a - b))
       (λ b q. end-within type (at + a + b) (length s) (length s) a b q ∙ ap (λ (r : ℕ). numberOf (flowEnd type (length s) a b r)) (omega arith))

@@ -16,8 +16,8 @@ use Rattle.octets.proofs.Tests.{goes, stops}
 use Rattle.octets.proofs.Inversions.{never}
 use Rattle.octets.proofs.Refusals.{refused-same, picked, stopped, outcome, refuses-where, refuses-unless}
 use Rattle.octets.proofs.AllOctets.{octets-drop}
-use Rattle.nlri.specs.Family.{familyBits, originatorSize}
-use Rattle.nlri.specs.Bodies.{Kind, distinguisher, sourceAs, source, group, originator, key}
+use Rattle.nlri.specs.Family.{familyBits, isOriginatorSize}
+use Rattle.nlri.specs.Bodies.{FieldKind, distinguisher, sourceAs, source, group, originator, key}
 use Rattle.nlri.specs.Fields.{Fields, encodeField, KeyOf}
 use Rattle.nlri.specs.Reading.{fixedField, addressEnd, addressField, originatorField, fieldSize, sizesOf, keyField}
 use Rattle.nlri.specs.Statements.{Closes, AddressFault, missing, width, ends, Fault, Faulty, remains, here, later}
@@ -50,11 +50,11 @@ address-refuses family type n s (width some bad) = pick-false _ _ _ (ne-eqb (len
 address-refuses family type n s (ends some good h) =
     pick-false _ _ _ (ne-eqb (length s) 0 (λ e. omega arith)) ∙ pick-true _ _ _ good ∙ pick-true _ _ _ (le-leb (length s) (getD s 0 0 / 8) (omega arith))
 
-originator-refused : (n : ℕ) (s : List ℕ) → originatorField s ≡ refused n → (originatorSize (length s) ≡ false) × (n ≡ LENGTH)
+originator-refused : (n : ℕ) (s : List ℕ) → originatorField s ≡ refused n → (isOriginatorSize (length s) ≡ false) × (n ≡ LENGTH)
 unfolding originatorField
 originator-refused n s e = refuses-unless _ _ _ _ e
 
-originator-refuses : (n : ℕ) (s : List ℕ) → (originatorSize (length s) ≡ false) × (n ≡ LENGTH) → originatorField s ≡ refused n
+originator-refuses : (n : ℕ) (s : List ℕ) → (isOriginatorSize (length s) ≡ false) × (n ≡ LENGTH) → originatorField s ≡ refused n
 unfolding originatorField
 originator-refuses n s h = pick-false _ _ _ (h .0) ∙ ap refused (sym (h .1))
 
@@ -62,7 +62,7 @@ module _ (family : ℕ) (whole : 8 * (family / 8) ≡ family) where
   judges : Judges (keyField family) (KeyOf family)
   judges = key-judges family whole
 
-  field-refused : (type : ℕ) (k : Kind) (s : List ℕ) (n : ℕ) → fieldSize (keyField family) family type k s ≡ refused n → Fault family type k s n
+  field-refused : (type : ℕ) (k : FieldKind) (s : List ℕ) (n : ℕ) → fieldSize (keyField family) family type k s ≡ refused n → Fault family type k s n
   unfolding fieldSize
   field-refused type distinguisher s n e = fixed-refused 8 n s e
   field-refused type sourceAs s n e = fixed-refused 4 n s e
@@ -72,7 +72,7 @@ module _ (family : ℕ) (whole : 8 * (family / 8) ≡ family) where
   field-refused type key s n e =
       (λ size fits of. never (ap (keyField family) (sym (take-append-drop size s)) ∙ judges .complete (take size s) (drop size s) of) e, judges .refuses s n e)
 
-  fault-refuses : (type : ℕ) (k : Kind) (s : List ℕ) (n : ℕ) → AllOctets s → Fault family type k s n → fieldSize (keyField family) family type k s ≡ refused n
+  fault-refuses : (type : ℕ) (k : FieldKind) (s : List ℕ) (n : ℕ) → AllOctets s → Fault family type k s n → fieldSize (keyField family) family type k s ≡ refused n
   unfolding fieldSize
   fault-refuses type distinguisher s n a h = fixed-refuses 8 n s h
   fault-refuses type sourceAs s n a h = fixed-refuses 4 n s h
@@ -84,7 +84,7 @@ module _ (family : ℕ) (whole : 8 * (family / 8) ≡ family) where
       (λ no. no .1 ∙ ap refused (judges .refuses s (no .0) (no .1) ∙ sym (h .1))) (outcome (keyField family s))
 
   -- what stands after a field that was read
-  field-closes : (type : ℕ) (k : Kind) (s : List ℕ) (n : ℕ) → fieldSize (keyField family) family type k s ≡ given n → Closes k (drop n s)
+  field-closes : (type : ℕ) (k : FieldKind) (s : List ℕ) (n : ℕ) → fieldSize (keyField family) family type k s ≡ given n → Closes k (drop n s)
   unfolding fieldSize
   field-closes type distinguisher s n e = tt
   field-closes type sourceAs s n e = tt
@@ -93,7 +93,7 @@ module _ (family : ℕ) (whole : 8 * (family / 8) ≡ family) where
   field-closes type originator s n e = ap (λ (m : ℕ). drop m s) (originator-given n s e .1) ∙ drop-length s
   field-closes type key s n e = tt
 
-  pub body-refused : (type : ℕ) (body : List Kind) (s : List ℕ) (n : ℕ) → AllOctets s → sizesOf (fieldSize (keyField family) family type) body s ≡ refused n → Faulty family type body s n
+  pub body-refused : (type : ℕ) (body : List FieldKind) (s : List ℕ) (n : ℕ) → AllOctets s → sizesOf (fieldSize (keyField family) family type) body s ≡ refused n → Faulty family type body s n
   unfolding sizesOf
   body-refused type [] s n a e =
       let p = refuses-unless _ _ _ _ e in
@@ -109,7 +109,7 @@ module _ (family : ℕ) (whole : 8 * (family / 8) ≡ family) where
       (body-refused type body (drop m s) n (octets-drop m a) (⊎-elim (λ rest. rest) (λ none. absurd (never refl (none .second))) (stopped _ _ _ (next .second)))))
       (stopped _ _ _ e)
 
-  pub faulty-refuses : (type : ℕ) (body : List Kind) (s : List ℕ) (n : ℕ) → AllOctets s → Faulty family type body s n → sizesOf (fieldSize (keyField family) family type) body s ≡ refused n
+  pub faulty-refuses : (type : ℕ) (body : List FieldKind) (s : List ℕ) (n : ℕ) → AllOctets s → Faulty family type body s n → sizesOf (fieldSize (keyField family) family type) body s ≡ refused n
   unfolding sizesOf
   faulty-refuses type body s n a (remains h) = pick-false _ _ _ (ne-eqb (length s) 0 (λ e. omega arith))
   faulty-refuses type body s n a (here {k = k} fault) = sym (stops _ _ _ (fault-refuses type k s n a fault))
@@ -128,11 +128,11 @@ address-numbers family type s n (missing h) = inl refl
 address-numbers family type s n (width some bad) = inr (inl refl)
 address-numbers family type s n (ends some good h) = inl refl
 
-pub faulty-numbers : (family type : ℕ) (body : List Kind) (s : List ℕ) (n : ℕ) → Faulty family type body s n → (n ≡ LENGTH) ⊎ (n ≡ WIDTH) ⊎ (n ≡ KEY)
+pub faulty-numbers : (family type : ℕ) (body : List FieldKind) (s : List ℕ) (n : ℕ) → Faulty family type body s n → (n ≡ LENGTH) ⊎ (n ≡ WIDTH) ⊎ (n ≡ KEY)
 faulty-numbers family type body s n (remains h) = inl refl
 faulty-numbers family type body s n (here {k = k} fault) = at k fault
   where
-    at : (k : Kind) → Fault family type k s n → (n ≡ LENGTH) ⊎ (n ≡ WIDTH) ⊎ (n ≡ KEY)
+    at : (k : FieldKind) → Fault family type k s n → (n ≡ LENGTH) ⊎ (n ≡ WIDTH) ⊎ (n ≡ KEY)
     at distinguisher h = inl (h .1)
     at sourceAs h = inl (h .1)
     at source h = address-numbers family type s n h

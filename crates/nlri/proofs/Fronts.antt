@@ -1,4 +1,4 @@
--- The NLRI at the front of octets: the inner functions' definitions are the page's.
+-- The NLRI at the front of octets: the inner functions' definitions are document 01's.
 use mathlib.Core.Path.{_≡_, refl, sym, _∙_, ap}
 use mathlib.Core.Bool.{Bool, true, false}
 use mathlib.Core.List.{List, [], _∷_}
@@ -13,31 +13,31 @@ use Rattle.octets.specs.Outcome.{Outcome, given, refused, andThen, onOutcome}
 use Rattle.octets.specs.Octets.{part}
 use Rattle.octets.proofs.Lists.{part-length}
 use Rattle.octets.proofs.Outcomes.{and-cong, and-pick, and-given, and-refused, on-mapped, pick-cong}
-use Rattle.octets.proofs.Inversions.{never, unless, passed, given-same, on-given-given}
+use Rattle.octets.proofs.Inversions.{never, given-otherwise, passed, given-same, on-given-given}
 use Rattle.nlri.specs.declared.layout.Layout.{Layout}
-use Rattle.nlri.specs.Bodies.{Kind, Row, row, bodies, onBody}
+use Rattle.nlri.specs.Bodies.{FieldKind, Row, row, bodies, onBody}
 use Rattle.nlri.specs.Reading.{Laid, fieldSize, sizesOf, laidWith, laidAt, noKey, keyField}
 use Rattle.nlri.specs.Layouts.{layoutOf, layoutAt}
-use Rattle.nlri.specs.Inner.{header, leaf, bodyWith, unkeyedBody, anyBody, unkeyed, anyFront, keySize}
+use Rattle.nlri.specs.Inner.{headerAt, leaf, bodyWith, unkeyedBody, anyBody, unkeyed, anyFront, keySize}
 use Rattle.nlri.proofs.Rows.{rowLayout, laidFor, rows}
 
-and-on-body : {A B : Type 0} (table : List Row) (type n : ℕ) (f : List Kind → Outcome A) (next : A → Outcome B)
+and-on-body : {A B : Type 0} (table : List Row) (type n : ℕ) (f : List FieldKind → Outcome A) (next : A → Outcome B)
     → andThen (onBody table type (refused n) f) next ≡ onBody table type (refused n) (λ body. andThen (f body) next)
 unfolding onBody
 and-on-body [] type n f next = and-refused _ _
 and-on-body (row k body ∷ table) type n f next = and-pick _ _ _ _ ∙ ap (pick _ _) (and-on-body table type n f next)
 
 -- a body found for a type
-pub record Found {A : Type 0} (next : List Kind → Outcome A) (a : A) : Type 0 where
-  pub body : List Kind
+pub record Found {A : Type 0} (next : List FieldKind → Outcome A) (a : A) : Type 0 where
+  pub body : List FieldKind
   pub gives : next body ≡ given a
 
-choice : {A : Type 0} (b : Bool) (body : List Kind) (next : List Kind → Outcome A) (other : Outcome A) (a : A) → pick b (next body) other ≡ given a → (other ≡ given a → Found next a) → Found next a
+choice : {A : Type 0} (b : Bool) (body : List FieldKind) (next : List FieldKind → Outcome A) (other : Outcome A) (a : A) → pick b (next body) other ≡ given a → (other ≡ given a → Found next a) → Found next a
 unfolding pick
 choice true body next other a q later = record { body = body; gives = q }
 choice false body next other a q later = later q
 
-pub found : {A : Type 0} (table : List Row) (type n : ℕ) (next : List Kind → Outcome A) (a : A) → onBody table type (refused n) next ≡ given a → Found next a
+pub found : {A : Type 0} (table : List Row) (type n : ℕ) (next : List FieldKind → Outcome A) (a : A) → onBody table type (refused n) next ≡ given a → Found next a
 unfolding onBody
 found [] type n next a e = absurd (never e refl)
 found (row k body ∷ table) type n next a e = choice (eqb type k) body next _ a e (λ q. found table type n next a q)
@@ -48,8 +48,8 @@ two-refusals b d n o next = simp (and-pick, and-refused)
 
 module _ (kf : List ℕ → Outcome ℕ) (family : ℕ) (s : List ℕ) where
   front-rows : andThen (laidWith kf family s) (λ laid. given (layoutOf laid))
-      ≡ andThen (header s) (λ h. onBody bodies (h .0) (refused TYPE) (rowLayout (fieldSize kf family (h .0)) (h .0) (part s 2 (h .1))))
-  unfolding laidWith header rowLayout laidFor
+      ≡ andThen (headerAt s) (λ h. onBody bodies (h .0) (refused TYPE) (rowLayout (fieldSize kf family (h .0)) (h .0) (part s 2 (h .1))))
+  unfolding laidWith headerAt rowLayout laidFor
   front-rows =
       two-refusals _ _ _ _ _
       ∙ pick-cong _ _ _ _ _ (λ _. refl) (λ enough. pick-cong _ _ _ _ _ (λ _. refl) (λ whole. and-on-body bodies _ _ _ _ ∙ same enough whole ∙ sym (and-given _ _)))
@@ -65,8 +65,8 @@ module _ (kf : List ℕ → Outcome ℕ) (family : ℕ) (s : List ℕ) where
   pub laid-within : (laid : Laid) → laidWith kf family s ≡ given laid → (2 ≤ length s) × (2 + laid .size ≤ length s) × (laid .type ≡ getD s 0 0) × (laid .size ≡ getD s 1 0)
   unfolding laidWith
   laid-within laid e =
-      let p = unless _ _ _ _ e in
-      let q = unless _ _ _ _ (p .1) in
+      let p = given-otherwise _ _ _ _ e in
+      let q = given-otherwise _ _ _ _ (p .1) in
       let r = found bodies _ _ _ laid (q .1) in
       let w = passed _ _ _ (r .gives) in
       let same = given-same (w .second) in
@@ -115,7 +115,7 @@ pub key-within : (family : ℕ) (s : List ℕ) (k : ℕ) → keyField family s �
 unfolding keyField
 key-within family s k e =
     let w = on-given-given _ _ _ _ e in
-    let p = unless _ _ _ _ (w .second) in
+    let p = given-otherwise _ _ _ _ (w .second) in
     let q = given-same (p .1) in
     let h = laid-within noKey family s (w .value) (w .first) in
     (omega arith, omega arith)

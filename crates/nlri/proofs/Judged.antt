@@ -11,12 +11,12 @@ use Rattle.octets.specs.Numbers.{KEY}
 use Rattle.octets.specs.Outcome.{Outcome, given, refused}
 use Rattle.octets.specs.Octets.{AllOctets, one, numberIn, bigEndian}
 use Rattle.octets.proofs.Outcomes.{pick-true, pick-false}
-use Rattle.octets.proofs.Inversions.{unless, only, given-same}
+use Rattle.octets.proofs.Inversions.{given-otherwise, given-unless, given-same}
 use Rattle.octets.proofs.AllOctets.{octets-take, octets-drop, number-fits}
 use Rattle.octets.proofs.Lists.{front-rest}
 use Rattle.octets.proofs.NetworkOrder.{big-endian-length, big-endian-octets, big-endian-of-number}
-use Rattle.nlri.specs.Family.{allowed, originatorSize}
-use Rattle.nlri.specs.Bodies.{Kind, distinguisher, sourceAs, source, group, originator, key}
+use Rattle.nlri.specs.Family.{allowed, isOriginatorSize}
+use Rattle.nlri.specs.Bodies.{FieldKind, distinguisher, sourceAs, source, group, originator, key}
 use Rattle.nlri.specs.Fields.{Fields, encodeAddress, encodeField, WellFormedField}
 use Rattle.nlri.specs.Reading.{fixedField, addressEnd, addressField, originatorField, fieldSize}
 use Rattle.nlri.specs.Statements.{Closes}
@@ -31,7 +31,7 @@ pub record Judges (judge : List ℕ → Outcome ℕ) (Key : List ℕ → Type 0)
   pub refuses : (s : List ℕ) (n : ℕ) → judge s ≡ refused n → n ≡ KEY
 
 -- the fields whose encodings a function gives
-abbrev pub fieldsFrom : ℕ → (Kind → List ℕ) → Fields
+abbrev pub fieldsFrom : ℕ → (FieldKind → List ℕ) → Fields
 fieldsFrom type field =
     record {
       type = type;
@@ -56,9 +56,9 @@ record AddressRead (family type : ℕ) (piece : List ℕ) : Type 0 where
 address-given : (family type n : ℕ) (s : List ℕ) → 8 * (family / 8) ≡ family → AllOctets s → addressField family type s ≡ given n → (n ≤ length s) × AddressRead family type (take n s)
 unfolding addressField addressEnd encodeAddress
 address-given family type n s whole a e =
-    let p = unless _ _ _ _ e in
-    let q = only _ _ _ _ (p .1) in
-    let r = unless _ _ _ _ (q .1) in
+    let p = given-otherwise _ _ _ _ e in
+    let q = given-unless _ _ _ _ (p .1) in
+    let r = given-otherwise _ _ _ _ (q .1) in
     let size : 1 + getD s 0 0 / 8 ≡ n = given-same (r .1) in
     let fits : n ≤ length s = omega (arith, leb-false) in
     let l : length (take n s) ≡ n = length-take-le n s fits in
@@ -81,9 +81,9 @@ address-stands family type x t h =
     ∙ pick-false _ _ _ (lt-leb (suc (length (x ++ t))) (8 * length x / 8) (simp length-append (omega arith)))
     ∙ ap given (omega arith)
 
-pub originator-given : (n : ℕ) (s : List ℕ) → originatorField s ≡ given n → (originatorSize (length s) ≡ true) × (n ≡ length s)
+pub originator-given : (n : ℕ) (s : List ℕ) → originatorField s ≡ given n → (isOriginatorSize (length s) ≡ true) × (n ≡ length s)
 unfolding originatorField
-originator-given n s e = let p = only _ _ _ _ e in (p .0, sym (given-same (p .1)))
+originator-given n s e = let p = given-unless _ _ _ _ e in (p .0, sym (given-same (p .1)))
 
 address-octets : (family type : ℕ) (x : List ℕ) → family ≤ 128 → allowed family type (8 * length x) ≡ true → AllOctets x → AllOctets (encodeAddress x)
 unfolding encodeAddress
@@ -91,7 +91,7 @@ address-octets family type x small e a = let h : 8 * length x < 256 = omega (ari
 
 module _ (judge : List ℕ → Outcome ℕ) (Key : List ℕ → Type 0) (judges : Judges judge Key) (family : ℕ) (whole : 8 * (family / 8) ≡ family) where
   -- a field read is well-formed, and is its encoding
-  pub field-sound : (type : ℕ) (k : Kind) (s : List ℕ) (n : ℕ) (field : Kind → List ℕ) → AllOctets s → fieldSize judge family type k s ≡ given n → field k ≡ take n s
+  pub field-sound : (type : ℕ) (k : FieldKind) (s : List ℕ) (n : ℕ) (field : FieldKind → List ℕ) → AllOctets s → fieldSize judge family type k s ≡ given n → field k ≡ take n s
       → (n ≤ length s) × WellFormedField Key family (fieldsFrom type field) k × (encodeField (fieldsFrom type field) k ≡ take n s)
   unfolding fieldSize encodeField
   field-sound type distinguisher s n field a e at =
@@ -122,7 +122,7 @@ module _ (judge : List ℕ → Outcome ℕ) (Key : List ℕ → Type 0) (judges 
       (p .0, subst Key (sym at) (p .1), at)
 
   -- a well-formed field that stands encoded is read
-  pub field-complete : (f : Fields) (k : Kind) (t : List ℕ) → WellFormedField Key family f k → Closes k t
+  pub field-complete : (f : Fields) (k : FieldKind) (t : List ℕ) → WellFormedField Key family f k → Closes k t
       → fieldSize judge family (f .type) k (encodeField f k ++ t) ≡ given (length (encodeField f k))
   unfolding fieldSize encodeField originatorField
   field-complete f distinguisher t w c = fixed-stands 8 (f .distinguisher) t (w .0)
@@ -133,7 +133,7 @@ module _ (judge : List ℕ → Outcome ℕ) (Key : List ℕ → Type 0) (judges 
   field-complete f key t w c = judges .complete (f .key) t w
 
   -- the most octets that a well-formed field takes
-  pub field-most : (w : ℕ) → ((k : List ℕ) → Key k → length k ≤ w) → family ≤ 128 → (f : Fields) (k : Kind) → WellFormedField Key family f k → length (encodeField f k) ≤ most w k
+  pub field-most : (w : ℕ) → ((k : List ℕ) → Key k → length k ≤ w) → family ≤ 128 → (f : Fields) (k : FieldKind) → WellFormedField Key family f k → length (encodeField f k) ≤ most w k
   unfolding encodeField encodeAddress most
   field-most w bound small f distinguisher h = omega arith
   field-most w bound small f sourceAs h = omega (arith, big-endian-length 4 (f .sourceAs))
@@ -142,7 +142,7 @@ module _ (judge : List ℕ → Outcome ℕ) (Key : List ℕ → Type 0) (judges 
   field-most w bound small f originator h = originator-most (length (f .originator)) (h .0)
   field-most w bound small f key h = bound (f .key) h
 
-  pub field-octets : ((k : List ℕ) → Key k → AllOctets k) → family ≤ 128 → (f : Fields) (k : Kind) → WellFormedField Key family f k → AllOctets (encodeField f k)
+  pub field-octets : ((k : List ℕ) → Key k → AllOctets k) → family ≤ 128 → (f : Fields) (k : FieldKind) → WellFormedField Key family f k → AllOctets (encodeField f k)
   unfolding encodeField encodeAddress
   field-octets ofKey small f distinguisher h = h .1
   field-octets ofKey small f sourceAs h = big-endian-octets 4 (f .sourceAs)

@@ -12,18 +12,18 @@ use Rattle.octets.specs.Choice.{pick}
 use Rattle.octets.specs.Outcome.{Outcome, given, refused, onOutcome, andThen, numberOf}
 use Rattle.octets.proofs.Tests.{skips, on-given}
 use Rattle.octets.proofs.Picked.{tested}
-use Rattle.octets.proofs.Inversions.{unless, on-given-given}
+use Rattle.octets.proofs.Inversions.{given-otherwise, on-given-given}
 use Rattle.nlri.specs.Reading.{noKey, keyField}
 use Rattle.nlri.specs.Layouts.{layoutAt}
 use Rattle.nlri.specs.Writing.{isKey}
-use Rattle.nlri.specs.Inner.{bodyWith, unkeyedBody, anyBody, header, unkeyed, anyFront, keySize}
+use Rattle.nlri.specs.Inner.{bodyWith, unkeyedBody, anyBody, headerAt, unkeyed, anyFront, keySize}
 use Rattle.nlri.proofs.Fronts.{front-is, key-is, laid-within, key-within}
 use Rattle.nlri.proofs.Numbered.{front-done}
 use Rattle.nlri.proofs.Standing.{key-is-long, unkeyed-octets}
 
 -- a front that is no Leaf is read as a key's is
 any-unkeyed : (family : ℕ) (s : List ℕ) → (getD s 0 0 ≡ 4 → ⊥) → anyFront family s ≡ unkeyed family s
-unfolding anyFront unkeyed header anyBody unkeyedBody bodyWith andThen pick
+unfolding anyFront unkeyed headerAt anyBody unkeyedBody bodyWith andThen pick
 any-unkeyed family s h =
     tested (ltb (length s) 2)
     (λ p. rw p)
@@ -34,7 +34,7 @@ module _ (family : ℕ) (s : List ℕ) where
   unfolding keyField
   key-typed k e =
       let w = on-given-given _ _ _ _ e in
-      let t : w .value .type ≤ 3 = ltb-false _ _ (unless _ _ _ _ (w .second) .0) in
+      let t : w .value .type ≤ 3 = ltb-false _ _ (given-otherwise _ _ _ _ (w .second) .0) in
       omega (arith, laid-within noKey family s (w .value) (w .first) .2)
 
   -- no key of this length

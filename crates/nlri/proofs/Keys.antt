@@ -11,7 +11,7 @@ use Rattle.octets.specs.Outcome.{given, refused}
 use Rattle.octets.specs.Octets.{AllOctets}
 use Rattle.octets.proofs.Outcomes.{pick-false}
 use Rattle.octets.proofs.Tests.{on-given}
-use Rattle.octets.proofs.Inversions.{never, unless, given-same, on-given-given}
+use Rattle.octets.proofs.Inversions.{never, given-otherwise, given-same, on-given-given}
 use Rattle.octets.proofs.Refusals.{refused-same, picked, turned}
 use Rattle.nlri.specs.Fields.{Fields, encodeNlri, NoKey, KeyOf}
 use Rattle.nlri.specs.Reading.{laidWith, noKey, keyField}
@@ -34,7 +34,7 @@ module _ (family : ℕ) (whole : 8 * (family / 8) ≡ family) where
   unfolding keyField
   key-sound s n a e =
       let p = on-given-given _ _ _ _ e in
-      let q = unless _ _ _ _ (p .second) in
+      let q = given-otherwise _ _ _ _ (p .second) in
       let size : 2 + p .value .size ≡ n = given-same (q .1) in
       let o = laid-out noKey family s (p .value) (p .first) in
       let r = laid-sound noKey NoKey none-judges family whole s (p .value) a (p .first) in

@@ -10,16 +10,16 @@ use lib.ListN.{length}
 use Rattle.octets.specs.Outcome.{given}
 use Rattle.octets.proofs.Outcomes.{pick-true, pick-false}
 use Rattle.octets.proofs.Tests.{both-true, either-left}
-use Rattle.octets.proofs.Inversions.{only, given-same, either-true, both-true-left, both-true-right}
+use Rattle.octets.proofs.Inversions.{given-unless, given-same, either-true, both-true-left, both-true-right}
 use Rattle.octets.proofs.Refusals.{picked, either-second}
-use Rattle.nlri.specs.Family.{familyBits, allowed, originatorSize}
+use Rattle.nlri.specs.Family.{familyBits, allowed, isOriginatorSize}
 use Rattle.nlri.specs.Statements.{Lengths}
 
 family-exactly : (afi family : ℕ) → (familyBits afi ≡ given family) ↔ (((afi ≡ 1) × (family ≡ 32)) ⊎ ((afi ≡ 2) × (family ≡ 128)))
 unfolding familyBits
 family-exactly afi family = (
   λ e.
-      ⊎-elim (λ one. inl (eqb-true _ _ (one .0), sym (given-same (one .1)))) (λ other. let p = only _ _ _ _ (other .1) in inr (eqb-true _ _ (p .0), sym (given-same (p .1)))) (picked _ _ _ _ e),
+      ⊎-elim (λ one. inl (eqb-true _ _ (one .0), sym (given-same (one .1)))) (λ other. let p = given-unless _ _ _ _ (other .1) in inr (eqb-true _ _ (p .0), sym (given-same (p .1)))) (picked _ _ _ _ e),
   λ h.
       ⊎-elim (λ one. pick-true _ _ _ (eq-eqb afi 1 (one .0)) ∙ ap given (sym (one .1)))
       (λ two. pick-false _ _ _ (ne-eqb afi 1 (λ e. omega (arith, two .0))) ∙ pick-true _ _ _ (eq-eqb afi 2 (two .0)) ∙ ap given (sym (two .1))) h,
@@ -32,8 +32,8 @@ allowed-exactly family type bits = (
   λ h. ⊎-elim (λ same. either-left _ _ (eq-eqb bits family same)) (λ none. either-second _ _ (both-true _ _ (eq-eqb type 3 (none .0)) (eq-eqb bits 0 (none .1)))) h,
 )
 
-originator-exactly : (size : ℕ) → (originatorSize size ≡ true) ↔ ((size ≡ 4) ⊎ (size ≡ 16))
-unfolding originatorSize
+originator-exactly : (size : ℕ) → (isOriginatorSize size ≡ true) ↔ ((size ≡ 4) ⊎ (size ≡ 16))
+unfolding isOriginatorSize
 originator-exactly size = (
   λ e. ⊎-elim (λ four. inl (eqb-true _ _ four)) (λ sixteen. inr (eqb-true _ _ sixteen)) (either-true _ _ e),
   λ h. ⊎-elim (λ four. either-left _ _ (eq-eqb size 4 four)) (λ sixteen. either-second _ _ (eq-eqb size 16 sixteen)) h,
@@ -61,5 +61,5 @@ whole-octets family type bits whole e = ⊎-elim (λ same. omega arith) (λ none
 pub address-most : (family type : ℕ) (x : List ℕ) → family ≤ 128 → allowed family type (8 * length x) ≡ true → suc (length x) ≤ 17
 address-most family type x small e = ⊎-elim (λ same. omega arith) (λ none. omega (arith, none .1)) (allowed-exactly family type (8 * length x) .0 e)
 
-pub originator-most : (n : ℕ) → originatorSize n ≡ true → n ≤ 16
+pub originator-most : (n : ℕ) → isOriginatorSize n ≡ true → n ≤ 16
 originator-most n e = ⊎-elim (λ four. omega arith) (λ sixteen. omega arith) (originator-exactly n .0 e)

@@ -13,9 +13,9 @@ use Rattle.nlri.specs.declared.layout.Part.{Part}
 use Rattle.nlri.specs.declared.layout.Part.the-variants.{Size, Fault}
 use Rattle.nlri.specs.declared.read.Header.{Header}
 use Rattle.nlri.specs.declared.read.Header.the-variants.{Typed, Unread}
-use Rattle.nlri.specs.Family.{originatorSize}
+use Rattle.nlri.specs.Family.{isOriginatorSize}
 use Rattle.nlri.specs.Layouts.{layoutAt}
-use Rattle.nlri.specs.Inner.{partOf, headerOf, originatorLast, lastFault, unkeyedBody, anyFront}
+use Rattle.nlri.specs.Inner.{partOf, headerOutcome, originatorLast, lastFault, unkeyedBody, anyFront}
 use Rattle.nlri.proofs.Via.{size-given, fault-given, typed-given}
 use Rattle.nlri.proofs.Fronts.{front-is}
 use Rattle.nlri.proofs.ReadNumbers.{ByReading, layout-refuses, unkeyed-refuses}
@@ -35,12 +35,12 @@ number-size t r o n next p q h = number-goes t o n next (size-given r o n p q) h
 pub number-fault : {B : Type 0} (r : Part) (o : Outcome ℕ) (n : ℕ) (next : ℕ → Outcome B) → partOf r ≡ o → r ≡ Fault n → n ≡ numberOf (andThen o next)
 number-fault r o n next p q = number-stops n o next (fault-given r o n p q)
 
-pub number-typed : {B : Type 0} (t : ℕ) (r : Header) (o : Outcome (ℕ × ℕ)) (a b : ℕ) (next : ℕ × ℕ → Outcome B) → headerOf r ≡ o → r ≡ Typed a b → t ≡ numberOf (next (a, b)) → t ≡ numberOf (andThen o next)
+pub number-typed : {B : Type 0} (t : ℕ) (r : Header) (o : Outcome (ℕ × ℕ)) (a b : ℕ) (next : ℕ × ℕ → Outcome B) → headerOutcome r ≡ o → r ≡ Typed a b → t ≡ numberOf (next (a, b)) → t ≡ numberOf (andThen o next)
 number-typed t r o a b next p q h = number-goes t o (a, b) next (typed-given r o a b p q) h
 
-pub number-unread : {B : Type 0} (r : Header) (o : Outcome (ℕ × ℕ)) (n : ℕ) (next : ℕ × ℕ → Outcome B) → headerOf r ≡ o → r ≡ Unread n → n ≡ numberOf (andThen o next)
-unfolding headerOf
-number-unread r o n next p q = number-stops n o next (sym p ∙ ap headerOf q)
+pub number-unread : {B : Type 0} (r : Header) (o : Outcome (ℕ × ℕ)) (n : ℕ) (next : ℕ × ℕ → Outcome B) → headerOutcome r ≡ o → r ≡ Unread n → n ≡ numberOf (andThen o next)
+unfolding headerOutcome
+number-unread r o n next p q = number-stops n o next (sym p ∙ ap headerOutcome q)
 
 -- by a test of what remains
 pub last-number : {A : Type 0} (b : Bool) (a : A) → lastFault b ≡ numberOf (pick b (given a) (refused 3))
@@ -48,7 +48,7 @@ unfolding lastFault pick numberOf
 last-number true a = refl
 last-number false a = refl
 
-pub number-originator : (t : ℕ) (l : Layout) → t ≡ lastFault (originatorSize (l .originator)) → t ≡ numberOf (originatorLast l)
+pub number-originator : (t : ℕ) (l : Layout) → t ≡ lastFault (isOriginatorSize (l .originator)) → t ≡ numberOf (originatorLast l)
 unfolding originatorLast
 number-originator t l p = p ∙ last-number _ l
 

@@ -18,29 +18,29 @@ use Rattle.octets.proofs.NetworkOrder.{big-endian-length}
 use Rattle.nlri.specs.declared.address.Address.{Address}
 use Rattle.nlri.specs.declared.fields.Nlri.{Nlri}
 use Rattle.nlri.specs.Fields.{encodeAddress}
-use Rattle.nlri.specs.Answers.{octetsOf}
+use Rattle.nlri.specs.Answers.{addressOctets}
 use Rattle.nlri.specs.Inner.{withSourceAs}
-use Rattle.nlri.specs.InnerWriting.{hasFlow, hasOriginator, fixedSize, flowSize, originatorLength, sizeOf, sourceAsOctets, fixedOctets, flowOctets, originatorOctets, bodyOctets, allOctets}
+use Rattle.nlri.specs.InnerWriting.{hasFlow, hasOriginator, fixedSize, flowSize, originatorLength, sizeOf, sourceAsOctets, fixedOctets, flowOctets, originatorOctets, bodyOctets, nlriOctets}
 
-pub octets-length : (a : Address) → length (octetsOf a) ≡ a .size
-unfolding octetsOf
+pub octets-length : (a : Address) → length (addressOctets a) ≡ a .size
+unfolding addressOctets
 octets-length a = sized-length (a .size) (a .octets)
 
-pub octets-taken : (a : Address) (n : ℕ) → a .size ≡ n → n ≤ length (a .octets) → take n (a .octets) ≡ octetsOf a
-unfolding octetsOf
+pub octets-taken : (a : Address) (n : ℕ) → a .size ≡ n → n ≤ length (a .octets) → take n (a .octets) ≡ addressOctets a
+unfolding addressOctets
 octets-taken a n e h = rw e (sym (sized-taken n (a .octets) h))
 
-pub octets-all : (a : Address) → a .size ≡ length (a .octets) → a .octets ≡ octetsOf a
+pub octets-all : (a : Address) → a .size ≡ length (a .octets) → a .octets ≡ addressOctets a
 octets-all a e = sym (take-length (a .octets)) ∙ octets-taken a (length (a .octets)) e (omega arith)
 
-pub octets-none : (a : Address) → a .size ≡ 0 → [] ≡ octetsOf a
+pub octets-none : (a : Address) → a .size ≡ 0 → [] ≡ addressOctets a
 octets-none a e = octets-taken a 0 e (omega arith)
 
-pub address-split : (a : Address) → (8 * a .size ∷ []) ++ octetsOf a ≡ encodeAddress (octetsOf a)
+pub address-split : (a : Address) → (8 * a .size ∷ []) ++ addressOctets a ≡ encodeAddress (addressOctets a)
 unfolding encodeAddress
-address-split a = ap (λ (n : ℕ). 8 * n ∷ octetsOf a) (sym (octets-length a))
+address-split a = ap (λ (n : ℕ). 8 * n ∷ addressOctets a) (sym (octets-length a))
 
-pub address-room : (a : Address) → length (encodeAddress (octetsOf a)) ≡ 1 + length (octetsOf a)
+pub address-room : (a : Address) → length (encodeAddress (addressOctets a)) ≡ 1 + length (addressOctets a)
 unfolding encodeAddress
 address-room a = omega arith
 
@@ -61,7 +61,7 @@ module _ (nlri : Nlri) (key : List ℕ) where
   unfolding fixedOctets
   fixed-distinguisher h = sym (pick-false _ _ _ h)
 
-  pub flow-there : hasFlow (nlri .«route_type») ≡ true → encodeAddress (octetsOf (nlri .source)) ++ encodeAddress (octetsOf (nlri .group)) ≡ flowOctets nlri
+  pub flow-there : hasFlow (nlri .«route_type») ≡ true → encodeAddress (addressOctets (nlri .source)) ++ encodeAddress (addressOctets (nlri .group)) ≡ flowOctets nlri
   unfolding flowOctets
   flow-there h = sym (pick-true _ _ _ h)
 
@@ -69,7 +69,7 @@ module _ (nlri : Nlri) (key : List ℕ) where
   unfolding flowOctets
   flow-none h = sym (pick-false _ _ _ h)
 
-  pub originator-there : hasOriginator (nlri .«route_type») ≡ true → octetsOf (nlri .originator) ≡ originatorOctets nlri
+  pub originator-there : hasOriginator (nlri .«route_type») ≡ true → addressOctets (nlri .originator) ≡ originatorOctets nlri
   unfolding originatorOctets
   originator-there h = sym (pick-true _ _ _ h)
 
@@ -81,12 +81,12 @@ module _ (nlri : Nlri) (key : List ℕ) where
   unfolding bodyOctets
   body-length = simp length-append (omega arith)
 
-  pub all-length : length (allOctets nlri key) ≡ 2 + length (bodyOctets nlri key)
-  unfolding allOctets
+  pub all-length : length (nlriOctets nlri key) ≡ 2 + length (bodyOctets nlri key)
+  unfolding nlriOctets
   all-length = omega arith
 
-  pub all-put : (n : ℕ) → n ≡ length (bodyOctets nlri key) → (nlri .«route_type» ∷ n ∷ []) ++ bodyOctets nlri key ≡ allOctets nlri key
-  unfolding allOctets
+  pub all-put : (n : ℕ) → n ≡ length (bodyOctets nlri key) → (nlri .«route_type» ∷ n ∷ []) ++ bodyOctets nlri key ≡ nlriOctets nlri key
+  unfolding nlriOctets
   all-put n e = ap (λ (m : ℕ). nlri .«route_type» ∷ m ∷ bodyOctets nlri key) e
 
 -- what is answered and left where all was put
@@ -154,14 +154,14 @@ module _ (nlri : Nlri) (key : List ℕ) (eight : length (nlri .distinguisher .oc
       let b = address-room (nlri .group) in
       let la = octets-length (nlri .source) in
       let lb = octets-length (nlri .group) in
-      let l = length-append (encodeAddress (octetsOf (nlri .source))) (encodeAddress (octetsOf (nlri .group))) in
+      let l = length-append (encodeAddress (addressOctets (nlri .source))) (encodeAddress (addressOctets (nlri .group))) in
       pick-length _ _ _ ∙ ap (λ (n : ℕ). pick (hasFlow (nlri .«route_type»)) n 0) (omega arith)
 
   originator-size : length (originatorOctets nlri) ≡ originatorLength (nlri .«route_type») (nlri .originator .size)
   unfolding originatorOctets originatorLength
   originator-size = pick-length _ _ _ ∙ ap (λ (n : ℕ). pick (hasOriginator (nlri .«route_type»)) n 0) (octets-length (nlri .originator))
 
-  pub size-is : sizeOf nlri (length key) ≡ length (allOctets nlri key)
+  pub size-is : sizeOf nlri (length key) ≡ length (nlriOctets nlri key)
   unfolding sizeOf
   size-is =
       let a = all-length nlri key in

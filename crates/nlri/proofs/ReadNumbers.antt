@@ -8,7 +8,7 @@ use Rattle.octets.specs.Numbers.{SHORT, KEY, FAMILY}
 use Rattle.octets.specs.Outcome.{Outcome, refused}
 use Rattle.octets.proofs.RefusalNumbers.{Refuses, value, number, pick-refuses, then-refuses, turned-refuses}
 use Rattle.nlri.specs.Family.{familyBits}
-use Rattle.nlri.specs.Bodies.{Kind, distinguisher, sourceAs, source, group, originator, key, Row, row, bodies, onBody}
+use Rattle.nlri.specs.Bodies.{FieldKind, distinguisher, sourceAs, source, group, originator, key, Row, row, bodies, onBody}
 use Rattle.nlri.specs.Reading.{fixedField, addressEnd, addressField, originatorField, fieldSize, sizesOf, laidWith, noKey, keyField, laidAt, laidSingle, readNlri}
 use Rattle.nlri.specs.Layouts.{layoutAt}
 use Rattle.nlri.specs.Inner.{unkeyedBody}
@@ -18,7 +18,7 @@ use Rattle.nlri.proofs.Fronts.{unkeyed-rows}
 abbrev pub ByReading : ℕ → Type 0
 ByReading n = (SHORT ≤ n) × (n ≤ FAMILY)
 
-body-refuses : {A : Type 0} (rows : List Row) (type n : ℕ) (next : List Kind → Outcome A) → ByReading n → ((body : List Kind) → Refuses ByReading (next body)) → Refuses ByReading (onBody rows type (refused n) next)
+body-refuses : {A : Type 0} (rows : List Row) (type n : ℕ) (next : List FieldKind → Outcome A) → ByReading n → ((body : List FieldKind) → Refuses ByReading (next body)) → Refuses ByReading (onBody rows type (refused n) next)
 unfolding onBody
 body-refuses [] type n next p v = number p
 body-refuses (row k body ∷ rows) type n next p v = pick-refuses _ _ _ (v body) (body-refuses rows type n next p v)
@@ -32,7 +32,7 @@ unfolding addressField addressEnd
 address-refuses family type s = pick-refuses _ _ _ (number (omega arith)) (pick-refuses _ _ _ (pick-refuses _ _ _ (number (omega arith)) value) (number (omega arith)))
 
 module _ (judge : List ℕ → Outcome ℕ) (judge-refuses : (s : List ℕ) → Refuses ByReading (judge s)) (family : ℕ) where
-  field-refuses : (type : ℕ) (k : Kind) (s : List ℕ) → Refuses ByReading (fieldSize judge family type k s)
+  field-refuses : (type : ℕ) (k : FieldKind) (s : List ℕ) → Refuses ByReading (fieldSize judge family type k s)
   unfolding fieldSize originatorField
   field-refuses type distinguisher s = fixed-refuses 8 s
   field-refuses type sourceAs s = fixed-refuses 4 s
@@ -41,7 +41,7 @@ module _ (judge : List ℕ → Outcome ℕ) (judge-refuses : (s : List ℕ) → 
   field-refuses type originator s = pick-refuses _ _ _ value (number (omega arith))
   field-refuses type key s = judge-refuses s
 
-  sizes-refuses : (type : ℕ) (body : List Kind) (s : List ℕ) → Refuses ByReading (sizesOf (fieldSize judge family type) body s)
+  sizes-refuses : (type : ℕ) (body : List FieldKind) (s : List ℕ) → Refuses ByReading (sizesOf (fieldSize judge family type) body s)
   unfolding sizesOf
   sizes-refuses type [] s = pick-refuses _ _ _ value (number (omega arith))
   sizes-refuses type (k ∷ body) s = then-refuses _ _ (field-refuses type k s) (λ n. then-refuses _ _ (sizes-refuses type body (drop n s)) (λ sizes. value))

@@ -20,7 +20,7 @@ use Rattle.nlri.specs.Family.{familyBits}
 use Rattle.nlri.specs.Bodies.{bodies, bodyOf}
 use Rattle.nlri.specs.Fields.{Fields, encodeBody, encodeNlri, WellFormed, KeyOf}
 use Rattle.nlri.specs.Reading.{Laid, keyField, laidWith, laidAt, laidSingle, readNlri}
-use Rattle.nlri.specs.Statements.{Short, Typed, Faulty, FrontRefusal, short, badType, badBody, ReadRefusal, badFamily, front, after, ReadRefusals}
+use Rattle.nlri.specs.Statements.{TooShort, KnownType, Faulty, FrontRefusal, short, badType, badBody, ReadRefusal, badFamily, front, after, ReadRefusals}
 use Rattle.nlri.proofs.Table.{on-body, known, rowOf, unlisted}
 use Rattle.nlri.proofs.Lengths.{good-family, family-good, family-octets}
 use Rattle.nlri.proofs.Whole.{laid-out, laid-sound, laid-complete, fieldsAt}
@@ -32,7 +32,7 @@ module _ (afi family : ℕ) (bits : familyBits afi ≡ given family) (s : List �
   whole : 8 * (family / 8) ≡ family
   whole = family-octets afi family bits .0
 
-  not-short : ltb (length s) 2 ≡ false → ltb (length s - 2) (getD s 1 0) ≡ false → Short s → ⊥
+  not-short : ltb (length s) 2 ≡ false → ltb (length s - 2) (getD s 1 0) ≡ false → TooShort s → ⊥
   not-short enough fits sh = ⊎-elim (λ h. omega (arith, ltb-false)) (λ h. omega (arith, ltb-false)) sh
 
   laid-refused : (n : ℕ) → laidAt family s ≡ refused n → FrontRefusal family s n
@@ -72,7 +72,7 @@ module _ (afi family : ℕ) (bits : familyBits afi ≡ given family) (s : List �
       (picked _ _ _ _ (next .second)))
       (stopped _ _ _ e)
 
-  laid-short : Short s → laidAt family s ≡ refused SHORT
+  laid-short : TooShort s → laidAt family s ≡ refused SHORT
   unfolding laidAt laidWith
   laid-short sh = go (ltb (length s) 2) refl
     where
@@ -81,17 +81,17 @@ module _ (afi family : ℕ) (bits : familyBits afi ≡ given family) (s : List �
       go false h = pick-false _ _ _ h ∙ pick-true _ _ _ (⊎-elim (λ few. absurd (omega (arith, ltb-false))) (λ few. lt-ltb (length s - 2) (getD s 1 0) few) sh)
 
   -- past SHORT
-  enough : (Short s → ⊥) → ltb (length s) 2 ≡ false
+  enough : (TooShort s → ⊥) → ltb (length s) 2 ≡ false
   enough h = is-false _ (λ few. h (inl (ltb-true _ _ few)))
 
-  fits : (Short s → ⊥) → ltb (length s - 2) (getD s 1 0) ≡ false
+  fits : (TooShort s → ⊥) → ltb (length s - 2) (getD s 1 0) ≡ false
   fits h = is-false _ (λ few. h (inr (ltb-true _ _ few)))
 
-  laid-untyped : (Short s → ⊥) → (Typed (getD s 0 0) → ⊥) → laidAt family s ≡ refused TYPE
+  laid-untyped : (TooShort s → ⊥) → (KnownType (getD s 0 0) → ⊥) → laidAt family s ≡ refused TYPE
   unfolding laidAt laidWith
   laid-untyped h t = pick-false _ _ _ (enough h) ∙ pick-false _ _ _ (fits h) ∙ on-body _ _ _ ∙ pick-false _ _ _ (unlisted (getD s 0 0) t)
 
-  laid-faulty : (n : ℕ) → (Short s → ⊥) → Typed (getD s 0 0) → Faulty family (getD s 0 0) (bodyOf (getD s 0 0)) (part s 2 (getD s 1 0)) n → laidAt family s ≡ refused n
+  laid-faulty : (n : ℕ) → (TooShort s → ⊥) → KnownType (getD s 0 0) → Faulty family (getD s 0 0) (bodyOf (getD s 0 0)) (part s 2 (getD s 1 0)) n → laidAt family s ≡ refused n
   unfolding laidAt laidWith
   laid-faulty n h t fault =
       pick-false _ _ _ (enough h) ∙ pick-false _ _ _ (fits h) ∙ on-body _ _ _ ∙ pick-true _ _ _ (known (getD s 0 0) (t .0) (t .1))
@@ -150,14 +150,14 @@ by-family afi s n (front family bits (badType h t)) e = absurd (omega arith)
 by-family afi s n (front family bits (badBody h t fault)) e = absurd (faulty-other family _ _ n fault .0 e)
 by-family afi s n (after family f t bits w q some) e = absurd (omega arith)
 
-by-short : (afi : ℕ) (s : List ℕ) (n : ℕ) → ReadRefusal afi s n → n ≡ SHORT → ((afi ≡ 1) ⊎ (afi ≡ 2)) × Short s
+by-short : (afi : ℕ) (s : List ℕ) (n : ℕ) → ReadRefusal afi s n → n ≡ SHORT → ((afi ≡ 1) ⊎ (afi ≡ 2)) × TooShort s
 by-short afi s n (badFamily one two) e = absurd (omega arith)
 by-short afi s n (front family bits (short h)) e = (good-family afi family bits, h)
 by-short afi s n (front family bits (badType h t)) e = absurd (omega arith)
 by-short afi s n (front family bits (badBody h t fault)) e = absurd (faulty-other family _ _ n fault .1 e)
 by-short afi s n (after family f t bits w q some) e = absurd (omega arith)
 
-by-type : (afi : ℕ) (s : List ℕ) (n : ℕ) → ReadRefusal afi s n → n ≡ TYPE → ((afi ≡ 1) ⊎ (afi ≡ 2)) × (Short s → ⊥) × (Typed (getD s 0 0) → ⊥)
+by-type : (afi : ℕ) (s : List ℕ) (n : ℕ) → ReadRefusal afi s n → n ≡ TYPE → ((afi ≡ 1) ⊎ (afi ≡ 2)) × (TooShort s → ⊥) × (KnownType (getD s 0 0) → ⊥)
 by-type afi s n (badFamily one two) e = absurd (omega arith)
 by-type afi s n (front family bits (short h)) e = absurd (omega arith)
 by-type afi s n (front family bits (badType h t)) e = (good-family afi family bits, h, t)

@@ -17,13 +17,13 @@ use Rattle.octets.proofs.Inversions.{passed}
 use Rattle.octets.proofs.AllOctets.{octets-sized}
 use Rattle.octets.proofs.Lists.{sized-same, sized-back}
 use Rattle.nlri.specs.Family.{familyBits}
-use Rattle.nlri.specs.Bodies.{Kind, distinguisher, sourceAs, source, group, originator, key, bodies, onBody, bodyOf, has}
+use Rattle.nlri.specs.Bodies.{FieldKind, distinguisher, sourceAs, source, group, originator, key, bodies, onBody, bodyOf, hasField}
 use Rattle.nlri.specs.Fields.{Fields, encodeField, encodeBody, encodeNlri, WellFormedField, WellFormed, KeyOf, restricted}
 use Rattle.nlri.specs.Reading.{readNlri}
 use Rattle.nlri.specs.Writing.{writeNlri}
-use Rattle.nlri.specs.Answers.{addressOf, distinguisherOf, octetsOf, nlriOf, fieldsIn, keySpan, readAnswer}
+use Rattle.nlri.specs.Answers.{addressStruct, distinguisherStruct, addressOctets, nlriStruct, structFields, keySpan, nlriAnswer}
 use Rattle.nlri.specs.declared.fields.Nlri.{Nlri}
-use Rattle.nlri.specs.Statements.{ReadAs, Held, HeldNlri, RoundTrips}
+use Rattle.nlri.specs.Statements.{ReadAs, HoldsOctets, StructHoldsOctets, RoundTrips}
 use Rattle.nlri.proofs.Table.{rowOf, known}
 use Rattle.nlri.proofs.ReadRefusals.{readRefusals, not-done}
 use Rattle.nlri.proofs.Lengths.{address-most, originator-most, family-octets}
@@ -37,23 +37,23 @@ write-read afi s f space a e room =
     let len : length (encodeNlri f) ≤ space = omega (arith, ap length (r .encoded)) in
     write-well afi (r .family) (r .bits) f space (r .wellFormed) ∙ pick-false _ _ _ (le-ltb space (length (encodeNlri f)) len) ∙ ap given (sym (r .encoded))
 
-read-written : (afi : ℕ) (f : Fields) (space : ℕ) (e : List ℕ) → Held f → writeNlri afi f space ≡ given e → readNlri afi e ≡ given (restricted f)
+read-written : (afi : ℕ) (f : Fields) (space : ℕ) (e : List ℕ) → HoldsOctets f → writeNlri afi f space ≡ given e → readNlri afi e ≡ given (restricted f)
 read-written afi f space e held w =
     let p = passed _ _ _ (sym (write-is afi f space) ∙ w) in
     let r = written afi (p .value) (p .first) f held space e w in
     ap (readNlri afi) (sym (r .1)) ∙ read-encoded afi (p .value) f (p .first) (r .0)
 
 -- an address as a struct, and back
-address-back : (x : List ℕ) → length x ≤ 16 → octetsOf (addressOf x) ≡ x
-unfolding octetsOf addressOf
+address-back : (x : List ℕ) → length x ≤ 16 → addressOctets (addressStruct x) ≡ x
+unfolding addressOctets addressStruct
 address-back x h = sized-back 16 x h
 
-struct-back : (afi family : ℕ) (f : Fields) → familyBits afi ≡ given family → WellFormed family f → restricted f ≡ f → restricted (fieldsIn (nlriOf f) (f .key)) ≡ f
-unfolding restricted fieldsIn nlriOf distinguisherOf
+struct-back : (afi family : ℕ) (f : Fields) → familyBits afi ≡ given family → WellFormed family f → restricted f ≡ f → restricted (structFields (nlriStruct f) (f .key)) ≡ f
+unfolding restricted structFields nlriStruct distinguisherStruct
 struct-back afi family f bits w whole =
-    let body : List Kind = bodyOf (f .type) in
+    let body : List FieldKind = bodyOf (f .type) in
     let small : family ≤ 128 = family-octets afi family bits .1 in
-    let at : (k : Kind) → has k body ≡ true → WellFormedField (KeyOf family) family f k = λ k h. field-in-body (KeyOf family) family f k body (w .body) h in
+    let at : (k : FieldKind) → hasField k body ≡ true → WellFormedField (KeyOf family) family f k = λ k h. field-in-body (KeyOf family) family f k body (w .body) h in
     fields-same refl
     (pick-cong _ _ _ _ _ (λ h. sized-same 8 (f .distinguisher) (at distinguisher h .0)) (λ _. refl))
     refl
@@ -63,15 +63,15 @@ struct-back afi family f bits w whole =
     refl
     ∙ whole
 
-struct-same : (afi : ℕ) (s : List ℕ) (f : Fields) → AllOctets s → readNlri afi s ≡ given f → restricted (fieldsIn (nlriOf f) (f .key)) ≡ f
+struct-same : (afi : ℕ) (s : List ℕ) (f : Fields) → AllOctets s → readNlri afi s ≡ given f → restricted (structFields (nlriStruct f) (f .key)) ≡ f
 struct-same afi s f a e = let r = read-sound afi s f a e in struct-back afi (r .family) f (r .bits) (r .wellFormed) (r .whole)
 
-write-struct : (afi : ℕ) (s : List ℕ) (f : Fields) (space : ℕ) → AllOctets s → readNlri afi s ≡ given f → length s ≤ space → writeNlri afi (fieldsIn (nlriOf f) (f .key)) space ≡ given s
+write-struct : (afi : ℕ) (s : List ℕ) (f : Fields) (space : ℕ) → AllOctets s → readNlri afi s ≡ given f → length s ≤ space → writeNlri afi (structFields (nlriStruct f) (f .key)) space ≡ given s
 write-struct afi s f space a e room =
-    sym (write-restricted afi (fieldsIn (nlriOf f) (f .key)) space) ∙ ap (λ (g : Fields). writeNlri afi g space) (struct-same afi s f a e) ∙ write-read afi s f space a e room
+    sym (write-restricted afi (structFields (nlriStruct f) (f .key)) space) ∙ ap (λ (g : Fields). writeNlri afi g space) (struct-same afi s f a e) ∙ write-read afi s f space a e room
 
-struct-held : (nlri : Nlri) (octets : List ℕ) → HeldNlri nlri → AllOctets octets → Held (fieldsIn nlri octets)
-unfolding fieldsIn octetsOf
+struct-held : (nlri : Nlri) (octets : List ℕ) → StructHoldsOctets nlri → AllOctets octets → HoldsOctets (structFields nlri octets)
+unfolding structFields addressOctets
 struct-held nlri octets h k =
     record {
       distinguisher = h .distinguisher;
@@ -105,14 +105,14 @@ key-spanned afi s f a e = go (eqb (f .type) 4) refl
         take-none (f .key) _ (ap (λ (g : Fields). g .key) (sym (r .whole)) ∙ pick-false _ _ _ (row .plain (eqb-false _ _ other) .0))
 
 -- what the call of reading answers where it is DONE
-answered : (afi : ℕ) (s : List ℕ) (space : ℕ) → AllOctets s → readAnswer (readNlri afi s) .number ≡ DONE → length s ≤ space
-    → writeNlri afi (fieldsIn (readAnswer (readNlri afi s) .nlri) (part s (readAnswer (readNlri afi s) .key .start) (readAnswer (readNlri afi s) .key .size))) space ≡ given s
-unfolding readAnswer onOutcome
+answered : (afi : ℕ) (s : List ℕ) (space : ℕ) → AllOctets s → nlriAnswer (readNlri afi s) .number ≡ DONE → length s ≤ space
+    → writeNlri afi (structFields (nlriAnswer (readNlri afi s) .nlri) (part s (nlriAnswer (readNlri afi s) .key .start) (nlriAnswer (readNlri afi s) .key .size))) space ≡ given s
+unfolding nlriAnswer onOutcome
 answered afi s space a done room = go (readNlri afi s) refl done
   where
-    go : (o : Outcome Fields) → readNlri afi s ≡ o → readAnswer o .number ≡ DONE
-        → writeNlri afi (fieldsIn (readAnswer o .nlri) (part s (readAnswer o .key .start) (readAnswer o .key .size))) space ≡ given s
-    go (given f) e done = ap (λ (k : List ℕ). writeNlri afi (fieldsIn (nlriOf f) k) space) (key-spanned afi s f a e) ∙ write-struct afi s f space a e room
+    go : (o : Outcome Fields) → readNlri afi s ≡ o → nlriAnswer o .number ≡ DONE
+        → writeNlri afi (structFields (nlriAnswer o .nlri) (part s (nlriAnswer o .key .start) (nlriAnswer o .key .size))) space ≡ given s
+    go (given f) e done = ap (λ (k : List ℕ). writeNlri afi (structFields (nlriStruct f) k) space) (key-spanned afi s f a e) ∙ write-struct afi s f space a e room
     go (refused n) e done = absurd (not-done afi s n (readRefusals .exactly afi s n a .0 e) done)
 
 pub roundTrips : RoundTrips
@@ -125,5 +125,5 @@ roundTrips =
       spanned = key-spanned;
       structWritten = write-struct;
       answered = answered;
-      structRead = λ afi nlri octets space e h k w. read-written afi (fieldsIn nlri octets) space e (struct-held nlri octets h k) w;
+      structRead = λ afi nlri octets space e h k w. read-written afi (structFields nlri octets) space e (struct-held nlri octets h k) w;
     }

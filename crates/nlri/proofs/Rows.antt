@@ -1,4 +1,4 @@
--- The inner functions' definitions of a body are the page's, row by row.
+-- The inner functions' definitions of a body are document 01's, row by row.
 use mathlib.Core.Path.{_≡_, refl, sym, _∙_, ap, ap₂, subst}
 use mathlib.Core.Bool.{Bool, true, false}
 use mathlib.Core.List.{List, [], _∷_}
@@ -13,32 +13,32 @@ use Rattle.octets.specs.Choice.{pick}
 use Rattle.octets.specs.Outcome.{Outcome, given, refused, andThen}
 use Rattle.octets.proofs.Outcomes.{and-assoc, and-cong, and-pick, and-given, and-refused, pick-cong, pick-true, pick-false}
 use Rattle.nlri.specs.declared.layout.Layout.{Layout}
-use Rattle.nlri.specs.Family.{originatorSize}
-use Rattle.nlri.specs.Bodies.{Kind, distinguisher, sourceAs, source, group, originator, key, fieldIn, sameKind, codeOf, bodies, onBody}
+use Rattle.nlri.specs.Family.{isOriginatorSize}
+use Rattle.nlri.specs.Bodies.{FieldKind, distinguisher, sourceAs, source, group, originator, key, fieldIn, sameKind, codeOf, bodies, onBody}
 use Rattle.nlri.specs.Reading.{Laid, fixedField, originatorField, fieldSize, sizesOf}
 use Rattle.nlri.specs.Layouts.{layoutOf}
-use Rattle.nlri.specs.Inner.{layoutWith, originatorLast, endsAt, groupSize, flowSizes, flowEnd, flowRoute, intraAs, interAs, bodyWith}
+use Rattle.nlri.specs.Inner.{layoutWith, originatorLast, nothingLast, withGroup, flowSizes, flowEnd, flowRoute, intraAs, interAs, bodyWith}
 
 -- a body laid out, and then its layout
-unfoldable pub laidFor : (Kind → List ℕ → Outcome ℕ) → (type : ℕ) → List ℕ → List Kind → Outcome Laid
+unfoldable pub laidFor : (FieldKind → List ℕ → Outcome ℕ) → (type : ℕ) → List ℕ → List FieldKind → Outcome Laid
 laidFor size type s body = andThen (sizesOf size body s) (λ sizes. given (record { type = type; size = length s; body = body; sizes = sizes }))
 
-unfoldable pub rowLayout : (Kind → List ℕ → Outcome ℕ) → (type : ℕ) → List ℕ → List Kind → Outcome Layout
+unfoldable pub rowLayout : (FieldKind → List ℕ → Outcome ℕ) → (type : ℕ) → List ℕ → List FieldKind → Outcome Layout
 rowLayout size type s body = andThen (laidFor size type s body) (λ laid. given (layoutOf laid))
 
-layoutFrom : (type n : ℕ) → List Kind → List ℕ → Layout
+layoutFrom : (type n : ℕ) → List FieldKind → List ℕ → Layout
 layoutFrom type n body sizes = layoutOf (record { type = type; size = n; body = body; sizes = sizes })
 
-row-is : (size : Kind → List ℕ → Outcome ℕ) (type : ℕ) (s : List ℕ) (body : List Kind) → rowLayout size type s body ≡ andThen (sizesOf size body s) (λ sizes. given (layoutFrom type (length s) body sizes))
+row-is : (size : FieldKind → List ℕ → Outcome ℕ) (type : ℕ) (s : List ℕ) (body : List FieldKind) → rowLayout size type s body ≡ andThen (sizesOf size body s) (λ sizes. given (layoutFrom type (length s) body sizes))
 unfolding rowLayout laidFor layoutFrom
 row-is size type s body = and-assoc _ _ _ ∙ and-cong _ _ _ (λ sizes e. and-given _ _)
 
-lay-cons : {B : Type 0} (size : Kind → List ℕ → Outcome ℕ) (k : Kind) (body : List Kind) (s : List ℕ) (next : List ℕ → Outcome B)
+lay-cons : {B : Type 0} (size : FieldKind → List ℕ → Outcome ℕ) (k : FieldKind) (body : List FieldKind) (s : List ℕ) (next : List ℕ → Outcome B)
     → andThen (sizesOf size (k ∷ body) s) next ≡ andThen (size k s) (λ n. andThen (sizesOf size body (drop n s)) (λ sizes. next (n ∷ sizes)))
 unfolding sizesOf
 lay-cons size k body s next = and-assoc _ _ _ ∙ and-cong _ _ _ (λ n e. and-assoc _ _ _ ∙ and-cong _ _ _ (λ sizes e′. and-given _ _))
 
-lay-nil : {B : Type 0} (size : Kind → List ℕ → Outcome ℕ) (s : List ℕ) (next : List ℕ → Outcome B)
+lay-nil : {B : Type 0} (size : FieldKind → List ℕ → Outcome ℕ) (s : List ℕ) (next : List ℕ → Outcome B)
     → andThen (sizesOf size [] s) next ≡ pick (eqb (length s) 0) (next []) (refused LENGTH)
 unfolding sizesOf
 lay-nil size s next = and-pick _ _ _ _ ∙ ap₂ (pick _) (and-given _ _) (and-refused _ _)
@@ -48,27 +48,27 @@ unfolding fixedField
 fixed-then n s next = and-pick _ _ _ _ ∙ ap₂ (pick _) (and-refused _ _) (and-given _ _)
 
 module _ (keyField : List ℕ → Outcome ℕ) (family type : ℕ) where
-  size : Kind → List ℕ → Outcome ℕ
+  size : FieldKind → List ℕ → Outcome ℕ
   size = fieldSize keyField family type
 
   originator-last : {B : Type 0} (s : List ℕ) (next : List ℕ → Outcome B)
-      → andThen (sizesOf size (originator ∷ []) s) next ≡ pick (originatorSize (length s)) (next (length s ∷ [])) (refused LENGTH)
+      → andThen (sizesOf size (originator ∷ []) s) next ≡ pick (isOriginatorSize (length s)) (next (length s ∷ [])) (refused LENGTH)
   unfolding size fieldSize originatorField
   originator-last s next =
       lay-cons _ _ _ _ _ ∙ and-pick _ _ _ _
       ∙ ap₂ (pick _) (and-given _ _ ∙ lay-nil _ _ _ ∙ pick-true _ _ _ (eq-eqb _ _ (ap length (drop-length s)))) (and-refused _ _)
 
-  flow-then : {B : Type 0} (rest : List Kind) (s : List ℕ) (next : List ℕ → Outcome B)
+  flow-then : {B : Type 0} (rest : List FieldKind) (s : List ℕ) (next : List ℕ → Outcome B)
       → andThen (sizesOf size (source ∷ group ∷ rest) s) next
       ≡ andThen (flowSizes family type s) (λ ab. andThen (sizesOf size rest (drop (ab .1) (drop (ab .0) s))) (λ sizes. next (ab .0 ∷ ab .1 ∷ sizes)))
-  unfolding size fieldSize flowSizes groupSize
+  unfolding size fieldSize flowSizes withGroup
   flow-then rest s next =
       lay-cons _ _ _ _ _
       ∙ and-cong _ _ _ (λ a e. lay-cons _ _ _ _ _ ∙ and-cong _ _ _ (λ b e′. sym (and-given _ _)) ∙ sym (and-assoc _ _ _))
       ∙ sym (and-assoc _ _ _)
 
   -- the two fixed fields of types 2, 6 and 7 refuse alike
-  source-as-then : {B : Type 0} (rest : List Kind) (s : List ℕ) (next : List ℕ → Outcome B)
+  source-as-then : {B : Type 0} (rest : List FieldKind) (s : List ℕ) (next : List ℕ → Outcome B)
       → andThen (sizesOf size (distinguisher ∷ sourceAs ∷ rest) s) next
       ≡ pick (ltb (length s) 12) (refused LENGTH) (andThen (sizesOf size rest (drop 12 s)) (λ sizes. next (8 ∷ 4 ∷ sizes)))
   unfolding size fieldSize
@@ -85,7 +85,7 @@ module _ (keyField : List ℕ → Outcome ℕ) (family type : ℕ) where
           go false p true q = pick-false _ _ _ p ∙ pick-true _ _ _ q ∙ sym (pick-true _ _ _ (lt-ltb n 12 (omega (arith, ltb-true, ltb-false))))
           go false p false q = pick-false _ _ _ p ∙ pick-false _ _ _ q ∙ sym (pick-false _ _ _ (le-ltb n 12 (omega (arith, ltb-false))))
 
-  distinguisher-then : {B : Type 0} (rest : List Kind) (s : List ℕ) (next : List ℕ → Outcome B)
+  distinguisher-then : {B : Type 0} (rest : List FieldKind) (s : List ℕ) (next : List ℕ → Outcome B)
       → andThen (sizesOf size (distinguisher ∷ rest) s) next
       ≡ pick (ltb (length s) 8) (refused LENGTH) (andThen (sizesOf size rest (drop 8 s)) (λ sizes. next (8 ∷ sizes)))
   unfolding size fieldSize
@@ -117,21 +117,21 @@ unfolding layoutFrom layoutOf layoutWith fieldIn sameKind codeOf pick
 layout-join type n a b = refl
 
 -- how a body ends
-last-is : (type n a b k rest rest′ : ℕ) (l : Layout) → l ≡ layoutWith type n a b rest k → rest ≡ rest′ → pick (originatorSize rest) (given l) (refused LENGTH) ≡ originatorLast (layoutWith type n a b rest′ k)
+last-is : (type n a b k rest rest′ : ℕ) (l : Layout) → l ≡ layoutWith type n a b rest k → rest ≡ rest′ → pick (isOriginatorSize rest) (given l) (refused LENGTH) ≡ originatorLast (layoutWith type n a b rest′ k)
 unfolding originatorLast layoutWith
-last-is type n a b k rest rest′ l e q = ap (λ (x : Layout). pick (originatorSize rest) (given x) (refused LENGTH)) e ∙ ap (λ (m : ℕ). originatorLast (layoutWith type n a b m k)) q
+last-is type n a b k rest rest′ l e q = ap (λ (x : Layout). pick (isOriginatorSize rest) (given x) (refused LENGTH)) e ∙ ap (λ (m : ℕ). originatorLast (layoutWith type n a b m k)) q
 
-end-is : (type n a b rest rest′ : ℕ) (l : Layout) → l ≡ layoutWith type n a b 0 0 → rest ≡ rest′ → pick (eqb rest 0) (given l) (refused LENGTH) ≡ endsAt (layoutWith type n a b rest′ 0)
-unfolding endsAt layoutWith
+end-is : (type n a b rest rest′ : ℕ) (l : Layout) → l ≡ layoutWith type n a b 0 0 → rest ≡ rest′ → pick (eqb rest 0) (given l) (refused LENGTH) ≡ nothingLast (layoutWith type n a b rest′ 0)
+unfolding nothingLast layoutWith
 end-is type n a b rest rest′ l e q =
     pick-cong _ _ _ _ _ (λ none. ap given (e ∙ ap (λ (m : ℕ). layoutWith type n a b m 0) (sym (eqb-true rest 0 none)))) (λ _. refl)
-    ∙ ap (λ (m : ℕ). endsAt (layoutWith type n a b m 0)) q
+    ∙ ap (λ (m : ℕ). nothingLast (layoutWith type n a b m 0)) q
 
 flow-ends-in-originator : (n a b rest : ℕ) → originatorLast (layoutWith 3 n (a - 1) (b - 1) rest 0) ≡ flowEnd 3 n a b rest
 unfolding flowEnd
 flow-ends-in-originator n a b rest = sym (pick-true _ _ _ refl)
 
-flow-ends : (type n a b rest : ℕ) → eqb type 3 ≡ false → endsAt (layoutWith type n (a - 1) (b - 1) rest 0) ≡ flowEnd type n a b rest
+flow-ends : (type n a b rest : ℕ) → eqb type 3 ≡ false → nothingLast (layoutWith type n (a - 1) (b - 1) rest 0) ≡ flowEnd type n a b rest
 unfolding flowEnd
 flow-ends type n a b rest h = sym (pick-false _ _ _ h)
 
@@ -180,7 +180,7 @@ module _ (keyField : List ℕ → Outcome ℕ) (family : ℕ) (s : List ℕ) whe
       row-is _ _ _ _ ∙ lay-cons _ _ _ _ _
       ∙ and-cong _ _ _ (λ n e. originator-last keyField family 4 _ _ ∙ last-is 4 _ 0 0 n _ _ _ (layout-leaf _ n _) (length-drop n s))
 
-  -- every row: the page's table of bodies is the chain of tests
+  -- every row: document 01's table of bodies is the chain of tests
   pub rows : (type : ℕ) → onBody bodies type (refused TYPE) (rowLayout (fieldSize keyField family type) type s)
       ≡ bodyWith (andThen (keyField s) (λ size. originatorLast (layoutWith 4 (length s) 0 0 (length s - size) size))) family type s
   unfolding onBody bodies bodyWith

@@ -14,12 +14,12 @@ use Rattle.octets.specs.Octets.{part}
 use Rattle.octets.proofs.Outcomes.{on-mapped, and-given, pick-true, pick-false}
 use Rattle.octets.proofs.Picked.{tested}
 use Rattle.octets.proofs.Tests.{goes, stops, on-given, on-refused}
-use Rattle.octets.proofs.Inversions.{opposite, unless, only, passed, given-same}
+use Rattle.octets.proofs.Inversions.{opposite, given-otherwise, given-unless, passed, given-same}
 use Rattle.nlri.specs.declared.layout.Layout.{Layout}
-use Rattle.nlri.specs.Family.{familyBits, originatorSize}
+use Rattle.nlri.specs.Family.{familyBits, isOriginatorSize}
 use Rattle.nlri.specs.Reading.{fieldsOf, readNlri, isSPmsi}
 use Rattle.nlri.specs.Layouts.{layoutOf, layoutAt}
-use Rattle.nlri.specs.Inner.{layoutWith, originatorLast, lastFault, flowSizes, flowEnd, flowFault, flowRoute, bodyWith, anyBody, header, anyFront, endsWith, single, ofSPmsi, sPmsiUnder}
+use Rattle.nlri.specs.Inner.{layoutWith, originatorLast, lastFault, flowSizes, flowEnd, flowFault, flowRoute, bodyWith, anyBody, headerAt, anyFront, endsWith, single, ofSPmsi, sPmsiUnder}
 use Rattle.nlri.proofs.Fronts.{front-is, layout-octets}
 use Rattle.nlri.proofs.Numbered.{refused-of, front-done, last-number}
 use Rattle.nlri.proofs.Ends.{flow-number}
@@ -45,7 +45,7 @@ none-of (given l) h = go (eqb (l .«route_type») 3) refl
 -- a source and a group judged in the whole NLRI, where they stand two octets further
 end-alone : (size size′ a b rest rest′ : ℕ) → rest ≡ rest′ → numberOf (flowEnd 3 size a b rest) ≡ numberOf (flowEnd 3 size′ a b rest′)
 unfolding flowEnd originatorLast layoutWith pick
-end-alone size size′ a b rest rest′ e = sym (last-number _ _) ∙ ap (λ (k : ℕ). lastFault (originatorSize k)) e ∙ last-number _ _
+end-alone size size′ a b rest rest′ e = sym (last-number _ _) ∙ ap (λ (k : ℕ). lastFault (isOriginatorSize k)) e ∙ last-number _ _
 
 ends-alike : (o : Outcome (ℕ × ℕ)) (n m : ℕ) → m - 8 ≡ n - 10
     → numberOf (andThen o (λ sizes. flowEnd 3 m (sizes .0) (sizes .1) (m - 8 - sizes .0 - sizes .1))) ≡ numberOf (andThen o (λ sizes. flowEnd 3 n (sizes .0) (sizes .1) (n - 10 - sizes .0 - sizes .1)))
@@ -66,9 +66,9 @@ module _ (family : ℕ) (s : List ℕ) where
 
   -- the NLRI at the front, where it is of type 3 and nothing stands behind it
   front-three : 2 ≤ length s → getD s 0 0 ≡ 3 → getD s 1 0 ≡ length s - 2 → layoutAt family s ≡ flowRoute family 3 8 (drop 2 s)
-  unfolding anyFront header anyBody bodyWith pick
+  unfolding anyFront headerAt anyBody bodyWith pick
   front-three enough t n =
-      let typed : header s ≡ given (3, length s - 2) = rw (le-ltb (length s) 2 enough, le-ltb (length s - 2) (getD s 1 0) (omega arith), t, n) in
+      let typed : headerAt s ≡ given (3, length s - 2) = rw (le-ltb (length s) 2 enough, le-ltb (length s - 2) (getD s 1 0) (omega arith), t, n) in
       front ∙ ap (λ (o : Outcome (ℕ × ℕ)). andThen o (λ h. anyBody family (h .0) (part s 2 (h .1)))) typed ∙ and-given _ _ ∙ ap (flowRoute family 3 8) (whole-part s (length s - 2) refl)
 
   -- the octets of a single NLRI of type 3
@@ -76,11 +76,11 @@ module _ (family : ℕ) (s : List ℕ) where
   unfolding single endsWith flowRoute
   opens l e three =
       let w = passed _ _ _ e in
-      let end = only _ _ _ _ (w .second) in
+      let end = given-unless _ _ _ _ (w .second) in
       let h = layout-octets family s (w .value) (w .first) in
       let t : getD s 0 0 ≡ 3 = sym (h .2) ∙ ap (λ (x : Layout). x .«route_type») (given-same (end .1)) ∙ three in
       let n : getD s 1 0 ≡ length s - 2 = sym (h .3) ∙ sym (eqb-true _ _ (end .0)) in
-      let long = unless _ _ _ _ (sym (front-three (h .0) t n) ∙ w .first) .0 in
+      let long = given-otherwise _ _ _ _ (sym (front-three (h .0) t n) ∙ w .first) .0 in
       (t, n, omega (arith, ltb-false, length-drop 2 s))
 
   -- with the header of a single NLRI of type 3, the number decides
@@ -92,7 +92,7 @@ module _ (family : ℕ) (s : List ℕ) where
       sym (on-given true _ (r .0) _ _ (sym (goes _ _ (r .0) _ (r .1) (sym (pick-true _ _ _ (eq-eqb (length s - 2) (r .0 .length) (sym n ∙ sym (h .3))))))) (sym (eq-eqb _ 3 (h .2 ∙ t)))) ∙ sym yes)
       (λ no. sym (on-refused false _ _ _ _ (sym (stops _ _ _ (refused-of _ _ refl (eqb-false _ _ no)))) refl) ∙ sym no)
 
-  -- the page's reading of a single NLRI, by the octets
+  -- document 01's reading of a single NLRI, by the octets
   s-pmsi-by-octets : ofSPmsi (single family s) ≡ sPmsiUnder family s
   unfolding sPmsiUnder
   s-pmsi-by-octets =

@@ -14,13 +14,13 @@ use Rattle.octets.specs.Choice.{pick, either, both}
 use Rattle.octets.specs.Outcome.{Outcome, given, refused, andThen}
 use Rattle.octets.specs.Octets.{part, numberIn}
 use Rattle.octets.proofs.Outcomes.{pick-true, pick-false}
-use Rattle.octets.proofs.Inversions.{never, opposite, unless, only, passed, given-same, either-true, both-true-right}
-use Rattle.nlri.specs.Family.{allowed, originatorSize}
-use Rattle.nlri.specs.Bodies.{Kind, distinguisher, sourceAs, source, group, originator, key, bodies, onBody, fieldIn, sameKind, codeOf}
+use Rattle.octets.proofs.Inversions.{never, opposite, given-otherwise, given-unless, passed, given-same, either-true, both-true-right}
+use Rattle.nlri.specs.Family.{allowed, isOriginatorSize}
+use Rattle.nlri.specs.Bodies.{FieldKind, distinguisher, sourceAs, source, group, originator, key, bodies, onBody, fieldIn, sameKind, codeOf}
 use Rattle.nlri.specs.Reading.{Laid, addressEnd, addressField, originatorField, fieldSize, sizesOf, laidWith, laidAt, laidSingle, keyField, cut, fieldsOf}
 use Rattle.nlri.specs.Layouts.{layoutOf}
 use Rattle.nlri.proofs.FieldRecords.{fields-same}
-use Rattle.nlri.specs.Inner.{withSourceAs, sourceStart, distinguisherAt, sourceAsAt, fieldsAt, Within}
+use Rattle.nlri.specs.Inner.{withSourceAs, sourceStart, distinguisherAt, sourceAsAt, fieldsAt, LayoutWithin}
 use Rattle.nlri.proofs.Fronts.{laid-within, key-within}
 use Rattle.nlri.proofs.Sizes.{fixed-is, address-within}
 
@@ -30,7 +30,7 @@ unfolding pick
 choose true x y a e f g = f refl e
 choose false x y a e f g = g refl e
 
-each-row : {A : Type 0} (C : Type 0) (type n : ℕ) (next : List Kind → Outcome A) (a : A) → onBody bodies type (refused n) next ≡ given a
+each-row : {A : Type 0} (C : Type 0) (type n : ℕ) (next : List FieldKind → Outcome A) (a : A) → onBody bodies type (refused n) next ≡ given a
     → (type ≡ 1 → next (distinguisher ∷ originator ∷ []) ≡ given a → C)
     → (type ≡ 2 → next (distinguisher ∷ sourceAs ∷ []) ≡ given a → C)
     → (type ≡ 3 → next (distinguisher ∷ source ∷ group ∷ originator ∷ []) ≡ given a → C)
@@ -49,30 +49,30 @@ each-row C type n next a e f₁ f₂ f₃ f₄ f₅ f₆ =
     (λ _ e₇. choose _ _ _ a e₇ (λ t. f₆ (inr (eqb-true _ _ t))) (λ _ e₈. absurd (never e₈ refl))))))))
 
 -- the sizes of a body's fields, one at a time
-record First (size : Kind → List ℕ → Outcome ℕ) (k : Kind) (body : List Kind) (s sizes : List ℕ) : Type 0 where
+record First (size : FieldKind → List ℕ → Outcome ℕ) (k : FieldKind) (body : List FieldKind) (s sizes : List ℕ) : Type 0 where
   here : ℕ
   rest : List ℕ
   taken : size k s ≡ given here
   left : sizesOf size body (drop here s) ≡ given rest
   all : here ∷ rest ≡ sizes
 
-first : (size : Kind → List ℕ → Outcome ℕ) (k : Kind) (body : List Kind) (s sizes : List ℕ) → sizesOf size (k ∷ body) s ≡ given sizes → First size k body s sizes
+first : (size : FieldKind → List ℕ → Outcome ℕ) (k : FieldKind) (body : List FieldKind) (s sizes : List ℕ) → sizesOf size (k ∷ body) s ≡ given sizes → First size k body s sizes
 unfolding sizesOf
 first size k body s sizes e =
     let p = passed _ _ _ e in
     let q = passed _ _ _ (p .second) in
     record { here = p .value; rest = q .value; taken = p .first; left = q .first; all = given-same (q .second) }
 
-none : (size : Kind → List ℕ → Outcome ℕ) (s sizes : List ℕ) → sizesOf size [] s ≡ given sizes → (length s ≡ 0) × ([] ≡ sizes)
+none : (size : FieldKind → List ℕ → Outcome ℕ) (s sizes : List ℕ) → sizesOf size [] s ≡ given sizes → (length s ≡ 0) × ([] ≡ sizes)
 unfolding sizesOf
-none size s sizes e = let p = only _ _ _ _ e in (eqb-true _ _ (p .0), given-same (p .1))
+none size s sizes e = let p = given-unless _ _ _ _ e in (eqb-true _ _ (p .0), given-same (p .1))
 
 originator-is : (s : List ℕ) (n : ℕ) → originatorField s ≡ given n → (length s ≡ n) × (n ≤ 16)
-unfolding originatorField originatorSize
+unfolding originatorField isOriginatorSize
 originator-is s n e = go (either-true _ _ (p .0))
   where
     p : (either (eqb (length s) 4) (eqb (length s) 16) ≡ true) × (given (length s) ≡ given n)
-    p = only _ _ _ _ e
+    p = given-unless _ _ _ _ e
 
     q : length s ≡ n
     q = given-same (p .1)
@@ -93,8 +93,8 @@ bits-most family type bits e = go (either-true _ _ e)
 address-most : (family type : ℕ) (s : List ℕ) (n : ℕ) → addressField family type s ≡ given n → n ≤ 1 + family / 8
 unfolding addressField addressEnd
 address-most family type s n e =
-    let p = only _ _ _ _ (unless _ _ _ _ e .1) in
-    let q = given-same (unless _ _ _ _ (p .1) .1) in
+    let p = given-unless _ _ _ _ (given-otherwise _ _ _ _ e .1) in
+    let q = given-same (given-otherwise _ _ _ _ (p .1) .1) in
     let h = bits-most family type (getD s 0 0) (p .0) in
     omega arith
 
@@ -120,13 +120,13 @@ at-part s start start′ size size′ p q = ap₂ (part s) p q
 -- what a single NLRI's layout says of it
 pub record Shaped (laid : Laid) (s : List ℕ) : Type 0 where
   pub fields : fieldsOf laid s ≡ fieldsAt (layoutOf laid) s
-  pub within : Within (layoutOf laid) s
+  pub within : LayoutWithin (layoutOf laid) s
 
 starts : (type : ℕ) → withSourceAs type ≡ true → sourceStart type ≡ 15
 unfolding sourceStart
 starts type h = pick-true _ _ _ h
 
-laidRow : (type n : ℕ) → List Kind → List ℕ → Laid
+laidRow : (type n : ℕ) → List FieldKind → List ℕ → Laid
 laidRow type n body sizes = record { type = type; size = n; body = body; sizes = sizes }
 
 module _ (family n : ℕ) (s : List ℕ) (small : family / 8 ≤ 16) (enough : 2 ≤ length s) where
@@ -295,7 +295,7 @@ module _ (family n : ℕ) (s : List ℕ) (small : family / 8 ≤ 16) (enough : 2
         (shaped-leaf (k .here) (o .here) (fk .0) (fk .1) (fo .0) (fo .1))
 
     -- a source and a group: their sizes within what stood there
-    record Flowed (type : ℕ) (body : List Kind) (x sizes : List ℕ) : Type 0 where
+    record Flowed (type : ℕ) (body : List FieldKind) (x sizes : List ℕ) : Type 0 where
       a : ℕ
       b : ℕ
       rest : List ℕ
@@ -305,7 +305,7 @@ module _ (family n : ℕ) (s : List ℕ) (small : family / 8 ≤ 16) (enough : 2
       left : sizesOf (fieldSize kf family type) body (drop b (drop a x)) ≡ given rest
       all : a ∷ b ∷ rest ≡ sizes
 
-    flowed : (type : ℕ) (body : List Kind) (x sizes : List ℕ) → sizesOf (fieldSize kf family type) (source ∷ group ∷ body) x ≡ given sizes → Flowed type body x sizes
+    flowed : (type : ℕ) (body : List FieldKind) (x sizes : List ℕ) → sizesOf (fieldSize kf family type) (source ∷ group ∷ body) x ≡ given sizes → Flowed type body x sizes
     unfolding fieldSize
     flowed type body x sizes e =
         let p = first _ _ _ _ _ e in
@@ -376,7 +376,7 @@ whole-part s n e = take-all n (drop 2 s) (rw length-drop (omega arith))
 
 module _ (family : ℕ) (s : List ℕ) (laid : Laid) (n : length s - 2 ≡ getD s 1 0) where
   -- a row's shape, for the type and the octets that were read
-  by-row : (type : ℕ) (body : List Kind) → getD s 0 0 ≡ type
+  by-row : (type : ℕ) (body : List FieldKind) → getD s 0 0 ≡ type
       → andThen (sizesOf (fieldSize (keyField family) family (getD s 0 0)) body (part s 2 (getD s 1 0))) (λ sizes. given (laidRow (getD s 0 0) (getD s 1 0) body sizes)) ≡ given laid
       → ((sizes : List ℕ) → sizesOf (fieldSize (keyField family) family type) body (drop 2 s) ≡ given sizes → Shaped (laidRow type (getD s 1 0) body sizes) s) → Shaped laid s
   by-row type body t r shape =
@@ -390,11 +390,11 @@ pub shaped : (family : ℕ) (s : List ℕ) (laid : Laid) → family / 8 ≤ 16 �
 unfolding laidSingle laidAt laidWith laidRow withSourceAs either
 shaped family s laid small e =
     let w = passed _ _ _ e in
-    let single = only _ _ _ _ (w .second) in
+    let single = given-unless _ _ _ _ (w .second) in
     let same : w .value ≡ laid = given-same (single .1) in
     let facts = laid-within (keyField family) family s (w .value) (w .first) in
     let n : length s - 2 ≡ getD s 1 0 = eqb-true _ _ (single .0) ∙ facts .3 in
-    let rows = unless _ _ _ _ (unless _ _ _ _ (w .first) .1) .1 in
+    let rows = given-otherwise _ _ _ _ (given-otherwise _ _ _ _ (w .first) .1) .1 in
     subst (λ (x : Laid). Shaped x s) same
     (each-row (Shaped (w .value) s) (getD s 0 0) TYPE _ (w .value) rows
     (λ t r. by-row family s (w .value) n 1 _ t r (row-intra-as family (getD s 1 0) s small (facts .0) (keyField family)))

@@ -21,8 +21,8 @@ use Rattle.nlri.specs.Family.{familyBits}
 use Rattle.nlri.specs.Fields.{Fields}
 use Rattle.nlri.specs.Reading.{laidSingle, fieldsOf, readNlri}
 use Rattle.nlri.specs.Layouts.{layoutOf, layoutAt, layoutSingle}
-use Rattle.nlri.specs.Answers.{nlriOf, keySpan, readAnswer}
-use Rattle.nlri.specs.Inner.{withSourceAs, sourceStart, fieldsAt, keyAt, Within, endsWith, single}
+use Rattle.nlri.specs.Answers.{nlriStruct, keySpan, nlriAnswer}
+use Rattle.nlri.specs.Inner.{withSourceAs, sourceStart, fieldsAt, keyAt, LayoutWithin, endsWith, single}
 use Rattle.nlri.proofs.Lengths.{family-octets}
 use Rattle.octets.proofs.Lists.{part-length}
 use Rattle.nlri.proofs.Shapes.{shaped}
@@ -38,7 +38,7 @@ single-is o afi s e = e ∙ and-cong _ _ _ (λ family q. single-laid family s)
 
 module _ (afi : ℕ) (s : List ℕ) where
   -- the fields are those that the layout says, and they lie within the NLRI
-  pub read-by-layout : (l : Layout) → layoutSingle afi s ≡ given l → (readNlri afi s ≡ given (fieldsAt l s)) × Within l s
+  pub read-by-layout : (l : Layout) → layoutSingle afi s ≡ given l → (readNlri afi s ≡ given (fieldsAt l s)) × LayoutWithin l s
   unfolding layoutSingle readNlri
   read-by-layout l e =
       let f = passed _ _ _ e in
@@ -46,7 +46,7 @@ module _ (afi : ℕ) (s : List ℕ) where
       let same : layoutOf (w .value) ≡ l = given-same (w .second) in
       let shape = shaped (f .value) s (w .value) (omega (arith, family-octets afi (f .value) (f .first))) (w .first) in (
         sym (goes (given (fieldsAt l s)) _ (f .value) _ (f .first) (goes (given (fieldsAt l s)) _ (w .value) _ (w .first) (ap given (ap (λ (x : Layout). fieldsAt x s) (sym same) ∙ sym (shape .fields))))),
-        subst (λ (x : Layout). Within x s) same (shape .within),
+        subst (λ (x : Layout). LayoutWithin x s) same (shape .within),
       )
 
   pub read-refused : (n : ℕ) → layoutSingle afi s ≡ refused n → readNlri afi s ≡ refused n
@@ -71,9 +71,9 @@ pub key-same : (l : Layout) (s : List ℕ) → 2 + l .key ≤ length s → keyAt
 unfolding keyAt keySpan fieldsAt
 key-same l s h = λ i. record { start = pick (eqb (l .«route_type») 4) 2 0; size = sym (part-length s 2 (l .key) h) i }
 
-pub answer-given : (afi : ℕ) (s : List ℕ) (f : Fields) (nlri : Nlri) (key : Span) → readNlri afi s ≡ given f → nlri ≡ nlriOf f → key ≡ keySpan f → record { number = 0; nlri = nlri; key = key } ≡ readAnswer (readNlri afi s)
-unfolding readAnswer onOutcome
-answer-given afi s f nlri key e p q = (λ i. record { number = 0; nlri = p i; key = q i }) ∙ ap readAnswer (sym e)
+pub answer-given : (afi : ℕ) (s : List ℕ) (f : Fields) (nlri : Nlri) (key : Span) → readNlri afi s ≡ given f → nlri ≡ nlriStruct f → key ≡ keySpan f → record { number = 0; nlri = nlri; key = key } ≡ nlriAnswer (readNlri afi s)
+unfolding nlriAnswer onOutcome
+answer-given afi s f nlri key e p q = (λ i. record { number = 0; nlri = p i; key = q i }) ∙ ap nlriAnswer (sym e)
 
-pub answer-refused : (r : NlriReading) (afi : ℕ) (s : List ℕ) (n : ℕ) → r ≡ readAnswer (refused n) → readNlri afi s ≡ refused n → r ≡ readAnswer (readNlri afi s)
-answer-refused r afi s n p e = p ∙ ap readAnswer (sym e)
+pub answer-refused : (r : NlriReading) (afi : ℕ) (s : List ℕ) (n : ℕ) → r ≡ nlriAnswer (refused n) → readNlri afi s ≡ refused n → r ≡ nlriAnswer (readNlri afi s)
+answer-refused r afi s n p e = p ∙ ap nlriAnswer (sym e)

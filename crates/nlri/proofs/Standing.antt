@@ -16,13 +16,13 @@ use Rattle.octets.specs.Octets.{part}
 use Rattle.octets.proofs.Lists.{part-length}
 use Rattle.octets.proofs.Tests.{picks, skips, goes, stops}
 use Rattle.octets.proofs.Outcomes.{on-mapped}
-use Rattle.octets.proofs.Inversions.{never, unless, only, passed, given-same, on-given-given}
+use Rattle.octets.proofs.Inversions.{never, given-otherwise, given-unless, passed, given-same, on-given-given}
 use Rattle.nlri.specs.declared.layout.Layout.{Layout}
 use Rattle.nlri.specs.declared.read.Header.{Header}
 use Rattle.nlri.specs.declared.read.Header.the-variants.{Typed, Unread}
 use Rattle.nlri.specs.Reading.{addressEnd, addressField, noKey, keyField}
 use Rattle.nlri.specs.Layouts.{layoutOf, layoutAt}
-use Rattle.nlri.specs.Inner.{headerOf, layoutWith, originatorLast, endsAt, groupSize, flowSizes, flowEnd, flowRoute, intraAs, interAs, leaf, bodyWith, unkeyedBody, anyBody, header, unkeyed, unkeyedHeader, anyFront, keySize, withSourceAs, sourceStart, sizeAt, flowLayout, leafLayout, layoutIn, FlowStands, Stands}
+use Rattle.nlri.specs.Inner.{headerOutcome, layoutWith, originatorLast, nothingLast, withGroup, flowSizes, flowEnd, flowRoute, intraAs, interAs, leaf, bodyWith, unkeyedBody, anyBody, headerAt, unkeyed, unkeyedHeader, anyFront, keySize, withSourceAs, sourceStart, sizeAt, flowLayout, leafLayout, layoutIn, FlowStands, Stands}
 use Rattle.nlri.proofs.Sizes.{address-within}
 use Rattle.nlri.proofs.Fronts.{front-is, key-is, laid-within, key-within, unkeyed-is, unkeyed-within}
 use Rattle.nlri.proofs.Numbered.{refused-of, unkeyed-done, front-done}
@@ -31,26 +31,26 @@ use Rattle.nlri.proofs.Shapes.{choose}
 -- an address takes its length octet and as many bits as that says
 address-is : (family type : ℕ) (s : List ℕ) (n : ℕ) → addressField family type s ≡ given n → n ≡ 1 + getD s 0 0 / 8
 unfolding addressField addressEnd
-address-is family type s n e = sym (given-same (unless _ _ _ _ (only _ _ _ _ (unless _ _ _ _ e .1) .1) .1))
+address-is family type s n e = sym (given-same (given-otherwise _ _ _ _ (given-unless _ _ _ _ (given-otherwise _ _ _ _ e .1) .1) .1))
 
 -- a key takes its header and as many octets as its Length says
 pub key-is-long : (family : ℕ) (s : List ℕ) (k : ℕ) → keyField family s ≡ given k → k ≡ 2 + getD s 1 0
 unfolding keyField
 key-is-long family s k e =
     let w = on-given-given _ _ _ _ e in
-    let q = given-same (unless _ _ _ _ (w .second) .1) in
+    let q = given-same (given-otherwise _ _ _ _ (w .second) .1) in
     let h = laid-within noKey family s (w .value) (w .first) in
     omega (arith, h .3)
 
 originator-kept : (l m : Layout) → originatorLast l ≡ given m → l ≡ m
 unfolding originatorLast
-originator-kept l m e = given-same (only _ _ _ _ e .1)
+originator-kept l m e = given-same (given-unless _ _ _ _ e .1)
 
-ends-kept : (l m : Layout) → endsAt l ≡ given m → l ≡ m
-unfolding endsAt
-ends-kept l m e = given-same (only _ _ _ _ e .1)
+ends-kept : (l m : Layout) → nothingLast l ≡ given m → l ≡ m
+unfolding nothingLast
+ends-kept l m e = given-same (given-unless _ _ _ _ e .1)
 
-last-is : (b : Bool) (l m : Layout) → pick b (originatorLast l) (endsAt l) ≡ given m → l ≡ m
+last-is : (b : Bool) (l m : Layout) → pick b (originatorLast l) (nothingLast l) ≡ given m → l ≡ m
 unfolding pick
 last-is true l m e = originator-kept l m e
 last-is false l m e = ends-kept l m e
@@ -62,10 +62,10 @@ layout-same : (type n n′ a a′ b b′ o o′ : ℕ) → n ≡ n′ → a ≡ 
 layout-same type n n′ a a′ b b′ o o′ pn pa pb po = λ i. layoutWith type (pn i) (pa i) (pb i) (po i) 0
 
 -- type and Length stand in the first two octets
-header-octets : (s : List ℕ) (type size : ℕ) → header s ≡ given (type, size) → (getD s 0 0 ≡ type) × (getD s 1 0 ≡ size)
-unfolding header
+header-octets : (s : List ℕ) (type size : ℕ) → headerAt s ≡ given (type, size) → (getD s 0 0 ≡ type) × (getD s 1 0 ≡ size)
+unfolding headerAt
 header-octets s type size e =
-    let same = given-same (unless _ _ _ _ (unless _ _ _ _ e .1) .1) in
+    let same = given-same (given-otherwise _ _ _ _ (given-otherwise _ _ _ _ e .1) .1) in
     (ap (λ (z : ℕ × ℕ). z .0) same, ap (λ (z : ℕ × ℕ). z .1) same)
 
 pub unkeyed-octets : (family : ℕ) (s : List ℕ) (l : Layout) → unkeyed family s ≡ given l → (l .«route_type» ≡ getD s 0 0) × (l .length ≡ getD s 1 0)
@@ -90,13 +90,13 @@ module _ (s : List ℕ) (within : 2 + getD s 1 0 ≤ length s) where
   intra-laid : (l : Layout) → intraAs (part s 2 (getD s 1 0)) ≡ given l → (8 ≤ getD s 1 0) × (l ≡ layoutWith 1 (getD s 1 0) 0 0 (getD s 1 0 - 8) 0)
   unfolding intraAs originatorLast
   intra-laid l e =
-      let p = unless _ _ _ _ e in
-      (omega (arith, ltb-false, body-length), sym (given-same (only _ _ _ _ (p .1) .1)) ∙ ap (λ (m : ℕ). layoutWith 1 m 0 0 (m - 8) 0) body-length)
+      let p = given-otherwise _ _ _ _ e in
+      (omega (arith, ltb-false, body-length), sym (given-same (given-unless _ _ _ _ (p .1) .1)) ∙ ap (λ (m : ℕ). layoutWith 1 m 0 0 (m - 8) 0) body-length)
 
   inter-laid : (l : Layout) → interAs (part s 2 (getD s 1 0)) ≡ given l → l ≡ layoutWith 2 (getD s 1 0) 0 0 0 0
-  unfolding interAs endsAt layoutWith
+  unfolding interAs nothingLast layoutWith
   inter-laid l e =
-      let p = only _ _ _ _ (unless _ _ _ _ e .1) in
+      let p = given-unless _ _ _ _ (given-otherwise _ _ _ _ e .1) in
       sym (given-same (p .1)) ∙ ap₂ (λ (m o : ℕ). layoutWith 2 m 0 0 o 0) body-length (eqb-true _ _ (p .0))
 
   leaf-laid : (family : ℕ) (l : Layout) → leaf family (part s 2 (getD s 1 0)) ≡ given l → ((4 ≤ length s) × (2 + getD s 3 0 ≤ getD s 1 0)) × (l ≡ leafLayout s)
@@ -106,13 +106,13 @@ module _ (s : List ℕ) (within : 2 + getD s 1 0 ≤ length s) where
       let h = key-within family _ (p .value) (p .first) in
       let n : length (part s 2 (getD s 1 0)) ≡ getD s 1 0 = body-length in
       let k : p .value ≡ 2 + getD s 3 0 = key-is-long family _ (p .value) (p .first) ∙ ap (λ (x : ℕ). 2 + x) (octet 1 (omega arith)) in
-      ((omega arith, omega arith), sym (given-same (only _ _ _ _ (p .second) .1)) ∙ ap₂ (λ (m x : ℕ). layoutWith 4 m 0 0 (m - x) x) n k)
+      ((omega arith, omega arith), sym (given-same (given-unless _ _ _ _ (p .second) .1)) ∙ ap₂ (λ (m x : ℕ). layoutWith 4 m 0 0 (m - x) x) n k)
 
   module _ (family type fixed at : ℕ) (start : at ≡ 2 + fixed) where
     flow-laid : (l : Layout) → flowRoute family type fixed (part s 2 (getD s 1 0)) ≡ given l → FlowStands at s × (l ≡ flowLayout type at s)
-    unfolding flowRoute flowSizes groupSize flowEnd flowLayout sizeAt
+    unfolding flowRoute flowSizes withGroup flowEnd flowLayout sizeAt
     flow-laid l e =
-        let p = passed _ _ _ (unless _ _ _ _ e .1) in
+        let p = passed _ _ _ (given-otherwise _ _ _ _ e .1) in
         let q = passed _ _ _ (p .first) in
         let r = passed _ _ _ (q .second) in
         let a : ℕ = q .value in
@@ -185,11 +185,11 @@ module _ (s : List ℕ) (within : 2 + getD s 1 0 ≤ length s) where
         (λ _ e₈. absurd (never e₈ refl))))))))
 
 stands : (family : ℕ) (s : List ℕ) (l : Layout) → layoutAt family s ≡ given l → Stands s × (l ≡ layoutIn s)
-unfolding anyFront header
+unfolding anyFront headerAt
 stands family s l e =
     let p = passed _ _ _ (front-is (anyFront family s) family s refl ∙ e) in
-    let first = unless _ _ _ _ (p .first) in
-    let second = unless _ _ _ _ (first .1) in
+    let first = given-otherwise _ _ _ _ (p .first) in
+    let second = given-otherwise _ _ _ _ (first .1) in
     let enough : 2 ≤ length s = ltb-false _ _ (first .0) in
     let long : getD s 1 0 ≤ length s - 2 = ltb-false _ _ (second .0) in
     laid-out s (omega arith) family l enough (ap (λ (h : ℕ × ℕ). anyBody family (h .0) (part s 2 (h .1))) (given-same (second .1)) ∙ p .second)
@@ -212,11 +212,11 @@ start-least type = least (withSourceAs type)
 
 -- type and Length of an NLRI without a key, by its header and its body's number
 module _ (family : ℕ) (s : List ℕ) where
-  pub unkeyed-unread : (r : Header) (n : ℕ) → headerOf r ≡ header s → r ≡ Unread n → headerOf (Unread n) ≡ unkeyedHeader family s
-  unfolding unkeyedHeader unkeyed headerOf
-  unkeyed-unread r n p q = stops _ n _ (sym (stops (header s) n _ (sym p ∙ ap headerOf q)))
+  pub unkeyed-unread : (r : Header) (n : ℕ) → headerOutcome r ≡ headerAt s → r ≡ Unread n → headerOutcome (Unread n) ≡ unkeyedHeader family s
+  unfolding unkeyedHeader unkeyed headerOutcome
+  unkeyed-unread r n p q = stops _ n _ (sym (stops (headerAt s) n _ (sym p ∙ ap headerOutcome q)))
 
-  module _ (type size : ℕ) (h : header s ≡ given (type, size)) (body : List ℕ) (fault : ℕ) (b : body ≡ part s 2 size) (f : fault ≡ numberOf (unkeyedBody family type body)) where
+  module _ (type size : ℕ) (h : headerAt s ≡ given (type, size)) (body : List ℕ) (fault : ℕ) (b : body ≡ part s 2 size) (f : fault ≡ numberOf (unkeyedBody family type body)) where
     body-number : fault ≡ numberOf (unkeyedBody family type (part s 2 size))
     body-number = f ∙ ap (λ (x : List ℕ). numberOf (unkeyedBody family type x)) b
 
@@ -224,12 +224,12 @@ module _ (family : ℕ) (s : List ℕ) where
     unfolding unkeyed
     unkeyed-by = sym (goes _ _ _ _ h refl)
 
-    pub unkeyed-refused : (fault ≡ 0 → ⊥) → headerOf (Unread fault) ≡ unkeyedHeader family s
-    unfolding unkeyedHeader headerOf
+    pub unkeyed-refused : (fault ≡ 0 → ⊥) → headerOutcome (Unread fault) ≡ unkeyedHeader family s
+    unfolding unkeyedHeader headerOutcome
     unkeyed-refused no-fault = stops _ fault _ (unkeyed-by ∙ refused-of _ fault body-number no-fault)
 
-    pub unkeyed-typed : fault ≡ 0 → headerOf (Typed type size) ≡ unkeyedHeader family s
-    unfolding unkeyedHeader headerOf
+    pub unkeyed-typed : fault ≡ 0 → headerOutcome (Typed type size) ≡ unkeyedHeader family s
+    unfolding unkeyedHeader headerOutcome
     unkeyed-typed q =
         let r = unkeyed-done family type (part s 2 size) (sym body-number ∙ q) in
         let o = unkeyed-octets family s (r .0) (unkeyed-by ∙ r .1) in

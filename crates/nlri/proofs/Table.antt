@@ -13,28 +13,28 @@ use Rattle.octets.proofs.Outcomes.{pick-true, pick-false}
 use Rattle.octets.proofs.Tests.{either-left}
 use Rattle.octets.proofs.Refusals.{either-false-left, either-false-right, either-second, is-false}
 use Rattle.octets.proofs.Inversions.{opposite, either-true, both-true-left, both-true-right}
-use Rattle.nlri.specs.Bodies.{Kind, distinguisher, sourceAs, source, group, originator, key, Row, row, bodies, onBody, bodyOf, codeOf, sameKind, fieldIn, has}
+use Rattle.nlri.specs.Bodies.{FieldKind, distinguisher, sourceAs, source, group, originator, key, Row, row, bodies, onBody, bodyOf, codeOf, sameKind, fieldIn, hasField}
 
 unfoldable pub listed : List Row → ℕ → Bool
 listed [] type = false
 listed (row n body ∷ rows) type = either (eqb type n) (listed rows type)
 
-bodyIn : List Row → ℕ → List Kind
+bodyIn : List Row → ℕ → List FieldKind
 bodyIn table type = onBody table type [] (λ body. body)
 
-step : {B : Type 0} (b d : Bool) (body rest : List Kind) (x other : B) (next : List Kind → B) → x ≡ pick d (next rest) other
+step : {B : Type 0} (b d : Bool) (body rest : List FieldKind) (x other : B) (next : List FieldKind → B) → x ≡ pick d (next rest) other
     → pick b (next body) x ≡ pick (either b d) (next (pick b body rest)) other
 unfolding pick either
 step true d body rest x other next e = refl
 step false d body rest x other next e = e
 
-on-table : {B : Type 0} (table : List Row) (type : ℕ) (other : B) (next : List Kind → B) → onBody table type other next ≡ pick (listed table type) (next (bodyIn table type)) other
+on-table : {B : Type 0} (table : List Row) (type : ℕ) (other : B) (next : List FieldKind → B) → onBody table type other next ≡ pick (listed table type) (next (bodyIn table type)) other
 unfolding onBody listed pick bodyIn
 on-table [] type other next = refl
 on-table (row n body ∷ rows) type other next = step (eqb type n) (listed rows type) body (bodyIn rows type) _ other next (on-table rows type other next)
 
 -- the table either lists the type, or not
-pub on-body : {B : Type 0} (type : ℕ) (other : B) (next : List Kind → B) → onBody bodies type other next ≡ pick (listed bodies type) (next (bodyOf type)) other
+pub on-body : {B : Type 0} (type : ℕ) (other : B) (next : List FieldKind → B) → onBody bodies type other next ≡ pick (listed bodies type) (next (bodyOf type)) other
 unfolding bodyOf bodyIn
 on-body type other next = on-table bodies type other next
 
@@ -51,11 +51,11 @@ known (suc (suc (suc (suc (suc (suc (suc zero))))))) low high = refl
 known (suc (suc (suc (suc (suc (suc (suc (suc n)))))))) low high = absurd (omega arith)
 
 -- a test that every row passes
-every : (ℕ → List Kind → Bool) → List Row → Bool
+every : (ℕ → List FieldKind → Bool) → List Row → Bool
 every test [] = true
 every test (row n body ∷ rows) = both (test n body) (every test rows)
 
-every-listed : (test : ℕ → List Kind → Bool) (table : List Row) (type : ℕ) → every test table ≡ true → listed table type ≡ true → test type (bodyIn table type) ≡ true
+every-listed : (test : ℕ → List FieldKind → Bool) (table : List Row) (type : ℕ) → every test table ≡ true → listed table type ≡ true → test type (bodyIn table type) ≡ true
 unfolding every listed bodyIn onBody either pick
 every-listed test [] type e l = absurd (opposite l refl)
 every-listed test (row n body ∷ rows) type e l =
@@ -67,12 +67,12 @@ every-listed test (row n body ∷ rows) type e l =
     go false other l here later = later l
 
 -- no kind of field stands twice
-unfoldable pub distinct : List Kind → Bool
+unfoldable pub distinct : List FieldKind → Bool
 distinct [] = true
-distinct (k ∷ body) = both (not (has k body)) (distinct body)
+distinct (k ∷ body) = both (not (hasField k body)) (distinct body)
 
 -- an originator is what remains: nothing stands after it
-unfoldable pub closes : Kind → List Kind → Bool
+unfoldable pub closes : FieldKind → List FieldKind → Bool
 closes distinguisher body = true
 closes sourceAs body = true
 closes source body = true
@@ -81,12 +81,12 @@ closes originator [] = true
 closes originator (k ∷ body) = false
 closes key body = true
 
-unfoldable pub closed : List Kind → Bool
+unfoldable pub closed : List FieldKind → Bool
 closed [] = true
 closed (k ∷ body) = both (closes k body) (closed body)
 
 -- the most octets that a body takes, where a key takes at most `w`
-unfoldable pub most : ℕ → Kind → ℕ
+unfoldable pub most : ℕ → FieldKind → ℕ
 most w distinguisher = 8
 most w sourceAs = 4
 most w source = 17
@@ -94,14 +94,14 @@ most w group = 17
 most w originator = 16
 most w key = w
 
-unfoldable pub mostIn : ℕ → List Kind → ℕ
+unfoldable pub mostIn : ℕ → List FieldKind → ℕ
 mostIn w [] = 0
 mostIn w (k ∷ body) = most w k + mostIn w body
 
-rowTest : ℕ → List Kind → Bool
+rowTest : ℕ → List FieldKind → Bool
 rowTest n body =
     both (both (leb 1 n) (leb n 7))
-    (both (both (distinct body) (closed body)) (both (leb (mostIn 60 body) 76) (either (eqb n 4) (both (not (has key body)) (leb (mostIn 60 body) 58)))))
+    (both (both (distinct body) (closed body)) (both (leb (mostIn 60 body) 76) (either (eqb n 4) (both (not (hasField key body)) (leb (mostIn 60 body) 58)))))
 
 -- what holds of the row of a type
 pub record RowOf (type : ℕ) : Type 0 where
@@ -111,10 +111,10 @@ pub record RowOf (type : ℕ) : Type 0 where
   pub closed : closed (bodyOf type) ≡ true
   pub most : mostIn 60 (bodyOf type) ≤ 76
   -- only a Leaf has a key
-  pub plain : (type ≡ 4 → ⊥) → (has key (bodyOf type) ≡ false) × (mostIn 60 (bodyOf type) ≤ 58)
+  pub plain : (type ≡ 4 → ⊥) → (hasField key (bodyOf type) ≡ false) × (mostIn 60 (bodyOf type) ≤ 58)
 
 tested : every rowTest bodies ≡ true
-unfolding every rowTest bodies both distinct closed closes mostIn most has either sameKind codeOf
+unfolding every rowTest bodies both distinct closed closes mostIn most hasField either sameKind codeOf
 tested = refl
 
 pub rowOf : (type : ℕ) → listed bodies type ≡ true → RowOf type
@@ -139,14 +139,14 @@ pub unlisted : (type : ℕ) → ((1 ≤ type) × (type ≤ 7) → ⊥) → liste
 unlisted type h = is-false _ (λ l. let row = rowOf type l in h (row .low, row .high))
 
 -- kinds by their codes
-same-self : (k : Kind) → sameKind k k ≡ true
+same-self : (k : FieldKind) → sameKind k k ≡ true
 unfolding sameKind
 same-self k = eq-eqb (codeOf k) (codeOf k) refl
 
-kindAt : ℕ → Kind
+kindAt : ℕ → FieldKind
 kindAt n = pick (eqb n 0) distinguisher (pick (eqb n 1) sourceAs (pick (eqb n 2) source (pick (eqb n 3) group (pick (eqb n 4) originator key))))
 
-by-code : (k : Kind) → k ≡ kindAt (codeOf k)
+by-code : (k : FieldKind) → k ≡ kindAt (codeOf k)
 unfolding kindAt codeOf pick
 by-code distinguisher = refl
 by-code sourceAs = refl
@@ -155,44 +155,44 @@ by-code group = refl
 by-code originator = refl
 by-code key = refl
 
-pub same-kind : (a b : Kind) → sameKind a b ≡ true → a ≡ b
+pub same-kind : (a b : FieldKind) → sameKind a b ≡ true → a ≡ b
 unfolding sameKind
 same-kind a b e = by-code a ∙ ap kindAt (eqb-true (codeOf a) (codeOf b) e) ∙ sym (by-code b)
 
 -- of what a function makes of each kind along a body, the one of a kind is the function's at that kind
-pub field-of-map : {A : Type 0} (none : A) (g : Kind → A) (kind : Kind) (body : List Kind) → fieldIn none kind body (map g body) ≡ pick (has kind body) (g kind) none
-unfolding fieldIn has pick either
+pub field-of-map : {A : Type 0} (none : A) (g : FieldKind → A) (kind : FieldKind) (body : List FieldKind) → fieldIn none kind body (map g body) ≡ pick (hasField kind body) (g kind) none
+unfolding fieldIn hasField pick either
 field-of-map none g kind [] = refl
 field-of-map none g kind (k ∷ body) = go (sameKind kind k) refl (field-of-map none g kind body)
   where
-    go : (b : Bool) → sameKind kind k ≡ b → fieldIn none kind body (map g body) ≡ pick (has kind body) (g kind) none
-        → pick b (g k) (fieldIn none kind body (map g body)) ≡ pick (either b (has kind body)) (g kind) none
+    go : (b : Bool) → sameKind kind k ≡ b → fieldIn none kind body (map g body) ≡ pick (hasField kind body) (g kind) none
+        → pick b (g k) (fieldIn none kind body (map g body)) ≡ pick (either b (hasField kind body)) (g kind) none
     go true e later = ap g (sym (same-kind kind k e))
     go false e later = later
 
 -- the elements of a list that goes along a body, each as a function has it at its kind
-abbrev pub Along : {A : Type 0} → (Kind → A) → List Kind → List A → Type 0
+abbrev pub Along : {A : Type 0} → (FieldKind → A) → List FieldKind → List A → Type 0
 Along field [] xs = Unit {0}
 Along field (k ∷ body) [] = ⊥
 Along field (k ∷ body) (x ∷ xs) = (field k ≡ x) × Along field body xs
 
-pub has-first : (k : Kind) (body : List Kind) → has k (k ∷ body) ≡ true
-unfolding has
+pub has-first : (k : FieldKind) (body : List FieldKind) → hasField k (k ∷ body) ≡ true
+unfolding hasField
 has-first k body = either-left _ _ (same-self k)
 
-pub has-later : (kind k : Kind) (body : List Kind) → has kind body ≡ true → has kind (k ∷ body) ≡ true
-unfolding has
+pub has-later : (kind k : FieldKind) (body : List FieldKind) → hasField kind body ≡ true → hasField kind (k ∷ body) ≡ true
+unfolding hasField
 has-later kind k body h = either-second _ _ h
 
-along-same : {A : Type 0} (field other : Kind → A) (body : List Kind) (xs : List A) → ((kind : Kind) → has kind body ≡ true → other kind ≡ field kind) → Along field body xs → Along other body xs
+along-same : {A : Type 0} (field other : FieldKind → A) (body : List FieldKind) (xs : List A) → ((kind : FieldKind) → hasField kind body ≡ true → other kind ≡ field kind) → Along field body xs → Along other body xs
 along-same field other [] xs h a = tt
 along-same field other (k ∷ body) [] h a = a
 along-same field other (k ∷ body) (x ∷ xs) h a = (h k (has-first k body) ∙ a .0, along-same field other body xs (λ kind e. h kind (has-later kind k body e)) (a .1))
 
-apart : (kind k : Kind) (body : List Kind) → has kind body ≡ true → has k body ≡ false → sameKind kind k ≡ false
-apart kind k body h n = is-false _ (λ e. opposite (ap (λ (x : Kind). has x body) (sym (same-kind kind k e)) ∙ h) n)
+apart : (kind k : FieldKind) (body : List FieldKind) → hasField kind body ≡ true → hasField k body ≡ false → sameKind kind k ≡ false
+apart kind k body h n = is-false _ (λ e. opposite (ap (λ (x : FieldKind). hasField x body) (sym (same-kind kind k e)) ∙ h) n)
 
-pub along-fields : {A : Type 0} (none : A) (body : List Kind) (xs : List A) → distinct body ≡ true → length xs ≡ length body → Along (λ kind. fieldIn none kind body xs) body xs
+pub along-fields : {A : Type 0} (none : A) (body : List FieldKind) (xs : List A) → distinct body ≡ true → length xs ≡ length body → Along (λ kind. fieldIn none kind body xs) body xs
 unfolding fieldIn distinct
 along-fields none [] xs d l = tt
 along-fields none (k ∷ body) [] d l = absurd (omega arith)
@@ -203,8 +203,8 @@ along-fields none (k ∷ body) (x ∷ xs) d l = (
 )
 
 -- a field that the body lacks
-pub lacks : {A : Type 0} (none : A) (kind : Kind) (body : List Kind) (xs : List A) → has kind body ≡ false → fieldIn none kind body xs ≡ none
-unfolding fieldIn has
+pub lacks : {A : Type 0} (none : A) (kind : FieldKind) (body : List FieldKind) (xs : List A) → hasField kind body ≡ false → fieldIn none kind body xs ≡ none
+unfolding fieldIn hasField
 lacks none kind [] xs h = refl
 lacks none kind (k ∷ body) [] h = refl
 lacks none kind (k ∷ body) (x ∷ xs) h = pick-false _ _ _ (either-false-left _ _ h) ∙ lacks none kind body xs (either-false-right _ _ h)

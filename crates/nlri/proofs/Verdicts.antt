@@ -1,4 +1,4 @@
--- The writer's verdict on an NLRI, and what it then writes, is the page's, type by type.
+-- The writer's verdict on an NLRI, and what it then writes, is document 01's, type by type.
 use mathlib.Core.Path.{_≡_, refl, sym, _∙_, ap, ap₂, subst}
 use mathlib.Core.Bool.{Bool, true, false}
 use mathlib.Core.Logic.{_⊎_, inl, inr}
@@ -18,13 +18,13 @@ use Rattle.octets.proofs.Inversions.{both-true-left, both-true-right, either-tr
 use Rattle.octets.proofs.Outcomes.{and-cong, pick-true, pick-false}
 use Rattle.octets.proofs.Picked.{pick-done}
 use Rattle.nlri.specs.declared.fields.Nlri.{Nlri}
-use Rattle.nlri.specs.Family.{familyBits, allowed, originatorSize}
+use Rattle.nlri.specs.Family.{familyBits, allowed, isOriginatorSize}
 use Rattle.nlri.specs.Bodies.{bodies, onBody, bodyOf}
 use Rattle.nlri.specs.Fields.{Fields, encodeField, encodeBody, encodeNlri}
 use Rattle.nlri.specs.Writing.{widthFits, widthsFit, keyFits, keysFit, isKey, writeNlri}
-use Rattle.nlri.specs.Answers.{octetsOf, fieldsIn}
+use Rattle.nlri.specs.Answers.{addressOctets, structFields}
 use Rattle.nlri.specs.Inner.{withSourceAs}
-use Rattle.nlri.specs.InnerWriting.{hasFlow, hasOriginator, flowFits, originatorFits, leafFits, judged, sizeOf, sourceAsOctets, fixedOctets, flowOctets, originatorOctets, bodyOctets, allOctets, AddressSize, Sized, writeUnder}
+use Rattle.nlri.specs.InnerWriting.{hasFlow, hasOriginator, flowFits, originatorFits, leafFits, fieldsFault, sizeOf, sourceAsOctets, fixedOctets, flowOctets, originatorOctets, bodyOctets, nlriOctets, AddressSize, AddressesSized, writeUnder}
 use Rattle.nlri.proofs.Keys.{key-octets}
 use Rattle.nlri.proofs.Writes.{key-judged}
 use Rattle.nlri.proofs.Puts.{octets-length, size-is, fixed-short, flow-short, originator-short}
@@ -85,11 +85,11 @@ known P type p₁ p₂ p₃ p₄ p₅ p₆ p₇ low high = by-type P type p₁ p
     not-out (inr h) = omega arith
 
 module _ (nlri : Nlri) (key : List ℕ) where
-  -- the body that is written is the page's, for each type
-  body-at : (type : ℕ) → 1 ≤ type → type ≤ 7 → nlri .«route_type» ≡ type → encodeBody (fieldsIn nlri key) (bodyOf type) ≡ bodyOctets nlri key
-  unfolding encodeBody encodeField fieldsIn bodyOf bodies onBody pick either bodyOctets fixedOctets sourceAsOctets flowOctets originatorOctets withSourceAs hasFlow hasOriginator
+  -- the body that is written is document 01's, for each type
+  body-at : (type : ℕ) → 1 ≤ type → type ≤ 7 → nlri .«route_type» ≡ type → encodeBody (structFields nlri key) (bodyOf type) ≡ bodyOctets nlri key
+  unfolding encodeBody encodeField structFields bodyOf bodies onBody pick either bodyOctets fixedOctets sourceAsOctets flowOctets originatorOctets withSourceAs hasFlow hasOriginator
   body-at type low high =
-      known (λ (n : ℕ). nlri .«route_type» ≡ n → encodeBody (fieldsIn nlri key) (bodyOf n) ≡ bodyOctets nlri key) type
+      known (λ (n : ℕ). nlri .«route_type» ≡ n → encodeBody (structFields nlri key) (bodyOf n) ≡ bodyOctets nlri key) type
       (λ e. rw e (simp (append-nil, append-assoc)))
       (λ e. rw e (simp (append-nil, append-assoc)))
       (λ e. rw e (simp (append-nil, append-assoc)))
@@ -99,11 +99,11 @@ module _ (nlri : Nlri) (key : List ℕ) where
       (λ e. rw e (simp (append-nil, append-assoc)))
       low high
 
-  all-is : 1 ≤ nlri .«route_type» → nlri .«route_type» ≤ 7 → encodeNlri (fieldsIn nlri key) ≡ allOctets nlri key
-  unfolding encodeNlri allOctets fieldsIn
+  all-is : 1 ≤ nlri .«route_type» → nlri .«route_type» ≤ 7 → encodeNlri (structFields nlri key) ≡ nlriOctets nlri key
+  unfolding encodeNlri nlriOctets structFields
   all-is low high = ap (λ (b : List ℕ). nlri .«route_type» ∷ length b ∷ b) (body-at (nlri .«route_type») low high refl)
 
--- the verdict on a body: the page's is the writer's
+-- the verdict on a body: document 01's is the writer's
 module _ (family : ℕ) (f : Fields) (A : Type 0) (done short wide : A) where
   mine : ℕ → A
   mine type =
@@ -114,10 +114,10 @@ module _ (family : ℕ) (f : Fields) (A : Type 0) (done short wide : A) where
   unfolding mine widthsFit widthFits keysFit keyFits bodyOf bodies onBody pick either both flowFits originatorFits leafFits hasFlow hasOriginator
   verdict-at type low high =
       known (λ (n : ℕ). f .type ≡ n → pick (widthsFit family f (bodyOf n)) (pick (keysFit family f (bodyOf n)) done short) wide ≡ mine n) type
-      (λ e. widths-1 (originatorSize (length (f .originator))) A done wide)
+      (λ e. widths-1 (isOriginatorSize (length (f .originator))) A done wide)
       (λ e. refl)
-      (λ e. rw e (widths-3 (allowed family 3 (8 * length (f .source))) (allowed family 3 (8 * length (f .group))) (originatorSize (length (f .originator))) A done wide))
-      (λ e. leaf-tests (originatorSize (length (f .originator))) (isKey family (f .key)) A done short wide)
+      (λ e. rw e (widths-3 (allowed family 3 (8 * length (f .source))) (allowed family 3 (8 * length (f .group))) (isOriginatorSize (length (f .originator))) A done wide))
+      (λ e. leaf-tests (isOriginatorSize (length (f .originator))) (isKey family (f .key)) A done short wide)
       (λ e. rw e (widths-2 (allowed family 5 (8 * length (f .source))) (allowed family 5 (8 * length (f .group))) A done wide))
       (λ e. rw e (widths-2 (allowed family 6 (8 * length (f .source))) (allowed family 6 (8 * length (f .group))) A done wide))
       (λ e. rw e (widths-2 (allowed family 7 (8 * length (f .source))) (allowed family 7 (8 * length (f .group))) A done wide))
@@ -137,20 +137,20 @@ verdict-number false false true true true o = refl
 
 module _ (nlri : Nlri) (key : List ℕ) (space family : ℕ) (eight : length (nlri .distinguisher .octets) ≡ 8) where
   f : Fields
-  f = fieldsIn nlri key
+  f = structFields nlri key
 
-  -- what is written, by the page and by the writer
+  -- what is written, by document 01 and by the writer
   page : Outcome (List ℕ)
   page = pick (ltb space (length (encodeNlri f))) (refused SPACE) (given (encodeNlri f))
 
   ours : Outcome (List ℕ)
-  ours = pick (ltb space (sizeOf nlri (length key))) (refused SPACE) (given (allOctets nlri key))
+  ours = pick (ltb space (sizeOf nlri (length key))) (refused SPACE) (given (nlriOctets nlri key))
 
   same-octets : 1 ≤ nlri .«route_type» → nlri .«route_type» ≤ 7 → page ≡ ours
   unfolding page ours f
   same-octets low high =
       ap (λ (e : List ℕ). pick (ltb space (length e)) (refused SPACE) (given e)) (all-is nlri key low high)
-      ∙ ap (λ (n : ℕ). pick (ltb space n) (refused SPACE) (given (allOctets nlri key))) (sym (size-is nlri key eight))
+      ∙ ap (λ (n : ℕ). pick (ltb space n) (refused SPACE) (given (nlriOctets nlri key))) (sym (size-is nlri key eight))
 
   tested : ℕ → Outcome (List ℕ) → Outcome (List ℕ)
   tested type o =
@@ -167,11 +167,11 @@ module _ (nlri : Nlri) (key : List ℕ) (space family : ℕ) (eight : length (nl
       refl refl refl refl refl refl refl low high
 
   within : (type : ℕ) → nlri .«route_type» ≡ type → 1 ≤ type → type ≤ 7 → row-is type ≡ tested type ours
-  unfolding tested mine f fieldsIn
+  unfolding tested mine f structFields
   within type e low high =
       in-table type low high
-      ∙ verdict-at family (fieldsIn nlri key) (Outcome (List ℕ)) page (refused KEY) (refused WIDTH) type low high e
-      ∙ ap₂ (λ (a b : ℕ). pick (flowFits family type a b) (pick (originatorFits type (length (octetsOf (nlri .originator)))) (pick (leafFits family type key) page (refused KEY)) (refused WIDTH)) (refused WIDTH)) (octets-length (nlri .source)) (octets-length (nlri .group))
+      ∙ verdict-at family (structFields nlri key) (Outcome (List ℕ)) page (refused KEY) (refused WIDTH) type low high e
+      ∙ ap₂ (λ (a b : ℕ). pick (flowFits family type a b) (pick (originatorFits type (length (addressOctets (nlri .originator)))) (pick (leafFits family type key) page (refused KEY)) (refused WIDTH)) (refused WIDTH)) (octets-length (nlri .source)) (octets-length (nlri .group))
       ∙ ap₂ (λ (c : ℕ) (o : Outcome (List ℕ)). pick (flowFits family type (nlri .source .size) (nlri .group .size)) (pick (originatorFits type c) (pick (leafFits family type key) o (refused KEY)) (refused WIDTH)) (refused WIDTH)) (octets-length (nlri .originator)) (same-octets (omega (arith, e)) (omega (arith, e)))
       ∙ sym (pick-false _ _ _ (le-ltb type 1 low) ∙ pick-false _ _ _ (le-ltb 7 type high))
 
@@ -191,7 +191,7 @@ module _ (nlri : Nlri) (key : List ℕ) (space family : ℕ) (eight : length (nl
       refusal (inr h) = sym (pick-false (ltb type 1) _ _ (le-ltb type 1 (omega arith)) ∙ pick-true (ltb 7 type) _ _ (lt-ltb 7 type h))
 
   under-is : row-is (nlri .«route_type») ≡ writeUnder family nlri key space
-  unfolding writeUnder judged tested ours
+  unfolding writeUnder fieldsFault tested ours
   under-is =
       by-type (λ (n : ℕ). nlri .«route_type» ≡ n → row-is n ≡ tested n ours) (nlri .«route_type»)
       (λ e. within 1 e (omega arith) (omega arith)) (λ e. within 2 e (omega arith) (omega arith)) (λ e. within 3 e (omega arith) (omega arith)) (λ e. within 4 e (omega arith) (omega arith))
@@ -200,8 +200,8 @@ module _ (nlri : Nlri) (key : List ℕ) (space family : ℕ) (eight : length (nl
       ∙ sym (verdict-number _ _ _ _ _ _)
 
 pub write-is : (afi : ℕ) (nlri : Nlri) (key : List ℕ) (space : ℕ) → length (nlri .distinguisher .octets) ≡ 8
-    → andThen (familyBits afi) (λ family. writeUnder family nlri key space) ≡ writeNlri afi (fieldsIn nlri key) space
-unfolding writeNlri row-is page f fieldsIn
+    → andThen (familyBits afi) (λ family. writeUnder family nlri key space) ≡ writeNlri afi (structFields nlri key) space
+unfolding writeNlri row-is page f structFields
 write-is afi nlri key space eight = and-cong _ _ _ (λ family e. sym (under-is nlri key space family eight))
 
 -- what follows where the writer finds no fault
@@ -219,15 +219,15 @@ octets-size family type size f h = go f (either-true _ _ h)
     go (inr e) (inl b) = let q : 8 * size ≡ family = eqb-true _ _ b in (omega arith, λ four sixteen. omega arith)
     go g (inr b) = let q : 8 * size ≡ 0 = eqb-true _ _ (both-true-right _ _ b) in (omega arith, λ four sixteen. omega arith)
 
-originator-octets : (size : ℕ) → originatorSize size ≡ true → AddressSize size
-unfolding originatorSize
+originator-octets : (size : ℕ) → isOriginatorSize size ≡ true → AddressSize size
+unfolding isOriginatorSize
 originator-octets size h = go (either-true _ _ h)
   where
     go : (eqb size 4 ≡ true) ⊎ (eqb size 16 ≡ true) → AddressSize size
     go (inl e) = let q : size ≡ 4 = eqb-true _ _ e in (omega arith, λ four sixteen. omega arith)
     go (inr e) = let q : size ≡ 16 = eqb-true _ _ e in (omega arith, λ four sixteen. omega arith)
 
-module _ (family : ℕ) (nlri : Nlri) (key : List ℕ) (none : judged family nlri key ≡ 0) where
+module _ (family : ℕ) (nlri : Nlri) (key : List ℕ) (none : fieldsFault family nlri key ≡ 0) where
   record Faultless : Type 0 where
     typed : nlri .«route_type» ≤ 7
     flow : flowFits family (nlri .«route_type») (nlri .source .size) (nlri .group .size) ≡ true
@@ -235,7 +235,7 @@ module _ (family : ℕ) (nlri : Nlri) (key : List ℕ) (none : judged family nlr
     leaf : leafFits family (nlri .«route_type») key ≡ true
 
   faultless : Faultless
-  unfolding judged
+  unfolding fieldsFault
   faultless =
       let p = pick-done _ 2 _ (λ e. omega arith) none in
       let q = pick-done _ 2 _ (λ e. omega arith) (p .1) in
@@ -244,7 +244,7 @@ module _ (family : ℕ) (nlri : Nlri) (key : List ℕ) (none : judged family nlr
       let t = number-only _ 5 _ (λ e. omega arith) (s .1) in
       record { typed = ltb-false 7 (nlri .«route_type») (q .0); flow = r .0; origin = s .0; leaf = t .0 }
 
-  pub sized-nlri : (family ≡ 32) ⊎ (family ≡ 128) → Sized nlri
+  pub sized-nlri : (family ≡ 32) ⊎ (family ≡ 128) → AddressesSized nlri
   unfolding flowFits originatorFits
   sized-nlri f =
       record {
@@ -266,15 +266,15 @@ module _ (family : ℕ) (nlri : Nlri) (key : List ℕ) (none : judged family nlr
       omega arith
 
 module _ (family : ℕ) (nlri : Nlri) (key : List ℕ) (space : ℕ) where
-  pub refused-under : (judged family nlri key ≡ 0 → ⊥) → refused (judged family nlri key) ≡ writeUnder family nlri key space
+  pub refused-under : (fieldsFault family nlri key ≡ 0 → ⊥) → refused (fieldsFault family nlri key) ≡ writeUnder family nlri key space
   unfolding writeUnder
   refused-under h = sym (pick-false _ _ _ (ne-eqb _ _ h))
 
-  pub space-under : judged family nlri key ≡ 0 → space < sizeOf nlri (length key) → refused SPACE ≡ writeUnder family nlri key space
+  pub space-under : fieldsFault family nlri key ≡ 0 → space < sizeOf nlri (length key) → refused SPACE ≡ writeUnder family nlri key space
   unfolding writeUnder
   space-under e h = sym (pick-true _ _ _ (eq-eqb _ _ e) ∙ pick-true _ _ _ (lt-ltb _ _ h))
 
-  pub given-under : judged family nlri key ≡ 0 → sizeOf nlri (length key) ≤ space → given (allOctets nlri key) ≡ writeUnder family nlri key space
+  pub given-under : fieldsFault family nlri key ≡ 0 → sizeOf nlri (length key) ≤ space → given (nlriOctets nlri key) ≡ writeUnder family nlri key space
   unfolding writeUnder
   given-under e h = sym (pick-true _ _ _ (eq-eqb _ _ e) ∙ pick-false _ _ _ (le-ltb _ _ h))
 

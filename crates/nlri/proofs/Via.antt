@@ -13,16 +13,16 @@ use Rattle.nlri.specs.declared.read.Header.the-variants.{Typed, Unread}
 use Rattle.nlri.specs.declared.group.Group.{Group}
 use Rattle.nlri.specs.Groups.{groupOf}
 use Rattle.nlri.specs.Layouts.{readingOf}
-use Rattle.nlri.specs.Inner.{partOf, headerOf}
+use Rattle.nlri.specs.Inner.{partOf, headerOutcome}
 
 -- the case of an answer, as the definition's outcome
 pub size-given : (r : Part) (o : Outcome ℕ) (n : ℕ) → partOf r ≡ o → r ≡ Size n → o ≡ given n
 unfolding partOf
 size-given r o n p q = sym p ∙ ap partOf q
 
-pub typed-given : (r : Header) (o : Outcome (ℕ × ℕ)) (a b : ℕ) → headerOf r ≡ o → r ≡ Typed a b → o ≡ given (a, b)
-unfolding headerOf
-typed-given r o a b p q = sym p ∙ ap headerOf q
+pub typed-given : (r : Header) (o : Outcome (ℕ × ℕ)) (a b : ℕ) → headerOutcome r ≡ o → r ≡ Typed a b → o ≡ given (a, b)
+unfolding headerOutcome
+typed-given r o a b p q = sym p ∙ ap headerOutcome q
 
 pub size-goes : {B : Type 0} (t : Outcome B) (r : Part) (o : Outcome ℕ) (n : ℕ) (next : ℕ → Outcome B) → partOf r ≡ o → r ≡ Size n → t ≡ next n → t ≡ andThen o next
 size-goes t r o n next p q h = goes t o n next (size-given r o n p q) h
@@ -34,12 +34,12 @@ fault-given r o n p q = sym p ∙ ap partOf q
 pub fault-stops : {B : Type 0} (r : Part) (o : Outcome ℕ) (n : ℕ) (next : ℕ → Outcome B) → partOf r ≡ o → r ≡ Fault n → refused n ≡ andThen o next
 fault-stops r o n next p q = stops o n next (fault-given r o n p q)
 
-pub typed-goes : {B : Type 0} (t : Outcome B) (r : Header) (o : Outcome (ℕ × ℕ)) (a b : ℕ) (next : ℕ × ℕ → Outcome B) → headerOf r ≡ o → r ≡ Typed a b → t ≡ next (a, b) → t ≡ andThen o next
+pub typed-goes : {B : Type 0} (t : Outcome B) (r : Header) (o : Outcome (ℕ × ℕ)) (a b : ℕ) (next : ℕ × ℕ → Outcome B) → headerOutcome r ≡ o → r ≡ Typed a b → t ≡ next (a, b) → t ≡ andThen o next
 typed-goes t r o a b next p q h = goes t o (a, b) next (typed-given r o a b p q) h
 
-pub unread-stops : {B : Type 0} (r : Header) (o : Outcome (ℕ × ℕ)) (n : ℕ) (next : ℕ × ℕ → Outcome B) → headerOf r ≡ o → r ≡ Unread n → refused n ≡ andThen o next
-unfolding headerOf
-unread-stops r o n next p q = stops o n next (sym p ∙ ap headerOf q)
+pub unread-stops : {B : Type 0} (r : Header) (o : Outcome (ℕ × ℕ)) (n : ℕ) (next : ℕ × ℕ → Outcome B) → headerOutcome r ≡ o → r ≡ Unread n → refused n ≡ andThen o next
+unfolding headerOutcome
+unread-stops r o n next p q = stops o n next (sym p ∙ ap headerOutcome q)
 
 pub nlri-given : (r : Reading) (o : Outcome Layout) (l : Layout) → readingOf r ≡ o → r ≡ Nlri l → o ≡ given l
 unfolding readingOf
@@ -67,12 +67,12 @@ on-size t r o n bad good p q h = on-given t o n bad good (size-given r o n p q) 
 pub on-fault : {B : Type 0} (t : B) (r : Part) (o : Outcome ℕ) (n : ℕ) (bad : ℕ → B) (good : ℕ → B) → partOf r ≡ o → r ≡ Fault n → t ≡ bad n → t ≡ onOutcome bad good o
 on-fault t r o n bad good p q h = on-refused t o n bad good (fault-given r o n p q) h
 
-pub on-typed : {B : Type 0} (t : B) (r : Header) (o : Outcome (ℕ × ℕ)) (a b : ℕ) (bad : ℕ → B) (good : ℕ × ℕ → B) → headerOf r ≡ o → r ≡ Typed a b → t ≡ good (a, b) → t ≡ onOutcome bad good o
+pub on-typed : {B : Type 0} (t : B) (r : Header) (o : Outcome (ℕ × ℕ)) (a b : ℕ) (bad : ℕ → B) (good : ℕ × ℕ → B) → headerOutcome r ≡ o → r ≡ Typed a b → t ≡ good (a, b) → t ≡ onOutcome bad good o
 on-typed t r o a b bad good p q h = on-given t o (a, b) bad good (typed-given r o a b p q) h
 
-pub on-unread : {B : Type 0} (t : B) (r : Header) (o : Outcome (ℕ × ℕ)) (n : ℕ) (bad : ℕ → B) (good : ℕ × ℕ → B) → headerOf r ≡ o → r ≡ Unread n → t ≡ bad n → t ≡ onOutcome bad good o
-unfolding headerOf
-on-unread t r o n bad good p q h = on-refused t o n bad good (sym p ∙ ap headerOf q) h
+pub on-unread : {B : Type 0} (t : B) (r : Header) (o : Outcome (ℕ × ℕ)) (n : ℕ) (bad : ℕ → B) (good : ℕ × ℕ → B) → headerOutcome r ≡ o → r ≡ Unread n → t ≡ bad n → t ≡ onOutcome bad good o
+unfolding headerOutcome
+on-unread t r o n bad good p q h = on-refused t o n bad good (sym p ∙ ap headerOutcome q) h
 
 pub group-is : (g : Group) (o p : Outcome ℕ) → g ≡ groupOf o → o ≡ p → g ≡ groupOf p
 group-is g o p e q = e ∙ ap groupOf q

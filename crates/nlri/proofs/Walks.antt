@@ -22,7 +22,7 @@ use Rattle.octets.proofs.Lists.{empty-list}
 use Rattle.nlri.specs.declared.layout.Layout.{Layout}
 use Rattle.nlri.specs.declared.run.Walked.{Walked}
 use Rattle.nlri.specs.Family.{familyBits}
-use Rattle.nlri.specs.Bodies.{Kind, source, group, originator, key, bodyOf, fieldIn, has}
+use Rattle.nlri.specs.Bodies.{FieldKind, source, group, originator, key, bodyOf, fieldIn, hasField}
 use Rattle.nlri.specs.Fields.{Fields, encodeAddress, encodeField, encodeBody, encodeNlri, restricted, WellFormed, KeyOf}
 use Rattle.nlri.specs.Reading.{Laid, keyField, laidAt}
 use Rattle.nlri.specs.Layouts.{layoutOf, layoutAt}
@@ -176,13 +176,13 @@ kept-size false x = refl
 layout-is : (f : Fields) → layoutOf (laidOf f) ≡ layoutFor f
 unfolding layoutOf laidOf layoutFor encodeField encodeNlri restricted
 layout-is f =
-    let body : List Kind = bodyOf (f .type) in
-    let at : (kind : Kind) → fieldIn 0 kind body (sizesIn f body) ≡ pick (has kind body) (length (encodeField f kind)) 0 = λ kind. field-of-map 0 (λ k. length (encodeField f k)) kind body in
+    let body : List FieldKind = bodyOf (f .type) in
+    let at : (kind : FieldKind) → fieldIn 0 kind body (sizesIn f body) ≡ pick (hasField kind body) (length (encodeField f kind)) 0 = λ kind. field-of-map 0 (λ k. length (encodeField f k)) kind body in
     let len : length (encodeBody f body) ≡ suc (suc (length (encodeBody f body))) - 2 = omega arith in
-    let s = ap (λ (n : ℕ). n - 1) (at source) ∙ kept-address (has source body) (f .source) in
-    let g = ap (λ (n : ℕ). n - 1) (at group) ∙ kept-address (has group body) (f .group) in
-    let o = at originator ∙ kept-size (has originator body) (f .originator) in
-    let k = at key ∙ kept-size (has key body) (f .key) in
+    let s = ap (λ (n : ℕ). n - 1) (at source) ∙ kept-address (hasField source body) (f .source) in
+    let g = ap (λ (n : ℕ). n - 1) (at group) ∙ kept-address (hasField group body) (f .group) in
+    let o = at originator ∙ kept-size (hasField originator body) (f .originator) in
+    let k = at key ∙ kept-size (hasField key body) (f .key) in
     λ i. record { «route_type» = f .type; length = len i; source = s i; group = g i; originator = o i; key = k i }
 
 module _ (afi family : ℕ) (bits : familyBits afi ≡ given family) where

@@ -11,10 +11,10 @@ use Rattle.octets.specs.Outcome.{Outcome, given}
 use Rattle.octets.specs.Octets.{AllOctets, none, one, part}
 use Rattle.octets.proofs.Outcomes.{pick-true, pick-false}
 use Rattle.octets.proofs.Tests.{goes}
-use Rattle.octets.proofs.Inversions.{unless, only, passed, given-same, opposite, both-true-left, both-true-right}
+use Rattle.octets.proofs.Inversions.{given-otherwise, given-unless, passed, given-same, opposite, both-true-left, both-true-right}
 use Rattle.octets.proofs.AllOctets.{octets-drop, octets-part, octets-append}
 use Rattle.octets.proofs.Lists.{empty-list, take-two, part-length}
-use Rattle.nlri.specs.Bodies.{Kind, distinguisher, sourceAs, source, group, originator, key, bodies, bodyOf, fieldIn}
+use Rattle.nlri.specs.Bodies.{FieldKind, distinguisher, sourceAs, source, group, originator, key, bodies, bodyOf, fieldIn}
 use Rattle.nlri.specs.Fields.{Fields, encodeField, encodeBody, encodeNlri, WellFormedBody}
 use Rattle.nlri.specs.Reading.{Laid, fieldSize, sizesOf, laidWith, cut}
 use Rattle.nlri.specs.Statements.{Closes}
@@ -22,13 +22,13 @@ use Rattle.nlri.proofs.Table.{listed, on-body, known, RowOf, rowOf, clo
 use Rattle.nlri.proofs.Judged.{Judges, fieldsFrom, field-sound, field-complete, field-most, field-octets}
 
 -- the encodings of the fields of a body, and their sizes
-abbrev pub piecesOf : Fields → List Kind → List (List ℕ)
+abbrev pub piecesOf : Fields → List FieldKind → List (List ℕ)
 piecesOf f body = map (encodeField f) body
 
-abbrev pub sizesIn : Fields → List Kind → List ℕ
+abbrev pub sizesIn : Fields → List FieldKind → List ℕ
 sizesIn f body = map (λ k. length (encodeField f k)) body
 
-pub cut-body : (f : Fields) (body : List Kind) (t : List ℕ) → cut (sizesIn f body) (encodeBody f body ++ t) ≡ piecesOf f body
+pub cut-body : (f : Fields) (body : List FieldKind) (t : List ℕ) → cut (sizesIn f body) (encodeBody f body ++ t) ≡ piecesOf f body
 unfolding cut encodeBody
 cut-body f [] t = refl
 cut-body f (k ∷ body) t =
@@ -39,7 +39,7 @@ unfolding cut
 cut-length [] s = refl
 cut-length (n ∷ sizes) s = ap suc (cut-length sizes (drop n s))
 
-closes-body : (f : Fields) (k : Kind) (body : List Kind) → closes k body ≡ true → Closes k (encodeBody f body)
+closes-body : (f : Fields) (k : FieldKind) (body : List FieldKind) → closes k body ≡ true → Closes k (encodeBody f body)
 unfolding closes encodeBody
 closes-body f distinguisher body h = tt
 closes-body f sourceAs body h = tt
@@ -62,9 +62,9 @@ pub record LaidOut (judge : List ℕ → Outcome ℕ) (family : ℕ) (s : List �
 pub laid-out : (judge : List ℕ → Outcome ℕ) (family : ℕ) (s : List ℕ) (laid : Laid) → laidWith judge family s ≡ given laid → LaidOut judge family s laid
 unfolding laidWith
 laid-out judge family s laid e =
-    let p = unless _ _ _ _ e in
-    let q = unless _ _ _ _ (p .1) in
-    let r = only _ _ _ _ (sym (on-body _ _ _) ∙ q .1) in
+    let p = given-otherwise _ _ _ _ e in
+    let q = given-otherwise _ _ _ _ (p .1) in
+    let r = given-unless _ _ _ _ (sym (on-body _ _ _) ∙ q .1) in
     let w = passed _ _ _ (r .1) in
     subst (LaidOut judge family s) (given-same (w .second))
     (record {
@@ -78,19 +78,19 @@ laid-out judge family s laid e =
     })
 
 module _ (judge : List ℕ → Outcome ℕ) (Key : List ℕ → Type 0) (judges : Judges judge Key) (family : ℕ) (whole : 8 * (family / 8) ≡ family) where
-  sizes-length : (type : ℕ) (body : List Kind) (s sizes : List ℕ) → sizesOf (fieldSize judge family type) body s ≡ given sizes → length sizes ≡ length body
+  sizes-length : (type : ℕ) (body : List FieldKind) (s sizes : List ℕ) → sizesOf (fieldSize judge family type) body s ≡ given sizes → length sizes ≡ length body
   unfolding sizesOf
-  sizes-length type [] s sizes e = ap length (sym (given-same (only _ _ _ _ e .1)))
+  sizes-length type [] s sizes e = ap length (sym (given-same (given-unless _ _ _ _ e .1)))
   sizes-length type (k ∷ body) s sizes e =
       let p = passed _ _ _ e in
       let q = passed _ _ _ (p .second) in
       ap length (sym (given-same (q .second))) ∙ ap suc (sizes-length type body _ (q .value) (q .first))
 
   -- a body read is well-formed, and is its encoding
-  body-sound : (type : ℕ) (body : List Kind) (s sizes : List ℕ) (field : Kind → List ℕ) → AllOctets s → sizesOf (fieldSize judge family type) body s ≡ given sizes → Along field body (cut sizes s)
+  body-sound : (type : ℕ) (body : List FieldKind) (s sizes : List ℕ) (field : FieldKind → List ℕ) → AllOctets s → sizesOf (fieldSize judge family type) body s ≡ given sizes → Along field body (cut sizes s)
       → WellFormedBody Key family (fieldsFrom type field) body × (encodeBody (fieldsFrom type field) body ≡ s)
   unfolding sizesOf encodeBody cut
-  body-sound type [] s sizes field a e al = (tt, sym (empty-list s (eqb-true _ _ (only _ _ _ _ e .0))))
+  body-sound type [] s sizes field a e al = (tt, sym (empty-list s (eqb-true _ _ (given-unless _ _ _ _ e .0))))
   body-sound type (k ∷ body) s sizes field a e al =
       let p = passed _ _ _ e in
       let q = passed _ _ _ (p .second) in
@@ -101,20 +101,20 @@ module _ (judge : List ℕ → Outcome ℕ) (Key : List ℕ → Type 0) (judges 
       ((here .1, later .0), ap₂ (λ (x y : List ℕ). x ++ y) (here .2) (later .1) ∙ take-append-drop n s)
 
   -- a well-formed body that stands encoded is read
-  body-complete : (f : Fields) (body : List Kind) → closed body ≡ true → WellFormedBody Key family f body → sizesOf (fieldSize judge family (f .type)) body (encodeBody f body) ≡ given (sizesIn f body)
+  body-complete : (f : Fields) (body : List FieldKind) → closed body ≡ true → WellFormedBody Key family f body → sizesOf (fieldSize judge family (f .type)) body (encodeBody f body) ≡ given (sizesIn f body)
   unfolding sizesOf encodeBody closed
   body-complete f [] c w = pick-true _ _ _ refl
   body-complete f (k ∷ body) c w =
       sym (goes _ _ _ _ (field-complete judge Key judges family whole f k (encodeBody f body) (w .0) (closes-body f k body (both-true-left _ _ c)))
       (goes _ _ _ _ (ap (sizesOf (fieldSize judge family (f .type)) body) (drop-append-seam (encodeField f k) (encodeBody f body)) ∙ body-complete f body (both-true-right (closes k body) _ c) (w .1)) refl))
 
-  body-most : (w : ℕ) → ((k : List ℕ) → Key k → length k ≤ w) → family ≤ 128 → (f : Fields) (body : List Kind) → WellFormedBody Key family f body → length (encodeBody f body) ≤ mostIn w body
+  body-most : (w : ℕ) → ((k : List ℕ) → Key k → length k ≤ w) → family ≤ 128 → (f : Fields) (body : List FieldKind) → WellFormedBody Key family f body → length (encodeBody f body) ≤ mostIn w body
   unfolding encodeBody mostIn
   body-most w bound small f [] h = omega arith
   body-most w bound small f (k ∷ body) h =
       rw length-append (omega (arith, field-most judge Key judges family whole w bound small f k (h .0), body-most w bound small f body (h .1)))
 
-  body-octets : ((k : List ℕ) → Key k → AllOctets k) → family ≤ 128 → (f : Fields) (body : List Kind) → WellFormedBody Key family f body → AllOctets (encodeBody f body)
+  body-octets : ((k : List ℕ) → Key k → AllOctets k) → family ≤ 128 → (f : Fields) (body : List FieldKind) → WellFormedBody Key family f body → AllOctets (encodeBody f body)
   unfolding encodeBody
   body-octets ofKey small f [] h = none
   body-octets ofKey small f (k ∷ body) h = octets-append (field-octets judge Key judges family whole ofKey small f k (h .0)) (body-octets ofKey small f body (h .1))
@@ -142,7 +142,7 @@ module _ (judge : List ℕ → Outcome ℕ) (Key : List ℕ → Type 0) (judges 
   unfolding laidWith encodeNlri part
   laid-complete f t range w =
       let l : listed bodies (f .type) ≡ true = known (f .type) (range .0) (range .1) in
-      let body : List Kind = bodyOf (f .type) in
+      let body : List FieldKind = bodyOf (f .type) in
       pick-false _ _ _ (le-ltb (suc (suc (length (encodeBody f body ++ t)))) 2 (omega arith))
       ∙ pick-false _ _ _ (le-ltb (suc (suc (length (encodeBody f body ++ t))) - 2) (length (encodeBody f body)) (simp length-append (omega arith)))
       ∙ on-body (f .type) _ _

@@ -12,60 +12,60 @@ use Rattle.octets.specs.Choice.{both, either}
 use Rattle.octets.specs.Outcome.{Outcome, given, refused}
 use Rattle.octets.proofs.Outcomes.{pick-true, pick-false}
 use Rattle.octets.proofs.Tests.{goes, stops}
-use Rattle.octets.proofs.Inversions.{never, opposite, passed, unless, both-true-left, both-true-right}
+use Rattle.octets.proofs.Inversions.{never, opposite, passed, given-otherwise, both-true-left, both-true-right}
 use Rattle.octets.proofs.Refusals.{refused-same, picked, stopped, is-false, is-true}
 use Rattle.nlri.specs.Family.{familyBits}
-use Rattle.nlri.specs.Bodies.{Kind, distinguisher, sourceAs, source, group, originator, key, bodyOf, sameKind, has}
+use Rattle.nlri.specs.Bodies.{FieldKind, distinguisher, sourceAs, source, group, originator, key, bodyOf, sameKind, hasField}
 use Rattle.nlri.specs.Fields.{Fields, encodeNlri, WellFormed, KeyOf}
 use Rattle.nlri.specs.Writing.{widthFits, widthsFit, isKey, keyFits, keysFit, writeNlri}
-use Rattle.nlri.specs.Statements.{Held, Typed, WidthFault, WriteRefusal, badFamily, badType, badWidth, badKey, noSpace, WriteRefusals}
+use Rattle.nlri.specs.Statements.{HoldsOctets, KnownType, WidthFault, WriteRefusal, badFamily, badType, badWidth, badKey, noSpace, WriteRefusals}
 use Rattle.nlri.proofs.Table.{known, rowOf, same-kind, has-first, has-later, unlisted}
 use Rattle.nlri.proofs.Writes.{verdict, verdictOf, write-is, write-well, written, key-judged, key-fits, well-fits}
 use Rattle.nlri.proofs.Faults.{family-refused, family-refuses}
 
 -- a test of every kind of field along a body
-all : (Kind → Bool) → List Kind → Bool
+all : (FieldKind → Bool) → List FieldKind → Bool
 all test [] = true
 all test (k ∷ body) = both (test k) (all test body)
 
-all-true : (test : Kind → Bool) (body : List Kind) → all test body ≡ true → (kind : Kind) → has kind body ≡ true → test kind ≡ true
-unfolding all has either
+all-true : (test : FieldKind → Bool) (body : List FieldKind) → all test body ≡ true → (kind : FieldKind) → hasField kind body ≡ true → test kind ≡ true
+unfolding all hasField either
 all-true test [] h kind e = absurd (opposite e refl)
 all-true test (k ∷ body) h kind e = go (sameKind kind k) refl e (all-true test body (both-true-right (test k) _ h) kind)
   where
-    go : (b : Bool) → sameKind kind k ≡ b → either b (has kind body) ≡ true → (has kind body ≡ true → test kind ≡ true) → test kind ≡ true
+    go : (b : Bool) → sameKind kind k ≡ b → either b (hasField kind body) ≡ true → (hasField kind body ≡ true → test kind ≡ true) → test kind ≡ true
     go true same e later = ap test (same-kind kind k same) ∙ both-true-left _ _ h
     go false other e later = later e
 
-all-false : (test : Kind → Bool) (body : List Kind) → all test body ≡ false → (kind : Kind) × (has kind body ≡ true) × (test kind ≡ false)
+all-false : (test : FieldKind → Bool) (body : List FieldKind) → all test body ≡ false → (kind : FieldKind) × (hasField kind body ≡ true) × (test kind ≡ false)
 unfolding all both
 all-false test [] h = absurd (opposite refl h)
 all-false test (k ∷ body) h = go (test k) refl h (all-false test body)
   where
-    go : (b : Bool) → test k ≡ b → both b (all test body) ≡ false → (all test body ≡ false → (kind : Kind) × (has kind body ≡ true) × (test kind ≡ false))
-        → (kind : Kind) × (has kind (k ∷ body) ≡ true) × (test kind ≡ false)
+    go : (b : Bool) → test k ≡ b → both b (all test body) ≡ false → (all test body ≡ false → (kind : FieldKind) × (hasField kind body ≡ true) × (test kind ≡ false))
+        → (kind : FieldKind) × (hasField kind (k ∷ body) ≡ true) × (test kind ≡ false)
     go false e h later = (k, has-first k body, e)
     go true e h later = let r = later h in (r .0, has-later (r .0) k body (r .1), r .2)
 
 -- one kind that fails
-all-fails : (test : Kind → Bool) (body : List Kind) (kind : Kind) → has kind body ≡ true → test kind ≡ false → all test body ≡ false
+all-fails : (test : FieldKind → Bool) (body : List FieldKind) (kind : FieldKind) → hasField kind body ≡ true → test kind ≡ false → all test body ≡ false
 all-fails test body kind h fails = is-false _ (λ e. opposite (all-true test body e kind h) fails)
 
 -- no kind that fails
-all-holds : (test : Kind → Bool) (body : List Kind) → ((kind : Kind) → has kind body ≡ true → test kind ≡ false → ⊥) → all test body ≡ true
+all-holds : (test : FieldKind → Bool) (body : List FieldKind) → ((kind : FieldKind) → hasField kind body ≡ true → test kind ≡ false → ⊥) → all test body ≡ true
 all-holds test body h = is-true _ (λ e. let r = all-false test body e in h (r .0) (r .1) (r .2))
 
-widths-all : (family : ℕ) (f : Fields) (body : List Kind) → widthsFit family f body ≡ all (widthFits family f) body
+widths-all : (family : ℕ) (f : Fields) (body : List FieldKind) → widthsFit family f body ≡ all (widthFits family f) body
 unfolding widthsFit all
 widths-all family f [] = refl
 widths-all family f (k ∷ body) = ap (both (widthFits family f k)) (widths-all family f body)
 
-keys-all : (family : ℕ) (f : Fields) (body : List Kind) → keysFit family f body ≡ all (keyFits family f) body
+keys-all : (family : ℕ) (f : Fields) (body : List FieldKind) → keysFit family f body ≡ all (keyFits family f) body
 unfolding keysFit all
 keys-all family f [] = refl
 keys-all family f (k ∷ body) = ap (both (keyFits family f k)) (keys-all family f body)
 
-width-fault : (family : ℕ) (f : Fields) (k : Kind) → widthFits family f k ≡ false → WidthFault family f k
+width-fault : (family : ℕ) (f : Fields) (k : FieldKind) → widthFits family f k ≡ false → WidthFault family f k
 unfolding widthFits
 width-fault family f distinguisher e = opposite refl e
 width-fault family f sourceAs e = opposite refl e
@@ -74,7 +74,7 @@ width-fault family f group e = e
 width-fault family f originator e = e
 width-fault family f key e = opposite refl e
 
-fault-width : (family : ℕ) (f : Fields) (k : Kind) → WidthFault family f k → widthFits family f k ≡ false
+fault-width : (family : ℕ) (f : Fields) (k : FieldKind) → WidthFault family f k → widthFits family f k ≡ false
 unfolding widthFits
 fault-width family f distinguisher h = absurd h
 fault-width family f sourceAs h = absurd h
@@ -83,7 +83,7 @@ fault-width family f group h = h
 fault-width family f originator h = h
 fault-width family f key h = absurd h
 
-key-fault : (family : ℕ) (f : Fields) (k : Kind) → keyFits family f k ≡ false → (k ≡ key) × (isKey family (f .key) ≡ false)
+key-fault : (family : ℕ) (f : Fields) (k : FieldKind) → keyFits family f k ≡ false → (k ≡ key) × (isKey family (f .key) ≡ false)
 unfolding keyFits
 key-fault family f distinguisher e = absurd (opposite refl e)
 key-fault family f sourceAs e = absurd (opposite refl e)
@@ -92,11 +92,11 @@ key-fault family f group e = absurd (opposite refl e)
 key-fault family f originator e = absurd (opposite refl e)
 key-fault family f key e = (refl, e)
 
-module _ (afi family : ℕ) (bits : familyBits afi ≡ given family) (f : Fields) (held : Held f) (space : ℕ) where
-  verdict-refused : (n : ℕ) → Typed (f .type) → verdictOf family f space ≡ refused n → WriteRefusal afi f space n
+module _ (afi family : ℕ) (bits : familyBits afi ≡ given family) (f : Fields) (held : HoldsOctets f) (space : ℕ) where
+  verdict-refused : (n : ℕ) → KnownType (f .type) → verdictOf family f space ≡ refused n → WriteRefusal afi f space n
   unfolding verdictOf verdict
   verdict-refused n typed e =
-      let body : List Kind = bodyOf (f .type) in
+      let body : List FieldKind = bodyOf (f .type) in
       let same : (k : ℕ) → _≡_ {A = Outcome (List ℕ)} (refused k) (refused n) → k ≡ n = λ k q. refused-same {A = List ℕ} q in
       ⊎-elim
       (λ widths.
@@ -113,7 +113,7 @@ module _ (afi family : ℕ) (bits : familyBits afi ≡ given family) (f : Fields
       let q = key-fault family f (r .0) (r .2) in
       subst (WriteRefusal afi f space) (same KEY (bad .1))
       (badKey family bits typed (λ k h fault. opposite (all-true (widthFits family f) body (sym (widths-all family f body) ∙ widths .0) k h) (fault-width family f k fault))
-      (ap (λ (k : Kind). has k body) (sym (q .0)) ∙ r .1) (λ of. opposite (key-fits afi family bits (f .key) of) (q .1))))
+      (ap (λ (k : FieldKind). hasField k body) (sym (q .0)) ∙ r .1) (λ of. opposite (key-fits afi family bits (f .key) of) (q .1))))
       (picked _ _ _ _ (widths .1)))
       (λ bad.
       let r = all-false (widthFits family f) body (sym (widths-all family f body) ∙ bad .0) in
@@ -121,21 +121,21 @@ module _ (afi family : ℕ) (bits : familyBits afi ≡ given family) (f : Fields
       (picked _ _ _ _ e)
 
   -- a verdict of a known type is the call's
-  typed-stops : (o : Outcome (List ℕ)) → Typed (f .type) → verdictOf family f space ≡ o → writeNlri afi f space ≡ o
+  typed-stops : (o : Outcome (List ℕ)) → KnownType (f .type) → verdictOf family f space ≡ o → writeNlri afi f space ≡ o
   typed-stops o typed e = write-is afi f space ∙ sym (goes _ _ _ _ bits (sym (pick-true _ _ _ (known (f .type) (typed .0) (typed .1)) ∙ e)))
 
-  width-stops : Typed (f .type) → (k : Kind) → has k (bodyOf (f .type)) ≡ true → WidthFault family f k → writeNlri afi f space ≡ refused WIDTH
+  width-stops : KnownType (f .type) → (k : FieldKind) → hasField k (bodyOf (f .type)) ≡ true → WidthFault family f k → writeNlri afi f space ≡ refused WIDTH
   unfolding verdictOf verdict
   width-stops typed k h fault = typed-stops _ typed (pick-false _ _ _ (widths-all family f _ ∙ all-fails (widthFits family f) _ k h (fault-width family f k fault)))
 
-  key-stops : Typed (f .type) → ((k : Kind) → has k (bodyOf (f .type)) ≡ true → WidthFault family f k → ⊥) → has key (bodyOf (f .type)) ≡ true → (KeyOf family (f .key) → ⊥)
+  key-stops : KnownType (f .type) → ((k : FieldKind) → hasField k (bodyOf (f .type)) ≡ true → WidthFault family f k → ⊥) → hasField key (bodyOf (f .type)) ≡ true → (KeyOf family (f .key) → ⊥)
       → writeNlri afi f space ≡ refused KEY
   unfolding verdictOf verdict keyFits
   key-stops typed widths h none =
       typed-stops _ typed (pick-true _ _ _ (widths-all family f _ ∙ all-holds (widthFits family f) _ (λ k h e. widths k h (width-fault family f k e)))
       ∙ pick-false _ _ _ (keys-all family f _ ∙ all-fails (keyFits family f) _ key h (is-false _ (λ e. none (key-judged afi family bits (f .key) (held .key) e)))))
 
-refusal-sound : (afi : ℕ) (f : Fields) (space n : ℕ) → Held f → writeNlri afi f space ≡ refused n → WriteRefusal afi f space n
+refusal-sound : (afi : ℕ) (f : Fields) (space n : ℕ) → HoldsOctets f → writeNlri afi f space ≡ refused n → WriteRefusal afi f space n
 refusal-sound afi f space n held e =
     ⊎-elim (λ first. let p = family-refused afi n first in subst (WriteRefusal afi f space) (sym (p .0)) (badFamily (p .1 .0) (p .1 .1)))
     (λ next.
@@ -144,19 +144,19 @@ refusal-sound afi f space n held e =
     (picked _ _ _ _ (next .second)))
     (stopped _ _ _ (sym (write-is afi f space) ∙ e))
 
-refusal-complete : (afi : ℕ) (f : Fields) (space n : ℕ) → Held f → WriteRefusal afi f space n → writeNlri afi f space ≡ refused n
+refusal-complete : (afi : ℕ) (f : Fields) (space n : ℕ) → HoldsOctets f → WriteRefusal afi f space n → writeNlri afi f space ≡ refused n
 refusal-complete afi f space n held (badFamily one two) = write-is afi f space ∙ sym (stops _ _ _ (family-refuses afi one two))
 refusal-complete afi f space n held (badType family bits untyped) = write-is afi f space ∙ sym (goes _ _ _ _ bits (sym (pick-false _ _ _ (unlisted (f .type) untyped))))
 refusal-complete afi f space n held (badWidth family bits typed k h fault) = width-stops afi family bits f held space typed k h fault
 refusal-complete afi f space n held (badKey family bits typed widths h none) = key-stops afi family bits f held space typed widths h none
 refusal-complete afi f space n held (noSpace family bits w few) = write-well afi family bits f space w ∙ pick-true _ _ _ (lt-ltb space (length (encodeNlri f)) few)
 
-accepted : (afi : ℕ) (f : Fields) (space : ℕ) (e : List ℕ) → Held f
+accepted : (afi : ℕ) (f : Fields) (space : ℕ) (e : List ℕ) → HoldsOctets f
     → writeNlri afi f space ≡ given e → (family : ℕ) × (familyBits afi ≡ given family) × WellFormed family f × (length e ≤ space) × (e ≡ encodeNlri f)
 accepted afi f space e held w =
     let p = passed _ _ _ (sym (write-is afi f space) ∙ w) in
     let r = written afi (p .value) (p .first) f held space e w in
-    let u = unless _ _ _ _ (sym (write-well afi (p .value) (p .first) f space (r .0)) ∙ w) in
+    let u = given-otherwise _ _ _ _ (sym (write-well afi (p .value) (p .first) f space (r .0)) ∙ w) in
     (p .value, p .first, r .0, omega (arith, ltb-false, ap length (r .1)), sym (r .1))
 
 pub writeRefusals : WriteRefusals

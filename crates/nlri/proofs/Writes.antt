@@ -14,19 +14,19 @@ use Rattle.octets.specs.Outcome.{Outcome, given, refused, onOutcome, andThen}
 use Rattle.octets.specs.Octets.{AllOctets, bigEndian}
 use Rattle.octets.proofs.Outcomes.{and-cong, pick-true}
 use Rattle.octets.proofs.Tests.{goes, on-given, both-true}
-use Rattle.octets.proofs.Inversions.{unless, only, passed, given-same, opposite, both-true-left, both-true-right}
-use Rattle.nlri.specs.Family.{familyBits, allowed, originatorSize}
-use Rattle.nlri.specs.Bodies.{Kind, distinguisher, sourceAs, source, group, originator, key, bodies, bodyOf, has}
+use Rattle.octets.proofs.Inversions.{given-otherwise, given-unless, passed, given-same, opposite, both-true-left, both-true-right}
+use Rattle.nlri.specs.Family.{familyBits, allowed, isOriginatorSize}
+use Rattle.nlri.specs.Bodies.{FieldKind, distinguisher, sourceAs, source, group, originator, key, bodies, bodyOf, hasField}
 use Rattle.nlri.specs.Fields.{Fields, encodeAddress, encodeField, encodeBody, encodeNlri, WellFormedField, WellFormedBody, WellFormed, KeyOf, restricted}
 use Rattle.nlri.specs.Reading.{keyField}
 use Rattle.nlri.specs.Writing.{widthFits, widthsFit, isKey, keyFits, keysFit, writeNlri}
-use Rattle.nlri.specs.Statements.{Held}
+use Rattle.nlri.specs.Statements.{HoldsOctets}
 use Rattle.nlri.proofs.Table.{listed, on-body, known, rowOf, has-first, has-later}
 use Rattle.nlri.proofs.Lengths.{family-octets}
 use Rattle.nlri.proofs.Keys.{key-judges}
 
 -- two fields records agree in a kind of field
-abbrev pub SameField : Fields → Fields → Kind → Type 0
+abbrev pub SameField : Fields → Fields → FieldKind → Type 0
 SameField f g distinguisher = f .distinguisher ≡ g .distinguisher
 SameField f g sourceAs = f .sourceAs ≡ g .sourceAs
 SameField f g source = f .source ≡ g .source
@@ -34,7 +34,7 @@ SameField f g group = f .group ≡ g .group
 SameField f g originator = f .originator ≡ g .originator
 SameField f g key = f .key ≡ g .key
 
-restricted-same : (f : Fields) (k : Kind) → has k (bodyOf (f .type)) ≡ true → SameField (restricted f) f k
+restricted-same : (f : Fields) (k : FieldKind) → hasField k (bodyOf (f .type)) ≡ true → SameField (restricted f) f k
 unfolding restricted
 restricted-same f distinguisher h = pick-true _ _ _ h
 restricted-same f sourceAs h = pick-true _ _ _ h
@@ -43,7 +43,7 @@ restricted-same f group h = pick-true _ _ _ h
 restricted-same f originator h = pick-true _ _ _ h
 restricted-same f key h = pick-true _ _ _ h
 
-same-encoding : (f g : Fields) (k : Kind) → SameField f g k → encodeField f k ≡ encodeField g k
+same-encoding : (f g : Fields) (k : FieldKind) → SameField f g k → encodeField f k ≡ encodeField g k
 unfolding encodeField
 same-encoding f g distinguisher e = e
 same-encoding f g sourceAs e = ap (bigEndian 4) e
@@ -52,16 +52,16 @@ same-encoding f g group e = ap encodeAddress e
 same-encoding f g originator e = e
 same-encoding f g key e = e
 
-same-width : (family : ℕ) (f g : Fields) → f .type ≡ g .type → (k : Kind) → SameField f g k → widthFits family f k ≡ widthFits family g k
+same-width : (family : ℕ) (f g : Fields) → f .type ≡ g .type → (k : FieldKind) → SameField f g k → widthFits family f k ≡ widthFits family g k
 unfolding widthFits
 same-width family f g t distinguisher e = refl
 same-width family f g t sourceAs e = refl
 same-width family f g t source e = ap₂ (λ (n : ℕ) (x : List ℕ). allowed family n (8 * length x)) t e
 same-width family f g t group e = ap₂ (λ (n : ℕ) (x : List ℕ). allowed family n (8 * length x)) t e
-same-width family f g t originator e = ap (λ (x : List ℕ). originatorSize (length x)) e
+same-width family f g t originator e = ap (λ (x : List ℕ). isOriginatorSize (length x)) e
 same-width family f g t key e = refl
 
-same-key : (family : ℕ) (f g : Fields) (k : Kind) → SameField f g k → keyFits family f k ≡ keyFits family g k
+same-key : (family : ℕ) (f g : Fields) (k : FieldKind) → SameField f g k → keyFits family f k ≡ keyFits family g k
 unfolding keyFits
 same-key family f g distinguisher e = refl
 same-key family f g sourceAs e = refl
@@ -70,7 +70,7 @@ same-key family f g group e = refl
 same-key family f g originator e = refl
 same-key family f g key e = ap (isKey family) e
 
-same-body : (family : ℕ) (f g : Fields) → f .type ≡ g .type → (body : List Kind) → ((k : Kind) → has k body ≡ true → SameField f g k)
+same-body : (family : ℕ) (f g : Fields) → f .type ≡ g .type → (body : List FieldKind) → ((k : FieldKind) → hasField k body ≡ true → SameField f g k)
     → (encodeBody f body ≡ encodeBody g body) × (widthsFit family f body ≡ widthsFit family g body) × (keysFit family f body ≡ keysFit family g body)
 unfolding encodeBody widthsFit keysFit
 same-body family f g t [] same = (refl, refl, refl)
@@ -119,7 +119,7 @@ key-fits afi family bits k of =
     sym (on-given _ _ _ _ _ (ap (keyField family) (sym (append-nil k)) ∙ key-judges family (family-octets afi family bits .0) .complete k [] of) (sym (eq-eqb (length k) (length k) refl)))
 
 module _ (afi family : ℕ) (bits : familyBits afi ≡ given family) (f : Fields) where
-  fits-well : (body : List Kind) → WellFormedBody (KeyOf family) family f body → (widthsFit family f body ≡ true) × (keysFit family f body ≡ true)
+  fits-well : (body : List FieldKind) → WellFormedBody (KeyOf family) family f body → (widthsFit family f body ≡ true) × (keysFit family f body ≡ true)
   unfolding widthsFit keysFit widthFits keyFits
   fits-well [] w = (refl, refl)
   fits-well (k ∷ body) w =
@@ -127,7 +127,7 @@ module _ (afi family : ℕ) (bits : familyBits afi ≡ given family) (f : Fields
       let here = at k (w .0) in
       (both-true _ _ (here .0) (later .0), both-true _ _ (here .1) (later .1))
     where
-      at : (k : Kind) → WellFormedField (KeyOf family) family f k → (widthFits family f k ≡ true) × (keyFits family f k ≡ true)
+      at : (k : FieldKind) → WellFormedField (KeyOf family) family f k → (widthFits family f k ≡ true) × (keyFits family f k ≡ true)
       at distinguisher h = (refl, refl)
       at sourceAs h = (refl, refl)
       at source h = (h .0, refl)
@@ -135,12 +135,12 @@ module _ (afi family : ℕ) (bits : familyBits afi ≡ given family) (f : Fields
       at originator h = (h .0, refl)
       at key h = (refl, key-fits afi family bits (f .key) h)
 
-  pub well-fits : Held f → (body : List Kind) → widthsFit family f body ≡ true → keysFit family f body ≡ true → WellFormedBody (KeyOf family) family f body
+  pub well-fits : HoldsOctets f → (body : List FieldKind) → widthsFit family f body ≡ true → keysFit family f body ≡ true → WellFormedBody (KeyOf family) family f body
   unfolding widthsFit keysFit widthFits keyFits
   well-fits held [] w k = tt
   well-fits held (kind ∷ body) w k = (at kind (both-true-left _ _ w) (both-true-left _ _ k), well-fits held body (both-true-right (widthFits family f kind) _ w) (both-true-right (keyFits family f kind) _ k))
     where
-      at : (k : Kind) → widthFits family f k ≡ true → keyFits family f k ≡ true → WellFormedField (KeyOf family) family f k
+      at : (k : FieldKind) → widthFits family f k ≡ true → keyFits family f k ≡ true → WellFormedField (KeyOf family) family f k
       at distinguisher w h = held .distinguisher
       at sourceAs w h = held .sourceAs
       at source w h = (w, held .source)
@@ -156,15 +156,15 @@ module _ (afi family : ℕ) (bits : familyBits afi ≡ given family) (f : Fields
       write-is afi f space ∙ sym (goes _ _ _ _ bits (sym (pick-true _ _ _ (known (f .type) (w .typed .0) (w .typed .1)) ∙ pick-true _ _ _ (fits .0) ∙ pick-true _ _ _ (fits .1))))
 
   -- what was written is the encoding, and the fields are well-formed
-  pub written : Held f → (space : ℕ) (e : List ℕ) → writeNlri afi f space ≡ given e → WellFormed family f × (encodeNlri f ≡ e)
+  pub written : HoldsOctets f → (space : ℕ) (e : List ℕ) → writeNlri afi f space ≡ given e → WellFormed family f × (encodeNlri f ≡ e)
   unfolding verdictOf verdict
   written held space e w =
       let p = passed _ _ _ (sym (write-is afi f space) ∙ w) in
       let same : p .value ≡ family = given-same (sym (p .first) ∙ bits) in
-      let q = only _ _ _ _ (p .second) in
-      let r = only _ _ _ _ (q .1) in
-      let k = only _ _ _ _ (r .1) in
-      let u = unless _ _ _ _ (k .1) in
+      let q = given-unless _ _ _ _ (p .second) in
+      let r = given-unless _ _ _ _ (q .1) in
+      let k = given-unless _ _ _ _ (r .1) in
+      let u = given-otherwise _ _ _ _ (k .1) in
       let row = rowOf (f .type) (q .0) in
       let widths : widthsFit family f (bodyOf (f .type)) ≡ true = ap (λ (n : ℕ). widthsFit n f (bodyOf (f .type))) (sym same) ∙ r .0 in
       let keys : keysFit family f (bodyOf (f .type)) ≡ true = ap (λ (n : ℕ). keysFit n f (bodyOf (f .type))) (sym same) ∙ k .0 in

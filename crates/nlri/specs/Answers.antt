@@ -1,4 +1,4 @@
--- What the calls on single NLRIs take and answer, in terms of the page's fields.
+-- What the calls on single NLRIs take and answer, in terms of document 01's fields.
 use Prim.Native.Nat.{ℕ}
 use mathlib.Core.List.{List, []}
 use lib.ListN.{length}
@@ -15,39 +15,39 @@ use Rattle.nlri.specs.declared.fields.NlriReading.{NlriReading}
 use Rattle.nlri.specs.Fields.{Fields}
 
 -- an address as a struct: its octets, then zeros, and its size
-unfoldable pub addressOf : List ℕ → Address
-addressOf octets = record { octets = sized 16 octets; size = length octets }
+unfoldable pub addressStruct : List ℕ → Address
+addressStruct octets = record { octets = sized 16 octets; size = length octets }
 
 -- a route distinguisher as a struct
-unfoldable pub distinguisherOf : List ℕ → RouteDistinguisher
-distinguisherOf octets = record { octets = sized 8 octets }
+unfoldable pub distinguisherStruct : List ℕ → RouteDistinguisher
+distinguisherStruct octets = record { octets = sized 8 octets }
 
 -- the octets of an address struct, as many as its size says
-unfoldable pub octetsOf : Address → List ℕ
-octetsOf address = sized (address .size) (address .octets)
+unfoldable pub addressOctets : Address → List ℕ
+addressOctets address = sized (address .size) (address .octets)
 
 -- fields as a struct; the key is told by its span
-unfoldable pub nlriOf : Fields → Nlri
-nlriOf f =
+unfoldable pub nlriStruct : Fields → Nlri
+nlriStruct f =
     record {
-      distinguisher = distinguisherOf (f .distinguisher);
-      source = addressOf (f .source);
-      group = addressOf (f .group);
-      originator = addressOf (f .originator);
+      distinguisher = distinguisherStruct (f .distinguisher);
+      source = addressStruct (f .source);
+      group = addressStruct (f .group);
+      originator = addressStruct (f .originator);
       «source_as» = f .sourceAs;
       «route_type» = f .type;
     }
 
 -- the fields that an NLRI struct and a key's octets stand for
-unfoldable pub fieldsIn : Nlri → List ℕ → Fields
-fieldsIn nlri key =
+unfoldable pub structFields : Nlri → List ℕ → Fields
+structFields nlri key =
     record {
       type = nlri .«route_type»;
       distinguisher = nlri .distinguisher .octets;
       sourceAs = nlri .«source_as»;
-      source = octetsOf (nlri .source);
-      group = octetsOf (nlri .group);
-      originator = octetsOf (nlri .originator);
+      source = addressOctets (nlri .source);
+      group = addressOctets (nlri .group);
+      originator = addressOctets (nlri .originator);
       key = key;
     }
 
@@ -60,7 +60,7 @@ unfoldable pub keySpan : Fields → Span
 keySpan f = record { start = pick (eqb (f .type) 4) 2 0; size = length (f .key) }
 
 -- the answer of reading a single NLRI: on a refusal its number and empty fields
-unfoldable pub readAnswer : Outcome Fields → NlriReading
-readAnswer outcome =
-    onOutcome (λ number. record { number = number; nlri = nlriOf noFields; key = keySpan noFields })
-    (λ f. record { number = DONE; nlri = nlriOf f; key = keySpan f }) outcome
+unfoldable pub nlriAnswer : Outcome Fields → NlriReading
+nlriAnswer outcome =
+    onOutcome (λ number. record { number = number; nlri = nlriStruct noFields; key = keySpan noFields })
+    (λ f. record { number = DONE; nlri = nlriStruct f; key = keySpan f }) outcome

@@ -6,12 +6,12 @@ use lib.Dec.{eqb}
 use Rattle.octets.specs.Choice.{pick, either}
 
 -- the kinds of fields
-pub data Kind : Type 0 where
-  distinguisher sourceAs source group originator key : Kind
+pub data FieldKind : Type 0 where
+  distinguisher sourceAs source group originator key : FieldKind
 
 -- a route type and its body
 pub data Row : Type 0 where
-  row : ℕ → List Kind → Row
+  row : ℕ → List FieldKind → Row
 
 -- document 01's table
 unfoldable pub bodies : List Row
@@ -26,16 +26,16 @@ bodies =
     ∷ []
 
 -- what `next` makes of the body of a route type, or `other` where no row has the type
-unfoldable pub onBody : {B : Type 0} → List Row → ℕ → B → (List Kind → B) → B
+unfoldable pub onBody : {B : Type 0} → List Row → ℕ → B → (List FieldKind → B) → B
 onBody [] type other next = other
 onBody (row n body ∷ rows) type other next = pick (eqb type n) (next body) (onBody rows type other next)
 
 -- the body of a route type; no fields where the type is unknown
-unfoldable pub bodyOf : ℕ → List Kind
+unfoldable pub bodyOf : ℕ → List FieldKind
 bodyOf type = onBody bodies type [] (λ body. body)
 
 -- kinds told apart by numbers
-unfoldable pub codeOf : Kind → ℕ
+unfoldable pub codeOf : FieldKind → ℕ
 codeOf distinguisher = 0
 codeOf sourceAs = 1
 codeOf source = 2
@@ -44,16 +44,16 @@ codeOf originator = 4
 codeOf key = 5
 
 -- the same kind of field
-unfoldable pub sameKind : Kind → Kind → Bool
+unfoldable pub sameKind : FieldKind → FieldKind → Bool
 sameKind a b = eqb (codeOf a) (codeOf b)
 
 -- of a list that goes along a body, the element of one kind of field, or `none` where the body lacks that kind
-unfoldable pub fieldIn : {A : Type 0} → A → Kind → List Kind → List A → A
+unfoldable pub fieldIn : {A : Type 0} → A → FieldKind → List FieldKind → List A → A
 fieldIn none kind [] xs = none
 fieldIn none kind (k ∷ body) [] = none
 fieldIn none kind (k ∷ body) (x ∷ xs) = pick (sameKind kind k) x (fieldIn none kind body xs)
 
 -- whether a body has a kind of field
-unfoldable pub has : Kind → List Kind → Bool
-has kind [] = false
-has kind (k ∷ body) = either (sameKind kind k) (has kind body)
+unfoldable pub hasField : FieldKind → List FieldKind → Bool
+hasField kind [] = false
+hasField kind (k ∷ body) = either (sameKind kind k) (hasField kind body)

@@ -15,5 +15,5 @@ unfoldable pub allowed : (family type bits : ℕ) → Bool
 allowed family type bits = either (eqb bits family) (both (eqb type 3) (eqb bits 0))
 
 -- an originator has 4 or 16 octets, independent of the family
-unfoldable pub originatorSize : ℕ → Bool
-originatorSize size = either (eqb size 4) (eqb size 16)
+unfoldable pub isOriginatorSize : ℕ → Bool
+isOriginatorSize size = either (eqb size 4) (eqb size 16)

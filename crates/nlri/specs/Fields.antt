@@ -6,8 +6,8 @@ use mathlib.Core.List.{List, [], _∷_, _++_}
 use lib.ListN.{length}
 use Rattle.octets.specs.Choice.{pick}
 use Rattle.octets.specs.Octets.{AllOctets, bigEndian}
-use Rattle.nlri.specs.Family.{allowed, originatorSize}
-use Rattle.nlri.specs.Bodies.{Kind, distinguisher, sourceAs, source, group, originator, key, bodyOf, has}
+use Rattle.nlri.specs.Family.{allowed, isOriginatorSize}
+use Rattle.nlri.specs.Bodies.{FieldKind, distinguisher, sourceAs, source, group, originator, key, bodyOf, hasField}
 
 -- the fields of an NLRI as lists of octets; a wildcard is no octets, and so is a field that the type lacks
 pub record Fields : Type 0 where
@@ -24,7 +24,7 @@ unfoldable pub encodeAddress : List ℕ → List ℕ
 encodeAddress a = 8 * length a ∷ a
 
 -- a field on the wire
-unfoldable pub encodeField : Fields → Kind → List ℕ
+unfoldable pub encodeField : Fields → FieldKind → List ℕ
 encodeField f distinguisher = f .distinguisher
 encodeField f sourceAs = bigEndian 4 (f .sourceAs)
 encodeField f source = encodeAddress (f .source)
@@ -33,7 +33,7 @@ encodeField f originator = f .originator
 encodeField f key = f .key
 
 -- the fields of a body, one after the other
-unfoldable pub encodeBody : Fields → List Kind → List ℕ
+unfoldable pub encodeBody : Fields → List FieldKind → List ℕ
 encodeBody f [] = []
 encodeBody f (k ∷ body) = encodeField f k ++ encodeBody f body
 
@@ -42,16 +42,16 @@ unfoldable pub encodeNlri : Fields → List ℕ
 encodeNlri f = f .type ∷ length (encodeBody f (bodyOf (f .type))) ∷ encodeBody f (bodyOf (f .type))
 
 -- a field of the size that the type and the family's bits allow, its octets octets; of a key, what `Key` says
-abbrev pub WellFormedField : (List ℕ → Type 0) → ℕ → Fields → Kind → Type 0
+abbrev pub WellFormedField : (List ℕ → Type 0) → ℕ → Fields → FieldKind → Type 0
 WellFormedField Key family f distinguisher = (length (f .distinguisher) ≡ 8) × AllOctets (f .distinguisher)
 WellFormedField Key family f sourceAs = f .sourceAs < 2 ^ 32
 WellFormedField Key family f source = (allowed family (f .type) (8 * length (f .source)) ≡ true) × AllOctets (f .source)
 WellFormedField Key family f group = (allowed family (f .type) (8 * length (f .group)) ≡ true) × AllOctets (f .group)
-WellFormedField Key family f originator = (originatorSize (length (f .originator)) ≡ true) × AllOctets (f .originator)
+WellFormedField Key family f originator = (isOriginatorSize (length (f .originator)) ≡ true) × AllOctets (f .originator)
 WellFormedField Key family f key = Key (f .key)
 
 -- every field of a body is well-formed
-abbrev pub WellFormedBody : (List ℕ → Type 0) → ℕ → Fields → List Kind → Type 0
+abbrev pub WellFormedBody : (List ℕ → Type 0) → ℕ → Fields → List FieldKind → Type 0
 WellFormedBody Key family f [] = Unit {0}
 WellFormedBody Key family f (k ∷ body) = WellFormedField Key family f k × WellFormedBody Key family f body
 
@@ -74,13 +74,13 @@ pub record WellFormed (family : ℕ) (f : Fields) : Type 0 where
 -- f with the fields that its type lacks emptied
 unfoldable pub restricted : Fields → Fields
 restricted f =
-    let body : List Kind = bodyOf (f .type) in
+    let body : List FieldKind = bodyOf (f .type) in
     record {
       type = f .type;
-      distinguisher = pick (has distinguisher body) (f .distinguisher) [];
-      sourceAs = pick (has sourceAs body) (f .sourceAs) 0;
-      source = pick (has source body) (f .source) [];
-      group = pick (has group body) (f .group) [];
-      originator = pick (has originator body) (f .originator) [];
-      key = pick (has key body) (f .key) [];
+      distinguisher = pick (hasField distinguisher body) (f .distinguisher) [];
+      sourceAs = pick (hasField sourceAs body) (f .sourceAs) 0;
+      source = pick (hasField source body) (f .source) [];
+      group = pick (hasField group body) (f .group) [];
+      originator = pick (hasField originator body) (f .originator) [];
+      key = pick (hasField key body) (f .key) [];
     }

@@ -1,4 +1,4 @@
--- Definitions that the inner functions of reading cite, and those that lead from them to the page's in `Reading`; laws tie them together.
+-- Definitions that the inner functions of reading cite, and those that lead from them to document 01's in `Reading`; laws tie them together.
 use Prim.Native.Nat.{ℕ, _+_, _-_, _/_, _≤_, _<_}
 use mathlib.Core.Path.{_≡_}
 use mathlib.Core.Bool.{Bool, true, false}
@@ -15,7 +15,7 @@ use Rattle.nlri.specs.declared.layout.Part.{Part}
 use Rattle.nlri.specs.declared.layout.Part.the-variants.{Size, Fault}
 use Rattle.nlri.specs.declared.read.Header.{Header}
 use Rattle.nlri.specs.declared.read.Header.the-variants.{Typed, Unread}
-use Rattle.nlri.specs.Family.{allowed, originatorSize}
+use Rattle.nlri.specs.Family.{allowed, isOriginatorSize}
 use Rattle.nlri.specs.Fields.{Fields}
 use Rattle.nlri.specs.Reading.{addressField, keyField}
 use Rattle.nlri.specs.Layouts.{layoutAt}
@@ -26,9 +26,9 @@ partOf (Size size) = given size
 partOf (Fault number) = refused number
 
 -- a route type and a Length, or the refusal's number
-unfoldable pub headerOf : Header → Outcome (ℕ × ℕ)
-headerOf (Typed type size) = given (type, size)
-headerOf (Unread number) = refused number
+unfoldable pub headerOutcome : Header → Outcome (ℕ × ℕ)
+headerOutcome (Typed type size) = given (type, size)
+headerOutcome (Unread number) = refused number
 
 unfoldable pub layoutWith : (type size source group originator key : ℕ) → Layout
 layoutWith type size source group originator key =
@@ -36,10 +36,10 @@ layoutWith type size source group originator key =
 
 -- what remains stands in the layout as its originator
 unfoldable pub originatorLast : Layout → Outcome Layout
-originatorLast l = pick (originatorSize (l .originator)) (given l) (refused LENGTH)
+originatorLast l = pick (isOriginatorSize (l .originator)) (given l) (refused LENGTH)
 
-unfoldable pub endsAt : Layout → Outcome Layout
-endsAt l = pick (eqb (l .originator) 0) (given l) (refused LENGTH)
+unfoldable pub nothingLast : Layout → Outcome Layout
+nothingLast l = pick (eqb (l .originator) 0) (given l) (refused LENGTH)
 
 -- the number where a test of what remains decides
 unfoldable pub lastFault : Bool → ℕ
@@ -49,32 +49,32 @@ lastFault good = pick good DONE LENGTH
 unfoldable pub restFault : (ℕ → Bool) → (at size : ℕ) → ℕ
 restFault good at size = pick (ltb size at) LENGTH (lastFault (good (size - at)))
 
-unfoldable pub groupSize : (family type source : ℕ) → List ℕ → Outcome (ℕ × ℕ)
-groupSize family type source s = andThen (addressField family type s) (λ group. given (source, group))
+unfoldable pub withGroup : (family type source : ℕ) → List ℕ → Outcome (ℕ × ℕ)
+withGroup family type source s = andThen (addressField family type s) (λ group. given (source, group))
 
 unfoldable pub flowSizes : (family type : ℕ) → List ℕ → Outcome (ℕ × ℕ)
-flowSizes family type s = andThen (addressField family type s) (λ source. groupSize family type source (drop source s))
+flowSizes family type s = andThen (addressField family type s) (λ source. withGroup family type source (drop source s))
 
 unfoldable pub flowEnd : (type size source group rest : ℕ) → Outcome Layout
 flowEnd type size source group rest =
     pick (eqb type 3) (originatorLast (layoutWith type size (source - 1) (group - 1) rest 0))
-    (endsAt (layoutWith type size (source - 1) (group - 1) rest 0))
+    (nothingLast (layoutWith type size (source - 1) (group - 1) rest 0))
 
 -- the number of what follows source and group
 unfoldable pub flowEndFault : (type at size : ℕ) → ℕ
-flowEndFault type at size = pick (eqb type 3) (restFault originatorSize at size) (restFault (λ rest. eqb rest 0) at size)
+flowEndFault type at size = pick (eqb type 3) (restFault isOriginatorSize at size) (restFault (λ rest. eqb rest 0) at size)
 
 -- the number of an address whose length octet stands at `at`, and of what follows its end
-unfoldable pub addressFault : (family type at : ℕ) → List ℕ → (ℕ → ℕ) → ℕ
-addressFault family type at s next =
+unfoldable pub addressThen : (family type at : ℕ) → List ℕ → (ℕ → ℕ) → ℕ
+addressThen family type at s next =
     pick (leb (length s) at) LENGTH
     (pick (allowed family type (getD s at 0)) (next (at + 1 + getD s at 0 / 8)) WIDTH)
 
 unfoldable pub groupFault : (family type at : ℕ) → List ℕ → ℕ
-groupFault family type at s = addressFault family type at s (λ end. flowEndFault type end (length s))
+groupFault family type at s = addressThen family type at s (λ end. flowEndFault type end (length s))
 
 unfoldable pub flowFault : (family type at : ℕ) → List ℕ → ℕ
-flowFault family type at s = addressFault family type at s (λ end. groupFault family type end s)
+flowFault family type at s = addressThen family type at s (λ end. groupFault family type end s)
 
 unfoldable pub flowRoute : (family type fixed : ℕ) → List ℕ → Outcome Layout
 flowRoute family type fixed s =
@@ -86,7 +86,7 @@ unfoldable pub intraAs : List ℕ → Outcome Layout
 intraAs s = pick (ltb (length s) 8) (refused LENGTH) (originatorLast (layoutWith 1 (length s) 0 0 (length s - 8) 0))
 
 unfoldable pub interAs : List ℕ → Outcome Layout
-interAs s = pick (ltb (length s) 12) (refused LENGTH) (endsAt (layoutWith 2 (length s) 0 0 (length s - 12) 0))
+interAs s = pick (ltb (length s) 12) (refused LENGTH) (nothingLast (layoutWith 2 (length s) 0 0 (length s - 12) 0))
 
 unfoldable pub leaf : ℕ → List ℕ → Outcome Layout
 leaf family s = andThen (keyField family s) (λ size. originatorLast (layoutWith 4 (length s) 0 0 (length s - size) size))
@@ -109,20 +109,20 @@ unkeyedBody family type s = bodyWith (refused KEY) family type s
 unfoldable pub anyBody : (family type : ℕ) → List ℕ → Outcome Layout
 anyBody family type s = bodyWith (leaf family s) family type s
 
-unfoldable pub header : List ℕ → Outcome (ℕ × ℕ)
-header s =
+unfoldable pub headerAt : List ℕ → Outcome (ℕ × ℕ)
+headerAt s =
     pick (ltb (length s) 2) (refused SHORT)
     (pick (ltb (length s - 2) (getD s 1 0)) (refused SHORT) (given (getD s 0 0, getD s 1 0)))
 
 unfoldable pub unkeyed : ℕ → List ℕ → Outcome Layout
-unkeyed family s = andThen (header s) (λ h. unkeyedBody family (h .0) (part s 2 (h .1)))
+unkeyed family s = andThen (headerAt s) (λ h. unkeyedBody family (h .0) (part s 2 (h .1)))
 
 -- type and Length of an NLRI that has no key
 unfoldable pub unkeyedHeader : ℕ → List ℕ → Outcome (ℕ × ℕ)
 unkeyedHeader family s = andThen (unkeyed family s) (λ l. given (l .«route_type», l .length))
 
 unfoldable pub anyFront : ℕ → List ℕ → Outcome Layout
-anyFront family s = andThen (header s) (λ h. anyBody family (h .0) (part s 2 (h .1)))
+anyFront family s = andThen (headerAt s) (λ h. anyBody family (h .0) (part s 2 (h .1)))
 
 -- a key's size by the layout of the NLRI that it is
 unfoldable pub keySize : ℕ → List ℕ → Outcome ℕ
@@ -190,7 +190,7 @@ unfoldable pub keyAt : Layout → Span
 keyAt l = record { start = pick (eqb (l .«route_type») 4) 2 0; size = l .key }
 
 -- a layout's fields lie within the NLRI, and have the sizes of addresses
-pub record Within (l : Layout) (s : List ℕ) : Type 0 where
+pub record LayoutWithin (l : Layout) (s : List ℕ) : Type 0 where
   pub typed : l .«route_type» ≤ 7
   pub distinguished : (l .«route_type» ≡ 4 → ⊥) → 10 ≤ length s
   pub numbered : withSourceAs (l .«route_type») ≡ true → 14 ≤ length s

@@ -1,4 +1,4 @@
--- Definitions that mirror the inner functions of writing, one for each; laws tie them to the page's in `Writing`.
+-- Definitions that mirror the inner functions of writing, one for each; laws tie them to document 01's in `Writing`.
 use Prim.Native.Nat.{ℕ, _+_, _*_, _≤_, _<_}
 use mathlib.Core.Path.{_≡_}
 use mathlib.Core.Bool.{Bool, true}
@@ -10,10 +10,10 @@ use Rattle.octets.specs.Choice.{pick, both, either}
 use Rattle.octets.specs.Outcome.{Outcome, given, refused}
 use Rattle.octets.specs.Octets.{bigEndian}
 use Rattle.nlri.specs.declared.fields.Nlri.{Nlri}
-use Rattle.nlri.specs.Family.{allowed, originatorSize}
+use Rattle.nlri.specs.Family.{allowed, isOriginatorSize}
 use Rattle.nlri.specs.Fields.{encodeAddress}
 use Rattle.nlri.specs.Writing.{isKey}
-use Rattle.nlri.specs.Answers.{octetsOf}
+use Rattle.nlri.specs.Answers.{addressOctets}
 use Rattle.nlri.specs.Inner.{withSourceAs}
 
 -- types 3, 5, 6 and 7 have a source and a group
@@ -28,14 +28,14 @@ unfoldable pub flowFits : (family type source group : ℕ) → Bool
 flowFits family type source group = pick (hasFlow type) (both (allowed family type (8 * source)) (allowed family type (8 * group))) true
 
 unfoldable pub originatorFits : (type size : ℕ) → Bool
-originatorFits type size = pick (hasOriginator type) (originatorSize size) true
+originatorFits type size = pick (hasOriginator type) (isOriginatorSize size) true
 
 unfoldable pub leafFits : (family type : ℕ) → List ℕ → Bool
 leafFits family type key = pick (eqb type 4) (isKey family key) true
 
 -- DONE, or the first of TYPE, WIDTH and KEY
-unfoldable pub judged : ℕ → Nlri → List ℕ → ℕ
-judged family nlri key =
+unfoldable pub fieldsFault : ℕ → Nlri → List ℕ → ℕ
+fieldsFault family nlri key =
     pick (ltb (nlri .«route_type») 1) TYPE
     (pick (ltb 7 (nlri .«route_type»)) TYPE
     (pick (flowFits family (nlri .«route_type») (nlri .source .size) (nlri .group .size))
@@ -67,37 +67,37 @@ unfoldable pub fixedOctets : Nlri → List ℕ → List ℕ
 fixedOctets nlri key = pick (eqb (nlri .«route_type») 4) key (nlri .distinguisher .octets ++ sourceAsOctets nlri)
 
 unfoldable pub flowOctets : Nlri → List ℕ
-flowOctets nlri = pick (hasFlow (nlri .«route_type»)) (encodeAddress (octetsOf (nlri .source)) ++ encodeAddress (octetsOf (nlri .group))) []
+flowOctets nlri = pick (hasFlow (nlri .«route_type»)) (encodeAddress (addressOctets (nlri .source)) ++ encodeAddress (addressOctets (nlri .group))) []
 
 unfoldable pub originatorOctets : Nlri → List ℕ
-originatorOctets nlri = pick (hasOriginator (nlri .«route_type»)) (octetsOf (nlri .originator)) []
+originatorOctets nlri = pick (hasOriginator (nlri .«route_type»)) (addressOctets (nlri .originator)) []
 
 unfoldable pub bodyOctets : Nlri → List ℕ → List ℕ
 bodyOctets nlri key = fixedOctets nlri key ++ (flowOctets nlri ++ originatorOctets nlri)
 
-unfoldable pub allOctets : Nlri → List ℕ → List ℕ
-allOctets nlri key = nlri .«route_type» ∷ length (bodyOctets nlri key) ∷ bodyOctets nlri key
+unfoldable pub nlriOctets : Nlri → List ℕ → List ℕ
+nlriOctets nlri key = nlri .«route_type» ∷ length (bodyOctets nlri key) ∷ bodyOctets nlri key
 
 -- a wildcard's size, IPv4's or IPv6's
 abbrev pub AddressSize : ℕ → Type 0
 AddressSize size = (size ≤ 16) × ((size ≡ 4 → ⊥) → (size ≡ 16 → ⊥) → size ≡ 0)
 
 -- addresses of such sizes
-pub record Sized (nlri : Nlri) : Type 0 where
+pub record AddressesSized (nlri : Nlri) : Type 0 where
   pub source : hasFlow (nlri .«route_type») ≡ true → AddressSize (nlri .source .size)
   pub group : hasFlow (nlri .«route_type») ≡ true → AddressSize (nlri .group .size)
   pub originator : hasOriginator (nlri .«route_type») ≡ true → AddressSize (nlri .originator .size)
 
 -- an NLRI of so many octets that fits its Length octet and the output
 pub record Putting (nlri : Nlri) (key : List ℕ) (size : ℕ) (output : List ℕ) : Type 0 where
-  pub sized : Sized nlri
-  pub exact : size ≡ length (allOctets nlri key)
+  pub sized : AddressesSized nlri
+  pub exact : size ≡ length (nlriOctets nlri key)
   pub short : size < 258
   pub room : size ≤ length output
 
 -- under a family
 unfoldable pub writeUnder : ℕ → Nlri → List ℕ → ℕ → Outcome (List ℕ)
 writeUnder family nlri key space =
-    pick (eqb (judged family nlri key) 0)
-    (pick (ltb space (sizeOf nlri (length key))) (refused SPACE) (given (allOctets nlri key)))
-    (refused (judged family nlri key))
+    pick (eqb (fieldsFault family nlri key) 0)
+    (pick (ltb space (sizeOf nlri (length key))) (refused SPACE) (given (nlriOctets nlri key)))
+    (refused (fieldsFault family nlri key))

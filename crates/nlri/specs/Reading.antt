@@ -8,8 +8,8 @@ use Rattle.octets.specs.Numbers.{SHORT, TYPE, LENGTH, WIDTH, KEY}
 use Rattle.octets.specs.Choice.{pick}
 use Rattle.octets.specs.Outcome.{Outcome, given, refused, onOutcome, andThen}
 use Rattle.octets.specs.Octets.{part, numberIn}
-use Rattle.nlri.specs.Family.{familyBits, allowed, originatorSize}
-use Rattle.nlri.specs.Bodies.{Kind, distinguisher, sourceAs, source, group, originator, key, bodies, onBody, fieldIn}
+use Rattle.nlri.specs.Family.{familyBits, allowed, isOriginatorSize}
+use Rattle.nlri.specs.Bodies.{FieldKind, distinguisher, sourceAs, source, group, originator, key, bodies, onBody, fieldIn}
 use Rattle.nlri.specs.Fields.{Fields}
 
 -- a field of n octets, n known
@@ -28,10 +28,10 @@ addressField family type s =
 
 -- the originator is what remains
 unfoldable pub originatorField : List ℕ → Outcome ℕ
-originatorField s = pick (originatorSize (length s)) (given (length s)) (refused LENGTH)
+originatorField s = pick (isOriginatorSize (length s)) (given (length s)) (refused LENGTH)
 
 -- how many octets the field at the front of s takes, or the number that refuses it; `keyField` judges a key
-unfoldable pub fieldSize : (List ℕ → Outcome ℕ) → (family type : ℕ) → Kind → List ℕ → Outcome ℕ
+unfoldable pub fieldSize : (List ℕ → Outcome ℕ) → (family type : ℕ) → FieldKind → List ℕ → Outcome ℕ
 fieldSize keyField family type distinguisher s = fixedField 8 s
 fieldSize keyField family type sourceAs s = fixedField 4 s
 fieldSize keyField family type source s = addressField family type s
@@ -40,7 +40,7 @@ fieldSize keyField family type originator s = originatorField s
 fieldSize keyField family type key s = keyField s
 
 -- the sizes of a body's fields from left to right, the first fault deciding; nothing may remain
-unfoldable pub sizesOf : (Kind → List ℕ → Outcome ℕ) → List Kind → List ℕ → Outcome (List ℕ)
+unfoldable pub sizesOf : (FieldKind → List ℕ → Outcome ℕ) → List FieldKind → List ℕ → Outcome (List ℕ)
 sizesOf size [] s = pick (eqb (length s) 0) (given []) (refused LENGTH)
 sizesOf size (k ∷ body) s = andThen (size k s) (λ n. andThen (sizesOf size body (drop n s)) (λ sizes. given (n ∷ sizes)))
 
@@ -48,7 +48,7 @@ sizesOf size (k ∷ body) s = andThen (size k s) (λ n. andThen (sizesOf size bo
 pub record Laid : Type 0 where
   pub type : ℕ
   pub size : ℕ
-  pub body : List Kind
+  pub body : List FieldKind
   pub sizes : List ℕ
 
 -- the NLRI at the front of s: SHORT, TYPE, then its body
@@ -82,7 +82,7 @@ cut (n ∷ sizes) s = take n s ∷ cut sizes (drop n s)
 -- the fields of an NLRI whose body goes as `laid` says
 unfoldable pub fieldsOf : Laid → List ℕ → Fields
 fieldsOf laid s =
-    let field : Kind → List ℕ = λ kind. fieldIn [] kind (laid .body) (cut (laid .sizes) (drop 2 s)) in
+    let field : FieldKind → List ℕ = λ kind. fieldIn [] kind (laid .body) (cut (laid .sizes) (drop 2 s)) in
     record {
       type = laid .type;
       distinguisher = field distinguisher;

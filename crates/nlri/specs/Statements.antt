@@ -8,8 +8,8 @@ use lib.ListN.{length, getD, take, drop}
 use Rattle.octets.specs.Numbers.{DONE, SHORT, TYPE, LENGTH, WIDTH, KEY, LONG, FAMILY, FLOW, SPACE}
 use Rattle.octets.specs.Outcome.{given, refused}
 use Rattle.octets.specs.Octets.{AllOctets, part}
-use Rattle.nlri.specs.Family.{familyBits, allowed, originatorSize}
-use Rattle.nlri.specs.Bodies.{Kind, distinguisher, sourceAs, source, group, originator, key, bodyOf, has}
+use Rattle.nlri.specs.Family.{familyBits, allowed, isOriginatorSize}
+use Rattle.nlri.specs.Bodies.{FieldKind, distinguisher, sourceAs, source, group, originator, key, bodyOf, hasField}
 use Rattle.nlri.specs.Fields.{Fields, encodeField, encodeNlri, WellFormedField, WellFormed, KeyOf, restricted}
 use Rattle.nlri.specs.Reading.{laidAt, readNlri}
 use Rattle.nlri.specs.Writing.{writeNlri}
@@ -18,7 +18,7 @@ use Rattle.nlri.specs.Groups.{ASM, SSM, classOf}
 use Rattle.nlri.specs.declared.fields.Nlri.{Nlri}
 use Rattle.nlri.specs.declared.layout.Layout.{Layout}
 use Rattle.nlri.specs.declared.run.Walked.{Walked}
-use Rattle.nlri.specs.Answers.{nlriOf, fieldsIn, keySpan, readAnswer}
+use Rattle.nlri.specs.Answers.{nlriStruct, structFields, keySpan, nlriAnswer}
 
 -- "NLRI on the wire": the lengths
 pub record Lengths : Type 0 where
@@ -27,7 +27,7 @@ pub record Lengths : Type 0 where
   -- a source or group length is the family's, or 0 in type 3
   pub addresses : (family type bits : ℕ) → (allowed family type bits ≡ true) ↔ ((bits ≡ family) ⊎ ((type ≡ 3) × (bits ≡ 0)))
   -- an originator has 4 or 16 octets
-  pub originators : (size : ℕ) → (originatorSize size ≡ true) ↔ ((size ≡ 4) ⊎ (size ≡ 16))
+  pub originators : (size : ℕ) → (isOriginatorSize size ≡ true) ↔ ((size ≡ 4) ⊎ (size ≡ 16))
 
 -- octets that are the encoding of well-formed fields of the AFI's family, fields that the type lacks being empty
 pub record ReadAs (afi : ℕ) (s : List ℕ) (f : Fields) : Type 0 where
@@ -50,7 +50,7 @@ pub record Acceptance : Type 0 where
   pub same : (afi family : ℕ) (f g : Fields) → familyBits afi ≡ given family → WellFormed family f → WellFormed family g → encodeNlri f ≡ encodeNlri g → restricted f ≡ restricted g
 
 -- fields that hold octets and a 32-bit number, as those do that a struct and a buffer of octets stand for
-pub record Held (f : Fields) : Type 0 where
+pub record HoldsOctets (f : Fields) : Type 0 where
   pub distinguisher : (length (f .distinguisher) ≡ 8) × AllOctets (f .distinguisher)
   pub sourceAs : f .sourceAs < 2 ^ 32
   pub source : AllOctets (f .source)
@@ -59,7 +59,7 @@ pub record Held (f : Fields) : Type 0 where
   pub key : AllOctets (f .key)
 
 -- an NLRI struct that holds octets and a 32-bit number
-pub record HeldNlri (nlri : Nlri) : Type 0 where
+pub record StructHoldsOctets (nlri : Nlri) : Type 0 where
   pub distinguisher : (length (nlri .distinguisher .octets) ≡ 8) × AllOctets (nlri .distinguisher .octets)
   pub sourceAs : nlri .«source_as» < 2 ^ 32
   pub source : AllOctets (nlri .source .octets)
@@ -71,24 +71,24 @@ pub record RoundTrips : Type 0 where
   -- writing what was read gives the same octets
   pub written : (afi : ℕ) (s : List ℕ) (f : Fields) (space : ℕ) → AllOctets s → readNlri afi s ≡ given f → length s ≤ space → writeNlri afi f space ≡ given s
   -- reading what was written gives the same fields, those that the type lacks being empty
-  pub read : (afi : ℕ) (f : Fields) (space : ℕ) (e : List ℕ) → Held f → writeNlri afi f space ≡ given e → readNlri afi e ≡ given (restricted f)
+  pub read : (afi : ℕ) (f : Fields) (space : ℕ) (e : List ℕ) → HoldsOctets f → writeNlri afi f space ≡ given e → readNlri afi e ≡ given (restricted f)
   -- a writer does not look at fields that the type lacks
   pub unseen : (afi : ℕ) (f : Fields) (space : ℕ) → writeNlri afi (restricted f) space ≡ writeNlri afi f space
   -- the struct and the key's octets that reading answers stand for the fields read
-  pub struct : (afi : ℕ) (s : List ℕ) (f : Fields) → AllOctets s → readNlri afi s ≡ given f → restricted (fieldsIn (nlriOf f) (f .key)) ≡ f
+  pub struct : (afi : ℕ) (s : List ℕ) (f : Fields) → AllOctets s → readNlri afi s ≡ given f → restricted (structFields (nlriStruct f) (f .key)) ≡ f
   -- the key's octets stand where the answer's span says
   pub spanned : (afi : ℕ) (s : List ℕ) (f : Fields) → AllOctets s → readNlri afi s ≡ given f → part s (keySpan f .start) (keySpan f .size) ≡ f .key
   -- writing the struct and the key's octets gives the same octets
-  pub structWritten : (afi : ℕ) (s : List ℕ) (f : Fields) (space : ℕ) → AllOctets s → readNlri afi s ≡ given f → length s ≤ space → writeNlri afi (fieldsIn (nlriOf f) (f .key)) space ≡ given s
+  pub structWritten : (afi : ℕ) (s : List ℕ) (f : Fields) (space : ℕ) → AllOctets s → readNlri afi s ≡ given f → length s ≤ space → writeNlri afi (structFields (nlriStruct f) (f .key)) space ≡ given s
   -- so writing what the call of reading answers, the key taken from the octets read, gives these octets
-  pub answered : (afi : ℕ) (s : List ℕ) (space : ℕ) → AllOctets s → readAnswer (readNlri afi s) .number ≡ DONE → length s ≤ space
-      → writeNlri afi (fieldsIn (readAnswer (readNlri afi s) .nlri) (part s (readAnswer (readNlri afi s) .key .start) (readAnswer (readNlri afi s) .key .size))) space ≡ given s
+  pub answered : (afi : ℕ) (s : List ℕ) (space : ℕ) → AllOctets s → nlriAnswer (readNlri afi s) .number ≡ DONE → length s ≤ space
+      → writeNlri afi (structFields (nlriAnswer (readNlri afi s) .nlri) (part s (nlriAnswer (readNlri afi s) .key .start) (nlriAnswer (readNlri afi s) .key .size))) space ≡ given s
   -- what a struct and a key's octets stand for comes back when it was written
-  pub structRead : (afi : ℕ) (nlri : Nlri) (key : List ℕ) (space : ℕ) (e : List ℕ) → HeldNlri nlri → AllOctets key → writeNlri afi (fieldsIn nlri key) space ≡ given e
-      → readNlri afi e ≡ given (restricted (fieldsIn nlri key))
+  pub structRead : (afi : ℕ) (nlri : Nlri) (key : List ℕ) (space : ℕ) (e : List ℕ) → StructHoldsOctets nlri → AllOctets key → writeNlri afi (structFields nlri key) space ≡ given e
+      → readNlri afi e ≡ given (restricted (structFields nlri key))
 
 -- an originator is what remains
-abbrev pub Closes : Kind → List ℕ → Type 0
+abbrev pub Closes : FieldKind → List ℕ → Type 0
 Closes distinguisher t = Unit {0}
 Closes sourceAs t = Unit {0}
 Closes source t = Unit {0}
@@ -97,7 +97,7 @@ Closes originator t = t ≡ []
 Closes key t = Unit {0}
 
 -- x is the encoding of a well-formed field of one kind, with t after it
-pub record FieldAt (family type : ℕ) (k : Kind) (x t : List ℕ) : Type 0 where
+pub record FieldAt (family type : ℕ) (k : FieldKind) (x t : List ℕ) : Type 0 where
   pub fields : Fields
   pub typed : fields .type ≡ type
   pub wellFormed : WellFormedField (KeyOf family) family fields k
@@ -111,32 +111,32 @@ pub data AddressFault (family type : ℕ) (s : List ℕ) : ℕ → Type 0 where
   ends : 1 ≤ length s → allowed family type (getD s 0 0) ≡ true → length s < 1 + getD s 0 0 / 8 → AddressFault family type s LENGTH
 
 -- the fault of a field where s is what remains of the body, and its number; a key's is that no octets at the front are a key
-abbrev pub Fault : (family type : ℕ) → Kind → List ℕ → ℕ → Type 0
+abbrev pub Fault : (family type : ℕ) → FieldKind → List ℕ → ℕ → Type 0
 Fault family type distinguisher s n = (length s < 8) × (n ≡ LENGTH)
 Fault family type sourceAs s n = (length s < 4) × (n ≡ LENGTH)
 Fault family type source s n = AddressFault family type s n
 Fault family type group s n = AddressFault family type s n
-Fault family type originator s n = (originatorSize (length s) ≡ false) × (n ≡ LENGTH)
+Fault family type originator s n = (isOriginatorSize (length s) ≡ false) × (n ≡ LENGTH)
 Fault family type key s n = ((size : ℕ) → size ≤ length s → KeyOf family (take size s) → ⊥) × (n ≡ KEY)
 
 -- the first fault of a body from left to right: octets remain after its last field, its first field faults, or its first field stands and a later one faults
-pub data Faulty (family type : ℕ) : List Kind → List ℕ → ℕ → Type 0 where
+pub data Faulty (family type : ℕ) : List FieldKind → List ℕ → ℕ → Type 0 where
   remains : {s : List ℕ} → 0 < length s → Faulty family type [] s LENGTH
-  here : {k : Kind} {body : List Kind} {s : List ℕ} {n : ℕ} → Fault family type k s n → Faulty family type (k ∷ body) s n
-  later : {k : Kind} {body : List Kind} {s : List ℕ} {n : ℕ} (x t : List ℕ) → s ≡ x ++ t → FieldAt family type k x t → Faulty family type body t n → Faulty family type (k ∷ body) s n
+  here : {k : FieldKind} {body : List FieldKind} {s : List ℕ} {n : ℕ} → Fault family type k s n → Faulty family type (k ∷ body) s n
+  later : {k : FieldKind} {body : List FieldKind} {s : List ℕ} {n : ℕ} (x t : List ℕ) → s ≡ x ++ t → FieldAt family type k x t → Faulty family type body t n → Faulty family type (k ∷ body) s n
 
 -- fewer octets than the header, or than the Length field, asks
-abbrev pub Short : List ℕ → Type 0
-Short s = (length s < 2) ⊎ (length s - 2 < getD s 1 0)
+abbrev pub TooShort : List ℕ → Type 0
+TooShort s = (length s < 2) ⊎ (length s - 2 < getD s 1 0)
 
-abbrev pub Typed : ℕ → Type 0
-Typed type = (1 ≤ type) × (type ≤ 7)
+abbrev pub KnownType : ℕ → Type 0
+KnownType type = (1 ≤ type) × (type ≤ 7)
 
 -- why reading the NLRI at the front of octets refuses: SHORT, TYPE, then the body
 pub data FrontRefusal (family : ℕ) (s : List ℕ) : ℕ → Type 0 where
-  short : Short s → FrontRefusal family s SHORT
-  badType : (Short s → ⊥) → (Typed (getD s 0 0) → ⊥) → FrontRefusal family s TYPE
-  badBody : {n : ℕ} → (Short s → ⊥) → Typed (getD s 0 0) → Faulty family (getD s 0 0) (bodyOf (getD s 0 0)) (part s 2 (getD s 1 0)) n → FrontRefusal family s n
+  short : TooShort s → FrontRefusal family s SHORT
+  badType : (TooShort s → ⊥) → (KnownType (getD s 0 0) → ⊥) → FrontRefusal family s TYPE
+  badBody : {n : ℕ} → (TooShort s → ⊥) → KnownType (getD s 0 0) → Faulty family (getD s 0 0) (bodyOf (getD s 0 0)) (part s 2 (getD s 1 0)) n → FrontRefusal family s n
 
 -- why reading a single NLRI refuses: FAMILY, then its front, then octets after it
 pub data ReadRefusal (afi : ℕ) (s : List ℕ) : ℕ → Type 0 where
@@ -144,7 +144,7 @@ pub data ReadRefusal (afi : ℕ) (s : List ℕ) : ℕ → Type 0 where
   front : (family : ℕ) {n : ℕ} → familyBits afi ≡ given family → FrontRefusal family s n → ReadRefusal afi s n
   after : (family : ℕ) (f : Fields) (t : List ℕ) → familyBits afi ≡ given family → WellFormed family f → s ≡ encodeNlri f ++ t → 0 < length t → ReadRefusal afi s LENGTH
 
--- "The numbers a call gives back", at NLRI reading: every list of octets is accepted or refused by one number, each given exactly when the page says
+-- "The numbers a call gives back", at NLRI reading: every list of octets is accepted or refused by one number, each given exactly when document 01 says
 pub record ReadRefusals : Type 0 where
   pub exactly : (afi : ℕ) (s : List ℕ) (n : ℕ) → AllOctets s → (readNlri afi s ≡ refused n) ↔ ReadRefusal afi s n
   -- the NLRI at the front of octets, whatever stands after it
@@ -156,33 +156,33 @@ pub record ReadRefusals : Type 0 where
   pub done : (afi : ℕ) (s : List ℕ) → ReadRefusal afi s DONE → ⊥
   -- FAMILY, SHORT and TYPE by themselves
   pub family : (afi : ℕ) (s : List ℕ) → AllOctets s → (readNlri afi s ≡ refused FAMILY) ↔ ((afi ≢ 1) × (afi ≢ 2))
-  pub short : (afi : ℕ) (s : List ℕ) → AllOctets s → (readNlri afi s ≡ refused SHORT) ↔ (((afi ≡ 1) ⊎ (afi ≡ 2)) × Short s)
-  pub type : (afi : ℕ) (s : List ℕ) → AllOctets s → (readNlri afi s ≡ refused TYPE) ↔ (((afi ≡ 1) ⊎ (afi ≡ 2)) × (Short s → ⊥) × (Typed (getD s 0 0) → ⊥))
+  pub short : (afi : ℕ) (s : List ℕ) → AllOctets s → (readNlri afi s ≡ refused SHORT) ↔ (((afi ≡ 1) ⊎ (afi ≡ 2)) × TooShort s)
+  pub type : (afi : ℕ) (s : List ℕ) → AllOctets s → (readNlri afi s ≡ refused TYPE) ↔ (((afi ≡ 1) ⊎ (afi ≡ 2)) × (TooShort s → ⊥) × (KnownType (getD s 0 0) → ⊥))
   -- a body's fault is LENGTH, WIDTH or KEY
-  pub bodies : (family type : ℕ) (body : List Kind) (s : List ℕ) (n : ℕ) → Faulty family type body s n → (n ≡ LENGTH) ⊎ (n ≡ WIDTH) ⊎ (n ≡ KEY)
+  pub bodies : (family type : ℕ) (body : List FieldKind) (s : List ℕ) (n : ℕ) → Faulty family type body s n → (n ≡ LENGTH) ⊎ (n ≡ WIDTH) ⊎ (n ≡ KEY)
 
 -- a source or group of a length that the type and family do not allow, an originator not of 4 or 16 octets
-abbrev pub WidthFault : ℕ → Fields → Kind → Type 0
+abbrev pub WidthFault : ℕ → Fields → FieldKind → Type 0
 WidthFault family f distinguisher = ⊥
 WidthFault family f sourceAs = ⊥
 WidthFault family f source = allowed family (f .type) (8 * length (f .source)) ≡ false
 WidthFault family f group = allowed family (f .type) (8 * length (f .group)) ≡ false
-WidthFault family f originator = originatorSize (length (f .originator)) ≡ false
+WidthFault family f originator = isOriginatorSize (length (f .originator)) ≡ false
 WidthFault family f key = ⊥
 
 -- why writing refuses, in the order FAMILY, TYPE, WIDTH, KEY, SPACE; only fields of the type's body are judged
 pub data WriteRefusal (afi : ℕ) (f : Fields) (space : ℕ) : ℕ → Type 0 where
   badFamily : afi ≢ 1 → afi ≢ 2 → WriteRefusal afi f space FAMILY
-  badType : (family : ℕ) → familyBits afi ≡ given family → (Typed (f .type) → ⊥) → WriteRefusal afi f space TYPE
-  badWidth : (family : ℕ) → familyBits afi ≡ given family → Typed (f .type) → (k : Kind) → has k (bodyOf (f .type)) ≡ true → WidthFault family f k → WriteRefusal afi f space WIDTH
-  badKey : (family : ℕ) → familyBits afi ≡ given family → Typed (f .type) → ((k : Kind) → has k (bodyOf (f .type)) ≡ true → WidthFault family f k → ⊥)
-      → has key (bodyOf (f .type)) ≡ true → (KeyOf family (f .key) → ⊥) → WriteRefusal afi f space KEY
+  badType : (family : ℕ) → familyBits afi ≡ given family → (KnownType (f .type) → ⊥) → WriteRefusal afi f space TYPE
+  badWidth : (family : ℕ) → familyBits afi ≡ given family → KnownType (f .type) → (k : FieldKind) → hasField k (bodyOf (f .type)) ≡ true → WidthFault family f k → WriteRefusal afi f space WIDTH
+  badKey : (family : ℕ) → familyBits afi ≡ given family → KnownType (f .type) → ((k : FieldKind) → hasField k (bodyOf (f .type)) ≡ true → WidthFault family f k → ⊥)
+      → hasField key (bodyOf (f .type)) ≡ true → (KeyOf family (f .key) → ⊥) → WriteRefusal afi f space KEY
   noSpace : (family : ℕ) → familyBits afi ≡ given family → WellFormed family f → space < length (encodeNlri f) → WriteRefusal afi f space SPACE
 
 -- "The numbers a call gives back", at NLRI writing: well-formed fields are written where there is space, and any others are refused by one number
 pub record WriteRefusals : Type 0 where
-  pub exactly : (afi : ℕ) (f : Fields) (space n : ℕ) → Held f → (writeNlri afi f space ≡ refused n) ↔ WriteRefusal afi f space n
-  pub accepted : (afi : ℕ) (f : Fields) (space : ℕ) (e : List ℕ) → Held f
+  pub exactly : (afi : ℕ) (f : Fields) (space n : ℕ) → HoldsOctets f → (writeNlri afi f space ≡ refused n) ↔ WriteRefusal afi f space n
+  pub accepted : (afi : ℕ) (f : Fields) (space : ℕ) (e : List ℕ) → HoldsOctets f
       → (writeNlri afi f space ≡ given e) ↔ ((family : ℕ) × (familyBits afi ≡ given family) × WellFormed family f × (length e ≤ space) × (e ≡ encodeNlri f))
 
 -- the layout of an NLRI's encoding: its type, its Length, and the sizes that vary

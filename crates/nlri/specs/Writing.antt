@@ -7,22 +7,22 @@ use lib.Dec.{ltb, eqb}
 use Rattle.octets.specs.Numbers.{TYPE, WIDTH, KEY, SPACE}
 use Rattle.octets.specs.Choice.{pick, both}
 use Rattle.octets.specs.Outcome.{Outcome, given, refused, onOutcome, andThen}
-use Rattle.nlri.specs.Family.{familyBits, allowed, originatorSize}
-use Rattle.nlri.specs.Bodies.{Kind, distinguisher, sourceAs, source, group, originator, key, bodies, onBody}
+use Rattle.nlri.specs.Family.{familyBits, allowed, isOriginatorSize}
+use Rattle.nlri.specs.Bodies.{FieldKind, distinguisher, sourceAs, source, group, originator, key, bodies, onBody}
 use Rattle.nlri.specs.Fields.{Fields, encodeNlri}
 use Rattle.nlri.specs.Reading.{keyField}
 
 -- an address of a length that the type and family allow; an originator of 4 or 16 octets
-unfoldable pub widthFits : ℕ → Fields → Kind → Bool
+unfoldable pub widthFits : ℕ → Fields → FieldKind → Bool
 widthFits family f distinguisher = true
 widthFits family f sourceAs = true
 widthFits family f source = allowed family (f .type) (8 * length (f .source))
 widthFits family f group = allowed family (f .type) (8 * length (f .group))
-widthFits family f originator = originatorSize (length (f .originator))
+widthFits family f originator = isOriginatorSize (length (f .originator))
 widthFits family f key = true
 
 -- every address of a body fits
-unfoldable pub widthsFit : ℕ → Fields → List Kind → Bool
+unfoldable pub widthsFit : ℕ → Fields → List FieldKind → Bool
 widthsFit family f [] = true
 widthsFit family f (k ∷ body) = both (widthFits family f k) (widthsFit family f body)
 
@@ -31,7 +31,7 @@ unfoldable pub isKey : ℕ → List ℕ → Bool
 isKey family octets = onOutcome (λ fault. false) (λ size. eqb size (length octets)) (keyField family octets)
 
 -- a field that is a key holds exactly one key
-unfoldable pub keyFits : ℕ → Fields → Kind → Bool
+unfoldable pub keyFits : ℕ → Fields → FieldKind → Bool
 keyFits family f distinguisher = true
 keyFits family f sourceAs = true
 keyFits family f source = true
@@ -40,7 +40,7 @@ keyFits family f originator = true
 keyFits family f key = isKey family (f .key)
 
 -- every key of a body fits
-unfoldable pub keysFit : ℕ → Fields → List Kind → Bool
+unfoldable pub keysFit : ℕ → Fields → List FieldKind → Bool
 keysFit family f [] = true
 keysFit family f (k ∷ body) = both (keyFits family f k) (keysFit family f body)
 

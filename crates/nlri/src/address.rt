@@ -3,7 +3,7 @@ ghost use mathlib.Core.Path.{_≡_};
 ghost use mathlib.Core.List.{[]};
 ghost use Prim.Native.Nat.{_≤_};
 ghost use lib.ListN.{length, take};
-ghost use Rattle.nlri.specs.Answers.{addressOf};
+ghost use Rattle.nlri.specs.Answers.{addressStruct};
 
 // A route distinguisher: eight octets, kept as they came.
 #[repr(C)]
@@ -41,7 +41,7 @@ impl AddressKind {
 
     // The wildcard.
     pub fn wildcard() -> Address
-        ensures { λ r. ⌜ r ≡ addressOf [] ⌝ }
+        ensures { λ r. ⌜ r ≡ addressStruct [] ⌝ }
     {
         Address {
             octets: [0; 16],
@@ -51,7 +51,7 @@ impl AddressKind {
 
     // An IPv4 address: the first four octets.
     pub fn ipv4(octets: &[u8]) -> Address
-        ensures { λ r. ⌜ r ≡ addressOf (take 4 (now (octets .entry))) ⌝ }
+        ensures { λ r. ⌜ r ≡ addressStruct (take 4 (now (octets .entry))) ⌝ }
     {
         if octets.len() < AddressKind::IPV4_OCTETS {
             return shorter(octets);
@@ -81,7 +81,7 @@ impl AddressKind {
 
     // An IPv6 address: the first sixteen octets.
     pub fn ipv6(octets: &[u8]) -> Address
-        ensures { λ r. ⌜ r ≡ addressOf (take 16 (now (octets .entry))) ⌝ }
+        ensures { λ r. ⌜ r ≡ addressStruct (take 16 (now (octets .entry))) ⌝ }
     {
         if octets.len() < AddressKind::IPV6_OCTETS {
             return shorter(octets);
@@ -113,7 +113,7 @@ impl AddressKind {
 // An address of fewer octets than its kind has.
 fn shorter(octets: &[u8]) -> Address
     requires { ⌜ length (now octets) ≤ 16 ⌝ }
-    ensures { λ r. ⌜ r ≡ addressOf (now (octets .entry)) ⌝ }
+    ensures { λ r. ⌜ r ≡ addressStruct (now (octets .entry)) ⌝ }
 {
     let mut held = [0u8; 16];
     let size = bytes::copy(octets, &mut held);

@@ -4,7 +4,7 @@ ghost use mathlib.Core.Path.{_≡_};
 ghost use Prim.Native.Nat.{_<_};
 ghost use lib.Dec.{eqb};
 ghost use Rattle.octets.specs.Outcome.{numberOf};
-ghost use Rattle.nlri.specs.Family.{allowed, originatorSize};
+ghost use Rattle.nlri.specs.Family.{allowed, isOriginatorSize};
 ghost use Rattle.nlri.specs.Inner.{restFault, flowEndFault, groupFault, flowFault, unkeyedBody};
 use crate::address::AddressKind;
 use crate::address::RouteDistinguisher;
@@ -32,7 +32,7 @@ pub(crate) fn is_allowed(family: usize, route_type: usize, bits: usize) -> bool
 
 // An originator has 4 or 16 octets, independent of the family.
 pub fn is_originator_size(size: usize) -> bool
-    ensures { λ r. ⌜ r ≡ originatorSize size ⌝ }
+    ensures { λ r. ⌜ r ≡ isOriginatorSize size ⌝ }
 {
     if size == AddressKind::IPV4_OCTETS {
         return true;
@@ -43,7 +43,7 @@ pub fn is_originator_size(size: usize) -> bool
 // An originator stands from `at` to the end.
 pub(crate) fn originator_fault(at: usize, size: usize) -> u32
     requires { ⌜ at < 512 ⌝ }
-    ensures { λ r. ⌜ r ≡ restFault originatorSize at size ⌝ }
+    ensures { λ r. ⌜ r ≡ restFault isOriginatorSize at size ⌝ }
 {
     if size == at + AddressKind::IPV4_OCTETS {
         return DONE;

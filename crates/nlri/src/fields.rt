@@ -6,8 +6,8 @@ ghost use lib.ListN.{length};
 ghost use Rattle.octets.specs.Octets.{part};
 ghost use Rattle.octets.specs.Outcome.{refused};
 ghost use Rattle.nlri.specs.Reading.{readNlri};
-ghost use Rattle.nlri.specs.Answers.{addressOf, distinguisherOf, nlriOf, readAnswer};
-ghost use Rattle.nlri.specs.Inner.{withSourceAs, sourceStart, distinguisherAt, sourceAsAt, fieldsAt, keyAt, Within};
+ghost use Rattle.nlri.specs.Answers.{addressStruct, distinguisherStruct, nlriStruct, nlriAnswer};
+ghost use Rattle.nlri.specs.Inner.{withSourceAs, sourceStart, distinguisherAt, sourceAsAt, fieldsAt, keyAt, LayoutWithin};
 use crate::address::Address;
 use crate::address::AddressKind;
 use crate::address::RouteDistinguisher;
@@ -40,7 +40,7 @@ pub struct NlriReading {
 
 fn address_at(s: &[u8], start: usize, size: usize) -> Address
     requires { ⌜ (size ≤ 16) × ((0 < size → start + size ≤ length (now s))) ⌝ }
-    ensures { λ r. ⌜ r ≡ addressOf (part (now (s .entry)) start size) ⌝ }
+    ensures { λ r. ⌜ r ≡ addressStruct (part (now (s .entry)) start size) ⌝ }
 {
     if size == AddressKind::WILDCARD {
         return AddressKind::wildcard();
@@ -53,7 +53,7 @@ fn address_at(s: &[u8], start: usize, size: usize) -> Address
 
 fn distinguisher_in(route_type: usize, s: &[u8]) -> RouteDistinguisher
     requires { ⌜ ((«route_type» ≡ 4 → ⊥) → 10 ≤ length (now s)) ⌝ }
-    ensures { λ r. ⌜ r ≡ distinguisherOf (distinguisherAt «route_type» (now (s .entry))) ⌝ }
+    ensures { λ r. ⌜ r ≡ distinguisherStruct (distinguisherAt «route_type» (now (s .entry))) ⌝ }
 {
     let mut octets = [0u8; 8];
     if route_type == RouteType::LEAF {
@@ -99,8 +99,8 @@ fn source_as_in(route_type: usize, s: &[u8]) -> u32
 }
 
 fn nlri_in(layout: Layout, s: &[u8]) -> Nlri
-    requires { ⌜ Within layout (now s) ⌝ }
-    ensures { λ r. ⌜ r ≡ nlriOf (fieldsAt layout (now (s .entry))) ⌝ }
+    requires { ⌜ LayoutWithin layout (now s) ⌝ }
+    ensures { λ r. ⌜ r ≡ nlriStruct (fieldsAt layout (now (s .entry))) ⌝ }
 {
     let route_type = layout.route_type;
     let start = source_start(route_type);
@@ -119,7 +119,7 @@ fn nlri_in(layout: Layout, s: &[u8]) -> Nlri
 }
 
 fn refusal(number: u32) -> NlriReading
-    ensures { λ r. ⌜ r ≡ readAnswer (refused number) ⌝ }
+    ensures { λ r. ⌜ r ≡ nlriAnswer (refused number) ⌝ }
 {
     NlriReading {
         number,
@@ -153,7 +153,7 @@ fn key_in(layout: Layout) -> Span
 
 // Reads a single NLRI: FAMILY, SHORT, TYPE, then the body left to right, then LENGTH for octets after it.
 pub fn read_nlri(afi: u16, s: &[u8]) -> NlriReading
-    ensures { λ r. ⌜ r ≡ readAnswer (readNlri afi (now (s .entry))) ⌝ }
+    ensures { λ r. ⌜ r ≡ nlriAnswer (readNlri afi (now (s .entry))) ⌝ }
 {
     match read::read_layout(afi, s) {
         Reading::Refused(number) => refusal(number),

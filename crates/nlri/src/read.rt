@@ -5,7 +5,7 @@ ghost use lib.ListN.{length, getD};
 ghost use Rattle.octets.specs.Outcome.{numberOf};
 ghost use Rattle.nlri.specs.Reading.{keyField, isSPmsi};
 ghost use Rattle.nlri.specs.Layouts.{readingOf, layoutAt, layoutSingle};
-ghost use Rattle.nlri.specs.Inner.{partOf, headerOf, header, unkeyedHeader, leaf, anyBody, layoutWith, flowLayout, leafLayout, layoutIn, FlowStands, Stands, endsWith, single, sPmsiUnder};
+ghost use Rattle.nlri.specs.Inner.{partOf, headerOutcome, headerAt, unkeyedHeader, leaf, anyBody, layoutWith, flowLayout, leafLayout, layoutIn, FlowStands, Stands, endsWith, single, sPmsiUnder};
 use crate::address::RouteDistinguisher;
 use crate::body;
 use crate::family;
@@ -29,7 +29,7 @@ pub(crate) enum Header {
 }
 
 fn read_header(s: &[u8]) -> Header
-    ensures { λ r. ⌜ headerOf r ≡ header (now (s .entry)) ⌝ }
+    ensures { λ r. ⌜ headerOutcome r ≡ headerAt (now (s .entry)) ⌝ }
 {
     if s.len() < HEADER {
         return Header::Unread(SHORT);
@@ -43,7 +43,7 @@ fn read_header(s: &[u8]) -> Header
 
 // Type and Length of the NLRI at the front of `s`, if its type has no key.
 fn read_unkeyed(family: usize, s: &[u8]) -> Header
-    ensures { λ r. ⌜ headerOf r ≡ unkeyedHeader family (now (s .entry)) ⌝ }
+    ensures { λ r. ⌜ headerOutcome r ≡ unkeyedHeader family (now (s .entry)) ⌝ }
 {
     match read_header(s) {
         Header::Unread(number) => Header::Unread(number),

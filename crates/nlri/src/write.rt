@@ -9,8 +9,8 @@ ghost use Rattle.octets.specs.Outcome.{given, refused};
 ghost use Rattle.octets.specs.Outputs.{writtenOf, outputOf};
 ghost use Rattle.nlri.specs.Fields.{encodeAddress};
 ghost use Rattle.nlri.specs.Writing.{isKey, writeNlri};
-ghost use Rattle.nlri.specs.Answers.{octetsOf, fieldsIn};
-ghost use Rattle.nlri.specs.InnerWriting.{hasFlow, hasOriginator, flowFits, originatorFits, leafFits, judged, fixedSize, flowSize, originatorLength, sizeOf, sourceAsOctets, fixedOctets, flowOctets, originatorOctets, bodyOctets, allOctets, AddressSize, Sized, Putting, writeUnder};
+ghost use Rattle.nlri.specs.Answers.{addressOctets, structFields};
+ghost use Rattle.nlri.specs.InnerWriting.{hasFlow, hasOriginator, flowFits, originatorFits, leafFits, fieldsFault, fixedSize, flowSize, originatorLength, sizeOf, sourceAsOctets, fixedOctets, flowOctets, originatorOctets, bodyOctets, nlriOctets, AddressSize, AddressesSized, Putting, writeUnder};
 use crate::address::Address;
 use crate::address::AddressKind;
 use crate::address::RouteDistinguisher;
@@ -102,7 +102,7 @@ fn is_key(family: usize, key: &[u8]) -> bool
 
 // DONE, or the first of TYPE, WIDTH and KEY.
 fn judge(family: usize, nlri: Nlri, key: &[u8]) -> u32
-    ensures { λ r. ⌜ r ≡ judged family nlri (now (key .entry)) ⌝ }
+    ensures { λ r. ⌜ r ≡ fieldsFault family nlri (now (key .entry)) ⌝ }
 {
     let route_type = nlri.route_type as usize;
     let source = nlri.source;
@@ -178,8 +178,8 @@ fn size_of(nlri: Nlri, key: usize) -> usize
 
 // The octets of an address, from `at` on: copies of a known size are single moves.
 fn put_octets(address: Address, output: &mut [u8], at: usize) -> usize
-    requires { ⌜ AddressSize (address .size) × (at + length (octetsOf address) ≤ length (now output)) ⌝ }
-    ensures { λ r. ⌜ (r ≡ at + length (octetsOf address)) × (now (output .exit) ≡ placed at (octetsOf address) (now (output .entry))) ⌝ }
+    requires { ⌜ AddressSize (address .size) × (at + length (addressOctets address) ≤ length (now output)) ⌝ }
+    ensures { λ r. ⌜ (r ≡ at + length (addressOctets address)) × (now (output .exit) ≡ placed at (addressOctets address) (now (output .entry))) ⌝ }
 {
     let octets = address.octets;
     let size = address.size as usize;
@@ -194,8 +194,8 @@ fn put_octets(address: Address, output: &mut [u8], at: usize) -> usize
 
 // A source or group with its length octet, from `at` on.
 fn put_address(address: Address, output: &mut [u8], at: usize) -> usize
-    requires { ⌜ AddressSize (address .size) × (at + length (encodeAddress (octetsOf address)) ≤ length (now output)) ⌝ }
-    ensures { λ r. ⌜ (r ≡ at + length (encodeAddress (octetsOf address))) × (now (output .exit) ≡ placed at (encodeAddress (octetsOf address)) (now (output .entry))) ⌝ }
+    requires { ⌜ AddressSize (address .size) × (at + length (encodeAddress (addressOctets address)) ≤ length (now output)) ⌝ }
+    ensures { λ r. ⌜ (r ≡ at + length (encodeAddress (addressOctets address))) × (now (output .exit) ≡ placed at (encodeAddress (addressOctets address)) (now (output .entry))) ⌝ }
 {
     let bits = [8 * address.size];
     let next = octets::parts::place(&bits, output, at);
@@ -236,7 +236,7 @@ fn put_fixed(nlri: Nlri, key: &[u8], output: &mut [u8], at: usize) -> usize
 }
 
 fn put_flow(nlri: Nlri, output: &mut [u8], at: usize) -> usize
-    requires { ⌜ Sized nlri × (at + length (flowOctets nlri) ≤ length (now output)) ⌝ }
+    requires { ⌜ AddressesSized nlri × (at + length (flowOctets nlri) ≤ length (now output)) ⌝ }
     ensures { λ r. ⌜ (r ≡ at + length (flowOctets nlri)) × (now (output .exit) ≡ placed at (flowOctets nlri) (now (output .entry))) ⌝ }
 {
     if has_flow(nlri.route_type as usize) {
@@ -249,7 +249,7 @@ fn put_flow(nlri: Nlri, output: &mut [u8], at: usize) -> usize
 }
 
 fn put_originator(nlri: Nlri, output: &mut [u8], at: usize) -> usize
-    requires { ⌜ Sized nlri × (at + length (originatorOctets nlri) ≤ length (now output)) ⌝ }
+    requires { ⌜ AddressesSized nlri × (at + length (originatorOctets nlri) ≤ length (now output)) ⌝ }
     ensures { λ r. ⌜ (r ≡ at + length (originatorOctets nlri)) × (now (output .exit) ≡ placed at (originatorOctets nlri) (now (output .entry))) ⌝ }
 {
     if has_originator(nlri.route_type as usize) {
@@ -261,7 +261,7 @@ fn put_originator(nlri: Nlri, output: &mut [u8], at: usize) -> usize
 
 // The body from `at` on.
 fn put_body(nlri: Nlri, key: &[u8], output: &mut [u8], at: usize) -> usize
-    requires { ⌜ Sized nlri × (at + length (bodyOctets nlri (now key)) ≤ length (now output)) ⌝ }
+    requires { ⌜ AddressesSized nlri × (at + length (bodyOctets nlri (now key)) ≤ length (now output)) ⌝ }
     ensures { λ r. ⌜ (r ≡ at + length (bodyOctets nlri (now (key .entry)))) × (now (output .exit) ≡ placed at (bodyOctets nlri (now (key .entry))) (now (output .entry))) ⌝ }
 {
     let flow = put_fixed(nlri, key, output, at);
@@ -272,7 +272,7 @@ fn put_body(nlri: Nlri, key: &[u8], output: &mut [u8], at: usize) -> usize
 // The whole NLRI of `size` octets at the front of the output.
 fn put(nlri: Nlri, key: &[u8], size: usize, output: &mut [u8]) -> Written
     requires { ⌜ Putting nlri (now key) size (now output) ⌝ }
-    ensures { λ r. ⌜ (r ≡ writtenOf (given (allOctets nlri (now (key .entry))))) × (now (output .exit) ≡ outputOf (given (allOctets nlri (now (key .entry)))) (now (output .entry))) ⌝ }
+    ensures { λ r. ⌜ (r ≡ writtenOf (given (nlriOctets nlri (now (key .entry))))) × (now (output .exit) ≡ outputOf (given (nlriOctets nlri (now (key .entry)))) (now (output .entry))) ⌝ }
 {
     let at = put_header(nlri.route_type, (size - HEADER) as u8, output);
     put_body(nlri, key, output, at);
@@ -302,8 +302,8 @@ fn write_under(family: usize, nlri: Nlri, key: &[u8], output: &mut [u8]) -> Writ
 
 // Writes an NLRI at the front of the output; `key` is a Leaf's key. FAMILY, TYPE, WIDTH, KEY, SPACE.
 pub fn write_nlri(afi: u16, nlri: Nlri, key: &[u8], output: &mut [u8]) -> Written
-    ensures { λ r. ⌜ r ≡ writtenOf (writeNlri afi (fieldsIn nlri (now (key .entry))) (length (now (output .entry)))) ⌝ }
-    ensures { λ r. ⌜ now (output .exit) ≡ outputOf (writeNlri afi (fieldsIn nlri (now (key .entry))) (length (now (output .entry)))) (now (output .entry)) ⌝ }
+    ensures { λ r. ⌜ r ≡ writtenOf (writeNlri afi (structFields nlri (now (key .entry))) (length (now (output .entry)))) ⌝ }
+    ensures { λ r. ⌜ now (output .exit) ≡ outputOf (writeNlri afi (structFields nlri (now (key .entry))) (length (now (output .entry)))) (now (output .entry)) ⌝ }
 {
     match family::family_bits(afi) {
         Part::Fault(number) => refusal(number),

@@ -17,16 +17,16 @@ pub given-same : {A : Type 0} {a b : A} → given a ≡ given b → a ≡ b
 given-same p = cc
 
 -- a value behind a test that refuses
-pub unless : {A : Type 0} (k : ℕ) (b : Bool) (y : Outcome A) (a : A) → pick b (refused k) y ≡ given a → (b ≡ false) × (y ≡ given a)
+pub given-otherwise : {A : Type 0} (k : ℕ) (b : Bool) (y : Outcome A) (a : A) → pick b (refused k) y ≡ given a → (b ≡ false) × (y ≡ given a)
 unfolding pick
-unless k true y a e = absurd (never e refl)
-unless k false y a e = (refl, e)
+given-otherwise k true y a e = absurd (never e refl)
+given-otherwise k false y a e = (refl, e)
 
 -- a value under a test that must hold
-pub only : {A : Type 0} (k : ℕ) (b : Bool) (x : Outcome A) (a : A) → pick b x (refused k) ≡ given a → (b ≡ true) × (x ≡ given a)
+pub given-unless : {A : Type 0} (k : ℕ) (b : Bool) (x : Outcome A) (a : A) → pick b x (refused k) ≡ given a → (b ≡ true) × (x ≡ given a)
 unfolding pick
-only k true x a e = (refl, e)
-only k false x a e = absurd (never e refl)
+given-unless k true x a e = (refl, e)
+given-unless k false x a e = absurd (never e refl)
 
 -- a value of two steps: what the first gave, and that the second gave it of that
 pub record Passed {A B : Type 0} (o : Outcome A) (next : A → Outcome B) (b : B) : Type 0 where

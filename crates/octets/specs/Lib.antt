@@ -1,6 +1,7 @@
--- Definitions that the crates above share: the numbers, choices by a test, outcomes, lists of octets, what writers leave, and the order of octets.
+-- Definitions that the crates above share: the numbers, choices by a test, lists, outcomes, lists of octets, what writers leave, and the order of octets.
 pub mod Numbers
 pub mod Choice
+pub mod Lists
 pub mod Outcome
 pub mod Octets
 pub mod Outputs

@@ -7,7 +7,7 @@ use mathlib.Core.Logic.{_≢_}
 use Rattle.octets.specs.Numbers.{DONE}
 use Rattle.octets.specs.Outcome.{Outcome, given, refused, onOutcome, numberOf}
 use Rattle.octets.proofs.Inversions.{given-same, passed}
-use Rattle.routes.specs.Lists.{Among, first}
+use Rattle.octets.specs.Lists.{Among, first}
 use Rattle.routes.specs.Route.{Route, nlriOf}
 use Rattle.routes.specs.Arguments.{Query}
 use Rattle.routes.specs.Place.{acceptable}

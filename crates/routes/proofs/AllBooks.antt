@@ -12,11 +12,11 @@ use Rattle.octets.proofs.Refusals.{is-true}
 use Rattle.octets.proofs.Orders.{same-equal, other-unequal}
 use Rattle.routes.specs.Route.{Route, nlriOf, Held, absent, held, lookup, arranged, Distinct, Increasing}
 use Rattle.routes.specs.Place.{AllAcceptable}
-use Rattle.routes.specs.Images.{Family, Holdable}
+use Rattle.routes.specs.Images.{KnownFamily, Holdable}
 use Rattle.routes.specs.Call.{Call, Owner, nobody, owner, originatorOf, ownerOf, owns}
-use Rattle.routes.specs.Book.{bookAfter, fed, ownCalls, bookOf, has, distinct, withOwner, routersOf, gathered, allBooks}
+use Rattle.routes.specs.Book.{bookAfter, fed, ownCalls, bookOf, isAmong, onceEach, withOwner, routersOf, gathered, allBooks}
 use Rattle.routes.specs.Run.{namedIn, namedBy, Fits}
-use Rattle.routes.specs.Lists.{Among, first, later, chosen}
+use Rattle.octets.specs.Lists.{Among, first, later, chosen}
 use Rattle.routes.proofs.Lookups.{lookup-none, lookup-first, lookup-later, lookup-arranged, held-or-absent, held-absent, held-holds, increasing-arranged, increasing-distinct, acceptable-arranged, acceptable-member}
 use Rattle.routes.proofs.Distincts.{among-left, among-right, has-among, among-has, among-distinct, among-cases, routes-fewer}
 use Rattle.routes.proofs.Chosen.{chosen-first, chosen-later}
@@ -126,7 +126,7 @@ gathered-own afi router nlri (other ∷ routers) calls own m =
     rw (← e) (lookup-front nlri (p .0) (bookOf afi other calls) (gathered afi routers calls) (p .1) ∙ sym (p .1)))
     (λ p.
     lookup-back nlri (bookOf afi other calls) (gathered afi routers calls) p
-    ∙ tested (has router routers)
+    ∙ tested (isAmong router routers)
     (λ t. gathered-own afi router nlri routers calls own (has-among routers t))
     (λ f.
     let e : router ≡ other = ⊎-elim (λ q. q) (λ a. absurd (opposite (among-has a) f)) (among-cases m) in
@@ -137,17 +137,17 @@ gathered-own afi router nlri (other ∷ routers) calls own m =
 pub lookup-all : (afi : ℕ) (router nlri : List ℕ) (calls : List Call) → originatorOf afi nlri ≡ owner router → lookup nlri (allBooks afi calls) ≡ lookup nlri (bookOf afi router calls)
 unfolding allBooks bookOf fed
 lookup-all afi router nlri calls own =
-    tested (has router (distinct (routersOf afi calls)))
-    (λ t. gathered-own afi router nlri (distinct (routersOf afi calls)) calls own (has-among _ t))
+    tested (isAmong router (onceEach (routersOf afi calls)))
+    (λ t. gathered-own afi router nlri (onceEach (routersOf afi calls)) calls own (has-among _ t))
     (λ f.
     let nowhere : ownCalls afi router calls ≡ [] = own-none afi router calls (λ m. opposite (among-has (among-distinct (routersOf afi calls) m)) f) in
-    gathered-foreign afi nlri (distinct (routersOf afi calls)) calls (λ x a q. opposite (among-has (rw (owners-same own q) a)) f)
+    gathered-foreign afi nlri (onceEach (routersOf afi calls)) calls (λ x a q. opposite (among-has (rw (owners-same own q) a)) f)
     ∙ sym (lookup-none nlri)
     ∙ ap (λ (l : List Call). lookup nlri (fed afi [] l)) (sym nowhere))
 
 pub lookup-nobody : (afi : ℕ) (nlri : List ℕ) (calls : List Call) → originatorOf afi nlri ≡ nobody → lookup nlri (allBooks afi calls) ≡ absent
 unfolding allBooks
-lookup-nobody afi nlri calls h = gathered-foreign afi nlri (distinct (routersOf afi calls)) calls (λ router m q. owner-nobody h q)
+lookup-nobody afi nlri calls h = gathered-foreign afi nlri (onceEach (routersOf afi calls)) calls (λ router m q. owner-nobody h q)
 
 -- whatever the owner, what all calls leave
 held-nobody : (afi : ℕ) (nlri : List ℕ) (calls : List Call) (h : Held) → originatorOf afi nlri ≡ nobody → heldAfterAll afi calls nlri h ≡ h
@@ -197,19 +197,19 @@ gathered-acceptable afi (router ∷ routers) calls = acceptable-append (book-acc
 
 all-acceptable : (afi : ℕ) (calls : List Call) → AllAcceptable afi (allBooks afi calls)
 unfolding allBooks
-all-acceptable afi calls = gathered-acceptable afi (distinct (routersOf afi calls)) calls
+all-acceptable afi calls = gathered-acceptable afi (onceEach (routersOf afi calls)) calls
 
 pub books-increasing : (afi : ℕ) (calls : List Call) → Increasing [] (arranged (allBooks afi calls))
 books-increasing afi calls = increasing-arranged [] (allBooks afi calls) (λ r m. acceptable-after-none afi r (acceptable-member (all-acceptable afi calls) m))
 
-books-few : (afi : ℕ) (calls : List Call) → length (arranged (allBooks afi calls)) ≤ length (distinct (namedBy afi calls))
+books-few : (afi : ℕ) (calls : List Call) → length (arranged (allBooks afi calls)) ≤ length (onceEach (namedBy afi calls))
 books-few afi calls =
     routes-fewer (namedBy afi calls) (increasing-distinct (books-increasing afi calls))
     (λ nlri h.
     let p = held-holds nlri (arranged (allBooks afi calls)) h in
     held-named afi nlri calls (p .0) (sym (lookup-all-after afi nlri calls) ∙ sym (lookup-arranged nlri (allBooks afi calls)) ∙ p .1))
 
-pub books-holdable : (afi places : ℕ) (calls : List Call) → Family afi → places ≤ 500 → Fits afi places calls → Holdable afi places (arranged (allBooks afi calls))
+pub books-holdable : (afi places : ℕ) (calls : List Call) → KnownFamily afi → places ≤ 500 → Fits afi places calls → Holdable afi places (arranged (allBooks afi calls))
 books-holdable afi places calls family most fits =
     record {
       family = family;

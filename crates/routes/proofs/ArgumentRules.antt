@@ -6,13 +6,13 @@ use mathlib.Core.List.{List}
 use borrow.Author.Tests.{eqb-true, eqb-false, eq-eqb, ne-eqb}
 use Rattle.octets.specs.Numbers.{LABEL, KIND}
 use Rattle.octets.specs.Outcome.{given, refused}
-use Rattle.octets.proofs.Inversions.{never, opposite, unless, only, passed, both-true-left, both-true-right}
+use Rattle.octets.proofs.Inversions.{never, opposite, given-otherwise, given-unless, passed, both-true-left, both-true-right}
 use Rattle.octets.proofs.Outcomes.{pick-true, pick-false}
 use Rattle.octets.proofs.Refusals.{stopped, refuses-unless, refuses-where, is-false}
 use Rattle.octets.proofs.Tests.{goes, stops, both-true}
 use Rattle.nlri.specs.Fields.{Fields}
 use Rattle.tunnel.specs.Attribute.{labelOf}
-use Rattle.tunnel.specs.Attribute.{Fields as AttributeFields}
+use Rattle.tunnel.specs.Attribute.{AttributeFields}
 use Rattle.routes.specs.Route.{route}
 use Rattle.routes.specs.Arguments.{readSPmsi, readLabelled, readRoute}
 use Rattle.routes.specs.CallRules.{SPmsi, Labelled, NlriRefusal, unreadNlri, otherKind, RouteRefusal, badNlri, unreadAttribute, noLabel, ArgumentRule}
@@ -34,7 +34,7 @@ module _ (afi : ℕ) (nlri : List ℕ) where
 
   pub nlri-accepted : (f : Fields) → readSPmsi afi nlri ≡ given f → SPmsi afi nlri
   unfolding readSPmsi
-  nlri-accepted f e = let p = passed _ _ _ e in record { fields = p .value; read = p .first; kind = eqb-true _ _ (only _ _ _ _ (p .second) .0) }
+  nlri-accepted f e = let p = passed _ _ _ e in record { fields = p .value; read = p .first; kind = eqb-true _ _ (given-unless _ _ _ _ (p .second) .0) }
 
   pub nlri-accepts : (s : SPmsi afi nlri) → readSPmsi afi nlri ≡ given (s .fields)
   unfolding readSPmsi
@@ -45,7 +45,7 @@ module _ (attribute : List ℕ) where
   unfolding readLabelled
   labelled f e =
       let p = passed _ _ _ e in
-      let q = unless _ _ _ _ (p .second) in
+      let q = given-otherwise _ _ _ _ (p .second) in
       record { fields = p .value; read = p .first; label = λ bier zero. opposite (both-true _ _ (eq-eqb (p .value .tunnelType) 11 bier) (eq-eqb (labelOf (p .value)) 0 zero)) (q .0) }
 
   takes-labelled : (l : Labelled attribute) → readLabelled attribute ≡ given (l .fields)

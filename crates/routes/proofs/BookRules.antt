@@ -11,12 +11,12 @@ use Rattle.octets.proofs.Inversions.{opposite, either-true}
 use Rattle.octets.proofs.Picked.{tested}
 use Rattle.octets.proofs.Refusals.{picked, either-second}
 use Rattle.octets.proofs.Tests.{either-left}
-use Rattle.nlri.specs.Family.{originatorSize}
+use Rattle.nlri.specs.Family.{isOriginatorSize}
 use Rattle.nlri.specs.Fields.{Fields}
-use Rattle.routes.specs.Lists.{Among}
+use Rattle.octets.specs.Lists.{Among}
 use Rattle.routes.specs.Route.{Route, nlriOf, attributeOf, held, lookup, arranged}
 use Rattle.routes.specs.Arguments.{readSPmsi}
-use Rattle.routes.specs.Images.{Family}
+use Rattle.routes.specs.Images.{KnownFamily}
 use Rattle.routes.specs.CallRules.{SPmsi}
 use Rattle.routes.specs.Call.{Call, match, Owner, nobody, owner, originatorOf, ownerOf, ownedBy}
 use Rattle.routes.specs.Book.{bookOf, allBooks}
@@ -45,8 +45,8 @@ originator afi nlri router p = owner-read afi nlri (p .0 .fields) (nlri-accepts 
 originates : (afi : ℕ) (nlri router : List ℕ) → (originatorOf afi nlri ≡ owner router) ↔ ((s : SPmsi afi nlri) × (s .fields .originator ≡ router))
 originates afi nlri router = (originated afi nlri router, originator afi nlri router)
 
-router-size : (size : ℕ) → (originatorSize size ≡ true) ↔ ((size ≡ 4) ⊎ (size ≡ 16))
-unfolding originatorSize
+router-size : (size : ℕ) → (isOriginatorSize size ≡ true) ↔ ((size ≡ 4) ⊎ (size ≡ 16))
+unfolding isOriginatorSize
 router-size size = (
   λ h. ⊎-elim (λ a. inl (eqb-true size 4 a)) (λ b. inr (eqb-true size 16 b)) (either-true _ _ h),
   λ s. ⊎-elim (λ a. either-left _ _ (eq-eqb size 4 a)) (λ b. either-second _ _ (eq-eqb size 16 b)) s,
@@ -96,7 +96,7 @@ module _ (afi : ℕ) (calls : List Call) where
       (lookup-member (nlriOf r) (attributeOf r) (arranged (allBooks afi calls)) (lookup-arranged (nlriOf r) (allBooks afi calls) ∙ lookup-all afi router (nlriOf r) calls own ∙ book)))
       (λ f. absurd (held-absent book (lookup-foreign afi router (nlriOf r) calls (λ e. opposite (owned-itself router _ e) f))))
 
-  pub book-rule : (places : ℕ) → Family afi → places ≤ 500 → Fits afi places calls → BookRule afi places calls
+  pub book-rule : (places : ℕ) → KnownFamily afi → places ≤ 500 → Fits afi places calls → BookRule afi places calls
   book-rule places family most fits =
       record {
         distinct = λ router. book-distinct afi router calls;

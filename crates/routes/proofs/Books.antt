@@ -8,7 +8,7 @@ use Rattle.octets.specs.Order.{same}
 use Rattle.octets.proofs.Outcomes.{pick-true, pick-false}
 use Rattle.octets.proofs.Picked.{tested}
 use Rattle.octets.proofs.Orders.{same-equal, unequal-other}
-use Rattle.routes.specs.Lists.{Among}
+use Rattle.octets.specs.Lists.{Among}
 use Rattle.routes.specs.Route.{Route, nlriOf, attributeOf, Held, absent, held, lookup, removed, Distinct}
 use Rattle.routes.specs.Place.{AllAcceptable}
 use Rattle.routes.specs.Call.{Call, owner, originatorOf, ownerOf, Act, enter, leave, ask, argued}

@@ -9,9 +9,9 @@ use lib.ListN.{length, getD, drop, length-drop}
 use Rattle.octets.specs.Choice.{pick}
 use Rattle.octets.specs.Outcome.{Outcome, given, refused, onOutcome}
 use Rattle.octets.specs.Octets.{part}
-use Rattle.octets.proofs.Inversions.{opposite, unless, only, passed, given-same}
+use Rattle.octets.proofs.Inversions.{opposite, given-otherwise, given-unless, passed, given-same}
 use Rattle.octets.proofs.Lists.{part-length}
-use Rattle.nlri.specs.Bodies.{Kind, distinguisher, source, group, originator, bodies, onBody, bodyOf}
+use Rattle.nlri.specs.Bodies.{FieldKind, distinguisher, source, group, originator, bodies, onBody, bodyOf}
 use Rattle.nlri.specs.Fields.{Fields}
 use Rattle.nlri.specs.Reading.{Laid, fixedField, addressEnd, addressField, originatorField, fieldSize, sizesOf, keyField, laidAt, laidSingle, fieldsOf, readNlri}
 use Rattle.nlri.proofs.Judged.{originator-given}
@@ -19,13 +19,13 @@ use Rattle.nlri.proofs.Lengths.{originator-most, family-octets}
 use Rattle.nlri.proofs.Shapes.{bits-most}
 use Rattle.nlri.proofs.Whole.{laid-out}
 use Rattle.tunnel.specs.Attribute.{readAttribute}
-use Rattle.tunnel.specs.Attribute.{Fields as AttributeFields}
+use Rattle.tunnel.specs.Attribute.{AttributeFields}
 use Rattle.routes.specs.Route.{Route, route, nlriOf, attributeOf}
 use Rattle.routes.specs.Arguments.{readSPmsi, readLabelled, readRoute}
 use Rattle.routes.specs.Place.{acceptable}
 
 -- a body is no longer than its first field's most and its other fields' most
-then-most : (size : Kind → List ℕ → Outcome ℕ) (k : Kind) (body : List Kind) (most rest : ℕ) → ((s : List ℕ) (n : ℕ) → size k s ≡ given n → n ≤ most)
+then-most : (size : FieldKind → List ℕ → Outcome ℕ) (k : FieldKind) (body : List FieldKind) (most rest : ℕ) → ((s : List ℕ) (n : ℕ) → size k s ≡ given n → n ≤ most)
     → ((s sizes : List ℕ) → sizesOf size body s ≡ given sizes → length s ≤ rest) → (s sizes : List ℕ) → sizesOf size (k ∷ body) s ≡ given sizes → length s ≤ most + rest
 unfolding sizesOf
 then-most size k body most rest here later s sizes e =
@@ -34,19 +34,19 @@ then-most size k body most rest here later s sizes e =
     let l = length-drop (p .value) s in
     omega (arith, here s (p .value) (p .first), later (drop (p .value) s) (q .value) (q .first))
 
-end-most : (size : Kind → List ℕ → Outcome ℕ) (s sizes : List ℕ) → sizesOf size [] s ≡ given sizes → length s ≤ 0
+end-most : (size : FieldKind → List ℕ → Outcome ℕ) (s sizes : List ℕ) → sizesOf size [] s ≡ given sizes → length s ≤ 0
 unfolding sizesOf
-end-most size s sizes e = let h : length s ≡ 0 = eqb-true _ _ (only _ _ _ _ e .0) in omega arith
+end-most size s sizes e = let h : length s ≡ 0 = eqb-true _ _ (given-unless _ _ _ _ e .0) in omega arith
 
 fixed-most : (most : ℕ) (s : List ℕ) (n : ℕ) → fixedField most s ≡ given n → n ≤ most
 unfolding fixedField
-fixed-most most s n e = let h : most ≡ n = given-same (unless _ _ _ _ e .1) in omega arith
+fixed-most most s n e = let h : most ≡ n = given-same (given-otherwise _ _ _ _ e .1) in omega arith
 
 address-most : (family type : ℕ) → family / 8 ≤ 16 → (s : List ℕ) (n : ℕ) → addressField family type s ≡ given n → n ≤ 17
 unfolding addressField addressEnd
 address-most family type small s n e =
-    let p = only _ _ _ _ (unless _ _ _ _ e .1) in
-    let q = given-same (unless _ _ _ _ (p .1) .1) in
+    let p = given-unless _ _ _ _ (given-otherwise _ _ _ _ e .1) in
+    let q = given-same (given-otherwise _ _ _ _ (p .1) .1) in
     let h = bits-most family type (getD s 0 0) (p .0) in
     omega arith
 
@@ -66,7 +66,7 @@ s-pmsi-size afi s f e three =
     let bits = passed _ _ _ e in
     let single = passed _ _ _ (bits .second) in
     let front = passed _ _ _ (single .first) in
-    let end = only _ _ _ _ (front .second) in
+    let end = given-unless _ _ _ _ (front .second) in
     let laid : Laid = front .value in
     let out = laid-out (keyField (bits .value)) (bits .value) s laid (front .first) in
     let same : laid ≡ single .value = given-same (end .1) in
@@ -80,7 +80,7 @@ s-pmsi-size afi s f e three =
 
 attribute-size : (s : List ℕ) (f : AttributeFields) → readAttribute s ≡ given f → length s ≤ 64
 unfolding readAttribute
-attribute-size s f e = let p = unless _ _ _ _ e in omega (arith, ltb-false)
+attribute-size s f e = let p = given-otherwise _ _ _ _ e in omega (arith, ltb-false)
 
 -- what install would accept: how its NLRI and its attribute read
 pub record Accepted (afi : ℕ) (nlri attribute : List ℕ) : Type 0 where
@@ -124,7 +124,7 @@ pub nlri-size : (afi : ℕ) (nlri : List ℕ) (f : Fields) → readSPmsi afi nlr
 unfolding readSPmsi
 nlri-size afi nlri f e =
     let p = passed _ _ _ e in
-    s-pmsi-size afi nlri (p .value) (p .first) (eqb-true _ _ (only _ _ _ _ (p .second) .0))
+    s-pmsi-size afi nlri (p .value) (p .first) (eqb-true _ _ (given-unless _ _ _ _ (p .second) .0))
 
 labelled-size : (attribute : List ℕ) (f : AttributeFields) → readLabelled attribute ≡ given f → length attribute ≤ 64
 unfolding readLabelled

@@ -9,7 +9,7 @@ use Rattle.octets.proofs.RefusalNumbers.{Refuses, value, number, pick-refuses, 
 use Rattle.nlri.specs.Groups.{classUnder}
 use Rattle.nlri.proofs.ReadNumbers.{ByReading, family-refuses, nlri-refuses}
 use Rattle.tunnel.specs.Attribute.{readAttribute}
-use Rattle.tunnel.specs.Identifier.{TableRow, table, formIn, formOf, judged}
+use Rattle.tunnel.specs.Identifier.{TableRow, identifierForms, formIn, formOf, readIdentifier}
 use Rattle.routes.specs.Arguments.{readSPmsi, readLabelled, readRoute, readFlow, readMatch}
 use Rattle.routes.specs.Call.{Call, install, withdraw, match, argued}
 
@@ -30,10 +30,10 @@ form-argued [] type = number {n = TUNNEL} (omega arith)
 form-argued (r ∷ rows) type = pick-refuses _ _ _ value (form-argued rows type)
 
 attribute-argued : (s : List ℕ) → Refuses ByArguments (readAttribute s)
-unfolding readAttribute judged formOf
+unfolding readAttribute readIdentifier formOf
 attribute-argued s =
     pick-refuses _ _ _ (number (omega arith))
-    (pick-refuses _ _ _ (number (omega arith)) (then-refuses _ _ (then-refuses _ _ (form-argued table _) (λ form. pick-refuses _ _ _ value (number (omega arith)))) (λ i. value)))
+    (pick-refuses _ _ _ (number (omega arith)) (then-refuses _ _ (then-refuses _ _ (form-argued identifierForms _) (λ form. pick-refuses _ _ _ value (number (omega arith)))) (λ i. value)))
 
 route-argued : (afi : ℕ) (nlri attribute : List ℕ) → Refuses ByArguments (readRoute afi nlri attribute)
 unfolding readRoute readLabelled

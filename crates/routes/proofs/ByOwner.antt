@@ -6,7 +6,7 @@ use mathlib.Core.List.{List, [], _∷_}
 use native.Mathlib.Omega.{arith}
 use Rattle.octets.proofs.Inversions.{opposite}
 use Rattle.octets.proofs.Picked.{tested}
-use Rattle.routes.specs.Lists.{PutIn, front, Rearranged, none, one, chosen}
+use Rattle.octets.specs.Lists.{PutIn, front, Rearranged, none, one, chosen}
 use Rattle.routes.specs.Call.{Owner, nobody, owner, ownedBy, isNobody}
 use Rattle.routes.proofs.Ownership.{owned-itself, owned-nobody, owned-by, owners-same}
 use Rattle.routes.proofs.Chosen.{chosen-first, chosen-later, put-back}

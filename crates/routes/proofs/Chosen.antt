@@ -7,7 +7,7 @@ use Rattle.octets.specs.Choice.{pick}
 use Rattle.octets.proofs.Outcomes.{pick-true, pick-false}
 use Rattle.octets.proofs.Picked.{tested}
 use Rattle.octets.proofs.Refusals.{is-false}
-use Rattle.routes.specs.Lists.{Among, first, later, PutIn, front, behind, Rearranged, chosen}
+use Rattle.octets.specs.Lists.{Among, first, later, PutIn, front, behind, Rearranged, chosen}
 use Rattle.routes.proofs.Distincts.{nowhere, among-cases}
 
 module _ {A : Type 0} (test : A → Bool) where

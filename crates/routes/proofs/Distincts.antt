@@ -1,4 +1,4 @@
--- Laws of `Among`, `PutIn`, `Rearranged`, `has` and `distinct`: a list with no element twice, drawn from another, is no longer than that one's
+-- Laws of `Among`, `PutIn`, `Rearranged`, `isAmong` and `onceEach`: a list with no element twice, drawn from another, is no longer than that one's
 -- distinct elements.
 use Prim.Native.Nat.{ℕ, suc, _≤_}
 use mathlib.Core.Path.{_≡_, refl, sym, ap, subst, _∙_}
@@ -15,8 +15,8 @@ use Rattle.octets.proofs.Picked.{tested}
 use Rattle.octets.proofs.Refusals.{either-second}
 use Rattle.octets.proofs.Orders.{same-equal, equal-same}
 use Rattle.routes.specs.Route.{Route, nlriOf, attributeOf, holds, Distinct}
-use Rattle.routes.specs.Book.{has, distinct}
-use Rattle.routes.specs.Lists.{Among, first, later, PutIn, front, behind, Rearranged, Once, none, one}
+use Rattle.routes.specs.Book.{isAmong, onceEach}
+use Rattle.octets.specs.Lists.{Among, first, later, PutIn, front, behind, Rearranged, Once, none, one}
 use Rattle.routes.proofs.Lookups.{holds-held, holds-alike, lookup-first, lookup-later}
 
 pub among-left : {A : Type 0} {x : A} {xs : List A} (ys : List A) → Among x xs → Among x (xs ++ ys)
@@ -94,57 +94,57 @@ pigeonhole ys (Once.one {x} {xs} n o) h =
     pigeonhole (p .0) o (λ z m. ⊎-elim (λ e. absurd (n (among-as e m))) (λ a. a) (put-other (p .1) (h z (later m)))) in
     rw (put-length (p .1)) (omega arith)
 
--- `has` and `distinct`
+-- `isAmong` and `onceEach`
 
-pub has-among : {x : List ℕ} (xs : List (List ℕ)) → has x xs ≡ true → Among x xs
-unfolding has
+pub has-among : {x : List ℕ} (xs : List (List ℕ)) → isAmong x xs ≡ true → Among x xs
+unfolding isAmong
 has-among [] h = absurd (opposite {b = false} h refl)
 has-among {x} (y ∷ ys) h = ⊎-elim (λ t. first (same-equal x y t)) (λ t. later (has-among ys t)) (either-true _ _ h)
 
-pub among-has : {x : List ℕ} {xs : List (List ℕ)} → Among x xs → has x xs ≡ true
-unfolding has
+pub among-has : {x : List ℕ} {xs : List (List ℕ)} → Among x xs → isAmong x xs ≡ true
+unfolding isAmong
 among-has {x} (first {y} e) = either-left _ _ (equal-same x y e)
 among-has (later m) = either-second _ _ (among-has m)
 
-distinct-seen : (y : List ℕ) (ys : List (List ℕ)) → has y ys ≡ true → distinct (y ∷ ys) ≡ distinct ys
-unfolding distinct
+distinct-seen : (y : List ℕ) (ys : List (List ℕ)) → isAmong y ys ≡ true → onceEach (y ∷ ys) ≡ onceEach ys
+unfolding onceEach
 distinct-seen y ys t = pick-true _ _ _ t
 
-distinct-unseen : (y : List ℕ) (ys : List (List ℕ)) → has y ys ≡ false → distinct (y ∷ ys) ≡ y ∷ distinct ys
-unfolding distinct
+distinct-unseen : (y : List ℕ) (ys : List (List ℕ)) → isAmong y ys ≡ false → onceEach (y ∷ ys) ≡ y ∷ onceEach ys
+unfolding onceEach
 distinct-unseen y ys f = pick-false _ _ _ f
 
 among-behind : {A : Type 0} {x y : A} {xs ys : List A} → (Among x xs → Among x ys) → Among x (y ∷ xs) → Among x (y ∷ ys)
 among-behind h (first e) = first e
 among-behind h (later m) = later (h m)
 
-pub distinct-among : {x : List ℕ} (xs : List (List ℕ)) → Among x (distinct xs) → Among x xs
-unfolding distinct
+pub distinct-among : {x : List ℕ} (xs : List (List ℕ)) → Among x (onceEach xs) → Among x xs
+unfolding onceEach
 distinct-among [] m = m
 distinct-among {x} (y ∷ ys) m =
-    tested (has y ys)
+    tested (isAmong y ys)
     (λ t. later (distinct-among ys (rw (distinct-seen y ys t) at m)))
     (λ f. among-behind (λ a. distinct-among ys a) (rw (distinct-unseen y ys f) at m))
 
-pub among-distinct : {x : List ℕ} (xs : List (List ℕ)) → Among x xs → Among x (distinct xs)
-unfolding distinct
+pub among-distinct : {x : List ℕ} (xs : List (List ℕ)) → Among x xs → Among x (onceEach xs)
+unfolding onceEach
 among-distinct [] m = m
 among-distinct {x} (y ∷ ys) m =
-    tested (has y ys)
+    tested (isAmong y ys)
     (λ t. rw (distinct-seen y ys t) (among-distinct ys (⊎-elim (λ e. rw e (has-among ys t)) (λ a. a) (among-cases m))))
     (λ f. rw (distinct-unseen y ys f) (among-behind (λ a. among-distinct ys a) m))
 
-pub once-distinct : (xs : List (List ℕ)) → Once (distinct xs)
-unfolding distinct
+pub once-distinct : (xs : List (List ℕ)) → Once (onceEach xs)
+unfolding onceEach
 once-distinct [] = Once.none
 once-distinct (y ∷ ys) =
-    tested (has y ys)
+    tested (isAmong y ys)
     (λ t. rw (distinct-seen y ys t) (once-distinct ys))
     (λ f. rw (distinct-unseen y ys f) (Once.one (λ m. opposite (among-has (distinct-among ys m)) f) (once-distinct ys)))
 
 -- elements of one list are elements of another: it has no more distinct ones
-pub distinct-fewer : (xs ys : List (List ℕ)) → ((x : List ℕ) → Among x xs → Among x ys) → length (distinct xs) ≤ length (distinct ys)
-distinct-fewer xs ys h = pigeonhole (distinct ys) (once-distinct xs) (λ x m. among-distinct ys (h x (distinct-among xs m)))
+pub distinct-fewer : (xs ys : List (List ℕ)) → ((x : List ℕ) → Among x xs → Among x ys) → length (onceEach xs) ≤ length (onceEach ys)
+distinct-fewer xs ys h = pigeonhole (onceEach ys) (once-distinct xs) (λ x m. among-distinct ys (h x (distinct-among xs m)))
 
 -- the NLRIs of routes
 
@@ -172,5 +172,5 @@ names-length [] = refl
 names-length (r ∷ rs) = ap suc (names-length rs)
 
 -- distinct NLRIs that are all named in a list are no more than its distinct elements
-pub routes-fewer : {rs : List Route} (names : List (List ℕ)) → Distinct rs → ((nlri : List ℕ) → holds nlri rs ≡ true → Among nlri names) → length rs ≤ length (distinct names)
-routes-fewer {rs} names d h = rw names-length at (pigeonhole (distinct names) (names-once d) (λ nlri m. among-distinct names (h nlri (names-held rs m))))
+pub routes-fewer : {rs : List Route} (names : List (List ℕ)) → Distinct rs → ((nlri : List ℕ) → holds nlri rs ≡ true → Among nlri names) → length rs ≤ length (onceEach names)
+routes-fewer {rs} names d h = rw names-length at (pigeonhole (onceEach names) (names-once d) (λ nlri m. among-distinct names (h nlri (names-held rs m))))

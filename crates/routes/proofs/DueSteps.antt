@@ -17,7 +17,7 @@ use Rattle.routes.specs.Route.{Route, nlriOf, lookup, holds, inserted, r
 use Rattle.routes.specs.Arguments.{Query, readSPmsi, readRoute, readMatch}
 use Rattle.routes.specs.Table.{imageOf}
 use Rattle.routes.specs.Place.{acceptable}
-use Rattle.routes.specs.Images.{Family, TableOf}
+use Rattle.routes.specs.Images.{KnownFamily, TableOf}
 use Rattle.routes.specs.Matching.{matchIn}
 use Rattle.routes.specs.Calls.{NEW, REPLACED, installedOf, entering, installOutcome, installOf, leaving, withdrawOutcome, withdrawOf, matchedBy, matchOutcome, matchOf, foundAnswer, foundOutput}
 use Rattle.routes.specs.Call.{Call, install, withdraw, match, Answer, installed, withdrawn, matched, Owner, nobody, owner, originatorOf, ownerOf, Act, enter, leave, ask, argued, refusalOf, refusalAnswer}
@@ -153,7 +153,7 @@ module _ (afi places : ℕ) (earlier : List Call) (c : Call) where
   next-asked q output e = next-act (ask q output) e (tableRoutes afi earlier) (books-increasing afi earlier) (λ nlri. refl)
 
   -- the table has room for every route
-  room : (r : Route) → argued afi c ≡ given (enter r) → acceptable afi r ≡ true → Family afi → places ≤ 500 → Fits afi places (earlier ++ (c ∷ []))
+  room : (r : Route) → argued afi c ≡ given (enter r) → acceptable afi r ≡ true → KnownFamily afi → places ≤ 500 → Fits afi places (earlier ++ (c ∷ []))
       → entering places (tableRoutes afi earlier) r ≡ given (pick (holds (nlriOf r) (tableRoutes afi earlier)) REPLACED NEW)
   unfolding entering
   room r e a family most fits =
@@ -179,7 +179,7 @@ module _ (afi places : ℕ) (earlier : List Call) (c : Call) where
         match-same afi q (bookOf afi router earlier) (tableRoutes afi earlier) (book-distinct afi router earlier) (increasing-distinct (books-increasing afi earlier))
         (λ nlri h. sym (lookup-arranged nlri (allBooks afi earlier) ∙ lookup-all afi router nlri earlier (owned-by (q .router) (originatorOf afi nlri) h ∙ ap owner mine)))
 
-    acted : {act : Act} (t : List ℕ) → t ≡ imageOf afi places (tableRoutes afi earlier) → Family afi → places ≤ 500 → Fits afi places (earlier ++ (c ∷ [])) → argued afi c ≡ given act → Known afi c router act
+    acted : {act : Act} (t : List ℕ) → t ≡ imageOf afi places (tableRoutes afi earlier) → KnownFamily afi → places ≤ 500 → Fits afi places (earlier ++ (c ∷ [])) → argued afi c ≡ given act → Known afi c router act
         → actStep afi places (tableRoutes afi earlier) t c act ≡ dueStep afi places earlier c
     unfolding actStep actAnswer leaving installedOf onOutcome numberOf pick
     acted t is family most fits e (enters {r} a mine m) =
@@ -200,7 +200,7 @@ module _ (afi places : ℕ) (earlier : List Call) (c : Call) where
         as-due _ (tableRoutes afi earlier) t due (next-asked q output e) is
 
 -- a call on the image of all books
-pub due-step : (afi places : ℕ) (earlier : List Call) (c : Call) → Family afi → places ≤ 500 → Fits afi places earlier → Fits afi places (earlier ++ (c ∷ []))
+pub due-step : (afi places : ℕ) (earlier : List Call) (c : Call) → KnownFamily afi → places ≤ 500 → Fits afi places earlier → Fits afi places (earlier ++ (c ∷ []))
     → stepOf (imageOfBooks afi places earlier) c ≡ dueStep afi places earlier c
 unfolding imageOfBooks onOutcome
 due-step afi places earlier c family most before after =

@@ -11,7 +11,7 @@ use Rattle.octets.specs.Order.{before}
 use Rattle.octets.proofs.Inversions.{opposite}
 use Rattle.octets.proofs.Refusals.{is-true}
 use Rattle.octets.proofs.Orders.{same-equal, before-other}
-use Rattle.routes.specs.Lists.{Among}
+use Rattle.octets.specs.Lists.{Among}
 use Rattle.routes.specs.Route.{Route, nlriOf, lookup, Distinct}
 use Rattle.routes.specs.Arguments.{Query}
 use Rattle.routes.specs.Matching.{distinguisherOf, Found, nothing, found, lowestIn, orElse, firstOf, matchIn}

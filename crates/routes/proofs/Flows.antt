@@ -8,7 +8,7 @@ use lib.ListN.{length, getD}
 use borrow.Author.Tests.{eqb-true, eq-eqb}
 use Rattle.octets.specs.Numbers.{FLOW}
 use Rattle.octets.specs.Outcome.{given, refused}
-use Rattle.octets.proofs.Inversions.{never, only, passed, given-same}
+use Rattle.octets.proofs.Inversions.{never, given-unless, passed, given-same}
 use Rattle.octets.proofs.Outcomes.{pick-true}
 use Rattle.octets.proofs.Refusals.{picked, stopped, refused-same, outcome}
 use Rattle.octets.proofs.Tests.{goes}
@@ -18,7 +18,7 @@ use Rattle.nlri.specs.Statements.{Multicast, SourceSpecific}
 use Rattle.nlri.proofs.Theorems.{lengths, groupRule}
 use Rattle.nlri.proofs.Lengths.{family-good}
 use Rattle.routes.specs.Arguments.{Query, readFlow}
-use Rattle.routes.specs.Images.{Family}
+use Rattle.routes.specs.Images.{KnownFamily}
 use Rattle.routes.specs.MatchRule.{GoodFlow}
 
 pub class-under : (afi family : ℕ) (g : List ℕ) → familyBits afi ≡ given family → classUnder family g ≡ classOf afi g
@@ -29,7 +29,7 @@ class-under afi family g bits = goes _ _ _ _ bits refl
 class-given : (family class : ℕ) (g : List ℕ) → classUnder family g ≡ given class → (class ≡ SSM) ⊎ (class ≡ ASM)
 unfolding classUnder
 class-given family class g e =
-    let p = only _ _ _ _ (only _ _ _ _ e .1) in
+    let p = given-unless _ _ _ _ (given-unless _ _ _ _ e .1) in
     ⊎-elim (λ s. inl (sym (given-same (s .1)))) (λ a. inr (sym (given-same (a .1)))) (picked _ _ _ _ (p .1))
 
 class-refused : (family n : ℕ) (g : List ℕ) → classUnder family g ≡ refused n → n ≡ FLOW
@@ -80,8 +80,8 @@ pub flow-asked : (afi : ℕ) (router source group : List ℕ) (q : Query) → re
 unfolding readFlow
 flow-asked afi router source group q e =
     let p = passed _ _ _ e in
-    let r = only _ _ _ _ (p .second) in
-    let s = only _ _ _ _ (r .1) in
+    let r = given-unless _ _ _ _ (p .second) in
+    let s = given-unless _ _ _ _ (r .1) in
     let c = passed _ _ _ (s .1) in
     let k = classed afi group (c .value) (sym (class-under afi (p .value) group (p .first)) ∙ c .first) (class-given (p .value) (c .value) group (c .first)) in
     subst (Asked afi router source group) (given-same (c .second))
@@ -100,7 +100,7 @@ multicast-classed afi family g bits m =
     (λ n. absurd (groupRule .flow afi g .0 (sym (class-under afi family g bits) ∙ n .1 ∙ ap refused (class-refused family (n .0) g (n .1))) .1 m))
     (outcome (classUnder family g))
 
-source-family : (afi : ℕ) (source : List ℕ) → ((afi ≡ 1) × (length source ≡ 4)) ⊎ ((afi ≡ 2) × (length source ≡ 16)) → Family afi
+source-family : (afi : ℕ) (source : List ℕ) → ((afi ≡ 1) × (length source ≡ 4)) ⊎ ((afi ≡ 2) × (length source ≡ 16)) → KnownFamily afi
 source-family afi source h = ⊎-elim (λ a. inl (a .0)) (λ a. inr (a .0)) h
 
 pub flow-given : (afi : ℕ) (router source group : List ℕ) → GoodFlow afi router source group → (q : Query) × (readFlow afi router source group ≡ given q)
@@ -114,7 +114,7 @@ flow-given afi router source group f =
           ∙ sym (goes _ _ _ _ (class .1) refl)))),
     )
 
-pub flow-refused : (afi : ℕ) (router source group : List ℕ) (n : ℕ) → Family afi → readFlow afi router source group ≡ refused n → n ≡ FLOW
+pub flow-refused : (afi : ℕ) (router source group : List ℕ) (n : ℕ) → KnownFamily afi → readFlow afi router source group ≡ refused n → n ≡ FLOW
 unfolding readFlow
 flow-refused afi router source group n family e =
     let bits = family-good afi family in

@@ -14,7 +14,7 @@ use Rattle.octets.proofs.NetworkOrder.{big-endian-length, number-of-big-endian,
 use Rattle.octets.proofs.Orders.{same-equal, same-itself}
 use Rattle.octets.proofs.Refusals.{either-second}
 use Rattle.octets.proofs.Tests.{both-true, either-left}
-use Rattle.routes.specs.Images.{Family}
+use Rattle.routes.specs.Images.{KnownFamily}
 use Rattle.routes.specs.Table.{headerStart, headerOf, afiIn, countIn, placesIn, tableSize, headerSound}
 
 pub header-length : (afi count : ℕ) → length (headerOf afi count) ≡ 8
@@ -31,7 +31,7 @@ unfolding countIn headerOf headerStart part
 count-in afi count s h =
     ap (λ (x : List ℕ). numberIn x 0) (take-at (bigEndian 2 count) s 2 (big-endian-length 2 count)) ∙ number-of-big-endian 2 count h
 
-pub header-sound : (afi count : ℕ) (s : List ℕ) → Family afi → headerSound (headerOf afi count ++ s) ≡ true
+pub header-sound : (afi count : ℕ) (s : List ℕ) → KnownFamily afi → headerSound (headerOf afi count ++ s) ≡ true
 unfolding headerSound afiIn headerOf headerStart
 header-sound afi count s f =
     both-true _ _ (same-itself (headerStart afi))
@@ -41,7 +41,7 @@ pub past-header : (afi count : ℕ) (s : List ℕ) → drop 8 (headerOf afi coun
 past-header afi count s = drop-at (headerOf afi count) s 8 (header-length afi count)
 
 -- a sound header is that of its family and count
-pub sound-family : (t : List ℕ) → headerSound t ≡ true → Family (afiIn t)
+pub sound-family : (t : List ℕ) → headerSound t ≡ true → KnownFamily (afiIn t)
 unfolding headerSound
 sound-family t h = ⊎-elim (λ one. inl (eqb-true _ _ one)) (λ two. inr (eqb-true _ _ two)) (either-true _ _ (both-true-right _ _ h))
 

@@ -11,16 +11,16 @@ use Rattle.octets.specs.Numbers.{DONE, FAMILY, TABLE}
 use Rattle.octets.specs.Octets.{AllOctets}
 use Rattle.octets.specs.Order.{zeros}
 use Rattle.octets.specs.Outcome.{Outcome, given, refused, onOutcome, numberOf}
-use Rattle.octets.proofs.Inversions.{both-true-left, both-true-right, given-same, only, passed}
+use Rattle.octets.proofs.Inversions.{both-true-left, both-true-right, given-same, given-unless, passed}
 use Rattle.octets.proofs.Refusals.{refuses-unless, stopped}
 use Rattle.octets.proofs.Tests.{both-true}
 use Rattle.nlri.proofs.Faults.{family-refused}
 use Rattle.nlri.proofs.Lengths.{good-family}
-use Rattle.routes.specs.Lists.{Among}
+use Rattle.octets.specs.Lists.{Among}
 use Rattle.routes.specs.Route.{Route}
 use Rattle.routes.specs.Table.{headerOf, placesOf, imageOf, afiIn, countIn, placesIn, routesOf, tableSize, headerSound, placesSound, soundOf}
 use Rattle.routes.specs.Calls.{makeOutcome, makeOf}
-use Rattle.routes.specs.Images.{Family, Holdable, TableOf, Images}
+use Rattle.routes.specs.Images.{KnownFamily, Holdable, TableOf, Images}
 use Rattle.routes.proofs.Headers.{header-length, afi-in, count-in, header-sound, past-header, sound-family, sound-header, SizeOf, size-sound, sound-size, places-in}
 use Rattle.routes.proofs.Lookups.{increasing-members}
 use Rattle.routes.proofs.Places.{zeros-length, places-length, routes-from, from-length, places-sound, from-acceptable, from-increasing, from-places}
@@ -126,16 +126,16 @@ one-image t u a b h k family size members =
     ∙ sym (sound-image u b k)
 
 -- what making a table gives, where it does not refuse
-pub make-given : (afi : ℕ) (memory octets : List ℕ) → makeOutcome afi memory ≡ given octets → Family afi × (tableSize (length memory) ≡ true) × (octets ≡ imageOf afi (placesIn memory) [])
+pub make-given : (afi : ℕ) (memory octets : List ℕ) → makeOutcome afi memory ≡ given octets → KnownFamily afi × (tableSize (length memory) ≡ true) × (octets ≡ imageOf afi (placesIn memory) [])
 unfolding makeOutcome
 make-given afi memory octets e =
     let p = passed _ _ _ e in
-    let q = only _ _ _ _ (p .second) in
+    let q = given-unless _ _ _ _ (p .second) in
     (good-family afi (p .value) (p .first), q .0, sym (given-same (q .1)))
 
 -- why it refuses
 pub make-refused : (afi : ℕ) (memory : List ℕ) (n : ℕ) → makeOutcome afi memory ≡ refused n
-    → ((n ≡ FAMILY) × (afi ≢ 1) × (afi ≢ 2)) ⊎ ((n ≡ TABLE) × Family afi × (tableSize (length memory) ≡ false))
+    → ((n ≡ FAMILY) × (afi ≢ 1) × (afi ≢ 2)) ⊎ ((n ≡ TABLE) × KnownFamily afi × (tableSize (length memory) ≡ false))
 unfolding makeOutcome
 make-refused afi memory n e =
     ⊎-elim (λ first. let p = family-refused afi n first in inl (p .0, p .1 .0, p .1 .1))

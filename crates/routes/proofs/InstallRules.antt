@@ -9,7 +9,7 @@ use borrow.Author.Tests.{ltb-true, ltb-false, lt-ltb, le-ltb}
 use lib.ListN.{length}
 use Rattle.octets.specs.Numbers.{DONE, TABLE, ROOM}
 use Rattle.octets.specs.Outcome.{Outcome, given, refused, onOutcome, numberOf}
-use Rattle.octets.proofs.Inversions.{never, only, passed, given-same}
+use Rattle.octets.proofs.Inversions.{never, given-unless, passed, given-same}
 use Rattle.octets.proofs.Orders.{unequal-other}
 use Rattle.octets.proofs.Outcomes.{pick-true, pick-false}
 use Rattle.octets.proofs.Refusals.{outcome, picked, stopped, refused-same, refuses-unless}
@@ -79,7 +79,7 @@ module _ (t nlri attribute : List ℕ) where
   install-given : (o : ℕ) → installOutcome t nlri attribute ≡ given o → Entered t nlri attribute o
   unfolding installOutcome nlriOf
   install-given o e =
-      let p = only _ _ _ _ e in
+      let p = given-unless _ _ _ _ e in
       let q = passed _ _ _ (p .1) in
       let a = asks (p .0) (q .value) (q .first) in
       record { asked = a; found = entered t (route nlri attribute) o (sym (entering-decides a) ∙ e) }

@@ -14,7 +14,7 @@ use Rattle.octets.proofs.Outcomes.{pick-true, pick-false}
 use Rattle.octets.proofs.Picked.{tested}
 use Rattle.octets.proofs.Refusals.{is-false, is-true}
 use Rattle.octets.proofs.Orders.{same-itself, same-equal, same-swapped, before-itself, before-other, before-then, before-differs}
-use Rattle.routes.specs.Lists.{Among, first, later}
+use Rattle.octets.specs.Lists.{Among, first, later}
 use Rattle.routes.specs.Route.{Route, route, nlriOf, attributeOf, Held, absent, held, lookup, isHeld, holds, inserted, arranged, removed, Distinct, none, one, Increasing, last, next}
 use Rattle.routes.specs.Place.{acceptable, AllAcceptable}
 use Rattle.routes.specs.Book.{entered}

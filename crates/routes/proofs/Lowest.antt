@@ -11,7 +11,7 @@ use Rattle.octets.proofs.Outcomes.{pick-true, pick-false}
 use Rattle.octets.proofs.Picked.{tested}
 use Rattle.octets.proofs.Refusals.{is-false}
 use Rattle.octets.proofs.Orders.{same-equal, before-itself, before-other, before-then, before-once}
-use Rattle.routes.specs.Lists.{Among, first, later}
+use Rattle.octets.specs.Lists.{Among, first, later}
 use Rattle.routes.specs.Route.{Route}
 use Rattle.routes.specs.Arguments.{Query}
 use Rattle.routes.specs.Matching.{candidate, meets, distinguisherOf, Found, nothing, found, lower, lowestIn}

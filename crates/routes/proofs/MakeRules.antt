@@ -19,7 +19,7 @@ use Rattle.routes.specs.Place.{none}
 use Rattle.routes.specs.Route.{last}
 use Rattle.routes.specs.Table.{imageOf, placesIn, tableSize}
 use Rattle.routes.specs.Calls.{makeOutcome, makeOf}
-use Rattle.routes.specs.Images.{Family, Holdable, TableOf}
+use Rattle.routes.specs.Images.{KnownFamily, Holdable, TableOf}
 use Rattle.routes.specs.CallRules.{TableSize, MakeRefusal, noFamily, badSize, MakeRule}
 use Rattle.routes.proofs.AnswerNumbers.{refused-number, given-number, done-given}
 use Rattle.routes.proofs.Headers.{size-sound, sound-size}
@@ -33,7 +33,7 @@ size-tested : (size : ℕ) → TableSize size → tableSize size ≡ true
 size-tested size s = size-sound size (s .places) (s .is) (s .most)
 
 -- no routes are what any table can hold
-holdable-none : (afi : ℕ) (memory : List ℕ) → Family afi → tableSize (length memory) ≡ true → Holdable afi (placesIn memory) []
+holdable-none : (afi : ℕ) (memory : List ℕ) → KnownFamily afi → tableSize (length memory) ≡ true → Holdable afi (placesIn memory) []
 holdable-none afi memory f h = record { family = f; most = sound-size memory h .most; within = omega arith; acceptable = none; increasing = last }
 
 module _ (afi : ℕ) (memory : List ℕ) where
@@ -56,7 +56,7 @@ module _ (afi : ℕ) (memory : List ℕ) where
   unfolding makeOf
   made-given e = done-given _ (λ n r. not-done (refusal n r)) e
 
-  gives : Family afi × TableSize (length memory) → makeOutcome afi memory ≡ given (imageOf afi (placesIn memory) [])
+  gives : KnownFamily afi × TableSize (length memory) → makeOutcome afi memory ≡ given (imageOf afi (placesIn memory) [])
   unfolding makeOutcome
   gives h = sym (goes _ _ _ _ (family-good afi (h .0) .1) (sym (pick-true _ _ _ (size-tested (length memory) (h .1)))))
 

@@ -4,12 +4,12 @@ use Rattle.octets.specs.Choice.{pick, both, either}
 use Rattle.octets.specs.Outcome.{onOutcome, andThen, numberOf}
 use Rattle.octets.specs.Octets.{part, front, numberIn, bigEndian}
 use Rattle.octets.specs.Order.{same, before, zeros, allZero}
-use Rattle.nlri.specs.Family.{familyBits, allowed, originatorSize}
+use Rattle.nlri.specs.Family.{familyBits, allowed, isOriginatorSize}
 use Rattle.nlri.specs.Bodies.{bodies, onBody, codeOf, sameKind, fieldIn}
 use Rattle.nlri.specs.Reading.{fixedField, addressEnd, addressField, originatorField, fieldSize, sizesOf, laidWith, laidAt, cut, fieldsOf, laidSingle, readNlri}
 use Rattle.nlri.specs.Groups.{multicast, sourceSpecific, classUnder, classOf}
-use Rattle.tunnel.specs.Fec.{familySuits, endsAt, wholeFec}
-use Rattle.tunnel.specs.Identifier.{table, formIn, formOf, oneOf, fits, judged}
+use Rattle.tunnel.specs.Fec.{familySuits, opaqueFills, wholeFec}
+use Rattle.tunnel.specs.Identifier.{identifierForms, formIn, formOf, oneOf, isIdentifier, readIdentifier}
 use Rattle.tunnel.specs.Attribute.{labelOf, fieldsIn, readAttribute}
 use Rattle.routes.specs.Place.{placeOf, endIn, routeIn, acceptable, placeSound}
 use Rattle.routes.specs.Table.{headerStart, headerOf, placesOf, imageOf, afiIn, countIn, placesIn, routesFrom, routesOf, tableSize, headerSound, placesSound, soundOf}
@@ -20,5 +20,5 @@ use Rattle.routes.specs.Calls.{makeOutcome, makeOf, installedOf, enterin
 use Rattle.routes.specs.Examples.{emptyTable, afterInstalls, someTable, MarkedExamples}
 
 pub markedExamples : MarkedExamples
-unfolding someTable emptyTable afterInstalls pick both either onOutcome andThen numberOf part front numberIn bigEndian same before zeros allZero familyBits allowed originatorSize bodies onBody codeOf sameKind fieldIn fixedField addressEnd addressField originatorField fieldSize sizesOf laidWith laidAt cut fieldsOf laidSingle readNlri familySuits endsAt wholeFec table formIn formOf oneOf fits judged labelOf fieldsIn readAttribute nlriOf attributeOf lookup isHeld holds inserted readSPmsi readLabelled readRoute placeOf endIn routeIn acceptable placeSound headerStart headerOf placesOf imageOf afiIn countIn placesIn routesFrom routesOf tableSize headerSound placesSound soundOf makeOutcome makeOf installedOf entering installOutcome installOf multicast sourceSpecific classUnder classOf readFlow readMatch ofFields candidate wildcard condition meets distinguisherOf lower lowestIn orElse firstOf matchIn foundAnswer foundOutput matchedBy matchOutcome matchOf
+unfolding someTable emptyTable afterInstalls pick both either onOutcome andThen numberOf part front numberIn bigEndian same before zeros allZero familyBits allowed isOriginatorSize bodies onBody codeOf sameKind fieldIn fixedField addressEnd addressField originatorField fieldSize sizesOf laidWith laidAt cut fieldsOf laidSingle readNlri familySuits opaqueFills wholeFec identifierForms formIn formOf oneOf isIdentifier readIdentifier labelOf fieldsIn readAttribute nlriOf attributeOf lookup isHeld holds inserted readSPmsi readLabelled readRoute placeOf endIn routeIn acceptable placeSound headerStart headerOf placesOf imageOf afiIn countIn placesIn routesFrom routesOf tableSize headerSound placesSound soundOf makeOutcome makeOf installedOf entering installOutcome installOf multicast sourceSpecific classUnder classOf readFlow readMatch ofFields candidate wildcard condition meets distinguisherOf lower lowestIn orElse firstOf matchIn foundAnswer foundOutput matchedBy matchOutcome matchOf
 markedExamples = record { all = (refl, (refl, (refl, (refl, (refl, (refl, (refl, (refl, (refl, (refl, (refl, (refl, (refl, (refl, (refl, (refl, (refl, (refl, (refl, tt))))))))))))))))))) }

@@ -18,7 +18,7 @@ use Rattle.octets.proofs.Picked.{tested}
 use Rattle.octets.proofs.Refusals.{outcome}
 use Rattle.octets.proofs.Tests.{goes, stops}
 use Rattle.routes.specs.declared.Matched.{Matched}
-use Rattle.routes.specs.Lists.{Among}
+use Rattle.octets.specs.Lists.{Among}
 use Rattle.routes.specs.Route.{Route, nlriOf, attributeOf, Distinct}
 use Rattle.routes.specs.Arguments.{Query, readFlow, readMatch}
 use Rattle.routes.specs.Table.{afiIn, placesIn, routesOf, soundOf}

@@ -6,7 +6,7 @@ use mathlib.Core.List.{List}
 use Rattle.octets.specs.Outcome.{given, onOutcome}
 use Rattle.octets.proofs.Orders.{equal-same}
 use Rattle.nlri.specs.Fields.{Fields}
-use Rattle.routes.specs.Lists.{Among}
+use Rattle.octets.specs.Lists.{Among}
 use Rattle.routes.specs.Route.{Route, nlriOf, attributeOf, lookup, Distinct}
 use Rattle.routes.specs.Arguments.{Query, readSPmsi}
 use Rattle.routes.specs.Matching.{matchIn}

@@ -5,12 +5,12 @@ use mathlib.Core.List.{List, [], _∷_, _++_}
 use Rattle.octets.specs.Numbers.{DONE}
 use Rattle.routes.specs.Route.{arranged}
 use Rattle.routes.specs.Table.{imageOf, placesIn}
-use Rattle.routes.specs.Images.{Family}
+use Rattle.routes.specs.Images.{KnownFamily}
 use Rattle.routes.specs.Calls.{makeOf}
 use Rattle.routes.specs.Call.{Call, nobody, ownerOf}
-use Rattle.routes.specs.Book.{fed, ownCalls, bookOf, distinct, routersOf, gathered, allBooks}
+use Rattle.routes.specs.Book.{fed, ownCalls, bookOf, onceEach, routersOf, gathered, allBooks}
 use Rattle.routes.specs.Run.{Step, stepOf, runFrom, answersIn, ownAnswers, endOf, imageOfBooks, dueStep, dueFrom, Fits}
-use Rattle.routes.specs.Lists.{Rearranged, chosen}
+use Rattle.octets.specs.Lists.{Rearranged, chosen}
 use Rattle.routes.specs.MixedCalls.{Alone, OfNobody, Reordered, Alike, Claim, MixedCalls}
 use Rattle.routes.proofs.Images.{images}
 use Rattle.routes.proofs.MakeRules.{made-holdable}
@@ -25,10 +25,10 @@ use Rattle.routes.proofs.BookRules.{ownerRule, premiseRule, book-rule}
 use Rattle.routes.proofs.Turns.{in-turn}
 
 made-books : (afi places : ℕ) → imageOf afi places [] ≡ imageOfBooks afi places []
-unfolding imageOfBooks arranged allBooks gathered distinct routersOf
+unfolding imageOfBooks arranged allBooks gathered onceEach routersOf
 made-books afi places = refl
 
-module _ (afi places : ℕ) (family : Family afi) (most : places ≤ 500) (t : List ℕ) (is : t ≡ imageOfBooks afi places []) where
+module _ (afi places : ℕ) (family : KnownFamily afi) (most : places ≤ 500) (t : List ℕ) (is : t ≡ imageOfBooks afi places []) where
   runs : (calls : List Call) → Fits afi places calls → runFrom t calls ≡ dueFrom afi places [] calls
   runs calls fits = ap (λ (x : List ℕ). runFrom x calls) is ∙ run-due afi places family most [] calls fits
 

@@ -5,7 +5,7 @@ use mathlib.Core.List.{List, [], _∷_}
 use mathlib.Core.Logic.{_↔_, ⊎-elim}
 use Rattle.octets.specs.Outcome.{Outcome, given, refused, onOutcome}
 use Rattle.nlri.specs.Fields.{Fields}
-use Rattle.routes.specs.Lists.{Among, first, later}
+use Rattle.octets.specs.Lists.{Among, first, later}
 use Rattle.routes.specs.Arguments.{readSPmsi}
 use Rattle.routes.specs.CallRules.{SPmsi}
 use Rattle.routes.specs.Call.{Call, install, withdraw, match}

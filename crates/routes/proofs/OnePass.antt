@@ -16,7 +16,7 @@ use Rattle.octets.proofs.Picked.{tested}
 use Rattle.octets.proofs.Refusals.{is-false, either-false-left, either-false-right}
 use Rattle.octets.proofs.Tests.{both-true}
 use Rattle.octets.proofs.Orders.{before-itself, before-then}
-use Rattle.routes.specs.Lists.{Among, first, later}
+use Rattle.octets.specs.Lists.{Among, first, later}
 use Rattle.routes.specs.Route.{Route, Distinct}
 use Rattle.routes.specs.Arguments.{Query}
 use Rattle.routes.specs.Matching.{candidate, meets, distinguisherOf, Found, nothing, found, lower, lowestIn, orElse, firstOf, matchIn}

@@ -8,9 +8,9 @@ use lib.ListN.{length}
 use Rattle.octets.specs.Outcome.{given, onOutcome}
 use Rattle.octets.specs.Order.{before}
 use Rattle.octets.proofs.Outcomes.{pick-true}
-use Rattle.octets.proofs.Inversions.{opposite, given-same, only, unless, passed}
+use Rattle.octets.proofs.Inversions.{opposite, given-same, given-unless, given-otherwise, passed}
 use Rattle.octets.proofs.Orders.{same-equal, equal-same, before-none}
-use Rattle.nlri.specs.Family.{originatorSize}
+use Rattle.nlri.specs.Family.{isOriginatorSize}
 use Rattle.nlri.specs.Fields.{Fields}
 use Rattle.routes.specs.Route.{Route, route, nlriOf, attributeOf}
 use Rattle.routes.specs.Arguments.{Query, readSPmsi, readRoute, readFlow, readMatch}
@@ -60,17 +60,17 @@ pub owners-same : {x y : List ℕ} {o : Owner} → o ≡ owner x → o ≡ owner
 owners-same p q = cc
 
 -- a query that was read asks of the router given, whose address has 4 or 16 octets
-pub query-router : (afi : ℕ) (router source group output : List ℕ) (q : Query) → readMatch afi router source group output ≡ given q → (q .router ≡ router) × (originatorSize (length router) ≡ true)
+pub query-router : (afi : ℕ) (router source group output : List ℕ) (q : Query) → readMatch afi router source group output ≡ given q → (q .router ≡ router) × (isOriginatorSize (length router) ≡ true)
 unfolding readMatch readFlow
 query-router afi router source group output q e =
     let p = passed _ _ _ e in
     let f = passed _ _ _ (p .first) in
-    let size = only _ _ _ _ (f .second) in
-    let s = only _ _ _ _ (size .1) in
+    let size = given-unless _ _ _ _ (f .second) in
+    let s = given-unless _ _ _ _ (size .1) in
     let c = passed _ _ _ (s .1) in
-    let g = unless _ _ _ _ (p .second) in
+    let g = given-otherwise _ _ _ _ (p .second) in
     (ap (λ (x : Query). x .router) (sym (given-same (g .1)) ∙ sym (given-same (c .second))), size .0)
 
-pub match-owner : (afi : ℕ) (router source group output : List ℕ) → originatorSize (length router) ≡ true → ownerOf afi (match router source group output) ≡ owner router
+pub match-owner : (afi : ℕ) (router source group output : List ℕ) → isOriginatorSize (length router) ≡ true → ownerOf afi (match router source group output) ≡ owner router
 unfolding ownerOf
 match-owner afi router source group output h = pick-true _ _ _ h

@@ -7,19 +7,19 @@ use Rattle.octets.specs.Choice.{pick, both, either}
 use Rattle.octets.specs.Outcome.{onOutcome, andThen, numberOf}
 use Rattle.octets.specs.Octets.{part, numberIn, bigEndian}
 use Rattle.octets.specs.Order.{same, before, zeros, allZero}
-use Rattle.nlri.specs.Family.{familyBits, allowed, originatorSize}
+use Rattle.nlri.specs.Family.{familyBits, allowed, isOriginatorSize}
 use Rattle.nlri.specs.Bodies.{bodies, onBody, codeOf, sameKind, fieldIn}
 use Rattle.nlri.specs.Reading.{fixedField, addressEnd, addressField, originatorField, fieldSize, sizesOf, laidWith, laidAt, cut, fieldsOf, laidSingle, readNlri}
-use Rattle.tunnel.specs.Identifier.{table, formIn, formOf, oneOf, fits, judged}
+use Rattle.tunnel.specs.Identifier.{identifierForms, formIn, formOf, oneOf, isIdentifier, readIdentifier}
 use Rattle.tunnel.specs.Attribute.{labelOf, fieldsIn, readAttribute}
-use Rattle.routes.specs.Lists.{chosen}
+use Rattle.octets.specs.Lists.{chosen}
 use Rattle.routes.specs.Route.{nlriOf, attributeOf, lookup, isHeld, holds, inserted, arranged}
 use Rattle.routes.specs.Arguments.{readSPmsi, readLabelled, readRoute}
 use Rattle.routes.specs.Place.{placeOf, endIn, routeIn, acceptable, placeSound}
 use Rattle.routes.specs.Table.{headerStart, headerOf, placesOf, imageOf, afiIn, countIn, placesIn, routesFrom, routesOf, tableSize, headerSound, placesSound, soundOf}
 use Rattle.routes.specs.Calls.{makeOutcome, makeOf, installedOf, entering, installOutcome, installOf}
 use Rattle.routes.specs.Call.{Answer, installed, withdrawn, matched, originatorOf, ownerOf, ownedBy, argued}
-use Rattle.routes.specs.Book.{entered, actAnswer, actAfter, bookAnswer, bookAfter, fed, bookOf, has, distinct, dueBy, dueAnswer}
+use Rattle.routes.specs.Book.{entered, actAnswer, actAfter, bookAnswer, bookAfter, fed, bookOf, isAmong, onceEach, dueBy, dueAnswer}
 use Rattle.routes.specs.Run.{Step, stepOf, runFrom, dueStep, dueFrom, namedIn, namedBy}
 use Rattle.routes.specs.MixedCalls.{anySource, twoInstalls, Premise}
 
@@ -36,7 +36,7 @@ second (a ∷ []) = 0
 second (a ∷ (b ∷ steps)) = numberAnswered (b .answer)
 
 pub premise : Premise
-unfolding pick both either onOutcome andThen numberOf part numberIn bigEndian same before zeros allZero familyBits allowed originatorSize bodies onBody codeOf sameKind fieldIn fixedField addressEnd addressField originatorField fieldSize sizesOf laidWith laidAt cut fieldsOf laidSingle readNlri table formIn formOf oneOf fits judged labelOf fieldsIn readAttribute nlriOf attributeOf lookup isHeld holds inserted arranged readSPmsi readLabelled readRoute placeOf endIn routeIn acceptable placeSound headerStart headerOf placesOf imageOf afiIn countIn placesIn routesFrom routesOf tableSize headerSound placesSound soundOf makeOutcome makeOf installedOf entering installOutcome installOf originatorOf ownerOf ownedBy argued entered actAnswer actAfter bookAnswer bookAfter fed chosen bookOf has distinct dueBy dueAnswer stepOf runFrom dueStep dueFrom namedIn namedBy anySource twoInstalls numberAnswered second
+unfolding pick both either onOutcome andThen numberOf part numberIn bigEndian same before zeros allZero familyBits allowed isOriginatorSize bodies onBody codeOf sameKind fieldIn fixedField addressEnd addressField originatorField fieldSize sizesOf laidWith laidAt cut fieldsOf laidSingle readNlri identifierForms formIn formOf oneOf isIdentifier readIdentifier labelOf fieldsIn readAttribute nlriOf attributeOf lookup isHeld holds inserted arranged readSPmsi readLabelled readRoute placeOf endIn routeIn acceptable placeSound headerStart headerOf placesOf imageOf afiIn countIn placesIn routesFrom routesOf tableSize headerSound placesSound soundOf makeOutcome makeOf installedOf entering installOutcome installOf originatorOf ownerOf ownedBy argued entered actAnswer actAfter bookAnswer bookAfter fed chosen bookOf isAmong onceEach dueBy dueAnswer stepOf runFrom dueStep dueFrom namedIn namedBy anySource twoInstalls numberAnswered second
 premise =
     record {
       made = refl;

@@ -3,10 +3,10 @@ use Prim.Native.Nat.{ℕ, _≤_}
 use mathlib.Core.Path.{_≡_, refl, ap, ap₂, _∙_}
 use mathlib.Core.List.{List, [], _∷_, _++_, append-assoc, append-nil}
 use native.Mathlib.Nat.{le-trans}
-use Rattle.routes.specs.Images.{Family}
+use Rattle.routes.specs.Images.{KnownFamily}
 use Rattle.routes.specs.Call.{Call, install}
 use Rattle.routes.specs.Run.{Step, stepOf, runFrom, endOf, imageOfBooks, dueStep, dueFrom, namedBy, Fits}
-use Rattle.routes.specs.Lists.{Among}
+use Rattle.octets.specs.Lists.{Among}
 use Rattle.routes.proofs.Distincts.{among-left, distinct-fewer}
 use Rattle.routes.proofs.Named.{named-exactly}
 use Rattle.routes.proofs.DueSteps.{due-step}
@@ -27,7 +27,7 @@ fits-earlier afi places xs ys fits = fits-drawn afi places xs (xs ++ ys) (λ c m
 
 -- a run on the image of all books
 
-module _ (afi places : ℕ) (family : Family afi) (most : places ≤ 500) where
+module _ (afi places : ℕ) (family : KnownFamily afi) (most : places ≤ 500) where
   pub next-step : (earlier : List Call) (c : Call) (cs : List Call) → Fits afi places (earlier ++ (c ∷ cs)) → stepOf (imageOfBooks afi places earlier) c ≡ dueStep afi places earlier c
   next-step earlier c cs fits =
       due-step afi places earlier c family most (fits-earlier afi places earlier (c ∷ cs) fits) (fits-earlier afi places (earlier ++ (c ∷ [])) cs (rw append-assoc fits))

@@ -9,9 +9,9 @@ use lib.Seq.{take-all, length-take-le, getD-take}
 use Rattle.octets.specs.Choice.{pick}
 use Rattle.octets.specs.Outcome.{Outcome, given}
 use Rattle.octets.specs.Octets.{part}
-use Rattle.octets.proofs.Inversions.{unless, only, passed, given-same}
+use Rattle.octets.proofs.Inversions.{given-otherwise, given-unless, passed, given-same}
 use Rattle.octets.proofs.Lists.{front-rest, empty-list}
-use Rattle.nlri.specs.Bodies.{Kind, distinguisher, source, group, originator, bodies, onBody, bodyOf, fieldIn, sameKind, codeOf}
+use Rattle.nlri.specs.Bodies.{FieldKind, distinguisher, source, group, originator, bodies, onBody, bodyOf, fieldIn, sameKind, codeOf}
 use Rattle.nlri.specs.Fields.{Fields, encodeAddress, encodeField, encodeBody, encodeNlri}
 use Rattle.nlri.specs.Reading.{Laid, addressEnd, addressField, fieldSize, sizesOf, keyField, laidAt, laidSingle, cut, fieldsOf, readNlri}
 use Rattle.nlri.proofs.Lengths.{family-octets, whole-octets}
@@ -22,9 +22,9 @@ use Rattle.routes.specs.Arguments.{readSPmsi}
 address-encoded : (family type n : ℕ) (s : List ℕ) → 8 * (family / 8) ≡ family → addressField family type s ≡ given n → encodeAddress (drop 1 (take n s)) ≡ take n s
 unfolding addressField addressEnd encodeAddress
 address-encoded family type n s whole e =
-    let p = unless _ _ _ _ e in
-    let q = only _ _ _ _ (p .1) in
-    let r = unless _ _ _ _ (q .1) in
+    let p = given-otherwise _ _ _ _ e in
+    let q = given-unless _ _ _ _ (p .1) in
+    let r = given-otherwise _ _ _ _ (q .1) in
     let size : 1 + getD s 0 0 / 8 ≡ n = given-same (r .1) in
     let fits : n ≤ length s = omega (arith, leb-false) in
     let l : length (take n s) ≡ n = length-take-le n s fits in
@@ -33,7 +33,7 @@ address-encoded family type n s whole e =
     let bits : 8 * length (drop 1 (take n s)) ≡ getD (take n s) 0 0 = rw d (omega (arith, whole-octets family type (getD s 0 0) whole (q .0))) in
     ap (λ (b : ℕ). b ∷ drop 1 (take n s)) bits ∙ sym (front-rest (take n s) (omega arith))
 
-abbrev row : List Kind
+abbrev row : List FieldKind
 row = distinguisher ∷ source ∷ group ∷ originator ∷ []
 
 abbrev laidRow : (size : ℕ) (sizes : List ℕ) → Laid
@@ -48,7 +48,7 @@ unfolding fieldsOf
 laid-type l s = refl
 
 -- the first field's size, and the sizes of those behind it
-sizes-first : (P : List ℕ → Type 0) (size : Kind → List ℕ → Outcome ℕ) (k : Kind) (body : List Kind) (x sizes : List ℕ) → sizesOf size (k ∷ body) x ≡ given sizes
+sizes-first : (P : List ℕ → Type 0) (size : FieldKind → List ℕ → Outcome ℕ) (k : FieldKind) (body : List FieldKind) (x sizes : List ℕ) → sizesOf size (k ∷ body) x ≡ given sizes
     → ((n : ℕ) (rest : List ℕ) → size k x ≡ given n → sizesOf size body (drop n x) ≡ given rest → P (n ∷ rest)) → P sizes
 unfolding sizesOf
 sizes-first P size k body x sizes e next =
@@ -56,9 +56,9 @@ sizes-first P size k body x sizes e next =
     let q = passed _ _ _ (p .second) in
     subst P (given-same (q .second)) (next (p .value) (q .value) (p .first) (q .first))
 
-sizes-none : (P : List ℕ → Type 0) (size : Kind → List ℕ → Outcome ℕ) (x sizes : List ℕ) → sizesOf size [] x ≡ given sizes → (x ≡ [] → P []) → P sizes
+sizes-none : (P : List ℕ → Type 0) (size : FieldKind → List ℕ → Outcome ℕ) (x sizes : List ℕ) → sizesOf size [] x ≡ given sizes → (x ≡ [] → P []) → P sizes
 unfolding sizesOf
-sizes-none P size x sizes e next = let p = only _ _ _ _ e in subst P (given-same (p .1)) (next (empty-list x (eqb-true _ _ (p .0))))
+sizes-none P size x sizes e next = let p = given-unless _ _ _ _ e in subst P (given-same (p .1)) (next (empty-list x (eqb-true _ _ (p .0))))
 
 joined : (n : ℕ) (x y z : List ℕ) → y ≡ take n x → z ≡ drop n x → y ++ z ≡ x
 joined n x y z p q = ap₂ (λ (a b : List ℕ). a ++ b) p q ∙ take-append-drop n x
@@ -98,7 +98,7 @@ single-encoded : (family : ℕ) (s : List ℕ) (laid : Laid) → 8 * (family / 8
 unfolding laidSingle laidAt part bodyOf onBody bodies pick
 single-encoded family s laid whole e t =
     let p = passed _ _ _ e in
-    let q = only _ _ _ _ (p .second) in
+    let q = given-unless _ _ _ _ (p .second) in
     let same : p .value ≡ laid = given-same (q .1) in
     let size : length s - 2 ≡ laid .size = eqb-true _ _ (q .0) ∙ ap (λ (x : Laid). x .size) same in
     let o = laid-out (keyField family) family s laid (p .first ∙ ap given same) in
@@ -113,7 +113,7 @@ read-s-pmsi : (afi : ℕ) (s : List ℕ) (f : Fields) → readSPmsi afi s ≡ gi
 unfolding readSPmsi readNlri
 read-s-pmsi afi s f e =
     let k = passed _ _ _ e in
-    let t = only _ _ _ _ (k .second) in
+    let t = given-unless _ _ _ _ (k .second) in
     let same : k .value ≡ f = given-same (t .1) in
     let type : f .type ≡ 3 = ap (λ (x : Fields). x .type) (sym same) ∙ eqb-true _ _ (t .0) in
     let p = passed _ _ _ (k .first) in

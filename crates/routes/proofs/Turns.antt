@@ -8,9 +8,9 @@ use Rattle.octets.specs.Order.{same}
 use Rattle.octets.proofs.Inversions.{opposite}
 use Rattle.octets.proofs.Picked.{tested}
 use Rattle.octets.proofs.Orders.{same-equal, other-unequal}
-use Rattle.routes.specs.Lists.{Among, first, later, Once, Rearranged, chosen}
+use Rattle.octets.specs.Lists.{Among, first, later, Once, Rearranged, chosen}
 use Rattle.routes.specs.Call.{Call, ownerOf}
-use Rattle.routes.specs.Book.{ownCalls, nobodysCalls, has, distinct, routersOf}
+use Rattle.routes.specs.Book.{ownCalls, nobodysCalls, isAmong, onceEach, routersOf}
 use Rattle.routes.specs.MixedCalls.{turns, inTurn, Reordered}
 use Rattle.routes.proofs.Distincts.{nowhere, among-cases, has-among, among-has, among-distinct, once-distinct, rearranged-among, rearranged-itself, once-rearranged}
 use Rattle.routes.proofs.Chosen.{chosen-append, chosen-passes, chosen-all, chosen-none}
@@ -70,14 +70,14 @@ module _ (afi : ℕ) (calls : List Call) where
       (turns-own router u (⊎-elim (λ e. absurd (other-unequal router other f e)) (λ a. a) (among-cases m))))
 
   -- routers, each once, that have every owner
-  module _ (routers : List (List ℕ)) (order : Rearranged (distinct (routersOf afi calls)) routers) where
+  module _ (routers : List (List ℕ)) (order : Rearranged (onceEach (routersOf afi calls)) routers) where
     turns-kept : (router : List ℕ) → ownCalls afi router (inTurn afi routers calls) ≡ ownCalls afi router calls
     turns-kept router =
         chosen-append _ (turns afi routers calls) (nobodysCalls afi calls)
-        ∙ ap₂ (λ (a b : List Call). a ++ b) (own (has router routers) refl) (own-nobodys router)
+        ∙ ap₂ (λ (a b : List Call). a ++ b) (own (isAmong router routers) refl) (own-nobodys router)
         ∙ append-nil (ownCalls afi router calls)
       where
-        own : (b : Bool) → has router routers ≡ b → ownCalls afi router (turns afi routers calls) ≡ ownCalls afi router calls
+        own : (b : Bool) → isAmong router routers ≡ b → ownCalls afi router (turns afi routers calls) ≡ ownCalls afi router calls
         own true t = turns-own router (once-rearranged order (once-distinct (routersOf afi calls))) (has-among routers t)
         own false f =
             turns-foreign router routers (λ m. opposite (among-has m) f)

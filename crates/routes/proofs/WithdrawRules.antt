@@ -8,7 +8,7 @@ use native.Mathlib.Omega.{arith}
 use lib.ListN.{length}
 use Rattle.octets.specs.Numbers.{DONE, TABLE, ABSENT}
 use Rattle.octets.specs.Outcome.{given, refused, onOutcome, numberOf}
-use Rattle.octets.proofs.Inversions.{only, passed, given-same}
+use Rattle.octets.proofs.Inversions.{given-unless, passed, given-same}
 use Rattle.octets.proofs.Orders.{unequal-other}
 use Rattle.octets.proofs.Outcomes.{pick-true, pick-false}
 use Rattle.octets.proofs.Refusals.{outcome, picked, stopped, refused-same, refuses-unless}
@@ -40,9 +40,9 @@ module _ (t nlri : List ℕ) where
   withdraw-given : (n : List ℕ) → withdrawOutcome t nlri ≡ given n → Left t nlri × (n ≡ nlri)
   unfolding withdrawOutcome leaving
   withdraw-given n e =
-      let p = only _ _ _ _ e in
+      let p = given-unless _ _ _ _ e in
       let q = passed _ _ _ (p .1) in
-      let r = only _ _ _ _ (q .second) in
+      let r = given-unless _ _ _ _ (q .second) in
       (record { asked = record { sound = p .0; accepted = nlri-accepted (afiIn t) nlri (q .value) (q .first) }; found = held-holds nlri (routesOf t) (r .0) }, sym (given-same (r .1)))
 
   refusal : (n : ℕ) → withdrawOutcome t nlri ≡ refused n → WithdrawRefusal t nlri n

@@ -6,12 +6,12 @@ use lib.Dec.{ltb, eqb}
 use Rattle.octets.specs.Numbers.{LABEL, KIND, FLOW, SPACE}
 use Rattle.octets.specs.Choice.{pick, both}
 use Rattle.octets.specs.Outcome.{Outcome, given, refused, andThen}
-use Rattle.nlri.specs.Family.{familyBits, originatorSize}
+use Rattle.nlri.specs.Family.{familyBits, isOriginatorSize}
 use Rattle.nlri.specs.Fields.{Fields}
 use Rattle.nlri.specs.Reading.{readNlri}
 use Rattle.nlri.specs.Groups.{classUnder}
 use Rattle.tunnel.specs.Attribute.{labelOf, readAttribute}
-use Rattle.tunnel.specs.Attribute.{Fields as AttributeFields}
+use Rattle.tunnel.specs.Attribute.{AttributeFields}
 use Rattle.routes.specs.Route.{Route, route}
 
 -- "A well-formed S-PMSI NLRI": octets that NLRI reading under the table's AFI accepts, with none after it, of type 3; else KIND
@@ -37,7 +37,7 @@ pub record Query : Type 0 where
 unfoldable pub readFlow : (afi : ℕ) (router source group : List ℕ) → Outcome Query
 readFlow afi router source group =
     andThen (familyBits afi) (λ family.
-    pick (originatorSize (length router))
+    pick (isOriginatorSize (length router))
     (pick (eqb (8 * length source) family)
     (andThen (classUnder family group) (λ class. given (record { router = router; source = source; group = group; class = class })))
     (refused FLOW))

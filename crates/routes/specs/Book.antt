@@ -7,7 +7,7 @@ use Rattle.octets.specs.Numbers.{DONE, ABSENT}
 use Rattle.octets.specs.Choice.{pick, either}
 use Rattle.octets.specs.Outcome.{onOutcome}
 use Rattle.octets.specs.Order.{same}
-use Rattle.routes.specs.Lists.{chosen}
+use Rattle.octets.specs.Lists.{chosen}
 use Rattle.routes.specs.Route.{Route, nlriOf, holds, removed}
 use Rattle.routes.specs.Matching.{matchIn}
 use Rattle.routes.specs.Calls.{NEW, REPLACED, foundAnswer, foundOutput}
@@ -57,14 +57,14 @@ unfoldable pub bookOf : (afi : ℕ) (router : List ℕ) → List Call → List R
 bookOf afi router calls = fed afi [] (ownCalls afi router calls)
 
 -- whether a list of octet lists has one
-unfoldable pub has : List ℕ → List (List ℕ) → Bool
-has x [] = false
-has x (y ∷ ys) = either (same x y) (has x ys)
+unfoldable pub isAmong : List ℕ → List (List ℕ) → Bool
+isAmong x [] = false
+isAmong x (y ∷ ys) = either (same x y) (isAmong x ys)
 
 -- each element once
-unfoldable pub distinct : List (List ℕ) → List (List ℕ)
-distinct [] = []
-distinct (x ∷ xs) = pick (has x xs) (distinct xs) (x ∷ distinct xs)
+unfoldable pub onceEach : List (List ℕ) → List (List ℕ)
+onceEach [] = []
+onceEach (x ∷ xs) = pick (isAmong x xs) (onceEach xs) (x ∷ onceEach xs)
 
 -- routers, and the one that a call belongs to
 unfoldable pub withOwner : Owner → List (List ℕ) → List (List ℕ)
@@ -83,7 +83,7 @@ gathered afi (router ∷ routers) calls = bookOf afi router calls ++ gathered af
 
 -- the routes in all books
 unfoldable pub allBooks : ℕ → List Call → List Route
-allBooks afi calls = gathered afi (distinct (routersOf afi calls)) calls
+allBooks afi calls = gathered afi (onceEach (routersOf afi calls)) calls
 
 -- by a call's owner: one answer where it is nobody's, one by the router where it is a router's
 unfoldable pub dueBy : Answer → (List ℕ → Answer) → Owner → Answer

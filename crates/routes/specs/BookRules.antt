@@ -5,12 +5,12 @@ use mathlib.Core.Path.{_≡_}
 use mathlib.Core.List.{List}
 use mathlib.Core.Logic.{_↔_, _⊎_}
 use lib.ListN.{length}
-use Rattle.routes.specs.Lists.{Among, Once}
+use Rattle.octets.specs.Lists.{Among, Once}
 use Rattle.routes.specs.Route.{Route, arranged, Distinct}
 use Rattle.routes.specs.Images.{Holdable}
 use Rattle.routes.specs.CallRules.{SPmsi}
 use Rattle.routes.specs.Call.{Call, install, withdraw, match, owner, ownerOf}
-use Rattle.routes.specs.Book.{bookOf, distinct, allBooks}
+use Rattle.routes.specs.Book.{bookOf, onceEach, allBooks}
 use Rattle.routes.specs.Run.{namedBy}
 
 -- a call belongs to a router exactly when; any other call is nobody's
@@ -25,8 +25,8 @@ pub record OwnerRule : Type 0 where
 -- the premise counts an NLRI exactly when it is well-formed S-PMSI and one of the installs, refused or not, names it; it counts each once
 pub record PremiseRule : Type 0 where
   pub named : (afi : ℕ) (calls : List Call) (nlri : List ℕ) → Among nlri (namedBy afi calls) ↔ (SPmsi afi nlri × ((attribute : List ℕ) × Among (install nlri attribute) calls))
-  pub counted : (names : List (List ℕ)) (nlri : List ℕ) → Among nlri (distinct names) ↔ Among nlri names
-  pub once : (names : List (List ℕ)) → Once (distinct names)
+  pub counted : (names : List (List ℕ)) (nlri : List ℕ) → Among nlri (onceEach names) ↔ Among nlri names
+  pub once : (names : List (List ℕ)) → Once (onceEach names)
 
 -- the books after calls: each has one attribute for an NLRI, a table of so many places can hold the routes of all, and these are the routes
 -- in some router's book

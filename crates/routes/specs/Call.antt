@@ -6,7 +6,7 @@ use lib.ListN.{length}
 use Rattle.octets.specs.Choice.{pick}
 use Rattle.octets.specs.Outcome.{Outcome, given, refused, onOutcome, andThen, numberOf}
 use Rattle.octets.specs.Order.{same}
-use Rattle.nlri.specs.Family.{originatorSize}
+use Rattle.nlri.specs.Family.{isOriginatorSize}
 use Rattle.routes.specs.declared.Installed.{Installed}
 use Rattle.routes.specs.declared.Matched.{Matched}
 use Rattle.routes.specs.Route.{Route}
@@ -38,7 +38,7 @@ originatorOf afi nlri = onOutcome (λ number. nobody) (λ f. owner (f .originato
 unfoldable pub ownerOf : ℕ → Call → Owner
 ownerOf afi (install nlri attribute) = originatorOf afi nlri
 ownerOf afi (withdraw nlri) = originatorOf afi nlri
-ownerOf afi (match router source group output) = pick (originatorSize (length router)) (owner router) nobody
+ownerOf afi (match router source group output) = pick (isOriginatorSize (length router)) (owner router) nobody
 
 -- routers are the same when size and octets are
 unfoldable pub ownedBy : (router : List ℕ) → Owner → Bool

@@ -11,12 +11,12 @@ use Rattle.octets.specs.Outcome.{given, refused}
 use Rattle.nlri.specs.Fields.{Fields}
 use Rattle.nlri.specs.Reading.{readNlri}
 use Rattle.tunnel.specs.Attribute.{labelOf, readAttribute}
-use Rattle.tunnel.specs.Attribute.{Fields as AttributeFields}
+use Rattle.tunnel.specs.Attribute.{AttributeFields}
 use Rattle.routes.specs.Route.{route, absent, held, lookup, inserted, removed}
 use Rattle.routes.specs.Arguments.{readSPmsi, readRoute}
 use Rattle.routes.specs.Table.{afiIn, placesIn, routesOf, soundOf}
 use Rattle.routes.specs.Calls.{NEW, REPLACED, makeOf, installOf, withdrawOf}
-use Rattle.routes.specs.Images.{Family, TableOf}
+use Rattle.routes.specs.Images.{KnownFamily, TableOf}
 
 -- a well-formed S-PMSI NLRI: NLRI reading accepts it with no octets after it, and it is of type 3
 pub record SPmsi (afi : ℕ) (nlri : List ℕ) : Type 0 where
@@ -57,12 +57,12 @@ pub record TableSize (size : ℕ) : Type 0 where
 -- why making a table is refused: FAMILY, TABLE
 pub data MakeRefusal (afi : ℕ) (memory : List ℕ) : ℕ → Type 0 where
   noFamily : afi ≢ 1 → afi ≢ 2 → MakeRefusal afi memory FAMILY
-  badSize : Family afi → (TableSize (length memory) → ⊥) → MakeRefusal afi memory TABLE
+  badSize : KnownFamily afi → (TableSize (length memory) → ⊥) → MakeRefusal afi memory TABLE
 
 -- making a table: each refusal exactly when, and what it leaves
 pub record MakeRule : Type 0 where
   pub refuses : (afi : ℕ) (memory : List ℕ) (n : ℕ) → n ≢ DONE → (makeOf afi memory .answer ≡ n) ↔ MakeRefusal afi memory n
-  pub done : (afi : ℕ) (memory : List ℕ) → (makeOf afi memory .answer ≡ DONE) ↔ (Family afi × TableSize (length memory))
+  pub done : (afi : ℕ) (memory : List ℕ) → (makeOf afi memory .answer ≡ DONE) ↔ (KnownFamily afi × TableSize (length memory))
   -- a table just made is sound and holds no route; a refusal leaves the memory as it was
   pub made : (afi : ℕ) (memory : List ℕ) → makeOf afi memory .answer ≡ DONE → TableOf afi (placesIn memory) [] (makeOf afi memory .octets)
   pub size : (afi : ℕ) (memory : List ℕ) → length (makeOf afi memory .octets) ≡ length memory

@@ -24,16 +24,16 @@ pub data Example : Type 0 where
   installing : (table nlri attribute : List ℕ) → Changed Installed → Example
 
 -- what a case says
-abbrev pub Holds : Example → Type 0
-Holds (grouped afi g class) = classOf afi g ≡ class
-Holds (reading afi s fields) = readNlri afi s ≡ fields
-Holds (matching t router source group output answer) = matchOf t router source group output ≡ answer
-Holds (installing t nlri attribute answer) = installOf t nlri attribute ≡ answer
+abbrev pub ExampleHolds : Example → Type 0
+ExampleHolds (grouped afi g class) = classOf afi g ≡ class
+ExampleHolds (reading afi s fields) = readNlri afi s ≡ fields
+ExampleHolds (matching t router source group output answer) = matchOf t router source group output ≡ answer
+ExampleHolds (installing t nlri attribute answer) = installOf t nlri attribute ≡ answer
 
 -- every one of these cases
 abbrev pub AllHold : List Example → Type 0
 AllHold [] = Unit {0}
-AllHold (e ∷ es) = Holds e × AllHold es
+AllHold (e ∷ es) = ExampleHolds e × AllHold es
 
 -- 100:7
 abbrev pub someRd : List ℕ
@@ -52,8 +52,8 @@ abbrev pub everyFlow : Fields
 everyFlow = record { type = 3; distinguisher = someRd; sourceAs = 0; source = []; group = []; originator = someRouter; key = [] }
 
 -- an S-PMSI NLRI of the router: its Length, and a source and a group, each behind its length octet
-abbrev pub sPmsi : (size : ℕ) (source group : List ℕ) → List ℕ
-sPmsi size source group = 3 ∷ size ∷ someRd ++ (source ++ (group ++ someRouter))
+abbrev pub someSPmsi : (size : ℕ) (source group : List ℕ) → List ℕ
+someSPmsi size source group = 3 ∷ size ∷ someRd ++ (source ++ (group ++ someRouter))
 
 -- an attribute with flags 0
 abbrev pub tunnelBy : (type : ℕ) (label identifier : List ℕ) → List ℕ
@@ -69,23 +69,23 @@ someBier = 0 ∷ 0 ∷ 1 ∷ someRouter
 
 -- A (192.0.2.1, 232.1.1.1) by RSVP-TE P2MP
 abbrev pub routeA : Route
-routeA = route (sPmsi 22 (32 ∷ someSource) (32 ∷ 232 ∷ 1 ∷ 1 ∷ 1 ∷ [])) (tunnelBy 1 someLabel (0 ∷ 0 ∷ 0 ∷ 1 ∷ 0 ∷ 0 ∷ 0 ∷ 1 ∷ someRouter))
+routeA = route (someSPmsi 22 (32 ∷ someSource) (32 ∷ 232 ∷ 1 ∷ 1 ∷ 1 ∷ [])) (tunnelBy 1 someLabel (0 ∷ 0 ∷ 0 ∷ 1 ∷ 0 ∷ 0 ∷ 0 ∷ 1 ∷ someRouter))
 
 -- B (192.0.2.1, *) by PIM-SSM
 abbrev pub routeB : Route
-routeB = route (sPmsi 18 (32 ∷ someSource) (0 ∷ [])) (tunnelBy 3 someLabel (someRouter ++ (232 ∷ 0 ∷ 0 ∷ 1 ∷ [])))
+routeB = route (someSPmsi 18 (32 ∷ someSource) (0 ∷ [])) (tunnelBy 3 someLabel (someRouter ++ (232 ∷ 0 ∷ 0 ∷ 1 ∷ [])))
 
 -- C (*, 239.1.1.1) by mLDP P2MP
 abbrev pub routeC : Route
-routeC = route (sPmsi 18 (0 ∷ []) (32 ∷ 239 ∷ 1 ∷ 1 ∷ 1 ∷ [])) (tunnelBy 2 someLabel (6 ∷ 0 ∷ 1 ∷ 4 ∷ someRouter ++ (0 ∷ 7 ∷ 1 ∷ 0 ∷ 4 ∷ 0 ∷ 0 ∷ 0 ∷ 1 ∷ [])))
+routeC = route (someSPmsi 18 (0 ∷ []) (32 ∷ 239 ∷ 1 ∷ 1 ∷ 1 ∷ [])) (tunnelBy 2 someLabel (6 ∷ 0 ∷ 1 ∷ 4 ∷ someRouter ++ (0 ∷ 7 ∷ 1 ∷ 0 ∷ 4 ∷ 0 ∷ 0 ∷ 0 ∷ 1 ∷ [])))
 
 -- D (*, *) by ingress replication
 abbrev pub routeD : Route
-routeD = route (sPmsi 14 (0 ∷ []) (0 ∷ [])) (tunnelBy 6 someLabel someRouter)
+routeD = route (someSPmsi 14 (0 ∷ []) (0 ∷ [])) (tunnelBy 6 someLabel someRouter)
 
 -- E (*, 232.9.9.9) by BIER
 abbrev pub routeE : Route
-routeE = route (sPmsi 18 (0 ∷ []) (32 ∷ 232 ∷ 9 ∷ 9 ∷ 9 ∷ [])) (tunnelBy 11 someLabel someBier)
+routeE = route (someSPmsi 18 (0 ∷ []) (32 ∷ 232 ∷ 9 ∷ 9 ∷ 9 ∷ [])) (tunnelBy 11 someLabel someBier)
 
 -- a table just made, of AFI 1 and 5 places
 unfoldable pub emptyTable : List ℕ

@@ -7,19 +7,19 @@ use mathlib.Core.Logic.{_↔_, _⊎_}
 use lib.ListN.{length}
 use Rattle.octets.specs.Numbers.{DONE}
 use Rattle.octets.specs.Octets.{AllOctets}
-use Rattle.routes.specs.Lists.{Among}
+use Rattle.octets.specs.Lists.{Among}
 use Rattle.routes.specs.Route.{Route, Increasing}
 use Rattle.routes.specs.Place.{AllAcceptable}
 use Rattle.routes.specs.Table.{imageOf, afiIn, placesIn, routesOf, soundOf}
 use Rattle.routes.specs.Calls.{makeOf}
 
 -- AFI 1 or 2
-abbrev pub Family : ℕ → Type 0
-Family afi = (afi ≡ 1) ⊎ (afi ≡ 2)
+abbrev pub KnownFamily : ℕ → Type 0
+KnownFamily afi = (afi ≡ 1) ⊎ (afi ≡ 2)
 
 -- routes that a table of a family and so many places can hold, in the order in which it holds them
 pub record Holdable (afi places : ℕ) (rs : List Route) : Type 0 where
-  pub family : Family afi
+  pub family : KnownFamily afi
   pub most : places ≤ 500
   pub within : length rs ≤ places
   pub acceptable : AllAcceptable afi rs

@@ -9,7 +9,7 @@ use lib.Dec.{eqb}
 use Rattle.octets.specs.Numbers.{DONE}
 use Rattle.octets.specs.Choice.{pick, both}
 use Rattle.octets.specs.Order.{same}
-use Rattle.routes.specs.Lists.{Among}
+use Rattle.octets.specs.Lists.{Among}
 use Rattle.routes.specs.Route.{route, Held, absent, held, lookup}
 use Rattle.routes.specs.Table.{imageOf, afiIn, placesIn, routesOf, soundOf}
 use Rattle.routes.specs.Calls.{makeOf}

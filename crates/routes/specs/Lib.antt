@@ -1,6 +1,5 @@
 -- Route tables, in document 01's order: arguments, the table memory, which route a flow takes, the calls on octets, and each
 -- router's book.
-pub mod Lists
 pub mod Route
 pub mod Arguments
 pub mod Place

@@ -12,7 +12,7 @@ use Rattle.octets.specs.Order.{before}
 use Rattle.nlri.specs.Fields.{Fields}
 use Rattle.nlri.specs.Statements.{Multicast, SourceSpecific}
 use Rattle.routes.specs.declared.Matched.{Matched}
-use Rattle.routes.specs.Lists.{Among}
+use Rattle.octets.specs.Lists.{Among}
 use Rattle.routes.specs.Route.{Route, nlriOf, attributeOf, Distinct}
 use Rattle.routes.specs.Arguments.{Query, readSPmsi, readFlow}
 use Rattle.routes.specs.Table.{afiIn, routesOf, soundOf}

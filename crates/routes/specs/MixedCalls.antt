@@ -8,9 +8,9 @@ use Rattle.octets.specs.Order.{zeros}
 use Rattle.routes.specs.Table.{placesIn}
 use Rattle.routes.specs.Calls.{makeOf}
 use Rattle.routes.specs.Call.{Call, install, nobody, ownerOf, refusalOf, refusalAnswer}
-use Rattle.routes.specs.Book.{ownCalls, nobodysCalls, bookOf, distinct, routersOf}
+use Rattle.routes.specs.Book.{ownCalls, nobodysCalls, bookOf, onceEach, routersOf}
 use Rattle.routes.specs.Run.{stepOf, runFrom, answersIn, ownAnswers, endOf, imageOfBooks, dueFrom, Fits}
-use Rattle.routes.specs.Lists.{Rearranged}
+use Rattle.octets.specs.Lists.{Rearranged}
 use Rattle.routes.specs.BookRules.{OwnerRule, PremiseRule, BookRule}
 
 -- a router's own calls get the answers that they get in a run of their own on the same table, as if no other router had called
@@ -60,7 +60,7 @@ pub record Claim (afi places : ℕ) (table : List ℕ) (calls : List Call) : Typ
   pub nobodys : (earlier later : List Call) (call : Call) → calls ≡ earlier ++ (call ∷ later) → ownerOf afi call ≡ nobody → OfNobody afi table earlier call
   pub anyOrder : (others : List Call) → Reordered afi calls others → Alike afi places table calls others
   -- one router after another is such an order, whichever router comes first
-  pub turn : (routers : List (List ℕ)) → Rearranged (distinct (routersOf afi calls)) routers → Reordered afi calls (inTurn afi routers calls)
+  pub turn : (routers : List (List ℕ)) → Rearranged (onceEach (routersOf afi calls)) routers → Reordered afi calls (inTurn afi routers calls)
 
 -- demand 3: every list of calls on a table just made, of either family and any number of places, whose installs together name no more
 -- different well-formed S-PMSI NLRIs than there are places

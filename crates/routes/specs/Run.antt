@@ -3,13 +3,13 @@ use Prim.Native.Nat.{ℕ, _≤_}
 use mathlib.Core.List.{List, [], _∷_, _++_}
 use lib.ListN.{length}
 use Rattle.octets.specs.Outcome.{onOutcome}
-use Rattle.routes.specs.Lists.{chosen}
+use Rattle.octets.specs.Lists.{chosen}
 use Rattle.routes.specs.Route.{arranged}
 use Rattle.routes.specs.Arguments.{readSPmsi}
 use Rattle.routes.specs.Table.{imageOf}
 use Rattle.routes.specs.Calls.{installOf, withdrawOf, matchOf}
 use Rattle.routes.specs.Call.{Call, install, withdraw, match, Answer, installed, withdrawn, matched, owns}
-use Rattle.routes.specs.Book.{distinct, allBooks, dueAnswer}
+use Rattle.routes.specs.Book.{onceEach, allBooks, dueAnswer}
 
 -- a call, its answer, and the table octets after it
 pub record Step : Type 0 where
@@ -77,4 +77,4 @@ namedBy afi (c ∷ cs) = namedIn afi c ++ namedBy afi cs
 
 -- all installs together name no more different well-formed S-PMSI NLRIs than there are places
 abbrev pub Fits : (afi places : ℕ) → List Call → Type 0
-Fits afi places calls = length (distinct (namedBy afi calls)) ≤ places
+Fits afi places calls = length (onceEach (namedBy afi calls)) ≤ places

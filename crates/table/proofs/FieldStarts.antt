@@ -12,13 +12,13 @@ use Rattle.octets.specs.Outcome.{given}
 use Rattle.octets.specs.Octets.{part}
 use Rattle.octets.proofs.Tests.{goes}
 use Rattle.octets.proofs.Outcomes.{pick-true}
-use Rattle.octets.proofs.Inversions.{never, unless, only, passed, given-same}
+use Rattle.octets.proofs.Inversions.{never, given-otherwise, given-unless, passed, given-same}
 use Rattle.octets.proofs.Refusals.{outcome}
 use Rattle.nlri.specs.declared.layout.Layout.{Layout}
 use Rattle.nlri.specs.Fields.{Fields}
 use Rattle.nlri.specs.Reading.{addressEnd, addressField, keyField, laidAt, laidSingle}
 use Rattle.nlri.specs.Layouts.{layoutOf, layoutAt, layoutSingle}
-use Rattle.nlri.specs.Inner.{layoutWith, originatorLast, groupSize as bothSizes, flowSizes, flowEnd, flowRoute, bodyWith, header, anyBody, anyFront, withSourceAs, sourceStart, distinguisherAt, sourceAsAt, fieldsAt}
+use Rattle.nlri.specs.Inner.{layoutWith, originatorLast, withGroup, flowSizes, flowEnd, flowRoute, bodyWith, headerAt, anyBody, anyFront, withSourceAs, sourceStart, distinguisherAt, sourceAsAt, fieldsAt}
 use Rattle.nlri.proofs.FieldRecords.{fields-same}
 use Rattle.nlri.proofs.Lengths.{lengths}
 use Rattle.nlri.proofs.Fronts.{laid-within, front-is}
@@ -29,11 +29,11 @@ use Rattle.table.specs.Scanning.{sourceSize, groupSize, originatorStart,
 -- an address by its length octet
 address-is : (family type : ℕ) (s : List ℕ) (n : ℕ) → addressField family type s ≡ given n → n ≡ 1 + getD s 0 0 / 8
 unfolding addressField addressEnd
-address-is family type s n e = sym (given-same (unless _ _ _ _ (only _ _ _ _ (unless _ _ _ _ e .1) .1) .1))
+address-is family type s n e = sym (given-same (given-otherwise _ _ _ _ (given-unless _ _ _ _ (given-otherwise _ _ _ _ e .1) .1) .1))
 
 -- a source and a group, one straight after the other, by their length octets
 flow-is : (family type : ℕ) (s : List ℕ) (a b : ℕ) → flowSizes family type s ≡ given (a, b) → (a ≡ 1 + getD s 0 0 / 8) × (b ≡ 1 + getD s a 0 / 8)
-unfolding flowSizes bothSizes
+unfolding flowSizes withGroup
 flow-is family type s a b e =
     let p = passed _ _ _ e in
     let q = passed _ _ _ (p .second) in
@@ -49,7 +49,7 @@ flow-is family type s a b e =
 end-is : (size a b rest : ℕ) (l : Layout) → flowEnd 3 size a b rest ≡ given l → (4 ≤ rest) × (layoutWith 3 size (a - 1) (b - 1) rest 0 ≡ l)
 unfolding flowEnd originatorLast layoutWith
 end-is size a b rest l e =
-    let p = only _ _ _ _ (sym (pick-true _ _ _ refl) ∙ e) in
+    let p = given-unless _ _ _ _ (sym (pick-true _ _ _ refl) ∙ e) in
     (⊎-elim (λ four. omega arith) (λ sixteen. omega arith) (lengths .originators rest .0 (p .0)), given-same (p .1))
 
 -- what the body of an S-PMSI NLRI came to: the sizes of source and group with their length octets, and what remains
@@ -64,7 +64,7 @@ record FlowLaid (body : List ℕ) (l : Layout) : Type 0 where
 body-laid : (family : ℕ) (body : List ℕ) (l : Layout) → flowRoute family 3 8 body ≡ given l → FlowLaid body l
 unfolding flowRoute
 body-laid family body l e =
-    let p = unless _ _ _ _ e in
+    let p = given-otherwise _ _ _ _ e in
     let q = passed _ _ _ (p .1) in
     let a : ℕ = q .value .0 in
     let b : ℕ = q .value .1 in
@@ -94,7 +94,7 @@ front-whole afi s l e =
     let family : ℕ = f .value in
     let w = passed _ _ _ (f .second) in
     let a = passed _ _ _ (w .first) in
-    let o = only _ _ _ _ (a .second) in
+    let o = given-unless _ _ _ _ (a .second) in
     let same : a .value ≡ w .value = given-same (o .1) in
     let at : layoutOf (a .value) ≡ l = ap layoutOf same ∙ given-same (w .second) in
     let facts = laid-within (keyField family) family s (a .value) (a .first) in
@@ -116,10 +116,10 @@ rest-part s = take-all (length s - 2) (drop 2 s) (rw length-drop (omega arith))
 
 -- the body of an S-PMSI NLRI is all that stands behind its header
 body-of : (s : List ℕ) (l : Layout) → l .«route_type» ≡ 3 → WholeFront s l → FlowLaid (drop 2 s) l
-unfolding anyFront header
+unfolding anyFront headerAt
 body-of s l t w =
     let p = passed _ _ _ (w .front) in
-    let h = given-same (unless _ _ _ _ (unless _ _ _ _ (p .first) .1) .1) in
+    let h = given-same (given-otherwise _ _ _ _ (given-otherwise _ _ _ _ (p .first) .1) .1) in
     let type : p .value .0 ≡ 3 = ap (λ (x : ℕ × ℕ). x .0) (sym h) ∙ sym (w .typed) ∙ t in
     let size : p .value .1 ≡ length s - 2 = ap (λ (x : ℕ × ℕ). x .1) (sym h) ∙ sym (w .all) in
     let rest : part s 2 (p .value .1) ≡ drop 2 s = ap (part s 2) size ∙ rest-part s in
@@ -192,7 +192,7 @@ module _ (afi : ℕ) (s : List ℕ) (f : Fields) (e : readSPmsi afi s ≡ given 
   unfolding readSPmsi fieldsAt
   read-by =
       let p = passed _ _ _ e in
-      let q = only _ _ _ _ (p .second) in
+      let q = given-unless _ _ _ _ (p .second) in
       let same : p .value ≡ f = given-same (q .1) in
       ⊎-elim
       (λ g.

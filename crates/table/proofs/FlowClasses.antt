@@ -10,17 +10,17 @@ use lib.ListN.{length}
 use Rattle.octets.specs.Numbers.{FLOW}
 use Rattle.octets.specs.Choice.{pick}
 use Rattle.octets.specs.Outcome.{Outcome, given, refused, onOutcome, andThen, numberOf}
-use Rattle.octets.proofs.Inversions.{only}
+use Rattle.octets.proofs.Inversions.{given-unless}
 use Rattle.octets.proofs.Outcomes.{and-pick, and-refused, pick-true, pick-false}
 use Rattle.octets.proofs.Picked.{tested}
 use Rattle.octets.proofs.Refusals.{outcome}
 use Rattle.octets.proofs.Tests.{goes, stops}
 use Rattle.nlri.specs.declared.group.Group.{Group}
-use Rattle.nlri.specs.Family.{originatorSize}
+use Rattle.nlri.specs.Family.{isOriginatorSize}
 use Rattle.nlri.specs.Groups.{classUnder, groupOf}
 use Rattle.nlri.proofs.Lengths.{family-octets, family-good}
 use Rattle.routes.specs.Arguments.{Query, readFlow}
-use Rattle.routes.specs.Images.{Family}
+use Rattle.routes.specs.Images.{KnownFamily}
 use Rattle.routes.proofs.Flows.{class-under, flow-asked, flow-refused}
 use Rattle.table.specs.Scanning.{queryOf, flowClass}
 
@@ -49,14 +49,14 @@ module _ (family : ℕ) (whole : 8 * (family / 8) ≡ family) (source group : Li
       pick-true _ _ _ s ∙ sym (stops _ _ next (unsized family group (λ g. other (omega arith)))) ∙ sym (pick-false _ _ _ unlike))
       (λ s. pick-false _ _ _ s ∙ sym (pick-false _ _ _ unlike)))
 
-module _ (afi : ℕ) (router source group : List ℕ) (good : Family afi) where
+module _ (afi : ℕ) (router source group : List ℕ) (good : KnownFamily afi) where
   by-class : readFlow afi router source group ≡ andThen (flowClass afi router source group) (λ class. given (queryOf router source group class))
   unfolding readFlow flowClass queryOf
   by-class =
       let family = family-good afi good in
       let next : ℕ → Outcome Query = λ class. given (record { router = router; source = source; group = group; class = class }) in
       sym (goes _ _ _ _ (family .1) (sym
-      (ap (λ (o : Outcome Query). pick (originatorSize (length router)) o (refused FLOW)) (sized-alike (family .0) (family-octets afi (family .0) (family .1) .0) source group next)
+      (ap (λ (o : Outcome Query). pick (isOriginatorSize (length router)) o (refused FLOW)) (sized-alike (family .0) (family-octets afi (family .0) (family .1) .0) source group next)
       ∙ sym (rw (and-pick, and-pick, and-refused, ← class-under afi (family .0) group (family .1))))))
 
   -- what the function that judges a flow answers: the class, with DONE, or the number of the refusal
@@ -94,7 +94,7 @@ module _ (afi : ℕ) (router source group : List ℕ) (good : Family afi) where
     pub flow-some : class .number ≡ 0 → (0 < length source) × (0 < length group) × (4 ≤ length router)
     unfolding flowClass
     flow-some h =
-        let alike : length source ≡ length group = eqb-true _ _ (only _ _ _ _ (only _ _ _ _ (given-class h) .1) .0) in
+        let alike : length source ≡ length group = eqb-true _ _ (given-unless _ _ _ _ (given-unless _ _ _ _ (given-class h) .1) .0) in
         let flow = flow-asked afi router source group _ (flow-taken h) .good in
         let some : 0 < length source = ⊎-elim (λ a. omega (arith, a .1)) (λ a. omega (arith, a .1)) (flow .sourced) in
         (some, omega arith, ⊎-elim (λ four. omega arith) (λ sixteen. omega arith) (flow .addressed))

@@ -16,7 +16,7 @@ use Rattle.routes.specs.Arguments.{Query, readFlow, readMatch}
 use Rattle.routes.specs.Table.{afiIn, routesOf, soundOf}
 use Rattle.routes.specs.Matching.{Found, matchIn}
 use Rattle.routes.specs.Calls.{Changed, refusedMatch, foundAnswer, foundOutput, matchedBy, matchOutcome, matchOf}
-use Rattle.routes.specs.Images.{Family}
+use Rattle.routes.specs.Images.{KnownFamily}
 use Rattle.routes.proofs.Headers.{sound-family}
 use Rattle.routes.proofs.Images.{sound}
 use Rattle.table.specs.Scanning.{queryOf, flowClass}
@@ -70,7 +70,7 @@ module _ (t router source group output : List ℕ) (answer : Matched) where
 
 -- the branches of a match of a sound table, by what judging its flow answered
 module _ (t router source group : List ℕ) (is : soundOf t ≡ true) (afi : ℕ) (class : Group) (family : afi ≡ afiIn t) (judges : class ≡ groupOf (flowClass afi router source group)) where
-  good : Family (afiIn t)
+  good : KnownFamily (afiIn t)
   good = sound-family t (sound t is .header)
 
   judges-its : class ≡ groupOf (flowClass (afiIn t) router source group)

@@ -10,10 +10,10 @@ use Rattle.octets.specs.Outcome.{Outcome, given, onOutcome}
 use Rattle.octets.specs.Octets.{AllOctets, part, placed, front, numberIn}
 use Rattle.octets.specs.Outputs.{writtenOf, outputOf}
 use Rattle.octets.specs.declared.Written.{Written}
-use Rattle.octets.proofs.Inversions.{unless}
+use Rattle.octets.proofs.Inversions.{given-otherwise}
 use Rattle.octets.proofs.Lists.{Put, put-length, lent-placed, placed-then, front-is-placed}
-use Rattle.tunnel.specs.Attribute.{Fields, fieldsIn, readAttribute, writeAttribute}
-use Rattle.tunnel.specs.Answers.{fieldsOf}
+use Rattle.tunnel.specs.Attribute.{AttributeFields, fieldsIn, readAttribute, writeAttribute}
+use Rattle.tunnel.specs.Answers.{argumentFields}
 use Rattle.tunnel.proofs.Theorems.{roundTripHolds}
 use Rattle.routes.specs.Route.{Route, nlriOf, attributeOf}
 use Rattle.routes.specs.Place.{routeIn}
@@ -22,14 +22,14 @@ use Rattle.routes.specs.declared.Matched.{Matched}
 use Rattle.routes.specs.Calls.{foundAnswer, foundOutput}
 use Rattle.table.specs.Scanning.{RouteFits}
 
-pub attribute-least : (s : List ℕ) (f : Fields) → readAttribute s ≡ given f → 5 ≤ length s
+pub attribute-least : (s : List ℕ) (f : AttributeFields) → readAttribute s ≡ given f → 5 ≤ length s
 unfolding readAttribute
-attribute-least s f e = let p = unless _ _ _ _ (unless _ _ _ _ e .1) in omega (arith, ltb-false)
+attribute-least s f e = let p = given-otherwise _ _ _ _ (given-otherwise _ _ _ _ e .1) in omega (arith, ltb-false)
 
 -- writing what stands in an attribute gives the attribute again
 written-again : (s : List ℕ) (label : ℕ) (identifier : List ℕ) (capacity : ℕ) → AllOctets s → readAttribute s ≡ given (fieldsIn s)
     → label ≡ numberIn (part s 2 3) 0 → identifier ≡ drop 5 s → length s ≤ capacity
-    → writeAttribute (fieldsOf (getD s 0 0) (getD s 1 0) label identifier) capacity ≡ given s
+    → writeAttribute (argumentFields (getD s 0 0) (getD s 1 0) label identifier) capacity ≡ given s
 unfolding fieldsIn
 written-again s label identifier capacity octets read l i room = rw (l, i) (roundTripHolds .readWritten s (fieldsIn s) capacity octets read room)
 
@@ -43,13 +43,13 @@ given-output o s d e = rw e
 
 module _ (s d lent : List ℕ) (at label : ℕ) (identifier : List ℕ) (octets : AllOctets s) (read : readAttribute s ≡ given (fieldsIn s))
     (room : at + length s ≤ length d) (labelled : label ≡ numberIn (part s 2 3) 0) (identified : identifier ≡ drop 5 s) (lends : lent ≡ take (length d - at) (drop at d)) where
-  again : writeAttribute (fieldsOf (getD s 0 0) (getD s 1 0) label identifier) (length lent) ≡ given s
+  again : writeAttribute (argumentFields (getD s 0 0) (getD s 1 0) label identifier) (length lent) ≡ given s
   again = written-again s label identifier (length lent) octets read labelled identified (rw lends (simp (length-take, length-drop) (omega arith)))
 
-  pub attribute-size : (written : Written) → written ≡ writtenOf (writeAttribute (fieldsOf (getD s 0 0) (getD s 1 0) label identifier) (length lent)) → written .size ≡ length s
+  pub attribute-size : (written : Written) → written ≡ writtenOf (writeAttribute (argumentFields (getD s 0 0) (getD s 1 0) label identifier) (length lent)) → written .size ≡ length s
   attribute-size written e = ap (λ (w : Written). w .size) e ∙ given-size _ s again
 
-  pub attribute-placed : (y : List ℕ) → y ≡ outputOf (writeAttribute (fieldsOf (getD s 0 0) (getD s 1 0) label identifier) (length lent)) lent
+  pub attribute-placed : (y : List ℕ) → y ≡ outputOf (writeAttribute (argumentFields (getD s 0 0) (getD s 1 0) label identifier) (length lent)) lent
       → take at d ++ (y ++ drop (length d - at) (drop at d)) ≡ placed at s d
   attribute-placed y e =
       lent-placed at s d y room (e ∙ given-output _ s lent again ∙ ap (λ (x : List ℕ). s ++ drop (length s) x) lends ∙ ap (λ (x : List ℕ). x ++ drop (length s) (take (length d - at) (drop at d))) (sym (take-length s)))

@@ -8,9 +8,9 @@ use lib.ListN.{length, drop}
 use lib.Seq.{drop-drop}
 use Rattle.octets.specs.Outcome.{given}
 use Rattle.octets.specs.Octets.{part}
-use Rattle.octets.proofs.Inversions.{both-true-left, both-true-right, unless, passed, given-same}
+use Rattle.octets.proofs.Inversions.{both-true-left, both-true-right, given-otherwise, passed, given-same}
 use Rattle.octets.proofs.Lists.{part-length}
-use Rattle.tunnel.specs.Attribute.{Fields, fieldsIn, readAttribute}
+use Rattle.tunnel.specs.Attribute.{AttributeFields, fieldsIn, readAttribute}
 use Rattle.routes.specs.Route.{nlriOf, attributeOf}
 use Rattle.routes.specs.Arguments.{readLabelled}
 use Rattle.routes.specs.Place.{endIn, routeIn, placeSound}
@@ -27,11 +27,11 @@ pub record Taken (afi : ℕ) (t : List ℕ) (at : ℕ) : Type 0 where
   pub sound : placeSound afi (part t at 128) ≡ true
 
 -- an attribute that reads gives the fields that stand in it
-fields-in : (s : List ℕ) (f : Fields) → readAttribute s ≡ given f → readAttribute s ≡ given (fieldsIn s)
+fields-in : (s : List ℕ) (f : AttributeFields) → readAttribute s ≡ given f → readAttribute s ≡ given (fieldsIn s)
 unfolding readAttribute
-fields-in s f e = e ∙ ap given (sym (given-same (passed _ _ _ (unless _ _ _ _ (unless _ _ _ _ e .1) .1) .second)))
+fields-in s f e = e ∙ ap given (sym (given-same (passed _ _ _ (given-otherwise _ _ _ _ (given-otherwise _ _ _ _ e .1) .1) .second)))
 
-labelled-read : (s : List ℕ) (f : Fields) → readLabelled s ≡ given f → readAttribute s ≡ given (fieldsIn s)
+labelled-read : (s : List ℕ) (f : AttributeFields) → readLabelled s ≡ given f → readAttribute s ≡ given (fieldsIn s)
 unfolding readLabelled
 labelled-read s f e = let p = passed _ _ _ e in fields-in s (p .value) (p .first)
 

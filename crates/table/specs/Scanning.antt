@@ -11,7 +11,7 @@ use Rattle.octets.specs.Outcome.{Outcome, given, refused}
 use Rattle.octets.specs.Octets.{part}
 use Rattle.octets.specs.Order.{same, before}
 use Rattle.nlri.specs.Fields.{Fields}
-use Rattle.nlri.specs.Family.{originatorSize}
+use Rattle.nlri.specs.Family.{isOriginatorSize}
 use Rattle.nlri.specs.Groups.{ASM, SSM, classOf}
 use Rattle.tunnel.specs.Attribute.{fieldsIn, readAttribute}
 use Rattle.routes.specs.Route.{nlriOf, attributeOf}
@@ -116,7 +116,7 @@ Answerable t best output = (best .tier ≡ 0 → ⊥) → (best .start + PLACE �
 -- the class of a flow's group under a good AFI; FLOW for a flow that a match does not take
 unfoldable pub flowClass : (afi : ℕ) (router source group : List ℕ) → Outcome ℕ
 flowClass afi router source group =
-    pick (originatorSize (length router)) (pick (eqb (length source) (length group)) (classOf afi group) (refused FLOW)) (refused FLOW)
+    pick (isOriginatorSize (length router)) (pick (eqb (length source) (length group)) (classOf afi group) (refused FLOW)) (refused FLOW)
 
 -- a flow that a match takes, asked of a router
 unfoldable pub queryOf : (router source group : List ℕ) (class : ℕ) → Query

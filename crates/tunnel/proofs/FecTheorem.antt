@@ -16,7 +16,7 @@ use Rattle.octets.proofs.Picked.{was-given}
 use Rattle.octets.proofs.Outcomes.{pick-true}
 use Rattle.octets.proofs.AllOctets.{octet-at, octets-take, octets-drop}
 use Rattle.octets.proofs.NetworkOrder.{big-endian-length, number-of-big-endian, part-number, part-fits}
-use Rattle.tunnel.specs.Fec.{FecFields, encodeFec, Suits, ipv4, ipv6, WellFormedFec, familySuits, endsAt, wholeFec, fecIn, readFec}
+use Rattle.tunnel.specs.Fec.{FecFields, encodeFec, Suits, ipv4, ipv6, WellFormedFec, familySuits, opaqueFills, wholeFec, fecIn, readFec}
 use Rattle.tunnel.specs.Statements.{FecStatement}
 use Rattle.tunnel.proofs.Laws.{family-suits, fec-tested, root-length}
 
@@ -80,8 +80,8 @@ module _ (f : FecFields) (w : WellFormedFec f) where
       rw (drop-append-seam (f .root) (bigEndian 2 (length (f .opaqueValue)) ++ f .opaqueValue), take-at (bigEndian 2 (length (f .opaqueValue))) (f .opaqueValue) 2 (big-endian-length 2 (length (f .opaqueValue))))
       (number-of-big-endian 2 (length (f .opaqueValue)) (w .opaqueFits))
 
-  rest-ends : endsAt (restOf f) (length (f .root)) ≡ true
-  unfolding endsAt pick
+  rest-ends : opaqueFills (restOf f) (length (f .root)) ≡ true
+  unfolding opaqueFills pick
   rest-ends = rw (le-ltb (length (restOf f)) (length (f .root) + 2) (omega (arith, rest-length)), rest-number) (eq-eqb (length (f .root) + 2 + length (f .opaqueValue)) (length (restOf f)) (sym rest-length))
 
   family-number : numberIn (part (encodeFec f) 1 2) 0 ≡ f .addressFamily

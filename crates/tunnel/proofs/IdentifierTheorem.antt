@@ -7,6 +7,7 @@ use native.Mathlib.Omega.{arith}
 use lib.Dec.{eqb}
 use lib.ListN.{length, getD}
 use borrow.Author.Tests.{eqb-true, eqb-false, eq-eqb, ne-eqb}
+use Rattle.octets.specs.Lists.{Among, first, later}
 use Rattle.octets.specs.Choice.{pick, either}
 use Rattle.octets.specs.Numbers.{TUNNEL, IDENT}
 use Rattle.octets.specs.Outcome.{Outcome, given, refused, andThen}
@@ -17,7 +18,7 @@ use Rattle.octets.proofs.Outcomes.{pick-true, pick-false}
 use Rattle.octets.proofs.Inversions.{opposite, both-true-left, both-true-right}
 use Rattle.octets.proofs.Refusals.{either-second}
 use Rattle.tunnel.specs.Fec.{encodeFec, wholeFec, fecIn}
-use Rattle.tunnel.specs.Identifier.{IdentifierForm, sizes, fecTypes, TableRow, table, formIn, formOf, Among, here, there, IsIdentifier, ofSize, ofFec, OfType, oneOf, fits, judged}
+use Rattle.tunnel.specs.Identifier.{IdentifierForm, sizes, fecTypes, TableRow, identifierForms, formIn, formOf, IsIdentifier, ofSize, ofFec, OfType, oneOf, isIdentifier, readIdentifier}
 use Rattle.tunnel.specs.Statements.{Unknown}
 use Rattle.tunnel.proofs.FecTheorem.{fec-whole, encoded-whole, encoding-type}
 
@@ -27,46 +28,46 @@ unfolding oneOf either
 one-of n [] h = absurd (opposite h refl)
 one-of n (m ∷ ms) h =
     tested (eqb n m)
-    (λ p. subst (λ (k : ℕ). Among n (k ∷ ms)) (eqb-true n m p) here)
-    (λ p. there (one-of n ms (rw p at h)))
+    (λ p. first (eqb-true n m p))
+    (λ p. later (one-of n ms (rw p at h)))
 
 one-of-computed : {n : ℕ} {ns : List ℕ} → Among n ns → oneOf n ns ≡ true
 unfolding oneOf
-one-of-computed {n} (here {ns}) = either-left (eqb n n) (oneOf n ns) (eq-eqb n n refl)
-one-of-computed {n} (there {m} {ns} o) = either-second (eqb n m) (oneOf n ns) (one-of-computed o)
+one-of-computed {n} (first {y = m} {ys = ns} e) = either-left (eqb n m) (oneOf n ns) (eq-eqb n m e)
+one-of-computed {n} (later {y = m} {ys = ns} o) = either-second (eqb n m) (oneOf n ns) (one-of-computed o)
 
 -- the number of a refusal is one of a list's
 pub refused-among : {A : Type 0} {ns : List ℕ} (m n : ℕ) → _≡_ {A = Outcome A} (refused m) (refused n) → Among m ns → Among n ns
 refused-among {A} {ns} m n e o = let q : m ≡ n = cc in subst (λ (k : ℕ). Among k ns) q o
 
 -- an identifier of a form, computed
-identifier-of : (form : IdentifierForm) (i : List ℕ) → AllOctets i → fits form i ≡ true → IsIdentifier form i
-unfolding fits fecIn
+identifier-of : (form : IdentifierForm) (i : List ℕ) → AllOctets i → isIdentifier form i ≡ true → IsIdentifier form i
+unfolding isIdentifier fecIn
 identifier-of (sizes ns) i a h = ofSize (one-of (length i) ns h)
 identifier-of (fecTypes ns) i a h =
     let q = fec-whole i a (both-true-left (wholeFec i) (oneOf (getD i 0 0) ns) h) in
     subst (λ (l : List ℕ). IsIdentifier (fecTypes ns) l) (sym (q .1)) (ofFec (q .0) (one-of (getD i 0 0) ns (both-true-right (wholeFec i) (oneOf (getD i 0 0) ns) h)))
 
-identifier-computed : {form : IdentifierForm} {i : List ℕ} → IsIdentifier form i → fits form i ≡ true
-unfolding fits
+identifier-computed : {form : IdentifierForm} {i : List ℕ} → IsIdentifier form i → isIdentifier form i ≡ true
+unfolding isIdentifier
 identifier-computed (ofSize o) = one-of-computed o
 identifier-computed (ofFec {ns} {f} w o) =
     both-true (wholeFec (encodeFec f)) (oneOf (getD (encodeFec f) 0 0) ns) (encoded-whole f w) (rw (encoding-type f w) (one-of-computed o))
 
 -- what judging comes to
-pub judged-known : (t : ℕ) (i : List ℕ) (form : IdentifierForm) → formOf t ≡ given form → judged t i ≡ pick (fits form i) (given i) (refused IDENT)
-unfolding judged andThen
+pub judged-known : (t : ℕ) (i : List ℕ) (form : IdentifierForm) → formOf t ≡ given form → readIdentifier t i ≡ pick (isIdentifier form i) (given i) (refused IDENT)
+unfolding readIdentifier andThen
 judged-known t i form e = rw e
 
-pub judged-unknown : (t : ℕ) (i : List ℕ) → formOf t ≡ refused TUNNEL → judged t i ≡ refused TUNNEL
-unfolding judged andThen
+pub judged-unknown : (t : ℕ) (i : List ℕ) → formOf t ≡ refused TUNNEL → readIdentifier t i ≡ refused TUNNEL
+unfolding readIdentifier andThen
 judged-unknown t i e = rw e
 
 -- the three cases of judging, each with its answer
 pub data JudgedCase (t : ℕ) (i : List ℕ) : Outcome (List ℕ) → Type 0 where
   noRow : formOf t ≡ refused TUNNEL → JudgedCase t i (refused TUNNEL)
-  noFit : (form : IdentifierForm) → formOf t ≡ given form → fits form i ≡ false → JudgedCase t i (refused IDENT)
-  fit : (form : IdentifierForm) → formOf t ≡ given form → fits form i ≡ true → JudgedCase t i (given i)
+  noFit : (form : IdentifierForm) → formOf t ≡ given form → isIdentifier form i ≡ false → JudgedCase t i (refused IDENT)
+  fit : (form : IdentifierForm) → formOf t ≡ given form → isIdentifier form i ≡ true → JudgedCase t i (given i)
 
 -- a lookup gives a form or TUNNEL
 data LookedUp : Outcome IdentifierForm → Type 0 where
@@ -83,28 +84,28 @@ unfolding formIn
 looked [] t = missing
 looked (r ∷ rs) t = pick-looked (eqb t (r .tunnelType)) (r .form) (formIn rs t) (looked rs t)
 
-judged-looked : (t : ℕ) (i : List ℕ) (o : Outcome IdentifierForm) → formOf t ≡ o → LookedUp o → JudgedCase t i (judged t i)
+judged-looked : (t : ℕ) (i : List ℕ) (o : Outcome IdentifierForm) → formOf t ≡ o → LookedUp o → JudgedCase t i (readIdentifier t i)
 judged-looked t i o e (found form) =
-    tested (fits form i)
-    (λ p. subst (JudgedCase t i) (sym (judged-known t i form e ∙ pick-true (fits form i) (given i) (refused IDENT) p)) (fit form e p))
-    (λ p. subst (JudgedCase t i) (sym (judged-known t i form e ∙ pick-false (fits form i) (given i) (refused IDENT) p)) (noFit form e p))
+    tested (isIdentifier form i)
+    (λ p. subst (JudgedCase t i) (sym (judged-known t i form e ∙ pick-true (isIdentifier form i) (given i) (refused IDENT) p)) (fit form e p))
+    (λ p. subst (JudgedCase t i) (sym (judged-known t i form e ∙ pick-false (isIdentifier form i) (given i) (refused IDENT) p)) (noFit form e p))
 judged-looked t i o e missing = subst (JudgedCase t i) (sym (judged-unknown t i e)) (noRow e)
 
-pub judged-is : (t : ℕ) (i : List ℕ) → JudgedCase t i (judged t i)
+pub judged-is : (t : ℕ) (i : List ℕ) → JudgedCase t i (readIdentifier t i)
 unfolding formOf
-judged-is t i = judged-looked t i (formOf t) refl (looked table t)
+judged-is t i = judged-looked t i (formOf t) refl (looked identifierForms t)
 
 -- identifiers of a type
-pub of-type : (t : ℕ) (i : List ℕ) (form : IdentifierForm) → AllOctets i → formOf t ≡ given form → fits form i ≡ true → OfType t i
+pub of-type : (t : ℕ) (i : List ℕ) (form : IdentifierForm) → AllOctets i → formOf t ≡ given form → isIdentifier form i ≡ true → OfType t i
 of-type t i form a e h = record { form = form; inTable = e; ofForm = identifier-of form i a h }
 
-pub of-type-judged : {t : ℕ} {i : List ℕ} → OfType t i → judged t i ≡ given i
-of-type-judged {t} {i} o = judged-known t i (o .form) (o .inTable) ∙ pick-true (fits (o .form) i) (given i) (refused IDENT) (identifier-computed (o .ofForm))
+pub of-type-judged : {t : ℕ} {i : List ℕ} → OfType t i → readIdentifier t i ≡ given i
+of-type-judged {t} {i} o = judged-known t i (o .form) (o .inTable) ∙ pick-true (isIdentifier (o .form) i) (given i) (refused IDENT) (identifier-computed (o .ofForm))
 
-pub not-of-type : {t : ℕ} {i : List ℕ} (form : IdentifierForm) → formOf t ≡ given form → fits form i ≡ false → OfType t i → ⊥
+pub not-of-type : {t : ℕ} {i : List ℕ} (form : IdentifierForm) → formOf t ≡ given form → isIdentifier form i ≡ false → OfType t i → ⊥
 not-of-type {t} {i} form e h o =
     let s : o .form ≡ form = cc (o .inTable) in
-    let p : fits form i ≡ true = rw s at (identifier-computed (o .ofForm)) in
+    let p : isIdentifier form i ≡ true = rw s at (identifier-computed (o .ofForm)) in
     opposite p h
 
 -- a type without a row
@@ -131,9 +132,9 @@ over-seven : (t : ℕ) → 3 < t → (t ≡ 4 → ⊥) → (t ≡ 5 → ⊥) →
 over-seven t h a b c d = omega arith
 
 pub unknown-row : (t : ℕ) → formOf t ≡ refused TUNNEL → Unknown t
-unfolding formOf table HasNone
+unfolding formOf identifierForms HasNone
 unknown-row t h =
-    let a = absent table t TUNNEL h in
+    let a = absent identifierForms t TUNNEL h in
     let b = a .1 .1 .1 .1 in
     record {
       over = over-seven t (over-three t (a .0) (a .1 .0) (a .1 .1 .0) (a .1 .1 .1 .0)) (b .0) (b .1 .0) (b .1 .1 .0) (b .1 .1 .1 .0);
@@ -146,5 +147,5 @@ absent-refused [] t a = refl
 absent-refused (r ∷ rs) t a = pick-false (eqb t (r .tunnelType)) (given (r .form)) (formIn rs t) (ne-eqb t (r .tunnelType) (a .0)) ∙ absent-refused rs t (a .1)
 
 pub row-unknown : (t : ℕ) → Unknown t → formOf t ≡ refused TUNNEL
-unfolding formOf table HasNone
-row-unknown t u = absent-refused table t (omega arith)
+unfolding formOf identifierForms HasNone
+row-unknown t u = absent-refused identifierForms t (omega arith)

@@ -21,10 +21,10 @@ use Rattle.octets.proofs.NetworkOrder.{big-endian-length, number-part}
 use Rattle.octets.specs.declared.Written.{Written}
 use Rattle.tunnel.specs.declared.fec.Fec.{Fec}
 use Rattle.tunnel.specs.declared.Attribute.{Attribute}
-use Rattle.tunnel.specs.Fec.{familySuits, endsAt, wholeFec, fecIn}
-use Rattle.tunnel.specs.Identifier.{IdentifierForm, sizes, fecTypes, TableRow, table, formIn, formOf, fits, oneOf, judged}
-use Rattle.tunnel.specs.Attribute.{Fields, labelOf, leafInformationRequired, fieldsIn, encodeAttribute, readAttribute, writeAttribute}
-use Rattle.tunnel.specs.Answers.{fecSpans, noFec, fecOfForm, fecOf, attributeOf, readAnswer}
+use Rattle.tunnel.specs.Fec.{familySuits, opaqueFills, wholeFec, fecIn}
+use Rattle.tunnel.specs.Identifier.{IdentifierForm, sizes, fecTypes, TableRow, identifierForms, formIn, formOf, isIdentifier, oneOf, readIdentifier}
+use Rattle.tunnel.specs.Attribute.{AttributeFields, labelOf, leafInformationRequired, fieldsIn, encodeAttribute, readAttribute, writeAttribute}
+use Rattle.tunnel.specs.Answers.{fecSpans, noFec, fecOfForm, fecOf, attributeStruct, readStruct}
 use Rattle.octets.specs.Outputs.{writtenOf, outputOf}
 use Rattle.tunnel.specs.Inner.{unknown, mldp, typeSuits, formFault, faultIn, faultOf, TakesSizes, readFault, writeFault, endsFrom}
 use Rattle.tunnel.proofs.ByNumber.{byNumber, when-done, when-not-done, number-is, number-picked, number-then, number-kept}
@@ -45,8 +45,8 @@ same-equal a b c d f g =
     (λ p. p ∙ sym (eq-eqb c d (f (eqb-true a b p))))
     (λ p. p ∙ sym (ne-eqb c d (λ e. eqb-false a b p (g e))))
 
-ends-after-header : (i : List ℕ) (size start : ℕ) → 4 ≤ length i → start ≡ size + 6 → endsFrom i start ≡ endsAt (drop 4 i) size
-unfolding endsFrom endsAt part
+ends-after-header : (i : List ℕ) (size start : ℕ) → 4 ≤ length i → start ≡ size + 6 → endsFrom i start ≡ opaqueFills (drop 4 i) size
+unfolding endsFrom opaqueFills part
 ends-after-header i size start h e =
     let rest = drop 4 i in
     let l : length rest ≡ length i - 4 = length-drop 4 i in
@@ -67,7 +67,7 @@ family-suits family size e =
 
 -- no FEC has fewer octets than one with an IPv4 root and no opaque value
 pub whole-short : (i : List ℕ) → length i < 10 → false ≡ wholeFec i
-unfolding wholeFec endsAt pick
+unfolding wholeFec opaqueFills pick
 whole-short i h =
     let suits = familySuits (numberIn (part i 1 2) 0) (getD i 3 0) in
     tested (ltb (length i) 4)
@@ -77,7 +77,7 @@ whole-short i h =
     room : {family : ℕ} (size : ℕ) → ((family ≡ 1) × (size ≡ 4)) ⊎ ((family ≡ 2) × (size ≡ 16)) → 4 ≤ size
     room size s = ⊎-elim (λ x. omega (arith, x .1)) (λ x. omega (arith, x .1)) s
 
-    no-room : 4 ≤ length i → 4 ≤ getD i 3 0 → endsAt (drop 4 i) (getD i 3 0) ≡ false
+    no-room : 4 ≤ length i → 4 ≤ getD i 3 0 → opaqueFills (drop 4 i) (getD i 3 0) ≡ false
     no-room f g = let l : length (drop 4 i) ≡ length i - 4 = length-drop 4 i in rw (lt-ltb (length (drop 4 i)) (getD i 3 0 + 2) (omega arith))
 
 -- address family and address length as one number
@@ -112,12 +112,12 @@ pub record FecTests (i : List ℕ) : Type 0 where
   pub end : getD i 3 0 + 2 + numberIn (part (drop 4 i) (getD i 3 0) 2) 0 ≡ length (drop 4 i)
 
 pub fec-tested : (i : List ℕ) → wholeFec i ≡ true → FecTests i
-unfolding wholeFec endsAt
+unfolding wholeFec opaqueFills
 fec-tested i h =
     let size = getD i 3 0 in
     let rest = drop 4 i in
-    let a = pick-passed (ltb (length i) 4) (pick (familySuits (numberIn (part i 1 2) 0) size) (endsAt rest size) false) h in
-    let b = pick-held (familySuits (numberIn (part i 1 2) 0) size) (endsAt rest size) (a .1) in
+    let a = pick-passed (ltb (length i) 4) (pick (familySuits (numberIn (part i 1 2) 0) size) (opaqueFills rest size) false) h in
+    let b = pick-held (familySuits (numberIn (part i 1 2) 0) size) (opaqueFills rest size) (a .1) in
     let d = pick-passed (ltb (length rest) (size + 2)) (eqb (size + 2 + numberIn (part rest size 2) 0) (length rest)) (b .1) in
     record {
       header = ltb-false (length i) 4 (a .0);
@@ -138,7 +138,7 @@ opaque-length i = simp length-drop (omega (arith, length-drop 4 i))
 
 -- the number of an identifier's first fault is what judging it comes to
 judgedBy : IdentifierForm → List ℕ → Outcome (List ℕ)
-judgedBy form i = pick (fits form i) (given i) (refused IDENT)
+judgedBy form i = pick (isIdentifier form i) (given i) (refused IDENT)
 
 fits-step : (b : Bool) (i : List ℕ) → pick b (given i) (refused IDENT) ≡ byNumber (pick b DONE IDENT) i
 unfolding byNumber pick
@@ -148,7 +148,7 @@ fits-step false i = refl
 row-step : (b : Bool) (form : IdentifierForm) (rest : Outcome IdentifierForm) (n : ℕ) (i : List ℕ) → andThen rest (λ f. judgedBy f i) ≡ byNumber n i
     → andThen (pick b (given form) rest) (λ f. judgedBy f i) ≡ byNumber (pick b (formFault form i) n) i
 unfolding judgedBy formFault andThen pick
-row-step true form rest n i h = fits-step (fits form i) i
+row-step true form rest n i h = fits-step (isIdentifier form i) i
 row-step false form rest n i h = h
 
 rows-judged : (rows : List TableRow) (t : ℕ) (i : List ℕ) → andThen (formIn rows t) (λ f. judgedBy f i) ≡ byNumber (faultIn rows t i) i
@@ -156,29 +156,29 @@ unfolding formIn faultIn andThen byNumber pick
 rows-judged [] t i = refl
 rows-judged (r ∷ rs) t i = row-step (eqb t (r .tunnelType)) (r .form) (formIn rs t) (faultIn rs t i) i (rows-judged rs t i)
 
-judged-by-number : (t : ℕ) (i : List ℕ) → judged t i ≡ byNumber (faultOf t i) i
-unfolding judged judgedBy formOf faultOf
-judged-by-number t i = rows-judged table t i
+judged-by-number : (t : ℕ) (i : List ℕ) → readIdentifier t i ≡ byNumber (faultOf t i) i
+unfolding readIdentifier judgedBy formOf faultOf
+judged-by-number t i = rows-judged identifierForms t i
 
 -- the rows of the mLDP tunnel types
 p2mp-row : (t : ℕ) → t ≡ 2 → formOf t ≡ given (fecTypes (6 ∷ []))
-unfolding formOf formIn table pick
+unfolding formOf formIn identifierForms pick
 p2mp-row t e = rw e
 
 mp2mp-row : (t : ℕ) → t ≡ 7 → formOf t ≡ given (fecTypes (7 ∷ 8 ∷ []))
-unfolding formOf formIn table pick
+unfolding formOf formIn identifierForms pick
 mp2mp-row t e = rw e
 
 -- where a row's form is a FEC, an identifier without a fault is one
 fec-without-fault : (t : ℕ) (i ns : List ℕ) → formOf t ≡ given (fecTypes ns) → faultOf t i ≡ 0 → wholeFec i ≡ true
-unfolding judged andThen fits
+unfolding readIdentifier andThen isIdentifier
 fec-without-fault t i ns e h =
-    let j : pick (fits (fecTypes ns) i) (given i) (refused IDENT) ≡ given i = rw e at (judged-by-number t i ∙ when-done (faultOf t i) i h) in
-    both-true-left (wholeFec i) (oneOf (getD i 0 0) ns) (was-given (fits (fecTypes ns) i) i i IDENT j .0)
+    let j : pick (isIdentifier (fecTypes ns) i) (given i) (refused IDENT) ≡ given i = rw e at (judged-by-number t i ∙ when-done (faultOf t i) i h) in
+    both-true-left (wholeFec i) (oneOf (getD i 0 0) ns) (was-given (isIdentifier (fecTypes ns) i) i i IDENT j .0)
 
 -- a tunnel type that the table lacks
 pub unknown-fault : (t : ℕ) (i : List ℕ) → unknown t ≡ true → TUNNEL ≡ faultOf t i
-unfolding unknown faultOf faultIn table pick
+unfolding unknown faultOf faultIn identifierForms pick
 unknown-fault t i h =
     let p = pick-passed (eqb t 11) (ltb 7 t) h in
     let over : 7 < t = ltb-true 7 t (p .1) in
@@ -192,27 +192,27 @@ twice true = refl
 twice false = refl
 
 one-size : (n : ℕ) (i : List ℕ) → formFault (sizes (n ∷ [])) i ≡ formFault (sizes (n ∷ n ∷ [])) i
-unfolding formFault fits oneOf
+unfolding formFault isIdentifier oneOf
 one-size n i = twice (eqb (length i) n)
 
 pub none-row : (t : ℕ) → t ≡ 0 → TakesSizes t 0 0
-unfolding faultOf faultIn table pick
+unfolding faultOf faultIn identifierForms pick
 none-row t e i = rw e (one-size 0 i)
 
 pub session-row : (t : ℕ) → t ≡ 1 → TakesSizes t 12 12
-unfolding faultOf faultIn table pick
+unfolding faultOf faultIn identifierForms pick
 session-row t e i = rw e (one-size 12 i)
 
 pub replication-row : (t : ℕ) → t ≡ 6 → TakesSizes t 4 16
-unfolding faultOf faultIn table pick
+unfolding faultOf faultIn identifierForms pick
 replication-row t e i = rw e
 
 pub bier-row : (t : ℕ) → t ≡ 11 → TakesSizes t 7 19
-unfolding faultOf faultIn table pick
+unfolding faultOf faultIn identifierForms pick
 bier-row t e i = rw e
 
 pim-sizes : (t : ℕ) → (t ≡ 3) ⊎ ((t ≡ 4) ⊎ (t ≡ 5)) → TakesSizes t 8 32
-unfolding faultOf faultIn table pick
+unfolding faultOf faultIn identifierForms pick
 pim-sizes t (inl e) i = rw e
 pim-sizes t (inr (inl e)) i = rw e
 pim-sizes t (inr (inr e)) i = rw e
@@ -250,11 +250,11 @@ fecFault : ℕ → List ℕ → ℕ
 fecFault t i = pick (both (wholeFec i) (typeSuits t (getD i 0 0))) DONE IDENT
 
 p2mp-fault : (t : ℕ) (i : List ℕ) → t ≡ 2 → fecFault t i ≡ faultOf t i
-unfolding fecFault typeSuits faultOf faultIn table formFault fits oneOf pick
+unfolding fecFault typeSuits faultOf faultIn identifierForms formFault isIdentifier oneOf pick
 p2mp-fault t i e = rw (e, or-none (eqb (getD i 0 0) 6))
 
 mp2mp-fault : (t : ℕ) (i : List ℕ) → t ≡ 7 → fecFault t i ≡ faultOf t i
-unfolding fecFault typeSuits faultOf faultIn table formFault fits oneOf pick
+unfolding fecFault typeSuits faultOf faultIn identifierForms formFault isIdentifier oneOf pick
 mp2mp-fault t i e = rw (e, or-none (eqb (getD i 0 0) 8))
 
 pub mldp-fault : (t : ℕ) (i : List ℕ) (r : ℕ) → mldp t ≡ true → r ≡ pick (both (wholeFec i) (typeSuits t (getD i 0 0))) DONE IDENT → r ≡ faultOf t i
@@ -299,7 +299,7 @@ unfolding fecFrom onOutcome
 no-row i n = refl
 
 other-fec : (s : List ℕ) → (getD s 1 0 ≡ 2 → ⊥) → (getD s 1 0 ≡ 7 → ⊥) → noFec ≡ fecOf (fieldsIn s)
-unfolding fecOf formOf formIn table fieldsIn fecFrom
+unfolding fecOf formOf formIn identifierForms fieldsIn fecFrom
 other-fec s a b = search (sized-row, fec-row, no-row, ne-eqb) depth 14
 
 -- the same by the code's test
@@ -335,8 +335,8 @@ pub fields-are : (s : List ℕ) (label : ℕ) (fec : Fec) → 5 ≤ length s →
       identifier = record { start = 5; size = length s - 5 };
       fec = fec;
     })
-    (attributeOf (fieldsIn s))
-unfolding attributeOf fieldsIn labelOf leafInformationRequired
+    (attributeStruct (fieldsIn s))
+unfolding attributeStruct fieldsIn labelOf leafInformationRequired
 fields-are s label shape h p q = rw (p, q, length-drop 5 s)
 
 -- reading, by the tests that the code makes
@@ -349,7 +349,7 @@ unfolding readAttribute pick
 read-short s h = rw (le-ltb 64 (length s) (omega arith), lt-ltb (length s) 5 h)
 
 -- past LONG and SHORT the identifier decides
-pub read-judged : (s : List ℕ) → length s ≤ 64 → 5 ≤ length s → readAttribute s ≡ andThen (judged (getD s 1 0) (drop 5 s)) (λ _. given (fieldsIn s))
+pub read-judged : (s : List ℕ) → length s ≤ 64 → 5 ≤ length s → readAttribute s ≡ andThen (readIdentifier (getD s 1 0) (drop 5 s)) (λ _. given (fieldsIn s))
 unfolding readAttribute pick
 read-judged s a b = rw (le-ltb 64 (length s) a, le-ltb (length s) 5 b)
 
@@ -399,32 +399,32 @@ module _ (s : List ℕ) (n : ℕ) (e : n ≡ numberOf (readAttribute s)) where
   read-done z = read-by-number s ∙ when-done (readFault s) (fieldsIn s) (fault-is ∙ z)
 
   -- what reading then answers
-  pub answer-refused : (n ≡ DONE → ⊥) → refused n ≡ readAnswer s
-  unfolding readAnswer andThen
+  pub answer-refused : (n ≡ DONE → ⊥) → refused n ≡ readStruct s
+  unfolding readStruct andThen
   answer-refused d = rw (read-by-number s, fault-is, when-not-done n (fieldsIn s) d)
 
-  pub answer-given : n ≡ DONE → (a : Attribute) → a ≡ attributeOf (fieldsIn s) → given a ≡ readAnswer s
-  unfolding readAnswer andThen
+  pub answer-given : n ≡ DONE → (a : Attribute) → a ≡ attributeStruct (fieldsIn s) → given a ≡ readStruct s
+  unfolding readStruct andThen
   answer-given z a q = rw (read-done z, q)
 
 -- writing, by the tests that the code makes
-pub attribute-length : (f : Fields) → length (encodeAttribute f) ≡ 5 + length (f .identifier)
+pub attribute-length : (f : AttributeFields) → length (encodeAttribute f) ≡ 5 + length (f .identifier)
 unfolding encodeAttribute
 attribute-length f = simp (length-append, big-endian-length) (omega arith)
 
 -- past LONG, TUNNEL and IDENT
-unfoldable pub fieldsWritten : Fields → ℕ → Outcome (List ℕ)
+unfoldable pub fieldsWritten : AttributeFields → ℕ → Outcome (List ℕ)
 fieldsWritten f space = pick (ltb 16777215 (f .labelField)) (refused LABEL) (pick (ltb space (length (encodeAttribute f))) (refused SPACE) (given (encodeAttribute f)))
 
 abbrev writtenAs : ℕ → ℕ → Written
 writtenAs n s = record { number = n; size = s }
 
-module _ (f : Fields) (space : ℕ) where
+module _ (f : AttributeFields) (space : ℕ) where
   pub write-long : 59 < length (f .identifier) → writeAttribute f space ≡ refused LONG
   unfolding writeAttribute pick
   write-long h = rw (lt-ltb 59 (length (f .identifier)) h)
 
-  pub write-judged : length (f .identifier) ≤ 59 → writeAttribute f space ≡ andThen (judged (f .tunnelType) (f .identifier)) (λ _. fieldsWritten f space)
+  pub write-judged : length (f .identifier) ≤ 59 → writeAttribute f space ≡ andThen (readIdentifier (f .tunnelType) (f .identifier)) (λ _. fieldsWritten f space)
   unfolding writeAttribute fieldsWritten pick
   write-judged h = rw (le-ltb 59 (length (f .identifier)) h)
 
@@ -470,7 +470,7 @@ pub refusal-wrote : (o : Outcome (List ℕ)) (n : ℕ) (d : List ℕ) → o ≡ 
 unfolding writtenOf outputOf onOutcome numberOf
 refusal-wrote o n d e = (rw e, rw e)
 
-pub encoding-wrote : (o : Outcome (List ℕ)) (f : Fields) (w : Written) (d x : List ℕ) → o ≡ given (encodeAttribute f)
+pub encoding-wrote : (o : Outcome (List ℕ)) (f : AttributeFields) (w : Written) (d x : List ℕ) → o ≡ given (encodeAttribute f)
     → (w .number ≡ 0) × ((w .size ≡ 5 + length (f .identifier)) × (x ≡ front (encodeAttribute f) d)) → (w ≡ writtenOf o) × (x ≡ outputOf o d)
 unfolding writtenOf outputOf onOutcome numberOf
 encoding-wrote o f w d x e p = (rw e (ap₂ writtenAs (p .0) (p .1 .0 ∙ sym (attribute-length f))), rw e (p .1 .1))

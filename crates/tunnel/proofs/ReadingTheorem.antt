@@ -7,6 +7,7 @@ use native.Mathlib.Omega.{arith}
 use lib.Dec.{ltb}
 use lib.ListN.{length, getD, drop, length-drop}
 use borrow.Author.Tests.{ltb-true, ltb-false}
+use Rattle.octets.specs.Lists.{Among, first, later}
 use Rattle.octets.specs.Numbers.{SHORT, TUNNEL, IDENT, LONG}
 use Rattle.octets.specs.Outcome.{Outcome, given, refused, andThen, numberOf}
 use Rattle.octets.specs.Octets.{AllOctets, part, numberIn, bigEndian}
@@ -14,19 +15,19 @@ use Rattle.octets.proofs.Picked.{tested}
 use Rattle.octets.proofs.Inversions.{never}
 use Rattle.octets.proofs.AllOctets.{octet-at, octets-drop}
 use Rattle.octets.proofs.NetworkOrder.{number-of-big-endian, part-number, part-fits}
-use Rattle.tunnel.specs.Identifier.{IdentifierForm, formOf, Among, here, there, OfType, fits, judged}
-use Rattle.tunnel.specs.Attribute.{Fields, WellFormedAttribute, encodeAttribute, fieldsIn, readAttribute}
+use Rattle.tunnel.specs.Identifier.{IdentifierForm, formOf, OfType, isIdentifier, readIdentifier}
+use Rattle.tunnel.specs.Attribute.{AttributeFields, WellFormedAttribute, encodeAttribute, fieldsIn, readAttribute}
 use Rattle.tunnel.specs.Statements.{Unknown, Known, ReadableSize, ReadingStatement}
 use Rattle.tunnel.proofs.Laws.{attribute-length, read-long, read-short, read-judged}
 use Rattle.tunnel.proofs.IdentifierTheorem.{JudgedCase, noRow, noFit, fit, judged-is, of-type, of-type-judged, not-of-type, refused-among, unknown-row, row-unknown}
 
 -- the cases of reading, each with its answer
-pub data ReadCase (s : List ℕ) : Outcome Fields → Type 0 where
+pub data ReadCase (s : List ℕ) : Outcome AttributeFields → Type 0 where
   tooLong : 64 < length s → ReadCase s (refused LONG)
   tooShort : length s < 5 → ReadCase s (refused SHORT)
   unknownType : ReadableSize s → formOf (getD s 1 0) ≡ refused TUNNEL → ReadCase s (refused TUNNEL)
-  badIdentifier : ReadableSize s → (form : IdentifierForm) → formOf (getD s 1 0) ≡ given form → fits form (drop 5 s) ≡ false → ReadCase s (refused IDENT)
-  fine : ReadableSize s → (form : IdentifierForm) → formOf (getD s 1 0) ≡ given form → fits form (drop 5 s) ≡ true → ReadCase s (given (fieldsIn s))
+  badIdentifier : ReadableSize s → (form : IdentifierForm) → formOf (getD s 1 0) ≡ given form → isIdentifier form (drop 5 s) ≡ false → ReadCase s (refused IDENT)
+  fine : ReadableSize s → (form : IdentifierForm) → formOf (getD s 1 0) ≡ given form → isIdentifier form (drop 5 s) ≡ true → ReadCase s (given (fieldsIn s))
 
 sized-case : (s : List ℕ) → ReadableSize s → {o : Outcome (List ℕ)} → JudgedCase (getD s 1 0) (drop 5 s) o → ReadCase s (andThen o (λ _. given (fieldsIn s)))
 unfolding andThen
@@ -67,7 +68,7 @@ fields-well-formed s a z o = (
 )
 
 -- an encoding is read as the fields that it encodes
-module _ (f : Fields) (w : WellFormedAttribute f) where
+module _ (f : AttributeFields) (w : WellFormedAttribute f) where
   encoding-sized : ReadableSize (encodeAttribute f)
   encoding-sized = record { least = omega (arith, attribute-length f); most = omega (arith, attribute-length f, w .identifierSize) }
 
@@ -96,17 +97,17 @@ module _ (f : Fields) (w : WellFormedAttribute f) where
   encoding-read = read-judged (encodeAttribute f) (encoding-sized .most) (encoding-sized .least) ∙ rw (encoding-type, encoding-identifier, of-type-judged (w .ofType)) (ap given encoding-fields)
 
 -- what an answer tells
-accepted-case : (s : List ℕ) (f : Fields) → AllOctets s → {o : Outcome Fields} → ReadCase s o → o ≡ given f → WellFormedAttribute f × (s ≡ encodeAttribute f)
+accepted-case : (s : List ℕ) (f : AttributeFields) → AllOctets s → {o : Outcome AttributeFields} → ReadCase s o → o ≡ given f → WellFormedAttribute f × (s ≡ encodeAttribute f)
 accepted-case s f a (tooLong h) e = absurd (never e refl)
 accepted-case s f a (tooShort h) e = absurd (never e refl)
 accepted-case s f a (unknownType z u) e = absurd (never e refl)
 accepted-case s f a (badIdentifier z form t p) e = absurd (never e refl)
 accepted-case s f a (fine z form t p) e =
     let q : fieldsIn s ≡ f = cc in
-    subst (λ (g : Fields). WellFormedAttribute g × (s ≡ encodeAttribute g)) q (fields-well-formed s a z (of-type (getD s 1 0) (drop 5 s) form (octets-drop 5 a) t p))
+    subst (λ (g : AttributeFields). WellFormedAttribute g × (s ≡ encodeAttribute g)) q (fields-well-formed s a z (of-type (getD s 1 0) (drop 5 s) form (octets-drop 5 a) t p))
 
 module _ (s : List ℕ) where
-  long-case : {o : Outcome Fields} → ReadCase s o → numberOf o ≡ LONG → 64 < length s
+  long-case : {o : Outcome AttributeFields} → ReadCase s o → numberOf o ≡ LONG → 64 < length s
   unfolding numberOf
   long-case (tooLong h) e = h
   long-case (tooShort h) e = absurd (omega arith)
@@ -114,7 +115,7 @@ module _ (s : List ℕ) where
   long-case (badIdentifier z form t p) e = absurd (omega arith)
   long-case (fine z form t p) e = absurd (omega arith)
 
-  short-case : {o : Outcome Fields} → ReadCase s o → numberOf o ≡ SHORT → length s < 5
+  short-case : {o : Outcome AttributeFields} → ReadCase s o → numberOf o ≡ SHORT → length s < 5
   unfolding numberOf
   short-case (tooLong h) e = absurd (omega arith)
   short-case (tooShort h) e = h
@@ -122,7 +123,7 @@ module _ (s : List ℕ) where
   short-case (badIdentifier z form t p) e = absurd (omega arith)
   short-case (fine z form t p) e = absurd (omega arith)
 
-  tunnel-case : {o : Outcome Fields} → ReadCase s o → numberOf o ≡ TUNNEL → ReadableSize s × Unknown (getD s 1 0)
+  tunnel-case : {o : Outcome AttributeFields} → ReadCase s o → numberOf o ≡ TUNNEL → ReadableSize s × Unknown (getD s 1 0)
   unfolding numberOf
   tunnel-case (tooLong h) e = absurd (omega arith)
   tunnel-case (tooShort h) e = absurd (omega arith)
@@ -130,7 +131,7 @@ module _ (s : List ℕ) where
   tunnel-case (badIdentifier z form t p) e = absurd (omega arith)
   tunnel-case (fine z form t p) e = absurd (omega arith)
 
-  ident-case : {o : Outcome Fields} → ReadCase s o → numberOf o ≡ IDENT → ReadableSize s × Known (getD s 1 0) × (OfType (getD s 1 0) (drop 5 s) → ⊥)
+  ident-case : {o : Outcome AttributeFields} → ReadCase s o → numberOf o ≡ IDENT → ReadableSize s × Known (getD s 1 0) × (OfType (getD s 1 0) (drop 5 s) → ⊥)
   unfolding numberOf
   ident-case (tooLong h) e = absurd (omega arith)
   ident-case (tooShort h) e = absurd (omega arith)
@@ -138,22 +139,22 @@ module _ (s : List ℕ) where
   ident-case (badIdentifier z form t p) e = (z, record { form = form; inTable = t }, not-of-type form t p)
   ident-case (fine z form t p) e = absurd (omega arith)
 
-  ident-refused : AllOctets s → {o : Outcome Fields} → ReadCase s o → ReadableSize s × Known (getD s 1 0) × (OfType (getD s 1 0) (drop 5 s) → ⊥) → o ≡ refused IDENT
+  ident-refused : AllOctets s → {o : Outcome AttributeFields} → ReadCase s o → ReadableSize s × Known (getD s 1 0) × (OfType (getD s 1 0) (drop 5 s) → ⊥) → o ≡ refused IDENT
   ident-refused a (tooLong h) k = absurd (omega (arith, k .0))
   ident-refused a (tooShort h) k = absurd (omega (arith, k .0))
   ident-refused a (unknownType z u) k = absurd (never (k .1 .inTable) u)
   ident-refused a (badIdentifier z form t p) k = refl
   ident-refused a (fine z form t p) k = absurd (k .2 (of-type (getD s 1 0) (drop 5 s) form (octets-drop 5 a) t p))
 
-  number-case : (n : ℕ) {o : Outcome Fields} → ReadCase s o → o ≡ refused n → Among n (LONG ∷ SHORT ∷ TUNNEL ∷ IDENT ∷ [])
-  number-case n (tooLong h) e = refused-among LONG n e here
-  number-case n (tooShort h) e = refused-among SHORT n e (there here)
-  number-case n (unknownType z u) e = refused-among TUNNEL n e (there (there here))
-  number-case n (badIdentifier z form t p) e = refused-among IDENT n e (there (there (there here)))
+  number-case : (n : ℕ) {o : Outcome AttributeFields} → ReadCase s o → o ≡ refused n → Among n (LONG ∷ SHORT ∷ TUNNEL ∷ IDENT ∷ [])
+  number-case n (tooLong h) e = refused-among LONG n e (first refl)
+  number-case n (tooShort h) e = refused-among SHORT n e (later (first refl))
+  number-case n (unknownType z u) e = refused-among TUNNEL n e (later (later (first refl)))
+  number-case n (badIdentifier z form t p) e = refused-among IDENT n e (later (later (later (first refl))))
   number-case n (fine z form t p) e = absurd (never refl e)
 
 tunnel-refused : (s : List ℕ) → ReadableSize s → formOf (getD s 1 0) ≡ refused TUNNEL → readAttribute s ≡ refused TUNNEL
-unfolding andThen judged
+unfolding andThen readIdentifier
 tunnel-refused s z e = read-judged s (z .most) (z .least) ∙ rw e
 
 pub reading-proved : ReadingStatement

@@ -13,8 +13,8 @@ use Rattle.octets.proofs.Picked.{was-given}
 use Rattle.octets.proofs.Inversions.{never, both-true-left}
 use Rattle.octets.proofs.Outcomes.{pick-true}
 use Rattle.tunnel.specs.Fec.{FecFields, wholeFec, fecIn, readFec}
-use Rattle.tunnel.specs.Identifier.{IdentifierForm, fecTypes, formOf, oneOf, fits}
-use Rattle.tunnel.specs.Attribute.{Fields, fieldsIn}
+use Rattle.tunnel.specs.Identifier.{IdentifierForm, fecTypes, formOf, oneOf, isIdentifier}
+use Rattle.tunnel.specs.Attribute.{AttributeFields, fieldsIn}
 use Rattle.tunnel.specs.Statements.{ReadingStatement, WritingStatement, RoundTripStatement, FecStatement, SpansStatement}
 use Rattle.tunnel.proofs.Laws.{root-length}
 use Rattle.tunnel.proofs.FecTheorem.{fec-read}
@@ -38,30 +38,30 @@ roundTripHolds =
     }
 
 -- what an accepted attribute is known to be
-record AcceptedAs (s : List ℕ) (f : Fields) : Type 0 where
+record AcceptedAs (s : List ℕ) (f : AttributeFields) : Type 0 where
   form : IdentifierForm
   inTable : formOf (getD s 1 0) ≡ given form
-  fitting : fits form (drop 5 s) ≡ true
+  fitting : isIdentifier form (drop 5 s) ≡ true
   fields : fieldsIn s ≡ f
 
-given-case : (s : List ℕ) (f : Fields) {o : Outcome Fields} → ReadCase s o → o ≡ given f → AcceptedAs s f
+given-case : (s : List ℕ) (f : AttributeFields) {o : Outcome AttributeFields} → ReadCase s o → o ≡ given f → AcceptedAs s f
 given-case s f (tooLong h) e = absurd (never e refl)
 given-case s f (tooShort h) e = absurd (never e refl)
 given-case s f (unknownType z u) e = absurd (never e refl)
 given-case s f (badIdentifier z form t p) e = absurd (never e refl)
 given-case s f (fine z form t p) e = record { form = form; inTable = t; fitting = p; fields = cc }
 
-identifier-span : (s : List ℕ) (f : Fields) → AcceptedAs s f → part s 5 (length (f .identifier)) ≡ f .identifier
+identifier-span : (s : List ℕ) (f : AttributeFields) → AcceptedAs s f → part s 5 (length (f .identifier)) ≡ f .identifier
 unfolding part fieldsIn
-identifier-span s f a = subst (λ (g : Fields). part s 5 (length (g .identifier)) ≡ g .identifier) (a .fields) (take-length (drop 5 s))
+identifier-span s f a = subst (λ (g : AttributeFields). part s 5 (length (g .identifier)) ≡ g .identifier) (a .fields) (take-length (drop 5 s))
 
-fec-read-in : (s ns : List ℕ) (f : Fields) → AcceptedAs s f → formOf (f .tunnelType) ≡ given (fecTypes ns) → readFec (f .identifier) ≡ given (fecIn (f .identifier))
-unfolding fieldsIn fits readFec
+fec-read-in : (s ns : List ℕ) (f : AttributeFields) → AcceptedAs s f → formOf (f .tunnelType) ≡ given (fecTypes ns) → readFec (f .identifier) ≡ given (fecIn (f .identifier))
+unfolding fieldsIn isIdentifier readFec
 fec-read-in s ns f a t =
-    let i : drop 5 s ≡ f .identifier = ap (λ (g : Fields). g .identifier) (a .fields) in
-    let k : getD s 1 0 ≡ f .tunnelType = ap (λ (g : Fields). g .tunnelType) (a .fields) in
+    let i : drop 5 s ≡ f .identifier = ap (λ (g : AttributeFields). g .identifier) (a .fields) in
+    let k : getD s 1 0 ≡ f .tunnelType = ap (λ (g : AttributeFields). g .tunnelType) (a .fields) in
     let q : a .form ≡ fecTypes ns = cc (a .inTable, ap formOf k) in
-    let w : fits (fecTypes ns) (f .identifier) ≡ true = rw (q, i) at (a .fitting) in
+    let w : isIdentifier (fecTypes ns) (f .identifier) ≡ true = rw (q, i) at (a .fitting) in
     pick-true (wholeFec (f .identifier)) (given (fecIn (f .identifier))) (refused IDENT) (both-true-left (wholeFec (f .identifier)) (oneOf (getD (f .identifier) 0 0) ns) w)
 
 -- a FEC's parts, counted from the attribute's first octet
@@ -79,11 +79,11 @@ opaque-at s h =
     ap (drop (size + 2)) (drop-drop 4 5 s) ∙ drop-drop (size + 2) 9 s ∙ ap (λ (k : ℕ). drop k s) n in
     rw (root-length (drop 5 s) h, d) (take-length (drop (11 + size) s))
 
-fec-at : (P : FecFields → Type 0) (s : List ℕ) (f : Fields) (e : FecFields) → AcceptedAs s f → readFec (f .identifier) ≡ given e
+fec-at : (P : FecFields → Type 0) (s : List ℕ) (f : AttributeFields) (e : FecFields) → AcceptedAs s f → readFec (f .identifier) ≡ given e
     → (wholeFec (drop 5 s) ≡ true → P (fecIn (drop 5 s))) → P e
 unfolding fieldsIn readFec
 fec-at P s f e a h k =
-    let i : drop 5 s ≡ f .identifier = ap (λ (g : Fields). g .identifier) (a .fields) in
+    let i : drop 5 s ≡ f .identifier = ap (λ (g : AttributeFields). g .identifier) (a .fields) in
     let p = was-given (wholeFec (f .identifier)) (fecIn (f .identifier)) e IDENT h in
     let w : wholeFec (drop 5 s) ≡ true = rw i (p .0) in
     subst P (ap fecIn i ∙ p .1) (k w)

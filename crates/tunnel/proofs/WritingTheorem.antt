@@ -7,31 +7,32 @@ use native.Mathlib.Omega.{arith}
 use lib.Dec.{ltb}
 use lib.ListN.{length}
 use borrow.Author.Tests.{ltb-true, ltb-false, le-ltb, lt-ltb}
+use Rattle.octets.specs.Lists.{Among, first, later}
 use Rattle.octets.specs.Choice.{pick}
 use Rattle.octets.specs.Numbers.{TUNNEL, IDENT, LONG, LABEL, SPACE}
 use Rattle.octets.specs.Outcome.{Outcome, given, refused, andThen, numberOf}
 use Rattle.octets.proofs.Picked.{tested}
 use Rattle.octets.proofs.Inversions.{never}
 use Rattle.octets.proofs.Outcomes.{pick-true, pick-false}
-use Rattle.tunnel.specs.Identifier.{IdentifierForm, formOf, Among, here, there, OfType, fits}
-use Rattle.tunnel.specs.Attribute.{Fields, WellFormedAttribute, encodeAttribute, writeAttribute}
+use Rattle.tunnel.specs.Identifier.{IdentifierForm, formOf, OfType, isIdentifier}
+use Rattle.tunnel.specs.Attribute.{AttributeFields, WellFormedAttribute, encodeAttribute, writeAttribute}
 use Rattle.tunnel.specs.Statements.{Unknown, Known, OctetFields, Writable, WritingStatement}
 use Rattle.tunnel.proofs.Laws.{write-long, write-judged, fieldsWritten}
 use Rattle.tunnel.proofs.IdentifierTheorem.{JudgedCase, noRow, noFit, fit, judged-is, judged-known, judged-unknown, of-type, of-type-judged, not-of-type, refused-among, unknown-row, row-unknown}
 
-module _ (f : Fields) (space : ℕ) where
+module _ (f : AttributeFields) (space : ℕ) where
   -- a tunnel type and an identifier of its form, computed
   record Passed : Type 0 where
     most : length (f .identifier) ≤ 59
     form : IdentifierForm
     inTable : formOf (f .tunnelType) ≡ given form
-    fitting : fits form (f .identifier) ≡ true
+    fitting : isIdentifier form (f .identifier) ≡ true
 
   -- the cases of writing, each with its answer
   data WriteCase : Outcome (List ℕ) → Type 0 where
     tooLong : 59 < length (f .identifier) → WriteCase (refused LONG)
     unknownType : length (f .identifier) ≤ 59 → formOf (f .tunnelType) ≡ refused TUNNEL → WriteCase (refused TUNNEL)
-    badIdentifier : length (f .identifier) ≤ 59 → (form : IdentifierForm) → formOf (f .tunnelType) ≡ given form → fits form (f .identifier) ≡ false → WriteCase (refused IDENT)
+    badIdentifier : length (f .identifier) ≤ 59 → (form : IdentifierForm) → formOf (f .tunnelType) ≡ given form → isIdentifier form (f .identifier) ≡ false → WriteCase (refused IDENT)
     badLabel : Passed → 16777215 < f .labelField → WriteCase (refused LABEL)
     noSpace : Passed → f .labelField ≤ 16777215 → space < length (encodeAttribute f) → WriteCase (refused SPACE)
     fine : Passed → f .labelField ≤ 16777215 → length (encodeAttribute f) ≤ space → WriteCase (given (encodeAttribute f))
@@ -120,11 +121,11 @@ module _ (f : Fields) (space : ℕ) where
         (record { flagsFit = o .flagsFit; labelFits = omega arith; identifierSize = w .most; identifierOctets = o .identifierOctets; ofType = w .ofType }, r, cc)
 
   number-case : (n : ℕ) {o : Outcome (List ℕ)} → WriteCase o → o ≡ refused n → Among n (LONG ∷ TUNNEL ∷ IDENT ∷ LABEL ∷ SPACE ∷ [])
-  number-case n (tooLong h) e = refused-among LONG n e here
-  number-case n (unknownType h u) e = refused-among TUNNEL n e (there here)
-  number-case n (badIdentifier h form t p) e = refused-among IDENT n e (there (there here))
-  number-case n (badLabel k l) e = refused-among LABEL n e (there (there (there here)))
-  number-case n (noSpace k l r) e = refused-among SPACE n e (there (there (there (there here))))
+  number-case n (tooLong h) e = refused-among LONG n e (first refl)
+  number-case n (unknownType h u) e = refused-among TUNNEL n e (later (first refl))
+  number-case n (badIdentifier h form t p) e = refused-among IDENT n e (later (later (first refl)))
+  number-case n (badLabel k l) e = refused-among LABEL n e (later (later (later (first refl))))
+  number-case n (noSpace k l r) e = refused-among SPACE n e (later (later (later (later (first refl)))))
   number-case n (fine k l r) e = absurd (never refl e)
 
   -- and what answers follow
@@ -141,9 +142,9 @@ module _ (f : Fields) (space : ℕ) where
   ident-refused o k =
       let form = k .1 .form in
       let e = k .1 .inTable in
-      tested (fits form (f .identifier))
+      tested (isIdentifier form (f .identifier))
       (λ p. absurd (k .2 (of-type (f .tunnelType) (f .identifier) form (o .identifierOctets) e p)))
-      (λ p. write-judged f space (k .0) ∙ rw (judged-known (f .tunnelType) (f .identifier) form e, pick-false (fits form (f .identifier)) (given (f .identifier)) (refused IDENT) p))
+      (λ p. write-judged f space (k .0) ∙ rw (judged-known (f .tunnelType) (f .identifier) form e, pick-false (isIdentifier form (f .identifier)) (given (f .identifier)) (refused IDENT) p))
 
   label-refused : Writable f → 16777215 < f .labelField → writeAttribute f space ≡ refused LABEL
   unfolding fieldsWritten pick

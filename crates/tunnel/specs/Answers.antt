@@ -10,7 +10,7 @@ use Rattle.tunnel.specs.declared.Attribute.{Attribute}
 use Rattle.tunnel.specs.declared.fec.Fec.{Fec}
 use Rattle.tunnel.specs.Fec.{FecFields, fecIn}
 use Rattle.tunnel.specs.Identifier.{IdentifierForm, sizes, fecTypes, formOf}
-use Rattle.tunnel.specs.Attribute.{Fields, labelOf, leafInformationRequired, readAttribute, writeAttribute}
+use Rattle.tunnel.specs.Attribute.{AttributeFields, labelOf, leafInformationRequired, readAttribute, writeAttribute}
 
 -- what a reading's cases mean
 unfoldable pub outcomeOf : Reading → Outcome Attribute
@@ -40,12 +40,12 @@ fecOfForm (sizes ns) i = noFec
 fecOfForm (fecTypes ns) i = fecSpans (fecIn i)
 
 -- the FEC of an attribute, by its tunnel type's row
-unfoldable pub fecOf : Fields → Fec
+unfoldable pub fecOf : AttributeFields → Fec
 fecOf f = onOutcome (λ _. noFec) (λ form. fecOfForm form (f .identifier)) (formOf (f .tunnelType))
 
 -- an attribute's fields, the identifier from octet 5 on
-unfoldable pub attributeOf : Fields → Attribute
-attributeOf f =
+unfoldable pub attributeStruct : AttributeFields → Attribute
+attributeStruct f =
     record {
       flags = f .flags;
       «tunnel_type» = f .tunnelType;
@@ -57,13 +57,13 @@ attributeOf f =
     }
 
 -- what reading answers: the attribute, or the number alone
-unfoldable pub readAnswer : List ℕ → Outcome Attribute
-readAnswer s = andThen (readAttribute s) (λ f. given (attributeOf f))
+unfoldable pub readStruct : List ℕ → Outcome Attribute
+readStruct s = andThen (readAttribute s) (λ f. given (attributeStruct f))
 
 -- a writer's arguments
-abbrev pub fieldsOf : ℕ → ℕ → ℕ → List ℕ → Fields
-fieldsOf flags type label identifier = record { flags = flags; tunnelType = type; labelField = label; identifier = identifier }
+abbrev pub argumentFields : ℕ → ℕ → ℕ → List ℕ → AttributeFields
+argumentFields flags type label identifier = record { flags = flags; tunnelType = type; labelField = label; identifier = identifier }
 
 -- what writing them into an output comes to
 abbrev pub writeOutcome : ℕ → ℕ → ℕ → List ℕ → List ℕ → Outcome (List ℕ)
-writeOutcome flags type label identifier output = writeAttribute (fieldsOf flags type label identifier) (length output)
+writeOutcome flags type label identifier output = writeAttribute (argumentFields flags type label identifier) (length output)

@@ -38,12 +38,12 @@ unfoldable pub familySuits : ℕ → ℕ → Bool
 familySuits family size = pick (eqb family 1) (eqb size 4) (pick (eqb family 2) (eqb size 16) false)
 
 -- a root of `size` octets, the opaque length, and as many octets as it says
-unfoldable pub endsAt : List ℕ → ℕ → Bool
-endsAt rest size = pick (ltb (length rest) (size + 2)) false (eqb (size + 2 + numberIn (part rest size 2) 0) (length rest))
+unfoldable pub opaqueFills : List ℕ → ℕ → Bool
+opaqueFills rest size = pick (ltb (length rest) (size + 2)) false (eqb (size + 2 + numberIn (part rest size 2) 0) (length rest))
 
 -- the octets are one FEC; every length is judged where it stands, before its content
 unfoldable pub wholeFec : List ℕ → Bool
-wholeFec i = pick (ltb (length i) 4) false (pick (familySuits (numberIn (part i 1 2) 0) (getD i 3 0)) (endsAt (drop 4 i) (getD i 3 0)) false)
+wholeFec i = pick (ltb (length i) 4) false (pick (familySuits (numberIn (part i 1 2) 0) (getD i 3 0)) (opaqueFills (drop 4 i) (getD i 3 0)) false)
 
 -- the fields where they stand
 unfoldable pub fecIn : List ℕ → FecFields

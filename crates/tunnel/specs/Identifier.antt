@@ -6,6 +6,7 @@ use mathlib.Core.List.{List, [], _∷_}
 use lib.Dec.{eqb}
 use lib.ListN.{length, getD}
 use Rattle.octets.specs.Choice.{pick, both, either}
+use Rattle.octets.specs.Lists.{Among}
 use Rattle.octets.specs.Numbers.{TUNNEL, IDENT}
 use Rattle.octets.specs.Outcome.{Outcome, given, refused, andThen}
 use Rattle.tunnel.specs.Fec.{FecFields, WellFormedFec, encodeFec, wholeFec}
@@ -24,8 +25,8 @@ abbrev row : ℕ → IdentifierForm → TableRow
 row t f = record { tunnelType = t; form = f }
 
 -- document 01's table
-unfoldable pub table : List TableRow
-table =
+unfoldable pub identifierForms : List TableRow
+identifierForms =
     row 0 (sizes (0 ∷ []))
     ∷ row 1 (sizes (12 ∷ []))
     ∷ row 2 (fecTypes (6 ∷ []))
@@ -44,12 +45,7 @@ formIn (r ∷ rs) t = pick (eqb t (r .tunnelType)) (given (r .form)) (formIn rs 
 
 -- the same in document 01's table
 unfoldable pub formOf : ℕ → Outcome IdentifierForm
-formOf t = formIn table t
-
--- a number is one of a list's
-pub data Among (n : ℕ) : List ℕ → Type 0 where
-  here : {ns : List ℕ} → Among n (n ∷ ns)
-  there : {m : ℕ} {ns : List ℕ} → Among n ns → Among n (m ∷ ns)
+formOf t = formIn identifierForms t
 
 -- an identifier of a form
 pub data IsIdentifier : IdentifierForm → List ℕ → Type 0 where
@@ -68,10 +64,10 @@ oneOf n [] = false
 oneOf n (m ∷ ms) = either (eqb n m) (oneOf n ms)
 
 -- the same as `IsIdentifier`, computed
-unfoldable pub fits : IdentifierForm → List ℕ → Bool
-fits (sizes ns) i = oneOf (length i) ns
-fits (fecTypes ns) i = both (wholeFec i) (oneOf (getD i 0 0) ns)
+unfoldable pub isIdentifier : IdentifierForm → List ℕ → Bool
+isIdentifier (sizes ns) i = oneOf (length i) ns
+isIdentifier (fecTypes ns) i = both (wholeFec i) (oneOf (getD i 0 0) ns)
 
 -- an identifier judged by its tunnel type: TUNNEL, IDENT, or the identifier itself
-unfoldable pub judged : ℕ → List ℕ → Outcome (List ℕ)
-judged t i = andThen (formOf t) (λ form. pick (fits form i) (given i) (refused IDENT))
+unfoldable pub readIdentifier : ℕ → List ℕ → Outcome (List ℕ)
+readIdentifier t i = andThen (formOf t) (λ form. pick (isIdentifier form i) (given i) (refused IDENT))

@@ -8,7 +8,7 @@ use lib.ListN.{length, getD, drop}
 use Rattle.octets.specs.Choice.{pick, either}
 use Rattle.octets.specs.Octets.{part, numberIn}
 use Rattle.octets.specs.Numbers.{DONE, SHORT, TUNNEL, IDENT, LONG, LABEL, SPACE}
-use Rattle.tunnel.specs.Identifier.{TableRow, table, IdentifierForm, sizes, fits}
+use Rattle.tunnel.specs.Identifier.{TableRow, identifierForms, IdentifierForm, sizes, isIdentifier}
 
 -- a tunnel type that the table lacks
 unfoldable pub unknown : ℕ → Bool
@@ -27,7 +27,7 @@ endsFrom i start = pick (ltb (length i) start) false (eqb (start + numberIn (par
 
 -- IDENT, or DONE for an identifier of the form
 unfoldable pub formFault : IdentifierForm → List ℕ → ℕ
-formFault form i = pick (fits form i) DONE IDENT
+formFault form i = pick (isIdentifier form i) DONE IDENT
 
 -- the number of an identifier's first fault, or DONE
 unfoldable pub faultIn : List TableRow → ℕ → List ℕ → ℕ
@@ -35,7 +35,7 @@ faultIn [] t i = TUNNEL
 faultIn (r ∷ rs) t i = pick (eqb t (r .tunnelType)) (formFault (r .form) i) (faultIn rs t i)
 
 unfoldable pub faultOf : ℕ → List ℕ → ℕ
-faultOf t i = faultIn table t i
+faultOf t i = faultIn identifierForms t i
 
 -- a tunnel type whose identifiers have one of two sizes
 abbrev pub TakesSizes : ℕ → ℕ → ℕ → Type 0
@@ -54,5 +54,5 @@ writeFault type label i space =
     (faultOf type i))
 
 -- `size` octets of s from `from` on, and room for them in d from `at` on
-abbrev pub Within : (s : List ℕ) (from size : ℕ) (d : List ℕ) (at : ℕ) → Type 0
-Within s from size d at = (from + size ≤ length s) × (at + size ≤ length d)
+abbrev pub CopyWithin : (s : List ℕ) (from size : ℕ) (d : List ℕ) (at : ℕ) → Type 0
+CopyWithin s from size d at = (from + size ≤ length s) × (at + size ≤ length d)

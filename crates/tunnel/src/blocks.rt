@@ -4,11 +4,11 @@ ghost use mathlib.Core.Path.{_≡_};
 ghost use Prim.Native.Nat.{_+_, _≤_};
 ghost use lib.ListN.{length};
 ghost use Rattle.octets.specs.Octets.{part, placed};
-ghost use Rattle.tunnel.specs.Inner.{Within};
+ghost use Rattle.tunnel.specs.Inner.{CopyWithin};
 
 // A block's octets are all read before one is written.
 fn place_4(s: &[u8], from: usize, output: &mut [u8], at: usize)
-    requires { ⌜ Within (now s) from 4 (now output) at ⌝ }
+    requires { ⌜ CopyWithin (now s) from 4 (now output) at ⌝ }
     ensures { λ _. ⌜ now (output .exit) ≡ placed at (part (now (s .entry)) from 4) (now (output .entry)) ⌝ }
 {
     let block = [s[from], s[from + 1], s[from + 2], s[from + 3]];
@@ -16,7 +16,7 @@ fn place_4(s: &[u8], from: usize, output: &mut [u8], at: usize)
 }
 
 fn place_8(s: &[u8], from: usize, output: &mut [u8], at: usize)
-    requires { ⌜ Within (now s) from 8 (now output) at ⌝ }
+    requires { ⌜ CopyWithin (now s) from 8 (now output) at ⌝ }
     ensures { λ _. ⌜ now (output .exit) ≡ placed at (part (now (s .entry)) from 8) (now (output .entry)) ⌝ }
 {
     let block = [
@@ -33,7 +33,7 @@ fn place_8(s: &[u8], from: usize, output: &mut [u8], at: usize)
 }
 
 fn place_16(s: &[u8], from: usize, output: &mut [u8], at: usize)
-    requires { ⌜ Within (now s) from 16 (now output) at ⌝ }
+    requires { ⌜ CopyWithin (now s) from 16 (now output) at ⌝ }
     ensures { λ _. ⌜ now (output .exit) ≡ placed at (part (now (s .entry)) from 16) (now (output .entry)) ⌝ }
 {
     place_8(s, from, output, at);
@@ -41,7 +41,7 @@ fn place_16(s: &[u8], from: usize, output: &mut [u8], at: usize)
 }
 
 fn place_32(s: &[u8], from: usize, output: &mut [u8], at: usize)
-    requires { ⌜ Within (now s) from 32 (now output) at ⌝ }
+    requires { ⌜ CopyWithin (now s) from 32 (now output) at ⌝ }
     ensures { λ _. ⌜ now (output .exit) ≡ placed at (part (now (s .entry)) from 32) (now (output .entry)) ⌝ }
 {
     place_16(s, from, output, at);

@@ -5,7 +5,7 @@ ghost use Prim.Native.Nat.{_+_, _≤_};
 ghost use lib.ListN.{length};
 ghost use Rattle.octets.specs.Octets.{placed, front, bigEndian};
 ghost use Rattle.tunnel.specs.Attribute.{encodeAttribute};
-ghost use Rattle.tunnel.specs.Answers.{fieldsOf};
+ghost use Rattle.tunnel.specs.Answers.{argumentFields};
 use octets::Written;
 use octets::number;
 
@@ -30,7 +30,7 @@ pub(crate) fn put(
     requires { ⌜ (length (now identifier) ≤ 59) × (5 + length (now identifier) ≤ length (now output)) ⌝ }
     ensures { λ r. ⌜ r .number ≡ 0 ⌝ }
     ensures { λ r. ⌜ r .size ≡ 5 + length (now (identifier .entry)) ⌝ }
-    ensures { λ r. ⌜ now (output .exit) ≡ front (encodeAttribute (fieldsOf flags «tunnel_type» «label_field» (now (identifier .entry)))) (now (output .entry)) ⌝ }
+    ensures { λ r. ⌜ now (output .exit) ≡ front (encodeAttribute (argumentFields flags «tunnel_type» «label_field» (now (identifier .entry)))) (now (output .entry)) ⌝ }
 {
     let next = put_header(flags, tunnel_type, label_field, output);
     crate::blocks::place(identifier, output, next);

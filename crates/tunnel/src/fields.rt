@@ -4,7 +4,7 @@ ghost use Prim.Native.Nat.{_≤_};
 ghost use lib.ListN.{length, getD, drop};
 ghost use Rattle.tunnel.specs.Attribute.{fieldsIn};
 ghost use Rattle.tunnel.specs.Inner.{faultOf};
-ghost use Rattle.tunnel.specs.Answers.{attributeOf, fecOf};
+ghost use Rattle.tunnel.specs.Answers.{attributeStruct, fecOf};
 use crate::Attribute;
 use crate::fec::Fec;
 use octets::Span;
@@ -30,7 +30,7 @@ fn fec_of(s: &[u8]) -> Fec
 pub(crate) fn fields(s: &[u8]) -> Attribute
     requires { ⌜ 5 ≤ length (now s) ⌝ }
     requires { ⌜ faultOf (getD (now s) 1 0) (drop 5 (now s)) ≡ 0 ⌝ }
-    ensures { λ r. ⌜ r ≡ attributeOf (fieldsIn (now (s .entry))) ⌝ }
+    ensures { λ r. ⌜ r ≡ attributeStruct (fieldsIn (now (s .entry))) ⌝ }
 {
     let label_field = octets::wide::three(s, 2);
     let fec = fec_of(s);

@@ -3,7 +3,7 @@ ghost use mathlib.Core.Path.{_≡_};
 ghost use Rattle.octets.specs.Outcome.{numberOf};
 ghost use Rattle.octets.specs.Outputs.{writtenOf, outputOf};
 ghost use Rattle.tunnel.specs.Attribute.{readAttribute};
-ghost use Rattle.tunnel.specs.Answers.{outcomeOf, readAnswer, writeOutcome};
+ghost use Rattle.tunnel.specs.Answers.{outcomeOf, readStruct, writeOutcome};
 ghost use Rattle.tunnel.specs.Inner.{writeFault};
 use octets::Span;
 use octets::Written;
@@ -68,7 +68,7 @@ pub fn fault(s: &[u8]) -> u32
 
 // Reads an attribute.
 pub fn read(s: &[u8]) -> Reading
-    ensures { λ r. ⌜ outcomeOf r ≡ readAnswer (now (s .entry)) ⌝ }
+    ensures { λ r. ⌜ outcomeOf r ≡ readStruct (now (s .entry)) ⌝ }
 {
     let fault = fault(s);
     if fault != number::DONE {

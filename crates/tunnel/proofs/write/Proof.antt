@@ -3,7 +3,7 @@ use denote.Ref.{now}
 use lib.ListN.{length}
 use Rattle.tunnel.proofs.Laws.{write-refused, write-done, write-room, refusal-wrote, encoding-wrote}
 use Rattle.tunnel.specs.Attribute.{writeAttribute}
-use Rattle.tunnel.specs.Answers.{fieldsOf}
+use Rattle.tunnel.specs.Answers.{argumentFields}
 use borrow.Author.Needs.{needs}
 use Rattle.tunnel.proofs.write.Statement.{statement}
 use Rattle.tunnel.proofs.write.Tie as tie
@@ -14,7 +14,7 @@ write-fault-requires c κs = search needs
 returns : tie.Need-returns
 returns c =
     let a = c .before .before .before .before .args in
-    let f = fieldsOf (a .flags) (a .tunnel-type) (a .label-field) (now (a .identifier)) in
+    let f = argumentFields (a .flags) (a .tunnel-type) (a .label-field) (now (a .identifier)) in
     let space = length (now (a .output)) in
     let n = c .before .write-fault in
     refusal-wrote (writeAttribute f space) (n .result) (now (a .output)) (write-refused f space (n .result) (n .ensures) (c .if1 .taken))
@@ -22,7 +22,7 @@ returns c =
 put-requires : tie.Need-put-requires
 put-requires c κs =
     let a = c .before .before .before .before .before .args in
-    let f = fieldsOf (a .flags) (a .tunnel-type) (a .label-field) (now (a .identifier)) in
+    let f = argumentFields (a .flags) (a .tunnel-type) (a .label-field) (now (a .identifier)) in
     let n = c .before .before .write-fault in
     write-room f (length (now (a .output))) (n .result) (n .ensures) (c .before .if1 .left)
 
@@ -32,7 +32,7 @@ same-length c = search needs
 returns-2 : tie.Need-returns-2
 returns-2 c =
     let a = c .before .before .before .before .before .before .before .before .args in
-    let f = fieldsOf (a .flags) (a .tunnel-type) (a .label-field) (now (a .identifier)) in
+    let f = argumentFields (a .flags) (a .tunnel-type) (a .label-field) (now (a .identifier)) in
     let space = length (now (a .output)) in
     let n = c .before .before .before .before .before .write-fault in
     let p = c .before .before .put in

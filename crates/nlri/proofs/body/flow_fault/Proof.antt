@@ -1,13 +1,13 @@
 -- `nlri::body::flow_fault` meets its contract.
 use native.Mathlib.Omega.{arith}
 use Rattle.octets.proofs.Tests.{flags}
-use Rattle.nlri.specs.Inner.{addressFault, flowFault}
+use Rattle.nlri.specs.Inner.{addressThen, flowFault}
 use borrow.Author.Needs.{needs}
 use Rattle.nlri.proofs.body.flow_fault.Statement.{statement}
 use Rattle.nlri.proofs.body.flow_fault.Tie as tie
 
 returns : tie.Need-returns
-unfolding flowFault addressFault
+unfolding flowFault addressThen
 returns c = search flags
 
 shared-slice-read-bits : tie.Need-shared-slice-read-bits
@@ -29,11 +29,11 @@ group-fault-requires : tie.Need-group-fault-requires
 group-fault-requires c κs = omega (arith, c .before .before .shared-slice-known2 .given (c .before .before .before .before .before .args .at))
 
 returns-2 : tie.Need-returns-2
-unfolding flowFault addressFault
+unfolding flowFault addressThen
 returns-2 c = search flags
 
 returns-3 : tie.Need-returns-3
-unfolding flowFault addressFault
+unfolding flowFault addressThen
 returns-3 c = search flags
 
 pub flow-fault-spec : {M : Type 1} → statement M

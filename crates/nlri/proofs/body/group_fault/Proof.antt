@@ -1,13 +1,13 @@
 -- `nlri::body::group_fault` meets its contract.
 use native.Mathlib.Omega.{arith}
 use Rattle.octets.proofs.Tests.{flags}
-use Rattle.nlri.specs.Inner.{addressFault, groupFault}
+use Rattle.nlri.specs.Inner.{addressThen, groupFault}
 use borrow.Author.Needs.{needs}
 use Rattle.nlri.proofs.body.group_fault.Statement.{statement}
 use Rattle.nlri.proofs.body.group_fault.Tie as tie
 
 returns : tie.Need-returns
-unfolding groupFault addressFault
+unfolding groupFault addressThen
 returns c = search flags
 
 shared-slice-read-bits : tie.Need-shared-slice-read-bits
@@ -29,11 +29,11 @@ flow-end-fault-requires : tie.Need-flow-end-fault-requires
 flow-end-fault-requires c κs = omega (arith, c .before .before .shared-slice-known2 .given (c .before .before .before .before .before .args .at))
 
 returns-2 : tie.Need-returns-2
-unfolding groupFault addressFault
+unfolding groupFault addressThen
 returns-2 c = search flags
 
 returns-3 : tie.Need-returns-3
-unfolding groupFault addressFault
+unfolding groupFault addressThen
 returns-3 c = search flags
 
 pub group-fault-spec : {M : Type 1} → statement M

@@ -5,7 +5,7 @@ use native.Mathlib.Omega.{arith}
 use lib.ListN.{length}
 use borrow.Author.Tests.{eq-eqb, ne-eqb}
 use Rattle.octets.proofs.Outcomes.{pick-true, pick-false}
-use Rattle.nlri.specs.Answers.{distinguisherOf}
+use Rattle.nlri.specs.Answers.{distinguisherStruct}
 use Rattle.nlri.specs.Inner.{distinguisherAt}
 use Rattle.nlri.proofs.Copies.{no-distinguisher, distinguisher-held}
 use Rattle.octets.proofs.Lists.{part-length}
@@ -15,7 +15,7 @@ use Rattle.nlri.proofs.fields.distinguisher_in.Tie as tie
 
 returns : tie.Need-returns
 unfolding distinguisherAt
-returns c = no-distinguisher ∙ ap distinguisherOf (sym (pick-true _ _ _ (eq-eqb _ _ (c .if1 .taken))))
+returns c = no-distinguisher ∙ ap distinguisherStruct (sym (pick-true _ _ _ (eq-eqb _ _ (c .if1 .taken))))
 
 between-requires : tie.Need-between-requires
 between-requires c κs = c .before .before .pre (c .if1 .left)
@@ -34,7 +34,7 @@ unfolding distinguisherAt
 returns-2 c =
     let l = ap length (c .before .before .before .between .ensures) ∙ part-length (now (c .before .before .before .before .before .before .args .s)) 2 8 (c .before .before .before .before .before .before .pre (c .before .before .before .before .if1 .left)) in
     distinguisher-held _ (now (c .before .before .before .between .result)) (c .before .copy .ensures .1) (omega arith)
-    ∙ ap distinguisherOf (c .before .before .before .between .ensures ∙ sym (pick-false _ _ _ (ne-eqb _ _ (c .before .before .before .before .if1 .left))))
+    ∙ ap distinguisherStruct (c .before .before .before .between .ensures ∙ sym (pick-false _ _ _ (ne-eqb _ _ (c .before .before .before .before .if1 .left))))
 
 pub distinguisher-in-spec : {M : Type 1} → statement M
 distinguisher-in-spec =

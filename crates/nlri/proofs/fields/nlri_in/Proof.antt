@@ -4,7 +4,7 @@ use mathlib.Core.Path.{refl, _∙_, ap}
 use native.Mathlib.Omega.{arith}
 use Prim.Native.Nat.{ℕ, _+_}
 use Rattle.octets.specs.Octets.{part}
-use Rattle.nlri.specs.Answers.{nlriOf, addressOf}
+use Rattle.nlri.specs.Answers.{nlriStruct, addressStruct}
 use Rattle.nlri.specs.Inner.{fieldsAt}
 use Rattle.nlri.proofs.Singles.{start-most, nlri-same}
 use borrow.Author.Needs.{needs}
@@ -46,13 +46,13 @@ cast-t12 : tie.Need-cast-t12
 cast-t12 c = search needs
 
 returns : tie.Need-returns
-unfolding nlriOf fieldsAt
+unfolding nlriStruct fieldsAt
 returns c =
     let a = c .before .before .before .before .before .before .before .before .before .args in
     nlri-same _ _ _ _ _ _ _ _ _ _ _ _
     (c .before .distinguisher-in .ensures)
-    (c .before .before .before .before .before .before .address-at .ensures ∙ ap (λ (n : ℕ). addressOf (part (now (a .s)) n (a .layout .source))) (c .before .before .before .before .before .before .before .source-start .ensures))
-    (c .before .before .before .before .address-at2 .ensures ∙ ap (λ (n : ℕ). addressOf (part (now (a .s)) (n + a .layout .source + 1) (a .layout .group))) (c .before .before .before .before .before .before .before .source-start .ensures))
+    (c .before .before .before .before .before .before .address-at .ensures ∙ ap (λ (n : ℕ). addressStruct (part (now (a .s)) n (a .layout .source))) (c .before .before .before .before .before .before .before .source-start .ensures))
+    (c .before .before .before .before .address-at2 .ensures ∙ ap (λ (n : ℕ). addressStruct (part (now (a .s)) (n + a .layout .source + 1) (a .layout .group))) (c .before .before .before .before .before .before .before .source-start .ensures))
     (c .before .before .address-at3 .ensures)
     (c .source-as-in .ensures)
     refl

@@ -4,7 +4,7 @@ use Rattle.nlri.proofs.Copies.{no-distinguisher}
 use Rattle.nlri.proofs.Singles.{nlri-same}
 use Rattle.octets.specs.Choice.{pick}
 use Rattle.octets.specs.Outcome.{onOutcome}
-use Rattle.nlri.specs.Answers.{readAnswer, nlriOf, noFields, keySpan}
+use Rattle.nlri.specs.Answers.{nlriAnswer, nlriStruct, noFields, keySpan}
 use borrow.Author.Needs.{needs}
 use Rattle.nlri.proofs.fields.refusal.Statement.{statement}
 use Rattle.nlri.proofs.fields.refusal.Tie as tie
@@ -19,7 +19,7 @@ wildcard-requires-3 : tie.Need-wildcard-requires-3
 wildcard-requires-3 c κs = search needs
 
 returns : tie.Need-returns
-unfolding readAnswer onOutcome nlriOf noFields keySpan pick
+unfolding nlriAnswer onOutcome nlriStruct noFields keySpan pick
 returns c = λ i. record { number = c .before .before .before .args .number; nlri = nlri-same _ _ _ _ _ _ _ _ 0 0 0 0 no-distinguisher (c .before .before .wildcard .ensures) (c .before .wildcard2 .ensures) (c .wildcard3 .ensures) refl refl i; key = keySpan noFields }
 
 pub refusal-spec : {M : Type 1} → statement M

@@ -6,7 +6,7 @@ use denote.Ref.{now}
 use lib.ListN.{length}
 use mathlib.Core.List.{List}
 use Rattle.octets.specs.Outcome.{numberOf}
-use Rattle.nlri.specs.Inner.{headerOf, header, anyBody, anyFront}
+use Rattle.nlri.specs.Inner.{headerOutcome, headerAt, anyBody, anyFront}
 use Rattle.nlri.proofs.Sizes.{header-within}
 use Rattle.octets.proofs.Lists.{lent-part, lent-whole}
 use Rattle.nlri.proofs.Via.{typed-given}
@@ -34,8 +34,8 @@ enum-known-route-type : tie.Need-enum-known-route-type
 enum-known-route-type c = search needs
 
 -- the header that was read is that of the whole slice, and its Length stays within
-headed : (c : tie.After-read-header) → headerOf (c .read-header .result) ≡ header (now (c .before .before .before .args .s))
-headed c = c .read-header .ensures ∙ ap header (lent-whole (now (c .before .before .before .args .s)))
+headed : (c : tie.After-read-header) → headerOutcome (c .read-header .result) ≡ headerAt (now (c .before .before .before .args .s))
+headed c = c .read-header .ensures ∙ ap headerAt (lent-whole (now (c .before .before .before .args .s)))
 
 within : (c : tie.After-known-told2) → 2 + c .before .route-type .given .0 .1 .0 ≤ length (now (c .before .before .before .before .before .before .args .s))
 within c = header-within _ _ _ (typed-given _ _ _ _ (headed (c .before .before .before)) (c .before .route-type .given .1))

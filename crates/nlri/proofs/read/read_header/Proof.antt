@@ -1,13 +1,13 @@
 -- `nlri::read::read_header` meets its contract.
 use native.Mathlib.Omega.{arith}
-use Rattle.nlri.specs.Inner.{headerOf, header}
+use Rattle.nlri.specs.Inner.{headerOutcome, headerAt}
 use Rattle.octets.proofs.Tests.{tests}
 use borrow.Author.Needs.{needs}
 use Rattle.nlri.proofs.read.read_header.Statement.{statement}
 use Rattle.nlri.proofs.read.read_header.Tie as tie
 
 returns : tie.Need-returns
-unfolding headerOf header
+unfolding headerOutcome headerAt
 returns c = search tests
 
 shared-slice-read-length : tie.Need-shared-slice-read-length
@@ -20,7 +20,7 @@ sub-if2 : tie.Need-sub-if2
 sub-if2 c = search needs
 
 returns-2 : tie.Need-returns-2
-unfolding headerOf header
+unfolding headerOutcome headerAt
 returns-2 c = search tests
 
 shared-slice-read-t6 : tie.Need-shared-slice-read-t6
@@ -30,7 +30,7 @@ cast-t3 : tie.Need-cast-t3
 cast-t3 c = omega (arith, c .shared-slice-known2 .given 0)
 
 returns-3 : tie.Need-returns-3
-unfolding headerOf header
+unfolding headerOutcome headerAt
 returns-3 c = search tests
 
 pub read-header-spec : {M : Type 1} → statement M

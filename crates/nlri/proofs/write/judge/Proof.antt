@@ -1,5 +1,5 @@
 -- `nlri::write::judge` meets its contract.
-use Rattle.nlri.specs.InnerWriting.{judged}
+use Rattle.nlri.specs.InnerWriting.{fieldsFault}
 use Rattle.octets.proofs.Tests.{tests}
 use mathlib.Core.Path.{sym, _∙_}
 use borrow.Author.Needs.{needs}
@@ -10,11 +10,11 @@ cast-route-type : tie.Need-cast-route-type
 cast-route-type c = search needs
 
 returns : tie.Need-returns
-unfolding judged
+unfolding fieldsFault
 returns c = search tests depth 10
 
 returns-2 : tie.Need-returns-2
-unfolding judged
+unfolding fieldsFault
 returns-2 c =
     search tests depth 10
 
@@ -37,7 +37,7 @@ key-fits-requires : tie.Need-key-fits-requires
 key-fits-requires c κs = search needs
 
 returns-3 : tie.Need-returns-3
-unfolding judged
+unfolding fieldsFault
 returns-3 c =
     let f0 = sym (c .before .key-fits .ensures) ∙ c .if5 .taken in
     let f1 = sym (c .before .before .before .originator-fits .ensures) ∙ c .before .before .if4 .taken in
@@ -45,7 +45,7 @@ returns-3 c =
     search tests depth 10
 
 returns-4 : tie.Need-returns-4
-unfolding judged
+unfolding fieldsFault
 returns-4 c =
     let f0 = sym (c .before .key-fits .ensures) ∙ c .if5 .left in
     let f1 = sym (c .before .before .before .originator-fits .ensures) ∙ c .before .before .if4 .taken in
@@ -53,14 +53,14 @@ returns-4 c =
     search tests depth 10
 
 returns-5 : tie.Need-returns-5
-unfolding judged
+unfolding fieldsFault
 returns-5 c =
     let f0 = sym (c .before .originator-fits .ensures) ∙ c .if4 .left in
     let f1 = sym (c .before .before .before .before .flow-fits .ensures) ∙ c .before .before .before .if3 .taken in
     search tests depth 10
 
 returns-6 : tie.Need-returns-6
-unfolding judged
+unfolding fieldsFault
 returns-6 c =
     let f0 = sym (c .before .flow-fits .ensures) ∙ c .if3 .left in
     search tests depth 10

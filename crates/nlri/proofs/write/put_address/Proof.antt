@@ -1,7 +1,7 @@
 -- `nlri::write::put_address` meets its contract.
 use Prim.Native.Nat.{_*_}
 use mathlib.Core.List.{[], _∷_}
-use Rattle.nlri.specs.Answers.{octetsOf}
+use Rattle.nlri.specs.Answers.{addressOctets}
 use Rattle.octets.proofs.Lists.{put-as, put-then}
 use Rattle.nlri.proofs.Puts.{address-room, address-split}
 use native.Mathlib.Omega.{arith}
@@ -34,7 +34,7 @@ returns : tie.Need-returns
 returns c =
     let a = c .before .before .before .before .before .before .before .before .before .before .before .args in
     let l = address-room (a .address) in
-    put-as _ _ _ _ _ _ (address-split (a .address)) (put-then (a .at) (8 * a .address .size ∷ []) (octetsOf (a .address)) (now (a .output)) _ _ _ _ (omega (arith, c .before .before .before .before .before .before .before .before .before .before .before .pre .1)) (c .before .before .before .before .before .before .place .ensures) (c .before .before .put-octets .ensures))
+    put-as _ _ _ _ _ _ (address-split (a .address)) (put-then (a .at) (8 * a .address .size ∷ []) (addressOctets (a .address)) (now (a .output)) _ _ _ _ (omega (arith, c .before .before .before .before .before .before .before .before .before .before .before .pre .1)) (c .before .before .before .before .before .before .place .ensures) (c .before .before .put-octets .ensures))
 
 pub put-address-spec : {M : Type 1} → statement M
 put-address-spec =

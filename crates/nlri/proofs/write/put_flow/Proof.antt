@@ -2,7 +2,7 @@
 use Rattle.nlri.specs.Fields.{encodeAddress}
 use lib.ListN.{length-append, length}
 use mathlib.Core.List.{[]}
-use Rattle.nlri.specs.Answers.{octetsOf}
+use Rattle.nlri.specs.Answers.{addressOctets}
 use Rattle.octets.proofs.Lists.{put-as, put-none, put-then}
 use Rattle.nlri.proofs.Puts.{flow-there, flow-none}
 use native.Mathlib.Omega.{arith}
@@ -21,14 +21,14 @@ put-address-requires : tie.Need-put-address-requires
 put-address-requires c κs =
     let start = c .before .before .before .before .before .before .before in
     let f = sym (c .before .before .before .before .has-flow .ensures) ∙ c .before .before .before .if1 .taken in
-    let e = sym (length-append (encodeAddress (octetsOf (start .args .nlri .source))) (encodeAddress (octetsOf (start .args .nlri .group)))) ∙ ap length (flow-there (start .args .nlri) [] (sym (c .before .before .before .before .has-flow .ensures) ∙ c .before .before .before .if1 .taken)) in
+    let e = sym (length-append (encodeAddress (addressOctets (start .args .nlri .source))) (encodeAddress (addressOctets (start .args .nlri .group)))) ∙ ap length (flow-there (start .args .nlri) [] (sym (c .before .before .before .before .has-flow .ensures) ∙ c .before .before .before .if1 .taken)) in
     (start .pre .0 .source f, omega (arith, start .pre .1))
 
 put-address-requires-2 : tie.Need-put-address-requires-2
 put-address-requires-2 c κs =
     let start = c .before .before .before .before .before .before .before .before .before .before .before in
     let f = sym (c .before .before .before .before .before .before .before .before .has-flow .ensures) ∙ c .before .before .before .before .before .before .before .if1 .taken in
-    let e = sym (length-append (encodeAddress (octetsOf (start .args .nlri .source))) (encodeAddress (octetsOf (start .args .nlri .group)))) ∙ ap length (flow-there (start .args .nlri) [] (sym (c .before .before .before .before .before .before .before .before .has-flow .ensures) ∙ c .before .before .before .before .before .before .before .if1 .taken)) in
+    let e = sym (length-append (encodeAddress (addressOctets (start .args .nlri .source))) (encodeAddress (addressOctets (start .args .nlri .group)))) ∙ ap length (flow-there (start .args .nlri) [] (sym (c .before .before .before .before .before .before .before .before .has-flow .ensures) ∙ c .before .before .before .before .before .before .before .if1 .taken)) in
     (start .pre .0 .group f, omega (arith, start .pre .1, c .before .before .before .put-address .ensures .0))
 
 same-length : tie.Need-same-length
@@ -37,7 +37,7 @@ same-length c = search needs
 returns : tie.Need-returns
 returns c =
     let start = c .before .before .before .before .before .before .before .before .before .before .before .before .before .before in
-    let e = sym (length-append (encodeAddress (octetsOf (start .args .nlri .source))) (encodeAddress (octetsOf (start .args .nlri .group)))) ∙ ap length (flow-there (start .args .nlri) [] (sym (c .before .before .before .before .before .before .before .before .before .before .before .has-flow .ensures) ∙ c .before .before .before .before .before .before .before .before .before .before .if1 .taken)) in
+    let e = sym (length-append (encodeAddress (addressOctets (start .args .nlri .source))) (encodeAddress (addressOctets (start .args .nlri .group)))) ∙ ap length (flow-there (start .args .nlri) [] (sym (c .before .before .before .before .before .before .before .before .before .before .before .has-flow .ensures) ∙ c .before .before .before .before .before .before .before .before .before .before .if1 .taken)) in
     put-as _ _ _ _ _ _ (flow-there (start .args .nlri) [] (sym (c .before .before .before .before .before .before .before .before .before .before .before .has-flow .ensures) ∙ c .before .before .before .before .before .before .before .before .before .before .if1 .taken)) (put-then _ _ _ _ _ _ _ _ (omega (arith, start .pre .1)) (c .before .before .before .before .before .before .put-address .ensures) (c .before .before .put-address2 .ensures))
 
 returns-2 : tie.Need-returns-2

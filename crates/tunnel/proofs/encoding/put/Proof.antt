@@ -8,7 +8,7 @@ use Rattle.octets.proofs.Lists.{placed-then, front-is-placed}
 use Rattle.octets.proofs.NetworkOrder.{big-endian-length}
 use native.Mathlib.Omega.{arith}
 use Rattle.tunnel.specs.Attribute.{encodeAttribute}
-use Rattle.tunnel.specs.Answers.{fieldsOf}
+use Rattle.tunnel.specs.Answers.{argumentFields}
 use borrow.Author.Needs.{needs}
 use Rattle.tunnel.proofs.encoding.put.Statement.{statement}
 use Rattle.tunnel.proofs.encoding.put.Tie as tie
@@ -35,7 +35,7 @@ returns c =
     let e = a .flags ∷ (a .tunnel-type ∷ bigEndian 3 (a .label-field)) in
     let l : length e ≡ 5 = omega (arith, big-endian-length 3 (a .label-field)) in
     let octets = placed-then 0 (h .result) e (now (a .identifier)) (now (a .output)) (h .last .1 .1 .1 .0) (p .last .1 .0) (omega (arith, start .pre)) (omega (arith, h .ensures .0)) (h .ensures .1) (p .ensures) in
-    (refl, (omega (arith, h .ensures .0), octets ∙ sym (front-is-placed (encodeAttribute (fieldsOf (a .flags) (a .tunnel-type) (a .label-field) (now (a .identifier)))) (now (a .output)))))
+    (refl, (omega (arith, h .ensures .0), octets ∙ sym (front-is-placed (encodeAttribute (argumentFields (a .flags) (a .tunnel-type) (a .label-field) (now (a .identifier)))) (now (a .output)))))
 
 pub put-spec : {M : Type 1} → statement M
 put-spec = tie.close (tie.spec put-header-requires place-requires add-t13 same-length returns)

@@ -1,20 +1,20 @@
 -- `tunnel::identifier::of_sizes` meets its contract.
 use Rattle.octets.proofs.Tests.{tests}
-use Rattle.tunnel.specs.Identifier.{fits, oneOf}
+use Rattle.tunnel.specs.Identifier.{isIdentifier, oneOf}
 use Rattle.tunnel.specs.Inner.{formFault}
 use Rattle.tunnel.proofs.identifier.of_sizes.Statement.{statement}
 use Rattle.tunnel.proofs.identifier.of_sizes.Tie as tie
 
 returns : tie.Need-returns
-unfolding formFault fits oneOf
+unfolding formFault isIdentifier oneOf
 returns c = search tests
 
 returns-2 : tie.Need-returns-2
-unfolding formFault fits oneOf
+unfolding formFault isIdentifier oneOf
 returns-2 c = search tests
 
 returns-3 : tie.Need-returns-3
-unfolding formFault fits oneOf
+unfolding formFault isIdentifier oneOf
 returns-3 c = search tests
 
 pub of-sizes-spec : {M : Type 1} → statement M

@@ -3,7 +3,7 @@ use denote.Ref.{now}
 use mathlib.Core.Path.{_∙_, sym, ap}
 use native.Mathlib.Nat.{le-of-lt}
 use lib.Seq.{take-all}
-use Rattle.nlri.specs.Answers.{addressOf}
+use Rattle.nlri.specs.Answers.{addressStruct}
 use Rattle.nlri.proofs.Copies.{octetsFrom, ipv6-held}
 use borrow.Author.Needs.{needs}
 use Rattle.nlri.proofs.address.AddressKind.ipv6.Statement.{statement}
@@ -13,7 +13,7 @@ shorter-requires : tie.Need-shorter-requires
 shorter-requires c κs = search needs
 
 returns : tie.Need-returns
-returns c = c .shorter .ensures ∙ ap addressOf (sym (take-all _ _ (le-of-lt (c .before .if1 .taken))))
+returns c = c .shorter .ensures ∙ ap addressStruct (sym (take-all _ _ (le-of-lt (c .before .if1 .taken))))
 
 shared-slice-read-t5 : tie.Need-shared-slice-read-t5
 shared-slice-read-t5 c = search needs
