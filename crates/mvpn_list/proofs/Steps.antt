@@ -24,12 +24,12 @@ unfolding onOutcome
 by-outcome R (given a) bad good f g = g a refl
 by-outcome R (refused n) bad good f g = f n refl
 
-known-type : (family : ℕ) (s : List ℕ) (l : Layout) → layoutAt family s ≡ given l → l .«route_type» ≤ 7
+known-type : (bits : ℕ) (s : List ℕ) (l : Layout) → layoutAt bits s ≡ given l → l .«route_type» ≤ 7
 unfolding layoutAt laidAt layoutOf
-known-type family s l e =
+known-type bits s l e =
     let p = passed _ _ _ e in
     let same : p .value .type ≡ l .«route_type» = ap (λ (x : Layout). x .«route_type») (given-same (p .second)) in
-    omega (arith, laid-out (keyField family) family s (p .value) (p .first) .row .high)
+    omega (arith, laid-out (keyField bits) bits s (p .value) (p .first) .row .high)
 
 -- what a step comes to
 pub data Comes (s : Stepped) : Type 0 where
@@ -40,11 +40,11 @@ pub step-comes : (afi : ℕ) (run : List ℕ) (at : ℕ) → Comes (stepFrom afi
 unfolding stepFrom stepUnder
 step-comes afi run at =
     by-outcome Comes _ _ _ (λ n e. stops n at refl (omega (arith, refuses-by _ n (family-refuses afi) e)))
-    (λ family _. picked Comes _ _ _ (λ _. stops _ at refl (omega arith))
+    (λ bits _. picked Comes _ _ _ (λ _. stops _ at refl (omega arith))
     (λ _. picked Comes _ _ _ (λ _. stops _ at refl (omega arith))
     (λ _. picked Comes _ _ _ (λ _. stops _ at refl (omega arith))
-    (λ _. by-outcome Comes _ _ _ (λ n e. stops n at refl (omega (arith, refuses-by _ n (layout-refuses family (drop at run)) e)))
-    (λ layout e. reads layout _ refl (known-type family (drop at run) layout e) (omega arith))))))
+    (λ _. by-outcome Comes _ _ _ (λ n e. stops n at refl (omega (arith, refuses-by _ n (layout-refuses bits (drop at run)) e)))
+    (λ layout e. reads layout _ refl (known-type bits (drop at run) layout e) (omega arith))))))
 
 -- how the lines go on by a step
 module _ (left : ℕ) (run : List ℕ) (at : ℕ) where

@@ -43,13 +43,13 @@ from-restricted type body pieces e =
     (keep _ _ _ (λ h. ap (drop 1) (none group h))) (keep _ _ _ (none originator)) (keep _ _ _ (none key))
 
 -- a field of a well-formed body
-pub field-in-body : (Key : List ℕ → Type 0) (family : ℕ) (f : Fields) (kind : FieldKind) (body : List FieldKind) → WellFormedBody Key family f body → hasField kind body ≡ true → WellFormedField Key family f kind
+pub field-in-body : (Key : List ℕ → Type 0) (bits : ℕ) (f : Fields) (kind : FieldKind) (body : List FieldKind) → WellFormedBody Key bits f body → hasField kind body ≡ true → WellFormedField Key bits f kind
 unfolding hasField either
-field-in-body Key family f kind [] w h = absurd (opposite h refl)
-field-in-body Key family f kind (k ∷ body) w h = go (sameKind kind k) refl h (λ later. field-in-body Key family f kind body (w .1) later)
+field-in-body Key bits f kind [] w h = absurd (opposite h refl)
+field-in-body Key bits f kind (k ∷ body) w h = go (sameKind kind k) refl h (λ later. field-in-body Key bits f kind body (w .1) later)
   where
-    go : (b : Bool) → sameKind kind k ≡ b → either b (hasField kind body) ≡ true → (hasField kind body ≡ true → WellFormedField Key family f kind) → WellFormedField Key family f kind
-    go true same h later = subst (WellFormedField Key family f) (sym (same-kind kind k same)) (w .0)
+    go : (b : Bool) → sameKind kind k ≡ b → either b (hasField kind body) ≡ true → (hasField kind body ≡ true → WellFormedField Key bits f kind) → WellFormedField Key bits f kind
+    go true same h later = subst (WellFormedField Key bits f) (sym (same-kind kind k same)) (w .0)
     go false other h later = later h
 
 -- a number in four octets, where the body has it
@@ -64,57 +64,57 @@ kept-address true x = refl
 kept-address false x = refl
 
 -- the fields that the pieces of an encoding give
-from-encoded : (Key : List ℕ → Type 0) (family : ℕ) (f : Fields) → WellFormedBody Key family f (bodyOf (f .type))
+from-encoded : (Key : List ℕ → Type 0) (bits : ℕ) (f : Fields) → WellFormedBody Key bits f (bodyOf (f .type))
     → fieldsFrom (f .type) (λ kind. fieldIn [] kind (bodyOf (f .type)) (piecesOf f (bodyOf (f .type)))) ≡ restricted f
 unfolding restricted encodeField
-from-encoded Key family f w =
+from-encoded Key bits f w =
     let body : List FieldKind = bodyOf (f .type) in
     let at : (kind : FieldKind) → fieldIn [] kind body (piecesOf f body) ≡ pick (hasField kind body) (encodeField f kind) [] = λ kind. field-of-map [] (encodeField f) kind body in
-    fields-same refl (at distinguisher) (ap (λ (x : List ℕ). numberIn x 0) (at sourceAs) ∙ kept-number _ _ (field-in-body Key family f sourceAs body w))
+    fields-same refl (at distinguisher) (ap (λ (x : List ℕ). numberIn x 0) (at sourceAs) ∙ kept-number _ _ (field-in-body Key bits f sourceAs body w))
     (ap (drop 1) (at source) ∙ kept-address _ _) (ap (drop 1) (at group) ∙ kept-address _ _) (at originator) (at key)
 
-module _ (afi family : ℕ) (bits : familyBits afi ≡ given family) where
-  whole : 8 * (family / 8) ≡ family
-  whole = family-octets afi family bits .0
+module _ (afi bits : ℕ) (ofFamily : familyBits afi ≡ given bits) where
+  whole : 8 * (bits / 8) ≡ bits
+  whole = family-octets afi bits ofFamily .0
 
-  single-sound : (s : List ℕ) (laid : Laid) → AllOctets s → laidSingle family s ≡ given laid → ReadAs afi s (fieldsOf laid s)
+  single-sound : (s : List ℕ) (laid : Laid) → AllOctets s → laidSingle bits s ≡ given laid → ReadAs afi s (fieldsOf laid s)
   unfolding laidSingle laidAt fieldsOf part
   single-sound s laid a e =
       let p = passed _ _ _ e in
       let q = given-unless _ _ _ _ (p .second) in
       let same : p .value ≡ laid = given-same (q .1) in
-      let first : laidAt family s ≡ given laid = p .first ∙ ap given same in
+      let first : laidAt bits s ≡ given laid = p .first ∙ ap given same in
       let size : length s - 2 ≡ laid .size = eqb-true _ _ (q .0) ∙ ap (λ (x : Laid). x .size) same in
-      let o = laid-out (keyField family) family s laid first in
-      let r = laid-sound (keyField family) (KeyOf family) (key-judges family whole) family whole s laid a first in
+      let o = laid-out (keyField bits) bits s laid first in
+      let r = laid-sound (keyField bits) (KeyOf bits) (key-judges bits whole) bits whole s laid a first in
       let rest : part s 2 (laid .size) ≡ drop 2 s = whole-part s (laid .size) size in
-      let fields : fieldsAt (keyField family) (KeyOf family) (key-judges family whole) family whole s laid ≡ fieldsOf laid s =
+      let fields : fieldsAt (keyField bits) (KeyOf bits) (key-judges bits whole) bits whole s laid ≡ fieldsOf laid s =
       ap (λ (x : List ℕ). fieldsFrom (laid .type) (λ kind. fieldIn [] kind (laid .body) (cut (laid .sizes) x))) rest in
       let all : take (2 + laid .size) s ≡ s = take-all (2 + laid .size) s (omega (arith, o .enough)) in
       record {
-        family = family;
         bits = bits;
-        wellFormed = record { typed = (o .row .low, o .row .high); body = subst (λ (f : Fields). WellFormedBody (KeyOf family) family f (bodyOf (laid .type))) fields (r .0) };
+        ofFamily = ofFamily;
+        wellFormed = record { typed = (o .row .low, o .row .high); body = subst (λ (f : Fields). WellFormedBody (KeyOf bits) bits f (bodyOf (laid .type))) fields (r .0) };
         whole = from-restricted (laid .type) (laid .body) _ (o .body);
         encoded = sym all ∙ r .1 ∙ ap encodeNlri fields;
       }
 
-  single-complete : (f : Fields) → WellFormed family f → andThen (laidSingle family (encodeNlri f)) (λ laid. given (fieldsOf laid (encodeNlri f))) ≡ given (restricted f)
+  single-complete : (f : Fields) → WellFormed bits f → andThen (laidSingle bits (encodeNlri f)) (λ laid. given (fieldsOf laid (encodeNlri f))) ≡ given (restricted f)
   unfolding laidSingle laidAt fieldsOf encodeNlri
   single-complete f w =
       let body : List FieldKind = bodyOf (f .type) in
-      let laid : laidAt family (encodeNlri f) ≡ given (record { type = f .type; size = length (encodeBody f body); body = body; sizes = sizesIn f body }) =
-      ap (laidAt family) (sym (append-nil (encodeNlri f))) ∙ laid-complete (keyField family) (KeyOf family) (key-judges family whole) family whole f [] (w .typed) (w .body) in
+      let laid : laidAt bits (encodeNlri f) ≡ given (record { type = f .type; size = length (encodeBody f body); body = body; sizes = sizesIn f body }) =
+      ap (laidAt bits) (sym (append-nil (encodeNlri f))) ∙ laid-complete (keyField bits) (KeyOf bits) (key-judges bits whole) bits whole f [] (w .typed) (w .body) in
       let cuts : cut (sizesIn f body) (encodeBody f body) ≡ piecesOf f body = ap (cut (sizesIn f body)) (sym (append-nil (encodeBody f body))) ∙ cut-body f body [] in
       sym (goes _ _ _ _ (sym (goes _ _ _ _ laid (sym (pick-true _ _ _ (eq-eqb (suc (suc (length (encodeBody f body))) - 2) (length (encodeBody f body)) (omega arith))))))
-      (ap given (sym (ap (λ (x : List (List ℕ)). fieldsFrom (f .type) (λ kind. fieldIn [] kind body x)) cuts ∙ from-encoded (KeyOf family) family f (w .body)))))
+      (ap given (sym (ap (λ (x : List (List ℕ)). fieldsFrom (f .type) (λ kind. fieldIn [] kind body x)) cuts ∙ from-encoded (KeyOf bits) bits f (w .body)))))
 
-  octets : (f : Fields) → WellFormed family f → (most : ℕ) → mostIn 60 (bodyOf (f .type)) ≤ most → most < 256 → (length (encodeNlri f) ≤ 2 + most) × AllOctets (encodeNlri f)
+  octets : (f : Fields) → WellFormed bits f → (most : ℕ) → mostIn 60 (bodyOf (f .type)) ≤ most → most < 256 → (length (encodeNlri f) ≤ 2 + most) × AllOctets (encodeNlri f)
   octets f w most within fits =
-      let small = family-octets afi family bits .1 in
-      nlri-octets (keyField family) (KeyOf family) (key-judges family whole) family whole 60 (key-octets family whole small) small f (w .typed) (w .body) most within fits
+      let small = family-octets afi bits ofFamily .1 in
+      nlri-octets (keyField bits) (KeyOf bits) (key-judges bits whole) bits whole 60 (key-octets bits whole small) small f (w .typed) (w .body) most within fits
 
-  row : (f : Fields) → WellFormed family f → RowOf (f .type)
+  row : (f : Fields) → WellFormed bits f → RowOf (f .type)
   row f w = rowOf (f .type) (known (f .type) (w .typed .0) (w .typed .1))
 
 pub read-sound : (afi : ℕ) (s : List ℕ) (f : Fields) → AllOctets s → readNlri afi s ≡ given f → ReadAs afi s f
@@ -124,17 +124,17 @@ read-sound afi s f a e =
     let q = passed _ _ _ (p .second) in
     subst (ReadAs afi s) (given-same (q .second)) (single-sound afi (p .value) (p .first) s (q .value) a (q .first))
 
-pub read-encoded : (afi family : ℕ) (f : Fields) → familyBits afi ≡ given family → WellFormed family f → readNlri afi (encodeNlri f) ≡ given (restricted f)
+pub read-encoded : (afi bits : ℕ) (f : Fields) → familyBits afi ≡ given bits → WellFormed bits f → readNlri afi (encodeNlri f) ≡ given (restricted f)
 unfolding readNlri
-read-encoded afi family f bits w = sym (goes _ _ _ _ bits (sym (single-complete afi family bits f w)))
+read-encoded afi bits f ofFamily w = sym (goes _ _ _ _ ofFamily (sym (single-complete afi bits ofFamily f w)))
 
 pub acceptance : Acceptance
 acceptance =
     record {
-      exactly = λ afi s f a. (read-sound afi s f a, λ r. ap (readNlri afi) (r .encoded) ∙ read-encoded afi (r .family) f (r .bits) (r .wellFormed) ∙ ap given (r .whole));
+      exactly = λ afi s f a. (read-sound afi s f a, λ r. ap (readNlri afi) (r .encoded) ∙ read-encoded afi (r .bits) f (r .ofFamily) (r .wellFormed) ∙ ap given (r .whole));
       encoded = read-encoded;
-      octets = λ afi family f bits w. octets afi family bits f w 76 (row afi family bits f w .most) (omega arith) .1;
-      most = λ afi family f bits w. octets afi family bits f w 76 (row afi family bits f w .most) (omega arith) .0;
-      plain = λ afi family f bits w other. octets afi family bits f w 58 (row afi family bits f w .plain other .1) (omega arith) .0;
-      same = λ afi family f g bits w v e. given-same (sym (read-encoded afi family f bits w) ∙ ap (readNlri afi) e ∙ read-encoded afi family g bits v);
+      octets = λ afi bits f ofFamily w. octets afi bits ofFamily f w 76 (row afi bits ofFamily f w .most) (omega arith) .1;
+      most = λ afi bits f ofFamily w. octets afi bits ofFamily f w 76 (row afi bits ofFamily f w .most) (omega arith) .0;
+      plain = λ afi bits f ofFamily w other. octets afi bits ofFamily f w 58 (row afi bits ofFamily f w .plain other .1) (omega arith) .0;
+      same = λ afi bits f g ofFamily w v e. given-same (sym (read-encoded afi bits f ofFamily w) ∙ ap (readNlri afi) e ∙ read-encoded afi bits g ofFamily v);
     }

@@ -77,8 +77,8 @@ module _ (type at n : ℕ) where
   end-past h = tested (eqb type 3) (λ t. pick-true _ _ _ t ∙ rest-past _ at n h) (λ f. pick-false _ _ _ f ∙ rest-past _ at n h)
 
 -- an address by where its length octet stands, and what follows it by where it ends
-module _ (family type at : ℕ) (s : List ℕ) where
-  address-past : (next : ℕ → ℕ) → length s ≤ at → addressThen family type at s next ≡ LENGTH
+module _ (bits type at : ℕ) (s : List ℕ) where
+  address-past : (next : ℕ → ℕ) → length s ≤ at → addressThen bits type at s next ≡ LENGTH
   unfolding addressThen
   address-past next h = pick-true _ _ _ (le-leb (length s) at h)
 
@@ -95,13 +95,13 @@ module _ (family type at : ℕ) (s : List ℕ) where
         (λ t. past (at + 1 + octets) (omega (arith, leb-true)) ∙ number-stops LENGTH _ after (pick-true _ _ _ t))
         (λ f. ap next e ∙ within (1 + octets) (omega (arith, leb-false)) ∙ number-goes _ _ (1 + octets) after (pick-false _ _ _ f) refl)
 
-    judged : (n : ℕ) → pick (allowed family type n) (next (at + 1 + n / 8)) WIDTH ≡ numberOf (andThen (pick (allowed family type n) (addressEnd (n / 8) (drop at s)) (refused WIDTH)) after)
+    judged : (n : ℕ) → pick (allowed bits type n) (next (at + 1 + n / 8)) WIDTH ≡ numberOf (andThen (pick (allowed bits type n) (addressEnd (n / 8) (drop at s)) (refused WIDTH)) after)
     judged n =
-        tested (allowed family type n)
+        tested (allowed bits type n)
         (λ t. pick-true _ _ _ t ∙ ended (n / 8) ∙ ap (λ (o : Outcome ℕ). numberOf (andThen o after)) (sym (pick-true _ _ _ t)))
         (λ f. pick-false _ _ _ f ∙ number-stops WIDTH _ after (pick-false _ _ _ f))
 
-    address-number : addressThen family type at s next ≡ numberOf (andThen (addressField family type (drop at s)) after)
+    address-number : addressThen bits type at s next ≡ numberOf (andThen (addressField bits type (drop at s)) after)
     unfolding addressThen addressField
     address-number =
         let l : length (drop at s) ≡ length s - at = length-drop at s in
@@ -109,37 +109,37 @@ module _ (family type at : ℕ) (s : List ℕ) where
         (λ t. pick-true _ _ _ t ∙ number-stops LENGTH _ after (pick-true _ _ _ (eq-eqb (length (drop at s)) 0 (omega (arith, leb-true)))))
         (λ f. pick-false _ _ _ f ∙ judged (getD s at 0)
         ∙ ap (λ (o : Outcome ℕ). numberOf (andThen o after))
-        (sym (pick-false _ _ _ (ne-eqb (length (drop at s)) 0 (λ q. omega (arith, leb-false))) ∙ ap (λ (n : ℕ). pick (allowed family type n) (addressEnd (n / 8) (drop at s)) (refused WIDTH)) octet)))
+        (sym (pick-false _ _ _ (ne-eqb (length (drop at s)) 0 (λ q. omega (arith, leb-false))) ∙ ap (λ (n : ℕ). pick (allowed bits type n) (addressEnd (n / 8) (drop at s)) (refused WIDTH)) octet)))
 
 -- a source and a group, and what follows them
-module _ (family type at : ℕ) (s : List ℕ) where
+module _ (bits type at : ℕ) (s : List ℕ) where
   group-number : (a : ℕ) → at + a ≤ length s
-      → groupFault family type (at + a) s ≡ numberOf (andThen (withGroup family type a (drop a (drop at s))) (λ sizes. flowEnd type (length s) (sizes .0) (sizes .1) (length s - at - sizes .0 - sizes .1)))
+      → groupFault bits type (at + a) s ≡ numberOf (andThen (withGroup bits type a (drop a (drop at s))) (λ sizes. flowEnd type (length s) (sizes .0) (sizes .1) (length s - at - sizes .0 - sizes .1)))
   unfolding groupFault withGroup
   group-number a h =
-      address-number family type (at + a) s _ (λ b. flowEnd type (length s) a b (length s - at - a - b))
+      address-number bits type (at + a) s _ (λ b. flowEnd type (length s) a b (length s - at - a - b))
       (λ b q. end-within type (at + a + b) (length s) (length s) a b q ∙ ap (λ (r : ℕ). numberOf (flowEnd type (length s) a b r)) (omega arith))
       (λ end q. end-past type end (length s) q)
-      ∙ ap (λ (x : List ℕ). numberOf (andThen (addressField family type x) (λ b. flowEnd type (length s) a b (length s - at - a - b)))) (sym (drop-drop a at s))
+      ∙ ap (λ (x : List ℕ). numberOf (andThen (addressField bits type x) (λ b. flowEnd type (length s) a b (length s - at - a - b)))) (sym (drop-drop a at s))
       ∙ sym (ap numberOf (and-assoc _ _ _ ∙ and-cong _ _ _ (λ b e. and-given _ _)))
 
-  group-past : (end : ℕ) → length s < end → groupFault family type end s ≡ LENGTH
+  group-past : (end : ℕ) → length s < end → groupFault bits type end s ≡ LENGTH
   unfolding groupFault
-  group-past end h = address-past family type end s _ (omega arith)
+  group-past end h = address-past bits type end s _ (omega arith)
 
-  pub flow-number : flowFault family type at s ≡ numberOf (flowRoute family type at s)
+  pub flow-number : flowFault bits type at s ≡ numberOf (flowRoute bits type at s)
   unfolding flowFault flowRoute flowSizes numberOf
   flow-number =
       tested (ltb (length s) at)
-      (λ t. address-past family type at s _ (omega (arith, ltb-true)) ∙ ap numberOf (sym (pick-true _ _ _ t)))
-      (λ f. address-number family type at s _ _ group-number group-past ∙ sym (ap numberOf (pick-false _ _ _ f ∙ and-assoc _ _ _)))
+      (λ t. address-past bits type at s _ (omega (arith, ltb-true)) ∙ ap numberOf (sym (pick-true _ _ _ t)))
+      (λ f. address-number bits type at s _ _ group-number group-past ∙ sym (ap numberOf (pick-false _ _ _ f ∙ and-assoc _ _ _)))
 
 -- the body of a route type
-module _ (keyed : Outcome Layout) (family type : ℕ) (s : List ℕ) where
-  pub of-type : (k : ℕ) (body : Outcome Layout) → type ≡ k → body ≡ bodyWith keyed family k s → body ≡ bodyWith keyed family type s
-  of-type k body e q = q ∙ ap (λ (n : ℕ). bodyWith keyed family n s) (sym e)
+module _ (keyed : Outcome Layout) (bits type : ℕ) (s : List ℕ) where
+  pub of-type : (k : ℕ) (body : Outcome Layout) → type ≡ k → body ≡ bodyWith keyed bits k s → body ≡ bodyWith keyed bits type s
+  of-type k body e q = q ∙ ap (λ (n : ℕ). bodyWith keyed bits n s) (sym e)
 
-  pub of-none : 7 < type → refused TYPE ≡ bodyWith keyed family type s
+  pub of-none : 7 < type → refused TYPE ≡ bodyWith keyed bits type s
   unfolding bodyWith
   of-none h =
       let other : (k : ℕ) → k ≤ 7 → eqb type k ≡ false = λ k low. ne-eqb type k (λ q. omega arith) in
@@ -147,17 +147,17 @@ module _ (keyed : Outcome Layout) (family type : ℕ) (s : List ℕ) where
       (skips _ _ _ _ (other 5 (omega arith)) (skips _ _ _ _ (other 6 (omega arith)) (skips _ _ _ _ (other 7 (omega arith)) refl))))))
 
   -- types 3, 5, 6 and 7
-  pub of-flow : 1 ≤ type → type ≤ 7 → (type ≡ 1 → ⊥) → (type ≡ 2 → ⊥) → (type ≡ 4 → ⊥) → flowRoute family type (sourceStart type - 3) s ≡ bodyWith keyed family type s
+  pub of-flow : 1 ≤ type → type ≤ 7 → (type ≡ 1 → ⊥) → (type ≡ 2 → ⊥) → (type ≡ 4 → ⊥) → flowRoute bits type (sourceStart type - 3) s ≡ bodyWith keyed bits type s
   unfolding bodyWith sourceStart withSourceAs either pick
   of-flow low high one two four =
       tested (eqb type 3) (λ t. at 3 (eqb-true _ _ t) refl)
       (λ n₃. tested (eqb type 5) (λ t. at 5 (eqb-true _ _ t) refl)
       (λ n₅. tested (eqb type 6) (λ t. at 6 (eqb-true _ _ t) refl) (λ n₆. at 7 (omega (arith, eqb-false)) refl)))
     where
-      at : (k : ℕ) → type ≡ k → flowRoute family k (sourceStart k - 3) s ≡ bodyWith keyed family k s → flowRoute family type (sourceStart type - 3) s ≡ bodyWith keyed family type s
-      at k e r = subst (λ (n : ℕ). flowRoute family n (sourceStart n - 3) s ≡ bodyWith keyed family n s) (sym e) r
+      at : (k : ℕ) → type ≡ k → flowRoute bits k (sourceStart k - 3) s ≡ bodyWith keyed bits k s → flowRoute bits type (sourceStart type - 3) s ≡ bodyWith keyed bits type s
+      at k e r = subst (λ (n : ℕ). flowRoute bits n (sourceStart n - 3) s ≡ bodyWith keyed bits n s) (sym e) r
 
   -- but for a Leaf the key does not matter
-  pub of-other : (keyed′ : Outcome Layout) → (type ≡ 4 → ⊥) → bodyWith keyed family type s ≡ bodyWith keyed′ family type s
+  pub of-other : (keyed′ : Outcome Layout) → (type ≡ 4 → ⊥) → bodyWith keyed bits type s ≡ bodyWith keyed′ bits type s
   unfolding bodyWith pick
   of-other keyed′ h = rw (ne-eqb type 4 h)

@@ -7,8 +7,8 @@ use Rattle.octets.specs.Outcome.{given}
 use Rattle.nlri.specs.Family.{familyBits}
 use Rattle.nlri.proofs.Lengths.{lengths}
 
-pub family-is : (afi family : ℕ) → familyBits afi ≡ given family → (family ≡ 32) ⊎ (family ≡ 128)
-family-is afi family e = ⊎-elim (λ one. inl (one .1)) (λ two. inr (two .1)) (lengths .families afi family .0 e)
+pub family-is : (afi bits : ℕ) → familyBits afi ≡ given bits → (bits ≡ 32) ⊎ (bits ≡ 128)
+family-is afi bits e = ⊎-elim (λ one. inl (one .1)) (λ two. inr (two .1)) (lengths .families afi bits .0 e)
 
-pub family-least : (afi family : ℕ) → familyBits afi ≡ given family → 32 ≤ family
-family-least afi family e = ⊎-elim (λ p. omega arith) (λ p. omega arith) (family-is afi family e)
+pub family-least : (afi bits : ℕ) → familyBits afi ≡ given bits → 32 ≤ bits
+family-least afi bits e = ⊎-elim (λ p. omega arith) (λ p. omega arith) (family-is afi bits e)

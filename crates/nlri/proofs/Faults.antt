@@ -32,22 +32,22 @@ fixed-refuses : (m n : ℕ) (s : List ℕ) → (length s < m) × (n ≡ LENGTH) 
 unfolding fixedField
 fixed-refuses m n s h = pick-true _ _ _ (lt-ltb (length s) m (h .0)) ∙ ap refused (sym (h .1))
 
-address-refused : (family type n : ℕ) (s : List ℕ) → addressField family type s ≡ refused n → AddressFault family type s n
+address-refused : (bits type n : ℕ) (s : List ℕ) → addressField bits type s ≡ refused n → AddressFault bits type s n
 unfolding addressField addressEnd
-address-refused family type n s e =
-    ⊎-elim (λ none. subst (AddressFault family type s) (refused-same {A = ℕ} (none .1)) (missing (eqb-true _ _ (none .0))))
+address-refused bits type n s e =
+    ⊎-elim (λ none. subst (AddressFault bits type s) (refused-same {A = ℕ} (none .1)) (missing (eqb-true _ _ (none .0))))
     (λ some.
     let one : 1 ≤ length s = omega (arith, eqb-false (length s) 0 (some .0)) in
-    ⊎-elim (λ good. let p = refuses-where _ _ _ _ (good .1) in subst (AddressFault family type s) (sym (p .1)) (ends one (good .0) (omega (arith, leb-true))))
-    (λ bad. subst (AddressFault family type s) (refused-same {A = ℕ} (bad .1)) (width one (bad .0)))
+    ⊎-elim (λ good. let p = refuses-where _ _ _ _ (good .1) in subst (AddressFault bits type s) (sym (p .1)) (ends one (good .0) (omega (arith, leb-true))))
+    (λ bad. subst (AddressFault bits type s) (refused-same {A = ℕ} (bad .1)) (width one (bad .0)))
     (picked _ _ _ _ (some .1)))
     (picked _ _ _ _ e)
 
-address-refuses : (family type n : ℕ) (s : List ℕ) → AddressFault family type s n → addressField family type s ≡ refused n
+address-refuses : (bits type n : ℕ) (s : List ℕ) → AddressFault bits type s n → addressField bits type s ≡ refused n
 unfolding addressField addressEnd
-address-refuses family type n s (missing h) = pick-true _ _ _ (eq-eqb (length s) 0 h)
-address-refuses family type n s (width some bad) = pick-false _ _ _ (ne-eqb (length s) 0 (λ e. omega arith)) ∙ pick-false _ _ _ bad
-address-refuses family type n s (ends some good h) =
+address-refuses bits type n s (missing h) = pick-true _ _ _ (eq-eqb (length s) 0 h)
+address-refuses bits type n s (width some bad) = pick-false _ _ _ (ne-eqb (length s) 0 (λ e. omega arith)) ∙ pick-false _ _ _ bad
+address-refuses bits type n s (ends some good h) =
     pick-false _ _ _ (ne-eqb (length s) 0 (λ e. omega arith)) ∙ pick-true _ _ _ good ∙ pick-true _ _ _ (le-leb (length s) (getD s 0 0 / 8) (omega arith))
 
 originator-refused : (n : ℕ) (s : List ℕ) → originatorField s ≡ refused n → (isOriginatorSize (length s) ≡ false) × (n ≡ LENGTH)
@@ -58,33 +58,33 @@ originator-refuses : (n : ℕ) (s : List ℕ) → (isOriginatorSize (length s) �
 unfolding originatorField
 originator-refuses n s h = pick-false _ _ _ (h .0) ∙ ap refused (sym (h .1))
 
-module _ (family : ℕ) (whole : 8 * (family / 8) ≡ family) where
-  judges : Judges (keyField family) (KeyOf family)
-  judges = key-judges family whole
+module _ (bits : ℕ) (whole : 8 * (bits / 8) ≡ bits) where
+  judges : Judges (keyField bits) (KeyOf bits)
+  judges = key-judges bits whole
 
-  field-refused : (type : ℕ) (k : FieldKind) (s : List ℕ) (n : ℕ) → fieldSize (keyField family) family type k s ≡ refused n → Fault family type k s n
+  field-refused : (type : ℕ) (k : FieldKind) (s : List ℕ) (n : ℕ) → fieldSize (keyField bits) bits type k s ≡ refused n → Fault bits type k s n
   unfolding fieldSize
   field-refused type distinguisher s n e = fixed-refused 8 n s e
   field-refused type sourceAs s n e = fixed-refused 4 n s e
-  field-refused type source s n e = address-refused family type n s e
-  field-refused type group s n e = address-refused family type n s e
+  field-refused type source s n e = address-refused bits type n s e
+  field-refused type group s n e = address-refused bits type n s e
   field-refused type originator s n e = originator-refused n s e
   field-refused type key s n e =
-      (λ size fits of. never (ap (keyField family) (sym (take-append-drop size s)) ∙ judges .complete (take size s) (drop size s) of) e, judges .refuses s n e)
+      (λ size fits of. never (ap (keyField bits) (sym (take-append-drop size s)) ∙ judges .complete (take size s) (drop size s) of) e, judges .refuses s n e)
 
-  fault-refuses : (type : ℕ) (k : FieldKind) (s : List ℕ) (n : ℕ) → AllOctets s → Fault family type k s n → fieldSize (keyField family) family type k s ≡ refused n
+  fault-refuses : (type : ℕ) (k : FieldKind) (s : List ℕ) (n : ℕ) → AllOctets s → Fault bits type k s n → fieldSize (keyField bits) bits type k s ≡ refused n
   unfolding fieldSize
   fault-refuses type distinguisher s n a h = fixed-refuses 8 n s h
   fault-refuses type sourceAs s n a h = fixed-refuses 4 n s h
-  fault-refuses type source s n a h = address-refuses family type n s h
-  fault-refuses type group s n a h = address-refuses family type n s h
+  fault-refuses type source s n a h = address-refuses bits type n s h
+  fault-refuses type group s n a h = address-refuses bits type n s h
   fault-refuses type originator s n a h = originator-refuses n s h
   fault-refuses type key s n a h =
       ⊎-elim (λ yes. let p = judges .sound s (yes .0) a (yes .1) in absurd (h .0 (yes .0) (p .0) (p .1)))
-      (λ no. no .1 ∙ ap refused (judges .refuses s (no .0) (no .1) ∙ sym (h .1))) (outcome (keyField family s))
+      (λ no. no .1 ∙ ap refused (judges .refuses s (no .0) (no .1) ∙ sym (h .1))) (outcome (keyField bits s))
 
   -- what stands after a field that was read
-  field-closes : (type : ℕ) (k : FieldKind) (s : List ℕ) (n : ℕ) → fieldSize (keyField family) family type k s ≡ given n → Closes k (drop n s)
+  field-closes : (type : ℕ) (k : FieldKind) (s : List ℕ) (n : ℕ) → fieldSize (keyField bits) bits type k s ≡ given n → Closes k (drop n s)
   unfolding fieldSize
   field-closes type distinguisher s n e = tt
   field-closes type sourceAs s n e = tt
@@ -93,53 +93,53 @@ module _ (family : ℕ) (whole : 8 * (family / 8) ≡ family) where
   field-closes type originator s n e = ap (λ (m : ℕ). drop m s) (originator-given n s e .1) ∙ drop-length s
   field-closes type key s n e = tt
 
-  pub body-refused : (type : ℕ) (body : List FieldKind) (s : List ℕ) (n : ℕ) → AllOctets s → sizesOf (fieldSize (keyField family) family type) body s ≡ refused n → Faulty family type body s n
+  pub body-refused : (type : ℕ) (body : List FieldKind) (s : List ℕ) (n : ℕ) → AllOctets s → sizesOf (fieldSize (keyField bits) bits type) body s ≡ refused n → Faulty bits type body s n
   unfolding sizesOf
   body-refused type [] s n a e =
       let p = refuses-unless _ _ _ _ e in
       let some : 0 < length s = omega (arith, eqb-false (length s) 0 (p .0)) in
-      subst (Faulty family type [] s) (sym (p .1)) (remains some)
+      subst (Faulty bits type [] s) (sym (p .1)) (remains some)
   body-refused type (k ∷ body) s n a e =
       ⊎-elim (λ first. here (field-refused type k s n first))
       (λ next.
       let m : ℕ = next .value in
-      let p = field-sound (keyField family) (KeyOf family) judges family whole type k s m (λ _. take m s) a (next .first) refl in
+      let p = field-sound (keyField bits) (KeyOf bits) judges bits whole type k s m (λ _. take m s) a (next .first) refl in
       later (take m s) (drop m s) (sym (take-append-drop m s))
       (record { fields = fieldsFrom type (λ _. take m s); typed = refl; wellFormed = p .1; encoded = sym (p .2); last = field-closes type k s m (next .first) })
       (body-refused type body (drop m s) n (octets-drop m a) (⊎-elim (λ rest. rest) (λ none. absurd (never refl (none .second))) (stopped _ _ _ (next .second)))))
       (stopped _ _ _ e)
 
-  pub faulty-refuses : (type : ℕ) (body : List FieldKind) (s : List ℕ) (n : ℕ) → AllOctets s → Faulty family type body s n → sizesOf (fieldSize (keyField family) family type) body s ≡ refused n
+  pub faulty-refuses : (type : ℕ) (body : List FieldKind) (s : List ℕ) (n : ℕ) → AllOctets s → Faulty bits type body s n → sizesOf (fieldSize (keyField bits) bits type) body s ≡ refused n
   unfolding sizesOf
   faulty-refuses type body s n a (remains h) = pick-false _ _ _ (ne-eqb (length s) 0 (λ e. omega arith))
   faulty-refuses type body s n a (here {k = k} fault) = sym (stops _ _ _ (fault-refuses type k s n a fault))
   faulty-refuses type body s n a (later {k = k} {body = rest} x t e at fault) =
       let f : Fields = at .fields in
       let whole-s : s ≡ encodeField f k ++ t = e ∙ ap (λ (y : List ℕ). y ++ t) (at .encoded) in
-      let size : fieldSize (keyField family) family type k s ≡ given (length (encodeField f k)) =
-      ap (fieldSize (keyField family) family type k) whole-s ∙ ap (λ (m : ℕ). fieldSize (keyField family) family m k (encodeField f k ++ t)) (sym (at .typed))
-      ∙ field-complete (keyField family) (KeyOf family) judges family whole f k t (at .wellFormed) (at .last) in
+      let size : fieldSize (keyField bits) bits type k s ≡ given (length (encodeField f k)) =
+      ap (fieldSize (keyField bits) bits type k) whole-s ∙ ap (λ (m : ℕ). fieldSize (keyField bits) bits m k (encodeField f k ++ t)) (sym (at .typed))
+      ∙ field-complete (keyField bits) (KeyOf bits) judges bits whole f k t (at .wellFormed) (at .last) in
       let remainder : drop (length (encodeField f k)) s ≡ t = ap (drop (length (encodeField f k))) whole-s ∙ drop-append-seam (encodeField f k) t in
       let o : AllOctets t = subst AllOctets remainder (octets-drop (length (encodeField f k)) a) in
-      sym (goes _ _ _ _ size (stops _ _ _ (ap (sizesOf (fieldSize (keyField family) family type) rest) remainder ∙ faulty-refuses type rest t n o fault)))
+      sym (goes _ _ _ _ size (stops _ _ _ (ap (sizesOf (fieldSize (keyField bits) bits type) rest) remainder ∙ faulty-refuses type rest t n o fault)))
 
-address-numbers : (family type : ℕ) (s : List ℕ) (n : ℕ) → AddressFault family type s n → (n ≡ LENGTH) ⊎ (n ≡ WIDTH) ⊎ (n ≡ KEY)
-address-numbers family type s n (missing h) = inl refl
-address-numbers family type s n (width some bad) = inr (inl refl)
-address-numbers family type s n (ends some good h) = inl refl
+address-numbers : (bits type : ℕ) (s : List ℕ) (n : ℕ) → AddressFault bits type s n → (n ≡ LENGTH) ⊎ (n ≡ WIDTH) ⊎ (n ≡ KEY)
+address-numbers bits type s n (missing h) = inl refl
+address-numbers bits type s n (width some bad) = inr (inl refl)
+address-numbers bits type s n (ends some good h) = inl refl
 
-pub faulty-numbers : (family type : ℕ) (body : List FieldKind) (s : List ℕ) (n : ℕ) → Faulty family type body s n → (n ≡ LENGTH) ⊎ (n ≡ WIDTH) ⊎ (n ≡ KEY)
-faulty-numbers family type body s n (remains h) = inl refl
-faulty-numbers family type body s n (here {k = k} fault) = at k fault
+pub faulty-numbers : (bits type : ℕ) (body : List FieldKind) (s : List ℕ) (n : ℕ) → Faulty bits type body s n → (n ≡ LENGTH) ⊎ (n ≡ WIDTH) ⊎ (n ≡ KEY)
+faulty-numbers bits type body s n (remains h) = inl refl
+faulty-numbers bits type body s n (here {k = k} fault) = at k fault
   where
-    at : (k : FieldKind) → Fault family type k s n → (n ≡ LENGTH) ⊎ (n ≡ WIDTH) ⊎ (n ≡ KEY)
+    at : (k : FieldKind) → Fault bits type k s n → (n ≡ LENGTH) ⊎ (n ≡ WIDTH) ⊎ (n ≡ KEY)
     at distinguisher h = inl (h .1)
     at sourceAs h = inl (h .1)
-    at source h = address-numbers family type s n h
-    at group h = address-numbers family type s n h
+    at source h = address-numbers bits type s n h
+    at group h = address-numbers bits type s n h
     at originator h = inl (h .1)
     at key h = inr (inr (h .1))
-faulty-numbers family type body s n (later {body = rest} x t e at fault) = faulty-numbers family type rest t n fault
+faulty-numbers bits type body s n (later {body = rest} x t e at fault) = faulty-numbers bits type rest t n fault
 
 -- the families
 pub family-refused : (afi n : ℕ) → familyBits afi ≡ refused n → (n ≡ FAMILY) × ((afi ≡ 1 → ⊥) × (afi ≡ 2 → ⊥))

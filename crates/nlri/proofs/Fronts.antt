@@ -46,9 +46,9 @@ two-refusals : {A B : Type 0} (b d : Bool) (n : ℕ) (o : Outcome A) (next : A �
     → andThen (pick b (refused n) (pick d (refused n) o)) next ≡ pick b (refused n) (pick d (refused n) (andThen o next))
 two-refusals b d n o next = simp (and-pick, and-refused)
 
-module _ (kf : List ℕ → Outcome ℕ) (family : ℕ) (s : List ℕ) where
-  front-rows : andThen (laidWith kf family s) (λ laid. given (layoutOf laid))
-      ≡ andThen (headerAt s) (λ h. onBody bodies (h .0) (refused TYPE) (rowLayout (fieldSize kf family (h .0)) (h .0) (part s 2 (h .1))))
+module _ (kf : List ℕ → Outcome ℕ) (bits : ℕ) (s : List ℕ) where
+  front-rows : andThen (laidWith kf bits s) (λ laid. given (layoutOf laid))
+      ≡ andThen (headerAt s) (λ h. onBody bodies (h .0) (refused TYPE) (rowLayout (fieldSize kf bits (h .0)) (h .0) (part s 2 (h .1))))
   unfolding laidWith headerAt rowLayout laidFor
   front-rows =
       two-refusals _ _ _ _ _
@@ -56,13 +56,13 @@ module _ (kf : List ℕ → Outcome ℕ) (family : ℕ) (s : List ℕ) where
       ∙ sym (two-refusals _ _ _ _ _)
     where
       same : ltb (length s) 2 ≡ false → ltb (length s - 2) (getD s 1 0) ≡ false
-          → onBody bodies (getD s 0 0) (refused TYPE) (λ body. andThen (andThen (sizesOf (fieldSize kf family (getD s 0 0)) body (part s 2 (getD s 1 0))) (λ sizes. given (record { type = getD s 0 0; size = getD s 1 0; body = body; sizes = sizes }))) (λ laid. given (layoutOf laid)))
-          ≡ onBody bodies (getD s 0 0) (refused TYPE) (rowLayout (fieldSize kf family (getD s 0 0)) (getD s 0 0) (part s 2 (getD s 1 0)))
+          → onBody bodies (getD s 0 0) (refused TYPE) (λ body. andThen (andThen (sizesOf (fieldSize kf bits (getD s 0 0)) body (part s 2 (getD s 1 0))) (λ sizes. given (record { type = getD s 0 0; size = getD s 1 0; body = body; sizes = sizes }))) (λ laid. given (layoutOf laid)))
+          ≡ onBody bodies (getD s 0 0) (refused TYPE) (rowLayout (fieldSize kf bits (getD s 0 0)) (getD s 0 0) (part s 2 (getD s 1 0)))
       same enough whole =
-          ap (λ (n : ℕ). onBody bodies (getD s 0 0) (refused TYPE) (λ body. andThen (andThen (sizesOf (fieldSize kf family (getD s 0 0)) body (part s 2 (getD s 1 0))) (λ sizes. given (record { type = getD s 0 0; size = n; body = body; sizes = sizes }))) (λ laid. given (layoutOf laid))))
+          ap (λ (n : ℕ). onBody bodies (getD s 0 0) (refused TYPE) (λ body. andThen (andThen (sizesOf (fieldSize kf bits (getD s 0 0)) body (part s 2 (getD s 1 0))) (λ sizes. given (record { type = getD s 0 0; size = n; body = body; sizes = sizes }))) (λ laid. given (layoutOf laid))))
           (sym (part-length s 2 (getD s 1 0) (omega (arith, ltb-false))))
 
-  pub laid-within : (laid : Laid) → laidWith kf family s ≡ given laid → (2 ≤ length s) × (2 + laid .size ≤ length s) × (laid .type ≡ getD s 0 0) × (laid .size ≡ getD s 1 0)
+  pub laid-within : (laid : Laid) → laidWith kf bits s ≡ given laid → (2 ≤ length s) × (2 + laid .size ≤ length s) × (laid .type ≡ getD s 0 0) × (laid .size ≡ getD s 1 0)
   unfolding laidWith
   laid-within laid e =
       let p = given-otherwise _ _ _ _ e in
@@ -75,47 +75,47 @@ module _ (kf : List ℕ → Outcome ℕ) (family : ℕ) (s : List ℕ) where
       (omega (arith, ltb-false), omega (arith, ltb-false), t, n)
 
 -- type and Length of what was laid out, and that it lies within the octets
-pub layout-octets : (family : ℕ) (s : List ℕ) (l : Layout) → layoutAt family s ≡ given l → (2 ≤ length s) × (2 + l .length ≤ length s) × (l .«route_type» ≡ getD s 0 0) × (l .length ≡ getD s 1 0)
+pub layout-octets : (bits : ℕ) (s : List ℕ) (l : Layout) → layoutAt bits s ≡ given l → (2 ≤ length s) × (2 + l .length ≤ length s) × (l .«route_type» ≡ getD s 0 0) × (l .length ≡ getD s 1 0)
 unfolding layoutAt laidAt layoutOf
-layout-octets family s l e =
+layout-octets bits s l e =
     let w = passed _ _ _ e in
     let same : layoutOf (w .value) ≡ l = given-same (w .second) in
-    let h = laid-within (keyField family) family s (w .value) (w .first) in
+    let h = laid-within (keyField bits) bits s (w .value) (w .first) in
     let n : w .value .size ≡ l .length = ap (λ (x : Layout). x .length) same in
     (h .0, omega (arith, h .1), ap (λ (x : Layout). x .«route_type») (sym same) ∙ h .2, sym n ∙ h .3)
 
 -- a body that has no key, by the table's rows
-pub unkeyed-rows : (family type : ℕ) (s : List ℕ) → onBody bodies type (refused TYPE) (rowLayout (fieldSize noKey family type) type s) ≡ unkeyedBody family type s
+pub unkeyed-rows : (bits type : ℕ) (s : List ℕ) → onBody bodies type (refused TYPE) (rowLayout (fieldSize noKey bits type) type s) ≡ unkeyedBody bits type s
 unfolding unkeyedBody noKey
-unkeyed-rows family type s = rows noKey family s type ∙ ap (λ (o : Outcome Layout). bodyWith o family type s) (and-refused _ _)
+unkeyed-rows bits type s = rows noKey bits s type ∙ ap (λ (o : Outcome Layout). bodyWith o bits type s) (and-refused _ _)
 
-pub unkeyed-is : (family : ℕ) (s : List ℕ) → andThen (laidWith noKey family s) (λ laid. given (layoutOf laid)) ≡ unkeyed family s
+pub unkeyed-is : (bits : ℕ) (s : List ℕ) → andThen (laidWith noKey bits s) (λ laid. given (layoutOf laid)) ≡ unkeyed bits s
 unfolding unkeyed
-unkeyed-is family s = front-rows noKey family s ∙ and-cong _ _ _ (λ h e. unkeyed-rows family (h .0) (part s 2 (h .1)))
+unkeyed-is bits s = front-rows noKey bits s ∙ and-cong _ _ _ (λ h e. unkeyed-rows bits (h .0) (part s 2 (h .1)))
 
 -- the layout at the front, by the inner functions' definition
-pub front-is : (o : Outcome Layout) (family : ℕ) (s : List ℕ) → o ≡ anyFront family s → o ≡ layoutAt family s
+pub front-is : (o : Outcome Layout) (bits : ℕ) (s : List ℕ) → o ≡ anyFront bits s → o ≡ layoutAt bits s
 unfolding anyFront anyBody leaf layoutAt laidAt
-front-is o family s e = e ∙ sym (front-rows (keyField family) family s ∙ and-cong _ _ _ (λ h e. rows (keyField family) family (part s 2 (h .1)) (h .0)))
+front-is o bits s e = e ∙ sym (front-rows (keyField bits) bits s ∙ and-cong _ _ _ (λ h e. rows (keyField bits) bits (part s 2 (h .1)) (h .0)))
 
-pub key-is : (o : Outcome ℕ) (family : ℕ) (s : List ℕ) → o ≡ keySize family s → o ≡ keyField family s
+pub key-is : (o : Outcome ℕ) (bits : ℕ) (s : List ℕ) → o ≡ keySize bits s → o ≡ keyField bits s
 unfolding keySize keyField layoutOf
-key-is o family s e = e ∙ ap (onOutcome _ _) (sym (unkeyed-is family s)) ∙ on-mapped _ _ _ _
+key-is o bits s e = e ∙ ap (onOutcome _ _) (sym (unkeyed-is bits s)) ∙ on-mapped _ _ _ _
 
-pub unkeyed-within : (family : ℕ) (s : List ℕ) (l : Layout) → unkeyed family s ≡ given l → 2 + l .length ≤ length s
+pub unkeyed-within : (bits : ℕ) (s : List ℕ) (l : Layout) → unkeyed bits s ≡ given l → 2 + l .length ≤ length s
 unfolding layoutOf
-unkeyed-within family s l e =
-    let w = passed _ _ _ (unkeyed-is family s ∙ e) in
+unkeyed-within bits s l e =
+    let w = passed _ _ _ (unkeyed-is bits s ∙ e) in
     let same = given-same (w .second) in
     let n : w .value .size ≡ l .length = ap (λ (x : Layout). x .length) same in
-    let h = laid-within noKey family s (w .value) (w .first) in
+    let h = laid-within noKey bits s (w .value) (w .first) in
     omega arith
 
-pub key-within : (family : ℕ) (s : List ℕ) (k : ℕ) → keyField family s ≡ given k → (2 ≤ k) × (k ≤ length s)
+pub key-within : (bits : ℕ) (s : List ℕ) (k : ℕ) → keyField bits s ≡ given k → (2 ≤ k) × (k ≤ length s)
 unfolding keyField
-key-within family s k e =
+key-within bits s k e =
     let w = on-given-given _ _ _ _ e in
     let p = given-otherwise _ _ _ _ (w .second) in
     let q = given-same (p .1) in
-    let h = laid-within noKey family s (w .value) (w .first) in
+    let h = laid-within noKey bits s (w .value) (w .first) in
     (omega arith, omega arith)

@@ -48,14 +48,14 @@ unfolding fixedField
 fixed-stands m x t e = pick-false _ _ _ (le-ltb (length (x ++ t)) m (simp length-append (omega arith))) ∙ ap given (sym e)
 
 -- an address read, as its octets encoded
-record AddressRead (family type : ℕ) (piece : List ℕ) : Type 0 where
-  pub fits : allowed family type (8 * length (drop 1 piece)) ≡ true
+record AddressRead (bits type : ℕ) (piece : List ℕ) : Type 0 where
+  pub fits : allowed bits type (8 * length (drop 1 piece)) ≡ true
   pub octets : AllOctets (drop 1 piece)
   pub encoded : encodeAddress (drop 1 piece) ≡ piece
 
-address-given : (family type n : ℕ) (s : List ℕ) → 8 * (family / 8) ≡ family → AllOctets s → addressField family type s ≡ given n → (n ≤ length s) × AddressRead family type (take n s)
+address-given : (bits type n : ℕ) (s : List ℕ) → 8 * (bits / 8) ≡ bits → AllOctets s → addressField bits type s ≡ given n → (n ≤ length s) × AddressRead bits type (take n s)
 unfolding addressField addressEnd encodeAddress
-address-given family type n s whole a e =
+address-given bits type n s whole a e =
     let p = given-otherwise _ _ _ _ e in
     let q = given-unless _ _ _ _ (p .1) in
     let r = given-otherwise _ _ _ _ (q .1) in
@@ -64,18 +64,18 @@ address-given family type n s whole a e =
     let l : length (take n s) ≡ n = length-take-le n s fits in
     let d : length (drop 1 (take n s)) ≡ n - 1 = rw length-drop (omega arith) in
     let first : getD (take n s) 0 0 ≡ getD s 0 0 = getD-take n s 0 0 (omega arith) in
-    let bits : 8 * length (drop 1 (take n s)) ≡ getD s 0 0 = rw d (omega (arith, whole-octets family type (getD s 0 0) whole (q .0))) in (
+    let octet : 8 * length (drop 1 (take n s)) ≡ getD s 0 0 = rw d (omega (arith, whole-octets bits type (getD s 0 0) whole (q .0))) in (
       fits,
       record {
-        fits = rw bits (q .0);
+        fits = rw octet (q .0);
         octets = octets-drop 1 (octets-take n a);
-        encoded = ap (λ (b : ℕ). b ∷ drop 1 (take n s)) (bits ∙ sym first) ∙ sym (front-rest (take n s) (omega arith));
+        encoded = ap (λ (b : ℕ). b ∷ drop 1 (take n s)) (octet ∙ sym first) ∙ sym (front-rest (take n s) (omega arith));
       },
     )
 
-address-stands : (family type : ℕ) (x t : List ℕ) → allowed family type (8 * length x) ≡ true → addressField family type (encodeAddress x ++ t) ≡ given (length (encodeAddress x))
+address-stands : (bits type : ℕ) (x t : List ℕ) → allowed bits type (8 * length x) ≡ true → addressField bits type (encodeAddress x ++ t) ≡ given (length (encodeAddress x))
 unfolding addressField addressEnd encodeAddress
-address-stands family type x t h =
+address-stands bits type x t h =
     pick-false _ _ _ (ne-eqb (suc (length (x ++ t))) 0 (λ e. omega arith))
     ∙ pick-true _ _ _ h
     ∙ pick-false _ _ _ (lt-leb (suc (length (x ++ t))) (8 * length x / 8) (simp length-append (omega arith)))
@@ -85,14 +85,14 @@ pub originator-given : (n : ℕ) (s : List ℕ) → originatorField s ≡ given 
 unfolding originatorField
 originator-given n s e = let p = given-unless _ _ _ _ e in (p .0, sym (given-same (p .1)))
 
-address-octets : (family type : ℕ) (x : List ℕ) → family ≤ 128 → allowed family type (8 * length x) ≡ true → AllOctets x → AllOctets (encodeAddress x)
+address-octets : (bits type : ℕ) (x : List ℕ) → bits ≤ 128 → allowed bits type (8 * length x) ≡ true → AllOctets x → AllOctets (encodeAddress x)
 unfolding encodeAddress
-address-octets family type x small e a = let h : 8 * length x < 256 = omega (arith, address-most family type x small e) in one h a
+address-octets bits type x small e a = let h : 8 * length x < 256 = omega (arith, address-most bits type x small e) in one h a
 
-module _ (judge : List ℕ → Outcome ℕ) (Key : List ℕ → Type 0) (judges : Judges judge Key) (family : ℕ) (whole : 8 * (family / 8) ≡ family) where
+module _ (judge : List ℕ → Outcome ℕ) (Key : List ℕ → Type 0) (judges : Judges judge Key) (bits : ℕ) (whole : 8 * (bits / 8) ≡ bits) where
   -- a field read is well-formed, and is its encoding
-  pub field-sound : (type : ℕ) (k : FieldKind) (s : List ℕ) (n : ℕ) (field : FieldKind → List ℕ) → AllOctets s → fieldSize judge family type k s ≡ given n → field k ≡ take n s
-      → (n ≤ length s) × WellFormedField Key family (fieldsFrom type field) k × (encodeField (fieldsFrom type field) k ≡ take n s)
+  pub field-sound : (type : ℕ) (k : FieldKind) (s : List ℕ) (n : ℕ) (field : FieldKind → List ℕ) → AllOctets s → fieldSize judge bits type k s ≡ given n → field k ≡ take n s
+      → (n ≤ length s) × WellFormedField Key bits (fieldsFrom type field) k × (encodeField (fieldsFrom type field) k ≡ take n s)
   unfolding fieldSize encodeField
   field-sound type distinguisher s n field a e at =
       let p = fixed-is 8 n s e in
@@ -105,12 +105,12 @@ module _ (judge : List ℕ → Outcome ℕ) (Key : List ℕ → Type 0) (judges 
       let l : length (field sourceAs) ≡ 4 = ap length at ∙ length-take-le n s fits ∙ sym (p .0) in
       (fits, rw l at (number-fits o), (rw l at (big-endian-of-number o)) ∙ at)
   field-sound type source s n field a e at =
-      let p = address-given family type n s whole a e in
-      let r : AddressRead family type (field source) = subst (AddressRead family type) (sym at) (p .1) in
+      let p = address-given bits type n s whole a e in
+      let r : AddressRead bits type (field source) = subst (AddressRead bits type) (sym at) (p .1) in
       (p .0, (r .fits, r .octets), r .encoded ∙ at)
   field-sound type group s n field a e at =
-      let p = address-given family type n s whole a e in
-      let r : AddressRead family type (field group) = subst (AddressRead family type) (sym at) (p .1) in
+      let p = address-given bits type n s whole a e in
+      let r : AddressRead bits type (field group) = subst (AddressRead bits type) (sym at) (p .1) in
       (p .0, (r .fits, r .octets), r .encoded ∙ at)
   field-sound type originator s n field a e at =
       let p = originator-given n s e in
@@ -122,31 +122,31 @@ module _ (judge : List ℕ → Outcome ℕ) (Key : List ℕ → Type 0) (judges 
       (p .0, subst Key (sym at) (p .1), at)
 
   -- a well-formed field that stands encoded is read
-  pub field-complete : (f : Fields) (k : FieldKind) (t : List ℕ) → WellFormedField Key family f k → Closes k t
-      → fieldSize judge family (f .type) k (encodeField f k ++ t) ≡ given (length (encodeField f k))
+  pub field-complete : (f : Fields) (k : FieldKind) (t : List ℕ) → WellFormedField Key bits f k → Closes k t
+      → fieldSize judge bits (f .type) k (encodeField f k ++ t) ≡ given (length (encodeField f k))
   unfolding fieldSize encodeField originatorField
   field-complete f distinguisher t w c = fixed-stands 8 (f .distinguisher) t (w .0)
   field-complete f sourceAs t w c = fixed-stands 4 (bigEndian 4 (f .sourceAs)) t (big-endian-length 4 (f .sourceAs))
-  field-complete f source t w c = address-stands family (f .type) (f .source) t (w .0)
-  field-complete f group t w c = address-stands family (f .type) (f .group) t (w .0)
+  field-complete f source t w c = address-stands bits (f .type) (f .source) t (w .0)
+  field-complete f group t w c = address-stands bits (f .type) (f .group) t (w .0)
   field-complete f originator t w c = rw (c, append-nil) (pick-true _ _ _ (w .0))
   field-complete f key t w c = judges .complete (f .key) t w
 
   -- the most octets that a well-formed field takes
-  pub field-most : (w : ℕ) → ((k : List ℕ) → Key k → length k ≤ w) → family ≤ 128 → (f : Fields) (k : FieldKind) → WellFormedField Key family f k → length (encodeField f k) ≤ most w k
+  pub field-most : (w : ℕ) → ((k : List ℕ) → Key k → length k ≤ w) → bits ≤ 128 → (f : Fields) (k : FieldKind) → WellFormedField Key bits f k → length (encodeField f k) ≤ most w k
   unfolding encodeField encodeAddress most
   field-most w bound small f distinguisher h = omega arith
   field-most w bound small f sourceAs h = omega (arith, big-endian-length 4 (f .sourceAs))
-  field-most w bound small f source h = address-most family (f .type) (f .source) small (h .0)
-  field-most w bound small f group h = address-most family (f .type) (f .group) small (h .0)
+  field-most w bound small f source h = address-most bits (f .type) (f .source) small (h .0)
+  field-most w bound small f group h = address-most bits (f .type) (f .group) small (h .0)
   field-most w bound small f originator h = originator-most (length (f .originator)) (h .0)
   field-most w bound small f key h = bound (f .key) h
 
-  pub field-octets : ((k : List ℕ) → Key k → AllOctets k) → family ≤ 128 → (f : Fields) (k : FieldKind) → WellFormedField Key family f k → AllOctets (encodeField f k)
+  pub field-octets : ((k : List ℕ) → Key k → AllOctets k) → bits ≤ 128 → (f : Fields) (k : FieldKind) → WellFormedField Key bits f k → AllOctets (encodeField f k)
   unfolding encodeField encodeAddress
   field-octets ofKey small f distinguisher h = h .1
   field-octets ofKey small f sourceAs h = big-endian-octets 4 (f .sourceAs)
-  field-octets ofKey small f source h = address-octets family (f .type) (f .source) small (h .0) (h .1)
-  field-octets ofKey small f group h = address-octets family (f .type) (f .group) small (h .0) (h .1)
+  field-octets ofKey small f source h = address-octets bits (f .type) (f .source) small (h .0) (h .1)
+  field-octets ofKey small f group h = address-octets bits (f .type) (f .group) small (h .0) (h .1)
   field-octets ofKey small f originator h = h .1
   field-octets ofKey small f key h = ofKey (f .key) h

@@ -29,48 +29,48 @@ none-judges =
       refuses = λ s n e. sym (refused-same {A = ℕ} e);
     }
 
-module _ (family : ℕ) (whole : 8 * (family / 8) ≡ family) where
-  key-sound : (s : List ℕ) (n : ℕ) → AllOctets s → keyField family s ≡ given n → (n ≤ length s) × KeyOf family (take n s)
+module _ (bits : ℕ) (whole : 8 * (bits / 8) ≡ bits) where
+  key-sound : (s : List ℕ) (n : ℕ) → AllOctets s → keyField bits s ≡ given n → (n ≤ length s) × KeyOf bits (take n s)
   unfolding keyField
   key-sound s n a e =
       let p = on-given-given _ _ _ _ e in
       let q = given-otherwise _ _ _ _ (p .second) in
       let size : 2 + p .value .size ≡ n = given-same (q .1) in
-      let o = laid-out noKey family s (p .value) (p .first) in
-      let r = laid-sound noKey NoKey none-judges family whole s (p .value) a (p .first) in
+      let o = laid-out noKey bits s (p .value) (p .first) in
+      let r = laid-sound noKey NoKey none-judges bits whole s (p .value) a (p .first) in
       let low : 1 ≤ p .value .type = o .row .low in
       let high : p .value .type ≤ 3 = omega (arith, ltb-false) in
       let fits : n ≤ length s = omega (arith, o .fits, o .enough) in (
         fits,
         record {
-          fields = fieldsAt noKey NoKey none-judges family whole s (p .value);
+          fields = fieldsAt noKey NoKey none-judges bits whole s (p .value);
           typed = (low, high);
           wellFormed = r .0;
           encoded = ap (λ (m : ℕ). take m s) (sym size) ∙ r .1;
         },
       )
 
-  key-complete : (k t : List ℕ) → KeyOf family k → keyField family (k ++ t) ≡ given (length k)
+  key-complete : (k t : List ℕ) → KeyOf bits k → keyField bits (k ++ t) ≡ given (length k)
   unfolding keyField encodeNlri
   key-complete k t of =
       let f : Fields = of .fields in
       let range : (1 ≤ f .type) × (f .type ≤ 7) = omega (arith, of .typed) in
       rw (of .encoded)
-      (sym (on-given _ _ _ _ _ (laid-complete noKey NoKey none-judges family whole f t range (of .wellFormed)) (sym (pick-false _ _ _ (le-ltb 3 (f .type) (of .typed .1)) ∙ ap given (omega arith)))))
+      (sym (on-given _ _ _ _ _ (laid-complete noKey NoKey none-judges bits whole f t range (of .wellFormed)) (sym (pick-false _ _ _ (le-ltb 3 (f .type) (of .typed .1)) ∙ ap given (omega arith)))))
 
-  key-refuses : (s : List ℕ) (n : ℕ) → keyField family s ≡ refused n → n ≡ KEY
+  key-refuses : (s : List ℕ) (n : ℕ) → keyField bits s ≡ refused n → n ≡ KEY
   unfolding keyField
   key-refuses s n e =
-      turned KEY n _ (laidWith noKey family s) (λ laid m q. ⊎-elim (λ long. sym (refused-same {A = ℕ} (long .1))) (λ short. absurd (never refl (short .1))) (picked _ _ _ _ q)) e
+      turned KEY n _ (laidWith noKey bits s) (λ laid m q. ⊎-elim (λ long. sym (refused-same {A = ℕ} (long .1))) (λ short. absurd (never refl (short .1))) (picked _ _ _ _ q)) e
 
-  pub key-judges : Judges (keyField family) (KeyOf family)
+  pub key-judges : Judges (keyField bits) (KeyOf bits)
   key-judges = record { sound = key-sound; complete = key-complete; refuses = key-refuses }
 
   -- a key takes at most 60 octets
-  pub key-octets : family ≤ 128 → (k : List ℕ) → KeyOf family k → (length k ≤ 60) × AllOctets k
+  pub key-octets : bits ≤ 128 → (k : List ℕ) → KeyOf bits k → (length k ≤ 60) × AllOctets k
   key-octets small k of =
       let f : Fields = of .fields in
       let range : (1 ≤ f .type) × (f .type ≤ 7) = omega (arith, of .typed) in
       let row = rowOf (f .type) (known (f .type) (range .0) (range .1)) in
-      let h = nlri-octets noKey NoKey none-judges family whole 60 (λ k none. absurd none) small f range (of .wellFormed) 58 (row .plain (λ e. omega (arith, of .typed)) .1) (omega arith) in
+      let h = nlri-octets noKey NoKey none-judges bits whole 60 (λ k none. absurd none) small f range (of .wellFormed) 58 (row .plain (λ e. omega (arith, of .typed)) .1) (omega arith) in
       rw (of .encoded) (omega (arith, h .0), h .1)

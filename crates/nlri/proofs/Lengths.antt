@@ -15,9 +15,9 @@ use Rattle.octets.proofs.Refusals.{picked, either-second}
 use Rattle.nlri.specs.Family.{familyBits, allowed, isOriginatorSize}
 use Rattle.nlri.specs.Statements.{Lengths}
 
-family-exactly : (afi family : ℕ) → (familyBits afi ≡ given family) ↔ (((afi ≡ 1) × (family ≡ 32)) ⊎ ((afi ≡ 2) × (family ≡ 128)))
+family-exactly : (afi bits : ℕ) → (familyBits afi ≡ given bits) ↔ (((afi ≡ 1) × (bits ≡ 32)) ⊎ ((afi ≡ 2) × (bits ≡ 128)))
 unfolding familyBits
-family-exactly afi family = (
+family-exactly afi bits = (
   λ e.
       ⊎-elim (λ one. inl (eqb-true _ _ (one .0), sym (given-same (one .1)))) (λ other. let p = given-unless _ _ _ _ (other .1) in inr (eqb-true _ _ (p .0), sym (given-same (p .1)))) (picked _ _ _ _ e),
   λ h.
@@ -25,11 +25,11 @@ family-exactly afi family = (
       (λ two. pick-false _ _ _ (ne-eqb afi 1 (λ e. omega (arith, two .0))) ∙ pick-true _ _ _ (eq-eqb afi 2 (two .0)) ∙ ap given (sym (two .1))) h,
 )
 
-allowed-exactly : (family type bits : ℕ) → (allowed family type bits ≡ true) ↔ ((bits ≡ family) ⊎ ((type ≡ 3) × (bits ≡ 0)))
+allowed-exactly : (bits type octet : ℕ) → (allowed bits type octet ≡ true) ↔ ((octet ≡ bits) ⊎ ((type ≡ 3) × (octet ≡ 0)))
 unfolding allowed
-allowed-exactly family type bits = (
+allowed-exactly bits type octet = (
   λ e. ⊎-elim (λ same. inl (eqb-true _ _ same)) (λ none. inr (eqb-true _ _ (both-true-left _ _ none), eqb-true _ _ (both-true-right _ _ none))) (either-true _ _ e),
-  λ h. ⊎-elim (λ same. either-left _ _ (eq-eqb bits family same)) (λ none. either-second _ _ (both-true _ _ (eq-eqb type 3 (none .0)) (eq-eqb bits 0 (none .1)))) h,
+  λ h. ⊎-elim (λ same. either-left _ _ (eq-eqb octet bits same)) (λ none. either-second _ _ (both-true _ _ (eq-eqb type 3 (none .0)) (eq-eqb octet 0 (none .1)))) h,
 )
 
 originator-exactly : (size : ℕ) → (isOriginatorSize size ≡ true) ↔ ((size ≡ 4) ⊎ (size ≡ 16))
@@ -43,23 +43,23 @@ pub lengths : Lengths
 lengths = record { families = family-exactly; addresses = allowed-exactly; originators = originator-exactly }
 
 -- a family is that of AFI 1 or 2
-pub good-family : (afi family : ℕ) → familyBits afi ≡ given family → (afi ≡ 1) ⊎ (afi ≡ 2)
-good-family afi family e = ⊎-elim (λ one. inl (one .0)) (λ two. inr (two .0)) (family-exactly afi family .0 e)
+pub good-family : (afi bits : ℕ) → familyBits afi ≡ given bits → (afi ≡ 1) ⊎ (afi ≡ 2)
+good-family afi bits e = ⊎-elim (λ one. inl (one .0)) (λ two. inr (two .0)) (family-exactly afi bits .0 e)
 
-pub family-good : (afi : ℕ) → (afi ≡ 1) ⊎ (afi ≡ 2) → (family : ℕ) × (familyBits afi ≡ given family)
+pub family-good : (afi : ℕ) → (afi ≡ 1) ⊎ (afi ≡ 2) → (bits : ℕ) × (familyBits afi ≡ given bits)
 family-good afi (inl e) = (32, family-exactly afi 32 .1 (inl (e, refl)))
 family-good afi (inr e) = (128, family-exactly afi 128 .1 (inr (e, refl)))
 
--- the bits of a family are those of whole octets, and at most 128
-pub family-octets : (afi family : ℕ) → familyBits afi ≡ given family → (8 * (family / 8) ≡ family) × (family ≤ 128)
-family-octets afi family e = ⊎-elim (λ one. omega (arith, one .1)) (λ two. omega (arith, two .1)) (family-exactly afi family .0 e)
+-- the octet of a family are those of whole octets, and at most 128
+pub family-octets : (afi bits : ℕ) → familyBits afi ≡ given bits → (8 * (bits / 8) ≡ bits) × (bits ≤ 128)
+family-octets afi bits e = ⊎-elim (λ one. omega (arith, one .1)) (λ two. omega (arith, two .1)) (family-exactly afi bits .0 e)
 
 -- a length that is allowed is eight times a number of octets
-pub whole-octets : (family type bits : ℕ) → 8 * (family / 8) ≡ family → allowed family type bits ≡ true → 8 * (bits / 8) ≡ bits
-whole-octets family type bits whole e = ⊎-elim (λ same. omega arith) (λ none. omega (arith, none .1)) (allowed-exactly family type bits .0 e)
+pub whole-octets : (bits type octet : ℕ) → 8 * (bits / 8) ≡ bits → allowed bits type octet ≡ true → 8 * (octet / 8) ≡ octet
+whole-octets bits type octet whole e = ⊎-elim (λ same. omega arith) (λ none. omega (arith, none .1)) (allowed-exactly bits type octet .0 e)
 
-pub address-most : (family type : ℕ) (x : List ℕ) → family ≤ 128 → allowed family type (8 * length x) ≡ true → suc (length x) ≤ 17
-address-most family type x small e = ⊎-elim (λ same. omega arith) (λ none. omega (arith, none .1)) (allowed-exactly family type (8 * length x) .0 e)
+pub address-most : (bits type : ℕ) (x : List ℕ) → bits ≤ 128 → allowed bits type (8 * length x) ≡ true → suc (length x) ≤ 17
+address-most bits type x small e = ⊎-elim (λ same. omega arith) (λ none. omega (arith, none .1)) (allowed-exactly bits type (8 * length x) .0 e)
 
 pub originator-most : (n : ℕ) → isOriginatorSize n ≡ true → n ≤ 16
 originator-most n e = ⊎-elim (λ four. omega arith) (λ sixteen. omega arith) (originator-exactly n .0 e)

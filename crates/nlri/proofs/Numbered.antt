@@ -52,8 +52,8 @@ pub number-originator : (t : ℕ) (l : Layout) → t ≡ lastFault (isOriginator
 unfolding originatorLast
 number-originator t l p = p ∙ last-number _ l
 
-pub front-number : (t family : ℕ) (s : List ℕ) → t ≡ numberOf (anyFront family s) → t ≡ numberOf (layoutAt family s)
-front-number t family s p = p ∙ ap numberOf (front-is (anyFront family s) family s refl)
+pub front-number : (t bits : ℕ) (s : List ℕ) → t ≡ numberOf (anyFront bits s) → t ≡ numberOf (layoutAt bits s)
+front-number t bits s p = p ∙ ap numberOf (front-is (anyFront bits s) bits s refl)
 
 pub ruleset numbers = (tests, number-size, number-fault, number-typed, number-unread, number-originator)
 
@@ -69,8 +69,8 @@ unfolding numberOf
 done (given a) u e = (a, refl)
 done (refused n) (number p) e = absurd (omega arith)
 
-pub unkeyed-done : (family type : ℕ) (s : List ℕ) → numberOf (unkeyedBody family type s) ≡ 0 → (l : Layout) × (unkeyedBody family type s ≡ given l)
-unkeyed-done family type s e = done _ (unkeyed-refuses family type s) e
+pub unkeyed-done : (bits type : ℕ) (s : List ℕ) → numberOf (unkeyedBody bits type s) ≡ 0 → (l : Layout) × (unkeyedBody bits type s ≡ given l)
+unkeyed-done bits type s e = done _ (unkeyed-refuses bits type s) e
 
-pub front-done : (family : ℕ) (s : List ℕ) → numberOf (layoutAt family s) ≡ 0 → (l : Layout) × (layoutAt family s ≡ given l)
-front-done family s e = done _ (layout-refuses family s) e
+pub front-done : (bits : ℕ) (s : List ℕ) → numberOf (layoutAt bits s) ≡ 0 → (l : Layout) × (layoutAt bits s ≡ given l)
+front-done bits s e = done _ (layout-refuses bits s) e

@@ -27,26 +27,26 @@ fixed-refuses : (n : ℕ) (s : List ℕ) → Refuses ByReading (fixedField n s)
 unfolding fixedField
 fixed-refuses n s = pick-refuses _ _ _ (number (omega arith)) value
 
-address-refuses : (family type : ℕ) (s : List ℕ) → Refuses ByReading (addressField family type s)
+address-refuses : (bits type : ℕ) (s : List ℕ) → Refuses ByReading (addressField bits type s)
 unfolding addressField addressEnd
-address-refuses family type s = pick-refuses _ _ _ (number (omega arith)) (pick-refuses _ _ _ (pick-refuses _ _ _ (number (omega arith)) value) (number (omega arith)))
+address-refuses bits type s = pick-refuses _ _ _ (number (omega arith)) (pick-refuses _ _ _ (pick-refuses _ _ _ (number (omega arith)) value) (number (omega arith)))
 
-module _ (judge : List ℕ → Outcome ℕ) (judge-refuses : (s : List ℕ) → Refuses ByReading (judge s)) (family : ℕ) where
-  field-refuses : (type : ℕ) (k : FieldKind) (s : List ℕ) → Refuses ByReading (fieldSize judge family type k s)
+module _ (judge : List ℕ → Outcome ℕ) (judge-refuses : (s : List ℕ) → Refuses ByReading (judge s)) (bits : ℕ) where
+  field-refuses : (type : ℕ) (k : FieldKind) (s : List ℕ) → Refuses ByReading (fieldSize judge bits type k s)
   unfolding fieldSize originatorField
   field-refuses type distinguisher s = fixed-refuses 8 s
   field-refuses type sourceAs s = fixed-refuses 4 s
-  field-refuses type source s = address-refuses family type s
-  field-refuses type group s = address-refuses family type s
+  field-refuses type source s = address-refuses bits type s
+  field-refuses type group s = address-refuses bits type s
   field-refuses type originator s = pick-refuses _ _ _ value (number (omega arith))
   field-refuses type key s = judge-refuses s
 
-  sizes-refuses : (type : ℕ) (body : List FieldKind) (s : List ℕ) → Refuses ByReading (sizesOf (fieldSize judge family type) body s)
+  sizes-refuses : (type : ℕ) (body : List FieldKind) (s : List ℕ) → Refuses ByReading (sizesOf (fieldSize judge bits type) body s)
   unfolding sizesOf
   sizes-refuses type [] s = pick-refuses _ _ _ value (number (omega arith))
   sizes-refuses type (k ∷ body) s = then-refuses _ _ (field-refuses type k s) (λ n. then-refuses _ _ (sizes-refuses type body (drop n s)) (λ sizes. value))
 
-  laid-refuses : (s : List ℕ) → Refuses ByReading (laidWith judge family s)
+  laid-refuses : (s : List ℕ) → Refuses ByReading (laidWith judge bits s)
   unfolding laidWith
   laid-refuses s =
       pick-refuses _ _ _ (number (omega arith))
@@ -56,19 +56,19 @@ no-key-refuses : (s : List ℕ) → Refuses ByReading (noKey s)
 unfolding noKey
 no-key-refuses s = number {n = KEY} (omega arith)
 
-front-refuses : (family : ℕ) (s : List ℕ) → Refuses ByReading (laidAt family s)
+front-refuses : (bits : ℕ) (s : List ℕ) → Refuses ByReading (laidAt bits s)
 unfolding laidAt keyField
-front-refuses family s = laid-refuses (keyField family) (λ k. turned-refuses _ _ _ (omega arith) (λ laid. pick-refuses _ _ _ (number (omega arith)) value)) family s
+front-refuses bits s = laid-refuses (keyField bits) (λ k. turned-refuses _ _ _ (omega arith) (λ laid. pick-refuses _ _ _ (number (omega arith)) value)) bits s
 
-pub layout-refuses : (family : ℕ) (s : List ℕ) → Refuses ByReading (layoutAt family s)
+pub layout-refuses : (bits : ℕ) (s : List ℕ) → Refuses ByReading (layoutAt bits s)
 unfolding layoutAt
-layout-refuses family s = then-refuses _ _ (front-refuses family s) (λ laid. value)
+layout-refuses bits s = then-refuses _ _ (front-refuses bits s) (λ laid. value)
 
-pub unkeyed-refuses : (family type : ℕ) (s : List ℕ) → Refuses ByReading (unkeyedBody family type s)
+pub unkeyed-refuses : (bits type : ℕ) (s : List ℕ) → Refuses ByReading (unkeyedBody bits type s)
 unfolding rowLayout laidFor
-unkeyed-refuses family type s =
-    subst (Refuses ByReading) (unkeyed-rows family type s)
-    (body-refuses bodies _ _ _ (omega arith) (λ body. then-refuses _ _ (then-refuses _ _ (sizes-refuses noKey no-key-refuses family type body s) (λ sizes. value)) (λ laid. value)))
+unkeyed-refuses bits type s =
+    subst (Refuses ByReading) (unkeyed-rows bits type s)
+    (body-refuses bodies _ _ _ (omega arith) (λ body. then-refuses _ _ (then-refuses _ _ (sizes-refuses noKey no-key-refuses bits type body s) (λ sizes. value)) (λ laid. value)))
 
 pub family-refuses : (afi : ℕ) → Refuses ByReading (familyBits afi)
 unfolding familyBits
@@ -78,4 +78,4 @@ pub nlri-refuses : (afi : ℕ) (s : List ℕ) → Refuses ByReading (readNlri af
 unfolding readNlri laidSingle
 nlri-refuses afi s =
     then-refuses _ _ (family-refuses afi)
-    (λ family. then-refuses _ _ (then-refuses _ _ (front-refuses family s) (λ laid. pick-refuses _ _ _ value (number (omega arith)))) (λ laid. value))
+    (λ bits. then-refuses _ _ (then-refuses _ _ (front-refuses bits s) (λ laid. pick-refuses _ _ _ value (number (omega arith)))) (λ laid. value))

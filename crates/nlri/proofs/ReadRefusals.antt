@@ -28,55 +28,55 @@ use Rattle.nlri.proofs.Keys.{key-judges}
 use Rattle.nlri.proofs.Acceptance.{acceptance}
 use Rattle.nlri.proofs.Faults.{body-refused, faulty-refuses, faulty-numbers, family-refused, family-refuses}
 
-module _ (afi family : ℕ) (bits : familyBits afi ≡ given family) (s : List ℕ) (a : AllOctets s) where
-  whole : 8 * (family / 8) ≡ family
-  whole = family-octets afi family bits .0
+module _ (afi bits : ℕ) (ofFamily : familyBits afi ≡ given bits) (s : List ℕ) (a : AllOctets s) where
+  whole : 8 * (bits / 8) ≡ bits
+  whole = family-octets afi bits ofFamily .0
 
   not-short : ltb (length s) 2 ≡ false → ltb (length s - 2) (getD s 1 0) ≡ false → TooShort s → ⊥
   not-short enough fits sh = ⊎-elim (λ h. omega (arith, ltb-false)) (λ h. omega (arith, ltb-false)) sh
 
-  laid-refused : (n : ℕ) → laidAt family s ≡ refused n → FrontRefusal family s n
+  laid-refused : (n : ℕ) → laidAt bits s ≡ refused n → FrontRefusal bits s n
   unfolding laidAt laidWith
   laid-refused n e =
-      ⊎-elim (λ h. subst (FrontRefusal family s) (refused-same {A = Laid} (h .1)) (short (inl (ltb-true _ _ (h .0)))))
+      ⊎-elim (λ h. subst (FrontRefusal bits s) (refused-same {A = Laid} (h .1)) (short (inl (ltb-true _ _ (h .0)))))
       (λ enough.
-      ⊎-elim (λ h. subst (FrontRefusal family s) (refused-same {A = Laid} (h .1)) (short (inr (ltb-true _ _ (h .0)))))
+      ⊎-elim (λ h. subst (FrontRefusal bits s) (refused-same {A = Laid} (h .1)) (short (inr (ltb-true _ _ (h .0)))))
       (λ fits.
       ⊎-elim
       (λ good.
       let row = rowOf (getD s 0 0) (good .0) in
       badBody (not-short (enough .0) (fits .0)) (row .low, row .high)
-      (body-refused family whole (getD s 0 0) (bodyOf (getD s 0 0)) (part s 2 (getD s 1 0)) n (octets-part 2 (getD s 1 0) a)
+      (body-refused bits whole (getD s 0 0) (bodyOf (getD s 0 0)) (part s 2 (getD s 1 0)) n (octets-part 2 (getD s 1 0) a)
       (⊎-elim (λ first. first) (λ none. absurd (never refl (none .second))) (stopped _ _ _ (good .1)))))
-      (λ bad. subst (FrontRefusal family s) (refused-same {A = Laid} (bad .1)) (badType (not-short (enough .0) (fits .0)) (λ typed. opposite (known _ (typed .0) (typed .1)) (bad .0))))
+      (λ bad. subst (FrontRefusal bits s) (refused-same {A = Laid} (bad .1)) (badType (not-short (enough .0) (fits .0)) (λ typed. opposite (known _ (typed .0) (typed .1)) (bad .0))))
       (picked _ _ _ _ (sym (on-body _ _ _) ∙ fits .1)))
       (picked _ _ _ _ (enough .1)))
       (picked _ _ _ _ e)
 
-  single-refused : (n : ℕ) → laidSingle family s ≡ refused n → ReadRefusal afi s n
+  single-refused : (n : ℕ) → laidSingle bits s ≡ refused n → ReadRefusal afi s n
   unfolding laidSingle laidAt
   single-refused n e =
-      ⊎-elim (λ first. front family bits (laid-refused n first))
+      ⊎-elim (λ first. front bits ofFamily (laid-refused n first))
       (λ next.
       let laid : Laid = next .value in
-      let o = laid-out (keyField family) family s laid (next .first) in
-      let r = laid-sound (keyField family) (KeyOf family) (key-judges family whole) family whole s laid a (next .first) in
+      let o = laid-out (keyField bits) bits s laid (next .first) in
+      let r = laid-sound (keyField bits) (KeyOf bits) (key-judges bits whole) bits whole s laid a (next .first) in
       ⊎-elim (λ same. absurd (never refl (same .1)))
       (λ more.
       let other : length s - 2 ≡ laid .size → ⊥ = eqb-false (length s - 2) (laid .size) (more .0) in
       let some : 0 < length (drop (2 + laid .size) s) = rw length-drop (omega (arith, o .fits, o .enough)) in
       subst (ReadRefusal afi s) (refused-same {A = Laid} (more .1))
-      (after family (fieldsAt (keyField family) (KeyOf family) (key-judges family whole) family whole s laid) (drop (2 + laid .size) s) bits
+      (after bits (fieldsAt (keyField bits) (KeyOf bits) (key-judges bits whole) bits whole s laid) (drop (2 + laid .size) s) ofFamily
       (record { typed = (o .row .low, o .row .high); body = r .0 })
       (sym (take-append-drop (2 + laid .size) s) ∙ ap (λ (x : List ℕ). x ++ drop (2 + laid .size) s) (r .1)) some))
       (picked _ _ _ _ (next .second)))
       (stopped _ _ _ e)
 
-  laid-short : TooShort s → laidAt family s ≡ refused SHORT
+  laid-short : TooShort s → laidAt bits s ≡ refused SHORT
   unfolding laidAt laidWith
   laid-short sh = go (ltb (length s) 2) refl
     where
-      go : (b : Bool) → ltb (length s) 2 ≡ b → laidAt family s ≡ refused SHORT
+      go : (b : Bool) → ltb (length s) 2 ≡ b → laidAt bits s ≡ refused SHORT
       go true h = pick-true _ _ _ h
       go false h = pick-false _ _ _ h ∙ pick-true _ _ _ (⊎-elim (λ few. absurd (omega (arith, ltb-false))) (λ few. lt-ltb (length s - 2) (getD s 1 0) few) sh)
 
@@ -87,35 +87,35 @@ module _ (afi family : ℕ) (bits : familyBits afi ≡ given family) (s : List �
   fits : (TooShort s → ⊥) → ltb (length s - 2) (getD s 1 0) ≡ false
   fits h = is-false _ (λ few. h (inr (ltb-true _ _ few)))
 
-  laid-untyped : (TooShort s → ⊥) → (KnownType (getD s 0 0) → ⊥) → laidAt family s ≡ refused TYPE
+  laid-untyped : (TooShort s → ⊥) → (KnownType (getD s 0 0) → ⊥) → laidAt bits s ≡ refused TYPE
   unfolding laidAt laidWith
   laid-untyped h t = pick-false _ _ _ (enough h) ∙ pick-false _ _ _ (fits h) ∙ on-body _ _ _ ∙ pick-false _ _ _ (unlisted (getD s 0 0) t)
 
-  laid-faulty : (n : ℕ) → (TooShort s → ⊥) → KnownType (getD s 0 0) → Faulty family (getD s 0 0) (bodyOf (getD s 0 0)) (part s 2 (getD s 1 0)) n → laidAt family s ≡ refused n
+  laid-faulty : (n : ℕ) → (TooShort s → ⊥) → KnownType (getD s 0 0) → Faulty bits (getD s 0 0) (bodyOf (getD s 0 0)) (part s 2 (getD s 1 0)) n → laidAt bits s ≡ refused n
   unfolding laidAt laidWith
   laid-faulty n h t fault =
       pick-false _ _ _ (enough h) ∙ pick-false _ _ _ (fits h) ∙ on-body _ _ _ ∙ pick-true _ _ _ (known (getD s 0 0) (t .0) (t .1))
-      ∙ sym (stops _ _ _ (faulty-refuses family whole (getD s 0 0) (bodyOf (getD s 0 0)) (part s 2 (getD s 1 0)) n (octets-part 2 (getD s 1 0) a) fault))
+      ∙ sym (stops _ _ _ (faulty-refuses bits whole (getD s 0 0) (bodyOf (getD s 0 0)) (part s 2 (getD s 1 0)) n (octets-part 2 (getD s 1 0) a) fault))
 
-  single-after : (f : Fields) (t : List ℕ) → WellFormed family f → s ≡ encodeNlri f ++ t → 0 < length t → laidSingle family s ≡ refused LENGTH
+  single-after : (f : Fields) (t : List ℕ) → WellFormed bits f → s ≡ encodeNlri f ++ t → 0 < length t → laidSingle bits s ≡ refused LENGTH
   unfolding laidSingle laidAt encodeNlri
   single-after f t w e some =
       let body = bodyOf (f .type) in
       let len : length s ≡ suc (suc (length (encodeBody f body) + length t)) = ap length e ∙ ap (λ (n : ℕ). suc (suc n)) (length-append (encodeBody f body) t) in
-      sym (goes _ _ _ _ (ap (laidAt family) e ∙ laid-complete (keyField family) (KeyOf family) (key-judges family whole) family whole f t (w .typed) (w .body))
+      sym (goes _ _ _ _ (ap (laidAt bits) e ∙ laid-complete (keyField bits) (KeyOf bits) (key-judges bits whole) bits whole f t (w .typed) (w .body))
       (sym (pick-false _ _ _ (ne-eqb (length s - 2) (length (encodeBody f body)) (λ q. omega arith)))))
 
-  laid-stops : (n : ℕ) → FrontRefusal family s n → laidAt family s ≡ refused n
+  laid-stops : (n : ℕ) → FrontRefusal bits s n → laidAt bits s ≡ refused n
   laid-stops n (short h) = laid-short h
   laid-stops n (badType h t) = laid-untyped h t
   laid-stops n (badBody h t fault) = laid-faulty n h t fault
 
   -- a refusal of the front, or of the single NLRI, is the call's
-  read-stops : (n : ℕ) → laidSingle family s ≡ refused n → readNlri afi s ≡ refused n
+  read-stops : (n : ℕ) → laidSingle bits s ≡ refused n → readNlri afi s ≡ refused n
   unfolding readNlri
-  read-stops n e = sym (goes _ _ _ _ bits (stops _ _ _ e))
+  read-stops n e = sym (goes _ _ _ _ ofFamily (stops _ _ _ e))
 
-  front-stops : (n : ℕ) → FrontRefusal family s n → readNlri afi s ≡ refused n
+  front-stops : (n : ℕ) → FrontRefusal bits s n → readNlri afi s ≡ refused n
   unfolding laidSingle
   front-stops n h = read-stops n (sym (stops _ _ _ (laid-stops n h)))
 
@@ -129,46 +129,46 @@ refusal-sound afi s n a e =
 refusal-complete : (afi : ℕ) (s : List ℕ) (n : ℕ) → AllOctets s → ReadRefusal afi s n → readNlri afi s ≡ refused n
 unfolding readNlri
 refusal-complete afi s n a (badFamily one two) = sym (stops _ _ _ (family-refuses afi one two))
-refusal-complete afi s n a (front family bits h) = front-stops afi family bits s a n h
-refusal-complete afi s n a (after family f t bits w e some) = read-stops afi family bits s a LENGTH (single-after afi family bits s a f t w e some)
+refusal-complete afi s n a (front bits ofFamily h) = front-stops afi bits ofFamily s a n h
+refusal-complete afi s n a (after bits f t ofFamily w e some) = read-stops afi bits ofFamily s a LENGTH (single-after afi bits ofFamily s a f t w e some)
 
 -- a body's number is another than FAMILY, SHORT, TYPE and DONE
-faulty-other : (family type : ℕ) (s : List ℕ) (n : ℕ) → Faulty family type (bodyOf type) s n → (n ≡ FAMILY → ⊥) × (n ≡ SHORT → ⊥) × (n ≡ TYPE → ⊥) × (n ≡ DONE → ⊥)
-faulty-other family type s n fault = ⊎-elim (λ e. omega arith) (λ rest. ⊎-elim (λ e. omega arith) (λ e. omega arith) rest) (faulty-numbers family type (bodyOf type) s n fault)
+faulty-other : (bits type : ℕ) (s : List ℕ) (n : ℕ) → Faulty bits type (bodyOf type) s n → (n ≡ FAMILY → ⊥) × (n ≡ SHORT → ⊥) × (n ≡ TYPE → ⊥) × (n ≡ DONE → ⊥)
+faulty-other bits type s n fault = ⊎-elim (λ e. omega arith) (λ rest. ⊎-elim (λ e. omega arith) (λ e. omega arith) rest) (faulty-numbers bits type (bodyOf type) s n fault)
 
 pub not-done : (afi : ℕ) (s : List ℕ) (n : ℕ) → ReadRefusal afi s n → n ≡ DONE → ⊥
 not-done afi s n (badFamily one two) e = omega arith
-not-done afi s n (front family bits (short h)) e = omega arith
-not-done afi s n (front family bits (badType h t)) e = omega arith
-not-done afi s n (front family bits (badBody h t fault)) e = faulty-other family _ _ n fault .3 e
-not-done afi s n (after family f t bits w q some) e = omega arith
+not-done afi s n (front bits ofFamily (short h)) e = omega arith
+not-done afi s n (front bits ofFamily (badType h t)) e = omega arith
+not-done afi s n (front bits ofFamily (badBody h t fault)) e = faulty-other bits _ _ n fault .3 e
+not-done afi s n (after bits f t ofFamily w q some) e = omega arith
 
 by-family : (afi : ℕ) (s : List ℕ) (n : ℕ) → ReadRefusal afi s n → n ≡ FAMILY → (afi ≢ 1) × (afi ≢ 2)
 by-family afi s n (badFamily one two) e = (one, two)
-by-family afi s n (front family bits (short h)) e = absurd (omega arith)
-by-family afi s n (front family bits (badType h t)) e = absurd (omega arith)
-by-family afi s n (front family bits (badBody h t fault)) e = absurd (faulty-other family _ _ n fault .0 e)
-by-family afi s n (after family f t bits w q some) e = absurd (omega arith)
+by-family afi s n (front bits ofFamily (short h)) e = absurd (omega arith)
+by-family afi s n (front bits ofFamily (badType h t)) e = absurd (omega arith)
+by-family afi s n (front bits ofFamily (badBody h t fault)) e = absurd (faulty-other bits _ _ n fault .0 e)
+by-family afi s n (after bits f t ofFamily w q some) e = absurd (omega arith)
 
 by-short : (afi : ℕ) (s : List ℕ) (n : ℕ) → ReadRefusal afi s n → n ≡ SHORT → ((afi ≡ 1) ⊎ (afi ≡ 2)) × TooShort s
 by-short afi s n (badFamily one two) e = absurd (omega arith)
-by-short afi s n (front family bits (short h)) e = (good-family afi family bits, h)
-by-short afi s n (front family bits (badType h t)) e = absurd (omega arith)
-by-short afi s n (front family bits (badBody h t fault)) e = absurd (faulty-other family _ _ n fault .1 e)
-by-short afi s n (after family f t bits w q some) e = absurd (omega arith)
+by-short afi s n (front bits ofFamily (short h)) e = (good-family afi bits ofFamily, h)
+by-short afi s n (front bits ofFamily (badType h t)) e = absurd (omega arith)
+by-short afi s n (front bits ofFamily (badBody h t fault)) e = absurd (faulty-other bits _ _ n fault .1 e)
+by-short afi s n (after bits f t ofFamily w q some) e = absurd (omega arith)
 
 by-type : (afi : ℕ) (s : List ℕ) (n : ℕ) → ReadRefusal afi s n → n ≡ TYPE → ((afi ≡ 1) ⊎ (afi ≡ 2)) × (TooShort s → ⊥) × (KnownType (getD s 0 0) → ⊥)
 by-type afi s n (badFamily one two) e = absurd (omega arith)
-by-type afi s n (front family bits (short h)) e = absurd (omega arith)
-by-type afi s n (front family bits (badType h t)) e = (good-family afi family bits, h, t)
-by-type afi s n (front family bits (badBody h t fault)) e = absurd (faulty-other family _ _ n fault .2 e)
-by-type afi s n (after family f t bits w q some) e = absurd (omega arith)
+by-type afi s n (front bits ofFamily (short h)) e = absurd (omega arith)
+by-type afi s n (front bits ofFamily (badType h t)) e = (good-family afi bits ofFamily, h, t)
+by-type afi s n (front bits ofFamily (badBody h t fault)) e = absurd (faulty-other bits _ _ n fault .2 e)
+by-type afi s n (after bits f t ofFamily w q some) e = absurd (omega arith)
 
 pub readRefusals : ReadRefusals
 readRefusals =
     record {
       exactly = λ afi s n a. (refusal-sound afi s n a, refusal-complete afi s n a);
-      front = λ afi family s n bits a. (laid-refused afi family bits s a n, laid-stops afi family bits s a n);
+      front = λ afi bits s n ofFamily a. (laid-refused afi bits ofFamily s a n, laid-stops afi bits ofFamily s a n);
       decided = λ afi s a. ⊎-elim (λ yes. inl (yes .0, acceptance .exactly afi s (yes .0) a .0 (yes .1))) (λ no. inr (no .0, refusal-sound afi s (no .0) a (no .1))) (outcome (readNlri afi s));
       one = λ afi s m n a p q. refused-same {A = Fields} (sym (refusal-complete afi s m a p) ∙ refusal-complete afi s n a q);
       never = λ afi s f n a p q. never (acceptance .exactly afi s f a .1 p) (refusal-complete afi s n a q);

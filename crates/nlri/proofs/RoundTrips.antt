@@ -35,7 +35,7 @@ write-read : (afi : ℕ) (s : List ℕ) (f : Fields) (space : ℕ) → AllOctets
 write-read afi s f space a e room =
     let r = read-sound afi s f a e in
     let len : length (encodeNlri f) ≤ space = omega (arith, ap length (r .encoded)) in
-    write-well afi (r .family) (r .bits) f space (r .wellFormed) ∙ pick-false _ _ _ (le-ltb space (length (encodeNlri f)) len) ∙ ap given (sym (r .encoded))
+    write-well afi (r .bits) (r .ofFamily) f space (r .wellFormed) ∙ pick-false _ _ _ (le-ltb space (length (encodeNlri f)) len) ∙ ap given (sym (r .encoded))
 
 read-written : (afi : ℕ) (f : Fields) (space : ℕ) (e : List ℕ) → HoldsOctets f → writeNlri afi f space ≡ given e → readNlri afi e ≡ given (restricted f)
 read-written afi f space e held w =
@@ -48,23 +48,23 @@ address-back : (x : List ℕ) → length x ≤ 16 → addressOctets (addressStru
 unfolding addressOctets addressStruct
 address-back x h = sized-back 16 x h
 
-struct-back : (afi family : ℕ) (f : Fields) → familyBits afi ≡ given family → WellFormed family f → restricted f ≡ f → restricted (structFields (nlriStruct f) (f .key)) ≡ f
+struct-back : (afi bits : ℕ) (f : Fields) → familyBits afi ≡ given bits → WellFormed bits f → restricted f ≡ f → restricted (structFields (nlriStruct f) (f .key)) ≡ f
 unfolding restricted structFields nlriStruct distinguisherStruct
-struct-back afi family f bits w whole =
+struct-back afi bits f ofFamily w whole =
     let body : List FieldKind = bodyOf (f .type) in
-    let small : family ≤ 128 = family-octets afi family bits .1 in
-    let at : (k : FieldKind) → hasField k body ≡ true → WellFormedField (KeyOf family) family f k = λ k h. field-in-body (KeyOf family) family f k body (w .body) h in
+    let small : bits ≤ 128 = family-octets afi bits ofFamily .1 in
+    let at : (k : FieldKind) → hasField k body ≡ true → WellFormedField (KeyOf bits) bits f k = λ k h. field-in-body (KeyOf bits) bits f k body (w .body) h in
     fields-same refl
     (pick-cong _ _ _ _ _ (λ h. sized-same 8 (f .distinguisher) (at distinguisher h .0)) (λ _. refl))
     refl
-    (pick-cong _ _ _ _ _ (λ h. address-back (f .source) (omega (arith, address-most family (f .type) (f .source) small (at source h .0)))) (λ _. refl))
-    (pick-cong _ _ _ _ _ (λ h. address-back (f .group) (omega (arith, address-most family (f .type) (f .group) small (at group h .0)))) (λ _. refl))
+    (pick-cong _ _ _ _ _ (λ h. address-back (f .source) (omega (arith, address-most bits (f .type) (f .source) small (at source h .0)))) (λ _. refl))
+    (pick-cong _ _ _ _ _ (λ h. address-back (f .group) (omega (arith, address-most bits (f .type) (f .group) small (at group h .0)))) (λ _. refl))
     (pick-cong _ _ _ _ _ (λ h. address-back (f .originator) (originator-most (length (f .originator)) (at originator h .0))) (λ _. refl))
     refl
     ∙ whole
 
 struct-same : (afi : ℕ) (s : List ℕ) (f : Fields) → AllOctets s → readNlri afi s ≡ given f → restricted (structFields (nlriStruct f) (f .key)) ≡ f
-struct-same afi s f a e = let r = read-sound afi s f a e in struct-back afi (r .family) f (r .bits) (r .wellFormed) (r .whole)
+struct-same afi s f a e = let r = read-sound afi s f a e in struct-back afi (r .bits) f (r .ofFamily) (r .wellFormed) (r .whole)
 
 write-struct : (afi : ℕ) (s : List ℕ) (f : Fields) (space : ℕ) → AllOctets s → readNlri afi s ≡ given f → length s ≤ space → writeNlri afi (structFields (nlriStruct f) (f .key)) space ≡ given s
 write-struct afi s f space a e room =

@@ -47,9 +47,9 @@ fixed-then : {B : Type 0} (n : ℕ) (s : List ℕ) (next : ℕ → Outcome B) �
 unfolding fixedField
 fixed-then n s next = and-pick _ _ _ _ ∙ ap₂ (pick _) (and-refused _ _) (and-given _ _)
 
-module _ (keyField : List ℕ → Outcome ℕ) (family type : ℕ) where
+module _ (keyField : List ℕ → Outcome ℕ) (bits type : ℕ) where
   size : FieldKind → List ℕ → Outcome ℕ
-  size = fieldSize keyField family type
+  size = fieldSize keyField bits type
 
   originator-last : {B : Type 0} (s : List ℕ) (next : List ℕ → Outcome B)
       → andThen (sizesOf size (originator ∷ []) s) next ≡ pick (isOriginatorSize (length s)) (next (length s ∷ [])) (refused LENGTH)
@@ -60,7 +60,7 @@ module _ (keyField : List ℕ → Outcome ℕ) (family type : ℕ) where
 
   flow-then : {B : Type 0} (rest : List FieldKind) (s : List ℕ) (next : List ℕ → Outcome B)
       → andThen (sizesOf size (source ∷ group ∷ rest) s) next
-      ≡ andThen (flowSizes family type s) (λ ab. andThen (sizesOf size rest (drop (ab .1) (drop (ab .0) s))) (λ sizes. next (ab .0 ∷ ab .1 ∷ sizes)))
+      ≡ andThen (flowSizes bits type s) (λ ab. andThen (sizesOf size rest (drop (ab .1) (drop (ab .0) s))) (λ sizes. next (ab .0 ∷ ab .1 ∷ sizes)))
   unfolding size fieldSize flowSizes withGroup
   flow-then rest s next =
       lay-cons _ _ _ _ _
@@ -138,58 +138,58 @@ flow-ends type n a b rest h = sym (pick-false _ _ _ h)
 lengths : (fixed a b : ℕ) (s : List ℕ) → length (drop b (drop a (drop fixed s))) ≡ length s - fixed - a - b
 lengths fixed a b s = simp length-drop
 
-module _ (keyField : List ℕ → Outcome ℕ) (family : ℕ) (s : List ℕ) where
-  intra-as-row : rowLayout (fieldSize keyField family 1) 1 s (distinguisher ∷ originator ∷ []) ≡ intraAs s
+module _ (keyField : List ℕ → Outcome ℕ) (bits : ℕ) (s : List ℕ) where
+  intra-as-row : rowLayout (fieldSize keyField bits 1) 1 s (distinguisher ∷ originator ∷ []) ≡ intraAs s
   unfolding intraAs size
   intra-as-row =
-      row-is _ _ _ _ ∙ distinguisher-then keyField family 1 _ _ _
-      ∙ ap (pick _ _) (originator-last keyField family 1 _ _ ∙ last-is 1 _ 0 0 0 _ _ _ (layout-intra-as _ _) (length-drop 8 s))
+      row-is _ _ _ _ ∙ distinguisher-then keyField bits 1 _ _ _
+      ∙ ap (pick _ _) (originator-last keyField bits 1 _ _ ∙ last-is 1 _ 0 0 0 _ _ _ (layout-intra-as _ _) (length-drop 8 s))
 
-  inter-as-row : rowLayout (fieldSize keyField family 2) 2 s (distinguisher ∷ sourceAs ∷ []) ≡ interAs s
+  inter-as-row : rowLayout (fieldSize keyField bits 2) 2 s (distinguisher ∷ sourceAs ∷ []) ≡ interAs s
   unfolding interAs size
   inter-as-row =
-      row-is _ _ _ _ ∙ source-as-then keyField family 2 _ _ _
+      row-is _ _ _ _ ∙ source-as-then keyField bits 2 _ _ _
       ∙ ap (pick _ _) (lay-nil _ _ _ ∙ end-is 2 _ 0 0 _ _ _ (layout-inter-as _) (length-drop 12 s))
 
-  s-pmsi-row : rowLayout (fieldSize keyField family 3) 3 s (distinguisher ∷ source ∷ group ∷ originator ∷ []) ≡ flowRoute family 3 8 s
+  s-pmsi-row : rowLayout (fieldSize keyField bits 3) 3 s (distinguisher ∷ source ∷ group ∷ originator ∷ []) ≡ flowRoute bits 3 8 s
   unfolding flowRoute size
   s-pmsi-row =
-      row-is _ _ _ _ ∙ distinguisher-then keyField family 3 _ _ _
-      ∙ ap (pick _ _) (flow-then keyField family 3 _ _ _ ∙ and-cong _ _ _ (λ ab e. originator-last keyField family 3 _ _
+      row-is _ _ _ _ ∙ distinguisher-then keyField bits 3 _ _ _
+      ∙ ap (pick _ _) (flow-then keyField bits 3 _ _ _ ∙ and-cong _ _ _ (λ ab e. originator-last keyField bits 3 _ _
       ∙ last-is 3 _ _ _ 0 _ _ _ (layout-s-pmsi _ (ab .0) (ab .1) _) (lengths 8 (ab .0) (ab .1) s) ∙ flow-ends-in-originator _ (ab .0) (ab .1) _))
 
-  source-active-row : rowLayout (fieldSize keyField family 5) 5 s (distinguisher ∷ source ∷ group ∷ []) ≡ flowRoute family 5 8 s
+  source-active-row : rowLayout (fieldSize keyField bits 5) 5 s (distinguisher ∷ source ∷ group ∷ []) ≡ flowRoute bits 5 8 s
   unfolding flowRoute size
   source-active-row =
-      row-is _ _ _ _ ∙ distinguisher-then keyField family 5 _ _ _
-      ∙ ap (pick _ _) (flow-then keyField family 5 _ _ _ ∙ and-cong _ _ _ (λ ab e. lay-nil _ _ _
+      row-is _ _ _ _ ∙ distinguisher-then keyField bits 5 _ _ _
+      ∙ ap (pick _ _) (flow-then keyField bits 5 _ _ _ ∙ and-cong _ _ _ (λ ab e. lay-nil _ _ _
       ∙ end-is 5 _ _ _ _ _ _ (layout-source-active _ (ab .0) (ab .1)) (lengths 8 (ab .0) (ab .1) s) ∙ flow-ends 5 _ (ab .0) (ab .1) _ refl))
 
   -- types 6 and 7 have one body
-  join-row : (type : ℕ) → eqb type 3 ≡ false → rowLayout (fieldSize keyField family type) type s (distinguisher ∷ sourceAs ∷ source ∷ group ∷ []) ≡ flowRoute family type 12 s
+  join-row : (type : ℕ) → eqb type 3 ≡ false → rowLayout (fieldSize keyField bits type) type s (distinguisher ∷ sourceAs ∷ source ∷ group ∷ []) ≡ flowRoute bits type 12 s
   unfolding flowRoute size
   join-row type other =
-      row-is _ _ _ _ ∙ source-as-then keyField family type _ _ _
-      ∙ ap (pick _ _) (flow-then keyField family type _ _ _ ∙ and-cong _ _ _ (λ ab e. lay-nil _ _ _
+      row-is _ _ _ _ ∙ source-as-then keyField bits type _ _ _
+      ∙ ap (pick _ _) (flow-then keyField bits type _ _ _ ∙ and-cong _ _ _ (λ ab e. lay-nil _ _ _
       ∙ end-is type _ _ _ _ _ _ (layout-join type _ (ab .0) (ab .1)) (lengths 12 (ab .0) (ab .1) s) ∙ flow-ends type _ (ab .0) (ab .1) _ other))
 
-  leaf-row : rowLayout (fieldSize keyField family 4) 4 s (key ∷ originator ∷ [])
+  leaf-row : rowLayout (fieldSize keyField bits 4) 4 s (key ∷ originator ∷ [])
       ≡ andThen (keyField s) (λ size. originatorLast (layoutWith 4 (length s) 0 0 (length s - size) size))
   unfolding size fieldSize
   leaf-row =
       row-is _ _ _ _ ∙ lay-cons _ _ _ _ _
-      ∙ and-cong _ _ _ (λ n e. originator-last keyField family 4 _ _ ∙ last-is 4 _ 0 0 n _ _ _ (layout-leaf _ n _) (length-drop n s))
+      ∙ and-cong _ _ _ (λ n e. originator-last keyField bits 4 _ _ ∙ last-is 4 _ 0 0 n _ _ _ (layout-leaf _ n _) (length-drop n s))
 
   -- every row: document 01's table of bodies is the chain of tests
-  pub rows : (type : ℕ) → onBody bodies type (refused TYPE) (rowLayout (fieldSize keyField family type) type s)
-      ≡ bodyWith (andThen (keyField s) (λ size. originatorLast (layoutWith 4 (length s) 0 0 (length s - size) size))) family type s
+  pub rows : (type : ℕ) → onBody bodies type (refused TYPE) (rowLayout (fieldSize keyField bits type) type s)
+      ≡ bodyWith (andThen (keyField s) (λ size. originatorLast (layoutWith 4 (length s) 0 0 (length s - size) size))) bits type s
   unfolding onBody bodies bodyWith
   rows type =
-      pick-cong _ _ _ _ _ (λ e. at 1 e (λ n. rowLayout (fieldSize keyField family n) n s (distinguisher ∷ originator ∷ []) ≡ intraAs s) intra-as-row)
-      (λ _. pick-cong _ _ _ _ _ (λ e. at 2 e (λ n. rowLayout (fieldSize keyField family n) n s (distinguisher ∷ sourceAs ∷ []) ≡ interAs s) inter-as-row)
-      (λ _. pick-cong _ _ _ _ _ (λ e. at 3 e (λ n. rowLayout (fieldSize keyField family n) n s (distinguisher ∷ source ∷ group ∷ originator ∷ []) ≡ flowRoute family n 8 s) s-pmsi-row)
-      (λ other. pick-cong _ _ _ _ _ (λ e. at 4 e (λ n. rowLayout (fieldSize keyField family n) n s (key ∷ originator ∷ []) ≡ andThen (keyField s) (λ size. originatorLast (layoutWith 4 (length s) 0 0 (length s - size) size))) leaf-row)
-      (λ _. pick-cong _ _ _ _ _ (λ e. at 5 e (λ n. rowLayout (fieldSize keyField family n) n s (distinguisher ∷ source ∷ group ∷ []) ≡ flowRoute family n 8 s) source-active-row)
+      pick-cong _ _ _ _ _ (λ e. at 1 e (λ n. rowLayout (fieldSize keyField bits n) n s (distinguisher ∷ originator ∷ []) ≡ intraAs s) intra-as-row)
+      (λ _. pick-cong _ _ _ _ _ (λ e. at 2 e (λ n. rowLayout (fieldSize keyField bits n) n s (distinguisher ∷ sourceAs ∷ []) ≡ interAs s) inter-as-row)
+      (λ _. pick-cong _ _ _ _ _ (λ e. at 3 e (λ n. rowLayout (fieldSize keyField bits n) n s (distinguisher ∷ source ∷ group ∷ originator ∷ []) ≡ flowRoute bits n 8 s) s-pmsi-row)
+      (λ other. pick-cong _ _ _ _ _ (λ e. at 4 e (λ n. rowLayout (fieldSize keyField bits n) n s (key ∷ originator ∷ []) ≡ andThen (keyField s) (λ size. originatorLast (layoutWith 4 (length s) 0 0 (length s - size) size))) leaf-row)
+      (λ _. pick-cong _ _ _ _ _ (λ e. at 5 e (λ n. rowLayout (fieldSize keyField bits n) n s (distinguisher ∷ source ∷ group ∷ []) ≡ flowRoute bits n 8 s) source-active-row)
       (λ _. pick-cong _ _ _ _ _ (λ e. join-row type other)
       (λ _. pick-cong _ _ _ _ _ (λ e. join-row type other) (λ _. refl)))))))
     where

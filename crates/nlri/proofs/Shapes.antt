@@ -82,20 +82,20 @@ originator-is s n e = go (either-true _ _ (p .0))
     go (inr t) = let h : length s ≡ 16 = eqb-true _ _ t in (q, omega (arith, q))
 
 -- an address has no more octets than the family's
-pub bits-most : (family type bits : ℕ) → allowed family type bits ≡ true → bits / 8 ≤ family / 8
+pub bits-most : (bits type ofFamily : ℕ) → allowed bits type ofFamily ≡ true → ofFamily / 8 ≤ bits / 8
 unfolding allowed
-bits-most family type bits e = go (either-true _ _ e)
+bits-most bits type ofFamily e = go (either-true _ _ e)
   where
-    go : (eqb bits family ≡ true) ⊎ (both (eqb type 3) (eqb bits 0) ≡ true) → bits / 8 ≤ family / 8
-    go (inl t) = let h : bits ≡ family = eqb-true _ _ t in omega arith
-    go (inr t) = let h : bits ≡ 0 = eqb-true _ _ (both-true-right _ _ t) in omega arith
+    go : (eqb ofFamily bits ≡ true) ⊎ (both (eqb type 3) (eqb ofFamily 0) ≡ true) → ofFamily / 8 ≤ bits / 8
+    go (inl t) = let h : ofFamily ≡ bits = eqb-true _ _ t in omega arith
+    go (inr t) = let h : ofFamily ≡ 0 = eqb-true _ _ (both-true-right _ _ t) in omega arith
 
-address-most : (family type : ℕ) (s : List ℕ) (n : ℕ) → addressField family type s ≡ given n → n ≤ 1 + family / 8
+address-most : (bits type : ℕ) (s : List ℕ) (n : ℕ) → addressField bits type s ≡ given n → n ≤ 1 + bits / 8
 unfolding addressField addressEnd
-address-most family type s n e =
+address-most bits type s n e =
     let p = given-unless _ _ _ _ (given-otherwise _ _ _ _ e .1) in
     let q = given-same (given-otherwise _ _ _ _ (p .1) .1) in
-    let h = bits-most family type (getD s 0 0) (p .0) in
+    let h = bits-most bits type (getD s 0 0) (p .0) in
     omega arith
 
 -- parts of an NLRI
@@ -129,7 +129,7 @@ starts type h = pick-true _ _ _ h
 laidRow : (type n : ℕ) → List FieldKind → List ℕ → Laid
 laidRow type n body sizes = record { type = type; size = n; body = body; sizes = sizes }
 
-module _ (family n : ℕ) (s : List ℕ) (small : family / 8 ≤ 16) (enough : 2 ≤ length s) where
+module _ (bits n : ℕ) (s : List ℕ) (small : bits / 8 ≤ 16) (enough : 2 ≤ length s) where
   l₁ : length (drop 2 s) ≡ length s - 2
   l₁ = length-drop 2 s
 
@@ -258,7 +258,7 @@ module _ (family n : ℕ) (s : List ℕ) (small : family / 8 ≤ 16) (enough : 2
 
   -- each row from the sizes that its fields came to
   module _ (kf : List ℕ → Outcome ℕ) where
-    row-intra-as : (sizes : List ℕ) → sizesOf (fieldSize kf family 1) (distinguisher ∷ originator ∷ []) (drop 2 s) ≡ given sizes → Shaped (laidRow 1 n (distinguisher ∷ originator ∷ []) sizes) s
+    row-intra-as : (sizes : List ℕ) → sizesOf (fieldSize kf bits 1) (distinguisher ∷ originator ∷ []) (drop 2 s) ≡ given sizes → Shaped (laidRow 1 n (distinguisher ∷ originator ∷ []) sizes) s
     unfolding fieldSize
     row-intra-as sizes e =
         let d = first _ _ _ _ _ e in
@@ -270,7 +270,7 @@ module _ (family n : ℕ) (s : List ℕ) (small : family / 8 ≤ 16) (enough : 2
         subst (λ (z : List ℕ). Shaped (laidRow 1 n (distinguisher ∷ originator ∷ []) z) s) all
         (shaped-intra-as (o .here) (fd .1) (ap (λ (k : ℕ). length (drop k (drop 2 s))) (fd .0) ∙ fo .0) (fo .1))
 
-    row-inter-as : (sizes : List ℕ) → sizesOf (fieldSize kf family 2) (distinguisher ∷ sourceAs ∷ []) (drop 2 s) ≡ given sizes → Shaped (laidRow 2 n (distinguisher ∷ sourceAs ∷ []) sizes) s
+    row-inter-as : (sizes : List ℕ) → sizesOf (fieldSize kf bits 2) (distinguisher ∷ sourceAs ∷ []) (drop 2 s) ≡ given sizes → Shaped (laidRow 2 n (distinguisher ∷ sourceAs ∷ []) sizes) s
     unfolding fieldSize
     row-inter-as sizes e =
         let d = first _ _ _ _ _ e in
@@ -282,7 +282,7 @@ module _ (family n : ℕ) (s : List ℕ) (small : family / 8 ≤ 16) (enough : 2
         subst (λ (z : List ℕ). Shaped (laidRow 2 n (distinguisher ∷ sourceAs ∷ []) z) s) all
         (shaped-inter-as (fd .1) (subst (λ (k : ℕ). 4 ≤ length (drop k (drop 2 s))) (sym (fd .0)) (fq .1)))
 
-    row-leaf : ((x : List ℕ) (k : ℕ) → kf x ≡ given k → (2 ≤ k) × (k ≤ length x)) → (sizes : List ℕ) → sizesOf (fieldSize kf family 4) (key ∷ originator ∷ []) (drop 2 s) ≡ given sizes → Shaped (laidRow 4 n (key ∷ originator ∷ []) sizes) s
+    row-leaf : ((x : List ℕ) (k : ℕ) → kf x ≡ given k → (2 ≤ k) × (k ≤ length x)) → (sizes : List ℕ) → sizesOf (fieldSize kf bits 4) (key ∷ originator ∷ []) (drop 2 s) ≡ given sizes → Shaped (laidRow 4 n (key ∷ originator ∷ []) sizes) s
     unfolding fieldSize
     row-leaf bounds sizes e =
         let k = first _ _ _ _ _ e in
@@ -302,18 +302,18 @@ module _ (family n : ℕ) (s : List ℕ) (small : family / 8 ≤ 16) (enough : 2
       low : (1 ≤ a) × (1 ≤ b)
       most : (a ≤ 17) × (b ≤ 17)
       within : a + b ≤ length x
-      left : sizesOf (fieldSize kf family type) body (drop b (drop a x)) ≡ given rest
+      left : sizesOf (fieldSize kf bits type) body (drop b (drop a x)) ≡ given rest
       all : a ∷ b ∷ rest ≡ sizes
 
-    flowed : (type : ℕ) (body : List FieldKind) (x sizes : List ℕ) → sizesOf (fieldSize kf family type) (source ∷ group ∷ body) x ≡ given sizes → Flowed type body x sizes
+    flowed : (type : ℕ) (body : List FieldKind) (x sizes : List ℕ) → sizesOf (fieldSize kf bits type) (source ∷ group ∷ body) x ≡ given sizes → Flowed type body x sizes
     unfolding fieldSize
     flowed type body x sizes e =
         let p = first _ _ _ _ _ e in
         let q = first _ _ _ _ _ (p .left) in
-        let wp = address-within family type x (p .here) (p .taken) in
-        let wq = address-within family type (drop (p .here) x) (q .here) (q .taken) in
-        let mp = address-most family type x (p .here) (p .taken) in
-        let mq = address-most family type (drop (p .here) x) (q .here) (q .taken) in
+        let wp = address-within bits type x (p .here) (p .taken) in
+        let wq = address-within bits type (drop (p .here) x) (q .here) (q .taken) in
+        let mp = address-most bits type x (p .here) (p .taken) in
+        let mq = address-most bits type (drop (p .here) x) (q .here) (q .taken) in
         let l = length-drop (p .here) x in
         record {
           a = p .here;
@@ -326,7 +326,7 @@ module _ (family n : ℕ) (s : List ℕ) (small : family / 8 ≤ 16) (enough : 2
           all = ap (λ (y : List ℕ). p .here ∷ y) (q .all) ∙ p .all;
         }
 
-    row-s-pmsi : (sizes : List ℕ) → sizesOf (fieldSize kf family 3) (distinguisher ∷ source ∷ group ∷ originator ∷ []) (drop 2 s) ≡ given sizes → Shaped (laidRow 3 n (distinguisher ∷ source ∷ group ∷ originator ∷ []) sizes) s
+    row-s-pmsi : (sizes : List ℕ) → sizesOf (fieldSize kf bits 3) (distinguisher ∷ source ∷ group ∷ originator ∷ []) (drop 2 s) ≡ given sizes → Shaped (laidRow 3 n (distinguisher ∷ source ∷ group ∷ originator ∷ []) sizes) s
     unfolding fieldSize
     row-s-pmsi sizes e =
         let d = first _ _ _ _ _ e in
@@ -341,7 +341,7 @@ module _ (family n : ℕ) (s : List ℕ) (small : family / 8 ≤ 16) (enough : 2
         (shaped-s-pmsi (f .a) (f .b) (f .low .0) (f .low .1) (f .most .0) (f .most .1) (o .here) (omega (arith, fd .0, fd .1, f .within))
         (ap (λ (k : ℕ). length (drop (f .b) (drop (f .a) (drop k (drop 2 s))))) (fd .0) ∙ fo .0) (fo .1))
 
-    row-source-active : (sizes : List ℕ) → sizesOf (fieldSize kf family 5) (distinguisher ∷ source ∷ group ∷ []) (drop 2 s) ≡ given sizes → Shaped (laidRow 5 n (distinguisher ∷ source ∷ group ∷ []) sizes) s
+    row-source-active : (sizes : List ℕ) → sizesOf (fieldSize kf bits 5) (distinguisher ∷ source ∷ group ∷ []) (drop 2 s) ≡ given sizes → Shaped (laidRow 5 n (distinguisher ∷ source ∷ group ∷ []) sizes) s
     unfolding fieldSize
     row-source-active sizes e =
         let d = first _ _ _ _ _ e in
@@ -354,7 +354,7 @@ module _ (family n : ℕ) (s : List ℕ) (small : family / 8 ≤ 16) (enough : 2
         (shaped-source-active (f .a) (f .b) (f .low .0) (f .low .1) (f .most .0) (f .most .1) (omega (arith, fd .0, fd .1, f .within)))
 
     row-join : (type : ℕ) → type ≤ 7 → withSourceAs type ≡ true → eqb type 4 ≡ false → (sizes : List ℕ)
-        → sizesOf (fieldSize kf family type) (distinguisher ∷ sourceAs ∷ source ∷ group ∷ []) (drop 2 s) ≡ given sizes
+        → sizesOf (fieldSize kf bits type) (distinguisher ∷ sourceAs ∷ source ∷ group ∷ []) (drop 2 s) ≡ given sizes
         → Shaped (laidRow type n (distinguisher ∷ sourceAs ∷ source ∷ group ∷ []) sizes) s
     unfolding fieldSize
     row-join type low joined other sizes e =
@@ -374,34 +374,34 @@ pub whole-part : (s : List ℕ) (n : ℕ) → length s - 2 ≡ n → part s 2 n 
 unfolding part
 whole-part s n e = take-all n (drop 2 s) (rw length-drop (omega arith))
 
-module _ (family : ℕ) (s : List ℕ) (laid : Laid) (n : length s - 2 ≡ getD s 1 0) where
+module _ (bits : ℕ) (s : List ℕ) (laid : Laid) (n : length s - 2 ≡ getD s 1 0) where
   -- a row's shape, for the type and the octets that were read
   by-row : (type : ℕ) (body : List FieldKind) → getD s 0 0 ≡ type
-      → andThen (sizesOf (fieldSize (keyField family) family (getD s 0 0)) body (part s 2 (getD s 1 0))) (λ sizes. given (laidRow (getD s 0 0) (getD s 1 0) body sizes)) ≡ given laid
-      → ((sizes : List ℕ) → sizesOf (fieldSize (keyField family) family type) body (drop 2 s) ≡ given sizes → Shaped (laidRow type (getD s 1 0) body sizes) s) → Shaped laid s
+      → andThen (sizesOf (fieldSize (keyField bits) bits (getD s 0 0)) body (part s 2 (getD s 1 0))) (λ sizes. given (laidRow (getD s 0 0) (getD s 1 0) body sizes)) ≡ given laid
+      → ((sizes : List ℕ) → sizesOf (fieldSize (keyField bits) bits type) body (drop 2 s) ≡ given sizes → Shaped (laidRow type (getD s 1 0) body sizes) s) → Shaped laid s
   by-row type body t r shape =
       let p = passed _ _ _ r in
-      let sizes : sizesOf (fieldSize (keyField family) family type) body (drop 2 s) ≡ given (p .value) =
-      ap₂ (λ (k : ℕ) (x : List ℕ). sizesOf (fieldSize (keyField family) family k) body x) (sym t) (sym (whole-part s (getD s 1 0) n)) ∙ p .first in
+      let sizes : sizesOf (fieldSize (keyField bits) bits type) body (drop 2 s) ≡ given (p .value) =
+      ap₂ (λ (k : ℕ) (x : List ℕ). sizesOf (fieldSize (keyField bits) bits k) body x) (sym t) (sym (whole-part s (getD s 1 0) n)) ∙ p .first in
       let same : laidRow type (getD s 1 0) body (p .value) ≡ laid = ap (λ (k : ℕ). laidRow k (getD s 1 0) body (p .value)) (sym t) ∙ given-same (p .second) in
       subst (λ (x : Laid). Shaped x s) same (shape (p .value) sizes)
 
-pub shaped : (family : ℕ) (s : List ℕ) (laid : Laid) → family / 8 ≤ 16 → laidSingle family s ≡ given laid → Shaped laid s
+pub shaped : (bits : ℕ) (s : List ℕ) (laid : Laid) → bits / 8 ≤ 16 → laidSingle bits s ≡ given laid → Shaped laid s
 unfolding laidSingle laidAt laidWith laidRow withSourceAs either
-shaped family s laid small e =
+shaped bits s laid small e =
     let w = passed _ _ _ e in
     let single = given-unless _ _ _ _ (w .second) in
     let same : w .value ≡ laid = given-same (single .1) in
-    let facts = laid-within (keyField family) family s (w .value) (w .first) in
+    let facts = laid-within (keyField bits) bits s (w .value) (w .first) in
     let n : length s - 2 ≡ getD s 1 0 = eqb-true _ _ (single .0) ∙ facts .3 in
     let rows = given-otherwise _ _ _ _ (given-otherwise _ _ _ _ (w .first) .1) .1 in
     subst (λ (x : Laid). Shaped x s) same
     (each-row (Shaped (w .value) s) (getD s 0 0) TYPE _ (w .value) rows
-    (λ t r. by-row family s (w .value) n 1 _ t r (row-intra-as family (getD s 1 0) s small (facts .0) (keyField family)))
-    (λ t r. by-row family s (w .value) n 2 _ t r (row-inter-as family (getD s 1 0) s small (facts .0) (keyField family)))
-    (λ t r. by-row family s (w .value) n 3 _ t r (row-s-pmsi family (getD s 1 0) s small (facts .0) (keyField family)))
-    (λ t r. by-row family s (w .value) n 4 _ t r (row-leaf family (getD s 1 0) s small (facts .0) (keyField family) (key-within family)))
-    (λ t r. by-row family s (w .value) n 5 _ t r (row-source-active family (getD s 1 0) s small (facts .0) (keyField family)))
+    (λ t r. by-row bits s (w .value) n 1 _ t r (row-intra-as bits (getD s 1 0) s small (facts .0) (keyField bits)))
+    (λ t r. by-row bits s (w .value) n 2 _ t r (row-inter-as bits (getD s 1 0) s small (facts .0) (keyField bits)))
+    (λ t r. by-row bits s (w .value) n 3 _ t r (row-s-pmsi bits (getD s 1 0) s small (facts .0) (keyField bits)))
+    (λ t r. by-row bits s (w .value) n 4 _ t r (row-leaf bits (getD s 1 0) s small (facts .0) (keyField bits) (key-within bits)))
+    (λ t r. by-row bits s (w .value) n 5 _ t r (row-source-active bits (getD s 1 0) s small (facts .0) (keyField bits)))
     (λ t r. ⊎-elim
-    (λ q. by-row family s (w .value) n 6 _ q r (row-join family (getD s 1 0) s small (facts .0) (keyField family) 6 (omega arith) refl refl))
-    (λ q. by-row family s (w .value) n 7 _ q r (row-join family (getD s 1 0) s small (facts .0) (keyField family) 7 (omega arith) refl refl)) t))
+    (λ q. by-row bits s (w .value) n 6 _ q r (row-join bits (getD s 1 0) s small (facts .0) (keyField bits) 6 (omega arith) refl refl))
+    (λ q. by-row bits s (w .value) n 7 _ q r (row-join bits (getD s 1 0) s small (facts .0) (keyField bits) 7 (omega arith) refl refl)) t))

@@ -27,14 +27,14 @@ use Rattle.nlri.proofs.Lengths.{family-octets}
 use Rattle.octets.proofs.Lists.{part-length}
 use Rattle.nlri.proofs.Shapes.{shaped}
 
-pub single-laid : (family : ℕ) (s : List ℕ) → single family s ≡ andThen (laidSingle family s) (λ laid. given (layoutOf laid))
+pub single-laid : (bits : ℕ) (s : List ℕ) → single bits s ≡ andThen (laidSingle bits s) (λ laid. given (layoutOf laid))
 unfolding single endsWith layoutAt laidSingle layoutOf
-single-laid family s =
+single-laid bits s =
     and-assoc _ _ _ ∙ and-cong _ _ _ (λ laid e. and-given _ _ ∙ sym (and-pick _ _ _ _ ∙ ap₂ (pick _) (and-given _ _) (and-refused _ _))) ∙ sym (and-assoc _ _ _)
 
-pub single-is : (o : Outcome Layout) (afi : ℕ) (s : List ℕ) → o ≡ andThen (familyBits afi) (λ family. single family s) → o ≡ layoutSingle afi s
+pub single-is : (o : Outcome Layout) (afi : ℕ) (s : List ℕ) → o ≡ andThen (familyBits afi) (λ bits. single bits s) → o ≡ layoutSingle afi s
 unfolding layoutSingle
-single-is o afi s e = e ∙ and-cong _ _ _ (λ family q. single-laid family s)
+single-is o afi s e = e ∙ and-cong _ _ _ (λ bits q. single-laid bits s)
 
 module _ (afi : ℕ) (s : List ℕ) where
   -- the fields are those that the layout says, and they lie within the NLRI
@@ -51,7 +51,7 @@ module _ (afi : ℕ) (s : List ℕ) where
 
   pub read-refused : (n : ℕ) → layoutSingle afi s ≡ refused n → readNlri afi s ≡ refused n
   unfolding layoutSingle readNlri
-  read-refused n e = refused-alike (familyBits afi) (λ family. laidSingle family s) (λ family laid. layoutOf laid) (λ family laid. fieldsOf laid s) n e
+  read-refused n e = refused-alike (familyBits afi) (λ bits. laidSingle bits s) (λ bits laid. layoutOf laid) (λ bits laid. fieldsOf laid s) n e
 
 most : (b : Bool) → pick b 15 11 ≤ 15
 unfolding pick

@@ -21,9 +21,9 @@ address-end-within octets s n e =
     let q = given-same (p .1) in
     omega (arith, leb-false)
 
-pub address-within : (family type : ℕ) (s : List ℕ) (n : ℕ) → addressField family type s ≡ given n → (1 ≤ n) × (n ≤ length s)
+pub address-within : (bits type : ℕ) (s : List ℕ) (n : ℕ) → addressField bits type s ≡ given n → (1 ≤ n) × (n ≤ length s)
 unfolding addressField
-address-within family type s n e = address-end-within _ s n (given-unless _ _ _ _ (given-otherwise _ _ _ _ e .1) .1)
+address-within bits type s n e = address-end-within _ s n (given-unless _ _ _ _ (given-otherwise _ _ _ _ e .1) .1)
 
 pub header-within : (s : List ℕ) (a b : ℕ) → headerAt s ≡ given (a, b) → 2 + b ≤ length s
 unfolding headerAt

@@ -29,17 +29,17 @@ use Rattle.nlri.proofs.Numbered.{refused-of, unkeyed-done, front-done}
 use Rattle.nlri.proofs.Shapes.{choose}
 
 -- an address takes its length octet and as many bits as that says
-address-is : (family type : ℕ) (s : List ℕ) (n : ℕ) → addressField family type s ≡ given n → n ≡ 1 + getD s 0 0 / 8
+address-is : (bits type : ℕ) (s : List ℕ) (n : ℕ) → addressField bits type s ≡ given n → n ≡ 1 + getD s 0 0 / 8
 unfolding addressField addressEnd
-address-is family type s n e = sym (given-same (given-otherwise _ _ _ _ (given-unless _ _ _ _ (given-otherwise _ _ _ _ e .1) .1) .1))
+address-is bits type s n e = sym (given-same (given-otherwise _ _ _ _ (given-unless _ _ _ _ (given-otherwise _ _ _ _ e .1) .1) .1))
 
 -- a key takes its header and as many octets as its Length says
-pub key-is-long : (family : ℕ) (s : List ℕ) (k : ℕ) → keyField family s ≡ given k → k ≡ 2 + getD s 1 0
+pub key-is-long : (bits : ℕ) (s : List ℕ) (k : ℕ) → keyField bits s ≡ given k → k ≡ 2 + getD s 1 0
 unfolding keyField
-key-is-long family s k e =
+key-is-long bits s k e =
     let w = on-given-given _ _ _ _ e in
     let q = given-same (given-otherwise _ _ _ _ (w .second) .1) in
-    let h = laid-within noKey family s (w .value) (w .first) in
+    let h = laid-within noKey bits s (w .value) (w .first) in
     omega (arith, h .3)
 
 originator-kept : (l m : Layout) → originatorLast l ≡ given m → l ≡ m
@@ -68,12 +68,12 @@ header-octets s type size e =
     let same = given-same (given-otherwise _ _ _ _ (given-otherwise _ _ _ _ e .1) .1) in
     (ap (λ (z : ℕ × ℕ). z .0) same, ap (λ (z : ℕ × ℕ). z .1) same)
 
-pub unkeyed-octets : (family : ℕ) (s : List ℕ) (l : Layout) → unkeyed family s ≡ given l → (l .«route_type» ≡ getD s 0 0) × (l .length ≡ getD s 1 0)
+pub unkeyed-octets : (bits : ℕ) (s : List ℕ) (l : Layout) → unkeyed bits s ≡ given l → (l .«route_type» ≡ getD s 0 0) × (l .length ≡ getD s 1 0)
 unfolding layoutOf
-unkeyed-octets family s l e =
-    let w = passed _ _ _ (unkeyed-is family s ∙ e) in
+unkeyed-octets bits s l e =
+    let w = passed _ _ _ (unkeyed-is bits s ∙ e) in
     let same = given-same (w .second) in
-    let h = laid-within noKey family s (w .value) (w .first) in
+    let h = laid-within noKey bits s (w .value) (w .first) in
     (ap (λ (x : Layout). x .«route_type») (sym same) ∙ h .2, ap (λ (x : Layout). x .length) (sym same) ∙ h .3)
 
 module _ (s : List ℕ) (within : 2 + getD s 1 0 ≤ length s) where
@@ -99,17 +99,17 @@ module _ (s : List ℕ) (within : 2 + getD s 1 0 ≤ length s) where
       let p = given-unless _ _ _ _ (given-otherwise _ _ _ _ e .1) in
       sym (given-same (p .1)) ∙ ap₂ (λ (m o : ℕ). layoutWith 2 m 0 0 o 0) body-length (eqb-true _ _ (p .0))
 
-  leaf-laid : (family : ℕ) (l : Layout) → leaf family (part s 2 (getD s 1 0)) ≡ given l → ((4 ≤ length s) × (2 + getD s 3 0 ≤ getD s 1 0)) × (l ≡ leafLayout s)
+  leaf-laid : (bits : ℕ) (l : Layout) → leaf bits (part s 2 (getD s 1 0)) ≡ given l → ((4 ≤ length s) × (2 + getD s 3 0 ≤ getD s 1 0)) × (l ≡ leafLayout s)
   unfolding leaf originatorLast leafLayout
-  leaf-laid family l e =
+  leaf-laid bits l e =
       let p = passed _ _ _ e in
-      let h = key-within family _ (p .value) (p .first) in
+      let h = key-within bits _ (p .value) (p .first) in
       let n : length (part s 2 (getD s 1 0)) ≡ getD s 1 0 = body-length in
-      let k : p .value ≡ 2 + getD s 3 0 = key-is-long family _ (p .value) (p .first) ∙ ap (λ (x : ℕ). 2 + x) (octet 1 (omega arith)) in
+      let k : p .value ≡ 2 + getD s 3 0 = key-is-long bits _ (p .value) (p .first) ∙ ap (λ (x : ℕ). 2 + x) (octet 1 (omega arith)) in
       ((omega arith, omega arith), sym (given-same (given-unless _ _ _ _ (p .second) .1)) ∙ ap₂ (λ (m x : ℕ). layoutWith 4 m 0 0 (m - x) x) n k)
 
-  module _ (family type fixed at : ℕ) (start : at ≡ 2 + fixed) where
-    flow-laid : (l : Layout) → flowRoute family type fixed (part s 2 (getD s 1 0)) ≡ given l → FlowStands at s × (l ≡ flowLayout type at s)
+  module _ (bits type fixed at : ℕ) (start : at ≡ 2 + fixed) where
+    flow-laid : (l : Layout) → flowRoute bits type fixed (part s 2 (getD s 1 0)) ≡ given l → FlowStands at s × (l ≡ flowLayout type at s)
     unfolding flowRoute flowSizes withGroup flowEnd flowLayout sizeAt
     flow-laid l e =
         let p = passed _ _ _ (given-otherwise _ _ _ _ e .1) in
@@ -119,17 +119,17 @@ module _ (s : List ℕ) (within : 2 + getD s 1 0 ≤ length s) where
         let b : ℕ = r .value in
         let za : a ≡ p .value .0 = ap (λ (z : ℕ × ℕ). z .0) (given-same (r .second)) in
         let zb : b ≡ p .value .1 = ap (λ (z : ℕ × ℕ). z .1) (given-same (r .second)) in
-        let ha = address-within family type _ a (q .first) in
-        let hb = address-within family type _ b (r .first) in
+        let ha = address-within bits type _ a (q .first) in
+        let hb = address-within bits type _ b (r .first) in
         let la : length (drop fixed (part s 2 (getD s 1 0))) ≡ getD s 1 0 - fixed = length-drop fixed _ ∙ ap (λ (k : ℕ). k - fixed) body-length in
         let lb : length (drop a (drop fixed (part s 2 (getD s 1 0)))) ≡ getD s 1 0 - fixed - a = length-drop a _ ∙ ap (λ (k : ℕ). k - a) la in
         let sa : 1 + getD s at 0 / 8 ≡ a =
-        ap (λ (k : ℕ). 1 + getD s k 0 / 8) start ∙ ap (λ (v : ℕ). 1 + v / 8) (sym (first-octet fixed (omega (arith, ha .0, hb .0)))) ∙ sym (address-is family type _ a (q .first)) in
+        ap (λ (k : ℕ). 1 + getD s k 0 / 8) start ∙ ap (λ (v : ℕ). 1 + v / 8) (sym (first-octet fixed (omega (arith, ha .0, hb .0)))) ∙ sym (address-is bits type _ a (q .first)) in
         let next : at + 1 + getD s at 0 / 8 ≡ 2 + (fixed + a) = omega arith in
         let sb : 1 + getD s (at + 1 + getD s at 0 / 8) 0 / 8 ≡ b =
         ap (λ (k : ℕ). 1 + getD s k 0 / 8) next
         ∙ ap (λ (v : ℕ). 1 + v / 8) (sym (ap (λ (y : List ℕ). getD y 0 0) (drop-drop a fixed (part s 2 (getD s 1 0))) ∙ first-octet (fixed + a) (omega (arith, hb .0))))
-        ∙ sym (address-is family type _ b (r .first)) in
+        ∙ sym (address-is bits type _ b (r .first)) in
         let left : ℕ = getD s 1 0 - (fixed + a + b) in
         let whole : fixed + a + b + left ≡ getD s 1 0 = omega arith in (
           record { group = omega (arith, hb .0); sizes = omega arith },
@@ -139,12 +139,12 @@ module _ (s : List ℕ) (within : 2 + getD s 1 0 ≤ length s) where
               ∙ sym (rest-is (getD s 1 0) at (getD s at 0 / 8) (getD s (at + 1 + getD s at 0 / 8) 0 / 8) left (omega arith))),
         )
 
-  module _ (family : ℕ) (l : Layout) (enough : 2 ≤ length s) where
+  module _ (bits : ℕ) (l : Layout) (enough : 2 ≤ length s) where
     as-flow : (fixed : ℕ) → (getD s 0 0 ≡ 1 → ⊥) → (getD s 0 0 ≡ 2 → ⊥) → (getD s 0 0 ≡ 4 → ⊥) → sourceStart (getD s 0 0) - 1 ≡ 2 + fixed
-        → flowRoute family (getD s 0 0) fixed (part s 2 (getD s 1 0)) ≡ given l → Stands s × (l ≡ layoutIn s)
+        → flowRoute bits (getD s 0 0) fixed (part s 2 (getD s 1 0)) ≡ given l → Stands s × (l ≡ layoutIn s)
     unfolding layoutIn
     as-flow fixed one two four start r =
-        let c = flow-laid family (getD s 0 0) fixed (sourceStart (getD s 0 0) - 1) start l r in (
+        let c = flow-laid bits (getD s 0 0) fixed (sourceStart (getD s 0 0) - 1) start l r in (
           record { header = enough; intraAs = λ q. absurd (one q); leaf = λ q. absurd (four q); flow = λ _ _ _. c .0 },
           skips _ _ _ _ (ne-eqb (getD s 0 0) 1 one) (skips _ _ _ _ (ne-eqb (getD s 0 0) 2 two) (skips _ _ _ _ (ne-eqb (getD s 0 0) 4 four) (c .1))),
         )
@@ -152,7 +152,7 @@ module _ (s : List ℕ) (within : 2 + getD s 1 0 ≤ length s) where
     other : {k : ℕ} (a b : ℕ) → (a ≡ b → ⊥) → k ≡ a → k ≡ b → ⊥
     other a b h p q = h (sym p ∙ q)
 
-    laid-out : anyBody family (getD s 0 0) (part s 2 (getD s 1 0)) ≡ given l → Stands s × (l ≡ layoutIn s)
+    laid-out : anyBody bits (getD s 0 0) (part s 2 (getD s 1 0)) ≡ given l → Stands s × (l ≡ layoutIn s)
     unfolding anyBody bodyWith layoutIn sourceStart withSourceAs either pick
     laid-out e =
         choose _ _ _ l e
@@ -169,7 +169,7 @@ module _ (s : List ℕ) (within : 2 + getD s 1 0 ≤ length s) where
         (λ t r. let three : getD s 0 0 ≡ 3 = eqb-true _ _ t in
         as-flow 8 (other 3 1 (λ z. omega arith) three) (other 3 2 (λ z. omega arith) three) (other 3 4 (λ z. omega arith) three) (ap (λ (k : ℕ). sourceStart k - 1) three) r)
         (λ _ e₄. choose _ _ _ l e₄
-        (λ t r. let four : getD s 0 0 ≡ 4 = eqb-true _ _ t in let c = leaf-laid family l r in (
+        (λ t r. let four : getD s 0 0 ≡ 4 = eqb-true _ _ t in let c = leaf-laid bits l r in (
           record { header = enough; intraAs = λ q. absurd (other 4 1 (λ z. omega arith) four q); leaf = λ _. c .0; flow = λ _ _ n. absurd (n four) },
           skips _ _ _ _ n₁ (skips _ _ _ _ n₂ (picks _ _ _ _ t (c .1))),
         ))
@@ -184,21 +184,21 @@ module _ (s : List ℕ) (within : 2 + getD s 1 0 ≤ length s) where
         as-flow 12 (other 7 1 (λ z. omega arith) seven) (other 7 2 (λ z. omega arith) seven) (other 7 4 (λ z. omega arith) seven) (ap (λ (k : ℕ). sourceStart k - 1) seven) r)
         (λ _ e₈. absurd (never e₈ refl))))))))
 
-stands : (family : ℕ) (s : List ℕ) (l : Layout) → layoutAt family s ≡ given l → Stands s × (l ≡ layoutIn s)
+stands : (bits : ℕ) (s : List ℕ) (l : Layout) → layoutAt bits s ≡ given l → Stands s × (l ≡ layoutIn s)
 unfolding anyFront headerAt
-stands family s l e =
-    let p = passed _ _ _ (front-is (anyFront family s) family s refl ∙ e) in
+stands bits s l e =
+    let p = passed _ _ _ (front-is (anyFront bits s) bits s refl ∙ e) in
     let first = given-otherwise _ _ _ _ (p .first) in
     let second = given-otherwise _ _ _ _ (first .1) in
     let enough : 2 ≤ length s = ltb-false _ _ (first .0) in
     let long : getD s 1 0 ≤ length s - 2 = ltb-false _ _ (second .0) in
-    laid-out s (omega arith) family l enough (ap (λ (h : ℕ × ℕ). anyBody family (h .0) (part s 2 (h .1))) (given-same (second .1)) ∙ p .second)
+    laid-out s (omega arith) bits l enough (ap (λ (h : ℕ × ℕ). anyBody bits (h .0) (part s 2 (h .1))) (given-same (second .1)) ∙ p .second)
 
 -- by the number
-pub laid-in : (family : ℕ) (s : List ℕ) (n : ℕ) → n ≡ numberOf (layoutAt family s) → n ≡ 0 → Stands s × (given (layoutIn s) ≡ layoutAt family s)
-laid-in family s n p q =
-    let r = front-done family s (sym p ∙ q) in
-    let c = stands family s (r .0) (r .1) in
+pub laid-in : (bits : ℕ) (s : List ℕ) (n : ℕ) → n ≡ numberOf (layoutAt bits s) → n ≡ 0 → Stands s × (given (layoutIn s) ≡ layoutAt bits s)
+laid-in bits s n p q =
+    let r = front-done bits s (sym p ∙ q) in
+    let c = stands bits s (r .0) (r .1) in
     (c .0, ap given (sym (c .1)) ∙ sym (r .1))
 
 least : (b : Bool) → 3 ≤ pick b 15 11
@@ -211,39 +211,39 @@ unfolding sourceStart
 start-least type = least (withSourceAs type)
 
 -- type and Length of an NLRI without a key, by its header and its body's number
-module _ (family : ℕ) (s : List ℕ) where
-  pub unkeyed-unread : (r : Header) (n : ℕ) → headerOutcome r ≡ headerAt s → r ≡ Unread n → headerOutcome (Unread n) ≡ unkeyedHeader family s
+module _ (bits : ℕ) (s : List ℕ) where
+  pub unkeyed-unread : (r : Header) (n : ℕ) → headerOutcome r ≡ headerAt s → r ≡ Unread n → headerOutcome (Unread n) ≡ unkeyedHeader bits s
   unfolding unkeyedHeader unkeyed headerOutcome
   unkeyed-unread r n p q = stops _ n _ (sym (stops (headerAt s) n _ (sym p ∙ ap headerOutcome q)))
 
-  module _ (type size : ℕ) (h : headerAt s ≡ given (type, size)) (body : List ℕ) (fault : ℕ) (b : body ≡ part s 2 size) (f : fault ≡ numberOf (unkeyedBody family type body)) where
-    body-number : fault ≡ numberOf (unkeyedBody family type (part s 2 size))
-    body-number = f ∙ ap (λ (x : List ℕ). numberOf (unkeyedBody family type x)) b
+  module _ (type size : ℕ) (h : headerAt s ≡ given (type, size)) (body : List ℕ) (fault : ℕ) (b : body ≡ part s 2 size) (f : fault ≡ numberOf (unkeyedBody bits type body)) where
+    body-number : fault ≡ numberOf (unkeyedBody bits type (part s 2 size))
+    body-number = f ∙ ap (λ (x : List ℕ). numberOf (unkeyedBody bits type x)) b
 
-    unkeyed-by : unkeyed family s ≡ unkeyedBody family type (part s 2 size)
+    unkeyed-by : unkeyed bits s ≡ unkeyedBody bits type (part s 2 size)
     unfolding unkeyed
     unkeyed-by = sym (goes _ _ _ _ h refl)
 
-    pub unkeyed-refused : (fault ≡ 0 → ⊥) → headerOutcome (Unread fault) ≡ unkeyedHeader family s
+    pub unkeyed-refused : (fault ≡ 0 → ⊥) → headerOutcome (Unread fault) ≡ unkeyedHeader bits s
     unfolding unkeyedHeader headerOutcome
     unkeyed-refused no-fault = stops _ fault _ (unkeyed-by ∙ refused-of _ fault body-number no-fault)
 
-    pub unkeyed-typed : fault ≡ 0 → headerOutcome (Typed type size) ≡ unkeyedHeader family s
+    pub unkeyed-typed : fault ≡ 0 → headerOutcome (Typed type size) ≡ unkeyedHeader bits s
     unfolding unkeyedHeader headerOutcome
     unkeyed-typed q =
-        let r = unkeyed-done family type (part s 2 size) (sym body-number ∙ q) in
-        let o = unkeyed-octets family s (r .0) (unkeyed-by ∙ r .1) in
+        let r = unkeyed-done bits type (part s 2 size) (sym body-number ∙ q) in
+        let o = unkeyed-octets bits s (r .0) (unkeyed-by ∙ r .1) in
         let t = header-octets s type size h in
         goes _ _ (r .0) _ (unkeyed-by ∙ r .1) (λ i. given ((sym (t .0) ∙ sym (o .0)) i, (sym (t .1) ∙ sym (o .1)) i))
 
-  pub unkeyed-header-within : (type size : ℕ) → unkeyedHeader family s ≡ given (type, size) → 2 + size ≤ length s
+  pub unkeyed-header-within : (type size : ℕ) → unkeyedHeader bits s ≡ given (type, size) → 2 + size ≤ length s
   unfolding unkeyedHeader
   unkeyed-header-within type size e =
       let p = passed _ _ _ e in
       let n : p .value .length ≡ size = ap (λ (z : ℕ × ℕ). z .1) (given-same (p .second)) in
-      let h = unkeyed-within family s (p .value) (p .first) in
+      let h = unkeyed-within bits s (p .value) (p .first) in
       omega arith
 
-pub key-by : (o : Outcome ℕ) (family : ℕ) (s : List ℕ) → o ≡ onOutcome (λ fault. refused KEY) (λ h. pick (ltb 3 (h .0)) (refused KEY) (given (2 + h .1))) (unkeyedHeader family s) → o ≡ keyField family s
+pub key-by : (o : Outcome ℕ) (bits : ℕ) (s : List ℕ) → o ≡ onOutcome (λ fault. refused KEY) (λ h. pick (ltb 3 (h .0)) (refused KEY) (given (2 + h .1))) (unkeyedHeader bits s) → o ≡ keyField bits s
 unfolding unkeyedHeader keySize
-key-by o family s e = key-is o family s (e ∙ on-mapped _ _ _ _)
+key-by o bits s e = key-is o bits s (e ∙ on-mapped _ _ _ _)

@@ -27,8 +27,8 @@ use Rattle.nlri.proofs.Fronts.{layout-octets}
 use Rattle.nlri.proofs.Standing.{laid-in}
 
 -- the Length of an NLRI is its second octet
-layout-length : (family : ℕ) (run : List ℕ) (at : ℕ) (l : Layout) → layoutAt family (drop at run) ≡ given l → l .length ≡ getD run (at + 1) 0
-layout-length family run at l e = layout-octets family (drop at run) l e .3 ∙ getD-drop at run 1 0
+layout-length : (bits : ℕ) (run : List ℕ) (at : ℕ) (l : Layout) → layoutAt bits (drop at run) ≡ given l → l .length ≡ getD run (at + 1) 0
+layout-length bits run at l e = layout-octets bits (drop at run) l e .3 ∙ getD-drop at run 1 0
 
 -- a step's number
 pub step-picks : (n : ℕ) (x y : Stepped) (b : Bool) → b ≡ true → n ≡ x .number → n ≡ pick b x y .number
@@ -44,9 +44,9 @@ unfolding onOutcome numberOf stoppedAt readTo
 step-on n at next (given l) e = e
 step-on n at next (refused m) e = e
 
-pub step-fronts : (n family : ℕ) (run : List ℕ) (at : ℕ) → length run ≤ 4096 → (at ≡ length run → ⊥) → at ≤ length run → n ≡ numberOf (layoutAt family (drop at run)) → n ≡ stepUnder family run at .number
+pub step-fronts : (n bits : ℕ) (run : List ℕ) (at : ℕ) → length run ≤ 4096 → (at ≡ length run → ⊥) → at ≤ length run → n ≡ numberOf (layoutAt bits (drop at run)) → n ≡ stepUnder bits run at .number
 unfolding stepUnder
-step-fronts n family run at short more within e =
+step-fronts n bits run at short more within e =
     step-skips n _ _ _ (le-ltb 4096 (length run) short)
     (step-skips n _ _ _ (ne-eqb at (length run) more) (step-skips n _ _ _ (le-ltb (length run) at within) (step-on n at (λ l. at + (2 + l .length)) _ e)))
 
@@ -78,31 +78,31 @@ reads-by at next (given l) false false e = (refl, refl, refl)
 reads-by at next (refused n) false false e = (refl, refl, e)
 
 -- a step that reads: the run is short, and the NLRI's octets stand at the cursor
-pub record Reads (family : ℕ) (run : List ℕ) (at : ℕ) : Type 0 where
+pub record Reads (bits : ℕ) (run : List ℕ) (at : ℕ) : Type 0 where
   pub short : length run ≤ 4096
   pub within : at ≤ length run
   pub stands : Stands (drop at run)
-  pub is : layoutAt family (drop at run) ≡ given (layoutIn (drop at run))
+  pub is : layoutAt bits (drop at run) ≡ given (layoutIn (drop at run))
 
-module _ (family : ℕ) (run : List ℕ) (at number : ℕ) (e : number ≡ stepUnder family run at .number) where
-  pub step-stops : (number ≡ 0 → ⊥) → stoppedAt number at ≡ stepUnder family run at
+module _ (bits : ℕ) (run : List ℕ) (at number : ℕ) (e : number ≡ stepUnder bits run at .number) where
+  pub step-stops : (number ≡ 0 → ⊥) → stoppedAt number at ≡ stepUnder bits run at
   unfolding stepUnder
   step-stops h = ap (λ (n : ℕ). stoppedAt n at) e ∙ stops-by at (λ l. at + (2 + l .length)) _ _ _ _ (λ q. h (e ∙ q))
 
-  pub step-ends : number ≡ 0 → at ≡ length run → stoppedAt 0 at ≡ stepUnder family run at
+  pub step-ends : number ≡ 0 → at ≡ length run → stoppedAt 0 at ≡ stepUnder bits run at
   unfolding stepUnder
   step-ends z last = let b : eqb at (length run) ≡ true = eq-eqb _ _ last in rw b (ends-by at (λ l. at + (2 + l .length)) _ _ _ (rw b at (sym e ∙ z)))
 
-  pub step-reads : number ≡ 0 → (at ≡ length run → ⊥) → Reads family run at
+  pub step-reads : number ≡ 0 → (at ≡ length run → ⊥) → Reads bits run at
   unfolding stepUnder
   step-reads z more =
       let b : eqb at (length run) ≡ false = ne-eqb _ _ more in
       let r = reads-by at (λ l. at + (2 + l .length)) _ _ _ (rw b at (sym e ∙ z)) in
-      let laid = laid-in family (drop at run) 0 (sym (r .2)) refl in
+      let laid = laid-in bits (drop at run) 0 (sym (r .2)) refl in
       record { short = ltb-false _ _ (r .0); within = ltb-false _ _ (r .1); stands = laid .0; is = sym (laid .1) }
 
-module _ (family : ℕ) (run : List ℕ) (at : ℕ) (more : at ≡ length run → ⊥) (r : Reads family run at) where
-  pub read-under : readTo (layoutIn (drop at run)) (at + (2 + layoutIn (drop at run) .length)) ≡ stepUnder family run at
+module _ (bits : ℕ) (run : List ℕ) (at : ℕ) (more : at ≡ length run → ⊥) (r : Reads bits run at) where
+  pub read-under : readTo (layoutIn (drop at run)) (at + (2 + layoutIn (drop at run) .length)) ≡ stepUnder bits run at
   unfolding stepUnder
   read-under =
       skips _ _ _ _ (le-ltb 4096 (length run) (r .short))
@@ -110,13 +110,13 @@ module _ (family : ℕ) (run : List ℕ) (at : ℕ) (more : at ≡ length run �
       (skips _ _ _ _ (le-ltb (length run) at (r .within)) (on-given _ _ (layoutIn (drop at run)) _ _ (r .is) refl)))
 
   -- by the Length octet in the run
-  pub read-by-octet : readTo (layoutIn (drop at run)) (at + (2 + getD run (at + 1) 0)) ≡ stepUnder family run at
-  read-by-octet = ap (λ (n : ℕ). readTo (layoutIn (drop at run)) (at + (2 + n))) (sym (layout-length family run at _ (r .is))) ∙ read-under
+  pub read-by-octet : readTo (layoutIn (drop at run)) (at + (2 + getD run (at + 1) 0)) ≡ stepUnder bits run at
+  read-by-octet = ap (λ (n : ℕ). readTo (layoutIn (drop at run)) (at + (2 + n))) (sym (layout-length bits run at _ (r .is))) ∙ read-under
 
 -- under an AFI
-pub step-under-is : (afi family : ℕ) (run : List ℕ) (at : ℕ) (x : Stepped) → familyBits afi ≡ given family → x ≡ stepUnder family run at → stepFrom afi run at ≡ x
+pub step-under-is : (afi bits : ℕ) (run : List ℕ) (at : ℕ) (x : Stepped) → familyBits afi ≡ given bits → x ≡ stepUnder bits run at → stepFrom afi run at ≡ x
 unfolding stepFrom
-step-under-is afi family run at x e q = sym (on-given x (familyBits afi) family _ _ e q)
+step-under-is afi bits run at x e q = sym (on-given x (familyBits afi) bits _ _ e q)
 
 no-family : (one two : Bool) (n : ℕ) → pick {A = Outcome ℕ} one (given 32) (pick two (given 128) (refused FAMILY)) ≡ refused n → FAMILY ≡ n
 unfolding pick

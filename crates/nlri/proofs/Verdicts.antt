@@ -104,23 +104,23 @@ module _ (nlri : Nlri) (key : List ℕ) where
   all-is low high = ap (λ (b : List ℕ). nlri .«route_type» ∷ length b ∷ b) (body-at (nlri .«route_type») low high refl)
 
 -- the verdict on a body: document 01's is the writer's
-module _ (family : ℕ) (f : Fields) (A : Type 0) (done short wide : A) where
+module _ (bits : ℕ) (f : Fields) (A : Type 0) (done short wide : A) where
   mine : ℕ → A
   mine type =
-      pick (flowFits family type (length (f .source)) (length (f .group)))
-      (pick (originatorFits type (length (f .originator))) (pick (leafFits family type (f .key)) done short) wide) wide
+      pick (flowFits bits type (length (f .source)) (length (f .group)))
+      (pick (originatorFits type (length (f .originator))) (pick (leafFits bits type (f .key)) done short) wide) wide
 
-  verdict-at : (type : ℕ) → 1 ≤ type → type ≤ 7 → f .type ≡ type → pick (widthsFit family f (bodyOf type)) (pick (keysFit family f (bodyOf type)) done short) wide ≡ mine type
+  verdict-at : (type : ℕ) → 1 ≤ type → type ≤ 7 → f .type ≡ type → pick (widthsFit bits f (bodyOf type)) (pick (keysFit bits f (bodyOf type)) done short) wide ≡ mine type
   unfolding mine widthsFit widthFits keysFit keyFits bodyOf bodies onBody pick either both flowFits originatorFits leafFits hasFlow hasOriginator
   verdict-at type low high =
-      known (λ (n : ℕ). f .type ≡ n → pick (widthsFit family f (bodyOf n)) (pick (keysFit family f (bodyOf n)) done short) wide ≡ mine n) type
+      known (λ (n : ℕ). f .type ≡ n → pick (widthsFit bits f (bodyOf n)) (pick (keysFit bits f (bodyOf n)) done short) wide ≡ mine n) type
       (λ e. widths-1 (isOriginatorSize (length (f .originator))) A done wide)
       (λ e. refl)
-      (λ e. rw e (widths-3 (allowed family 3 (8 * length (f .source))) (allowed family 3 (8 * length (f .group))) (isOriginatorSize (length (f .originator))) A done wide))
-      (λ e. leaf-tests (isOriginatorSize (length (f .originator))) (isKey family (f .key)) A done short wide)
-      (λ e. rw e (widths-2 (allowed family 5 (8 * length (f .source))) (allowed family 5 (8 * length (f .group))) A done wide))
-      (λ e. rw e (widths-2 (allowed family 6 (8 * length (f .source))) (allowed family 6 (8 * length (f .group))) A done wide))
-      (λ e. rw e (widths-2 (allowed family 7 (8 * length (f .source))) (allowed family 7 (8 * length (f .group))) A done wide))
+      (λ e. rw e (widths-3 (allowed bits 3 (8 * length (f .source))) (allowed bits 3 (8 * length (f .group))) (isOriginatorSize (length (f .originator))) A done wide))
+      (λ e. leaf-tests (isOriginatorSize (length (f .originator))) (isKey bits (f .key)) A done short wide)
+      (λ e. rw e (widths-2 (allowed bits 5 (8 * length (f .source))) (allowed bits 5 (8 * length (f .group))) A done wide))
+      (λ e. rw e (widths-2 (allowed bits 6 (8 * length (f .source))) (allowed bits 6 (8 * length (f .group))) A done wide))
+      (λ e. rw e (widths-2 (allowed bits 7 (8 * length (f .source))) (allowed bits 7 (8 * length (f .group))) A done wide))
       low high
 
 -- the writer's number, and what it stands for
@@ -135,7 +135,7 @@ verdict-number false false true false leaf o = refl
 verdict-number false false true true false o = refl
 verdict-number false false true true true o = refl
 
-module _ (nlri : Nlri) (key : List ℕ) (space family : ℕ) (eight : length (nlri .distinguisher .octets) ≡ 8) where
+module _ (nlri : Nlri) (key : List ℕ) (space bits : ℕ) (eight : length (nlri .distinguisher .octets) ≡ 8) where
   f : Fields
   f = structFields nlri key
 
@@ -155,24 +155,24 @@ module _ (nlri : Nlri) (key : List ℕ) (space family : ℕ) (eight : length (nl
   tested : ℕ → Outcome (List ℕ) → Outcome (List ℕ)
   tested type o =
       pick (ltb type 1) (refused TYPE) (pick (ltb 7 type) (refused TYPE)
-      (pick (flowFits family type (nlri .source .size) (nlri .group .size)) (pick (originatorFits type (nlri .originator .size)) (pick (leafFits family type key) o (refused KEY)) (refused WIDTH)) (refused WIDTH)))
+      (pick (flowFits bits type (nlri .source .size) (nlri .group .size)) (pick (originatorFits type (nlri .originator .size)) (pick (leafFits bits type key) o (refused KEY)) (refused WIDTH)) (refused WIDTH)))
 
   row-is : ℕ → Outcome (List ℕ)
-  row-is type = onBody bodies type (refused TYPE) (λ body. pick (widthsFit family f body) (pick (keysFit family f body) page (refused KEY)) (refused WIDTH))
+  row-is type = onBody bodies type (refused TYPE) (λ body. pick (widthsFit bits f body) (pick (keysFit bits f body) page (refused KEY)) (refused WIDTH))
 
-  in-table : (type : ℕ) → 1 ≤ type → type ≤ 7 → row-is type ≡ pick (widthsFit family f (bodyOf type)) (pick (keysFit family f (bodyOf type)) page (refused KEY)) (refused WIDTH)
+  in-table : (type : ℕ) → 1 ≤ type → type ≤ 7 → row-is type ≡ pick (widthsFit bits f (bodyOf type)) (pick (keysFit bits f (bodyOf type)) page (refused KEY)) (refused WIDTH)
   unfolding row-is onBody bodies bodyOf pick
   in-table type low high =
-      known (λ (n : ℕ). row-is n ≡ pick (widthsFit family f (bodyOf n)) (pick (keysFit family f (bodyOf n)) page (refused KEY)) (refused WIDTH)) type
+      known (λ (n : ℕ). row-is n ≡ pick (widthsFit bits f (bodyOf n)) (pick (keysFit bits f (bodyOf n)) page (refused KEY)) (refused WIDTH)) type
       refl refl refl refl refl refl refl low high
 
   within : (type : ℕ) → nlri .«route_type» ≡ type → 1 ≤ type → type ≤ 7 → row-is type ≡ tested type ours
   unfolding tested mine f structFields
   within type e low high =
       in-table type low high
-      ∙ verdict-at family (structFields nlri key) (Outcome (List ℕ)) page (refused KEY) (refused WIDTH) type low high e
-      ∙ ap₂ (λ (a b : ℕ). pick (flowFits family type a b) (pick (originatorFits type (length (addressOctets (nlri .originator)))) (pick (leafFits family type key) page (refused KEY)) (refused WIDTH)) (refused WIDTH)) (octets-length (nlri .source)) (octets-length (nlri .group))
-      ∙ ap₂ (λ (c : ℕ) (o : Outcome (List ℕ)). pick (flowFits family type (nlri .source .size) (nlri .group .size)) (pick (originatorFits type c) (pick (leafFits family type key) o (refused KEY)) (refused WIDTH)) (refused WIDTH)) (octets-length (nlri .originator)) (same-octets (omega (arith, e)) (omega (arith, e)))
+      ∙ verdict-at bits (structFields nlri key) (Outcome (List ℕ)) page (refused KEY) (refused WIDTH) type low high e
+      ∙ ap₂ (λ (a b : ℕ). pick (flowFits bits type a b) (pick (originatorFits type (length (addressOctets (nlri .originator)))) (pick (leafFits bits type key) page (refused KEY)) (refused WIDTH)) (refused WIDTH)) (octets-length (nlri .source)) (octets-length (nlri .group))
+      ∙ ap₂ (λ (c : ℕ) (o : Outcome (List ℕ)). pick (flowFits bits type (nlri .source .size) (nlri .group .size)) (pick (originatorFits type c) (pick (leafFits bits type key) o (refused KEY)) (refused WIDTH)) (refused WIDTH)) (octets-length (nlri .originator)) (same-octets (omega (arith, e)) (omega (arith, e)))
       ∙ sym (pick-false _ _ _ (le-ltb type 1 low) ∙ pick-false _ _ _ (le-ltb 7 type high))
 
   beyond : (type : ℕ) → (type < 1) ⊎ (7 < type) → row-is type ≡ tested type ours
@@ -190,7 +190,7 @@ module _ (nlri : Nlri) (key : List ℕ) (space family : ℕ) (eight : length (nl
       refusal (inl h) = sym (pick-true (ltb type 1) _ _ (lt-ltb type 1 h))
       refusal (inr h) = sym (pick-false (ltb type 1) _ _ (le-ltb type 1 (omega arith)) ∙ pick-true (ltb 7 type) _ _ (lt-ltb 7 type h))
 
-  under-is : row-is (nlri .«route_type») ≡ writeUnder family nlri key space
+  under-is : row-is (nlri .«route_type») ≡ writeUnder bits nlri key space
   unfolding writeUnder fieldsFault tested ours
   under-is =
       by-type (λ (n : ℕ). nlri .«route_type» ≡ n → row-is n ≡ tested n ours) (nlri .«route_type»)
@@ -200,9 +200,9 @@ module _ (nlri : Nlri) (key : List ℕ) (space family : ℕ) (eight : length (nl
       ∙ sym (verdict-number _ _ _ _ _ _)
 
 pub write-is : (afi : ℕ) (nlri : Nlri) (key : List ℕ) (space : ℕ) → length (nlri .distinguisher .octets) ≡ 8
-    → andThen (familyBits afi) (λ family. writeUnder family nlri key space) ≡ writeNlri afi (structFields nlri key) space
+    → andThen (familyBits afi) (λ bits. writeUnder bits nlri key space) ≡ writeNlri afi (structFields nlri key) space
 unfolding writeNlri row-is page f structFields
-write-is afi nlri key space eight = and-cong _ _ _ (λ family e. sym (under-is nlri key space family eight))
+write-is afi nlri key space eight = and-cong _ _ _ (λ bits e. sym (under-is nlri key space bits eight))
 
 -- what follows where the writer finds no fault
 number-only : (b : Bool) (k n : ℕ) → (k ≡ 0 → ⊥) → pick b n k ≡ 0 → (b ≡ true) × (n ≡ 0)
@@ -210,13 +210,13 @@ unfolding pick
 number-only true k n h e = (refl, e)
 number-only false k n h e = absurd (h e)
 
-octets-size : (family type size : ℕ) → (family ≡ 32) ⊎ (family ≡ 128) → allowed family type (8 * size) ≡ true → AddressSize size
+octets-size : (bits type size : ℕ) → (bits ≡ 32) ⊎ (bits ≡ 128) → allowed bits type (8 * size) ≡ true → AddressSize size
 unfolding allowed
-octets-size family type size f h = go f (either-true _ _ h)
+octets-size bits type size f h = go f (either-true _ _ h)
   where
-    go : (family ≡ 32) ⊎ (family ≡ 128) → (eqb (8 * size) family ≡ true) ⊎ (both (eqb type 3) (eqb (8 * size) 0) ≡ true) → AddressSize size
-    go (inl e) (inl b) = let q : 8 * size ≡ family = eqb-true _ _ b in (omega arith, λ four sixteen. omega arith)
-    go (inr e) (inl b) = let q : 8 * size ≡ family = eqb-true _ _ b in (omega arith, λ four sixteen. omega arith)
+    go : (bits ≡ 32) ⊎ (bits ≡ 128) → (eqb (8 * size) bits ≡ true) ⊎ (both (eqb type 3) (eqb (8 * size) 0) ≡ true) → AddressSize size
+    go (inl e) (inl b) = let q : 8 * size ≡ bits = eqb-true _ _ b in (omega arith, λ four sixteen. omega arith)
+    go (inr e) (inl b) = let q : 8 * size ≡ bits = eqb-true _ _ b in (omega arith, λ four sixteen. omega arith)
     go g (inr b) = let q : 8 * size ≡ 0 = eqb-true _ _ (both-true-right _ _ b) in (omega arith, λ four sixteen. omega arith)
 
 originator-octets : (size : ℕ) → isOriginatorSize size ≡ true → AddressSize size
@@ -227,12 +227,12 @@ originator-octets size h = go (either-true _ _ h)
     go (inl e) = let q : size ≡ 4 = eqb-true _ _ e in (omega arith, λ four sixteen. omega arith)
     go (inr e) = let q : size ≡ 16 = eqb-true _ _ e in (omega arith, λ four sixteen. omega arith)
 
-module _ (family : ℕ) (nlri : Nlri) (key : List ℕ) (none : fieldsFault family nlri key ≡ 0) where
+module _ (bits : ℕ) (nlri : Nlri) (key : List ℕ) (none : fieldsFault bits nlri key ≡ 0) where
   record Faultless : Type 0 where
     typed : nlri .«route_type» ≤ 7
-    flow : flowFits family (nlri .«route_type») (nlri .source .size) (nlri .group .size) ≡ true
+    flow : flowFits bits (nlri .«route_type») (nlri .source .size) (nlri .group .size) ≡ true
     origin : originatorFits (nlri .«route_type») (nlri .originator .size) ≡ true
-    leaf : leafFits family (nlri .«route_type») key ≡ true
+    leaf : leafFits bits (nlri .«route_type») key ≡ true
 
   faultless : Faultless
   unfolding fieldsFault
@@ -244,20 +244,20 @@ module _ (family : ℕ) (nlri : Nlri) (key : List ℕ) (none : fieldsFault famil
       let t = number-only _ 5 _ (λ e. omega arith) (s .1) in
       record { typed = ltb-false 7 (nlri .«route_type») (q .0); flow = r .0; origin = s .0; leaf = t .0 }
 
-  pub sized-nlri : (family ≡ 32) ⊎ (family ≡ 128) → AddressesSized nlri
+  pub sized-nlri : (bits ≡ 32) ⊎ (bits ≡ 128) → AddressesSized nlri
   unfolding flowFits originatorFits
   sized-nlri f =
       record {
-        source = λ h. octets-size family _ _ f (both-true-left _ _ (sym (pick-true _ _ _ h) ∙ faultless .flow));
-        group = λ h. octets-size family _ _ f (both-true-right _ _ (sym (pick-true _ _ _ h) ∙ faultless .flow));
+        source = λ h. octets-size bits _ _ f (both-true-left _ _ (sym (pick-true _ _ _ h) ∙ faultless .flow));
+        group = λ h. octets-size bits _ _ f (both-true-right _ _ (sym (pick-true _ _ _ h) ∙ faultless .flow));
         originator = λ h. originator-octets _ (sym (pick-true _ _ _ h) ∙ faultless .origin);
       }
 
-  pub keyed : nlri .«route_type» ≡ 4 → isKey family key ≡ true
+  pub keyed : nlri .«route_type» ≡ 4 → isKey bits key ≡ true
   unfolding leafFits
   keyed e = sym (pick-true _ _ _ (eq-eqb _ _ e)) ∙ faultless .leaf
 
-  pub size-short : (family ≡ 32) ⊎ (family ≡ 128) → (nlri .«route_type» ≡ 4 → length key ≤ 60) → sizeOf nlri (length key) < 258
+  pub size-short : (bits ≡ 32) ⊎ (bits ≡ 128) → (nlri .«route_type» ≡ 4 → length key ≤ 60) → sizeOf nlri (length key) < 258
   unfolding sizeOf
   size-short f bound =
       let a = fixed-short (nlri .«route_type») (length key) bound in
@@ -265,16 +265,16 @@ module _ (family : ℕ) (nlri : Nlri) (key : List ℕ) (none : fieldsFault famil
       let c = originator-short (nlri .«route_type») (nlri .originator .size) (λ h. sized-nlri f .originator h .0) in
       omega arith
 
-module _ (family : ℕ) (nlri : Nlri) (key : List ℕ) (space : ℕ) where
-  pub refused-under : (fieldsFault family nlri key ≡ 0 → ⊥) → refused (fieldsFault family nlri key) ≡ writeUnder family nlri key space
+module _ (bits : ℕ) (nlri : Nlri) (key : List ℕ) (space : ℕ) where
+  pub refused-under : (fieldsFault bits nlri key ≡ 0 → ⊥) → refused (fieldsFault bits nlri key) ≡ writeUnder bits nlri key space
   unfolding writeUnder
   refused-under h = sym (pick-false _ _ _ (ne-eqb _ _ h))
 
-  pub space-under : fieldsFault family nlri key ≡ 0 → space < sizeOf nlri (length key) → refused SPACE ≡ writeUnder family nlri key space
+  pub space-under : fieldsFault bits nlri key ≡ 0 → space < sizeOf nlri (length key) → refused SPACE ≡ writeUnder bits nlri key space
   unfolding writeUnder
   space-under e h = sym (pick-true _ _ _ (eq-eqb _ _ e) ∙ pick-true _ _ _ (lt-ltb _ _ h))
 
-  pub given-under : fieldsFault family nlri key ≡ 0 → sizeOf nlri (length key) ≤ space → given (nlriOctets nlri key) ≡ writeUnder family nlri key space
+  pub given-under : fieldsFault bits nlri key ≡ 0 → sizeOf nlri (length key) ≤ space → given (nlriOctets nlri key) ≡ writeUnder bits nlri key space
   unfolding writeUnder
   given-under e h = sym (pick-true _ _ _ (eq-eqb _ _ e) ∙ pick-false _ _ _ (le-ltb _ _ h))
 
@@ -287,7 +287,7 @@ unfolding outputOf onOutcome
 untouched n d = refl
 
 -- a key that the writer takes is short
-pub key-short : (family : ℕ) (key : List ℕ) → (family ≡ 32) ⊎ (family ≡ 128) → ((i : ℕ) → getD key i 0 < 256) → isKey family key ≡ true → length key ≤ 60
+pub key-short : (bits : ℕ) (key : List ℕ) → (bits ≡ 32) ⊎ (bits ≡ 128) → ((i : ℕ) → getD key i 0 < 256) → isKey bits key ≡ true → length key ≤ 60
 unfolding familyBits pick
-key-short family key (inl e) octets h = key-octets family (omega arith) (omega arith) key (key-judged 1 family (ap given (sym e)) key (octets-of key octets) h) .0
-key-short family key (inr e) octets h = key-octets family (omega arith) (omega arith) key (key-judged 2 family (ap given (sym e)) key (octets-of key octets) h) .0
+key-short bits key (inl e) octets h = key-octets bits (omega arith) (omega arith) key (key-judged 1 bits (ap given (sym e)) key (octets-of key octets) h) .0
+key-short bits key (inr e) octets h = key-octets bits (omega arith) (omega arith) key (key-judged 2 bits (ap given (sym e)) key (octets-of key octets) h) .0

@@ -46,36 +46,36 @@ record StepStops (afi : ℕ) (run : List ℕ) (at : ℕ) : Type 0 where
   number : ℕ
   is : stepFrom afi run at ≡ stoppedAt number at
 
-layout-fits : (family : ℕ) (s : List ℕ) (layout : Layout) → layoutAt family s ≡ given layout → 2 + layout .length ≤ length s
+layout-fits : (bits : ℕ) (s : List ℕ) (layout : Layout) → layoutAt bits s ≡ given layout → 2 + layout .length ≤ length s
 unfolding layoutAt layoutOf laidAt
-layout-fits family s layout e =
+layout-fits bits s layout e =
     let p = passed _ _ _ e in
-    let o = laid-out (keyField family) family s (p .value) (p .first) in
+    let o = laid-out (keyField bits) bits s (p .value) (p .first) in
     let same : p .value .size ≡ layout .length = ap (λ (l : Layout). l .length) (given-same (p .second)) in
     omega (arith, o .fits, o .enough)
 
 -- past LONG and the run's end, the step is what reading says
-under-reads : (family : ℕ) (run : List ℕ) (at : ℕ) → length run ≤ 4096 → at < length run
-    → stepUnder family run at ≡ onOutcome (λ number. stoppedAt number at) (λ layout. readTo layout (at + (2 + layout .length))) (layoutAt family (drop at run))
+under-reads : (bits : ℕ) (run : List ℕ) (at : ℕ) → length run ≤ 4096 → at < length run
+    → stepUnder bits run at ≡ onOutcome (λ number. stoppedAt number at) (λ layout. readTo layout (at + (2 + layout .length))) (layoutAt bits (drop at run))
 unfolding stepUnder
-under-reads family run at short before =
+under-reads bits run at short before =
     pick-false _ _ _ (le-ltb 4096 (length run) short) ∙ pick-false _ _ _ (ne-eqb at (length run) (λ e. omega arith)) ∙ pick-false _ _ _ (le-ltb (length run) at (omega arith))
 
-under-long : (family : ℕ) (run : List ℕ) (at : ℕ) → ltb 4096 (length run) ≡ true → stepUnder family run at ≡ stoppedAt LONG at
+under-long : (bits : ℕ) (run : List ℕ) (at : ℕ) → ltb 4096 (length run) ≡ true → stepUnder bits run at ≡ stoppedAt LONG at
 unfolding stepUnder
-under-long family run at e = pick-true _ _ _ e
+under-long bits run at e = pick-true _ _ _ e
 
-under-ends : (family : ℕ) (run : List ℕ) (at : ℕ) → length run ≤ 4096 → at ≡ length run → stepUnder family run at ≡ stoppedAt DONE at
+under-ends : (bits : ℕ) (run : List ℕ) (at : ℕ) → length run ≤ 4096 → at ≡ length run → stepUnder bits run at ≡ stoppedAt DONE at
 unfolding stepUnder
-under-ends family run at short e = pick-false _ _ _ (le-ltb 4096 (length run) short) ∙ pick-true _ _ _ (eq-eqb at (length run) e)
+under-ends bits run at short e = pick-false _ _ _ (le-ltb 4096 (length run) short) ∙ pick-true _ _ _ (eq-eqb at (length run) e)
 
-under-past : (family : ℕ) (run : List ℕ) (at : ℕ) → length run ≤ 4096 → (at ≡ length run → ⊥) → ltb (length run) at ≡ true → stepUnder family run at ≡ stoppedAt SHORT at
+under-past : (bits : ℕ) (run : List ℕ) (at : ℕ) → length run ≤ 4096 → (at ≡ length run → ⊥) → ltb (length run) at ≡ true → stepUnder bits run at ≡ stoppedAt SHORT at
 unfolding stepUnder
-under-past family run at short other e = pick-false _ _ _ (le-ltb 4096 (length run) short) ∙ pick-false _ _ _ (ne-eqb at (length run) other) ∙ pick-true _ _ _ e
+under-past bits run at short other e = pick-false _ _ _ (le-ltb 4096 (length run) short) ∙ pick-false _ _ _ (ne-eqb at (length run) other) ∙ pick-true _ _ _ e
 
-step-under : (afi family : ℕ) (run : List ℕ) (at : ℕ) → familyBits afi ≡ given family → stepUnder family run at ≡ stepFrom afi run at
+step-under : (afi bits : ℕ) (run : List ℕ) (at : ℕ) → familyBits afi ≡ given bits → stepUnder bits run at ≡ stepFrom afi run at
 unfolding stepFrom
-step-under afi family run at bits = on-given _ _ _ _ _ bits refl
+step-under afi bits run at ofFamily = on-given _ _ _ _ _ ofFamily refl
 
 step-refused : (afi : ℕ) (run : List ℕ) (at : ℕ) {n : ℕ} → familyBits afi ≡ refused n → stepFrom afi run at ≡ stoppedAt n at
 unfolding stepFrom
@@ -85,28 +85,28 @@ step-refused afi run at bad = sym (on-refused _ _ _ _ _ bad refl)
 step : (afi : ℕ) (run : List ℕ) (at : ℕ) → StepRead afi run at ⊎ StepStops afi run at
 step afi run at = ⊎-elim (λ good. long (good .0) (good .1) (ltb 4096 (length run)) refl) (λ bad. inr (record { number = bad .0; is = step-refused afi run at (bad .1) })) (outcome (familyBits afi))
   where
-    stopped-by : (family number : ℕ) → familyBits afi ≡ given family → stepUnder family run at ≡ stoppedAt number at → StepRead afi run at ⊎ StepStops afi run at
-    stopped-by family number bits e = inr (record { number = number; is = sym (step-under afi family run at bits) ∙ e })
+    stopped-by : (bits number : ℕ) → familyBits afi ≡ given bits → stepUnder bits run at ≡ stoppedAt number at → StepRead afi run at ⊎ StepStops afi run at
+    stopped-by bits number ofFamily e = inr (record { number = number; is = sym (step-under afi bits run at ofFamily) ∙ e })
 
-    reads : (family : ℕ) → familyBits afi ≡ given family → length run ≤ 4096 → at < length run → StepRead afi run at ⊎ StepStops afi run at
-    reads family bits short before =
+    reads : (bits : ℕ) → familyBits afi ≡ given bits → length run ≤ 4096 → at < length run → StepRead afi run at ⊎ StepStops afi run at
+    reads bits ofFamily short before =
         ⊎-elim
         (λ yes.
-        let room : at + (2 + yes .0 .length) ≤ length run = omega (arith, layout-fits family (drop at run) (yes .0) (yes .1), length-drop at run) in
-        inl (record { layout = yes .0; fits = room; is = sym (step-under afi family run at bits) ∙ under-reads family run at short before ∙ sym (on-given _ _ _ _ _ (yes .1) refl) }))
-        (λ bad. stopped-by family (bad .0) bits (under-reads family run at short before ∙ sym (on-refused _ _ _ _ _ (bad .1) refl))) (outcome (layoutAt family (drop at run)))
+        let room : at + (2 + yes .0 .length) ≤ length run = omega (arith, layout-fits bits (drop at run) (yes .0) (yes .1), length-drop at run) in
+        inl (record { layout = yes .0; fits = room; is = sym (step-under afi bits run at ofFamily) ∙ under-reads bits run at short before ∙ sym (on-given _ _ _ _ _ (yes .1) refl) }))
+        (λ bad. stopped-by bits (bad .0) ofFamily (under-reads bits run at short before ∙ sym (on-refused _ _ _ _ _ (bad .1) refl))) (outcome (layoutAt bits (drop at run)))
 
-    past : (family : ℕ) → familyBits afi ≡ given family → length run ≤ 4096 → (at ≡ length run → ⊥) → (b : Bool) → ltb (length run) at ≡ b → StepRead afi run at ⊎ StepStops afi run at
-    past family bits short other true e = stopped-by family SHORT bits (under-past family run at short other e)
-    past family bits short other false e = reads family bits short (omega (arith, ltb-false))
+    past : (bits : ℕ) → familyBits afi ≡ given bits → length run ≤ 4096 → (at ≡ length run → ⊥) → (b : Bool) → ltb (length run) at ≡ b → StepRead afi run at ⊎ StepStops afi run at
+    past bits ofFamily short other true e = stopped-by bits SHORT ofFamily (under-past bits run at short other e)
+    past bits ofFamily short other false e = reads bits ofFamily short (omega (arith, ltb-false))
 
-    ends : (family : ℕ) → familyBits afi ≡ given family → length run ≤ 4096 → (b : Bool) → eqb at (length run) ≡ b → StepRead afi run at ⊎ StepStops afi run at
-    ends family bits short true e = stopped-by family DONE bits (under-ends family run at short (eqb-true _ _ e))
-    ends family bits short false e = past family bits short (eqb-false _ _ e) (ltb (length run) at) refl
+    ends : (bits : ℕ) → familyBits afi ≡ given bits → length run ≤ 4096 → (b : Bool) → eqb at (length run) ≡ b → StepRead afi run at ⊎ StepStops afi run at
+    ends bits ofFamily short true e = stopped-by bits DONE ofFamily (under-ends bits run at short (eqb-true _ _ e))
+    ends bits ofFamily short false e = past bits ofFamily short (eqb-false _ _ e) (ltb (length run) at) refl
 
-    long : (family : ℕ) → familyBits afi ≡ given family → (b : Bool) → ltb 4096 (length run) ≡ b → StepRead afi run at ⊎ StepStops afi run at
-    long family bits true e = stopped-by family LONG bits (under-long family run at e)
-    long family bits false e = ends family bits (ltb-false _ _ e) (eqb at (length run)) refl
+    long : (bits : ℕ) → familyBits afi ≡ given bits → (b : Bool) → ltb 4096 (length run) ≡ b → StepRead afi run at ⊎ StepStops afi run at
+    long bits ofFamily true e = stopped-by bits LONG ofFamily (under-long bits run at e)
+    long bits ofFamily false e = ends bits ofFamily (ltb-false _ _ e) (eqb at (length run)) refl
 
 module _ (afi : ℕ) (run : List ℕ) where
   step-moves : (at : ℕ) → stepFrom afi run at .read ≡ true
@@ -185,35 +185,35 @@ layout-is f =
     let k = at key ∙ kept-size (hasField key body) (f .key) in
     λ i. record { «route_type» = f .type; length = len i; source = s i; group = g i; originator = o i; key = k i }
 
-module _ (afi family : ℕ) (bits : familyBits afi ≡ given family) where
-  whole : 8 * (family / 8) ≡ family
-  whole = family-octets afi family bits .0
+module _ (afi bits : ℕ) (ofFamily : familyBits afi ≡ given bits) where
+  whole : 8 * (bits / 8) ≡ bits
+  whole = family-octets afi bits ofFamily .0
 
-  layout-complete : (f : Fields) (t : List ℕ) → WellFormed family f → layoutAt family (encodeNlri f ++ t) ≡ given (layoutFor f)
+  layout-complete : (f : Fields) (t : List ℕ) → WellFormed bits f → layoutAt bits (encodeNlri f ++ t) ≡ given (layoutFor f)
   unfolding layoutAt laidAt laidOf
-  layout-complete f t w = sym (goes _ _ _ _ (laid-complete (keyField family) (KeyOf family) (key-judges family whole) family whole f t (w .typed) (w .body)) (ap given (sym (layout-is f))))
+  layout-complete f t w = sym (goes _ _ _ _ (laid-complete (keyField bits) (KeyOf bits) (key-judges bits whole) bits whole f t (w .typed) (w .body)) (ap given (sym (layout-is f))))
 
-  layout-refused : (s : List ℕ) (n : ℕ) → laidAt family s ≡ refused n → layoutAt family s ≡ refused n
+  layout-refused : (s : List ℕ) (n : ℕ) → laidAt bits s ≡ refused n → layoutAt bits s ≡ refused n
   unfolding layoutAt
   layout-refused s n e = sym (stops _ _ _ e)
 
   -- the step at the end of the NLRIs
-  end-stops : (run : List ℕ) (at : ℕ) (t : List ℕ) (n : ℕ) → length run ≤ 4096 → AllOctets t → RunEnd family t n → at + length t ≡ length run → drop at run ≡ t → stepFrom afi run at ≡ stoppedAt n at
-  end-stops run at t n short a nothing size here = sym (step-under afi family run at bits) ∙ under-ends family run at short (omega arith)
+  end-stops : (run : List ℕ) (at : ℕ) (t : List ℕ) (n : ℕ) → length run ≤ 4096 → AllOctets t → RunEnd bits t n → at + length t ≡ length run → drop at run ≡ t → stepFrom afi run at ≡ stoppedAt n at
+  end-stops run at t n short a nothing size here = sym (step-under afi bits run at ofFamily) ∙ under-ends bits run at short (omega arith)
   end-stops run at t n short a (refusal some why) size here =
-      sym (step-under afi family run at bits) ∙ under-reads family run at short (omega arith)
-      ∙ sym (on-refused _ _ _ _ _ (ap (layoutAt family) here ∙ layout-refused t n (readRefusals .front afi family t n bits a .1 why)) refl)
+      sym (step-under afi bits run at ofFamily) ∙ under-reads bits run at short (omega arith)
+      ∙ sym (on-refused _ _ _ _ _ (ap (layoutAt bits) here ∙ layout-refused t n (readRefusals .front afi bits t n ofFamily a .1 why)) refl)
 
-  step-reads : (run : List ℕ) (at : ℕ) (f : Fields) (t : List ℕ) → length run ≤ 4096 → WellFormed family f → drop at run ≡ encodeNlri f ++ t
+  step-reads : (run : List ℕ) (at : ℕ) (f : Fields) (t : List ℕ) → length run ≤ 4096 → WellFormed bits f → drop at run ≡ encodeNlri f ++ t
       → stepFrom afi run at ≡ readTo (layoutFor f) (at + length (encodeNlri f))
   unfolding layoutFor
   step-reads run at f t short w now =
       let len : 2 + (length (encodeNlri f) - 2) ≡ length (encodeNlri f) = omega (arith, encoded-length f) in
       let before : at < length run = omega (arith, encoded-length f, sym (length-drop at run) ∙ ap length now ∙ length-append (encodeNlri f) t) in
-      sym (step-under afi family run at bits) ∙ under-reads family run at short before
-      ∙ sym (on-given _ _ _ _ _ (ap (layoutAt family) now ∙ layout-complete f t w) (ap (λ (m : ℕ). readTo (layoutFor f) (at + m)) (sym len)))
+      sym (step-under afi bits run at ofFamily) ∙ under-reads bits run at short before
+      ∙ sym (on-given _ _ _ _ _ (ap (layoutAt bits) now ∙ layout-complete f t w) (ap (λ (m : ℕ). readTo (layoutFor f) (at + m)) (sym len)))
 
-  walks-run : (run : List ℕ) (t : List ℕ) (n : ℕ) → length run ≤ 4096 → AllOctets t → RunEnd family t n → (fs : List Fields) (at count : ℕ) → AllWellFormed family fs
+  walks-run : (run : List ℕ) (t : List ℕ) (n : ℕ) → length run ≤ 4096 → AllOctets t → RunEnd bits t n → (fs : List Fields) (at count : ℕ) → AllWellFormed bits fs
       → at + length (encodeRun fs ++ t) ≡ length run → drop at run ≡ encodeRun fs ++ t → Walks afi run at count (record { number = n; count = count + length fs; offset = at + length (encodeRun fs) })
   unfolding encodeRun readTo
   walks-run run t n short a end [] at count w size here =
@@ -229,7 +229,7 @@ module _ (afi family : ℕ) (bits : familyBits afi ≡ given family) where
       subst (Walks afi run at count) (walked-same n _ _ _ _ (omega arith) (rw length-append (omega arith)))
       (going (ap (λ (x : Stepped). x .read) is) (subst (λ (c : ℕ). Walks afi run c (count + 1) (record { number = n; count = count + 1 + length fs; offset = at + length (encodeNlri f) + length (encodeRun fs) })) (sym cursor) ih))
 
-  counts : (run : List ℕ) (r : RunOf family run) → AllOctets run → length run ≤ 4096 → walkOf afi run ≡ record { number = r .number; count = length (r .nlris); offset = length (encodeRun (r .nlris)) }
+  counts : (run : List ℕ) (r : RunOf bits run) → AllOctets run → length run ≤ 4096 → walkOf afi run ≡ record { number = r .number; count = length (r .nlris); offset = length (encodeRun (r .nlris)) }
   counts run r a short =
       let octets : AllOctets (r .tail) = subst AllOctets (drop-append-seam (encodeRun (r .nlris)) (r .tail)) (octets-drop (length (encodeRun (r .nlris))) (subst AllOctets (r .is) a)) in
       let size : 0 + length (encodeRun (r .nlris) ++ r .tail) ≡ length run = omega (arith, ap length (r .is)) in
@@ -239,19 +239,19 @@ module _ (afi family : ℕ) (bits : familyBits afi ≡ given family) where
   long-run : (run : List ℕ) → 4096 < length run → walkOf afi run ≡ record { number = LONG; count = 0; offset = 0 }
   long-run run h =
       walks-once afi run 0 0 _ _ (iterates afi run)
-      (stops-at afi run 0 0 LONG (sym (step-under afi family run 0 bits) ∙ under-long family run 0 (lt-ltb 4096 (length run) h)) _ refl)
+      (stops-at afi run 0 0 LONG (sym (step-under afi bits run 0 ofFamily) ∙ under-long bits run 0 (lt-ltb 4096 (length run) h)) _ refl)
 
   -- NLRIs from the front, while reading accepts
-  split : (left : ℕ) (s : List ℕ) → length s ≤ left → AllOctets s → RunOf family s
+  split : (left : ℕ) (s : List ℕ) → length s ≤ left → AllOctets s → RunOf bits s
   unfolding encodeRun laidAt
   split zero s few a = record { nlris = []; tail = []; number = DONE; wellFormed = tt; end = nothing; is = empty-list s (omega arith) }
   split (suc left) s few a =
       ⊎-elim
       (λ yes.
       let laid : Laid = yes .0 in
-      let o = laid-out (keyField family) family s laid (yes .1) in
-      let r = laid-sound (keyField family) (KeyOf family) (key-judges family whole) family whole s laid a (yes .1) in
-      let f : Fields = fieldsAt (keyField family) (KeyOf family) (key-judges family whole) family whole s laid in
+      let o = laid-out (keyField bits) bits s laid (yes .1) in
+      let r = laid-sound (keyField bits) (KeyOf bits) (key-judges bits whole) bits whole s laid a (yes .1) in
+      let f : Fields = fieldsAt (keyField bits) (KeyOf bits) (key-judges bits whole) bits whole s laid in
       let later = split left (drop (2 + laid .size) s) (rw length-drop (omega arith)) (octets-drop (2 + laid .size) a) in
       record {
         nlris = f ∷ later .nlris;
@@ -262,13 +262,13 @@ module _ (afi family : ℕ) (bits : familyBits afi ≡ given family) where
         is = sym (take-append-drop (2 + laid .size) s) ∙ ap₂ (λ (x y : List ℕ). x ++ y) (r .1) (later .is) ∙ sym (append-assoc (encodeNlri f) (encodeRun (later .nlris)) (later .tail));
       })
       (λ bad. stop (length s) refl (bad .0) (bad .1))
-      (outcome (laidAt family s))
+      (outcome (laidAt bits s))
     where
-      stop : (m : ℕ) → length s ≡ m → (n : ℕ) → laidAt family s ≡ refused n → RunOf family s
+      stop : (m : ℕ) → length s ≡ m → (n : ℕ) → laidAt bits s ≡ refused n → RunOf bits s
       stop zero e n why = record { nlris = []; tail = []; number = DONE; wellFormed = tt; end = nothing; is = empty-list s e }
       stop (suc m) e n why =
           let some : 0 < length s = omega arith in
-          record { nlris = []; tail = s; number = n; wellFormed = tt; end = refusal some (readRefusals .front afi family s n bits a .0 why); is = refl }
+          record { nlris = []; tail = s; number = n; wellFormed = tt; end = refusal some (readRefusals .front afi bits s n ofFamily a .0 why); is = refl }
 
 bad-family : (afi : ℕ) (run : List ℕ) → (afi ≡ 1 → ⊥) → (afi ≡ 2 → ⊥) → walkOf afi run ≡ record { number = FAMILY; count = 0; offset = 0 }
 bad-family afi run one two =
@@ -278,13 +278,13 @@ pub stepRule : StepRule
 stepRule =
     record {
       family = λ afi run at one two. step-refused afi run at (family-refuses afi one two);
-      long = λ afi family run at bits h. sym (step-under afi family run at bits) ∙ under-long family run at (lt-ltb 4096 (length run) h);
-      ends = λ afi family run at bits short e. sym (step-under afi family run at bits) ∙ under-ends family run at short e;
-      past = λ afi family run at bits short h. sym (step-under afi family run at bits) ∙ under-past family run at short (λ e. omega arith) (lt-ltb (length run) at h);
-      refuses = λ afi family run at n bits a short before why.
+      long = λ afi bits run at ofFamily h. sym (step-under afi bits run at ofFamily) ∙ under-long bits run at (lt-ltb 4096 (length run) h);
+      ends = λ afi bits run at ofFamily short e. sym (step-under afi bits run at ofFamily) ∙ under-ends bits run at short e;
+      past = λ afi bits run at ofFamily short h. sym (step-under afi bits run at ofFamily) ∙ under-past bits run at short (λ e. omega arith) (lt-ltb (length run) at h);
+      refuses = λ afi bits run at n ofFamily a short before why.
           let some : 0 < length (drop at run) = rw length-drop (omega arith) in
-          end-stops afi family bits run at (drop at run) n short (octets-drop at a) (refusal some why) (rw length-drop (omega arith)) refl;
-      reads = λ afi family run at f t bits short w now. step-reads afi family bits run at f t short w now;
+          end-stops afi bits ofFamily run at (drop at run) n short (octets-drop at a) (refusal some why) (rw length-drop (omega arith)) refl;
+      reads = λ afi bits run at f t ofFamily short w now. step-reads afi bits ofFamily run at f t short w now;
       moves = step-moves;
       stays = step-stays;
     }
@@ -292,10 +292,10 @@ stepRule =
 pub walkRule : WalkRule
 walkRule =
     record {
-      splits = λ afi family run bits a. split afi family bits (length run) run (omega arith) a;
-      counts = λ afi family run r bits a short. counts afi family bits run r a short;
+      splits = λ afi bits run ofFamily a. split afi bits ofFamily (length run) run (omega arith) a;
+      counts = λ afi bits run r ofFamily a short. counts afi bits ofFamily run r a short;
       family = bad-family;
-      long = λ afi family run bits h. long-run afi family bits run h;
+      long = λ afi bits run ofFamily h. long-run afi bits ofFamily run h;
       iterates = iterates;
       only = walks-once;
     }

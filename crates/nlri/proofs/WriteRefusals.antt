@@ -55,45 +55,45 @@ all-fails test body kind h fails = is-false _ (λ e. opposite (all-true test bod
 all-holds : (test : FieldKind → Bool) (body : List FieldKind) → ((kind : FieldKind) → hasField kind body ≡ true → test kind ≡ false → ⊥) → all test body ≡ true
 all-holds test body h = is-true _ (λ e. let r = all-false test body e in h (r .0) (r .1) (r .2))
 
-widths-all : (family : ℕ) (f : Fields) (body : List FieldKind) → widthsFit family f body ≡ all (widthFits family f) body
+widths-all : (bits : ℕ) (f : Fields) (body : List FieldKind) → widthsFit bits f body ≡ all (widthFits bits f) body
 unfolding widthsFit all
-widths-all family f [] = refl
-widths-all family f (k ∷ body) = ap (both (widthFits family f k)) (widths-all family f body)
+widths-all bits f [] = refl
+widths-all bits f (k ∷ body) = ap (both (widthFits bits f k)) (widths-all bits f body)
 
-keys-all : (family : ℕ) (f : Fields) (body : List FieldKind) → keysFit family f body ≡ all (keyFits family f) body
+keys-all : (bits : ℕ) (f : Fields) (body : List FieldKind) → keysFit bits f body ≡ all (keyFits bits f) body
 unfolding keysFit all
-keys-all family f [] = refl
-keys-all family f (k ∷ body) = ap (both (keyFits family f k)) (keys-all family f body)
+keys-all bits f [] = refl
+keys-all bits f (k ∷ body) = ap (both (keyFits bits f k)) (keys-all bits f body)
 
-width-fault : (family : ℕ) (f : Fields) (k : FieldKind) → widthFits family f k ≡ false → WidthFault family f k
+width-fault : (bits : ℕ) (f : Fields) (k : FieldKind) → widthFits bits f k ≡ false → WidthFault bits f k
 unfolding widthFits
-width-fault family f distinguisher e = opposite refl e
-width-fault family f sourceAs e = opposite refl e
-width-fault family f source e = e
-width-fault family f group e = e
-width-fault family f originator e = e
-width-fault family f key e = opposite refl e
+width-fault bits f distinguisher e = opposite refl e
+width-fault bits f sourceAs e = opposite refl e
+width-fault bits f source e = e
+width-fault bits f group e = e
+width-fault bits f originator e = e
+width-fault bits f key e = opposite refl e
 
-fault-width : (family : ℕ) (f : Fields) (k : FieldKind) → WidthFault family f k → widthFits family f k ≡ false
+fault-width : (bits : ℕ) (f : Fields) (k : FieldKind) → WidthFault bits f k → widthFits bits f k ≡ false
 unfolding widthFits
-fault-width family f distinguisher h = absurd h
-fault-width family f sourceAs h = absurd h
-fault-width family f source h = h
-fault-width family f group h = h
-fault-width family f originator h = h
-fault-width family f key h = absurd h
+fault-width bits f distinguisher h = absurd h
+fault-width bits f sourceAs h = absurd h
+fault-width bits f source h = h
+fault-width bits f group h = h
+fault-width bits f originator h = h
+fault-width bits f key h = absurd h
 
-key-fault : (family : ℕ) (f : Fields) (k : FieldKind) → keyFits family f k ≡ false → (k ≡ key) × (isKey family (f .key) ≡ false)
+key-fault : (bits : ℕ) (f : Fields) (k : FieldKind) → keyFits bits f k ≡ false → (k ≡ key) × (isKey bits (f .key) ≡ false)
 unfolding keyFits
-key-fault family f distinguisher e = absurd (opposite refl e)
-key-fault family f sourceAs e = absurd (opposite refl e)
-key-fault family f source e = absurd (opposite refl e)
-key-fault family f group e = absurd (opposite refl e)
-key-fault family f originator e = absurd (opposite refl e)
-key-fault family f key e = (refl, e)
+key-fault bits f distinguisher e = absurd (opposite refl e)
+key-fault bits f sourceAs e = absurd (opposite refl e)
+key-fault bits f source e = absurd (opposite refl e)
+key-fault bits f group e = absurd (opposite refl e)
+key-fault bits f originator e = absurd (opposite refl e)
+key-fault bits f key e = (refl, e)
 
-module _ (afi family : ℕ) (bits : familyBits afi ≡ given family) (f : Fields) (held : HoldsOctets f) (space : ℕ) where
-  verdict-refused : (n : ℕ) → KnownType (f .type) → verdictOf family f space ≡ refused n → WriteRefusal afi f space n
+module _ (afi bits : ℕ) (ofFamily : familyBits afi ≡ given bits) (f : Fields) (held : HoldsOctets f) (space : ℕ) where
+  verdict-refused : (n : ℕ) → KnownType (f .type) → verdictOf bits f space ≡ refused n → WriteRefusal afi f space n
   unfolding verdictOf verdict
   verdict-refused n typed e =
       let body : List FieldKind = bodyOf (f .type) in
@@ -105,35 +105,35 @@ module _ (afi family : ℕ) (bits : familyBits afi ≡ given family) (f : Fields
       ⊎-elim
       (λ few.
       subst (WriteRefusal afi f space) (same SPACE (few .1))
-      (noSpace family bits (record { typed = typed; body = well-fits afi family bits f held body (widths .0) (keys .0) }) (ltb-true _ _ (few .0))))
+      (noSpace bits ofFamily (record { typed = typed; body = well-fits afi bits ofFamily f held body (widths .0) (keys .0) }) (ltb-true _ _ (few .0))))
       (λ room. absurd (never refl (room .1)))
       (picked _ _ _ _ (keys .1)))
       (λ bad.
-      let r = all-false (keyFits family f) body (sym (keys-all family f body) ∙ bad .0) in
-      let q = key-fault family f (r .0) (r .2) in
+      let r = all-false (keyFits bits f) body (sym (keys-all bits f body) ∙ bad .0) in
+      let q = key-fault bits f (r .0) (r .2) in
       subst (WriteRefusal afi f space) (same KEY (bad .1))
-      (badKey family bits typed (λ k h fault. opposite (all-true (widthFits family f) body (sym (widths-all family f body) ∙ widths .0) k h) (fault-width family f k fault))
-      (ap (λ (k : FieldKind). hasField k body) (sym (q .0)) ∙ r .1) (λ of. opposite (key-fits afi family bits (f .key) of) (q .1))))
+      (badKey bits ofFamily typed (λ k h fault. opposite (all-true (widthFits bits f) body (sym (widths-all bits f body) ∙ widths .0) k h) (fault-width bits f k fault))
+      (ap (λ (k : FieldKind). hasField k body) (sym (q .0)) ∙ r .1) (λ of. opposite (key-fits afi bits ofFamily (f .key) of) (q .1))))
       (picked _ _ _ _ (widths .1)))
       (λ bad.
-      let r = all-false (widthFits family f) body (sym (widths-all family f body) ∙ bad .0) in
-      subst (WriteRefusal afi f space) (same WIDTH (bad .1)) (badWidth family bits typed (r .0) (r .1) (width-fault family f (r .0) (r .2))))
+      let r = all-false (widthFits bits f) body (sym (widths-all bits f body) ∙ bad .0) in
+      subst (WriteRefusal afi f space) (same WIDTH (bad .1)) (badWidth bits ofFamily typed (r .0) (r .1) (width-fault bits f (r .0) (r .2))))
       (picked _ _ _ _ e)
 
   -- a verdict of a known type is the call's
-  typed-stops : (o : Outcome (List ℕ)) → KnownType (f .type) → verdictOf family f space ≡ o → writeNlri afi f space ≡ o
-  typed-stops o typed e = write-is afi f space ∙ sym (goes _ _ _ _ bits (sym (pick-true _ _ _ (known (f .type) (typed .0) (typed .1)) ∙ e)))
+  typed-stops : (o : Outcome (List ℕ)) → KnownType (f .type) → verdictOf bits f space ≡ o → writeNlri afi f space ≡ o
+  typed-stops o typed e = write-is afi f space ∙ sym (goes _ _ _ _ ofFamily (sym (pick-true _ _ _ (known (f .type) (typed .0) (typed .1)) ∙ e)))
 
-  width-stops : KnownType (f .type) → (k : FieldKind) → hasField k (bodyOf (f .type)) ≡ true → WidthFault family f k → writeNlri afi f space ≡ refused WIDTH
+  width-stops : KnownType (f .type) → (k : FieldKind) → hasField k (bodyOf (f .type)) ≡ true → WidthFault bits f k → writeNlri afi f space ≡ refused WIDTH
   unfolding verdictOf verdict
-  width-stops typed k h fault = typed-stops _ typed (pick-false _ _ _ (widths-all family f _ ∙ all-fails (widthFits family f) _ k h (fault-width family f k fault)))
+  width-stops typed k h fault = typed-stops _ typed (pick-false _ _ _ (widths-all bits f _ ∙ all-fails (widthFits bits f) _ k h (fault-width bits f k fault)))
 
-  key-stops : KnownType (f .type) → ((k : FieldKind) → hasField k (bodyOf (f .type)) ≡ true → WidthFault family f k → ⊥) → hasField key (bodyOf (f .type)) ≡ true → (KeyOf family (f .key) → ⊥)
+  key-stops : KnownType (f .type) → ((k : FieldKind) → hasField k (bodyOf (f .type)) ≡ true → WidthFault bits f k → ⊥) → hasField key (bodyOf (f .type)) ≡ true → (KeyOf bits (f .key) → ⊥)
       → writeNlri afi f space ≡ refused KEY
   unfolding verdictOf verdict keyFits
   key-stops typed widths h none =
-      typed-stops _ typed (pick-true _ _ _ (widths-all family f _ ∙ all-holds (widthFits family f) _ (λ k h e. widths k h (width-fault family f k e)))
-      ∙ pick-false _ _ _ (keys-all family f _ ∙ all-fails (keyFits family f) _ key h (is-false _ (λ e. none (key-judged afi family bits (f .key) (held .key) e)))))
+      typed-stops _ typed (pick-true _ _ _ (widths-all bits f _ ∙ all-holds (widthFits bits f) _ (λ k h e. widths k h (width-fault bits f k e)))
+      ∙ pick-false _ _ _ (keys-all bits f _ ∙ all-fails (keyFits bits f) _ key h (is-false _ (λ e. none (key-judged afi bits ofFamily (f .key) (held .key) e)))))
 
 refusal-sound : (afi : ℕ) (f : Fields) (space n : ℕ) → HoldsOctets f → writeNlri afi f space ≡ refused n → WriteRefusal afi f space n
 refusal-sound afi f space n held e =
@@ -146,13 +146,13 @@ refusal-sound afi f space n held e =
 
 refusal-complete : (afi : ℕ) (f : Fields) (space n : ℕ) → HoldsOctets f → WriteRefusal afi f space n → writeNlri afi f space ≡ refused n
 refusal-complete afi f space n held (badFamily one two) = write-is afi f space ∙ sym (stops _ _ _ (family-refuses afi one two))
-refusal-complete afi f space n held (badType family bits untyped) = write-is afi f space ∙ sym (goes _ _ _ _ bits (sym (pick-false _ _ _ (unlisted (f .type) untyped))))
-refusal-complete afi f space n held (badWidth family bits typed k h fault) = width-stops afi family bits f held space typed k h fault
-refusal-complete afi f space n held (badKey family bits typed widths h none) = key-stops afi family bits f held space typed widths h none
-refusal-complete afi f space n held (noSpace family bits w few) = write-well afi family bits f space w ∙ pick-true _ _ _ (lt-ltb space (length (encodeNlri f)) few)
+refusal-complete afi f space n held (badType bits ofFamily untyped) = write-is afi f space ∙ sym (goes _ _ _ _ ofFamily (sym (pick-false _ _ _ (unlisted (f .type) untyped))))
+refusal-complete afi f space n held (badWidth bits ofFamily typed k h fault) = width-stops afi bits ofFamily f held space typed k h fault
+refusal-complete afi f space n held (badKey bits ofFamily typed widths h none) = key-stops afi bits ofFamily f held space typed widths h none
+refusal-complete afi f space n held (noSpace bits ofFamily w few) = write-well afi bits ofFamily f space w ∙ pick-true _ _ _ (lt-ltb space (length (encodeNlri f)) few)
 
 accepted : (afi : ℕ) (f : Fields) (space : ℕ) (e : List ℕ) → HoldsOctets f
-    → writeNlri afi f space ≡ given e → (family : ℕ) × (familyBits afi ≡ given family) × WellFormed family f × (length e ≤ space) × (e ≡ encodeNlri f)
+    → writeNlri afi f space ≡ given e → (bits : ℕ) × (familyBits afi ≡ given bits) × WellFormed bits f × (length e ≤ space) × (e ≡ encodeNlri f)
 accepted afi f space e held w =
     let p = passed _ _ _ (sym (write-is afi f space) ∙ w) in
     let r = written afi (p .value) (p .first) f held space e w in

@@ -52,74 +52,74 @@ same-encoding f g group e = ap encodeAddress e
 same-encoding f g originator e = e
 same-encoding f g key e = e
 
-same-width : (family : ℕ) (f g : Fields) → f .type ≡ g .type → (k : FieldKind) → SameField f g k → widthFits family f k ≡ widthFits family g k
+same-width : (bits : ℕ) (f g : Fields) → f .type ≡ g .type → (k : FieldKind) → SameField f g k → widthFits bits f k ≡ widthFits bits g k
 unfolding widthFits
-same-width family f g t distinguisher e = refl
-same-width family f g t sourceAs e = refl
-same-width family f g t source e = ap₂ (λ (n : ℕ) (x : List ℕ). allowed family n (8 * length x)) t e
-same-width family f g t group e = ap₂ (λ (n : ℕ) (x : List ℕ). allowed family n (8 * length x)) t e
-same-width family f g t originator e = ap (λ (x : List ℕ). isOriginatorSize (length x)) e
-same-width family f g t key e = refl
+same-width bits f g t distinguisher e = refl
+same-width bits f g t sourceAs e = refl
+same-width bits f g t source e = ap₂ (λ (n : ℕ) (x : List ℕ). allowed bits n (8 * length x)) t e
+same-width bits f g t group e = ap₂ (λ (n : ℕ) (x : List ℕ). allowed bits n (8 * length x)) t e
+same-width bits f g t originator e = ap (λ (x : List ℕ). isOriginatorSize (length x)) e
+same-width bits f g t key e = refl
 
-same-key : (family : ℕ) (f g : Fields) (k : FieldKind) → SameField f g k → keyFits family f k ≡ keyFits family g k
+same-key : (bits : ℕ) (f g : Fields) (k : FieldKind) → SameField f g k → keyFits bits f k ≡ keyFits bits g k
 unfolding keyFits
-same-key family f g distinguisher e = refl
-same-key family f g sourceAs e = refl
-same-key family f g source e = refl
-same-key family f g group e = refl
-same-key family f g originator e = refl
-same-key family f g key e = ap (isKey family) e
+same-key bits f g distinguisher e = refl
+same-key bits f g sourceAs e = refl
+same-key bits f g source e = refl
+same-key bits f g group e = refl
+same-key bits f g originator e = refl
+same-key bits f g key e = ap (isKey bits) e
 
-same-body : (family : ℕ) (f g : Fields) → f .type ≡ g .type → (body : List FieldKind) → ((k : FieldKind) → hasField k body ≡ true → SameField f g k)
-    → (encodeBody f body ≡ encodeBody g body) × (widthsFit family f body ≡ widthsFit family g body) × (keysFit family f body ≡ keysFit family g body)
+same-body : (bits : ℕ) (f g : Fields) → f .type ≡ g .type → (body : List FieldKind) → ((k : FieldKind) → hasField k body ≡ true → SameField f g k)
+    → (encodeBody f body ≡ encodeBody g body) × (widthsFit bits f body ≡ widthsFit bits g body) × (keysFit bits f body ≡ keysFit bits g body)
 unfolding encodeBody widthsFit keysFit
-same-body family f g t [] same = (refl, refl, refl)
-same-body family f g t (k ∷ body) same =
-    let later = same-body family f g t body (λ k′ h. same k′ (has-later k′ k body h)) in
+same-body bits f g t [] same = (refl, refl, refl)
+same-body bits f g t (k ∷ body) same =
+    let later = same-body bits f g t body (λ k′ h. same k′ (has-later k′ k body h)) in
     let here = same k (has-first k body) in
-    (ap₂ (λ (x y : List ℕ). x ++ y) (same-encoding f g k here) (later .0), ap₂ both (same-width family f g t k here) (later .1), ap₂ both (same-key family f g k here) (later .2))
+    (ap₂ (λ (x y : List ℕ). x ++ y) (same-encoding f g k here) (later .0), ap₂ both (same-width bits f g t k here) (later .1), ap₂ both (same-key bits f g k here) (later .2))
 
 -- the order of writing: WIDTH, KEY, SPACE
 unfoldable pub verdict : ℕ → List ℕ → (widths keys : Bool) → Outcome (List ℕ)
 verdict space e widths keys = pick widths (pick keys (pick (ltb space (length e)) (refused SPACE) (given e)) (refused KEY)) (refused WIDTH)
 
 unfoldable pub verdictOf : ℕ → Fields → ℕ → Outcome (List ℕ)
-verdictOf family f space = verdict space (encodeNlri f) (widthsFit family f (bodyOf (f .type))) (keysFit family f (bodyOf (f .type)))
+verdictOf bits f space = verdict space (encodeNlri f) (widthsFit bits f (bodyOf (f .type))) (keysFit bits f (bodyOf (f .type)))
 
-pub write-is : (afi : ℕ) (f : Fields) (space : ℕ) → writeNlri afi f space ≡ andThen (familyBits afi) (λ family. pick (listed bodies (f .type)) (verdictOf family f space) (refused TYPE))
+pub write-is : (afi : ℕ) (f : Fields) (space : ℕ) → writeNlri afi f space ≡ andThen (familyBits afi) (λ bits. pick (listed bodies (f .type)) (verdictOf bits f space) (refused TYPE))
 unfolding writeNlri verdictOf verdict
-write-is afi f space = and-cong _ _ _ (λ family e. on-body _ _ _)
+write-is afi f space = and-cong _ _ _ (λ bits e. on-body _ _ _)
 
 -- the writer does not look at fields that the type lacks
 pub write-restricted : (afi : ℕ) (f : Fields) (space : ℕ) → writeNlri afi (restricted f) space ≡ writeNlri afi f space
 unfolding verdictOf restricted encodeNlri
 write-restricted afi f space =
     write-is afi (restricted f) space
-    ∙ and-cong _ _ _ (λ family e.
-    let same = same-body family (restricted f) f refl (bodyOf (f .type)) (restricted-same f) in
+    ∙ and-cong _ _ _ (λ bits e.
+    let same = same-body bits (restricted f) f refl (bodyOf (f .type)) (restricted-same f) in
     let encoded : encodeNlri (restricted f) ≡ encodeNlri f = ap (λ (b : List ℕ). f .type ∷ (length b ∷ b)) (same .0) in
     ap (λ (o : Outcome (List ℕ)). pick (listed bodies (f .type)) o (refused TYPE))
-    (ap₂ (λ (x : List ℕ) (b : Bool). verdict space x b (keysFit family (restricted f) (bodyOf (f .type)))) encoded (same .1) ∙ ap (verdict space (encodeNlri f) (widthsFit family f (bodyOf (f .type)))) (same .2)))
+    (ap₂ (λ (x : List ℕ) (b : Bool). verdict space x b (keysFit bits (restricted f) (bodyOf (f .type)))) encoded (same .1) ∙ ap (verdict space (encodeNlri f) (widthsFit bits f (bodyOf (f .type)))) (same .2)))
     ∙ sym (write-is afi f space)
 
 -- octets that the writer takes for a key
-pub key-judged : (afi family : ℕ) → familyBits afi ≡ given family → (k : List ℕ) → AllOctets k → isKey family k ≡ true → KeyOf family k
+pub key-judged : (afi bits : ℕ) → familyBits afi ≡ given bits → (k : List ℕ) → AllOctets k → isKey bits k ≡ true → KeyOf bits k
 unfolding isKey onOutcome
-key-judged afi family bits k a e = go (keyField family k) refl e
+key-judged afi bits ofFamily k a e = go (keyField bits k) refl e
   where
-    go : (o : Outcome ℕ) → keyField family k ≡ o → onOutcome (λ fault. false) (λ size. eqb size (length k)) o ≡ true → KeyOf family k
+    go : (o : Outcome ℕ) → keyField bits k ≡ o → onOutcome (λ fault. false) (λ size. eqb size (length k)) o ≡ true → KeyOf bits k
     go (given n) p q =
         let size : n ≡ length k = eqb-true _ _ q in
-        subst (KeyOf family) (take-all n k (omega arith)) (key-judges family (family-octets afi family bits .0) .sound k n a p .1)
+        subst (KeyOf bits) (take-all n k (omega arith)) (key-judges bits (family-octets afi bits ofFamily .0) .sound k n a p .1)
     go (refused n) p q = absurd (opposite q refl)
 
-pub key-fits : (afi family : ℕ) → familyBits afi ≡ given family → (k : List ℕ) → KeyOf family k → isKey family k ≡ true
+pub key-fits : (afi bits : ℕ) → familyBits afi ≡ given bits → (k : List ℕ) → KeyOf bits k → isKey bits k ≡ true
 unfolding isKey
-key-fits afi family bits k of =
-    sym (on-given _ _ _ _ _ (ap (keyField family) (sym (append-nil k)) ∙ key-judges family (family-octets afi family bits .0) .complete k [] of) (sym (eq-eqb (length k) (length k) refl)))
+key-fits afi bits ofFamily k of =
+    sym (on-given _ _ _ _ _ (ap (keyField bits) (sym (append-nil k)) ∙ key-judges bits (family-octets afi bits ofFamily .0) .complete k [] of) (sym (eq-eqb (length k) (length k) refl)))
 
-module _ (afi family : ℕ) (bits : familyBits afi ≡ given family) (f : Fields) where
-  fits-well : (body : List FieldKind) → WellFormedBody (KeyOf family) family f body → (widthsFit family f body ≡ true) × (keysFit family f body ≡ true)
+module _ (afi bits : ℕ) (ofFamily : familyBits afi ≡ given bits) (f : Fields) where
+  fits-well : (body : List FieldKind) → WellFormedBody (KeyOf bits) bits f body → (widthsFit bits f body ≡ true) × (keysFit bits f body ≡ true)
   unfolding widthsFit keysFit widthFits keyFits
   fits-well [] w = (refl, refl)
   fits-well (k ∷ body) w =
@@ -127,45 +127,45 @@ module _ (afi family : ℕ) (bits : familyBits afi ≡ given family) (f : Fields
       let here = at k (w .0) in
       (both-true _ _ (here .0) (later .0), both-true _ _ (here .1) (later .1))
     where
-      at : (k : FieldKind) → WellFormedField (KeyOf family) family f k → (widthFits family f k ≡ true) × (keyFits family f k ≡ true)
+      at : (k : FieldKind) → WellFormedField (KeyOf bits) bits f k → (widthFits bits f k ≡ true) × (keyFits bits f k ≡ true)
       at distinguisher h = (refl, refl)
       at sourceAs h = (refl, refl)
       at source h = (h .0, refl)
       at group h = (h .0, refl)
       at originator h = (h .0, refl)
-      at key h = (refl, key-fits afi family bits (f .key) h)
+      at key h = (refl, key-fits afi bits ofFamily (f .key) h)
 
-  pub well-fits : HoldsOctets f → (body : List FieldKind) → widthsFit family f body ≡ true → keysFit family f body ≡ true → WellFormedBody (KeyOf family) family f body
+  pub well-fits : HoldsOctets f → (body : List FieldKind) → widthsFit bits f body ≡ true → keysFit bits f body ≡ true → WellFormedBody (KeyOf bits) bits f body
   unfolding widthsFit keysFit widthFits keyFits
   well-fits held [] w k = tt
-  well-fits held (kind ∷ body) w k = (at kind (both-true-left _ _ w) (both-true-left _ _ k), well-fits held body (both-true-right (widthFits family f kind) _ w) (both-true-right (keyFits family f kind) _ k))
+  well-fits held (kind ∷ body) w k = (at kind (both-true-left _ _ w) (both-true-left _ _ k), well-fits held body (both-true-right (widthFits bits f kind) _ w) (both-true-right (keyFits bits f kind) _ k))
     where
-      at : (k : FieldKind) → widthFits family f k ≡ true → keyFits family f k ≡ true → WellFormedField (KeyOf family) family f k
+      at : (k : FieldKind) → widthFits bits f k ≡ true → keyFits bits f k ≡ true → WellFormedField (KeyOf bits) bits f k
       at distinguisher w h = held .distinguisher
       at sourceAs w h = held .sourceAs
       at source w h = (w, held .source)
       at group w h = (w, held .group)
       at originator w h = (w, held .originator)
-      at key w h = key-judged afi family bits (f .key) (held .key) h
+      at key w h = key-judged afi bits ofFamily (f .key) (held .key) h
 
   -- well-formed fields are written where there is space
-  pub write-well : (space : ℕ) → WellFormed family f → writeNlri afi f space ≡ pick (ltb space (length (encodeNlri f))) (refused SPACE) (given (encodeNlri f))
+  pub write-well : (space : ℕ) → WellFormed bits f → writeNlri afi f space ≡ pick (ltb space (length (encodeNlri f))) (refused SPACE) (given (encodeNlri f))
   unfolding verdictOf verdict
   write-well space w =
       let fits = fits-well (bodyOf (f .type)) (w .body) in
-      write-is afi f space ∙ sym (goes _ _ _ _ bits (sym (pick-true _ _ _ (known (f .type) (w .typed .0) (w .typed .1)) ∙ pick-true _ _ _ (fits .0) ∙ pick-true _ _ _ (fits .1))))
+      write-is afi f space ∙ sym (goes _ _ _ _ ofFamily (sym (pick-true _ _ _ (known (f .type) (w .typed .0) (w .typed .1)) ∙ pick-true _ _ _ (fits .0) ∙ pick-true _ _ _ (fits .1))))
 
   -- what was written is the encoding, and the fields are well-formed
-  pub written : HoldsOctets f → (space : ℕ) (e : List ℕ) → writeNlri afi f space ≡ given e → WellFormed family f × (encodeNlri f ≡ e)
+  pub written : HoldsOctets f → (space : ℕ) (e : List ℕ) → writeNlri afi f space ≡ given e → WellFormed bits f × (encodeNlri f ≡ e)
   unfolding verdictOf verdict
   written held space e w =
       let p = passed _ _ _ (sym (write-is afi f space) ∙ w) in
-      let same : p .value ≡ family = given-same (sym (p .first) ∙ bits) in
+      let same : p .value ≡ bits = given-same (sym (p .first) ∙ ofFamily) in
       let q = given-unless _ _ _ _ (p .second) in
       let r = given-unless _ _ _ _ (q .1) in
       let k = given-unless _ _ _ _ (r .1) in
       let u = given-otherwise _ _ _ _ (k .1) in
       let row = rowOf (f .type) (q .0) in
-      let widths : widthsFit family f (bodyOf (f .type)) ≡ true = ap (λ (n : ℕ). widthsFit n f (bodyOf (f .type))) (sym same) ∙ r .0 in
-      let keys : keysFit family f (bodyOf (f .type)) ≡ true = ap (λ (n : ℕ). keysFit n f (bodyOf (f .type))) (sym same) ∙ k .0 in
+      let widths : widthsFit bits f (bodyOf (f .type)) ≡ true = ap (λ (n : ℕ). widthsFit n f (bodyOf (f .type))) (sym same) ∙ r .0 in
+      let keys : keysFit bits f (bodyOf (f .type)) ≡ true = ap (λ (n : ℕ). keysFit n f (bodyOf (f .type))) (sym same) ∙ k .0 in
       (record { typed = (row .low, row .high); body = well-fits held (bodyOf (f .type)) widths keys }, given-same (u .1))

@@ -11,8 +11,8 @@ unfoldable pub familyBits : ℕ → Outcome ℕ
 familyBits afi = pick (eqb afi 1) (given 32) (pick (eqb afi 2) (given 128) (refused FAMILY))
 
 -- a source or group length is the family's; in type 3 only it may be 0, the wildcard
-unfoldable pub allowed : (family type bits : ℕ) → Bool
-allowed family type bits = either (eqb bits family) (both (eqb type 3) (eqb bits 0))
+unfoldable pub allowed : (bits type octet : ℕ) → Bool
+allowed bits type octet = either (eqb octet bits) (both (eqb type 3) (eqb octet 0))
 
 -- an originator has 4 or 16 octets, independent of the family
 unfoldable pub isOriginatorSize : ℕ → Bool

@@ -43,33 +43,33 @@ encodeNlri f = f .type ∷ length (encodeBody f (bodyOf (f .type))) ∷ encodeBo
 
 -- a field of the size that the type and the family's bits allow, its octets octets; of a key, what `Key` says
 abbrev pub WellFormedField : (List ℕ → Type 0) → ℕ → Fields → FieldKind → Type 0
-WellFormedField Key family f distinguisher = (length (f .distinguisher) ≡ 8) × AllOctets (f .distinguisher)
-WellFormedField Key family f sourceAs = f .sourceAs < 2 ^ 32
-WellFormedField Key family f source = (allowed family (f .type) (8 * length (f .source)) ≡ true) × AllOctets (f .source)
-WellFormedField Key family f group = (allowed family (f .type) (8 * length (f .group)) ≡ true) × AllOctets (f .group)
-WellFormedField Key family f originator = (isOriginatorSize (length (f .originator)) ≡ true) × AllOctets (f .originator)
-WellFormedField Key family f key = Key (f .key)
+WellFormedField Key bits f distinguisher = (length (f .distinguisher) ≡ 8) × AllOctets (f .distinguisher)
+WellFormedField Key bits f sourceAs = f .sourceAs < 2 ^ 32
+WellFormedField Key bits f source = (allowed bits (f .type) (8 * length (f .source)) ≡ true) × AllOctets (f .source)
+WellFormedField Key bits f group = (allowed bits (f .type) (8 * length (f .group)) ≡ true) × AllOctets (f .group)
+WellFormedField Key bits f originator = (isOriginatorSize (length (f .originator)) ≡ true) × AllOctets (f .originator)
+WellFormedField Key bits f key = Key (f .key)
 
 -- every field of a body is well-formed
 abbrev pub WellFormedBody : (List ℕ → Type 0) → ℕ → Fields → List FieldKind → Type 0
-WellFormedBody Key family f [] = Unit {0}
-WellFormedBody Key family f (k ∷ body) = WellFormedField Key family f k × WellFormedBody Key family f body
+WellFormedBody Key bits f [] = Unit {0}
+WellFormedBody Key bits f (k ∷ body) = WellFormedField Key bits f k × WellFormedBody Key bits f body
 
 -- no octets are a key: of the NLRIs that may stand in a key, none has a key
 abbrev pub NoKey : List ℕ → Type 0
 NoKey octets = ⊥
 
 -- octets that are a whole NLRI of type 1, 2 or 3 of the same family, header included
-pub record KeyOf (family : ℕ) (octets : List ℕ) : Type 0 where
+pub record KeyOf (bits : ℕ) (octets : List ℕ) : Type 0 where
   pub fields : Fields
   pub typed : (1 ≤ fields .type) × (fields .type ≤ 3)
-  pub wellFormed : WellFormedBody NoKey family fields (bodyOf (fields .type))
+  pub wellFormed : WellFormedBody NoKey bits fields (bodyOf (fields .type))
   pub encoded : octets ≡ encodeNlri fields
 
 -- fields of an NLRI of type 1 to 7 of which every field of its body is well-formed
-pub record WellFormed (family : ℕ) (f : Fields) : Type 0 where
+pub record WellFormed (bits : ℕ) (f : Fields) : Type 0 where
   pub typed : (1 ≤ f .type) × (f .type ≤ 7)
-  pub body : WellFormedBody (KeyOf family) family f (bodyOf (f .type))
+  pub body : WellFormedBody (KeyOf bits) bits f (bodyOf (f .type))
 
 -- f with the fields that its type lacks emptied
 unfoldable pub restricted : Fields → Fields

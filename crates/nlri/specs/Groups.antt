@@ -6,7 +6,7 @@ use lib.ListN.{length, getD}
 use lib.Dec.{leb, eqb}
 use Rattle.octets.specs.Numbers.{FLOW}
 use Rattle.octets.specs.Choice.{pick, both}
-use Rattle.octets.specs.Outcome.{Outcome, given, refused, onOutcome, andThen, numberOf}
+use Rattle.octets.specs.Outcome.{Outcome, given, refused, onOutcome, unless, andThen, numberOf}
 use Rattle.nlri.specs.declared.group.Group.{Group}
 use Rattle.nlri.specs.Family.{familyBits}
 
@@ -20,24 +20,24 @@ SSM = 2
 
 -- 224.0.0.0/4, FF00::/8
 unfoldable pub multicast : ℕ → List ℕ → Bool
-multicast family g = pick (eqb family 32) (both (leb 224 (getD g 0 0)) (leb (getD g 0 0) 239)) (eqb (getD g 0 0) 255)
+multicast bits g = pick (eqb bits 32) (both (leb 224 (getD g 0 0)) (leb (getD g 0 0) 239)) (eqb (getD g 0 0) 255)
 
 -- 232.0.0.0/8, FF3x::/32
 unfoldable pub sourceSpecific : ℕ → List ℕ → Bool
-sourceSpecific family g =
-    pick (eqb family 32) (eqb (getD g 0 0) 232)
+sourceSpecific bits g =
+    pick (eqb bits 32) (eqb (getD g 0 0) 232)
     (both (eqb (getD g 0 0) 255) (both (eqb (getD g 1 0 / 16) 3) (both (eqb (getD g 2 0) 0) (eqb (getD g 3 0) 0))))
 
 -- under a family: FLOW for a group of another size or one that is not multicast; any multicast group that is not SSM is ASM
 unfoldable pub classUnder : ℕ → List ℕ → Outcome ℕ
-classUnder family g =
-    pick (eqb (length g) (family / 8))
-    (pick (multicast family g) (pick (sourceSpecific family g) (given SSM) (given ASM)) (refused FLOW))
-    (refused FLOW)
+classUnder bits g =
+    unless (eqb (length g) (bits / 8)) FLOW
+    (unless (multicast bits g) FLOW
+    (pick (sourceSpecific bits g) (given SSM) (given ASM)))
 
 -- FAMILY first
 unfoldable pub classOf : ℕ → List ℕ → Outcome ℕ
-classOf afi g = andThen (familyBits afi) (λ family. classUnder family g)
+classOf afi g = andThen (familyBits afi) (λ bits. classUnder bits g)
 
 -- the call's answer: on a refusal its number and class 0
 unfoldable pub groupOf : Outcome ℕ → Group

@@ -49,11 +49,11 @@ lastFault good = pick good DONE LENGTH
 unfoldable pub restFault : (ℕ → Bool) → (at size : ℕ) → ℕ
 restFault good at size = pick (ltb size at) LENGTH (lastFault (good (size - at)))
 
-unfoldable pub withGroup : (family type source : ℕ) → List ℕ → Outcome (ℕ × ℕ)
-withGroup family type source s = andThen (addressField family type s) (λ group. given (source, group))
+unfoldable pub withGroup : (bits type source : ℕ) → List ℕ → Outcome (ℕ × ℕ)
+withGroup bits type source s = andThen (addressField bits type s) (λ group. given (source, group))
 
-unfoldable pub flowSizes : (family type : ℕ) → List ℕ → Outcome (ℕ × ℕ)
-flowSizes family type s = andThen (addressField family type s) (λ source. withGroup family type source (drop source s))
+unfoldable pub flowSizes : (bits type : ℕ) → List ℕ → Outcome (ℕ × ℕ)
+flowSizes bits type s = andThen (addressField bits type s) (λ source. withGroup bits type source (drop source s))
 
 unfoldable pub flowEnd : (type size source group rest : ℕ) → Outcome Layout
 flowEnd type size source group rest =
@@ -65,21 +65,21 @@ unfoldable pub flowEndFault : (type at size : ℕ) → ℕ
 flowEndFault type at size = pick (eqb type 3) (restFault isOriginatorSize at size) (restFault (λ rest. eqb rest 0) at size)
 
 -- the number of an address whose length octet stands at `at`, and of what follows its end
-unfoldable pub addressThen : (family type at : ℕ) → List ℕ → (ℕ → ℕ) → ℕ
-addressThen family type at s next =
+unfoldable pub addressThen : (bits type at : ℕ) → List ℕ → (ℕ → ℕ) → ℕ
+addressThen bits type at s next =
     pick (leb (length s) at) LENGTH
-    (pick (allowed family type (getD s at 0)) (next (at + 1 + getD s at 0 / 8)) WIDTH)
+    (pick (allowed bits type (getD s at 0)) (next (at + 1 + getD s at 0 / 8)) WIDTH)
 
-unfoldable pub groupFault : (family type at : ℕ) → List ℕ → ℕ
-groupFault family type at s = addressThen family type at s (λ end. flowEndFault type end (length s))
+unfoldable pub groupFault : (bits type at : ℕ) → List ℕ → ℕ
+groupFault bits type at s = addressThen bits type at s (λ end. flowEndFault type end (length s))
 
-unfoldable pub flowFault : (family type at : ℕ) → List ℕ → ℕ
-flowFault family type at s = addressThen family type at s (λ end. groupFault family type end s)
+unfoldable pub flowFault : (bits type at : ℕ) → List ℕ → ℕ
+flowFault bits type at s = addressThen bits type at s (λ end. groupFault bits type end s)
 
-unfoldable pub flowRoute : (family type fixed : ℕ) → List ℕ → Outcome Layout
-flowRoute family type fixed s =
+unfoldable pub flowRoute : (bits type fixed : ℕ) → List ℕ → Outcome Layout
+flowRoute bits type fixed s =
     pick (ltb (length s) fixed) (refused LENGTH)
-    (andThen (flowSizes family type (drop fixed s))
+    (andThen (flowSizes bits type (drop fixed s))
     (λ sizes. flowEnd type (length s) (sizes .0) (sizes .1) (length s - fixed - sizes .0 - sizes .1)))
 
 unfoldable pub intraAs : List ℕ → Outcome Layout
@@ -89,25 +89,25 @@ unfoldable pub interAs : List ℕ → Outcome Layout
 interAs s = pick (ltb (length s) 12) (refused LENGTH) (nothingLast (layoutWith 2 (length s) 0 0 (length s - 12) 0))
 
 unfoldable pub leaf : ℕ → List ℕ → Outcome Layout
-leaf family s = andThen (keyField family s) (λ size. originatorLast (layoutWith 4 (length s) 0 0 (length s - size) size))
+leaf bits s = andThen (keyField bits s) (λ size. originatorLast (layoutWith 4 (length s) 0 0 (length s - size) size))
 
 -- the body of a route type, where `keyed` is what a Leaf's comes to
-unfoldable pub bodyWith : Outcome Layout → (family type : ℕ) → List ℕ → Outcome Layout
-bodyWith keyed family type s =
+unfoldable pub bodyWith : Outcome Layout → (bits type : ℕ) → List ℕ → Outcome Layout
+bodyWith keyed bits type s =
     pick (eqb type 1) (intraAs s)
     (pick (eqb type 2) (interAs s)
-    (pick (eqb type 3) (flowRoute family type 8 s)
+    (pick (eqb type 3) (flowRoute bits type 8 s)
     (pick (eqb type 4) keyed
-    (pick (eqb type 5) (flowRoute family type 8 s)
-    (pick (eqb type 6) (flowRoute family type 12 s)
-    (pick (eqb type 7) (flowRoute family type 12 s)
+    (pick (eqb type 5) (flowRoute bits type 8 s)
+    (pick (eqb type 6) (flowRoute bits type 12 s)
+    (pick (eqb type 7) (flowRoute bits type 12 s)
     (refused TYPE)))))))
 
-unfoldable pub unkeyedBody : (family type : ℕ) → List ℕ → Outcome Layout
-unkeyedBody family type s = bodyWith (refused KEY) family type s
+unfoldable pub unkeyedBody : (bits type : ℕ) → List ℕ → Outcome Layout
+unkeyedBody bits type s = bodyWith (refused KEY) bits type s
 
-unfoldable pub anyBody : (family type : ℕ) → List ℕ → Outcome Layout
-anyBody family type s = bodyWith (leaf family s) family type s
+unfoldable pub anyBody : (bits type : ℕ) → List ℕ → Outcome Layout
+anyBody bits type s = bodyWith (leaf bits s) bits type s
 
 unfoldable pub headerAt : List ℕ → Outcome (ℕ × ℕ)
 headerAt s =
@@ -115,19 +115,19 @@ headerAt s =
     (pick (ltb (length s - 2) (getD s 1 0)) (refused SHORT) (given (getD s 0 0, getD s 1 0)))
 
 unfoldable pub unkeyed : ℕ → List ℕ → Outcome Layout
-unkeyed family s = andThen (headerAt s) (λ h. unkeyedBody family (h .0) (part s 2 (h .1)))
+unkeyed bits s = andThen (headerAt s) (λ h. unkeyedBody bits (h .0) (part s 2 (h .1)))
 
 -- type and Length of an NLRI that has no key
 unfoldable pub unkeyedHeader : ℕ → List ℕ → Outcome (ℕ × ℕ)
-unkeyedHeader family s = andThen (unkeyed family s) (λ l. given (l .«route_type», l .length))
+unkeyedHeader bits s = andThen (unkeyed bits s) (λ l. given (l .«route_type», l .length))
 
 unfoldable pub anyFront : ℕ → List ℕ → Outcome Layout
-anyFront family s = andThen (headerAt s) (λ h. anyBody family (h .0) (part s 2 (h .1)))
+anyFront bits s = andThen (headerAt s) (λ h. anyBody bits (h .0) (part s 2 (h .1)))
 
 -- a key's size by the layout of the NLRI that it is
 unfoldable pub keySize : ℕ → List ℕ → Outcome ℕ
-keySize family s =
-    onOutcome (λ fault. refused KEY) (λ l. pick (ltb 3 (l .«route_type»)) (refused KEY) (given (2 + l .length))) (unkeyed family s)
+keySize bits s =
+    onOutcome (λ fault. refused KEY) (λ l. pick (ltb 3 (l .«route_type»)) (refused KEY) (given (2 + l .length))) (unkeyed bits s)
 
 -- whether a source AS stands behind the route distinguisher
 unfoldable pub withSourceAs : ℕ → Bool
@@ -205,7 +205,7 @@ endsWith l s = pick (eqb (length s - 2) (l .length)) (given l) (refused LENGTH)
 
 -- a single NLRI's layout by the layout at its front
 unfoldable pub single : ℕ → List ℕ → Outcome Layout
-single family s = andThen (layoutAt family s) (λ l. endsWith l s)
+single bits s = andThen (layoutAt bits s) (λ l. endsWith l s)
 
 -- what a single NLRI comes to is of type 3
 unfoldable pub ofSPmsi : Outcome Layout → Bool
@@ -213,8 +213,8 @@ ofSPmsi o = onOutcome (λ number. false) (λ l. eqb (l .«route_type») 3) o
 
 -- the same by the octets: the header, then source, group and what remains
 unfoldable pub sPmsiUnder : ℕ → List ℕ → Bool
-sPmsiUnder family s =
+sPmsiUnder bits s =
     both (leb 10 (length s))
     (both (eqb (getD s 0 0) 3)
     (both (eqb (getD s 1 0) (length s - 2))
-    (eqb (flowFault family 3 10 s) DONE)))
+    (eqb (flowFault bits 3 10 s) DONE)))

@@ -24,23 +24,23 @@ hasFlow type = either (eqb type 3) (ltb 4 type)
 unfoldable pub hasOriginator : ℕ → Bool
 hasOriginator type = either (eqb type 1) (either (eqb type 3) (eqb type 4))
 
-unfoldable pub flowFits : (family type source group : ℕ) → Bool
-flowFits family type source group = pick (hasFlow type) (both (allowed family type (8 * source)) (allowed family type (8 * group))) true
+unfoldable pub flowFits : (bits type source group : ℕ) → Bool
+flowFits bits type source group = pick (hasFlow type) (both (allowed bits type (8 * source)) (allowed bits type (8 * group))) true
 
 unfoldable pub originatorFits : (type size : ℕ) → Bool
 originatorFits type size = pick (hasOriginator type) (isOriginatorSize size) true
 
-unfoldable pub leafFits : (family type : ℕ) → List ℕ → Bool
-leafFits family type key = pick (eqb type 4) (isKey family key) true
+unfoldable pub leafFits : (bits type : ℕ) → List ℕ → Bool
+leafFits bits type key = pick (eqb type 4) (isKey bits key) true
 
 -- DONE, or the first of TYPE, WIDTH and KEY
 unfoldable pub fieldsFault : ℕ → Nlri → List ℕ → ℕ
-fieldsFault family nlri key =
+fieldsFault bits nlri key =
     pick (ltb (nlri .«route_type») 1) TYPE
     (pick (ltb 7 (nlri .«route_type»)) TYPE
-    (pick (flowFits family (nlri .«route_type») (nlri .source .size) (nlri .group .size))
+    (pick (flowFits bits (nlri .«route_type») (nlri .source .size) (nlri .group .size))
     (pick (originatorFits (nlri .«route_type») (nlri .originator .size))
-    (pick (leafFits family (nlri .«route_type») key) DONE KEY)
+    (pick (leafFits bits (nlri .«route_type») key) DONE KEY)
     WIDTH)
     WIDTH))
 
@@ -97,7 +97,7 @@ pub record Putting (nlri : Nlri) (key : List ℕ) (size : ℕ) (output : List �
 
 -- under a family
 unfoldable pub writeUnder : ℕ → Nlri → List ℕ → ℕ → Outcome (List ℕ)
-writeUnder family nlri key space =
-    pick (eqb (fieldsFault family nlri key) 0)
+writeUnder bits nlri key space =
+    pick (eqb (fieldsFault bits nlri key) 0)
     (pick (ltb space (sizeOf nlri (length key))) (refused SPACE) (given (nlriOctets nlri key)))
-    (refused (fieldsFault family nlri key))
+    (refused (fieldsFault bits nlri key))

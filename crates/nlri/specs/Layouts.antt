@@ -28,11 +28,11 @@ layoutOf laid =
 
 -- the layout of the NLRI at the front of s
 unfoldable pub layoutAt : ℕ → List ℕ → Outcome Layout
-layoutAt family s = andThen (laidAt family s) (λ laid. given (layoutOf laid))
+layoutAt bits s = andThen (laidAt bits s) (λ laid. given (layoutOf laid))
 
 -- the layout of a single NLRI, with nothing after it
 unfoldable pub layoutSingle : ℕ → List ℕ → Outcome Layout
-layoutSingle afi s = andThen (familyBits afi) (λ family. andThen (laidSingle family s) (λ laid. given (layoutOf laid)))
+layoutSingle afi s = andThen (familyBits afi) (λ bits. andThen (laidSingle bits s) (λ laid. given (layoutOf laid)))
 
 -- no layout: every number 0
 unfoldable pub noLayout : Layout

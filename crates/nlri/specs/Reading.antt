@@ -6,7 +6,7 @@ use lib.ListN.{length, getD, take, drop}
 use lib.Dec.{ltb, leb, eqb}
 use Rattle.octets.specs.Numbers.{SHORT, TYPE, LENGTH, WIDTH, KEY}
 use Rattle.octets.specs.Choice.{pick}
-use Rattle.octets.specs.Outcome.{Outcome, given, refused, onOutcome, andThen}
+use Rattle.octets.specs.Outcome.{Outcome, given, refused, onOutcome, unless, andThen}
 use Rattle.octets.specs.Octets.{part, numberIn}
 use Rattle.nlri.specs.Family.{familyBits, allowed, isOriginatorSize}
 use Rattle.nlri.specs.Bodies.{FieldKind, distinguisher, sourceAs, source, group, originator, key, bodies, onBody, fieldIn}
@@ -21,23 +21,24 @@ unfoldable pub addressEnd : ℕ → List ℕ → Outcome ℕ
 addressEnd octets s = pick (leb (length s) octets) (refused LENGTH) (given (1 + octets))
 
 -- a source or group; a bad length octet is WIDTH before its address is looked for
-unfoldable pub addressField : (family type : ℕ) → List ℕ → Outcome ℕ
-addressField family type s =
+unfoldable pub addressField : (bits type : ℕ) → List ℕ → Outcome ℕ
+addressField bits type s =
     pick (eqb (length s) 0) (refused LENGTH)
-    (pick (allowed family type (getD s 0 0)) (addressEnd (getD s 0 0 / 8) s) (refused WIDTH))
+    (unless (allowed bits type (getD s 0 0)) WIDTH
+    (addressEnd (getD s 0 0 / 8) s))
 
 -- the originator is what remains
 unfoldable pub originatorField : List ℕ → Outcome ℕ
-originatorField s = pick (isOriginatorSize (length s)) (given (length s)) (refused LENGTH)
+originatorField s = unless (isOriginatorSize (length s)) LENGTH (given (length s))
 
 -- how many octets the field at the front of s takes, or the number that refuses it; `keyField` judges a key
-unfoldable pub fieldSize : (List ℕ → Outcome ℕ) → (family type : ℕ) → FieldKind → List ℕ → Outcome ℕ
-fieldSize keyField family type distinguisher s = fixedField 8 s
-fieldSize keyField family type sourceAs s = fixedField 4 s
-fieldSize keyField family type source s = addressField family type s
-fieldSize keyField family type group s = addressField family type s
-fieldSize keyField family type originator s = originatorField s
-fieldSize keyField family type key s = keyField s
+unfoldable pub fieldSize : (List ℕ → Outcome ℕ) → (bits type : ℕ) → FieldKind → List ℕ → Outcome ℕ
+fieldSize keyField bits type distinguisher s = fixedField 8 s
+fieldSize keyField bits type sourceAs s = fixedField 4 s
+fieldSize keyField bits type source s = addressField bits type s
+fieldSize keyField bits type group s = addressField bits type s
+fieldSize keyField bits type originator s = originatorField s
+fieldSize keyField bits type key s = keyField s
 
 -- the sizes of a body's fields from left to right, the first fault deciding; nothing may remain
 unfoldable pub sizesOf : (FieldKind → List ℕ → Outcome ℕ) → List FieldKind → List ℕ → Outcome (List ℕ)
@@ -53,11 +54,11 @@ pub record Laid : Type 0 where
 
 -- the NLRI at the front of s: SHORT, TYPE, then its body
 unfoldable pub laidWith : (List ℕ → Outcome ℕ) → ℕ → List ℕ → Outcome Laid
-laidWith keyField family s =
+laidWith keyField bits s =
     pick (ltb (length s) 2) (refused SHORT)
     (pick (ltb (length s - 2) (getD s 1 0)) (refused SHORT)
     (onBody bodies (getD s 0 0) (refused TYPE)
-    (λ body. andThen (sizesOf (fieldSize keyField family (getD s 0 0)) body (part s 2 (getD s 1 0)))
+    (λ body. andThen (sizesOf (fieldSize keyField bits (getD s 0 0)) body (part s 2 (getD s 1 0)))
     (λ sizes. given (record { type = getD s 0 0; size = getD s 1 0; body = body; sizes = sizes })))))
 
 -- a key inside an NLRI that may stand in a key: there is none
@@ -66,13 +67,13 @@ noKey s = refused KEY
 
 -- a key is a whole NLRI of type 1, 2 or 3, header included; any fault inside it is KEY
 unfoldable pub keyField : ℕ → List ℕ → Outcome ℕ
-keyField family s =
+keyField bits s =
     onOutcome (λ fault. refused KEY) (λ laid. pick (ltb 3 (laid .type)) (refused KEY) (given (2 + laid .size)))
-    (laidWith noKey family s)
+    (laidWith noKey bits s)
 
 -- the NLRI at the front of s, of any type
 unfoldable pub laidAt : ℕ → List ℕ → Outcome Laid
-laidAt family s = laidWith (keyField family) family s
+laidAt bits s = laidWith (keyField bits) bits s
 
 -- a list cut into pieces of the sizes given
 unfoldable pub cut : List ℕ → List ℕ → List (List ℕ)
@@ -95,11 +96,11 @@ fieldsOf laid s =
 
 -- a single NLRI under a family: reading, then LENGTH for octets after it
 unfoldable pub laidSingle : ℕ → List ℕ → Outcome Laid
-laidSingle family s = andThen (laidAt family s) (λ laid. pick (eqb (length s - 2) (laid .size)) (given laid) (refused LENGTH))
+laidSingle bits s = andThen (laidAt bits s) (λ laid. unless (eqb (length s - 2) (laid .size)) LENGTH (given laid))
 
 -- the fields of a single NLRI; FAMILY first
 unfoldable pub readNlri : ℕ → List ℕ → Outcome Fields
-readNlri afi s = andThen (familyBits afi) (λ family. andThen (laidSingle family s) (λ laid. given (fieldsOf laid s)))
+readNlri afi s = andThen (familyBits afi) (λ bits. andThen (laidSingle bits s) (λ laid. given (fieldsOf laid s)))
 
 -- whether octets are a single NLRI of type 3
 unfoldable pub isSPmsi : ℕ → List ℕ → Bool

@@ -23,17 +23,17 @@ use Rattle.nlri.specs.Answers.{nlriStruct, structFields, keySpan, nlriAn
 -- "NLRI on the wire": the lengths
 pub record Lengths : Type 0 where
   -- 32 bits for AFI 1, 128 for AFI 2
-  pub families : (afi family : ℕ) → (familyBits afi ≡ given family) ↔ (((afi ≡ 1) × (family ≡ 32)) ⊎ ((afi ≡ 2) × (family ≡ 128)))
+  pub families : (afi bits : ℕ) → (familyBits afi ≡ given bits) ↔ (((afi ≡ 1) × (bits ≡ 32)) ⊎ ((afi ≡ 2) × (bits ≡ 128)))
   -- a source or group length is the family's, or 0 in type 3
-  pub addresses : (family type bits : ℕ) → (allowed family type bits ≡ true) ↔ ((bits ≡ family) ⊎ ((type ≡ 3) × (bits ≡ 0)))
+  pub addresses : (bits type octet : ℕ) → (allowed bits type octet ≡ true) ↔ ((octet ≡ bits) ⊎ ((type ≡ 3) × (octet ≡ 0)))
   -- an originator has 4 or 16 octets
   pub originators : (size : ℕ) → (isOriginatorSize size ≡ true) ↔ ((size ≡ 4) ⊎ (size ≡ 16))
 
 -- octets that are the encoding of well-formed fields of the AFI's family, fields that the type lacks being empty
 pub record ReadAs (afi : ℕ) (s : List ℕ) (f : Fields) : Type 0 where
-  pub family : ℕ
-  pub bits : familyBits afi ≡ given family
-  pub wellFormed : WellFormed family f
+  pub bits : ℕ
+  pub ofFamily : familyBits afi ≡ given bits
+  pub wellFormed : WellFormed bits f
   pub whole : restricted f ≡ f
   pub encoded : s ≡ encodeNlri f
 
@@ -41,13 +41,13 @@ pub record ReadAs (afi : ℕ) (s : List ℕ) (f : Fields) : Type 0 where
 pub record Acceptance : Type 0 where
   pub exactly : (afi : ℕ) (s : List ℕ) (f : Fields) → AllOctets s → (readNlri afi s ≡ given f) ↔ ReadAs afi s f
   -- whatever stands in the fields that the type lacks, their encoding is read as the fields without these
-  pub encoded : (afi family : ℕ) (f : Fields) → familyBits afi ≡ given family → WellFormed family f → readNlri afi (encodeNlri f) ≡ given (restricted f)
-  pub octets : (afi family : ℕ) (f : Fields) → familyBits afi ≡ given family → WellFormed family f → AllOctets (encodeNlri f)
+  pub encoded : (afi bits : ℕ) (f : Fields) → familyBits afi ≡ given bits → WellFormed bits f → readNlri afi (encodeNlri f) ≡ given (restricted f)
+  pub octets : (afi bits : ℕ) (f : Fields) → familyBits afi ≡ given bits → WellFormed bits f → AllOctets (encodeNlri f)
   -- an encoding has at most 78 octets, and at most 60 where it is no Leaf's
-  pub most : (afi family : ℕ) (f : Fields) → familyBits afi ≡ given family → WellFormed family f → length (encodeNlri f) ≤ 78
-  pub plain : (afi family : ℕ) (f : Fields) → familyBits afi ≡ given family → WellFormed family f → f .type ≢ 4 → length (encodeNlri f) ≤ 60
+  pub most : (afi bits : ℕ) (f : Fields) → familyBits afi ≡ given bits → WellFormed bits f → length (encodeNlri f) ≤ 78
+  pub plain : (afi bits : ℕ) (f : Fields) → familyBits afi ≡ given bits → WellFormed bits f → f .type ≢ 4 → length (encodeNlri f) ≤ 60
   -- one encoding is of one NLRI
-  pub same : (afi family : ℕ) (f g : Fields) → familyBits afi ≡ given family → WellFormed family f → WellFormed family g → encodeNlri f ≡ encodeNlri g → restricted f ≡ restricted g
+  pub same : (afi bits : ℕ) (f g : Fields) → familyBits afi ≡ given bits → WellFormed bits f → WellFormed bits g → encodeNlri f ≡ encodeNlri g → restricted f ≡ restricted g
 
 -- fields that hold octets and a 32-bit number, as those do that a struct and a buffer of octets stand for
 pub record HoldsOctets (f : Fields) : Type 0 where
@@ -97,33 +97,33 @@ Closes originator t = t ≡ []
 Closes key t = Unit {0}
 
 -- x is the encoding of a well-formed field of one kind, with t after it
-pub record FieldAt (family type : ℕ) (k : FieldKind) (x t : List ℕ) : Type 0 where
+pub record FieldAt (bits type : ℕ) (k : FieldKind) (x t : List ℕ) : Type 0 where
   pub fields : Fields
   pub typed : fields .type ≡ type
-  pub wellFormed : WellFormedField (KeyOf family) family fields k
+  pub wellFormed : WellFormedField (KeyOf bits) bits fields k
   pub encoded : x ≡ encodeField fields k
   pub last : Closes k t
 
 -- the fault of a source or group where s is what remains of the body: a missing length octet; a bad one, before its address is looked for; an end inside the address
-pub data AddressFault (family type : ℕ) (s : List ℕ) : ℕ → Type 0 where
-  missing : length s ≡ 0 → AddressFault family type s LENGTH
-  width : 1 ≤ length s → allowed family type (getD s 0 0) ≡ false → AddressFault family type s WIDTH
-  ends : 1 ≤ length s → allowed family type (getD s 0 0) ≡ true → length s < 1 + getD s 0 0 / 8 → AddressFault family type s LENGTH
+pub data AddressFault (bits type : ℕ) (s : List ℕ) : ℕ → Type 0 where
+  missing : length s ≡ 0 → AddressFault bits type s LENGTH
+  width : 1 ≤ length s → allowed bits type (getD s 0 0) ≡ false → AddressFault bits type s WIDTH
+  ends : 1 ≤ length s → allowed bits type (getD s 0 0) ≡ true → length s < 1 + getD s 0 0 / 8 → AddressFault bits type s LENGTH
 
 -- the fault of a field where s is what remains of the body, and its number; a key's is that no octets at the front are a key
-abbrev pub Fault : (family type : ℕ) → FieldKind → List ℕ → ℕ → Type 0
-Fault family type distinguisher s n = (length s < 8) × (n ≡ LENGTH)
-Fault family type sourceAs s n = (length s < 4) × (n ≡ LENGTH)
-Fault family type source s n = AddressFault family type s n
-Fault family type group s n = AddressFault family type s n
-Fault family type originator s n = (isOriginatorSize (length s) ≡ false) × (n ≡ LENGTH)
-Fault family type key s n = ((size : ℕ) → size ≤ length s → KeyOf family (take size s) → ⊥) × (n ≡ KEY)
+abbrev pub Fault : (bits type : ℕ) → FieldKind → List ℕ → ℕ → Type 0
+Fault bits type distinguisher s n = (length s < 8) × (n ≡ LENGTH)
+Fault bits type sourceAs s n = (length s < 4) × (n ≡ LENGTH)
+Fault bits type source s n = AddressFault bits type s n
+Fault bits type group s n = AddressFault bits type s n
+Fault bits type originator s n = (isOriginatorSize (length s) ≡ false) × (n ≡ LENGTH)
+Fault bits type key s n = ((size : ℕ) → size ≤ length s → KeyOf bits (take size s) → ⊥) × (n ≡ KEY)
 
 -- the first fault of a body from left to right: octets remain after its last field, its first field faults, or its first field stands and a later one faults
-pub data Faulty (family type : ℕ) : List FieldKind → List ℕ → ℕ → Type 0 where
-  remains : {s : List ℕ} → 0 < length s → Faulty family type [] s LENGTH
-  here : {k : FieldKind} {body : List FieldKind} {s : List ℕ} {n : ℕ} → Fault family type k s n → Faulty family type (k ∷ body) s n
-  later : {k : FieldKind} {body : List FieldKind} {s : List ℕ} {n : ℕ} (x t : List ℕ) → s ≡ x ++ t → FieldAt family type k x t → Faulty family type body t n → Faulty family type (k ∷ body) s n
+pub data Faulty (bits type : ℕ) : List FieldKind → List ℕ → ℕ → Type 0 where
+  remains : {s : List ℕ} → 0 < length s → Faulty bits type [] s LENGTH
+  here : {k : FieldKind} {body : List FieldKind} {s : List ℕ} {n : ℕ} → Fault bits type k s n → Faulty bits type (k ∷ body) s n
+  later : {k : FieldKind} {body : List FieldKind} {s : List ℕ} {n : ℕ} (x t : List ℕ) → s ≡ x ++ t → FieldAt bits type k x t → Faulty bits type body t n → Faulty bits type (k ∷ body) s n
 
 -- fewer octets than the header, or than the Length field, asks
 abbrev pub TooShort : List ℕ → Type 0
@@ -133,22 +133,22 @@ abbrev pub KnownType : ℕ → Type 0
 KnownType type = (1 ≤ type) × (type ≤ 7)
 
 -- why reading the NLRI at the front of octets refuses: SHORT, TYPE, then the body
-pub data FrontRefusal (family : ℕ) (s : List ℕ) : ℕ → Type 0 where
-  short : TooShort s → FrontRefusal family s SHORT
-  badType : (TooShort s → ⊥) → (KnownType (getD s 0 0) → ⊥) → FrontRefusal family s TYPE
-  badBody : {n : ℕ} → (TooShort s → ⊥) → KnownType (getD s 0 0) → Faulty family (getD s 0 0) (bodyOf (getD s 0 0)) (part s 2 (getD s 1 0)) n → FrontRefusal family s n
+pub data FrontRefusal (bits : ℕ) (s : List ℕ) : ℕ → Type 0 where
+  short : TooShort s → FrontRefusal bits s SHORT
+  badType : (TooShort s → ⊥) → (KnownType (getD s 0 0) → ⊥) → FrontRefusal bits s TYPE
+  badBody : {n : ℕ} → (TooShort s → ⊥) → KnownType (getD s 0 0) → Faulty bits (getD s 0 0) (bodyOf (getD s 0 0)) (part s 2 (getD s 1 0)) n → FrontRefusal bits s n
 
 -- why reading a single NLRI refuses: FAMILY, then its front, then octets after it
 pub data ReadRefusal (afi : ℕ) (s : List ℕ) : ℕ → Type 0 where
   badFamily : afi ≢ 1 → afi ≢ 2 → ReadRefusal afi s FAMILY
-  front : (family : ℕ) {n : ℕ} → familyBits afi ≡ given family → FrontRefusal family s n → ReadRefusal afi s n
-  after : (family : ℕ) (f : Fields) (t : List ℕ) → familyBits afi ≡ given family → WellFormed family f → s ≡ encodeNlri f ++ t → 0 < length t → ReadRefusal afi s LENGTH
+  front : (bits : ℕ) {n : ℕ} → familyBits afi ≡ given bits → FrontRefusal bits s n → ReadRefusal afi s n
+  after : (bits : ℕ) (f : Fields) (t : List ℕ) → familyBits afi ≡ given bits → WellFormed bits f → s ≡ encodeNlri f ++ t → 0 < length t → ReadRefusal afi s LENGTH
 
 -- "The numbers a call gives back", at NLRI reading: every list of octets is accepted or refused by one number, each given exactly when document 01 says
 pub record ReadRefusals : Type 0 where
   pub exactly : (afi : ℕ) (s : List ℕ) (n : ℕ) → AllOctets s → (readNlri afi s ≡ refused n) ↔ ReadRefusal afi s n
   -- the NLRI at the front of octets, whatever stands after it
-  pub front : (afi family : ℕ) (s : List ℕ) (n : ℕ) → familyBits afi ≡ given family → AllOctets s → (laidAt family s ≡ refused n) ↔ FrontRefusal family s n
+  pub front : (afi bits : ℕ) (s : List ℕ) (n : ℕ) → familyBits afi ≡ given bits → AllOctets s → (laidAt bits s ≡ refused n) ↔ FrontRefusal bits s n
   pub decided : (afi : ℕ) (s : List ℕ) → AllOctets s → ((f : Fields) × ReadAs afi s f) ⊎ ((n : ℕ) × ReadRefusal afi s n)
   pub one : (afi : ℕ) (s : List ℕ) (m n : ℕ) → AllOctets s → ReadRefusal afi s m → ReadRefusal afi s n → m ≡ n
   pub never : (afi : ℕ) (s : List ℕ) (f : Fields) (n : ℕ) → AllOctets s → ReadAs afi s f → ReadRefusal afi s n → ⊥
@@ -159,31 +159,31 @@ pub record ReadRefusals : Type 0 where
   pub short : (afi : ℕ) (s : List ℕ) → AllOctets s → (readNlri afi s ≡ refused SHORT) ↔ (((afi ≡ 1) ⊎ (afi ≡ 2)) × TooShort s)
   pub type : (afi : ℕ) (s : List ℕ) → AllOctets s → (readNlri afi s ≡ refused TYPE) ↔ (((afi ≡ 1) ⊎ (afi ≡ 2)) × (TooShort s → ⊥) × (KnownType (getD s 0 0) → ⊥))
   -- a body's fault is LENGTH, WIDTH or KEY
-  pub bodies : (family type : ℕ) (body : List FieldKind) (s : List ℕ) (n : ℕ) → Faulty family type body s n → (n ≡ LENGTH) ⊎ (n ≡ WIDTH) ⊎ (n ≡ KEY)
+  pub bodies : (bits type : ℕ) (body : List FieldKind) (s : List ℕ) (n : ℕ) → Faulty bits type body s n → (n ≡ LENGTH) ⊎ (n ≡ WIDTH) ⊎ (n ≡ KEY)
 
 -- a source or group of a length that the type and family do not allow, an originator not of 4 or 16 octets
 abbrev pub WidthFault : ℕ → Fields → FieldKind → Type 0
-WidthFault family f distinguisher = ⊥
-WidthFault family f sourceAs = ⊥
-WidthFault family f source = allowed family (f .type) (8 * length (f .source)) ≡ false
-WidthFault family f group = allowed family (f .type) (8 * length (f .group)) ≡ false
-WidthFault family f originator = isOriginatorSize (length (f .originator)) ≡ false
-WidthFault family f key = ⊥
+WidthFault bits f distinguisher = ⊥
+WidthFault bits f sourceAs = ⊥
+WidthFault bits f source = allowed bits (f .type) (8 * length (f .source)) ≡ false
+WidthFault bits f group = allowed bits (f .type) (8 * length (f .group)) ≡ false
+WidthFault bits f originator = isOriginatorSize (length (f .originator)) ≡ false
+WidthFault bits f key = ⊥
 
 -- why writing refuses, in the order FAMILY, TYPE, WIDTH, KEY, SPACE; only fields of the type's body are judged
 pub data WriteRefusal (afi : ℕ) (f : Fields) (space : ℕ) : ℕ → Type 0 where
   badFamily : afi ≢ 1 → afi ≢ 2 → WriteRefusal afi f space FAMILY
-  badType : (family : ℕ) → familyBits afi ≡ given family → (KnownType (f .type) → ⊥) → WriteRefusal afi f space TYPE
-  badWidth : (family : ℕ) → familyBits afi ≡ given family → KnownType (f .type) → (k : FieldKind) → hasField k (bodyOf (f .type)) ≡ true → WidthFault family f k → WriteRefusal afi f space WIDTH
-  badKey : (family : ℕ) → familyBits afi ≡ given family → KnownType (f .type) → ((k : FieldKind) → hasField k (bodyOf (f .type)) ≡ true → WidthFault family f k → ⊥)
-      → hasField key (bodyOf (f .type)) ≡ true → (KeyOf family (f .key) → ⊥) → WriteRefusal afi f space KEY
-  noSpace : (family : ℕ) → familyBits afi ≡ given family → WellFormed family f → space < length (encodeNlri f) → WriteRefusal afi f space SPACE
+  badType : (bits : ℕ) → familyBits afi ≡ given bits → (KnownType (f .type) → ⊥) → WriteRefusal afi f space TYPE
+  badWidth : (bits : ℕ) → familyBits afi ≡ given bits → KnownType (f .type) → (k : FieldKind) → hasField k (bodyOf (f .type)) ≡ true → WidthFault bits f k → WriteRefusal afi f space WIDTH
+  badKey : (bits : ℕ) → familyBits afi ≡ given bits → KnownType (f .type) → ((k : FieldKind) → hasField k (bodyOf (f .type)) ≡ true → WidthFault bits f k → ⊥)
+      → hasField key (bodyOf (f .type)) ≡ true → (KeyOf bits (f .key) → ⊥) → WriteRefusal afi f space KEY
+  noSpace : (bits : ℕ) → familyBits afi ≡ given bits → WellFormed bits f → space < length (encodeNlri f) → WriteRefusal afi f space SPACE
 
 -- "The numbers a call gives back", at NLRI writing: well-formed fields are written where there is space, and any others are refused by one number
 pub record WriteRefusals : Type 0 where
   pub exactly : (afi : ℕ) (f : Fields) (space n : ℕ) → HoldsOctets f → (writeNlri afi f space ≡ refused n) ↔ WriteRefusal afi f space n
   pub accepted : (afi : ℕ) (f : Fields) (space : ℕ) (e : List ℕ) → HoldsOctets f
-      → (writeNlri afi f space ≡ given e) ↔ ((family : ℕ) × (familyBits afi ≡ given family) × WellFormed family f × (length e ≤ space) × (e ≡ encodeNlri f))
+      → (writeNlri afi f space ≡ given e) ↔ ((bits : ℕ) × (familyBits afi ≡ given bits) × WellFormed bits f × (length e ≤ space) × (e ≡ encodeNlri f))
 
 -- the layout of an NLRI's encoding: its type, its Length, and the sizes that vary
 unfoldable pub layoutFor : Fields → Layout
@@ -200,14 +200,14 @@ layoutFor f =
 -- "Walking a run": a step's answer, in the order FAMILY, LONG, the cursor, NLRI reading
 pub record StepRule : Type 0 where
   pub family : (afi : ℕ) (run : List ℕ) (at : ℕ) → afi ≢ 1 → afi ≢ 2 → stepFrom afi run at ≡ stoppedAt FAMILY at
-  pub long : (afi family : ℕ) (run : List ℕ) (at : ℕ) → familyBits afi ≡ given family → 4096 < length run → stepFrom afi run at ≡ stoppedAt LONG at
+  pub long : (afi bits : ℕ) (run : List ℕ) (at : ℕ) → familyBits afi ≡ given bits → 4096 < length run → stepFrom afi run at ≡ stoppedAt LONG at
   -- at the run's end DONE with no NLRI, past it SHORT
-  pub ends : (afi family : ℕ) (run : List ℕ) (at : ℕ) → familyBits afi ≡ given family → length run ≤ 4096 → at ≡ length run → stepFrom afi run at ≡ stoppedAt DONE at
-  pub past : (afi family : ℕ) (run : List ℕ) (at : ℕ) → familyBits afi ≡ given family → length run ≤ 4096 → length run < at → stepFrom afi run at ≡ stoppedAt SHORT at
-  pub refuses : (afi family : ℕ) (run : List ℕ) (at n : ℕ) → familyBits afi ≡ given family → AllOctets run → length run ≤ 4096 → at < length run → FrontRefusal family (drop at run) n
+  pub ends : (afi bits : ℕ) (run : List ℕ) (at : ℕ) → familyBits afi ≡ given bits → length run ≤ 4096 → at ≡ length run → stepFrom afi run at ≡ stoppedAt DONE at
+  pub past : (afi bits : ℕ) (run : List ℕ) (at : ℕ) → familyBits afi ≡ given bits → length run ≤ 4096 → length run < at → stepFrom afi run at ≡ stoppedAt SHORT at
+  pub refuses : (afi bits : ℕ) (run : List ℕ) (at n : ℕ) → familyBits afi ≡ given bits → AllOctets run → length run ≤ 4096 → at < length run → FrontRefusal bits (drop at run) n
       → stepFrom afi run at ≡ stoppedAt n at
   -- an NLRI with its layout, and the cursor just past it
-  pub reads : (afi family : ℕ) (run : List ℕ) (at : ℕ) (f : Fields) (t : List ℕ) → familyBits afi ≡ given family → length run ≤ 4096 → WellFormed family f → drop at run ≡ encodeNlri f ++ t
+  pub reads : (afi bits : ℕ) (run : List ℕ) (at : ℕ) (f : Fields) (t : List ℕ) → familyBits afi ≡ given bits → length run ≤ 4096 → WellFormed bits f → drop at run ≡ encodeNlri f ++ t
       → stepFrom afi run at ≡ readTo (layoutFor f) (at + length (encodeNlri f))
   -- a step that reads moves the cursor by 2 and the Length, within the run; any other hands back the cursor that it was given
   pub moves : (afi : ℕ) (run : List ℕ) (at : ℕ) → stepFrom afi run at .read ≡ true
@@ -225,33 +225,33 @@ encodeRun [] = []
 encodeRun (f ∷ fs) = encodeNlri f ++ encodeRun fs
 
 abbrev pub AllWellFormed : ℕ → List Fields → Type 0
-AllWellFormed family [] = Unit {0}
-AllWellFormed family (f ∷ fs) = WellFormed family f × AllWellFormed family fs
+AllWellFormed bits [] = Unit {0}
+AllWellFormed bits (f ∷ fs) = WellFormed bits f × AllWellFormed bits fs
 
 -- what may stand after the NLRIs of a run, and the number there: nothing, or octets that NLRI reading refuses
-pub data RunEnd (family : ℕ) : List ℕ → ℕ → Type 0 where
-  nothing : RunEnd family [] DONE
-  refusal : {t : List ℕ} {n : ℕ} → 0 < length t → FrontRefusal family t n → RunEnd family t n
+pub data RunEnd (bits : ℕ) : List ℕ → ℕ → Type 0 where
+  nothing : RunEnd bits [] DONE
+  refusal : {t : List ℕ} {n : ℕ} → 0 < length t → FrontRefusal bits t n → RunEnd bits t n
 
 -- a run as NLRIs and then its end
-pub record RunOf (family : ℕ) (run : List ℕ) : Type 0 where
+pub record RunOf (bits : ℕ) (run : List ℕ) : Type 0 where
   pub nlris : List Fields
   pub tail : List ℕ
   pub number : ℕ
-  pub wellFormed : AllWellFormed family nlris
-  pub end : RunEnd family tail number
+  pub wellFormed : AllWellFormed bits nlris
+  pub end : RunEnd bits tail number
   pub is : run ≡ encodeRun nlris ++ tail
 
 -- "Walking a run"
 pub record WalkRule : Type 0 where
   -- every run of octets is NLRIs and then its end
-  pub splits : (afi family : ℕ) (run : List ℕ) → familyBits afi ≡ given family → AllOctets run → RunOf family run
+  pub splits : (afi bits : ℕ) (run : List ℕ) → familyBits afi ≡ given bits → AllOctets run → RunOf bits run
   -- the walk counts these NLRIs, and stops where they end with the number there
-  pub counts : (afi family : ℕ) (run : List ℕ) (r : RunOf family run) → familyBits afi ≡ given family → AllOctets run → length run ≤ 4096
+  pub counts : (afi bits : ℕ) (run : List ℕ) (r : RunOf bits run) → familyBits afi ≡ given bits → AllOctets run → length run ≤ 4096
       → walkOf afi run ≡ record { number = r .number; count = length (r .nlris); offset = length (encodeRun (r .nlris)) }
   -- a bad AFI, and a run that is too long
   pub family : (afi : ℕ) (run : List ℕ) → afi ≢ 1 → afi ≢ 2 → walkOf afi run ≡ record { number = FAMILY; count = 0; offset = 0 }
-  pub long : (afi family : ℕ) (run : List ℕ) → familyBits afi ≡ given family → 4096 < length run → walkOf afi run ≡ record { number = LONG; count = 0; offset = 0 }
+  pub long : (afi bits : ℕ) (run : List ℕ) → familyBits afi ≡ given bits → 4096 < length run → walkOf afi run ≡ record { number = LONG; count = 0; offset = 0 }
   -- the walk is the iteration of the step, and nothing else is
   pub iterates : (afi : ℕ) (run : List ℕ) → Walks afi run 0 0 (walkOf afi run)
   pub only : (afi : ℕ) (run : List ℕ) (at count : ℕ) (v w : Walked) → Walks afi run at count v → Walks afi run at count w → v ≡ w

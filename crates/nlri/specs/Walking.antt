@@ -31,15 +31,15 @@ stoppedAt number cursor = record { number = number; read = false; layout = noLay
 
 -- under a family: LONG, then the cursor, then NLRI reading; a cursor just past the NLRI read
 unfoldable pub stepUnder : ℕ → List ℕ → ℕ → Stepped
-stepUnder family run at =
+stepUnder bits run at =
     pick (ltb 4096 (length run)) (stoppedAt LONG at)
     (pick (eqb at (length run)) (stoppedAt DONE at)
     (pick (ltb (length run) at) (stoppedAt SHORT at)
-    (onOutcome (λ number. stoppedAt number at) (λ layout. readTo layout (at + (2 + layout .length))) (layoutAt family (drop at run)))))
+    (onOutcome (λ number. stoppedAt number at) (λ layout. readTo layout (at + (2 + layout .length))) (layoutAt bits (drop at run)))))
 
 -- FAMILY first
 unfoldable pub stepFrom : ℕ → List ℕ → ℕ → Stepped
-stepFrom afi run at = onOutcome (λ number. stoppedAt number at) (λ family. stepUnder family run at) (familyBits afi)
+stepFrom afi run at = onOutcome (λ number. stoppedAt number at) (λ bits. stepUnder bits run at) (familyBits afi)
 
 -- the number and values of each case of `Step`
 unfoldable pub steppedOf : Step → Stepped

@@ -6,7 +6,7 @@ use lib.ListN.{length}
 use lib.Dec.{ltb, eqb}
 use Rattle.octets.specs.Numbers.{TYPE, WIDTH, KEY, SPACE}
 use Rattle.octets.specs.Choice.{pick, both}
-use Rattle.octets.specs.Outcome.{Outcome, given, refused, onOutcome, andThen}
+use Rattle.octets.specs.Outcome.{Outcome, given, refused, onOutcome, unless, andThen}
 use Rattle.nlri.specs.Family.{familyBits, allowed, isOriginatorSize}
 use Rattle.nlri.specs.Bodies.{FieldKind, distinguisher, sourceAs, source, group, originator, key, bodies, onBody}
 use Rattle.nlri.specs.Fields.{Fields, encodeNlri}
@@ -14,43 +14,42 @@ use Rattle.nlri.specs.Reading.{keyField}
 
 -- an address of a length that the type and family allow; an originator of 4 or 16 octets
 unfoldable pub widthFits : ℕ → Fields → FieldKind → Bool
-widthFits family f distinguisher = true
-widthFits family f sourceAs = true
-widthFits family f source = allowed family (f .type) (8 * length (f .source))
-widthFits family f group = allowed family (f .type) (8 * length (f .group))
-widthFits family f originator = isOriginatorSize (length (f .originator))
-widthFits family f key = true
+widthFits bits f distinguisher = true
+widthFits bits f sourceAs = true
+widthFits bits f source = allowed bits (f .type) (8 * length (f .source))
+widthFits bits f group = allowed bits (f .type) (8 * length (f .group))
+widthFits bits f originator = isOriginatorSize (length (f .originator))
+widthFits bits f key = true
 
 -- every address of a body fits
 unfoldable pub widthsFit : ℕ → Fields → List FieldKind → Bool
-widthsFit family f [] = true
-widthsFit family f (k ∷ body) = both (widthFits family f k) (widthsFit family f body)
+widthsFit bits f [] = true
+widthsFit bits f (k ∷ body) = both (widthFits bits f k) (widthsFit bits f body)
 
 -- octets that are exactly one key
 unfoldable pub isKey : ℕ → List ℕ → Bool
-isKey family octets = onOutcome (λ fault. false) (λ size. eqb size (length octets)) (keyField family octets)
+isKey bits octets = onOutcome (λ fault. false) (λ size. eqb size (length octets)) (keyField bits octets)
 
 -- a field that is a key holds exactly one key
 unfoldable pub keyFits : ℕ → Fields → FieldKind → Bool
-keyFits family f distinguisher = true
-keyFits family f sourceAs = true
-keyFits family f source = true
-keyFits family f group = true
-keyFits family f originator = true
-keyFits family f key = isKey family (f .key)
+keyFits bits f distinguisher = true
+keyFits bits f sourceAs = true
+keyFits bits f source = true
+keyFits bits f group = true
+keyFits bits f originator = true
+keyFits bits f key = isKey bits (f .key)
 
 -- every key of a body fits
 unfoldable pub keysFit : ℕ → Fields → List FieldKind → Bool
-keysFit family f [] = true
-keysFit family f (k ∷ body) = both (keyFits family f k) (keysFit family f body)
+keysFit bits f [] = true
+keysFit bits f (k ∷ body) = both (keyFits bits f k) (keysFit bits f body)
 
 -- the octets written at the front of an output of so many octets
 unfoldable pub writeNlri : ℕ → Fields → (space : ℕ) → Outcome (List ℕ)
 writeNlri afi f space =
     andThen (familyBits afi)
-    (λ family. onBody bodies (f .type) (refused TYPE)
-    (λ body. pick (widthsFit family f body)
-    (pick (keysFit family f body)
-    (pick (ltb space (length (encodeNlri f))) (refused SPACE) (given (encodeNlri f)))
-    (refused KEY))
-    (refused WIDTH)))
+    (λ bits. onBody bodies (f .type) (refused TYPE)
+    (λ body. unless (widthsFit bits f body) WIDTH
+    (unless (keysFit bits f body) KEY
+    (pick (ltb space (length (encodeNlri f))) (refused SPACE)
+    (given (encodeNlri f))))))

@@ -210,9 +210,9 @@ books-few afi calls =
     held-named afi nlri calls (p .0) (sym (lookup-all-after afi nlri calls) ∙ sym (lookup-arranged nlri (allBooks afi calls)) ∙ p .1))
 
 pub books-holdable : (afi places : ℕ) (calls : List Call) → KnownFamily afi → places ≤ 500 → Fits afi places calls → Holdable afi places (arranged (allBooks afi calls))
-books-holdable afi places calls family most fits =
+books-holdable afi places calls bits most fits =
     record {
-      family = family;
+      family = bits;
       most = most;
       within = le-trans (books-few afi calls) fits;
       acceptable = acceptable-arranged afi (all-acceptable afi calls);

@@ -97,9 +97,9 @@ module _ (afi : ℕ) (calls : List Call) where
       (λ f. absurd (held-absent book (lookup-foreign afi router (nlriOf r) calls (λ e. opposite (owned-itself router _ e) f))))
 
   pub book-rule : (places : ℕ) → KnownFamily afi → places ≤ 500 → Fits afi places calls → BookRule afi places calls
-  book-rule places family most fits =
+  book-rule places bits most fits =
       record {
         distinct = λ router. book-distinct afi router calls;
-        holdable = books-holdable afi places calls family most fits;
+        holdable = books-holdable afi places calls bits most fits;
         exactly = λ r. (gathered-from r, λ p. gathered-in r (p .0) (p .1));
       }

@@ -42,22 +42,22 @@ fixed-most : (most : ℕ) (s : List ℕ) (n : ℕ) → fixedField most s ≡ giv
 unfolding fixedField
 fixed-most most s n e = let h : most ≡ n = given-same (given-otherwise _ _ _ _ e .1) in omega arith
 
-address-most : (family type : ℕ) → family / 8 ≤ 16 → (s : List ℕ) (n : ℕ) → addressField family type s ≡ given n → n ≤ 17
+address-most : (bits type : ℕ) → bits / 8 ≤ 16 → (s : List ℕ) (n : ℕ) → addressField bits type s ≡ given n → n ≤ 17
 unfolding addressField addressEnd
-address-most family type small s n e =
+address-most bits type small s n e =
     let p = given-unless _ _ _ _ (given-otherwise _ _ _ _ e .1) in
     let q = given-same (given-otherwise _ _ _ _ (p .1) .1) in
-    let h = bits-most family type (getD s 0 0) (p .0) in
+    let h = bits-most bits type (getD s 0 0) (p .0) in
     omega arith
 
 last-most : (s : List ℕ) (n : ℕ) → originatorField s ≡ given n → n ≤ 16
 last-most s n e = let p = originator-given n s e in omega (arith, p .1, originator-most (length s) (p .0))
 
-body-most : (key : List ℕ → Outcome ℕ) (family : ℕ) → family / 8 ≤ 16 → (s sizes : List ℕ) → sizesOf (fieldSize key family 3) (bodyOf 3) s ≡ given sizes → length s ≤ 58
+body-most : (key : List ℕ → Outcome ℕ) (bits : ℕ) → bits / 8 ≤ 16 → (s sizes : List ℕ) → sizesOf (fieldSize key bits 3) (bodyOf 3) s ≡ given sizes → length s ≤ 58
 unfolding fieldSize bodyOf bodies onBody pick
-body-most key family small =
+body-most key bits small =
     then-most _ distinguisher _ 8 50 (fixed-most 8)
-    (then-most _ source _ 17 33 (address-most family 3 small) (then-most _ group _ 17 16 (address-most family 3 small) (then-most _ originator _ 16 0 last-most (end-most _))))
+    (then-most _ source _ 17 33 (address-most bits 3 small) (then-most _ group _ 17 16 (address-most bits 3 small) (then-most _ originator _ 16 0 last-most (end-most _))))
 
 -- an NLRI of type 3, whatever its elements
 s-pmsi-size : (afi : ℕ) (s : List ℕ) (f : Fields) → readNlri afi s ≡ given f → f .type ≡ 3 → (2 ≤ length s) × (length s ≤ 60)

@@ -41,16 +41,16 @@ route-argued afi nlri attribute =
     then-refuses _ _ (s-pmsi-argued afi nlri)
     (λ f. then-refuses _ _ (then-refuses _ _ (attribute-argued attribute) (λ g. pick-refuses _ _ _ (number (omega arith)) value)) (λ g. value))
 
-class-argued : (family : ℕ) (g : List ℕ) → Refuses ByArguments (classUnder family g)
+class-argued : (bits : ℕ) (g : List ℕ) → Refuses ByArguments (classUnder bits g)
 unfolding classUnder
-class-argued family g = pick-refuses _ _ _ (pick-refuses _ _ _ (pick-refuses _ _ _ value value) (number (omega arith))) (number (omega arith))
+class-argued bits g = pick-refuses _ _ _ (pick-refuses _ _ _ (pick-refuses _ _ _ value value) (number (omega arith))) (number (omega arith))
 
 match-argued : (afi : ℕ) (router source group output : List ℕ) → Refuses ByArguments (readMatch afi router source group output)
 unfolding readMatch readFlow
 match-argued afi router source group output =
     then-refuses _ _
     (then-refuses _ _ (refuses-also by-reading (family-refuses afi))
-    (λ family. pick-refuses _ _ _ (pick-refuses _ _ _ (then-refuses _ _ (class-argued family group) (λ class. value)) (number (omega arith))) (number (omega arith))))
+    (λ bits. pick-refuses _ _ _ (pick-refuses _ _ _ (then-refuses _ _ (class-argued bits group) (λ class. value)) (number (omega arith))) (number (omega arith))))
     (λ query. pick-refuses _ _ _ (number (omega arith)) value)
 
 pub s-pmsi-number : (afi : ℕ) (nlri : List ℕ) (n : ℕ) → readSPmsi afi nlri ≡ refused n → ByArguments n

@@ -156,11 +156,11 @@ module _ (afi places : ℕ) (earlier : List Call) (c : Call) where
   room : (r : Route) → argued afi c ≡ given (enter r) → acceptable afi r ≡ true → KnownFamily afi → places ≤ 500 → Fits afi places (earlier ++ (c ∷ []))
       → entering places (tableRoutes afi earlier) r ≡ given (pick (holds (nlriOf r) (tableRoutes afi earlier)) REPLACED NEW)
   unfolding entering
-  room r e a family most fits =
+  room r e a bits most fits =
       with-room (holds (nlriOf r) (tableRoutes afi earlier)) (length (tableRoutes afi earlier)) places
       (λ h.
       let new : length (inserted r (tableRoutes afi earlier)) ≡ suc (length (tableRoutes afi earlier)) = length-inserted-new r (tableRoutes afi earlier) (absent-holds (nlriOf r) (tableRoutes afi earlier) h) in
-      let within = books-holdable afi places (earlier ++ (c ∷ [])) family most fits .within in
+      let within = books-holdable afi places (earlier ++ (c ∷ [])) bits most fits .within in
       omega (arith, ap length (next-entered r e a)))
 
   module _ (router : List ℕ) (own : ownerOf afi c ≡ owner router) where
@@ -182,11 +182,11 @@ module _ (afi places : ℕ) (earlier : List Call) (c : Call) where
     acted : {act : Act} (t : List ℕ) → t ≡ imageOf afi places (tableRoutes afi earlier) → KnownFamily afi → places ≤ 500 → Fits afi places (earlier ++ (c ∷ [])) → argued afi c ≡ given act → Known afi c router act
         → actStep afi places (tableRoutes afi earlier) t c act ≡ dueStep afi places earlier c
     unfolding actStep actAnswer leaving installedOf onOutcome numberOf pick
-    acted t is family most fits e (enters {r} a mine m) =
+    acted t is bits most fits e (enters {r} a mine m) =
         let due : dueAnswer afi earlier c ≡ installed (record { number = DONE; outcome = pick (holds (nlriOf r) (tableRoutes afi earlier)) REPLACED NEW }) =
         due-act (enter r) e ∙ rw (table-book (nlriOf r) mine) in
-        rw (room r e a family most fits) (as-due _ (inserted r (tableRoutes afi earlier)) _ due (next-entered r e a) refl)
-    acted t is family most fits e (leaves {nlri} mine) =
+        rw (room r e a bits most fits) (as-due _ (inserted r (tableRoutes afi earlier)) _ due (next-entered r e a) refl)
+    acted t is bits most fits e (leaves {nlri} mine) =
         tested (holds nlri (tableRoutes afi earlier))
         (λ y.
         let due : dueAnswer afi earlier c ≡ withdrawn DONE = due-act (leave nlri) e ∙ rw (table-book nlri mine, y) in
@@ -194,7 +194,7 @@ module _ (afi places : ℕ) (earlier : List Call) (c : Call) where
         (λ n.
         let due : dueAnswer afi earlier c ≡ withdrawn ABSENT = due-act (leave nlri) e ∙ rw (table-book nlri mine, n) in
         rw n (as-due _ (tableRoutes afi earlier) t due (sym (removed-absent nlri (tableRoutes afi earlier) (absent-holds nlri (tableRoutes afi earlier) n)) ∙ next-left nlri e) is))
-    acted t is family most fits e (asks {q} {output} mine) =
+    acted t is bits most fits e (asks {q} {output} mine) =
         let due : dueAnswer afi earlier c ≡ matched (foundAnswer (matchIn afi q (tableRoutes afi earlier))) (foundOutput (matchIn afi q (tableRoutes afi earlier)) output) =
         due-act (ask q output) e ∙ rw (match-book q mine) in
         as-due _ (tableRoutes afi earlier) t due (next-asked q output e) is
@@ -203,11 +203,11 @@ module _ (afi places : ℕ) (earlier : List Call) (c : Call) where
 pub due-step : (afi places : ℕ) (earlier : List Call) (c : Call) → KnownFamily afi → places ≤ 500 → Fits afi places earlier → Fits afi places (earlier ++ (c ∷ []))
     → stepOf (imageOfBooks afi places earlier) c ≡ dueStep afi places earlier c
 unfolding imageOfBooks onOutcome
-due-step afi places earlier c family most before after =
-    step-on afi places (tableRoutes afi earlier) t (images .imaged afi places (tableRoutes afi earlier) (books-holdable afi places earlier family most before)) c
+due-step afi places earlier c bits most before after =
+    step-on afi places (tableRoutes afi earlier) t (images .imaged afi places (tableRoutes afi earlier) (books-holdable afi places earlier bits most before)) c
     ∙ argued-cases (λ (o : Outcome Act). onOutcome (λ number. record { call = c; answer = refusalAnswer c number; octets = t }) (actStep afi places (tableRoutes afi earlier) t c) o ≡ dueStep afi places earlier c) afi c
     (λ n e. as-due afi places earlier c _ (tableRoutes afi earlier) t (due-refused afi places earlier c n e) (kept-refused afi places earlier c n e) refl)
-    (λ act e k. acted afi places earlier c (k .router) (k .own) t refl family most after e (k .known))
+    (λ act e k. acted afi places earlier c (k .router) (k .own) t refl bits most after e (k .known))
   where
     t : List ℕ
     t = imageOf afi places (tableRoutes afi earlier)

@@ -21,20 +21,20 @@ use Rattle.routes.specs.Arguments.{Query, readFlow}
 use Rattle.routes.specs.Images.{KnownFamily}
 use Rattle.routes.specs.MatchRule.{GoodFlow}
 
-pub class-under : (afi family : ℕ) (g : List ℕ) → familyBits afi ≡ given family → classUnder family g ≡ classOf afi g
+pub class-under : (afi bits : ℕ) (g : List ℕ) → familyBits afi ≡ given bits → classUnder bits g ≡ classOf afi g
 unfolding classOf
-class-under afi family g bits = goes _ _ _ _ bits refl
+class-under afi bits g ofFamily = goes _ _ _ _ ofFamily refl
 
 -- a class is SSM or ASM, or refused with FLOW
-class-given : (family class : ℕ) (g : List ℕ) → classUnder family g ≡ given class → (class ≡ SSM) ⊎ (class ≡ ASM)
+class-given : (bits class : ℕ) (g : List ℕ) → classUnder bits g ≡ given class → (class ≡ SSM) ⊎ (class ≡ ASM)
 unfolding classUnder
-class-given family class g e =
+class-given bits class g e =
     let p = given-unless _ _ _ _ (given-unless _ _ _ _ e .1) in
     ⊎-elim (λ s. inl (sym (given-same (s .1)))) (λ a. inr (sym (given-same (a .1)))) (picked _ _ _ _ (p .1))
 
-class-refused : (family n : ℕ) (g : List ℕ) → classUnder family g ≡ refused n → n ≡ FLOW
+class-refused : (bits n : ℕ) (g : List ℕ) → classUnder bits g ≡ refused n → n ≡ FLOW
 unfolding classUnder
-class-refused family n g e =
+class-refused bits n g e =
     ⊎-elim
     (λ sized. ⊎-elim (λ multi. ⊎-elim (λ s. absurd (never refl (s .1))) (λ a. absurd (never refl (a .1))) (picked _ _ _ _ (multi .1))) (λ other. sym (refused-same {A = ℕ} (other .1))) (picked _ _ _ _ (sized .1)))
     (λ other. sym (refused-same {A = ℕ} (other .1)))
@@ -69,12 +69,12 @@ pub record Asked (afi : ℕ) (router source group : List ℕ) (q : Query) : Type
   pub specific : (q .class ≡ SSM) ↔ SourceSpecific afi group
   pub other : (q .class ≡ ASM) ↔ (SourceSpecific afi group → ⊥)
 
-source-sized : (afi family : ℕ) (source : List ℕ) → familyBits afi ≡ given family → (8 * length source ≡ family) ↔ (((afi ≡ 1) × (length source ≡ 4)) ⊎ ((afi ≡ 2) × (length source ≡ 16)))
-source-sized afi family source bits =
-    ⊎-elim {C = (8 * length source ≡ family) ↔ (((afi ≡ 1) × (length source ≡ 4)) ⊎ ((afi ≡ 2) × (length source ≡ 16)))}
+source-sized : (afi bits : ℕ) (source : List ℕ) → familyBits afi ≡ given bits → (8 * length source ≡ bits) ↔ (((afi ≡ 1) × (length source ≡ 4)) ⊎ ((afi ≡ 2) × (length source ≡ 16)))
+source-sized afi bits source ofFamily =
+    ⊎-elim {C = (8 * length source ≡ bits) ↔ (((afi ≡ 1) × (length source ≡ 4)) ⊎ ((afi ≡ 2) × (length source ≡ 16)))}
     (λ a. (λ h. inl (a .0, omega (arith, a .1)), λ h. ⊎-elim (λ b. omega (arith, a .1, b .1)) (λ b. absurd (omega (arith, a .0, b .0))) h))
     (λ a. (λ h. inr (a .0, omega (arith, a .1)), λ h. ⊎-elim (λ b. absurd (omega (arith, a .0, b .0))) (λ b. omega (arith, a .1, b .1)) h))
-    (lengths .families afi family .0 bits)
+    (lengths .families afi bits .0 ofFamily)
 
 pub flow-asked : (afi : ℕ) (router source group : List ℕ) (q : Query) → readFlow afi router source group ≡ given q → Asked afi router source group q
 unfolding readFlow
@@ -94,11 +94,11 @@ flow-asked afi router source group q e =
       other = k .other;
     })
 
-multicast-classed : (afi family : ℕ) (g : List ℕ) → familyBits afi ≡ given family → Multicast afi g → (class : ℕ) × (classUnder family g ≡ given class)
-multicast-classed afi family g bits m =
+multicast-classed : (afi bits : ℕ) (g : List ℕ) → familyBits afi ≡ given bits → Multicast afi g → (class : ℕ) × (classUnder bits g ≡ given class)
+multicast-classed afi bits g ofFamily m =
     ⊎-elim (λ c. c)
-    (λ n. absurd (groupRule .flow afi g .0 (sym (class-under afi family g bits) ∙ n .1 ∙ ap refused (class-refused family (n .0) g (n .1))) .1 m))
-    (outcome (classUnder family g))
+    (λ n. absurd (groupRule .flow afi g .0 (sym (class-under afi bits g ofFamily) ∙ n .1 ∙ ap refused (class-refused bits (n .0) g (n .1))) .1 m))
+    (outcome (classUnder bits g))
 
 source-family : (afi : ℕ) (source : List ℕ) → ((afi ≡ 1) × (length source ≡ 4)) ⊎ ((afi ≡ 2) × (length source ≡ 16)) → KnownFamily afi
 source-family afi source h = ⊎-elim (λ a. inl (a .0)) (λ a. inr (a .0)) h
@@ -106,19 +106,19 @@ source-family afi source h = ⊎-elim (λ a. inl (a .0)) (λ a. inr (a .0)) h
 pub flow-given : (afi : ℕ) (router source group : List ℕ) → GoodFlow afi router source group → (q : Query) × (readFlow afi router source group ≡ given q)
 unfolding readFlow
 flow-given afi router source group f =
-    let family = family-good afi (source-family afi source (f .sourced)) in
-    let class = multicast-classed afi (family .0) group (family .1) (f .multicast) in (
+    let bits = family-good afi (source-family afi source (f .sourced)) in
+    let class = multicast-classed afi (bits .0) group (bits .1) (f .multicast) in (
       record { router = router; source = source; group = group; class = class .0 },
-      sym (goes _ _ _ _ (family .1) (sym (pick-true _ _ _ (lengths .originators (length router) .1 (f .addressed))
-          ∙ pick-true _ _ _ (eq-eqb _ _ (source-sized afi (family .0) source (family .1) .1 (f .sourced)))
+      sym (goes _ _ _ _ (bits .1) (sym (pick-true _ _ _ (lengths .originators (length router) .1 (f .addressed))
+          ∙ pick-true _ _ _ (eq-eqb _ _ (source-sized afi (bits .0) source (bits .1) .1 (f .sourced)))
           ∙ sym (goes _ _ _ _ (class .1) refl)))),
     )
 
 pub flow-refused : (afi : ℕ) (router source group : List ℕ) (n : ℕ) → KnownFamily afi → readFlow afi router source group ≡ refused n → n ≡ FLOW
 unfolding readFlow
-flow-refused afi router source group n family e =
-    let bits = family-good afi family in
-    ⊎-elim (λ none. absurd (never (bits .1) none))
+flow-refused afi router source group n bits e =
+    let ofFamily = family-good afi bits in
+    ⊎-elim (λ none. absurd (never (ofFamily .1) none))
     (λ l. ⊎-elim
     (λ r. ⊎-elim
     (λ s. ⊎-elim (λ c. class-refused (l .value) n group c) (λ c. absurd (never refl (c .second))) (stopped _ _ _ (s .1)))

@@ -117,11 +117,11 @@ module _ (afi places : ℕ) (rs : List Route) (h : Holdable afi places rs) where
 
 one-image : (t u : List ℕ) → AllOctets t → AllOctets u → soundOf t ≡ true → soundOf u ≡ true → afiIn t ≡ afiIn u → length t ≡ length u
     → ((r : Route) → Among r (routesOf t) ↔ Among r (routesOf u)) → t ≡ u
-one-image t u a b h k family size members =
+one-image t u a b h k bits size members =
     let rs : routesOf t ≡ routesOf u = increasing-members (sound-holdable t h .increasing) (sound-holdable u k .increasing) members in
     let places : placesIn t ≡ placesIn u = omega (arith, sound t h .size .is, sound u k .size .is) in
     sound-image t a h
-    ∙ ap (λ (afi : ℕ). imageOf afi (placesIn t) (routesOf t)) family
+    ∙ ap (λ (afi : ℕ). imageOf afi (placesIn t) (routesOf t)) bits
     ∙ ap₂ (imageOf (afiIn u)) places rs
     ∙ sym (sound-image u b k)
 
@@ -148,7 +148,7 @@ made-image afi memory = go (makeOutcome afi memory) refl
   where
     go : (o : Outcome (List ℕ)) → makeOutcome afi memory ≡ o → numberOf o ≡ DONE → onOutcome (λ number. memory) (λ octets. octets) o ≡ imageOf afi (placesIn memory) []
     go (given octets) e d = make-given afi memory octets e .2
-    go (refused n) e d = absurd (⊎-elim (λ family. omega arith) (λ size. omega arith) (make-refused afi memory n e))
+    go (refused n) e d = absurd (⊎-elim (λ bits. omega arith) (λ size. omega arith) (make-refused afi memory n e))
 
 pub images : Images
 images = record { holdable = sound-holdable; image = sound-image; imaged = image-table; one = one-image; made = made-image }

@@ -140,13 +140,13 @@ module _ (afi : ℕ) (memory : List ℕ) (calls : List Call) (done : makeOf afi 
   kept =
       let end : List ℕ = endOf (makeOf afi memory .octets) calls in
       let size : length end ≡ length memory = next .size ∙ makeRule .size afi memory in
-      let family : afiIn end ≡ afi = next .family ∙ made .family in
+      let bits : afiIn end ≡ afi = next .family ∙ made .family in
       let first = own-image afi (placesIn memory) [] (makeOf afi memory .octets) made (images .made afi memory done) in
       record {
         sound = next .sound;
-        family = family;
+        family = bits;
         size = size;
-        image = next .image first ∙ ap₂ (λ (a p : ℕ). imageOf a p (routesOf end)) family (places-alike end memory size);
+        image = next .image first ∙ ap₂ (λ (a p : ℕ). imageOf a p (routesOf end)) bits (places-alike end memory size);
         lookups = lookups;
         exactly = exactly;
       }

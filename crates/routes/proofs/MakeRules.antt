@@ -39,7 +39,7 @@ holdable-none afi memory f h = record { family = f; most = sound-size memory h .
 module _ (afi : ℕ) (memory : List ℕ) where
   refusal : (n : ℕ) → makeOutcome afi memory ≡ refused n → MakeRefusal afi memory n
   refusal n e =
-      ⊎-elim (λ family. subst (MakeRefusal afi memory) (sym (family .0)) (noFamily (family .1) (family .2)))
+      ⊎-elim (λ bits. subst (MakeRefusal afi memory) (sym (bits .0)) (noFamily (bits .1) (bits .2)))
       (λ size. subst (MakeRefusal afi memory) (sym (size .0)) (badSize (size .1) (λ s. opposite (size-tested (length memory) s) (size .2))))
       (make-refused afi memory n e)
 

@@ -28,12 +28,12 @@ made-books : (afi places : ℕ) → imageOf afi places [] ≡ imageOfBooks afi p
 unfolding imageOfBooks arranged allBooks gathered onceEach routersOf
 made-books afi places = refl
 
-module _ (afi places : ℕ) (family : KnownFamily afi) (most : places ≤ 500) (t : List ℕ) (is : t ≡ imageOfBooks afi places []) where
+module _ (afi places : ℕ) (bits : KnownFamily afi) (most : places ≤ 500) (t : List ℕ) (is : t ≡ imageOfBooks afi places []) where
   runs : (calls : List Call) → Fits afi places calls → runFrom t calls ≡ dueFrom afi places [] calls
-  runs calls fits = ap (λ (x : List ℕ). runFrom x calls) is ∙ run-due afi places family most [] calls fits
+  runs calls fits = ap (λ (x : List ℕ). runFrom x calls) is ∙ run-due afi places bits most [] calls fits
 
   ends : (calls : List Call) → Fits afi places calls → endOf t calls ≡ imageOfBooks afi places calls
-  ends calls fits = ap (λ (x : List ℕ). endOf x calls) is ∙ end-due afi places family most [] calls fits
+  ends calls fits = ap (λ (x : List ℕ). endOf x calls) is ∙ end-due afi places bits most [] calls fits
 
   module _ (calls : List Call) (fits : Fits afi places calls) where
     alone : (router : List ℕ) → Alone afi places t calls router
@@ -47,7 +47,7 @@ module _ (afi places : ℕ) (family : KnownFamily afi) (most : places ≤ 500) (
     of-nobody earlier later c e h =
         let room : Fits afi places (earlier ++ (c ∷ later)) = subst (Fits afi places) e fits in
         let end : endOf t earlier ≡ imageOfBooks afi places earlier = ends earlier (fits-earlier afi places earlier (c ∷ later) room) in
-        let s = next-step afi places family most earlier c later room in
+        let s = next-step afi places bits most earlier c later room in
         let own : (router : List ℕ) → ownCalls afi router (earlier ++ (c ∷ [])) ≡ ownCalls afi router earlier = λ router. own-not afi router earlier c (owned-nobody router (ownerOf afi c) h) in
         record {
           number = nobody-refused afi c h;
@@ -73,7 +73,7 @@ module _ (afi places : ℕ) (family : KnownFamily afi) (most : places ≤ 500) (
         record {
           due = runs calls fits;
           end = ends calls fits;
-          books = book-rule afi calls places family most fits;
+          books = book-rule afi calls places bits most fits;
           alone = alone;
           nobodys = of-nobody;
           anyOrder = any-order;

@@ -27,10 +27,10 @@ fits-earlier afi places xs ys fits = fits-drawn afi places xs (xs ++ ys) (λ c m
 
 -- a run on the image of all books
 
-module _ (afi places : ℕ) (family : KnownFamily afi) (most : places ≤ 500) where
+module _ (afi places : ℕ) (bits : KnownFamily afi) (most : places ≤ 500) where
   pub next-step : (earlier : List Call) (c : Call) (cs : List Call) → Fits afi places (earlier ++ (c ∷ cs)) → stepOf (imageOfBooks afi places earlier) c ≡ dueStep afi places earlier c
   next-step earlier c cs fits =
-      due-step afi places earlier c family most (fits-earlier afi places earlier (c ∷ cs) fits) (fits-earlier afi places (earlier ++ (c ∷ [])) cs (rw append-assoc fits))
+      due-step afi places earlier c bits most (fits-earlier afi places earlier (c ∷ cs) fits) (fits-earlier afi places (earlier ++ (c ∷ [])) cs (rw append-assoc fits))
 
   next-octets : (earlier : List Call) (c : Call) (cs : List Call) → Fits afi places (earlier ++ (c ∷ cs)) → stepOf (imageOfBooks afi places earlier) c .octets ≡ imageOfBooks afi places (earlier ++ (c ∷ []))
   unfolding dueStep

@@ -19,9 +19,9 @@ use Rattle.nlri.proofs.Whole.{laid-out}
 use Rattle.routes.specs.Arguments.{readSPmsi}
 
 -- an address that was read is the encoding of its octets
-address-encoded : (family type n : ℕ) (s : List ℕ) → 8 * (family / 8) ≡ family → addressField family type s ≡ given n → encodeAddress (drop 1 (take n s)) ≡ take n s
+address-encoded : (bits type n : ℕ) (s : List ℕ) → 8 * (bits / 8) ≡ bits → addressField bits type s ≡ given n → encodeAddress (drop 1 (take n s)) ≡ take n s
 unfolding addressField addressEnd encodeAddress
-address-encoded family type n s whole e =
+address-encoded bits type n s whole e =
     let p = given-otherwise _ _ _ _ e in
     let q = given-unless _ _ _ _ (p .1) in
     let r = given-otherwise _ _ _ _ (q .1) in
@@ -30,7 +30,7 @@ address-encoded family type n s whole e =
     let l : length (take n s) ≡ n = length-take-le n s fits in
     let d : length (drop 1 (take n s)) ≡ n - 1 = rw length-drop (omega arith) in
     let first : getD (take n s) 0 0 ≡ getD s 0 0 = getD-take n s 0 0 (omega arith) in
-    let bits : 8 * length (drop 1 (take n s)) ≡ getD (take n s) 0 0 = rw d (omega (arith, whole-octets family type (getD s 0 0) whole (q .0))) in
+    let bits : 8 * length (drop 1 (take n s)) ≡ getD (take n s) 0 0 = rw d (omega (arith, whole-octets bits type (getD s 0 0) whole (q .0))) in
     ap (λ (b : ℕ). b ∷ drop 1 (take n s)) bits ∙ sym (front-rest (take n s) (omega arith))
 
 abbrev row : List FieldKind
@@ -63,9 +63,9 @@ sizes-none P size x sizes e next = let p = given-unless _ _ _ _ e in subst P (gi
 joined : (n : ℕ) (x y z : List ℕ) → y ≡ take n x → z ≡ drop n x → y ++ z ≡ x
 joined n x y z p q = ap₂ (λ (a b : List ℕ). a ++ b) p q ∙ take-append-drop n x
 
-module _ (judge : List ℕ → Outcome ℕ) (family : ℕ) (whole : 8 * (family / 8) ≡ family) where
+module _ (judge : List ℕ → Outcome ℕ) (bits : ℕ) (whole : 8 * (bits / 8) ≡ bits) where
   -- the fields of a type 3 body, cut by their sizes, encode to the body
-  body-encoded : (x sizes : List ℕ) (a b size : ℕ) → sizesOf (fieldSize judge family 3) row x ≡ given sizes → encodeBody (fieldsOf (laidRow size sizes) (a ∷ (b ∷ x))) row ≡ x
+  body-encoded : (x sizes : List ℕ) (a b size : ℕ) → sizesOf (fieldSize judge bits 3) row x ≡ given sizes → encodeBody (fieldsOf (laidRow size sizes) (a ∷ (b ∷ x))) row ≡ x
   unfolding fieldSize fieldsOf cut fieldIn sameKind codeOf pick encodeBody encodeField
   body-encoded x sizes a b size e =
       sizes-first (λ (z : List ℕ). encodeBody (fieldsOf (laidRow size z) (a ∷ (b ∷ x))) row ≡ x) _ _ _ x sizes e
@@ -74,11 +74,11 @@ module _ (judge : List ℕ → Outcome ℕ) (family : ℕ) (whole : 8 * (family 
       (λ g r₃ e₃ l₃. sizes-first (λ (z : List ℕ). encodeBody (fieldsOf (laidRow size (d ∷ (s ∷ (g ∷ z)))) (a ∷ (b ∷ x))) row ≡ x) _ _ _ (drop g (drop s (drop d x))) r₃ l₃
       (λ o r₄ e₄ l₄. sizes-none (λ (z : List ℕ). encodeBody (fieldsOf (laidRow size (d ∷ (s ∷ (g ∷ (o ∷ z))))) (a ∷ (b ∷ x))) row ≡ x) _ (drop o (drop g (drop s (drop d x)))) r₄ l₄
       (λ end. joined d x _ _ refl
-      (joined s (drop d x) _ _ (address-encoded family 3 s (drop d x) whole e₂)
-      (joined g (drop s (drop d x)) _ _ (address-encoded family 3 g (drop s (drop d x)) whole e₃)
+      (joined s (drop d x) _ _ (address-encoded bits 3 s (drop d x) whole e₂)
+      (joined g (drop s (drop d x)) _ _ (address-encoded bits 3 g (drop s (drop d x)) whole e₃)
       (joined o (drop g (drop s (drop d x))) _ _ refl (sym end)))))))))
 
-  row-encoded : (s sizes : List ℕ) (size : ℕ) → getD s 0 0 ≡ 3 → 2 ≤ length s → getD s 1 0 ≡ length s - 2 → sizesOf (fieldSize judge family 3) row (drop 2 s) ≡ given sizes
+  row-encoded : (s sizes : List ℕ) (size : ℕ) → getD s 0 0 ≡ 3 → 2 ≤ length s → getD s 1 0 ≡ length s - 2 → sizesOf (fieldSize judge bits 3) row (drop 2 s) ≡ given sizes
       → s ≡ encodeNlri (fieldsOf (laidRow size sizes) s)
   unfolding fieldsOf
   row-encoded [] sizes size type enough rest e = absurd (omega arith)
@@ -94,18 +94,18 @@ row-same l t b =
     let is : l .body ≡ row = b ∙ ap bodyOf t in
     λ i. record { type = t i; size = l .size; body = is i; sizes = l .sizes }
 
-single-encoded : (family : ℕ) (s : List ℕ) (laid : Laid) → 8 * (family / 8) ≡ family → laidSingle family s ≡ given laid → laid .type ≡ 3 → s ≡ encodeNlri (fieldsOf laid s)
+single-encoded : (bits : ℕ) (s : List ℕ) (laid : Laid) → 8 * (bits / 8) ≡ bits → laidSingle bits s ≡ given laid → laid .type ≡ 3 → s ≡ encodeNlri (fieldsOf laid s)
 unfolding laidSingle laidAt part bodyOf onBody bodies pick
-single-encoded family s laid whole e t =
+single-encoded bits s laid whole e t =
     let p = passed _ _ _ e in
     let q = given-unless _ _ _ _ (p .second) in
     let same : p .value ≡ laid = given-same (q .1) in
     let size : length s - 2 ≡ laid .size = eqb-true _ _ (q .0) ∙ ap (λ (x : Laid). x .size) same in
-    let o = laid-out (keyField family) family s laid (p .first ∙ ap given same) in
+    let o = laid-out (keyField bits) bits s laid (p .first ∙ ap given same) in
     let rest : part s 2 (laid .size) ≡ drop 2 s = take-all (laid .size) (drop 2 s) (rw length-drop (omega arith)) in
-    let sizes : sizesOf (fieldSize (keyField family) family 3) row (drop 2 s) ≡ given (laid .sizes) =
-    ap₂ (λ (k : ℕ) (x : List ℕ). sizesOf (fieldSize (keyField family) family k) (bodyOf k) x) (sym t) (sym rest) ∙ o .sizes in
-    row-encoded (keyField family) family whole s (laid .sizes) (laid .size) (sym (o .typed) ∙ t) (o .enough) (omega (arith, o .sized)) sizes
+    let sizes : sizesOf (fieldSize (keyField bits) bits 3) row (drop 2 s) ≡ given (laid .sizes) =
+    ap₂ (λ (k : ℕ) (x : List ℕ). sizesOf (fieldSize (keyField bits) bits k) (bodyOf k) x) (sym t) (sym rest) ∙ o .sizes in
+    row-encoded (keyField bits) bits whole s (laid .sizes) (laid .size) (sym (o .typed) ∙ t) (o .enough) (omega (arith, o .sized)) sizes
     ∙ ap (λ (l : Laid). encodeNlri (fieldsOf l s)) (sym (row-same laid t (o .body)))
 
 -- what a well-formed S-PMSI NLRI is read as encodes to it

@@ -5,7 +5,7 @@ use lib.ListN.{length}
 use lib.Dec.{ltb, eqb}
 use Rattle.octets.specs.Numbers.{LABEL, KIND, FLOW, SPACE}
 use Rattle.octets.specs.Choice.{pick, both}
-use Rattle.octets.specs.Outcome.{Outcome, given, refused, andThen}
+use Rattle.octets.specs.Outcome.{Outcome, given, refused, unless, andThen}
 use Rattle.nlri.specs.Family.{familyBits, isOriginatorSize}
 use Rattle.nlri.specs.Fields.{Fields}
 use Rattle.nlri.specs.Reading.{readNlri}
@@ -16,7 +16,7 @@ use Rattle.routes.specs.Route.{Route, route}
 
 -- "A well-formed S-PMSI NLRI": octets that NLRI reading under the table's AFI accepts, with none after it, of type 3; else KIND
 unfoldable pub readSPmsi : ℕ → List ℕ → Outcome Fields
-readSPmsi afi nlri = andThen (readNlri afi nlri) (λ f. pick (eqb (f .type) 3) (given f) (refused KIND))
+readSPmsi afi nlri = andThen (readNlri afi nlri) (λ f. unless (eqb (f .type) 3) KIND (given f))
 
 -- an attribute that install takes: attribute reading, then LABEL for BIER with label 0
 unfoldable pub readLabelled : List ℕ → Outcome AttributeFields
@@ -36,12 +36,11 @@ pub record Query : Type 0 where
 -- FLOW: a router address not of 4 or 16 octets, a source or group not of the family's size, a group not multicast
 unfoldable pub readFlow : (afi : ℕ) (router source group : List ℕ) → Outcome Query
 readFlow afi router source group =
-    andThen (familyBits afi) (λ family.
-    pick (isOriginatorSize (length router))
-    (pick (eqb (8 * length source) family)
-    (andThen (classUnder family group) (λ class. given (record { router = router; source = source; group = group; class = class })))
-    (refused FLOW))
-    (refused FLOW))
+    andThen (familyBits afi) (λ bits.
+    unless (isOriginatorSize (length router)) FLOW
+    (unless (eqb (8 * length source) bits) FLOW
+    (andThen (classUnder bits group)
+    (λ class. given (record { router = router; source = source; group = group; class = class })))))
 
 -- match: FLOW, then SPACE for an output under 124 octets
 unfoldable pub readMatch : (afi : ℕ) (router source group output : List ℕ) → Outcome Query

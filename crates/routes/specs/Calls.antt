@@ -6,7 +6,7 @@ use lib.ListN.{length}
 use lib.Dec.{ltb}
 use Rattle.octets.specs.Numbers.{DONE, TABLE, ROOM, ABSENT}
 use Rattle.octets.specs.Choice.{pick}
-use Rattle.octets.specs.Outcome.{Outcome, given, refused, onOutcome, andThen, numberOf}
+use Rattle.octets.specs.Outcome.{Outcome, given, refused, onOutcome, unless, andThen, numberOf}
 use Rattle.octets.specs.Octets.{front}
 use Rattle.nlri.specs.Family.{familyBits}
 use Rattle.routes.specs.declared.Installed.{Installed}
@@ -31,7 +31,7 @@ REPLACED = 2
 
 -- making a table: FAMILY, TABLE; then every octet is written
 unfoldable pub makeOutcome : ℕ → List ℕ → Outcome (List ℕ)
-makeOutcome afi memory = andThen (familyBits afi) (λ family. pick (tableSize (length memory)) (given (imageOf afi (placesIn memory) [])) (refused TABLE))
+makeOutcome afi memory = andThen (familyBits afi) (λ bits. unless (tableSize (length memory)) TABLE (given (imageOf afi (placesIn memory) [])))
 
 -- the number, and the memory afterwards
 unfoldable pub makeOf : ℕ → List ℕ → Changed ℕ
@@ -47,7 +47,7 @@ entering places rs r = pick (holds (nlriOf r) rs) (given REPLACED) (pick (ltb (l
 
 -- install: TABLE, then its arguments, then ROOM
 unfoldable pub installOutcome : (table nlri attribute : List ℕ) → Outcome ℕ
-installOutcome t nlri attribute = pick (soundOf t) (andThen (readRoute (afiIn t) nlri attribute) (λ r. entering (placesIn t) (routesOf t) r)) (refused TABLE)
+installOutcome t nlri attribute = unless (soundOf t) TABLE (andThen (readRoute (afiIn t) nlri attribute) (λ r. entering (placesIn t) (routesOf t) r))
 
 -- the answer, and the table afterwards: the image of its routes with this one
 unfoldable pub installOf : (table nlri attribute : List ℕ) → Changed Installed
@@ -59,11 +59,11 @@ installOf t nlri attribute =
 
 -- an NLRI that is held, or ABSENT
 unfoldable pub leaving : List Route → List ℕ → Outcome (List ℕ)
-leaving rs nlri = pick (holds nlri rs) (given nlri) (refused ABSENT)
+leaving rs nlri = unless (holds nlri rs) ABSENT (given nlri)
 
 -- withdraw: TABLE, then its argument, then ABSENT
 unfoldable pub withdrawOutcome : (table nlri : List ℕ) → Outcome (List ℕ)
-withdrawOutcome t nlri = pick (soundOf t) (andThen (readSPmsi (afiIn t) nlri) (λ f. leaving (routesOf t) nlri)) (refused TABLE)
+withdrawOutcome t nlri = unless (soundOf t) TABLE (andThen (readSPmsi (afiIn t) nlri) (λ f. leaving (routesOf t) nlri))
 
 -- the number, and the table afterwards: the image of its routes without this one
 unfoldable pub withdrawOf : (table nlri : List ℕ) → Changed ℕ
@@ -95,7 +95,7 @@ matchedBy outcome output =
 -- match: TABLE, then its arguments
 unfoldable pub matchOutcome : (table router source group output : List ℕ) → Outcome Found
 matchOutcome t router source group output =
-    pick (soundOf t) (andThen (readMatch (afiIn t) router source group output) (λ q. given (matchIn (afiIn t) q (routesOf t)))) (refused TABLE)
+    unless (soundOf t) TABLE (andThen (readMatch (afiIn t) router source group output) (λ q. given (matchIn (afiIn t) q (routesOf t))))
 
 -- the answer, and the output afterwards
 unfoldable pub matchOf : (table router source group output : List ℕ) → Changed Matched

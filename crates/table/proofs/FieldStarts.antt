@@ -27,22 +27,22 @@ use Rattle.routes.specs.Arguments.{readSPmsi}
 use Rattle.table.specs.Scanning.{sourceSize, groupSize, originatorStart, standing, Bounded}
 
 -- an address by its length octet
-address-is : (family type : ℕ) (s : List ℕ) (n : ℕ) → addressField family type s ≡ given n → n ≡ 1 + getD s 0 0 / 8
+address-is : (bits type : ℕ) (s : List ℕ) (n : ℕ) → addressField bits type s ≡ given n → n ≡ 1 + getD s 0 0 / 8
 unfolding addressField addressEnd
-address-is family type s n e = sym (given-same (given-otherwise _ _ _ _ (given-unless _ _ _ _ (given-otherwise _ _ _ _ e .1) .1) .1))
+address-is bits type s n e = sym (given-same (given-otherwise _ _ _ _ (given-unless _ _ _ _ (given-otherwise _ _ _ _ e .1) .1) .1))
 
 -- a source and a group, one straight after the other, by their length octets
-flow-is : (family type : ℕ) (s : List ℕ) (a b : ℕ) → flowSizes family type s ≡ given (a, b) → (a ≡ 1 + getD s 0 0 / 8) × (b ≡ 1 + getD s a 0 / 8)
+flow-is : (bits type : ℕ) (s : List ℕ) (a b : ℕ) → flowSizes bits type s ≡ given (a, b) → (a ≡ 1 + getD s 0 0 / 8) × (b ≡ 1 + getD s a 0 / 8)
 unfolding flowSizes withGroup
-flow-is family type s a b e =
+flow-is bits type s a b e =
     let p = passed _ _ _ e in
     let q = passed _ _ _ (p .second) in
     let same = given-same (q .second) in
     let ea : p .value ≡ a = ap (λ (x : ℕ × ℕ). x .0) same in
     let eb : q .value ≡ b = ap (λ (x : ℕ × ℕ). x .1) same in
     let sum : p .value + 0 ≡ a = omega arith in (
-      sym ea ∙ address-is family type s (p .value) (p .first),
-      sym eb ∙ address-is family type (drop (p .value) s) (q .value) (q .first)
+      sym ea ∙ address-is bits type s (p .value) (p .first),
+      sym eb ∙ address-is bits type (drop (p .value) s) (q .value) (q .first)
           ∙ ap (λ (n : ℕ). 1 + n / 8) (getD-drop (p .value) s 0 0 ∙ ap (λ (n : ℕ). getD s n 0) sum),
     )
 
@@ -61,14 +61,14 @@ record FlowLaid (body : List ℕ) (l : Layout) : Type 0 where
   within : 8 + source + group + 4 ≤ length body
   layout : layoutWith 3 (length body) (source - 1) (group - 1) (length body - 8 - source - group) 0 ≡ l
 
-body-laid : (family : ℕ) (body : List ℕ) (l : Layout) → flowRoute family 3 8 body ≡ given l → FlowLaid body l
+body-laid : (bits : ℕ) (body : List ℕ) (l : Layout) → flowRoute bits 3 8 body ≡ given l → FlowLaid body l
 unfolding flowRoute
-body-laid family body l e =
+body-laid bits body l e =
     let p = given-otherwise _ _ _ _ e in
     let q = passed _ _ _ (p .1) in
     let a : ℕ = q .value .0 in
     let b : ℕ = q .value .1 in
-    let i = flow-is family 3 (drop 8 body) a b (q .first) in
+    let i = flow-is bits 3 (drop 8 body) a b (q .first) in
     let last = end-is _ a b _ l (q .second) in
     record {
       source = a;
@@ -81,8 +81,8 @@ body-laid family body l e =
 
 -- a single NLRI's layout is that at its front, which is all of it
 record WholeFront (s : List ℕ) (l : Layout) : Type 0 where
-  family : ℕ
-  front : anyFront family s ≡ given l
+  bits : ℕ
+  front : anyFront bits s ≡ given l
   typed : l .«route_type» ≡ getD s 0 0
   long : 2 ≤ length s
   all : length s - 2 ≡ getD s 1 0
@@ -91,24 +91,24 @@ front-whole : (afi : ℕ) (s : List ℕ) (l : Layout) → layoutSingle afi s ≡
 unfolding layoutSingle laidSingle laidAt layoutAt layoutOf
 front-whole afi s l e =
     let f = passed _ _ _ e in
-    let family : ℕ = f .value in
+    let bits : ℕ = f .value in
     let w = passed _ _ _ (f .second) in
     let a = passed _ _ _ (w .first) in
     let o = given-unless _ _ _ _ (a .second) in
     let same : a .value ≡ w .value = given-same (o .1) in
     let at : layoutOf (a .value) ≡ l = ap layoutOf same ∙ given-same (w .second) in
-    let facts = laid-within (keyField family) family s (a .value) (a .first) in
+    let facts = laid-within (keyField bits) bits s (a .value) (a .first) in
     record {
-      family = family;
-      front = front-is (anyFront family s) family s refl ∙ sym (goes (given l) _ (a .value) _ (a .first) (ap given (sym at)));
+      bits = bits;
+      front = front-is (anyFront bits s) bits s refl ∙ sym (goes (given l) _ (a .value) _ (a .first) (ap given (sym at)));
       typed = ap (λ (x : Layout). x .«route_type») (sym at) ∙ facts .2;
       long = facts .0;
       all = eqb-true _ _ (o .0) ∙ facts .3;
     }
 
-third-row : (family : ℕ) (body : List ℕ) → anyBody family 3 body ≡ flowRoute family 3 8 body
+third-row : (bits : ℕ) (body : List ℕ) → anyBody bits 3 body ≡ flowRoute bits 3 8 body
 unfolding anyBody bodyWith pick
-third-row family body = refl
+third-row bits body = refl
 
 rest-part : (s : List ℕ) → part s 2 (length s - 2) ≡ drop 2 s
 unfolding part
@@ -123,7 +123,7 @@ body-of s l t w =
     let type : p .value .0 ≡ 3 = ap (λ (x : ℕ × ℕ). x .0) (sym h) ∙ sym (w .typed) ∙ t in
     let size : p .value .1 ≡ length s - 2 = ap (λ (x : ℕ × ℕ). x .1) (sym h) ∙ sym (w .all) in
     let rest : part s 2 (p .value .1) ≡ drop 2 s = ap (part s 2) size ∙ rest-part s in
-    body-laid (w .family) (drop 2 s) l (sym (third-row (w .family) (drop 2 s)) ∙ ap₂ (λ (k : ℕ) (x : List ℕ). anyBody (w .family) k x) (sym type) (sym rest) ∙ p .second)
+    body-laid (w .bits) (drop 2 s) l (sym (third-row (w .bits) (drop 2 s)) ∙ ap₂ (λ (k : ℕ) (x : List ℕ). anyBody (w .bits) k x) (sym type) (sym rest) ∙ p .second)
 
 left : (n m a b k : ℕ) → m ≡ n - 2 → k ≡ 10 + a + b → n - k ≡ m - 8 - a - b
 left n m a b k p q = omega arith

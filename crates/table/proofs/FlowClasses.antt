@@ -25,39 +25,39 @@ use Rattle.routes.proofs.Flows.{class-under, flow-asked, flow-refused}
 use Rattle.table.specs.Scanning.{queryOf, flowClass}
 
 -- a group of another size than the family's
-unsized : (family : ℕ) (g : List ℕ) → (length g ≡ family / 8 → ⊥) → classUnder family g ≡ refused FLOW
+unsized : (bits : ℕ) (g : List ℕ) → (length g ≡ bits / 8 → ⊥) → classUnder bits g ≡ refused FLOW
 unfolding classUnder
-unsized family g h = pick-false _ _ _ (ne-eqb _ _ h)
+unsized bits g h = pick-false _ _ _ (ne-eqb _ _ h)
 
 -- source and group of the family's size: one of it, and the other of the same
-module _ (family : ℕ) (whole : 8 * (family / 8) ≡ family) (source group : List ℕ) (next : ℕ → Outcome Query) where
-  sized-alike : pick (eqb (8 * length source) family) (andThen (classUnder family group) next) (refused FLOW)
-      ≡ pick (eqb (length source) (length group)) (andThen (classUnder family group) next) (refused FLOW)
+module _ (bits : ℕ) (whole : 8 * (bits / 8) ≡ bits) (source group : List ℕ) (next : ℕ → Outcome Query) where
+  sized-alike : pick (eqb (8 * length source) bits) (andThen (classUnder bits group) next) (refused FLOW)
+      ≡ pick (eqb (length source) (length group)) (andThen (classUnder bits group) next) (refused FLOW)
   sized-alike =
       tested (eqb (length source) (length group))
       (λ alike.
       let e : length source ≡ length group = eqb-true _ _ alike in
-      tested (eqb (8 * length source) family) (λ s. pick-true _ _ _ s ∙ sym (pick-true _ _ _ alike))
+      tested (eqb (8 * length source) bits) (λ s. pick-true _ _ _ s ∙ sym (pick-true _ _ _ alike))
       (λ s.
-      let other : 8 * length source ≡ family → ⊥ = eqb-false _ _ s in
-      pick-false _ _ _ s ∙ sym (pick-true _ _ _ alike ∙ sym (stops _ _ next (unsized family group (λ g. other (omega arith)))))))
+      let other : 8 * length source ≡ bits → ⊥ = eqb-false _ _ s in
+      pick-false _ _ _ s ∙ sym (pick-true _ _ _ alike ∙ sym (stops _ _ next (unsized bits group (λ g. other (omega arith)))))))
       (λ unlike.
       let other : length source ≡ length group → ⊥ = eqb-false _ _ unlike in
-      tested (eqb (8 * length source) family)
+      tested (eqb (8 * length source) bits)
       (λ s.
-      let e : 8 * length source ≡ family = eqb-true _ _ s in
-      pick-true _ _ _ s ∙ sym (stops _ _ next (unsized family group (λ g. other (omega arith)))) ∙ sym (pick-false _ _ _ unlike))
+      let e : 8 * length source ≡ bits = eqb-true _ _ s in
+      pick-true _ _ _ s ∙ sym (stops _ _ next (unsized bits group (λ g. other (omega arith)))) ∙ sym (pick-false _ _ _ unlike))
       (λ s. pick-false _ _ _ s ∙ sym (pick-false _ _ _ unlike)))
 
 module _ (afi : ℕ) (router source group : List ℕ) (good : KnownFamily afi) where
   by-class : readFlow afi router source group ≡ andThen (flowClass afi router source group) (λ class. given (queryOf router source group class))
   unfolding readFlow flowClass queryOf
   by-class =
-      let family = family-good afi good in
+      let bits = family-good afi good in
       let next : ℕ → Outcome Query = λ class. given (record { router = router; source = source; group = group; class = class }) in
-      sym (goes _ _ _ _ (family .1) (sym
-      (ap (λ (o : Outcome Query). pick (isOriginatorSize (length router)) o (refused FLOW)) (sized-alike (family .0) (family-octets afi (family .0) (family .1) .0) source group next)
-      ∙ sym (rw (and-pick, and-pick, and-refused, ← class-under afi (family .0) group (family .1))))))
+      sym (goes _ _ _ _ (bits .1) (sym
+      (ap (λ (o : Outcome Query). pick (isOriginatorSize (length router)) o (refused FLOW)) (sized-alike (bits .0) (family-octets afi (bits .0) (bits .1) .0) source group next)
+      ∙ sym (rw (and-pick, and-pick, and-refused, ← class-under afi (bits .0) group (bits .1))))))
 
   -- what the function that judges a flow answers: the class, with DONE, or the number of the refusal
   module _ (class : Group) (is : class ≡ groupOf (flowClass afi router source group)) where

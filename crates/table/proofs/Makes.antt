@@ -31,7 +31,7 @@ cleared-room memory flag x s h e =
 
 -- a family, by the test of it
 module _ (afi : ℕ) (flag : Bool) (e : flag ≡ either (eqb afi 1) (eqb afi 2)) where
-  known : flag ≡ true → (family : ℕ) × (familyBits afi ≡ given family)
+  known : flag ≡ true → (bits : ℕ) × (familyBits afi ≡ given bits)
   known h =
       ⊎-elim (λ one. (32, lengths .families afi 32 .1 (inl (eqb-true afi 1 one, refl)))) (λ two. (128, lengths .families afi 128 .1 (inr (eqb-true afi 2 two, refl))))
       (either-true _ _ (sym e ∙ h))
@@ -48,11 +48,11 @@ module _ (afi : ℕ) (flag : Bool) (e : flag ≡ either (eqb afi 1) (eqb afi 2))
     unfolding makeOf makeOutcome numberOf onOutcome andThen
     no-family h = let q : familyBits afi ≡ refused FAMILY = unknown h in (rw q, rw q)
 
-    module _ (family : flag ≡ true) (size : Bool) (s : size ≡ tableSize (length memory)) where
+    module _ (bits : flag ≡ true) (size : Bool) (s : size ≡ tableSize (length memory)) where
       pub no-table : size ≡ false → (TABLE ≡ makeOf afi memory .answer) × (memory ≡ makeOf afi memory .octets)
       unfolding makeOf makeOutcome numberOf onOutcome andThen pick
       no-table h =
-          let f = known family in
+          let f = known bits in
           let q : familyBits afi ≡ given (f .0) = f .1 in
           let z : tableSize (length memory) ≡ false = sym s ∙ h in
           (rw (q, z), rw (q, z))
@@ -72,7 +72,7 @@ module _ (afi : ℕ) (flag : Bool) (e : flag ≡ either (eqb afi 1) (eqb afi 2))
           → (DONE ≡ makeOf afi memory .answer) × (y ≡ makeOf afi memory .octets)
       unfolding makeOf makeOutcome numberOf onOutcome andThen pick
       table-made h x y p q =
-          let f = known family in
+          let f = known bits in
           let b : familyBits afi ≡ given (f .0) = f .1 in
           let z : tableSize (length memory) ≡ true = sym s ∙ h in
           (rw (b, z), rw (b, z) (image h x y p q))

@@ -69,12 +69,12 @@ module _ (t router source group output : List ℕ) (answer : Matched) where
           (judged ∙ sym (goes _ _ _ _ (sym (goes _ _ _ _ taken (skips _ _ _ _ (le-ltb _ _ h) refl))) refl)) a l
 
 -- the branches of a match of a sound table, by what judging its flow answered
-module _ (t router source group : List ℕ) (is : soundOf t ≡ true) (afi : ℕ) (class : Group) (family : afi ≡ afiIn t) (judges : class ≡ groupOf (flowClass afi router source group)) where
+module _ (t router source group : List ℕ) (is : soundOf t ≡ true) (afi : ℕ) (class : Group) (bits : afi ≡ afiIn t) (judges : class ≡ groupOf (flowClass afi router source group)) where
   good : KnownFamily (afiIn t)
   good = sound-family t (sound t is .header)
 
   judges-its : class ≡ groupOf (flowClass (afiIn t) router source group)
-  judges-its = judges ∙ ap (λ (a : ℕ). groupOf (flowClass a router source group)) family
+  judges-its = judges ∙ ap (λ (a : ℕ). groupOf (flowClass a router source group)) bits
 
   pub some-flow : class .number ≡ 0 → (0 < length source) × (0 < length group) × (4 ≤ length router)
   some-flow done = flow-some (afiIn t) router source group good class judges-its done

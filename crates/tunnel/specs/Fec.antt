@@ -6,7 +6,7 @@ use lib.Dec.{ltb, eqb}
 use lib.ListN.{length, getD, take, drop}
 use Rattle.octets.specs.Choice.{pick}
 use Rattle.octets.specs.Numbers.{IDENT}
-use Rattle.octets.specs.Outcome.{Outcome, given, refused}
+use Rattle.octets.specs.Outcome.{Outcome, given, refused, unless}
 use Rattle.octets.specs.Octets.{AllOctets, part, numberIn, bigEndian}
 
 -- the fields of a FEC
@@ -57,4 +57,4 @@ fecIn i =
 
 -- a FEC read; its every fault is IDENT
 unfoldable pub readFec : List ℕ → Outcome FecFields
-readFec i = pick (wholeFec i) (given (fecIn i)) (refused IDENT)
+readFec i = unless (wholeFec i) IDENT (given (fecIn i))

@@ -8,7 +8,7 @@ use lib.ListN.{length, getD}
 use Rattle.octets.specs.Choice.{pick, both, either}
 use Rattle.octets.specs.Lists.{Among}
 use Rattle.octets.specs.Numbers.{TUNNEL, IDENT}
-use Rattle.octets.specs.Outcome.{Outcome, given, refused, andThen}
+use Rattle.octets.specs.Outcome.{Outcome, given, refused, unless, andThen}
 use Rattle.tunnel.specs.Fec.{FecFields, WellFormedFec, encodeFec, wholeFec}
 
 -- a form of identifiers: of one of these sizes; or a FEC whose first octet is one of these
@@ -70,4 +70,4 @@ isIdentifier (fecTypes ns) i = both (wholeFec i) (oneOf (getD i 0 0) ns)
 
 -- an identifier judged by its tunnel type: TUNNEL, IDENT, or the identifier itself
 unfoldable pub readIdentifier : ℕ → List ℕ → Outcome (List ℕ)
-readIdentifier t i = andThen (formOf t) (λ form. pick (isIdentifier form i) (given i) (refused IDENT))
+readIdentifier t i = andThen (formOf t) (λ form. unless (isIdentifier form i) IDENT (given i))

@@ -14,10 +14,10 @@ use Rattle.nlri.proofs.run.walk.Statement.{statement}
 use Rattle.nlri.proofs.run.walk.Tie as tie
 
 abbrev Inv-loop : tie.InvT-loop
-Inv-loop afi run family at₀ count₀ at count = Going afi run at count
+Inv-loop afi run bits at₀ count₀ at count = Going afi run at count
 
 abbrev μ-loop : tie.MeasureT-loop
-μ-loop afi run family at₀ count₀ at count = length run - at
+μ-loop afi run bits at₀ count₀ at count = length run - at
 
 family-bits-requires : tie.Need-family-bits-requires Inv-loop μ-loop
 family-bits-requires c κs = search needs
