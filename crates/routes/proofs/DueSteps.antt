@@ -19,7 +19,8 @@ use Rattle.routes.specs.Table.{imageOf}
 use Rattle.routes.specs.Place.{acceptable}
 use Rattle.routes.specs.Images.{KnownFamily, TableOf}
 use Rattle.routes.specs.Matching.{matchIn}
-use Rattle.routes.specs.Calls.{NEW, REPLACED, installedOf, entering, installOutcome, installOf, leaving, withdrawOutcome, withdrawOf, matchedBy, matchOutcome, matchOf, foundAnswer, foundOutput}
+use Rattle.routes.specs.Answers.{NEW, REPLACED, installedOf, matchedBy, foundAnswer, foundOutput}
+use Rattle.routes.specs.Calls.{entering, installOutcome, installOf, leaving, withdrawOutcome, withdrawOf, matchOutcome, matchOf}
 use Rattle.routes.specs.Call.{Call, install, withdraw, match, Answer, installed, withdrawn, matched, Owner, nobody, owner, originatorOf, ownerOf, Act, enter, leave, ask, argued, refusalOf, refusalAnswer}
 use Rattle.routes.specs.Book.{bookOf, actAnswer, bookAnswer, allBooks, dueBy, dueAnswer}
 use Rattle.routes.specs.Run.{Step, stepOf, imageOfBooks, dueStep, Fits}

@@ -19,7 +19,8 @@ use Rattle.routes.specs.declared.Installed.{Installed}
 use Rattle.routes.specs.Route.{Route, route, nlriOf, attributeOf, lookup, inserted}
 use Rattle.routes.specs.Arguments.{readRoute}
 use Rattle.routes.specs.Table.{imageOf, afiIn, placesIn, routesOf, soundOf}
-use Rattle.routes.specs.Calls.{NEW, REPLACED, installedOf, entering, installOutcome, installOf}
+use Rattle.routes.specs.Answers.{NEW, REPLACED, installedOf}
+use Rattle.routes.specs.Calls.{entering, installOutcome, installOf}
 use Rattle.routes.specs.Images.{Holdable, TableOf}
 use Rattle.routes.specs.CallRules.{InstallRefusal, installUnsound, badRoute, noRoom, Installable, IsHeld, Free, Full, InstallRule}
 use Rattle.routes.proofs.AnswerNumbers.{refused-number, given-number, done-given}

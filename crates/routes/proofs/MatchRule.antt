@@ -24,7 +24,8 @@ use Rattle.routes.specs.Arguments.{Query, readFlow, readMatch}
 use Rattle.routes.specs.Table.{afiIn, placesIn, routesOf, soundOf}
 use Rattle.routes.specs.Images.{Holdable}
 use Rattle.routes.specs.Matching.{Found, nothing, found, matchIn}
-use Rattle.routes.specs.Calls.{Changed, foundAnswer, refusedMatch, foundOutput, matchedBy, matchOutcome, matchOf}
+use Rattle.routes.specs.Answers.{Changed, foundAnswer, refusedMatch, foundOutput, matchedBy}
+use Rattle.routes.specs.Calls.{matchOutcome, matchOf}
 use Rattle.routes.specs.MatchRule.{GoodFlow, Taken, NoneTaken, Told, Untold, MatchRule}
 use Rattle.routes.proofs.Lookups.{acceptable-member, increasing-distinct}
 use Rattle.routes.proofs.Bounds.{Sized, sizes-of}

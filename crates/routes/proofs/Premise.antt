@@ -17,7 +17,8 @@ use Rattle.routes.specs.Route.{nlriOf, attributeOf, lookup, isHeld, hold
 use Rattle.routes.specs.Arguments.{readSPmsi, readLabelled, readRoute}
 use Rattle.routes.specs.Place.{placeOf, endIn, routeIn, acceptable, placeSound}
 use Rattle.routes.specs.Table.{headerStart, headerOf, placesOf, imageOf, afiIn, countIn, placesIn, routesFrom, routesOf, tableSize, headerSound, placesSound, soundOf}
-use Rattle.routes.specs.Calls.{makeOutcome, makeOf, installedOf, entering, installOutcome, installOf}
+use Rattle.routes.specs.Answers.{installedOf}
+use Rattle.routes.specs.Calls.{makeOutcome, makeOf, entering, installOutcome, installOf}
 use Rattle.routes.specs.Call.{Answer, installed, withdrawn, matched, originatorOf, ownerOf, ownedBy, argued}
 use Rattle.routes.specs.Book.{entered, actAnswer, actAfter, bookAnswer, bookAfter, fed, bookOf, isAmong, onceEach, dueBy, dueAnswer}
 use Rattle.routes.specs.Run.{Step, stepOf, runFrom, dueStep, dueFrom, namedIn, namedBy}

@@ -10,7 +10,7 @@ use Rattle.octets.specs.Order.{same}
 use Rattle.octets.specs.Lists.{chosen}
 use Rattle.routes.specs.Route.{Route, nlriOf, holds, removed}
 use Rattle.routes.specs.Matching.{matchIn}
-use Rattle.routes.specs.Calls.{NEW, REPLACED, foundAnswer, foundOutput}
+use Rattle.routes.specs.Answers.{NEW, REPLACED, foundAnswer, foundOutput}
 use Rattle.routes.specs.Call.{Call, Answer, installed, withdrawn, matched, Owner, nobody, owner, ownerOf, owns, isNobody, Act, enter, leave, ask, argued, refusalOf, refusalAnswer}
 
 -- a book with an NLRI given this attribute

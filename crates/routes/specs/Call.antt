@@ -11,7 +11,7 @@ use Rattle.routes.specs.declared.Installed.{Installed}
 use Rattle.routes.specs.declared.Matched.{Matched}
 use Rattle.routes.specs.Route.{Route}
 use Rattle.routes.specs.Arguments.{Query, readSPmsi, readRoute, readMatch}
-use Rattle.routes.specs.Calls.{installedOf, refusedMatch}
+use Rattle.routes.specs.Answers.{installedOf, refusedMatch}
 
 -- a call with every argument whole; a match with what its output holds beforehand
 pub data Call : Type 0 where

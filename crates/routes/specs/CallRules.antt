@@ -15,7 +15,8 @@ use Rattle.tunnel.specs.Attribute.{AttributeFields}
 use Rattle.routes.specs.Route.{route, absent, held, lookup, inserted, removed}
 use Rattle.routes.specs.Arguments.{readSPmsi, readRoute}
 use Rattle.routes.specs.Table.{afiIn, placesIn, routesOf, soundOf}
-use Rattle.routes.specs.Calls.{NEW, REPLACED, makeOf, installOf, withdrawOf}
+use Rattle.routes.specs.Answers.{NEW, REPLACED}
+use Rattle.routes.specs.Calls.{makeOf, installOf, withdrawOf}
 use Rattle.routes.specs.Images.{KnownFamily, TableOf}
 
 -- a well-formed S-PMSI NLRI: NLRI reading accepts it with no octets after it, and it is of type 3

@@ -6,6 +6,7 @@ pub mod Place
 pub mod Table
 pub mod Matching
 pub mod OnePass
+pub mod Answers
 pub mod Calls
 pub mod Call
 pub mod Book

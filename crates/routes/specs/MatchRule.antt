@@ -17,7 +17,8 @@ use Rattle.routes.specs.Route.{Route, nlriOf, attributeOf, Distinct}
 use Rattle.routes.specs.Arguments.{Query, readSPmsi, readFlow}
 use Rattle.routes.specs.Table.{afiIn, routesOf, soundOf}
 use Rattle.routes.specs.Matching.{nothing, found, matchIn}
-use Rattle.routes.specs.Calls.{Changed, matchOf}
+use Rattle.routes.specs.Answers.{Changed}
+use Rattle.routes.specs.Calls.{matchOf}
 
 -- a flow that a match takes: a router address of 4 or 16 octets, a source of the family's size, a multicast group of that size
 pub record GoodFlow (afi : ℕ) (router source group : List ℕ) : Type 0 where

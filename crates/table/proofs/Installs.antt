@@ -15,7 +15,8 @@ use Rattle.routes.specs.Route.{route, nlriOf, attributeOf, inserted}
 use Rattle.routes.specs.Arguments.{readRoute}
 use Rattle.routes.specs.Place.{placeOf}
 use Rattle.routes.specs.Table.{afiIn, countIn, placesIn, routesOf, imageOf, soundOf}
-use Rattle.routes.specs.Calls.{NEW, REPLACED, installedOf, entering, installOutcome, installOf}
+use Rattle.routes.specs.Answers.{NEW, REPLACED, installedOf}
+use Rattle.routes.specs.Calls.{entering, installOutcome, installOf}
 use Rattle.routes.proofs.Bounds.{read-acceptable, sizes-of}
 use Rattle.routes.proofs.Images.{routes-length, sound-holdable, sound-image}
 use Rattle.routes.proofs.Places.{place-length}
