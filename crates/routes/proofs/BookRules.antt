@@ -16,8 +16,8 @@ use Rattle.nlri.specs.Fields.{Fields}
 use Rattle.octets.specs.Lists.{Among}
 use Rattle.routes.specs.Route.{Route, nlriOf, attributeOf, held, lookup, arranged}
 use Rattle.routes.specs.Arguments.{readSPmsi}
-use Rattle.routes.specs.Images.{KnownFamily}
-use Rattle.routes.specs.CallRules.{SPmsi}
+use Rattle.routes.specs.ArgumentRules.{KnownFamily}
+use Rattle.routes.specs.ArgumentRules.{SPmsi}
 use Rattle.routes.specs.Call.{Call, match, Owner, nobody, owner, originatorOf, ownerOf, ownedBy}
 use Rattle.routes.specs.Book.{bookOf, allBooks}
 use Rattle.routes.specs.Run.{Fits}

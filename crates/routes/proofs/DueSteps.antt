@@ -17,7 +17,8 @@ use Rattle.routes.specs.Route.{Route, nlriOf, lookup, holds, inserted, r
 use Rattle.routes.specs.Arguments.{Query, readSPmsi, readRoute, readMatch}
 use Rattle.routes.specs.Table.{imageOf}
 use Rattle.routes.specs.Place.{acceptable}
-use Rattle.routes.specs.Images.{KnownFamily, TableOf}
+use Rattle.routes.specs.ArgumentRules.{KnownFamily}
+use Rattle.routes.specs.Images.{TableOf}
 use Rattle.routes.specs.Matching.{matchIn}
 use Rattle.routes.specs.Answers.{NEW, REPLACED, installedOf, matchedBy, foundAnswer, foundOutput}
 use Rattle.routes.specs.Calls.{entering, installOutcome, installOf, leaving, withdrawOutcome, withdrawOf, matchOutcome, matchOf}

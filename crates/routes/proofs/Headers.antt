@@ -14,7 +14,7 @@ use Rattle.octets.proofs.NetworkOrder.{big-endian-length, number-of-big-endian,
 use Rattle.octets.proofs.Orders.{same-equal, same-itself}
 use Rattle.octets.proofs.Refusals.{either-second}
 use Rattle.octets.proofs.Tests.{both-true, either-left}
-use Rattle.routes.specs.Images.{KnownFamily}
+use Rattle.routes.specs.ArgumentRules.{KnownFamily}
 use Rattle.routes.specs.Table.{headerStart, headerOf, afiIn, countIn, placesIn, tableSize, headerSound}
 
 pub header-length : (afi count : ℕ) → length (headerOf afi count) ≡ 8

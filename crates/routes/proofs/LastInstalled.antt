@@ -21,6 +21,7 @@ use Rattle.routes.specs.Calls.{makeOf, installOf, withdrawOf}
 use Rattle.routes.specs.Call.{Call, install, withdraw, match}
 use Rattle.routes.specs.Run.{Step, stepOf, runFrom, endOf}
 use Rattle.routes.specs.Images.{TableOf}
+use Rattle.routes.specs.CallRules.{HeldNow}
 use Rattle.routes.specs.LastInstalled.{accepted, decides, leftBy, lastFrom, lastOf, LastInstall, Kept, LastInstalled}
 use Rattle.routes.proofs.ArgumentRules.{argumentRule}
 use Rattle.routes.proofs.Decisions.{last-step, last-exactly}
@@ -50,25 +51,26 @@ next-image : (t u : List ℕ) (rs : List Route) → length u ≡ length t → u 
 next-image t u rs l e h = record { sound = h .sound; family = h .family; size = l; image = λ i. own-image (afiIn t) (placesIn t) rs u h e }
 
 -- what an NLRI has after a call that an answer's number decides
-decided : (other : List ℕ) (left : Held) (number : ℕ) (t u : List ℕ) → (number ≡ DONE → lookup other (routesOf u) ≡ left)
-    → ((x : List ℕ) → x ≢ other → lookup x (routesOf u) ≡ lookup x (routesOf t)) → (number ≢ DONE → u ≡ t)
+decided : (other : List ℕ) (left : Held) (number : ℕ) (t u : List ℕ) → (number ≡ DONE → HeldNow other left (routesOf t) (routesOf u)) → (number ≢ DONE → u ≡ t)
     → (nlri : List ℕ) → lookup nlri (routesOf u) ≡ pick (both (same nlri other) (eqb number DONE)) left (lookup nlri (routesOf t))
-decided other left number t u set others untouched nlri =
-    tested (same nlri other)
-    (λ own.
-    let e : nlri ≡ other = same-equal nlri other own in
+decided other left number t u set untouched nlri =
     tested (eqb number DONE)
-    (λ done. ap (λ (x : List ℕ). lookup x (routesOf u)) e ∙ set (eqb-true number DONE done) ∙ sym (pick-true _ _ _ (both-true _ _ own done)))
-    (λ bad. ap (λ (x : List ℕ). lookup nlri (routesOf x)) (untouched (eqb-false number DONE bad)) ∙ sym (pick-false _ _ _ (both-right _ _ own bad))))
-    (λ foreign. others nlri (other-unequal nlri other foreign) ∙ sym (pick-false _ _ _ (both-left _ _ foreign)))
+    (λ done.
+    let now = set (eqb-true number DONE done) in
+    tested (same nlri other)
+    (λ own. ap (λ (x : List ℕ). lookup x (routesOf u)) (same-equal nlri other own) ∙ now .own ∙ sym (pick-true _ _ _ (both-true _ _ own done)))
+    (λ foreign. now .others nlri (other-unequal nlri other foreign) ∙ sym (pick-false _ _ _ (both-left _ _ foreign))))
+    (λ bad.
+    ap (λ (x : List ℕ). lookup nlri (routesOf x)) (untouched (eqb-false number DONE bad))
+    ∙ sym (pick-false _ _ _ (tested (same nlri other) (λ own. both-right _ _ own bad) (λ foreign. both-left _ _ foreign))))
 
 step-lookups : (t : List ℕ) (c : Call) (nlri : List ℕ) → lookup nlri (routesOf (stepOf t c .octets)) ≡ pick (decides nlri c (stepOf t c .answer)) (leftBy c) (lookup nlri (routesOf t))
 unfolding stepOf decides accepted leftBy pick
 step-lookups t (install other attribute) nlri =
     decided other (held attribute) (installOf t other attribute .answer .number) t (installOf t other attribute .octets)
-    (installRule .installed t other attribute) (installRule .others t other attribute) (installRule .untouched t other attribute) nlri
+    (installRule .installed t other attribute) (installRule .untouched t other attribute) nlri
 step-lookups t (withdraw other) nlri =
-    decided other absent (withdrawOf t other .answer) t (withdrawOf t other .octets) (withdrawRule .withdrawn t other) (withdrawRule .others t other) (withdrawRule .untouched t other) nlri
+    decided other absent (withdrawOf t other .answer) t (withdrawOf t other .octets) (withdrawRule .withdrawn t other) (withdrawRule .untouched t other) nlri
 step-lookups t (match router source group output) nlri = refl
 
 step-next : (t : List ℕ) (c : Call) → soundOf t ≡ true → Next t (stepOf t c .octets)

@@ -19,7 +19,8 @@ use Rattle.routes.specs.Place.{none}
 use Rattle.routes.specs.Route.{last}
 use Rattle.routes.specs.Table.{imageOf, placesIn, tableSize}
 use Rattle.routes.specs.Calls.{makeOutcome, makeOf}
-use Rattle.routes.specs.Images.{KnownFamily, Holdable, TableOf}
+use Rattle.routes.specs.ArgumentRules.{KnownFamily}
+use Rattle.routes.specs.Images.{Holdable, TableOf}
 use Rattle.routes.specs.CallRules.{TableSize, MakeRefusal, noFamily, badSize, MakeRule}
 use Rattle.routes.proofs.AnswerNumbers.{refused-number, given-number, done-given}
 use Rattle.routes.proofs.Headers.{size-sound, sound-size}

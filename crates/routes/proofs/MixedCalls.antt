@@ -5,7 +5,7 @@ use mathlib.Core.List.{List, [], _∷_, _++_}
 use Rattle.octets.specs.Numbers.{DONE}
 use Rattle.routes.specs.Route.{arranged}
 use Rattle.routes.specs.Table.{imageOf, placesIn}
-use Rattle.routes.specs.Images.{KnownFamily}
+use Rattle.routes.specs.ArgumentRules.{KnownFamily}
 use Rattle.routes.specs.Calls.{makeOf}
 use Rattle.routes.specs.Call.{Call, nobody, ownerOf}
 use Rattle.routes.specs.Book.{fed, ownCalls, bookOf, onceEach, routersOf, gathered, allBooks}

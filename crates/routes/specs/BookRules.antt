@@ -8,7 +8,7 @@ use lib.ListN.{length}
 use Rattle.octets.specs.Lists.{Among, Once}
 use Rattle.routes.specs.Route.{Route, arranged, Distinct}
 use Rattle.routes.specs.Images.{Holdable}
-use Rattle.routes.specs.CallRules.{SPmsi}
+use Rattle.routes.specs.ArgumentRules.{SPmsi}
 use Rattle.routes.specs.Call.{Call, install, withdraw, match, owner, ownerOf}
 use Rattle.routes.specs.Book.{bookOf, onceEach, allBooks}
 use Rattle.routes.specs.Run.{namedBy}

@@ -15,7 +15,8 @@ use Rattle.routes.specs.Table.{imageOf, afiIn, placesIn, routesOf, sound
 use Rattle.routes.specs.Calls.{makeOf}
 use Rattle.routes.specs.Call.{Call, install, withdraw, match, Answer, installed, withdrawn, matched}
 use Rattle.routes.specs.Run.{Step, stepOf, runFrom, endOf}
-use Rattle.routes.specs.CallRules.{ArgumentRule, MakeRule, InstallRule, WithdrawRule}
+use Rattle.routes.specs.ArgumentRules.{ArgumentRule}
+use Rattle.routes.specs.CallRules.{MakeRule, InstallRule, WithdrawRule}
 
 -- a call was accepted: it answers DONE
 unfoldable pub accepted : Answer → Bool

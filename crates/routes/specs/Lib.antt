@@ -11,6 +11,7 @@ pub mod Calls
 pub mod Call
 pub mod Book
 pub mod Run
+pub mod ArgumentRules
 pub mod Images
 pub mod CallRules
 pub mod LastInstalled
