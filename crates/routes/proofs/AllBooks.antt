@@ -1,6 +1,7 @@
 -- Laws of books fed calls: what one router's book and all books together hold of an NLRI, and that a table can hold all of them.
 use Prim.Native.Nat.{ℕ, _≤_}
 use mathlib.Core.Path.{_≡_, refl, sym, ap, _∙_}
+use mathlib.Core.Bool.{true, false}
 use mathlib.Core.List.{List, [], _∷_, _++_}
 use mathlib.Core.Logic.{⊎-elim}
 use native.Mathlib.Nat.{le-trans}
@@ -9,17 +10,17 @@ use Rattle.octets.specs.Order.{same}
 use Rattle.octets.proofs.Inversions.{opposite}
 use Rattle.octets.proofs.Picked.{tested}
 use Rattle.octets.proofs.Refusals.{is-true}
-use Rattle.octets.proofs.Orders.{same-equal, other-unequal}
-use Rattle.routes.specs.Route.{Route, nlriOf, Held, absent, held, lookup, arranged, Distinct, Increasing}
+use Rattle.octets.proofs.Orders.{same-equal, same-itself, other-unequal}
+use Rattle.routes.specs.Route.{Route, nlriOf, attributeOf, Held, absent, held, lookup, holds, arranged, Distinct, Increasing}
 use Rattle.routes.specs.Place.{AllAcceptable}
 use Rattle.routes.specs.ArgumentRules.{KnownFamily}
 use Rattle.routes.specs.Images.{Holdable}
 use Rattle.routes.specs.Call.{Call, Owner, nobody, owner, originatorOf, ownerOf, owns}
 use Rattle.routes.specs.Book.{bookAfter, fed, ownCalls, bookOf, isAmong, onceEach, withOwner, routersOf, gathered, allBooks}
 use Rattle.routes.specs.Run.{namedIn, namedBy, Fits}
-use Rattle.octets.specs.Lists.{Among, first, later, chosen}
-use Rattle.routes.proofs.Lookups.{lookup-none, lookup-first, lookup-later, lookup-arranged, held-or-absent, held-absent, held-holds, increasing-arranged, increasing-distinct, acceptable-arranged, acceptable-member}
-use Rattle.routes.proofs.Distincts.{among-left, among-right, has-among, among-has, among-distinct, among-cases, routes-fewer}
+use Rattle.octets.specs.Lists.{Among, first, later, Once, chosen}
+use Rattle.routes.proofs.Lookups.{lookup-none, lookup-first, lookup-later, lookup-arranged, held-or-absent, held-absent, held-holds, holds-held, holds-absent, holds-alike, absent-holds, increasing-arranged, increasing-distinct, acceptable-arranged, acceptable-member}
+use Rattle.routes.proofs.Distincts.{among-left, among-right, has-among, among-has, among-distinct, once-distinct, among-cases, routes-fewer}
 use Rattle.routes.proofs.Chosen.{chosen-first, chosen-later}
 use Rattle.routes.proofs.Ownership.{owner-nobody, owners-same, acceptable-after-none, owned-itself, owned-by}
 use Rattle.routes.proofs.Books.{heldAfter, heldAfterAll, lookup-after, distinct-after, acceptable-after, held-apart, installed-held}
@@ -51,7 +52,7 @@ pub book-distinct : (afi : ℕ) (router : List ℕ) (calls : List Call) → Dist
 unfolding bookOf
 book-distinct afi router calls = fed-kept Distinct afi (λ c book d. distinct-after afi c d) [] (ownCalls afi router calls) Distinct.none
 
-book-acceptable : (afi : ℕ) (router : List ℕ) (calls : List Call) → AllAcceptable afi (bookOf afi router calls)
+pub book-acceptable : (afi : ℕ) (router : List ℕ) (calls : List Call) → AllAcceptable afi (bookOf afi router calls)
 unfolding bookOf
 book-acceptable afi router calls = fed-kept (AllAcceptable afi) afi (λ c book a. acceptable-after afi c a) [] (ownCalls afi router calls) AllAcceptable.none
 
@@ -149,6 +150,34 @@ lookup-all afi router nlri calls own =
 pub lookup-nobody : (afi : ℕ) (nlri : List ℕ) (calls : List Call) → originatorOf afi nlri ≡ nobody → lookup nlri (allBooks afi calls) ≡ absent
 unfolding allBooks
 lookup-nobody afi nlri calls h = gathered-foreign afi nlri (onceEach (routersOf afi calls)) calls (λ router m q. owner-nobody h q)
+
+-- no NLRI stands in two books
+
+distinct-append : {xs ys : List Route} → Distinct xs → Distinct ys → ((nlri : List ℕ) → holds nlri xs ≡ true → holds nlri ys ≡ false) → Distinct (xs ++ ys)
+distinct-append Distinct.none b apart = b
+distinct-append {ys = ys} (Distinct.one {r} {rs} h a) b apart =
+    Distinct.one
+    (holds-alike (nlriOf r) (rs ++ ys) ys (lookup-back (nlriOf r) rs ys (absent-holds (nlriOf r) rs h))
+    ∙ apart (nlriOf r) (holds-held (nlriOf r) (r ∷ rs) (attributeOf r) (lookup-first (nlriOf r) r rs (same-itself (nlriOf r)))))
+    (distinct-append a b
+    (λ nlri m.
+    tested (same nlri (nlriOf r))
+    (λ t. absurd (opposite (rw (same-equal nlri (nlriOf r) t) at m) h))
+    (λ f. apart nlri (holds-alike nlri (r ∷ rs) rs (lookup-later nlri r rs f) ∙ m))))
+
+distinct-gathered : (afi : ℕ) {routers : List (List ℕ)} (calls : List Call) → Once routers → Distinct (gathered afi routers calls)
+unfolding gathered
+distinct-gathered afi calls Once.none = Distinct.none
+distinct-gathered afi calls (Once.one {x = router} {xs = routers} n o) =
+    distinct-append (book-distinct afi router calls) (distinct-gathered afi calls o)
+    (λ nlri m.
+    holds-absent nlri (gathered afi routers calls)
+    (gathered-foreign afi nlri routers calls
+    (λ other a q. opposite m (holds-absent nlri (bookOf afi router calls) (lookup-foreign afi router nlri calls (λ p. n (rw (owners-same p q) a)))))))
+
+pub distinct-all : (afi : ℕ) (calls : List Call) → Distinct (allBooks afi calls)
+unfolding allBooks
+distinct-all afi calls = distinct-gathered afi calls (once-distinct (routersOf afi calls))
 
 -- whatever the owner, what all calls leave
 held-nobody : (afi : ℕ) (nlri : List ℕ) (calls : List Call) (h : Held) → originatorOf afi nlri ≡ nobody → heldAfterAll afi calls nlri h ≡ h

@@ -127,19 +127,22 @@ module _ (afi : ℕ) (router source group output : List ℕ) where
   flow-refuses bits (badFlow bad) = sym (stops _ _ _ (bad-flow bits bad))
   flow-refuses bits (noSpace good less) = sym (goes _ _ _ _ (flow-given afi router source group good .1) (sym (pick-true _ _ _ (lt-ltb (length output) 124 less))))
 
-  flow-accepted : (q : Query) → readMatch afi router source group output ≡ given q → GoodFlow afi router source group × (124 ≤ length output)
+  pub flow-passed : (q : Query) → readMatch afi router source group output ≡ given q → (readFlow afi router source group ≡ given q) × (124 ≤ length output)
   unfolding readMatch
-  flow-accepted q e =
+  flow-passed q e =
       let p = passed _ _ _ e in
-      (flow-asked afi router source group (p .value) (p .first) .good, ltb-false _ _ (given-otherwise _ _ _ _ (p .second) .0))
+      let g = given-otherwise _ _ _ _ (p .second) in
+      (p .first ∙ g .1, ltb-false _ _ (g .0))
 
-  -- what is then asked is what the flow comes to
-  pub flow-accepts : (q : Query) → readFlow afi router source group ≡ given q → 124 ≤ length output → readMatch afi router source group output ≡ given q
+  pub flow-passes : (q : Query) → readFlow afi router source group ≡ given q → 124 ≤ length output → readMatch afi router source group output ≡ given q
   unfolding readMatch
-  flow-accepts q e enough = sym (goes _ _ _ _ e (sym (pick-false _ _ _ (le-ltb (length output) 124 enough))))
+  flow-passes q e enough = sym (goes _ _ _ _ e (sym (pick-false _ _ _ (le-ltb (length output) 124 enough))))
+
+  flow-accepted : (q : Query) → readMatch afi router source group output ≡ given q → GoodFlow afi router source group × (124 ≤ length output)
+  flow-accepted q e = let p = flow-passed q e in (flow-asked afi router source group q (p .0) .good, p .1)
 
   flow-taken : GoodFlow afi router source group × (124 ≤ length output) → (q : Query) × (readMatch afi router source group output ≡ given q)
-  flow-taken h = let f = flow-given afi router source group (h .0) in (f .0, flow-accepts (f .0) (f .1) (h .1))
+  flow-taken h = let f = flow-given afi router source group (h .0) in (f .0, flow-passes (f .0) (f .1) (h .1))
 
 pub argumentRule : ArgumentRule
 argumentRule =

@@ -20,7 +20,7 @@ use Rattle.routes.specs.Place.{acceptable}
 use Rattle.routes.specs.ArgumentRules.{KnownFamily}
 use Rattle.routes.specs.Images.{TableOf}
 use Rattle.routes.specs.Matching.{matchIn}
-use Rattle.routes.specs.Answers.{NEW, REPLACED, installedOf, matchedBy, foundAnswer, foundOutput}
+use Rattle.routes.specs.Answers.{NEW, REPLACED, installedOf, matchedBy}
 use Rattle.routes.specs.Calls.{entering, installOutcome, installOf, leaving, withdrawOutcome, withdrawOf, matchOutcome, matchOf}
 use Rattle.routes.specs.Call.{Call, install, withdraw, match, Answer, installed, withdrawn, matched, Owner, nobody, owner, originatorOf, ownerOf, Act, enter, leave, ask, argued, refusalOf, refusalAnswer}
 use Rattle.routes.specs.Book.{bookOf, actAnswer, bookAnswer, allBooks, dueBy, dueAnswer}
@@ -46,7 +46,7 @@ actStep afi places rs t c (enter r) =
     record { call = c; answer = installed (installedOf (entering places rs r)); octets = onOutcome (λ number. t) (λ o. imageOf afi places (inserted r rs)) (entering places rs r) }
 actStep afi places rs t c (leave nlri) =
     record { call = c; answer = withdrawn (numberOf (leaving rs nlri)); octets = onOutcome (λ number. t) (λ n. imageOf afi places (removed n rs)) (leaving rs nlri) }
-actStep afi places rs t c (ask q output) = record { call = c; answer = matched (foundAnswer (matchIn afi q rs)) (foundOutput (matchIn afi q rs) output); octets = t }
+actStep afi places rs t c (ask q output) = record { call = c; answer = matched (matchedBy (given (matchIn afi q rs)) output); octets = t }
 
 module _ (afi places : ℕ) (rs : List Route) (t : List ℕ) (of : TableOf afi places rs t) where
   install-on : (nlri attribute : List ℕ) → installOutcome t nlri attribute ≡ andThen (readRoute afi nlri attribute) (λ r. entering places rs r)
@@ -66,7 +66,7 @@ module _ (afi places : ℕ) (rs : List Route) (t : List ℕ) (of : TableOf afi p
   argued-step c o = onOutcome (λ number. record { call = c; answer = refusalAnswer c number; octets = t }) (actStep afi places rs t c) o
 
   step-on : (c : Call) → stepOf t c ≡ argued-step c (argued afi c)
-  unfolding stepOf installOf withdrawOf matchOf matchedBy argued andThen onOutcome numberOf actStep refusalAnswer
+  unfolding stepOf installOf withdrawOf matchOf argued andThen onOutcome numberOf actStep refusalAnswer
   step-on (install nlri attribute) = go (readRoute afi nlri attribute) refl
     where
       go : (o : Outcome Route) → readRoute afi nlri attribute ≡ o → stepOf t (install nlri attribute) ≡ argued-step (install nlri attribute) (andThen o (λ r. given (enter r)))
@@ -197,7 +197,7 @@ module _ (afi places : ℕ) (earlier : List Call) (c : Call) where
         let due : dueAnswer afi earlier c ≡ withdrawn ABSENT = due-act (leave nlri) e ∙ rw (table-book nlri mine, n) in
         rw n (as-due _ (tableRoutes afi earlier) t due (sym (removed-absent nlri (tableRoutes afi earlier) (absent-holds nlri (tableRoutes afi earlier) n)) ∙ next-left nlri e) is))
     acted t is bits most fits e (asks {q} {output} mine) =
-        let due : dueAnswer afi earlier c ≡ matched (foundAnswer (matchIn afi q (tableRoutes afi earlier))) (foundOutput (matchIn afi q (tableRoutes afi earlier)) output) =
+        let due : dueAnswer afi earlier c ≡ matched (matchedBy (given (matchIn afi q (tableRoutes afi earlier))) output) =
         due-act (ask q output) e ∙ rw (match-book q mine) in
         as-due _ (tableRoutes afi earlier) t due (next-asked q output e) is
 

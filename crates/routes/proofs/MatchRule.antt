@@ -25,7 +25,7 @@ use Rattle.routes.specs.Calls.{matchOutcome, matchOf}
 use Rattle.routes.specs.ArgumentRules.{GoodFlow, badFlow, noSpace}
 use Rattle.routes.specs.MatchRule.{Told, Untold, MatchAnswer, oneTold, noneTold, MatchRefusal, matchUnsound, badMatch, MatchRule}
 use Rattle.routes.proofs.AnswerNumbers.{refused-number, given-number, done-given}
-use Rattle.routes.proofs.ArgumentRules.{argumentRule, flow-accepts}
+use Rattle.routes.proofs.ArgumentRules.{argumentRule, flow-passes}
 use Rattle.routes.proofs.Lookups.{acceptable-member, increasing-distinct}
 use Rattle.routes.proofs.Bounds.{Sized, sizes-of}
 use Rattle.routes.proofs.Images.{sound-holdable}
@@ -126,7 +126,7 @@ module _ (t router source group output : List ℕ) where
   served-outcome : (q : Query) → soundOf t ≡ true → readFlow (afiIn t) router source group ≡ given q → 124 ≤ length output
       → matchOutcome t router source group output ≡ given (matchIn (afiIn t) q (routesOf t))
   unfolding matchOutcome
-  served-outcome q sound e enough = pick-true _ _ _ sound ∙ sym (goes _ _ _ _ (flow-accepts (afiIn t) router source group output q e enough) refl)
+  served-outcome q sound e enough = pick-true _ _ _ sound ∙ sym (goes _ _ _ _ (flow-passes (afiIn t) router source group output q e enough) refl)
 
   served : matchOf t router source group output .answer .number ≡ DONE → (soundOf t ≡ true) × GoodFlow (afiIn t) router source group × (124 ≤ length output)
   unfolding matchOutcome
