@@ -34,22 +34,22 @@ module _ (afi : ℕ) (nlri : List ℕ) where
   nlri-refuses (unreadNlri e) = sym (stops _ _ _ e)
   nlri-refuses (otherKind f e k) = sym (goes _ _ _ _ e (sym (pick-false _ _ _ (ne-eqb (f .type) 3 k))))
 
-  nlri-read : (f : Fields) → readSPmsi afi nlri ≡ given f → (readNlri afi nlri ≡ given f) × (f .type ≡ 3)
+  nlri-passed : (f : Fields) → readSPmsi afi nlri ≡ given f → (readNlri afi nlri ≡ given f) × (f .type ≡ 3)
   unfolding readSPmsi
-  nlri-read f e =
+  nlri-passed f e =
       let p = passed _ _ _ e in
       let q = given-unless _ _ _ _ (p .second) in
       (p .first ∙ q .1, ap (λ (g : Fields). g .type) (sym (given-same (q .1))) ∙ eqb-true _ _ (q .0))
 
-  read-nlri : (f : Fields) → (readNlri afi nlri ≡ given f) × (f .type ≡ 3) → readSPmsi afi nlri ≡ given f
+  nlri-passes : (f : Fields) → (readNlri afi nlri ≡ given f) × (f .type ≡ 3) → readSPmsi afi nlri ≡ given f
   unfolding readSPmsi
-  read-nlri f p = sym (goes _ _ _ _ (p .0) (sym (pick-true _ _ _ (eq-eqb (f .type) 3 (p .1)))))
+  nlri-passes f p = sym (goes _ _ _ _ (p .0) (sym (pick-true _ _ _ (eq-eqb (f .type) 3 (p .1)))))
 
   pub nlri-accepted : (f : Fields) → readSPmsi afi nlri ≡ given f → SPmsi afi nlri
-  nlri-accepted f e = let p = nlri-read f e in record { fields = f; read = p .0; kind = p .1 }
+  nlri-accepted f e = let p = nlri-passed f e in record { fields = f; read = p .0; kind = p .1 }
 
   pub nlri-accepts : (s : SPmsi afi nlri) → readSPmsi afi nlri ≡ given (s .fields)
-  nlri-accepts s = read-nlri (s .fields) (s .read, s .kind)
+  nlri-accepts s = nlri-passes (s .fields) (s .read, s .kind)
 
 module _ (attribute : List ℕ) where
   labelled : (f : AttributeFields) → readLabelled attribute ≡ given f → Labelled attribute
@@ -92,16 +92,16 @@ module _ (afi : ℕ) (nlri attribute : List ℕ) where
       sym (goes _ _ _ _ (nlri-accepts afi nlri s)
       (stops _ _ _ (sym (goes _ _ _ _ e (sym (pick-true _ _ _ (both-true _ _ (eq-eqb (f .tunnelType) 11 bier) (eq-eqb (labelOf f) 0 zero))))))))
 
-  route-accepted : readRoute afi nlri attribute ≡ given (route nlri attribute) → SPmsi afi nlri × Labelled attribute
+  route-passed : readRoute afi nlri attribute ≡ given (route nlri attribute) → SPmsi afi nlri × Labelled attribute
   unfolding readRoute
-  route-accepted e =
+  route-passed e =
       let p = passed _ _ _ e in
       let q = passed _ _ _ (p .second) in
       (nlri-accepted afi nlri (p .value) (p .first), labelled attribute (q .value) (q .first))
 
-  route-accepts : SPmsi afi nlri × Labelled attribute → readRoute afi nlri attribute ≡ given (route nlri attribute)
+  route-passes : SPmsi afi nlri × Labelled attribute → readRoute afi nlri attribute ≡ given (route nlri attribute)
   unfolding readRoute
-  route-accepts a = sym (goes _ _ _ _ (nlri-accepts afi nlri (a .0)) (goes _ _ _ _ (takes-labelled attribute (a .1)) refl))
+  route-passes a = sym (goes _ _ _ _ (nlri-accepts afi nlri (a .0)) (goes _ _ _ _ (takes-labelled attribute (a .1)) refl))
 
 module _ (afi : ℕ) (router source group output : List ℕ) where
   flow-refusal : (n : ℕ) → KnownFamily afi → readMatch afi router source group output ≡ refused n → FlowRefusal afi router source group output n
@@ -148,9 +148,9 @@ pub argumentRule : ArgumentRule
 argumentRule =
     record {
       refusedNlri = λ afi nlri n. (nlri-refused afi nlri n, nlri-refuses afi nlri);
-      acceptedNlri = λ afi nlri f. (nlri-read afi nlri f, read-nlri afi nlri f);
+      acceptedNlri = λ afi nlri f. (nlri-passed afi nlri f, nlri-passes afi nlri f);
       refusedRoute = λ afi nlri attribute n. (route-refused afi nlri attribute n, route-refuses afi nlri attribute);
-      acceptedRoute = λ afi nlri attribute. (route-accepted afi nlri attribute, route-accepts afi nlri attribute);
+      acceptedRoute = λ afi nlri attribute. (route-passed afi nlri attribute, route-passes afi nlri attribute);
       refusedFlow = λ afi router source group output n bits. (flow-refusal afi router source group output n bits, flow-refuses afi router source group output bits);
       acceptedFlow = λ afi router source group output. (λ p. flow-accepted afi router source group output (p .0) (p .1), flow-taken afi router source group output);
     }

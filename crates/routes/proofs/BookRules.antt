@@ -3,7 +3,7 @@ use Prim.Native.Nat.{ℕ, _≤_}
 use mathlib.Core.Path.{_≡_, refl, sym, ap, subst, subst₂, _∙_}
 use mathlib.Core.Bool.{true, false}
 use mathlib.Core.List.{List, [], _∷_, _++_}
-use mathlib.Core.Logic.{_↔_, _⊎_, _≢_, ⊎-elim}
+use mathlib.Core.Logic.{_≢_, ⊎-elim}
 use lib.ListN.{length}
 use Rattle.octets.specs.Numbers.{DONE}
 use Rattle.octets.specs.Outcome.{Outcome, given, refused, onOutcome, numberOf}
@@ -15,21 +15,21 @@ use Rattle.nlri.specs.Fields.{Fields}
 use Rattle.nlri.proofs.Theorems.{lengths}
 use Rattle.routes.specs.Route.{Route, nlriOf, attributeOf, held, lookup, arranged}
 use Rattle.routes.specs.Arguments.{readSPmsi}
-use Rattle.routes.specs.ArgumentRules.{KnownFamily, SPmsi, SPmsiOf}
-use Rattle.routes.specs.Call.{Call, install, withdraw, match, Answer, Owner, nobody, owner, originatorOf, ownerOf, ownedBy, owns, Act, argued, refusalOf, refusalAnswer}
+use Rattle.routes.specs.ArgumentRules.{KnownFamily, SPmsiOf}
+use Rattle.routes.specs.Call.{Call, install, withdraw, match, Owner, nobody, owner, originatorOf, ownerOf, ownedBy, owns, Act, argued, refusalOf, refusalAnswer}
 use Rattle.routes.specs.Book.{bookAfter, fed, ownCalls, bookOf, allBooks, dueAnswer}
-use Rattle.routes.specs.Run.{imageOfBooks, namedBy, counted, Fits}
+use Rattle.routes.specs.Run.{imageOfBooks, namedBy, Fits}
 use Rattle.routes.specs.BookRules.{BelongsTo, ownInstall, ownWithdrawal, ownMatch, Nobodys, OwnerRule, PremiseRule, CallRefusal, BookStep, BookRule, ImageRule}
 use Rattle.routes.proofs.Lookups.{route-again, held-absent, lookup-arranged, lookup-member, member-lookup, increasing-distinct}
 use Rattle.routes.proofs.ArgumentRules.{argumentRule, nlri-accepts}
 use Rattle.routes.proofs.ByArguments.{argued-number}
 use Rattle.routes.proofs.Images.{images}
-use Rattle.routes.proofs.Distincts.{distinct-among, among-distinct, once-distinct}
+use Rattle.routes.proofs.Distincts.{once-each-among, among-once-each, once-once-each}
 use Rattle.routes.proofs.Chosen.{chosen-first, chosen-later}
 use Rattle.routes.proofs.Ownership.{owner-read, owner-nobody, owners-same, owned-by, owned-itself, match-owner}
 use Rattle.routes.proofs.Acts.{owned}
 use Rattle.routes.proofs.Named.{named-exactly}
-use Rattle.routes.proofs.AllBooks.{book-distinct, book-acceptable, lookup-foreign, lookup-all, lookup-nobody, distinct-all, books-increasing, books-holdable}
+use Rattle.routes.proofs.AllBooks.{distinct-book, acceptable-book, lookup-foreign, lookup-all, lookup-nobody, distinct-all, increasing-books, holdable-books}
 use Rattle.routes.proofs.DueSteps.{due-owned, due-nobody}
 use Rattle.routes.proofs.Reorders.{own-then, own-not}
 use Rattle.routes.proofs.BookSteps.{argued-refusal, book-step}
@@ -94,8 +94,8 @@ ownerRule =
 pub premiseRule : PremiseRule
 premiseRule =
     record {
-      exactly = λ afi calls nlri. (λ m. named-exactly afi nlri calls .0 (distinct-among (namedBy afi calls) m), λ p. among-distinct (namedBy afi calls) (named-exactly afi nlri calls .1 p));
-      once = λ afi calls. once-distinct (namedBy afi calls);
+      exactly = λ afi calls nlri. (λ m. named-exactly afi nlri calls .0 (once-each-among (namedBy afi calls) m), λ p. among-once-each (namedBy afi calls) (named-exactly afi nlri calls .1 p));
+      once = λ afi calls. once-once-each (namedBy afi calls);
     }
 
 -- books
@@ -116,7 +116,7 @@ module _ (afi : ℕ) (bits : KnownFamily afi) where
   book-own router earlier c b =
       subst₂ (BookStep afi (bookOf afi router earlier) c) (sym (due-owned afi earlier c router (belonging b)))
       (sym (ap (fed afi []) (own-then afi router earlier c (owns-true b)) ∙ fed-then afi [] (ownCalls afi router earlier) c))
-      (book-step afi bits (book-distinct afi router earlier) (book-acceptable afi router earlier) c)
+      (book-step afi bits (distinct-book afi router earlier) (acceptable-book afi router earlier) c)
 
   book-foreign : (router : List ℕ) (earlier : List Call) (c : Call) → (BelongsTo afi router c → ⊥) → bookOf afi router (earlier ++ (c ∷ [])) ≡ bookOf afi router earlier
   unfolding bookOf
@@ -137,7 +137,7 @@ module _ (afi : ℕ) (bits : KnownFamily afi) where
         own = book-own;
         foreign = book-foreign;
         nobodys = nobodys-due;
-        distinct = λ router calls. book-distinct afi router calls;
+        distinct = λ router calls. distinct-book afi router calls;
         apart = distinct-all afi;
       }
 
@@ -148,7 +148,7 @@ module _ (afi : ℕ) (calls : List Call) where
   gathered-from r m = go (originatorOf afi (nlriOf r)) refl
     where
       all : lookup (nlriOf r) (allBooks afi calls) ≡ held (attributeOf r)
-      all = sym (lookup-arranged (nlriOf r) (allBooks afi calls)) ∙ member-lookup (increasing-distinct (books-increasing afi calls)) m
+      all = sym (lookup-arranged (nlriOf r) (allBooks afi calls)) ∙ member-lookup (increasing-distinct (increasing-books afi calls)) m
 
       go : (o : Owner) → originatorOf afi (nlriOf r) ≡ o → (router : List ℕ) × Among r (bookOf afi router calls)
       go nobody e = absurd (held-absent all (lookup-nobody afi (nlriOf r) calls e))
@@ -157,7 +157,7 @@ module _ (afi : ℕ) (calls : List Call) where
 
   gathered-in : (r : Route) (router : List ℕ) → Among r (bookOf afi router calls) → Among r (arranged (allBooks afi calls))
   gathered-in r router m =
-      let book : lookup (nlriOf r) (bookOf afi router calls) ≡ held (attributeOf r) = member-lookup (book-distinct afi router calls) m in
+      let book : lookup (nlriOf r) (bookOf afi router calls) ≡ held (attributeOf r) = member-lookup (distinct-book afi router calls) m in
       tested (ownedBy router (originatorOf afi (nlriOf r)))
       (λ t.
       let own = owned-by router (originatorOf afi (nlriOf r)) t in
@@ -168,7 +168,7 @@ module _ (afi : ℕ) (calls : List Call) where
   pub image-rule : (places : ℕ) → KnownFamily afi → places ≤ 500 → Fits afi places calls → ImageRule afi places calls
   unfolding imageOfBooks
   image-rule places bits most fits =
-      let h = books-holdable afi places calls bits most fits in
+      let h = holdable-books afi places calls bits most fits in
       record {
         routes = arranged (allBooks afi calls);
         holdable = h;

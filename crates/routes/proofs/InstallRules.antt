@@ -28,7 +28,7 @@ use Rattle.routes.proofs.ArgumentRules.{argumentRule}
 use Rattle.routes.proofs.Bounds.{route-read, read-acceptable}
 use Rattle.routes.proofs.ByArguments.{route-number}
 use Rattle.routes.proofs.Holding.{holdable-inserted}
-use Rattle.routes.proofs.Images.{images, sound, sound-holdable, image-length}
+use Rattle.routes.proofs.Images.{images, sound, sound-holdable, length-image}
 use Rattle.routes.proofs.Lookups.{absent-holds, holds-absent, held-holds, holds-held, lookup-inserted-same, lookup-inserted-other}
 
 -- a route that is acceptable enters a table
@@ -183,7 +183,7 @@ module _ (t nlri attribute : List ℕ) where
   size =
       ⊎-elim
       (λ p.
-      ap length (install-octets (p .0) (p .1)) ∙ image-length (afiIn t) (placesIn t) (inserted (route nlri attribute) (routesOf t)) (install-holdable (p .0) (p .1))
+      ap length (install-octets (p .0) (p .1)) ∙ length-image (afiIn t) (placesIn t) (inserted (route nlri attribute) (routesOf t)) (install-holdable (p .0) (p .1))
       ∙ sym (sound t (install-given (p .0) (p .1) .asked .sound) .size .is))
       (λ p. ap length (install-leaves (p .0) (p .1)))
       (outcome (installOutcome t nlri attribute))

@@ -13,7 +13,7 @@ use Rattle.routes.specs.Book.{fed, ownCalls, nobodysCalls, bookOf, bookA
 use Rattle.routes.specs.Run.{Answered, answersIn, ownAnswers, imageOfBooks, dueStep, dueFrom}
 use Rattle.routes.proofs.Lookups.{lookup-arranged, increasing-equal}
 use Rattle.routes.proofs.Ownership.{owned-by}
-use Rattle.routes.proofs.AllBooks.{lookup-all, lookup-nobody, books-increasing}
+use Rattle.routes.proofs.AllBooks.{lookup-all, lookup-nobody, increasing-books}
 use Rattle.routes.proofs.DueSteps.{due-owned, due-nobody}
 use Rattle.routes.proofs.Chosen.{chosen-first, chosen-later, chosen-append, chosen-passes, chosen-all, chosen-rearranged}
 use Rattle.routes.proofs.ByOwner.{is-nobody, by-owner}
@@ -103,7 +103,7 @@ pub same-books : (afi places : ℕ) (xs ys : List Call) → ((router : List ℕ)
 unfolding imageOfBooks bookOf
 same-books afi places xs ys h =
     ap (imageOf afi places)
-    (increasing-equal (books-increasing afi xs) (books-increasing afi ys)
+    (increasing-equal (increasing-books afi xs) (increasing-books afi ys)
     (λ nlri. lookup-arranged nlri (allBooks afi xs) ∙ alike nlri (originatorOf afi nlri) refl ∙ sym (lookup-arranged nlri (allBooks afi ys))))
   where
     alike : (nlri : List ℕ) (w : Owner) → originatorOf afi nlri ≡ w → lookup nlri (allBooks afi xs) ≡ lookup nlri (allBooks afi ys)

@@ -22,7 +22,7 @@ use Rattle.routes.proofs.Flows.{Asked}
 use Rattle.routes.proofs.ArgumentRules.{argumentRule, nlri-accepts}
 
 -- the tiers are 1 to 4
-pub tier-range : {afi : ℕ} {source group : List ℕ} {f : Fields} {tier : ℕ} → InTier afi source group f tier → (1 ≤ tier) × (tier < 5)
+tier-range : {afi : ℕ} {source group : List ℕ} {f : Fields} {tier : ℕ} → InTier afi source group f tier → (1 ≤ tier) × (tier < 5)
 tier-range (bothEqual s g) = (omega arith, omega arith)
 tier-range (sourceEqual s g ssm) = (omega arith, omega arith)
 tier-range (groupEqual s g asm) = (omega arith, omega arith)

@@ -1,7 +1,6 @@
 -- Withdraw (specs/CallRules.antt, `WithdrawRule`).
 use Prim.Native.Nat.{ℕ, suc}
 use mathlib.Core.Path.{_≡_, refl, sym, ap, subst, _∙_}
-use mathlib.Core.Bool.{false}
 use mathlib.Core.Logic.{_≢_, ⊎-elim}
 use mathlib.Core.List.{List}
 use native.Mathlib.Omega.{arith}
@@ -15,7 +14,7 @@ use Rattle.octets.proofs.Refusals.{outcome, picked, stopped, refused-same, refu
 use Rattle.octets.proofs.Tests.{goes, stops}
 use Rattle.nlri.proofs.Numbered.{refused-of}
 use Rattle.routes.specs.Route.{lookup, absent, removed}
-use Rattle.routes.specs.Table.{imageOf, afiIn, placesIn, routesOf, soundOf}
+use Rattle.routes.specs.Table.{imageOf, afiIn, placesIn, routesOf}
 use Rattle.routes.specs.Calls.{leaving, withdrawOutcome, withdrawOf}
 use Rattle.routes.specs.Images.{Holdable, TableOf}
 use Rattle.routes.specs.CallRules.{IsHeld, HeldNow, Withdrawable, WithdrawRefusal, withdrawUnsound, badName, notHeld, WithdrawRule}
@@ -23,7 +22,7 @@ use Rattle.routes.proofs.AnswerNumbers.{refused-number, given-number, d
 use Rattle.routes.proofs.ArgumentRules.{argumentRule, nlri-accepted, nlri-accepts}
 use Rattle.routes.proofs.ByArguments.{s-pmsi-number}
 use Rattle.routes.proofs.Holding.{holdable-removed}
-use Rattle.routes.proofs.Images.{images, sound, sound-holdable, image-length}
+use Rattle.routes.proofs.Images.{images, sound, sound-holdable, length-image}
 use Rattle.routes.proofs.Lookups.{absent-holds, holds-absent, held-holds, holds-held, lookup-removed-same, lookup-removed-other, increasing-distinct, length-removed-held}
 
 -- what a withdrawal that is not refused found
@@ -105,7 +104,7 @@ module _ (t nlri : List ℕ) where
   size =
       either-outcome
       (λ e.
-      ap length (withdraw-octets e) ∙ image-length (afiIn t) (placesIn t) (removed nlri (routesOf t)) (withdraw-holdable e)
+      ap length (withdraw-octets e) ∙ length-image (afiIn t) (placesIn t) (removed nlri (routesOf t)) (withdraw-holdable e)
       ∙ sym (sound t (withdraw-given nlri e .0 .asked .sound) .size .is))
       (λ n e. ap length (withdraw-leaves n e))
 

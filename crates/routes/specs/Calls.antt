@@ -6,7 +6,7 @@ use lib.ListN.{length}
 use lib.Dec.{ltb}
 use Rattle.octets.specs.Numbers.{TABLE, ROOM, ABSENT}
 use Rattle.octets.specs.Choice.{pick}
-use Rattle.octets.specs.Outcome.{Outcome, given, refused, onOutcome, unless, andThen, numberOf}
+use Rattle.octets.specs.Outcome.{Outcome, given, onOutcome, unless, andThen, numberOf}
 use Rattle.nlri.specs.Family.{familyBits}
 use Rattle.routes.specs.declared.Installed.{Installed}
 use Rattle.routes.specs.declared.Matched.{Matched}
