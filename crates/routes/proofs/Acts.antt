@@ -3,19 +3,16 @@ use Prim.Native.Nat.{ℕ}
 use mathlib.Core.Path.{_≡_, refl, ap, subst, _∙_}
 use mathlib.Core.Bool.{true}
 use mathlib.Core.List.{List}
-use mathlib.Core.Logic.{_≢_}
-use Rattle.octets.specs.Numbers.{DONE}
-use Rattle.octets.specs.Outcome.{Outcome, given, refused, onOutcome, numberOf}
+use Rattle.octets.specs.Outcome.{Outcome, given, refused, onOutcome}
 use Rattle.octets.proofs.Inversions.{given-same, passed}
 use Rattle.octets.specs.Lists.{Among, first}
 use Rattle.routes.specs.Route.{Route, nlriOf}
 use Rattle.routes.specs.Arguments.{Query}
 use Rattle.routes.specs.Place.{acceptable}
-use Rattle.routes.specs.Call.{Call, install, withdraw, match, nobody, owner, originatorOf, ownerOf, Act, enter, leave, ask, argued, refusalOf}
+use Rattle.routes.specs.Call.{Call, install, withdraw, match, owner, originatorOf, ownerOf, Act, enter, leave, ask, argued}
 use Rattle.routes.specs.Run.{namedIn}
-use Rattle.routes.proofs.Bounds.{route-read}
-use Rattle.routes.proofs.ByArguments.{argued-number}
-use Rattle.routes.proofs.Ownership.{route-accepted, route-acceptable, owner-read, owner-nobody, match-owner, query-router}
+use Rattle.routes.proofs.Bounds.{route-accepted, route-read}
+use Rattle.routes.proofs.Ownership.{route-acceptable, owner-read, match-owner, query-router}
 
 -- what is known of an act that a router's call comes to
 pub data Known (afi : ℕ) (c : Call) (router : List ℕ) : Act → Type 0 where
@@ -33,7 +30,7 @@ pub owned : (afi : ℕ) (c : Call) (act : Act) → argued afi c ≡ given act �
 unfolding argued ownerOf namedIn onOutcome nlriOf
 owned afi (install nlri attribute) act e =
     let p = passed _ _ _ e in
-    let a = route-accepted afi nlri attribute (p .value) (p .first) in
+    let a = route-accepted afi nlri attribute (p .value) (p .first) .0 in
     let own : originatorOf afi nlri ≡ owner (a .fields .originator) = owner-read afi nlri (a .fields) (a .read) in
     let is : nlriOf (p .value) ≡ nlri = ap nlriOf (route-read afi nlri attribute (p .value) (p .first)) in
     subst (Owned afi (install nlri attribute)) (given-same (p .second))
@@ -55,8 +52,3 @@ argued-cases P afi c bad good = go (argued afi c) refl
     go : (o : Outcome Act) → argued afi c ≡ o → P o
     go (given act) e = good act e (owned afi c act e)
     go (refused n) e = bad n e
-
--- a call of nobody is refused with a number other than DONE
-pub nobody-refused : (afi : ℕ) (c : Call) → ownerOf afi c ≡ nobody → refusalOf afi c ≢ DONE
-unfolding refusalOf numberOf
-nobody-refused afi c h = argued-cases (λ (o : Outcome Act). numberOf o ≢ DONE) afi c (λ n e. argued-number afi c n e .0) (λ act e k. absurd (owner-nobody h (k .own)))

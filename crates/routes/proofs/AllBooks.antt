@@ -1,6 +1,7 @@
 -- Laws of books fed calls: what one router's book and all books together hold of an NLRI, and that a table can hold all of them.
 use Prim.Native.Nat.{ℕ, _≤_}
 use mathlib.Core.Path.{_≡_, refl, sym, ap, _∙_}
+use mathlib.Core.Bool.{true, false}
 use mathlib.Core.List.{List, [], _∷_, _++_}
 use mathlib.Core.Logic.{⊎-elim}
 use native.Mathlib.Nat.{le-trans}
@@ -9,16 +10,17 @@ use Rattle.octets.specs.Order.{same}
 use Rattle.octets.proofs.Inversions.{opposite}
 use Rattle.octets.proofs.Picked.{tested}
 use Rattle.octets.proofs.Refusals.{is-true}
-use Rattle.octets.proofs.Orders.{same-equal, other-unequal}
-use Rattle.routes.specs.Route.{Route, nlriOf, Held, absent, held, lookup, arranged, Distinct, Increasing}
+use Rattle.octets.proofs.Orders.{same-equal, same-itself, other-unequal}
+use Rattle.routes.specs.Route.{Route, nlriOf, attributeOf, Held, absent, held, lookup, holds, arranged, Distinct, Increasing}
 use Rattle.routes.specs.Place.{AllAcceptable}
-use Rattle.routes.specs.Images.{KnownFamily, Holdable}
+use Rattle.routes.specs.ArgumentRules.{KnownFamily}
+use Rattle.routes.specs.Images.{Holdable}
 use Rattle.routes.specs.Call.{Call, Owner, nobody, owner, originatorOf, ownerOf, owns}
 use Rattle.routes.specs.Book.{bookAfter, fed, ownCalls, bookOf, isAmong, onceEach, withOwner, routersOf, gathered, allBooks}
 use Rattle.routes.specs.Run.{namedIn, namedBy, Fits}
-use Rattle.octets.specs.Lists.{Among, first, later, chosen}
-use Rattle.routes.proofs.Lookups.{lookup-none, lookup-first, lookup-later, lookup-arranged, held-or-absent, held-absent, held-holds, increasing-arranged, increasing-distinct, acceptable-arranged, acceptable-member}
-use Rattle.routes.proofs.Distincts.{among-left, among-right, has-among, among-has, among-distinct, among-cases, routes-fewer}
+use Rattle.octets.specs.Lists.{Among, first, later, Once, chosen}
+use Rattle.routes.proofs.Lookups.{lookup-none, lookup-first, lookup-later, lookup-arranged, held-or-absent, held-absent, held-holds, holds-held, holds-absent, holds-alike, absent-holds, increasing-arranged, increasing-distinct, acceptable-arranged, acceptable-member}
+use Rattle.routes.proofs.Distincts.{among-left, among-right, is-among-true, among-is-among, among-once-each, once-once-each, among-cases, routes-fewer}
 use Rattle.routes.proofs.Chosen.{chosen-first, chosen-later}
 use Rattle.routes.proofs.Ownership.{owner-nobody, owners-same, acceptable-after-none, owned-itself, owned-by}
 use Rattle.routes.proofs.Books.{heldAfter, heldAfterAll, lookup-after, distinct-after, acceptable-after, held-apart, installed-held}
@@ -26,7 +28,7 @@ use Rattle.routes.proofs.Books.{heldAfter, heldAfterAll, lookup-after, 
 -- whose calls
 
 -- a router among some stays among them and a call's owner
-pub beside-owner : {router : List ℕ} {routers : List (List ℕ)} (o : Owner) → Among router routers → Among router (withOwner o routers)
+beside-owner : {router : List ℕ} {routers : List (List ℕ)} (o : Owner) → Among router routers → Among router (withOwner o routers)
 unfolding withOwner
 beside-owner nobody m = m
 beside-owner (owner other) m = later m
@@ -46,13 +48,13 @@ unfolding fed
 fed-kept P afi step book [] p = p
 fed-kept P afi step book (c ∷ cs) p = fed-kept P afi step (bookAfter afi book c) cs (step c book p)
 
-pub book-distinct : (afi : ℕ) (router : List ℕ) (calls : List Call) → Distinct (bookOf afi router calls)
+pub distinct-book : (afi : ℕ) (router : List ℕ) (calls : List Call) → Distinct (bookOf afi router calls)
 unfolding bookOf
-book-distinct afi router calls = fed-kept Distinct afi (λ c book d. distinct-after afi c d) [] (ownCalls afi router calls) Distinct.none
+distinct-book afi router calls = fed-kept Distinct afi (λ c book d. distinct-after afi c d) [] (ownCalls afi router calls) Distinct.none
 
-book-acceptable : (afi : ℕ) (router : List ℕ) (calls : List Call) → AllAcceptable afi (bookOf afi router calls)
+pub acceptable-book : (afi : ℕ) (router : List ℕ) (calls : List Call) → AllAcceptable afi (bookOf afi router calls)
 unfolding bookOf
-book-acceptable afi router calls = fed-kept (AllAcceptable afi) afi (λ c book a. acceptable-after afi c a) [] (ownCalls afi router calls) AllAcceptable.none
+acceptable-book afi router calls = fed-kept (AllAcceptable afi) afi (λ c book a. acceptable-after afi c a) [] (ownCalls afi router calls) AllAcceptable.none
 
 -- of its own NLRIs a router's book holds what its calls, and so all calls, leave
 fed-own : (afi : ℕ) (router nlri : List ℕ) → originatorOf afi nlri ≡ owner router → (calls : List Call) {book : List Route} → Distinct book
@@ -94,43 +96,43 @@ lookup-foreign afi router nlri calls foreign = fed-foreign afi router nlri forei
 
 -- all books together
 
-lookup-front : (nlri a : List ℕ) (xs ys : List Route) → lookup nlri xs ≡ held a → lookup nlri (xs ++ ys) ≡ held a
-lookup-front nlri a [] ys h = absurd (held-absent h (lookup-none nlri))
-lookup-front nlri a (r ∷ xs) ys h =
+lookup-append-held : (nlri a : List ℕ) (xs ys : List Route) → lookup nlri xs ≡ held a → lookup nlri (xs ++ ys) ≡ held a
+lookup-append-held nlri a [] ys h = absurd (held-absent h (lookup-none nlri))
+lookup-append-held nlri a (r ∷ xs) ys h =
     tested (same nlri (nlriOf r))
     (λ t. lookup-first nlri r (xs ++ ys) t ∙ sym (lookup-first nlri r xs t) ∙ h)
-    (λ f. lookup-later nlri r (xs ++ ys) f ∙ lookup-front nlri a xs ys (sym (lookup-later nlri r xs f) ∙ h))
+    (λ f. lookup-later nlri r (xs ++ ys) f ∙ lookup-append-held nlri a xs ys (sym (lookup-later nlri r xs f) ∙ h))
 
-lookup-back : (nlri : List ℕ) (xs ys : List Route) → lookup nlri xs ≡ absent → lookup nlri (xs ++ ys) ≡ lookup nlri ys
-lookup-back nlri [] ys h = refl
-lookup-back nlri (r ∷ xs) ys h =
+lookup-append-absent : (nlri : List ℕ) (xs ys : List Route) → lookup nlri xs ≡ absent → lookup nlri (xs ++ ys) ≡ lookup nlri ys
+lookup-append-absent nlri [] ys h = refl
+lookup-append-absent nlri (r ∷ xs) ys h =
     tested (same nlri (nlriOf r))
     (λ t. absurd (held-absent (lookup-first nlri r xs t) h))
-    (λ f. lookup-later nlri r (xs ++ ys) f ∙ lookup-back nlri xs ys (sym (lookup-later nlri r xs f) ∙ h))
+    (λ f. lookup-later nlri r (xs ++ ys) f ∙ lookup-append-absent nlri xs ys (sym (lookup-later nlri r xs f) ∙ h))
 
-gathered-foreign : (afi : ℕ) (nlri : List ℕ) (routers : List (List ℕ)) (calls : List Call) → ((router : List ℕ) → Among router routers → originatorOf afi nlri ≡ owner router → ⊥)
+lookup-gathered-foreign : (afi : ℕ) (nlri : List ℕ) (routers : List (List ℕ)) (calls : List Call) → ((router : List ℕ) → Among router routers → originatorOf afi nlri ≡ owner router → ⊥)
     → lookup nlri (gathered afi routers calls) ≡ absent
 unfolding gathered
-gathered-foreign afi nlri [] calls h = lookup-none nlri
-gathered-foreign afi nlri (router ∷ routers) calls h =
-    lookup-back nlri (bookOf afi router calls) (gathered afi routers calls) (lookup-foreign afi router nlri calls (h router (first refl)))
-    ∙ gathered-foreign afi nlri routers calls (λ other m. h other (later m))
+lookup-gathered-foreign afi nlri [] calls h = lookup-none nlri
+lookup-gathered-foreign afi nlri (router ∷ routers) calls h =
+    lookup-append-absent nlri (bookOf afi router calls) (gathered afi routers calls) (lookup-foreign afi router nlri calls (h router (first refl)))
+    ∙ lookup-gathered-foreign afi nlri routers calls (λ other m. h other (later m))
 
-gathered-own : (afi : ℕ) (router nlri : List ℕ) (routers : List (List ℕ)) (calls : List Call) → originatorOf afi nlri ≡ owner router → Among router routers
+lookup-gathered-own : (afi : ℕ) (router nlri : List ℕ) (routers : List (List ℕ)) (calls : List Call) → originatorOf afi nlri ≡ owner router → Among router routers
     → lookup nlri (gathered afi routers calls) ≡ lookup nlri (bookOf afi router calls)
 unfolding gathered
-gathered-own afi router nlri (other ∷ routers) calls own m =
+lookup-gathered-own afi router nlri (other ∷ routers) calls own m =
     ⊎-elim
     (λ p.
     let e : other ≡ router = same-equal other router (is-true _ (λ f. held-absent (p .1) (lookup-foreign afi other nlri calls (λ q. other-unequal other router f (owners-same q own))))) in
-    rw (← e) (lookup-front nlri (p .0) (bookOf afi other calls) (gathered afi routers calls) (p .1) ∙ sym (p .1)))
+    rw (← e) (lookup-append-held nlri (p .0) (bookOf afi other calls) (gathered afi routers calls) (p .1) ∙ sym (p .1)))
     (λ p.
-    lookup-back nlri (bookOf afi other calls) (gathered afi routers calls) p
+    lookup-append-absent nlri (bookOf afi other calls) (gathered afi routers calls) p
     ∙ tested (isAmong router routers)
-    (λ t. gathered-own afi router nlri routers calls own (has-among routers t))
+    (λ t. lookup-gathered-own afi router nlri routers calls own (is-among-true routers t))
     (λ f.
-    let e : router ≡ other = ⊎-elim (λ q. q) (λ a. absurd (opposite (among-has a) f)) (among-cases m) in
-    gathered-foreign afi nlri routers calls (λ x a q. opposite (among-has (rw (owners-same own q) a)) f) ∙ sym p ∙ rw e))
+    let e : router ≡ other = ⊎-elim (λ q. q) (λ a. absurd (opposite (among-is-among a) f)) (among-cases m) in
+    lookup-gathered-foreign afi nlri routers calls (λ x a q. opposite (among-is-among (rw (owners-same own q) a)) f) ∙ sym p ∙ rw e))
     (held-or-absent nlri (bookOf afi other calls))
 
 -- all books hold of an NLRI what its router's book holds
@@ -138,16 +140,44 @@ pub lookup-all : (afi : ℕ) (router nlri : List ℕ) (calls : List Call) → or
 unfolding allBooks bookOf fed
 lookup-all afi router nlri calls own =
     tested (isAmong router (onceEach (routersOf afi calls)))
-    (λ t. gathered-own afi router nlri (onceEach (routersOf afi calls)) calls own (has-among _ t))
+    (λ t. lookup-gathered-own afi router nlri (onceEach (routersOf afi calls)) calls own (is-among-true _ t))
     (λ f.
-    let nowhere : ownCalls afi router calls ≡ [] = own-none afi router calls (λ m. opposite (among-has (among-distinct (routersOf afi calls) m)) f) in
-    gathered-foreign afi nlri (onceEach (routersOf afi calls)) calls (λ x a q. opposite (among-has (rw (owners-same own q) a)) f)
+    let nowhere : ownCalls afi router calls ≡ [] = own-none afi router calls (λ m. opposite (among-is-among (among-once-each (routersOf afi calls) m)) f) in
+    lookup-gathered-foreign afi nlri (onceEach (routersOf afi calls)) calls (λ x a q. opposite (among-is-among (rw (owners-same own q) a)) f)
     ∙ sym (lookup-none nlri)
     ∙ ap (λ (l : List Call). lookup nlri (fed afi [] l)) (sym nowhere))
 
 pub lookup-nobody : (afi : ℕ) (nlri : List ℕ) (calls : List Call) → originatorOf afi nlri ≡ nobody → lookup nlri (allBooks afi calls) ≡ absent
 unfolding allBooks
-lookup-nobody afi nlri calls h = gathered-foreign afi nlri (onceEach (routersOf afi calls)) calls (λ router m q. owner-nobody h q)
+lookup-nobody afi nlri calls h = lookup-gathered-foreign afi nlri (onceEach (routersOf afi calls)) calls (λ router m q. owner-nobody h q)
+
+-- no NLRI stands in two books
+
+distinct-append : {xs ys : List Route} → Distinct xs → Distinct ys → ((nlri : List ℕ) → holds nlri xs ≡ true → holds nlri ys ≡ false) → Distinct (xs ++ ys)
+distinct-append Distinct.none b apart = b
+distinct-append {ys = ys} (Distinct.one {r} {rs} h a) b apart =
+    Distinct.one
+    (holds-alike (nlriOf r) (rs ++ ys) ys (lookup-append-absent (nlriOf r) rs ys (absent-holds (nlriOf r) rs h))
+    ∙ apart (nlriOf r) (holds-held (nlriOf r) (r ∷ rs) (attributeOf r) (lookup-first (nlriOf r) r rs (same-itself (nlriOf r)))))
+    (distinct-append a b
+    (λ nlri m.
+    tested (same nlri (nlriOf r))
+    (λ t. absurd (opposite (rw (same-equal nlri (nlriOf r) t) at m) h))
+    (λ f. apart nlri (holds-alike nlri (r ∷ rs) rs (lookup-later nlri r rs f) ∙ m))))
+
+distinct-gathered : (afi : ℕ) {routers : List (List ℕ)} (calls : List Call) → Once routers → Distinct (gathered afi routers calls)
+unfolding gathered
+distinct-gathered afi calls Once.none = Distinct.none
+distinct-gathered afi calls (Once.one {x = router} {xs = routers} n o) =
+    distinct-append (distinct-book afi router calls) (distinct-gathered afi calls o)
+    (λ nlri m.
+    holds-absent nlri (gathered afi routers calls)
+    (lookup-gathered-foreign afi nlri routers calls
+    (λ other a q. opposite m (holds-absent nlri (bookOf afi router calls) (lookup-foreign afi router nlri calls (λ p. n (rw (owners-same p q) a)))))))
+
+pub distinct-all : (afi : ℕ) (calls : List Call) → Distinct (allBooks afi calls)
+unfolding allBooks
+distinct-all afi calls = distinct-gathered afi calls (once-once-each (routersOf afi calls))
 
 -- whatever the owner, what all calls leave
 held-nobody : (afi : ℕ) (nlri : List ℕ) (calls : List Call) (h : Held) → originatorOf afi nlri ≡ nobody → heldAfterAll afi calls nlri h ≡ h
@@ -190,31 +220,31 @@ acceptable-append : {afi : ℕ} {xs ys : List Route} → AllAcceptable afi xs �
 acceptable-append AllAcceptable.none b = b
 acceptable-append (AllAcceptable.one h a) b = AllAcceptable.one h (acceptable-append a b)
 
-gathered-acceptable : (afi : ℕ) (routers : List (List ℕ)) (calls : List Call) → AllAcceptable afi (gathered afi routers calls)
+acceptable-gathered : (afi : ℕ) (routers : List (List ℕ)) (calls : List Call) → AllAcceptable afi (gathered afi routers calls)
 unfolding gathered
-gathered-acceptable afi [] calls = AllAcceptable.none
-gathered-acceptable afi (router ∷ routers) calls = acceptable-append (book-acceptable afi router calls) (gathered-acceptable afi routers calls)
+acceptable-gathered afi [] calls = AllAcceptable.none
+acceptable-gathered afi (router ∷ routers) calls = acceptable-append (acceptable-book afi router calls) (acceptable-gathered afi routers calls)
 
-all-acceptable : (afi : ℕ) (calls : List Call) → AllAcceptable afi (allBooks afi calls)
+acceptable-all : (afi : ℕ) (calls : List Call) → AllAcceptable afi (allBooks afi calls)
 unfolding allBooks
-all-acceptable afi calls = gathered-acceptable afi (onceEach (routersOf afi calls)) calls
+acceptable-all afi calls = acceptable-gathered afi (onceEach (routersOf afi calls)) calls
 
-pub books-increasing : (afi : ℕ) (calls : List Call) → Increasing [] (arranged (allBooks afi calls))
-books-increasing afi calls = increasing-arranged [] (allBooks afi calls) (λ r m. acceptable-after-none afi r (acceptable-member (all-acceptable afi calls) m))
+pub increasing-books : (afi : ℕ) (calls : List Call) → Increasing [] (arranged (allBooks afi calls))
+increasing-books afi calls = increasing-arranged [] (allBooks afi calls) (λ r m. acceptable-after-none afi r (acceptable-member (acceptable-all afi calls) m))
 
-books-few : (afi : ℕ) (calls : List Call) → length (arranged (allBooks afi calls)) ≤ length (onceEach (namedBy afi calls))
-books-few afi calls =
-    routes-fewer (namedBy afi calls) (increasing-distinct (books-increasing afi calls))
+length-books : (afi : ℕ) (calls : List Call) → length (arranged (allBooks afi calls)) ≤ length (onceEach (namedBy afi calls))
+length-books afi calls =
+    routes-fewer (namedBy afi calls) (increasing-distinct (increasing-books afi calls))
     (λ nlri h.
     let p = held-holds nlri (arranged (allBooks afi calls)) h in
     held-named afi nlri calls (p .0) (sym (lookup-all-after afi nlri calls) ∙ sym (lookup-arranged nlri (allBooks afi calls)) ∙ p .1))
 
-pub books-holdable : (afi places : ℕ) (calls : List Call) → KnownFamily afi → places ≤ 500 → Fits afi places calls → Holdable afi places (arranged (allBooks afi calls))
-books-holdable afi places calls bits most fits =
+pub holdable-books : (afi places : ℕ) (calls : List Call) → KnownFamily afi → places ≤ 500 → Fits afi places calls → Holdable afi places (arranged (allBooks afi calls))
+holdable-books afi places calls bits most fits =
     record {
       family = bits;
       most = most;
-      within = le-trans (books-few afi calls) fits;
-      acceptable = acceptable-arranged afi (all-acceptable afi calls);
-      increasing = books-increasing afi calls;
+      within = le-trans (length-books afi calls) fits;
+      acceptable = acceptable-arranged afi (acceptable-all afi calls);
+      increasing = increasing-books afi calls;
     }

@@ -1,21 +1,23 @@
--- How arguments are refused, and what is accepted (specs/CallRules.antt, `ArgumentRule`).
-use Prim.Native.Nat.{ℕ}
-use mathlib.Core.Path.{_≡_, refl, sym, subst}
+-- How arguments are refused, and what is accepted (specs/ArgumentRules.antt).
+use Prim.Native.Nat.{ℕ, _≤_}
+use mathlib.Core.Path.{_≡_, refl, sym, ap, subst, _∙_}
 use mathlib.Core.Logic.{⊎-elim}
 use mathlib.Core.List.{List}
-use borrow.Author.Tests.{eqb-true, eqb-false, eq-eqb, ne-eqb}
-use Rattle.octets.specs.Numbers.{LABEL, KIND}
+use lib.ListN.{length}
+use borrow.Author.Tests.{eqb-true, eqb-false, eq-eqb, ne-eqb, ltb-true, ltb-false, lt-ltb, le-ltb}
+use Rattle.octets.specs.Numbers.{LABEL, KIND, FLOW, SPACE}
 use Rattle.octets.specs.Outcome.{given, refused}
-use Rattle.octets.proofs.Inversions.{never, opposite, given-otherwise, given-unless, passed, both-true-left, both-true-right}
+use Rattle.octets.proofs.Inversions.{never, opposite, given-same, given-otherwise, given-unless, passed, both-true-left, both-true-right}
 use Rattle.octets.proofs.Outcomes.{pick-true, pick-false}
-use Rattle.octets.proofs.Refusals.{stopped, refuses-unless, refuses-where, is-false}
+use Rattle.octets.proofs.Refusals.{outcome, stopped, refuses-unless, refuses-where, is-false}
 use Rattle.octets.proofs.Tests.{goes, stops, both-true}
 use Rattle.nlri.specs.Fields.{Fields}
-use Rattle.tunnel.specs.Attribute.{labelOf}
-use Rattle.tunnel.specs.Attribute.{AttributeFields}
+use Rattle.nlri.specs.Reading.{readNlri}
+use Rattle.tunnel.specs.Attribute.{AttributeFields, labelOf}
 use Rattle.routes.specs.Route.{route}
-use Rattle.routes.specs.Arguments.{readSPmsi, readLabelled, readRoute}
-use Rattle.routes.specs.CallRules.{SPmsi, Labelled, NlriRefusal, unreadNlri, otherKind, RouteRefusal, badNlri, unreadAttribute, noLabel, ArgumentRule}
+use Rattle.routes.specs.Arguments.{Query, readSPmsi, readLabelled, readRoute, readFlow, readMatch}
+use Rattle.routes.specs.ArgumentRules.{KnownFamily, SPmsi, Labelled, GoodFlow, NlriRefusal, unreadNlri, otherKind, RouteRefusal, badNlri, unreadAttribute, noLabel, FlowRefusal, badFlow, noSpace, ArgumentRule}
+use Rattle.routes.proofs.Flows.{flow-asked, flow-given, flow-refused}
 
 module _ (afi : ℕ) (nlri : List ℕ) where
   nlri-refused : (n : ℕ) → readSPmsi afi nlri ≡ refused n → NlriRefusal afi nlri n
@@ -32,13 +34,22 @@ module _ (afi : ℕ) (nlri : List ℕ) where
   nlri-refuses (unreadNlri e) = sym (stops _ _ _ e)
   nlri-refuses (otherKind f e k) = sym (goes _ _ _ _ e (sym (pick-false _ _ _ (ne-eqb (f .type) 3 k))))
 
-  pub nlri-accepted : (f : Fields) → readSPmsi afi nlri ≡ given f → SPmsi afi nlri
+  nlri-passed : (f : Fields) → readSPmsi afi nlri ≡ given f → (readNlri afi nlri ≡ given f) × (f .type ≡ 3)
   unfolding readSPmsi
-  nlri-accepted f e = let p = passed _ _ _ e in record { fields = p .value; read = p .first; kind = eqb-true _ _ (given-unless _ _ _ _ (p .second) .0) }
+  nlri-passed f e =
+      let p = passed _ _ _ e in
+      let q = given-unless _ _ _ _ (p .second) in
+      (p .first ∙ q .1, ap (λ (g : Fields). g .type) (sym (given-same (q .1))) ∙ eqb-true _ _ (q .0))
+
+  nlri-passes : (f : Fields) → (readNlri afi nlri ≡ given f) × (f .type ≡ 3) → readSPmsi afi nlri ≡ given f
+  unfolding readSPmsi
+  nlri-passes f p = sym (goes _ _ _ _ (p .0) (sym (pick-true _ _ _ (eq-eqb (f .type) 3 (p .1)))))
+
+  pub nlri-accepted : (f : Fields) → readSPmsi afi nlri ≡ given f → SPmsi afi nlri
+  nlri-accepted f e = let p = nlri-passed f e in record { fields = f; read = p .0; kind = p .1 }
 
   pub nlri-accepts : (s : SPmsi afi nlri) → readSPmsi afi nlri ≡ given (s .fields)
-  unfolding readSPmsi
-  nlri-accepts s = sym (goes _ _ _ _ (s .read) (sym (pick-true _ _ _ (eq-eqb (s .fields .type) 3 (s .kind)))))
+  nlri-accepts s = nlri-passes (s .fields) (s .read, s .kind)
 
 module _ (attribute : List ℕ) where
   labelled : (f : AttributeFields) → readLabelled attribute ≡ given f → Labelled attribute
@@ -81,22 +92,65 @@ module _ (afi : ℕ) (nlri attribute : List ℕ) where
       sym (goes _ _ _ _ (nlri-accepts afi nlri s)
       (stops _ _ _ (sym (goes _ _ _ _ e (sym (pick-true _ _ _ (both-true _ _ (eq-eqb (f .tunnelType) 11 bier) (eq-eqb (labelOf f) 0 zero))))))))
 
-  route-accepted : readRoute afi nlri attribute ≡ given (route nlri attribute) → SPmsi afi nlri × Labelled attribute
+  route-passed : readRoute afi nlri attribute ≡ given (route nlri attribute) → SPmsi afi nlri × Labelled attribute
   unfolding readRoute
-  route-accepted e =
+  route-passed e =
       let p = passed _ _ _ e in
       let q = passed _ _ _ (p .second) in
       (nlri-accepted afi nlri (p .value) (p .first), labelled attribute (q .value) (q .first))
 
-  route-accepts : SPmsi afi nlri × Labelled attribute → readRoute afi nlri attribute ≡ given (route nlri attribute)
+  route-passes : SPmsi afi nlri × Labelled attribute → readRoute afi nlri attribute ≡ given (route nlri attribute)
   unfolding readRoute
-  route-accepts a = sym (goes _ _ _ _ (nlri-accepts afi nlri (a .0)) (goes _ _ _ _ (takes-labelled attribute (a .1)) refl))
+  route-passes a = sym (goes _ _ _ _ (nlri-accepts afi nlri (a .0)) (goes _ _ _ _ (takes-labelled attribute (a .1)) refl))
+
+module _ (afi : ℕ) (router source group output : List ℕ) where
+  flow-refusal : (n : ℕ) → KnownFamily afi → readMatch afi router source group output ≡ refused n → FlowRefusal afi router source group output n
+  unfolding readMatch
+  flow-refusal n bits e =
+      ⊎-elim
+      (λ first.
+      subst (FlowRefusal afi router source group output) (sym (flow-refused afi router source group n bits first))
+      (badFlow (λ good. never (flow-given afi router source group good .1) first)))
+      (λ later.
+      let p = refuses-where SPACE n _ _ (later .second) in
+      subst (FlowRefusal afi router source group output) (sym (p .1)) (noSpace (flow-asked afi router source group (later .value) (later .first) .good) (ltb-true _ _ (p .0))))
+      (stopped _ _ _ e)
+
+  bad-flow : KnownFamily afi → (GoodFlow afi router source group → ⊥) → readFlow afi router source group ≡ refused FLOW
+  bad-flow bits bad =
+      ⊎-elim (λ p. absurd (bad (flow-asked afi router source group (p .0) (p .1) .good)))
+      (λ p. p .1 ∙ ap refused (flow-refused afi router source group (p .0) bits (p .1)))
+      (outcome (readFlow afi router source group))
+
+  flow-refuses : {n : ℕ} → KnownFamily afi → FlowRefusal afi router source group output n → readMatch afi router source group output ≡ refused n
+  unfolding readMatch
+  flow-refuses bits (badFlow bad) = sym (stops _ _ _ (bad-flow bits bad))
+  flow-refuses bits (noSpace good less) = sym (goes _ _ _ _ (flow-given afi router source group good .1) (sym (pick-true _ _ _ (lt-ltb (length output) 124 less))))
+
+  pub flow-passed : (q : Query) → readMatch afi router source group output ≡ given q → (readFlow afi router source group ≡ given q) × (124 ≤ length output)
+  unfolding readMatch
+  flow-passed q e =
+      let p = passed _ _ _ e in
+      let g = given-otherwise _ _ _ _ (p .second) in
+      (p .first ∙ g .1, ltb-false _ _ (g .0))
+
+  pub flow-passes : (q : Query) → readFlow afi router source group ≡ given q → 124 ≤ length output → readMatch afi router source group output ≡ given q
+  unfolding readMatch
+  flow-passes q e enough = sym (goes _ _ _ _ e (sym (pick-false _ _ _ (le-ltb (length output) 124 enough))))
+
+  flow-accepted : (q : Query) → readMatch afi router source group output ≡ given q → GoodFlow afi router source group × (124 ≤ length output)
+  flow-accepted q e = let p = flow-passed q e in (flow-asked afi router source group q (p .0) .good, p .1)
+
+  flow-taken : GoodFlow afi router source group × (124 ≤ length output) → (q : Query) × (readMatch afi router source group output ≡ given q)
+  flow-taken h = let f = flow-given afi router source group (h .0) in (f .0, flow-passes (f .0) (f .1) (h .1))
 
 pub argumentRule : ArgumentRule
 argumentRule =
     record {
       refusedNlri = λ afi nlri n. (nlri-refused afi nlri n, nlri-refuses afi nlri);
+      acceptedNlri = λ afi nlri f. (nlri-passed afi nlri f, nlri-passes afi nlri f);
       refusedRoute = λ afi nlri attribute n. (route-refused afi nlri attribute n, route-refuses afi nlri attribute);
-      acceptedNlri = λ afi nlri. (λ p. nlri-accepted afi nlri (p .0) (p .1), λ s. (s .fields, nlri-accepts afi nlri s));
-      acceptedRoute = λ afi nlri attribute. (route-accepted afi nlri attribute, route-accepts afi nlri attribute);
+      acceptedRoute = λ afi nlri attribute. (route-passed afi nlri attribute, route-passes afi nlri attribute);
+      refusedFlow = λ afi router source group output n bits. (flow-refusal afi router source group output n bits, flow-refuses afi router source group output bits);
+      acceptedFlow = λ afi router source group output. (λ p. flow-accepted afi router source group output (p .0) (p .1), flow-taken afi router source group output);
     }

@@ -1,85 +1,154 @@
--- Owners, the premise and the books (specs/BookRules.antt).
+-- Owners, the premise, and the books with their image (specs/BookRules.antt).
 use Prim.Native.Nat.{ℕ, _≤_}
-use mathlib.Core.Path.{_≡_, refl, sym, ap, subst, _∙_}
-use mathlib.Core.Bool.{true}
-use mathlib.Core.List.{List}
-use mathlib.Core.Logic.{_↔_, _⊎_, inl, inr, ⊎-elim}
-use borrow.Author.Tests.{eqb-true, eq-eqb}
+use mathlib.Core.Path.{_≡_, refl, sym, ap, subst, subst₂, _∙_}
+use mathlib.Core.Bool.{true, false}
+use mathlib.Core.List.{List, [], _∷_, _++_}
+use mathlib.Core.Logic.{_≢_, ⊎-elim}
 use lib.ListN.{length}
-use Rattle.octets.specs.Outcome.{Outcome, given, refused, onOutcome}
-use Rattle.octets.proofs.Inversions.{opposite, either-true}
+use Rattle.octets.specs.Numbers.{DONE}
+use Rattle.octets.specs.Outcome.{Outcome, given, refused, onOutcome, numberOf}
+use Rattle.octets.specs.Lists.{Among, chosen}
+use Rattle.octets.proofs.Inversions.{opposite}
 use Rattle.octets.proofs.Picked.{tested}
-use Rattle.octets.proofs.Refusals.{picked, either-second}
-use Rattle.octets.proofs.Tests.{either-left}
-use Rattle.nlri.specs.Family.{isOriginatorSize}
+use Rattle.octets.proofs.Refusals.{picked, is-false}
 use Rattle.nlri.specs.Fields.{Fields}
-use Rattle.octets.specs.Lists.{Among}
+use Rattle.nlri.proofs.Theorems.{lengths}
 use Rattle.routes.specs.Route.{Route, nlriOf, attributeOf, held, lookup, arranged}
 use Rattle.routes.specs.Arguments.{readSPmsi}
-use Rattle.routes.specs.Images.{KnownFamily}
-use Rattle.routes.specs.CallRules.{SPmsi}
-use Rattle.routes.specs.Call.{Call, match, Owner, nobody, owner, originatorOf, ownerOf, ownedBy}
-use Rattle.routes.specs.Book.{bookOf, allBooks}
-use Rattle.routes.specs.Run.{Fits}
-use Rattle.routes.specs.BookRules.{OwnerRule, PremiseRule, BookRule}
+use Rattle.routes.specs.ArgumentRules.{KnownFamily, SPmsiOf}
+use Rattle.routes.specs.Call.{Call, install, withdraw, match, Owner, nobody, owner, originatorOf, ownerOf, ownedBy, owns, Act, argued, refusalOf, refusalAnswer}
+use Rattle.routes.specs.Book.{bookAfter, fed, ownCalls, bookOf, allBooks, dueAnswer}
+use Rattle.routes.specs.Run.{imageOfBooks, namedBy, Fits}
+use Rattle.routes.specs.BookRules.{BelongsTo, ownInstall, ownWithdrawal, ownMatch, Nobodys, OwnerRule, PremiseRule, CallRefusal, BookStep, BookRule, ImageRule}
 use Rattle.routes.proofs.Lookups.{route-again, held-absent, lookup-arranged, lookup-member, member-lookup, increasing-distinct}
-use Rattle.routes.proofs.ArgumentRules.{nlri-accepted, nlri-accepts}
-use Rattle.routes.proofs.Distincts.{distinct-among, among-distinct, once-distinct}
+use Rattle.routes.proofs.ArgumentRules.{argumentRule, nlri-accepts}
+use Rattle.routes.proofs.ByArguments.{argued-number}
+use Rattle.routes.proofs.Images.{images}
+use Rattle.routes.proofs.Distincts.{once-each-among, among-once-each, once-once-each}
+use Rattle.routes.proofs.Chosen.{chosen-first, chosen-later}
 use Rattle.routes.proofs.Ownership.{owner-read, owner-nobody, owners-same, owned-by, owned-itself, match-owner}
+use Rattle.routes.proofs.Acts.{owned}
 use Rattle.routes.proofs.Named.{named-exactly}
-use Rattle.routes.proofs.AllBooks.{book-distinct, lookup-foreign, lookup-all, lookup-nobody, books-increasing, books-holdable}
+use Rattle.routes.proofs.AllBooks.{distinct-book, acceptable-book, lookup-foreign, lookup-all, lookup-nobody, distinct-all, increasing-books, holdable-books}
+use Rattle.routes.proofs.DueSteps.{due-owned, due-nobody}
+use Rattle.routes.proofs.Reorders.{own-then, own-not}
+use Rattle.routes.proofs.BookSteps.{argued-refusal, book-step}
 
 -- owners
 
-originated : (afi : ℕ) (nlri router : List ℕ) → originatorOf afi nlri ≡ owner router → (s : SPmsi afi nlri) × (s .fields .originator ≡ router)
+originated : (afi : ℕ) (router nlri : List ℕ) → originatorOf afi nlri ≡ owner router → SPmsiOf afi router nlri
 unfolding originatorOf onOutcome
-originated afi nlri router h = go (readSPmsi afi nlri) refl
+originated afi router nlri h = go (readSPmsi afi nlri) refl
   where
-    go : (o : Outcome Fields) → readSPmsi afi nlri ≡ o → (s : SPmsi afi nlri) × (s .fields .originator ≡ router)
-    go (given f) e = let s = nlri-accepted afi nlri f e in (s, owners-same (owner-read afi nlri (s .fields) (nlri-accepts afi nlri s)) h)
+    go : (o : Outcome Fields) → readSPmsi afi nlri ≡ o → SPmsiOf afi router nlri
+    go (given f) e =
+        let p = argumentRule .acceptedNlri afi nlri f .0 e in
+        record { named = record { fields = f; read = p .0; kind = p .1 }; originator = owners-same (owner-read afi nlri f e) h }
     go (refused n) e = absurd (owner-nobody refl (rw e at h))
 
-originator : (afi : ℕ) (nlri router : List ℕ) → (s : SPmsi afi nlri) × (s .fields .originator ≡ router) → originatorOf afi nlri ≡ owner router
-originator afi nlri router p = owner-read afi nlri (p .0 .fields) (nlri-accepts afi nlri (p .0)) ∙ ap owner (p .1)
+originator : (afi : ℕ) (router nlri : List ℕ) → SPmsiOf afi router nlri → originatorOf afi nlri ≡ owner router
+originator afi router nlri s = owner-read afi nlri (s .named .fields) (nlri-accepts afi nlri (s .named)) ∙ ap owner (s .originator)
 
-originates : (afi : ℕ) (nlri router : List ℕ) → (originatorOf afi nlri ≡ owner router) ↔ ((s : SPmsi afi nlri) × (s .fields .originator ≡ router))
-originates afi nlri router = (originated afi nlri router, originator afi nlri router)
-
-router-size : (size : ℕ) → (isOriginatorSize size ≡ true) ↔ ((size ≡ 4) ⊎ (size ≡ 16))
-unfolding isOriginatorSize
-router-size size = (
-  λ h. ⊎-elim (λ a. inl (eqb-true size 4 a)) (λ b. inr (eqb-true size 16 b)) (either-true _ _ h),
-  λ s. ⊎-elim (λ a. either-left _ _ (eq-eqb size 4 a)) (λ b. either-second _ _ (eq-eqb size 16 b)) s,
-)
-
-asked : (afi : ℕ) (address source group output router : List ℕ) → ownerOf afi (match address source group output) ≡ owner router → (router ≡ address) × ((length address ≡ 4) ⊎ (length address ≡ 16))
+pub belongs : (afi : ℕ) (router : List ℕ) (c : Call) → ownerOf afi c ≡ owner router → BelongsTo afi router c
 unfolding ownerOf
-asked afi address source group output router h =
-    ⊎-elim (λ p. (sym (owners-same refl (p .1)), router-size (length address) .0 (p .0))) (λ p. absurd (owner-nobody refl (p .1))) (picked _ _ _ _ h)
+belongs afi router (install nlri attribute) h = ownInstall (originated afi router nlri h)
+belongs afi router (withdraw nlri) h = ownWithdrawal (originated afi router nlri h)
+belongs afi router (match address source group output) h =
+    ⊎-elim
+    (λ p. subst (λ (x : List ℕ). BelongsTo afi x (match address source group output)) (owners-same refl (p .1)) (ownMatch (lengths .originators (length address) .0 (p .0))))
+    (λ p. absurd (owner-nobody refl (p .1)))
+    (picked _ _ _ _ h)
+
+belonging : {afi : ℕ} {router : List ℕ} {c : Call} → BelongsTo afi router c → ownerOf afi c ≡ owner router
+unfolding ownerOf
+belonging {afi} {router} (ownInstall {nlri} s) = originator afi router nlri s
+belonging {afi} {router} (ownWithdrawal {nlri} s) = originator afi router nlri s
+belonging {afi} {router} (ownMatch {source} {group} {output} size) = match-owner afi router source group output (lengths .originators (length router) .1 size)
+
+nobodys-owner : (afi : ℕ) (c : Call) → Nobodys afi c → ownerOf afi c ≡ nobody
+nobodys-owner afi c h = go (ownerOf afi c) refl
+  where
+    go : (o : Owner) → ownerOf afi c ≡ o → ownerOf afi c ≡ nobody
+    go nobody e = e
+    go (owner router) e = absurd (h router (belongs afi router c e))
+
+owns-true : {afi : ℕ} {router : List ℕ} {c : Call} → BelongsTo afi router c → owns afi router c ≡ true
+owns-true {afi} {router} {c} b = owned-itself router (ownerOf afi c) (belonging b)
+
+owns-false : (afi : ℕ) (router : List ℕ) (c : Call) → (BelongsTo afi router c → ⊥) → owns afi router c ≡ false
+owns-false afi router c h = is-false _ (λ t. h (belongs afi router c (owned-by router (ownerOf afi c) t)))
 
 pub ownerRule : OwnerRule
-unfolding ownerOf
+unfolding chosen
 ownerRule =
     record {
-      installs = λ afi nlri attribute router. originates afi nlri router;
-      withdrawals = λ afi nlri router. originates afi nlri router;
-      matches = λ afi address source group output router. (
-        asked afi address source group output router,
-        λ p. match-owner afi address source group output (router-size (length address) .1 (p .1)) ∙ ap owner (sym (p .0)),
-      );
+      belongs = λ afi router c. (belongs afi router c, belonging);
+      nobodys = λ afi c. (λ h router b. owner-nobody h (belonging b), nobodys-owner afi c);
+      none = λ afi router. refl;
+      own = λ afi router c cs b. chosen-first _ c cs (owns-true b);
+      foreign = λ afi router c cs h. chosen-later _ c cs (owns-false afi router c h);
     }
 
+-- the premise
+
 pub premiseRule : PremiseRule
-premiseRule = record { named = λ afi calls nlri. named-exactly afi nlri calls; counted = λ names nlri. (distinct-among names, among-distinct names); once = once-distinct }
+premiseRule =
+    record {
+      exactly = λ afi calls nlri. (λ m. named-exactly afi nlri calls .0 (once-each-among (namedBy afi calls) m), λ p. among-once-each (namedBy afi calls) (named-exactly afi nlri calls .1 p));
+      once = λ afi calls. once-once-each (namedBy afi calls);
+    }
 
 -- books
+
+fed-then : (afi : ℕ) (book : List Route) (calls : List Call) (c : Call) → fed afi book (calls ++ (c ∷ [])) ≡ bookAfter afi (fed afi book calls) c
+unfolding fed
+fed-then afi book [] c = refl
+fed-then afi book (b ∷ calls) c = fed-then afi (bookAfter afi book b) calls c
+
+module _ (afi : ℕ) (bits : KnownFamily afi) where
+  book-none : (router : List ℕ) → bookOf afi router [] ≡ []
+  unfolding bookOf fed chosen
+  book-none router = refl
+
+  book-own : (router : List ℕ) (earlier : List Call) (c : Call) → BelongsTo afi router c
+      → BookStep afi (bookOf afi router earlier) c (dueAnswer afi earlier c) (bookOf afi router (earlier ++ (c ∷ [])))
+  unfolding bookOf
+  book-own router earlier c b =
+      subst₂ (BookStep afi (bookOf afi router earlier) c) (sym (due-owned afi earlier c router (belonging b)))
+      (sym (ap (fed afi []) (own-then afi router earlier c (owns-true b)) ∙ fed-then afi [] (ownCalls afi router earlier) c))
+      (book-step afi bits (distinct-book afi router earlier) (acceptable-book afi router earlier) c)
+
+  book-foreign : (router : List ℕ) (earlier : List Call) (c : Call) → (BelongsTo afi router c → ⊥) → bookOf afi router (earlier ++ (c ∷ [])) ≡ bookOf afi router earlier
+  unfolding bookOf
+  book-foreign router earlier c h = ap (fed afi []) (own-not afi router earlier c (owns-false afi router c h))
+
+  nobodys-due : (earlier : List Call) (c : Call) → Nobodys afi c → (n : ℕ) × (n ≢ DONE) × CallRefusal afi c n × (dueAnswer afi earlier c ≡ refusalAnswer c n)
+  unfolding refusalOf numberOf
+  nobodys-due earlier c h = go (argued afi c) refl
+    where
+      go : (o : Outcome Act) → argued afi c ≡ o → (n : ℕ) × (n ≢ DONE) × CallRefusal afi c n × (dueAnswer afi earlier c ≡ refusalAnswer c n)
+      go (given act) e = absurd (owner-nobody (nobodys-owner afi c h) (owned afi c act e .own))
+      go (refused n) e = (n, argued-number afi c n e .0, argued-refusal afi bits c n e, due-nobody afi earlier c (nobodys-owner afi c h) ∙ rw e)
+
+  pub bookRule : BookRule afi
+  bookRule =
+      record {
+        none = book-none;
+        own = book-own;
+        foreign = book-foreign;
+        nobodys = nobodys-due;
+        distinct = λ router calls. distinct-book afi router calls;
+        apart = distinct-all afi;
+      }
+
+-- their image
 
 module _ (afi : ℕ) (calls : List Call) where
   gathered-from : (r : Route) → Among r (arranged (allBooks afi calls)) → (router : List ℕ) × Among r (bookOf afi router calls)
   gathered-from r m = go (originatorOf afi (nlriOf r)) refl
     where
       all : lookup (nlriOf r) (allBooks afi calls) ≡ held (attributeOf r)
-      all = sym (lookup-arranged (nlriOf r) (allBooks afi calls)) ∙ member-lookup (increasing-distinct (books-increasing afi calls)) m
+      all = sym (lookup-arranged (nlriOf r) (allBooks afi calls)) ∙ member-lookup (increasing-distinct (increasing-books afi calls)) m
 
       go : (o : Owner) → originatorOf afi (nlriOf r) ≡ o → (router : List ℕ) × Among r (bookOf afi router calls)
       go nobody e = absurd (held-absent all (lookup-nobody afi (nlriOf r) calls e))
@@ -88,7 +157,7 @@ module _ (afi : ℕ) (calls : List Call) where
 
   gathered-in : (r : Route) (router : List ℕ) → Among r (bookOf afi router calls) → Among r (arranged (allBooks afi calls))
   gathered-in r router m =
-      let book : lookup (nlriOf r) (bookOf afi router calls) ≡ held (attributeOf r) = member-lookup (book-distinct afi router calls) m in
+      let book : lookup (nlriOf r) (bookOf afi router calls) ≡ held (attributeOf r) = member-lookup (distinct-book afi router calls) m in
       tested (ownedBy router (originatorOf afi (nlriOf r)))
       (λ t.
       let own = owned-by router (originatorOf afi (nlriOf r)) t in
@@ -96,10 +165,13 @@ module _ (afi : ℕ) (calls : List Call) where
       (lookup-member (nlriOf r) (attributeOf r) (arranged (allBooks afi calls)) (lookup-arranged (nlriOf r) (allBooks afi calls) ∙ lookup-all afi router (nlriOf r) calls own ∙ book)))
       (λ f. absurd (held-absent book (lookup-foreign afi router (nlriOf r) calls (λ e. opposite (owned-itself router _ e) f))))
 
-  pub book-rule : (places : ℕ) → KnownFamily afi → places ≤ 500 → Fits afi places calls → BookRule afi places calls
-  book-rule places bits most fits =
+  pub image-rule : (places : ℕ) → KnownFamily afi → places ≤ 500 → Fits afi places calls → ImageRule afi places calls
+  unfolding imageOfBooks
+  image-rule places bits most fits =
+      let h = holdable-books afi places calls bits most fits in
       record {
-        distinct = λ router. book-distinct afi router calls;
-        holdable = books-holdable afi places calls bits most fits;
+        routes = arranged (allBooks afi calls);
+        holdable = h;
+        table = images .imaged afi places (arranged (allBooks afi calls)) h;
         exactly = λ r. (gathered-from r, λ p. gathered-in r (p .0) (p .1));
       }

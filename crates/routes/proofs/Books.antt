@@ -92,7 +92,7 @@ acceptable-after afi c {book} a =
     argued-cases (λ (o : Outcome Act). AllAcceptable afi (onOutcome (λ number. book) (actAfter book) o)) afi c (λ n e. a) (λ act e k. acceptable-act (k .known) a)
 
 -- no router has both the NLRI and the call
-abbrev pub Apart : (afi : ℕ) (nlri : List ℕ) → Call → Type 0
+abbrev Apart : (afi : ℕ) (nlri : List ℕ) → Call → Type 0
 Apart afi nlri c = (router : List ℕ) → originatorOf afi nlri ≡ owner router → ownerOf afi c ≡ owner router → ⊥
 
 -- such a call leaves what is held of the NLRI

@@ -89,7 +89,7 @@ pub record Accepted (afi : ℕ) (nlri attribute : List ℕ) : Type 0 where
   pub read : readSPmsi afi nlri ≡ given fields
   pub labelled : readLabelled attribute ≡ given attributeFields
 
-route-accepted : (afi : ℕ) (nlri attribute : List ℕ) (r : Route) → readRoute afi nlri attribute ≡ given r → Accepted afi nlri attribute × (r ≡ route nlri attribute)
+pub route-accepted : (afi : ℕ) (nlri attribute : List ℕ) (r : Route) → readRoute afi nlri attribute ≡ given r → Accepted afi nlri attribute × (r ≡ route nlri attribute)
 unfolding readRoute
 route-accepted afi nlri attribute r e =
     let p = passed _ _ _ e in

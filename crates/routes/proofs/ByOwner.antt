@@ -20,7 +20,7 @@ rearranged-none none = refl
 rearranged-first : {A : Type 0} {x : A} {xs ys : List A} → Rearranged (x ∷ xs) ys → (zs : List A) × PutIn x zs ys × Rearranged xs zs
 rearranged-first (one {ys = zs} p r) = (zs, p, r)
 
-pub nobody-is : (w : Owner) → w ≡ nobody → isNobody w ≡ true
+nobody-is : (w : Owner) → w ≡ nobody → isNobody w ≡ true
 unfolding isNobody
 nobody-is w e = rw e
 
@@ -29,7 +29,7 @@ unfolding isNobody
 is-nobody nobody h = refl
 is-nobody (owner router) h = absurd (opposite {b = false} h refl)
 
-pub owner-is : {router : List ℕ} (w : Owner) → w ≡ owner router → isNobody w ≡ false
+owner-is : {router : List ℕ} (w : Owner) → w ≡ owner router → isNobody w ≡ false
 unfolding isNobody
 owner-is w e = rw e
 

@@ -35,13 +35,6 @@ module _ {A : Type 0} (test : A → Bool) where
       (λ t. ⊎-elim (λ e. first e) (λ a. later (chosen-among ys a)) (among-cases (rw (chosen-first y ys t) at m)))
       (λ f. later (chosen-among ys (rw (chosen-later y ys f) at m)))
 
-  pub among-chosen : {x : A} {xs : List A} → test x ≡ true → Among x xs → Among x (chosen test xs)
-  among-chosen {x} h (first {y} {ys} e) = rw (chosen-first y ys (rw (← e) h)) (first e)
-  among-chosen {x} h (later {y} {ys} m) =
-      tested (test y)
-      (λ t. rw (chosen-first y ys t) (later (among-chosen h m)))
-      (λ f. rw (chosen-later y ys f) (among-chosen h m))
-
   -- what is chosen passes the test
   pub chosen-passes : {x : A} (xs : List A) → Among x (chosen test xs) → test x ≡ true
   unfolding chosen

@@ -85,7 +85,7 @@ same-flow q tier f g h k =
     h k
 
 -- a test of fields that holds of a route: its NLRI is a well-formed S-PMSI NLRI
-pub of-fields : (afi : ℕ) (r : Route) (test : Fields → Bool) → ofFields afi r test ≡ true → (f : Fields) × (readSPmsi afi (nlriOf r) ≡ given f) × (test f ≡ true)
+of-fields : (afi : ℕ) (r : Route) (test : Fields → Bool) → ofFields afi r test ≡ true → (f : Fields) × (readSPmsi afi (nlriOf r) ≡ given f) × (test f ≡ true)
 unfolding ofFields onOutcome
 of-fields afi r test = go (readSPmsi afi (nlriOf r))
   where

@@ -62,9 +62,9 @@ put-kept front m = later m
 put-kept (behind p) (first e) = first e
 put-kept (behind p) (later m) = later (put-kept p m)
 
-put-length : {A : Type 0} {x : A} {zs ys : List A} → PutIn x zs ys → length ys ≡ suc (length zs)
-put-length front = refl
-put-length (behind p) = ap suc (put-length p)
+length-put : {A : Type 0} {x : A} {zs ys : List A} → PutIn x zs ys → length ys ≡ suc (length zs)
+length-put front = refl
+length-put (behind p) = ap suc (length-put p)
 
 pub rearranged-itself : {A : Type 0} (xs : List A) → Rearranged xs xs
 rearranged-itself [] = Rearranged.none
@@ -92,59 +92,59 @@ pigeonhole ys (Once.one {x} {xs} n o) h =
     let p = put-among (h x (first refl)) in
     let fewer : length xs ≤ length (p .0) =
     pigeonhole (p .0) o (λ z m. ⊎-elim (λ e. absurd (n (among-as e m))) (λ a. a) (put-other (p .1) (h z (later m)))) in
-    rw (put-length (p .1)) (omega arith)
+    rw (length-put (p .1)) (omega arith)
 
 -- `isAmong` and `onceEach`
 
-pub has-among : {x : List ℕ} (xs : List (List ℕ)) → isAmong x xs ≡ true → Among x xs
+pub is-among-true : {x : List ℕ} (xs : List (List ℕ)) → isAmong x xs ≡ true → Among x xs
 unfolding isAmong
-has-among [] h = absurd (opposite {b = false} h refl)
-has-among {x} (y ∷ ys) h = ⊎-elim (λ t. first (same-equal x y t)) (λ t. later (has-among ys t)) (either-true _ _ h)
+is-among-true [] h = absurd (opposite {b = false} h refl)
+is-among-true {x} (y ∷ ys) h = ⊎-elim (λ t. first (same-equal x y t)) (λ t. later (is-among-true ys t)) (either-true _ _ h)
 
-pub among-has : {x : List ℕ} {xs : List (List ℕ)} → Among x xs → isAmong x xs ≡ true
+pub among-is-among : {x : List ℕ} {xs : List (List ℕ)} → Among x xs → isAmong x xs ≡ true
 unfolding isAmong
-among-has {x} (first {y} e) = either-left _ _ (equal-same x y e)
-among-has (later m) = either-second _ _ (among-has m)
+among-is-among {x} (first {y} e) = either-left _ _ (equal-same x y e)
+among-is-among (later m) = either-second _ _ (among-is-among m)
 
-distinct-seen : (y : List ℕ) (ys : List (List ℕ)) → isAmong y ys ≡ true → onceEach (y ∷ ys) ≡ onceEach ys
+once-each-seen : (y : List ℕ) (ys : List (List ℕ)) → isAmong y ys ≡ true → onceEach (y ∷ ys) ≡ onceEach ys
 unfolding onceEach
-distinct-seen y ys t = pick-true _ _ _ t
+once-each-seen y ys t = pick-true _ _ _ t
 
-distinct-unseen : (y : List ℕ) (ys : List (List ℕ)) → isAmong y ys ≡ false → onceEach (y ∷ ys) ≡ y ∷ onceEach ys
+once-each-unseen : (y : List ℕ) (ys : List (List ℕ)) → isAmong y ys ≡ false → onceEach (y ∷ ys) ≡ y ∷ onceEach ys
 unfolding onceEach
-distinct-unseen y ys f = pick-false _ _ _ f
+once-each-unseen y ys f = pick-false _ _ _ f
 
 among-behind : {A : Type 0} {x y : A} {xs ys : List A} → (Among x xs → Among x ys) → Among x (y ∷ xs) → Among x (y ∷ ys)
 among-behind h (first e) = first e
 among-behind h (later m) = later (h m)
 
-pub distinct-among : {x : List ℕ} (xs : List (List ℕ)) → Among x (onceEach xs) → Among x xs
+pub once-each-among : {x : List ℕ} (xs : List (List ℕ)) → Among x (onceEach xs) → Among x xs
 unfolding onceEach
-distinct-among [] m = m
-distinct-among {x} (y ∷ ys) m =
+once-each-among [] m = m
+once-each-among {x} (y ∷ ys) m =
     tested (isAmong y ys)
-    (λ t. later (distinct-among ys (rw (distinct-seen y ys t) at m)))
-    (λ f. among-behind (λ a. distinct-among ys a) (rw (distinct-unseen y ys f) at m))
+    (λ t. later (once-each-among ys (rw (once-each-seen y ys t) at m)))
+    (λ f. among-behind (λ a. once-each-among ys a) (rw (once-each-unseen y ys f) at m))
 
-pub among-distinct : {x : List ℕ} (xs : List (List ℕ)) → Among x xs → Among x (onceEach xs)
+pub among-once-each : {x : List ℕ} (xs : List (List ℕ)) → Among x xs → Among x (onceEach xs)
 unfolding onceEach
-among-distinct [] m = m
-among-distinct {x} (y ∷ ys) m =
+among-once-each [] m = m
+among-once-each {x} (y ∷ ys) m =
     tested (isAmong y ys)
-    (λ t. rw (distinct-seen y ys t) (among-distinct ys (⊎-elim (λ e. rw e (has-among ys t)) (λ a. a) (among-cases m))))
-    (λ f. rw (distinct-unseen y ys f) (among-behind (λ a. among-distinct ys a) m))
+    (λ t. rw (once-each-seen y ys t) (among-once-each ys (⊎-elim (λ e. rw e (is-among-true ys t)) (λ a. a) (among-cases m))))
+    (λ f. rw (once-each-unseen y ys f) (among-behind (λ a. among-once-each ys a) m))
 
-pub once-distinct : (xs : List (List ℕ)) → Once (onceEach xs)
+pub once-once-each : (xs : List (List ℕ)) → Once (onceEach xs)
 unfolding onceEach
-once-distinct [] = Once.none
-once-distinct (y ∷ ys) =
+once-once-each [] = Once.none
+once-once-each (y ∷ ys) =
     tested (isAmong y ys)
-    (λ t. rw (distinct-seen y ys t) (once-distinct ys))
-    (λ f. rw (distinct-unseen y ys f) (Once.one (λ m. opposite (among-has (distinct-among ys m)) f) (once-distinct ys)))
+    (λ t. rw (once-each-seen y ys t) (once-once-each ys))
+    (λ f. rw (once-each-unseen y ys f) (Once.one (λ m. opposite (among-is-among (once-each-among ys m)) f) (once-once-each ys)))
 
 -- elements of one list are elements of another: it has no more distinct ones
-pub distinct-fewer : (xs ys : List (List ℕ)) → ((x : List ℕ) → Among x xs → Among x ys) → length (onceEach xs) ≤ length (onceEach ys)
-distinct-fewer xs ys h = pigeonhole (onceEach ys) (once-distinct xs) (λ x m. among-distinct ys (h x (distinct-among xs m)))
+pub once-each-fewer : (xs ys : List (List ℕ)) → ((x : List ℕ) → Among x xs → Among x ys) → length (onceEach xs) ≤ length (onceEach ys)
+once-each-fewer xs ys h = pigeonhole (onceEach ys) (once-once-each xs) (λ x m. among-once-each ys (h x (once-each-among xs m)))
 
 -- the NLRIs of routes
 
@@ -166,11 +166,11 @@ unfolding namesOf
 names-once Distinct.none = none
 names-once (Distinct.one {rs = rs} h d) = one (λ m. opposite (names-held rs m) h) (names-once d)
 
-names-length : (rs : List Route) → length (namesOf rs) ≡ length rs
+length-names : (rs : List Route) → length (namesOf rs) ≡ length rs
 unfolding namesOf
-names-length [] = refl
-names-length (r ∷ rs) = ap suc (names-length rs)
+length-names [] = refl
+length-names (r ∷ rs) = ap suc (length-names rs)
 
 -- distinct NLRIs that are all named in a list are no more than its distinct elements
 pub routes-fewer : {rs : List Route} (names : List (List ℕ)) → Distinct rs → ((nlri : List ℕ) → holds nlri rs ≡ true → Among nlri names) → length rs ≤ length (onceEach names)
-routes-fewer {rs} names d h = rw names-length at (pigeonhole (onceEach names) (names-once d) (λ nlri m. among-distinct names (h nlri (names-held rs m))))
+routes-fewer {rs} names d h = rw length-names at (pigeonhole (onceEach names) (names-once d) (λ nlri m. among-once-each names (h nlri (names-held rs m))))

@@ -17,9 +17,11 @@ use Rattle.routes.specs.Route.{Route, nlriOf, lookup, holds, inserted, r
 use Rattle.routes.specs.Arguments.{Query, readSPmsi, readRoute, readMatch}
 use Rattle.routes.specs.Table.{imageOf}
 use Rattle.routes.specs.Place.{acceptable}
-use Rattle.routes.specs.Images.{KnownFamily, TableOf}
+use Rattle.routes.specs.ArgumentRules.{KnownFamily}
+use Rattle.routes.specs.Images.{TableOf}
 use Rattle.routes.specs.Matching.{matchIn}
-use Rattle.routes.specs.Calls.{NEW, REPLACED, installedOf, entering, installOutcome, installOf, leaving, withdrawOutcome, withdrawOf, matchedBy, matchOutcome, matchOf, foundAnswer, foundOutput}
+use Rattle.routes.specs.Answers.{NEW, REPLACED, installedOf, matchedBy}
+use Rattle.routes.specs.Calls.{entering, installOutcome, installOf, leaving, withdrawOutcome, withdrawOf, matchOutcome, matchOf}
 use Rattle.routes.specs.Call.{Call, install, withdraw, match, Answer, installed, withdrawn, matched, Owner, nobody, owner, originatorOf, ownerOf, Act, enter, leave, ask, argued, refusalOf, refusalAnswer}
 use Rattle.routes.specs.Book.{bookOf, actAnswer, bookAnswer, allBooks, dueBy, dueAnswer}
 use Rattle.routes.specs.Run.{Step, stepOf, imageOfBooks, dueStep, Fits}
@@ -30,10 +32,10 @@ use Rattle.routes.proofs.MatchSame.{match-same}
 use Rattle.routes.proofs.Ownership.{acceptable-after-none, owned-by}
 use Rattle.routes.proofs.Acts.{Known, enters, leaves, asks, argued-cases}
 use Rattle.routes.proofs.Books.{heldBy, heldAfter, lookup-removed}
-use Rattle.routes.proofs.AllBooks.{book-distinct, lookup-all, lookup-all-next, books-increasing, books-holdable}
+use Rattle.routes.proofs.AllBooks.{distinct-book, lookup-all, lookup-all-next, increasing-books, holdable-books}
 
 -- the routes of all books, as the table holds them
-abbrev pub tableRoutes : ℕ → List Call → List Route
+abbrev tableRoutes : ℕ → List Call → List Route
 tableRoutes afi calls = arranged (allBooks afi calls)
 
 -- calls on octets, over a table's routes
@@ -44,7 +46,7 @@ actStep afi places rs t c (enter r) =
     record { call = c; answer = installed (installedOf (entering places rs r)); octets = onOutcome (λ number. t) (λ o. imageOf afi places (inserted r rs)) (entering places rs r) }
 actStep afi places rs t c (leave nlri) =
     record { call = c; answer = withdrawn (numberOf (leaving rs nlri)); octets = onOutcome (λ number. t) (λ n. imageOf afi places (removed n rs)) (leaving rs nlri) }
-actStep afi places rs t c (ask q output) = record { call = c; answer = matched (foundAnswer (matchIn afi q rs)) (foundOutput (matchIn afi q rs) output); octets = t }
+actStep afi places rs t c (ask q output) = record { call = c; answer = matched (matchedBy (given (matchIn afi q rs)) output); octets = t }
 
 module _ (afi places : ℕ) (rs : List Route) (t : List ℕ) (of : TableOf afi places rs t) where
   install-on : (nlri attribute : List ℕ) → installOutcome t nlri attribute ≡ andThen (readRoute afi nlri attribute) (λ r. entering places rs r)
@@ -64,7 +66,7 @@ module _ (afi places : ℕ) (rs : List Route) (t : List ℕ) (of : TableOf afi p
   argued-step c o = onOutcome (λ number. record { call = c; answer = refusalAnswer c number; octets = t }) (actStep afi places rs t c) o
 
   step-on : (c : Call) → stepOf t c ≡ argued-step c (argued afi c)
-  unfolding stepOf installOf withdrawOf matchOf matchedBy argued andThen onOutcome numberOf actStep refusalAnswer
+  unfolding stepOf installOf withdrawOf matchOf argued andThen onOutcome numberOf actStep refusalAnswer
   step-on (install nlri attribute) = go (readRoute afi nlri attribute) refl
     where
       go : (o : Outcome Route) → readRoute afi nlri attribute ≡ o → stepOf t (install nlri attribute) ≡ argued-step (install nlri attribute) (andThen o (λ r. given (enter r)))
@@ -105,7 +107,7 @@ module _ (afi places : ℕ) (earlier : List Call) (c : Call) where
   table-next : (us : List Route) → Increasing [] us → ((nlri : List ℕ) → lookup nlri us ≡ heldAfter afi c nlri (lookup nlri (tableRoutes afi earlier)))
       → us ≡ tableRoutes afi (earlier ++ (c ∷ []))
   table-next us i h =
-      increasing-equal i (books-increasing afi (earlier ++ (c ∷ [])))
+      increasing-equal i (increasing-books afi (earlier ++ (c ∷ [])))
       (λ nlri.
       h nlri
       ∙ ap (heldAfter afi c nlri) (lookup-arranged nlri (allBooks afi earlier))
@@ -121,7 +123,7 @@ module _ (afi places : ℕ) (earlier : List Call) (c : Call) where
 
   kept-refused : (n : ℕ) → argued afi c ≡ refused n → tableRoutes afi earlier ≡ tableRoutes afi (earlier ++ (c ∷ []))
   unfolding heldAfter onOutcome
-  kept-refused n e = table-next (tableRoutes afi earlier) (books-increasing afi earlier) (λ nlri. rw e)
+  kept-refused n e = table-next (tableRoutes afi earlier) (increasing-books afi earlier) (λ nlri. rw e)
 
   due-refused : (n : ℕ) → argued afi c ≡ refused n → dueAnswer afi earlier c ≡ refusalAnswer c n
   unfolding refusalOf numberOf bookAnswer onOutcome
@@ -140,17 +142,17 @@ module _ (afi places : ℕ) (earlier : List Call) (c : Call) where
   next-entered : (r : Route) → argued afi c ≡ given (enter r) → acceptable afi r ≡ true → inserted r (tableRoutes afi earlier) ≡ tableRoutes afi (earlier ++ (c ∷ []))
   unfolding heldBy lookup
   next-entered r e a =
-      next-act (enter r) e (inserted r (tableRoutes afi earlier)) (increasing-inserted r (acceptable-after-none afi r a) (books-increasing afi earlier))
+      next-act (enter r) e (inserted r (tableRoutes afi earlier)) (increasing-inserted r (acceptable-after-none afi r a) (increasing-books afi earlier))
       (λ nlri. lookup-inserted nlri r (tableRoutes afi earlier))
 
   next-left : (nlri : List ℕ) → argued afi c ≡ given (leave nlri) → removed nlri (tableRoutes afi earlier) ≡ tableRoutes afi (earlier ++ (c ∷ []))
   unfolding heldBy
   next-left nlri e =
-      next-act (leave nlri) e (removed nlri (tableRoutes afi earlier)) (increasing-removed nlri (books-increasing afi earlier)) (λ n. lookup-removed n nlri (increasing-distinct (books-increasing afi earlier)))
+      next-act (leave nlri) e (removed nlri (tableRoutes afi earlier)) (increasing-removed nlri (increasing-books afi earlier)) (λ n. lookup-removed n nlri (increasing-distinct (increasing-books afi earlier)))
 
   next-asked : (q : Query) (output : List ℕ) → argued afi c ≡ given (ask q output) → tableRoutes afi earlier ≡ tableRoutes afi (earlier ++ (c ∷ []))
   unfolding heldBy
-  next-asked q output e = next-act (ask q output) e (tableRoutes afi earlier) (books-increasing afi earlier) (λ nlri. refl)
+  next-asked q output e = next-act (ask q output) e (tableRoutes afi earlier) (increasing-books afi earlier) (λ nlri. refl)
 
   -- the table has room for every route
   room : (r : Route) → argued afi c ≡ given (enter r) → acceptable afi r ≡ true → KnownFamily afi → places ≤ 500 → Fits afi places (earlier ++ (c ∷ []))
@@ -160,7 +162,7 @@ module _ (afi places : ℕ) (earlier : List Call) (c : Call) where
       with-room (holds (nlriOf r) (tableRoutes afi earlier)) (length (tableRoutes afi earlier)) places
       (λ h.
       let new : length (inserted r (tableRoutes afi earlier)) ≡ suc (length (tableRoutes afi earlier)) = length-inserted-new r (tableRoutes afi earlier) (absent-holds (nlriOf r) (tableRoutes afi earlier) h) in
-      let within = books-holdable afi places (earlier ++ (c ∷ [])) bits most fits .within in
+      let within = holdable-books afi places (earlier ++ (c ∷ [])) bits most fits .within in
       omega (arith, ap length (next-entered r e a)))
 
   module _ (router : List ℕ) (own : ownerOf afi c ≡ owner router) where
@@ -176,7 +178,7 @@ module _ (afi places : ℕ) (earlier : List Call) (c : Call) where
     -- the table's routes and the asked router's book give one match
     match-book : (q : Query) → q .router ≡ router → matchIn afi q (bookOf afi router earlier) ≡ matchIn afi q (tableRoutes afi earlier)
     match-book q mine =
-        match-same afi q (bookOf afi router earlier) (tableRoutes afi earlier) (book-distinct afi router earlier) (increasing-distinct (books-increasing afi earlier))
+        match-same afi q (bookOf afi router earlier) (tableRoutes afi earlier) (distinct-book afi router earlier) (increasing-distinct (increasing-books afi earlier))
         (λ nlri h. sym (lookup-arranged nlri (allBooks afi earlier) ∙ lookup-all afi router nlri earlier (owned-by (q .router) (originatorOf afi nlri) h ∙ ap owner mine)))
 
     acted : {act : Act} (t : List ℕ) → t ≡ imageOf afi places (tableRoutes afi earlier) → KnownFamily afi → places ≤ 500 → Fits afi places (earlier ++ (c ∷ [])) → argued afi c ≡ given act → Known afi c router act
@@ -195,7 +197,7 @@ module _ (afi places : ℕ) (earlier : List Call) (c : Call) where
         let due : dueAnswer afi earlier c ≡ withdrawn ABSENT = due-act (leave nlri) e ∙ rw (table-book nlri mine, n) in
         rw n (as-due _ (tableRoutes afi earlier) t due (sym (removed-absent nlri (tableRoutes afi earlier) (absent-holds nlri (tableRoutes afi earlier) n)) ∙ next-left nlri e) is))
     acted t is bits most fits e (asks {q} {output} mine) =
-        let due : dueAnswer afi earlier c ≡ matched (foundAnswer (matchIn afi q (tableRoutes afi earlier))) (foundOutput (matchIn afi q (tableRoutes afi earlier)) output) =
+        let due : dueAnswer afi earlier c ≡ matched (matchedBy (given (matchIn afi q (tableRoutes afi earlier))) output) =
         due-act (ask q output) e ∙ rw (match-book q mine) in
         as-due _ (tableRoutes afi earlier) t due (next-asked q output e) is
 
@@ -204,7 +206,7 @@ pub due-step : (afi places : ℕ) (earlier : List Call) (c : Call) → KnownFami
     → stepOf (imageOfBooks afi places earlier) c ≡ dueStep afi places earlier c
 unfolding imageOfBooks onOutcome
 due-step afi places earlier c bits most before after =
-    step-on afi places (tableRoutes afi earlier) t (images .imaged afi places (tableRoutes afi earlier) (books-holdable afi places earlier bits most before)) c
+    step-on afi places (tableRoutes afi earlier) t (images .imaged afi places (tableRoutes afi earlier) (holdable-books afi places earlier bits most before)) c
     ∙ argued-cases (λ (o : Outcome Act). onOutcome (λ number. record { call = c; answer = refusalAnswer c number; octets = t }) (actStep afi places (tableRoutes afi earlier) t c) o ≡ dueStep afi places earlier c) afi c
     (λ n e. as-due afi places earlier c _ (tableRoutes afi earlier) t (due-refused afi places earlier c n e) (kept-refused afi places earlier c n e) refl)
     (λ act e k. acted afi places earlier c (k .router) (k .own) t refl bits most after e (k .known))

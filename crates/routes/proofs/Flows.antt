@@ -18,8 +18,7 @@ use Rattle.nlri.specs.Statements.{Multicast, SourceSpecific}
 use Rattle.nlri.proofs.Theorems.{lengths, groupRule}
 use Rattle.nlri.proofs.Lengths.{family-good}
 use Rattle.routes.specs.Arguments.{Query, readFlow}
-use Rattle.routes.specs.Images.{KnownFamily}
-use Rattle.routes.specs.MatchRule.{GoodFlow}
+use Rattle.routes.specs.ArgumentRules.{KnownFamily, GoodFlow}
 
 pub class-under : (afi bits : ℕ) (g : List ℕ) → familyBits afi ≡ given bits → classUnder bits g ≡ classOf afi g
 unfolding classOf

@@ -14,12 +14,12 @@ use Rattle.octets.proofs.NetworkOrder.{big-endian-length, number-of-big-endian,
 use Rattle.octets.proofs.Orders.{same-equal, same-itself}
 use Rattle.octets.proofs.Refusals.{either-second}
 use Rattle.octets.proofs.Tests.{both-true, either-left}
-use Rattle.routes.specs.Images.{KnownFamily}
+use Rattle.routes.specs.ArgumentRules.{KnownFamily}
 use Rattle.routes.specs.Table.{headerStart, headerOf, afiIn, countIn, placesIn, tableSize, headerSound}
 
-pub header-length : (afi count : ℕ) → length (headerOf afi count) ≡ 8
+pub length-header : (afi count : ℕ) → length (headerOf afi count) ≡ 8
 unfolding headerOf headerStart
-header-length afi count = rw (length-append (headerStart afi) (bigEndian 2 count), big-endian-length 2 count)
+length-header afi count = rw (length-append (headerStart afi) (bigEndian 2 count), big-endian-length 2 count)
 
 -- what is read of a header followed by anything
 pub afi-in : (afi count : ℕ) (s : List ℕ) → afiIn (headerOf afi count ++ s) ≡ afi
@@ -38,7 +38,7 @@ header-sound afi count s f =
     (⊎-elim (λ one. either-left _ _ (eq-eqb afi 1 one)) (λ two. either-second _ _ (eq-eqb afi 2 two)) f)
 
 pub past-header : (afi count : ℕ) (s : List ℕ) → drop 8 (headerOf afi count ++ s) ≡ s
-past-header afi count s = drop-at (headerOf afi count) s 8 (header-length afi count)
+past-header afi count s = drop-at (headerOf afi count) s 8 (length-header afi count)
 
 -- a sound header is that of its family and count
 pub sound-family : (t : List ℕ) → headerSound t ≡ true → KnownFamily (afiIn t)

@@ -20,10 +20,11 @@ use Rattle.octets.specs.Lists.{Among}
 use Rattle.routes.specs.Route.{Route}
 use Rattle.routes.specs.Table.{headerOf, placesOf, imageOf, afiIn, countIn, placesIn, routesOf, tableSize, headerSound, placesSound, soundOf}
 use Rattle.routes.specs.Calls.{makeOutcome, makeOf}
-use Rattle.routes.specs.Images.{KnownFamily, Holdable, TableOf, Images}
-use Rattle.routes.proofs.Headers.{header-length, afi-in, count-in, header-sound, past-header, sound-family, sound-header, SizeOf, size-sound, sound-size, places-in}
+use Rattle.routes.specs.ArgumentRules.{KnownFamily}
+use Rattle.routes.specs.Images.{Holdable, TableOf, Images}
+use Rattle.routes.proofs.Headers.{length-header, afi-in, count-in, header-sound, past-header, sound-family, sound-header, SizeOf, size-sound, sound-size, places-in}
 use Rattle.routes.proofs.Lookups.{increasing-members}
-use Rattle.routes.proofs.Places.{zeros-length, places-length, routes-from, from-length, places-sound, from-acceptable, from-increasing, from-places}
+use Rattle.routes.proofs.Places.{length-zeros, length-places, routes-from, length-from, places-sound, from-acceptable, from-increasing, from-places}
 
 -- what a sound table's tests say
 pub record Sound (t : List ℕ) : Type 0 where
@@ -45,9 +46,9 @@ sound t h =
     }
 
 -- a table has as many routes as its count says
-pub routes-length : (t : List ℕ) → length (routesOf t) ≡ countIn t
+pub length-routes : (t : List ℕ) → length (routesOf t) ≡ countIn t
 unfolding routesOf
-routes-length t = from-length (countIn t) (drop 8 t)
+length-routes t = length-from (countIn t) (drop 8 t)
 
 pub sound-holdable : (t : List ℕ) → soundOf t ≡ true → Holdable (afiIn t) (placesIn t) (routesOf t)
 unfolding routesOf
@@ -56,7 +57,7 @@ sound-holdable t h =
     record {
       family = sound-family t (s .header);
       most = s .size .most;
-      within = rw (from-length (countIn t) (drop 8 t)) (s .within);
+      within = rw (length-from (countIn t) (drop 8 t)) (s .within);
       acceptable = from-acceptable (afiIn t) [] (countIn t) (drop 8 t) (s .places);
       increasing = from-increasing (afiIn t) [] (countIn t) (drop 8 t) (s .places);
     }
@@ -67,39 +68,39 @@ sound-image t a h =
     let s = sound t h in
     let l : length (drop 8 t) ≡ length t - 8 = length-drop 8 t in
     let left : length (drop 8 t) - 128 * countIn t ≡ 128 * (placesIn t - countIn t) = omega arith in
-    rw (from-length (countIn t) (drop 8 t))
+    rw (length-from (countIn t) (drop 8 t))
     (sound-header t a (omega arith) (s .header)
     ∙ ap (λ (x : List ℕ). headerOf (afiIn t) (countIn t) ++ x)
     (from-places (afiIn t) [] (countIn t) (drop 8 t) (omega arith) (s .places) ∙ ap (λ (n : ℕ). placesOf (routesOf t) ++ zeros n) left))
 
-pub image-afi : (afi places : ℕ) (rs : List Route) → afiIn (imageOf afi places rs) ≡ afi
+pub afi-image : (afi places : ℕ) (rs : List Route) → afiIn (imageOf afi places rs) ≡ afi
 unfolding imageOf
-image-afi afi places rs = afi-in afi (length rs) _
+afi-image afi places rs = afi-in afi (length rs) _
 
 module _ (afi places : ℕ) (rs : List Route) (h : Holdable afi places rs) where
-  pub image-length : length (imageOf afi places rs) ≡ 8 + 128 * places
+  pub length-image : length (imageOf afi places rs) ≡ 8 + 128 * places
   unfolding imageOf
-  image-length =
-      rw (length-append (headerOf afi (length rs)) (placesOf rs ++ zeros (128 * (places - length rs))), header-length afi (length rs), length-append (placesOf rs) (zeros (128 * (places - length rs))), places-length afi rs (h .acceptable), zeros-length (128 * (places - length rs)))
+  length-image =
+      rw (length-append (headerOf afi (length rs)) (placesOf rs ++ zeros (128 * (places - length rs))), length-header afi (length rs), length-append (placesOf rs) (zeros (128 * (places - length rs))), length-places afi rs (h .acceptable), length-zeros (128 * (places - length rs)))
       (omega (arith, h .within))
 
   small : length rs < 65536
   small = omega (arith, h .within, h .most)
 
-  image-count : countIn (imageOf afi places rs) ≡ length rs
+  count-image : countIn (imageOf afi places rs) ≡ length rs
   unfolding imageOf
-  image-count = count-in afi (length rs) _ small
+  count-image = count-in afi (length rs) _ small
 
-  image-places : placesIn (imageOf afi places rs) ≡ places
-  image-places = places-in (imageOf afi places rs) places image-length
+  places-image : placesIn (imageOf afi places rs) ≡ places
+  places-image = places-in (imageOf afi places rs) places length-image
 
   rest : drop 8 (imageOf afi places rs) ≡ placesOf rs ++ zeros (128 * (places - length rs))
   unfolding imageOf
   rest = past-header afi (length rs) _
 
-  image-routes : routesOf (imageOf afi places rs) ≡ rs
+  routes-image : routesOf (imageOf afi places rs) ≡ rs
   unfolding routesOf
-  image-routes = rw (image-count, rest) (routes-from afi rs _ (h .acceptable))
+  routes-image = rw (count-image, rest) (routes-from afi rs _ (h .acceptable))
 
   header : headerSound (imageOf afi places rs) ≡ true
   unfolding imageOf
@@ -108,12 +109,12 @@ module _ (afi places : ℕ) (rs : List Route) (h : Holdable afi places rs) where
   image-sound : soundOf (imageOf afi places rs) ≡ true
   unfolding soundOf
   image-sound =
-      both-true _ _ (size-sound _ places image-length (h .most))
+      both-true _ _ (size-sound _ places length-image (h .most))
       (both-true _ _ header
-      (rw (image-count, image-places, image-afi afi places rs, rest) (both-true _ _ (le-leb (length rs) places (h .within)) (places-sound afi [] rs _ (h .acceptable) (h .increasing)))))
+      (rw (count-image, places-image, afi-image afi places rs, rest) (both-true _ _ (le-leb (length rs) places (h .within)) (places-sound afi [] rs _ (h .acceptable) (h .increasing)))))
 
   image-table : TableOf afi places rs (imageOf afi places rs)
-  image-table = record { sound = image-sound; family = image-afi afi places rs; size = image-places; routes = image-routes }
+  image-table = record { sound = image-sound; family = afi-image afi places rs; size = places-image; routes = routes-image }
 
 one-image : (t u : List ℕ) → AllOctets t → AllOctets u → soundOf t ≡ true → soundOf u ≡ true → afiIn t ≡ afiIn u → length t ≡ length u
     → ((r : Route) → Among r (routesOf t) ↔ Among r (routesOf u)) → t ≡ u

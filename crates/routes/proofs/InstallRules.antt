@@ -1,13 +1,13 @@
 -- Install (specs/CallRules.antt, `InstallRule`).
 use Prim.Native.Nat.{ℕ}
 use mathlib.Core.Path.{_≡_, refl, sym, ap, subst, _∙_}
-use mathlib.Core.Bool.{true, false}
+use mathlib.Core.Bool.{true}
 use mathlib.Core.Logic.{_≢_, _⊎_, inl, inr, ⊎-elim}
 use mathlib.Core.List.{List}
 use native.Mathlib.Omega.{arith}
 use borrow.Author.Tests.{ltb-true, ltb-false, lt-ltb, le-ltb}
 use lib.ListN.{length}
-use Rattle.octets.specs.Numbers.{DONE, TABLE, ROOM}
+use Rattle.octets.specs.Numbers.{DONE, ROOM}
 use Rattle.octets.specs.Outcome.{Outcome, given, refused, onOutcome, numberOf}
 use Rattle.octets.proofs.Inversions.{never, given-unless, passed, given-same}
 use Rattle.octets.proofs.Orders.{unequal-other}
@@ -16,23 +16,24 @@ use Rattle.octets.proofs.Refusals.{outcome, picked, stopped, refused-same, refu
 use Rattle.octets.proofs.Tests.{goes, stops}
 use Rattle.nlri.proofs.Numbered.{refused-of}
 use Rattle.routes.specs.declared.Installed.{Installed}
-use Rattle.routes.specs.Route.{Route, route, nlriOf, attributeOf, lookup, inserted}
+use Rattle.routes.specs.Route.{Route, route, nlriOf, attributeOf, held, lookup, inserted}
 use Rattle.routes.specs.Arguments.{readRoute}
 use Rattle.routes.specs.Table.{imageOf, afiIn, placesIn, routesOf, soundOf}
-use Rattle.routes.specs.Calls.{NEW, REPLACED, installedOf, entering, installOutcome, installOf}
+use Rattle.routes.specs.Answers.{NEW, REPLACED, installedOf}
+use Rattle.routes.specs.Calls.{entering, installOutcome, installOf}
 use Rattle.routes.specs.Images.{Holdable, TableOf}
-use Rattle.routes.specs.CallRules.{InstallRefusal, installUnsound, badRoute, noRoom, Installable, IsHeld, Free, Full, InstallRule}
+use Rattle.routes.specs.CallRules.{IsHeld, HeldNow, Installable, Full, Free, InstallRefusal, installUnsound, badRoute, noRoom, InstallDone, replaces, enters, InstallRule}
 use Rattle.routes.proofs.AnswerNumbers.{refused-number, given-number, done-given}
 use Rattle.routes.proofs.ArgumentRules.{argumentRule}
 use Rattle.routes.proofs.Bounds.{route-read, read-acceptable}
 use Rattle.routes.proofs.ByArguments.{route-number}
 use Rattle.routes.proofs.Holding.{holdable-inserted}
-use Rattle.routes.proofs.Images.{images, sound, sound-holdable, image-length}
+use Rattle.routes.proofs.Images.{images, sound, sound-holdable, length-image}
 use Rattle.routes.proofs.Lookups.{absent-holds, holds-absent, held-holds, holds-held, lookup-inserted-same, lookup-inserted-other}
 
 -- a route that is acceptable enters a table
 module _ (t : List ℕ) (r : Route) where
-  enters-held : IsHeld t (nlriOf r) → entering (placesIn t) (routesOf t) r ≡ given REPLACED
+  enters-held : IsHeld (nlriOf r) (routesOf t) → entering (placesIn t) (routesOf t) r ≡ given REPLACED
   unfolding entering
   enters-held h = pick-true _ _ _ (holds-held (nlriOf r) (routesOf t) (h .0) (h .1))
 
@@ -44,7 +45,7 @@ module _ (t : List ℕ) (r : Route) where
   unfolding entering
   enters-full h = pick-false _ _ _ (holds-absent (nlriOf r) (routesOf t) (h .missing)) ∙ pick-false _ _ _ (le-ltb (length (routesOf t)) (placesIn t) (omega (arith, h .places)))
 
-  entered : (o : ℕ) → entering (placesIn t) (routesOf t) r ≡ given o → (IsHeld t (nlriOf r) × (o ≡ REPLACED)) ⊎ (Free t (nlriOf r) × (o ≡ NEW))
+  entered : (o : ℕ) → entering (placesIn t) (routesOf t) r ≡ given o → (IsHeld (nlriOf r) (routesOf t) × (o ≡ REPLACED)) ⊎ (Free t (nlriOf r) × (o ≡ NEW))
   unfolding entering
   entered o e =
       ⊎-elim (λ yes. inl (held-holds (nlriOf r) (routesOf t) (yes .0), sym (given-same (yes .1))))
@@ -65,16 +66,21 @@ module _ (t : List ℕ) (r : Route) where
 -- what an install that is not refused found
 pub record Entered (t nlri attribute : List ℕ) (o : ℕ) : Type 0 where
   pub asked : Installable t nlri attribute
-  pub found : (IsHeld t nlri × (o ≡ REPLACED)) ⊎ (Free t nlri × (o ≡ NEW))
+  pub found : (IsHeld nlri (routesOf t) × (o ≡ REPLACED)) ⊎ (Free t nlri × (o ≡ NEW))
 
 module _ (t nlri attribute : List ℕ) where
   asks : soundOf t ≡ true → (r : Route) → readRoute (afiIn t) nlri attribute ≡ given r → Installable t nlri attribute
-  asks s r e = record { sound = s; accepted = e ∙ ap given (route-read (afiIn t) nlri attribute r e) }
+  asks s r e =
+      let p = argumentRule .acceptedRoute (afiIn t) nlri attribute .0 (e ∙ ap given (route-read (afiIn t) nlri attribute r e)) in
+      record { sound = s; named = p .0; labelled = p .1 }
+
+  route-given : Installable t nlri attribute → readRoute (afiIn t) nlri attribute ≡ given (route nlri attribute)
+  route-given a = argumentRule .acceptedRoute (afiIn t) nlri attribute .1 (a .named, a .labelled)
 
   -- the outcome is what entering comes to, for what is not refused before
   entering-decides : Installable t nlri attribute → installOutcome t nlri attribute ≡ entering (placesIn t) (routesOf t) (route nlri attribute)
   unfolding installOutcome
-  entering-decides h = pick-true _ _ _ (h .sound) ∙ sym (goes _ _ _ _ (h .accepted) refl)
+  entering-decides h = pick-true _ _ _ (h .sound) ∙ sym (goes _ _ _ _ (route-given h) refl)
 
   install-given : (o : ℕ) → installOutcome t nlri attribute ≡ given o → Entered t nlri attribute o
   unfolding installOutcome nlriOf
@@ -93,8 +99,7 @@ module _ (t nlri attribute : List ℕ) where
       (λ later.
       let a = asks (yes .0) (later .value) (later .first) in
       let full = kept-out t (route nlri attribute) (yes .0) n (sym (entering-decides a) ∙ e) in
-      let ok = argumentRule .acceptedRoute (afiIn t) nlri attribute .0 (a .accepted) in
-      subst (InstallRefusal t nlri attribute) (sym (full .1)) (noRoom (yes .0) (ok .0) (ok .1) (full .0 .missing) (full .0 .places)))
+      subst (InstallRefusal t nlri attribute) (sym (full .1)) (noRoom a (full .0)))
       (stopped _ _ _ (yes .1)))
       (λ no. subst (InstallRefusal t nlri attribute) (refused-same {A = ℕ} (no .1)) (installUnsound (no .0)))
       (picked _ _ _ _ e)
@@ -103,26 +108,14 @@ module _ (t nlri attribute : List ℕ) where
   unfolding installOutcome nlriOf
   refuses (installUnsound h) = pick-false _ _ _ h
   refuses (badRoute s r) = pick-true _ _ _ s ∙ sym (stops _ _ _ (argumentRule .refusedRoute (afiIn t) nlri attribute _ .1 r))
-  refuses (noRoom s n l missing places) =
-      entering-decides (record { sound = s; accepted = argumentRule .acceptedRoute (afiIn t) nlri attribute .1 (n, l) })
-      ∙ enters-full t (route nlri attribute) (record { missing = missing; places = places })
+  refuses (noRoom a full) = entering-decides a ∙ enters-full t (route nlri attribute) full
 
   not-done : {n : ℕ} → InstallRefusal t nlri attribute n → n ≢ DONE
   not-done (installUnsound h) e = omega arith
   not-done (badRoute s r) e = route-number (afiIn t) nlri attribute _ (argumentRule .refusedRoute (afiIn t) nlri attribute _ .1 r) .0 e
-  not-done (noRoom s n l missing places) e = omega arith
+  not-done (noRoom a full) e = omega arith
 
-  by-table : {n : ℕ} → InstallRefusal t nlri attribute n → n ≡ TABLE → soundOf t ≡ false
-  by-table (installUnsound h) e = h
-  by-table (badRoute s r) e = absurd (route-number (afiIn t) nlri attribute _ (argumentRule .refusedRoute (afiIn t) nlri attribute _ .1 r) .1 e)
-  by-table (noRoom s n l missing places) e = absurd (omega arith)
-
-  by-room : {n : ℕ} → InstallRefusal t nlri attribute n → n ≡ ROOM → Full t nlri
-  by-room (installUnsound h) e = absurd (omega arith)
-  by-room (badRoute s r) e = absurd (route-number (afiIn t) nlri attribute _ (argumentRule .refusedRoute (afiIn t) nlri attribute _ .1 r) .2 e)
-  by-room (noRoom s n l missing places) e = record { missing = missing; places = places }
-
-  gives-replaced : Installable t nlri attribute → IsHeld t nlri → installOutcome t nlri attribute ≡ given REPLACED
+  gives-replaced : Installable t nlri attribute → IsHeld nlri (routesOf t) → installOutcome t nlri attribute ≡ given REPLACED
   unfolding nlriOf
   gives-replaced a h = entering-decides a ∙ enters-held t (route nlri attribute) h
 
@@ -148,11 +141,14 @@ module _ (t nlri attribute : List ℕ) where
       let p = install-done (ap (λ (x : Installed). x .number) e) in
       p .1 ∙ ap given (ap (λ (x : Installed). x .outcome) (sym (answer-given (p .0) (p .1)) ∙ e))
 
-  replaced-held : installOf t nlri attribute .answer ≡ record { number = DONE; outcome = REPLACED } → IsHeld t nlri
-  replaced-held e = ⊎-elim (λ yes. yes .0) (λ no. absurd (omega (arith, no .1))) (install-given REPLACED (outcome-is REPLACED e) .found)
+  install-done-by : (o : ℕ) → installOutcome t nlri attribute ≡ given o → InstallDone t nlri attribute o
+  install-done-by o e =
+      let p = install-given o e in
+      ⊎-elim (λ yes. subst (InstallDone t nlri attribute) (sym (yes .1)) (replaces (p .asked) (yes .0))) (λ no. subst (InstallDone t nlri attribute) (sym (no .1)) (enters (p .asked) (no .0))) (p .found)
 
-  new-free : installOf t nlri attribute .answer ≡ record { number = DONE; outcome = NEW } → Free t nlri
-  new-free e = ⊎-elim (λ no. absurd (omega (arith, no .1))) (λ yes. yes .0) (install-given NEW (outcome-is NEW e) .found)
+  done-answer : {o : ℕ} → InstallDone t nlri attribute o → installOf t nlri attribute .answer ≡ record { number = DONE; outcome = o }
+  done-answer (replaces a h) = answer-given REPLACED (gives-replaced a h)
+  done-answer (enters a h) = answer-given NEW (gives-new a h)
 
   -- the octets by the outcome
   pub install-octets : (o : ℕ) → installOutcome t nlri attribute ≡ given o → installOf t nlri attribute .octets ≡ imageOf (afiIn t) (placesIn t) (inserted (route nlri attribute) (routesOf t))
@@ -168,25 +164,26 @@ module _ (t nlri attribute : List ℕ) where
   install-holdable o e =
       let p = install-given o e in
       holdable-inserted (afiIn t) (placesIn t) (routesOf t) (sound-holdable t (p .asked .sound)) (route nlri attribute)
-      (read-acceptable (afiIn t) (route nlri attribute) (route nlri attribute) (p .asked .accepted))
+      (read-acceptable (afiIn t) (route nlri attribute) (route nlri attribute) (route-given (p .asked)))
       (⊎-elim (λ yes. inl (holds-held nlri (routesOf t) (yes .0 .0) (yes .0 .1))) (λ no. inr (no .0 .place)) (p .found))
 
   after-given : (o : ℕ) → installOutcome t nlri attribute ≡ given o → TableOf (afiIn t) (placesIn t) (inserted (route nlri attribute) (routesOf t)) (installOf t nlri attribute .octets)
   after-given o e = subst (TableOf _ _ _) (sym (install-octets o e)) (images .imaged (afiIn t) (placesIn t) (inserted (route nlri attribute) (routesOf t)) (install-holdable o e))
 
-  others : (other : List ℕ) → other ≢ nlri → lookup other (routesOf (installOf t nlri attribute .octets)) ≡ lookup other (routesOf t)
-  unfolding nlriOf
-  others other d =
-      ⊎-elim
-      (λ p. ap (lookup other) (after-given (p .0) (p .1) .routes) ∙ lookup-inserted-other other (route nlri attribute) (routesOf t) (unequal-other other nlri d))
-      (λ p. ap (λ (x : List ℕ). lookup other (routesOf x)) (install-leaves (p .0) (p .1)))
-      (outcome (installOutcome t nlri attribute))
+  held-after : (o : ℕ) → installOutcome t nlri attribute ≡ given o → HeldNow nlri (held attribute) (routesOf t) (routesOf (installOf t nlri attribute .octets))
+  unfolding nlriOf attributeOf
+  held-after o e =
+      let a = after-given o e in
+      record {
+        own = ap (lookup nlri) (a .routes) ∙ lookup-inserted-same (route nlri attribute) (routesOf t);
+        others = λ other d. ap (lookup other) (a .routes) ∙ lookup-inserted-other other (route nlri attribute) (routesOf t) (unequal-other other nlri d);
+      }
 
   size : length (installOf t nlri attribute .octets) ≡ length t
   size =
       ⊎-elim
       (λ p.
-      ap length (install-octets (p .0) (p .1)) ∙ image-length (afiIn t) (placesIn t) (inserted (route nlri attribute) (routesOf t)) (install-holdable (p .0) (p .1))
+      ap length (install-octets (p .0) (p .1)) ∙ length-image (afiIn t) (placesIn t) (inserted (route nlri attribute) (routesOf t)) (install-holdable (p .0) (p .1))
       ∙ sym (sound t (install-given (p .0) (p .1) .asked .sound) .size .is))
       (λ p. ap length (install-leaves (p .0) (p .1)))
       (outcome (installOutcome t nlri attribute))
@@ -200,38 +197,14 @@ module _ (t nlri attribute : List ℕ) where
       go (refused n) h = refl
 
 pub installRule : InstallRule
-unfolding nlriOf attributeOf
 installRule =
     record {
       refuses = λ t nlri attribute n h. (
         λ e. refusal t nlri attribute n (refused-of _ n (sym e ∙ number t nlri attribute) h),
         λ r. number t nlri attribute ∙ refused-number (refuses t nlri attribute r),
       );
-      table = λ t nlri attribute. (
-        λ e. by-table t nlri attribute (refusal t nlri attribute TABLE (refused-of _ TABLE (sym e ∙ number t nlri attribute) (omega arith))) refl,
-        λ h. number t nlri attribute ∙ refused-number (refuses t nlri attribute (installUnsound h)),
-      );
-      done = λ t nlri attribute. (
-        λ e.
-            let p = install-done t nlri attribute e in
-            let q = install-given t nlri attribute (p .0) (p .1) in
-            (q .asked, ⊎-elim (λ yes. inl (yes .0)) (λ no. inr (no .0)) (q .found)),
-        λ h.
-            number t nlri attribute
-            ∙ ⊎-elim (λ yes. given-number (gives-replaced t nlri attribute (h .0) yes)) (λ no. given-number (gives-new t nlri attribute (h .0) no)) (h .1),
-      );
-      room = λ t nlri attribute a. (
-        λ e. by-room t nlri attribute (refusal t nlri attribute ROOM (refused-of _ ROOM (sym e ∙ number t nlri attribute) (omega arith))) refl,
-        λ h.
-            let ok = argumentRule .acceptedRoute (afiIn t) nlri attribute .0 (a .accepted) in
-            number t nlri attribute ∙ refused-number (refuses t nlri attribute (noRoom (a .sound) (ok .0) (ok .1) (h .missing) (h .places))),
-      );
-      replaced = λ t nlri attribute a. (replaced-held t nlri attribute, λ h. answer-given t nlri attribute REPLACED (gives-replaced t nlri attribute a h));
-      new = λ t nlri attribute a. (new-free t nlri attribute, λ h. answer-given t nlri attribute NEW (gives-new t nlri attribute a h));
-      installed = λ t nlri attribute e.
-          let p = install-done t nlri attribute e in
-          ap (lookup nlri) (after-given t nlri attribute (p .0) (p .1) .routes) ∙ lookup-inserted-same (route nlri attribute) (routesOf t);
-      others = others;
+      done = λ t nlri attribute o. (λ e. install-done-by t nlri attribute o (outcome-is t nlri attribute o e), done-answer t nlri attribute);
+      installed = λ t nlri attribute e. let p = install-done t nlri attribute e in held-after t nlri attribute (p .0) (p .1);
       after = λ t nlri attribute e. let p = install-done t nlri attribute e in after-given t nlri attribute (p .0) (p .1);
       size = size;
       empty = empty;

@@ -3,7 +3,7 @@ use Prim.Native.Nat.{ℕ}
 use mathlib.Core.Path.{_≡_, refl, sym, ap, ap₂, subst, _∙_}
 use mathlib.Core.Bool.{true}
 use mathlib.Core.Logic.{_↔_, _≢_}
-use mathlib.Core.List.{List, [], _∷_, _++_}
+use mathlib.Core.List.{List, [], _∷_}
 use borrow.Author.Tests.{eqb-true, eqb-false}
 use lib.ListN.{length}
 use lib.Dec.{eqb}
@@ -19,11 +19,12 @@ use Rattle.routes.specs.Route.{Route, route, nlriOf, attributeOf, Held, 
 use Rattle.routes.specs.Table.{imageOf, afiIn, placesIn, routesOf, soundOf}
 use Rattle.routes.specs.Calls.{makeOf, installOf, withdrawOf}
 use Rattle.routes.specs.Call.{Call, install, withdraw, match}
-use Rattle.routes.specs.Run.{Step, stepOf, runFrom, endOf}
+use Rattle.routes.specs.Run.{stepOf, endOf}
 use Rattle.routes.specs.Images.{TableOf}
-use Rattle.routes.specs.LastInstalled.{accepted, decides, leftBy, lastFrom, lastOf, LastInstall, Kept, LastInstalled}
+use Rattle.routes.specs.CallRules.{HeldNow}
+use Rattle.routes.specs.LastInstalled.{LastInstall, Kept, LastInstalled}
 use Rattle.routes.proofs.ArgumentRules.{argumentRule}
-use Rattle.routes.proofs.Decisions.{last-step, last-exactly}
+use Rattle.routes.proofs.Decisions.{decides, leftBy, lastFrom, last-exactly}
 use Rattle.routes.proofs.Images.{images, sound-holdable}
 use Rattle.routes.proofs.InstallRules.{installRule, install-done, install-octets}
 use Rattle.routes.proofs.Lookups.{lookup-none, lookup-member, member-lookup, increasing-distinct}
@@ -50,25 +51,26 @@ next-image : (t u : List ℕ) (rs : List Route) → length u ≡ length t → u 
 next-image t u rs l e h = record { sound = h .sound; family = h .family; size = l; image = λ i. own-image (afiIn t) (placesIn t) rs u h e }
 
 -- what an NLRI has after a call that an answer's number decides
-decided : (other : List ℕ) (left : Held) (number : ℕ) (t u : List ℕ) → (number ≡ DONE → lookup other (routesOf u) ≡ left)
-    → ((x : List ℕ) → x ≢ other → lookup x (routesOf u) ≡ lookup x (routesOf t)) → (number ≢ DONE → u ≡ t)
+decided : (other : List ℕ) (left : Held) (number : ℕ) (t u : List ℕ) → (number ≡ DONE → HeldNow other left (routesOf t) (routesOf u)) → (number ≢ DONE → u ≡ t)
     → (nlri : List ℕ) → lookup nlri (routesOf u) ≡ pick (both (same nlri other) (eqb number DONE)) left (lookup nlri (routesOf t))
-decided other left number t u set others untouched nlri =
-    tested (same nlri other)
-    (λ own.
-    let e : nlri ≡ other = same-equal nlri other own in
+decided other left number t u set untouched nlri =
     tested (eqb number DONE)
-    (λ done. ap (λ (x : List ℕ). lookup x (routesOf u)) e ∙ set (eqb-true number DONE done) ∙ sym (pick-true _ _ _ (both-true _ _ own done)))
-    (λ bad. ap (λ (x : List ℕ). lookup nlri (routesOf x)) (untouched (eqb-false number DONE bad)) ∙ sym (pick-false _ _ _ (both-right _ _ own bad))))
-    (λ foreign. others nlri (other-unequal nlri other foreign) ∙ sym (pick-false _ _ _ (both-left _ _ foreign)))
+    (λ done.
+    let now = set (eqb-true number DONE done) in
+    tested (same nlri other)
+    (λ own. ap (λ (x : List ℕ). lookup x (routesOf u)) (same-equal nlri other own) ∙ now .own ∙ sym (pick-true _ _ _ (both-true _ _ own done)))
+    (λ foreign. now .others nlri (other-unequal nlri other foreign) ∙ sym (pick-false _ _ _ (both-left _ _ foreign))))
+    (λ bad.
+    ap (λ (x : List ℕ). lookup nlri (routesOf x)) (untouched (eqb-false number DONE bad))
+    ∙ sym (pick-false _ _ _ (tested (same nlri other) (λ own. both-right _ _ own bad) (λ foreign. both-left _ _ foreign))))
 
-step-lookups : (t : List ℕ) (c : Call) (nlri : List ℕ) → lookup nlri (routesOf (stepOf t c .octets)) ≡ pick (decides nlri c (stepOf t c .answer)) (leftBy c) (lookup nlri (routesOf t))
-unfolding stepOf decides accepted leftBy pick
+step-lookups : (t : List ℕ) (c : Call) (nlri : List ℕ) → lookup nlri (routesOf (stepOf t c .octets)) ≡ pick (decides nlri t c) (leftBy c) (lookup nlri (routesOf t))
+unfolding stepOf decides leftBy pick
 step-lookups t (install other attribute) nlri =
     decided other (held attribute) (installOf t other attribute .answer .number) t (installOf t other attribute .octets)
-    (installRule .installed t other attribute) (installRule .others t other attribute) (installRule .untouched t other attribute) nlri
+    (installRule .installed t other attribute) (installRule .untouched t other attribute) nlri
 step-lookups t (withdraw other) nlri =
-    decided other absent (withdrawOf t other .answer) t (withdrawOf t other .octets) (withdrawRule .withdrawn t other) (withdrawRule .others t other) (withdrawRule .untouched t other) nlri
+    decided other absent (withdrawOf t other .answer) t (withdrawOf t other .octets) (withdrawRule .withdrawn t other) (withdrawRule .untouched t other) nlri
 step-lookups t (match router source group output) nlri = refl
 
 step-next : (t : List ℕ) (c : Call) → soundOf t ≡ true → Next t (stepOf t c .octets)
@@ -96,19 +98,10 @@ unfolding endOf
 end-next [] t s = next-same t t s refl
 end-next (c ∷ cs) t s = let n = step-next t c s in next-then n (end-next cs (stepOf t c .octets) (n .sound))
 
-end-lookups : (calls : List Call) (t nlri : List ℕ) → lookup nlri (routesOf (endOf t calls)) ≡ lastFrom nlri (lookup nlri (routesOf t)) (runFrom t calls)
-unfolding endOf lastFrom runFrom
+end-lookups : (calls : List Call) (t nlri : List ℕ) → lookup nlri (routesOf (endOf t calls)) ≡ lastFrom nlri (lookup nlri (routesOf t)) t calls
+unfolding endOf lastFrom
 end-lookups [] t nlri = refl
-end-lookups (c ∷ cs) t nlri =
-    end-lookups cs (stepOf t c .octets) nlri ∙ ap (λ (h : Held). lastFrom nlri h (runFrom (stepOf t c .octets) cs)) (step-lookups t c nlri)
-    ∙ sym (last-step nlri (lookup nlri (routesOf t)) t c cs)
-
--- a list of calls as one call after others and before others
-each : (t : List ℕ) (earlier : List Call) (c : Call) (later : List Call)
-    → runFrom t (earlier ++ (c ∷ later)) ≡ runFrom t earlier ++ (stepOf (endOf t earlier) c ∷ runFrom (endOf t (earlier ++ (c ∷ []))) later)
-unfolding runFrom endOf
-each t [] c later = refl
-each t (b ∷ earlier) c later = ap (λ (l : List Step). stepOf t b ∷ l) (each (stepOf t b .octets) earlier c later)
+end-lookups (c ∷ cs) t nlri = end-lookups cs (stepOf t c .octets) nlri ∙ ap (λ (h : Held). lastFrom nlri h (stepOf t c .octets) cs) (step-lookups t c nlri)
 
 places-alike : (t u : List ℕ) → length t ≡ length u → placesIn t ≡ placesIn u
 unfolding placesIn
@@ -121,14 +114,13 @@ module _ (afi : ℕ) (memory : List ℕ) (calls : List Call) (done : makeOf afi 
   next : Next (makeOf afi memory .octets) (endOf (makeOf afi memory .octets) calls)
   next = end-next calls (makeOf afi memory .octets) (made .sound)
 
-  lookups : (nlri : List ℕ) → lookup nlri (routesOf (endOf (makeOf afi memory .octets) calls)) ≡ lastOf nlri (runFrom (makeOf afi memory .octets) calls)
-  unfolding lastOf
+  lookups : (nlri : List ℕ) → lookup nlri (routesOf (endOf (makeOf afi memory .octets) calls)) ≡ lastFrom nlri absent (makeOf afi memory .octets) calls
   lookups nlri =
       end-lookups calls (makeOf afi memory .octets) nlri
-      ∙ ap (λ (h : Held). lastFrom nlri h (runFrom (makeOf afi memory .octets) calls)) (ap (lookup nlri) (made .routes) ∙ lookup-none nlri)
+      ∙ ap (λ (h : Held). lastFrom nlri h (makeOf afi memory .octets) calls) (ap (lookup nlri) (made .routes) ∙ lookup-none nlri)
 
   exactly : (nlri attribute : List ℕ) → Among (route nlri attribute) (routesOf (endOf (makeOf afi memory .octets) calls)) ↔ LastInstall nlri attribute (makeOf afi memory .octets) calls
-  unfolding lastOf nlriOf attributeOf
+  unfolding nlriOf attributeOf
   exactly nlri attribute =
       let last = last-exactly nlri attribute (makeOf afi memory .octets) calls in
       let order = sound-holdable (endOf (makeOf afi memory .octets) calls) (next .sound) .increasing in (
@@ -147,10 +139,9 @@ module _ (afi : ℕ) (memory : List ℕ) (calls : List Call) (done : makeOf afi 
         family = bits;
         size = size;
         image = next .image first ∙ ap₂ (λ (a p : ℕ). imageOf a p (routesOf end)) bits (places-alike end memory size);
-        lookups = lookups;
         exactly = exactly;
       }
 
 pub lastInstalled : LastInstalled
 lastInstalled =
-    record { arguments = argumentRule; make = makeRule; install = installRule; withdraw = withdrawRule; kept = kept; each = each }
+    record { arguments = argumentRule; make = makeRule; install = installRule; withdraw = withdrawRule; kept = kept }

@@ -36,6 +36,7 @@ pub mod ByOwner
 pub mod Reorders
 pub mod Turns
 pub mod Premise
+pub mod BookSteps
 pub mod BookRules
 pub mod MixedCalls
 pub mod Theorems

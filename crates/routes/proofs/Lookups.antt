@@ -46,7 +46,7 @@ pub lookup-later : (nlri : List ℕ) (r : Route) (rs : List Route) → same nlri
 unfolding lookup
 lookup-later nlri r rs f = pick-false _ _ _ f
 
-lookup-own : (r : Route) (rs : List Route) → lookup (nlriOf r) (r ∷ rs) ≡ held (attributeOf r)
+pub lookup-own : (r : Route) (rs : List Route) → lookup (nlriOf r) (r ∷ rs) ≡ held (attributeOf r)
 lookup-own r rs = lookup-first (nlriOf r) r rs (same-itself (nlriOf r))
 
 lookup-behind : (nlri : List ℕ) (r : Route) (rs us : List Route) → lookup nlri rs ≡ lookup nlri us → lookup nlri (r ∷ rs) ≡ lookup nlri (r ∷ us)

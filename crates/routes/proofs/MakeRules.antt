@@ -19,11 +19,12 @@ use Rattle.routes.specs.Place.{none}
 use Rattle.routes.specs.Route.{last}
 use Rattle.routes.specs.Table.{imageOf, placesIn, tableSize}
 use Rattle.routes.specs.Calls.{makeOutcome, makeOf}
-use Rattle.routes.specs.Images.{KnownFamily, Holdable, TableOf}
+use Rattle.routes.specs.ArgumentRules.{KnownFamily}
+use Rattle.routes.specs.Images.{Holdable, TableOf}
 use Rattle.routes.specs.CallRules.{TableSize, MakeRefusal, noFamily, badSize, MakeRule}
 use Rattle.routes.proofs.AnswerNumbers.{refused-number, given-number, done-given}
 use Rattle.routes.proofs.Headers.{size-sound, sound-size}
-use Rattle.routes.proofs.Images.{images, make-given, make-refused, image-length}
+use Rattle.routes.proofs.Images.{images, make-given, make-refused, length-image}
 
 -- a table's size, as it is tested
 size-is : (memory : List ℕ) → tableSize (length memory) ≡ true → TableSize (length memory)
@@ -71,7 +72,7 @@ module _ (afi : ℕ) (memory : List ℕ) where
       go (refused n) e = refl
       go (given octets) e =
           let p = make-given afi memory octets e in
-          ap length (p .2) ∙ image-length afi (placesIn memory) [] (holdable-none afi memory (p .0) (p .1)) ∙ sym (sound-size memory (p .1) .is)
+          ap length (p .2) ∙ length-image afi (placesIn memory) [] (holdable-none afi memory (p .0) (p .1)) ∙ sym (sound-size memory (p .1) .is)
 
   made-untouched : makeOf afi memory .answer ≢ DONE → makeOf afi memory .octets ≡ memory
   unfolding makeOf numberOf onOutcome

@@ -16,7 +16,8 @@ use Rattle.routes.specs.Table.{headerStart, headerOf, placesOf, imageOf,
 use Rattle.routes.specs.Route.{nlriOf, attributeOf, lookup, isHeld, holds, inserted}
 use Rattle.routes.specs.Arguments.{readSPmsi, readLabelled, readRoute, readFlow, readMatch}
 use Rattle.routes.specs.Matching.{ofFields, candidate, wildcard, condition, meets, distinguisherOf, lower, lowestIn, orElse, firstOf, matchIn}
-use Rattle.routes.specs.Calls.{makeOutcome, makeOf, installedOf, entering, installOutcome, installOf, foundAnswer, foundOutput, matchedBy, matchOutcome, matchOf}
+use Rattle.routes.specs.Answers.{installedOf, foundAnswer, foundOutput, matchedBy}
+use Rattle.routes.specs.Calls.{makeOutcome, makeOf, entering, installOutcome, installOf, matchOutcome, matchOf}
 use Rattle.routes.specs.Examples.{emptyTable, afterInstalls, someTable, MarkedExamples}
 
 pub markedExamples : MarkedExamples

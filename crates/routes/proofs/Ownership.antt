@@ -16,19 +16,15 @@ use Rattle.routes.specs.Route.{Route, route, nlriOf, attributeOf}
 use Rattle.routes.specs.Arguments.{Query, readSPmsi, readRoute, readFlow, readMatch}
 use Rattle.routes.specs.Place.{acceptable}
 use Rattle.routes.specs.Call.{match, Owner, nobody, owner, originatorOf, ownerOf, ownedBy}
-use Rattle.routes.proofs.Bounds.{Accepted, accepted, route-read, read-acceptable, nlri-size}
+use Rattle.routes.proofs.Bounds.{accepted, route-read, read-acceptable, nlri-size}
 
 -- an accepted install
-pub route-accepted : (afi : ℕ) (nlri attribute : List ℕ) (r : Route) → readRoute afi nlri attribute ≡ given r → Accepted afi nlri attribute
-unfolding nlriOf attributeOf
-route-accepted afi nlri attribute r e = accepted afi (route nlri attribute) (read-acceptable afi (route nlri attribute) r e)
-
 pub route-acceptable : (afi : ℕ) (nlri attribute : List ℕ) (r : Route) → readRoute afi nlri attribute ≡ given r → acceptable afi r ≡ true
 unfolding nlriOf attributeOf
 route-acceptable afi nlri attribute r e = rw (route-read afi nlri attribute r e) (read-acceptable afi (route nlri attribute) r e)
 
 -- no well-formed S-PMSI NLRI is empty
-pub named-after-none : (afi : ℕ) (nlri : List ℕ) (f : Fields) → readSPmsi afi nlri ≡ given f → before [] nlri ≡ true
+named-after-none : (afi : ℕ) (nlri : List ℕ) (f : Fields) → readSPmsi afi nlri ≡ given f → before [] nlri ≡ true
 named-after-none afi nlri f e = before-none nlri (omega (arith, nlri-size afi nlri f e))
 
 pub acceptable-after-none : (afi : ℕ) (r : Route) → acceptable afi r ≡ true → before [] (nlriOf r) ≡ true

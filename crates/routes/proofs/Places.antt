@@ -17,9 +17,9 @@ use Rattle.routes.specs.Place.{PLACE, placeOf, endIn, routeIn, acceptabl
 use Rattle.routes.specs.Table.{placesOf, routesFrom, placesSound}
 use Rattle.routes.proofs.Bounds.{sizes-of}
 
-pub zeros-length : (n : ℕ) → length (zeros n) ≡ n
+pub length-zeros : (n : ℕ) → length (zeros n) ≡ n
 unfolding zeros
-zeros-length n = length-replicate n 0
+length-zeros n = length-replicate n 0
 
 -- what follows the first two octets
 past-two : (x y n : ℕ) (s : List ℕ) → drop (2 + n) (x ∷ (y ∷ s)) ≡ drop n s
@@ -46,12 +46,12 @@ place-end (route n a) =
     past-two _ _ (length n + length a) (n ++ (a ++ z)) ∙ ap (drop (length n + length a)) (sym (append-assoc n a z))
     ∙ drop-at (n ++ a) z (length n + length a) (length-append n a)
 
-pub place-length : (r : Route) → length (nlriOf r) + length (attributeOf r) ≤ 126 → length (placeOf r) ≡ 128
+pub length-place : (r : Route) → length (nlriOf r) + length (attributeOf r) ≤ 126 → length (placeOf r) ≡ 128
 unfolding placeOf nlriOf attributeOf
-place-length (route n a) h = simp (length-append, zeros-length) (omega arith)
+length-place (route n a) h = simp (length-append, length-zeros) (omega arith)
 
-pub acceptable-length : (afi : ℕ) (r : Route) → acceptable afi r ≡ true → length (placeOf r) ≡ 128
-acceptable-length afi r h = let s = sizes-of afi r h in place-length r (omega arith)
+pub length-acceptable-place : (afi : ℕ) (r : Route) → acceptable afi r ≡ true → length (placeOf r) ≡ 128
+length-acceptable-place afi r h = let s = sizes-of afi r h in length-place r (omega arith)
 
 -- a sound place is that of the route in it
 place-sound : (afi : ℕ) (r : Route) → acceptable afi r ≡ true → placeSound afi (placeOf r) ≡ true
@@ -92,10 +92,10 @@ sound-place afi place l h =
     sound-cut afi place l (leb-true _ _ (both-true-left _ _ h)) (both-true-right _ _ (both-true-right _ _ h))
 
 -- places one after the other
-pub places-length : (afi : ℕ) (rs : List Route) → AllAcceptable afi rs → length (placesOf rs) ≡ 128 * length rs
+pub length-places : (afi : ℕ) (rs : List Route) → AllAcceptable afi rs → length (placesOf rs) ≡ 128 * length rs
 unfolding placesOf
-places-length afi [] none = refl
-places-length afi (r ∷ rs) (one h a) = rw (length-append (placeOf r) (placesOf rs), acceptable-length afi r h, places-length afi rs a) (omega arith)
+length-places afi [] none = refl
+length-places afi (r ∷ rs) (one h a) = rw (length-append (placeOf r) (placesOf rs), length-acceptable-place afi r h, length-places afi rs a) (omega arith)
 
 pub places-append : (xs ys : List Route) → placesOf (xs ++ ys) ≡ placesOf xs ++ placesOf ys
 unfolding placesOf
@@ -105,11 +105,11 @@ places-append (x ∷ xs) ys = rw (places-append xs ys) (sym (append-assoc (place
 -- the first place, and what follows it
 first-place : (afi : ℕ) (r : Route) (rs : List Route) (z : List ℕ) → acceptable afi r ≡ true → take 128 (placesOf (r ∷ rs) ++ z) ≡ placeOf r
 unfolding placesOf
-first-place afi r rs z h = ap (take 128) (append-assoc (placeOf r) (placesOf rs) z) ∙ take-at (placeOf r) (placesOf rs ++ z) 128 (acceptable-length afi r h)
+first-place afi r rs z h = ap (take 128) (append-assoc (placeOf r) (placesOf rs) z) ∙ take-at (placeOf r) (placesOf rs ++ z) 128 (length-acceptable-place afi r h)
 
 other-places : (afi : ℕ) (r : Route) (rs : List Route) (z : List ℕ) → acceptable afi r ≡ true → drop 128 (placesOf (r ∷ rs) ++ z) ≡ placesOf rs ++ z
 unfolding placesOf
-other-places afi r rs z h = ap (drop 128) (append-assoc (placeOf r) (placesOf rs) z) ∙ drop-at (placeOf r) (placesOf rs ++ z) 128 (acceptable-length afi r h)
+other-places afi r rs z h = ap (drop 128) (append-assoc (placeOf r) (placesOf rs) z) ∙ drop-at (placeOf r) (placesOf rs ++ z) 128 (length-acceptable-place afi r h)
 
 -- the routes in places are those put there
 pub routes-from : (afi : ℕ) (rs : List Route) (z : List ℕ) → AllAcceptable afi rs → routesFrom (length rs) (placesOf rs ++ z) ≡ rs
@@ -119,10 +119,10 @@ routes-from afi (r ∷ rs) z (one h a) =
     ap₂ (λ (x : Route) (xs : List Route). x ∷ xs) (ap routeIn (first-place afi r rs z h) ∙ place-routed r)
     (ap (routesFrom (length rs)) (other-places afi r rs z h) ∙ routes-from afi rs z a)
 
-pub from-length : (count : ℕ) (s : List ℕ) → length (routesFrom count s) ≡ count
+pub length-from : (count : ℕ) (s : List ℕ) → length (routesFrom count s) ≡ count
 unfolding routesFrom
-from-length zero s = refl
-from-length (suc count) s = ap suc (from-length count (drop PLACE s))
+length-from zero s = refl
+length-from (suc count) s = ap suc (length-from count (drop PLACE s))
 
 -- places in order, then zeros, are sound
 pub places-sound : (afi : ℕ) (previous : List ℕ) (rs : List Route) (n : ℕ) → AllAcceptable afi rs → Increasing previous rs

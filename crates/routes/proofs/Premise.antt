@@ -3,6 +3,7 @@ use Prim.Native.Nat.{ℕ}
 use mathlib.Core.Path.{_≡_, refl, ap}
 use mathlib.Core.List.{List, [], _∷_}
 use native.Mathlib.Omega.{arith}
+use Rattle.octets.specs.Numbers.{DONE, ROOM}
 use Rattle.octets.specs.Choice.{pick, both, either}
 use Rattle.octets.specs.Outcome.{onOutcome, andThen, numberOf}
 use Rattle.octets.specs.Octets.{part, numberIn, bigEndian}
@@ -17,7 +18,8 @@ use Rattle.routes.specs.Route.{nlriOf, attributeOf, lookup, isHeld, hold
 use Rattle.routes.specs.Arguments.{readSPmsi, readLabelled, readRoute}
 use Rattle.routes.specs.Place.{placeOf, endIn, routeIn, acceptable, placeSound}
 use Rattle.routes.specs.Table.{headerStart, headerOf, placesOf, imageOf, afiIn, countIn, placesIn, routesFrom, routesOf, tableSize, headerSound, placesSound, soundOf}
-use Rattle.routes.specs.Calls.{makeOutcome, makeOf, installedOf, entering, installOutcome, installOf}
+use Rattle.routes.specs.Answers.{installedOf}
+use Rattle.routes.specs.Calls.{makeOutcome, makeOf, entering, installOutcome, installOf}
 use Rattle.routes.specs.Call.{Answer, installed, withdrawn, matched, originatorOf, ownerOf, ownedBy, argued}
 use Rattle.routes.specs.Book.{entered, actAnswer, actAfter, bookAnswer, bookAfter, fed, bookOf, isAmong, onceEach, dueBy, dueAnswer}
 use Rattle.routes.specs.Run.{Step, stepOf, runFrom, dueStep, dueFrom, namedIn, namedBy}
@@ -27,12 +29,12 @@ use Rattle.routes.specs.MixedCalls.{anySource, twoInstalls, Premise}
 numberAnswered : Answer → ℕ
 numberAnswered (installed i) = i .number
 numberAnswered (withdrawn number) = number
-numberAnswered (matched m output) = m .number
+numberAnswered (matched m) = m .answer .number
 
 -- the number that the second call is answered
 second : List Step → ℕ
-second [] = 0
-second (a ∷ []) = 0
+second [] = DONE
+second (a ∷ []) = DONE
 second (a ∷ (b ∷ steps)) = numberAnswered (b .answer)
 
 pub premise : Premise
@@ -42,5 +44,5 @@ premise =
       made = refl;
       met = omega arith;
       madeSmaller = refl;
-      needed = λ e. let z : _≡_ {A = ℕ} 13 0 = ap second e in omega arith;
+      needed = λ e. let z : _≡_ {A = ℕ} ROOM DONE = ap second e in omega arith;
     }

@@ -10,10 +10,10 @@ use Rattle.routes.specs.Route.{lookup}
 use Rattle.routes.specs.Table.{imageOf}
 use Rattle.routes.specs.Call.{Call, Answer, Owner, nobody, owner, originatorOf, ownerOf, owns, isNobody, refusalOf, refusalAnswer}
 use Rattle.routes.specs.Book.{fed, ownCalls, nobodysCalls, bookOf, bookAnswer, allBooks, dueAnswer}
-use Rattle.routes.specs.Run.{Answered, answered, callIn, answersIn, ownAnswers, imageOfBooks, dueStep, dueFrom}
+use Rattle.routes.specs.Run.{Answered, answersIn, ownAnswers, imageOfBooks, dueStep, dueFrom}
 use Rattle.routes.proofs.Lookups.{lookup-arranged, increasing-equal}
 use Rattle.routes.proofs.Ownership.{owned-by}
-use Rattle.routes.proofs.AllBooks.{lookup-all, lookup-nobody, books-increasing}
+use Rattle.routes.proofs.AllBooks.{lookup-all, lookup-nobody, increasing-books}
 use Rattle.routes.proofs.DueSteps.{due-owned, due-nobody}
 use Rattle.routes.proofs.Chosen.{chosen-first, chosen-later, chosen-append, chosen-passes, chosen-all, chosen-rearranged}
 use Rattle.routes.proofs.ByOwner.{is-nobody, by-owner}
@@ -29,7 +29,7 @@ module _ (afi : ℕ) (router : List ℕ) where
       ∙ ap (λ (l : List Call). bookAnswer afi (fed afi [] l) c) (sym (own-again earlier))
       ∙ sym (due-owned afi (ownCalls afi router earlier) c router (owned-by router (ownerOf afi c) t))
 
-  own-then : (earlier : List Call) (c : Call) → owns afi router c ≡ true → ownCalls afi router (earlier ++ (c ∷ [])) ≡ ownCalls afi router earlier ++ (c ∷ [])
+  pub own-then : (earlier : List Call) (c : Call) → owns afi router c ≡ true → ownCalls afi router (earlier ++ (c ∷ [])) ≡ ownCalls afi router earlier ++ (c ∷ [])
   unfolding chosen
   own-then earlier c t = chosen-append _ earlier (c ∷ []) ∙ ap (λ (l : List Call). ownCalls afi router earlier ++ l) (chosen-first (owns afi router) c [] t)
 
@@ -40,18 +40,18 @@ module _ (afi : ℕ) (router : List ℕ) where
   module _ (places : ℕ) where
     -- a router's own answers are those of its own calls alone
     pub own-answers : (earlier calls : List Call) → ownAnswers afi router (dueFrom afi places earlier calls) ≡ answersIn (dueFrom afi places (ownCalls afi router earlier) (ownCalls afi router calls))
-    unfolding dueFrom dueStep answersIn callIn chosen
+    unfolding dueFrom dueStep answersIn chosen
     own-answers earlier [] = refl
     own-answers earlier (c ∷ cs) =
         let rest = own-answers (earlier ++ (c ∷ [])) cs in
         tested (owns afi router c)
         (λ t.
-        chosen-first _ (answered c (dueAnswer afi earlier c)) (answersIn (dueFrom afi places (earlier ++ (c ∷ [])) cs)) t
-        ∙ ap₂ (λ (a : Answer) (l : List Answered). answered c a ∷ l) (due-own earlier c t)
+        chosen-first _ (record { call = c; answer = dueAnswer afi earlier c }) (answersIn (dueFrom afi places (earlier ++ (c ∷ [])) cs)) t
+        ∙ ap₂ (λ (a : Answer) (l : List Answered). record { call = c; answer = a } ∷ l) (due-own earlier c t)
         (rest ∙ ap (λ (l : List Call). answersIn (dueFrom afi places l (ownCalls afi router cs))) (own-then earlier c t))
         ∙ sym (ap (λ (l : List Call). answersIn (dueFrom afi places (ownCalls afi router earlier) l)) (chosen-first _ c cs t)))
         (λ f.
-        chosen-later _ (answered c (dueAnswer afi earlier c)) (answersIn (dueFrom afi places (earlier ++ (c ∷ [])) cs)) f
+        chosen-later _ (record { call = c; answer = dueAnswer afi earlier c }) (answersIn (dueFrom afi places (earlier ++ (c ∷ [])) cs)) f
         ∙ rest
         ∙ ap (λ (l : List Call). answersIn (dueFrom afi places l (ownCalls afi router cs))) (own-not earlier c f)
         ∙ sym (ap (λ (l : List Call). answersIn (dueFrom afi places (ownCalls afi router earlier) l)) (chosen-later _ c cs f)))
@@ -60,9 +60,9 @@ module _ (afi : ℕ) (router : List ℕ) where
 
 refusals : ℕ → List Call → List Answered
 refusals afi [] = []
-refusals afi (c ∷ cs) = answered c (refusalAnswer c (refusalOf afi c)) ∷ refusals afi cs
+refusals afi (c ∷ cs) = record { call = c; answer = refusalAnswer c (refusalOf afi c) } ∷ refusals afi cs
 
-put-refusals : (afi : ℕ) {c : Call} {xs ys : List Call} → PutIn c xs ys → PutIn (answered c (refusalAnswer c (refusalOf afi c))) (refusals afi xs) (refusals afi ys)
+put-refusals : (afi : ℕ) {c : Call} {xs ys : List Call} → PutIn c xs ys → PutIn (record { call = c; answer = refusalAnswer c (refusalOf afi c) }) (refusals afi xs) (refusals afi ys)
 unfolding refusals
 put-refusals afi front = front
 put-refusals afi (behind p) = behind (put-refusals afi p)
@@ -72,17 +72,17 @@ unfolding refusals
 rearranged-refusals afi Rearranged.none = Rearranged.none
 rearranged-refusals afi (Rearranged.one p r) = Rearranged.one (put-refusals afi p) (rearranged-refusals afi r)
 
-nobodys-answers : (afi places : ℕ) (earlier calls : List Call) → chosen (λ a. isNobody (ownerOf afi (callIn a))) (answersIn (dueFrom afi places earlier calls)) ≡ refusals afi (nobodysCalls afi calls)
-unfolding dueFrom dueStep answersIn callIn chosen refusals
+nobodys-answers : (afi places : ℕ) (earlier calls : List Call) → chosen (λ a. isNobody (ownerOf afi (a .call))) (answersIn (dueFrom afi places earlier calls)) ≡ refusals afi (nobodysCalls afi calls)
+unfolding dueFrom dueStep answersIn chosen refusals
 nobodys-answers afi places earlier [] = refl
 nobodys-answers afi places earlier (c ∷ cs) =
     let rest = nobodys-answers afi places (earlier ++ (c ∷ [])) cs in
     tested (isNobody (ownerOf afi c))
     (λ t.
-    chosen-first _ (answered c (dueAnswer afi earlier c)) (answersIn (dueFrom afi places (earlier ++ (c ∷ [])) cs)) t
-    ∙ ap₂ (λ (a : Answer) (l : List Answered). answered c a ∷ l) (due-nobody afi earlier c (is-nobody (ownerOf afi c) t)) rest
+    chosen-first _ (record { call = c; answer = dueAnswer afi earlier c }) (answersIn (dueFrom afi places (earlier ++ (c ∷ [])) cs)) t
+    ∙ ap₂ (λ (a : Answer) (l : List Answered). record { call = c; answer = a } ∷ l) (due-nobody afi earlier c (is-nobody (ownerOf afi c) t)) rest
     ∙ sym (ap (refusals afi) (chosen-first _ c cs t)))
-    (λ f. chosen-later _ (answered c (dueAnswer afi earlier c)) (answersIn (dueFrom afi places (earlier ++ (c ∷ [])) cs)) f ∙ rest ∙ sym (ap (refusals afi) (chosen-later _ c cs f)))
+    (λ f. chosen-later _ (record { call = c; answer = dueAnswer afi earlier c }) (answersIn (dueFrom afi places (earlier ++ (c ∷ [])) cs)) f ∙ rest ∙ sym (ap (refusals afi) (chosen-later _ c cs f)))
 
 -- another order
 
@@ -95,7 +95,7 @@ module _ (afi places : ℕ) (calls others : List Call) (kept : (router : List �
 
   pub same-answers : Rearranged calls others → Rearranged (answersIn (dueFrom afi places [] calls)) (answersIn (dueFrom afi places [] others))
   same-answers order =
-      by-owner (λ (a : Answered). ownerOf afi (callIn a)) _ _ (λ router. sym (same-own router))
+      by-owner (λ (a : Answered). ownerOf afi (a .call)) _ _ (λ router. sym (same-own router))
       (subst₂ (λ (x y : List Answered). Rearranged x y) (sym (nobodys-answers afi places [] calls)) (sym (nobodys-answers afi places [] others)) (rearranged-refusals afi (chosen-rearranged _ order)))
 
 -- calls with the same own calls for every router have the same books
@@ -103,7 +103,7 @@ pub same-books : (afi places : ℕ) (xs ys : List Call) → ((router : List ℕ)
 unfolding imageOfBooks bookOf
 same-books afi places xs ys h =
     ap (imageOf afi places)
-    (increasing-equal (books-increasing afi xs) (books-increasing afi ys)
+    (increasing-equal (increasing-books afi xs) (increasing-books afi ys)
     (λ nlri. lookup-arranged nlri (allBooks afi xs) ∙ alike nlri (originatorOf afi nlri) refl ∙ sym (lookup-arranged nlri (allBooks afi ys))))
   where
     alike : (nlri : List ℕ) (w : Owner) → originatorOf afi nlri ≡ w → lookup nlri (allBooks afi xs) ≡ lookup nlri (allBooks afi ys)

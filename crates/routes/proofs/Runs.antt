@@ -3,11 +3,11 @@ use Prim.Native.Nat.{ℕ, _≤_}
 use mathlib.Core.Path.{_≡_, refl, ap, ap₂, _∙_}
 use mathlib.Core.List.{List, [], _∷_, _++_, append-assoc, append-nil}
 use native.Mathlib.Nat.{le-trans}
-use Rattle.routes.specs.Images.{KnownFamily}
+use Rattle.routes.specs.ArgumentRules.{KnownFamily}
 use Rattle.routes.specs.Call.{Call, install}
 use Rattle.routes.specs.Run.{Step, stepOf, runFrom, endOf, imageOfBooks, dueStep, dueFrom, namedBy, Fits}
 use Rattle.octets.specs.Lists.{Among}
-use Rattle.routes.proofs.Distincts.{among-left, distinct-fewer}
+use Rattle.routes.proofs.Distincts.{among-left, once-each-fewer}
 use Rattle.routes.proofs.Named.{named-exactly}
 use Rattle.routes.proofs.DueSteps.{due-step}
 
@@ -20,15 +20,15 @@ named-drawn afi xs ys h nlri m =
 
 -- calls that are all among others fit where those do
 pub fits-drawn : (afi places : ℕ) (xs ys : List Call) → ((c : Call) → Among c xs → Among c ys) → Fits afi places ys → Fits afi places xs
-fits-drawn afi places xs ys h fits = le-trans (distinct-fewer (namedBy afi xs) (namedBy afi ys) (named-drawn afi xs ys h)) fits
+fits-drawn afi places xs ys h fits = le-trans (once-each-fewer (namedBy afi xs) (namedBy afi ys) (named-drawn afi xs ys h)) fits
 
-pub fits-earlier : (afi places : ℕ) (xs ys : List Call) → Fits afi places (xs ++ ys) → Fits afi places xs
+fits-earlier : (afi places : ℕ) (xs ys : List Call) → Fits afi places (xs ++ ys) → Fits afi places xs
 fits-earlier afi places xs ys fits = fits-drawn afi places xs (xs ++ ys) (λ c m. among-left ys m) fits
 
 -- a run on the image of all books
 
 module _ (afi places : ℕ) (bits : KnownFamily afi) (most : places ≤ 500) where
-  pub next-step : (earlier : List Call) (c : Call) (cs : List Call) → Fits afi places (earlier ++ (c ∷ cs)) → stepOf (imageOfBooks afi places earlier) c ≡ dueStep afi places earlier c
+  next-step : (earlier : List Call) (c : Call) (cs : List Call) → Fits afi places (earlier ++ (c ∷ cs)) → stepOf (imageOfBooks afi places earlier) c ≡ dueStep afi places earlier c
   next-step earlier c cs fits =
       due-step afi places earlier c bits most (fits-earlier afi places earlier (c ∷ cs) fits) (fits-earlier afi places (earlier ++ (c ∷ [])) cs (rw append-assoc fits))
 

@@ -11,7 +11,7 @@ use Rattle.octets.proofs.Refusals.{is-false}
 use Rattle.octets.proofs.Tests.{both-true}
 use Rattle.octets.proofs.Orders.{equal-same}
 use Rattle.nlri.specs.Fields.{Fields}
-use Rattle.routes.specs.Route.{Route, Distinct}
+use Rattle.routes.specs.Route.{Route, nlriOf, Distinct}
 use Rattle.routes.specs.Arguments.{Query}
 use Rattle.routes.specs.Matching.{candidate, condition, meets, distinguisherOf, Found, nothing, found, matchIn}
 use Rattle.routes.specs.MatchRule.{InTier, bothEqual, sourceEqual, groupEqual, bothWildcard, Eligible, Taken, NoneTaken}
@@ -19,9 +19,10 @@ use Rattle.routes.proofs.Lowest.{qualifies}
 use Rattle.routes.proofs.Conditions.{first-tier, second-tier, third-tier, fourth-tier, by-tier, fields-of, qualified, distinguisher-is, same-nlri}
 use Rattle.routes.proofs.First.{First, first-is, first-unique, one-member}
 use Rattle.routes.proofs.Flows.{Asked}
+use Rattle.routes.proofs.ArgumentRules.{argumentRule, nlri-accepts}
 
 -- the tiers are 1 to 4
-pub tier-range : {afi : ℕ} {source group : List ℕ} {f : Fields} {tier : ℕ} → InTier afi source group f tier → (1 ≤ tier) × (tier < 5)
+tier-range : {afi : ℕ} {source group : List ℕ} {f : Fields} {tier : ℕ} → InTier afi source group f tier → (1 ≤ tier) × (tier < 5)
 tier-range (bothEqual s g) = (omega arith, omega arith)
 tier-range (sourceEqual s g ssm) = (omega arith, omega arith)
 tier-range (groupEqual s g asm) = (omega arith, omega arith)
@@ -46,17 +47,19 @@ module _ (afi : ℕ) (router source group : List ℕ) (q : Query) (a : Asked afi
   eligible : (tier : ℕ) (r : Route) → qualifies afi q tier r ≡ true → Eligible afi router source group tier r
   eligible tier r h =
       let x = qualified afi q tier r h in
-      record { candidate = record { fields = x .fields; read = x .read; own = x .own ∙ a .ofRouter }; met = in-tier tier (x .fields) (x .met) }
+      let n = argumentRule .acceptedNlri afi (nlriOf r) (x .fields) .0 (x .read) in
+      record { candidate = record { named = record { fields = x .fields; read = n .0; kind = n .1 }; originator = x .own ∙ a .ofRouter }; met = in-tier tier (x .fields) (x .met) }
 
   qualifying : (tier : ℕ) (r : Route) → Eligible afi router source group tier r → qualifies afi q tier r ≡ true
   unfolding candidate meets
   qualifying tier r e =
-      let f : Fields = e .candidate .fields in
-      both-true _ _ (fields-of afi r _ f (e .candidate .read) ∙ equal-same (f .originator) (q .router) (e .candidate .own ∙ sym (a .ofRouter)))
-      (fields-of afi r _ f (e .candidate .read) ∙ tier-met (e .met))
+      let f : Fields = e .candidate .named .fields in
+      let read = nlri-accepts afi (nlriOf r) (e .candidate .named) in
+      both-true _ _ (fields-of afi r _ f read ∙ equal-same (f .originator) (q .router) (e .candidate .originator ∙ sym (a .ofRouter)))
+      (fields-of afi r _ f read ∙ tier-met (e .met))
 
-  rd : (tier : ℕ) (r : Route) (e : Eligible afi router source group tier r) → distinguisherOf afi r ≡ e .candidate .fields .distinguisher
-  rd tier r e = distinguisher-is afi r (e .candidate .fields) (e .candidate .read)
+  rd : (tier : ℕ) (r : Route) (e : Eligible afi router source group tier r) → distinguisherOf afi r ≡ e .candidate .named .fields .distinguisher
+  rd tier r e = distinguisher-is afi r (e .candidate .named .fields) (nlri-accepts afi (nlriOf r) (e .candidate .named))
 
   first-taken : (rs : List Route) → Distinct rs → (tier : ℕ) (r : Route) → First afi q 1 5 rs (found tier r) → Taken afi router source group rs tier r
   first-taken rs d tier r f =

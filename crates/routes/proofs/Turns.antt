@@ -12,7 +12,7 @@ use Rattle.octets.specs.Lists.{Among, first, later, Once, Rearranged, chosen}
 use Rattle.routes.specs.Call.{Call, ownerOf}
 use Rattle.routes.specs.Book.{ownCalls, nobodysCalls, isAmong, onceEach, routersOf}
 use Rattle.routes.specs.MixedCalls.{turns, inTurn, Reordered}
-use Rattle.routes.proofs.Distincts.{nowhere, among-cases, has-among, among-has, among-distinct, once-distinct, rearranged-among, rearranged-itself, once-rearranged}
+use Rattle.routes.proofs.Distincts.{nowhere, among-cases, is-among-true, among-is-among, among-once-each, once-once-each, rearranged-among, rearranged-itself, once-rearranged}
 use Rattle.routes.proofs.Chosen.{chosen-append, chosen-passes, chosen-all, chosen-none}
 use Rattle.routes.proofs.Ownership.{owner-nobody, owners-same, owned-by}
 use Rattle.routes.proofs.AllBooks.{own-none}
@@ -39,60 +39,60 @@ module _ (afi : ℕ) (calls : List Call) where
 
   -- routers' turns
 
-  turns-nobodys : (routers : List (List ℕ)) → nobodysCalls afi (turns afi routers calls) ≡ []
+  nobodys-turns : (routers : List (List ℕ)) → nobodysCalls afi (turns afi routers calls) ≡ []
   unfolding turns chosen
-  turns-nobodys [] = refl
-  turns-nobodys (router ∷ routers) =
+  nobodys-turns [] = refl
+  nobodys-turns (router ∷ routers) =
       chosen-append _ (ownCalls afi router calls) (turns afi routers calls)
-      ∙ ap₂ (λ (a b : List Call). a ++ b) (nobodys-own router) (turns-nobodys routers)
+      ∙ ap₂ (λ (a b : List Call). a ++ b) (nobodys-own router) (nobodys-turns routers)
 
-  turns-foreign : (router : List ℕ) (routers : List (List ℕ)) → (Among router routers → ⊥) → ownCalls afi router (turns afi routers calls) ≡ []
+  own-turns-foreign : (router : List ℕ) (routers : List (List ℕ)) → (Among router routers → ⊥) → ownCalls afi router (turns afi routers calls) ≡ []
   unfolding turns chosen
-  turns-foreign router [] h = refl
-  turns-foreign router (other ∷ routers) h =
+  own-turns-foreign router [] h = refl
+  own-turns-foreign router (other ∷ routers) h =
       chosen-append _ (ownCalls afi other calls) (turns afi routers calls)
-      ∙ ap₂ (λ (a b : List Call). a ++ b) (own-foreign router other (λ e. h (first e))) (turns-foreign router routers (λ m. h (later m)))
+      ∙ ap₂ (λ (a b : List Call). a ++ b) (own-foreign router other (λ e. h (first e))) (own-turns-foreign router routers (λ m. h (later m)))
 
-  turns-own : (router : List ℕ) {routers : List (List ℕ)} → Once routers → Among router routers → ownCalls afi router (turns afi routers calls) ≡ ownCalls afi router calls
+  own-turns : (router : List ℕ) {routers : List (List ℕ)} → Once routers → Among router routers → ownCalls afi router (turns afi routers calls) ≡ ownCalls afi router calls
   unfolding turns
-  turns-own router Once.none m = absurd (nowhere m)
-  turns-own router (Once.one {x = other} {xs = routers} n u) m =
+  own-turns router Once.none m = absurd (nowhere m)
+  own-turns router (Once.one {x = other} {xs = routers} n u) m =
       chosen-append _ (ownCalls afi other calls) (turns afi routers calls)
       ∙ tested (same router other)
       (λ t.
       let e : router ≡ other = same-equal router other t in
       ap₂ (λ (a b : List Call). a ++ b)
       (subst (λ (x : List ℕ). ownCalls afi router (ownCalls afi x calls) ≡ ownCalls afi router calls) e (own-again afi router calls))
-      (turns-foreign router routers (λ a. n (rw (← e) a)))
+      (own-turns-foreign router routers (λ a. n (rw (← e) a)))
       ∙ append-nil (ownCalls afi router calls))
       (λ f.
       ap₂ (λ (a b : List Call). a ++ b) (own-foreign router other (other-unequal router other f))
-      (turns-own router u (⊎-elim (λ e. absurd (other-unequal router other f e)) (λ a. a) (among-cases m))))
+      (own-turns router u (⊎-elim (λ e. absurd (other-unequal router other f e)) (λ a. a) (among-cases m))))
 
   -- routers, each once, that have every owner
   module _ (routers : List (List ℕ)) (order : Rearranged (onceEach (routersOf afi calls)) routers) where
-    turns-kept : (router : List ℕ) → ownCalls afi router (inTurn afi routers calls) ≡ ownCalls afi router calls
-    turns-kept router =
+    own-in-turn : (router : List ℕ) → ownCalls afi router (inTurn afi routers calls) ≡ ownCalls afi router calls
+    own-in-turn router =
         chosen-append _ (turns afi routers calls) (nobodysCalls afi calls)
         ∙ ap₂ (λ (a b : List Call). a ++ b) (own (isAmong router routers) refl) (own-nobodys router)
         ∙ append-nil (ownCalls afi router calls)
       where
         own : (b : Bool) → isAmong router routers ≡ b → ownCalls afi router (turns afi routers calls) ≡ ownCalls afi router calls
-        own true t = turns-own router (once-rearranged order (once-distinct (routersOf afi calls))) (has-among routers t)
+        own true t = own-turns router (once-rearranged order (once-once-each (routersOf afi calls))) (is-among-true routers t)
         own false f =
-            turns-foreign router routers (λ m. opposite (among-has m) f)
-            ∙ sym (own-none afi router calls (λ m. opposite (among-has (rearranged-among order (among-distinct (routersOf afi calls) m))) f))
+            own-turns-foreign router routers (λ m. opposite (among-is-among m) f)
+            ∙ sym (own-none afi router calls (λ m. opposite (among-is-among (rearranged-among order (among-once-each (routersOf afi calls) m))) f))
 
-    turns-none : nobodysCalls afi (inTurn afi routers calls) ≡ nobodysCalls afi calls
-    turns-none =
+    nobodys-in-turn : nobodysCalls afi (inTurn afi routers calls) ≡ nobodysCalls afi calls
+    nobodys-in-turn =
         chosen-append _ (turns afi routers calls) (nobodysCalls afi calls)
-        ∙ ap₂ (λ (a b : List Call). a ++ b) (turns-nobodys routers) nobodys-again
+        ∙ ap₂ (λ (a b : List Call). a ++ b) (nobodys-turns routers) nobodys-again
 
     pub in-turn : Reordered afi calls (inTurn afi routers calls)
     in-turn =
         record {
           rearranged =
-              by-owner (ownerOf afi) calls (inTurn afi routers calls) (λ router. sym (turns-kept router))
-              (subst (λ (l : List Call). Rearranged (nobodysCalls afi calls) l) (sym turns-none) (rearranged-itself (nobodysCalls afi calls)));
-          kept = turns-kept;
+              by-owner (ownerOf afi) calls (inTurn afi routers calls) (λ router. sym (own-in-turn router))
+              (subst (λ (l : List Call). Rearranged (nobodysCalls afi calls) l) (sym nobodys-in-turn) (rearranged-itself (nobodysCalls afi calls)));
+          kept = own-in-turn;
         }

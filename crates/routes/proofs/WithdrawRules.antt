@@ -1,12 +1,11 @@
 -- Withdraw (specs/CallRules.antt, `WithdrawRule`).
 use Prim.Native.Nat.{ℕ, suc}
 use mathlib.Core.Path.{_≡_, refl, sym, ap, subst, _∙_}
-use mathlib.Core.Bool.{false}
 use mathlib.Core.Logic.{_≢_, ⊎-elim}
 use mathlib.Core.List.{List}
 use native.Mathlib.Omega.{arith}
 use lib.ListN.{length}
-use Rattle.octets.specs.Numbers.{DONE, TABLE, ABSENT}
+use Rattle.octets.specs.Numbers.{DONE, ABSENT}
 use Rattle.octets.specs.Outcome.{given, refused, onOutcome, numberOf}
 use Rattle.octets.proofs.Inversions.{given-unless, passed, given-same}
 use Rattle.octets.proofs.Orders.{unequal-other}
@@ -15,27 +14,27 @@ use Rattle.octets.proofs.Refusals.{outcome, picked, stopped, refused-same, refu
 use Rattle.octets.proofs.Tests.{goes, stops}
 use Rattle.nlri.proofs.Numbered.{refused-of}
 use Rattle.routes.specs.Route.{lookup, absent, removed}
-use Rattle.routes.specs.Table.{imageOf, afiIn, placesIn, routesOf, soundOf}
+use Rattle.routes.specs.Table.{imageOf, afiIn, placesIn, routesOf}
 use Rattle.routes.specs.Calls.{leaving, withdrawOutcome, withdrawOf}
 use Rattle.routes.specs.Images.{Holdable, TableOf}
-use Rattle.routes.specs.CallRules.{WithdrawRefusal, withdrawUnsound, badName, notHeld, Withdrawable, IsHeld, WithdrawRule}
+use Rattle.routes.specs.CallRules.{IsHeld, HeldNow, Withdrawable, WithdrawRefusal, withdrawUnsound, badName, notHeld, WithdrawRule}
 use Rattle.routes.proofs.AnswerNumbers.{refused-number, given-number, done-given}
 use Rattle.routes.proofs.ArgumentRules.{argumentRule, nlri-accepted, nlri-accepts}
 use Rattle.routes.proofs.ByArguments.{s-pmsi-number}
 use Rattle.routes.proofs.Holding.{holdable-removed}
-use Rattle.routes.proofs.Images.{images, sound, sound-holdable, image-length}
+use Rattle.routes.proofs.Images.{images, sound, sound-holdable, length-image}
 use Rattle.routes.proofs.Lookups.{absent-holds, holds-absent, held-holds, holds-held, lookup-removed-same, lookup-removed-other, increasing-distinct, length-removed-held}
 
 -- what a withdrawal that is not refused found
 pub record Left (t nlri : List ℕ) : Type 0 where
   pub asked : Withdrawable t nlri
-  pub found : IsHeld t nlri
+  pub found : IsHeld nlri (routesOf t)
 
 module _ (t nlri : List ℕ) where
   -- the outcome is what leaving comes to, for what is not refused before
   leaving-decides : Withdrawable t nlri → withdrawOutcome t nlri ≡ leaving (routesOf t) nlri
   unfolding withdrawOutcome
-  leaving-decides h = pick-true _ _ _ (h .sound) ∙ sym (goes _ _ _ _ (nlri-accepts (afiIn t) nlri (h .accepted)) refl)
+  leaving-decides h = pick-true _ _ _ (h .sound) ∙ sym (goes _ _ _ _ (nlri-accepts (afiIn t) nlri (h .named)) refl)
 
   withdraw-given : (n : List ℕ) → withdrawOutcome t nlri ≡ given n → Left t nlri × (n ≡ nlri)
   unfolding withdrawOutcome leaving
@@ -43,7 +42,7 @@ module _ (t nlri : List ℕ) where
       let p = given-unless _ _ _ _ e in
       let q = passed _ _ _ (p .1) in
       let r = given-unless _ _ _ _ (q .second) in
-      (record { asked = record { sound = p .0; accepted = nlri-accepted (afiIn t) nlri (q .value) (q .first) }; found = held-holds nlri (routesOf t) (r .0) }, sym (given-same (r .1)))
+      (record { asked = record { sound = p .0; named = nlri-accepted (afiIn t) nlri (q .value) (q .first) }; found = held-holds nlri (routesOf t) (r .0) }, sym (given-same (r .1)))
 
   refusal : (n : ℕ) → withdrawOutcome t nlri ≡ refused n → WithdrawRefusal t nlri n
   unfolding withdrawOutcome leaving
@@ -53,7 +52,7 @@ module _ (t nlri : List ℕ) where
       ⊎-elim (λ first. badName (yes .0) (argumentRule .refusedNlri (afiIn t) nlri n .0 first))
       (λ later.
       let p = refuses-unless ABSENT n _ _ (later .second) in
-      subst (WithdrawRefusal t nlri) (sym (p .1)) (notHeld (yes .0) (nlri-accepted (afiIn t) nlri (later .value) (later .first)) (absent-holds nlri (routesOf t) (p .0))))
+      subst (WithdrawRefusal t nlri) (sym (p .1)) (notHeld (record { sound = yes .0; named = nlri-accepted (afiIn t) nlri (later .value) (later .first) }) (absent-holds nlri (routesOf t) (p .0))))
       (stopped _ _ _ (yes .1)))
       (λ no. subst (WithdrawRefusal t nlri) (refused-same {A = List ℕ} (no .1)) (withdrawUnsound (no .0)))
       (picked _ _ _ _ e)
@@ -62,26 +61,16 @@ module _ (t nlri : List ℕ) where
   unfolding withdrawOutcome leaving
   refuses (withdrawUnsound h) = pick-false _ _ _ h
   refuses (badName s r) = pick-true _ _ _ s ∙ sym (stops _ _ _ (argumentRule .refusedNlri (afiIn t) nlri _ .1 r))
-  refuses (notHeld s a missing) = leaving-decides (record { sound = s; accepted = a }) ∙ pick-false _ _ _ (holds-absent nlri (routesOf t) missing)
+  refuses (notHeld a missing) = leaving-decides a ∙ pick-false _ _ _ (holds-absent nlri (routesOf t) missing)
 
-  gives : Withdrawable t nlri → IsHeld t nlri → withdrawOutcome t nlri ≡ given nlri
+  gives : Withdrawable t nlri → IsHeld nlri (routesOf t) → withdrawOutcome t nlri ≡ given nlri
   unfolding leaving
   gives a h = leaving-decides a ∙ pick-true _ _ _ (holds-held nlri (routesOf t) (h .0) (h .1))
 
   not-done : {n : ℕ} → WithdrawRefusal t nlri n → n ≢ DONE
   not-done (withdrawUnsound h) e = omega arith
   not-done (badName s r) e = s-pmsi-number (afiIn t) nlri _ (argumentRule .refusedNlri (afiIn t) nlri _ .1 r) .0 e
-  not-done (notHeld s a missing) e = omega arith
-
-  by-table : {n : ℕ} → WithdrawRefusal t nlri n → n ≡ TABLE → soundOf t ≡ false
-  by-table (withdrawUnsound h) e = h
-  by-table (badName s r) e = absurd (s-pmsi-number (afiIn t) nlri _ (argumentRule .refusedNlri (afiIn t) nlri _ .1 r) .1 e)
-  by-table (notHeld s a missing) e = absurd (omega arith)
-
-  by-absent : {n : ℕ} → WithdrawRefusal t nlri n → n ≡ ABSENT → lookup nlri (routesOf t) ≡ absent
-  by-absent (withdrawUnsound h) e = absurd (omega arith)
-  by-absent (badName s r) e = absurd (s-pmsi-number (afiIn t) nlri _ (argumentRule .refusedNlri (afiIn t) nlri _ .1 r) .3 e)
-  by-absent (notHeld s a missing) e = missing
+  not-done (notHeld a missing) e = omega arith
 
   number : withdrawOf t nlri .answer ≡ numberOf (withdrawOutcome t nlri)
   unfolding withdrawOf
@@ -111,23 +100,21 @@ module _ (t nlri : List ℕ) where
   either-outcome : {P : Type 0} → (withdrawOutcome t nlri ≡ given nlri → P) → ((n : ℕ) → withdrawOutcome t nlri ≡ refused n → P) → P
   either-outcome held bad = ⊎-elim (λ p. held (p .1 ∙ ap given (withdraw-given (p .0) (p .1) .1))) (λ p. bad (p .0) (p .1)) (outcome (withdrawOutcome t nlri))
 
-  others : (other : List ℕ) → other ≢ nlri → lookup other (routesOf (withdrawOf t nlri .octets)) ≡ lookup other (routesOf t)
-  others other d =
-      either-outcome (λ e. ap (lookup other) (after-given e .routes) ∙ lookup-removed-other other nlri (routesOf t) (unequal-other other nlri d))
-      (λ n e. ap (λ (x : List ℕ). lookup other (routesOf x)) (withdraw-leaves n e))
-
   size : length (withdrawOf t nlri .octets) ≡ length t
   size =
       either-outcome
       (λ e.
-      ap length (withdraw-octets e) ∙ image-length (afiIn t) (placesIn t) (removed nlri (routesOf t)) (withdraw-holdable e)
+      ap length (withdraw-octets e) ∙ length-image (afiIn t) (placesIn t) (removed nlri (routesOf t)) (withdraw-holdable e)
       ∙ sym (sound t (withdraw-given nlri e .0 .asked .sound) .size .is))
       (λ n e. ap length (withdraw-leaves n e))
 
-  withdrawn : withdrawOutcome t nlri ≡ given nlri → lookup nlri (routesOf (withdrawOf t nlri .octets)) ≡ absent
-  withdrawn e =
-      let h = sound-holdable t (withdraw-given nlri e .0 .asked .sound) in
-      ap (lookup nlri) (after-given e .routes) ∙ lookup-removed-same nlri (increasing-distinct (h .increasing))
+  held-after : withdrawOutcome t nlri ≡ given nlri → HeldNow nlri absent (routesOf t) (routesOf (withdrawOf t nlri .octets))
+  held-after e =
+      let a = after-given e in
+      record {
+        own = ap (lookup nlri) (a .routes) ∙ lookup-removed-same nlri (increasing-distinct (sound-holdable t (withdraw-given nlri e .0 .asked .sound) .increasing));
+        others = λ other d. ap (lookup other) (a .routes) ∙ lookup-removed-other other nlri (routesOf t) (unequal-other other nlri d);
+      }
 
   room : withdrawOutcome t nlri ≡ given nlri → suc (length (routesOf (withdrawOf t nlri .octets))) ≡ length (routesOf t)
   room e =
@@ -138,20 +125,11 @@ pub withdrawRule : WithdrawRule
 withdrawRule =
     record {
       refuses = λ t nlri n h. (λ e. refusal t nlri n (refused-of _ n (sym e ∙ number t nlri) h), λ r. number t nlri ∙ refused-number (refuses t nlri r));
-      table = λ t nlri. (
-        λ e. by-table t nlri (refusal t nlri TABLE (refused-of _ TABLE (sym e ∙ number t nlri) (omega arith))) refl,
-        λ h. number t nlri ∙ refused-number (refuses t nlri (withdrawUnsound h)),
-      );
       done = λ t nlri. (
         λ e. let p = withdraw-given t nlri nlri (withdraw-done t nlri e) .0 in (p .asked, p .found),
         λ h. number t nlri ∙ given-number (gives t nlri (h .0) (h .1)),
       );
-      missing = λ t nlri a. (
-        λ e. by-absent t nlri (refusal t nlri ABSENT (refused-of _ ABSENT (sym e ∙ number t nlri) (omega arith))) refl,
-        λ h. number t nlri ∙ refused-number (refuses t nlri (notHeld (a .sound) (a .accepted) h)),
-      );
-      withdrawn = λ t nlri e. withdrawn t nlri (withdraw-done t nlri e);
-      others = others;
+      withdrawn = λ t nlri e. held-after t nlri (withdraw-done t nlri e);
       room = λ t nlri e. room t nlri (withdraw-done t nlri e);
       after = λ t nlri e. after-given t nlri (withdraw-done t nlri e);
       size = size;

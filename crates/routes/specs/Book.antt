@@ -5,12 +5,12 @@ use mathlib.Core.Bool.{Bool, false}
 use mathlib.Core.List.{List, [], _∷_, _++_}
 use Rattle.octets.specs.Numbers.{DONE, ABSENT}
 use Rattle.octets.specs.Choice.{pick, either}
-use Rattle.octets.specs.Outcome.{onOutcome}
+use Rattle.octets.specs.Outcome.{given, onOutcome}
 use Rattle.octets.specs.Order.{same}
 use Rattle.octets.specs.Lists.{chosen}
 use Rattle.routes.specs.Route.{Route, nlriOf, holds, removed}
 use Rattle.routes.specs.Matching.{matchIn}
-use Rattle.routes.specs.Calls.{NEW, REPLACED, foundAnswer, foundOutput}
+use Rattle.routes.specs.Answers.{NEW, REPLACED, matchedBy}
 use Rattle.routes.specs.Call.{Call, Answer, installed, withdrawn, matched, Owner, nobody, owner, ownerOf, owns, isNobody, Act, enter, leave, ask, argued, refusalOf, refusalAnswer}
 
 -- a book with an NLRI given this attribute
@@ -23,7 +23,7 @@ entered r (q ∷ rs) = pick (same (nlriOf r) (nlriOf q)) (r ∷ rs) (q ∷ enter
 unfoldable pub actAnswer : (afi : ℕ) (book : List Route) → Act → Answer
 actAnswer afi book (enter r) = installed (record { number = DONE; outcome = pick (holds (nlriOf r) book) REPLACED NEW })
 actAnswer afi book (leave nlri) = withdrawn (pick (holds nlri book) DONE ABSENT)
-actAnswer afi book (ask q output) = matched (foundAnswer (matchIn afi q book)) (foundOutput (matchIn afi q book) output)
+actAnswer afi book (ask q output) = matched (matchedBy (given (matchIn afi q book)) output)
 
 -- the book after an act: an install gives the NLRI this attribute, a withdrawal takes the NLRI out, a match leaves the book
 unfoldable pub actAfter : (book : List Route) → Act → List Route

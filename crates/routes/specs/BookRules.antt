@@ -1,36 +1,88 @@
--- Whom calls belong to, what the premise counts and what the books hold, in document 01's notions ("Mixed calls and each router's book").
--- Stated here, proved in proofs/BookRules.antt.
-use Prim.Native.Nat.{ℕ}
+-- Whom calls belong to, what the premise counts, and what books answer and hold, in document 01's notions ("Mixed calls and each router's
+-- book"). Stated here, proved in proofs/BookRules.antt.
+use Prim.Native.Nat.{ℕ, _≤_}
 use mathlib.Core.Path.{_≡_}
-use mathlib.Core.List.{List}
-use mathlib.Core.Logic.{_↔_, _⊎_}
+use mathlib.Core.List.{List, [], _∷_, _++_}
+use mathlib.Core.Logic.{_↔_, _⊎_, _≢_}
 use lib.ListN.{length}
+use Rattle.octets.specs.Numbers.{DONE, ABSENT}
 use Rattle.octets.specs.Lists.{Among, Once}
-use Rattle.routes.specs.Route.{Route, arranged, Distinct}
-use Rattle.routes.specs.Images.{Holdable}
-use Rattle.routes.specs.CallRules.{SPmsi}
-use Rattle.routes.specs.Call.{Call, install, withdraw, match, owner, ownerOf}
-use Rattle.routes.specs.Book.{bookOf, onceEach, allBooks}
-use Rattle.routes.specs.Run.{namedBy}
+use Rattle.routes.specs.declared.Matched.{Matched}
+use Rattle.routes.specs.Route.{Route, absent, held, lookup, Distinct}
+use Rattle.routes.specs.Answers.{Changed, NEW, REPLACED}
+use Rattle.routes.specs.Call.{Call, install, withdraw, match, Answer, installed, withdrawn, matched, nobody, owner, ownerOf, refusalAnswer}
+use Rattle.routes.specs.Book.{ownCalls, bookOf, allBooks, dueAnswer}
+use Rattle.routes.specs.Run.{imageOfBooks, counted}
+use Rattle.routes.specs.ArgumentRules.{SPmsi, SPmsiOf, Labelled, GoodFlow, NlriRefusal, RouteRefusal, FlowRefusal}
+use Rattle.routes.specs.Images.{Holdable, TableOf}
+use Rattle.routes.specs.CallRules.{IsHeld, HeldNow}
+use Rattle.routes.specs.MatchRule.{MatchAnswer}
 
--- a call belongs to a router exactly when; any other call is nobody's
+-- a call belongs to a router: an install or withdrawal of a well-formed S-PMSI NLRI to its originator; a match to the router address that
+-- it gives, if that has 4 or 16 octets
+pub data BelongsTo (afi : ℕ) (router : List ℕ) : Call → Type 0 where
+  ownInstall : {nlri attribute : List ℕ} → SPmsiOf afi router nlri → BelongsTo afi router (install nlri attribute)
+  ownWithdrawal : {nlri : List ℕ} → SPmsiOf afi router nlri → BelongsTo afi router (withdraw nlri)
+  ownMatch : {source group output : List ℕ} → (length router ≡ 4) ⊎ (length router ≡ 16) → BelongsTo afi router (match router source group output)
+
+-- any other call belongs to nobody
+abbrev pub Nobodys : ℕ → Call → Type 0
+Nobodys afi c = (router : List ℕ) → BelongsTo afi router c → ⊥
+
+-- owners, and a router's own calls: those that belong to it, in order
 pub record OwnerRule : Type 0 where
-  -- an install or withdrawal: its NLRI is a well-formed S-PMSI NLRI with this originator
-  pub installs : (afi : ℕ) (nlri attribute router : List ℕ) → (ownerOf afi (install nlri attribute) ≡ owner router) ↔ ((s : SPmsi afi nlri) × (s .fields .originator ≡ router))
-  pub withdrawals : (afi : ℕ) (nlri router : List ℕ) → (ownerOf afi (withdraw nlri) ≡ owner router) ↔ ((s : SPmsi afi nlri) × (s .fields .originator ≡ router))
-  -- a match: it gives this router address, of 4 or 16 octets
-  pub matches : (afi : ℕ) (address source group output router : List ℕ)
-      → (ownerOf afi (match address source group output) ≡ owner router) ↔ ((router ≡ address) × ((length address ≡ 4) ⊎ (length address ≡ 16)))
+  pub belongs : (afi : ℕ) (router : List ℕ) (c : Call) → (ownerOf afi c ≡ owner router) ↔ BelongsTo afi router c
+  pub nobodys : (afi : ℕ) (c : Call) → (ownerOf afi c ≡ nobody) ↔ Nobodys afi c
+  pub none : (afi : ℕ) (router : List ℕ) → ownCalls afi router [] ≡ []
+  pub own : (afi : ℕ) (router : List ℕ) (c : Call) (cs : List Call) → BelongsTo afi router c → ownCalls afi router (c ∷ cs) ≡ c ∷ ownCalls afi router cs
+  pub foreign : (afi : ℕ) (router : List ℕ) (c : Call) (cs : List Call) → (BelongsTo afi router c → ⊥) → ownCalls afi router (c ∷ cs) ≡ ownCalls afi router cs
 
--- the premise counts an NLRI exactly when it is well-formed S-PMSI and one of the installs, refused or not, names it; it counts each once
+-- the premise counts an NLRI exactly when it is well-formed S-PMSI and one of the installs, refused or not, names it; however often, once
 pub record PremiseRule : Type 0 where
-  pub named : (afi : ℕ) (calls : List Call) (nlri : List ℕ) → Among nlri (namedBy afi calls) ↔ (SPmsi afi nlri × ((attribute : List ℕ) × Among (install nlri attribute) calls))
-  pub counted : (names : List (List ℕ)) (nlri : List ℕ) → Among nlri (onceEach names) ↔ Among nlri names
-  pub once : (names : List (List ℕ)) → Once (onceEach names)
+  pub exactly : (afi : ℕ) (calls : List Call) (nlri : List ℕ)
+      → Among nlri (counted afi calls) ↔ (SPmsi afi nlri × ((attribute : List ℕ) × Among (install nlri attribute) calls))
+  pub once : (afi : ℕ) (calls : List Call) → Once (counted afi calls)
 
--- the books after calls: each has one attribute for an NLRI, a table of so many places can hold the routes of all, and these are the routes
--- in some router's book
-pub record BookRule (afi places : ℕ) (calls : List Call) : Type 0 where
-  pub distinct : (router : List ℕ) → Distinct (bookOf afi router calls)
-  pub holdable : Holdable afi places (arranged (allBooks afi calls))
-  pub exactly : (r : Route) → Among r (arranged (allBooks afi calls)) ↔ ((router : List ℕ) × Among r (bookOf afi router calls))
+-- why arguments and the family refuse a call: the first number in its order
+pub data CallRefusal (afi : ℕ) : Call → ℕ → Type 0 where
+  installRefused : {nlri attribute : List ℕ} {n : ℕ} → RouteRefusal afi nlri attribute n → CallRefusal afi (install nlri attribute) n
+  withdrawalRefused : {nlri : List ℕ} {n : ℕ} → NlriRefusal afi nlri n → CallRefusal afi (withdraw nlri) n
+  matchRefused : {router source group output : List ℕ} {n : ℕ} → FlowRefusal afi router source group output n → CallRefusal afi (match router source group output) n
+
+-- what a book answers to a call, and the book afterwards
+pub data BookStep (afi : ℕ) (book : List Route) : Call → Answer → (after : List Route) → Type 0 where
+  -- a call that its arguments and the family refuse gets the first such number in its order; the book stays
+  refusedCall : {c : Call} {n : ℕ} → n ≢ DONE → CallRefusal afi c n → BookStep afi book c (refusalAnswer c n) book
+  -- any other install gives the NLRI this attribute: DONE, "replaced" if the book held the NLRI, else "new"
+  replacedRoute : {nlri attribute : List ℕ} {after : List Route} → SPmsi afi nlri → Labelled attribute → IsHeld nlri book → HeldNow nlri (held attribute) book after
+      → BookStep afi book (install nlri attribute) (installed (record { number = DONE; outcome = REPLACED })) after
+  newRoute : {nlri attribute : List ℕ} {after : List Route} → SPmsi afi nlri → Labelled attribute → lookup nlri book ≡ absent → HeldNow nlri (held attribute) book after
+      → BookStep afi book (install nlri attribute) (installed (record { number = DONE; outcome = NEW })) after
+  -- any other withdrawal takes the NLRI out: DONE; if the book does not hold it: ABSENT
+  takenOut : {nlri : List ℕ} {after : List Route} → SPmsi afi nlri → IsHeld nlri book → HeldNow nlri absent book after
+      → BookStep afi book (withdraw nlri) (withdrawn DONE) after
+  notInBook : {nlri : List ℕ} → SPmsi afi nlri → lookup nlri book ≡ absent → BookStep afi book (withdraw nlri) (withdrawn ABSENT) book
+  -- any other match answers by the rule over the book's routes; the book stays
+  matchedFlow : {router source group output : List ℕ} {changed : Changed Matched} → GoodFlow afi router source group → 124 ≤ length output
+      → MatchAnswer afi router source group output book changed → BookStep afi book (match router source group output) (matched changed) book
+
+-- the books, under a family that a table can have
+pub record BookRule (afi : ℕ) : Type 0 where
+  -- a book holds nothing at first, is fed its router's calls in order, and no other call changes it
+  pub none : (router : List ℕ) → bookOf afi router [] ≡ []
+  pub own : (router : List ℕ) (earlier : List Call) (c : Call) → BelongsTo afi router c
+      → BookStep afi (bookOf afi router earlier) c (dueAnswer afi earlier c) (bookOf afi router (earlier ++ (c ∷ [])))
+  pub foreign : (router : List ℕ) (earlier : List Call) (c : Call) → (BelongsTo afi router c → ⊥) → bookOf afi router (earlier ++ (c ∷ [])) ≡ bookOf afi router earlier
+  -- to a call of nobody its refusal is due
+  pub nobodys : (earlier : List Call) (c : Call) → Nobodys afi c → (n : ℕ) × (n ≢ DONE) × CallRefusal afi c n × (dueAnswer afi earlier c ≡ refusalAnswer c n)
+  -- a book has one attribute for each NLRI, and no NLRI stands in two books
+  pub distinct : (router : List ℕ) (calls : List Call) → Distinct (bookOf afi router calls)
+  pub apart : (calls : List Call) → Distinct (allBooks afi calls)
+
+-- the one image of the routes in all books: a sound table of the family and so many places, which can hold these routes: they fit the places
+-- and are acceptable; and they are exactly those in some router's book
+pub record ImageRule (afi places : ℕ) (calls : List Call) : Type 0 where
+  pub routes : List Route
+  pub holdable : Holdable afi places routes
+  pub table : TableOf afi places routes (imageOfBooks afi places calls)
+  pub exactly : (r : Route) → Among r routes ↔ ((router : List ℕ) × Among r (bookOf afi router calls))

@@ -1,4 +1,5 @@
--- Calls and answers, as lists of mixed calls have them (document 01, "Mixed calls and each router's book").
+-- Calls and answers, as lists of mixed calls have them (document 01, "Mixed calls and each router's book"): whom a call belongs to, and what its
+-- arguments and the table's family come to.
 use Prim.Native.Nat.{ℕ}
 use mathlib.Core.Bool.{Bool, true, false}
 use mathlib.Core.List.{List}
@@ -11,7 +12,7 @@ use Rattle.routes.specs.declared.Installed.{Installed}
 use Rattle.routes.specs.declared.Matched.{Matched}
 use Rattle.routes.specs.Route.{Route}
 use Rattle.routes.specs.Arguments.{Query, readSPmsi, readRoute, readMatch}
-use Rattle.routes.specs.Calls.{installedOf, refusedMatch}
+use Rattle.routes.specs.Answers.{Changed, installedOf, matchedBy}
 
 -- a call with every argument whole; a match with what its output holds beforehand
 pub data Call : Type 0 where
@@ -19,11 +20,11 @@ pub data Call : Type 0 where
   withdraw : (nlri : List ℕ) → Call
   match : (router source group output : List ℕ) → Call
 
--- an answer: the number with its fields and, for a match, the output afterwards
+-- an answer: the number with its fields and, for a match, the output octets afterwards
 pub data Answer : Type 0 where
   installed : Installed → Answer
   withdrawn : (number : ℕ) → Answer
-  matched : Matched → (output : List ℕ) → Answer
+  matched : Changed Matched → Answer
 
 -- whom a call belongs to
 pub data Owner : Type 0 where
@@ -70,8 +71,8 @@ argued afi (match router source group output) = andThen (readMatch afi router so
 unfoldable pub refusalOf : ℕ → Call → ℕ
 refusalOf afi call = numberOf (argued afi call)
 
--- what a call that is refused with a number answers
+-- what a call that is refused with a number answers: empty fields, and a match's output as it was
 unfoldable pub refusalAnswer : Call → ℕ → Answer
 refusalAnswer (install nlri attribute) number = installed (installedOf (refused number))
 refusalAnswer (withdraw nlri) number = withdrawn number
-refusalAnswer (match router source group output) number = matched (refusedMatch number) output
+refusalAnswer (match router source group output) number = matched (matchedBy (refused number) output)

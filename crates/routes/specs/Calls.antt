@@ -1,33 +1,20 @@
 -- The calls on a table's octets (document 01, "The numbers a call gives back", "The table memory", "Which route a flow takes"): what
 -- each answers, and the lent octets afterwards. A refusal leaves them as they were.
 use Prim.Native.Nat.{ℕ}
-use mathlib.Core.List.{List, [], _++_}
+use mathlib.Core.List.{List, []}
 use lib.ListN.{length}
 use lib.Dec.{ltb}
-use Rattle.octets.specs.Numbers.{DONE, TABLE, ROOM, ABSENT}
+use Rattle.octets.specs.Numbers.{TABLE, ROOM, ABSENT}
 use Rattle.octets.specs.Choice.{pick}
-use Rattle.octets.specs.Outcome.{Outcome, given, refused, onOutcome, unless, andThen, numberOf}
-use Rattle.octets.specs.Octets.{front}
+use Rattle.octets.specs.Outcome.{Outcome, given, onOutcome, unless, andThen, numberOf}
 use Rattle.nlri.specs.Family.{familyBits}
 use Rattle.routes.specs.declared.Installed.{Installed}
 use Rattle.routes.specs.declared.Matched.{Matched}
-use Rattle.routes.specs.Route.{Route, route, nlriOf, attributeOf, holds, inserted, removed}
+use Rattle.routes.specs.Route.{Route, route, nlriOf, holds, inserted, removed}
 use Rattle.routes.specs.Arguments.{readSPmsi, readRoute, readMatch}
 use Rattle.routes.specs.Table.{imageOf, afiIn, placesIn, routesOf, tableSize, soundOf}
-use Rattle.routes.specs.Matching.{Found, nothing, found, matchIn}
-
--- what a call answers, and the octets of its lent memory afterwards: the table's, or a match's output
-pub record Changed (A : Type 0) : Type 0 where
-  pub answer : A
-  pub octets : List ℕ
-
--- what an install answers besides DONE: the NLRI was not held
-abbrev pub NEW : ℕ
-NEW = 1
-
--- the NLRI was held, and has another attribute now
-abbrev pub REPLACED : ℕ
-REPLACED = 2
+use Rattle.routes.specs.Matching.{Found, matchIn}
+use Rattle.routes.specs.Answers.{Changed, NEW, REPLACED, installedOf, matchedBy}
 
 -- making a table: FAMILY, TABLE; then every octet is written
 unfoldable pub makeOutcome : ℕ → List ℕ → Outcome (List ℕ)
@@ -37,13 +24,9 @@ makeOutcome afi memory = andThen (familyBits afi) (λ bits. unless (tableSize (l
 unfoldable pub makeOf : ℕ → List ℕ → Changed ℕ
 makeOf afi memory = record { answer = numberOf (makeOutcome afi memory); octets = onOutcome (λ number. memory) (λ octets. octets) (makeOutcome afi memory) }
 
--- DONE with "new" or "replaced", or a refusal's number and empty fields
-unfoldable pub installedOf : Outcome ℕ → Installed
-installedOf outcome = record { number = numberOf outcome; outcome = onOutcome (λ number. 0) (λ o. o) outcome }
-
 -- a route that is acceptable: "replaced" where its NLRI is held, else ROOM where every place is taken, else "new"
 unfoldable pub entering : (places : ℕ) → List Route → Route → Outcome ℕ
-entering places rs r = pick (holds (nlriOf r) rs) (given REPLACED) (pick (ltb (length rs) places) (given NEW) (refused ROOM))
+entering places rs r = pick (holds (nlriOf r) rs) (given REPLACED) (unless (ltb (length rs) places) ROOM (given NEW))
 
 -- install: TABLE, then its arguments, then ROOM
 unfoldable pub installOutcome : (table nlri attribute : List ℕ) → Outcome ℕ
@@ -72,25 +55,6 @@ withdrawOf t nlri =
       answer = numberOf (withdrawOutcome t nlri);
       octets = onOutcome (λ number. t) (λ n. imageOf (afiIn t) (placesIn t) (removed n (routesOf t))) (withdrawOutcome t nlri);
     }
-
--- DONE with the tier and both sizes; where no route matches, all of them 0
-unfoldable pub foundAnswer : Found → Matched
-foundAnswer nothing = record { number = DONE; tier = 0; «nlri_size» = 0; «attribute_size» = 0 }
-foundAnswer (found tier r) = record { number = DONE; tier = tier; «nlri_size» = length (nlriOf r); «attribute_size» = length (attributeOf r) }
-
--- a refusal has empty fields
-unfoldable pub refusedMatch : ℕ → Matched
-refusedMatch number = record { number = number; tier = 0; «nlri_size» = 0; «attribute_size» = 0 }
-
--- NLRI and attribute at the front of the output, one straight after the other
-unfoldable pub foundOutput : Found → List ℕ → List ℕ
-foundOutput nothing output = output
-foundOutput (found tier r) output = front (nlriOf r ++ attributeOf r) output
-
--- what a match answers, and the output afterwards
-unfoldable pub matchedBy : Outcome Found → (output : List ℕ) → Changed Matched
-matchedBy outcome output =
-    record { answer = onOutcome refusedMatch foundAnswer outcome; octets = onOutcome (λ number. output) (λ f. foundOutput f output) outcome }
 
 -- match: TABLE, then its arguments
 unfoldable pub matchOutcome : (table router source group output : List ℕ) → Outcome Found

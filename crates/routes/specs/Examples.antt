@@ -14,7 +14,8 @@ use Rattle.routes.specs.declared.Matched.{Matched}
 use Rattle.routes.specs.Route.{Route, route, nlriOf, attributeOf}
 use Rattle.routes.specs.Place.{PLACE}
 use Rattle.routes.specs.Table.{HEADER, imageOf}
-use Rattle.routes.specs.Calls.{Changed, NEW, makeOf, installOf, matchOf}
+use Rattle.routes.specs.Answers.{Changed, NEW}
+use Rattle.routes.specs.Calls.{makeOf, installOf, matchOf}
 
 -- a case: the class of a group, or the reading of a single NLRI, under an AFI; a match, or an install, on a table
 pub data Example : Type 0 where

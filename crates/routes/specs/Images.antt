@@ -3,7 +3,7 @@ use Prim.Native.Nat.{ℕ, _≤_}
 use mathlib.Core.Path.{_≡_}
 use mathlib.Core.Bool.{true}
 use mathlib.Core.List.{List, []}
-use mathlib.Core.Logic.{_↔_, _⊎_}
+use mathlib.Core.Logic.{_↔_}
 use lib.ListN.{length}
 use Rattle.octets.specs.Numbers.{DONE}
 use Rattle.octets.specs.Octets.{AllOctets}
@@ -11,11 +11,8 @@ use Rattle.octets.specs.Lists.{Among}
 use Rattle.routes.specs.Route.{Route, Increasing}
 use Rattle.routes.specs.Place.{AllAcceptable}
 use Rattle.routes.specs.Table.{imageOf, afiIn, placesIn, routesOf, soundOf}
+use Rattle.routes.specs.ArgumentRules.{KnownFamily}
 use Rattle.routes.specs.Calls.{makeOf}
-
--- AFI 1 or 2
-abbrev pub KnownFamily : ℕ → Type 0
-KnownFamily afi = (afi ≡ 1) ⊎ (afi ≡ 2)
 
 -- routes that a table of a family and so many places can hold, in the order in which it holds them
 pub record Holdable (afi places : ℕ) (rs : List Route) : Type 0 where

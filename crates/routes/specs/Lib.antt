@@ -6,10 +6,12 @@ pub mod Place
 pub mod Table
 pub mod Matching
 pub mod OnePass
+pub mod Answers
 pub mod Calls
 pub mod Call
 pub mod Book
 pub mod Run
+pub mod ArgumentRules
 pub mod Images
 pub mod CallRules
 pub mod LastInstalled

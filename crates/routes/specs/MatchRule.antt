@@ -1,35 +1,26 @@
--- What holds of match (document 01, "Which route a flow takes"; demand 2). Stated here, proved in proofs/MatchRule.antt.
+-- What holds of match (document 01, "Which route a flow takes"; demand 2: a flow gets the first route in RFC 6625's order, and none only when
+-- no route matches). Stated here, proved in proofs/MatchRule.antt.
 use Prim.Native.Nat.{ℕ, _+_, _≤_, _<_}
 use mathlib.Core.Path.{_≡_}
 use mathlib.Core.Bool.{true, false}
 use mathlib.Core.List.{List, []}
-use mathlib.Core.Logic.{_↔_, _⊎_, _≢_}
+use mathlib.Core.Logic.{_↔_, _≢_}
 use lib.ListN.{length, getD}
-use Rattle.octets.specs.Numbers.{DONE, TABLE, FLOW, SPACE}
+use Rattle.octets.specs.Numbers.{DONE, TABLE}
 use Rattle.octets.specs.Outcome.{given}
 use Rattle.octets.specs.Octets.{part}
 use Rattle.octets.specs.Order.{before}
-use Rattle.nlri.specs.Fields.{Fields}
-use Rattle.nlri.specs.Statements.{Multicast, SourceSpecific}
-use Rattle.routes.specs.declared.Matched.{Matched}
 use Rattle.octets.specs.Lists.{Among}
+use Rattle.nlri.specs.Fields.{Fields}
+use Rattle.nlri.specs.Statements.{SourceSpecific}
+use Rattle.routes.specs.declared.Matched.{Matched}
 use Rattle.routes.specs.Route.{Route, nlriOf, attributeOf, Distinct}
-use Rattle.routes.specs.Arguments.{Query, readSPmsi, readFlow}
+use Rattle.routes.specs.Arguments.{Query, readFlow}
 use Rattle.routes.specs.Table.{afiIn, routesOf, soundOf}
 use Rattle.routes.specs.Matching.{nothing, found, matchIn}
-use Rattle.routes.specs.Calls.{Changed, matchOf}
-
--- a flow that a match takes: a router address of 4 or 16 octets, a source of the family's size, a multicast group of that size
-pub record GoodFlow (afi : ℕ) (router source group : List ℕ) : Type 0 where
-  pub addressed : (length router ≡ 4) ⊎ (length router ≡ 16)
-  pub sourced : ((afi ≡ 1) × (length source ≡ 4)) ⊎ ((afi ≡ 2) × (length source ≡ 16))
-  pub multicast : Multicast afi group
-
--- a route of a router: its NLRI is a well-formed S-PMSI NLRI with that originator, in size and octets
-pub record RouteOf (afi : ℕ) (router : List ℕ) (r : Route) : Type 0 where
-  pub fields : Fields
-  pub read : readSPmsi afi (nlriOf r) ≡ given fields
-  pub own : fields .originator ≡ router
+use Rattle.routes.specs.Answers.{Changed}
+use Rattle.routes.specs.Calls.{matchOf}
+use Rattle.routes.specs.ArgumentRules.{SPmsiOf, GoodFlow, FlowRefusal}
 
 -- the condition of each tier, 1 to 4; a wildcard is no octets, and a multicast group that is not SSM is ASM
 pub data InTier (afi : ℕ) (source group : List ℕ) (f : Fields) : (tier : ℕ) → Type 0 where
@@ -38,10 +29,10 @@ pub data InTier (afi : ℕ) (source group : List ℕ) (f : Fields) : (tier : ℕ
   groupEqual : f .source ≡ [] → f .group ≡ group → (SourceSpecific afi group → ⊥) → InTier afi source group f 3
   bothWildcard : f .source ≡ [] → f .group ≡ [] → InTier afi source group f 4
 
--- a candidate that meets the condition of a tier
+-- a candidate, that is a route of the router asked, that meets the condition of a tier
 pub record Eligible (afi : ℕ) (router source group : List ℕ) (tier : ℕ) (r : Route) : Type 0 where
-  pub candidate : RouteOf afi router r
-  pub met : InTier afi source group (candidate .fields) tier
+  pub candidate : SPmsiOf afi router (nlriOf r)
+  pub met : InTier afi source group (candidate .named .fields) tier
 
 -- the route that a flow takes of some routes, with its tier
 pub record Taken (afi : ℕ) (router source group : List ℕ) (rs : List Route) (tier : ℕ) (r : Route) : Type 0 where
@@ -51,10 +42,10 @@ pub record Taken (afi : ℕ) (router source group : List ℕ) (rs : List Route) 
   pub lowest : (other : ℕ) (u : Route) → other < tier → Among u rs → Eligible afi router source group other u → ⊥
   -- none of its tier has a lower route distinguisher, compared as eight octets
   pub first : (u : Route) → Among u rs → (e : Eligible afi router source group tier u)
-      → before (e .candidate .fields .distinguisher) (eligible .candidate .fields .distinguisher) ≡ false
+      → before (e .candidate .named .fields .distinguisher) (eligible .candidate .named .fields .distinguisher) ≡ false
   -- it is the only route of that tier and route distinguisher
   pub only : (u : Route) → Among u rs → (e : Eligible afi router source group tier u)
-      → e .candidate .fields .distinguisher ≡ eligible .candidate .fields .distinguisher → u ≡ r
+      → e .candidate .named .fields .distinguisher ≡ eligible .candidate .named .fields .distinguisher → u ≡ r
 
 -- no candidate meets the condition of any tier
 abbrev pub NoneTaken : (afi : ℕ) (router source group : List ℕ) (rs : List Route) → Type 0
@@ -78,28 +69,31 @@ pub record Untold (output : List ℕ) (changed : Changed Matched) : Type 0 where
   pub sizes : (changed .answer .«nlri_size» ≡ 0) × (changed .answer .«attribute_size» ≡ 0)
   pub untouched : changed .octets ≡ output
 
--- match: what it chooses, each number exactly when, and what it tells
+-- what a match that is done answers, over some routes: the route that the flow takes is told; or none is, only where no candidate meets the
+-- condition of any tier
+pub data MatchAnswer (afi : ℕ) (router source group output : List ℕ) (rs : List Route) (changed : Changed Matched) : Type 0 where
+  oneTold : (tier : ℕ) (r : Route) → Taken afi router source group rs tier r → Told tier r output changed → MatchAnswer afi router source group output rs changed
+  noneTold : NoneTaken afi router source group rs → changed .answer .number ≡ DONE → Untold output changed → MatchAnswer afi router source group output rs changed
+
+-- why match refuses: TABLE, then its arguments
+pub data MatchRefusal (t router source group output : List ℕ) : ℕ → Type 0 where
+  matchUnsound : soundOf t ≡ false → MatchRefusal t router source group output TABLE
+  badMatch : {n : ℕ} → soundOf t ≡ true → FlowRefusal (afiIn t) router source group output n → MatchRefusal t router source group output n
+
+-- match: what it chooses, each answer exactly when, and what it leaves
 pub record MatchRule : Type 0 where
   -- over any routes with no NLRI twice, in any order
   pub chosen : (afi : ℕ) (router source group : List ℕ) (q : Query) (rs : List Route) → readFlow afi router source group ≡ given q → Distinct rs
       → (tier : ℕ) (r : Route) → (matchIn afi q rs ≡ found tier r) ↔ Taken afi router source group rs tier r
   pub none : (afi : ℕ) (router source group : List ℕ) (q : Query) (rs : List Route) → readFlow afi router source group ≡ given q
       → (matchIn afi q rs ≡ nothing) ↔ NoneTaken afi router source group rs
-  -- over a table: each number, and when
-  pub table : (t router source group output : List ℕ) → (matchOf t router source group output .answer .number ≡ TABLE) ↔ (soundOf t ≡ false)
-  pub flow : (t router source group output : List ℕ) → soundOf t ≡ true
-      → (matchOf t router source group output .answer .number ≡ FLOW) ↔ (GoodFlow (afiIn t) router source group → ⊥)
-  pub space : (t router source group output : List ℕ) → soundOf t ≡ true
-      → (matchOf t router source group output .answer .number ≡ SPACE) ↔ (GoodFlow (afiIn t) router source group × (length output < 124))
+  -- over a table
+  pub refuses : (t router source group output : List ℕ) (n : ℕ) → n ≢ DONE
+      → (matchOf t router source group output .answer .number ≡ n) ↔ MatchRefusal t router source group output n
   pub done : (t router source group output : List ℕ)
       → (matchOf t router source group output .answer .number ≡ DONE) ↔ ((soundOf t ≡ true) × GoodFlow (afiIn t) router source group × (124 ≤ length output))
-  pub refusal : (t router source group output : List ℕ) → matchOf t router source group output .answer .number ≢ DONE → Untold output (matchOf t router source group output)
-  -- tier 0 exactly when no candidate meets any tier's condition
-  pub tierless : (t router source group output : List ℕ) → matchOf t router source group output .answer .number ≡ DONE
-      → (matchOf t router source group output .answer .tier ≡ 0) ↔ NoneTaken (afiIn t) router source group (routesOf t)
-  pub silent : (t router source group output : List ℕ) → matchOf t router source group output .answer .number ≡ DONE → matchOf t router source group output .answer .tier ≡ 0
+  pub answers : (t router source group output : List ℕ) → matchOf t router source group output .answer .number ≡ DONE
+      → MatchAnswer (afiIn t) router source group output (routesOf t) (matchOf t router source group output)
+  -- a refusal has empty fields and changes no octet
+  pub untold : (t router source group output : List ℕ) → matchOf t router source group output .answer .number ≢ DONE
       → Untold output (matchOf t router source group output)
-  -- any other tier is that of the route that the flow takes, which is told
-  pub tells : (t router source group output : List ℕ) → matchOf t router source group output .answer .number ≡ DONE → matchOf t router source group output .answer .tier ≢ 0
-      → (r : Route) × Taken (afiIn t) router source group (routesOf t) (matchOf t router source group output .answer .tier) r
-      × Told (matchOf t router source group output .answer .tier) r output (matchOf t router source group output)

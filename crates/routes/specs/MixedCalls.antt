@@ -1,38 +1,39 @@
--- The claim on mixed calls (document 01, "Mixed calls and each router's book"; demand 3). Stated here, proved in proofs/MixedCalls.antt.
+-- The claim on mixed calls (document 01, "Mixed calls and each router's book"; demand 3: on one table each router's calls get the answers of
+-- its own book, as if no other router had called). Stated here, proved in proofs/MixedCalls.antt.
 use Prim.Native.Nat.{ℕ}
 use mathlib.Core.Path.{_≡_}
 use mathlib.Core.List.{List, [], _∷_, _++_}
 use mathlib.Core.Logic.{_≢_}
 use Rattle.octets.specs.Numbers.{DONE}
 use Rattle.octets.specs.Order.{zeros}
+use Rattle.octets.specs.Lists.{Rearranged}
 use Rattle.routes.specs.Table.{placesIn}
 use Rattle.routes.specs.Calls.{makeOf}
-use Rattle.routes.specs.Call.{Call, install, nobody, ownerOf, refusalOf, refusalAnswer}
-use Rattle.routes.specs.Book.{ownCalls, nobodysCalls, bookOf, onceEach, routersOf}
-use Rattle.routes.specs.Run.{stepOf, runFrom, answersIn, ownAnswers, endOf, imageOfBooks, dueFrom, Fits}
-use Rattle.octets.specs.Lists.{Rearranged}
-use Rattle.routes.specs.BookRules.{OwnerRule, PremiseRule, BookRule}
+use Rattle.routes.specs.Call.{Call, install}
+use Rattle.routes.specs.Book.{ownCalls, nobodysCalls, onceEach, routersOf}
+use Rattle.routes.specs.Run.{stepOf, runFrom, endOf, answersIn, ownAnswers, dueFrom, Fits}
+use Rattle.routes.specs.ArgumentRules.{KnownFamily}
+use Rattle.routes.specs.BookRules.{OwnerRule, PremiseRule, BookRule, ImageRule}
 
--- a router's own calls get the answers that they get in a run of their own on the same table, as if no other router had called
+-- a run: each call is answered on the octets that the last one left, which are the end of the calls before it
+pub record RunRule : Type 0 where
+  pub each : (t : List ℕ) (earlier : List Call) (c : Call) (later : List Call)
+      → runFrom t (earlier ++ (c ∷ later)) ≡ runFrom t earlier ++ (stepOf (endOf t earlier) c ∷ runFrom (endOf t (earlier ++ (c ∷ []))) later)
+  pub answers : (t : List ℕ) (c : Call) (cs : List Call)
+      → answersIn (runFrom t (c ∷ cs)) ≡ record { call = c; answer = stepOf t c .answer } ∷ answersIn (runFrom (stepOf t c .octets) cs)
+
+-- as if no other router had called: a router's own calls get the answers of a run of their own on the same table
 pub record Alone (afi places : ℕ) (table : List ℕ) (calls : List Call) (router : List ℕ) : Type 0 where
   -- the premise holds of that run too
   pub fits : Fits afi places (ownCalls afi router calls)
   pub answers : ownAnswers afi router (runFrom table calls) ≡ answersIn (runFrom table (ownCalls afi router calls))
-
--- a call of nobody after others is refused, with the first refusal that its arguments and the family cause; it changes no book and no octet
-pub record OfNobody (afi : ℕ) (table : List ℕ) (earlier : List Call) (call : Call) : Type 0 where
-  pub number : refusalOf afi call ≢ DONE
-  pub answer : stepOf (endOf table earlier) call .answer ≡ refusalAnswer call (refusalOf afi call)
-  pub books : (router : List ℕ) → bookOf afi router (earlier ++ (call ∷ [])) ≡ bookOf afi router earlier
-  pub octets : stepOf (endOf table earlier) call .octets ≡ endOf table earlier
 
 -- the same calls in another order that keeps each router's own; nobody's stand anywhere
 pub record Reordered (afi : ℕ) (calls others : List Call) : Type 0 where
   pub rearranged : Rearranged calls others
   pub kept : (router : List ℕ) → ownCalls afi router others ≡ ownCalls afi router calls
 
--- in another order the calls, nobody's included, get the same answers, each router's own in the same order, and the table octets at the end
--- are the same
+-- they get the same answers, nobody's included, each router's own in the same order, and end in the same table octets
 pub record Alike (afi places : ℕ) (table : List ℕ) (calls others : List Call) : Type 0 where
   -- the premise holds of that order too
   pub fits : Fits afi places others
@@ -51,24 +52,25 @@ inTurn afi routers calls = turns afi routers calls ++ nobodysCalls afi calls
 
 -- what holds of calls on a table just made
 pub record Claim (afi places : ℕ) (table : List ℕ) (calls : List Call) : Type 0 where
-  -- each call gets the answer of its own router's book, a call of nobody its refusal; the table octets after each call are the image of
-  -- all books together
+  -- each call gets exactly the answer of its own router's book, a call of no router its refusal (`BookRule`), and after each call the table
+  -- octets are the one image of the routes in all books (`image`, since the calls as far as that one are a list of calls)
   pub due : runFrom table calls ≡ dueFrom afi places [] calls
-  pub end : endOf table calls ≡ imageOfBooks afi places calls
-  pub books : BookRule afi places calls
+  pub image : ImageRule afi places calls
+  -- as if no other router had called
   pub alone : (router : List ℕ) → Alone afi places table calls router
-  pub nobodys : (earlier later : List Call) (call : Call) → calls ≡ earlier ++ (call ∷ later) → ownerOf afi call ≡ nobody → OfNobody afi table earlier call
+  -- the same calls in any other order that keeps each router's own, one router after another included, whichever comes first
   pub anyOrder : (others : List Call) → Reordered afi calls others → Alike afi places table calls others
-  -- one router after another is such an order, whichever router comes first
   pub turn : (routers : List (List ℕ)) → Rearranged (onceEach (routersOf afi calls)) routers → Reordered afi calls (inTurn afi routers calls)
 
--- demand 3: every list of calls on a table just made, of either family and any number of places, whose installs together name no more
--- different well-formed S-PMSI NLRIs than there are places
+-- demand 3: every list of calls, refused ones included, on a table just made, of either family and any number of places, whose installs
+-- together name no more different well-formed S-PMSI NLRIs than there are places; and what its definitions are
 pub record MixedCalls : Type 0 where
-  pub owners : OwnerRule
-  pub premise : PremiseRule
   pub claim : (afi : ℕ) (memory : List ℕ) (calls : List Call) → makeOf afi memory .answer ≡ DONE → Fits afi (placesIn memory) calls
       → Claim afi (placesIn memory) (makeOf afi memory .octets) calls
+  pub run : RunRule
+  pub owners : OwnerRule
+  pub premise : PremiseRule
+  pub books : (afi : ℕ) → KnownFamily afi → BookRule afi
 
 -- (C-*,C-*) of the router 10.0.0.n, route distinguisher 100:7
 unfoldable pub anySource : ℕ → List ℕ

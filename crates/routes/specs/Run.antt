@@ -22,34 +22,31 @@ unfoldable pub stepOf : List ℕ → Call → Step
 stepOf t (install nlri attribute) = record { call = install nlri attribute; answer = installed (installOf t nlri attribute .answer); octets = installOf t nlri attribute .octets }
 stepOf t (withdraw nlri) = record { call = withdraw nlri; answer = withdrawn (withdrawOf t nlri .answer); octets = withdrawOf t nlri .octets }
 stepOf t (match router source group output) =
-    record { call = match router source group output; answer = matched (matchOf t router source group output .answer) (matchOf t router source group output .octets); octets = t }
+    record { call = match router source group output; answer = matched (matchOf t router source group output); octets = t }
 
 -- calls one after the other, each on the octets that the last one left
 unfoldable pub runFrom : List ℕ → List Call → List Step
 runFrom t [] = []
 runFrom t (c ∷ cs) = stepOf t c ∷ runFrom (stepOf t c .octets) cs
 
--- a call with its answer
-pub data Answered : Type 0 where
-  answered : Call → Answer → Answered
-
--- its call
-unfoldable pub callIn : Answered → Call
-callIn (answered c answer) = c
-
--- each call of a run with its answer, in order
-unfoldable pub answersIn : List Step → List Answered
-answersIn [] = []
-answersIn (step ∷ steps) = answered (step .call) (step .answer) ∷ answersIn steps
-
--- the answers to a router's own calls, in order
-abbrev pub ownAnswers : (afi : ℕ) (router : List ℕ) → List Step → List Answered
-ownAnswers afi router steps = chosen (λ a. owns afi router (callIn a)) (answersIn steps)
-
 -- the table octets after all of them
 unfoldable pub endOf : List ℕ → List Call → List ℕ
 endOf t [] = t
 endOf t (c ∷ cs) = endOf (stepOf t c .octets) cs
+
+-- a call with its answer
+pub record Answered : Type 0 where
+  pub call : Call
+  pub answer : Answer
+
+-- each call of a run with its answer, in order
+unfoldable pub answersIn : List Step → List Answered
+answersIn [] = []
+answersIn (step ∷ steps) = record { call = step .call; answer = step .answer } ∷ answersIn steps
+
+-- the answers to a router's own calls, in order
+abbrev pub ownAnswers : (afi : ℕ) (router : List ℕ) → List Step → List Answered
+ownAnswers afi router steps = chosen (λ a. owns afi router (a .call)) (answersIn steps)
 
 -- the one image of the routes in all books
 unfoldable pub imageOfBooks : (afi places : ℕ) → List Call → List ℕ
@@ -75,6 +72,10 @@ unfoldable pub namedBy : ℕ → List Call → List (List ℕ)
 namedBy afi [] = []
 namedBy afi (c ∷ cs) = namedIn afi c ++ namedBy afi cs
 
+-- those that the premise counts: each once
+abbrev pub counted : ℕ → List Call → List (List ℕ)
+counted afi calls = onceEach (namedBy afi calls)
+
 -- all installs together name no more different well-formed S-PMSI NLRIs than there are places
 abbrev pub Fits : (afi places : ℕ) → List Call → Type 0
-Fits afi places calls = length (onceEach (namedBy afi calls)) ≤ places
+Fits afi places calls = length (counted afi calls) ≤ places

@@ -19,7 +19,7 @@ use Rattle.routes.specs.Place.{routeIn}
 use Rattle.routes.specs.Table.{afiIn, countIn, routesFrom, routesOf, soundOf}
 use Rattle.routes.specs.Matching.{distinguisherOf, Found, nothing, found, matchIn}
 use Rattle.routes.specs.declared.Matched.{Matched}
-use Rattle.routes.specs.Calls.{foundAnswer, foundOutput}
+use Rattle.routes.specs.Answers.{foundAnswer, foundOutput}
 use Rattle.routes.specs.OnePass.{tierOf, ahead, against, better, scanned}
 use Rattle.routes.proofs.Places.{from-increasing}
 use Rattle.routes.proofs.Lookups.{increasing-distinct}

@@ -12,9 +12,9 @@ use Rattle.routes.specs.Route.{Route, route, nlriOf, inserted, removed}
 use Rattle.routes.specs.Place.{placeOf, AllAcceptable, none, one}
 use Rattle.routes.specs.Table.{headerOf, placesOf, imageOf}
 use Rattle.routes.specs.Images.{Holdable}
-use Rattle.routes.proofs.Headers.{header-length, past-header}
-use Rattle.routes.proofs.Images.{image-afi}
-use Rattle.routes.proofs.Places.{zeros-length, acceptable-length, places-length, places-append}
+use Rattle.routes.proofs.Headers.{length-header, past-header}
+use Rattle.routes.proofs.Images.{afi-image}
+use Rattle.routes.proofs.Places.{length-zeros, length-acceptable-place, length-places, places-append}
 use Rattle.table.specs.Changing.{rank, firstIs, opened, closed, replacedAt, addedAt, takenAt}
 use Rattle.table.proofs.Places.{zeros-split}
 use Rattle.table.proofs.Ranks.{rank-most, first-within, inserted-held, inserted-new, removed-held}
@@ -29,7 +29,7 @@ acceptable-rest [] ys a = a
 acceptable-rest (x ∷ xs) ys (one h a) = acceptable-rest xs ys a
 
 first-size : {afi : ℕ} {r : Route} {rs : List Route} → AllAcceptable afi (r ∷ rs) → length (placeOf r) ≡ 128
-first-size {afi} {r} (one h a) = acceptable-length afi r h
+first-size {afi} {r} (one h a) = length-acceptable-place afi r h
 
 -- an image by the octets of its places
 image-of : (afi places n : ℕ) (rs : List Route) (xs : List ℕ) → length rs ≡ n → placesOf rs ≡ xs → imageOf afi places rs ≡ headerOf afi n ++ (xs ++ zeros (128 * (places - n)))
@@ -46,7 +46,7 @@ image-split afi places n xs ys e =
     ∙ sym (append-assoc (headerOf afi n) (placesOf xs) (placesOf ys ++ z))
 
 front-size : (afi n : ℕ) (xs : List Route) → AllAcceptable afi xs → length (headerOf afi n ++ placesOf xs) ≡ 8 + 128 * length xs
-front-size afi n xs a = length-append (headerOf afi n) (placesOf xs) ∙ ap₂ (λ (i j : ℕ). i + j) (header-length afi n) (places-length afi xs a)
+front-size afi n xs a = length-append (headerOf afi n) (placesOf xs) ∙ ap₂ (λ (i j : ℕ). i + j) (length-header afi n) (length-places afi xs a)
 
 -- a new header before the places
 header-over : (afi m n : ℕ) (xs ys : List ℕ) → headerOf afi m ++ drop 8 ((headerOf afi n ++ xs) ++ ys) ≡ headerOf afi m ++ (xs ++ ys)
@@ -80,13 +80,13 @@ image-added afi places xs ys r a p h =
     let free : 128 * (places - n) ≡ 128 + 128 * (places - (n + 1)) = omega arith in
     let spaced : imageOf afi places (xs ++ ys) ≡ x ++ (b ++ (zeros 128 ++ w)) =
     image-split afi places n xs ys refl ∙ ap (λ (l : List ℕ). x ++ (b ++ l)) (ap zeros free ∙ zeros-split 128 (128 * (places - (n + 1)))) in
-    let rest : length b ≡ 128 * length ys = places-length afi ys (acceptable-rest xs ys a) in
+    let rest : length b ≡ 128 * length ys = length-places afi ys (acceptable-rest xs ys a) in
     let both : n ≡ length xs + length ys = length-append xs ys in
     let filled : placed start (placeOf r) (opened start end (imageOf afi places (xs ++ ys))) ≡ x ++ (placeOf r ++ (b ++ w)) =
     ap (λ (l : List ℕ). placed start (placeOf r) (opened start end l)) spaced
-    ∙ gap-filled start end x b (zeros 128) w (placeOf r) (front-size afi n xs (acceptable-front xs ys a)) (zeros-length 128) p (omega arith) in
+    ∙ gap-filled start end x b (zeros 128) w (placeOf r) (front-size afi n xs (acceptable-front xs ys a)) (length-zeros 128) p (omega arith) in
     let more : length (xs ++ (r ∷ ys)) ≡ n + 1 = length-append xs (r ∷ ys) ∙ longer (length xs) (length ys) n both in
-    ap₂ (λ (i : ℕ) (l : List ℕ). headerOf i (n + 1) ++ drop 8 l) (image-afi afi places (xs ++ ys)) filled
+    ap₂ (λ (i : ℕ) (l : List ℕ). headerOf i (n + 1) ++ drop 8 l) (afi-image afi places (xs ++ ys)) filled
     ∙ header-over afi (n + 1) n (placesOf xs) (placeOf r ++ (b ++ w))
     ∙ sym (image-of afi places (n + 1) (xs ++ (r ∷ ys)) (placesOf xs ++ (placeOf r ++ b)) more (places-append xs (r ∷ ys))
     ∙ ap (λ (l : List ℕ). headerOf afi (n + 1) ++ l) (append-assoc (placesOf xs) (placeOf r ++ b) w ∙ ap (λ (l : List ℕ). placesOf xs ++ l) (append-assoc (placeOf r) b w)))
@@ -106,14 +106,14 @@ image-taken afi places xs ys q a h =
     let start : ℕ = 8 + 128 * length xs in
     let end : ℕ = 8 + 128 * n in
     let behind : AllAcceptable afi (q ∷ ys) = acceptable-rest xs (q ∷ ys) a in
-    let rest : length b ≡ 128 * length ys = places-length afi ys (acceptable-rest (q ∷ []) ys behind) in
+    let rest : length b ≡ 128 * length ys = length-places afi ys (acceptable-rest (q ∷ []) ys behind) in
     let both : n ≡ length xs + suc (length ys) = length-append xs (q ∷ ys) in
     let shut : closed start end (imageOf afi places (xs ++ (q ∷ ys))) ≡ x ++ (b ++ (zeros 128 ++ w)) =
     ap (closed start end) (image-split afi places n xs (q ∷ ys) refl ∙ ap (λ (l : List ℕ). x ++ l) (append-assoc (placeOf q) b w))
     ∙ gap-closed-over start end x (placeOf q) b w (front-size afi n xs (acceptable-front xs (q ∷ ys) a)) (first-size behind) (omega arith) in
     let fewer : length (xs ++ ys) ≡ n - 1 = length-append xs ys ∙ shorter (length xs) (length ys) n both in
     let free : 128 + 128 * (places - n) ≡ 128 * (places - (n - 1)) = omega arith in
-    ap₂ (λ (i : ℕ) (l : List ℕ). headerOf i (n - 1) ++ drop 8 l) (image-afi afi places (xs ++ (q ∷ ys))) shut
+    ap₂ (λ (i : ℕ) (l : List ℕ). headerOf i (n - 1) ++ drop 8 l) (afi-image afi places (xs ++ (q ∷ ys))) shut
     ∙ header-over afi (n - 1) n (placesOf xs) (b ++ (zeros 128 ++ w))
     ∙ ap (λ (l : List ℕ). headerOf afi (n - 1) ++ (placesOf xs ++ (b ++ l))) (sym (zeros-split 128 (128 * (places - n))) ∙ ap zeros free)
     ∙ sym (image-of afi places (n - 1) (xs ++ ys) (placesOf xs ++ b) fewer (places-append xs ys)

@@ -13,7 +13,7 @@ use Rattle.octets.proofs.Lists.{part-length}
 use Rattle.routes.specs.Route.{nlriOf, holds}
 use Rattle.routes.specs.Place.{endIn, routeIn, placeSound}
 use Rattle.routes.specs.Table.{afiIn, countIn, placesIn, routesFrom, routesOf, placesSound, soundOf}
-use Rattle.routes.proofs.Images.{sound, routes-length, sound-holdable}
+use Rattle.routes.proofs.Images.{sound, length-routes, sound-holdable}
 use Rattle.table.specs.Changing.{routeAt, rank, firstIs}
 use Rattle.table.proofs.Sounds.{sound-end}
 use Rattle.table.proofs.Ranks.{rank-upto, rank-past, rank-most, held-at-rank, first-within}
@@ -78,7 +78,7 @@ first-at t n i h = ap (firstIs n) (routes-from-index t i h)
 
 pub first-past : (t n : List ℕ) (i : ℕ) → countIn t ≤ i → firstIs n (drop i (routesOf t)) ≡ false
 unfolding firstIs
-first-past t n i h = ap (firstIs n) (drop-of-length-le (routesOf t) {i = i} (rw (routes-length t) h))
+first-past t n i h = ap (firstIs n) (drop-of-length-le (routesOf t) {i = i} (rw (length-routes t) h))
 
 -- a search for the rank of an NLRI: it lies from `low` to `high`
 pub record Bracketed (t n : List ℕ) (low high : ℕ) : Type 0 where
@@ -87,7 +87,7 @@ pub record Bracketed (t n : List ℕ) (low high : ℕ) : Type 0 where
   pub within : high ≤ countIn t
 
 pub bracketed-first : (t n : List ℕ) (count : ℕ) → count ≡ countIn t → Bracketed t n 0 count
-bracketed-first t n count h = record { least = omega arith; most = omega (arith, rank-most n (routesOf t), routes-length t); within = omega arith }
+bracketed-first t n count h = record { least = omega arith; most = omega (arith, rank-most n (routesOf t), length-routes t); within = omega arith }
 
 -- the route between them is looked at
 module _ (t n : List ℕ) (low high middle : ℕ) (b : Bracketed t n low high) (inside : middle < high) (flag : Bool) (here : List ℕ) (is : here ≡ nlriOf (routeAt middle t)) (f : flag ≡ before here n) where
@@ -113,4 +113,4 @@ held-by t n k b h e f = held-at-rank n (sound-holdable t h .increasing) ∙ ap (
 
 -- where a held NLRI stands
 pub held-within : (t n : List ℕ) (k : ℕ) → soundOf t ≡ true → firstIs n (drop k (routesOf t)) ≡ true → k < countIn t
-held-within t n k h f = let s = first-within n (routesOf t) k f in omega (arith, routes-length t)
+held-within t n k h f = let s = first-within n (routesOf t) k f in omega (arith, length-routes t)

@@ -20,7 +20,7 @@ use Rattle.nlri.specs.Family.{isOriginatorSize}
 use Rattle.nlri.specs.Groups.{classUnder, groupOf}
 use Rattle.nlri.proofs.Lengths.{family-octets, family-good}
 use Rattle.routes.specs.Arguments.{Query, readFlow}
-use Rattle.routes.specs.Images.{KnownFamily}
+use Rattle.routes.specs.ArgumentRules.{KnownFamily}
 use Rattle.routes.proofs.Flows.{class-under, flow-asked, flow-refused}
 use Rattle.table.specs.Scanning.{queryOf, flowClass}
 

@@ -15,10 +15,11 @@ use Rattle.routes.specs.Route.{route, nlriOf, attributeOf, inserted}
 use Rattle.routes.specs.Arguments.{readRoute}
 use Rattle.routes.specs.Place.{placeOf}
 use Rattle.routes.specs.Table.{afiIn, countIn, placesIn, routesOf, imageOf, soundOf}
-use Rattle.routes.specs.Calls.{NEW, REPLACED, installedOf, entering, installOutcome, installOf}
+use Rattle.routes.specs.Answers.{NEW, REPLACED, installedOf}
+use Rattle.routes.specs.Calls.{entering, installOutcome, installOf}
 use Rattle.routes.proofs.Bounds.{read-acceptable, sizes-of}
-use Rattle.routes.proofs.Images.{routes-length, sound-holdable, sound-image}
-use Rattle.routes.proofs.Places.{place-length}
+use Rattle.routes.proofs.Images.{length-routes, sound-holdable, sound-image}
+use Rattle.routes.proofs.Places.{length-place}
 use Rattle.table.specs.Changing.{rank, firstIs, replacedAt, addedAt, Installs}
 use Rattle.table.proofs.Sounds.{route-fault-none}
 use Rattle.table.proofs.Finds.{held-by}
@@ -50,7 +51,7 @@ route-fits afi n a e =
 
 fits-place : (afi : ℕ) (n a : List ℕ) → numberOf (readRoute afi n a) ≡ DONE → length (placeOf (route n a)) ≡ 128
 unfolding nlriOf attributeOf
-fits-place afi n a e = place-length (route n a) (route-fits afi n a e)
+fits-place afi n a e = length-place (route n a) (route-fits afi n a e)
 
 outcome-enters : (t n a : List ℕ) → soundOf t ≡ true → numberOf (readRoute (afiIn t) n a) ≡ DONE → installOutcome t n a ≡ entering (placesIn t) (routesOf t) (route n a)
 unfolding installOutcome andThen
@@ -70,15 +71,15 @@ pub install-full : (t n a : List ℕ) (k : ℕ) → soundOf t ≡ true → numbe
 unfolding entering nlriOf
 install-full t n a k h e r f full =
     refuses t n a ROOM
-    (outcome-enters t n a h e ∙ pick-false _ _ _ (held-by t n k false h r f) ∙ pick-false _ _ _ (le-ltb (length (routesOf t)) (placesIn t) (rw (routes-length t) full)))
+    (outcome-enters t n a h e ∙ pick-false _ _ _ (held-by t n k false h r f) ∙ pick-false _ _ _ (le-ltb (length (routesOf t)) (placesIn t) (rw (length-routes t) full)))
 
 pub install-adds : (t n a u : List ℕ) (k : ℕ) → AllOctets t → soundOf t ≡ true → numberOf (readRoute (afiIn t) n a) ≡ DONE → k ≡ rank n (routesOf t)
     → firstIs n (drop k (routesOf t)) ≡ false → countIn t < placesIn t → u ≡ addedAt k (countIn t) (placeOf (route n a)) t → Installs t n a (record { number = DONE; outcome = NEW }) u
 unfolding entering nlriOf
 install-adds t n a u k o h e r f room q =
     let here : firstIs n (drop (rank n (routesOf t)) (routesOf t)) ≡ false = ap (λ (i : ℕ). firstIs n (drop i (routesOf t))) (sym r) ∙ f in
-    let free : length (routesOf t) < placesIn t = rw (routes-length t) room in
+    let free : length (routesOf t) < placesIn t = rw (length-routes t) room in
     does t n a u NEW (outcome-enters t n a h e ∙ pick-false _ _ _ (held-by t n k false h r f) ∙ pick-true _ _ _ (lt-ltb (length (routesOf t)) (placesIn t) free))
     (q ∙ ap (λ (i : ℕ). addedAt i (countIn t) (placeOf (route n a)) t) r
-    ∙ ap₂ (λ (c : ℕ) (l : List ℕ). addedAt (rank n (routesOf t)) c (placeOf (route n a)) l) (sym (routes-length t)) (sound-image t o h)
+    ∙ ap₂ (λ (c : ℕ) (l : List ℕ). addedAt (rank n (routesOf t)) c (placeOf (route n a)) l) (sym (length-routes t)) (sound-image t o h)
     ∙ image-entered-new (afiIn t) (placesIn t) (routesOf t) (route n a) (sound-holdable t h) (fits-place (afiIn t) n a e) here free)

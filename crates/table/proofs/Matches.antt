@@ -15,8 +15,9 @@ use Rattle.routes.specs.declared.Matched.{Matched}
 use Rattle.routes.specs.Arguments.{Query, readFlow, readMatch}
 use Rattle.routes.specs.Table.{afiIn, routesOf, soundOf}
 use Rattle.routes.specs.Matching.{Found, matchIn}
-use Rattle.routes.specs.Calls.{Changed, refusedMatch, foundAnswer, foundOutput, matchedBy, matchOutcome, matchOf}
-use Rattle.routes.specs.Images.{KnownFamily}
+use Rattle.routes.specs.Answers.{Changed, refusedMatch, foundAnswer, foundOutput, matchedBy}
+use Rattle.routes.specs.Calls.{matchOutcome, matchOf}
+use Rattle.routes.specs.ArgumentRules.{KnownFamily}
 use Rattle.routes.proofs.Headers.{sound-family}
 use Rattle.routes.proofs.Images.{sound}
 use Rattle.table.specs.Scanning.{queryOf, flowClass}

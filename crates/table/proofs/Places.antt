@@ -11,7 +11,7 @@ use Rattle.octets.specs.Order.{zeros}
 use Rattle.octets.proofs.Lists.{Put, put-then}
 use Rattle.routes.specs.Route.{route}
 use Rattle.routes.specs.Place.{placeOf}
-use Rattle.routes.proofs.Places.{zeros-length}
+use Rattle.routes.proofs.Places.{length-zeros}
 
 pub zeros-split : (m n : ℕ) → zeros (m + n) ≡ zeros m ++ zeros n
 unfolding zeros
@@ -23,14 +23,14 @@ unfolding placed
 over-zeros size e h =
     let s : size ≡ length e + (size - length e) = omega arith in
     let rest : drop (length e) (zeros size) ≡ zeros (size - length e) =
-    ap (λ (k : ℕ). drop (length e) (zeros k)) s ∙ ap (drop (length e)) (zeros-split (length e) (size - length e)) ∙ drop-at (zeros (length e)) (zeros (size - length e)) (length e) (zeros-length (length e)) in
+    ap (λ (k : ℕ). drop (length e) (zeros k)) s ∙ ap (drop (length e)) (zeros-split (length e) (size - length e)) ∙ drop-at (zeros (length e)) (zeros (size - length e)) (length e) (length-zeros (length e)) in
     rw (zero-add (length e), rest)
 
 -- sizes, NLRI and attribute put into zeros one after the other
 pub place-written : (n a z x y w : List ℕ) (i j k : ℕ) → length n + length a ≤ 126 → z ≡ zeros 128 → Put 0 (length n ∷ (length a ∷ [])) z i x → Put i n x j y → Put j a y k w → w ≡ placeOf (route n a)
 unfolding placeOf
 place-written n a z x y w i j k h e p q r =
-    let lz : length z ≡ 128 = ap length e ∙ zeros-length 128 in
+    let lz : length z ≡ 128 = ap length e ∙ length-zeros 128 in
     let sizes : List ℕ = length n ∷ (length a ∷ []) in
     let first : Put 0 (sizes ++ n) z j y = put-then 0 sizes n z i x j y (omega arith) p q in
     let whole : Put 0 ((sizes ++ n) ++ a) z k w = put-then 0 (sizes ++ n) a z j y k w (omega arith) first r in

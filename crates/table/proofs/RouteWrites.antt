@@ -19,7 +19,7 @@ use Rattle.routes.specs.Route.{Route, nlriOf, attributeOf}
 use Rattle.routes.specs.Place.{routeIn}
 use Rattle.routes.specs.Matching.{found}
 use Rattle.routes.specs.declared.Matched.{Matched}
-use Rattle.routes.specs.Calls.{foundAnswer, foundOutput}
+use Rattle.routes.specs.Answers.{foundAnswer, foundOutput}
 use Rattle.table.specs.Scanning.{RouteFits}
 
 pub attribute-least : (s : List ℕ) (f : AttributeFields) → readAttribute s ≡ given f → 5 ≤ length s

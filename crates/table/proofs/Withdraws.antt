@@ -13,7 +13,7 @@ use Rattle.routes.specs.Route.{removed}
 use Rattle.routes.specs.Arguments.{readSPmsi}
 use Rattle.routes.specs.Table.{afiIn, countIn, placesIn, routesOf, imageOf, soundOf}
 use Rattle.routes.specs.Calls.{leaving, withdrawOutcome, withdrawOf}
-use Rattle.routes.proofs.Images.{routes-length, sound-holdable, sound-image}
+use Rattle.routes.proofs.Images.{length-routes, sound-holdable, sound-image}
 use Rattle.table.specs.Changing.{rank, firstIs, takenAt, Withdraws}
 use Rattle.table.proofs.Sounds.{s-pmsi-fault-none}
 use Rattle.table.proofs.Finds.{held-by}
@@ -48,6 +48,6 @@ withdraw-takes t n u k o h e r f q =
     let out : withdrawOutcome t n ≡ given n = outcome-leaves t n h e ∙ pick-true _ _ _ (held-by t n k true h r f) in
     let image : u ≡ imageOf (afiIn t) (placesIn t) (removed n (routesOf t)) =
     q ∙ ap (λ (i : ℕ). takenAt i (countIn t) t) r
-    ∙ ap₂ (λ (c : ℕ) (l : List ℕ). takenAt (rank n (routesOf t)) c l) (sym (routes-length t)) (sound-image t o h)
+    ∙ ap₂ (λ (c : ℕ) (l : List ℕ). takenAt (rank n (routesOf t)) c l) (sym (length-routes t)) (sound-image t o h)
     ∙ image-left (afiIn t) (placesIn t) (routesOf t) n (sound-holdable t h) here in
     (rw out, rw out image)

@@ -8,7 +8,7 @@ ghost use Rattle.tunnel.specs.Attribute.{fieldsIn, readAttribute};
 ghost use Rattle.routes.specs.Route.{attributeOf};
 ghost use Rattle.routes.specs.Place.{endIn, routeIn};
 ghost use Rattle.routes.specs.Matching.{found};
-ghost use Rattle.routes.specs.Calls.{foundAnswer, foundOutput};
+ghost use Rattle.routes.specs.Answers.{foundAnswer, foundOutput};
 ghost use Rattle.table.specs.Scanning.{RouteFits, bestIn, Answerable};
 use crate::find;
 use crate::find::PLACE;

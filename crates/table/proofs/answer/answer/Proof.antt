@@ -6,7 +6,7 @@ use mathlib.Core.List.{List}
 use Prim.Native.Nat.{ℕ}
 use Rattle.routes.specs.Place.{routeIn}
 use Rattle.routes.specs.Matching.{Found, found}
-use Rattle.routes.specs.Calls.{foundAnswer, foundOutput}
+use Rattle.routes.specs.Answers.{foundAnswer, foundOutput}
 use Rattle.table.proofs.Scans.{best-none, best-some, best-writable}
 use Rattle.table.proofs.answer.answer.Statement.{statement}
 use Rattle.table.proofs.answer.answer.Tie as tie

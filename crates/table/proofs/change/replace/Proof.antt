@@ -2,7 +2,7 @@
 use Prim.Native.Nat.{_+_, _*_}
 use denote.Ref.{now}
 use Rattle.routes.specs.Route.{route, nlriOf, attributeOf}
-use Rattle.routes.proofs.Places.{place-length}
+use Rattle.routes.proofs.Places.{length-place}
 use Rattle.table.specs.Changing.{replacedAt}
 use Rattle.table.proofs.Moves.{lent-over}
 use borrow.Author.Needs.{needs}
@@ -37,7 +37,7 @@ returns : tie.Need-returns
 unfolding replacedAt nlriOf attributeOf
 returns c =
     let a = c .before .before .before .before .before .before .before .args in
-    rw (c .before .before .write-place .ensures) (lent-over 128 (8 + 128 * a .index) (now (a .table)) _ (place-length (route (now (a .nlri)) (now (a .attribute))) (c .before .before .before .before .before .before .before .pre .1)))
+    rw (c .before .before .write-place .ensures) (lent-over 128 (8 + 128 * a .index) (now (a .table)) _ (length-place (route (now (a .nlri)) (now (a .attribute))) (c .before .before .before .before .before .before .before .pre .1)))
 
 pub replace-spec : {M : Type 1} → statement M
 replace-spec =

@@ -7,7 +7,7 @@ use Rattle.octets.proofs.AllOctets.{octets-of}
 use Rattle.routes.specs.Route.{route}
 use Rattle.routes.specs.Place.{placeOf}
 use Rattle.routes.specs.Table.{afiIn, routesOf}
-use Rattle.routes.proofs.Images.{routes-length}
+use Rattle.routes.proofs.Images.{length-routes}
 use Rattle.table.specs.Changing.{addedAt}
 use Rattle.table.proofs.Ranks.{rank-most}
 use Rattle.table.proofs.Finds.{header-within, places-within}
@@ -37,7 +37,7 @@ add-requires c κs =
     let p = c .before .before .before .before .before .before .before .before .before .pre in
     let t = now (a .table) in
     let k = c .before .before .before .before .count-of .ensures .0 in
-    ((omega (arith, p .1 .1 .0, rank-most (now (a .nlri)) (routesOf t), routes-length t), places-within t _ (p .0) (omega (arith, c .before .before .places-of .ensures))), route-fits (afiIn t) (now (a .nlri)) (now (a .attribute)) (p .1 .0))
+    ((omega (arith, p .1 .1 .0, rank-most (now (a .nlri)) (routesOf t), length-routes t), places-within t _ (p .0) (omega (arith, c .before .before .places-of .ensures))), route-fits (afiIn t) (now (a .nlri)) (now (a .attribute)) (p .1 .0))
 
 same-length-2 : tie.Need-same-length-2
 same-length-2 c = search needs

@@ -1,6 +1,6 @@
 -- `table::matching::refusal` meets its contract.
 use borrow.Author.Needs.{needs}
-use Rattle.routes.specs.Calls.{refusedMatch}
+use Rattle.routes.specs.Answers.{refusedMatch}
 use Rattle.table.proofs.matching.refusal.Statement.{statement}
 use Rattle.table.proofs.matching.refusal.Tie as tie
 

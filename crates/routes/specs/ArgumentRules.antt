@@ -1,0 +1,70 @@
+-- What a call's arguments and the table's family come to, in document 01's notions ("The numbers a call gives back", "Mixed calls and each
+-- router's book"). Stated here, proved in proofs/ArgumentRules.antt.
+use Prim.Native.Nat.{ℕ, _≤_, _<_}
+use mathlib.Core.Path.{_≡_}
+use mathlib.Core.List.{List}
+use mathlib.Core.Logic.{_↔_, _≢_, _⊎_}
+use lib.ListN.{length}
+use Rattle.octets.specs.Numbers.{LABEL, KIND, FLOW, SPACE}
+use Rattle.octets.specs.Outcome.{given, refused}
+use Rattle.nlri.specs.Fields.{Fields}
+use Rattle.nlri.specs.Reading.{readNlri}
+use Rattle.nlri.specs.Statements.{Multicast}
+use Rattle.tunnel.specs.Attribute.{AttributeFields, labelOf, readAttribute}
+use Rattle.routes.specs.Route.{route}
+use Rattle.routes.specs.Arguments.{Query, readSPmsi, readRoute, readMatch}
+
+-- AFI 1 or 2
+abbrev pub KnownFamily : ℕ → Type 0
+KnownFamily afi = (afi ≡ 1) ⊎ (afi ≡ 2)
+
+-- a well-formed S-PMSI NLRI: NLRI reading accepts it with no octets after it, and it is of type 3
+pub record SPmsi (afi : ℕ) (nlri : List ℕ) : Type 0 where
+  pub fields : Fields
+  pub read : readNlri afi nlri ≡ given fields
+  pub kind : fields .type ≡ 3
+
+-- a well-formed S-PMSI NLRI of a router: the router is its originator, in size and octets
+pub record SPmsiOf (afi : ℕ) (router nlri : List ℕ) : Type 0 where
+  pub named : SPmsi afi nlri
+  pub originator : named .fields .originator ≡ router
+
+-- an attribute that install takes: attribute reading accepts it, and it is not BIER with label 0
+pub record Labelled (attribute : List ℕ) : Type 0 where
+  pub fields : AttributeFields
+  pub read : readAttribute attribute ≡ given fields
+  pub label : fields .tunnelType ≡ 11 → labelOf fields ≢ 0
+
+-- a flow that a match takes: a router address of 4 or 16 octets, a source of the family's size, a multicast group of that size
+pub record GoodFlow (afi : ℕ) (router source group : List ℕ) : Type 0 where
+  pub addressed : (length router ≡ 4) ⊎ (length router ≡ 16)
+  pub sourced : ((afi ≡ 1) × (length source ≡ 4)) ⊎ ((afi ≡ 2) × (length source ≡ 16))
+  pub multicast : Multicast afi group
+
+-- why an NLRI is refused: NLRI reading, then KIND
+pub data NlriRefusal (afi : ℕ) (nlri : List ℕ) : ℕ → Type 0 where
+  unreadNlri : {n : ℕ} → readNlri afi nlri ≡ refused n → NlriRefusal afi nlri n
+  otherKind : (f : Fields) → readNlri afi nlri ≡ given f → f .type ≢ 3 → NlriRefusal afi nlri KIND
+
+-- why install refuses its arguments: the NLRI, then attribute reading, then LABEL
+pub data RouteRefusal (afi : ℕ) (nlri attribute : List ℕ) : ℕ → Type 0 where
+  badNlri : {n : ℕ} → NlriRefusal afi nlri n → RouteRefusal afi nlri attribute n
+  unreadAttribute : {n : ℕ} → SPmsi afi nlri → readAttribute attribute ≡ refused n → RouteRefusal afi nlri attribute n
+  noLabel : (f : AttributeFields) → SPmsi afi nlri → readAttribute attribute ≡ given f → f .tunnelType ≡ 11 → labelOf f ≡ 0 → RouteRefusal afi nlri attribute LABEL
+
+-- why match refuses its arguments: FLOW, then SPACE for an output under 124 octets
+pub data FlowRefusal (afi : ℕ) (router source group output : List ℕ) : ℕ → Type 0 where
+  badFlow : (GoodFlow afi router source group → ⊥) → FlowRefusal afi router source group output FLOW
+  noSpace : GoodFlow afi router source group → length output < 124 → FlowRefusal afi router source group output SPACE
+
+-- arguments are accepted, or refused by the first number in the call's order: each exactly when
+pub record ArgumentRule : Type 0 where
+  pub refusedNlri : (afi : ℕ) (nlri : List ℕ) (n : ℕ) → (readSPmsi afi nlri ≡ refused n) ↔ NlriRefusal afi nlri n
+  pub acceptedNlri : (afi : ℕ) (nlri : List ℕ) (f : Fields) → (readSPmsi afi nlri ≡ given f) ↔ ((readNlri afi nlri ≡ given f) × (f .type ≡ 3))
+  pub refusedRoute : (afi : ℕ) (nlri attribute : List ℕ) (n : ℕ) → (readRoute afi nlri attribute ≡ refused n) ↔ RouteRefusal afi nlri attribute n
+  pub acceptedRoute : (afi : ℕ) (nlri attribute : List ℕ) → (readRoute afi nlri attribute ≡ given (route nlri attribute)) ↔ (SPmsi afi nlri × Labelled attribute)
+  -- of a family that a table can have
+  pub refusedFlow : (afi : ℕ) (router source group output : List ℕ) (n : ℕ) → KnownFamily afi
+      → (readMatch afi router source group output ≡ refused n) ↔ FlowRefusal afi router source group output n
+  pub acceptedFlow : (afi : ℕ) (router source group output : List ℕ)
+      → ((q : Query) × (readMatch afi router source group output ≡ given q)) ↔ (GoodFlow afi router source group × (124 ≤ length output))
