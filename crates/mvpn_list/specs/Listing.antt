@@ -7,9 +7,11 @@ use Rattle.octets.specs.Numbers.{DONE}
 use Rattle.octets.specs.Choice.{pick}
 use Rattle.nlri.specs.Walking.{stepFrom}
 
+-- what ends a line
 abbrev pub lineFeed : ℕ
 lineFeed = 10
 
+-- what stands between the fields of a line
 abbrev pub blank : ℕ
 blank = 32
 
@@ -34,15 +36,15 @@ fieldOf number ending = decimalOf number ++ (ending ∷ [])
 unfoldable pub headerLine : List ℕ
 headerLine = 77 ∷ 86 ∷ 84 ∷ 32 ∷ 108 ∷ 105 ∷ 115 ∷ 116 ∷ 32 ∷ 49 ∷ 10 ∷ []
 
--- offset, type, Length
-unfoldable pub lineOf : (offset type length : ℕ) → List ℕ
-lineOf offset type length = fieldOf offset blank ++ (fieldOf type blank ++ fieldOf length lineFeed)
+-- the line of an NLRI: offset, type, Length
+unfoldable pub lineOf : (offset type lengthField : ℕ) → List ℕ
+lineOf offset type lengthField = fieldOf offset blank ++ (fieldOf type blank ++ fieldOf lengthField lineFeed)
 
--- `end ` where the number is 0, else `stop `
+-- `end ` where the number is DONE, else `stop `
 unfoldable pub openingOf : ℕ → List ℕ
 openingOf number = pick (eqb number DONE) (101 ∷ 110 ∷ 100 ∷ 32 ∷ []) (115 ∷ 116 ∷ 111 ∷ 112 ∷ 32 ∷ [])
 
--- offset and number, opened
+-- the last line: offset and number, opened
 unfoldable pub lastLine : (number offset : ℕ) → List ℕ
 lastLine number offset = openingOf number ++ (fieldOf offset blank ++ fieldOf number lineFeed)
 
