@@ -7,7 +7,7 @@ use lib.ListN.{length, length-append}
 use Rattle.octets.specs.Numbers.{DONE}
 use Rattle.nlri.specs.Walking.{stepFrom}
 use Rattle.nlri.proofs.Steps.{step-moves}
-use Rattle.mvpn_list.specs.Listing.{decimalOf, fieldOf, lineOf, openingOf, lastLine, headerLine, linesFrom, linesOf, listingOf}
+use Rattle.mvpn_list.specs.Listing.{decimalOf, fieldOf, lineOf, nlriLine, openingOf, lastLine, headerLine, linesFrom, linesOf, listingOf}
 use Rattle.mvpn_list.proofs.Choices.{pick-by}
 use Rattle.mvpn_list.proofs.Decimals.{length-decimalOf}
 use Rattle.mvpn_list.proofs.Steps.{Comes, reads, stops, comes-stepFrom, linesFrom-reads, linesFrom-stops}
@@ -38,9 +38,9 @@ Within left run at = length (linesFrom left run at) + 6 * at ≤ 6 * 4096 + 13
 within-next : (left : ℕ) (run : List ℕ) (at : ℕ) → at ≤ 4096 → ((c : ℕ) → c ≤ 4096 → Within left run c) → Comes (stepFrom 1 run at) → Within (suc left) run at
 within-next left run at h later (reads l c e known before) =
     let m = step-moves 1 run at l c e in
-    let one = length-lineOf at (l .«route_type») (l .length) h known (omega arith) in
+    let one : length (nlriLine at l) ≤ 12 = length-lineOf _ _ _ (omega arith) (omega arith) (omega arith) in
     let rest = later c (omega arith) in
-    let n = ap length (linesFrom-reads left run at l c e) ∙ length-append (lineOf at (l .«route_type») (l .length)) (linesFrom left run c) in
+    let n = ap length (linesFrom-reads left run at l c e) ∙ length-append (nlriLine at l) (linesFrom left run c) in
     omega arith
 within-next left run at h later (stops n s small) = let last = length-lastLine n at small h in omega (arith, ap length (linesFrom-stops left run at n s))
 

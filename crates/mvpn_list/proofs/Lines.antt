@@ -7,7 +7,7 @@ use lib.ListN.{length, length-append}
 use Rattle.nlri.specs.declared.layout.Layout.{Layout}
 use Rattle.nlri.specs.Walking.{readTo, stepFrom}
 use Rattle.nlri.proofs.Steps.{step-moves}
-use Rattle.mvpn_list.specs.Listing.{lineOf, lastLine, linesFrom, linesOf}
+use Rattle.mvpn_list.specs.Listing.{nlriLine, lastLine, linesFrom, linesOf}
 use Rattle.mvpn_list.proofs.Steps.{Stops, linesFrom-reads, linesFrom-stops}
 use Rattle.octets.proofs.Lists.{Put, put-none, put-as, put-length}
 use Rattle.mvpn_list.proofs.Writes.{room-next, put-both}
@@ -29,7 +29,7 @@ listed-first run output start =
 module _ (run output₀ : List ℕ) (start offset at : ℕ) (output : List ℕ) (fits : start + length (linesOf run) ≤ length output₀) (so-far : Listed run output₀ start offset at output) where
   module _ (l : Layout) (c : ℕ) (e : stepFrom 1 run offset ≡ readTo l c) where
     abbrev this : List ℕ
-    this = lineOf offset (l .«route_type») (l .length)
+    this = nlriLine offset l
 
     onward : linesOf run ≡ (so-far .done ++ this) ++ linesFrom (so-far .left) run c
     onward = so-far .goes ∙ ap (λ (x : List ℕ). so-far .done ++ x) (linesFrom-reads (so-far .left) run offset l c e) ∙ sym (append-assoc (so-far .done) this (linesFrom (so-far .left) run c))
@@ -37,8 +37,8 @@ module _ (run output₀ : List ℕ) (start offset at : ℕ) (output : List ℕ) 
     this-fits : start + length (so-far .done ++ this) ≤ length output₀
     this-fits = omega (arith, ap length onward, length-append (so-far .done ++ this) (linesFrom (so-far .left) run c))
 
-    pub room-lineOf : at + length this ≤ length output
-    room-lineOf = room-next start (so-far .done) this output₀ this-fits at output (so-far .put)
+    pub room-nlriLine : at + length this ≤ length output
+    room-nlriLine = room-next start (so-far .done) this output₀ this-fits at output (so-far .put)
 
     pub listed-next : (r : ℕ) (x : List ℕ) → Put at this output r x → Listed run output₀ start c r x
     listed-next r x w =

@@ -17,7 +17,7 @@ use Rattle.nlri.specs.Layouts.{layoutOf, layoutAt}
 use Rattle.nlri.specs.Walking.{Stepped, readTo, stoppedAt, stepUnder, stepFrom}
 use Rattle.nlri.proofs.ReadNumbers.{family-refuses, layout-refuses}
 use Rattle.nlri.proofs.Whole.{laid-out}
-use Rattle.mvpn_list.specs.Listing.{lineOf, lastLine, linesFrom}
+use Rattle.mvpn_list.specs.Listing.{nlriLine, lastLine, linesFrom}
 use Rattle.mvpn_list.proofs.Choices.{pick-by, onOutcome-by}
 
 -- a layout's route type is known
@@ -54,11 +54,11 @@ comes-stepFrom afi run at =
 
 -- how the lines go on by a step
 module _ (left : ℕ) (run : List ℕ) (at : ℕ) where
-  pub linesFrom-reads : (l : Layout) (c : ℕ) → stepFrom 1 run at ≡ readTo l c → linesFrom (suc left) run at ≡ lineOf at (l .«route_type») (l .length) ++ linesFrom left run c
+  pub linesFrom-reads : (l : Layout) (c : ℕ) → stepFrom 1 run at ≡ readTo l c → linesFrom (suc left) run at ≡ nlriLine at l ++ linesFrom left run c
   unfolding linesFrom readTo
   linesFrom-reads l c e =
       pick-true _ _ _ (ap (λ (s : Stepped). s .read) e)
-      ∙ ap (λ (s : Stepped). lineOf at (s .layout .«route_type») (s .layout .length) ++ linesFrom left run (s .cursor)) e
+      ∙ ap (λ (s : Stepped). nlriLine at (s .layout) ++ linesFrom left run (s .cursor)) e
 
   pub linesFrom-stops : (n : ℕ) → Stops (stepFrom 1 run at) n → linesFrom (suc left) run at ≡ lastLine n at
   unfolding linesFrom

@@ -5,6 +5,7 @@ use lib.ListN.{length}
 use lib.Dec.{ltb, eqb}
 use Rattle.octets.specs.Numbers.{DONE}
 use Rattle.octets.specs.Choice.{pick}
+use Rattle.nlri.specs.declared.layout.Layout.{Layout}
 use Rattle.nlri.specs.Walking.{stepFrom}
 
 -- what ends a line
@@ -36,9 +37,13 @@ fieldOf number ending = decimalOf number ++ (ending ∷ [])
 unfoldable pub headerLine : List ℕ
 headerLine = 77 ∷ 86 ∷ 84 ∷ 32 ∷ 108 ∷ 105 ∷ 115 ∷ 116 ∷ 32 ∷ 49 ∷ 10 ∷ []
 
--- the line of an NLRI: offset, type, Length
+-- offset, type, Length
 unfoldable pub lineOf : (offset type lengthField : ℕ) → List ℕ
 lineOf offset type lengthField = fieldOf offset blank ++ (fieldOf type blank ++ fieldOf lengthField lineFeed)
+
+-- the line of an NLRI that begins at an offset
+abbrev pub nlriLine : (offset : ℕ) → Layout → List ℕ
+nlriLine offset layout = lineOf offset (layout .«route_type») (layout .length)
 
 -- `end ` where the number is DONE, else `stop `
 unfoldable pub openingOf : ℕ → List ℕ
@@ -53,7 +58,7 @@ unfoldable pub linesFrom : ℕ → List ℕ → ℕ → List ℕ
 linesFrom zero run at = lastLine DONE at
 linesFrom (suc left) run at =
     pick (stepFrom 1 run at .read)
-    (lineOf at (stepFrom 1 run at .layout .«route_type») (stepFrom 1 run at .layout .length) ++ linesFrom left run (stepFrom 1 run at .cursor))
+    (nlriLine at (stepFrom 1 run at .layout) ++ linesFrom left run (stepFrom 1 run at .cursor))
     (lastLine (stepFrom 1 run at .number) at)
 
 -- the lines after the header. Each step that reads passes octets, so that more steps than octets suffice

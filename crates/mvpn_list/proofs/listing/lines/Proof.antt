@@ -5,7 +5,7 @@ use borrow.Author.Needs.{needs}
 use lib.ListN.{length}
 use Rattle.nlri.proofs.Steps.{step-moves, step-read, step-ended, step-refused}
 use Rattle.mvpn_list.proofs.Steps.{stops-stoppedAt}
-use Rattle.mvpn_list.proofs.Lines.{Listed, listed-first, listed-next, listed-last, room-lineOf, room-lastLine, length-listed}
+use Rattle.mvpn_list.proofs.Lines.{Listed, listed-first, listed-next, listed-last, room-nlriLine, room-lastLine, length-listed}
 use Rattle.mvpn_list.proofs.listing.lines.Statement.{statement}
 use Rattle.mvpn_list.proofs.listing.lines.Tie as tie
 
@@ -25,7 +25,7 @@ enum-known-layout : tie.Need-enum-known-layout Inv-loop μ-loop
 enum-known-layout c = search needs
 
 line-requires : tie.Need-line-requires Inv-loop μ-loop
-line-requires c κs = room-lineOf _ _ _ _ _ _ (c .before .before .before .before .before .before .before .before .pre) (c .before .before .before .before .before .loop .inv) _ _ (step-read _ _ _ _ (c .before .before .before .before .step .ensures) (c .before .before .layout .given .1))
+line-requires c κs = room-nlriLine _ _ _ _ _ _ (c .before .before .before .before .before .before .before .before .pre) (c .before .before .before .before .before .loop .inv) _ _ (step-read _ _ _ _ (c .before .before .before .before .step .ensures) (c .before .before .layout .given .1))
 
 loop-less : tie.Need-loop-less Inv-loop μ-loop
 loop-less c = let m = step-moves _ _ _ _ _ (step-read _ _ _ _ (c .before .before .before .before .before .before .before .step .ensures) (c .before .before .before .before .before .layout .given .1)) in omega arith
