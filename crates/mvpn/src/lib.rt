@@ -26,6 +26,7 @@ use tunnel::Attribute;
 use tunnel::Reading;
 use tunnel::fec::Fec;
 
+// What a step answers: the next cursor, the number, and the layout of the NLRI read.
 #[repr(C)]
 pub struct StepAnswer {
     pub cursor: usize,
@@ -33,6 +34,7 @@ pub struct StepAnswer {
     pub layout: Layout,
 }
 
+// What reading an attribute answers: the number beside the fields.
 #[repr(C)]
 pub struct AttributeAnswer {
     pub number: u32,
@@ -45,6 +47,7 @@ pub struct AttributeAnswer {
     pub fec: Fec,
 }
 
+// The fields of a single NLRI; a Leaf's key by where it stands.
 #[no_mangle]
 pub extern "C" fn mvpn_nlri_read(afi: u16, nlri: &[u8]) -> NlriReading
     ensures { λ r. ⌜ r ≡ nlriAnswer (readNlri afi (now (nlri .entry))) ⌝ }
@@ -52,6 +55,7 @@ pub extern "C" fn mvpn_nlri_read(afi: u16, nlri: &[u8]) -> NlriReading
     nlri::read_nlri(afi, nlri)
 }
 
+// An NLRI at the front of the output, of its fields and, for a Leaf, its key's octets.
 #[no_mangle]
 pub extern "C" fn mvpn_nlri_write(afi: u16, nlri: Nlri, key: &[u8], output: &mut [u8]) -> Written
     ensures { λ r. ⌜ r ≡ writtenOf (writeNlri afi (structFields nlri (now (key .entry))) (length (now (output .entry)))) ⌝ }
@@ -60,6 +64,7 @@ pub extern "C" fn mvpn_nlri_write(afi: u16, nlri: Nlri, key: &[u8], output: &mut
     nlri::write_nlri(afi, nlri, key, output)
 }
 
+// The NLRI at a cursor of a run by its layout, and the cursor just past it.
 #[no_mangle]
 pub extern "C" fn mvpn_step(afi: u16, run: &[u8], cursor: usize) -> StepAnswer
     ensures { λ r. ⌜ r ≡ stepAnswer (stepFrom afi (now (run .entry)) cursor) ⌝ }
@@ -78,6 +83,7 @@ pub extern "C" fn mvpn_step(afi: u16, run: &[u8], cursor: usize) -> StepAnswer
     }
 }
 
+// A step that read no NLRI: the cursor, the number, and no layout.
 fn stopped(cursor: usize, number: u32) -> StepAnswer
     ensures { λ r. ⌜ r ≡ stepAnswer (stoppedAt number cursor) ⌝ }
 {
@@ -95,6 +101,7 @@ fn stopped(cursor: usize, number: u32) -> StepAnswer
     }
 }
 
+// How many NLRIs of a run are read, and where and why the walk stops.
 #[no_mangle]
 pub extern "C" fn mvpn_walk(afi: u16, run: &[u8]) -> Walked
     ensures { λ r. ⌜ r ≡ walkOf afi (now (run .entry)) ⌝ }
@@ -102,6 +109,7 @@ pub extern "C" fn mvpn_walk(afi: u16, run: &[u8]) -> Walked
     nlri::walk(afi, run)
 }
 
+// Whether a group is ASM or SSM.
 #[no_mangle]
 pub extern "C" fn mvpn_group_class(afi: u16, group: &[u8]) -> Group
     ensures { λ r. ⌜ r ≡ groupOf (classOf afi (now (group .entry))) ⌝ }
@@ -109,6 +117,7 @@ pub extern "C" fn mvpn_group_class(afi: u16, group: &[u8]) -> Group
     nlri::group_class(afi, group)
 }
 
+// The fields of a PMSI Tunnel attribute; its identifier, root and opaque value by where they stand.
 #[no_mangle]
 pub extern "C" fn mvpn_attribute_read(attribute: &[u8]) -> AttributeAnswer
     ensures { λ r. ⌜ r ≡ attributeAnswer (readStruct (now (attribute .entry))) ⌝ }
@@ -119,6 +128,7 @@ pub extern "C" fn mvpn_attribute_read(attribute: &[u8]) -> AttributeAnswer
     }
 }
 
+// The answer of an attribute that was read: DONE beside its fields.
 fn read_answer(fields: Attribute) -> AttributeAnswer
     ensures { λ r. ⌜ r ≡ attributeGiven fields ⌝ }
 {
@@ -136,6 +146,7 @@ fn read_answer(fields: Attribute) -> AttributeAnswer
     }
 }
 
+// The answer of an attribute that was refused: the number, and every other field 0.
 fn refusal(number: u32) -> AttributeAnswer
     ensures { λ r. ⌜ r ≡ attributeRefused number ⌝ }
 {
@@ -156,6 +167,7 @@ fn refusal(number: u32) -> AttributeAnswer
     }
 }
 
+// A PMSI Tunnel attribute at the front of the output.
 #[no_mangle]
 pub extern "C" fn mvpn_attribute_write(
     flags: u8,
@@ -175,6 +187,7 @@ pub extern "C" fn mvpn_attribute_write(
     }
 }
 
+// An empty table of the lent memory, whatever it held.
 #[no_mangle]
 pub extern "C" fn mvpn_make(afi: u16, table: &mut [u8]) -> u32
     ensures { λ r. ⌜ r ≡ makeOf afi (now (table .entry)) .answer ⌝ }
@@ -183,6 +196,7 @@ pub extern "C" fn mvpn_make(afi: u16, table: &mut [u8]) -> u32
     table::make(afi, table)
 }
 
+// A route put into the table, new or in place of the attribute that its NLRI had.
 #[no_mangle]
 pub extern "C" fn mvpn_install(table: &mut [u8], nlri: &[u8], attribute: &[u8]) -> Installed
     ensures { λ r. ⌜ r ≡ installOf (now (table .entry)) (now (nlri .entry)) (now (attribute .entry)) .answer ⌝ }
@@ -191,6 +205,7 @@ pub extern "C" fn mvpn_install(table: &mut [u8], nlri: &[u8], attribute: &[u8]) 
     table::install(table, nlri, attribute)
 }
 
+// A route taken out of the table.
 #[no_mangle]
 pub extern "C" fn mvpn_withdraw(table: &mut [u8], nlri: &[u8]) -> u32
     ensures { λ r. ⌜ r ≡ withdrawOf (now (table .entry)) (now (nlri .entry)) .answer ⌝ }
@@ -199,6 +214,7 @@ pub extern "C" fn mvpn_withdraw(table: &mut [u8], nlri: &[u8]) -> u32
     table::withdraw(table, nlri)
 }
 
+// The route that a flow takes among a router's, written at the front of the output.
 #[no_mangle]
 pub extern "C" fn mvpn_match(
     table: &[u8],

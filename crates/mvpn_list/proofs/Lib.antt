@@ -1,8 +1,10 @@
 -- Laws of the listing.
 pub mod Choices
 pub mod Decimals
+pub mod DecimalRule
 pub mod Writes
 pub mod Steps
 pub mod Bounds
 pub mod Lines
-pub mod Claims
+pub mod RunLines
+pub mod ListingRule

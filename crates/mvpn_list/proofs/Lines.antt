@@ -5,10 +5,10 @@ use Prim.Native.Nat.{ℕ, suc, _+_, _-_, _≤_}
 use native.Mathlib.Omega.{arith}
 use lib.ListN.{length, length-append}
 use Rattle.nlri.specs.declared.layout.Layout.{Layout}
-use Rattle.nlri.specs.Walking.{readTo, stoppedAt, stepFrom}
+use Rattle.nlri.specs.Walking.{readTo, stepFrom}
 use Rattle.nlri.proofs.Steps.{step-moves}
-use Rattle.mvpn_list.specs.Listing.{lineOf, lastLine, linesFrom, linesOf}
-use Rattle.mvpn_list.proofs.Steps.{lines-go, lines-stop}
+use Rattle.mvpn_list.specs.Listing.{nlriLine, lastLine, linesFrom, linesOf}
+use Rattle.mvpn_list.proofs.Steps.{Stops, linesFrom-reads, linesFrom-stops}
 use Rattle.octets.proofs.Lists.{Put, put-none, put-as, put-length}
 use Rattle.mvpn_list.proofs.Writes.{room-next, put-both}
 
@@ -29,16 +29,16 @@ listed-first run output start =
 module _ (run output₀ : List ℕ) (start offset at : ℕ) (output : List ℕ) (fits : start + length (linesOf run) ≤ length output₀) (so-far : Listed run output₀ start offset at output) where
   module _ (l : Layout) (c : ℕ) (e : stepFrom 1 run offset ≡ readTo l c) where
     abbrev this : List ℕ
-    this = lineOf offset (l .«route_type») (l .length)
+    this = nlriLine offset l
 
     onward : linesOf run ≡ (so-far .done ++ this) ++ linesFrom (so-far .left) run c
-    onward = so-far .goes ∙ ap (λ (x : List ℕ). so-far .done ++ x) (lines-go (so-far .left) run offset l c e) ∙ sym (append-assoc (so-far .done) this (linesFrom (so-far .left) run c))
+    onward = so-far .goes ∙ ap (λ (x : List ℕ). so-far .done ++ x) (linesFrom-reads (so-far .left) run offset l c e) ∙ sym (append-assoc (so-far .done) this (linesFrom (so-far .left) run c))
 
     this-fits : start + length (so-far .done ++ this) ≤ length output₀
     this-fits = omega (arith, ap length onward, length-append (so-far .done ++ this) (linesFrom (so-far .left) run c))
 
-    pub line-room : at + length this ≤ length output
-    line-room = room-next start (so-far .done) this output₀ this-fits at output (so-far .put)
+    pub room-nlriLine : at + length this ≤ length output
+    room-nlriLine = room-next start (so-far .done) this output₀ this-fits at output (so-far .put)
 
     pub listed-next : (r : ℕ) (x : List ℕ) → Put at this output r x → Listed run output₀ start c r x
     listed-next r x w =
@@ -53,20 +53,20 @@ module _ (run output₀ : List ℕ) (start offset at : ℕ) (output : List ℕ) 
           goes = onward ∙ ap (λ (k : ℕ). (so-far .done ++ this) ++ linesFrom k run c) n;
         }
 
-  module _ (n x : ℕ) (e : stepFrom 1 run offset ≡ stoppedAt n x) where
+  module _ (n : ℕ) (s : Stops (stepFrom 1 run offset) n) where
     whole : linesOf run ≡ so-far .done ++ lastLine n offset
-    whole = so-far .goes ∙ ap (λ (x : List ℕ). so-far .done ++ x) (lines-stop (so-far .left) run offset n x e)
+    whole = so-far .goes ∙ ap (λ (x : List ℕ). so-far .done ++ x) (linesFrom-stops (so-far .left) run offset n s)
 
     all-fits : start + length (so-far .done ++ lastLine n offset) ≤ length output₀
     all-fits = omega (arith, ap length whole)
 
-    pub last-room : at + length (lastLine n offset) ≤ length output
-    last-room = room-next start (so-far .done) (lastLine n offset) output₀ all-fits at output (so-far .put)
+    pub room-lastLine : at + length (lastLine n offset) ≤ length output
+    room-lastLine = room-next start (so-far .done) (lastLine n offset) output₀ all-fits at output (so-far .put)
 
     pub listed-last : (r : ℕ) (y : List ℕ) → Put at (lastLine n offset) output r y → Put start (linesOf run) output₀ r y
     listed-last r y w =
         put-as start (so-far .done ++ lastLine n offset) (linesOf run) output₀ r y (sym whole)
         (put-both start (so-far .done) (lastLine n offset) output₀ all-fits at output r y (so-far .put) w)
 
-    pub last-length : (r : ℕ) (y : List ℕ) → Put at (lastLine n offset) output r y → length y ≡ length output₀
-    last-length r y w = put-length start (linesOf run) output₀ r y fits (listed-last r y w)
+    pub length-listed : (r : ℕ) (y : List ℕ) → Put at (lastLine n offset) output r y → length y ≡ length output₀
+    length-listed r y w = put-length start (linesOf run) output₀ r y fits (listed-last r y w)

@@ -5,11 +5,14 @@ use lib.ListN.{length}
 use lib.Dec.{ltb, eqb}
 use Rattle.octets.specs.Numbers.{DONE}
 use Rattle.octets.specs.Choice.{pick}
+use Rattle.nlri.specs.declared.layout.Layout.{Layout}
 use Rattle.nlri.specs.Walking.{stepFrom}
 
+-- what ends a line
 abbrev pub lineFeed : ℕ
 lineFeed = 10
 
+-- what stands between the fields of a line
 abbrev pub blank : ℕ
 blank = 32
 
@@ -35,14 +38,18 @@ unfoldable pub headerLine : List ℕ
 headerLine = 77 ∷ 86 ∷ 84 ∷ 32 ∷ 108 ∷ 105 ∷ 115 ∷ 116 ∷ 32 ∷ 49 ∷ 10 ∷ []
 
 -- offset, type, Length
-unfoldable pub lineOf : (offset type length : ℕ) → List ℕ
-lineOf offset type length = fieldOf offset blank ++ (fieldOf type blank ++ fieldOf length lineFeed)
+unfoldable pub lineOf : (offset type lengthField : ℕ) → List ℕ
+lineOf offset type lengthField = fieldOf offset blank ++ (fieldOf type blank ++ fieldOf lengthField lineFeed)
 
--- `end ` where the number is 0, else `stop `
+-- the line of an NLRI that begins at an offset
+abbrev pub nlriLine : (offset : ℕ) → Layout → List ℕ
+nlriLine offset layout = lineOf offset (layout .«route_type») (layout .length)
+
+-- `end ` where the number is DONE, else `stop `
 unfoldable pub openingOf : ℕ → List ℕ
 openingOf number = pick (eqb number DONE) (101 ∷ 110 ∷ 100 ∷ 32 ∷ []) (115 ∷ 116 ∷ 111 ∷ 112 ∷ 32 ∷ [])
 
--- offset and number, opened
+-- the last line: offset and number, opened
 unfoldable pub lastLine : (number offset : ℕ) → List ℕ
 lastLine number offset = openingOf number ++ (fieldOf offset blank ++ fieldOf number lineFeed)
 
@@ -51,7 +58,7 @@ unfoldable pub linesFrom : ℕ → List ℕ → ℕ → List ℕ
 linesFrom zero run at = lastLine DONE at
 linesFrom (suc left) run at =
     pick (stepFrom 1 run at .read)
-    (lineOf at (stepFrom 1 run at .layout .«route_type») (stepFrom 1 run at .layout .length) ++ linesFrom left run (stepFrom 1 run at .cursor))
+    (nlriLine at (stepFrom 1 run at .layout) ++ linesFrom left run (stepFrom 1 run at .cursor))
     (lastLine (stepFrom 1 run at .number) at)
 
 -- the lines after the header. Each step that reads passes octets, so that more steps than octets suffice

@@ -3,10 +3,12 @@ use libc::STDOUT_FILENO;
 use routes::Installed;
 use routes::Matched;
 
+// Words of the line, as they are.
 fn text(words: &[u8]) {
     io::write_all(STDOUT_FILENO, words);
 }
 
+// A number of the line, behind a blank.
 fn number(value: u32) {
     text(b" ");
     io::print_decimal(STDOUT_FILENO, value as u64);
@@ -19,6 +21,7 @@ pub(crate) fn plain(call: &[u8], value: u32) {
     text(b"\n");
 }
 
+// An install's answer: the number, and whether the route is new or replaced.
 pub(crate) fn installed(answer: Installed) {
     text(b"install");
     number(answer.number);
@@ -26,10 +29,12 @@ pub(crate) fn installed(answer: Installed) {
     text(b"\n");
 }
 
+// An octet as the number that is printed.
 fn wide(octet: u8) -> u64 {
     octet as u64
 }
 
+// Octets in hexadecimal, two digits each.
 fn octets_of(s: &[u8]) {
     let mut i = 0;
     while i < s.len() {
@@ -38,6 +43,7 @@ fn octets_of(s: &[u8]) {
     }
 }
 
+// The first `size` octets of the output, where it has so many.
 fn route(size: usize, output: &[u8]) {
     if size <= output.len() {
         octets_of(octets::parts::between(output, 0, size));

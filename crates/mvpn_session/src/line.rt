@@ -34,6 +34,7 @@ fn run(text: &[u8], start: usize, table: &mut [u8], output: &mut [u8])
     change(text, word, at, table);
 }
 
+// An install, or else a withdrawal.
 fn change(text: &[u8], word: usize, at: usize, table: &mut [u8]) {
     if word == 8 {
         return install(text, at, table);
@@ -41,6 +42,7 @@ fn change(text: &[u8], word: usize, at: usize, table: &mut [u8]) {
     withdraw(text, at, table);
 }
 
+// Makes the table anew, for an AFI of two octets.
 fn make(text: &[u8], at: usize, table: &mut [u8]) {
     let mut afi = [0u8; 2];
     script::decode(text, at, &mut afi);
@@ -50,6 +52,7 @@ fn make(text: &[u8], at: usize, table: &mut [u8]) {
     );
 }
 
+// Installs the NLRI and the attribute that the line gives.
 fn install(text: &[u8], at: usize, table: &mut [u8]) {
     let mut nlri = [0u8; FIELD];
     let mut attribute = [0u8; FIELD];
@@ -64,6 +67,7 @@ fn install(text: &[u8], at: usize, table: &mut [u8]) {
     ));
 }
 
+// Withdraws the NLRI that the line gives.
 fn withdraw(text: &[u8], at: usize, table: &mut [u8]) {
     let mut nlri = [0u8; FIELD];
     let first = script::decode(text, at, &mut nlri);
@@ -71,6 +75,7 @@ fn withdraw(text: &[u8], at: usize, table: &mut [u8]) {
     answer::plain(b"withdraw", table::withdraw(table, between(&nlri, 0, size)));
 }
 
+// Reads the router, and goes on to the flow.
 fn match_flow(text: &[u8], at: usize, table: &[u8], output: &mut [u8]) {
     let mut router = [0u8; FIELD];
     let first = script::decode(text, at, &mut router);
@@ -79,6 +84,7 @@ fn match_flow(text: &[u8], at: usize, table: &[u8], output: &mut [u8]) {
     match_of(text, next, table, between(&router, 0, size), output);
 }
 
+// Reads source and group, and matches the flow among the router's routes.
 fn match_of(text: &[u8], at: usize, table: &[u8], router: &[u8], output: &mut [u8]) {
     let mut source = [0u8; FIELD];
     let mut group = [0u8; FIELD];

@@ -13,6 +13,7 @@ const MEMORY: usize = 648;
 
 const OUTPUT: usize = 124;
 
+// The table's memory holds no table at first, so that calls before the first `make` are refused.
 fn main() {
     let mut text = [0u8; SCRIPT];
     let mut table = [255u8; MEMORY];

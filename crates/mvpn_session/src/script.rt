@@ -14,6 +14,7 @@ pub(crate) struct Field {
     pub(crate) next: usize,
 }
 
+// The value of a hexadecimal digit in lower case.
 fn digit(c: u8) -> u32
     ensures { λ r. ⌜ r ≤ 256 ⌝ }
 {

@@ -24,6 +24,7 @@ pub fn is_same(a: &[u8], b: &[u8]) -> bool
     is_same_by_words(&a[0..], &b[0..])
 }
 
+// Equality, a word at a time; the last word may begin inside the one before it.
 fn is_same_by_words(a: &[u8], b: &[u8]) -> bool
     ensures { λ r. ⌜ r ≡ same (now (a .entry)) (now (b .entry)) ⌝ }
 {
@@ -69,6 +70,7 @@ pub fn comes_before(a: &[u8], b: &[u8]) -> bool
     comes_before_by_words(&a[0..], &b[0..])
 }
 
+// The order, a word at a time: the first words that differ decide, as big-endian numbers.
 fn comes_before_by_words(a: &[u8], b: &[u8]) -> bool
     ensures { λ r. ⌜ r ≡ before (now (a .entry)) (now (b .entry)) ⌝ }
 {

@@ -22,12 +22,16 @@ use Rattle.table.specs.declared.scan.Best.{Best}
 
 -- Where the fields of an S-PMSI NLRI stand: the distinguisher behind the header, then a source and a group, each behind its length octet
 -- in bits, then the originator.
+
+-- the octets of the source, by its length octet
 unfoldable pub sourceSize : List ℕ → ℕ
 sourceSize s = getD s 10 0 / 8
 
+-- the octets of the group, by its length octet
 unfoldable pub groupSize : List ℕ → ℕ
 groupSize s = getD s (11 + sourceSize s) 0 / 8
 
+-- where the originator begins, behind the group
 unfoldable pub originatorStart : List ℕ → ℕ
 originatorStart s = 12 + sourceSize s + groupSize s
 
@@ -102,6 +106,7 @@ module _ (router source group : List ℕ) (class : ℕ) (t : List ℕ) where
   scanAt zero at best = best
   scanAt (suc count) at best = scanAt count (at + PLACE) (betterAt best at)
 
+-- no route is the best so far
 unfoldable pub noneYet : Best
 noneYet = record { tier = 0; start = 0 }
 

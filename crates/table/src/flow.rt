@@ -7,6 +7,7 @@ ghost use Rattle.table.specs.Scanning.{flowClass};
 use nlri::Group;
 use octets::number::FLOW;
 
+// FLOW, with no class.
 fn refusal() -> Group
     ensures { λ r. ⌜ r ≡ groupOf (refused FLOW) ⌝ }
 {

@@ -28,6 +28,7 @@ pub(crate) fn write_header(afi: u16, count: usize, table: &mut [u8])
     octets::parts::place(&header, table, 0);
 }
 
+// An AFI that a table can have: 1 or 2.
 pub(crate) fn is_family(afi: u16) -> bool
     ensures { λ r. ⌜ r ≡ either (eqb afi 1) (eqb afi 2) ⌝ }
 {

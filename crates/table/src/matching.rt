@@ -20,6 +20,7 @@ use routes::Matched;
 // An output that every route fits into.
 const LEAST_OUTPUT: usize = 124;
 
+// A refused match: the number, with tier 0 and no sizes.
 fn refusal(number: u32) -> Matched
     ensures { λ r. ⌜ r ≡ refusedMatch number ⌝ }
 {

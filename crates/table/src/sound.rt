@@ -18,6 +18,7 @@ use octets::number::DONE;
 // The most places of a table.
 const MOST_PLACES: usize = 500;
 
+// The AFI in the header.
 pub(crate) fn afi_of(table: &[u8]) -> u16
     requires { ⌜ 8 ≤ length (now table) ⌝ }
     ensures { λ r. ⌜ (r ≡ afiIn (now (table .entry))) × (r < 256) ⌝ }
@@ -25,6 +26,7 @@ pub(crate) fn afi_of(table: &[u8]) -> u16
     table[5] as u16
 }
 
+// The count in the header: how many places are taken.
 pub(crate) fn count_of(table: &[u8]) -> usize
     requires { ⌜ 8 ≤ length (now table) ⌝ }
     ensures { λ r. ⌜ (r ≡ countIn (now (table .entry))) × (r < 65536) ⌝ }
@@ -32,6 +34,7 @@ pub(crate) fn count_of(table: &[u8]) -> usize
     octets::wide::two(table, 6) as usize
 }
 
+// How many places the memory has behind the header, taken or not.
 pub(crate) fn places_of(table: &[u8]) -> usize
     requires { ⌜ 8 ≤ length (now table) ⌝ }
     ensures { λ r. ⌜ r ≡ placesIn (now (table .entry)) ⌝ }

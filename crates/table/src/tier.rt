@@ -20,6 +20,7 @@ const SOURCE_LENGTH: usize = 10;
 // The octets at the end that are compared first.
 const ENDING: usize = 4;
 
+// The route distinguisher, by which routes of one tier are ordered.
 pub(crate) fn distinguisher_in(nlri: &[u8]) -> &[u8]
     requires { ⌜ Bounded (now nlri) ⌝ }
     ensures { λ r. ⌜ now r ≡ standing (now (nlri .entry)) .distinguisher ⌝ }
@@ -27,7 +28,7 @@ pub(crate) fn distinguisher_in(nlri: &[u8]) -> &[u8]
     parts::between(nlri, DISTINGUISHER, DISTINGUISHER_SIZE)
 }
 
-// No octets are a wildcard.
+// The source; no octets are a wildcard.
 fn source_in(nlri: &[u8]) -> &[u8]
     requires { ⌜ Bounded (now nlri) ⌝ }
     ensures { λ r. ⌜ now r ≡ standing (now (nlri .entry)) .source ⌝ }
@@ -43,6 +44,7 @@ fn group_length_at(nlri: &[u8]) -> usize
     SOURCE_LENGTH + 1 + nlri[SOURCE_LENGTH] as usize / 8
 }
 
+// The group; no octets are a wildcard.
 fn group_in(nlri: &[u8]) -> &[u8]
     requires { ⌜ Bounded (now nlri) ⌝ }
     ensures { λ r. ⌜ now r ≡ standing (now (nlri .entry)) .group ⌝ }

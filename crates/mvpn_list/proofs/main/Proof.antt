@@ -1,5 +1,5 @@
 -- `mvpn_list::main` is safe: the listing fits, and what is written out is all of it.
-use Rattle.mvpn_list.proofs.Bounds.{listing-fits}
+use Rattle.mvpn_list.proofs.Bounds.{listingOf-fits}
 use Rattle.mvpn_list.proofs.Writes.{front-within, front-count}
 use borrow.Author.Needs.{needs}
 use Rattle.mvpn_list.proofs.main.Statement.{statement}
@@ -24,7 +24,7 @@ slice-aggregate-list-2 : tie.Need-slice-aggregate-list-2
 slice-aggregate-list-2 c = search needs
 
 list-requires : tie.Need-list-requires
-list-requires c κs = let b = c .before .before .before .before .before .large-buffer in listing-fits _ (b .result) (b .ensures)
+list-requires c κs = let b = c .before .before .before .before .before .large-buffer in listingOf-fits _ (b .result) (b .ensures)
 
 array-share-prefix-output : tie.Need-array-share-prefix-output
 array-share-prefix-output c = front-within _ _ _ _ (c .before .list .ensures)

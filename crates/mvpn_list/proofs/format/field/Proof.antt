@@ -3,7 +3,7 @@ use mathlib.Core.Path.{_∙_}
 use mathlib.Core.List.{[], _∷_}
 use denote.Ref.{now}
 use Rattle.mvpn_list.specs.Listing.{decimalOf, fieldOf}
-use Rattle.mvpn_list.proofs.Decimals.{decimal-is}
+use Rattle.mvpn_list.proofs.Decimals.{digits-decimalOf}
 use Rattle.mvpn_list.proofs.Writes.{room-first, room-next, put-both}
 use Rattle.octets.proofs.Lists.{put-as}
 use borrow.Author.Needs.{needs}
@@ -24,7 +24,7 @@ unfolding fieldOf
 place-requires c κs =
     let a = c .before .before .before .before .before .args in
     let d = c .before .before .decimal .ensures in
-    rw (d .1 .1 ∙ decimal-is _ _ (d .1 .0)) (room-first (a .at) (decimalOf (a .number)) (a .ending ∷ []) (now (a .output)) (c .before .before .before .before .before .pre))
+    rw (d .1 .1 ∙ digits-decimalOf _ _ (d .1 .0)) (room-first (a .at) (decimalOf (a .number)) (a .ending ∷ []) (now (a .output)) (c .before .before .before .before .before .pre))
 
 slice-aggregate-place-2 : tie.Need-slice-aggregate-place-2
 slice-aggregate-place-2 c = search needs
@@ -36,7 +36,7 @@ place-requires-2 c κs =
     let d = c .before .before .before .before .before .before .before .decimal .ensures in
     let w = c .before .before .before .before .place in
     room-next (a .at) (decimalOf (a .number)) (a .ending ∷ []) (now (a .output)) (c .before .before .before .before .before .before .before .before .before .before .pre) (w .result) (w .last .1 .0)
-    (put-as (a .at) _ _ (now (a .output)) _ _ (d .1 .1 ∙ decimal-is _ _ (d .1 .0)) (w .ensures))
+    (put-as (a .at) _ _ (now (a .output)) _ _ (d .1 .1 ∙ digits-decimalOf _ _ (d .1 .0)) (w .ensures))
 
 same-length : tie.Need-same-length
 same-length c = search needs
@@ -48,7 +48,7 @@ returns c =
     let d = c .before .before .before .before .before .before .before .before .before .before .decimal .ensures in
     let w = c .before .before .before .before .before .before .before .place in
     put-both (a .at) (decimalOf (a .number)) (a .ending ∷ []) (now (a .output)) (c .before .before .before .before .before .before .before .before .before .before .before .before .before .pre) (w .result) (w .last .1 .0) _ _
-    (put-as (a .at) _ _ (now (a .output)) _ _ (d .1 .1 ∙ decimal-is _ _ (d .1 .0)) (w .ensures)) (c .before .before .place2 .ensures)
+    (put-as (a .at) _ _ (now (a .output)) _ _ (d .1 .1 ∙ digits-decimalOf _ _ (d .1 .0)) (w .ensures)) (c .before .before .place2 .ensures)
 
 pub field-spec : {M : Type 1} → statement M
 field-spec =
