@@ -14,7 +14,7 @@ use Rattle.octets.proofs.Inversions.{given-otherwise}
 use Rattle.octets.proofs.Lists.{Put, put-length, lent-placed, placed-then, front-is-placed}
 use Rattle.tunnel.specs.Attribute.{AttributeFields, fieldsIn, readAttribute, writeAttribute}
 use Rattle.tunnel.specs.Answers.{argumentFields}
-use Rattle.tunnel.proofs.Theorems.{roundTripHolds}
+use Rattle.tunnel.proofs.Theorems.{attributeRoundTrips}
 use Rattle.routes.specs.Route.{Route, nlriOf, attributeOf}
 use Rattle.routes.specs.Place.{routeIn}
 use Rattle.routes.specs.Matching.{found}
@@ -31,7 +31,7 @@ written-again : (s : List ℕ) (label : ℕ) (identifier : List ℕ) (capacity :
     → label ≡ numberIn (part s 2 3) 0 → identifier ≡ drop 5 s → length s ≤ capacity
     → writeAttribute (argumentFields (getD s 0 0) (getD s 1 0) label identifier) capacity ≡ given s
 unfolding fieldsIn
-written-again s label identifier capacity octets read l i room = rw (l, i) (roundTripHolds .readWritten s (fieldsIn s) capacity octets read room)
+written-again s label identifier capacity octets read l i room = rw (l, i) (attributeRoundTrips .written s (fieldsIn s) capacity octets read room)
 
 given-size : (o : Outcome (List ℕ)) (s : List ℕ) → o ≡ given s → writtenOf o .size ≡ length s
 unfolding writtenOf onOutcome

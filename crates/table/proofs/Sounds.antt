@@ -28,7 +28,7 @@ use Rattle.nlri.proofs.Via.{nlri-given, reading-refused}
 use Rattle.nlri.proofs.Numbered.{number-goes, number-stops, refused-of}
 use Rattle.nlri.proofs.Singles.{read-by-layout, read-refused}
 use Rattle.tunnel.specs.Attribute.{readAttribute, fieldsIn, labelOf}
-use Rattle.tunnel.proofs.Laws.{read-done}
+use Rattle.tunnel.proofs.ReadRule.{read-done}
 use Rattle.routes.specs.Route.{route, nlriOf, attributeOf}
 use Rattle.routes.specs.Arguments.{readSPmsi, readLabelled, readRoute}
 use Rattle.routes.specs.Place.{endIn, routeIn, acceptable, placeSound}

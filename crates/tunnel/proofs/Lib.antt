@@ -1,9 +1,11 @@
 -- Laws of the definitions, and the theorems.
 pub mod Copies
-pub mod ByNumber
-pub mod Laws
-pub mod FecTheorem
-pub mod IdentifierTheorem
-pub mod ReadingTheorem
-pub mod WritingTheorem
+pub mod Numbers
+pub mod Fecs
+pub mod Identifiers
+pub mod Rows
+pub mod ReadRule
+pub mod WriteRule
+pub mod Answers
+pub mod AnswerRule
 pub mod Theorems

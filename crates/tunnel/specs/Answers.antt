@@ -17,7 +17,8 @@ unfoldable pub outcomeOf : Reading → Outcome Attribute
 outcomeOf (read a) = given a
 outcomeOf (no n) = refused n
 
-abbrev span : ℕ → ℕ → Span
+-- the span of so many octets from a place on
+abbrev pub span : (start size : ℕ) → Span
 span start size = record { start = start; size = size }
 
 -- a FEC in its attribute: the root from octet 9 on, the opaque value after it and the opaque length

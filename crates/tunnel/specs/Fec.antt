@@ -1,12 +1,12 @@
 -- Document 01, "PMSI Tunnel attribute": the FEC (RFC 6388, section 2.2).
 use Prim.Native.Nat.{ℕ, _+_, _<_}
-use mathlib.Core.Bool.{Bool, false}
+use mathlib.Core.Bool.{Bool}
 use mathlib.Core.List.{List, _∷_, _++_}
-use lib.Dec.{ltb, eqb}
+use lib.Dec.{leb, eqb}
 use lib.ListN.{length, getD, take, drop}
-use Rattle.octets.specs.Choice.{pick}
+use Rattle.octets.specs.Choice.{both, either}
 use Rattle.octets.specs.Numbers.{IDENT}
-use Rattle.octets.specs.Outcome.{Outcome, given, refused, unless}
+use Rattle.octets.specs.Outcome.{Outcome, given, unless}
 use Rattle.octets.specs.Octets.{AllOctets, part, numberIn, bigEndian}
 
 -- the fields of a FEC
@@ -21,7 +21,7 @@ unfoldable pub encodeFec : FecFields → List ℕ
 encodeFec f = f .fecType ∷ (bigEndian 2 (f .addressFamily) ++ (length (f .root) ∷ (f .root ++ (bigEndian 2 (length (f .opaqueValue)) ++ f .opaqueValue))))
 
 -- address family 1 with addresses of 4 octets, or 2 with addresses of 16
-pub data Suits : ℕ → ℕ → Type 0 where
+pub data Suits : (addressFamily size : ℕ) → Type 0 where
   ipv4 : Suits 1 4
   ipv6 : Suits 2 16
 
@@ -34,16 +34,19 @@ pub record WellFormedFec (f : FecFields) : Type 0 where
   pub opaqueOctets : AllOctets (f .opaqueValue)
 
 -- the same as `Suits`, computed
-unfoldable pub familySuits : ℕ → ℕ → Bool
-familySuits family size = pick (eqb family 1) (eqb size 4) (pick (eqb family 2) (eqb size 16) false)
+unfoldable pub familySuits : (addressFamily size : ℕ) → Bool
+familySuits addressFamily size = either (both (eqb addressFamily 1) (eqb size 4)) (both (eqb addressFamily 2) (eqb size 16))
 
--- a root of `size` octets, the opaque length, and as many octets as it says
-unfoldable pub opaqueFills : List ℕ → ℕ → Bool
-opaqueFills rest size = pick (ltb (length rest) (size + 2)) false (eqb (size + 2 + numberIn (part rest size 2) 0) (length rest))
+-- a root of `size` octets and the opaque length are there, and as many octets follow as it says
+unfoldable pub opaqueFills : (rest : List ℕ) (size : ℕ) → Bool
+opaqueFills rest size = both (leb (size + 2) (length rest)) (eqb (size + 2 + numberIn (part rest size 2) 0) (length rest))
 
 -- the octets are one FEC; every length is judged where it stands, before its content
 unfoldable pub wholeFec : List ℕ → Bool
-wholeFec i = pick (ltb (length i) 4) false (pick (familySuits (numberIn (part i 1 2) 0) (getD i 3 0)) (opaqueFills (drop 4 i) (getD i 3 0)) false)
+wholeFec i =
+    both (leb 4 (length i))
+    (both (familySuits (numberIn (part i 1 2) 0) (getD i 3 0))
+    (opaqueFills (drop 4 i) (getD i 3 0)))
 
 -- the fields where they stand
 unfoldable pub fecIn : List ℕ → FecFields

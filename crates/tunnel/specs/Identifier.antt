@@ -1,6 +1,5 @@
 -- Document 01, "PMSI Tunnel attribute": the table of identifiers.
 use Prim.Native.Nat.{ℕ}
-use mathlib.Core.Path.{_≡_}
 use mathlib.Core.Bool.{Bool, false}
 use mathlib.Core.List.{List, [], _∷_}
 use lib.Dec.{eqb}
@@ -21,7 +20,8 @@ pub record TableRow : Type 0 where
   pub tunnelType : ℕ
   pub form : IdentifierForm
 
-abbrev row : ℕ → IdentifierForm → TableRow
+-- the row of a tunnel type with a form
+abbrev pub row : ℕ → IdentifierForm → TableRow
 row t f = record { tunnelType = t; form = f }
 
 -- document 01's table
@@ -55,7 +55,7 @@ pub data IsIdentifier : IdentifierForm → List ℕ → Type 0 where
 -- an identifier of the form in a tunnel type's row
 pub record OfType (t : ℕ) (i : List ℕ) : Type 0 where
   pub form : IdentifierForm
-  pub inTable : formOf t ≡ given form
+  pub inTable : Among (row t form) identifierForms
   pub ofForm : IsIdentifier form i
 
 -- the same as `Among`, computed
@@ -68,6 +68,10 @@ unfoldable pub isIdentifier : IdentifierForm → List ℕ → Bool
 isIdentifier (sizes ns) i = oneOf (length i) ns
 isIdentifier (fecTypes ns) i = both (wholeFec i) (oneOf (getD i 0 0) ns)
 
+-- an identifier judged by a form: IDENT, or the identifier itself
+abbrev pub judged : IdentifierForm → List ℕ → Outcome (List ℕ)
+judged form i = unless (isIdentifier form i) IDENT (given i)
+
 -- an identifier judged by its tunnel type: TUNNEL, IDENT, or the identifier itself
 unfoldable pub readIdentifier : ℕ → List ℕ → Outcome (List ℕ)
-readIdentifier t i = andThen (formOf t) (λ form. unless (isIdentifier form i) IDENT (given i))
+readIdentifier t i = andThen (formOf t) (λ form. judged form i)

@@ -1,78 +1,116 @@
--- What is claimed of the definitions; `proofs/Theorems.antt` proves it.
-use Prim.Native.Nat.{ℕ, _+_, _<_, _≤_}
+-- What holds of the definitions as a whole, in document 01's notions. Stated here, proved in the files that `proofs/Theorems.antt` names.
+use Prim.Native.Nat.{ℕ, _+_, _/_, _%_, _<_, _≤_}
 use mathlib.Core.Path.{_≡_}
-use mathlib.Core.Logic.{_↔_}
-use mathlib.Core.List.{List, [], _∷_}
+use mathlib.Core.Logic.{_↔_, _≢_}
+use mathlib.Core.List.{List}
 use lib.ListN.{length, getD, drop}
 use Rattle.octets.specs.Lists.{Among}
 use Rattle.octets.specs.Numbers.{SHORT, TUNNEL, IDENT, LONG, LABEL, SPACE}
 use Rattle.octets.specs.Outcome.{given, refused}
 use Rattle.octets.specs.Octets.{AllOctets, part}
-use Rattle.tunnel.specs.Fec.{FecFields, WellFormedFec, encodeFec, fecIn, readFec}
-use Rattle.tunnel.specs.Identifier.{IdentifierForm, fecTypes, formOf, OfType}
+use Rattle.octets.specs.declared.Span.{Span}
+use Rattle.tunnel.specs.declared.Reading.{Reading}
+use Rattle.tunnel.specs.declared.Attribute.{Attribute}
+use Rattle.tunnel.specs.declared.fec.Fec.{Fec}
+use Rattle.tunnel.specs.Fec.{FecFields, WellFormedFec, encodeFec, readFec}
+use Rattle.tunnel.specs.Identifier.{IdentifierForm, sizes, fecTypes, row, identifierForms, OfType}
 use Rattle.tunnel.specs.Attribute.{AttributeFields, WellFormedAttribute, encodeAttribute, readAttribute, writeAttribute}
+use Rattle.tunnel.specs.Answers.{outcomeOf, readStruct, argumentFields}
+
+-- FECs: octets are read exactly when they are the encoding of a well-formed FEC, and reading gives that FEC
+pub record FecRule : Type 0 where
+  pub accepted : (i : List ℕ) (f : FecFields) → AllOctets i → (readFec i ≡ given f) ↔ (WellFormedFec f × (i ≡ encodeFec f))
 
 -- a tunnel type that the table lacks
 pub record Unknown (t : ℕ) : Type 0 where
   pub over : 7 < t
-  pub notBier : t ≡ 11 → ⊥
+  pub notBier : t ≢ 11
 
--- one that it has
-pub record Known (t : ℕ) : Type 0 where
-  pub form : IdentifierForm
-  pub inTable : formOf t ≡ given form
-
--- an attribute of a size that reading takes
+-- octets that are neither too many nor too few for an attribute
 pub record ReadableSize (s : List ℕ) : Type 0 where
-  pub least : 5 ≤ length s
   pub most : length s ≤ 64
+  pub least : 5 ≤ length s
 
--- Reading. Octets are accepted exactly when they are the encoding of well-formed fields, and reading gives those; every
--- other list is refused by the number that document 01 gives it.
-pub record ReadingStatement : Type 0 where
+-- why reading refuses: LONG, SHORT, TUNNEL, IDENT
+pub data AttributeReadRefusal (s : List ℕ) : ℕ → Type 0 where
+  long : 64 < length s → AttributeReadRefusal s LONG
+  short : length s < 5 → AttributeReadRefusal s SHORT
+  badTunnel : ReadableSize s → Unknown (getD s 1 0) → AttributeReadRefusal s TUNNEL
+  badIdentifier : ReadableSize s → (Unknown (getD s 1 0) → ⊥) → (OfType (getD s 1 0) (drop 5 s) → ⊥) → AttributeReadRefusal s IDENT
+
+-- Reading: octets are accepted exactly when they are the encoding of well-formed fields, and reading gives those; each
+-- number refuses exactly when document 01 says.
+pub record AttributeReadRule : Type 0 where
   pub accepted : (s : List ℕ) (f : AttributeFields) → AllOctets s → (readAttribute s ≡ given f) ↔ (WellFormedAttribute f × (s ≡ encodeAttribute f))
-  pub whenLong : (s : List ℕ) → (readAttribute s ≡ refused LONG) ↔ (64 < length s)
-  pub whenShort : (s : List ℕ) → (readAttribute s ≡ refused SHORT) ↔ (length s < 5)
-  pub whenTunnel : (s : List ℕ) → (readAttribute s ≡ refused TUNNEL) ↔ (ReadableSize s × Unknown (getD s 1 0))
-  pub whenIdent : (s : List ℕ) → AllOctets s → (readAttribute s ≡ refused IDENT) ↔ (ReadableSize s × Known (getD s 1 0) × (OfType (getD s 1 0) (drop 5 s) → ⊥))
-  pub numbers : (s : List ℕ) (n : ℕ) → readAttribute s ≡ refused n → Among n (LONG ∷ SHORT ∷ TUNNEL ∷ IDENT ∷ [])
+  pub exactly : (s : List ℕ) (n : ℕ) → AllOctets s → (readAttribute s ≡ refused n) ↔ AttributeReadRefusal s n
 
--- the writer's flags and identifier are octets
+-- fields whose flags and identifier are octets, as a writer's arguments are
 pub record OctetFields (f : AttributeFields) : Type 0 where
   pub flagsFit : f .flags < 256
   pub identifierOctets : AllOctets (f .identifier)
 
--- an identifier that writing takes
-pub record Writable (f : AttributeFields) : Type 0 where
-  pub most : length (f .identifier) ≤ 59
-  pub ofType : OfType (f .tunnelType) (f .identifier)
+-- why writing into `space` octets refuses: LONG, TUNNEL, IDENT, LABEL, SPACE
+pub data AttributeWriteRefusal (f : AttributeFields) (space : ℕ) : ℕ → Type 0 where
+  long : 59 < length (f .identifier) → AttributeWriteRefusal f space LONG
+  badTunnel : length (f .identifier) ≤ 59 → Unknown (f .tunnelType) → AttributeWriteRefusal f space TUNNEL
+  badIdentifier : length (f .identifier) ≤ 59 → (Unknown (f .tunnelType) → ⊥) → (OfType (f .tunnelType) (f .identifier) → ⊥) → AttributeWriteRefusal f space IDENT
+  badLabel : length (f .identifier) ≤ 59 → OfType (f .tunnelType) (f .identifier) → 16777215 < f .labelField → AttributeWriteRefusal f space LABEL
+  noSpace : WellFormedAttribute f → space < length (encodeAttribute f) → AttributeWriteRefusal f space SPACE
 
--- Writing into `space` octets. It gives the encoding exactly of well-formed fields that it has room for.
-pub record WritingStatement : Type 0 where
-  pub encoded : (f : AttributeFields) (space : ℕ) (e : List ℕ) → OctetFields f
+-- Writing: the encoding is given exactly of well-formed fields that there is space for; each number refuses exactly when
+-- document 01 says.
+pub record AttributeWriteRule : Type 0 where
+  pub accepted : (f : AttributeFields) (space : ℕ) (e : List ℕ) → OctetFields f
       → (writeAttribute f space ≡ given e) ↔ (WellFormedAttribute f × (length (encodeAttribute f) ≤ space) × (e ≡ encodeAttribute f))
-  pub whenLong : (f : AttributeFields) (space : ℕ) → (writeAttribute f space ≡ refused LONG) ↔ (59 < length (f .identifier))
-  pub whenTunnel : (f : AttributeFields) (space : ℕ) → (writeAttribute f space ≡ refused TUNNEL) ↔ ((length (f .identifier) ≤ 59) × Unknown (f .tunnelType))
-  pub whenIdent : (f : AttributeFields) (space : ℕ) → OctetFields f
-      → (writeAttribute f space ≡ refused IDENT) ↔ ((length (f .identifier) ≤ 59) × Known (f .tunnelType) × (OfType (f .tunnelType) (f .identifier) → ⊥))
-  pub whenLabel : (f : AttributeFields) (space : ℕ) → OctetFields f → (writeAttribute f space ≡ refused LABEL) ↔ (Writable f × (16777215 < f .labelField))
-  pub whenSpace : (f : AttributeFields) (space : ℕ) → OctetFields f
-      → (writeAttribute f space ≡ refused SPACE) ↔ (Writable f × (f .labelField ≤ 16777215) × (space < length (encodeAttribute f)))
-  pub numbers : (f : AttributeFields) (space n : ℕ) → writeAttribute f space ≡ refused n → Among n (LONG ∷ TUNNEL ∷ IDENT ∷ LABEL ∷ SPACE ∷ [])
+  pub exactly : (f : AttributeFields) (space n : ℕ) → OctetFields f → (writeAttribute f space ≡ refused n) ↔ AttributeWriteRefusal f space n
 
--- Round trips: reading what was written, and writing what was read.
-pub record RoundTripStatement : Type 0 where
-  pub writtenRead : (f : AttributeFields) (space : ℕ) (e : List ℕ) → OctetFields f → writeAttribute f space ≡ given e → readAttribute e ≡ given f
-  pub readWritten : (s : List ℕ) (f : AttributeFields) (space : ℕ) → AllOctets s → readAttribute s ≡ given f → length s ≤ space → writeAttribute f space ≡ given s
+-- the octets of s at a span
+abbrev pub octetsAt : List ℕ → Span → List ℕ
+octetsAt s span = part s (span .start) (span .size)
 
--- FECs: octets are read exactly when they are the encoding of a well-formed FEC, and reading gives that FEC.
-abbrev pub FecStatement : Type 0
-FecStatement = (i : List ℕ) (f : FecFields) → AllOctets i → (readFec i ≡ given f) ↔ (WellFormedFec f × (i ≡ encodeFec f))
+-- the fields that an answer tells of s: its own numbers, and the octets at its identifier's span
+abbrev pub fieldsTold : List ℕ → Attribute → AttributeFields
+fieldsTold s a = argumentFields (a .flags) (a .«tunnel_type») (a .«label_field») (octetsAt s (a .identifier))
 
--- The spans of an answer lie on the fields that were read.
-pub record SpansStatement : Type 0 where
-  pub identifier : (s : List ℕ) (f : AttributeFields) → readAttribute s ≡ given f → part s 5 (length (f .identifier)) ≡ f .identifier
-  pub fecRead : (s ns : List ℕ) (f : AttributeFields) → readAttribute s ≡ given f → formOf (f .tunnelType) ≡ given (fecTypes ns) → readFec (f .identifier) ≡ given (fecIn (f .identifier))
-  pub root : (s : List ℕ) (f : AttributeFields) (e : FecFields) → readAttribute s ≡ given f → readFec (f .identifier) ≡ given e → part s 9 (length (e .root)) ≡ e .root
-  pub opaqueValue : (s : List ℕ) (f : AttributeFields) (e : FecFields) → readAttribute s ≡ given f → readFec (f .identifier) ≡ given e
-      → part s (11 + length (e .root)) (length (e .opaqueValue)) ≡ e .opaqueValue
+-- the FEC that an answer tells of s: its own numbers, and the octets at the spans of its root and opaque value
+abbrev pub fecTold : List ℕ → Fec → FecFields
+fecTold s fec = record { fecType = fec .«fec_type»; addressFamily = fec .«address_family»; root = octetsAt s (fec .root); opaqueValue = octetsAt s (fec .opaque) }
+
+-- reading and writing undo each other
+pub record AttributeRoundTrips : Type 0 where
+  -- reading what was written gives the same fields
+  pub read : (f : AttributeFields) (space : ℕ) (e : List ℕ) → OctetFields f → writeAttribute f space ≡ given e → readAttribute e ≡ given f
+  -- writing what was read gives the same octets
+  pub written : (s : List ℕ) (f : AttributeFields) (space : ℕ) → AllOctets s → readAttribute s ≡ given f → length s ≤ space → writeAttribute f space ≡ given s
+  -- so writing what the call of reading answers, the identifier taken from the octets read, gives these octets
+  pub answered : (s : List ℕ) (a : Attribute) (space : ℕ) → AllOctets s → readStruct s ≡ given a → length s ≤ space → writeAttribute (fieldsTold s a) space ≡ given s
+
+-- an answer's FEC where the identifier is one: root, opaque length 2, and an opaque value that ends where the octets end
+pub record AnsweredFec (s : List ℕ) (a : Attribute) : Type 0 where
+  pub wellFormed : WellFormedFec (fecTold s (a .fec))
+  pub encoded : octetsAt s (a .identifier) ≡ encodeFec (fecTold s (a .fec))
+  pub rootEnds : a .fec .root .start + a .fec .root .size + 2 ≡ a .fec .opaque .start
+  pub opaqueEnds : a .fec .opaque .start + a .fec .opaque .size ≡ length s
+
+-- an answer's FEC by the form of its tunnel type's identifiers; where it is no FEC, all 0
+pub data AnsweredForm (s : List ℕ) (a : Attribute) : IdentifierForm → Type 0 where
+  notFec : {ns : List ℕ} → a .fec ≡ record { «fec_type» = 0; «address_family» = 0; root = record { start = 0; size = 0 }; opaque = record { start = 0; size = 0 } }
+      → AnsweredForm s a (sizes ns)
+  isFec : {ns : List ℕ} → AnsweredFec s a → AnsweredForm s a (fecTypes ns)
+
+-- what an answer is to say of octets: they are the encoding of the well-formed fields that it tells, the identifier ends
+-- where they end, and the rest follows from these
+pub record Answered (s : List ℕ) (a : Attribute) : Type 0 where
+  pub wellFormed : WellFormedAttribute (fieldsTold s a)
+  pub encoded : s ≡ encodeAttribute (fieldsTold s a)
+  pub identifierEnds : a .identifier .start + a .identifier .size ≡ length s
+  pub label : a .label ≡ a .«label_field» / 16
+  pub leafInformationRequired : a .«leaf_information_required» ≡ a .flags % 2
+  pub fec : (form : IdentifierForm) → Among (row (a .«tunnel_type») form) identifierForms → AnsweredForm s a form
+
+-- The call of reading: its answer is the only one that says of the octets what it is to say; it refuses as reading does.
+pub record AttributeAnswerRule : Type 0 where
+  pub accepted : (s : List ℕ) (a : Attribute) → AllOctets s → (readStruct s ≡ given a) ↔ Answered s a
+  pub exactly : (s : List ℕ) (n : ℕ) → AllOctets s → (readStruct s ≡ refused n) ↔ AttributeReadRefusal s n
+  -- answers of the same number and values are equal
+  pub apart : (a b : Reading) → outcomeOf a ≡ outcomeOf b → a ≡ b

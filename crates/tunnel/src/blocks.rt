@@ -6,7 +6,7 @@ ghost use lib.ListN.{length};
 ghost use Rattle.octets.specs.Octets.{part, placed};
 ghost use Rattle.tunnel.specs.Inner.{CopyWithin};
 
-// A block's octets are all read before one is written.
+// Puts 4 octets of `s` from `from` on into `output` from `at` on. A block's octets are all read before one is written.
 fn place_4(s: &[u8], from: usize, output: &mut [u8], at: usize)
     requires { ⌜ CopyWithin (now s) from 4 (now output) at ⌝ }
     ensures { λ _. ⌜ now (output .exit) ≡ placed at (part (now (s .entry)) from 4) (now (output .entry)) ⌝ }
@@ -15,6 +15,7 @@ fn place_4(s: &[u8], from: usize, output: &mut [u8], at: usize)
     octets::parts::place(&block, output, at);
 }
 
+// The same of 8 octets.
 fn place_8(s: &[u8], from: usize, output: &mut [u8], at: usize)
     requires { ⌜ CopyWithin (now s) from 8 (now output) at ⌝ }
     ensures { λ _. ⌜ now (output .exit) ≡ placed at (part (now (s .entry)) from 8) (now (output .entry)) ⌝ }
@@ -32,6 +33,7 @@ fn place_8(s: &[u8], from: usize, output: &mut [u8], at: usize)
     octets::parts::place(&block, output, at);
 }
 
+// The same of 16 octets, as two blocks of 8.
 fn place_16(s: &[u8], from: usize, output: &mut [u8], at: usize)
     requires { ⌜ CopyWithin (now s) from 16 (now output) at ⌝ }
     ensures { λ _. ⌜ now (output .exit) ≡ placed at (part (now (s .entry)) from 16) (now (output .entry)) ⌝ }
@@ -40,6 +42,7 @@ fn place_16(s: &[u8], from: usize, output: &mut [u8], at: usize)
     place_8(s, from + 8, output, at + 8);
 }
 
+// The same of 32 octets, as two blocks of 16.
 fn place_32(s: &[u8], from: usize, output: &mut [u8], at: usize)
     requires { ⌜ CopyWithin (now s) from 32 (now output) at ⌝ }
     ensures { λ _. ⌜ now (output .exit) ≡ placed at (part (now (s .entry)) from 32) (now (output .entry)) ⌝ }
@@ -48,6 +51,7 @@ fn place_32(s: &[u8], from: usize, output: &mut [u8], at: usize)
     place_16(s, from + 16, output, at + 16);
 }
 
+// Puts all of `s`, which has 4 to 8 octets, into `output` from `at` on: its first 4 and its last 4.
 fn place_to_8(s: &[u8], output: &mut [u8], at: usize)
     requires { ⌜ (4 ≤ length (now s)) × ((length (now s) ≤ 8) × (at + length (now s) ≤ length (now output))) ⌝ }
     ensures { λ _. ⌜ now (output .exit) ≡ placed at (now (s .entry)) (now (output .entry)) ⌝ }
@@ -57,6 +61,7 @@ fn place_to_8(s: &[u8], output: &mut [u8], at: usize)
     place_4(s, last, output, at + last);
 }
 
+// The same of 8 to 16 octets: the first 8 and the last 8.
 fn place_to_16(s: &[u8], output: &mut [u8], at: usize)
     requires { ⌜ (8 ≤ length (now s)) × ((length (now s) ≤ 16) × (at + length (now s) ≤ length (now output))) ⌝ }
     ensures { λ _. ⌜ now (output .exit) ≡ placed at (now (s .entry)) (now (output .entry)) ⌝ }
@@ -66,6 +71,7 @@ fn place_to_16(s: &[u8], output: &mut [u8], at: usize)
     place_8(s, last, output, at + last);
 }
 
+// The same of 16 to 32 octets: the first 16 and the last 16.
 fn place_to_32(s: &[u8], output: &mut [u8], at: usize)
     requires { ⌜ (16 ≤ length (now s)) × ((length (now s) ≤ 32) × (at + length (now s) ≤ length (now output))) ⌝ }
     ensures { λ _. ⌜ now (output .exit) ≡ placed at (now (s .entry)) (now (output .entry)) ⌝ }
@@ -75,6 +81,7 @@ fn place_to_32(s: &[u8], output: &mut [u8], at: usize)
     place_16(s, last, output, at + last);
 }
 
+// The same of 32 to 64 octets: the first 32 and the last 32.
 fn place_to_64(s: &[u8], output: &mut [u8], at: usize)
     requires { ⌜ (32 ≤ length (now s)) × ((length (now s) ≤ 64) × (at + length (now s) ≤ length (now output))) ⌝ }
     ensures { λ _. ⌜ now (output .exit) ≡ placed at (now (s .entry)) (now (output .entry)) ⌝ }
@@ -84,6 +91,7 @@ fn place_to_64(s: &[u8], output: &mut [u8], at: usize)
     place_32(s, last, output, at + last);
 }
 
+// The same of 8 to 64 octets.
 fn place_from_8(s: &[u8], output: &mut [u8], at: usize)
     requires { ⌜ (8 ≤ length (now s)) × ((length (now s) ≤ 64) × (at + length (now s) ≤ length (now output))) ⌝ }
     ensures { λ _. ⌜ now (output .exit) ≡ placed at (now (s .entry)) (now (output .entry)) ⌝ }
@@ -99,7 +107,7 @@ fn place_from_8(s: &[u8], output: &mut [u8], at: usize)
     place_to_64(s, output, at);
 }
 
-// Puts all of `s` into `output` from `at` on.
+// Puts all of `s`, which has at most 64 octets, into `output` from `at` on.
 pub(crate) fn place(s: &[u8], output: &mut [u8], at: usize)
     requires { ⌜ (length (now s) ≤ 64) × (at + length (now s) ≤ length (now output)) ⌝ }
     ensures { λ _. ⌜ now (output .exit) ≡ placed at (now (s .entry)) (now (output .entry)) ⌝ }

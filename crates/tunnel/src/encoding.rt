@@ -3,6 +3,7 @@ ghost use mathlib.Core.Path.{_≡_};
 ghost use mathlib.Core.List.{_∷_};
 ghost use Prim.Native.Nat.{_+_, _≤_};
 ghost use lib.ListN.{length};
+ghost use Rattle.octets.specs.Numbers.{DONE};
 ghost use Rattle.octets.specs.Octets.{placed, front, bigEndian};
 ghost use Rattle.tunnel.specs.Attribute.{encodeAttribute};
 ghost use Rattle.tunnel.specs.Answers.{argumentFields};
@@ -28,7 +29,7 @@ pub(crate) fn put(
     output: &mut [u8],
 ) -> Written
     requires { ⌜ (length (now identifier) ≤ 59) × (5 + length (now identifier) ≤ length (now output)) ⌝ }
-    ensures { λ r. ⌜ r .number ≡ 0 ⌝ }
+    ensures { λ r. ⌜ r .number ≡ DONE ⌝ }
     ensures { λ r. ⌜ r .size ≡ 5 + length (now (identifier .entry)) ⌝ }
     ensures { λ r. ⌜ now (output .exit) ≡ front (encodeAttribute (argumentFields flags «tunnel_type» «label_field» (now (identifier .entry)))) (now (output .entry)) ⌝ }
 {

@@ -2,17 +2,19 @@
 ghost use mathlib.Core.Path.{_≡_};
 ghost use Prim.Native.Nat.{_≤_};
 ghost use lib.ListN.{length, getD, drop};
+ghost use Rattle.octets.specs.Numbers.{DONE};
+ghost use Rattle.octets.specs.Outcome.{numberOf};
+ghost use Rattle.tunnel.specs.Identifier.{readIdentifier};
 ghost use Rattle.tunnel.specs.Attribute.{fieldsIn};
-ghost use Rattle.tunnel.specs.Inner.{faultOf};
 ghost use Rattle.tunnel.specs.Answers.{attributeStruct, fecOf};
 use crate::Attribute;
 use crate::fec::Fec;
 use octets::Span;
 
-// The FEC of an mLDP tunnel type.
+// The FEC of an mLDP tunnel type; all 0 for any other.
 fn fec_of(s: &[u8]) -> Fec
     requires { ⌜ 5 ≤ length (now s) ⌝ }
-    requires { ⌜ faultOf (getD (now s) 1 0) (drop 5 (now s)) ≡ 0 ⌝ }
+    requires { ⌜ numberOf (readIdentifier (getD (now s) 1 0) (drop 5 (now s))) ≡ DONE ⌝ }
     ensures { λ r. ⌜ r ≡ fecOf (fieldsIn (now (s .entry))) ⌝ }
 {
     if crate::identifier::is_mldp(s[1]) {
@@ -29,7 +31,7 @@ fn fec_of(s: &[u8]) -> Fec
 // All the fields of an attribute whose identifier has no fault.
 pub(crate) fn fields(s: &[u8]) -> Attribute
     requires { ⌜ 5 ≤ length (now s) ⌝ }
-    requires { ⌜ faultOf (getD (now s) 1 0) (drop 5 (now s)) ≡ 0 ⌝ }
+    requires { ⌜ numberOf (readIdentifier (getD (now s) 1 0) (drop 5 (now s))) ≡ DONE ⌝ }
     ensures { λ r. ⌜ r ≡ attributeStruct (fieldsIn (now (s .entry))) ⌝ }
 {
     let label_field = octets::wide::three(s, 2);

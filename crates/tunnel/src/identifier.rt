@@ -2,8 +2,9 @@
 ghost use mathlib.Core.Path.{_≡_};
 ghost use mathlib.Core.Bool.{true, false};
 ghost use mathlib.Core.List.{[], _∷_};
-ghost use Rattle.tunnel.specs.Identifier.{sizes};
-ghost use Rattle.tunnel.specs.Inner.{unknown, mldp, typeSuits, formFault, faultOf, TakesSizes};
+ghost use Rattle.octets.specs.Outcome.{numberOf};
+ghost use Rattle.tunnel.specs.Identifier.{sizes, judged, readIdentifier};
+ghost use Rattle.tunnel.specs.Inner.{unknown, mldp, typeSuits, TakesSizes};
 use crate::fec::FecType;
 use crate::sizes::Sizes;
 use crate::tunnel_type::TunnelType;
@@ -72,7 +73,7 @@ fn sizes_of(tunnel_type: u8) -> SizePair
 
 // An identifier of one of two sizes.
 fn of_sizes(identifier: &[u8], first: usize, second: usize) -> u32
-    ensures { λ r. ⌜ r ≡ formFault (sizes (first ∷ second ∷ [])) (now (identifier .entry)) ⌝ }
+    ensures { λ r. ⌜ r ≡ numberOf (judged (sizes (first ∷ second ∷ [])) (now (identifier .entry))) ⌝ }
 {
     if identifier.len() == first {
         return number::DONE;
@@ -99,7 +100,7 @@ fn type_suits(tunnel_type: u8, fec_type: u8) -> bool
 // A FEC, whose type is its first octet.
 fn of_fec(tunnel_type: u8, identifier: &[u8]) -> u32
     requires { ⌜ mldp «tunnel_type» ≡ true ⌝ }
-    ensures { λ r. ⌜ r ≡ faultOf «tunnel_type» (now (identifier .entry)) ⌝ }
+    ensures { λ r. ⌜ r ≡ numberOf (readIdentifier «tunnel_type» (now (identifier .entry))) ⌝ }
 {
     if crate::fec::whole(identifier) {
         if type_suits(tunnel_type, identifier[0]) {
@@ -112,7 +113,7 @@ fn of_fec(tunnel_type: u8, identifier: &[u8]) -> u32
 
 // The number of an identifier's first fault, TUNNEL or IDENT, or DONE: the one judge for reading and writing.
 pub(crate) fn fault(tunnel_type: u8, identifier: &[u8]) -> u32
-    ensures { λ r. ⌜ r ≡ faultOf «tunnel_type» (now (identifier .entry)) ⌝ }
+    ensures { λ r. ⌜ r ≡ numberOf (readIdentifier «tunnel_type» (now (identifier .entry))) ⌝ }
 {
     if is_mldp(tunnel_type) {
         return of_fec(tunnel_type, identifier);

@@ -1,10 +1,10 @@
 // The PMSI Tunnel attribute (RFC 6514, section 5; RFC 8556, section 2): read and written (document 01, "PMSI Tunnel attribute").
 ghost use mathlib.Core.Path.{_≡_};
+ghost use Prim.Native.Nat.{ℕ};
 ghost use Rattle.octets.specs.Outcome.{numberOf};
 ghost use Rattle.octets.specs.Outputs.{writtenOf, outputOf};
-ghost use Rattle.tunnel.specs.Attribute.{readAttribute};
-ghost use Rattle.tunnel.specs.Answers.{outcomeOf, readStruct, writeOutcome};
-ghost use Rattle.tunnel.specs.Inner.{writeFault};
+ghost use Rattle.tunnel.specs.Attribute.{readAttribute, writeAttribute};
+ghost use Rattle.tunnel.specs.Answers.{outcomeOf, readStruct, argumentFields, writeOutcome};
 use octets::Span;
 use octets::Written;
 use octets::number;
@@ -77,9 +77,10 @@ pub fn read(s: &[u8]) -> Reading
     Reading::Attribute(fields::fields(s))
 }
 
-// The number of the first fault of what is to be written into `space` octets, LONG, TUNNEL, IDENT, LABEL or SPACE, or DONE.
+// The number of the first fault of what is to be written into `space` octets, LONG, TUNNEL, IDENT, LABEL or SPACE, or DONE;
+// whatever the flags are.
 fn write_fault(tunnel_type: u8, label_field: u32, identifier: &[u8], space: usize) -> u32
-    ensures { λ r. ⌜ r ≡ writeFault «tunnel_type» «label_field» (now (identifier .entry)) space ⌝ }
+    ensures { λ r. ⌜ ((flags : ℕ) → r ≡ numberOf (writeAttribute (argumentFields flags «tunnel_type» «label_field» (now (identifier .entry))) space)) ⌝ }
 {
     if MOST_IDENTIFIER < identifier.len() {
         return number::LONG;

@@ -2,20 +2,17 @@
 use denote.Ref.{now}
 use lib.ListN.{getD, drop}
 use Rattle.octets.proofs.Lists.{lent-rest}
-use Rattle.tunnel.specs.Inner.{readFault}
-use Rattle.octets.proofs.Tests.{flags}
-use Rattle.tunnel.proofs.Laws.{read-number, identifier-fault}
+use Rattle.tunnel.proofs.Numbers.{number-refused}
+use Rattle.tunnel.proofs.ReadRule.{read-long, read-short, number-sized}
 use borrow.Author.Needs.{needs}
 use Rattle.tunnel.proofs.fault.Statement.{statement}
 use Rattle.tunnel.proofs.fault.Tie as tie
 
 returns : tie.Need-returns
-unfolding readFault
-returns c = search (flags, read-number)
+returns c = search (needs, number-refused, read-long)
 
 returns-2 : tie.Need-returns-2
-unfolding readFault
-returns-2 c = search (flags, read-number)
+returns-2 c = search (needs, number-refused, read-short)
 
 shared-slice-read-fault : tie.Need-shared-slice-read-fault
 shared-slice-read-fault c = search needs
@@ -33,11 +30,9 @@ fault-requires : tie.Need-fault-requires
 fault-requires c κs = search needs
 
 returns-3 : tie.Need-returns-3
-unfolding readFault
 returns-3 c =
     let s = now (c .before .before .before .before .before .before .args .s) in
-    let f = identifier-fault (getD s 1 0) _ _ (drop 5 s) (lent-rest 5 s) (c .fault .ensures) in
-    read-number _ _ (search (flags, f))
+    number-sized s _ (search needs) (search needs) (rw (lent-rest 5 s) at (c .fault .ensures))
 
 pub fault-spec : {M : Type 1} → statement M
 fault-spec =

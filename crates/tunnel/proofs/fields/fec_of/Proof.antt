@@ -1,6 +1,6 @@
 -- `tunnel::fields::fec_of` meets its contract: an mLDP tunnel type's identifier without a fault is a FEC.
 use Rattle.octets.proofs.Tests.{flags}
-use Rattle.tunnel.proofs.Laws.{mldp-whole, mldp-fec, no-mldp}
+use Rattle.tunnel.proofs.Answers.{mldp-whole, mldp-fec, mldp-none}
 use Rattle.tunnel.specs.Answers.{noFec}
 use borrow.Author.Needs.{needs}
 use Rattle.tunnel.proofs.fields.fec_of.Statement.{statement}
@@ -23,7 +23,7 @@ returns c = search (flags, mldp-fec)
 
 returns-2 : tie.Need-returns-2
 unfolding noFec
-returns-2 c = search (flags, no-mldp)
+returns-2 c = search (flags, mldp-none)
 
 pub fec-of-spec : {M : Type 1} → statement M
 fec-of-spec =

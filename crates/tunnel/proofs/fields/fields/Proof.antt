@@ -2,7 +2,9 @@
 use native.Mathlib.Omega.{arith}
 use denote.Ref.{now}
 use borrow.Author.Needs.{needs}
-use Rattle.tunnel.proofs.Laws.{fields-are}
+use lib.ListN.{length-drop}
+use Rattle.tunnel.specs.Attribute.{labelOf, leafInformationRequired, fieldsIn}
+use Rattle.tunnel.specs.Answers.{attributeStruct}
 use Rattle.tunnel.proofs.fields.fields.Statement.{statement}
 use Rattle.tunnel.proofs.fields.fields.Tie as tie
 
@@ -28,7 +30,8 @@ sub-size : tie.Need-sub-size
 sub-size c = search needs
 
 returns : tie.Need-returns
-returns c = fields-are (now (c .before .before .before .before .before .args .s)) (c .before .before .before .three .result) (c .before .before .fec-of .result) (search needs) (c .before .before .before .three .ensures .0) (c .before .before .fec-of .ensures)
+unfolding attributeStruct fieldsIn labelOf leafInformationRequired
+returns c = rw (c .before .before .before .three .ensures .0, c .before .before .fec-of .ensures, length-drop 5 (now (c .before .before .before .before .before .args .s)))
 
 pub fields-spec : {M : Type 1} → statement M
 fields-spec =

@@ -2,7 +2,7 @@
 use denote.Ref.{now}
 use mathlib.Core.Path.{sym, _∙_}
 use Rattle.octets.proofs.Tests.{flags}
-use Rattle.tunnel.proofs.Laws.{unknown-fault}
+use Rattle.tunnel.proofs.Rows.{number-unknown}
 use borrow.Author.Needs.{needs}
 use Rattle.tunnel.proofs.identifier.fault.Statement.{statement}
 use Rattle.tunnel.proofs.identifier.fault.Tie as tie
@@ -20,7 +20,7 @@ is-unknown-requires : tie.Need-is-unknown-requires
 is-unknown-requires c κs = search needs
 
 returns-2 : tie.Need-returns-2
-returns-2 c = search (flags, unknown-fault) depth 8
+returns-2 c = search (flags, number-unknown) depth 8
 
 sizes-of-requires : tie.Need-sizes-of-requires
 sizes-of-requires c κs = (search flags, search flags)

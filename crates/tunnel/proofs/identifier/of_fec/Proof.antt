@@ -2,7 +2,8 @@
 use native.Mathlib.Omega.{arith}
 use denote.Ref.{now}
 use Rattle.octets.proofs.Tests.{flags}
-use Rattle.tunnel.proofs.Laws.{fec-long, mldp-fault}
+use Rattle.tunnel.proofs.Fecs.{length-fec}
+use Rattle.tunnel.proofs.Rows.{number-mldp}
 use borrow.Author.Needs.{needs}
 use Rattle.tunnel.proofs.identifier.of_fec.Statement.{statement}
 use Rattle.tunnel.proofs.identifier.of_fec.Tie as tie
@@ -11,19 +12,19 @@ whole-requires : tie.Need-whole-requires
 whole-requires c κs = search needs
 
 shared-slice-read-type-suits : tie.Need-shared-slice-read-type-suits
-shared-slice-read-type-suits c = omega (arith, fec-long (now (c .before .before .before .before .args .identifier)) (search flags))
+shared-slice-read-type-suits c = omega (arith, length-fec (now (c .before .before .before .before .args .identifier)) (search flags))
 
 type-suits-requires : tie.Need-type-suits-requires
 type-suits-requires c κs = search needs
 
 returns : tie.Need-returns
-returns c = search (flags, mldp-fault) depth 10
+returns c = search (flags, number-mldp) depth 10
 
 returns-2 : tie.Need-returns-2
-returns-2 c = search (flags, mldp-fault) depth 10
+returns-2 c = search (flags, number-mldp) depth 10
 
 returns-3 : tie.Need-returns-3
-returns-3 c = search (flags, mldp-fault) depth 10
+returns-3 c = search (flags, number-mldp) depth 10
 
 pub of-fec-spec : {M : Type 1} → statement M
 of-fec-spec =

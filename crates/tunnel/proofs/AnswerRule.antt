@@ -1,0 +1,202 @@
+-- What reading answers: `attributeAnswerRule`, and the round trips.
+use Prim.Native.Nat.{ℕ, _+_, _≤_}
+use mathlib.Core.Path.{_≡_, refl, sym, ap, ap₂, subst, _∙_}
+use mathlib.Core.Bool.{true}
+use mathlib.Core.List.{List}
+use native.Mathlib.Omega.{arith}
+use lib.ListN.{length, getD, drop, length-drop}
+use lib.Seq.{take-length, drop-drop}
+use Rattle.octets.specs.Outcome.{Outcome, given, refused, andThen}
+use Rattle.octets.specs.Octets.{AllOctets, part}
+use Rattle.octets.specs.declared.Span.{Span}
+use Rattle.octets.proofs.Inversions.{never, given-same, passed, both-true-left}
+use Rattle.octets.proofs.Lists.{part-length}
+use Rattle.octets.proofs.AllOctets.{octets-drop}
+use Rattle.tunnel.specs.declared.Reading.{Reading}
+use Rattle.tunnel.specs.declared.Reading.the-variants.{Attribute as read, Refused as no}
+use Rattle.tunnel.specs.declared.Attribute.{Attribute}
+use Rattle.tunnel.specs.Fec.{WellFormedFec, encodeFec, wholeFec, fecIn}
+use Rattle.tunnel.specs.Identifier.{IdentifierForm, sizes, fecTypes, formOf, oneOf, isIdentifier}
+use Rattle.tunnel.specs.Attribute.{AttributeFields, WellFormedAttribute, labelOf, leafInformationRequired, encodeAttribute, fieldsIn, readAttribute, writeAttribute}
+use Rattle.tunnel.specs.Answers.{outcomeOf, span, fecSpans, noFec, fecOf, attributeStruct, readStruct}
+use Rattle.tunnel.specs.Statements.{octetsAt, fieldsTold, fecTold, AttributeRoundTrips, AnsweredFec, AnsweredForm, notFec, isFec, Answered, AttributeAnswerRule}
+use Rattle.tunnel.proofs.Fecs.{length-fec, length-root, length-opaque, whole-fields, fields-encode, length-encode}
+use Rattle.tunnel.proofs.Identifiers.{form-among}
+use Rattle.tunnel.proofs.Answers.{fec-sizes, fec-types}
+use Rattle.tunnel.proofs.ReadRule.{Accepted, read-given, accepted-fields, attributeReadRule, read-encode}
+use Rattle.tunnel.proofs.ReadRule.{length-encode as length-attribute}
+use Rattle.tunnel.proofs.WriteRule.{attributeWriteRule, write-encode}
+
+-- the answers that the call gives, by what reading comes to
+struct-given : (s : List ℕ) (a : Attribute) → readStruct s ≡ given a → (f : AttributeFields) × ((readAttribute s ≡ given f) × (attributeStruct f ≡ a))
+unfolding readStruct
+struct-given s a e = let p = passed (readAttribute s) (λ f. given (attributeStruct f)) a e in (p .value, (p .first, given-same (p .second)))
+
+given-struct : (s : List ℕ) (f : AttributeFields) → readAttribute s ≡ given f → readStruct s ≡ given (attributeStruct f)
+unfolding readStruct andThen
+given-struct s f e = rw e
+
+struct-refused : (s : List ℕ) (n : ℕ) → readStruct s ≡ refused n → readAttribute s ≡ refused n
+unfolding readStruct andThen
+struct-refused s n e = go (readAttribute s) e
+  where
+    go : (o : Outcome AttributeFields) → andThen o (λ f. given (attributeStruct f)) ≡ refused n → o ≡ refused n
+    go (given f) q = absurd (never refl q)
+    go (refused m) q = cc
+
+refused-struct : (s : List ℕ) (n : ℕ) → readAttribute s ≡ refused n → readStruct s ≡ refused n
+unfolding readStruct andThen
+refused-struct s n e = rw e
+
+-- cases apart
+outcome-apart : (a b : Reading) → outcomeOf a ≡ outcomeOf b → a ≡ b
+unfolding outcomeOf
+outcome-apart (read a) (read b) e = let q : a ≡ b = given-same e in rw q
+outcome-apart (read a) (no n) e = absurd (never refl e)
+outcome-apart (no m) (read b) e = absurd (never e refl)
+outcome-apart (no m) (no n) e = let q : m ≡ n = cc in rw q
+
+-- an accepted attribute's identifier is a FEC where its form is one
+accepted-whole : (s ns : List ℕ) → Accepted s → formOf (getD s 1 0) ≡ given (fecTypes ns) → wholeFec (drop 5 s) ≡ true
+unfolding isIdentifier
+accepted-whole s ns p e =
+    let q : p .form ≡ fecTypes ns = given-same (sym (p .found) ∙ e) in
+    let w : isIdentifier (fecTypes ns) (drop 5 s) ≡ true = rw q at (p .fits) in
+    both-true-left (wholeFec (drop 5 s)) (oneOf (getD (drop 5 s) 0 0) ns) w
+
+-- the fields that the answer tells are those that stand in the octets
+told-identifier : (s : List ℕ) → part s 5 (length (drop 5 s)) ≡ drop 5 s
+unfolding part
+told-identifier s = take-length (drop 5 s)
+
+told-fields : (s : List ℕ) → fieldsTold s (attributeStruct (fieldsIn s)) ≡ fieldsIn s
+unfolding attributeStruct fieldsIn
+told-fields s = rw (told-identifier s)
+
+module _ (s : List ℕ) (w : wholeFec (drop 5 s) ≡ true) where
+  told-root : part s 9 (length (fecIn (drop 5 s) .root)) ≡ fecIn (drop 5 s) .root
+  unfolding part fecIn
+  told-root = rw (length-root (drop 5 s) w, drop-drop 4 5 s)
+
+  told-opaque : part s (11 + length (fecIn (drop 5 s) .root)) (length (fecIn (drop 5 s) .opaqueValue)) ≡ fecIn (drop 5 s) .opaqueValue
+  unfolding part fecIn
+  told-opaque =
+      let size = getD (drop 5 s) 3 0 in
+      let n : 9 + (size + 2) ≡ 11 + size = omega arith in
+      let d : drop (size + 2) (drop 4 (drop 5 s)) ≡ drop (11 + size) s =
+      ap (drop (size + 2)) (drop-drop 4 5 s) ∙ drop-drop (size + 2) 9 s ∙ ap (λ (k : ℕ). drop k s) n in
+      rw (length-root (drop 5 s) w, d) (take-length (drop (11 + size) s))
+
+  told-fec : fecTold s (fecSpans (fecIn (drop 5 s))) ≡ fecIn (drop 5 s)
+  unfolding fecSpans
+  told-fec = rw (told-root, told-opaque)
+
+spans-root : (i : List ℕ) → fecSpans (fecIn i) .root .start + fecSpans (fecIn i) .root .size + 2 ≡ fecSpans (fecIn i) .opaque .start
+unfolding fecSpans
+spans-root i = omega arith
+
+spans-opaque : (i : List ℕ) → wholeFec i ≡ true → fecSpans (fecIn i) .opaque .start + fecSpans (fecIn i) .opaque .size ≡ 5 + length i
+unfolding fecSpans fecIn
+spans-opaque i w = omega (arith, length-root i w, length-opaque i, length-fec i w)
+
+-- the call's answer says of the octets what it is to say
+module _ (s : List ℕ) (o : AllOctets s) (p : Accepted s) where
+  span-ends : 5 + length (drop 5 s) ≡ length s
+  span-ends = omega (arith, length-drop 5 s, p .size .least)
+
+  answered-fec : (ns : List ℕ) → formOf (getD s 1 0) ≡ given (fecTypes ns) → AnsweredFec s (attributeStruct (fieldsIn s))
+  unfolding attributeStruct fieldsIn
+  answered-fec ns e =
+      let w = accepted-whole s ns p e in
+      let i : List ℕ = drop 5 s in
+      let x : fecOf (fieldsIn s) ≡ fecSpans (fecIn i) = fec-types (fieldsIn s) ns e in
+      let t : fecTold s (fecOf (fieldsIn s)) ≡ fecIn i = ap (fecTold s) x ∙ told-fec s w in
+      let z = whole-fields i (octets-drop 5 o) w in
+      record {
+        wellFormed = subst WellFormedFec (sym t) (z .0);
+        encoded = told-identifier s ∙ z .1 ∙ ap encodeFec (sym t);
+        rootEnds = rw x (spans-root i);
+        opaqueEnds = rw x (spans-opaque i w ∙ span-ends);
+      }
+
+  answered-form : (form : IdentifierForm) → formOf (getD s 1 0) ≡ given form → AnsweredForm s (attributeStruct (fieldsIn s)) form
+  unfolding attributeStruct noFec fieldsIn
+  answered-form (sizes ns) e = notFec (fec-sizes (fieldsIn s) ns e)
+  answered-form (fecTypes ns) e = isFec (answered-fec ns e)
+
+  answered-fields : Answered s (attributeStruct (fieldsIn s))
+  unfolding attributeStruct fieldsIn labelOf leafInformationRequired
+  answered-fields =
+      let w = accepted-fields s o p in
+      record {
+        wellFormed = subst WellFormedAttribute (sym (told-fields s)) (w .0);
+        encoded = w .1 ∙ ap encodeAttribute (sym (told-fields s));
+        identifierEnds = span-ends;
+        label = refl;
+        leafInformationRequired = refl;
+        fec = λ form m. answered-form form (form-among (getD s 1 0) form m);
+      }
+
+answered-of : (s : List ℕ) (a : Attribute) → AllOctets s → readStruct s ≡ given a → Answered s a
+answered-of s a o e =
+    let g = struct-given s a e in
+    let p = read-given s (g .0) (g .1 .0) in
+    subst (Answered s) (ap attributeStruct (p .1) ∙ g .1 .1) (answered-fields s o (p .0))
+
+-- and an answer that does is the call's
+module _ (s : List ℕ) (a : Attribute) (w : Answered s a) where
+  length-told : length s ≡ 5 + length (octetsAt s (a .identifier))
+  length-told = ap length (w .encoded) ∙ length-attribute (fieldsTold s a)
+
+  told-span : _≡_ {A = Span} (record { start = 5; size = length (octetsAt s (a .identifier)) }) (a .identifier)
+  told-span =
+      let l : length (octetsAt s (a .identifier)) ≡ a .identifier .size = part-length s (a .identifier .start) (a .identifier .size) (omega (arith, w .identifierEnds)) in
+      let start : 5 ≡ a .identifier .start = omega (arith, w .identifierEnds, length-told) in
+      ap₂ span start l
+
+  told-spans : AnsweredFec s a → fecSpans (fecTold s (a .fec)) ≡ a .fec
+  unfolding fecSpans
+  told-spans k =
+      let root = a .fec .root in
+      let opaque = a .fec .opaque in
+      let n : length (octetsAt s root) ≡ root .size = part-length s (root .start) (root .size) (omega (arith, k .rootEnds, k .opaqueEnds)) in
+      let m : length (octetsAt s opaque) ≡ opaque .size = part-length s (opaque .start) (opaque .size) (omega (arith, k .opaqueEnds)) in
+      let total : length (octetsAt s (a .identifier)) ≡ 6 + length (octetsAt s root) + length (octetsAt s opaque) = ap length (k .encoded) ∙ length-encode (fecTold s (a .fec)) (k .wellFormed) in
+      let first : 9 ≡ root .start = omega (arith, k .rootEnds, k .opaqueEnds, length-told) in
+      let second : 11 + length (octetsAt s root) ≡ opaque .start = omega (arith, k .rootEnds, k .opaqueEnds, length-told) in
+      rw (second, first, n, m)
+
+  told-form : (form : IdentifierForm) → formOf (a .«tunnel_type») ≡ given form → AnsweredForm s a form → fecOf (fieldsTold s a) ≡ a .fec
+  unfolding noFec
+  told-form form e (notFec {ns} z) = fec-sizes (fieldsTold s a) ns e ∙ sym z
+  told-form form e (isFec {ns} k) =
+      fec-types (fieldsTold s a) ns e ∙ ap (λ (i : List ℕ). fecSpans (fecIn i)) (k .encoded) ∙ ap fecSpans (fields-encode (fecTold s (a .fec)) (k .wellFormed)) ∙ told-spans k
+
+  told-struct : attributeStruct (fieldsTold s a) ≡ a
+  unfolding attributeStruct labelOf leafInformationRequired
+  told-struct =
+      let t = w .wellFormed .ofType in
+      let f : fecOf (fieldsTold s a) ≡ a .fec = told-form (t .form) (form-among (a .«tunnel_type») (t .form) (t .inTable)) (w .fec (t .form) (t .inTable)) in
+      rw (← w .label, ← w .leafInformationRequired, told-span, f)
+
+  answered-given : AllOctets s → readStruct s ≡ given a
+  answered-given o = given-struct s (fieldsTold s a) (attributeReadRule .accepted s (fieldsTold s a) o .1 (w .wellFormed, w .encoded)) ∙ ap given told-struct
+
+pub attributeAnswerRule : AttributeAnswerRule
+attributeAnswerRule =
+    record {
+      accepted = λ s a o. (answered-of s a o, λ w. answered-given s a w o);
+      exactly = λ s n o. (λ e. attributeReadRule .exactly s n o .0 (struct-refused s n e), λ r. refused-struct s n (attributeReadRule .exactly s n o .1 r));
+      apart = outcome-apart;
+    }
+
+written-again : (s : List ℕ) (f : AttributeFields) (space : ℕ) → WellFormedAttribute f → s ≡ encodeAttribute f → length s ≤ space → writeAttribute f space ≡ given s
+written-again s f space w e k = write-encode f space w (rw e at k) ∙ ap given (sym e)
+
+pub attributeRoundTrips : AttributeRoundTrips
+attributeRoundTrips =
+    record {
+      read = λ f space e o h. let p = attributeWriteRule .accepted f space e o .0 h in rw (p .2) (read-encode f (p .0));
+      written = λ s f space o h k. let p = attributeReadRule .accepted s f o .0 h in written-again s f space (p .0) (p .1) k;
+      answered = λ s a space o h k. let p = answered-of s a o h in written-again s (fieldsTold s a) space (p .wellFormed) (p .encoded) k;
+    }

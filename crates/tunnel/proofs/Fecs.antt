@@ -1,0 +1,238 @@
+-- Laws of a FEC's definitions: the tests that the code makes, what a FEC that passes them is, and `fecRule`.
+use Prim.Native.Nat.{ℕ, _+_, _-_, _*_, _≤_, _<_}
+use mathlib.Core.Path.{_≡_, refl, sym, ap, ap₂, subst, _∙_}
+use mathlib.Core.Logic.{_⊎_, inl, inr, ⊎-elim}
+use mathlib.Core.Bool.{Bool, true, false}
+use mathlib.Core.List.{List, [], _∷_, _++_}
+use native.Mathlib.Omega.{arith}
+use lib.Dec.{leb, eqb}
+use lib.ListN.{length, getD, take, drop, length-append, length-drop, take-append-drop}
+use lib.Seq.{length-take-le, drop-drop, take-append-seam, drop-append-seam, drop-append-add, take-at, drop-at}
+use borrow.Author.Tests.{leb-true, eqb-true, eq-eqb, le-leb}
+use Rattle.octets.specs.Choice.{both, either}
+use Rattle.octets.specs.Numbers.{IDENT}
+use Rattle.octets.specs.Outcome.{given, refused}
+use Rattle.octets.specs.Octets.{AllOctets, part, numberIn, bigEndian}
+use Rattle.octets.proofs.Tests.{both-true}
+use Rattle.octets.proofs.Picked.{was-given}
+use Rattle.octets.proofs.Inversions.{both-held, either-true}
+use Rattle.octets.proofs.Refusals.{is-false}
+use Rattle.octets.proofs.Outcomes.{pick-true}
+use Rattle.octets.proofs.AllOctets.{octet-at, octets-take, octets-drop}
+use Rattle.octets.proofs.NetworkOrder.{big-endian-length, number-of-big-endian, number-part, part-number, part-fits}
+use Rattle.tunnel.specs.Fec.{FecFields, encodeFec, Suits, ipv4, ipv6, WellFormedFec, familySuits, opaqueFills, wholeFec, fecIn, readFec}
+use Rattle.tunnel.specs.Inner.{endsFrom}
+use Rattle.tunnel.specs.Statements.{FecRule}
+
+-- `Suits`, computed
+suits-of : (addressFamily size : ℕ) → familySuits addressFamily size ≡ true → Suits addressFamily size
+unfolding familySuits
+suits-of addressFamily size h =
+    ⊎-elim
+    (λ p. let q = both-held _ _ p in let a = eqb-true addressFamily 1 (q .0) in let b = eqb-true size 4 (q .1) in rw (a, b) ipv4)
+    (λ p. let q = both-held _ _ p in let a = eqb-true addressFamily 2 (q .0) in let b = eqb-true size 16 (q .1) in rw (a, b) ipv6)
+    (either-true _ _ h)
+
+suits-computed : {addressFamily size : ℕ} → Suits addressFamily size → familySuits addressFamily size ≡ true
+unfolding familySuits both either
+suits-computed ipv4 = refl
+suits-computed ipv6 = refl
+
+suits-small : {addressFamily size : ℕ} → Suits addressFamily size → addressFamily < 65536
+suits-small ipv4 = omega arith
+suits-small ipv6 = omega arith
+
+suits-least : {addressFamily size : ℕ} → Suits addressFamily size → 4 ≤ size
+suits-least ipv4 = omega arith
+suits-least ipv6 = omega arith
+
+-- address family and address length as one number
+suits-root : {addressFamily size : ℕ} → Suits addressFamily size → (addressFamily * 256 + size ≡ 260) ⊎ (addressFamily * 256 + size ≡ 528)
+suits-root ipv4 = inl refl
+suits-root ipv6 = inr refl
+
+-- the tests that a FEC passes
+pub record FecTests (i : List ℕ) : Type 0 where
+  pub header : 4 ≤ length i
+  pub suits : Suits (numberIn (part i 1 2) 0) (getD i 3 0)
+  pub lengths : getD i 3 0 + 2 ≤ length (drop 4 i)
+  pub end : getD i 3 0 + 2 + numberIn (part (drop 4 i) (getD i 3 0) 2) 0 ≡ length (drop 4 i)
+
+pub fec-tests : (i : List ℕ) → wholeFec i ≡ true → FecTests i
+unfolding wholeFec opaqueFills
+fec-tests i h =
+    let size = getD i 3 0 in
+    let a = both-held _ _ h in
+    let b = both-held _ _ (a .1) in
+    let d = both-held _ _ (b .1) in
+    record {
+      header = leb-true 4 (length i) (a .0);
+      suits = suits-of _ _ (b .0);
+      lengths = leb-true (size + 2) (length (drop 4 i)) (d .0);
+      end = eqb-true _ _ (d .1);
+    }
+
+-- a FEC's header of 4 octets, its root and the opaque length of 2 are there
+pub length-fec : (i : List ℕ) → wholeFec i ≡ true → 6 + getD i 3 0 ≤ length i
+length-fec i h = let t = fec-tests i h in omega (arith, length-drop 4 i)
+
+pub length-root : (i : List ℕ) → wholeFec i ≡ true → length (take (getD i 3 0) (drop 4 i)) ≡ getD i 3 0
+length-root i h = let t = fec-tests i h in length-take-le (getD i 3 0) (drop 4 i) (omega arith)
+
+pub length-opaque : (i : List ℕ) → length (drop (getD i 3 0 + 2) (drop 4 i)) ≡ length i - 6 - getD i 3 0
+length-opaque i = simp length-drop (omega (arith, length-drop 4 i))
+
+-- no FEC has fewer octets than one with an IPv4 root and no opaque value
+pub whole-short : (i : List ℕ) → length i < 10 → false ≡ wholeFec i
+whole-short i h = sym (is-false (wholeFec i) (λ w. let t = fec-tests i w in omega (arith, suits-least (t .suits), length-drop 4 i)))
+
+-- tests that hold together are the same
+tests-same : (a b : Bool) → (a ≡ true → b ≡ true) → (b ≡ true → a ≡ true) → a ≡ b
+tests-same true b f g = sym (f refl)
+tests-same false true f g = g refl
+tests-same false false f g = refl
+
+ends-fills : (i : List ℕ) (size start : ℕ) → 4 ≤ length i → start ≡ size + 6 → endsFrom i start ≡ opaqueFills (drop 4 i) size
+unfolding endsFrom opaqueFills part
+ends-fills i size start h e =
+    let rest = drop 4 i in
+    let l : length rest ≡ length i - 4 = length-drop 4 i in
+    let at : drop (start - 2) i ≡ drop size rest = ap (λ (n : ℕ). drop n i) (place start size e) ∙ sym (drop-drop size 4 i) in
+    let n = numberIn (take 2 (drop size rest)) 0 in
+    let room : leb start (length i) ≡ leb (size + 2) (length rest) =
+    tests-same (leb start (length i)) (leb (size + 2) (length rest)) (λ p. le-leb (size + 2) (length rest) (omega (arith, leb-true))) (λ p. le-leb start (length i) (omega (arith, leb-true))) in
+    let end : eqb (start + n) (length i) ≡ eqb (size + 2 + n) (length rest) =
+    tests-same (eqb (start + n) (length i)) (eqb (size + 2 + n) (length rest)) (λ p. eq-eqb (size + 2 + n) (length rest) (omega (arith, eqb-true))) (λ p. eq-eqb (start + n) (length i) (omega (arith, eqb-true))) in
+    rw (at, room, end)
+  where
+    place : (start size : ℕ) → start ≡ size + 6 → start - 2 ≡ 4 + size
+    place start size e = omega arith
+
+-- by address family and address length as one number, as the code reads them
+module _ (i : List ℕ) (h : 4 ≤ length i) (b : getD i 3 0 < 256) (root : ℕ) (e : root ≡ numberIn (part i 1 3) 0) where
+  root-parts : root ≡ numberIn (part i 1 2) 0 * 256 + getD i 3 0
+  root-parts = e ∙ number-part i 1 2 (omega arith)
+
+  whole-rooted : (addressFamily size start : ℕ) → numberIn (part i 1 2) 0 ≡ addressFamily → getD i 3 0 ≡ size → familySuits addressFamily size ≡ true → start ≡ size + 6 → endsFrom i start ≡ wholeFec i
+  unfolding wholeFec both
+  whole-rooted addressFamily size start f s t q = rw (le-leb 4 (length i) h, f, s, t) (ends-fills i size start h q)
+
+  pub whole-ipv4 : (r : Bool) → root ≡ 260 → r ≡ endsFrom i 10 → r ≡ wholeFec i
+  whole-ipv4 r z q = q ∙ whole-rooted 1 4 10 (omega (arith, root-parts)) (omega (arith, root-parts)) (suits-computed ipv4) refl
+
+  pub whole-ipv6 : (r : Bool) → root ≡ 528 → r ≡ endsFrom i 22 → r ≡ wholeFec i
+  whole-ipv6 r z q = q ∙ whole-rooted 2 16 22 (omega (arith, root-parts)) (omega (arith, root-parts)) (suits-computed ipv6) refl
+
+  pub whole-unrooted : (root ≡ 260 → ⊥) → (root ≡ 528 → ⊥) → false ≡ wholeFec i
+  whole-unrooted p q = sym (is-false (wholeFec i) (λ w. ⊎-elim (λ x. p (root-parts ∙ x)) (λ x. q (root-parts ∙ x)) (suits-root (fec-tests i w .suits))))
+
+-- a FEC is its parts
+header-parts : (i : List ℕ) → 4 ≤ length i → i ≡ getD i 0 0 ∷ (part i 1 2 ++ (getD i 3 0 ∷ drop 4 i))
+unfolding part
+header-parts [] h = absurd (omega arith)
+header-parts (a ∷ []) h = absurd (omega arith)
+header-parts (a ∷ (b ∷ [])) h = absurd (omega arith)
+header-parts (a ∷ (b ∷ (c ∷ []))) h = absurd (omega arith)
+header-parts (a ∷ (b ∷ (c ∷ (d ∷ r)))) h = refl
+
+rest-parts : (r : List ℕ) (n : ℕ) → r ≡ take n r ++ (part r n 2 ++ drop (n + 2) r)
+unfolding part
+rest-parts r n = sym (rw (← drop-drop 2 n r, take-append-drop 2 (drop n r)) (take-append-drop n r))
+
+-- the fields of octets that pass the tests are well-formed, and encode to these octets
+pub whole-fields : (i : List ℕ) → AllOctets i → wholeFec i ≡ true → WellFormedFec (fecIn i) × (i ≡ encodeFec (fecIn i))
+unfolding fecIn encodeFec
+whole-fields i a h =
+    let t = fec-tests i h in
+    let size = getD i 3 0 in
+    let rest = drop 4 i in
+    let n = numberIn (part rest size 2) 0 in
+    let o : length (drop (size + 2) rest) ≡ n = simp (length-drop (size + 2) rest) (omega arith) in (
+      record {
+        typeFits = octet-at a 0;
+        rootSuits = rw (length-root i h) (t .suits);
+        rootOctets = octets-take size (octets-drop 4 a);
+        opaqueFits = rw o (part-fits (octets-drop 4 a) size 2 (t .lengths));
+        opaqueOctets = octets-drop (size + 2) (octets-drop 4 a);
+      },
+      rw (part-number a 1 2 (omega arith), length-root i h, o, part-number (octets-drop 4 a) size 2 (t .lengths), ← rest-parts rest size) (header-parts i (t .header)),
+    )
+
+-- what stands after an encoding's first four octets
+restOf : FecFields → List ℕ
+restOf f = f .root ++ (bigEndian 2 (length (f .opaqueValue)) ++ f .opaqueValue)
+
+-- an encoding passes the tests, and its fields are those encoded
+module _ (f : FecFields) (w : WellFormedFec f) where
+  length-rest : length (restOf f) ≡ length (f .root) + 2 + length (f .opaqueValue)
+  unfolding restOf
+  length-rest = simp (length-append, big-endian-length) (omega arith)
+
+  number-rest : numberIn (part (restOf f) (length (f .root)) 2) 0 ≡ length (f .opaqueValue)
+  unfolding restOf part
+  number-rest =
+      rw (drop-append-seam (f .root) (bigEndian 2 (length (f .opaqueValue)) ++ f .opaqueValue), take-at (bigEndian 2 (length (f .opaqueValue))) (f .opaqueValue) 2 (big-endian-length 2 (length (f .opaqueValue))))
+      (number-of-big-endian 2 (length (f .opaqueValue)) (w .opaqueFits))
+
+  fills-rest : opaqueFills (restOf f) (length (f .root)) ≡ true
+  unfolding opaqueFills
+  fills-rest =
+      rw number-rest
+      (both-true _ _
+      (le-leb (length (f .root) + 2) (length (restOf f)) (omega (arith, length-rest)))
+      (eq-eqb (length (f .root) + 2 + length (f .opaqueValue)) (length (restOf f)) (sym length-rest)))
+
+  family-encode : numberIn (part (encodeFec f) 1 2) 0 ≡ f .addressFamily
+  unfolding encodeFec part bigEndian
+  family-encode = number-of-big-endian 2 (f .addressFamily) (suits-small (w .rootSuits))
+
+  drop-encode : drop 4 (encodeFec f) ≡ restOf f
+  unfolding encodeFec bigEndian restOf
+  drop-encode = refl
+
+  size-encode : getD (encodeFec f) 3 0 ≡ length (f .root)
+  unfolding encodeFec bigEndian
+  size-encode = refl
+
+  least-encode : 4 ≤ length (encodeFec f)
+  unfolding encodeFec bigEndian
+  least-encode = omega arith
+
+  pub length-encode : length (encodeFec f) ≡ 6 + length (f .root) + length (f .opaqueValue)
+  length-encode = omega (arith, least-encode, length-rest, length-drop 4 (encodeFec f), ap length drop-encode)
+
+  pub whole-encode : wholeFec (encodeFec f) ≡ true
+  unfolding wholeFec both
+  whole-encode = rw (le-leb 4 (length (encodeFec f)) least-encode, family-encode, size-encode, drop-encode, suits-computed (w .rootSuits)) fills-rest
+
+  pub type-encode : getD (encodeFec f) 0 0 ≡ f .fecType
+  unfolding encodeFec
+  type-encode = refl
+
+  take-rest : take (length (f .root)) (restOf f) ≡ f .root
+  unfolding restOf
+  take-rest = take-append-seam (f .root) (bigEndian 2 (length (f .opaqueValue)) ++ f .opaqueValue)
+
+  drop-rest : drop (length (f .root) + 2) (restOf f) ≡ f .opaqueValue
+  unfolding restOf
+  drop-rest =
+      drop-append-add (f .root) (bigEndian 2 (length (f .opaqueValue)) ++ f .opaqueValue) 2
+      ∙ drop-at (bigEndian 2 (length (f .opaqueValue))) (f .opaqueValue) 2 (big-endian-length 2 (length (f .opaqueValue)))
+
+  pub fields-encode : fecIn (encodeFec f) ≡ f
+  unfolding fecIn
+  fields-encode = rw (type-encode, family-encode, size-encode, drop-encode, take-rest, drop-rest)
+
+  read-encode : readFec (encodeFec f) ≡ given f
+  unfolding readFec
+  read-encode = pick-true (wholeFec (encodeFec f)) (given (fecIn (encodeFec f))) (refused IDENT) whole-encode ∙ ap given fields-encode
+
+pub fecRule : FecRule
+unfolding readFec
+fecRule =
+    record {
+      accepted = λ i f a. (
+        λ h. let p = was-given (wholeFec i) (fecIn i) f IDENT h in subst (λ (g : FecFields). WellFormedFec g × (i ≡ encodeFec g)) (p .1) (whole-fields i a (p .0)),
+        λ p. rw (p .1) (read-encode f (p .0)),
+      );
+    }
