@@ -41,7 +41,7 @@ next-within left run at h later (reads l c e known before) =
     let rest = later c (omega arith) in
     let n = ap length (lines-go left run at l c e) ∙ length-append (lineOf at (l .«route_type») (l .length)) (linesFrom left run c) in
     omega arith
-next-within left run at h later (stops n x e small) = let s = last-within n at small h in omega (arith, ap length (lines-stop left run at n x e))
+next-within left run at h later (stops n s small) = let m = last-within n at small h in omega (arith, ap length (lines-stop left run at n s))
 
 lines-within : (left : ℕ) (run : List ℕ) (at : ℕ) → at ≤ 4096 → Within left run at
 unfolding linesFrom

@@ -18,8 +18,8 @@ use Rattle.nlri.specs.Family.{familyBits, allowed, isOriginatorSize}
 use Rattle.nlri.specs.Bodies.{bodies, onBody, fieldIn, sameKind, codeOf}
 use Rattle.nlri.specs.Reading.{fixedField, addressEnd, addressField, originatorField, fieldSize, sizesOf, laidWith, laidAt}
 use Rattle.nlri.specs.Layouts.{layoutOf, layoutAt}
-use Rattle.nlri.specs.Walking.{readTo, stoppedAt, stepUnder, stepFrom, walkFrom, walkOf}
-use Rattle.nlri.proofs.Steps.{walk-goes, walk-stops}
+use Rattle.nlri.specs.Walking.{readTo, endedAt, refusedAt, stepUnder, stepFrom, walkFrom, walkOf}
+use Rattle.nlri.proofs.Steps.{stops-at-refusal, walk-goes, walk-stops}
 use Rattle.mvpn_list.specs.Listing.{lastDigit, digitsWithin, decimalOf, fieldOf, headerLine, lineOf, openingOf, lastLine, linesFrom, linesOf, listingOf}
 use Rattle.mvpn_list.proofs.Choices.{picked}
 use Rattle.mvpn_list.proofs.Steps.{Comes, reads, stops, step-comes, lines-go, lines-stop}
@@ -45,14 +45,14 @@ pub decimal-value : (n : ℕ) → valueOf (decimalOf n) 0 ≡ n
 unfolding decimalOf
 decimal-value n = value-within (suc n) n (omega arith)
 
-long-stops : (run : List ℕ) → 4096 < length run → stepFrom 1 run 0 ≡ stoppedAt LONG 0
+long-stops : (run : List ℕ) → 4096 < length run → stepFrom 1 run 0 ≡ refusedAt LONG 0
 unfolding stepFrom stepUnder familyBits pick onOutcome
 long-stops run h = pick-true _ _ _ (lt-ltb 4096 (length run) h)
 
 -- a run over 4,096 octets gives the header and `stop 0 8`
 pub long-listing : (run : List ℕ) → 4096 < length run → listingOf run ≡ headerLine ++ lastLine LONG 0
 unfolding listingOf linesOf
-long-listing run h = ap (λ (x : List ℕ). headerLine ++ x) (lines-stop (length run) run 0 LONG 0 (long-stops run h))
+long-listing run h = ap (λ (x : List ℕ). headerLine ++ x) (lines-stop (length run) run 0 LONG (stops-at-refusal _ LONG 0 (long-stops run h)))
 
 -- 4,097 octets of the input decide what is printed
 pub seen-decides : (input : List ℕ) → listingOf (take 4097 input) ≡ listingOf input
@@ -80,8 +80,8 @@ module _ (left : ℕ) (run : List ℕ) (at count : ℕ) (later : (c : ℕ) → E
             lines-go left run at l c e ∙ ap (λ (x : List ℕ). this ++ x) (rest .is) ∙ sym (append-assoc this (rest .before) _)
             ∙ ap (λ (w : Walked). (this ++ rest .before) ++ lastLine (w .number) (w .offset)) (sym (walk-goes left 1 run at count l c e));
       }
-  next-ends (stops n x e small) =
-      record { before = []; is = lines-stop left run at n x e ∙ ap (λ (w : Walked). lastLine (w .number) (w .offset)) (sym (walk-stops left 1 run at count n x e)) }
+  next-ends (stops n s small) =
+      record { before = []; is = lines-stop left run at n s ∙ ap (λ (w : Walked). lastLine (w .number) (w .offset)) (sym (walk-stops left 1 run at count n s)) }
 
 ends-from : (left : ℕ) (run : List ℕ) (at count : ℕ) → Ends (linesFrom left run at) (walkFrom left 1 run at count)
 unfolding linesFrom walkFrom
@@ -101,5 +101,5 @@ marked = 3 ∷ 14 ∷ 0 ∷ 0 ∷ 0 ∷ 100 ∷ 0 ∷ 0 ∷ 0 ∷ 7 ∷ 0 ∷ 0 
 -- `0 3 14`, then `stop 16 2`
 pub marked-listing : listingOf marked
     ≡ headerLine ++ (48 ∷ 32 ∷ 51 ∷ 32 ∷ 49 ∷ 52 ∷ 10 ∷ 115 ∷ 116 ∷ 111 ∷ 112 ∷ 32 ∷ 49 ∷ 54 ∷ 32 ∷ 50 ∷ 10 ∷ [])
-unfolding listingOf linesOf linesFrom lineOf lastLine openingOf fieldOf decimalOf digitsWithin lastDigit stepFrom stepUnder readTo stoppedAt familyBits layoutAt laidAt laidWith bodies onBody sizesOf fieldSize fixedField addressField addressEnd originatorField isOriginatorSize allowed layoutOf fieldIn sameKind codeOf part pick both either onOutcome andThen
+unfolding listingOf linesOf linesFrom lineOf lastLine openingOf fieldOf decimalOf digitsWithin lastDigit stepFrom stepUnder readTo endedAt refusedAt familyBits layoutAt laidAt laidWith bodies onBody sizesOf fieldSize fixedField addressField addressEnd originatorField isOriginatorSize allowed layoutOf fieldIn sameKind codeOf part pick both either onOutcome andThen
 marked-listing = refl

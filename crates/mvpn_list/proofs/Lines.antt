@@ -5,8 +5,8 @@ use Prim.Native.Nat.{ℕ, suc, _+_, _-_, _≤_}
 use native.Mathlib.Omega.{arith}
 use lib.ListN.{length, length-append}
 use Rattle.nlri.specs.declared.layout.Layout.{Layout}
-use Rattle.nlri.specs.Walking.{readTo, stoppedAt, stepFrom}
-use Rattle.nlri.proofs.Steps.{step-moves}
+use Rattle.nlri.specs.Walking.{readTo, stepFrom}
+use Rattle.nlri.proofs.Steps.{Stops, step-moves}
 use Rattle.mvpn_list.specs.Listing.{lineOf, lastLine, linesFrom, linesOf}
 use Rattle.mvpn_list.proofs.Steps.{lines-go, lines-stop}
 use Rattle.octets.proofs.Lists.{Put, put-none, put-as, put-length}
@@ -53,9 +53,9 @@ module _ (run output₀ : List ℕ) (start offset at : ℕ) (output : List ℕ) 
           goes = onward ∙ ap (λ (k : ℕ). (so-far .done ++ this) ++ linesFrom k run c) n;
         }
 
-  module _ (n x : ℕ) (e : stepFrom 1 run offset ≡ stoppedAt n x) where
+  module _ (n : ℕ) (s : Stops (stepFrom 1 run offset) n) where
     whole : linesOf run ≡ so-far .done ++ lastLine n offset
-    whole = so-far .goes ∙ ap (λ (x : List ℕ). so-far .done ++ x) (lines-stop (so-far .left) run offset n x e)
+    whole = so-far .goes ∙ ap (λ (x : List ℕ). so-far .done ++ x) (lines-stop (so-far .left) run offset n s)
 
     all-fits : start + length (so-far .done ++ lastLine n offset) ≤ length output₀
     all-fits = omega (arith, ap length whole)

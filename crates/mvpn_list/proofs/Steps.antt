@@ -5,6 +5,7 @@ use mathlib.Core.List.{List, _++_}
 use Prim.Native.Nat.{ℕ, suc, _≤_, _<_}
 use native.Mathlib.Omega.{arith}
 use lib.ListN.{drop}
+use Rattle.octets.specs.Numbers.{DONE, SHORT, LONG}
 use Rattle.octets.specs.Outcome.{Outcome, given, refused, onOutcome}
 use Rattle.octets.proofs.Inversions.{passed, given-same}
 use Rattle.octets.proofs.Outcomes.{pick-true, pick-false}
@@ -12,9 +13,10 @@ use Rattle.octets.proofs.RefusalNumbers.{refuses-by}
 use Rattle.nlri.specs.declared.layout.Layout.{Layout}
 use Rattle.nlri.specs.Reading.{keyField, laidAt}
 use Rattle.nlri.specs.Layouts.{layoutOf, layoutAt}
-use Rattle.nlri.specs.Walking.{Stepped, readTo, stoppedAt, stepUnder, stepFrom}
+use Rattle.nlri.specs.Walking.{Stepped, readTo, stepUnder, stepFrom}
 use Rattle.nlri.proofs.ReadNumbers.{family-refuses, layout-refuses}
 use Rattle.nlri.proofs.Whole.{laid-out}
+use Rattle.nlri.proofs.Steps.{Stops, stops-at-end, stops-at-refusal}
 use Rattle.mvpn_list.specs.Listing.{lineOf, lastLine, linesFrom}
 use Rattle.mvpn_list.proofs.Choices.{picked}
 
@@ -34,16 +36,16 @@ known-type bits s l e =
 -- what a step comes to
 pub data Comes (s : Stepped) : Type 0 where
   reads : (l : Layout) (c : ℕ) → s ≡ readTo l c → l .«route_type» ≤ 7 → l .length ≤ c → Comes s
-  stops : (n x : ℕ) → s ≡ stoppedAt n x → n < 100 → Comes s
+  stops : (n : ℕ) → Stops s n → n < 100 → Comes s
 
 pub step-comes : (afi : ℕ) (run : List ℕ) (at : ℕ) → Comes (stepFrom afi run at)
 unfolding stepFrom stepUnder
 step-comes afi run at =
-    by-outcome Comes _ _ _ (λ n e. stops n at refl (omega (arith, refuses-by _ n (family-refuses afi) e)))
-    (λ bits _. picked Comes _ _ _ (λ _. stops _ at refl (omega arith))
-    (λ _. picked Comes _ _ _ (λ _. stops _ at refl (omega arith))
-    (λ _. picked Comes _ _ _ (λ _. stops _ at refl (omega arith))
-    (λ _. by-outcome Comes _ _ _ (λ n e. stops n at refl (omega (arith, refuses-by _ n (layout-refuses bits (drop at run)) e)))
+    by-outcome Comes _ _ _ (λ n e. stops n (stops-at-refusal _ n at refl) (omega (arith, refuses-by _ n (family-refuses afi) e)))
+    (λ bits _. picked Comes _ _ _ (λ _. stops LONG (stops-at-refusal _ LONG at refl) (omega arith))
+    (λ _. picked Comes _ _ _ (λ _. stops DONE (stops-at-end _ DONE at refl refl) (omega arith))
+    (λ _. picked Comes _ _ _ (λ _. stops SHORT (stops-at-refusal _ SHORT at refl) (omega arith))
+    (λ _. by-outcome Comes _ _ _ (λ n e. stops n (stops-at-refusal _ n at refl) (omega (arith, refuses-by _ n (layout-refuses bits (drop at run)) e)))
     (λ layout e. reads layout _ refl (known-type bits (drop at run) layout e) (omega arith))))))
 
 -- how the lines go on by a step
@@ -54,6 +56,6 @@ module _ (left : ℕ) (run : List ℕ) (at : ℕ) where
       pick-true _ _ _ (ap (λ (s : Stepped). s .read) e)
       ∙ ap (λ (s : Stepped). lineOf at (s .layout .«route_type») (s .layout .length) ++ linesFrom left run (s .cursor)) e
 
-  pub lines-stop : (n x : ℕ) → stepFrom 1 run at ≡ stoppedAt n x → linesFrom (suc left) run at ≡ lastLine n at
-  unfolding linesFrom stoppedAt
-  lines-stop n x e = pick-false _ _ _ (ap (λ (s : Stepped). s .read) e) ∙ ap (λ (s : Stepped). lastLine (s .number) at) e
+  pub lines-stop : (n : ℕ) → Stops (stepFrom 1 run at) n → linesFrom (suc left) run at ≡ lastLine n at
+  unfolding linesFrom
+  lines-stop n s = pick-false _ _ _ (s .unread) ∙ ap (λ (m : ℕ). lastLine m at) (s .told)
