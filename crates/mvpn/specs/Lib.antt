@@ -1,2 +1,3 @@
--- What the calls from C answer.
+-- What the calls from C answer, and what holds of it.
 pub mod Answers
+pub mod Statements

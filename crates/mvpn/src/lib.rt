@@ -4,7 +4,7 @@ ghost use lib.ListN.{length};
 ghost use Rattle.octets.specs.Outputs.{writtenOf, outputOf};
 ghost use Rattle.nlri.specs.Reading.{readNlri};
 ghost use Rattle.nlri.specs.Writing.{writeNlri};
-ghost use Rattle.nlri.specs.Walking.{stepFrom, stoppedAt, walkOf};
+ghost use Rattle.nlri.specs.Walking.{stepFrom, refusedAt, walkOf};
 ghost use Rattle.nlri.specs.Groups.{classOf, groupOf};
 ghost use Rattle.nlri.specs.Answers.{structFields, nlriAnswer};
 ghost use Rattle.tunnel.specs.Answers.{readStruct, writeOutcome};
@@ -83,9 +83,9 @@ pub extern "C" fn mvpn_step(afi: u16, run: &[u8], cursor: usize) -> StepAnswer
     }
 }
 
-// A step that read no NLRI: the cursor, the number, and no layout.
+// No NLRI: a refusal, or the run's end, which the caller tells by DONE with route type 0.
 fn stopped(cursor: usize, number: u32) -> StepAnswer
-    ensures { λ r. ⌜ r ≡ stepAnswer (stoppedAt number cursor) ⌝ }
+    ensures { λ r. ⌜ r ≡ stepAnswer (refusedAt number cursor) ⌝ }
 {
     StepAnswer {
         cursor,

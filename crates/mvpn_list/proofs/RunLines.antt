@@ -14,13 +14,14 @@ use Rattle.octets.specs.Outcome.{given}
 use Rattle.nlri.specs.Family.{familyBits}
 use Rattle.nlri.specs.Fields.{Fields, encodeNlri}
 use Rattle.nlri.specs.Walking.{stepFrom}
-use Rattle.nlri.specs.Statements.{FrontRefusal, layoutFor, encodeRun, AllWellFormed, RunEnd, nothing, refusal, RunOf}
+use Rattle.nlri.specs.Statements.{FrontRefusal, layoutFor, front, encodeRun, AllWellFormed, RunEnd, nothing, refusal, RunOf}
 use Rattle.nlri.proofs.Theorems.{lengths, stepRule}
+use Rattle.nlri.proofs.Steps.{Stops, stops-at-end, stops-at-refusal}
 use Rattle.mvpn_list.specs.Listing.{decimalOf, fieldOf, lineOf, openingOf, lastLine, linesFrom, linesOf}
 use Rattle.mvpn_list.specs.ListingRule.{NumberLine, Opening, RunLines}
 use Rattle.mvpn_list.proofs.Choices.{pick-by}
 use Rattle.mvpn_list.proofs.DecimalRule.{decimal-decimalOf, decimal-only}
-use Rattle.mvpn_list.proofs.Steps.{Stops, stops-stoppedAt, linesFrom-reads, linesFrom-stops}
+use Rattle.mvpn_list.proofs.Steps.{linesFrom-reads, linesFrom-stops}
 
 numberLine-last : (n : ℕ) → NumberLine (n ∷ []) (fieldOf n 10)
 unfolding fieldOf
@@ -54,9 +55,9 @@ length-encodeNlri f = omega arith
 module _ (run : List ℕ) (octets : AllOctets run) (short : length run ≤ 4096) where
   -- where the NLRIs end the step stops with the number there
   stops-runEnd : (at : ℕ) (t : List ℕ) (n : ℕ) → RunEnd 32 t n → at + length t ≡ length run → drop at run ≡ t → Stops (stepFrom 1 run at) n
-  stops-runEnd at t n nothing size here = stops-stoppedAt DONE at (stepRule .ends 1 32 run at familyBits-1 short (omega arith))
+  stops-runEnd at t n nothing size here = stops-at-end _ DONE at refl (stepRule .ends 1 run at .1 (inl refl, short, omega arith))
   stops-runEnd at t n (refusal some why) size here =
-      stops-stoppedAt n at (stepRule .refuses 1 32 run at n familyBits-1 octets short (omega arith) (subst (λ (s : List ℕ). FrontRefusal 32 s n) (sym here) why))
+      stops-at-refusal _ n at (stepRule .refuses 1 run at n octets .1 (front 32 familyBits-1 short (omega arith) (subst (λ (s : List ℕ). FrontRefusal 32 s n) (sym here) why)))
 
   runLines-linesFrom : (t : List ℕ) (n : ℕ) → RunEnd 32 t n → (left : ℕ) (fs : List Fields) (at : ℕ) → AllWellFormed 32 fs → at + length (encodeRun fs ++ t) ≡ length run → drop at run ≡ encodeRun fs ++ t → length run < left + at
       → RunLines n at fs (linesFrom left run at)
@@ -71,7 +72,7 @@ module _ (run : List ℕ) (octets : AllOctets run) (short : length run ≤ 4096)
       let next : drop (at + length (encodeNlri f)) run ≡ rest = sym (drop-drop (length (encodeNlri f)) at run) ∙ ap (drop (length (encodeNlri f))) now ∙ drop-append-seam (encodeNlri f) rest in
       let later = runLines-linesFrom t n end left fs (at + length (encodeNlri f)) (w .1) (omega arith) next (omega (arith, length-encodeNlri f)) in
       RunLines.nlri _ _ (numberLine-lineOf at (f .type) (length (encodeNlri f) - 2)) later
-      (linesFrom-reads left run at (layoutFor f) (at + length (encodeNlri f)) (stepRule .reads 1 32 run at f rest familyBits-1 short (w .0) now))
+      (linesFrom-reads left run at (layoutFor f) (at + length (encodeNlri f)) (stepRule .reads 1 run at f (record { bits = 32; ofFamily = familyBits-1; short = short; wellFormed = w .0; after = rest; is = now })))
 
   pub runLines-linesOf : (r : RunOf 32 run) → RunLines (r .number) 0 (r .nlris) (linesOf run)
   unfolding linesOf

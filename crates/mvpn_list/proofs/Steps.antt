@@ -14,9 +14,10 @@ use Rattle.octets.proofs.RefusalNumbers.{refuses-by}
 use Rattle.nlri.specs.declared.layout.Layout.{Layout}
 use Rattle.nlri.specs.Reading.{keyField, laidAt}
 use Rattle.nlri.specs.Layouts.{layoutOf, layoutAt}
-use Rattle.nlri.specs.Walking.{Stepped, readTo, stoppedAt, stepUnder, stepFrom}
+use Rattle.nlri.specs.Walking.{Stepped, readTo, stepUnder, stepFrom}
 use Rattle.nlri.proofs.ReadNumbers.{family-refuses, layout-refuses}
 use Rattle.nlri.proofs.Whole.{laid-out}
+use Rattle.nlri.proofs.Steps.{Stops, stops-at-end, stops-at-refusal}
 use Rattle.mvpn_list.specs.Listing.{nlriLine, lastLine, linesFrom}
 use Rattle.mvpn_list.proofs.Choices.{pick-by, onOutcome-by}
 
@@ -28,15 +29,6 @@ route-type-layoutAt bits s l e =
     let same : p .value .type ≡ l .«route_type» = ap (λ (x : Layout). x .«route_type») (given-same (p .second)) in
     omega (arith, laid-out (keyField bits) bits s (p .value) (p .first) .row .high)
 
--- a step that reads nothing, with its number
-pub record Stops (s : Stepped) (number : ℕ) : Type 0 where
-  pub unread : s .read ≡ false
-  pub numbered : s .number ≡ number
-
-pub stops-stoppedAt : {s : Stepped} (number cursor : ℕ) → s ≡ stoppedAt number cursor → Stops s number
-unfolding stoppedAt
-stops-stoppedAt number cursor e = record { unread = ap (λ (x : Stepped). x .read) e; numbered = ap (λ (x : Stepped). x .number) e }
-
 -- what a step comes to
 pub data Comes (s : Stepped) : Type 0 where
   reads : (l : Layout) (c : ℕ) → s ≡ readTo l c → l .«route_type» ≤ 7 → l .length ≤ c → Comes s
@@ -45,11 +37,11 @@ pub data Comes (s : Stepped) : Type 0 where
 pub comes-stepFrom : (afi : ℕ) (run : List ℕ) (at : ℕ) → Comes (stepFrom afi run at)
 unfolding stepFrom stepUnder
 comes-stepFrom afi run at =
-    onOutcome-by Comes _ _ _ (λ n e. stops n (stops-stoppedAt n at refl) (omega (arith, refuses-by _ n (family-refuses afi) e)))
-    (λ bits _. pick-by Comes _ _ _ (λ _. stops LONG (stops-stoppedAt LONG at refl) (omega arith))
-    (λ _. pick-by Comes _ _ _ (λ _. stops DONE (stops-stoppedAt DONE at refl) (omega arith))
-    (λ _. pick-by Comes _ _ _ (λ _. stops SHORT (stops-stoppedAt SHORT at refl) (omega arith))
-    (λ _. onOutcome-by Comes _ _ _ (λ n e. stops n (stops-stoppedAt n at refl) (omega (arith, refuses-by _ n (layout-refuses bits (drop at run)) e)))
+    onOutcome-by Comes _ _ _ (λ n e. stops n (stops-at-refusal _ n at refl) (omega (arith, refuses-by _ n (family-refuses afi) e)))
+    (λ bits _. pick-by Comes _ _ _ (λ _. stops LONG (stops-at-refusal _ LONG at refl) (omega arith))
+    (λ _. pick-by Comes _ _ _ (λ _. stops DONE (stops-at-end _ DONE at refl refl) (omega arith))
+    (λ _. pick-by Comes _ _ _ (λ _. stops SHORT (stops-at-refusal _ SHORT at refl) (omega arith))
+    (λ _. onOutcome-by Comes _ _ _ (λ n e. stops n (stops-at-refusal _ n at refl) (omega (arith, refuses-by _ n (layout-refuses bits (drop at run)) e)))
     (λ layout e. reads layout _ refl (route-type-layoutAt bits (drop at run) layout e) (omega arith))))))
 
 -- how the lines go on by a step
@@ -62,4 +54,4 @@ module _ (left : ℕ) (run : List ℕ) (at : ℕ) where
 
   pub linesFrom-stops : (n : ℕ) → Stops (stepFrom 1 run at) n → linesFrom (suc left) run at ≡ lastLine n at
   unfolding linesFrom
-  linesFrom-stops n s = pick-false _ _ _ (s .unread) ∙ ap (λ (x : ℕ). lastLine x at) (s .numbered)
+  linesFrom-stops n s = pick-false _ _ _ (s .unread) ∙ ap (λ (x : ℕ). lastLine x at) (s .told)

@@ -1,11 +1,11 @@
 -- Reading accepts exactly the encodings of well-formed fields (document 01, "NLRI on the wire").
 use mathlib.Core.Path.{_≡_, refl, sym, _∙_, ap, subst}
 use mathlib.Core.Bool.{Bool, true, false}
-use mathlib.Core.List.{List, [], _∷_, append-nil}
+use mathlib.Core.List.{List, [], _∷_, _++_, append-nil}
 use Prim.Native.Nat.{ℕ, suc, _+_, _*_, _/_, _-_, _^_, _≤_, _<_}
 use native.Mathlib.Omega.{arith}
 use borrow.Author.Tests.{eqb-true, eq-eqb}
-use lib.ListN.{length, take, drop}
+use lib.ListN.{length, take, drop, take-append-drop}
 use lib.Seq.{take-all}
 use Rattle.octets.specs.Choice.{pick, either}
 use Rattle.octets.specs.Outcome.{given, andThen}
@@ -24,7 +24,7 @@ use Rattle.nlri.proofs.Table.{RowOf, rowOf, known, mostIn, field-of-map
 use Rattle.nlri.proofs.Judged.{fieldsFrom}
 use Rattle.nlri.proofs.Lengths.{family-octets}
 use Rattle.nlri.proofs.Shapes.{whole-part}
-use Rattle.nlri.proofs.Whole.{piecesOf, sizesIn, cut-body, laid-out, fieldsAt, laid-sound, laid-complete, nlri-octets}
+use Rattle.nlri.proofs.Whole.{piecesOf, sizesIn, laidOf, cut-body, laid-out, fieldsAt, laid-sound, laid-complete, nlri-octets}
 use Rattle.nlri.proofs.Keys.{key-judges, key-octets}
 
 -- what is nothing where a test fails
@@ -73,9 +73,26 @@ from-encoded Key bits f w =
     fields-same refl (at distinguisher) (ap (λ (x : List ℕ). numberIn x 0) (at sourceAs) ∙ kept-number _ _ (field-in-body Key bits f sourceAs body w))
     (ap (drop 1) (at source) ∙ kept-address _ _) (ap (drop 1) (at group) ∙ kept-address _ _) (at originator) (at key)
 
+-- an NLRI at the front of octets: well-formed fields that stand encoded there
+pub record Front (bits : ℕ) (s : List ℕ) (laid : Laid) : Type 0 where
+  pub fields : Fields
+  pub wellFormed : WellFormed bits fields
+  pub is : s ≡ encodeNlri fields ++ drop (2 + laid .size) s
+
 module _ (afi bits : ℕ) (ofFamily : familyBits afi ≡ given bits) where
   whole : 8 * (bits / 8) ≡ bits
   whole = family-octets afi bits ofFamily .0
+
+  pub front-sound : (s : List ℕ) (laid : Laid) → AllOctets s → laidAt bits s ≡ given laid → Front bits s laid
+  unfolding laidAt
+  front-sound s laid a e =
+      let o = laid-out (keyField bits) bits s laid e in
+      let r = laid-sound (keyField bits) (KeyOf bits) (key-judges bits whole) bits whole s laid a e in
+      record {
+        fields = fieldsAt (keyField bits) (KeyOf bits) (key-judges bits whole) bits whole s laid;
+        wellFormed = record { typed = (o .row .low, o .row .high); body = r .0 };
+        is = sym (take-append-drop (2 + laid .size) s) ∙ ap (λ (x : List ℕ). x ++ drop (2 + laid .size) s) (r .1);
+      }
 
   single-sound : (s : List ℕ) (laid : Laid) → AllOctets s → laidSingle bits s ≡ given laid → ReadAs afi s (fieldsOf laid s)
   unfolding laidSingle laidAt fieldsOf part
@@ -99,15 +116,21 @@ module _ (afi bits : ℕ) (ofFamily : familyBits afi ≡ given bits) where
         encoded = sym all ∙ r .1 ∙ ap encodeNlri fields;
       }
 
+  -- the encoding of well-formed fields lies as these say
+  pub laid-single : (f : Fields) → WellFormed bits f → laidSingle bits (encodeNlri f) ≡ given (laidOf f)
+  unfolding laidSingle laidAt encodeNlri
+  laid-single f w =
+      let body : List FieldKind = bodyOf (f .type) in
+      let laid : laidAt bits (encodeNlri f) ≡ given (laidOf f) =
+      ap (laidAt bits) (sym (append-nil (encodeNlri f))) ∙ laid-complete (keyField bits) (KeyOf bits) (key-judges bits whole) bits whole f [] (w .typed) (w .body) in
+      sym (goes _ _ _ _ laid (sym (pick-true _ _ _ (eq-eqb (suc (suc (length (encodeBody f body))) - 2) (length (encodeBody f body)) (omega arith)))))
+
   single-complete : (f : Fields) → WellFormed bits f → andThen (laidSingle bits (encodeNlri f)) (λ laid. given (fieldsOf laid (encodeNlri f))) ≡ given (restricted f)
-  unfolding laidSingle laidAt fieldsOf encodeNlri
+  unfolding fieldsOf encodeNlri
   single-complete f w =
       let body : List FieldKind = bodyOf (f .type) in
-      let laid : laidAt bits (encodeNlri f) ≡ given (record { type = f .type; size = length (encodeBody f body); body = body; sizes = sizesIn f body }) =
-      ap (laidAt bits) (sym (append-nil (encodeNlri f))) ∙ laid-complete (keyField bits) (KeyOf bits) (key-judges bits whole) bits whole f [] (w .typed) (w .body) in
       let cuts : cut (sizesIn f body) (encodeBody f body) ≡ piecesOf f body = ap (cut (sizesIn f body)) (sym (append-nil (encodeBody f body))) ∙ cut-body f body [] in
-      sym (goes _ _ _ _ (sym (goes _ _ _ _ laid (sym (pick-true _ _ _ (eq-eqb (suc (suc (length (encodeBody f body))) - 2) (length (encodeBody f body)) (omega arith))))))
-      (ap given (sym (ap (λ (x : List (List ℕ)). fieldsFrom (f .type) (λ kind. fieldIn [] kind body x)) cuts ∙ from-encoded (KeyOf bits) bits f (w .body)))))
+      sym (goes _ _ _ _ (laid-single f w) (ap given (sym (ap (λ (x : List (List ℕ)). fieldsFrom (f .type) (λ kind. fieldIn [] kind body x)) cuts ∙ from-encoded (KeyOf bits) bits f (w .body)))))
 
   octets : (f : Fields) → WellFormed bits f → (most : ℕ) → mostIn 60 (bodyOf (f .type)) ≤ most → most < 256 → (length (encodeNlri f) ≤ 2 + most) × AllOctets (encodeNlri f)
   octets f w most within fits =

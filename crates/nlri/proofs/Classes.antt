@@ -16,8 +16,8 @@ use Rattle.octets.proofs.Inversions.{never, opposite, given-same, both-true-lef
 use Rattle.octets.proofs.Refusals.{refused-same, outcome}
 use Rattle.nlri.specs.Family.{familyBits}
 use Rattle.nlri.specs.Groups.{ASM, SSM, multicast, sourceSpecific, classUnder, classOf}
-use Rattle.nlri.specs.Statements.{Multicast, SourceSpecific, GroupRule}
-use Rattle.nlri.proofs.Lengths.{good-family}
+use Rattle.nlri.specs.Statements.{Multicast, SourceSpecific, GroupRefusal, badFamily, badGroup, GroupRule}
+use Rattle.nlri.proofs.Lengths.{good-family, family-good}
 use Rattle.nlri.proofs.Faults.{family-refused}
 
 -- a class by three tests: the size, the multicast range, the range of SSM
@@ -129,62 +129,78 @@ specific-good afi g (SourceSpecific.ipv6 size first second third fourth) = inr r
 
 -- each answer by the tests
 record Answers (multi spec : Bool) (o : Outcome ℕ) : Type 0 where
-  family : o ≡ refused FAMILY → ⊥
-  flow : (o ≡ refused FLOW) ↔ (multi ≡ true → ⊥)
+  refuses : (n : ℕ) → (o ≡ refused n) ↔ ((n ≡ FLOW) × (multi ≡ true → ⊥))
   ssm : (o ≡ given SSM) ↔ (spec ≡ true)
   asm : (o ≡ given ASM) ↔ ((multi ≡ true) × (spec ≡ true → ⊥))
 
 answers : (multi spec : Bool) (o : Outcome ℕ) → Shaped multi spec o → Answers multi spec o
 answers multi spec o specific =
     record {
-      family = λ e. never refl e;
-      flow = (λ e. absurd (never refl e), λ h. absurd (h refl));
+      refuses = λ n. (λ e. absurd (never refl e), λ h. absurd (h .1 refl));
       ssm = (λ e. refl, λ e. refl);
       asm = (λ e. absurd (omega (arith, given-same e)), λ h. absurd (h .1 refl));
     }
 answers multi spec o any =
     record {
-      family = λ e. never refl e;
-      flow = (λ e. absurd (never refl e), λ h. absurd (h refl));
+      refuses = λ n. (λ e. absurd (never refl e), λ h. absurd (h .1 refl));
       ssm = (λ e. absurd (omega (arith, given-same e)), λ e. absurd (opposite e refl));
       asm = (λ e. (refl, λ q. opposite q refl), λ h. refl);
     }
 answers multi spec o neither =
     record {
-      family = λ e. omega (arith, refused-same {A = ℕ} e);
-      flow = (λ e q. opposite q refl, λ h. refl);
+      refuses = λ n. (λ e. (sym (refused-same {A = ℕ} e), λ q. opposite q refl), λ h. ap refused (sym (h .0)));
       ssm = (λ e. absurd (never e refl), λ e. absurd (opposite e refl));
       asm = (λ e. absurd (never e refl), λ h. absurd (opposite (h .0) refl));
     }
 
 -- of a good family, what the tests say; else FAMILY
 record Class (afi : ℕ) (g : List ℕ) : Type 0 where
-  family : (classOf afi g ≡ refused FAMILY) ↔ ((afi ≡ 1 → ⊥) × (afi ≡ 2 → ⊥))
-  flow : (classOf afi g ≡ refused FLOW) ↔ (((afi ≡ 1) ⊎ (afi ≡ 2)) × (Multicast afi g → ⊥))
+  refuses : (n : ℕ) → (classOf afi g ≡ refused n) ↔ GroupRefusal afi g n
   ssm : (classOf afi g ≡ given SSM) ↔ SourceSpecific afi g
   asm : (classOf afi g ≡ given ASM) ↔ (Multicast afi g × (SourceSpecific afi g → ⊥))
 
-class : (afi : ℕ) (g : List ℕ) → Class afi g
-class afi g =
-    ⊎-elim
-    (λ good.
-    let t = tests afi g good in
-    let a = answers (t .multi) (t .spec) (classOf afi g) (t .is) in
-    record {
-      family = (λ e. absurd (a .family e), λ h. absurd (⊎-elim (h .0) (h .1) good));
-      flow = (λ e. (good, λ m. a .flow .0 e (t .multicast .1 m)), λ h. a .flow .1 (λ m. h .1 (t .multicast .0 m)));
-      ssm = (λ e. t .specific .0 (a .ssm .0 e), λ s. a .ssm .1 (t .specific .1 s));
-      asm = (λ e. let p = a .asm .0 e in (t .multicast .0 (p .0), λ s. p .1 (t .specific .1 s)), λ h. a .asm .1 (t .multicast .1 (h .0), λ s. h .1 (t .specific .0 s)));
-    })
-    (λ bad.
-    let none : (afi ≡ 1) ⊎ (afi ≡ 2) → ⊥ = ⊎-elim (bad .0 .0) (bad .0 .1) in
-    record {
-      family = (λ e. bad .0, λ h. bad .1);
-      flow = (λ e. absurd (omega (arith, refused-same {A = ℕ} (sym (bad .1) ∙ e))), λ h. absurd (none (h .0)));
-      ssm = (λ e. absurd (never e (bad .1)), λ s. absurd (none (specific-good afi g s)));
-      asm = (λ e. absurd (never e (bad .1)), λ h. absurd (none (multicast-good afi g (h .0))));
-    })
-    (family-of afi g)
+module _ (afi : ℕ) (g : List ℕ) where
+  good-class : (afi ≡ 1) ⊎ (afi ≡ 2) → Class afi g
+  good-class good =
+      record {
+        refuses = λ n. (cause n, caused n);
+        ssm = (λ e. t .specific .0 (a .ssm .0 e), λ s. a .ssm .1 (t .specific .1 s));
+        asm = (λ e. let p = a .asm .0 e in (t .multicast .0 (p .0), λ s. p .1 (t .specific .1 s)), λ h. a .asm .1 (t .multicast .1 (h .0), λ s. h .1 (t .specific .0 s)));
+      }
+    where
+      t : Tests afi g
+      t = tests afi g good
+
+      a : Answers (t .multi) (t .spec) (classOf afi g)
+      a = answers (t .multi) (t .spec) (classOf afi g) (t .is)
+
+      cause : (n : ℕ) → classOf afi g ≡ refused n → GroupRefusal afi g n
+      cause n e =
+          let p = a .refuses n .0 e in
+          let family = family-good afi good in
+          subst (GroupRefusal afi g) (sym (p .0)) (badGroup (family .0) (family .1) (λ m. p .1 (t .multicast .1 m)))
+
+      caused : (n : ℕ) → GroupRefusal afi g n → classOf afi g ≡ refused n
+      caused n (badFamily one two) = absurd (⊎-elim one two good)
+      caused n (badGroup bits ofFamily none) = a .refuses n .1 (refl, λ m. none (t .multicast .0 m))
+
+  bad-class : ((afi ≡ 1 → ⊥) × (afi ≡ 2 → ⊥)) → classOf afi g ≡ refused FAMILY → Class afi g
+  bad-class bad e =
+      record {
+        refuses = λ n. (λ q. subst (GroupRefusal afi g) (refused-same {A = ℕ} (sym e ∙ q)) (badFamily (bad .0) (bad .1)), caused n);
+        ssm = (λ q. absurd (never q e), λ s. absurd (none (specific-good afi g s)));
+        asm = (λ q. absurd (never q e), λ h. absurd (none (multicast-good afi g (h .0))));
+      }
+    where
+      none : (afi ≡ 1) ⊎ (afi ≡ 2) → ⊥
+      none = ⊎-elim (bad .0) (bad .1)
+
+      caused : (n : ℕ) → GroupRefusal afi g n → classOf afi g ≡ refused n
+      caused n (badFamily one two) = e
+      caused n (badGroup bits ofFamily other) = absurd (none (good-family afi bits ofFamily))
+
+  class : Class afi g
+  class = ⊎-elim good-class (λ bad. bad-class (bad .0) (bad .1)) (family-of afi g)
 
 pub groupRule : GroupRule
-groupRule = record { family = λ afi g. class afi g .family; flow = λ afi g. class afi g .flow; ssm = λ afi g. class afi g .ssm; asm = λ afi g. class afi g .asm }
+groupRule = record { refuses = λ afi g. class afi g .refuses; ssm = λ afi g. class afi g .ssm; asm = λ afi g. class afi g .asm }

@@ -1,13 +1,13 @@
 -- Reading refuses exactly as the first fault says (document 01, "The numbers a call gives back").
 use mathlib.Core.Path.{_≡_, refl, sym, _∙_, ap, subst}
-use mathlib.Core.Bool.{false}
+use mathlib.Core.Bool.{true, false}
 use mathlib.Core.Logic.{_⊎_, inl, inr, ⊎-elim}
-use mathlib.Core.List.{List, [], _∷_, _++_}
+use mathlib.Core.List.{List, [], _∷_, _++_, append-nil}
 use Prim.Native.Nat.{ℕ, _*_, _/_, _≤_, _<_}
 use native.Mathlib.Omega.{arith}
 use borrow.Author.Tests.{eqb-true, eqb-false, eq-eqb, ne-eqb, ltb-true, lt-ltb, leb-true, le-leb}
-use lib.ListN.{length, getD, take, drop, take-append-drop}
-use lib.Seq.{drop-append-seam, drop-length}
+use lib.ListN.{length, getD, take, drop, length-drop, take-append-drop}
+use lib.Seq.{length-take-le, take-length, drop-append-seam, drop-length}
 use Rattle.octets.specs.Numbers.{LENGTH, WIDTH, KEY, FAMILY}
 use Rattle.octets.specs.Outcome.{given, refused}
 use Rattle.octets.specs.Octets.{AllOctets}
@@ -16,12 +16,14 @@ use Rattle.octets.proofs.Tests.{goes, stops}
 use Rattle.octets.proofs.Inversions.{never}
 use Rattle.octets.proofs.Refusals.{refused-same, picked, stopped, outcome, refuses-where, refuses-unless}
 use Rattle.octets.proofs.AllOctets.{octets-drop}
-use Rattle.nlri.specs.Family.{familyBits, isOriginatorSize}
+use Rattle.octets.proofs.Lists.{front-rest}
+use Rattle.nlri.specs.Family.{familyBits, allowed, isOriginatorSize}
 use Rattle.nlri.specs.Bodies.{FieldKind, distinguisher, sourceAs, source, group, originator, key}
-use Rattle.nlri.specs.Fields.{Fields, encodeField, KeyOf}
+use Rattle.nlri.specs.Fields.{encodeAddress, KeyOf}
 use Rattle.nlri.specs.Reading.{fixedField, addressEnd, addressField, originatorField, fieldSize, sizesOf, keyField}
-use Rattle.nlri.specs.Statements.{Closes, AddressFault, missing, width, ends, Fault, Faulty, remains, here, later}
-use Rattle.nlri.proofs.Judged.{Judges, fieldsFrom, originator-given, field-sound, field-complete}
+use Rattle.nlri.specs.Statements.{AddressAt, FieldAt, AddressFault, missing, width, ends, Fault, Faulty, remains, here, later}
+use Rattle.nlri.proofs.Sizes.{fixed-is}
+use Rattle.nlri.proofs.Judged.{Judges, AddressRead, address-given, address-stands, fixed-stands, originator-given}
 use Rattle.nlri.proofs.Keys.{key-judges}
 
 fixed-refused : (m n : ℕ) (s : List ℕ) → fixedField m s ≡ refused n → (length s < m) × (n ≡ LENGTH)
@@ -58,6 +60,28 @@ originator-refuses : (n : ℕ) (s : List ℕ) → (isOriginatorSize (length s) �
 unfolding originatorField
 originator-refuses n s h = pick-false _ _ _ (h .0) ∙ ap refused (sym (h .1))
 
+length-fixed : (m n : ℕ) (s : List ℕ) → fixedField m s ≡ given n → length (take n s) ≡ m
+length-fixed m n s e = let p = fixed-is m n s e in rw (sym (p .0)) (length-take-le m s (p .1))
+
+-- an address by its length octet and by its encoding
+address-encoded : (bits type : ℕ) (a : List ℕ) → allowed bits type (8 * length a) ≡ true → AddressAt bits type (encodeAddress a)
+unfolding encodeAddress
+address-encoded bits type a h = (omega arith, h, omega arith)
+
+read-address : (bits type : ℕ) (x : List ℕ) → AddressRead bits type x → AddressAt bits type x
+read-address bits type x r = subst (AddressAt bits type) (r .encoded) (address-encoded bits type (drop 1 x) (r .fits))
+
+address-whole : (bits type : ℕ) (x : List ℕ) → AddressAt bits type x → (encodeAddress (drop 1 x) ≡ x) × (allowed bits type (8 * length (drop 1 x)) ≡ true)
+unfolding encodeAddress
+address-whole bits type x h =
+    let octet : 8 * length (drop 1 x) ≡ getD x 0 0 = rw length-drop (h .2) in
+    (ap (λ (n : ℕ). n ∷ drop 1 x) octet ∙ sym (front-rest x (h .0)), ap (allowed bits type) octet ∙ h .1)
+
+address-reads : (bits type : ℕ) (x t : List ℕ) → AddressAt bits type x → addressField bits type (x ++ t) ≡ given (length x)
+address-reads bits type x t h =
+    let p = address-whole bits type x h in
+    subst (λ (y : List ℕ). addressField bits type (y ++ t) ≡ given (length y)) (p .0) (address-stands bits type (drop 1 x) t (p .1))
+
 module _ (bits : ℕ) (whole : 8 * (bits / 8) ≡ bits) where
   judges : Judges (keyField bits) (KeyOf bits)
   judges = key-judges bits whole
@@ -83,15 +107,27 @@ module _ (bits : ℕ) (whole : 8 * (bits / 8) ≡ bits) where
       ⊎-elim (λ yes. let p = judges .sound s (yes .0) a (yes .1) in absurd (h .0 (yes .0) (p .0) (p .1)))
       (λ no. no .1 ∙ ap refused (judges .refuses s (no .0) (no .1) ∙ sym (h .1))) (outcome (keyField bits s))
 
-  -- what stands after a field that was read
-  field-closes : (type : ℕ) (k : FieldKind) (s : List ℕ) (n : ℕ) → fieldSize (keyField bits) bits type k s ≡ given n → Closes k (drop n s)
+  -- a field that was read stands at the front
+  field-at : (type : ℕ) (k : FieldKind) (s : List ℕ) (n : ℕ) → AllOctets s → fieldSize (keyField bits) bits type k s ≡ given n → FieldAt bits type k (take n s) (drop n s)
   unfolding fieldSize
-  field-closes type distinguisher s n e = tt
-  field-closes type sourceAs s n e = tt
-  field-closes type source s n e = tt
-  field-closes type group s n e = tt
-  field-closes type originator s n e = ap (λ (m : ℕ). drop m s) (originator-given n s e .1) ∙ drop-length s
-  field-closes type key s n e = tt
+  field-at type distinguisher s n a e = length-fixed 8 n s e
+  field-at type sourceAs s n a e = length-fixed 4 n s e
+  field-at type source s n a e = read-address bits type (take n s) (address-given bits type n s whole a e .1)
+  field-at type group s n a e = read-address bits type (take n s) (address-given bits type n s whole a e .1)
+  field-at type originator s n a e =
+      let p = originator-given n s e in
+      (rw (p .1, take-length) (p .0), ap (λ (m : ℕ). drop m s) (p .1) ∙ drop-length s)
+  field-at type key s n a e = judges .sound s n a e .1
+
+  -- and a field that stands at the front is read
+  field-reads : (type : ℕ) (k : FieldKind) (x t : List ℕ) → FieldAt bits type k x t → fieldSize (keyField bits) bits type k (x ++ t) ≡ given (length x)
+  unfolding fieldSize originatorField
+  field-reads type distinguisher x t h = fixed-stands 8 x t h
+  field-reads type sourceAs x t h = fixed-stands 4 x t h
+  field-reads type source x t h = address-reads bits type x t h
+  field-reads type group x t h = address-reads bits type x t h
+  field-reads type originator x t h = rw (h .1, append-nil) (pick-true _ _ _ (h .0))
+  field-reads type key x t h = judges .complete x t h
 
   pub body-refused : (type : ℕ) (body : List FieldKind) (s : List ℕ) (n : ℕ) → AllOctets s → sizesOf (fieldSize (keyField bits) bits type) body s ≡ refused n → Faulty bits type body s n
   unfolding sizesOf
@@ -103,9 +139,7 @@ module _ (bits : ℕ) (whole : 8 * (bits / 8) ≡ bits) where
       ⊎-elim (λ first. here (field-refused type k s n first))
       (λ next.
       let m : ℕ = next .value in
-      let p = field-sound (keyField bits) (KeyOf bits) judges bits whole type k s m (λ _. take m s) a (next .first) refl in
-      later (take m s) (drop m s) (sym (take-append-drop m s))
-      (record { fields = fieldsFrom type (λ _. take m s); typed = refl; wellFormed = p .1; encoded = sym (p .2); last = field-closes type k s m (next .first) })
+      later (take m s) (drop m s) (sym (take-append-drop m s)) (field-at type k s m a (next .first))
       (body-refused type body (drop m s) n (octets-drop m a) (⊎-elim (λ rest. rest) (λ none. absurd (never refl (none .second))) (stopped _ _ _ (next .second)))))
       (stopped _ _ _ e)
 
@@ -114,13 +148,9 @@ module _ (bits : ℕ) (whole : 8 * (bits / 8) ≡ bits) where
   faulty-refuses type body s n a (remains h) = pick-false _ _ _ (ne-eqb (length s) 0 (λ e. omega arith))
   faulty-refuses type body s n a (here {k = k} fault) = sym (stops _ _ _ (fault-refuses type k s n a fault))
   faulty-refuses type body s n a (later {k = k} {body = rest} x t e at fault) =
-      let f : Fields = at .fields in
-      let whole-s : s ≡ encodeField f k ++ t = e ∙ ap (λ (y : List ℕ). y ++ t) (at .encoded) in
-      let size : fieldSize (keyField bits) bits type k s ≡ given (length (encodeField f k)) =
-      ap (fieldSize (keyField bits) bits type k) whole-s ∙ ap (λ (m : ℕ). fieldSize (keyField bits) bits m k (encodeField f k ++ t)) (sym (at .typed))
-      ∙ field-complete (keyField bits) (KeyOf bits) judges bits whole f k t (at .wellFormed) (at .last) in
-      let remainder : drop (length (encodeField f k)) s ≡ t = ap (drop (length (encodeField f k))) whole-s ∙ drop-append-seam (encodeField f k) t in
-      let o : AllOctets t = subst AllOctets remainder (octets-drop (length (encodeField f k)) a) in
+      let size : fieldSize (keyField bits) bits type k s ≡ given (length x) = ap (fieldSize (keyField bits) bits type k) e ∙ field-reads type k x t at in
+      let remainder : drop (length x) s ≡ t = ap (drop (length x)) e ∙ drop-append-seam x t in
+      let o : AllOctets t = subst AllOctets remainder (octets-drop (length x) a) in
       sym (goes _ _ _ _ size (stops _ _ _ (ap (sizesOf (fieldSize (keyField bits) bits type) rest) remainder ∙ faulty-refuses type rest t n o fault)))
 
 address-numbers : (bits type : ℕ) (s : List ℕ) (n : ℕ) → AddressFault bits type s n → (n ≡ LENGTH) ⊎ (n ≡ WIDTH) ⊎ (n ≡ KEY)

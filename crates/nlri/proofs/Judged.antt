@@ -1,7 +1,7 @@
 -- A field is read exactly where it stands encoded and well-formed, for every judge of keys.
 use mathlib.Core.Path.{_≡_, sym, _∙_, ap, subst}
 use mathlib.Core.Bool.{true}
-use mathlib.Core.List.{List, _∷_, _++_, append-nil}
+use mathlib.Core.List.{List, [], _∷_, _++_, append-nil}
 use Prim.Native.Nat.{ℕ, suc, _+_, _*_, _/_, _-_, _≤_, _<_}
 use native.Mathlib.Omega.{arith}
 use borrow.Author.Tests.{ne-eqb, le-ltb, leb-false, lt-leb}
@@ -19,7 +19,6 @@ use Rattle.nlri.specs.Family.{allowed, isOriginatorSize}
 use Rattle.nlri.specs.Bodies.{FieldKind, distinguisher, sourceAs, source, group, originator, key}
 use Rattle.nlri.specs.Fields.{Fields, encodeAddress, encodeField, WellFormedField}
 use Rattle.nlri.specs.Reading.{fixedField, addressEnd, addressField, originatorField, fieldSize}
-use Rattle.nlri.specs.Statements.{Closes}
 use Rattle.nlri.proofs.Table.{most}
 use Rattle.nlri.proofs.Sizes.{fixed-is}
 use Rattle.nlri.proofs.Lengths.{whole-octets, address-most, originator-most}
@@ -29,6 +28,15 @@ pub record Judges (judge : List ℕ → Outcome ℕ) (Key : List ℕ → Type 0)
   pub sound : (s : List ℕ) (n : ℕ) → AllOctets s → judge s ≡ given n → (n ≤ length s) × Key (take n s)
   pub complete : (k t : List ℕ) → Key k → judge (k ++ t) ≡ given (length k)
   pub refuses : (s : List ℕ) (n : ℕ) → judge s ≡ refused n → n ≡ KEY
+
+-- an originator is what remains
+abbrev pub Closes : FieldKind → List ℕ → Type 0
+Closes distinguisher t = Unit {0}
+Closes sourceAs t = Unit {0}
+Closes source t = Unit {0}
+Closes group t = Unit {0}
+Closes originator t = t ≡ []
+Closes key t = Unit {0}
 
 -- the fields whose encodings a function gives
 abbrev pub fieldsFrom : ℕ → (FieldKind → List ℕ) → Fields
@@ -43,17 +51,17 @@ fieldsFrom type field =
       key = field key;
     }
 
-fixed-stands : (m : ℕ) (x t : List ℕ) → length x ≡ m → fixedField m (x ++ t) ≡ given (length x)
+pub fixed-stands : (m : ℕ) (x t : List ℕ) → length x ≡ m → fixedField m (x ++ t) ≡ given (length x)
 unfolding fixedField
 fixed-stands m x t e = pick-false _ _ _ (le-ltb (length (x ++ t)) m (simp length-append (omega arith))) ∙ ap given (sym e)
 
 -- an address read, as its octets encoded
-record AddressRead (bits type : ℕ) (piece : List ℕ) : Type 0 where
+pub record AddressRead (bits type : ℕ) (piece : List ℕ) : Type 0 where
   pub fits : allowed bits type (8 * length (drop 1 piece)) ≡ true
   pub octets : AllOctets (drop 1 piece)
   pub encoded : encodeAddress (drop 1 piece) ≡ piece
 
-address-given : (bits type n : ℕ) (s : List ℕ) → 8 * (bits / 8) ≡ bits → AllOctets s → addressField bits type s ≡ given n → (n ≤ length s) × AddressRead bits type (take n s)
+pub address-given : (bits type n : ℕ) (s : List ℕ) → 8 * (bits / 8) ≡ bits → AllOctets s → addressField bits type s ≡ given n → (n ≤ length s) × AddressRead bits type (take n s)
 unfolding addressField addressEnd encodeAddress
 address-given bits type n s whole a e =
     let p = given-otherwise _ _ _ _ e in
@@ -73,7 +81,7 @@ address-given bits type n s whole a e =
       },
     )
 
-address-stands : (bits type : ℕ) (x t : List ℕ) → allowed bits type (8 * length x) ≡ true → addressField bits type (encodeAddress x ++ t) ≡ given (length (encodeAddress x))
+pub address-stands : (bits type : ℕ) (x t : List ℕ) → allowed bits type (8 * length x) ≡ true → addressField bits type (encodeAddress x ++ t) ≡ given (length (encodeAddress x))
 unfolding addressField addressEnd encodeAddress
 address-stands bits type x t h =
     pick-false _ _ _ (ne-eqb (suc (length (x ++ t))) 0 (λ e. omega arith))

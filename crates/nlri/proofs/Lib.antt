@@ -28,6 +28,9 @@ pub mod RoundTrips
 pub mod Faults
 pub mod ReadRefusals
 pub mod WriteRefusals
+pub mod Layouts
+pub mod StepCases
 pub mod Walks
+pub mod Apart
 pub mod Classes
 pub mod Theorems

@@ -6,7 +6,7 @@ use mathlib.Core.List.{List, _++_}
 use Prim.Native.Nat.{ℕ, suc, _+_, _*_, _/_, _-_, _<_}
 use native.Mathlib.Omega.{arith}
 use borrow.Author.Tests.{eqb-false, ne-eqb, ltb-true, ltb-false, lt-ltb}
-use lib.ListN.{length, getD, drop, length-append, length-drop, take-append-drop}
+use lib.ListN.{length, getD, drop, length-append, length-drop}
 use lib.Dec.{ltb}
 use Rattle.octets.specs.Numbers.{DONE, SHORT, TYPE, LENGTH, FAMILY}
 use Rattle.octets.specs.Outcome.{given, refused}
@@ -22,10 +22,10 @@ use Rattle.nlri.specs.Fields.{Fields, encodeBody, encodeNlri, WellFormed
 use Rattle.nlri.specs.Reading.{Laid, keyField, laidWith, laidAt, laidSingle, readNlri}
 use Rattle.nlri.specs.Statements.{TooShort, KnownType, Faulty, FrontRefusal, short, badType, badBody, ReadRefusal, badFamily, front, after, ReadRefusals}
 use Rattle.nlri.proofs.Table.{on-body, known, rowOf, unlisted}
-use Rattle.nlri.proofs.Lengths.{good-family, family-good, family-octets}
-use Rattle.nlri.proofs.Whole.{laid-out, laid-sound, laid-complete, fieldsAt}
+use Rattle.nlri.proofs.Lengths.{family-octets}
+use Rattle.nlri.proofs.Whole.{laid-out, laid-complete}
 use Rattle.nlri.proofs.Keys.{key-judges}
-use Rattle.nlri.proofs.Acceptance.{acceptance}
+use Rattle.nlri.proofs.Acceptance.{acceptance, front-sound}
 use Rattle.nlri.proofs.Faults.{body-refused, faulty-refuses, faulty-numbers, family-refused, family-refuses}
 
 module _ (afi bits : ℕ) (ofFamily : familyBits afi ≡ given bits) (s : List ℕ) (a : AllOctets s) where
@@ -60,15 +60,13 @@ module _ (afi bits : ℕ) (ofFamily : familyBits afi ≡ given bits) (s : List �
       (λ next.
       let laid : Laid = next .value in
       let o = laid-out (keyField bits) bits s laid (next .first) in
-      let r = laid-sound (keyField bits) (KeyOf bits) (key-judges bits whole) bits whole s laid a (next .first) in
+      let r = front-sound afi bits ofFamily s laid a (next .first) in
       ⊎-elim (λ same. absurd (never refl (same .1)))
       (λ more.
       let other : length s - 2 ≡ laid .size → ⊥ = eqb-false (length s - 2) (laid .size) (more .0) in
       let some : 0 < length (drop (2 + laid .size) s) = rw length-drop (omega (arith, o .fits, o .enough)) in
       subst (ReadRefusal afi s) (refused-same {A = Laid} (more .1))
-      (after bits (fieldsAt (keyField bits) (KeyOf bits) (key-judges bits whole) bits whole s laid) (drop (2 + laid .size) s) ofFamily
-      (record { typed = (o .row .low, o .row .high); body = r .0 })
-      (sym (take-append-drop (2 + laid .size) s) ∙ ap (λ (x : List ℕ). x ++ drop (2 + laid .size) s) (r .1)) some))
+      (after bits (r .fields) (drop (2 + laid .size) s) ofFamily (r .wellFormed) (r .is) some))
       (picked _ _ _ _ (next .second)))
       (stopped _ _ _ e)
 
@@ -132,37 +130,16 @@ refusal-complete afi s n a (badFamily one two) = sym (stops _ _ _ (family-refuse
 refusal-complete afi s n a (front bits ofFamily h) = front-stops afi bits ofFamily s a n h
 refusal-complete afi s n a (after bits f t ofFamily w e some) = read-stops afi bits ofFamily s a LENGTH (single-after afi bits ofFamily s a f t w e some)
 
--- a body's number is another than FAMILY, SHORT, TYPE and DONE
-faulty-other : (bits type : ℕ) (s : List ℕ) (n : ℕ) → Faulty bits type (bodyOf type) s n → (n ≡ FAMILY → ⊥) × (n ≡ SHORT → ⊥) × (n ≡ TYPE → ⊥) × (n ≡ DONE → ⊥)
-faulty-other bits type s n fault = ⊎-elim (λ e. omega arith) (λ rest. ⊎-elim (λ e. omega arith) (λ e. omega arith) rest) (faulty-numbers bits type (bodyOf type) s n fault)
+-- no refusal is DONE
+pub front-not-done : (bits : ℕ) (s : List ℕ) (n : ℕ) → FrontRefusal bits s n → n ≡ DONE → ⊥
+front-not-done bits s n (short h) e = omega arith
+front-not-done bits s n (badType h t) e = omega arith
+front-not-done bits s n (badBody h t fault) e = ⊎-elim (λ p. omega arith) (λ rest. ⊎-elim (λ p. omega arith) (λ p. omega arith) rest) (faulty-numbers bits _ _ _ n fault)
 
 pub not-done : (afi : ℕ) (s : List ℕ) (n : ℕ) → ReadRefusal afi s n → n ≡ DONE → ⊥
 not-done afi s n (badFamily one two) e = omega arith
-not-done afi s n (front bits ofFamily (short h)) e = omega arith
-not-done afi s n (front bits ofFamily (badType h t)) e = omega arith
-not-done afi s n (front bits ofFamily (badBody h t fault)) e = faulty-other bits _ _ n fault .3 e
+not-done afi s n (front bits ofFamily h) e = front-not-done bits s n h e
 not-done afi s n (after bits f t ofFamily w q some) e = omega arith
-
-by-family : (afi : ℕ) (s : List ℕ) (n : ℕ) → ReadRefusal afi s n → n ≡ FAMILY → (afi ≢ 1) × (afi ≢ 2)
-by-family afi s n (badFamily one two) e = (one, two)
-by-family afi s n (front bits ofFamily (short h)) e = absurd (omega arith)
-by-family afi s n (front bits ofFamily (badType h t)) e = absurd (omega arith)
-by-family afi s n (front bits ofFamily (badBody h t fault)) e = absurd (faulty-other bits _ _ n fault .0 e)
-by-family afi s n (after bits f t ofFamily w q some) e = absurd (omega arith)
-
-by-short : (afi : ℕ) (s : List ℕ) (n : ℕ) → ReadRefusal afi s n → n ≡ SHORT → ((afi ≡ 1) ⊎ (afi ≡ 2)) × TooShort s
-by-short afi s n (badFamily one two) e = absurd (omega arith)
-by-short afi s n (front bits ofFamily (short h)) e = (good-family afi bits ofFamily, h)
-by-short afi s n (front bits ofFamily (badType h t)) e = absurd (omega arith)
-by-short afi s n (front bits ofFamily (badBody h t fault)) e = absurd (faulty-other bits _ _ n fault .1 e)
-by-short afi s n (after bits f t ofFamily w q some) e = absurd (omega arith)
-
-by-type : (afi : ℕ) (s : List ℕ) (n : ℕ) → ReadRefusal afi s n → n ≡ TYPE → ((afi ≡ 1) ⊎ (afi ≡ 2)) × (TooShort s → ⊥) × (KnownType (getD s 0 0) → ⊥)
-by-type afi s n (badFamily one two) e = absurd (omega arith)
-by-type afi s n (front bits ofFamily (short h)) e = absurd (omega arith)
-by-type afi s n (front bits ofFamily (badType h t)) e = (good-family afi bits ofFamily, h, t)
-by-type afi s n (front bits ofFamily (badBody h t fault)) e = absurd (faulty-other bits _ _ n fault .2 e)
-by-type afi s n (after bits f t ofFamily w q some) e = absurd (omega arith)
 
 pub readRefusals : ReadRefusals
 readRefusals =
@@ -173,14 +150,5 @@ readRefusals =
       one = λ afi s m n a p q. refused-same {A = Fields} (sym (refusal-complete afi s m a p) ∙ refusal-complete afi s n a q);
       never = λ afi s f n a p q. never (acceptance .exactly afi s f a .1 p) (refusal-complete afi s n a q);
       done = λ afi s h. not-done afi s DONE h refl;
-      family = λ afi s a. (λ e. by-family afi s FAMILY (refusal-sound afi s FAMILY a e) refl, λ h. refusal-complete afi s FAMILY a (badFamily (h .0) (h .1)));
-      short = λ afi s a. (
-        λ e. by-short afi s SHORT (refusal-sound afi s SHORT a e) refl,
-        λ h. let g = family-good afi (h .0) in refusal-complete afi s SHORT a (front (g .0) (g .1) (short (h .1))),
-      );
-      type = λ afi s a. (
-        λ e. by-type afi s TYPE (refusal-sound afi s TYPE a e) refl,
-        λ h. let g = family-good afi (h .0) in refusal-complete afi s TYPE a (front (g .0) (g .1) (badType (h .1) (h .2))),
-      );
       bodies = faulty-numbers;
     }

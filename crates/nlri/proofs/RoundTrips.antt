@@ -1,8 +1,8 @@
 -- Reading and writing undo each other.
-use mathlib.Core.Path.{_≡_, refl, sym, _∙_, ap}
+use mathlib.Core.Path.{_≡_, refl, sym, _∙_, ap, subst}
 use mathlib.Core.Bool.{Bool, true, false}
 use mathlib.Core.List.{List, [], _++_}
-use Prim.Native.Nat.{ℕ, _≤_}
+use Prim.Native.Nat.{ℕ, _^_, _≤_, _<_}
 use native.Mathlib.Omega.{arith}
 use borrow.Author.Tests.{le-ltb, eqb-true, eqb-false}
 use lib.ListN.{length, take, drop}
@@ -11,7 +11,7 @@ use lib.Dec.{eqb}
 use Rattle.octets.specs.Numbers.{DONE}
 use Rattle.octets.specs.Choice.{pick}
 use Rattle.octets.specs.Outcome.{Outcome, given, refused, onOutcome}
-use Rattle.octets.specs.Octets.{AllOctets, part}
+use Rattle.octets.specs.Octets.{AllOctets, none, part}
 use Rattle.octets.proofs.Outcomes.{pick-cong, pick-true, pick-false}
 use Rattle.octets.proofs.Inversions.{passed}
 use Rattle.octets.proofs.AllOctets.{octets-sized}
@@ -25,6 +25,7 @@ use Rattle.nlri.specs.Answers.{addressStruct, distinguisherStruct, addre
 use Rattle.nlri.specs.declared.fields.Nlri.{Nlri}
 use Rattle.nlri.specs.Statements.{ReadAs, HoldsOctets, StructHoldsOctets, RoundTrips}
 use Rattle.nlri.proofs.Table.{rowOf, known}
+use Rattle.nlri.proofs.Keys.{key-octets}
 use Rattle.nlri.proofs.ReadRefusals.{readRefusals, not-done}
 use Rattle.nlri.proofs.Lengths.{address-most, originator-most, family-octets}
 use Rattle.nlri.proofs.Acceptance.{field-in-body, read-sound, read-encoded}
@@ -42,6 +43,34 @@ read-written afi f space e held w =
     let p = passed _ _ _ (sym (write-is afi f space) ∙ w) in
     let r = written afi (p .value) (p .first) f held space e w in
     ap (readNlri afi) (sym (r .1)) ∙ read-encoded afi (p .value) f (p .first) (r .0)
+
+-- what a field that the type has holds of octets, a field that is nothing where the type lacks it holds too
+octets-pick : (b : Bool) (x : List ℕ) → pick b x [] ≡ x → (b ≡ true → AllOctets x) → AllOctets x
+unfolding pick
+octets-pick true x e h = h refl
+octets-pick false x e h = subst AllOctets e none
+
+number-pick : (b : Bool) (x : ℕ) → pick b x 0 ≡ x → (b ≡ true → x < 2 ^ 32) → x < 2 ^ 32
+unfolding pick
+number-pick true x e h = h refl
+number-pick false x e h = omega arith
+
+read-held : (afi : ℕ) (s : List ℕ) (f : Fields) → AllOctets s → readNlri afi s ≡ given f → HoldsOctets f
+unfolding restricted
+read-held afi s f a e =
+    let r = read-sound afi s f a e in
+    let body : List FieldKind = bodyOf (f .type) in
+    let small : r .bits ≤ 128 = family-octets afi (r .bits) (r .ofFamily) .1 in
+    let at : (k : FieldKind) → hasField k body ≡ true → WellFormedField (KeyOf (r .bits)) (r .bits) f k = λ k h. field-in-body (KeyOf (r .bits)) (r .bits) f k body (r .wellFormed .body) h in
+    record {
+      distinguisherSize = λ h. at distinguisher h .0;
+      distinguisher = octets-pick _ _ (ap (λ (g : Fields). g .distinguisher) (r .whole)) (λ h. at distinguisher h .1);
+      sourceAs = number-pick _ _ (ap (λ (g : Fields). g .sourceAs) (r .whole)) (at sourceAs);
+      source = octets-pick _ _ (ap (λ (g : Fields). g .source) (r .whole)) (λ h. at source h .1);
+      group = octets-pick _ _ (ap (λ (g : Fields). g .group) (r .whole)) (λ h. at group h .1);
+      originator = octets-pick _ _ (ap (λ (g : Fields). g .originator) (r .whole)) (λ h. at originator h .1);
+      key = octets-pick _ _ (ap (λ (g : Fields). g .key) (r .whole)) (λ h. key-octets (r .bits) (family-octets afi (r .bits) (r .ofFamily) .0) small (f .key) (at key h) .1);
+    }
 
 -- an address as a struct, and back
 address-back : (x : List ℕ) → length x ≤ 16 → addressOctets (addressStruct x) ≡ x
@@ -74,7 +103,8 @@ struct-held : (nlri : Nlri) (octets : List ℕ) → StructHoldsOctets nlri → A
 unfolding structFields addressOctets
 struct-held nlri octets h k =
     record {
-      distinguisher = h .distinguisher;
+      distinguisherSize = λ _. h .distinguisher .0;
+      distinguisher = h .distinguisher .1;
       sourceAs = h .sourceAs;
       source = octets-sized _ (h .source);
       group = octets-sized _ (h .group);
@@ -120,6 +150,7 @@ roundTrips =
     record {
       written = write-read;
       read = read-written;
+      held = read-held;
       unseen = write-restricted;
       struct = struct-same;
       spanned = key-spanned;

@@ -21,14 +21,27 @@ use Rattle.nlri.specs.declared.run.Step.{Step}
 use Rattle.nlri.specs.declared.run.Step.the-variants.{Nlri, End, Refused}
 use Rattle.nlri.specs.Family.{familyBits}
 use Rattle.nlri.specs.Layouts.{layoutAt}
-use Rattle.nlri.specs.Walking.{Stepped, readTo, stoppedAt, stepUnder, stepFrom, steppedOf, walkFrom, walkOf}
+use Rattle.nlri.specs.Walking.{Stepped, readTo, endedAt, refusedAt, stepUnder, stepFrom, steppedOf, walkFrom, walkOf}
 use Rattle.nlri.specs.Inner.{layoutIn, Stands}
 use Rattle.nlri.proofs.Fronts.{layout-octets}
 use Rattle.nlri.proofs.Standing.{laid-in}
 
 -- the Length of an NLRI is its second octet
-layout-length : (bits : ℕ) (run : List ℕ) (at : ℕ) (l : Layout) → layoutAt bits (drop at run) ≡ given l → l .length ≡ getD run (at + 1) 0
-layout-length bits run at l e = layout-octets bits (drop at run) l e .3 ∙ getD-drop at run 1 0
+length-layout : (bits : ℕ) (run : List ℕ) (at : ℕ) (l : Layout) → layoutAt bits (drop at run) ≡ given l → l .length ≡ getD run (at + 1) 0
+length-layout bits run at l e = layout-octets bits (drop at run) l e .3 ∙ getD-drop at run 1 0
+
+-- a step that reads no NLRI, and its number: the run's end, or a refusal
+pub record Stops (s : Stepped) (number : ℕ) : Type 0 where
+  pub unread : s .read ≡ false
+  pub told : s .number ≡ number
+
+pub stops-at-end : (s : Stepped) (number at : ℕ) → number ≡ DONE → s ≡ endedAt at → Stops s number
+unfolding endedAt
+stops-at-end s number at z e = record { unread = ap (λ (x : Stepped). x .read) e; told = ap (λ (x : Stepped). x .number) e ∙ sym z }
+
+pub stops-at-refusal : (s : Stepped) (number at : ℕ) → s ≡ refusedAt number at → Stops s number
+unfolding refusedAt
+stops-at-refusal s number at e = record { unread = ap (λ (x : Stepped). x .read) e; told = ap (λ (x : Stepped). x .number) e }
 
 -- a step's number
 pub step-picks : (n : ℕ) (x y : Stepped) (b : Bool) → b ≡ true → n ≡ x .number → n ≡ pick b x y .number
@@ -39,8 +52,8 @@ pub step-skips : (n : ℕ) (x y : Stepped) (b : Bool) → b ≡ false → n ≡ 
 unfolding pick
 step-skips n x y b p q = rw p q
 
-step-on : (n at : ℕ) (next : Layout → ℕ) (o : Outcome Layout) → n ≡ numberOf o → n ≡ onOutcome (λ number. stoppedAt number at) (λ l. readTo l (next l)) o .number
-unfolding onOutcome numberOf stoppedAt readTo
+step-on : (n at : ℕ) (next : Layout → ℕ) (o : Outcome Layout) → n ≡ numberOf o → n ≡ onOutcome (λ number. refusedAt number at) (λ l. readTo l (next l)) o .number
+unfolding onOutcome numberOf refusedAt readTo
 step-on n at next (given l) e = e
 step-on n at next (refused m) e = e
 
@@ -54,24 +67,24 @@ step-fronts n bits run at short more within e =
 module _ (at : ℕ) (next : Layout → ℕ) (o : Outcome Layout) where
   abbrev stepBy : (long last past : Bool) → Stepped
   stepBy long last past =
-      pick long (stoppedAt LONG at)
-      (pick last (stoppedAt DONE at) (pick past (stoppedAt SHORT at) (onOutcome (λ number. stoppedAt number at) (λ l. readTo l (next l)) o)))
+      pick long (refusedAt LONG at)
+      (pick last (endedAt at) (pick past (refusedAt SHORT at) (onOutcome (λ number. refusedAt number at) (λ l. readTo l (next l)) o)))
 
-stops-by : (at : ℕ) (next : Layout → ℕ) (o : Outcome Layout) (long last past : Bool) → (stepBy at next o long last past .number ≡ 0 → ⊥) → stoppedAt (stepBy at next o long last past .number) at ≡ stepBy at next o long last past
-unfolding pick onOutcome stoppedAt readTo
+stops-by : (at : ℕ) (next : Layout → ℕ) (o : Outcome Layout) (long last past : Bool) → (stepBy at next o long last past .number ≡ DONE → ⊥) → refusedAt (stepBy at next o long last past .number) at ≡ stepBy at next o long last past
+unfolding pick onOutcome endedAt refusedAt readTo
 stops-by at next o true last past h = refl
-stops-by at next o false true past h = refl
+stops-by at next o false true past h = absurd (h refl)
 stops-by at next o false false true h = refl
 stops-by at next (given l) false false false h = absurd (h refl)
 stops-by at next (refused n) false false false h = refl
 
-ends-by : (at : ℕ) (next : Layout → ℕ) (o : Outcome Layout) (long past : Bool) → stepBy at next o long true past .number ≡ 0 → stoppedAt 0 at ≡ stepBy at next o long true past
-unfolding pick stoppedAt
+ends-by : (at : ℕ) (next : Layout → ℕ) (o : Outcome Layout) (long past : Bool) → stepBy at next o long true past .number ≡ DONE → endedAt at ≡ stepBy at next o long true past
+unfolding pick refusedAt
 ends-by at next o true past e = let z : ⊥ = omega arith in absurd z
 ends-by at next o false past e = refl
 
-reads-by : (at : ℕ) (next : Layout → ℕ) (o : Outcome Layout) (long past : Bool) → stepBy at next o long false past .number ≡ 0 → (long ≡ false) × (past ≡ false) × (numberOf o ≡ 0)
-unfolding pick onOutcome stoppedAt readTo numberOf
+reads-by : (at : ℕ) (next : Layout → ℕ) (o : Outcome Layout) (long past : Bool) → stepBy at next o long false past .number ≡ DONE → (long ≡ false) × (past ≡ false) × (numberOf o ≡ DONE)
+unfolding pick onOutcome refusedAt readTo numberOf
 reads-by at next o true past e = let z : ⊥ = omega arith in absurd z
 reads-by at next o false true e = let z : ⊥ = omega arith in absurd z
 reads-by at next (given l) false false e = (refl, refl, refl)
@@ -85,15 +98,15 @@ pub record Reads (bits : ℕ) (run : List ℕ) (at : ℕ) : Type 0 where
   pub is : layoutAt bits (drop at run) ≡ given (layoutIn (drop at run))
 
 module _ (bits : ℕ) (run : List ℕ) (at number : ℕ) (e : number ≡ stepUnder bits run at .number) where
-  pub step-stops : (number ≡ 0 → ⊥) → stoppedAt number at ≡ stepUnder bits run at
+  pub step-stops : (number ≡ DONE → ⊥) → refusedAt number at ≡ stepUnder bits run at
   unfolding stepUnder
-  step-stops h = ap (λ (n : ℕ). stoppedAt n at) e ∙ stops-by at (λ l. at + (2 + l .length)) _ _ _ _ (λ q. h (e ∙ q))
+  step-stops h = ap (λ (n : ℕ). refusedAt n at) e ∙ stops-by at (λ l. at + (2 + l .length)) _ _ _ _ (λ q. h (e ∙ q))
 
-  pub step-ends : number ≡ 0 → at ≡ length run → stoppedAt 0 at ≡ stepUnder bits run at
+  pub step-ends : number ≡ DONE → at ≡ length run → endedAt at ≡ stepUnder bits run at
   unfolding stepUnder
   step-ends z last = let b : eqb at (length run) ≡ true = eq-eqb _ _ last in rw b (ends-by at (λ l. at + (2 + l .length)) _ _ _ (rw b at (sym e ∙ z)))
 
-  pub step-reads : number ≡ 0 → (at ≡ length run → ⊥) → Reads bits run at
+  pub step-reads : number ≡ DONE → (at ≡ length run → ⊥) → Reads bits run at
   unfolding stepUnder
   step-reads z more =
       let b : eqb at (length run) ≡ false = ne-eqb _ _ more in
@@ -111,7 +124,7 @@ module _ (bits : ℕ) (run : List ℕ) (at : ℕ) (more : at ≡ length run → 
 
   -- by the Length octet in the run
   pub read-by-octet : readTo (layoutIn (drop at run)) (at + (2 + getD run (at + 1) 0)) ≡ stepUnder bits run at
-  read-by-octet = ap (λ (n : ℕ). readTo (layoutIn (drop at run)) (at + (2 + n))) (sym (layout-length bits run at _ (r .is))) ∙ read-under
+  read-by-octet = ap (λ (n : ℕ). readTo (layoutIn (drop at run)) (at + (2 + n))) (sym (length-layout bits run at _ (r .is))) ∙ read-under
 
 -- under an AFI
 pub step-under-is : (afi bits : ℕ) (run : List ℕ) (at : ℕ) (x : Stepped) → familyBits afi ≡ given bits → x ≡ stepUnder bits run at → stepFrom afi run at ≡ x
@@ -124,18 +137,19 @@ no-family true two n e = absurd (never refl e)
 no-family false true n e = absurd (never refl e)
 no-family false false n e = cc
 
-pub step-without : (afi n : ℕ) (run : List ℕ) (at : ℕ) → familyBits afi ≡ refused n → stepFrom afi run at ≡ stoppedAt FAMILY at
+pub step-without : (afi n : ℕ) (run : List ℕ) (at : ℕ) → familyBits afi ≡ refused n → stepFrom afi run at ≡ refusedAt FAMILY at
 unfolding stepFrom familyBits
-step-without afi n run at e = sym (on-refused (stoppedAt FAMILY at) _ n _ _ e (ap (λ (k : ℕ). stoppedAt k at) (no-family _ _ n e)))
+step-without afi n run at e = sym (on-refused (refusedAt FAMILY at) _ n _ _ e (ap (λ (k : ℕ). refusedAt k at) (no-family _ _ n e)))
 
-never-both : (number x c : ℕ) (l : Layout) → stoppedAt number x ≡ readTo l c → ⊥
-unfolding stoppedAt readTo
-never-both number x c l e = opposite {b = true} refl (sym (ap (λ (s : Stepped). s .read) e))
+never-both : (x : Stepped) (n c : ℕ) (l : Layout) → Stops x n → x ≡ readTo l c → ⊥
+unfolding readTo
+never-both x n c l s e = opposite (ap (λ (y : Stepped). y .read) e) (s .unread)
 
-unless-stopped : (b : Bool) (number x c : ℕ) (y : Stepped) (l : Layout) → pick b (stoppedAt number x) y ≡ readTo l c → (b ≡ false) × (y ≡ readTo l c)
+-- a step that read went past each stop
+past-stop : (b : Bool) (x y : Stepped) (n c : ℕ) (l : Layout) → Stops x n → pick b x y ≡ readTo l c → (b ≡ false) × (y ≡ readTo l c)
 unfolding pick
-unless-stopped true number x c y l e = absurd (never-both number x c l e)
-unless-stopped false number x c y l e = (refl, e)
+past-stop true x y n c l s e = absurd (never-both x n c l s e)
+past-stop false x y n c l s e = (refl, e)
 
 -- a step that read: under which family, and what the NLRI there came to
 record Read {A : Type 0} (o : Outcome A) (good : A → Stepped) (l : Layout) (c : ℕ) : Type 0 where
@@ -143,19 +157,19 @@ record Read {A : Type 0} (o : Outcome A) (good : A → Stepped) (l : Layout) (c 
   first : o ≡ given value
   second : good value ≡ readTo l c
 
-read-by : {A : Type 0} (x : ℕ) (good : A → Stepped) (o : Outcome A) (l : Layout) (c : ℕ) → onOutcome (λ number. stoppedAt number x) good o ≡ readTo l c → Read o good l c
+read-by : {A : Type 0} (x : ℕ) (good : A → Stepped) (o : Outcome A) (l : Layout) (c : ℕ) → onOutcome (λ number. refusedAt number x) good o ≡ readTo l c → Read o good l c
 unfolding onOutcome
 read-by x good (given a) l c e = record { value = a; first = refl; second = e }
-read-by x good (refused n) l c e = absurd (never-both n x c l e)
+read-by x good (refused n) l c e = absurd (never-both (refusedAt n x) n c l (stops-at-refusal _ n x refl) e)
 
 -- a step that reads moves the cursor past the NLRI, within the run
 pub step-moves : (afi : ℕ) (run : List ℕ) (at : ℕ) (l : Layout) (c : ℕ) → stepFrom afi run at ≡ readTo l c → (at + 2 ≤ c) × (c ≤ length run) × (length run ≤ 4096)
 unfolding stepFrom stepUnder readTo
 step-moves afi run at l c e =
     let f = read-by _ _ _ _ _ e in
-    let long = unless-stopped _ _ _ _ _ _ (f .second) in
-    let end = unless-stopped _ _ _ _ _ _ (long .1) in
-    let past = unless-stopped _ _ _ _ _ _ (end .1) in
+    let long = past-stop _ _ _ _ _ _ (stops-at-refusal _ LONG at refl) (f .second) in
+    let end = past-stop _ _ _ _ _ _ (stops-at-end _ DONE at refl refl) (long .1) in
+    let past = past-stop _ _ _ _ _ _ (stops-at-refusal _ SHORT at refl) (end .1) in
     let r = read-by _ _ _ _ _ (past .1) in
     let h = layout-octets (f .value) (drop at run) (r .value) (r .first) .1 in
     let n : at + (2 + r .value .length) ≡ c = ap (λ (s : Stepped). s .cursor) (r .second) in
@@ -168,10 +182,9 @@ module _ (left afi : ℕ) (run : List ℕ) (at count : ℕ) where
   walk-goes l c e =
       pick-true _ _ _ (ap (λ (s : Stepped). s .read) e) ∙ ap (λ (s : Stepped). walkFrom left afi run (s .cursor) (count + 1)) e
 
-  pub walk-stops : (number x : ℕ) → stepFrom afi run at ≡ stoppedAt number x → walkFrom (suc left) afi run at count ≡ record { number = number; count = count; offset = at }
-  unfolding walkFrom stoppedAt
-  walk-stops number x e =
-      pick-false _ _ _ (ap (λ (s : Stepped). s .read) e) ∙ ap (λ (s : Stepped). record { number = s .number; count = count; offset = at }) e
+  pub walk-stops : (number : ℕ) → Stops (stepFrom afi run at) number → walkFrom (suc left) afi run at count ≡ record { number = number; count = count; offset = at }
+  unfolding walkFrom
+  walk-stops number s = pick-false _ _ _ (s .unread) ∙ ap (λ (n : ℕ). record { number = n; count = count; offset = at }) (s .told)
 
 -- what holds of the walk so far, at a cursor with a count
 pub record Going (afi : ℕ) (run : List ℕ) (at count : ℕ) : Type 0 where
@@ -197,18 +210,24 @@ module _ (afi : ℕ) (run : List ℕ) (at count : ℕ) (so-far : Going afi run a
         goes = so-far .goes ∙ walk-goes (length run - count) afi run at count l c e ∙ ap (λ (k : ℕ). walkFrom k afi run c (count + 1)) n;
       }
 
-  pub going-last : (number x : ℕ) → stepFrom afi run at ≡ stoppedAt number x → record { number = number; count = count; offset = at } ≡ walkOf afi run
-  going-last number x e = sym (so-far .goes ∙ walk-stops (length run - count) afi run at count number x e)
+  pub going-last : (number : ℕ) → Stops (stepFrom afi run at) number → record { number = number; count = count; offset = at } ≡ walkOf afi run
+  going-last number s = sym (so-far .goes ∙ walk-stops (length run - count) afi run at count number s)
 
 -- the cases of a step
 pub step-read : (r : Step) (s : Stepped) (l : Layout) (c : Cursor) → steppedOf r ≡ s → r ≡ Nlri l c → s ≡ readTo l (c .at)
 unfolding steppedOf
 step-read r s l c p q = sym p ∙ ap steppedOf q
 
-pub step-ended : (r : Step) (s : Stepped) (c : Cursor) → steppedOf r ≡ s → r ≡ End c → s ≡ stoppedAt 0 (c .at)
+pub step-ended : (r : Step) (s : Stepped) (c : Cursor) → steppedOf r ≡ s → r ≡ End c → s ≡ endedAt (c .at)
 unfolding steppedOf
 step-ended r s c p q = sym p ∙ ap steppedOf q
 
-pub step-refused : (r : Step) (s : Stepped) (n : ℕ) (c : Cursor) → steppedOf r ≡ s → r ≡ Refused n c → s ≡ stoppedAt n (c .at)
+pub step-refused : (r : Step) (s : Stepped) (n : ℕ) (c : Cursor) → steppedOf r ≡ s → r ≡ Refused n c → s ≡ refusedAt n (c .at)
 unfolding steppedOf
 step-refused r s n c p q = sym p ∙ ap steppedOf q
+
+pub stops-ended : (r : Step) (s : Stepped) (c : Cursor) → steppedOf r ≡ s → r ≡ End c → Stops s DONE
+stops-ended r s c p q = stops-at-end s DONE (c .at) refl (step-ended r s c p q)
+
+pub stops-refused : (r : Step) (s : Stepped) (n : ℕ) (c : Cursor) → steppedOf r ≡ s → r ≡ Refused n c → Stops s n
+stops-refused r s n c p q = stops-at-refusal s n (c .at) (step-refused r s n c p q)

@@ -4,5 +4,8 @@ pub use Rattle.nlri.proofs.Acceptance.{acceptance}
 pub use Rattle.nlri.proofs.RoundTrips.{roundTrips}
 pub use Rattle.nlri.proofs.ReadRefusals.{readRefusals}
 pub use Rattle.nlri.proofs.WriteRefusals.{writeRefusals}
-pub use Rattle.nlri.proofs.Walks.{stepRule, walkRule}
+pub use Rattle.nlri.proofs.Layouts.{layoutRule}
+pub use Rattle.nlri.proofs.StepCases.{stepRule}
+pub use Rattle.nlri.proofs.Walks.{walkRule}
 pub use Rattle.nlri.proofs.Classes.{groupRule}
+pub use Rattle.nlri.proofs.Apart.{casesApart}

@@ -17,9 +17,8 @@ use Rattle.octets.proofs.Lists.{empty-list, take-two, part-length}
 use Rattle.nlri.specs.Bodies.{FieldKind, distinguisher, sourceAs, source, group, originator, key, bodies, bodyOf, fieldIn}
 use Rattle.nlri.specs.Fields.{Fields, encodeField, encodeBody, encodeNlri, WellFormedBody}
 use Rattle.nlri.specs.Reading.{Laid, fieldSize, sizesOf, laidWith, cut}
-use Rattle.nlri.specs.Statements.{Closes}
 use Rattle.nlri.proofs.Table.{listed, on-body, known, RowOf, rowOf, closes, closed, mostIn, Along, along-fields}
-use Rattle.nlri.proofs.Judged.{Judges, fieldsFrom, field-sound, field-complete, field-most, field-octets}
+use Rattle.nlri.proofs.Judged.{Judges, Closes, fieldsFrom, field-sound, field-complete, field-most, field-octets}
 
 -- the encodings of the fields of a body, and their sizes
 abbrev pub piecesOf : Fields → List FieldKind → List (List ℕ)
@@ -27,6 +26,10 @@ piecesOf f body = map (encodeField f) body
 
 abbrev pub sizesIn : Fields → List FieldKind → List ℕ
 sizesIn f body = map (λ k. length (encodeField f k)) body
+
+-- where the fields of an encoding lie
+abbrev pub laidOf : Fields → Laid
+laidOf f = record { type = f .type; size = length (encodeBody f (bodyOf (f .type))); body = bodyOf (f .type); sizes = sizesIn f (bodyOf (f .type)) }
 
 pub cut-body : (f : Fields) (body : List FieldKind) (t : List ℕ) → cut (sizesIn f body) (encodeBody f body ++ t) ≡ piecesOf f body
 unfolding cut encodeBody
@@ -138,7 +141,7 @@ module _ (judge : List ℕ → Outcome ℕ) (Key : List ℕ → Type 0) (judges 
 
   -- a well-formed NLRI that stands encoded is read
   pub laid-complete : (f : Fields) (t : List ℕ) → (1 ≤ f .type) × (f .type ≤ 7) → WellFormedBody Key bits f (bodyOf (f .type))
-      → laidWith judge bits (encodeNlri f ++ t) ≡ given (record { type = f .type; size = length (encodeBody f (bodyOf (f .type))); body = bodyOf (f .type); sizes = sizesIn f (bodyOf (f .type)) })
+      → laidWith judge bits (encodeNlri f ++ t) ≡ given (laidOf f)
   unfolding laidWith encodeNlri part
   laid-complete f t range w =
       let l : listed bodies (f .type) ≡ true = known (f .type) (range .0) (range .1) in

@@ -105,7 +105,7 @@ module _ (afi bits : ℕ) (ofFamily : familyBits afi ≡ given bits) (f : Fields
       ⊎-elim
       (λ few.
       subst (WriteRefusal afi f space) (same SPACE (few .1))
-      (noSpace bits ofFamily (record { typed = typed; body = well-fits afi bits ofFamily f held body (widths .0) (keys .0) }) (ltb-true _ _ (few .0))))
+      (noSpace bits ofFamily (record { typed = typed; body = well-fits afi bits ofFamily f held body (λ kind h. h) (widths .0) (keys .0) }) (ltb-true _ _ (few .0))))
       (λ room. absurd (never refl (room .1)))
       (picked _ _ _ _ (keys .1)))
       (λ bad.

@@ -135,18 +135,23 @@ module _ (afi bits : ℕ) (ofFamily : familyBits afi ≡ given bits) (f : Fields
       at originator h = (h .0, refl)
       at key h = (refl, key-fits afi bits ofFamily (f .key) h)
 
-  pub well-fits : HoldsOctets f → (body : List FieldKind) → widthsFit bits f body ≡ true → keysFit bits f body ≡ true → WellFormedBody (KeyOf bits) bits f body
+  -- of fields whose kinds the type has
+  pub well-fits : HoldsOctets f → (body : List FieldKind) → ((kind : FieldKind) → hasField kind body ≡ true → hasField kind (bodyOf (f .type)) ≡ true)
+      → widthsFit bits f body ≡ true → keysFit bits f body ≡ true → WellFormedBody (KeyOf bits) bits f body
   unfolding widthsFit keysFit widthFits keyFits
-  well-fits held [] w k = tt
-  well-fits held (kind ∷ body) w k = (at kind (both-true-left _ _ w) (both-true-left _ _ k), well-fits held body (both-true-right (widthFits bits f kind) _ w) (both-true-right (keyFits bits f kind) _ k))
+  well-fits held [] has w k = tt
+  well-fits held (kind ∷ body) has w k = (
+    at kind (has kind (has-first kind body)) (both-true-left _ _ w) (both-true-left _ _ k),
+    well-fits held body (λ other h. has other (has-later other kind body h)) (both-true-right (widthFits bits f kind) _ w) (both-true-right (keyFits bits f kind) _ k),
+  )
     where
-      at : (k : FieldKind) → widthFits bits f k ≡ true → keyFits bits f k ≡ true → WellFormedField (KeyOf bits) bits f k
-      at distinguisher w h = held .distinguisher
-      at sourceAs w h = held .sourceAs
-      at source w h = (w, held .source)
-      at group w h = (w, held .group)
-      at originator w h = (w, held .originator)
-      at key w h = key-judged afi bits ofFamily (f .key) (held .key) h
+      at : (k : FieldKind) → hasField k (bodyOf (f .type)) ≡ true → widthFits bits f k ≡ true → keyFits bits f k ≡ true → WellFormedField (KeyOf bits) bits f k
+      at distinguisher has w h = (held .distinguisherSize has, held .distinguisher)
+      at sourceAs has w h = held .sourceAs
+      at source has w h = (w, held .source)
+      at group has w h = (w, held .group)
+      at originator has w h = (w, held .originator)
+      at key has w h = key-judged afi bits ofFamily (f .key) (held .key) h
 
   -- well-formed fields are written where there is space
   pub write-well : (space : ℕ) → WellFormed bits f → writeNlri afi f space ≡ pick (ltb space (length (encodeNlri f))) (refused SPACE) (given (encodeNlri f))
@@ -168,4 +173,4 @@ module _ (afi bits : ℕ) (ofFamily : familyBits afi ≡ given bits) (f : Fields
       let row = rowOf (f .type) (q .0) in
       let widths : widthsFit bits f (bodyOf (f .type)) ≡ true = ap (λ (n : ℕ). widthsFit n f (bodyOf (f .type))) (sym same) ∙ r .0 in
       let keys : keysFit bits f (bodyOf (f .type)) ≡ true = ap (λ (n : ℕ). keysFit n f (bodyOf (f .type))) (sym same) ∙ k .0 in
-      (record { typed = (row .low, row .high); body = well-fits held (bodyOf (f .type)) widths keys }, given-same (u .1))
+      (record { typed = (row .low, row .high); body = well-fits held (bodyOf (f .type)) (λ kind h. h) widths keys }, given-same (u .1))

@@ -10,13 +10,16 @@ use Rattle.octets.specs.Outcome.{given, refused}
 use Rattle.octets.specs.Octets.{AllOctets, part}
 use Rattle.nlri.specs.Family.{familyBits, allowed, isOriginatorSize}
 use Rattle.nlri.specs.Bodies.{FieldKind, distinguisher, sourceAs, source, group, originator, key, bodyOf, hasField}
-use Rattle.nlri.specs.Fields.{Fields, encodeField, encodeNlri, WellFormedField, WellFormed, KeyOf, restricted}
+use Rattle.nlri.specs.Fields.{Fields, encodeNlri, WellFormed, KeyOf, restricted}
 use Rattle.nlri.specs.Reading.{laidAt, readNlri}
+use Rattle.nlri.specs.Layouts.{readingOf, layoutSingle}
 use Rattle.nlri.specs.Writing.{writeNlri}
-use Rattle.nlri.specs.Walking.{readTo, stoppedAt, stepFrom, walkOf}
+use Rattle.nlri.specs.Walking.{readTo, endedAt, refusedAt, stepFrom, steppedOf, walkOf}
 use Rattle.nlri.specs.Groups.{ASM, SSM, classOf}
 use Rattle.nlri.specs.declared.fields.Nlri.{Nlri}
 use Rattle.nlri.specs.declared.layout.Layout.{Layout}
+use Rattle.nlri.specs.declared.layout.Reading.{Reading}
+use Rattle.nlri.specs.declared.run.Step.{Step}
 use Rattle.nlri.specs.declared.run.Walked.{Walked}
 use Rattle.nlri.specs.Answers.{nlriStruct, structFields, keySpan, nlriAnswer}
 
@@ -39,9 +42,11 @@ pub record ReadAs (afi : ℕ) (s : List ℕ) (f : Fields) : Type 0 where
 
 -- "NLRI on the wire": octets are accepted exactly when they are the encoding of well-formed fields, and reading gives those fields
 pub record Acceptance : Type 0 where
+  -- accepted as these fields exactly when the octets are their encoding
   pub exactly : (afi : ℕ) (s : List ℕ) (f : Fields) → AllOctets s → (readNlri afi s ≡ given f) ↔ ReadAs afi s f
   -- whatever stands in the fields that the type lacks, their encoding is read as the fields without these
   pub encoded : (afi bits : ℕ) (f : Fields) → familyBits afi ≡ given bits → WellFormed bits f → readNlri afi (encodeNlri f) ≡ given (restricted f)
+  -- an encoding is octets: its Length fits one
   pub octets : (afi bits : ℕ) (f : Fields) → familyBits afi ≡ given bits → WellFormed bits f → AllOctets (encodeNlri f)
   -- an encoding has at most 78 octets, and at most 60 where it is no Leaf's
   pub most : (afi bits : ℕ) (f : Fields) → familyBits afi ≡ given bits → WellFormed bits f → length (encodeNlri f) ≤ 78
@@ -49,9 +54,10 @@ pub record Acceptance : Type 0 where
   -- one encoding is of one NLRI
   pub same : (afi bits : ℕ) (f g : Fields) → familyBits afi ≡ given bits → WellFormed bits f → WellFormed bits g → encodeNlri f ≡ encodeNlri g → restricted f ≡ restricted g
 
--- fields that hold octets and a 32-bit number, as those do that a struct and a buffer of octets stand for
+-- fields that hold octets and a 32-bit number, and a distinguisher of eight octets where the type has one: as those do that reading gives, and those that a struct and a buffer of octets stand for
 pub record HoldsOctets (f : Fields) : Type 0 where
-  pub distinguisher : (length (f .distinguisher) ≡ 8) × AllOctets (f .distinguisher)
+  pub distinguisherSize : hasField distinguisher (bodyOf (f .type)) ≡ true → length (f .distinguisher) ≡ 8
+  pub distinguisher : AllOctets (f .distinguisher)
   pub sourceAs : f .sourceAs < 2 ^ 32
   pub source : AllOctets (f .source)
   pub group : AllOctets (f .group)
@@ -72,6 +78,8 @@ pub record RoundTrips : Type 0 where
   pub written : (afi : ℕ) (s : List ℕ) (f : Fields) (space : ℕ) → AllOctets s → readNlri afi s ≡ given f → length s ≤ space → writeNlri afi f space ≡ given s
   -- reading what was written gives the same fields, those that the type lacks being empty
   pub read : (afi : ℕ) (f : Fields) (space : ℕ) (e : List ℕ) → HoldsOctets f → writeNlri afi f space ≡ given e → readNlri afi e ≡ given (restricted f)
+  -- and fields that reading gave hold octets, so that they come back when they were written
+  pub held : (afi : ℕ) (s : List ℕ) (f : Fields) → AllOctets s → readNlri afi s ≡ given f → HoldsOctets f
   -- a writer does not look at fields that the type lacks
   pub unseen : (afi : ℕ) (f : Fields) (space : ℕ) → writeNlri afi (restricted f) space ≡ writeNlri afi f space
   -- the struct and the key's octets that reading answers stand for the fields read
@@ -87,22 +95,18 @@ pub record RoundTrips : Type 0 where
   pub structRead : (afi : ℕ) (nlri : Nlri) (key : List ℕ) (space : ℕ) (e : List ℕ) → StructHoldsOctets nlri → AllOctets key → writeNlri afi (structFields nlri key) space ≡ given e
       → readNlri afi e ≡ given (restricted (structFields nlri key))
 
--- an originator is what remains
-abbrev pub Closes : FieldKind → List ℕ → Type 0
-Closes distinguisher t = Unit {0}
-Closes sourceAs t = Unit {0}
-Closes source t = Unit {0}
-Closes group t = Unit {0}
-Closes originator t = t ≡ []
-Closes key t = Unit {0}
+-- octets that are a source or group: a length octet that the type and family allow, and that many bits
+abbrev pub AddressAt : (bits type : ℕ) → List ℕ → Type 0
+AddressAt bits type x = (1 ≤ length x) × (allowed bits type (getD x 0 0) ≡ true) × (8 * (length x - 1) ≡ getD x 0 0)
 
--- x is the encoding of a well-formed field of one kind, with t after it
-pub record FieldAt (bits type : ℕ) (k : FieldKind) (x t : List ℕ) : Type 0 where
-  pub fields : Fields
-  pub typed : fields .type ≡ type
-  pub wellFormed : WellFormedField (KeyOf bits) bits fields k
-  pub encoded : x ≡ encodeField fields k
-  pub last : Closes k t
+-- octets x that are a field of one kind, with t after them; an originator is what remains
+abbrev pub FieldAt : (bits type : ℕ) → FieldKind → (x t : List ℕ) → Type 0
+FieldAt bits type distinguisher x t = length x ≡ 8
+FieldAt bits type sourceAs x t = length x ≡ 4
+FieldAt bits type source x t = AddressAt bits type x
+FieldAt bits type group x t = AddressAt bits type x
+FieldAt bits type originator x t = (isOriginatorSize (length x) ≡ true) × (t ≡ [])
+FieldAt bits type key x t = KeyOf bits x
 
 -- the fault of a source or group where s is what remains of the body: a missing length octet; a bad one, before its address is looked for; an end inside the address
 pub data AddressFault (bits type : ℕ) (s : List ℕ) : ℕ → Type 0 where
@@ -129,6 +133,7 @@ pub data Faulty (bits type : ℕ) : List FieldKind → List ℕ → ℕ → Type
 abbrev pub TooShort : List ℕ → Type 0
 TooShort s = (length s < 2) ⊎ (length s - 2 < getD s 1 0)
 
+-- a route type that there is
 abbrev pub KnownType : ℕ → Type 0
 KnownType type = (1 ≤ type) × (type ≤ 7)
 
@@ -146,20 +151,35 @@ pub data ReadRefusal (afi : ℕ) (s : List ℕ) : ℕ → Type 0 where
 
 -- "The numbers a call gives back", at NLRI reading: every list of octets is accepted or refused by one number, each given exactly when document 01 says
 pub record ReadRefusals : Type 0 where
+  -- each number exactly when document 01 says
   pub exactly : (afi : ℕ) (s : List ℕ) (n : ℕ) → AllOctets s → (readNlri afi s ≡ refused n) ↔ ReadRefusal afi s n
   -- the NLRI at the front of octets, whatever stands after it
   pub front : (afi bits : ℕ) (s : List ℕ) (n : ℕ) → familyBits afi ≡ given bits → AllOctets s → (laidAt bits s ≡ refused n) ↔ FrontRefusal bits s n
+  -- octets are accepted or refused, by one number, and never both
   pub decided : (afi : ℕ) (s : List ℕ) → AllOctets s → ((f : Fields) × ReadAs afi s f) ⊎ ((n : ℕ) × ReadRefusal afi s n)
   pub one : (afi : ℕ) (s : List ℕ) (m n : ℕ) → AllOctets s → ReadRefusal afi s m → ReadRefusal afi s n → m ≡ n
   pub never : (afi : ℕ) (s : List ℕ) (f : Fields) (n : ℕ) → AllOctets s → ReadAs afi s f → ReadRefusal afi s n → ⊥
   -- no refusal is DONE
   pub done : (afi : ℕ) (s : List ℕ) → ReadRefusal afi s DONE → ⊥
-  -- FAMILY, SHORT and TYPE by themselves
-  pub family : (afi : ℕ) (s : List ℕ) → AllOctets s → (readNlri afi s ≡ refused FAMILY) ↔ ((afi ≢ 1) × (afi ≢ 2))
-  pub short : (afi : ℕ) (s : List ℕ) → AllOctets s → (readNlri afi s ≡ refused SHORT) ↔ (((afi ≡ 1) ⊎ (afi ≡ 2)) × TooShort s)
-  pub type : (afi : ℕ) (s : List ℕ) → AllOctets s → (readNlri afi s ≡ refused TYPE) ↔ (((afi ≡ 1) ⊎ (afi ≡ 2)) × (TooShort s → ⊥) × (KnownType (getD s 0 0) → ⊥))
   -- a body's fault is LENGTH, WIDTH or KEY
   pub bodies : (bits type : ℕ) (body : List FieldKind) (s : List ℕ) (n : ℕ) → Faulty bits type body s n → (n ≡ LENGTH) ⊎ (n ≡ WIDTH) ⊎ (n ≡ KEY)
+
+-- the layout of an NLRI's encoding: its type, its Length, and the sizes that vary, of addresses without their length octet
+unfoldable pub layoutFor : Fields → Layout
+layoutFor f =
+    record {
+      «route_type» = f .type;
+      length = length (encodeNlri f) - 2;
+      source = length (restricted f .source);
+      group = length (restricted f .group);
+      originator = length (restricted f .originator);
+      key = length (restricted f .key);
+    }
+
+-- the layout of a single NLRI: octets that are accepted have that of the fields encoded, and any others are refused as reading refuses them
+pub record LayoutRule : Type 0 where
+  pub exactly : (afi : ℕ) (s : List ℕ) (l : Layout) → AllOctets s → (layoutSingle afi s ≡ given l) ↔ ((f : Fields) × ReadAs afi s f × (l ≡ layoutFor f))
+  pub refuses : (afi : ℕ) (s : List ℕ) (n : ℕ) → AllOctets s → (layoutSingle afi s ≡ refused n) ↔ ReadRefusal afi s n
 
 -- a source or group of a length that the type and family do not allow, an originator not of 4 or 16 octets
 abbrev pub WidthFault : ℕ → Fields → FieldKind → Type 0
@@ -181,38 +201,49 @@ pub data WriteRefusal (afi : ℕ) (f : Fields) (space : ℕ) : ℕ → Type 0 wh
 
 -- "The numbers a call gives back", at NLRI writing: well-formed fields are written where there is space, and any others are refused by one number
 pub record WriteRefusals : Type 0 where
+  -- each number exactly when document 01 says
   pub exactly : (afi : ℕ) (f : Fields) (space n : ℕ) → HoldsOctets f → (writeNlri afi f space ≡ refused n) ↔ WriteRefusal afi f space n
+  -- the octets given are the encoding, exactly when the fields are well-formed and it fits
   pub accepted : (afi : ℕ) (f : Fields) (space : ℕ) (e : List ℕ) → HoldsOctets f
       → (writeNlri afi f space ≡ given e) ↔ ((bits : ℕ) × (familyBits afi ≡ given bits) × WellFormed bits f × (length e ≤ space) × (e ≡ encodeNlri f))
 
--- the layout of an NLRI's encoding: its type, its Length, and the sizes that vary
-unfoldable pub layoutFor : Fields → Layout
-layoutFor f =
-    record {
-      «route_type» = f .type;
-      length = length (encodeNlri f) - 2;
-      source = length (restricted f .source);
-      group = length (restricted f .group);
-      originator = length (restricted f .originator);
-      key = length (restricted f .key);
-    }
+-- a step that reads: fields well-formed under the AFI's family stand encoded at the cursor of a run that is not too long
+pub record NlriAt (afi : ℕ) (run : List ℕ) (at : ℕ) (f : Fields) : Type 0 where
+  pub bits : ℕ
+  pub ofFamily : familyBits afi ≡ given bits
+  pub short : length run ≤ 4096
+  pub wellFormed : WellFormed bits f
+  pub after : List ℕ
+  pub is : drop at run ≡ encodeNlri f ++ after
 
--- "Walking a run": a step's answer, in the order FAMILY, LONG, the cursor, NLRI reading
+-- a step at the run's end: FAMILY and LONG do not refuse, and the cursor is at the end
+abbrev pub EndAt : (afi : ℕ) → List ℕ → (at : ℕ) → Type 0
+EndAt afi run at = ((afi ≡ 1) ⊎ (afi ≡ 2)) × (length run ≤ 4096) × (at ≡ length run)
+
+-- why a step refuses: FAMILY, LONG, a cursor past the end, then NLRI reading
+pub data StepRefusal (afi : ℕ) (run : List ℕ) (at : ℕ) : ℕ → Type 0 where
+  badFamily : afi ≢ 1 → afi ≢ 2 → StepRefusal afi run at FAMILY
+  long : (bits : ℕ) → familyBits afi ≡ given bits → 4096 < length run → StepRefusal afi run at LONG
+  past : (bits : ℕ) → familyBits afi ≡ given bits → length run ≤ 4096 → length run < at → StepRefusal afi run at SHORT
+  front : (bits : ℕ) {n : ℕ} → familyBits afi ≡ given bits → length run ≤ 4096 → at < length run → FrontRefusal bits (drop at run) n → StepRefusal afi run at n
+
+-- "Walking a run": what a step answers, in the order FAMILY, LONG, the cursor, NLRI reading
 pub record StepRule : Type 0 where
-  pub family : (afi : ℕ) (run : List ℕ) (at : ℕ) → afi ≢ 1 → afi ≢ 2 → stepFrom afi run at ≡ stoppedAt FAMILY at
-  pub long : (afi bits : ℕ) (run : List ℕ) (at : ℕ) → familyBits afi ≡ given bits → 4096 < length run → stepFrom afi run at ≡ stoppedAt LONG at
-  -- at the run's end DONE with no NLRI, past it SHORT
-  pub ends : (afi bits : ℕ) (run : List ℕ) (at : ℕ) → familyBits afi ≡ given bits → length run ≤ 4096 → at ≡ length run → stepFrom afi run at ≡ stoppedAt DONE at
-  pub past : (afi bits : ℕ) (run : List ℕ) (at : ℕ) → familyBits afi ≡ given bits → length run ≤ 4096 → length run < at → stepFrom afi run at ≡ stoppedAt SHORT at
-  pub refuses : (afi bits : ℕ) (run : List ℕ) (at n : ℕ) → familyBits afi ≡ given bits → AllOctets run → length run ≤ 4096 → at < length run → FrontRefusal bits (drop at run) n
-      → stepFrom afi run at ≡ stoppedAt n at
-  -- an NLRI with its layout, and the cursor just past it
-  pub reads : (afi bits : ℕ) (run : List ℕ) (at : ℕ) (f : Fields) (t : List ℕ) → familyBits afi ≡ given bits → length run ≤ 4096 → WellFormed bits f → drop at run ≡ encodeNlri f ++ t
-      → stepFrom afi run at ≡ readTo (layoutFor f) (at + length (encodeNlri f))
-  -- a step that reads moves the cursor by 2 and the Length, within the run; any other hands back the cursor that it was given
+  -- an NLRI at the cursor is read: its layout, and the cursor just past it
+  pub reads : (afi : ℕ) (run : List ℕ) (at : ℕ) (f : Fields) → NlriAt afi run at f → stepFrom afi run at ≡ readTo (layoutFor f) (at + length (encodeNlri f))
+  -- at the run's end DONE with no NLRI, and the cursor given
+  pub ends : (afi : ℕ) (run : List ℕ) (at : ℕ) → (stepFrom afi run at ≡ endedAt at) ↔ EndAt afi run at
+  -- each number, with the cursor given, exactly when document 01 says
+  pub refuses : (afi : ℕ) (run : List ℕ) (at n : ℕ) → AllOctets run → (stepFrom afi run at ≡ refusedAt n at) ↔ StepRefusal afi run at n
+  -- there is no other step
+  pub decided : (afi : ℕ) (run : List ℕ) (at : ℕ) → AllOctets run → ((f : Fields) × NlriAt afi run at f) ⊎ EndAt afi run at ⊎ ((n : ℕ) × StepRefusal afi run at n)
+  -- no refusal is DONE
+  pub done : (afi : ℕ) (run : List ℕ) (at : ℕ) → StepRefusal afi run at DONE → ⊥
+  -- an NLRI read has a route type of 1 to 7, where a step that reads none has 0
+  pub typed : (afi : ℕ) (run : List ℕ) (at : ℕ) → stepFrom afi run at .read ≡ true → KnownType (stepFrom afi run at .layout .«route_type»)
+  -- a step that reads moves the cursor by 2 and the Length, within the run
   pub moves : (afi : ℕ) (run : List ℕ) (at : ℕ) → stepFrom afi run at .read ≡ true
       → (stepFrom afi run at .cursor ≡ at + (2 + stepFrom afi run at .layout .length)) × (at < stepFrom afi run at .cursor) × (stepFrom afi run at .cursor ≤ length run)
-  pub stays : (afi : ℕ) (run : List ℕ) (at : ℕ) → stepFrom afi run at .read ≡ false → stepFrom afi run at .cursor ≡ at
 
 -- the walk from a cursor as the iteration of the step: it goes on from the cursor that a step that read hands back, and stops at any other step
 pub data Walks (afi : ℕ) (run : List ℕ) : (at count : ℕ) → Walked → Type 0 where
@@ -224,6 +255,7 @@ unfoldable pub encodeRun : List Fields → List ℕ
 encodeRun [] = []
 encodeRun (f ∷ fs) = encodeNlri f ++ encodeRun fs
 
+-- each of them well-formed
 abbrev pub AllWellFormed : ℕ → List Fields → Type 0
 AllWellFormed bits [] = Unit {0}
 AllWellFormed bits (f ∷ fs) = WellFormed bits f × AllWellFormed bits fs
@@ -249,9 +281,8 @@ pub record WalkRule : Type 0 where
   -- the walk counts these NLRIs, and stops where they end with the number there
   pub counts : (afi bits : ℕ) (run : List ℕ) (r : RunOf bits run) → familyBits afi ≡ given bits → AllOctets run → length run ≤ 4096
       → walkOf afi run ≡ record { number = r .number; count = length (r .nlris); offset = length (encodeRun (r .nlris)) }
-  -- a bad AFI, and a run that is too long
-  pub family : (afi : ℕ) (run : List ℕ) → afi ≢ 1 → afi ≢ 2 → walkOf afi run ≡ record { number = FAMILY; count = 0; offset = 0 }
-  pub long : (afi bits : ℕ) (run : List ℕ) → familyBits afi ≡ given bits → 4096 < length run → walkOf afi run ≡ record { number = LONG; count = 0; offset = 0 }
+  -- where the first step refuses, as it does a bad AFI and a run that is too long, nothing is read
+  pub refuses : (afi : ℕ) (run : List ℕ) (n : ℕ) → AllOctets run → StepRefusal afi run 0 n → walkOf afi run ≡ record { number = n; count = 0; offset = 0 }
   -- the walk is the iteration of the step, and nothing else is
   pub iterates : (afi : ℕ) (run : List ℕ) → Walks afi run 0 0 (walkOf afi run)
   pub only : (afi : ℕ) (run : List ℕ) (at count : ℕ) (v w : Walked) → Walks afi run at count v → Walks afi run at count w → v ≡ w
@@ -266,9 +297,18 @@ pub data SourceSpecific : (afi : ℕ) → List ℕ → Type 0 where
   ipv4 : {g : List ℕ} → length g ≡ 4 → getD g 0 0 ≡ 232 → SourceSpecific 1 g
   ipv6 : {g : List ℕ} → length g ≡ 16 → getD g 0 0 ≡ 255 → getD g 1 0 / 16 ≡ 3 → getD g 2 0 ≡ 0 → getD g 3 0 ≡ 0 → SourceSpecific 2 g
 
--- the class of a group: FAMILY, FLOW, SSM, and ASM for any other multicast group
+-- why a group has no class: FAMILY, then FLOW
+pub data GroupRefusal (afi : ℕ) (g : List ℕ) : ℕ → Type 0 where
+  badFamily : afi ≢ 1 → afi ≢ 2 → GroupRefusal afi g FAMILY
+  badGroup : (bits : ℕ) → familyBits afi ≡ given bits → (Multicast afi g → ⊥) → GroupRefusal afi g FLOW
+
+-- the class of a group: each number exactly when document 01 says, SSM by its ranges, and ASM for any other multicast group
 pub record GroupRule : Type 0 where
-  pub family : (afi : ℕ) (g : List ℕ) → (classOf afi g ≡ refused FAMILY) ↔ ((afi ≢ 1) × (afi ≢ 2))
-  pub flow : (afi : ℕ) (g : List ℕ) → (classOf afi g ≡ refused FLOW) ↔ (((afi ≡ 1) ⊎ (afi ≡ 2)) × (Multicast afi g → ⊥))
+  pub refuses : (afi : ℕ) (g : List ℕ) (n : ℕ) → (classOf afi g ≡ refused n) ↔ GroupRefusal afi g n
   pub ssm : (afi : ℕ) (g : List ℕ) → (classOf afi g ≡ given SSM) ↔ SourceSpecific afi g
   pub asm : (afi : ℕ) (g : List ℕ) → (classOf afi g ≡ given ASM) ↔ (Multicast afi g × (SourceSpecific afi g → ⊥))
+
+-- the enums that answer a call: answers with the same number and values are equal
+pub record CasesApart : Type 0 where
+  pub readings : (a b : Reading) → readingOf a ≡ readingOf b → a ≡ b
+  pub steps : (a b : Step) → steppedOf a ≡ steppedOf b → a ≡ b

@@ -14,38 +14,43 @@ use Rattle.nlri.specs.declared.run.Walked.{Walked}
 use Rattle.nlri.specs.Family.{familyBits}
 use Rattle.nlri.specs.Layouts.{layoutAt, noLayout}
 
--- what a step answers: the number, whether an NLRI was read, its layout, and the next cursor
+-- what a step answers: the number, whether an NLRI was read, whether the run ends at the cursor, the layout of the NLRI read, and the next cursor
 pub record Stepped : Type 0 where
   pub number : ℕ
   pub read : Bool
+  pub ended : Bool
   pub layout : Layout
   pub cursor : ℕ
 
 -- an NLRI, and the cursor just past it
 unfoldable pub readTo : Layout → ℕ → Stepped
-readTo layout cursor = record { number = DONE; read = true; layout = layout; cursor = cursor }
+readTo layout cursor = record { number = DONE; read = true; ended = false; layout = layout; cursor = cursor }
 
--- no NLRI; the cursor given is handed back
-unfoldable pub stoppedAt : (number cursor : ℕ) → Stepped
-stoppedAt number cursor = record { number = number; read = false; layout = noLayout; cursor = cursor }
+-- the run's end: DONE with no NLRI; the cursor given is handed back
+unfoldable pub endedAt : ℕ → Stepped
+endedAt cursor = record { number = DONE; read = false; ended = true; layout = noLayout; cursor = cursor }
+
+-- a refusal: no NLRI; the cursor given is handed back
+unfoldable pub refusedAt : (number cursor : ℕ) → Stepped
+refusedAt number cursor = record { number = number; read = false; ended = false; layout = noLayout; cursor = cursor }
 
 -- under a family: LONG, then the cursor, then NLRI reading; a cursor just past the NLRI read
 unfoldable pub stepUnder : ℕ → List ℕ → ℕ → Stepped
 stepUnder bits run at =
-    pick (ltb 4096 (length run)) (stoppedAt LONG at)
-    (pick (eqb at (length run)) (stoppedAt DONE at)
-    (pick (ltb (length run) at) (stoppedAt SHORT at)
-    (onOutcome (λ number. stoppedAt number at) (λ layout. readTo layout (at + (2 + layout .length))) (layoutAt bits (drop at run)))))
+    pick (ltb 4096 (length run)) (refusedAt LONG at)
+    (pick (eqb at (length run)) (endedAt at)
+    (pick (ltb (length run) at) (refusedAt SHORT at)
+    (onOutcome (λ number. refusedAt number at) (λ layout. readTo layout (at + (2 + layout .length))) (layoutAt bits (drop at run)))))
 
 -- FAMILY first
 unfoldable pub stepFrom : ℕ → List ℕ → ℕ → Stepped
-stepFrom afi run at = onOutcome (λ number. stoppedAt number at) (λ bits. stepUnder bits run at) (familyBits afi)
+stepFrom afi run at = onOutcome (λ number. refusedAt number at) (λ bits. stepUnder bits run at) (familyBits afi)
 
 -- the number and values of each case of `Step`
 unfoldable pub steppedOf : Step → Stepped
 steppedOf (Nlri layout cursor) = readTo layout (cursor .at)
-steppedOf (End cursor) = stoppedAt DONE (cursor .at)
-steppedOf (Refused number cursor) = stoppedAt number (cursor .at)
+steppedOf (End cursor) = endedAt (cursor .at)
+steppedOf (Refused number cursor) = refusedAt number (cursor .at)
 
 -- at most so many steps on from a cursor, with the count read so far: the first stop decides
 unfoldable pub walkFrom : ℕ → ℕ → List ℕ → (at count : ℕ) → Walked

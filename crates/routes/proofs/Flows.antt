@@ -14,7 +14,7 @@ use Rattle.octets.proofs.Refusals.{picked, stopped, refused-same, outcome}
 use Rattle.octets.proofs.Tests.{goes}
 use Rattle.nlri.specs.Family.{familyBits}
 use Rattle.nlri.specs.Groups.{ASM, SSM, classUnder, classOf}
-use Rattle.nlri.specs.Statements.{Multicast, SourceSpecific}
+use Rattle.nlri.specs.Statements.{Multicast, SourceSpecific, GroupRefusal, badFamily, badGroup}
 use Rattle.nlri.proofs.Theorems.{lengths, groupRule}
 use Rattle.nlri.proofs.Lengths.{family-good}
 use Rattle.routes.specs.Arguments.{Query, readFlow}
@@ -93,10 +93,15 @@ flow-asked afi router source group q e =
       other = k .other;
     })
 
+multicast-taken : {afi : ℕ} {g : List ℕ} {n : ℕ} → GroupRefusal afi g n → Multicast afi g → ⊥
+multicast-taken (badFamily one two) (Multicast.ipv4 l low high) = one refl
+multicast-taken (badFamily one two) (Multicast.ipv6 l h) = two refl
+multicast-taken (badGroup bits ofFamily none) m = none m
+
 multicast-classed : (afi bits : ℕ) (g : List ℕ) → familyBits afi ≡ given bits → Multicast afi g → (class : ℕ) × (classUnder bits g ≡ given class)
 multicast-classed afi bits g ofFamily m =
     ⊎-elim (λ c. c)
-    (λ n. absurd (groupRule .flow afi g .0 (sym (class-under afi bits g ofFamily) ∙ n .1 ∙ ap refused (class-refused bits (n .0) g (n .1))) .1 m))
+    (λ n. absurd (multicast-taken (groupRule .refuses afi g (n .0) .0 (sym (class-under afi bits g ofFamily) ∙ n .1)) m))
     (outcome (classUnder bits g))
 
 source-family : (afi : ℕ) (source : List ℕ) → ((afi ≡ 1) × (length source ≡ 4)) ⊎ ((afi ≡ 2) × (length source ≡ 16)) → KnownFamily afi

@@ -1,7 +1,7 @@
 -- `mvpn::mvpn_step` meets its contract.
 use mathlib.Core.Path.{_∙_, sym, ap}
 use Rattle.mvpn.specs.Answers.{stepAnswer}
-use Rattle.nlri.specs.Walking.{readTo}
+use Rattle.nlri.specs.Walking.{readTo, endedAt, refusedAt}
 use Rattle.nlri.proofs.Steps.{step-read, step-ended, step-refused}
 use borrow.Author.Needs.{needs}
 use Rattle.mvpn.proofs.mvpn_step.Statement.{statement}
@@ -25,6 +25,7 @@ stopped-requires : tie.Need-stopped-requires
 stopped-requires c κs = search needs
 
 returns-2 : tie.Need-returns-2
+unfolding stepAnswer endedAt refusedAt
 returns-2 c =
     c .stopped .ensures ∙ ap stepAnswer (sym (step-ended _ _ _ (c .before .before .before .before .step .ensures) (c .before .before .last .given .1)))
 

@@ -3,8 +3,7 @@ use Prim.Native.Nat.{_-_}
 use native.Mathlib.Omega.{arith}
 use borrow.Author.Needs.{needs}
 use lib.ListN.{length}
-use Rattle.nlri.proofs.Steps.{step-moves, step-read, step-ended, step-refused}
-use Rattle.mvpn_list.proofs.Steps.{stops-stoppedAt}
+use Rattle.nlri.proofs.Steps.{step-moves, step-read, stops-ended, stops-refused}
 use Rattle.mvpn_list.proofs.Lines.{Listed, listed-first, listed-next, listed-last, room-nlriLine, room-lastLine, length-listed}
 use Rattle.mvpn_list.proofs.listing.lines.Statement.{statement}
 use Rattle.mvpn_list.proofs.listing.lines.Tie as tie
@@ -37,25 +36,25 @@ enum-told : tie.Need-enum-told Inv-loop μ-loop
 enum-told c = search needs
 
 last-line-requires : tie.Need-last-line-requires Inv-loop μ-loop
-last-line-requires c κs = room-lastLine _ _ _ _ _ _ (c .before .before .before .before .before .before .before .pre) (c .before .before .before .before .loop .inv) _ (stops-stoppedAt _ _ (step-ended _ _ _ (c .before .before .before .step .ensures) (c .before .enum-told .given .1)))
+last-line-requires c κs = room-lastLine _ _ _ _ _ _ (c .before .before .before .before .before .before .before .pre) (c .before .before .before .before .loop .inv) _ (stops-ended _ _ _ (c .before .before .before .step .ensures) (c .before .enum-told .given .1))
 
 same-length : tie.Need-same-length Inv-loop μ-loop
-same-length c = length-listed _ _ _ _ _ _ (c .before .before .before .before .before .before .before .before .before .before .pre) (c .before .before .before .before .before .before .before .loop .inv) _ (stops-stoppedAt _ _ (step-ended _ _ _ (c .before .before .before .before .before .before .step .ensures) (c .before .before .before .before .enum-told .given .1))) _ _ (c .before .before .last-line .ensures)
+same-length c = length-listed _ _ _ _ _ _ (c .before .before .before .before .before .before .before .before .before .before .pre) (c .before .before .before .before .before .before .before .loop .inv) _ (stops-ended _ _ _ (c .before .before .before .before .before .before .step .ensures) (c .before .before .before .before .enum-told .given .1)) _ _ (c .before .before .last-line .ensures)
 
 returns : tie.Need-returns Inv-loop μ-loop
-returns c = listed-last _ _ _ _ _ _ (c .before .before .before .before .before .before .before .before .before .before .pre) (c .before .before .before .before .before .before .before .loop .inv) _ (stops-stoppedAt _ _ (step-ended _ _ _ (c .before .before .before .before .before .before .step .ensures) (c .before .before .before .before .enum-told .given .1))) _ _ (c .before .before .last-line .ensures)
+returns c = listed-last _ _ _ _ _ _ (c .before .before .before .before .before .before .before .before .before .before .pre) (c .before .before .before .before .before .before .before .loop .inv) _ (stops-ended _ _ _ (c .before .before .before .before .before .before .step .ensures) (c .before .before .before .before .enum-told .given .1)) _ _ (c .before .before .last-line .ensures)
 
 enum-known-number : tie.Need-enum-known-number Inv-loop μ-loop
 enum-known-number c = search needs
 
 last-line-requires-2 : tie.Need-last-line-requires-2 Inv-loop μ-loop
-last-line-requires-2 c κs = room-lastLine _ _ _ _ _ _ (c .before .before .before .before .before .before .before .before .pre) (c .before .before .before .before .before .loop .inv) _ (stops-stoppedAt _ _ (step-refused _ _ _ _ (c .before .before .before .before .step .ensures) (c .before .before .number .given .1)))
+last-line-requires-2 c κs = room-lastLine _ _ _ _ _ _ (c .before .before .before .before .before .before .before .before .pre) (c .before .before .before .before .before .loop .inv) _ (stops-refused _ _ _ _ (c .before .before .before .before .step .ensures) (c .before .before .number .given .1))
 
 same-length-2 : tie.Need-same-length-2 Inv-loop μ-loop
-same-length-2 c = length-listed _ _ _ _ _ _ (c .before .before .before .before .before .before .before .before .before .before .before .pre) (c .before .before .before .before .before .before .before .before .loop .inv) _ (stops-stoppedAt _ _ (step-refused _ _ _ _ (c .before .before .before .before .before .before .before .step .ensures) (c .before .before .before .before .before .number .given .1))) _ _ (c .before .before .last-line2 .ensures)
+same-length-2 c = length-listed _ _ _ _ _ _ (c .before .before .before .before .before .before .before .before .before .before .before .pre) (c .before .before .before .before .before .before .before .before .loop .inv) _ (stops-refused _ _ _ _ (c .before .before .before .before .before .before .before .step .ensures) (c .before .before .before .before .before .number .given .1)) _ _ (c .before .before .last-line2 .ensures)
 
 returns-2 : tie.Need-returns-2 Inv-loop μ-loop
-returns-2 c = listed-last _ _ _ _ _ _ (c .before .before .before .before .before .before .before .before .before .before .before .pre) (c .before .before .before .before .before .before .before .before .loop .inv) _ (stops-stoppedAt _ _ (step-refused _ _ _ _ (c .before .before .before .before .before .before .before .step .ensures) (c .before .before .before .before .before .number .given .1))) _ _ (c .before .before .last-line2 .ensures)
+returns-2 c = listed-last _ _ _ _ _ _ (c .before .before .before .before .before .before .before .before .before .before .before .pre) (c .before .before .before .before .before .before .before .before .loop .inv) _ (stops-refused _ _ _ _ (c .before .before .before .before .before .before .before .step .ensures) (c .before .before .before .before .before .number .given .1)) _ _ (c .before .before .last-line2 .ensures)
 
 pub lines-spec : {M : Type 1} → statement M
 lines-spec =

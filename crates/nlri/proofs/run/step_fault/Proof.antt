@@ -6,22 +6,22 @@ use Prim.Native.Nat.{ℕ}
 use Rattle.octets.specs.Outcome.{numberOf}
 use Rattle.octets.proofs.Tests.{tests}
 use Rattle.nlri.specs.Layouts.{layoutAt}
-use Rattle.nlri.specs.Walking.{stoppedAt, stepUnder}
+use Rattle.nlri.specs.Walking.{endedAt, refusedAt, stepUnder}
 use Rattle.nlri.proofs.Steps.{step-picks, step-skips, step-fronts}
 use borrow.Author.Needs.{needs}
 use Rattle.nlri.proofs.run.step_fault.Statement.{statement}
 use Rattle.nlri.proofs.run.step_fault.Tie as tie
 
 returns : tie.Need-returns
-unfolding stepUnder stoppedAt
+unfolding stepUnder endedAt refusedAt
 returns c = search (tests, step-picks, step-skips)
 
 returns-2 : tie.Need-returns-2
-unfolding stepUnder stoppedAt
+unfolding stepUnder endedAt refusedAt
 returns-2 c = search (tests, step-picks, step-skips)
 
 returns-3 : tie.Need-returns-3
-unfolding stepUnder stoppedAt
+unfolding stepUnder endedAt refusedAt
 returns-3 c = search (tests, step-picks, step-skips)
 
 after-requires : tie.Need-after-requires

@@ -1,0 +1,2 @@
+-- What is proved of the answers to C.
+pub mod Theorems
