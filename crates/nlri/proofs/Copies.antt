@@ -3,11 +3,13 @@ use mathlib.Core.Path.{_≡_, refl, sym, _∙_, ap}
 use mathlib.Core.List.{List, [], _∷_, _++_}
 use Prim.Native.Nat.{ℕ, zero, suc, _+_, _≤_, _<_}
 use native.Mathlib.Omega.{arith}
+use borrow.Author.Tests.{eq-eqb, ne-eqb}
 use lib.ListN.{length, getD, take, drop, replicate}
 use lib.Seq.{take-all, drop-cons}
 use Rattle.octets.specs.Octets.{part, sized}
+use Rattle.octets.proofs.Outcomes.{pick-true, pick-false}
 use Rattle.octets.proofs.Lists.{copied-sized, part-length}
-use Rattle.nlri.specs.Answers.{addressStruct, distinguisherStruct}
+use Rattle.nlri.specs.Answers.{addressStruct, kindOctets, distinguisherStruct}
 
 pub address-held : (held xs : List ℕ) (n : ℕ) → held ≡ take (length xs) xs ++ drop (length xs) (replicate 16 0) → n ≡ length xs → length xs ≤ 16 → record { octets = held; size = n } ≡ addressStruct xs
 unfolding addressStruct
@@ -30,6 +32,20 @@ ipv4-held s h = ap addressStruct (sym (taken-octets 0 4 s h))
 pub ipv6-held : (s : List ℕ) → 16 ≤ length s → record { octets = octetsFrom 0 16 s; size = 16 } ≡ addressStruct (take 16 s)
 unfolding addressStruct sized octetsFrom
 ipv6-held s h = ap addressStruct (sym (taken-octets 0 16 s h))
+
+-- the octets of an address, by its kind
+module _ (bits : ℕ) (s : List ℕ) where
+  pub kind-octets-ipv4 : bits ≡ 32 → kindOctets bits s ≡ take 4 s
+  unfolding kindOctets
+  kind-octets-ipv4 h = pick-true _ _ _ (eq-eqb bits 32 h)
+
+  pub kind-octets-ipv6 : bits ≡ 128 → kindOctets bits s ≡ take 16 s
+  unfolding kindOctets
+  kind-octets-ipv6 h = pick-false _ _ _ (ne-eqb bits 32 (λ q. omega arith)) ∙ pick-true _ _ _ (eq-eqb bits 128 h)
+
+  pub kind-octets-other : (bits ≡ 32 → ⊥) → (bits ≡ 128 → ⊥) → kindOctets bits s ≡ []
+  unfolding kindOctets
+  kind-octets-other four sixteen = pick-false _ _ _ (ne-eqb bits 32 four) ∙ pick-false _ _ _ (ne-eqb bits 128 sixteen)
 
 pub distinguisher-held : (held xs : List ℕ) → held ≡ take (length xs) xs ++ drop (length xs) (replicate 8 0) → length xs ≤ 8 → record { octets = held } ≡ distinguisherStruct xs
 unfolding distinguisherStruct

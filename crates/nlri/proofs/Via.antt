@@ -1,38 +1,50 @@
 -- What a `match` on an answer tells: how a definition goes on after a step, by the case that the step's answer was.
-use mathlib.Core.Path.{_≡_, sym, _∙_, ap}
+use mathlib.Core.Path.{_≡_, refl, sym, _∙_, ap}
+use mathlib.Core.Bool.{Bool, true, false, not, true≢false}
 use Prim.Native.Nat.{ℕ}
 use Rattle.octets.specs.Outcome.{Outcome, given, refused, onOutcome, andThen}
-use Rattle.octets.proofs.Tests.{tests, goes, stops, on-given, on-refused}
+use Rattle.octets.proofs.Tests.{tests, flags, goes, stops, on-given, on-refused}
 use Rattle.nlri.specs.declared.layout.Layout.{Layout}
 use Rattle.nlri.specs.declared.layout.Reading.{Reading}
 use Rattle.nlri.specs.declared.layout.Reading.the-variants.{Nlri, Refused}
-use Rattle.nlri.specs.declared.layout.Part.{Part}
-use Rattle.nlri.specs.declared.layout.Part.the-variants.{Size, Fault}
+use Rattle.nlri.specs.declared.address.AddressKind.{AddressKind}
+use Rattle.nlri.specs.declared.family.Family.{Family}
+use Rattle.nlri.specs.declared.family.Family.the-variants.{Known, Unknown}
+use Rattle.nlri.specs.declared.read.KeySize.{KeySize}
+use Rattle.nlri.specs.declared.read.KeySize.the-variants.{Octets, Fault}
 use Rattle.nlri.specs.declared.read.Header.{Header}
 use Rattle.nlri.specs.declared.read.Header.the-variants.{Typed, Unread}
 use Rattle.nlri.specs.declared.group.Group.{Group}
 use Rattle.nlri.specs.Groups.{groupOf}
 use Rattle.nlri.specs.Layouts.{readingOf}
-use Rattle.nlri.specs.Inner.{partOf, headerOutcome}
+use Rattle.nlri.specs.Inner.{familyOutcome, keyOutcome, headerOutcome}
 
 -- the case of an answer, as the definition's outcome
-pub size-given : (r : Part) (o : Outcome ℕ) (n : ℕ) → partOf r ≡ o → r ≡ Size n → o ≡ given n
-unfolding partOf
-size-given r o n p q = sym p ∙ ap partOf q
+pub known-given : (r : Family) (o : Outcome ℕ) (kind : AddressKind) → familyOutcome r ≡ o → r ≡ Known kind → o ≡ given (kind .bits)
+unfolding familyOutcome
+known-given r o kind p q = sym p ∙ ap familyOutcome q
+
+pub unknown-given : (r : Family) (o : Outcome ℕ) (n : ℕ) → familyOutcome r ≡ o → r ≡ Unknown n → o ≡ refused n
+unfolding familyOutcome
+unknown-given r o n p q = sym p ∙ ap familyOutcome q
+
+pub octets-given : (r : KeySize) (o : Outcome ℕ) (n : ℕ) → keyOutcome r ≡ o → r ≡ Octets n → o ≡ given n
+unfolding keyOutcome
+octets-given r o n p q = sym p ∙ ap keyOutcome q
+
+pub fault-given : (r : KeySize) (o : Outcome ℕ) (n : ℕ) → keyOutcome r ≡ o → r ≡ Fault n → o ≡ refused n
+unfolding keyOutcome
+fault-given r o n p q = sym p ∙ ap keyOutcome q
 
 pub typed-given : (r : Header) (o : Outcome (ℕ × ℕ)) (a b : ℕ) → headerOutcome r ≡ o → r ≡ Typed a b → o ≡ given (a, b)
 unfolding headerOutcome
 typed-given r o a b p q = sym p ∙ ap headerOutcome q
 
-pub size-goes : {B : Type 0} (t : Outcome B) (r : Part) (o : Outcome ℕ) (n : ℕ) (next : ℕ → Outcome B) → partOf r ≡ o → r ≡ Size n → t ≡ next n → t ≡ andThen o next
-size-goes t r o n next p q h = goes t o n next (size-given r o n p q) h
+pub known-goes : {B : Type 0} (t : Outcome B) (r : Family) (o : Outcome ℕ) (kind : AddressKind) (next : ℕ → Outcome B) → familyOutcome r ≡ o → r ≡ Known kind → t ≡ next (kind .bits) → t ≡ andThen o next
+known-goes t r o kind next p q h = goes t o (kind .bits) next (known-given r o kind p q) h
 
-pub fault-given : (r : Part) (o : Outcome ℕ) (n : ℕ) → partOf r ≡ o → r ≡ Fault n → o ≡ refused n
-unfolding partOf
-fault-given r o n p q = sym p ∙ ap partOf q
-
-pub fault-stops : {B : Type 0} (r : Part) (o : Outcome ℕ) (n : ℕ) (next : ℕ → Outcome B) → partOf r ≡ o → r ≡ Fault n → refused n ≡ andThen o next
-fault-stops r o n next p q = stops o n next (fault-given r o n p q)
+pub unknown-stops : {B : Type 0} (r : Family) (o : Outcome ℕ) (n : ℕ) (next : ℕ → Outcome B) → familyOutcome r ≡ o → r ≡ Unknown n → refused n ≡ andThen o next
+unknown-stops r o n next p q = stops o n next (unknown-given r o n p q)
 
 pub typed-goes : {B : Type 0} (t : Outcome B) (r : Header) (o : Outcome (ℕ × ℕ)) (a b : ℕ) (next : ℕ × ℕ → Outcome B) → headerOutcome r ≡ o → r ≡ Typed a b → t ≡ next (a, b) → t ≡ andThen o next
 typed-goes t r o a b next p q h = goes t o (a, b) next (typed-given r o a b p q) h
@@ -61,11 +73,11 @@ on-nlri t r o l bad good p q h = on-given t o l bad good (nlri-given r o l p q) 
 pub on-refusal : {B : Type 0} (t : B) (r : Reading) (o : Outcome Layout) (n : ℕ) (bad : ℕ → B) (good : Layout → B) → readingOf r ≡ o → r ≡ Refused n → t ≡ bad n → t ≡ onOutcome bad good o
 on-refusal t r o n bad good p q h = on-refused t o n bad good (reading-refused r o n p q) h
 
-pub on-size : {B : Type 0} (t : B) (r : Part) (o : Outcome ℕ) (n : ℕ) (bad : ℕ → B) (good : ℕ → B) → partOf r ≡ o → r ≡ Size n → t ≡ good n → t ≡ onOutcome bad good o
-on-size t r o n bad good p q h = on-given t o n bad good (size-given r o n p q) h
+pub on-known : {B : Type 0} (t : B) (r : Family) (o : Outcome ℕ) (kind : AddressKind) (bad : ℕ → B) (good : ℕ → B) → familyOutcome r ≡ o → r ≡ Known kind → t ≡ good (kind .bits) → t ≡ onOutcome bad good o
+on-known t r o kind bad good p q h = on-given t o (kind .bits) bad good (known-given r o kind p q) h
 
-pub on-fault : {B : Type 0} (t : B) (r : Part) (o : Outcome ℕ) (n : ℕ) (bad : ℕ → B) (good : ℕ → B) → partOf r ≡ o → r ≡ Fault n → t ≡ bad n → t ≡ onOutcome bad good o
-on-fault t r o n bad good p q h = on-refused t o n bad good (fault-given r o n p q) h
+pub on-unknown : {B : Type 0} (t : B) (r : Family) (o : Outcome ℕ) (n : ℕ) (bad : ℕ → B) (good : ℕ → B) → familyOutcome r ≡ o → r ≡ Unknown n → t ≡ bad n → t ≡ onOutcome bad good o
+on-unknown t r o n bad good p q h = on-refused t o n bad good (unknown-given r o n p q) h
 
 pub on-typed : {B : Type 0} (t : B) (r : Header) (o : Outcome (ℕ × ℕ)) (a b : ℕ) (bad : ℕ → B) (good : ℕ × ℕ → B) → headerOutcome r ≡ o → r ≡ Typed a b → t ≡ good (a, b) → t ≡ onOutcome bad good o
 on-typed t r o a b bad good p q h = on-given t o (a, b) bad good (typed-given r o a b p q) h
@@ -74,7 +86,24 @@ pub on-unread : {B : Type 0} (t : B) (r : Header) (o : Outcome (ℕ × ℕ)) (n 
 unfolding headerOutcome
 on-unread t r o n bad good p q h = on-refused t o n bad good (sym p ∙ ap headerOutcome q) h
 
+-- a test that the code made by its negation
+not-true : (b : Bool) → not b ≡ true → b ≡ false
+not-true true e = absurd (true≢false (sym e))
+not-true false e = refl
+
+not-false : (b : Bool) → not b ≡ false → b ≡ true
+not-false true e = refl
+not-false false e = absurd (true≢false e)
+
+pub flag-off : (flag b : Bool) → flag ≡ b → not flag ≡ true → b ≡ false
+flag-off flag b p q = sym p ∙ not-true flag q
+
+pub flag-on : (flag b : Bool) → flag ≡ b → not flag ≡ false → b ≡ true
+flag-on flag b p q = sym p ∙ not-false flag q
+
+pub ruleset refusals = (flags, flag-off, flag-on)
+
 pub group-is : (g : Group) (o p : Outcome ℕ) → g ≡ groupOf o → o ≡ p → g ≡ groupOf p
 group-is g o p e q = e ∙ ap groupOf q
 
-pub ruleset reads = (tests, size-goes, fault-stops, typed-goes, unread-stops, on-nlri, on-refusal, nlri-goes, refusal-stops, on-size, on-fault)
+pub ruleset reads = (tests, known-goes, unknown-stops, typed-goes, unread-stops, on-nlri, on-refusal, nlri-goes, refusal-stops, on-known, on-unknown)

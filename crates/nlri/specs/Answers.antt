@@ -1,7 +1,7 @@
 -- What the calls on single NLRIs take and answer, in terms of document 01's fields.
 use Prim.Native.Nat.{ℕ}
 use mathlib.Core.List.{List, []}
-use lib.ListN.{length}
+use lib.ListN.{length, take}
 use lib.Dec.{eqb}
 use Rattle.octets.specs.Numbers.{DONE}
 use Rattle.octets.specs.Choice.{pick}
@@ -17,6 +17,10 @@ use Rattle.nlri.specs.Fields.{Fields}
 -- an address as a struct: its octets, then zeros, and its size
 unfoldable pub addressStruct : List ℕ → Address
 addressStruct octets = record { octets = sized 16 octets; size = length octets }
+
+-- the octets that an address of a kind, given by its bits, has at the front of octets: IPv4's 4, IPv6's 16, none of any other kind
+unfoldable pub kindOctets : (bits : ℕ) → List ℕ → List ℕ
+kindOctets bits octets = pick (eqb bits 32) (take 4 octets) (pick (eqb bits 128) (take 16 octets) [])
 
 -- a route distinguisher as a struct
 unfoldable pub distinguisherStruct : List ℕ → RouteDistinguisher

@@ -11,8 +11,10 @@ use Rattle.octets.specs.Outcome.{Outcome, given, refused, onOutcome, andThen}
 use Rattle.octets.specs.Octets.{part, numberIn}
 use Rattle.octets.specs.declared.Span.{Span}
 use Rattle.nlri.specs.declared.layout.Layout.{Layout}
-use Rattle.nlri.specs.declared.layout.Part.{Part}
-use Rattle.nlri.specs.declared.layout.Part.the-variants.{Size, Fault}
+use Rattle.nlri.specs.declared.family.Family.{Family}
+use Rattle.nlri.specs.declared.family.Family.the-variants.{Known, Unknown}
+use Rattle.nlri.specs.declared.read.KeySize.{KeySize}
+use Rattle.nlri.specs.declared.read.KeySize.the-variants.{Octets, Fault}
 use Rattle.nlri.specs.declared.read.Header.{Header}
 use Rattle.nlri.specs.declared.read.Header.the-variants.{Typed, Unread}
 use Rattle.nlri.specs.Family.{allowed, isOriginatorSize}
@@ -20,10 +22,15 @@ use Rattle.nlri.specs.Fields.{Fields}
 use Rattle.nlri.specs.Reading.{addressField, keyField}
 use Rattle.nlri.specs.Layouts.{layoutAt}
 
--- a size, or the refusal's number
-unfoldable pub partOf : Part → Outcome ℕ
-partOf (Size size) = given size
-partOf (Fault number) = refused number
+-- the bits of a family's addresses, or the refusal's number
+unfoldable pub familyOutcome : Family → Outcome ℕ
+familyOutcome (Known kind) = given (kind .bits)
+familyOutcome (Unknown number) = refused number
+
+-- the size of a key, or the refusal's number
+unfoldable pub keyOutcome : KeySize → Outcome ℕ
+keyOutcome (Octets size) = given size
+keyOutcome (Fault number) = refused number
 
 -- a route type and a Length, or the refusal's number
 unfoldable pub headerOutcome : Header → Outcome (ℕ × ℕ)

@@ -1,9 +1,9 @@
-// Route distinguishers and addresses, and the lengths that addresses have on the wire.
+// Route distinguishers, addresses, and the kinds of addresses by their lengths on the wire.
 ghost use mathlib.Core.Path.{_≡_};
 ghost use mathlib.Core.List.{[]};
-ghost use Prim.Native.Nat.{_≤_};
+ghost use Prim.Native.Nat.{_/_, _≤_};
 ghost use lib.ListN.{length, take};
-ghost use Rattle.nlri.specs.Answers.{addressStruct};
+ghost use Rattle.nlri.specs.Answers.{addressStruct, kindOctets};
 
 // A route distinguisher: eight octets, kept as they came.
 #[repr(C)]
@@ -24,21 +24,7 @@ pub struct Address {
     pub size: u8,
 }
 
-// The kinds of addresses: the wildcard, IPv4 and IPv6. Their lengths in bits are named once, and every `Address` is made by
-// its kind's constructor.
-pub struct AddressKind {}
-
-impl AddressKind {
-    pub const WILDCARD: usize = 0;
-
-    pub const IPV4: usize = 32;
-
-    pub const IPV6: usize = 128;
-    // the same in octets
-    pub const IPV4_OCTETS: usize = 4;
-
-    pub const IPV6_OCTETS: usize = 16;
-
+impl Address {
     // The wildcard.
     pub fn wildcard() -> Address
         ensures { λ r. ⌜ r ≡ addressStruct [] ⌝ }
@@ -48,65 +34,129 @@ impl AddressKind {
             size: 0,
         }
     }
+}
 
-    // An IPv4 address: the first four octets.
-    pub fn ipv4(octets: &[u8]) -> Address
-        ensures { λ r. ⌜ r ≡ addressStruct (take 4 (now (octets .entry))) ⌝ }
+// The kind of an address: its length in bits, as a length octet has it. The three lengths are named once, here.
+pub struct AddressKind {
+    pub bits: usize,
+}
+
+impl AddressKind {
+    pub const WILDCARD: usize = 0;
+
+    pub const IPV4: usize = 32;
+
+    pub const IPV6: usize = 128;
+    // the same in octets
+    pub const IPV4_OCTETS: usize = AddressKind::IPV4 / 8;
+
+    pub const IPV6_OCTETS: usize = AddressKind::IPV6 / 8;
+
+    // The wildcard's kind.
+    pub fn wildcard() -> AddressKind
+        ensures { λ r. ⌜ r .bits ≡ 0 ⌝ }
     {
-        if octets.len() < AddressKind::IPV4_OCTETS {
-            return shorter(octets);
-        }
-        Address {
-            octets: [
-                octets[0],
-                octets[1],
-                octets[2],
-                octets[3],
-                0,
-                0,
-                0,
-                0,
-                0,
-                0,
-                0,
-                0,
-                0,
-                0,
-                0,
-                0,
-            ],
-            size: AddressKind::IPV4_OCTETS as u8,
+        AddressKind {
+            bits: AddressKind::WILDCARD,
         }
     }
 
-    // An IPv6 address: the first sixteen octets.
-    pub fn ipv6(octets: &[u8]) -> Address
-        ensures { λ r. ⌜ r ≡ addressStruct (take 16 (now (octets .entry))) ⌝ }
+    // The kind of IPv4 addresses.
+    pub fn ipv4() -> AddressKind
+        ensures { λ r. ⌜ r .bits ≡ 32 ⌝ }
     {
-        if octets.len() < AddressKind::IPV6_OCTETS {
-            return shorter(octets);
+        AddressKind {
+            bits: AddressKind::IPV4,
         }
-        Address {
-            octets: [
-                octets[0],
-                octets[1],
-                octets[2],
-                octets[3],
-                octets[4],
-                octets[5],
-                octets[6],
-                octets[7],
-                octets[8],
-                octets[9],
-                octets[10],
-                octets[11],
-                octets[12],
-                octets[13],
-                octets[14],
-                octets[15],
-            ],
-            size: AddressKind::IPV6_OCTETS as u8,
+    }
+
+    // The kind of IPv6 addresses.
+    pub fn ipv6() -> AddressKind
+        ensures { λ r. ⌜ r .bits ≡ 128 ⌝ }
+    {
+        AddressKind {
+            bits: AddressKind::IPV6,
         }
+    }
+
+    // The octets of an address of the kind.
+    pub fn octets(self) -> usize
+        ensures { λ r. ⌜ r ≡ self .bits / 8 ⌝ }
+    {
+        self.bits / 8
+    }
+
+    // The address of the kind at the front of octets: IPv4's four, IPv6's sixteen, or the wildcard.
+    pub fn address(self, octets: &[u8]) -> Address
+        ensures { λ r. ⌜ r ≡ addressStruct (kindOctets (self .bits) (now (octets .entry))) ⌝ }
+    {
+        if self.bits == AddressKind::IPV4 {
+            return four_octets(octets);
+        }
+        if self.bits == AddressKind::IPV6 {
+            return sixteen_octets(octets);
+        }
+        Address::wildcard()
+    }
+}
+
+// An IPv4 address: the first four octets.
+fn four_octets(octets: &[u8]) -> Address
+    ensures { λ r. ⌜ r ≡ addressStruct (take 4 (now (octets .entry))) ⌝ }
+{
+    if octets.len() < AddressKind::IPV4_OCTETS {
+        return shorter(octets);
+    }
+    Address {
+        octets: [
+            octets[0],
+            octets[1],
+            octets[2],
+            octets[3],
+            0,
+            0,
+            0,
+            0,
+            0,
+            0,
+            0,
+            0,
+            0,
+            0,
+            0,
+            0,
+        ],
+        size: AddressKind::IPV4_OCTETS as u8,
+    }
+}
+
+// An IPv6 address: the first sixteen octets.
+fn sixteen_octets(octets: &[u8]) -> Address
+    ensures { λ r. ⌜ r ≡ addressStruct (take 16 (now (octets .entry))) ⌝ }
+{
+    if octets.len() < AddressKind::IPV6_OCTETS {
+        return shorter(octets);
+    }
+    Address {
+        octets: [
+            octets[0],
+            octets[1],
+            octets[2],
+            octets[3],
+            octets[4],
+            octets[5],
+            octets[6],
+            octets[7],
+            octets[8],
+            octets[9],
+            octets[10],
+            octets[11],
+            octets[12],
+            octets[13],
+            octets[14],
+            octets[15],
+        ],
+        size: AddressKind::IPV6_OCTETS as u8,
     }
 }
 

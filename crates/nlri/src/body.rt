@@ -18,10 +18,10 @@ use octets::number::TYPE;
 use octets::number::WIDTH;
 
 // A source or group length is the family's; in type 3 only it may be 0, the wildcard.
-pub(crate) fn is_allowed(family: usize, route_type: usize, bits: usize) -> bool
-    ensures { λ r. ⌜ r ≡ allowed family «route_type» bits ⌝ }
+pub(crate) fn is_allowed(kind: AddressKind, route_type: usize, bits: usize) -> bool
+    ensures { λ r. ⌜ r ≡ allowed (kind .bits) «route_type» bits ⌝ }
 {
-    if bits == family {
+    if bits == kind.bits {
         return true;
     }
     if route_type == RouteType::S_PMSI {
@@ -76,38 +76,38 @@ fn flow_end_fault(route_type: usize, at: usize, size: usize) -> u32
 }
 
 // A group, whose length octet is at `at`, and what follows it.
-fn group_fault(family: usize, route_type: usize, at: usize, s: &[u8]) -> u32
+fn group_fault(kind: AddressKind, route_type: usize, at: usize, s: &[u8]) -> u32
     requires { ⌜ at < 256 ⌝ }
-    ensures { λ r. ⌜ r ≡ groupFault family «route_type» at (now (s .entry)) ⌝ }
+    ensures { λ r. ⌜ r ≡ groupFault (kind .bits) «route_type» at (now (s .entry)) ⌝ }
 {
     if s.len() <= at {
         return LENGTH;
     }
     let bits = s[at] as usize;
-    if is_allowed(family, route_type, bits) {
+    if is_allowed(kind, route_type, bits) {
         return flow_end_fault(route_type, at + 1 + bits / 8, s.len());
     }
     WIDTH
 }
 
 // A source, whose length octet is at `at`, and what follows it.
-pub(crate) fn flow_fault(family: usize, route_type: usize, at: usize, s: &[u8]) -> u32
+pub(crate) fn flow_fault(kind: AddressKind, route_type: usize, at: usize, s: &[u8]) -> u32
     requires { ⌜ at < 128 ⌝ }
-    ensures { λ r. ⌜ r ≡ flowFault family «route_type» at (now (s .entry)) ⌝ }
+    ensures { λ r. ⌜ r ≡ flowFault (kind .bits) «route_type» at (now (s .entry)) ⌝ }
 {
     if s.len() <= at {
         return LENGTH;
     }
     let bits = s[at] as usize;
-    if is_allowed(family, route_type, bits) {
-        return group_fault(family, route_type, at + 1 + bits / 8, s);
+    if is_allowed(kind, route_type, bits) {
+        return group_fault(kind, route_type, at + 1 + bits / 8, s);
     }
     WIDTH
 }
 
 // A body that has no key, of the route type given.
-pub(crate) fn unkeyed_body_fault(family: usize, route_type: usize, s: &[u8]) -> u32
-    ensures { λ r. ⌜ r ≡ numberOf (unkeyedBody family «route_type» (now (s .entry))) ⌝ }
+pub(crate) fn unkeyed_body_fault(kind: AddressKind, route_type: usize, s: &[u8]) -> u32
+    ensures { λ r. ⌜ r ≡ numberOf (unkeyedBody (kind .bits) «route_type» (now (s .entry))) ⌝ }
 {
     if route_type == RouteType::INTRA_AS_I_PMSI {
         return originator_fault(RouteDistinguisher::OCTETS, s.len());
@@ -125,7 +125,7 @@ pub(crate) fn unkeyed_body_fault(family: usize, route_type: usize, s: &[u8]) -> 
         return TYPE;
     }
     flow_fault(
-        family,
+        kind,
         route_type,
         fields::source_start(route_type) - (HEADER + 1),
         s,

@@ -1,9 +1,8 @@
-// Address families: every function below the calls goes by the bits of the family's addresses.
+// Address families: every function below the calls goes by the kind of the family's addresses.
 ghost use mathlib.Core.Path.{_≡_};
 ghost use Rattle.nlri.specs.Family.{familyBits};
-ghost use Rattle.nlri.specs.Inner.{partOf};
+ghost use Rattle.nlri.specs.Inner.{familyOutcome};
 use crate::address::AddressKind;
-use crate::layout::Part;
 use octets::number::FAMILY;
 
 // Address family identifiers.
@@ -15,14 +14,21 @@ impl AddressFamily {
     pub const IPV6: u16 = 2;
 }
 
-pub(crate) fn family_bits(afi: u16) -> Part
-    ensures { λ r. ⌜ partOf r ≡ familyBits afi ⌝ }
+// A family by the kind of its addresses, or the refusal's number.
+pub(crate) enum Family {
+    Known(AddressKind),
+    Unknown(u32),
+}
+
+// The family of an AFI.
+pub(crate) fn family_of(afi: u16) -> Family
+    ensures { λ r. ⌜ familyOutcome r ≡ familyBits afi ⌝ }
 {
     if afi == AddressFamily::IPV4 {
-        return Part::Size(AddressKind::IPV4);
+        return Family::Known(AddressKind::ipv4());
     }
     if afi == AddressFamily::IPV6 {
-        return Part::Size(AddressKind::IPV6);
+        return Family::Known(AddressKind::ipv6());
     }
-    Part::Fault(FAMILY)
+    Family::Unknown(FAMILY)
 }

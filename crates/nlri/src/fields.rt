@@ -42,13 +42,13 @@ fn address_at(s: &[u8], start: usize, size: usize) -> Address
     requires { ⌜ (size ≤ 16) × ((0 < size → start + size ≤ length (now s))) ⌝ }
     ensures { λ r. ⌜ r ≡ addressStruct (part (now (s .entry)) start size) ⌝ }
 {
-    if size == AddressKind::WILDCARD {
-        return AddressKind::wildcard();
+    if size == 0 {
+        return Address::wildcard();
     }
     if size == AddressKind::IPV4_OCTETS {
-        return AddressKind::ipv4(octets::parts::between(s, start, size));
+        return AddressKind::ipv4().address(octets::parts::between(s, start, size));
     }
-    AddressKind::ipv6(octets::parts::between(s, start, size))
+    AddressKind::ipv6().address(octets::parts::between(s, start, size))
 }
 
 fn distinguisher_in(route_type: usize, s: &[u8]) -> RouteDistinguisher
@@ -125,9 +125,9 @@ fn refusal(number: u32) -> NlriReading
         number,
         nlri: Nlri {
             distinguisher: RouteDistinguisher { octets: [0; 8] },
-            source: AddressKind::wildcard(),
-            group: AddressKind::wildcard(),
-            originator: AddressKind::wildcard(),
+            source: Address::wildcard(),
+            group: Address::wildcard(),
+            originator: Address::wildcard(),
             source_as: 0,
             route_type: 0,
         },

@@ -6,7 +6,7 @@ ghost use Rattle.octets.specs.Outcome.{given, refused};
 ghost use Rattle.nlri.specs.Groups.{multicast, sourceSpecific, classUnder, classOf, groupOf};
 use crate::address::AddressKind;
 use crate::family;
-use crate::layout::Part;
+use crate::family::Family;
 use octets::number::DONE;
 use octets::number::FLOW;
 
@@ -42,11 +42,11 @@ impl Group {
 }
 
 // 224.0.0.0/4, FF00::/8
-fn is_multicast(family: usize, group: &[u8]) -> bool
+fn is_multicast(kind: AddressKind, group: &[u8]) -> bool
     requires { ⌜ 4 ≤ length (now group) ⌝ }
-    ensures { λ r. ⌜ r ≡ multicast family (now (group .entry)) ⌝ }
+    ensures { λ r. ⌜ r ≡ multicast (kind .bits) (now (group .entry)) ⌝ }
 {
-    if family == AddressKind::IPV4 {
+    if kind.bits == AddressKind::IPV4 {
         if group[0] < 224 {
             return false;
         }
@@ -56,11 +56,11 @@ fn is_multicast(family: usize, group: &[u8]) -> bool
 }
 
 // 232.0.0.0/8, FF3x::/32
-fn is_source_specific(family: usize, group: &[u8]) -> bool
+fn is_source_specific(kind: AddressKind, group: &[u8]) -> bool
     requires { ⌜ 4 ≤ length (now group) ⌝ }
-    ensures { λ r. ⌜ r ≡ sourceSpecific family (now (group .entry)) ⌝ }
+    ensures { λ r. ⌜ r ≡ sourceSpecific (kind .bits) (now (group .entry)) ⌝ }
 {
-    if family == AddressKind::IPV4 {
+    if kind.bits == AddressKind::IPV4 {
         return group[0] == 232;
     }
     if group[0] != 255 {
@@ -75,39 +75,39 @@ fn is_source_specific(family: usize, group: &[u8]) -> bool
     group[3] == 0
 }
 
-fn class_under(family: usize, group: &[u8]) -> Group
-    requires { ⌜ 32 ≤ family ⌝ }
-    ensures { λ r. ⌜ r ≡ groupOf (classUnder family (now (group .entry))) ⌝ }
+fn class_under(kind: AddressKind, group: &[u8]) -> Group
+    requires { ⌜ 32 ≤ kind .bits ⌝ }
+    ensures { λ r. ⌜ r ≡ groupOf (classUnder (kind .bits) (now (group .entry))) ⌝ }
 {
-    if group.len() != family / 8 {
+    if group.len() != kind.octets() {
         return Group::refused(FLOW);
     }
-    if is_multicast(family, group) {
-        if is_source_specific(family, group) {
-            return Group::given(Group::SSM);
-        }
-        return Group::given(Group::ASM);
+    if !is_multicast(kind, group) {
+        return Group::refused(FLOW);
     }
-    Group::refused(FLOW)
+    if is_source_specific(kind, group) {
+        return Group::given(Group::SSM);
+    }
+    Group::given(Group::ASM)
 }
 
 // The class of a group. FAMILY, FLOW.
 pub fn group_class(afi: u16, group: &[u8]) -> Group
     ensures { λ r. ⌜ r ≡ groupOf (classOf afi (now (group .entry))) ⌝ }
 {
-    match family::family_bits(afi) {
-        Part::Fault(number) => Group::refused(number),
-        Part::Size(family) => class_in(family, group),
+    match family::family_of(afi) {
+        Family::Unknown(number) => Group::refused(number),
+        Family::Known(kind) => class_in(kind, group),
     }
 }
 
 // A branch for each family: what is compiled of each tests no family.
-fn class_in(family: usize, group: &[u8]) -> Group
-    requires { ⌜ 32 ≤ family ⌝ }
-    ensures { λ r. ⌜ r ≡ groupOf (classUnder family (now (group .entry))) ⌝ }
+fn class_in(kind: AddressKind, group: &[u8]) -> Group
+    requires { ⌜ 32 ≤ kind .bits ⌝ }
+    ensures { λ r. ⌜ r ≡ groupOf (classUnder (kind .bits) (now (group .entry))) ⌝ }
 {
-    if family == AddressKind::IPV4 {
-        return class_under(AddressKind::IPV4, group);
+    if kind.bits == AddressKind::IPV4 {
+        return class_under(AddressKind::ipv4(), group);
     }
-    class_under(family, group)
+    class_under(kind, group)
 }

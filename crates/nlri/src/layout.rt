@@ -17,9 +17,3 @@ pub enum Reading {
     Nlri(Layout),
     Refused(u32),
 }
-
-// A size, of a key in octets or of the family's addresses in bits, or the refusal's number.
-pub(crate) enum Part {
-    Size(usize),
-    Fault(u32),
-}

@@ -5,13 +5,14 @@ ghost use lib.ListN.{length, getD};
 ghost use Rattle.octets.specs.Outcome.{numberOf};
 ghost use Rattle.nlri.specs.Reading.{keyField, isSPmsi};
 ghost use Rattle.nlri.specs.Layouts.{readingOf, layoutAt, layoutSingle};
-ghost use Rattle.nlri.specs.Inner.{partOf, headerOutcome, headerAt, unkeyedHeader, leaf, anyBody, layoutWith, flowLayout, leafLayout, layoutIn, FlowStands, Stands, endsWith, single, sPmsiUnder};
+ghost use Rattle.nlri.specs.Inner.{keyOutcome, headerOutcome, headerAt, unkeyedHeader, leaf, anyBody, layoutWith, flowLayout, leafLayout, layoutIn, FlowStands, Stands, endsWith, single, sPmsiUnder};
+use crate::address::AddressKind;
 use crate::address::RouteDistinguisher;
 use crate::body;
 use crate::family;
+use crate::family::Family;
 use crate::fields;
 use crate::layout::Layout;
-use crate::layout::Part;
 use crate::layout::Reading;
 use crate::route::RouteType;
 use octets::number::DONE;
@@ -28,6 +29,12 @@ pub(crate) enum Header {
     Unread(u32),
 }
 
+// The size of a key in octets, or the refusal's number.
+pub(crate) enum KeySize {
+    Octets(usize),
+    Fault(u32),
+}
+
 fn read_header(s: &[u8]) -> Header
     ensures { λ r. ⌜ headerOutcome r ≡ headerAt (now (s .entry)) ⌝ }
 {
@@ -42,14 +49,14 @@ fn read_header(s: &[u8]) -> Header
 }
 
 // Type and Length of the NLRI at the front of `s`, if its type has no key.
-fn read_unkeyed(family: usize, s: &[u8]) -> Header
-    ensures { λ r. ⌜ headerOutcome r ≡ unkeyedHeader family (now (s .entry)) ⌝ }
+fn read_unkeyed(kind: AddressKind, s: &[u8]) -> Header
+    ensures { λ r. ⌜ headerOutcome r ≡ unkeyedHeader (kind .bits) (now (s .entry)) ⌝ }
 {
     match read_header(s) {
         Header::Unread(number) => Header::Unread(number),
         Header::Typed(route_type, length) => {
             let body = octets::parts::between(s, HEADER, length);
-            let fault = body::unkeyed_body_fault(family, route_type, body);
+            let fault = body::unkeyed_body_fault(kind, route_type, body);
             if fault != DONE {
                 return Header::Unread(fault);
             }
@@ -59,46 +66,46 @@ fn read_unkeyed(family: usize, s: &[u8]) -> Header
 }
 
 // The size of the key at the front of `s`: a whole NLRI of type 1, 2 or 3. Any fault inside it is KEY.
-fn read_key(family: usize, s: &[u8]) -> Part
-    ensures { λ r. ⌜ partOf r ≡ keyField family (now (s .entry)) ⌝ }
+fn read_key(kind: AddressKind, s: &[u8]) -> KeySize
+    ensures { λ r. ⌜ keyOutcome r ≡ keyField (kind .bits) (now (s .entry)) ⌝ }
 {
-    let Header::Typed(route_type, length) = read_unkeyed(family, s) else {
-        return Part::Fault(KEY);
+    let Header::Typed(route_type, length) = read_unkeyed(kind, s) else {
+        return KeySize::Fault(KEY);
     };
     if RouteType::S_PMSI < route_type {
-        return Part::Fault(KEY);
+        return KeySize::Fault(KEY);
     }
-    Part::Size(HEADER + length)
+    KeySize::Octets(HEADER + length)
 }
 
-fn leaf_fault(family: usize, s: &[u8]) -> u32
-    ensures { λ r. ⌜ r ≡ numberOf (leaf family (now (s .entry))) ⌝ }
+fn leaf_fault(kind: AddressKind, s: &[u8]) -> u32
+    ensures { λ r. ⌜ r ≡ numberOf (leaf (kind .bits) (now (s .entry))) ⌝ }
 {
-    match read_key(family, s) {
-        Part::Fault(number) => number,
-        Part::Size(key) => body::originator_fault(key, s.len()),
+    match read_key(kind, s) {
+        KeySize::Fault(number) => number,
+        KeySize::Octets(key) => body::originator_fault(key, s.len()),
     }
 }
 
 // A body of any route type.
-fn body_fault(family: usize, route_type: usize, s: &[u8]) -> u32
-    ensures { λ r. ⌜ r ≡ numberOf (anyBody family «route_type» (now (s .entry))) ⌝ }
+fn body_fault(kind: AddressKind, route_type: usize, s: &[u8]) -> u32
+    ensures { λ r. ⌜ r ≡ numberOf (anyBody (kind .bits) «route_type» (now (s .entry))) ⌝ }
 {
     if route_type == RouteType::LEAF {
-        return leaf_fault(family, s);
+        return leaf_fault(kind, s);
     }
-    body::unkeyed_body_fault(family, route_type, s)
+    body::unkeyed_body_fault(kind, route_type, s)
 }
 
-// The number of the NLRI at the front of `s`, under a family given by the bits of its addresses.
-pub(crate) fn front_fault(family: usize, s: &[u8]) -> u32
-    ensures { λ r. ⌜ r ≡ numberOf (layoutAt family (now (s .entry))) ⌝ }
+// The number of the NLRI at the front of `s`, under the family of addresses of a kind.
+pub(crate) fn front_fault(kind: AddressKind, s: &[u8]) -> u32
+    ensures { λ r. ⌜ r ≡ numberOf (layoutAt (kind .bits) (now (s .entry))) ⌝ }
 {
     // parts handed on, so that the slice reaches this function in registers
     match read_header(&s[0..]) {
         Header::Unread(number) => number,
         Header::Typed(route_type, length) => {
-            body_fault(family, route_type, &s[HEADER..HEADER + length])
+            body_fault(kind, route_type, &s[HEADER..HEADER + length])
         }
     }
 }
@@ -175,10 +182,10 @@ pub(crate) fn layout_in(s: &[u8]) -> Layout
 }
 
 // The NLRI at the front of `s`.
-fn read_front(family: usize, s: &[u8]) -> Reading
-    ensures { λ r. ⌜ readingOf r ≡ layoutAt family (now (s .entry)) ⌝ }
+fn read_front(kind: AddressKind, s: &[u8]) -> Reading
+    ensures { λ r. ⌜ readingOf r ≡ layoutAt (kind .bits) (now (s .entry)) ⌝ }
 {
-    let fault = front_fault(family, s);
+    let fault = front_fault(kind, s);
     if fault != DONE {
         return Reading::Refused(fault);
     }
@@ -186,10 +193,10 @@ fn read_front(family: usize, s: &[u8]) -> Reading
 }
 
 // A single NLRI: octets after it are LENGTH.
-fn read_single(family: usize, s: &[u8]) -> Reading
-    ensures { λ r. ⌜ readingOf r ≡ single family (now (s .entry)) ⌝ }
+fn read_single(kind: AddressKind, s: &[u8]) -> Reading
+    ensures { λ r. ⌜ readingOf r ≡ single (kind .bits) (now (s .entry)) ⌝ }
 {
-    match read_front(family, s) {
+    match read_front(kind, s) {
         Reading::Refused(number) => Reading::Refused(number),
         Reading::Nlri(layout) => ends_at(layout, s),
     }
@@ -209,15 +216,15 @@ fn ends_at(layout: Layout, s: &[u8]) -> Reading
 pub fn read_layout(afi: u16, s: &[u8]) -> Reading
     ensures { λ r. ⌜ readingOf r ≡ layoutSingle afi (now (s .entry)) ⌝ }
 {
-    match family::family_bits(afi) {
-        Part::Fault(number) => Reading::Refused(number),
-        Part::Size(family) => read_single(family, s),
+    match family::family_of(afi) {
+        Family::Unknown(number) => Reading::Refused(number),
+        Family::Known(kind) => read_single(kind, s),
     }
 }
 
 // A single NLRI of type 3 under a family. Its octets are judged where they stand, with no layout.
-fn is_s_pmsi_under(family: usize, s: &[u8]) -> bool
-    ensures { λ r. ⌜ r ≡ sPmsiUnder family (now (s .entry)) ⌝ }
+fn is_s_pmsi_under(kind: AddressKind, s: &[u8]) -> bool
+    ensures { λ r. ⌜ r ≡ sPmsiUnder (kind .bits) (now (s .entry)) ⌝ }
 {
     if s.len() < HEADER + RouteDistinguisher::OCTETS {
         return false;
@@ -229,7 +236,7 @@ fn is_s_pmsi_under(family: usize, s: &[u8]) -> bool
         return false;
     }
     body::flow_fault(
-        family,
+        kind,
         RouteType::S_PMSI,
         HEADER + RouteDistinguisher::OCTETS,
         s,
@@ -241,8 +248,8 @@ fn is_s_pmsi_under(family: usize, s: &[u8]) -> bool
 pub fn is_s_pmsi(afi: u16, s: &[u8]) -> bool
     ensures { λ r. ⌜ r ≡ isSPmsi afi (now (s .entry)) ⌝ }
 {
-    match family::family_bits(afi) {
-        Part::Fault(_) => false,
-        Part::Size(family) => is_s_pmsi_under(family, s),
+    match family::family_of(afi) {
+        Family::Unknown(_) => false,
+        Family::Known(kind) => is_s_pmsi_under(kind, s),
     }
 }

@@ -1,9 +1,10 @@
 // Walking a run of NLRIs.
 ghost use mathlib.Core.Path.{_≡_};
 ghost use Rattle.nlri.specs.Walking.{steppedOf, stepUnder, stepFrom, walkOf};
+use crate::address::AddressKind;
 use crate::family;
+use crate::family::Family;
 use crate::layout::Layout;
-use crate::layout::Part;
 use crate::read;
 use crate::read::HEADER;
 use octets::number::DONE;
@@ -39,16 +40,16 @@ impl Cursor {
     pub fn step(self, afi: u16, run: &[u8]) -> Step
         ensures { λ r. ⌜ steppedOf r ≡ stepFrom afi (now (run .entry)) (self .at) ⌝ }
     {
-        match family::family_bits(afi) {
-            Part::Fault(number) => Step::Refused(number, self),
-            Part::Size(family) => step_under(family, run, self.at),
+        match family::family_of(afi) {
+            Family::Unknown(number) => Step::Refused(number, self),
+            Family::Known(kind) => step_under(kind, run, self.at),
         }
     }
 }
 
 // The number of the step from `at`, whether or not an NLRI stands there.
-fn step_fault(family: usize, run: &[u8], at: usize) -> u32
-    ensures { λ r. ⌜ r ≡ stepUnder family (now (run .entry)) at .number ⌝ }
+fn step_fault(kind: AddressKind, run: &[u8], at: usize) -> u32
+    ensures { λ r. ⌜ r ≡ stepUnder (kind .bits) (now (run .entry)) at .number ⌝ }
 {
     if RUN < run.len() {
         return LONG;
@@ -59,13 +60,13 @@ fn step_fault(family: usize, run: &[u8], at: usize) -> u32
     if run.len() < at {
         return SHORT;
     }
-    read::front_fault(family, octets::parts::after(run, at))
+    read::front_fault(kind, octets::parts::after(run, at))
 }
 
-fn step_under(family: usize, run: &[u8], at: usize) -> Step
-    ensures { λ r. ⌜ steppedOf r ≡ stepUnder family (now (run .entry)) at ⌝ }
+fn step_under(kind: AddressKind, run: &[u8], at: usize) -> Step
+    ensures { λ r. ⌜ steppedOf r ≡ stepUnder (kind .bits) (now (run .entry)) at ⌝ }
 {
-    let fault = step_fault(family, run, at);
+    let fault = step_fault(kind, run, at);
     if fault != DONE {
         return Step::Refused(fault, Cursor { at });
     }
@@ -85,7 +86,7 @@ fn step_under(family: usize, run: &[u8], at: usize) -> Step
 pub fn walk(afi: u16, run: &[u8]) -> Walked
     ensures { λ r. ⌜ r ≡ walkOf afi (now (run .entry)) ⌝ }
 {
-    let Part::Size(family) = family::family_bits(afi) else {
+    let Family::Known(kind) = family::family_of(afi) else {
         return Walked {
             number: FAMILY,
             count: 0,
@@ -95,7 +96,7 @@ pub fn walk(afi: u16, run: &[u8]) -> Walked
     let mut at: usize = 0;
     let mut count: u32 = 0;
     loop {
-        let number = step_fault(family, run, at);
+        let number = step_fault(kind, run, at);
         if number != DONE {
             return Walked {
                 number,

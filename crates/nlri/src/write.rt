@@ -16,9 +16,9 @@ use crate::address::AddressKind;
 use crate::address::RouteDistinguisher;
 use crate::body;
 use crate::family;
+use crate::family::Family;
 use crate::fields;
 use crate::fields::Nlri;
-use crate::layout::Part;
 use crate::read;
 use crate::read::HEADER;
 use crate::route::RouteType;
@@ -52,13 +52,13 @@ fn has_originator(route_type: usize) -> bool
     route_type == RouteType::LEAF
 }
 
-fn flow_fits(family: usize, route_type: usize, source: usize, group: usize) -> bool
+fn flow_fits(kind: AddressKind, route_type: usize, source: usize, group: usize) -> bool
     requires { ⌜ (source < 256) × (group < 256) ⌝ }
-    ensures { λ r. ⌜ r ≡ flowFits family «route_type» source group ⌝ }
+    ensures { λ r. ⌜ r ≡ flowFits (kind .bits) «route_type» source group ⌝ }
 {
     if has_flow(route_type) {
-        if body::is_allowed(family, route_type, 8 * source) {
-            return body::is_allowed(family, route_type, 8 * group);
+        if body::is_allowed(kind, route_type, 8 * source) {
+            return body::is_allowed(kind, route_type, 8 * group);
         }
         return false;
     }
@@ -75,18 +75,18 @@ fn originator_fits(route_type: usize, size: usize) -> bool
 }
 
 // A Leaf's key is exactly one NLRI of type 1, 2 or 3.
-fn key_fits(family: usize, route_type: usize, key: &[u8]) -> bool
-    ensures { λ r. ⌜ r ≡ leafFits family «route_type» (now (key .entry)) ⌝ }
+fn key_fits(kind: AddressKind, route_type: usize, key: &[u8]) -> bool
+    ensures { λ r. ⌜ r ≡ leafFits (kind .bits) «route_type» (now (key .entry)) ⌝ }
 {
     if route_type == RouteType::LEAF {
-        return is_key(family, key);
+        return is_key(kind, key);
     }
     true
 }
 
 // Where type and Length are those of a single NLRI of type 1, 2 or 3, the judge of any NLRI at the front decides.
-fn is_key(family: usize, key: &[u8]) -> bool
-    ensures { λ r. ⌜ r ≡ isKey family (now (key .entry)) ⌝ }
+fn is_key(kind: AddressKind, key: &[u8]) -> bool
+    ensures { λ r. ⌜ r ≡ isKey (kind .bits) (now (key .entry)) ⌝ }
 {
     if key.len() < HEADER {
         return false;
@@ -97,12 +97,12 @@ fn is_key(family: usize, key: &[u8]) -> bool
     if key.len() - HEADER != key[1] as usize {
         return false;
     }
-    read::front_fault(family, key) == DONE
+    read::front_fault(kind, key) == DONE
 }
 
 // DONE, or the first of TYPE, WIDTH and KEY.
-fn judge(family: usize, nlri: Nlri, key: &[u8]) -> u32
-    ensures { λ r. ⌜ r ≡ fieldsFault family nlri (now (key .entry)) ⌝ }
+fn judge(kind: AddressKind, nlri: Nlri, key: &[u8]) -> u32
+    ensures { λ r. ⌜ r ≡ fieldsFault (kind .bits) nlri (now (key .entry)) ⌝ }
 {
     let route_type = nlri.route_type as usize;
     let source = nlri.source;
@@ -114,14 +114,9 @@ fn judge(family: usize, nlri: Nlri, key: &[u8]) -> u32
     if RouteType::SOURCE_TREE_JOIN < route_type {
         return TYPE;
     }
-    if flow_fits(
-        family,
-        route_type,
-        source.size as usize,
-        group.size as usize,
-    ) {
+    if flow_fits(kind, route_type, source.size as usize, group.size as usize) {
         if originator_fits(route_type, originator.size as usize) {
-            if key_fits(family, route_type, key) {
+            if key_fits(kind, route_type, key) {
                 return DONE;
             }
             return KEY;
@@ -285,11 +280,11 @@ fn refusal(number: u32) -> Written
     Written { number, size: 0 }
 }
 
-fn write_under(family: usize, nlri: Nlri, key: &[u8], output: &mut [u8]) -> Written
-    requires { ⌜ (family ≡ 32) ⊎ (family ≡ 128) ⌝ }
-    ensures { λ r. ⌜ (r ≡ writtenOf (writeUnder family nlri (now (key .entry)) (length (now (output .entry))))) × (now (output .exit) ≡ outputOf (writeUnder family nlri (now (key .entry)) (length (now (output .entry)))) (now (output .entry))) ⌝ }
+fn write_under(kind: AddressKind, nlri: Nlri, key: &[u8], output: &mut [u8]) -> Written
+    requires { ⌜ (kind .bits ≡ 32) ⊎ (kind .bits ≡ 128) ⌝ }
+    ensures { λ r. ⌜ (r ≡ writtenOf (writeUnder (kind .bits) nlri (now (key .entry)) (length (now (output .entry))))) × (now (output .exit) ≡ outputOf (writeUnder (kind .bits) nlri (now (key .entry)) (length (now (output .entry)))) (now (output .entry))) ⌝ }
 {
-    let fault = judge(family, nlri, key);
+    let fault = judge(kind, nlri, key);
     if fault != DONE {
         return refusal(fault);
     }
@@ -305,8 +300,8 @@ pub fn write_nlri(afi: u16, nlri: Nlri, key: &[u8], output: &mut [u8]) -> Writte
     ensures { λ r. ⌜ r ≡ writtenOf (writeNlri afi (structFields nlri (now (key .entry))) (length (now (output .entry)))) ⌝ }
     ensures { λ r. ⌜ now (output .exit) ≡ outputOf (writeNlri afi (structFields nlri (now (key .entry))) (length (now (output .entry)))) (now (output .entry)) ⌝ }
 {
-    match family::family_bits(afi) {
-        Part::Fault(number) => refusal(number),
-        Part::Size(family) => write_under(family, nlri, key, output),
+    match family::family_of(afi) {
+        Family::Unknown(number) => refusal(number),
+        Family::Known(kind) => write_under(kind, nlri, key, output),
     }
 }

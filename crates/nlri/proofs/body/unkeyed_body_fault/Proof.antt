@@ -56,7 +56,7 @@ returns-6 : tie.Need-returns-6
 unfolding unkeyedBody
 returns-6 c =
     let a = c .before .before .before .before .before .before .before .before .args in
-    c .flow-fault .ensures ∙ ap (λ (k : ℕ). flowFault (a .family) (a .route-type) (k - 3) (now (a .s))) (c .before .source-start .ensures) ∙ flow-number _ _ _ _
+    c .flow-fault .ensures ∙ ap (λ (k : ℕ). flowFault (a .kind .bits) (a .route-type) (k - 3) (now (a .s))) (c .before .source-start .ensures) ∙ flow-number _ _ _ _
     ∙ ap numberOf (of-flow _ _ _ _ (search needs) (search needs) (search needs) (search needs) (search needs))
 
 pub unkeyed-body-fault-spec : {M : Type 1} → statement M

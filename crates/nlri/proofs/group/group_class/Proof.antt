@@ -1,13 +1,13 @@
 -- `nlri::group::group_class` meets its contract.
 use Rattle.nlri.proofs.Families.{family-least}
-use Rattle.nlri.proofs.Via.{reads, group-is, size-given}
+use Rattle.nlri.proofs.Via.{reads, group-is, known-given}
 use Rattle.nlri.specs.Groups.{classOf}
 use borrow.Author.Needs.{needs}
 use Rattle.nlri.proofs.group.group_class.Statement.{statement}
 use Rattle.nlri.proofs.group.group_class.Tie as tie
 
-family-bits-requires : tie.Need-family-bits-requires
-family-bits-requires c κs = search needs
+family-of-requires : tie.Need-family-of-requires
+family-of-requires c κs = search needs
 
 enum-known-number : tie.Need-enum-known-number
 enum-known-number c = search needs
@@ -15,11 +15,11 @@ enum-known-number c = search needs
 refused-requires : tie.Need-refused-requires
 refused-requires c κs = search needs
 
-enum-known-family : tie.Need-enum-known-family
-enum-known-family c = search needs
+enum-known-kind : tie.Need-enum-known-kind
+enum-known-kind c = search needs
 
 class-in-requires : tie.Need-class-in-requires
-class-in-requires c κs = family-least _ _ (size-given _ _ _ (c .before .before .before .family-bits .ensures) (c .before .family .given .1))
+class-in-requires c κs = family-least _ _ (known-given _ _ _ (c .before .before .before .family-of .ensures) (c .before .kind .given .1))
 
 returns : tie.Need-returns
 unfolding classOf
@@ -33,10 +33,10 @@ pub group-class-spec : {M : Type 1} → statement M
 group-class-spec =
     tie.close
     (tie.spec
-    family-bits-requires
+    family-of-requires
     enum-known-number
     refused-requires
-    enum-known-family
+    enum-known-kind
     class-in-requires
     returns
     returns-2)

@@ -67,7 +67,7 @@ returns-2 c =
     let moved = headed (c .before .before .before .before .before) in
     let a = c .before .before .before .before .before .before .before .before .args in
     let h = c .before .before .before .route-type .given .0 in
-    let body = c .body-fault .ensures ∙ ap (λ (x : List ℕ). numberOf (anyBody (a .family) (h .0) x)) (lent-part 2 (h .1 .0) (now (a .s))) in
+    let body = c .body-fault .ensures ∙ ap (λ (x : List ℕ). numberOf (anyBody (a .kind .bits) (h .0) x)) (lent-part 2 (h .1 .0) (now (a .s))) in
     search (numbers, front-number)
 
 pub front-fault-spec : {M : Type 1} → statement M

@@ -4,7 +4,7 @@ use native.Mathlib.Omega.{arith}
 use Rattle.octets.specs.Outcome.{numberOf}
 use Rattle.nlri.specs.Inner.{layoutWith, leaf}
 use Rattle.nlri.proofs.Fronts.{key-within}
-use Rattle.nlri.proofs.Via.{size-given}
+use Rattle.nlri.proofs.Via.{octets-given}
 use Rattle.nlri.proofs.Numbered.{numbers}
 use Rattle.nlri.proofs.Ends.{rest-within}
 use Rattle.nlri.proofs.Standing.{key-is-long}
@@ -23,7 +23,7 @@ enum-known-key c = search needs
 
 originator-fault-requires : tie.Need-originator-fault-requires
 originator-fault-requires c κs =
-    let long = key-is-long _ _ _ (size-given _ _ _ (c .before .before .before .read-key .ensures) (c .before .key .given .1)) in
+    let long = key-is-long _ _ _ (octets-given _ _ _ (c .before .before .before .read-key .ensures) (c .before .key .given .1)) in
     omega (arith, c .before .before .before .before .shared-slice-known .given 1)
 
 returns : tie.Need-returns
@@ -33,7 +33,7 @@ returns c = search numbers
 returns-2 : tie.Need-returns-2
 unfolding numberOf leaf layoutWith
 returns-2 c =
-    let within = key-within _ _ _ (size-given _ _ _ (c .before .before .before .before .read-key .ensures) (c .before .before .key .given .1)) in
+    let within = key-within _ _ _ (octets-given _ _ _ (c .before .before .before .before .read-key .ensures) (c .before .before .key .given .1)) in
     let judged = c .originator-fault .ensures ∙ rest-within _ _ _ (within .1) in
     search numbers
 

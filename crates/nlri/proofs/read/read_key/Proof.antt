@@ -1,7 +1,7 @@
 -- `nlri::read::read_key` meets its contract.
 use native.Mathlib.Omega.{arith}
 use Rattle.octets.proofs.Tests.{tests}
-use Rattle.nlri.specs.Inner.{partOf}
+use Rattle.nlri.specs.Inner.{keyOutcome}
 use Rattle.nlri.proofs.Via.{typed-given, on-typed, on-unread}
 use Rattle.nlri.proofs.Standing.{key-by, unkeyed-header-within}
 use borrow.Author.Needs.{needs}
@@ -18,18 +18,18 @@ enum-told : tie.Need-enum-told
 enum-told c = search needs
 
 returns : tie.Need-returns
-unfolding partOf
+unfolding keyOutcome
 returns c = search (tests, key-by, on-typed, on-unread)
 
 returns-2 : tie.Need-returns-2
-unfolding partOf
+unfolding keyOutcome
 returns-2 c = search (tests, key-by, on-typed, on-unread)
 
 add-t7 : tie.Need-add-t7
 add-t7 c = let h = unkeyed-header-within _ _ _ _ (typed-given _ _ _ _ (c .before .before .before .before .read-unkeyed .ensures) (c .before .before .route-type .given .1)) in omega arith
 
 returns-3 : tie.Need-returns-3
-unfolding partOf
+unfolding keyOutcome
 returns-3 c = search (tests, key-by, on-typed, on-unread)
 
 pub read-key-spec : {M : Type 1} → statement M

@@ -6,14 +6,14 @@ use borrow.Author.Needs.{needs}
 use Rattle.nlri.proofs.read.read_layout.Statement.{statement}
 use Rattle.nlri.proofs.read.read_layout.Tie as tie
 
-family-bits-requires : tie.Need-family-bits-requires
-family-bits-requires c κs = search needs
+family-of-requires : tie.Need-family-of-requires
+family-of-requires c κs = search needs
 
 enum-known-number : tie.Need-enum-known-number
 enum-known-number c = search needs
 
-enum-known-family : tie.Need-enum-known-family
-enum-known-family c = search needs
+enum-known-kind : tie.Need-enum-known-kind
+enum-known-kind c = search needs
 
 read-single-requires : tie.Need-read-single-requires
 read-single-requires c κs = search needs
@@ -29,9 +29,9 @@ pub read-layout-spec : {M : Type 1} → statement M
 read-layout-spec =
     tie.close
     (tie.spec
-    family-bits-requires
+    family-of-requires
     enum-known-number
-    enum-known-family
+    enum-known-kind
     read-single-requires
     returns
     returns-2)

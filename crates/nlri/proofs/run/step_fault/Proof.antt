@@ -33,7 +33,7 @@ front-fault-requires c κs = search needs
 returns-4 : tie.Need-returns-4
 returns-4 c =
     let a = c .before .before .before .before .before .before .args in
-    step-fronts _ (a .family) (now (a .run)) (a .at) (c .before .before .before .before .if1 .left) (c .before .before .before .if2 .left) (c .before .before .if3 .left) (c .front-fault .ensures ∙ ap (λ (x : List ℕ). numberOf (layoutAt (a .family) x)) (c .before .after .ensures))
+    step-fronts _ (a .kind .bits) (now (a .run)) (a .at) (c .before .before .before .before .if1 .left) (c .before .before .before .if2 .left) (c .before .before .if3 .left) (c .front-fault .ensures ∙ ap (λ (x : List ℕ). numberOf (layoutAt (a .kind .bits) x)) (c .before .after .ensures))
 
 pub step-fault-spec : {M : Type 1} → statement M
 step-fault-spec =

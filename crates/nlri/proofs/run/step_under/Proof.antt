@@ -34,7 +34,7 @@ add-t8 : tie.Need-add-t8
 add-t8 c =
     let a = c .before .before .before .before .before .before .before .args in
     let r = step-reads _ _ _ _ (c .before .before .before .before .before .step-fault .ensures) (c .before .before .before .before .if1 .left) (c .before .before .before .if2 .left) in
-    let h = layout-octets (a .family) (drop (a .at) (now (a .run))) _ (r .is) .1 in
+    let h = layout-octets (a .kind .bits) (drop (a .at) (now (a .run))) _ (r .is) .1 in
     let n = ap (λ (x : Layout). x .length) (c .before .layout-in .ensures ∙ ap layoutIn (c .before .before .after .ensures)) in
     let d = length-drop (a .at) (now (a .run)) in
     omega arith
@@ -43,7 +43,7 @@ add-t11 : tie.Need-add-t11
 add-t11 c =
     let a = c .before .before .before .before .before .before .before .args in
     let r = step-reads _ _ _ _ (c .before .before .before .before .before .step-fault .ensures) (c .before .before .before .before .if1 .left) (c .before .before .before .if2 .left) in
-    let h = layout-octets (a .family) (drop (a .at) (now (a .run))) _ (r .is) .1 in
+    let h = layout-octets (a .kind .bits) (drop (a .at) (now (a .run))) _ (r .is) .1 in
     let n = ap (λ (x : Layout). x .length) (c .before .layout-in .ensures ∙ ap layoutIn (c .before .before .after .ensures)) in
     let d = length-drop (a .at) (now (a .run)) in
     omega arith
@@ -53,7 +53,7 @@ unfolding steppedOf
 returns-3 c =
     let a = c .before .before .before .before .before .before .before .args in
     ap (λ (x : Layout). readTo x (a .at + (2 + x .length))) (c .before .layout-in .ensures ∙ ap layoutIn (c .before .before .after .ensures))
-    ∙ read-under (a .family) (now (a .run)) (a .at) (c .before .before .before .if2 .left) (step-reads _ _ _ _ (c .before .before .before .before .before .step-fault .ensures) (c .before .before .before .before .if1 .left) (c .before .before .before .if2 .left))
+    ∙ read-under (a .kind .bits) (now (a .run)) (a .at) (c .before .before .before .if2 .left) (step-reads _ _ _ _ (c .before .before .before .before .before .step-fault .ensures) (c .before .before .before .before .if1 .left) (c .before .before .before .if2 .left))
 
 pub step-under-spec : {M : Type 1} → statement M
 step-under-spec =

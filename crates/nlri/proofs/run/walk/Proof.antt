@@ -8,7 +8,7 @@ use lib.ListN.{length, getD, drop}
 use Rattle.octets.specs.Numbers.{FAMILY}
 use Rattle.nlri.specs.Inner.{layoutIn}
 use Rattle.nlri.specs.Walking.{readTo, stepFrom}
-use Rattle.nlri.proofs.Via.{size-given, fault-given}
+use Rattle.nlri.proofs.Via.{known-given, unknown-given}
 use Rattle.nlri.proofs.Steps.{Going, going-first, going-next, going-last, stops-at-end, stops-at-refusal, step-moves, step-stops, step-ends, step-reads, read-by-octet, step-under-is, step-without}
 use Rattle.nlri.proofs.run.walk.Statement.{statement}
 use Rattle.nlri.proofs.run.walk.Tie as tie
@@ -19,17 +19,17 @@ Inv-loop afi run bits at₀ count₀ at count = Going afi run at count
 abbrev μ-loop : tie.MeasureT-loop
 μ-loop afi run bits at₀ count₀ at count = length run - at
 
-family-bits-requires : tie.Need-family-bits-requires Inv-loop μ-loop
-family-bits-requires c κs = search needs
+family-of-requires : tie.Need-family-of-requires Inv-loop μ-loop
+family-of-requires c κs = search needs
 
-enum-known-family : tie.Need-enum-known-family Inv-loop μ-loop
-enum-known-family c = search needs
+enum-known-kind : tie.Need-enum-known-kind Inv-loop μ-loop
+enum-known-kind c = search needs
 
 enum-told : tie.Need-enum-told Inv-loop μ-loop
 enum-told c = search needs
 
 returns : tie.Need-returns Inv-loop μ-loop
-returns c = going-last _ _ _ _ (going-first _ _) FAMILY (stops-at-refusal _ _ _ (step-without _ _ _ 0 (fault-given _ _ _ (c .before .before .family-bits .ensures) (c .enum-told .given .1))))
+returns c = going-last _ _ _ _ (going-first _ _) FAMILY (stops-at-refusal _ _ _ (step-without _ _ _ 0 (unknown-given _ _ _ (c .before .before .family-of .ensures) (c .enum-told .given .1))))
 
 loop-holds : tie.Need-loop-holds Inv-loop μ-loop
 loop-holds c = going-first _ _
@@ -41,13 +41,13 @@ cast-t9 : tie.Need-cast-t9 Inv-loop μ-loop
 cast-t9 c = omega arith
 
 returns-2 : tie.Need-returns-2 Inv-loop μ-loop
-returns-2 c = going-last _ _ _ _ (c .before .before .loop .inv) _ (stops-at-refusal _ _ _ (step-under-is _ _ _ _ _ (size-given _ _ _ (c .before .before .before .before .before .before .family-bits .ensures) (c .before .before .before .before .family .given .1)) (step-stops _ _ _ _ (c .before .step-fault .ensures) (c .if1 .taken))))
+returns-2 c = going-last _ _ _ _ (c .before .before .loop .inv) _ (stops-at-refusal _ _ _ (step-under-is _ _ _ _ _ (known-given _ _ _ (c .before .before .before .before .before .before .family-of .ensures) (c .before .before .before .before .kind .given .1)) (step-stops _ _ _ _ (c .before .step-fault .ensures) (c .if1 .taken))))
 
 cast-t11 : tie.Need-cast-t11 Inv-loop μ-loop
 cast-t11 c = omega arith
 
 returns-3 : tie.Need-returns-3 Inv-loop μ-loop
-returns-3 c = going-last _ _ _ _ (c .before .before .before .loop .inv) _ (stops-at-end _ _ _ (c .before .if1 .left) (step-under-is _ _ _ _ _ (size-given _ _ _ (c .before .before .before .before .before .before .before .family-bits .ensures) (c .before .before .before .before .before .family .given .1)) (step-ends _ _ _ _ (c .before .before .step-fault .ensures) (c .before .if1 .left) (c .if2 .taken))))
+returns-3 c = going-last _ _ _ _ (c .before .before .before .loop .inv) _ (stops-at-end _ _ _ (c .before .if1 .left) (step-under-is _ _ _ _ _ (known-given _ _ _ (c .before .before .before .before .before .before .before .family-of .ensures) (c .before .before .before .before .before .kind .given .1)) (step-ends _ _ _ _ (c .before .before .step-fault .ensures) (c .before .if1 .left) (c .if2 .taken))))
 
 add-at : tie.Need-add-at Inv-loop μ-loop
 add-at c = omega arith
@@ -55,7 +55,7 @@ add-at c = omega arith
 -- the step of a turn that goes on
 read : (c : tie.After-shared-slice-known2 Inv-loop μ-loop) → stepFrom (c .before .before .before .before .before .before .before .before .before .before .args .afi) (now (c .before .before .before .before .before .before .before .before .before .before .args .run)) (c .before .before .before .before .loop .at) ≡ readTo (layoutIn (drop (c .before .before .before .before .loop .at) (now (c .before .before .before .before .before .before .before .before .before .before .args .run)))) (c .before .before .before .before .loop .at + (2 + getD (now (c .before .before .before .before .before .before .before .before .before .before .args .run)) (c .before .before .before .before .loop .at + 1) 0))
 read c =
-    step-under-is _ _ _ _ _ (size-given _ _ _ (c .before .before .before .before .before .before .before .before .family-bits .ensures) (c .before .before .before .before .before .before .family .given .1)) (read-by-octet _ _ _ (c .before .if2 .left) (step-reads _ _ _ _ (c .before .before .before .step-fault .ensures) (c .before .before .if1 .left) (c .before .if2 .left)))
+    step-under-is _ _ _ _ _ (known-given _ _ _ (c .before .before .before .before .before .before .before .before .family-of .ensures) (c .before .before .before .before .before .before .kind .given .1)) (read-by-octet _ _ _ (c .before .if2 .left) (step-reads _ _ _ _ (c .before .before .before .step-fault .ensures) (c .before .before .if1 .left) (c .before .if2 .left)))
 
 shared-slice-read-at : tie.Need-shared-slice-read-at Inv-loop μ-loop
 shared-slice-read-at c = let m = step-moves _ _ _ _ _ (read c) in omega arith
@@ -84,8 +84,8 @@ walk-spec =
     (tie.spec
     Inv-loop
     μ-loop
-    family-bits-requires
-    enum-known-family
+    family-of-requires
+    enum-known-kind
     enum-told
     returns
     loop-holds

@@ -1,6 +1,6 @@
 -- `nlri::write::write_nlri` meets its contract.
 use Rattle.nlri.proofs.Verdicts.{answers, untouched, write-is}
-use Rattle.nlri.proofs.Via.{size-given, fault-given}
+use Rattle.nlri.proofs.Via.{known-given, unknown-given}
 use Rattle.nlri.proofs.Families.{family-is}
 use Rattle.octets.proofs.Tests.{stops, goes}
 use lib.ListN.{length}
@@ -10,8 +10,8 @@ use borrow.Author.Needs.{needs}
 use Rattle.nlri.proofs.write.write_nlri.Statement.{statement}
 use Rattle.nlri.proofs.write.write_nlri.Tie as tie
 
-family-bits-requires : tie.Need-family-bits-requires
-family-bits-requires c κs = search needs
+family-of-requires : tie.Need-family-of-requires
+family-of-requires c κs = search needs
 
 enum-known-number : tie.Need-enum-known-number
 enum-known-number c = search needs
@@ -19,18 +19,18 @@ enum-known-number c = search needs
 refusal-requires : tie.Need-refusal-requires
 refusal-requires c κs = search needs
 
-enum-known-family : tie.Need-enum-known-family
-enum-known-family c = search needs
+enum-known-kind : tie.Need-enum-known-kind
+enum-known-kind c = search needs
 
 write-under-requires : tie.Need-write-under-requires
 write-under-requires c κs =
-    family-is _ _ (size-given _ _ _ (c .before .before .before .before .family-bits .ensures) (c .before .before .family .given .1))
+    family-is _ _ (known-given _ _ _ (c .before .before .before .before .family-of .ensures) (c .before .before .kind .given .1))
 
 returns : tie.Need-returns
 returns c =
     let eight : length (c .before .before .before .before .before .before .before .args .nlri .distinguisher .octets) ≡ 8 = search needs in
     let a = c .before .before .before .before .before .before .before .args in
-    answers _ _ _ _ _ (stops _ _ _ (fault-given _ _ _ (c .before .before .before .before .family-bits .ensures) (c .before .before .number .given .1)) ∙ write-is (a .afi) (a .nlri) (now (a .key)) (length (now (a .output))) eight) (c .refusal .ensures, untouched _ _)
+    answers _ _ _ _ _ (stops _ _ _ (unknown-given _ _ _ (c .before .before .before .before .family-of .ensures) (c .before .before .number .given .1)) ∙ write-is (a .afi) (a .nlri) (now (a .key)) (length (now (a .output))) eight) (c .refusal .ensures, untouched _ _)
 
 same-length : tie.Need-same-length
 same-length c = search needs
@@ -39,16 +39,16 @@ returns-2 : tie.Need-returns-2
 returns-2 c =
     let eight : length (c .before .before .before .before .before .before .before .before .before .before .args .nlri .distinguisher .octets) ≡ 8 = search needs in
     let a = c .before .before .before .before .before .before .before .before .before .before .args in
-    answers _ _ _ _ _ (goes _ _ _ _ (size-given _ _ _ (c .before .before .before .before .before .before .before .family-bits .ensures) (c .before .before .before .before .before .family .given .1)) refl ∙ write-is (a .afi) (a .nlri) (now (a .key)) (length (now (a .output))) eight) (c .before .before .write-under .ensures)
+    answers _ _ _ _ _ (goes _ _ _ _ (known-given _ _ _ (c .before .before .before .before .before .before .before .family-of .ensures) (c .before .before .before .before .before .kind .given .1)) refl ∙ write-is (a .afi) (a .nlri) (now (a .key)) (length (now (a .output))) eight) (c .before .before .write-under .ensures)
 
 pub write-nlri-spec : {M : Type 1} → statement M
 write-nlri-spec =
     tie.close
     (tie.spec
-    family-bits-requires
+    family-of-requires
     enum-known-number
     refusal-requires
-    enum-known-family
+    enum-known-kind
     write-under-requires
     returns
     same-length

@@ -5,14 +5,14 @@ use borrow.Author.Needs.{needs}
 use Rattle.nlri.proofs.run.Cursor.step.Statement.{statement}
 use Rattle.nlri.proofs.run.Cursor.step.Tie as tie
 
-family-bits-requires : tie.Need-family-bits-requires
-family-bits-requires c κs = search needs
+family-of-requires : tie.Need-family-of-requires
+family-of-requires c κs = search needs
 
 enum-known-number : tie.Need-enum-known-number
 enum-known-number c = search needs
 
-enum-known-family : tie.Need-enum-known-family
-enum-known-family c = search needs
+enum-known-kind : tie.Need-enum-known-kind
+enum-known-kind c = search needs
 
 step-under-requires : tie.Need-step-under-requires
 step-under-requires c κs = search needs
@@ -29,9 +29,9 @@ pub step-spec : {M : Type 1} → statement M
 step-spec =
     tie.close
     (tie.spec
-    family-bits-requires
+    family-of-requires
     enum-known-number
-    enum-known-family
+    enum-known-kind
     step-under-requires
     returns
     returns-2)

@@ -1,4 +1,4 @@
--- `nlri::address::AddressKind::ipv6` meets its contract.
+-- `nlri::address::sixteen_octets` meets its contract.
 use denote.Ref.{now}
 use mathlib.Core.Path.{_∙_, sym, ap}
 use native.Mathlib.Nat.{le-of-lt}
@@ -6,8 +6,8 @@ use lib.Seq.{take-all}
 use Rattle.nlri.specs.Answers.{addressStruct}
 use Rattle.nlri.proofs.Copies.{octetsFrom, ipv6-held}
 use borrow.Author.Needs.{needs}
-use Rattle.nlri.proofs.address.AddressKind.ipv6.Statement.{statement}
-use Rattle.nlri.proofs.address.AddressKind.ipv6.Tie as tie
+use Rattle.nlri.proofs.address.sixteen_octets.Statement.{statement}
+use Rattle.nlri.proofs.address.sixteen_octets.Tie as tie
 
 shorter-requires : tie.Need-shorter-requires
 shorter-requires c κs = search needs
@@ -70,8 +70,8 @@ returns-2 : tie.Need-returns-2
 unfolding octetsFrom
 returns-2 c = ipv6-held (now (c .before .before .before .before .before .before .before .before .before .before .before .before .before .before .before .before .before .before .args .octets)) (c .before .before .before .before .before .before .before .before .before .before .before .before .before .before .before .before .if1 .left)
 
-pub ipv6-spec : {M : Type 1} → statement M
-ipv6-spec =
+pub sixteen-octets-spec : {M : Type 1} → statement M
+sixteen-octets-spec =
     tie.close
     (tie.spec
     shorter-requires

@@ -1,4 +1,4 @@
--- `nlri::address::AddressKind::ipv4` meets its contract.
+-- `nlri::address::four_octets` meets its contract.
 use denote.Ref.{now}
 use mathlib.Core.Path.{_∙_, sym, ap}
 use native.Mathlib.Nat.{le-of-lt}
@@ -6,8 +6,8 @@ use lib.Seq.{take-all}
 use Rattle.nlri.specs.Answers.{addressStruct}
 use Rattle.nlri.proofs.Copies.{octetsFrom, ipv4-held}
 use borrow.Author.Needs.{needs}
-use Rattle.nlri.proofs.address.AddressKind.ipv4.Statement.{statement}
-use Rattle.nlri.proofs.address.AddressKind.ipv4.Tie as tie
+use Rattle.nlri.proofs.address.four_octets.Statement.{statement}
+use Rattle.nlri.proofs.address.four_octets.Tie as tie
 
 shorter-requires : tie.Need-shorter-requires
 shorter-requires c κs = search needs
@@ -34,8 +34,8 @@ returns-2 : tie.Need-returns-2
 unfolding octetsFrom
 returns-2 c = ipv4-held (now (c .before .before .before .before .before .before .args .octets)) (c .before .before .before .before .if1 .left)
 
-pub ipv4-spec : {M : Type 1} → statement M
-ipv4-spec =
+pub four-octets-spec : {M : Type 1} → statement M
+four-octets-spec =
     tie.close
     (tie.spec
     shorter-requires

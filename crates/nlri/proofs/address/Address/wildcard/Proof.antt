@@ -1,0 +1,10 @@
+-- `nlri::address::Address::wildcard` meets its contract.
+use Rattle.nlri.proofs.Copies.{no-address}
+use Rattle.nlri.proofs.address.Address.wildcard.Statement.{statement}
+use Rattle.nlri.proofs.address.Address.wildcard.Tie as tie
+
+returns : tie.Need-returns
+returns c = no-address
+
+pub wildcard-spec : {M : Type 1} → statement M
+wildcard-spec = tie.close (tie.spec returns)
