@@ -118,6 +118,36 @@ lookup-gathered-foreign afi nlri (router ∷ routers) calls h =
     lookup-append-absent nlri (bookOf afi router calls) (gathered afi routers calls) (lookup-foreign afi router nlri calls (h router (first refl)))
     ∙ lookup-gathered-foreign afi nlri routers calls (λ other m. h other (later m))
 
+-- no NLRI stands in two books
+
+distinct-append : {xs ys : List Route} → Distinct xs → Distinct ys → ((nlri : List ℕ) → holds nlri xs ≡ true → holds nlri ys ≡ false) → Distinct (xs ++ ys)
+distinct-append Distinct.none b apart = b
+distinct-append {ys = ys} (Distinct.one {r} {rs} h a) b apart =
+    Distinct.one
+    (holds-alike (nlriOf r) (rs ++ ys) ys (lookup-append-absent (nlriOf r) rs ys (absent-holds (nlriOf r) rs h))
+    ∙ apart (nlriOf r) (holds-held (nlriOf r) (r ∷ rs) (attributeOf r) (lookup-first (nlriOf r) r rs (same-itself (nlriOf r)))))
+    (distinct-append a b
+    (λ nlri m.
+    tested (same nlri (nlriOf r))
+    (λ t. absurd (opposite (rw (same-equal nlri (nlriOf r) t) at m) h))
+    (λ f. apart nlri (holds-alike nlri (r ∷ rs) rs (lookup-later nlri r rs f) ∙ m))))
+
+distinct-gathered : (afi : ℕ) {routers : List (List ℕ)} (calls : List Call) → Once routers → Distinct (gathered afi routers calls)
+unfolding gathered
+distinct-gathered afi calls Once.none = Distinct.none
+distinct-gathered afi calls (Once.one {x = router} {xs = routers} n o) =
+    distinct-append (distinct-book afi router calls) (distinct-gathered afi calls o)
+    (λ nlri m.
+    holds-absent nlri (gathered afi routers calls)
+    (lookup-gathered-foreign afi nlri routers calls
+    (λ other a q. opposite m (holds-absent nlri (bookOf afi router calls) (lookup-foreign afi router nlri calls (λ p. n (rw (owners-same p q) a)))))))
+
+pub distinct-all : (afi : ℕ) (calls : List Call) → Distinct (allBooks afi calls)
+unfolding allBooks
+distinct-all afi calls = distinct-gathered afi calls (once-once-each (routersOf afi calls))
+
+-- what all books hold of a router's NLRI
+
 lookup-gathered-own : (afi : ℕ) (router nlri : List ℕ) (routers : List (List ℕ)) (calls : List Call) → originatorOf afi nlri ≡ owner router → Among router routers
     → lookup nlri (gathered afi routers calls) ≡ lookup nlri (bookOf afi router calls)
 unfolding gathered
@@ -150,34 +180,6 @@ lookup-all afi router nlri calls own =
 pub lookup-nobody : (afi : ℕ) (nlri : List ℕ) (calls : List Call) → originatorOf afi nlri ≡ nobody → lookup nlri (allBooks afi calls) ≡ absent
 unfolding allBooks
 lookup-nobody afi nlri calls h = lookup-gathered-foreign afi nlri (onceEach (routersOf afi calls)) calls (λ router m q. owner-nobody h q)
-
--- no NLRI stands in two books
-
-distinct-append : {xs ys : List Route} → Distinct xs → Distinct ys → ((nlri : List ℕ) → holds nlri xs ≡ true → holds nlri ys ≡ false) → Distinct (xs ++ ys)
-distinct-append Distinct.none b apart = b
-distinct-append {ys = ys} (Distinct.one {r} {rs} h a) b apart =
-    Distinct.one
-    (holds-alike (nlriOf r) (rs ++ ys) ys (lookup-append-absent (nlriOf r) rs ys (absent-holds (nlriOf r) rs h))
-    ∙ apart (nlriOf r) (holds-held (nlriOf r) (r ∷ rs) (attributeOf r) (lookup-first (nlriOf r) r rs (same-itself (nlriOf r)))))
-    (distinct-append a b
-    (λ nlri m.
-    tested (same nlri (nlriOf r))
-    (λ t. absurd (opposite (rw (same-equal nlri (nlriOf r) t) at m) h))
-    (λ f. apart nlri (holds-alike nlri (r ∷ rs) rs (lookup-later nlri r rs f) ∙ m))))
-
-distinct-gathered : (afi : ℕ) {routers : List (List ℕ)} (calls : List Call) → Once routers → Distinct (gathered afi routers calls)
-unfolding gathered
-distinct-gathered afi calls Once.none = Distinct.none
-distinct-gathered afi calls (Once.one {x = router} {xs = routers} n o) =
-    distinct-append (distinct-book afi router calls) (distinct-gathered afi calls o)
-    (λ nlri m.
-    holds-absent nlri (gathered afi routers calls)
-    (lookup-gathered-foreign afi nlri routers calls
-    (λ other a q. opposite m (holds-absent nlri (bookOf afi router calls) (lookup-foreign afi router nlri calls (λ p. n (rw (owners-same p q) a)))))))
-
-pub distinct-all : (afi : ℕ) (calls : List Call) → Distinct (allBooks afi calls)
-unfolding allBooks
-distinct-all afi calls = distinct-gathered afi calls (once-once-each (routersOf afi calls))
 
 -- whatever the owner, what all calls leave
 held-nobody : (afi : ℕ) (nlri : List ℕ) (calls : List Call) (h : Held) → originatorOf afi nlri ≡ nobody → heldAfterAll afi calls nlri h ≡ h
