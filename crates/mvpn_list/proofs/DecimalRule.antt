@@ -78,7 +78,7 @@ decimalValue-less none (one a b q) e low high h = absurd (omega arith)
 decimalValue-less (one a b p) none e low high h = absurd (omega arith)
 decimalValue-less (one a b p) (one c d q) e low high h = decimalValue-less p q (omega arith) _ _ (omega arith)
 
--- so do fewer digits behind nothing
+-- and digits behind nothing for less than as many or more behind a number other than 0
 decimalValue-fewer : {s t : List ℕ} → AllDigits s → AllDigits t → length s ≤ length t → (high : ℕ) → 0 < high → decimalValue s 0 < decimalValue t high
 unfolding decimalValue
 decimalValue-fewer p none few high h = decimalValue-less p none (omega arith) 0 high h
@@ -97,18 +97,18 @@ decimalValue-same (one {x = x} {xs = s} a b p) (one {x = y} {xs = t} c d q) e lo
     let first : x ≡ y = omega arith in
     (omega arith, ap₂ (λ (z : ℕ) (zs : List ℕ). z ∷ zs) first (later .1))
 
--- digits behind nothing that stand for a number stand for a higher one behind a digit other than 0
-decimalValue-padded : {s : List ℕ} {y : ℕ} {t : List ℕ} → AllDigits s → AllDigits (y ∷ t) → length s ≤ length t → y ≢ 48 → decimalValue s 0 < decimalValue (y ∷ t) 0
+-- digits stand for less than more digits of which the first is not 0
+decimalValue-longer : {s : List ℕ} {y : ℕ} {t : List ℕ} → AllDigits s → AllDigits (y ∷ t) → length s ≤ length t → y ≢ 48 → decimalValue s 0 < decimalValue (y ∷ t) 0
 unfolding decimalValue
-decimalValue-padded {y = y} p (one low high q) few first =
+decimalValue-longer {y = y} p (one low high q) few first =
     let some : 0 < 0 * 10 + (y - 48) = tested (eqb y 48) (λ e. absurd (first (eqb-true _ _ e))) (λ e. omega (arith, eqb-false y 48 e)) in
     decimalValue-fewer p q few (0 * 10 + (y - 48)) some
 
--- a number has no two decimals, one with fewer digits
+-- of two decimals of a number neither has fewer digits
 decimal-fewer : {n : ℕ} {s t : List ℕ} → Decimal n s → Decimal n t → length s < length t → ⊥
 decimal-fewer {s = s} {t = []} p q h = omega arith
 decimal-fewer {s = s} {t = y ∷ t} p q h =
-    let less = decimalValue-padded (p .each) (q .each) (omega arith) (q .unpadded (omega (arith, p .some))) in
+    let less = decimalValue-longer (p .each) (q .each) (omega arith) (q .unpadded (omega (arith, p .some))) in
     omega (arith, p .value, q .value)
 
 pub decimal-only : {n : ℕ} {s t : List ℕ} → Decimal n s → Decimal n t → s ≡ t

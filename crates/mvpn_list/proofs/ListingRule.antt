@@ -25,9 +25,9 @@ use Rattle.mvpn_list.proofs.DecimalRule.{decimal-decimalOf, decimal-onl
 use Rattle.mvpn_list.proofs.Steps.{linesFrom-stops}
 use Rattle.mvpn_list.proofs.RunLines.{familyBits-1, runLines-linesOf, runLines-only}
 
-listingOf-is : (run : List ℕ) → listingOf run ≡ 77 ∷ 86 ∷ 84 ∷ 32 ∷ 108 ∷ 105 ∷ 115 ∷ 116 ∷ 32 ∷ 49 ∷ 10 ∷ linesOf run
+listingOf-header : (run : List ℕ) → listingOf run ≡ 77 ∷ 86 ∷ 84 ∷ 32 ∷ 108 ∷ 105 ∷ 115 ∷ 116 ∷ 32 ∷ 49 ∷ 10 ∷ linesOf run
 unfolding listingOf headerLine
-listingOf-is run = refl
+listingOf-header run = refl
 
 lastLine-long : lastLine LONG 0 ≡ 115 ∷ 116 ∷ 111 ∷ 112 ∷ 32 ∷ 48 ∷ 32 ∷ 56 ∷ 10 ∷ []
 unfolding lastLine openingOf fieldOf decimalOf digitsWithin lastDigit pick
@@ -57,7 +57,7 @@ pub listingRule : ListingRule
 listingRule =
     record {
       decimal = λ n digits. (λ e. subst (Decimal n) e (decimal-decimalOf n), λ d. decimal-only (decimal-decimalOf n) d);
-      header = listingOf-is;
+      header = listingOf-header;
       lines = λ run r text octets short. (λ e. subst (RunLines (r .number) 0 (r .nlris)) e (runLines-linesOf run octets short r), λ l. runLines-only (runLines-linesOf run octets short r) l);
       long = λ run h. linesOf-long run h ∙ lastLine-long;
       seen = listingOf-take;
