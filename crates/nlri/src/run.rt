@@ -62,6 +62,7 @@ fn step_fault(family: usize, run: &[u8], at: usize) -> u32
     read::front_fault(family, octets::parts::after(run, at))
 }
 
+// The step from `at` under a family.
 fn step_under(family: usize, run: &[u8], at: usize) -> Step
     ensures { λ r. ⌜ steppedOf r ≡ stepUnder family (now (run .entry)) at ⌝ }
 {
