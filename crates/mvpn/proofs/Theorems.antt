@@ -1,8 +1,8 @@
 -- The statements of `specs/Statements.antt`, proved.
 use Prim.Native.Nat.{ℕ, _+_}
-use mathlib.Core.Path.{_≡_, refl, sym, _∙_, ap, subst}
+use mathlib.Core.Path.{_≡_, sym, _∙_, ap, subst}
 use mathlib.Core.List.{List}
-use mathlib.Core.Logic.{_≢_, _⊎_, inl, inr, ⊎-elim}
+use mathlib.Core.Logic.{_≢_, _⊎_, ⊎-elim}
 use native.Mathlib.Omega.{arith}
 use lib.ListN.{length}
 use Rattle.octets.specs.Numbers.{DONE}
@@ -10,7 +10,7 @@ use Rattle.octets.specs.Octets.{AllOctets}
 use Rattle.nlri.specs.Fields.{Fields, encodeNlri}
 use Rattle.nlri.specs.Layouts.{noLayout}
 use Rattle.nlri.specs.Walking.{readTo, endedAt, refusedAt}
-use Rattle.nlri.specs.Statements.{layoutFor, NlriAt, EndAt, StepRefusal}
+use Rattle.nlri.specs.Statements.{layoutFor, EncodedAt, EndAt, StepRefusal}
 use Rattle.nlri.proofs.Theorems.{stepRule}
 use Rattle.mvpn.specs.declared.StepAnswer.{StepAnswer}
 use Rattle.mvpn.specs.Answers.{stepAnswer}
@@ -18,7 +18,7 @@ use Rattle.mvpn.specs.Statements.{mvpnStep, StepAnswers}
 
 module _ (afi : ℕ) (run : List ℕ) (cursor : ℕ) where
   -- the answer in each case of a step
-  answer-read : (f : Fields) → NlriAt afi run cursor f → mvpnStep afi run cursor ≡ record { cursor = cursor + length (encodeNlri f); number = DONE; layout = layoutFor f }
+  answer-read : (f : Fields) → EncodedAt afi run cursor f → mvpnStep afi run cursor ≡ record { cursor = cursor + length (encodeNlri f); number = DONE; layout = layoutFor f }
   unfolding stepAnswer readTo
   answer-read f n = ap stepAnswer (stepRule .reads afi run cursor f n)
 
@@ -32,7 +32,7 @@ module _ (afi : ℕ) (run : List ℕ) (cursor : ℕ) where
     answer-refused n why = ap stepAnswer (stepRule .refuses afi run cursor n a .1 why)
 
     -- by the three cases
-    by-case : {C : Type 0} → ((f : Fields) → NlriAt afi run cursor f → C) → (EndAt afi run cursor → C) → ((n : ℕ) → StepRefusal afi run cursor n → C) → C
+    by-case : {C : Type 0} → ((f : Fields) → EncodedAt afi run cursor f → C) → (EndAt afi run cursor → C) → ((n : ℕ) → StepRefusal afi run cursor n → C) → C
     by-case read end refuse = ⊎-elim (λ r. read (r .0) (r .1)) (λ s. ⊎-elim end (λ r. refuse (r .0) (r .1)) s) (stepRule .decided afi run cursor a)
 
     -- the number of each case
@@ -46,7 +46,7 @@ module _ (afi : ℕ) (run : List ℕ) (cursor : ℕ) where
     never-done n why e = stepRule .done afi run cursor (subst (StepRefusal afi run cursor) e why)
 
     -- and its route type
-    type-read : (f : Fields) → NlriAt afi run cursor f → mvpnStep afi run cursor .layout .«route_type» ≡ 0 → ⊥
+    type-read : (f : Fields) → EncodedAt afi run cursor f → mvpnStep afi run cursor .layout .«route_type» ≡ 0 → ⊥
     unfolding layoutFor
     type-read f n e = omega (arith, n .wellFormed .typed .0, sym (ap (λ (s : StepAnswer). s .layout .«route_type») (answer-read f n)) ∙ e)
 
@@ -58,7 +58,7 @@ module _ (afi : ℕ) (run : List ℕ) (cursor : ℕ) where
     unfolding noLayout
     type-refused n why = ap (λ (s : StepAnswer). s .layout .«route_type») (answer-refused n why)
 
-    reads : (mvpnStep afi run cursor .number ≡ DONE) × (mvpnStep afi run cursor .layout .«route_type» ≢ 0) → (f : Fields) × NlriAt afi run cursor f
+    reads : (mvpnStep afi run cursor .number ≡ DONE) × (mvpnStep afi run cursor .layout .«route_type» ≢ 0) → (f : Fields) × EncodedAt afi run cursor f
     reads h = by-case (λ f n. (f, n)) (λ end. absurd (h .1 (type-end end))) (λ n why. absurd (h .1 (type-refused n why)))
 
     ends : (mvpnStep afi run cursor .number ≡ DONE) × (mvpnStep afi run cursor .layout .«route_type» ≡ 0) → EndAt afi run cursor

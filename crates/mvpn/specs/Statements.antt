@@ -9,7 +9,7 @@ use Rattle.octets.specs.Octets.{AllOctets}
 use Rattle.nlri.specs.Fields.{Fields, encodeNlri}
 use Rattle.nlri.specs.Layouts.{noLayout}
 use Rattle.nlri.specs.Walking.{stepFrom}
-use Rattle.nlri.specs.Statements.{layoutFor, NlriAt, EndAt, StepRefusal}
+use Rattle.nlri.specs.Statements.{layoutFor, EncodedAt, EndAt, StepRefusal}
 use Rattle.mvpn.specs.declared.StepAnswer.{StepAnswer}
 use Rattle.mvpn.specs.Answers.{stepAnswer}
 
@@ -21,9 +21,9 @@ mvpnStep afi run cursor = stepAnswer (stepFrom afi run cursor)
 pub record StepAnswers : Type 0 where
   -- DONE with a route type other than 0 exactly where an NLRI stands at the cursor
   pub reads : (afi : ℕ) (run : List ℕ) (cursor : ℕ) → AllOctets run
-      → ((mvpnStep afi run cursor .number ≡ DONE) × (mvpnStep afi run cursor .layout .«route_type» ≢ 0)) ↔ ((f : Fields) × NlriAt afi run cursor f)
+      → ((mvpnStep afi run cursor .number ≡ DONE) × (mvpnStep afi run cursor .layout .«route_type» ≢ 0)) ↔ ((f : Fields) × EncodedAt afi run cursor f)
   -- then the answer has its layout, and the cursor just past it
-  pub layout : (afi : ℕ) (run : List ℕ) (cursor : ℕ) (f : Fields) → NlriAt afi run cursor f
+  pub layout : (afi : ℕ) (run : List ℕ) (cursor : ℕ) (f : Fields) → EncodedAt afi run cursor f
       → mvpnStep afi run cursor ≡ record { cursor = cursor + length (encodeNlri f); number = DONE; layout = layoutFor f }
   -- DONE with route type 0 exactly at the run's end, where neither FAMILY nor LONG refuses
   pub ends : (afi : ℕ) (run : List ℕ) (cursor : ℕ) → AllOctets run

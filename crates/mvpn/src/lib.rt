@@ -47,7 +47,7 @@ pub struct AttributeAnswer {
     pub fec: Fec,
 }
 
-// The fields of a single NLRI; a Leaf's key by where it stands.
+// Reads a single NLRI.
 #[no_mangle]
 pub extern "C" fn mvpn_nlri_read(afi: u16, nlri: &[u8]) -> NlriReading
     ensures { λ r. ⌜ r ≡ nlriAnswer (readNlri afi (now (nlri .entry))) ⌝ }
@@ -55,7 +55,7 @@ pub extern "C" fn mvpn_nlri_read(afi: u16, nlri: &[u8]) -> NlriReading
     nlri::read_nlri(afi, nlri)
 }
 
-// An NLRI at the front of the output, of its fields and, for a Leaf, its key's octets.
+// Writes an NLRI at the front of the output; the key is that of a Leaf.
 #[no_mangle]
 pub extern "C" fn mvpn_nlri_write(afi: u16, nlri: Nlri, key: &[u8], output: &mut [u8]) -> Written
     ensures { λ r. ⌜ r ≡ writtenOf (writeNlri afi (structFields nlri (now (key .entry))) (length (now (output .entry)))) ⌝ }
@@ -64,7 +64,7 @@ pub extern "C" fn mvpn_nlri_write(afi: u16, nlri: Nlri, key: &[u8], output: &mut
     nlri::write_nlri(afi, nlri, key, output)
 }
 
-// The NLRI at a cursor of a run by its layout, and the cursor just past it.
+// The NLRI of a run at the cursor: DONE with its layout; DONE with route type 0 at the run's end; or a refusal.
 #[no_mangle]
 pub extern "C" fn mvpn_step(afi: u16, run: &[u8], cursor: usize) -> StepAnswer
     ensures { λ r. ⌜ r ≡ stepAnswer (stepFrom afi (now (run .entry)) cursor) ⌝ }
@@ -101,7 +101,7 @@ fn stopped(cursor: usize, number: u32) -> StepAnswer
     }
 }
 
-// How many NLRIs of a run are read, and where and why the walk stops.
+// Walks a run to its end or its first refusal.
 #[no_mangle]
 pub extern "C" fn mvpn_walk(afi: u16, run: &[u8]) -> Walked
     ensures { λ r. ⌜ r ≡ walkOf afi (now (run .entry)) ⌝ }
@@ -109,7 +109,7 @@ pub extern "C" fn mvpn_walk(afi: u16, run: &[u8]) -> Walked
     nlri::walk(afi, run)
 }
 
-// Whether a group is ASM or SSM.
+// The class of a customer group.
 #[no_mangle]
 pub extern "C" fn mvpn_group_class(afi: u16, group: &[u8]) -> Group
     ensures { λ r. ⌜ r ≡ groupOf (classOf afi (now (group .entry))) ⌝ }
@@ -117,7 +117,7 @@ pub extern "C" fn mvpn_group_class(afi: u16, group: &[u8]) -> Group
     nlri::group_class(afi, group)
 }
 
-// The fields of a PMSI Tunnel attribute; its identifier, root and opaque value by where they stand.
+// Reads a PMSI Tunnel attribute.
 #[no_mangle]
 pub extern "C" fn mvpn_attribute_read(attribute: &[u8]) -> AttributeAnswer
     ensures { λ r. ⌜ r ≡ attributeAnswer (readStruct (now (attribute .entry))) ⌝ }
@@ -128,7 +128,7 @@ pub extern "C" fn mvpn_attribute_read(attribute: &[u8]) -> AttributeAnswer
     }
 }
 
-// The answer of an attribute that was read: DONE beside its fields.
+// The answer of an attribute that was read.
 fn read_answer(fields: Attribute) -> AttributeAnswer
     ensures { λ r. ⌜ r ≡ attributeGiven fields ⌝ }
 {
@@ -146,7 +146,7 @@ fn read_answer(fields: Attribute) -> AttributeAnswer
     }
 }
 
-// The answer of an attribute that was refused: the number, and every other field 0.
+// The answer of an attribute that was refused.
 fn refusal(number: u32) -> AttributeAnswer
     ensures { λ r. ⌜ r ≡ attributeRefused number ⌝ }
 {
@@ -167,7 +167,7 @@ fn refusal(number: u32) -> AttributeAnswer
     }
 }
 
-// A PMSI Tunnel attribute at the front of the output.
+// Writes a PMSI Tunnel attribute at the front of the output.
 #[no_mangle]
 pub extern "C" fn mvpn_attribute_write(
     flags: u8,
@@ -187,7 +187,7 @@ pub extern "C" fn mvpn_attribute_write(
     }
 }
 
-// An empty table of the lent memory, whatever it held.
+// Makes a table with no routes.
 #[no_mangle]
 pub extern "C" fn mvpn_make(afi: u16, table: &mut [u8]) -> u32
     ensures { λ r. ⌜ r ≡ makeOf afi (now (table .entry)) .answer ⌝ }
@@ -196,7 +196,7 @@ pub extern "C" fn mvpn_make(afi: u16, table: &mut [u8]) -> u32
     table::make(afi, table)
 }
 
-// A route put into the table, new or in place of the attribute that its NLRI had.
+// Installs a route, or replaces the attribute of one.
 #[no_mangle]
 pub extern "C" fn mvpn_install(table: &mut [u8], nlri: &[u8], attribute: &[u8]) -> Installed
     ensures { λ r. ⌜ r ≡ installOf (now (table .entry)) (now (nlri .entry)) (now (attribute .entry)) .answer ⌝ }
@@ -205,7 +205,7 @@ pub extern "C" fn mvpn_install(table: &mut [u8], nlri: &[u8], attribute: &[u8]) 
     table::install(table, nlri, attribute)
 }
 
-// A route taken out of the table.
+// Withdraws a route.
 #[no_mangle]
 pub extern "C" fn mvpn_withdraw(table: &mut [u8], nlri: &[u8]) -> u32
     ensures { λ r. ⌜ r ≡ withdrawOf (now (table .entry)) (now (nlri .entry)) .answer ⌝ }
@@ -214,7 +214,7 @@ pub extern "C" fn mvpn_withdraw(table: &mut [u8], nlri: &[u8]) -> u32
     table::withdraw(table, nlri)
 }
 
-// The route that a flow takes among a router's, written at the front of the output.
+// Finds the route of a router that a flow takes, and writes it at the front of the output.
 #[no_mangle]
 pub extern "C" fn mvpn_match(
     table: &[u8],

@@ -28,19 +28,19 @@ use Rattle.nlri.proofs.Whole.{piecesOf, sizesIn, laidOf, cut-body, laid
 use Rattle.nlri.proofs.Keys.{key-judges, key-octets}
 
 -- what is nothing where a test fails
-keep : {A : Type 0} (b : Bool) (x none : A) → (b ≡ false → x ≡ none) → pick b x none ≡ x
+pick-none : {A : Type 0} (b : Bool) (x none : A) → (b ≡ false → x ≡ none) → pick b x none ≡ x
 unfolding pick
-keep true x none h = refl
-keep false x none h = sym (h refl)
+pick-none true x none h = refl
+pick-none false x none h = sym (h refl)
 
 -- fields from pieces along a body have nothing where the body lacks the kind
-from-restricted : (type : ℕ) (body : List FieldKind) (pieces : List (List ℕ)) → body ≡ bodyOf type
+restricted-from : (type : ℕ) (body : List FieldKind) (pieces : List (List ℕ)) → body ≡ bodyOf type
     → restricted (fieldsFrom type (λ kind. fieldIn [] kind body pieces)) ≡ fieldsFrom type (λ kind. fieldIn [] kind body pieces)
 unfolding restricted numberIn
-from-restricted type body pieces e =
+restricted-from type body pieces e =
     let none : (kind : FieldKind) → hasField kind (bodyOf type) ≡ false → fieldIn [] kind body pieces ≡ [] = λ kind h. lacks [] kind body pieces (ap (hasField kind) e ∙ h) in
-    fields-same refl (keep _ _ _ (none distinguisher)) (keep _ _ _ (λ h. ap (λ (x : List ℕ). numberIn x 0) (none sourceAs h))) (keep _ _ _ (λ h. ap (drop 1) (none source h)))
-    (keep _ _ _ (λ h. ap (drop 1) (none group h))) (keep _ _ _ (none originator)) (keep _ _ _ (none key))
+    fields-same refl (pick-none _ _ _ (none distinguisher)) (pick-none _ _ _ (λ h. ap (λ (x : List ℕ). numberIn x 0) (none sourceAs h))) (pick-none _ _ _ (λ h. ap (drop 1) (none source h)))
+    (pick-none _ _ _ (λ h. ap (drop 1) (none group h))) (pick-none _ _ _ (none originator)) (pick-none _ _ _ (none key))
 
 -- a field of a well-formed body
 pub field-in-body : (Key : List ℕ → Type 0) (bits : ℕ) (f : Fields) (kind : FieldKind) (body : List FieldKind) → WellFormedBody Key bits f body → hasField kind body ≡ true → WellFormedField Key bits f kind
@@ -53,25 +53,25 @@ field-in-body Key bits f kind (k ∷ body) w h = go (sameKind kind k) refl h (λ
     go false other h later = later h
 
 -- a number in four octets, where the body has it
-kept-number : (b : Bool) (x : ℕ) → (b ≡ true → x < 2 ^ 32) → numberIn (pick b (bigEndian 4 x) []) 0 ≡ pick b x 0
+number-pick : (b : Bool) (x : ℕ) → (b ≡ true → x < 2 ^ 32) → numberIn (pick b (bigEndian 4 x) []) 0 ≡ pick b x 0
 unfolding pick numberIn
-kept-number true x h = number-of-big-endian 4 x (h refl)
-kept-number false x h = refl
+number-pick true x h = number-of-big-endian 4 x (h refl)
+number-pick false x h = refl
 
-kept-address : (b : Bool) (x : List ℕ) → drop 1 (pick b (encodeAddress x) []) ≡ pick b x []
+drop-pick-address : (b : Bool) (x : List ℕ) → drop 1 (pick b (encodeAddress x) []) ≡ pick b x []
 unfolding pick encodeAddress
-kept-address true x = refl
-kept-address false x = refl
+drop-pick-address true x = refl
+drop-pick-address false x = refl
 
 -- the fields that the pieces of an encoding give
-from-encoded : (Key : List ℕ → Type 0) (bits : ℕ) (f : Fields) → WellFormedBody Key bits f (bodyOf (f .type))
+fields-encoded : (Key : List ℕ → Type 0) (bits : ℕ) (f : Fields) → WellFormedBody Key bits f (bodyOf (f .type))
     → fieldsFrom (f .type) (λ kind. fieldIn [] kind (bodyOf (f .type)) (piecesOf f (bodyOf (f .type)))) ≡ restricted f
 unfolding restricted encodeField
-from-encoded Key bits f w =
+fields-encoded Key bits f w =
     let body : List FieldKind = bodyOf (f .type) in
     let at : (kind : FieldKind) → fieldIn [] kind body (piecesOf f body) ≡ pick (hasField kind body) (encodeField f kind) [] = λ kind. field-of-map [] (encodeField f) kind body in
-    fields-same refl (at distinguisher) (ap (λ (x : List ℕ). numberIn x 0) (at sourceAs) ∙ kept-number _ _ (field-in-body Key bits f sourceAs body w))
-    (ap (drop 1) (at source) ∙ kept-address _ _) (ap (drop 1) (at group) ∙ kept-address _ _) (at originator) (at key)
+    fields-same refl (at distinguisher) (ap (λ (x : List ℕ). numberIn x 0) (at sourceAs) ∙ number-pick _ _ (field-in-body Key bits f sourceAs body w))
+    (ap (drop 1) (at source) ∙ drop-pick-address _ _) (ap (drop 1) (at group) ∙ drop-pick-address _ _) (at originator) (at key)
 
 -- an NLRI at the front of octets: well-formed fields that stand encoded there
 pub record Front (bits : ℕ) (s : List ℕ) (laid : Laid) : Type 0 where
@@ -112,7 +112,7 @@ module _ (afi bits : ℕ) (ofFamily : familyBits afi ≡ given bits) where
         bits = bits;
         ofFamily = ofFamily;
         wellFormed = record { typed = (o .row .low, o .row .high); body = subst (λ (f : Fields). WellFormedBody (KeyOf bits) bits f (bodyOf (laid .type))) fields (r .0) };
-        whole = from-restricted (laid .type) (laid .body) _ (o .body);
+        whole = restricted-from (laid .type) (laid .body) _ (o .body);
         encoded = sym all ∙ r .1 ∙ ap encodeNlri fields;
       }
 
@@ -125,20 +125,20 @@ module _ (afi bits : ℕ) (ofFamily : familyBits afi ≡ given bits) where
       ap (laidAt bits) (sym (append-nil (encodeNlri f))) ∙ laid-complete (keyField bits) (KeyOf bits) (key-judges bits whole) bits whole f [] (w .typed) (w .body) in
       sym (goes _ _ _ _ laid (sym (pick-true _ _ _ (eq-eqb (suc (suc (length (encodeBody f body))) - 2) (length (encodeBody f body)) (omega arith)))))
 
-  single-complete : (f : Fields) → WellFormed bits f → andThen (laidSingle bits (encodeNlri f)) (λ laid. given (fieldsOf laid (encodeNlri f))) ≡ given (restricted f)
+  single-encoded : (f : Fields) → WellFormed bits f → andThen (laidSingle bits (encodeNlri f)) (λ laid. given (fieldsOf laid (encodeNlri f))) ≡ given (restricted f)
   unfolding fieldsOf encodeNlri
-  single-complete f w =
+  single-encoded f w =
       let body : List FieldKind = bodyOf (f .type) in
       let cuts : cut (sizesIn f body) (encodeBody f body) ≡ piecesOf f body = ap (cut (sizesIn f body)) (sym (append-nil (encodeBody f body))) ∙ cut-body f body [] in
-      sym (goes _ _ _ _ (laid-single f w) (ap given (sym (ap (λ (x : List (List ℕ)). fieldsFrom (f .type) (λ kind. fieldIn [] kind body x)) cuts ∙ from-encoded (KeyOf bits) bits f (w .body)))))
+      sym (goes _ _ _ _ (laid-single f w) (ap given (sym (ap (λ (x : List (List ℕ)). fieldsFrom (f .type) (λ kind. fieldIn [] kind body x)) cuts ∙ fields-encoded (KeyOf bits) bits f (w .body)))))
 
-  octets : (f : Fields) → WellFormed bits f → (most : ℕ) → mostIn 60 (bodyOf (f .type)) ≤ most → most < 256 → (length (encodeNlri f) ≤ 2 + most) × AllOctets (encodeNlri f)
-  octets f w most within fits =
+  octets-encoded : (f : Fields) → WellFormed bits f → (most : ℕ) → mostIn 60 (bodyOf (f .type)) ≤ most → most < 256 → (length (encodeNlri f) ≤ 2 + most) × AllOctets (encodeNlri f)
+  octets-encoded f w most within fits =
       let small = family-octets afi bits ofFamily .1 in
       nlri-octets (keyField bits) (KeyOf bits) (key-judges bits whole) bits whole 60 (key-octets bits whole small) small f (w .typed) (w .body) most within fits
 
-  row : (f : Fields) → WellFormed bits f → RowOf (f .type)
-  row f w = rowOf (f .type) (known (f .type) (w .typed .0) (w .typed .1))
+  row-encoded : (f : Fields) → WellFormed bits f → RowOf (f .type)
+  row-encoded f w = rowOf (f .type) (known (f .type) (w .typed .0) (w .typed .1))
 
 pub read-sound : (afi : ℕ) (s : List ℕ) (f : Fields) → AllOctets s → readNlri afi s ≡ given f → ReadAs afi s f
 unfolding readNlri
@@ -149,15 +149,15 @@ read-sound afi s f a e =
 
 pub read-encoded : (afi bits : ℕ) (f : Fields) → familyBits afi ≡ given bits → WellFormed bits f → readNlri afi (encodeNlri f) ≡ given (restricted f)
 unfolding readNlri
-read-encoded afi bits f ofFamily w = sym (goes _ _ _ _ ofFamily (sym (single-complete afi bits ofFamily f w)))
+read-encoded afi bits f ofFamily w = sym (goes _ _ _ _ ofFamily (sym (single-encoded afi bits ofFamily f w)))
 
 pub acceptance : Acceptance
 acceptance =
     record {
       exactly = λ afi s f a. (read-sound afi s f a, λ r. ap (readNlri afi) (r .encoded) ∙ read-encoded afi (r .bits) f (r .ofFamily) (r .wellFormed) ∙ ap given (r .whole));
       encoded = read-encoded;
-      octets = λ afi bits f ofFamily w. octets afi bits ofFamily f w 76 (row afi bits ofFamily f w .most) (omega arith) .1;
-      most = λ afi bits f ofFamily w. octets afi bits ofFamily f w 76 (row afi bits ofFamily f w .most) (omega arith) .0;
-      plain = λ afi bits f ofFamily w other. octets afi bits ofFamily f w 58 (row afi bits ofFamily f w .plain other .1) (omega arith) .0;
+      octets = λ afi bits f ofFamily w. octets-encoded afi bits ofFamily f w 76 (row-encoded afi bits ofFamily f w .most) (omega arith) .1;
+      most = λ afi bits f ofFamily w. octets-encoded afi bits ofFamily f w 76 (row-encoded afi bits ofFamily f w .most) (omega arith) .0;
+      plain = λ afi bits f ofFamily w other. octets-encoded afi bits ofFamily f w 58 (row-encoded afi bits ofFamily f w .plain other .1) (omega arith) .0;
       same = λ afi bits f g ofFamily w v e. given-same (sym (read-encoded afi bits f ofFamily w) ∙ ap (readNlri afi) e ∙ read-encoded afi bits g ofFamily v);
     }

@@ -1,7 +1,5 @@
 -- The enums that answer a call: number and values tell their cases apart.
 use mathlib.Core.Path.{_≡_, refl, sym, ap, ap₂}
-use Prim.Native.Nat.{ℕ}
-use Rattle.octets.specs.Outcome.{Outcome}
 use Rattle.octets.proofs.Inversions.{never, opposite, given-same}
 use Rattle.octets.proofs.Refusals.{refused-same}
 use Rattle.nlri.specs.declared.layout.Layout.{Layout}

@@ -60,9 +60,9 @@ specific-16 : (afi : ℕ) (g : List ℕ) → SourceSpecific afi g → afi ≡ 2 
 specific-16 afi g (SourceSpecific.ipv4 size first) e = absurd (omega arith)
 specific-16 afi g (SourceSpecific.ipv6 size first second third fourth) e = (size, first, second, third, fourth)
 
-ipv4-tests : (g : List ℕ) → Tests 1 g
+tests-ipv4 : (g : List ℕ) → Tests 1 g
 unfolding classOf classUnder familyBits multicast sourceSpecific shape pick andThen
-ipv4-tests g =
+tests-ipv4 g =
     record {
       multi = both (eqb (length g) 4) (both (leb 224 (getD g 0 0)) (leb (getD g 0 0) 239));
       spec = both (eqb (length g) 4) (both (both (leb 224 (getD g 0 0)) (leb (getD g 0 0) 239)) (eqb (getD g 0 0) 232));
@@ -83,9 +83,9 @@ ipv4-tests g =
       );
     }
 
-ipv6-tests : (g : List ℕ) → Tests 2 g
+tests-ipv6 : (g : List ℕ) → Tests 2 g
 unfolding classOf classUnder familyBits multicast sourceSpecific shape pick andThen
-ipv6-tests g =
+tests-ipv6 g =
     record {
       multi = both (eqb (length g) 16) (eqb (getD g 0 0) 255);
       spec = both (eqb (length g) 16) (both (eqb (getD g 0 0) 255) (both (eqb (getD g 0 0) 255) (both (eqb (getD g 1 0 / 16) 3) (both (eqb (getD g 2 0) 0) (eqb (getD g 3 0) 0)))));
@@ -108,13 +108,13 @@ ipv6-tests g =
     }
 
 tests : (afi : ℕ) (g : List ℕ) → (afi ≡ 1) ⊎ (afi ≡ 2) → Tests afi g
-tests afi g (inl e) = subst (λ (n : ℕ). Tests n g) (sym e) (ipv4-tests g)
-tests afi g (inr e) = subst (λ (n : ℕ). Tests n g) (sym e) (ipv6-tests g)
+tests afi g (inl e) = subst (λ (n : ℕ). Tests n g) (sym e) (tests-ipv4 g)
+tests afi g (inr e) = subst (λ (n : ℕ). Tests n g) (sym e) (tests-ipv6 g)
 
 -- a good family, or FAMILY
-family-of : (afi : ℕ) (g : List ℕ) → ((afi ≡ 1) ⊎ (afi ≡ 2)) ⊎ (((afi ≡ 1 → ⊥) × (afi ≡ 2 → ⊥)) × (classOf afi g ≡ refused FAMILY))
+class-family : (afi : ℕ) (g : List ℕ) → ((afi ≡ 1) ⊎ (afi ≡ 2)) ⊎ (((afi ≡ 1 → ⊥) × (afi ≡ 2 → ⊥)) × (classOf afi g ≡ refused FAMILY))
 unfolding classOf
-family-of afi g =
+class-family afi g =
     ⊎-elim (λ good. inl (good-family afi (good .0) (good .1)))
     (λ bad. let p = family-refused afi (bad .0) (bad .1) in inr (p .1, sym (stops _ _ _ (bad .1 ∙ ap refused (p .0)))))
     (outcome (familyBits afi))
@@ -160,8 +160,8 @@ record Class (afi : ℕ) (g : List ℕ) : Type 0 where
   asm : (classOf afi g ≡ given ASM) ↔ (Multicast afi g × (SourceSpecific afi g → ⊥))
 
 module _ (afi : ℕ) (g : List ℕ) where
-  good-class : (afi ≡ 1) ⊎ (afi ≡ 2) → Class afi g
-  good-class good =
+  class-good : (afi ≡ 1) ⊎ (afi ≡ 2) → Class afi g
+  class-good good =
       record {
         refuses = λ n. (cause n, caused n);
         ssm = (λ e. t .specific .0 (a .ssm .0 e), λ s. a .ssm .1 (t .specific .1 s));
@@ -184,8 +184,8 @@ module _ (afi : ℕ) (g : List ℕ) where
       caused n (badFamily one two) = absurd (⊎-elim one two good)
       caused n (badGroup bits ofFamily none) = a .refuses n .1 (refl, λ m. none (t .multicast .0 m))
 
-  bad-class : ((afi ≡ 1 → ⊥) × (afi ≡ 2 → ⊥)) → classOf afi g ≡ refused FAMILY → Class afi g
-  bad-class bad e =
+  class-bad : ((afi ≡ 1 → ⊥) × (afi ≡ 2 → ⊥)) → classOf afi g ≡ refused FAMILY → Class afi g
+  class-bad bad e =
       record {
         refuses = λ n. (λ q. subst (GroupRefusal afi g) (refused-same {A = ℕ} (sym e ∙ q)) (badFamily (bad .0) (bad .1)), caused n);
         ssm = (λ q. absurd (never q e), λ s. absurd (none (specific-good afi g s)));
@@ -200,7 +200,7 @@ module _ (afi : ℕ) (g : List ℕ) where
       caused n (badGroup bits ofFamily other) = absurd (none (good-family afi bits ofFamily))
 
   class : Class afi g
-  class = ⊎-elim good-class (λ bad. bad-class (bad .0) (bad .1)) (family-of afi g)
+  class = ⊎-elim class-good (λ bad. class-bad (bad .0) (bad .1)) (class-family afi g)
 
 pub groupRule : GroupRule
 groupRule = record { refuses = λ afi g. class afi g .refuses; ssm = λ afi g. class afi g .ssm; asm = λ afi g. class afi g .asm }

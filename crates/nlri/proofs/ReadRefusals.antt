@@ -1,14 +1,14 @@
 -- Every list of octets is read, or refused by the one number that document 01 gives it.
 use mathlib.Core.Path.{_≡_, refl, sym, _∙_, ap, subst}
 use mathlib.Core.Bool.{Bool, true, false}
-use mathlib.Core.Logic.{_⊎_, inl, inr, ⊎-elim, _≢_}
+use mathlib.Core.Logic.{_⊎_, inl, inr, ⊎-elim}
 use mathlib.Core.List.{List, _++_}
 use Prim.Native.Nat.{ℕ, suc, _+_, _*_, _/_, _-_, _<_}
 use native.Mathlib.Omega.{arith}
 use borrow.Author.Tests.{eqb-false, ne-eqb, ltb-true, ltb-false, lt-ltb}
 use lib.ListN.{length, getD, drop, length-append, length-drop}
 use lib.Dec.{ltb}
-use Rattle.octets.specs.Numbers.{DONE, SHORT, TYPE, LENGTH, FAMILY}
+use Rattle.octets.specs.Numbers.{DONE, SHORT, TYPE, LENGTH}
 use Rattle.octets.specs.Outcome.{given, refused}
 use Rattle.octets.specs.Octets.{AllOctets, part}
 use Rattle.octets.proofs.Outcomes.{pick-true, pick-false}
@@ -136,10 +136,10 @@ front-not-done bits s n (short h) e = omega arith
 front-not-done bits s n (badType h t) e = omega arith
 front-not-done bits s n (badBody h t fault) e = ⊎-elim (λ p. omega arith) (λ rest. ⊎-elim (λ p. omega arith) (λ p. omega arith) rest) (faulty-numbers bits _ _ _ n fault)
 
-pub not-done : (afi : ℕ) (s : List ℕ) (n : ℕ) → ReadRefusal afi s n → n ≡ DONE → ⊥
-not-done afi s n (badFamily one two) e = omega arith
-not-done afi s n (front bits ofFamily h) e = front-not-done bits s n h e
-not-done afi s n (after bits f t ofFamily w q some) e = omega arith
+pub refusal-not-done : (afi : ℕ) (s : List ℕ) (n : ℕ) → ReadRefusal afi s n → n ≡ DONE → ⊥
+refusal-not-done afi s n (badFamily one two) e = omega arith
+refusal-not-done afi s n (front bits ofFamily h) e = front-not-done bits s n h e
+refusal-not-done afi s n (after bits f t ofFamily w q some) e = omega arith
 
 pub readRefusals : ReadRefusals
 readRefusals =
@@ -149,6 +149,6 @@ readRefusals =
       decided = λ afi s a. ⊎-elim (λ yes. inl (yes .0, acceptance .exactly afi s (yes .0) a .0 (yes .1))) (λ no. inr (no .0, refusal-sound afi s (no .0) a (no .1))) (outcome (readNlri afi s));
       one = λ afi s m n a p q. refused-same {A = Fields} (sym (refusal-complete afi s m a p) ∙ refusal-complete afi s n a q);
       never = λ afi s f n a p q. never (acceptance .exactly afi s f a .1 p) (refusal-complete afi s n a q);
-      done = λ afi s h. not-done afi s DONE h refl;
+      done = λ afi s h. refusal-not-done afi s DONE h refl;
       bodies = faulty-numbers;
     }

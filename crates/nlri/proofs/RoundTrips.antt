@@ -26,7 +26,7 @@ use Rattle.nlri.specs.declared.fields.Nlri.{Nlri}
 use Rattle.nlri.specs.Statements.{ReadAs, HoldsOctets, StructHoldsOctets, RoundTrips}
 use Rattle.nlri.proofs.Table.{rowOf, known}
 use Rattle.nlri.proofs.Keys.{key-octets}
-use Rattle.nlri.proofs.ReadRefusals.{readRefusals, not-done}
+use Rattle.nlri.proofs.ReadRefusals.{readRefusals, refusal-not-done}
 use Rattle.nlri.proofs.Lengths.{address-most, originator-most, family-octets}
 use Rattle.nlri.proofs.Acceptance.{field-in-body, read-sound, read-encoded}
 use Rattle.nlri.proofs.FieldRecords.{fields-same}
@@ -50,14 +50,14 @@ unfolding pick
 octets-pick true x e h = h refl
 octets-pick false x e h = subst AllOctets e none
 
-number-pick : (b : Bool) (x : ℕ) → pick b x 0 ≡ x → (b ≡ true → x < 2 ^ 32) → x < 2 ^ 32
+below-pick : (b : Bool) (x : ℕ) → pick b x 0 ≡ x → (b ≡ true → x < 2 ^ 32) → x < 2 ^ 32
 unfolding pick
-number-pick true x e h = h refl
-number-pick false x e h = omega arith
+below-pick true x e h = h refl
+below-pick false x e h = omega arith
 
-read-held : (afi : ℕ) (s : List ℕ) (f : Fields) → AllOctets s → readNlri afi s ≡ given f → HoldsOctets f
+held-read : (afi : ℕ) (s : List ℕ) (f : Fields) → AllOctets s → readNlri afi s ≡ given f → HoldsOctets f
 unfolding restricted
-read-held afi s f a e =
+held-read afi s f a e =
     let r = read-sound afi s f a e in
     let body : List FieldKind = bodyOf (f .type) in
     let small : r .bits ≤ 128 = family-octets afi (r .bits) (r .ofFamily) .1 in
@@ -65,7 +65,7 @@ read-held afi s f a e =
     record {
       distinguisherSize = λ h. at distinguisher h .0;
       distinguisher = octets-pick _ _ (ap (λ (g : Fields). g .distinguisher) (r .whole)) (λ h. at distinguisher h .1);
-      sourceAs = number-pick _ _ (ap (λ (g : Fields). g .sourceAs) (r .whole)) (at sourceAs);
+      sourceAs = below-pick _ _ (ap (λ (g : Fields). g .sourceAs) (r .whole)) (at sourceAs);
       source = octets-pick _ _ (ap (λ (g : Fields). g .source) (r .whole)) (λ h. at source h .1);
       group = octets-pick _ _ (ap (λ (g : Fields). g .group) (r .whole)) (λ h. at group h .1);
       originator = octets-pick _ _ (ap (λ (g : Fields). g .originator) (r .whole)) (λ h. at originator h .1);
@@ -73,35 +73,35 @@ read-held afi s f a e =
     }
 
 -- an address as a struct, and back
-address-back : (x : List ℕ) → length x ≤ 16 → addressOctets (addressStruct x) ≡ x
+octets-address-struct : (x : List ℕ) → length x ≤ 16 → addressOctets (addressStruct x) ≡ x
 unfolding addressOctets addressStruct
-address-back x h = sized-back 16 x h
+octets-address-struct x h = sized-back 16 x h
 
-struct-back : (afi bits : ℕ) (f : Fields) → familyBits afi ≡ given bits → WellFormed bits f → restricted f ≡ f → restricted (structFields (nlriStruct f) (f .key)) ≡ f
+fields-struct : (afi bits : ℕ) (f : Fields) → familyBits afi ≡ given bits → WellFormed bits f → restricted f ≡ f → restricted (structFields (nlriStruct f) (f .key)) ≡ f
 unfolding restricted structFields nlriStruct distinguisherStruct
-struct-back afi bits f ofFamily w whole =
+fields-struct afi bits f ofFamily w whole =
     let body : List FieldKind = bodyOf (f .type) in
     let small : bits ≤ 128 = family-octets afi bits ofFamily .1 in
     let at : (k : FieldKind) → hasField k body ≡ true → WellFormedField (KeyOf bits) bits f k = λ k h. field-in-body (KeyOf bits) bits f k body (w .body) h in
     fields-same refl
     (pick-cong _ _ _ _ _ (λ h. sized-same 8 (f .distinguisher) (at distinguisher h .0)) (λ _. refl))
     refl
-    (pick-cong _ _ _ _ _ (λ h. address-back (f .source) (omega (arith, address-most bits (f .type) (f .source) small (at source h .0)))) (λ _. refl))
-    (pick-cong _ _ _ _ _ (λ h. address-back (f .group) (omega (arith, address-most bits (f .type) (f .group) small (at group h .0)))) (λ _. refl))
-    (pick-cong _ _ _ _ _ (λ h. address-back (f .originator) (originator-most (length (f .originator)) (at originator h .0))) (λ _. refl))
+    (pick-cong _ _ _ _ _ (λ h. octets-address-struct (f .source) (omega (arith, address-most bits (f .type) (f .source) small (at source h .0)))) (λ _. refl))
+    (pick-cong _ _ _ _ _ (λ h. octets-address-struct (f .group) (omega (arith, address-most bits (f .type) (f .group) small (at group h .0)))) (λ _. refl))
+    (pick-cong _ _ _ _ _ (λ h. octets-address-struct (f .originator) (originator-most (length (f .originator)) (at originator h .0))) (λ _. refl))
     refl
     ∙ whole
 
-struct-same : (afi : ℕ) (s : List ℕ) (f : Fields) → AllOctets s → readNlri afi s ≡ given f → restricted (structFields (nlriStruct f) (f .key)) ≡ f
-struct-same afi s f a e = let r = read-sound afi s f a e in struct-back afi (r .bits) f (r .ofFamily) (r .wellFormed) (r .whole)
+fields-struct-read : (afi : ℕ) (s : List ℕ) (f : Fields) → AllOctets s → readNlri afi s ≡ given f → restricted (structFields (nlriStruct f) (f .key)) ≡ f
+fields-struct-read afi s f a e = let r = read-sound afi s f a e in fields-struct afi (r .bits) f (r .ofFamily) (r .wellFormed) (r .whole)
 
 write-struct : (afi : ℕ) (s : List ℕ) (f : Fields) (space : ℕ) → AllOctets s → readNlri afi s ≡ given f → length s ≤ space → writeNlri afi (structFields (nlriStruct f) (f .key)) space ≡ given s
 write-struct afi s f space a e room =
-    sym (write-restricted afi (structFields (nlriStruct f) (f .key)) space) ∙ ap (λ (g : Fields). writeNlri afi g space) (struct-same afi s f a e) ∙ write-read afi s f space a e room
+    sym (write-restricted afi (structFields (nlriStruct f) (f .key)) space) ∙ ap (λ (g : Fields). writeNlri afi g space) (fields-struct-read afi s f a e) ∙ write-read afi s f space a e room
 
-struct-held : (nlri : Nlri) (octets : List ℕ) → StructHoldsOctets nlri → AllOctets octets → HoldsOctets (structFields nlri octets)
+held-struct : (nlri : Nlri) (octets : List ℕ) → StructHoldsOctets nlri → AllOctets octets → HoldsOctets (structFields nlri octets)
 unfolding structFields addressOctets
-struct-held nlri octets h k =
+held-struct nlri octets h k =
     record {
       distinguisherSize = λ _. h .distinguisher .0;
       distinguisher = h .distinguisher .1;
@@ -115,13 +115,13 @@ struct-held nlri octets h k =
 take-none : (x y : List ℕ) → x ≡ [] → take (length x) y ≡ x
 take-none x y e = rw e
 
-leaf-body : (f : Fields) → f .type ≡ 4 → encodeBody f (bodyOf (f .type)) ≡ f .key ++ (f .originator ++ [])
+encode-leaf : (f : Fields) → f .type ≡ 4 → encodeBody f (bodyOf (f .type)) ≡ f .key ++ (f .originator ++ [])
 unfolding encodeBody encodeField bodyOf bodies onBody pick
-leaf-body f e = ap (λ (n : ℕ). encodeBody f (bodyOf n)) e
+encode-leaf f e = ap (λ (n : ℕ). encodeBody f (bodyOf n)) e
 
-key-spanned : (afi : ℕ) (s : List ℕ) (f : Fields) → AllOctets s → readNlri afi s ≡ given f → part s (keySpan f .start) (keySpan f .size) ≡ f .key
+part-key-span : (afi : ℕ) (s : List ℕ) (f : Fields) → AllOctets s → readNlri afi s ≡ given f → part s (keySpan f .start) (keySpan f .size) ≡ f .key
 unfolding part keySpan restricted encodeNlri
-key-spanned afi s f a e = go (eqb (f .type) 4) refl
+part-key-span afi s f a e = go (eqb (f .type) 4) refl
   where
     r : ReadAs afi s f
     r = read-sound afi s f a e
@@ -129,7 +129,7 @@ key-spanned afi s f a e = go (eqb (f .type) 4) refl
     go : (b : Bool) → eqb (f .type) 4 ≡ b → take (length (f .key)) (drop (pick (eqb (f .type) 4) 2 0) s) ≡ f .key
     go true leaf =
         ap (λ (n : ℕ). take (length (f .key)) (drop n s)) (pick-true _ _ _ leaf) ∙ ap (λ (x : List ℕ). take (length (f .key)) (drop 2 x)) (r .encoded)
-        ∙ ap (take (length (f .key))) (leaf-body f (eqb-true _ _ leaf)) ∙ take-append-seam (f .key) (f .originator ++ [])
+        ∙ ap (take (length (f .key))) (encode-leaf f (eqb-true _ _ leaf)) ∙ take-append-seam (f .key) (f .originator ++ [])
     go false other =
         let row = rowOf (f .type) (known (f .type) (r .wellFormed .typed .0) (r .wellFormed .typed .1)) in
         take-none (f .key) _ (ap (λ (g : Fields). g .key) (sym (r .whole)) ∙ pick-false _ _ _ (row .plain (eqb-false _ _ other) .0))
@@ -142,19 +142,19 @@ answered afi s space a done room = go (readNlri afi s) refl done
   where
     go : (o : Outcome Fields) → readNlri afi s ≡ o → nlriAnswer o .number ≡ DONE
         → writeNlri afi (structFields (nlriAnswer o .nlri) (part s (nlriAnswer o .key .start) (nlriAnswer o .key .size))) space ≡ given s
-    go (given f) e done = ap (λ (k : List ℕ). writeNlri afi (structFields (nlriStruct f) k) space) (key-spanned afi s f a e) ∙ write-struct afi s f space a e room
-    go (refused n) e done = absurd (not-done afi s n (readRefusals .exactly afi s n a .0 e) done)
+    go (given f) e done = ap (λ (k : List ℕ). writeNlri afi (structFields (nlriStruct f) k) space) (part-key-span afi s f a e) ∙ write-struct afi s f space a e room
+    go (refused n) e done = absurd (refusal-not-done afi s n (readRefusals .exactly afi s n a .0 e) done)
 
 pub roundTrips : RoundTrips
 roundTrips =
     record {
       written = write-read;
       read = read-written;
-      held = read-held;
+      held = held-read;
       unseen = write-restricted;
-      struct = struct-same;
-      spanned = key-spanned;
+      struct = fields-struct-read;
+      spanned = part-key-span;
       structWritten = write-struct;
       answered = answered;
-      structRead = λ afi nlri octets space e h k w. read-written afi (structFields nlri octets) space e (struct-held nlri octets h k) w;
+      structRead = λ afi nlri octets space e h k w. read-written afi (structFields nlri octets) space e (held-struct nlri octets h k) w;
     }

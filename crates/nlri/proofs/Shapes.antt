@@ -82,13 +82,13 @@ originator-is s n e = go (either-true _ _ (p .0))
     go (inr t) = let h : length s ≡ 16 = eqb-true _ _ t in (q, omega (arith, q))
 
 -- an address has no more octets than the family's
-pub bits-most : (bits type ofFamily : ℕ) → allowed bits type ofFamily ≡ true → ofFamily / 8 ≤ bits / 8
+pub bits-most : (bits type octet : ℕ) → allowed bits type octet ≡ true → octet / 8 ≤ bits / 8
 unfolding allowed
-bits-most bits type ofFamily e = go (either-true _ _ e)
+bits-most bits type octet e = go (either-true _ _ e)
   where
-    go : (eqb ofFamily bits ≡ true) ⊎ (both (eqb type 3) (eqb ofFamily 0) ≡ true) → ofFamily / 8 ≤ bits / 8
-    go (inl t) = let h : ofFamily ≡ bits = eqb-true _ _ t in omega arith
-    go (inr t) = let h : ofFamily ≡ 0 = eqb-true _ _ (both-true-right _ _ t) in omega arith
+    go : (eqb octet bits ≡ true) ⊎ (both (eqb type 3) (eqb octet 0) ≡ true) → octet / 8 ≤ bits / 8
+    go (inl t) = let h : octet ≡ bits = eqb-true _ _ t in omega arith
+    go (inr t) = let h : octet ≡ 0 = eqb-true _ _ (both-true-right _ _ t) in omega arith
 
 address-most : (bits type : ℕ) (s : List ℕ) (n : ℕ) → addressField bits type s ≡ given n → n ≤ 1 + bits / 8
 unfolding addressField addressEnd

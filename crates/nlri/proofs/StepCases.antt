@@ -2,14 +2,14 @@
 use mathlib.Core.Path.{_≡_, refl, sym, _∙_, ap, subst}
 use mathlib.Core.Bool.{Bool, true, false}
 use mathlib.Core.Logic.{_⊎_, inl, inr, ⊎-elim}
-use mathlib.Core.List.{List, _++_}
+use mathlib.Core.List.{List}
 use Prim.Native.Nat.{ℕ, _+_, _-_, _≤_, _<_}
 use native.Mathlib.Omega.{arith}
 use borrow.Author.Tests.{eqb-true, eqb-false, eq-eqb, ne-eqb, ltb-true, ltb-false, lt-ltb, le-ltb}
 use lib.ListN.{length, drop, length-append, length-drop}
 use lib.Dec.{eqb, ltb}
 use Rattle.octets.specs.Numbers.{DONE, SHORT, LONG, FAMILY}
-use Rattle.octets.specs.Outcome.{Outcome, given, refused, onOutcome}
+use Rattle.octets.specs.Outcome.{given, refused, onOutcome}
 use Rattle.octets.specs.Octets.{AllOctets}
 use Rattle.octets.proofs.Outcomes.{pick-true, pick-false}
 use Rattle.octets.proofs.Tests.{on-given, on-refused}
@@ -22,7 +22,7 @@ use Rattle.nlri.specs.Fields.{Fields, encodeNlri}
 use Rattle.nlri.specs.Reading.{keyField, laidAt}
 use Rattle.nlri.specs.Layouts.{layoutOf, layoutAt}
 use Rattle.nlri.specs.Walking.{Stepped, readTo, endedAt, refusedAt, stepUnder, stepFrom}
-use Rattle.nlri.specs.Statements.{KnownType, FrontRefusal, layoutFor, NlriAt, EndAt, StepRefusal, badFamily, long, past, front, StepRule}
+use Rattle.nlri.specs.Statements.{KnownType, FrontRefusal, layoutFor, EncodedAt, EndAt, StepRefusal, badFamily, long, past, front, StepRule}
 use Rattle.nlri.proofs.Lengths.{good-family, family-good}
 use Rattle.nlri.proofs.Fronts.{layout-octets}
 use Rattle.nlri.proofs.Whole.{laid-out}
@@ -133,7 +133,7 @@ cursor-moves afi run at r =
     subst (λ (x : Stepped). (x .cursor ≡ at + (2 + x .layout .length)) × (at < x .cursor) × (x .cursor ≤ length run)) (sym (s .is)) (refl, omega arith, whole)
 
 -- an NLRI that stands at the cursor is read
-pub step-encoded : (afi : ℕ) (run : List ℕ) (at : ℕ) (f : Fields) → NlriAt afi run at f → stepFrom afi run at ≡ readTo (layoutFor f) (at + length (encodeNlri f))
+pub step-encoded : (afi : ℕ) (run : List ℕ) (at : ℕ) (f : Fields) → EncodedAt afi run at f → stepFrom afi run at ≡ readTo (layoutFor f) (at + length (encodeNlri f))
 unfolding layoutFor
 step-encoded afi run at f n =
     let size = length-encoded f in
@@ -184,10 +184,10 @@ module _ (afi : ℕ) (run : List ℕ) (at : ℕ) (a : AllOctets run) where
   step-refuses n (past bits ofFamily short h) = step-beyond afi run at bits ofFamily short h
   step-refuses n (front bits ofFamily short before why) = step-front afi run at bits ofFamily short n (octets-drop at a) before why
 
-  step-decided : ((f : Fields) × NlriAt afi run at f) ⊎ EndAt afi run at ⊎ ((n : ℕ) × StepRefusal afi run at n)
+  step-decided : ((f : Fields) × EncodedAt afi run at f) ⊎ EndAt afi run at ⊎ ((n : ℕ) × StepRefusal afi run at n)
   step-decided = go (step-case afi run at)
     where
-      go : StepCase afi run at → ((f : Fields) × NlriAt afi run at f) ⊎ EndAt afi run at ⊎ ((n : ℕ) × StepRefusal afi run at n)
+      go : StepCase afi run at → ((f : Fields) × EncodedAt afi run at f) ⊎ EndAt afi run at ⊎ ((n : ℕ) × StepRefusal afi run at n)
       go (other one two) = inr (inr (FAMILY, badFamily one two))
       go (tooLong bits ofFamily h) = inr (inr (LONG, long bits ofFamily h))
       go (end bits ofFamily short e) = inr (inl (good-family afi bits ofFamily, short, e))
@@ -208,11 +208,11 @@ module _ (afi : ℕ) (run : List ℕ) (at : ℕ) (a : AllOctets run) where
       (λ why. subst (StepRefusal afi run at) (refused-at-same _ _ _ _ (sym (step-refuses (why .0) (why .1)) ∙ e)) (why .1)) stops)
       step-decided
 
-not-done : (afi : ℕ) (run : List ℕ) (at n : ℕ) → StepRefusal afi run at n → n ≡ DONE → ⊥
-not-done afi run at n (badFamily one two) e = omega arith
-not-done afi run at n (long bits ofFamily h) e = omega arith
-not-done afi run at n (past bits ofFamily short h) e = omega arith
-not-done afi run at n (front bits ofFamily short before why) e = front-not-done bits (drop at run) n why e
+step-not-done : (afi : ℕ) (run : List ℕ) (at n : ℕ) → StepRefusal afi run at n → n ≡ DONE → ⊥
+step-not-done afi run at n (badFamily one two) e = omega arith
+step-not-done afi run at n (long bits ofFamily h) e = omega arith
+step-not-done afi run at n (past bits ofFamily short h) e = omega arith
+step-not-done afi run at n (front bits ofFamily short before why) e = front-not-done bits (drop at run) n why e
 
 pub stepRule : StepRule
 stepRule =
@@ -221,7 +221,7 @@ stepRule =
       ends = λ afi run at. (end-at afi run at, ends-at afi run at);
       refuses = λ afi run at n a. (refusal-at afi run at a n, step-refuses afi run at a n);
       decided = step-decided;
-      done = λ afi run at h. not-done afi run at DONE h refl;
+      done = λ afi run at h. step-not-done afi run at DONE h refl;
       typed = step-typed;
       moves = cursor-moves;
     }

@@ -13,7 +13,7 @@ use Rattle.octets.specs.Numbers.{DONE, SHORT, LONG, FAMILY}
 use Rattle.octets.specs.Choice.{pick}
 use Rattle.octets.specs.Outcome.{Outcome, given, refused, onOutcome, numberOf}
 use Rattle.octets.proofs.Tests.{skips, on-given, on-refused}
-use Rattle.octets.proofs.Inversions.{never, opposite}
+use Rattle.octets.proofs.Inversions.{opposite}
 use Rattle.octets.proofs.Outcomes.{pick-true, pick-false}
 use Rattle.nlri.specs.declared.layout.Layout.{Layout}
 use Rattle.nlri.specs.declared.run.Cursor.{Cursor}
@@ -25,6 +25,7 @@ use Rattle.nlri.specs.Walking.{Stepped, readTo, endedAt, refusedAt, step
 use Rattle.nlri.specs.Inner.{layoutIn, Stands}
 use Rattle.nlri.proofs.Fronts.{layout-octets}
 use Rattle.nlri.proofs.Standing.{laid-in}
+use Rattle.nlri.proofs.Faults.{family-refused}
 
 -- the Length of an NLRI is its second octet
 length-layout : (bits : ℕ) (run : List ℕ) (at : ℕ) (l : Layout) → layoutAt bits (drop at run) ≡ given l → l .length ≡ getD run (at + 1) 0
@@ -70,25 +71,25 @@ module _ (at : ℕ) (next : Layout → ℕ) (o : Outcome Layout) where
       pick long (refusedAt LONG at)
       (pick last (endedAt at) (pick past (refusedAt SHORT at) (onOutcome (λ number. refusedAt number at) (λ l. readTo l (next l)) o)))
 
-stops-by : (at : ℕ) (next : Layout → ℕ) (o : Outcome Layout) (long last past : Bool) → (stepBy at next o long last past .number ≡ DONE → ⊥) → refusedAt (stepBy at next o long last past .number) at ≡ stepBy at next o long last past
+step-by-stops : (at : ℕ) (next : Layout → ℕ) (o : Outcome Layout) (long last past : Bool) → (stepBy at next o long last past .number ≡ DONE → ⊥) → refusedAt (stepBy at next o long last past .number) at ≡ stepBy at next o long last past
 unfolding pick onOutcome endedAt refusedAt readTo
-stops-by at next o true last past h = refl
-stops-by at next o false true past h = absurd (h refl)
-stops-by at next o false false true h = refl
-stops-by at next (given l) false false false h = absurd (h refl)
-stops-by at next (refused n) false false false h = refl
+step-by-stops at next o true last past h = refl
+step-by-stops at next o false true past h = absurd (h refl)
+step-by-stops at next o false false true h = refl
+step-by-stops at next (given l) false false false h = absurd (h refl)
+step-by-stops at next (refused n) false false false h = refl
 
-ends-by : (at : ℕ) (next : Layout → ℕ) (o : Outcome Layout) (long past : Bool) → stepBy at next o long true past .number ≡ DONE → endedAt at ≡ stepBy at next o long true past
+step-by-ends : (at : ℕ) (next : Layout → ℕ) (o : Outcome Layout) (long past : Bool) → stepBy at next o long true past .number ≡ DONE → endedAt at ≡ stepBy at next o long true past
 unfolding pick refusedAt
-ends-by at next o true past e = let z : ⊥ = omega arith in absurd z
-ends-by at next o false past e = refl
+step-by-ends at next o true past e = let z : ⊥ = omega arith in absurd z
+step-by-ends at next o false past e = refl
 
-reads-by : (at : ℕ) (next : Layout → ℕ) (o : Outcome Layout) (long past : Bool) → stepBy at next o long false past .number ≡ DONE → (long ≡ false) × (past ≡ false) × (numberOf o ≡ DONE)
+step-by-reads : (at : ℕ) (next : Layout → ℕ) (o : Outcome Layout) (long past : Bool) → stepBy at next o long false past .number ≡ DONE → (long ≡ false) × (past ≡ false) × (numberOf o ≡ DONE)
 unfolding pick onOutcome refusedAt readTo numberOf
-reads-by at next o true past e = let z : ⊥ = omega arith in absurd z
-reads-by at next o false true e = let z : ⊥ = omega arith in absurd z
-reads-by at next (given l) false false e = (refl, refl, refl)
-reads-by at next (refused n) false false e = (refl, refl, e)
+step-by-reads at next o true past e = let z : ⊥ = omega arith in absurd z
+step-by-reads at next o false true e = let z : ⊥ = omega arith in absurd z
+step-by-reads at next (given l) false false e = (refl, refl, refl)
+step-by-reads at next (refused n) false false e = (refl, refl, e)
 
 -- a step that reads: the run is short, and the NLRI's octets stand at the cursor
 pub record Reads (bits : ℕ) (run : List ℕ) (at : ℕ) : Type 0 where
@@ -100,18 +101,18 @@ pub record Reads (bits : ℕ) (run : List ℕ) (at : ℕ) : Type 0 where
 module _ (bits : ℕ) (run : List ℕ) (at number : ℕ) (e : number ≡ stepUnder bits run at .number) where
   pub step-stops : (number ≡ DONE → ⊥) → refusedAt number at ≡ stepUnder bits run at
   unfolding stepUnder
-  step-stops h = ap (λ (n : ℕ). refusedAt n at) e ∙ stops-by at (λ l. at + (2 + l .length)) _ _ _ _ (λ q. h (e ∙ q))
+  step-stops h = ap (λ (n : ℕ). refusedAt n at) e ∙ step-by-stops at (λ l. at + (2 + l .length)) _ _ _ _ (λ q. h (e ∙ q))
 
   pub step-ends : number ≡ DONE → at ≡ length run → endedAt at ≡ stepUnder bits run at
   unfolding stepUnder
-  step-ends z last = let b : eqb at (length run) ≡ true = eq-eqb _ _ last in rw b (ends-by at (λ l. at + (2 + l .length)) _ _ _ (rw b at (sym e ∙ z)))
+  step-ends z last = let b : eqb at (length run) ≡ true = eq-eqb _ _ last in rw b (step-by-ends at (λ l. at + (2 + l .length)) _ _ _ (rw b at (sym e ∙ z)))
 
   pub step-reads : number ≡ DONE → (at ≡ length run → ⊥) → Reads bits run at
   unfolding stepUnder
   step-reads z more =
       let b : eqb at (length run) ≡ false = ne-eqb _ _ more in
-      let r = reads-by at (λ l. at + (2 + l .length)) _ _ _ (rw b at (sym e ∙ z)) in
-      let laid = laid-in bits (drop at run) 0 (sym (r .2)) refl in
+      let r = step-by-reads at (λ l. at + (2 + l .length)) _ _ _ (rw b at (sym e ∙ z)) in
+      let laid = laid-in bits (drop at run) DONE (sym (r .2)) refl in
       record { short = ltb-false _ _ (r .0); within = ltb-false _ _ (r .1); stands = laid .0; is = sym (laid .1) }
 
 module _ (bits : ℕ) (run : List ℕ) (at : ℕ) (more : at ≡ length run → ⊥) (r : Reads bits run at) where
@@ -131,25 +132,19 @@ pub step-under-is : (afi bits : ℕ) (run : List ℕ) (at : ℕ) (x : Stepped) �
 unfolding stepFrom
 step-under-is afi bits run at x e q = sym (on-given x (familyBits afi) bits _ _ e q)
 
-no-family : (one two : Bool) (n : ℕ) → pick {A = Outcome ℕ} one (given 32) (pick two (given 128) (refused FAMILY)) ≡ refused n → FAMILY ≡ n
-unfolding pick
-no-family true two n e = absurd (never refl e)
-no-family false true n e = absurd (never refl e)
-no-family false false n e = cc
-
 pub step-without : (afi n : ℕ) (run : List ℕ) (at : ℕ) → familyBits afi ≡ refused n → stepFrom afi run at ≡ refusedAt FAMILY at
-unfolding stepFrom familyBits
-step-without afi n run at e = sym (on-refused (refusedAt FAMILY at) _ n _ _ e (ap (λ (k : ℕ). refusedAt k at) (no-family _ _ n e)))
+unfolding stepFrom
+step-without afi n run at e = sym (on-refused (refusedAt FAMILY at) _ n _ _ e (ap (λ (k : ℕ). refusedAt k at) (sym (family-refused afi n e .0))))
 
-never-both : (x : Stepped) (n c : ℕ) (l : Layout) → Stops x n → x ≡ readTo l c → ⊥
+stops-not-read : (x : Stepped) (n c : ℕ) (l : Layout) → Stops x n → x ≡ readTo l c → ⊥
 unfolding readTo
-never-both x n c l s e = opposite (ap (λ (y : Stepped). y .read) e) (s .unread)
+stops-not-read x n c l s e = opposite (ap (λ (y : Stepped). y .read) e) (s .unread)
 
 -- a step that read went past each stop
-past-stop : (b : Bool) (x y : Stepped) (n c : ℕ) (l : Layout) → Stops x n → pick b x y ≡ readTo l c → (b ≡ false) × (y ≡ readTo l c)
+pick-past-stop : (b : Bool) (x y : Stepped) (n c : ℕ) (l : Layout) → Stops x n → pick b x y ≡ readTo l c → (b ≡ false) × (y ≡ readTo l c)
 unfolding pick
-past-stop true x y n c l s e = absurd (never-both x n c l s e)
-past-stop false x y n c l s e = (refl, e)
+pick-past-stop true x y n c l s e = absurd (stops-not-read x n c l s e)
+pick-past-stop false x y n c l s e = (refl, e)
 
 -- a step that read: under which family, and what the NLRI there came to
 record Read {A : Type 0} (o : Outcome A) (good : A → Stepped) (l : Layout) (c : ℕ) : Type 0 where
@@ -160,16 +155,16 @@ record Read {A : Type 0} (o : Outcome A) (good : A → Stepped) (l : Layout) (c 
 read-by : {A : Type 0} (x : ℕ) (good : A → Stepped) (o : Outcome A) (l : Layout) (c : ℕ) → onOutcome (λ number. refusedAt number x) good o ≡ readTo l c → Read o good l c
 unfolding onOutcome
 read-by x good (given a) l c e = record { value = a; first = refl; second = e }
-read-by x good (refused n) l c e = absurd (never-both (refusedAt n x) n c l (stops-at-refusal _ n x refl) e)
+read-by x good (refused n) l c e = absurd (stops-not-read (refusedAt n x) n c l (stops-at-refusal _ n x refl) e)
 
 -- a step that reads moves the cursor past the NLRI, within the run
 pub step-moves : (afi : ℕ) (run : List ℕ) (at : ℕ) (l : Layout) (c : ℕ) → stepFrom afi run at ≡ readTo l c → (at + 2 ≤ c) × (c ≤ length run) × (length run ≤ 4096)
 unfolding stepFrom stepUnder readTo
 step-moves afi run at l c e =
     let f = read-by _ _ _ _ _ e in
-    let long = past-stop _ _ _ _ _ _ (stops-at-refusal _ LONG at refl) (f .second) in
-    let end = past-stop _ _ _ _ _ _ (stops-at-end _ DONE at refl refl) (long .1) in
-    let past = past-stop _ _ _ _ _ _ (stops-at-refusal _ SHORT at refl) (end .1) in
+    let long = pick-past-stop _ _ _ _ _ _ (stops-at-refusal _ LONG at refl) (f .second) in
+    let end = pick-past-stop _ _ _ _ _ _ (stops-at-end _ DONE at refl refl) (long .1) in
+    let past = pick-past-stop _ _ _ _ _ _ (stops-at-refusal _ SHORT at refl) (end .1) in
     let r = read-by _ _ _ _ _ (past .1) in
     let h = layout-octets (f .value) (drop at run) (r .value) (r .first) .1 in
     let n : at + (2 + r .value .length) ≡ c = ap (λ (s : Stepped). s .cursor) (r .second) in

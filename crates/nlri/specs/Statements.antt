@@ -208,7 +208,7 @@ pub record WriteRefusals : Type 0 where
       → (writeNlri afi f space ≡ given e) ↔ ((bits : ℕ) × (familyBits afi ≡ given bits) × WellFormed bits f × (length e ≤ space) × (e ≡ encodeNlri f))
 
 -- a step that reads: fields well-formed under the AFI's family stand encoded at the cursor of a run that is not too long
-pub record NlriAt (afi : ℕ) (run : List ℕ) (at : ℕ) (f : Fields) : Type 0 where
+pub record EncodedAt (afi : ℕ) (run : List ℕ) (at : ℕ) (f : Fields) : Type 0 where
   pub bits : ℕ
   pub ofFamily : familyBits afi ≡ given bits
   pub short : length run ≤ 4096
@@ -230,13 +230,13 @@ pub data StepRefusal (afi : ℕ) (run : List ℕ) (at : ℕ) : ℕ → Type 0 wh
 -- "Walking a run": what a step answers, in the order FAMILY, LONG, the cursor, NLRI reading
 pub record StepRule : Type 0 where
   -- an NLRI at the cursor is read: its layout, and the cursor just past it
-  pub reads : (afi : ℕ) (run : List ℕ) (at : ℕ) (f : Fields) → NlriAt afi run at f → stepFrom afi run at ≡ readTo (layoutFor f) (at + length (encodeNlri f))
+  pub reads : (afi : ℕ) (run : List ℕ) (at : ℕ) (f : Fields) → EncodedAt afi run at f → stepFrom afi run at ≡ readTo (layoutFor f) (at + length (encodeNlri f))
   -- at the run's end DONE with no NLRI, and the cursor given
   pub ends : (afi : ℕ) (run : List ℕ) (at : ℕ) → (stepFrom afi run at ≡ endedAt at) ↔ EndAt afi run at
   -- each number, with the cursor given, exactly when document 01 says
   pub refuses : (afi : ℕ) (run : List ℕ) (at n : ℕ) → AllOctets run → (stepFrom afi run at ≡ refusedAt n at) ↔ StepRefusal afi run at n
   -- there is no other step
-  pub decided : (afi : ℕ) (run : List ℕ) (at : ℕ) → AllOctets run → ((f : Fields) × NlriAt afi run at f) ⊎ EndAt afi run at ⊎ ((n : ℕ) × StepRefusal afi run at n)
+  pub decided : (afi : ℕ) (run : List ℕ) (at : ℕ) → AllOctets run → ((f : Fields) × EncodedAt afi run at f) ⊎ EndAt afi run at ⊎ ((n : ℕ) × StepRefusal afi run at n)
   -- no refusal is DONE
   pub done : (afi : ℕ) (run : List ℕ) (at : ℕ) → StepRefusal afi run at DONE → ⊥
   -- an NLRI read has a route type of 1 to 7, where a step that reads none has 0

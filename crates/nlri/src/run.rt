@@ -63,6 +63,7 @@ fn step_fault(kind: AddressKind, run: &[u8], at: usize) -> u32
     read::front_fault(kind, octets::parts::after(run, at))
 }
 
+// The step from `at` under a family.
 fn step_under(kind: AddressKind, run: &[u8], at: usize) -> Step
     ensures { λ r. ⌜ steppedOf r ≡ stepUnder (kind .bits) (now (run .entry)) at ⌝ }
 {
