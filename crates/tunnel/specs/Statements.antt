@@ -13,7 +13,7 @@ use Rattle.tunnel.specs.declared.Reading.{Reading}
 use Rattle.tunnel.specs.declared.Attribute.{Attribute}
 use Rattle.tunnel.specs.declared.fec.Fec.{Fec}
 use Rattle.tunnel.specs.Fec.{FecFields, WellFormedFec, encodeFec, readFec}
-use Rattle.tunnel.specs.Identifier.{IdentifierForm, sizes, fecTypes, row, identifierForms, OfType}
+use Rattle.tunnel.specs.Identifier.{IdentifierForm, sizes, fecTypes, rowOf, identifierForms, OfType}
 use Rattle.tunnel.specs.Attribute.{AttributeFields, WellFormedAttribute, encodeAttribute, readAttribute, writeAttribute}
 use Rattle.tunnel.specs.Answers.{outcomeOf, readStruct, argumentFields}
 
@@ -100,17 +100,17 @@ pub data AnsweredForm (s : List ℕ) (a : Attribute) : IdentifierForm → Type 0
 
 -- what an answer is to say of octets: they are the encoding of the well-formed fields that it tells, the identifier ends
 -- where they end, and the rest follows from these
-pub record Answered (s : List ℕ) (a : Attribute) : Type 0 where
+pub record AnsweredAttribute (s : List ℕ) (a : Attribute) : Type 0 where
   pub wellFormed : WellFormedAttribute (fieldsTold s a)
   pub encoded : s ≡ encodeAttribute (fieldsTold s a)
   pub identifierEnds : a .identifier .start + a .identifier .size ≡ length s
   pub label : a .label ≡ a .«label_field» / 16
   pub leafInformationRequired : a .«leaf_information_required» ≡ a .flags % 2
-  pub fec : (form : IdentifierForm) → Among (row (a .«tunnel_type») form) identifierForms → AnsweredForm s a form
+  pub fec : (form : IdentifierForm) → Among (rowOf (a .«tunnel_type») form) identifierForms → AnsweredForm s a form
 
 -- The call of reading: its answer is the only one that says of the octets what it is to say; it refuses as reading does.
 pub record AttributeAnswerRule : Type 0 where
-  pub accepted : (s : List ℕ) (a : Attribute) → AllOctets s → (readStruct s ≡ given a) ↔ Answered s a
+  pub accepted : (s : List ℕ) (a : Attribute) → AllOctets s → (readStruct s ≡ given a) ↔ AnsweredAttribute s a
   pub exactly : (s : List ℕ) (n : ℕ) → AllOctets s → (readStruct s ≡ refused n) ↔ AttributeReadRefusal s n
   -- answers of the same number and values are equal
   pub apart : (a b : Reading) → outcomeOf a ≡ outcomeOf b → a ≡ b
