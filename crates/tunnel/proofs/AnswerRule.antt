@@ -19,12 +19,11 @@ use Rattle.tunnel.specs.Fec.{WellFormedFec, encodeFec, wholeFec, fecIn}
 use Rattle.tunnel.specs.Identifier.{IdentifierForm, sizes, fecTypes, formOf, oneOf, isIdentifier}
 use Rattle.tunnel.specs.Attribute.{AttributeFields, WellFormedAttribute, labelOf, leafInformationRequired, encodeAttribute, fieldsIn, readAttribute, writeAttribute}
 use Rattle.tunnel.specs.Answers.{outcomeOf, span, fecSpans, noFec, fecOf, attributeStruct, readStruct}
-use Rattle.tunnel.specs.Statements.{octetsAt, fieldsTold, fecTold, AttributeRoundTrips, AnsweredFec, AnsweredForm, notFec, isFec, Answered, AttributeAnswerRule}
+use Rattle.tunnel.specs.Statements.{octetsAt, fieldsTold, fecTold, AttributeRoundTrips, AnsweredFec, AnsweredForm, notFec, isFec, AnsweredAttribute, AttributeAnswerRule}
 use Rattle.tunnel.proofs.Fecs.{length-fec, length-root, length-opaque, whole-fields, fields-encode, length-encode}
 use Rattle.tunnel.proofs.Identifiers.{form-among}
 use Rattle.tunnel.proofs.Answers.{fec-sizes, fec-types}
-use Rattle.tunnel.proofs.ReadRule.{Accepted, read-given, accepted-fields, attributeReadRule, read-encode}
-use Rattle.tunnel.proofs.ReadRule.{length-encode as length-attribute}
+use Rattle.tunnel.proofs.ReadRule.{Accepted, read-given, accepted-fields, length-attribute, read-encode, attributeReadRule}
 use Rattle.tunnel.proofs.WriteRule.{attributeWriteRule, write-encode}
 
 -- the answers that the call gives, by what reading comes to
@@ -64,9 +63,18 @@ accepted-whole s ns p e =
     let w : isIdentifier (fecTypes ns) (drop 5 s) ≡ true = rw q at (p .fits) in
     both-true-left (wholeFec (drop 5 s)) (oneOf (getD (drop 5 s) 0 0) ns) w
 
--- the fields that the answer tells are those that stand in the octets
-told-identifier : (s : List ℕ) → part s 5 (length (drop 5 s)) ≡ drop 5 s
-unfolding part
+-- root, opaque length and opaque value stand one straight after the other, up to the end
+spans-root : (i : List ℕ) → fecSpans (fecIn i) .root .start + fecSpans (fecIn i) .root .size + 2 ≡ fecSpans (fecIn i) .opaque .start
+unfolding fecSpans
+spans-root i = omega arith
+
+spans-opaque : (i : List ℕ) → wholeFec i ≡ true → fecSpans (fecIn i) .opaque .start + fecSpans (fecIn i) .opaque .size ≡ 5 + length i
+unfolding fecSpans fecIn
+spans-opaque i w = omega (arith, length-root i w, length-opaque i, length-fec i w)
+
+-- what the answer tells of the octets are the fields and the FEC that stand in them
+told-identifier : (s : List ℕ) → octetsAt s (attributeStruct (fieldsIn s) .identifier) ≡ drop 5 s
+unfolding attributeStruct fieldsIn part
 told-identifier s = take-length (drop 5 s)
 
 told-fields : (s : List ℕ) → fieldsTold s (attributeStruct (fieldsIn s)) ≡ fieldsIn s
@@ -74,12 +82,12 @@ unfolding attributeStruct fieldsIn
 told-fields s = rw (told-identifier s)
 
 module _ (s : List ℕ) (w : wholeFec (drop 5 s) ≡ true) where
-  told-root : part s 9 (length (fecIn (drop 5 s) .root)) ≡ fecIn (drop 5 s) .root
-  unfolding part fecIn
+  told-root : octetsAt s (fecSpans (fecIn (drop 5 s)) .root) ≡ fecIn (drop 5 s) .root
+  unfolding fecSpans fecIn part
   told-root = rw (length-root (drop 5 s) w, drop-drop 4 5 s)
 
-  told-opaque : part s (11 + length (fecIn (drop 5 s) .root)) (length (fecIn (drop 5 s) .opaqueValue)) ≡ fecIn (drop 5 s) .opaqueValue
-  unfolding part fecIn
+  told-opaque : octetsAt s (fecSpans (fecIn (drop 5 s)) .opaque) ≡ fecIn (drop 5 s) .opaqueValue
+  unfolding fecSpans fecIn part
   told-opaque =
       let size = getD (drop 5 s) 3 0 in
       let n : 9 + (size + 2) ≡ 11 + size = omega arith in
@@ -90,14 +98,6 @@ module _ (s : List ℕ) (w : wholeFec (drop 5 s) ≡ true) where
   told-fec : fecTold s (fecSpans (fecIn (drop 5 s))) ≡ fecIn (drop 5 s)
   unfolding fecSpans
   told-fec = rw (told-root, told-opaque)
-
-spans-root : (i : List ℕ) → fecSpans (fecIn i) .root .start + fecSpans (fecIn i) .root .size + 2 ≡ fecSpans (fecIn i) .opaque .start
-unfolding fecSpans
-spans-root i = omega arith
-
-spans-opaque : (i : List ℕ) → wholeFec i ≡ true → fecSpans (fecIn i) .opaque .start + fecSpans (fecIn i) .opaque .size ≡ 5 + length i
-unfolding fecSpans fecIn
-spans-opaque i w = omega (arith, length-root i w, length-opaque i, length-fec i w)
 
 -- the call's answer says of the octets what it is to say
 module _ (s : List ℕ) (o : AllOctets s) (p : Accepted s) where
@@ -124,7 +124,7 @@ module _ (s : List ℕ) (o : AllOctets s) (p : Accepted s) where
   answered-form (sizes ns) e = notFec (fec-sizes (fieldsIn s) ns e)
   answered-form (fecTypes ns) e = isFec (answered-fec ns e)
 
-  answered-fields : Answered s (attributeStruct (fieldsIn s))
+  answered-fields : AnsweredAttribute s (attributeStruct (fieldsIn s))
   unfolding attributeStruct fieldsIn labelOf leafInformationRequired
   answered-fields =
       let w = accepted-fields s o p in
@@ -137,14 +137,14 @@ module _ (s : List ℕ) (o : AllOctets s) (p : Accepted s) where
         fec = λ form m. answered-form form (form-among (getD s 1 0) form m);
       }
 
-answered-of : (s : List ℕ) (a : Attribute) → AllOctets s → readStruct s ≡ given a → Answered s a
+answered-of : (s : List ℕ) (a : Attribute) → AllOctets s → readStruct s ≡ given a → AnsweredAttribute s a
 answered-of s a o e =
     let g = struct-given s a e in
     let p = read-given s (g .0) (g .1 .0) in
-    subst (Answered s) (ap attributeStruct (p .1) ∙ g .1 .1) (answered-fields s o (p .0))
+    subst (AnsweredAttribute s) (ap attributeStruct (p .1) ∙ g .1 .1) (answered-fields s o (p .0))
 
 -- and an answer that does is the call's
-module _ (s : List ℕ) (a : Attribute) (w : Answered s a) where
+module _ (s : List ℕ) (a : Attribute) (w : AnsweredAttribute s a) where
   length-told : length s ≡ 5 + length (octetsAt s (a .identifier))
   length-told = ap length (w .encoded) ∙ length-attribute (fieldsTold s a)
 

@@ -21,7 +21,7 @@ use Rattle.tunnel.specs.Answers.{fecSpans, noFec, fecOfForm, fecOf, attr
 use Rattle.tunnel.specs.Inner.{mldp}
 use Rattle.tunnel.proofs.Numbers.{refused-number}
 use Rattle.tunnel.proofs.Identifiers.{read-known, judged-done}
-use Rattle.tunnel.proofs.Rows.{MldpForm, form-mldp}
+use Rattle.tunnel.proofs.Rows.{form-mldp}
 use Rattle.tunnel.proofs.ReadRule.{read-done}
 
 -- the FEC of an answer, by its tunnel type's form

@@ -18,8 +18,8 @@ part-none : (s : List ℕ) (at : ℕ) → part s at 0 ≡ []
 unfolding part
 part-none s at = refl
 
-pub four-octets : (s : List ℕ) (k : ℕ) → k + 4 ≤ length s → getD s k 0 ∷ (getD s (k + 1) 0 ∷ (getD s (k + 2) 0 ∷ (getD s (k + 3) 0 ∷ []))) ≡ part s k 4
-four-octets s k h =
+pub part-four : (s : List ℕ) (k : ℕ) → k + 4 ≤ length s → getD s k 0 ∷ (getD s (k + 1) 0 ∷ (getD s (k + 2) 0 ∷ (getD s (k + 3) 0 ∷ []))) ≡ part s k 4
+part-four s k h =
     rw (
       part-cons s k (k + 1) 3 (omega arith) (omega arith),
       part-cons s (k + 1) (k + 2) 2 (omega arith) (omega arith),
@@ -28,10 +28,10 @@ four-octets s k h =
       part-none s (k + 4),
     )
 
-pub eight-octets : (s : List ℕ) (k : ℕ) → k + 8 ≤ length s
+pub part-eight : (s : List ℕ) (k : ℕ) → k + 8 ≤ length s
     → getD s k 0 ∷ (getD s (k + 1) 0 ∷ (getD s (k + 2) 0 ∷ (getD s (k + 3) 0 ∷ (getD s (k + 4) 0 ∷ (getD s (k + 5) 0 ∷ (getD s (k + 6) 0 ∷ (getD s (k + 7) 0 ∷ [])))))))
     ≡ part s k 8
-eight-octets s k h =
+part-eight s k h =
     rw (
       part-cons s k (k + 1) 7 (omega arith) (omega arith),
       part-cons s (k + 1) (k + 2) 6 (omega arith) (omega arith),
@@ -45,9 +45,9 @@ eight-octets s k h =
     )
 
 -- two blocks of one size, one straight after the other, as two calls leave them
-pub two-blocks : (s d y z : List ℕ) (k at m : ℕ) → k + (m + m) ≤ length s → at + (m + m) ≤ length d → y ≡ placed at (part s k m) d → z ≡ placed (at + m) (part s (k + m) m) y
+pub placed-blocks : (s d y z : List ℕ) (k at m : ℕ) → k + (m + m) ≤ length s → at + (m + m) ≤ length d → y ≡ placed at (part s k m) d → z ≡ placed (at + m) (part s (k + m) m) y
     → z ≡ placed at (part s k (m + m)) d
-two-blocks s d y z k at m h r p q =
+placed-blocks s d y z k at m h r p q =
     let l : length (part s k m) ≡ m = part-length s k m (omega arith) in
     let l′ : length (part s (k + m) m) ≡ m = part-length s (k + m) m (omega arith) in
     placed-then at (at + m) (part s k m) (part s (k + m) m) d y z (omega arith) (ap (λ (n : ℕ). at + n) (sym l)) p q ∙ ap (λ (e : List ℕ). placed at e d) (sym (part-then s k m m))
@@ -71,14 +71,14 @@ placed-over at e f d l h =
     sum : (at m n : ℕ) → m ≤ n → at + n ≡ at + m + (n - m)
     sum at m n l = omega arith
 
-whole-part : (s : List ℕ) (n : ℕ) → length s ≤ n → part s 0 n ≡ s
+part-whole : (s : List ℕ) (n : ℕ) → length s ≤ n → part s 0 n ≡ s
 unfolding part
-whole-part s n l = take-all n s l
+part-whole s n l = take-all n s l
 
 -- the first octets and the last ones, as two calls leave them
-pub both-ends : (s d y z : List ℕ) (at m : ℕ) → m ≤ length s → length s ≤ m + m → at + length s ≤ length d → y ≡ placed at (part s 0 m) d → z ≡ placed (at + (length s - m)) (part s (length s - m) m) y
+pub placed-ends : (s d y z : List ℕ) (at m : ℕ) → m ≤ length s → length s ≤ m + m → at + length s ≤ length d → y ≡ placed at (part s 0 m) d → z ≡ placed (at + (length s - m)) (part s (length s - m) m) y
     → z ≡ placed at s d
-both-ends s d y z at m h l r p q =
+placed-ends s d y z at m h l r p q =
     let j : ℕ = length s - m in
     let e : List ℕ = part s 0 j in
     let g : List ℕ = part s (0 + j) (m - j) in
@@ -87,7 +87,7 @@ both-ends s d y z at m h l r p q =
     let lg : length g ≡ m - j = part-length s (0 + j) (m - j) (omega arith) in
     let lf : length f ≡ m = part-length s (0 + j) m (omega arith) in
     let first : part s 0 m ≡ e ++ g = ap (part s 0) (sum j m (omega arith)) ∙ part-then s 0 j (m - j) in
-    let last : e ++ f ≡ s = sym (part-then s 0 j m) ∙ whole-part s (j + m) (omega arith) in
+    let last : e ++ f ≡ s = sym (part-then s 0 j m) ∙ part-whole s (j + m) (omega arith) in
     let x : List ℕ = placed at e d in
     let lx : length x ≡ length d = placed-length at e d (omega arith) in
     let y′ : y ≡ placed (at + length e) g x = p ∙ ap (λ (a : List ℕ). placed at a d) first ∙ sym (placed-placed at e g d (omega arith)) in

@@ -1,6 +1,6 @@
 -- Laws of a FEC's definitions: the tests that the code makes, what a FEC that passes them is, and `fecRule`.
 use Prim.Native.Nat.{ℕ, _+_, _-_, _*_, _≤_, _<_}
-use mathlib.Core.Path.{_≡_, refl, sym, ap, ap₂, subst, _∙_}
+use mathlib.Core.Path.{_≡_, refl, sym, ap, subst, _∙_}
 use mathlib.Core.Logic.{_⊎_, inl, inr, ⊎-elim}
 use mathlib.Core.Bool.{Bool, true, false}
 use mathlib.Core.List.{List, [], _∷_, _++_}
@@ -10,17 +10,13 @@ use lib.ListN.{length, getD, take, drop, length-append, length-drop, take-append
 use lib.Seq.{length-take-le, drop-drop, take-append-seam, drop-append-seam, drop-append-add, take-at, drop-at}
 use borrow.Author.Tests.{leb-true, eqb-true, eq-eqb, le-leb}
 use Rattle.octets.specs.Choice.{both, either}
-use Rattle.octets.specs.Numbers.{IDENT}
-use Rattle.octets.specs.Outcome.{given, refused}
 use Rattle.octets.specs.Octets.{AllOctets, part, numberIn, bigEndian}
 use Rattle.octets.proofs.Tests.{both-true}
-use Rattle.octets.proofs.Picked.{was-given}
 use Rattle.octets.proofs.Inversions.{both-held, either-true}
 use Rattle.octets.proofs.Refusals.{is-false}
-use Rattle.octets.proofs.Outcomes.{pick-true}
 use Rattle.octets.proofs.AllOctets.{octet-at, octets-take, octets-drop}
 use Rattle.octets.proofs.NetworkOrder.{big-endian-length, number-of-big-endian, number-part, part-number, part-fits}
-use Rattle.tunnel.specs.Fec.{FecFields, encodeFec, Suits, ipv4, ipv6, WellFormedFec, familySuits, opaqueFills, wholeFec, fecIn, readFec}
+use Rattle.tunnel.specs.Fec.{FecFields, encodeFec, Suits, ipv4, ipv6, WellFormedFec, familySuits, opaqueFills, wholeFec, fecIn}
 use Rattle.tunnel.specs.Inner.{endsFrom}
 use Rattle.tunnel.specs.Statements.{FecRule}
 
@@ -223,16 +219,11 @@ module _ (f : FecFields) (w : WellFormedFec f) where
   unfolding fecIn
   fields-encode = rw (type-encode, family-encode, size-encode, drop-encode, take-rest, drop-rest)
 
-  read-encode : readFec (encodeFec f) ≡ given f
-  unfolding readFec
-  read-encode = pick-true (wholeFec (encodeFec f)) (given (fecIn (encodeFec f))) (refused IDENT) whole-encode ∙ ap given fields-encode
-
 pub fecRule : FecRule
-unfolding readFec
 fecRule =
     record {
       accepted = λ i f a. (
-        λ h. let p = was-given (wholeFec i) (fecIn i) f IDENT h in subst (λ (g : FecFields). WellFormedFec g × (i ≡ encodeFec g)) (p .1) (whole-fields i a (p .0)),
-        λ p. rw (p .1) (read-encode f (p .0)),
+        λ p. subst (λ (g : FecFields). WellFormedFec g × (i ≡ encodeFec g)) (p .1) (whole-fields i a (p .0)),
+        λ p. rw (p .1) (whole-encode f (p .0), fields-encode f (p .0)),
       );
     }

@@ -20,7 +20,7 @@ use Rattle.octets.proofs.Outcomes.{pick-true, pick-false}
 use Rattle.octets.proofs.Inversions.{never, opposite, both-held}
 use Rattle.octets.proofs.Refusals.{picked, either-second}
 use Rattle.tunnel.specs.Fec.{encodeFec, wholeFec, fecIn}
-use Rattle.tunnel.specs.Identifier.{IdentifierForm, sizes, fecTypes, TableRow, row, identifierForms, formIn, formOf, IsIdentifier, ofSize, ofFec, OfType, oneOf, isIdentifier, judged, readIdentifier}
+use Rattle.tunnel.specs.Identifier.{IdentifierForm, sizes, fecTypes, TableRow, rowOf, identifierForms, formIn, formOf, IsIdentifier, ofSize, ofFec, OfType, oneOf, isIdentifier, judged, readIdentifier}
 use Rattle.tunnel.specs.Statements.{Unknown}
 use Rattle.tunnel.proofs.Fecs.{whole-fields, whole-encode, type-encode}
 
@@ -58,7 +58,7 @@ Rising : ℕ → List TableRow → Type 0
 Rising n [] = Unit
 Rising n (r ∷ rs) = (n ≤ r .tunnelType) × Rising (r .tunnelType + 1) rs
 
-rising-among : (rows : List TableRow) (n t : ℕ) (form : IdentifierForm) → Rising n rows → Among (row t form) rows → n ≤ t
+rising-among : (rows : List TableRow) (n t : ℕ) (form : IdentifierForm) → Rising n rows → Among (rowOf t form) rows → n ≤ t
 unfolding Rising
 rising-among (r ∷ rs) n t form l (first e) = rw (ap (λ (q : TableRow). q .tunnelType) e) (l .0)
 rising-among (r ∷ rs) n t form l (later m) = omega (arith, rising-among rs (r .tunnelType + 1) t form (l .1) m)
@@ -68,7 +68,7 @@ unfolding Rising identifierForms
 rising = omega arith
 
 -- looking a tunnel type up finds exactly its row
-form-in-among : (rows : List TableRow) (n t : ℕ) (form : IdentifierForm) → Rising n rows → Among (row t form) rows → formIn rows t ≡ given form
+form-in-among : (rows : List TableRow) (n t : ℕ) (form : IdentifierForm) → Rising n rows → Among (rowOf t form) rows → formIn rows t ≡ given form
 unfolding formIn Rising
 form-in-among (r ∷ rs) n t form l (first e) =
     let type : t ≡ r .tunnelType = ap (λ (q : TableRow). q .tunnelType) e in
@@ -78,7 +78,7 @@ form-in-among (r ∷ rs) n t form l (later m) =
     let other : (t ≡ r .tunnelType → ⊥) = λ e. omega (arith, rising-among rs (r .tunnelType + 1) t form (l .1) m) in
     pick-false (eqb t (r .tunnelType)) (given (r .form)) (formIn rs t) (ne-eqb t (r .tunnelType) other) ∙ form-in-among rs (r .tunnelType + 1) t form (l .1) m
 
-among-form-in : (rows : List TableRow) (t : ℕ) (form : IdentifierForm) → formIn rows t ≡ given form → Among (row t form) rows
+among-form-in : (rows : List TableRow) (t : ℕ) (form : IdentifierForm) → formIn rows t ≡ given form → Among (rowOf t form) rows
 unfolding formIn
 among-form-in [] t form e = absurd (never e refl)
 among-form-in (r ∷ rs) t form e =
@@ -87,11 +87,11 @@ among-form-in (r ∷ rs) t form e =
     (λ p. later (among-form-in rs t form (p .1)))
     (picked (eqb t (r .tunnelType)) (given (r .form)) (formIn rs t) (given form) e)
 
-pub form-among : (t : ℕ) (form : IdentifierForm) → Among (row t form) identifierForms → formOf t ≡ given form
+pub form-among : (t : ℕ) (form : IdentifierForm) → Among (rowOf t form) identifierForms → formOf t ≡ given form
 unfolding formOf
 form-among t form m = form-in-among identifierForms 0 t form rising m
 
-pub among-form : (t : ℕ) (form : IdentifierForm) → formOf t ≡ given form → Among (row t form) identifierForms
+among-form : (t : ℕ) (form : IdentifierForm) → formOf t ≡ given form → Among (rowOf t form) identifierForms
 unfolding formOf
 among-form t form e = among-form-in identifierForms t form e
 
@@ -100,14 +100,14 @@ NoRow : List TableRow → ℕ → Type 0
 NoRow [] t = Unit
 NoRow (r ∷ rs) t = (t ≡ r .tunnelType → ⊥) × NoRow rs t
 
--- a tunnel type without a row is refused with TUNNEL
-no-row-form-in : (rows : List TableRow) (t n : ℕ) → formIn rows t ≡ refused n → NoRow rows t × (n ≡ TUNNEL)
+-- a tunnel type is refused exactly where it has no row, with TUNNEL
+no-row-form-in : (rows : List TableRow) (t n : ℕ) → formIn rows t ≡ refused n → NoRow rows t
 unfolding formIn NoRow
-no-row-form-in [] t n e = (tt, cc)
+no-row-form-in [] t n e = tt
 no-row-form-in (r ∷ rs) t n e =
     ⊎-elim
     (λ p. absurd (never refl (p .1)))
-    (λ p. let q = no-row-form-in rs t n (p .1) in ((eqb-false t (r .tunnelType) (p .0), q .0), q .1))
+    (λ p. (eqb-false t (r .tunnelType) (p .0), no-row-form-in rs t n (p .1)))
     (picked (eqb t (r .tunnelType)) (given (r .form)) (formIn rs t) (refused n) e)
 
 form-in-no-row : (rows : List TableRow) (t : ℕ) → NoRow rows t → formIn rows t ≡ refused TUNNEL
@@ -121,18 +121,15 @@ over-three t a b c d = omega arith
 over-seven : (t : ℕ) → 3 < t → (t ≡ 4 → ⊥) → (t ≡ 5 → ⊥) → (t ≡ 6 → ⊥) → (t ≡ 7 → ⊥) → 7 < t
 over-seven t h a b c d = omega arith
 
-unknown-form : (t n : ℕ) → formOf t ≡ refused n → Unknown t × (n ≡ TUNNEL)
+unknown-form : (t n : ℕ) → formOf t ≡ refused n → Unknown t
 unfolding formOf identifierForms NoRow
 unknown-form t n e =
-    let p = no-row-form-in identifierForms t n e in
-    let a = p .0 in
-    let b = a .1 .1 .1 .1 in (
-      record {
-        over = over-seven t (over-three t (a .0) (a .1 .0) (a .1 .1 .0) (a .1 .1 .1 .0)) (b .0) (b .1 .0) (b .1 .1 .0) (b .1 .1 .1 .0);
-        notBier = b .1 .1 .1 .1 .0;
-      },
-      p .1,
-    )
+    let a = no-row-form-in identifierForms t n e in
+    let b = a .1 .1 .1 .1 in
+    record {
+      over = over-seven t (over-three t (a .0) (a .1 .0) (a .1 .1 .0) (a .1 .1 .1 .0)) (b .0) (b .1 .0) (b .1 .1 .0) (b .1 .1 .1 .0);
+      notBier = b .1 .1 .1 .1 .0;
+    }
 
 form-unknown : (t : ℕ) → Unknown t → formOf t ≡ refused TUNNEL
 unfolding formOf identifierForms NoRow
@@ -165,7 +162,7 @@ judged-found t i (given form) e =
     tested (isIdentifier form i)
     (λ p. subst (JudgedCase t i) (sym (read-known t i form e ∙ pick-true (isIdentifier form i) (given i) (refused IDENT) p)) (fit form e p))
     (λ p. subst (JudgedCase t i) (sym (read-known t i form e ∙ pick-false (isIdentifier form i) (given i) (refused IDENT) p)) (noFit (λ u. never e (form-unknown t u)) (not-of-type t i form e p)))
-judged-found t i (refused n) e = let u = unknown-form t n e .0 in subst (JudgedCase t i) (sym (read-unknown t i u)) (noRow u)
+judged-found t i (refused n) e = let u = unknown-form t n e in subst (JudgedCase t i) (sym (read-unknown t i u)) (noRow u)
 
 pub judged-case : (t : ℕ) (i : List ℕ) → JudgedCase t i (readIdentifier t i)
 judged-case t i = judged-found t i (formOf t) refl
@@ -181,7 +178,7 @@ read-unfit t i a k o = go (judged-case t i)
     go (noFit u n) = refl
     go (fit form e p) = absurd (o (of-type t i form a e p))
 
--- judging answers DONE exactly of an identifier of the form
+-- DONE comes with the identifier
 pub judged-done : (t : ℕ) (i : List ℕ) → numberOf (readIdentifier t i) ≡ DONE → readIdentifier t i ≡ given i
 unfolding numberOf
 judged-done t i e = go (judged-case t i) e

@@ -1,6 +1,6 @@
 -- Laws of `numberOf`: the number of what a definition comes to, by the number that a function answered.
 use Prim.Native.Nat.{ℕ}
-use mathlib.Core.Path.{_≡_, refl, sym, ap, _∙_}
+use mathlib.Core.Path.{_≡_, refl, sym, ap}
 use mathlib.Core.Bool.{Bool, true, false}
 use Rattle.octets.specs.Choice.{pick}
 use Rattle.octets.specs.Numbers.{DONE}

@@ -8,7 +8,7 @@ use lib.Dec.{ltb}
 use lib.ListN.{length, getD, drop, length-append, length-drop}
 use borrow.Author.Tests.{ltb-true, ltb-false, le-ltb, lt-ltb}
 use Rattle.octets.specs.Choice.{pick}
-use Rattle.octets.specs.Numbers.{DONE, SHORT, TUNNEL, IDENT, LONG}
+use Rattle.octets.specs.Numbers.{DONE, SHORT, LONG}
 use Rattle.octets.specs.Outcome.{Outcome, given, refused, andThen, numberOf}
 use Rattle.octets.specs.Octets.{AllOctets, part, numberIn, bigEndian}
 use Rattle.octets.proofs.Picked.{tested}
@@ -16,7 +16,7 @@ use Rattle.octets.proofs.Inversions.{never}
 use Rattle.octets.proofs.Refusals.{refused-same}
 use Rattle.octets.proofs.AllOctets.{octet-at, octets-drop}
 use Rattle.octets.proofs.NetworkOrder.{big-endian-length, number-of-big-endian, part-number, part-fits}
-use Rattle.tunnel.specs.Identifier.{IdentifierForm, formOf, OfType, isIdentifier, readIdentifier}
+use Rattle.tunnel.specs.Identifier.{IdentifierForm, formOf, isIdentifier, readIdentifier}
 use Rattle.tunnel.specs.Attribute.{AttributeFields, WellFormedAttribute, encodeAttribute, fieldsIn, readAttribute}
 use Rattle.tunnel.specs.Statements.{ReadableSize, AttributeReadRefusal, long, short, badTunnel, badIdentifier, AttributeReadRule}
 use Rattle.tunnel.proofs.Numbers.{number-kept}
@@ -47,7 +47,7 @@ pub record Accepted (s : List ℕ) : Type 0 where
   pub fits : isIdentifier form (drop 5 s) ≡ true
 
 -- the two cases of reading, each with its answer
-pub data ReadCase (s : List ℕ) : Outcome AttributeFields → Type 0 where
+data ReadCase (s : List ℕ) : Outcome AttributeFields → Type 0 where
   bad : {n : ℕ} → AttributeReadRefusal s n → ReadCase s (refused n)
   good : Accepted s → ReadCase s (given (fieldsIn s))
 
@@ -57,7 +57,7 @@ sized-case s z (noRow u) = bad (badTunnel z u)
 sized-case s z (noFit k n) = bad (badIdentifier z k n)
 sized-case s z (fit form e p) = good (record { size = z; form = form; found = e; fits = p })
 
-pub read-case : (s : List ℕ) → ReadCase s (readAttribute s)
+read-case : (s : List ℕ) → ReadCase s (readAttribute s)
 read-case s =
     tested (ltb 64 (length s))
     (λ p. let h : 64 < length s = ltb-true 64 (length s) p in subst (ReadCase s) (sym (read-long s h)) (bad (long h)))
@@ -120,9 +120,9 @@ accepted-fields s a p = (
   rw (part-number a 2 3 (p .size .least)) (attribute-parts s (p .size .least)),
 )
 
-pub length-encode : (f : AttributeFields) → length (encodeAttribute f) ≡ 5 + length (f .identifier)
+pub length-attribute : (f : AttributeFields) → length (encodeAttribute f) ≡ 5 + length (f .identifier)
 unfolding encodeAttribute
-length-encode f = simp (length-append, big-endian-length) (omega arith)
+length-attribute f = simp (length-append, big-endian-length) (omega arith)
 
 -- an encoding is read as the fields that it encodes
 module _ (f : AttributeFields) (w : WellFormedAttribute f) where
@@ -149,7 +149,7 @@ module _ (f : AttributeFields) (w : WellFormedAttribute f) where
   pub read-encode : readAttribute (encodeAttribute f) ≡ given f
   unfolding andThen
   read-encode =
-      read-sized (encodeAttribute f) (omega (arith, length-encode f, w .identifierSize)) (omega (arith, length-encode f))
+      read-sized (encodeAttribute f) (omega (arith, length-attribute f, w .identifierSize)) (omega (arith, length-attribute f))
       ∙ rw (type-encode, identifier-encode, read-of-type (w .ofType)) (ap given fields-encode)
 
 accepted-as : (s : List ℕ) (f : AttributeFields) → AllOctets s → readAttribute s ≡ given f → WellFormedAttribute f × (s ≡ encodeAttribute f)

@@ -1,4 +1,4 @@
--- Laws of writing an attribute, by the tests that the code makes; `attributeWriteRule`, and the round trips of fields.
+-- Laws of writing an attribute, by the tests that the code makes; and `attributeWriteRule`.
 use Prim.Native.Nat.{ℕ, _+_, _≤_, _<_}
 use mathlib.Core.Path.{_≡_, refl, sym, ap, ap₂, subst, _∙_}
 use mathlib.Core.Bool.{true}
@@ -8,20 +8,20 @@ use lib.Dec.{ltb}
 use lib.ListN.{length}
 use borrow.Author.Tests.{ltb-true, ltb-false, le-ltb, lt-ltb}
 use Rattle.octets.specs.Choice.{pick}
-use Rattle.octets.specs.Numbers.{DONE, TUNNEL, IDENT, LONG, LABEL, SPACE}
+use Rattle.octets.specs.Numbers.{DONE, LONG, LABEL, SPACE}
 use Rattle.octets.specs.Outcome.{Outcome, given, refused, onOutcome, andThen, numberOf}
-use Rattle.octets.specs.Octets.{AllOctets, front}
+use Rattle.octets.specs.Octets.{front}
 use Rattle.octets.specs.Outputs.{writtenOf, outputOf}
 use Rattle.octets.specs.declared.Written.{Written}
 use Rattle.octets.proofs.Picked.{tested}
 use Rattle.octets.proofs.Inversions.{never}
 use Rattle.octets.proofs.Refusals.{refused-same}
-use Rattle.tunnel.specs.Identifier.{IdentifierForm, formOf, OfType, isIdentifier, readIdentifier}
-use Rattle.tunnel.specs.Attribute.{AttributeFields, WellFormedAttribute, encodeAttribute, readAttribute, writeAttribute}
+use Rattle.tunnel.specs.Identifier.{IdentifierForm, formOf, isIdentifier, readIdentifier}
+use Rattle.tunnel.specs.Attribute.{AttributeFields, WellFormedAttribute, encodeAttribute, writeAttribute}
 use Rattle.tunnel.specs.Statements.{OctetFields, AttributeWriteRefusal, long, badTunnel, badIdentifier, badLabel, noSpace, AttributeWriteRule}
 use Rattle.tunnel.proofs.Numbers.{number-refused, number-stops}
 use Rattle.tunnel.proofs.Identifiers.{JudgedCase, noRow, noFit, fit, judged-case, of-type, read-unknown, read-unfit, read-of-type, judged-done}
-use Rattle.tunnel.proofs.ReadRule.{length-encode, read-encode, attributeReadRule}
+use Rattle.tunnel.proofs.ReadRule.{length-attribute}
 
 module _ (f : AttributeFields) (space : ℕ) where
   -- past LONG, TUNNEL and IDENT
@@ -68,11 +68,11 @@ module _ (f : AttributeFields) (space : ℕ) where
       number-label l = number-refused LABEL fieldsWritten (written-label l) ∙ number-judged
 
       pub number-space : f .labelField ≤ 16777215 → space < 5 + length (f .identifier) → SPACE ≡ numberOf (writeAttribute f space)
-      number-space l r = number-refused SPACE fieldsWritten (written-space l (omega (arith, length-encode f))) ∙ number-judged
+      number-space l r = number-refused SPACE fieldsWritten (written-space l (omega (arith, length-attribute f))) ∙ number-judged
 
       pub number-done : f .labelField ≤ 16777215 → 5 + length (f .identifier) ≤ space → DONE ≡ numberOf (writeAttribute f space)
       unfolding numberOf
-      number-done l r = sym (ap numberOf (written-given l (omega (arith, length-encode f)))) ∙ number-judged
+      number-done l r = sym (ap numberOf (written-given l (omega (arith, length-attribute f)))) ∙ number-judged
 
   -- fields that the tests let pass
   pub record Writable : Type 0 where
@@ -167,14 +167,14 @@ abbrev writtenAs : (number size : ℕ) → Written
 writtenAs number size = record { number = number; size = size }
 
 -- what a writer answers and leaves, of a refusal and of an encoding
-pub refusal-wrote : (o : Outcome (List ℕ)) (n : ℕ) (d : List ℕ) → o ≡ refused n → (writtenAs n 0 ≡ writtenOf o) × (d ≡ outputOf o d)
+pub output-refused : (o : Outcome (List ℕ)) (n : ℕ) (d : List ℕ) → o ≡ refused n → (writtenAs n 0 ≡ writtenOf o) × (d ≡ outputOf o d)
 unfolding writtenOf outputOf onOutcome numberOf
-refusal-wrote o n d e = (rw e, rw e)
+output-refused o n d e = (rw e, rw e)
 
-pub encoding-wrote : (o : Outcome (List ℕ)) (f : AttributeFields) (w : Written) (d x : List ℕ) → o ≡ given (encodeAttribute f)
+pub output-encoding : (o : Outcome (List ℕ)) (f : AttributeFields) (w : Written) (d x : List ℕ) → o ≡ given (encodeAttribute f)
     → (w .number ≡ DONE) × ((w .size ≡ 5 + length (f .identifier)) × (x ≡ front (encodeAttribute f) d)) → (w ≡ writtenOf o) × (x ≡ outputOf o d)
 unfolding writtenOf outputOf onOutcome numberOf
-encoding-wrote o f w d x e p = (
-  rw e (ap₂ writtenAs (p .0) (p .1 .0 ∙ sym (length-encode f))),
+output-encoding o f w d x e p = (
+  rw e (ap₂ writtenAs (p .0) (p .1 .0 ∙ sym (length-attribute f))),
   rw e (p .1 .1),
 )

@@ -12,7 +12,7 @@ use Rattle.tunnel.specs.Fec.{FecFields, fecIn}
 use Rattle.tunnel.specs.Identifier.{IdentifierForm, sizes, fecTypes, formOf}
 use Rattle.tunnel.specs.Attribute.{AttributeFields, labelOf, leafInformationRequired, readAttribute, writeAttribute}
 
--- what a reading's cases mean
+-- each case of `Reading`: the attribute, or the number that refuses it
 unfoldable pub outcomeOf : Reading → Outcome Attribute
 outcomeOf (read a) = given a
 outcomeOf (no n) = refused n

@@ -5,8 +5,6 @@ use mathlib.Core.List.{List, _∷_, _++_}
 use lib.Dec.{leb, eqb}
 use lib.ListN.{length, getD, take, drop}
 use Rattle.octets.specs.Choice.{both, either}
-use Rattle.octets.specs.Numbers.{IDENT}
-use Rattle.octets.specs.Outcome.{Outcome, given, unless}
 use Rattle.octets.specs.Octets.{AllOctets, part, numberIn, bigEndian}
 
 -- the fields of a FEC
@@ -57,7 +55,3 @@ fecIn i =
       root = take (getD i 3 0) (drop 4 i);
       opaqueValue = drop (getD i 3 0 + 2) (drop 4 i);
     }
-
--- a FEC read; its every fault is IDENT
-unfoldable pub readFec : List ℕ → Outcome FecFields
-readFec i = unless (wholeFec i) IDENT (given (fecIn i))

@@ -21,21 +21,21 @@ pub record TableRow : Type 0 where
   pub form : IdentifierForm
 
 -- the row of a tunnel type with a form
-abbrev pub row : ℕ → IdentifierForm → TableRow
-row t f = record { tunnelType = t; form = f }
+abbrev pub rowOf : ℕ → IdentifierForm → TableRow
+rowOf t f = record { tunnelType = t; form = f }
 
 -- document 01's table
 unfoldable pub identifierForms : List TableRow
 identifierForms =
-    row 0 (sizes (0 ∷ []))
-    ∷ row 1 (sizes (12 ∷ []))
-    ∷ row 2 (fecTypes (6 ∷ []))
-    ∷ row 3 (sizes (8 ∷ 32 ∷ []))
-    ∷ row 4 (sizes (8 ∷ 32 ∷ []))
-    ∷ row 5 (sizes (8 ∷ 32 ∷ []))
-    ∷ row 6 (sizes (4 ∷ 16 ∷ []))
-    ∷ row 7 (fecTypes (7 ∷ 8 ∷ []))
-    ∷ row 11 (sizes (7 ∷ 19 ∷ []))
+    rowOf 0 (sizes (0 ∷ []))
+    ∷ rowOf 1 (sizes (12 ∷ []))
+    ∷ rowOf 2 (fecTypes (6 ∷ []))
+    ∷ rowOf 3 (sizes (8 ∷ 32 ∷ []))
+    ∷ rowOf 4 (sizes (8 ∷ 32 ∷ []))
+    ∷ rowOf 5 (sizes (8 ∷ 32 ∷ []))
+    ∷ rowOf 6 (sizes (4 ∷ 16 ∷ []))
+    ∷ rowOf 7 (fecTypes (7 ∷ 8 ∷ []))
+    ∷ rowOf 11 (sizes (7 ∷ 19 ∷ []))
     ∷ []
 
 -- the form in a tunnel type's row; TUNNEL where there is none
@@ -55,7 +55,7 @@ pub data IsIdentifier : IdentifierForm → List ℕ → Type 0 where
 -- an identifier of the form in a tunnel type's row
 pub record OfType (t : ℕ) (i : List ℕ) : Type 0 where
   pub form : IdentifierForm
-  pub inTable : Among (row t form) identifierForms
+  pub inTable : Among (rowOf t form) identifierForms
   pub ofForm : IsIdentifier form i
 
 -- the same as `Among`, computed

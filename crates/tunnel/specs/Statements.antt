@@ -1,6 +1,7 @@
 -- What holds of the definitions as a whole, in document 01's notions. Stated here, proved in the files that `proofs/Theorems.antt` names.
 use Prim.Native.Nat.{ℕ, _+_, _/_, _%_, _<_, _≤_}
 use mathlib.Core.Path.{_≡_}
+use mathlib.Core.Bool.{true}
 use mathlib.Core.Logic.{_↔_, _≢_}
 use mathlib.Core.List.{List}
 use lib.ListN.{length, getD, drop}
@@ -12,14 +13,14 @@ use Rattle.octets.specs.declared.Span.{Span}
 use Rattle.tunnel.specs.declared.Reading.{Reading}
 use Rattle.tunnel.specs.declared.Attribute.{Attribute}
 use Rattle.tunnel.specs.declared.fec.Fec.{Fec}
-use Rattle.tunnel.specs.Fec.{FecFields, WellFormedFec, encodeFec, readFec}
-use Rattle.tunnel.specs.Identifier.{IdentifierForm, sizes, fecTypes, row, identifierForms, OfType}
+use Rattle.tunnel.specs.Fec.{FecFields, WellFormedFec, encodeFec, wholeFec, fecIn}
+use Rattle.tunnel.specs.Identifier.{IdentifierForm, sizes, fecTypes, rowOf, identifierForms, OfType}
 use Rattle.tunnel.specs.Attribute.{AttributeFields, WellFormedAttribute, encodeAttribute, readAttribute, writeAttribute}
 use Rattle.tunnel.specs.Answers.{outcomeOf, readStruct, argumentFields}
 
--- FECs: octets are read exactly when they are the encoding of a well-formed FEC, and reading gives that FEC
+-- FECs: octets are one exactly when they are the encoding of a well-formed FEC, and the fields where they stand are that FEC's
 pub record FecRule : Type 0 where
-  pub accepted : (i : List ℕ) (f : FecFields) → AllOctets i → (readFec i ≡ given f) ↔ (WellFormedFec f × (i ≡ encodeFec f))
+  pub accepted : (i : List ℕ) (f : FecFields) → AllOctets i → ((wholeFec i ≡ true) × (fecIn i ≡ f)) ↔ (WellFormedFec f × (i ≡ encodeFec f))
 
 -- a tunnel type that the table lacks
 pub record Unknown (t : ℕ) : Type 0 where
@@ -38,8 +39,8 @@ pub data AttributeReadRefusal (s : List ℕ) : ℕ → Type 0 where
   badTunnel : ReadableSize s → Unknown (getD s 1 0) → AttributeReadRefusal s TUNNEL
   badIdentifier : ReadableSize s → (Unknown (getD s 1 0) → ⊥) → (OfType (getD s 1 0) (drop 5 s) → ⊥) → AttributeReadRefusal s IDENT
 
--- Reading: octets are accepted exactly when they are the encoding of well-formed fields, and reading gives those; each
--- number refuses exactly when document 01 says.
+-- Reading: octets are accepted exactly when they are the encoding of well-formed fields, and reading gives those; any
+-- others are refused by one number, each exactly when document 01 says.
 pub record AttributeReadRule : Type 0 where
   pub accepted : (s : List ℕ) (f : AttributeFields) → AllOctets s → (readAttribute s ≡ given f) ↔ (WellFormedAttribute f × (s ≡ encodeAttribute f))
   pub exactly : (s : List ℕ) (n : ℕ) → AllOctets s → (readAttribute s ≡ refused n) ↔ AttributeReadRefusal s n
@@ -57,8 +58,8 @@ pub data AttributeWriteRefusal (f : AttributeFields) (space : ℕ) : ℕ → Typ
   badLabel : length (f .identifier) ≤ 59 → OfType (f .tunnelType) (f .identifier) → 16777215 < f .labelField → AttributeWriteRefusal f space LABEL
   noSpace : WellFormedAttribute f → space < length (encodeAttribute f) → AttributeWriteRefusal f space SPACE
 
--- Writing: the encoding is given exactly of well-formed fields that there is space for; each number refuses exactly when
--- document 01 says.
+-- Writing: the encoding is given exactly of well-formed fields that there is space for; any others are refused by one
+-- number, each exactly when document 01 says.
 pub record AttributeWriteRule : Type 0 where
   pub accepted : (f : AttributeFields) (space : ℕ) (e : List ℕ) → OctetFields f
       → (writeAttribute f space ≡ given e) ↔ (WellFormedAttribute f × (length (encodeAttribute f) ≤ space) × (e ≡ encodeAttribute f))
@@ -99,18 +100,18 @@ pub data AnsweredForm (s : List ℕ) (a : Attribute) : IdentifierForm → Type 0
   isFec : {ns : List ℕ} → AnsweredFec s a → AnsweredForm s a (fecTypes ns)
 
 -- what an answer is to say of octets: they are the encoding of the well-formed fields that it tells, the identifier ends
--- where they end, and the rest follows from these
-pub record Answered (s : List ℕ) (a : Attribute) : Type 0 where
+-- where they end, and label, LIR and FEC are those of these fields
+pub record AnsweredAttribute (s : List ℕ) (a : Attribute) : Type 0 where
   pub wellFormed : WellFormedAttribute (fieldsTold s a)
   pub encoded : s ≡ encodeAttribute (fieldsTold s a)
   pub identifierEnds : a .identifier .start + a .identifier .size ≡ length s
   pub label : a .label ≡ a .«label_field» / 16
   pub leafInformationRequired : a .«leaf_information_required» ≡ a .flags % 2
-  pub fec : (form : IdentifierForm) → Among (row (a .«tunnel_type») form) identifierForms → AnsweredForm s a form
+  pub fec : (form : IdentifierForm) → Among (rowOf (a .«tunnel_type») form) identifierForms → AnsweredForm s a form
 
 -- The call of reading: its answer is the only one that says of the octets what it is to say; it refuses as reading does.
 pub record AttributeAnswerRule : Type 0 where
-  pub accepted : (s : List ℕ) (a : Attribute) → AllOctets s → (readStruct s ≡ given a) ↔ Answered s a
+  pub accepted : (s : List ℕ) (a : Attribute) → AllOctets s → (readStruct s ≡ given a) ↔ AnsweredAttribute s a
   pub exactly : (s : List ℕ) (n : ℕ) → AllOctets s → (readStruct s ≡ refused n) ↔ AttributeReadRefusal s n
   -- answers of the same number and values are equal
   pub apart : (a b : Reading) → outcomeOf a ≡ outcomeOf b → a ≡ b

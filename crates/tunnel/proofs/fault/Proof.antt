@@ -1,6 +1,5 @@
 -- `tunnel::fault` meets its contract: its tests are document 01's, in the same order.
 use denote.Ref.{now}
-use lib.ListN.{getD, drop}
 use Rattle.octets.proofs.Lists.{lent-rest}
 use Rattle.tunnel.proofs.Numbers.{number-refused}
 use Rattle.tunnel.proofs.ReadRule.{read-long, read-short, number-sized}

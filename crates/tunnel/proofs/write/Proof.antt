@@ -3,8 +3,8 @@ use denote.Ref.{now}
 use lib.ListN.{length}
 use native.Mathlib.Omega.{arith}
 use Rattle.tunnel.proofs.Numbers.{refused-number}
-use Rattle.tunnel.proofs.ReadRule.{length-encode}
-use Rattle.tunnel.proofs.WriteRule.{write-done, refusal-wrote, encoding-wrote}
+use Rattle.tunnel.proofs.ReadRule.{length-attribute}
+use Rattle.tunnel.proofs.WriteRule.{write-done, output-refused, output-encoding}
 use Rattle.tunnel.specs.Attribute.{writeAttribute}
 use Rattle.tunnel.specs.Answers.{argumentFields}
 use borrow.Author.Needs.{needs}
@@ -20,7 +20,7 @@ returns c =
     let f = argumentFields (a .flags) (a .tunnel-type) (a .label-field) (now (a .identifier)) in
     let space = length (now (a .output)) in
     let n = c .before .write-fault in
-    refusal-wrote (writeAttribute f space) (n .result) (now (a .output)) (refused-number (n .result) (writeAttribute f space) (n .ensures (a .flags)) (c .if1 .taken))
+    output-refused (writeAttribute f space) (n .result) (now (a .output)) (refused-number (n .result) (writeAttribute f space) (n .ensures (a .flags)) (c .if1 .taken))
 
 put-requires : tie.Need-put-requires
 put-requires c κs =
@@ -28,7 +28,7 @@ put-requires c κs =
     let f = argumentFields (a .flags) (a .tunnel-type) (a .label-field) (now (a .identifier)) in
     let n = c .before .before .write-fault in
     let w = write-done f (length (now (a .output))) (n .result) (n .ensures (a .flags)) (c .before .if1 .left) .0 in
-    (w .most, omega (arith, length-encode f, w .room))
+    (w .most, omega (arith, length-attribute f, w .room))
 
 same-length : tie.Need-same-length
 same-length c = search needs
@@ -40,7 +40,7 @@ returns-2 c =
     let space = length (now (a .output)) in
     let n = c .before .before .before .before .before .write-fault in
     let p = c .before .before .put in
-    encoding-wrote (writeAttribute f space) f (p .result) (now (a .output)) (p .last .1 .1 .1 .1 .0)
+    output-encoding (writeAttribute f space) f (p .result) (now (a .output)) (p .last .1 .1 .1 .1 .0)
     (write-done f space (n .result) (n .ensures (a .flags)) (c .before .before .before .before .if1 .left) .1)
     (p .ensures)
 
