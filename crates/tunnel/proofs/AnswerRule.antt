@@ -8,7 +8,6 @@ use lib.ListN.{length, getD, drop, length-drop}
 use lib.Seq.{take-length, drop-drop}
 use Rattle.octets.specs.Outcome.{Outcome, given, refused, andThen}
 use Rattle.octets.specs.Octets.{AllOctets, part}
-use Rattle.octets.specs.declared.Span.{Span}
 use Rattle.octets.proofs.Inversions.{never, given-same, passed, both-true-left}
 use Rattle.octets.proofs.Lists.{part-length}
 use Rattle.octets.proofs.AllOctets.{octets-drop}
@@ -47,7 +46,7 @@ refused-struct : (s : List ℕ) (n : ℕ) → readAttribute s ≡ refused n → 
 unfolding readStruct andThen
 refused-struct s n e = rw e
 
--- cases apart
+-- the cases of the enum are told apart
 outcome-apart : (a b : Reading) → outcomeOf a ≡ outcomeOf b → a ≡ b
 unfolding outcomeOf
 outcome-apart (read a) (read b) e = let q : a ≡ b = given-same e in rw q
@@ -148,7 +147,7 @@ module _ (s : List ℕ) (a : Attribute) (w : AnsweredAttribute s a) where
   length-told : length s ≡ 5 + length (octetsAt s (a .identifier))
   length-told = ap length (w .encoded) ∙ length-attribute (fieldsTold s a)
 
-  told-span : _≡_ {A = Span} (record { start = 5; size = length (octetsAt s (a .identifier)) }) (a .identifier)
+  told-span : span 5 (length (octetsAt s (a .identifier))) ≡ a .identifier
   told-span =
       let l : length (octetsAt s (a .identifier)) ≡ a .identifier .size = part-length s (a .identifier .start) (a .identifier .size) (omega (arith, w .identifierEnds)) in
       let start : 5 ≡ a .identifier .start = omega (arith, w .identifierEnds, length-told) in

@@ -84,18 +84,18 @@ pub record MldpForm (t : ℕ) : Type 0 where
   pub is : formOf t ≡ given (fecTypes types)
   pub suits : (fecType : ℕ) → typeSuits t fecType ≡ oneOf fecType types
 
-or-none : (b : Bool) → b ≡ either b false
+either-none : (b : Bool) → b ≡ either b false
 unfolding either
-or-none true = refl
-or-none false = refl
+either-none true = refl
+either-none false = refl
 
 form-p2mp : (t : ℕ) → t ≡ 2 → MldpForm t
 unfolding formOf formIn identifierForms typeSuits oneOf pick
-form-p2mp t e = record { types = 6 ∷ []; is = rw e; suits = λ fecType. rw e (or-none (eqb fecType 6)) }
+form-p2mp t e = record { types = 6 ∷ []; is = rw e; suits = λ fecType. rw e (either-none (eqb fecType 6)) }
 
 form-mp2mp : (t : ℕ) → t ≡ 7 → MldpForm t
 unfolding formOf formIn identifierForms typeSuits oneOf pick
-form-mp2mp t e = record { types = 7 ∷ 8 ∷ []; is = rw e; suits = λ fecType. rw e (ap (either (eqb fecType 7)) (or-none (eqb fecType 8))) }
+form-mp2mp t e = record { types = 7 ∷ 8 ∷ []; is = rw e; suits = λ fecType. rw e (ap (either (eqb fecType 7)) (either-none (eqb fecType 8))) }
 
 pub form-mldp : (t : ℕ) → mldp t ≡ true → MldpForm t
 unfolding mldp either
