@@ -19,7 +19,7 @@ use Rattle.nlri.specs.Bodies.{bodies, onBody, fieldIn, sameKind, codeOf}
 use Rattle.nlri.specs.Reading.{fixedField, addressEnd, addressField, originatorField, fieldSize, sizesOf, laidWith, laidAt}
 use Rattle.nlri.specs.Layouts.{layoutOf, layoutAt}
 use Rattle.nlri.specs.Walking.{readTo, endedAt, refusedAt, stepUnder, stepFrom, walkFrom, walkOf}
-use Rattle.nlri.proofs.Steps.{stops-at-refusal, walk-goes, walk-stops}
+use Rattle.nlri.proofs.Steps.{stops-refusedAt, walk-goes, walk-stops}
 use Rattle.mvpn_list.specs.Listing.{lastDigit, digitsWithin, decimalOf, fieldOf, headerLine, lineOf, openingOf, lastLine, linesFrom, linesOf, listingOf}
 use Rattle.mvpn_list.proofs.Choices.{picked}
 use Rattle.mvpn_list.proofs.Steps.{Comes, reads, stops, step-comes, lines-go, lines-stop}
@@ -52,7 +52,7 @@ long-stops run h = pick-true _ _ _ (lt-ltb 4096 (length run) h)
 -- a run over 4,096 octets gives the header and `stop 0 8`
 pub long-listing : (run : List ℕ) → 4096 < length run → listingOf run ≡ headerLine ++ lastLine LONG 0
 unfolding listingOf linesOf
-long-listing run h = ap (λ (x : List ℕ). headerLine ++ x) (lines-stop (length run) run 0 LONG (stops-at-refusal _ LONG 0 (long-stops run h)))
+long-listing run h = ap (λ (x : List ℕ). headerLine ++ x) (lines-stop (length run) run 0 LONG (stops-refusedAt LONG 0 (long-stops run h)))
 
 -- 4,097 octets of the input decide what is printed
 pub seen-decides : (input : List ℕ) → listingOf (take 4097 input) ≡ listingOf input

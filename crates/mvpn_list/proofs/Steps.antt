@@ -16,7 +16,7 @@ use Rattle.nlri.specs.Layouts.{layoutOf, layoutAt}
 use Rattle.nlri.specs.Walking.{Stepped, readTo, stepUnder, stepFrom}
 use Rattle.nlri.proofs.ReadNumbers.{family-refuses, layout-refuses}
 use Rattle.nlri.proofs.Whole.{laid-out}
-use Rattle.nlri.proofs.Steps.{Stops, stops-at-end, stops-at-refusal}
+use Rattle.nlri.proofs.Steps.{Stops, stops-endedAt, stops-refusedAt}
 use Rattle.mvpn_list.specs.Listing.{lineOf, lastLine, linesFrom}
 use Rattle.mvpn_list.proofs.Choices.{picked}
 
@@ -41,11 +41,11 @@ pub data Comes (s : Stepped) : Type 0 where
 pub step-comes : (afi : ℕ) (run : List ℕ) (at : ℕ) → Comes (stepFrom afi run at)
 unfolding stepFrom stepUnder
 step-comes afi run at =
-    by-outcome Comes _ _ _ (λ n e. stops n (stops-at-refusal _ n at refl) (omega (arith, refuses-by _ n (family-refuses afi) e)))
-    (λ bits _. picked Comes _ _ _ (λ _. stops LONG (stops-at-refusal _ LONG at refl) (omega arith))
-    (λ _. picked Comes _ _ _ (λ _. stops DONE (stops-at-end _ DONE at refl refl) (omega arith))
-    (λ _. picked Comes _ _ _ (λ _. stops SHORT (stops-at-refusal _ SHORT at refl) (omega arith))
-    (λ _. by-outcome Comes _ _ _ (λ n e. stops n (stops-at-refusal _ n at refl) (omega (arith, refuses-by _ n (layout-refuses bits (drop at run)) e)))
+    by-outcome Comes _ _ _ (λ n e. stops n (stops-refusedAt n at refl) (omega (arith, refuses-by _ n (family-refuses afi) e)))
+    (λ bits _. picked Comes _ _ _ (λ _. stops LONG (stops-refusedAt LONG at refl) (omega arith))
+    (λ _. picked Comes _ _ _ (λ _. stops DONE (stops-endedAt DONE at refl refl) (omega arith))
+    (λ _. picked Comes _ _ _ (λ _. stops SHORT (stops-refusedAt SHORT at refl) (omega arith))
+    (λ _. by-outcome Comes _ _ _ (λ n e. stops n (stops-refusedAt n at refl) (omega (arith, refuses-by _ n (layout-refuses bits (drop at run)) e)))
     (λ layout e. reads layout _ refl (known-type bits (drop at run) layout e) (omega arith))))))
 
 -- how the lines go on by a step
@@ -58,4 +58,4 @@ module _ (left : ℕ) (run : List ℕ) (at : ℕ) where
 
   pub lines-stop : (n : ℕ) → Stops (stepFrom 1 run at) n → linesFrom (suc left) run at ≡ lastLine n at
   unfolding linesFrom
-  lines-stop n s = pick-false _ _ _ (s .unread) ∙ ap (λ (m : ℕ). lastLine m at) (s .told)
+  lines-stop n s = pick-false _ _ _ (s .unread) ∙ ap (λ (m : ℕ). lastLine m at) (s .numbered)
