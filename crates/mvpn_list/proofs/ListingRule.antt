@@ -17,7 +17,7 @@ use Rattle.nlri.specs.Bodies.{bodies, onBody, fieldIn, sameKind, codeOf}
 use Rattle.nlri.specs.Reading.{fixedField, addressEnd, addressField, originatorField, fieldSize, sizesOf, laidWith, laidAt}
 use Rattle.nlri.specs.Layouts.{layoutOf, layoutAt}
 use Rattle.nlri.specs.Walking.{readTo, refusedAt, stepUnder, stepFrom}
-use Rattle.nlri.proofs.Steps.{stops-at-refusal}
+use Rattle.nlri.proofs.Steps.{stops-refusedAt}
 use Rattle.nlri.proofs.StepCases.{step-long}
 use Rattle.mvpn_list.specs.Listing.{lastDigit, digitsWithin, decimalOf, fieldOf, headerLine, lineOf, openingOf, lastLine, linesFrom, linesOf, listingOf}
 use Rattle.mvpn_list.specs.ListingRule.{Decimal, RunLines, ListingRule}
@@ -35,7 +35,7 @@ lastLine-long = refl
 
 linesOf-long : (run : List ℕ) → 4096 < length run → linesOf run ≡ lastLine LONG 0
 unfolding linesOf
-linesOf-long run h = linesFrom-stops (length run) run 0 LONG (stops-at-refusal _ LONG 0 (step-long 1 run 0 32 familyBits-1 h))
+linesOf-long run h = linesFrom-stops (length run) run 0 LONG (stops-refusedAt LONG 0 (step-long 1 run 0 32 familyBits-1 h))
 
 listingOf-long : (run : List ℕ) → 4096 < length run → listingOf run ≡ headerLine ++ lastLine LONG 0
 unfolding listingOf

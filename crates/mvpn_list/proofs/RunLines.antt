@@ -16,7 +16,7 @@ use Rattle.nlri.specs.Fields.{Fields, encodeNlri}
 use Rattle.nlri.specs.Walking.{stepFrom}
 use Rattle.nlri.specs.Statements.{FrontRefusal, layoutFor, front, encodeRun, AllWellFormed, RunEnd, nothing, refusal, RunOf}
 use Rattle.nlri.proofs.Theorems.{lengths, stepRule}
-use Rattle.nlri.proofs.Steps.{Stops, stops-at-end, stops-at-refusal}
+use Rattle.nlri.proofs.Steps.{Stops, stops-endedAt, stops-refusedAt}
 use Rattle.mvpn_list.specs.Listing.{decimalOf, fieldOf, lineOf, openingOf, lastLine, linesFrom, linesOf}
 use Rattle.mvpn_list.specs.ListingRule.{NumberLine, Opening, RunLines}
 use Rattle.mvpn_list.proofs.Choices.{pick-by}
@@ -55,9 +55,9 @@ length-encodeNlri f = omega arith
 module _ (run : List ℕ) (octets : AllOctets run) (short : length run ≤ 4096) where
   -- where the NLRIs end the step stops with the number there
   stops-runEnd : (at : ℕ) (t : List ℕ) (n : ℕ) → RunEnd 32 t n → at + length t ≡ length run → drop at run ≡ t → Stops (stepFrom 1 run at) n
-  stops-runEnd at t n nothing size here = stops-at-end _ DONE at refl (stepRule .ends 1 run at .1 (inl refl, short, omega arith))
+  stops-runEnd at t n nothing size here = stops-endedAt DONE at refl (stepRule .ends 1 run at .1 (inl refl, short, omega arith))
   stops-runEnd at t n (refusal some why) size here =
-      stops-at-refusal _ n at (stepRule .refuses 1 run at n octets .1 (front 32 familyBits-1 short (omega arith) (subst (λ (s : List ℕ). FrontRefusal 32 s n) (sym here) why)))
+      stops-refusedAt n at (stepRule .refuses 1 run at n octets .1 (front 32 familyBits-1 short (omega arith) (subst (λ (s : List ℕ). FrontRefusal 32 s n) (sym here) why)))
 
   runLines-linesFrom : (t : List ℕ) (n : ℕ) → RunEnd 32 t n → (left : ℕ) (fs : List Fields) (at : ℕ) → AllWellFormed 32 fs → at + length (encodeRun fs ++ t) ≡ length run → drop at run ≡ encodeRun fs ++ t → length run < left + at
       → RunLines n at fs (linesFrom left run at)

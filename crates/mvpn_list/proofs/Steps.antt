@@ -17,7 +17,7 @@ use Rattle.nlri.specs.Layouts.{layoutOf, layoutAt}
 use Rattle.nlri.specs.Walking.{Stepped, readTo, stepUnder, stepFrom}
 use Rattle.nlri.proofs.ReadNumbers.{family-refuses, layout-refuses}
 use Rattle.nlri.proofs.Whole.{laid-out}
-use Rattle.nlri.proofs.Steps.{Stops, stops-at-end, stops-at-refusal}
+use Rattle.nlri.proofs.Steps.{Stops, stops-endedAt, stops-refusedAt}
 use Rattle.mvpn_list.specs.Listing.{nlriLine, lastLine, linesFrom}
 use Rattle.mvpn_list.proofs.Choices.{pick-by, onOutcome-by}
 
@@ -37,11 +37,11 @@ pub data Comes (s : Stepped) : Type 0 where
 pub comes-stepFrom : (afi : ℕ) (run : List ℕ) (at : ℕ) → Comes (stepFrom afi run at)
 unfolding stepFrom stepUnder
 comes-stepFrom afi run at =
-    onOutcome-by Comes _ _ _ (λ n e. stops n (stops-at-refusal _ n at refl) (omega (arith, refuses-by _ n (family-refuses afi) e)))
-    (λ bits _. pick-by Comes _ _ _ (λ _. stops LONG (stops-at-refusal _ LONG at refl) (omega arith))
-    (λ _. pick-by Comes _ _ _ (λ _. stops DONE (stops-at-end _ DONE at refl refl) (omega arith))
-    (λ _. pick-by Comes _ _ _ (λ _. stops SHORT (stops-at-refusal _ SHORT at refl) (omega arith))
-    (λ _. onOutcome-by Comes _ _ _ (λ n e. stops n (stops-at-refusal _ n at refl) (omega (arith, refuses-by _ n (layout-refuses bits (drop at run)) e)))
+    onOutcome-by Comes _ _ _ (λ n e. stops n (stops-refusedAt n at refl) (omega (arith, refuses-by _ n (family-refuses afi) e)))
+    (λ bits _. pick-by Comes _ _ _ (λ _. stops LONG (stops-refusedAt LONG at refl) (omega arith))
+    (λ _. pick-by Comes _ _ _ (λ _. stops DONE (stops-endedAt DONE at refl refl) (omega arith))
+    (λ _. pick-by Comes _ _ _ (λ _. stops SHORT (stops-refusedAt SHORT at refl) (omega arith))
+    (λ _. onOutcome-by Comes _ _ _ (λ n e. stops n (stops-refusedAt n at refl) (omega (arith, refuses-by _ n (layout-refuses bits (drop at run)) e)))
     (λ layout e. reads layout _ refl (route-type-layoutAt bits (drop at run) layout e) (omega arith))))))
 
 -- how the lines go on by a step

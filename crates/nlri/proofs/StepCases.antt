@@ -30,7 +30,7 @@ use Rattle.nlri.proofs.Faults.{family-refused, family-refuses}
 use Rattle.nlri.proofs.Acceptance.{front-sound}
 use Rattle.nlri.proofs.ReadRefusals.{readRefusals, front-not-done}
 use Rattle.nlri.proofs.Layouts.{length-encoded, layout-encoded, layout-refused}
-use Rattle.nlri.proofs.Steps.{Stops, stops-at-end, stops-at-refusal}
+use Rattle.nlri.proofs.Steps.{Stops, stops-endedAt, stops-refusedAt}
 
 -- the cases of a step, in the order of its tests; past them NLRI reading decides
 data StepCase (afi : ℕ) (run : List ℕ) (at : ℕ) : Type 0 where
@@ -52,7 +52,7 @@ module _ (afi : ℕ) (run : List ℕ) (at : ℕ) where
       ⊎-elim (λ good. case-by-tests (good .0) (good .1) _ _ _ refl refl refl) (λ bad. let p = family-refused afi (bad .0) (bad .1) in other (p .1 .0) (p .1 .1)) (outcome (familyBits afi))
 
   -- what the step is in each case
-  pub step-family : (afi ≡ 1 → ⊥) → (afi ≡ 2 → ⊥) → stepFrom afi run at ≡ refusedAt FAMILY at
+  step-family : (afi ≡ 1 → ⊥) → (afi ≡ 2 → ⊥) → stepFrom afi run at ≡ refusedAt FAMILY at
   unfolding stepFrom
   step-family one two = sym (on-refused _ _ _ _ _ (family-refuses afi one two) refl)
 
@@ -61,7 +61,7 @@ module _ (afi : ℕ) (run : List ℕ) (at : ℕ) where
     unfolding stepFrom
     step-under = sym (on-given _ _ _ _ _ ofFamily refl)
 
-    pub step-long : 4096 < length run → stepFrom afi run at ≡ refusedAt LONG at
+    step-long : 4096 < length run → stepFrom afi run at ≡ refusedAt LONG at
     unfolding stepUnder
     step-long h = step-under ∙ pick-true _ _ _ (lt-ltb 4096 (length run) h)
 
@@ -70,7 +70,7 @@ module _ (afi : ℕ) (run : List ℕ) (at : ℕ) where
       unfolding stepUnder
       step-end e = step-under ∙ pick-false _ _ _ (le-ltb 4096 (length run) short) ∙ pick-true _ _ _ (eq-eqb at (length run) e)
 
-      pub step-beyond : length run < at → stepFrom afi run at ≡ refusedAt SHORT at
+      step-beyond : length run < at → stepFrom afi run at ≡ refusedAt SHORT at
       unfolding stepUnder
       step-beyond h = step-under ∙ pick-false _ _ _ (le-ltb 4096 (length run) short) ∙ pick-false _ _ _ (ne-eqb at (length run) (λ e. omega arith)) ∙ pick-true _ _ _ (lt-ltb (length run) at h)
 
@@ -102,13 +102,13 @@ read-step afi run at r = go (step-case afi run at)
     never s = absurd (opposite r (s .unread))
 
     go : StepCase afi run at → StepLaid afi run at
-    go (other one two) = never (stops-at-refusal _ _ _ (step-family afi run at one two))
-    go (tooLong bits ofFamily h) = never (stops-at-refusal _ _ _ (step-long afi run at bits ofFamily h))
-    go (end bits ofFamily short e) = never (stops-at-end _ DONE _ refl (step-end afi run at bits ofFamily short e))
-    go (beyond bits ofFamily short h) = never (stops-at-refusal _ _ _ (step-beyond afi run at bits ofFamily short h))
+    go (other one two) = never (stops-refusedAt _ _ (step-family afi run at one two))
+    go (tooLong bits ofFamily h) = never (stops-refusedAt _ _ (step-long afi run at bits ofFamily h))
+    go (end bits ofFamily short e) = never (stops-endedAt DONE _ refl (step-end afi run at bits ofFamily short e))
+    go (beyond bits ofFamily short h) = never (stops-refusedAt _ _ (step-beyond afi run at bits ofFamily short h))
     go (inside bits ofFamily short before) =
         ⊎-elim (λ yes. record { bits = bits; layout = yes .0; first = yes .1; is = step-laid afi run at bits ofFamily short before (yes .0) (yes .1) })
-        (λ no. never (stops-at-refusal _ _ _ (step-unlaid afi run at bits ofFamily short before (no .0) (no .1)))) (outcome (layoutAt bits (drop at run)))
+        (λ no. never (stops-refusedAt _ _ (step-unlaid afi run at bits ofFamily short before (no .0) (no .1)))) (outcome (layoutAt bits (drop at run)))
 
 layout-typed : (bits : ℕ) (s : List ℕ) (l : Layout) → layoutAt bits s ≡ given l → KnownType (l .«route_type»)
 unfolding layoutAt laidAt layoutOf

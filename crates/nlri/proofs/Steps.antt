@@ -34,15 +34,15 @@ length-layout bits run at l e = layout-octets bits (drop at run) l e .3 ∙ getD
 -- a step that reads no NLRI, and its number: the run's end, or a refusal
 pub record Stops (s : Stepped) (number : ℕ) : Type 0 where
   pub unread : s .read ≡ false
-  pub told : s .number ≡ number
+  pub numbered : s .number ≡ number
 
-pub stops-at-end : (s : Stepped) (number at : ℕ) → number ≡ DONE → s ≡ endedAt at → Stops s number
+pub stops-endedAt : {s : Stepped} (number at : ℕ) → number ≡ DONE → s ≡ endedAt at → Stops s number
 unfolding endedAt
-stops-at-end s number at z e = record { unread = ap (λ (x : Stepped). x .read) e; told = ap (λ (x : Stepped). x .number) e ∙ sym z }
+stops-endedAt number at z e = record { unread = ap (λ (x : Stepped). x .read) e; numbered = ap (λ (x : Stepped). x .number) e ∙ sym z }
 
-pub stops-at-refusal : (s : Stepped) (number at : ℕ) → s ≡ refusedAt number at → Stops s number
+pub stops-refusedAt : {s : Stepped} (number at : ℕ) → s ≡ refusedAt number at → Stops s number
 unfolding refusedAt
-stops-at-refusal s number at e = record { unread = ap (λ (x : Stepped). x .read) e; told = ap (λ (x : Stepped). x .number) e }
+stops-refusedAt number at e = record { unread = ap (λ (x : Stepped). x .read) e; numbered = ap (λ (x : Stepped). x .number) e }
 
 -- a step's number
 pub step-picks : (n : ℕ) (x y : Stepped) (b : Bool) → b ≡ true → n ≡ x .number → n ≡ pick b x y .number
@@ -155,16 +155,16 @@ record Read {A : Type 0} (o : Outcome A) (good : A → Stepped) (l : Layout) (c 
 read-by : {A : Type 0} (x : ℕ) (good : A → Stepped) (o : Outcome A) (l : Layout) (c : ℕ) → onOutcome (λ number. refusedAt number x) good o ≡ readTo l c → Read o good l c
 unfolding onOutcome
 read-by x good (given a) l c e = record { value = a; first = refl; second = e }
-read-by x good (refused n) l c e = absurd (stops-not-read (refusedAt n x) n c l (stops-at-refusal _ n x refl) e)
+read-by x good (refused n) l c e = absurd (stops-not-read (refusedAt n x) n c l (stops-refusedAt n x refl) e)
 
 -- a step that reads moves the cursor past the NLRI, within the run
 pub step-moves : (afi : ℕ) (run : List ℕ) (at : ℕ) (l : Layout) (c : ℕ) → stepFrom afi run at ≡ readTo l c → (at + 2 ≤ c) × (c ≤ length run) × (length run ≤ 4096)
 unfolding stepFrom stepUnder readTo
 step-moves afi run at l c e =
     let f = read-by _ _ _ _ _ e in
-    let long = pick-past-stop _ _ _ _ _ _ (stops-at-refusal _ LONG at refl) (f .second) in
-    let end = pick-past-stop _ _ _ _ _ _ (stops-at-end _ DONE at refl refl) (long .1) in
-    let past = pick-past-stop _ _ _ _ _ _ (stops-at-refusal _ SHORT at refl) (end .1) in
+    let long = pick-past-stop _ _ _ _ _ _ (stops-refusedAt LONG at refl) (f .second) in
+    let end = pick-past-stop _ _ _ _ _ _ (stops-endedAt DONE at refl refl) (long .1) in
+    let past = pick-past-stop _ _ _ _ _ _ (stops-refusedAt SHORT at refl) (end .1) in
     let r = read-by _ _ _ _ _ (past .1) in
     let h = layout-octets (f .value) (drop at run) (r .value) (r .first) .1 in
     let n : at + (2 + r .value .length) ≡ c = ap (λ (s : Stepped). s .cursor) (r .second) in
@@ -179,7 +179,7 @@ module _ (left afi : ℕ) (run : List ℕ) (at count : ℕ) where
 
   pub walk-stops : (number : ℕ) → Stops (stepFrom afi run at) number → walkFrom (suc left) afi run at count ≡ record { number = number; count = count; offset = at }
   unfolding walkFrom
-  walk-stops number s = pick-false _ _ _ (s .unread) ∙ ap (λ (n : ℕ). record { number = n; count = count; offset = at }) (s .told)
+  walk-stops number s = pick-false _ _ _ (s .unread) ∙ ap (λ (n : ℕ). record { number = n; count = count; offset = at }) (s .numbered)
 
 -- what holds of the walk so far, at a cursor with a count
 pub record Going (afi : ℕ) (run : List ℕ) (at count : ℕ) : Type 0 where
@@ -222,7 +222,7 @@ unfolding steppedOf
 step-refused r s n c p q = sym p ∙ ap steppedOf q
 
 pub stops-ended : (r : Step) (s : Stepped) (c : Cursor) → steppedOf r ≡ s → r ≡ End c → Stops s DONE
-stops-ended r s c p q = stops-at-end s DONE (c .at) refl (step-ended r s c p q)
+stops-ended r s c p q = stops-endedAt DONE (c .at) refl (step-ended r s c p q)
 
 pub stops-refused : (r : Step) (s : Stepped) (n : ℕ) (c : Cursor) → steppedOf r ≡ s → r ≡ Refused n c → Stops s n
-stops-refused r s n c p q = stops-at-refusal s n (c .at) (step-refused r s n c p q)
+stops-refused r s n c p q = stops-refusedAt n (c .at) (step-refused r s n c p q)

@@ -23,7 +23,7 @@ use Rattle.nlri.specs.Walking.{Stepped, readTo, stepFrom, walkFrom, walk
 use Rattle.nlri.specs.Statements.{FrontRefusal, layoutFor, Walks, stopping, going, encodeRun, AllWellFormed, RunEnd, nothing, refusal, RunOf, WalkRule}
 use Rattle.nlri.proofs.Acceptance.{front-sound}
 use Rattle.nlri.proofs.ReadRefusals.{readRefusals}
-use Rattle.nlri.proofs.Steps.{Stops, stops-at-end, stops-at-refusal}
+use Rattle.nlri.proofs.Steps.{Stops, stops-endedAt, stops-refusedAt}
 use Rattle.nlri.proofs.StepCases.{step-end, step-front, step-encoded, step-refuses, cursor-moves}
 
 module _ (afi : ℕ) (run : List ℕ) where
@@ -51,7 +51,7 @@ walks-once afi run at count v w (going r a) (going q b) = walks-once afi run _ _
 -- where the first step stops
 walks-stop : (afi : ℕ) (run : List ℕ) (at count number : ℕ) → Stops (stepFrom afi run at) number → (w : Walked) → w ≡ record { number = number; count = count; offset = at } → Walks afi run at count w
 walks-stop afi run at count number s w is =
-    subst (Walks afi run at count) (ap (λ (n : ℕ). record { number = n; count = count; offset = at }) (s .told) ∙ sym is) (stopping (s .unread))
+    subst (Walks afi run at count) (ap (λ (n : ℕ). record { number = n; count = count; offset = at }) (s .numbered) ∙ sym is) (stopping (s .unread))
 
 walked-same : (n c c′ o o′ : ℕ) → c ≡ c′ → o ≡ o′ → _≡_ {A = Walked} (record { number = n; count = c; offset = o }) (record { number = n; count = c′; offset = o′ })
 walked-same n c c′ o o′ p q = λ i. record { number = n; count = p i; offset = q i }
@@ -59,10 +59,10 @@ walked-same n c c′ o o′ p q = λ i. record { number = n; count = p i; offset
 module _ (afi bits : ℕ) (ofFamily : familyBits afi ≡ given bits) where
   -- the step at the end of the NLRIs
   stops-end : (run : List ℕ) (at : ℕ) (t : List ℕ) (n : ℕ) → length run ≤ 4096 → AllOctets t → RunEnd bits t n → at + length t ≡ length run → drop at run ≡ t → Stops (stepFrom afi run at) n
-  stops-end run at t n short a nothing size here = stops-at-end _ _ _ refl (step-end afi run at bits ofFamily short (omega arith))
+  stops-end run at t n short a nothing size here = stops-endedAt _ _ refl (step-end afi run at bits ofFamily short (omega arith))
   stops-end run at t n short a (refusal some why) size here =
       let before : at < length run = omega arith in
-      stops-at-refusal _ _ _ (step-front afi run at bits ofFamily short n (subst AllOctets (sym here) a) before (subst (λ (x : List ℕ). FrontRefusal bits x n) (sym here) why))
+      stops-refusedAt _ _ (step-front afi run at bits ofFamily short n (subst AllOctets (sym here) a) before (subst (λ (x : List ℕ). FrontRefusal bits x n) (sym here) why))
 
   walks-run : (run : List ℕ) (t : List ℕ) (n : ℕ) → length run ≤ 4096 → AllOctets t → RunEnd bits t n → (fs : List Fields) (at count : ℕ) → AllWellFormed bits fs
       → at + length (encodeRun fs ++ t) ≡ length run → drop at run ≡ encodeRun fs ++ t → Walks afi run at count (record { number = n; count = count + length fs; offset = at + length (encodeRun fs) })
@@ -119,7 +119,7 @@ walkRule =
     record {
       splits = λ afi bits run ofFamily a. split afi bits ofFamily (length run) run (omega arith) a;
       counts = λ afi bits run r ofFamily a short. counts afi bits ofFamily run r a short;
-      refuses = λ afi run n a why. walks-once afi run 0 0 _ _ (iterates afi run) (walks-stop afi run 0 0 n (stops-at-refusal _ _ _ (step-refuses afi run 0 a n why)) _ refl);
+      refuses = λ afi run n a why. walks-once afi run 0 0 _ _ (iterates afi run) (walks-stop afi run 0 0 n (stops-refusedAt _ _ (step-refuses afi run 0 a n why)) _ refl);
       iterates = iterates;
       only = walks-once;
     }

@@ -9,7 +9,7 @@ use Rattle.octets.specs.Numbers.{FAMILY}
 use Rattle.nlri.specs.Inner.{layoutIn}
 use Rattle.nlri.specs.Walking.{readTo, stepFrom}
 use Rattle.nlri.proofs.Via.{known-given, unknown-given}
-use Rattle.nlri.proofs.Steps.{Going, going-first, going-next, going-last, stops-at-end, stops-at-refusal, step-moves, step-stops, step-ends, step-reads, read-by-octet, step-under-is, step-without}
+use Rattle.nlri.proofs.Steps.{Going, going-first, going-next, going-last, stops-endedAt, stops-refusedAt, step-moves, step-stops, step-ends, step-reads, read-by-octet, step-under-is, step-without}
 use Rattle.nlri.proofs.run.walk.Statement.{statement}
 use Rattle.nlri.proofs.run.walk.Tie as tie
 
@@ -29,7 +29,7 @@ enum-told : tie.Need-enum-told Inv-loop μ-loop
 enum-told c = search needs
 
 returns : tie.Need-returns Inv-loop μ-loop
-returns c = going-last _ _ _ _ (going-first _ _) FAMILY (stops-at-refusal _ _ _ (step-without _ _ _ 0 (unknown-given _ _ _ (c .before .before .family-of .ensures) (c .enum-told .given .1))))
+returns c = going-last _ _ _ _ (going-first _ _) FAMILY (stops-refusedAt _ _ (step-without _ _ _ 0 (unknown-given _ _ _ (c .before .before .family-of .ensures) (c .enum-told .given .1))))
 
 loop-holds : tie.Need-loop-holds Inv-loop μ-loop
 loop-holds c = going-first _ _
@@ -41,13 +41,13 @@ cast-t9 : tie.Need-cast-t9 Inv-loop μ-loop
 cast-t9 c = omega arith
 
 returns-2 : tie.Need-returns-2 Inv-loop μ-loop
-returns-2 c = going-last _ _ _ _ (c .before .before .loop .inv) _ (stops-at-refusal _ _ _ (step-under-is _ _ _ _ _ (known-given _ _ _ (c .before .before .before .before .before .before .family-of .ensures) (c .before .before .before .before .kind .given .1)) (step-stops _ _ _ _ (c .before .step-fault .ensures) (c .if1 .taken))))
+returns-2 c = going-last _ _ _ _ (c .before .before .loop .inv) _ (stops-refusedAt _ _ (step-under-is _ _ _ _ _ (known-given _ _ _ (c .before .before .before .before .before .before .family-of .ensures) (c .before .before .before .before .kind .given .1)) (step-stops _ _ _ _ (c .before .step-fault .ensures) (c .if1 .taken))))
 
 cast-t11 : tie.Need-cast-t11 Inv-loop μ-loop
 cast-t11 c = omega arith
 
 returns-3 : tie.Need-returns-3 Inv-loop μ-loop
-returns-3 c = going-last _ _ _ _ (c .before .before .before .loop .inv) _ (stops-at-end _ _ _ (c .before .if1 .left) (step-under-is _ _ _ _ _ (known-given _ _ _ (c .before .before .before .before .before .before .before .family-of .ensures) (c .before .before .before .before .before .kind .given .1)) (step-ends _ _ _ _ (c .before .before .step-fault .ensures) (c .before .if1 .left) (c .if2 .taken))))
+returns-3 c = going-last _ _ _ _ (c .before .before .before .loop .inv) _ (stops-endedAt _ _ (c .before .if1 .left) (step-under-is _ _ _ _ _ (known-given _ _ _ (c .before .before .before .before .before .before .before .family-of .ensures) (c .before .before .before .before .before .kind .given .1)) (step-ends _ _ _ _ (c .before .before .step-fault .ensures) (c .before .if1 .left) (c .if2 .taken))))
 
 add-at : tie.Need-add-at Inv-loop μ-loop
 add-at c = omega arith
