@@ -54,4 +54,4 @@ module _ (left : ℕ) (run : List ℕ) (at : ℕ) where
 
   pub linesFrom-stops : (n : ℕ) → Stops (stepFrom 1 run at) n → linesFrom (suc left) run at ≡ lastLine n at
   unfolding linesFrom
-  linesFrom-stops n s = pick-false _ _ _ (s .unread) ∙ ap (λ (x : ℕ). lastLine x at) (s .told)
+  linesFrom-stops n s = pick-false _ _ _ (s .unread) ∙ ap (λ (x : ℕ). lastLine x at) (s .numbered)

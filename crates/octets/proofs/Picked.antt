@@ -11,16 +11,11 @@ pub tested : {P : Type 0} (b : Bool) → (b ≡ true → P) → (b ≡ false →
 tested true t f = t refl
 tested false t f = f refl
 
--- tests that must fail, or hold, for the whole to hold
+-- a test that must fail for the whole to hold
 pub pick-passed : (b y : Bool) → pick b false y ≡ true → (b ≡ false) × (y ≡ true)
 unfolding pick
 pick-passed true y h = (sym h, cc)
 pick-passed false y h = (refl, h)
-
-pub pick-held : (b y : Bool) → pick b y false ≡ true → (b ≡ true) × (y ≡ true)
-unfolding pick
-pick-held true y h = (refl, h)
-pick-held false y h = (h, cc)
 
 -- a number chosen is DONE: the test before another number failed, and what follows is DONE
 pub pick-done : (b : Bool) (m n : ℕ) → (m ≡ DONE → ⊥) → pick b m n ≡ DONE → (b ≡ false) × (n ≡ DONE)
