@@ -3,9 +3,8 @@ use Prim.Native.Nat.{ℕ, _≤_}
 use mathlib.Core.Path.{_≡_, refl, sym, ap, subst, subst₂, _∙_}
 use mathlib.Core.Bool.{true, false}
 use mathlib.Core.List.{List, [], _∷_, _++_}
-use mathlib.Core.Logic.{_≢_, ⊎-elim}
+use mathlib.Core.Logic.{⊎-elim}
 use lib.ListN.{length}
-use Rattle.octets.specs.Numbers.{DONE}
 use Rattle.octets.specs.Outcome.{Outcome, given, refused, onOutcome, numberOf}
 use Rattle.octets.specs.Lists.{Among, chosen}
 use Rattle.octets.proofs.Inversions.{opposite}
@@ -16,13 +15,12 @@ use Rattle.nlri.proofs.Theorems.{lengths}
 use Rattle.routes.specs.Route.{Route, nlriOf, attributeOf, held, lookup, arranged}
 use Rattle.routes.specs.Arguments.{readSPmsi}
 use Rattle.routes.specs.ArgumentRules.{KnownFamily, SPmsiOf}
-use Rattle.routes.specs.Call.{Call, install, withdraw, match, Owner, nobody, owner, originatorOf, ownerOf, ownedBy, owns, Act, argued, refusalOf, refusalAnswer}
+use Rattle.routes.specs.Call.{Call, install, withdraw, match, Owner, nobody, owner, originatorOf, ownerOf, ownedBy, owns, Act, argued, refusalOf}
 use Rattle.routes.specs.Book.{bookAfter, fed, ownCalls, bookOf, allBooks, dueAnswer}
 use Rattle.routes.specs.Run.{imageOfBooks, namedBy, Fits}
-use Rattle.routes.specs.BookRules.{BelongsTo, ownInstall, ownWithdrawal, ownMatch, Nobodys, OwnerRule, PremiseRule, CallRefusal, BookStep, BookRule, ImageRule}
+use Rattle.routes.specs.BookRules.{BelongsTo, ownInstall, ownWithdrawal, ownMatch, Nobodys, OwnerRule, PremiseRule, RefusedCall, BookStep, BookRule, ImageRule}
 use Rattle.routes.proofs.Lookups.{route-again, held-absent, lookup-arranged, lookup-member, member-lookup, increasing-distinct}
 use Rattle.routes.proofs.ArgumentRules.{argumentRule, nlri-accepts}
-use Rattle.routes.proofs.ByArguments.{argued-number}
 use Rattle.routes.proofs.Images.{images}
 use Rattle.routes.proofs.Distincts.{once-each-among, among-once-each, once-once-each}
 use Rattle.routes.proofs.Chosen.{chosen-first, chosen-later}
@@ -32,7 +30,7 @@ use Rattle.routes.proofs.Named.{named-exactly}
 use Rattle.routes.proofs.AllBooks.{distinct-book, acceptable-book, lookup-foreign, lookup-all, lookup-nobody, distinct-all, increasing-books, holdable-books}
 use Rattle.routes.proofs.DueSteps.{due-owned, due-nobody}
 use Rattle.routes.proofs.Reorders.{own-then, own-not}
-use Rattle.routes.proofs.BookSteps.{argued-refusal, book-step}
+use Rattle.routes.proofs.BookSteps.{refused-call, book-step}
 
 -- owners
 
@@ -122,13 +120,13 @@ module _ (afi : ℕ) (bits : KnownFamily afi) where
   unfolding bookOf
   book-foreign router earlier c h = ap (fed afi []) (own-not afi router earlier c (owns-false afi router c h))
 
-  nobodys-due : (earlier : List Call) (c : Call) → Nobodys afi c → (n : ℕ) × (n ≢ DONE) × CallRefusal afi c n × (dueAnswer afi earlier c ≡ refusalAnswer c n)
+  nobodys-due : (earlier : List Call) (c : Call) → Nobodys afi c → RefusedCall afi c (dueAnswer afi earlier c)
   unfolding refusalOf numberOf
   nobodys-due earlier c h = go (argued afi c) refl
     where
-      go : (o : Outcome Act) → argued afi c ≡ o → (n : ℕ) × (n ≢ DONE) × CallRefusal afi c n × (dueAnswer afi earlier c ≡ refusalAnswer c n)
+      go : (o : Outcome Act) → argued afi c ≡ o → RefusedCall afi c (dueAnswer afi earlier c)
       go (given act) e = absurd (owner-nobody (nobodys-owner afi c h) (owned afi c act e .own))
-      go (refused n) e = (n, argued-number afi c n e .0, argued-refusal afi bits c n e, due-nobody afi earlier c (nobodys-owner afi c h) ∙ rw e)
+      go (refused n) e = subst (RefusedCall afi c) (sym (due-nobody afi earlier c (nobodys-owner afi c h) ∙ rw e)) (refused-call afi bits c n e)
 
   pub bookRule : BookRule afi
   bookRule =

@@ -4,7 +4,7 @@ use mathlib.Core.Path.{_≡_, refl, sym, ap, _∙_}
 use mathlib.Core.List.{List}
 use mathlib.Core.Logic.{⊎-elim}
 use Rattle.octets.specs.Numbers.{DONE, ABSENT}
-use Rattle.octets.specs.Outcome.{Outcome, given, refused, onOutcome, andThen}
+use Rattle.octets.specs.Outcome.{Outcome, given, refused, onOutcome, andThen, numberOf}
 use Rattle.octets.proofs.Inversions.{never}
 use Rattle.octets.proofs.Orders.{unequal-other}
 use Rattle.octets.proofs.Outcomes.{pick-true, pick-false}
@@ -14,12 +14,12 @@ use Rattle.octets.proofs.Tests.{goes, stops}
 use Rattle.routes.specs.Route.{Route, route, nlriOf, attributeOf, absent, held, holds, removed, Distinct}
 use Rattle.routes.specs.Arguments.{Query, readSPmsi, readRoute, readMatch}
 use Rattle.routes.specs.Place.{AllAcceptable}
-use Rattle.routes.specs.Answers.{NEW, REPLACED}
-use Rattle.routes.specs.Call.{Call, install, withdraw, match, Act, enter, leave, ask, argued}
+use Rattle.routes.specs.Answers.{NEW, REPLACED, installedOf, refusedMatch, matchedBy}
+use Rattle.routes.specs.Call.{Call, install, withdraw, match, Act, enter, leave, ask, argued, refusalAnswer}
 use Rattle.routes.specs.Book.{entered, actAnswer, actAfter, bookAnswer, bookAfter}
 use Rattle.routes.specs.ArgumentRules.{KnownFamily, SPmsi, Labelled}
 use Rattle.routes.specs.CallRules.{HeldNow}
-use Rattle.routes.specs.BookRules.{CallRefusal, installRefused, withdrawalRefused, matchRefused, BookStep, refusedCall, replacedRoute, newRoute, takenOut, notInBook, matchedFlow}
+use Rattle.routes.specs.BookRules.{RefusedCall, refusedInstall, refusedWithdrawal, refusedFlow, BookStep, refusal, replacedRoute, newRoute, takenOut, notInBook, matchedFlow}
 use Rattle.routes.proofs.Lookups.{lookup-own, lookup-later, lookup-entered, lookup-removed-same, lookup-removed-other, held-holds, absent-holds, removed-absent}
 use Rattle.routes.proofs.Bounds.{route-read}
 use Rattle.routes.proofs.Flows.{flow-asked}
@@ -45,17 +45,19 @@ first-refuses : {A B : Type 0} (o : Outcome A) (good : A → B) (n : ℕ) → an
 first-refuses o good n e = ⊎-elim (λ first. first) (λ later. absurd (never refl (later .second))) (stopped _ _ _ e)
 
 module _ (afi : ℕ) (bits : KnownFamily afi) where
-  -- why arguments refuse a call
-  pub argued-refusal : (c : Call) (n : ℕ) → argued afi c ≡ refused n → CallRefusal afi c n
-  unfolding argued
-  argued-refusal (install nlri attribute) n e = installRefused (argumentRule .refusedRoute afi nlri attribute n .0 (first-refuses _ _ n e))
-  argued-refusal (withdraw nlri) n e = withdrawalRefused (argumentRule .refusedNlri afi nlri n .0 (first-refuses _ _ n e))
-  argued-refusal (match router source group output) n e = matchRefused (argumentRule .refusedFlow afi router source group output n bits .0 (first-refuses _ _ n e))
+  -- what a call that its arguments refuse answers
+  pub refused-call : (c : Call) (n : ℕ) → argued afi c ≡ refused n → RefusedCall afi c (refusalAnswer c n)
+  unfolding argued refusalAnswer installedOf matchedBy refusedMatch numberOf onOutcome
+  refused-call (install nlri attribute) n e =
+      refusedInstall (argued-number afi (install nlri attribute) n e .0) (argumentRule .refusedRoute afi nlri attribute n .0 (first-refuses _ _ n e))
+  refused-call (withdraw nlri) n e = refusedWithdrawal (argued-number afi (withdraw nlri) n e .0) (argumentRule .refusedNlri afi nlri n .0 (first-refuses _ _ n e))
+  refused-call (match router source group output) n e =
+      refusedFlow (argumentRule .refusedFlow afi router source group output n bits .0 (first-refuses _ _ n e)) (record { tierless = refl; sizes = (refl, refl); untouched = refl })
 
   module _ {book : List Route} (d : Distinct book) (a : AllAcceptable afi book) where
     by-refusal : (c : Call) (n : ℕ) → argued afi c ≡ refused n → BookStep afi book c (bookAnswer afi book c) (bookAfter afi book c)
     unfolding bookAnswer bookAfter onOutcome
-    by-refusal c n e = rw e (refusedCall (argued-number afi c n e .0) (argued-refusal c n e))
+    by-refusal c n e = rw e (refusal (refused-call c n e))
 
     by-act : (c : Call) (act : Act) → argued afi c ≡ given act → BookStep afi book c (actAnswer afi book act) (actAfter book act) → BookStep afi book c (bookAnswer afi book c) (bookAfter afi book c)
     unfolding bookAnswer bookAfter onOutcome

@@ -27,7 +27,7 @@ use Rattle.routes.proofs.ArgumentRules.{argumentRule}
 use Rattle.routes.proofs.Decisions.{decides, leftBy, lastFrom, last-exactly}
 use Rattle.routes.proofs.Images.{images, sound-holdable}
 use Rattle.routes.proofs.InstallRules.{installRule, install-done, install-octets}
-use Rattle.routes.proofs.Lookups.{lookup-none, lookup-member, member-lookup, increasing-distinct}
+use Rattle.routes.proofs.Lookups.{lookupRule, lookup-none, lookup-member, member-lookup, increasing-distinct}
 use Rattle.routes.proofs.MakeRules.{makeRule}
 use Rattle.routes.proofs.WithdrawRules.{withdrawRule, withdraw-done, withdraw-octets}
 
@@ -144,4 +144,4 @@ module _ (afi : ℕ) (memory : List ℕ) (calls : List Call) (done : makeOf afi 
 
 pub lastInstalled : LastInstalled
 lastInstalled =
-    record { arguments = argumentRule; make = makeRule; install = installRule; withdraw = withdrawRule; kept = kept }
+    record { arguments = argumentRule; lookups = lookupRule; make = makeRule; install = installRule; withdraw = withdrawRule; kept = kept }

@@ -4,7 +4,7 @@ use Prim.Native.Nat.{ℕ, suc}
 use mathlib.Core.Path.{_≡_, refl, sym, ap, ap₂, _∙_}
 use mathlib.Core.Bool.{true, false}
 use mathlib.Core.List.{List, [], _∷_}
-use mathlib.Core.Logic.{_↔_, _⊎_, inl, inr}
+use mathlib.Core.Logic.{_↔_, _⊎_, inl, inr, ⊎-elim}
 use native.Mathlib.Omega.{arith}
 use lib.ListN.{length}
 use Rattle.octets.specs.Choice.{pick}
@@ -18,6 +18,7 @@ use Rattle.octets.specs.Lists.{Among, first, later}
 use Rattle.routes.specs.Route.{Route, route, nlriOf, attributeOf, Held, absent, held, lookup, isHeld, holds, inserted, arranged, removed, Distinct, none, one, Increasing, last, next}
 use Rattle.routes.specs.Place.{acceptable, AllAcceptable}
 use Rattle.routes.specs.Book.{entered}
+use Rattle.routes.specs.CallRules.{LookupRule}
 
 pub route-again : (r : Route) → route (nlriOf r) (attributeOf r) ≡ r
 unfolding nlriOf attributeOf
@@ -273,6 +274,18 @@ member-lookup {r} (one {r = q} {rs = rs} h d) (later m) =
 lookup-carried : {us : List Route} (nlri a : List ℕ) → Distinct us → Among (route nlri a) us → lookup nlri us ≡ held a
 unfolding nlriOf attributeOf
 lookup-carried nlri a e m = member-lookup e m
+
+-- what is held of an NLRI, by the routes that are there
+pub lookupRule : LookupRule
+unfolding nlriOf
+lookupRule =
+    record {
+      missing = λ nlri rs. (
+        λ e attribute m. opposite (member-held m) (holds-absent nlri rs e),
+        λ none. ⊎-elim (λ p. absurd (none (p .0) (lookup-member nlri (p .0) rs (p .1)))) (λ e. e) (held-or-absent nlri rs),
+      );
+      found = λ nlri attribute rs d. (lookup-member nlri attribute rs, lookup-carried nlri attribute d);
+    }
 
 members-lookup : {rs us : List Route} → Distinct rs → Distinct us → ((r : Route) → Among r rs ↔ Among r us) → (nlri : List ℕ) → lookup nlri rs ≡ lookup nlri us
 members-lookup {rs} {us} d e m nlri = go (held-or-absent nlri rs) (held-or-absent nlri us)

@@ -10,13 +10,13 @@ use Rattle.octets.specs.Lists.{Among, Once}
 use Rattle.routes.specs.declared.Matched.{Matched}
 use Rattle.routes.specs.Route.{Route, absent, held, lookup, Distinct}
 use Rattle.routes.specs.Answers.{Changed, NEW, REPLACED}
-use Rattle.routes.specs.Call.{Call, install, withdraw, match, Answer, installed, withdrawn, matched, nobody, owner, ownerOf, refusalAnswer}
+use Rattle.routes.specs.Call.{Call, install, withdraw, match, Answer, installed, withdrawn, matched, nobody, owner, ownerOf}
 use Rattle.routes.specs.Book.{ownCalls, bookOf, allBooks, dueAnswer}
 use Rattle.routes.specs.Run.{imageOfBooks, counted}
 use Rattle.routes.specs.ArgumentRules.{SPmsi, SPmsiOf, Labelled, GoodFlow, NlriRefusal, RouteRefusal, FlowRefusal}
 use Rattle.routes.specs.Images.{Holdable, TableOf}
 use Rattle.routes.specs.CallRules.{IsHeld, HeldNow}
-use Rattle.routes.specs.MatchRule.{MatchAnswer}
+use Rattle.routes.specs.MatchRule.{Untold, MatchAnswer}
 
 -- a call belongs to a router: an install or withdrawal of a well-formed S-PMSI NLRI to its originator; a match to the router address that
 -- it gives, if that has 4 or 16 octets
@@ -43,16 +43,18 @@ pub record PremiseRule : Type 0 where
       → Among nlri (counted afi calls) ↔ (SPmsi afi nlri × ((attribute : List ℕ) × Among (install nlri attribute) calls))
   pub once : (afi : ℕ) (calls : List Call) → Once (counted afi calls)
 
--- why arguments and the family refuse a call: the first number in its order
-pub data CallRefusal (afi : ℕ) : Call → ℕ → Type 0 where
-  installRefused : {nlri attribute : List ℕ} {n : ℕ} → RouteRefusal afi nlri attribute n → CallRefusal afi (install nlri attribute) n
-  withdrawalRefused : {nlri : List ℕ} {n : ℕ} → NlriRefusal afi nlri n → CallRefusal afi (withdraw nlri) n
-  matchRefused : {router source group output : List ℕ} {n : ℕ} → FlowRefusal afi router source group output n → CallRefusal afi (match router source group output) n
+-- a call that its arguments and the family refuse: the first such number in its order, empty fields, and a match's output as it was
+pub data RefusedCall (afi : ℕ) : Call → Answer → Type 0 where
+  refusedInstall : {nlri attribute : List ℕ} {n : ℕ} → n ≢ DONE → RouteRefusal afi nlri attribute n
+      → RefusedCall afi (install nlri attribute) (installed (record { number = n; outcome = 0 }))
+  refusedWithdrawal : {nlri : List ℕ} {n : ℕ} → n ≢ DONE → NlriRefusal afi nlri n → RefusedCall afi (withdraw nlri) (withdrawn n)
+  refusedFlow : {router source group output : List ℕ} {changed : Changed Matched} → FlowRefusal afi router source group output (changed .answer .number) → Untold output changed
+      → RefusedCall afi (match router source group output) (matched changed)
 
 -- what a book answers to a call, and the book afterwards
 pub data BookStep (afi : ℕ) (book : List Route) : Call → Answer → (after : List Route) → Type 0 where
   -- a call that its arguments and the family refuse gets the first such number in its order; the book stays
-  refusedCall : {c : Call} {n : ℕ} → n ≢ DONE → CallRefusal afi c n → BookStep afi book c (refusalAnswer c n) book
+  refusal : {c : Call} {answer : Answer} → RefusedCall afi c answer → BookStep afi book c answer book
   -- any other install gives the NLRI this attribute: DONE, "replaced" if the book held the NLRI, else "new"
   replacedRoute : {nlri attribute : List ℕ} {after : List Route} → SPmsi afi nlri → Labelled attribute → IsHeld nlri book → HeldNow nlri (held attribute) book after
       → BookStep afi book (install nlri attribute) (installed (record { number = DONE; outcome = REPLACED })) after
@@ -74,7 +76,7 @@ pub record BookRule (afi : ℕ) : Type 0 where
       → BookStep afi (bookOf afi router earlier) c (dueAnswer afi earlier c) (bookOf afi router (earlier ++ (c ∷ [])))
   pub foreign : (router : List ℕ) (earlier : List Call) (c : Call) → (BelongsTo afi router c → ⊥) → bookOf afi router (earlier ++ (c ∷ [])) ≡ bookOf afi router earlier
   -- to a call of nobody its refusal is due
-  pub nobodys : (earlier : List Call) (c : Call) → Nobodys afi c → (n : ℕ) × (n ≢ DONE) × CallRefusal afi c n × (dueAnswer afi earlier c ≡ refusalAnswer c n)
+  pub nobodys : (earlier : List Call) (c : Call) → Nobodys afi c → RefusedCall afi c (dueAnswer afi earlier c)
   -- a book has one attribute for each NLRI, and no NLRI stands in two books
   pub distinct : (router : List ℕ) (calls : List Call) → Distinct (bookOf afi router calls)
   pub apart : (calls : List Call) → Distinct (allBooks afi calls)

@@ -1,5 +1,5 @@
--- What making a table, install and withdraw answer and leave, in document 01's notions ("The numbers a call gives back", "The table
--- memory"). Proved in proofs/MakeRules, InstallRules and WithdrawRules; specs/MatchRule.antt is on match.
+-- What routes hold of an NLRI, and what making a table, install and withdraw answer and leave, in document 01's notions ("The numbers a call
+-- gives back", "The table memory"). Proved in proofs/Lookups, MakeRules, InstallRules and WithdrawRules; specs/MatchRule.antt is on match.
 use Prim.Native.Nat.{ℕ, suc, _+_, _*_, _≤_, _<_}
 use mathlib.Core.Path.{_≡_}
 use mathlib.Core.Bool.{true, false}
@@ -7,12 +7,19 @@ use mathlib.Core.List.{List, []}
 use mathlib.Core.Logic.{_↔_, _≢_}
 use lib.ListN.{length}
 use Rattle.octets.specs.Numbers.{DONE, FAMILY, TABLE, ROOM, ABSENT}
-use Rattle.routes.specs.Route.{Route, route, Held, absent, held, lookup, inserted, removed}
+use Rattle.octets.specs.Lists.{Among}
+use Rattle.routes.specs.Route.{Route, route, Held, absent, held, lookup, inserted, removed, Distinct}
 use Rattle.routes.specs.Table.{afiIn, placesIn, routesOf, soundOf}
 use Rattle.routes.specs.Answers.{NEW, REPLACED}
 use Rattle.routes.specs.Calls.{makeOf, installOf, withdrawOf}
 use Rattle.routes.specs.ArgumentRules.{KnownFamily, SPmsi, Labelled, NlriRefusal, RouteRefusal}
 use Rattle.routes.specs.Images.{TableOf}
+
+-- what routes hold of an NLRI: nothing exactly when none of them has it; an attribute, where no two have the same NLRI, exactly when one of
+-- them has both
+pub record LookupRule : Type 0 where
+  pub missing : (nlri : List ℕ) (rs : List Route) → (lookup nlri rs ≡ absent) ↔ ((attribute : List ℕ) → Among (route nlri attribute) rs → ⊥)
+  pub found : (nlri attribute : List ℕ) (rs : List Route) → Distinct rs → (lookup nlri rs ≡ held attribute) ↔ Among (route nlri attribute) rs
 
 -- routes hold the NLRI with some attribute
 abbrev pub IsHeld : (nlri : List ℕ) → List Route → Type 0

@@ -14,7 +14,7 @@ use Rattle.routes.specs.Calls.{makeOf, installOf, withdrawOf}
 use Rattle.routes.specs.Call.{Call, install, withdraw}
 use Rattle.routes.specs.Run.{endOf}
 use Rattle.routes.specs.ArgumentRules.{ArgumentRule}
-use Rattle.routes.specs.CallRules.{MakeRule, InstallRule, WithdrawRule}
+use Rattle.routes.specs.CallRules.{LookupRule, MakeRule, InstallRule, WithdrawRule}
 
 -- an accepted install or withdrawal of an NLRI on a table: it answers DONE
 pub data Decides (nlri t : List ℕ) : Call → Type 0 where
@@ -46,6 +46,7 @@ pub record Kept (afi : ℕ) (memory : List ℕ) (calls : List Call) : Type 0 whe
 -- each call on a table, and a table after calls
 pub record LastInstalled : Type 0 where
   pub arguments : ArgumentRule
+  pub lookups : LookupRule
   pub make : MakeRule
   pub install : InstallRule
   pub withdraw : WithdrawRule
