@@ -61,7 +61,7 @@ module _ (afi : ℕ) (run : List ℕ) (at : ℕ) where
     unfolding stepFrom
     step-under = sym (on-given _ _ _ _ _ ofFamily refl)
 
-    step-long : 4096 < length run → stepFrom afi run at ≡ refusedAt LONG at
+    pub step-long : 4096 < length run → stepFrom afi run at ≡ refusedAt LONG at
     unfolding stepUnder
     step-long h = step-under ∙ pick-true _ _ _ (lt-ltb 4096 (length run) h)
 
