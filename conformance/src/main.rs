@@ -18,7 +18,10 @@ use conformance::{
     compare::Harness,
     coverage::LEAST,
     options::Options,
-    second::{fault::Fault, Second},
+    second::{
+        fault::{Fault, ShownBy},
+        Second,
+    },
 };
 use std::{env, process::ExitCode, time::Instant};
 
@@ -31,7 +34,7 @@ fn main() -> ExitCode {
         }
     };
     if options.list_faults {
-        Fault::rows().for_each(|(_, name, does)| println!("{name}: {does}"));
+        Fault::ALL.iter().for_each(|fault| println!("{}: {}", fault.name(), fault.does));
         return ExitCode::SUCCESS;
     }
     println!("seed {}, random cases {}", options.seed, options.cases);
@@ -84,20 +87,21 @@ fn agrees(options: &Options) -> bool {
 /// Whether the comparison notices the fault, on the calls that it concerns.
 fn finds(options: &Options, fault: Fault) -> bool {
     let mut harness = Harness::new(Second::with_fault(fault));
-    let result = match fault.of_tables() {
-        true => cases::of_tables(&mut harness, options),
-        false => cases::of_encodings(&mut harness, options),
+    let result = match fault.shown_by {
+        ShownBy::Tables => cases::of_tables(&mut harness, options),
+        ShownBy::Encodings => cases::of_encodings(&mut harness, options),
     };
+    let name = fault.name();
     match result {
         Err(disagreement) => {
-            println!("{fault:?} found after {} calls compared", harness.calls);
+            println!("{name} found after {} calls compared", harness.calls);
             if !options.every_fault {
                 println!("{disagreement}");
             }
             true
         }
         Ok(()) => {
-            println!("{fault:?} NOT FOUND in {} calls", harness.calls);
+            println!("{name} NOT FOUND in {} calls", harness.calls);
             false
         }
     }
@@ -105,8 +109,8 @@ fn finds(options: &Options, fault: Fault) -> bool {
 
 /// Each fault in turn; all must be found.
 fn every_fault(options: &Options) -> bool {
-    let faults = Fault::rows().count();
-    let found = Fault::rows().filter(|(fault, _, _)| finds(options, *fault)).count();
-    println!("{found} of {faults} faults found");
-    found == faults
+    let faults = Fault::ALL;
+    let found = faults.iter().filter(|fault| finds(options, **fault)).count();
+    println!("{found} of {} faults found", faults.len());
+    found == faults.len()
 }

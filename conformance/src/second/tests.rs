@@ -80,8 +80,7 @@ fn samples_are_read_and_written_back() {
 }
 
 #[test]
-fn each_fault_has_its_own_name() {
-    for (fault, name, _) in Fault::rows() {
-        assert_eq!(Fault::named(name), Some(*fault));
-    }
+fn faults_are_found_by_name() {
+    assert_eq!(Fault::named("ssm-ipv6-as-16"), Some(Fault::SSM_IPV6_AS_16));
+    assert_eq!(Fault::named("no-such-fault"), None);
 }
