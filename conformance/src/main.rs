@@ -4,14 +4,7 @@
 //! conformance [--seed N] [--cases N] [--listing PATH] [--outside] [--fault NAME | --every-fault] [--list-faults]
 //! ```
 //!
-//! Every answer is compared in all its fields, and every lent buffer with guard octets around it. The run prints its
-//! seed and counts. It ends with status 1 at the first disagreement, shown with the call, the input in hexadecimal and
-//! both answers, or where a number, route type, family, tunnel type, group class, outcome, tier or kind of sequence was
-//! met fewer than 100 times.
-//!
-//! With `--fault NAME` one wrong behaviour is switched on in the second decoder; the status is then 0 only if the
-//! comparison finds no disagreement without the fault, and one with it. `--every-fault` does this for each fault in turn.
-//! The same seed and number of cases give the same inputs.
+//! README.md says what is compared, what the arguments mean and what a failure shows.
 
 use conformance::{
     cases,
