@@ -11,7 +11,7 @@ use crate::{
 };
 
 #[test]
-fn page_examples() {
+fn document_examples() {
     let second = Second::sound();
     for (afi, group, number, group_class) in GROUPS {
         assert_eq!(second.answer_group_class(afi, &octets(group)), Group { number, group_class }, "{group}");
