@@ -1,4 +1,4 @@
-# Needs the Rattle toolchain (`rt`); `make bench` also cargo, `make test` also cargo and a C and a C++ compiler.
+# Needs the Rattle toolchain (`rt`), and `make bench` also cargo. What `make test` needs is in README.md.
 # Everything that is made lies in target/, but for the README's plot. `rt` itself knows what has changed, so no target is a file.
 
 .PHONY: all archive listing list test bench plot sizes install uninstall clean

@@ -4,21 +4,17 @@
 //! conformance [--seed N] [--cases N] [--listing PATH] [--outside] [--fault NAME | --every-fault] [--list-faults]
 //! ```
 //!
-//! Every answer is compared in all its fields, and every lent buffer with guard octets around it. The run prints its
-//! seed and counts. It ends with status 1 at the first disagreement, shown with the call, the input in hexadecimal and
-//! both answers, or where a number, route type, family, tunnel type, group class, outcome, tier or kind of sequence was
-//! met fewer than 100 times.
-//!
-//! With `--fault NAME` one wrong behaviour is switched on in the second decoder; the status is then 0 only if the
-//! comparison finds no disagreement without the fault, and one with it. `--every-fault` does this for each fault in turn.
-//! The same seed and number of cases give the same inputs.
+//! README.md says what is compared, what the arguments mean and what a failure shows.
 
 use conformance::{
     cases,
     compare::Harness,
     coverage::LEAST,
     options::Options,
-    second::{fault::Fault, Second},
+    second::{
+        fault::{Fault, ShownBy},
+        Second,
+    },
 };
 use std::{env, process::ExitCode, time::Instant};
 
@@ -31,7 +27,7 @@ fn main() -> ExitCode {
         }
     };
     if options.list_faults {
-        Fault::rows().for_each(|(_, name, does)| println!("{name}: {does}"));
+        Fault::ALL.iter().for_each(|fault| println!("{}: {}", fault.name(), fault.does));
         return ExitCode::SUCCESS;
     }
     println!("seed {}, random cases {}", options.seed, options.cases);
@@ -84,20 +80,21 @@ fn agrees(options: &Options) -> bool {
 /// Whether the comparison notices the fault, on the calls that it concerns.
 fn finds(options: &Options, fault: Fault) -> bool {
     let mut harness = Harness::new(Second::with_fault(fault));
-    let result = match fault.of_tables() {
-        true => cases::of_tables(&mut harness, options),
-        false => cases::of_encodings(&mut harness, options),
+    let result = match fault.shown_by {
+        ShownBy::Tables => cases::of_tables(&mut harness, options),
+        ShownBy::Encodings => cases::of_encodings(&mut harness, options),
     };
+    let name = fault.name();
     match result {
         Err(disagreement) => {
-            println!("{fault:?} found after {} calls compared", harness.calls);
+            println!("{name} found after {} calls compared", harness.calls);
             if !options.every_fault {
                 println!("{disagreement}");
             }
             true
         }
         Ok(()) => {
-            println!("{fault:?} NOT FOUND in {} calls", harness.calls);
+            println!("{name} NOT FOUND in {} calls", harness.calls);
             false
         }
     }
@@ -105,8 +102,8 @@ fn finds(options: &Options, fault: Fault) -> bool {
 
 /// Each fault in turn; all must be found.
 fn every_fault(options: &Options) -> bool {
-    let faults = Fault::rows().count();
-    let found = Fault::rows().filter(|(fault, _, _)| finds(options, *fault)).count();
-    println!("{found} of {faults} faults found");
-    found == faults
+    let faults = Fault::ALL;
+    let found = faults.iter().filter(|fault| finds(options, **fault)).count();
+    println!("{found} of {} faults found", faults.len());
+    found == faults.len()
 }

@@ -8,7 +8,6 @@ use crate::{
     second::{
         choice::Flow,
         table_calls::{TableAnswer, TableCall},
-        Second,
     },
 };
 
@@ -135,22 +134,20 @@ pub fn all(harness: &mut Harness) -> Checked {
     attributes(harness)?;
     runs(harness)?;
     let listed = harness.second.listing(&octets(LISTED));
-    on_page("the listing's text", listed, LISTED_TEXT.to_string())
+    in_document("the listing's text", listed, LISTED_TEXT.to_string())
 }
 
-/// Checks an answer against document 01.
-fn on_page<Answer: PartialEq + std::fmt::Debug>(shows: &str, answer: Answer, page: Answer) -> Checked {
-    match answer == page {
+/// Checks an answer against document 01. That of a call is both decoders', which have been compared.
+fn in_document<Answer: PartialEq + std::fmt::Debug>(shows: &str, answer: Answer, asked: Answer) -> Checked {
+    match answer == asked {
         true => Ok(()),
-        false => disagree(format!("document 01, {shows}"), format!("{answer:?}"), format!("{page:?}")),
+        false => disagree(format!("document 01, {shows}"), format!("{answer:?}"), format!("{asked:?}")),
     }
 }
 
 fn groups(harness: &mut Harness) -> Checked {
     for (afi, group, number, group_class) in GROUPS {
-        let page = Group { number, group_class };
-        on_page(group, harness.group_class(afi, &octets(group))?, page)?;
-        on_page(group, Second::sound().answer_group_class(afi, &octets(group)), page)?;
+        in_document(group, harness.group_class(afi, &octets(group))?, Group { number, group_class })?;
     }
     Ok(())
 }
@@ -158,19 +155,15 @@ fn groups(harness: &mut Harness) -> Checked {
 fn nlris(harness: &mut Harness) -> Checked {
     for (shows, afi, text, number) in NLRIS {
         let nlri = octets(&text.replace("RD", RD));
-        on_page(shows, harness.nlri_reading(afi, &nlri)?.number, number)?;
-        on_page(shows, Second::sound().answer_nlri_read(afi, &nlri).number, number)?;
+        in_document(shows, harness.nlri_reading(afi, &nlri)?.number, number)?;
     }
     Ok(())
 }
 
 fn attributes(harness: &mut Harness) -> Checked {
     for (shows, text, number, label) in ATTRIBUTES {
-        let attribute = octets(text);
-        let archive = harness.attribute_read(&attribute)?;
-        on_page(shows, (archive.number, archive.label), (number, label))?;
-        let second = Second::sound().answer_attribute_read(&attribute);
-        on_page(shows, (second.number, second.label), (number, label))?;
+        let answer = harness.attribute_read(&octets(text))?;
+        in_document(shows, (answer.number, answer.label), (number, label))?;
     }
     Ok(())
 }
@@ -179,15 +172,15 @@ fn attributes(harness: &mut Harness) -> Checked {
 fn runs(harness: &mut Harness) -> Checked {
     let listed = octets(LISTED);
     let answer = harness.walk(1, &listed)?;
-    on_page("the listing's 18 octets", answer, Walked { number: 2, count: 1, offset: 16 })?;
+    in_document("the listing's 18 octets", answer, Walked { number: 2, count: 1, offset: 16 })?;
     harness.walk_by_steps(1, &listed)?;
     for afi in [1, 2] {
-        on_page("an empty run", harness.walk(afi, &[])?, Walked::default())?;
+        in_document("an empty run", harness.walk(afi, &[])?, Walked::default())?;
     }
     for afi in BAD_AFIS {
         let refusal = Walked { number: 10, count: 0, offset: 0 };
-        on_page("a bad AFI", harness.walk(afi, &listed)?, refusal)?;
-        on_page("a bad AFI, empty run", harness.walk(afi, &[])?, refusal)?;
+        in_document("a bad AFI", harness.walk(afi, &listed)?, refusal)?;
+        in_document("a bad AFI, empty run", harness.walk(afi, &[])?, refusal)?;
     }
     Ok(())
 }
@@ -197,14 +190,14 @@ pub fn tables(harness: &mut Harness) -> Checked {
     let mut names = ORDER;
     for _ in 0..names.len() {
         names.rotate_left(1);
-        on_page("A to E installed", installed(harness, &names)?, table_image())?;
+        in_document("A to E installed", installed(harness, &names)?, table_image())?;
     }
     let image = table_image();
     flows(harness, &image)?;
     for (shows, attribute, number, outcome) in LABELS {
         let nlri = octets(&"030E RD 00 00 0A000002".replace("RD", RD));
         let answer = harness.table_call(&image, TableCall::Install { nlri: &nlri, attribute: &octets(attribute) })?;
-        on_page(shows, answer, TableAnswer::Installed(Installed { number, outcome }))?;
+        in_document(shows, answer, TableAnswer::Installed(Installed { number, outcome }))?;
     }
     Ok(())
 }
@@ -212,12 +205,12 @@ pub fn tables(harness: &mut Harness) -> Checked {
 /// The table after these routes are installed.
 fn installed(harness: &mut Harness, names: &[&str]) -> Result<Vec<u8>, Disagreement> {
     let mut memory = vec![0xFF; 8 + 6 * 128];
-    on_page("making a table", harness.make(1, &memory)?, 0)?;
+    in_document("making a table", harness.make(1, &memory)?, 0)?;
     for name in names {
         memory = harness.table().to_vec();
         let (nlri, attribute) = route(name);
         let answer = harness.table_call(&memory, TableCall::Install { nlri: &nlri, attribute: &attribute })?;
-        on_page(name, answer, TableAnswer::Installed(Installed { number: 0, outcome: 1 }))?;
+        in_document(name, answer, TableAnswer::Installed(Installed { number: 0, outcome: 1 }))?;
     }
     Ok(harness.table().to_vec())
 }
@@ -230,8 +223,8 @@ fn flows(harness: &mut Harness, image: &[u8]) -> Checked {
         let [nlri_size, attribute_size] = [&nlri, &attribute].map(|octets| octets.len() as u32);
         let mut output = [nlri, attribute].concat();
         output.resize(OUTPUT.len(), OUTPUT[0]);
-        let page = TableAnswer::Matched(Matched { number: 0, tier, nlri_size, attribute_size }, output);
-        on_page(shows, harness.table_call(image, TableCall::Match { flow, output: &OUTPUT })?, page)?;
+        let asked = TableAnswer::Matched(Matched { number: 0, tier, nlri_size, attribute_size }, output);
+        in_document(shows, harness.table_call(image, TableCall::Match { flow, output: &OUTPUT })?, asked)?;
     }
     Ok(())
 }

@@ -1,11 +1,10 @@
 //! `mvpn_attribute_read` and `mvpn_attribute_write`.
 
-use super::{disagree, Checked, Disagreement, Harness, Input};
+use super::{Checked, Disagreement, Harness, Input};
 use crate::{
     coverage::{Call, Seen},
     ffi::{self, AttributeReading},
     hexadecimal::encode,
-    second::answers,
 };
 
 /// The arguments of a writing call, but for the identifier and the output.
@@ -47,13 +46,9 @@ impl Harness {
         self.lend_output(room);
         let archive = ffi::attribute_write(flags, tunnel_type, label_field, &mut self.input, &mut self.output);
         let encoding = self.second.attribute_write(flags, tunnel_type, label_field, identifier.octets, room);
-        self.output.expect_front(encoding.as_deref().unwrap_or(&[]));
-        self.agree(
-            || format!("mvpn_attribute_write({fields:?}, identifier {}, output of {room})", encode(identifier.octets)),
-            &archive,
-            &answers::written(&encoding),
-        )?;
-        self.coverage.count(Call::AttributeWrite, Seen::Number(archive.number));
+        let octets = identifier.octets;
+        let shown = || format!("mvpn_attribute_write({fields:?}, identifier {}, output of {room})", encode(octets));
+        self.agree_on_writing(Call::AttributeWrite, shown, &archive, &encoding)?;
         if archive.number == 0 {
             self.coverage.count(Call::AttributeWrite, Seen::Tunnel(tunnel_type.into()));
         }
@@ -73,10 +68,7 @@ impl Harness {
         };
         let identifier = octets[reading.identifier.start..][..reading.identifier.size].to_vec();
         self.attribute_write(fields, &identifier, octets.len())?;
-        if self.output.octets() != octets {
-            let written = encode(self.output.octets());
-            disagree(format!("read and write back (attribute {})", encode(octets)), written, encode(octets))?;
-        }
+        self.agree_on_writing_back(format_args!("attribute"), octets)?;
         Ok(true)
     }
 }

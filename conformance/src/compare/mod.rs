@@ -6,7 +6,13 @@ pub mod nlri;
 pub mod run;
 pub mod table;
 
-use crate::{coverage::Coverage, hexadecimal::encode, lent::Lent, second::Second};
+use crate::{
+    coverage::{Call, Coverage, Seen},
+    ffi::Written,
+    hexadecimal::encode,
+    lent::Lent,
+    second::{answers, number::Number, Second},
+};
 use std::fmt::{self, Debug, Display};
 
 /// A call on which the archive does not answer as it should.
@@ -110,6 +116,31 @@ impl Harness {
             }
         }
         Ok(())
+    }
+
+    /// Checks what a writing call answered and left in the output, and counts its number.
+    fn agree_on_writing(
+        &mut self,
+        call: Call,
+        shown: impl Fn() -> String,
+        archive: &Written,
+        encoding: &Result<Vec<u8>, Number>,
+    ) -> Checked {
+        self.output.expect_front(encoding.as_deref().unwrap_or(&[]));
+        self.agree(shown, archive, &answers::written(encoding))?;
+        self.coverage.count(call, Seen::Number(archive.number));
+        Ok(())
+    }
+
+    /// Checks that the octets which were read have been written back.
+    fn agree_on_writing_back(&self, read: fmt::Arguments, octets: &[u8]) -> Checked {
+        let written = self.output.octets();
+        match written == octets {
+            true => Ok(()),
+            false => {
+                disagree(format!("read and write back ({read} {})", encode(octets)), encode(written), encode(octets))
+            }
+        }
     }
 
     fn buffers(&self) -> [(&'static str, &Lent); 7] {

@@ -1,11 +1,10 @@
 //! `mvpn_nlri_read` and `mvpn_nlri_write`.
 
-use super::{disagree, Checked, Disagreement, Harness, Input};
+use super::{Checked, Disagreement, Harness, Input};
 use crate::{
     coverage::{Call, Seen},
     ffi::{self, Nlri, NlriReading},
     hexadecimal::encode,
-    second::answers,
 };
 
 impl Harness {
@@ -47,13 +46,8 @@ impl Harness {
         self.lend_output(room);
         let archive = ffi::nlri_write(afi, nlri, &mut self.input, &mut self.output);
         let encoding = self.second.nlri_write(afi, &nlri, key.octets, room);
-        self.output.expect_front(encoding.as_deref().unwrap_or(&[]));
-        self.agree(
-            || format!("mvpn_nlri_write(afi {afi}, {nlri:?}, key {}, output of {room})", encode(key.octets)),
-            &archive,
-            &answers::written(&encoding),
-        )?;
-        self.coverage.count(Call::NlriWrite, Seen::Number(archive.number));
+        let shown = || format!("mvpn_nlri_write(afi {afi}, {nlri:?}, key {}, output of {room})", encode(key.octets));
+        self.agree_on_writing(Call::NlriWrite, shown, &archive, &encoding)?;
         if archive.number == 0 {
             self.coverage.count(Call::NlriWrite, Seen::Route(nlri.route_type.into(), afi));
         }
@@ -68,10 +62,7 @@ impl Harness {
         }
         let key = octets[reading.key.start..][..reading.key.size].to_vec();
         self.nlri_write(afi, reading.nlri, &key, octets.len())?;
-        if self.output.octets() != octets {
-            let written = encode(self.output.octets());
-            disagree(format!("read and write back (afi {afi}, nlri {})", encode(octets)), written, encode(octets))?;
-        }
+        self.agree_on_writing_back(format_args!("afi {afi}, nlri"), octets)?;
         Ok(true)
     }
 }

@@ -21,7 +21,7 @@ impl Second {
             Ok(reading) => nlri_reading(&reading),
             Err(number) => {
                 let mut refusal = ffi::NlriReading { number: number.value(), ..Default::default() };
-                if self.has(Fault::RefusalKeepsType) {
+                if self.has(Fault::REFUSAL_KEEPS_TYPE) {
                     refusal.nlri.route_type = octets.first().copied().unwrap_or(0);
                 }
                 refusal
@@ -33,7 +33,7 @@ impl Second {
         match self.step(afi, run, cursor) {
             Ok(Some((reading, next))) => ffi::Stepped { cursor: next, number: 0, layout: layout(&reading) },
             Ok(None) => ffi::Stepped { cursor, ..Default::default() },
-            Err(_) if self.has(Fault::RefusedStepRewinds) => self.answer_step_rewound(afi, run, cursor),
+            Err(_) if self.has(Fault::REFUSED_STEP_REWINDS) => self.answer_step_rewound(afi, run, cursor),
             Err(number) => ffi::Stepped { cursor, number: number.value(), ..Default::default() },
         }
     }
@@ -47,8 +47,8 @@ impl Second {
     pub fn answer_walk(&self, afi: u16, run: &[u8]) -> ffi::Walked {
         let walk = self.walk(afi, run);
         let refused = walk.number != Number::Done;
-        let extra = u32::from(refused && self.has(Fault::WalkCountOffByOne));
-        let past = 2 * u32::from(refused && self.has(Fault::WalkOffsetPastHeader));
+        let extra = u32::from(refused && self.has(Fault::WALK_COUNT_OFF_BY_ONE));
+        let past = 2 * u32::from(refused && self.has(Fault::WALK_OFFSET_PAST_HEADER));
         ffi::Walked {
             number: walk.number.value(),
             count: walk.read.len() as u32 + extra,
@@ -71,8 +71,8 @@ impl Second {
     }
 
     fn attribute_reading(&self, attribute: &Attribute) -> ffi::AttributeReading {
-        let bit = if self.has(Fault::LirOtherBit) { 0x80 } else { 0x01 };
-        let shift = if self.has(Fault::LabelNotDivided) { 0 } else { 4 };
+        let bit = if self.has(Fault::LIR_OTHER_BIT) { 0x80 } else { 0x01 };
+        let shift = if self.has(Fault::LABEL_NOT_DIVIDED) { 0 } else { 4 };
         ffi::AttributeReading {
             number: 0,
             flags: u32::from(attribute.flags),

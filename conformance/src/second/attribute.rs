@@ -27,7 +27,7 @@ pub struct Attribute<'a> {
 
 impl Second {
     pub fn attribute<'a>(&self, octets: &'a [u8]) -> Result<Attribute<'a>, Number> {
-        let most = if self.has(Fault::AttributeLimit65) { 65 } else { 64 };
+        let most = if self.has(Fault::ATTRIBUTE_LIMIT_65) { 65 } else { 64 };
         if octets.len() > most {
             return Err(Number::Long);
         }
@@ -43,10 +43,10 @@ impl Second {
     pub(super) fn identified<'a>(&self, tunnel_type: u8, identifier: &'a [u8]) -> Result<Option<Fec<'a>>, Number> {
         let size = identifier.len();
         match form(tunnel_type) {
-            None if self.has(Fault::TunnelsUpTo11) && tunnel_type < 11 => Ok(None),
+            None if self.has(Fault::TUNNELS_UP_TO_11) && tunnel_type < 11 => Ok(None),
             None => Err(Number::Tunnel),
-            Some(Form::Sizes(PIM_SIZES)) if self.has(Fault::PimMixed20) && size == 20 => Ok(None),
-            Some(Form::Sizes(BIER_SIZES)) if self.has(Fault::BierSevenOnly) && size != 7 => Err(Number::Ident),
+            Some(Form::Sizes(PIM_SIZES)) if self.has(Fault::PIM_MIXED_20) && size == 20 => Ok(None),
+            Some(Form::Sizes(BIER_SIZES)) if self.has(Fault::BIER_SEVEN_ONLY) && size != 7 => Err(Number::Ident),
             Some(Form::Sizes(sizes)) if sizes.contains(&size) => Ok(None),
             Some(Form::Sizes(_)) => Err(Number::Ident),
             Some(Form::Fec(types)) => self.fec(types, identifier).map(Some).ok_or(Number::Ident),
@@ -58,10 +58,10 @@ impl Second {
         let [fec_type, 0, family, address_length, rest @ ..] = identifier else {
             return None;
         };
-        let highest = if self.has(Fault::FecType8Refused) { 7 } else { u8::MAX };
+        let highest = if self.has(Fault::FEC_TYPE_8_REFUSED) { 7 } else { u8::MAX };
         let suits = match (family, address_length) {
             (1, 4) | (2, 16) => true,
-            (1, 16) | (2, 4) => self.has(Fault::FecAddressFreeOfFamily),
+            (1, 16) | (2, 4) => self.has(Fault::FEC_ADDRESS_FREE_OF_FAMILY),
             _ => false,
         };
         if !types.contains(fec_type) || *fec_type > highest || !suits {
@@ -70,8 +70,8 @@ impl Second {
         let (root, rest) = rest.split_at_checked(usize::from(*address_length))?;
         let [high, low, opaque @ ..] = rest else { return None };
         let length = usize::from(u16::from_be_bytes([*high, *low]));
-        let ends = length == opaque.len() || self.has(Fault::OpaqueNotToTheEnd) && length < opaque.len();
-        let empty_refused = length == 0 && self.has(Fault::OpaqueEmptyRefused);
+        let ends = length == opaque.len() || self.has(Fault::OPAQUE_NOT_TO_THE_END) && length < opaque.len();
+        let empty_refused = length == 0 && self.has(Fault::OPAQUE_EMPTY_REFUSED);
         (ends && !empty_refused).then_some(Fec {
             fec_type: *fec_type,
             address_family: u16::from(*family),

@@ -18,8 +18,8 @@ impl Second {
         if identifier.len() > LONGEST - 5 {
             return Err(Number::Long);
         }
-        let most = if self.has(Fault::LabelLimitOff) { 1 << 24 } else { (1 << 24) - 1 };
-        if self.has(Fault::LabelBeforeIdent) && label_field > most {
+        let most = if self.has(Fault::LABEL_LIMIT_OFF) { 1 << 24 } else { (1 << 24) - 1 };
+        if self.has(Fault::LABEL_BEFORE_IDENT) && label_field > most {
             return Err(Number::Label);
         }
         self.identified(tunnel_type, identifier)?;

@@ -35,7 +35,7 @@ impl Books {
             return self.second.refused(call, number);
         };
         let second = self.second;
-        let router = if second.has(Fault::OneBook) { Router::new() } else { router };
+        let router = if second.has(Fault::ONE_BOOK) { Router::new() } else { router };
         second.in_book(self.afi, self.books.entry(router).or_default(), call)
     }
 
@@ -62,7 +62,7 @@ impl Second {
     /// A call of the book's router. A book has no places, so none of its installs lacks room.
     fn in_book(&self, afi: u16, book: &mut Routes, call: &TableCall) -> TableAnswer {
         if let Some(number) = self.refusal(afi, call) {
-            if let (TableCall::Install { nlri, attribute }, true) = (call, self.has(Fault::BookTakesRefused)) {
+            if let (TableCall::Install { nlri, attribute }, true) = (call, self.has(Fault::BOOK_TAKES_REFUSED)) {
                 book.insert(nlri.to_vec(), attribute.to_vec());
             }
             return self.refused(call, number);

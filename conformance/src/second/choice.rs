@@ -32,18 +32,18 @@ pub const LEAST_OUTPUT: usize = 124;
 impl Second {
     /// What match refuses for its arguments and the family alone: FLOW, SPACE. Gives the group's class.
     pub(super) fn flow_class(&self, afi: u16, flow: &Flow, room: usize) -> Result<Class, Number> {
-        let small = room < LEAST_OUTPUT && !self.has(Fault::SpaceWhenNeeded);
-        if small && self.has(Fault::SpaceBeforeFlow) {
+        let small = room < LEAST_OUTPUT && !self.has(Fault::SPACE_WHEN_NEEDED);
+        if small && self.has(Fault::SPACE_BEFORE_FLOW) {
             return Err(Number::Space);
         }
         let width = self.family(afi).map(Family::octets)?;
-        let router = matches!(flow.router.len(), 4 | 16) || self.has(Fault::RouterSizeUnjudged);
-        let source = flow.source.len() == width || self.has(Fault::SourceSizeUnjudged);
+        let router = matches!(flow.router.len(), 4 | 16) || self.has(Fault::ROUTER_SIZE_UNJUDGED);
+        let source = flow.source.len() == width || self.has(Fault::SOURCE_SIZE_UNJUDGED);
         if !router || !source {
             return Err(Number::Flow);
         }
         let class = match self.group_class(afi, flow.group) {
-            Err(_) if self.has(Fault::GroupNotJudged) && flow.group.len() == width => Class::Asm,
+            Err(_) if self.has(Fault::GROUP_NOT_JUDGED) && flow.group.len() == width => Class::Asm,
             class => class?,
         };
         match small {
@@ -79,9 +79,9 @@ impl Second {
         match (route.octets(Field::Source), route.octets(Field::Group), class) {
             (source, group, _) if (source, group) == (flow.source, flow.group) => Some(1),
             (source, [], Class::Ssm) if source == flow.source => Some(2),
-            (source, [], Class::Asm) if source == flow.source && self.has(Fault::SourceRouteForAsm) => Some(2),
+            (source, [], Class::Asm) if source == flow.source && self.has(Fault::SOURCE_ROUTE_FOR_ASM) => Some(2),
             ([], group, Class::Asm) if group == flow.group => Some(3),
-            ([], group, Class::Ssm) if group == flow.group && self.has(Fault::GroupRouteForSsm) => Some(3),
+            ([], group, Class::Ssm) if group == flow.group && self.has(Fault::GROUP_ROUTE_FOR_SSM) => Some(3),
             ([], [], _) => Some(4),
             _ => None,
         }
@@ -90,18 +90,18 @@ impl Second {
     /// What decides between routes, the lowest first: the tier, then the distinguisher as eight octets.
     fn rank(&self, tier: u32, route: &Reading) -> (u32, [u8; 8]) {
         let mut distinguisher: [u8; 8] = route.octets(Field::Distinguisher).try_into().unwrap_or_default();
-        if self.has(Fault::DistinguisherHighest) {
+        if self.has(Fault::DISTINGUISHER_HIGHEST) {
             distinguisher = distinguisher.map(|octet| !octet);
         }
-        if self.has(Fault::DistinguisherFromTheEnd) {
+        if self.has(Fault::DISTINGUISHER_FROM_THE_END) {
             distinguisher.reverse();
         }
-        if self.has(Fault::DistinguisherSigned) {
+        if self.has(Fault::DISTINGUISHER_SIGNED) {
             distinguisher = distinguisher.map(|octet| octet ^ 0x80);
         }
         match tier {
-            _ if self.has(Fault::TierHighest) => (u32::MAX - tier, distinguisher),
-            _ if self.has(Fault::DistinguisherBeforeTier) => (0, distinguisher),
+            _ if self.has(Fault::TIER_HIGHEST) => (u32::MAX - tier, distinguisher),
+            _ if self.has(Fault::DISTINGUISHER_BEFORE_TIER) => (0, distinguisher),
             _ => (tier, distinguisher),
         }
     }

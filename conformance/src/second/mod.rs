@@ -48,7 +48,7 @@ impl Second {
 
     /// AFI 1 or 2, the whole 16-bit number.
     fn family(&self, afi: u16) -> Result<Family, Number> {
-        let afi = if self.has(Fault::AfiLowOctet) { afi & 0xFF } else { afi };
+        let afi = if self.has(Fault::AFI_LOW_OCTET) { afi & 0xFF } else { afi };
         match afi {
             1 => Ok(Family::Ipv4),
             2 => Ok(Family::Ipv6),
@@ -58,7 +58,7 @@ impl Second {
 
     /// The encoding, if the output has room for it. `most` is the largest encoding of its kind.
     fn fitted(&self, encoding: Vec<u8>, most: usize, room: usize) -> Result<Vec<u8>, Number> {
-        let needed = if self.has(Fault::SpaceAgainstMaximum) { most } else { encoding.len() };
+        let needed = if self.has(Fault::SPACE_AGAINST_MAXIMUM) { most } else { encoding.len() };
         if room < needed {
             Err(Number::Space)
         } else {

@@ -41,7 +41,7 @@ type Taken<'a> = Result<(&'a [u8], &'a [u8]), Number>;
 impl Second {
     /// Reads exactly one NLRI: FAMILY, SHORT, TYPE, the body, then LENGTH for octets after it.
     pub fn single<'a>(&self, afi: u16, octets: &'a [u8]) -> Result<Reading<'a>, Number> {
-        if self.has(Fault::FamilyAfterShort) && octets.len() < 2 {
+        if self.has(Fault::FAMILY_AFTER_SHORT) && octets.len() < 2 {
             return Err(Number::Short);
         }
         self.whole(self.family(afi)?, octets)
@@ -49,7 +49,7 @@ impl Second {
 
     fn whole<'a>(&self, family: Family, octets: &'a [u8]) -> Result<Reading<'a>, Number> {
         let reading = self.front(family, octets)?;
-        if reading.after.is_empty() || self.has(Fault::OctetsAfterIgnored) {
+        if reading.after.is_empty() || self.has(Fault::OCTETS_AFTER_IGNORED) {
             Ok(reading)
         } else {
             Err(Number::Length)
@@ -61,7 +61,7 @@ impl Second {
         let [route_type, length, rest @ ..] = octets else {
             return Err(Number::Short);
         };
-        if self.has(Fault::TypeBeforeShort) && row(*route_type).is_none() {
+        if self.has(Fault::TYPE_BEFORE_SHORT) && row(*route_type).is_none() {
             return Err(Number::Type);
         }
         let (body, after) = rest.split_at_checked(usize::from(*length)).ok_or(Number::Short)?;
@@ -85,7 +85,7 @@ impl Second {
             Ok(Part { field: *field, octets })
         };
         let parts = fields.iter().map(take).collect::<Result<Vec<_>, _>>()?;
-        if rest.is_empty() || self.has(Fault::LeftoverIgnored) {
+        if rest.is_empty() || self.has(Fault::LEFTOVER_IGNORED) {
             Ok(parts)
         } else {
             Err(Number::Length)
@@ -108,7 +108,7 @@ impl Second {
         let bits = usize::from(*bits);
         if bits == family.bits() || bits == 0 && self.wildcard_allowed(route_type, field) {
             rest.split_at_checked(bits / 8).ok_or(Number::Length)
-        } else if self.has(Fault::WidthAfterAddress) && rest.len() < bits.div_ceil(8) {
+        } else if self.has(Fault::WIDTH_AFTER_ADDRESS) && rest.len() < bits.div_ceil(8) {
             Err(Number::Length)
         } else {
             Err(Number::Width)
@@ -118,28 +118,28 @@ impl Second {
     /// The wildcard is a length of 0, in type 3 only (RFC 6625, section 2).
     fn wildcard_allowed(&self, route_type: u8, field: Field) -> bool {
         match field {
-            Field::Group if self.has(Fault::WildcardGroupRefused) => false,
-            _ => route_type == S_PMSI || self.has(Fault::WildcardOutsideType3),
+            Field::Group if self.has(Fault::WILDCARD_GROUP_REFUSED) => false,
+            _ => route_type == S_PMSI || self.has(Fault::WILDCARD_OUTSIDE_TYPE_3),
         }
     }
 
     /// What remains, 4 or 16 octets, whatever the family.
     fn take_originator<'a>(&self, family: Family, rest: &'a [u8]) -> Taken<'a> {
-        let family_allows = !self.has(Fault::OriginatorTiedToFamily) || rest.len() == family.octets();
+        let family_allows = !self.has(Fault::ORIGINATOR_TIED_TO_FAMILY) || rest.len() == family.octets();
         match rest.len() {
             4 | 16 if family_allows => Ok((rest, &[])),
-            _ if self.has(Fault::OriginatorWidthAtReading) => Err(Number::Width),
+            _ if self.has(Fault::ORIGINATOR_WIDTH_AT_READING) => Err(Number::Width),
             _ => Err(Number::Length),
         }
     }
 
     /// A whole NLRI of type 1, 2 or 3 (RFC 6514, section 4.4); any fault inside it is KEY.
     fn take_key<'a>(&self, family: Family, rest: &'a [u8]) -> Taken<'a> {
-        let key = self.front(family, rest).map_err(|inner| match self.has(Fault::KeyFaultInner) {
+        let key = self.front(family, rest).map_err(|inner| match self.has(Fault::KEY_FAULT_INNER) {
             true => inner,
             false => Number::Key,
         })?;
-        if !self.key_type_allowed(key.route_type) || self.has(Fault::WildcardRefusedInKey) && key.has_wildcard() {
+        if !self.key_type_allowed(key.route_type) || self.has(Fault::WILDCARD_REFUSED_IN_KEY) && key.has_wildcard() {
             return Err(Number::Key);
         }
         Ok(rest.split_at(rest.len() - key.after.len()))
@@ -148,14 +148,14 @@ impl Second {
     fn key_type_allowed(&self, route_type: u8) -> bool {
         match route_type {
             1..=3 => true,
-            4..=7 => self.has(Fault::KeyTypesToSeven),
+            4..=7 => self.has(Fault::KEY_TYPES_TO_SEVEN),
             _ => false,
         }
     }
 
     /// True where the octets are exactly one NLRI that a Leaf may carry as its key.
     pub(super) fn is_key(&self, family: Family, octets: &[u8]) -> bool {
-        let reading = match self.has(Fault::KeyTrailingAllowed) {
+        let reading = match self.has(Fault::KEY_TRAILING_ALLOWED) {
             true => self.front(family, octets),
             false => self.whole(family, octets),
         };

@@ -17,10 +17,10 @@ impl Second {
         let family = self.family(afi)?;
         let fields = row(nlri.route_type).ok_or(Number::Type)?;
         let bad_key = fields.contains(&Field::Key) && !self.is_key(family, key);
-        if bad_key && self.has(Fault::KeyBeforeWidth) {
+        if bad_key && self.has(Fault::KEY_BEFORE_WIDTH) {
             return Err(Number::Key);
         }
-        if self.has(Fault::LackingFieldsJudged) && lacking_fields_bad(nlri) {
+        if self.has(Fault::LACKING_FIELDS_JUDGED) && lacking_fields_bad(nlri) {
             return Err(Number::Width);
         }
         if !fields.iter().all(|field| self.width_allowed(family, *field, nlri)) {
@@ -51,7 +51,7 @@ impl Second {
     fn field_octets(&self, field: Field, nlri: &Nlri, key: &[u8]) -> Vec<u8> {
         match field {
             Field::Distinguisher => nlri.distinguisher.octets.to_vec(),
-            Field::SourceAs if self.has(Fault::SourceAsLittleEndian) => nlri.source_as.to_le_bytes().to_vec(),
+            Field::SourceAs if self.has(Fault::SOURCE_AS_LITTLE_ENDIAN) => nlri.source_as.to_le_bytes().to_vec(),
             Field::SourceAs => nlri.source_as.to_be_bytes().to_vec(),
             Field::Source => customer_octets(&nlri.source),
             Field::Group => customer_octets(&nlri.group),

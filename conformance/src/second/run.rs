@@ -14,18 +14,18 @@ impl Second {
     /// The NLRI at a cursor and the cursor past it; none at the run's end. FAMILY, LONG, then NLRI reading.
     pub fn step<'a>(&self, afi: u16, run: &'a [u8], cursor: usize) -> Result<Option<(Reading<'a>, usize)>, Number> {
         let family = self.family(afi)?;
-        let most = if self.has(Fault::LongLimit4095) { 4_095 } else { 4_096 };
+        let most = if self.has(Fault::LONG_LIMIT_4095) { 4_095 } else { 4_096 };
         if run.len() > most {
             return Err(Number::Long);
         }
         let rest = match run.get(cursor..) {
             Some(rest) => rest,
-            None if self.has(Fault::StepPastEndDone) => &[],
+            None if self.has(Fault::STEP_PAST_END_DONE) => &[],
             None => return Err(Number::Short),
         };
         match rest {
             [] => Ok(None),
-            [_, 0, ..] if self.has(Fault::ZeroLengthEndsRun) => Ok(None),
+            [_, 0, ..] if self.has(Fault::ZERO_LENGTH_ENDS_RUN) => Ok(None),
             _ => {
                 let reading = self.front(family, rest)?;
                 let next = run.len() - reading.after.len();

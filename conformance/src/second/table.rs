@@ -59,9 +59,9 @@ fn place((nlri, attribute): Route) -> Vec<u8> {
 impl Second {
     /// The number of places in memory of a table's size.
     pub(super) fn places(&self, size: usize) -> Option<usize> {
-        let most = if self.has(Fault::PlacesLimitOff) { MOST_PLACES + 1 } else { MOST_PLACES };
+        let most = if self.has(Fault::PLACES_LIMIT_OFF) { MOST_PLACES + 1 } else { MOST_PLACES };
         let rest = size.checked_sub(HEADER)?;
-        let whole = rest % PLACE == 0 || self.has(Fault::PartPlaceAllowed);
+        let whole = rest % PLACE == 0 || self.has(Fault::PART_PLACE_ALLOWED);
         (whole && rest / PLACE <= most).then_some(rest / PLACE)
     }
 
@@ -73,17 +73,17 @@ impl Second {
     fn decoded(&self, memory: &[u8]) -> Option<Table> {
         let places = self.places(memory.len())?;
         let (afi, count) = self.header(memory)?;
-        let count = match self.has(Fault::CountUnchecked) {
+        let count = match self.has(Fault::COUNT_UNCHECKED) {
             true => count.min(places),
             false => (count <= places).then_some(count)?,
         };
         let taken = memory[HEADER..].chunks(PLACE).take(count);
         let listed = taken.map(|place| self.route(afi, place)).collect::<Option<Vec<_>>>()?;
-        let increasing = listed.windows(2).all(|pair| match self.has(Fault::IncreasingNotStrict) {
+        let increasing = listed.windows(2).all(|pair| match self.has(Fault::INCREASING_NOT_STRICT) {
             true => pair[0].0 <= pair[1].0,
             false => pair[0].0 < pair[1].0,
         });
-        let ordered = increasing || self.has(Fault::OrderUnchecked);
+        let ordered = increasing || self.has(Fault::ORDER_UNCHECKED);
         let expected = image(afi, memory.len(), listed.iter().map(|(nlri, attribute)| (nlri, attribute)));
         let same = self.same_octets(memory, &expected, count);
         (ordered && same).then(|| Table { afi, places, routes: listed.into_iter().collect() })
@@ -92,7 +92,7 @@ impl Second {
     /// AFI and count of a good header.
     fn header(&self, memory: &[u8]) -> Option<(u16, usize)> {
         let [name @ .., version_high, version_low, afi, high, low] = memory.get(..HEADER)? else { return None };
-        let version = [*version_high, *version_low] == [0, 1] || self.has(Fault::VersionUnchecked);
+        let version = [*version_high, *version_low] == [0, 1] || self.has(Fault::VERSION_UNCHECKED);
         let family = self.family(u16::from(*afi)).is_ok();
         (name == b"MVT" && version && family).then(|| (u16::from(*afi), usize::from(u16::from_be_bytes([*high, *low]))))
     }
@@ -103,18 +103,18 @@ impl Second {
         let (nlri, rest) = rest.split_at_checked(usize::from(*nlri_size))?;
         let (attribute, _) = rest.split_at_checked(usize::from(*attribute_size))?;
         let reading = self.single(afi, nlri).ok()?;
-        let kind = reading.route_type == S_PMSI || self.has(Fault::PlaceKindUnchecked);
+        let kind = reading.route_type == S_PMSI || self.has(Fault::PLACE_KIND_UNCHECKED);
         let tunnel = self.attribute(attribute).ok();
-        let label = tunnel.is_some_and(|tunnel| self.labelled(&tunnel) || self.has(Fault::PlaceLabelUnchecked));
-        let accepted = kind && (label || self.has(Fault::PlaceAttributeUnchecked));
+        let label = tunnel.is_some_and(|tunnel| self.labelled(&tunnel) || self.has(Fault::PLACE_LABEL_UNCHECKED));
+        let accepted = kind && (label || self.has(Fault::PLACE_ATTRIBUTE_UNCHECKED));
         accepted.then(|| (nlri.to_vec(), attribute.to_vec()))
     }
 
     /// Whether the memory behind the header is that of the image: with it every octet that must be zero.
     fn same_octets(&self, memory: &[u8], image: &[u8], count: usize) -> bool {
-        let end = if self.has(Fault::RestUnchecked) { size(count) } else { memory.len() };
+        let end = if self.has(Fault::REST_UNCHECKED) { size(count) } else { memory.len() };
         let (memory, image) = (&memory[HEADER..end], &image[HEADER..]);
-        match self.has(Fault::PaddingUnchecked) {
+        match self.has(Fault::PADDING_UNCHECKED) {
             true => memory.chunks(PLACE).skip(count).flatten().all(|octet| *octet == 0),
             false => memory.iter().eq(image.iter().take(memory.len())),
         }
@@ -131,16 +131,16 @@ impl Second {
 
     /// Whether the label suits the tunnel: BIER may not have label 0 (document 01, LABEL).
     fn labelled(&self, attribute: &Attribute) -> bool {
-        let shift = if self.has(Fault::FieldTestedForLabel) { 0 } else { 4 };
+        let shift = if self.has(Fault::FIELD_TESTED_FOR_LABEL) { 0 } else { 4 };
         attribute.tunnel_type != BIER || attribute.label_field >> shift != 0
     }
 
     /// What install refuses for its arguments and the family alone: NLRI reading, KIND, attribute reading, LABEL.
     pub(super) fn accepted(&self, afi: u16, nlri: &[u8], attribute: &[u8]) -> Result<(), Number> {
-        if self.has(Fault::AttributeBeforeNlri) {
+        if self.has(Fault::ATTRIBUTE_BEFORE_NLRI) {
             self.attribute(attribute)?;
         }
-        let reading = match self.has(Fault::KindAfterAttribute) {
+        let reading = match self.has(Fault::KIND_AFTER_ATTRIBUTE) {
             true => self.single(afi, nlri)?,
             false => self.s_pmsi(afi, nlri)?,
         };

@@ -75,7 +75,7 @@ pub enum Outcome {
 impl Second {
     /// The image of the table made: FAMILY, TABLE.
     pub fn make(&self, afi: u16, octets: usize) -> Result<Vec<u8>, Number> {
-        if self.has(Fault::TableBeforeFamily) && self.places(octets).is_none() {
+        if self.has(Fault::TABLE_BEFORE_FAMILY) && self.places(octets).is_none() {
             return Err(Number::Table);
         }
         self.family(afi)?;
@@ -94,7 +94,7 @@ impl Second {
         let answer = self.on_table(&mut table, call);
         let mut image = table.image();
         image.resize(memory.len(), 0);
-        if self.has(Fault::WithdrawnNotZeroed) && answer == TableAnswer::Withdrawn(0) {
+        if self.has(Fault::WITHDRAWN_NOT_ZEROED) && answer == TableAnswer::Withdrawn(0) {
             let left = size(table.routes.len())..size(table.routes.len()) + PLACE;
             image[left.clone()].copy_from_slice(&memory[left]);
         }
@@ -104,7 +104,7 @@ impl Second {
     /// The number for unsound memory: TABLE, whatever the other arguments are.
     fn unsound(&self, memory: &[u8], call: &TableCall, number: Number) -> Number {
         match memory.get(5) {
-            Some(afi) if self.has(Fault::TableLast) => self.refusal(u16::from(*afi), call).unwrap_or(number),
+            Some(afi) if self.has(Fault::TABLE_LAST) => self.refusal(u16::from(*afi), call).unwrap_or(number),
             _ => number,
         }
     }
@@ -138,15 +138,15 @@ impl Second {
 
     fn install(&self, table: &mut Table, nlri: &[u8], attribute: &[u8]) -> Result<Outcome, Number> {
         let held = table.routes.contains_key(nlri);
-        let full = table.routes.len() >= table.places && (!held || self.has(Fault::ReplacementNeedsRoom));
-        if full && self.has(Fault::RoomBeforeNlri) {
+        let full = table.routes.len() >= table.places && (!held || self.has(Fault::REPLACEMENT_NEEDS_ROOM));
+        if full && self.has(Fault::ROOM_BEFORE_NLRI) {
             return Err(Number::Room);
         }
         let accepted = self.accepted(table.afi, nlri, attribute);
-        if accepted.is_err() && self.has(Fault::RefusedInstallWithdraws) {
+        if accepted.is_err() && self.has(Fault::REFUSED_INSTALL_WITHDRAWS) {
             table.routes.remove(nlri);
         }
-        let room_first = full && self.has(Fault::RoomBeforeLabel) && accepted == Err(Number::Label);
+        let room_first = full && self.has(Fault::ROOM_BEFORE_LABEL) && accepted == Err(Number::Label);
         if room_first {
             return Err(Number::Room);
         }
@@ -154,8 +154,8 @@ impl Second {
         if full {
             return Err(Number::Room);
         }
-        let nods = self.has(Fault::FirstInstallOnly) && !table.routes.is_empty();
-        let keeps = self.has(Fault::ReplacementKeepsOld) && held;
+        let nods = self.has(Fault::FIRST_INSTALL_ONLY) && !table.routes.is_empty();
+        let keeps = self.has(Fault::REPLACEMENT_KEEPS_OLD) && held;
         if !nods && !keeps {
             table.routes.insert(nlri.to_vec(), attribute.to_vec());
         }
@@ -163,12 +163,12 @@ impl Second {
     }
 
     fn withdraw(&self, table: &mut Table, nlri: &[u8]) -> Result<(), Number> {
-        if self.has(Fault::AbsentBeforeNlri) && !table.routes.contains_key(nlri) {
+        if self.has(Fault::ABSENT_BEFORE_NLRI) && !table.routes.contains_key(nlri) {
             return Err(Number::Absent);
         }
         self.s_pmsi(table.afi, nlri)?;
         match table.routes.remove(nlri) {
-            None if !self.has(Fault::AbsentDone) => Err(Number::Absent),
+            None if !self.has(Fault::ABSENT_DONE) => Err(Number::Absent),
             _ => Ok(()),
         }
     }
@@ -183,16 +183,16 @@ impl Second {
         let originator = self.single(afi, nlri).map_or(&[][..], |reading| reading.octets(Field::Originator));
         let mapped = [&[0; 10][..], &[0xFF; 2], router].concat();
         originator == router
-            || self.has(Fault::OriginatorSizeIgnored)
+            || self.has(Fault::ORIGINATOR_SIZE_IGNORED)
                 && (originator.starts_with(router) || router.starts_with(originator))
-            || self.has(Fault::RouterMapped) && originator == mapped
+            || self.has(Fault::ROUTER_MAPPED) && originator == mapped
     }
 
     pub(super) fn installed(&self, outcome: Result<Outcome, Number>) -> TableAnswer {
         TableAnswer::Installed(match outcome {
             Ok(outcome) => Installed { number: 0, outcome: outcome as u32 },
             Err(number) => {
-                let outcome = u32::from(self.has(Fault::RefusedInstallNew));
+                let outcome = u32::from(self.has(Fault::REFUSED_INSTALL_NEW));
                 Installed { number: number.value(), outcome }
             }
         })
@@ -204,7 +204,7 @@ impl Second {
             Ok(Some(Choice { tier, nlri, attribute })) => {
                 let written = [nlri, attribute].concat();
                 let kept = output[written.len()..].iter();
-                let rest = kept.map(|octet| if self.has(Fault::OutputCleared) { 0 } else { *octet });
+                let rest = kept.map(|octet| if self.has(Fault::OUTPUT_CLEARED) { 0 } else { *octet });
                 let sizes = (nlri.len() as u32, attribute.len() as u32);
                 let answer = Matched { number: 0, tier, nlri_size: sizes.0, attribute_size: sizes.1 };
                 TableAnswer::Matched(answer, written.iter().copied().chain(rest).collect())

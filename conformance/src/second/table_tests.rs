@@ -25,27 +25,27 @@ fn installed(number: u32, outcome: u32) -> TableAnswer {
 }
 
 /// The table of P1 to P6.
-fn page_table() -> Table {
+fn document_table() -> Table {
     let mut table = Table::new(1, 6);
     table.routes.extend(ORDER.map(route));
     table
 }
 
 #[test]
-fn page_examples() {
+fn document_examples() {
     let second = Second::sound();
-    let mut table = page_table();
+    let mut table = document_table();
     assert_eq!(table.image(), table_image());
     assert_eq!(second.table(&table_image()), Ok(table.clone()));
     for (shows, router, source, group, tier, name) in FLOWS {
         let [router, source, group] = [router, source, group].map(octets);
         let (nlri, attribute) = route(name);
         let flow = Flow { router: &router, source: &source, group: &group };
-        let page = Matched { number: 0, tier, nlri_size: nlri.len() as u32, attribute_size: attribute.len() as u32 };
+        let asked = Matched { number: 0, tier, nlri_size: nlri.len() as u32, attribute_size: attribute.len() as u32 };
         let mut output = [nlri, attribute].concat();
         output.resize(124, 7);
         let answer = second.on_table(&mut table, &TableCall::Match { flow, output: &[7; 124] });
-        assert_eq!(answer, TableAnswer::Matched(page, output), "{shows}");
+        assert_eq!(answer, TableAnswer::Matched(asked, output), "{shows}");
     }
     for (shows, attribute, number, outcome) in LABELS {
         let nlri = octets(&"030E RD 00 00 0A000002".replace("RD", RD));

@@ -1,0 +1,59 @@
+# What the tests share. A test that sources it stands in the repository's root and stops at its first failure.
+# shellcheck disable=SC2034 # what is unused here is used there
+set -euo pipefail
+cd "$(dirname "${BASH_SOURCE[0]}")/.."
+
+# What `make` builds.
+archive=target/staticlib/libmvpn.a
+listing=target/bin/mvpn_list
+
+fail() {
+    echo "${0##*/}: $*" >&2
+    exit 1
+}
+
+# needs PROGRAM...: fails where one is missing.
+needs() {
+    local program
+    for program; do
+        command -v "$program" >/dev/null || fail "needs $program, and there is none"
+    done
+}
+
+# built FILE...: fails where one is missing.
+built() {
+    local file
+    for file; do
+        [ -s "$file" ] || fail "needs $file: run \`make\` first"
+    done
+}
+
+# The last line of a test that found nothing wrong.
+as_expected() {
+    echo "${0##*/}: as expected"
+}
+
+# ---- compilers
+
+sanitizers=(-g '-fsanitize=address,undefined' -fno-sanitize-recover=all)
+warnings=(-Wall -Wextra -Werror -pedantic)
+
+# For a program that has its own flags for the header.
+c_elsewhere() {
+    "${CC:-gcc}" -std=c11 "${warnings[@]}" "$@"
+}
+
+c() {
+    c_elsewhere -Iinclude "$@"
+}
+
+cpp() {
+    "${CXX:-g++}" -std=c++17 "${warnings[@]}" -Iinclude "$@"
+}
+
+# ---- documents
+
+# blocks LANGUAGE FILE: the lines of the fenced blocks of that language.
+blocks() {
+    awk -v fence="\`\`\`$1" '$0 == fence { inside = 1; next } /^```/ { inside = 0 } inside' "$2"
+}
