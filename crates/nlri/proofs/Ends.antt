@@ -18,7 +18,7 @@ use Rattle.octets.proofs.Tests.{skips, either-false}
 use Rattle.nlri.specs.declared.layout.Layout.{Layout}
 use Rattle.nlri.specs.Family.{allowed, isOriginatorSize}
 use Rattle.nlri.specs.Reading.{addressEnd, addressField}
-use Rattle.nlri.specs.Inner.{layoutWith, originatorLast, nothingLast, lastFault, restFault, withGroup, flowSizes, flowEnd, flowEndFault, addressThen, groupFault, flowFault, flowRoute, intraAs, interAs, bodyWith, withSourceAs, sourceStart}
+use Rattle.nlri.specs.Inner.{layoutWith, originatorLast, nothingLast, lastFault, restFault, withGroup, flowSizes, flowEnd, flowEndFault, addressThen, groupFault, flowFault, flowRoute, intraAs, interAs, keyEnd, bodyWith, withSourceAs, sourceStart}
 use Rattle.nlri.proofs.Numbered.{number-goes, number-stops, last-number}
 
 -- what stands from `at` to the end
@@ -62,6 +62,16 @@ intra-number s = by-tests _ _ _
 pub inter-number : (s : List ℕ) → restFault (λ rest. eqb rest 0) 12 (length s) ≡ numberOf (interAs s)
 unfolding restFault interAs nothingLast layoutWith
 inter-number s = by-tests _ _ _
+
+-- what follows a key
+module _ (alone : Bool) (at n : ℕ) (within : at ≤ n) where
+  pub alone-number : alone ≡ true → restFault (λ rest. eqb rest 0) at n ≡ numberOf (keyEnd alone (layoutWith 4 n 0 0 (n - at) at))
+  unfolding keyEnd nothingLast layoutWith
+  alone-number t = rest-within _ at n within ∙ last-number _ _ ∙ ap numberOf (sym (pick-true _ _ _ t))
+
+  pub followed-number : alone ≡ false → restFault isOriginatorSize at n ≡ numberOf (keyEnd alone (layoutWith 4 n 0 0 (n - at) at))
+  unfolding keyEnd originatorLast layoutWith
+  followed-number f = rest-within _ at n within ∙ last-number _ _ ∙ ap numberOf (sym (pick-false _ _ _ f))
 
 -- what follows source and group
 module _ (type at n : ℕ) where

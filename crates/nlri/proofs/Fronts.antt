@@ -7,7 +7,7 @@ use native.Mathlib.Omega.{arith}
 use borrow.Author.Tests.{ltb-false}
 use lib.ListN.{length, getD}
 use lib.Dec.{eqb, ltb}
-use Rattle.octets.specs.Numbers.{TYPE}
+use Rattle.octets.specs.Numbers.{TYPE, KEY}
 use Rattle.octets.specs.Choice.{pick}
 use Rattle.octets.specs.Outcome.{Outcome, given, refused, andThen, onOutcome}
 use Rattle.octets.specs.Octets.{part}
@@ -18,8 +18,15 @@ use Rattle.nlri.specs.declared.layout.Layout.{Layout}
 use Rattle.nlri.specs.Bodies.{FieldKind, Row, row, bodies, onBody}
 use Rattle.nlri.specs.Reading.{Laid, fieldSize, sizesOf, laidWith, laidAt, noKey, keyField}
 use Rattle.nlri.specs.Layouts.{layoutOf, layoutAt}
-use Rattle.nlri.specs.Inner.{headerAt, leaf, bodyWith, unkeyedBody, anyBody, unkeyed, anyFront, keySize}
+use Rattle.nlri.specs.Inner.{headerAt, keyEnd, keyed, bodyWith, unkeyedBody, anyBody}
 use Rattle.nlri.proofs.Rows.{rowLayout, laidFor, rows}
+
+-- the layout at the front of octets by header and body: of an NLRI whose type has no key, and of any NLRI
+unfoldable pub unkeyed : ℕ → List ℕ → Outcome Layout
+unkeyed bits s = andThen (headerAt s) (λ h. unkeyedBody bits (h .0) (part s 2 (h .1)))
+
+unfoldable pub anyFront : ℕ → List ℕ → Outcome Layout
+anyFront bits s = andThen (headerAt s) (λ h. anyBody bits (h .0) (part s 2 (h .1)))
 
 and-on-body : {A B : Type 0} (table : List Row) (type n : ℕ) (f : List FieldKind → Outcome A) (next : A → Outcome B)
     → andThen (onBody table type (refused n) f) next ≡ onBody table type (refused n) (λ body. andThen (f body) next)
@@ -95,21 +102,13 @@ unkeyed-is bits s = front-rows noKey bits s ∙ and-cong _ _ _ (λ h e. unkeyed-
 
 -- the layout at the front, by the inner functions' definition
 pub front-is : (o : Outcome Layout) (bits : ℕ) (s : List ℕ) → o ≡ anyFront bits s → o ≡ layoutAt bits s
-unfolding anyFront anyBody leaf layoutAt laidAt
+unfolding anyFront anyBody keyed keyEnd pick layoutAt laidAt
 front-is o bits s e = e ∙ sym (front-rows (keyField bits) bits s ∙ and-cong _ _ _ (λ h e. rows (keyField bits) bits (part s 2 (h .1)) (h .0)))
 
-pub key-is : (o : Outcome ℕ) (bits : ℕ) (s : List ℕ) → o ≡ keySize bits s → o ≡ keyField bits s
-unfolding keySize keyField layoutOf
-key-is o bits s e = e ∙ ap (onOutcome _ _) (sym (unkeyed-is bits s)) ∙ on-mapped _ _ _ _
-
-pub unkeyed-within : (bits : ℕ) (s : List ℕ) (l : Layout) → unkeyed bits s ≡ given l → 2 + l .length ≤ length s
-unfolding layoutOf
-unkeyed-within bits s l e =
-    let w = passed _ _ _ (unkeyed-is bits s ∙ e) in
-    let same = given-same (w .second) in
-    let n : w .value .size ≡ l .length = ap (λ (x : Layout). x .length) same in
-    let h = laid-within noKey bits s (w .value) (w .first) in
-    omega arith
+-- a key by the layout of the NLRI that it is
+pub key-is : (bits : ℕ) (s : List ℕ) → onOutcome (λ fault. refused KEY) (λ l. pick (ltb 3 (l .«route_type»)) (refused KEY) (given (2 + l .length))) (unkeyed bits s) ≡ keyField bits s
+unfolding keyField layoutOf
+key-is bits s = ap (onOutcome _ _) (sym (unkeyed-is bits s)) ∙ on-mapped _ _ _ _
 
 pub key-within : (bits : ℕ) (s : List ℕ) (k : ℕ) → keyField bits s ≡ given k → (2 ≤ k) × (k ≤ length s)
 unfolding keyField

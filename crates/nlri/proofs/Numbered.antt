@@ -9,15 +9,12 @@ use Rattle.octets.specs.Outcome.{Outcome, given, refused, andThen, numberOf}
 use Rattle.octets.proofs.Tests.{tests}
 use Rattle.octets.proofs.RefusalNumbers.{Refuses, number}
 use Rattle.nlri.specs.declared.layout.Layout.{Layout}
-use Rattle.nlri.specs.declared.read.KeySize.{KeySize}
-use Rattle.nlri.specs.declared.read.KeySize.the-variants.{Octets, Fault}
 use Rattle.nlri.specs.declared.read.Header.{Header}
 use Rattle.nlri.specs.declared.read.Header.the-variants.{Typed, Unread}
-use Rattle.nlri.specs.Family.{isOriginatorSize}
 use Rattle.nlri.specs.Layouts.{layoutAt}
-use Rattle.nlri.specs.Inner.{keyOutcome, headerOutcome, originatorLast, lastFault, unkeyedBody, anyFront}
-use Rattle.nlri.proofs.Via.{octets-given, fault-given, typed-given}
-use Rattle.nlri.proofs.Fronts.{front-is}
+use Rattle.nlri.specs.Inner.{headerOutcome, lastFault, unkeyedBody}
+use Rattle.nlri.proofs.Via.{typed-given}
+use Rattle.nlri.proofs.Fronts.{anyFront, front-is}
 use Rattle.nlri.proofs.ReadNumbers.{ByReading, layout-refuses, unkeyed-refuses}
 
 pub number-goes : {A B : Type 0} (n : ℕ) (o : Outcome A) (a : A) (next : A → Outcome B) → o ≡ given a → n ≡ numberOf (next a) → n ≡ numberOf (andThen o next)
@@ -29,12 +26,6 @@ unfolding andThen numberOf
 number-stops n o next p = rw p
 
 -- by the case of an answer
-pub number-octets : {B : Type 0} (t : ℕ) (r : KeySize) (o : Outcome ℕ) (n : ℕ) (next : ℕ → Outcome B) → keyOutcome r ≡ o → r ≡ Octets n → t ≡ numberOf (next n) → t ≡ numberOf (andThen o next)
-number-octets t r o n next p q h = number-goes t o n next (octets-given r o n p q) h
-
-pub number-fault : {B : Type 0} (r : KeySize) (o : Outcome ℕ) (n : ℕ) (next : ℕ → Outcome B) → keyOutcome r ≡ o → r ≡ Fault n → n ≡ numberOf (andThen o next)
-number-fault r o n next p q = number-stops n o next (fault-given r o n p q)
-
 pub number-typed : {B : Type 0} (t : ℕ) (r : Header) (o : Outcome (ℕ × ℕ)) (a b : ℕ) (next : ℕ × ℕ → Outcome B) → headerOutcome r ≡ o → r ≡ Typed a b → t ≡ numberOf (next (a, b)) → t ≡ numberOf (andThen o next)
 number-typed t r o a b next p q h = number-goes t o (a, b) next (typed-given r o a b p q) h
 
@@ -48,14 +39,10 @@ unfolding lastFault pick numberOf
 last-number true a = refl
 last-number false a = refl
 
-pub number-originator : (t : ℕ) (l : Layout) → t ≡ lastFault (isOriginatorSize (l .originator)) → t ≡ numberOf (originatorLast l)
-unfolding originatorLast
-number-originator t l p = p ∙ last-number _ l
-
 pub front-number : (t bits : ℕ) (s : List ℕ) → t ≡ numberOf (anyFront bits s) → t ≡ numberOf (layoutAt bits s)
 front-number t bits s p = p ∙ ap numberOf (front-is (anyFront bits s) bits s refl)
 
-pub ruleset numbers = (tests, number-octets, number-fault, number-typed, number-unread, number-originator)
+pub ruleset numbers = (tests, number-typed, number-unread)
 
 -- a number other than DONE is a refusal's
 pub refused-of : {A : Type 0} (o : Outcome A) (n : ℕ) → n ≡ numberOf o → (n ≡ 0 → ⊥) → o ≡ refused n

@@ -56,9 +56,13 @@ no-key-refuses : (s : List ℕ) → Refuses ByReading (noKey s)
 unfolding noKey
 no-key-refuses s = number {n = KEY} (omega arith)
 
+pub key-refuses : (bits : ℕ) (s : List ℕ) → Refuses ByReading (keyField bits s)
+unfolding keyField
+key-refuses bits s = turned-refuses _ _ _ (omega arith) (λ laid. pick-refuses _ _ _ (number (omega arith)) value)
+
 front-refuses : (bits : ℕ) (s : List ℕ) → Refuses ByReading (laidAt bits s)
-unfolding laidAt keyField
-front-refuses bits s = laid-refuses (keyField bits) (λ k. turned-refuses _ _ _ (omega arith) (λ laid. pick-refuses _ _ _ (number (omega arith)) value)) bits s
+unfolding laidAt
+front-refuses bits s = laid-refuses (keyField bits) (key-refuses bits) bits s
 
 pub layout-refuses : (bits : ℕ) (s : List ℕ) → Refuses ByReading (layoutAt bits s)
 unfolding layoutAt

@@ -19,12 +19,16 @@ use Rattle.nlri.specs.declared.layout.Layout.{Layout}
 use Rattle.nlri.specs.Family.{familyBits, isOriginatorSize}
 use Rattle.nlri.specs.Reading.{fieldsOf, readNlri, isSPmsi}
 use Rattle.nlri.specs.Layouts.{layoutOf, layoutAt}
-use Rattle.nlri.specs.Inner.{layoutWith, originatorLast, lastFault, flowSizes, flowEnd, flowFault, flowRoute, bodyWith, anyBody, headerAt, anyFront, endsWith, single, ofSPmsi, sPmsiUnder}
-use Rattle.nlri.proofs.Fronts.{front-is, layout-octets}
+use Rattle.nlri.specs.Inner.{layoutWith, originatorLast, lastFault, flowSizes, flowEnd, flowFault, flowRoute, bodyWith, anyBody, headerAt, endsWith, single, sPmsiUnder}
+use Rattle.nlri.proofs.Fronts.{anyFront, front-is, layout-octets}
 use Rattle.nlri.proofs.Numbered.{refused-of, front-done, last-number}
 use Rattle.nlri.proofs.Ends.{flow-number}
 use Rattle.nlri.proofs.Shapes.{whole-part}
 use Rattle.nlri.proofs.Singles.{single-laid}
+
+-- what a single NLRI comes to is of type 3
+ofSPmsi : Outcome Layout → Bool
+ofSPmsi o = onOutcome (λ number. false) (λ l. eqb (l .«route_type») 3) o
 
 -- a test and then another
 by-both : (x a b : Bool) → (a ≡ false → x ≡ false) → (a ≡ true → x ≡ b) → x ≡ both a b

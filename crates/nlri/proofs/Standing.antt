@@ -5,26 +5,23 @@ use mathlib.Core.List.{List}
 use Prim.Native.Nat.{ℕ, _+_, _-_, _/_, _≤_, _<_}
 use native.Mathlib.Nat.{add-zero}
 use native.Mathlib.Omega.{arith}
-use borrow.Author.Tests.{ltb-false, eqb-true, ne-eqb}
+use borrow.Author.Tests.{ltb-false, eqb-true, ne-eqb, lt-ltb, le-ltb}
 use lib.ListN.{length, getD, drop, length-drop}
 use lib.Dec.{ltb}
 use lib.Seq.{getD-take, getD-drop, drop-drop}
 use Rattle.octets.specs.Choice.{pick, either}
-use Rattle.octets.specs.Numbers.{KEY}
-use Rattle.octets.specs.Outcome.{Outcome, given, refused, onOutcome, numberOf}
+use Rattle.octets.specs.Numbers.{DONE, KEY}
+use Rattle.octets.specs.Outcome.{Outcome, given, refused, onOutcome, andThen, numberOf}
 use Rattle.octets.specs.Octets.{part}
 use Rattle.octets.proofs.Lists.{part-length}
-use Rattle.octets.proofs.Tests.{picks, skips, goes, stops}
-use Rattle.octets.proofs.Outcomes.{on-mapped}
+use Rattle.octets.proofs.Tests.{picks, skips, goes, stops, on-given, on-refused}
 use Rattle.octets.proofs.Inversions.{never, given-otherwise, given-unless, passed, given-same, on-given-given}
 use Rattle.nlri.specs.declared.layout.Layout.{Layout}
-use Rattle.nlri.specs.declared.read.Header.{Header}
-use Rattle.nlri.specs.declared.read.Header.the-variants.{Typed, Unread}
 use Rattle.nlri.specs.Reading.{addressEnd, addressField, noKey, keyField}
 use Rattle.nlri.specs.Layouts.{layoutOf, layoutAt}
-use Rattle.nlri.specs.Inner.{headerOutcome, layoutWith, originatorLast, nothingLast, withGroup, flowSizes, flowEnd, flowRoute, intraAs, interAs, leaf, bodyWith, unkeyedBody, anyBody, headerAt, unkeyed, unkeyedHeader, anyFront, keySize, withSourceAs, sourceStart, sizeAt, flowLayout, leafLayout, layoutIn, FlowStands, Stands}
+use Rattle.nlri.specs.Inner.{layoutWith, originatorLast, nothingLast, withGroup, flowSizes, flowEnd, flowRoute, intraAs, interAs, keyEnd, keyed, bodyWith, unkeyedBody, anyBody, headerAt, keyHeader, withSourceAs, sourceStart, sizeAt, flowLayout, leafLayout, layoutIn, FlowStands, Stands}
 use Rattle.nlri.proofs.Sizes.{address-within}
-use Rattle.nlri.proofs.Fronts.{front-is, key-is, laid-within, key-within, unkeyed-is, unkeyed-within}
+use Rattle.nlri.proofs.Fronts.{unkeyed, anyFront, front-is, key-is, laid-within, key-within, unkeyed-is}
 use Rattle.nlri.proofs.Numbered.{refused-of, unkeyed-done, front-done}
 use Rattle.nlri.proofs.Shapes.{choose}
 
@@ -50,6 +47,11 @@ ends-kept : (l m : Layout) → nothingLast l ≡ given m → l ≡ m
 unfolding nothingLast
 ends-kept l m e = given-same (given-unless _ _ _ _ e .1)
 
+-- an originator follows a Leaf's key
+followed : (l : Layout) → keyEnd false l ≡ originatorLast l
+unfolding keyEnd pick
+followed l = refl
+
 last-is : (b : Bool) (l m : Layout) → pick b (originatorLast l) (nothingLast l) ≡ given m → l ≡ m
 unfolding pick
 last-is true l m e = originator-kept l m e
@@ -68,7 +70,7 @@ header-octets s type size e =
     let same = given-same (given-otherwise _ _ _ _ (given-otherwise _ _ _ _ e .1) .1) in
     (ap (λ (z : ℕ × ℕ). z .0) same, ap (λ (z : ℕ × ℕ). z .1) same)
 
-pub unkeyed-octets : (bits : ℕ) (s : List ℕ) (l : Layout) → unkeyed bits s ≡ given l → (l .«route_type» ≡ getD s 0 0) × (l .length ≡ getD s 1 0)
+unkeyed-octets : (bits : ℕ) (s : List ℕ) (l : Layout) → unkeyed bits s ≡ given l → (l .«route_type» ≡ getD s 0 0) × (l .length ≡ getD s 1 0)
 unfolding layoutOf
 unkeyed-octets bits s l e =
     let w = passed _ _ _ (unkeyed-is bits s ∙ e) in
@@ -99,14 +101,14 @@ module _ (s : List ℕ) (within : 2 + getD s 1 0 ≤ length s) where
       let p = given-unless _ _ _ _ (given-otherwise _ _ _ _ e .1) in
       sym (given-same (p .1)) ∙ ap₂ (λ (m o : ℕ). layoutWith 2 m 0 0 o 0) body-length (eqb-true _ _ (p .0))
 
-  leaf-laid : (bits : ℕ) (l : Layout) → leaf bits (part s 2 (getD s 1 0)) ≡ given l → ((4 ≤ length s) × (2 + getD s 3 0 ≤ getD s 1 0)) × (l ≡ leafLayout s)
-  unfolding leaf originatorLast leafLayout
+  leaf-laid : (bits : ℕ) (l : Layout) → keyed false bits (part s 2 (getD s 1 0)) ≡ given l → ((4 ≤ length s) × (2 + getD s 3 0 ≤ getD s 1 0)) × (l ≡ leafLayout s)
+  unfolding keyed originatorLast leafLayout
   leaf-laid bits l e =
       let p = passed _ _ _ e in
       let h = key-within bits _ (p .value) (p .first) in
       let n : length (part s 2 (getD s 1 0)) ≡ getD s 1 0 = body-length in
       let k : p .value ≡ 2 + getD s 3 0 = key-is-long bits _ (p .value) (p .first) ∙ ap (λ (x : ℕ). 2 + x) (octet 1 (omega arith)) in
-      ((omega arith, omega arith), sym (given-same (given-unless _ _ _ _ (p .second) .1)) ∙ ap₂ (λ (m x : ℕ). layoutWith 4 m 0 0 (m - x) x) n k)
+      ((omega arith, omega arith), sym (given-same (given-unless _ _ _ _ (sym (followed _) ∙ p .second) .1)) ∙ ap₂ (λ (m x : ℕ). layoutWith 4 m 0 0 (m - x) x) n k)
 
   module _ (bits type fixed at : ℕ) (start : at ≡ 2 + fixed) where
     flow-laid : (l : Layout) → flowRoute bits type fixed (part s 2 (getD s 1 0)) ≡ given l → FlowStands at s × (l ≡ flowLayout type at s)
@@ -210,40 +212,54 @@ pub start-least : (type : ℕ) → 3 ≤ sourceStart type
 unfolding sourceStart
 start-least type = least (withSourceAs type)
 
--- type and Length of an NLRI without a key, by its header and its body's number
+-- a key by its header and its body's number
 module _ (bits : ℕ) (s : List ℕ) where
-  pub unkeyed-unread : (r : Header) (n : ℕ) → headerOutcome r ≡ headerAt s → r ≡ Unread n → headerOutcome (Unread n) ≡ unkeyedHeader bits s
-  unfolding unkeyedHeader unkeyed headerOutcome
-  unkeyed-unread r n p q = stops _ n _ (sym (stops (headerAt s) n _ (sym p ∙ ap headerOutcome q)))
+  module _ (type size : ℕ) (h : headerAt s ≡ given (type, size)) where
+    pub key-other-type : 3 < type → refused KEY ≡ keyHeader bits s
+    unfolding keyHeader
+    key-other-type t = goes _ _ _ _ h (picks _ _ _ _ (lt-ltb 3 type t) refl)
 
-  module _ (type size : ℕ) (h : headerAt s ≡ given (type, size)) (body : List ℕ) (fault : ℕ) (b : body ≡ part s 2 size) (f : fault ≡ numberOf (unkeyedBody bits type body)) where
-    body-number : fault ≡ numberOf (unkeyedBody bits type (part s 2 size))
-    body-number = f ∙ ap (λ (x : List ℕ). numberOf (unkeyedBody bits type x)) b
+    module _ (typed : type ≤ 3) (body : List ℕ) (fault : ℕ) (b : body ≡ part s 2 size) (f : fault ≡ numberOf (unkeyedBody bits type body)) where
+      body-number : fault ≡ numberOf (unkeyedBody bits type (part s 2 size))
+      body-number = f ∙ ap (λ (x : List ℕ). numberOf (unkeyedBody bits type x)) b
 
-    unkeyed-by : unkeyed bits s ≡ unkeyedBody bits type (part s 2 size)
-    unfolding unkeyed
-    unkeyed-by = sym (goes _ _ _ _ h refl)
+      pub key-refused : (fault ≡ DONE → ⊥) → refused fault ≡ keyHeader bits s
+      unfolding keyHeader
+      key-refused no-fault = goes _ _ _ _ h (skips _ _ _ _ (le-ltb 3 type typed) (stops _ fault _ (refused-of _ fault body-number no-fault)))
 
-    pub unkeyed-refused : (fault ≡ 0 → ⊥) → headerOutcome (Unread fault) ≡ unkeyedHeader bits s
-    unfolding unkeyedHeader headerOutcome
-    unkeyed-refused no-fault = stops _ fault _ (unkeyed-by ∙ refused-of _ fault body-number no-fault)
+      pub key-typed : fault ≡ DONE → given (type, size) ≡ keyHeader bits s
+      unfolding keyHeader
+      key-typed q =
+          let r = unkeyed-done bits type (part s 2 size) (sym body-number ∙ q) in
+          goes _ _ _ _ h (skips _ _ _ _ (le-ltb 3 type typed) (goes _ _ (r .0) _ (r .1) refl))
 
-    pub unkeyed-typed : fault ≡ 0 → headerOutcome (Typed type size) ≡ unkeyedHeader bits s
-    unfolding unkeyedHeader headerOutcome
-    unkeyed-typed q =
-        let r = unkeyed-done bits type (part s 2 size) (sym body-number ∙ q) in
-        let o = unkeyed-octets bits s (r .0) (unkeyed-by ∙ r .1) in
-        let t = header-octets s type size h in
-        goes _ _ (r .0) _ (unkeyed-by ∙ r .1) (λ i. given ((sym (t .0) ∙ sym (o .0)) i, (sym (t .1) ∙ sym (o .1)) i))
+  -- the reading of a key, every refusal turned into KEY, is document 01's
+  key-by-header : onOutcome (λ fault. refused KEY) (λ h. given (2 + h .1)) (keyHeader bits s) ≡ keyField bits s
+  unfolding keyHeader unkeyed andThen onOutcome pick
+  key-by-header = go (headerAt s) (λ h. unkeyedBody bits (h .0) (part s 2 (h .1))) of-header ∙ key-is bits s
+    where
+      of-header : (h : ℕ × ℕ) (l : Layout) → headerAt s ≡ given h → unkeyedBody bits (h .0) (part s 2 (h .1)) ≡ given l → (l .«route_type» ≡ h .0) × (l .length ≡ h .1)
+      of-header h l e b =
+          let o = unkeyed-octets bits s l (sym (goes _ _ h _ e (sym b))) in
+          let t = header-octets s (h .0) (h .1) e in
+          (o .0 ∙ t .0, o .1 ∙ t .1)
 
-  pub unkeyed-header-within : (type size : ℕ) → unkeyedHeader bits s ≡ given (type, size) → 2 + size ≤ length s
-  unfolding unkeyedHeader
-  unkeyed-header-within type size e =
-      let p = passed _ _ _ e in
-      let n : p .value .length ≡ size = ap (λ (z : ℕ × ℕ). z .1) (given-same (p .second)) in
-      let h = unkeyed-within bits s (p .value) (p .first) in
-      omega arith
+      by-type : (b : Bool) (o : Outcome Layout) (h : ℕ × ℕ) → ltb 3 (h .0) ≡ b → ((l : Layout) → o ≡ given l → (l .«route_type» ≡ h .0) × (l .length ≡ h .1))
+          → onOutcome (λ fault. refused KEY) (λ (x : ℕ × ℕ). given (2 + x .1)) (pick b (refused KEY) (andThen o (λ l. given h)))
+          ≡ onOutcome (λ fault. refused KEY) (λ l. pick (ltb 3 (l .«route_type»)) (refused KEY) (given (2 + l .length))) o
+      by-type true (refused n) h t of = refl
+      by-type false (refused n) h t of = refl
+      by-type true (given l) h t of = rw (of l refl .0, t)
+      by-type false (given l) h t of = rw (of l refl .0, t, of l refl .1)
 
-pub key-by : (o : Outcome ℕ) (bits : ℕ) (s : List ℕ) → o ≡ onOutcome (λ fault. refused KEY) (λ h. pick (ltb 3 (h .0)) (refused KEY) (given (2 + h .1))) (unkeyedHeader bits s) → o ≡ keyField bits s
-unfolding unkeyedHeader keySize
-key-by o bits s e = key-is o bits s (e ∙ on-mapped _ _ _ _)
+      go : (o : Outcome (ℕ × ℕ)) (body : ℕ × ℕ → Outcome Layout) → ((h : ℕ × ℕ) (l : Layout) → o ≡ given h → body h ≡ given l → (l .«route_type» ≡ h .0) × (l .length ≡ h .1))
+          → onOutcome (λ fault. refused KEY) (λ h. given (2 + h .1)) (andThen o (λ h. pick (ltb 3 (h .0)) (refused KEY) (andThen (body h) (λ l. given h))))
+          ≡ onOutcome (λ fault. refused KEY) (λ l. pick (ltb 3 (l .«route_type»)) (refused KEY) (given (2 + l .length))) (andThen o body)
+      go (refused n) body of = refl
+      go (given h) body of = by-type (ltb 3 (h .0)) (body h) h refl (λ l. of h l refl)
+
+  pub key-given : (type size : ℕ) → keyHeader bits s ≡ given (type, size) → keyField bits s ≡ given (2 + size)
+  key-given type size e = sym key-by-header ∙ sym (on-given (given (2 + size)) _ _ _ _ e refl)
+
+  pub key-faulty : (n : ℕ) → keyHeader bits s ≡ refused n → keyField bits s ≡ refused KEY
+  key-faulty n e = sym key-by-header ∙ sym (on-refused (refused KEY) _ _ _ _ e refl)

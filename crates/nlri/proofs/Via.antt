@@ -1,7 +1,8 @@
 -- What a `match` on an answer tells: how a definition goes on after a step, by the case that the step's answer was.
-use mathlib.Core.Path.{_≡_, refl, sym, _∙_, ap}
-use mathlib.Core.Bool.{Bool, true, false, not, true≢false}
+use mathlib.Core.Path.{_≡_, sym, _∙_, ap}
+use mathlib.Core.Bool.{Bool, true, false, not}
 use Prim.Native.Nat.{ℕ}
+use borrow.Author.Tests.{not-true, not-false}
 use Rattle.octets.specs.Outcome.{Outcome, given, refused, onOutcome, andThen}
 use Rattle.octets.proofs.Tests.{tests, flags, goes, stops, on-given, on-refused}
 use Rattle.nlri.specs.declared.layout.Layout.{Layout}
@@ -10,14 +11,12 @@ use Rattle.nlri.specs.declared.layout.Reading.the-variants.{Nlri, Refuse
 use Rattle.nlri.specs.declared.address.AddressKind.{AddressKind}
 use Rattle.nlri.specs.declared.family.Family.{Family}
 use Rattle.nlri.specs.declared.family.Family.the-variants.{Known, Unknown}
-use Rattle.nlri.specs.declared.read.KeySize.{KeySize}
-use Rattle.nlri.specs.declared.read.KeySize.the-variants.{Octets, Fault}
 use Rattle.nlri.specs.declared.read.Header.{Header}
 use Rattle.nlri.specs.declared.read.Header.the-variants.{Typed, Unread}
 use Rattle.nlri.specs.declared.group.Group.{Group}
 use Rattle.nlri.specs.Groups.{groupOf}
 use Rattle.nlri.specs.Layouts.{readingOf}
-use Rattle.nlri.specs.Inner.{familyOutcome, keyOutcome, headerOutcome}
+use Rattle.nlri.specs.Inner.{familyOutcome, headerOutcome}
 
 -- the case of an answer, as the definition's outcome
 pub known-given : (r : Family) (o : Outcome ℕ) (kind : AddressKind) → familyOutcome r ≡ o → r ≡ Known kind → o ≡ given (kind .bits)
@@ -27,14 +26,6 @@ known-given r o kind p q = sym p ∙ ap familyOutcome q
 pub unknown-given : (r : Family) (o : Outcome ℕ) (n : ℕ) → familyOutcome r ≡ o → r ≡ Unknown n → o ≡ refused n
 unfolding familyOutcome
 unknown-given r o n p q = sym p ∙ ap familyOutcome q
-
-pub octets-given : (r : KeySize) (o : Outcome ℕ) (n : ℕ) → keyOutcome r ≡ o → r ≡ Octets n → o ≡ given n
-unfolding keyOutcome
-octets-given r o n p q = sym p ∙ ap keyOutcome q
-
-pub fault-given : (r : KeySize) (o : Outcome ℕ) (n : ℕ) → keyOutcome r ≡ o → r ≡ Fault n → o ≡ refused n
-unfolding keyOutcome
-fault-given r o n p q = sym p ∙ ap keyOutcome q
 
 pub typed-given : (r : Header) (o : Outcome (ℕ × ℕ)) (a b : ℕ) → headerOutcome r ≡ o → r ≡ Typed a b → o ≡ given (a, b)
 unfolding headerOutcome
@@ -46,12 +37,15 @@ known-goes t r o kind next p q h = goes t o (kind .bits) next (known-given r o k
 pub unknown-stops : {B : Type 0} (r : Family) (o : Outcome ℕ) (n : ℕ) (next : ℕ → Outcome B) → familyOutcome r ≡ o → r ≡ Unknown n → refused n ≡ andThen o next
 unknown-stops r o n next p q = stops o n next (unknown-given r o n p q)
 
+pub unread-given : (r : Header) (o : Outcome (ℕ × ℕ)) (n : ℕ) → headerOutcome r ≡ o → r ≡ Unread n → o ≡ refused n
+unfolding headerOutcome
+unread-given r o n p q = sym p ∙ ap headerOutcome q
+
 pub typed-goes : {B : Type 0} (t : Outcome B) (r : Header) (o : Outcome (ℕ × ℕ)) (a b : ℕ) (next : ℕ × ℕ → Outcome B) → headerOutcome r ≡ o → r ≡ Typed a b → t ≡ next (a, b) → t ≡ andThen o next
 typed-goes t r o a b next p q h = goes t o (a, b) next (typed-given r o a b p q) h
 
 pub unread-stops : {B : Type 0} (r : Header) (o : Outcome (ℕ × ℕ)) (n : ℕ) (next : ℕ × ℕ → Outcome B) → headerOutcome r ≡ o → r ≡ Unread n → refused n ≡ andThen o next
-unfolding headerOutcome
-unread-stops r o n next p q = stops o n next (sym p ∙ ap headerOutcome q)
+unread-stops r o n next p q = stops o n next (unread-given r o n p q)
 
 pub nlri-given : (r : Reading) (o : Outcome Layout) (l : Layout) → readingOf r ≡ o → r ≡ Nlri l → o ≡ given l
 unfolding readingOf
@@ -79,22 +73,7 @@ on-known t r o kind bad good p q h = on-given t o (kind .bits) bad good (known-g
 pub on-unknown : {B : Type 0} (t : B) (r : Family) (o : Outcome ℕ) (n : ℕ) (bad : ℕ → B) (good : ℕ → B) → familyOutcome r ≡ o → r ≡ Unknown n → t ≡ bad n → t ≡ onOutcome bad good o
 on-unknown t r o n bad good p q h = on-refused t o n bad good (unknown-given r o n p q) h
 
-pub on-typed : {B : Type 0} (t : B) (r : Header) (o : Outcome (ℕ × ℕ)) (a b : ℕ) (bad : ℕ → B) (good : ℕ × ℕ → B) → headerOutcome r ≡ o → r ≡ Typed a b → t ≡ good (a, b) → t ≡ onOutcome bad good o
-on-typed t r o a b bad good p q h = on-given t o (a, b) bad good (typed-given r o a b p q) h
-
-pub on-unread : {B : Type 0} (t : B) (r : Header) (o : Outcome (ℕ × ℕ)) (n : ℕ) (bad : ℕ → B) (good : ℕ × ℕ → B) → headerOutcome r ≡ o → r ≡ Unread n → t ≡ bad n → t ≡ onOutcome bad good o
-unfolding headerOutcome
-on-unread t r o n bad good p q h = on-refused t o n bad good (sym p ∙ ap headerOutcome q) h
-
 -- a test that the code made by its negation
-not-true : (b : Bool) → not b ≡ true → b ≡ false
-not-true true e = absurd (true≢false (sym e))
-not-true false e = refl
-
-not-false : (b : Bool) → not b ≡ false → b ≡ true
-not-false true e = refl
-not-false false e = absurd (true≢false e)
-
 pub flag-off : (flag b : Bool) → flag ≡ b → not flag ≡ true → b ≡ false
 flag-off flag b p q = sym p ∙ not-true flag q
 

@@ -13,8 +13,6 @@ use Rattle.octets.specs.declared.Span.{Span}
 use Rattle.nlri.specs.declared.layout.Layout.{Layout}
 use Rattle.nlri.specs.declared.family.Family.{Family}
 use Rattle.nlri.specs.declared.family.Family.the-variants.{Known, Unknown}
-use Rattle.nlri.specs.declared.read.KeySize.{KeySize}
-use Rattle.nlri.specs.declared.read.KeySize.the-variants.{Octets, Fault}
 use Rattle.nlri.specs.declared.read.Header.{Header}
 use Rattle.nlri.specs.declared.read.Header.the-variants.{Typed, Unread}
 use Rattle.nlri.specs.Family.{allowed, isOriginatorSize}
@@ -26,11 +24,6 @@ use Rattle.nlri.specs.Layouts.{layoutAt}
 unfoldable pub familyOutcome : Family → Outcome ℕ
 familyOutcome (Known kind) = given (kind .bits)
 familyOutcome (Unknown number) = refused number
-
--- the size of a key, or the refusal's number
-unfoldable pub keyOutcome : KeySize → Outcome ℕ
-keyOutcome (Octets size) = given size
-keyOutcome (Fault number) = refused number
 
 -- a route type and a Length, or the refusal's number
 unfoldable pub headerOutcome : Header → Outcome (ℕ × ℕ)
@@ -95,8 +88,13 @@ intraAs s = pick (ltb (length s) 8) (refused LENGTH) (originatorLast (layoutWith
 unfoldable pub interAs : List ℕ → Outcome Layout
 interAs s = pick (ltb (length s) 12) (refused LENGTH) (nothingLast (layoutWith 2 (length s) 0 0 (length s - 12) 0))
 
-unfoldable pub leaf : ℕ → List ℕ → Outcome Layout
-leaf bits s = andThen (keyField bits s) (λ size. originatorLast (layoutWith 4 (length s) 0 0 (length s - size) size))
+-- what follows a key: nothing where it stands alone, else the originator
+unfoldable pub keyEnd : (alone : Bool) → Layout → Outcome Layout
+keyEnd alone l = pick alone (nothingLast l) (originatorLast l)
+
+-- what begins with a key: a key alone, or a Leaf's body
+unfoldable pub keyed : (alone : Bool) → ℕ → List ℕ → Outcome Layout
+keyed alone bits s = andThen (keyField bits s) (λ size. keyEnd alone (layoutWith 4 (length s) 0 0 (length s - size) size))
 
 -- the body of a route type, where `keyed` is what a Leaf's comes to
 unfoldable pub bodyWith : Outcome Layout → (bits type : ℕ) → List ℕ → Outcome Layout
@@ -114,27 +112,18 @@ unfoldable pub unkeyedBody : (bits type : ℕ) → List ℕ → Outcome Layout
 unkeyedBody bits type s = bodyWith (refused KEY) bits type s
 
 unfoldable pub anyBody : (bits type : ℕ) → List ℕ → Outcome Layout
-anyBody bits type s = bodyWith (leaf bits s) bits type s
+anyBody bits type s = bodyWith (keyed false bits s) bits type s
 
 unfoldable pub headerAt : List ℕ → Outcome (ℕ × ℕ)
 headerAt s =
     pick (ltb (length s) 2) (refused SHORT)
     (pick (ltb (length s - 2) (getD s 1 0)) (refused SHORT) (given (getD s 0 0, getD s 1 0)))
 
-unfoldable pub unkeyed : ℕ → List ℕ → Outcome Layout
-unkeyed bits s = andThen (headerAt s) (λ h. unkeyedBody bits (h .0) (part s 2 (h .1)))
-
--- type and Length of an NLRI that has no key
-unfoldable pub unkeyedHeader : ℕ → List ℕ → Outcome (ℕ × ℕ)
-unkeyedHeader bits s = andThen (unkeyed bits s) (λ l. given (l .«route_type», l .length))
-
-unfoldable pub anyFront : ℕ → List ℕ → Outcome Layout
-anyFront bits s = andThen (headerAt s) (λ h. anyBody bits (h .0) (part s 2 (h .1)))
-
--- a key's size by the layout of the NLRI that it is
-unfoldable pub keySize : ℕ → List ℕ → Outcome ℕ
-keySize bits s =
-    onOutcome (λ fault. refused KEY) (λ l. pick (ltb 3 (l .«route_type»)) (refused KEY) (given (2 + l .length))) (unkeyed bits s)
+-- type and Length of a key: of a whole NLRI of type 1, 2 or 3
+unfoldable pub keyHeader : ℕ → List ℕ → Outcome (ℕ × ℕ)
+keyHeader bits s =
+    andThen (headerAt s)
+    (λ h. pick (ltb 3 (h .0)) (refused KEY) (andThen (unkeyedBody bits (h .0) (part s 2 (h .1))) (λ l. given h)))
 
 -- whether a source AS stands behind the route distinguisher
 unfoldable pub withSourceAs : ℕ → Bool
@@ -214,11 +203,7 @@ endsWith l s = pick (eqb (length s - 2) (l .length)) (given l) (refused LENGTH)
 unfoldable pub single : ℕ → List ℕ → Outcome Layout
 single bits s = andThen (layoutAt bits s) (λ l. endsWith l s)
 
--- what a single NLRI comes to is of type 3
-unfoldable pub ofSPmsi : Outcome Layout → Bool
-ofSPmsi o = onOutcome (λ number. false) (λ l. eqb (l .«route_type») 3) o
-
--- the same by the octets: the header, then source, group and what remains
+-- a single NLRI of type 3 by its octets: the header, then source, group and what remains
 unfoldable pub sPmsiUnder : ℕ → List ℕ → Bool
 sPmsiUnder bits s =
     both (leb 10 (length s))

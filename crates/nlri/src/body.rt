@@ -55,7 +55,7 @@ pub(crate) fn originator_fault(at: usize, size: usize) -> u32
 }
 
 // Nothing stands from `at` on.
-fn end_fault(at: usize, size: usize) -> u32
+pub(crate) fn end_fault(at: usize, size: usize) -> u32
     ensures { λ r. ⌜ r ≡ restFault (λ rest. eqb rest 0) at size ⌝ }
 {
     if size == at {

@@ -3,9 +3,9 @@ ghost use mathlib.Core.Path.{_≡_};
 ghost use Prim.Native.Nat.{_+_, _≤_};
 ghost use lib.ListN.{length, getD};
 ghost use Rattle.octets.specs.Outcome.{numberOf};
-ghost use Rattle.nlri.specs.Reading.{keyField, isSPmsi};
+ghost use Rattle.nlri.specs.Reading.{isSPmsi};
 ghost use Rattle.nlri.specs.Layouts.{readingOf, layoutAt, layoutSingle};
-ghost use Rattle.nlri.specs.Inner.{keyOutcome, headerOutcome, headerAt, unkeyedHeader, leaf, anyBody, layoutWith, flowLayout, leafLayout, layoutIn, FlowStands, Stands, endsWith, single, sPmsiUnder};
+ghost use Rattle.nlri.specs.Inner.{headerOutcome, headerAt, keyHeader, keyed, anyBody, layoutWith, flowLayout, leafLayout, layoutIn, FlowStands, Stands, endsWith, single, sPmsiUnder};
 use crate::address::AddressKind;
 use crate::address::RouteDistinguisher;
 use crate::body;
@@ -29,12 +29,6 @@ pub(crate) enum Header {
     Unread(u32),
 }
 
-// The size of a key in octets, or the refusal's number.
-pub(crate) enum KeySize {
-    Octets(usize),
-    Fault(u32),
-}
-
 fn read_header(s: &[u8]) -> Header
     ensures { λ r. ⌜ headerOutcome r ≡ headerAt (now (s .entry)) ⌝ }
 {
@@ -48,13 +42,16 @@ fn read_header(s: &[u8]) -> Header
     Header::Typed(s[0] as usize, length)
 }
 
-// Type and Length of the NLRI at the front of `s`, if its type has no key.
-fn read_unkeyed(kind: AddressKind, s: &[u8]) -> Header
-    ensures { λ r. ⌜ headerOutcome r ≡ unkeyedHeader (kind .bits) (now (s .entry)) ⌝ }
+// The key at the front of `s`, a whole NLRI of type 1, 2 or 3: its type and Length, or a number that refuses it.
+fn read_key(kind: AddressKind, s: &[u8]) -> Header
+    ensures { λ r. ⌜ headerOutcome r ≡ keyHeader (kind .bits) (now (s .entry)) ⌝ }
 {
     match read_header(s) {
         Header::Unread(number) => Header::Unread(number),
         Header::Typed(route_type, length) => {
+            if RouteType::S_PMSI < route_type {
+                return Header::Unread(KEY);
+            }
             let body = octets::parts::between(s, HEADER, length);
             let fault = body::unkeyed_body_fault(kind, route_type, body);
             if fault != DONE {
@@ -65,26 +62,19 @@ fn read_unkeyed(kind: AddressKind, s: &[u8]) -> Header
     }
 }
 
-// The size of the key at the front of `s`: a whole NLRI of type 1, 2 or 3. Any fault inside it is KEY.
-fn read_key(kind: AddressKind, s: &[u8]) -> KeySize
-    ensures { λ r. ⌜ keyOutcome r ≡ keyField (kind .bits) (now (s .entry)) ⌝ }
+// What begins with a key: a key alone, or a Leaf's body, where an originator follows the key. Any fault inside the key is KEY.
+// Reading and writing judge a key by this.
+pub(crate) fn keyed_fault(kind: AddressKind, alone: bool, s: &[u8]) -> u32
+    ensures { λ r. ⌜ r ≡ numberOf (keyed alone (kind .bits) (now (s .entry))) ⌝ }
 {
-    let Header::Typed(route_type, length) = read_unkeyed(kind, s) else {
-        return KeySize::Fault(KEY);
+    // a part handed on, so that the slice reaches this function in registers
+    let Header::Typed(_, length) = read_key(kind, &s[0..]) else {
+        return KEY;
     };
-    if RouteType::S_PMSI < route_type {
-        return KeySize::Fault(KEY);
+    if alone {
+        return body::end_fault(HEADER + length, s.len());
     }
-    KeySize::Octets(HEADER + length)
-}
-
-fn leaf_fault(kind: AddressKind, s: &[u8]) -> u32
-    ensures { λ r. ⌜ r ≡ numberOf (leaf (kind .bits) (now (s .entry))) ⌝ }
-{
-    match read_key(kind, s) {
-        KeySize::Fault(number) => number,
-        KeySize::Octets(key) => body::originator_fault(key, s.len()),
-    }
+    body::originator_fault(HEADER + length, s.len())
 }
 
 // A body of any route type.
@@ -92,7 +82,7 @@ fn body_fault(kind: AddressKind, route_type: usize, s: &[u8]) -> u32
     ensures { λ r. ⌜ r ≡ numberOf (anyBody (kind .bits) «route_type» (now (s .entry))) ⌝ }
 {
     if route_type == RouteType::LEAF {
-        return leaf_fault(kind, s);
+        return keyed_fault(kind, false, s);
     }
     body::unkeyed_body_fault(kind, route_type, s)
 }

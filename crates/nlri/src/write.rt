@@ -84,20 +84,11 @@ fn key_fits(kind: AddressKind, route_type: usize, key: &[u8]) -> bool
     true
 }
 
-// Where type and Length are those of a single NLRI of type 1, 2 or 3, the judge of any NLRI at the front decides.
+// Octets that are exactly one key, judged as a Leaf's key is when it is read.
 fn is_key(kind: AddressKind, key: &[u8]) -> bool
     ensures { λ r. ⌜ r ≡ isKey (kind .bits) (now (key .entry)) ⌝ }
 {
-    if key.len() < HEADER {
-        return false;
-    }
-    if RouteType::S_PMSI < key[0] as usize {
-        return false;
-    }
-    if key.len() - HEADER != key[1] as usize {
-        return false;
-    }
-    read::front_fault(kind, key) == DONE
+    read::keyed_fault(kind, true, key) == DONE
 }
 
 // DONE, or the first of TYPE, WIDTH and KEY.

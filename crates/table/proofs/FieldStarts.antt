@@ -18,10 +18,10 @@ use Rattle.nlri.specs.declared.layout.Layout.{Layout}
 use Rattle.nlri.specs.Fields.{Fields}
 use Rattle.nlri.specs.Reading.{addressEnd, addressField, keyField, laidAt, laidSingle}
 use Rattle.nlri.specs.Layouts.{layoutOf, layoutAt, layoutSingle}
-use Rattle.nlri.specs.Inner.{layoutWith, originatorLast, withGroup, flowSizes, flowEnd, flowRoute, bodyWith, headerAt, anyBody, anyFront, withSourceAs, sourceStart, distinguisherAt, sourceAsAt, fieldsAt}
+use Rattle.nlri.specs.Inner.{layoutWith, originatorLast, withGroup, flowSizes, flowEnd, flowRoute, bodyWith, headerAt, anyBody, withSourceAs, sourceStart, distinguisherAt, sourceAsAt, fieldsAt}
 use Rattle.nlri.proofs.FieldRecords.{fields-same}
 use Rattle.nlri.proofs.Lengths.{lengths}
-use Rattle.nlri.proofs.Fronts.{laid-within, front-is}
+use Rattle.nlri.proofs.Fronts.{anyFront, laid-within, front-is}
 use Rattle.nlri.proofs.Singles.{read-by-layout, read-refused}
 use Rattle.routes.specs.Arguments.{readSPmsi}
 use Rattle.table.specs.Scanning.{sourceSize, groupSize, originatorStart, standing, Bounded}

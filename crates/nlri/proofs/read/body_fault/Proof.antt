@@ -8,12 +8,12 @@ use borrow.Author.Needs.{needs}
 use Rattle.nlri.proofs.read.body_fault.Statement.{statement}
 use Rattle.nlri.proofs.read.body_fault.Tie as tie
 
-leaf-fault-requires : tie.Need-leaf-fault-requires
-leaf-fault-requires c κs = search needs
+keyed-fault-requires : tie.Need-keyed-fault-requires
+keyed-fault-requires c κs = search needs
 
 returns : tie.Need-returns
 unfolding anyBody bodyWith pick
-returns c = c .leaf-fault .ensures ∙ ap numberOf (of-type _ _ _ _ 4 _ (c .before .if1 .taken) refl)
+returns c = c .keyed-fault .ensures ∙ ap numberOf (of-type _ _ _ _ 4 _ (c .before .if1 .taken) refl)
 
 unkeyed-body-fault-requires : tie.Need-unkeyed-body-fault-requires
 unkeyed-body-fault-requires c κs = search needs
@@ -24,4 +24,4 @@ returns-2 c = c .unkeyed-body-fault .ensures ∙ ap numberOf (of-other _ _ _ _ _
 
 pub body-fault-spec : {M : Type 1} → statement M
 body-fault-spec =
-    tie.close (tie.spec leaf-fault-requires returns unkeyed-body-fault-requires returns-2)
+    tie.close (tie.spec keyed-fault-requires returns unkeyed-body-fault-requires returns-2)

@@ -6,8 +6,9 @@ use denote.Ref.{now}
 use lib.ListN.{length}
 use mathlib.Core.List.{List}
 use Rattle.octets.specs.Outcome.{numberOf}
-use Rattle.nlri.specs.Inner.{headerOutcome, headerAt, anyBody, anyFront}
+use Rattle.nlri.specs.Inner.{headerOutcome, headerAt, anyBody}
 use Rattle.nlri.proofs.Sizes.{header-within}
+use Rattle.nlri.proofs.Fronts.{anyFront}
 use Rattle.octets.proofs.Lists.{lent-part, lent-whole}
 use Rattle.nlri.proofs.Via.{typed-given}
 use Rattle.nlri.proofs.Numbered.{numbers, front-number}

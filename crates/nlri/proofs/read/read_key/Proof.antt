@@ -1,45 +1,60 @@
 -- `nlri::read::read_key` meets its contract.
-use native.Mathlib.Omega.{arith}
-use Rattle.octets.proofs.Tests.{tests}
-use Rattle.nlri.specs.Inner.{keyOutcome}
-use Rattle.nlri.proofs.Via.{typed-given, on-typed, on-unread}
-use Rattle.nlri.proofs.Standing.{key-by, unkeyed-header-within}
+use mathlib.Core.Path.{_≡_}
+use denote.Ref.{now}
+use Rattle.octets.specs.Outcome.{given}
+use Rattle.nlri.specs.Inner.{headerOutcome, headerAt, keyHeader}
+use Rattle.nlri.proofs.Sizes.{header-within}
+use Rattle.nlri.proofs.Via.{typed-given, unread-stops}
+use Rattle.nlri.proofs.Standing.{key-other-type, key-refused, key-typed}
 use borrow.Author.Needs.{needs}
 use Rattle.nlri.proofs.read.read_key.Statement.{statement}
 use Rattle.nlri.proofs.read.read_key.Tie as tie
 
-read-unkeyed-requires : tie.Need-read-unkeyed-requires
-read-unkeyed-requires c κs = search needs
+read-header-requires : tie.Need-read-header-requires
+read-header-requires c κs = search needs
+
+enum-known-number : tie.Need-enum-known-number
+enum-known-number c = search needs
 
 enum-known-route-type : tie.Need-enum-known-route-type
 enum-known-route-type c = search needs
 
-enum-told : tie.Need-enum-told
-enum-told c = search needs
+-- the header that was read
+headed : (c : tie.After-known-told2) → headerAt (now (c .before .before .before .before .before .args .s)) ≡ given (c .before .route-type .given .0 .0, c .before .route-type .given .0 .1 .0)
+headed c = typed-given _ _ _ _ (c .before .before .before .read-header .ensures) (c .before .route-type .given .1)
 
 returns : tie.Need-returns
-unfolding keyOutcome
-returns c = search (tests, key-by, on-typed, on-unread)
+unfolding headerOutcome
+returns c = key-other-type _ _ _ _ (headed (c .before)) (c .if1 .taken)
+
+between-requires : tie.Need-between-requires
+between-requires c κs = header-within _ _ _ (headed (c .before))
+
+unkeyed-body-fault-requires : tie.Need-unkeyed-body-fault-requires
+unkeyed-body-fault-requires c κs = search needs
 
 returns-2 : tie.Need-returns-2
-unfolding keyOutcome
-returns-2 c = search (tests, key-by, on-typed, on-unread)
-
-add-t7 : tie.Need-add-t7
-add-t7 c = let h = unkeyed-header-within _ _ _ _ (typed-given _ _ _ _ (c .before .before .before .before .read-unkeyed .ensures) (c .before .before .route-type .given .1)) in omega arith
+unfolding headerOutcome
+returns-2 c = key-refused _ _ _ _ (headed (c .before .before .before .before)) (c .before .before .before .if1 .left) _ _ (c .before .before .between .ensures) (c .before .unkeyed-body-fault .ensures) (c .if2 .taken)
 
 returns-3 : tie.Need-returns-3
-unfolding keyOutcome
-returns-3 c = search (tests, key-by, on-typed, on-unread)
+unfolding headerOutcome keyHeader
+returns-3 c = unread-stops _ _ _ _ (c .before .before .before .read-header .ensures) (c .before .number .given .1)
+
+returns-4 : tie.Need-returns-4
+unfolding headerOutcome
+returns-4 c = key-typed _ _ _ _ (headed (c .before .before .before .before)) (c .before .before .before .if1 .left) _ _ (c .before .before .between .ensures) (c .before .unkeyed-body-fault .ensures) (c .if2 .left)
 
 pub read-key-spec : {M : Type 1} → statement M
 read-key-spec =
     tie.close
     (tie.spec
-    read-unkeyed-requires
+    read-header-requires
+    enum-known-number
     enum-known-route-type
-    enum-told
     returns
+    between-requires
+    unkeyed-body-fault-requires
     returns-2
-    add-t7
-    returns-3)
+    returns-3
+    returns-4)
