@@ -3,7 +3,7 @@ use Prim.Native.Nat.{ℕ}
 use mathlib.Core.Path.{_≡_, refl, ap, subst, _∙_}
 use mathlib.Core.Bool.{true}
 use mathlib.Core.List.{List}
-use Rattle.octets.specs.Outcome.{Outcome, given, refused, onOutcome}
+use Rattle.octets.specs.Outcome.{Outcome, given, refused}
 use Rattle.octets.proofs.Inversions.{given-same, passed}
 use Rattle.octets.specs.Lists.{Among, first}
 use Rattle.routes.specs.Route.{Route, nlriOf}
@@ -12,6 +12,8 @@ use Rattle.routes.specs.Place.{acceptable}
 use Rattle.routes.specs.Call.{Call, install, withdraw, match, owner, originatorOf, ownerOf, Act, enter, leave, ask, argued}
 use Rattle.routes.specs.Run.{namedIn}
 use Rattle.routes.proofs.Bounds.{route-accepted, route-read}
+use Rattle.routes.proofs.ArgumentRules.{nlri-accepted}
+use Rattle.routes.proofs.Named.{named-in}
 use Rattle.routes.proofs.Ownership.{route-acceptable, owner-read, match-owner, query-router}
 
 -- what is known of an act that a router's call comes to
@@ -27,14 +29,16 @@ pub record Owned (afi : ℕ) (c : Call) (act : Act) : Type 0 where
   pub known : Known afi c router act
 
 pub owned : (afi : ℕ) (c : Call) (act : Act) → argued afi c ≡ given act → Owned afi c act
-unfolding argued ownerOf namedIn onOutcome nlriOf
+unfolding argued ownerOf nlriOf
 owned afi (install nlri attribute) act e =
     let p = passed _ _ _ e in
     let a = route-accepted afi nlri attribute (p .value) (p .first) .0 in
     let own : originatorOf afi nlri ≡ owner (a .fields .originator) = owner-read afi nlri (a .fields) (a .read) in
     let is : nlriOf (p .value) ≡ nlri = ap nlriOf (route-read afi nlri attribute (p .value) (p .first)) in
+    let named : Among (nlriOf (p .value)) (namedIn afi (install nlri attribute)) =
+    rw is (named-in afi nlri attribute (nlri-accepted afi nlri (a .fields) (a .read))) in
     subst (Owned afi (install nlri attribute)) (given-same (p .second))
-    (record { router = a .fields .originator; own = own; known = enters (route-acceptable afi nlri attribute (p .value) (p .first)) (ap (originatorOf afi) is ∙ own) (rw (a .read) (first is)) })
+    (record { router = a .fields .originator; own = own; known = enters (route-acceptable afi nlri attribute (p .value) (p .first)) (ap (originatorOf afi) is ∙ own) named })
 owned afi (withdraw nlri) act e =
     let p = passed _ _ _ e in
     let own : originatorOf afi nlri ≡ owner (p .value .originator) = owner-read afi nlri (p .value) (p .first) in

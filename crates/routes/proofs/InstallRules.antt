@@ -22,7 +22,7 @@ use Rattle.routes.specs.Table.{imageOf, afiIn, placesIn, routesOf, sound
 use Rattle.routes.specs.Answers.{NEW, REPLACED, installedOf}
 use Rattle.routes.specs.Calls.{entering, installOutcome, installOf}
 use Rattle.routes.specs.Images.{Holdable, TableOf}
-use Rattle.routes.specs.CallRules.{IsHeld, HeldNow, Installable, Full, Free, InstallRefusal, installUnsound, badRoute, noRoom, InstallDone, replaces, enters, InstallRule}
+use Rattle.routes.specs.CallRules.{IsHeld, HeldNow, Installable, Full, Free, InstallRefusal, installUnsound, badRoute, noRoom, InstallDone, isReplaced, isNew, InstallRule}
 use Rattle.routes.proofs.AnswerNumbers.{refused-number, given-number, done-given}
 use Rattle.routes.proofs.ArgumentRules.{argumentRule}
 use Rattle.routes.proofs.Bounds.{route-read, read-acceptable}
@@ -33,17 +33,17 @@ use Rattle.routes.proofs.Lookups.{absent-holds, holds-absent, held-hold
 
 -- a route that is acceptable enters a table
 module _ (t : List ℕ) (r : Route) where
-  enters-held : IsHeld (nlriOf r) (routesOf t) → entering (placesIn t) (routesOf t) r ≡ given REPLACED
+  entering-held : IsHeld (nlriOf r) (routesOf t) → entering (placesIn t) (routesOf t) r ≡ given REPLACED
   unfolding entering
-  enters-held h = pick-true _ _ _ (holds-held (nlriOf r) (routesOf t) (h .0) (h .1))
+  entering-held h = pick-true _ _ _ (holds-held (nlriOf r) (routesOf t) (h .0) (h .1))
 
-  enters-free : Free t (nlriOf r) → entering (placesIn t) (routesOf t) r ≡ given NEW
+  entering-free : Free t (nlriOf r) → entering (placesIn t) (routesOf t) r ≡ given NEW
   unfolding entering
-  enters-free h = pick-false _ _ _ (holds-absent (nlriOf r) (routesOf t) (h .missing)) ∙ pick-true _ _ _ (lt-ltb (length (routesOf t)) (placesIn t) (h .place))
+  entering-free h = pick-false _ _ _ (holds-absent (nlriOf r) (routesOf t) (h .missing)) ∙ pick-true _ _ _ (lt-ltb (length (routesOf t)) (placesIn t) (h .place))
 
-  enters-full : Full t (nlriOf r) → entering (placesIn t) (routesOf t) r ≡ refused ROOM
+  entering-full : Full t (nlriOf r) → entering (placesIn t) (routesOf t) r ≡ refused ROOM
   unfolding entering
-  enters-full h = pick-false _ _ _ (holds-absent (nlriOf r) (routesOf t) (h .missing)) ∙ pick-false _ _ _ (le-ltb (length (routesOf t)) (placesIn t) (omega (arith, h .places)))
+  entering-full h = pick-false _ _ _ (holds-absent (nlriOf r) (routesOf t) (h .missing)) ∙ pick-false _ _ _ (le-ltb (length (routesOf t)) (placesIn t) (omega (arith, h .places)))
 
   entered : (o : ℕ) → entering (placesIn t) (routesOf t) r ≡ given o → (IsHeld (nlriOf r) (routesOf t) × (o ≡ REPLACED)) ⊎ (Free t (nlriOf r) × (o ≡ NEW))
   unfolding entering
@@ -108,7 +108,7 @@ module _ (t nlri attribute : List ℕ) where
   unfolding installOutcome nlriOf
   refuses (installUnsound h) = pick-false _ _ _ h
   refuses (badRoute s r) = pick-true _ _ _ s ∙ sym (stops _ _ _ (argumentRule .refusedRoute (afiIn t) nlri attribute _ .1 r))
-  refuses (noRoom a full) = entering-decides a ∙ enters-full t (route nlri attribute) full
+  refuses (noRoom a full) = entering-decides a ∙ entering-full t (route nlri attribute) full
 
   not-done : {n : ℕ} → InstallRefusal t nlri attribute n → n ≢ DONE
   not-done (installUnsound h) e = omega arith
@@ -117,11 +117,11 @@ module _ (t nlri attribute : List ℕ) where
 
   gives-replaced : Installable t nlri attribute → IsHeld nlri (routesOf t) → installOutcome t nlri attribute ≡ given REPLACED
   unfolding nlriOf
-  gives-replaced a h = entering-decides a ∙ enters-held t (route nlri attribute) h
+  gives-replaced a h = entering-decides a ∙ entering-held t (route nlri attribute) h
 
   gives-new : Installable t nlri attribute → Free t nlri → installOutcome t nlri attribute ≡ given NEW
   unfolding nlriOf
-  gives-new a h = entering-decides a ∙ enters-free t (route nlri attribute) h
+  gives-new a h = entering-decides a ∙ entering-free t (route nlri attribute) h
 
   -- the answer by the outcome
   number : installOf t nlri attribute .answer .number ≡ numberOf (installOutcome t nlri attribute)
@@ -144,11 +144,11 @@ module _ (t nlri attribute : List ℕ) where
   install-done-by : (o : ℕ) → installOutcome t nlri attribute ≡ given o → InstallDone t nlri attribute o
   install-done-by o e =
       let p = install-given o e in
-      ⊎-elim (λ yes. subst (InstallDone t nlri attribute) (sym (yes .1)) (replaces (p .asked) (yes .0))) (λ no. subst (InstallDone t nlri attribute) (sym (no .1)) (enters (p .asked) (no .0))) (p .found)
+      ⊎-elim (λ yes. subst (InstallDone t nlri attribute) (sym (yes .1)) (isReplaced (p .asked) (yes .0))) (λ no. subst (InstallDone t nlri attribute) (sym (no .1)) (isNew (p .asked) (no .0))) (p .found)
 
   done-answer : {o : ℕ} → InstallDone t nlri attribute o → installOf t nlri attribute .answer ≡ record { number = DONE; outcome = o }
-  done-answer (replaces a h) = answer-given REPLACED (gives-replaced a h)
-  done-answer (enters a h) = answer-given NEW (gives-new a h)
+  done-answer (isReplaced a h) = answer-given REPLACED (gives-replaced a h)
+  done-answer (isNew a h) = answer-given NEW (gives-new a h)
 
   -- the octets by the outcome
   pub install-octets : (o : ℕ) → installOutcome t nlri attribute ≡ given o → installOf t nlri attribute .octets ≡ imageOf (afiIn t) (placesIn t) (inserted (route nlri attribute) (routesOf t))

@@ -11,9 +11,14 @@ use Rattle.routes.specs.ArgumentRules.{SPmsi}
 use Rattle.routes.specs.Call.{Call, install, withdraw, match}
 use Rattle.routes.specs.Run.{namedIn, namedBy}
 use Rattle.routes.proofs.ArgumentRules.{nlri-accepted, nlri-accepts}
-use Rattle.routes.proofs.Distincts.{nowhere, among-cases, among-right, among-either}
+use Rattle.routes.proofs.Distincts.{nowhere, among-cases, among-left, among-right, among-either}
 
 module _ (afi : ℕ) (nlri : List ℕ) where
+  -- an install of a well-formed S-PMSI NLRI names it, whatever its attribute
+  pub named-in : (attribute : List ℕ) → SPmsi afi nlri → Among nlri (namedIn afi (install nlri attribute))
+  unfolding namedIn onOutcome
+  named-in attribute s = rw (nlri-accepts afi nlri s) (first refl)
+
   -- an install of the NLRI, and that it is well-formed
   abbrev Named : List Call → Type 0
   Named calls = SPmsi afi nlri × ((attribute : List ℕ) × Among (install nlri attribute) calls)
@@ -35,8 +40,8 @@ module _ (afi : ℕ) (nlri : List ℕ) where
       ⊎-elim (λ a. named-first c cs a) (λ b. let p = named-install cs b in (p .0, (p .1 .0, later (p .1 .1)))) (among-either (namedIn afi c) m)
 
   install-named : (s : SPmsi afi nlri) (attribute : List ℕ) {calls : List Call} → Among (install nlri attribute) calls → Among nlri (namedBy afi calls)
-  unfolding namedBy namedIn onOutcome
-  install-named s attribute (first {ys = cs} e) = rw (← e, nlri-accepts afi nlri s) (first refl)
+  unfolding namedBy
+  install-named s attribute (first {ys = cs} e) = rw (← e) (among-left (namedBy afi cs) (named-in attribute s))
   install-named s attribute (later {y = c} m) = among-right (namedIn afi c) (install-named s attribute m)
 
   pub named-exactly : (calls : List Call) → Among nlri (namedBy afi calls) ↔ (SPmsi afi nlri × ((attribute : List ℕ) × Among (install nlri attribute) calls))

@@ -74,8 +74,8 @@ pub data InstallRefusal (t nlri attribute : List ℕ) : ℕ → Type 0 where
 
 -- what an install that is done answers besides DONE: "replaced" where the NLRI is held, "new" where it is not and a place is free
 pub data InstallDone (t nlri attribute : List ℕ) : (outcome : ℕ) → Type 0 where
-  replaces : Installable t nlri attribute → IsHeld nlri (routesOf t) → InstallDone t nlri attribute REPLACED
-  enters : Installable t nlri attribute → Free t nlri → InstallDone t nlri attribute NEW
+  isReplaced : Installable t nlri attribute → IsHeld nlri (routesOf t) → InstallDone t nlri attribute REPLACED
+  isNew : Installable t nlri attribute → Free t nlri → InstallDone t nlri attribute NEW
 
 -- install: each answer exactly when, and what it leaves
 pub record InstallRule : Type 0 where

@@ -1,5 +1,5 @@
--- Route tables, in document 01's order: arguments, the table memory, which route a flow takes, the calls on octets, and each
--- router's book.
+-- Route tables. Definitions, in document 01's order: routes, arguments, the table memory, which route a flow takes, the calls on octets; then
+-- mixed calls, each router's book, and runs.
 pub mod Route
 pub mod Arguments
 pub mod Place
@@ -11,11 +11,12 @@ pub mod Calls
 pub mod Call
 pub mod Book
 pub mod Run
+-- What is stated of them, in document 01's notions.
 pub mod ArgumentRules
 pub mod Images
 pub mod CallRules
-pub mod LastInstalled
 pub mod MatchRule
+pub mod LastInstalled
 pub mod BookRules
 pub mod MixedCalls
 pub mod Examples
