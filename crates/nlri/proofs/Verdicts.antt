@@ -10,13 +10,13 @@ use lib.ListN.{length, getD}
 use lib.Dec.{eqb, ltb}
 use Rattle.octets.specs.Numbers.{DONE, TYPE, WIDTH, KEY, SPACE}
 use Rattle.octets.specs.Choice.{pick, both, either}
-use Rattle.octets.specs.Outcome.{Outcome, given, refused, andThen, onOutcome}
+use Rattle.octets.specs.Outcome.{Outcome, given, refused, andThen, onOutcome, numberOf}
 use Rattle.octets.specs.Outputs.{writtenOf, outputOf}
 use Rattle.octets.specs.declared.Written.{Written}
 use Rattle.octets.proofs.AllOctets.{octets-of}
-use Rattle.octets.proofs.Inversions.{both-true-left, both-true-right, either-true}
+use Rattle.octets.proofs.Inversions.{given-otherwise, given-unless, both-true-left, both-true-right, either-true}
 use Rattle.octets.proofs.Outcomes.{and-cong, pick-true, pick-false}
-use Rattle.octets.proofs.Picked.{pick-done}
+use Rattle.octets.proofs.Tests.{goes, stops}
 use Rattle.nlri.specs.declared.fields.Nlri.{Nlri}
 use Rattle.nlri.specs.Family.{familyBits, allowed, isOriginatorSize}
 use Rattle.nlri.specs.Bodies.{bodies, onBody, bodyOf}
@@ -24,8 +24,9 @@ use Rattle.nlri.specs.Fields.{Fields, encodeField, encodeBody, encodeNlr
 use Rattle.nlri.specs.Writing.{widthFits, widthsFit, keyFits, keysFit, isKey, writeNlri}
 use Rattle.nlri.specs.Answers.{addressOctets, structFields}
 use Rattle.nlri.specs.Inner.{withSourceAs}
-use Rattle.nlri.specs.InnerWriting.{hasFlow, hasOriginator, flowFits, originatorFits, leafFits, fieldsFault, sizeOf, sourceAsOctets, fixedOctets, flowOctets, originatorOctets, bodyOctets, nlriOctets, AddressSize, AddressesSized, writeUnder}
+use Rattle.nlri.specs.InnerWriting.{hasFlow, hasOriginator, flowFits, originatorFits, leafFits, fitting, sizeOf, sourceAsOctets, fixedOctets, flowOctets, originatorOctets, bodyOctets, nlriOctets, AddressSize, AddressesSized, writeUnder}
 use Rattle.nlri.proofs.Keys.{key-octets}
+use Rattle.nlri.proofs.Numbered.{refused-of}
 use Rattle.nlri.proofs.Writes.{key-judged}
 use Rattle.nlri.proofs.Puts.{octets-length, size-is, fixed-short, flow-short, originator-short}
 
@@ -123,17 +124,27 @@ module _ (bits : ℕ) (f : Fields) (A : Type 0) (done short wide : A) where
       (λ e. rw e (widths-2 (allowed bits 7 (8 * length (f .source))) (allowed bits 7 (8 * length (f .group))) A done wide))
       low high
 
--- the writer's number, and what it stands for
-verdict-number : (b d flow origin leaf : Bool) (o : Outcome (List ℕ))
-    → pick (eqb (pick b TYPE (pick d TYPE (pick flow (pick origin (pick leaf DONE KEY) WIDTH) WIDTH))) 0) o (refused (pick b TYPE (pick d TYPE (pick flow (pick origin (pick leaf DONE KEY) WIDTH) WIDTH))))
-    ≡ pick b (refused TYPE) (pick d (refused TYPE) (pick flow (pick origin (pick leaf o (refused KEY)) (refused WIDTH)) (refused WIDTH)))
-unfolding pick
-verdict-number true d flow origin leaf o = refl
-verdict-number false true flow origin leaf o = refl
-verdict-number false false false origin leaf o = refl
-verdict-number false false true false leaf o = refl
-verdict-number false false true true false o = refl
-verdict-number false false true true true o = refl
+-- the writer's verdict, and what comes after it
+verdict : {A : Type 0} (b d flow origin leaf : Bool) → Outcome A → Outcome A
+verdict b d flow origin leaf o = pick b (refused TYPE) (pick d (refused TYPE) (pick flow (pick origin (pick leaf o (refused KEY)) (refused WIDTH)) (refused WIDTH)))
+
+verdict-then : {A B : Type 0} (b d flow origin leaf : Bool) (a : A) (next : A → Outcome B) → andThen (verdict b d flow origin leaf (given a)) next ≡ verdict b d flow origin leaf (next a)
+unfolding verdict pick andThen
+verdict-then true d flow origin leaf a next = refl
+verdict-then false true flow origin leaf a next = refl
+verdict-then false false false origin leaf a next = refl
+verdict-then false false true false leaf a next = refl
+verdict-then false false true true false a next = refl
+verdict-then false false true true true a next = refl
+
+verdict-done : {A : Type 0} (b d flow origin leaf : Bool) (a : A) → numberOf (verdict b d flow origin leaf (given a)) ≡ DONE → verdict b d flow origin leaf (given a) ≡ given a
+unfolding verdict pick numberOf
+verdict-done true d flow origin leaf a e = absurd (omega arith)
+verdict-done false true flow origin leaf a e = absurd (omega arith)
+verdict-done false false false origin leaf a e = absurd (omega arith)
+verdict-done false false true false leaf a e = absurd (omega arith)
+verdict-done false false true true false a e = absurd (omega arith)
+verdict-done false false true true true a e = refl
 
 module _ (nlri : Nlri) (key : List ℕ) (space bits : ℕ) (eight : length (nlri .distinguisher .octets) ≡ 8) where
   f : Fields
@@ -191,13 +202,13 @@ module _ (nlri : Nlri) (key : List ℕ) (space bits : ℕ) (eight : length (nlri
       refusal (inr h) = sym (pick-false (ltb type 1) _ _ (le-ltb type 1 (omega arith)) ∙ pick-true (ltb 7 type) _ _ (lt-ltb 7 type h))
 
   under-is : row-is (nlri .«route_type») ≡ writeUnder bits nlri key space
-  unfolding writeUnder fieldsFault tested ours
+  unfolding writeUnder fitting tested ours verdict
   under-is =
       by-type (λ (n : ℕ). nlri .«route_type» ≡ n → row-is n ≡ tested n ours) (nlri .«route_type»)
       (λ e. within 1 e (omega arith) (omega arith)) (λ e. within 2 e (omega arith) (omega arith)) (λ e. within 3 e (omega arith) (omega arith)) (λ e. within 4 e (omega arith) (omega arith))
       (λ e. within 5 e (omega arith) (omega arith)) (λ e. within 6 e (omega arith) (omega arith)) (λ e. within 7 e (omega arith) (omega arith))
       (λ out e. beyond (nlri .«route_type») out) refl
-      ∙ sym (verdict-number _ _ _ _ _ _)
+      ∙ sym (verdict-then _ _ _ _ _ _ _)
 
 pub write-is : (afi : ℕ) (nlri : Nlri) (key : List ℕ) (space : ℕ) → length (nlri .distinguisher .octets) ≡ 8
     → andThen (familyBits afi) (λ bits. writeUnder bits nlri key space) ≡ writeNlri afi (structFields nlri key) space
@@ -205,11 +216,6 @@ unfolding writeNlri row-is page f structFields
 write-is afi nlri key space eight = and-cong _ _ _ (λ bits e. sym (under-is nlri key space bits eight))
 
 -- what follows where the writer finds no fault
-number-only : (b : Bool) (k n : ℕ) → (k ≡ 0 → ⊥) → pick b n k ≡ 0 → (b ≡ true) × (n ≡ 0)
-unfolding pick
-number-only true k n h e = (refl, e)
-number-only false k n h e = absurd (h e)
-
 octets-size : (bits type size : ℕ) → (bits ≡ 32) ⊎ (bits ≡ 128) → allowed bits type (8 * size) ≡ true → AddressSize size
 unfolding allowed
 octets-size bits type size f h = go f (either-true _ _ h)
@@ -227,7 +233,7 @@ originator-octets size h = go (either-true _ _ h)
     go (inl e) = let q : size ≡ 4 = eqb-true _ _ e in (omega arith, λ four sixteen. omega arith)
     go (inr e) = let q : size ≡ 16 = eqb-true _ _ e in (omega arith, λ four sixteen. omega arith)
 
-module _ (bits : ℕ) (nlri : Nlri) (key : List ℕ) (none : fieldsFault bits nlri key ≡ 0) where
+module _ (bits : ℕ) (nlri : Nlri) (key : List ℕ) (fits : fitting bits nlri key ≡ given nlri) where
   record Faultless : Type 0 where
     typed : nlri .«route_type» ≤ 7
     flow : flowFits bits (nlri .«route_type») (nlri .source .size) (nlri .group .size) ≡ true
@@ -235,13 +241,13 @@ module _ (bits : ℕ) (nlri : Nlri) (key : List ℕ) (none : fieldsFault bits nl
     leaf : leafFits bits (nlri .«route_type») key ≡ true
 
   faultless : Faultless
-  unfolding fieldsFault
+  unfolding fitting
   faultless =
-      let p = pick-done _ 2 _ (λ e. omega arith) none in
-      let q = pick-done _ 2 _ (λ e. omega arith) (p .1) in
-      let r = number-only _ 4 _ (λ e. omega arith) (q .1) in
-      let s = number-only _ 4 _ (λ e. omega arith) (r .1) in
-      let t = number-only _ 5 _ (λ e. omega arith) (s .1) in
+      let p = given-otherwise _ _ _ _ fits in
+      let q = given-otherwise _ _ _ _ (p .1) in
+      let r = given-unless _ _ _ _ (q .1) in
+      let s = given-unless _ _ _ _ (r .1) in
+      let t = given-unless _ _ _ _ (s .1) in
       record { typed = ltb-false 7 (nlri .«route_type») (q .0); flow = r .0; origin = s .0; leaf = t .0 }
 
   pub sized-nlri : (bits ≡ 32) ⊎ (bits ≡ 128) → AddressesSized nlri
@@ -265,18 +271,23 @@ module _ (bits : ℕ) (nlri : Nlri) (key : List ℕ) (none : fieldsFault bits nl
       let c = originator-short (nlri .«route_type») (nlri .originator .size) (λ h. sized-nlri f .originator h .0) in
       omega arith
 
+-- the fields fit where the number is DONE
+pub fits-done : (bits : ℕ) (nlri : Nlri) (key : List ℕ) (n : ℕ) → n ≡ numberOf (fitting bits nlri key) → n ≡ DONE → fitting bits nlri key ≡ given nlri
+unfolding fitting verdict
+fits-done bits nlri key n p q = verdict-done _ _ _ _ _ _ (sym p ∙ q)
+
 module _ (bits : ℕ) (nlri : Nlri) (key : List ℕ) (space : ℕ) where
-  pub refused-under : (fieldsFault bits nlri key ≡ 0 → ⊥) → refused (fieldsFault bits nlri key) ≡ writeUnder bits nlri key space
+  pub refused-under : (n : ℕ) → n ≡ numberOf (fitting bits nlri key) → (n ≡ DONE → ⊥) → refused n ≡ writeUnder bits nlri key space
   unfolding writeUnder
-  refused-under h = sym (pick-false _ _ _ (ne-eqb _ _ h))
+  refused-under n p h = stops _ n _ (refused-of _ n p h)
 
-  pub space-under : fieldsFault bits nlri key ≡ 0 → space < sizeOf nlri (length key) → refused SPACE ≡ writeUnder bits nlri key space
+  pub space-under : fitting bits nlri key ≡ given nlri → space < sizeOf nlri (length key) → refused SPACE ≡ writeUnder bits nlri key space
   unfolding writeUnder
-  space-under e h = sym (pick-true _ _ _ (eq-eqb _ _ e) ∙ pick-true _ _ _ (lt-ltb _ _ h))
+  space-under e h = goes _ _ _ _ e (sym (pick-true _ _ _ (lt-ltb _ _ h)))
 
-  pub given-under : fieldsFault bits nlri key ≡ 0 → sizeOf nlri (length key) ≤ space → given (nlriOctets nlri key) ≡ writeUnder bits nlri key space
+  pub given-under : fitting bits nlri key ≡ given nlri → sizeOf nlri (length key) ≤ space → given (nlriOctets nlri key) ≡ writeUnder bits nlri key space
   unfolding writeUnder
-  given-under e h = sym (pick-true _ _ _ (eq-eqb _ _ e) ∙ pick-false _ _ _ (le-ltb _ _ h))
+  given-under e h = goes _ _ _ _ e (sym (pick-false _ _ _ (le-ltb _ _ h)))
 
 -- an answer and an output by an equal outcome
 pub answers : (r : Written) (z d : List ℕ) (o o′ : Outcome (List ℕ)) → o ≡ o′ → (r ≡ writtenOf o) × (z ≡ outputOf o d) → (r ≡ writtenOf o′) × (z ≡ outputOf o′ d)

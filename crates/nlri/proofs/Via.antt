@@ -3,7 +3,8 @@ use mathlib.Core.Path.{_≡_, sym, _∙_, ap}
 use mathlib.Core.Bool.{Bool, true, false, not}
 use Prim.Native.Nat.{ℕ}
 use borrow.Author.Tests.{not-true, not-false}
-use Rattle.octets.specs.Outcome.{Outcome, given, refused, onOutcome, andThen}
+use Rattle.octets.specs.Numbers.{DONE}
+use Rattle.octets.specs.Outcome.{Outcome, given, refused, onOutcome, andThen, numberOf}
 use Rattle.octets.proofs.Tests.{tests, flags, goes, stops, on-given, on-refused}
 use Rattle.nlri.specs.declared.layout.Layout.{Layout}
 use Rattle.nlri.specs.declared.layout.Reading.{Reading}
@@ -79,6 +80,15 @@ flag-off flag b p q = sym p ∙ not-true flag q
 
 pub flag-on : (flag b : Bool) → flag ≡ b → not flag ≡ false → b ≡ true
 flag-on flag b p q = sym p ∙ not-false flag q
+
+-- a number by the refusal, or by the value
+pub by-refusal : {A : Type 0} (n : ℕ) (o : Outcome A) → refused n ≡ o → n ≡ numberOf o
+unfolding numberOf
+by-refusal n o e = ap numberOf e
+
+pub by-value : {A : Type 0} (a : A) (o : Outcome A) → given a ≡ o → DONE ≡ numberOf o
+unfolding numberOf
+by-value a o e = ap numberOf e
 
 pub ruleset refusals = (flags, flag-off, flag-on)
 

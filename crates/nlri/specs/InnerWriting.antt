@@ -5,9 +5,9 @@ use mathlib.Core.Bool.{Bool, true}
 use mathlib.Core.List.{List, [], _∷_, _++_}
 use lib.ListN.{length}
 use lib.Dec.{ltb, eqb}
-use Rattle.octets.specs.Numbers.{DONE, TYPE, WIDTH, KEY, SPACE}
+use Rattle.octets.specs.Numbers.{TYPE, WIDTH, KEY, SPACE}
 use Rattle.octets.specs.Choice.{pick, both, either}
-use Rattle.octets.specs.Outcome.{Outcome, given, refused}
+use Rattle.octets.specs.Outcome.{Outcome, given, refused, unless, andThen}
 use Rattle.octets.specs.Octets.{bigEndian}
 use Rattle.nlri.specs.declared.fields.Nlri.{Nlri}
 use Rattle.nlri.specs.Family.{allowed, isOriginatorSize}
@@ -33,16 +33,15 @@ originatorFits type size = pick (hasOriginator type) (isOriginatorSize size) tru
 unfoldable pub leafFits : (bits type : ℕ) → List ℕ → Bool
 leafFits bits type key = pick (eqb type 4) (isKey bits key) true
 
--- DONE, or the first of TYPE, WIDTH and KEY
-unfoldable pub fieldsFault : ℕ → Nlri → List ℕ → ℕ
-fieldsFault bits nlri key =
-    pick (ltb (nlri .«route_type») 1) TYPE
-    (pick (ltb 7 (nlri .«route_type»)) TYPE
-    (pick (flowFits bits (nlri .«route_type») (nlri .source .size) (nlri .group .size))
-    (pick (originatorFits (nlri .«route_type») (nlri .originator .size))
-    (pick (leafFits bits (nlri .«route_type») key) DONE KEY)
-    WIDTH)
-    WIDTH))
+-- an NLRI whose fields fit: TYPE, WIDTH, KEY
+unfoldable pub fitting : ℕ → Nlri → List ℕ → Outcome Nlri
+fitting bits nlri key =
+    pick (ltb (nlri .«route_type») 1) (refused TYPE)
+    (pick (ltb 7 (nlri .«route_type»)) (refused TYPE)
+    (unless (flowFits bits (nlri .«route_type») (nlri .source .size) (nlri .group .size)) WIDTH
+    (unless (originatorFits (nlri .«route_type») (nlri .originator .size)) WIDTH
+    (unless (leafFits bits (nlri .«route_type») key) KEY
+    (given nlri)))))
 
 -- sizes in octets, and their sum with the header
 unfoldable pub fixedSize : (type key : ℕ) → ℕ
@@ -95,9 +94,9 @@ pub record Putting (nlri : Nlri) (key : List ℕ) (size : ℕ) (output : List �
   pub short : size < 258
   pub room : size ≤ length output
 
--- under a family
-unfoldable pub writeUnder : ℕ → Nlri → List ℕ → ℕ → Outcome (List ℕ)
+-- the octets written under a family: the fields' refusals, then SPACE
+unfoldable pub writeUnder : ℕ → Nlri → List ℕ → (space : ℕ) → Outcome (List ℕ)
 writeUnder bits nlri key space =
-    pick (eqb (fieldsFault bits nlri key) 0)
-    (pick (ltb space (sizeOf nlri (length key))) (refused SPACE) (given (nlriOctets nlri key)))
-    (refused (fieldsFault bits nlri key))
+    andThen (fitting bits nlri key)
+    (λ fits. pick (ltb space (sizeOf fits (length key))) (refused SPACE)
+    (given (nlriOctets fits key)))

@@ -5,12 +5,12 @@ ghost use mathlib.Core.List.{[], _∷_};
 ghost use Prim.Native.Nat.{_+_, _-_, _*_, _≤_, _<_};
 ghost use lib.ListN.{length};
 ghost use Rattle.octets.specs.Octets.{placed};
-ghost use Rattle.octets.specs.Outcome.{given, refused};
+ghost use Rattle.octets.specs.Outcome.{given, refused, numberOf};
 ghost use Rattle.octets.specs.Outputs.{writtenOf, outputOf};
 ghost use Rattle.nlri.specs.Fields.{encodeAddress};
 ghost use Rattle.nlri.specs.Writing.{isKey, writeNlri};
 ghost use Rattle.nlri.specs.Answers.{addressOctets, structFields};
-ghost use Rattle.nlri.specs.InnerWriting.{hasFlow, hasOriginator, flowFits, originatorFits, leafFits, fieldsFault, fixedSize, flowSize, originatorLength, sizeOf, sourceAsOctets, fixedOctets, flowOctets, originatorOctets, bodyOctets, nlriOctets, AddressSize, AddressesSized, Putting, writeUnder};
+ghost use Rattle.nlri.specs.InnerWriting.{hasFlow, hasOriginator, flowFits, originatorFits, leafFits, fitting, fixedSize, flowSize, originatorLength, sizeOf, sourceAsOctets, fixedOctets, flowOctets, originatorOctets, bodyOctets, nlriOctets, AddressSize, AddressesSized, Putting, writeUnder};
 use crate::address::Address;
 use crate::address::AddressKind;
 use crate::address::RouteDistinguisher;
@@ -56,13 +56,13 @@ fn flow_fits(kind: AddressKind, route_type: usize, source: usize, group: usize) 
     requires { ⌜ (source < 256) × (group < 256) ⌝ }
     ensures { λ r. ⌜ r ≡ flowFits (kind .bits) «route_type» source group ⌝ }
 {
-    if has_flow(route_type) {
-        if body::is_allowed(kind, route_type, 8 * source) {
-            return body::is_allowed(kind, route_type, 8 * group);
-        }
+    if !has_flow(route_type) {
+        return true;
+    }
+    if !body::is_allowed(kind, route_type, 8 * source) {
         return false;
     }
-    true
+    body::is_allowed(kind, route_type, 8 * group)
 }
 
 fn originator_fits(route_type: usize, size: usize) -> bool
@@ -93,7 +93,7 @@ fn is_key(kind: AddressKind, key: &[u8]) -> bool
 
 // DONE, or the first of TYPE, WIDTH and KEY.
 fn judge(kind: AddressKind, nlri: Nlri, key: &[u8]) -> u32
-    ensures { λ r. ⌜ r ≡ fieldsFault (kind .bits) nlri (now (key .entry)) ⌝ }
+    ensures { λ r. ⌜ r ≡ numberOf (fitting (kind .bits) nlri (now (key .entry))) ⌝ }
 {
     let route_type = nlri.route_type as usize;
     let source = nlri.source;
@@ -105,16 +105,16 @@ fn judge(kind: AddressKind, nlri: Nlri, key: &[u8]) -> u32
     if RouteType::SOURCE_TREE_JOIN < route_type {
         return TYPE;
     }
-    if flow_fits(kind, route_type, source.size as usize, group.size as usize) {
-        if originator_fits(route_type, originator.size as usize) {
-            if key_fits(kind, route_type, key) {
-                return DONE;
-            }
-            return KEY;
-        }
+    if !flow_fits(kind, route_type, source.size as usize, group.size as usize) {
         return WIDTH;
     }
-    WIDTH
+    if !originator_fits(route_type, originator.size as usize) {
+        return WIDTH;
+    }
+    if !key_fits(kind, route_type, key) {
+        return KEY;
+    }
+    DONE
 }
 
 fn fixed_size(route_type: usize, key: usize) -> usize

@@ -1,10 +1,9 @@
 -- `nlri::write::write_under` meets its contract.
-use Rattle.nlri.proofs.Verdicts.{answers, untouched, refused-under, space-under, given-under, key-short, keyed, sized-nlri, size-short}
+use Rattle.nlri.proofs.Verdicts.{answers, untouched, fits-done, refused-under, space-under, given-under, key-short, keyed, sized-nlri, size-short}
 use Rattle.nlri.proofs.Puts.{size-is}
-use Rattle.octets.specs.Outcome.{refused}
 use lib.ListN.{length}
 use native.Mathlib.Omega.{arith}
-use mathlib.Core.Path.{_≡_, _∙_, sym, ap}
+use mathlib.Core.Path.{_≡_, _∙_}
 use denote.Ref.{now}
 use borrow.Author.Needs.{needs}
 use Rattle.nlri.proofs.write.write_under.Statement.{statement}
@@ -19,13 +18,13 @@ refusal-requires c κs = search needs
 returns : tie.Need-returns
 returns c =
     let start = c .before .before .before .before .before in
-    answers _ _ _ _ _ (ap refused (c .before .before .judge .ensures) ∙ refused-under (start .args .kind .bits) (start .args .nlri) (now (start .args .key)) _ (λ e. c .before .if1 .taken (c .before .before .judge .ensures ∙ e))) (c .refusal .ensures, untouched _ _)
+    answers _ _ _ _ _ (refused-under (start .args .kind .bits) (start .args .nlri) (now (start .args .key)) _ _ (c .before .before .judge .ensures) (c .before .if1 .taken)) (c .refusal .ensures, untouched _ _)
 
 size-of-requires : tie.Need-size-of-requires
 size-of-requires c κs =
     let start = c .before .before .before .before in
-    let none = sym (c .before .judge .ensures) ∙ c .if1 .left in
-    λ e. let k = key-short (start .args .kind .bits) (now (start .args .key)) (start .pre) (λ i. c .before .before .before .shared-slice-known .given i .fits) (keyed (start .args .kind .bits) (start .args .nlri) (now (start .args .key)) none e) in omega arith
+    let fits = fits-done _ _ _ _ (c .before .judge .ensures) (c .if1 .left) in
+    λ e. let k = key-short (start .args .kind .bits) (now (start .args .key)) (start .pre) (λ i. c .before .before .before .shared-slice-known .given i .fits) (keyed (start .args .kind .bits) (start .args .nlri) (now (start .args .key)) fits e) in omega arith
 
 refusal-requires-2 : tie.Need-refusal-requires-2
 refusal-requires-2 c κs = search needs
@@ -33,16 +32,16 @@ refusal-requires-2 c κs = search needs
 returns-2 : tie.Need-returns-2
 returns-2 c =
     let start = c .before .before .before .before .before .before .before in
-    let none = sym (c .before .before .before .before .judge .ensures) ∙ c .before .before .before .if1 .left in
-    answers _ _ _ _ _ (space-under (start .args .kind .bits) (start .args .nlri) (now (start .args .key)) _ none (omega (arith, c .before .before .size-of .ensures, c .before .if2 .taken))) (c .refusal2 .ensures, untouched _ _)
+    let fits = fits-done _ _ _ _ (c .before .before .before .before .judge .ensures) (c .before .before .before .if1 .left) in
+    answers _ _ _ _ _ (space-under (start .args .kind .bits) (start .args .nlri) (now (start .args .key)) _ fits (omega (arith, c .before .before .size-of .ensures, c .before .if2 .taken))) (c .refusal2 .ensures, untouched _ _)
 
 put-requires : tie.Need-put-requires
 put-requires c κs =
     let start = c .before .before .before .before .before .before .before in
-    let none = sym (c .before .before .before .before .judge .ensures) ∙ c .before .before .before .if1 .left in
+    let fits = fits-done _ _ _ _ (c .before .before .before .before .judge .ensures) (c .before .before .before .if1 .left) in
     let eight : length (start .args .nlri .distinguisher .octets) ≡ 8 = search needs in
-    let short = size-short (start .args .kind .bits) (start .args .nlri) (now (start .args .key)) none (start .pre) (λ e. key-short (start .args .kind .bits) (now (start .args .key)) (start .pre) (λ i. c .before .before .before .before .before .before .shared-slice-known .given i .fits) (keyed (start .args .kind .bits) (start .args .nlri) (now (start .args .key)) none e)) in
-    record { sized = sized-nlri (start .args .kind .bits) (start .args .nlri) (now (start .args .key)) none (start .pre); exact = c .before .before .size-of .ensures ∙ size-is (start .args .nlri) (now (start .args .key)) eight; short = omega (arith, c .before .before .size-of .ensures); room = c .before .if2 .left }
+    let short = size-short (start .args .kind .bits) (start .args .nlri) (now (start .args .key)) fits (start .pre) (λ e. key-short (start .args .kind .bits) (now (start .args .key)) (start .pre) (λ i. c .before .before .before .before .before .before .shared-slice-known .given i .fits) (keyed (start .args .kind .bits) (start .args .nlri) (now (start .args .key)) fits e)) in
+    record { sized = sized-nlri (start .args .kind .bits) (start .args .nlri) (now (start .args .key)) fits (start .pre); exact = c .before .before .size-of .ensures ∙ size-is (start .args .nlri) (now (start .args .key)) eight; short = omega (arith, c .before .before .size-of .ensures); room = c .before .if2 .left }
 
 same-length : tie.Need-same-length
 same-length c = search needs
@@ -50,8 +49,8 @@ same-length c = search needs
 returns-3 : tie.Need-returns-3
 returns-3 c =
     let start = c .before .before .before .before .before .before .before .before .before .before in
-    let none = sym (c .before .before .before .before .before .before .before .judge .ensures) ∙ c .before .before .before .before .before .before .if1 .left in
-    answers _ _ _ _ _ (given-under (start .args .kind .bits) (start .args .nlri) (now (start .args .key)) _ none (omega (arith, c .before .before .before .before .before .size-of .ensures, c .before .before .before .before .if2 .left))) (c .before .before .put .ensures)
+    let fits = fits-done _ _ _ _ (c .before .before .before .before .before .before .before .judge .ensures) (c .before .before .before .before .before .before .if1 .left) in
+    answers _ _ _ _ _ (given-under (start .args .kind .bits) (start .args .nlri) (now (start .args .key)) _ fits (omega (arith, c .before .before .before .before .before .size-of .ensures, c .before .before .before .before .if2 .left))) (c .before .before .put .ensures)
 
 pub write-under-spec : {M : Type 1} → statement M
 write-under-spec =
