@@ -47,6 +47,7 @@ pub struct AttributeAnswer {
     pub fec: Fec,
 }
 
+// Reads a single NLRI.
 #[no_mangle]
 pub extern "C" fn mvpn_nlri_read(afi: u16, nlri: &[u8]) -> NlriReading
     ensures { λ r. ⌜ r ≡ nlriAnswer (readNlri afi (now (nlri .entry))) ⌝ }
@@ -54,6 +55,7 @@ pub extern "C" fn mvpn_nlri_read(afi: u16, nlri: &[u8]) -> NlriReading
     nlri::read_nlri(afi, nlri)
 }
 
+// Writes an NLRI at the front of the output; the key is that of a Leaf.
 #[no_mangle]
 pub extern "C" fn mvpn_nlri_write(afi: u16, nlri: Nlri, key: &[u8], output: &mut [u8]) -> Written
     ensures { λ r. ⌜ r ≡ writtenOf (writeNlri afi (structFields nlri (now (key .entry))) (length (now (output .entry)))) ⌝ }
@@ -62,6 +64,7 @@ pub extern "C" fn mvpn_nlri_write(afi: u16, nlri: Nlri, key: &[u8], output: &mut
     nlri::write_nlri(afi, nlri, key, output)
 }
 
+// The NLRI of a run at the cursor: DONE with its layout; DONE with route type 0 at the run's end; or a refusal.
 #[no_mangle]
 pub extern "C" fn mvpn_step(afi: u16, run: &[u8], cursor: usize) -> StepAnswer
     ensures { λ r. ⌜ r ≡ stepAnswer (stepFrom afi (now (run .entry)) cursor) ⌝ }
@@ -80,6 +83,7 @@ pub extern "C" fn mvpn_step(afi: u16, run: &[u8], cursor: usize) -> StepAnswer
     }
 }
 
+// No NLRI: a refusal, or the run's end, which the caller tells by DONE with route type 0.
 fn stopped(cursor: usize, number: u32) -> StepAnswer
     ensures { λ r. ⌜ r ≡ stepAnswer (refusedAt number cursor) ⌝ }
 {
@@ -97,6 +101,7 @@ fn stopped(cursor: usize, number: u32) -> StepAnswer
     }
 }
 
+// Walks a run to its end or its first refusal.
 #[no_mangle]
 pub extern "C" fn mvpn_walk(afi: u16, run: &[u8]) -> Walked
     ensures { λ r. ⌜ r ≡ walkOf afi (now (run .entry)) ⌝ }
@@ -104,6 +109,7 @@ pub extern "C" fn mvpn_walk(afi: u16, run: &[u8]) -> Walked
     nlri::walk(afi, run)
 }
 
+// The class of a customer group.
 #[no_mangle]
 pub extern "C" fn mvpn_group_class(afi: u16, group: &[u8]) -> Group
     ensures { λ r. ⌜ r ≡ groupOf (classOf afi (now (group .entry))) ⌝ }
@@ -111,6 +117,7 @@ pub extern "C" fn mvpn_group_class(afi: u16, group: &[u8]) -> Group
     nlri::group_class(afi, group)
 }
 
+// Reads a PMSI Tunnel attribute.
 #[no_mangle]
 pub extern "C" fn mvpn_attribute_read(attribute: &[u8]) -> AttributeAnswer
     ensures { λ r. ⌜ r ≡ attributeAnswer (readStruct (now (attribute .entry))) ⌝ }
@@ -121,6 +128,7 @@ pub extern "C" fn mvpn_attribute_read(attribute: &[u8]) -> AttributeAnswer
     }
 }
 
+// The answer of an attribute that was read.
 fn read_answer(fields: Attribute) -> AttributeAnswer
     ensures { λ r. ⌜ r ≡ attributeGiven fields ⌝ }
 {
@@ -138,6 +146,7 @@ fn read_answer(fields: Attribute) -> AttributeAnswer
     }
 }
 
+// The answer of an attribute that was refused.
 fn refusal(number: u32) -> AttributeAnswer
     ensures { λ r. ⌜ r ≡ attributeRefused number ⌝ }
 {
@@ -158,6 +167,7 @@ fn refusal(number: u32) -> AttributeAnswer
     }
 }
 
+// Writes a PMSI Tunnel attribute at the front of the output.
 #[no_mangle]
 pub extern "C" fn mvpn_attribute_write(
     flags: u8,
@@ -177,6 +187,7 @@ pub extern "C" fn mvpn_attribute_write(
     }
 }
 
+// Makes a table with no routes.
 #[no_mangle]
 pub extern "C" fn mvpn_make(afi: u16, table: &mut [u8]) -> u32
     ensures { λ r. ⌜ r ≡ makeOf afi (now (table .entry)) .answer ⌝ }
@@ -185,6 +196,7 @@ pub extern "C" fn mvpn_make(afi: u16, table: &mut [u8]) -> u32
     table::make(afi, table)
 }
 
+// Installs a route, or replaces the attribute of one.
 #[no_mangle]
 pub extern "C" fn mvpn_install(table: &mut [u8], nlri: &[u8], attribute: &[u8]) -> Installed
     ensures { λ r. ⌜ r ≡ installOf (now (table .entry)) (now (nlri .entry)) (now (attribute .entry)) .answer ⌝ }
@@ -193,6 +205,7 @@ pub extern "C" fn mvpn_install(table: &mut [u8], nlri: &[u8], attribute: &[u8]) 
     table::install(table, nlri, attribute)
 }
 
+// Withdraws a route.
 #[no_mangle]
 pub extern "C" fn mvpn_withdraw(table: &mut [u8], nlri: &[u8]) -> u32
     ensures { λ r. ⌜ r ≡ withdrawOf (now (table .entry)) (now (nlri .entry)) .answer ⌝ }
@@ -201,6 +214,7 @@ pub extern "C" fn mvpn_withdraw(table: &mut [u8], nlri: &[u8]) -> u32
     table::withdraw(table, nlri)
 }
 
+// Finds the route of a router that a flow takes, and writes it at the front of the output.
 #[no_mangle]
 pub extern "C" fn mvpn_match(
     table: &[u8],

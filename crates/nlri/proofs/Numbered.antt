@@ -4,6 +4,7 @@ use mathlib.Core.Bool.{Bool, true, false}
 use mathlib.Core.List.{List}
 use Prim.Native.Nat.{ℕ}
 use native.Mathlib.Omega.{arith}
+use Rattle.octets.specs.Numbers.{DONE, LENGTH}
 use Rattle.octets.specs.Choice.{pick}
 use Rattle.octets.specs.Outcome.{Outcome, given, refused, andThen, numberOf}
 use Rattle.octets.proofs.Tests.{tests}
@@ -34,7 +35,7 @@ unfolding headerOutcome
 number-unread r o n next p q = number-stops n o next (sym p ∙ ap headerOutcome q)
 
 -- by a test of what remains
-pub last-number : {A : Type 0} (b : Bool) (a : A) → lastFault b ≡ numberOf (pick b (given a) (refused 3))
+pub last-number : {A : Type 0} (b : Bool) (a : A) → lastFault b ≡ numberOf (pick b (given a) (refused LENGTH))
 unfolding lastFault pick numberOf
 last-number true a = refl
 last-number false a = refl
@@ -45,19 +46,19 @@ front-number t bits s p = p ∙ ap numberOf (front-is (anyFront bits s) bits s r
 pub ruleset numbers = (tests, number-typed, number-unread)
 
 -- a number other than DONE is a refusal's
-pub refused-of : {A : Type 0} (o : Outcome A) (n : ℕ) → n ≡ numberOf o → (n ≡ 0 → ⊥) → o ≡ refused n
+pub refused-of : {A : Type 0} (o : Outcome A) (n : ℕ) → n ≡ numberOf o → (n ≡ DONE → ⊥) → o ≡ refused n
 unfolding numberOf
 refused-of (given a) n e h = absurd (h e)
 refused-of (refused m) n e h = ap refused (sym e)
 
 -- reading that answers DONE gives a value
-done : {A : Type 0} (o : Outcome A) → Refuses ByReading o → numberOf o ≡ 0 → (a : A) × (o ≡ given a)
+done : {A : Type 0} (o : Outcome A) → Refuses ByReading o → numberOf o ≡ DONE → (a : A) × (o ≡ given a)
 unfolding numberOf
 done (given a) u e = (a, refl)
 done (refused n) (number p) e = absurd (omega arith)
 
-pub unkeyed-done : (bits type : ℕ) (s : List ℕ) → numberOf (unkeyedBody bits type s) ≡ 0 → (l : Layout) × (unkeyedBody bits type s ≡ given l)
+pub unkeyed-done : (bits type : ℕ) (s : List ℕ) → numberOf (unkeyedBody bits type s) ≡ DONE → (l : Layout) × (unkeyedBody bits type s ≡ given l)
 unkeyed-done bits type s e = done _ (unkeyed-refuses bits type s) e
 
-pub front-done : (bits : ℕ) (s : List ℕ) → numberOf (layoutAt bits s) ≡ 0 → (l : Layout) × (layoutAt bits s ≡ given l)
+pub front-done : (bits : ℕ) (s : List ℕ) → numberOf (layoutAt bits s) ≡ DONE → (l : Layout) × (layoutAt bits s ≡ given l)
 front-done bits s e = done _ (layout-refuses bits s) e

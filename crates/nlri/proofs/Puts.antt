@@ -8,6 +8,7 @@ use lib.ListN.{length, take, length-append}
 use lib.Seq.{take-length}
 use lib.Dec.{eqb}
 use borrow.Author.Tests.{eqb-true}
+use Rattle.octets.specs.Numbers.{DONE}
 use Rattle.octets.specs.Choice.{pick}
 use Rattle.octets.specs.Outcome.{given, onOutcome, numberOf}
 use Rattle.octets.specs.Octets.{bigEndian}
@@ -90,9 +91,9 @@ module _ (nlri : Nlri) (key : List ℕ) where
   all-put n e = ap (λ (m : ℕ). nlri .«route_type» ∷ m ∷ bodyOctets nlri key) e
 
 -- what is answered and left where all was put
-pub put-all : (e d : List ℕ) (size next : ℕ) (z : List ℕ) → size ≡ length e → Put 0 e d next z → (record { number = 0; size = size } ≡ writtenOf (given e)) × (z ≡ outputOf (given e) d)
+pub put-all : (e d : List ℕ) (size next : ℕ) (z : List ℕ) → size ≡ length e → Put 0 e d next z → (record { number = DONE; size = size } ≡ writtenOf (given e)) × (z ≡ outputOf (given e) d)
 unfolding writtenOf outputOf numberOf onOutcome
-put-all e d size next z s p = ((λ i. record { number = 0; size = s i }), p .1 ∙ sym (front-is-placed e d))
+put-all e d size next z s p = ((λ i. record { number = DONE; size = s i }), p .1 ∙ sym (front-is-placed e d))
 
 -- sizes without their octets
 under : (b : Bool) (x y n : ℕ) → (b ≡ true → x ≤ n) → y ≤ n → pick b x y ≤ n

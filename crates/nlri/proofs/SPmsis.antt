@@ -8,6 +8,7 @@ use borrow.Author.Tests.{eq-eqb, eqb-true, eqb-false, ltb-false, leb-true, le-lt
 use lib.ListN.{length, getD, drop, length-drop}
 use lib.Seq.{drop-drop}
 use lib.Dec.{eqb}
+use Rattle.octets.specs.Numbers.{DONE}
 use Rattle.octets.specs.Choice.{pick, both}
 use Rattle.octets.specs.Outcome.{Outcome, given, refused, andThen, onOutcome, numberOf}
 use Rattle.octets.specs.Octets.{part}
@@ -88,10 +89,10 @@ module _ (bits : ℕ) (s : List ℕ) where
       (t, n, omega (arith, ltb-false, length-drop 2 s))
 
   -- with the header of a single NLRI of type 3, the number decides
-  by-number : getD s 0 0 ≡ 3 → getD s 1 0 ≡ length s - 2 → ofSPmsi (single bits s) ≡ eqb (numberOf (layoutAt bits s)) 0
+  by-number : getD s 0 0 ≡ 3 → getD s 1 0 ≡ length s - 2 → ofSPmsi (single bits s) ≡ eqb (numberOf (layoutAt bits s)) DONE
   unfolding single endsWith ofSPmsi
   by-number t n =
-      tested (eqb (numberOf (layoutAt bits s)) 0)
+      tested (eqb (numberOf (layoutAt bits s)) DONE)
       (λ yes. let r = front-done bits s (eqb-true _ _ yes) in let h = layout-octets bits s (r .0) (r .1) in
       sym (on-given true _ (r .0) _ _ (sym (goes _ _ (r .0) _ (r .1) (sym (pick-true _ _ _ (eq-eqb (length s - 2) (r .0 .length) (sym n ∙ sym (h .3))))))) (sym (eq-eqb _ 3 (h .2 ∙ t)))) ∙ sym yes)
       (λ no. sym (on-refused false _ _ _ _ (sym (stops _ _ _ (refused-of _ _ refl (eqb-false _ _ no)))) refl) ∙ sym no)
@@ -105,9 +106,9 @@ module _ (bits : ℕ) (s : List ℕ) where
       (λ t. by-both _ _ _ (λ off. none-of _ (λ l e q. opposite (eq-eqb _ _ (opens l e q .1)) off))
       (λ n. flow (leb-true _ _ enough) (eqb-true _ _ t) (eqb-true _ _ n))))
     where
-      flow : 10 ≤ length s → getD s 0 0 ≡ 3 → getD s 1 0 ≡ length s - 2 → ofSPmsi (single bits s) ≡ eqb (flowFault bits 3 10 s) 0
+      flow : 10 ≤ length s → getD s 0 0 ≡ 3 → getD s 1 0 ≡ length s - 2 → ofSPmsi (single bits s) ≡ eqb (flowFault bits 3 10 s) DONE
       flow enough t n =
-          by-number t n ∙ ap (λ (k : ℕ). eqb k 0) (ap numberOf (front-three (omega arith) t n) ∙ flow-whole bits s enough ∙ sym (flow-number bits 3 10 s))
+          by-number t n ∙ ap (λ (k : ℕ). eqb k DONE) (ap numberOf (front-three (omega arith) t n) ∙ flow-whole bits s enough ∙ sym (flow-number bits 3 10 s))
 
 -- under an AFI
 module _ (afi : ℕ) (s : List ℕ) where

@@ -6,6 +6,7 @@ use Prim.Native.Nat.{ℕ, _+_, _≤_}
 use native.Mathlib.Omega.{arith}
 use lib.ListN.{length}
 use lib.Dec.{eqb}
+use Rattle.octets.specs.Numbers.{DONE}
 use Rattle.octets.specs.Choice.{pick}
 use Rattle.octets.specs.Outcome.{Outcome, given, refused, andThen, onOutcome}
 use Rattle.octets.specs.declared.Span.{Span}
@@ -71,9 +72,9 @@ pub key-same : (l : Layout) (s : List ℕ) → 2 + l .key ≤ length s → keyAt
 unfolding keyAt keySpan fieldsAt
 key-same l s h = λ i. record { start = pick (eqb (l .«route_type») 4) 2 0; size = sym (part-length s 2 (l .key) h) i }
 
-pub answer-given : (afi : ℕ) (s : List ℕ) (f : Fields) (nlri : Nlri) (key : Span) → readNlri afi s ≡ given f → nlri ≡ nlriStruct f → key ≡ keySpan f → record { number = 0; nlri = nlri; key = key } ≡ nlriAnswer (readNlri afi s)
+pub answer-given : (afi : ℕ) (s : List ℕ) (f : Fields) (nlri : Nlri) (key : Span) → readNlri afi s ≡ given f → nlri ≡ nlriStruct f → key ≡ keySpan f → record { number = DONE; nlri = nlri; key = key } ≡ nlriAnswer (readNlri afi s)
 unfolding nlriAnswer onOutcome
-answer-given afi s f nlri key e p q = (λ i. record { number = 0; nlri = p i; key = q i }) ∙ ap nlriAnswer (sym e)
+answer-given afi s f nlri key e p q = (λ i. record { number = DONE; nlri = p i; key = q i }) ∙ ap nlriAnswer (sym e)
 
 pub answer-refused : (r : NlriReading) (afi : ℕ) (s : List ℕ) (n : ℕ) → r ≡ nlriAnswer (refused n) → readNlri afi s ≡ refused n → r ≡ nlriAnswer (readNlri afi s)
 answer-refused r afi s n p e = p ∙ ap nlriAnswer (sym e)

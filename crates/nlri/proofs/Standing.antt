@@ -197,7 +197,7 @@ stands bits s l e =
     laid-out s (omega arith) bits l enough (ap (λ (h : ℕ × ℕ). anyBody bits (h .0) (part s 2 (h .1))) (given-same (second .1)) ∙ p .second)
 
 -- by the number
-pub laid-in : (bits : ℕ) (s : List ℕ) (n : ℕ) → n ≡ numberOf (layoutAt bits s) → n ≡ 0 → Stands s × (given (layoutIn s) ≡ layoutAt bits s)
+pub laid-in : (bits : ℕ) (s : List ℕ) (n : ℕ) → n ≡ numberOf (layoutAt bits s) → n ≡ DONE → Stands s × (given (layoutIn s) ≡ layoutAt bits s)
 laid-in bits s n p q =
     let r = front-done bits s (sym p ∙ q) in
     let c = stands bits s (r .0) (r .1) in

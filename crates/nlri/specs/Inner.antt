@@ -1,4 +1,4 @@
--- Definitions that the inner functions of reading cite, and those that lead from them to document 01's in `Reading`; laws tie them together.
+-- Definitions that mirror the inner functions of reading, and those that lead from them to document 01's in `Reading`; laws tie them together.
 use Prim.Native.Nat.{ℕ, _+_, _-_, _/_, _≤_, _<_}
 use mathlib.Core.Path.{_≡_}
 use mathlib.Core.Bool.{Bool, true, false}
@@ -7,7 +7,7 @@ use lib.ListN.{length, getD, drop}
 use lib.Dec.{ltb, leb, eqb}
 use Rattle.octets.specs.Numbers.{DONE, SHORT, TYPE, LENGTH, WIDTH, KEY}
 use Rattle.octets.specs.Choice.{pick, either, both}
-use Rattle.octets.specs.Outcome.{Outcome, given, refused, onOutcome, andThen}
+use Rattle.octets.specs.Outcome.{Outcome, given, refused, unless, andThen}
 use Rattle.octets.specs.Octets.{part, numberIn}
 use Rattle.octets.specs.declared.Span.{Span}
 use Rattle.nlri.specs.declared.layout.Layout.{Layout}
@@ -30,31 +30,36 @@ unfoldable pub headerOutcome : Header → Outcome (ℕ × ℕ)
 headerOutcome (Typed type size) = given (type, size)
 headerOutcome (Unread number) = refused number
 
+-- a layout by its type, Length and sizes
 unfoldable pub layoutWith : (type size source group originator key : ℕ) → Layout
 layoutWith type size source group originator key =
     record { «route_type» = type; length = size; source = source; group = group; originator = originator; key = key }
 
--- what remains stands in the layout as its originator
+-- a layout in which what remains stands as its originator, of 4 or 16 octets
 unfoldable pub originatorLast : Layout → Outcome Layout
-originatorLast l = pick (isOriginatorSize (l .originator)) (given l) (refused LENGTH)
+originatorLast l = unless (isOriginatorSize (l .originator)) LENGTH (given l)
 
+-- the same, with nothing remaining
 unfoldable pub nothingLast : Layout → Outcome Layout
-nothingLast l = pick (eqb (l .originator) 0) (given l) (refused LENGTH)
+nothingLast l = unless (eqb (l .originator) 0) LENGTH (given l)
 
--- the number where a test of what remains decides
+-- the number of what remains, by a test of it
 unfoldable pub lastFault : Bool → ℕ
 lastFault good = pick good DONE LENGTH
 
--- the same of what stands from `at` to the end
+-- the number of what stands from `at` to the end, by a test of its size
 unfoldable pub restFault : (ℕ → Bool) → (at size : ℕ) → ℕ
 restFault good at size = pick (ltb size at) LENGTH (lastFault (good (size - at)))
 
+-- the size of a source, and that of the group at the front of s
 unfoldable pub withGroup : (bits type source : ℕ) → List ℕ → Outcome (ℕ × ℕ)
 withGroup bits type source s = andThen (addressField bits type s) (λ group. given (source, group))
 
+-- the sizes of the source and group at the front of s, with their length octets
 unfoldable pub flowSizes : (bits type : ℕ) → List ℕ → Outcome (ℕ × ℕ)
 flowSizes bits type s = andThen (addressField bits type s) (λ source. withGroup bits type source (drop source s))
 
+-- the layout of a body with source and group, by what remains: in type 3 the originator, else nothing
 unfoldable pub flowEnd : (type size source group rest : ℕ) → Outcome Layout
 flowEnd type size source group rest =
     pick (eqb type 3) (originatorLast (layoutWith type size (source - 1) (group - 1) rest 0))
@@ -70,21 +75,26 @@ addressThen bits type at s next =
     pick (leb (length s) at) LENGTH
     (pick (allowed bits type (getD s at 0)) (next (at + 1 + getD s at 0 / 8)) WIDTH)
 
+-- the number of a group whose length octet stands at `at`, and of what follows it
 unfoldable pub groupFault : (bits type at : ℕ) → List ℕ → ℕ
 groupFault bits type at s = addressThen bits type at s (λ end. flowEndFault type end (length s))
 
+-- the number of a source whose length octet stands at `at`, of the group and of what follows it
 unfoldable pub flowFault : (bits type at : ℕ) → List ℕ → ℕ
 flowFault bits type at s = addressThen bits type at s (λ end. groupFault bits type end s)
 
+-- a body with source and group, behind so many fixed octets
 unfoldable pub flowRoute : (bits type fixed : ℕ) → List ℕ → Outcome Layout
 flowRoute bits type fixed s =
     pick (ltb (length s) fixed) (refused LENGTH)
     (andThen (flowSizes bits type (drop fixed s))
     (λ sizes. flowEnd type (length s) (sizes .0) (sizes .1) (length s - fixed - sizes .0 - sizes .1)))
 
+-- a body of type 1: RD, originator
 unfoldable pub intraAs : List ℕ → Outcome Layout
 intraAs s = pick (ltb (length s) 8) (refused LENGTH) (originatorLast (layoutWith 1 (length s) 0 0 (length s - 8) 0))
 
+-- a body of type 2: RD, source AS
 unfoldable pub interAs : List ℕ → Outcome Layout
 interAs s = pick (ltb (length s) 12) (refused LENGTH) (nothingLast (layoutWith 2 (length s) 0 0 (length s - 12) 0))
 
@@ -108,12 +118,15 @@ bodyWith keyed bits type s =
     (pick (eqb type 7) (flowRoute bits type 12 s)
     (refused TYPE)))))))
 
+-- a body that has no key; a Leaf's is refused
 unfoldable pub unkeyedBody : (bits type : ℕ) → List ℕ → Outcome Layout
 unkeyedBody bits type s = bodyWith (refused KEY) bits type s
 
+-- a body of any route type
 unfoldable pub anyBody : (bits type : ℕ) → List ℕ → Outcome Layout
 anyBody bits type s = bodyWith (keyed false bits s) bits type s
 
+-- type and Length of the NLRI at the front of s
 unfoldable pub headerAt : List ℕ → Outcome (ℕ × ℕ)
 headerAt s =
     pick (ltb (length s) 2) (refused SHORT)
@@ -137,14 +150,16 @@ sourceStart type = pick (withSourceAs type) 15 11
 unfoldable pub sizeAt : List ℕ → ℕ → ℕ
 sizeAt s at = getD s at 0 / 8
 
--- the layout of an accepted NLRI by its octets, where a source's length octet stands at `at`
+-- the layout of an accepted NLRI with source and group by its octets, where the source's length octet stands at `at`
 unfoldable pub flowLayout : (type at : ℕ) → List ℕ → Layout
 flowLayout type at s =
     layoutWith type (getD s 1 0) (sizeAt s at) (sizeAt s (at + 1 + sizeAt s at)) (getD s 1 0 - at - sizeAt s at - sizeAt s (at + 1 + sizeAt s at)) 0
 
+-- the layout of an accepted Leaf by its octets
 unfoldable pub leafLayout : List ℕ → Layout
 leafLayout s = layoutWith 4 (getD s 1 0) 0 0 (getD s 1 0 - (2 + getD s 3 0)) (2 + getD s 3 0)
 
+-- the layout of an accepted NLRI by its octets
 unfoldable pub layoutIn : List ℕ → Layout
 layoutIn s =
     pick (eqb (getD s 0 0) 1) (layoutWith 1 (getD s 1 0) 0 0 (getD s 1 0 - 8) 0)
@@ -163,9 +178,11 @@ pub record Stands (s : List ℕ) : Type 0 where
   pub leaf : getD s 0 0 ≡ 4 → (4 ≤ length s) × (2 + getD s 3 0 ≤ getD s 1 0)
   pub flow : (getD s 0 0 ≡ 1 → ⊥) → (getD s 0 0 ≡ 2 → ⊥) → (getD s 0 0 ≡ 4 → ⊥) → FlowStands (sourceStart (getD s 0 0) - 1) s
 
+-- the route distinguisher of an NLRI; a Leaf has none
 unfoldable pub distinguisherAt : ℕ → List ℕ → List ℕ
 distinguisherAt type s = pick (eqb type 4) [] (part s 2 8)
 
+-- the source AS of an NLRI, or 0 where its type has none
 unfoldable pub sourceAsAt : ℕ → List ℕ → ℕ
 sourceAsAt type s = pick (withSourceAs type) (numberIn (part s 10 4) 0) 0
 
@@ -182,6 +199,7 @@ fieldsAt l s =
       key = part s 2 (l .key);
     }
 
+-- a key stands straight after the header
 unfoldable pub keyAt : Layout → Span
 keyAt l = record { start = pick (eqb (l .«route_type») 4) 2 0; size = l .key }
 
@@ -197,7 +215,7 @@ pub record LayoutWithin (l : Layout) (s : List ℕ) : Type 0 where
 
 -- nothing stands behind the NLRI
 unfoldable pub endsWith : Layout → List ℕ → Outcome Layout
-endsWith l s = pick (eqb (length s - 2) (l .length)) (given l) (refused LENGTH)
+endsWith l s = unless (eqb (length s - 2) (l .length)) LENGTH (given l)
 
 -- a single NLRI's layout by the layout at its front
 unfoldable pub single : ℕ → List ℕ → Outcome Layout

@@ -24,12 +24,15 @@ hasFlow type = either (eqb type 3) (ltb 4 type)
 unfoldable pub hasOriginator : ℕ → Bool
 hasOriginator type = either (eqb type 1) (either (eqb type 3) (eqb type 4))
 
+-- source and group, of so many octets, have lengths that type and family allow, where the type has them
 unfoldable pub flowFits : (bits type source group : ℕ) → Bool
 flowFits bits type source group = pick (hasFlow type) (both (allowed bits type (8 * source)) (allowed bits type (8 * group))) true
 
+-- an originator has 4 or 16 octets, where the type has one
 unfoldable pub originatorFits : (type size : ℕ) → Bool
 originatorFits type size = pick (hasOriginator type) (isOriginatorSize size) true
 
+-- a Leaf's key is exactly one NLRI of type 1, 2 or 3
 unfoldable pub leafFits : (bits type : ℕ) → List ℕ → Bool
 leafFits bits type key = pick (eqb type 4) (isKey bits key) true
 
@@ -43,37 +46,45 @@ fitting bits nlri key =
     (unless (leafFits bits (nlri .«route_type») key) KEY
     (given nlri)))))
 
--- sizes in octets, and their sum with the header
+-- the octets before source and group: of the key, or of the route distinguisher with a source AS
 unfoldable pub fixedSize : (type key : ℕ) → ℕ
 fixedSize type key = pick (eqb type 4) key (pick (withSourceAs type) 12 8)
 
+-- the octets of source and group with their length octets
 unfoldable pub flowSize : (type source group : ℕ) → ℕ
 flowSize type source group = pick (hasFlow type) (2 + source + group) 0
 
+-- the octets of the originator
 unfoldable pub originatorLength : (type size : ℕ) → ℕ
 originatorLength type size = pick (hasOriginator type) size 0
 
+-- the octets of the whole NLRI
 unfoldable pub sizeOf : Nlri → ℕ → ℕ
 sizeOf nlri key =
     2 + fixedSize (nlri .«route_type») key + flowSize (nlri .«route_type») (nlri .source .size) (nlri .group .size)
     + originatorLength (nlri .«route_type») (nlri .originator .size)
 
--- the octets of a source AS, of the fields of a body and of the whole NLRI; none where the type lacks the field
+-- a source AS as octets; none where the type lacks it
 unfoldable pub sourceAsOctets : Nlri → List ℕ
 sourceAsOctets nlri = pick (withSourceAs (nlri .«route_type»)) (bigEndian 4 (nlri .«source_as»)) []
 
+-- what stands before source and group: the key, or the route distinguisher with a source AS
 unfoldable pub fixedOctets : Nlri → List ℕ → List ℕ
 fixedOctets nlri key = pick (eqb (nlri .«route_type») 4) key (nlri .distinguisher .octets ++ sourceAsOctets nlri)
 
+-- source and group, where the type has them
 unfoldable pub flowOctets : Nlri → List ℕ
 flowOctets nlri = pick (hasFlow (nlri .«route_type»)) (encodeAddress (addressOctets (nlri .source)) ++ encodeAddress (addressOctets (nlri .group))) []
 
+-- the originator, where the type has one
 unfoldable pub originatorOctets : Nlri → List ℕ
 originatorOctets nlri = pick (hasOriginator (nlri .«route_type»)) (addressOctets (nlri .originator)) []
 
+-- the body
 unfoldable pub bodyOctets : Nlri → List ℕ → List ℕ
 bodyOctets nlri key = fixedOctets nlri key ++ (flowOctets nlri ++ originatorOctets nlri)
 
+-- the whole NLRI: type, Length, body
 unfoldable pub nlriOctets : Nlri → List ℕ → List ℕ
 nlriOctets nlri key = nlri .«route_type» ∷ length (bodyOctets nlri key) ∷ bodyOctets nlri key
 

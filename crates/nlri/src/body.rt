@@ -84,10 +84,10 @@ fn group_fault(kind: AddressKind, route_type: usize, at: usize, s: &[u8]) -> u32
         return LENGTH;
     }
     let bits = s[at] as usize;
-    if is_allowed(kind, route_type, bits) {
-        return flow_end_fault(route_type, at + 1 + bits / 8, s.len());
+    if !is_allowed(kind, route_type, bits) {
+        return WIDTH;
     }
-    WIDTH
+    flow_end_fault(route_type, at + 1 + bits / 8, s.len())
 }
 
 // A source, whose length octet is at `at`, and what follows it.
@@ -99,10 +99,10 @@ pub(crate) fn flow_fault(kind: AddressKind, route_type: usize, at: usize, s: &[u
         return LENGTH;
     }
     let bits = s[at] as usize;
-    if is_allowed(kind, route_type, bits) {
-        return group_fault(kind, route_type, at + 1 + bits / 8, s);
+    if !is_allowed(kind, route_type, bits) {
+        return WIDTH;
     }
-    WIDTH
+    group_fault(kind, route_type, at + 1 + bits / 8, s)
 }
 
 // A body that has no key, of the route type given.

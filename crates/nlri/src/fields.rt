@@ -38,6 +38,7 @@ pub struct NlriReading {
     pub key: Span,
 }
 
+// The address of `size` octets that begins at `start`; no octets are the wildcard.
 fn address_at(s: &[u8], start: usize, size: usize) -> Address
     requires { ⌜ (size ≤ 16) × ((0 < size → start + size ≤ length (now s))) ⌝ }
     ensures { λ r. ⌜ r ≡ addressStruct (part (now (s .entry)) start size) ⌝ }
@@ -51,6 +52,7 @@ fn address_at(s: &[u8], start: usize, size: usize) -> Address
     AddressKind::ipv6().address(octets::parts::between(s, start, size))
 }
 
+// The route distinguisher, which stands behind the header; zeros of a Leaf, which has none.
 fn distinguisher_in(route_type: usize, s: &[u8]) -> RouteDistinguisher
     requires { ⌜ ((«route_type» ≡ 4 → ⊥) → 10 ≤ length (now s)) ⌝ }
     ensures { λ r. ⌜ r ≡ distinguisherStruct (distinguisherAt «route_type» (now (s .entry))) ⌝ }
@@ -76,6 +78,7 @@ pub(crate) fn source_start(route_type: usize) -> usize
     HEADER + RouteDistinguisher::OCTETS + 1
 }
 
+// Types 2, 6 and 7 have a source AS, behind the route distinguisher.
 pub(crate) fn has_source_as(route_type: usize) -> bool
     ensures { λ r. ⌜ r ≡ withSourceAs «route_type» ⌝ }
 {
@@ -88,6 +91,7 @@ pub(crate) fn has_source_as(route_type: usize) -> bool
     route_type == RouteType::SOURCE_TREE_JOIN
 }
 
+// The source AS, or 0 where the type has none.
 fn source_as_in(route_type: usize, s: &[u8]) -> u32
     requires { ⌜ (withSourceAs «route_type» ≡ true → 14 ≤ length (now s)) ⌝ }
     ensures { λ r. ⌜ r ≡ sourceAsAt «route_type» (now (s .entry)) ⌝ }
@@ -98,6 +102,7 @@ fn source_as_in(route_type: usize, s: &[u8]) -> u32
     0
 }
 
+// The fields of a single NLRI, by its layout.
 fn nlri_in(layout: Layout, s: &[u8]) -> Nlri
     requires { ⌜ LayoutWithin layout (now s) ⌝ }
     ensures { λ r. ⌜ r ≡ nlriStruct (fieldsAt layout (now (s .entry))) ⌝ }
@@ -118,6 +123,7 @@ fn nlri_in(layout: Layout, s: &[u8]) -> Nlri
     }
 }
 
+// The answer of a refusal: its number and empty fields.
 fn refusal(number: u32) -> NlriReading
     ensures { λ r. ⌜ r ≡ nlriAnswer (refused number) ⌝ }
 {

@@ -22,6 +22,7 @@ impl Group {
 
     pub const SSM: u32 = 2;
 
+    // A group of a class.
     fn given(group_class: u32) -> Group
         ensures { λ r. ⌜ r ≡ groupOf (given «group_class») ⌝ }
     {
@@ -31,6 +32,7 @@ impl Group {
         }
     }
 
+    // A group that is refused.
     fn refused(number: u32) -> Group
         ensures { λ r. ⌜ r ≡ groupOf (refused number) ⌝ }
     {
@@ -75,6 +77,7 @@ fn is_source_specific(kind: AddressKind, group: &[u8]) -> bool
     group[3] == 0
 }
 
+// The class of a group under the family of a kind of addresses. FLOW.
 fn class_under(kind: AddressKind, group: &[u8]) -> Group
     requires { ⌜ 32 ≤ kind .bits ⌝ }
     ensures { λ r. ⌜ r ≡ groupOf (classUnder (kind .bits) (now (group .entry))) ⌝ }

@@ -29,6 +29,7 @@ pub(crate) enum Header {
     Unread(u32),
 }
 
+// Type and Length of the NLRI at the front of `s`. SHORT.
 fn read_header(s: &[u8]) -> Header
     ensures { λ r. ⌜ headerOutcome r ≡ headerAt (now (s .entry)) ⌝ }
 {
@@ -87,7 +88,7 @@ fn body_fault(kind: AddressKind, route_type: usize, s: &[u8]) -> u32
     body::unkeyed_body_fault(kind, route_type, s)
 }
 
-// The number of the NLRI at the front of `s`, under the family of addresses of a kind.
+// The number of the NLRI at the front of `s`, under the family of a kind of addresses.
 pub(crate) fn front_fault(kind: AddressKind, s: &[u8]) -> u32
     ensures { λ r. ⌜ r ≡ numberOf (layoutAt (kind .bits) (now (s .entry))) ⌝ }
 {
@@ -118,6 +119,7 @@ fn flow_layout(route_type: usize, at: usize, s: &[u8]) -> Layout
     }
 }
 
+// The layout of a Leaf, by its Length and that of its key.
 fn leaf_layout(s: &[u8]) -> Layout
     requires { ⌜ (4 ≤ length (now s)) × (2 + getD (now s) 3 0 ≤ getD (now s) 1 0) ⌝ }
     ensures { λ r. ⌜ r ≡ leafLayout (now (s .entry)) ⌝ }
@@ -135,9 +137,11 @@ fn leaf_layout(s: &[u8]) -> Layout
 }
 
 // The layout of an NLRI without source, group and key.
-fn plain_layout(route_type: usize, length: usize, originator: usize) -> Layout
-    ensures { λ r. ⌜ r ≡ layoutWith «route_type» length 0 0 originator 0 ⌝ }
+fn plain_layout(route_type: usize, originator: usize, s: &[u8]) -> Layout
+    requires { ⌜ 2 ≤ length (now s) ⌝ }
+    ensures { λ r. ⌜ r ≡ layoutWith «route_type» (getD (now (s .entry)) 1 0) 0 0 originator 0 ⌝ }
 {
+    let length = s[1] as usize;
     Layout {
         route_type,
         length,
@@ -154,16 +158,12 @@ pub(crate) fn layout_in(s: &[u8]) -> Layout
     ensures { λ r. ⌜ r ≡ layoutIn (now (s .entry)) ⌝ }
 {
     let route_type = s[0] as usize;
-    let length = s[1] as usize;
     if route_type == RouteType::INTRA_AS_I_PMSI {
-        return plain_layout(
-            RouteType::INTRA_AS_I_PMSI,
-            length,
-            length - RouteDistinguisher::OCTETS,
-        );
+        let originator = s[1] as usize - RouteDistinguisher::OCTETS;
+        return plain_layout(RouteType::INTRA_AS_I_PMSI, originator, s);
     }
     if route_type == RouteType::INTER_AS_I_PMSI {
-        return plain_layout(RouteType::INTER_AS_I_PMSI, length, 0);
+        return plain_layout(RouteType::INTER_AS_I_PMSI, 0, s);
     }
     if route_type == RouteType::LEAF {
         return leaf_layout(s);
@@ -192,6 +192,7 @@ fn read_single(kind: AddressKind, s: &[u8]) -> Reading
     }
 }
 
+// The layout of an NLRI that nothing follows. LENGTH.
 fn ends_at(layout: Layout, s: &[u8]) -> Reading
     requires { ⌜ 2 ≤ length (now s) ⌝ }
     ensures { λ r. ⌜ readingOf r ≡ endsWith layout (now (s .entry)) ⌝ }

@@ -52,6 +52,7 @@ fn has_originator(route_type: usize) -> bool
     route_type == RouteType::LEAF
 }
 
+// Source and group, of so many octets, have lengths that type and family allow, where the type has them.
 fn flow_fits(kind: AddressKind, route_type: usize, source: usize, group: usize) -> bool
     requires { ⌜ (source < 256) × (group < 256) ⌝ }
     ensures { λ r. ⌜ r ≡ flowFits (kind .bits) «route_type» source group ⌝ }
@@ -65,6 +66,7 @@ fn flow_fits(kind: AddressKind, route_type: usize, source: usize, group: usize) 
     body::is_allowed(kind, route_type, 8 * group)
 }
 
+// An originator has 4 or 16 octets, where the type has one.
 fn originator_fits(route_type: usize, size: usize) -> bool
     ensures { λ r. ⌜ r ≡ originatorFits «route_type» size ⌝ }
 {
@@ -117,6 +119,7 @@ fn judge(kind: AddressKind, nlri: Nlri, key: &[u8]) -> u32
     DONE
 }
 
+// The octets before source and group: of the key, or of the route distinguisher with a source AS.
 fn fixed_size(route_type: usize, key: usize) -> usize
     ensures { λ r. ⌜ r ≡ fixedSize «route_type» key ⌝ }
 {
@@ -129,6 +132,7 @@ fn fixed_size(route_type: usize, key: usize) -> usize
     RouteDistinguisher::OCTETS
 }
 
+// The octets of source and group with their length octets.
 fn flow_size(route_type: usize, source: usize, group: usize) -> usize
     requires { ⌜ (source < 256) × (group < 256) ⌝ }
     ensures { λ r. ⌜ r ≡ flowSize «route_type» source group ⌝ }
@@ -139,6 +143,7 @@ fn flow_size(route_type: usize, source: usize, group: usize) -> usize
     0
 }
 
+// The octets of the originator.
 fn originator_length(route_type: usize, size: usize) -> usize
     ensures { λ r. ⌜ r ≡ originatorLength «route_type» size ⌝ }
 {
@@ -188,6 +193,7 @@ fn put_address(address: Address, output: &mut [u8], at: usize) -> usize
     put_octets(address, output, next)
 }
 
+// Route Type and Length at the front of the output.
 fn put_header(route_type: u8, size: u8, output: &mut [u8]) -> usize
     requires { ⌜ 2 ≤ length (now output) ⌝ }
     ensures { λ r. ⌜ (r ≡ 0 + length («route_type» ∷ size ∷ [])) × (now (output .exit) ≡ placed 0 («route_type» ∷ size ∷ []) (now (output .entry))) ⌝ }
@@ -221,6 +227,7 @@ fn put_fixed(nlri: Nlri, key: &[u8], output: &mut [u8], at: usize) -> usize
     put_source_as(nlri, output, next)
 }
 
+// Source and group from `at` on, where the type has them.
 fn put_flow(nlri: Nlri, output: &mut [u8], at: usize) -> usize
     requires { ⌜ AddressesSized nlri × (at + length (flowOctets nlri) ≤ length (now output)) ⌝ }
     ensures { λ r. ⌜ (r ≡ at + length (flowOctets nlri)) × (now (output .exit) ≡ placed at (flowOctets nlri) (now (output .entry))) ⌝ }
@@ -234,6 +241,7 @@ fn put_flow(nlri: Nlri, output: &mut [u8], at: usize) -> usize
     at
 }
 
+// The originator from `at` on, where the type has one.
 fn put_originator(nlri: Nlri, output: &mut [u8], at: usize) -> usize
     requires { ⌜ AddressesSized nlri × (at + length (originatorOctets nlri) ≤ length (now output)) ⌝ }
     ensures { λ r. ⌜ (r ≡ at + length (originatorOctets nlri)) × (now (output .exit) ≡ placed at (originatorOctets nlri) (now (output .entry))) ⌝ }
@@ -265,12 +273,14 @@ fn put(nlri: Nlri, key: &[u8], size: usize, output: &mut [u8]) -> Written
     Written { number: DONE, size }
 }
 
+// The answer of a refusal: its number.
 fn refusal(number: u32) -> Written
     ensures { λ r. ⌜ r ≡ writtenOf (refused number) ⌝ }
 {
     Written { number, size: 0 }
 }
 
+// Writing under the family of a kind of addresses. TYPE, WIDTH, KEY, SPACE.
 fn write_under(kind: AddressKind, nlri: Nlri, key: &[u8], output: &mut [u8]) -> Written
     requires { ⌜ (kind .bits ≡ 32) ⊎ (kind .bits ≡ 128) ⌝ }
     ensures { λ r. ⌜ (r ≡ writtenOf (writeUnder (kind .bits) nlri (now (key .entry)) (length (now (output .entry))))) × (now (output .exit) ≡ outputOf (writeUnder (kind .bits) nlri (now (key .entry)) (length (now (output .entry)))) (now (output .entry))) ⌝ }

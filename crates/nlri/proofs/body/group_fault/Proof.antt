@@ -1,6 +1,6 @@
 -- `nlri::body::group_fault` meets its contract.
 use native.Mathlib.Omega.{arith}
-use Rattle.octets.proofs.Tests.{flags}
+use Rattle.nlri.proofs.Via.{refusals}
 use Rattle.nlri.specs.Inner.{addressThen, groupFault}
 use borrow.Author.Needs.{needs}
 use Rattle.nlri.proofs.body.group_fault.Statement.{statement}
@@ -8,7 +8,7 @@ use Rattle.nlri.proofs.body.group_fault.Tie as tie
 
 returns : tie.Need-returns
 unfolding groupFault addressThen
-returns c = search flags
+returns c = search refusals
 
 shared-slice-read-bits : tie.Need-shared-slice-read-bits
 shared-slice-read-bits c = search needs
@@ -19,6 +19,10 @@ cast-bits c = omega (arith, c .shared-slice-known2 .given (c .before .before .be
 is-allowed-requires : tie.Need-is-allowed-requires
 is-allowed-requires c κs = search needs
 
+returns-2 : tie.Need-returns-2
+unfolding groupFault addressThen
+returns-2 c = search refusals
+
 add-flow-end-fault : tie.Need-add-flow-end-fault
 add-flow-end-fault c = search needs
 
@@ -28,13 +32,9 @@ add-flow-end-fault-2 c = omega (arith, c .before .before .shared-slice-known2 .g
 flow-end-fault-requires : tie.Need-flow-end-fault-requires
 flow-end-fault-requires c κs = omega (arith, c .before .before .shared-slice-known2 .given (c .before .before .before .before .before .args .at))
 
-returns-2 : tie.Need-returns-2
-unfolding groupFault addressThen
-returns-2 c = search flags
-
 returns-3 : tie.Need-returns-3
 unfolding groupFault addressThen
-returns-3 c = search flags
+returns-3 c = search refusals
 
 pub group-fault-spec : {M : Type 1} → statement M
 group-fault-spec =
@@ -44,8 +44,8 @@ group-fault-spec =
     shared-slice-read-bits
     cast-bits
     is-allowed-requires
+    returns-2
     add-flow-end-fault
     add-flow-end-fault-2
     flow-end-fault-requires
-    returns-2
     returns-3)

@@ -3,6 +3,7 @@ use mathlib.Core.Path.{ap}
 use Prim.Native.Nat.{ℕ}
 use native.Mathlib.Omega.{arith}
 use lib.Dec.{eqb}
+use Rattle.octets.specs.Numbers.{DONE}
 use Rattle.octets.proofs.Tests.{flags}
 use Rattle.nlri.specs.Inner.{sPmsiUnder}
 use borrow.Author.Needs.{needs}
@@ -48,7 +49,7 @@ flow-fault-requires c κs = search needs
 returns-4 : tie.Need-returns-4
 unfolding sPmsiUnder
 returns-4 c =
-    let last = ap (λ (n : ℕ). eqb n 0) (c .flow-fault .ensures) in
+    let last = ap (λ (n : ℕ). eqb n DONE) (c .flow-fault .ensures) in
     search flags
 
 pub is-s-pmsi-under-spec : {M : Type 1} → statement M

@@ -17,14 +17,14 @@ shared-slice-read-route-type c = search needs
 cast-route-type : tie.Need-cast-route-type
 cast-route-type c = omega (arith, c .shared-slice-known2 .given 0)
 
-shared-slice-read-length : tie.Need-shared-slice-read-length
-shared-slice-read-length c = search needs
+shared-slice-read-originator : tie.Need-shared-slice-read-originator
+shared-slice-read-originator c = search needs
 
-cast-length : tie.Need-cast-length
-cast-length c = omega (arith, c .shared-slice-known3 .given 1)
+cast-originator : tie.Need-cast-originator
+cast-originator c = omega (arith, c .shared-slice-known3 .given 1)
 
-sub-plain-layout : tie.Need-sub-plain-layout
-sub-plain-layout c = omega (arith, c .before .before .before .before .pre .intraAs (c .if1 .taken))
+sub-originator : tie.Need-sub-originator
+sub-originator c = omega (arith, c .before .before .before .before .pre .intraAs (c .before .if1 .taken))
 
 plain-layout-requires : tie.Need-plain-layout-requires
 plain-layout-requires c κs = search needs
@@ -41,7 +41,7 @@ unfolding layoutIn
 returns-2 c = search tests
 
 leaf-layout-requires : tie.Need-leaf-layout-requires
-leaf-layout-requires c κs = c .before .before .before .before .before .before .pre .leaf (c .if3 .taken)
+leaf-layout-requires c κs = c .before .before .before .before .before .pre .leaf (c .if3 .taken)
 
 returns-3 : tie.Need-returns-3
 unfolding layoutIn
@@ -51,15 +51,15 @@ source-start-requires : tie.Need-source-start-requires
 source-start-requires c κs = search needs
 
 sub-flow-layout : tie.Need-sub-flow-layout
-sub-flow-layout c = omega (arith, c .source-start .ensures, start-least (getD (now (c .before .before .before .before .before .before .before .args .s)) 0 0))
+sub-flow-layout c = omega (arith, c .source-start .ensures, start-least (getD (now (c .before .before .before .before .before .before .args .s)) 0 0))
 
 flow-layout-requires : tie.Need-flow-layout-requires
-flow-layout-requires c κs = subst (λ (k : ℕ). FlowStands (k - 1) (now (c .before .before .before .before .before .before .before .args .s))) (sym (c .source-start .ensures)) (c .before .before .before .before .before .before .before .pre .flow (c .before .before .before .if1 .left) (c .before .before .if2 .left) (c .before .if3 .left))
+flow-layout-requires c κs = subst (λ (k : ℕ). FlowStands (k - 1) (now (c .before .before .before .before .before .before .args .s))) (sym (c .source-start .ensures)) (c .before .before .before .before .before .before .pre .flow (c .before .before .before .if1 .left) (c .before .before .if2 .left) (c .before .if3 .left))
 
 returns-4 : tie.Need-returns-4
 unfolding layoutIn
 returns-4 c =
-    let moved = c .flow-layout .ensures ∙ ap (λ (k : ℕ). flowLayout (getD (now (c .before .before .before .before .before .before .before .before .args .s)) 0 0) (k - 1) (now (c .before .before .before .before .before .before .before .before .args .s))) (c .before .source-start .ensures) in
+    let moved = c .flow-layout .ensures ∙ ap (λ (k : ℕ). flowLayout (getD (now (c .before .before .before .before .before .before .before .args .s)) 0 0) (k - 1) (now (c .before .before .before .before .before .before .before .args .s))) (c .before .source-start .ensures) in
     search tests
 
 pub layout-in-spec : {M : Type 1} → statement M
@@ -68,9 +68,9 @@ layout-in-spec =
     (tie.spec
     shared-slice-read-route-type
     cast-route-type
-    shared-slice-read-length
-    cast-length
-    sub-plain-layout
+    shared-slice-read-originator
+    cast-originator
+    sub-originator
     plain-layout-requires
     returns
     plain-layout-requires-2
