@@ -90,14 +90,7 @@ fn stopped(cursor: usize, number: u32) -> StepAnswer
     StepAnswer {
         cursor,
         number,
-        layout: Layout {
-            route_type: 0,
-            length: 0,
-            source: 0,
-            group: 0,
-            originator: 0,
-            key: 0,
-        },
+        layout: Layout::none(),
     }
 }
 

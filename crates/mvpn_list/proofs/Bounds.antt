@@ -8,7 +8,7 @@ use Rattle.octets.specs.Numbers.{DONE}
 use Rattle.nlri.specs.Walking.{stepFrom}
 use Rattle.nlri.proofs.Steps.{step-moves}
 use Rattle.mvpn_list.specs.Listing.{decimalOf, fieldOf, lineOf, nlriLine, openingOf, lastLine, headerLine, linesFrom, linesOf, listingOf}
-use Rattle.mvpn_list.proofs.Choices.{pick-by}
+use Rattle.octets.proofs.Choice.{pick-case}
 use Rattle.mvpn_list.proofs.Decimals.{length-decimalOf}
 use Rattle.mvpn_list.proofs.Steps.{Comes, reads, stops, comes-stepFrom, linesFrom-reads, linesFrom-stops}
 
@@ -27,7 +27,7 @@ length-lineOf offset type size h k l =
 length-lastLine : (n offset : ℕ) → n < 100 → offset ≤ 4096 → length (lastLine n offset) ≤ 13
 unfolding lastLine openingOf
 length-lastLine n offset h k =
-    let o : length (openingOf n) ≤ 5 = pick-by (λ (x : List ℕ). length x ≤ 5) _ _ _ (λ _. omega arith) (λ _. omega arith) in
+    let o : length (openingOf n) ≤ 5 = pick-case (λ (x : List ℕ). length x ≤ 5) _ _ _ (λ _. omega arith) (λ _. omega arith) in
     let a = length-fieldOf 3 offset 32 (omega arith) in
     let b = length-fieldOf 1 n 10 (omega arith) in
     omega (arith, length-append (openingOf n) (fieldOf offset 32 ++ fieldOf n 10), length-append (fieldOf offset 32) (fieldOf n 10))

@@ -8,10 +8,9 @@ use borrow.Author.Tests.{ltb-true, ltb-false, leb-true, leb-false, eqb-true, eqb
 use lib.ListN.{length, getD, length-append, List·getD-append}
 use lib.Dec.{ltb, leb, eqb}
 use Rattle.octets.specs.Choice.{pick}
-use Rattle.octets.proofs.Picked.{tested}
+use Rattle.octets.proofs.Choice.{tested, pick-case}
 use Rattle.mvpn_list.specs.Listing.{lastDigit, digitsWithin, decimalOf}
 use Rattle.mvpn_list.specs.ListingRule.{decimalValue, AllDigits, none, one, Decimal}
-use Rattle.mvpn_list.proofs.Choices.{pick-by}
 
 decimalValue-append : (digits : List ℕ) (digit high : ℕ) → decimalValue (digits ++ (digit ∷ [])) high ≡ decimalValue digits high * 10 + (digit - 48)
 unfolding decimalValue
@@ -22,7 +21,7 @@ decimalValue-digitsWithin : (most n : ℕ) → n < most → decimalValue (digits
 unfolding digitsWithin lastDigit decimalValue
 decimalValue-digitsWithin zero n h = absurd (omega arith)
 decimalValue-digitsWithin (suc most) n h =
-    pick-by (λ (x : List ℕ). decimalValue x 0 ≡ n) (ltb n 10) _ _ (λ t. omega (arith, ltb-true n 10 t))
+    pick-case (λ (x : List ℕ). decimalValue x 0 ≡ n) (ltb n 10) _ _ (λ t. omega (arith, ltb-true n 10 t))
     (λ t. let high = decimalValue-digitsWithin most (n / 10) (omega (arith, ltb-false n 10 t)) in decimalValue-append (digitsWithin most (n / 10)) (48 + n % 10) 0 ∙ omega arith)
 
 allDigits-append : {s t : List ℕ} → AllDigits s → AllDigits t → AllDigits (s ++ t)
@@ -37,11 +36,11 @@ allDigits-digitsWithin : (most n : ℕ) → AllDigits (digitsWithin most n)
 unfolding digitsWithin
 allDigits-digitsWithin zero n = none
 allDigits-digitsWithin (suc most) n =
-    pick-by AllDigits (ltb n 10) _ _ (λ _. allDigits-lastDigit n) (λ _. allDigits-append (allDigits-digitsWithin most (n / 10)) (allDigits-lastDigit n))
+    pick-case AllDigits (ltb n 10) _ _ (λ _. allDigits-lastDigit n) (λ _. allDigits-append (allDigits-digitsWithin most (n / 10)) (allDigits-lastDigit n))
 
 some-digitsWithin : (most n : ℕ) → 1 ≤ length (digitsWithin (suc most) n)
 unfolding digitsWithin
-some-digitsWithin most n = pick-by (λ (x : List ℕ). 1 ≤ length x) (ltb n 10) _ _ (λ _. omega arith) (λ _. simp length-append (omega arith))
+some-digitsWithin most n = pick-case (λ (x : List ℕ). 1 ≤ length x) (ltb n 10) _ _ (λ _. omega arith) (λ _. simp length-append (omega arith))
 
 -- the first digit of a number other than 0 is not 0
 getD-digitsWithin : (most n : ℕ) → 0 < n → n < most → getD (digitsWithin most n) 0 0 ≢ 48
@@ -49,7 +48,7 @@ unfolding digitsWithin lastDigit
 getD-digitsWithin zero n some h = absurd (omega arith)
 getD-digitsWithin (suc zero) n some h = absurd (omega arith)
 getD-digitsWithin (suc (suc most)) n some h =
-    pick-by (λ (x : List ℕ). getD x 0 0 ≢ 48) (ltb n 10) _ _ (λ t e. omega (arith, ltb-true n 10 t))
+    pick-case (λ (x : List ℕ). getD x 0 0 ≢ 48) (ltb n 10) _ _ (λ t e. omega (arith, ltb-true n 10 t))
     (λ t e.
     let many = ltb-false n 10 t in
     let inside = List·getD-append (digitsWithin (suc most) (n / 10)) ((48 + n % 10) ∷ []) 0 0 (omega (arith, some-digitsWithin most (n / 10))) in

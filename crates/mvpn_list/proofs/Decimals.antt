@@ -8,7 +8,7 @@ use borrow.Author.Tests.{ltb-true, ltb-false, lt-ltb}
 use lib.ListN.{length, length-append}
 use lib.Dec.{ltb}
 use Rattle.io.specs.Digits.{digits, glyph, Fewest}
-use Rattle.mvpn_list.proofs.Choices.{pick-by}
+use Rattle.octets.proofs.Choice.{pick-case}
 use Rattle.mvpn_list.specs.Listing.{lastDigit, digitsWithin, decimalOf}
 
 glyph-lastDigit : (n : ℕ) → glyph (n % 10) ≡ lastDigit n
@@ -33,9 +33,9 @@ digits-digitsWithin : (k n most : ℕ) → Fewest 10 1 n k → n < most → digi
 unfolding digitsWithin
 digits-digitsWithin zero n most f h = absurd (omega arith)
 digits-digitsWithin (suc k) n zero f h = absurd (omega arith)
-digits-digitsWithin (suc zero) n (suc most) f h = pick-by (λ (x : List ℕ). digits 10 1 n ≡ x) (ltb n 10) _ _ (λ t. digits-below-ten 0 n (ltb-true _ _ t) f) (λ t. absurd (omega (arith, ltb-false n 10 t)))
+digits-digitsWithin (suc zero) n (suc most) f h = pick-case (λ (x : List ℕ). digits 10 1 n ≡ x) (ltb n 10) _ _ (λ t. digits-below-ten 0 n (ltb-true _ _ t) f) (λ t. absurd (omega (arith, ltb-false n 10 t)))
 digits-digitsWithin (suc (suc i)) n (suc most) f h =
-    pick-by (λ (x : List ℕ). digits 10 (suc (suc i)) n ≡ x) (ltb n 10) _ _ (λ t. digits-below-ten (suc i) n (ltb-true _ _ t) f)
+    pick-case (λ (x : List ℕ). digits 10 (suc (suc i)) n ≡ x) (ltb n 10) _ _ (λ t. digits-below-ten (suc i) n (ltb-true _ _ t) f)
     (λ t. ap₂ (λ (a : List ℕ) (b : ℕ). a ++ (b ∷ [])) (digits-digitsWithin (suc i) (n / 10) most (fewest-tenth n i f) (omega (arith, ltb-false n 10 t))) (glyph-lastDigit n))
 
 pub digits-decimalOf : (k n : ℕ) → Fewest 10 1 n k → digits 10 k n ≡ decimalOf n
@@ -45,11 +45,11 @@ digits-decimalOf k n f = digits-digitsWithin k n (suc n) f (omega arith)
 length-digitsWithin : (k n most : ℕ) → n < 10 ^ suc k → length (digitsWithin most n) ≤ suc k
 unfolding digitsWithin
 length-digitsWithin k n zero h = omega arith
-length-digitsWithin zero n (suc most) h = pick-by (λ (x : List ℕ). length x ≤ 1) (ltb n 10) _ _ (λ t. omega arith) (λ t. absurd (omega (arith, ltb-false n 10 t)))
+length-digitsWithin zero n (suc most) h = pick-case (λ (x : List ℕ). length x ≤ 1) (ltb n 10) _ _ (λ t. omega arith) (λ t. absurd (omega (arith, ltb-false n 10 t)))
 length-digitsWithin (suc i) n (suc most) h =
     let q = pow-succ' 10 (suc i) in
     let later : length (digitsWithin most (n / 10)) ≤ suc i = length-digitsWithin i (n / 10) most (omega arith) in
-    pick-by (λ (x : List ℕ). length x ≤ suc (suc i)) (ltb n 10) _ _ (λ t. omega arith) (λ t. simp length-append (omega arith))
+    pick-case (λ (x : List ℕ). length x ≤ suc (suc i)) (ltb n 10) _ _ (λ t. omega arith) (λ t. simp length-append (omega arith))
 
 -- a number below ten to the power of k has at most k digits
 pub length-decimalOf : (k n : ℕ) → n < 10 ^ suc k → length (decimalOf n) ≤ suc k

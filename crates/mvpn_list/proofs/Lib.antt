@@ -1,5 +1,4 @@
 -- Laws of the listing.
-pub mod Choices
 pub mod Decimals
 pub mod DecimalRule
 pub mod Writes

@@ -11,7 +11,7 @@ use Rattle.octets.specs.Numbers.{LONG}
 use Rattle.octets.specs.Choice.{pick, both, either}
 use Rattle.octets.specs.Octets.{part}
 use Rattle.octets.specs.Outcome.{onOutcome, andThen}
-use Rattle.octets.proofs.Picked.{tested}
+use Rattle.octets.proofs.Choice.{tested}
 use Rattle.nlri.specs.Family.{familyBits, allowed, isOriginatorSize}
 use Rattle.nlri.specs.Bodies.{bodies, onBody, fieldIn, sameKind, codeOf}
 use Rattle.nlri.specs.Reading.{fixedField, addressEnd, addressField, originatorField, fieldSize, sizesOf, laidWith, laidAt}

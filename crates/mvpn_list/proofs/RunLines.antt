@@ -19,7 +19,7 @@ use Rattle.nlri.proofs.Theorems.{lengths, stepRule}
 use Rattle.nlri.proofs.Steps.{Stops, stops-endedAt, stops-refusedAt}
 use Rattle.mvpn_list.specs.Listing.{decimalOf, fieldOf, lineOf, openingOf, lastLine, linesFrom, linesOf}
 use Rattle.mvpn_list.specs.ListingRule.{NumberLine, Opening, RunLines}
-use Rattle.mvpn_list.proofs.Choices.{pick-by}
+use Rattle.octets.proofs.Choice.{pick-case}
 use Rattle.mvpn_list.proofs.DecimalRule.{decimal-decimalOf, decimal-only}
 use Rattle.mvpn_list.proofs.Steps.{linesFrom-reads, linesFrom-stops}
 
@@ -38,7 +38,7 @@ numberLine-lineOf offset type lengthField = numberLine-next offset (numberLine-n
 opening-openingOf : (number : ℕ) → Opening number (openingOf number)
 unfolding openingOf
 opening-openingOf number =
-    pick-by (Opening number) (eqb number DONE) _ _ (λ e. subst (λ (n : ℕ). Opening n (101 ∷ 110 ∷ 100 ∷ 32 ∷ [])) (sym (eqb-true number DONE e)) Opening.end) (λ e. Opening.stop (eqb-false number DONE e))
+    pick-case (Opening number) (eqb number DONE) _ _ (λ e. subst (λ (n : ℕ). Opening n (101 ∷ 110 ∷ 100 ∷ 32 ∷ [])) (sym (eqb-true number DONE e)) Opening.end) (λ e. Opening.stop (eqb-false number DONE e))
 
 runLines-lastLine : (number offset : ℕ) → RunLines number offset [] (lastLine number offset)
 unfolding lastLine

@@ -8,9 +8,8 @@ use native.Mathlib.Omega.{arith}
 use lib.ListN.{drop}
 use Rattle.octets.specs.Numbers.{DONE, SHORT, LONG}
 use Rattle.octets.specs.Outcome.{given}
-use Rattle.octets.proofs.Inversions.{passed, given-same}
-use Rattle.octets.proofs.Outcomes.{pick-true, pick-false}
-use Rattle.octets.proofs.RefusalNumbers.{refuses-by}
+use Rattle.octets.proofs.Choice.{pick-true, pick-false, pick-case}
+use Rattle.octets.proofs.Outcome.{passed, given-same, refuses-by, on-case}
 use Rattle.nlri.specs.declared.layout.Layout.{Layout}
 use Rattle.nlri.specs.Reading.{keyField, laidAt}
 use Rattle.nlri.specs.Layouts.{layoutOf, layoutAt}
@@ -19,7 +18,6 @@ use Rattle.nlri.proofs.ReadNumbers.{family-refuses, layout-refuses}
 use Rattle.nlri.proofs.Whole.{laid-out}
 use Rattle.nlri.proofs.Steps.{Stops, stops-endedAt, stops-refusedAt}
 use Rattle.mvpn_list.specs.Listing.{nlriLine, lastLine, linesFrom}
-use Rattle.mvpn_list.proofs.Choices.{pick-by, onOutcome-by}
 
 -- a layout's route type is known
 route-type-layoutAt : (bits : ℕ) (s : List ℕ) (l : Layout) → layoutAt bits s ≡ given l → l .«route_type» ≤ 7
@@ -37,11 +35,11 @@ pub data Comes (s : Stepped) : Type 0 where
 pub comes-stepFrom : (afi : ℕ) (run : List ℕ) (at : ℕ) → Comes (stepFrom afi run at)
 unfolding stepFrom stepUnder
 comes-stepFrom afi run at =
-    onOutcome-by Comes _ _ _ (λ n e. stops n (stops-refusedAt n at refl) (omega (arith, refuses-by _ n (family-refuses afi) e)))
-    (λ bits _. pick-by Comes _ _ _ (λ _. stops LONG (stops-refusedAt LONG at refl) (omega arith))
-    (λ _. pick-by Comes _ _ _ (λ _. stops DONE (stops-endedAt DONE at refl refl) (omega arith))
-    (λ _. pick-by Comes _ _ _ (λ _. stops SHORT (stops-refusedAt SHORT at refl) (omega arith))
-    (λ _. onOutcome-by Comes _ _ _ (λ n e. stops n (stops-refusedAt n at refl) (omega (arith, refuses-by _ n (layout-refuses bits (drop at run)) e)))
+    on-case Comes _ _ _ (λ n e. stops n (stops-refusedAt n at refl) (omega (arith, refuses-by _ n (family-refuses afi) e)))
+    (λ bits _. pick-case Comes _ _ _ (λ _. stops LONG (stops-refusedAt LONG at refl) (omega arith))
+    (λ _. pick-case Comes _ _ _ (λ _. stops DONE (stops-endedAt DONE at refl refl) (omega arith))
+    (λ _. pick-case Comes _ _ _ (λ _. stops SHORT (stops-refusedAt SHORT at refl) (omega arith))
+    (λ _. on-case Comes _ _ _ (λ n e. stops n (stops-refusedAt n at refl) (omega (arith, refuses-by _ n (layout-refuses bits (drop at run)) e)))
     (λ layout e. reads layout _ refl (route-type-layoutAt bits (drop at run) layout e) (omega arith))))))
 
 -- how the lines go on by a step

@@ -10,9 +10,8 @@ use lib.Seq.{take-all}
 use Rattle.octets.specs.Choice.{pick, either}
 use Rattle.octets.specs.Outcome.{given, andThen}
 use Rattle.octets.specs.Octets.{AllOctets, part, numberIn, bigEndian}
-use Rattle.octets.proofs.Outcomes.{pick-true}
-use Rattle.octets.proofs.Tests.{goes}
-use Rattle.octets.proofs.Inversions.{given-unless, passed, given-same, opposite}
+use Rattle.octets.proofs.Choice.{pick-true, opposite}
+use Rattle.octets.proofs.Outcome.{goes, given-unless, passed, given-same}
 use Rattle.octets.proofs.NetworkOrder.{number-of-big-endian}
 use Rattle.nlri.specs.Family.{familyBits}
 use Rattle.nlri.specs.Bodies.{FieldKind, distinguisher, sourceAs, source, group, originator, key, bodyOf, fieldIn, sameKind, hasField}

@@ -1,7 +1,7 @@
 -- The enums that answer a call: number and values tell their cases apart.
 use mathlib.Core.Path.{_≡_, refl, sym, ap, ap₂}
-use Rattle.octets.proofs.Inversions.{never, opposite, given-same}
-use Rattle.octets.proofs.Refusals.{refused-same}
+use Rattle.octets.proofs.Choice.{opposite}
+use Rattle.octets.proofs.Outcome.{never, given-same, refused-same}
 use Rattle.nlri.specs.declared.layout.Layout.{Layout}
 use Rattle.nlri.specs.declared.layout.Reading.{Reading}
 use Rattle.nlri.specs.declared.layout.Reading.the-variants as reading

@@ -11,9 +11,8 @@ use lib.Dec.{eqb, leb}
 use Rattle.octets.specs.Numbers.{FAMILY, FLOW}
 use Rattle.octets.specs.Choice.{pick, both}
 use Rattle.octets.specs.Outcome.{Outcome, given, refused, andThen}
-use Rattle.octets.proofs.Tests.{stops, both-true}
-use Rattle.octets.proofs.Inversions.{never, opposite, given-same, both-true-left, both-true-right}
-use Rattle.octets.proofs.Refusals.{refused-same, outcome}
+use Rattle.octets.proofs.Choice.{both-true, opposite, both-true-left, both-true-right}
+use Rattle.octets.proofs.Outcome.{stops, never, given-same, refused-same, outcome}
 use Rattle.nlri.specs.Family.{familyBits}
 use Rattle.nlri.specs.Groups.{ASM, SSM, multicast, sourceSpecific, classUnder, classOf}
 use Rattle.nlri.specs.Statements.{Multicast, SourceSpecific, GroupRefusal, badFamily, badGroup, GroupRule}

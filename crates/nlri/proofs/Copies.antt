@@ -7,7 +7,7 @@ use borrow.Author.Tests.{eq-eqb, ne-eqb}
 use lib.ListN.{length, getD, take, drop, replicate}
 use lib.Seq.{take-all, drop-cons}
 use Rattle.octets.specs.Octets.{part, sized}
-use Rattle.octets.proofs.Outcomes.{pick-true, pick-false}
+use Rattle.octets.proofs.Choice.{pick-true, pick-false}
 use Rattle.octets.proofs.Lists.{copied-sized, part-length}
 use Rattle.nlri.specs.Answers.{addressStruct, kindOctets, distinguisherStruct}
 

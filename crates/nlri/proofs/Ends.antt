@@ -12,14 +12,13 @@ use lib.Dec.{ltb, leb, eqb}
 use Rattle.octets.specs.Numbers.{DONE, TYPE, LENGTH, WIDTH}
 use Rattle.octets.specs.Choice.{pick, either}
 use Rattle.octets.specs.Outcome.{Outcome, given, refused, andThen, numberOf}
-use Rattle.octets.proofs.Outcomes.{and-assoc, and-cong, and-given, pick-true, pick-false}
-use Rattle.octets.proofs.Picked.{tested}
-use Rattle.octets.proofs.Tests.{skips, either-false}
+use Rattle.octets.proofs.Choice.{pick-true, pick-false, tested, skips, either-false}
+use Rattle.octets.proofs.Outcome.{and-assoc, and-cong, and-given, number-goes, number-stops}
 use Rattle.nlri.specs.declared.layout.Layout.{Layout}
 use Rattle.nlri.specs.Family.{allowed, isOriginatorSize}
 use Rattle.nlri.specs.Reading.{addressEnd, addressField}
 use Rattle.nlri.specs.Inner.{layoutWith, originatorLast, nothingLast, lastFault, restFault, withGroup, flowSizes, flowEnd, flowEndFault, addressThen, groupFault, flowFault, flowRoute, intraAs, interAs, keyEnd, bodyWith, withSourceAs, sourceStart}
-use Rattle.nlri.proofs.Numbered.{number-goes, number-stops, last-number}
+use Rattle.nlri.proofs.Numbered.{last-number}
 
 -- what stands from `at` to the end
 module _ (good : ℕ → Bool) (at size : ℕ) where

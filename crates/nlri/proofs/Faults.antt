@@ -11,10 +11,8 @@ use lib.Seq.{length-take-le, take-length, drop-append-seam, drop-length}
 use Rattle.octets.specs.Numbers.{LENGTH, WIDTH, KEY, FAMILY}
 use Rattle.octets.specs.Outcome.{given, refused}
 use Rattle.octets.specs.Octets.{AllOctets}
-use Rattle.octets.proofs.Outcomes.{pick-true, pick-false}
-use Rattle.octets.proofs.Tests.{goes, stops}
-use Rattle.octets.proofs.Inversions.{never}
-use Rattle.octets.proofs.Refusals.{refused-same, picked, stopped, outcome, refuses-where, refuses-unless}
+use Rattle.octets.proofs.Choice.{pick-true, pick-false, picked}
+use Rattle.octets.proofs.Outcome.{goes, stops, never, refused-same, stopped, outcome, refuses-where, refuses-unless}
 use Rattle.octets.proofs.AllOctets.{octets-drop}
 use Rattle.octets.proofs.Lists.{front-rest}
 use Rattle.nlri.specs.Family.{familyBits, allowed, isOriginatorSize}

@@ -12,8 +12,8 @@ use Rattle.octets.specs.Choice.{pick}
 use Rattle.octets.specs.Outcome.{Outcome, given, refused, andThen, onOutcome}
 use Rattle.octets.specs.Octets.{part}
 use Rattle.octets.proofs.Lists.{part-length}
-use Rattle.octets.proofs.Outcomes.{and-cong, and-pick, and-given, and-refused, on-mapped, pick-cong}
-use Rattle.octets.proofs.Inversions.{never, given-otherwise, passed, given-same, on-given-given}
+use Rattle.octets.proofs.Choice.{pick-cong}
+use Rattle.octets.proofs.Outcome.{and-cong, and-pick, and-given, and-refused, on-mapped, never, given-otherwise, passed, given-same, on-given-given}
 use Rattle.nlri.specs.declared.layout.Layout.{Layout}
 use Rattle.nlri.specs.Bodies.{FieldKind, Row, row, bodies, onBody}
 use Rattle.nlri.specs.Reading.{Laid, fieldSize, sizesOf, laidWith, laidAt, noKey, keyField}

@@ -10,8 +10,8 @@ use lib.Seq.{length-take-le, getD-take}
 use Rattle.octets.specs.Numbers.{KEY}
 use Rattle.octets.specs.Outcome.{Outcome, given, refused}
 use Rattle.octets.specs.Octets.{AllOctets, one, numberIn, bigEndian}
-use Rattle.octets.proofs.Outcomes.{pick-true, pick-false}
-use Rattle.octets.proofs.Inversions.{given-otherwise, given-unless, given-same}
+use Rattle.octets.proofs.Choice.{pick-true, pick-false}
+use Rattle.octets.proofs.Outcome.{given-otherwise, given-unless, given-same}
 use Rattle.octets.proofs.AllOctets.{octets-take, octets-drop, number-fits}
 use Rattle.octets.proofs.Lists.{front-rest}
 use Rattle.octets.proofs.NetworkOrder.{big-endian-length, big-endian-octets, big-endian-of-number}

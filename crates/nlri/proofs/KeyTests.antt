@@ -10,8 +10,8 @@ use lib.Dec.{eqb}
 use Rattle.octets.specs.Numbers.{DONE, LENGTH}
 use Rattle.octets.specs.Choice.{pick}
 use Rattle.octets.specs.Outcome.{Outcome, given, refused, onOutcome, andThen, numberOf}
-use Rattle.octets.proofs.Picked.{tested}
-use Rattle.octets.proofs.RefusalNumbers.{Refuses, number}
+use Rattle.octets.proofs.Choice.{tested}
+use Rattle.octets.proofs.Outcome.{Refuses, number}
 use Rattle.nlri.specs.Reading.{keyField}
 use Rattle.nlri.specs.Writing.{isKey}
 use Rattle.nlri.specs.Inner.{layoutWith, nothingLast, keyEnd, keyed}

@@ -9,10 +9,8 @@ use lib.ListN.{length, take}
 use Rattle.octets.specs.Numbers.{KEY}
 use Rattle.octets.specs.Outcome.{given, refused}
 use Rattle.octets.specs.Octets.{AllOctets}
-use Rattle.octets.proofs.Outcomes.{pick-false}
-use Rattle.octets.proofs.Tests.{on-given}
-use Rattle.octets.proofs.Inversions.{never, given-otherwise, given-same, on-given-given}
-use Rattle.octets.proofs.Refusals.{refused-same, picked, turned}
+use Rattle.octets.proofs.Choice.{pick-false, picked}
+use Rattle.octets.proofs.Outcome.{on-given, never, given-otherwise, given-same, on-given-given, refused-same, turned}
 use Rattle.nlri.specs.Fields.{Fields, encodeNlri, NoKey, KeyOf}
 use Rattle.nlri.specs.Reading.{laidWith, noKey, keyField}
 use Rattle.nlri.proofs.Table.{rowOf, known}

@@ -8,10 +8,8 @@ use native.Mathlib.Omega.{arith}
 use borrow.Author.Tests.{eqb-true, eq-eqb, ne-eqb}
 use lib.ListN.{length}
 use Rattle.octets.specs.Outcome.{given}
-use Rattle.octets.proofs.Outcomes.{pick-true, pick-false}
-use Rattle.octets.proofs.Tests.{both-true, either-left}
-use Rattle.octets.proofs.Inversions.{given-unless, given-same, either-true, both-true-left, both-true-right}
-use Rattle.octets.proofs.Refusals.{picked, either-second}
+use Rattle.octets.proofs.Choice.{pick-true, pick-false, both-true, either-left, either-true, both-true-left, both-true-right, picked, either-second}
+use Rattle.octets.proofs.Outcome.{given-unless, given-same}
 use Rattle.nlri.specs.Family.{familyBits, allowed, isOriginatorSize}
 use Rattle.nlri.specs.Statements.{Lengths}
 

@@ -7,8 +7,8 @@ use native.Mathlib.Omega.{arith}
 use Rattle.octets.specs.Numbers.{DONE, LENGTH}
 use Rattle.octets.specs.Choice.{pick}
 use Rattle.octets.specs.Outcome.{Outcome, given, refused, andThen, numberOf}
+use Rattle.octets.proofs.Outcome.{number-goes, number-stops, Refuses, number}
 use Rattle.octets.proofs.Tests.{tests}
-use Rattle.octets.proofs.RefusalNumbers.{Refuses, number}
 use Rattle.nlri.specs.declared.layout.Layout.{Layout}
 use Rattle.nlri.specs.declared.read.Header.{Header}
 use Rattle.nlri.specs.declared.read.Header.the-variants.{Typed, Unread}
@@ -17,14 +17,6 @@ use Rattle.nlri.specs.Inner.{headerOutcome, lastFault, unkeyedBody}
 use Rattle.nlri.proofs.Via.{typed-given}
 use Rattle.nlri.proofs.Fronts.{anyFront, front-is}
 use Rattle.nlri.proofs.ReadNumbers.{ByReading, layout-refuses, unkeyed-refuses}
-
-pub number-goes : {A B : Type 0} (n : ℕ) (o : Outcome A) (a : A) (next : A → Outcome B) → o ≡ given a → n ≡ numberOf (next a) → n ≡ numberOf (andThen o next)
-unfolding andThen
-number-goes n o a next p q = rw p q
-
-pub number-stops : {A B : Type 0} (n : ℕ) (o : Outcome A) (next : A → Outcome B) → o ≡ refused n → n ≡ numberOf (andThen o next)
-unfolding andThen numberOf
-number-stops n o next p = rw p
 
 -- by the case of an answer
 pub number-typed : {B : Type 0} (t : ℕ) (r : Header) (o : Outcome (ℕ × ℕ)) (a b : ℕ) (next : ℕ × ℕ → Outcome B) → headerOutcome r ≡ o → r ≡ Typed a b → t ≡ numberOf (next (a, b)) → t ≡ numberOf (andThen o next)
@@ -44,12 +36,6 @@ pub front-number : (t bits : ℕ) (s : List ℕ) → t ≡ numberOf (anyFront bi
 front-number t bits s p = p ∙ ap numberOf (front-is (anyFront bits s) bits s refl)
 
 pub ruleset numbers = (tests, number-typed, number-unread)
-
--- a number other than DONE is a refusal's
-pub refused-of : {A : Type 0} (o : Outcome A) (n : ℕ) → n ≡ numberOf o → (n ≡ DONE → ⊥) → o ≡ refused n
-unfolding numberOf
-refused-of (given a) n e h = absurd (h e)
-refused-of (refused m) n e h = ap refused (sym e)
 
 -- reading that answers DONE gives a value
 done : {A : Type 0} (o : Outcome A) → Refuses ByReading o → numberOf o ≡ DONE → (a : A) × (o ≡ given a)

@@ -14,7 +14,7 @@ use Rattle.octets.specs.Outcome.{given, onOutcome, numberOf}
 use Rattle.octets.specs.Octets.{bigEndian}
 use Rattle.octets.specs.Outputs.{writtenOf, outputOf}
 use Rattle.octets.proofs.Lists.{Put, sized-length, sized-taken, front-is-placed}
-use Rattle.octets.proofs.Outcomes.{pick-true, pick-false}
+use Rattle.octets.proofs.Choice.{pick-true, pick-false}
 use Rattle.octets.proofs.NetworkOrder.{big-endian-length}
 use Rattle.nlri.specs.declared.address.Address.{Address}
 use Rattle.nlri.specs.declared.fields.Nlri.{Nlri}

@@ -11,10 +11,8 @@ use lib.Dec.{ltb}
 use Rattle.octets.specs.Numbers.{DONE, SHORT, TYPE, LENGTH}
 use Rattle.octets.specs.Outcome.{given, refused}
 use Rattle.octets.specs.Octets.{AllOctets, part}
-use Rattle.octets.proofs.Outcomes.{pick-true, pick-false}
-use Rattle.octets.proofs.Tests.{goes, stops}
-use Rattle.octets.proofs.Inversions.{never, opposite}
-use Rattle.octets.proofs.Refusals.{refused-same, picked, stopped, outcome, is-false}
+use Rattle.octets.proofs.Choice.{pick-true, pick-false, opposite, picked, is-false}
+use Rattle.octets.proofs.Outcome.{goes, stops, never, refused-same, stopped, outcome}
 use Rattle.octets.proofs.AllOctets.{octets-part}
 use Rattle.nlri.specs.Family.{familyBits}
 use Rattle.nlri.specs.Bodies.{bodies, bodyOf}

@@ -12,8 +12,8 @@ use Rattle.octets.specs.Numbers.{DONE}
 use Rattle.octets.specs.Choice.{pick}
 use Rattle.octets.specs.Outcome.{Outcome, given, refused, onOutcome}
 use Rattle.octets.specs.Octets.{AllOctets, none, part}
-use Rattle.octets.proofs.Outcomes.{pick-cong, pick-true, pick-false}
-use Rattle.octets.proofs.Inversions.{passed}
+use Rattle.octets.proofs.Choice.{pick-cong, pick-true, pick-false}
+use Rattle.octets.proofs.Outcome.{passed}
 use Rattle.octets.proofs.AllOctets.{octets-sized}
 use Rattle.octets.proofs.Lists.{sized-same, sized-back}
 use Rattle.nlri.specs.Family.{familyBits}

@@ -11,7 +11,8 @@ use lib.Dec.{eqb, ltb}
 use Rattle.octets.specs.Numbers.{LENGTH, TYPE}
 use Rattle.octets.specs.Choice.{pick}
 use Rattle.octets.specs.Outcome.{Outcome, given, refused, andThen}
-use Rattle.octets.proofs.Outcomes.{and-assoc, and-cong, and-pick, and-given, and-refused, pick-cong, pick-true, pick-false}
+use Rattle.octets.proofs.Choice.{pick-cong, pick-true, pick-false}
+use Rattle.octets.proofs.Outcome.{and-assoc, and-cong, and-pick, and-given, and-refused}
 use Rattle.nlri.specs.declared.layout.Layout.{Layout}
 use Rattle.nlri.specs.Family.{isOriginatorSize}
 use Rattle.nlri.specs.Bodies.{FieldKind, distinguisher, sourceAs, source, group, originator, key, fieldIn, sameKind, codeOf, bodies, onBody}

@@ -12,17 +12,15 @@ use Rattle.octets.specs.Numbers.{DONE}
 use Rattle.octets.specs.Choice.{pick, both}
 use Rattle.octets.specs.Outcome.{Outcome, given, refused, andThen, onOutcome, numberOf}
 use Rattle.octets.specs.Octets.{part}
-use Rattle.octets.proofs.Outcomes.{on-mapped, and-given, pick-true, pick-false}
-use Rattle.octets.proofs.Picked.{tested}
-use Rattle.octets.proofs.Tests.{goes, stops, on-given, on-refused}
-use Rattle.octets.proofs.Inversions.{opposite, given-otherwise, given-unless, passed, given-same}
+use Rattle.octets.proofs.Choice.{pick-true, pick-false, tested, opposite}
+use Rattle.octets.proofs.Outcome.{on-mapped, and-given, goes, stops, on-given, on-refused, given-otherwise, given-unless, passed, given-same, refused-of}
 use Rattle.nlri.specs.declared.layout.Layout.{Layout}
 use Rattle.nlri.specs.Family.{familyBits, isOriginatorSize}
 use Rattle.nlri.specs.Reading.{fieldsOf, readNlri, isSPmsi}
 use Rattle.nlri.specs.Layouts.{layoutOf, layoutAt}
 use Rattle.nlri.specs.Inner.{layoutWith, originatorLast, lastFault, flowSizes, flowEnd, flowFault, flowRoute, bodyWith, anyBody, headerAt, endsWith, single, sPmsiUnder}
 use Rattle.nlri.proofs.Fronts.{anyFront, front-is, layout-octets}
-use Rattle.nlri.proofs.Numbered.{refused-of, front-done, last-number}
+use Rattle.nlri.proofs.Numbered.{front-done, last-number}
 use Rattle.nlri.proofs.Ends.{flow-number}
 use Rattle.nlri.proofs.Shapes.{whole-part}
 use Rattle.nlri.proofs.Singles.{single-laid}

@@ -13,8 +13,8 @@ use Rattle.octets.specs.Numbers.{TYPE}
 use Rattle.octets.specs.Choice.{pick, either, both}
 use Rattle.octets.specs.Outcome.{Outcome, given, refused, andThen}
 use Rattle.octets.specs.Octets.{part, numberIn}
-use Rattle.octets.proofs.Outcomes.{pick-true, pick-false}
-use Rattle.octets.proofs.Inversions.{never, opposite, given-otherwise, given-unless, passed, given-same, either-true, both-true-right}
+use Rattle.octets.proofs.Choice.{pick-true, pick-false, opposite, either-true, both-true-right}
+use Rattle.octets.proofs.Outcome.{never, given-otherwise, given-unless, passed, given-same}
 use Rattle.nlri.specs.Family.{allowed, isOriginatorSize}
 use Rattle.nlri.specs.Bodies.{FieldKind, distinguisher, sourceAs, source, group, originator, key, bodies, onBody, fieldIn, sameKind, codeOf}
 use Rattle.nlri.specs.Reading.{Laid, addressEnd, addressField, originatorField, fieldSize, sizesOf, laidWith, laidAt, laidSingle, keyField, cut, fieldsOf}

@@ -10,9 +10,7 @@ use Rattle.octets.specs.Numbers.{DONE}
 use Rattle.octets.specs.Choice.{pick}
 use Rattle.octets.specs.Outcome.{Outcome, given, refused, andThen, onOutcome}
 use Rattle.octets.specs.declared.Span.{Span}
-use Rattle.octets.proofs.Tests.{goes}
-use Rattle.octets.proofs.Outcomes.{and-assoc, and-cong, and-pick, and-given, and-refused}
-use Rattle.octets.proofs.Inversions.{passed, given-same, refused-alike}
+use Rattle.octets.proofs.Outcome.{goes, and-assoc, and-cong, and-pick, and-given, and-refused, passed, given-same, refused-alike}
 use Rattle.nlri.specs.declared.layout.Layout.{Layout}
 use Rattle.nlri.specs.declared.address.Address.{Address}
 use Rattle.nlri.specs.declared.address.RouteDistinguisher.{RouteDistinguisher}

@@ -6,7 +6,7 @@ use native.Mathlib.Omega.{arith}
 use borrow.Author.Tests.{leb-false, ltb-false}
 use lib.ListN.{length, getD}
 use Rattle.octets.specs.Outcome.{given}
-use Rattle.octets.proofs.Inversions.{given-otherwise, given-unless, given-same}
+use Rattle.octets.proofs.Outcome.{given-otherwise, given-unless, given-same}
 use Rattle.nlri.specs.Reading.{fixedField, addressEnd, addressField}
 use Rattle.nlri.specs.Inner.{headerAt}
 

@@ -14,15 +14,15 @@ use Rattle.octets.specs.Numbers.{DONE, KEY}
 use Rattle.octets.specs.Outcome.{Outcome, given, refused, onOutcome, andThen, numberOf}
 use Rattle.octets.specs.Octets.{part}
 use Rattle.octets.proofs.Lists.{part-length}
-use Rattle.octets.proofs.Tests.{picks, skips, goes, stops, on-given, on-refused}
-use Rattle.octets.proofs.Inversions.{never, given-otherwise, given-unless, passed, given-same, on-given-given}
+use Rattle.octets.proofs.Choice.{picks, skips}
+use Rattle.octets.proofs.Outcome.{goes, stops, on-given, on-refused, never, given-otherwise, given-unless, passed, given-same, on-given-given, refused-of}
 use Rattle.nlri.specs.declared.layout.Layout.{Layout}
 use Rattle.nlri.specs.Reading.{addressEnd, addressField, noKey, keyField}
 use Rattle.nlri.specs.Layouts.{layoutOf, layoutAt}
 use Rattle.nlri.specs.Inner.{layoutWith, originatorLast, nothingLast, withGroup, flowSizes, flowEnd, flowRoute, intraAs, interAs, keyEnd, keyed, bodyWith, unkeyedBody, anyBody, headerAt, keyHeader, withSourceAs, sourceStart, sizeAt, flowLayout, leafLayout, layoutIn, FlowStands, Stands}
 use Rattle.nlri.proofs.Sizes.{address-within}
 use Rattle.nlri.proofs.Fronts.{unkeyed, anyFront, front-is, key-is, laid-within, key-within, unkeyed-is}
-use Rattle.nlri.proofs.Numbered.{refused-of, unkeyed-done, front-done}
+use Rattle.nlri.proofs.Numbered.{unkeyed-done, front-done}
 use Rattle.nlri.proofs.Shapes.{choose}
 
 -- an address takes its length octet and as many bits as that says

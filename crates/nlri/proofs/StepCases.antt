@@ -11,10 +11,8 @@ use lib.Dec.{eqb, ltb}
 use Rattle.octets.specs.Numbers.{DONE, SHORT, LONG, FAMILY}
 use Rattle.octets.specs.Outcome.{given, refused, onOutcome}
 use Rattle.octets.specs.Octets.{AllOctets}
-use Rattle.octets.proofs.Outcomes.{pick-true, pick-false}
-use Rattle.octets.proofs.Tests.{on-given, on-refused}
-use Rattle.octets.proofs.Inversions.{opposite, passed, given-same}
-use Rattle.octets.proofs.Refusals.{outcome}
+use Rattle.octets.proofs.Choice.{pick-true, pick-false, opposite}
+use Rattle.octets.proofs.Outcome.{on-given, on-refused, passed, given-same, outcome}
 use Rattle.octets.proofs.AllOctets.{octets-drop}
 use Rattle.nlri.specs.declared.layout.Layout.{Layout}
 use Rattle.nlri.specs.Family.{familyBits}

@@ -12,9 +12,8 @@ use lib.Dec.{eqb}
 use Rattle.octets.specs.Numbers.{DONE, SHORT, LONG, FAMILY}
 use Rattle.octets.specs.Choice.{pick}
 use Rattle.octets.specs.Outcome.{Outcome, given, refused, onOutcome, numberOf}
-use Rattle.octets.proofs.Tests.{skips, on-given, on-refused}
-use Rattle.octets.proofs.Inversions.{opposite}
-use Rattle.octets.proofs.Outcomes.{pick-true, pick-false}
+use Rattle.octets.proofs.Choice.{skips, opposite, pick-true, pick-false}
+use Rattle.octets.proofs.Outcome.{on-given, on-refused}
 use Rattle.nlri.specs.declared.layout.Layout.{Layout}
 use Rattle.nlri.specs.declared.run.Cursor.{Cursor}
 use Rattle.nlri.specs.declared.run.Step.{Step}

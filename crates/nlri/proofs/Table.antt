@@ -9,10 +9,7 @@ use borrow.Author.Tests.{eqb-true, eq-eqb, leb-true, not-true}
 use lib.ListN.{length}
 use lib.Dec.{eqb, leb}
 use Rattle.octets.specs.Choice.{pick, both, either}
-use Rattle.octets.proofs.Outcomes.{pick-true, pick-false}
-use Rattle.octets.proofs.Tests.{either-left}
-use Rattle.octets.proofs.Refusals.{either-false-left, either-false-right, either-second, is-false}
-use Rattle.octets.proofs.Inversions.{opposite, either-true, both-true-left, both-true-right}
+use Rattle.octets.proofs.Choice.{pick-true, pick-false, either-left, either-false-left, either-false-right, either-second, is-false, opposite, either-true, both-true-left, both-true-right}
 use Rattle.nlri.specs.Bodies.{FieldKind, distinguisher, sourceAs, source, group, originator, key, Row, row, bodies, onBody, bodyOf, codeOf, sameKind, fieldIn, hasField}
 
 unfoldable pub listed : List Row → ℕ → Bool

@@ -14,9 +14,8 @@ use Rattle.octets.specs.Outcome.{Outcome, given, refused, andThen, onOutcome, n
 use Rattle.octets.specs.Outputs.{writtenOf, outputOf}
 use Rattle.octets.specs.declared.Written.{Written}
 use Rattle.octets.proofs.AllOctets.{octets-of}
-use Rattle.octets.proofs.Inversions.{given-otherwise, given-unless, both-true-left, both-true-right, either-true}
-use Rattle.octets.proofs.Outcomes.{and-cong, pick-true, pick-false}
-use Rattle.octets.proofs.Tests.{goes, stops}
+use Rattle.octets.proofs.Choice.{both-true-left, both-true-right, either-true, pick-true, pick-false}
+use Rattle.octets.proofs.Outcome.{given-otherwise, given-unless, and-cong, goes, stops, refused-of}
 use Rattle.nlri.specs.declared.fields.Nlri.{Nlri}
 use Rattle.nlri.specs.Family.{familyBits, allowed, isOriginatorSize}
 use Rattle.nlri.specs.Bodies.{bodies, onBody, bodyOf}
@@ -26,7 +25,6 @@ use Rattle.nlri.specs.Answers.{addressOctets, structFields}
 use Rattle.nlri.specs.Inner.{withSourceAs}
 use Rattle.nlri.specs.InnerWriting.{hasFlow, hasOriginator, flowFits, originatorFits, leafFits, fitting, sizeOf, sourceAsOctets, fixedOctets, flowOctets, originatorOctets, bodyOctets, nlriOctets, AddressSize, AddressesSized, writeUnder}
 use Rattle.nlri.proofs.Keys.{key-octets}
-use Rattle.nlri.proofs.Numbered.{refused-of}
 use Rattle.nlri.proofs.Writes.{key-judged}
 use Rattle.nlri.proofs.Puts.{octets-length, size-is, fixed-short, flow-short, originator-short}
 

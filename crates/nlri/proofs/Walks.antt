@@ -10,9 +10,8 @@ use lib.Seq.{drop-drop, drop-append-seam}
 use Rattle.octets.specs.Numbers.{DONE}
 use Rattle.octets.specs.Outcome.{given, refused}
 use Rattle.octets.specs.Octets.{AllOctets}
-use Rattle.octets.proofs.Outcomes.{pick-true, pick-false}
-use Rattle.octets.proofs.Inversions.{opposite}
-use Rattle.octets.proofs.Refusals.{outcome}
+use Rattle.octets.proofs.Choice.{pick-true, pick-false, opposite}
+use Rattle.octets.proofs.Outcome.{outcome}
 use Rattle.octets.proofs.AllOctets.{octets-drop}
 use Rattle.octets.proofs.Lists.{empty-list}
 use Rattle.nlri.specs.declared.run.Walked.{Walked}

@@ -9,9 +9,8 @@ use lib.ListN.{length, getD, take, drop, length-append, take-append-drop}
 use lib.Seq.{take-append-seam, drop-append-seam}
 use Rattle.octets.specs.Outcome.{Outcome, given}
 use Rattle.octets.specs.Octets.{AllOctets, none, one, part}
-use Rattle.octets.proofs.Outcomes.{pick-true, pick-false}
-use Rattle.octets.proofs.Tests.{goes}
-use Rattle.octets.proofs.Inversions.{given-otherwise, given-unless, passed, given-same, opposite, both-true-left, both-true-right}
+use Rattle.octets.proofs.Choice.{pick-true, pick-false, opposite, both-true-left, both-true-right}
+use Rattle.octets.proofs.Outcome.{goes, given-otherwise, given-unless, passed, given-same}
 use Rattle.octets.proofs.AllOctets.{octets-drop, octets-part, octets-append}
 use Rattle.octets.proofs.Lists.{empty-list, take-two, part-length}
 use Rattle.nlri.specs.Bodies.{FieldKind, distinguisher, sourceAs, source, group, originator, key, bodies, bodyOf, fieldIn}

@@ -10,10 +10,8 @@ use lib.ListN.{length}
 use Rattle.octets.specs.Numbers.{WIDTH, KEY, SPACE}
 use Rattle.octets.specs.Choice.{both, either}
 use Rattle.octets.specs.Outcome.{Outcome, given, refused}
-use Rattle.octets.proofs.Outcomes.{pick-true, pick-false}
-use Rattle.octets.proofs.Tests.{goes, stops}
-use Rattle.octets.proofs.Inversions.{never, opposite, passed, given-otherwise, both-true-left, both-true-right}
-use Rattle.octets.proofs.Refusals.{refused-same, picked, stopped, is-false, is-true}
+use Rattle.octets.proofs.Choice.{pick-true, pick-false, opposite, both-true-left, both-true-right, picked, is-false, is-true}
+use Rattle.octets.proofs.Outcome.{goes, stops, never, passed, given-otherwise, refused-same, stopped}
 use Rattle.nlri.specs.Family.{familyBits}
 use Rattle.nlri.specs.Bodies.{FieldKind, distinguisher, sourceAs, source, group, originator, key, bodyOf, sameKind, hasField}
 use Rattle.nlri.specs.Fields.{Fields, encodeNlri, WellFormed, KeyOf}

@@ -12,9 +12,8 @@ use Rattle.octets.specs.Numbers.{TYPE, WIDTH, KEY, SPACE}
 use Rattle.octets.specs.Choice.{pick, both}
 use Rattle.octets.specs.Outcome.{Outcome, given, refused, onOutcome, andThen}
 use Rattle.octets.specs.Octets.{AllOctets, bigEndian}
-use Rattle.octets.proofs.Outcomes.{and-cong, pick-true}
-use Rattle.octets.proofs.Tests.{goes, on-given, both-true}
-use Rattle.octets.proofs.Inversions.{given-otherwise, given-unless, passed, given-same, opposite, both-true-left, both-true-right}
+use Rattle.octets.proofs.Choice.{pick-true, both-true, opposite, both-true-left, both-true-right}
+use Rattle.octets.proofs.Outcome.{and-cong, goes, on-given, given-otherwise, given-unless, passed, given-same}
 use Rattle.nlri.specs.Family.{familyBits, allowed, isOriginatorSize}
 use Rattle.nlri.specs.Bodies.{FieldKind, distinguisher, sourceAs, source, group, originator, key, bodies, bodyOf, hasField}
 use Rattle.nlri.specs.Fields.{Fields, encodeAddress, encodeField, encodeBody, encodeNlri, WellFormedField, WellFormedBody, WellFormed, KeyOf, restricted}

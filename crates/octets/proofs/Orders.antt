@@ -14,11 +14,7 @@ use borrow.Author.Tests.{ltb-true, ltb-false, eqb-true, eqb-false, eq-eqb, ne-eq
 use Rattle.octets.specs.Choice.{pick, both}
 use Rattle.octets.specs.Octets.{AllOctets, none, one, part, numberIn}
 use Rattle.octets.specs.Order.{same, before, zeros, allZero}
-use Rattle.octets.proofs.Inversions.{opposite, both-true-left, both-true-right}
-use Rattle.octets.proofs.Tests.{both-true}
-use Rattle.octets.proofs.Outcomes.{pick-true, pick-false}
-use Rattle.octets.proofs.Picked.{tested}
-use Rattle.octets.proofs.Refusals.{is-false}
+use Rattle.octets.proofs.Choice.{opposite, both-true-left, both-true-right, both-true, pick-true, pick-false, tested, is-false}
 use Rattle.octets.proofs.AllOctets.{octets-part, number-below}
 use Rattle.octets.proofs.Lists.{part-length, take-then}
 use Rattle.octets.proofs.NetworkOrder.{number-high}

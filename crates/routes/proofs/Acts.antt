@@ -4,7 +4,7 @@ use mathlib.Core.Path.{_≡_, refl, ap, subst, _∙_}
 use mathlib.Core.Bool.{true}
 use mathlib.Core.List.{List}
 use Rattle.octets.specs.Outcome.{Outcome, given, refused}
-use Rattle.octets.proofs.Inversions.{given-same, passed}
+use Rattle.octets.proofs.Outcome.{given-same, passed}
 use Rattle.octets.specs.Lists.{Among, first}
 use Rattle.routes.specs.Route.{Route, nlriOf}
 use Rattle.routes.specs.Arguments.{Query}

@@ -7,9 +7,7 @@ use mathlib.Core.Logic.{⊎-elim}
 use native.Mathlib.Nat.{le-trans}
 use lib.ListN.{length}
 use Rattle.octets.specs.Order.{same}
-use Rattle.octets.proofs.Inversions.{opposite}
-use Rattle.octets.proofs.Picked.{tested}
-use Rattle.octets.proofs.Refusals.{is-true}
+use Rattle.octets.proofs.Choice.{opposite, tested, is-true}
 use Rattle.octets.proofs.Orders.{same-equal, same-itself, other-unequal}
 use Rattle.routes.specs.Route.{Route, nlriOf, attributeOf, Held, absent, held, lookup, holds, arranged, Distinct, Increasing}
 use Rattle.routes.specs.Place.{AllAcceptable}

@@ -7,10 +7,8 @@ use lib.ListN.{length}
 use borrow.Author.Tests.{eqb-true, eqb-false, eq-eqb, ne-eqb, ltb-true, ltb-false, lt-ltb, le-ltb}
 use Rattle.octets.specs.Numbers.{LABEL, KIND, FLOW, SPACE}
 use Rattle.octets.specs.Outcome.{given, refused}
-use Rattle.octets.proofs.Inversions.{never, opposite, given-same, given-otherwise, given-unless, passed, both-true-left, both-true-right}
-use Rattle.octets.proofs.Outcomes.{pick-true, pick-false}
-use Rattle.octets.proofs.Refusals.{outcome, stopped, refuses-unless, refuses-where, is-false}
-use Rattle.octets.proofs.Tests.{goes, stops, both-true}
+use Rattle.octets.proofs.Choice.{opposite, both-true-left, both-true-right, pick-true, pick-false, is-false, both-true}
+use Rattle.octets.proofs.Outcome.{never, given-same, given-otherwise, given-unless, passed, outcome, stopped, refuses-unless, refuses-where, goes, stops}
 use Rattle.nlri.specs.Fields.{Fields}
 use Rattle.nlri.specs.Reading.{readNlri}
 use Rattle.tunnel.specs.Attribute.{AttributeFields, labelOf}

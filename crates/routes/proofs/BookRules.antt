@@ -7,9 +7,7 @@ use mathlib.Core.Logic.{⊎-elim}
 use lib.ListN.{length}
 use Rattle.octets.specs.Outcome.{Outcome, given, refused, onOutcome, numberOf}
 use Rattle.octets.specs.Lists.{Among, chosen}
-use Rattle.octets.proofs.Inversions.{opposite}
-use Rattle.octets.proofs.Picked.{tested}
-use Rattle.octets.proofs.Refusals.{picked, is-false}
+use Rattle.octets.proofs.Choice.{opposite, tested, picked, is-false}
 use Rattle.nlri.specs.Fields.{Fields}
 use Rattle.nlri.proofs.Theorems.{lengths}
 use Rattle.routes.specs.Route.{Route, nlriOf, attributeOf, held, lookup, arranged}

@@ -5,12 +5,9 @@ use mathlib.Core.List.{List}
 use mathlib.Core.Logic.{⊎-elim}
 use Rattle.octets.specs.Numbers.{DONE, ABSENT}
 use Rattle.octets.specs.Outcome.{Outcome, given, refused, onOutcome, andThen, numberOf}
-use Rattle.octets.proofs.Inversions.{never}
+use Rattle.octets.proofs.Choice.{pick-true, pick-false, tested}
+use Rattle.octets.proofs.Outcome.{never, outcome, stopped, goes, stops}
 use Rattle.octets.proofs.Orders.{unequal-other}
-use Rattle.octets.proofs.Outcomes.{pick-true, pick-false}
-use Rattle.octets.proofs.Picked.{tested}
-use Rattle.octets.proofs.Refusals.{outcome, stopped}
-use Rattle.octets.proofs.Tests.{goes, stops}
 use Rattle.routes.specs.Route.{Route, route, nlriOf, attributeOf, absent, held, holds, removed, Distinct}
 use Rattle.routes.specs.Arguments.{Query, readSPmsi, readRoute, readMatch}
 use Rattle.routes.specs.Place.{AllAcceptable}

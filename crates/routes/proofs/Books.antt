@@ -5,8 +5,7 @@ use mathlib.Core.List.{List, [], _∷_}
 use Rattle.octets.specs.Choice.{pick}
 use Rattle.octets.specs.Outcome.{Outcome, onOutcome}
 use Rattle.octets.specs.Order.{same}
-use Rattle.octets.proofs.Outcomes.{pick-true, pick-false}
-use Rattle.octets.proofs.Picked.{tested}
+use Rattle.octets.proofs.Choice.{pick-true, pick-false, tested}
 use Rattle.octets.proofs.Orders.{same-equal, unequal-other}
 use Rattle.octets.specs.Lists.{Among}
 use Rattle.routes.specs.Route.{Route, nlriOf, attributeOf, Held, absent, held, lookup, removed, Distinct}

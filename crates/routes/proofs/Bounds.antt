@@ -9,7 +9,8 @@ use lib.ListN.{length, getD, drop, length-drop}
 use Rattle.octets.specs.Choice.{pick}
 use Rattle.octets.specs.Outcome.{Outcome, given, refused, onOutcome}
 use Rattle.octets.specs.Octets.{part}
-use Rattle.octets.proofs.Inversions.{opposite, given-otherwise, given-unless, passed, given-same}
+use Rattle.octets.proofs.Choice.{opposite}
+use Rattle.octets.proofs.Outcome.{given-otherwise, given-unless, passed, given-same}
 use Rattle.octets.proofs.Lists.{part-length}
 use Rattle.nlri.specs.Bodies.{FieldKind, distinguisher, source, group, originator, bodies, onBody, bodyOf}
 use Rattle.nlri.specs.Fields.{Fields}

@@ -4,8 +4,7 @@ use mathlib.Core.Path.{_≡_, refl, sym, subst, _∙_}
 use mathlib.Core.Bool.{true, false}
 use mathlib.Core.List.{List, [], _∷_}
 use native.Mathlib.Omega.{arith}
-use Rattle.octets.proofs.Inversions.{opposite}
-use Rattle.octets.proofs.Picked.{tested}
+use Rattle.octets.proofs.Choice.{opposite, tested}
 use Rattle.octets.specs.Lists.{PutIn, front, Rearranged, none, one, chosen}
 use Rattle.routes.specs.Call.{Owner, nobody, owner, ownedBy, isNobody}
 use Rattle.routes.proofs.Ownership.{owned-itself, owned-nobody, owned-by, owners-same}

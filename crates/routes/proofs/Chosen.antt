@@ -4,9 +4,7 @@ use mathlib.Core.Bool.{Bool, true, false}
 use mathlib.Core.List.{List, [], _∷_, _++_}
 use mathlib.Core.Logic.{⊎-elim}
 use Rattle.octets.specs.Choice.{pick}
-use Rattle.octets.proofs.Outcomes.{pick-true, pick-false}
-use Rattle.octets.proofs.Picked.{tested}
-use Rattle.octets.proofs.Refusals.{is-false}
+use Rattle.octets.proofs.Choice.{pick-true, pick-false, tested, is-false}
 use Rattle.octets.specs.Lists.{Among, first, later, PutIn, front, behind, Rearranged, chosen}
 use Rattle.routes.proofs.Distincts.{nowhere, among-cases}
 

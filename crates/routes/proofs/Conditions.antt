@@ -9,9 +9,7 @@ use lib.Dec.{eqb}
 use borrow.Author.Tests.{eqb-true, eq-eqb}
 use Rattle.octets.specs.Choice.{pick, both}
 use Rattle.octets.specs.Outcome.{Outcome, given, refused, onOutcome}
-use Rattle.octets.proofs.Inversions.{opposite, both-held}
-use Rattle.octets.proofs.Tests.{both-true}
-use Rattle.octets.proofs.Refusals.{picked}
+use Rattle.octets.proofs.Choice.{opposite, both-held, both-true, picked}
 use Rattle.octets.proofs.Lists.{empty-list}
 use Rattle.octets.proofs.Orders.{same-equal, equal-same}
 use Rattle.nlri.specs.Fields.{Fields}

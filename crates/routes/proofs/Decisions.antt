@@ -10,12 +10,8 @@ use lib.Dec.{eqb}
 use Rattle.octets.specs.Numbers.{DONE}
 use Rattle.octets.specs.Choice.{pick, both}
 use Rattle.octets.specs.Order.{same}
-use Rattle.octets.proofs.Inversions.{opposite, both-true-left, both-true-right}
+use Rattle.octets.proofs.Choice.{opposite, both-true-left, both-true-right, pick-true, pick-false, tested, is-false, both-true}
 use Rattle.octets.proofs.Orders.{same-equal, same-itself}
-use Rattle.octets.proofs.Outcomes.{pick-true, pick-false}
-use Rattle.octets.proofs.Picked.{tested}
-use Rattle.octets.proofs.Refusals.{is-false}
-use Rattle.octets.proofs.Tests.{both-true}
 use Rattle.routes.specs.Route.{Held, absent, held}
 use Rattle.routes.specs.Calls.{installOf, withdrawOf}
 use Rattle.routes.specs.Call.{Call, install, withdraw, match}

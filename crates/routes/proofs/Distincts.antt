@@ -8,11 +8,7 @@ use mathlib.Core.Logic.{_⊎_, inl, inr, ⊎-elim}
 use native.Mathlib.Omega.{arith}
 use lib.ListN.{length}
 use Rattle.octets.specs.Order.{same}
-use Rattle.octets.proofs.Inversions.{opposite, either-true}
-use Rattle.octets.proofs.Tests.{either-left}
-use Rattle.octets.proofs.Outcomes.{pick-true, pick-false}
-use Rattle.octets.proofs.Picked.{tested}
-use Rattle.octets.proofs.Refusals.{either-second}
+use Rattle.octets.proofs.Choice.{opposite, either-true, either-left, pick-true, pick-false, tested, either-second}
 use Rattle.octets.proofs.Orders.{same-equal, equal-same}
 use Rattle.routes.specs.Route.{Route, nlriOf, attributeOf, holds, Distinct}
 use Rattle.routes.specs.Book.{isAmong, onceEach}

@@ -10,8 +10,7 @@ use lib.Dec.{ltb}
 use Rattle.octets.specs.Numbers.{DONE, ROOM, ABSENT}
 use Rattle.octets.specs.Choice.{pick}
 use Rattle.octets.specs.Outcome.{Outcome, given, refused, onOutcome, andThen, numberOf}
-use Rattle.octets.proofs.Outcomes.{pick-true}
-use Rattle.octets.proofs.Picked.{tested}
+use Rattle.octets.proofs.Choice.{pick-true, tested}
 use Rattle.nlri.specs.Fields.{Fields}
 use Rattle.routes.specs.Route.{Route, nlriOf, lookup, holds, inserted, removed, arranged, Increasing}
 use Rattle.routes.specs.Arguments.{Query, readSPmsi, readRoute, readMatch}

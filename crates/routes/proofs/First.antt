@@ -8,8 +8,7 @@ use mathlib.Core.Logic.{⊎-elim}
 use native.Mathlib.Nat.{eq-or-lt-of-le}
 use native.Mathlib.Omega.{arith}
 use Rattle.octets.specs.Order.{before}
-use Rattle.octets.proofs.Inversions.{opposite}
-use Rattle.octets.proofs.Refusals.{is-true}
+use Rattle.octets.proofs.Choice.{opposite, is-true}
 use Rattle.octets.proofs.Orders.{same-equal, before-other}
 use Rattle.octets.specs.Lists.{Among}
 use Rattle.routes.specs.Route.{Route, nlriOf, lookup, Distinct}

@@ -8,10 +8,8 @@ use lib.ListN.{length, getD}
 use borrow.Author.Tests.{eqb-true, eq-eqb}
 use Rattle.octets.specs.Numbers.{FLOW}
 use Rattle.octets.specs.Outcome.{given, refused}
-use Rattle.octets.proofs.Inversions.{never, given-unless, passed, given-same}
-use Rattle.octets.proofs.Outcomes.{pick-true}
-use Rattle.octets.proofs.Refusals.{picked, stopped, refused-same, outcome}
-use Rattle.octets.proofs.Tests.{goes}
+use Rattle.octets.proofs.Choice.{pick-true, picked}
+use Rattle.octets.proofs.Outcome.{never, given-unless, passed, given-same, stopped, refused-same, outcome, goes}
 use Rattle.nlri.specs.Family.{familyBits}
 use Rattle.nlri.specs.Groups.{ASM, SSM, classUnder, classOf}
 use Rattle.nlri.specs.Statements.{Multicast, SourceSpecific, GroupRefusal, badFamily, badGroup}

@@ -9,11 +9,9 @@ use borrow.Author.Tests.{leb-true, le-leb, eqb-true, eq-eqb}
 use lib.ListN.{length, take, drop, length-append, take-append-drop}
 use lib.Seq.{take-at, drop-at, drop-drop}
 use Rattle.octets.specs.Octets.{AllOctets, part, numberIn, bigEndian}
-use Rattle.octets.proofs.Inversions.{both-true-left, both-true-right, either-true}
+use Rattle.octets.proofs.Choice.{both-true-left, both-true-right, either-true, either-second, both-true, either-left}
 use Rattle.octets.proofs.NetworkOrder.{big-endian-length, number-of-big-endian, part-number}
 use Rattle.octets.proofs.Orders.{same-equal, same-itself}
-use Rattle.octets.proofs.Refusals.{either-second}
-use Rattle.octets.proofs.Tests.{both-true, either-left}
 use Rattle.routes.specs.ArgumentRules.{KnownFamily}
 use Rattle.routes.specs.Table.{headerStart, headerOf, afiIn, countIn, placesIn, tableSize, headerSound}
 

@@ -6,9 +6,8 @@ use mathlib.Core.Logic.{_⊎_, ⊎-elim}
 use mathlib.Core.List.{List}
 use native.Mathlib.Omega.{arith}
 use lib.ListN.{length}
-use Rattle.octets.proofs.Inversions.{opposite}
+use Rattle.octets.proofs.Choice.{opposite, tested}
 use Rattle.octets.proofs.Orders.{before-none}
-use Rattle.octets.proofs.Picked.{tested}
 use Rattle.routes.specs.Route.{Route, nlriOf, holds, inserted, removed}
 use Rattle.routes.specs.Place.{acceptable}
 use Rattle.routes.specs.Images.{Holdable}

@@ -11,9 +11,8 @@ use Rattle.octets.specs.Numbers.{DONE, FAMILY, TABLE}
 use Rattle.octets.specs.Octets.{AllOctets}
 use Rattle.octets.specs.Order.{zeros}
 use Rattle.octets.specs.Outcome.{Outcome, given, refused, onOutcome, numberOf}
-use Rattle.octets.proofs.Inversions.{both-true-left, both-true-right, given-same, given-unless, passed}
-use Rattle.octets.proofs.Refusals.{refuses-unless, stopped}
-use Rattle.octets.proofs.Tests.{both-true}
+use Rattle.octets.proofs.Choice.{both-true-left, both-true-right, both-true}
+use Rattle.octets.proofs.Outcome.{given-same, given-unless, passed, refuses-unless, stopped}
 use Rattle.nlri.proofs.Faults.{family-refused}
 use Rattle.nlri.proofs.Lengths.{good-family}
 use Rattle.octets.specs.Lists.{Among}

@@ -9,12 +9,9 @@ use borrow.Author.Tests.{ltb-true, ltb-false, lt-ltb, le-ltb}
 use lib.ListN.{length}
 use Rattle.octets.specs.Numbers.{DONE, ROOM}
 use Rattle.octets.specs.Outcome.{Outcome, given, refused, onOutcome, numberOf}
-use Rattle.octets.proofs.Inversions.{never, given-unless, passed, given-same}
+use Rattle.octets.proofs.Choice.{pick-true, pick-false, picked}
+use Rattle.octets.proofs.Outcome.{never, given-unless, passed, given-same, outcome, stopped, refused-same, refuses-unless, goes, stops, refused-of, number-refused, number-given, done-given}
 use Rattle.octets.proofs.Orders.{unequal-other}
-use Rattle.octets.proofs.Outcomes.{pick-true, pick-false}
-use Rattle.octets.proofs.Refusals.{outcome, picked, stopped, refused-same, refuses-unless}
-use Rattle.octets.proofs.Tests.{goes, stops}
-use Rattle.nlri.proofs.Numbered.{refused-of}
 use Rattle.routes.specs.declared.Installed.{Installed}
 use Rattle.routes.specs.Route.{Route, route, nlriOf, attributeOf, held, lookup, inserted}
 use Rattle.routes.specs.Arguments.{readRoute}
@@ -23,7 +20,6 @@ use Rattle.routes.specs.Answers.{NEW, REPLACED, installedOf}
 use Rattle.routes.specs.Calls.{entering, installOutcome, installOf}
 use Rattle.routes.specs.Images.{Holdable, TableOf}
 use Rattle.routes.specs.CallRules.{IsHeld, HeldNow, Installable, Full, Free, InstallRefusal, installUnsound, badRoute, noRoom, InstallDone, isReplaced, isNew, InstallRule}
-use Rattle.routes.proofs.AnswerNumbers.{refused-number, given-number, done-given}
 use Rattle.routes.proofs.ArgumentRules.{argumentRule}
 use Rattle.routes.proofs.Bounds.{route-read, read-acceptable}
 use Rattle.routes.proofs.ByArguments.{route-number}
@@ -201,7 +197,7 @@ installRule =
     record {
       refuses = λ t nlri attribute n h. (
         λ e. refusal t nlri attribute n (refused-of _ n (sym e ∙ number t nlri attribute) h),
-        λ r. number t nlri attribute ∙ refused-number (refuses t nlri attribute r),
+        λ r. number t nlri attribute ∙ number-refused (refuses t nlri attribute r),
       );
       done = λ t nlri attribute o. (λ e. install-done-by t nlri attribute o (outcome-is t nlri attribute o e), done-answer t nlri attribute);
       installed = λ t nlri attribute e. let p = install-done t nlri attribute e in held-after t nlri attribute (p .0) (p .1);
@@ -209,5 +205,5 @@ installRule =
       size = size;
       empty = empty;
       untouched = λ t nlri attribute h.
-          ⊎-elim (λ p. absurd (h (number t nlri attribute ∙ given-number (p .1)))) (λ p. install-leaves t nlri attribute (p .0) (p .1)) (outcome (installOutcome t nlri attribute));
+          ⊎-elim (λ p. absurd (h (number t nlri attribute ∙ number-given (p .1)))) (λ p. install-leaves t nlri attribute (p .0) (p .1)) (outcome (installOutcome t nlri attribute));
     }

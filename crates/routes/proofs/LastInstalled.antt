@@ -11,9 +11,7 @@ use Rattle.octets.specs.Numbers.{DONE}
 use Rattle.octets.specs.Choice.{pick, both}
 use Rattle.octets.specs.Order.{same}
 use Rattle.octets.proofs.Orders.{same-equal, other-unequal}
-use Rattle.octets.proofs.Outcomes.{pick-true, pick-false}
-use Rattle.octets.proofs.Picked.{tested}
-use Rattle.octets.proofs.Tests.{both-true, both-left, both-right}
+use Rattle.octets.proofs.Choice.{pick-true, pick-false, tested, both-true, both-left, both-right}
 use Rattle.octets.specs.Lists.{Among}
 use Rattle.routes.specs.Route.{Route, route, nlriOf, attributeOf, Held, absent, held, lookup, inserted, removed}
 use Rattle.routes.specs.Table.{imageOf, afiIn, placesIn, routesOf, soundOf}

@@ -17,7 +17,6 @@ pub mod ByArguments
 pub mod Images
 pub mod Holding
 pub mod ArgumentRules
-pub mod AnswerNumbers
 pub mod MakeRules
 pub mod InstallRules
 pub mod WithdrawRules

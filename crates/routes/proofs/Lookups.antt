@@ -9,10 +9,7 @@ use native.Mathlib.Omega.{arith}
 use lib.ListN.{length}
 use Rattle.octets.specs.Choice.{pick}
 use Rattle.octets.specs.Order.{same, before}
-use Rattle.octets.proofs.Inversions.{opposite}
-use Rattle.octets.proofs.Outcomes.{pick-true, pick-false}
-use Rattle.octets.proofs.Picked.{tested}
-use Rattle.octets.proofs.Refusals.{is-false, is-true}
+use Rattle.octets.proofs.Choice.{opposite, pick-true, pick-false, tested, is-false, is-true}
 use Rattle.octets.proofs.Orders.{same-itself, same-equal, same-swapped, before-itself, before-other, before-then, before-differs}
 use Rattle.octets.specs.Lists.{Among, first, later}
 use Rattle.routes.specs.Route.{Route, route, nlriOf, attributeOf, Held, absent, held, lookup, isHeld, holds, inserted, arranged, removed, Distinct, none, one, Increasing, last, next}

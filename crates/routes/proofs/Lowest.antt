@@ -6,10 +6,7 @@ use mathlib.Core.List.{List, [], _∷_}
 use native.Mathlib.Omega.{arith}
 use Rattle.octets.specs.Choice.{both}
 use Rattle.octets.specs.Order.{same, before}
-use Rattle.octets.proofs.Inversions.{opposite}
-use Rattle.octets.proofs.Outcomes.{pick-true, pick-false}
-use Rattle.octets.proofs.Picked.{tested}
-use Rattle.octets.proofs.Refusals.{is-false}
+use Rattle.octets.proofs.Choice.{opposite, pick-true, pick-false, tested, is-false}
 use Rattle.octets.proofs.Orders.{same-equal, before-itself, before-other, before-then, before-once}
 use Rattle.octets.specs.Lists.{Among, first, later}
 use Rattle.routes.specs.Route.{Route}

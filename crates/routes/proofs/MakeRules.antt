@@ -8,13 +8,10 @@ use native.Mathlib.Omega.{arith}
 use lib.ListN.{length}
 use Rattle.octets.specs.Numbers.{DONE}
 use Rattle.octets.specs.Outcome.{Outcome, given, refused, onOutcome, numberOf}
-use Rattle.octets.proofs.Inversions.{opposite}
-use Rattle.octets.proofs.Outcomes.{pick-true, pick-false}
-use Rattle.octets.proofs.Refusals.{is-false}
-use Rattle.octets.proofs.Tests.{goes, stops}
+use Rattle.octets.proofs.Choice.{opposite, pick-true, pick-false, is-false}
+use Rattle.octets.proofs.Outcome.{goes, stops, refused-of, number-refused, number-given, done-given}
 use Rattle.nlri.proofs.Faults.{family-refuses}
 use Rattle.nlri.proofs.Lengths.{family-good}
-use Rattle.nlri.proofs.Numbered.{refused-of}
 use Rattle.routes.specs.Place.{none}
 use Rattle.routes.specs.Route.{last}
 use Rattle.routes.specs.Table.{imageOf, placesIn, tableSize}
@@ -22,7 +19,6 @@ use Rattle.routes.specs.Calls.{makeOutcome, makeOf}
 use Rattle.routes.specs.ArgumentRules.{KnownFamily}
 use Rattle.routes.specs.Images.{Holdable, TableOf}
 use Rattle.routes.specs.CallRules.{TableSize, MakeRefusal, noFamily, badSize, MakeRule}
-use Rattle.routes.proofs.AnswerNumbers.{refused-number, given-number, done-given}
 use Rattle.routes.proofs.Headers.{size-sound, sound-size}
 use Rattle.routes.proofs.Images.{images, make-given, make-refused, length-image}
 
@@ -89,10 +85,10 @@ module _ (afi : ℕ) (memory : List ℕ) where
 pub makeRule : MakeRule
 makeRule =
     record {
-      refuses = λ afi memory n h. (λ e. refusal afi memory n (refused-of _ n (sym e ∙ number afi memory) h), λ r. number afi memory ∙ refused-number (refuses afi memory r));
+      refuses = λ afi memory n h. (λ e. refusal afi memory n (refused-of _ n (sym e ∙ number afi memory) h), λ r. number afi memory ∙ number-refused (refuses afi memory r));
       done = λ afi memory. (
         λ e. let p = made-given afi memory e in let q = make-given afi memory (p .0) (p .1) in (q .0, size-is memory (q .1)),
-        λ h. number afi memory ∙ given-number (gives afi memory h),
+        λ h. number afi memory ∙ number-given (gives afi memory h),
       );
       made = λ afi memory e. subst (TableOf afi (placesIn memory) []) (sym (images .made afi memory e)) (images .imaged afi (placesIn memory) [] (made-holdable afi memory e));
       size = made-size;

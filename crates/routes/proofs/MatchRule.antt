@@ -10,11 +10,8 @@ use lib.Seq.{take-append-seam, drop-append-seam, getD-append-add, getD-drop}
 use Rattle.octets.specs.Numbers.{DONE}
 use Rattle.octets.specs.Outcome.{Outcome, given, refused, onOutcome, numberOf}
 use Rattle.octets.specs.Octets.{part, front}
-use Rattle.octets.proofs.Inversions.{never, given-unless, passed}
-use Rattle.octets.proofs.Outcomes.{pick-true, pick-false}
-use Rattle.octets.proofs.Refusals.{picked, stopped, refused-same}
-use Rattle.octets.proofs.Tests.{goes, stops}
-use Rattle.nlri.proofs.Numbered.{refused-of}
+use Rattle.octets.proofs.Choice.{pick-true, pick-false, picked}
+use Rattle.octets.proofs.Outcome.{never, given-unless, passed, stopped, refused-same, goes, stops, refused-of, number-refused, number-given, done-given}
 use Rattle.routes.specs.Route.{Route, nlriOf, attributeOf, Distinct}
 use Rattle.routes.specs.Place.{AllAcceptable}
 use Rattle.routes.specs.Arguments.{Query, readFlow}
@@ -24,7 +21,6 @@ use Rattle.routes.specs.Answers.{foundAnswer, refusedMatch, foundOutput,
 use Rattle.routes.specs.Calls.{matchOutcome, matchOf}
 use Rattle.routes.specs.ArgumentRules.{GoodFlow, badFlow, noSpace}
 use Rattle.routes.specs.MatchRule.{Told, Untold, MatchAnswer, oneTold, noneTold, MatchRefusal, matchUnsound, badMatch, MatchRule}
-use Rattle.routes.proofs.AnswerNumbers.{refused-number, given-number, done-given}
 use Rattle.routes.proofs.ArgumentRules.{argumentRule, flow-passes}
 use Rattle.routes.proofs.Lookups.{acceptable-member, increasing-distinct}
 use Rattle.routes.proofs.Bounds.{Sized, sizes-of}
@@ -138,7 +134,7 @@ module _ (t router source group output : List ℕ) where
       (s .0, f .0, f .1)
 
   serves : (soundOf t ≡ true) × GoodFlow (afiIn t) router source group × (124 ≤ length output) → matchOf t router source group output .answer .number ≡ DONE
-  serves h = let f = flow-given (afiIn t) router source group (h .1) in number ∙ given-number (served-outcome (f .0) (h .0) (f .1) (h .2))
+  serves h = let f = flow-given (afiIn t) router source group (h .1) in number ∙ number-given (served-outcome (f .0) (h .0) (f .1) (h .2))
 
   answered : matchOf t router source group output .answer .number ≡ DONE → MatchAnswer (afiIn t) router source group output (routesOf t) (matchOf t router source group output)
   unfolding matchOf
@@ -164,7 +160,7 @@ matchRule =
       none = λ afi router source group q rs e. nothing-taken afi router source group q (flow-asked afi router source group q e) rs;
       refuses = λ t router source group output n h. (
         λ e. refusal t router source group output n (refused-of _ n (sym e ∙ number t router source group output) h),
-        λ r. number t router source group output ∙ refused-number (refuses t router source group output r),
+        λ r. number t router source group output ∙ number-refused (refuses t router source group output r),
       );
       done = λ t router source group output. (served t router source group output, serves t router source group output);
       answers = answered;

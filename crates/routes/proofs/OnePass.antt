@@ -10,11 +10,7 @@ use lib.Dec.{eqb}
 use borrow.Author.Tests.{eqb-true, eq-eqb, ltb-true, ltb-false}
 use Rattle.octets.specs.Choice.{pick, both}
 use Rattle.octets.specs.Order.{before}
-use Rattle.octets.proofs.Inversions.{opposite, both-held, either-true}
-use Rattle.octets.proofs.Outcomes.{pick-true, pick-false}
-use Rattle.octets.proofs.Picked.{tested}
-use Rattle.octets.proofs.Refusals.{is-false, either-false-left, either-false-right}
-use Rattle.octets.proofs.Tests.{both-true}
+use Rattle.octets.proofs.Choice.{opposite, both-held, either-true, pick-true, pick-false, tested, is-false, either-false-left, either-false-right, both-true}
 use Rattle.octets.proofs.Orders.{before-itself, before-then}
 use Rattle.octets.specs.Lists.{Among, first, later}
 use Rattle.routes.specs.Route.{Route, Distinct}

@@ -7,8 +7,8 @@ use native.Mathlib.Omega.{arith}
 use lib.ListN.{length}
 use Rattle.octets.specs.Outcome.{given, onOutcome}
 use Rattle.octets.specs.Order.{before}
-use Rattle.octets.proofs.Outcomes.{pick-true}
-use Rattle.octets.proofs.Inversions.{opposite, given-same, given-unless, given-otherwise, passed}
+use Rattle.octets.proofs.Choice.{pick-true, opposite}
+use Rattle.octets.proofs.Outcome.{given-same, given-unless, given-otherwise, passed}
 use Rattle.octets.proofs.Orders.{same-equal, equal-same, before-none}
 use Rattle.nlri.specs.Family.{isOriginatorSize}
 use Rattle.nlri.specs.Fields.{Fields}

@@ -9,9 +9,8 @@ use lib.ListN.{length, take, drop, length-append, length-drop, length-replicate,
 use lib.Seq.{take-at, drop-at, drop-drop, length-take-le, take-append-seam, drop-append-seam}
 use Rattle.octets.specs.Octets.{part}
 use Rattle.octets.specs.Order.{zeros, allZero}
-use Rattle.octets.proofs.Inversions.{both-true-left, both-true-right}
+use Rattle.octets.proofs.Choice.{both-true-left, both-true-right, both-true}
 use Rattle.octets.proofs.Orders.{zeros-all, all-zeros}
-use Rattle.octets.proofs.Tests.{both-true}
 use Rattle.routes.specs.Route.{Route, route, nlriOf, attributeOf, Increasing, last, next}
 use Rattle.routes.specs.Place.{PLACE, placeOf, endIn, routeIn, acceptable, placeSound, AllAcceptable, none, one}
 use Rattle.routes.specs.Table.{placesOf, routesFrom, placesSound}

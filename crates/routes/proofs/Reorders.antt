@@ -4,7 +4,7 @@ use Prim.Native.Nat.{ℕ}
 use mathlib.Core.Path.{_≡_, refl, sym, ap, ap₂, subst₂, _∙_}
 use mathlib.Core.Bool.{true, false}
 use mathlib.Core.List.{List, [], _∷_, _++_, append-nil}
-use Rattle.octets.proofs.Picked.{tested}
+use Rattle.octets.proofs.Choice.{tested}
 use Rattle.octets.specs.Lists.{PutIn, front, behind, Rearranged, chosen}
 use Rattle.routes.specs.Route.{lookup}
 use Rattle.routes.specs.Table.{imageOf}

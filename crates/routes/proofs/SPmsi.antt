@@ -9,7 +9,7 @@ use lib.Seq.{take-all, length-take-le, getD-take}
 use Rattle.octets.specs.Choice.{pick}
 use Rattle.octets.specs.Outcome.{Outcome, given}
 use Rattle.octets.specs.Octets.{part}
-use Rattle.octets.proofs.Inversions.{given-otherwise, given-unless, passed, given-same}
+use Rattle.octets.proofs.Outcome.{given-otherwise, given-unless, passed, given-same}
 use Rattle.octets.proofs.Lists.{front-rest, empty-list}
 use Rattle.nlri.specs.Bodies.{FieldKind, distinguisher, source, group, originator, bodies, onBody, bodyOf, fieldIn, sameKind, codeOf}
 use Rattle.nlri.specs.Fields.{Fields, encodeAddress, encodeField, encodeBody, encodeNlri}

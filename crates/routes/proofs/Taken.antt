@@ -6,9 +6,7 @@ use mathlib.Core.List.{List}
 use mathlib.Core.Logic.{_↔_}
 use native.Mathlib.Omega.{arith}
 use Rattle.octets.specs.Order.{before}
-use Rattle.octets.proofs.Inversions.{opposite}
-use Rattle.octets.proofs.Refusals.{is-false}
-use Rattle.octets.proofs.Tests.{both-true}
+use Rattle.octets.proofs.Choice.{opposite, is-false, both-true}
 use Rattle.octets.proofs.Orders.{equal-same}
 use Rattle.nlri.specs.Fields.{Fields}
 use Rattle.routes.specs.Route.{Route, nlriOf, Distinct}

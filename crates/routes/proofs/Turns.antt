@@ -5,8 +5,7 @@ use mathlib.Core.Bool.{Bool, true, false}
 use mathlib.Core.List.{List, [], _∷_, _++_, append-nil}
 use mathlib.Core.Logic.{⊎-elim}
 use Rattle.octets.specs.Order.{same}
-use Rattle.octets.proofs.Inversions.{opposite}
-use Rattle.octets.proofs.Picked.{tested}
+use Rattle.octets.proofs.Choice.{opposite, tested}
 use Rattle.octets.proofs.Orders.{same-equal, other-unequal}
 use Rattle.octets.specs.Lists.{Among, first, later, Once, Rearranged, chosen}
 use Rattle.routes.specs.Call.{Call, ownerOf}

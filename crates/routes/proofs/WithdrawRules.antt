@@ -7,18 +7,14 @@ use native.Mathlib.Omega.{arith}
 use lib.ListN.{length}
 use Rattle.octets.specs.Numbers.{DONE, ABSENT}
 use Rattle.octets.specs.Outcome.{given, refused, onOutcome, numberOf}
-use Rattle.octets.proofs.Inversions.{given-unless, passed, given-same}
+use Rattle.octets.proofs.Choice.{pick-true, pick-false, picked}
+use Rattle.octets.proofs.Outcome.{given-unless, passed, given-same, outcome, stopped, refused-same, refuses-unless, goes, stops, refused-of, number-refused, number-given, done-given}
 use Rattle.octets.proofs.Orders.{unequal-other}
-use Rattle.octets.proofs.Outcomes.{pick-true, pick-false}
-use Rattle.octets.proofs.Refusals.{outcome, picked, stopped, refused-same, refuses-unless}
-use Rattle.octets.proofs.Tests.{goes, stops}
-use Rattle.nlri.proofs.Numbered.{refused-of}
 use Rattle.routes.specs.Route.{lookup, absent, removed}
 use Rattle.routes.specs.Table.{imageOf, afiIn, placesIn, routesOf}
 use Rattle.routes.specs.Calls.{leaving, withdrawOutcome, withdrawOf}
 use Rattle.routes.specs.Images.{Holdable, TableOf}
 use Rattle.routes.specs.CallRules.{IsHeld, HeldNow, Withdrawable, WithdrawRefusal, withdrawUnsound, badName, notHeld, WithdrawRule}
-use Rattle.routes.proofs.AnswerNumbers.{refused-number, given-number, done-given}
 use Rattle.routes.proofs.ArgumentRules.{argumentRule, nlri-accepted, nlri-accepts}
 use Rattle.routes.proofs.ByArguments.{s-pmsi-number}
 use Rattle.routes.proofs.Holding.{holdable-removed}
@@ -124,14 +120,14 @@ module _ (t nlri : List ℕ) where
 pub withdrawRule : WithdrawRule
 withdrawRule =
     record {
-      refuses = λ t nlri n h. (λ e. refusal t nlri n (refused-of _ n (sym e ∙ number t nlri) h), λ r. number t nlri ∙ refused-number (refuses t nlri r));
+      refuses = λ t nlri n h. (λ e. refusal t nlri n (refused-of _ n (sym e ∙ number t nlri) h), λ r. number t nlri ∙ number-refused (refuses t nlri r));
       done = λ t nlri. (
         λ e. let p = withdraw-given t nlri nlri (withdraw-done t nlri e) .0 in (p .asked, p .found),
-        λ h. number t nlri ∙ given-number (gives t nlri (h .0) (h .1)),
+        λ h. number t nlri ∙ number-given (gives t nlri (h .0) (h .1)),
       );
       withdrawn = λ t nlri e. held-after t nlri (withdraw-done t nlri e);
       room = λ t nlri e. room t nlri (withdraw-done t nlri e);
       after = λ t nlri e. after-given t nlri (withdraw-done t nlri e);
       size = size;
-      untouched = λ t nlri h. either-outcome t nlri (λ e. absurd (h (number t nlri ∙ given-number e))) (withdraw-leaves t nlri);
+      untouched = λ t nlri h. either-outcome t nlri (λ e. absurd (h (number t nlri ∙ number-given e))) (withdraw-leaves t nlri);
     }

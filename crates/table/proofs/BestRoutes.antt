@@ -11,8 +11,7 @@ use lib.Seq.{drop-drop}
 use Rattle.octets.specs.Choice.{pick, both, either}
 use Rattle.octets.specs.Octets.{part}
 use Rattle.octets.specs.Order.{before}
-use Rattle.octets.proofs.Outcomes.{pick-true, pick-false}
-use Rattle.octets.proofs.Picked.{tested}
+use Rattle.octets.proofs.Choice.{pick-true, pick-false, tested}
 use Rattle.routes.specs.Route.{Route}
 use Rattle.routes.specs.Arguments.{Query}
 use Rattle.routes.specs.Place.{routeIn}

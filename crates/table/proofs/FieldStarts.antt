@@ -10,10 +10,8 @@ use lib.Seq.{take-all, getD-drop}
 use Rattle.octets.specs.Choice.{pick, either}
 use Rattle.octets.specs.Outcome.{given}
 use Rattle.octets.specs.Octets.{part}
-use Rattle.octets.proofs.Tests.{goes}
-use Rattle.octets.proofs.Outcomes.{pick-true}
-use Rattle.octets.proofs.Inversions.{never, given-otherwise, given-unless, passed, given-same}
-use Rattle.octets.proofs.Refusals.{outcome}
+use Rattle.octets.proofs.Choice.{pick-true}
+use Rattle.octets.proofs.Outcome.{goes, never, given-otherwise, given-unless, passed, given-same, outcome}
 use Rattle.nlri.specs.declared.layout.Layout.{Layout}
 use Rattle.nlri.specs.Fields.{Fields}
 use Rattle.nlri.specs.Reading.{addressEnd, addressField, keyField, laidAt, laidSingle}

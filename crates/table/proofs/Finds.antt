@@ -8,7 +8,7 @@ use lib.ListN.{length, take, drop, drop-of-length-le}
 use lib.Seq.{drop-drop}
 use Rattle.octets.specs.Octets.{part}
 use Rattle.octets.specs.Order.{same, before}
-use Rattle.octets.proofs.Inversions.{both-true-left, both-true-right}
+use Rattle.octets.proofs.Choice.{both-true-left, both-true-right}
 use Rattle.octets.proofs.Lists.{part-length}
 use Rattle.routes.specs.Route.{nlriOf, holds}
 use Rattle.routes.specs.Place.{endIn, routeIn, placeSound}

@@ -10,11 +10,8 @@ use lib.ListN.{length}
 use Rattle.octets.specs.Numbers.{FLOW}
 use Rattle.octets.specs.Choice.{pick}
 use Rattle.octets.specs.Outcome.{Outcome, given, refused, onOutcome, andThen, numberOf}
-use Rattle.octets.proofs.Inversions.{given-unless}
-use Rattle.octets.proofs.Outcomes.{and-pick, and-refused, pick-true, pick-false}
-use Rattle.octets.proofs.Picked.{tested}
-use Rattle.octets.proofs.Refusals.{outcome}
-use Rattle.octets.proofs.Tests.{goes, stops}
+use Rattle.octets.proofs.Choice.{pick-true, pick-false, tested}
+use Rattle.octets.proofs.Outcome.{given-unless, and-pick, and-refused, outcome, goes, stops}
 use Rattle.nlri.specs.declared.group.Group.{Group}
 use Rattle.nlri.specs.Family.{isOriginatorSize}
 use Rattle.nlri.specs.Groups.{classUnder, groupOf}

@@ -9,8 +9,8 @@ use lib.ListN.{length, drop}
 use Rattle.octets.specs.Numbers.{DONE, TABLE, ROOM}
 use Rattle.octets.specs.Outcome.{given, refused, onOutcome, andThen, numberOf}
 use Rattle.octets.specs.Octets.{AllOctets}
-use Rattle.octets.proofs.Outcomes.{pick-true, pick-false}
-use Rattle.nlri.proofs.Numbered.{refused-of}
+use Rattle.octets.proofs.Choice.{pick-true, pick-false}
+use Rattle.octets.proofs.Outcome.{refused-of}
 use Rattle.routes.specs.Route.{route, nlriOf, attributeOf, inserted}
 use Rattle.routes.specs.Arguments.{readRoute}
 use Rattle.routes.specs.Place.{placeOf}

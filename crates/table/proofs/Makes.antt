@@ -13,9 +13,7 @@ use Rattle.octets.specs.Numbers.{DONE, FAMILY, TABLE}
 use Rattle.octets.specs.Choice.{pick, either}
 use Rattle.octets.specs.Outcome.{given, refused, onOutcome, andThen, numberOf}
 use Rattle.octets.specs.Order.{zeros}
-use Rattle.octets.proofs.Outcomes.{pick-false}
-use Rattle.octets.proofs.Inversions.{either-true}
-use Rattle.octets.proofs.Refusals.{either-false-left, either-false-right}
+use Rattle.octets.proofs.Choice.{pick-false, either-true, either-false-left, either-false-right}
 use Rattle.nlri.specs.Family.{familyBits}
 use Rattle.nlri.proofs.Theorems.{lengths}
 use Rattle.routes.specs.Table.{headerOf, placesOf, imageOf, placesIn, tableSize}

@@ -7,8 +7,8 @@ use borrow.Author.Tests.{lt-ltb, le-ltb}
 use lib.ListN.{length}
 use Rattle.octets.specs.Numbers.{TABLE, SPACE}
 use Rattle.octets.specs.Outcome.{Outcome, given, refused, onOutcome, andThen}
-use Rattle.octets.proofs.Outcomes.{pick-true, pick-false}
-use Rattle.octets.proofs.Tests.{picks, skips, goes, stops}
+use Rattle.octets.proofs.Choice.{pick-true, pick-false, picks, skips}
+use Rattle.octets.proofs.Outcome.{goes, stops}
 use Rattle.nlri.specs.declared.group.Group.{Group}
 use Rattle.nlri.specs.Groups.{groupOf}
 use Rattle.routes.specs.declared.Matched.{Matched}

@@ -6,10 +6,8 @@ use mathlib.Core.List.{List, [], _∷_, _++_}
 use native.Mathlib.Omega.{arith}
 use lib.ListN.{length, take, drop}
 use Rattle.octets.specs.Order.{same, before}
-use Rattle.octets.proofs.Inversions.{opposite}
+use Rattle.octets.proofs.Choice.{opposite, pick-true, pick-false, tested}
 use Rattle.octets.proofs.Orders.{same-swapped, before-other, before-then, before-differs, before-once}
-use Rattle.octets.proofs.Outcomes.{pick-true, pick-false}
-use Rattle.octets.proofs.Picked.{tested}
 use Rattle.routes.specs.Route.{Route, nlriOf, holds, inserted, removed, Increasing, last, next}
 use Rattle.routes.proofs.Lookups.{lookup-first, lookup-later, lookup-early, holds-held, holds-absent, holds-alike, lookup-none}
 use Rattle.table.specs.Changing.{rank, firstIs}

@@ -10,7 +10,7 @@ use Rattle.octets.specs.Outcome.{Outcome, given, onOutcome}
 use Rattle.octets.specs.Octets.{AllOctets, part, placed, front, numberIn}
 use Rattle.octets.specs.Outputs.{writtenOf, outputOf}
 use Rattle.octets.specs.declared.Written.{Written}
-use Rattle.octets.proofs.Inversions.{given-otherwise}
+use Rattle.octets.proofs.Outcome.{given-otherwise}
 use Rattle.octets.proofs.Lists.{Put, put-length, lent-placed, placed-then, front-is-placed}
 use Rattle.tunnel.specs.Attribute.{AttributeFields, fieldsIn, readAttribute, writeAttribute}
 use Rattle.tunnel.specs.Answers.{argumentFields}

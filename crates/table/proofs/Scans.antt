@@ -10,8 +10,7 @@ use Rattle.octets.specs.Choice.{pick}
 use Rattle.octets.specs.Octets.{part}
 use Rattle.octets.specs.Order.{before}
 use Rattle.octets.proofs.Lists.{part-length}
-use Rattle.octets.proofs.Tests.{picks, skips}
-use Rattle.octets.proofs.Outcomes.{pick-true, pick-false}
+use Rattle.octets.proofs.Choice.{picks, skips, pick-true, pick-false}
 use Rattle.routes.specs.Place.{endIn, routeIn}
 use Rattle.routes.specs.Matching.{nothing, found}
 use Rattle.table.specs.declared.scan.Best.{Best}

@@ -14,9 +14,8 @@ use Rattle.octets.specs.Choice.{pick, both, either}
 use Rattle.octets.specs.Outcome.{Outcome, given, refused, onOutcome, andThen, numberOf}
 use Rattle.octets.specs.Octets.{part, numberIn}
 use Rattle.octets.specs.Order.{same, before, allZero}
-use Rattle.octets.proofs.Tests.{both-true, both-left, both-right, both-last}
-use Rattle.octets.proofs.Outcomes.{pick-true, pick-false}
-use Rattle.octets.proofs.Inversions.{opposite, both-true-left, both-true-right}
+use Rattle.octets.proofs.Choice.{both-true, both-left, both-right, both-last, pick-true, pick-false, opposite, both-true-left, both-true-right}
+use Rattle.octets.proofs.Outcome.{number-goes, number-stops, refused-of, done-given, number-kept, number-picks, number-skips}
 use Rattle.nlri.specs.declared.layout.Layout.{Layout}
 use Rattle.nlri.specs.declared.layout.Reading.{Reading}
 use Rattle.nlri.specs.declared.layout.Reading.the-variants.{Nlri, Refused}
@@ -25,7 +24,6 @@ use Rattle.nlri.specs.Reading.{readNlri, isSPmsi}
 use Rattle.nlri.specs.Layouts.{readingOf, layoutSingle}
 use Rattle.nlri.specs.Inner.{fieldsAt}
 use Rattle.nlri.proofs.Via.{nlri-given, reading-refused}
-use Rattle.nlri.proofs.Numbered.{number-goes, number-stops, refused-of}
 use Rattle.nlri.proofs.Singles.{read-by-layout, read-refused}
 use Rattle.tunnel.specs.Attribute.{readAttribute, fieldsIn, labelOf}
 use Rattle.tunnel.proofs.ReadRule.{read-done}
@@ -33,27 +31,10 @@ use Rattle.routes.specs.Route.{route, nlriOf, attributeOf}
 use Rattle.routes.specs.Arguments.{readSPmsi, readLabelled, readRoute}
 use Rattle.routes.specs.Place.{endIn, routeIn, acceptable, placeSound}
 use Rattle.routes.specs.Table.{afiIn, countIn, placesIn, headerStart, tableSize, headerSound, placesSound, soundOf}
-use Rattle.routes.proofs.AnswerNumbers.{done-given}
 use Rattle.routes.proofs.ByArguments.{s-pmsi-number, route-number}
 use Rattle.routes.proofs.Bounds.{route-read, read-acceptable}
 use Rattle.routes.proofs.Headers.{SizeOf, sound-size}
 use Rattle.table.proofs.Moves.{drop-taken}
-
--- the number of a step is kept where only a value follows
-number-kept : {A B : Type 0} (o : Outcome A) (b : B) → numberOf o ≡ numberOf (andThen o (λ a. given b))
-unfolding numberOf andThen
-number-kept (given a) b = refl
-number-kept (refused n) b = refl
-
--- a choice's number, by its test
-module _ {A : Type 0} (b : Bool) (x y : Outcome A) (n : ℕ) where
-  number-picks : b ≡ true → n ≡ numberOf x → n ≡ numberOf (pick b x y)
-  unfolding pick
-  number-picks e p = rw e p
-
-  number-skips : b ≡ false → n ≡ numberOf y → n ≡ numberOf (pick b x y)
-  unfolding pick
-  number-skips e p = rw e p
 
 -- the number of an S-PMSI NLRI, by what reading its layout answers
 module _ (afi : ℕ) (s : List ℕ) (r : Reading) (e : readingOf r ≡ layoutSingle afi s) where
@@ -64,12 +45,12 @@ module _ (afi : ℕ) (s : List ℕ) (r : Reading) (e : readingOf r ≡ layoutSin
   pub s-pmsi-given : (l : Layout) → r ≡ Nlri l → l .«route_type» ≡ 3 → 0 ≡ numberOf (readSPmsi afi s)
   unfolding readSPmsi fieldsAt numberOf
   s-pmsi-given l q t =
-      number-goes 0 _ (fieldsAt l s) _ (read-by-layout afi s l (nlri-given r _ l e q) .0) (number-picks _ _ _ 0 (eq-eqb (l .«route_type») 3 t) refl)
+      number-goes 0 _ (fieldsAt l s) _ (read-by-layout afi s l (nlri-given r _ l e q) .0) (number-picks 0 _ _ _ (eq-eqb (l .«route_type») 3 t) refl)
 
   pub s-pmsi-other : (l : Layout) → r ≡ Nlri l → (l .«route_type» ≡ 3 → ⊥) → KIND ≡ numberOf (readSPmsi afi s)
   unfolding readSPmsi fieldsAt numberOf
   s-pmsi-other l q t =
-      number-goes KIND _ (fieldsAt l s) _ (read-by-layout afi s l (nlri-given r _ l e q) .0) (number-skips _ _ _ KIND (ne-eqb (l .«route_type») 3 t) refl)
+      number-goes KIND _ (fieldsAt l s) _ (read-by-layout afi s l (nlri-given r _ l e q) .0) (number-skips KIND _ _ _ (ne-eqb (l .«route_type») 3 t) refl)
 
 -- the number of an attribute, by that of reading it
 module _ (s : List ℕ) (n : ℕ) (e : n ≡ numberOf (readAttribute s)) where
@@ -80,18 +61,18 @@ module _ (s : List ℕ) (n : ℕ) (e : n ≡ numberOf (readAttribute s)) where
   module _ (z : n ≡ DONE) where
     pub attribute-other : (getD s 1 0 ≡ 11 → ⊥) → DONE ≡ numberOf (readLabelled s)
     unfolding readLabelled numberOf fieldsIn
-    attribute-other t = number-goes DONE _ (fieldsIn s) _ (read-done s n e z) (number-skips _ _ _ DONE (both-left _ _ (ne-eqb _ 11 t)) refl)
+    attribute-other t = number-goes DONE _ (fieldsIn s) _ (read-done s n e z) (number-skips DONE _ _ _ (both-left _ _ (ne-eqb _ 11 t)) refl)
 
     module _ (t : getD s 1 0 ≡ 11) (field : ℕ) (at : field ≡ numberIn (part s 2 3) 0) where
       pub attribute-unlabelled : field / 16 ≡ 0 → LABEL ≡ numberOf (readLabelled s)
       unfolding readLabelled numberOf fieldsIn labelOf
       attribute-unlabelled l =
-          number-goes LABEL _ (fieldsIn s) _ (read-done s n e z) (number-picks _ _ _ LABEL (both-true _ _ (eq-eqb _ 11 t) (rw (← at) (eq-eqb _ 0 l))) refl)
+          number-goes LABEL _ (fieldsIn s) _ (read-done s n e z) (number-picks LABEL _ _ _ (both-true _ _ (eq-eqb _ 11 t) (rw (← at) (eq-eqb _ 0 l))) refl)
 
       pub attribute-labelled : (field / 16 ≡ 0 → ⊥) → DONE ≡ numberOf (readLabelled s)
       unfolding readLabelled numberOf fieldsIn labelOf
       attribute-labelled l =
-          number-goes DONE _ (fieldsIn s) _ (read-done s n e z) (number-skips _ _ _ DONE (both-right _ _ (eq-eqb _ 11 t) (rw (← at) (ne-eqb _ 0 l))) refl)
+          number-goes DONE _ (fieldsIn s) _ (read-done s n e z) (number-skips DONE _ _ _ (both-right _ _ (eq-eqb _ 11 t) (rw (← at) (ne-eqb _ 0 l))) refl)
 
 -- where the number is DONE, what reading gives
 pub s-pmsi-fault-none : (afi : ℕ) (nlri : List ℕ) → numberOf (readSPmsi afi nlri) ≡ DONE → (f : Fields) × (readSPmsi afi nlri ≡ given f)

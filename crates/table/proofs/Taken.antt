@@ -8,7 +8,8 @@ use lib.ListN.{length, drop}
 use lib.Seq.{drop-drop}
 use Rattle.octets.specs.Outcome.{given}
 use Rattle.octets.specs.Octets.{part}
-use Rattle.octets.proofs.Inversions.{both-true-left, both-true-right, given-otherwise, passed, given-same}
+use Rattle.octets.proofs.Choice.{both-true-left, both-true-right}
+use Rattle.octets.proofs.Outcome.{given-otherwise, passed, given-same}
 use Rattle.octets.proofs.Lists.{part-length}
 use Rattle.tunnel.specs.Attribute.{AttributeFields, fieldsIn, readAttribute}
 use Rattle.routes.specs.Route.{nlriOf, attributeOf}

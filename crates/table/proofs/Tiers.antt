@@ -12,9 +12,8 @@ use Rattle.octets.specs.Octets.{part, lowFirst}
 use Rattle.octets.specs.Choice.{pick, both}
 use Rattle.octets.specs.Outcome.{given}
 use Rattle.octets.specs.Order.{same}
-use Rattle.octets.proofs.Inversions.{opposite}
+use Rattle.octets.proofs.Choice.{opposite, picks, skips}
 use Rattle.octets.proofs.Orders.{unequal-other}
-use Rattle.octets.proofs.Tests.{picks, skips}
 use Rattle.nlri.specs.Fields.{Fields}
 use Rattle.nlri.specs.Groups.{ASM, SSM}
 use Rattle.routes.specs.Route.{Route, nlriOf}

@@ -7,8 +7,8 @@ use lib.ListN.{drop}
 use Rattle.octets.specs.Numbers.{DONE, TABLE, ABSENT}
 use Rattle.octets.specs.Outcome.{given, refused, onOutcome, andThen, numberOf}
 use Rattle.octets.specs.Octets.{AllOctets}
-use Rattle.octets.proofs.Outcomes.{pick-true, pick-false}
-use Rattle.nlri.proofs.Numbered.{refused-of}
+use Rattle.octets.proofs.Choice.{pick-true, pick-false}
+use Rattle.octets.proofs.Outcome.{refused-of}
 use Rattle.routes.specs.Route.{removed}
 use Rattle.routes.specs.Arguments.{readSPmsi}
 use Rattle.routes.specs.Table.{afiIn, countIn, placesIn, routesOf, imageOf, soundOf}

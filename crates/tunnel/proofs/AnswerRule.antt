@@ -8,7 +8,8 @@ use lib.ListN.{length, getD, drop, length-drop}
 use lib.Seq.{take-length, drop-drop}
 use Rattle.octets.specs.Outcome.{Outcome, given, refused, andThen}
 use Rattle.octets.specs.Octets.{AllOctets, part}
-use Rattle.octets.proofs.Inversions.{never, given-same, passed, both-true-left}
+use Rattle.octets.proofs.Choice.{both-true-left}
+use Rattle.octets.proofs.Outcome.{never, given-same, passed}
 use Rattle.octets.proofs.Lists.{part-length}
 use Rattle.octets.proofs.AllOctets.{octets-drop}
 use Rattle.tunnel.specs.declared.Reading.{Reading}

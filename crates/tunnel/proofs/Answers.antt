@@ -9,9 +9,8 @@ use borrow.Author.Tests.{eqb-false, ne-eqb}
 use Rattle.octets.specs.Choice.{pick}
 use Rattle.octets.specs.Numbers.{DONE, IDENT}
 use Rattle.octets.specs.Outcome.{Outcome, given, refused, onOutcome, andThen, numberOf}
-use Rattle.octets.proofs.Picked.{was-given}
-use Rattle.octets.proofs.Inversions.{both-true-left}
-use Rattle.octets.proofs.Refusals.{either-false-left, either-false-right}
+use Rattle.octets.proofs.Choice.{both-true-left, either-false-left, either-false-right}
+use Rattle.octets.proofs.Outcome.{given-unless, refused-of}
 use Rattle.tunnel.specs.declared.Attribute.{Attribute}
 use Rattle.tunnel.specs.declared.fec.Fec.{Fec}
 use Rattle.tunnel.specs.Fec.{wholeFec, fecIn}
@@ -19,7 +18,6 @@ use Rattle.tunnel.specs.Identifier.{IdentifierForm, sizes, fecTypes, ide
 use Rattle.tunnel.specs.Attribute.{AttributeFields, fieldsIn, readAttribute}
 use Rattle.tunnel.specs.Answers.{fecSpans, noFec, fecOfForm, fecOf, attributeStruct, readStruct}
 use Rattle.tunnel.specs.Inner.{mldp}
-use Rattle.tunnel.proofs.Numbers.{refused-number}
 use Rattle.tunnel.proofs.Identifiers.{read-known, judged-done}
 use Rattle.tunnel.proofs.Rows.{form-mldp}
 use Rattle.tunnel.proofs.ReadRule.{read-done}
@@ -39,7 +37,7 @@ unfolding isIdentifier
 mldp-whole t i rest m e k =
     let form = form-mldp t m in
     let j = sym (read-known t i (fecTypes (form .types)) (form .is)) ∙ judged-done t i e in
-    rw k (both-true-left (wholeFec i) (oneOf (getD i 0 0) (form .types)) (was-given (isIdentifier (fecTypes (form .types)) i) i i IDENT j .0))
+    rw k (both-true-left (wholeFec i) (oneOf (getD i 0 0) (form .types)) (given-unless IDENT (isIdentifier (fecTypes (form .types)) i) (given i) i j .0))
 
 pub mldp-fec : (s rest : List ℕ) (r : Fec) → mldp (getD s 1 0) ≡ true → rest ≡ drop 5 s → r ≡ fecSpans (fecIn rest) → r ≡ fecOf (fieldsIn s)
 unfolding fieldsIn
@@ -76,7 +74,7 @@ mldp-none s m =
 module _ (s : List ℕ) (n : ℕ) (e : n ≡ numberOf (readAttribute s)) where
   pub answer-refused : (n ≡ DONE → ⊥) → refused n ≡ readStruct s
   unfolding readStruct andThen
-  answer-refused d = rw (refused-number n (readAttribute s) e d)
+  answer-refused d = rw (refused-of (readAttribute s) n e d)
 
   pub answer-given : n ≡ DONE → (a : Attribute) → a ≡ attributeStruct (fieldsIn s) → given a ≡ readStruct s
   unfolding readStruct andThen

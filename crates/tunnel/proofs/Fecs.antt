@@ -11,9 +11,7 @@ use lib.Seq.{length-take-le, drop-drop, take-append-seam, drop-append-seam, drop
 use borrow.Author.Tests.{leb-true, eqb-true, eq-eqb, le-leb}
 use Rattle.octets.specs.Choice.{both, either}
 use Rattle.octets.specs.Octets.{AllOctets, part, numberIn, bigEndian}
-use Rattle.octets.proofs.Tests.{both-true}
-use Rattle.octets.proofs.Inversions.{both-held, either-true}
-use Rattle.octets.proofs.Refusals.{is-false}
+use Rattle.octets.proofs.Choice.{both-true, both-held, either-true, is-false}
 use Rattle.octets.proofs.AllOctets.{octet-at, octets-take, octets-drop}
 use Rattle.octets.proofs.NetworkOrder.{big-endian-length, number-of-big-endian, number-part, part-number, part-fits}
 use Rattle.tunnel.specs.Fec.{FecFields, encodeFec, Suits, ipv4, ipv6, WellFormedFec, familySuits, opaqueFills, wholeFec, fecIn}

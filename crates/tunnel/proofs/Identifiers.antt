@@ -14,11 +14,8 @@ use Rattle.octets.specs.Choice.{either}
 use Rattle.octets.specs.Numbers.{DONE, TUNNEL, IDENT}
 use Rattle.octets.specs.Outcome.{Outcome, given, refused, andThen, numberOf}
 use Rattle.octets.specs.Octets.{AllOctets}
-use Rattle.octets.proofs.Tests.{both-true, either-left}
-use Rattle.octets.proofs.Picked.{tested}
-use Rattle.octets.proofs.Outcomes.{pick-true, pick-false}
-use Rattle.octets.proofs.Inversions.{never, opposite, both-held}
-use Rattle.octets.proofs.Refusals.{picked, either-second}
+use Rattle.octets.proofs.Choice.{both-true, either-left, tested, pick-true, pick-false, opposite, both-held, picked, either-second}
+use Rattle.octets.proofs.Outcome.{never}
 use Rattle.tunnel.specs.Fec.{encodeFec, wholeFec, fecIn}
 use Rattle.tunnel.specs.Identifier.{IdentifierForm, sizes, fecTypes, TableRow, rowOf, identifierForms, formIn, formOf, IsIdentifier, ofSize, ofFec, OfType, oneOf, isIdentifier, judged, readIdentifier}
 use Rattle.tunnel.specs.Statements.{Unknown}

@@ -1,6 +1,5 @@
 -- Laws of the definitions, and the theorems.
 pub mod Copies
-pub mod Numbers
 pub mod Fecs
 pub mod Identifiers
 pub mod Rows

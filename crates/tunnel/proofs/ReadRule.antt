@@ -11,15 +11,13 @@ use Rattle.octets.specs.Choice.{pick}
 use Rattle.octets.specs.Numbers.{DONE, SHORT, LONG}
 use Rattle.octets.specs.Outcome.{Outcome, given, refused, andThen, numberOf}
 use Rattle.octets.specs.Octets.{AllOctets, part, numberIn, bigEndian}
-use Rattle.octets.proofs.Picked.{tested}
-use Rattle.octets.proofs.Inversions.{never}
-use Rattle.octets.proofs.Refusals.{refused-same}
+use Rattle.octets.proofs.Choice.{tested}
+use Rattle.octets.proofs.Outcome.{never, refused-same, number-kept}
 use Rattle.octets.proofs.AllOctets.{octet-at, octets-drop}
 use Rattle.octets.proofs.NetworkOrder.{big-endian-length, number-of-big-endian, part-number, part-fits}
 use Rattle.tunnel.specs.Identifier.{IdentifierForm, formOf, isIdentifier, readIdentifier}
 use Rattle.tunnel.specs.Attribute.{AttributeFields, WellFormedAttribute, encodeAttribute, fieldsIn, readAttribute}
 use Rattle.tunnel.specs.Statements.{ReadableSize, AttributeReadRefusal, long, short, badTunnel, badIdentifier, AttributeReadRule}
-use Rattle.tunnel.proofs.Numbers.{number-kept}
 use Rattle.tunnel.proofs.Identifiers.{JudgedCase, noRow, noFit, fit, judged-case, of-type, read-unknown, read-unfit, read-of-type}
 
 module _ (s : List ℕ) where

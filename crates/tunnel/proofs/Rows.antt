@@ -11,13 +11,11 @@ use borrow.Author.Tests.{ltb-true, ltb-false, eqb-true, eqb-false, ne-eqb}
 use Rattle.octets.specs.Choice.{pick, both, either}
 use Rattle.octets.specs.Numbers.{DONE, TUNNEL, IDENT}
 use Rattle.octets.specs.Outcome.{given, numberOf}
-use Rattle.octets.proofs.Picked.{tested, pick-passed}
-use Rattle.octets.proofs.Outcomes.{pick-false}
-use Rattle.octets.proofs.Refusals.{either-false-left, either-false-right}
+use Rattle.octets.proofs.Choice.{tested, pick-passed, pick-false, either-false-left, either-false-right}
+use Rattle.octets.proofs.Outcome.{number-of-refused, number-unless}
 use Rattle.tunnel.specs.Fec.{wholeFec}
 use Rattle.tunnel.specs.Identifier.{sizes, fecTypes, identifierForms, formIn, formOf, oneOf, isIdentifier, readIdentifier}
 use Rattle.tunnel.specs.Inner.{unknown, mldp, typeSuits, TakesSizes}
-use Rattle.tunnel.proofs.Numbers.{number-refused, number-unless}
 use Rattle.tunnel.proofs.Identifiers.{read-known, read-unknown}
 
 -- a tunnel type that the code's test finds unknown
@@ -25,7 +23,7 @@ pub number-unknown : (t : ℕ) (i : List ℕ) → unknown t ≡ true → TUNNEL 
 unfolding unknown
 number-unknown t i h =
     let p = pick-passed (eqb t 11) (ltb 7 t) h in
-    number-refused TUNNEL (readIdentifier t i) (read-unknown t i (record { over = ltb-true 7 t (p .1); notBier = eqb-false t 11 (p .0) }))
+    number-of-refused TUNNEL (readIdentifier t i) (read-unknown t i (record { over = ltb-true 7 t (p .1); notBier = eqb-false t 11 (p .0) }))
 
 -- the rows of sizes
 takes-sizes : (t m n : ℕ) (ns : List ℕ) → formOf t ≡ given (sizes ns) → ((i : List ℕ) → isIdentifier (sizes ns) i ≡ isIdentifier (sizes (m ∷ n ∷ [])) i) → TakesSizes t m n

@@ -13,13 +13,11 @@ use Rattle.octets.specs.Outcome.{Outcome, given, refused, onOutcome, andThen, n
 use Rattle.octets.specs.Octets.{front}
 use Rattle.octets.specs.Outputs.{writtenOf, outputOf}
 use Rattle.octets.specs.declared.Written.{Written}
-use Rattle.octets.proofs.Picked.{tested}
-use Rattle.octets.proofs.Inversions.{never}
-use Rattle.octets.proofs.Refusals.{refused-same}
+use Rattle.octets.proofs.Choice.{tested}
+use Rattle.octets.proofs.Outcome.{never, refused-same, number-of-refused, number-refuses}
 use Rattle.tunnel.specs.Identifier.{IdentifierForm, formOf, isIdentifier, readIdentifier}
 use Rattle.tunnel.specs.Attribute.{AttributeFields, WellFormedAttribute, encodeAttribute, writeAttribute}
 use Rattle.tunnel.specs.Statements.{OctetFields, AttributeWriteRefusal, long, badTunnel, badIdentifier, badLabel, noSpace, AttributeWriteRule}
-use Rattle.tunnel.proofs.Numbers.{number-refused, number-stops}
 use Rattle.tunnel.proofs.Identifiers.{JudgedCase, noRow, noFit, fit, judged-case, of-type, read-unknown, read-unfit, read-of-type, judged-done}
 use Rattle.tunnel.proofs.ReadRule.{length-attribute}
 
@@ -54,21 +52,21 @@ module _ (f : AttributeFields) (space : ℕ) where
 
   -- the number, by the tests that the code makes
   pub number-long : 59 < length (f .identifier) → LONG ≡ numberOf (writeAttribute f space)
-  number-long h = number-refused LONG (writeAttribute f space) (write-long h)
+  number-long h = number-of-refused LONG (writeAttribute f space) (write-long h)
 
   module _ (n : ℕ) (h : length (f .identifier) ≤ 59) (e : n ≡ numberOf (readIdentifier (f .tunnelType) (f .identifier))) where
     pub number-fault : (n ≡ DONE → ⊥) → n ≡ numberOf (writeAttribute f space)
-    number-fault d = number-stops n (readIdentifier (f .tunnelType) (f .identifier)) (λ _. fieldsWritten) e d ∙ sym (ap numberOf (write-sized h))
+    number-fault d = number-refuses n (readIdentifier (f .tunnelType) (f .identifier)) (λ _. fieldsWritten) e d ∙ sym (ap numberOf (write-sized h))
 
     module _ (z : n ≡ DONE) where
       number-judged : numberOf fieldsWritten ≡ numberOf (writeAttribute f space)
       number-judged = sym (ap numberOf (write-judged h (judged-done (f .tunnelType) (f .identifier) (sym e ∙ z))))
 
       pub number-label : 16777215 < f .labelField → LABEL ≡ numberOf (writeAttribute f space)
-      number-label l = number-refused LABEL fieldsWritten (written-label l) ∙ number-judged
+      number-label l = number-of-refused LABEL fieldsWritten (written-label l) ∙ number-judged
 
       pub number-space : f .labelField ≤ 16777215 → space < 5 + length (f .identifier) → SPACE ≡ numberOf (writeAttribute f space)
-      number-space l r = number-refused SPACE fieldsWritten (written-space l (omega (arith, length-attribute f))) ∙ number-judged
+      number-space l r = number-of-refused SPACE fieldsWritten (written-space l (omega (arith, length-attribute f))) ∙ number-judged
 
       pub number-done : f .labelField ≤ 16777215 → 5 + length (f .identifier) ≤ space → DONE ≡ numberOf (writeAttribute f space)
       unfolding numberOf

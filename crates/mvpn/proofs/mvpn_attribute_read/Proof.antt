@@ -1,26 +1,11 @@
 -- `mvpn::mvpn_attribute_read` meets its contract.
 use Rattle.mvpn.specs.Answers.{attributeAnswer}
 use Rattle.tunnel.specs.Answers.{outcomeOf}
-use Rattle.octets.proofs.Tests.{on-given, on-refused}
+use Rattle.octets.proofs.Outcome.{on-given, on-refused}
 use mathlib.Core.Path.{refl, _∙_, sym, ap}
 use borrow.Author.Needs.{needs}
 use Rattle.mvpn.proofs.mvpn_attribute_read.Statement.{statement}
 use Rattle.mvpn.proofs.mvpn_attribute_read.Tie as tie
-
-read-requires : tie.Need-read-requires
-read-requires c κs = search needs
-
-enum-known-fields : tie.Need-enum-known-fields
-enum-known-fields c = search needs
-
-read-answer-requires : tie.Need-read-answer-requires
-read-answer-requires c κs = search needs
-
-enum-known-number : tie.Need-enum-known-number
-enum-known-number c = search needs
-
-refusal-requires : tie.Need-refusal-requires
-refusal-requires c κs = search needs
 
 returns : tie.Need-returns
 unfolding outcomeOf attributeAnswer
@@ -36,10 +21,10 @@ pub mvpn-attribute-read-spec : {M : Type 1} → statement M
 mvpn-attribute-read-spec =
     tie.close
     (tie.spec
-    read-requires
-    enum-known-fields
-    read-answer-requires
+    (search needs)
+    (search needs)
+    (search needs)
     returns
-    enum-known-number
-    refusal-requires
+    (search needs)
+    (search needs)
     returns-2)

@@ -1,15 +1,21 @@
 -- `mvpn::stopped` meets its contract.
-use Rattle.nlri.specs.Layouts.{noLayout}
+use borrow.Author.Needs.{needs}
+use mathlib.Core.Path.{ap}
+use Prim.Native.Nat.{ℕ}
+use Rattle.nlri.specs.declared.layout.Layout.{Layout}
 use Rattle.nlri.specs.Walking.{refusedAt}
+use Rattle.mvpn.specs.declared.StepAnswer.{StepAnswer}
 use Rattle.mvpn.specs.Answers.{stepAnswer}
-use mathlib.Core.Path.{refl}
 use Rattle.mvpn.proofs.stopped.Statement.{statement}
 use Rattle.mvpn.proofs.stopped.Tie as tie
 
+-- an answer with no NLRI
+unfoldable answered : (cursor number : ℕ) → Layout → StepAnswer
+answered cursor number layout = record { cursor = cursor; number = number; layout = layout }
+
 returns : tie.Need-returns
-unfolding stepAnswer refusedAt noLayout
-returns c =
-    refl
+unfolding stepAnswer refusedAt answered
+returns c = ap (answered (c .before .args .cursor) (c .before .args .number)) (c .none .ensures)
 
 pub stopped-spec : {M : Type 1} → statement M
-stopped-spec = tie.close (tie.spec returns)
+stopped-spec = tie.close (tie.spec (search needs) returns)

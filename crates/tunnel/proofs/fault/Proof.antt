@@ -1,32 +1,17 @@
 -- `tunnel::fault` meets its contract: its tests are document 01's, in the same order.
 use denote.Ref.{now}
 use Rattle.octets.proofs.Lists.{lent-rest}
-use Rattle.tunnel.proofs.Numbers.{number-refused}
+use Rattle.octets.proofs.Outcome.{number-of-refused}
 use Rattle.tunnel.proofs.ReadRule.{read-long, read-short, number-sized}
 use borrow.Author.Needs.{needs}
 use Rattle.tunnel.proofs.fault.Statement.{statement}
 use Rattle.tunnel.proofs.fault.Tie as tie
 
 returns : tie.Need-returns
-returns c = search (needs, number-refused, read-long)
+returns c = search (needs, number-of-refused, read-long)
 
 returns-2 : tie.Need-returns-2
-returns-2 c = search (needs, number-refused, read-short)
-
-shared-slice-read-fault : tie.Need-shared-slice-read-fault
-shared-slice-read-fault c = search needs
-
-sub-fault : tie.Need-sub-fault
-sub-fault c = search needs
-
-part-fault-start : tie.Need-part-fault-start
-part-fault-start c = search needs
-
-part-fault-end : tie.Need-part-fault-end
-part-fault-end c = search needs
-
-fault-requires : tie.Need-fault-requires
-fault-requires c κs = search needs
+returns-2 c = search (needs, number-of-refused, read-short)
 
 returns-3 : tie.Need-returns-3
 returns-3 c =
@@ -39,9 +24,9 @@ fault-spec =
     (tie.spec
     returns
     returns-2
-    shared-slice-read-fault
-    sub-fault
-    part-fault-start
-    part-fault-end
-    fault-requires
+    (search needs)
+    (search needs)
+    (search needs)
+    (search needs)
+    (search needs)
     returns-3)

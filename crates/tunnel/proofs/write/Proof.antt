@@ -2,7 +2,7 @@
 use denote.Ref.{now}
 use lib.ListN.{length}
 use native.Mathlib.Omega.{arith}
-use Rattle.tunnel.proofs.Numbers.{refused-number}
+use Rattle.octets.proofs.Outcome.{refused-of}
 use Rattle.tunnel.proofs.ReadRule.{length-attribute}
 use Rattle.tunnel.proofs.WriteRule.{write-done, output-refused, output-encoding}
 use Rattle.tunnel.specs.Attribute.{writeAttribute}
@@ -20,7 +20,7 @@ returns c =
     let f = argumentFields (a .flags) (a .tunnel-type) (a .label-field) (now (a .identifier)) in
     let space = length (now (a .output)) in
     let n = c .before .write-fault in
-    output-refused (writeAttribute f space) (n .result) (now (a .output)) (refused-number (n .result) (writeAttribute f space) (n .ensures (a .flags)) (c .if1 .taken))
+    output-refused (writeAttribute f space) (n .result) (now (a .output)) (refused-of (writeAttribute f space) (n .result) (n .ensures (a .flags)) (c .if1 .taken))
 
 put-requires : tie.Need-put-requires
 put-requires c κs =

@@ -10,24 +10,12 @@ use borrow.Author.Needs.{needs}
 use Rattle.mvpn_list.proofs.format.field.Statement.{statement}
 use Rattle.mvpn_list.proofs.format.field.Tie as tie
 
-decimal-requires : tie.Need-decimal-requires
-decimal-requires c κs = search needs
-
-array-share-prefix-digits : tie.Need-array-share-prefix-digits
-array-share-prefix-digits c = search needs
-
-slice-aggregate-place : tie.Need-slice-aggregate-place
-slice-aggregate-place c = search needs
-
 place-requires : tie.Need-place-requires
 unfolding fieldOf
 place-requires c κs =
     let a = c .before .before .before .before .before .args in
     let d = c .before .before .decimal .ensures in
     rw (d .1 .1 ∙ digits-decimalOf _ _ (d .1 .0)) (room-first (a .at) (decimalOf (a .number)) (a .ending ∷ []) (now (a .output)) (c .before .before .before .before .before .pre))
-
-slice-aggregate-place-2 : tie.Need-slice-aggregate-place-2
-slice-aggregate-place-2 c = search needs
 
 place-requires-2 : tie.Need-place-requires-2
 unfolding fieldOf
@@ -37,9 +25,6 @@ place-requires-2 c κs =
     let w = c .before .before .before .before .place in
     room-next (a .at) (decimalOf (a .number)) (a .ending ∷ []) (now (a .output)) (c .before .before .before .before .before .before .before .before .before .before .pre) (w .result) (w .last .1 .0)
     (put-as (a .at) _ _ (now (a .output)) _ _ (d .1 .1 ∙ digits-decimalOf _ _ (d .1 .0)) (w .ensures))
-
-same-length : tie.Need-same-length
-same-length c = search needs
 
 returns : tie.Need-returns
 unfolding fieldOf
@@ -54,11 +39,11 @@ pub field-spec : {M : Type 1} → statement M
 field-spec =
     tie.close
     (tie.spec
-    decimal-requires
-    array-share-prefix-digits
-    slice-aggregate-place
+    (search needs)
+    (search needs)
+    (search needs)
     place-requires
-    slice-aggregate-place-2
+    (search needs)
     place-requires-2
-    same-length
+    (search needs)
     returns)

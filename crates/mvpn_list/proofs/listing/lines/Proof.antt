@@ -17,12 +17,6 @@ abbrev μ-loop : tie.MeasureT-loop
 loop-holds : tie.Need-loop-holds Inv-loop μ-loop
 loop-holds c = listed-first _ _ _
 
-step-requires : tie.Need-step-requires Inv-loop μ-loop
-step-requires c κs = search needs
-
-enum-known-layout : tie.Need-enum-known-layout Inv-loop μ-loop
-enum-known-layout c = search needs
-
 line-requires : tie.Need-line-requires Inv-loop μ-loop
 line-requires c κs = room-nlriLine _ _ _ _ _ _ (c .before .before .before .before .before .before .before .before .pre) (c .before .before .before .before .before .loop .inv) _ _ (step-read _ _ _ _ (c .before .before .before .before .step .ensures) (c .before .before .layout .given .1))
 
@@ -32,9 +26,6 @@ loop-less c = let m = step-moves _ _ _ _ _ (step-read _ _ _ _ (c .before .before
 loop-again : tie.Need-loop-again Inv-loop μ-loop
 loop-again c = listed-next _ _ _ _ _ _ (c .before .before .before .before .before .before .before .before .before .before .before .pre) (c .before .before .before .before .before .before .before .before .loop .inv) _ _ (step-read _ _ _ _ (c .before .before .before .before .before .before .before .step .ensures) (c .before .before .before .before .before .layout .given .1)) _ _ (c .before .before .line .ensures)
 
-enum-told : tie.Need-enum-told Inv-loop μ-loop
-enum-told c = search needs
-
 last-line-requires : tie.Need-last-line-requires Inv-loop μ-loop
 last-line-requires c κs = room-lastLine _ _ _ _ _ _ (c .before .before .before .before .before .before .before .pre) (c .before .before .before .before .loop .inv) _ (stops-ended _ _ _ (c .before .before .before .step .ensures) (c .before .enum-told .given .1))
 
@@ -43,9 +34,6 @@ same-length c = length-listed _ _ _ _ _ _ (c .before .before .before .before .be
 
 returns : tie.Need-returns Inv-loop μ-loop
 returns c = listed-last _ _ _ _ _ _ (c .before .before .before .before .before .before .before .before .before .before .pre) (c .before .before .before .before .before .before .before .loop .inv) _ (stops-ended _ _ _ (c .before .before .before .before .before .before .step .ensures) (c .before .before .before .before .enum-told .given .1)) _ _ (c .before .before .last-line .ensures)
-
-enum-known-number : tie.Need-enum-known-number Inv-loop μ-loop
-enum-known-number c = search needs
 
 last-line-requires-2 : tie.Need-last-line-requires-2 Inv-loop μ-loop
 last-line-requires-2 c κs = room-lastLine _ _ _ _ _ _ (c .before .before .before .before .before .before .before .before .pre) (c .before .before .before .before .before .loop .inv) _ (stops-refused _ _ _ _ (c .before .before .before .before .step .ensures) (c .before .before .number .given .1))
@@ -63,16 +51,16 @@ lines-spec =
     Inv-loop
     μ-loop
     loop-holds
-    step-requires
-    enum-known-layout
+    (search needs)
+    (search needs)
     line-requires
     loop-less
     loop-again
-    enum-told
+    (search needs)
     last-line-requires
     same-length
     returns
-    enum-known-number
+    (search needs)
     last-line-requires-2
     same-length-2
     returns-2)

@@ -13,27 +13,6 @@ Inv-loop script start field₀ size₀ next₀ field size next = (size ≤ lengt
 abbrev μ-loop : tie.MeasureT-loop
 μ-loop script start field₀ size₀ next₀ field size next = length field - size
 
-loop-holds : tie.Need-loop-holds Inv-loop μ-loop
-loop-holds c = search needs
-
-pair-requires : tie.Need-pair-requires Inv-loop μ-loop
-pair-requires c κs = search needs
-
-same-length : tie.Need-same-length Inv-loop μ-loop
-same-length c = search needs
-
-returns : tie.Need-returns Inv-loop μ-loop
-returns c = search needs
-
-cast-field : tie.Need-cast-field Inv-loop μ-loop
-cast-field c = search needs
-
-slice-write-field : tie.Need-slice-write-field Inv-loop μ-loop
-slice-write-field c = search needs
-
-add-size : tie.Need-add-size Inv-loop μ-loop
-add-size c = search needs
-
 add-next : tie.Need-add-next Inv-loop μ-loop
 add-next c = omega (arith, c .before .pair .ensures (omega arith))
 
@@ -43,27 +22,21 @@ loop-less c = simp length-set (omega arith)
 loop-again : tie.Need-loop-again Inv-loop μ-loop
 loop-again c = rw length-set (omega arith)
 
-same-length-2 : tie.Need-same-length-2 Inv-loop μ-loop
-same-length-2 c = search needs
-
-returns-2 : tie.Need-returns-2 Inv-loop μ-loop
-returns-2 c = search needs
-
 pub decode-spec : {M : Type 1} → statement M
 decode-spec =
     tie.close
     (tie.spec
     Inv-loop
     μ-loop
-    loop-holds
-    pair-requires
-    same-length
-    returns
-    cast-field
-    slice-write-field
-    add-size
+    (search needs)
+    (search needs)
+    (search needs)
+    (search needs)
+    (search needs)
+    (search needs)
+    (search needs)
     add-next
     loop-less
     loop-again
-    same-length-2
-    returns-2)
+    (search needs)
+    (search needs))

@@ -10,21 +10,12 @@ returns : tie.Need-returns
 unfolding flowFault addressThen
 returns c = search refusals
 
-shared-slice-read-bits : tie.Need-shared-slice-read-bits
-shared-slice-read-bits c = search needs
-
 cast-bits : tie.Need-cast-bits
 cast-bits c = omega (arith, c .shared-slice-known2 .given (c .before .before .before .args .at))
-
-is-allowed-requires : tie.Need-is-allowed-requires
-is-allowed-requires c κs = search needs
 
 returns-2 : tie.Need-returns-2
 unfolding flowFault addressThen
 returns-2 c = search refusals
-
-add-group-fault : tie.Need-add-group-fault
-add-group-fault c = search needs
 
 add-group-fault-2 : tie.Need-add-group-fault-2
 add-group-fault-2 c = omega (arith, c .before .before .shared-slice-known2 .given (c .before .before .before .before .before .args .at))
@@ -41,11 +32,11 @@ flow-fault-spec =
     tie.close
     (tie.spec
     returns
-    shared-slice-read-bits
+    (search needs)
     cast-bits
-    is-allowed-requires
+    (search needs)
     returns-2
-    add-group-fault
+    (search needs)
     add-group-fault-2
     group-fault-requires
     returns-3)

@@ -14,15 +14,9 @@ use borrow.Author.Needs.{needs}
 use Rattle.nlri.proofs.body.unkeyed_body_fault.Statement.{statement}
 use Rattle.nlri.proofs.body.unkeyed_body_fault.Tie as tie
 
-originator-fault-requires : tie.Need-originator-fault-requires
-originator-fault-requires c κs = search needs
-
 returns : tie.Need-returns
 unfolding unkeyedBody bodyWith pick
 returns c = c .originator-fault .ensures ∙ intra-number (now (c .before .before .before .args .s)) ∙ ap numberOf (of-type _ _ _ _ 1 _ (c .before .if1 .taken) refl)
-
-end-fault-requires : tie.Need-end-fault-requires
-end-fault-requires c κs = search needs
 
 returns-2 : tie.Need-returns-2
 unfolding unkeyedBody bodyWith pick
@@ -39,12 +33,6 @@ returns-4 c = ap numberOf (of-type (refused KEY) _ (c .before .before .before .b
 returns-5 : tie.Need-returns-5
 unfolding unkeyedBody numberOf
 returns-5 c = ap numberOf (of-none (refused KEY) _ _ _ (c .if5 .taken))
-
-source-start-requires : tie.Need-source-start-requires
-source-start-requires c κs = search needs
-
-add-flow-fault : tie.Need-add-flow-fault
-add-flow-fault c = search needs
 
 sub-flow-fault : tie.Need-sub-flow-fault
 sub-flow-fault c = omega (arith, c .source-start .ensures, start-least (c .before .before .before .before .before .before .before .args .route-type))
@@ -63,15 +51,15 @@ pub unkeyed-body-fault-spec : {M : Type 1} → statement M
 unkeyed-body-fault-spec =
     tie.close
     (tie.spec
-    originator-fault-requires
+    (search needs)
     returns
-    end-fault-requires
+    (search needs)
     returns-2
     returns-3
     returns-4
     returns-5
-    source-start-requires
-    add-flow-fault
+    (search needs)
+    (search needs)
     sub-flow-fault
     flow-fault-requires
     returns-6)

@@ -9,22 +9,13 @@ use borrow.Author.Needs.{needs}
 use Rattle.nlri.proofs.fields.address_at.Statement.{statement}
 use Rattle.nlri.proofs.fields.address_at.Tie as tie
 
-wildcard-requires : tie.Need-wildcard-requires
-wildcard-requires c κs = search needs
-
 returns : tie.Need-returns
 returns c =
     let a = c .before .before .before .args in
     c .wildcard .ensures ∙ ap addressStruct (empty-part (now (a .s)) (a .start) (a .size) (c .before .if1 .taken))
 
-ipv4-requires : tie.Need-ipv4-requires
-ipv4-requires c κs = search needs
-
 between-requires : tie.Need-between-requires
 between-requires c κs = c .before .before .before .before .pre .1 (omega (arith, c .before .if2 .taken))
-
-address-requires : tie.Need-address-requires
-address-requires c κs = search needs
 
 returns-2 : tie.Need-returns-2
 returns-2 c =
@@ -33,14 +24,8 @@ returns-2 c =
     let h = start .pre .1 (omega (arith, c .before .before .before .if2 .taken)) in
     c .address .ensures ∙ ap addressStruct (kind-octets-ipv4 _ _ (c .before .before .ipv4 .ensures) ∙ ap (take 4) (c .before .between .ensures) ∙ take-part (now (a .s)) (a .start) (a .size) 4 h (omega (arith, c .before .before .before .if2 .taken)))
 
-ipv6-requires : tie.Need-ipv6-requires
-ipv6-requires c κs = search needs
-
 between-requires-2 : tie.Need-between-requires-2
 between-requires-2 c κs = c .before .before .before .before .pre .1 (positive _ (c .before .before .if1 .left))
-
-address-requires-2 : tie.Need-address-requires-2
-address-requires-2 c κs = search needs
 
 returns-3 : tie.Need-returns-3
 returns-3 c =
@@ -53,13 +38,13 @@ pub address-at-spec : {M : Type 1} → statement M
 address-at-spec =
     tie.close
     (tie.spec
-    wildcard-requires
+    (search needs)
     returns
-    ipv4-requires
+    (search needs)
     between-requires
-    address-requires
+    (search needs)
     returns-2
-    ipv6-requires
+    (search needs)
     between-requires-2
-    address-requires-2
+    (search needs)
     returns-3)

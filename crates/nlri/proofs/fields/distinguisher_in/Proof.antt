@@ -4,7 +4,7 @@ use mathlib.Core.Path.{_≡_, _∙_, sym, ap}
 use native.Mathlib.Omega.{arith}
 use lib.ListN.{length}
 use borrow.Author.Tests.{eq-eqb, ne-eqb}
-use Rattle.octets.proofs.Outcomes.{pick-true, pick-false}
+use Rattle.octets.proofs.Choice.{pick-true, pick-false}
 use Rattle.nlri.specs.Answers.{distinguisherStruct}
 use Rattle.nlri.specs.Inner.{distinguisherAt}
 use Rattle.nlri.proofs.Copies.{no-distinguisher, distinguisher-held}

@@ -1,7 +1,7 @@
 -- `nlri::fields::key_in` meets its contract.
 use mathlib.Core.Path.{sym}
 use borrow.Author.Tests.{eq-eqb, ne-eqb}
-use Rattle.octets.proofs.Outcomes.{pick-true, pick-false}
+use Rattle.octets.proofs.Choice.{pick-true, pick-false}
 use Rattle.nlri.specs.Inner.{keyAt}
 use Rattle.nlri.proofs.fields.key_in.Statement.{statement}
 use Rattle.nlri.proofs.fields.key_in.Tie as tie

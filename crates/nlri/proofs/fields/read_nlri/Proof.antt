@@ -7,23 +7,8 @@ use borrow.Author.Needs.{needs}
 use Rattle.nlri.proofs.fields.read_nlri.Statement.{statement}
 use Rattle.nlri.proofs.fields.read_nlri.Tie as tie
 
-read-layout-requires : tie.Need-read-layout-requires
-read-layout-requires c κs = search needs
-
-enum-known-number : tie.Need-enum-known-number
-enum-known-number c = search needs
-
-refusal-requires : tie.Need-refusal-requires
-refusal-requires c κs = search needs
-
-enum-known-layout : tie.Need-enum-known-layout
-enum-known-layout c = search needs
-
 nlri-in-requires : tie.Need-nlri-in-requires
 nlri-in-requires c κs = read-by-layout _ _ _ (nlri-given _ _ _ (c .before .before .before .read-layout .ensures) (c .before .layout .given .1)) .1
-
-key-in-requires : tie.Need-key-in-requires
-key-in-requires c κs = search needs
 
 returns : tie.Need-returns
 returns c = answer-refused _ _ _ _ (c .refusal .ensures) (read-refused _ _ _ (reading-refused _ _ _ (c .before .before .before .before .read-layout .ensures) (c .before .before .number .given .1)))
@@ -38,11 +23,11 @@ pub read-nlri-spec : {M : Type 1} → statement M
 read-nlri-spec =
     tie.close
     (tie.spec
-    read-layout-requires
-    enum-known-number
-    refusal-requires
-    enum-known-layout
+    (search needs)
+    (search needs)
+    (search needs)
+    (search needs)
     nlri-in-requires
-    key-in-requires
+    (search needs)
     returns
     returns-2)

@@ -1,6 +1,6 @@
 -- `nlri::fields::source_as_in` meets its contract.
 use mathlib.Core.Path.{sym, _∙_}
-use Rattle.octets.proofs.Outcomes.{pick-true, pick-false}
+use Rattle.octets.proofs.Choice.{pick-true, pick-false}
 use Rattle.nlri.specs.Inner.{sourceAsAt}
 use borrow.Author.Needs.{needs}
 use Rattle.nlri.proofs.fields.source_as_in.Statement.{statement}

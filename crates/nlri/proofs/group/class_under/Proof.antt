@@ -9,23 +9,11 @@ use borrow.Author.Needs.{needs}
 use Rattle.nlri.proofs.group.class_under.Statement.{statement}
 use Rattle.nlri.proofs.group.class_under.Tie as tie
 
-octets-requires : tie.Need-octets-requires
-octets-requires c κs = search needs
-
-refused-requires : tie.Need-refused-requires
-refused-requires c κs = search needs
-
 returns : tie.Need-returns
 unfolding classUnder
 returns c =
     let other = subst (λ (n : ℕ). length (now (c .before .before .before .before .args .group)) ≡ n → ⊥) (c .before .before .octets .ensures) (c .before .if1 .taken) in
     search (refusals, group-is)
-
-is-multicast-requires : tie.Need-is-multicast-requires
-is-multicast-requires c κs = search needs
-
-refused-requires-2 : tie.Need-refused-requires-2
-refused-requires-2 c κs = search needs
 
 returns-2 : tie.Need-returns-2
 unfolding classUnder
@@ -33,20 +21,11 @@ returns-2 c =
     let sized = c .before .before .before .if1 .left ∙ c .before .before .before .before .octets .ensures in
     search (refusals, group-is)
 
-is-source-specific-requires : tie.Need-is-source-specific-requires
-is-source-specific-requires c κs = search needs
-
-given-requires : tie.Need-given-requires
-given-requires c κs = search needs
-
 returns-3 : tie.Need-returns-3
 unfolding classUnder
 returns-3 c =
     let sized = c .before .before .before .before .before .if1 .left ∙ c .before .before .before .before .before .before .octets .ensures in
     search (refusals, group-is)
-
-given-requires-2 : tie.Need-given-requires-2
-given-requires-2 c κs = search needs
 
 returns-4 : tie.Need-returns-4
 unfolding classUnder
@@ -58,14 +37,14 @@ pub class-under-spec : {M : Type 1} → statement M
 class-under-spec =
     tie.close
     (tie.spec
-    octets-requires
-    refused-requires
+    (search needs)
+    (search needs)
     returns
-    is-multicast-requires
-    refused-requires-2
+    (search needs)
+    (search needs)
     returns-2
-    is-source-specific-requires
-    given-requires
+    (search needs)
+    (search needs)
     returns-3
-    given-requires-2
+    (search needs)
     returns-4)

@@ -6,18 +6,6 @@ use borrow.Author.Needs.{needs}
 use Rattle.nlri.proofs.group.group_class.Statement.{statement}
 use Rattle.nlri.proofs.group.group_class.Tie as tie
 
-family-of-requires : tie.Need-family-of-requires
-family-of-requires c κs = search needs
-
-enum-known-number : tie.Need-enum-known-number
-enum-known-number c = search needs
-
-refused-requires : tie.Need-refused-requires
-refused-requires c κs = search needs
-
-enum-known-kind : tie.Need-enum-known-kind
-enum-known-kind c = search needs
-
 class-in-requires : tie.Need-class-in-requires
 class-in-requires c κs = family-least _ _ (known-given _ _ _ (c .before .before .before .family-of .ensures) (c .before .kind .given .1))
 
@@ -33,10 +21,10 @@ pub group-class-spec : {M : Type 1} → statement M
 group-class-spec =
     tie.close
     (tie.spec
-    family-of-requires
-    enum-known-number
-    refused-requires
-    enum-known-kind
+    (search needs)
+    (search needs)
+    (search needs)
+    (search needs)
     class-in-requires
     returns
     returns-2)

@@ -5,22 +5,13 @@ use borrow.Author.Needs.{needs}
 use Rattle.nlri.proofs.group.is_multicast.Statement.{statement}
 use Rattle.nlri.proofs.group.is_multicast.Tie as tie
 
-shared-slice-read-if2 : tie.Need-shared-slice-read-if2
-shared-slice-read-if2 c = search needs
-
 returns : tie.Need-returns
 unfolding multicast
 returns c = search flags
 
-shared-slice-read-result : tie.Need-shared-slice-read-result
-shared-slice-read-result c = search needs
-
 returns-2 : tie.Need-returns-2
 unfolding multicast
 returns-2 c = search flags
-
-shared-slice-read-result-2 : tie.Need-shared-slice-read-result-2
-shared-slice-read-result-2 c = search needs
 
 returns-3 : tie.Need-returns-3
 unfolding multicast
@@ -30,9 +21,9 @@ pub is-multicast-spec : {M : Type 1} → statement M
 is-multicast-spec =
     tie.close
     (tie.spec
-    shared-slice-read-if2
+    (search needs)
     returns
-    shared-slice-read-result
+    (search needs)
     returns-2
-    shared-slice-read-result-2
+    (search needs)
     returns-3)

@@ -9,20 +9,11 @@ use borrow.Author.Needs.{needs}
 use Rattle.nlri.proofs.read.flow_layout.Statement.{statement}
 use Rattle.nlri.proofs.read.flow_layout.Tie as tie
 
-shared-slice-read-length : tie.Need-shared-slice-read-length
-shared-slice-read-length c = search needs
-
 cast-length : tie.Need-cast-length
 cast-length c = omega (arith, c .shared-slice-known .given 1)
 
-shared-slice-read-source : tie.Need-shared-slice-read-source
-shared-slice-read-source c = search needs
-
 cast-source : tie.Need-cast-source
 cast-source c = omega (arith, c .shared-slice-known2 .given (c .before .before .args .at))
-
-add-group : tie.Need-add-group
-add-group c = search needs
 
 add-group-2 : tie.Need-add-group-2
 unfolding sizeAt
@@ -36,9 +27,6 @@ cast-group : tie.Need-cast-group
 cast-group c =
     let start = c .before .before .before in
     omega (arith, c .shared-slice-known3 .given (start .args .at + 1 + getD (now (start .args .s)) (start .args .at) 0 / 8))
-
-sub-t10 : tie.Need-sub-t10
-sub-t10 c = search needs
 
 sub-t13 : tie.Need-sub-t13
 unfolding sizeAt
@@ -56,15 +44,15 @@ pub flow-layout-spec : {M : Type 1} → statement M
 flow-layout-spec =
     tie.close
     (tie.spec
-    shared-slice-read-length
+    (search needs)
     cast-length
-    shared-slice-read-source
+    (search needs)
     cast-source
-    add-group
+    (search needs)
     add-group-2
     shared-slice-read-group
     cast-group
-    sub-t10
+    (search needs)
     sub-t13
     sub-t11
     returns)

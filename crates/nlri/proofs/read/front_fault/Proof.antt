@@ -16,24 +16,6 @@ use borrow.Author.Needs.{needs}
 use Rattle.nlri.proofs.read.front_fault.Statement.{statement}
 use Rattle.nlri.proofs.read.front_fault.Tie as tie
 
-sub-read-header : tie.Need-sub-read-header
-sub-read-header c = search needs
-
-part-read-header-start : tie.Need-part-read-header-start
-part-read-header-start c = search needs
-
-part-read-header-end : tie.Need-part-read-header-end
-part-read-header-end c = search needs
-
-read-header-requires : tie.Need-read-header-requires
-read-header-requires c κs = search needs
-
-enum-known-number : tie.Need-enum-known-number
-enum-known-number c = search needs
-
-enum-known-route-type : tie.Need-enum-known-route-type
-enum-known-route-type c = search needs
-
 -- the header that was read is that of the whole slice, and its Length stays within
 headed : (c : tie.After-read-header) → headerOutcome (c .read-header .result) ≡ headerAt (now (c .before .before .before .args .s))
 headed c = c .read-header .ensures ∙ ap headerAt (lent-whole (now (c .before .before .before .args .s)))
@@ -44,17 +26,8 @@ within c = header-within _ _ _ (typed-given _ _ _ _ (headed (c .before .before .
 add-body-fault : tie.Need-add-body-fault
 add-body-fault c = omega (arith, within c)
 
-sub-body-fault : tie.Need-sub-body-fault
-sub-body-fault c = search needs
-
-part-body-fault-start : tie.Need-part-body-fault-start
-part-body-fault-start c = search needs
-
 part-body-fault-end : tie.Need-part-body-fault-end
 part-body-fault-end c = within c
-
-body-fault-requires : tie.Need-body-fault-requires
-body-fault-requires c κs = search needs
 
 returns : tie.Need-returns
 unfolding anyFront
@@ -75,16 +48,16 @@ pub front-fault-spec : {M : Type 1} → statement M
 front-fault-spec =
     tie.close
     (tie.spec
-    sub-read-header
-    part-read-header-start
-    part-read-header-end
-    read-header-requires
-    enum-known-number
-    enum-known-route-type
+    (search needs)
+    (search needs)
+    (search needs)
+    (search needs)
+    (search needs)
+    (search needs)
     add-body-fault
-    sub-body-fault
-    part-body-fault-start
+    (search needs)
+    (search needs)
     part-body-fault-end
-    body-fault-requires
+    (search needs)
     returns
     returns-2)

@@ -5,18 +5,6 @@ use borrow.Author.Needs.{needs}
 use Rattle.nlri.proofs.read.is_s_pmsi.Statement.{statement}
 use Rattle.nlri.proofs.read.is_s_pmsi.Tie as tie
 
-family-of-requires : tie.Need-family-of-requires
-family-of-requires c κs = search needs
-
-enum-told : tie.Need-enum-told
-enum-told c = search needs
-
-enum-known-kind : tie.Need-enum-known-kind
-enum-known-kind c = search needs
-
-is-s-pmsi-under-requires : tie.Need-is-s-pmsi-under-requires
-is-s-pmsi-under-requires c κs = search needs
-
 returns : tie.Need-returns
 returns c = s-pmsi-none _ _ _ (unknown-given _ _ _ (c .before .before .family-of .ensures) (c .enum-told .given .1))
 
@@ -27,9 +15,9 @@ pub is-s-pmsi-spec : {M : Type 1} → statement M
 is-s-pmsi-spec =
     tie.close
     (tie.spec
-    family-of-requires
-    enum-told
-    enum-known-kind
-    is-s-pmsi-under-requires
+    (search needs)
+    (search needs)
+    (search needs)
+    (search needs)
     returns
     returns-2)

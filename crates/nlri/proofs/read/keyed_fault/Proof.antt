@@ -9,30 +9,12 @@ use Rattle.nlri.specs.Reading.{keyField}
 use Rattle.nlri.specs.Inner.{headerOutcome, keyHeader, keyed}
 use Rattle.nlri.proofs.Fronts.{key-within}
 use Rattle.nlri.proofs.Via.{typed-given, unread-given}
-use Rattle.nlri.proofs.Numbered.{number-goes, number-stops}
+use Rattle.octets.proofs.Outcome.{number-goes, number-stops}
 use Rattle.nlri.proofs.Ends.{alone-number, followed-number}
 use Rattle.nlri.proofs.Standing.{key-is-long, key-given, key-faulty}
 use borrow.Author.Needs.{needs}
 use Rattle.nlri.proofs.read.keyed_fault.Statement.{statement}
 use Rattle.nlri.proofs.read.keyed_fault.Tie as tie
-
-sub-read-key : tie.Need-sub-read-key
-sub-read-key c = search needs
-
-part-read-key-start : tie.Need-part-read-key-start
-part-read-key-start c = search needs
-
-part-read-key-end : tie.Need-part-read-key-end
-part-read-key-end c = search needs
-
-read-key-requires : tie.Need-read-key-requires
-read-key-requires c κs = search needs
-
-enum-known-length : tie.Need-enum-known-length
-enum-known-length c = search needs
-
-enum-told : tie.Need-enum-told
-enum-told c = search needs
 
 -- the key that was read is that of the whole slice
 read : (c : tie.After-read-key) → headerOutcome (c .read-key .result) ≡ keyHeader (c .before .before .before .args .kind .bits) (now (c .before .before .before .args .s))
@@ -47,9 +29,6 @@ returns c = number-stops _ _ _ (key-faulty _ _ _ (unread-given _ _ _ (read (c .b
 
 add-end-fault : tie.Need-add-end-fault
 add-end-fault c = let h = key-within _ _ _ (key (c .before)) in omega arith
-
-end-fault-requires : tie.Need-end-fault-requires
-end-fault-requires c κs = search needs
 
 returns-2 : tie.Need-returns-2
 unfolding keyed
@@ -75,15 +54,15 @@ pub keyed-fault-spec : {M : Type 1} → statement M
 keyed-fault-spec =
     tie.close
     (tie.spec
-    sub-read-key
-    part-read-key-start
-    part-read-key-end
-    read-key-requires
-    enum-known-length
-    enum-told
+    (search needs)
+    (search needs)
+    (search needs)
+    (search needs)
+    (search needs)
+    (search needs)
     returns
     add-end-fault
-    end-fault-requires
+    (search needs)
     returns-2
     add-originator-fault
     originator-fault-requires

@@ -11,14 +11,8 @@ use borrow.Author.Needs.{needs}
 use Rattle.nlri.proofs.read.layout_in.Statement.{statement}
 use Rattle.nlri.proofs.read.layout_in.Tie as tie
 
-shared-slice-read-route-type : tie.Need-shared-slice-read-route-type
-shared-slice-read-route-type c = search needs
-
 cast-route-type : tie.Need-cast-route-type
 cast-route-type c = omega (arith, c .shared-slice-known2 .given 0)
-
-shared-slice-read-originator : tie.Need-shared-slice-read-originator
-shared-slice-read-originator c = search needs
 
 cast-originator : tie.Need-cast-originator
 cast-originator c = omega (arith, c .shared-slice-known3 .given 1)
@@ -26,15 +20,9 @@ cast-originator c = omega (arith, c .shared-slice-known3 .given 1)
 sub-originator : tie.Need-sub-originator
 sub-originator c = omega (arith, c .before .before .before .before .pre .intraAs (c .before .if1 .taken))
 
-plain-layout-requires : tie.Need-plain-layout-requires
-plain-layout-requires c κs = search needs
-
 returns : tie.Need-returns
 unfolding layoutIn
 returns c = search tests
-
-plain-layout-requires-2 : tie.Need-plain-layout-requires-2
-plain-layout-requires-2 c κs = search needs
 
 returns-2 : tie.Need-returns-2
 unfolding layoutIn
@@ -46,9 +34,6 @@ leaf-layout-requires c κs = c .before .before .before .before .before .pre .lea
 returns-3 : tie.Need-returns-3
 unfolding layoutIn
 returns-3 c = search tests
-
-source-start-requires : tie.Need-source-start-requires
-source-start-requires c κs = search needs
 
 sub-flow-layout : tie.Need-sub-flow-layout
 sub-flow-layout c = omega (arith, c .source-start .ensures, start-least (getD (now (c .before .before .before .before .before .before .args .s)) 0 0))
@@ -66,18 +51,18 @@ pub layout-in-spec : {M : Type 1} → statement M
 layout-in-spec =
     tie.close
     (tie.spec
-    shared-slice-read-route-type
+    (search needs)
     cast-route-type
-    shared-slice-read-originator
+    (search needs)
     cast-originator
     sub-originator
-    plain-layout-requires
+    (search needs)
     returns
-    plain-layout-requires-2
+    (search needs)
     returns-2
     leaf-layout-requires
     returns-3
-    source-start-requires
+    (search needs)
     sub-flow-layout
     flow-layout-requires
     returns-4)

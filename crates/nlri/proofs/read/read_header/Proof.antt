@@ -10,21 +10,12 @@ returns : tie.Need-returns
 unfolding headerOutcome headerAt
 returns c = search tests
 
-shared-slice-read-length : tie.Need-shared-slice-read-length
-shared-slice-read-length c = search needs
-
 cast-length : tie.Need-cast-length
 cast-length c = omega (arith, c .shared-slice-known .given 1)
-
-sub-if2 : tie.Need-sub-if2
-sub-if2 c = search needs
 
 returns-2 : tie.Need-returns-2
 unfolding headerOutcome headerAt
 returns-2 c = search tests
-
-shared-slice-read-t6 : tie.Need-shared-slice-read-t6
-shared-slice-read-t6 c = search needs
 
 cast-t3 : tie.Need-cast-t3
 cast-t3 c = omega (arith, c .shared-slice-known2 .given 0)
@@ -38,10 +29,10 @@ read-header-spec =
     tie.close
     (tie.spec
     returns
-    shared-slice-read-length
+    (search needs)
     cast-length
-    sub-if2
+    (search needs)
     returns-2
-    shared-slice-read-t6
+    (search needs)
     cast-t3
     returns-3)

@@ -10,15 +10,6 @@ use borrow.Author.Needs.{needs}
 use Rattle.nlri.proofs.read.read_key.Statement.{statement}
 use Rattle.nlri.proofs.read.read_key.Tie as tie
 
-read-header-requires : tie.Need-read-header-requires
-read-header-requires c κs = search needs
-
-enum-known-number : tie.Need-enum-known-number
-enum-known-number c = search needs
-
-enum-known-route-type : tie.Need-enum-known-route-type
-enum-known-route-type c = search needs
-
 -- the header that was read
 headed : (c : tie.After-known-told2) → headerAt (now (c .before .before .before .before .before .args .s)) ≡ given (c .before .route-type .given .0 .0, c .before .route-type .given .0 .1 .0)
 headed c = typed-given _ _ _ _ (c .before .before .before .read-header .ensures) (c .before .route-type .given .1)
@@ -29,9 +20,6 @@ returns c = key-other-type _ _ _ _ (headed (c .before)) (c .if1 .taken)
 
 between-requires : tie.Need-between-requires
 between-requires c κs = header-within _ _ _ (headed (c .before))
-
-unkeyed-body-fault-requires : tie.Need-unkeyed-body-fault-requires
-unkeyed-body-fault-requires c κs = search needs
 
 returns-2 : tie.Need-returns-2
 unfolding headerOutcome
@@ -49,12 +37,12 @@ pub read-key-spec : {M : Type 1} → statement M
 read-key-spec =
     tie.close
     (tie.spec
-    read-header-requires
-    enum-known-number
-    enum-known-route-type
+    (search needs)
+    (search needs)
+    (search needs)
     returns
     between-requires
-    unkeyed-body-fault-requires
+    (search needs)
     returns-2
     returns-3
     returns-4)

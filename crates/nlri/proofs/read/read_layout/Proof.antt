@@ -6,18 +6,6 @@ use borrow.Author.Needs.{needs}
 use Rattle.nlri.proofs.read.read_layout.Statement.{statement}
 use Rattle.nlri.proofs.read.read_layout.Tie as tie
 
-family-of-requires : tie.Need-family-of-requires
-family-of-requires c κs = search needs
-
-enum-known-number : tie.Need-enum-known-number
-enum-known-number c = search needs
-
-enum-known-kind : tie.Need-enum-known-kind
-enum-known-kind c = search needs
-
-read-single-requires : tie.Need-read-single-requires
-read-single-requires c κs = search needs
-
 returns : tie.Need-returns
 unfolding readingOf
 returns c = search (reads, single-is)
@@ -29,9 +17,9 @@ pub read-layout-spec : {M : Type 1} → statement M
 read-layout-spec =
     tie.close
     (tie.spec
-    family-of-requires
-    enum-known-number
-    enum-known-kind
-    read-single-requires
+    (search needs)
+    (search needs)
+    (search needs)
+    (search needs)
     returns
     returns-2)

@@ -7,15 +7,6 @@ use borrow.Author.Needs.{needs}
 use Rattle.nlri.proofs.read.read_single.Statement.{statement}
 use Rattle.nlri.proofs.read.read_single.Tie as tie
 
-read-front-requires : tie.Need-read-front-requires
-read-front-requires c κs = search needs
-
-enum-known-number : tie.Need-enum-known-number
-enum-known-number c = search needs
-
-enum-known-layout : tie.Need-enum-known-layout
-enum-known-layout c = search needs
-
 ends-at-requires : tie.Need-ends-at-requires
 ends-at-requires c κs = layout-octets _ _ _ (nlri-given _ _ _ (c .before .before .before .read-front .ensures) (c .before .layout .given .1)) .0
 
@@ -31,9 +22,9 @@ pub read-single-spec : {M : Type 1} → statement M
 read-single-spec =
     tie.close
     (tie.spec
-    read-front-requires
-    enum-known-number
-    enum-known-layout
+    (search needs)
+    (search needs)
+    (search needs)
     ends-at-requires
     returns
     returns-2)

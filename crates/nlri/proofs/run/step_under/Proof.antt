@@ -13,9 +13,6 @@ use borrow.Author.Needs.{needs}
 use Rattle.nlri.proofs.run.step_under.Statement.{statement}
 use Rattle.nlri.proofs.run.step_under.Tie as tie
 
-step-fault-requires : tie.Need-step-fault-requires
-step-fault-requires c κs = search needs
-
 returns : tie.Need-returns
 unfolding steppedOf
 returns c = step-stops _ _ _ _ (c .before .step-fault .ensures) (c .if1 .taken)
@@ -59,7 +56,7 @@ pub step-under-spec : {M : Type 1} → statement M
 step-under-spec =
     tie.close
     (tie.spec
-    step-fault-requires
+    (search needs)
     returns
     returns-2
     after-requires

@@ -19,23 +19,11 @@ Inv-loop afi run bits at₀ count₀ at count = Going afi run at count
 abbrev μ-loop : tie.MeasureT-loop
 μ-loop afi run bits at₀ count₀ at count = length run - at
 
-family-of-requires : tie.Need-family-of-requires Inv-loop μ-loop
-family-of-requires c κs = search needs
-
-enum-known-kind : tie.Need-enum-known-kind Inv-loop μ-loop
-enum-known-kind c = search needs
-
-enum-told : tie.Need-enum-told Inv-loop μ-loop
-enum-told c = search needs
-
 returns : tie.Need-returns Inv-loop μ-loop
 returns c = going-last _ _ _ _ (going-first _ _) FAMILY (stops-refusedAt _ _ (step-without _ _ _ 0 (unknown-given _ _ _ (c .before .before .family-of .ensures) (c .enum-told .given .1))))
 
 loop-holds : tie.Need-loop-holds Inv-loop μ-loop
 loop-holds c = going-first _ _
-
-step-fault-requires : tie.Need-step-fault-requires Inv-loop μ-loop
-step-fault-requires c κs = search needs
 
 cast-t9 : tie.Need-cast-t9 Inv-loop μ-loop
 cast-t9 c = omega arith
@@ -84,12 +72,12 @@ walk-spec =
     (tie.spec
     Inv-loop
     μ-loop
-    family-of-requires
-    enum-known-kind
-    enum-told
+    (search needs)
+    (search needs)
+    (search needs)
     returns
     loop-holds
-    step-fault-requires
+    (search needs)
     cast-t9
     returns-2
     cast-t11

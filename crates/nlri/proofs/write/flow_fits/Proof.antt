@@ -5,28 +5,13 @@ use borrow.Author.Needs.{needs}
 use Rattle.nlri.proofs.write.flow_fits.Statement.{statement}
 use Rattle.nlri.proofs.write.flow_fits.Tie as tie
 
-has-flow-requires : tie.Need-has-flow-requires
-has-flow-requires c κs = search needs
-
 returns : tie.Need-returns
 unfolding flowFits
 returns c = search refusals
 
-mul-is-allowed : tie.Need-mul-is-allowed
-mul-is-allowed c = search needs
-
-is-allowed-requires : tie.Need-is-allowed-requires
-is-allowed-requires c κs = search needs
-
 returns-2 : tie.Need-returns-2
 unfolding flowFits
 returns-2 c = search refusals
-
-mul-is-allowed-2 : tie.Need-mul-is-allowed-2
-mul-is-allowed-2 c = search needs
-
-is-allowed-requires-2 : tie.Need-is-allowed-requires-2
-is-allowed-requires-2 c κs = search needs
 
 returns-3 : tie.Need-returns-3
 unfolding flowFits
@@ -36,11 +21,11 @@ pub flow-fits-spec : {M : Type 1} → statement M
 flow-fits-spec =
     tie.close
     (tie.spec
-    has-flow-requires
+    (search needs)
     returns
-    mul-is-allowed
-    is-allowed-requires
+    (search needs)
+    (search needs)
     returns-2
-    mul-is-allowed-2
-    is-allowed-requires-2
+    (search needs)
+    (search needs)
     returns-3)

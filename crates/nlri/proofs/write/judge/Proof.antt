@@ -6,9 +6,6 @@ use borrow.Author.Needs.{needs}
 use Rattle.nlri.proofs.write.judge.Statement.{statement}
 use Rattle.nlri.proofs.write.judge.Tie as tie
 
-cast-route-type : tie.Need-cast-route-type
-cast-route-type c = search needs
-
 returns : tie.Need-returns
 unfolding fitting
 returns c = search (tests, by-refusal) depth 10
@@ -17,26 +14,11 @@ returns-2 : tie.Need-returns-2
 unfolding fitting
 returns-2 c = search (tests, by-refusal) depth 10
 
-cast-flow-fits : tie.Need-cast-flow-fits
-cast-flow-fits c = search needs
-
-cast-flow-fits-2 : tie.Need-cast-flow-fits-2
-cast-flow-fits-2 c = search needs
-
-flow-fits-requires : tie.Need-flow-fits-requires
-flow-fits-requires c κs = search needs
-
 returns-3 : tie.Need-returns-3
 unfolding fitting
 returns-3 c =
     let flow = flag-off _ _ (c .before .flow-fits .ensures) (c .if3 .taken) in
     search (tests, by-refusal) depth 10
-
-cast-originator-fits : tie.Need-cast-originator-fits
-cast-originator-fits c = search needs
-
-originator-fits-requires : tie.Need-originator-fits-requires
-originator-fits-requires c κs = search needs
 
 returns-4 : tie.Need-returns-4
 unfolding fitting
@@ -44,9 +26,6 @@ returns-4 c =
     let originator = flag-off _ _ (c .before .originator-fits .ensures) (c .if4 .taken) in
     let flow = flag-on _ _ (c .before .before .before .before .flow-fits .ensures) (c .before .before .before .if3 .left) in
     search (tests, by-refusal) depth 10
-
-key-fits-requires : tie.Need-key-fits-requires
-key-fits-requires c κs = search needs
 
 returns-5 : tie.Need-returns-5
 unfolding fitting
@@ -68,16 +47,16 @@ pub judge-spec : {M : Type 1} → statement M
 judge-spec =
     tie.close
     (tie.spec
-    cast-route-type
+    (search needs)
     returns
     returns-2
-    cast-flow-fits
-    cast-flow-fits-2
-    flow-fits-requires
+    (search needs)
+    (search needs)
+    (search needs)
     returns-3
-    cast-originator-fits
-    originator-fits-requires
+    (search needs)
+    (search needs)
     returns-4
-    key-fits-requires
+    (search needs)
     returns-5
     returns-6)

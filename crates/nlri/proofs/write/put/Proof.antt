@@ -13,9 +13,6 @@ sub-put-header c =
     let w = c .before .before .pre in
     omega (arith, w .exact)
 
-cast-put-header : tie.Need-cast-put-header
-cast-put-header c = search needs
-
 put-header-requires : tie.Need-put-header-requires
 put-header-requires c κs =
     let start = c .before .before .before in
@@ -30,9 +27,6 @@ put-body-requires c κs =
     let w = start .pre in
     (w .sized, omega (arith, w .exact, w .room, c .before .before .before .put-header .ensures .0))
 
-same-length : tie.Need-same-length
-same-length c = search needs
-
 returns : tie.Need-returns
 returns c =
     let start = c .before .before .before .before .before .before .before .before .before .before in
@@ -45,8 +39,8 @@ put-spec =
     tie.close
     (tie.spec
     sub-put-header
-    cast-put-header
+    (search needs)
     put-header-requires
     put-body-requires
-    same-length
+    (search needs)
     returns)

@@ -11,12 +11,6 @@ use borrow.Author.Needs.{needs}
 use Rattle.nlri.proofs.write.put_flow.Statement.{statement}
 use Rattle.nlri.proofs.write.put_flow.Tie as tie
 
-cast-has-flow : tie.Need-cast-has-flow
-cast-has-flow c = search needs
-
-has-flow-requires : tie.Need-has-flow-requires
-has-flow-requires c κs = search needs
-
 put-address-requires : tie.Need-put-address-requires
 put-address-requires c κs =
     let start = c .before .before .before .before .before .before .before in
@@ -30,9 +24,6 @@ put-address-requires-2 c κs =
     let f = sym (c .before .before .before .before .before .before .before .before .has-flow .ensures) ∙ c .before .before .before .before .before .before .before .if1 .taken in
     let e = sym (length-append (encodeAddress (addressOctets (start .args .nlri .source))) (encodeAddress (addressOctets (start .args .nlri .group)))) ∙ ap length (flow-there (start .args .nlri) [] (sym (c .before .before .before .before .before .before .before .before .has-flow .ensures) ∙ c .before .before .before .before .before .before .before .if1 .taken)) in
     (start .pre .0 .group f, omega (arith, start .pre .1, c .before .before .before .put-address .ensures .0))
-
-same-length : tie.Need-same-length
-same-length c = search needs
 
 returns : tie.Need-returns
 returns c =
@@ -48,10 +39,10 @@ pub put-flow-spec : {M : Type 1} → statement M
 put-flow-spec =
     tie.close
     (tie.spec
-    cast-has-flow
-    has-flow-requires
+    (search needs)
+    (search needs)
     put-address-requires
     put-address-requires-2
-    same-length
+    (search needs)
     returns
     returns-2)

@@ -9,21 +9,12 @@ use borrow.Author.Needs.{needs}
 use Rattle.nlri.proofs.write.put_originator.Statement.{statement}
 use Rattle.nlri.proofs.write.put_originator.Tie as tie
 
-cast-has-originator : tie.Need-cast-has-originator
-cast-has-originator c = search needs
-
-has-originator-requires : tie.Need-has-originator-requires
-has-originator-requires c κs = search needs
-
 put-octets-requires : tie.Need-put-octets-requires
 put-octets-requires c κs =
     let start = c .before .before .before .before .before .before in
     let f = sym (c .before .before .before .has-originator .ensures) ∙ c .before .before .if1 .taken in
     let e = ap length (originator-there (start .args .nlri) [] f) in
     (start .pre .0 .originator f, omega (arith, start .pre .1))
-
-same-length : tie.Need-same-length
-same-length c = search needs
 
 returns : tie.Need-returns
 returns c =
@@ -37,9 +28,9 @@ pub put-originator-spec : {M : Type 1} → statement M
 put-originator-spec =
     tie.close
     (tie.spec
-    cast-has-originator
-    has-originator-requires
+    (search needs)
+    (search needs)
     put-octets-requires
-    same-length
+    (search needs)
     returns
     returns-2)

@@ -11,21 +11,12 @@ use borrow.Author.Needs.{needs}
 use Rattle.nlri.proofs.write.put_source_as.Statement.{statement}
 use Rattle.nlri.proofs.write.put_source_as.Tie as tie
 
-cast-has-source-as : tie.Need-cast-has-source-as
-cast-has-source-as c = search needs
-
-has-source-as-requires : tie.Need-has-source-as-requires
-has-source-as-requires c κs = search needs
-
 place-four-requires : tie.Need-place-four-requires
 place-four-requires c κs =
     let start = c .before .before .before .before .before in
     let e = ap length (source-as-there (start .args .nlri) [] (sym (c .before .before .has-source-as .ensures) ∙ c .before .if1 .taken)) in
     let l = big-endian-length 4 (start .args .nlri .«source_as») in
     omega (arith, start .pre)
-
-same-length : tie.Need-same-length
-same-length c = search needs
 
 returns : tie.Need-returns
 returns c =
@@ -42,9 +33,9 @@ pub put-source-as-spec : {M : Type 1} → statement M
 put-source-as-spec =
     tie.close
     (tie.spec
-    cast-has-source-as
-    has-source-as-requires
+    (search needs)
+    (search needs)
     place-four-requires
-    same-length
+    (search needs)
     returns
     returns-2)

@@ -6,21 +6,6 @@ use borrow.Author.Needs.{needs}
 use Rattle.nlri.proofs.write.size_of.Statement.{statement}
 use Rattle.nlri.proofs.write.size_of.Tie as tie
 
-cast-route-type : tie.Need-cast-route-type
-cast-route-type c = search needs
-
-fixed-size-requires : tie.Need-fixed-size-requires
-fixed-size-requires c κs = search needs
-
-cast-flow-size : tie.Need-cast-flow-size
-cast-flow-size c = search needs
-
-cast-flow-size-2 : tie.Need-cast-flow-size-2
-cast-flow-size-2 c = search needs
-
-flow-size-requires : tie.Need-flow-size-requires
-flow-size-requires c κs = search needs
-
 add-result : tie.Need-add-result
 add-result c =
     let start = c .before .before .before .before .before .before .before .before in
@@ -32,12 +17,6 @@ add-result-2 c =
     let h = fixed-most (start .args .nlri .«route_type») (start .args .key) (start .pre) in
     let w = flow-most (start .args .nlri .«route_type») (start .args .nlri .source .size) (start .args .nlri .group .size) in
     omega (arith, c .before .before .before .fixed-size .ensures, c .flow-size .ensures)
-
-cast-originator-length : tie.Need-cast-originator-length
-cast-originator-length c = search needs
-
-originator-length-requires : tie.Need-originator-length-requires
-originator-length-requires c κs = search needs
 
 add-result-3 : tie.Need-add-result-3
 add-result-3 c =
@@ -56,14 +35,14 @@ pub size-of-spec : {M : Type 1} → statement M
 size-of-spec =
     tie.close
     (tie.spec
-    cast-route-type
-    fixed-size-requires
-    cast-flow-size
-    cast-flow-size-2
-    flow-size-requires
+    (search needs)
+    (search needs)
+    (search needs)
+    (search needs)
+    (search needs)
     add-result
     add-result-2
-    cast-originator-length
-    originator-length-requires
+    (search needs)
+    (search needs)
     add-result-3
     returns)

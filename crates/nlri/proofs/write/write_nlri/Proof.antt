@@ -2,25 +2,13 @@
 use Rattle.nlri.proofs.Verdicts.{answers, untouched, write-is}
 use Rattle.nlri.proofs.Via.{known-given, unknown-given}
 use Rattle.nlri.proofs.Families.{family-is}
-use Rattle.octets.proofs.Tests.{stops, goes}
+use Rattle.octets.proofs.Outcome.{stops, goes}
 use lib.ListN.{length}
 use mathlib.Core.Path.{_≡_, refl, _∙_}
 use denote.Ref.{now}
 use borrow.Author.Needs.{needs}
 use Rattle.nlri.proofs.write.write_nlri.Statement.{statement}
 use Rattle.nlri.proofs.write.write_nlri.Tie as tie
-
-family-of-requires : tie.Need-family-of-requires
-family-of-requires c κs = search needs
-
-enum-known-number : tie.Need-enum-known-number
-enum-known-number c = search needs
-
-refusal-requires : tie.Need-refusal-requires
-refusal-requires c κs = search needs
-
-enum-known-kind : tie.Need-enum-known-kind
-enum-known-kind c = search needs
 
 write-under-requires : tie.Need-write-under-requires
 write-under-requires c κs =
@@ -32,9 +20,6 @@ returns c =
     let a = c .before .before .before .before .before .before .before .args in
     answers _ _ _ _ _ (stops _ _ _ (unknown-given _ _ _ (c .before .before .before .before .family-of .ensures) (c .before .before .number .given .1)) ∙ write-is (a .afi) (a .nlri) (now (a .key)) (length (now (a .output))) eight) (c .refusal .ensures, untouched _ _)
 
-same-length : tie.Need-same-length
-same-length c = search needs
-
 returns-2 : tie.Need-returns-2
 returns-2 c =
     let eight : length (c .before .before .before .before .before .before .before .before .before .before .args .nlri .distinguisher .octets) ≡ 8 = search needs in
@@ -45,11 +30,11 @@ pub write-nlri-spec : {M : Type 1} → statement M
 write-nlri-spec =
     tie.close
     (tie.spec
-    family-of-requires
-    enum-known-number
-    refusal-requires
-    enum-known-kind
+    (search needs)
+    (search needs)
+    (search needs)
+    (search needs)
     write-under-requires
     returns
-    same-length
+    (search needs)
     returns-2)

@@ -9,12 +9,6 @@ use borrow.Author.Needs.{needs}
 use Rattle.nlri.proofs.write.write_under.Statement.{statement}
 use Rattle.nlri.proofs.write.write_under.Tie as tie
 
-judge-requires : tie.Need-judge-requires
-judge-requires c κs = search needs
-
-refusal-requires : tie.Need-refusal-requires
-refusal-requires c κs = search needs
-
 returns : tie.Need-returns
 returns c =
     let start = c .before .before .before .before .before in
@@ -25,9 +19,6 @@ size-of-requires c κs =
     let start = c .before .before .before .before in
     let fits = fits-done _ _ _ _ (c .before .judge .ensures) (c .if1 .left) in
     λ e. let k = key-short (start .args .kind .bits) (now (start .args .key)) (start .pre) (λ i. c .before .before .before .shared-slice-known .given i .fits) (keyed (start .args .kind .bits) (start .args .nlri) (now (start .args .key)) fits e) in omega arith
-
-refusal-requires-2 : tie.Need-refusal-requires-2
-refusal-requires-2 c κs = search needs
 
 returns-2 : tie.Need-returns-2
 returns-2 c =
@@ -43,9 +34,6 @@ put-requires c κs =
     let short = size-short (start .args .kind .bits) (start .args .nlri) (now (start .args .key)) fits (start .pre) (λ e. key-short (start .args .kind .bits) (now (start .args .key)) (start .pre) (λ i. c .before .before .before .before .before .before .shared-slice-known .given i .fits) (keyed (start .args .kind .bits) (start .args .nlri) (now (start .args .key)) fits e)) in
     record { sized = sized-nlri (start .args .kind .bits) (start .args .nlri) (now (start .args .key)) fits (start .pre); exact = c .before .before .size-of .ensures ∙ size-is (start .args .nlri) (now (start .args .key)) eight; short = omega (arith, c .before .before .size-of .ensures); room = c .before .if2 .left }
 
-same-length : tie.Need-same-length
-same-length c = search needs
-
 returns-3 : tie.Need-returns-3
 returns-3 c =
     let start = c .before .before .before .before .before .before .before .before .before .before in
@@ -56,12 +44,12 @@ pub write-under-spec : {M : Type 1} → statement M
 write-under-spec =
     tie.close
     (tie.spec
-    judge-requires
-    refusal-requires
+    (search needs)
+    (search needs)
     returns
     size-of-requires
-    refusal-requires-2
+    (search needs)
     returns-2
     put-requires
-    same-length
+    (search needs)
     returns-3)

@@ -18,12 +18,6 @@ Inv-loop a b i₀ i = (i ≤ length a) × (same a b ≡ same (drop i a) (drop i 
 abbrev μ-loop : tie.MeasureT-loop
 μ-loop a b i₀ i = length a - i
 
-four-low-first-requires : tie.Need-four-low-first-requires Inv-loop μ-loop
-four-low-first-requires c κs = search needs
-
-four-low-first-requires-2 : tie.Need-four-low-first-requires-2 Inv-loop μ-loop
-four-low-first-requires-2 c κs = search needs
-
 returns : tie.Need-returns Inv-loop μ-loop
 returns c =
     let o = c .before .before .before in
@@ -35,20 +29,8 @@ returns c =
 loop-holds : tie.Need-loop-holds Inv-loop μ-loop
 loop-holds c = (search needs, refl)
 
-shared-slice-read-if2 : tie.Need-shared-slice-read-if2 Inv-loop μ-loop
-shared-slice-read-if2 c = search needs
-
-shared-slice-read-if2-2 : tie.Need-shared-slice-read-if2-2 Inv-loop μ-loop
-shared-slice-read-if2-2 c = search needs
-
 returns-2 : tie.Need-returns-2 Inv-loop μ-loop
 returns-2 c = let l = c .before .before .before .before .loop in same-stops _ _ (l .i) (search needs) (search needs) (l .inv .1) (c .if2 .taken)
-
-add-i : tie.Need-add-i Inv-loop μ-loop
-add-i c = search needs
-
-loop-less : tie.Need-loop-less Inv-loop μ-loop
-loop-less c = search needs
 
 loop-again : tie.Need-loop-again Inv-loop μ-loop
 loop-again c = let l = c .before .before .before .before .loop in (search needs, same-next _ _ (l .i) (search needs) (search needs) (l .inv .1) (c .if2 .left))
@@ -62,14 +44,14 @@ is-short-same-spec =
     (tie.spec
     Inv-loop
     μ-loop
-    four-low-first-requires
-    four-low-first-requires-2
+    (search needs)
+    (search needs)
     returns
     loop-holds
-    shared-slice-read-if2
-    shared-slice-read-if2-2
+    (search needs)
+    (search needs)
     returns-2
-    add-i
-    loop-less
+    (search needs)
+    (search needs)
     loop-again
     returns-3)

@@ -5,21 +5,6 @@ use borrow.Author.Needs.{needs}
 use Rattle.octets.proofs.wide.four_low_first.Statement.{statement}
 use Rattle.octets.proofs.wide.four_low_first.Tie as tie
 
-two-low-first-requires : tie.Need-two-low-first-requires
-two-low-first-requires c κs = search needs
-
-add-two-low-first : tie.Need-add-two-low-first
-add-two-low-first c = search needs
-
-two-low-first-requires-2 : tie.Need-two-low-first-requires-2
-two-low-first-requires-2 c κs = search needs
-
-mul-result : tie.Need-mul-result
-mul-result c = search needs
-
-add-result : tie.Need-add-result
-add-result c = search needs
-
 returns : tie.Need-returns
 returns c =
     let a = c .before .before .before .args in
@@ -29,9 +14,9 @@ pub four-low-first-spec : {M : Type 1} → statement M
 four-low-first-spec =
     tie.close
     (tie.spec
-    two-low-first-requires
-    add-two-low-first
-    two-low-first-requires-2
-    mul-result
-    add-result
+    (search needs)
+    (search needs)
+    (search needs)
+    (search needs)
+    (search needs)
     returns)

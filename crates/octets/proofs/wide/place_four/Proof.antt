@@ -5,21 +5,6 @@ use borrow.Author.Needs.{needs}
 use Rattle.octets.proofs.wide.place_four.Statement.{statement}
 use Rattle.octets.proofs.wide.place_four.Tie as tie
 
-place-three-requires : tie.Need-place-three-requires
-place-three-requires c κs = search needs
-
-cast-t9 : tie.Need-cast-t9
-cast-t9 c = search needs
-
-slice-aggregate-place : tie.Need-slice-aggregate-place
-slice-aggregate-place c = search needs
-
-place-requires : tie.Need-place-requires
-place-requires c κs = search needs
-
-same-length : tie.Need-same-length
-same-length c = search needs
-
 returns : tie.Need-returns
 returns c =
     let a = c .before .before .before .before .before .before .before .before .before .before .args in
@@ -31,9 +16,9 @@ pub place-four-spec : {M : Type 1} → statement M
 place-four-spec =
     tie.close
     (tie.spec
-    place-three-requires
-    cast-t9
-    slice-aggregate-place
-    place-requires
-    same-length
+    (search needs)
+    (search needs)
+    (search needs)
+    (search needs)
+    (search needs)
     returns)

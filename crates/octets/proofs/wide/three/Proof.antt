@@ -8,18 +8,6 @@ use borrow.Author.Needs.{needs}
 use Rattle.octets.proofs.wide.three.Statement.{statement}
 use Rattle.octets.proofs.wide.three.Tie as tie
 
-two-requires : tie.Need-two-requires
-two-requires c κs = search needs
-
-mul-result : tie.Need-mul-result
-mul-result c = search needs
-
-add-result : tie.Need-add-result
-add-result c = search needs
-
-shared-slice-read-result : tie.Need-shared-slice-read-result
-shared-slice-read-result c = search needs
-
 cast-result : tie.Need-cast-result
 cast-result c = omega (arith, c .shared-slice-known2 .given (c .before .before .before .args .at + 2))
 
@@ -35,10 +23,10 @@ pub three-spec : {M : Type 1} → statement M
 three-spec =
     tie.close
     (tie.spec
-    two-requires
-    mul-result
-    add-result
-    shared-slice-read-result
+    (search needs)
+    (search needs)
+    (search needs)
+    (search needs)
     cast-result
     add-result-2
     returns)

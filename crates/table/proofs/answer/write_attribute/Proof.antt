@@ -23,21 +23,6 @@ shared-slice-read-write c = omega (arith, attribute-least _ _ (c .before .before
 shared-slice-read-write-2 : tie.Need-shared-slice-read-write-2
 shared-slice-read-write-2 c = omega (arith, attribute-least _ _ (c .before .before .before .before .before .before .pre .0))
 
-sub-write : tie.Need-sub-write
-sub-write c = search needs
-
-part-write-start : tie.Need-part-write-start
-part-write-start c = search needs
-
-part-write-end : tie.Need-part-write-end
-part-write-end c = search needs
-
-write-requires : tie.Need-write-requires
-write-requires c κs = search needs
-
-same-length : tie.Need-same-length
-same-length c = search needs
-
 returns : tie.Need-returns
 returns c =
     let start = c .before .before .before .before .before .before .before .before .before .before in
@@ -60,9 +45,9 @@ write-attribute-spec =
     after-requires
     shared-slice-read-write
     shared-slice-read-write-2
-    sub-write
-    part-write-start
-    part-write-end
-    write-requires
-    same-length
+    (search needs)
+    (search needs)
+    (search needs)
+    (search needs)
+    (search needs)
     returns)

@@ -7,14 +7,8 @@ use Rattle.routes.specs.Place.{routeIn}
 use Rattle.table.proofs.answer.write_route.Statement.{statement}
 use Rattle.table.proofs.answer.write_route.Tie as tie
 
-nlri-in-requires : tie.Need-nlri-in-requires
-nlri-in-requires c κs = search needs
-
 place-requires : tie.Need-place-requires
 place-requires c κs = nlri-room _ _ _ (c .before .before .before .before .pre) (c .before .nlri-in .ensures)
-
-attribute-in-requires : tie.Need-attribute-in-requires
-attribute-in-requires c κs = search needs
 
 write-attribute-requires : tie.Need-write-attribute-requires
 write-attribute-requires c κs = attribute-room _ _ _ (c .before .before .before .before .before .before .before .before .before .pre) (c .before .before .before .before .before .before .nlri-in .ensures) _ (c .before .attribute-in .ensures) _ _ (c .before .before .before .before .place .ensures)
@@ -24,9 +18,6 @@ cast-t12 c = omega (arith, nlri-small _ _ _ (c .before .before .before .before .
 
 cast-t13 : tie.Need-cast-t13
 cast-t13 c = omega (arith, attribute-small _ _ _ (c .before .before .before .before .before .before .before .before .before .before .before .before .pre) (c .before .before .before .before .before .before .before .before .before .nlri-in .ensures) _ (c .before .before .before .before .attribute-in .ensures) _ (c .before .before .write-attribute .ensures .0))
-
-same-length : tie.Need-same-length
-same-length c = search needs
 
 returns : tie.Need-returns
 returns c =
@@ -45,11 +36,11 @@ pub write-route-spec : {M : Type 1} → statement M
 write-route-spec =
     tie.close
     (tie.spec
-    nlri-in-requires
+    (search needs)
     place-requires
-    attribute-in-requires
+    (search needs)
     write-attribute-requires
     cast-t12
     cast-t13
-    same-length
+    (search needs)
     returns)

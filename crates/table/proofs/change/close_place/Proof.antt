@@ -8,21 +8,6 @@ use borrow.Author.Needs.{needs}
 use Rattle.table.proofs.change.close_place.Statement.{statement}
 use Rattle.table.proofs.change.close_place.Tie as tie
 
-sub-close-gap : tie.Need-sub-close-gap
-sub-close-gap c = search needs
-
-part-close-gap-start : tie.Need-part-close-gap-start
-part-close-gap-start c = search needs
-
-part-close-gap-end : tie.Need-part-close-gap-end
-part-close-gap-end c = search needs
-
-close-gap-requires : tie.Need-close-gap-requires
-close-gap-requires c κs = search needs
-
-same-length : tie.Need-same-length
-same-length c = search needs
-
 returns : tie.Need-returns
 unfolding closed part
 returns c =
@@ -33,9 +18,9 @@ pub close-place-spec : {M : Type 1} → statement M
 close-place-spec =
     tie.close
     (tie.spec
-    sub-close-gap
-    part-close-gap-start
-    part-close-gap-end
-    close-gap-requires
-    same-length
+    (search needs)
+    (search needs)
+    (search needs)
+    (search needs)
+    (search needs)
     returns)

@@ -6,26 +6,8 @@ use borrow.Author.Needs.{needs}
 use Rattle.table.proofs.header.is_header_sound.Statement.{statement}
 use Rattle.table.proofs.header.is_header_sound.Tie as tie
 
-shared-slice-read-t4 : tie.Need-shared-slice-read-t4
-shared-slice-read-t4 c = search needs
-
-between-requires : tie.Need-between-requires
-between-requires c κs = search needs
-
-slice-aggregate-is-same : tie.Need-slice-aggregate-is-same
-slice-aggregate-is-same c = search needs
-
-is-same-requires : tie.Need-is-same-requires
-is-same-requires c κs = search needs
-
-shared-slice-read-is-family : tie.Need-shared-slice-read-is-family
-shared-slice-read-is-family c = search needs
-
 cast-is-family : tie.Need-cast-is-family
 cast-is-family c = omega (arith, c .shared-slice-known3 .given 5)
-
-is-family-requires : tie.Need-is-family-requires
-is-family-requires c κs = search needs
 
 returns : tie.Need-returns
 unfolding afiIn headerStart
@@ -39,12 +21,12 @@ pub is-header-sound-spec : {M : Type 1} → statement M
 is-header-sound-spec =
     tie.close
     (tie.spec
-    shared-slice-read-t4
-    between-requires
-    slice-aggregate-is-same
-    is-same-requires
-    shared-slice-read-is-family
+    (search needs)
+    (search needs)
+    (search needs)
+    (search needs)
+    (search needs)
     cast-is-family
-    is-family-requires
+    (search needs)
     returns
     returns-2)

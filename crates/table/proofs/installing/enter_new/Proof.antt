@@ -22,9 +22,6 @@ count-of-requires c κs = header-within (now (c .before .before .before .before 
 places-of-requires : tie.Need-places-of-requires
 places-of-requires c κs = header-within (now (c .before .before .before .before .before .before .args .table)) (c .before .before .before .before .before .before .pre .0)
 
-same-length : tie.Need-same-length
-same-length c = search needs
-
 returns : tie.Need-returns
 returns c =
     let a = c .before .before .before .before .before .before .before .before .args in
@@ -38,9 +35,6 @@ add-requires c κs =
     let t = now (a .table) in
     let k = c .before .before .before .before .count-of .ensures .0 in
     ((omega (arith, p .1 .1 .0, rank-most (now (a .nlri)) (routesOf t), length-routes t), places-within t _ (p .0) (omega (arith, c .before .before .places-of .ensures))), route-fits (afiIn t) (now (a .nlri)) (now (a .attribute)) (p .1 .0))
-
-same-length-2 : tie.Need-same-length-2
-same-length-2 c = search needs
 
 returns-2 : tie.Need-returns-2
 returns-2 c =
@@ -58,8 +52,8 @@ enter-new-spec =
     (tie.spec
     count-of-requires
     places-of-requires
-    same-length
+    (search needs)
     returns
     add-requires
-    same-length-2
+    (search needs)
     returns-2)

@@ -6,20 +6,11 @@ use borrow.Author.Needs.{needs}
 use Rattle.table.proofs.making.make.Statement.{statement}
 use Rattle.table.proofs.making.make.Tie as tie
 
-is-family-requires : tie.Need-is-family-requires
-is-family-requires c κs = search needs
-
-is-table-size-requires : tie.Need-is-table-size-requires
-is-table-size-requires c κs = search needs
-
 clear-places-requires : tie.Need-clear-places-requires
 clear-places-requires c κs = header-room _ _ (c .before .before .is-table-size .ensures) (c .before .if2 .taken)
 
 write-header-requires : tie.Need-write-header-requires
 write-header-requires c κs = (afi-octet _ _ (c .before .before .before .before .before .before .before .before .is-family .ensures) (c .before .before .before .before .before .before .before .if1 .taken), cleared-room (now (c .before .before .before .before .before .before .before .before .before .before .args .table)) _ _ (c .before .before .before .before .before .before .is-table-size .ensures) (c .before .before .before .before .before .if2 .taken) (c .before .before .before .clear-places .ensures))
-
-same-length : tie.Need-same-length
-same-length c = search needs
 
 returns : tie.Need-returns
 returns c = table-made _ _ (c .before .before .before .before .before .before .before .before .before .before .before .is-family .ensures) _ (c .before .before .before .before .before .before .before .before .before .before .if1 .taken) _ (c .before .before .before .before .before .before .before .before .before .is-table-size .ensures) (c .before .before .before .before .before .before .before .before .if2 .taken) _ _ (c .before .before .before .before .before .before .clear-places .ensures) (c .before .before .write-header .ensures)
@@ -34,11 +25,11 @@ pub make-spec : {M : Type 1} → statement M
 make-spec =
     tie.close
     (tie.spec
-    is-family-requires
-    is-table-size-requires
+    (search needs)
+    (search needs)
     clear-places-requires
     write-header-requires
-    same-length
+    (search needs)
     returns
     returns-2
     returns-3)

@@ -8,26 +8,14 @@ use Rattle.table.proofs.matching.match_sound.Tie as tie
 afi-of-requires : tie.Need-afi-of-requires
 afi-of-requires c κs = header-within _ (c .before .before .before .before .before .pre)
 
-flow-class-requires : tie.Need-flow-class-requires
-flow-class-requires c κs = search needs
-
-refusal-requires : tie.Need-refusal-requires
-refusal-requires c κs = search needs
-
 returns : tie.Need-returns
 returns c = answers-flow _ _ _ _ (c .before .before .before .before .before .before .before .before .before .before .pre) _ _ (c .before .before .before .before .afi-of .ensures .0) (c .before .before .before .flow-class .ensures) _ _ (c .before .if1 .taken) (c .refusal .ensures)
-
-refusal-requires-2 : tie.Need-refusal-requires-2
-refusal-requires-2 c κs = search needs
 
 returns-2 : tie.Need-returns-2
 returns-2 c = answers-space _ _ _ _ (c .before .before .before .before .before .before .before .before .before .before .before .pre) _ _ (c .before .before .before .before .before .afi-of .ensures .0) (c .before .before .before .before .flow-class .ensures) _ _ (c .before .before .if1 .left) (c .before .if2 .taken) (c .refusal2 .ensures)
 
 search-requires : tie.Need-search-requires
 search-requires c κs = let some = some-flow _ _ _ _ (c .before .before .before .before .before .before .before .before .before .before .before .pre) _ _ (c .before .before .before .before .before .afi-of .ensures .0) (c .before .before .before .before .flow-class .ensures) (c .before .before .if1 .left) in ((c .before .before .before .before .before .before .before .before .before .before .before .pre), c .before .if2 .left, some .0, some .1, some .2)
-
-same-length : tie.Need-same-length
-same-length c = search needs
 
 returns-3 : tie.Need-returns-3
 returns-3 c = answers-search _ _ _ _ (c .before .before .before .before .before .before .before .before .before .before .before .before .before .before .pre) _ _ (c .before .before .before .before .before .before .before .before .afi-of .ensures .0) (c .before .before .before .before .before .before .before .flow-class .ensures) _ _ (c .before .before .before .before .before .if1 .left) (c .before .before .before .before .if2 .left) _ (c .before .before .search .ensures .0) (c .before .before .search .ensures .1)
@@ -37,11 +25,11 @@ match-sound-spec =
     tie.close
     (tie.spec
     afi-of-requires
-    flow-class-requires
-    refusal-requires
+    (search needs)
+    (search needs)
     returns
-    refusal-requires-2
+    (search needs)
     returns-2
     search-requires
-    same-length
+    (search needs)
     returns-3)

@@ -11,20 +11,11 @@ use Rattle.table.proofs.scan.is_lower.Tie as tie
 bounded-from : (s t : List ℕ) (at : ℕ) → s ≡ nlriAt t at → Readable t at → Bounded s
 bounded-from s t at same readable = subst Bounded (sym same) (readable .bounded)
 
-nlri-from-requires : tie.Need-nlri-from-requires
-nlri-from-requires c κs = search needs
-
 distinguisher-in-requires : tie.Need-distinguisher-in-requires
 distinguisher-in-requires c κs = search (needs, bounded-from)
 
-nlri-from-requires-2 : tie.Need-nlri-from-requires-2
-nlri-from-requires-2 c κs = search needs
-
 distinguisher-in-requires-2 : tie.Need-distinguisher-in-requires-2
 distinguisher-in-requires-2 c κs = search (needs, bounded-from)
-
-comes-before-requires : tie.Need-comes-before-requires
-comes-before-requires c κs = search needs
 
 returns : tie.Need-returns
 returns c = lower-is _ _ _ _ _ _ _ _ (c .before .before .before .before .nlri-from .ensures) (c .before .before .nlri-from2 .ensures) (c .before .before .before .distinguisher-in .ensures) (c .before .distinguisher-in2 .ensures) (c .comes-before .ensures)
@@ -33,9 +24,9 @@ pub is-lower-spec : {M : Type 1} → statement M
 is-lower-spec =
     tie.close
     (tie.spec
-    nlri-from-requires
+    (search needs)
     distinguisher-in-requires
-    nlri-from-requires-2
+    (search needs)
     distinguisher-in-requires-2
-    comes-before-requires
+    (search needs)
     returns)

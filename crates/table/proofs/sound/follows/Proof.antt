@@ -2,7 +2,7 @@
 use mathlib.Core.Path.{sym, ap, _∙_}
 use native.Mathlib.Omega.{arith}
 use Rattle.octets.specs.Order.{before}
-use Rattle.octets.proofs.Tests.{both-left, both-last}
+use Rattle.octets.proofs.Choice.{both-left, both-last}
 use Rattle.table.proofs.Sounds.{sound-end}
 use borrow.Author.Needs.{needs}
 use Rattle.table.proofs.sound.follows.Statement.{statement}

@@ -6,14 +6,8 @@ use borrow.Author.Needs.{needs}
 use Rattle.table.proofs.sound.is_place_sound.Statement.{statement}
 use Rattle.table.proofs.sound.is_place_sound.Tie as tie
 
-shared-slice-read-nlri-size : tie.Need-shared-slice-read-nlri-size
-shared-slice-read-nlri-size c = search needs
-
 cast-nlri-size : tie.Need-cast-nlri-size
 cast-nlri-size c = omega (arith, c .shared-slice-known2 .given 0)
-
-shared-slice-read-attribute-size : tie.Need-shared-slice-read-attribute-size
-shared-slice-read-attribute-size c = search needs
 
 cast-attribute-size : tie.Need-cast-attribute-size
 cast-attribute-size c = omega (arith, c .shared-slice-known3 .given 1)
@@ -27,30 +21,6 @@ add-end-2 c = omega (arith, c .shared-slice-known3 .given 0, c .shared-slice-kno
 returns : tie.Need-returns
 unfolding endIn
 returns c = place-over _ _ (c .if1 .taken)
-
-between-requires : tie.Need-between-requires
-between-requires c κs = search needs
-
-is-s-pmsi-requires : tie.Need-is-s-pmsi-requires
-is-s-pmsi-requires c κs = search needs
-
-add-between : tie.Need-add-between
-add-between c = search needs
-
-between-requires-2 : tie.Need-between-requires-2
-between-requires-2 c κs = search needs
-
-fault-requires : tie.Need-fault-requires
-fault-requires c κs = search needs
-
-label-fault-requires : tie.Need-label-fault-requires
-label-fault-requires c κs = search needs
-
-after-requires : tie.Need-after-requires
-after-requires c κs = search needs
-
-is-zero-requires : tie.Need-is-zero-requires
-is-zero-requires c κs = search needs
 
 returns-2 : tie.Need-returns-2
 unfolding endIn
@@ -74,21 +44,21 @@ pub is-place-sound-spec : {M : Type 1} → statement M
 is-place-sound-spec =
     tie.close
     (tie.spec
-    shared-slice-read-nlri-size
+    (search needs)
     cast-nlri-size
-    shared-slice-read-attribute-size
+    (search needs)
     cast-attribute-size
     add-end
     add-end-2
     returns
-    between-requires
-    is-s-pmsi-requires
-    add-between
-    between-requires-2
-    fault-requires
-    label-fault-requires
-    after-requires
-    is-zero-requires
+    (search needs)
+    (search needs)
+    (search needs)
+    (search needs)
+    (search needs)
+    (search needs)
+    (search needs)
+    (search needs)
     returns-2
     returns-3
     returns-4

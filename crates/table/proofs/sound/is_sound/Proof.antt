@@ -4,9 +4,6 @@ use borrow.Author.Needs.{needs}
 use Rattle.table.proofs.sound.is_sound.Statement.{statement}
 use Rattle.table.proofs.sound.is_sound.Tie as tie
 
-is-table-size-requires : tie.Need-is-table-size-requires
-is-table-size-requires c κs = search needs
-
 is-header-sound-requires : tie.Need-is-header-sound-requires
 is-header-sound-requires c κs = header-room _ _ (c .before .is-table-size .ensures) (c .if1 .taken)
 
@@ -38,7 +35,7 @@ pub is-sound-spec : {M : Type 1} → statement M
 is-sound-spec =
     tie.close
     (tie.spec
-    is-table-size-requires
+    (search needs)
     is-header-sound-requires
     count-of-requires
     places-of-requires

@@ -3,7 +3,7 @@ use mathlib.Core.Path.{ap}
 use mathlib.Core.Bool.{not}
 use borrow.Author.Needs.{needs}
 use borrow.Author.Tests.{eq-eqb}
-use Rattle.octets.proofs.Inversions.{opposite}
+use Rattle.octets.proofs.Choice.{opposite}
 use Rattle.table.proofs.Tiers.{other-end}
 use Rattle.table.proofs.tier.ends_otherwise.Statement.{statement}
 use Rattle.table.proofs.tier.ends_otherwise.Tie as tie

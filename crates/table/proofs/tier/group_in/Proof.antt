@@ -6,9 +6,6 @@ use Rattle.table.proofs.Tiers.{group-within, group-stands}
 use Rattle.table.proofs.tier.group_in.Statement.{statement}
 use Rattle.table.proofs.tier.group_in.Tie as tie
 
-group-length-at-requires : tie.Need-group-length-at-requires
-group-length-at-requires c κs = search needs
-
 add-between : tie.Need-add-between
 add-between c = omega (arith, group-within _ _ (c .group-length-at .ensures) (c .before .before .pre))
 
@@ -28,7 +25,7 @@ pub group-in-spec : {M : Type 1} → statement M
 group-in-spec =
     tie.close
     (tie.spec
-    group-length-at-requires
+    (search needs)
     add-between
     shared-slice-read-between
     cast-between

@@ -6,9 +6,6 @@ use Rattle.table.proofs.Tiers.{group-within, originator-stands}
 use Rattle.table.proofs.tier.originator_in.Statement.{statement}
 use Rattle.table.proofs.tier.originator_in.Tie as tie
 
-group-length-at-requires : tie.Need-group-length-at-requires
-group-length-at-requires c κs = search needs
-
 add-after : tie.Need-add-after
 add-after c = omega (arith, group-within _ _ (c .group-length-at .ensures) (c .before .before .pre))
 
@@ -31,7 +28,7 @@ pub originator-in-spec : {M : Type 1} → statement M
 originator-in-spec =
     tie.close
     (tie.spec
-    group-length-at-requires
+    (search needs)
     add-after
     shared-slice-read-after
     cast-after

@@ -4,20 +4,8 @@ use borrow.Author.Needs.{needs}
 use Rattle.table.proofs.tier.tier_of.Statement.{statement}
 use Rattle.table.proofs.tier.tier_of.Tie as tie
 
-ends-otherwise-requires : tie.Need-ends-otherwise-requires
-ends-otherwise-requires c κs = search needs
-
 returns : tie.Need-returns
 returns c = other-router _ _ _ _ _ (c .before .ends-otherwise .ensures (c .if1 .taken))
-
-originator-in-requires : tie.Need-originator-in-requires
-originator-in-requires c κs = search needs
-
-is-same-requires : tie.Need-is-same-requires
-is-same-requires c κs = search needs
-
-flow-tier-requires : tie.Need-flow-tier-requires
-flow-tier-requires c κs = search needs
 
 returns-2 : tie.Need-returns-2
 returns-2 c = candidate-tier _ _ _ _ _ _ _ (c .before .before .before .originator-in .ensures) (c .before .before .is-same .ensures) _ (c .before .if2 .taken) (c .flow-tier .ensures)
@@ -29,10 +17,10 @@ pub tier-of-spec : {M : Type 1} → statement M
 tier-of-spec =
     tie.close
     (tie.spec
-    ends-otherwise-requires
+    (search needs)
     returns
-    originator-in-requires
-    is-same-requires
-    flow-tier-requires
+    (search needs)
+    (search needs)
+    (search needs)
     returns-2
     returns-3)

@@ -5,21 +5,6 @@ use borrow.Author.Needs.{needs}
 use Rattle.tunnel.proofs.blocks.place_32.Statement.{statement}
 use Rattle.tunnel.proofs.blocks.place_32.Tie as tie
 
-place-16-requires : tie.Need-place-16-requires
-place-16-requires c κs = search needs
-
-add-place-16 : tie.Need-add-place-16
-add-place-16 c = search needs
-
-add-place-16-2 : tie.Need-add-place-16-2
-add-place-16-2 c = search needs
-
-place-16-requires-2 : tie.Need-place-16-requires-2
-place-16-requires-2 c κs = search needs
-
-same-length : tie.Need-same-length
-same-length c = search needs
-
 returns : tie.Need-returns
 returns c =
     let start = c .before .before .before .before .before .before .before .before .before .before in
@@ -32,9 +17,9 @@ pub place-32-spec : {M : Type 1} → statement M
 place-32-spec =
     tie.close
     (tie.spec
-    place-16-requires
-    add-place-16
-    add-place-16-2
-    place-16-requires-2
-    same-length
+    (search needs)
+    (search needs)
+    (search needs)
+    (search needs)
+    (search needs)
     returns)

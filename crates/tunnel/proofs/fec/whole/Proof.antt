@@ -8,20 +8,11 @@ use Rattle.tunnel.proofs.fec.whole.Tie as tie
 returns : tie.Need-returns
 returns c = whole-short (now (c .before .before .args .identifier)) (search needs)
 
-three-requires : tie.Need-three-requires
-three-requires c κs = search needs
-
-ends-from-requires : tie.Need-ends-from-requires
-ends-from-requires c κs = search needs
-
 returns-2 : tie.Need-returns-2
 returns-2 c =
     let known = c .before .before .before .before in
     let three = c .before .before .three in
     whole-ipv4 (now (known .before .args .identifier)) (search needs) (known .shared-slice-known .given 3 .fits) (three .result) (three .ensures .0) _ (search needs) (c .ends-from .ensures)
-
-ends-from-requires-2 : tie.Need-ends-from-requires-2
-ends-from-requires-2 c κs = search needs
 
 returns-3 : tie.Need-returns-3
 returns-3 c =
@@ -40,9 +31,9 @@ whole-spec =
     tie.close
     (tie.spec
     returns
-    three-requires
-    ends-from-requires
+    (search needs)
+    (search needs)
     returns-2
-    ends-from-requires-2
+    (search needs)
     returns-3
     returns-4)

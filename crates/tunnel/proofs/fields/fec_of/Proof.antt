@@ -6,15 +6,6 @@ use borrow.Author.Needs.{needs}
 use Rattle.tunnel.proofs.fields.fec_of.Statement.{statement}
 use Rattle.tunnel.proofs.fields.fec_of.Tie as tie
 
-shared-slice-read-is-mldp : tie.Need-shared-slice-read-is-mldp
-shared-slice-read-is-mldp c = search needs
-
-is-mldp-requires : tie.Need-is-mldp-requires
-is-mldp-requires c κs = search needs
-
-after-requires : tie.Need-after-requires
-after-requires c κs = search needs
-
 spans-requires : tie.Need-spans-requires
 spans-requires c κs = search (flags, mldp-whole)
 
@@ -29,9 +20,9 @@ pub fec-of-spec : {M : Type 1} → statement M
 fec-of-spec =
     tie.close
     (tie.spec
-    shared-slice-read-is-mldp
-    is-mldp-requires
-    after-requires
+    (search needs)
+    (search needs)
+    (search needs)
     spans-requires
     returns
     returns-2)

@@ -8,26 +8,11 @@ use Rattle.tunnel.specs.Answers.{attributeStruct}
 use Rattle.tunnel.proofs.fields.fields.Statement.{statement}
 use Rattle.tunnel.proofs.fields.fields.Tie as tie
 
-three-requires : tie.Need-three-requires
-three-requires c κs = search needs
-
-fec-of-requires : tie.Need-fec-of-requires
-fec-of-requires c κs = search needs
-
-shared-slice-read-flags : tie.Need-shared-slice-read-flags
-shared-slice-read-flags c = search needs
-
 cast-flags : tie.Need-cast-flags
 cast-flags c = omega (arith, c .shared-slice-known2 .given 0)
 
-shared-slice-read-tunnel-type : tie.Need-shared-slice-read-tunnel-type
-shared-slice-read-tunnel-type c = search needs
-
 cast-tunnel-type : tie.Need-cast-tunnel-type
 cast-tunnel-type c = omega (arith, c .shared-slice-known3 .given 1)
-
-sub-size : tie.Need-sub-size
-sub-size c = search needs
 
 returns : tie.Need-returns
 unfolding attributeStruct fieldsIn labelOf leafInformationRequired
@@ -37,11 +22,11 @@ pub fields-spec : {M : Type 1} → statement M
 fields-spec =
     tie.close
     (tie.spec
-    three-requires
-    fec-of-requires
-    shared-slice-read-flags
+    (search needs)
+    (search needs)
+    (search needs)
     cast-flags
-    shared-slice-read-tunnel-type
+    (search needs)
     cast-tunnel-type
-    sub-size
+    (search needs)
     returns)

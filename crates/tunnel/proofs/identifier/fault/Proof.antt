@@ -7,26 +7,14 @@ use borrow.Author.Needs.{needs}
 use Rattle.tunnel.proofs.identifier.fault.Statement.{statement}
 use Rattle.tunnel.proofs.identifier.fault.Tie as tie
 
-is-mldp-requires : tie.Need-is-mldp-requires
-is-mldp-requires c κs = search needs
-
 of-fec-requires : tie.Need-of-fec-requires
 of-fec-requires c κs = search flags
-
-returns : tie.Need-returns
-returns c = search needs
-
-is-unknown-requires : tie.Need-is-unknown-requires
-is-unknown-requires c κs = search needs
 
 returns-2 : tie.Need-returns-2
 returns-2 c = search (flags, number-unknown) depth 8
 
 sizes-of-requires : tie.Need-sizes-of-requires
 sizes-of-requires c κs = (search flags, search flags)
-
-of-sizes-requires : tie.Need-of-sizes-requires
-of-sizes-requires c κs = search needs
 
 returns-3 : tie.Need-returns-3
 returns-3 c = c .of-sizes .ensures ∙ sym (c .before .sizes-of .ensures (now (c .before .before .before .before .before .before .before .args .identifier)))
@@ -35,11 +23,11 @@ pub fault-spec : {M : Type 1} → statement M
 fault-spec =
     tie.close
     (tie.spec
-    is-mldp-requires
+    (search needs)
     of-fec-requires
-    returns
-    is-unknown-requires
+    (search needs)
+    (search needs)
     returns-2
     sizes-of-requires
-    of-sizes-requires
+    (search needs)
     returns-3)

@@ -8,14 +8,8 @@ use borrow.Author.Needs.{needs}
 use Rattle.tunnel.proofs.identifier.of_fec.Statement.{statement}
 use Rattle.tunnel.proofs.identifier.of_fec.Tie as tie
 
-whole-requires : tie.Need-whole-requires
-whole-requires c κs = search needs
-
 shared-slice-read-type-suits : tie.Need-shared-slice-read-type-suits
 shared-slice-read-type-suits c = omega (arith, length-fec (now (c .before .before .before .before .args .identifier)) (search flags))
-
-type-suits-requires : tie.Need-type-suits-requires
-type-suits-requires c κs = search needs
 
 returns : tie.Need-returns
 returns c = search (flags, number-mldp) depth 10
@@ -30,9 +24,9 @@ pub of-fec-spec : {M : Type 1} → statement M
 of-fec-spec =
     tie.close
     (tie.spec
-    whole-requires
+    (search needs)
     shared-slice-read-type-suits
-    type-suits-requires
+    (search needs)
     returns
     returns-2
     returns-3)

@@ -1,7 +1,7 @@
 -- `tunnel::identifier::of_sizes` meets its contract.
+use Rattle.octets.proofs.Outcome.{number-unless}
 use Rattle.octets.proofs.Tests.{tests}
 use Rattle.tunnel.specs.Identifier.{isIdentifier, oneOf}
-use Rattle.tunnel.proofs.Numbers.{number-unless}
 use Rattle.tunnel.proofs.identifier.of_sizes.Statement.{statement}
 use Rattle.tunnel.proofs.identifier.of_sizes.Tie as tie
 

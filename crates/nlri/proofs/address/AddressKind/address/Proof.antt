@@ -6,20 +6,11 @@ use borrow.Author.Needs.{needs}
 use Rattle.nlri.proofs.address.AddressKind.address.Statement.{statement}
 use Rattle.nlri.proofs.address.AddressKind.address.Tie as tie
 
-four-octets-requires : tie.Need-four-octets-requires
-four-octets-requires c κs = search needs
-
 returns : tie.Need-returns
 returns c = c .four-octets .ensures ∙ ap addressStruct (sym (kind-octets-ipv4 _ _ (c .before .if1 .taken)))
 
-sixteen-octets-requires : tie.Need-sixteen-octets-requires
-sixteen-octets-requires c κs = search needs
-
 returns-2 : tie.Need-returns-2
 returns-2 c = c .sixteen-octets .ensures ∙ ap addressStruct (sym (kind-octets-ipv6 _ _ (c .before .if2 .taken)))
-
-wildcard-requires : tie.Need-wildcard-requires
-wildcard-requires c κs = search needs
 
 returns-3 : tie.Need-returns-3
 returns-3 c = c .wildcard .ensures ∙ ap addressStruct (sym (kind-octets-other _ _ (c .before .before .before .if1 .left) (c .before .if2 .left)))
@@ -28,9 +19,9 @@ pub address-spec : {M : Type 1} → statement M
 address-spec =
     tie.close
     (tie.spec
-    four-octets-requires
+    (search needs)
     returns
-    sixteen-octets-requires
+    (search needs)
     returns-2
-    wildcard-requires
+    (search needs)
     returns-3)
