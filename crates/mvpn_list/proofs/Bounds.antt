@@ -6,7 +6,7 @@ use native.Mathlib.Omega.{arith}
 use lib.ListN.{length, length-append}
 use Rattle.octets.specs.Numbers.{DONE}
 use Rattle.nlri.specs.Walking.{stepFrom}
-use Rattle.nlri.proofs.Steps.{step-moves}
+use Rattle.nlri.proofs.Functions.Steps.{step-moves}
 use Rattle.mvpn_list.specs.Listing.{decimalOf, fieldOf, lineOf, nlriLine, openingOf, lastLine, headerLine, linesFrom, linesOf, listingOf}
 use Rattle.octets.proofs.Choice.{pick-case}
 use Rattle.mvpn_list.proofs.Decimals.{length-decimalOf}

@@ -6,7 +6,7 @@ use native.Mathlib.Omega.{arith}
 use lib.ListN.{length, length-append}
 use Rattle.nlri.specs.declared.layout.Layout.{Layout}
 use Rattle.nlri.specs.Walking.{readTo, stepFrom}
-use Rattle.nlri.proofs.Steps.{Stops, step-moves}
+use Rattle.nlri.proofs.Functions.Steps.{Stops, step-moves}
 use Rattle.mvpn_list.specs.Listing.{nlriLine, lastLine, linesFrom, linesOf}
 use Rattle.mvpn_list.proofs.Steps.{linesFrom-reads, linesFrom-stops}
 use Rattle.octets.proofs.Lists.{Put, put-none, put-as, put-length}

@@ -16,7 +16,7 @@ use Rattle.nlri.specs.Fields.{Fields, encodeNlri}
 use Rattle.nlri.specs.Walking.{stepFrom}
 use Rattle.nlri.specs.Statements.{FrontRefusal, layoutFor, front, encodeRun, AllWellFormed, RunEnd, nothing, refusal, RunOf}
 use Rattle.nlri.proofs.Theorems.{lengths, stepRule}
-use Rattle.nlri.proofs.Steps.{Stops, stops-endedAt, stops-refusedAt}
+use Rattle.nlri.proofs.Functions.Steps.{Stops, stops-endedAt, stops-refusedAt}
 use Rattle.mvpn_list.specs.Listing.{decimalOf, fieldOf, lineOf, openingOf, lastLine, linesFrom, linesOf}
 use Rattle.mvpn_list.specs.ListingRule.{NumberLine, Opening, RunLines}
 use Rattle.octets.proofs.Choice.{pick-case}

@@ -14,9 +14,9 @@ use Rattle.nlri.specs.declared.layout.Layout.{Layout}
 use Rattle.nlri.specs.Reading.{keyField, laidAt}
 use Rattle.nlri.specs.Layouts.{layoutOf, layoutAt}
 use Rattle.nlri.specs.Walking.{Stepped, readTo, stepUnder, stepFrom}
-use Rattle.nlri.proofs.ReadNumbers.{family-refuses, layout-refuses}
-use Rattle.nlri.proofs.Whole.{laid-out}
-use Rattle.nlri.proofs.Steps.{Stops, stops-endedAt, stops-refusedAt}
+use Rattle.nlri.proofs.Definitions.ReadNumbers.{family-refuses, layout-refuses}
+use Rattle.nlri.proofs.Definitions.Whole.{laid-out}
+use Rattle.nlri.proofs.Functions.Steps.{Stops, stops-endedAt, stops-refusedAt}
 use Rattle.mvpn_list.specs.Listing.{nlriLine, lastLine, linesFrom}
 
 -- a layout's route type is known

@@ -1,12 +1,12 @@
 -- What is proved of the definitions as a whole; the file of specs/ named above each says what it states.
 -- Images
-pub use Rattle.routes.proofs.Images.{images}
+pub use Rattle.routes.proofs.Statements.Images.{images}
 -- LastInstalled, CallRules
-pub use Rattle.routes.proofs.LastInstalled.{lastInstalled}
+pub use Rattle.routes.proofs.Statements.LastInstalled.{lastInstalled}
 -- MatchRule
-pub use Rattle.routes.proofs.MatchRule.{matchRule}
+pub use Rattle.routes.proofs.Statements.MatchRule.{matchRule}
 -- MixedCalls
-pub use Rattle.routes.proofs.MixedCalls.{mixedCalls}
-pub use Rattle.routes.proofs.Premise.{premise}
+pub use Rattle.routes.proofs.Statements.MixedCalls.{mixedCalls}
+pub use Rattle.routes.proofs.Statements.Premise.{premise}
 -- Examples
-pub use Rattle.routes.proofs.Marked.{markedExamples}
+pub use Rattle.routes.proofs.Statements.Marked.{markedExamples}

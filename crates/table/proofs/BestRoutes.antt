@@ -20,10 +20,10 @@ use Rattle.routes.specs.Matching.{distinguisherOf, Found, nothing, found, match
 use Rattle.routes.specs.declared.Matched.{Matched}
 use Rattle.routes.specs.Answers.{foundAnswer, foundOutput}
 use Rattle.routes.specs.OnePass.{tierOf, ahead, against, better, scanned}
-use Rattle.routes.proofs.Places.{from-increasing}
-use Rattle.routes.proofs.Lookups.{increasing-distinct}
-use Rattle.routes.proofs.OnePass.{one-pass}
-use Rattle.routes.proofs.Images.{sound}
+use Rattle.routes.proofs.Definitions.Places.{from-increasing}
+use Rattle.routes.proofs.Definitions.Lookups.{increasing-distinct}
+use Rattle.routes.proofs.Definitions.OnePass.{one-pass}
+use Rattle.routes.proofs.Statements.Images.{sound}
 use Rattle.table.specs.declared.scan.Best.{Best}
 use Rattle.table.specs.Scanning.{standing, tierAt, nlriAt, Readable, aheadAt, betterAt, scanAt, noneYet, bestIn, Answerable, queryOf}
 use Rattle.table.proofs.Tiers.{tier-stands, distinguisher-stands}

@@ -12,9 +12,9 @@ use Rattle.routes.specs.Route.{Route, route, nlriOf, inserted, removed}
 use Rattle.routes.specs.Place.{placeOf, AllAcceptable, none, one}
 use Rattle.routes.specs.Table.{headerOf, placesOf, imageOf}
 use Rattle.routes.specs.Images.{Holdable}
-use Rattle.routes.proofs.Headers.{length-header, past-header}
-use Rattle.routes.proofs.Images.{afi-image}
-use Rattle.routes.proofs.Places.{length-zeros, length-acceptable-place, length-places, places-append}
+use Rattle.routes.proofs.Definitions.Headers.{length-header, past-header}
+use Rattle.routes.proofs.Statements.Images.{afi-image}
+use Rattle.routes.proofs.Definitions.Places.{length-zeros, length-acceptable-place, length-places, places-append}
 use Rattle.table.specs.Changing.{rank, firstIs, opened, closed, replacedAt, addedAt, takenAt}
 use Rattle.table.proofs.Places.{zeros-split}
 use Rattle.table.proofs.Ranks.{rank-most, first-within, inserted-held, inserted-new, removed-held}

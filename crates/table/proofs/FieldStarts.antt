@@ -17,10 +17,10 @@ use Rattle.nlri.specs.Fields.{Fields}
 use Rattle.nlri.specs.Reading.{addressEnd, addressField, keyField, laidAt, laidSingle}
 use Rattle.nlri.specs.Layouts.{layoutOf, layoutAt, layoutSingle}
 use Rattle.nlri.specs.Inner.{layoutWith, originatorLast, withGroup, flowSizes, flowEnd, flowRoute, bodyWith, headerAt, anyBody, withSourceAs, sourceStart, distinguisherAt, sourceAsAt, fieldsAt}
-use Rattle.nlri.proofs.FieldRecords.{fields-same}
-use Rattle.nlri.proofs.Lengths.{lengths}
-use Rattle.nlri.proofs.Fronts.{anyFront, laid-within, front-is}
-use Rattle.nlri.proofs.Singles.{read-by-layout, read-refused}
+use Rattle.nlri.proofs.Definitions.FieldRecords.{fields-same}
+use Rattle.nlri.proofs.Definitions.Lengths.{lengths}
+use Rattle.nlri.proofs.Functions.Fronts.{anyFront, laid-within, front-is}
+use Rattle.nlri.proofs.Functions.Singles.{read-by-layout, read-refused}
 use Rattle.routes.specs.Arguments.{readSPmsi}
 use Rattle.table.specs.Scanning.{sourceSize, groupSize, originatorStart, standing, Bounded}
 

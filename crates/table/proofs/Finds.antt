@@ -13,7 +13,7 @@ use Rattle.octets.proofs.Lists.{part-length}
 use Rattle.routes.specs.Route.{nlriOf, holds}
 use Rattle.routes.specs.Place.{endIn, routeIn, placeSound}
 use Rattle.routes.specs.Table.{afiIn, countIn, placesIn, routesFrom, routesOf, placesSound, soundOf}
-use Rattle.routes.proofs.Images.{sound, length-routes, sound-holdable}
+use Rattle.routes.proofs.Statements.Images.{sound, length-routes, sound-holdable}
 use Rattle.table.specs.Changing.{routeAt, rank, firstIs}
 use Rattle.table.proofs.Sounds.{sound-end}
 use Rattle.table.proofs.Ranks.{rank-upto, rank-past, rank-most, held-at-rank, first-within}

@@ -15,10 +15,10 @@ use Rattle.octets.proofs.Outcome.{given-unless, and-pick, and-refused, outcome,
 use Rattle.nlri.specs.declared.group.Group.{Group}
 use Rattle.nlri.specs.Family.{isOriginatorSize}
 use Rattle.nlri.specs.Groups.{classUnder, groupOf}
-use Rattle.nlri.proofs.Lengths.{family-octets, family-good}
+use Rattle.nlri.proofs.Definitions.Lengths.{family-octets, family-good}
 use Rattle.routes.specs.Arguments.{Query, readFlow}
 use Rattle.routes.specs.ArgumentRules.{KnownFamily}
-use Rattle.routes.proofs.Flows.{class-under, flow-asked, flow-refused}
+use Rattle.routes.proofs.Definitions.Flows.{class-under, flow-asked, flow-refused}
 use Rattle.table.specs.Scanning.{queryOf, flowClass}
 
 -- a group of another size than the family's

@@ -17,9 +17,9 @@ use Rattle.routes.specs.Place.{placeOf}
 use Rattle.routes.specs.Table.{afiIn, countIn, placesIn, routesOf, imageOf, soundOf}
 use Rattle.routes.specs.Answers.{NEW, REPLACED, installedOf}
 use Rattle.routes.specs.Calls.{entering, installOutcome, installOf}
-use Rattle.routes.proofs.Bounds.{read-acceptable, sizes-of}
-use Rattle.routes.proofs.Images.{length-routes, sound-holdable, sound-image}
-use Rattle.routes.proofs.Places.{length-place}
+use Rattle.routes.proofs.Definitions.Bounds.{read-acceptable, sizes-of}
+use Rattle.routes.proofs.Statements.Images.{length-routes, sound-holdable, sound-image}
+use Rattle.routes.proofs.Definitions.Places.{length-place}
 use Rattle.table.specs.Changing.{rank, firstIs, replacedAt, addedAt, Installs}
 use Rattle.table.proofs.Sounds.{route-fault-none}
 use Rattle.table.proofs.Finds.{held-by}

@@ -18,7 +18,7 @@ use Rattle.nlri.specs.Family.{familyBits}
 use Rattle.nlri.proofs.Theorems.{lengths}
 use Rattle.routes.specs.Table.{headerOf, placesOf, imageOf, placesIn, tableSize}
 use Rattle.routes.specs.Calls.{makeOutcome, makeOf}
-use Rattle.routes.proofs.Headers.{sound-size}
+use Rattle.routes.proofs.Definitions.Headers.{sound-size}
 use Rattle.table.proofs.Sounds.{header-room}
 
 -- memory of a table's size has room for the header, and still has it with every place free

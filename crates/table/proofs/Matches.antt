@@ -18,8 +18,8 @@ use Rattle.routes.specs.Matching.{Found, matchIn}
 use Rattle.routes.specs.Answers.{Changed, refusedMatch, foundAnswer, foundOutput, matchedBy}
 use Rattle.routes.specs.Calls.{matchOutcome, matchOf}
 use Rattle.routes.specs.ArgumentRules.{KnownFamily}
-use Rattle.routes.proofs.Headers.{sound-family}
-use Rattle.routes.proofs.Images.{sound}
+use Rattle.routes.proofs.Definitions.Headers.{sound-family}
+use Rattle.routes.proofs.Statements.Images.{sound}
 use Rattle.table.specs.Scanning.{queryOf, flowClass}
 use Rattle.table.proofs.FlowClasses.{flow-stopped, flow-taken, flow-some}
 

@@ -11,7 +11,7 @@ use Rattle.octets.specs.Order.{zeros}
 use Rattle.octets.proofs.Lists.{Put, put-then}
 use Rattle.routes.specs.Route.{route}
 use Rattle.routes.specs.Place.{placeOf}
-use Rattle.routes.proofs.Places.{length-zeros}
+use Rattle.routes.proofs.Definitions.Places.{length-zeros}
 
 pub zeros-split : (m n : ℕ) → zeros (m + n) ≡ zeros m ++ zeros n
 unfolding zeros

@@ -23,17 +23,17 @@ use Rattle.nlri.specs.Fields.{Fields}
 use Rattle.nlri.specs.Reading.{readNlri, isSPmsi}
 use Rattle.nlri.specs.Layouts.{readingOf, layoutSingle}
 use Rattle.nlri.specs.Inner.{fieldsAt}
-use Rattle.nlri.proofs.Via.{nlri-given, reading-refused}
-use Rattle.nlri.proofs.Singles.{read-by-layout, read-refused}
+use Rattle.nlri.proofs.Functions.Via.{nlri-given, reading-refused}
+use Rattle.nlri.proofs.Functions.Singles.{read-by-layout, read-refused}
 use Rattle.tunnel.specs.Attribute.{readAttribute, fieldsIn, labelOf}
 use Rattle.tunnel.proofs.ReadRule.{read-done}
 use Rattle.routes.specs.Route.{route, nlriOf, attributeOf}
 use Rattle.routes.specs.Arguments.{readSPmsi, readLabelled, readRoute}
 use Rattle.routes.specs.Place.{endIn, routeIn, acceptable, placeSound}
 use Rattle.routes.specs.Table.{afiIn, countIn, placesIn, headerStart, tableSize, headerSound, placesSound, soundOf}
-use Rattle.routes.proofs.ByArguments.{s-pmsi-number, route-number}
-use Rattle.routes.proofs.Bounds.{route-read, read-acceptable}
-use Rattle.routes.proofs.Headers.{SizeOf, sound-size}
+use Rattle.routes.proofs.Definitions.ByArguments.{s-pmsi-number, route-number}
+use Rattle.routes.proofs.Definitions.Bounds.{route-read, read-acceptable}
+use Rattle.routes.proofs.Definitions.Headers.{SizeOf, sound-size}
 use Rattle.table.proofs.Moves.{drop-taken}
 
 -- the number of an S-PMSI NLRI, by what reading its layout answers

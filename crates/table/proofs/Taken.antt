@@ -16,8 +16,8 @@ use Rattle.routes.specs.Route.{nlriOf, attributeOf}
 use Rattle.routes.specs.Arguments.{readLabelled}
 use Rattle.routes.specs.Place.{endIn, routeIn, placeSound}
 use Rattle.routes.specs.Table.{placesSound}
-use Rattle.routes.proofs.Bounds.{Accepted, accepted, sizes-of}
-use Rattle.routes.proofs.Places.{sound-acceptable}
+use Rattle.routes.proofs.Definitions.Bounds.{Accepted, accepted, sizes-of}
+use Rattle.routes.proofs.Definitions.Places.{sound-acceptable}
 use Rattle.table.specs.Scanning.{nlriAt, Readable, RouteFits}
 use Rattle.table.proofs.FieldStarts.{fields-bounded}
 use Rattle.table.proofs.Sounds.{sound-end}

@@ -20,7 +20,7 @@ use Rattle.routes.specs.Route.{Route, nlriOf}
 use Rattle.routes.specs.Arguments.{Query, readSPmsi}
 use Rattle.routes.specs.Matching.{ofFields, candidate, wildcard, condition, meets, distinguisherOf}
 use Rattle.routes.specs.OnePass.{tierOf}
-use Rattle.routes.proofs.Conditions.{fields-of, distinguisher-is}
+use Rattle.routes.proofs.Definitions.Conditions.{fields-of, distinguisher-is}
 use Rattle.table.proofs.FieldStarts.{fields-stand}
 use Rattle.table.specs.Scanning.{sourceSize, groupSize, originatorStart, Bounded, standing, sourceTier, anySourceTier, flowTier, tierAt}
 

@@ -13,7 +13,7 @@ use Rattle.routes.specs.Route.{removed}
 use Rattle.routes.specs.Arguments.{readSPmsi}
 use Rattle.routes.specs.Table.{afiIn, countIn, placesIn, routesOf, imageOf, soundOf}
 use Rattle.routes.specs.Calls.{leaving, withdrawOutcome, withdrawOf}
-use Rattle.routes.proofs.Images.{length-routes, sound-holdable, sound-image}
+use Rattle.routes.proofs.Statements.Images.{length-routes, sound-holdable, sound-image}
 use Rattle.table.specs.Changing.{rank, firstIs, takenAt, Withdraws}
 use Rattle.table.proofs.Sounds.{s-pmsi-fault-none}
 use Rattle.table.proofs.Finds.{held-by}

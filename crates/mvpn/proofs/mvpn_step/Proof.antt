@@ -2,7 +2,7 @@
 use mathlib.Core.Path.{_∙_, sym, ap}
 use Rattle.mvpn.specs.Answers.{stepAnswer}
 use Rattle.nlri.specs.Walking.{readTo, endedAt, refusedAt}
-use Rattle.nlri.proofs.Steps.{step-read, step-ended, step-refused}
+use Rattle.nlri.proofs.Functions.Steps.{step-read, step-ended, step-refused}
 use borrow.Author.Needs.{needs}
 use Rattle.mvpn.proofs.mvpn_step.Statement.{statement}
 use Rattle.mvpn.proofs.mvpn_step.Tie as tie

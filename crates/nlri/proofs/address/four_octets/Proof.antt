@@ -4,7 +4,7 @@ use mathlib.Core.Path.{_∙_, sym, ap}
 use native.Mathlib.Nat.{le-of-lt}
 use lib.Seq.{take-all}
 use Rattle.nlri.specs.Answers.{addressStruct}
-use Rattle.nlri.proofs.Copies.{octetsFrom, ipv4-held}
+use Rattle.nlri.proofs.Functions.Copies.{octetsFrom, ipv4-held}
 use borrow.Author.Needs.{needs}
 use Rattle.nlri.proofs.address.four_octets.Statement.{statement}
 use Rattle.nlri.proofs.address.four_octets.Tie as tie

@@ -1,6 +1,6 @@
 -- `nlri::address::shorter` meets its contract.
 use denote.Ref.{now}
-use Rattle.nlri.proofs.Copies.{address-held}
+use Rattle.nlri.proofs.Functions.Copies.{address-held}
 use borrow.Author.Needs.{needs}
 use Rattle.nlri.proofs.address.shorter.Statement.{statement}
 use Rattle.nlri.proofs.address.shorter.Tie as tie

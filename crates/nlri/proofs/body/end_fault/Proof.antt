@@ -1,7 +1,7 @@
 -- `nlri::body::end_fault` meets its contract.
 use mathlib.Core.Path.{refl, sym, _∙_}
 use native.Mathlib.Nat.{add-zero}
-use Rattle.nlri.proofs.Ends.{rest-good, no-end}
+use Rattle.nlri.proofs.Functions.Ends.{rest-good, no-end}
 use Rattle.nlri.proofs.body.end_fault.Statement.{statement}
 use Rattle.nlri.proofs.body.end_fault.Tie as tie
 

@@ -2,7 +2,7 @@
 use mathlib.Core.Path.{refl}
 use Rattle.octets.specs.Choice.{either}
 use Rattle.nlri.specs.Family.{isOriginatorSize}
-use Rattle.nlri.proofs.Ends.{rest-good, no-originator}
+use Rattle.nlri.proofs.Functions.Ends.{rest-good, no-originator}
 use borrow.Author.Needs.{needs}
 use Rattle.nlri.proofs.body.originator_fault.Statement.{statement}
 use Rattle.nlri.proofs.body.originator_fault.Tie as tie

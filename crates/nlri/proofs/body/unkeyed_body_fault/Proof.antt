@@ -7,9 +7,9 @@ use Rattle.octets.specs.Choice.{pick}
 use Rattle.octets.specs.Numbers.{TYPE, KEY}
 use Rattle.octets.specs.Outcome.{refused, numberOf}
 use Rattle.nlri.specs.Inner.{flowFault, bodyWith, unkeyedBody}
-use Rattle.nlri.proofs.Ends.{intra-number, inter-number, flow-number, of-type, of-none, of-flow}
-use Rattle.nlri.proofs.Standing.{start-least}
-use Rattle.nlri.proofs.Singles.{start-most}
+use Rattle.nlri.proofs.Functions.Ends.{intra-number, inter-number, flow-number, of-type, of-none, of-flow}
+use Rattle.nlri.proofs.Functions.Standing.{start-least}
+use Rattle.nlri.proofs.Functions.Singles.{start-most}
 use borrow.Author.Needs.{needs}
 use Rattle.nlri.proofs.body.unkeyed_body_fault.Statement.{statement}
 use Rattle.nlri.proofs.body.unkeyed_body_fault.Tie as tie

@@ -4,7 +4,7 @@ use mathlib.Core.Path.{_∙_, ap}
 use native.Mathlib.Omega.{arith}
 use lib.ListN.{take}
 use Rattle.nlri.specs.Answers.{addressStruct}
-use Rattle.nlri.proofs.Copies.{kind-octets-ipv4, kind-octets-ipv6, empty-part, positive, take-part}
+use Rattle.nlri.proofs.Functions.Copies.{kind-octets-ipv4, kind-octets-ipv6, empty-part, positive, take-part}
 use borrow.Author.Needs.{needs}
 use Rattle.nlri.proofs.fields.address_at.Statement.{statement}
 use Rattle.nlri.proofs.fields.address_at.Tie as tie

@@ -7,7 +7,7 @@ use borrow.Author.Tests.{eq-eqb, ne-eqb}
 use Rattle.octets.proofs.Choice.{pick-true, pick-false}
 use Rattle.nlri.specs.Answers.{distinguisherStruct}
 use Rattle.nlri.specs.Inner.{distinguisherAt}
-use Rattle.nlri.proofs.Copies.{no-distinguisher, distinguisher-held}
+use Rattle.nlri.proofs.Functions.Copies.{no-distinguisher, distinguisher-held}
 use Rattle.octets.proofs.Lists.{part-length}
 use borrow.Author.Needs.{needs}
 use Rattle.nlri.proofs.fields.distinguisher_in.Statement.{statement}

@@ -6,7 +6,7 @@ use Prim.Native.Nat.{ℕ, _+_}
 use Rattle.octets.specs.Octets.{part}
 use Rattle.nlri.specs.Answers.{nlriStruct, addressStruct}
 use Rattle.nlri.specs.Inner.{fieldsAt}
-use Rattle.nlri.proofs.Singles.{start-most, nlri-same}
+use Rattle.nlri.proofs.Functions.Singles.{start-most, nlri-same}
 use borrow.Author.Needs.{needs}
 use Rattle.nlri.proofs.fields.nlri_in.Statement.{statement}
 use Rattle.nlri.proofs.fields.nlri_in.Tie as tie

@@ -1,8 +1,8 @@
 -- `nlri::fields::read_nlri` meets its contract.
 use denote.Ref.{now}
 use mathlib.Core.Path.{_∙_}
-use Rattle.nlri.proofs.Singles.{read-by-layout, read-refused, key-same, answer-given, answer-refused}
-use Rattle.nlri.proofs.Via.{nlri-given, reading-refused}
+use Rattle.nlri.proofs.Functions.Singles.{read-by-layout, read-refused, key-same, answer-given, answer-refused}
+use Rattle.nlri.proofs.Functions.Via.{nlri-given, reading-refused}
 use borrow.Author.Needs.{needs}
 use Rattle.nlri.proofs.fields.read_nlri.Statement.{statement}
 use Rattle.nlri.proofs.fields.read_nlri.Tie as tie

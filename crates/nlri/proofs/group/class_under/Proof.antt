@@ -3,7 +3,7 @@ use mathlib.Core.Path.{_≡_, _∙_, subst}
 use Prim.Native.Nat.{ℕ}
 use denote.Ref.{now}
 use lib.ListN.{length}
-use Rattle.nlri.proofs.Via.{refusals, group-is}
+use Rattle.nlri.proofs.Functions.Via.{refusals, group-is}
 use Rattle.nlri.specs.Groups.{classUnder}
 use borrow.Author.Needs.{needs}
 use Rattle.nlri.proofs.group.class_under.Statement.{statement}

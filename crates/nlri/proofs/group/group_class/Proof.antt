@@ -1,6 +1,6 @@
 -- `nlri::group::group_class` meets its contract.
-use Rattle.nlri.proofs.Families.{family-least}
-use Rattle.nlri.proofs.Via.{reads, group-is, known-given}
+use Rattle.nlri.proofs.Definitions.Families.{family-least}
+use Rattle.nlri.proofs.Functions.Via.{reads, group-is, known-given}
 use Rattle.nlri.specs.Groups.{classOf}
 use borrow.Author.Needs.{needs}
 use Rattle.nlri.proofs.group.group_class.Statement.{statement}

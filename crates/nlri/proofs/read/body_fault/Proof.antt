@@ -3,7 +3,7 @@ use mathlib.Core.Path.{refl, _∙_, ap}
 use Rattle.octets.specs.Choice.{pick}
 use Rattle.octets.specs.Outcome.{numberOf}
 use Rattle.nlri.specs.Inner.{bodyWith, unkeyedBody, anyBody}
-use Rattle.nlri.proofs.Ends.{of-type, of-other}
+use Rattle.nlri.proofs.Functions.Ends.{of-type, of-other}
 use borrow.Author.Needs.{needs}
 use Rattle.nlri.proofs.read.body_fault.Statement.{statement}
 use Rattle.nlri.proofs.read.body_fault.Tie as tie

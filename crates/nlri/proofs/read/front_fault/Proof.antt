@@ -7,11 +7,11 @@ use lib.ListN.{length}
 use mathlib.Core.List.{List}
 use Rattle.octets.specs.Outcome.{numberOf}
 use Rattle.nlri.specs.Inner.{headerOutcome, headerAt, anyBody}
-use Rattle.nlri.proofs.Sizes.{header-within}
-use Rattle.nlri.proofs.Fronts.{anyFront}
+use Rattle.nlri.proofs.Definitions.Sizes.{header-within}
+use Rattle.nlri.proofs.Functions.Fronts.{anyFront}
 use Rattle.octets.proofs.Lists.{lent-part, lent-whole}
-use Rattle.nlri.proofs.Via.{typed-given}
-use Rattle.nlri.proofs.Numbered.{numbers, front-number}
+use Rattle.nlri.proofs.Functions.Via.{typed-given}
+use Rattle.nlri.proofs.Functions.Numbered.{numbers, front-number}
 use borrow.Author.Needs.{needs}
 use Rattle.nlri.proofs.read.front_fault.Statement.{statement}
 use Rattle.nlri.proofs.read.front_fault.Tie as tie

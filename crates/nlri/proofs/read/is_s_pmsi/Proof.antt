@@ -1,6 +1,6 @@
 -- `nlri::read::is_s_pmsi` meets its contract.
-use Rattle.nlri.proofs.Via.{known-given, unknown-given}
-use Rattle.nlri.proofs.SPmsis.{s-pmsi-none, s-pmsi-under}
+use Rattle.nlri.proofs.Functions.Via.{known-given, unknown-given}
+use Rattle.nlri.proofs.Functions.SPmsis.{s-pmsi-none, s-pmsi-under}
 use borrow.Author.Needs.{needs}
 use Rattle.nlri.proofs.read.is_s_pmsi.Statement.{statement}
 use Rattle.nlri.proofs.read.is_s_pmsi.Tie as tie

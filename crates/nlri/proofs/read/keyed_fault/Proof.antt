@@ -7,11 +7,11 @@ use Rattle.octets.specs.Outcome.{given}
 use Rattle.octets.proofs.Lists.{lent-whole}
 use Rattle.nlri.specs.Reading.{keyField}
 use Rattle.nlri.specs.Inner.{headerOutcome, keyHeader, keyed}
-use Rattle.nlri.proofs.Fronts.{key-within}
-use Rattle.nlri.proofs.Via.{typed-given, unread-given}
+use Rattle.nlri.proofs.Functions.Fronts.{key-within}
+use Rattle.nlri.proofs.Functions.Via.{typed-given, unread-given}
 use Rattle.octets.proofs.Outcome.{number-goes, number-stops}
-use Rattle.nlri.proofs.Ends.{alone-number, followed-number}
-use Rattle.nlri.proofs.Standing.{key-is-long, key-given, key-faulty}
+use Rattle.nlri.proofs.Functions.Ends.{alone-number, followed-number}
+use Rattle.nlri.proofs.Functions.Standing.{key-is-long, key-given, key-faulty}
 use borrow.Author.Needs.{needs}
 use Rattle.nlri.proofs.read.keyed_fault.Statement.{statement}
 use Rattle.nlri.proofs.read.keyed_fault.Tie as tie

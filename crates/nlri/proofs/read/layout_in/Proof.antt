@@ -6,7 +6,7 @@ use denote.Ref.{now}
 use lib.ListN.{getD}
 use Rattle.octets.proofs.Tests.{tests}
 use Rattle.nlri.specs.Inner.{flowLayout, layoutIn, FlowStands}
-use Rattle.nlri.proofs.Standing.{start-least}
+use Rattle.nlri.proofs.Functions.Standing.{start-least}
 use borrow.Author.Needs.{needs}
 use Rattle.nlri.proofs.read.layout_in.Statement.{statement}
 use Rattle.nlri.proofs.read.layout_in.Tie as tie

@@ -3,7 +3,7 @@ use mathlib.Core.Path.{sym, _∙_, ap}
 use Rattle.octets.specs.Outcome.{given}
 use Rattle.nlri.specs.Layouts.{readingOf}
 use Rattle.octets.proofs.Outcome.{refused-of}
-use Rattle.nlri.proofs.Standing.{laid-in}
+use Rattle.nlri.proofs.Functions.Standing.{laid-in}
 use borrow.Author.Needs.{needs}
 use Rattle.nlri.proofs.read.read_front.Statement.{statement}
 use Rattle.nlri.proofs.read.read_front.Tie as tie

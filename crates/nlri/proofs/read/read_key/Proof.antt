@@ -3,9 +3,9 @@ use mathlib.Core.Path.{_≡_}
 use denote.Ref.{now}
 use Rattle.octets.specs.Outcome.{given}
 use Rattle.nlri.specs.Inner.{headerOutcome, headerAt, keyHeader}
-use Rattle.nlri.proofs.Sizes.{header-within}
-use Rattle.nlri.proofs.Via.{typed-given, unread-stops}
-use Rattle.nlri.proofs.Standing.{key-other-type, key-refused, key-typed}
+use Rattle.nlri.proofs.Definitions.Sizes.{header-within}
+use Rattle.nlri.proofs.Functions.Via.{typed-given, unread-stops}
+use Rattle.nlri.proofs.Functions.Standing.{key-other-type, key-refused, key-typed}
 use borrow.Author.Needs.{needs}
 use Rattle.nlri.proofs.read.read_key.Statement.{statement}
 use Rattle.nlri.proofs.read.read_key.Tie as tie

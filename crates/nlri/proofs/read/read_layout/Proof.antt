@@ -1,7 +1,7 @@
 -- `nlri::read::read_layout` meets its contract.
 use Rattle.nlri.specs.Layouts.{readingOf}
-use Rattle.nlri.proofs.Via.{reads}
-use Rattle.nlri.proofs.Singles.{single-is}
+use Rattle.nlri.proofs.Functions.Via.{reads}
+use Rattle.nlri.proofs.Functions.Singles.{single-is}
 use borrow.Author.Needs.{needs}
 use Rattle.nlri.proofs.read.read_layout.Statement.{statement}
 use Rattle.nlri.proofs.read.read_layout.Tie as tie

@@ -1,6 +1,6 @@
 -- `nlri::read::read_single` meets its contract.
-use Rattle.nlri.proofs.Fronts.{layout-octets}
-use Rattle.nlri.proofs.Via.{nlri-given, reads}
+use Rattle.nlri.proofs.Functions.Fronts.{layout-octets}
+use Rattle.nlri.proofs.Functions.Via.{nlri-given, reads}
 use Rattle.nlri.specs.Layouts.{readingOf}
 use Rattle.nlri.specs.Inner.{single}
 use borrow.Author.Needs.{needs}

@@ -7,7 +7,7 @@ use Rattle.octets.specs.Outcome.{numberOf}
 use Rattle.octets.proofs.Tests.{tests}
 use Rattle.nlri.specs.Layouts.{layoutAt}
 use Rattle.nlri.specs.Walking.{endedAt, refusedAt, stepUnder}
-use Rattle.nlri.proofs.Steps.{step-picks, step-skips, step-fronts}
+use Rattle.nlri.proofs.Functions.Steps.{step-picks, step-skips, step-fronts}
 use borrow.Author.Needs.{needs}
 use Rattle.nlri.proofs.run.step_fault.Statement.{statement}
 use Rattle.nlri.proofs.run.step_fault.Tie as tie

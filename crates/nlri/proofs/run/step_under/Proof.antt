@@ -7,8 +7,8 @@ use lib.ListN.{drop, length-drop}
 use Rattle.nlri.specs.declared.layout.Layout.{Layout}
 use Rattle.nlri.specs.Inner.{layoutIn, Stands}
 use Rattle.nlri.specs.Walking.{readTo, steppedOf}
-use Rattle.nlri.proofs.Fronts.{layout-octets}
-use Rattle.nlri.proofs.Steps.{step-stops, step-ends, step-reads, read-under}
+use Rattle.nlri.proofs.Functions.Fronts.{layout-octets}
+use Rattle.nlri.proofs.Functions.Steps.{step-stops, step-ends, step-reads, read-under}
 use borrow.Author.Needs.{needs}
 use Rattle.nlri.proofs.run.step_under.Statement.{statement}
 use Rattle.nlri.proofs.run.step_under.Tie as tie

@@ -8,8 +8,8 @@ use lib.ListN.{length, getD, drop}
 use Rattle.octets.specs.Numbers.{FAMILY}
 use Rattle.nlri.specs.Inner.{layoutIn}
 use Rattle.nlri.specs.Walking.{readTo, stepFrom}
-use Rattle.nlri.proofs.Via.{known-given, unknown-given}
-use Rattle.nlri.proofs.Steps.{Going, going-first, going-next, going-last, stops-endedAt, stops-refusedAt, step-moves, step-stops, step-ends, step-reads, read-by-octet, step-under-is, step-without}
+use Rattle.nlri.proofs.Functions.Via.{known-given, unknown-given}
+use Rattle.nlri.proofs.Functions.Steps.{Going, going-first, going-next, going-last, stops-endedAt, stops-refusedAt, step-moves, step-stops, step-ends, step-reads, read-by-octet, step-under-is, step-without}
 use Rattle.nlri.proofs.run.walk.Statement.{statement}
 use Rattle.nlri.proofs.run.walk.Tie as tie
 

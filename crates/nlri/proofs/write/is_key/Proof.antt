@@ -1,5 +1,5 @@
 -- `nlri::write::is_key` meets its contract.
-use Rattle.nlri.proofs.KeyTests.{key-alone}
+use Rattle.nlri.proofs.Functions.KeyTests.{key-alone}
 use borrow.Author.Needs.{needs}
 use Rattle.nlri.proofs.write.is_key.Statement.{statement}
 use Rattle.nlri.proofs.write.is_key.Tie as tie

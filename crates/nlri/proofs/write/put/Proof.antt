@@ -1,6 +1,6 @@
 -- `nlri::write::put` meets its contract.
 use Rattle.octets.proofs.Lists.{put-as, put-then}
-use Rattle.nlri.proofs.Puts.{all-length, all-put, put-all}
+use Rattle.nlri.proofs.Functions.Puts.{all-length, all-put, put-all}
 use native.Mathlib.Omega.{arith}
 use denote.Ref.{now}
 use borrow.Author.Needs.{needs}

@@ -3,7 +3,7 @@ use Prim.Native.Nat.{_*_}
 use mathlib.Core.List.{[], _∷_}
 use Rattle.nlri.specs.Answers.{addressOctets}
 use Rattle.octets.proofs.Lists.{put-as, put-then}
-use Rattle.nlri.proofs.Puts.{address-room, address-split}
+use Rattle.nlri.proofs.Functions.Puts.{address-room, address-split}
 use native.Mathlib.Omega.{arith}
 use denote.Ref.{now}
 use borrow.Author.Needs.{needs}

@@ -2,7 +2,7 @@
 use lib.ListN.{length-append}
 use Rattle.nlri.specs.InnerWriting.{bodyOctets, flowOctets, originatorOctets}
 use Rattle.octets.proofs.Lists.{put-then}
-use Rattle.nlri.proofs.Puts.{body-length}
+use Rattle.nlri.proofs.Functions.Puts.{body-length}
 use native.Mathlib.Omega.{arith}
 use denote.Ref.{now}
 use borrow.Author.Needs.{needs}

@@ -3,7 +3,7 @@ use borrow.Author.Tests.{eq-eqb, ne-eqb}
 use lib.ListN.{length-append, length}
 use Rattle.nlri.specs.InnerWriting.{sourceAsOctets}
 use Rattle.octets.proofs.Lists.{put-as, put-then}
-use Rattle.nlri.proofs.Puts.{fixed-key, fixed-distinguisher}
+use Rattle.nlri.proofs.Functions.Puts.{fixed-key, fixed-distinguisher}
 use native.Mathlib.Omega.{arith}
 use mathlib.Core.Path.{_∙_, sym, ap}
 use denote.Ref.{now}

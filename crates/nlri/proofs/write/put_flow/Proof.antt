@@ -4,7 +4,7 @@ use lib.ListN.{length-append, length}
 use mathlib.Core.List.{[]}
 use Rattle.nlri.specs.Answers.{addressOctets}
 use Rattle.octets.proofs.Lists.{put-as, put-none, put-then}
-use Rattle.nlri.proofs.Puts.{flow-there, flow-none}
+use Rattle.nlri.proofs.Functions.Puts.{flow-there, flow-none}
 use native.Mathlib.Omega.{arith}
 use mathlib.Core.Path.{_∙_, sym, ap}
 use borrow.Author.Needs.{needs}

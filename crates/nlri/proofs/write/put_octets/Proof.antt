@@ -1,6 +1,6 @@
 -- `nlri::write::put_octets` meets its contract.
 use Rattle.octets.proofs.Lists.{put-as, put-none}
-use Rattle.nlri.proofs.Puts.{octets-length, octets-taken, octets-all, octets-none}
+use Rattle.nlri.proofs.Functions.Puts.{octets-length, octets-taken, octets-all, octets-none}
 use lib.Seq.{length-take-le}
 use lib.ListN.{length}
 use native.Mathlib.Omega.{arith}

@@ -1,7 +1,7 @@
 -- `nlri::write::put_originator` meets its contract.
 use mathlib.Core.List.{[]}
 use Rattle.octets.proofs.Lists.{put-as, put-none}
-use Rattle.nlri.proofs.Puts.{originator-there, originator-none}
+use Rattle.nlri.proofs.Functions.Puts.{originator-there, originator-none}
 use lib.ListN.{length}
 use native.Mathlib.Omega.{arith}
 use mathlib.Core.Path.{_∙_, sym, ap}

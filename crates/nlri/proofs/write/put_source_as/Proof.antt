@@ -2,7 +2,7 @@
 use Rattle.octets.proofs.NetworkOrder.{big-endian-length}
 use mathlib.Core.List.{[]}
 use Rattle.octets.proofs.Lists.{put-as, put-none}
-use Rattle.nlri.proofs.Puts.{source-as-there, source-as-none}
+use Rattle.nlri.proofs.Functions.Puts.{source-as-there, source-as-none}
 use lib.ListN.{length}
 use native.Mathlib.Omega.{arith}
 use Prim.Native.Nat.{ℕ, _+_}

@@ -1,6 +1,6 @@
 -- `nlri::write::size_of` meets its contract.
 use Rattle.nlri.specs.InnerWriting.{sizeOf}
-use Rattle.nlri.proofs.Puts.{fixed-most, flow-most, originator-most}
+use Rattle.nlri.proofs.Functions.Puts.{fixed-most, flow-most, originator-most}
 use native.Mathlib.Omega.{arith}
 use borrow.Author.Needs.{needs}
 use Rattle.nlri.proofs.write.size_of.Statement.{statement}

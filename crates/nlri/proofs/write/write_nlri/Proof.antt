@@ -1,7 +1,7 @@
 -- `nlri::write::write_nlri` meets its contract.
-use Rattle.nlri.proofs.Verdicts.{answers, untouched, write-is}
-use Rattle.nlri.proofs.Via.{known-given, unknown-given}
-use Rattle.nlri.proofs.Families.{family-is}
+use Rattle.nlri.proofs.Functions.Verdicts.{answers, untouched, write-is}
+use Rattle.nlri.proofs.Functions.Via.{known-given, unknown-given}
+use Rattle.nlri.proofs.Definitions.Families.{family-is}
 use Rattle.octets.proofs.Outcome.{stops, goes}
 use lib.ListN.{length}
 use mathlib.Core.Path.{_≡_, refl, _∙_}

@@ -1,6 +1,6 @@
 -- `nlri::write::write_under` meets its contract.
-use Rattle.nlri.proofs.Verdicts.{answers, untouched, fits-done, refused-under, space-under, given-under, key-short, keyed, sized-nlri, size-short}
-use Rattle.nlri.proofs.Puts.{size-is}
+use Rattle.nlri.proofs.Functions.Verdicts.{answers, untouched, fits-done, refused-under, space-under, given-under, key-short, keyed, sized-nlri, size-short}
+use Rattle.nlri.proofs.Functions.Puts.{size-is}
 use lib.ListN.{length}
 use native.Mathlib.Omega.{arith}
 use mathlib.Core.Path.{_≡_, _∙_}

@@ -2,7 +2,7 @@
 use Prim.Native.Nat.{_+_, _*_}
 use denote.Ref.{now}
 use Rattle.routes.specs.Route.{route, nlriOf, attributeOf}
-use Rattle.routes.proofs.Places.{length-place}
+use Rattle.routes.proofs.Definitions.Places.{length-place}
 use Rattle.table.specs.Changing.{replacedAt}
 use Rattle.table.proofs.Moves.{lent-over}
 use borrow.Author.Needs.{needs}

@@ -7,7 +7,7 @@ use Rattle.octets.proofs.AllOctets.{octets-of}
 use Rattle.routes.specs.Route.{route}
 use Rattle.routes.specs.Place.{placeOf}
 use Rattle.routes.specs.Table.{afiIn, routesOf}
-use Rattle.routes.proofs.Images.{length-routes}
+use Rattle.routes.proofs.Statements.Images.{length-routes}
 use Rattle.table.specs.Changing.{addedAt}
 use Rattle.table.proofs.Ranks.{rank-most}
 use Rattle.table.proofs.Finds.{header-within, places-within}

@@ -4,7 +4,7 @@ use mathlib.Core.Path.{_≡_, sym, subst, _∙_}
 use native.Mathlib.Omega.{arith}
 use denote.Ref.{now}
 use Rattle.octets.proofs.AllOctets.{octets-of}
-use Rattle.routes.proofs.Images.{sound}
+use Rattle.routes.proofs.Statements.Images.{sound}
 use Rattle.table.specs.Changing.{takenAt}
 use Rattle.table.proofs.Finds.{header-within, places-within, held-within}
 use Rattle.table.proofs.Withdraws.{withdraw-absent, withdraw-takes}

@@ -1,5 +1,5 @@
 -- `nlri::address::Address::wildcard` meets its contract.
-use Rattle.nlri.proofs.Copies.{no-address}
+use Rattle.nlri.proofs.Functions.Copies.{no-address}
 use Rattle.nlri.proofs.address.Address.wildcard.Statement.{statement}
 use Rattle.nlri.proofs.address.Address.wildcard.Tie as tie
 

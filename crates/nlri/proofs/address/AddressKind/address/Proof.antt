@@ -1,7 +1,7 @@
 -- `nlri::address::AddressKind::address` meets its contract.
 use mathlib.Core.Path.{_∙_, ap, sym}
 use Rattle.nlri.specs.Answers.{addressStruct}
-use Rattle.nlri.proofs.Copies.{kind-octets-ipv4, kind-octets-ipv6, kind-octets-other}
+use Rattle.nlri.proofs.Functions.Copies.{kind-octets-ipv4, kind-octets-ipv6, kind-octets-other}
 use borrow.Author.Needs.{needs}
 use Rattle.nlri.proofs.address.AddressKind.address.Statement.{statement}
 use Rattle.nlri.proofs.address.AddressKind.address.Tie as tie

@@ -1,6 +1,6 @@
 -- `nlri::run::Cursor::step` meets its contract.
 use Rattle.nlri.specs.Walking.{steppedOf, stepFrom}
-use Rattle.nlri.proofs.Via.{reads}
+use Rattle.nlri.proofs.Functions.Via.{reads}
 use borrow.Author.Needs.{needs}
 use Rattle.nlri.proofs.run.Cursor.step.Statement.{statement}
 use Rattle.nlri.proofs.run.Cursor.step.Tie as tie

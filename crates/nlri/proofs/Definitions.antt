@@ -1,0 +1,11 @@
+-- Laws of document 01's definitions.
+pub mod Families
+pub mod FieldRecords
+pub mod Sizes
+pub mod ReadNumbers
+pub mod Table
+pub mod Lengths
+pub mod Judged
+pub mod Whole
+pub mod Keys
+pub mod Writes

@@ -1,0 +1,162 @@
+-- A body, and a whole NLRI, is read exactly where it stands encoded and well-formed, for every judge of keys.
+use mathlib.Core.Path.{_≡_, refl, sym, _∙_, ap, ap₂, subst}
+use mathlib.Core.Bool.{true}
+use mathlib.Core.List.{List, [], _∷_, _++_, map, append-assoc}
+use Prim.Native.Nat.{ℕ, suc, _+_, _*_, _/_, _-_, _≤_, _<_}
+use native.Mathlib.Omega.{arith}
+use borrow.Author.Tests.{eqb-true, ltb-false, le-ltb}
+use lib.ListN.{length, getD, take, drop, length-append, take-append-drop}
+use lib.Seq.{take-append-seam, drop-append-seam}
+use Rattle.octets.specs.Outcome.{Outcome, given}
+use Rattle.octets.specs.Octets.{AllOctets, none, one, part}
+use Rattle.octets.proofs.Choice.{pick-true, pick-false, opposite, both-true-left, both-true-right}
+use Rattle.octets.proofs.Outcome.{goes, given-otherwise, given-unless, passed, given-same}
+use Rattle.octets.proofs.AllOctets.{octets-drop, octets-part, octets-append}
+use Rattle.octets.proofs.Lists.{empty-list, take-two, part-length}
+use Rattle.nlri.specs.Bodies.{FieldKind, distinguisher, sourceAs, source, group, originator, key, bodies, bodyOf, fieldIn}
+use Rattle.nlri.specs.Fields.{Fields, encodeField, encodeBody, encodeNlri, WellFormedBody}
+use Rattle.nlri.specs.Reading.{Laid, fieldSize, sizesOf, laidWith, cut}
+use Rattle.nlri.proofs.Definitions.Table.{listed, on-body, known, RowOf, rowOf, closes, closed, mostIn, Along, along-fields}
+use Rattle.nlri.proofs.Definitions.Judged.{Judges, Closes, fieldsFrom, field-sound, field-complete, field-most, field-octets}
+
+-- the encodings of the fields of a body, and their sizes
+abbrev pub piecesOf : Fields → List FieldKind → List (List ℕ)
+piecesOf f body = map (encodeField f) body
+
+abbrev pub sizesIn : Fields → List FieldKind → List ℕ
+sizesIn f body = map (λ k. length (encodeField f k)) body
+
+-- where the fields of an encoding lie
+abbrev pub laidOf : Fields → Laid
+laidOf f = record { type = f .type; size = length (encodeBody f (bodyOf (f .type))); body = bodyOf (f .type); sizes = sizesIn f (bodyOf (f .type)) }
+
+pub cut-body : (f : Fields) (body : List FieldKind) (t : List ℕ) → cut (sizesIn f body) (encodeBody f body ++ t) ≡ piecesOf f body
+unfolding cut encodeBody
+cut-body f [] t = refl
+cut-body f (k ∷ body) t =
+    rw (append-assoc (encodeField f k) (encodeBody f body) t, take-append-seam (encodeField f k) (encodeBody f body ++ t), drop-append-seam (encodeField f k) (encodeBody f body ++ t), cut-body f body t)
+
+cut-length : (sizes s : List ℕ) → length (cut sizes s) ≡ length sizes
+unfolding cut
+cut-length [] s = refl
+cut-length (n ∷ sizes) s = ap suc (cut-length sizes (drop n s))
+
+closes-body : (f : Fields) (k : FieldKind) (body : List FieldKind) → closes k body ≡ true → Closes k (encodeBody f body)
+unfolding closes encodeBody
+closes-body f distinguisher body h = tt
+closes-body f sourceAs body h = tt
+closes-body f source body h = tt
+closes-body f group body h = tt
+closes-body f originator [] h = refl
+closes-body f originator (k ∷ body) h = absurd (opposite h refl)
+closes-body f key body h = tt
+
+-- what was laid out
+pub record LaidOut (judge : List ℕ → Outcome ℕ) (bits : ℕ) (s : List ℕ) (laid : Laid) : Type 0 where
+  pub row : RowOf (laid .type)
+  pub body : laid .body ≡ bodyOf (laid .type)
+  pub enough : 2 ≤ length s
+  pub typed : laid .type ≡ getD s 0 0
+  pub sized : laid .size ≡ getD s 1 0
+  pub fits : laid .size ≤ length s - 2
+  pub sizes : sizesOf (fieldSize judge bits (laid .type)) (bodyOf (laid .type)) (part s 2 (laid .size)) ≡ given (laid .sizes)
+
+pub laid-out : (judge : List ℕ → Outcome ℕ) (bits : ℕ) (s : List ℕ) (laid : Laid) → laidWith judge bits s ≡ given laid → LaidOut judge bits s laid
+unfolding laidWith
+laid-out judge bits s laid e =
+    let p = given-otherwise _ _ _ _ e in
+    let q = given-otherwise _ _ _ _ (p .1) in
+    let r = given-unless _ _ _ _ (sym (on-body _ _ _) ∙ q .1) in
+    let w = passed _ _ _ (r .1) in
+    subst (LaidOut judge bits s) (given-same (w .second))
+    (record {
+      row = rowOf _ (r .0);
+      body = refl;
+      enough = omega (arith, ltb-false);
+      typed = refl;
+      sized = refl;
+      fits = omega (arith, ltb-false);
+      sizes = w .first;
+    })
+
+module _ (judge : List ℕ → Outcome ℕ) (Key : List ℕ → Type 0) (judges : Judges judge Key) (bits : ℕ) (whole : 8 * (bits / 8) ≡ bits) where
+  sizes-length : (type : ℕ) (body : List FieldKind) (s sizes : List ℕ) → sizesOf (fieldSize judge bits type) body s ≡ given sizes → length sizes ≡ length body
+  unfolding sizesOf
+  sizes-length type [] s sizes e = ap length (sym (given-same (given-unless _ _ _ _ e .1)))
+  sizes-length type (k ∷ body) s sizes e =
+      let p = passed _ _ _ e in
+      let q = passed _ _ _ (p .second) in
+      ap length (sym (given-same (q .second))) ∙ ap suc (sizes-length type body _ (q .value) (q .first))
+
+  -- a body read is well-formed, and is its encoding
+  body-sound : (type : ℕ) (body : List FieldKind) (s sizes : List ℕ) (field : FieldKind → List ℕ) → AllOctets s → sizesOf (fieldSize judge bits type) body s ≡ given sizes → Along field body (cut sizes s)
+      → WellFormedBody Key bits (fieldsFrom type field) body × (encodeBody (fieldsFrom type field) body ≡ s)
+  unfolding sizesOf encodeBody cut
+  body-sound type [] s sizes field a e al = (tt, sym (empty-list s (eqb-true _ _ (given-unless _ _ _ _ e .0))))
+  body-sound type (k ∷ body) s sizes field a e al =
+      let p = passed _ _ _ e in
+      let q = passed _ _ _ (p .second) in
+      let n : ℕ = p .value in
+      let cuts : Along field (k ∷ body) (cut (n ∷ q .value) s) = subst (λ (z : List ℕ). Along field (k ∷ body) (cut z s)) (sym (given-same (q .second))) al in
+      let here = field-sound judge Key judges bits whole type k s n field a (p .first) (cuts .0) in
+      let later = body-sound type body (drop n s) (q .value) field (octets-drop n a) (q .first) (cuts .1) in
+      ((here .1, later .0), ap₂ (λ (x y : List ℕ). x ++ y) (here .2) (later .1) ∙ take-append-drop n s)
+
+  -- a well-formed body that stands encoded is read
+  body-complete : (f : Fields) (body : List FieldKind) → closed body ≡ true → WellFormedBody Key bits f body → sizesOf (fieldSize judge bits (f .type)) body (encodeBody f body) ≡ given (sizesIn f body)
+  unfolding sizesOf encodeBody closed
+  body-complete f [] c w = pick-true _ _ _ refl
+  body-complete f (k ∷ body) c w =
+      sym (goes _ _ _ _ (field-complete judge Key judges bits whole f k (encodeBody f body) (w .0) (closes-body f k body (both-true-left _ _ c)))
+      (goes _ _ _ _ (ap (sizesOf (fieldSize judge bits (f .type)) body) (drop-append-seam (encodeField f k) (encodeBody f body)) ∙ body-complete f body (both-true-right (closes k body) _ c) (w .1)) refl))
+
+  body-most : (w : ℕ) → ((k : List ℕ) → Key k → length k ≤ w) → bits ≤ 128 → (f : Fields) (body : List FieldKind) → WellFormedBody Key bits f body → length (encodeBody f body) ≤ mostIn w body
+  unfolding encodeBody mostIn
+  body-most w bound small f [] h = omega arith
+  body-most w bound small f (k ∷ body) h =
+      rw length-append (omega (arith, field-most judge Key judges bits whole w bound small f k (h .0), body-most w bound small f body (h .1)))
+
+  body-octets : ((k : List ℕ) → Key k → AllOctets k) → bits ≤ 128 → (f : Fields) (body : List FieldKind) → WellFormedBody Key bits f body → AllOctets (encodeBody f body)
+  unfolding encodeBody
+  body-octets ofKey small f [] h = none
+  body-octets ofKey small f (k ∷ body) h = octets-append (field-octets judge Key judges bits whole ofKey small f k (h .0)) (body-octets ofKey small f body (h .1))
+
+  -- the fields of what was laid out
+  abbrev pub fieldsAt : List ℕ → Laid → Fields
+  fieldsAt s laid = fieldsFrom (laid .type) (λ kind. fieldIn [] kind (laid .body) (cut (laid .sizes) (part s 2 (laid .size))))
+
+  -- an NLRI read is well-formed, and is its encoding
+  pub laid-sound : (s : List ℕ) (laid : Laid) → AllOctets s → laidWith judge bits s ≡ given laid
+      → WellFormedBody Key bits (fieldsAt s laid) (bodyOf (laid .type)) × (take (2 + laid .size) s ≡ encodeNlri (fieldsAt s laid))
+  unfolding encodeNlri
+  laid-sound s laid a e =
+      let o = laid-out judge bits s laid e in
+      let rest : List ℕ = part s 2 (laid .size) in
+      let along : Along (λ kind. fieldIn [] kind (laid .body) (cut (laid .sizes) rest)) (bodyOf (laid .type)) (cut (laid .sizes) rest) =
+      rw (o .body) (along-fields [] (bodyOf (laid .type)) (cut (laid .sizes) rest) (o .row .distinct) (cut-length _ _ ∙ sizes-length (laid .type) _ _ _ (o .sizes))) in
+      let b = body-sound (laid .type) (bodyOf (laid .type)) rest (laid .sizes) _ (octets-part 2 (laid .size) a) (o .sizes) along in
+      let len : laid .size ≡ length (encodeBody (fieldsAt s laid) (bodyOf (laid .type))) = sym (ap length (b .1) ∙ part-length s 2 (laid .size) (omega (arith, o .fits, o .enough))) in
+      (b .0, take-two s (laid .size) (o .enough) ∙ ap₂ (λ (x : ℕ) (y : List ℕ). x ∷ y) (sym (o .typed)) (ap₂ (λ (x : ℕ) (y : List ℕ). x ∷ y) (sym (o .sized) ∙ len) (sym (b .1))))
+
+  -- a well-formed NLRI that stands encoded is read
+  pub laid-complete : (f : Fields) (t : List ℕ) → (1 ≤ f .type) × (f .type ≤ 7) → WellFormedBody Key bits f (bodyOf (f .type))
+      → laidWith judge bits (encodeNlri f ++ t) ≡ given (laidOf f)
+  unfolding laidWith encodeNlri part
+  laid-complete f t range w =
+      let l : listed bodies (f .type) ≡ true = known (f .type) (range .0) (range .1) in
+      let body : List FieldKind = bodyOf (f .type) in
+      pick-false _ _ _ (le-ltb (suc (suc (length (encodeBody f body ++ t)))) 2 (omega arith))
+      ∙ pick-false _ _ _ (le-ltb (suc (suc (length (encodeBody f body ++ t))) - 2) (length (encodeBody f body)) (simp length-append (omega arith)))
+      ∙ on-body (f .type) _ _
+      ∙ pick-true _ _ _ l
+      ∙ sym (goes _ _ _ _ (ap (sizesOf (fieldSize judge bits (f .type)) body) (take-append-seam (encodeBody f body) t) ∙ body-complete f body (rowOf (f .type) l .closed) w) refl)
+
+  -- a well-formed NLRI in octets: its Length fits an octet
+  pub nlri-octets : (w : ℕ) → ((k : List ℕ) → Key k → (length k ≤ w) × AllOctets k) → bits ≤ 128 → (f : Fields) → (1 ≤ f .type) × (f .type ≤ 7) → WellFormedBody Key bits f (bodyOf (f .type))
+      → (most : ℕ) → mostIn w (bodyOf (f .type)) ≤ most → most < 256 → (length (encodeNlri f) ≤ 2 + most) × AllOctets (encodeNlri f)
+  unfolding encodeNlri
+  nlri-octets w ofKey small f range h most within fits =
+      let len = body-most w (λ k key. ofKey k key .0) small f (bodyOf (f .type)) h in
+      let first : f .type < 256 = omega arith in
+      let second : length (encodeBody f (bodyOf (f .type))) < 256 = omega arith in
+      (omega arith, one first (one second (body-octets (λ k key. ofKey k key .1) small f (bodyOf (f .type)) h)))

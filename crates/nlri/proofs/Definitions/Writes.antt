@@ -1,0 +1,175 @@
+-- Writing: what the writer's tests say of the fields, and that it looks only at fields of the type's body.
+use mathlib.Core.Path.{_≡_, refl, sym, _∙_, ap, ap₂, subst}
+use mathlib.Core.Bool.{Bool, true, false}
+use mathlib.Core.List.{List, [], _∷_, _++_, append-nil}
+use Prim.Native.Nat.{ℕ, _*_}
+use native.Mathlib.Omega.{arith}
+use borrow.Author.Tests.{eqb-true, eq-eqb}
+use lib.ListN.{length}
+use lib.Seq.{take-all}
+use lib.Dec.{eqb, ltb}
+use Rattle.octets.specs.Numbers.{TYPE, WIDTH, KEY, SPACE}
+use Rattle.octets.specs.Choice.{pick, both}
+use Rattle.octets.specs.Outcome.{Outcome, given, refused, onOutcome, andThen}
+use Rattle.octets.specs.Octets.{AllOctets, bigEndian}
+use Rattle.octets.proofs.Choice.{pick-true, both-true, opposite, both-true-left, both-true-right}
+use Rattle.octets.proofs.Outcome.{and-cong, goes, on-given, given-otherwise, given-unless, passed, given-same}
+use Rattle.nlri.specs.Family.{familyBits, allowed, isOriginatorSize}
+use Rattle.nlri.specs.Bodies.{FieldKind, distinguisher, sourceAs, source, group, originator, key, bodies, bodyOf, hasField}
+use Rattle.nlri.specs.Fields.{Fields, encodeAddress, encodeField, encodeBody, encodeNlri, WellFormedField, WellFormedBody, WellFormed, KeyOf, restricted}
+use Rattle.nlri.specs.Reading.{keyField}
+use Rattle.nlri.specs.Writing.{widthFits, widthsFit, isKey, keyFits, keysFit, writeNlri}
+use Rattle.nlri.specs.Statements.{HoldsOctets}
+use Rattle.nlri.proofs.Definitions.Table.{listed, on-body, known, rowOf, has-first, has-later}
+use Rattle.nlri.proofs.Definitions.Lengths.{family-octets}
+use Rattle.nlri.proofs.Definitions.Keys.{key-judges}
+
+-- two fields records agree in a kind of field
+abbrev pub SameField : Fields → Fields → FieldKind → Type 0
+SameField f g distinguisher = f .distinguisher ≡ g .distinguisher
+SameField f g sourceAs = f .sourceAs ≡ g .sourceAs
+SameField f g source = f .source ≡ g .source
+SameField f g group = f .group ≡ g .group
+SameField f g originator = f .originator ≡ g .originator
+SameField f g key = f .key ≡ g .key
+
+restricted-same : (f : Fields) (k : FieldKind) → hasField k (bodyOf (f .type)) ≡ true → SameField (restricted f) f k
+unfolding restricted
+restricted-same f distinguisher h = pick-true _ _ _ h
+restricted-same f sourceAs h = pick-true _ _ _ h
+restricted-same f source h = pick-true _ _ _ h
+restricted-same f group h = pick-true _ _ _ h
+restricted-same f originator h = pick-true _ _ _ h
+restricted-same f key h = pick-true _ _ _ h
+
+same-encoding : (f g : Fields) (k : FieldKind) → SameField f g k → encodeField f k ≡ encodeField g k
+unfolding encodeField
+same-encoding f g distinguisher e = e
+same-encoding f g sourceAs e = ap (bigEndian 4) e
+same-encoding f g source e = ap encodeAddress e
+same-encoding f g group e = ap encodeAddress e
+same-encoding f g originator e = e
+same-encoding f g key e = e
+
+same-width : (bits : ℕ) (f g : Fields) → f .type ≡ g .type → (k : FieldKind) → SameField f g k → widthFits bits f k ≡ widthFits bits g k
+unfolding widthFits
+same-width bits f g t distinguisher e = refl
+same-width bits f g t sourceAs e = refl
+same-width bits f g t source e = ap₂ (λ (n : ℕ) (x : List ℕ). allowed bits n (8 * length x)) t e
+same-width bits f g t group e = ap₂ (λ (n : ℕ) (x : List ℕ). allowed bits n (8 * length x)) t e
+same-width bits f g t originator e = ap (λ (x : List ℕ). isOriginatorSize (length x)) e
+same-width bits f g t key e = refl
+
+same-key : (bits : ℕ) (f g : Fields) (k : FieldKind) → SameField f g k → keyFits bits f k ≡ keyFits bits g k
+unfolding keyFits
+same-key bits f g distinguisher e = refl
+same-key bits f g sourceAs e = refl
+same-key bits f g source e = refl
+same-key bits f g group e = refl
+same-key bits f g originator e = refl
+same-key bits f g key e = ap (isKey bits) e
+
+same-body : (bits : ℕ) (f g : Fields) → f .type ≡ g .type → (body : List FieldKind) → ((k : FieldKind) → hasField k body ≡ true → SameField f g k)
+    → (encodeBody f body ≡ encodeBody g body) × (widthsFit bits f body ≡ widthsFit bits g body) × (keysFit bits f body ≡ keysFit bits g body)
+unfolding encodeBody widthsFit keysFit
+same-body bits f g t [] same = (refl, refl, refl)
+same-body bits f g t (k ∷ body) same =
+    let later = same-body bits f g t body (λ k′ h. same k′ (has-later k′ k body h)) in
+    let here = same k (has-first k body) in
+    (ap₂ (λ (x y : List ℕ). x ++ y) (same-encoding f g k here) (later .0), ap₂ both (same-width bits f g t k here) (later .1), ap₂ both (same-key bits f g k here) (later .2))
+
+-- the order of writing: WIDTH, KEY, SPACE
+unfoldable pub verdict : ℕ → List ℕ → (widths keys : Bool) → Outcome (List ℕ)
+verdict space e widths keys = pick widths (pick keys (pick (ltb space (length e)) (refused SPACE) (given e)) (refused KEY)) (refused WIDTH)
+
+unfoldable pub verdictOf : ℕ → Fields → ℕ → Outcome (List ℕ)
+verdictOf bits f space = verdict space (encodeNlri f) (widthsFit bits f (bodyOf (f .type))) (keysFit bits f (bodyOf (f .type)))
+
+pub write-is : (afi : ℕ) (f : Fields) (space : ℕ) → writeNlri afi f space ≡ andThen (familyBits afi) (λ bits. pick (listed bodies (f .type)) (verdictOf bits f space) (refused TYPE))
+unfolding writeNlri verdictOf verdict
+write-is afi f space = and-cong _ _ _ (λ bits e. on-body _ _ _)
+
+-- the writer does not look at fields that the type lacks
+pub write-restricted : (afi : ℕ) (f : Fields) (space : ℕ) → writeNlri afi (restricted f) space ≡ writeNlri afi f space
+unfolding verdictOf restricted encodeNlri
+write-restricted afi f space =
+    write-is afi (restricted f) space
+    ∙ and-cong _ _ _ (λ bits e.
+    let same = same-body bits (restricted f) f refl (bodyOf (f .type)) (restricted-same f) in
+    let encoded : encodeNlri (restricted f) ≡ encodeNlri f = ap (λ (b : List ℕ). f .type ∷ (length b ∷ b)) (same .0) in
+    ap (λ (o : Outcome (List ℕ)). pick (listed bodies (f .type)) o (refused TYPE))
+    (ap₂ (λ (x : List ℕ) (b : Bool). verdict space x b (keysFit bits (restricted f) (bodyOf (f .type)))) encoded (same .1) ∙ ap (verdict space (encodeNlri f) (widthsFit bits f (bodyOf (f .type)))) (same .2)))
+    ∙ sym (write-is afi f space)
+
+-- octets that the writer takes for a key
+pub key-judged : (afi bits : ℕ) → familyBits afi ≡ given bits → (k : List ℕ) → AllOctets k → isKey bits k ≡ true → KeyOf bits k
+unfolding isKey onOutcome
+key-judged afi bits ofFamily k a e = go (keyField bits k) refl e
+  where
+    go : (o : Outcome ℕ) → keyField bits k ≡ o → onOutcome (λ fault. false) (λ size. eqb size (length k)) o ≡ true → KeyOf bits k
+    go (given n) p q =
+        let size : n ≡ length k = eqb-true _ _ q in
+        subst (KeyOf bits) (take-all n k (omega arith)) (key-judges bits (family-octets afi bits ofFamily .0) .sound k n a p .1)
+    go (refused n) p q = absurd (opposite q refl)
+
+pub key-fits : (afi bits : ℕ) → familyBits afi ≡ given bits → (k : List ℕ) → KeyOf bits k → isKey bits k ≡ true
+unfolding isKey
+key-fits afi bits ofFamily k of =
+    sym (on-given _ _ _ _ _ (ap (keyField bits) (sym (append-nil k)) ∙ key-judges bits (family-octets afi bits ofFamily .0) .complete k [] of) (sym (eq-eqb (length k) (length k) refl)))
+
+module _ (afi bits : ℕ) (ofFamily : familyBits afi ≡ given bits) (f : Fields) where
+  fits-well : (body : List FieldKind) → WellFormedBody (KeyOf bits) bits f body → (widthsFit bits f body ≡ true) × (keysFit bits f body ≡ true)
+  unfolding widthsFit keysFit widthFits keyFits
+  fits-well [] w = (refl, refl)
+  fits-well (k ∷ body) w =
+      let later = fits-well body (w .1) in
+      let here = at k (w .0) in
+      (both-true _ _ (here .0) (later .0), both-true _ _ (here .1) (later .1))
+    where
+      at : (k : FieldKind) → WellFormedField (KeyOf bits) bits f k → (widthFits bits f k ≡ true) × (keyFits bits f k ≡ true)
+      at distinguisher h = (refl, refl)
+      at sourceAs h = (refl, refl)
+      at source h = (h .0, refl)
+      at group h = (h .0, refl)
+      at originator h = (h .0, refl)
+      at key h = (refl, key-fits afi bits ofFamily (f .key) h)
+
+  -- of fields whose kinds the type has
+  pub well-fits : HoldsOctets f → (body : List FieldKind) → ((kind : FieldKind) → hasField kind body ≡ true → hasField kind (bodyOf (f .type)) ≡ true)
+      → widthsFit bits f body ≡ true → keysFit bits f body ≡ true → WellFormedBody (KeyOf bits) bits f body
+  unfolding widthsFit keysFit widthFits keyFits
+  well-fits held [] has w k = tt
+  well-fits held (kind ∷ body) has w k = (
+    at kind (has kind (has-first kind body)) (both-true-left _ _ w) (both-true-left _ _ k),
+    well-fits held body (λ other h. has other (has-later other kind body h)) (both-true-right (widthFits bits f kind) _ w) (both-true-right (keyFits bits f kind) _ k),
+  )
+    where
+      at : (k : FieldKind) → hasField k (bodyOf (f .type)) ≡ true → widthFits bits f k ≡ true → keyFits bits f k ≡ true → WellFormedField (KeyOf bits) bits f k
+      at distinguisher has w h = (held .distinguisherSize has, held .distinguisher)
+      at sourceAs has w h = held .sourceAs
+      at source has w h = (w, held .source)
+      at group has w h = (w, held .group)
+      at originator has w h = (w, held .originator)
+      at key has w h = key-judged afi bits ofFamily (f .key) (held .key) h
+
+  -- well-formed fields are written where there is space
+  pub write-well : (space : ℕ) → WellFormed bits f → writeNlri afi f space ≡ pick (ltb space (length (encodeNlri f))) (refused SPACE) (given (encodeNlri f))
+  unfolding verdictOf verdict
+  write-well space w =
+      let fits = fits-well (bodyOf (f .type)) (w .body) in
+      write-is afi f space ∙ sym (goes _ _ _ _ ofFamily (sym (pick-true _ _ _ (known (f .type) (w .typed .0) (w .typed .1)) ∙ pick-true _ _ _ (fits .0) ∙ pick-true _ _ _ (fits .1))))
+
+  -- what was written is the encoding, and the fields are well-formed
+  pub written : HoldsOctets f → (space : ℕ) (e : List ℕ) → writeNlri afi f space ≡ given e → WellFormed bits f × (encodeNlri f ≡ e)
+  unfolding verdictOf verdict
+  written held space e w =
+      let p = passed _ _ _ (sym (write-is afi f space) ∙ w) in
+      let same : p .value ≡ bits = given-same (sym (p .first) ∙ ofFamily) in
+      let q = given-unless _ _ _ _ (p .second) in
+      let r = given-unless _ _ _ _ (q .1) in
+      let k = given-unless _ _ _ _ (r .1) in
+      let u = given-otherwise _ _ _ _ (k .1) in
+      let row = rowOf (f .type) (q .0) in
+      let widths : widthsFit bits f (bodyOf (f .type)) ≡ true = ap (λ (n : ℕ). widthsFit n f (bodyOf (f .type))) (sym same) ∙ r .0 in
+      let keys : keysFit bits f (bodyOf (f .type)) ≡ true = ap (λ (n : ℕ). keysFit n f (bodyOf (f .type))) (sym same) ∙ k .0 in
+      (record { typed = (row .low, row .high); body = well-fits held (bodyOf (f .type)) (λ kind h. h) widths keys }, given-same (u .1))

@@ -1,0 +1,78 @@
+-- A single NLRI: its layout, and its fields by its layout.
+use mathlib.Core.Path.{_≡_, sym, _∙_, ap, ap₂, subst}
+use mathlib.Core.Bool.{Bool, true, false}
+use mathlib.Core.List.{List}
+use Prim.Native.Nat.{ℕ, _+_, _≤_}
+use native.Mathlib.Omega.{arith}
+use lib.ListN.{length}
+use lib.Dec.{eqb}
+use Rattle.octets.specs.Numbers.{DONE}
+use Rattle.octets.specs.Choice.{pick}
+use Rattle.octets.specs.Outcome.{Outcome, given, refused, andThen, onOutcome}
+use Rattle.octets.specs.declared.Span.{Span}
+use Rattle.octets.proofs.Outcome.{goes, and-assoc, and-cong, and-pick, and-given, and-refused, passed, given-same, refused-alike}
+use Rattle.nlri.specs.declared.layout.Layout.{Layout}
+use Rattle.nlri.specs.declared.address.Address.{Address}
+use Rattle.nlri.specs.declared.address.RouteDistinguisher.{RouteDistinguisher}
+use Rattle.nlri.specs.declared.fields.Nlri.{Nlri}
+use Rattle.nlri.specs.declared.fields.NlriReading.{NlriReading}
+use Rattle.nlri.specs.Family.{familyBits}
+use Rattle.nlri.specs.Fields.{Fields}
+use Rattle.nlri.specs.Reading.{laidSingle, fieldsOf, readNlri}
+use Rattle.nlri.specs.Layouts.{layoutOf, layoutAt, layoutSingle}
+use Rattle.nlri.specs.Answers.{nlriStruct, keySpan, nlriAnswer}
+use Rattle.nlri.specs.Inner.{withSourceAs, sourceStart, fieldsAt, keyAt, LayoutWithin, endsWith, single}
+use Rattle.nlri.proofs.Definitions.Lengths.{family-octets}
+use Rattle.octets.proofs.Lists.{part-length}
+use Rattle.nlri.proofs.Functions.Shapes.{shaped}
+
+pub single-laid : (bits : ℕ) (s : List ℕ) → single bits s ≡ andThen (laidSingle bits s) (λ laid. given (layoutOf laid))
+unfolding single endsWith layoutAt laidSingle layoutOf
+single-laid bits s =
+    and-assoc _ _ _ ∙ and-cong _ _ _ (λ laid e. and-given _ _ ∙ sym (and-pick _ _ _ _ ∙ ap₂ (pick _) (and-given _ _) (and-refused _ _))) ∙ sym (and-assoc _ _ _)
+
+pub single-is : (o : Outcome Layout) (afi : ℕ) (s : List ℕ) → o ≡ andThen (familyBits afi) (λ bits. single bits s) → o ≡ layoutSingle afi s
+unfolding layoutSingle
+single-is o afi s e = e ∙ and-cong _ _ _ (λ bits q. single-laid bits s)
+
+module _ (afi : ℕ) (s : List ℕ) where
+  -- the fields are those that the layout says, and they lie within the NLRI
+  pub read-by-layout : (l : Layout) → layoutSingle afi s ≡ given l → (readNlri afi s ≡ given (fieldsAt l s)) × LayoutWithin l s
+  unfolding layoutSingle readNlri
+  read-by-layout l e =
+      let f = passed _ _ _ e in
+      let w = passed _ _ _ (f .second) in
+      let same : layoutOf (w .value) ≡ l = given-same (w .second) in
+      let shape = shaped (f .value) s (w .value) (omega (arith, family-octets afi (f .value) (f .first))) (w .first) in (
+        sym (goes (given (fieldsAt l s)) _ (f .value) _ (f .first) (goes (given (fieldsAt l s)) _ (w .value) _ (w .first) (ap given (ap (λ (x : Layout). fieldsAt x s) (sym same) ∙ sym (shape .fields))))),
+        subst (λ (x : Layout). LayoutWithin x s) same (shape .within),
+      )
+
+  pub read-refused : (n : ℕ) → layoutSingle afi s ≡ refused n → readNlri afi s ≡ refused n
+  unfolding layoutSingle readNlri
+  read-refused n e = refused-alike (familyBits afi) (λ bits. laidSingle bits s) (λ bits laid. layoutOf laid) (λ bits laid. fieldsOf laid s) n e
+
+most : (b : Bool) → pick b 15 11 ≤ 15
+unfolding pick
+most true = omega arith
+most false = omega arith
+
+pub start-most : (type : ℕ) → sourceStart type ≤ 15
+unfolding sourceStart
+start-most type = most (withSourceAs type)
+
+-- a struct by its fields
+pub nlri-same : (d d′ : RouteDistinguisher) (a a′ g g′ o o′ : Address) (x x′ t t′ : ℕ) → d ≡ d′ → a ≡ a′ → g ≡ g′ → o ≡ o′ → x ≡ x′ → t ≡ t′
+    → _≡_ {A = Nlri} (record { distinguisher = d; source = a; group = g; originator = o; «source_as» = x; «route_type» = t }) (record { distinguisher = d′; source = a′; group = g′; originator = o′; «source_as» = x′; «route_type» = t′ })
+nlri-same d d′ a a′ g g′ o o′ x x′ t t′ pd pa pg po px pt = λ i. record { distinguisher = pd i; source = pa i; group = pg i; originator = po i; «source_as» = px i; «route_type» = pt i }
+
+pub key-same : (l : Layout) (s : List ℕ) → 2 + l .key ≤ length s → keyAt l ≡ keySpan (fieldsAt l s)
+unfolding keyAt keySpan fieldsAt
+key-same l s h = λ i. record { start = pick (eqb (l .«route_type») 4) 2 0; size = sym (part-length s 2 (l .key) h) i }
+
+pub answer-given : (afi : ℕ) (s : List ℕ) (f : Fields) (nlri : Nlri) (key : Span) → readNlri afi s ≡ given f → nlri ≡ nlriStruct f → key ≡ keySpan f → record { number = DONE; nlri = nlri; key = key } ≡ nlriAnswer (readNlri afi s)
+unfolding nlriAnswer onOutcome
+answer-given afi s f nlri key e p q = (λ i. record { number = DONE; nlri = p i; key = q i }) ∙ ap nlriAnswer (sym e)
+
+pub answer-refused : (r : NlriReading) (afi : ℕ) (s : List ℕ) (n : ℕ) → r ≡ nlriAnswer (refused n) → readNlri afi s ≡ refused n → r ≡ nlriAnswer (readNlri afi s)
+answer-refused r afi s n p e = p ∙ ap nlriAnswer (sym e)

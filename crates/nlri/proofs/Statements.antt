@@ -1,0 +1,11 @@
+-- Proofs of what specs/Statements.antt states.
+pub mod Acceptance
+pub mod RoundTrips
+pub mod Faults
+pub mod ReadRefusals
+pub mod WriteRefusals
+pub mod Layouts
+pub mod StepCases
+pub mod Walks
+pub mod Apart
+pub mod Classes

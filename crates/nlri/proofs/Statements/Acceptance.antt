@@ -1,0 +1,162 @@
+-- Reading accepts exactly the encodings of well-formed fields (document 01, "NLRI on the wire").
+use mathlib.Core.Path.{_≡_, refl, sym, _∙_, ap, subst}
+use mathlib.Core.Bool.{Bool, true, false}
+use mathlib.Core.List.{List, [], _∷_, _++_, append-nil}
+use Prim.Native.Nat.{ℕ, suc, _+_, _*_, _/_, _-_, _^_, _≤_, _<_}
+use native.Mathlib.Omega.{arith}
+use borrow.Author.Tests.{eqb-true, eq-eqb}
+use lib.ListN.{length, take, drop, take-append-drop}
+use lib.Seq.{take-all}
+use Rattle.octets.specs.Choice.{pick, either}
+use Rattle.octets.specs.Outcome.{given, andThen}
+use Rattle.octets.specs.Octets.{AllOctets, part, numberIn, bigEndian}
+use Rattle.octets.proofs.Choice.{pick-true, opposite}
+use Rattle.octets.proofs.Outcome.{goes, given-unless, passed, given-same}
+use Rattle.octets.proofs.NetworkOrder.{number-of-big-endian}
+use Rattle.nlri.specs.Family.{familyBits}
+use Rattle.nlri.specs.Bodies.{FieldKind, distinguisher, sourceAs, source, group, originator, key, bodyOf, fieldIn, sameKind, hasField}
+use Rattle.nlri.specs.Fields.{Fields, encodeAddress, encodeField, encodeBody, encodeNlri, WellFormedField, WellFormedBody, WellFormed, KeyOf, restricted}
+use Rattle.nlri.specs.Reading.{Laid, keyField, laidAt, laidSingle, cut, fieldsOf, readNlri}
+use Rattle.nlri.specs.Statements.{ReadAs, Acceptance}
+use Rattle.nlri.proofs.Definitions.FieldRecords.{fields-same}
+use Rattle.nlri.proofs.Definitions.Table.{RowOf, rowOf, known, mostIn, field-of-map, lacks, same-kind}
+use Rattle.nlri.proofs.Definitions.Judged.{fieldsFrom}
+use Rattle.nlri.proofs.Definitions.Lengths.{family-octets}
+use Rattle.nlri.proofs.Functions.Shapes.{whole-part}
+use Rattle.nlri.proofs.Definitions.Whole.{piecesOf, sizesIn, laidOf, cut-body, laid-out, fieldsAt, laid-sound, laid-complete, nlri-octets}
+use Rattle.nlri.proofs.Definitions.Keys.{key-judges, key-octets}
+
+-- what is nothing where a test fails
+pick-none : {A : Type 0} (b : Bool) (x none : A) → (b ≡ false → x ≡ none) → pick b x none ≡ x
+unfolding pick
+pick-none true x none h = refl
+pick-none false x none h = sym (h refl)
+
+-- fields from pieces along a body have nothing where the body lacks the kind
+restricted-from : (type : ℕ) (body : List FieldKind) (pieces : List (List ℕ)) → body ≡ bodyOf type
+    → restricted (fieldsFrom type (λ kind. fieldIn [] kind body pieces)) ≡ fieldsFrom type (λ kind. fieldIn [] kind body pieces)
+unfolding restricted numberIn
+restricted-from type body pieces e =
+    let none : (kind : FieldKind) → hasField kind (bodyOf type) ≡ false → fieldIn [] kind body pieces ≡ [] = λ kind h. lacks [] kind body pieces (ap (hasField kind) e ∙ h) in
+    fields-same refl (pick-none _ _ _ (none distinguisher)) (pick-none _ _ _ (λ h. ap (λ (x : List ℕ). numberIn x 0) (none sourceAs h))) (pick-none _ _ _ (λ h. ap (drop 1) (none source h)))
+    (pick-none _ _ _ (λ h. ap (drop 1) (none group h))) (pick-none _ _ _ (none originator)) (pick-none _ _ _ (none key))
+
+-- a field of a well-formed body
+pub field-in-body : (Key : List ℕ → Type 0) (bits : ℕ) (f : Fields) (kind : FieldKind) (body : List FieldKind) → WellFormedBody Key bits f body → hasField kind body ≡ true → WellFormedField Key bits f kind
+unfolding hasField either
+field-in-body Key bits f kind [] w h = absurd (opposite h refl)
+field-in-body Key bits f kind (k ∷ body) w h = go (sameKind kind k) refl h (λ later. field-in-body Key bits f kind body (w .1) later)
+  where
+    go : (b : Bool) → sameKind kind k ≡ b → either b (hasField kind body) ≡ true → (hasField kind body ≡ true → WellFormedField Key bits f kind) → WellFormedField Key bits f kind
+    go true same h later = subst (WellFormedField Key bits f) (sym (same-kind kind k same)) (w .0)
+    go false other h later = later h
+
+-- a number in four octets, where the body has it
+number-pick : (b : Bool) (x : ℕ) → (b ≡ true → x < 2 ^ 32) → numberIn (pick b (bigEndian 4 x) []) 0 ≡ pick b x 0
+unfolding pick numberIn
+number-pick true x h = number-of-big-endian 4 x (h refl)
+number-pick false x h = refl
+
+drop-pick-address : (b : Bool) (x : List ℕ) → drop 1 (pick b (encodeAddress x) []) ≡ pick b x []
+unfolding pick encodeAddress
+drop-pick-address true x = refl
+drop-pick-address false x = refl
+
+-- the fields that the pieces of an encoding give
+fields-encoded : (Key : List ℕ → Type 0) (bits : ℕ) (f : Fields) → WellFormedBody Key bits f (bodyOf (f .type))
+    → fieldsFrom (f .type) (λ kind. fieldIn [] kind (bodyOf (f .type)) (piecesOf f (bodyOf (f .type)))) ≡ restricted f
+unfolding restricted encodeField
+fields-encoded Key bits f w =
+    let body : List FieldKind = bodyOf (f .type) in
+    let at : (kind : FieldKind) → fieldIn [] kind body (piecesOf f body) ≡ pick (hasField kind body) (encodeField f kind) [] = λ kind. field-of-map [] (encodeField f) kind body in
+    fields-same refl (at distinguisher) (ap (λ (x : List ℕ). numberIn x 0) (at sourceAs) ∙ number-pick _ _ (field-in-body Key bits f sourceAs body w))
+    (ap (drop 1) (at source) ∙ drop-pick-address _ _) (ap (drop 1) (at group) ∙ drop-pick-address _ _) (at originator) (at key)
+
+-- an NLRI at the front of octets: well-formed fields that stand encoded there
+pub record Front (bits : ℕ) (s : List ℕ) (laid : Laid) : Type 0 where
+  pub fields : Fields
+  pub wellFormed : WellFormed bits fields
+  pub is : s ≡ encodeNlri fields ++ drop (2 + laid .size) s
+
+module _ (afi bits : ℕ) (ofFamily : familyBits afi ≡ given bits) where
+  whole : 8 * (bits / 8) ≡ bits
+  whole = family-octets afi bits ofFamily .0
+
+  pub front-sound : (s : List ℕ) (laid : Laid) → AllOctets s → laidAt bits s ≡ given laid → Front bits s laid
+  unfolding laidAt
+  front-sound s laid a e =
+      let o = laid-out (keyField bits) bits s laid e in
+      let r = laid-sound (keyField bits) (KeyOf bits) (key-judges bits whole) bits whole s laid a e in
+      record {
+        fields = fieldsAt (keyField bits) (KeyOf bits) (key-judges bits whole) bits whole s laid;
+        wellFormed = record { typed = (o .row .low, o .row .high); body = r .0 };
+        is = sym (take-append-drop (2 + laid .size) s) ∙ ap (λ (x : List ℕ). x ++ drop (2 + laid .size) s) (r .1);
+      }
+
+  single-sound : (s : List ℕ) (laid : Laid) → AllOctets s → laidSingle bits s ≡ given laid → ReadAs afi s (fieldsOf laid s)
+  unfolding laidSingle laidAt fieldsOf part
+  single-sound s laid a e =
+      let p = passed _ _ _ e in
+      let q = given-unless _ _ _ _ (p .second) in
+      let same : p .value ≡ laid = given-same (q .1) in
+      let first : laidAt bits s ≡ given laid = p .first ∙ ap given same in
+      let size : length s - 2 ≡ laid .size = eqb-true _ _ (q .0) ∙ ap (λ (x : Laid). x .size) same in
+      let o = laid-out (keyField bits) bits s laid first in
+      let r = laid-sound (keyField bits) (KeyOf bits) (key-judges bits whole) bits whole s laid a first in
+      let rest : part s 2 (laid .size) ≡ drop 2 s = whole-part s (laid .size) size in
+      let fields : fieldsAt (keyField bits) (KeyOf bits) (key-judges bits whole) bits whole s laid ≡ fieldsOf laid s =
+      ap (λ (x : List ℕ). fieldsFrom (laid .type) (λ kind. fieldIn [] kind (laid .body) (cut (laid .sizes) x))) rest in
+      let all : take (2 + laid .size) s ≡ s = take-all (2 + laid .size) s (omega (arith, o .enough)) in
+      record {
+        bits = bits;
+        ofFamily = ofFamily;
+        wellFormed = record { typed = (o .row .low, o .row .high); body = subst (λ (f : Fields). WellFormedBody (KeyOf bits) bits f (bodyOf (laid .type))) fields (r .0) };
+        whole = restricted-from (laid .type) (laid .body) _ (o .body);
+        encoded = sym all ∙ r .1 ∙ ap encodeNlri fields;
+      }
+
+  -- the encoding of well-formed fields lies as these say
+  pub laid-single : (f : Fields) → WellFormed bits f → laidSingle bits (encodeNlri f) ≡ given (laidOf f)
+  unfolding laidSingle laidAt encodeNlri
+  laid-single f w =
+      let body : List FieldKind = bodyOf (f .type) in
+      let laid : laidAt bits (encodeNlri f) ≡ given (laidOf f) =
+      ap (laidAt bits) (sym (append-nil (encodeNlri f))) ∙ laid-complete (keyField bits) (KeyOf bits) (key-judges bits whole) bits whole f [] (w .typed) (w .body) in
+      sym (goes _ _ _ _ laid (sym (pick-true _ _ _ (eq-eqb (suc (suc (length (encodeBody f body))) - 2) (length (encodeBody f body)) (omega arith)))))
+
+  single-encoded : (f : Fields) → WellFormed bits f → andThen (laidSingle bits (encodeNlri f)) (λ laid. given (fieldsOf laid (encodeNlri f))) ≡ given (restricted f)
+  unfolding fieldsOf encodeNlri
+  single-encoded f w =
+      let body : List FieldKind = bodyOf (f .type) in
+      let cuts : cut (sizesIn f body) (encodeBody f body) ≡ piecesOf f body = ap (cut (sizesIn f body)) (sym (append-nil (encodeBody f body))) ∙ cut-body f body [] in
+      sym (goes _ _ _ _ (laid-single f w) (ap given (sym (ap (λ (x : List (List ℕ)). fieldsFrom (f .type) (λ kind. fieldIn [] kind body x)) cuts ∙ fields-encoded (KeyOf bits) bits f (w .body)))))
+
+  octets-encoded : (f : Fields) → WellFormed bits f → (most : ℕ) → mostIn 60 (bodyOf (f .type)) ≤ most → most < 256 → (length (encodeNlri f) ≤ 2 + most) × AllOctets (encodeNlri f)
+  octets-encoded f w most within fits =
+      let small = family-octets afi bits ofFamily .1 in
+      nlri-octets (keyField bits) (KeyOf bits) (key-judges bits whole) bits whole 60 (key-octets bits whole small) small f (w .typed) (w .body) most within fits
+
+  row-encoded : (f : Fields) → WellFormed bits f → RowOf (f .type)
+  row-encoded f w = rowOf (f .type) (known (f .type) (w .typed .0) (w .typed .1))
+
+pub read-sound : (afi : ℕ) (s : List ℕ) (f : Fields) → AllOctets s → readNlri afi s ≡ given f → ReadAs afi s f
+unfolding readNlri
+read-sound afi s f a e =
+    let p = passed _ _ _ e in
+    let q = passed _ _ _ (p .second) in
+    subst (ReadAs afi s) (given-same (q .second)) (single-sound afi (p .value) (p .first) s (q .value) a (q .first))
+
+pub read-encoded : (afi bits : ℕ) (f : Fields) → familyBits afi ≡ given bits → WellFormed bits f → readNlri afi (encodeNlri f) ≡ given (restricted f)
+unfolding readNlri
+read-encoded afi bits f ofFamily w = sym (goes _ _ _ _ ofFamily (sym (single-encoded afi bits ofFamily f w)))
+
+pub acceptance : Acceptance
+acceptance =
+    record {
+      exactly = λ afi s f a. (read-sound afi s f a, λ r. ap (readNlri afi) (r .encoded) ∙ read-encoded afi (r .bits) f (r .ofFamily) (r .wellFormed) ∙ ap given (r .whole));
+      encoded = read-encoded;
+      octets = λ afi bits f ofFamily w. octets-encoded afi bits ofFamily f w 76 (row-encoded afi bits ofFamily f w .most) (omega arith) .1;
+      most = λ afi bits f ofFamily w. octets-encoded afi bits ofFamily f w 76 (row-encoded afi bits ofFamily f w .most) (omega arith) .0;
+      plain = λ afi bits f ofFamily w other. octets-encoded afi bits ofFamily f w 58 (row-encoded afi bits ofFamily f w .plain other .1) (omega arith) .0;
+      same = λ afi bits f g ofFamily w v e. given-same (sym (read-encoded afi bits f ofFamily w) ∙ ap (readNlri afi) e ∙ read-encoded afi bits g ofFamily v);
+    }

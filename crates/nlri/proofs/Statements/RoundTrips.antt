@@ -1,0 +1,160 @@
+-- Reading and writing undo each other.
+use mathlib.Core.Path.{_≡_, refl, sym, _∙_, ap, subst}
+use mathlib.Core.Bool.{Bool, true, false}
+use mathlib.Core.List.{List, [], _++_}
+use Prim.Native.Nat.{ℕ, _^_, _≤_, _<_}
+use native.Mathlib.Omega.{arith}
+use borrow.Author.Tests.{le-ltb, eqb-true, eqb-false}
+use lib.ListN.{length, take, drop}
+use lib.Seq.{take-append-seam}
+use lib.Dec.{eqb}
+use Rattle.octets.specs.Numbers.{DONE}
+use Rattle.octets.specs.Choice.{pick}
+use Rattle.octets.specs.Outcome.{Outcome, given, refused, onOutcome}
+use Rattle.octets.specs.Octets.{AllOctets, none, part}
+use Rattle.octets.proofs.Choice.{pick-cong, pick-true, pick-false}
+use Rattle.octets.proofs.Outcome.{passed}
+use Rattle.octets.proofs.AllOctets.{octets-sized}
+use Rattle.octets.proofs.Lists.{sized-same, sized-back}
+use Rattle.nlri.specs.Family.{familyBits}
+use Rattle.nlri.specs.Bodies.{FieldKind, distinguisher, sourceAs, source, group, originator, key, bodies, onBody, bodyOf, hasField}
+use Rattle.nlri.specs.Fields.{Fields, encodeField, encodeBody, encodeNlri, WellFormedField, WellFormed, KeyOf, restricted}
+use Rattle.nlri.specs.Reading.{readNlri}
+use Rattle.nlri.specs.Writing.{writeNlri}
+use Rattle.nlri.specs.Answers.{addressStruct, distinguisherStruct, addressOctets, nlriStruct, structFields, keySpan, nlriAnswer}
+use Rattle.nlri.specs.declared.fields.Nlri.{Nlri}
+use Rattle.nlri.specs.Statements.{ReadAs, HoldsOctets, StructHoldsOctets, RoundTrips}
+use Rattle.nlri.proofs.Definitions.Table.{rowOf, known}
+use Rattle.nlri.proofs.Definitions.Keys.{key-octets}
+use Rattle.nlri.proofs.Statements.ReadRefusals.{readRefusals, refusal-not-done}
+use Rattle.nlri.proofs.Definitions.Lengths.{address-most, originator-most, family-octets}
+use Rattle.nlri.proofs.Statements.Acceptance.{field-in-body, read-sound, read-encoded}
+use Rattle.nlri.proofs.Definitions.FieldRecords.{fields-same}
+use Rattle.nlri.proofs.Definitions.Writes.{write-is, write-well, write-restricted, written}
+
+write-read : (afi : ℕ) (s : List ℕ) (f : Fields) (space : ℕ) → AllOctets s → readNlri afi s ≡ given f → length s ≤ space → writeNlri afi f space ≡ given s
+write-read afi s f space a e room =
+    let r = read-sound afi s f a e in
+    let len : length (encodeNlri f) ≤ space = omega (arith, ap length (r .encoded)) in
+    write-well afi (r .bits) (r .ofFamily) f space (r .wellFormed) ∙ pick-false _ _ _ (le-ltb space (length (encodeNlri f)) len) ∙ ap given (sym (r .encoded))
+
+read-written : (afi : ℕ) (f : Fields) (space : ℕ) (e : List ℕ) → HoldsOctets f → writeNlri afi f space ≡ given e → readNlri afi e ≡ given (restricted f)
+read-written afi f space e held w =
+    let p = passed _ _ _ (sym (write-is afi f space) ∙ w) in
+    let r = written afi (p .value) (p .first) f held space e w in
+    ap (readNlri afi) (sym (r .1)) ∙ read-encoded afi (p .value) f (p .first) (r .0)
+
+-- what a field that the type has holds of octets, a field that is nothing where the type lacks it holds too
+octets-pick : (b : Bool) (x : List ℕ) → pick b x [] ≡ x → (b ≡ true → AllOctets x) → AllOctets x
+unfolding pick
+octets-pick true x e h = h refl
+octets-pick false x e h = subst AllOctets e none
+
+below-pick : (b : Bool) (x : ℕ) → pick b x 0 ≡ x → (b ≡ true → x < 2 ^ 32) → x < 2 ^ 32
+unfolding pick
+below-pick true x e h = h refl
+below-pick false x e h = omega arith
+
+held-read : (afi : ℕ) (s : List ℕ) (f : Fields) → AllOctets s → readNlri afi s ≡ given f → HoldsOctets f
+unfolding restricted
+held-read afi s f a e =
+    let r = read-sound afi s f a e in
+    let body : List FieldKind = bodyOf (f .type) in
+    let small : r .bits ≤ 128 = family-octets afi (r .bits) (r .ofFamily) .1 in
+    let at : (k : FieldKind) → hasField k body ≡ true → WellFormedField (KeyOf (r .bits)) (r .bits) f k = λ k h. field-in-body (KeyOf (r .bits)) (r .bits) f k body (r .wellFormed .body) h in
+    record {
+      distinguisherSize = λ h. at distinguisher h .0;
+      distinguisher = octets-pick _ _ (ap (λ (g : Fields). g .distinguisher) (r .whole)) (λ h. at distinguisher h .1);
+      sourceAs = below-pick _ _ (ap (λ (g : Fields). g .sourceAs) (r .whole)) (at sourceAs);
+      source = octets-pick _ _ (ap (λ (g : Fields). g .source) (r .whole)) (λ h. at source h .1);
+      group = octets-pick _ _ (ap (λ (g : Fields). g .group) (r .whole)) (λ h. at group h .1);
+      originator = octets-pick _ _ (ap (λ (g : Fields). g .originator) (r .whole)) (λ h. at originator h .1);
+      key = octets-pick _ _ (ap (λ (g : Fields). g .key) (r .whole)) (λ h. key-octets (r .bits) (family-octets afi (r .bits) (r .ofFamily) .0) small (f .key) (at key h) .1);
+    }
+
+-- an address as a struct, and back
+octets-address-struct : (x : List ℕ) → length x ≤ 16 → addressOctets (addressStruct x) ≡ x
+unfolding addressOctets addressStruct
+octets-address-struct x h = sized-back 16 x h
+
+fields-struct : (afi bits : ℕ) (f : Fields) → familyBits afi ≡ given bits → WellFormed bits f → restricted f ≡ f → restricted (structFields (nlriStruct f) (f .key)) ≡ f
+unfolding restricted structFields nlriStruct distinguisherStruct
+fields-struct afi bits f ofFamily w whole =
+    let body : List FieldKind = bodyOf (f .type) in
+    let small : bits ≤ 128 = family-octets afi bits ofFamily .1 in
+    let at : (k : FieldKind) → hasField k body ≡ true → WellFormedField (KeyOf bits) bits f k = λ k h. field-in-body (KeyOf bits) bits f k body (w .body) h in
+    fields-same refl
+    (pick-cong _ _ _ _ _ (λ h. sized-same 8 (f .distinguisher) (at distinguisher h .0)) (λ _. refl))
+    refl
+    (pick-cong _ _ _ _ _ (λ h. octets-address-struct (f .source) (omega (arith, address-most bits (f .type) (f .source) small (at source h .0)))) (λ _. refl))
+    (pick-cong _ _ _ _ _ (λ h. octets-address-struct (f .group) (omega (arith, address-most bits (f .type) (f .group) small (at group h .0)))) (λ _. refl))
+    (pick-cong _ _ _ _ _ (λ h. octets-address-struct (f .originator) (originator-most (length (f .originator)) (at originator h .0))) (λ _. refl))
+    refl
+    ∙ whole
+
+fields-struct-read : (afi : ℕ) (s : List ℕ) (f : Fields) → AllOctets s → readNlri afi s ≡ given f → restricted (structFields (nlriStruct f) (f .key)) ≡ f
+fields-struct-read afi s f a e = let r = read-sound afi s f a e in fields-struct afi (r .bits) f (r .ofFamily) (r .wellFormed) (r .whole)
+
+write-struct : (afi : ℕ) (s : List ℕ) (f : Fields) (space : ℕ) → AllOctets s → readNlri afi s ≡ given f → length s ≤ space → writeNlri afi (structFields (nlriStruct f) (f .key)) space ≡ given s
+write-struct afi s f space a e room =
+    sym (write-restricted afi (structFields (nlriStruct f) (f .key)) space) ∙ ap (λ (g : Fields). writeNlri afi g space) (fields-struct-read afi s f a e) ∙ write-read afi s f space a e room
+
+held-struct : (nlri : Nlri) (octets : List ℕ) → StructHoldsOctets nlri → AllOctets octets → HoldsOctets (structFields nlri octets)
+unfolding structFields addressOctets
+held-struct nlri octets h k =
+    record {
+      distinguisherSize = λ _. h .distinguisher .0;
+      distinguisher = h .distinguisher .1;
+      sourceAs = h .sourceAs;
+      source = octets-sized _ (h .source);
+      group = octets-sized _ (h .group);
+      originator = octets-sized _ (h .originator);
+      key = k;
+    }
+
+take-none : (x y : List ℕ) → x ≡ [] → take (length x) y ≡ x
+take-none x y e = rw e
+
+encode-leaf : (f : Fields) → f .type ≡ 4 → encodeBody f (bodyOf (f .type)) ≡ f .key ++ (f .originator ++ [])
+unfolding encodeBody encodeField bodyOf bodies onBody pick
+encode-leaf f e = ap (λ (n : ℕ). encodeBody f (bodyOf n)) e
+
+part-key-span : (afi : ℕ) (s : List ℕ) (f : Fields) → AllOctets s → readNlri afi s ≡ given f → part s (keySpan f .start) (keySpan f .size) ≡ f .key
+unfolding part keySpan restricted encodeNlri
+part-key-span afi s f a e = go (eqb (f .type) 4) refl
+  where
+    r : ReadAs afi s f
+    r = read-sound afi s f a e
+
+    go : (b : Bool) → eqb (f .type) 4 ≡ b → take (length (f .key)) (drop (pick (eqb (f .type) 4) 2 0) s) ≡ f .key
+    go true leaf =
+        ap (λ (n : ℕ). take (length (f .key)) (drop n s)) (pick-true _ _ _ leaf) ∙ ap (λ (x : List ℕ). take (length (f .key)) (drop 2 x)) (r .encoded)
+        ∙ ap (take (length (f .key))) (encode-leaf f (eqb-true _ _ leaf)) ∙ take-append-seam (f .key) (f .originator ++ [])
+    go false other =
+        let row = rowOf (f .type) (known (f .type) (r .wellFormed .typed .0) (r .wellFormed .typed .1)) in
+        take-none (f .key) _ (ap (λ (g : Fields). g .key) (sym (r .whole)) ∙ pick-false _ _ _ (row .plain (eqb-false _ _ other) .0))
+
+-- what the call of reading answers where it is DONE
+answered : (afi : ℕ) (s : List ℕ) (space : ℕ) → AllOctets s → nlriAnswer (readNlri afi s) .number ≡ DONE → length s ≤ space
+    → writeNlri afi (structFields (nlriAnswer (readNlri afi s) .nlri) (part s (nlriAnswer (readNlri afi s) .key .start) (nlriAnswer (readNlri afi s) .key .size))) space ≡ given s
+unfolding nlriAnswer onOutcome
+answered afi s space a done room = go (readNlri afi s) refl done
+  where
+    go : (o : Outcome Fields) → readNlri afi s ≡ o → nlriAnswer o .number ≡ DONE
+        → writeNlri afi (structFields (nlriAnswer o .nlri) (part s (nlriAnswer o .key .start) (nlriAnswer o .key .size))) space ≡ given s
+    go (given f) e done = ap (λ (k : List ℕ). writeNlri afi (structFields (nlriStruct f) k) space) (part-key-span afi s f a e) ∙ write-struct afi s f space a e room
+    go (refused n) e done = absurd (refusal-not-done afi s n (readRefusals .exactly afi s n a .0 e) done)
+
+pub roundTrips : RoundTrips
+roundTrips =
+    record {
+      written = write-read;
+      read = read-written;
+      held = held-read;
+      unseen = write-restricted;
+      struct = fields-struct-read;
+      spanned = part-key-span;
+      structWritten = write-struct;
+      answered = answered;
+      structRead = λ afi nlri octets space e h k w. read-written afi (structFields nlri octets) space e (held-struct nlri octets h k) w;
+    }

@@ -1,0 +1,22 @@
+-- Laws of document 01's definitions.
+pub mod Lookups
+pub mod SPmsi
+pub mod Lowest
+pub mod Conditions
+pub mod First
+pub mod MatchSame
+pub mod OnePass
+pub mod Flows
+pub mod Bounds
+pub mod Places
+pub mod Headers
+pub mod ByArguments
+pub mod Holding
+pub mod Distincts
+pub mod Chosen
+pub mod Named
+pub mod Ownership
+pub mod Acts
+pub mod Books
+pub mod AllBooks
+pub mod ByOwner

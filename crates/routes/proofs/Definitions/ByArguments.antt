@@ -1,0 +1,69 @@
+-- The numbers by which arguments and the family are refused: none is DONE, TABLE, ROOM or ABSENT, which the table decides.
+use Prim.Native.Nat.{ℕ}
+use mathlib.Core.Path.{_≡_}
+use mathlib.Core.List.{List, [], _∷_}
+use native.Mathlib.Omega.{arith}
+use Rattle.octets.specs.Numbers.{DONE, TUNNEL, TABLE, ROOM, ABSENT}
+use Rattle.octets.specs.Outcome.{refused}
+use Rattle.octets.proofs.Outcome.{Refuses, value, number, refuses-pick, refuses-then, refuses-by, refuses-also}
+use Rattle.nlri.specs.Groups.{classUnder}
+use Rattle.nlri.proofs.Definitions.ReadNumbers.{ByReading, family-refuses, nlri-refuses}
+use Rattle.tunnel.specs.Attribute.{readAttribute}
+use Rattle.tunnel.specs.Identifier.{TableRow, identifierForms, formIn, formOf, readIdentifier}
+use Rattle.routes.specs.Arguments.{readSPmsi, readLabelled, readRoute, readFlow, readMatch}
+use Rattle.routes.specs.Call.{Call, install, withdraw, match, argued}
+
+-- a number that the table does not decide
+abbrev pub ByArguments : ℕ → Type 0
+ByArguments n = (n ≡ DONE → ⊥) × (n ≡ TABLE → ⊥) × (n ≡ ROOM → ⊥) × (n ≡ ABSENT → ⊥)
+
+by-reading : (n : ℕ) → ByReading n → ByArguments n
+by-reading n h = omega arith
+
+s-pmsi-argued : (afi : ℕ) (nlri : List ℕ) → Refuses ByArguments (readSPmsi afi nlri)
+unfolding readSPmsi
+s-pmsi-argued afi nlri = refuses-then _ _ (refuses-also by-reading (nlri-refuses afi nlri)) (λ f. refuses-pick _ _ _ value (number (omega arith)))
+
+form-argued : (rows : List TableRow) (type : ℕ) → Refuses ByArguments (formIn rows type)
+unfolding formIn
+form-argued [] type = number {n = TUNNEL} (omega arith)
+form-argued (r ∷ rows) type = refuses-pick _ _ _ value (form-argued rows type)
+
+attribute-argued : (s : List ℕ) → Refuses ByArguments (readAttribute s)
+unfolding readAttribute readIdentifier formOf
+attribute-argued s =
+    refuses-pick _ _ _ (number (omega arith))
+    (refuses-pick _ _ _ (number (omega arith)) (refuses-then _ _ (refuses-then _ _ (form-argued identifierForms _) (λ form. refuses-pick _ _ _ value (number (omega arith)))) (λ i. value)))
+
+route-argued : (afi : ℕ) (nlri attribute : List ℕ) → Refuses ByArguments (readRoute afi nlri attribute)
+unfolding readRoute readLabelled
+route-argued afi nlri attribute =
+    refuses-then _ _ (s-pmsi-argued afi nlri)
+    (λ f. refuses-then _ _ (refuses-then _ _ (attribute-argued attribute) (λ g. refuses-pick _ _ _ (number (omega arith)) value)) (λ g. value))
+
+class-argued : (bits : ℕ) (g : List ℕ) → Refuses ByArguments (classUnder bits g)
+unfolding classUnder
+class-argued bits g = refuses-pick _ _ _ (refuses-pick _ _ _ (refuses-pick _ _ _ value value) (number (omega arith))) (number (omega arith))
+
+match-argued : (afi : ℕ) (router source group output : List ℕ) → Refuses ByArguments (readMatch afi router source group output)
+unfolding readMatch readFlow
+match-argued afi router source group output =
+    refuses-then _ _
+    (refuses-then _ _ (refuses-also by-reading (family-refuses afi))
+    (λ bits. refuses-pick _ _ _ (refuses-pick _ _ _ (refuses-then _ _ (class-argued bits group) (λ class. value)) (number (omega arith))) (number (omega arith))))
+    (λ query. refuses-pick _ _ _ (number (omega arith)) value)
+
+pub s-pmsi-number : (afi : ℕ) (nlri : List ℕ) (n : ℕ) → readSPmsi afi nlri ≡ refused n → ByArguments n
+s-pmsi-number afi nlri n e = refuses-by _ n (s-pmsi-argued afi nlri) e
+
+pub route-number : (afi : ℕ) (nlri attribute : List ℕ) (n : ℕ) → readRoute afi nlri attribute ≡ refused n → ByArguments n
+route-number afi nlri attribute n e = refuses-by _ n (route-argued afi nlri attribute) e
+
+argued-refuses : (afi : ℕ) (c : Call) → Refuses ByArguments (argued afi c)
+unfolding argued
+argued-refuses afi (install nlri attribute) = refuses-then _ _ (route-argued afi nlri attribute) (λ r. value)
+argued-refuses afi (withdraw nlri) = refuses-then _ _ (s-pmsi-argued afi nlri) (λ f. value)
+argued-refuses afi (match router source group output) = refuses-then _ _ (match-argued afi router source group output) (λ q. value)
+
+pub argued-number : (afi : ℕ) (c : Call) (n : ℕ) → argued afi c ≡ refused n → ByArguments n
+argued-number afi c n e = refuses-by _ n (argued-refuses afi c) e

@@ -1,0 +1,131 @@
+-- The flows that a match takes (document 01, "The numbers a call gives back", FLOW).
+use Prim.Native.Nat.{ℕ, _*_, _≤_}
+use mathlib.Core.Path.{_≡_, refl, sym, _∙_, ap, subst}
+use mathlib.Core.List.{List}
+use mathlib.Core.Logic.{_↔_, _⊎_, inl, inr, ⊎-elim}
+use native.Mathlib.Omega.{arith}
+use lib.ListN.{length, getD}
+use borrow.Author.Tests.{eqb-true, eq-eqb}
+use Rattle.octets.specs.Numbers.{FLOW}
+use Rattle.octets.specs.Outcome.{given, refused}
+use Rattle.octets.proofs.Choice.{pick-true, picked}
+use Rattle.octets.proofs.Outcome.{never, given-unless, passed, given-same, stopped, refused-same, outcome, goes}
+use Rattle.nlri.specs.Family.{familyBits}
+use Rattle.nlri.specs.Groups.{ASM, SSM, classUnder, classOf}
+use Rattle.nlri.specs.Statements.{Multicast, SourceSpecific, GroupRefusal, badFamily, badGroup}
+use Rattle.nlri.proofs.Theorems.{lengths, groupRule}
+use Rattle.nlri.proofs.Definitions.Lengths.{family-good}
+use Rattle.routes.specs.Arguments.{Query, readFlow}
+use Rattle.routes.specs.ArgumentRules.{KnownFamily, GoodFlow}
+
+pub class-under : (afi bits : ℕ) (g : List ℕ) → familyBits afi ≡ given bits → classUnder bits g ≡ classOf afi g
+unfolding classOf
+class-under afi bits g ofFamily = goes _ _ _ _ ofFamily refl
+
+-- a class is SSM or ASM, or refused with FLOW
+class-given : (bits class : ℕ) (g : List ℕ) → classUnder bits g ≡ given class → (class ≡ SSM) ⊎ (class ≡ ASM)
+unfolding classUnder
+class-given bits class g e =
+    let p = given-unless _ _ _ _ (given-unless _ _ _ _ e .1) in
+    ⊎-elim (λ s. inl (sym (given-same (s .1)))) (λ a. inr (sym (given-same (a .1)))) (picked _ _ _ _ (p .1))
+
+class-refused : (bits n : ℕ) (g : List ℕ) → classUnder bits g ≡ refused n → n ≡ FLOW
+unfolding classUnder
+class-refused bits n g e =
+    ⊎-elim
+    (λ sized. ⊎-elim (λ multi. ⊎-elim (λ s. absurd (never refl (s .1))) (λ a. absurd (never refl (a .1))) (picked _ _ _ _ (multi .1))) (λ other. sym (refused-same {A = ℕ} (other .1))) (picked _ _ _ _ (sized .1)))
+    (λ other. sym (refused-same {A = ℕ} (other .1)))
+    (picked _ _ _ _ e)
+
+specific-multicast : {afi : ℕ} {g : List ℕ} → SourceSpecific afi g → Multicast afi g
+specific-multicast (SourceSpecific.ipv4 {g} l h) = let low : 224 ≤ getD g 0 0 = omega arith in let high : getD g 0 0 ≤ 239 = omega arith in Multicast.ipv4 l low high
+specific-multicast (SourceSpecific.ipv6 l h h₁ h₂ h₃) = Multicast.ipv6 l h
+
+-- what a group's class says
+record Classed (afi : ℕ) (g : List ℕ) (class : ℕ) : Type 0 where
+  multicast : Multicast afi g
+  specific : (class ≡ SSM) ↔ SourceSpecific afi g
+  other : (class ≡ ASM) ↔ (SourceSpecific afi g → ⊥)
+
+classed : (afi : ℕ) (g : List ℕ) (class : ℕ) → classOf afi g ≡ given class → (class ≡ SSM) ⊎ (class ≡ ASM) → Classed afi g class
+classed afi g class e k =
+    let of-ssm : class ≡ SSM → SourceSpecific afi g = λ s. groupRule .ssm afi g .0 (e ∙ ap given s) in
+    let of-asm : class ≡ ASM → Multicast afi g × (SourceSpecific afi g → ⊥) = λ a. groupRule .asm afi g .0 (e ∙ ap given a) in
+    record {
+      multicast = ⊎-elim (λ s. specific-multicast (of-ssm s)) (λ a. of-asm a .0) k;
+      specific = (of-ssm, λ s. given-same (sym e ∙ groupRule .ssm afi g .1 s));
+      other = (λ a. of-asm a .1, λ n. ⊎-elim (λ s. absurd (n (of-ssm s))) (λ a. a) k);
+    }
+
+-- what a match asks of a flow that it takes
+pub record Asked (afi : ℕ) (router source group : List ℕ) (q : Query) : Type 0 where
+  pub good : GoodFlow afi router source group
+  pub ofRouter : q .router ≡ router
+  pub ofSource : q .source ≡ source
+  pub ofGroup : q .group ≡ group
+  pub specific : (q .class ≡ SSM) ↔ SourceSpecific afi group
+  pub other : (q .class ≡ ASM) ↔ (SourceSpecific afi group → ⊥)
+
+source-sized : (afi bits : ℕ) (source : List ℕ) → familyBits afi ≡ given bits → (8 * length source ≡ bits) ↔ (((afi ≡ 1) × (length source ≡ 4)) ⊎ ((afi ≡ 2) × (length source ≡ 16)))
+source-sized afi bits source ofFamily =
+    ⊎-elim {C = (8 * length source ≡ bits) ↔ (((afi ≡ 1) × (length source ≡ 4)) ⊎ ((afi ≡ 2) × (length source ≡ 16)))}
+    (λ a. (λ h. inl (a .0, omega (arith, a .1)), λ h. ⊎-elim (λ b. omega (arith, a .1, b .1)) (λ b. absurd (omega (arith, a .0, b .0))) h))
+    (λ a. (λ h. inr (a .0, omega (arith, a .1)), λ h. ⊎-elim (λ b. absurd (omega (arith, a .0, b .0))) (λ b. omega (arith, a .1, b .1)) h))
+    (lengths .families afi bits .0 ofFamily)
+
+pub flow-asked : (afi : ℕ) (router source group : List ℕ) (q : Query) → readFlow afi router source group ≡ given q → Asked afi router source group q
+unfolding readFlow
+flow-asked afi router source group q e =
+    let p = passed _ _ _ e in
+    let r = given-unless _ _ _ _ (p .second) in
+    let s = given-unless _ _ _ _ (r .1) in
+    let c = passed _ _ _ (s .1) in
+    let k = classed afi group (c .value) (sym (class-under afi (p .value) group (p .first)) ∙ c .first) (class-given (p .value) (c .value) group (c .first)) in
+    subst (Asked afi router source group) (given-same (c .second))
+    (record {
+      good = record { addressed = lengths .originators (length router) .0 (r .0); sourced = source-sized afi (p .value) source (p .first) .0 (eqb-true _ _ (s .0)); multicast = k .multicast };
+      ofRouter = refl;
+      ofSource = refl;
+      ofGroup = refl;
+      specific = k .specific;
+      other = k .other;
+    })
+
+multicast-taken : {afi : ℕ} {g : List ℕ} {n : ℕ} → GroupRefusal afi g n → Multicast afi g → ⊥
+multicast-taken (badFamily one two) (Multicast.ipv4 l low high) = one refl
+multicast-taken (badFamily one two) (Multicast.ipv6 l h) = two refl
+multicast-taken (badGroup bits ofFamily none) m = none m
+
+multicast-classed : (afi bits : ℕ) (g : List ℕ) → familyBits afi ≡ given bits → Multicast afi g → (class : ℕ) × (classUnder bits g ≡ given class)
+multicast-classed afi bits g ofFamily m =
+    ⊎-elim (λ c. c)
+    (λ n. absurd (multicast-taken (groupRule .refuses afi g (n .0) .0 (sym (class-under afi bits g ofFamily) ∙ n .1)) m))
+    (outcome (classUnder bits g))
+
+source-family : (afi : ℕ) (source : List ℕ) → ((afi ≡ 1) × (length source ≡ 4)) ⊎ ((afi ≡ 2) × (length source ≡ 16)) → KnownFamily afi
+source-family afi source h = ⊎-elim (λ a. inl (a .0)) (λ a. inr (a .0)) h
+
+pub flow-given : (afi : ℕ) (router source group : List ℕ) → GoodFlow afi router source group → (q : Query) × (readFlow afi router source group ≡ given q)
+unfolding readFlow
+flow-given afi router source group f =
+    let bits = family-good afi (source-family afi source (f .sourced)) in
+    let class = multicast-classed afi (bits .0) group (bits .1) (f .multicast) in (
+      record { router = router; source = source; group = group; class = class .0 },
+      sym (goes _ _ _ _ (bits .1) (sym (pick-true _ _ _ (lengths .originators (length router) .1 (f .addressed))
+          ∙ pick-true _ _ _ (eq-eqb _ _ (source-sized afi (bits .0) source (bits .1) .1 (f .sourced)))
+          ∙ sym (goes _ _ _ _ (class .1) refl)))),
+    )
+
+pub flow-refused : (afi : ℕ) (router source group : List ℕ) (n : ℕ) → KnownFamily afi → readFlow afi router source group ≡ refused n → n ≡ FLOW
+unfolding readFlow
+flow-refused afi router source group n bits e =
+    let ofFamily = family-good afi bits in
+    ⊎-elim (λ none. absurd (never (ofFamily .1) none))
+    (λ l. ⊎-elim
+    (λ r. ⊎-elim
+    (λ s. ⊎-elim (λ c. class-refused (l .value) n group c) (λ c. absurd (never refl (c .second))) (stopped _ _ _ (s .1)))
+    (λ s. sym (refused-same {A = Query} (s .1)))
+    (picked _ _ _ _ (r .1)))
+    (λ r. sym (refused-same {A = Query} (r .1)))
+    (picked _ _ _ _ (l .second)))
+    (stopped _ _ _ e)

@@ -1,0 +1,19 @@
+-- Proofs of what the rules in specs/ state.
+pub mod Taken
+pub mod MatchRule
+pub mod Marked
+pub mod Images
+pub mod ArgumentRules
+pub mod MakeRules
+pub mod InstallRules
+pub mod WithdrawRules
+pub mod Decisions
+pub mod LastInstalled
+pub mod DueSteps
+pub mod Runs
+pub mod Reorders
+pub mod Turns
+pub mod Premise
+pub mod BookSteps
+pub mod BookRules
+pub mod MixedCalls

@@ -1,0 +1,154 @@
+-- How arguments are refused, and what is accepted (specs/ArgumentRules.antt).
+use Prim.Native.Nat.{ℕ, _≤_}
+use mathlib.Core.Path.{_≡_, refl, sym, ap, subst, _∙_}
+use mathlib.Core.Logic.{⊎-elim}
+use mathlib.Core.List.{List}
+use lib.ListN.{length}
+use borrow.Author.Tests.{eqb-true, eqb-false, eq-eqb, ne-eqb, ltb-true, ltb-false, lt-ltb, le-ltb}
+use Rattle.octets.specs.Numbers.{LABEL, KIND, FLOW, SPACE}
+use Rattle.octets.specs.Outcome.{given, refused}
+use Rattle.octets.proofs.Choice.{opposite, both-true-left, both-true-right, pick-true, pick-false, is-false, both-true}
+use Rattle.octets.proofs.Outcome.{never, given-same, given-otherwise, given-unless, passed, outcome, stopped, refuses-unless, refuses-where, goes, stops}
+use Rattle.nlri.specs.Fields.{Fields}
+use Rattle.nlri.specs.Reading.{readNlri}
+use Rattle.tunnel.specs.Attribute.{AttributeFields, labelOf}
+use Rattle.routes.specs.Route.{route}
+use Rattle.routes.specs.Arguments.{Query, readSPmsi, readLabelled, readRoute, readFlow, readMatch}
+use Rattle.routes.specs.ArgumentRules.{KnownFamily, SPmsi, Labelled, GoodFlow, NlriRefusal, unreadNlri, otherKind, RouteRefusal, badNlri, unreadAttribute, noLabel, FlowRefusal, badFlow, noSpace, ArgumentRule}
+use Rattle.routes.proofs.Definitions.Flows.{flow-asked, flow-given, flow-refused}
+
+module _ (afi : ℕ) (nlri : List ℕ) where
+  nlri-refused : (n : ℕ) → readSPmsi afi nlri ≡ refused n → NlriRefusal afi nlri n
+  unfolding readSPmsi
+  nlri-refused n e =
+      ⊎-elim (λ first. unreadNlri first)
+      (λ later.
+      let p = refuses-unless KIND n _ _ (later .second) in
+      subst (NlriRefusal afi nlri) (sym (p .1)) (otherKind (later .value) (later .first) (eqb-false _ _ (p .0))))
+      (stopped _ _ _ e)
+
+  nlri-refuses : {n : ℕ} → NlriRefusal afi nlri n → readSPmsi afi nlri ≡ refused n
+  unfolding readSPmsi
+  nlri-refuses (unreadNlri e) = sym (stops _ _ _ e)
+  nlri-refuses (otherKind f e k) = sym (goes _ _ _ _ e (sym (pick-false _ _ _ (ne-eqb (f .type) 3 k))))
+
+  nlri-passed : (f : Fields) → readSPmsi afi nlri ≡ given f → (readNlri afi nlri ≡ given f) × (f .type ≡ 3)
+  unfolding readSPmsi
+  nlri-passed f e =
+      let p = passed _ _ _ e in
+      let q = given-unless _ _ _ _ (p .second) in
+      (p .first ∙ q .1, ap (λ (g : Fields). g .type) (sym (given-same (q .1))) ∙ eqb-true _ _ (q .0))
+
+  nlri-passes : (f : Fields) → (readNlri afi nlri ≡ given f) × (f .type ≡ 3) → readSPmsi afi nlri ≡ given f
+  unfolding readSPmsi
+  nlri-passes f p = sym (goes _ _ _ _ (p .0) (sym (pick-true _ _ _ (eq-eqb (f .type) 3 (p .1)))))
+
+  pub nlri-accepted : (f : Fields) → readSPmsi afi nlri ≡ given f → SPmsi afi nlri
+  nlri-accepted f e = let p = nlri-passed f e in record { fields = f; read = p .0; kind = p .1 }
+
+  pub nlri-accepts : (s : SPmsi afi nlri) → readSPmsi afi nlri ≡ given (s .fields)
+  nlri-accepts s = nlri-passes (s .fields) (s .read, s .kind)
+
+module _ (attribute : List ℕ) where
+  labelled : (f : AttributeFields) → readLabelled attribute ≡ given f → Labelled attribute
+  unfolding readLabelled
+  labelled f e =
+      let p = passed _ _ _ e in
+      let q = given-otherwise _ _ _ _ (p .second) in
+      record { fields = p .value; read = p .first; label = λ bier zero. opposite (both-true _ _ (eq-eqb (p .value .tunnelType) 11 bier) (eq-eqb (labelOf (p .value)) 0 zero)) (q .0) }
+
+  takes-labelled : (l : Labelled attribute) → readLabelled attribute ≡ given (l .fields)
+  unfolding readLabelled
+  takes-labelled l =
+      sym (goes _ _ _ _ (l .read)
+      (sym (pick-false _ _ _ (is-false _ (λ t. l .label (eqb-true _ _ (both-true-left _ _ t)) (eqb-true _ _ (both-true-right _ _ t)))))))
+
+module _ (afi : ℕ) (nlri attribute : List ℕ) where
+  route-refused : (n : ℕ) → readRoute afi nlri attribute ≡ refused n → RouteRefusal afi nlri attribute n
+  unfolding readRoute readLabelled
+  route-refused n e =
+      ⊎-elim (λ first. badNlri (nlri-refused afi nlri n first))
+      (λ later.
+      let s = nlri-accepted afi nlri (later .value) (later .first) in
+      ⊎-elim
+      (λ second.
+      ⊎-elim (λ unread. unreadAttribute s unread)
+      (λ read.
+      let p = refuses-where LABEL n _ _ (read .second) in
+      subst (RouteRefusal afi nlri attribute) (sym (p .1))
+      (noLabel (read .value) s (read .first) (eqb-true _ _ (both-true-left _ _ (p .0))) (eqb-true _ _ (both-true-right _ _ (p .0)))))
+      (stopped _ _ _ second))
+      (λ none. absurd (never refl (none .second)))
+      (stopped _ _ _ (later .second)))
+      (stopped _ _ _ e)
+
+  route-refuses : {n : ℕ} → RouteRefusal afi nlri attribute n → readRoute afi nlri attribute ≡ refused n
+  unfolding readRoute readLabelled
+  route-refuses (badNlri r) = sym (stops _ _ _ (nlri-refuses afi nlri r))
+  route-refuses (unreadAttribute s e) = sym (goes _ _ _ _ (nlri-accepts afi nlri s) (stops _ _ _ (sym (stops _ _ _ e))))
+  route-refuses (noLabel f s e bier zero) =
+      sym (goes _ _ _ _ (nlri-accepts afi nlri s)
+      (stops _ _ _ (sym (goes _ _ _ _ e (sym (pick-true _ _ _ (both-true _ _ (eq-eqb (f .tunnelType) 11 bier) (eq-eqb (labelOf f) 0 zero))))))))
+
+  route-passed : readRoute afi nlri attribute ≡ given (route nlri attribute) → SPmsi afi nlri × Labelled attribute
+  unfolding readRoute
+  route-passed e =
+      let p = passed _ _ _ e in
+      let q = passed _ _ _ (p .second) in
+      (nlri-accepted afi nlri (p .value) (p .first), labelled attribute (q .value) (q .first))
+
+  route-passes : SPmsi afi nlri × Labelled attribute → readRoute afi nlri attribute ≡ given (route nlri attribute)
+  unfolding readRoute
+  route-passes a = sym (goes _ _ _ _ (nlri-accepts afi nlri (a .0)) (goes _ _ _ _ (takes-labelled attribute (a .1)) refl))
+
+module _ (afi : ℕ) (router source group output : List ℕ) where
+  flow-refusal : (n : ℕ) → KnownFamily afi → readMatch afi router source group output ≡ refused n → FlowRefusal afi router source group output n
+  unfolding readMatch
+  flow-refusal n bits e =
+      ⊎-elim
+      (λ first.
+      subst (FlowRefusal afi router source group output) (sym (flow-refused afi router source group n bits first))
+      (badFlow (λ good. never (flow-given afi router source group good .1) first)))
+      (λ later.
+      let p = refuses-where SPACE n _ _ (later .second) in
+      subst (FlowRefusal afi router source group output) (sym (p .1)) (noSpace (flow-asked afi router source group (later .value) (later .first) .good) (ltb-true _ _ (p .0))))
+      (stopped _ _ _ e)
+
+  bad-flow : KnownFamily afi → (GoodFlow afi router source group → ⊥) → readFlow afi router source group ≡ refused FLOW
+  bad-flow bits bad =
+      ⊎-elim (λ p. absurd (bad (flow-asked afi router source group (p .0) (p .1) .good)))
+      (λ p. p .1 ∙ ap refused (flow-refused afi router source group (p .0) bits (p .1)))
+      (outcome (readFlow afi router source group))
+
+  flow-refuses : {n : ℕ} → KnownFamily afi → FlowRefusal afi router source group output n → readMatch afi router source group output ≡ refused n
+  unfolding readMatch
+  flow-refuses bits (badFlow bad) = sym (stops _ _ _ (bad-flow bits bad))
+  flow-refuses bits (noSpace good less) = sym (goes _ _ _ _ (flow-given afi router source group good .1) (sym (pick-true _ _ _ (lt-ltb (length output) 124 less))))
+
+  pub flow-passed : (q : Query) → readMatch afi router source group output ≡ given q → (readFlow afi router source group ≡ given q) × (124 ≤ length output)
+  unfolding readMatch
+  flow-passed q e =
+      let p = passed _ _ _ e in
+      let g = given-otherwise _ _ _ _ (p .second) in
+      (p .first ∙ g .1, ltb-false _ _ (g .0))
+
+  pub flow-passes : (q : Query) → readFlow afi router source group ≡ given q → 124 ≤ length output → readMatch afi router source group output ≡ given q
+  unfolding readMatch
+  flow-passes q e enough = sym (goes _ _ _ _ e (sym (pick-false _ _ _ (le-ltb (length output) 124 enough))))
+
+  flow-accepted : (q : Query) → readMatch afi router source group output ≡ given q → GoodFlow afi router source group × (124 ≤ length output)
+  flow-accepted q e = let p = flow-passed q e in (flow-asked afi router source group q (p .0) .good, p .1)
+
+  flow-taken : GoodFlow afi router source group × (124 ≤ length output) → (q : Query) × (readMatch afi router source group output ≡ given q)
+  flow-taken h = let f = flow-given afi router source group (h .0) in (f .0, flow-passes (f .0) (f .1) (h .1))
+
+pub argumentRule : ArgumentRule
+argumentRule =
+    record {
+      refusedNlri = λ afi nlri n. (nlri-refused afi nlri n, nlri-refuses afi nlri);
+      acceptedNlri = λ afi nlri f. (nlri-passed afi nlri f, nlri-passes afi nlri f);
+      refusedRoute = λ afi nlri attribute n. (route-refused afi nlri attribute n, route-refuses afi nlri attribute);
+      acceptedRoute = λ afi nlri attribute. (route-passed afi nlri attribute, route-passes afi nlri attribute);
+      refusedFlow = λ afi router source group output n bits. (flow-refusal afi router source group output n bits, flow-refuses afi router source group output bits);
+      acceptedFlow = λ afi router source group output. (λ p. flow-accepted afi router source group output (p .0) (p .1), flow-taken afi router source group output);
+    }
