@@ -9,7 +9,7 @@ use Rattle.nlri.specs.Walking.{readTo, stepFrom}
 use Rattle.nlri.proofs.Functions.Steps.{Stops, step-moves}
 use Rattle.mvpn_list.specs.Listing.{nlriLine, lastLine, linesFrom, linesOf}
 use Rattle.mvpn_list.proofs.Steps.{linesFrom-reads, linesFrom-stops}
-use Rattle.octets.proofs.Lists.{Put, put-none, put-as, put-length}
+use Rattle.octets.proofs.Lists.{Put, put-none, put-as, length-put}
 use Rattle.mvpn_list.proofs.Writes.{room-next, put-both}
 
 -- from `start` on, `output` has the lines of the NLRIs before `offset`, and `at` is the place just past them
@@ -69,4 +69,4 @@ module _ (run output₀ : List ℕ) (start offset at : ℕ) (output : List ℕ) 
         (put-both start (so-far .done) (lastLine n offset) output₀ all-fits at output r y (so-far .put) w)
 
     pub length-listed : (r : ℕ) (y : List ℕ) → Put at (lastLine n offset) output r y → length y ≡ length output₀
-    length-listed r y w = put-length start (linesOf run) output₀ r y fits (listed-last r y w)
+    length-listed r y w = length-put start (linesOf run) output₀ r y fits (listed-last r y w)

@@ -6,14 +6,14 @@ use native.Mathlib.Omega.{arith}
 use lib.ListN.{length, length-append, take, drop}
 use lib.Seq.{length-take-le}
 use Rattle.octets.specs.Octets.{front}
-use Rattle.octets.proofs.Lists.{Put, put-length, put-then, front-is-placed}
+use Rattle.octets.proofs.Lists.{Put, length-put, put-then, front-is-placed}
 
 module _ (at : ℕ) (e f d : List ℕ) (fits : at + length (e ++ f) ≤ length d) where
   pub room-first : at + length e ≤ length d
   room-first = omega (arith, length-append e f)
 
   pub room-next : (mid : ℕ) (o : List ℕ) → Put at e d mid o → mid + length f ≤ length o
-  room-next mid o w = omega (arith, length-append e f, put-length at e d mid o room-first w)
+  room-next mid o w = omega (arith, length-append e f, length-put at e d mid o room-first w)
 
   pub put-both : (mid : ℕ) (o : List ℕ) (r : ℕ) (x : List ℕ) → Put at e d mid o → Put mid f o r x → Put at (e ++ f) d r x
   put-both mid o r x w v = put-then at e f d mid o r x (omega (arith, length-append e f)) w v

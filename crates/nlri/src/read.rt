@@ -158,9 +158,13 @@ pub(crate) fn layout_in(s: &[u8]) -> Layout
     ensures { λ r. ⌜ r ≡ layoutIn (now (s .entry)) ⌝ }
 {
     let route_type = s[0] as usize;
+    let length = s[1] as usize;
     if route_type == RouteType::INTRA_AS_I_PMSI {
-        let originator = s[1] as usize - RouteDistinguisher::OCTETS;
-        return plain_layout(RouteType::INTRA_AS_I_PMSI, originator, s);
+        return plain_layout(
+            RouteType::INTRA_AS_I_PMSI,
+            length - RouteDistinguisher::OCTETS,
+            s,
+        );
     }
     if route_type == RouteType::INTER_AS_I_PMSI {
         return plain_layout(RouteType::INTER_AS_I_PMSI, 0, s);

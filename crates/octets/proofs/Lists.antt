@@ -20,9 +20,9 @@ lent-rest at s = take-all (length s - at) (drop at s) (simp length-drop (omega a
 pub lent-whole : (s : List ℕ) → take (length s - 0) (drop 0 s) ≡ s
 lent-whole s = lent-rest 0 s
 
-pub placed-length : (at : ℕ) (e d : List ℕ) → at + length e ≤ length d → length (placed at e d) ≡ length d
+pub length-placed : (at : ℕ) (e d : List ℕ) → at + length e ≤ length d → length (placed at e d) ≡ length d
 unfolding placed
-placed-length at e d h = simp (length-append, length-take, length-drop) (omega arith)
+length-placed at e d h = simp (length-append, length-take, length-drop) (omega arith)
 
 pub front-is-placed : (e d : List ℕ) → front e d ≡ placed 0 e d
 unfolding front placed
@@ -74,12 +74,12 @@ put-then at e f d next y last z h p q = (
   placed-then at next e f d y z h (p .0) (p .1) (q .1),
 )
 
-pub put-length : (at : ℕ) (e d : List ℕ) (next : ℕ) (y : List ℕ) → at + length e ≤ length d → Put at e d next y → length y ≡ length d
-put-length at e d next y h p = ap length (p .1) ∙ placed-length at e d h
+pub length-put : (at : ℕ) (e d : List ℕ) (next : ℕ) (y : List ℕ) → at + length e ≤ length d → Put at e d next y → length y ≡ length d
+length-put at e d next y h p = ap length (p .1) ∙ length-placed at e d h
 
-pub sized-length : (n : ℕ) (xs : List ℕ) → length (sized n xs) ≡ n
+pub length-sized : (n : ℕ) (xs : List ℕ) → length (sized n xs) ≡ n
 unfolding sized
-sized-length n xs = length-take-le n (xs ++ replicate n 0) (simp (length-append, length-replicate) (omega arith))
+length-sized n xs = length-take-le n (xs ++ replicate n 0) (simp (length-append, length-replicate) (omega arith))
 
 pub sized-taken : (n : ℕ) (xs : List ℕ) → n ≤ length xs → sized n xs ≡ take n xs
 unfolding sized
@@ -116,9 +116,9 @@ take-two [] n h = absurd (omega arith)
 take-two (x ∷ []) n h = absurd (omega arith)
 take-two (x ∷ (y ∷ s)) n h = let e : 2 + n ≡ suc (suc n) = omega arith in rw e
 
-pub part-length : (s : List ℕ) (start size : ℕ) → start + size ≤ length s → length (part s start size) ≡ size
+pub length-part : (s : List ℕ) (start size : ℕ) → start + size ≤ length s → length (part s start size) ≡ size
 unfolding part
-part-length s start size h = length-take-le size (drop start s) (rw length-drop (omega arith))
+length-part s start size h = length-take-le size (drop start s) (rw length-drop (omega arith))
 
 -- a part, and the part straight after it
 pub part-then : (s : List ℕ) (start m n : ℕ) → part s start (m + n) ≡ part s start m ++ part s (start + m) n

@@ -9,7 +9,7 @@ use lib.ListN.{length, getD}
 use lib.Seq.{drop-cons}
 use Rattle.octets.specs.Octets.{AllOctets, none, one, part, lowFirst}
 use Rattle.octets.proofs.AllOctets.{octets-part}
-use Rattle.octets.proofs.Lists.{part-length, part-then}
+use Rattle.octets.proofs.Lists.{length-part, part-then}
 
 -- the first octet of a part, and the others
 low-part : (s : List ℕ) (at n : ℕ) → at < length s → lowFirst (part s at (suc n)) ≡ getD s at 0 + 256 * lowFirst (part s (at + 1) n)
@@ -30,7 +30,7 @@ low-append (x ∷ xs) ys = rw (low-append xs ys, pow-suc 256 (length xs)) (omega
 -- the number in a part, and in the part straight after it
 pub low-then : (s : List ℕ) (at m n : ℕ) → at + m + n ≤ length s → lowFirst (part s at m) + lowFirst (part s (at + m) n) * 256 ^ m ≡ lowFirst (part s at (m + n))
 low-then s at m n h =
-    let l : length (part s at m) ≡ m = part-length s at m (omega arith) in
+    let l : length (part s at m) ≡ m = length-part s at m (omega arith) in
     sym (rw (part-then s at m n, low-append (part s at m) (part s (at + m) n), l) (omega arith))
 
 -- octets are told by their number
@@ -43,4 +43,4 @@ low-told (one {x} {xs} p a) (one {x = y} {xs = ys} q b) l e =
     ap₂ (λ (o : ℕ) (os : List ℕ). o ∷ os) (omega arith) (low-told a b (omega arith) (omega arith))
 
 pub same-low : {a b : List ℕ} → AllOctets a → AllOctets b → (at n : ℕ) → at + n ≤ length a → at + n ≤ length b → lowFirst (part a at n) ≡ lowFirst (part b at n) → part a at n ≡ part b at n
-same-low {a} {b} p q at n h k e = low-told (octets-part at n p) (octets-part at n q) (part-length a at n h ∙ sym (part-length b at n k)) e
+same-low {a} {b} p q at n h k e = low-told (octets-part at n p) (octets-part at n q) (length-part a at n h ∙ sym (length-part b at n k)) e

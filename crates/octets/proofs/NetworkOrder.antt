@@ -7,18 +7,18 @@ use native.Mathlib.Omega.{arith}
 use lib.ListN.{length, take, drop, getD, length-append, length-drop}
 use lib.Seq.{take-suc, getD-drop}
 use Rattle.octets.proofs.AllOctets.{octets-part, octets-append, number-fits}
-use Rattle.octets.proofs.Lists.{placed-then, part-length, part-then}
+use Rattle.octets.proofs.Lists.{placed-then, length-part, part-then}
 use Rattle.octets.specs.Octets.{AllOctets, none, one, part, placed, numberIn, bigEndian}
 
-pub big-endian-length : (n x : ℕ) → length (bigEndian n x) ≡ n
+pub length-bigEndian : (n x : ℕ) → length (bigEndian n x) ≡ n
 unfolding bigEndian
-big-endian-length zero x = refl
-big-endian-length (suc n) x = simp (length-append, big-endian-length n (x / 256)) (omega arith)
+length-bigEndian zero x = refl
+length-bigEndian (suc n) x = simp (length-append, length-bigEndian n (x / 256)) (omega arith)
 
-pub big-endian-octets : (n x : ℕ) → AllOctets (bigEndian n x)
+pub octets-bigEndian : (n x : ℕ) → AllOctets (bigEndian n x)
 unfolding bigEndian
-big-endian-octets zero x = none
-big-endian-octets (suc n) x = octets-append (big-endian-octets n (x / 256)) (one (mod-lt x (omega arith)) none)
+octets-bigEndian zero x = none
+octets-bigEndian (suc n) x = octets-append (octets-bigEndian n (x / 256)) (one (mod-lt x (omega arith)) none)
 
 number-snoc : (xs : List ℕ) (x high : ℕ) → numberIn (xs ++ (x ∷ [])) high ≡ numberIn xs high * 256 + x
 unfolding numberIn
@@ -65,7 +65,7 @@ number-append (x ∷ xs) ys high = number-append xs ys (high * 256 + x)
 -- the number in a part, and in the part straight after it
 pub number-then : (s : List ℕ) (at m n : ℕ) → at + m + n ≤ length s → numberIn (part s at m) 0 * 256 ^ n + numberIn (part s (at + m) n) 0 ≡ numberIn (part s at (m + n)) 0
 number-then s at m n h =
-    let l : length (part s (at + m) n) ≡ n = part-length s (at + m) n h in
+    let l : length (part s (at + m) n) ≡ n = length-part s (at + m) n h in
     sym (rw (part-then s at m n, number-append (part s at m) (part s (at + m) n) 0, number-high (part s (at + m) n) (numberIn (part s at m) 0), l))
 
 -- the number in two octets
@@ -79,16 +79,16 @@ pub placed-last : (at next n x : ℕ) (d y z : List ℕ) → at + suc n ≤ leng
 unfolding bigEndian
 placed-last at next n x d y z h k p q =
     let e : List ℕ = bigEndian n (x / 256) in
-    let l : length e ≡ n = big-endian-length n (x / 256) in
+    let l : length e ≡ n = length-bigEndian n (x / 256) in
     placed-then at next e (x % 256 ∷ []) d y z (omega arith) (rw l k) p q
 
 -- the number in a part, and the part of a number
 pub part-number : {s : List ℕ} → AllOctets s → (at n : ℕ) → at + n ≤ length s → bigEndian n (numberIn (part s at n) 0) ≡ part s at n
-part-number {s} a at n h = rw (part-length s at n h) at (big-endian-of-number (octets-part at n a))
+part-number {s} a at n h = rw (length-part s at n h) at (big-endian-of-number (octets-part at n a))
 
 -- parts of the same number are the same
 pub same-number : {a b : List ℕ} → AllOctets a → AllOctets b → (at n : ℕ) → at + n ≤ length a → at + n ≤ length b → numberIn (part a at n) 0 ≡ numberIn (part b at n) 0 → part a at n ≡ part b at n
 same-number p q at n h k e = sym (part-number p at n h) ∙ ap (bigEndian n) e ∙ part-number q at n k
 
 pub part-fits : {s : List ℕ} → AllOctets s → (at n : ℕ) → at + n ≤ length s → numberIn (part s at n) 0 < 256 ^ n
-part-fits {s} a at n h = rw (part-length s at n h) at (number-fits (octets-part at n a))
+part-fits {s} a at n h = rw (length-part s at n h) at (number-fits (octets-part at n a))

@@ -16,7 +16,7 @@ use Rattle.octets.specs.Octets.{AllOctets, none, one, part, numberIn}
 use Rattle.octets.specs.Order.{same, before, zeros, allZero}
 use Rattle.octets.proofs.Choice.{opposite, both-true-left, both-true-right, both-true, pick-true, pick-false, tested, is-false}
 use Rattle.octets.proofs.AllOctets.{octets-part, number-below}
-use Rattle.octets.proofs.Lists.{part-length, take-then}
+use Rattle.octets.proofs.Lists.{length-part, take-then}
 use Rattle.octets.proofs.NetworkOrder.{number-high}
 
 pub same-itself : (xs : List ℕ) → same xs xs ≡ true
@@ -241,7 +241,7 @@ module _ (a b : List ℕ) (i n : ℕ) (front : take i a ≡ take i b) where
       → (part a i n ≡ part b i n → ⊥) → ltb x y ≡ before a b
   unfolding part
   parts-decide each-a each-b fits-a fits-b x y in-a in-b d =
-      let l : length (part a i n) ≡ length (part b i n) = part-length a i n fits-a ∙ sym (part-length b i n fits-b) in
+      let l : length (part a i n) ≡ length (part b i n) = length-part a i n fits-a ∙ sym (length-part b i n fits-b) in
       rw (in-a, in-b)
       (number-before (octets-part i n each-a) (octets-part i n each-b) 0 l
       ∙ sym (before-first (part a i n) (part b i n) (drop n (drop i a)) (drop n (drop i b)) l d)

@@ -9,7 +9,7 @@ use lib.Seq.{drop-drop}
 use Rattle.octets.specs.Octets.{part}
 use Rattle.octets.specs.Order.{same, before}
 use Rattle.octets.proofs.Choice.{both-true-left, both-true-right}
-use Rattle.octets.proofs.Lists.{part-length}
+use Rattle.octets.proofs.Lists.{length-part}
 use Rattle.routes.specs.Route.{nlriOf, holds}
 use Rattle.routes.specs.Place.{endIn, routeIn, placeSound}
 use Rattle.routes.specs.Table.{afiIn, countIn, placesIn, routesFrom, routesOf, placesSound, soundOf}
@@ -69,7 +69,7 @@ end-within t i h k =
     let s = sound t h in
     let at : placeSound (afiIn t) (part t (8 + 128 * i) 128) ≡ true =
     ap (placeSound (afiIn t)) (sym (place-part i t)) ∙ sound-index (afiIn t) [] i (countIn t) (drop 8 t) k (s .places) in
-    rw (part-length t (8 + 128 * i) 128 (place-within t i h k)) (sound-end (afiIn t) (part t (8 + 128 * i) 128) at)
+    rw (length-part t (8 + 128 * i) 128 (place-within t i h k)) (sound-end (afiIn t) (part t (8 + 128 * i) 128) at)
 
 -- the route at an index has an NLRI, or no route is there
 pub first-at : (t n : List ℕ) (i : ℕ) → i < countIn t → firstIs n (drop i (routesOf t)) ≡ same n (nlriOf (routeAt i t))

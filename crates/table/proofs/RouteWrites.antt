@@ -11,7 +11,7 @@ use Rattle.octets.specs.Octets.{AllOctets, part, placed, front, numberIn}
 use Rattle.octets.specs.Outputs.{writtenOf, outputOf}
 use Rattle.octets.specs.declared.Written.{Written}
 use Rattle.octets.proofs.Outcome.{given-otherwise}
-use Rattle.octets.proofs.Lists.{Put, put-length, lent-placed, placed-then, front-is-placed}
+use Rattle.octets.proofs.Lists.{Put, length-put, lent-placed, placed-then, front-is-placed}
 use Rattle.tunnel.specs.Attribute.{AttributeFields, fieldsIn, readAttribute, writeAttribute}
 use Rattle.tunnel.specs.Answers.{argumentFields}
 use Rattle.tunnel.proofs.Theorems.{attributeRoundTrips}
@@ -65,31 +65,31 @@ route-written tier r d y z nlri attribute next room n a k p q =
 
 -- what the function that writes a route needs of sizes
 module _ (place output nlri : List ℕ) (w : RouteFits place output) (n : nlri ≡ nlriOf (routeIn place)) where
-  nlri-length : length nlri ≡ length (nlriOf (routeIn place))
-  nlri-length = ap length n
+  length-nlri : length nlri ≡ length (nlriOf (routeIn place))
+  length-nlri = ap length n
 
   pub nlri-room : 0 + length nlri ≤ length output
-  nlri-room = let most = w .most in let room = w .room in omega (arith, nlri-length)
+  nlri-room = let most = w .most in let room = w .room in omega (arith, length-nlri)
 
   pub nlri-small : (next : ℕ) → next ≡ 0 + length nlri → next ≤ 124
-  nlri-small next k = let most = w .most in omega (arith, nlri-length)
+  nlri-small next k = let most = w .most in omega (arith, length-nlri)
 
   module _ (attribute : List ℕ) (a : attribute ≡ attributeOf (routeIn place)) where
-    attribute-length : length attribute ≡ length (attributeOf (routeIn place))
-    attribute-length = ap length a
+    length-attribute : length attribute ≡ length (attributeOf (routeIn place))
+    length-attribute = ap length a
 
     pub attribute-small : (size : ℕ) → size ≡ length attribute → size ≤ 124
-    attribute-small size k = let most = w .most in omega (arith, attribute-length)
+    attribute-small size k = let most = w .most in omega (arith, length-attribute)
 
     pub attribute-room : (y : List ℕ) (next : ℕ) → Put 0 nlri output next y → (readAttribute attribute ≡ given (fieldsIn attribute)) × (next + length attribute ≤ length y)
     attribute-room y next p =
-        let same = put-length 0 nlri output next y nlri-room p in
-        (rw a (w .read), omega (arith, nlri-length, attribute-length, p .0))
+        let same = length-put 0 nlri output next y nlri-room p in
+        (rw a (w .read), omega (arith, length-nlri, length-attribute, p .0))
 
     pub route-answer : (tier next size : ℕ) → next ≡ 0 + length nlri → size ≡ length attribute
         → _≡_ {A = Matched} (record { number = 0; tier = tier; «nlri_size» = next; «attribute_size» = size }) (foundAnswer (found tier (routeIn place)))
     unfolding foundAnswer
     route-answer tier next size k l =
-        let p : next ≡ length (nlriOf (routeIn place)) = omega (arith, nlri-length) in
-        let q : size ≡ length (attributeOf (routeIn place)) = l ∙ attribute-length in
+        let p : next ≡ length (nlriOf (routeIn place)) = omega (arith, length-nlri) in
+        let q : size ≡ length (attributeOf (routeIn place)) = l ∙ length-attribute in
         rw (p, q)

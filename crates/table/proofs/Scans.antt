@@ -9,7 +9,7 @@ use lib.ListN.{length}
 use Rattle.octets.specs.Choice.{pick}
 use Rattle.octets.specs.Octets.{part}
 use Rattle.octets.specs.Order.{before}
-use Rattle.octets.proofs.Lists.{part-length}
+use Rattle.octets.proofs.Lists.{length-part}
 use Rattle.octets.proofs.Choice.{picks, skips, pick-true, pick-false}
 use Rattle.routes.specs.Place.{endIn, routeIn}
 use Rattle.routes.specs.Matching.{nothing, found}
@@ -18,7 +18,7 @@ use Rattle.table.specs.Scanning.{standing, tierAt, nlriAt, Readable, ahe
 
 -- what a place's functions need of a place cut out of the table
 pub place-ends : (t place : List ℕ) (at : ℕ) → Readable t at → place ≡ part t at 128 → endIn place ≤ length place
-place-ends t place at r e = rw e (let ends = r .ends in omega (arith, part-length t at 128 (r .within)))
+place-ends t place at r e = rw e (let ends = r .ends in omega (arith, length-part t at 128 (r .within)))
 
 -- route distinguishers of two places, compared
 pub lower-is : (t : List ℕ) (at other : ℕ) (flag : Bool) (n m x y : List ℕ) → n ≡ nlriAt t at → m ≡ nlriAt t other → x ≡ standing n .distinguisher → y ≡ standing m .distinguisher

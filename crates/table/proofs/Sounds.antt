@@ -31,7 +31,7 @@ use Rattle.routes.specs.Route.{route, nlriOf, attributeOf}
 use Rattle.routes.specs.Arguments.{readSPmsi, readLabelled, readRoute}
 use Rattle.routes.specs.Place.{endIn, routeIn, acceptable, placeSound}
 use Rattle.routes.specs.Table.{afiIn, countIn, placesIn, headerStart, tableSize, headerSound, placesSound, soundOf}
-use Rattle.routes.proofs.Definitions.ByArguments.{s-pmsi-number, route-number}
+use Rattle.routes.proofs.Definitions.ByArguments.{number-s-pmsi, number-route}
 use Rattle.routes.proofs.Definitions.Bounds.{route-read, read-acceptable}
 use Rattle.routes.proofs.Definitions.Headers.{SizeOf, sound-size}
 use Rattle.table.proofs.Moves.{drop-taken}
@@ -76,11 +76,11 @@ module _ (s : List ℕ) (n : ℕ) (e : n ≡ numberOf (readAttribute s)) where
 
 -- where the number is DONE, what reading gives
 pub s-pmsi-fault-none : (afi : ℕ) (nlri : List ℕ) → numberOf (readSPmsi afi nlri) ≡ DONE → (f : Fields) × (readSPmsi afi nlri ≡ given f)
-s-pmsi-fault-none afi nlri e = done-given (readSPmsi afi nlri) (λ n q. s-pmsi-number afi nlri n q .0) e
+s-pmsi-fault-none afi nlri e = done-given (readSPmsi afi nlri) (λ n q. number-s-pmsi afi nlri n q .0) e
 
 pub route-fault-none : (afi : ℕ) (nlri attribute : List ℕ) → numberOf (readRoute afi nlri attribute) ≡ DONE → readRoute afi nlri attribute ≡ given (route nlri attribute)
 route-fault-none afi nlri attribute e =
-    let r = done-given (readRoute afi nlri attribute) (λ n q. route-number afi nlri attribute n q .0) e in
+    let r = done-given (readRoute afi nlri attribute) (λ n q. number-route afi nlri attribute n q .0) e in
     r .1 ∙ ap given (route-read afi nlri attribute (r .0) (r .1))
 
 -- the number of a route's two judgements

@@ -10,7 +10,7 @@ use Rattle.octets.specs.Outcome.{given}
 use Rattle.octets.specs.Octets.{part}
 use Rattle.octets.proofs.Choice.{both-true-left, both-true-right}
 use Rattle.octets.proofs.Outcome.{given-otherwise, passed, given-same}
-use Rattle.octets.proofs.Lists.{part-length}
+use Rattle.octets.proofs.Lists.{length-part}
 use Rattle.tunnel.specs.Attribute.{AttributeFields, fieldsIn, readAttribute}
 use Rattle.routes.specs.Route.{nlriOf, attributeOf}
 use Rattle.routes.specs.Arguments.{readLabelled}
@@ -54,7 +54,7 @@ module _ (afi : ℕ) (t : List ℕ) (at : ℕ) (taken : Taken afi t at) where
   taken-writable output room =
       let sizes = sizes-of afi (routeIn (part t at 128)) (sound-acceptable afi (part t at 128) (taken .sound)) in
       record {
-        within = rw (part-length t at 128 (taken .within)) place-end;
+        within = rw (length-part t at 128 (taken .within)) place-end;
         read = labelled-read _ (route-accepted .attributeFields) (route-accepted .labelled);
         most = omega arith;
         room = room;

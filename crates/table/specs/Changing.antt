@@ -1,4 +1,4 @@
--- What finding and changing compute.
+-- Definitions that mirror the functions that find and change places; laws tie them to those of `routes`.
 use Prim.Native.Nat.{ℕ, suc, _+_, _-_, _*_}
 use mathlib.Core.Path.{_≡_}
 use mathlib.Core.Bool.{Bool, false}

@@ -1,4 +1,4 @@
--- What the scan for a flow computes.
+-- Definitions that mirror the functions of the scan for a flow; laws tie them to those of `routes`.
 use Prim.Native.Nat.{ℕ, zero, suc, _+_, _/_, _≤_}
 use mathlib.Core.Path.{_≡_}
 use mathlib.Core.Bool.{Bool, true, false}

@@ -10,7 +10,7 @@ use Rattle.octets.specs.Outcome.{Outcome, given, refused, andThen}
 use Rattle.octets.specs.Octets.{AllOctets, part}
 use Rattle.octets.proofs.Choice.{both-true-left}
 use Rattle.octets.proofs.Outcome.{never, given-same, passed}
-use Rattle.octets.proofs.Lists.{part-length}
+use Rattle.octets.proofs.Lists.{length-part}
 use Rattle.octets.proofs.AllOctets.{octets-drop}
 use Rattle.tunnel.specs.declared.Reading.{Reading}
 use Rattle.tunnel.specs.declared.Reading.the-variants.{Attribute as read, Refused as no}
@@ -150,7 +150,7 @@ module _ (s : List ℕ) (a : Attribute) (w : AnsweredAttribute s a) where
 
   told-span : span 5 (length (octetsAt s (a .identifier))) ≡ a .identifier
   told-span =
-      let l : length (octetsAt s (a .identifier)) ≡ a .identifier .size = part-length s (a .identifier .start) (a .identifier .size) (omega (arith, w .identifierEnds)) in
+      let l : length (octetsAt s (a .identifier)) ≡ a .identifier .size = length-part s (a .identifier .start) (a .identifier .size) (omega (arith, w .identifierEnds)) in
       let start : 5 ≡ a .identifier .start = omega (arith, w .identifierEnds, length-told) in
       ap₂ span start l
 
@@ -159,8 +159,8 @@ module _ (s : List ℕ) (a : Attribute) (w : AnsweredAttribute s a) where
   told-spans k =
       let root = a .fec .root in
       let opaque = a .fec .opaque in
-      let n : length (octetsAt s root) ≡ root .size = part-length s (root .start) (root .size) (omega (arith, k .rootEnds, k .opaqueEnds)) in
-      let m : length (octetsAt s opaque) ≡ opaque .size = part-length s (opaque .start) (opaque .size) (omega (arith, k .opaqueEnds)) in
+      let n : length (octetsAt s root) ≡ root .size = length-part s (root .start) (root .size) (omega (arith, k .rootEnds, k .opaqueEnds)) in
+      let m : length (octetsAt s opaque) ≡ opaque .size = length-part s (opaque .start) (opaque .size) (omega (arith, k .opaqueEnds)) in
       let total : length (octetsAt s (a .identifier)) ≡ 6 + length (octetsAt s root) + length (octetsAt s opaque) = ap length (k .encoded) ∙ length-encode (fecTold s (a .fec)) (k .wellFormed) in
       let first : 9 ≡ root .start = omega (arith, k .rootEnds, k .opaqueEnds, length-told) in
       let second : 11 + length (octetsAt s root) ≡ opaque .start = omega (arith, k .rootEnds, k .opaqueEnds, length-told) in

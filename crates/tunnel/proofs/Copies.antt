@@ -7,7 +7,7 @@ use native.Mathlib.Omega.{arith}
 use lib.ListN.{length, getD, take, drop, length-append}
 use lib.Seq.{drop-cons, drop-drop, length-take-le, take-all, take-at, drop-at}
 use Rattle.octets.specs.Octets.{part, placed}
-use Rattle.octets.proofs.Lists.{placed-placed, placed-then, placed-length, part-length, part-then}
+use Rattle.octets.proofs.Lists.{placed-placed, placed-then, length-placed, length-part, part-then}
 
 -- a part by its first octet and the rest
 part-cons : (s : List ℕ) (at next n : ℕ) → next ≡ at + 1 → at < length s → part s at (suc n) ≡ getD s at 0 ∷ part s next n
@@ -48,8 +48,8 @@ part-eight s k h =
 pub placed-blocks : (s d y z : List ℕ) (k at m : ℕ) → k + (m + m) ≤ length s → at + (m + m) ≤ length d → y ≡ placed at (part s k m) d → z ≡ placed (at + m) (part s (k + m) m) y
     → z ≡ placed at (part s k (m + m)) d
 placed-blocks s d y z k at m h r p q =
-    let l : length (part s k m) ≡ m = part-length s k m (omega arith) in
-    let l′ : length (part s (k + m) m) ≡ m = part-length s (k + m) m (omega arith) in
+    let l : length (part s k m) ≡ m = length-part s k m (omega arith) in
+    let l′ : length (part s (k + m) m) ≡ m = length-part s (k + m) m (omega arith) in
     placed-then at (at + m) (part s k m) (part s (k + m) m) d y z (omega arith) (ap (λ (n : ℕ). at + n) (sym l)) p q ∙ ap (λ (e : List ℕ). placed at e d) (sym (part-then s k m m))
 
 -- what is written over is gone
@@ -83,13 +83,13 @@ placed-ends s d y z at m h l r p q =
     let e : List ℕ = part s 0 j in
     let g : List ℕ = part s (0 + j) (m - j) in
     let f : List ℕ = part s (0 + j) m in
-    let le : length e ≡ j = part-length s 0 j (omega arith) in
-    let lg : length g ≡ m - j = part-length s (0 + j) (m - j) (omega arith) in
-    let lf : length f ≡ m = part-length s (0 + j) m (omega arith) in
+    let le : length e ≡ j = length-part s 0 j (omega arith) in
+    let lg : length g ≡ m - j = length-part s (0 + j) (m - j) (omega arith) in
+    let lf : length f ≡ m = length-part s (0 + j) m (omega arith) in
     let first : part s 0 m ≡ e ++ g = ap (part s 0) (sum j m (omega arith)) ∙ part-then s 0 j (m - j) in
     let last : e ++ f ≡ s = sym (part-then s 0 j m) ∙ part-whole s (j + m) (omega arith) in
     let x : List ℕ = placed at e d in
-    let lx : length x ≡ length d = placed-length at e d (omega arith) in
+    let lx : length x ≡ length d = length-placed at e d (omega arith) in
     let y′ : y ≡ placed (at + length e) g x = p ∙ ap (λ (a : List ℕ). placed at a d) first ∙ sym (placed-placed at e g d (omega arith)) in
     let start : at + j ≡ at + length e = ap (λ (n : ℕ). at + n) (sym le) in
     let from : part s j m ≡ f = ap (λ (n : ℕ). part s n m) (sym (zero-add j)) in

@@ -13,7 +13,7 @@ use Rattle.octets.specs.Choice.{both, either}
 use Rattle.octets.specs.Octets.{AllOctets, part, numberIn, bigEndian}
 use Rattle.octets.proofs.Choice.{both-true, both-held, either-true, is-false}
 use Rattle.octets.proofs.AllOctets.{octet-at, octets-take, octets-drop}
-use Rattle.octets.proofs.NetworkOrder.{big-endian-length, number-of-big-endian, number-part, part-number, part-fits}
+use Rattle.octets.proofs.NetworkOrder.{length-bigEndian, number-of-big-endian, number-part, part-number, part-fits}
 use Rattle.tunnel.specs.Fec.{FecFields, encodeFec, Suits, ipv4, ipv6, WellFormedFec, familySuits, opaqueFills, wholeFec, fecIn}
 use Rattle.tunnel.specs.Inner.{endsFrom}
 use Rattle.tunnel.specs.Statements.{FecRule}
@@ -160,12 +160,12 @@ restOf f = f .root ++ (bigEndian 2 (length (f .opaqueValue)) ++ f .opaqueValue)
 module _ (f : FecFields) (w : WellFormedFec f) where
   length-rest : length (restOf f) ≡ length (f .root) + 2 + length (f .opaqueValue)
   unfolding restOf
-  length-rest = simp (length-append, big-endian-length) (omega arith)
+  length-rest = simp (length-append, length-bigEndian) (omega arith)
 
   number-rest : numberIn (part (restOf f) (length (f .root)) 2) 0 ≡ length (f .opaqueValue)
   unfolding restOf part
   number-rest =
-      rw (drop-append-seam (f .root) (bigEndian 2 (length (f .opaqueValue)) ++ f .opaqueValue), take-at (bigEndian 2 (length (f .opaqueValue))) (f .opaqueValue) 2 (big-endian-length 2 (length (f .opaqueValue))))
+      rw (drop-append-seam (f .root) (bigEndian 2 (length (f .opaqueValue)) ++ f .opaqueValue), take-at (bigEndian 2 (length (f .opaqueValue))) (f .opaqueValue) 2 (length-bigEndian 2 (length (f .opaqueValue))))
       (number-of-big-endian 2 (length (f .opaqueValue)) (w .opaqueFits))
 
   fills-rest : opaqueFills (restOf f) (length (f .root)) ≡ true
@@ -211,7 +211,7 @@ module _ (f : FecFields) (w : WellFormedFec f) where
   unfolding restOf
   drop-rest =
       drop-append-add (f .root) (bigEndian 2 (length (f .opaqueValue)) ++ f .opaqueValue) 2
-      ∙ drop-at (bigEndian 2 (length (f .opaqueValue))) (f .opaqueValue) 2 (big-endian-length 2 (length (f .opaqueValue)))
+      ∙ drop-at (bigEndian 2 (length (f .opaqueValue))) (f .opaqueValue) 2 (length-bigEndian 2 (length (f .opaqueValue)))
 
   pub fields-encode : fecIn (encodeFec f) ≡ f
   unfolding fecIn

@@ -14,7 +14,7 @@ use Rattle.octets.specs.Octets.{AllOctets, part, numberIn, bigEndian}
 use Rattle.octets.proofs.Choice.{tested}
 use Rattle.octets.proofs.Outcome.{never, refused-same, number-kept}
 use Rattle.octets.proofs.AllOctets.{octet-at, octets-drop}
-use Rattle.octets.proofs.NetworkOrder.{big-endian-length, number-of-big-endian, part-number, part-fits}
+use Rattle.octets.proofs.NetworkOrder.{length-bigEndian, number-of-big-endian, part-number, part-fits}
 use Rattle.tunnel.specs.Identifier.{IdentifierForm, formOf, isIdentifier, readIdentifier}
 use Rattle.tunnel.specs.Attribute.{AttributeFields, WellFormedAttribute, encodeAttribute, fieldsIn, readAttribute}
 use Rattle.tunnel.specs.Statements.{ReadableSize, AttributeReadRefusal, long, short, badTunnel, badIdentifier, AttributeReadRule}
@@ -120,7 +120,7 @@ accepted-fields s a p = (
 
 pub length-attribute : (f : AttributeFields) → length (encodeAttribute f) ≡ 5 + length (f .identifier)
 unfolding encodeAttribute
-length-attribute f = simp (length-append, big-endian-length) (omega arith)
+length-attribute f = simp (length-append, length-bigEndian) (omega arith)
 
 -- an encoding is read as the fields that it encodes
 module _ (f : AttributeFields) (w : WellFormedAttribute f) where

@@ -14,7 +14,7 @@ use Rattle.octets.proofs.Choice.{pick-true, pick-false}
 use Rattle.octets.proofs.Outcome.{given-otherwise, given-unless, given-same}
 use Rattle.octets.proofs.AllOctets.{octets-take, octets-drop, number-fits}
 use Rattle.octets.proofs.Lists.{front-rest}
-use Rattle.octets.proofs.NetworkOrder.{big-endian-length, big-endian-octets, big-endian-of-number}
+use Rattle.octets.proofs.NetworkOrder.{length-bigEndian, octets-bigEndian, big-endian-of-number}
 use Rattle.nlri.specs.Family.{allowed, isOriginatorSize}
 use Rattle.nlri.specs.Bodies.{FieldKind, distinguisher, sourceAs, source, group, originator, key}
 use Rattle.nlri.specs.Fields.{Fields, encodeAddress, encodeField, WellFormedField}
@@ -93,9 +93,9 @@ pub originator-given : (n : ℕ) (s : List ℕ) → originatorField s ≡ given 
 unfolding originatorField
 originator-given n s e = let p = given-unless _ _ _ _ e in (p .0, sym (given-same (p .1)))
 
-address-octets : (bits type : ℕ) (x : List ℕ) → bits ≤ 128 → allowed bits type (8 * length x) ≡ true → AllOctets x → AllOctets (encodeAddress x)
+octets-address : (bits type : ℕ) (x : List ℕ) → bits ≤ 128 → allowed bits type (8 * length x) ≡ true → AllOctets x → AllOctets (encodeAddress x)
 unfolding encodeAddress
-address-octets bits type x small e a = let h : 8 * length x < 256 = omega (arith, address-most bits type x small e) in one h a
+octets-address bits type x small e a = let h : 8 * length x < 256 = omega (arith, address-most bits type x small e) in one h a
 
 module _ (judge : List ℕ → Outcome ℕ) (Key : List ℕ → Type 0) (judges : Judges judge Key) (bits : ℕ) (whole : 8 * (bits / 8) ≡ bits) where
   -- a field read is well-formed, and is its encoding
@@ -134,7 +134,7 @@ module _ (judge : List ℕ → Outcome ℕ) (Key : List ℕ → Type 0) (judges 
       → fieldSize judge bits (f .type) k (encodeField f k ++ t) ≡ given (length (encodeField f k))
   unfolding fieldSize encodeField originatorField
   field-complete f distinguisher t w c = fixed-stands 8 (f .distinguisher) t (w .0)
-  field-complete f sourceAs t w c = fixed-stands 4 (bigEndian 4 (f .sourceAs)) t (big-endian-length 4 (f .sourceAs))
+  field-complete f sourceAs t w c = fixed-stands 4 (bigEndian 4 (f .sourceAs)) t (length-bigEndian 4 (f .sourceAs))
   field-complete f source t w c = address-stands bits (f .type) (f .source) t (w .0)
   field-complete f group t w c = address-stands bits (f .type) (f .group) t (w .0)
   field-complete f originator t w c = rw (c, append-nil) (pick-true _ _ _ (w .0))
@@ -144,17 +144,17 @@ module _ (judge : List ℕ → Outcome ℕ) (Key : List ℕ → Type 0) (judges 
   pub field-most : (w : ℕ) → ((k : List ℕ) → Key k → length k ≤ w) → bits ≤ 128 → (f : Fields) (k : FieldKind) → WellFormedField Key bits f k → length (encodeField f k) ≤ most w k
   unfolding encodeField encodeAddress most
   field-most w bound small f distinguisher h = omega arith
-  field-most w bound small f sourceAs h = omega (arith, big-endian-length 4 (f .sourceAs))
+  field-most w bound small f sourceAs h = omega (arith, length-bigEndian 4 (f .sourceAs))
   field-most w bound small f source h = address-most bits (f .type) (f .source) small (h .0)
   field-most w bound small f group h = address-most bits (f .type) (f .group) small (h .0)
   field-most w bound small f originator h = originator-most (length (f .originator)) (h .0)
   field-most w bound small f key h = bound (f .key) h
 
-  pub field-octets : ((k : List ℕ) → Key k → AllOctets k) → bits ≤ 128 → (f : Fields) (k : FieldKind) → WellFormedField Key bits f k → AllOctets (encodeField f k)
+  pub octets-field : ((k : List ℕ) → Key k → AllOctets k) → bits ≤ 128 → (f : Fields) (k : FieldKind) → WellFormedField Key bits f k → AllOctets (encodeField f k)
   unfolding encodeField encodeAddress
-  field-octets ofKey small f distinguisher h = h .1
-  field-octets ofKey small f sourceAs h = big-endian-octets 4 (f .sourceAs)
-  field-octets ofKey small f source h = address-octets bits (f .type) (f .source) small (h .0) (h .1)
-  field-octets ofKey small f group h = address-octets bits (f .type) (f .group) small (h .0) (h .1)
-  field-octets ofKey small f originator h = h .1
-  field-octets ofKey small f key h = ofKey (f .key) h
+  octets-field ofKey small f distinguisher h = h .1
+  octets-field ofKey small f sourceAs h = octets-bigEndian 4 (f .sourceAs)
+  octets-field ofKey small f source h = octets-address bits (f .type) (f .source) small (h .0) (h .1)
+  octets-field ofKey small f group h = octets-address bits (f .type) (f .group) small (h .0) (h .1)
+  octets-field ofKey small f originator h = h .1
+  octets-field ofKey small f key h = ofKey (f .key) h

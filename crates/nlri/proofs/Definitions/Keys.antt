@@ -15,7 +15,7 @@ use Rattle.nlri.specs.Fields.{Fields, encodeNlri, NoKey, KeyOf}
 use Rattle.nlri.specs.Reading.{laidWith, noKey, keyField}
 use Rattle.nlri.proofs.Definitions.Table.{rowOf, known}
 use Rattle.nlri.proofs.Definitions.Judged.{Judges}
-use Rattle.nlri.proofs.Definitions.Whole.{laid-out, fieldsAt, laid-sound, laid-complete, nlri-octets}
+use Rattle.nlri.proofs.Definitions.Whole.{laid-out, fieldsAt, laid-sound, laid-complete, octets-nlri}
 
 -- no octets are a key
 none-judges : Judges noKey NoKey
@@ -65,10 +65,10 @@ module _ (bits : ℕ) (whole : 8 * (bits / 8) ≡ bits) where
   key-judges = record { sound = key-sound; complete = key-complete; refuses = key-refuses }
 
   -- a key takes at most 60 octets
-  pub key-octets : bits ≤ 128 → (k : List ℕ) → KeyOf bits k → (length k ≤ 60) × AllOctets k
-  key-octets small k of =
+  pub octets-key : bits ≤ 128 → (k : List ℕ) → KeyOf bits k → (length k ≤ 60) × AllOctets k
+  octets-key small k of =
       let f : Fields = of .fields in
       let range : (1 ≤ f .type) × (f .type ≤ 7) = omega (arith, of .typed) in
       let row = rowOf (f .type) (known (f .type) (range .0) (range .1)) in
-      let h = nlri-octets noKey NoKey none-judges bits whole 60 (λ k none. absurd none) small f range (of .wellFormed) 58 (row .plain (λ e. omega (arith, of .typed)) .1) (omega arith) in
+      let h = octets-nlri noKey NoKey none-judges bits whole 60 (λ k none. absurd none) small f range (of .wellFormed) 58 (row .plain (λ e. omega (arith, of .typed)) .1) (omega arith) in
       rw (of .encoded) (omega (arith, h .0), h .1)

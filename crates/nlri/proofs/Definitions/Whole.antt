@@ -12,12 +12,12 @@ use Rattle.octets.specs.Octets.{AllOctets, none, one, part}
 use Rattle.octets.proofs.Choice.{pick-true, pick-false, opposite, both-true-left, both-true-right}
 use Rattle.octets.proofs.Outcome.{goes, given-otherwise, given-unless, passed, given-same}
 use Rattle.octets.proofs.AllOctets.{octets-drop, octets-part, octets-append}
-use Rattle.octets.proofs.Lists.{empty-list, take-two, part-length}
+use Rattle.octets.proofs.Lists.{empty-list, take-two, length-part}
 use Rattle.nlri.specs.Bodies.{FieldKind, distinguisher, sourceAs, source, group, originator, key, bodies, bodyOf, fieldIn}
 use Rattle.nlri.specs.Fields.{Fields, encodeField, encodeBody, encodeNlri, WellFormedBody}
 use Rattle.nlri.specs.Reading.{Laid, fieldSize, sizesOf, laidWith, cut}
 use Rattle.nlri.proofs.Definitions.Table.{listed, on-body, known, RowOf, rowOf, closes, closed, mostIn, Along, along-fields}
-use Rattle.nlri.proofs.Definitions.Judged.{Judges, Closes, fieldsFrom, field-sound, field-complete, field-most, field-octets}
+use Rattle.nlri.proofs.Definitions.Judged.{Judges, Closes, fieldsFrom, field-sound, field-complete, field-most, octets-field}
 
 -- the encodings of the fields of a body, and their sizes
 abbrev pub piecesOf : Fields → List FieldKind → List (List ℕ)
@@ -36,10 +36,10 @@ cut-body f [] t = refl
 cut-body f (k ∷ body) t =
     rw (append-assoc (encodeField f k) (encodeBody f body) t, take-append-seam (encodeField f k) (encodeBody f body ++ t), drop-append-seam (encodeField f k) (encodeBody f body ++ t), cut-body f body t)
 
-cut-length : (sizes s : List ℕ) → length (cut sizes s) ≡ length sizes
+length-cut : (sizes s : List ℕ) → length (cut sizes s) ≡ length sizes
 unfolding cut
-cut-length [] s = refl
-cut-length (n ∷ sizes) s = ap suc (cut-length sizes (drop n s))
+length-cut [] s = refl
+length-cut (n ∷ sizes) s = ap suc (length-cut sizes (drop n s))
 
 closes-body : (f : Fields) (k : FieldKind) (body : List FieldKind) → closes k body ≡ true → Closes k (encodeBody f body)
 unfolding closes encodeBody
@@ -80,13 +80,13 @@ laid-out judge bits s laid e =
     })
 
 module _ (judge : List ℕ → Outcome ℕ) (Key : List ℕ → Type 0) (judges : Judges judge Key) (bits : ℕ) (whole : 8 * (bits / 8) ≡ bits) where
-  sizes-length : (type : ℕ) (body : List FieldKind) (s sizes : List ℕ) → sizesOf (fieldSize judge bits type) body s ≡ given sizes → length sizes ≡ length body
+  length-sizes : (type : ℕ) (body : List FieldKind) (s sizes : List ℕ) → sizesOf (fieldSize judge bits type) body s ≡ given sizes → length sizes ≡ length body
   unfolding sizesOf
-  sizes-length type [] s sizes e = ap length (sym (given-same (given-unless _ _ _ _ e .1)))
-  sizes-length type (k ∷ body) s sizes e =
+  length-sizes type [] s sizes e = ap length (sym (given-same (given-unless _ _ _ _ e .1)))
+  length-sizes type (k ∷ body) s sizes e =
       let p = passed _ _ _ e in
       let q = passed _ _ _ (p .second) in
-      ap length (sym (given-same (q .second))) ∙ ap suc (sizes-length type body _ (q .value) (q .first))
+      ap length (sym (given-same (q .second))) ∙ ap suc (length-sizes type body _ (q .value) (q .first))
 
   -- a body read is well-formed, and is its encoding
   body-sound : (type : ℕ) (body : List FieldKind) (s sizes : List ℕ) (field : FieldKind → List ℕ) → AllOctets s → sizesOf (fieldSize judge bits type) body s ≡ given sizes → Along field body (cut sizes s)
@@ -116,10 +116,10 @@ module _ (judge : List ℕ → Outcome ℕ) (Key : List ℕ → Type 0) (judges 
   body-most w bound small f (k ∷ body) h =
       rw length-append (omega (arith, field-most judge Key judges bits whole w bound small f k (h .0), body-most w bound small f body (h .1)))
 
-  body-octets : ((k : List ℕ) → Key k → AllOctets k) → bits ≤ 128 → (f : Fields) (body : List FieldKind) → WellFormedBody Key bits f body → AllOctets (encodeBody f body)
+  octets-body : ((k : List ℕ) → Key k → AllOctets k) → bits ≤ 128 → (f : Fields) (body : List FieldKind) → WellFormedBody Key bits f body → AllOctets (encodeBody f body)
   unfolding encodeBody
-  body-octets ofKey small f [] h = none
-  body-octets ofKey small f (k ∷ body) h = octets-append (field-octets judge Key judges bits whole ofKey small f k (h .0)) (body-octets ofKey small f body (h .1))
+  octets-body ofKey small f [] h = none
+  octets-body ofKey small f (k ∷ body) h = octets-append (octets-field judge Key judges bits whole ofKey small f k (h .0)) (octets-body ofKey small f body (h .1))
 
   -- the fields of what was laid out
   abbrev pub fieldsAt : List ℕ → Laid → Fields
@@ -133,9 +133,9 @@ module _ (judge : List ℕ → Outcome ℕ) (Key : List ℕ → Type 0) (judges 
       let o = laid-out judge bits s laid e in
       let rest : List ℕ = part s 2 (laid .size) in
       let along : Along (λ kind. fieldIn [] kind (laid .body) (cut (laid .sizes) rest)) (bodyOf (laid .type)) (cut (laid .sizes) rest) =
-      rw (o .body) (along-fields [] (bodyOf (laid .type)) (cut (laid .sizes) rest) (o .row .distinct) (cut-length _ _ ∙ sizes-length (laid .type) _ _ _ (o .sizes))) in
+      rw (o .body) (along-fields [] (bodyOf (laid .type)) (cut (laid .sizes) rest) (o .row .distinct) (length-cut _ _ ∙ length-sizes (laid .type) _ _ _ (o .sizes))) in
       let b = body-sound (laid .type) (bodyOf (laid .type)) rest (laid .sizes) _ (octets-part 2 (laid .size) a) (o .sizes) along in
-      let len : laid .size ≡ length (encodeBody (fieldsAt s laid) (bodyOf (laid .type))) = sym (ap length (b .1) ∙ part-length s 2 (laid .size) (omega (arith, o .fits, o .enough))) in
+      let len : laid .size ≡ length (encodeBody (fieldsAt s laid) (bodyOf (laid .type))) = sym (ap length (b .1) ∙ length-part s 2 (laid .size) (omega (arith, o .fits, o .enough))) in
       (b .0, take-two s (laid .size) (o .enough) ∙ ap₂ (λ (x : ℕ) (y : List ℕ). x ∷ y) (sym (o .typed)) (ap₂ (λ (x : ℕ) (y : List ℕ). x ∷ y) (sym (o .sized) ∙ len) (sym (b .1))))
 
   -- a well-formed NLRI that stands encoded is read
@@ -152,11 +152,11 @@ module _ (judge : List ℕ → Outcome ℕ) (Key : List ℕ → Type 0) (judges 
       ∙ sym (goes _ _ _ _ (ap (sizesOf (fieldSize judge bits (f .type)) body) (take-append-seam (encodeBody f body) t) ∙ body-complete f body (rowOf (f .type) l .closed) w) refl)
 
   -- a well-formed NLRI in octets: its Length fits an octet
-  pub nlri-octets : (w : ℕ) → ((k : List ℕ) → Key k → (length k ≤ w) × AllOctets k) → bits ≤ 128 → (f : Fields) → (1 ≤ f .type) × (f .type ≤ 7) → WellFormedBody Key bits f (bodyOf (f .type))
+  pub octets-nlri : (w : ℕ) → ((k : List ℕ) → Key k → (length k ≤ w) × AllOctets k) → bits ≤ 128 → (f : Fields) → (1 ≤ f .type) × (f .type ≤ 7) → WellFormedBody Key bits f (bodyOf (f .type))
       → (most : ℕ) → mostIn w (bodyOf (f .type)) ≤ most → most < 256 → (length (encodeNlri f) ≤ 2 + most) × AllOctets (encodeNlri f)
   unfolding encodeNlri
-  nlri-octets w ofKey small f range h most within fits =
+  octets-nlri w ofKey small f range h most within fits =
       let len = body-most w (λ k key. ofKey k key .0) small f (bodyOf (f .type)) h in
       let first : f .type < 256 = omega arith in
       let second : length (encodeBody f (bodyOf (f .type))) < 256 = omega arith in
-      (omega arith, one first (one second (body-octets (λ k key. ofKey k key .1) small f (bodyOf (f .type)) h)))
+      (omega arith, one first (one second (octets-body (λ k key. ofKey k key .1) small f (bodyOf (f .type)) h)))

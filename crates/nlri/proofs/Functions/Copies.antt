@@ -8,7 +8,7 @@ use lib.ListN.{length, getD, take, drop, replicate}
 use lib.Seq.{take-all, drop-cons}
 use Rattle.octets.specs.Octets.{part, sized}
 use Rattle.octets.proofs.Choice.{pick-true, pick-false}
-use Rattle.octets.proofs.Lists.{copied-sized, part-length}
+use Rattle.octets.proofs.Lists.{copied-sized, length-part}
 use Rattle.nlri.specs.Answers.{addressStruct, kindOctets, distinguisherStruct}
 
 pub address-held : (held xs : List ℕ) (n : ℕ) → held ≡ take (length xs) xs ++ drop (length xs) (replicate 16 0) → n ≡ length xs → length xs ≤ 16 → record { octets = held; size = n } ≡ addressStruct xs
@@ -20,18 +20,18 @@ unfoldable pub octetsFrom : (at n : ℕ) → List ℕ → List ℕ
 octetsFrom at zero s = []
 octetsFrom at (suc n) s = getD s at 0 ∷ octetsFrom (suc at) n s
 
-taken-octets : (at n : ℕ) (s : List ℕ) → at + n ≤ length s → take n (drop at s) ≡ octetsFrom at n s
+octets-taken : (at n : ℕ) (s : List ℕ) → at + n ≤ length s → take n (drop at s) ≡ octetsFrom at n s
 unfolding octetsFrom
-taken-octets at zero s h = refl
-taken-octets at (suc n) s h = ap (take (suc n)) (drop-cons s at 0 (omega arith)) ∙ ap (λ (rest : List ℕ). getD s at 0 ∷ rest) (taken-octets (suc at) n s (omega arith))
+octets-taken at zero s h = refl
+octets-taken at (suc n) s h = ap (take (suc n)) (drop-cons s at 0 (omega arith)) ∙ ap (λ (rest : List ℕ). getD s at 0 ∷ rest) (octets-taken (suc at) n s (omega arith))
 
 pub ipv4-held : (s : List ℕ) → 4 ≤ length s → record { octets = octetsFrom 0 4 s ++ replicate 12 0; size = 4 } ≡ addressStruct (take 4 s)
 unfolding addressStruct sized octetsFrom
-ipv4-held s h = ap addressStruct (sym (taken-octets 0 4 s h))
+ipv4-held s h = ap addressStruct (sym (octets-taken 0 4 s h))
 
 pub ipv6-held : (s : List ℕ) → 16 ≤ length s → record { octets = octetsFrom 0 16 s; size = 16 } ≡ addressStruct (take 16 s)
 unfolding addressStruct sized octetsFrom
-ipv6-held s h = ap addressStruct (sym (taken-octets 0 16 s h))
+ipv6-held s h = ap addressStruct (sym (octets-taken 0 16 s h))
 
 -- the octets of an address, by its kind
 module _ (bits : ℕ) (s : List ℕ) where
@@ -60,7 +60,7 @@ unfolding distinguisherStruct sized
 no-distinguisher = refl
 
 pub take-part : (s : List ℕ) (start size most : ℕ) → start + size ≤ length s → size ≤ most → take most (part s start size) ≡ part s start size
-take-part s start size most h m = let l = part-length s start size h in take-all most (part s start size) (omega arith)
+take-part s start size most h m = let l = length-part s start size h in take-all most (part s start size) (omega arith)
 
 pub empty-part : (s : List ℕ) (start size : ℕ) → size ≡ 0 → [] ≡ part s start size
 unfolding part

@@ -18,7 +18,7 @@ use Rattle.nlri.specs.declared.layout.Layout.{Layout}
 use Rattle.nlri.specs.Family.{allowed, isOriginatorSize}
 use Rattle.nlri.specs.Reading.{addressEnd, addressField}
 use Rattle.nlri.specs.Inner.{layoutWith, originatorLast, nothingLast, lastFault, restFault, withGroup, flowSizes, flowEnd, flowEndFault, addressThen, groupFault, flowFault, flowRoute, intraAs, interAs, keyEnd, bodyWith, withSourceAs, sourceStart}
-use Rattle.nlri.proofs.Functions.Numbered.{last-number}
+use Rattle.nlri.proofs.Functions.Numbered.{number-last}
 
 -- what stands from `at` to the end
 module _ (good : ℕ → Bool) (at size : ℕ) where
@@ -54,23 +54,23 @@ by-tests true b l = refl
 by-tests false true l = refl
 by-tests false false l = refl
 
-pub intra-number : (s : List ℕ) → restFault isOriginatorSize 8 (length s) ≡ numberOf (intraAs s)
+pub number-intra-as : (s : List ℕ) → restFault isOriginatorSize 8 (length s) ≡ numberOf (intraAs s)
 unfolding restFault intraAs originatorLast layoutWith
-intra-number s = by-tests _ _ _
+number-intra-as s = by-tests _ _ _
 
-pub inter-number : (s : List ℕ) → restFault (λ rest. eqb rest 0) 12 (length s) ≡ numberOf (interAs s)
+pub number-inter-as : (s : List ℕ) → restFault (λ rest. eqb rest 0) 12 (length s) ≡ numberOf (interAs s)
 unfolding restFault interAs nothingLast layoutWith
-inter-number s = by-tests _ _ _
+number-inter-as s = by-tests _ _ _
 
 -- what follows a key
 module _ (alone : Bool) (at n : ℕ) (within : at ≤ n) where
-  pub alone-number : alone ≡ true → restFault (λ rest. eqb rest 0) at n ≡ numberOf (keyEnd alone (layoutWith 4 n 0 0 (n - at) at))
+  pub number-alone : alone ≡ true → restFault (λ rest. eqb rest 0) at n ≡ numberOf (keyEnd alone (layoutWith 4 n 0 0 (n - at) at))
   unfolding keyEnd nothingLast layoutWith
-  alone-number t = rest-within _ at n within ∙ last-number _ _ ∙ ap numberOf (sym (pick-true _ _ _ t))
+  number-alone t = rest-within _ at n within ∙ number-last _ _ ∙ ap numberOf (sym (pick-true _ _ _ t))
 
-  pub followed-number : alone ≡ false → restFault isOriginatorSize at n ≡ numberOf (keyEnd alone (layoutWith 4 n 0 0 (n - at) at))
+  pub number-followed : alone ≡ false → restFault isOriginatorSize at n ≡ numberOf (keyEnd alone (layoutWith 4 n 0 0 (n - at) at))
   unfolding keyEnd originatorLast layoutWith
-  followed-number f = rest-within _ at n within ∙ last-number _ _ ∙ ap numberOf (sym (pick-false _ _ _ f))
+  number-followed f = rest-within _ at n within ∙ number-last _ _ ∙ ap numberOf (sym (pick-false _ _ _ f))
 
 -- what follows source and group
 module _ (type at n : ℕ) where
@@ -78,8 +78,8 @@ module _ (type at n : ℕ) where
   unfolding flowEndFault flowEnd originatorLast nothingLast layoutWith
   end-within size a b h =
       tested (eqb type 3)
-      (λ t. pick-true _ _ _ t ∙ rest-within _ at n h ∙ last-number _ _ ∙ ap numberOf (sym (pick-true _ _ _ t)))
-      (λ f. pick-false _ _ _ f ∙ rest-within _ at n h ∙ last-number _ _ ∙ ap numberOf (sym (pick-false _ _ _ f)))
+      (λ t. pick-true _ _ _ t ∙ rest-within _ at n h ∙ number-last _ _ ∙ ap numberOf (sym (pick-true _ _ _ t)))
+      (λ f. pick-false _ _ _ f ∙ rest-within _ at n h ∙ number-last _ _ ∙ ap numberOf (sym (pick-false _ _ _ f)))
 
   end-past : n < at → flowEndFault type at n ≡ LENGTH
   unfolding flowEndFault
@@ -110,9 +110,9 @@ module _ (bits type at : ℕ) (s : List ℕ) where
         (λ t. pick-true _ _ _ t ∙ ended (n / 8) ∙ ap (λ (o : Outcome ℕ). numberOf (andThen o after)) (sym (pick-true _ _ _ t)))
         (λ f. pick-false _ _ _ f ∙ number-stops WIDTH _ after (pick-false _ _ _ f))
 
-    address-number : addressThen bits type at s next ≡ numberOf (andThen (addressField bits type (drop at s)) after)
+    number-address : addressThen bits type at s next ≡ numberOf (andThen (addressField bits type (drop at s)) after)
     unfolding addressThen addressField
-    address-number =
+    number-address =
         let l : length (drop at s) ≡ length s - at = length-drop at s in
         tested (leb (length s) at)
         (λ t. pick-true _ _ _ t ∙ number-stops LENGTH _ after (pick-true _ _ _ (eq-eqb (length (drop at s)) 0 (omega (arith, leb-true)))))
@@ -122,11 +122,11 @@ module _ (bits type at : ℕ) (s : List ℕ) where
 
 -- a source and a group, and what follows them
 module _ (bits type at : ℕ) (s : List ℕ) where
-  group-number : (a : ℕ) → at + a ≤ length s
+  number-group : (a : ℕ) → at + a ≤ length s
       → groupFault bits type (at + a) s ≡ numberOf (andThen (withGroup bits type a (drop a (drop at s))) (λ sizes. flowEnd type (length s) (sizes .0) (sizes .1) (length s - at - sizes .0 - sizes .1)))
   unfolding groupFault withGroup
-  group-number a h =
-      address-number bits type (at + a) s _ (λ b. flowEnd type (length s) a b (length s - at - a - b))
+  number-group a h =
+      number-address bits type (at + a) s _ (λ b. flowEnd type (length s) a b (length s - at - a - b))
       (λ b q. end-within type (at + a + b) (length s) (length s) a b q ∙ ap (λ (r : ℕ). numberOf (flowEnd type (length s) a b r)) (omega arith))
       (λ end q. end-past type end (length s) q)
       ∙ ap (λ (x : List ℕ). numberOf (andThen (addressField bits type x) (λ b. flowEnd type (length s) a b (length s - at - a - b)))) (sym (drop-drop a at s))
@@ -136,12 +136,12 @@ module _ (bits type at : ℕ) (s : List ℕ) where
   unfolding groupFault
   group-past end h = address-past bits type end s _ (omega arith)
 
-  pub flow-number : flowFault bits type at s ≡ numberOf (flowRoute bits type at s)
+  pub number-flow : flowFault bits type at s ≡ numberOf (flowRoute bits type at s)
   unfolding flowFault flowRoute flowSizes numberOf
-  flow-number =
+  number-flow =
       tested (ltb (length s) at)
       (λ t. address-past bits type at s _ (omega (arith, ltb-true)) ∙ ap numberOf (sym (pick-true _ _ _ t)))
-      (λ f. address-number bits type at s _ _ group-number group-past ∙ sym (ap numberOf (pick-false _ _ _ f ∙ and-assoc _ _ _)))
+      (λ f. number-address bits type at s _ _ number-group group-past ∙ sym (ap numberOf (pick-false _ _ _ f ∙ and-assoc _ _ _)))
 
 -- the body of a route type
 module _ (keyed : Outcome Layout) (bits type : ℕ) (s : List ℕ) where

@@ -11,7 +11,7 @@ use Rattle.octets.specs.Numbers.{TYPE, KEY}
 use Rattle.octets.specs.Choice.{pick}
 use Rattle.octets.specs.Outcome.{Outcome, given, refused, andThen, onOutcome}
 use Rattle.octets.specs.Octets.{part}
-use Rattle.octets.proofs.Lists.{part-length}
+use Rattle.octets.proofs.Lists.{length-part}
 use Rattle.octets.proofs.Choice.{pick-cong}
 use Rattle.octets.proofs.Outcome.{and-cong, and-pick, and-given, and-refused, on-mapped, never, given-otherwise, passed, given-same, on-given-given}
 use Rattle.nlri.specs.declared.layout.Layout.{Layout}
@@ -67,7 +67,7 @@ module _ (kf : List ℕ → Outcome ℕ) (bits : ℕ) (s : List ℕ) where
           ≡ onBody bodies (getD s 0 0) (refused TYPE) (rowLayout (fieldSize kf bits (getD s 0 0)) (getD s 0 0) (part s 2 (getD s 1 0)))
       same enough whole =
           ap (λ (n : ℕ). onBody bodies (getD s 0 0) (refused TYPE) (λ body. andThen (andThen (sizesOf (fieldSize kf bits (getD s 0 0)) body (part s 2 (getD s 1 0))) (λ sizes. given (record { type = getD s 0 0; size = n; body = body; sizes = sizes }))) (λ laid. given (layoutOf laid))))
-          (sym (part-length s 2 (getD s 1 0) (omega (arith, ltb-false))))
+          (sym (length-part s 2 (getD s 1 0) (omega (arith, ltb-false))))
 
   pub laid-within : (laid : Laid) → laidWith kf bits s ≡ given laid → (2 ≤ length s) × (2 + laid .size ≤ length s) × (laid .type ≡ getD s 0 0) × (laid .size ≡ getD s 1 0)
   unfolding laidWith

@@ -27,13 +27,13 @@ unfolding headerOutcome
 number-unread r o n next p q = number-stops n o next (sym p ∙ ap headerOutcome q)
 
 -- by a test of what remains
-pub last-number : {A : Type 0} (b : Bool) (a : A) → lastFault b ≡ numberOf (pick b (given a) (refused LENGTH))
+pub number-last : {A : Type 0} (b : Bool) (a : A) → lastFault b ≡ numberOf (pick b (given a) (refused LENGTH))
 unfolding lastFault pick numberOf
-last-number true a = refl
-last-number false a = refl
+number-last true a = refl
+number-last false a = refl
 
-pub front-number : (t bits : ℕ) (s : List ℕ) → t ≡ numberOf (anyFront bits s) → t ≡ numberOf (layoutAt bits s)
-front-number t bits s p = p ∙ ap numberOf (front-is (anyFront bits s) bits s refl)
+pub number-front : (t bits : ℕ) (s : List ℕ) → t ≡ numberOf (anyFront bits s) → t ≡ numberOf (layoutAt bits s)
+number-front t bits s p = p ∙ ap numberOf (front-is (anyFront bits s) bits s refl)
 
 pub ruleset numbers = (tests, number-typed, number-unread)
 

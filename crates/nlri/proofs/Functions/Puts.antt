@@ -13,9 +13,9 @@ use Rattle.octets.specs.Choice.{pick}
 use Rattle.octets.specs.Outcome.{given, onOutcome, numberOf}
 use Rattle.octets.specs.Octets.{bigEndian}
 use Rattle.octets.specs.Outputs.{writtenOf, outputOf}
-use Rattle.octets.proofs.Lists.{Put, sized-length, sized-taken, front-is-placed}
+use Rattle.octets.proofs.Lists.{Put, length-sized, sized-taken, front-is-placed}
 use Rattle.octets.proofs.Choice.{pick-true, pick-false}
-use Rattle.octets.proofs.NetworkOrder.{big-endian-length}
+use Rattle.octets.proofs.NetworkOrder.{length-bigEndian}
 use Rattle.nlri.specs.declared.address.Address.{Address}
 use Rattle.nlri.specs.declared.fields.Nlri.{Nlri}
 use Rattle.nlri.specs.Fields.{encodeAddress}
@@ -23,9 +23,9 @@ use Rattle.nlri.specs.Answers.{addressOctets}
 use Rattle.nlri.specs.Inner.{withSourceAs}
 use Rattle.nlri.specs.InnerWriting.{hasFlow, hasOriginator, fixedSize, flowSize, originatorLength, sizeOf, sourceAsOctets, fixedOctets, flowOctets, originatorOctets, bodyOctets, nlriOctets}
 
-pub octets-length : (a : Address) → length (addressOctets a) ≡ a .size
+pub length-octets : (a : Address) → length (addressOctets a) ≡ a .size
 unfolding addressOctets
-octets-length a = sized-length (a .size) (a .octets)
+length-octets a = length-sized (a .size) (a .octets)
 
 pub octets-taken : (a : Address) (n : ℕ) → a .size ≡ n → n ≤ length (a .octets) → take n (a .octets) ≡ addressOctets a
 unfolding addressOctets
@@ -39,7 +39,7 @@ octets-none a e = octets-taken a 0 e (omega arith)
 
 pub address-split : (a : Address) → (8 * a .size ∷ []) ++ addressOctets a ≡ encodeAddress (addressOctets a)
 unfolding encodeAddress
-address-split a = ap (λ (n : ℕ). 8 * n ∷ addressOctets a) (sym (octets-length a))
+address-split a = ap (λ (n : ℕ). 8 * n ∷ addressOctets a) (sym (length-octets a))
 
 pub address-room : (a : Address) → length (encodeAddress (addressOctets a)) ≡ 1 + length (addressOctets a)
 unfolding encodeAddress
@@ -78,13 +78,13 @@ module _ (nlri : Nlri) (key : List ℕ) where
   unfolding originatorOctets
   originator-none h = sym (pick-false _ _ _ h)
 
-  pub body-length : length (bodyOctets nlri key) ≡ length (fixedOctets nlri key) + length (flowOctets nlri) + length (originatorOctets nlri)
+  pub length-body : length (bodyOctets nlri key) ≡ length (fixedOctets nlri key) + length (flowOctets nlri) + length (originatorOctets nlri)
   unfolding bodyOctets
-  body-length = simp length-append (omega arith)
+  length-body = simp length-append (omega arith)
 
-  pub all-length : length (nlriOctets nlri key) ≡ 2 + length (bodyOctets nlri key)
+  pub length-nlri : length (nlriOctets nlri key) ≡ 2 + length (bodyOctets nlri key)
   unfolding nlriOctets
-  all-length = omega arith
+  length-nlri = omega arith
 
   pub all-put : (n : ℕ) → n ≡ length (bodyOctets nlri key) → (nlri .«route_type» ∷ n ∷ []) ++ bodyOctets nlri key ≡ nlriOctets nlri key
   unfolding nlriOctets
@@ -137,36 +137,36 @@ pub originator-short : (type o : ℕ) → (hasOriginator type ≡ true → o ≤
 unfolding originatorLength
 originator-short type o h = under (hasOriginator type) _ _ 16 h (omega arith)
 
-pick-length : (b : Bool) (x y : List ℕ) → length (pick b x y) ≡ pick b (length x) (length y)
+length-pick : (b : Bool) (x y : List ℕ) → length (pick b x y) ≡ pick b (length x) (length y)
 unfolding pick
-pick-length true x y = refl
-pick-length false x y = refl
+length-pick true x y = refl
+length-pick false x y = refl
 
 module _ (nlri : Nlri) (key : List ℕ) (eight : length (nlri .distinguisher .octets) ≡ 8) where
   fixed-size : length (fixedOctets nlri key) ≡ fixedSize (nlri .«route_type») (length key)
   unfolding fixedOctets fixedSize sourceAsOctets
   fixed-size =
-      pick-length _ _ _ ∙ ap (pick _ _) (length-append (nlri .distinguisher .octets) _ ∙ ap₂ _+_ eight (pick-length _ _ _ ∙ ap (λ (n : ℕ). pick (withSourceAs (nlri .«route_type»)) n 0) (big-endian-length 4 (nlri .«source_as»))) ∙ eight-and (withSourceAs (nlri .«route_type»)))
+      length-pick _ _ _ ∙ ap (pick _ _) (length-append (nlri .distinguisher .octets) _ ∙ ap₂ _+_ eight (length-pick _ _ _ ∙ ap (λ (n : ℕ). pick (withSourceAs (nlri .«route_type»)) n 0) (length-bigEndian 4 (nlri .«source_as»))) ∙ eight-and (withSourceAs (nlri .«route_type»)))
 
   flow-size : length (flowOctets nlri) ≡ flowSize (nlri .«route_type») (nlri .source .size) (nlri .group .size)
   unfolding flowOctets flowSize
   flow-size =
       let a = address-room (nlri .source) in
       let b = address-room (nlri .group) in
-      let la = octets-length (nlri .source) in
-      let lb = octets-length (nlri .group) in
+      let la = length-octets (nlri .source) in
+      let lb = length-octets (nlri .group) in
       let l = length-append (encodeAddress (addressOctets (nlri .source))) (encodeAddress (addressOctets (nlri .group))) in
-      pick-length _ _ _ ∙ ap (λ (n : ℕ). pick (hasFlow (nlri .«route_type»)) n 0) (omega arith)
+      length-pick _ _ _ ∙ ap (λ (n : ℕ). pick (hasFlow (nlri .«route_type»)) n 0) (omega arith)
 
   originator-size : length (originatorOctets nlri) ≡ originatorLength (nlri .«route_type») (nlri .originator .size)
   unfolding originatorOctets originatorLength
-  originator-size = pick-length _ _ _ ∙ ap (λ (n : ℕ). pick (hasOriginator (nlri .«route_type»)) n 0) (octets-length (nlri .originator))
+  originator-size = length-pick _ _ _ ∙ ap (λ (n : ℕ). pick (hasOriginator (nlri .«route_type»)) n 0) (length-octets (nlri .originator))
 
   pub size-is : sizeOf nlri (length key) ≡ length (nlriOctets nlri key)
   unfolding sizeOf
   size-is =
-      let a = all-length nlri key in
-      let b = body-length nlri key in
+      let a = length-nlri nlri key in
+      let b = length-body nlri key in
       let f = fixed-size in
       let w = flow-size in
       let o = originator-size in

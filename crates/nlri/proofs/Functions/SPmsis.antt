@@ -20,8 +20,8 @@ use Rattle.nlri.specs.Reading.{fieldsOf, readNlri, isSPmsi}
 use Rattle.nlri.specs.Layouts.{layoutOf, layoutAt}
 use Rattle.nlri.specs.Inner.{layoutWith, originatorLast, lastFault, flowSizes, flowEnd, flowFault, flowRoute, bodyWith, anyBody, headerAt, endsWith, single, sPmsiUnder}
 use Rattle.nlri.proofs.Functions.Fronts.{anyFront, front-is, layout-octets}
-use Rattle.nlri.proofs.Functions.Numbered.{front-done, last-number}
-use Rattle.nlri.proofs.Functions.Ends.{flow-number}
+use Rattle.nlri.proofs.Functions.Numbered.{front-done, number-last}
+use Rattle.nlri.proofs.Functions.Ends.{number-flow}
 use Rattle.nlri.proofs.Functions.Shapes.{whole-part}
 use Rattle.nlri.proofs.Functions.Singles.{single-laid}
 
@@ -48,7 +48,7 @@ none-of (given l) h = go (eqb (l .«route_type») 3) refl
 -- a source and a group judged in the whole NLRI, where they stand two octets further
 end-alone : (size size′ a b rest rest′ : ℕ) → rest ≡ rest′ → numberOf (flowEnd 3 size a b rest) ≡ numberOf (flowEnd 3 size′ a b rest′)
 unfolding flowEnd originatorLast layoutWith pick
-end-alone size size′ a b rest rest′ e = sym (last-number _ _) ∙ ap (λ (k : ℕ). lastFault (isOriginatorSize k)) e ∙ last-number _ _
+end-alone size size′ a b rest rest′ e = sym (number-last _ _) ∙ ap (λ (k : ℕ). lastFault (isOriginatorSize k)) e ∙ number-last _ _
 
 ends-alike : (o : Outcome (ℕ × ℕ)) (n m : ℕ) → m - 8 ≡ n - 10
     → numberOf (andThen o (λ sizes. flowEnd 3 m (sizes .0) (sizes .1) (m - 8 - sizes .0 - sizes .1))) ≡ numberOf (andThen o (λ sizes. flowEnd 3 n (sizes .0) (sizes .1) (n - 10 - sizes .0 - sizes .1)))
@@ -106,7 +106,7 @@ module _ (bits : ℕ) (s : List ℕ) where
     where
       flow : 10 ≤ length s → getD s 0 0 ≡ 3 → getD s 1 0 ≡ length s - 2 → ofSPmsi (single bits s) ≡ eqb (flowFault bits 3 10 s) DONE
       flow enough t n =
-          by-number t n ∙ ap (λ (k : ℕ). eqb k DONE) (ap numberOf (front-three (omega arith) t n) ∙ flow-whole bits s enough ∙ sym (flow-number bits 3 10 s))
+          by-number t n ∙ ap (λ (k : ℕ). eqb k DONE) (ap numberOf (front-three (omega arith) t n) ∙ flow-whole bits s enough ∙ sym (number-flow bits 3 10 s))
 
 -- under an AFI
 module _ (afi : ℕ) (s : List ℕ) where

@@ -23,7 +23,7 @@ use Rattle.nlri.specs.Layouts.{layoutOf, layoutAt, layoutSingle}
 use Rattle.nlri.specs.Answers.{nlriStruct, keySpan, nlriAnswer}
 use Rattle.nlri.specs.Inner.{withSourceAs, sourceStart, fieldsAt, keyAt, LayoutWithin, endsWith, single}
 use Rattle.nlri.proofs.Definitions.Lengths.{family-octets}
-use Rattle.octets.proofs.Lists.{part-length}
+use Rattle.octets.proofs.Lists.{length-part}
 use Rattle.nlri.proofs.Functions.Shapes.{shaped}
 
 pub single-laid : (bits : ℕ) (s : List ℕ) → single bits s ≡ andThen (laidSingle bits s) (λ laid. given (layoutOf laid))
@@ -68,7 +68,7 @@ nlri-same d d′ a a′ g g′ o o′ x x′ t t′ pd pa pg po px pt = λ i. re
 
 pub key-same : (l : Layout) (s : List ℕ) → 2 + l .key ≤ length s → keyAt l ≡ keySpan (fieldsAt l s)
 unfolding keyAt keySpan fieldsAt
-key-same l s h = λ i. record { start = pick (eqb (l .«route_type») 4) 2 0; size = sym (part-length s 2 (l .key) h) i }
+key-same l s h = λ i. record { start = pick (eqb (l .«route_type») 4) 2 0; size = sym (length-part s 2 (l .key) h) i }
 
 pub answer-given : (afi : ℕ) (s : List ℕ) (f : Fields) (nlri : Nlri) (key : Span) → readNlri afi s ≡ given f → nlri ≡ nlriStruct f → key ≡ keySpan f → record { number = DONE; nlri = nlri; key = key } ≡ nlriAnswer (readNlri afi s)
 unfolding nlriAnswer onOutcome

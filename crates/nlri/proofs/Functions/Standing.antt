@@ -13,7 +13,7 @@ use Rattle.octets.specs.Choice.{pick, either}
 use Rattle.octets.specs.Numbers.{DONE, KEY}
 use Rattle.octets.specs.Outcome.{Outcome, given, refused, onOutcome, andThen, numberOf}
 use Rattle.octets.specs.Octets.{part}
-use Rattle.octets.proofs.Lists.{part-length}
+use Rattle.octets.proofs.Lists.{length-part}
 use Rattle.octets.proofs.Choice.{picks, skips}
 use Rattle.octets.proofs.Outcome.{goes, stops, on-given, on-refused, never, given-otherwise, given-unless, passed, given-same, on-given-given, refused-of}
 use Rattle.nlri.specs.declared.layout.Layout.{Layout}
@@ -79,8 +79,8 @@ unkeyed-octets bits s l e =
     (ap (λ (x : Layout). x .«route_type») (sym same) ∙ h .2, ap (λ (x : Layout). x .length) (sym same) ∙ h .3)
 
 module _ (s : List ℕ) (within : 2 + getD s 1 0 ≤ length s) where
-  body-length : length (part s 2 (getD s 1 0)) ≡ getD s 1 0
-  body-length = part-length s 2 (getD s 1 0) within
+  length-body : length (part s 2 (getD s 1 0)) ≡ getD s 1 0
+  length-body = length-part s 2 (getD s 1 0) within
 
   octet : (i : ℕ) → i < getD s 1 0 → getD (part s 2 (getD s 1 0)) i 0 ≡ getD s (2 + i) 0
   unfolding part
@@ -93,20 +93,20 @@ module _ (s : List ℕ) (within : 2 + getD s 1 0 ≤ length s) where
   unfolding intraAs originatorLast
   intra-laid l e =
       let p = given-otherwise _ _ _ _ e in
-      (omega (arith, ltb-false, body-length), sym (given-same (given-unless _ _ _ _ (p .1) .1)) ∙ ap (λ (m : ℕ). layoutWith 1 m 0 0 (m - 8) 0) body-length)
+      (omega (arith, ltb-false, length-body), sym (given-same (given-unless _ _ _ _ (p .1) .1)) ∙ ap (λ (m : ℕ). layoutWith 1 m 0 0 (m - 8) 0) length-body)
 
   inter-laid : (l : Layout) → interAs (part s 2 (getD s 1 0)) ≡ given l → l ≡ layoutWith 2 (getD s 1 0) 0 0 0 0
   unfolding interAs nothingLast layoutWith
   inter-laid l e =
       let p = given-unless _ _ _ _ (given-otherwise _ _ _ _ e .1) in
-      sym (given-same (p .1)) ∙ ap₂ (λ (m o : ℕ). layoutWith 2 m 0 0 o 0) body-length (eqb-true _ _ (p .0))
+      sym (given-same (p .1)) ∙ ap₂ (λ (m o : ℕ). layoutWith 2 m 0 0 o 0) length-body (eqb-true _ _ (p .0))
 
   leaf-laid : (bits : ℕ) (l : Layout) → keyed false bits (part s 2 (getD s 1 0)) ≡ given l → ((4 ≤ length s) × (2 + getD s 3 0 ≤ getD s 1 0)) × (l ≡ leafLayout s)
   unfolding keyed originatorLast leafLayout
   leaf-laid bits l e =
       let p = passed _ _ _ e in
       let h = key-within bits _ (p .value) (p .first) in
-      let n : length (part s 2 (getD s 1 0)) ≡ getD s 1 0 = body-length in
+      let n : length (part s 2 (getD s 1 0)) ≡ getD s 1 0 = length-body in
       let k : p .value ≡ 2 + getD s 3 0 = key-is-long bits _ (p .value) (p .first) ∙ ap (λ (x : ℕ). 2 + x) (octet 1 (omega arith)) in
       ((omega arith, omega arith), sym (given-same (given-unless _ _ _ _ (sym (followed _) ∙ p .second) .1)) ∙ ap₂ (λ (m x : ℕ). layoutWith 4 m 0 0 (m - x) x) n k)
 
@@ -123,7 +123,7 @@ module _ (s : List ℕ) (within : 2 + getD s 1 0 ≤ length s) where
         let zb : b ≡ p .value .1 = ap (λ (z : ℕ × ℕ). z .1) (given-same (r .second)) in
         let ha = address-within bits type _ a (q .first) in
         let hb = address-within bits type _ b (r .first) in
-        let la : length (drop fixed (part s 2 (getD s 1 0))) ≡ getD s 1 0 - fixed = length-drop fixed _ ∙ ap (λ (k : ℕ). k - fixed) body-length in
+        let la : length (drop fixed (part s 2 (getD s 1 0))) ≡ getD s 1 0 - fixed = length-drop fixed _ ∙ ap (λ (k : ℕ). k - fixed) length-body in
         let lb : length (drop a (drop fixed (part s 2 (getD s 1 0)))) ≡ getD s 1 0 - fixed - a = length-drop a _ ∙ ap (λ (k : ℕ). k - a) la in
         let sa : 1 + getD s at 0 / 8 ≡ a =
         ap (λ (k : ℕ). 1 + getD s k 0 / 8) start ∙ ap (λ (v : ℕ). 1 + v / 8) (sym (first-octet fixed (omega (arith, ha .0, hb .0)))) ∙ sym (address-is bits type _ a (q .first)) in
@@ -136,8 +136,8 @@ module _ (s : List ℕ) (within : 2 + getD s 1 0 ≤ length s) where
         let whole : fixed + a + b + left ≡ getD s 1 0 = omega arith in (
           record { group = omega (arith, hb .0); sizes = omega arith },
           sym (last-is _ _ _ (p .second))
-              ∙ layout-same type _ _ _ _ _ _ _ _ body-length (omega arith) (omega arith)
-              (ap (λ (k : ℕ). k - fixed - p .value .0 - p .value .1) body-length ∙ rest-is (getD s 1 0) fixed (p .value .0) (p .value .1) left (omega arith)
+              ∙ layout-same type _ _ _ _ _ _ _ _ length-body (omega arith) (omega arith)
+              (ap (λ (k : ℕ). k - fixed - p .value .0 - p .value .1) length-body ∙ rest-is (getD s 1 0) fixed (p .value .0) (p .value .1) left (omega arith)
               ∙ sym (rest-is (getD s 1 0) at (getD s at 0 / 8) (getD s (at + 1 + getD s at 0 / 8) 0 / 8) left (omega arith))),
         )
 
@@ -220,17 +220,17 @@ module _ (bits : ℕ) (s : List ℕ) where
     key-other-type t = goes _ _ _ _ h (picks _ _ _ _ (lt-ltb 3 type t) refl)
 
     module _ (typed : type ≤ 3) (body : List ℕ) (fault : ℕ) (b : body ≡ part s 2 size) (f : fault ≡ numberOf (unkeyedBody bits type body)) where
-      body-number : fault ≡ numberOf (unkeyedBody bits type (part s 2 size))
-      body-number = f ∙ ap (λ (x : List ℕ). numberOf (unkeyedBody bits type x)) b
+      number-body : fault ≡ numberOf (unkeyedBody bits type (part s 2 size))
+      number-body = f ∙ ap (λ (x : List ℕ). numberOf (unkeyedBody bits type x)) b
 
       pub key-refused : (fault ≡ DONE → ⊥) → refused fault ≡ keyHeader bits s
       unfolding keyHeader
-      key-refused no-fault = goes _ _ _ _ h (skips _ _ _ _ (le-ltb 3 type typed) (stops _ fault _ (refused-of _ fault body-number no-fault)))
+      key-refused no-fault = goes _ _ _ _ h (skips _ _ _ _ (le-ltb 3 type typed) (stops _ fault _ (refused-of _ fault number-body no-fault)))
 
       pub key-typed : fault ≡ DONE → given (type, size) ≡ keyHeader bits s
       unfolding keyHeader
       key-typed q =
-          let r = unkeyed-done bits type (part s 2 size) (sym body-number ∙ q) in
+          let r = unkeyed-done bits type (part s 2 size) (sym number-body ∙ q) in
           goes _ _ _ _ h (skips _ _ _ _ (le-ltb 3 type typed) (goes _ _ (r .0) _ (r .1) refl))
 
   -- the reading of a key, every refusal turned into KEY, is document 01's

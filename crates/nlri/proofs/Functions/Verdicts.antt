@@ -24,9 +24,9 @@ use Rattle.nlri.specs.Writing.{widthFits, widthsFit, keyFits, keysFit, i
 use Rattle.nlri.specs.Answers.{addressOctets, structFields}
 use Rattle.nlri.specs.Inner.{withSourceAs}
 use Rattle.nlri.specs.InnerWriting.{hasFlow, hasOriginator, flowFits, originatorFits, leafFits, fitting, sizeOf, sourceAsOctets, fixedOctets, flowOctets, originatorOctets, bodyOctets, nlriOctets, AddressSize, AddressesSized, writeUnder}
-use Rattle.nlri.proofs.Definitions.Keys.{key-octets}
+use Rattle.nlri.proofs.Definitions.Keys.{octets-key}
 use Rattle.nlri.proofs.Definitions.Writes.{key-judged}
-use Rattle.nlri.proofs.Functions.Puts.{octets-length, size-is, fixed-short, flow-short, originator-short}
+use Rattle.nlri.proofs.Functions.Puts.{length-octets, size-is, fixed-short, flow-short, originator-short}
 
 more : (type k : ℕ) → k ≤ type → (type ≡ k → ⊥) → k + 1 ≤ type
 more type k h n = omega arith
@@ -180,8 +180,8 @@ module _ (nlri : Nlri) (key : List ℕ) (space bits : ℕ) (eight : length (nlri
   within type e low high =
       in-table type low high
       ∙ verdict-at bits (structFields nlri key) (Outcome (List ℕ)) page (refused KEY) (refused WIDTH) type low high e
-      ∙ ap₂ (λ (a b : ℕ). pick (flowFits bits type a b) (pick (originatorFits type (length (addressOctets (nlri .originator)))) (pick (leafFits bits type key) page (refused KEY)) (refused WIDTH)) (refused WIDTH)) (octets-length (nlri .source)) (octets-length (nlri .group))
-      ∙ ap₂ (λ (c : ℕ) (o : Outcome (List ℕ)). pick (flowFits bits type (nlri .source .size) (nlri .group .size)) (pick (originatorFits type c) (pick (leafFits bits type key) o (refused KEY)) (refused WIDTH)) (refused WIDTH)) (octets-length (nlri .originator)) (same-octets (omega (arith, e)) (omega (arith, e)))
+      ∙ ap₂ (λ (a b : ℕ). pick (flowFits bits type a b) (pick (originatorFits type (length (addressOctets (nlri .originator)))) (pick (leafFits bits type key) page (refused KEY)) (refused WIDTH)) (refused WIDTH)) (length-octets (nlri .source)) (length-octets (nlri .group))
+      ∙ ap₂ (λ (c : ℕ) (o : Outcome (List ℕ)). pick (flowFits bits type (nlri .source .size) (nlri .group .size)) (pick (originatorFits type c) (pick (leafFits bits type key) o (refused KEY)) (refused WIDTH)) (refused WIDTH)) (length-octets (nlri .originator)) (same-octets (omega (arith, e)) (omega (arith, e)))
       ∙ sym (pick-false _ _ _ (le-ltb type 1 low) ∙ pick-false _ _ _ (le-ltb 7 type high))
 
   beyond : (type : ℕ) → (type < 1) ⊎ (7 < type) → row-is type ≡ tested type ours
@@ -298,5 +298,5 @@ untouched n d = refl
 -- a key that the writer takes is short
 pub key-short : (bits : ℕ) (key : List ℕ) → (bits ≡ 32) ⊎ (bits ≡ 128) → ((i : ℕ) → getD key i 0 < 256) → isKey bits key ≡ true → length key ≤ 60
 unfolding familyBits pick
-key-short bits key (inl e) octets h = key-octets bits (omega arith) (omega arith) key (key-judged 1 bits (ap given (sym e)) key (octets-of key octets) h) .0
-key-short bits key (inr e) octets h = key-octets bits (omega arith) (omega arith) key (key-judged 2 bits (ap given (sym e)) key (octets-of key octets) h) .0
+key-short bits key (inl e) octets h = octets-key bits (omega arith) (omega arith) key (key-judged 1 bits (ap given (sym e)) key (octets-of key octets) h) .0
+key-short bits key (inr e) octets h = octets-key bits (omega arith) (omega arith) key (key-judged 2 bits (ap given (sym e)) key (octets-of key octets) h) .0

@@ -23,8 +23,8 @@ use Rattle.nlri.proofs.Definitions.Table.{RowOf, rowOf, known, mostIn, 
 use Rattle.nlri.proofs.Definitions.Judged.{fieldsFrom}
 use Rattle.nlri.proofs.Definitions.Lengths.{family-octets}
 use Rattle.nlri.proofs.Functions.Shapes.{whole-part}
-use Rattle.nlri.proofs.Definitions.Whole.{piecesOf, sizesIn, laidOf, cut-body, laid-out, fieldsAt, laid-sound, laid-complete, nlri-octets}
-use Rattle.nlri.proofs.Definitions.Keys.{key-judges, key-octets}
+use Rattle.nlri.proofs.Definitions.Whole.{piecesOf, sizesIn, laidOf, cut-body, laid-out, fieldsAt, laid-sound, laid-complete, octets-nlri}
+use Rattle.nlri.proofs.Definitions.Keys.{key-judges, octets-key}
 
 -- what is nothing where a test fails
 pick-none : {A : Type 0} (b : Bool) (x none : A) → (b ≡ false → x ≡ none) → pick b x none ≡ x
@@ -134,7 +134,7 @@ module _ (afi bits : ℕ) (ofFamily : familyBits afi ≡ given bits) where
   octets-encoded : (f : Fields) → WellFormed bits f → (most : ℕ) → mostIn 60 (bodyOf (f .type)) ≤ most → most < 256 → (length (encodeNlri f) ≤ 2 + most) × AllOctets (encodeNlri f)
   octets-encoded f w most within fits =
       let small = family-octets afi bits ofFamily .1 in
-      nlri-octets (keyField bits) (KeyOf bits) (key-judges bits whole) bits whole 60 (key-octets bits whole small) small f (w .typed) (w .body) most within fits
+      octets-nlri (keyField bits) (KeyOf bits) (key-judges bits whole) bits whole 60 (octets-key bits whole small) small f (w .typed) (w .body) most within fits
 
   row-encoded : (f : Fields) → WellFormed bits f → RowOf (f .type)
   row-encoded f w = rowOf (f .type) (known (f .type) (w .typed .0) (w .typed .1))

@@ -25,7 +25,7 @@ use Rattle.nlri.specs.Answers.{addressStruct, distinguisherStruct, addre
 use Rattle.nlri.specs.declared.fields.Nlri.{Nlri}
 use Rattle.nlri.specs.Statements.{ReadAs, HoldsOctets, StructHoldsOctets, RoundTrips}
 use Rattle.nlri.proofs.Definitions.Table.{rowOf, known}
-use Rattle.nlri.proofs.Definitions.Keys.{key-octets}
+use Rattle.nlri.proofs.Definitions.Keys.{octets-key}
 use Rattle.nlri.proofs.Statements.ReadRefusals.{readRefusals, refusal-not-done}
 use Rattle.nlri.proofs.Definitions.Lengths.{address-most, originator-most, family-octets}
 use Rattle.nlri.proofs.Statements.Acceptance.{field-in-body, read-sound, read-encoded}
@@ -69,7 +69,7 @@ held-read afi s f a e =
       source = octets-pick _ _ (ap (λ (g : Fields). g .source) (r .whole)) (λ h. at source h .1);
       group = octets-pick _ _ (ap (λ (g : Fields). g .group) (r .whole)) (λ h. at group h .1);
       originator = octets-pick _ _ (ap (λ (g : Fields). g .originator) (r .whole)) (λ h. at originator h .1);
-      key = octets-pick _ _ (ap (λ (g : Fields). g .key) (r .whole)) (λ h. key-octets (r .bits) (family-octets afi (r .bits) (r .ofFamily) .0) small (f .key) (at key h) .1);
+      key = octets-pick _ _ (ap (λ (g : Fields). g .key) (r .whole)) (λ h. octets-key (r .bits) (family-octets afi (r .bits) (r .ofFamily) .0) small (f .key) (at key h) .1);
     }
 
 -- an address as a struct, and back

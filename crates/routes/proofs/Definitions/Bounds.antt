@@ -11,7 +11,7 @@ use Rattle.octets.specs.Outcome.{Outcome, given, refused, onOutcome}
 use Rattle.octets.specs.Octets.{part}
 use Rattle.octets.proofs.Choice.{opposite}
 use Rattle.octets.proofs.Outcome.{given-otherwise, given-unless, passed, given-same}
-use Rattle.octets.proofs.Lists.{part-length}
+use Rattle.octets.proofs.Lists.{length-part}
 use Rattle.nlri.specs.Bodies.{FieldKind, distinguisher, source, group, originator, bodies, onBody, bodyOf}
 use Rattle.nlri.specs.Fields.{Fields}
 use Rattle.nlri.specs.Reading.{Laid, fixedField, addressEnd, addressField, originatorField, fieldSize, sizesOf, keyField, laidAt, laidSingle, fieldsOf, readNlri}
@@ -73,7 +73,7 @@ s-pmsi-size afi s f e three =
     let same : laid ≡ single .value = given-same (end .1) in
     let type : laid .type ≡ 3 = ap (λ (x : Laid). x .type) same ∙ ap (λ (x : Fields). x .type) (given-same (single .second)) ∙ three in
     let size : length s - 2 ≡ laid .size = eqb-true _ _ (end .0) in
-    let whole : length (part s 2 (laid .size)) ≡ laid .size = part-length s 2 (laid .size) (omega (arith, out .enough, out .fits)) in
+    let whole : length (part s 2 (laid .size)) ≡ laid .size = length-part s 2 (laid .size) (omega (arith, out .enough, out .fits)) in
     let sizes : sizesOf (fieldSize (keyField (bits .value)) (bits .value) 3) (bodyOf 3) (part s 2 (laid .size)) ≡ given (laid .sizes) =
     subst (λ (k : ℕ). sizesOf (fieldSize (keyField (bits .value)) (bits .value) k) (bodyOf k) (part s 2 (laid .size)) ≡ given (laid .sizes)) type (out .sizes) in
     let most = body-most (keyField (bits .value)) (bits .value) (omega (arith, family-octets afi (bits .value) (bits .first))) (part s 2 (laid .size)) (laid .sizes) sizes in

@@ -53,11 +53,11 @@ match-argued afi router source group output =
     (λ bits. refuses-pick _ _ _ (refuses-pick _ _ _ (refuses-then _ _ (class-argued bits group) (λ class. value)) (number (omega arith))) (number (omega arith))))
     (λ query. refuses-pick _ _ _ (number (omega arith)) value)
 
-pub s-pmsi-number : (afi : ℕ) (nlri : List ℕ) (n : ℕ) → readSPmsi afi nlri ≡ refused n → ByArguments n
-s-pmsi-number afi nlri n e = refuses-by _ n (s-pmsi-argued afi nlri) e
+pub number-s-pmsi : (afi : ℕ) (nlri : List ℕ) (n : ℕ) → readSPmsi afi nlri ≡ refused n → ByArguments n
+number-s-pmsi afi nlri n e = refuses-by _ n (s-pmsi-argued afi nlri) e
 
-pub route-number : (afi : ℕ) (nlri attribute : List ℕ) (n : ℕ) → readRoute afi nlri attribute ≡ refused n → ByArguments n
-route-number afi nlri attribute n e = refuses-by _ n (route-argued afi nlri attribute) e
+pub number-route : (afi : ℕ) (nlri attribute : List ℕ) (n : ℕ) → readRoute afi nlri attribute ≡ refused n → ByArguments n
+number-route afi nlri attribute n e = refuses-by _ n (route-argued afi nlri attribute) e
 
 argued-refuses : (afi : ℕ) (c : Call) → Refuses ByArguments (argued afi c)
 unfolding argued
@@ -65,5 +65,5 @@ argued-refuses afi (install nlri attribute) = refuses-then _ _ (route-argued afi
 argued-refuses afi (withdraw nlri) = refuses-then _ _ (s-pmsi-argued afi nlri) (λ f. value)
 argued-refuses afi (match router source group output) = refuses-then _ _ (match-argued afi router source group output) (λ q. value)
 
-pub argued-number : (afi : ℕ) (c : Call) (n : ℕ) → argued afi c ≡ refused n → ByArguments n
-argued-number afi c n e = refuses-by _ n (argued-refuses afi c) e
+pub number-argued : (afi : ℕ) (c : Call) (n : ℕ) → argued afi c ≡ refused n → ByArguments n
+number-argued afi c n e = refuses-by _ n (argued-refuses afi c) e

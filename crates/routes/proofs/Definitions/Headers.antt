@@ -10,14 +10,14 @@ use lib.ListN.{length, take, drop, length-append, take-append-drop}
 use lib.Seq.{take-at, drop-at, drop-drop}
 use Rattle.octets.specs.Octets.{AllOctets, part, numberIn, bigEndian}
 use Rattle.octets.proofs.Choice.{both-true-left, both-true-right, either-true, either-second, both-true, either-left}
-use Rattle.octets.proofs.NetworkOrder.{big-endian-length, number-of-big-endian, part-number}
+use Rattle.octets.proofs.NetworkOrder.{length-bigEndian, number-of-big-endian, part-number}
 use Rattle.octets.proofs.Orders.{same-equal, same-itself}
 use Rattle.routes.specs.ArgumentRules.{KnownFamily}
 use Rattle.routes.specs.Table.{headerStart, headerOf, afiIn, countIn, placesIn, tableSize, headerSound}
 
 pub length-header : (afi count : ℕ) → length (headerOf afi count) ≡ 8
 unfolding headerOf headerStart
-length-header afi count = rw (length-append (headerStart afi) (bigEndian 2 count), big-endian-length 2 count)
+length-header afi count = rw (length-append (headerStart afi) (bigEndian 2 count), length-bigEndian 2 count)
 
 -- what is read of a header followed by anything
 pub afi-in : (afi count : ℕ) (s : List ℕ) → afiIn (headerOf afi count ++ s) ≡ afi
@@ -27,7 +27,7 @@ afi-in afi count s = refl
 pub count-in : (afi count : ℕ) (s : List ℕ) → count < 65536 → countIn (headerOf afi count ++ s) ≡ count
 unfolding countIn headerOf headerStart part
 count-in afi count s h =
-    ap (λ (x : List ℕ). numberIn x 0) (take-at (bigEndian 2 count) s 2 (big-endian-length 2 count)) ∙ number-of-big-endian 2 count h
+    ap (λ (x : List ℕ). numberIn x 0) (take-at (bigEndian 2 count) s 2 (length-bigEndian 2 count)) ∙ number-of-big-endian 2 count h
 
 pub header-sound : (afi count : ℕ) (s : List ℕ) → KnownFamily afi → headerSound (headerOf afi count ++ s) ≡ true
 unfolding headerSound afiIn headerOf headerStart

@@ -21,7 +21,7 @@ use Rattle.routes.proofs.Definitions.Lookups.{lookup-own, lookup-later,
 use Rattle.routes.proofs.Definitions.Bounds.{route-read}
 use Rattle.routes.proofs.Definitions.Flows.{flow-asked}
 use Rattle.routes.proofs.Statements.ArgumentRules.{argumentRule, nlri-accepted, flow-passed}
-use Rattle.routes.proofs.Definitions.ByArguments.{argued-number}
+use Rattle.routes.proofs.Definitions.ByArguments.{number-argued}
 use Rattle.routes.proofs.Statements.MatchRule.{match-answer}
 
 -- an install's NLRI has its attribute, a withdrawn NLRI nothing
@@ -46,8 +46,8 @@ module _ (afi : ℕ) (bits : KnownFamily afi) where
   pub refused-call : (c : Call) (n : ℕ) → argued afi c ≡ refused n → RefusedCall afi c (refusalAnswer c n)
   unfolding argued refusalAnswer installedOf matchedBy refusedMatch numberOf onOutcome
   refused-call (install nlri attribute) n e =
-      refusedInstall (argued-number afi (install nlri attribute) n e .0) (argumentRule .refusedRoute afi nlri attribute n .0 (first-refuses _ _ n e))
-  refused-call (withdraw nlri) n e = refusedWithdrawal (argued-number afi (withdraw nlri) n e .0) (argumentRule .refusedNlri afi nlri n .0 (first-refuses _ _ n e))
+      refusedInstall (number-argued afi (install nlri attribute) n e .0) (argumentRule .refusedRoute afi nlri attribute n .0 (first-refuses _ _ n e))
+  refused-call (withdraw nlri) n e = refusedWithdrawal (number-argued afi (withdraw nlri) n e .0) (argumentRule .refusedNlri afi nlri n .0 (first-refuses _ _ n e))
   refused-call (match router source group output) n e =
       refusedFlow (argumentRule .refusedFlow afi router source group output n bits .0 (first-refuses _ _ n e)) (record { tierless = refl; sizes = (refl, refl); untouched = refl })
 

@@ -22,7 +22,7 @@ use Rattle.routes.specs.Images.{Holdable, TableOf}
 use Rattle.routes.specs.CallRules.{IsHeld, HeldNow, Installable, Full, Free, InstallRefusal, installUnsound, badRoute, noRoom, InstallDone, isReplaced, isNew, InstallRule}
 use Rattle.routes.proofs.Statements.ArgumentRules.{argumentRule}
 use Rattle.routes.proofs.Definitions.Bounds.{route-read, read-acceptable}
-use Rattle.routes.proofs.Definitions.ByArguments.{route-number}
+use Rattle.routes.proofs.Definitions.ByArguments.{number-route}
 use Rattle.routes.proofs.Definitions.Holding.{holdable-inserted}
 use Rattle.routes.proofs.Statements.Images.{images, sound, sound-holdable, length-image}
 use Rattle.routes.proofs.Definitions.Lookups.{absent-holds, holds-absent, held-holds, holds-held, lookup-inserted-same, lookup-inserted-other}
@@ -108,7 +108,7 @@ module _ (t nlri attribute : List ℕ) where
 
   not-done : {n : ℕ} → InstallRefusal t nlri attribute n → n ≢ DONE
   not-done (installUnsound h) e = omega arith
-  not-done (badRoute s r) e = route-number (afiIn t) nlri attribute _ (argumentRule .refusedRoute (afiIn t) nlri attribute _ .1 r) .0 e
+  not-done (badRoute s r) e = number-route (afiIn t) nlri attribute _ (argumentRule .refusedRoute (afiIn t) nlri attribute _ .1 r) .0 e
   not-done (noRoom a full) e = omega arith
 
   gives-replaced : Installable t nlri attribute → IsHeld nlri (routesOf t) → installOutcome t nlri attribute ≡ given REPLACED

@@ -16,7 +16,7 @@ use Rattle.routes.specs.Calls.{leaving, withdrawOutcome, withdrawOf}
 use Rattle.routes.specs.Images.{Holdable, TableOf}
 use Rattle.routes.specs.CallRules.{IsHeld, HeldNow, Withdrawable, WithdrawRefusal, withdrawUnsound, badName, notHeld, WithdrawRule}
 use Rattle.routes.proofs.Statements.ArgumentRules.{argumentRule, nlri-accepted, nlri-accepts}
-use Rattle.routes.proofs.Definitions.ByArguments.{s-pmsi-number}
+use Rattle.routes.proofs.Definitions.ByArguments.{number-s-pmsi}
 use Rattle.routes.proofs.Definitions.Holding.{holdable-removed}
 use Rattle.routes.proofs.Statements.Images.{images, sound, sound-holdable, length-image}
 use Rattle.routes.proofs.Definitions.Lookups.{absent-holds, holds-absent, held-holds, holds-held, lookup-removed-same, lookup-removed-other, increasing-distinct, length-removed-held}
@@ -65,7 +65,7 @@ module _ (t nlri : List ℕ) where
 
   not-done : {n : ℕ} → WithdrawRefusal t nlri n → n ≢ DONE
   not-done (withdrawUnsound h) e = omega arith
-  not-done (badName s r) e = s-pmsi-number (afiIn t) nlri _ (argumentRule .refusedNlri (afiIn t) nlri _ .1 r) .0 e
+  not-done (badName s r) e = number-s-pmsi (afiIn t) nlri _ (argumentRule .refusedNlri (afiIn t) nlri _ .1 r) .0 e
   not-done (notHeld a missing) e = omega arith
 
   number : withdrawOf t nlri .answer ≡ numberOf (withdrawOutcome t nlri)

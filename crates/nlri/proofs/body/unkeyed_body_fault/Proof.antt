@@ -7,7 +7,7 @@ use Rattle.octets.specs.Choice.{pick}
 use Rattle.octets.specs.Numbers.{TYPE, KEY}
 use Rattle.octets.specs.Outcome.{refused, numberOf}
 use Rattle.nlri.specs.Inner.{flowFault, bodyWith, unkeyedBody}
-use Rattle.nlri.proofs.Functions.Ends.{intra-number, inter-number, flow-number, of-type, of-none, of-flow}
+use Rattle.nlri.proofs.Functions.Ends.{number-intra-as, number-inter-as, number-flow, of-type, of-none, of-flow}
 use Rattle.nlri.proofs.Functions.Standing.{start-least}
 use Rattle.nlri.proofs.Functions.Singles.{start-most}
 use borrow.Author.Needs.{needs}
@@ -16,11 +16,11 @@ use Rattle.nlri.proofs.body.unkeyed_body_fault.Tie as tie
 
 returns : tie.Need-returns
 unfolding unkeyedBody bodyWith pick
-returns c = c .originator-fault .ensures ∙ intra-number (now (c .before .before .before .args .s)) ∙ ap numberOf (of-type _ _ _ _ 1 _ (c .before .if1 .taken) refl)
+returns c = c .originator-fault .ensures ∙ number-intra-as (now (c .before .before .before .args .s)) ∙ ap numberOf (of-type _ _ _ _ 1 _ (c .before .if1 .taken) refl)
 
 returns-2 : tie.Need-returns-2
 unfolding unkeyedBody bodyWith pick
-returns-2 c = c .end-fault .ensures ∙ inter-number (now (c .before .before .before .before .args .s)) ∙ ap numberOf (of-type _ _ _ _ 2 _ (c .before .if2 .taken) refl)
+returns-2 c = c .end-fault .ensures ∙ number-inter-as (now (c .before .before .before .before .args .s)) ∙ ap numberOf (of-type _ _ _ _ 2 _ (c .before .if2 .taken) refl)
 
 returns-3 : tie.Need-returns-3
 unfolding unkeyedBody bodyWith pick numberOf
@@ -44,7 +44,7 @@ returns-6 : tie.Need-returns-6
 unfolding unkeyedBody
 returns-6 c =
     let a = c .before .before .before .before .before .before .before .before .args in
-    c .flow-fault .ensures ∙ ap (λ (k : ℕ). flowFault (a .kind .bits) (a .route-type) (k - 3) (now (a .s))) (c .before .source-start .ensures) ∙ flow-number _ _ _ _
+    c .flow-fault .ensures ∙ ap (λ (k : ℕ). flowFault (a .kind .bits) (a .route-type) (k - 3) (now (a .s))) (c .before .source-start .ensures) ∙ number-flow _ _ _ _
     ∙ ap numberOf (of-flow _ _ _ _ (search needs) (search needs) (search needs) (search needs) (search needs))
 
 pub unkeyed-body-fault-spec : {M : Type 1} → statement M

@@ -8,7 +8,7 @@ use Rattle.octets.proofs.Choice.{pick-true, pick-false}
 use Rattle.nlri.specs.Answers.{distinguisherStruct}
 use Rattle.nlri.specs.Inner.{distinguisherAt}
 use Rattle.nlri.proofs.Functions.Copies.{no-distinguisher, distinguisher-held}
-use Rattle.octets.proofs.Lists.{part-length}
+use Rattle.octets.proofs.Lists.{length-part}
 use borrow.Author.Needs.{needs}
 use Rattle.nlri.proofs.fields.distinguisher_in.Statement.{statement}
 use Rattle.nlri.proofs.fields.distinguisher_in.Tie as tie
@@ -24,7 +24,7 @@ slice-aggregate-copy : tie.Need-slice-aggregate-copy
 slice-aggregate-copy c = search needs
 
 held : (c : tie.After-octets) → length (now (c .before .between .result)) ≡ 8
-held c = ap length (c .before .between .ensures) ∙ part-length (now (c .before .before .before .before .args .s)) 2 8 (c .before .before .before .before .pre (c .before .before .if1 .left))
+held c = ap length (c .before .between .ensures) ∙ length-part (now (c .before .before .before .before .args .s)) 2 8 (c .before .before .before .before .pre (c .before .before .if1 .left))
 
 copy-requires : tie.Need-copy-requires
 copy-requires c κs = let l = held c in omega arith
@@ -32,7 +32,7 @@ copy-requires c κs = let l = held c in omega arith
 returns-2 : tie.Need-returns-2
 unfolding distinguisherAt
 returns-2 c =
-    let l = ap length (c .before .before .before .between .ensures) ∙ part-length (now (c .before .before .before .before .before .before .args .s)) 2 8 (c .before .before .before .before .before .before .pre (c .before .before .before .before .if1 .left)) in
+    let l = ap length (c .before .before .before .between .ensures) ∙ length-part (now (c .before .before .before .before .before .before .args .s)) 2 8 (c .before .before .before .before .before .before .pre (c .before .before .before .before .if1 .left)) in
     distinguisher-held _ (now (c .before .before .before .between .result)) (c .before .copy .ensures .1) (omega arith)
     ∙ ap distinguisherStruct (c .before .before .before .between .ensures ∙ sym (pick-false _ _ _ (ne-eqb _ _ (c .before .before .before .before .if1 .left))))
 

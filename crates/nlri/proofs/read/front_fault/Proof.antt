@@ -11,7 +11,7 @@ use Rattle.nlri.proofs.Definitions.Sizes.{header-within}
 use Rattle.nlri.proofs.Functions.Fronts.{anyFront}
 use Rattle.octets.proofs.Lists.{lent-part, lent-whole}
 use Rattle.nlri.proofs.Functions.Via.{typed-given}
-use Rattle.nlri.proofs.Functions.Numbered.{numbers, front-number}
+use Rattle.nlri.proofs.Functions.Numbered.{numbers, number-front}
 use borrow.Author.Needs.{needs}
 use Rattle.nlri.proofs.read.front_fault.Statement.{statement}
 use Rattle.nlri.proofs.read.front_fault.Tie as tie
@@ -33,7 +33,7 @@ returns : tie.Need-returns
 unfolding anyFront
 returns c =
     let moved = headed (c .before .before .before) in
-    search (numbers, front-number)
+    search (numbers, number-front)
 
 returns-2 : tie.Need-returns-2
 unfolding anyFront
@@ -42,7 +42,7 @@ returns-2 c =
     let a = c .before .before .before .before .before .before .before .before .args in
     let h = c .before .before .before .route-type .given .0 in
     let body = c .body-fault .ensures ∙ ap (λ (x : List ℕ). numberOf (anyBody (a .kind .bits) (h .0) x)) (lent-part 2 (h .1 .0) (now (a .s))) in
-    search (numbers, front-number)
+    search (numbers, number-front)
 
 pub front-fault-spec : {M : Type 1} → statement M
 front-fault-spec =

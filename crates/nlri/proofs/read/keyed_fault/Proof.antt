@@ -10,7 +10,7 @@ use Rattle.nlri.specs.Inner.{headerOutcome, keyHeader, keyed}
 use Rattle.nlri.proofs.Functions.Fronts.{key-within}
 use Rattle.nlri.proofs.Functions.Via.{typed-given, unread-given}
 use Rattle.octets.proofs.Outcome.{number-goes, number-stops}
-use Rattle.nlri.proofs.Functions.Ends.{alone-number, followed-number}
+use Rattle.nlri.proofs.Functions.Ends.{number-alone, number-followed}
 use Rattle.nlri.proofs.Functions.Standing.{key-is-long, key-given, key-faulty}
 use borrow.Author.Needs.{needs}
 use Rattle.nlri.proofs.read.keyed_fault.Statement.{statement}
@@ -34,7 +34,7 @@ returns-2 : tie.Need-returns-2
 unfolding keyed
 returns-2 c =
     let k = key (c .before .before) in
-    number-goes _ _ _ _ k (c .end-fault .ensures ∙ alone-number _ _ _ (key-within _ _ _ k .1) (c .before .if1 .taken))
+    number-goes _ _ _ _ k (c .end-fault .ensures ∙ number-alone _ _ _ (key-within _ _ _ k .1) (c .before .if1 .taken))
 
 add-originator-fault : tie.Need-add-originator-fault
 add-originator-fault c = let h = key-within _ _ _ (key (c .before)) in omega arith
@@ -48,7 +48,7 @@ returns-3 : tie.Need-returns-3
 unfolding keyed
 returns-3 c =
     let k = key (c .before .before) in
-    number-goes _ _ _ _ k (c .originator-fault .ensures ∙ followed-number _ _ _ (key-within _ _ _ k .1) (c .before .if1 .left))
+    number-goes _ _ _ _ k (c .originator-fault .ensures ∙ number-followed _ _ _ (key-within _ _ _ k .1) (c .before .if1 .left))
 
 pub keyed-fault-spec : {M : Type 1} → statement M
 keyed-fault-spec =

@@ -14,11 +14,11 @@ use Rattle.nlri.proofs.read.layout_in.Tie as tie
 cast-route-type : tie.Need-cast-route-type
 cast-route-type c = omega (arith, c .shared-slice-known2 .given 0)
 
-cast-originator : tie.Need-cast-originator
-cast-originator c = omega (arith, c .shared-slice-known3 .given 1)
+cast-length : tie.Need-cast-length
+cast-length c = omega (arith, c .shared-slice-known3 .given 1)
 
-sub-originator : tie.Need-sub-originator
-sub-originator c = omega (arith, c .before .before .before .before .pre .intraAs (c .before .if1 .taken))
+sub-plain-layout : tie.Need-sub-plain-layout
+sub-plain-layout c = omega (arith, c .before .before .before .before .pre .intraAs (c .if1 .taken))
 
 returns : tie.Need-returns
 unfolding layoutIn
@@ -29,22 +29,22 @@ unfolding layoutIn
 returns-2 c = search tests
 
 leaf-layout-requires : tie.Need-leaf-layout-requires
-leaf-layout-requires c κs = c .before .before .before .before .before .pre .leaf (c .if3 .taken)
+leaf-layout-requires c κs = c .before .before .before .before .before .before .pre .leaf (c .if3 .taken)
 
 returns-3 : tie.Need-returns-3
 unfolding layoutIn
 returns-3 c = search tests
 
 sub-flow-layout : tie.Need-sub-flow-layout
-sub-flow-layout c = omega (arith, c .source-start .ensures, start-least (getD (now (c .before .before .before .before .before .before .args .s)) 0 0))
+sub-flow-layout c = omega (arith, c .source-start .ensures, start-least (getD (now (c .before .before .before .before .before .before .before .args .s)) 0 0))
 
 flow-layout-requires : tie.Need-flow-layout-requires
-flow-layout-requires c κs = subst (λ (k : ℕ). FlowStands (k - 1) (now (c .before .before .before .before .before .before .args .s))) (sym (c .source-start .ensures)) (c .before .before .before .before .before .before .pre .flow (c .before .before .before .if1 .left) (c .before .before .if2 .left) (c .before .if3 .left))
+flow-layout-requires c κs = subst (λ (k : ℕ). FlowStands (k - 1) (now (c .before .before .before .before .before .before .before .args .s))) (sym (c .source-start .ensures)) (c .before .before .before .before .before .before .before .pre .flow (c .before .before .before .if1 .left) (c .before .before .if2 .left) (c .before .if3 .left))
 
 returns-4 : tie.Need-returns-4
 unfolding layoutIn
 returns-4 c =
-    let moved = c .flow-layout .ensures ∙ ap (λ (k : ℕ). flowLayout (getD (now (c .before .before .before .before .before .before .before .args .s)) 0 0) (k - 1) (now (c .before .before .before .before .before .before .before .args .s))) (c .before .source-start .ensures) in
+    let moved = c .flow-layout .ensures ∙ ap (λ (k : ℕ). flowLayout (getD (now (c .before .before .before .before .before .before .before .before .args .s)) 0 0) (k - 1) (now (c .before .before .before .before .before .before .before .before .args .s))) (c .before .source-start .ensures) in
     search tests
 
 pub layout-in-spec : {M : Type 1} → statement M
@@ -54,8 +54,8 @@ layout-in-spec =
     (search needs)
     cast-route-type
     (search needs)
-    cast-originator
-    sub-originator
+    cast-length
+    sub-plain-layout
     (search needs)
     returns
     (search needs)

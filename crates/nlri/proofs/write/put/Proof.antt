@@ -1,6 +1,6 @@
 -- `nlri::write::put` meets its contract.
 use Rattle.octets.proofs.Lists.{put-as, put-then}
-use Rattle.nlri.proofs.Functions.Puts.{all-length, all-put, put-all}
+use Rattle.nlri.proofs.Functions.Puts.{length-nlri, all-put, put-all}
 use native.Mathlib.Omega.{arith}
 use denote.Ref.{now}
 use borrow.Author.Needs.{needs}
@@ -9,28 +9,28 @@ use Rattle.nlri.proofs.write.put.Tie as tie
 
 sub-put-header : tie.Need-sub-put-header
 sub-put-header c =
-    let l = all-length (c .before .before .args .nlri) (now (c .before .before .args .key)) in
+    let l = length-nlri (c .before .before .args .nlri) (now (c .before .before .args .key)) in
     let w = c .before .before .pre in
     omega (arith, w .exact)
 
 put-header-requires : tie.Need-put-header-requires
 put-header-requires c κs =
     let start = c .before .before .before in
-    let l = all-length (start .args .nlri) (now (start .args .key)) in
+    let l = length-nlri (start .args .nlri) (now (start .args .key)) in
     let w = start .pre in
     omega (arith, w .exact, w .room)
 
 put-body-requires : tie.Need-put-body-requires
 put-body-requires c κs =
     let start = c .before .before .before .before .before .before .before in
-    let l = all-length (start .args .nlri) (now (start .args .key)) in
+    let l = length-nlri (start .args .nlri) (now (start .args .key)) in
     let w = start .pre in
     (w .sized, omega (arith, w .exact, w .room, c .before .before .before .put-header .ensures .0))
 
 returns : tie.Need-returns
 returns c =
     let start = c .before .before .before .before .before .before .before .before .before .before in
-    let l = all-length (start .args .nlri) (now (start .args .key)) in
+    let l = length-nlri (start .args .nlri) (now (start .args .key)) in
     let w = start .pre in
     put-all _ _ _ _ _ (w .exact) (put-as _ _ _ _ _ _ (all-put (start .args .nlri) (now (start .args .key)) _ (omega (arith, w .exact))) (put-then _ _ _ _ _ _ _ _ (omega (arith, w .exact, w .room)) (c .before .before .before .before .before .before .put-header .ensures) (c .before .before .put-body .ensures)))
 

@@ -2,7 +2,7 @@
 use lib.ListN.{length-append}
 use Rattle.nlri.specs.InnerWriting.{bodyOctets, flowOctets, originatorOctets}
 use Rattle.octets.proofs.Lists.{put-then}
-use Rattle.nlri.proofs.Functions.Puts.{body-length}
+use Rattle.nlri.proofs.Functions.Puts.{length-body}
 use native.Mathlib.Omega.{arith}
 use denote.Ref.{now}
 use borrow.Author.Needs.{needs}
@@ -12,19 +12,19 @@ use Rattle.nlri.proofs.write.put_body.Tie as tie
 put-fixed-requires : tie.Need-put-fixed-requires
 put-fixed-requires c κs =
     let start = c .before .before .before in
-    let b = body-length (start .args .nlri) (now (start .args .key)) in
+    let b = length-body (start .args .nlri) (now (start .args .key)) in
     omega (arith, start .pre .1)
 
 put-flow-requires : tie.Need-put-flow-requires
 put-flow-requires c κs =
     let start = c .before .before .before .before .before .before .before in
-    let b = body-length (start .args .nlri) (now (start .args .key)) in
+    let b = length-body (start .args .nlri) (now (start .args .key)) in
     (start .pre .0, omega (arith, start .pre .1, c .before .before .before .put-fixed .ensures .0))
 
 put-originator-requires : tie.Need-put-originator-requires
 put-originator-requires c κs =
     let start = c .before .before .before .before .before .before .before .before .before .before .before in
-    let b = body-length (start .args .nlri) (now (start .args .key)) in
+    let b = length-body (start .args .nlri) (now (start .args .key)) in
     (start .pre .0, omega (arith, start .pre .1, c .before .before .before .before .before .before .before .put-fixed .ensures .0, c .before .before .before .put-flow .ensures .0))
 
 same-length : tie.Need-same-length
@@ -34,7 +34,7 @@ returns : tie.Need-returns
 unfolding bodyOctets
 returns c =
     let start = c .before .before .before .before .before .before .before .before .before .before .before .before .before .before in
-    let b = body-length (start .args .nlri) (now (start .args .key)) in
+    let b = length-body (start .args .nlri) (now (start .args .key)) in
     let l = length-append (flowOctets (start .args .nlri)) (originatorOctets (start .args .nlri)) in
     put-then _ _ _ _ _ _ _ _ (omega (arith, start .pre .1)) (c .before .before .before .before .before .before .before .before .before .before .put-fixed .ensures) (put-then _ _ _ _ _ _ _ _ (omega (arith, start .pre .1, c .before .before .before .before .before .before .before .before .before .before .put-fixed .ensures .0)) (c .before .before .before .before .before .before .put-flow .ensures) (c .before .before .put-originator .ensures))
 

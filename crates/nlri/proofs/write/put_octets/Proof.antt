@@ -1,6 +1,6 @@
 -- `nlri::write::put_octets` meets its contract.
 use Rattle.octets.proofs.Lists.{put-as, put-none}
-use Rattle.nlri.proofs.Functions.Puts.{octets-length, octets-taken, octets-all, octets-none}
+use Rattle.nlri.proofs.Functions.Puts.{length-octets, octets-taken, octets-all, octets-none}
 use lib.Seq.{length-take-le}
 use lib.ListN.{length}
 use native.Mathlib.Omega.{arith}
@@ -27,7 +27,7 @@ place-requires c κs =
     let start = c .before .before .before .before .before .before in
     let h : length (start .args .address .octets) ≡ 16 = search needs in
     let t = length-take-le 4 (start .args .address .octets) (omega arith) in
-    let l = octets-length (start .args .address) in
+    let l = length-octets (start .args .address) in
     omega (arith, start .pre .1)
 
 same-length : tie.Need-same-length
@@ -45,7 +45,7 @@ place-requires-2 : tie.Need-place-requires-2
 place-requires-2 c κs =
     let start = c .before .before .before .before .before .before .before in
     let h : length (start .args .address .octets) ≡ 16 = search needs in
-    let l = octets-length (start .args .address) in
+    let l = length-octets (start .args .address) in
     omega (arith, start .pre .1)
 
 same-length-2 : tie.Need-same-length-2

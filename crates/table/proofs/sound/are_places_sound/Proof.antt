@@ -2,7 +2,7 @@
 use mathlib.Core.Path.{ap, _∙_}
 use native.Mathlib.Omega.{arith}
 use lib.ListN.{length}
-use Rattle.octets.proofs.Lists.{part-length}
+use Rattle.octets.proofs.Lists.{length-part}
 use Rattle.table.proofs.Sounds.{Passing, passing-first, passing-next, passing-stops, passing-ends}
 use borrow.Author.Needs.{needs}
 use Rattle.table.proofs.sound.are_places_sound.Statement.{statement}
@@ -18,7 +18,7 @@ loop-holds : tie.Need-loop-holds Inv-loop μ-loop
 loop-holds c = passing-first _ _ _ (search needs)
 
 follows-requires : tie.Need-follows-requires Inv-loop μ-loop
-follows-requires c κs = ap length (c .between2 .ensures) ∙ part-length _ (c .before .before .before .loop .at) 128 (search needs)
+follows-requires c κs = ap length (c .between2 .ensures) ∙ length-part _ (c .before .before .before .loop .at) 128 (search needs)
 
 cast-size : tie.Need-cast-size Inv-loop μ-loop
 cast-size c = omega (arith, c .shared-slice-known2 .given (c .before .before .before .before .before .before .loop .at))

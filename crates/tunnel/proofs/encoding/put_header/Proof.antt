@@ -3,7 +3,7 @@ use denote.Ref.{now}
 use mathlib.Core.List.{[], _∷_}
 use Rattle.octets.specs.Octets.{bigEndian}
 use Rattle.octets.proofs.Lists.{placed-then}
-use Rattle.octets.proofs.NetworkOrder.{big-endian-length}
+use Rattle.octets.proofs.NetworkOrder.{length-bigEndian}
 use native.Mathlib.Omega.{arith}
 use borrow.Author.Needs.{needs}
 use Rattle.tunnel.proofs.encoding.put_header.Statement.{statement}
@@ -26,7 +26,7 @@ returns c =
     let a = c .before .before .before .before .before .before .before .before .before .before .args in
     let p = c .before .before .before .before .before .before .place in
     let t = c .before .before .place-three in
-    (search needs, placed-then 0 (p .result) (a .flags ∷ (a .tunnel-type ∷ [])) (bigEndian 3 (a .label-field)) (now (a .output)) (p .last .1 .0) (t .last .1 .0) (omega (arith, big-endian-length 3 (a .label-field))) (p .ensures .0) (p .ensures .1) (t .ensures .1))
+    (search needs, placed-then 0 (p .result) (a .flags ∷ (a .tunnel-type ∷ [])) (bigEndian 3 (a .label-field)) (now (a .output)) (p .last .1 .0) (t .last .1 .0) (omega (arith, length-bigEndian 3 (a .label-field))) (p .ensures .0) (p .ensures .1) (t .ensures .1))
 
 pub put-header-spec : {M : Type 1} → statement M
 put-header-spec =
