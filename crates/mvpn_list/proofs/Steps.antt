@@ -14,7 +14,7 @@ use Rattle.nlri.specs.declared.layout.Layout.{Layout}
 use Rattle.nlri.specs.Reading.{keyField, laidAt}
 use Rattle.nlri.specs.Layouts.{layoutOf, layoutAt}
 use Rattle.nlri.specs.Walking.{Stepped, readTo, stepUnder, stepFrom}
-use Rattle.nlri.proofs.Definitions.ReadNumbers.{family-refuses, layout-refuses}
+use Rattle.nlri.proofs.Definitions.ReadNumbers.{refuses-family, refuses-layout}
 use Rattle.nlri.proofs.Definitions.Whole.{laid-out}
 use Rattle.nlri.proofs.Functions.Steps.{Stops, stops-endedAt, stops-refusedAt}
 use Rattle.mvpn_list.specs.Listing.{nlriLine, lastLine, linesFrom}
@@ -35,11 +35,11 @@ pub data Comes (s : Stepped) : Type 0 where
 pub comes-stepFrom : (afi : ℕ) (run : List ℕ) (at : ℕ) → Comes (stepFrom afi run at)
 unfolding stepFrom stepUnder
 comes-stepFrom afi run at =
-    on-case Comes _ _ _ (λ n e. stops n (stops-refusedAt n at refl) (omega (arith, refuses-by _ n (family-refuses afi) e)))
+    on-case Comes _ _ _ (λ n e. stops n (stops-refusedAt n at refl) (omega (arith, refuses-by _ n (refuses-family afi) e)))
     (λ bits _. pick-case Comes _ _ _ (λ _. stops LONG (stops-refusedAt LONG at refl) (omega arith))
     (λ _. pick-case Comes _ _ _ (λ _. stops DONE (stops-endedAt DONE at refl refl) (omega arith))
     (λ _. pick-case Comes _ _ _ (λ _. stops SHORT (stops-refusedAt SHORT at refl) (omega arith))
-    (λ _. on-case Comes _ _ _ (λ n e. stops n (stops-refusedAt n at refl) (omega (arith, refuses-by _ n (layout-refuses bits (drop at run)) e)))
+    (λ _. on-case Comes _ _ _ (λ n e. stops n (stops-refusedAt n at refl) (omega (arith, refuses-by _ n (refuses-layout bits (drop at run)) e)))
     (λ layout e. reads layout _ refl (route-type-layoutAt bits (drop at run) layout e) (omega arith))))))
 
 -- how the lines go on by a step

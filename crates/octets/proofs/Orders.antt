@@ -32,14 +32,14 @@ same-equal (x ∷ xs) [] h = absurd (opposite {b = true} refl (sym h))
 same-equal (x ∷ xs) (y ∷ ys) h =
     ap₂ (λ (a : ℕ) (l : List ℕ). a ∷ l) (eqb-true x y (both-true-left _ _ h)) (same-equal xs ys (both-true-right _ _ h))
 
-pub equal-same : (xs ys : List ℕ) → xs ≡ ys → same xs ys ≡ true
-equal-same xs ys e = rw e (same-itself ys)
+pub same-of-equal : (xs ys : List ℕ) → xs ≡ ys → same xs ys ≡ true
+same-of-equal xs ys e = rw e (same-itself ys)
 
 pub unequal-other : (xs ys : List ℕ) → (xs ≡ ys → ⊥) → same xs ys ≡ false
 unequal-other xs ys h = is-false (same xs ys) (λ t. h (same-equal xs ys t))
 
 pub other-unequal : (xs ys : List ℕ) → same xs ys ≡ false → xs ≡ ys → ⊥
-other-unequal xs ys h e = opposite (equal-same xs ys e) h
+other-unequal xs ys h e = opposite (same-of-equal xs ys e) h
 
 pub same-swapped : (xs ys : List ℕ) → same xs ys ≡ same ys xs
 same-swapped xs ys =
@@ -156,7 +156,7 @@ module _ (a b : List ℕ) (i : ℕ) where
   same-stops h k p n = sym (p ∙ same-from a b i h (omega arith) ∙ rw (ne-eqb (getD a i 0) (getD b i 0) n))
 
   pub same-ends : length a ≤ i → length a ≡ length b → same a b ≡ same (drop i a) (drop i b) → true ≡ same a b
-  same-ends h k p = sym (p ∙ equal-same (drop i a) (drop i b) (drop-of-length-le a h ∙ sym (drop-of-length-le b {i = i} (omega arith))))
+  same-ends h k p = sym (p ∙ same-of-equal (drop i a) (drop i b) (drop-of-length-le a h ∙ sym (drop-of-length-le b {i = i} (omega arith))))
 
   pub before-next : i < length a → i < length b → before a b ≡ before (drop i a) (drop i b) → getD a i 0 ≡ getD b i 0 → before a b ≡ before (drop (i + 1) a) (drop (i + 1) b)
   before-next h k p e = p ∙ before-from a b i h k ∙ pick-true _ _ _ (eq-eqb (getD a i 0) (getD b i 0) e)
@@ -264,7 +264,7 @@ module _ (number : List ℕ → ℕ) (a b : List ℕ) (i n x y : ℕ) (in-a : x 
     pub parts-end : length a ≡ i + n → length b ≡ i + n → eqb x y ≡ same a b
     parts-end h k =
         tested (eqb x y)
-        (λ t. t ∙ sym (equal-same a b (sym (take-all (i + n) a (omega arith)) ∙ parts-alike (eqb-true x y t) ∙ take-all (i + n) b (omega arith))))
+        (λ t. t ∙ sym (same-of-equal a b (sym (take-all (i + n) a (omega arith)) ∙ parts-alike (eqb-true x y t) ∙ take-all (i + n) b (omega arith))))
         (λ f. f ∙ parts-other (eqb-false x y f))
 
 -- lists that begin alike begin alike before that too
@@ -338,13 +338,13 @@ zero-covered s m n h =
 
 -- the last n octets: they are zero, so that those before them decide; or they are not
 module _ (s : List ℕ) (n : ℕ) (fits : n ≤ length s) where
-  last-part : part s (length s - n) n ≡ drop (length s - n) s
+  part-last : part s (length s - n) n ≡ drop (length s - n) s
   unfolding part
-  last-part = take-all n (drop (length s - n) s) (simp length-drop (omega arith))
+  part-last = take-all n (drop (length s - n) s) (simp length-drop (omega arith))
 
   pub zero-last : (m : ℕ) → length s - n ≤ m → allZero (part s (length s - n) n) ≡ true → allZero (part s 0 m) ≡ allZero s
   unfolding part
-  zero-last m h t = sym (both-then-true (allZero (take m s))) ∙ ap (both (allZero (take m s))) (sym (sym (ap allZero last-part) ∙ t)) ∙ zero-covered s m (length s - n) h
+  zero-last m h t = sym (both-then-true (allZero (take m s))) ∙ ap (both (allZero (take m s))) (sym (sym (ap allZero part-last) ∙ t)) ∙ zero-covered s m (length s - n) h
 
   pub other-last : allZero (part s (length s - n) n) ≡ false → false ≡ allZero s
-  other-last f = sym (is-false _ (λ t. opposite (zero-rest (length s - n) s t) (sym (ap allZero last-part) ∙ f)))
+  other-last f = sym (is-false _ (λ t. opposite (zero-rest (length s - n) s t) (sym (ap allZero part-last) ∙ f)))

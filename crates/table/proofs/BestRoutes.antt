@@ -20,8 +20,8 @@ use Rattle.routes.specs.Matching.{distinguisherOf, Found, nothing, found, match
 use Rattle.routes.specs.declared.Matched.{Matched}
 use Rattle.routes.specs.Answers.{foundAnswer, foundOutput}
 use Rattle.routes.specs.OnePass.{tierOf, ahead, against, better, scanned}
-use Rattle.routes.proofs.Definitions.Places.{from-increasing}
-use Rattle.routes.proofs.Definitions.Lookups.{increasing-distinct}
+use Rattle.routes.proofs.Definitions.Places.{increasing-routesFrom}
+use Rattle.routes.proofs.Definitions.Lookups.{distinct-increasing}
 use Rattle.routes.proofs.Definitions.OnePass.{one-pass}
 use Rattle.routes.proofs.Statements.Images.{sound}
 use Rattle.table.specs.declared.scan.Best.{Best}
@@ -131,7 +131,7 @@ module _ (t : List ℕ) (is : soundOf t ≡ true) where
       unfolding noneYet routesOf
       scan-matches =
           ap (bestIn t) all ∙ whole .0 ∙ ap (λ (f : Found). scanned (afiIn t) (queryOf router source group class) f (routesFrom (countIn t) (drop 8 t))) (best-none t noneYet refl)
-          ∙ one-pass (afiIn t) (queryOf router source group class) (routesOf t) (increasing-distinct (from-increasing (afiIn t) [] (countIn t) (drop 8 t) (sound t is .places)))
+          ∙ one-pass (afiIn t) (queryOf router source group class) (routesOf t) (distinct-increasing (increasing-routesFrom (afiIn t) [] (countIn t) (drop 8 t) (sound t is .places)))
 
       pub scan-answerable : (output : List ℕ) → 124 ≤ length output → Answerable t best output
       scan-answerable output room some =

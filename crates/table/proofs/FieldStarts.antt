@@ -108,9 +108,9 @@ third-row : (bits : ℕ) (body : List ℕ) → anyBody bits 3 body ≡ flowRoute
 unfolding anyBody bodyWith pick
 third-row bits body = refl
 
-rest-part : (s : List ℕ) → part s 2 (length s - 2) ≡ drop 2 s
+part-rest : (s : List ℕ) → part s 2 (length s - 2) ≡ drop 2 s
 unfolding part
-rest-part s = take-all (length s - 2) (drop 2 s) (rw length-drop (omega arith))
+part-rest s = take-all (length s - 2) (drop 2 s) (rw length-drop (omega arith))
 
 -- the body of an S-PMSI NLRI is all that stands behind its header
 body-of : (s : List ℕ) (l : Layout) → l .«route_type» ≡ 3 → WholeFront s l → FlowLaid (drop 2 s) l
@@ -120,7 +120,7 @@ body-of s l t w =
     let h = given-same (given-otherwise _ _ _ _ (given-otherwise _ _ _ _ (p .first) .1) .1) in
     let type : p .value .0 ≡ 3 = ap (λ (x : ℕ × ℕ). x .0) (sym h) ∙ sym (w .typed) ∙ t in
     let size : p .value .1 ≡ length s - 2 = ap (λ (x : ℕ × ℕ). x .1) (sym h) ∙ sym (w .all) in
-    let rest : part s 2 (p .value .1) ≡ drop 2 s = ap (part s 2) size ∙ rest-part s in
+    let rest : part s 2 (p .value .1) ≡ drop 2 s = ap (part s 2) size ∙ part-rest s in
     body-laid (w .bits) (drop 2 s) l (sym (third-row (w .bits) (drop 2 s)) ∙ ap₂ (λ (k : ℕ) (x : List ℕ). anyBody (w .bits) k x) (sym type) (sym rest) ∙ p .second)
 
 left : (n m a b k : ℕ) → m ≡ n - 2 → k ≡ 10 + a + b → n - k ≡ m - 8 - a - b

@@ -16,7 +16,7 @@ use Rattle.nlri.specs.Reading.{keyField}
 use Rattle.nlri.specs.Writing.{isKey}
 use Rattle.nlri.specs.Inner.{layoutWith, nothingLast, keyEnd, keyed}
 use Rattle.nlri.proofs.Functions.Fronts.{key-within}
-use Rattle.nlri.proofs.Definitions.ReadNumbers.{ByReading, key-refuses}
+use Rattle.nlri.proofs.Definitions.ReadNumbers.{ByReading, refuses-key}
 
 -- the number where nothing may remain
 by-number : {A : Type 0} (b : Bool) (a : A) → eqb (numberOf (pick b (given a) (refused LENGTH))) DONE ≡ b
@@ -29,7 +29,7 @@ left-none k n h = tested (eqb k n) (λ t. eq-eqb (n - k) 0 (omega (arith, eqb-tr
 
 pub key-alone : (bits : ℕ) (s : List ℕ) (n : ℕ) → n ≡ numberOf (keyed true bits s) → eqb n DONE ≡ isKey bits s
 unfolding keyed isKey andThen onOutcome keyEnd nothingLast layoutWith pick numberOf
-key-alone bits s n e = ap (λ (k : ℕ). eqb k DONE) e ∙ go (keyField bits s) (λ k. key-within bits s k) (key-refuses bits s)
+key-alone bits s n e = ap (λ (k : ℕ). eqb k DONE) e ∙ go (keyField bits s) (λ k. key-within bits s k) (refuses-key bits s)
   where
     go : (o : Outcome ℕ) → ((k : ℕ) → o ≡ given k → (2 ≤ k) × (k ≤ length s)) → Refuses ByReading o
         → eqb (numberOf (andThen o (λ size. keyEnd true (layoutWith 4 (length s) 0 0 (length s - size) size)))) DONE ≡ onOutcome (λ fault. false) (λ size. eqb size (length s)) o

@@ -16,7 +16,7 @@ use Rattle.nlri.specs.Layouts.{layoutAt}
 use Rattle.nlri.specs.Inner.{headerOutcome, lastFault, unkeyedBody}
 use Rattle.nlri.proofs.Functions.Via.{typed-given}
 use Rattle.nlri.proofs.Functions.Fronts.{anyFront, front-is}
-use Rattle.nlri.proofs.Definitions.ReadNumbers.{ByReading, layout-refuses, unkeyed-refuses}
+use Rattle.nlri.proofs.Definitions.ReadNumbers.{ByReading, refuses-layout, refuses-unkeyed}
 
 -- by the case of an answer
 pub number-typed : {B : Type 0} (t : ℕ) (r : Header) (o : Outcome (ℕ × ℕ)) (a b : ℕ) (next : ℕ × ℕ → Outcome B) → headerOutcome r ≡ o → r ≡ Typed a b → t ≡ numberOf (next (a, b)) → t ≡ numberOf (andThen o next)
@@ -44,7 +44,7 @@ done (given a) u e = (a, refl)
 done (refused n) (number p) e = absurd (omega arith)
 
 pub unkeyed-done : (bits type : ℕ) (s : List ℕ) → numberOf (unkeyedBody bits type s) ≡ DONE → (l : Layout) × (unkeyedBody bits type s ≡ given l)
-unkeyed-done bits type s e = done _ (unkeyed-refuses bits type s) e
+unkeyed-done bits type s e = done _ (refuses-unkeyed bits type s) e
 
 pub front-done : (bits : ℕ) (s : List ℕ) → numberOf (layoutAt bits s) ≡ DONE → (l : Layout) × (layoutAt bits s ≡ given l)
-front-done bits s e = done _ (layout-refuses bits s) e
+front-done bits s e = done _ (refuses-layout bits s) e

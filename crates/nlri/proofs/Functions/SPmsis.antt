@@ -22,7 +22,7 @@ use Rattle.nlri.specs.Inner.{layoutWith, originatorLast, lastFault, flow
 use Rattle.nlri.proofs.Functions.Fronts.{anyFront, front-is, layout-octets}
 use Rattle.nlri.proofs.Functions.Numbered.{front-done, number-last}
 use Rattle.nlri.proofs.Functions.Ends.{number-flow}
-use Rattle.nlri.proofs.Functions.Shapes.{whole-part}
+use Rattle.nlri.proofs.Functions.Shapes.{part-whole}
 use Rattle.nlri.proofs.Functions.Singles.{single-laid}
 
 -- what a single NLRI comes to is of type 3
@@ -72,7 +72,7 @@ module _ (bits : ℕ) (s : List ℕ) where
   unfolding anyFront headerAt anyBody bodyWith pick
   front-three enough t n =
       let typed : headerAt s ≡ given (3, length s - 2) = rw (le-ltb (length s) 2 enough, le-ltb (length s - 2) (getD s 1 0) (omega arith), t, n) in
-      front ∙ ap (λ (o : Outcome (ℕ × ℕ)). andThen o (λ h. anyBody bits (h .0) (part s 2 (h .1)))) typed ∙ and-given _ _ ∙ ap (flowRoute bits 3 8) (whole-part s (length s - 2) refl)
+      front ∙ ap (λ (o : Outcome (ℕ × ℕ)). andThen o (λ h. anyBody bits (h .0) (part s 2 (h .1)))) typed ∙ and-given _ _ ∙ ap (flowRoute bits 3 8) (part-whole s (length s - 2) refl)
 
   -- the octets of a single NLRI of type 3
   opens : (l : Layout) → single bits s ≡ given l → l .«route_type» ≡ 3 → (getD s 0 0 ≡ 3) × (getD s 1 0 ≡ length s - 2) × (10 ≤ length s)

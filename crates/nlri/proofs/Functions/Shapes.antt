@@ -114,8 +114,8 @@ address-part : (k a : ℕ) (s : List ℕ) → 1 ≤ a → drop 1 (take a (drop k
 unfolding part
 address-part k a s h = drop-take a (drop k s) h ∙ ap (take (a - 1)) (drop-drop 1 k s)
 
-at-part : (s : List ℕ) (start start′ size size′ : ℕ) → start ≡ start′ → size ≡ size′ → part s start size ≡ part s start′ size′
-at-part s start start′ size size′ p q = ap₂ (part s) p q
+part-at : (s : List ℕ) (start start′ size size′ : ℕ) → start ≡ start′ → size ≡ size′ → part s start size ≡ part s start′ size′
+part-at s start start′ size size′ p q = ap₂ (part s) p q
 
 -- what a single NLRI's layout says of it
 pub record Shaped (laid : Laid) (s : List ℕ) : Type 0 where
@@ -140,7 +140,7 @@ module _ (bits n : ℕ) (s : List ℕ) (small : bits / 8 ≤ 16) (enough : 2 ≤
       let l₂ = length-drop 8 (drop 2 s) in
       record {
         fields = fields-same refl refl refl refl refl
-            (ap (take o) (drop-drop 8 2 s) ∙ at-part s 10 (length s - o) o o (omega (arith, l₁)) refl) refl;
+            (ap (take o) (drop-drop 8 2 s) ∙ part-at s 10 (length s - o) o o (omega (arith, l₁)) refl) refl;
         within = record {
           typed = omega arith;
           distinguished = λ _. omega (arith, l₁);
@@ -176,7 +176,7 @@ module _ (bits n : ℕ) (s : List ℕ) (small : bits / 8 ≤ 16) (enough : 2 ≤
       let l₂ = length-drop k (drop 2 s) in
       record {
         fields = fields-same refl refl refl refl refl
-            (ap (take o) (drop-drop k 2 s) ∙ at-part s (2 + k) (length s - o) o o (omega (arith, l₁)) refl) refl;
+            (ap (take o) (drop-drop k 2 s) ∙ part-at s (2 + k) (length s - o) o o (omega (arith, l₁)) refl) refl;
         within = record {
           typed = omega arith;
           distinguished = λ q. absurd (q refl);
@@ -198,8 +198,8 @@ module _ (bits n : ℕ) (s : List ℕ) (small : bits / 8 ≤ 16) (enough : 2 ≤
         record {
           fields = fields-same refl refl refl
               (ap (λ (x : List ℕ). drop 1 (take a x)) (drop-drop 8 2 s) ∙ address-part 10 a s ha)
-              (ap (λ (x : List ℕ). drop 1 (take b x)) d ∙ address-part (10 + a) b s hb ∙ at-part s (10 + a + 1) (11 + (a - 1) + 1) (b - 1) (b - 1) (omega arith) refl)
-              (ap (λ (x : List ℕ). take o (drop b x)) d ∙ ap (take o) (drop-drop b (10 + a) s) ∙ at-part s (10 + a + b) (length s - o) o o (omega (arith, l₁)) refl)
+              (ap (λ (x : List ℕ). drop 1 (take b x)) d ∙ address-part (10 + a) b s hb ∙ part-at s (10 + a + 1) (11 + (a - 1) + 1) (b - 1) (b - 1) (omega arith) refl)
+              (ap (λ (x : List ℕ). take o (drop b x)) d ∙ ap (take o) (drop-drop b (10 + a) s) ∙ part-at s (10 + a + b) (length s - o) o o (omega (arith, l₁)) refl)
               refl;
           within = record {
             typed = omega arith;
@@ -219,7 +219,7 @@ module _ (bits n : ℕ) (s : List ℕ) (small : bits / 8 ≤ 16) (enough : 2 ≤
         record {
           fields = fields-same refl refl refl
               (ap (λ (x : List ℕ). drop 1 (take a x)) (drop-drop 8 2 s) ∙ address-part 10 a s ha)
-              (ap (λ (x : List ℕ). drop 1 (take b x)) d ∙ address-part (10 + a) b s hb ∙ at-part s (10 + a + 1) (11 + (a - 1) + 1) (b - 1) (b - 1) (omega arith) refl)
+              (ap (λ (x : List ℕ). drop 1 (take b x)) d ∙ address-part (10 + a) b s hb ∙ part-at s (10 + a + 1) (11 + (a - 1) + 1) (b - 1) (b - 1) (omega arith) refl)
               refl refl;
           within = record {
             typed = omega arith;
@@ -242,8 +242,8 @@ module _ (bits n : ℕ) (s : List ℕ) (small : bits / 8 ≤ 16) (enough : 2 ≤
         record {
           fields = fields-same refl (sym (pick-false (eqb type 4) [] (part s 2 8) other))
               (ap (λ (x : List ℕ). numberIn (take 4 x) 0) (drop-drop 8 2 s) ∙ sym (pick-true (withSourceAs type) (numberIn (part s 10 4) 0) 0 joined))
-              (ap (λ (x : List ℕ). drop 1 (take a x)) d₂ ∙ address-part 14 a s ha ∙ at-part s 15 (sourceStart type) (a - 1) (a - 1) (sym at) refl)
-              (ap (λ (x : List ℕ). drop 1 (take b x)) d ∙ address-part (14 + a) b s hb ∙ at-part s (14 + a + 1) (sourceStart type + (a - 1) + 1) (b - 1) (b - 1) (omega (arith, at)) refl)
+              (ap (λ (x : List ℕ). drop 1 (take a x)) d₂ ∙ address-part 14 a s ha ∙ part-at s 15 (sourceStart type) (a - 1) (a - 1) (sym at) refl)
+              (ap (λ (x : List ℕ). drop 1 (take b x)) d ∙ address-part (14 + a) b s hb ∙ part-at s (14 + a + 1) (sourceStart type + (a - 1) + 1) (b - 1) (b - 1) (omega (arith, at)) refl)
               refl refl;
           within = record {
             typed = low;
@@ -370,9 +370,9 @@ module _ (bits n : ℕ) (s : List ℕ) (small : bits / 8 ≤ 16) (enough : 2 ≤
         subst (λ (z : List ℕ). Shaped (laidRow type n (distinguisher ∷ sourceAs ∷ source ∷ group ∷ []) z) s) all
         (shaped-join (f .a) (f .b) (f .low .0) (f .low .1) (f .most .0) (f .most .1) type low joined other (omega (arith, fd .0, fd .1, fq .0, fq .1, f .within)))
 
-pub whole-part : (s : List ℕ) (n : ℕ) → length s - 2 ≡ n → part s 2 n ≡ drop 2 s
+pub part-whole : (s : List ℕ) (n : ℕ) → length s - 2 ≡ n → part s 2 n ≡ drop 2 s
 unfolding part
-whole-part s n e = take-all n (drop 2 s) (rw length-drop (omega arith))
+part-whole s n e = take-all n (drop 2 s) (rw length-drop (omega arith))
 
 module _ (bits : ℕ) (s : List ℕ) (laid : Laid) (n : length s - 2 ≡ getD s 1 0) where
   -- a row's shape, for the type and the octets that were read
@@ -382,7 +382,7 @@ module _ (bits : ℕ) (s : List ℕ) (laid : Laid) (n : length s - 2 ≡ getD s 
   by-row type body t r shape =
       let p = passed _ _ _ r in
       let sizes : sizesOf (fieldSize (keyField bits) bits type) body (drop 2 s) ≡ given (p .value) =
-      ap₂ (λ (k : ℕ) (x : List ℕ). sizesOf (fieldSize (keyField bits) bits k) body x) (sym t) (sym (whole-part s (getD s 1 0) n)) ∙ p .first in
+      ap₂ (λ (k : ℕ) (x : List ℕ). sizesOf (fieldSize (keyField bits) bits k) body x) (sym t) (sym (part-whole s (getD s 1 0) n)) ∙ p .first in
       let same : laidRow type (getD s 1 0) body (p .value) ≡ laid = ap (λ (k : ℕ). laidRow k (getD s 1 0) body (p .value)) (sym t) ∙ given-same (p .second) in
       subst (λ (x : Laid). Shaped x s) same (shape (p .value) sizes)
 

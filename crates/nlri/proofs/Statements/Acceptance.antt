@@ -22,7 +22,7 @@ use Rattle.nlri.proofs.Definitions.FieldRecords.{fields-same}
 use Rattle.nlri.proofs.Definitions.Table.{RowOf, rowOf, known, mostIn, field-of-map, lacks, same-kind}
 use Rattle.nlri.proofs.Definitions.Judged.{fieldsFrom}
 use Rattle.nlri.proofs.Definitions.Lengths.{family-octets}
-use Rattle.nlri.proofs.Functions.Shapes.{whole-part}
+use Rattle.nlri.proofs.Functions.Shapes.{part-whole}
 use Rattle.nlri.proofs.Definitions.Whole.{piecesOf, sizesIn, laidOf, cut-body, laid-out, fieldsAt, laid-sound, laid-complete, octets-nlri}
 use Rattle.nlri.proofs.Definitions.Keys.{key-judges, octets-key}
 
@@ -103,7 +103,7 @@ module _ (afi bits : ℕ) (ofFamily : familyBits afi ≡ given bits) where
       let size : length s - 2 ≡ laid .size = eqb-true _ _ (q .0) ∙ ap (λ (x : Laid). x .size) same in
       let o = laid-out (keyField bits) bits s laid first in
       let r = laid-sound (keyField bits) (KeyOf bits) (key-judges bits whole) bits whole s laid a first in
-      let rest : part s 2 (laid .size) ≡ drop 2 s = whole-part s (laid .size) size in
+      let rest : part s 2 (laid .size) ≡ drop 2 s = part-whole s (laid .size) size in
       let fields : fieldsAt (keyField bits) (KeyOf bits) (key-judges bits whole) bits whole s laid ≡ fieldsOf laid s =
       ap (λ (x : List ℕ). fieldsFrom (laid .type) (λ kind. fieldIn [] kind (laid .body) (cut (laid .sizes) x))) rest in
       let all : take (2 + laid .size) s ≡ s = take-all (2 + laid .size) s (omega (arith, o .enough)) in

@@ -17,7 +17,7 @@ use Rattle.routes.specs.Call.{Call, Owner, nobody, owner, originatorOf, 
 use Rattle.routes.specs.Book.{bookAfter, fed, ownCalls, bookOf, isAmong, onceEach, withOwner, routersOf, gathered, allBooks}
 use Rattle.routes.specs.Run.{namedIn, namedBy, Fits}
 use Rattle.octets.specs.Lists.{Among, first, later, Once, chosen}
-use Rattle.routes.proofs.Definitions.Lookups.{lookup-none, lookup-first, lookup-later, lookup-arranged, held-or-absent, held-absent, held-holds, holds-held, holds-absent, holds-alike, absent-holds, increasing-arranged, increasing-distinct, acceptable-arranged, acceptable-member}
+use Rattle.routes.proofs.Definitions.Lookups.{lookup-none, lookup-first, lookup-later, lookup-arranged, held-or-absent, held-absent, held-holds, holds-held, holds-absent, holds-alike, absent-holds, increasing-arranged, distinct-increasing, acceptable-arranged, acceptable-member}
 use Rattle.routes.proofs.Definitions.Distincts.{among-left, among-right, is-among-true, among-is-among, among-once-each, once-once-each, among-cases, routes-fewer}
 use Rattle.routes.proofs.Definitions.Chosen.{chosen-first, chosen-later}
 use Rattle.routes.proofs.Definitions.Ownership.{owner-nobody, owners-same, acceptable-after-none, owned-itself, owned-by}
@@ -234,7 +234,7 @@ increasing-books afi calls = increasing-arranged [] (allBooks afi calls) (λ r m
 
 length-books : (afi : ℕ) (calls : List Call) → length (arranged (allBooks afi calls)) ≤ length (onceEach (namedBy afi calls))
 length-books afi calls =
-    routes-fewer (namedBy afi calls) (increasing-distinct (increasing-books afi calls))
+    routes-fewer (namedBy afi calls) (distinct-increasing (increasing-books afi calls))
     (λ nlri h.
     let p = held-holds nlri (arranged (allBooks afi calls)) h in
     held-named afi nlri calls (p .0) (sym (lookup-all-after afi nlri calls) ∙ sym (lookup-arranged nlri (allBooks afi calls)) ∙ p .1))

@@ -7,7 +7,7 @@ use Rattle.octets.specs.Numbers.{DONE, TUNNEL, TABLE, ROOM, ABSENT}
 use Rattle.octets.specs.Outcome.{refused}
 use Rattle.octets.proofs.Outcome.{Refuses, value, number, refuses-pick, refuses-then, refuses-by, refuses-also}
 use Rattle.nlri.specs.Groups.{classUnder}
-use Rattle.nlri.proofs.Definitions.ReadNumbers.{ByReading, family-refuses, nlri-refuses}
+use Rattle.nlri.proofs.Definitions.ReadNumbers.{ByReading, refuses-family, refuses-nlri}
 use Rattle.tunnel.specs.Attribute.{readAttribute}
 use Rattle.tunnel.specs.Identifier.{TableRow, identifierForms, formIn, formOf, readIdentifier}
 use Rattle.routes.specs.Arguments.{readSPmsi, readLabelled, readRoute, readFlow, readMatch}
@@ -22,7 +22,7 @@ by-reading n h = omega arith
 
 s-pmsi-argued : (afi : ℕ) (nlri : List ℕ) → Refuses ByArguments (readSPmsi afi nlri)
 unfolding readSPmsi
-s-pmsi-argued afi nlri = refuses-then _ _ (refuses-also by-reading (nlri-refuses afi nlri)) (λ f. refuses-pick _ _ _ value (number (omega arith)))
+s-pmsi-argued afi nlri = refuses-then _ _ (refuses-also by-reading (refuses-nlri afi nlri)) (λ f. refuses-pick _ _ _ value (number (omega arith)))
 
 form-argued : (rows : List TableRow) (type : ℕ) → Refuses ByArguments (formIn rows type)
 unfolding formIn
@@ -49,7 +49,7 @@ match-argued : (afi : ℕ) (router source group output : List ℕ) → Refuses B
 unfolding readMatch readFlow
 match-argued afi router source group output =
     refuses-then _ _
-    (refuses-then _ _ (refuses-also by-reading (family-refuses afi))
+    (refuses-then _ _ (refuses-also by-reading (refuses-family afi))
     (λ bits. refuses-pick _ _ _ (refuses-pick _ _ _ (refuses-then _ _ (class-argued bits group) (λ class. value)) (number (omega arith))) (number (omega arith))))
     (λ query. refuses-pick _ _ _ (number (omega arith)) value)
 
@@ -59,11 +59,11 @@ number-s-pmsi afi nlri n e = refuses-by _ n (s-pmsi-argued afi nlri) e
 pub number-route : (afi : ℕ) (nlri attribute : List ℕ) (n : ℕ) → readRoute afi nlri attribute ≡ refused n → ByArguments n
 number-route afi nlri attribute n e = refuses-by _ n (route-argued afi nlri attribute) e
 
-argued-refuses : (afi : ℕ) (c : Call) → Refuses ByArguments (argued afi c)
+refuses-argued : (afi : ℕ) (c : Call) → Refuses ByArguments (argued afi c)
 unfolding argued
-argued-refuses afi (install nlri attribute) = refuses-then _ _ (route-argued afi nlri attribute) (λ r. value)
-argued-refuses afi (withdraw nlri) = refuses-then _ _ (s-pmsi-argued afi nlri) (λ f. value)
-argued-refuses afi (match router source group output) = refuses-then _ _ (match-argued afi router source group output) (λ q. value)
+refuses-argued afi (install nlri attribute) = refuses-then _ _ (route-argued afi nlri attribute) (λ r. value)
+refuses-argued afi (withdraw nlri) = refuses-then _ _ (s-pmsi-argued afi nlri) (λ f. value)
+refuses-argued afi (match router source group output) = refuses-then _ _ (match-argued afi router source group output) (λ q. value)
 
 pub number-argued : (afi : ℕ) (c : Call) (n : ℕ) → argued afi c ≡ refused n → ByArguments n
-number-argued afi c n e = refuses-by _ n (argued-refuses afi c) e
+number-argued afi c n e = refuses-by _ n (refuses-argued afi c) e

@@ -11,7 +11,7 @@ use Rattle.octets.specs.Choice.{pick, both}
 use Rattle.octets.specs.Outcome.{Outcome, given, refused, onOutcome}
 use Rattle.octets.proofs.Choice.{opposite, both-held, both-true, picked}
 use Rattle.octets.proofs.Lists.{empty-list}
-use Rattle.octets.proofs.Orders.{same-equal, equal-same}
+use Rattle.octets.proofs.Orders.{same-equal, same-of-equal}
 use Rattle.nlri.specs.Fields.{Fields}
 use Rattle.nlri.specs.Groups.{ASM, SSM}
 use Rattle.routes.specs.Route.{Route, nlriOf}
@@ -27,7 +27,7 @@ pub first-tier : (q : Query) (f : Fields) → (condition q 1 f ≡ true) ↔ ((f
 unfolding condition pick
 first-tier q f = (
   λ h. let b = both-held _ _ h in (same-equal _ _ (b .0), same-equal _ _ (b .1)),
-  λ h. both-true _ _ (equal-same _ _ (h .0)) (equal-same _ _ (h .1)),
+  λ h. both-true _ _ (same-of-equal _ _ (h .0)) (same-of-equal _ _ (h .1)),
 )
 
 pub second-tier : (q : Query) (f : Fields) → (condition q 2 f ≡ true) ↔ ((f .source ≡ q .source) × (f .group ≡ []) × (q .class ≡ SSM))
@@ -37,7 +37,7 @@ second-tier q f = (
       let b = both-held _ _ h in
       let c = both-held _ _ (b .1) in
       (same-equal _ _ (b .0), wildcard-empty _ .0 (c .0), eqb-true _ _ (c .1)),
-  λ h. both-true _ _ (equal-same _ _ (h .0)) (both-true _ _ (wildcard-empty _ .1 (h .1)) (eq-eqb _ _ (h .2))),
+  λ h. both-true _ _ (same-of-equal _ _ (h .0)) (both-true _ _ (wildcard-empty _ .1 (h .1)) (eq-eqb _ _ (h .2))),
 )
 
 pub third-tier : (q : Query) (f : Fields) → (condition q 3 f ≡ true) ↔ ((f .source ≡ []) × (f .group ≡ q .group) × (q .class ≡ ASM))
@@ -47,7 +47,7 @@ third-tier q f = (
       let b = both-held _ _ h in
       let c = both-held _ _ (b .1) in
       (wildcard-empty _ .0 (b .0), same-equal _ _ (c .0), eqb-true _ _ (c .1)),
-  λ h. both-true _ _ (wildcard-empty _ .1 (h .0)) (both-true _ _ (equal-same _ _ (h .1)) (eq-eqb _ _ (h .2))),
+  λ h. both-true _ _ (wildcard-empty _ .1 (h .0)) (both-true _ _ (same-of-equal _ _ (h .1)) (eq-eqb _ _ (h .2))),
 )
 
 pub fourth-tier : (q : Query) (f : Fields) → (condition q 4 f ≡ true) ↔ ((f .source ≡ []) × (f .group ≡ []))

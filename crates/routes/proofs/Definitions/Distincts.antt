@@ -9,7 +9,7 @@ use native.Mathlib.Omega.{arith}
 use lib.ListN.{length}
 use Rattle.octets.specs.Order.{same}
 use Rattle.octets.proofs.Choice.{opposite, either-true, either-left, pick-true, pick-false, tested, either-second}
-use Rattle.octets.proofs.Orders.{same-equal, equal-same}
+use Rattle.octets.proofs.Orders.{same-equal, same-of-equal}
 use Rattle.routes.specs.Route.{Route, nlriOf, attributeOf, holds, Distinct}
 use Rattle.routes.specs.Book.{isAmong, onceEach}
 use Rattle.octets.specs.Lists.{Among, first, later, PutIn, front, behind, Rearranged, Once, none, one}
@@ -99,7 +99,7 @@ is-among-true {x} (y ∷ ys) h = ⊎-elim (λ t. first (same-equal x y t)) (λ t
 
 pub among-is-among : {x : List ℕ} {xs : List (List ℕ)} → Among x xs → isAmong x xs ≡ true
 unfolding isAmong
-among-is-among {x} (first {y} e) = either-left _ _ (equal-same x y e)
+among-is-among {x} (first {y} e) = either-left _ _ (same-of-equal x y e)
 among-is-among (later m) = either-second _ _ (among-is-among m)
 
 once-each-seen : (y : List ℕ) (ys : List (List ℕ)) → isAmong y ys ≡ true → onceEach (y ∷ ys) ≡ onceEach ys
@@ -155,7 +155,7 @@ names-held {nlri} (r ∷ rs) m =
     (λ t. holds-held nlri (r ∷ rs) (attributeOf r) (lookup-first nlri r rs t))
     (λ f.
     holds-alike nlri (r ∷ rs) rs (lookup-later nlri r rs f)
-    ∙ names-held rs (⊎-elim (λ e. absurd (opposite (equal-same nlri (nlriOf r) e) f)) (λ a. a) (among-cases m)))
+    ∙ names-held rs (⊎-elim (λ e. absurd (opposite (same-of-equal nlri (nlriOf r) e) f)) (λ a. a) (among-cases m)))
 
 names-once : {rs : List Route} → Distinct rs → Once (namesOf rs)
 unfolding namesOf

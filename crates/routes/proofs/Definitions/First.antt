@@ -14,7 +14,7 @@ use Rattle.octets.specs.Lists.{Among}
 use Rattle.routes.specs.Route.{Route, nlriOf, lookup, Distinct}
 use Rattle.routes.specs.Arguments.{Query}
 use Rattle.routes.specs.Matching.{distinguisherOf, Found, nothing, found, lowestIn, orElse, firstOf, matchIn}
-use Rattle.routes.proofs.Definitions.Lookups.{route-equal, held-attribute, member-lookup}
+use Rattle.routes.proofs.Definitions.Lookups.{route-equal, held-attribute, lookup-of-member}
 use Rattle.routes.proofs.Definitions.Lowest.{qualifies, Lowest, lowest-is}
 use Rattle.routes.proofs.Definitions.Conditions.{same-nlri}
 
@@ -24,7 +24,7 @@ neither-before x y h k = same-equal x y (is-true _ (λ d. opposite (before-other
 
 -- with no NLRI twice, members of one NLRI are one
 pub one-member : {rs : List Route} (r u : Route) → Distinct rs → Among r rs → Among u rs → nlriOf r ≡ nlriOf u → r ≡ u
-one-member {rs} r u d m n e = route-equal r u e (held-attribute (sym (member-lookup d m) ∙ ap (λ (x : List ℕ). lookup x rs) e ∙ member-lookup d n))
+one-member {rs} r u d m n e = route-equal r u e (held-attribute (sym (lookup-of-member d m) ∙ ap (λ (x : List ℕ). lookup x rs) e ∙ lookup-of-member d n))
 
 -- so many tiers, one after the other
 tiersFrom : (low count : ℕ) → List ℕ

@@ -29,9 +29,9 @@ unfolding countIn headerOf headerStart part
 count-in afi count s h =
     ap (λ (x : List ℕ). numberIn x 0) (take-at (bigEndian 2 count) s 2 (length-bigEndian 2 count)) ∙ number-of-big-endian 2 count h
 
-pub header-sound : (afi count : ℕ) (s : List ℕ) → KnownFamily afi → headerSound (headerOf afi count ++ s) ≡ true
+pub sound-headerOf : (afi count : ℕ) (s : List ℕ) → KnownFamily afi → headerSound (headerOf afi count ++ s) ≡ true
 unfolding headerSound afiIn headerOf headerStart
-header-sound afi count s f =
+sound-headerOf afi count s f =
     both-true _ _ (same-itself (headerStart afi))
     (⊎-elim (λ one. either-left _ _ (eq-eqb afi 1 one)) (λ two. either-second _ _ (eq-eqb afi 2 two)) f)
 

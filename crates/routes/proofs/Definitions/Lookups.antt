@@ -261,16 +261,16 @@ member-held {r} (later {y = q} {ys = rs} m) =
     (λ t. holds-held (nlriOf r) (q ∷ rs) (attributeOf q) (lookup-first (nlriOf r) q rs t))
     (λ f. holds-alike (nlriOf r) (q ∷ rs) rs (lookup-later (nlriOf r) q rs f) ∙ member-held m)
 
-pub member-lookup : {r : Route} {rs : List Route} → Distinct rs → Among r rs → lookup (nlriOf r) rs ≡ held (attributeOf r)
-member-lookup {r} (one {r = q} {rs = rs} h d) (first e) = rw e (lookup-own q rs)
-member-lookup {r} (one {r = q} {rs = rs} h d) (later m) =
+pub lookup-of-member : {r : Route} {rs : List Route} → Distinct rs → Among r rs → lookup (nlriOf r) rs ≡ held (attributeOf r)
+lookup-of-member {r} (one {r = q} {rs = rs} h d) (first e) = rw e (lookup-own q rs)
+lookup-of-member {r} (one {r = q} {rs = rs} h d) (later m) =
     let f : same (nlriOf r) (nlriOf q) ≡ false = is-false _ (λ t. opposite (member-held m) (rw (same-equal (nlriOf r) (nlriOf q) t) h)) in
-    lookup-later (nlriOf r) q rs f ∙ member-lookup d m
+    lookup-later (nlriOf r) q rs f ∙ lookup-of-member d m
 
 -- what distinct routes hold, others with the same members hold
 lookup-carried : {us : List Route} (nlri a : List ℕ) → Distinct us → Among (route nlri a) us → lookup nlri us ≡ held a
 unfolding nlriOf attributeOf
-lookup-carried nlri a e m = member-lookup e m
+lookup-carried nlri a e m = lookup-of-member e m
 
 -- what is held of an NLRI, by the routes that are there
 pub lookupRule : LookupRule
@@ -284,8 +284,8 @@ lookupRule =
       found = λ nlri attribute rs d. (lookup-member nlri attribute rs, lookup-carried nlri attribute d);
     }
 
-members-lookup : {rs us : List Route} → Distinct rs → Distinct us → ((r : Route) → Among r rs ↔ Among r us) → (nlri : List ℕ) → lookup nlri rs ≡ lookup nlri us
-members-lookup {rs} {us} d e m nlri = go (held-or-absent nlri rs) (held-or-absent nlri us)
+lookup-members : {rs us : List Route} → Distinct rs → Distinct us → ((r : Route) → Among r rs ↔ Among r us) → (nlri : List ℕ) → lookup nlri rs ≡ lookup nlri us
+lookup-members {rs} {us} d e m nlri = go (held-or-absent nlri rs) (held-or-absent nlri us)
   where
     go : ((a : List ℕ) × (lookup nlri rs ≡ held a)) ⊎ (lookup nlri rs ≡ absent) → ((a : List ℕ) × (lookup nlri us ≡ held a)) ⊎ (lookup nlri us ≡ absent) → lookup nlri rs ≡ lookup nlri us
     go (inl p) y = p .1 ∙ sym (lookup-carried nlri (p .0) e (m (route nlri (p .0)) .0 (lookup-member nlri (p .0) rs (p .1))))
@@ -306,9 +306,9 @@ lookup-early nlri {p} (next {r} {rs} b i) h =
     let g : before (nlriOf r) nlri ≡ false = is-false _ (λ t. opposite {b = before p nlri} (before-then p (nlriOf r) nlri b t) h) in
     lookup-later nlri r rs d ∙ lookup-early nlri i g
 
-pub increasing-distinct : {p : List ℕ} {rs : List Route} → Increasing p rs → Distinct rs
-increasing-distinct last = none
-increasing-distinct (next {r} {rs} b i) = one (holds-absent (nlriOf r) rs (lookup-early (nlriOf r) i (before-itself (nlriOf r)))) (increasing-distinct i)
+pub distinct-increasing : {p : List ℕ} {rs : List Route} → Increasing p rs → Distinct rs
+distinct-increasing last = none
+distinct-increasing (next {r} {rs} b i) = one (holds-absent (nlriOf r) rs (lookup-early (nlriOf r) i (before-itself (nlriOf r)))) (distinct-increasing i)
 
 pub increasing-inserted : (r : Route) {p : List ℕ} {rs : List Route} → before p (nlriOf r) ≡ true → Increasing p rs → Increasing p (inserted r rs)
 unfolding inserted
@@ -363,7 +363,7 @@ increasing-equal (next {r} {rs} b i) (next {r = u} {rs = us} c j) h =
         (λ f. sym (lookup-later nlri r rs f) ∙ h nlri ∙ lookup-later nlri u us (rw (← n) f))
 
 pub increasing-members : {p : List ℕ} {rs us : List Route} → Increasing p rs → Increasing p us → ((r : Route) → Among r rs ↔ Among r us) → rs ≡ us
-increasing-members i j m = increasing-equal i j (members-lookup (increasing-distinct i) (increasing-distinct j) m)
+increasing-members i j m = increasing-equal i j (lookup-members (distinct-increasing i) (distinct-increasing j) m)
 
 -- how many
 

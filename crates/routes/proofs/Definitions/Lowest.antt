@@ -23,8 +23,8 @@ no-member (first h) e = let z : _≡_ {A = ℕ} 0 1 = cc in omega arith
 no-member (later m) e = let z : _≡_ {A = ℕ} 0 1 = cc in omega arith
 
 -- where one does not come before a second, nor the second before a third, the first does not come before the third
-not-before : (x y z : List ℕ) → before x y ≡ false → before y z ≡ false → before x z ≡ false
-not-before x y z h k =
+before-not : (x y z : List ℕ) → before x y ≡ false → before y z ≡ false → before x z ≡ false
+before-not x y z h k =
     is-false (before x z) (λ b.
     tested (same y z)
     (λ t. opposite b (rw (← same-equal y z t) h))
@@ -51,7 +51,7 @@ module _ (afi : ℕ) (q : Query) (tier : ℕ) where
       tested (before (distinguisherOf afi w) (distinguisherOf afi r))
       (λ b. subst (Lowest (r ∷ rs)) (sym (pick-true _ (found t w) (found tier r) b)) (l .0, later (l .1), l .2, of-members _ r rs (λ _. before-once _ _ b) (l .3)))
       (λ b. subst (Lowest (r ∷ rs)) (sym (pick-false _ (found t w) (found tier r) b))
-      (refl, first refl, good, of-members _ r rs (λ _. before-itself _) (λ u m h. not-before _ _ _ (l .3 u m h) b)))
+      (refl, first refl, good, of-members _ r rs (λ _. before-itself _) (λ u m h. before-not _ _ _ (l .3 u m h) b)))
 
   pub lowest-is : (rs : List Route) → Lowest rs (lowestIn afi q tier rs)
   unfolding lowestIn

@@ -9,7 +9,7 @@ use Rattle.octets.specs.Outcome.{given, onOutcome}
 use Rattle.octets.specs.Order.{before}
 use Rattle.octets.proofs.Choice.{pick-true, opposite}
 use Rattle.octets.proofs.Outcome.{given-same, given-unless, given-otherwise, passed}
-use Rattle.octets.proofs.Orders.{same-equal, equal-same, before-none}
+use Rattle.octets.proofs.Orders.{same-equal, same-of-equal, before-none}
 use Rattle.nlri.specs.Family.{isOriginatorSize}
 use Rattle.nlri.specs.Fields.{Fields}
 use Rattle.routes.specs.Route.{Route, route, nlriOf, attributeOf}
@@ -38,7 +38,7 @@ owner-read afi nlri f e = rw e
 
 pub owned-itself : (router : List ℕ) (o : Owner) → o ≡ owner router → ownedBy router o ≡ true
 unfolding ownedBy
-owned-itself router o e = rw e (equal-same router router refl)
+owned-itself router o e = rw e (same-of-equal router router refl)
 
 pub owned-nobody : (router : List ℕ) (o : Owner) → o ≡ nobody → ownedBy router o ≡ false
 unfolding ownedBy

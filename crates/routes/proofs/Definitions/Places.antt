@@ -53,9 +53,9 @@ pub length-acceptable-place : (afi : ℕ) (r : Route) → acceptable afi r ≡ t
 length-acceptable-place afi r h = let s = sizes-of afi r h in length-place r (omega arith)
 
 -- a sound place is that of the route in it
-place-sound : (afi : ℕ) (r : Route) → acceptable afi r ≡ true → placeSound afi (placeOf r) ≡ true
+sound-placeOf : (afi : ℕ) (r : Route) → acceptable afi r ≡ true → placeSound afi (placeOf r) ≡ true
 unfolding placeSound
-place-sound afi r h =
+sound-placeOf afi r h =
     let s = sizes-of afi r h in
     let e = end-of r in
     both-true _ _ (le-leb (endIn (placeOf r)) 128 (omega arith))
@@ -124,14 +124,14 @@ length-from zero s = refl
 length-from (suc count) s = ap suc (length-from count (drop PLACE s))
 
 -- places in order, then zeros, are sound
-pub places-sound : (afi : ℕ) (previous : List ℕ) (rs : List Route) (n : ℕ) → AllAcceptable afi rs → Increasing previous rs
+pub sound-placesOf : (afi : ℕ) (previous : List ℕ) (rs : List Route) (n : ℕ) → AllAcceptable afi rs → Increasing previous rs
     → placesSound afi previous (length rs) (placesOf rs ++ zeros n) ≡ true
 unfolding placesSound placesOf
-places-sound afi previous [] n none last = zeros-all n
-places-sound afi previous (r ∷ rs) n (one h a) (next b i) =
+sound-placesOf afi previous [] n none last = zeros-all n
+sound-placesOf afi previous (r ∷ rs) n (one h a) (next b i) =
     let p = first-place afi r rs (zeros n) h in
     let d = other-places afi r rs (zeros n) h in
-    rw (p, d, place-routed r) (both-true _ _ (place-sound afi r h) (both-true _ _ b (places-sound afi (nlriOf r) rs n a i)))
+    rw (p, d, place-routed r) (both-true _ _ (sound-placeOf afi r h) (both-true _ _ b (sound-placesOf afi (nlriOf r) rs n a i)))
 
 -- sound places hold acceptable routes in order
 pub from-acceptable : (afi : ℕ) (previous : List ℕ) (count : ℕ) (s : List ℕ) → placesSound afi previous count s ≡ true → AllAcceptable afi (routesFrom count s)
@@ -140,11 +140,11 @@ from-acceptable afi previous zero s h = none
 from-acceptable afi previous (suc count) s h =
     one (sound-acceptable afi (take PLACE s) (both-true-left _ _ h)) (from-acceptable afi _ count (drop PLACE s) (both-true-right _ _ (both-true-right _ _ h)))
 
-pub from-increasing : (afi : ℕ) (previous : List ℕ) (count : ℕ) (s : List ℕ) → placesSound afi previous count s ≡ true → Increasing previous (routesFrom count s)
+pub increasing-routesFrom : (afi : ℕ) (previous : List ℕ) (count : ℕ) (s : List ℕ) → placesSound afi previous count s ≡ true → Increasing previous (routesFrom count s)
 unfolding placesSound routesFrom
-from-increasing afi previous zero s h = last
-from-increasing afi previous (suc count) s h =
-    next (both-true-left _ _ (both-true-right _ _ h)) (from-increasing afi _ count (drop PLACE s) (both-true-right _ _ (both-true-right _ _ h)))
+increasing-routesFrom afi previous zero s h = last
+increasing-routesFrom afi previous (suc count) s h =
+    next (both-true-left _ _ (both-true-right _ _ h)) (increasing-routesFrom afi _ count (drop PLACE s) (both-true-right _ _ (both-true-right _ _ h)))
 
 -- sound places are those of their routes, then zeros
 pub from-places : (afi : ℕ) (previous : List ℕ) (count : ℕ) (s : List ℕ) → 128 * count ≤ length s → placesSound afi previous count s ≡ true

@@ -17,7 +17,7 @@ use Rattle.routes.specs.Call.{Call, install, withdraw, match, Owner, nob
 use Rattle.routes.specs.Book.{bookAfter, fed, ownCalls, bookOf, allBooks, dueAnswer}
 use Rattle.routes.specs.Run.{imageOfBooks, namedBy, Fits}
 use Rattle.routes.specs.BookRules.{BelongsTo, ownInstall, ownWithdrawal, ownMatch, Nobodys, OwnerRule, PremiseRule, RefusedCall, BookStep, BookRule, ImageRule}
-use Rattle.routes.proofs.Definitions.Lookups.{route-again, held-absent, lookup-arranged, lookup-member, member-lookup, increasing-distinct}
+use Rattle.routes.proofs.Definitions.Lookups.{route-again, held-absent, lookup-arranged, lookup-member, lookup-of-member, distinct-increasing}
 use Rattle.routes.proofs.Statements.ArgumentRules.{argumentRule, nlri-accepts}
 use Rattle.routes.proofs.Statements.Images.{images}
 use Rattle.routes.proofs.Definitions.Distincts.{once-each-among, among-once-each, once-once-each}
@@ -144,7 +144,7 @@ module _ (afi : ℕ) (calls : List Call) where
   gathered-from r m = go (originatorOf afi (nlriOf r)) refl
     where
       all : lookup (nlriOf r) (allBooks afi calls) ≡ held (attributeOf r)
-      all = sym (lookup-arranged (nlriOf r) (allBooks afi calls)) ∙ member-lookup (increasing-distinct (increasing-books afi calls)) m
+      all = sym (lookup-arranged (nlriOf r) (allBooks afi calls)) ∙ lookup-of-member (distinct-increasing (increasing-books afi calls)) m
 
       go : (o : Owner) → originatorOf afi (nlriOf r) ≡ o → (router : List ℕ) × Among r (bookOf afi router calls)
       go nobody e = absurd (held-absent all (lookup-nobody afi (nlriOf r) calls e))
@@ -153,7 +153,7 @@ module _ (afi : ℕ) (calls : List Call) where
 
   gathered-in : (r : Route) (router : List ℕ) → Among r (bookOf afi router calls) → Among r (arranged (allBooks afi calls))
   gathered-in r router m =
-      let book : lookup (nlriOf r) (bookOf afi router calls) ≡ held (attributeOf r) = member-lookup (distinct-book afi router calls) m in
+      let book : lookup (nlriOf r) (bookOf afi router calls) ≡ held (attributeOf r) = lookup-of-member (distinct-book afi router calls) m in
       tested (ownedBy router (originatorOf afi (nlriOf r)))
       (λ t.
       let own = owned-by router (originatorOf afi (nlriOf r)) t in

@@ -24,7 +24,7 @@ use Rattle.routes.specs.Calls.{entering, installOutcome, installOf, leav
 use Rattle.routes.specs.Call.{Call, install, withdraw, match, Answer, installed, withdrawn, matched, Owner, nobody, owner, originatorOf, ownerOf, Act, enter, leave, ask, argued, refusalOf, refusalAnswer}
 use Rattle.routes.specs.Book.{bookOf, actAnswer, bookAnswer, allBooks, dueBy, dueAnswer}
 use Rattle.routes.specs.Run.{Step, stepOf, imageOfBooks, dueStep, Fits}
-use Rattle.routes.proofs.Definitions.Lookups.{lookup-inserted, lookup-arranged, holds-alike, increasing-equal, increasing-inserted, increasing-removed, increasing-distinct, length-inserted-new, absent-holds, removed-absent}
+use Rattle.routes.proofs.Definitions.Lookups.{lookup-inserted, lookup-arranged, holds-alike, increasing-equal, increasing-inserted, increasing-removed, distinct-increasing, length-inserted-new, absent-holds, removed-absent}
 use Rattle.routes.proofs.Definitions.Bounds.{route-read}
 use Rattle.routes.proofs.Statements.Images.{images}
 use Rattle.routes.proofs.Definitions.MatchSame.{match-same}
@@ -147,7 +147,7 @@ module _ (afi places : ℕ) (earlier : List Call) (c : Call) where
   next-left : (nlri : List ℕ) → argued afi c ≡ given (leave nlri) → removed nlri (tableRoutes afi earlier) ≡ tableRoutes afi (earlier ++ (c ∷ []))
   unfolding heldBy
   next-left nlri e =
-      next-act (leave nlri) e (removed nlri (tableRoutes afi earlier)) (increasing-removed nlri (increasing-books afi earlier)) (λ n. lookup-removed n nlri (increasing-distinct (increasing-books afi earlier)))
+      next-act (leave nlri) e (removed nlri (tableRoutes afi earlier)) (increasing-removed nlri (increasing-books afi earlier)) (λ n. lookup-removed n nlri (distinct-increasing (increasing-books afi earlier)))
 
   next-asked : (q : Query) (output : List ℕ) → argued afi c ≡ given (ask q output) → tableRoutes afi earlier ≡ tableRoutes afi (earlier ++ (c ∷ []))
   unfolding heldBy
@@ -177,7 +177,7 @@ module _ (afi places : ℕ) (earlier : List Call) (c : Call) where
     -- the table's routes and the asked router's book give one match
     match-book : (q : Query) → q .router ≡ router → matchIn afi q (bookOf afi router earlier) ≡ matchIn afi q (tableRoutes afi earlier)
     match-book q mine =
-        match-same afi q (bookOf afi router earlier) (tableRoutes afi earlier) (distinct-book afi router earlier) (increasing-distinct (increasing-books afi earlier))
+        match-same afi q (bookOf afi router earlier) (tableRoutes afi earlier) (distinct-book afi router earlier) (distinct-increasing (increasing-books afi earlier))
         (λ nlri h. sym (lookup-arranged nlri (allBooks afi earlier) ∙ lookup-all afi router nlri earlier (owned-by (q .router) (originatorOf afi nlri) h ∙ ap owner mine)))
 
     acted : {act : Act} (t : List ℕ) → t ≡ imageOf afi places (tableRoutes afi earlier) → KnownFamily afi → places ≤ 500 → Fits afi places (earlier ++ (c ∷ [])) → argued afi c ≡ given act → Known afi c router act

@@ -21,9 +21,9 @@ use Rattle.routes.specs.Table.{headerOf, placesOf, imageOf, afiIn, count
 use Rattle.routes.specs.Calls.{makeOutcome, makeOf}
 use Rattle.routes.specs.ArgumentRules.{KnownFamily}
 use Rattle.routes.specs.Images.{Holdable, TableOf, Images}
-use Rattle.routes.proofs.Definitions.Headers.{length-header, afi-in, count-in, header-sound, past-header, sound-family, sound-header, SizeOf, size-sound, sound-size, places-in}
+use Rattle.routes.proofs.Definitions.Headers.{length-header, afi-in, count-in, sound-headerOf, past-header, sound-family, sound-header, SizeOf, size-sound, sound-size, places-in}
 use Rattle.routes.proofs.Definitions.Lookups.{increasing-members}
-use Rattle.routes.proofs.Definitions.Places.{length-zeros, length-places, routes-from, length-from, places-sound, from-acceptable, from-increasing, from-places}
+use Rattle.routes.proofs.Definitions.Places.{length-zeros, length-places, routes-from, length-from, sound-placesOf, from-acceptable, increasing-routesFrom, from-places}
 
 -- what a sound table's tests say
 pub record Sound (t : List ℕ) : Type 0 where
@@ -58,7 +58,7 @@ sound-holdable t h =
       most = s .size .most;
       within = rw (length-from (countIn t) (drop 8 t)) (s .within);
       acceptable = from-acceptable (afiIn t) [] (countIn t) (drop 8 t) (s .places);
-      increasing = from-increasing (afiIn t) [] (countIn t) (drop 8 t) (s .places);
+      increasing = increasing-routesFrom (afiIn t) [] (countIn t) (drop 8 t) (s .places);
     }
 
 pub sound-image : (t : List ℕ) → AllOctets t → soundOf t ≡ true → t ≡ imageOf (afiIn t) (placesIn t) (routesOf t)
@@ -103,17 +103,17 @@ module _ (afi places : ℕ) (rs : List Route) (h : Holdable afi places rs) where
 
   header : headerSound (imageOf afi places rs) ≡ true
   unfolding imageOf
-  header = header-sound afi (length rs) _ (h .family)
+  header = sound-headerOf afi (length rs) _ (h .family)
 
-  image-sound : soundOf (imageOf afi places rs) ≡ true
+  sound-imageOf : soundOf (imageOf afi places rs) ≡ true
   unfolding soundOf
-  image-sound =
+  sound-imageOf =
       both-true _ _ (size-sound _ places length-image (h .most))
       (both-true _ _ header
-      (rw (count-image, places-image, afi-image afi places rs, rest) (both-true _ _ (le-leb (length rs) places (h .within)) (places-sound afi [] rs _ (h .acceptable) (h .increasing)))))
+      (rw (count-image, places-image, afi-image afi places rs, rest) (both-true _ _ (le-leb (length rs) places (h .within)) (sound-placesOf afi [] rs _ (h .acceptable) (h .increasing)))))
 
   image-table : TableOf afi places rs (imageOf afi places rs)
-  image-table = record { sound = image-sound; family = afi-image afi places rs; size = places-image; routes = routes-image }
+  image-table = record { sound = sound-imageOf; family = afi-image afi places rs; size = places-image; routes = routes-image }
 
 one-image : (t u : List ℕ) → AllOctets t → AllOctets u → soundOf t ≡ true → soundOf u ≡ true → afiIn t ≡ afiIn u → length t ≡ length u
     → ((r : Route) → Among r (routesOf t) ↔ Among r (routesOf u)) → t ≡ u

@@ -25,7 +25,7 @@ use Rattle.routes.proofs.Statements.ArgumentRules.{argumentRule}
 use Rattle.routes.proofs.Statements.Decisions.{decides, leftBy, lastFrom, last-exactly}
 use Rattle.routes.proofs.Statements.Images.{images, sound-holdable}
 use Rattle.routes.proofs.Statements.InstallRules.{installRule, install-done, install-octets}
-use Rattle.routes.proofs.Definitions.Lookups.{lookupRule, lookup-none, lookup-member, member-lookup, increasing-distinct}
+use Rattle.routes.proofs.Definitions.Lookups.{lookupRule, lookup-none, lookup-member, lookup-of-member, distinct-increasing}
 use Rattle.routes.proofs.Statements.MakeRules.{makeRule}
 use Rattle.routes.proofs.Statements.WithdrawRules.{withdrawRule, withdraw-done, withdraw-octets}
 
@@ -122,7 +122,7 @@ module _ (afi : ℕ) (memory : List ℕ) (calls : List Call) (done : makeOf afi 
   exactly nlri attribute =
       let last = last-exactly nlri attribute (makeOf afi memory .octets) calls in
       let order = sound-holdable (endOf (makeOf afi memory .octets) calls) (next .sound) .increasing in (
-        λ m. last .0 (sym (lookups nlri) ∙ member-lookup (increasing-distinct order) m),
+        λ m. last .0 (sym (lookups nlri) ∙ lookup-of-member (distinct-increasing order) m),
         λ l. lookup-member nlri attribute _ (lookups nlri ∙ last .1 l),
       )
 

@@ -22,7 +22,7 @@ use Rattle.routes.specs.Calls.{matchOutcome, matchOf}
 use Rattle.routes.specs.ArgumentRules.{GoodFlow, badFlow, noSpace}
 use Rattle.routes.specs.MatchRule.{Told, Untold, MatchAnswer, oneTold, noneTold, MatchRefusal, matchUnsound, badMatch, MatchRule}
 use Rattle.routes.proofs.Statements.ArgumentRules.{argumentRule, flow-passes}
-use Rattle.routes.proofs.Definitions.Lookups.{acceptable-member, increasing-distinct}
+use Rattle.routes.proofs.Definitions.Lookups.{acceptable-member, distinct-increasing}
 use Rattle.routes.proofs.Definitions.Bounds.{Sized, sizes-of}
 use Rattle.routes.proofs.Statements.Images.{sound-holdable}
 use Rattle.routes.proofs.Definitions.Flows.{Asked, flow-asked, flow-given}
@@ -143,7 +143,7 @@ module _ (t router source group output : List ℕ) where
       let f = flow-given (afiIn t) router source group (h .1) in
       let holdable = sound-holdable t (h .0) in
       subst (λ (o : Outcome Found). MatchAnswer (afiIn t) router source group output (routesOf t) (matchedBy o output)) (sym (served-outcome (f .0) (h .0) (f .1) (h .2)))
-      (match-answer (afiIn t) router source group output (f .0) (f .1) (h .2) (routesOf t) (increasing-distinct (holdable .increasing)) (holdable .acceptable))
+      (match-answer (afiIn t) router source group output (f .0) (f .1) (h .2) (routesOf t) (distinct-increasing (holdable .increasing)) (holdable .acceptable))
 
   refused-untold : matchOf t router source group output .answer .number ≢ DONE → Untold output (matchOf t router source group output)
   unfolding matchOf matchedBy onOutcome refusedMatch

@@ -7,7 +7,7 @@ use mathlib.Core.Logic.{_↔_}
 use native.Mathlib.Omega.{arith}
 use Rattle.octets.specs.Order.{before}
 use Rattle.octets.proofs.Choice.{opposite, is-false, both-true}
-use Rattle.octets.proofs.Orders.{equal-same}
+use Rattle.octets.proofs.Orders.{same-of-equal}
 use Rattle.nlri.specs.Fields.{Fields}
 use Rattle.routes.specs.Route.{Route, nlriOf, Distinct}
 use Rattle.routes.specs.Arguments.{Query}
@@ -53,7 +53,7 @@ module _ (afi : ℕ) (router source group : List ℕ) (q : Query) (a : Asked afi
   qualifying tier r e =
       let f : Fields = e .candidate .named .fields in
       let read = nlri-accepts afi (nlriOf r) (e .candidate .named) in
-      both-true _ _ (fields-of afi r _ f read ∙ equal-same (f .originator) (q .router) (e .candidate .originator ∙ sym (a .ofRouter)))
+      both-true _ _ (fields-of afi r _ f read ∙ same-of-equal (f .originator) (q .router) (e .candidate .originator ∙ sym (a .ofRouter)))
       (fields-of afi r _ f read ∙ tier-met (e .met))
 
   rd : (tier : ℕ) (r : Route) (e : Eligible afi router source group tier r) → distinguisherOf afi r ≡ e .candidate .named .fields .distinguisher

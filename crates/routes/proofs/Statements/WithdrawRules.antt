@@ -19,7 +19,7 @@ use Rattle.routes.proofs.Statements.ArgumentRules.{argumentRule, nlri-a
 use Rattle.routes.proofs.Definitions.ByArguments.{number-s-pmsi}
 use Rattle.routes.proofs.Definitions.Holding.{holdable-removed}
 use Rattle.routes.proofs.Statements.Images.{images, sound, sound-holdable, length-image}
-use Rattle.routes.proofs.Definitions.Lookups.{absent-holds, holds-absent, held-holds, holds-held, lookup-removed-same, lookup-removed-other, increasing-distinct, length-removed-held}
+use Rattle.routes.proofs.Definitions.Lookups.{absent-holds, holds-absent, held-holds, holds-held, lookup-removed-same, lookup-removed-other, distinct-increasing, length-removed-held}
 
 -- what a withdrawal that is not refused found
 pub record Left (t nlri : List ℕ) : Type 0 where
@@ -108,7 +108,7 @@ module _ (t nlri : List ℕ) where
   held-after e =
       let a = after-given e in
       record {
-        own = ap (lookup nlri) (a .routes) ∙ lookup-removed-same nlri (increasing-distinct (sound-holdable t (withdraw-given nlri e .0 .asked .sound) .increasing));
+        own = ap (lookup nlri) (a .routes) ∙ lookup-removed-same nlri (distinct-increasing (sound-holdable t (withdraw-given nlri e .0 .asked .sound) .increasing));
         others = λ other d. ap (lookup other) (a .routes) ∙ lookup-removed-other other nlri (routesOf t) (unequal-other other nlri d);
       }
 
