@@ -6,6 +6,7 @@ pub mod ReadNumbers
 pub mod Table
 pub mod Lengths
 pub mod Judged
+pub mod Starts
 pub mod Whole
 pub mod Keys
 pub mod Writes

@@ -1,8 +1,6 @@
 -- Laws that tie the inner functions' definitions to document 01's, and that the functions' proofs use.
 pub mod Via
-pub mod Rows
 pub mod Fronts
-pub mod Numbered
 pub mod Ends
 pub mod Standing
 pub mod KeyTests

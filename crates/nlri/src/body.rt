@@ -1,18 +1,18 @@
 // The bodies of NLRIs, judged field by field from left to right (document 01, "NLRI on the wire"): the number of the first fault,
 // or DONE. Fields are judged by where they end in the octets, so that a length octet that is there says that all before it is.
 ghost use mathlib.Core.Path.{_≡_};
-ghost use Prim.Native.Nat.{_<_};
-ghost use lib.Dec.{eqb};
-ghost use Rattle.octets.specs.Outcome.{numberOf};
+ghost use mathlib.Core.List.{List, [], _∷_};
+ghost use Prim.Native.Nat.{ℕ, _≤_, _<_};
+ghost use lib.ListN.{length};
 ghost use Rattle.nlri.specs.Family.{allowed, isOriginatorSize};
-ghost use Rattle.nlri.specs.Inner.{restFault, flowEndFault, groupFault, flowFault, unkeyedBody};
+ghost use Rattle.nlri.specs.Bodies.{source, group, originator};
+ghost use Rattle.nlri.specs.Inner.{leftFault, bodyFault, afterFlow};
 use crate::address::AddressKind;
 use crate::address::RouteDistinguisher;
 use crate::fields;
 use crate::read::HEADER;
 use crate::route::RouteType;
 use octets::number::DONE;
-use octets::number::KEY;
 use octets::number::LENGTH;
 use octets::number::TYPE;
 use octets::number::WIDTH;
@@ -43,7 +43,7 @@ pub fn is_originator_size(size: usize) -> bool
 // An originator stands from `at` to the end.
 pub(crate) fn originator_fault(at: usize, size: usize) -> u32
     requires { ⌜ at < 512 ⌝ }
-    ensures { λ r. ⌜ r ≡ restFault isOriginatorSize at size ⌝ }
+    ensures { λ r. ⌜ ((bits type : ℕ) (s : List ℕ) → length s ≡ size → r ≡ leftFault bits type (originator ∷ []) at s) ⌝ }
 {
     if size == at + AddressKind::IPV4_OCTETS {
         return DONE;
@@ -56,7 +56,7 @@ pub(crate) fn originator_fault(at: usize, size: usize) -> u32
 
 // Nothing stands from `at` on.
 pub(crate) fn end_fault(at: usize, size: usize) -> u32
-    ensures { λ r. ⌜ r ≡ restFault (λ rest. eqb rest 0) at size ⌝ }
+    ensures { λ r. ⌜ ((bits type : ℕ) (s : List ℕ) → length s ≡ size → r ≡ leftFault bits type [] at s) ⌝ }
 {
     if size == at {
         return DONE;
@@ -67,7 +67,7 @@ pub(crate) fn end_fault(at: usize, size: usize) -> u32
 // What follows source and group: in type 3 the originator, else nothing.
 fn flow_end_fault(route_type: usize, at: usize, size: usize) -> u32
     requires { ⌜ at < 512 ⌝ }
-    ensures { λ r. ⌜ r ≡ flowEndFault «route_type» at size ⌝ }
+    ensures { λ r. ⌜ ((bits : ℕ) (s : List ℕ) → length s ≡ size → r ≡ leftFault bits «route_type» (afterFlow «route_type») at s) ⌝ }
 {
     if route_type == RouteType::S_PMSI {
         return originator_fault(at, size);
@@ -78,7 +78,7 @@ fn flow_end_fault(route_type: usize, at: usize, size: usize) -> u32
 // A group, whose length octet is at `at`, and what follows it.
 fn group_fault(kind: AddressKind, route_type: usize, at: usize, s: &[u8]) -> u32
     requires { ⌜ at < 256 ⌝ }
-    ensures { λ r. ⌜ r ≡ groupFault (kind .bits) «route_type» at (now (s .entry)) ⌝ }
+    ensures { λ r. ⌜ r ≡ leftFault (kind .bits) «route_type» (group ∷ afterFlow «route_type») at (now (s .entry)) ⌝ }
 {
     if s.len() <= at {
         return LENGTH;
@@ -93,7 +93,7 @@ fn group_fault(kind: AddressKind, route_type: usize, at: usize, s: &[u8]) -> u32
 // A source, whose length octet is at `at`, and what follows it.
 pub(crate) fn flow_fault(kind: AddressKind, route_type: usize, at: usize, s: &[u8]) -> u32
     requires { ⌜ at < 128 ⌝ }
-    ensures { λ r. ⌜ r ≡ flowFault (kind .bits) «route_type» at (now (s .entry)) ⌝ }
+    ensures { λ r. ⌜ r ≡ leftFault (kind .bits) «route_type» (source ∷ group ∷ afterFlow «route_type») at (now (s .entry)) ⌝ }
 {
     if s.len() <= at {
         return LENGTH;
@@ -105,22 +105,28 @@ pub(crate) fn flow_fault(kind: AddressKind, route_type: usize, at: usize, s: &[u
     group_fault(kind, route_type, at + 1 + bits / 8, s)
 }
 
-// A body that has no key, of the route type given.
-pub(crate) fn unkeyed_body_fault(kind: AddressKind, route_type: usize, s: &[u8]) -> u32
-    ensures { λ r. ⌜ r ≡ numberOf (unkeyedBody (kind .bits) «route_type» (now (s .entry))) ⌝ }
+// A body of a type that a key may have: 1, 2 or 3.
+pub(crate) fn keyable_body_fault(kind: AddressKind, route_type: usize, s: &[u8]) -> u32
+    requires { ⌜ «route_type» ≤ 3 ⌝ }
+    ensures { λ r. ⌜ r ≡ bodyFault (kind .bits) «route_type» (now (s .entry)) ⌝ }
 {
+    if route_type == RouteType::S_PMSI {
+        return flow_fault(kind, RouteType::S_PMSI, RouteDistinguisher::OCTETS, s);
+    }
     if route_type == RouteType::INTRA_AS_I_PMSI {
         return originator_fault(RouteDistinguisher::OCTETS, s.len());
     }
     if route_type == RouteType::INTER_AS_I_PMSI {
         return end_fault(RouteDistinguisher::WITH_SOURCE_AS, s.len());
     }
-    if route_type == RouteType::LEAF {
-        return KEY;
-    }
-    if route_type < RouteType::INTRA_AS_I_PMSI {
-        return TYPE;
-    }
+    TYPE
+}
+
+// A body of a type above a Leaf's: a source and a group, and nothing behind them.
+pub(crate) fn flow_body_fault(kind: AddressKind, route_type: usize, s: &[u8]) -> u32
+    requires { ⌜ 4 < «route_type» ⌝ }
+    ensures { λ r. ⌜ r ≡ bodyFault (kind .bits) «route_type» (now (s .entry)) ⌝ }
+{
     if RouteType::SOURCE_TREE_JOIN < route_type {
         return TYPE;
     }

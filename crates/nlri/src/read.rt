@@ -3,9 +3,9 @@ ghost use mathlib.Core.Path.{_≡_};
 ghost use Prim.Native.Nat.{_+_, _≤_};
 ghost use lib.ListN.{length, getD};
 ghost use Rattle.octets.specs.Outcome.{numberOf};
-ghost use Rattle.nlri.specs.Reading.{isSPmsi};
+ghost use Rattle.nlri.specs.Reading.{isSPmsi, keyField};
 ghost use Rattle.nlri.specs.Layouts.{readingOf, layoutAt, layoutSingle};
-ghost use Rattle.nlri.specs.Inner.{headerOutcome, headerAt, keyHeader, keyed, anyBody, layoutWith, flowLayout, leafLayout, layoutIn, FlowStands, Stands, endsWith, single, sPmsiUnder};
+ghost use Rattle.nlri.specs.Inner.{headerOutcome, keyOutcome, headerAt, leftFault, bodyFault, keyedKinds, layoutWith, flowLayout, leafLayout, layoutIn, FlowStands, Stands, endsWith, single, sPmsiUnder};
 use crate::address::AddressKind;
 use crate::address::RouteDistinguisher;
 use crate::body;
@@ -45,7 +45,7 @@ fn read_header(s: &[u8]) -> Header
 
 // The key at the front of `s`, a whole NLRI of type 1, 2 or 3: its type and Length, or a number that refuses it.
 fn read_key(kind: AddressKind, s: &[u8]) -> Header
-    ensures { λ r. ⌜ headerOutcome r ≡ keyHeader (kind .bits) (now (s .entry)) ⌝ }
+    ensures { λ r. ⌜ keyOutcome r ≡ keyField (kind .bits) (now (s .entry)) ⌝ }
 {
     match read_header(s) {
         Header::Unread(number) => Header::Unread(number),
@@ -54,7 +54,7 @@ fn read_key(kind: AddressKind, s: &[u8]) -> Header
                 return Header::Unread(KEY);
             }
             let body = octets::parts::between(s, HEADER, length);
-            let fault = body::unkeyed_body_fault(kind, route_type, body);
+            let fault = body::keyable_body_fault(kind, route_type, body);
             if fault != DONE {
                 return Header::Unread(fault);
             }
@@ -66,7 +66,7 @@ fn read_key(kind: AddressKind, s: &[u8]) -> Header
 // What begins with a key: a key alone, or a Leaf's body, where an originator follows the key. Any fault inside the key is KEY.
 // Reading and writing judge a key by this.
 pub(crate) fn keyed_fault(kind: AddressKind, alone: bool, s: &[u8]) -> u32
-    ensures { λ r. ⌜ r ≡ numberOf (keyed alone (kind .bits) (now (s .entry))) ⌝ }
+    ensures { λ r. ⌜ r ≡ leftFault (kind .bits) 4 (keyedKinds alone) 0 (now (s .entry)) ⌝ }
 {
     // a part handed on, so that the slice reaches this function in registers
     let Header::Typed(_, length) = read_key(kind, &s[0..]) else {
@@ -80,12 +80,15 @@ pub(crate) fn keyed_fault(kind: AddressKind, alone: bool, s: &[u8]) -> u32
 
 // A body of any route type.
 fn body_fault(kind: AddressKind, route_type: usize, s: &[u8]) -> u32
-    ensures { λ r. ⌜ r ≡ numberOf (anyBody (kind .bits) «route_type» (now (s .entry))) ⌝ }
+    ensures { λ r. ⌜ r ≡ bodyFault (kind .bits) «route_type» (now (s .entry)) ⌝ }
 {
     if route_type == RouteType::LEAF {
         return keyed_fault(kind, false, s);
     }
-    body::unkeyed_body_fault(kind, route_type, s)
+    if RouteType::LEAF < route_type {
+        return body::flow_body_fault(kind, route_type, s);
+    }
+    body::keyable_body_fault(kind, route_type, s)
 }
 
 // The number of the NLRI at the front of `s`, under the family of a kind of addresses.

@@ -1,30 +1,30 @@
 -- A field is read exactly where it stands encoded and well-formed, for every judge of keys.
-use mathlib.Core.Path.{_≡_, sym, _∙_, ap, subst}
+use mathlib.Core.Path.{_≡_, refl, sym, _∙_, ap, subst}
 use mathlib.Core.Bool.{true}
 use mathlib.Core.List.{List, [], _∷_, _++_, append-nil}
 use Prim.Native.Nat.{ℕ, suc, _+_, _*_, _/_, _-_, _≤_, _<_}
 use native.Mathlib.Omega.{arith}
-use borrow.Author.Tests.{ne-eqb, le-ltb, leb-false, lt-leb}
+use borrow.Author.Tests.{ne-eqb, le-ltb, lt-leb}
 use lib.ListN.{length, getD, take, drop, length-append, length-drop}
 use lib.Seq.{length-take-le, getD-take}
 use Rattle.octets.specs.Numbers.{KEY}
 use Rattle.octets.specs.Outcome.{Outcome, given, refused}
 use Rattle.octets.specs.Octets.{AllOctets, one, numberIn, bigEndian}
 use Rattle.octets.proofs.Choice.{pick-true, pick-false}
-use Rattle.octets.proofs.Outcome.{given-otherwise, given-unless, given-same}
 use Rattle.octets.proofs.AllOctets.{octets-take, octets-drop, number-fits}
 use Rattle.octets.proofs.Lists.{front-rest}
 use Rattle.octets.proofs.NetworkOrder.{length-bigEndian, octets-bigEndian, big-endian-of-number}
-use Rattle.nlri.specs.Family.{allowed, isOriginatorSize}
-use Rattle.nlri.specs.Bodies.{FieldKind, distinguisher, sourceAs, source, group, originator, key}
+use Rattle.nlri.specs.Family.{allowed}
+use Rattle.nlri.specs.Bodies.{FieldKind, distinguisher, sourceAs, source, group, originator, key, sameKind, codeOf}
 use Rattle.nlri.specs.Fields.{Fields, encodeAddress, encodeField, WellFormedField}
 use Rattle.nlri.specs.Reading.{fixedField, addressEnd, addressField, originatorField, fieldSize}
 use Rattle.nlri.proofs.Definitions.Table.{most}
-use Rattle.nlri.proofs.Definitions.Sizes.{fixed-is}
-use Rattle.nlri.proofs.Definitions.Lengths.{whole-octets, address-most, originator-most}
+use Rattle.nlri.proofs.Definitions.Sizes.{fixed-is, address-is, originator-given}
+use Rattle.nlri.proofs.Definitions.Lengths.{whole-octets, allowed-most, originator-sized}
 
 -- a judge of keys that says of octets how many a key at their front takes
 pub record Judges (judge : List ℕ → Outcome ℕ) (Key : List ℕ → Type 0) : Type 0 where
+  pub within : (s : List ℕ) (n : ℕ) → judge s ≡ given n → n ≤ length s
   pub sound : (s : List ℕ) (n : ℕ) → AllOctets s → judge s ≡ given n → (n ≤ length s) × Key (take n s)
   pub complete : (k t : List ℕ) → Key k → judge (k ++ t) ≡ given (length k)
   pub refuses : (s : List ℕ) (n : ℕ) → judge s ≡ refused n → n ≡ KEY
@@ -58,28 +58,17 @@ fixed-stands m x t e = pick-false _ _ _ (le-ltb (length (x ++ t)) m (simp length
 -- an address read, as its octets encoded
 pub record AddressRead (bits type : ℕ) (piece : List ℕ) : Type 0 where
   pub fits : allowed bits type (8 * length (drop 1 piece)) ≡ true
-  pub octets : AllOctets (drop 1 piece)
   pub encoded : encodeAddress (drop 1 piece) ≡ piece
 
-pub address-given : (bits type n : ℕ) (s : List ℕ) → 8 * (bits / 8) ≡ bits → AllOctets s → addressField bits type s ≡ given n → (n ≤ length s) × AddressRead bits type (take n s)
-unfolding addressField addressEnd encodeAddress
-address-given bits type n s whole a e =
-    let p = given-otherwise _ _ _ _ e in
-    let q = given-unless _ _ _ _ (p .1) in
-    let r = given-otherwise _ _ _ _ (q .1) in
-    let size : 1 + getD s 0 0 / 8 ≡ n = given-same (r .1) in
-    let fits : n ≤ length s = omega (arith, leb-false) in
-    let l : length (take n s) ≡ n = length-take-le n s fits in
+pub address-given : (bits type n : ℕ) (s : List ℕ) → 8 * (bits / 8) ≡ bits → addressField bits type s ≡ given n → AddressRead bits type (take n s)
+unfolding encodeAddress
+address-given bits type n s whole e =
+    let p = address-is bits type s n e in
+    let l : length (take n s) ≡ n = length-take-le n s (p .1) in
     let d : length (drop 1 (take n s)) ≡ n - 1 = rw length-drop (omega arith) in
-    let first : getD (take n s) 0 0 ≡ getD s 0 0 = getD-take n s 0 0 (omega arith) in
-    let octet : 8 * length (drop 1 (take n s)) ≡ getD s 0 0 = rw d (omega (arith, whole-octets bits type (getD s 0 0) whole (q .0))) in (
-      fits,
-      record {
-        fits = rw octet (q .0);
-        octets = octets-drop 1 (octets-take n a);
-        encoded = ap (λ (b : ℕ). b ∷ drop 1 (take n s)) (octet ∙ sym first) ∙ sym (front-rest (take n s) (omega arith));
-      },
-    )
+    let first : getD (take n s) 0 0 ≡ getD s 0 0 = getD-take n s 0 0 (omega (arith, p .0)) in
+    let octet : 8 * length (drop 1 (take n s)) ≡ getD s 0 0 = rw d (omega (arith, p .0, whole-octets bits type (getD s 0 0) whole (p .2))) in
+    record { fits = rw octet (p .2); encoded = ap (λ (b : ℕ). b ∷ drop 1 (take n s)) (octet ∙ sym first) ∙ sym (front-rest (take n s) (omega (arith, p .0))) }
 
 pub address-stands : (bits type : ℕ) (x t : List ℕ) → allowed bits type (8 * length x) ≡ true → addressField bits type (encodeAddress x ++ t) ≡ given (length (encodeAddress x))
 unfolding addressField addressEnd encodeAddress
@@ -89,45 +78,66 @@ address-stands bits type x t h =
     ∙ pick-false _ _ _ (lt-leb (suc (length (x ++ t))) (8 * length x / 8) (simp length-append (omega arith)))
     ∙ ap given (omega arith)
 
-pub originator-given : (n : ℕ) (s : List ℕ) → originatorField s ≡ given n → (isOriginatorSize (length s) ≡ true) × (n ≡ length s)
-unfolding originatorField
-originator-given n s e = let p = given-unless _ _ _ _ e in (p .0, sym (given-same (p .1)))
-
 octets-address : (bits type : ℕ) (x : List ℕ) → bits ≤ 128 → allowed bits type (8 * length x) ≡ true → AllOctets x → AllOctets (encodeAddress x)
 unfolding encodeAddress
-octets-address bits type x small e a = let h : 8 * length x < 256 = omega (arith, address-most bits type x small e) in one h a
+octets-address bits type x small e a = let h : 8 * length x < 256 = omega (arith, allowed-most bits type (8 * length x) small e) in one h a
+
+address-most : (type : ℕ) (s : List ℕ) (n : ℕ) {bits : ℕ} → bits ≤ 128 → addressField bits type s ≡ given n → n ≤ 17
+address-most type s n {bits} small e = let p = address-is bits type s n e in omega (arith, p .0, allowed-most bits type (getD s 0 0) small (p .2))
+
+-- a field read lies within the octets, and has at most so many
+module _ (judge : List ℕ → Outcome ℕ) (bits : ℕ) where
+  pub field-within : ((s : List ℕ) (n : ℕ) → judge s ≡ given n → n ≤ length s) → (type : ℕ) (k : FieldKind) (s : List ℕ) (n : ℕ) → fieldSize judge bits type k s ≡ given n → n ≤ length s
+  unfolding fieldSize
+  field-within within type distinguisher s n e = omega (arith, fixed-is 8 n s e)
+  field-within within type sourceAs s n e = omega (arith, fixed-is 4 n s e)
+  field-within within type source s n e = address-is bits type s n e .1
+  field-within within type group s n e = address-is bits type s n e .1
+  field-within within type originator s n e = omega (arith, originator-given n s e .1)
+  field-within within type key s n e = within s n e
+
+  pub field-most : (w : ℕ) → ((s : List ℕ) (n : ℕ) → judge s ≡ given n → n ≤ w) → bits ≤ 128 → (type : ℕ) (k : FieldKind) (s : List ℕ) (n : ℕ) → fieldSize judge bits type k s ≡ given n → n ≤ most w k
+  unfolding fieldSize most
+  field-most w bound small type distinguisher s n e = omega (arith, fixed-is 8 n s e)
+  field-most w bound small type sourceAs s n e = omega (arith, fixed-is 4 n s e)
+  field-most w bound small type source s n e = address-most type s n small e
+  field-most w bound small type group s n e = address-most type s n small e
+  field-most w bound small type originator s n e = let p = originator-given n s e in omega (arith, p .1, originator-sized (length s) (p .0))
+  field-most w bound small type key s n e = bound s n e
+
+  -- a field read is its encoding; the number in a source AS must be one of octets
+  pub field-encoded : 8 * (bits / 8) ≡ bits → (type : ℕ) (k : FieldKind) (s : List ℕ) (n : ℕ) (field : FieldKind → List ℕ) → (sameKind sourceAs k ≡ true → AllOctets s)
+      → fieldSize judge bits type k s ≡ given n → field k ≡ take n s → encodeField (fieldsFrom type field) k ≡ take n s
+  unfolding fieldSize encodeField sameKind codeOf
+  field-encoded whole type distinguisher s n field a e at = at
+  field-encoded whole type sourceAs s n field a e at =
+      let p = fixed-is 4 n s e in
+      let l : length (field sourceAs) ≡ 4 = ap length at ∙ length-take-le n s (omega (arith, p .0, p .1)) ∙ sym (p .0) in
+      (rw l at (big-endian-of-number (subst AllOctets (sym at) (octets-take n (a refl))))) ∙ at
+  field-encoded whole type source s n field a e at = rw at (address-given bits type n s whole e .encoded)
+  field-encoded whole type group s n field a e at = rw at (address-given bits type n s whole e .encoded)
+  field-encoded whole type originator s n field a e at = at
+  field-encoded whole type key s n field a e at = at
 
 module _ (judge : List ℕ → Outcome ℕ) (Key : List ℕ → Type 0) (judges : Judges judge Key) (bits : ℕ) (whole : 8 * (bits / 8) ≡ bits) where
-  -- a field read is well-formed, and is its encoding
+  -- a field read is well-formed
   pub field-sound : (type : ℕ) (k : FieldKind) (s : List ℕ) (n : ℕ) (field : FieldKind → List ℕ) → AllOctets s → fieldSize judge bits type k s ≡ given n → field k ≡ take n s
-      → (n ≤ length s) × WellFormedField Key bits (fieldsFrom type field) k × (encodeField (fieldsFrom type field) k ≡ take n s)
-  unfolding fieldSize encodeField
+      → WellFormedField Key bits (fieldsFrom type field) k
+  unfolding fieldSize
   field-sound type distinguisher s n field a e at =
       let p = fixed-is 8 n s e in
-      let fits : n ≤ length s = omega (arith, p .0, p .1) in
-      (fits, (ap length at ∙ length-take-le n s fits ∙ sym (p .0), subst AllOctets (sym at) (octets-take n a)), at)
+      (ap length at ∙ length-take-le n s (omega (arith, p .0, p .1)) ∙ sym (p .0), subst AllOctets (sym at) (octets-take n a))
   field-sound type sourceAs s n field a e at =
       let p = fixed-is 4 n s e in
-      let fits : n ≤ length s = omega (arith, p .0, p .1) in
-      let o : AllOctets (field sourceAs) = subst AllOctets (sym at) (octets-take n a) in
-      let l : length (field sourceAs) ≡ 4 = ap length at ∙ length-take-le n s fits ∙ sym (p .0) in
-      (fits, rw l at (number-fits o), (rw l at (big-endian-of-number o)) ∙ at)
-  field-sound type source s n field a e at =
-      let p = address-given bits type n s whole a e in
-      let r : AddressRead bits type (field source) = subst (AddressRead bits type) (sym at) (p .1) in
-      (p .0, (r .fits, r .octets), r .encoded ∙ at)
-  field-sound type group s n field a e at =
-      let p = address-given bits type n s whole a e in
-      let r : AddressRead bits type (field group) = subst (AddressRead bits type) (sym at) (p .1) in
-      (p .0, (r .fits, r .octets), r .encoded ∙ at)
+      let l : length (field sourceAs) ≡ 4 = ap length at ∙ length-take-le n s (omega (arith, p .0, p .1)) ∙ sym (p .0) in
+      rw l at (number-fits (subst AllOctets (sym at) (octets-take n a)))
+  field-sound type source s n field a e at = rw at (address-given bits type n s whole e .fits, octets-drop 1 (octets-take n a))
+  field-sound type group s n field a e at = rw at (address-given bits type n s whole e .fits, octets-drop 1 (octets-take n a))
   field-sound type originator s n field a e at =
       let p = originator-given n s e in
-      let fits : n ≤ length s = omega arith in
-      let l : length (field originator) ≡ length s = ap length at ∙ length-take-le n s fits ∙ p .1 in
-      (fits, (rw l (p .0), subst AllOctets (sym at) (octets-take n a)), at)
-  field-sound type key s n field a e at =
-      let p = judges .sound s n a e in
-      (p .0, subst Key (sym at) (p .1), at)
+      let l : length (field originator) ≡ length s = ap length at ∙ length-take-le n s (omega arith) ∙ p .1 in
+      (rw l (p .0), subst AllOctets (sym at) (octets-take n a))
+  field-sound type key s n field a e at = subst Key (sym at) (judges .sound s n a e .1)
 
   -- a well-formed field that stands encoded is read
   pub field-complete : (f : Fields) (k : FieldKind) (t : List ℕ) → WellFormedField Key bits f k → Closes k t
@@ -139,16 +149,6 @@ module _ (judge : List ℕ → Outcome ℕ) (Key : List ℕ → Type 0) (judges 
   field-complete f group t w c = address-stands bits (f .type) (f .group) t (w .0)
   field-complete f originator t w c = rw (c, append-nil) (pick-true _ _ _ (w .0))
   field-complete f key t w c = judges .complete (f .key) t w
-
-  -- the most octets that a well-formed field takes
-  pub field-most : (w : ℕ) → ((k : List ℕ) → Key k → length k ≤ w) → bits ≤ 128 → (f : Fields) (k : FieldKind) → WellFormedField Key bits f k → length (encodeField f k) ≤ most w k
-  unfolding encodeField encodeAddress most
-  field-most w bound small f distinguisher h = omega arith
-  field-most w bound small f sourceAs h = omega (arith, length-bigEndian 4 (f .sourceAs))
-  field-most w bound small f source h = address-most bits (f .type) (f .source) small (h .0)
-  field-most w bound small f group h = address-most bits (f .type) (f .group) small (h .0)
-  field-most w bound small f originator h = originator-most (length (f .originator)) (h .0)
-  field-most w bound small f key h = bound (f .key) h
 
   pub octets-field : ((k : List ℕ) → Key k → AllOctets k) → bits ≤ 128 → (f : Fields) (k : FieldKind) → WellFormedField Key bits f k → AllOctets (encodeField f k)
   unfolding encodeField encodeAddress

@@ -1,12 +1,10 @@
 -- The lengths that document 01, "NLRI on the wire", allows: what the tests of families, addresses and originators say.
 use mathlib.Core.Path.{_≡_, refl, sym, _∙_, ap}
 use mathlib.Core.Bool.{true}
-use mathlib.Core.List.{List}
 use mathlib.Core.Logic.{_↔_, _⊎_, inl, inr, ⊎-elim}
-use Prim.Native.Nat.{ℕ, suc, _*_, _/_, _≤_}
+use Prim.Native.Nat.{ℕ, _*_, _/_, _≤_}
 use native.Mathlib.Omega.{arith}
 use borrow.Author.Tests.{eqb-true, eq-eqb, ne-eqb}
-use lib.ListN.{length}
 use Rattle.octets.specs.Outcome.{given}
 use Rattle.octets.proofs.Choice.{pick-true, pick-false, both-true, either-left, either-true, both-true-left, both-true-right, picked, either-second}
 use Rattle.octets.proofs.Outcome.{given-unless, given-same}
@@ -56,8 +54,9 @@ family-octets afi bits e = ⊎-elim (λ one. omega (arith, one .1)) (λ two. ome
 pub whole-octets : (bits type octet : ℕ) → 8 * (bits / 8) ≡ bits → allowed bits type octet ≡ true → 8 * (octet / 8) ≡ octet
 whole-octets bits type octet whole e = ⊎-elim (λ same. omega arith) (λ none. omega (arith, none .1)) (allowed-exactly bits type octet .0 e)
 
-pub address-most : (bits type : ℕ) (x : List ℕ) → bits ≤ 128 → allowed bits type (8 * length x) ≡ true → suc (length x) ≤ 17
-address-most bits type x small e = ⊎-elim (λ same. omega arith) (λ none. omega (arith, none .1)) (allowed-exactly bits type (8 * length x) .0 e)
+-- and at most 16 octets
+pub allowed-most : (bits type octet : ℕ) → bits ≤ 128 → allowed bits type octet ≡ true → octet / 8 ≤ 16
+allowed-most bits type octet small e = ⊎-elim (λ same. omega arith) (λ none. omega (arith, none .1)) (allowed-exactly bits type octet .0 e)
 
-pub originator-most : (n : ℕ) → isOriginatorSize n ≡ true → n ≤ 16
-originator-most n e = ⊎-elim (λ four. omega arith) (λ sixteen. omega arith) (originator-exactly n .0 e)
+pub originator-sized : (n : ℕ) → isOriginatorSize n ≡ true → (4 ≤ n) × (n ≤ 16)
+originator-sized n e = ⊎-elim (λ four. omega arith) (λ sixteen. omega arith) (originator-exactly n .0 e)

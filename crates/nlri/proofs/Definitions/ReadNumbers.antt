@@ -1,22 +1,25 @@
 -- The numbers by which reading an NLRI refuses: SHORT to FAMILY, so that none is DONE.
-use mathlib.Core.Path.{subst}
+use mathlib.Core.Path.{_≡_, refl}
 use mathlib.Core.List.{List, [], _∷_}
 use Prim.Native.Nat.{ℕ, _≤_}
 use native.Mathlib.Omega.{arith}
 use lib.ListN.{drop}
-use Rattle.octets.specs.Numbers.{SHORT, KEY, FAMILY}
-use Rattle.octets.specs.Outcome.{Outcome, refused}
+use Rattle.octets.specs.Numbers.{DONE, SHORT, KEY, FAMILY}
+use Rattle.octets.specs.Outcome.{Outcome, given, refused, numberOf}
 use Rattle.octets.proofs.Outcome.{Refuses, value, number, refuses-pick, refuses-then, refuses-turned}
 use Rattle.nlri.specs.Family.{familyBits}
 use Rattle.nlri.specs.Bodies.{FieldKind, distinguisher, sourceAs, source, group, originator, key, Row, row, bodies, onBody}
 use Rattle.nlri.specs.Reading.{fixedField, addressEnd, addressField, originatorField, fieldSize, sizesOf, laidWith, noKey, keyField, laidAt, laidSingle, readNlri}
 use Rattle.nlri.specs.Layouts.{layoutAt}
-use Rattle.nlri.specs.Inner.{unkeyedBody}
-use Rattle.nlri.proofs.Functions.Rows.{rowLayout, laidFor}
-use Rattle.nlri.proofs.Functions.Fronts.{unkeyed-rows}
 
 abbrev pub ByReading : ℕ → Type 0
 ByReading n = (SHORT ≤ n) × (n ≤ FAMILY)
+
+-- reading that answers DONE gives a value
+pub refuses-done : {A : Type 0} (o : Outcome A) → Refuses ByReading o → numberOf o ≡ DONE → (a : A) × (o ≡ given a)
+unfolding numberOf
+refuses-done (given a) u e = (a, refl)
+refuses-done (refused n) (number p) e = absurd (omega arith)
 
 refuses-body : {A : Type 0} (rows : List Row) (type n : ℕ) (next : List FieldKind → Outcome A) → ByReading n → ((body : List FieldKind) → Refuses ByReading (next body)) → Refuses ByReading (onBody rows type (refused n) next)
 unfolding onBody
@@ -46,13 +49,13 @@ module _ (judge : List ℕ → Outcome ℕ) (judge-refuses : (s : List ℕ) → 
   refuses-sizes type [] s = refuses-pick _ _ _ value (number (omega arith))
   refuses-sizes type (k ∷ body) s = refuses-then _ _ (refuses-field type k s) (λ n. refuses-then _ _ (refuses-sizes type body (drop n s)) (λ sizes. value))
 
-  refuses-laid : (s : List ℕ) → Refuses ByReading (laidWith judge bits s)
+  pub refuses-laid : (s : List ℕ) → Refuses ByReading (laidWith judge bits s)
   unfolding laidWith
   refuses-laid s =
       refuses-pick _ _ _ (number (omega arith))
       (refuses-pick _ _ _ (number (omega arith)) (refuses-body bodies _ _ _ (omega arith) (λ body. refuses-then _ _ (refuses-sizes _ body _) (λ sizes. value))))
 
-refuses-no-key : (s : List ℕ) → Refuses ByReading (noKey s)
+pub refuses-no-key : (s : List ℕ) → Refuses ByReading (noKey s)
 unfolding noKey
 refuses-no-key s = number {n = KEY} (omega arith)
 
@@ -60,19 +63,13 @@ pub refuses-key : (bits : ℕ) (s : List ℕ) → Refuses ByReading (keyField bi
 unfolding keyField
 refuses-key bits s = refuses-turned _ _ _ (omega arith) (λ laid. refuses-pick _ _ _ (number (omega arith)) value)
 
-refuses-front : (bits : ℕ) (s : List ℕ) → Refuses ByReading (laidAt bits s)
+pub refuses-front : (bits : ℕ) (s : List ℕ) → Refuses ByReading (laidAt bits s)
 unfolding laidAt
 refuses-front bits s = refuses-laid (keyField bits) (refuses-key bits) bits s
 
 pub refuses-layout : (bits : ℕ) (s : List ℕ) → Refuses ByReading (layoutAt bits s)
 unfolding layoutAt
 refuses-layout bits s = refuses-then _ _ (refuses-front bits s) (λ laid. value)
-
-pub refuses-unkeyed : (bits type : ℕ) (s : List ℕ) → Refuses ByReading (unkeyedBody bits type s)
-unfolding rowLayout laidFor
-refuses-unkeyed bits type s =
-    subst (Refuses ByReading) (unkeyed-rows bits type s)
-    (refuses-body bodies _ _ _ (omega arith) (λ body. refuses-then _ _ (refuses-then _ _ (refuses-sizes noKey refuses-no-key bits type body s) (λ sizes. value)) (λ laid. value)))
 
 pub refuses-family : (afi : ℕ) → Refuses ByReading (familyBits afi)
 unfolding familyBits

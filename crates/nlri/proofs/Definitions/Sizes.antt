@@ -1,29 +1,33 @@
 -- Bounds on the sizes that fields come to.
-use mathlib.Core.Path.{_≡_, ap}
+use mathlib.Core.Path.{_≡_, sym, ap}
+use mathlib.Core.Bool.{true}
 use mathlib.Core.List.{List}
-use Prim.Native.Nat.{ℕ, _+_, _≤_}
+use Prim.Native.Nat.{ℕ, _+_, _/_, _≤_}
 use native.Mathlib.Omega.{arith}
 use borrow.Author.Tests.{leb-false, ltb-false}
 use lib.ListN.{length, getD}
 use Rattle.octets.specs.Outcome.{given}
 use Rattle.octets.proofs.Outcome.{given-otherwise, given-unless, given-same}
-use Rattle.nlri.specs.Reading.{fixedField, addressEnd, addressField}
+use Rattle.nlri.specs.Family.{allowed, isOriginatorSize}
+use Rattle.nlri.specs.Reading.{fixedField, addressEnd, addressField, originatorField}
 use Rattle.nlri.specs.Inner.{headerAt}
 
 pub fixed-is : (n m : ℕ) (s : List ℕ) → fixedField n s ≡ given m → (n ≡ m) × (n ≤ length s)
 unfolding fixedField
 fixed-is n m s e = let p = given-otherwise _ _ _ _ e in (given-same (p .1), omega (arith, ltb-false))
 
-address-end-within : (octets : ℕ) (s : List ℕ) (n : ℕ) → addressEnd octets s ≡ given n → (1 ≤ n) × (n ≤ length s)
-unfolding addressEnd
-address-end-within octets s n e =
-    let p = given-otherwise _ _ _ _ e in
-    let q = given-same (p .1) in
-    omega (arith, leb-false)
+-- an address takes its length octet, which is allowed, and as many bits as that says
+pub address-is : (bits type : ℕ) (s : List ℕ) (n : ℕ) → addressField bits type s ≡ given n → (n ≡ 1 + getD s 0 0 / 8) × (n ≤ length s) × (allowed bits type (getD s 0 0) ≡ true)
+unfolding addressField addressEnd
+address-is bits type s n e =
+    let p = given-unless _ _ _ _ (given-otherwise _ _ _ _ e .1) in
+    let q = given-otherwise _ _ _ _ (p .1) in
+    let size : 1 + getD s 0 0 / 8 ≡ n = given-same (q .1) in
+    (sym size, omega (arith, leb-false), p .0)
 
-pub address-within : (bits type : ℕ) (s : List ℕ) (n : ℕ) → addressField bits type s ≡ given n → (1 ≤ n) × (n ≤ length s)
-unfolding addressField
-address-within bits type s n e = address-end-within _ s n (given-unless _ _ _ _ (given-otherwise _ _ _ _ e .1) .1)
+pub originator-given : (n : ℕ) (s : List ℕ) → originatorField s ≡ given n → (isOriginatorSize (length s) ≡ true) × (n ≡ length s)
+unfolding originatorField
+originator-given n s e = let p = given-unless _ _ _ _ e in (p .0, sym (given-same (p .1)))
 
 pub header-within : (s : List ℕ) (a b : ℕ) → headerAt s ≡ given (a, b) → 2 + b ≤ length s
 unfolding headerAt

@@ -1,5 +1,5 @@
 -- Laws of the table of bodies: which types it lists, and what holds of each of its rows, by computation.
-use mathlib.Core.Path.{_≡_, refl, sym, _∙_, ap, subst}
+use mathlib.Core.Path.{_≡_, refl, sym, _∙_, ap, ap₂, subst}
 use mathlib.Core.Bool.{Bool, true, false, not}
 use mathlib.Core.List.{List, [], _∷_, map}
 use mathlib.Core.Logic.{⊎-elim}
@@ -48,7 +48,7 @@ known (suc (suc (suc (suc (suc (suc (suc zero))))))) low high = refl
 known (suc (suc (suc (suc (suc (suc (suc (suc n)))))))) low high = absurd (omega arith)
 
 -- a test that every row passes
-every : (ℕ → List FieldKind → Bool) → List Row → Bool
+unfoldable pub every : (ℕ → List FieldKind → Bool) → List Row → Bool
 every test [] = true
 every test (row n body ∷ rows) = both (test n body) (every test rows)
 
@@ -62,6 +62,11 @@ every-listed test (row n body ∷ rows) type e l =
         → test type (pick b body (bodyIn rows type)) ≡ true
     go true same l here later = subst (λ (m : ℕ). test m body ≡ true) (sym (eqb-true type n same)) here
     go false other l here later = later l
+
+-- what a test of every row says of the body of a type
+pub every-row : (test : ℕ → List FieldKind → Bool) → every test bodies ≡ true → (type : ℕ) → listed bodies type ≡ true → test type (bodyOf type) ≡ true
+unfolding bodyOf bodyIn
+every-row test e type l = every-listed test bodies type e l
 
 -- no kind of field stands twice
 unfoldable pub distinct : List FieldKind → Bool
@@ -95,48 +100,23 @@ unfoldable pub mostIn : ℕ → List FieldKind → ℕ
 mostIn w [] = 0
 mostIn w (k ∷ body) = most w k + mostIn w body
 
-rowTest : ℕ → List FieldKind → Bool
-rowTest n body =
-    both (both (leb 1 n) (leb n 7))
-    (both (both (distinct body) (closed body)) (both (leb (mostIn 60 body) 76) (either (eqb n 4) (both (not (hasField key body)) (leb (mostIn 60 body) 58)))))
+-- the kinds that a test keeps
+unfoldable pub kept : (FieldKind → Bool) → List FieldKind → List FieldKind
+kept has [] = []
+kept has (k ∷ kinds) = pick (has k) (k ∷ kept has kinds) (kept has kinds)
 
--- what holds of the row of a type
-pub record RowOf (type : ℕ) : Type 0 where
-  pub low : 1 ≤ type
-  pub high : type ≤ 7
-  pub distinct : distinct (bodyOf type) ≡ true
-  pub closed : closed (bodyOf type) ≡ true
-  pub most : mostIn 60 (bodyOf type) ≤ 76
-  -- only a Leaf has a key
-  pub plain : (type ≡ 4 → ⊥) → (hasField key (bodyOf type) ≡ false) × (mostIn 60 (bodyOf type) ≤ 58)
+-- one order of the kinds: every body has its fields in it
+unfoldable pub order : List FieldKind
+order = key ∷ distinguisher ∷ sourceAs ∷ source ∷ group ∷ originator ∷ []
 
-tested : every rowTest bodies ≡ true
-unfolding every rowTest bodies both distinct closed closes mostIn most hasField either sameKind codeOf
-tested = refl
-
-pub rowOf : (type : ℕ) → listed bodies type ≡ true → RowOf type
-unfolding rowTest bodyOf bodyIn
-rowOf type l =
-    let h = every-listed rowTest bodies type tested l in
-    let range = both-true-left _ _ h in
-    let rest = both-true-right _ _ h in
-    let shape = both-true-left _ _ rest in
-    let size = both-true-right _ _ rest in
-    record {
-      low = leb-true _ _ (both-true-left _ _ range);
-      high = leb-true _ _ (both-true-right _ _ range);
-      distinct = both-true-left _ _ shape;
-      closed = both-true-right _ _ shape;
-      most = leb-true _ _ (both-true-left _ _ size);
-      plain = λ other.
-          ⊎-elim (λ leaf. absurd (other (eqb-true _ _ leaf))) (λ h. (not-true _ (both-true-left _ _ h), leb-true _ _ (both-true-right _ _ h))) (either-true _ _ (both-true-right _ _ size));
-    }
-
-pub unlisted : (type : ℕ) → ((1 ≤ type) × (type ≤ 7) → ⊥) → listed bodies type ≡ false
-unlisted type h = is-false _ (λ l. let row = rowOf type l in h (row .low, row .high))
+sameKinds : List FieldKind → List FieldKind → Bool
+sameKinds [] [] = true
+sameKinds [] (b ∷ right) = false
+sameKinds (a ∷ left) [] = false
+sameKinds (a ∷ left) (b ∷ right) = both (sameKind a b) (sameKinds left right)
 
 -- kinds by their codes
-same-self : (k : FieldKind) → sameKind k k ≡ true
+pub same-self : (k : FieldKind) → sameKind k k ≡ true
 unfolding sameKind
 same-self k = eq-eqb (codeOf k) (codeOf k) refl
 
@@ -155,6 +135,55 @@ by-code key = refl
 pub same-kind : (a b : FieldKind) → sameKind a b ≡ true → a ≡ b
 unfolding sameKind
 same-kind a b e = by-code a ∙ ap kindAt (eqb-true (codeOf a) (codeOf b) e) ∙ sym (by-code b)
+
+same-kinds : (a b : List FieldKind) → sameKinds a b ≡ true → a ≡ b
+unfolding sameKinds
+same-kinds [] [] e = refl
+same-kinds [] (y ∷ b) e = absurd (opposite e refl)
+same-kinds (x ∷ a) [] e = absurd (opposite e refl)
+same-kinds (x ∷ a) (y ∷ b) e = ap₂ (λ (k : FieldKind) (kinds : List FieldKind). k ∷ kinds) (same-kind x y (both-true-left _ _ e)) (same-kinds a b (both-true-right (sameKind x y) _ e))
+
+rowTest : ℕ → List FieldKind → Bool
+rowTest n body =
+    both (both (leb 1 n) (leb n 7))
+    (both (both (distinct body) (both (closed body) (sameKinds body (kept (λ k. hasField k body) order)))) (both (leb (mostIn 60 body) 76) (either (eqb n 4) (both (not (hasField key body)) (leb (mostIn 60 body) 58)))))
+
+-- what holds of the row of a type
+pub record RowOf (type : ℕ) : Type 0 where
+  pub low : 1 ≤ type
+  pub high : type ≤ 7
+  pub distinct : distinct (bodyOf type) ≡ true
+  pub closed : closed (bodyOf type) ≡ true
+  pub ordered : bodyOf type ≡ kept (λ k. hasField k (bodyOf type)) order
+  pub most : mostIn 60 (bodyOf type) ≤ 76
+  -- only a Leaf has a key
+  pub plain : (type ≡ 4 → ⊥) → (hasField key (bodyOf type) ≡ false) × (mostIn 60 (bodyOf type) ≤ 58)
+
+tested : every rowTest bodies ≡ true
+unfolding every rowTest bodies both distinct closed closes sameKinds kept order pick mostIn most hasField either sameKind codeOf
+tested = refl
+
+pub rowOf : (type : ℕ) → listed bodies type ≡ true → RowOf type
+unfolding rowTest
+rowOf type l =
+    let h = every-row rowTest tested type l in
+    let range = both-true-left _ _ h in
+    let rest = both-true-right _ _ h in
+    let shape = both-true-left _ _ rest in
+    let size = both-true-right _ _ rest in
+    record {
+      low = leb-true _ _ (both-true-left _ _ range);
+      high = leb-true _ _ (both-true-right _ _ range);
+      distinct = both-true-left _ _ shape;
+      closed = both-true-left _ _ (both-true-right _ _ shape);
+      ordered = same-kinds _ _ (both-true-right _ _ (both-true-right _ _ shape));
+      most = leb-true _ _ (both-true-left _ _ size);
+      plain = λ other.
+          ⊎-elim (λ leaf. absurd (other (eqb-true _ _ leaf))) (λ h. (not-true _ (both-true-left _ _ h), leb-true _ _ (both-true-right _ _ h))) (either-true _ _ (both-true-right _ _ size));
+    }
+
+pub unlisted : (type : ℕ) → ((1 ≤ type) × (type ≤ 7) → ⊥) → listed bodies type ≡ false
+unlisted type h = is-false _ (λ l. let row = rowOf type l in h (row .low, row .high))
 
 -- of what a function makes of each kind along a body, the one of a kind is the function's at that kind
 pub field-of-map : {A : Type 0} (none : A) (g : FieldKind → A) (kind : FieldKind) (body : List FieldKind) → fieldIn none kind body (map g body) ≡ pick (hasField kind body) (g kind) none

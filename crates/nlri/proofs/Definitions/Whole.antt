@@ -5,19 +5,20 @@ use mathlib.Core.List.{List, [], _∷_, _++_, map, append-assoc}
 use Prim.Native.Nat.{ℕ, suc, _+_, _*_, _/_, _-_, _≤_, _<_}
 use native.Mathlib.Omega.{arith}
 use borrow.Author.Tests.{eqb-true, ltb-false, le-ltb}
-use lib.ListN.{length, getD, take, drop, length-append, take-append-drop}
-use lib.Seq.{take-append-seam, drop-append-seam}
+use lib.ListN.{length, getD, take, drop, length-append, length-drop, take-append-drop}
+use lib.Seq.{take-all, take-append-seam, drop-append-seam}
 use Rattle.octets.specs.Outcome.{Outcome, given}
 use Rattle.octets.specs.Octets.{AllOctets, none, one, part}
-use Rattle.octets.proofs.Choice.{pick-true, pick-false, opposite, both-true-left, both-true-right}
+use Rattle.octets.proofs.Choice.{pick-true, pick-false, opposite, both-true-left, both-true-right, either-left, either-second}
 use Rattle.octets.proofs.Outcome.{goes, given-otherwise, given-unless, passed, given-same}
 use Rattle.octets.proofs.AllOctets.{octets-drop, octets-part, octets-append}
 use Rattle.octets.proofs.Lists.{empty-list, take-two, length-part}
-use Rattle.nlri.specs.Bodies.{FieldKind, distinguisher, sourceAs, source, group, originator, key, bodies, bodyOf, fieldIn}
+use Rattle.nlri.specs.Bodies.{FieldKind, distinguisher, sourceAs, source, group, originator, key, bodies, bodyOf, fieldIn, hasField}
 use Rattle.nlri.specs.Fields.{Fields, encodeField, encodeBody, encodeNlri, WellFormedBody}
-use Rattle.nlri.specs.Reading.{Laid, fieldSize, sizesOf, laidWith, cut}
-use Rattle.nlri.proofs.Definitions.Table.{listed, on-body, known, RowOf, rowOf, closes, closed, mostIn, Along, along-fields}
-use Rattle.nlri.proofs.Definitions.Judged.{Judges, Closes, fieldsFrom, field-sound, field-complete, field-most, octets-field}
+use Rattle.nlri.specs.Reading.{Laid, fieldSize, sizesOf, laidWith, keyField, laidAt, laidSingle, cut, fieldsOf}
+use Rattle.nlri.proofs.Definitions.Table.{listed, on-body, known, RowOf, rowOf, closes, closed, most, mostIn, Along, along-fields}
+use Rattle.nlri.proofs.Definitions.Starts.{sizes-first, length-sizes}
+use Rattle.nlri.proofs.Definitions.Judged.{Judges, Closes, fieldsFrom, field-most, field-encoded, field-sound, field-complete, octets-field}
 
 -- the encodings of the fields of a body, and their sizes
 abbrev pub piecesOf : Fields → List FieldKind → List (List ℕ)
@@ -79,28 +80,82 @@ laid-out judge bits s laid e =
       sizes = w .first;
     })
 
-module _ (judge : List ℕ → Outcome ℕ) (Key : List ℕ → Type 0) (judges : Judges judge Key) (bits : ℕ) (whole : 8 * (bits / 8) ≡ bits) where
-  length-sizes : (type : ℕ) (body : List FieldKind) (s sizes : List ℕ) → sizesOf (fieldSize judge bits type) body s ≡ given sizes → length sizes ≡ length body
-  unfolding sizesOf
-  length-sizes type [] s sizes e = ap length (sym (given-same (given-unless _ _ _ _ e .1)))
-  length-sizes type (k ∷ body) s sizes e =
-      let p = passed _ _ _ e in
-      let q = passed _ _ _ (p .second) in
-      ap length (sym (given-same (q .second))) ∙ ap suc (length-sizes type body _ (q .value) (q .first))
+-- the fields of what was laid out
+abbrev pub fieldsLaid : List ℕ → Laid → Fields
+fieldsLaid s laid = fieldsFrom (laid .type) (λ kind. fieldIn [] kind (laid .body) (cut (laid .sizes) (part s 2 (laid .size))))
 
-  -- a body read is well-formed, and is its encoding
+pub part-whole : (s : List ℕ) (n : ℕ) → length s - 2 ≡ n → part s 2 n ≡ drop 2 s
+unfolding part
+part-whole s n e = take-all n (drop 2 s) (rw length-drop (omega arith))
+
+-- a single NLRI: the one at the front, which is all of the octets
+pub record SingleLaid (bits : ℕ) (s : List ℕ) (laid : Laid) : Type 0 where
+  pub front : laidAt bits s ≡ given laid
+  pub out : LaidOut (keyField bits) bits s laid
+  pub all : length s - 2 ≡ laid .size
+  pub fields : fieldsLaid s laid ≡ fieldsOf laid s
+
+pub single-laid-out : (bits : ℕ) (s : List ℕ) (laid : Laid) → laidSingle bits s ≡ given laid → SingleLaid bits s laid
+unfolding laidSingle laidAt fieldsOf
+single-laid-out bits s laid e =
+    let p = passed _ _ _ e in
+    let q = given-unless _ _ _ _ (p .second) in
+    let same : p .value ≡ laid = given-same (q .1) in
+    let first : laidAt bits s ≡ given laid = p .first ∙ ap given same in
+    let size : length s - 2 ≡ laid .size = eqb-true _ _ (q .0) ∙ ap (λ (x : Laid). x .size) same in
+    record {
+      front = first;
+      out = laid-out (keyField bits) bits s laid first;
+      all = size;
+      fields = ap (λ (x : List ℕ). fieldsFrom (laid .type) (λ kind. fieldIn [] kind (laid .body) (cut (laid .sizes) x))) (part-whole s (laid .size) size);
+    }
+
+module _ (judge : List ℕ → Outcome ℕ) (bits : ℕ) where
+  -- a body has at most so many octets
+  pub sizes-most : (w : ℕ) → ((s : List ℕ) (n : ℕ) → judge s ≡ given n → n ≤ w) → bits ≤ 128 → (type : ℕ) (body : List FieldKind) (s sizes : List ℕ)
+      → sizesOf (fieldSize judge bits type) body s ≡ given sizes → length s ≤ mostIn w body
+  unfolding sizesOf mostIn
+  sizes-most w bound small type [] s sizes e = let h : length s ≡ 0 = eqb-true _ _ (given-unless _ _ _ _ e .0) in omega arith
+  sizes-most w bound small type (k ∷ body) s sizes e =
+      sizes-first (λ _. length s ≤ most w k + mostIn w body) _ k body s sizes e
+      (λ n rest here left. let l = length-drop n s in omega (arith, field-most judge bits w bound small type k s n here, sizes-most w bound small type body (drop n s) rest left))
+
+  -- a body read is its encoding
+  body-encoded : 8 * (bits / 8) ≡ bits → (type : ℕ) (body : List FieldKind) (s sizes : List ℕ) (field : FieldKind → List ℕ) → (hasField sourceAs body ≡ true → AllOctets s)
+      → sizesOf (fieldSize judge bits type) body s ≡ given sizes → Along field body (cut sizes s) → encodeBody (fieldsFrom type field) body ≡ s
+  unfolding sizesOf encodeBody cut hasField
+  body-encoded whole type [] s sizes field a e al = sym (empty-list s (eqb-true _ _ (given-unless _ _ _ _ e .0)))
+  body-encoded whole type (k ∷ body) s sizes field a e al =
+      sizes-first (λ (z : List ℕ). Along field (k ∷ body) (cut z s) → encodeBody (fieldsFrom type field) (k ∷ body) ≡ s) _ k body s sizes e
+      (λ n rest here left al.
+      ap₂ (λ (x y : List ℕ). x ++ y) (field-encoded judge bits whole type k s n field (λ h. a (either-left _ _ h)) here (al .0))
+      (body-encoded whole type body (drop n s) rest field (λ h. octets-drop n (a (either-second _ _ h))) left (al .1))
+      ∙ take-append-drop n s) al
+
+  along-laid : (s : List ℕ) (laid : Laid) → LaidOut judge bits s laid
+      → Along (λ kind. fieldIn [] kind (laid .body) (cut (laid .sizes) (part s 2 (laid .size)))) (bodyOf (laid .type)) (cut (laid .sizes) (part s 2 (laid .size)))
+  along-laid s laid o =
+      rw (o .body) (along-fields [] (bodyOf (laid .type)) (cut (laid .sizes) (part s 2 (laid .size))) (o .row .distinct) (length-cut _ _ ∙ length-sizes _ (bodyOf (laid .type)) _ _ (o .sizes)))
+
+  -- an NLRI read is the encoding of its fields, octets or not where it has no source AS
+  pub laid-encoded : 8 * (bits / 8) ≡ bits → (s : List ℕ) (laid : Laid) → (hasField sourceAs (bodyOf (laid .type)) ≡ true → AllOctets s) → laidWith judge bits s ≡ given laid
+      → take (2 + laid .size) s ≡ encodeNlri (fieldsLaid s laid)
+  unfolding encodeNlri
+  laid-encoded whole s laid a e =
+      let o = laid-out judge bits s laid e in
+      let b = body-encoded whole (laid .type) (bodyOf (laid .type)) (part s 2 (laid .size)) (laid .sizes) _ (λ h. octets-part 2 (laid .size) (a h)) (o .sizes) (along-laid s laid o) in
+      let len : laid .size ≡ length (encodeBody (fieldsLaid s laid) (bodyOf (laid .type))) = sym (ap length b ∙ length-part s 2 (laid .size) (omega (arith, o .fits, o .enough))) in
+      take-two s (laid .size) (o .enough) ∙ ap₂ (λ (x : ℕ) (y : List ℕ). x ∷ y) (sym (o .typed)) (ap₂ (λ (x : ℕ) (y : List ℕ). x ∷ y) (sym (o .sized) ∙ len) (sym b))
+
+module _ (judge : List ℕ → Outcome ℕ) (Key : List ℕ → Type 0) (judges : Judges judge Key) (bits : ℕ) (whole : 8 * (bits / 8) ≡ bits) where
+  -- a body read is well-formed
   body-sound : (type : ℕ) (body : List FieldKind) (s sizes : List ℕ) (field : FieldKind → List ℕ) → AllOctets s → sizesOf (fieldSize judge bits type) body s ≡ given sizes → Along field body (cut sizes s)
-      → WellFormedBody Key bits (fieldsFrom type field) body × (encodeBody (fieldsFrom type field) body ≡ s)
-  unfolding sizesOf encodeBody cut
-  body-sound type [] s sizes field a e al = (tt, sym (empty-list s (eqb-true _ _ (given-unless _ _ _ _ e .0))))
+      → WellFormedBody Key bits (fieldsFrom type field) body
+  unfolding cut
+  body-sound type [] s sizes field a e al = tt
   body-sound type (k ∷ body) s sizes field a e al =
-      let p = passed _ _ _ e in
-      let q = passed _ _ _ (p .second) in
-      let n : ℕ = p .value in
-      let cuts : Along field (k ∷ body) (cut (n ∷ q .value) s) = subst (λ (z : List ℕ). Along field (k ∷ body) (cut z s)) (sym (given-same (q .second))) al in
-      let here = field-sound judge Key judges bits whole type k s n field a (p .first) (cuts .0) in
-      let later = body-sound type body (drop n s) (q .value) field (octets-drop n a) (q .first) (cuts .1) in
-      ((here .1, later .0), ap₂ (λ (x y : List ℕ). x ++ y) (here .2) (later .1) ∙ take-append-drop n s)
+      sizes-first (λ (z : List ℕ). Along field (k ∷ body) (cut z s) → WellFormedBody Key bits (fieldsFrom type field) (k ∷ body)) _ k body s sizes e
+      (λ n rest here left al. (field-sound judge Key judges bits whole type k s n field a here (al .0), body-sound type body (drop n s) rest field (octets-drop n a) left (al .1))) al
 
   -- a well-formed body that stands encoded is read
   body-complete : (f : Fields) (body : List FieldKind) → closed body ≡ true → WellFormedBody Key bits f body → sizesOf (fieldSize judge bits (f .type)) body (encodeBody f body) ≡ given (sizesIn f body)
@@ -110,33 +165,16 @@ module _ (judge : List ℕ → Outcome ℕ) (Key : List ℕ → Type 0) (judges 
       sym (goes _ _ _ _ (field-complete judge Key judges bits whole f k (encodeBody f body) (w .0) (closes-body f k body (both-true-left _ _ c)))
       (goes _ _ _ _ (ap (sizesOf (fieldSize judge bits (f .type)) body) (drop-append-seam (encodeField f k) (encodeBody f body)) ∙ body-complete f body (both-true-right (closes k body) _ c) (w .1)) refl))
 
-  body-most : (w : ℕ) → ((k : List ℕ) → Key k → length k ≤ w) → bits ≤ 128 → (f : Fields) (body : List FieldKind) → WellFormedBody Key bits f body → length (encodeBody f body) ≤ mostIn w body
-  unfolding encodeBody mostIn
-  body-most w bound small f [] h = omega arith
-  body-most w bound small f (k ∷ body) h =
-      rw length-append (omega (arith, field-most judge Key judges bits whole w bound small f k (h .0), body-most w bound small f body (h .1)))
-
   octets-body : ((k : List ℕ) → Key k → AllOctets k) → bits ≤ 128 → (f : Fields) (body : List FieldKind) → WellFormedBody Key bits f body → AllOctets (encodeBody f body)
   unfolding encodeBody
   octets-body ofKey small f [] h = none
   octets-body ofKey small f (k ∷ body) h = octets-append (octets-field judge Key judges bits whole ofKey small f k (h .0)) (octets-body ofKey small f body (h .1))
 
-  -- the fields of what was laid out
-  abbrev pub fieldsAt : List ℕ → Laid → Fields
-  fieldsAt s laid = fieldsFrom (laid .type) (λ kind. fieldIn [] kind (laid .body) (cut (laid .sizes) (part s 2 (laid .size))))
-
-  -- an NLRI read is well-formed, and is its encoding
-  pub laid-sound : (s : List ℕ) (laid : Laid) → AllOctets s → laidWith judge bits s ≡ given laid
-      → WellFormedBody Key bits (fieldsAt s laid) (bodyOf (laid .type)) × (take (2 + laid .size) s ≡ encodeNlri (fieldsAt s laid))
-  unfolding encodeNlri
+  -- an NLRI read is well-formed
+  pub laid-sound : (s : List ℕ) (laid : Laid) → AllOctets s → laidWith judge bits s ≡ given laid → WellFormedBody Key bits (fieldsLaid s laid) (bodyOf (laid .type))
   laid-sound s laid a e =
       let o = laid-out judge bits s laid e in
-      let rest : List ℕ = part s 2 (laid .size) in
-      let along : Along (λ kind. fieldIn [] kind (laid .body) (cut (laid .sizes) rest)) (bodyOf (laid .type)) (cut (laid .sizes) rest) =
-      rw (o .body) (along-fields [] (bodyOf (laid .type)) (cut (laid .sizes) rest) (o .row .distinct) (length-cut _ _ ∙ length-sizes (laid .type) _ _ _ (o .sizes))) in
-      let b = body-sound (laid .type) (bodyOf (laid .type)) rest (laid .sizes) _ (octets-part 2 (laid .size) a) (o .sizes) along in
-      let len : laid .size ≡ length (encodeBody (fieldsAt s laid) (bodyOf (laid .type))) = sym (ap length (b .1) ∙ length-part s 2 (laid .size) (omega (arith, o .fits, o .enough))) in
-      (b .0, take-two s (laid .size) (o .enough) ∙ ap₂ (λ (x : ℕ) (y : List ℕ). x ∷ y) (sym (o .typed)) (ap₂ (λ (x : ℕ) (y : List ℕ). x ∷ y) (sym (o .sized) ∙ len) (sym (b .1))))
+      body-sound (laid .type) (bodyOf (laid .type)) (part s 2 (laid .size)) (laid .sizes) _ (octets-part 2 (laid .size) a) (o .sizes) (along-laid judge bits s laid o)
 
   -- a well-formed NLRI that stands encoded is read
   pub laid-complete : (f : Fields) (t : List ℕ) → (1 ≤ f .type) × (f .type ≤ 7) → WellFormedBody Key bits f (bodyOf (f .type))
@@ -152,11 +190,12 @@ module _ (judge : List ℕ → Outcome ℕ) (Key : List ℕ → Type 0) (judges 
       ∙ sym (goes _ _ _ _ (ap (sizesOf (fieldSize judge bits (f .type)) body) (take-append-seam (encodeBody f body) t) ∙ body-complete f body (rowOf (f .type) l .closed) w) refl)
 
   -- a well-formed NLRI in octets: its Length fits an octet
-  pub octets-nlri : (w : ℕ) → ((k : List ℕ) → Key k → (length k ≤ w) × AllOctets k) → bits ≤ 128 → (f : Fields) → (1 ≤ f .type) × (f .type ≤ 7) → WellFormedBody Key bits f (bodyOf (f .type))
+  pub octets-nlri : (w : ℕ) → ((s : List ℕ) (n : ℕ) → judge s ≡ given n → n ≤ w) → ((k : List ℕ) → Key k → AllOctets k) → bits ≤ 128 → (f : Fields) → (1 ≤ f .type) × (f .type ≤ 7) → WellFormedBody Key bits f (bodyOf (f .type))
       → (most : ℕ) → mostIn w (bodyOf (f .type)) ≤ most → most < 256 → (length (encodeNlri f) ≤ 2 + most) × AllOctets (encodeNlri f)
   unfolding encodeNlri
-  octets-nlri w ofKey small f range h most within fits =
-      let len = body-most w (λ k key. ofKey k key .0) small f (bodyOf (f .type)) h in
+  octets-nlri w bound ofKey small f range h most within fits =
+      let row = rowOf (f .type) (known (f .type) (range .0) (range .1)) in
+      let len = sizes-most judge bits w bound small (f .type) (bodyOf (f .type)) _ _ (body-complete f (bodyOf (f .type)) (row .closed) h) in
       let first : f .type < 256 = omega arith in
       let second : length (encodeBody f (bodyOf (f .type))) < 256 = omega arith in
-      (omega arith, one first (one second (octets-body (λ k key. ofKey k key .1) small f (bodyOf (f .type)) h)))
+      (omega arith, one first (one second (octets-body ofKey small f (bodyOf (f .type)) h)))

@@ -1,172 +1,178 @@
--- The numbers of bodies, by where their fields end.
-use mathlib.Core.Path.{_≡_, refl, sym, _∙_, ap, subst}
+-- The number of the fields that are left of a body, by the first of them; and the number of a body by its route type.
+use mathlib.Core.Path.{_≡_, refl, sym, _∙_, ap, ap₂}
 use mathlib.Core.Bool.{Bool, true, false}
-use mathlib.Core.List.{List}
+use mathlib.Core.List.{List, [], _∷_}
 use Prim.Native.Nat.{ℕ, _+_, _-_, _/_, _≤_, _<_}
-use native.Mathlib.Nat.{add-zero}
+use native.Mathlib.Nat.{add-zero, zero-add}
 use native.Mathlib.Omega.{arith}
-use borrow.Author.Tests.{ltb-true, ltb-false, leb-true, leb-false, eqb-true, eqb-false, lt-ltb, le-ltb, le-leb, eq-eqb, ne-eqb}
+use borrow.Author.Tests.{ltb-true, ltb-false, leb-true, leb-false, eqb-true, eqb-false, lt-ltb, le-ltb, eq-eqb, ne-eqb}
 use lib.ListN.{length, getD, drop, length-drop}
 use lib.Seq.{getD-drop, drop-drop}
 use lib.Dec.{ltb, leb, eqb}
 use Rattle.octets.specs.Numbers.{DONE, TYPE, LENGTH, WIDTH}
 use Rattle.octets.specs.Choice.{pick, either}
 use Rattle.octets.specs.Outcome.{Outcome, given, refused, andThen, numberOf}
-use Rattle.octets.proofs.Choice.{pick-true, pick-false, tested, skips, either-false}
-use Rattle.octets.proofs.Outcome.{and-assoc, and-cong, and-given, number-goes, number-stops}
-use Rattle.nlri.specs.declared.layout.Layout.{Layout}
+use Rattle.octets.proofs.Choice.{pick-true, pick-false, pick-case, picks, skips, tested, either-false}
+use Rattle.octets.proofs.Outcome.{number-goes, number-stops}
 use Rattle.nlri.specs.Family.{allowed, isOriginatorSize}
-use Rattle.nlri.specs.Reading.{addressEnd, addressField}
-use Rattle.nlri.specs.Inner.{layoutWith, originatorLast, nothingLast, lastFault, restFault, withGroup, flowSizes, flowEnd, flowEndFault, addressThen, groupFault, flowFault, flowRoute, intraAs, interAs, keyEnd, bodyWith, withSourceAs, sourceStart}
-use Rattle.nlri.proofs.Functions.Numbered.{number-last}
+use Rattle.nlri.specs.Bodies.{FieldKind, distinguisher, sourceAs, source, group, originator, key, bodies, onBody}
+use Rattle.nlri.specs.Reading.{fixedField, addressEnd, addressField, originatorField, fieldSize, sizesOf, keyField}
+use Rattle.nlri.specs.Inner.{leftFault, bodyFault, afterFlow, withSourceAs, sourceStart}
+use Rattle.nlri.proofs.Definitions.Table.{listed, on-body, unlisted}
 
--- what stands from `at` to the end
-module _ (good : ℕ → Bool) (at size : ℕ) where
-  pub rest-within : at ≤ size → restFault good at size ≡ lastFault (good (size - at))
-  unfolding restFault
-  rest-within h = pick-false _ _ _ (le-ltb size at h)
+pub number-mapped : {A B : Type 0} (o : Outcome A) (f : A → B) → numberOf (andThen o (λ a. given (f a))) ≡ numberOf o
+unfolding numberOf andThen
+number-mapped (given a) f = refl
+number-mapped (refused n) f = refl
 
-  rest-past : size < at → restFault good at size ≡ LENGTH
-  unfolding restFault
-  rest-past h = pick-true _ _ _ (lt-ltb size at h)
+pub number-typed : {A : Type 0} (b : Bool) (o : Outcome A) → pick b (numberOf o) TYPE ≡ numberOf (pick b o (refused TYPE))
+unfolding pick numberOf
+number-typed true o = refl
+number-typed false o = refl
 
-  pub rest-good : (rest : ℕ) → size ≡ at + rest → good rest ≡ true → DONE ≡ restFault good at size
-  unfolding restFault lastFault
-  rest-good rest e q =
-      let left : size - at ≡ rest = omega arith in
-      sym (pick-false _ _ _ (le-ltb size at (omega arith)) ∙ pick-true _ _ _ (ap good left ∙ q))
+module _ (bits type : ℕ) where
+  abbrev size : FieldKind → List ℕ → Outcome ℕ
+  size = fieldSize (keyField bits) bits type
 
-  rest-bad : (at ≤ size → good (size - at) ≡ false) → LENGTH ≡ restFault good at size
-  unfolding restFault lastFault
-  rest-bad h = tested (ltb size at) (λ t. sym (pick-true _ _ _ t)) (λ f. sym (pick-false _ _ _ f ∙ pick-false _ _ _ (h (ltb-false _ _ f))))
+  left-past : (kinds : List FieldKind) (at : ℕ) (s : List ℕ) → length s < at → LENGTH ≡ leftFault bits type kinds at s
+  unfolding leftFault
+  left-past kinds at s h = picks _ _ _ _ (lt-ltb (length s) at h) refl
 
-module _ (at size : ℕ) where
-  pub no-originator : (size ≡ at + 4 → ⊥) → (size ≡ at + 16 → ⊥) → LENGTH ≡ restFault isOriginatorSize at size
-  unfolding isOriginatorSize
-  no-originator p q = rest-bad _ at size (λ h. either-false _ _ (ne-eqb (size - at) 4 (λ e. p (omega arith))) (ne-eqb (size - at) 16 (λ e. q (omega arith))))
+  left-refused : (k : FieldKind) (kinds : List FieldKind) (at : ℕ) (s : List ℕ) (m : ℕ) → at ≤ length s → size k (drop at s) ≡ refused m → m ≡ leftFault bits type (k ∷ kinds) at s
+  unfolding leftFault sizesOf
+  left-refused k kinds at s m h e = skips _ _ _ _ (le-ltb (length s) at h) (number-stops m _ _ e)
 
-  pub no-end : (size ≡ at → ⊥) → LENGTH ≡ restFault (λ rest. eqb rest 0) at size
-  no-end p = rest-bad _ at size (λ h. ne-eqb (size - at) 0 (λ e. p (omega arith)))
+  left-given : (k : FieldKind) (kinds : List FieldKind) (at : ℕ) (s : List ℕ) (n : ℕ) → at + n ≤ length s → size k (drop at s) ≡ given n → leftFault bits type kinds (at + n) s ≡ leftFault bits type (k ∷ kinds) at s
+  unfolding leftFault sizesOf
+  left-given k kinds at s n h e =
+      pick-false _ _ _ (le-ltb (length s) (at + n) h)
+      ∙ skips _ _ _ _ (le-ltb (length s) at (omega arith)) (number-goes _ _ n _ e (ap (λ (y : List ℕ). numberOf (sizesOf size kinds y)) (sym (drop-drop n at s)) ∙ sym (number-mapped _ _)))
 
-by-tests : {A : Type 0} (a b : Bool) (l : A) → pick a LENGTH (lastFault b) ≡ numberOf (pick a (refused LENGTH) (pick b (given l) (refused LENGTH)))
-unfolding pick lastFault numberOf
-by-tests true b l = refl
-by-tests false true l = refl
-by-tests false false l = refl
+  -- what stands further on in the octets
+  pub left-drop : (kinds : List FieldKind) (k at : ℕ) (s : List ℕ) → k ≤ length s → leftFault bits type kinds at (drop k s) ≡ leftFault bits type kinds (k + at) s
+  unfolding leftFault
+  left-drop kinds k at s h =
+      let l = length-drop k s in
+      let same : ltb (length (drop k s)) at ≡ ltb (length s) (k + at) =
+      tested (ltb (length s) (k + at)) (λ t. lt-ltb (length (drop k s)) at (omega (arith, ltb-true)) ∙ sym t) (λ f. le-ltb (length (drop k s)) at (omega (arith, ltb-false)) ∙ sym f) in
+      ap₂ (λ (b : Bool) (y : List ℕ). pick b LENGTH (numberOf (sizesOf size kinds y))) same (drop-drop at k s)
 
-pub number-intra-as : (s : List ℕ) → restFault isOriginatorSize 8 (length s) ≡ numberOf (intraAs s)
-unfolding restFault intraAs originatorLast layoutWith
-number-intra-as s = by-tests _ _ _
+  -- a field of a fixed size
+  pub left-fixed : (k : FieldKind) (kinds : List FieldKind) (n at : ℕ) (s : List ℕ) → ((y : List ℕ) → size k y ≡ fixedField n y) → leftFault bits type kinds (at + n) s ≡ leftFault bits type (k ∷ kinds) at s
+  unfolding fixedField
+  left-fixed k kinds n at s is =
+      let l = length-drop at s in
+      tested (ltb (length s) (at + n))
+      (λ short.
+      sym (left-past kinds (at + n) s (ltb-true _ _ short))
+      ∙ tested (ltb (length s) at) (λ past. left-past (k ∷ kinds) at s (ltb-true _ _ past))
+      (λ inside. left-refused k kinds at s LENGTH (ltb-false _ _ inside) (is _ ∙ pick-true _ _ _ (lt-ltb (length (drop at s)) n (omega (arith, ltb-true, ltb-false))))))
+      (λ long. left-given k kinds at s n (ltb-false _ _ long) (is _ ∙ pick-false _ _ _ (le-ltb (length (drop at s)) n (omega (arith, ltb-false)))))
 
-pub number-inter-as : (s : List ℕ) → restFault (λ rest. eqb rest 0) 12 (length s) ≡ numberOf (interAs s)
-unfolding restFault interAs nothingLast layoutWith
-number-inter-as s = by-tests _ _ _
+  -- a source or group whose length octet stands at `at`
+  module _ (k : FieldKind) (is : (y : List ℕ) → size k y ≡ addressField bits type y) (kinds : List FieldKind) (at : ℕ) (s : List ℕ) where
+    pub left-missing : length s ≤ at → LENGTH ≡ leftFault bits type (k ∷ kinds) at s
+    unfolding addressField
+    left-missing h =
+        let l = length-drop at s in
+        tested (ltb (length s) at) (λ past. left-past (k ∷ kinds) at s (ltb-true _ _ past))
+        (λ inside. left-refused k kinds at s LENGTH (ltb-false _ _ inside) (is _ ∙ pick-true _ _ _ (eq-eqb (length (drop at s)) 0 (omega arith))))
 
--- what follows a key
-module _ (alone : Bool) (at n : ℕ) (within : at ≤ n) where
-  pub number-alone : alone ≡ true → restFault (λ rest. eqb rest 0) at n ≡ numberOf (keyEnd alone (layoutWith 4 n 0 0 (n - at) at))
-  unfolding keyEnd nothingLast layoutWith
-  number-alone t = rest-within _ at n within ∙ number-last _ _ ∙ ap numberOf (sym (pick-true _ _ _ t))
+    module _ (some : at < length s) where
+      octet : getD (drop at s) 0 0 ≡ getD s at 0
+      octet = getD-drop at s 0 0 ∙ ap (λ (i : ℕ). getD s i 0) (add-zero at)
 
-  pub number-followed : alone ≡ false → restFault isOriginatorSize at n ≡ numberOf (keyEnd alone (layoutWith 4 n 0 0 (n - at) at))
-  unfolding keyEnd originatorLast layoutWith
-  number-followed f = rest-within _ at n within ∙ number-last _ _ ∙ ap numberOf (sym (pick-false _ _ _ f))
+      there : size k (drop at s) ≡ pick (allowed bits type (getD s at 0)) (addressEnd (getD s at 0 / 8) (drop at s)) (refused WIDTH)
+      unfolding addressField
+      there =
+          let l = length-drop at s in
+          is _ ∙ pick-false _ _ _ (ne-eqb (length (drop at s)) 0 (λ q. omega arith)) ∙ ap (λ (n : ℕ). pick (allowed bits type n) (addressEnd (n / 8) (drop at s)) (refused WIDTH)) octet
 
--- what follows source and group
-module _ (type at n : ℕ) where
-  end-within : (size a b : ℕ) → at ≤ n → flowEndFault type at n ≡ numberOf (flowEnd type size a b (n - at))
-  unfolding flowEndFault flowEnd originatorLast nothingLast layoutWith
-  end-within size a b h =
-      tested (eqb type 3)
-      (λ t. pick-true _ _ _ t ∙ rest-within _ at n h ∙ number-last _ _ ∙ ap numberOf (sym (pick-true _ _ _ t)))
-      (λ f. pick-false _ _ _ f ∙ rest-within _ at n h ∙ number-last _ _ ∙ ap numberOf (sym (pick-false _ _ _ f)))
+      pub left-wide : allowed bits type (getD s at 0) ≡ false → WIDTH ≡ leftFault bits type (k ∷ kinds) at s
+      left-wide bad = left-refused k kinds at s WIDTH (omega arith) (there ∙ pick-false _ _ _ bad)
 
-  end-past : n < at → flowEndFault type at n ≡ LENGTH
-  unfolding flowEndFault
-  end-past h = tested (eqb type 3) (λ t. pick-true _ _ _ t ∙ rest-past _ at n h) (λ f. pick-false _ _ _ f ∙ rest-past _ at n h)
+      pub left-allowed : allowed bits type (getD s at 0) ≡ true → leftFault bits type kinds (at + 1 + getD s at 0 / 8) s ≡ leftFault bits type (k ∷ kinds) at s
+      unfolding addressEnd
+      left-allowed good =
+          let l = length-drop at s in
+          let next : at + 1 + getD s at 0 / 8 ≡ at + (1 + getD s at 0 / 8) = omega arith in
+          tested (leb (length (drop at s)) (getD s at 0 / 8))
+          (λ t. sym (left-past kinds _ s (omega (arith, leb-true))) ∙ left-refused k kinds at s LENGTH (omega arith) (there ∙ pick-true _ _ _ good ∙ pick-true _ _ _ t))
+          (λ f. ap (λ (i : ℕ). leftFault bits type kinds i s) next ∙ left-given k kinds at s _ (omega (arith, leb-false)) (there ∙ pick-true _ _ _ good ∙ pick-false _ _ _ f))
 
--- an address by where its length octet stands, and what follows it by where it ends
-module _ (bits type at : ℕ) (s : List ℕ) where
-  address-past : (next : ℕ → ℕ) → length s ≤ at → addressThen bits type at s next ≡ LENGTH
-  unfolding addressThen
-  address-past next h = pick-true _ _ _ (le-leb (length s) at h)
+  -- nothing left
+  module _ (at : ℕ) (s : List ℕ) where
+    pub left-none : length s ≡ at → DONE ≡ leftFault bits type [] at s
+    unfolding leftFault sizesOf numberOf
+    left-none e = let l = length-drop at s in skips _ _ _ _ (le-ltb (length s) at (omega arith)) (ap numberOf (sym (pick-true _ _ _ (eq-eqb (length (drop at s)) 0 (omega arith)))))
 
-  octet : getD (drop at s) 0 0 ≡ getD s at 0
-  octet = getD-drop at s 0 0 ∙ ap (λ (k : ℕ). getD s k 0) (add-zero at)
+    pub left-some : (length s ≡ at → ⊥) → LENGTH ≡ leftFault bits type [] at s
+    unfolding leftFault sizesOf numberOf
+    left-some h =
+        let l = length-drop at s in
+        tested (ltb (length s) at) (λ past. left-past [] at s (ltb-true _ _ past))
+        (λ inside. skips _ _ _ _ inside (ap numberOf (sym (pick-false _ _ _ (ne-eqb (length (drop at s)) 0 (λ q. h (omega (arith, ltb-false))))))))
 
-  module _ {B : Type 0} (next : ℕ → ℕ) (after : ℕ → Outcome B) (within : (n : ℕ) → at + n ≤ length s → next (at + n) ≡ numberOf (after n)) (past : (end : ℕ) → length s < end → next end ≡ LENGTH) where
-    ended : (octets : ℕ) → next (at + 1 + octets) ≡ numberOf (andThen (addressEnd octets (drop at s)) after)
-    unfolding addressEnd
-    ended octets =
-        let l : length (drop at s) ≡ length s - at = length-drop at s in
-        let e : at + 1 + octets ≡ at + (1 + octets) = omega arith in
-        tested (leb (length (drop at s)) octets)
-        (λ t. past (at + 1 + octets) (omega (arith, leb-true)) ∙ number-stops LENGTH _ after (pick-true _ _ _ t))
-        (λ f. ap next e ∙ within (1 + octets) (omega (arith, leb-false)) ∙ number-goes _ _ (1 + octets) after (pick-false _ _ _ f) refl)
+  -- the originator, which is what remains
+  module _ (at : ℕ) (s : List ℕ) where
+    pub left-originator : (rest : ℕ) → length s ≡ at + rest → isOriginatorSize rest ≡ true → DONE ≡ leftFault bits type (originator ∷ []) at s
+    unfolding fieldSize originatorField
+    left-originator rest e h =
+        let l : length (drop at s) ≡ rest = let d = length-drop at s in omega arith in
+        left-none (at + rest) s e ∙ left-given originator [] at s rest (omega arith) (rw l (pick-true _ _ _ h))
 
-    judged : (n : ℕ) → pick (allowed bits type n) (next (at + 1 + n / 8)) WIDTH ≡ numberOf (andThen (pick (allowed bits type n) (addressEnd (n / 8) (drop at s)) (refused WIDTH)) after)
-    judged n =
-        tested (allowed bits type n)
-        (λ t. pick-true _ _ _ t ∙ ended (n / 8) ∙ ap (λ (o : Outcome ℕ). numberOf (andThen o after)) (sym (pick-true _ _ _ t)))
-        (λ f. pick-false _ _ _ f ∙ number-stops WIDTH _ after (pick-false _ _ _ f))
+    pub left-no-originator : (length s ≡ at + 4 → ⊥) → (length s ≡ at + 16 → ⊥) → LENGTH ≡ leftFault bits type (originator ∷ []) at s
+    unfolding fieldSize originatorField isOriginatorSize
+    left-no-originator p q =
+        let l = length-drop at s in
+        tested (ltb (length s) at) (λ past. left-past (originator ∷ []) at s (ltb-true _ _ past))
+        (λ inside. left-refused originator [] at s LENGTH (ltb-false _ _ inside) (pick-false _ _ _ (either-false _ _
+        (ne-eqb (length (drop at s)) 4 (λ h. p (omega (arith, ltb-false)))) (ne-eqb (length (drop at s)) 16 (λ h. q (omega (arith, ltb-false)))))))
 
-    number-address : addressThen bits type at s next ≡ numberOf (andThen (addressField bits type (drop at s)) after)
-    unfolding addressThen addressField
-    number-address =
-        let l : length (drop at s) ≡ length s - at = length-drop at s in
-        tested (leb (length s) at)
-        (λ t. pick-true _ _ _ t ∙ number-stops LENGTH _ after (pick-true _ _ _ (eq-eqb (length (drop at s)) 0 (omega (arith, leb-true)))))
-        (λ f. pick-false _ _ _ f ∙ judged (getD s at 0)
-        ∙ ap (λ (o : Outcome ℕ). numberOf (andThen o after))
-        (sym (pick-false _ _ _ (ne-eqb (length (drop at s)) 0 (λ q. omega (arith, leb-false))) ∙ ap (λ (n : ℕ). pick (allowed bits type n) (addressEnd (n / 8) (drop at s)) (refused WIDTH)) octet)))
+  -- a key, which stands first
+  module _ (kinds : List FieldKind) (s : List ℕ) where
+    pub left-keyed : (n : ℕ) → n ≤ length s → keyField bits s ≡ given n → leftFault bits type kinds n s ≡ leftFault bits type (key ∷ kinds) 0 s
+    unfolding fieldSize
+    left-keyed n h e = ap (λ (i : ℕ). leftFault bits type kinds i s) (sym (zero-add n)) ∙ left-given key kinds 0 s n (omega arith) e
 
--- a source and a group, and what follows them
-module _ (bits type at : ℕ) (s : List ℕ) where
-  number-group : (a : ℕ) → at + a ≤ length s
-      → groupFault bits type (at + a) s ≡ numberOf (andThen (withGroup bits type a (drop a (drop at s))) (λ sizes. flowEnd type (length s) (sizes .0) (sizes .1) (length s - at - sizes .0 - sizes .1)))
-  unfolding groupFault withGroup
-  number-group a h =
-      number-address bits type (at + a) s _ (λ b. flowEnd type (length s) a b (length s - at - a - b))
-      (λ b q. end-within type (at + a + b) (length s) (length s) a b q ∙ ap (λ (r : ℕ). numberOf (flowEnd type (length s) a b r)) (omega arith))
-      (λ end q. end-past type end (length s) q)
-      ∙ ap (λ (x : List ℕ). numberOf (andThen (addressField bits type x) (λ b. flowEnd type (length s) a b (length s - at - a - b)))) (sym (drop-drop a at s))
-      ∙ sym (ap numberOf (and-assoc _ _ _ ∙ and-cong _ _ _ (λ b e. and-given _ _)))
+    pub left-unkeyed : (m : ℕ) → keyField bits s ≡ refused m → m ≡ leftFault bits type (key ∷ kinds) 0 s
+    unfolding fieldSize
+    left-unkeyed m e = left-refused key kinds 0 s m (omega arith) e
 
-  group-past : (end : ℕ) → length s < end → groupFault bits type end s ≡ LENGTH
-  unfolding groupFault
-  group-past end h = address-past bits type end s _ (omega arith)
+-- where a source may start
+start-case : (P : ℕ → Type 0) (type : ℕ) → P 15 → P 11 → P (sourceStart type)
+unfolding sourceStart
+start-case P type p q = pick-case P _ 15 11 (λ _. p) (λ _. q)
 
-  pub number-flow : flowFault bits type at s ≡ numberOf (flowRoute bits type at s)
-  unfolding flowFault flowRoute flowSizes numberOf
-  number-flow =
-      tested (ltb (length s) at)
-      (λ t. address-past bits type at s _ (omega (arith, ltb-true)) ∙ ap numberOf (sym (pick-true _ _ _ t)))
-      (λ f. number-address bits type at s _ _ number-group group-past ∙ sym (ap numberOf (pick-false _ _ _ f ∙ and-assoc _ _ _)))
+pub start-least : (type : ℕ) → 3 ≤ sourceStart type
+start-least type = start-case (λ (n : ℕ). 3 ≤ n) type (omega arith) (omega arith)
+
+pub start-most : (type : ℕ) → sourceStart type ≤ 15
+start-most type = start-case (λ (n : ℕ). n ≤ 15) type (omega arith) (omega arith)
 
 -- the body of a route type
-module _ (keyed : Outcome Layout) (bits type : ℕ) (s : List ℕ) where
-  pub of-type : (k : ℕ) (body : Outcome Layout) → type ≡ k → body ≡ bodyWith keyed bits k s → body ≡ bodyWith keyed bits type s
-  of-type k body e q = q ∙ ap (λ (n : ℕ). bodyWith keyed bits n s) (sym e)
+module _ (bits type : ℕ) (s : List ℕ) where
+  pub body-is : (n : ℕ) → type ≡ n → bodyFault bits n s ≡ bodyFault bits type s
+  body-is n e = ap (λ (k : ℕ). bodyFault bits k s) (sym e)
 
-  pub of-none : 7 < type → refused TYPE ≡ bodyWith keyed bits type s
-  unfolding bodyWith
-  of-none h =
-      let other : (k : ℕ) → k ≤ 7 → eqb type k ≡ false = λ k low. ne-eqb type k (λ q. omega arith) in
-      skips _ _ _ _ (other 1 (omega arith)) (skips _ _ _ _ (other 2 (omega arith)) (skips _ _ _ _ (other 3 (omega arith)) (skips _ _ _ _ (other 4 (omega arith))
-      (skips _ _ _ _ (other 5 (omega arith)) (skips _ _ _ _ (other 6 (omega arith)) (skips _ _ _ _ (other 7 (omega arith)) refl))))))
+  pub body-none : ((1 ≤ type) × (type ≤ 7) → ⊥) → TYPE ≡ bodyFault bits type s
+  unfolding bodyFault
+  body-none h = sym (on-body type _ _ ∙ pick-false _ _ _ (unlisted type h))
 
-  -- types 3, 5, 6 and 7
-  pub of-flow : 1 ≤ type → type ≤ 7 → (type ≡ 1 → ⊥) → (type ≡ 2 → ⊥) → (type ≡ 4 → ⊥) → flowRoute bits type (sourceStart type - 3) s ≡ bodyWith keyed bits type s
-  unfolding bodyWith sourceStart withSourceAs either pick
-  of-flow low high one two four =
-      tested (eqb type 3) (λ t. at 3 (eqb-true _ _ t) refl)
-      (λ n₃. tested (eqb type 5) (λ t. at 5 (eqb-true _ _ t) refl)
-      (λ n₅. tested (eqb type 6) (λ t. at 6 (eqb-true _ _ t) refl) (λ n₆. at 7 (omega (arith, eqb-false)) refl)))
+  pub body-number : bodyFault bits type s ≡ numberOf (onBody bodies type (refused TYPE) (λ body. sizesOf (fieldSize (keyField bits) bits type) body s))
+  unfolding bodyFault leftFault
+  body-number =
+      on-body type _ _ ∙ ap (λ (n : ℕ). pick (listed bodies type) n TYPE) (pick-false (ltb (length s) 0) LENGTH _ (le-ltb (length s) 0 (omega arith))) ∙ number-typed _ _ ∙ sym (ap numberOf (on-body type _ _))
+
+  -- types 5 to 7: fixed octets, a source and a group
+  pub body-flow : 4 < type → type ≤ 7 → leftFault bits type (source ∷ group ∷ afterFlow type) (sourceStart type - 3) s ≡ bodyFault bits type s
+  unfolding bodyFault onBody bodies afterFlow sourceStart withSourceAs either pick fieldSize
+  body-flow low high =
+      tested (eqb type 5) (λ t. at 5 (eqb-true _ _ t) (left-fixed bits 5 distinguisher _ 8 0 s (λ y. refl)))
+      (λ n₅. tested (eqb type 6) (λ t. at 6 (eqb-true _ _ t) (both 6)) (λ n₆. at 7 (omega (arith, eqb-false)) (both 7)))
     where
-      at : (k : ℕ) → type ≡ k → flowRoute bits k (sourceStart k - 3) s ≡ bodyWith keyed bits k s → flowRoute bits type (sourceStart type - 3) s ≡ bodyWith keyed bits type s
-      at k e r = subst (λ (n : ℕ). flowRoute bits n (sourceStart n - 3) s ≡ bodyWith keyed bits n s) (sym e) r
+      at : (k : ℕ) → type ≡ k → leftFault bits k (source ∷ group ∷ afterFlow k) (sourceStart k - 3) s ≡ bodyFault bits k s → leftFault bits type (source ∷ group ∷ afterFlow type) (sourceStart type - 3) s ≡ bodyFault bits type s
+      at k e p = rw e p
 
-  -- but for a Leaf the key does not matter
-  pub of-other : (keyed′ : Outcome Layout) → (type ≡ 4 → ⊥) → bodyWith keyed bits type s ≡ bodyWith keyed′ bits type s
-  unfolding bodyWith pick
-  of-other keyed′ h = rw (ne-eqb type 4 h)
+      both : (k : ℕ) → leftFault bits k (source ∷ group ∷ []) 12 s ≡ leftFault bits k (distinguisher ∷ sourceAs ∷ source ∷ group ∷ []) 0 s
+      both k = left-fixed bits k sourceAs _ 4 8 s (λ y. refl) ∙ left-fixed bits k distinguisher _ 8 0 s (λ y. refl)

@@ -1,85 +1,55 @@
--- The NLRI at the front of octets: the inner functions' definitions are document 01's.
+-- The NLRI at the front of octets by its header and its body, and a key by these.
 use mathlib.Core.Path.{_≡_, refl, sym, _∙_, ap}
-use mathlib.Core.Bool.{Bool, true, false}
+use mathlib.Core.Bool.{false}
+use mathlib.Core.Logic.{⊎-elim}
 use mathlib.Core.List.{List, [], _∷_}
-use Prim.Native.Nat.{ℕ, _+_, _-_, _≤_}
+use Prim.Native.Nat.{ℕ, _+_, _≤_, _<_}
 use native.Mathlib.Omega.{arith}
-use borrow.Author.Tests.{ltb-false}
-use lib.ListN.{length, getD}
-use lib.Dec.{eqb, ltb}
-use Rattle.octets.specs.Numbers.{TYPE, KEY}
+use borrow.Author.Tests.{lt-ltb, le-ltb}
+use lib.ListN.{length, getD, drop}
+use Rattle.octets.specs.Numbers.{DONE, TYPE, KEY}
 use Rattle.octets.specs.Choice.{pick}
-use Rattle.octets.specs.Outcome.{Outcome, given, refused, andThen, onOutcome}
+use Rattle.octets.specs.Outcome.{Outcome, given, refused, andThen, numberOf}
 use Rattle.octets.specs.Octets.{part}
-use Rattle.octets.proofs.Lists.{length-part}
-use Rattle.octets.proofs.Choice.{pick-cong}
-use Rattle.octets.proofs.Outcome.{and-cong, and-pick, and-given, and-refused, on-mapped, never, given-otherwise, passed, given-same, on-given-given}
+use Rattle.octets.proofs.Choice.{pick-true, pick-false, tested, opposite, either-false-left, either-false-right}
+use Rattle.octets.proofs.Outcome.{and-pick, and-cong, and-given, and-refused, on-given, on-refused, outcome, passed, given-otherwise, given-same, number-goes, number-stops, refused-of}
 use Rattle.nlri.specs.declared.layout.Layout.{Layout}
-use Rattle.nlri.specs.Bodies.{FieldKind, Row, row, bodies, onBody}
+use Rattle.nlri.specs.Bodies.{FieldKind, distinguisher, sourceAs, source, group, originator, key, bodies, onBody, bodyOf, codeOf, sameKind, hasField}
 use Rattle.nlri.specs.Reading.{Laid, fieldSize, sizesOf, laidWith, laidAt, noKey, keyField}
 use Rattle.nlri.specs.Layouts.{layoutOf, layoutAt}
-use Rattle.nlri.specs.Inner.{headerAt, keyEnd, keyed, bodyWith, unkeyedBody, anyBody}
-use Rattle.nlri.proofs.Functions.Rows.{rowLayout, laidFor, rows}
+use Rattle.nlri.specs.Inner.{headerAt, bodyFault}
+use Rattle.nlri.proofs.Definitions.Table.{listed, on-body, rowOf}
+use Rattle.nlri.proofs.Definitions.Whole.{laid-out}
+use Rattle.nlri.proofs.Definitions.ReadNumbers.{refuses-done, refuses-no-key, refuses-laid}
+use Rattle.nlri.proofs.Functions.Ends.{number-mapped, number-typed, body-number}
 
--- the layout at the front of octets by header and body: of an NLRI whose type has no key, and of any NLRI
-unfoldable pub unkeyed : ℕ → List ℕ → Outcome Layout
-unkeyed bits s = andThen (headerAt s) (λ h. unkeyedBody bits (h .0) (part s 2 (h .1)))
+-- what a body is laid out as
+bodyLaid : (List ℕ → Outcome ℕ) → (bits : ℕ) → List ℕ → ℕ × ℕ → Outcome Laid
+bodyLaid judge bits s h =
+    onBody bodies (h .0) (refused TYPE)
+    (λ body. andThen (sizesOf (fieldSize judge bits (h .0)) body (part s 2 (h .1))) (λ sizes. given (record { type = h .0; size = h .1; body = body; sizes = sizes })))
 
-unfoldable pub anyFront : ℕ → List ℕ → Outcome Layout
-anyFront bits s = andThen (headerAt s) (λ h. anyBody bits (h .0) (part s 2 (h .1)))
+laid-is : (judge : List ℕ → Outcome ℕ) (bits : ℕ) (s : List ℕ) → laidWith judge bits s ≡ andThen (headerAt s) (bodyLaid judge bits s)
+unfolding laidWith headerAt bodyLaid
+laid-is judge bits s = simp (and-pick, and-refused, and-given)
 
-and-on-body : {A B : Type 0} (table : List Row) (type n : ℕ) (f : List FieldKind → Outcome A) (next : A → Outcome B)
-    → andThen (onBody table type (refused n) f) next ≡ onBody table type (refused n) (λ body. andThen (f body) next)
-unfolding onBody
-and-on-body [] type n f next = and-refused _ _
-and-on-body (row k body ∷ table) type n f next = and-pick _ _ _ _ ∙ ap (pick _ _) (and-on-body table type n f next)
+-- the number of what is laid out is that of the sizes
+body-laid-number : (judge : List ℕ → Outcome ℕ) (bits : ℕ) (s : List ℕ) (type n : ℕ) → numberOf (bodyLaid judge bits s (type, n)) ≡ numberOf (onBody bodies type (refused TYPE) (λ body. sizesOf (fieldSize judge bits type) body (part s 2 n)))
+unfolding bodyLaid
+body-laid-number judge bits s type n =
+    ap numberOf (on-body type _ _) ∙ sym (number-typed _ _) ∙ ap (λ (m : ℕ). pick (listed bodies type) m TYPE) (number-mapped _ _) ∙ number-typed _ _ ∙ sym (ap numberOf (on-body type _ _))
 
--- a body found for a type
-pub record Found {A : Type 0} (next : List FieldKind → Outcome A) (a : A) : Type 0 where
-  pub body : List FieldKind
-  pub gives : next body ≡ given a
+-- the number of the NLRI at the front
+module _ (bits : ℕ) (s : List ℕ) where
+  front-number : numberOf (andThen (headerAt s) (bodyLaid (keyField bits) bits s)) ≡ numberOf (layoutAt bits s)
+  unfolding layoutAt laidAt
+  front-number = ap numberOf (sym (laid-is (keyField bits) bits s)) ∙ sym (number-mapped _ _)
 
-choice : {A : Type 0} (b : Bool) (body : List FieldKind) (next : List FieldKind → Outcome A) (other : Outcome A) (a : A) → pick b (next body) other ≡ given a → (other ≡ given a → Found next a) → Found next a
-unfolding pick
-choice true body next other a q later = record { body = body; gives = q }
-choice false body next other a q later = later q
+  pub front-typed : (type n : ℕ) → headerAt s ≡ given (type, n) → bodyFault bits type (part s 2 n) ≡ numberOf (layoutAt bits s)
+  front-typed type n h = number-goes _ _ _ _ h (body-number bits type _ ∙ sym (body-laid-number (keyField bits) bits s type n)) ∙ front-number
 
-pub found : {A : Type 0} (table : List Row) (type n : ℕ) (next : List FieldKind → Outcome A) (a : A) → onBody table type (refused n) next ≡ given a → Found next a
-unfolding onBody
-found [] type n next a e = absurd (never e refl)
-found (row k body ∷ table) type n next a e = choice (eqb type k) body next _ a e (λ q. found table type n next a q)
-
-two-refusals : {A B : Type 0} (b d : Bool) (n : ℕ) (o : Outcome A) (next : A → Outcome B)
-    → andThen (pick b (refused n) (pick d (refused n) o)) next ≡ pick b (refused n) (pick d (refused n) (andThen o next))
-two-refusals b d n o next = simp (and-pick, and-refused)
-
-module _ (kf : List ℕ → Outcome ℕ) (bits : ℕ) (s : List ℕ) where
-  front-rows : andThen (laidWith kf bits s) (λ laid. given (layoutOf laid))
-      ≡ andThen (headerAt s) (λ h. onBody bodies (h .0) (refused TYPE) (rowLayout (fieldSize kf bits (h .0)) (h .0) (part s 2 (h .1))))
-  unfolding laidWith headerAt rowLayout laidFor
-  front-rows =
-      two-refusals _ _ _ _ _
-      ∙ pick-cong _ _ _ _ _ (λ _. refl) (λ enough. pick-cong _ _ _ _ _ (λ _. refl) (λ whole. and-on-body bodies _ _ _ _ ∙ same enough whole ∙ sym (and-given _ _)))
-      ∙ sym (two-refusals _ _ _ _ _)
-    where
-      same : ltb (length s) 2 ≡ false → ltb (length s - 2) (getD s 1 0) ≡ false
-          → onBody bodies (getD s 0 0) (refused TYPE) (λ body. andThen (andThen (sizesOf (fieldSize kf bits (getD s 0 0)) body (part s 2 (getD s 1 0))) (λ sizes. given (record { type = getD s 0 0; size = getD s 1 0; body = body; sizes = sizes }))) (λ laid. given (layoutOf laid)))
-          ≡ onBody bodies (getD s 0 0) (refused TYPE) (rowLayout (fieldSize kf bits (getD s 0 0)) (getD s 0 0) (part s 2 (getD s 1 0)))
-      same enough whole =
-          ap (λ (n : ℕ). onBody bodies (getD s 0 0) (refused TYPE) (λ body. andThen (andThen (sizesOf (fieldSize kf bits (getD s 0 0)) body (part s 2 (getD s 1 0))) (λ sizes. given (record { type = getD s 0 0; size = n; body = body; sizes = sizes }))) (λ laid. given (layoutOf laid))))
-          (sym (length-part s 2 (getD s 1 0) (omega (arith, ltb-false))))
-
-  pub laid-within : (laid : Laid) → laidWith kf bits s ≡ given laid → (2 ≤ length s) × (2 + laid .size ≤ length s) × (laid .type ≡ getD s 0 0) × (laid .size ≡ getD s 1 0)
-  unfolding laidWith
-  laid-within laid e =
-      let p = given-otherwise _ _ _ _ e in
-      let q = given-otherwise _ _ _ _ (p .1) in
-      let r = found bodies _ _ _ laid (q .1) in
-      let w = passed _ _ _ (r .gives) in
-      let same = given-same (w .second) in
-      let n : laid .size ≡ getD s 1 0 = ap (λ (x : Laid). x .size) (sym same) in
-      let t : laid .type ≡ getD s 0 0 = ap (λ (x : Laid). x .type) (sym same) in
-      (omega (arith, ltb-false), omega (arith, ltb-false), t, n)
+  pub front-unread : (n : ℕ) → headerAt s ≡ refused n → n ≡ numberOf (layoutAt bits s)
+  front-unread n h = number-stops n _ _ h ∙ front-number
 
 -- type and Length of what was laid out, and that it lies within the octets
 pub layout-octets : (bits : ℕ) (s : List ℕ) (l : Layout) → layoutAt bits s ≡ given l → (2 ≤ length s) × (2 + l .length ≤ length s) × (l .«route_type» ≡ getD s 0 0) × (l .length ≡ getD s 1 0)
@@ -87,34 +57,71 @@ unfolding layoutAt laidAt layoutOf
 layout-octets bits s l e =
     let w = passed _ _ _ e in
     let same : layoutOf (w .value) ≡ l = given-same (w .second) in
-    let h = laid-within (keyField bits) bits s (w .value) (w .first) in
+    let o = laid-out (keyField bits) bits s (w .value) (w .first) in
     let n : w .value .size ≡ l .length = ap (λ (x : Layout). x .length) same in
-    (h .0, omega (arith, h .1), ap (λ (x : Layout). x .«route_type») (sym same) ∙ h .2, sym n ∙ h .3)
+    (o .enough, omega (arith, o .fits, o .enough), ap (λ (x : Layout). x .«route_type») (sym same) ∙ o .typed, sym n ∙ o .sized)
 
--- a body that has no key, by the table's rows
-pub unkeyed-rows : (bits type : ℕ) (s : List ℕ) → onBody bodies type (refused TYPE) (rowLayout (fieldSize noKey bits type) type s) ≡ unkeyedBody bits type s
-unfolding unkeyedBody noKey
-unkeyed-rows bits type s = rows noKey bits s type ∙ ap (λ (o : Outcome Layout). bodyWith o bits type s) (and-refused _ _)
+-- but for a key, the judge of keys does not matter
+module _ (judge judge′ : List ℕ → Outcome ℕ) (bits type : ℕ) where
+  field-unkeyed : (k : FieldKind) (s : List ℕ) → sameKind key k ≡ false → fieldSize judge bits type k s ≡ fieldSize judge′ bits type k s
+  unfolding fieldSize sameKind codeOf
+  field-unkeyed distinguisher s h = refl
+  field-unkeyed sourceAs s h = refl
+  field-unkeyed source s h = refl
+  field-unkeyed group s h = refl
+  field-unkeyed originator s h = refl
+  field-unkeyed key s h = absurd (opposite refl h)
 
-pub unkeyed-is : (bits : ℕ) (s : List ℕ) → andThen (laidWith noKey bits s) (λ laid. given (layoutOf laid)) ≡ unkeyed bits s
-unfolding unkeyed
-unkeyed-is bits s = front-rows noKey bits s ∙ and-cong _ _ _ (λ h e. unkeyed-rows bits (h .0) (part s 2 (h .1)))
+  sizes-unkeyed : (body : List FieldKind) (s : List ℕ) → hasField key body ≡ false → sizesOf (fieldSize judge bits type) body s ≡ sizesOf (fieldSize judge′ bits type) body s
+  unfolding sizesOf hasField
+  sizes-unkeyed [] s h = refl
+  sizes-unkeyed (k ∷ body) s h =
+      ap (λ (o : Outcome ℕ). andThen o (λ n. andThen (sizesOf (fieldSize judge bits type) body (drop n s)) (λ sizes. given (n ∷ sizes)))) (field-unkeyed k s (either-false-left _ _ h))
+      ∙ and-cong _ _ _ (λ n e. ap (λ (o : Outcome (List ℕ)). andThen o (λ sizes. given (n ∷ sizes))) (sizes-unkeyed body (drop n s) (either-false-right _ _ h)))
 
--- the layout at the front, by the inner functions' definition
-pub front-is : (o : Outcome Layout) (bits : ℕ) (s : List ℕ) → o ≡ anyFront bits s → o ≡ layoutAt bits s
-unfolding anyFront anyBody keyed keyEnd pick layoutAt laidAt
-front-is o bits s e = e ∙ sym (front-rows (keyField bits) bits s ∙ and-cong _ _ _ (λ h e. rows (keyField bits) bits (part s 2 (h .1)) (h .0)))
+-- a key by its header and the number of its body
+module _ (bits : ℕ) (s : List ℕ) where
+  pub key-unread : (n : ℕ) → headerAt s ≡ refused n → refused KEY ≡ keyField bits s
+  unfolding keyField
+  key-unread n h = on-refused _ _ n _ _ (laid-is noKey bits s ∙ ap (λ (o : Outcome (ℕ × ℕ)). andThen o (bodyLaid noKey bits s)) h ∙ and-refused _ _) refl
 
--- a key by the layout of the NLRI that it is
-pub key-is : (bits : ℕ) (s : List ℕ) → onOutcome (λ fault. refused KEY) (λ l. pick (ltb 3 (l .«route_type»)) (refused KEY) (given (2 + l .length))) (unkeyed bits s) ≡ keyField bits s
-unfolding keyField layoutOf
-key-is bits s = ap (onOutcome _ _) (sym (unkeyed-is bits s)) ∙ on-mapped _ _ _ _
+  module _ (type n : ℕ) (h : headerAt s ≡ given (type, n)) where
+    header-octets : (getD s 0 0 ≡ type) × (getD s 1 0 ≡ n)
+    unfolding headerAt
+    header-octets =
+        let same = given-same (given-otherwise _ _ _ _ (given-otherwise _ _ _ _ h .1) .1) in
+        (ap (λ (z : ℕ × ℕ). z .0) same, ap (λ (z : ℕ × ℕ). z .1) same)
 
-pub key-within : (bits : ℕ) (s : List ℕ) (k : ℕ) → keyField bits s ≡ given k → (2 ≤ k) × (k ≤ length s)
-unfolding keyField
-key-within bits s k e =
-    let w = on-given-given _ _ _ _ e in
-    let p = given-otherwise _ _ _ _ (w .second) in
-    let q = given-same (p .1) in
-    let h = laid-within noKey bits s (w .value) (w .first) in
-    (omega arith, omega arith)
+    pub key-other-type : 3 < type → refused KEY ≡ keyField bits s
+    unfolding keyField
+    key-other-type t =
+        ⊎-elim (λ g. on-given _ _ (g .0) _ _ (g .1) (sym (pick-true _ _ _ (lt-ltb 3 (g .0 .type) (omega (arith, laid-out noKey bits s (g .0) (g .1) .typed, header-octets .0))))))
+        (λ r. on-refused _ _ (r .0) _ _ (r .1) refl) (outcome (laidWith noKey bits s))
+
+    module _ (low : type ≤ 3) where
+      key-number : numberOf (laidWith noKey bits s) ≡ bodyFault bits type (part s 2 n)
+      key-number =
+          ap numberOf (laid-is noKey bits s ∙ ap (λ (o : Outcome (ℕ × ℕ)). andThen o (bodyLaid noKey bits s)) h ∙ and-given _ _) ∙ body-laid-number noKey bits s type n
+          ∙ ap numberOf (on-body type _ _ ∙ same ∙ sym (on-body type _ _)) ∙ sym (body-number bits type (part s 2 n))
+        where
+          same : pick (listed bodies type) (sizesOf (fieldSize noKey bits type) (bodyOf type) (part s 2 n)) (refused TYPE) ≡ pick (listed bodies type) (sizesOf (fieldSize (keyField bits) bits type) (bodyOf type) (part s 2 n)) (refused TYPE)
+          same =
+              tested (listed bodies type)
+              (λ l. ap (λ (o : Outcome (List ℕ)). pick (listed bodies type) o (refused TYPE)) (sizes-unkeyed noKey (keyField bits) bits type (bodyOf type) (part s 2 n) (rowOf type l .plain (λ four. omega (arith, four)) .0)))
+              (λ f. pick-false (listed bodies type) _ (refused TYPE) f ∙ sym (pick-false (listed bodies type) (sizesOf (fieldSize (keyField bits) bits type) (bodyOf type) (part s 2 n)) (refused TYPE) f))
+
+      module _ (body : List ℕ) (fault : ℕ) (b : body ≡ part s 2 n) (f : fault ≡ bodyFault bits type body) where
+        key-fault : fault ≡ numberOf (laidWith noKey bits s)
+        key-fault = f ∙ ap (bodyFault bits type) b ∙ sym key-number
+
+        pub key-refused : (fault ≡ DONE → ⊥) → refused KEY ≡ keyField bits s
+        unfolding keyField
+        key-refused faulty = on-refused _ _ fault _ _ (refused-of _ fault key-fault faulty) refl
+
+        pub key-typed : fault ≡ DONE → given (2 + n) ≡ keyField bits s
+        unfolding keyField
+        key-typed done =
+            let r = refuses-done _ (refuses-laid noKey refuses-no-key bits s) (sym key-fault ∙ done) in
+            let o = laid-out noKey bits s (r .0) (r .1) in
+            on-given _ _ (r .0) _ _ (r .1)
+            (sym (pick-false _ _ _ (le-ltb 3 (r .0 .type) (omega (arith, o .typed, header-octets .0))) ∙ ap (λ (k : ℕ). given (2 + k)) (o .sized ∙ header-octets .1)))

@@ -1,37 +1,52 @@
--- Octets that are exactly one key, by the number of a key that stands alone.
+-- What begins with a key, by the key and what follows it; and octets that are exactly one key.
 use mathlib.Core.Path.{_≡_, refl, sym, _∙_, ap}
 use mathlib.Core.Bool.{Bool, true, false}
-use mathlib.Core.List.{List}
-use Prim.Native.Nat.{ℕ, _-_, _≤_}
+use mathlib.Core.Logic.{⊎-elim}
+use mathlib.Core.List.{List, [], _∷_}
+use Prim.Native.Nat.{ℕ}
 use native.Mathlib.Omega.{arith}
 use borrow.Author.Tests.{eqb-true, eqb-false, eq-eqb, ne-eqb}
 use lib.ListN.{length}
 use lib.Dec.{eqb}
 use Rattle.octets.specs.Numbers.{DONE, LENGTH}
 use Rattle.octets.specs.Choice.{pick}
-use Rattle.octets.specs.Outcome.{Outcome, given, refused, onOutcome, andThen, numberOf}
-use Rattle.octets.proofs.Choice.{tested}
-use Rattle.octets.proofs.Outcome.{Refuses, number}
+use Rattle.octets.specs.Outcome.{given, refused}
+use Rattle.octets.proofs.Choice.{pick-true, pick-false, tested}
+use Rattle.octets.proofs.Outcome.{on-given, on-refused, outcome, refuses-by}
+use Rattle.nlri.specs.Bodies.{FieldKind, originator, key}
 use Rattle.nlri.specs.Reading.{keyField}
 use Rattle.nlri.specs.Writing.{isKey}
-use Rattle.nlri.specs.Inner.{layoutWith, nothingLast, keyEnd, keyed}
-use Rattle.nlri.proofs.Functions.Fronts.{key-within}
-use Rattle.nlri.proofs.Definitions.ReadNumbers.{ByReading, refuses-key}
+use Rattle.nlri.specs.Inner.{leftFault, keyedKinds}
+use Rattle.nlri.proofs.Definitions.Keys.{key-within}
+use Rattle.nlri.proofs.Definitions.ReadNumbers.{refuses-key}
+use Rattle.nlri.proofs.Functions.Ends.{left-keyed, left-unkeyed, left-none, left-some}
 
--- the number where nothing may remain
-by-number : {A : Type 0} (b : Bool) (a : A) → eqb (numberOf (pick b (given a) (refused LENGTH))) DONE ≡ b
-unfolding pick numberOf
-by-number true a = refl
-by-number false a = refl
+module _ (bits : ℕ) (alone : Bool) (s : List ℕ) where
+  pub keyed-none : (m : ℕ) → keyField bits s ≡ refused m → m ≡ leftFault bits 4 (keyedKinds alone) 0 s
+  unfolding keyedKinds
+  keyed-none m e = left-unkeyed bits 4 _ s m e
 
-left-none : (k n : ℕ) → k ≤ n → eqb (n - k) 0 ≡ eqb k n
-left-none k n h = tested (eqb k n) (λ t. eq-eqb (n - k) 0 (omega (arith, eqb-true)) ∙ sym t) (λ f. ne-eqb (n - k) 0 (λ q. eqb-false k n f (omega arith)) ∙ sym f)
+  module _ (r n : ℕ) (e : keyField bits s ≡ given n) where
+    keyed-by : (kinds : List FieldKind) → kinds ≡ pick alone [] (originator ∷ []) → r ≡ leftFault bits 4 kinds n s → r ≡ leftFault bits 4 (keyedKinds alone) 0 s
+    unfolding keyedKinds
+    keyed-by kinds k q = q ∙ left-keyed bits 4 kinds s n (key-within bits s n e .1) e ∙ ap (λ (rest : List FieldKind). leftFault bits 4 (key ∷ rest) 0 s) k
 
-pub key-alone : (bits : ℕ) (s : List ℕ) (n : ℕ) → n ≡ numberOf (keyed true bits s) → eqb n DONE ≡ isKey bits s
-unfolding keyed isKey andThen onOutcome keyEnd nothingLast layoutWith pick numberOf
-key-alone bits s n e = ap (λ (k : ℕ). eqb k DONE) e ∙ go (keyField bits s) (λ k. key-within bits s k) (refuses-key bits s)
+    pub keyed-alone : alone ≡ true → r ≡ leftFault bits 4 [] n s → r ≡ leftFault bits 4 (keyedKinds alone) 0 s
+    keyed-alone t = keyed-by [] (sym (pick-true _ _ _ t))
+
+    pub keyed-followed : alone ≡ false → r ≡ leftFault bits 4 (originator ∷ []) n s → r ≡ leftFault bits 4 (keyedKinds alone) 0 s
+    keyed-followed f = keyed-by (originator ∷ []) (sym (pick-false _ _ _ f))
+
+-- exactly one key
+pub key-alone : (bits : ℕ) (s : List ℕ) (n : ℕ) → n ≡ leftFault bits 4 (keyedKinds true) 0 s → eqb n DONE ≡ isKey bits s
+unfolding isKey
+key-alone bits s n e =
+    ⊎-elim
+    (λ g. on-given _ _ (g .0) _ _ (g .1) (tested (eqb (g .0) (length s))
+    (λ same. eq-eqb n DONE (e ∙ sym (keyed-alone bits true s DONE (g .0) (g .1) refl (left-none bits 4 (g .0) s (sym (eqb-true _ _ same))))) ∙ sym same)
+    (λ other. ne-eqb n DONE (λ done. longer (sym done ∙ e ∙ sym (keyed-alone bits true s LENGTH (g .0) (g .1) refl (left-some bits 4 (g .0) s (λ q. eqb-false _ _ other (sym q)))))) ∙ sym other)))
+    (λ r. on-refused _ _ (r .0) _ _ (r .1) (ne-eqb n DONE (λ done. let p = refuses-by _ (r .0) (refuses-key bits s) (r .1) in let q = keyed-none bits true s (r .0) (r .1) ∙ sym e ∙ done in omega arith)))
+    (outcome (keyField bits s))
   where
-    go : (o : Outcome ℕ) → ((k : ℕ) → o ≡ given k → (2 ≤ k) × (k ≤ length s)) → Refuses ByReading o
-        → eqb (numberOf (andThen o (λ size. keyEnd true (layoutWith 4 (length s) 0 0 (length s - size) size)))) DONE ≡ onOutcome (λ fault. false) (λ size. eqb size (length s)) o
-    go (given k) within u = by-number _ _ ∙ left-none k (length s) (within k refl .1)
-    go (refused m) within (number p) = ne-eqb m DONE (λ q. omega arith)
+    longer : DONE ≡ LENGTH → ⊥
+    longer q = omega arith

@@ -1,407 +1,294 @@
--- Where the fields of a single NLRI stand, row by row: each is the part of the NLRI that its layout says.
-use mathlib.Core.Path.{_≡_, refl, sym, _∙_, ap, ap₂, subst}
-use mathlib.Core.Bool.{Bool, true, false}
-use mathlib.Core.Logic.{_⊎_, inl, inr, ⊎-elim}
+-- Where the fields of an accepted NLRI stand, for every route type at once: each behind those before it in the order of kinds.
+use mathlib.Core.Path.{_≡_, refl, sym, _∙_, ap, ap₂}
+use mathlib.Core.Bool.{Bool, true, false, not}
+use mathlib.Core.Logic.{_⊎_, inl, inr}
 use mathlib.Core.List.{List, [], _∷_}
-use Prim.Native.Nat.{ℕ, zero, suc, _+_, _-_, _/_, _≤_}
+use Prim.Native.Nat.{ℕ, zero, suc, _+_, _-_, _/_, _≤_, _<_}
+use native.Mathlib.Nat.{add-zero}
 use native.Mathlib.Omega.{arith}
-use borrow.Author.Tests.{eqb-true}
+use borrow.Author.Tests.{eqb-true, eqb-false, eq-eqb, ne-eqb}
 use lib.ListN.{length, getD, take, drop, length-drop}
-use lib.Seq.{drop-drop, take-all, take-nil}
+use lib.Seq.{drop-drop, take-nil, getD-take, getD-drop}
 use lib.Dec.{eqb}
-use Rattle.octets.specs.Numbers.{TYPE}
 use Rattle.octets.specs.Choice.{pick, either, both}
-use Rattle.octets.specs.Outcome.{Outcome, given, refused, andThen}
+use Rattle.octets.specs.Outcome.{given}
 use Rattle.octets.specs.Octets.{part, numberIn}
-use Rattle.octets.proofs.Choice.{pick-true, pick-false, opposite, either-true, both-true-right}
-use Rattle.octets.proofs.Outcome.{never, given-otherwise, given-unless, passed, given-same}
-use Rattle.nlri.specs.Family.{allowed, isOriginatorSize}
-use Rattle.nlri.specs.Bodies.{FieldKind, distinguisher, sourceAs, source, group, originator, key, bodies, onBody, fieldIn, sameKind, codeOf}
-use Rattle.nlri.specs.Reading.{Laid, addressEnd, addressField, originatorField, fieldSize, sizesOf, laidWith, laidAt, laidSingle, keyField, cut, fieldsOf}
+use Rattle.octets.proofs.Choice.{pick-true, pick-false, tested, opposite}
+use Rattle.octets.proofs.Lists.{length-part}
+use Rattle.nlri.specs.Bodies.{FieldKind, distinguisher, sourceAs, source, group, originator, key, bodies, fieldIn, sameKind, codeOf, hasField}
+use Rattle.nlri.specs.Reading.{Laid, addressField, fixedField, fieldSize, laidAt, laidSingle, keyField, cut, fieldsOf}
 use Rattle.nlri.specs.Layouts.{layoutOf}
-use Rattle.nlri.proofs.Definitions.FieldRecords.{fields-same}
 use Rattle.nlri.specs.Inner.{withSourceAs, sourceStart, distinguisherAt, sourceAsAt, fieldsAt, LayoutWithin}
-use Rattle.nlri.proofs.Functions.Fronts.{laid-within, key-within}
-use Rattle.nlri.proofs.Definitions.Sizes.{fixed-is, address-within}
+use Rattle.nlri.proofs.Definitions.FieldRecords.{fields-same}
+use Rattle.nlri.proofs.Definitions.Sizes.{fixed-is, address-is, originator-given}
+use Rattle.nlri.proofs.Definitions.Lengths.{originator-sized}
+use Rattle.nlri.proofs.Definitions.Table.{order, every, every-row, known, lacks, most}
+use Rattle.nlri.proofs.Definitions.Judged.{field-within, field-most}
+use Rattle.nlri.proofs.Definitions.Starts.{before, sumOf, StandsAt, sizeIn, startIn, starts, body-stands, body-piece, body-all}
+use Rattle.nlri.proofs.Definitions.Whole.{LaidOut, laid-out, part-whole, single-laid-out}
+use Rattle.nlri.proofs.Definitions.Keys.{key-within, key-most}
 
--- the row of the table that gave a value, and its type
-pub choose : {A : Type 0} {C : Type 0} (b : Bool) (x y : Outcome A) (a : A) → pick b x y ≡ given a → (b ≡ true → x ≡ given a → C) → (b ≡ false → y ≡ given a → C) → C
-unfolding pick
-choose true x y a e f g = f refl e
-choose false x y a e f g = g refl e
+-- the types whose body has a source and a group
+unfoldable pub flows : ℕ → Bool
+flows type = not (either (eqb type 1) (either (eqb type 2) (eqb type 4)))
 
-each-row : {A : Type 0} (C : Type 0) (type n : ℕ) (next : List FieldKind → Outcome A) (a : A) → onBody bodies type (refused n) next ≡ given a
-    → (type ≡ 1 → next (distinguisher ∷ originator ∷ []) ≡ given a → C)
-    → (type ≡ 2 → next (distinguisher ∷ sourceAs ∷ []) ≡ given a → C)
-    → (type ≡ 3 → next (distinguisher ∷ source ∷ group ∷ originator ∷ []) ≡ given a → C)
-    → (type ≡ 4 → next (key ∷ originator ∷ []) ≡ given a → C)
-    → (type ≡ 5 → next (distinguisher ∷ source ∷ group ∷ []) ≡ given a → C)
-    → ((type ≡ 6) ⊎ (type ≡ 7) → next (distinguisher ∷ sourceAs ∷ source ∷ group ∷ []) ≡ given a → C)
-    → C
-unfolding onBody bodies
-each-row C type n next a e f₁ f₂ f₃ f₄ f₅ f₆ =
-    choose _ _ _ a e (λ t. f₁ (eqb-true _ _ t))
-    (λ _ e₂. choose _ _ _ a e₂ (λ t. f₂ (eqb-true _ _ t))
-    (λ _ e₃. choose _ _ _ a e₃ (λ t. f₃ (eqb-true _ _ t))
-    (λ _ e₄. choose _ _ _ a e₄ (λ t. f₄ (eqb-true _ _ t))
-    (λ _ e₅. choose _ _ _ a e₅ (λ t. f₅ (eqb-true _ _ t))
-    (λ _ e₆. choose _ _ _ a e₆ (λ t. f₆ (inl (eqb-true _ _ t)))
-    (λ _ e₇. choose _ _ _ a e₇ (λ t. f₆ (inr (eqb-true _ _ t))) (λ _ e₈. absurd (never e₈ refl))))))))
+-- the tests of a type by which the functions go say which kinds its body has
+agree : Bool → Bool → Bool
+agree a b = pick a b (not b)
 
--- the sizes of a body's fields, one at a time
-record First (size : FieldKind → List ℕ → Outcome ℕ) (k : FieldKind) (body : List FieldKind) (s sizes : List ℕ) : Type 0 where
-  here : ℕ
-  rest : List ℕ
-  taken : size k s ≡ given here
-  left : sizesOf size body (drop here s) ≡ given rest
-  all : here ∷ rest ≡ sizes
-
-first : (size : FieldKind → List ℕ → Outcome ℕ) (k : FieldKind) (body : List FieldKind) (s sizes : List ℕ) → sizesOf size (k ∷ body) s ≡ given sizes → First size k body s sizes
-unfolding sizesOf
-first size k body s sizes e =
-    let p = passed _ _ _ e in
-    let q = passed _ _ _ (p .second) in
-    record { here = p .value; rest = q .value; taken = p .first; left = q .first; all = given-same (q .second) }
-
-none : (size : FieldKind → List ℕ → Outcome ℕ) (s sizes : List ℕ) → sizesOf size [] s ≡ given sizes → (length s ≡ 0) × ([] ≡ sizes)
-unfolding sizesOf
-none size s sizes e = let p = given-unless _ _ _ _ e in (eqb-true _ _ (p .0), given-same (p .1))
-
-originator-is : (s : List ℕ) (n : ℕ) → originatorField s ≡ given n → (length s ≡ n) × (n ≤ 16)
-unfolding originatorField isOriginatorSize
-originator-is s n e = go (either-true _ _ (p .0))
-  where
-    p : (either (eqb (length s) 4) (eqb (length s) 16) ≡ true) × (given (length s) ≡ given n)
-    p = given-unless _ _ _ _ e
-
-    q : length s ≡ n
-    q = given-same (p .1)
-
-    go : (eqb (length s) 4 ≡ true) ⊎ (eqb (length s) 16 ≡ true) → (length s ≡ n) × (n ≤ 16)
-    go (inl t) = let h : length s ≡ 4 = eqb-true _ _ t in (q, omega (arith, q))
-    go (inr t) = let h : length s ≡ 16 = eqb-true _ _ t in (q, omega (arith, q))
-
--- an address has no more octets than the family's
-pub bits-most : (bits type octet : ℕ) → allowed bits type octet ≡ true → octet / 8 ≤ bits / 8
-unfolding allowed
-bits-most bits type octet e = go (either-true _ _ e)
-  where
-    go : (eqb octet bits ≡ true) ⊎ (both (eqb type 3) (eqb octet 0) ≡ true) → octet / 8 ≤ bits / 8
-    go (inl t) = let h : octet ≡ bits = eqb-true _ _ t in omega arith
-    go (inr t) = let h : octet ≡ 0 = eqb-true _ _ (both-true-right _ _ t) in omega arith
-
-address-most : (bits type : ℕ) (s : List ℕ) (n : ℕ) → addressField bits type s ≡ given n → n ≤ 1 + bits / 8
-unfolding addressField addressEnd
-address-most bits type s n e =
-    let p = given-unless _ _ _ _ (given-otherwise _ _ _ _ e .1) in
-    let q = given-same (given-otherwise _ _ _ _ (p .1) .1) in
-    let h = bits-most bits type (getD s 0 0) (p .0) in
-    omega arith
+agree-same : (a b : Bool) → agree a b ≡ true → a ≡ b
+unfolding agree pick
+agree-same true b e = sym e
+agree-same false true e = e
+agree-same false false e = refl
 
 -- parts of an NLRI
-drop-take : (a : ℕ) (x : List ℕ) → 1 ≤ a → drop 1 (take a x) ≡ take (a - 1) (drop 1 x)
-drop-take zero x h = absurd (no h)
-  where
-    no : 1 ≤ 0 → ⊥
-    no q = omega arith
-drop-take (suc m) [] h = sym (take-nil (suc m - 1))
-drop-take (suc m) (y ∷ ys) h = ap (λ (k : ℕ). take k ys) (sym (sub m))
+drop-take : (a : ℕ) (x : List ℕ) → drop 1 (take a x) ≡ take (a - 1) (drop 1 x)
+drop-take zero x = refl
+drop-take (suc m) [] = sym (take-nil (suc m - 1))
+drop-take (suc m) (y ∷ ys) = ap (λ (k : ℕ). take k ys) (sym (sub m))
   where
     sub : (n : ℕ) → suc n - 1 ≡ n
     sub n = omega arith
 
-address-part : (k a : ℕ) (s : List ℕ) → 1 ≤ a → drop 1 (take a (drop k s)) ≡ part s (k + 1) (a - 1)
+part-drop : (s : List ℕ) (k start size : ℕ) → part (drop k s) start size ≡ part s (k + start) size
 unfolding part
-address-part k a s h = drop-take a (drop k s) h ∙ ap (take (a - 1)) (drop-drop 1 k s)
+part-drop s k start size = ap (take size) (drop-drop start k s)
 
-part-at : (s : List ℕ) (start start′ size size′ : ℕ) → start ≡ start′ → size ≡ size′ → part s start size ≡ part s start′ size′
-part-at s start start′ size size′ p q = ap₂ (part s) p q
+address-part : (s : List ℕ) (start size : ℕ) → drop 1 (part s start size) ≡ part s (start + 1) (size - 1)
+unfolding part
+address-part s start size = drop-take size (drop start s) ∙ ap (take (size - 1)) (drop-drop 1 start s)
+
+module _ (bits : ℕ) (s : List ℕ) (laid : Laid) (e : laidAt bits s ≡ given laid) where
+  pub out : LaidOut (keyField bits) bits s laid
+  unfolding laidAt
+  out = laid-out (keyField bits) bits s laid e
+
+  abbrev z : FieldKind → ℕ
+  z k = sizeIn (laid .body) (laid .sizes) k
+
+  has-is : (k : FieldKind) (test : ℕ → Bool) → every (λ n body. agree (hasField k body) (test n)) bodies ≡ true → hasField k (laid .body) ≡ test (laid .type)
+  has-is k test e = rw (out .body) (agree-same _ _ (every-row _ e (laid .type) (known (laid .type) (out .row .low) (out .row .high))))
+
+  has-key : hasField key (laid .body) ≡ eqb (laid .type) 4
+  unfolding every bodies both agree pick hasField either sameKind codeOf
+  has-key = has-is key (λ n. eqb n 4) refl
+
+  has-distinguisher : hasField distinguisher (laid .body) ≡ not (eqb (laid .type) 4)
+  unfolding every bodies both agree pick hasField either sameKind codeOf
+  has-distinguisher = has-is distinguisher (λ n. not (eqb n 4)) refl
+
+  has-source-as : hasField sourceAs (laid .body) ≡ withSourceAs (laid .type)
+  unfolding every bodies both agree pick hasField either sameKind codeOf withSourceAs
+  has-source-as = has-is sourceAs withSourceAs refl
+
+  has-source : hasField source (laid .body) ≡ flows (laid .type)
+  unfolding every bodies both agree pick hasField either sameKind codeOf flows
+  has-source = has-is source flows refl
+
+  has-group : hasField group (laid .body) ≡ flows (laid .type)
+  unfolding every bodies both agree pick hasField either sameKind codeOf flows
+  has-group = has-is group flows refl
+
+  lacked : (k : FieldKind) (b : Bool) → hasField k (laid .body) ≡ b → b ≡ false → z k ≡ 0
+  lacked k b p q = lacks 0 k (laid .body) (laid .sizes) (p ∙ q)
+
+  length-body : length (part s 2 (laid .size)) ≡ laid .size
+  length-body = length-part s 2 (laid .size) (omega (arith, out .fits, out .enough))
+
+  -- the field of a kind is read at its start
+  pub kind-stands : (k : FieldKind) → hasField k (laid .body) ≡ true
+      → StandsAt (fieldSize (keyField bits) bits (laid .type)) (sizeIn (laid .body) (laid .sizes)) k (laid .body) (startIn (laid .body) (laid .sizes) k) (part s 2 (laid .size)) (laid .sizes)
+  kind-stands k h = body-stands _ (laid .body) (part s 2 (laid .size)) (laid .sizes) (rw (out .body) (out .row .distinct)) (rw (out .body) (out .row .ordered)) (rw (out .body) (out .sizes)) k h
+
+  pub kind-piece : (k : FieldKind) → fieldIn [] k (laid .body) (cut (laid .sizes) (part s 2 (laid .size))) ≡ part (part s 2 (laid .size)) (startIn (laid .body) (laid .sizes) k) (z k)
+  kind-piece k = body-piece (fieldSize (keyField bits) bits (laid .type)) (laid .body) (part s 2 (laid .size)) (laid .sizes) (rw (out .body) (out .row .distinct)) (rw (out .body) (out .row .ordered)) (rw (out .body) (out .sizes)) k
+
+  -- the fields take all of the body
+  pub total : z key + (z distinguisher + (z sourceAs + (z source + (z group + z originator)))) ≡ laid .size
+  unfolding sumOf order
+  total =
+      let all = body-all _ (laid .body) (part s 2 (laid .size)) (laid .sizes) (rw (out .body) (out .row .distinct)) (rw (out .body) (out .row .ordered)) (rw (out .body) (out .sizes))
+      (field-within (keyField bits) bits (λ y n q. key-within bits y n q .1) (laid .type)) in
+      omega (arith, length-body)
+
+  octet : (i : ℕ) → i < laid .size → getD (drop i (part s 2 (laid .size))) 0 0 ≡ getD s (2 + i) 0
+  unfolding part
+  octet i h = getD-drop i (take (laid .size) (drop 2 s)) 0 0 ∙ ap (λ (k : ℕ). getD (take (laid .size) (drop 2 s)) k 0) (add-zero i) ∙ getD-take (laid .size) (drop 2 s) i 0 h ∙ getD-drop 2 s i 0
+
+  -- a kind of field of a fixed size, and an address
+  fixed : (k : FieldKind) (n : ℕ) → ((y : List ℕ) → fieldSize (keyField bits) bits (laid .type) k y ≡ fixedField n y) → hasField k (laid .body) ≡ true → z k ≡ n
+  fixed k n is h = sym (fixed-is n (z k) _ (sym (is _) ∙ kind-stands k h .read) .0)
+
+  address : (k : FieldKind) (start : ℕ) → ((y : List ℕ) → fieldSize (keyField bits) bits (laid .type) k y ≡ addressField bits (laid .type) y) → startIn (laid .body) (laid .sizes) k ≡ start
+      → hasField k (laid .body) ≡ true → z k ≡ 1 + getD s (2 + start) 0 / 8
+  address k start is at h =
+      let r : addressField bits (laid .type) (drop start (part s 2 (laid .size))) ≡ given (z k) = rw (sym at) (sym (is _) ∙ kind-stands k h .read) in
+      let p = address-is bits (laid .type) _ (z k) r in
+      let l = length-drop start (part s 2 (laid .size)) in
+      let first : getD (drop start (part s 2 (laid .size))) 0 0 ≡ getD s (2 + start) 0 = octet start (omega (arith, p .0, p .1, length-body)) in
+      p .0 ∙ ap (λ (n : ℕ). 1 + n / 8) first
+
+  -- the most octets that a kind of field takes
+  pub kind-most : bits ≤ 128 → (k : FieldKind) → z k ≤ most 60 k
+  kind-most small k =
+      tested (hasField k (laid .body)) (λ yes. field-most (keyField bits) bits 60 (key-most bits small) small (laid .type) k _ (z k) (kind-stands k yes .read)) (λ no. omega (arith, lacked k false no refl))
+
+  pub originator-least : hasField originator (laid .body) ≡ true → 4 ≤ z originator
+  unfolding fieldSize
+  originator-least h = let p = originator-given _ _ (kind-stands originator h .read) in omega (arith, p .1, originator-sized _ (p .0))
+
+  -- a Leaf: a key and an originator
+  pub record LeafSizes : Type 0 where
+    pub rest : (z distinguisher ≡ 0) × (z sourceAs ≡ 0) × (z source ≡ 0) × (z group ≡ 0)
+    pub keyed : (z key ≡ 2 + getD s 3 0) × (2 ≤ z key)
+
+  pub leaf-sizes : laid .type ≡ 4 → LeafSizes
+  unfolding fieldSize sumOf before order sameKind codeOf pick withSourceAs flows either
+  leaf-sizes t =
+      let k = key-within bits _ (z key) (kind-stands key (has-key ∙ eq-eqb _ _ t) .read) in
+      let second : getD (part s 2 (laid .size)) 1 0 ≡ getD s 3 0 = sym (getD-drop 1 (part s 2 (laid .size)) 0 0) ∙ octet 1 (omega (arith, length-body, k .0, k .1)) in
+      record {
+        rest = (
+          lacked distinguisher _ has-distinguisher (ap (λ (n : ℕ). not (eqb n 4)) t),
+          lacked sourceAs _ has-source-as (ap withSourceAs t),
+          lacked source _ has-source (ap flows t),
+          lacked group _ has-group (ap flows t),
+        );
+        keyed = (k .2 ∙ ap (λ (n : ℕ). 2 + n) second, k .0);
+      }
+
+  -- any other NLRI begins with a route distinguisher
+  pub record OtherSizes : Type 0 where
+    pub unkeyed : z key ≡ 0
+    pub eight : z distinguisher ≡ 8
+    pub numbered : z sourceAs ≡ pick (withSourceAs (laid .type)) 4 0
+    pub start : sourceStart (laid .type) ≡ 3 + (z distinguisher + z sourceAs)
+
+  pub other-sizes : (laid .type ≡ 4 → ⊥) → OtherSizes
+  unfolding fieldSize sourceStart
+  other-sizes n =
+      let four : eqb (laid .type) 4 ≡ false = ne-eqb _ _ n in
+      let d : z distinguisher ≡ 8 = fixed distinguisher 8 (λ y. refl) (has-distinguisher ∙ ap not four) in
+      let a : (z sourceAs ≡ pick (withSourceAs (laid .type)) 4 0) × (pick (withSourceAs (laid .type)) 15 11 ≡ 3 + (z distinguisher + z sourceAs)) =
+      tested (withSourceAs (laid .type))
+      (λ yes. let h : z sourceAs ≡ 4 = fixed sourceAs 4 (λ y. refl) (has-source-as ∙ yes) in (h ∙ sym (pick-true _ _ _ yes), pick-true _ _ _ yes ∙ omega arith))
+      (λ no. let h : z sourceAs ≡ 0 = lacked sourceAs _ has-source-as no in (h ∙ sym (pick-false _ _ _ no), pick-false _ _ _ no ∙ omega arith)) in
+      record { unkeyed = lacked key _ has-key four; eight = d; numbered = a .0; start = a .1 }
+
+  -- a source and a group, each behind its length octet in bits
+  pub record FlowSizes : Type 0 where
+    pub first : z source ≡ 1 + getD s (sourceStart (laid .type) - 1) 0 / 8
+    pub second : z group ≡ 1 + getD s (sourceStart (laid .type) - 1 + z source) 0 / 8
+
+  pub flow-sizes : (laid .type ≡ 4 → ⊥) → flows (laid .type) ≡ true → FlowSizes
+  unfolding fieldSize
+  flow-sizes n f =
+      let st = starts (laid .body) (laid .sizes) in
+      let o = other-sizes n in
+      let at : 2 + (z distinguisher + z sourceAs) ≡ sourceStart (laid .type) - 1 = omega (arith, o .start) in
+      let next : 2 + (z distinguisher + z sourceAs + z source) ≡ sourceStart (laid .type) - 1 + z source = omega (arith, o .start) in
+      record {
+        first = rw at at (address source (z distinguisher + z sourceAs) (λ y. refl) (omega (arith, o .unkeyed)) (has-source ∙ f));
+        second = rw next at (address group (z distinguisher + z sourceAs + z source) (λ y. refl) (omega (arith, o .unkeyed)) (has-group ∙ f));
+      }
+
+  pub no-flow : flows (laid .type) ≡ false → (z source ≡ 0) × (z group ≡ 0)
+  no-flow f = (lacked source _ has-source f, lacked group _ has-group f)
 
 -- what a single NLRI's layout says of it
 pub record Shaped (laid : Laid) (s : List ℕ) : Type 0 where
   pub fields : fieldsOf laid s ≡ fieldsAt (layoutOf laid) s
   pub within : LayoutWithin (layoutOf laid) s
 
-starts : (type : ℕ) → withSourceAs type ≡ true → sourceStart type ≡ 15
-unfolding sourceStart
-starts type h = pick-true _ _ _ h
+module _ (bits : ℕ) (small : bits ≤ 128) (s : List ℕ) (laid : Laid) (e : laidAt bits s ≡ given laid) (whole : length s - 2 ≡ laid .size) where
+  abbrev w : FieldKind → ℕ
+  w k = sizeIn (laid .body) (laid .sizes) k
 
-laidRow : (type n : ℕ) → List FieldKind → List ℕ → Laid
-laidRow type n body sizes = record { type = type; size = n; body = body; sizes = sizes }
+  long : length s ≡ 2 + laid .size
+  long = let h = out bits s laid e .enough in omega arith
 
-module _ (bits n : ℕ) (s : List ℕ) (small : bits / 8 ≤ 16) (enough : 2 ≤ length s) where
-  l₁ : length (drop 2 s) ≡ length s - 2
-  l₁ = length-drop 2 s
+  abbrev start : FieldKind → ℕ
+  start k = startIn (laid .body) (laid .sizes) k
 
-  shaped-intra-as : (o : ℕ) → 8 ≤ length (drop 2 s) → length (drop 8 (drop 2 s)) ≡ o → o ≤ 16
-      → Shaped (laidRow 1 n (distinguisher ∷ originator ∷ []) (8 ∷ o ∷ [])) s
-  unfolding laidRow fieldsOf fieldsAt distinguisherAt sourceAsAt layoutOf cut fieldIn sameKind codeOf pick withSourceAs either sourceStart numberIn part
-  shaped-intra-as o h e m =
-      let l₂ = length-drop 8 (drop 2 s) in
+  all : w key + (w distinguisher + (w sourceAs + (w source + (w group + w originator)))) ≡ laid .size
+  all = total bits s laid e
+
+  -- each field is the part of the NLRI at its start; where a field takes nothing, any start will do
+  field : FieldKind → List ℕ
+  field k = fieldIn [] k (laid .body) (cut (laid .sizes) (drop 2 s))
+
+  piece : (k : FieldKind) → field k ≡ part s (2 + start k) (w k)
+  unfolding field
+  piece k = let rest : part s 2 (laid .size) ≡ drop 2 s = part-whole s (laid .size) whole in (rw rest at (kind-piece bits s laid e k)) ∙ part-drop s 2 _ _
+
+  no-piece : (k : FieldKind) → w k ≡ 0 → field k ≡ []
+  unfolding part
+  no-piece k q = piece k ∙ ap (part s (2 + start k)) q
+
+  address-at : (k : FieldKind) (at : ℕ) → (w k ≡ 0) ⊎ (3 + start k ≡ at) → drop 1 (field k) ≡ part s at (w k - 1)
+  unfolding part
+  address-at k at (inl q) = ap (drop 1) (no-piece k q) ∙ ap (λ (n : ℕ). part s at (n - 1)) (sym q)
+  address-at k at (inr p) = let next : 2 + start k + 1 ≡ at = omega arith in ap (drop 1) (piece k) ∙ address-part s (2 + start k) (w k) ∙ ap (λ (i : ℕ). part s i (w k - 1)) next
+
+  address-ends : (k : FieldKind) (at : ℕ) → start k + w k ≤ laid .size → (w k ≡ 0) ⊎ (3 + start k ≡ at) → 0 < w k - 1 → at + (w k - 1) ≤ length s
+  address-ends k at h (inl q) some = absurd (omega arith)
+  address-ends k at h (inr p) some = omega (arith, long)
+
+  -- by what the type says of its fields
+  shape : (w source ≡ 0) ⊎ (3 + start source ≡ sourceStart (laid .type))
+      → (w group ≡ 0) ⊎ (3 + start group ≡ sourceStart (laid .type) + (w source - 1) + 1)
+      → (field distinguisher ≡ distinguisherAt (laid .type) s) × ((laid .type ≡ 4 → ⊥) → 10 ≤ length s)
+      → (numberIn (field sourceAs) 0 ≡ sourceAsAt (laid .type) s) × (withSourceAs (laid .type) ≡ true → 14 ≤ length s) → Shaped laid s
+  unfolding fieldsOf fieldsAt layoutOf field most
+  shape a b d n =
+      let at = starts (laid .body) (laid .sizes) in
+      let first : 2 + start key ≡ 2 = omega arith in
+      let last : 2 + start originator ≡ length s - w originator = omega (arith, long, all) in
       record {
-        fields = fields-same refl refl refl refl refl
-            (ap (take o) (drop-drop 8 2 s) ∙ part-at s 10 (length s - o) o o (omega (arith, l₁)) refl) refl;
+        fields = fields-same refl (d .0) (n .0) (address-at source _ a) (address-at group _ b) (piece originator ∙ ap (λ (i : ℕ). part s i (w originator)) last)
+            (piece key ∙ ap (λ (i : ℕ). part s i (w key)) first);
         within = record {
-          typed = omega arith;
-          distinguished = λ _. omega (arith, l₁);
-          numbered = λ q. absurd (opposite {b = true} refl (sym q));
-          source = (omega arith, λ q. omega arith);
-          group = (omega arith, λ q. omega arith);
-          originator = (m, omega (arith, l₁));
-          key = omega arith;
+          typed = out bits s laid e .row .high;
+          distinguished = d .1;
+          numbered = n .1;
+          source = (omega (arith, kind-most bits s laid e small source), address-ends source _ (omega (arith, all)) a);
+          group = (omega (arith, kind-most bits s laid e small group), address-ends group _ (omega (arith, all)) b);
+          originator = (kind-most bits s laid e small originator, omega (arith, long, all));
+          key = omega (arith, long, all);
         };
       }
 
-  shaped-inter-as : 8 ≤ length (drop 2 s) → 4 ≤ length (drop 8 (drop 2 s)) → Shaped (laidRow 2 n (distinguisher ∷ sourceAs ∷ []) (8 ∷ 4 ∷ [])) s
-  unfolding laidRow fieldsOf fieldsAt distinguisherAt sourceAsAt layoutOf cut fieldIn sameKind codeOf pick withSourceAs either sourceStart part
-  shaped-inter-as h h₂ =
-      let l₂ = length-drop 8 (drop 2 s) in
-      record {
-        fields = fields-same refl refl (ap (λ (x : List ℕ). numberIn (take 4 x) 0) (drop-drop 8 2 s)) refl refl refl refl;
-        within = record {
-          typed = omega arith;
-          distinguished = λ _. omega (arith, l₁);
-          numbered = λ _. omega (arith, l₁);
-          source = (omega arith, λ q. omega arith);
-          group = (omega arith, λ q. omega arith);
-          originator = (omega arith, omega arith);
-          key = omega arith;
-        };
-      }
+  leaf-shaped : laid .type ≡ 4 → Shaped laid s
+  unfolding distinguisherAt sourceAsAt numberIn withSourceAs either
+  leaf-shaped t =
+      let l = leaf-sizes bits s laid e t in
+      shape (inl (l .rest .2)) (inl (l .rest .3))
+      (no-piece distinguisher (l .rest .0) ∙ sym (pick-true _ _ _ (eq-eqb _ _ t)), λ n. absurd (n t))
+      (ap (λ (x : List ℕ). numberIn x 0) (no-piece sourceAs (l .rest .1)) ∙ sym (pick-false _ _ _ (ap withSourceAs t)), λ n. absurd (opposite {b = true} refl (sym (ap withSourceAs (sym t) ∙ n))))
 
-  shaped-leaf : (k o : ℕ) → 2 ≤ k → k ≤ length (drop 2 s) → length (drop k (drop 2 s)) ≡ o → o ≤ 16
-      → Shaped (laidRow 4 n (key ∷ originator ∷ []) (k ∷ o ∷ [])) s
-  unfolding laidRow fieldsOf fieldsAt distinguisherAt sourceAsAt layoutOf cut fieldIn sameKind codeOf pick withSourceAs either sourceStart numberIn part
-  shaped-leaf k o h₁ h e m =
-      let l₂ = length-drop k (drop 2 s) in
-      record {
-        fields = fields-same refl refl refl refl refl
-            (ap (take o) (drop-drop k 2 s) ∙ part-at s (2 + k) (length s - o) o o (omega (arith, l₁)) refl) refl;
-        within = record {
-          typed = omega arith;
-          distinguished = λ q. absurd (q refl);
-          numbered = λ q. absurd (opposite {b = true} refl (sym q));
-          source = (omega arith, λ q. omega arith);
-          group = (omega arith, λ q. omega arith);
-          originator = (m, omega (arith, l₁));
-          key = omega (arith, l₁);
-        };
-      }
+  other-shaped : (laid .type ≡ 4 → ⊥) → Shaped laid s
+  unfolding distinguisherAt sourceAsAt numberIn
+  other-shaped t =
+      let at = starts (laid .body) (laid .sizes) in
+      let o = other-sizes bits s laid e t in
+      let flow : (w group ≡ 0) ⊎ (3 + start group ≡ sourceStart (laid .type) + (w source - 1) + 1) =
+      tested (flows (laid .type))
+      (λ yes. inr (omega (arith, o .unkeyed, o .start, flow-sizes bits s laid e t yes .first)))
+      (λ no. inl (no-flow bits s laid e no .1)) in
+      let number : (numberIn (field sourceAs) 0 ≡ pick (withSourceAs (laid .type)) (numberIn (part s 10 4) 0) 0) × (withSourceAs (laid .type) ≡ true → 14 ≤ length s) =
+      tested (withSourceAs (laid .type))
+      (λ yes.
+      let four : w sourceAs ≡ 4 = o .numbered ∙ pick-true _ _ _ yes in
+      let ten : 2 + start sourceAs ≡ 10 = omega (arith, o .unkeyed, o .eight) in
+      (ap (λ (x : List ℕ). numberIn x 0) (piece sourceAs ∙ ap₂ (part s) ten four) ∙ sym (pick-true _ _ _ yes), λ _. omega (arith, long, all, o .eight)))
+      (λ no. (ap (λ (x : List ℕ). numberIn x 0) (no-piece sourceAs (o .numbered ∙ pick-false _ _ _ no)) ∙ sym (pick-false _ _ _ no), λ yes. absurd (opposite yes no))) in
+      let two : 2 + start distinguisher ≡ 2 = omega (arith, o .unkeyed) in
+      shape (inr (omega (arith, o .unkeyed, o .start))) flow
+      (piece distinguisher ∙ ap₂ (part s) two (o .eight) ∙ sym (pick-false _ _ _ (ne-eqb _ _ t)), λ _. omega (arith, long, all, o .eight))
+      number
 
-  module _ (a b : ℕ) (ha : 1 ≤ a) (hb : 1 ≤ b) (ma : a ≤ 17) (mb : b ≤ 17) where
-    shaped-s-pmsi : (o : ℕ) → 8 + a + b ≤ length (drop 2 s) → length (drop b (drop a (drop 8 (drop 2 s)))) ≡ o → o ≤ 16
-        → Shaped (laidRow 3 n (distinguisher ∷ source ∷ group ∷ originator ∷ []) (8 ∷ a ∷ b ∷ o ∷ [])) s
-    unfolding laidRow fieldsOf fieldsAt distinguisherAt sourceAsAt layoutOf cut fieldIn sameKind codeOf pick withSourceAs either sourceStart numberIn part
-    shaped-s-pmsi o h e m =
-        let l₂ : length (drop b (drop a (drop 8 (drop 2 s)))) ≡ length s - 2 - 8 - a - b = simp length-drop in
-        let d : drop a (drop 8 (drop 2 s)) ≡ drop (10 + a) s = ap (drop a) (drop-drop 8 2 s) ∙ drop-drop a 10 s in
-        record {
-          fields = fields-same refl refl refl
-              (ap (λ (x : List ℕ). drop 1 (take a x)) (drop-drop 8 2 s) ∙ address-part 10 a s ha)
-              (ap (λ (x : List ℕ). drop 1 (take b x)) d ∙ address-part (10 + a) b s hb ∙ part-at s (10 + a + 1) (11 + (a - 1) + 1) (b - 1) (b - 1) (omega arith) refl)
-              (ap (λ (x : List ℕ). take o (drop b x)) d ∙ ap (take o) (drop-drop b (10 + a) s) ∙ part-at s (10 + a + b) (length s - o) o o (omega (arith, l₁)) refl)
-              refl;
-          within = record {
-            typed = omega arith;
-            distinguished = λ _. omega (arith, l₁);
-            numbered = λ q. absurd (opposite {b = true} refl (sym q));
-            source = (omega arith, λ _. omega (arith, l₁));
-            group = (omega arith, λ _. omega (arith, l₁));
-            originator = (m, omega (arith, l₁));
-            key = omega arith;
-          };
-        }
-
-    shaped-source-active : 8 + a + b ≤ length (drop 2 s) → Shaped (laidRow 5 n (distinguisher ∷ source ∷ group ∷ []) (8 ∷ a ∷ b ∷ [])) s
-    unfolding laidRow fieldsOf fieldsAt distinguisherAt sourceAsAt layoutOf cut fieldIn sameKind codeOf pick withSourceAs either sourceStart numberIn part
-    shaped-source-active h =
-        let d : drop a (drop 8 (drop 2 s)) ≡ drop (10 + a) s = ap (drop a) (drop-drop 8 2 s) ∙ drop-drop a 10 s in
-        record {
-          fields = fields-same refl refl refl
-              (ap (λ (x : List ℕ). drop 1 (take a x)) (drop-drop 8 2 s) ∙ address-part 10 a s ha)
-              (ap (λ (x : List ℕ). drop 1 (take b x)) d ∙ address-part (10 + a) b s hb ∙ part-at s (10 + a + 1) (11 + (a - 1) + 1) (b - 1) (b - 1) (omega arith) refl)
-              refl refl;
-          within = record {
-            typed = omega arith;
-            distinguished = λ _. omega (arith, l₁);
-            numbered = λ q. absurd (opposite {b = true} refl (sym q));
-            source = (omega arith, λ _. omega (arith, l₁));
-            group = (omega arith, λ _. omega (arith, l₁));
-            originator = (omega arith, omega arith);
-            key = omega arith;
-          };
-        }
-
-    shaped-join : (type : ℕ) → type ≤ 7 → withSourceAs type ≡ true → eqb type 4 ≡ false → 12 + a + b ≤ length (drop 2 s)
-        → Shaped (laidRow type n (distinguisher ∷ sourceAs ∷ source ∷ group ∷ []) (8 ∷ 4 ∷ a ∷ b ∷ [])) s
-    unfolding laidRow fieldsOf fieldsAt distinguisherAt sourceAsAt layoutOf cut fieldIn sameKind codeOf pick numberIn part
-    shaped-join type low joined other h =
-        let d₂ : drop 4 (drop 8 (drop 2 s)) ≡ drop 14 s = ap (drop 4) (drop-drop 8 2 s) ∙ drop-drop 4 10 s in
-        let d : drop a (drop 4 (drop 8 (drop 2 s))) ≡ drop (14 + a) s = ap (drop a) d₂ ∙ drop-drop a 14 s in
-        let at : sourceStart type ≡ 15 = starts type joined in
-        record {
-          fields = fields-same refl (sym (pick-false (eqb type 4) [] (part s 2 8) other))
-              (ap (λ (x : List ℕ). numberIn (take 4 x) 0) (drop-drop 8 2 s) ∙ sym (pick-true (withSourceAs type) (numberIn (part s 10 4) 0) 0 joined))
-              (ap (λ (x : List ℕ). drop 1 (take a x)) d₂ ∙ address-part 14 a s ha ∙ part-at s 15 (sourceStart type) (a - 1) (a - 1) (sym at) refl)
-              (ap (λ (x : List ℕ). drop 1 (take b x)) d ∙ address-part (14 + a) b s hb ∙ part-at s (14 + a + 1) (sourceStart type + (a - 1) + 1) (b - 1) (b - 1) (omega (arith, at)) refl)
-              refl refl;
-          within = record {
-            typed = low;
-            distinguished = λ _. omega (arith, l₁);
-            numbered = λ _. omega (arith, l₁);
-            source = (omega arith, λ _. omega (arith, l₁, at));
-            group = (omega arith, λ _. omega (arith, l₁, at));
-            originator = (omega arith, omega arith);
-            key = omega arith;
-          };
-        }
-
-  -- each row from the sizes that its fields came to
-  module _ (kf : List ℕ → Outcome ℕ) where
-    row-intra-as : (sizes : List ℕ) → sizesOf (fieldSize kf bits 1) (distinguisher ∷ originator ∷ []) (drop 2 s) ≡ given sizes → Shaped (laidRow 1 n (distinguisher ∷ originator ∷ []) sizes) s
-    unfolding fieldSize
-    row-intra-as sizes e =
-        let d = first _ _ _ _ _ e in
-        let fd = fixed-is 8 (d .here) _ (d .taken) in
-        let o = first _ _ _ _ _ (d .left) in
-        let fo = originator-is _ (o .here) (o .taken) in
-        let end = none _ _ _ (o .left) in
-        let all : 8 ∷ o .here ∷ [] ≡ sizes = ap₂ (λ (x : ℕ) (y : List ℕ). x ∷ y) (fd .0) (ap (λ (y : List ℕ). o .here ∷ y) (end .1) ∙ o .all) ∙ d .all in
-        subst (λ (z : List ℕ). Shaped (laidRow 1 n (distinguisher ∷ originator ∷ []) z) s) all
-        (shaped-intra-as (o .here) (fd .1) (ap (λ (k : ℕ). length (drop k (drop 2 s))) (fd .0) ∙ fo .0) (fo .1))
-
-    row-inter-as : (sizes : List ℕ) → sizesOf (fieldSize kf bits 2) (distinguisher ∷ sourceAs ∷ []) (drop 2 s) ≡ given sizes → Shaped (laidRow 2 n (distinguisher ∷ sourceAs ∷ []) sizes) s
-    unfolding fieldSize
-    row-inter-as sizes e =
-        let d = first _ _ _ _ _ e in
-        let fd = fixed-is 8 (d .here) _ (d .taken) in
-        let q = first _ _ _ _ _ (d .left) in
-        let fq = fixed-is 4 (q .here) _ (q .taken) in
-        let end = none _ _ _ (q .left) in
-        let all : 8 ∷ 4 ∷ [] ≡ sizes = ap₂ (λ (x : ℕ) (y : List ℕ). x ∷ y) (fd .0) (ap₂ (λ (x : ℕ) (y : List ℕ). x ∷ y) (fq .0) (end .1) ∙ q .all) ∙ d .all in
-        subst (λ (z : List ℕ). Shaped (laidRow 2 n (distinguisher ∷ sourceAs ∷ []) z) s) all
-        (shaped-inter-as (fd .1) (subst (λ (k : ℕ). 4 ≤ length (drop k (drop 2 s))) (sym (fd .0)) (fq .1)))
-
-    row-leaf : ((x : List ℕ) (k : ℕ) → kf x ≡ given k → (2 ≤ k) × (k ≤ length x)) → (sizes : List ℕ) → sizesOf (fieldSize kf bits 4) (key ∷ originator ∷ []) (drop 2 s) ≡ given sizes → Shaped (laidRow 4 n (key ∷ originator ∷ []) sizes) s
-    unfolding fieldSize
-    row-leaf bounds sizes e =
-        let k = first _ _ _ _ _ e in
-        let fk = bounds _ (k .here) (k .taken) in
-        let o = first _ _ _ _ _ (k .left) in
-        let fo = originator-is _ (o .here) (o .taken) in
-        let end = none _ _ _ (o .left) in
-        let all : k .here ∷ o .here ∷ [] ≡ sizes = ap (λ (y : List ℕ). k .here ∷ y) (ap (λ (y : List ℕ). o .here ∷ y) (end .1) ∙ o .all) ∙ k .all in
-        subst (λ (z : List ℕ). Shaped (laidRow 4 n (key ∷ originator ∷ []) z) s) all
-        (shaped-leaf (k .here) (o .here) (fk .0) (fk .1) (fo .0) (fo .1))
-
-    -- a source and a group: their sizes within what stood there
-    record Flowed (type : ℕ) (body : List FieldKind) (x sizes : List ℕ) : Type 0 where
-      a : ℕ
-      b : ℕ
-      rest : List ℕ
-      low : (1 ≤ a) × (1 ≤ b)
-      most : (a ≤ 17) × (b ≤ 17)
-      within : a + b ≤ length x
-      left : sizesOf (fieldSize kf bits type) body (drop b (drop a x)) ≡ given rest
-      all : a ∷ b ∷ rest ≡ sizes
-
-    flowed : (type : ℕ) (body : List FieldKind) (x sizes : List ℕ) → sizesOf (fieldSize kf bits type) (source ∷ group ∷ body) x ≡ given sizes → Flowed type body x sizes
-    unfolding fieldSize
-    flowed type body x sizes e =
-        let p = first _ _ _ _ _ e in
-        let q = first _ _ _ _ _ (p .left) in
-        let wp = address-within bits type x (p .here) (p .taken) in
-        let wq = address-within bits type (drop (p .here) x) (q .here) (q .taken) in
-        let mp = address-most bits type x (p .here) (p .taken) in
-        let mq = address-most bits type (drop (p .here) x) (q .here) (q .taken) in
-        let l = length-drop (p .here) x in
-        record {
-          a = p .here;
-          b = q .here;
-          rest = q .rest;
-          low = (wp .0, wq .0);
-          most = (omega (arith, small), omega (arith, small));
-          within = omega arith;
-          left = q .left;
-          all = ap (λ (y : List ℕ). p .here ∷ y) (q .all) ∙ p .all;
-        }
-
-    row-s-pmsi : (sizes : List ℕ) → sizesOf (fieldSize kf bits 3) (distinguisher ∷ source ∷ group ∷ originator ∷ []) (drop 2 s) ≡ given sizes → Shaped (laidRow 3 n (distinguisher ∷ source ∷ group ∷ originator ∷ []) sizes) s
-    unfolding fieldSize
-    row-s-pmsi sizes e =
-        let d = first _ _ _ _ _ e in
-        let fd = fixed-is 8 (d .here) _ (d .taken) in
-        let f = flowed 3 _ _ _ (d .left) in
-        let o = first _ _ _ _ _ (f .left) in
-        let fo = originator-is _ (o .here) (o .taken) in
-        let end = none _ _ _ (o .left) in
-        let l = length-drop (d .here) (drop 2 s) in
-        let all : 8 ∷ f .a ∷ f .b ∷ o .here ∷ [] ≡ sizes = ap₂ (λ (x : ℕ) (y : List ℕ). x ∷ y) (fd .0) (ap (λ (y : List ℕ). f .a ∷ f .b ∷ y) (ap (λ (y : List ℕ). o .here ∷ y) (end .1) ∙ o .all) ∙ f .all) ∙ d .all in
-        subst (λ (z : List ℕ). Shaped (laidRow 3 n (distinguisher ∷ source ∷ group ∷ originator ∷ []) z) s) all
-        (shaped-s-pmsi (f .a) (f .b) (f .low .0) (f .low .1) (f .most .0) (f .most .1) (o .here) (omega (arith, fd .0, fd .1, f .within))
-        (ap (λ (k : ℕ). length (drop (f .b) (drop (f .a) (drop k (drop 2 s))))) (fd .0) ∙ fo .0) (fo .1))
-
-    row-source-active : (sizes : List ℕ) → sizesOf (fieldSize kf bits 5) (distinguisher ∷ source ∷ group ∷ []) (drop 2 s) ≡ given sizes → Shaped (laidRow 5 n (distinguisher ∷ source ∷ group ∷ []) sizes) s
-    unfolding fieldSize
-    row-source-active sizes e =
-        let d = first _ _ _ _ _ e in
-        let fd = fixed-is 8 (d .here) _ (d .taken) in
-        let f = flowed 5 _ _ _ (d .left) in
-        let end = none _ _ _ (f .left) in
-        let l = length-drop (d .here) (drop 2 s) in
-        let all : 8 ∷ f .a ∷ f .b ∷ [] ≡ sizes = ap₂ (λ (x : ℕ) (y : List ℕ). x ∷ y) (fd .0) (ap (λ (y : List ℕ). f .a ∷ f .b ∷ y) (end .1) ∙ f .all) ∙ d .all in
-        subst (λ (z : List ℕ). Shaped (laidRow 5 n (distinguisher ∷ source ∷ group ∷ []) z) s) all
-        (shaped-source-active (f .a) (f .b) (f .low .0) (f .low .1) (f .most .0) (f .most .1) (omega (arith, fd .0, fd .1, f .within)))
-
-    row-join : (type : ℕ) → type ≤ 7 → withSourceAs type ≡ true → eqb type 4 ≡ false → (sizes : List ℕ)
-        → sizesOf (fieldSize kf bits type) (distinguisher ∷ sourceAs ∷ source ∷ group ∷ []) (drop 2 s) ≡ given sizes
-        → Shaped (laidRow type n (distinguisher ∷ sourceAs ∷ source ∷ group ∷ []) sizes) s
-    unfolding fieldSize
-    row-join type low joined other sizes e =
-        let d = first _ _ _ _ _ e in
-        let fd = fixed-is 8 (d .here) _ (d .taken) in
-        let q = first _ _ _ _ _ (d .left) in
-        let fq = fixed-is 4 (q .here) _ (q .taken) in
-        let f = flowed type _ _ _ (q .left) in
-        let end = none _ _ _ (f .left) in
-        let l = length-drop (d .here) (drop 2 s) in
-        let l₂ = length-drop (q .here) (drop (d .here) (drop 2 s)) in
-        let all : 8 ∷ 4 ∷ f .a ∷ f .b ∷ [] ≡ sizes = ap₂ (λ (x : ℕ) (y : List ℕ). x ∷ y) (fd .0) (ap₂ (λ (x : ℕ) (y : List ℕ). x ∷ y) (fq .0) (ap (λ (y : List ℕ). f .a ∷ f .b ∷ y) (end .1) ∙ f .all) ∙ q .all) ∙ d .all in
-        subst (λ (z : List ℕ). Shaped (laidRow type n (distinguisher ∷ sourceAs ∷ source ∷ group ∷ []) z) s) all
-        (shaped-join (f .a) (f .b) (f .low .0) (f .low .1) (f .most .0) (f .most .1) type low joined other (omega (arith, fd .0, fd .1, fq .0, fq .1, f .within)))
-
-pub part-whole : (s : List ℕ) (n : ℕ) → length s - 2 ≡ n → part s 2 n ≡ drop 2 s
-unfolding part
-part-whole s n e = take-all n (drop 2 s) (rw length-drop (omega arith))
-
-module _ (bits : ℕ) (s : List ℕ) (laid : Laid) (n : length s - 2 ≡ getD s 1 0) where
-  -- a row's shape, for the type and the octets that were read
-  by-row : (type : ℕ) (body : List FieldKind) → getD s 0 0 ≡ type
-      → andThen (sizesOf (fieldSize (keyField bits) bits (getD s 0 0)) body (part s 2 (getD s 1 0))) (λ sizes. given (laidRow (getD s 0 0) (getD s 1 0) body sizes)) ≡ given laid
-      → ((sizes : List ℕ) → sizesOf (fieldSize (keyField bits) bits type) body (drop 2 s) ≡ given sizes → Shaped (laidRow type (getD s 1 0) body sizes) s) → Shaped laid s
-  by-row type body t r shape =
-      let p = passed _ _ _ r in
-      let sizes : sizesOf (fieldSize (keyField bits) bits type) body (drop 2 s) ≡ given (p .value) =
-      ap₂ (λ (k : ℕ) (x : List ℕ). sizesOf (fieldSize (keyField bits) bits k) body x) (sym t) (sym (part-whole s (getD s 1 0) n)) ∙ p .first in
-      let same : laidRow type (getD s 1 0) body (p .value) ≡ laid = ap (λ (k : ℕ). laidRow k (getD s 1 0) body (p .value)) (sym t) ∙ given-same (p .second) in
-      subst (λ (x : Laid). Shaped x s) same (shape (p .value) sizes)
-
-pub shaped : (bits : ℕ) (s : List ℕ) (laid : Laid) → bits / 8 ≤ 16 → laidSingle bits s ≡ given laid → Shaped laid s
-unfolding laidSingle laidAt laidWith laidRow withSourceAs either
+pub shaped : (bits : ℕ) (s : List ℕ) (laid : Laid) → bits ≤ 128 → laidSingle bits s ≡ given laid → Shaped laid s
 shaped bits s laid small e =
-    let w = passed _ _ _ e in
-    let single = given-unless _ _ _ _ (w .second) in
-    let same : w .value ≡ laid = given-same (single .1) in
-    let facts = laid-within (keyField bits) bits s (w .value) (w .first) in
-    let n : length s - 2 ≡ getD s 1 0 = eqb-true _ _ (single .0) ∙ facts .3 in
-    let rows = given-otherwise _ _ _ _ (given-otherwise _ _ _ _ (w .first) .1) .1 in
-    subst (λ (x : Laid). Shaped x s) same
-    (each-row (Shaped (w .value) s) (getD s 0 0) TYPE _ (w .value) rows
-    (λ t r. by-row bits s (w .value) n 1 _ t r (row-intra-as bits (getD s 1 0) s small (facts .0) (keyField bits)))
-    (λ t r. by-row bits s (w .value) n 2 _ t r (row-inter-as bits (getD s 1 0) s small (facts .0) (keyField bits)))
-    (λ t r. by-row bits s (w .value) n 3 _ t r (row-s-pmsi bits (getD s 1 0) s small (facts .0) (keyField bits)))
-    (λ t r. by-row bits s (w .value) n 4 _ t r (row-leaf bits (getD s 1 0) s small (facts .0) (keyField bits) (key-within bits)))
-    (λ t r. by-row bits s (w .value) n 5 _ t r (row-source-active bits (getD s 1 0) s small (facts .0) (keyField bits)))
-    (λ t r. ⊎-elim
-    (λ q. by-row bits s (w .value) n 6 _ q r (row-join bits (getD s 1 0) s small (facts .0) (keyField bits) 6 (omega arith) refl refl))
-    (λ q. by-row bits s (w .value) n 7 _ q r (row-join bits (getD s 1 0) s small (facts .0) (keyField bits) 7 (omega arith) refl refl)) t))
+    let o = single-laid-out bits s laid e in
+    tested (eqb (laid .type) 4) (λ yes. leaf-shaped bits small s laid (o .front) (o .all) (eqb-true _ _ yes)) (λ no. other-shaped bits small s laid (o .front) (o .all) (eqb-false _ _ no))

@@ -1,10 +1,9 @@
 -- A single NLRI: its layout, and its fields by its layout.
 use mathlib.Core.Path.{_≡_, sym, _∙_, ap, ap₂, subst}
-use mathlib.Core.Bool.{Bool, true, false}
+use mathlib.Core.Bool.{true}
 use mathlib.Core.List.{List}
-use Prim.Native.Nat.{ℕ, _+_, _≤_}
-use native.Mathlib.Omega.{arith}
-use lib.ListN.{length}
+use Prim.Native.Nat.{ℕ, _+_, _-_, _≤_}
+use lib.ListN.{length, getD}
 use lib.Dec.{eqb}
 use Rattle.octets.specs.Numbers.{DONE}
 use Rattle.octets.specs.Choice.{pick}
@@ -17,14 +16,17 @@ use Rattle.nlri.specs.declared.address.RouteDistinguisher.{RouteDistingu
 use Rattle.nlri.specs.declared.fields.Nlri.{Nlri}
 use Rattle.nlri.specs.declared.fields.NlriReading.{NlriReading}
 use Rattle.nlri.specs.Family.{familyBits}
+use Rattle.nlri.specs.Bodies.{originator, bodyOf, hasField}
 use Rattle.nlri.specs.Fields.{Fields}
-use Rattle.nlri.specs.Reading.{laidSingle, fieldsOf, readNlri}
+use Rattle.nlri.specs.Reading.{Laid, laidSingle, fieldsOf, readNlri}
 use Rattle.nlri.specs.Layouts.{layoutOf, layoutAt, layoutSingle}
 use Rattle.nlri.specs.Answers.{nlriStruct, keySpan, nlriAnswer}
-use Rattle.nlri.specs.Inner.{withSourceAs, sourceStart, fieldsAt, keyAt, LayoutWithin, endsWith, single}
+use Rattle.nlri.specs.Inner.{layoutIn, Stands, fieldsAt, keyAt, LayoutWithin, endsWith, single}
 use Rattle.nlri.proofs.Definitions.Lengths.{family-octets}
 use Rattle.octets.proofs.Lists.{length-part}
-use Rattle.nlri.proofs.Functions.Shapes.{shaped}
+use Rattle.nlri.proofs.Functions.Shapes.{shaped, originator-least}
+use Rattle.nlri.proofs.Functions.Standing.{stands, laid-as}
+use Rattle.nlri.proofs.Definitions.Whole.{single-laid-out}
 
 pub single-laid : (bits : ℕ) (s : List ℕ) → single bits s ≡ andThen (laidSingle bits s) (λ laid. given (layoutOf laid))
 unfolding single endsWith layoutAt laidSingle layoutOf
@@ -43,7 +45,7 @@ module _ (afi : ℕ) (s : List ℕ) where
       let f = passed _ _ _ e in
       let w = passed _ _ _ (f .second) in
       let same : layoutOf (w .value) ≡ l = given-same (w .second) in
-      let shape = shaped (f .value) s (w .value) (omega (arith, family-octets afi (f .value) (f .first))) (w .first) in (
+      let shape = shaped (f .value) s (w .value) (family-octets afi (f .value) (f .first) .1) (w .first) in (
         sym (goes (given (fieldsAt l s)) _ (f .value) _ (f .first) (goes (given (fieldsAt l s)) _ (w .value) _ (w .first) (ap given (ap (λ (x : Layout). fieldsAt x s) (sym same) ∙ sym (shape .fields))))),
         subst (λ (x : Layout). LayoutWithin x s) same (shape .within),
       )
@@ -52,14 +54,32 @@ module _ (afi : ℕ) (s : List ℕ) where
   unfolding layoutSingle readNlri
   read-refused n e = refused-alike (familyBits afi) (λ bits. laidSingle bits s) (λ bits laid. layoutOf laid) (λ bits laid. fieldsOf laid s) n e
 
-most : (b : Bool) → pick b 15 11 ≤ 15
-unfolding pick
-most true = omega arith
-most false = omega arith
+-- what is read of a single NLRI, by the octets where its fields stand
+pub record ReadAt (s : List ℕ) (f : Fields) : Type 0 where
+  pub fields : fieldsAt (layoutIn s) s ≡ f
+  pub typed : getD s 0 0 ≡ f .type
+  pub long : (2 ≤ length s) × (length s - 2 ≡ getD s 1 0)
+  pub stands : Stands s
+  pub originator : hasField originator (bodyOf (f .type)) ≡ true → 4 ≤ layoutIn s .originator
 
-pub start-most : (type : ℕ) → sourceStart type ≤ 15
-unfolding sourceStart
-start-most type = most (withSourceAs type)
+pub read-at : (afi : ℕ) (s : List ℕ) (f : Fields) → readNlri afi s ≡ given f → ReadAt s f
+unfolding readNlri fieldsOf layoutOf
+read-at afi s f e =
+    let p = passed _ _ _ e in
+    let q = passed _ _ _ (p .second) in
+    let bits : ℕ = p .value in
+    let laid : Laid = q .value in
+    let o = single-laid-out bits s laid (q .first) in
+    let same : fieldsOf laid s ≡ f = given-same (q .second) in
+    let type : laid .type ≡ f .type = ap (λ (x : Fields). x .type) same in
+    let layout = laid-as bits s laid (o .front) in
+    record {
+      fields = ap (λ (l : Layout). fieldsAt l s) (sym layout) ∙ sym (shaped bits s laid (family-octets afi bits (p .first) .1) (q .first) .fields) ∙ same;
+      typed = sym (o .out .typed) ∙ type;
+      long = (o .out .enough, o .all ∙ o .out .sized);
+      stands = stands bits s laid (o .front);
+      originator = λ h. rw (sym layout) (originator-least bits s laid (o .front) (ap (hasField originator) (o .out .body ∙ ap bodyOf type) ∙ h));
+    }
 
 -- a struct by its fields
 pub nlri-same : (d d′ : RouteDistinguisher) (a a′ g g′ o o′ : Address) (x x′ t t′ : ℕ) → d ≡ d′ → a ≡ a′ → g ≡ g′ → o ≡ o′ → x ≡ x′ → t ≡ t′

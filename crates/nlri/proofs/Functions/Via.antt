@@ -4,7 +4,7 @@ use mathlib.Core.Bool.{Bool, true, false, not}
 use Prim.Native.Nat.{ℕ}
 use borrow.Author.Tests.{not-true, not-false}
 use Rattle.octets.specs.Numbers.{DONE}
-use Rattle.octets.specs.Outcome.{Outcome, given, refused, onOutcome, andThen, numberOf}
+use Rattle.octets.specs.Outcome.{Outcome, given, refused, onOutcome, numberOf}
 use Rattle.octets.proofs.Outcome.{goes, stops, on-given, on-refused}
 use Rattle.octets.proofs.Tests.{tests, flags}
 use Rattle.nlri.specs.declared.layout.Layout.{Layout}
@@ -20,54 +20,29 @@ use Rattle.nlri.specs.Groups.{groupOf}
 use Rattle.nlri.specs.Layouts.{readingOf}
 use Rattle.nlri.specs.Inner.{familyOutcome, headerOutcome}
 
--- the case of an answer, as the definition's outcome
+-- the case of an answer, as the definition's outcome: for any enum, by the function from the enum
+told : {E A : Type 0} (f : E → A) (e : E) {r : E} {o : A} → f r ≡ o → r ≡ e → o ≡ f e
+told f e p q = sym p ∙ ap f q
+
 pub known-given : (r : Family) (o : Outcome ℕ) (kind : AddressKind) → familyOutcome r ≡ o → r ≡ Known kind → o ≡ given (kind .bits)
-unfolding familyOutcome
-known-given r o kind p q = sym p ∙ ap familyOutcome q
+known-given r o kind p q = told familyOutcome (Known kind) p q
 
 pub unknown-given : (r : Family) (o : Outcome ℕ) (n : ℕ) → familyOutcome r ≡ o → r ≡ Unknown n → o ≡ refused n
-unfolding familyOutcome
-unknown-given r o n p q = sym p ∙ ap familyOutcome q
+unknown-given r o n p q = told familyOutcome (Unknown n) p q
 
 pub typed-given : (r : Header) (o : Outcome (ℕ × ℕ)) (a b : ℕ) → headerOutcome r ≡ o → r ≡ Typed a b → o ≡ given (a, b)
-unfolding headerOutcome
-typed-given r o a b p q = sym p ∙ ap headerOutcome q
-
-pub known-goes : {B : Type 0} (t : Outcome B) (r : Family) (o : Outcome ℕ) (kind : AddressKind) (next : ℕ → Outcome B) → familyOutcome r ≡ o → r ≡ Known kind → t ≡ next (kind .bits) → t ≡ andThen o next
-known-goes t r o kind next p q h = goes t o (kind .bits) next (known-given r o kind p q) h
-
-pub unknown-stops : {B : Type 0} (r : Family) (o : Outcome ℕ) (n : ℕ) (next : ℕ → Outcome B) → familyOutcome r ≡ o → r ≡ Unknown n → refused n ≡ andThen o next
-unknown-stops r o n next p q = stops o n next (unknown-given r o n p q)
+typed-given r o a b p q = told headerOutcome (Typed a b) p q
 
 pub unread-given : (r : Header) (o : Outcome (ℕ × ℕ)) (n : ℕ) → headerOutcome r ≡ o → r ≡ Unread n → o ≡ refused n
-unfolding headerOutcome
-unread-given r o n p q = sym p ∙ ap headerOutcome q
-
-pub typed-goes : {B : Type 0} (t : Outcome B) (r : Header) (o : Outcome (ℕ × ℕ)) (a b : ℕ) (next : ℕ × ℕ → Outcome B) → headerOutcome r ≡ o → r ≡ Typed a b → t ≡ next (a, b) → t ≡ andThen o next
-typed-goes t r o a b next p q h = goes t o (a, b) next (typed-given r o a b p q) h
-
-pub unread-stops : {B : Type 0} (r : Header) (o : Outcome (ℕ × ℕ)) (n : ℕ) (next : ℕ × ℕ → Outcome B) → headerOutcome r ≡ o → r ≡ Unread n → refused n ≡ andThen o next
-unread-stops r o n next p q = stops o n next (unread-given r o n p q)
+unread-given r o n p q = told headerOutcome (Unread n) p q
 
 pub nlri-given : (r : Reading) (o : Outcome Layout) (l : Layout) → readingOf r ≡ o → r ≡ Nlri l → o ≡ given l
 unfolding readingOf
-nlri-given r o l p q = sym p ∙ ap readingOf q
-
-pub nlri-goes : {B : Type 0} (t : Outcome B) (r : Reading) (o : Outcome Layout) (l : Layout) (next : Layout → Outcome B) → readingOf r ≡ o → r ≡ Nlri l → t ≡ next l → t ≡ andThen o next
-nlri-goes t r o l next p q h = goes t o l next (nlri-given r o l p q) h
+nlri-given r o l p q = told readingOf (Nlri l) p q
 
 pub reading-refused : (r : Reading) (o : Outcome Layout) (n : ℕ) → readingOf r ≡ o → r ≡ Refused n → o ≡ refused n
 unfolding readingOf
-reading-refused r o n p q = sym p ∙ ap readingOf q
-
-pub refusal-stops : {B : Type 0} (r : Reading) (o : Outcome Layout) (n : ℕ) (next : Layout → Outcome B) → readingOf r ≡ o → r ≡ Refused n → refused n ≡ andThen o next
-refusal-stops r o n next p q = stops o n next (reading-refused r o n p q)
-
-pub on-nlri : {B : Type 0} (t : B) (r : Reading) (o : Outcome Layout) (l : Layout) (bad : ℕ → B) (good : Layout → B) → readingOf r ≡ o → r ≡ Nlri l → t ≡ good l → t ≡ onOutcome bad good o
-on-nlri t r o l bad good p q h = on-given t o l bad good (nlri-given r o l p q) h
-
-pub on-refusal : {B : Type 0} (t : B) (r : Reading) (o : Outcome Layout) (n : ℕ) (bad : ℕ → B) (good : Layout → B) → readingOf r ≡ o → r ≡ Refused n → t ≡ bad n → t ≡ onOutcome bad good o
-on-refusal t r o n bad good p q h = on-refused t o n bad good (reading-refused r o n p q) h
+reading-refused r o n p q = told readingOf (Refused n) p q
 
 pub on-known : {B : Type 0} (t : B) (r : Family) (o : Outcome ℕ) (kind : AddressKind) (bad : ℕ → B) (good : ℕ → B) → familyOutcome r ≡ o → r ≡ Known kind → t ≡ good (kind .bits) → t ≡ onOutcome bad good o
 on-known t r o kind bad good p q h = on-given t o (kind .bits) bad good (known-given r o kind p q) h
@@ -96,4 +71,4 @@ pub ruleset refusals = (flags, flag-off, flag-on)
 pub group-is : (g : Group) (o p : Outcome ℕ) → g ≡ groupOf o → o ≡ p → g ≡ groupOf p
 group-is g o p e q = e ∙ ap groupOf q
 
-pub ruleset reads = (tests, known-goes, unknown-stops, typed-goes, unread-stops, on-nlri, on-refusal, nlri-goes, refusal-stops, on-known, on-unknown)
+pub ruleset reads = (tests, goes, stops, on-known, on-unknown, known-given, unknown-given, nlri-given, reading-refused)

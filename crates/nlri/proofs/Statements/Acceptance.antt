@@ -4,14 +4,15 @@ use mathlib.Core.Bool.{Bool, true, false}
 use mathlib.Core.List.{List, [], _∷_, _++_, append-nil}
 use Prim.Native.Nat.{ℕ, suc, _+_, _*_, _/_, _-_, _^_, _≤_, _<_}
 use native.Mathlib.Omega.{arith}
-use borrow.Author.Tests.{eqb-true, eq-eqb}
-use lib.ListN.{length, take, drop, take-append-drop}
+use borrow.Author.Tests.{eq-eqb}
+use lib.ListN.{length, drop, take-append-drop}
 use lib.Seq.{take-all}
 use Rattle.octets.specs.Choice.{pick, either}
 use Rattle.octets.specs.Outcome.{given, andThen}
-use Rattle.octets.specs.Octets.{AllOctets, part, numberIn, bigEndian}
+use Rattle.octets.specs.Octets.{AllOctets, numberIn, bigEndian}
 use Rattle.octets.proofs.Choice.{pick-true, opposite}
-use Rattle.octets.proofs.Outcome.{goes, given-unless, passed, given-same}
+use Rattle.octets.proofs.Outcome.{goes, passed, given-same}
+use Rattle.octets.proofs.Lists.{length-part}
 use Rattle.octets.proofs.NetworkOrder.{number-of-big-endian}
 use Rattle.nlri.specs.Family.{familyBits}
 use Rattle.nlri.specs.Bodies.{FieldKind, distinguisher, sourceAs, source, group, originator, key, bodyOf, fieldIn, sameKind, hasField}
@@ -22,9 +23,8 @@ use Rattle.nlri.proofs.Definitions.FieldRecords.{fields-same}
 use Rattle.nlri.proofs.Definitions.Table.{RowOf, rowOf, known, mostIn, field-of-map, lacks, same-kind}
 use Rattle.nlri.proofs.Definitions.Judged.{fieldsFrom}
 use Rattle.nlri.proofs.Definitions.Lengths.{family-octets}
-use Rattle.nlri.proofs.Functions.Shapes.{part-whole}
-use Rattle.nlri.proofs.Definitions.Whole.{piecesOf, sizesIn, laidOf, cut-body, laid-out, fieldsAt, laid-sound, laid-complete, octets-nlri}
-use Rattle.nlri.proofs.Definitions.Keys.{key-judges, octets-key}
+use Rattle.nlri.proofs.Definitions.Whole.{piecesOf, sizesIn, laidOf, cut-body, laid-out, fieldsLaid, single-laid-out, sizes-most, laid-encoded, laid-sound, laid-complete, octets-nlri}
+use Rattle.nlri.proofs.Definitions.Keys.{key-judges, key-most, octets-key}
 
 -- what is nothing where a test fails
 pick-none : {A : Type 0} (b : Bool) (x none : A) → (b ≡ false → x ≡ none) → pick b x none ≡ x
@@ -88,31 +88,30 @@ module _ (afi bits : ℕ) (ofFamily : familyBits afi ≡ given bits) where
       let o = laid-out (keyField bits) bits s laid e in
       let r = laid-sound (keyField bits) (KeyOf bits) (key-judges bits whole) bits whole s laid a e in
       record {
-        fields = fieldsAt (keyField bits) (KeyOf bits) (key-judges bits whole) bits whole s laid;
-        wellFormed = record { typed = (o .row .low, o .row .high); body = r .0 };
-        is = sym (take-append-drop (2 + laid .size) s) ∙ ap (λ (x : List ℕ). x ++ drop (2 + laid .size) s) (r .1);
+        fields = fieldsLaid s laid;
+        wellFormed = record { typed = (o .row .low, o .row .high); body = r };
+        is = sym (take-append-drop (2 + laid .size) s) ∙ ap (λ (x : List ℕ). x ++ drop (2 + laid .size) s) (laid-encoded (keyField bits) bits whole s laid (λ _. a) e);
       }
 
+  -- what a single NLRI is read as encodes to it, octets or not where it has no source AS
+  single-is-encoded : (s : List ℕ) (laid : Laid) → (hasField sourceAs (bodyOf (laid .type)) ≡ true → AllOctets s) → laidSingle bits s ≡ given laid → s ≡ encodeNlri (fieldsOf laid s)
+  unfolding laidAt
+  single-is-encoded s laid a e =
+      let o = single-laid-out bits s laid e in
+      sym (take-all (2 + laid .size) s (omega (arith, o .out .enough, o .all))) ∙ laid-encoded (keyField bits) bits whole s laid a (o .front) ∙ ap encodeNlri (o .fields)
+
   single-sound : (s : List ℕ) (laid : Laid) → AllOctets s → laidSingle bits s ≡ given laid → ReadAs afi s (fieldsOf laid s)
-  unfolding laidSingle laidAt fieldsOf part
+  unfolding laidAt fieldsOf
   single-sound s laid a e =
-      let p = passed _ _ _ e in
-      let q = given-unless _ _ _ _ (p .second) in
-      let same : p .value ≡ laid = given-same (q .1) in
-      let first : laidAt bits s ≡ given laid = p .first ∙ ap given same in
-      let size : length s - 2 ≡ laid .size = eqb-true _ _ (q .0) ∙ ap (λ (x : Laid). x .size) same in
-      let o = laid-out (keyField bits) bits s laid first in
-      let r = laid-sound (keyField bits) (KeyOf bits) (key-judges bits whole) bits whole s laid a first in
-      let rest : part s 2 (laid .size) ≡ drop 2 s = part-whole s (laid .size) size in
-      let fields : fieldsAt (keyField bits) (KeyOf bits) (key-judges bits whole) bits whole s laid ≡ fieldsOf laid s =
-      ap (λ (x : List ℕ). fieldsFrom (laid .type) (λ kind. fieldIn [] kind (laid .body) (cut (laid .sizes) x))) rest in
-      let all : take (2 + laid .size) s ≡ s = take-all (2 + laid .size) s (omega (arith, o .enough)) in
+      let single = single-laid-out bits s laid e in
+      let o = single .out in
+      let r = laid-sound (keyField bits) (KeyOf bits) (key-judges bits whole) bits whole s laid a (single .front) in
       record {
         bits = bits;
         ofFamily = ofFamily;
-        wellFormed = record { typed = (o .row .low, o .row .high); body = subst (λ (f : Fields). WellFormedBody (KeyOf bits) bits f (bodyOf (laid .type))) fields (r .0) };
+        wellFormed = record { typed = (o .row .low, o .row .high); body = subst (λ (f : Fields). WellFormedBody (KeyOf bits) bits f (bodyOf (laid .type))) (single .fields) r };
         whole = restricted-from (laid .type) (laid .body) _ (o .body);
-        encoded = sym all ∙ r .1 ∙ ap encodeNlri fields;
+        encoded = single-is-encoded s laid (λ _. a) e;
       }
 
   -- the encoding of well-formed fields lies as these say
@@ -134,10 +133,34 @@ module _ (afi bits : ℕ) (ofFamily : familyBits afi ≡ given bits) where
   octets-encoded : (f : Fields) → WellFormed bits f → (most : ℕ) → mostIn 60 (bodyOf (f .type)) ≤ most → most < 256 → (length (encodeNlri f) ≤ 2 + most) × AllOctets (encodeNlri f)
   octets-encoded f w most within fits =
       let small = family-octets afi bits ofFamily .1 in
-      octets-nlri (keyField bits) (KeyOf bits) (key-judges bits whole) bits whole 60 (octets-key bits whole small) small f (w .typed) (w .body) most within fits
+      octets-nlri (keyField bits) (KeyOf bits) (key-judges bits whole) bits whole 60 (key-most bits small) (λ k of. octets-key bits whole small k of .1) small f (w .typed) (w .body) most within fits
 
   row-encoded : (f : Fields) → WellFormed bits f → RowOf (f .type)
   row-encoded f w = rowOf (f .type) (known (f .type) (w .typed .0) (w .typed .1))
+
+-- what is read encodes to the octets
+pub read-is-encoded : (afi : ℕ) (s : List ℕ) (f : Fields) → (hasField sourceAs (bodyOf (f .type)) ≡ true → AllOctets s) → readNlri afi s ≡ given f → s ≡ encodeNlri f
+unfolding readNlri fieldsOf
+read-is-encoded afi s f a e =
+    let p = passed _ _ _ e in
+    let q = passed _ _ _ (p .second) in
+    let same : fieldsOf (q .value) s ≡ f = given-same (q .second) in
+    let type : q .value .type ≡ f .type = ap (λ (x : Fields). x .type) same in
+    single-is-encoded afi (p .value) (p .first) s (q .value) (λ h. a (ap (λ (n : ℕ). hasField sourceAs (bodyOf n)) (sym type) ∙ h)) (q .first) ∙ ap encodeNlri same
+
+-- an NLRI other than a Leaf has at most 60 octets
+pub read-short : (afi : ℕ) (s : List ℕ) (f : Fields) → readNlri afi s ≡ given f → (f .type ≡ 4 → ⊥) → (2 ≤ length s) × (length s ≤ 60)
+unfolding readNlri fieldsOf
+read-short afi s f e other =
+    let p = passed _ _ _ e in
+    let q = passed _ _ _ (p .second) in
+    let laid : Laid = q .value in
+    let small = family-octets afi (p .value) (p .first) .1 in
+    let o = single-laid-out (p .value) s laid (q .first) in
+    let type : laid .type ≡ f .type = ap (λ (x : Fields). x .type) (given-same (q .second)) in
+    let l = length-part s 2 (laid .size) (omega (arith, o .out .fits, o .out .enough)) in
+    let most = sizes-most (keyField (p .value)) (p .value) 60 (key-most (p .value) small) small (laid .type) (bodyOf (laid .type)) _ _ (o .out .sizes) in
+    (o .out .enough, omega (arith, o .all, o .out .row .plain (λ four. other (sym type ∙ four)) .1))
 
 pub read-sound : (afi : ℕ) (s : List ℕ) (f : Fields) → AllOctets s → readNlri afi s ≡ given f → ReadAs afi s f
 unfolding readNlri

@@ -20,8 +20,8 @@ use Rattle.nlri.specs.Bodies.{FieldKind, distinguisher, sourceAs, source
 use Rattle.nlri.specs.Fields.{encodeAddress, KeyOf}
 use Rattle.nlri.specs.Reading.{fixedField, addressEnd, addressField, originatorField, fieldSize, sizesOf, keyField}
 use Rattle.nlri.specs.Statements.{AddressAt, FieldAt, AddressFault, missing, width, ends, Fault, Faulty, remains, here, later}
-use Rattle.nlri.proofs.Definitions.Sizes.{fixed-is}
-use Rattle.nlri.proofs.Definitions.Judged.{Judges, AddressRead, address-given, address-stands, fixed-stands, originator-given}
+use Rattle.nlri.proofs.Definitions.Sizes.{fixed-is, originator-given}
+use Rattle.nlri.proofs.Definitions.Judged.{Judges, AddressRead, address-given, address-stands, fixed-stands}
 use Rattle.nlri.proofs.Definitions.Keys.{key-judges}
 
 fixed-refused : (m n : ℕ) (s : List ℕ) → fixedField m s ≡ refused n → (length s < m) × (n ≡ LENGTH)
@@ -110,8 +110,8 @@ module _ (bits : ℕ) (whole : 8 * (bits / 8) ≡ bits) where
   unfolding fieldSize
   field-at type distinguisher s n a e = length-fixed 8 n s e
   field-at type sourceAs s n a e = length-fixed 4 n s e
-  field-at type source s n a e = read-address bits type (take n s) (address-given bits type n s whole a e .1)
-  field-at type group s n a e = read-address bits type (take n s) (address-given bits type n s whole a e .1)
+  field-at type source s n a e = read-address bits type (take n s) (address-given bits type n s whole e)
+  field-at type group s n a e = read-address bits type (take n s) (address-given bits type n s whole e)
   field-at type originator s n a e =
       let p = originator-given n s e in
       (rw (p .1, take-length) (p .0), ap (λ (m : ℕ). drop m s) (p .1) ∙ drop-length s)

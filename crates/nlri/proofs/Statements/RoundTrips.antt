@@ -2,7 +2,7 @@
 use mathlib.Core.Path.{_≡_, refl, sym, _∙_, ap, subst}
 use mathlib.Core.Bool.{Bool, true, false}
 use mathlib.Core.List.{List, [], _++_}
-use Prim.Native.Nat.{ℕ, _^_, _≤_, _<_}
+use Prim.Native.Nat.{ℕ, _*_, _^_, _≤_, _<_}
 use native.Mathlib.Omega.{arith}
 use borrow.Author.Tests.{le-ltb, eqb-true, eqb-false}
 use lib.ListN.{length, take, drop}
@@ -27,7 +27,7 @@ use Rattle.nlri.specs.Statements.{ReadAs, HoldsOctets, StructHoldsOctets
 use Rattle.nlri.proofs.Definitions.Table.{rowOf, known}
 use Rattle.nlri.proofs.Definitions.Keys.{octets-key}
 use Rattle.nlri.proofs.Statements.ReadRefusals.{readRefusals, refusal-not-done}
-use Rattle.nlri.proofs.Definitions.Lengths.{address-most, originator-most, family-octets}
+use Rattle.nlri.proofs.Definitions.Lengths.{allowed-most, originator-sized, family-octets}
 use Rattle.nlri.proofs.Statements.Acceptance.{field-in-body, read-sound, read-encoded}
 use Rattle.nlri.proofs.Definitions.FieldRecords.{fields-same}
 use Rattle.nlri.proofs.Definitions.Writes.{write-is, write-well, write-restricted, written}
@@ -86,9 +86,9 @@ fields-struct afi bits f ofFamily w whole =
     fields-same refl
     (pick-cong _ _ _ _ _ (λ h. sized-same 8 (f .distinguisher) (at distinguisher h .0)) (λ _. refl))
     refl
-    (pick-cong _ _ _ _ _ (λ h. octets-address-struct (f .source) (omega (arith, address-most bits (f .type) (f .source) small (at source h .0)))) (λ _. refl))
-    (pick-cong _ _ _ _ _ (λ h. octets-address-struct (f .group) (omega (arith, address-most bits (f .type) (f .group) small (at group h .0)))) (λ _. refl))
-    (pick-cong _ _ _ _ _ (λ h. octets-address-struct (f .originator) (originator-most (length (f .originator)) (at originator h .0))) (λ _. refl))
+    (pick-cong _ _ _ _ _ (λ h. octets-address-struct (f .source) (omega (arith, allowed-most bits (f .type) (8 * length (f .source)) small (at source h .0)))) (λ _. refl))
+    (pick-cong _ _ _ _ _ (λ h. octets-address-struct (f .group) (omega (arith, allowed-most bits (f .type) (8 * length (f .group)) small (at group h .0)))) (λ _. refl))
+    (pick-cong _ _ _ _ _ (λ h. octets-address-struct (f .originator) (originator-sized (length (f .originator)) (at originator h .0) .1)) (λ _. refl))
     refl
     ∙ whole
 

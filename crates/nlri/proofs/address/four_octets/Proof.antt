@@ -9,22 +9,16 @@ use borrow.Author.Needs.{needs}
 use Rattle.nlri.proofs.address.four_octets.Statement.{statement}
 use Rattle.nlri.proofs.address.four_octets.Tie as tie
 
-returns : tie.Need-returns
-returns c = c .shorter .ensures ∙ ap addressStruct (sym (take-all _ _ (le-of-lt (c .before .if1 .taken))))
-
-returns-2 : tie.Need-returns-2
-unfolding octetsFrom
-returns-2 c = ipv4-held (now (c .before .before .before .before .before .before .args .octets)) (c .before .before .before .before .if1 .left)
-
 pub four-octets-spec : {M : Type 1} → statement M
+unfolding octetsFrom
 four-octets-spec =
     tie.close
     (tie.spec
     (search needs)
-    returns
+    (λ c. c .shorter .ensures ∙ ap addressStruct (sym (take-all _ _ (le-of-lt (c .before .if1 .taken)))))
     (search needs)
     (search needs)
     (search needs)
     (search needs)
     (search needs)
-    returns-2)
+    (λ c. ipv4-held (now (c .before .before .before .before .before .before .args .octets)) (c .before .before .before .before .if1 .left)))

@@ -9,9 +9,6 @@ use borrow.Author.Needs.{needs}
 use Rattle.nlri.proofs.address.sixteen_octets.Statement.{statement}
 use Rattle.nlri.proofs.address.sixteen_octets.Tie as tie
 
-returns : tie.Need-returns
-returns c = c .shorter .ensures ∙ ap addressStruct (sym (take-all _ _ (le-of-lt (c .before .if1 .taken))))
-
 returns-2 : tie.Need-returns-2
 unfolding octetsFrom
 returns-2 c = ipv6-held (now (c .before .before .before .before .before .before .before .before .before .before .before .before .before .before .before .before .before .before .args .octets)) (c .before .before .before .before .before .before .before .before .before .before .before .before .before .before .before .before .if1 .left)
@@ -21,7 +18,7 @@ sixteen-octets-spec =
     tie.close
     (tie.spec
     (search needs)
-    returns
+    (λ c. c .shorter .ensures ∙ ap addressStruct (sym (take-all _ _ (le-of-lt (c .before .if1 .taken)))))
     (search needs)
     (search needs)
     (search needs)

@@ -1,15 +1,12 @@
 -- `nlri::body::end_fault` meets its contract.
-use mathlib.Core.Path.{refl, sym, _∙_}
-use native.Mathlib.Nat.{add-zero}
-use Rattle.nlri.proofs.Functions.Ends.{rest-good, no-end}
+use mathlib.Core.Path.{sym, _∙_}
+use Rattle.nlri.proofs.Functions.Ends.{left-none, left-some}
 use Rattle.nlri.proofs.body.end_fault.Statement.{statement}
 use Rattle.nlri.proofs.body.end_fault.Tie as tie
 
-returns : tie.Need-returns
-returns c = rest-good _ _ _ 0 (c .if1 .taken ∙ sym (add-zero _)) refl
-
-returns-2 : tie.Need-returns-2
-returns-2 c = no-end _ _ (c .if1 .left)
-
 pub end-fault-spec : {M : Type 1} → statement M
-end-fault-spec = tie.close (tie.spec returns returns-2)
+end-fault-spec =
+    tie.close
+    (tie.spec
+    (λ c. λ bits type s l. left-none bits type _ s (l ∙ c .if1 .taken))
+    (λ c. λ bits type s l. left-some bits type _ s (λ e. c .if1 .left (sym l ∙ e))))

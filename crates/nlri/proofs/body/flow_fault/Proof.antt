@@ -1,42 +1,25 @@
 -- `nlri::body::flow_fault` meets its contract.
+use mathlib.Core.Path.{refl, _∙_}
 use native.Mathlib.Omega.{arith}
-use Rattle.nlri.proofs.Functions.Via.{refusals}
-use Rattle.nlri.specs.Inner.{addressThen, flowFault}
+use Rattle.nlri.specs.Bodies.{source}
+use Rattle.nlri.specs.Reading.{fieldSize}
+use Rattle.nlri.proofs.Functions.Ends.{left-missing, left-wide, left-allowed}
+use Rattle.nlri.proofs.Functions.Via.{flag-off, flag-on}
 use borrow.Author.Needs.{needs}
 use Rattle.nlri.proofs.body.flow_fault.Statement.{statement}
 use Rattle.nlri.proofs.body.flow_fault.Tie as tie
 
-returns : tie.Need-returns
-unfolding flowFault addressThen
-returns c = search refusals
-
-cast-bits : tie.Need-cast-bits
-cast-bits c = omega (arith, c .shared-slice-known2 .given (c .before .before .before .args .at))
-
-returns-2 : tie.Need-returns-2
-unfolding flowFault addressThen
-returns-2 c = search refusals
-
-add-group-fault-2 : tie.Need-add-group-fault-2
-add-group-fault-2 c = omega (arith, c .before .before .shared-slice-known2 .given (c .before .before .before .before .before .args .at))
-
-group-fault-requires : tie.Need-group-fault-requires
-group-fault-requires c κs = omega (arith, c .before .before .shared-slice-known2 .given (c .before .before .before .before .before .args .at))
-
-returns-3 : tie.Need-returns-3
-unfolding flowFault addressThen
-returns-3 c = search refusals
-
 pub flow-fault-spec : {M : Type 1} → statement M
+unfolding fieldSize
 flow-fault-spec =
     tie.close
     (tie.spec
-    returns
+    (λ c. left-missing _ _ source (λ y. refl) _ _ _ (c .if1 .taken))
     (search needs)
-    cast-bits
+    (λ c. omega (arith, c .shared-slice-known2 .given (c .before .before .before .args .at)))
     (search needs)
-    returns-2
+    (λ c. left-wide _ _ source (λ y. refl) _ _ _ (search needs) (flag-off _ _ (c .before .is-allowed .ensures) (c .if2 .taken)))
     (search needs)
-    add-group-fault-2
-    group-fault-requires
-    returns-3)
+    (λ c. omega (arith, c .before .before .shared-slice-known2 .given (c .before .before .before .before .before .args .at)))
+    (λ c κs. omega (arith, c .before .before .shared-slice-known2 .given (c .before .before .before .before .before .args .at)))
+    (λ c. c .group-fault .ensures ∙ left-allowed _ _ source (λ y. refl) _ _ _ (search needs) (flag-on _ _ (c .before .before .is-allowed .ensures) (c .before .if2 .left))))

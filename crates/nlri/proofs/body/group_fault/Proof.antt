@@ -1,42 +1,29 @@
 -- `nlri::body::group_fault` meets its contract.
+use mathlib.Core.Path.{refl, _∙_}
 use native.Mathlib.Omega.{arith}
-use Rattle.nlri.proofs.Functions.Via.{refusals}
-use Rattle.nlri.specs.Inner.{addressThen, groupFault}
+use Rattle.nlri.specs.Bodies.{group}
+use Rattle.nlri.specs.Reading.{fieldSize}
+use Rattle.nlri.proofs.Functions.Ends.{left-missing, left-wide, left-allowed}
+use Rattle.nlri.proofs.Functions.Via.{flag-off, flag-on}
 use borrow.Author.Needs.{needs}
 use Rattle.nlri.proofs.body.group_fault.Statement.{statement}
 use Rattle.nlri.proofs.body.group_fault.Tie as tie
 
-returns : tie.Need-returns
-unfolding groupFault addressThen
-returns c = search refusals
-
-cast-bits : tie.Need-cast-bits
-cast-bits c = omega (arith, c .shared-slice-known2 .given (c .before .before .before .args .at))
-
-returns-2 : tie.Need-returns-2
-unfolding groupFault addressThen
-returns-2 c = search refusals
-
-add-flow-end-fault-2 : tie.Need-add-flow-end-fault-2
-add-flow-end-fault-2 c = omega (arith, c .before .before .shared-slice-known2 .given (c .before .before .before .before .before .args .at))
-
-flow-end-fault-requires : tie.Need-flow-end-fault-requires
-flow-end-fault-requires c κs = omega (arith, c .before .before .shared-slice-known2 .given (c .before .before .before .before .before .args .at))
-
 returns-3 : tie.Need-returns-3
-unfolding groupFault addressThen
-returns-3 c = search refusals
+unfolding fieldSize
+returns-3 c = c .flow-end-fault .ensures _ _ refl ∙ left-allowed _ _ group (λ y. refl) _ _ _ (search needs) (flag-on _ _ (c .before .before .is-allowed .ensures) (c .before .if2 .left))
 
 pub group-fault-spec : {M : Type 1} → statement M
+unfolding fieldSize
 group-fault-spec =
     tie.close
     (tie.spec
-    returns
+    (λ c. left-missing _ _ group (λ y. refl) _ _ _ (c .if1 .taken))
     (search needs)
-    cast-bits
+    (λ c. omega (arith, c .shared-slice-known2 .given (c .before .before .before .args .at)))
     (search needs)
-    returns-2
+    (λ c. left-wide _ _ group (λ y. refl) _ _ _ (search needs) (flag-off _ _ (c .before .is-allowed .ensures) (c .if2 .taken)))
     (search needs)
-    add-flow-end-fault-2
-    flow-end-fault-requires
+    (λ c. omega (arith, c .before .before .shared-slice-known2 .given (c .before .before .before .before .before .args .at)))
+    (λ c κs. omega (arith, c .before .before .shared-slice-known2 .given (c .before .before .before .before .before .args .at)))
     returns-3)

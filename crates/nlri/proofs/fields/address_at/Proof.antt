@@ -14,18 +14,12 @@ returns c =
     let a = c .before .before .before .args in
     c .wildcard .ensures ∙ ap addressStruct (empty-part (now (a .s)) (a .start) (a .size) (c .before .if1 .taken))
 
-between-requires : tie.Need-between-requires
-between-requires c κs = c .before .before .before .before .pre .1 (omega (arith, c .before .if2 .taken))
-
 returns-2 : tie.Need-returns-2
 returns-2 c =
     let start = c .before .before .before .before .before .before in
     let a = start .args in
     let h = start .pre .1 (omega (arith, c .before .before .before .if2 .taken)) in
     c .address .ensures ∙ ap addressStruct (kind-octets-ipv4 _ _ (c .before .before .ipv4 .ensures) ∙ ap (take 4) (c .before .between .ensures) ∙ take-part (now (a .s)) (a .start) (a .size) 4 h (omega (arith, c .before .before .before .if2 .taken)))
-
-between-requires-2 : tie.Need-between-requires-2
-between-requires-2 c κs = c .before .before .before .before .pre .1 (positive _ (c .before .before .if1 .left))
 
 returns-3 : tie.Need-returns-3
 returns-3 c =
@@ -41,10 +35,10 @@ address-at-spec =
     (search needs)
     returns
     (search needs)
-    between-requires
+    (λ c κs. c .before .before .before .before .pre .1 (omega (arith, c .before .if2 .taken)))
     (search needs)
     returns-2
     (search needs)
-    between-requires-2
+    (λ c κs. c .before .before .before .before .pre .1 (positive _ (c .before .before .if1 .left)))
     (search needs)
     returns-3)

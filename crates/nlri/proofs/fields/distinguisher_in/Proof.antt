@@ -13,21 +13,8 @@ use borrow.Author.Needs.{needs}
 use Rattle.nlri.proofs.fields.distinguisher_in.Statement.{statement}
 use Rattle.nlri.proofs.fields.distinguisher_in.Tie as tie
 
-returns : tie.Need-returns
-unfolding distinguisherAt
-returns c = no-distinguisher ∙ ap distinguisherStruct (sym (pick-true _ _ _ (eq-eqb _ _ (c .if1 .taken))))
-
-between-requires : tie.Need-between-requires
-between-requires c κs = c .before .before .pre (c .if1 .left)
-
-slice-aggregate-copy : tie.Need-slice-aggregate-copy
-slice-aggregate-copy c = search needs
-
 held : (c : tie.After-octets) → length (now (c .before .between .result)) ≡ 8
 held c = ap length (c .before .between .ensures) ∙ length-part (now (c .before .before .before .before .args .s)) 2 8 (c .before .before .before .before .pre (c .before .before .if1 .left))
-
-copy-requires : tie.Need-copy-requires
-copy-requires c κs = let l = held c in omega arith
 
 returns-2 : tie.Need-returns-2
 unfolding distinguisherAt
@@ -37,5 +24,12 @@ returns-2 c =
     ∙ ap distinguisherStruct (c .before .before .before .between .ensures ∙ sym (pick-false _ _ _ (ne-eqb _ _ (c .before .before .before .before .if1 .left))))
 
 pub distinguisher-in-spec : {M : Type 1} → statement M
+unfolding distinguisherAt
 distinguisher-in-spec =
-    tie.close (tie.spec returns between-requires slice-aggregate-copy copy-requires returns-2)
+    tie.close
+    (tie.spec
+    (λ c. no-distinguisher ∙ ap distinguisherStruct (sym (pick-true _ _ _ (eq-eqb _ _ (c .if1 .taken)))))
+    (λ c κs. c .before .before .pre (c .if1 .left))
+    (search needs)
+    (λ c κs. let l = held c in omega arith)
+    returns-2)

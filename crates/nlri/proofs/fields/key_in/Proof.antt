@@ -6,13 +6,10 @@ use Rattle.nlri.specs.Inner.{keyAt}
 use Rattle.nlri.proofs.fields.key_in.Statement.{statement}
 use Rattle.nlri.proofs.fields.key_in.Tie as tie
 
-returns : tie.Need-returns
-unfolding keyAt
-returns c = λ i. record { start = sym (pick-true _ 2 0 (eq-eqb _ _ (c .if1 .taken))) i; size = c .before .before .args .layout .key }
-
-returns-2 : tie.Need-returns-2
-unfolding keyAt
-returns-2 c = λ i. record { start = sym (pick-false _ 2 0 (ne-eqb _ _ (c .if1 .left))) i; size = c .before .before .args .layout .key }
-
 pub key-in-spec : {M : Type 1} → statement M
-key-in-spec = tie.close (tie.spec returns returns-2)
+unfolding keyAt
+key-in-spec =
+    tie.close
+    (tie.spec
+    (λ c. λ i. record { start = sym (pick-true _ 2 0 (eq-eqb _ _ (c .if1 .taken))) i; size = c .before .before .args .layout .key })
+    (λ c. λ i. record { start = sym (pick-false _ 2 0 (ne-eqb _ _ (c .if1 .left))) i; size = c .before .before .args .layout .key }))

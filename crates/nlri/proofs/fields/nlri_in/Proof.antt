@@ -6,13 +6,11 @@ use Prim.Native.Nat.{ℕ, _+_}
 use Rattle.octets.specs.Octets.{part}
 use Rattle.nlri.specs.Answers.{nlriStruct, addressStruct}
 use Rattle.nlri.specs.Inner.{fieldsAt}
-use Rattle.nlri.proofs.Functions.Singles.{start-most, nlri-same}
+use Rattle.nlri.proofs.Functions.Singles.{nlri-same}
+use Rattle.nlri.proofs.Functions.Ends.{start-most}
 use borrow.Author.Needs.{needs}
 use Rattle.nlri.proofs.fields.nlri_in.Statement.{statement}
 use Rattle.nlri.proofs.fields.nlri_in.Tie as tie
-
-source-start-requires : tie.Need-source-start-requires
-source-start-requires c κs = search needs
 
 address-at-requires : tie.Need-address-at-requires
 address-at-requires c κs =
@@ -30,21 +28,6 @@ address-at-requires-2 c κs =
     let w = c .before .before .before .before .pre in
     (w .group .0, λ q. rw (c .before .before .source-start .ensures) (w .group .1 q))
 
-sub-address-at : tie.Need-sub-address-at
-sub-address-at c = search needs
-
-address-at-requires-3 : tie.Need-address-at-requires-3
-address-at-requires-3 c κs = search needs
-
-distinguisher-in-requires : tie.Need-distinguisher-in-requires
-distinguisher-in-requires c κs = search needs
-
-source-as-in-requires : tie.Need-source-as-in-requires
-source-as-in-requires c κs = search needs
-
-cast-t12 : tie.Need-cast-t12
-cast-t12 c = search needs
-
 returns : tie.Need-returns
 unfolding nlriStruct fieldsAt
 returns c =
@@ -61,14 +44,14 @@ pub nlri-in-spec : {M : Type 1} → statement M
 nlri-in-spec =
     tie.close
     (tie.spec
-    source-start-requires
+    (search needs)
     address-at-requires
     add-address-at
     add-address-at-2
     address-at-requires-2
-    sub-address-at
-    address-at-requires-3
-    distinguisher-in-requires
-    source-as-in-requires
-    cast-t12
+    (search needs)
+    (search needs)
+    (λ c κs. search needs)
+    (λ c κs. search needs)
+    (search needs)
     returns)

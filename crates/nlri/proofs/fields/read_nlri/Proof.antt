@@ -7,9 +7,6 @@ use borrow.Author.Needs.{needs}
 use Rattle.nlri.proofs.fields.read_nlri.Statement.{statement}
 use Rattle.nlri.proofs.fields.read_nlri.Tie as tie
 
-nlri-in-requires : tie.Need-nlri-in-requires
-nlri-in-requires c κs = read-by-layout _ _ _ (nlri-given _ _ _ (c .before .before .before .read-layout .ensures) (c .before .layout .given .1)) .1
-
 returns : tie.Need-returns
 returns c = answer-refused _ _ _ _ (c .refusal .ensures) (read-refused _ _ _ (reading-refused _ _ _ (c .before .before .before .before .read-layout .ensures) (c .before .before .number .given .1)))
 
@@ -27,7 +24,7 @@ read-nlri-spec =
     (search needs)
     (search needs)
     (search needs)
-    nlri-in-requires
+    (λ c κs. read-by-layout _ _ _ (nlri-given _ _ _ (c .before .before .before .read-layout .ensures) (c .before .layout .given .1)) .1)
     (search needs)
     returns
     returns-2)

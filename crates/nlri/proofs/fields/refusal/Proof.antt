@@ -9,19 +9,9 @@ use borrow.Author.Needs.{needs}
 use Rattle.nlri.proofs.fields.refusal.Statement.{statement}
 use Rattle.nlri.proofs.fields.refusal.Tie as tie
 
-wildcard-requires : tie.Need-wildcard-requires
-wildcard-requires c κs = search needs
-
-wildcard-requires-2 : tie.Need-wildcard-requires-2
-wildcard-requires-2 c κs = search needs
-
-wildcard-requires-3 : tie.Need-wildcard-requires-3
-wildcard-requires-3 c κs = search needs
-
 returns : tie.Need-returns
 unfolding nlriAnswer onOutcome nlriStruct noFields keySpan pick
 returns c = λ i. record { number = c .before .before .before .args .number; nlri = nlri-same _ _ _ _ _ _ _ _ 0 0 0 0 no-distinguisher (c .before .before .wildcard .ensures) (c .before .wildcard2 .ensures) (c .wildcard3 .ensures) refl refl i; key = keySpan noFields }
 
 pub refusal-spec : {M : Type 1} → statement M
-refusal-spec =
-    tie.close (tie.spec wildcard-requires wildcard-requires-2 wildcard-requires-3 returns)
+refusal-spec = tie.close (tie.spec (search needs) (search needs) (search needs) returns)

@@ -6,22 +6,15 @@ use borrow.Author.Needs.{needs}
 use Rattle.nlri.proofs.fields.source_start.Statement.{statement}
 use Rattle.nlri.proofs.fields.source_start.Tie as tie
 
-returns : tie.Need-returns
-unfolding sourceStart
-returns c = sym (pick-true _ _ _ (sym (c .before .has-source-as .ensures) ∙ c .if1 .taken))
-
-returns-2 : tie.Need-returns-2
-unfolding sourceStart
-returns-2 c = sym (pick-false _ _ _ (sym (c .before .has-source-as .ensures) ∙ c .if1 .left))
-
 pub source-start-spec : {M : Type 1} → statement M
+unfolding sourceStart
 source-start-spec =
     tie.close
     (tie.spec
     (search needs)
     (search needs)
     (search needs)
-    returns
+    (λ c. sym (pick-true _ _ _ (sym (c .before .has-source-as .ensures) ∙ c .if1 .taken)))
     (search needs)
     (search needs)
-    returns-2)
+    (λ c. sym (pick-false _ _ _ (sym (c .before .has-source-as .ensures) ∙ c .if1 .left))))

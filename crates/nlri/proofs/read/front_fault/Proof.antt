@@ -5,13 +5,11 @@ use mathlib.Core.Path.{_≡_, _∙_, ap}
 use denote.Ref.{now}
 use lib.ListN.{length}
 use mathlib.Core.List.{List}
-use Rattle.octets.specs.Outcome.{numberOf}
-use Rattle.nlri.specs.Inner.{headerOutcome, headerAt, anyBody}
+use Rattle.nlri.specs.Inner.{headerOutcome, headerAt, bodyFault}
 use Rattle.nlri.proofs.Definitions.Sizes.{header-within}
-use Rattle.nlri.proofs.Functions.Fronts.{anyFront}
+use Rattle.nlri.proofs.Functions.Fronts.{front-typed, front-unread}
 use Rattle.octets.proofs.Lists.{lent-part, lent-whole}
-use Rattle.nlri.proofs.Functions.Via.{typed-given}
-use Rattle.nlri.proofs.Functions.Numbered.{numbers, number-front}
+use Rattle.nlri.proofs.Functions.Via.{typed-given, unread-given}
 use borrow.Author.Needs.{needs}
 use Rattle.nlri.proofs.read.front_fault.Statement.{statement}
 use Rattle.nlri.proofs.read.front_fault.Tie as tie
@@ -23,26 +21,12 @@ headed c = c .read-header .ensures ∙ ap headerAt (lent-whole (now (c .before .
 within : (c : tie.After-known-told2) → 2 + c .before .route-type .given .0 .1 .0 ≤ length (now (c .before .before .before .before .before .before .args .s))
 within c = header-within _ _ _ (typed-given _ _ _ _ (headed (c .before .before .before)) (c .before .route-type .given .1))
 
-add-body-fault : tie.Need-add-body-fault
-add-body-fault c = omega (arith, within c)
-
-part-body-fault-end : tie.Need-part-body-fault-end
-part-body-fault-end c = within c
-
-returns : tie.Need-returns
-unfolding anyFront
-returns c =
-    let moved = headed (c .before .before .before) in
-    search (numbers, number-front)
-
 returns-2 : tie.Need-returns-2
-unfolding anyFront
 returns-2 c =
-    let moved = headed (c .before .before .before .before .before) in
     let a = c .before .before .before .before .before .before .before .before .args in
     let h = c .before .before .before .route-type .given .0 in
-    let body = c .body-fault .ensures ∙ ap (λ (x : List ℕ). numberOf (anyBody (a .kind .bits) (h .0) x)) (lent-part 2 (h .1 .0) (now (a .s))) in
-    search (numbers, number-front)
+    c .body-fault .ensures ∙ ap (λ (x : List ℕ). bodyFault (a .kind .bits) (h .0) x) (lent-part 2 (h .1 .0) (now (a .s)))
+    ∙ front-typed _ _ _ _ (typed-given _ _ _ _ (headed (c .before .before .before .before .before)) (c .before .before .before .route-type .given .1))
 
 pub front-fault-spec : {M : Type 1} → statement M
 front-fault-spec =
@@ -54,10 +38,10 @@ front-fault-spec =
     (search needs)
     (search needs)
     (search needs)
-    add-body-fault
+    (λ c. omega (arith, within c))
     (search needs)
     (search needs)
-    part-body-fault-end
+    (λ c. within c)
     (search needs)
-    returns
+    (λ c. front-unread _ _ _ (unread-given _ _ _ (headed (c .before .before .before)) (c .before .number .given .1)))
     returns-2)

@@ -5,12 +5,6 @@ use borrow.Author.Needs.{needs}
 use Rattle.nlri.proofs.read.is_s_pmsi.Statement.{statement}
 use Rattle.nlri.proofs.read.is_s_pmsi.Tie as tie
 
-returns : tie.Need-returns
-returns c = s-pmsi-none _ _ _ (unknown-given _ _ _ (c .before .before .family-of .ensures) (c .enum-told .given .1))
-
-returns-2 : tie.Need-returns-2
-returns-2 c = s-pmsi-under _ _ _ _ (known-given _ _ _ (c .before .before .before .before .family-of .ensures) (c .before .before .kind .given .1)) (c .is-s-pmsi-under .ensures)
-
 pub is-s-pmsi-spec : {M : Type 1} → statement M
 is-s-pmsi-spec =
     tie.close
@@ -19,5 +13,5 @@ is-s-pmsi-spec =
     (search needs)
     (search needs)
     (search needs)
-    returns
-    returns-2)
+    (λ c. s-pmsi-none _ _ _ (unknown-given _ _ _ (c .before .before .family-of .ensures) (c .enum-told .given .1)))
+    (λ c. s-pmsi-under _ _ _ _ (known-given _ _ _ (c .before .before .before .before .family-of .ensures) (c .before .before .kind .given .1)) (c .is-s-pmsi-under .ensures)))

@@ -10,24 +10,6 @@ use borrow.Author.Needs.{needs}
 use Rattle.nlri.proofs.read.is_s_pmsi_under.Statement.{statement}
 use Rattle.nlri.proofs.read.is_s_pmsi_under.Tie as tie
 
-returns : tie.Need-returns
-unfolding sPmsiUnder
-returns c = search flags
-
-cast-if2 : tie.Need-cast-if2
-cast-if2 c = omega (arith, c .shared-slice-known2 .given 0)
-
-returns-2 : tie.Need-returns-2
-unfolding sPmsiUnder
-returns-2 c = search flags
-
-cast-if3 : tie.Need-cast-if3
-cast-if3 c = omega (arith, c .shared-slice-known3 .given 1)
-
-returns-3 : tie.Need-returns-3
-unfolding sPmsiUnder
-returns-3 c = search flags
-
 returns-4 : tie.Need-returns-4
 unfolding sPmsiUnder
 returns-4 c =
@@ -35,18 +17,19 @@ returns-4 c =
     search flags
 
 pub is-s-pmsi-under-spec : {M : Type 1} → statement M
+unfolding sPmsiUnder
 is-s-pmsi-under-spec =
     tie.close
     (tie.spec
     (search needs)
-    returns
+    (λ c. search flags)
     (search needs)
-    cast-if2
-    returns-2
+    (λ c. omega (arith, c .shared-slice-known2 .given 0))
+    (λ c. search flags)
     (search needs)
-    cast-if3
+    (λ c. omega (arith, c .shared-slice-known3 .given 1))
     (search needs)
-    returns-3
+    (λ c. search flags)
     (search needs)
     (search needs)
     returns-4)

@@ -6,37 +6,10 @@ use denote.Ref.{now}
 use lib.ListN.{getD}
 use Rattle.octets.proofs.Tests.{tests}
 use Rattle.nlri.specs.Inner.{flowLayout, layoutIn, FlowStands}
-use Rattle.nlri.proofs.Functions.Standing.{start-least}
+use Rattle.nlri.proofs.Functions.Ends.{start-least}
 use borrow.Author.Needs.{needs}
 use Rattle.nlri.proofs.read.layout_in.Statement.{statement}
 use Rattle.nlri.proofs.read.layout_in.Tie as tie
-
-cast-route-type : tie.Need-cast-route-type
-cast-route-type c = omega (arith, c .shared-slice-known2 .given 0)
-
-cast-length : tie.Need-cast-length
-cast-length c = omega (arith, c .shared-slice-known3 .given 1)
-
-sub-plain-layout : tie.Need-sub-plain-layout
-sub-plain-layout c = omega (arith, c .before .before .before .before .pre .intraAs (c .if1 .taken))
-
-returns : tie.Need-returns
-unfolding layoutIn
-returns c = search tests
-
-returns-2 : tie.Need-returns-2
-unfolding layoutIn
-returns-2 c = search tests
-
-leaf-layout-requires : tie.Need-leaf-layout-requires
-leaf-layout-requires c κs = c .before .before .before .before .before .before .pre .leaf (c .if3 .taken)
-
-returns-3 : tie.Need-returns-3
-unfolding layoutIn
-returns-3 c = search tests
-
-sub-flow-layout : tie.Need-sub-flow-layout
-sub-flow-layout c = omega (arith, c .source-start .ensures, start-least (getD (now (c .before .before .before .before .before .before .before .args .s)) 0 0))
 
 flow-layout-requires : tie.Need-flow-layout-requires
 flow-layout-requires c κs = subst (λ (k : ℕ). FlowStands (k - 1) (now (c .before .before .before .before .before .before .before .args .s))) (sym (c .source-start .ensures)) (c .before .before .before .before .before .before .before .pre .flow (c .before .before .before .if1 .left) (c .before .before .if2 .left) (c .before .if3 .left))
@@ -48,21 +21,22 @@ returns-4 c =
     search tests
 
 pub layout-in-spec : {M : Type 1} → statement M
+unfolding layoutIn
 layout-in-spec =
     tie.close
     (tie.spec
     (search needs)
-    cast-route-type
+    (λ c. omega (arith, c .shared-slice-known2 .given 0))
     (search needs)
-    cast-length
-    sub-plain-layout
+    (λ c. omega (arith, c .shared-slice-known3 .given 1))
+    (λ c. omega (arith, c .before .before .before .before .pre .intraAs (c .if1 .taken)))
     (search needs)
-    returns
+    (λ c. search tests)
     (search needs)
-    returns-2
-    leaf-layout-requires
-    returns-3
+    (λ c. search tests)
+    (λ c κs. c .before .before .before .before .before .before .pre .leaf (c .if3 .taken))
+    (λ c. search tests)
     (search needs)
-    sub-flow-layout
+    (λ c. omega (arith, c .source-start .ensures, start-least (getD (now (c .before .before .before .before .before .before .before .args .s)) 0 0)))
     flow-layout-requires
     returns-4)

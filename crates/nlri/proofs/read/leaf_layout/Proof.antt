@@ -6,28 +6,16 @@ use borrow.Author.Needs.{needs}
 use Rattle.nlri.proofs.read.leaf_layout.Statement.{statement}
 use Rattle.nlri.proofs.read.leaf_layout.Tie as tie
 
-cast-length : tie.Need-cast-length
-cast-length c = omega (arith, c .shared-slice-known .given 1)
-
-cast-key : tie.Need-cast-key
-cast-key c = omega (arith, c .shared-slice-known2 .given 3)
-
-add-key-2 : tie.Need-add-key-2
-add-key-2 c = omega (arith, c .shared-slice-known2 .given 3)
-
-returns : tie.Need-returns
-unfolding leafLayout layoutWith
-returns c = refl
-
 pub leaf-layout-spec : {M : Type 1} → statement M
+unfolding leafLayout layoutWith
 leaf-layout-spec =
     tie.close
     (tie.spec
     (search needs)
-    cast-length
+    (λ c. omega (arith, c .shared-slice-known .given 1))
     (search needs)
     (search needs)
-    cast-key
-    add-key-2
+    (λ c. omega (arith, c .shared-slice-known2 .given 3))
+    (λ c. omega (arith, c .shared-slice-known2 .given 3))
     (search needs)
-    returns)
+    (λ c. refl))

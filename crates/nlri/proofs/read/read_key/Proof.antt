@@ -2,10 +2,10 @@
 use mathlib.Core.Path.{_≡_}
 use denote.Ref.{now}
 use Rattle.octets.specs.Outcome.{given}
-use Rattle.nlri.specs.Inner.{headerOutcome, headerAt, keyHeader}
+use Rattle.nlri.specs.Inner.{headerAt}
 use Rattle.nlri.proofs.Definitions.Sizes.{header-within}
-use Rattle.nlri.proofs.Functions.Via.{typed-given, unread-stops}
-use Rattle.nlri.proofs.Functions.Standing.{key-other-type, key-refused, key-typed}
+use Rattle.nlri.proofs.Functions.Via.{typed-given, unread-given}
+use Rattle.nlri.proofs.Functions.Fronts.{key-unread, key-other-type, key-refused, key-typed}
 use borrow.Author.Needs.{needs}
 use Rattle.nlri.proofs.read.read_key.Statement.{statement}
 use Rattle.nlri.proofs.read.read_key.Tie as tie
@@ -14,24 +14,11 @@ use Rattle.nlri.proofs.read.read_key.Tie as tie
 headed : (c : tie.After-known-told2) → headerAt (now (c .before .before .before .before .before .args .s)) ≡ given (c .before .route-type .given .0 .0, c .before .route-type .given .0 .1 .0)
 headed c = typed-given _ _ _ _ (c .before .before .before .read-header .ensures) (c .before .route-type .given .1)
 
-returns : tie.Need-returns
-unfolding headerOutcome
-returns c = key-other-type _ _ _ _ (headed (c .before)) (c .if1 .taken)
-
-between-requires : tie.Need-between-requires
-between-requires c κs = header-within _ _ _ (headed (c .before))
-
 returns-2 : tie.Need-returns-2
-unfolding headerOutcome
-returns-2 c = key-refused _ _ _ _ (headed (c .before .before .before .before)) (c .before .before .before .if1 .left) _ _ (c .before .before .between .ensures) (c .before .unkeyed-body-fault .ensures) (c .if2 .taken)
-
-returns-3 : tie.Need-returns-3
-unfolding headerOutcome keyHeader
-returns-3 c = unread-stops _ _ _ _ (c .before .before .before .read-header .ensures) (c .before .number .given .1)
+returns-2 c = key-refused _ _ _ _ (headed (c .before .before .before .before)) (c .before .before .before .if1 .left) _ _ (c .before .before .between .ensures) (c .before .keyable-body-fault .ensures) (c .if2 .taken)
 
 returns-4 : tie.Need-returns-4
-unfolding headerOutcome
-returns-4 c = key-typed _ _ _ _ (headed (c .before .before .before .before)) (c .before .before .before .if1 .left) _ _ (c .before .before .between .ensures) (c .before .unkeyed-body-fault .ensures) (c .if2 .left)
+returns-4 c = key-typed _ _ _ _ (headed (c .before .before .before .before)) (c .before .before .before .if1 .left) _ _ (c .before .before .between .ensures) (c .before .keyable-body-fault .ensures) (c .if2 .left)
 
 pub read-key-spec : {M : Type 1} → statement M
 read-key-spec =
@@ -40,9 +27,9 @@ read-key-spec =
     (search needs)
     (search needs)
     (search needs)
-    returns
-    between-requires
+    (λ c. key-other-type _ _ _ _ (headed (c .before)) (c .if1 .taken))
+    (λ c κs. header-within _ _ _ (headed (c .before)))
     (search needs)
     returns-2
-    returns-3
+    (λ c. key-unread _ _ _ (unread-given _ _ _ (c .before .before .before .read-header .ensures) (c .before .number .given .1)))
     returns-4)

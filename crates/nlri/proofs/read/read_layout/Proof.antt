@@ -6,14 +6,8 @@ use borrow.Author.Needs.{needs}
 use Rattle.nlri.proofs.read.read_layout.Statement.{statement}
 use Rattle.nlri.proofs.read.read_layout.Tie as tie
 
-returns : tie.Need-returns
-unfolding readingOf
-returns c = search (reads, single-is)
-
-returns-2 : tie.Need-returns-2
-returns-2 c = search (reads, single-is)
-
 pub read-layout-spec : {M : Type 1} → statement M
+unfolding readingOf
 read-layout-spec =
     tie.close
     (tie.spec
@@ -21,5 +15,5 @@ read-layout-spec =
     (search needs)
     (search needs)
     (search needs)
-    returns
-    returns-2)
+    (λ c. search (reads, single-is))
+    (λ c. search (reads, single-is)))

@@ -10,21 +10,6 @@ use Rattle.nlri.proofs.read.read_single.Tie as tie
 ends-at-requires : tie.Need-ends-at-requires
 ends-at-requires c κs = layout-octets _ _ _ (nlri-given _ _ _ (c .before .before .before .read-front .ensures) (c .before .layout .given .1)) .0
 
-returns : tie.Need-returns
-unfolding readingOf single
-returns c = search reads
-
-returns-2 : tie.Need-returns-2
-unfolding readingOf single
-returns-2 c = search reads
-
 pub read-single-spec : {M : Type 1} → statement M
-read-single-spec =
-    tie.close
-    (tie.spec
-    (search needs)
-    (search needs)
-    (search needs)
-    ends-at-requires
-    returns
-    returns-2)
+unfolding readingOf single
+read-single-spec = tie.close (tie.spec (search needs) (search needs) (search needs) ends-at-requires (λ c. search reads) (λ c. search reads))

@@ -3,8 +3,5 @@ use Rattle.nlri.proofs.Functions.Copies.{no-address}
 use Rattle.nlri.proofs.address.Address.wildcard.Statement.{statement}
 use Rattle.nlri.proofs.address.Address.wildcard.Tie as tie
 
-returns : tie.Need-returns
-returns c = no-address
-
 pub wildcard-spec : {M : Type 1} → statement M
-wildcard-spec = tie.close (tie.spec returns)
+wildcard-spec = tie.close (tie.spec (λ c. no-address))

@@ -6,22 +6,13 @@ use borrow.Author.Needs.{needs}
 use Rattle.nlri.proofs.address.AddressKind.address.Statement.{statement}
 use Rattle.nlri.proofs.address.AddressKind.address.Tie as tie
 
-returns : tie.Need-returns
-returns c = c .four-octets .ensures ∙ ap addressStruct (sym (kind-octets-ipv4 _ _ (c .before .if1 .taken)))
-
-returns-2 : tie.Need-returns-2
-returns-2 c = c .sixteen-octets .ensures ∙ ap addressStruct (sym (kind-octets-ipv6 _ _ (c .before .if2 .taken)))
-
-returns-3 : tie.Need-returns-3
-returns-3 c = c .wildcard .ensures ∙ ap addressStruct (sym (kind-octets-other _ _ (c .before .before .before .if1 .left) (c .before .if2 .left)))
-
 pub address-spec : {M : Type 1} → statement M
 address-spec =
     tie.close
     (tie.spec
     (search needs)
-    returns
+    (λ c. c .four-octets .ensures ∙ ap addressStruct (sym (kind-octets-ipv4 _ _ (c .before .if1 .taken))))
     (search needs)
-    returns-2
+    (λ c. c .sixteen-octets .ensures ∙ ap addressStruct (sym (kind-octets-ipv6 _ _ (c .before .if2 .taken))))
     (search needs)
-    returns-3)
+    (λ c. c .wildcard .ensures ∙ ap addressStruct (sym (kind-octets-other _ _ (c .before .before .before .if1 .left) (c .before .if2 .left)))))

@@ -5,9 +5,6 @@ use Rattle.octets.proofs.Tests.{tests}
 use Rattle.nlri.proofs.group.Group.given.Statement.{statement}
 use Rattle.nlri.proofs.group.Group.given.Tie as tie
 
-returns : tie.Need-returns
-unfolding groupOf numberOf onOutcome
-returns c = search tests
-
 pub given-spec : {M : Type 1} → statement M
-given-spec = tie.close (tie.spec returns)
+unfolding groupOf numberOf onOutcome
+given-spec = tie.close (tie.spec (λ c. search tests))

@@ -5,9 +5,6 @@ use Rattle.octets.proofs.Tests.{tests}
 use Rattle.nlri.proofs.group.Group.refused.Statement.{statement}
 use Rattle.nlri.proofs.group.Group.refused.Tie as tie
 
-returns : tie.Need-returns
-unfolding groupOf numberOf onOutcome
-returns c = search tests
-
 pub refused-spec : {M : Type 1} → statement M
-refused-spec = tie.close (tie.spec returns)
+unfolding groupOf numberOf onOutcome
+refused-spec = tie.close (tie.spec (λ c. search tests))

@@ -4,9 +4,6 @@ use Rattle.nlri.specs.Layouts.{noLayout}
 use Rattle.nlri.proofs.layout.Layout.none.Statement.{statement}
 use Rattle.nlri.proofs.layout.Layout.none.Tie as tie
 
-returns : tie.Need-returns
-unfolding noLayout
-returns c = refl
-
 pub none-spec : {M : Type 1} → statement M
-none-spec = tie.close (tie.spec returns)
+unfolding noLayout
+none-spec = tie.close (tie.spec (λ c. refl))
