@@ -7,17 +7,11 @@ use Rattle.tunnel.proofs.write_fault.Tie as tie
 returns : tie.Need-returns
 returns c flags = search (needs, number-long)
 
-fault-requires : tie.Need-fault-requires
-fault-requires c κs = search needs
-
 returns-2 : tie.Need-returns-2
 returns-2 c flags = search (needs, number-fault)
 
 returns-3 : tie.Need-returns-3
 returns-3 c flags = search (needs, number-label)
-
-add-if4 : tie.Need-add-if4
-add-if4 c = search needs
 
 returns-4 : tie.Need-returns-4
 returns-4 c flags = search (needs, number-space)
@@ -27,4 +21,5 @@ returns-5 c flags = search (needs, number-done)
 
 pub write-fault-spec : {M : Type 1} → statement M
 write-fault-spec =
-    tie.close (tie.spec returns fault-requires returns-2 returns-3 add-if4 returns-4 returns-5)
+    tie.close
+    (tie.spec returns (search needs) returns-2 returns-3 (search needs) returns-4 returns-5)

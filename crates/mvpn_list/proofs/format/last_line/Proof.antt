@@ -25,9 +25,6 @@ field-requires-2 c κs =
     let w₂ = c .before .before .before .field in
     room-third (a .at) (openingOf (a .number)) (fieldOf (a .offset) 32) (fieldOf (a .number) 10) (now (a .output)) (c .before .before .before .before .before .before .before .before .before .before .pre) (w .result) (w .last .1 .0) (w .ensures) (w₂ .result) (w₂ .last .1 .1 .0) (w₂ .ensures)
 
-same-length : tie.Need-same-length
-same-length c = search needs
-
 returns : tie.Need-returns
 unfolding lastLine
 returns c =
@@ -39,4 +36,5 @@ returns c =
 
 pub last-line-spec : {M : Type 1} → statement M
 last-line-spec =
-    tie.close (tie.spec opening-requires field-requires field-requires-2 same-length returns)
+    tie.close
+    (tie.spec opening-requires field-requires field-requires-2 (search needs) returns)

@@ -25,9 +25,6 @@ field-requires-3 c κs =
     let w₂ = c .before .before .before .field2 in
     room-third (a .at) (fieldOf (a .offset) 32) (fieldOf (a .route-type) 32) (fieldOf (a .length-field) 10) (now (a .output)) (c .before .before .before .before .before .before .before .before .before .before .pre) (w .result) (w .last .1 .1 .0) (w .ensures) (w₂ .result) (w₂ .last .1 .1 .0) (w₂ .ensures)
 
-same-length : tie.Need-same-length
-same-length c = search needs
-
 returns : tie.Need-returns
 unfolding lineOf
 returns c =
@@ -39,4 +36,5 @@ returns c =
 
 pub line-spec : {M : Type 1} → statement M
 line-spec =
-    tie.close (tie.spec field-requires field-requires-2 field-requires-3 same-length returns)
+    tie.close
+    (tie.spec field-requires field-requires-2 field-requires-3 (search needs) returns)

@@ -17,9 +17,6 @@ lines-requires c κs =
     let w = c .before .before .before .header in
     front-next headerLine (linesOf (now (a .run))) (now (a .output)) (c .before .before .before .before .before .before .before .pre) (w .result) (w .last .0) (w .ensures)
 
-same-length : tie.Need-same-length
-same-length c = search needs
-
 returns : tie.Need-returns
 unfolding listingOf
 returns c =
@@ -29,4 +26,4 @@ returns c =
     front-both headerLine (linesOf (now (a .run))) (now (a .output)) (c .before .before .before .before .before .before .before .before .before .before .pre) (w .result) (w .last .0) (w .ensures) (w₂ .result) (w₂ .last .1 .0) (w₂ .ensures)
 
 pub list-spec : {M : Type 1} → statement M
-list-spec = tie.close (tie.spec header-requires lines-requires same-length returns)
+list-spec = tie.close (tie.spec header-requires lines-requires (search needs) returns)

@@ -16,10 +16,4 @@ returns c =
 pub place-32-spec : {M : Type 1} → statement M
 place-32-spec =
     tie.close
-    (tie.spec
-    (search needs)
-    (search needs)
-    (search needs)
-    (search needs)
-    (search needs)
-    returns)
+    (tie.spec (search needs) (search needs) (search needs) (search needs) (search needs) returns)

@@ -5,21 +5,6 @@ use borrow.Author.Needs.{needs}
 use Rattle.tunnel.proofs.blocks.place_to_64.Statement.{statement}
 use Rattle.tunnel.proofs.blocks.place_to_64.Tie as tie
 
-sub-last : tie.Need-sub-last
-sub-last c = search needs
-
-place-32-requires : tie.Need-place-32-requires
-place-32-requires c κs = search needs
-
-add-place-32 : tie.Need-add-place-32
-add-place-32 c = search needs
-
-place-32-requires-2 : tie.Need-place-32-requires-2
-place-32-requires-2 c κs = search needs
-
-same-length : tie.Need-same-length
-same-length c = search needs
-
 returns : tie.Need-returns
 returns c =
     let start = c .before .before .before .before .before .before .before .before .before .before in
@@ -31,4 +16,4 @@ returns c =
 pub place-to-64-spec : {M : Type 1} → statement M
 place-to-64-spec =
     tie.close
-    (tie.spec sub-last place-32-requires add-place-32 place-32-requires-2 same-length returns)
+    (tie.spec (search needs) (search needs) (search needs) (search needs) (search needs) returns)

@@ -29,11 +29,4 @@ returns-4 c =
 pub whole-spec : {M : Type 1} → statement M
 whole-spec =
     tie.close
-    (tie.spec
-    returns
-    (search needs)
-    (search needs)
-    returns-2
-    (search needs)
-    returns-3
-    returns-4)
+    (tie.spec returns (search needs) (search needs) returns-2 (search needs) returns-3 returns-4)

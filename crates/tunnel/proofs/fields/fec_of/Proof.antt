@@ -19,10 +19,4 @@ returns-2 c = search (flags, mldp-none)
 pub fec-of-spec : {M : Type 1} → statement M
 fec-of-spec =
     tie.close
-    (tie.spec
-    (search needs)
-    (search needs)
-    (search needs)
-    spans-requires
-    returns
-    returns-2)
+    (tie.spec (search needs) (search needs) (search needs) spans-requires returns returns-2)
