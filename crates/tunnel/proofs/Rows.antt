@@ -1,109 +1,81 @@
 -- The table's rows as the code tests them: unknown tunnel types, sizes, and the mLDP tunnel types with their FEC types.
-use Prim.Native.Nat.{ℕ, _≤_, _<_}
-use mathlib.Core.Path.{_≡_, refl, sym, ap, _∙_}
-use mathlib.Core.Logic.{_⊎_, inl, inr}
+use Prim.Native.Nat.{ℕ, _<_}
+use mathlib.Core.Path.{_≡_, refl, _∙_}
+use mathlib.Core.Logic.{⊎-elim}
 use mathlib.Core.Bool.{Bool, true, false}
 use mathlib.Core.List.{List, [], _∷_}
-use native.Mathlib.Omega.{arith}
-use lib.Dec.{ltb, eqb}
+use lib.Dec.{eqb}
 use lib.ListN.{length, getD}
-use borrow.Author.Tests.{ltb-true, ltb-false, eqb-true, eqb-false, ne-eqb}
 use Rattle.octets.specs.Choice.{pick, both, either}
 use Rattle.octets.specs.Numbers.{DONE, TUNNEL, IDENT}
-use Rattle.octets.specs.Outcome.{given, numberOf}
-use Rattle.octets.proofs.Choice.{tested, pick-passed, pick-false, either-false-left, either-false-right}
+use Rattle.octets.specs.Outcome.{Outcome, given, refused, onOutcome, numberOf}
+use Rattle.octets.specs.Order.{same}
+use Rattle.octets.proofs.Choice.{tested, opposite, either-true}
 use Rattle.octets.proofs.Outcome.{number-of-refused, number-unless}
+use Rattle.octets.proofs.Orders.{same-equal}
 use Rattle.tunnel.specs.Fec.{wholeFec}
-use Rattle.tunnel.specs.Identifier.{sizes, fecTypes, identifierForms, formIn, formOf, oneOf, isIdentifier, readIdentifier}
-use Rattle.tunnel.specs.Inner.{unknown, mldp, typeSuits, TakesSizes}
-use Rattle.tunnel.proofs.Identifiers.{read-known, read-unknown}
+use Rattle.tunnel.specs.Identifier.{IdentifierForm, sizes, fecTypes, identifierForms, formIn, formOf, oneOf, isIdentifier, readIdentifier}
+use Rattle.tunnel.specs.Inner.{unknown, fecForm, mldp, typeSuits, TakesSizes}
+use Rattle.tunnel.proofs.Identifiers.{agreeing, agree-below, unknown-form, read-known, read-unknown}
 
--- a tunnel type that the code's test finds unknown
+-- a tunnel type that the table lacks
 pub number-unknown : (t : ℕ) (i : List ℕ) → unknown t ≡ true → TUNNEL ≡ numberOf (readIdentifier t i)
-unfolding unknown
-number-unknown t i h =
-    let p = pick-passed (eqb t 11) (ltb 7 t) h in
-    number-of-refused TUNNEL (readIdentifier t i) (read-unknown t i (record { over = ltb-true 7 t (p .1); notBier = eqb-false t 11 (p .0) }))
+unfolding unknown onOutcome
+number-unknown t i h = go (formOf t) refl h
+  where
+    go : (o : Outcome IdentifierForm) → formOf t ≡ o → onOutcome (λ _. true) (λ _. false) o ≡ true → TUNNEL ≡ numberOf (readIdentifier t i)
+    go (given form) e q = absurd (opposite q refl)
+    go (refused n) e q = number-of-refused TUNNEL (readIdentifier t i) (read-unknown t i (unknown-form t n e))
 
--- the rows of sizes
-takes-sizes : (t m n : ℕ) (ns : List ℕ) → formOf t ≡ given (sizes ns) → ((i : List ℕ) → isIdentifier (sizes ns) i ≡ isIdentifier (sizes (m ∷ n ∷ [])) i) → TakesSizes t m n
-takes-sizes t m n ns e same i = rw (read-known t i (sizes ns) e, same i)
+-- a form of two sizes, or of the one where they are the same
+unfoldable pub pairForm : (first second : ℕ) → IdentifierForm → Bool
+pairForm first second (fecTypes ns) = false
+pairForm first second (sizes ns) = either (same ns (first ∷ (second ∷ []))) (same (second ∷ ns) (first ∷ (first ∷ [])))
 
 one-size : (n : ℕ) (i : List ℕ) → isIdentifier (sizes (n ∷ [])) i ≡ isIdentifier (sizes (n ∷ n ∷ [])) i
 unfolding isIdentifier oneOf either
 one-size n i = tested (eqb (length i) n) (λ p. rw p) (λ p. rw p)
 
-pub takes-none : (t : ℕ) → t ≡ 0 → TakesSizes t 0 0
-unfolding formOf formIn identifierForms pick
-takes-none t e = takes-sizes t 0 0 (0 ∷ []) (rw e) (one-size 0)
+pair-form : (m n : ℕ) (form : IdentifierForm) (i : List ℕ) → pairForm m n form ≡ true → isIdentifier form i ≡ isIdentifier (sizes (m ∷ n ∷ [])) i
+unfolding pairForm
+pair-form m n (fecTypes ns) i h = absurd (opposite h refl)
+pair-form m n (sizes ns) i h =
+    ⊎-elim (λ p. rw (same-equal ns (m ∷ (n ∷ [])) p))
+    (λ p.
+    let e = same-equal (n ∷ ns) (m ∷ (m ∷ [])) p in
+    let one : ns ≡ m ∷ [] = cc in
+    let other : n ≡ m = cc in
+    rw (one, other) (one-size m i))
+    (either-true _ _ h)
 
-pub takes-session : (t : ℕ) → t ≡ 1 → TakesSizes t 12 12
-unfolding formOf formIn identifierForms pick
-takes-session t e = takes-sizes t 12 12 (12 ∷ []) (rw e) (one-size 12)
+-- a tunnel type whose form is of two sizes
+unfoldable pub takesPair : (t first second : ℕ) → Bool
+takesPair t first second = onOutcome (λ _. false) (pairForm first second) (formOf t)
 
-pub takes-replication : (t : ℕ) → t ≡ 6 → TakesSizes t 4 16
-unfolding formOf formIn identifierForms pick
-takes-replication t e = takes-sizes t 4 16 (4 ∷ 16 ∷ []) (rw e) (λ i. refl)
+pub takes-pair : (t m n : ℕ) → takesPair t m n ≡ true → TakesSizes t m n
+unfolding takesPair onOutcome
+takes-pair t m n h = go (formOf t) refl h
+  where
+    go : (o : Outcome IdentifierForm) → formOf t ≡ o → onOutcome (λ _. false) (pairForm m n) o ≡ true → TakesSizes t m n
+    go (given form) e q j = rw (read-known t j form e, pair-form m n form j q)
+    go (refused k) e q j = absurd (opposite q refl)
 
-pub takes-bier : (t : ℕ) → t ≡ 11 → TakesSizes t 7 19
-unfolding formOf formIn identifierForms pick
-takes-bier t e = takes-sizes t 7 19 (7 ∷ 19 ∷ []) (rw e) (λ i. refl)
+-- the mLDP tunnel types, and the form of each
+pub mldp-octet : (r : Bool) (t : ℕ) → t < 256 → r ≡ either (eqb t 2) (eqb t 7) → r ≡ mldp t
+unfolding agreeing both pick either mldp fecForm formOf formIn identifierForms onOutcome
+mldp-octet r t h e = e ∙ agree-below (λ k. either (eqb k 2) (eqb k 7)) mldp 256 refl t h
 
-form-pim : (t : ℕ) → (t ≡ 3) ⊎ ((t ≡ 4) ⊎ (t ≡ 5)) → formOf t ≡ given (sizes (8 ∷ 32 ∷ []))
-unfolding formOf formIn identifierForms pick
-form-pim t (inl e) = rw e
-form-pim t (inr (inl e)) = rw e
-form-pim t (inr (inr e)) = rw e
-
-over-two : (t : ℕ) → (t ≡ 0 → ⊥) → (t ≡ 1 → ⊥) → (t ≡ 2 → ⊥) → 2 < t
-over-two t a b c = omega arith
-
-last-pim : (t : ℕ) → 2 < t → t ≤ 7 → (t ≡ 3 → ⊥) → (t ≡ 4 → ⊥) → (t ≡ 6 → ⊥) → (t ≡ 7 → ⊥) → t ≡ 5
-last-pim t l h d e f g = omega arith
-
--- every other tunnel type of the table is one of PIM's
-pub takes-pim : (t : ℕ) → unknown t ≡ false → mldp t ≡ false → (t ≡ 0 → ⊥) → (t ≡ 1 → ⊥) → (t ≡ 6 → ⊥) → (t ≡ 11 → ⊥) → TakesSizes t 8 32
-unfolding unknown mldp
-takes-pim t u m a b c d =
-    let most : t ≤ 7 = ltb-false 7 t (sym (pick-false (eqb t 11) false (ltb 7 t) (ne-eqb t 11 d)) ∙ u) in
-    let two = eqb-false t 2 (either-false-left (eqb t 2) (eqb t 7) m) in
-    let seven = eqb-false t 7 (either-false-right (eqb t 2) (eqb t 7) m) in
-    let pim : (t ≡ 3) ⊎ ((t ≡ 4) ⊎ (t ≡ 5)) =
-    tested (eqb t 3)
-    (λ q. inl (eqb-true t 3 q))
-    (λ q. tested (eqb t 4)
-    (λ r. inr (inl (eqb-true t 4 r)))
-    (λ r. inr (inr (last-pim t (over-two t a b two) most (eqb-false t 3 q) (eqb-false t 4 r) c seven)))) in
-    takes-sizes t 8 32 (8 ∷ 32 ∷ []) (form-pim t pim) (λ i. refl)
-
--- the rows of FECs: the form of the code's mLDP tunnel types, and its test of the FEC's type
-pub record MldpForm (t : ℕ) : Type 0 where
-  pub types : List ℕ
-  pub is : formOf t ≡ given (fecTypes types)
-  pub suits : (fecType : ℕ) → typeSuits t fecType ≡ oneOf fecType types
-
-either-none : (b : Bool) → b ≡ either b false
-unfolding either
-either-none true = refl
-either-none false = refl
-
-form-p2mp : (t : ℕ) → t ≡ 2 → MldpForm t
-unfolding formOf formIn identifierForms typeSuits oneOf pick
-form-p2mp t e = record { types = 6 ∷ []; is = rw e; suits = λ fecType. rw e (either-none (eqb fecType 6)) }
-
-form-mp2mp : (t : ℕ) → t ≡ 7 → MldpForm t
-unfolding formOf formIn identifierForms typeSuits oneOf pick
-form-mp2mp t e = record { types = 7 ∷ 8 ∷ []; is = rw e; suits = λ fecType. rw e (ap (either (eqb fecType 7)) (either-none (eqb fecType 8))) }
-
-pub form-mldp : (t : ℕ) → mldp t ≡ true → MldpForm t
-unfolding mldp either
-form-mldp t m =
-    tested (eqb t 2)
-    (λ p. form-p2mp t (eqb-true t 2 p))
-    (λ p. form-mp2mp t (eqb-true t 7 (rw p at m)))
+pub mldp-form : (t : ℕ) → mldp t ≡ true → (ns : List ℕ) × (formOf t ≡ given (fecTypes ns))
+unfolding mldp onOutcome fecForm
+mldp-form t m = go (formOf t) refl m
+  where
+    go : (o : Outcome IdentifierForm) → formOf t ≡ o → onOutcome (λ _. false) (fecForm (λ _. true)) o ≡ true → (ns : List ℕ) × (formOf t ≡ given (fecTypes ns))
+    go (given (sizes ns)) e q = absurd (opposite q refl)
+    go (given (fecTypes ns)) e q = (ns, e)
+    go (refused n) e q = absurd (opposite q refl)
 
 pub number-mldp : (t : ℕ) (i : List ℕ) (r : ℕ) → mldp t ≡ true → r ≡ pick (both (wholeFec i) (typeSuits t (getD i 0 0))) DONE IDENT → r ≡ numberOf (readIdentifier t i)
-unfolding isIdentifier
+unfolding isIdentifier typeSuits fecForm onOutcome
 number-mldp t i r m e =
-    let form = form-mldp t m in
-    rw (read-known t i (fecTypes (form .types)) (form .is), ← form .suits (getD i 0 0)) (number-unless r IDENT (both (wholeFec i) (typeSuits t (getD i 0 0))) i e)
+    let form = mldp-form t m in
+    rw (read-known t i (fecTypes (form .0)) (form .1)) (number-unless r IDENT (both (wholeFec i) (oneOf (getD i 0 0) (form .0))) i (rw (form .1) at e))

@@ -1,168 +1,116 @@
 -- Laws of writing an attribute, by the tests that the code makes; and `attributeWriteRule`.
-use Prim.Native.Nat.{ℕ, _+_, _≤_, _<_}
-use mathlib.Core.Path.{_≡_, refl, sym, ap, ap₂, subst, _∙_}
-use mathlib.Core.Bool.{true}
+use Prim.Native.Nat.{ℕ, _+_, _≤_}
+use mathlib.Core.Path.{_≡_, refl, sym, ap, ap₂, _∙_}
+use mathlib.Core.Bool.{Bool, true, false}
 use mathlib.Core.List.{List}
 use native.Mathlib.Omega.{arith}
 use lib.Dec.{ltb}
 use lib.ListN.{length}
 use borrow.Author.Tests.{ltb-true, ltb-false, le-ltb, lt-ltb}
 use Rattle.octets.specs.Choice.{pick}
-use Rattle.octets.specs.Numbers.{DONE, LONG, LABEL, SPACE}
+use Rattle.octets.specs.Numbers.{DONE, LABEL, SPACE}
 use Rattle.octets.specs.Outcome.{Outcome, given, refused, onOutcome, andThen, numberOf}
 use Rattle.octets.specs.Octets.{front}
 use Rattle.octets.specs.Outputs.{writtenOf, outputOf}
 use Rattle.octets.specs.declared.Written.{Written}
-use Rattle.octets.proofs.Choice.{tested}
-use Rattle.octets.proofs.Outcome.{never, refused-same, number-of-refused, number-refuses}
-use Rattle.tunnel.specs.Identifier.{IdentifierForm, formOf, isIdentifier, readIdentifier}
+use Rattle.octets.proofs.Choice.{pick-case}
+use Rattle.octets.proofs.Outcome.{given-same, given-otherwise, and-case, passed, done-given, Refuses, value, number, refuses-pick, refuses-then, refuses-by}
+use Rattle.tunnel.specs.Identifier.{OfType, readIdentifier}
 use Rattle.tunnel.specs.Attribute.{AttributeFields, WellFormedAttribute, encodeAttribute, writeAttribute}
 use Rattle.tunnel.specs.Statements.{OctetFields, AttributeWriteRefusal, long, badTunnel, badIdentifier, badLabel, noSpace, AttributeWriteRule}
-use Rattle.tunnel.proofs.Identifiers.{JudgedCase, noRow, noFit, fit, judged-case, of-type, read-unknown, read-unfit, read-of-type, judged-done}
+use Rattle.tunnel.proofs.Identifiers.{IdentifierRefusal, noRow, noFit, of-type, read-fits, read-refuses, read-unknown, read-unfit, read-of-type, refuses-identifier, judged-done}
 use Rattle.tunnel.proofs.ReadRule.{length-attribute}
 
 module _ (f : AttributeFields) (space : ℕ) where
-  -- past LONG, TUNNEL and IDENT
-  unfoldable fieldsWritten : Outcome (List ℕ)
-  fieldsWritten = pick (ltb 16777215 (f .labelField)) (refused LABEL) (pick (ltb space (length (encodeAttribute f))) (refused SPACE) (given (encodeAttribute f)))
-
-  write-long : 59 < length (f .identifier) → writeAttribute f space ≡ refused LONG
-  unfolding writeAttribute pick
-  write-long h = rw (lt-ltb 59 (length (f .identifier)) h)
-
-  write-sized : length (f .identifier) ≤ 59 → writeAttribute f space ≡ andThen (readIdentifier (f .tunnelType) (f .identifier)) (λ _. fieldsWritten)
-  unfolding writeAttribute fieldsWritten pick
-  write-sized h = rw (le-ltb 59 (length (f .identifier)) h)
-
-  write-judged : length (f .identifier) ≤ 59 → readIdentifier (f .tunnelType) (f .identifier) ≡ given (f .identifier) → writeAttribute f space ≡ fieldsWritten
-  unfolding andThen
-  write-judged h e = write-sized h ∙ rw e
-
-  written-label : 16777215 < f .labelField → fieldsWritten ≡ refused LABEL
-  unfolding fieldsWritten pick
-  written-label l = rw (lt-ltb 16777215 (f .labelField) l)
-
-  written-space : f .labelField ≤ 16777215 → space < length (encodeAttribute f) → fieldsWritten ≡ refused SPACE
-  unfolding fieldsWritten pick
-  written-space l r = rw (le-ltb 16777215 (f .labelField) l, lt-ltb space (length (encodeAttribute f)) r)
-
-  written-given : f .labelField ≤ 16777215 → length (encodeAttribute f) ≤ space → fieldsWritten ≡ given (encodeAttribute f)
-  unfolding fieldsWritten pick
-  written-given l r = rw (le-ltb 16777215 (f .labelField) l, le-ltb space (length (encodeAttribute f)) r)
-
-  -- the number, by the tests that the code makes
-  pub number-long : 59 < length (f .identifier) → LONG ≡ numberOf (writeAttribute f space)
-  number-long h = number-of-refused LONG (writeAttribute f space) (write-long h)
-
-  module _ (n : ℕ) (h : length (f .identifier) ≤ 59) (e : n ≡ numberOf (readIdentifier (f .tunnelType) (f .identifier))) where
-    pub number-fault : (n ≡ DONE → ⊥) → n ≡ numberOf (writeAttribute f space)
-    number-fault d = number-refuses n (readIdentifier (f .tunnelType) (f .identifier)) (λ _. fieldsWritten) e d ∙ sym (ap numberOf (write-sized h))
-
-    module _ (z : n ≡ DONE) where
-      number-judged : numberOf fieldsWritten ≡ numberOf (writeAttribute f space)
-      number-judged = sym (ap numberOf (write-judged h (judged-done (f .tunnelType) (f .identifier) (sym e ∙ z))))
-
-      pub number-label : 16777215 < f .labelField → LABEL ≡ numberOf (writeAttribute f space)
-      number-label l = number-of-refused LABEL fieldsWritten (written-label l) ∙ number-judged
-
-      pub number-space : f .labelField ≤ 16777215 → space < 5 + length (f .identifier) → SPACE ≡ numberOf (writeAttribute f space)
-      number-space l r = number-of-refused SPACE fieldsWritten (written-space l (omega (arith, length-attribute f))) ∙ number-judged
-
-      pub number-done : f .labelField ≤ 16777215 → 5 + length (f .identifier) ≤ space → DONE ≡ numberOf (writeAttribute f space)
-      unfolding numberOf
-      number-done l r = sym (ap numberOf (written-given l (omega (arith, length-attribute f)))) ∙ number-judged
+  -- past LONG, TUNNEL and IDENT the label field and the space decide
+  pub number-written : (r n : ℕ) → length (f .identifier) ≤ 59 → n ≡ numberOf (readIdentifier (f .tunnelType) (f .identifier)) → n ≡ DONE
+      → r ≡ pick (ltb 16777215 (f .labelField)) LABEL (pick (ltb space (5 + length (f .identifier))) SPACE DONE) → r ≡ numberOf (writeAttribute f space)
+  unfolding writeAttribute pick andThen numberOf
+  number-written r n h e z q =
+      rw (le-ltb 59 (length (f .identifier)) h, judged-done n (f .tunnelType) (f .identifier) e z, length-attribute f) (q ∙ go (ltb 16777215 (f .labelField)) (ltb space (5 + length (f .identifier))))
+    where
+      go : (a b : Bool) → pick a LABEL (pick b SPACE DONE) ≡ numberOf (pick a (refused LABEL) (pick b (refused SPACE) (given (encodeAttribute f))))
+      go true b = refl
+      go false true = refl
+      go false false = refl
 
   -- fields that the tests let pass
   pub record Writable : Type 0 where
     pub most : length (f .identifier) ≤ 59
-    pub form : IdentifierForm
-    pub found : formOf (f .tunnelType) ≡ given form
-    pub fits : isIdentifier form (f .identifier) ≡ true
+    pub judged : readIdentifier (f .tunnelType) (f .identifier) ≡ given (f .identifier)
     pub label : f .labelField ≤ 16777215
     pub room : length (encodeAttribute f) ≤ space
 
-  -- the two cases of writing, each with its answer
-  data WriteCase : Outcome (List ℕ) → Type 0 where
-    bad : {n : ℕ} → (OctetFields f → AttributeWriteRefusal f space n) → (n ≡ DONE → ⊥) → WriteCase (refused n)
-    good : Writable → WriteCase (given (encodeAttribute f))
+  well-formed : length (f .identifier) ≤ 59 → OfType (f .tunnelType) (f .identifier) → f .labelField ≤ 16777215 → OctetFields f → WellFormedAttribute f
+  well-formed h t l o = record { flagsFit = o .flagsFit; labelFits = omega arith; identifierSize = h; identifierOctets = o .identifierOctets; ofType = t }
 
-  well-formed : (form : IdentifierForm) → length (f .identifier) ≤ 59 → formOf (f .tunnelType) ≡ given form → isIdentifier form (f .identifier) ≡ true → f .labelField ≤ 16777215 → OctetFields f
-      → WellFormedAttribute f
-  well-formed form h e p l o =
-      record {
-        flagsFit = o .flagsFit;
-        labelFits = omega arith;
-        identifierSize = h;
-        identifierOctets = o .identifierOctets;
-        ofType = of-type (f .tunnelType) (f .identifier) form (o .identifierOctets) e p;
-      }
-
-  judged-write : length (f .identifier) ≤ 59 → (form : IdentifierForm) → formOf (f .tunnelType) ≡ given form → isIdentifier form (f .identifier) ≡ true → WriteCase fieldsWritten
-  judged-write h form e p =
-      tested (ltb 16777215 (f .labelField))
-      (λ q. let l = ltb-true 16777215 (f .labelField) q in
-      subst WriteCase (sym (written-label l)) (bad (λ o. badLabel h (of-type (f .tunnelType) (f .identifier) form (o .identifierOctets) e p) l) (λ z. omega arith)))
-      (λ q. let l = ltb-false 16777215 (f .labelField) q in
-      tested (ltb space (length (encodeAttribute f)))
-      (λ t. let r = ltb-true space (length (encodeAttribute f)) t in subst WriteCase (sym (written-space l r)) (bad (λ o. noSpace (well-formed form h e p l o) r) (λ z. omega arith)))
-      (λ t. let r = ltb-false space (length (encodeAttribute f)) t in
-      subst WriteCase (sym (written-given l r)) (good (record { most = h; form = form; found = e; fits = p; label = l; room = r }))))
-
-  sized-case : length (f .identifier) ≤ 59 → {o : Outcome (List ℕ)} → JudgedCase (f .tunnelType) (f .identifier) o → WriteCase (andThen o (λ _. fieldsWritten))
-  unfolding andThen
-  sized-case h (noRow u) = bad (λ o. badTunnel h u) (λ z. omega arith)
-  sized-case h (noFit k n) = bad (λ o. badIdentifier h k n) (λ z. omega arith)
-  sized-case h (fit form e p) = judged-write h form e p
-
-  write-case : WriteCase (writeAttribute f space)
-  write-case =
-      tested (ltb 59 (length (f .identifier)))
-      (λ p. let h = ltb-true 59 (length (f .identifier)) p in subst WriteCase (sym (write-long h)) (bad (λ o. long h) (λ z. omega arith)))
-      (λ p. let h = ltb-false 59 (length (f .identifier)) p in subst WriteCase (sym (write-sized h)) (sized-case h (judged-case (f .tunnelType) (f .identifier))))
+  -- a value given is the encoding
+  write-given : (e : List ℕ) → writeAttribute f space ≡ given e → Writable × (e ≡ encodeAttribute f)
+  unfolding writeAttribute
+  write-given e q =
+      let a = given-otherwise _ _ _ _ q in
+      let p = passed _ _ _ (a .1) in
+      let b = given-otherwise _ _ _ _ (p .second) in
+      let d = given-otherwise _ _ _ _ (b .1) in
+      (record { most = ltb-false 59 (length (f .identifier)) (a .0); judged = p .first ∙ ap given (sym (read-fits (p .first) .1)); label = ltb-false 16777215 (f .labelField) (b .0); room = ltb-false space (length (encodeAttribute f)) (d .0) }, given-same (sym (d .1)))
 
   -- DONE comes with the encoding
+  refuses-write : Refuses (λ n. n ≡ DONE → ⊥) (writeAttribute f space)
+  unfolding writeAttribute
+  refuses-write =
+      refuses-pick _ _ _ (number (λ z. omega arith)) (refuses-then _ _ (refuses-identifier (f .tunnelType) (f .identifier))
+      (λ _. refuses-pick _ _ _ (number (λ z. omega arith)) (refuses-pick _ _ _ (number (λ z. omega arith)) value)))
+
   pub write-done : (n : ℕ) → n ≡ numberOf (writeAttribute f space) → n ≡ DONE → Writable × (writeAttribute f space ≡ given (encodeAttribute f))
-  unfolding numberOf
-  write-done n e z = go write-case (sym e ∙ z)
-    where
-      go : {o : Outcome (List ℕ)} → WriteCase o → numberOf o ≡ DONE → Writable × (o ≡ given (encodeAttribute f))
-      go (bad r d) q = absurd (d q)
-      go (good w) q = (w, refl)
+  write-done n e z =
+      let d = done-given (writeAttribute f space) (λ m. refuses-by _ m refuses-write) (sym e ∙ z) in
+      let w = write-given (d .0) (d .1) in
+      (w .0, d .1 ∙ ap given (w .1))
 
-  write-given : (e : List ℕ) → OctetFields f → writeAttribute f space ≡ given e → WellFormedAttribute f × (length (encodeAttribute f) ≤ space) × (e ≡ encodeAttribute f)
-  write-given e o q = go write-case q
-    where
-      go : {r : Outcome (List ℕ)} → WriteCase r → r ≡ given e → WellFormedAttribute f × (length (encodeAttribute f) ≤ space) × (e ≡ encodeAttribute f)
-      go (bad r d) x = absurd (never x refl)
-      go (good w) x = (well-formed (w .form) (w .most) (w .found) (w .fits) (w .label) o, w .room, cc)
+  identifier-refusal : {n : ℕ} → length (f .identifier) ≤ 59 → IdentifierRefusal (f .tunnelType) (f .identifier) n → AttributeWriteRefusal f space n
+  identifier-refusal h (noRow u) = badTunnel h u
+  identifier-refusal h (noFit k o) = badIdentifier h k o
 
-  refusal-of : (n : ℕ) → OctetFields f → writeAttribute f space ≡ refused n → AttributeWriteRefusal f space n
-  refusal-of n o q = go write-case q
-    where
-      go : {r : Outcome (List ℕ)} → WriteCase r → r ≡ refused n → AttributeWriteRefusal f space n
-      go (bad r d) x = subst (AttributeWriteRefusal f space) (refused-same {A = List ℕ} x) (r o)
-      go (good w) x = absurd (never refl x)
+  write-refuses : OctetFields f → Refuses (AttributeWriteRefusal f space) (writeAttribute f space)
+  unfolding writeAttribute
+  write-refuses o =
+      pick-case (Refuses (AttributeWriteRefusal f space)) _ _ _ (λ p. number (long (ltb-true 59 (length (f .identifier)) p)))
+      (λ p.
+      let h = ltb-false 59 (length (f .identifier)) p in
+      and-case (Refuses (AttributeWriteRefusal f space)) _ _ (λ n e. number (identifier-refusal h (refuses-by _ n (read-refuses _ _) e)))
+      (λ i e.
+      let t = of-type (o .identifierOctets) (read-fits e .0) in
+      pick-case (Refuses (AttributeWriteRefusal f space)) _ _ _ (λ q. number (badLabel h t (ltb-true 16777215 (f .labelField) q)))
+      (λ q. pick-case (Refuses (AttributeWriteRefusal f space)) _ _ _
+      (λ r. number (noSpace (well-formed h t (ltb-false 16777215 (f .labelField) q) o) (ltb-true space (length (encodeAttribute f)) r)))
+      (λ _. value))))
 
   pub write-encode : WellFormedAttribute f → length (encodeAttribute f) ≤ space → writeAttribute f space ≡ given (encodeAttribute f)
-  write-encode w r = write-judged (w .identifierSize) (read-of-type (w .ofType)) ∙ written-given (omega (arith, w .labelFits)) r
+  unfolding writeAttribute pick andThen
+  write-encode w r =
+      rw (le-ltb 59 (length (f .identifier)) (w .identifierSize), read-of-type (w .ofType), le-ltb 16777215 (f .labelField) (omega (arith, w .labelFits)), le-ltb space (length (encodeAttribute f)) r)
 
   refused-by : (n : ℕ) → OctetFields f → AttributeWriteRefusal f space n → writeAttribute f space ≡ refused n
-  unfolding andThen
-  refused-by n o (long h) = write-long h
-  refused-by n o (badTunnel h u) = write-sized h ∙ rw (read-unknown (f .tunnelType) (f .identifier) u)
-  refused-by n o (badIdentifier h k t) = write-sized h ∙ rw (read-unfit (f .tunnelType) (f .identifier) (o .identifierOctets) k t)
-  refused-by n o (badLabel h t l) = write-judged h (read-of-type t) ∙ written-label l
-  refused-by n o (noSpace w r) = write-judged (w .identifierSize) (read-of-type (w .ofType)) ∙ written-space (omega (arith, w .labelFits)) r
+  unfolding writeAttribute pick andThen
+  refused-by n o (long h) = rw (lt-ltb 59 (length (f .identifier)) h)
+  refused-by n o (badTunnel h u) = rw (le-ltb 59 (length (f .identifier)) h, read-unknown (f .tunnelType) (f .identifier) u)
+  refused-by n o (badIdentifier h k t) = rw (le-ltb 59 (length (f .identifier)) h, read-unfit (f .tunnelType) (f .identifier) (o .identifierOctets) k t)
+  refused-by n o (badLabel h t l) = rw (le-ltb 59 (length (f .identifier)) h, read-of-type t, lt-ltb 16777215 (f .labelField) l)
+  refused-by n o (noSpace w r) =
+      rw (le-ltb 59 (length (f .identifier)) (w .identifierSize), read-of-type (w .ofType), le-ltb 16777215 (f .labelField) (omega (arith, w .labelFits)), lt-ltb space (length (encodeAttribute f)) r)
 
 pub attributeWriteRule : AttributeWriteRule
 attributeWriteRule =
     record {
-      accepted = λ f space e o. (write-given f space e o, λ p. rw (p .2) (write-encode f space (p .0) (p .1)));
-      exactly = λ f space n o. (refusal-of f space n o, refused-by f space n o);
+      accepted = λ f space e o. (
+        λ q. let w = write-given f space e q in (well-formed f space (w .0 .most) (of-type (o .identifierOctets) (read-fits (w .0 .judged) .0)) (w .0 .label) o, w .0 .room, w .1),
+        λ p. rw (p .2) (write-encode f space (p .0) (p .1)),
+      );
+      exactly = λ f space n o. (refuses-by _ n (write-refuses f space o), refused-by f space n o);
     }
 
-abbrev writtenAs : (number size : ℕ) → Written
-writtenAs number size = record { number = number; size = size }
+abbrev writtenAs : (answer size : ℕ) → Written
+writtenAs answer size = record { number = answer; size = size }
 
 -- what a writer answers and leaves, of a refusal and of an encoding
 pub output-refused : (o : Outcome (List ℕ)) (n : ℕ) (d : List ℕ) → o ≡ refused n → (writtenAs n 0 ≡ writtenOf o) × (d ≡ outputOf o d)

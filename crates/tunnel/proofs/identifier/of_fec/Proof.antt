@@ -26,7 +26,7 @@ of-fec-spec =
     (tie.spec
     (search needs)
     shared-slice-read-type-suits
-    (search needs)
+    (λ c κs. search needs)
     returns
     returns-2
     returns-3)
