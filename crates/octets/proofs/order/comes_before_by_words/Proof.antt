@@ -61,7 +61,7 @@ returns-4 c =
     let each-a = octets-of (now (s .a)) (λ k. o .before .shared-slice-known .given k .fits) in
     let each-b = octets-of (now (s .b)) (λ k. o .shared-slice-known2 .given k .fits) in
     lengths-decide (now (s .a)) (now (s .b)) (last + 8) (search needs)
-    (parts-alike (λ (s : List ℕ). numberIn s 0) (now (s .a)) (now (s .b)) last 8 _ _ (c .before .before .eight3 .ensures) (c .before .eight4 .ensures) (same-number each-a each-b last 8 (search needs) (search needs)) (alike-before (now (s .a)) (now (s .b)) last (l .i) (search needs) (l .inv)) (c .if3 .left))
+    (parts-alike (λ (s : List ℕ). numberIn s 0) (now (s .a)) (now (s .b)) last 8 _ _ (c .before .before .eight3 .ensures) (c .before .eight4 .ensures) (same-number each-a each-b last 8 (search needs) (search needs)) (alike-before (now (s .a)) (now (s .b)) last (l .i) (search needs) (l .inv)) (c .if3 .left)) _ refl
 
 pub comes-before-by-words-spec : {M : Type 1} → statement M
 comes-before-by-words-spec =
