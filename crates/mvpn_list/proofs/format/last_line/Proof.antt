@@ -8,14 +8,11 @@ use Rattle.mvpn_list.proofs.format.last_line.Tie as tie
 
 opening-requires : tie.Need-opening-requires
 unfolding lastLine
-opening-requires c κs = let a = c .before .before .args in room-first (a .at) (openingOf (a .number)) _ (now (a .output)) (c .before .before .pre)
+opening-requires c κs = search (needs, room-first)
 
 field-requires : tie.Need-field-requires
 unfolding lastLine
-field-requires c κs =
-    let a = c .before .before .before .before .before .before .args in
-    let w = c .before .before .before .opening in
-    room-second (a .at) (openingOf (a .number)) (fieldOf (a .offset) 32) (fieldOf (a .number) 10) (now (a .output)) (c .before .before .before .before .before .before .pre) (w .result) (w .last .1 .0) (w .ensures)
+field-requires c κs = search (needs, room-second)
 
 field-requires-2 : tie.Need-field-requires-2
 unfolding lastLine
