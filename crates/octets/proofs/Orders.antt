@@ -8,13 +8,13 @@ use native.Mathlib.Numerals.{add-one}
 use native.Mathlib.Omega.{arith}
 use lib.Bits.{bitOr, or-add-and, and-le-l, and-le-r}
 use lib.ListN.{length, getD, take, drop, length-drop, take-append-drop, drop-of-length-le}
-use lib.Seq.{drop-cons, take-suc, take-all, take-take}
+use lib.Seq.{drop-cons, drop-drop, take-suc, take-all, take-take}
 use lib.Dec.{ltb, eqb}
 use borrow.Author.Tests.{ltb-true, ltb-false, eqb-true, eqb-false, eq-eqb, ne-eqb, lt-ltb, le-ltb}
 use Rattle.octets.specs.Choice.{pick, both}
 use Rattle.octets.specs.Octets.{AllOctets, none, one, part, numberIn}
 use Rattle.octets.specs.Order.{same, before, zeros, allZero}
-use Rattle.octets.proofs.Choice.{opposite, both-true-left, both-true-right, both-true, pick-true, pick-false, tested, is-false}
+use Rattle.octets.proofs.Choice.{opposite, test-same, both-held, both-true-left, both-true-right, both-true, pick-true, pick-false, tested, is-false}
 use Rattle.octets.proofs.AllOctets.{octets-part, number-below}
 use Rattle.octets.proofs.Lists.{length-part, take-then}
 use Rattle.octets.proofs.NetworkOrder.{number-high}
@@ -267,14 +267,8 @@ both-then-true false = refl
 -- octets put together by `bitOr` are zero where each is
 or-zero : (x y : ℕ) → eqb (bitOr x y) 0 ≡ both (eqb x 0) (eqb y 0)
 or-zero x y =
-    tested (eqb (bitOr x y) 0)
-    (λ t.
-    let e : bitOr x y ≡ 0 = eqb-true _ _ t in
-    t ∙ sym (both-true _ _ (eq-eqb x 0 (omega (arith, or-add-and x y, and-le-r x y))) (eq-eqb y 0 (omega (arith, or-add-and x y, and-le-l x y)))))
-    (λ f. f ∙ sym (is-false _ (λ t. eqb-false _ _ f (joined (eqb-true x 0 (both-true-left _ _ t)) (eqb-true y 0 (both-true-right _ _ t))))))
-  where
-    joined : x ≡ 0 → y ≡ 0 → bitOr x y ≡ 0
-    joined p q = omega (arith, or-add-and x y)
+    test-same _ _ (λ t. let e : bitOr x y ≡ 0 = eqb-true _ _ t in both-true _ _ (eq-eqb x 0 (omega (arith, or-add-and x y, and-le-r x y))) (eq-eqb y 0 (omega (arith, or-add-and x y, and-le-l x y))))
+    (λ t. let p = both-held _ _ t in eq-eqb (bitOr x y) 0 (omega (arith, or-add-and x y, eqb-true x 0 (p .0), eqb-true y 0 (p .1))))
 
 -- a pass over octets that puts them together: nothing so far, and zeros left
 module _ (s : List ℕ) (i any : ℕ) where
@@ -296,25 +290,20 @@ zero-front n s h = both-true-left _ _ (sym (zero-append (take n s) (drop n s)) �
 zero-rest : (n : ℕ) (s : List ℕ) → allZero s ≡ true → allZero (drop n s) ≡ true
 zero-rest n s h = both-true-right _ _ (sym (zero-append (take n s) (drop n s)) ∙ ap allZero (take-append-drop n s) ∙ h)
 
--- a front and a rest that leave nothing out between them
-zero-covered : (s : List ℕ) (m n : ℕ) → n ≤ m → both (allZero (take m s)) (allZero (drop n s)) ≡ allZero s
+-- a rest and a front that leave nothing out between them
+pub zero-covered : (s : List ℕ) (m n : ℕ) → n ≤ m → both (allZero (drop n s)) (allZero (take m s)) ≡ allZero s
 zero-covered s m n h =
-    tested (allZero s)
-    (λ t. both-true _ _ (zero-front m s t) (zero-rest n s t) ∙ sym t)
-    (λ f. is-false _ (λ t. opposite (whole (zero-front n (take m s) (both-true-left _ _ t)) (both-true-right _ _ t)) f) ∙ sym f)
-  where
-    whole : allZero (take n (take m s)) ≡ true → allZero (drop n s) ≡ true → allZero s ≡ true
-    whole p q = ap allZero (sym (take-append-drop n s)) ∙ zero-append (take n s) (drop n s) ∙ both-true _ _ (ap allZero (sym (take-take n m s h)) ∙ p) q
+    test-same _ _
+    (λ t.
+    let front : allZero (take n s) ≡ true = ap allZero (sym (take-take n m s h)) ∙ zero-front n (take m s) (both-true-right _ _ t) in
+    ap allZero (sym (take-append-drop n s)) ∙ zero-append (take n s) (drop n s) ∙ both-true _ _ front (both-true-left _ _ t))
+    (λ t. both-true _ _ (zero-rest n s t) (zero-front m s t))
 
--- the last n octets: they are zero, so that those before them decide; or they are not
-module _ (s : List ℕ) (n : ℕ) (fits : n ≤ length s) where
-  part-last : part s (length s - n) n ≡ drop (length s - n) s
-  unfolding part
-  part-last = take-all n (drop (length s - n) s) (simp length-drop (omega arith))
-
-  pub zero-last : (m : ℕ) → length s - n ≤ m → allZero (part s (length s - n) n) ≡ true → allZero (part s 0 m) ≡ allZero s
-  unfolding part
-  zero-last m h t = sym (both-then-true (allZero (take m s))) ∙ ap (both (allZero (take m s))) (sym (sym (ap allZero part-last) ∙ t)) ∙ zero-covered s m (length s - n) h
-
-  pub other-last : allZero (part s (length s - n) n) ≡ false → false ≡ allZero s
-  other-last f = sym (is-false _ (λ t. opposite (zero-rest (length s - n) s t) (sym (ap allZero part-last) ∙ f)))
+-- the last n octets, and m from `start` on that reach them: all from `start` on
+pub zero-overlap : (r : Bool) (s : List ℕ) (last n start m : ℕ) → last + n ≡ length s → start ≤ last → last ≤ start + m → r ≡ both (allZero (part s last n)) (allZero (part s start m))
+    → r ≡ allZero (drop start s)
+unfolding part
+zero-overlap r s last n start m e h k q =
+    let at : start + (last - start) ≡ last = omega arith in
+    let end : take n (drop last s) ≡ drop (last - start) (drop start s) = take-all n (drop last s) (simp length-drop (omega arith)) ∙ ap (λ (j : ℕ). drop j s) (sym at) ∙ sym (drop-drop (last - start) start s) in
+    q ∙ ap (λ (l : List ℕ). both (allZero l) (allZero (take m (drop start s)))) end ∙ zero-covered (drop start s) m (last - start) (omega arith)
