@@ -1,6 +1,6 @@
 -- `tunnel::read` meets its contract: it goes by the number of the first fault.
-use Rattle.tunnel.proofs.Answers.{answer-refused, answer-given}
-use Rattle.tunnel.proofs.ReadRule.{read-tests}
+use Rattle.tunnel.proofs.Functions.Answers.{answer-refused, answer-given}
+use Rattle.tunnel.proofs.Definitions.Attributes.{read-tests}
 use Rattle.tunnel.specs.Answers.{outcomeOf}
 use borrow.Author.Needs.{needs}
 use Rattle.tunnel.proofs.read.Statement.{statement}

@@ -3,8 +3,8 @@ use denote.Ref.{now}
 use lib.ListN.{length}
 use native.Mathlib.Omega.{arith}
 use Rattle.octets.proofs.Outcome.{refused-of}
-use Rattle.tunnel.proofs.ReadRule.{length-attribute}
-use Rattle.tunnel.proofs.WriteRule.{write-done, output-refused, output-encoding}
+use Rattle.tunnel.proofs.Definitions.Attributes.{length-attribute, write-done}
+use Rattle.tunnel.proofs.Functions.Writes.{output-refused, output-encoding}
 use Rattle.tunnel.specs.Attribute.{writeAttribute}
 use Rattle.tunnel.specs.Answers.{argumentFields}
 use borrow.Author.Needs.{needs}

@@ -3,7 +3,7 @@ use Rattle.octets.specs.Outcome.{numberOf}
 use Rattle.octets.proofs.Outcome.{number-picks, number-skips, number-refuses}
 use Rattle.octets.proofs.Tests.{tests}
 use Rattle.tunnel.specs.Attribute.{writeAttribute}
-use Rattle.tunnel.proofs.WriteRule.{number-written}
+use Rattle.tunnel.proofs.Functions.Writes.{number-written}
 use borrow.Author.Needs.{needs}
 use Rattle.tunnel.proofs.write_fault.Statement.{statement}
 use Rattle.tunnel.proofs.write_fault.Tie as tie

@@ -1,6 +1,6 @@
 -- `tunnel::blocks::place_4` meets its contract.
 use denote.Ref.{now}
-use Rattle.tunnel.proofs.Copies.{part-array}
+use Rattle.tunnel.proofs.Functions.Copies.{part-array}
 use borrow.Author.Needs.{needs}
 use Rattle.tunnel.proofs.blocks.place_4.Statement.{statement}
 use Rattle.tunnel.proofs.blocks.place_4.Tie as tie

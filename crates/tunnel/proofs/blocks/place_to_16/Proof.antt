@@ -1,5 +1,5 @@
 -- `tunnel::blocks::place_to_16` meets its contract.
-use Rattle.tunnel.proofs.Copies.{placed-ends}
+use Rattle.tunnel.proofs.Functions.Copies.{placed-ends}
 use borrow.Author.Needs.{needs}
 use Rattle.tunnel.proofs.blocks.place_to_16.Statement.{statement}
 use Rattle.tunnel.proofs.blocks.place_to_16.Tie as tie

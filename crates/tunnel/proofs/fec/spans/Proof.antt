@@ -1,7 +1,7 @@
 -- `tunnel::fec::spans` meets its contract: a FEC has the octets that are read of it.
 use native.Mathlib.Omega.{arith}
 use denote.Ref.{now}
-use Rattle.tunnel.proofs.Fecs.{length-fec, length-root, length-opaque}
+use Rattle.tunnel.proofs.Definitions.Fecs.{length-fec, length-root, length-opaque}
 use Rattle.tunnel.specs.Fec.{fecIn}
 use Rattle.tunnel.specs.Answers.{fecSpans}
 use Rattle.tunnel.proofs.fec.spans.Statement.{statement}

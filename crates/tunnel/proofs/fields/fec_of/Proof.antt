@@ -1,6 +1,6 @@
 -- `tunnel::fields::fec_of` meets its contract: an mLDP tunnel type's identifier without a fault is a FEC.
 use Rattle.octets.proofs.Tests.{flags}
-use Rattle.tunnel.proofs.Answers.{mldp-whole, mldp-fec, mldp-none}
+use Rattle.tunnel.proofs.Functions.Answers.{mldp-whole, mldp-fec, mldp-none}
 use Rattle.tunnel.specs.Answers.{noFec}
 use borrow.Author.Needs.{needs}
 use Rattle.tunnel.proofs.fields.fec_of.Statement.{statement}

@@ -2,7 +2,7 @@
 use denote.Ref.{now}
 use mathlib.Core.Path.{sym, _∙_}
 use Rattle.octets.proofs.Tests.{flags}
-use Rattle.tunnel.proofs.Rows.{number-unknown}
+use Rattle.tunnel.proofs.Functions.Rows.{number-unknown}
 use borrow.Author.Needs.{needs}
 use Rattle.tunnel.proofs.identifier.fault.Statement.{statement}
 use Rattle.tunnel.proofs.identifier.fault.Tie as tie

@@ -1,6 +1,6 @@
 -- `tunnel::identifier::is_mldp` meets its contract: its tests are the table's on every octet.
 use Rattle.octets.proofs.Tests.{flags}
-use Rattle.tunnel.proofs.Rows.{mldp-octet}
+use Rattle.tunnel.proofs.Functions.Rows.{mldp-octet}
 use Rattle.tunnel.proofs.identifier.is_mldp.Statement.{statement}
 use Rattle.tunnel.proofs.identifier.is_mldp.Tie as tie
 

@@ -1,6 +1,6 @@
 -- `tunnel::identifier::is_unknown` meets its contract: its tests are the table's on every octet.
 use Rattle.octets.proofs.Tests.{tests}
-use Rattle.tunnel.proofs.Identifiers.{unknown-octet}
+use Rattle.tunnel.proofs.Definitions.Identifiers.{unknown-octet}
 use Rattle.tunnel.proofs.identifier.is_unknown.Statement.{statement}
 use Rattle.tunnel.proofs.identifier.is_unknown.Tie as tie
 

@@ -2,8 +2,8 @@
 use native.Mathlib.Omega.{arith}
 use denote.Ref.{now}
 use Rattle.octets.proofs.Tests.{flags}
-use Rattle.tunnel.proofs.Fecs.{length-fec}
-use Rattle.tunnel.proofs.Rows.{number-mldp}
+use Rattle.tunnel.proofs.Definitions.Fecs.{length-fec}
+use Rattle.tunnel.proofs.Functions.Rows.{number-mldp}
 use borrow.Author.Needs.{needs}
 use Rattle.tunnel.proofs.identifier.of_fec.Statement.{statement}
 use Rattle.tunnel.proofs.identifier.of_fec.Tie as tie

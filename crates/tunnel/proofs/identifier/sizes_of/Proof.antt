@@ -11,8 +11,8 @@ use Rattle.octets.proofs.Tests.{tests}
 use Rattle.tunnel.specs.declared.identifier.SizePair.{SizePair}
 use Rattle.tunnel.specs.Identifier.{identifierForms, formIn, formOf}
 use Rattle.tunnel.specs.Inner.{unknown, fecForm, mldp, TakesSizes}
-use Rattle.tunnel.proofs.Identifiers.{agreeing, agree-below}
-use Rattle.tunnel.proofs.Rows.{pairForm, takesPair, takes-pair}
+use Rattle.tunnel.proofs.Definitions.Identifiers.{agreeing, agree-below}
+use Rattle.tunnel.proofs.Functions.Rows.{pairForm, takesPair, takes-pair}
 use Rattle.tunnel.proofs.identifier.sizes_of.Statement.{statement}
 use Rattle.tunnel.proofs.identifier.sizes_of.Tie as tie
 

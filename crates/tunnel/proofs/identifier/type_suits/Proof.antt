@@ -11,7 +11,7 @@ use Rattle.octets.proofs.Choice.{either-true}
 use Rattle.octets.proofs.Tests.{flags}
 use Rattle.tunnel.specs.Identifier.{identifierForms, formIn, formOf, oneOf}
 use Rattle.tunnel.specs.Inner.{fecForm, mldp, typeSuits}
-use Rattle.tunnel.proofs.Rows.{mldp-octet}
+use Rattle.tunnel.proofs.Functions.Rows.{mldp-octet}
 use Rattle.tunnel.proofs.identifier.type_suits.Statement.{statement}
 use Rattle.tunnel.proofs.identifier.type_suits.Tie as tie
 

@@ -16,7 +16,7 @@ use Rattle.octets.proofs.Orders.{same-equal}
 use Rattle.tunnel.specs.Fec.{wholeFec}
 use Rattle.tunnel.specs.Identifier.{IdentifierForm, sizes, fecTypes, identifierForms, formIn, formOf, oneOf, isIdentifier, readIdentifier}
 use Rattle.tunnel.specs.Inner.{unknown, fecForm, mldp, typeSuits, TakesSizes}
-use Rattle.tunnel.proofs.Identifiers.{agreeing, agree-below, unknown-form, read-known, read-unknown}
+use Rattle.tunnel.proofs.Definitions.Identifiers.{agreeing, agree-below, unknown-form, read-known, read-unknown}
 
 -- a tunnel type that the table lacks
 pub number-unknown : (t : ℕ) (i : List ℕ) → unknown t ≡ true → TUNNEL ≡ numberOf (readIdentifier t i)

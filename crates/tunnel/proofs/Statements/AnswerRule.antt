@@ -20,11 +20,12 @@ use Rattle.tunnel.specs.Identifier.{IdentifierForm, sizes, fecTypes, for
 use Rattle.tunnel.specs.Attribute.{AttributeFields, WellFormedAttribute, labelOf, leafInformationRequired, encodeAttribute, fieldsIn, readAttribute, writeAttribute}
 use Rattle.tunnel.specs.Answers.{outcomeOf, span, fecSpans, noFec, fecOf, attributeStruct, readStruct}
 use Rattle.tunnel.specs.Statements.{octetsAt, fieldsTold, fecTold, AttributeRoundTrips, AnsweredFec, AnsweredForm, notFec, isFec, AnsweredAttribute, AttributeAnswerRule}
-use Rattle.tunnel.proofs.Fecs.{length-fec, length-root, length-opaque, whole-fields, fields-encode, length-encode}
-use Rattle.tunnel.proofs.Identifiers.{form-among, read-whole}
-use Rattle.tunnel.proofs.Answers.{fec-sizes, fec-types}
-use Rattle.tunnel.proofs.ReadRule.{Accepted, read-given, accepted-fields, length-attribute, read-encode, attributeReadRule}
-use Rattle.tunnel.proofs.WriteRule.{attributeWriteRule, write-encode}
+use Rattle.tunnel.proofs.Definitions.Fecs.{length-fec, length-root, length-opaque, whole-fields, fields-encode, length-encode}
+use Rattle.tunnel.proofs.Definitions.Identifiers.{form-among, read-whole}
+use Rattle.tunnel.proofs.Functions.Answers.{fec-sizes, fec-types}
+use Rattle.tunnel.proofs.Definitions.Attributes.{Accepted, read-given, length-attribute}
+use Rattle.tunnel.proofs.Statements.ReadRule.{accepted-fields, read-encode, attributeReadRule}
+use Rattle.tunnel.proofs.Statements.WriteRule.{attributeWriteRule, write-encode}
 
 -- the cases of the enum are told apart
 outcome-apart : (a b : Reading) → outcomeOf a ≡ outcomeOf b → a ≡ b

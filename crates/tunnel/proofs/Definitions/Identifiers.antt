@@ -20,7 +20,7 @@ use Rattle.tunnel.specs.Fec.{encodeFec, wholeFec, fecIn}
 use Rattle.tunnel.specs.Identifier.{IdentifierForm, sizes, fecTypes, TableRow, rowOf, identifierForms, formIn, formOf, IsIdentifier, ofSize, ofFec, OfType, oneOf, isIdentifier, judged, readIdentifier}
 use Rattle.tunnel.specs.Inner.{unknown}
 use Rattle.tunnel.specs.Statements.{Unknown}
-use Rattle.tunnel.proofs.Fecs.{whole-fields, whole-encode, type-encode}
+use Rattle.tunnel.proofs.Definitions.Fecs.{whole-fields, whole-encode, type-encode}
 
 -- `Among`, computed
 one-of-among : {n : ℕ} {ns : List ℕ} → Among n ns → oneOf n ns ≡ true

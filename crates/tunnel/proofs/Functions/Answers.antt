@@ -15,9 +15,9 @@ use Rattle.tunnel.specs.Identifier.{IdentifierForm, sizes, fecTypes, for
 use Rattle.tunnel.specs.Attribute.{AttributeFields, fieldsIn, readAttribute}
 use Rattle.tunnel.specs.Answers.{fecSpans, noFec, fecOfForm, fecOf, attributeStruct, readStruct}
 use Rattle.tunnel.specs.Inner.{fecForm, mldp}
-use Rattle.tunnel.proofs.Identifiers.{read-whole, judged-done}
-use Rattle.tunnel.proofs.Rows.{mldp-form}
-use Rattle.tunnel.proofs.ReadRule.{read-done}
+use Rattle.tunnel.proofs.Definitions.Identifiers.{read-whole, judged-done}
+use Rattle.tunnel.proofs.Functions.Rows.{mldp-form}
+use Rattle.tunnel.proofs.Definitions.Attributes.{read-done}
 
 -- the FEC of an answer, by its tunnel type's form
 pub fec-sizes : (f : AttributeFields) (ns : List ℕ) → formOf (f .tunnelType) ≡ given (sizes ns) → fecOf f ≡ noFec
