@@ -32,7 +32,7 @@ fecSpans f =
     }
 
 -- no FEC: all 0
-unfoldable pub noFec : Fec
+abbrev pub noFec : Fec
 noFec = record { «fec_type» = 0; «address_family» = 0; root = span 0 0; opaque = span 0 0 }
 
 -- the FEC of an identifier whose form is one

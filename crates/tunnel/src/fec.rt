@@ -4,7 +4,7 @@ ghost use mathlib.Core.Bool.{true};
 ghost use Prim.Native.Nat.{_<_, _≤_};
 ghost use Rattle.tunnel.specs.Fec.{wholeFec, fecIn};
 ghost use Rattle.tunnel.specs.Inner.{endsFrom};
-ghost use Rattle.tunnel.specs.Answers.{fecSpans};
+ghost use Rattle.tunnel.specs.Answers.{fecSpans, noFec};
 use octets::Span;
 
 // A FEC's type and address family, and where in the attribute its root address and its opaque value stand.
@@ -14,6 +14,20 @@ pub struct Fec {
     pub address_family: u32,
     pub root: Span,
     pub opaque: Span,
+}
+
+impl Fec {
+    // No FEC: every number 0.
+    pub fn none() -> Fec
+        ensures { λ r. ⌜ r ≡ noFec ⌝ }
+    {
+        Fec {
+            fec_type: 0,
+            address_family: 0,
+            root: Span { start: 0, size: 0 },
+            opaque: Span { start: 0, size: 0 },
+        }
+    }
 }
 
 // The types of FECs.

@@ -37,9 +37,9 @@ unfolding fieldsIn
 mldp-fec s rest r m k e = let form = mldp-form (getD s 1 0) m in e ∙ ap (λ (i : List ℕ). fecSpans (fecIn i)) k ∙ sym (fec-types (fieldsIn s) (form .0) (form .1))
 
 -- any other tunnel type has none
-pub mldp-none : (s : List ℕ) → mldp (getD s 1 0) ≡ false → noFec ≡ fecOf (fieldsIn s)
+pub mldp-none : (s : List ℕ) (r : Fec) → mldp (getD s 1 0) ≡ false → r ≡ noFec → r ≡ fecOf (fieldsIn s)
 unfolding mldp fecForm onOutcome fecOf fecOfForm fieldsIn
-mldp-none s m = go (formOf (getD s 1 0)) m
+mldp-none s r m e = e ∙ go (formOf (getD s 1 0)) m
   where
     go : (o : Outcome IdentifierForm) → onOutcome (λ _. false) (fecForm (λ _. true)) o ≡ false → noFec ≡ onOutcome (λ _. noFec) (λ form. fecOfForm form (drop 5 s)) o
     go (given (sizes ns)) q = refl

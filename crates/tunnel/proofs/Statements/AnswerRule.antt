@@ -18,7 +18,7 @@ use Rattle.tunnel.specs.declared.Attribute.{Attribute}
 use Rattle.tunnel.specs.Fec.{WellFormedFec, encodeFec, wholeFec, fecIn}
 use Rattle.tunnel.specs.Identifier.{IdentifierForm, sizes, fecTypes, formOf}
 use Rattle.tunnel.specs.Attribute.{AttributeFields, WellFormedAttribute, labelOf, leafInformationRequired, encodeAttribute, fieldsIn, readAttribute, writeAttribute}
-use Rattle.tunnel.specs.Answers.{outcomeOf, span, fecSpans, noFec, fecOf, attributeStruct, readStruct}
+use Rattle.tunnel.specs.Answers.{outcomeOf, span, fecSpans, fecOf, attributeStruct, readStruct}
 use Rattle.tunnel.specs.Statements.{octetsAt, fieldsTold, fecTold, AttributeRoundTrips, AnsweredFec, AnsweredForm, notFec, isFec, AnsweredAttribute, AttributeAnswerRule}
 use Rattle.tunnel.proofs.Definitions.Fecs.{length-fec, length-root, length-opaque, whole-fields, fields-encode, length-encode}
 use Rattle.tunnel.proofs.Definitions.Identifiers.{form-among, read-whole}
@@ -92,7 +92,7 @@ module _ (s : List ℕ) (o : AllOctets s) (p : Accepted s) where
       }
 
   answered-form : (form : IdentifierForm) → formOf (getD s 1 0) ≡ given form → AnsweredForm s (attributeStruct (fieldsIn s)) form
-  unfolding attributeStruct noFec fieldsIn
+  unfolding attributeStruct fieldsIn
   answered-form (sizes ns) e = notFec (fec-sizes (fieldsIn s) ns e)
   answered-form (fecTypes ns) e = isFec (answered-fec ns e)
 
@@ -140,7 +140,6 @@ module _ (s : List ℕ) (a : Attribute) (w : AnsweredAttribute s a) where
       rw (second, first, n, m)
 
   told-form : (form : IdentifierForm) → formOf (a .«tunnel_type») ≡ given form → AnsweredForm s a form → fecOf (fieldsTold s a) ≡ a .fec
-  unfolding noFec
   told-form form e (notFec {ns} z) = fec-sizes (fieldsTold s a) ns e ∙ sym z
   told-form form e (isFec {ns} k) =
       fec-types (fieldsTold s a) ns e ∙ ap (λ (i : List ℕ). fecSpans (fecIn i)) (k .encoded) ∙ ap fecSpans (fields-encode (fecTold s (a .fec)) (k .wellFormed)) ∙ told-spans k

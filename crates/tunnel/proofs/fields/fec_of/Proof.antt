@@ -1,7 +1,6 @@
 -- `tunnel::fields::fec_of` meets its contract: an mLDP tunnel type's identifier without a fault is a FEC.
 use Rattle.octets.proofs.Tests.{flags}
 use Rattle.tunnel.proofs.Functions.Answers.{mldp-whole, mldp-fec, mldp-none}
-use Rattle.tunnel.specs.Answers.{noFec}
 use borrow.Author.Needs.{needs}
 use Rattle.tunnel.proofs.fields.fec_of.Statement.{statement}
 use Rattle.tunnel.proofs.fields.fec_of.Tie as tie
@@ -13,10 +12,16 @@ returns : tie.Need-returns
 returns c = search (flags, mldp-fec)
 
 returns-2 : tie.Need-returns-2
-unfolding noFec
 returns-2 c = search (flags, mldp-none)
 
 pub fec-of-spec : {M : Type 1} → statement M
 fec-of-spec =
     tie.close
-    (tie.spec (search needs) (search needs) (search needs) spans-requires returns returns-2)
+    (tie.spec
+    (search needs)
+    (search needs)
+    (search needs)
+    spans-requires
+    returns
+    (search needs)
+    returns-2)
