@@ -8,24 +8,19 @@ use lib.ListN.{length}
 use Rattle.octets.specs.Choice.{both}
 use Rattle.octets.specs.Outcome.{onOutcome, numberOf}
 use Rattle.octets.specs.Octets.{part, numberIn}
-use Rattle.tunnel.specs.Identifier.{IdentifierForm, sizes, fecTypes, formOf, oneOf, judged, readIdentifier}
+use Rattle.tunnel.specs.Identifier.{sizes, onForm, formOf, oneOf, judged, readIdentifier}
 
 -- a tunnel type that the table lacks
 unfoldable pub unknown : ℕ → Bool
 unknown t = onOutcome (λ _. true) (λ _. false) (formOf t)
 
--- a form that is a FEC, of whose types a test holds
-unfoldable pub fecForm : (List ℕ → Bool) → IdentifierForm → Bool
-fecForm test (sizes ns) = false
-fecForm test (fecTypes ns) = test ns
-
 -- a tunnel type whose identifier is a FEC
 unfoldable pub mldp : ℕ → Bool
-mldp t = onOutcome (λ _. false) (fecForm (λ _. true)) (formOf t)
+mldp t = onOutcome (λ _. false) (onForm (λ _. false) (λ _. true)) (formOf t)
 
 -- the FEC types that such a tunnel type takes
 unfoldable pub typeSuits : (t fecType : ℕ) → Bool
-typeSuits t fecType = onOutcome (λ _. false) (fecForm (oneOf fecType)) (formOf t)
+typeSuits t fecType = onOutcome (λ _. false) (onForm (λ _. false) (oneOf fecType)) (formOf t)
 
 -- from `start` on as many octets as the opaque length before it says
 unfoldable pub endsFrom : List ℕ → (start : ℕ) → Bool

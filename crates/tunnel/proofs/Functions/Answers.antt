@@ -11,21 +11,21 @@ use Rattle.octets.proofs.Outcome.{refused-of}
 use Rattle.tunnel.specs.declared.Attribute.{Attribute}
 use Rattle.tunnel.specs.declared.fec.Fec.{Fec}
 use Rattle.tunnel.specs.Fec.{wholeFec, fecIn}
-use Rattle.tunnel.specs.Identifier.{IdentifierForm, sizes, fecTypes, formOf, readIdentifier}
+use Rattle.tunnel.specs.Identifier.{IdentifierForm, sizes, fecTypes, onForm, formOf, readIdentifier}
 use Rattle.tunnel.specs.Attribute.{AttributeFields, fieldsIn, readAttribute}
-use Rattle.tunnel.specs.Answers.{fecSpans, noFec, fecOfForm, fecOf, attributeStruct, readStruct}
-use Rattle.tunnel.specs.Inner.{fecForm, mldp}
+use Rattle.tunnel.specs.Answers.{fecSpans, noFec, fecOf, attributeStruct, readStruct}
+use Rattle.tunnel.specs.Inner.{mldp}
 use Rattle.tunnel.proofs.Definitions.Identifiers.{read-whole, judged-done}
 use Rattle.tunnel.proofs.Functions.Rows.{mldp-form}
 use Rattle.tunnel.proofs.Definitions.Attributes.{read-done}
 
 -- the FEC of an answer, by its tunnel type's form
 pub fec-sizes : (f : AttributeFields) (ns : List ℕ) → formOf (f .tunnelType) ≡ given (sizes ns) → fecOf f ≡ noFec
-unfolding fecOf fecOfForm onOutcome
+unfolding fecOf onForm onOutcome
 fec-sizes f ns e = rw e
 
 pub fec-types : (f : AttributeFields) (ns : List ℕ) → formOf (f .tunnelType) ≡ given (fecTypes ns) → fecOf f ≡ fecSpans (fecIn (f .identifier))
-unfolding fecOf fecOfForm onOutcome
+unfolding fecOf onForm onOutcome
 fec-types f ns e = rw e
 
 -- an mLDP tunnel type's identifier without a fault is a FEC, and its spans are the answer's
@@ -38,10 +38,10 @@ mldp-fec s rest r m k e = let form = mldp-form (getD s 1 0) m in e ∙ ap (λ (i
 
 -- any other tunnel type has none
 pub mldp-none : (s : List ℕ) (r : Fec) → mldp (getD s 1 0) ≡ false → r ≡ noFec → r ≡ fecOf (fieldsIn s)
-unfolding mldp fecForm onOutcome fecOf fecOfForm fieldsIn
+unfolding mldp onForm onOutcome fecOf fieldsIn
 mldp-none s r m e = e ∙ go (formOf (getD s 1 0)) m
   where
-    go : (o : Outcome IdentifierForm) → onOutcome (λ _. false) (fecForm (λ _. true)) o ≡ false → noFec ≡ onOutcome (λ _. noFec) (λ form. fecOfForm form (drop 5 s)) o
+    go : (o : Outcome IdentifierForm) → onOutcome (λ _. false) (onForm (λ _. false) (λ _. true)) o ≡ false → noFec ≡ onOutcome (λ _. noFec) (onForm (λ _. noFec) (λ _. fecSpans (fecIn (drop 5 s)))) o
     go (given (sizes ns)) q = refl
     go (given (fecTypes ns)) q = absurd (opposite refl q)
     go (refused n) q = refl

@@ -14,8 +14,8 @@ use Rattle.octets.proofs.Choice.{tested, opposite, either-true}
 use Rattle.octets.proofs.Outcome.{number-of-refused, number-unless}
 use Rattle.octets.proofs.Orders.{same-equal}
 use Rattle.tunnel.specs.Fec.{wholeFec}
-use Rattle.tunnel.specs.Identifier.{IdentifierForm, sizes, fecTypes, identifierForms, formIn, formOf, oneOf, isIdentifier, readIdentifier}
-use Rattle.tunnel.specs.Inner.{unknown, fecForm, mldp, typeSuits, TakesSizes}
+use Rattle.tunnel.specs.Identifier.{IdentifierForm, sizes, fecTypes, onForm, identifierForms, formIn, formOf, oneOf, isIdentifier, readIdentifier}
+use Rattle.tunnel.specs.Inner.{unknown, mldp, typeSuits, TakesSizes}
 use Rattle.tunnel.proofs.Definitions.Identifiers.{agreeing, agree-below, unknown-form, read-known, read-unknown}
 
 -- a tunnel type that the table lacks
@@ -62,20 +62,20 @@ takes-pair t m n h = go (formOf t) refl h
 
 -- the mLDP tunnel types, and the form of each
 pub mldp-octet : (r : Bool) (t : ℕ) → t < 256 → r ≡ either (eqb t 2) (eqb t 7) → r ≡ mldp t
-unfolding agreeing both pick either mldp fecForm formOf formIn identifierForms onOutcome
+unfolding agreeing both pick either mldp onForm formOf formIn identifierForms onOutcome
 mldp-octet r t h e = e ∙ agree-below (λ k. either (eqb k 2) (eqb k 7)) mldp 256 refl t h
 
 pub mldp-form : (t : ℕ) → mldp t ≡ true → (ns : List ℕ) × (formOf t ≡ given (fecTypes ns))
-unfolding mldp onOutcome fecForm
+unfolding mldp onOutcome onForm
 mldp-form t m = go (formOf t) refl m
   where
-    go : (o : Outcome IdentifierForm) → formOf t ≡ o → onOutcome (λ _. false) (fecForm (λ _. true)) o ≡ true → (ns : List ℕ) × (formOf t ≡ given (fecTypes ns))
+    go : (o : Outcome IdentifierForm) → formOf t ≡ o → onOutcome (λ _. false) (onForm (λ _. false) (λ _. true)) o ≡ true → (ns : List ℕ) × (formOf t ≡ given (fecTypes ns))
     go (given (sizes ns)) e q = absurd (opposite q refl)
     go (given (fecTypes ns)) e q = (ns, e)
     go (refused n) e q = absurd (opposite q refl)
 
 pub number-mldp : (t : ℕ) (i : List ℕ) (r : ℕ) → mldp t ≡ true → r ≡ pick (both (wholeFec i) (typeSuits t (getD i 0 0))) DONE IDENT → r ≡ numberOf (readIdentifier t i)
-unfolding isIdentifier typeSuits fecForm onOutcome
+unfolding isIdentifier typeSuits onForm onOutcome
 number-mldp t i r m e =
     let form = mldp-form t m in
     rw (read-known t i (fecTypes (form .0)) (form .1)) (number-unless r IDENT (both (wholeFec i) (oneOf (getD i 0 0) (form .0))) i (rw (form .1) at e))

@@ -9,8 +9,8 @@ use Rattle.octets.specs.Outcome.{onOutcome}
 use borrow.Author.Needs.{needs}
 use Rattle.octets.proofs.Tests.{tests}
 use Rattle.tunnel.specs.declared.identifier.SizePair.{SizePair}
-use Rattle.tunnel.specs.Identifier.{identifierForms, formIn, formOf}
-use Rattle.tunnel.specs.Inner.{unknown, fecForm, mldp, TakesSizes}
+use Rattle.tunnel.specs.Identifier.{onForm, identifierForms, formIn, formOf}
+use Rattle.tunnel.specs.Inner.{unknown, mldp, TakesSizes}
 use Rattle.tunnel.proofs.Definitions.Identifiers.{agreeing, agree-below}
 use Rattle.tunnel.proofs.Functions.Rows.{pairForm, takesPair, takes-pair}
 use Rattle.tunnel.proofs.identifier.sizes_of.Statement.{statement}
@@ -27,7 +27,7 @@ right : ℕ → Bool
 right t = either (unknown t) (either (mldp t) (takesPair t (chosen t .first) (chosen t .second)))
 
 takes-chosen : (t m n : ℕ) → t < 256 → unknown t ≡ false → mldp t ≡ false → pair m n ≡ chosen t → TakesSizes t m n
-unfolding right agreeing both pick either unknown fecForm mldp pairForm takesPair same formOf formIn identifierForms onOutcome
+unfolding right agreeing both pick either unknown onForm mldp pairForm takesPair same formOf formIn identifierForms onOutcome
 takes-chosen t m n h u l e =
     let w : right t ≡ true = agree-below right (λ _. true) 256 refl t h in
     let x : takesPair t (chosen t .first) (chosen t .second) ≡ true = rw (u, l) at w in

@@ -9,8 +9,8 @@ use Rattle.octets.specs.Choice.{pick, either}
 use Rattle.octets.specs.Outcome.{onOutcome}
 use Rattle.octets.proofs.Choice.{either-true}
 use Rattle.octets.proofs.Tests.{flags}
-use Rattle.tunnel.specs.Identifier.{identifierForms, formIn, formOf, oneOf}
-use Rattle.tunnel.specs.Inner.{fecForm, mldp, typeSuits}
+use Rattle.tunnel.specs.Identifier.{onForm, identifierForms, formIn, formOf, oneOf}
+use Rattle.tunnel.specs.Inner.{mldp, typeSuits}
 use Rattle.tunnel.proofs.Functions.Rows.{mldp-octet}
 use Rattle.tunnel.proofs.identifier.type_suits.Statement.{statement}
 use Rattle.tunnel.proofs.identifier.type_suits.Tie as tie
@@ -21,7 +21,7 @@ either-none true = refl
 either-none false = refl
 
 suits : (r : Bool) (t fecType : ℕ) → t < 256 → mldp t ≡ true → r ≡ pick (eqb t 2) (eqb fecType 6) (either (eqb fecType 7) (eqb fecType 8)) → r ≡ typeSuits t fecType
-unfolding typeSuits fecForm formOf formIn identifierForms onOutcome oneOf pick
+unfolding typeSuits onForm formOf formIn identifierForms onOutcome oneOf pick
 suits r t fecType h m e =
     e
     ∙ ⊎-elim (λ p. rw (eqb-true t 2 p) (either-none (eqb fecType 6)))
