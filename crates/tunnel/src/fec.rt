@@ -1,7 +1,8 @@
 // The mLDP FEC element that an identifier may be (RFC 6388, section 2.2).
 ghost use mathlib.Core.Path.{_≡_};
 ghost use mathlib.Core.Bool.{true};
-ghost use Prim.Native.Nat.{_<_, _≤_};
+ghost use Prim.Native.Nat.{_+_, _<_, _≤_};
+ghost use lib.ListN.{length, getD};
 ghost use Rattle.tunnel.specs.Fec.{wholeFec, fecIn};
 ghost use Rattle.tunnel.specs.Inner.{endsFrom};
 ghost use Rattle.tunnel.specs.Answers.{fecSpans, noFec};
@@ -91,7 +92,7 @@ pub(crate) fn whole(identifier: &[u8]) -> bool
 // The FEC that an identifier is, placed in its attribute: the root straight after the attribute's header of 5 octets and
 // the FEC's of 4, the opaque value after the root and the 2 octets of the opaque length.
 pub(crate) fn spans(identifier: &[u8]) -> Fec
-    requires { ⌜ wholeFec (now identifier) ≡ true ⌝ }
+    requires { ⌜ (wholeFec (now identifier) ≡ true) × (6 + getD (now identifier) 3 0 ≤ length (now identifier)) ⌝ }
     ensures { λ r. ⌜ r ≡ fecSpans (fecIn (now (identifier .entry))) ⌝ }
 {
     let size = identifier[3] as usize;

@@ -7,7 +7,6 @@ use lib.ListN.{length, getD, drop, length-append}
 use borrow.Author.Tests.{ltb-false}
 use Rattle.octets.specs.Numbers.{DONE}
 use Rattle.octets.specs.Outcome.{given, numberOf}
-use Rattle.octets.specs.Octets.{bigEndian}
 use Rattle.octets.proofs.Outcome.{given-same, given-otherwise, passed, number-given, done-given, Refuses, value, number, refuses-pick, refuses-then, refuses-by}
 use Rattle.octets.proofs.NetworkOrder.{length-bigEndian}
 use Rattle.tunnel.specs.Identifier.{readIdentifier}

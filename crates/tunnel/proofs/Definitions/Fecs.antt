@@ -1,22 +1,19 @@
 -- Laws of FECs: the tests that one passes, and what it is.
-use Prim.Native.Nat.{ℕ, _+_, _-_, _*_, _≤_, _<_}
-use mathlib.Core.Path.{_≡_, refl, sym, ap, subst, _∙_}
-use mathlib.Core.Logic.{_⊎_, inl, inr, ⊎-elim}
-use mathlib.Core.Bool.{Bool, true, false}
-use mathlib.Core.List.{List, [], _∷_, _++_}
+use Prim.Native.Nat.{ℕ, _+_, _-_, _≤_, _<_}
+use mathlib.Core.Path.{_≡_, refl, sym, ap, _∙_}
+use mathlib.Core.Logic.{⊎-elim}
+use mathlib.Core.Bool.{true}
+use mathlib.Core.List.{List, _∷_, _++_}
 use native.Mathlib.Omega.{arith}
-use lib.Dec.{leb, eqb}
 use lib.ListN.{length, getD, take, drop, length-append, length-drop, take-append-drop}
-use lib.Seq.{length-take-le, drop-drop, take-append-seam, drop-append-seam, drop-append-add, take-at, drop-at}
+use lib.Seq.{drop-cons, length-take-le, drop-drop, take-append-seam, drop-append-seam, drop-append-add, take-at, drop-at}
 use borrow.Author.Tests.{leb-true, eqb-true, eq-eqb, le-leb}
 use Rattle.octets.specs.Choice.{both, either}
 use Rattle.octets.specs.Octets.{AllOctets, part, numberIn, bigEndian}
-use Rattle.octets.proofs.Choice.{both-true, both-held, either-true, is-false}
+use Rattle.octets.proofs.Choice.{both-true, both-held, either-true}
 use Rattle.octets.proofs.AllOctets.{octet-at, octets-take, octets-drop}
-use Rattle.octets.proofs.NetworkOrder.{length-bigEndian, number-of-big-endian, number-part, part-number, part-fits}
+use Rattle.octets.proofs.NetworkOrder.{length-bigEndian, number-of-big-endian, part-number, part-fits}
 use Rattle.tunnel.specs.Fec.{FecFields, encodeFec, Suits, ipv4, ipv6, WellFormedFec, familySuits, opaqueFills, wholeFec, fecIn}
-use Rattle.tunnel.specs.Inner.{endsFrom}
-use Rattle.tunnel.specs.Statements.{FecRule}
 
 -- `Suits`, computed
 suits-of : (addressFamily size : ℕ) → familySuits addressFamily size ≡ true → Suits addressFamily size
@@ -67,18 +64,18 @@ length-root i h = let t = fec-tests i h in length-take-le (getD i 3 0) (drop 4 i
 pub length-opaque : (i : List ℕ) → length (drop (getD i 3 0 + 2) (drop 4 i)) ≡ length i - 6 - getD i 3 0
 length-opaque i = simp length-drop (omega (arith, length-drop 4 i))
 
--- a FEC is its parts
-header-parts : (i : List ℕ) → 4 ≤ length i → i ≡ getD i 0 0 ∷ (part i 1 2 ++ (getD i 3 0 ∷ drop 4 i))
+-- octets are a part and those after it; so a FEC is its parts
+pub drop-part : (s : List ℕ) (at n : ℕ) → drop at s ≡ part s at n ++ drop (at + n) s
 unfolding part
-header-parts [] h = absurd (omega arith)
-header-parts (a ∷ []) h = absurd (omega arith)
-header-parts (a ∷ (b ∷ [])) h = absurd (omega arith)
-header-parts (a ∷ (b ∷ (c ∷ []))) h = absurd (omega arith)
-header-parts (a ∷ (b ∷ (c ∷ (d ∷ r)))) h = refl
+drop-part s at n = sym (rw (← drop-drop n at s) (take-append-drop n (drop at s)))
+
+header-parts : (i : List ℕ) → 4 ≤ length i → i ≡ getD i 0 0 ∷ (part i 1 2 ++ (getD i 3 0 ∷ drop 4 i))
+header-parts i h =
+    drop-cons i 0 0 (omega arith)
+    ∙ ap (λ (l : List ℕ). getD i 0 0 ∷ l) (drop-part i 1 2 ∙ ap (λ (l : List ℕ). part i 1 2 ++ l) (drop-cons i 3 0 (omega arith)))
 
 rest-parts : (r : List ℕ) (n : ℕ) → r ≡ take n r ++ (part r n 2 ++ drop (n + 2) r)
-unfolding part
-rest-parts r n = sym (rw (← drop-drop 2 n r, take-append-drop 2 (drop n r)) (take-append-drop n r))
+rest-parts r n = sym (take-append-drop n r) ∙ ap (λ (l : List ℕ). take n r ++ l) (drop-part r n 2)
 
 -- the fields of octets that pass the tests are well-formed, and encode to these octets
 pub whole-fields : (i : List ℕ) → AllOctets i → wholeFec i ≡ true → WellFormedFec (fecIn i) × (i ≡ encodeFec (fecIn i))

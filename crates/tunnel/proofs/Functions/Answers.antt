@@ -1,9 +1,9 @@
 -- Laws of what reading answers, by the tests that the code makes.
-use Prim.Native.Nat.{ℕ}
+use Prim.Native.Nat.{ℕ, _+_, _≤_}
 use mathlib.Core.Path.{_≡_, refl, sym, ap, _∙_}
 use mathlib.Core.Bool.{true, false}
 use mathlib.Core.List.{List}
-use lib.ListN.{getD, drop}
+use lib.ListN.{length, getD, drop}
 use Rattle.octets.specs.Numbers.{DONE}
 use Rattle.octets.specs.Outcome.{Outcome, given, refused, onOutcome, andThen, numberOf}
 use Rattle.octets.proofs.Choice.{opposite}
@@ -15,6 +15,7 @@ use Rattle.tunnel.specs.Identifier.{IdentifierForm, sizes, fecTypes, onF
 use Rattle.tunnel.specs.Attribute.{AttributeFields, fieldsIn, readAttribute}
 use Rattle.tunnel.specs.Answers.{fecSpans, noFec, fecOf, attributeStruct, readStruct}
 use Rattle.tunnel.specs.Inner.{mldp}
+use Rattle.tunnel.proofs.Definitions.Fecs.{length-fec}
 use Rattle.tunnel.proofs.Definitions.Identifiers.{read-whole, judged-done}
 use Rattle.tunnel.proofs.Functions.Rows.{mldp-form}
 use Rattle.tunnel.proofs.Definitions.Attributes.{read-done}
@@ -29,8 +30,12 @@ unfolding fecOf onForm onOutcome
 fec-types f ns e = rw e
 
 -- an mLDP tunnel type's identifier without a fault is a FEC, and its spans are the answer's
-pub mldp-whole : (t : ℕ) (i rest : List ℕ) → mldp t ≡ true → numberOf (readIdentifier t i) ≡ DONE → rest ≡ i → wholeFec rest ≡ true
-mldp-whole t i rest m e k = let form = mldp-form t m in rw k (read-whole t i (form .1) (judged-done DONE t i (sym e) refl))
+module _ (t : ℕ) (i rest : List ℕ) (m : mldp t ≡ true) (e : numberOf (readIdentifier t i) ≡ DONE) (k : rest ≡ i) where
+  pub mldp-whole : wholeFec rest ≡ true
+  mldp-whole = let form = mldp-form t m in rw k (read-whole t i (form .1) (judged-done DONE t i (sym e) refl))
+
+  pub mldp-length : 6 + getD rest 3 0 ≤ length rest
+  mldp-length = length-fec rest mldp-whole
 
 pub mldp-fec : (s rest : List ℕ) (r : Fec) → mldp (getD s 1 0) ≡ true → rest ≡ drop 5 s → r ≡ fecSpans (fecIn rest) → r ≡ fecOf (fieldsIn s)
 unfolding fieldsIn

@@ -1,9 +1,10 @@
 -- `attributeReadRule`.
-use Prim.Native.Nat.{ℕ, _+_, _≤_, _<_}
-use mathlib.Core.Path.{_≡_, refl, sym, ap, subst, _∙_}
-use mathlib.Core.List.{List, [], _∷_, _++_}
+use Prim.Native.Nat.{ℕ, _+_, _≤_}
+use mathlib.Core.Path.{_≡_, refl, ap, subst, _∙_}
+use mathlib.Core.List.{List, _∷_, _++_}
 use native.Mathlib.Omega.{arith}
 use lib.ListN.{length, getD, drop, length-drop}
+use lib.Seq.{drop-cons}
 use borrow.Author.Tests.{ltb-true, ltb-false, le-ltb, lt-ltb}
 use Rattle.octets.specs.Choice.{pick}
 use Rattle.octets.specs.Outcome.{given, refused, andThen}
@@ -14,6 +15,7 @@ use Rattle.octets.proofs.AllOctets.{octet-at, octets-drop}
 use Rattle.octets.proofs.NetworkOrder.{number-of-big-endian, part-number, part-fits}
 use Rattle.tunnel.specs.Attribute.{AttributeFields, WellFormedAttribute, encodeAttribute, fieldsIn, readAttribute}
 use Rattle.tunnel.specs.Statements.{ReadableSize, AttributeReadRefusal, long, short, badTunnel, badIdentifier, AttributeReadRule}
+use Rattle.tunnel.proofs.Definitions.Fecs.{drop-part}
 use Rattle.tunnel.proofs.Definitions.Identifiers.{IdentifierRefusal, noRow, noFit, of-type, read-fits, read-refuses, read-unknown, read-unfit, read-of-type}
 use Rattle.tunnel.proofs.Definitions.Attributes.{length-attribute, Accepted, read-given}
 
@@ -32,13 +34,8 @@ attribute-refuses s =
 
 -- an attribute is its parts
 attribute-parts : (s : List ℕ) → 5 ≤ length s → s ≡ getD s 0 0 ∷ (getD s 1 0 ∷ (part s 2 3 ++ drop 5 s))
-unfolding part
-attribute-parts [] h = absurd (omega arith)
-attribute-parts (a ∷ []) h = absurd (omega arith)
-attribute-parts (a ∷ (b ∷ [])) h = absurd (omega arith)
-attribute-parts (a ∷ (b ∷ (c ∷ []))) h = absurd (omega arith)
-attribute-parts (a ∷ (b ∷ (c ∷ (d ∷ [])))) h = absurd (omega arith)
-attribute-parts (a ∷ (b ∷ (c ∷ (d ∷ (e ∷ r))))) h = refl
+attribute-parts s h =
+    drop-cons s 0 0 (omega arith) ∙ ap (λ (l : List ℕ). getD s 0 0 ∷ l) (drop-cons s 1 0 (omega arith) ∙ ap (λ (l : List ℕ). getD s 1 0 ∷ l) (drop-part s 2 3))
 
 -- the fields of octets that the tests let pass are well-formed, and encode to these octets
 pub accepted-fields : (s : List ℕ) → AllOctets s → Accepted s → WellFormedAttribute (fieldsIn s) × (s ≡ encodeAttribute (fieldsIn s))

@@ -11,15 +11,6 @@ use Rattle.tunnel.proofs.identifier.of_fec.Tie as tie
 shared-slice-read-type-suits : tie.Need-shared-slice-read-type-suits
 shared-slice-read-type-suits c = omega (arith, length-fec (now (c .before .before .before .before .args .identifier)) (search flags))
 
-returns : tie.Need-returns
-returns c = search (flags, number-mldp) depth 10
-
-returns-2 : tie.Need-returns-2
-returns-2 c = search (flags, number-mldp) depth 10
-
-returns-3 : tie.Need-returns-3
-returns-3 c = search (flags, number-mldp) depth 10
-
 pub of-fec-spec : {M : Type 1} → statement M
 of-fec-spec =
     tie.close
@@ -27,6 +18,6 @@ of-fec-spec =
     (search needs)
     shared-slice-read-type-suits
     (λ c κs. search needs)
-    returns
-    returns-2
-    returns-3)
+    (λ c. search (flags, number-mldp) depth 10)
+    (λ c. search (flags, number-mldp) depth 10)
+    (λ c. search (flags, number-mldp) depth 10))
