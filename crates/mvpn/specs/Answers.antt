@@ -13,7 +13,7 @@ unfoldable pub stepAnswer : Stepped → StepAnswer
 stepAnswer s = record { cursor = s .cursor; number = s .number; layout = s .layout }
 
 -- an attribute read
-unfoldable pub attributeGiven : Attribute → AttributeAnswer
+abbrev pub attributeGiven : Attribute → AttributeAnswer
 attributeGiven a =
     record {
       number = DONE;
@@ -27,7 +27,7 @@ attributeGiven a =
     }
 
 -- an attribute refused
-unfoldable pub attributeRefused : ℕ → AttributeAnswer
+abbrev pub attributeRefused : ℕ → AttributeAnswer
 attributeRefused number =
     record {
       number = number;

@@ -34,6 +34,19 @@ pub struct StepAnswer {
     pub layout: Layout,
 }
 
+impl StepAnswer {
+    // No NLRI: a refusal, or the run's end, which the caller tells by DONE with route type 0.
+    fn stopped(cursor: usize, number: u32) -> StepAnswer
+        ensures { λ r. ⌜ r ≡ stepAnswer (refusedAt number cursor) ⌝ }
+    {
+        StepAnswer {
+            cursor,
+            number,
+            layout: Layout::none(),
+        }
+    }
+}
+
 // What reading an attribute answers: the number beside the fields.
 #[repr(C)]
 pub struct AttributeAnswer {
@@ -45,6 +58,42 @@ pub struct AttributeAnswer {
     pub leaf_information_required: u32,
     pub identifier: Span,
     pub fec: Fec,
+}
+
+impl AttributeAnswer {
+    // An attribute that was read.
+    fn read(fields: Attribute) -> AttributeAnswer
+        ensures { λ r. ⌜ r ≡ attributeGiven fields ⌝ }
+    {
+        let identifier = fields.identifier;
+        let fec = fields.fec;
+        AttributeAnswer {
+            number: DONE,
+            flags: fields.flags,
+            tunnel_type: fields.tunnel_type,
+            label_field: fields.label_field,
+            label: fields.label,
+            leaf_information_required: fields.leaf_information_required,
+            identifier,
+            fec,
+        }
+    }
+
+    // An attribute that was refused.
+    fn refused(number: u32) -> AttributeAnswer
+        ensures { λ r. ⌜ r ≡ attributeRefused number ⌝ }
+    {
+        AttributeAnswer {
+            number,
+            flags: 0,
+            tunnel_type: 0,
+            label_field: 0,
+            label: 0,
+            leaf_information_required: 0,
+            identifier: Span { start: 0, size: 0 },
+            fec: Fec::none(),
+        }
+    }
 }
 
 // Reads a single NLRI.
@@ -78,19 +127,8 @@ pub extern "C" fn mvpn_step(afi: u16, run: &[u8], cursor: usize) -> StepAnswer
                 layout,
             };
         }
-        Step::End(last) => return stopped(last.at, DONE),
-        Step::Refused(number, last) => return stopped(last.at, number),
-    }
-}
-
-// No NLRI: a refusal, or the run's end, which the caller tells by DONE with route type 0.
-fn stopped(cursor: usize, number: u32) -> StepAnswer
-    ensures { λ r. ⌜ r ≡ stepAnswer (refusedAt number cursor) ⌝ }
-{
-    StepAnswer {
-        cursor,
-        number,
-        layout: Layout::none(),
+        Step::End(last) => return StepAnswer::stopped(last.at, DONE),
+        Step::Refused(number, last) => return StepAnswer::stopped(last.at, number),
     }
 }
 
@@ -116,47 +154,8 @@ pub extern "C" fn mvpn_attribute_read(attribute: &[u8]) -> AttributeAnswer
     ensures { λ r. ⌜ r ≡ attributeAnswer (readStruct (now (attribute .entry))) ⌝ }
 {
     match tunnel::read(attribute) {
-        Reading::Attribute(fields) => return read_answer(fields),
-        Reading::Refused(number) => return refusal(number),
-    }
-}
-
-// The answer of an attribute that was read.
-fn read_answer(fields: Attribute) -> AttributeAnswer
-    ensures { λ r. ⌜ r ≡ attributeGiven fields ⌝ }
-{
-    let identifier = fields.identifier;
-    let fec = fields.fec;
-    AttributeAnswer {
-        number: DONE,
-        flags: fields.flags,
-        tunnel_type: fields.tunnel_type,
-        label_field: fields.label_field,
-        label: fields.label,
-        leaf_information_required: fields.leaf_information_required,
-        identifier,
-        fec,
-    }
-}
-
-// The answer of an attribute that was refused.
-fn refusal(number: u32) -> AttributeAnswer
-    ensures { λ r. ⌜ r ≡ attributeRefused number ⌝ }
-{
-    AttributeAnswer {
-        number,
-        flags: 0,
-        tunnel_type: 0,
-        label_field: 0,
-        label: 0,
-        leaf_information_required: 0,
-        identifier: Span { start: 0, size: 0 },
-        fec: Fec {
-            fec_type: 0,
-            address_family: 0,
-            root: Span { start: 0, size: 0 },
-            opaque: Span { start: 0, size: 0 },
-        },
+        Reading::Attribute(fields) => return AttributeAnswer::read(fields),
+        Reading::Refused(number) => return AttributeAnswer::refused(number),
     }
 }
 

@@ -56,10 +56,8 @@ fn make(text: &[u8], at: usize, table: &mut [u8]) {
 fn install(text: &[u8], at: usize, table: &mut [u8]) {
     let mut nlri = [0u8; FIELD];
     let mut attribute = [0u8; FIELD];
-    let first = script::decode(text, at, &mut nlri);
-    let second = script::decode(text, script::past(text, at, b' '), &mut attribute);
-    let nlri_size = first.size;
-    let attribute_size = second.size;
+    let nlri_size = script::decode(text, at, &mut nlri);
+    let attribute_size = script::decode(text, script::past(text, at, b' '), &mut attribute);
     answer::installed(table::install(
         table,
         between(&nlri, 0, nlri_size),
@@ -70,16 +68,14 @@ fn install(text: &[u8], at: usize, table: &mut [u8]) {
 // Withdraws the NLRI that the line gives.
 fn withdraw(text: &[u8], at: usize, table: &mut [u8]) {
     let mut nlri = [0u8; FIELD];
-    let first = script::decode(text, at, &mut nlri);
-    let size = first.size;
+    let size = script::decode(text, at, &mut nlri);
     answer::plain(b"withdraw", table::withdraw(table, between(&nlri, 0, size)));
 }
 
 // Reads the router, and goes on to the flow.
 fn match_flow(text: &[u8], at: usize, table: &[u8], output: &mut [u8]) {
     let mut router = [0u8; FIELD];
-    let first = script::decode(text, at, &mut router);
-    let size = first.size;
+    let size = script::decode(text, at, &mut router);
     let next = script::past(text, at, b' ');
     match_of(text, next, table, between(&router, 0, size), output);
 }
@@ -88,10 +84,8 @@ fn match_flow(text: &[u8], at: usize, table: &[u8], output: &mut [u8]) {
 fn match_of(text: &[u8], at: usize, table: &[u8], router: &[u8], output: &mut [u8]) {
     let mut source = [0u8; FIELD];
     let mut group = [0u8; FIELD];
-    let second = script::decode(text, at, &mut source);
-    let third = script::decode(text, script::past(text, at, b' '), &mut group);
-    let source_size = second.size;
-    let group_size = third.size;
+    let source_size = script::decode(text, at, &mut source);
+    let group_size = script::decode(text, script::past(text, at, b' '), &mut group);
     let answer = table::match_flow(
         table,
         router,

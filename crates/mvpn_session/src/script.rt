@@ -8,12 +8,6 @@ pub(crate) const FIELD: usize = 80;
 // No digit, or no two digits.
 const NONE: u32 = 256;
 
-// A field's size in octets, and where its digits end.
-pub(crate) struct Field {
-    pub(crate) size: usize,
-    pub(crate) next: usize,
-}
-
 // The value of a hexadecimal digit in lower case.
 fn digit(c: u8) -> u32
     ensures { λ r. ⌜ r ≤ 256 ⌝ }
@@ -54,22 +48,22 @@ fn pair(script: &[u8], at: usize) -> u32
     (high % 16) * 16 + low % 16
 }
 
-// The octets of the field whose digits begin at `start`, as many as fit.
-pub(crate) fn decode(script: &[u8], start: usize, field: &mut [u8]) -> Field
-    ensures { λ r. ⌜ r .size ≤ length (now (field .entry)) ⌝ }
+// Puts the octets whose digits begin at `start` into `field`, as many as fit, and answers how many.
+pub(crate) fn decode(script: &[u8], start: usize, field: &mut [u8]) -> usize
+    ensures { λ r. ⌜ r ≤ length (now (field .entry)) ⌝ }
 {
     let mut size = 0;
     let mut next = start;
     while size < field.len() {
         let octet = pair(script, next);
         if 255 < octet {
-            return Field { size, next };
+            return size;
         }
         field[size] = octet as u8;
         size += 1;
         next += 2;
     }
-    Field { size, next }
+    size
 }
 
 // Just past the first octet `c` from `start` on, or the script's end.

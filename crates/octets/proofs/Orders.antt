@@ -8,13 +8,13 @@ use native.Mathlib.Numerals.{add-one}
 use native.Mathlib.Omega.{arith}
 use lib.Bits.{bitOr, or-add-and, and-le-l, and-le-r}
 use lib.ListN.{length, getD, take, drop, length-drop, take-append-drop, drop-of-length-le}
-use lib.Seq.{drop-cons, take-all, take-take}
+use lib.Seq.{drop-cons, drop-drop, take-suc, take-all, take-take}
 use lib.Dec.{ltb, eqb}
 use borrow.Author.Tests.{ltb-true, ltb-false, eqb-true, eqb-false, eq-eqb, ne-eqb, lt-ltb, le-ltb}
 use Rattle.octets.specs.Choice.{pick, both}
 use Rattle.octets.specs.Octets.{AllOctets, none, one, part, numberIn}
 use Rattle.octets.specs.Order.{same, before, zeros, allZero}
-use Rattle.octets.proofs.Choice.{opposite, both-true-left, both-true-right, both-true, pick-true, pick-false, tested, is-false}
+use Rattle.octets.proofs.Choice.{opposite, test-same, both-held, both-true-left, both-true-right, both-true, pick-true, pick-false, tested, is-false}
 use Rattle.octets.proofs.AllOctets.{octets-part, number-below}
 use Rattle.octets.proofs.Lists.{length-part, take-then}
 use Rattle.octets.proofs.NetworkOrder.{number-high}
@@ -130,56 +130,10 @@ all-zeros (x ∷ s) h = ap₂ (λ (a : ℕ) (l : List ℕ). a ∷ l) (eqb-true x
 pub lengths-differ : (xs ys : List ℕ) → (length xs ≡ length ys → ⊥) → same xs ys ≡ false
 lengths-differ xs ys h = unequal-other xs ys (λ e. h (ap length e))
 
--- one octet of each looked at
-same-from : (a b : List ℕ) (i : ℕ) → i < length a → i < length b
-    → same (drop i a) (drop i b) ≡ both (eqb (getD a i 0) (getD b i 0)) (same (drop (i + 1) a) (drop (i + 1) b))
-unfolding same
-same-from a b i h k = rw (drop-cons a i 0, drop-cons b i 0, add-one)
-
-before-from : (a b : List ℕ) (i : ℕ) → i < length a → i < length b
-    → before (drop i a) (drop i b) ≡ pick (eqb (getD a i 0) (getD b i 0)) (before (drop (i + 1) a) (drop (i + 1) b)) (ltb (getD a i 0) (getD b i 0))
-unfolding before
-before-from a b i h k = rw (drop-cons a i 0, drop-cons b i 0, add-one)
-
+-- one octet looked at
 zero-from : (s : List ℕ) (i : ℕ) → i < length s → allZero (drop i s) ≡ both (eqb (getD s i 0) 0) (allZero (drop (i + 1) s))
 unfolding allZero
 zero-from s i h = rw (drop-cons s i 0, add-one)
-
--- a pass over two lists: what is left decides
-module _ (a b : List ℕ) (i : ℕ) where
-  pub same-next : i < length a → length a ≡ length b → same a b ≡ same (drop i a) (drop i b) → getD a i 0 ≡ getD b i 0 → same a b ≡ same (drop (i + 1) a) (drop (i + 1) b)
-  unfolding both
-  same-next h k p e = p ∙ same-from a b i h (omega arith) ∙ rw (eq-eqb (getD a i 0) (getD b i 0) e)
-
-  pub same-stops : i < length a → length a ≡ length b → same a b ≡ same (drop i a) (drop i b) → (getD a i 0 ≡ getD b i 0 → ⊥) → false ≡ same a b
-  unfolding both
-  same-stops h k p n = sym (p ∙ same-from a b i h (omega arith) ∙ rw (ne-eqb (getD a i 0) (getD b i 0) n))
-
-  pub same-ends : length a ≤ i → length a ≡ length b → same a b ≡ same (drop i a) (drop i b) → true ≡ same a b
-  same-ends h k p = sym (p ∙ same-of-equal (drop i a) (drop i b) (drop-of-length-le a h ∙ sym (drop-of-length-le b {i = i} (omega arith))))
-
-  pub before-next : i < length a → i < length b → before a b ≡ before (drop i a) (drop i b) → getD a i 0 ≡ getD b i 0 → before a b ≡ before (drop (i + 1) a) (drop (i + 1) b)
-  before-next h k p e = p ∙ before-from a b i h k ∙ pick-true _ _ _ (eq-eqb (getD a i 0) (getD b i 0) e)
-
-  pub before-stops : i < length a → i < length b → before a b ≡ before (drop i a) (drop i b) → (getD a i 0 ≡ getD b i 0 → ⊥) → ltb (getD a i 0) (getD b i 0) ≡ before a b
-  before-stops h k p n = sym (p ∙ before-from a b i h k ∙ pick-false _ _ _ (ne-eqb (getD a i 0) (getD b i 0) n))
-
-  pub before-longer : i < length a → length b ≤ i → before a b ≡ before (drop i a) (drop i b) → false ≡ before a b
-  unfolding before
-  before-longer h k p = sym (p ∙ rw (drop-cons a i 0, drop-of-length-le b k))
-
-  pub before-ends : length a ≤ i → i ≤ length a → before a b ≡ before (drop i a) (drop i b) → ltb (length a) (length b) ≡ before a b
-  unfolding before
-  before-ends h k p =
-      sym
-      (p
-      ∙ tested (ltb (length a) (length b))
-      (λ t.
-      let l : i < length b = omega (arith, ltb-true) in
-      rw (drop-of-length-le a h, drop-cons b i 0, t))
-      (λ f.
-      let l : length b ≤ i = omega (arith, ltb-false) in
-      rw (drop-of-length-le a h, drop-of-length-le b l, f)))
 
 -- lists that begin alike: what is left decides
 before-past : (n : ℕ) (a b : List ℕ) → take n a ≡ take n b → before a b ≡ before (drop n a) (drop n b)
@@ -192,6 +146,21 @@ before-past (suc n) (x ∷ a) (y ∷ b) e =
     let p : x ≡ y = cc in
     let q : take n a ≡ take n b = cc in
     pick-true _ _ _ (eq-eqb x y p) ∙ before-past n a b q
+
+-- octets that begin alike, and one of each after that
+module _ (a b : List ℕ) (i : ℕ) (front : take i a ≡ take i b) where
+  pub octet-alike : i < length a → i < length b → getD a i 0 ≡ getD b i 0 → take (i + 1) a ≡ take (i + 1) b
+  octet-alike h k e = rw (add-one, take-suc a i 0 h, take-suc b i 0 k, front, e)
+
+  pub octet-decides : i < length a → i < length b → (getD a i 0 ≡ getD b i 0 → ⊥) → ltb (getD a i 0) (getD b i 0) ≡ before a b
+  unfolding before
+  octet-decides h k d = sym (before-past i a b front ∙ rw (drop-cons a i 0 h, drop-cons b i 0 k) (pick-false _ _ _ (ne-eqb _ _ d)))
+
+  pub alike-whole : length a ≤ i → length b ≤ i → true ≡ same a b
+  alike-whole h k = sym (same-of-equal a b (sym (take-all i a h) ∙ front ∙ take-all i b k))
+
+pub octet-other : (a b : List ℕ) (i : ℕ) → (getD a i 0 ≡ getD b i 0 → ⊥) → false ≡ same a b
+octet-other a b i d = sym (unequal-other a b (λ e. d (ap (λ (s : List ℕ). getD s i 0) e)))
 
 -- lists of one length that differ decide, whatever follows them
 before-first : (xs ys p q : List ℕ) → length xs ≡ length ys → (xs ≡ ys → ⊥) → before (xs ++ p) (ys ++ q) ≡ before xs ys
@@ -264,7 +233,7 @@ module _ (number : List ℕ → ℕ) (a b : List ℕ) (i n x y : ℕ) (in-a : x 
     pub parts-end : length a ≡ i + n → length b ≡ i + n → eqb x y ≡ same a b
     parts-end h k =
         tested (eqb x y)
-        (λ t. t ∙ sym (same-of-equal a b (sym (take-all (i + n) a (omega arith)) ∙ parts-alike (eqb-true x y t) ∙ take-all (i + n) b (omega arith))))
+        (λ t. t ∙ alike-whole a b (i + n) (parts-alike (eqb-true x y t)) (omega arith) (omega arith))
         (λ f. f ∙ parts-other (eqb-false x y f))
 
 -- lists that begin alike begin alike before that too
@@ -272,9 +241,10 @@ pub alike-before : (a b : List ℕ) (i j : ℕ) → i ≤ j → take j a ≡ tak
 alike-before a b i j h e = sym (take-take i j a h) ∙ ap (take i) e ∙ take-take i j b h
 
 -- lists that are alike as far as the shorter goes
-pub lengths-decide : (a b : List ℕ) (n : ℕ) → n ≡ min (length a) (length b) → take n a ≡ take n b → ltb (length a) (length b) ≡ before a b
-lengths-decide a b n h e =
-    sym
+pub lengths-decide : (a b : List ℕ) (n : ℕ) → n ≡ min (length a) (length b) → take n a ≡ take n b → (r : Bool) → r ≡ ltb (length a) (length b) → r ≡ before a b
+lengths-decide a b n h e r q =
+    q
+    ∙ sym
     (before-past n a b e
     ∙ tested (ltb (length a) (length b))
     (λ t.
@@ -297,14 +267,8 @@ both-then-true false = refl
 -- octets put together by `bitOr` are zero where each is
 or-zero : (x y : ℕ) → eqb (bitOr x y) 0 ≡ both (eqb x 0) (eqb y 0)
 or-zero x y =
-    tested (eqb (bitOr x y) 0)
-    (λ t.
-    let e : bitOr x y ≡ 0 = eqb-true _ _ t in
-    t ∙ sym (both-true _ _ (eq-eqb x 0 (omega (arith, or-add-and x y, and-le-r x y))) (eq-eqb y 0 (omega (arith, or-add-and x y, and-le-l x y)))))
-    (λ f. f ∙ sym (is-false _ (λ t. eqb-false _ _ f (joined (eqb-true x 0 (both-true-left _ _ t)) (eqb-true y 0 (both-true-right _ _ t))))))
-  where
-    joined : x ≡ 0 → y ≡ 0 → bitOr x y ≡ 0
-    joined p q = omega (arith, or-add-and x y)
+    test-same _ _ (λ t. let e : bitOr x y ≡ 0 = eqb-true _ _ t in both-true _ _ (eq-eqb x 0 (omega (arith, or-add-and x y, and-le-r x y))) (eq-eqb y 0 (omega (arith, or-add-and x y, and-le-l x y))))
+    (λ t. let p = both-held _ _ t in eq-eqb (bitOr x y) 0 (omega (arith, or-add-and x y, eqb-true x 0 (p .0), eqb-true y 0 (p .1))))
 
 -- a pass over octets that puts them together: nothing so far, and zeros left
 module _ (s : List ℕ) (i any : ℕ) where
@@ -326,25 +290,20 @@ zero-front n s h = both-true-left _ _ (sym (zero-append (take n s) (drop n s)) �
 zero-rest : (n : ℕ) (s : List ℕ) → allZero s ≡ true → allZero (drop n s) ≡ true
 zero-rest n s h = both-true-right _ _ (sym (zero-append (take n s) (drop n s)) ∙ ap allZero (take-append-drop n s) ∙ h)
 
--- a front and a rest that leave nothing out between them
-zero-covered : (s : List ℕ) (m n : ℕ) → n ≤ m → both (allZero (take m s)) (allZero (drop n s)) ≡ allZero s
+-- a rest and a front that leave nothing out between them
+pub zero-covered : (s : List ℕ) (m n : ℕ) → n ≤ m → both (allZero (drop n s)) (allZero (take m s)) ≡ allZero s
 zero-covered s m n h =
-    tested (allZero s)
-    (λ t. both-true _ _ (zero-front m s t) (zero-rest n s t) ∙ sym t)
-    (λ f. is-false _ (λ t. opposite (whole (zero-front n (take m s) (both-true-left _ _ t)) (both-true-right _ _ t)) f) ∙ sym f)
-  where
-    whole : allZero (take n (take m s)) ≡ true → allZero (drop n s) ≡ true → allZero s ≡ true
-    whole p q = ap allZero (sym (take-append-drop n s)) ∙ zero-append (take n s) (drop n s) ∙ both-true _ _ (ap allZero (sym (take-take n m s h)) ∙ p) q
+    test-same _ _
+    (λ t.
+    let front : allZero (take n s) ≡ true = ap allZero (sym (take-take n m s h)) ∙ zero-front n (take m s) (both-true-right _ _ t) in
+    ap allZero (sym (take-append-drop n s)) ∙ zero-append (take n s) (drop n s) ∙ both-true _ _ front (both-true-left _ _ t))
+    (λ t. both-true _ _ (zero-rest n s t) (zero-front m s t))
 
--- the last n octets: they are zero, so that those before them decide; or they are not
-module _ (s : List ℕ) (n : ℕ) (fits : n ≤ length s) where
-  part-last : part s (length s - n) n ≡ drop (length s - n) s
-  unfolding part
-  part-last = take-all n (drop (length s - n) s) (simp length-drop (omega arith))
-
-  pub zero-last : (m : ℕ) → length s - n ≤ m → allZero (part s (length s - n) n) ≡ true → allZero (part s 0 m) ≡ allZero s
-  unfolding part
-  zero-last m h t = sym (both-then-true (allZero (take m s))) ∙ ap (both (allZero (take m s))) (sym (sym (ap allZero part-last) ∙ t)) ∙ zero-covered s m (length s - n) h
-
-  pub other-last : allZero (part s (length s - n) n) ≡ false → false ≡ allZero s
-  other-last f = sym (is-false _ (λ t. opposite (zero-rest (length s - n) s t) (sym (ap allZero part-last) ∙ f)))
+-- the last n octets, and m from `start` on that reach them: all from `start` on
+pub zero-overlap : (r : Bool) (s : List ℕ) (last n start m : ℕ) → last + n ≡ length s → start ≤ last → last ≤ start + m → r ≡ both (allZero (part s last n)) (allZero (part s start m))
+    → r ≡ allZero (drop start s)
+unfolding part
+zero-overlap r s last n start m e h k q =
+    let at : start + (last - start) ≡ last = omega arith in
+    let end : take n (drop last s) ≡ drop (last - start) (drop start s) = take-all n (drop last s) (simp length-drop (omega arith)) ∙ ap (λ (j : ℕ). drop j s) (sym at) ∙ sym (drop-drop (last - start) start s) in
+    q ∙ ap (λ (l : List ℕ). both (allZero l) (allZero (take m (drop start s)))) end ∙ zero-covered (drop start s) m (last - start) (omega arith)

@@ -75,6 +75,12 @@ unfolding pick
 and-pick true x y f = refl
 and-pick false x y f = refl
 
+-- what holds of the first refusal and of the next step holds of the whole
+pub and-case : {A B : Type 0} (P : Outcome B → Type 0) (o : Outcome A) (next : A → Outcome B) → ((n : ℕ) → o ≡ refused n → P (refused n)) → ((a : A) → o ≡ given a → P (next a)) → P (andThen o next)
+unfolding andThen
+and-case P (given a) next p q = q a refl
+and-case P (refused n) next p q = p n refl
+
 -- a value of two steps: what the first gave, and that the second gave it of that
 pub record Passed {A B : Type 0} (o : Outcome A) (next : A → Outcome B) (b : B) : Type 0 where
   pub value : A

@@ -26,7 +26,7 @@ use Rattle.nlri.specs.Inner.{fieldsAt}
 use Rattle.nlri.proofs.Functions.Via.{nlri-given, reading-refused}
 use Rattle.nlri.proofs.Functions.Singles.{read-by-layout, read-refused}
 use Rattle.tunnel.specs.Attribute.{readAttribute, fieldsIn, labelOf}
-use Rattle.tunnel.proofs.ReadRule.{read-done}
+use Rattle.tunnel.proofs.Definitions.Attributes.{read-done}
 use Rattle.routes.specs.Route.{route, nlriOf, attributeOf}
 use Rattle.routes.specs.Arguments.{readSPmsi, readLabelled, readRoute}
 use Rattle.routes.specs.Place.{endIn, routeIn, acceptable, placeSound}

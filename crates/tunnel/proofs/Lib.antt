@@ -1,10 +1,5 @@
--- Laws of the definitions, and the theorems.
-pub mod Copies
-pub mod Fecs
-pub mod Identifiers
-pub mod Rows
-pub mod ReadRule
-pub mod WriteRule
-pub mod Answers
-pub mod AnswerRule
+-- Laws of the definitions, how the functions' proofs use them, and the theorems.
+pub mod Definitions
+pub mod Functions
+pub mod Statements
 pub mod Theorems

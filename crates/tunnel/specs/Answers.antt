@@ -9,7 +9,7 @@ use Rattle.tunnel.specs.declared.Reading.the-variants.{Attribute as read
 use Rattle.tunnel.specs.declared.Attribute.{Attribute}
 use Rattle.tunnel.specs.declared.fec.Fec.{Fec}
 use Rattle.tunnel.specs.Fec.{FecFields, fecIn}
-use Rattle.tunnel.specs.Identifier.{IdentifierForm, sizes, fecTypes, formOf}
+use Rattle.tunnel.specs.Identifier.{onForm, formOf}
 use Rattle.tunnel.specs.Attribute.{AttributeFields, labelOf, leafInformationRequired, readAttribute, writeAttribute}
 
 -- each case of `Reading`: the attribute, or the number that refuses it
@@ -32,17 +32,12 @@ fecSpans f =
     }
 
 -- no FEC: all 0
-unfoldable pub noFec : Fec
+abbrev pub noFec : Fec
 noFec = record { «fec_type» = 0; «address_family» = 0; root = span 0 0; opaque = span 0 0 }
-
--- the FEC of an identifier whose form is one
-unfoldable pub fecOfForm : IdentifierForm → List ℕ → Fec
-fecOfForm (sizes ns) i = noFec
-fecOfForm (fecTypes ns) i = fecSpans (fecIn i)
 
 -- the FEC of an attribute, by its tunnel type's row
 unfoldable pub fecOf : AttributeFields → Fec
-fecOf f = onOutcome (λ _. noFec) (λ form. fecOfForm form (f .identifier)) (formOf (f .tunnelType))
+fecOf f = onOutcome (λ _. noFec) (onForm (λ _. noFec) (λ _. fecSpans (fecIn (f .identifier)))) (formOf (f .tunnelType))
 
 -- an attribute's fields, the identifier from octet 5 on
 unfoldable pub attributeStruct : AttributeFields → Attribute

@@ -15,6 +15,11 @@ pub data IdentifierForm : Type 0 where
   sizes : List ℕ → IdentifierForm
   fecTypes : List ℕ → IdentifierForm
 
+-- by cases: of the sizes, or of the types
+unfoldable pub onForm : {B : Type 0} → (List ℕ → B) → (List ℕ → B) → IdentifierForm → B
+onForm ofSizes ofTypes (sizes ns) = ofSizes ns
+onForm ofSizes ofTypes (fecTypes ns) = ofTypes ns
+
 -- a tunnel type and its identifier's form
 pub record TableRow : Type 0 where
   pub tunnelType : ℕ

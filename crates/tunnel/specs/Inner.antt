@@ -1,26 +1,26 @@
 -- These definitions mirror inner functions of src/, and no public contract cites them; laws tie them to document 01's definitions.
 use Prim.Native.Nat.{ℕ, _+_, _-_, _≤_}
 use mathlib.Core.Path.{_≡_}
-use mathlib.Core.Bool.{Bool, false}
+use mathlib.Core.Bool.{Bool, true, false}
 use mathlib.Core.List.{List, [], _∷_}
-use lib.Dec.{ltb, leb, eqb}
+use lib.Dec.{leb, eqb}
 use lib.ListN.{length}
-use Rattle.octets.specs.Choice.{pick, both, either}
-use Rattle.octets.specs.Outcome.{numberOf}
+use Rattle.octets.specs.Choice.{both}
+use Rattle.octets.specs.Outcome.{onOutcome, numberOf}
 use Rattle.octets.specs.Octets.{part, numberIn}
-use Rattle.tunnel.specs.Identifier.{sizes, judged, readIdentifier}
+use Rattle.tunnel.specs.Identifier.{sizes, onForm, formOf, oneOf, judged, readIdentifier}
 
 -- a tunnel type that the table lacks
 unfoldable pub unknown : ℕ → Bool
-unknown t = pick (eqb t 11) false (ltb 7 t)
+unknown t = onOutcome (λ _. true) (λ _. false) (formOf t)
 
 -- a tunnel type whose identifier is a FEC
 unfoldable pub mldp : ℕ → Bool
-mldp t = either (eqb t 2) (eqb t 7)
+mldp t = onOutcome (λ _. false) (onForm (λ _. false) (λ _. true)) (formOf t)
 
 -- the FEC types that such a tunnel type takes
 unfoldable pub typeSuits : (t fecType : ℕ) → Bool
-typeSuits t fecType = pick (eqb t 2) (eqb fecType 6) (either (eqb fecType 7) (eqb fecType 8))
+typeSuits t fecType = onOutcome (λ _. false) (onForm (λ _. false) (oneOf fecType)) (formOf t)
 
 -- from `start` on as many octets as the opaque length before it says
 unfoldable pub endsFrom : List ℕ → (start : ℕ) → Bool

@@ -20,12 +20,7 @@ fn fec_of(s: &[u8]) -> Fec
     if crate::identifier::is_mldp(s[1]) {
         return crate::fec::spans(octets::parts::after(s, crate::HEADER));
     }
-    Fec {
-        fec_type: 0,
-        address_family: 0,
-        root: Span { start: 0, size: 0 },
-        opaque: Span { start: 0, size: 0 },
-    }
+    Fec::none()
 }
 
 // All the fields of an attribute whose identifier has no fault.
@@ -34,7 +29,7 @@ pub(crate) fn fields(s: &[u8]) -> Attribute
     requires { ⌜ numberOf (readIdentifier (getD (now s) 1 0) (drop 5 (now s))) ≡ DONE ⌝ }
     ensures { λ r. ⌜ r ≡ attributeStruct (fieldsIn (now (s .entry))) ⌝ }
 {
-    let label_field = octets::wide::three(s, 2);
+    let label_field = octets::wide::three(s, crate::LABEL_FIELD);
     let fec = fec_of(s);
     let flags = s[0] as u32;
     let tunnel_type = s[1] as u32;

@@ -86,6 +86,7 @@ fn of_sizes(identifier: &[u8], first: usize, second: usize) -> u32
 
 // The FEC types that an mLDP tunnel type takes.
 fn type_suits(tunnel_type: u8, fec_type: u8) -> bool
+    requires { ⌜ mldp «tunnel_type» ≡ true ⌝ }
     ensures { λ r. ⌜ r ≡ typeSuits «tunnel_type» «fec_type» ⌝ }
 {
     if tunnel_type == TunnelType::MLDP_P2MP {

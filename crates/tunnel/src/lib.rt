@@ -19,8 +19,10 @@ mod tunnel_type;
 
 pub use tunnel_type::TunnelType;
 
-// Flags 1, tunnel type 1, label field 3.
-const HEADER: usize = 5;
+// Flags 1, tunnel type 1, label field 3: where the label field starts, and where the identifier does.
+pub const LABEL_FIELD: usize = 2;
+
+pub const HEADER: usize = 5;
 
 // The most octets of an attribute, and of its identifier.
 const MOST: usize = 64;

@@ -10,12 +10,12 @@ use Rattle.mvpn.proofs.mvpn_attribute_read.Tie as tie
 returns : tie.Need-returns
 unfolding outcomeOf attributeAnswer
 returns c =
-    c .read-answer .ensures ∙ on-given _ _ _ _ _ (sym (c .before .before .before .before .read .ensures) ∙ ap outcomeOf (c .before .before .fields .given .1)) refl
+    c .read2 .ensures ∙ on-given _ _ _ _ _ (sym (c .before .before .before .before .read .ensures) ∙ ap outcomeOf (c .before .before .fields .given .1)) refl
 
 returns-2 : tie.Need-returns-2
 unfolding outcomeOf attributeAnswer
 returns-2 c =
-    c .refusal .ensures ∙ on-refused _ _ _ _ _ (sym (c .before .before .before .before .read .ensures) ∙ ap outcomeOf (c .before .before .number .given .1)) refl
+    c .refused .ensures ∙ on-refused _ _ _ _ _ (sym (c .before .before .before .before .read .ensures) ∙ ap outcomeOf (c .before .before .number .given .1)) refl
 
 pub mvpn-attribute-read-spec : {M : Type 1} → statement M
 mvpn-attribute-read-spec =

@@ -1,13 +1,10 @@
 -- `tunnel::read` meets its contract: it goes by the number of the first fault.
-use Rattle.tunnel.proofs.Answers.{answer-refused, answer-given}
-use Rattle.tunnel.proofs.ReadRule.{read-tests}
+use Rattle.tunnel.proofs.Functions.Answers.{answer-refused, answer-given}
+use Rattle.tunnel.proofs.Definitions.Attributes.{read-tests}
 use Rattle.tunnel.specs.Answers.{outcomeOf}
 use borrow.Author.Needs.{needs}
 use Rattle.tunnel.proofs.read.Statement.{statement}
 use Rattle.tunnel.proofs.read.Tie as tie
-
-fault-requires : tie.Need-fault-requires
-fault-requires c κs = search needs
 
 returns : tie.Need-returns
 unfolding outcomeOf
@@ -21,4 +18,4 @@ unfolding outcomeOf
 returns-2 c = answer-given _ _ (c .before .before .fault .ensures) (c .before .if1 .left) _ (c .fields .ensures)
 
 pub read-spec : {M : Type 1} → statement M
-read-spec = tie.close (tie.spec fault-requires returns fields-requires returns-2)
+read-spec = tie.close (tie.spec (search needs) returns fields-requires returns-2)

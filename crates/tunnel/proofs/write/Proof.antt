@@ -3,16 +3,13 @@ use denote.Ref.{now}
 use lib.ListN.{length}
 use native.Mathlib.Omega.{arith}
 use Rattle.octets.proofs.Outcome.{refused-of}
-use Rattle.tunnel.proofs.ReadRule.{length-attribute}
-use Rattle.tunnel.proofs.WriteRule.{write-done, output-refused, output-encoding}
+use Rattle.tunnel.proofs.Definitions.Attributes.{length-attribute, write-done}
+use Rattle.tunnel.proofs.Functions.Writes.{output-refused, output-encoding}
 use Rattle.tunnel.specs.Attribute.{writeAttribute}
 use Rattle.tunnel.specs.Answers.{argumentFields}
 use borrow.Author.Needs.{needs}
 use Rattle.tunnel.proofs.write.Statement.{statement}
 use Rattle.tunnel.proofs.write.Tie as tie
-
-write-fault-requires : tie.Need-write-fault-requires
-write-fault-requires c κs = search needs
 
 returns : tie.Need-returns
 returns c =
@@ -30,9 +27,6 @@ put-requires c κs =
     let w = write-done f (length (now (a .output))) (n .result) (n .ensures (a .flags)) (c .before .if1 .left) .0 in
     (w .most, omega (arith, length-attribute f, w .room))
 
-same-length : tie.Need-same-length
-same-length c = search needs
-
 returns-2 : tie.Need-returns-2
 returns-2 c =
     let a = c .before .before .before .before .before .before .before .before .args in
@@ -45,4 +39,4 @@ returns-2 c =
     (p .ensures)
 
 pub write-spec : {M : Type 1} → statement M
-write-spec = tie.close (tie.spec write-fault-requires returns put-requires same-length returns-2)
+write-spec = tie.close (tie.spec (search needs) returns put-requires (search needs) returns-2)

@@ -4,19 +4,13 @@ use borrow.Author.Needs.{needs}
 use Rattle.mvpn_list.proofs.format.header.Statement.{statement}
 use Rattle.mvpn_list.proofs.format.header.Tie as tie
 
-slice-aggregate-place : tie.Need-slice-aggregate-place
-slice-aggregate-place c = search needs
-
 place-requires : tie.Need-place-requires
 unfolding headerLine
 place-requires c κs = c .before .before .before .pre
-
-same-length : tie.Need-same-length
-same-length c = search needs
 
 returns : tie.Need-returns
 unfolding headerLine
 returns c = c .before .before .place .ensures
 
 pub header-spec : {M : Type 1} → statement M
-header-spec = tie.close (tie.spec slice-aggregate-place place-requires same-length returns)
+header-spec = tie.close (tie.spec (search needs) place-requires (search needs) returns)

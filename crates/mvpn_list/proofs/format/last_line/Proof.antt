@@ -8,14 +8,11 @@ use Rattle.mvpn_list.proofs.format.last_line.Tie as tie
 
 opening-requires : tie.Need-opening-requires
 unfolding lastLine
-opening-requires c κs = let a = c .before .before .args in room-first (a .at) (openingOf (a .number)) _ (now (a .output)) (c .before .before .pre)
+opening-requires c κs = search (needs, room-first)
 
 field-requires : tie.Need-field-requires
 unfolding lastLine
-field-requires c κs =
-    let a = c .before .before .before .before .before .before .args in
-    let w = c .before .before .before .opening in
-    room-second (a .at) (openingOf (a .number)) (fieldOf (a .offset) 32) (fieldOf (a .number) 10) (now (a .output)) (c .before .before .before .before .before .before .pre) (w .result) (w .last .1 .0) (w .ensures)
+field-requires c κs = search (needs, room-second)
 
 field-requires-2 : tie.Need-field-requires-2
 unfolding lastLine
@@ -24,9 +21,6 @@ field-requires-2 c κs =
     let w = c .before .before .before .before .before .before .before .opening in
     let w₂ = c .before .before .before .field in
     room-third (a .at) (openingOf (a .number)) (fieldOf (a .offset) 32) (fieldOf (a .number) 10) (now (a .output)) (c .before .before .before .before .before .before .before .before .before .before .pre) (w .result) (w .last .1 .0) (w .ensures) (w₂ .result) (w₂ .last .1 .1 .0) (w₂ .ensures)
-
-same-length : tie.Need-same-length
-same-length c = search needs
 
 returns : tie.Need-returns
 unfolding lastLine
@@ -39,4 +33,5 @@ returns c =
 
 pub last-line-spec : {M : Type 1} → statement M
 last-line-spec =
-    tie.close (tie.spec opening-requires field-requires field-requires-2 same-length returns)
+    tie.close
+    (tie.spec opening-requires field-requires field-requires-2 (search needs) returns)

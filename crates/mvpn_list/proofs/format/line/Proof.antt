@@ -8,14 +8,11 @@ use Rattle.mvpn_list.proofs.format.line.Tie as tie
 
 field-requires : tie.Need-field-requires
 unfolding lineOf
-field-requires c κs = let a = c .before .before .args in room-first (a .at) (fieldOf (a .offset) 32) _ (now (a .output)) (c .before .before .pre)
+field-requires c κs = search (needs, room-first)
 
 field-requires-2 : tie.Need-field-requires-2
 unfolding lineOf
-field-requires-2 c κs =
-    let a = c .before .before .before .before .before .before .args in
-    let w = c .before .before .before .field in
-    room-second (a .at) (fieldOf (a .offset) 32) (fieldOf (a .route-type) 32) (fieldOf (a .length-field) 10) (now (a .output)) (c .before .before .before .before .before .before .pre) (w .result) (w .last .1 .1 .0) (w .ensures)
+field-requires-2 c κs = search (needs, room-second)
 
 field-requires-3 : tie.Need-field-requires-3
 unfolding lineOf
@@ -24,9 +21,6 @@ field-requires-3 c κs =
     let w = c .before .before .before .before .before .before .before .field in
     let w₂ = c .before .before .before .field2 in
     room-third (a .at) (fieldOf (a .offset) 32) (fieldOf (a .route-type) 32) (fieldOf (a .length-field) 10) (now (a .output)) (c .before .before .before .before .before .before .before .before .before .before .pre) (w .result) (w .last .1 .1 .0) (w .ensures) (w₂ .result) (w₂ .last .1 .1 .0) (w₂ .ensures)
-
-same-length : tie.Need-same-length
-same-length c = search needs
 
 returns : tie.Need-returns
 unfolding lineOf
@@ -39,4 +33,5 @@ returns c =
 
 pub line-spec : {M : Type 1} → statement M
 line-spec =
-    tie.close (tie.spec field-requires field-requires-2 field-requires-3 same-length returns)
+    tie.close
+    (tie.spec field-requires field-requires-2 field-requires-3 (search needs) returns)

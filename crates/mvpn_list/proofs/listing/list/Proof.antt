@@ -8,17 +8,11 @@ use Rattle.mvpn_list.proofs.listing.list.Tie as tie
 
 header-requires : tie.Need-header-requires
 unfolding listingOf
-header-requires c κs = let a = c .before .before .before .args in front-first headerLine (linesOf (now (a .run))) (now (a .output)) (c .before .before .before .pre)
+header-requires c κs = search (needs, front-first)
 
 lines-requires : tie.Need-lines-requires
 unfolding listingOf
-lines-requires c κs =
-    let a = c .before .before .before .before .before .before .before .args in
-    let w = c .before .before .before .header in
-    front-next headerLine (linesOf (now (a .run))) (now (a .output)) (c .before .before .before .before .before .before .before .pre) (w .result) (w .last .0) (w .ensures)
-
-same-length : tie.Need-same-length
-same-length c = search needs
+lines-requires c κs = search (needs, front-next)
 
 returns : tie.Need-returns
 unfolding listingOf
@@ -29,4 +23,4 @@ returns c =
     front-both headerLine (linesOf (now (a .run))) (now (a .output)) (c .before .before .before .before .before .before .before .before .before .before .pre) (w .result) (w .last .0) (w .ensures) (w₂ .result) (w₂ .last .1 .0) (w₂ .ensures)
 
 pub list-spec : {M : Type 1} → statement M
-list-spec = tie.close (tie.spec header-requires lines-requires same-length returns)
+list-spec = tie.close (tie.spec header-requires lines-requires (search needs) returns)

@@ -19,29 +19,8 @@ Inv-loop a b size last i₀ i = take i a ≡ take i b
 abbrev μ-loop : tie.MeasureT-loop
 μ-loop a b size last i₀ i = last - i
 
-shorter-requires : tie.Need-shorter-requires Inv-loop μ-loop
-shorter-requires c κs = search needs
-
-comes-each-before-requires : tie.Need-comes-each-before-requires Inv-loop μ-loop
-comes-each-before-requires c κs = search needs
-
-returns : tie.Need-returns Inv-loop μ-loop
-returns c = search needs
-
 loop-holds : tie.Need-loop-holds Inv-loop μ-loop
 loop-holds c = refl
-
-eight-low-first-requires : tie.Need-eight-low-first-requires Inv-loop μ-loop
-eight-low-first-requires c κs = search needs
-
-eight-low-first-requires-2 : tie.Need-eight-low-first-requires-2 Inv-loop μ-loop
-eight-low-first-requires-2 c κs = search needs
-
-eight-requires : tie.Need-eight-requires Inv-loop μ-loop
-eight-requires c κs = search needs
-
-eight-requires-2 : tie.Need-eight-requires-2 Inv-loop μ-loop
-eight-requires-2 c κs = search needs
 
 returns-2 : tie.Need-returns-2 Inv-loop μ-loop
 returns-2 c =
@@ -53,12 +32,6 @@ returns-2 c =
     parts-decide (now (s .a)) (now (s .b)) (l .i) 8 (l .inv) each-a each-b (search needs) (search needs) _ _ (c .before .eight .ensures) (c .eight2 .ensures)
     (parts-differ lowFirst (now (s .a)) (now (s .b)) (l .i) 8 _ _ (c .before .before .before .before .eight-low-first .ensures) (c .before .before .before .eight-low-first2 .ensures) (c .before .before .if2 .taken))
 
-add-i : tie.Need-add-i Inv-loop μ-loop
-add-i c = search needs
-
-loop-less : tie.Need-loop-less Inv-loop μ-loop
-loop-less c = search needs
-
 loop-again : tie.Need-loop-again Inv-loop μ-loop
 loop-again c =
     let o = c .before .before .before .before .before .before .before in
@@ -67,12 +40,6 @@ loop-again c =
     let each-a = octets-of (now (s .a)) (λ k. o .before .shared-slice-known .given k .fits) in
     let each-b = octets-of (now (s .b)) (λ k. o .shared-slice-known2 .given k .fits) in
     parts-alike lowFirst (now (s .a)) (now (s .b)) (l .i) 8 _ _ (c .before .before .eight-low-first .ensures) (c .before .eight-low-first2 .ensures) (same-low each-a each-b (l .i) 8 (search needs) (search needs)) (l .inv) (c .if2 .left)
-
-eight-requires-3 : tie.Need-eight-requires-3 Inv-loop μ-loop
-eight-requires-3 c κs = search needs
-
-eight-requires-4 : tie.Need-eight-requires-4 Inv-loop μ-loop
-eight-requires-4 c κs = search needs
 
 returns-3 : tie.Need-returns-3 Inv-loop μ-loop
 returns-3 c =
@@ -94,7 +61,7 @@ returns-4 c =
     let each-a = octets-of (now (s .a)) (λ k. o .before .shared-slice-known .given k .fits) in
     let each-b = octets-of (now (s .b)) (λ k. o .shared-slice-known2 .given k .fits) in
     lengths-decide (now (s .a)) (now (s .b)) (last + 8) (search needs)
-    (parts-alike (λ (s : List ℕ). numberIn s 0) (now (s .a)) (now (s .b)) last 8 _ _ (c .before .before .eight3 .ensures) (c .before .eight4 .ensures) (same-number each-a each-b last 8 (search needs) (search needs)) (alike-before (now (s .a)) (now (s .b)) last (l .i) (search needs) (l .inv)) (c .if3 .left))
+    (parts-alike (λ (s : List ℕ). numberIn s 0) (now (s .a)) (now (s .b)) last 8 _ _ (c .before .before .eight3 .ensures) (c .before .eight4 .ensures) (same-number each-a each-b last 8 (search needs) (search needs)) (alike-before (now (s .a)) (now (s .b)) last (l .i) (search needs) (l .inv)) (c .if3 .left)) _ refl
 
 pub comes-before-by-words-spec : {M : Type 1} → statement M
 comes-before-by-words-spec =
@@ -102,19 +69,19 @@ comes-before-by-words-spec =
     (tie.spec
     Inv-loop
     μ-loop
-    shorter-requires
-    comes-each-before-requires
-    returns
+    (search needs)
+    (search needs)
+    (λ c. search needs)
     loop-holds
-    eight-low-first-requires
-    eight-low-first-requires-2
-    eight-requires
-    eight-requires-2
+    (search needs)
+    (search needs)
+    (search needs)
+    (search needs)
     returns-2
-    add-i
-    loop-less
+    (search needs)
+    (search needs)
     loop-again
-    eight-requires-3
-    eight-requires-4
+    (search needs)
+    (search needs)
     returns-3
     returns-4)

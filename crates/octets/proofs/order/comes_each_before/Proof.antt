@@ -1,33 +1,31 @@
--- `octets::order::comes_each_before` meets its contract.
+-- `octets::order::comes_each_before` meets its contract: as far as the loop has come, both begin alike.
 use Prim.Native.Nat.{_≤_, _-_}
-use mathlib.Core.Path.{_≡_, refl}
-use lib.ListN.{length, drop}
+use mathlib.Core.Path.{_≡_, refl, sym}
+use lib.ListN.{length, take}
+use denote.Ref.{now}
 use borrow.Author.Needs.{needs}
-use Rattle.octets.specs.Order.{before}
-use Rattle.octets.proofs.Orders.{before-next, before-stops, before-longer, before-ends}
+use borrow.Author.Tests.{le-ltb}
+use Rattle.octets.proofs.Orders.{octet-alike, octet-decides, lengths-decide}
 use Rattle.octets.proofs.order.comes_each_before.Statement.{statement}
 use Rattle.octets.proofs.order.comes_each_before.Tie as tie
 
 abbrev Inv-loop : tie.InvT-loop
-Inv-loop a b i₀ i = (i ≤ length a) × (i ≤ length b) × (before a b ≡ before (drop i a) (drop i b))
+Inv-loop a b i₀ i = (i ≤ length a) × (i ≤ length b) × (take i a ≡ take i b)
 
 abbrev μ-loop : tie.MeasureT-loop
 μ-loop a b i₀ i = length a - i
 
-loop-holds : tie.Need-loop-holds Inv-loop μ-loop
-loop-holds c = (search needs, search needs, refl)
-
 returns : tie.Need-returns Inv-loop μ-loop
-returns c = let l = c .before .before .loop in before-longer _ _ (l .i) (search needs) (search needs) (l .inv .2)
+returns c = let l = c .before .before .loop in let s = c .before .before .before .args in lengths-decide (now (s .a)) (now (s .b)) (l .i) (search needs) (l .inv .2) _ (sym (le-ltb (length (now (s .a))) (length (now (s .b))) (search needs)))
 
 returns-2 : tie.Need-returns-2 Inv-loop μ-loop
-returns-2 c = let l = c .before .before .before .before .before .before .before .loop in before-stops _ _ (l .i) (search needs) (search needs) (l .inv .2) (c .before .before .if2 .taken)
+returns-2 c = let l = c .before .before .before .before .before .before .before .loop in octet-decides _ _ (l .i) (l .inv .2) (search needs) (search needs) (c .before .before .if2 .taken)
 
 loop-again : tie.Need-loop-again Inv-loop μ-loop
-loop-again c = let l = c .before .before .before .before .before .loop in (search needs, search needs, before-next _ _ (l .i) (search needs) (search needs) (l .inv .2) (c .if2 .left))
+loop-again c = let l = c .before .before .before .before .before .loop in (search needs, search needs, octet-alike _ _ (l .i) (l .inv .2) (search needs) (search needs) (c .if2 .left))
 
 returns-3 : tie.Need-returns-3 Inv-loop μ-loop
-returns-3 c = let l = c .before .loop in before-ends _ _ (l .i) (search needs) (search needs) (l .inv .2)
+returns-3 c = let l = c .before .loop in lengths-decide _ _ (l .i) (search needs) (l .inv .2) _ refl
 
 pub comes-each-before-spec : {M : Type 1} → statement M
 comes-each-before-spec =
@@ -35,7 +33,7 @@ comes-each-before-spec =
     (tie.spec
     Inv-loop
     μ-loop
-    loop-holds
+    (λ c. (search needs, search needs, refl))
     returns
     (search needs)
     (search needs)

@@ -20,34 +20,13 @@ abbrev μ-loop : tie.MeasureT-loop
 returns : tie.Need-returns Inv-loop μ-loop
 returns c = sym (lengths-differ _ _ (c .if1 .taken))
 
-is-short-same-requires : tie.Need-is-short-same-requires Inv-loop μ-loop
-is-short-same-requires c κs = search needs
-
-returns-2 : tie.Need-returns-2 Inv-loop μ-loop
-returns-2 c = search needs
-
-sub-last : tie.Need-sub-last Inv-loop μ-loop
-sub-last c = search needs
-
 loop-holds : tie.Need-loop-holds Inv-loop μ-loop
 loop-holds c = refl
-
-eight-low-first-requires : tie.Need-eight-low-first-requires Inv-loop μ-loop
-eight-low-first-requires c κs = search needs
-
-eight-low-first-requires-2 : tie.Need-eight-low-first-requires-2 Inv-loop μ-loop
-eight-low-first-requires-2 c κs = search needs
 
 returns-3 : tie.Need-returns-3 Inv-loop μ-loop
 returns-3 c =
     let l = c .before .before .before .before .loop in
     parts-other lowFirst _ _ (l .i) 8 _ _ (c .before .before .eight-low-first .ensures) (c .before .eight-low-first2 .ensures) (c .if3 .taken)
-
-add-i : tie.Need-add-i Inv-loop μ-loop
-add-i c = search needs
-
-loop-less : tie.Need-loop-less Inv-loop μ-loop
-loop-less c = search needs
 
 loop-again : tie.Need-loop-again Inv-loop μ-loop
 loop-again c =
@@ -57,12 +36,6 @@ loop-again c =
     let each-a = octets-of (now (s .a)) (λ k. o .before .shared-slice-known .given k .fits) in
     let each-b = octets-of (now (s .b)) (λ k. o .shared-slice-known2 .given k .fits) in
     parts-alike lowFirst (now (s .a)) (now (s .b)) (l .i) 8 _ _ (c .before .before .eight-low-first .ensures) (c .before .eight-low-first2 .ensures) (same-low each-a each-b (l .i) 8 (search needs) (search needs)) (l .inv) (c .if3 .left)
-
-eight-low-first-requires-3 : tie.Need-eight-low-first-requires-3 Inv-loop μ-loop
-eight-low-first-requires-3 c κs = search needs
-
-eight-low-first-requires-4 : tie.Need-eight-low-first-requires-4 Inv-loop μ-loop
-eight-low-first-requires-4 c κs = search needs
 
 returns-4 : tie.Need-returns-4 Inv-loop μ-loop
 returns-4 c =
@@ -81,16 +54,16 @@ is-same-by-words-spec =
     Inv-loop
     μ-loop
     returns
-    is-short-same-requires
-    returns-2
-    sub-last
+    (search needs)
+    (λ c. search needs)
+    (search needs)
     loop-holds
-    eight-low-first-requires
-    eight-low-first-requires-2
+    (search needs)
+    (search needs)
     returns-3
-    add-i
-    loop-less
+    (search needs)
+    (search needs)
     loop-again
-    eight-low-first-requires-3
-    eight-low-first-requires-4
+    (search needs)
+    (search needs)
     returns-4)

@@ -1,19 +1,18 @@
--- `octets::order::is_short_same` meets its contract.
+-- `octets::order::is_short_same` meets its contract: as far as the loop has come, both begin alike.
 use Prim.Native.Nat.{_≤_, _-_}
 use mathlib.Core.Path.{_≡_, refl}
-use lib.ListN.{length, drop}
+use lib.ListN.{length, take}
 use denote.Ref.{now}
 use borrow.Author.Needs.{needs}
 use Rattle.octets.specs.Octets.{lowFirst}
-use Rattle.octets.specs.Order.{same}
 use Rattle.octets.proofs.AllOctets.{octets-of}
 use Rattle.octets.proofs.LowFirst.{same-low}
-use Rattle.octets.proofs.Orders.{same-next, same-stops, same-ends, parts-end}
+use Rattle.octets.proofs.Orders.{octet-alike, octet-other, alike-whole, parts-end}
 use Rattle.octets.proofs.order.is_short_same.Statement.{statement}
 use Rattle.octets.proofs.order.is_short_same.Tie as tie
 
 abbrev Inv-loop : tie.InvT-loop
-Inv-loop a b i₀ i = (i ≤ length a) × (same a b ≡ same (drop i a) (drop i b))
+Inv-loop a b i₀ i = (i ≤ length a) × (take i a ≡ take i b)
 
 abbrev μ-loop : tie.MeasureT-loop
 μ-loop a b i₀ i = length a - i
@@ -26,17 +25,14 @@ returns c =
     let each-b = octets-of (now (s .b)) (λ k. o .shared-slice-known2 .given k .fits) in
     parts-end lowFirst (now (s .a)) (now (s .b)) 0 4 _ _ (c .before .four-low-first .ensures) (c .four-low-first2 .ensures) (same-low each-a each-b 0 4 (search needs) (search needs)) refl (search needs) (search needs)
 
-loop-holds : tie.Need-loop-holds Inv-loop μ-loop
-loop-holds c = (search needs, refl)
-
 returns-2 : tie.Need-returns-2 Inv-loop μ-loop
-returns-2 c = let l = c .before .before .before .before .loop in same-stops _ _ (l .i) (search needs) (search needs) (l .inv .1) (c .if2 .taken)
+returns-2 c = let l = c .before .before .before .before .loop in octet-other _ _ (l .i) (c .if2 .taken)
 
 loop-again : tie.Need-loop-again Inv-loop μ-loop
-loop-again c = let l = c .before .before .before .before .loop in (search needs, same-next _ _ (l .i) (search needs) (search needs) (l .inv .1) (c .if2 .left))
+loop-again c = let l = c .before .before .before .before .loop in (search needs, octet-alike _ _ (l .i) (l .inv .1) (search needs) (search needs) (c .if2 .left))
 
 returns-3 : tie.Need-returns-3 Inv-loop μ-loop
-returns-3 c = let l = c .before .loop in same-ends _ _ (l .i) (search needs) (search needs) (l .inv .1)
+returns-3 c = let l = c .before .loop in alike-whole _ _ (l .i) (l .inv .1) (search needs) (search needs)
 
 pub is-short-same-spec : {M : Type 1} → statement M
 is-short-same-spec =
@@ -47,7 +43,7 @@ is-short-same-spec =
     (search needs)
     (search needs)
     returns
-    loop-holds
+    (λ c. (search needs, refl))
     (search needs)
     (search needs)
     returns-2

@@ -13,9 +13,4 @@ returns c = c .is-zero-by-blocks .ensures ∙ ap allZero (lent-whole (now (c .be
 pub is-zero-spec : {M : Type 1} → statement M
 is-zero-spec =
     tie.close
-    (tie.spec
-    (search needs)
-    (search needs)
-    (search needs)
-    (search needs)
-    returns)
+    (tie.spec (search needs) (search needs) (search needs) (search needs) returns)

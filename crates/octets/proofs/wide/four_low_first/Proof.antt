@@ -13,10 +13,4 @@ returns c =
 pub four-low-first-spec : {M : Type 1} → statement M
 four-low-first-spec =
     tie.close
-    (tie.spec
-    (search needs)
-    (search needs)
-    (search needs)
-    (search needs)
-    (search needs)
-    returns)
+    (tie.spec (search needs) (search needs) (search needs) (search needs) (search needs) returns)

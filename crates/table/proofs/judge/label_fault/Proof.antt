@@ -1,7 +1,7 @@
 -- `table::judge::label_fault` meets its contract.
 use mathlib.Core.Path.{refl, sym}
 use native.Mathlib.Omega.{arith}
-use Rattle.tunnel.proofs.ReadRule.{read-tests}
+use Rattle.tunnel.proofs.Definitions.Attributes.{read-tests}
 use Rattle.table.proofs.Sounds.{attribute-unlabelled, attribute-labelled, attribute-other}
 use Rattle.table.proofs.judge.label_fault.Statement.{statement}
 use Rattle.table.proofs.judge.label_fault.Tie as tie

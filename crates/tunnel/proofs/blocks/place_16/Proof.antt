@@ -1,34 +1,13 @@
 -- `tunnel::blocks::place_16` meets its contract.
-use denote.Ref.{now}
-use Rattle.tunnel.proofs.Copies.{placed-blocks}
+use Rattle.tunnel.proofs.Functions.Copies.{placed-blocks}
 use borrow.Author.Needs.{needs}
 use Rattle.tunnel.proofs.blocks.place_16.Statement.{statement}
 use Rattle.tunnel.proofs.blocks.place_16.Tie as tie
 
-place-8-requires : tie.Need-place-8-requires
-place-8-requires c κs = search needs
-
-add-place-8 : tie.Need-add-place-8
-add-place-8 c = search needs
-
-add-place-8-2 : tie.Need-add-place-8-2
-add-place-8-2 c = search needs
-
-place-8-requires-2 : tie.Need-place-8-requires-2
-place-8-requires-2 c κs = search needs
-
-same-length : tie.Need-same-length
-same-length c = search needs
-
 returns : tie.Need-returns
-returns c =
-    let start = c .before .before .before .before .before .before .before .before .before .before in
-    let a = start .args in
-    let first = c .before .before .before .before .before .before .place-8 in
-    let second = c .before .before .place-82 in
-    placed-blocks (now (a .s)) (now (a .output)) (first .last .1 .1 .0) (second .last .1 .1 .0) (a .from) (a .at) 8 (start .pre .0) (start .pre .1) (first .ensures) (second .ensures)
+returns c = search (needs, placed-blocks)
 
 pub place-16-spec : {M : Type 1} → statement M
 place-16-spec =
     tie.close
-    (tie.spec place-8-requires add-place-8 add-place-8-2 place-8-requires-2 same-length returns)
+    (tie.spec (search needs) (search needs) (search needs) (search needs) (search needs) returns)

@@ -1,10 +1,6 @@
 -- `tunnel::blocks::place_8` meets its contract.
 use denote.Ref.{now}
-use mathlib.Core.Path.{ap, _∙_}
-use mathlib.Core.List.{List}
-use Prim.Native.Nat.{ℕ}
-use Rattle.octets.specs.Octets.{placed}
-use Rattle.tunnel.proofs.Copies.{part-eight}
+use Rattle.tunnel.proofs.Functions.Copies.{part-array}
 use borrow.Author.Needs.{needs}
 use Rattle.tunnel.proofs.blocks.place_8.Statement.{statement}
 use Rattle.tunnel.proofs.blocks.place_8.Tie as tie
@@ -12,8 +8,7 @@ use Rattle.tunnel.proofs.blocks.place_8.Tie as tie
 returns : tie.Need-returns
 returns c =
     let start = c .before .before .before .before .before .before .before .before .before .before .before .before .before .before .before in
-    let a = start .args in
-    c .before .before .place .ensures .1 ∙ ap (λ (e : List ℕ). placed (a .at) e (now (a .output))) (part-eight (now (a .s)) (a .from) (start .pre .0))
+    rw (← part-array (now (start .args .s)) (start .args .from) 7 (start .pre .0)) (c .before .before .place .ensures .1)
 
 pub place-8-spec : {M : Type 1} → statement M
 place-8-spec =

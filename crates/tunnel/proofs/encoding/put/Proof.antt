@@ -13,18 +13,6 @@ use borrow.Author.Needs.{needs}
 use Rattle.tunnel.proofs.encoding.put.Statement.{statement}
 use Rattle.tunnel.proofs.encoding.put.Tie as tie
 
-put-header-requires : tie.Need-put-header-requires
-put-header-requires c κs = search needs
-
-place-requires : tie.Need-place-requires
-place-requires c κs = search needs
-
-add-t13 : tie.Need-add-t13
-add-t13 c = search needs
-
-same-length : tie.Need-same-length
-same-length c = search needs
-
 returns : tie.Need-returns
 unfolding encodeAttribute
 returns c =
@@ -38,4 +26,4 @@ returns c =
     (refl, (omega (arith, h .ensures .0), octets ∙ sym (front-is-placed (encodeAttribute (argumentFields (a .flags) (a .tunnel-type) (a .label-field) (now (a .identifier)))) (now (a .output)))))
 
 pub put-spec : {M : Type 1} → statement M
-put-spec = tie.close (tie.spec put-header-requires place-requires add-t13 same-length returns)
+put-spec = tie.close (tie.spec (search needs) (search needs) (search needs) (search needs) returns)

@@ -9,18 +9,6 @@ use borrow.Author.Needs.{needs}
 use Rattle.tunnel.proofs.encoding.put_header.Statement.{statement}
 use Rattle.tunnel.proofs.encoding.put_header.Tie as tie
 
-slice-aggregate-place : tie.Need-slice-aggregate-place
-slice-aggregate-place c = search needs
-
-place-requires : tie.Need-place-requires
-place-requires c κs = search needs
-
-place-three-requires : tie.Need-place-three-requires
-place-three-requires c κs = search needs
-
-same-length : tie.Need-same-length
-same-length c = search needs
-
 returns : tie.Need-returns
 returns c =
     let a = c .before .before .before .before .before .before .before .before .before .before .args in
@@ -31,4 +19,4 @@ returns c =
 pub put-header-spec : {M : Type 1} → statement M
 put-header-spec =
     tie.close
-    (tie.spec slice-aggregate-place place-requires place-three-requires same-length returns)
+    (tie.spec (search needs) (search needs) (search needs) (search needs) returns)

@@ -1,6 +1,6 @@
 -- `tunnel::fec::whole` meets its contract: address family and address length are judged as one number.
 use denote.Ref.{now}
-use Rattle.tunnel.proofs.Fecs.{whole-short, whole-ipv4, whole-ipv6, whole-unrooted}
+use Rattle.tunnel.proofs.Functions.FecTests.{whole-short, whole-ipv4, whole-ipv6, whole-unrooted}
 use borrow.Author.Needs.{needs}
 use Rattle.tunnel.proofs.fec.whole.Statement.{statement}
 use Rattle.tunnel.proofs.fec.whole.Tie as tie
@@ -29,11 +29,4 @@ returns-4 c =
 pub whole-spec : {M : Type 1} → statement M
 whole-spec =
     tie.close
-    (tie.spec
-    returns
-    (search needs)
-    (search needs)
-    returns-2
-    (search needs)
-    returns-3
-    returns-4)
+    (tie.spec returns (search needs) (search needs) returns-2 (search needs) returns-3 returns-4)

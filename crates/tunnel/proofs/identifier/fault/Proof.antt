@@ -2,16 +2,10 @@
 use denote.Ref.{now}
 use mathlib.Core.Path.{sym, _∙_}
 use Rattle.octets.proofs.Tests.{flags}
-use Rattle.tunnel.proofs.Rows.{number-unknown}
+use Rattle.tunnel.proofs.Functions.Rows.{number-unknown}
 use borrow.Author.Needs.{needs}
 use Rattle.tunnel.proofs.identifier.fault.Statement.{statement}
 use Rattle.tunnel.proofs.identifier.fault.Tie as tie
-
-of-fec-requires : tie.Need-of-fec-requires
-of-fec-requires c κs = search flags
-
-returns-2 : tie.Need-returns-2
-returns-2 c = search (flags, number-unknown) depth 8
 
 sizes-of-requires : tie.Need-sizes-of-requires
 sizes-of-requires c κs = (search flags, search flags)
@@ -24,10 +18,10 @@ fault-spec =
     tie.close
     (tie.spec
     (search needs)
-    of-fec-requires
+    (λ c κs. search flags)
     (search needs)
     (search needs)
-    returns-2
+    (λ c. search (flags, number-unknown) depth 8)
     sizes-of-requires
     (search needs)
     returns-3)

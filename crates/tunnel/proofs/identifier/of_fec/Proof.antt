@@ -2,8 +2,8 @@
 use native.Mathlib.Omega.{arith}
 use denote.Ref.{now}
 use Rattle.octets.proofs.Tests.{flags}
-use Rattle.tunnel.proofs.Fecs.{length-fec}
-use Rattle.tunnel.proofs.Rows.{number-mldp}
+use Rattle.tunnel.proofs.Definitions.Fecs.{length-fec}
+use Rattle.tunnel.proofs.Functions.Rows.{number-mldp}
 use borrow.Author.Needs.{needs}
 use Rattle.tunnel.proofs.identifier.of_fec.Statement.{statement}
 use Rattle.tunnel.proofs.identifier.of_fec.Tie as tie
@@ -11,22 +11,13 @@ use Rattle.tunnel.proofs.identifier.of_fec.Tie as tie
 shared-slice-read-type-suits : tie.Need-shared-slice-read-type-suits
 shared-slice-read-type-suits c = omega (arith, length-fec (now (c .before .before .before .before .args .identifier)) (search flags))
 
-returns : tie.Need-returns
-returns c = search (flags, number-mldp) depth 10
-
-returns-2 : tie.Need-returns-2
-returns-2 c = search (flags, number-mldp) depth 10
-
-returns-3 : tie.Need-returns-3
-returns-3 c = search (flags, number-mldp) depth 10
-
 pub of-fec-spec : {M : Type 1} → statement M
 of-fec-spec =
     tie.close
     (tie.spec
     (search needs)
     shared-slice-read-type-suits
-    (search needs)
-    returns
-    returns-2
-    returns-3)
+    (λ c κs. search needs)
+    (λ c. search (flags, number-mldp) depth 10)
+    (λ c. search (flags, number-mldp) depth 10)
+    (λ c. search (flags, number-mldp) depth 10))

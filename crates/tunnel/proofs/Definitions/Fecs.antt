@@ -1,22 +1,19 @@
--- Laws of a FEC's definitions: the tests that the code makes, what a FEC that passes them is, and `fecRule`.
-use Prim.Native.Nat.{ℕ, _+_, _-_, _*_, _≤_, _<_}
-use mathlib.Core.Path.{_≡_, refl, sym, ap, subst, _∙_}
-use mathlib.Core.Logic.{_⊎_, inl, inr, ⊎-elim}
-use mathlib.Core.Bool.{Bool, true, false}
-use mathlib.Core.List.{List, [], _∷_, _++_}
+-- Laws of FECs: the tests that one passes, and what it is.
+use Prim.Native.Nat.{ℕ, _+_, _-_, _≤_, _<_}
+use mathlib.Core.Path.{_≡_, refl, sym, ap, _∙_}
+use mathlib.Core.Logic.{⊎-elim}
+use mathlib.Core.Bool.{true}
+use mathlib.Core.List.{List, _∷_, _++_}
 use native.Mathlib.Omega.{arith}
-use lib.Dec.{leb, eqb}
 use lib.ListN.{length, getD, take, drop, length-append, length-drop, take-append-drop}
-use lib.Seq.{length-take-le, drop-drop, take-append-seam, drop-append-seam, drop-append-add, take-at, drop-at}
+use lib.Seq.{drop-cons, length-take-le, drop-drop, take-append-seam, drop-append-seam, drop-append-add, take-at, drop-at}
 use borrow.Author.Tests.{leb-true, eqb-true, eq-eqb, le-leb}
 use Rattle.octets.specs.Choice.{both, either}
 use Rattle.octets.specs.Octets.{AllOctets, part, numberIn, bigEndian}
-use Rattle.octets.proofs.Choice.{both-true, both-held, either-true, is-false}
+use Rattle.octets.proofs.Choice.{both-true, both-held, either-true}
 use Rattle.octets.proofs.AllOctets.{octet-at, octets-take, octets-drop}
-use Rattle.octets.proofs.NetworkOrder.{length-bigEndian, number-of-big-endian, number-part, part-number, part-fits}
+use Rattle.octets.proofs.NetworkOrder.{length-bigEndian, number-of-big-endian, part-number, part-fits}
 use Rattle.tunnel.specs.Fec.{FecFields, encodeFec, Suits, ipv4, ipv6, WellFormedFec, familySuits, opaqueFills, wholeFec, fecIn}
-use Rattle.tunnel.specs.Inner.{endsFrom}
-use Rattle.tunnel.specs.Statements.{FecRule}
 
 -- `Suits`, computed
 suits-of : (addressFamily size : ℕ) → familySuits addressFamily size ≡ true → Suits addressFamily size
@@ -27,7 +24,7 @@ suits-of addressFamily size h =
     (λ p. let q = both-held _ _ p in let a = eqb-true addressFamily 2 (q .0) in let b = eqb-true size 16 (q .1) in rw (a, b) ipv6)
     (either-true _ _ h)
 
-suits-computed : {addressFamily size : ℕ} → Suits addressFamily size → familySuits addressFamily size ≡ true
+pub suits-computed : {addressFamily size : ℕ} → Suits addressFamily size → familySuits addressFamily size ≡ true
 unfolding familySuits both either
 suits-computed ipv4 = refl
 suits-computed ipv6 = refl
@@ -35,15 +32,6 @@ suits-computed ipv6 = refl
 suits-small : {addressFamily size : ℕ} → Suits addressFamily size → addressFamily < 65536
 suits-small ipv4 = omega arith
 suits-small ipv6 = omega arith
-
-suits-least : {addressFamily size : ℕ} → Suits addressFamily size → 4 ≤ size
-suits-least ipv4 = omega arith
-suits-least ipv6 = omega arith
-
--- address family and address length as one number
-suits-root : {addressFamily size : ℕ} → Suits addressFamily size → (addressFamily * 256 + size ≡ 260) ⊎ (addressFamily * 256 + size ≡ 528)
-suits-root ipv4 = inl refl
-suits-root ipv6 = inr refl
 
 -- the tests that a FEC passes
 pub record FecTests (i : List ℕ) : Type 0 where
@@ -76,62 +64,18 @@ length-root i h = let t = fec-tests i h in length-take-le (getD i 3 0) (drop 4 i
 pub length-opaque : (i : List ℕ) → length (drop (getD i 3 0 + 2) (drop 4 i)) ≡ length i - 6 - getD i 3 0
 length-opaque i = simp length-drop (omega (arith, length-drop 4 i))
 
--- no FEC has fewer octets than one with an IPv4 root and no opaque value
-pub whole-short : (i : List ℕ) → length i < 10 → false ≡ wholeFec i
-whole-short i h = sym (is-false (wholeFec i) (λ w. let t = fec-tests i w in omega (arith, suits-least (t .suits), length-drop 4 i)))
-
--- tests that hold together are the same
-tests-same : (a b : Bool) → (a ≡ true → b ≡ true) → (b ≡ true → a ≡ true) → a ≡ b
-tests-same true b f g = sym (f refl)
-tests-same false true f g = g refl
-tests-same false false f g = refl
-
-ends-fills : (i : List ℕ) (size start : ℕ) → 4 ≤ length i → start ≡ size + 6 → endsFrom i start ≡ opaqueFills (drop 4 i) size
-unfolding endsFrom opaqueFills part
-ends-fills i size start h e =
-    let rest = drop 4 i in
-    let l : length rest ≡ length i - 4 = length-drop 4 i in
-    let at : drop (start - 2) i ≡ drop size rest = ap (λ (n : ℕ). drop n i) (place start size e) ∙ sym (drop-drop size 4 i) in
-    let n = numberIn (take 2 (drop size rest)) 0 in
-    let room : leb start (length i) ≡ leb (size + 2) (length rest) =
-    tests-same (leb start (length i)) (leb (size + 2) (length rest)) (λ p. le-leb (size + 2) (length rest) (omega (arith, leb-true))) (λ p. le-leb start (length i) (omega (arith, leb-true))) in
-    let end : eqb (start + n) (length i) ≡ eqb (size + 2 + n) (length rest) =
-    tests-same (eqb (start + n) (length i)) (eqb (size + 2 + n) (length rest)) (λ p. eq-eqb (size + 2 + n) (length rest) (omega (arith, eqb-true))) (λ p. eq-eqb (start + n) (length i) (omega (arith, eqb-true))) in
-    rw (at, room, end)
-  where
-    place : (start size : ℕ) → start ≡ size + 6 → start - 2 ≡ 4 + size
-    place start size e = omega arith
-
--- by address family and address length as one number, as the code reads them
-module _ (i : List ℕ) (h : 4 ≤ length i) (b : getD i 3 0 < 256) (root : ℕ) (e : root ≡ numberIn (part i 1 3) 0) where
-  root-parts : root ≡ numberIn (part i 1 2) 0 * 256 + getD i 3 0
-  root-parts = e ∙ number-part i 1 2 (omega arith)
-
-  whole-rooted : (addressFamily size start : ℕ) → numberIn (part i 1 2) 0 ≡ addressFamily → getD i 3 0 ≡ size → familySuits addressFamily size ≡ true → start ≡ size + 6 → endsFrom i start ≡ wholeFec i
-  unfolding wholeFec both
-  whole-rooted addressFamily size start f s t q = rw (le-leb 4 (length i) h, f, s, t) (ends-fills i size start h q)
-
-  pub whole-ipv4 : (r : Bool) → root ≡ 260 → r ≡ endsFrom i 10 → r ≡ wholeFec i
-  whole-ipv4 r z q = q ∙ whole-rooted 1 4 10 (omega (arith, root-parts)) (omega (arith, root-parts)) (suits-computed ipv4) refl
-
-  pub whole-ipv6 : (r : Bool) → root ≡ 528 → r ≡ endsFrom i 22 → r ≡ wholeFec i
-  whole-ipv6 r z q = q ∙ whole-rooted 2 16 22 (omega (arith, root-parts)) (omega (arith, root-parts)) (suits-computed ipv6) refl
-
-  pub whole-unrooted : (root ≡ 260 → ⊥) → (root ≡ 528 → ⊥) → false ≡ wholeFec i
-  whole-unrooted p q = sym (is-false (wholeFec i) (λ w. ⊎-elim (λ x. p (root-parts ∙ x)) (λ x. q (root-parts ∙ x)) (suits-root (fec-tests i w .suits))))
-
--- a FEC is its parts
-header-parts : (i : List ℕ) → 4 ≤ length i → i ≡ getD i 0 0 ∷ (part i 1 2 ++ (getD i 3 0 ∷ drop 4 i))
+-- octets are a part and those after it; so a FEC is its parts
+pub drop-part : (s : List ℕ) (at n : ℕ) → drop at s ≡ part s at n ++ drop (at + n) s
 unfolding part
-header-parts [] h = absurd (omega arith)
-header-parts (a ∷ []) h = absurd (omega arith)
-header-parts (a ∷ (b ∷ [])) h = absurd (omega arith)
-header-parts (a ∷ (b ∷ (c ∷ []))) h = absurd (omega arith)
-header-parts (a ∷ (b ∷ (c ∷ (d ∷ r)))) h = refl
+drop-part s at n = sym (rw (← drop-drop n at s) (take-append-drop n (drop at s)))
+
+header-parts : (i : List ℕ) → 4 ≤ length i → i ≡ getD i 0 0 ∷ (part i 1 2 ++ (getD i 3 0 ∷ drop 4 i))
+header-parts i h =
+    drop-cons i 0 0 (omega arith)
+    ∙ ap (λ (l : List ℕ). getD i 0 0 ∷ l) (drop-part i 1 2 ∙ ap (λ (l : List ℕ). part i 1 2 ++ l) (drop-cons i 3 0 (omega arith)))
 
 rest-parts : (r : List ℕ) (n : ℕ) → r ≡ take n r ++ (part r n 2 ++ drop (n + 2) r)
-unfolding part
-rest-parts r n = sym (rw (← drop-drop 2 n r, take-append-drop 2 (drop n r)) (take-append-drop n r))
+rest-parts r n = sym (take-append-drop n r) ∙ ap (λ (l : List ℕ). take n r ++ l) (drop-part r n 2)
 
 -- the fields of octets that pass the tests are well-formed, and encode to these octets
 pub whole-fields : (i : List ℕ) → AllOctets i → wholeFec i ≡ true → WellFormedFec (fecIn i) × (i ≡ encodeFec (fecIn i))
@@ -216,12 +160,3 @@ module _ (f : FecFields) (w : WellFormedFec f) where
   pub fields-encode : fecIn (encodeFec f) ≡ f
   unfolding fecIn
   fields-encode = rw (type-encode, family-encode, size-encode, drop-encode, take-rest, drop-rest)
-
-pub fecRule : FecRule
-fecRule =
-    record {
-      accepted = λ i f a. (
-        λ p. subst (λ (g : FecFields). WellFormedFec g × (i ≡ encodeFec g)) (p .1) (whole-fields i a (p .0)),
-        λ p. rw (p .1) (whole-encode f (p .0), fields-encode f (p .0)),
-      );
-    }

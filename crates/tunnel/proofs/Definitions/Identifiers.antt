@@ -1,25 +1,26 @@
 -- Laws of judging an identifier: a tunnel type is looked up in the table exactly, and reading accepts exactly the identifiers of its
 -- row's form.
-use Prim.Native.Nat.{ℕ, _+_, _≤_, _<_}
+use Prim.Native.Nat.{ℕ, zero, suc, _+_, _≤_, _<_}
 use mathlib.Core.Path.{_≡_, refl, sym, ap, subst, _∙_}
 use mathlib.Core.Logic.{⊎-elim}
-use mathlib.Core.Bool.{true, false}
+use mathlib.Core.Bool.{Bool, true, false}
 use mathlib.Core.List.{List, [], _∷_}
 use native.Mathlib.Omega.{arith}
-use lib.Dec.{eqb}
+use lib.Dec.{ltb, eqb}
 use lib.ListN.{length, getD}
-use borrow.Author.Tests.{eqb-true, eqb-false, eq-eqb, ne-eqb}
+use borrow.Author.Tests.{ltb-true, ltb-false, eqb-true, eqb-false, eq-eqb, ne-eqb}
 use Rattle.octets.specs.Lists.{Among, first, later}
-use Rattle.octets.specs.Choice.{either}
+use Rattle.octets.specs.Choice.{pick, both, either}
 use Rattle.octets.specs.Numbers.{DONE, TUNNEL, IDENT}
-use Rattle.octets.specs.Outcome.{Outcome, given, refused, andThen, numberOf}
+use Rattle.octets.specs.Outcome.{Outcome, given, refused, onOutcome, andThen, numberOf}
 use Rattle.octets.specs.Octets.{AllOctets}
-use Rattle.octets.proofs.Choice.{both-true, either-left, tested, pick-true, pick-false, opposite, both-held, picked, either-second}
-use Rattle.octets.proofs.Outcome.{never}
+use Rattle.octets.proofs.Choice.{both-true, either-left, tested, pick-true, pick-false, pick-case, pick-passed, opposite, is-false, both-held, picked, either-second}
+use Rattle.octets.proofs.Outcome.{never, given-same, refused-same, given-unless, and-case, passed, done-given, Refuses, value, number, refuses-by, refuses-also}
 use Rattle.tunnel.specs.Fec.{encodeFec, wholeFec, fecIn}
 use Rattle.tunnel.specs.Identifier.{IdentifierForm, sizes, fecTypes, TableRow, rowOf, identifierForms, formIn, formOf, IsIdentifier, ofSize, ofFec, OfType, oneOf, isIdentifier, judged, readIdentifier}
+use Rattle.tunnel.specs.Inner.{unknown}
 use Rattle.tunnel.specs.Statements.{Unknown}
-use Rattle.tunnel.proofs.Fecs.{whole-fields, whole-encode, type-encode}
+use Rattle.tunnel.proofs.Definitions.Fecs.{whole-fields, whole-encode, type-encode}
 
 -- `Among`, computed
 one-of-among : {n : ℕ} {ns : List ℕ} → Among n ns → oneOf n ns ≡ true
@@ -97,40 +98,48 @@ NoRow : List TableRow → ℕ → Type 0
 NoRow [] t = Unit
 NoRow (r ∷ rs) t = (t ≡ r .tunnelType → ⊥) × NoRow rs t
 
--- a tunnel type is refused exactly where it has no row, with TUNNEL
-no-row-form-in : (rows : List TableRow) (t n : ℕ) → formIn rows t ≡ refused n → NoRow rows t
-unfolding formIn NoRow
-no-row-form-in [] t n e = tt
-no-row-form-in (r ∷ rs) t n e =
-    ⊎-elim
-    (λ p. absurd (never refl (p .1)))
-    (λ p. (eqb-false t (r .tunnelType) (p .0), no-row-form-in rs t n (p .1)))
-    (picked (eqb t (r .tunnelType)) (given (r .form)) (formIn rs t) (refused n) e)
-
 form-in-no-row : (rows : List TableRow) (t : ℕ) → NoRow rows t → formIn rows t ≡ refused TUNNEL
 unfolding formIn NoRow
 form-in-no-row [] t a = refl
 form-in-no-row (r ∷ rs) t a = pick-false (eqb t (r .tunnelType)) (given (r .form)) (formIn rs t) (ne-eqb t (r .tunnelType) (a .0)) ∙ form-in-no-row rs t (a .1)
 
-over-three : (t : ℕ) → (t ≡ 0 → ⊥) → (t ≡ 1 → ⊥) → (t ≡ 2 → ⊥) → (t ≡ 3 → ⊥) → 3 < t
-over-three t a b c d = omega arith
-
-over-seven : (t : ℕ) → 3 < t → (t ≡ 4 → ⊥) → (t ≡ 5 → ⊥) → (t ≡ 6 → ⊥) → (t ≡ 7 → ⊥) → 7 < t
-over-seven t h a b c d = omega arith
-
-unknown-form : (t n : ℕ) → formOf t ≡ refused n → Unknown t
-unfolding formOf identifierForms NoRow
-unknown-form t n e =
-    let a = no-row-form-in identifierForms t n e in
-    let b = a .1 .1 .1 .1 in
-    record {
-      over = over-seven t (over-three t (a .0) (a .1 .0) (a .1 .1 .0) (a .1 .1 .1 .0)) (b .0) (b .1 .0) (b .1 .1 .0) (b .1 .1 .1 .0);
-      notBier = b .1 .1 .1 .1 .0;
-    }
-
 form-unknown : (t : ℕ) → Unknown t → formOf t ≡ refused TUNNEL
 unfolding formOf identifierForms NoRow
 form-unknown t u = form-in-no-row identifierForms t (omega arith)
+
+-- a test of tunnel types that is the table's on every octet, computed
+unfoldable pub agreeing : (f g : ℕ → Bool) → ℕ → Bool
+agreeing f g zero = true
+agreeing f g (suc n) = both (pick (f n) (g n) (pick (g n) false true)) (agreeing f g n)
+
+agree : (a b : Bool) → pick a b (pick b false true) ≡ true → a ≡ b
+unfolding pick
+agree true b e = sym e
+agree false true e = e
+agree false false e = refl
+
+pub agree-below : (f g : ℕ → Bool) (n : ℕ) → agreeing f g n ≡ true → (t : ℕ) → t < n → f t ≡ g t
+unfolding agreeing
+agree-below f g zero h t l = absurd (omega arith)
+agree-below f g (suc n) h t l =
+    let p = both-held _ _ h in
+    tested (eqb t n)
+    (λ e. rw (eqb-true t n e) (agree (f n) (g n) (p .0)))
+    (λ e. agree-below f g n (p .1) t (omega (arith, eqb-false t n e)))
+
+pub unknown-octet : (r : Bool) (t : ℕ) → t < 256 → r ≡ pick (eqb t 11) false (ltb 7 t) → r ≡ unknown t
+unfolding agreeing both pick unknown formOf formIn identifierForms onOutcome
+unknown-octet r t h e = e ∙ agree-below (λ k. pick (eqb k 11) false (ltb 7 k)) unknown 256 refl t h
+
+pub unknown-form : (t n : ℕ) → formOf t ≡ refused n → Unknown t
+unfolding unknown onOutcome
+unknown-form t n e =
+    tested (ltb t 256)
+    (λ p.
+    let u : unknown t ≡ true = rw e in
+    let q = pick-passed (eqb t 11) (ltb 7 t) (unknown-octet _ t (ltb-true t 256 p) refl ∙ u) in
+    record { over = ltb-true 7 t (q .1); notBier = eqb-false t 11 (q .0) })
+    (λ p. let h = ltb-false t 256 p in record { over = omega arith; notBier = λ x. omega arith })
 
 -- an identifier judged, by what looking its tunnel type up comes to
 pub read-known : (t : ℕ) (i : List ℕ) (form : IdentifierForm) → formOf t ≡ given form → readIdentifier t i ≡ judged form i
@@ -145,42 +154,57 @@ pub read-of-type : {t : ℕ} {i : List ℕ} → OfType t i → readIdentifier t 
 read-of-type {t} {i} o =
     read-known t i (o .form) (form-among t (o .form) (o .inTable)) ∙ pick-true (isIdentifier (o .form) i) (given i) (refused IDENT) (identifier-computed (o .ofForm))
 
--- the three cases of judging, each with its answer
-pub data JudgedCase (t : ℕ) (i : List ℕ) : Outcome (List ℕ) → Type 0 where
-  noRow : Unknown t → JudgedCase t i (refused TUNNEL)
-  noFit : (Unknown t → ⊥) → (OfType t i → ⊥) → JudgedCase t i (refused IDENT)
-  fit : (form : IdentifierForm) → formOf t ≡ given form → isIdentifier form i ≡ true → JudgedCase t i (given i)
+-- an identifier that is given is itself, of the form in its tunnel type's row
+pub record Fits (t : ℕ) (i : List ℕ) : Type 0 where
+  pub form : IdentifierForm
+  pub found : formOf t ≡ given form
+  pub is : isIdentifier form i ≡ true
 
-not-of-type : (t : ℕ) (i : List ℕ) (form : IdentifierForm) → formOf t ≡ given form → isIdentifier form i ≡ false → OfType t i → ⊥
-not-of-type t i form e p o = never (read-of-type o) (read-known t i form e ∙ pick-false (isIdentifier form i) (given i) (refused IDENT) p)
+pub read-fits : {t : ℕ} {i j : List ℕ} → readIdentifier t i ≡ given j → Fits t i × (i ≡ j)
+unfolding readIdentifier
+read-fits e =
+    let p = passed _ _ _ e in
+    let q = given-unless _ _ _ _ (p .second) in
+    (record { form = p .value; found = p .first; is = q .0 }, given-same (q .1))
 
-judged-found : (t : ℕ) (i : List ℕ) (o : Outcome IdentifierForm) → formOf t ≡ o → JudgedCase t i (readIdentifier t i)
-judged-found t i (given form) e =
-    tested (isIdentifier form i)
-    (λ p. subst (JudgedCase t i) (sym (read-known t i form e ∙ pick-true (isIdentifier form i) (given i) (refused IDENT) p)) (fit form e p))
-    (λ p. subst (JudgedCase t i) (sym (read-known t i form e ∙ pick-false (isIdentifier form i) (given i) (refused IDENT) p)) (noFit (λ u. never e (form-unknown t u)) (not-of-type t i form e p)))
-judged-found t i (refused n) e = let u = unknown-form t n e in subst (JudgedCase t i) (sym (read-unknown t i u)) (noRow u)
+pub read-whole : (t : ℕ) (i : List ℕ) {ns j : List ℕ} → formOf t ≡ given (fecTypes ns) → readIdentifier t i ≡ given j → wholeFec i ≡ true
+unfolding isIdentifier
+read-whole t i {ns} e r = both-held _ _ (given-unless _ _ _ _ (sym (read-known t i (fecTypes ns) e) ∙ r) .0) .0
 
-pub judged-case : (t : ℕ) (i : List ℕ) → JudgedCase t i (readIdentifier t i)
-judged-case t i = judged-found t i (formOf t) refl
+pub of-type : {t : ℕ} {i : List ℕ} → AllOctets i → Fits t i → OfType t i
+of-type {t} {i} a f = record { form = f .form; inTable = among-form t (f .form) (f .found); ofForm = identifier-of (f .form) i a (f .is) }
 
-pub of-type : (t : ℕ) (i : List ℕ) (form : IdentifierForm) → AllOctets i → formOf t ≡ given form → isIdentifier form i ≡ true → OfType t i
-of-type t i form a e h = record { form = form; inTable = among-form t form e; ofForm = identifier-of form i a h }
+-- why judging refuses
+pub data IdentifierRefusal (t : ℕ) (i : List ℕ) : ℕ → Type 0 where
+  noRow : Unknown t → IdentifierRefusal t i TUNNEL
+  noFit : (Unknown t → ⊥) → (OfType t i → ⊥) → IdentifierRefusal t i IDENT
+
+pub read-refuses : (t : ℕ) (i : List ℕ) → Refuses (IdentifierRefusal t i) (readIdentifier t i)
+unfolding readIdentifier
+read-refuses t i =
+    and-case (Refuses (IdentifierRefusal t i)) (formOf t) (λ form. judged form i)
+    (λ n e.
+    let u = unknown-form t n e in
+    let same : TUNNEL ≡ n = refused-same {A = IdentifierForm} (sym (form-unknown t u) ∙ e) in
+    rw (← same) (number (noRow u)))
+    (λ form e. pick-case (Refuses (IdentifierRefusal t i)) (isIdentifier form i) _ _ (λ _. value)
+    (λ p. number (noFit (λ u. never e (form-unknown t u)) (λ o. opposite (read-fits (read-of-type o) .0 .is) (rw (given-same (sym e ∙ read-fits (read-of-type o) .0 .found)) at p)))))
 
 pub read-unfit : (t : ℕ) (i : List ℕ) → AllOctets i → (Unknown t → ⊥) → (OfType t i → ⊥) → readIdentifier t i ≡ refused IDENT
-read-unfit t i a k o = go (judged-case t i)
-  where
-    go : {r : Outcome (List ℕ)} → JudgedCase t i r → r ≡ refused IDENT
-    go (noRow u) = absurd (k u)
-    go (noFit u n) = refl
-    go (fit form e p) = absurd (o (of-type t i form a e p))
+unfolding readIdentifier
+read-unfit t i a k o =
+    and-case (λ (r : Outcome (List ℕ)). r ≡ refused IDENT) (formOf t) (λ form. judged form i) (λ n e. absurd (k (unknown-form t n e)))
+    (λ form e. pick-false _ _ _ (is-false (isIdentifier form i) (λ p. o (of-type a (record { form = form; found = e; is = p })))))
 
 -- DONE comes with the identifier
-pub judged-done : (t : ℕ) (i : List ℕ) → numberOf (readIdentifier t i) ≡ DONE → readIdentifier t i ≡ given i
-unfolding numberOf
-judged-done t i e = go (judged-case t i) e
-  where
-    go : {r : Outcome (List ℕ)} → JudgedCase t i r → numberOf r ≡ DONE → r ≡ given i
-    go (noRow u) q = absurd (omega arith)
-    go (noFit u n) q = absurd (omega arith)
-    go (fit form x p) q = refl
+never-done : {t : ℕ} {i : List ℕ} {n : ℕ} → IdentifierRefusal t i n → n ≡ DONE → ⊥
+never-done (noRow u) e = omega arith
+never-done (noFit k o) e = omega arith
+
+pub refuses-identifier : (t : ℕ) (i : List ℕ) → Refuses (λ n. n ≡ DONE → ⊥) (readIdentifier t i)
+refuses-identifier t i = refuses-also (λ n. never-done) (read-refuses t i)
+
+pub judged-done : (n t : ℕ) (i : List ℕ) → n ≡ numberOf (readIdentifier t i) → n ≡ DONE → readIdentifier t i ≡ given i
+judged-done n t i e z =
+    let d = done-given (readIdentifier t i) (λ m. refuses-by _ m (refuses-identifier t i)) (sym e ∙ z) in
+    d .1 ∙ ap given (sym (read-fits (d .1) .1))

@@ -2,50 +2,30 @@
 use Prim.Native.Nat.{ℕ, _+_, _≤_}
 use mathlib.Core.Path.{_≡_, refl, sym, ap, ap₂, subst, _∙_}
 use mathlib.Core.Bool.{true}
+use mathlib.Core.Logic.{_↔_, ⊎-elim}
 use mathlib.Core.List.{List}
 use native.Mathlib.Omega.{arith}
 use lib.ListN.{length, getD, drop, length-drop}
 use lib.Seq.{take-length, drop-drop}
-use Rattle.octets.specs.Outcome.{Outcome, given, refused, andThen}
+use Rattle.octets.specs.Outcome.{given, refused, andThen}
 use Rattle.octets.specs.Octets.{AllOctets, part}
-use Rattle.octets.proofs.Choice.{both-true-left}
-use Rattle.octets.proofs.Outcome.{never, given-same, passed}
+use Rattle.octets.proofs.Outcome.{never, given-same, passed, stopped}
 use Rattle.octets.proofs.Lists.{length-part}
 use Rattle.octets.proofs.AllOctets.{octets-drop}
 use Rattle.tunnel.specs.declared.Reading.{Reading}
 use Rattle.tunnel.specs.declared.Reading.the-variants.{Attribute as read, Refused as no}
 use Rattle.tunnel.specs.declared.Attribute.{Attribute}
 use Rattle.tunnel.specs.Fec.{WellFormedFec, encodeFec, wholeFec, fecIn}
-use Rattle.tunnel.specs.Identifier.{IdentifierForm, sizes, fecTypes, formOf, oneOf, isIdentifier}
+use Rattle.tunnel.specs.Identifier.{IdentifierForm, sizes, fecTypes, formOf}
 use Rattle.tunnel.specs.Attribute.{AttributeFields, WellFormedAttribute, labelOf, leafInformationRequired, encodeAttribute, fieldsIn, readAttribute, writeAttribute}
-use Rattle.tunnel.specs.Answers.{outcomeOf, span, fecSpans, noFec, fecOf, attributeStruct, readStruct}
+use Rattle.tunnel.specs.Answers.{outcomeOf, span, fecSpans, fecOf, attributeStruct, readStruct}
 use Rattle.tunnel.specs.Statements.{octetsAt, fieldsTold, fecTold, AttributeRoundTrips, AnsweredFec, AnsweredForm, notFec, isFec, AnsweredAttribute, AttributeAnswerRule}
-use Rattle.tunnel.proofs.Fecs.{length-fec, length-root, length-opaque, whole-fields, fields-encode, length-encode}
-use Rattle.tunnel.proofs.Identifiers.{form-among}
-use Rattle.tunnel.proofs.Answers.{fec-sizes, fec-types}
-use Rattle.tunnel.proofs.ReadRule.{Accepted, read-given, accepted-fields, length-attribute, read-encode, attributeReadRule}
-use Rattle.tunnel.proofs.WriteRule.{attributeWriteRule, write-encode}
-
--- the answers that the call gives, by what reading comes to
-struct-given : (s : List ℕ) (a : Attribute) → readStruct s ≡ given a → (f : AttributeFields) × ((readAttribute s ≡ given f) × (attributeStruct f ≡ a))
-unfolding readStruct
-struct-given s a e = let p = passed (readAttribute s) (λ f. given (attributeStruct f)) a e in (p .value, (p .first, given-same (p .second)))
-
-given-struct : (s : List ℕ) (f : AttributeFields) → readAttribute s ≡ given f → readStruct s ≡ given (attributeStruct f)
-unfolding readStruct andThen
-given-struct s f e = rw e
-
-struct-refused : (s : List ℕ) (n : ℕ) → readStruct s ≡ refused n → readAttribute s ≡ refused n
-unfolding readStruct andThen
-struct-refused s n e = go (readAttribute s) e
-  where
-    go : (o : Outcome AttributeFields) → andThen o (λ f. given (attributeStruct f)) ≡ refused n → o ≡ refused n
-    go (given f) q = absurd (never refl q)
-    go (refused m) q = cc
-
-refused-struct : (s : List ℕ) (n : ℕ) → readAttribute s ≡ refused n → readStruct s ≡ refused n
-unfolding readStruct andThen
-refused-struct s n e = rw e
+use Rattle.tunnel.proofs.Definitions.Fecs.{length-fec, length-root, length-opaque, whole-fields, fields-encode, length-encode}
+use Rattle.tunnel.proofs.Definitions.Identifiers.{form-among, read-whole}
+use Rattle.tunnel.proofs.Functions.Answers.{fec-sizes, fec-types}
+use Rattle.tunnel.proofs.Definitions.Attributes.{Accepted, read-given, length-attribute}
+use Rattle.tunnel.proofs.Statements.ReadRule.{accepted-fields, read-encode, attributeReadRule}
+use Rattle.tunnel.proofs.Statements.WriteRule.{attributeWriteRule, write-encode}
 
 -- the cases of the enum are told apart
 outcome-apart : (a b : Reading) → outcomeOf a ≡ outcomeOf b → a ≡ b
@@ -54,14 +34,6 @@ outcome-apart (read a) (read b) e = let q : a ≡ b = given-same e in rw q
 outcome-apart (read a) (no n) e = absurd (never refl e)
 outcome-apart (no m) (read b) e = absurd (never e refl)
 outcome-apart (no m) (no n) e = let q : m ≡ n = cc in rw q
-
--- an accepted attribute's identifier is a FEC where its form is one
-accepted-whole : (s ns : List ℕ) → Accepted s → formOf (getD s 1 0) ≡ given (fecTypes ns) → wholeFec (drop 5 s) ≡ true
-unfolding isIdentifier
-accepted-whole s ns p e =
-    let q : p .form ≡ fecTypes ns = given-same (sym (p .found) ∙ e) in
-    let w : isIdentifier (fecTypes ns) (drop 5 s) ≡ true = rw q at (p .fits) in
-    both-true-left (wholeFec (drop 5 s)) (oneOf (getD (drop 5 s) 0 0) ns) w
 
 -- root, opaque length and opaque value stand one straight after the other, up to the end
 spans-root : (i : List ℕ) → fecSpans (fecIn i) .root .start + fecSpans (fecIn i) .root .size + 2 ≡ fecSpans (fecIn i) .opaque .start
@@ -107,7 +79,7 @@ module _ (s : List ℕ) (o : AllOctets s) (p : Accepted s) where
   answered-fec : (ns : List ℕ) → formOf (getD s 1 0) ≡ given (fecTypes ns) → AnsweredFec s (attributeStruct (fieldsIn s))
   unfolding attributeStruct fieldsIn
   answered-fec ns e =
-      let w = accepted-whole s ns p e in
+      let w = read-whole (getD s 1 0) (drop 5 s) e (p .judged) in
       let i : List ℕ = drop 5 s in
       let x : fecOf (fieldsIn s) ≡ fecSpans (fecIn i) = fec-types (fieldsIn s) ns e in
       let t : fecTold s (fecOf (fieldsIn s)) ≡ fecIn i = ap (fecTold s) x ∙ told-fec s w in
@@ -120,7 +92,7 @@ module _ (s : List ℕ) (o : AllOctets s) (p : Accepted s) where
       }
 
   answered-form : (form : IdentifierForm) → formOf (getD s 1 0) ≡ given form → AnsweredForm s (attributeStruct (fieldsIn s)) form
-  unfolding attributeStruct noFec fieldsIn
+  unfolding attributeStruct fieldsIn
   answered-form (sizes ns) e = notFec (fec-sizes (fieldsIn s) ns e)
   answered-form (fecTypes ns) e = isFec (answered-fec ns e)
 
@@ -138,10 +110,11 @@ module _ (s : List ℕ) (o : AllOctets s) (p : Accepted s) where
       }
 
 answered-of : (s : List ℕ) (a : Attribute) → AllOctets s → readStruct s ≡ given a → AnsweredAttribute s a
+unfolding readStruct
 answered-of s a o e =
-    let g = struct-given s a e in
-    let p = read-given s (g .0) (g .1 .0) in
-    subst (AnsweredAttribute s) (ap attributeStruct (p .1) ∙ g .1 .1) (answered-fields s o (p .0))
+    let g = passed _ _ _ e in
+    let p = read-given s (g .value) (g .first) in
+    subst (AnsweredAttribute s) (ap attributeStruct (p .1) ∙ given-same (g .second)) (answered-fields s o (p .0))
 
 -- and an answer that does is the call's
 module _ (s : List ℕ) (a : Attribute) (w : AnsweredAttribute s a) where
@@ -167,7 +140,6 @@ module _ (s : List ℕ) (a : Attribute) (w : AnsweredAttribute s a) where
       rw (second, first, n, m)
 
   told-form : (form : IdentifierForm) → formOf (a .«tunnel_type») ≡ given form → AnsweredForm s a form → fecOf (fieldsTold s a) ≡ a .fec
-  unfolding noFec
   told-form form e (notFec {ns} z) = fec-sizes (fieldsTold s a) ns e ∙ sym z
   told-form form e (isFec {ns} k) =
       fec-types (fieldsTold s a) ns e ∙ ap (λ (i : List ℕ). fecSpans (fecIn i)) (k .encoded) ∙ ap fecSpans (fields-encode (fecTold s (a .fec)) (k .wellFormed)) ∙ told-spans k
@@ -180,13 +152,18 @@ module _ (s : List ℕ) (a : Attribute) (w : AnsweredAttribute s a) where
       rw (← w .label, ← w .leafInformationRequired, told-span, f)
 
   answered-given : AllOctets s → readStruct s ≡ given a
-  answered-given o = given-struct s (fieldsTold s a) (attributeReadRule .accepted s (fieldsTold s a) o .1 (w .wellFormed, w .encoded)) ∙ ap given told-struct
+  unfolding readStruct andThen
+  answered-given o = rw (attributeReadRule .accepted s (fieldsTold s a) o .1 (w .wellFormed, w .encoded), told-struct)
+
+struct-refused : (s : List ℕ) (n : ℕ) → (readStruct s ≡ refused n) ↔ (readAttribute s ≡ refused n)
+unfolding readStruct andThen
+struct-refused s n = (λ e. ⊎-elim (λ r. r) (λ l. absurd (never refl (l .second))) (stopped _ _ _ e), λ e. rw e)
 
 pub attributeAnswerRule : AttributeAnswerRule
 attributeAnswerRule =
     record {
       accepted = λ s a o. (answered-of s a o, λ w. answered-given s a w o);
-      exactly = λ s n o. (λ e. attributeReadRule .exactly s n o .0 (struct-refused s n e), λ r. refused-struct s n (attributeReadRule .exactly s n o .1 r));
+      exactly = λ s n o. (λ e. attributeReadRule .exactly s n o .0 (struct-refused s n .0 e), λ r. struct-refused s n .1 (attributeReadRule .exactly s n o .1 r));
       apart = outcome-apart;
     }
 

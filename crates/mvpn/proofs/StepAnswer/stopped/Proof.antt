@@ -1,4 +1,4 @@
--- `mvpn::stopped` meets its contract.
+-- `mvpn::StepAnswer::stopped` meets its contract.
 use borrow.Author.Needs.{needs}
 use mathlib.Core.Path.{ap}
 use Prim.Native.Nat.{ℕ}
@@ -6,8 +6,8 @@ use Rattle.nlri.specs.declared.layout.Layout.{Layout}
 use Rattle.nlri.specs.Walking.{refusedAt}
 use Rattle.mvpn.specs.declared.StepAnswer.{StepAnswer}
 use Rattle.mvpn.specs.Answers.{stepAnswer}
-use Rattle.mvpn.proofs.stopped.Statement.{statement}
-use Rattle.mvpn.proofs.stopped.Tie as tie
+use Rattle.mvpn.proofs.StepAnswer.stopped.Statement.{statement}
+use Rattle.mvpn.proofs.StepAnswer.stopped.Tie as tie
 
 -- an answer with no NLRI
 unfoldable answered : (cursor number : ℕ) → Layout → StepAnswer

@@ -1,56 +1,37 @@
 -- Laws of copies in blocks.
-use Prim.Native.Nat.{ℕ, suc, _+_, _-_, _≤_, _<_}
+use Prim.Native.Nat.{ℕ, zero, suc, _+_, _-_, _≤_}
 use mathlib.Core.Path.{_≡_, refl, sym, ap, ap₂, _∙_}
 use mathlib.Core.List.{List, [], _∷_, _++_, append-assoc}
-use native.Mathlib.Nat.{zero-add}
+use native.Mathlib.Nat.{add-zero, zero-add}
 use native.Mathlib.Omega.{arith}
 use lib.ListN.{length, getD, take, drop, length-append}
 use lib.Seq.{drop-cons, drop-drop, length-take-le, take-all, take-at, drop-at}
 use Rattle.octets.specs.Octets.{part, placed}
 use Rattle.octets.proofs.Lists.{placed-placed, placed-then, length-placed, length-part, part-then}
 
--- a part by its first octet and the rest
-part-cons : (s : List ℕ) (at next n : ℕ) → next ≡ at + 1 → at < length s → part s at (suc n) ≡ getD s at 0 ∷ part s next n
+-- n octets of s, each by itself, of which the first stands at k + i
+abbrev octetsFrom : (s : List ℕ) (k i n : ℕ) → List ℕ
+octetsFrom s k i zero = []
+octetsFrom s k i (suc n) = getD s (k + i) 0 ∷ octetsFrom s k (suc i) n
+
+part-octets : (s : List ℕ) (k i n : ℕ) → k + i + n ≤ length s → octetsFrom s k i n ≡ part s (k + i) n
 unfolding part
-part-cons s at next n e h = let k : next ≡ suc at = omega arith in rw (drop-cons s at 0, k)
+part-octets s k i zero h = refl
+part-octets s k i (suc n) h =
+    let e : k + suc i ≡ suc (k + i) = omega arith in
+    rw (drop-cons s (k + i) 0 (omega arith), part-octets s k (suc i) n (omega arith), e)
 
-part-none : (s : List ℕ) (at : ℕ) → part s at 0 ≡ []
-unfolding part
-part-none s at = refl
+-- a part as an array of its octets
+pub part-array : (s : List ℕ) (k n : ℕ) → k + suc n ≤ length s → getD s k 0 ∷ octetsFrom s k 1 n ≡ part s k (suc n)
+part-array s k n h = ap (λ (j : ℕ). getD s j 0 ∷ octetsFrom s k 1 n) (sym (add-zero k)) ∙ part-octets s k 0 (suc n) (omega arith) ∙ ap (λ (j : ℕ). part s j (suc n)) (add-zero k)
 
-pub part-four : (s : List ℕ) (k : ℕ) → k + 4 ≤ length s → getD s k 0 ∷ (getD s (k + 1) 0 ∷ (getD s (k + 2) 0 ∷ (getD s (k + 3) 0 ∷ []))) ≡ part s k 4
-part-four s k h =
-    rw (
-      part-cons s k (k + 1) 3 (omega arith) (omega arith),
-      part-cons s (k + 1) (k + 2) 2 (omega arith) (omega arith),
-      part-cons s (k + 2) (k + 3) 1 (omega arith) (omega arith),
-      part-cons s (k + 3) (k + 4) 0 (omega arith) (omega arith),
-      part-none s (k + 4),
-    )
-
-pub part-eight : (s : List ℕ) (k : ℕ) → k + 8 ≤ length s
-    → getD s k 0 ∷ (getD s (k + 1) 0 ∷ (getD s (k + 2) 0 ∷ (getD s (k + 3) 0 ∷ (getD s (k + 4) 0 ∷ (getD s (k + 5) 0 ∷ (getD s (k + 6) 0 ∷ (getD s (k + 7) 0 ∷ [])))))))
-    ≡ part s k 8
-part-eight s k h =
-    rw (
-      part-cons s k (k + 1) 7 (omega arith) (omega arith),
-      part-cons s (k + 1) (k + 2) 6 (omega arith) (omega arith),
-      part-cons s (k + 2) (k + 3) 5 (omega arith) (omega arith),
-      part-cons s (k + 3) (k + 4) 4 (omega arith) (omega arith),
-      part-cons s (k + 4) (k + 5) 3 (omega arith) (omega arith),
-      part-cons s (k + 5) (k + 6) 2 (omega arith) (omega arith),
-      part-cons s (k + 6) (k + 7) 1 (omega arith) (omega arith),
-      part-cons s (k + 7) (k + 8) 0 (omega arith) (omega arith),
-      part-none s (k + 8),
-    )
-
--- two blocks of one size, one straight after the other, as two calls leave them
-pub placed-blocks : (s d y z : List ℕ) (k at m : ℕ) → k + (m + m) ≤ length s → at + (m + m) ≤ length d → y ≡ placed at (part s k m) d → z ≡ placed (at + m) (part s (k + m) m) y
-    → z ≡ placed at (part s k (m + m)) d
-placed-blocks s d y z k at m h r p q =
+-- a part in two blocks, one straight after the other, as two calls leave them
+pub placed-blocks : (s d y z : List ℕ) (k at m n : ℕ) → y ≡ placed at (part s k m) d → z ≡ placed (at + m) (part s (k + m) m) y → n ≡ m + m → k + n ≤ length s → at + n ≤ length d
+    → z ≡ placed at (part s k n) d
+placed-blocks s d y z k at m n p q e h r =
     let l : length (part s k m) ≡ m = length-part s k m (omega arith) in
     let l′ : length (part s (k + m) m) ≡ m = length-part s (k + m) m (omega arith) in
-    placed-then at (at + m) (part s k m) (part s (k + m) m) d y z (omega arith) (ap (λ (n : ℕ). at + n) (sym l)) p q ∙ ap (λ (e : List ℕ). placed at e d) (sym (part-then s k m m))
+    rw (e, part-then s k m m) (placed-then at (at + m) (part s k m) (part s (k + m) m) d y z (omega arith) (omega arith) p q)
 
 -- what is written over is gone
 placed-over : (at : ℕ) (e f d : List ℕ) → length e ≤ length f → at + length f ≤ length d → placed at f (placed at e d) ≡ placed at f d
