@@ -33,7 +33,7 @@ impl Group {
     }
 
     // A group that is refused.
-    fn refused(number: u32) -> Group
+    pub fn refused(number: u32) -> Group
         ensures { λ r. ⌜ r ≡ groupOf (refused number) ⌝ }
     {
         Group {

@@ -7,3 +7,5 @@ pub mod NetworkOrder
 pub mod LowFirst
 pub mod AllOctets
 pub mod Orders
+pub mod Among
+pub mod Chosen

@@ -14,7 +14,7 @@ use borrow.Author.Tests.{ltb-true, ltb-false, eqb-true, eqb-false, eq-eqb, ne-eq
 use Rattle.octets.specs.Choice.{pick, both}
 use Rattle.octets.specs.Octets.{AllOctets, none, one, part, numberIn}
 use Rattle.octets.specs.Order.{same, before, zeros, allZero}
-use Rattle.octets.proofs.Choice.{opposite, test-same, both-held, both-true-left, both-true-right, both-true, pick-true, pick-false, tested, is-false}
+use Rattle.octets.proofs.Choice.{opposite, test-same, both-held, both-true-left, both-true-right, both-true, pick-true, pick-false, tested, is-false, is-true}
 use Rattle.octets.proofs.AllOctets.{octets-part, number-below}
 use Rattle.octets.proofs.Lists.{length-part, take-then}
 use Rattle.octets.proofs.NetworkOrder.{number-high}
@@ -109,6 +109,16 @@ before-differs xs ys h = unequal-other xs ys (λ e. opposite h (rw e (before-its
 
 pub before-once : (xs ys : List ℕ) → before xs ys ≡ true → before ys xs ≡ false
 before-once xs ys h = is-false (before ys xs) (λ k. opposite (before-then xs ys xs h k) (before-itself xs))
+
+-- where one does not come before a second, nor the second before a third, the first does not come before the third
+pub before-not : (xs ys zs : List ℕ) → before xs ys ≡ false → before ys zs ≡ false → before xs zs ≡ false
+before-not xs ys zs h k =
+    is-false (before xs zs) (λ b.
+    tested (same ys zs) (λ t. opposite b (rw (← same-equal ys zs t) h)) (λ d. opposite (before-then xs zs ys b (before-other ys zs d k)) h))
+
+-- two of which neither comes before the other are one
+pub before-neither : (xs ys : List ℕ) → before xs ys ≡ false → before ys xs ≡ false → xs ≡ ys
+before-neither xs ys h k = same-equal xs ys (is-true _ (λ d. opposite (before-other xs ys d h) k))
 
 -- no octets come before any others
 pub before-none : (xs : List ℕ) → 0 < length xs → before [] xs ≡ true

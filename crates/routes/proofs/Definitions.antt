@@ -12,8 +12,7 @@ pub mod Places
 pub mod Headers
 pub mod ByArguments
 pub mod Holding
-pub mod Distincts
-pub mod Chosen
+pub mod OnceEach
 pub mod Named
 pub mod Ownership
 pub mod Acts

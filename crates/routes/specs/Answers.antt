@@ -4,7 +4,7 @@ use Prim.Native.Nat.{ℕ}
 use mathlib.Core.List.{List, _++_}
 use lib.ListN.{length}
 use Rattle.octets.specs.Numbers.{DONE}
-use Rattle.octets.specs.Outcome.{Outcome, onOutcome, numberOf}
+use Rattle.octets.specs.Outcome.{Outcome, onOutcome}
 use Rattle.octets.specs.Octets.{front}
 use Rattle.routes.specs.declared.Installed.{Installed}
 use Rattle.routes.specs.declared.Matched.{Matched}
@@ -24,18 +24,26 @@ NEW = 1
 abbrev pub REPLACED : ℕ
 REPLACED = 2
 
--- DONE with "new" or "replaced", or a refusal's number and empty fields
-unfoldable pub installedOf : Outcome ℕ → Installed
-installedOf outcome = record { number = numberOf outcome; outcome = onOutcome (λ number. 0) (λ o. o) outcome }
-
--- DONE with the tier and both sizes; where no route matches, all of them 0
-unfoldable pub foundAnswer : Found → Matched
-foundAnswer nothing = record { number = DONE; tier = 0; «nlri_size» = 0; «attribute_size» = 0 }
-foundAnswer (found tier r) = record { number = DONE; tier = tier; «nlri_size» = length (nlriOf r); «attribute_size» = length (attributeOf r) }
-
 -- a refusal's number and empty fields
-unfoldable pub refusedMatch : ℕ → Matched
-refusedMatch number = record { number = number; tier = 0; «nlri_size» = 0; «attribute_size» = 0 }
+abbrev pub refusedInstall : ℕ → Installed
+refusedInstall number = record { number = number; outcome = 0 }
+
+-- DONE with "new" or "replaced"
+abbrev pub doneInstall : ℕ → Installed
+doneInstall outcome = record { number = DONE; outcome = outcome }
+
+-- what an install answers
+unfoldable pub installedOf : Outcome ℕ → Installed
+installedOf outcome = onOutcome refusedInstall doneInstall outcome
+
+-- a number and empty fields: of a refusal, and DONE where no route matches
+abbrev pub emptyMatch : ℕ → Matched
+emptyMatch number = record { number = number; tier = 0; «nlri_size» = 0; «attribute_size» = 0 }
+
+-- DONE with the tier and both sizes
+unfoldable pub foundAnswer : Found → Matched
+foundAnswer nothing = emptyMatch DONE
+foundAnswer (found tier r) = record { number = DONE; tier = tier; «nlri_size» = length (nlriOf r); «attribute_size» = length (attributeOf r) }
 
 -- NLRI and attribute at the front of the output, one straight after the other; where no route matches, the output as it was
 unfoldable pub foundOutput : Found → List ℕ → List ℕ
@@ -45,4 +53,4 @@ foundOutput (found tier r) output = front (nlriOf r ++ attributeOf r) output
 -- what a match answers, and the output afterwards; a refusal leaves it
 unfoldable pub matchedBy : Outcome Found → (output : List ℕ) → Changed Matched
 matchedBy outcome output =
-    record { answer = onOutcome refusedMatch foundAnswer outcome; octets = onOutcome (λ number. output) (λ f. foundOutput f output) outcome }
+    record { answer = onOutcome emptyMatch foundAnswer outcome; octets = onOutcome (λ number. output) (λ f. foundOutput f output) outcome }

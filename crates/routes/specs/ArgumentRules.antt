@@ -12,7 +12,8 @@ use Rattle.nlri.specs.Reading.{readNlri}
 use Rattle.nlri.specs.Statements.{Multicast}
 use Rattle.tunnel.specs.Attribute.{AttributeFields, labelOf, readAttribute}
 use Rattle.routes.specs.Route.{route}
-use Rattle.routes.specs.Arguments.{Query, readSPmsi, readRoute, readMatch}
+use Rattle.routes.specs.Query.{Query, Flow}
+use Rattle.routes.specs.Arguments.{readSPmsi, readRoute, readMatch}
 
 -- AFI 1 or 2
 abbrev pub KnownFamily : ℕ → Type 0
@@ -36,10 +37,10 @@ pub record Labelled (attribute : List ℕ) : Type 0 where
   pub label : fields .tunnelType ≡ 11 → labelOf fields ≢ 0
 
 -- a flow that a match takes: a router address of 4 or 16 octets, a source of the family's size, a multicast group of that size
-pub record GoodFlow (afi : ℕ) (router source group : List ℕ) : Type 0 where
-  pub addressed : (length router ≡ 4) ⊎ (length router ≡ 16)
-  pub sourced : ((afi ≡ 1) × (length source ≡ 4)) ⊎ ((afi ≡ 2) × (length source ≡ 16))
-  pub multicast : Multicast afi group
+pub record GoodFlow (afi : ℕ) (flow : Flow) : Type 0 where
+  pub addressed : (length (flow .router) ≡ 4) ⊎ (length (flow .router) ≡ 16)
+  pub sourced : ((afi ≡ 1) × (length (flow .source) ≡ 4)) ⊎ ((afi ≡ 2) × (length (flow .source) ≡ 16))
+  pub multicast : Multicast afi (flow .group)
 
 -- why an NLRI is refused: NLRI reading, then KIND
 pub data NlriRefusal (afi : ℕ) (nlri : List ℕ) : ℕ → Type 0 where
@@ -53,9 +54,9 @@ pub data RouteRefusal (afi : ℕ) (nlri attribute : List ℕ) : ℕ → Type 0 w
   noLabel : (f : AttributeFields) → SPmsi afi nlri → readAttribute attribute ≡ given f → f .tunnelType ≡ 11 → labelOf f ≡ 0 → RouteRefusal afi nlri attribute LABEL
 
 -- why match refuses its arguments: FLOW, then SPACE for an output under 124 octets
-pub data FlowRefusal (afi : ℕ) (router source group output : List ℕ) : ℕ → Type 0 where
-  badFlow : (GoodFlow afi router source group → ⊥) → FlowRefusal afi router source group output FLOW
-  noSpace : GoodFlow afi router source group → length output < 124 → FlowRefusal afi router source group output SPACE
+pub data FlowRefusal (afi : ℕ) (flow : Flow) (output : List ℕ) : ℕ → Type 0 where
+  badFlow : (GoodFlow afi flow → ⊥) → FlowRefusal afi flow output FLOW
+  noSpace : GoodFlow afi flow → length output < 124 → FlowRefusal afi flow output SPACE
 
 -- arguments are accepted, or refused by the first number in the call's order: each exactly when
 pub record ArgumentRule : Type 0 where
@@ -64,7 +65,5 @@ pub record ArgumentRule : Type 0 where
   pub refusedRoute : (afi : ℕ) (nlri attribute : List ℕ) (n : ℕ) → (readRoute afi nlri attribute ≡ refused n) ↔ RouteRefusal afi nlri attribute n
   pub acceptedRoute : (afi : ℕ) (nlri attribute : List ℕ) → (readRoute afi nlri attribute ≡ given (route nlri attribute)) ↔ (SPmsi afi nlri × Labelled attribute)
   -- of a family that a table can have
-  pub refusedFlow : (afi : ℕ) (router source group output : List ℕ) (n : ℕ) → KnownFamily afi
-      → (readMatch afi router source group output ≡ refused n) ↔ FlowRefusal afi router source group output n
-  pub acceptedFlow : (afi : ℕ) (router source group output : List ℕ)
-      → ((q : Query) × (readMatch afi router source group output ≡ given q)) ↔ (GoodFlow afi router source group × (124 ≤ length output))
+  pub refusedFlow : (afi : ℕ) (flow : Flow) (output : List ℕ) (n : ℕ) → KnownFamily afi → (readMatch afi flow output ≡ refused n) ↔ FlowRefusal afi flow output n
+  pub acceptedFlow : (afi : ℕ) (flow : Flow) (output : List ℕ) → ((q : Query) × (readMatch afi flow output ≡ given q)) ↔ (GoodFlow afi flow × (124 ≤ length output))

@@ -10,9 +10,9 @@ use Rattle.nlri.specs.Family.{familyBits, isOriginatorSize}
 use Rattle.nlri.specs.Fields.{Fields}
 use Rattle.nlri.specs.Reading.{readNlri}
 use Rattle.nlri.specs.Groups.{classUnder}
-use Rattle.tunnel.specs.Attribute.{labelOf, readAttribute}
-use Rattle.tunnel.specs.Attribute.{AttributeFields}
+use Rattle.tunnel.specs.Attribute.{AttributeFields, labelOf, readAttribute}
 use Rattle.routes.specs.Route.{Route, route}
+use Rattle.routes.specs.Query.{Query, Flow, flowQuery}
 
 -- "A well-formed S-PMSI NLRI": octets that NLRI reading under the table's AFI accepts, with none after it, of type 3; else KIND
 unfoldable pub readSPmsi : ℕ → List ℕ → Outcome Fields
@@ -26,23 +26,14 @@ readLabelled attribute = andThen (readAttribute attribute) (λ f. pick (both (eq
 unfoldable pub readRoute : ℕ → List ℕ → List ℕ → Outcome Route
 readRoute afi nlri attribute = andThen (readSPmsi afi nlri) (λ f. andThen (readLabelled attribute) (λ g. given (route nlri attribute)))
 
--- what a match asks: of which router, and the flow with its group's class
-pub record Query : Type 0 where
-  pub router : List ℕ
-  pub source : List ℕ
-  pub group : List ℕ
-  pub class : ℕ
-
 -- FLOW: a router address not of 4 or 16 octets, a source or group not of the family's size, a group not multicast
-unfoldable pub readFlow : (afi : ℕ) (router source group : List ℕ) → Outcome Query
-readFlow afi router source group =
+unfoldable pub readFlow : (afi : ℕ) → Flow → Outcome Query
+readFlow afi flow =
     andThen (familyBits afi) (λ bits.
-    unless (isOriginatorSize (length router)) FLOW
-    (unless (eqb (8 * length source) bits) FLOW
-    (andThen (classUnder bits group)
-    (λ class. given (record { router = router; source = source; group = group; class = class })))))
+    unless (isOriginatorSize (length (flow .router))) FLOW
+    (unless (eqb (8 * length (flow .source)) bits) FLOW
+    (andThen (classUnder bits (flow .group)) (λ class. given (flowQuery flow class)))))
 
 -- match: FLOW, then SPACE for an output under 124 octets
-unfoldable pub readMatch : (afi : ℕ) (router source group output : List ℕ) → Outcome Query
-readMatch afi router source group output =
-    andThen (readFlow afi router source group) (λ query. pick (ltb (length output) 124) (refused SPACE) (given query))
+unfoldable pub readMatch : (afi : ℕ) → Flow → (output : List ℕ) → Outcome Query
+readMatch afi flow output = andThen (readFlow afi flow) (λ query. pick (ltb (length output) 124) (refused SPACE) (given query))

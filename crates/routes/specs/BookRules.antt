@@ -8,7 +8,8 @@ use lib.ListN.{length}
 use Rattle.octets.specs.Numbers.{DONE, ABSENT}
 use Rattle.octets.specs.Lists.{Among, Once}
 use Rattle.routes.specs.declared.Matched.{Matched}
-use Rattle.routes.specs.Route.{Route, absent, held, lookup, Distinct}
+use Rattle.routes.specs.Route.{Route, route, absent, held, lookup, Distinct}
+use Rattle.routes.specs.Query.{Flow}
 use Rattle.routes.specs.Answers.{Changed, NEW, REPLACED}
 use Rattle.routes.specs.Call.{Call, install, withdraw, match, Answer, installed, withdrawn, matched, nobody, owner, ownerOf}
 use Rattle.routes.specs.Book.{ownCalls, bookOf, allBooks, dueAnswer}
@@ -16,14 +17,14 @@ use Rattle.routes.specs.Run.{imageOfBooks, counted}
 use Rattle.routes.specs.ArgumentRules.{SPmsi, SPmsiOf, Labelled, GoodFlow, NlriRefusal, RouteRefusal, FlowRefusal}
 use Rattle.routes.specs.Images.{Holdable, TableOf}
 use Rattle.routes.specs.CallRules.{IsHeld, HeldNow}
-use Rattle.routes.specs.MatchRule.{Untold, MatchAnswer}
+use Rattle.routes.specs.MatchRule.{InTier, Untold, MatchAnswer}
 
 -- a call belongs to a router: an install or withdrawal of a well-formed S-PMSI NLRI to its originator; a match to the router address that
 -- it gives, if that has 4 or 16 octets
 pub data BelongsTo (afi : ℕ) (router : List ℕ) : Call → Type 0 where
   ownInstall : {nlri attribute : List ℕ} → SPmsiOf afi router nlri → BelongsTo afi router (install nlri attribute)
   ownWithdrawal : {nlri : List ℕ} → SPmsiOf afi router nlri → BelongsTo afi router (withdraw nlri)
-  ownMatch : {source group output : List ℕ} → (length router ≡ 4) ⊎ (length router ≡ 16) → BelongsTo afi router (match router source group output)
+  ownMatch : {flow : Flow} {output : List ℕ} → flow .router ≡ router → (length router ≡ 4) ⊎ (length router ≡ 16) → BelongsTo afi router (match flow output)
 
 -- any other call belongs to nobody
 abbrev pub Nobodys : ℕ → Call → Type 0
@@ -48,25 +49,25 @@ pub data RefusedCall (afi : ℕ) : Call → Answer → Type 0 where
   refusedInstall : {nlri attribute : List ℕ} {n : ℕ} → n ≢ DONE → RouteRefusal afi nlri attribute n
       → RefusedCall afi (install nlri attribute) (installed (record { number = n; outcome = 0 }))
   refusedWithdrawal : {nlri : List ℕ} {n : ℕ} → n ≢ DONE → NlriRefusal afi nlri n → RefusedCall afi (withdraw nlri) (withdrawn n)
-  refusedFlow : {router source group output : List ℕ} {changed : Changed Matched} → FlowRefusal afi router source group output (changed .answer .number) → Untold output changed
-      → RefusedCall afi (match router source group output) (matched changed)
+  refusedFlow : {flow : Flow} {output : List ℕ} {changed : Changed Matched} → FlowRefusal afi flow output (changed .answer .number) → Untold output changed
+      → RefusedCall afi (match flow output) (matched changed)
 
 -- what a book answers to a call, and the book afterwards
 pub data BookStep (afi : ℕ) (book : List Route) : Call → Answer → (after : List Route) → Type 0 where
   -- a call that its arguments and the family refuse gets the first such number in its order; the book stays
   refusal : {c : Call} {answer : Answer} → RefusedCall afi c answer → BookStep afi book c answer book
   -- any other install gives the NLRI this attribute: DONE, "replaced" if the book held the NLRI, else "new"
-  replacedRoute : {nlri attribute : List ℕ} {after : List Route} → SPmsi afi nlri → Labelled attribute → IsHeld nlri book → HeldNow nlri (held attribute) book after
+  replacedRoute : {nlri attribute : List ℕ} {after : List Route} → SPmsi afi nlri → Labelled attribute → IsHeld nlri book → HeldNow nlri (held (route nlri attribute)) book after
       → BookStep afi book (install nlri attribute) (installed (record { number = DONE; outcome = REPLACED })) after
-  newRoute : {nlri attribute : List ℕ} {after : List Route} → SPmsi afi nlri → Labelled attribute → lookup nlri book ≡ absent → HeldNow nlri (held attribute) book after
+  newRoute : {nlri attribute : List ℕ} {after : List Route} → SPmsi afi nlri → Labelled attribute → lookup nlri book ≡ absent → HeldNow nlri (held (route nlri attribute)) book after
       → BookStep afi book (install nlri attribute) (installed (record { number = DONE; outcome = NEW })) after
   -- any other withdrawal takes the NLRI out: DONE; if the book does not hold it: ABSENT
   takenOut : {nlri : List ℕ} {after : List Route} → SPmsi afi nlri → IsHeld nlri book → HeldNow nlri absent book after
       → BookStep afi book (withdraw nlri) (withdrawn DONE) after
   notInBook : {nlri : List ℕ} → SPmsi afi nlri → lookup nlri book ≡ absent → BookStep afi book (withdraw nlri) (withdrawn ABSENT) book
   -- any other match answers by the rule over the book's routes; the book stays
-  matchedFlow : {router source group output : List ℕ} {changed : Changed Matched} → GoodFlow afi router source group → 124 ≤ length output
-      → MatchAnswer afi router source group output book changed → BookStep afi book (match router source group output) (matched changed) book
+  matchedFlow : {flow : Flow} {output : List ℕ} {changed : Changed Matched} → GoodFlow afi flow → 124 ≤ length output
+      → MatchAnswer afi (flow .router) (InTier afi flow) output book changed → BookStep afi book (match flow output) (matched changed) book
 
 -- the books, under a family that a table can have
 pub record BookRule (afi : ℕ) : Type 0 where

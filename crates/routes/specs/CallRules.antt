@@ -8,22 +8,22 @@ use mathlib.Core.Logic.{_↔_, _≢_}
 use lib.ListN.{length}
 use Rattle.octets.specs.Numbers.{DONE, FAMILY, TABLE, ROOM, ABSENT}
 use Rattle.octets.specs.Lists.{Among}
-use Rattle.routes.specs.Route.{Route, route, Held, absent, held, lookup, inserted, removed, Distinct}
+use Rattle.routes.specs.Route.{Route, route, nlriOf, Held, absent, held, lookup, inserted, removed, Distinct}
 use Rattle.routes.specs.Table.{afiIn, placesIn, routesOf, soundOf}
 use Rattle.routes.specs.Answers.{NEW, REPLACED}
 use Rattle.routes.specs.Calls.{makeOf, installOf, withdrawOf}
 use Rattle.routes.specs.ArgumentRules.{KnownFamily, SPmsi, Labelled, NlriRefusal, RouteRefusal}
 use Rattle.routes.specs.Images.{TableOf}
 
--- what routes hold of an NLRI: nothing exactly when none of them has it; an attribute, where no two have the same NLRI, exactly when one of
--- them has both
+-- what routes hold of an NLRI: nothing exactly when none of them has it; a route, where no two have the same NLRI, exactly when it is the one
+-- of them that has it
 pub record LookupRule : Type 0 where
-  pub missing : (nlri : List ℕ) (rs : List Route) → (lookup nlri rs ≡ absent) ↔ ((attribute : List ℕ) → Among (route nlri attribute) rs → ⊥)
-  pub found : (nlri attribute : List ℕ) (rs : List Route) → Distinct rs → (lookup nlri rs ≡ held attribute) ↔ Among (route nlri attribute) rs
+  pub missing : (nlri : List ℕ) (rs : List Route) → (lookup nlri rs ≡ absent) ↔ ((r : Route) → Among r rs → nlriOf r ≢ nlri)
+  pub found : (nlri : List ℕ) (r : Route) (rs : List Route) → Distinct rs → (lookup nlri rs ≡ held r) ↔ (Among r rs × (nlriOf r ≡ nlri))
 
--- routes hold the NLRI with some attribute
+-- routes hold some route of the NLRI
 abbrev pub IsHeld : (nlri : List ℕ) → List Route → Type 0
-IsHeld nlri rs = (attribute : List ℕ) × (lookup nlri rs ≡ held attribute)
+IsHeld nlri rs = (r : Route) × (lookup nlri rs ≡ held r)
 
 -- routes that hold this of an NLRI, and of every other NLRI what others hold
 pub record HeldNow (nlri : List ℕ) (now : Held) (old new : List Route) : Type 0 where
@@ -83,7 +83,7 @@ pub record InstallRule : Type 0 where
   pub done : (t nlri attribute : List ℕ) (o : ℕ) → (installOf t nlri attribute .answer ≡ record { number = DONE; outcome = o }) ↔ InstallDone t nlri attribute o
   -- afterwards the NLRI has this attribute, and every other NLRI what it had; the table is sound, of the same family and size
   pub installed : (t nlri attribute : List ℕ) → installOf t nlri attribute .answer .number ≡ DONE
-      → HeldNow nlri (held attribute) (routesOf t) (routesOf (installOf t nlri attribute .octets))
+      → HeldNow nlri (held (route nlri attribute)) (routesOf t) (routesOf (installOf t nlri attribute .octets))
   pub after : (t nlri attribute : List ℕ) → installOf t nlri attribute .answer .number ≡ DONE
       → TableOf (afiIn t) (placesIn t) (inserted (route nlri attribute) (routesOf t)) (installOf t nlri attribute .octets)
   pub size : (t nlri attribute : List ℕ) → length (installOf t nlri attribute .octets) ≡ length t

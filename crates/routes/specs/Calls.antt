@@ -11,6 +11,7 @@ use Rattle.nlri.specs.Family.{familyBits}
 use Rattle.routes.specs.declared.Installed.{Installed}
 use Rattle.routes.specs.declared.Matched.{Matched}
 use Rattle.routes.specs.Route.{Route, route, nlriOf, holds, inserted, removed}
+use Rattle.routes.specs.Query.{Flow}
 use Rattle.routes.specs.Arguments.{readSPmsi, readRoute, readMatch}
 use Rattle.routes.specs.Table.{imageOf, afiIn, placesIn, routesOf, tableSize, soundOf}
 use Rattle.routes.specs.Matching.{Found, matchIn}
@@ -57,10 +58,9 @@ withdrawOf t nlri =
     }
 
 -- match: TABLE, then its arguments
-unfoldable pub matchOutcome : (table router source group output : List ℕ) → Outcome Found
-matchOutcome t router source group output =
-    unless (soundOf t) TABLE (andThen (readMatch (afiIn t) router source group output) (λ q. given (matchIn (afiIn t) q (routesOf t))))
+unfoldable pub matchOutcome : (table : List ℕ) → Flow → (output : List ℕ) → Outcome Found
+matchOutcome t flow output = unless (soundOf t) TABLE (andThen (readMatch (afiIn t) flow output) (λ q. given (matchIn (afiIn t) q (routesOf t))))
 
 -- the answer, and the output afterwards
-unfoldable pub matchOf : (table router source group output : List ℕ) → Changed Matched
-matchOf t router source group output = matchedBy (matchOutcome t router source group output) output
+unfoldable pub matchOf : (table : List ℕ) → Flow → (output : List ℕ) → Changed Matched
+matchOf t flow output = matchedBy (matchOutcome t flow output) output

@@ -12,6 +12,7 @@ use Rattle.nlri.specs.Groups.{ASM, SSM, classOf}
 use Rattle.routes.specs.declared.Installed.{Installed}
 use Rattle.routes.specs.declared.Matched.{Matched}
 use Rattle.routes.specs.Route.{Route, route, nlriOf, attributeOf}
+use Rattle.routes.specs.Query.{Flow, flowOf}
 use Rattle.routes.specs.Place.{PLACE}
 use Rattle.routes.specs.Table.{HEADER, imageOf}
 use Rattle.routes.specs.Answers.{Changed, NEW}
@@ -21,14 +22,14 @@ use Rattle.routes.specs.Calls.{makeOf, installOf, matchOf}
 pub data Example : Type 0 where
   grouped : (afi : ℕ) → List ℕ → Outcome ℕ → Example
   reading : (afi : ℕ) → List ℕ → Outcome Fields → Example
-  matching : (table router source group output : List ℕ) → Changed Matched → Example
+  matching : (table : List ℕ) → Flow → (output : List ℕ) → Changed Matched → Example
   installing : (table nlri attribute : List ℕ) → Changed Installed → Example
 
 -- what a case says
 abbrev pub ExampleHolds : Example → Type 0
 ExampleHolds (grouped afi g class) = classOf afi g ≡ class
 ExampleHolds (reading afi s fields) = readNlri afi s ≡ fields
-ExampleHolds (matching t router source group output answer) = matchOf t router source group output ≡ answer
+ExampleHolds (matching t flow output answer) = matchOf t flow output ≡ answer
 ExampleHolds (installing t nlri attribute answer) = installOf t nlri attribute ≡ answer
 
 -- every one of these cases
@@ -121,13 +122,13 @@ tellsNone = record { answer = record { number = DONE; tier = 0; «nlri_size» = 
 abbrev pub examples : List Example
 examples =
     -- P1 to P5: A, B, C and not B, D, D and not E
-    matching someTable someRouter someSource (232 ∷ 1 ∷ 1 ∷ 1 ∷ []) someOutput (tells 1 routeA 24 17 83)
-    ∷ matching someTable someRouter someSource (232 ∷ 1 ∷ 1 ∷ 2 ∷ []) someOutput (tells 2 routeB 20 13 91)
-    ∷ matching someTable someRouter someSource (239 ∷ 1 ∷ 1 ∷ 1 ∷ []) someOutput (tells 3 routeC 20 22 82)
-    ∷ matching someTable someRouter (192 ∷ 0 ∷ 2 ∷ 2 ∷ []) (232 ∷ 1 ∷ 1 ∷ 1 ∷ []) someOutput (tells 4 routeD 16 9 99)
-    ∷ matching someTable someRouter (192 ∷ 0 ∷ 2 ∷ 2 ∷ []) (232 ∷ 9 ∷ 9 ∷ 9 ∷ []) someOutput (tells 4 routeD 16 9 99)
+    matching someTable (flowOf someRouter someSource (232 ∷ 1 ∷ 1 ∷ 1 ∷ [])) someOutput (tells 1 routeA 24 17 83)
+    ∷ matching someTable (flowOf someRouter someSource (232 ∷ 1 ∷ 1 ∷ 2 ∷ [])) someOutput (tells 2 routeB 20 13 91)
+    ∷ matching someTable (flowOf someRouter someSource (239 ∷ 1 ∷ 1 ∷ 1 ∷ [])) someOutput (tells 3 routeC 20 22 82)
+    ∷ matching someTable (flowOf someRouter (192 ∷ 0 ∷ 2 ∷ 2 ∷ []) (232 ∷ 1 ∷ 1 ∷ 1 ∷ [])) someOutput (tells 4 routeD 16 9 99)
+    ∷ matching someTable (flowOf someRouter (192 ∷ 0 ∷ 2 ∷ 2 ∷ []) (232 ∷ 9 ∷ 9 ∷ 9 ∷ [])) someOutput (tells 4 routeD 16 9 99)
     -- P6: asked of 10.0.0.2
-    ∷ matching someTable (10 ∷ 0 ∷ 0 ∷ 2 ∷ []) someSource (232 ∷ 1 ∷ 1 ∷ 1 ∷ []) someOutput tellsNone
+    ∷ matching someTable (flowOf (10 ∷ 0 ∷ 0 ∷ 2 ∷ []) someSource (232 ∷ 1 ∷ 1 ∷ 1 ∷ [])) someOutput tellsNone
     -- P7
     ∷ grouped 1 (231 ∷ 255 ∷ 255 ∷ 255 ∷ []) (given ASM)
     ∷ grouped 1 (233 ∷ 0 ∷ 0 ∷ 0 ∷ []) (given ASM)

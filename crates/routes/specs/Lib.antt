@@ -1,6 +1,7 @@
 -- Route tables. Definitions, in document 01's order: routes, arguments, the table memory, which route a flow takes, the calls on octets; then
 -- mixed calls, each router's book, and runs.
 pub mod Route
+pub mod Query
 pub mod Arguments
 pub mod Place
 pub mod Table

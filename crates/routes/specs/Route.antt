@@ -18,20 +18,20 @@ nlriOf (route nlri attribute) = nlri
 unfoldable pub attributeOf : Route → List ℕ
 attributeOf (route nlri attribute) = attribute
 
--- what routes hold of an NLRI: its attribute, or nothing
+-- what routes hold of an NLRI: a route, or nothing
 pub data Held : Type 0 where
   absent : Held
-  held : (attribute : List ℕ) → Held
+  held : Route → Held
 
 -- the first route of an NLRI decides what is held of it
 unfoldable pub lookup : List ℕ → List Route → Held
 lookup nlri [] = absent
-lookup nlri (r ∷ rs) = pick (same nlri (nlriOf r)) (held (attributeOf r)) (lookup nlri rs)
+lookup nlri (r ∷ rs) = pick (same nlri (nlriOf r)) (held r) (lookup nlri rs)
 
 -- something is held
 unfoldable pub isHeld : Held → Bool
 isHeld absent = false
-isHeld (held attribute) = true
+isHeld (held r) = true
 
 -- routes hold an NLRI
 unfoldable pub holds : List ℕ → List Route → Bool
@@ -55,7 +55,7 @@ removed nlri (q ∷ rs) = pick (same nlri (nlriOf q)) rs (q ∷ removed nlri rs)
 -- no two routes have the same NLRI
 pub data Distinct : List Route → Type 0 where
   none : Distinct []
-  one : {r : Route} {rs : List Route} → holds (nlriOf r) rs ≡ false → Distinct rs → Distinct (r ∷ rs)
+  one : {r : Route} {rs : List Route} → lookup (nlriOf r) rs ≡ absent → Distinct rs → Distinct (r ∷ rs)
 
 -- NLRIs strictly increase octet by octet, and all come after `previous`
 pub data Increasing : (previous : List ℕ) → List Route → Type 0 where

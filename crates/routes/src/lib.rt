@@ -1,4 +1,7 @@
 // What calls on a route table answer. The definitions and theorems about tables stand in specs/ and proofs/.
+ghost use mathlib.Core.Path.{_≡_};
+ghost use Rattle.routes.specs.Answers.{refusedInstall, doneInstall, emptyMatch};
+use octets::number::DONE;
 
 // What install answers: DONE with NEW or REPLACED, or the refusal's number and 0.
 #[repr(C)]
@@ -11,6 +14,23 @@ impl Installed {
     pub const NEW: u32 = 1;
 
     pub const REPLACED: u32 = 2;
+
+    // An install that is refused.
+    pub fn refused(number: u32) -> Installed
+        ensures { λ r. ⌜ r ≡ refusedInstall number ⌝ }
+    {
+        Installed { number, outcome: 0 }
+    }
+
+    // An install that is done, with NEW or REPLACED.
+    pub fn done(outcome: u32) -> Installed
+        ensures { λ r. ⌜ r ≡ doneInstall outcome ⌝ }
+    {
+        Installed {
+            number: DONE,
+            outcome,
+        }
+    }
 }
 
 // What match answers: DONE with the tier and both sizes, all 0 where no route matches, or the refusal's number and 0.
@@ -20,4 +40,25 @@ pub struct Matched {
     pub tier: u32,
     pub nlri_size: u32,
     pub attribute_size: u32,
+}
+
+impl Matched {
+    // A match that is refused.
+    pub fn refused(number: u32) -> Matched
+        ensures { λ r. ⌜ r ≡ emptyMatch number ⌝ }
+    {
+        Matched {
+            number,
+            tier: 0,
+            nlri_size: 0,
+            attribute_size: 0,
+        }
+    }
+
+    // A match that finds no route.
+    pub fn none() -> Matched
+        ensures { λ r. ⌜ r ≡ emptyMatch 0 ⌝ }
+    {
+        Matched::refused(DONE)
+    }
 }

@@ -9,23 +9,26 @@ use lib.Dec.{ltb, eqb}
 use lib.ListN.{length, drop}
 use lib.Seq.{drop-drop}
 use Rattle.octets.specs.Choice.{pick, both, either}
+use Rattle.octets.specs.Outcome.{given}
 use Rattle.octets.specs.Octets.{part}
 use Rattle.octets.specs.Order.{before}
-use Rattle.octets.proofs.Choice.{pick-true, pick-false, tested}
+use Rattle.octets.proofs.Choice.{pick-true, pick-false, pick-cong, tested}
 use Rattle.routes.specs.Route.{Route}
-use Rattle.routes.specs.Arguments.{Query}
+use Rattle.routes.specs.Query.{Query, Flow}
 use Rattle.routes.specs.Place.{routeIn}
 use Rattle.routes.specs.Table.{afiIn, countIn, routesFrom, routesOf, soundOf}
 use Rattle.routes.specs.Matching.{distinguisherOf, Found, nothing, found, matchIn}
 use Rattle.routes.specs.declared.Matched.{Matched}
-use Rattle.routes.specs.Answers.{foundAnswer, foundOutput}
+use Rattle.routes.specs.Answers.{matchedBy}
 use Rattle.routes.specs.OnePass.{tierOf, ahead, against, better, scanned}
 use Rattle.routes.proofs.Definitions.Places.{increasing-routesFrom}
 use Rattle.routes.proofs.Definitions.Lookups.{distinct-increasing}
 use Rattle.routes.proofs.Definitions.OnePass.{one-pass}
 use Rattle.routes.proofs.Statements.Images.{sound}
 use Rattle.table.specs.declared.scan.Best.{Best}
-use Rattle.table.specs.Scanning.{standing, tierAt, nlriAt, Readable, aheadAt, betterAt, scanAt, noneYet, bestIn, Answerable, queryOf}
+use Rattle.table.specs.Scanning.{standing, tierAt, nlriAt, Readable, aheadAt, betterAt, scanAt, noneYet, bestIn, Answerable, openQuery}
+use Rattle.table.specs.Changing.{Leaves}
+use Rattle.table.specs.declared.tier.Tiers.{Tiers}
 use Rattle.table.proofs.Tiers.{tier-stands, distinguisher-stands}
 use Rattle.table.proofs.Taken.{Taken, route-accepted, taken-readable, taken-writable, places-taken}
 use Rattle.table.proofs.Scans.{Kept, better-one, place-here, places-next, best-none, best-some}
@@ -51,14 +54,18 @@ ahead-first t tier at best h = pick-true _ _ _ h
 routeFrom : List ℕ → ℕ → Route
 routeFrom t at = routeIn (part t at 128)
 
-module _ (afi : ℕ) (q : Query) (source : 0 < length (q .source)) (group : 0 < length (q .group)) (t : List ℕ) where
-  tier-here : (at : ℕ) → Taken afi t at → tierAt (q .router) (q .source) (q .group) (q .class) (nlriAt t at) ≡ tierOf afi q (routeFrom t at)
+module _ (afi : ℕ) (flow : Flow) (tiers : Tiers) (source : 0 < length (flow .source)) (group : 0 < length (flow .group)) (t : List ℕ) where
+  -- what is asked
+  abbrev q : Query
+  q = openQuery flow tiers
+
+  tier-here : (at : ℕ) → Taken afi t at → tierAt flow tiers (nlriAt t at) ≡ tierOf afi q (routeFrom t at)
   unfolding nlriAt routeFrom
-  tier-here at taken = let a = route-accepted afi t at taken in tier-stands afi q (routeIn (part t at 128)) (a .fields) (a .read) source group
+  tier-here at taken = let a = route-accepted afi t at taken in tier-stands afi (routeIn (part t at 128)) (a .fields) (a .read) flow tiers source group
 
   distinguisher-here : (at : ℕ) → Taken afi t at → standing (nlriAt t at) .distinguisher ≡ distinguisherOf afi (routeFrom t at)
   unfolding nlriAt routeFrom
-  distinguisher-here at taken = let a = route-accepted afi t at taken in sym (distinguisher-stands afi q (routeIn (part t at 128)) (a .fields) (a .read))
+  distinguisher-here at taken = let a = route-accepted afi t at taken in sym (distinguisher-stands afi (routeIn (part t at 128)) (a .fields) (a .read))
 
   ahead-here : (tier at : ℕ) (best : Best) → Taken afi t at → Taken afi t (best .start) → (best .tier ≡ 0 → ⊥)
       → aheadAt t tier at best ≡ ahead afi tier (routeFrom t at) (best .tier) (routeFrom t (best .start))
@@ -84,27 +91,20 @@ module _ (afi : ℕ) (q : Query) (source : 0 < length (q .source)) (group : 0 < 
       ∙ sym (ap (against afi tier (routeFrom t at)) one))
 
   better-here : (at : ℕ) (best : Best) → Taken afi t at → Kept (Taken afi t) best
-      → bestIn t (betterAt (q .router) (q .source) (q .group) (q .class) t best at) ≡ better afi q (bestIn t best) (routeFrom t at)
+      → bestIn t (betterAt flow tiers t best at) ≡ better afi (tierOf afi q (routeFrom t at)) (routeFrom t at) (bestIn t best)
   unfolding betterAt better
   better-here at best new old =
-      let tier : ℕ = tierAt (q .router) (q .source) (q .group) (q .class) (nlriAt t at) in
-      let is : tier ≡ tierOf afi q (routeFrom t at) = tier-here at new in
-      best-picked t _ _ _
-      ∙ tested (eqb tier 0)
-      (λ h. pick-true _ _ _ h ∙ sym (pick-true _ _ _ (ap (λ (n : ℕ). eqb n 0) (sym is) ∙ h)))
-      (λ h.
-      pick-false _ _ _ h ∙ against-here tier at best new old (eqb-false _ _ h) ∙ ap (λ (n : ℕ). against afi n (routeFrom t at) (bestIn t best)) is
-      ∙ sym (pick-false _ _ _ (ap (λ (n : ℕ). eqb n 0) (sym is) ∙ h)))
+      rw (← tier-here at new) (best-picked t _ _ _ ∙ pick-cong _ _ _ _ _ (λ h. refl) (λ h. against-here (tierAt flow tiers (nlriAt t at)) at best new old (eqb-false _ _ h)))
 
   scan-here : (count at : ℕ) (best : Best) → ((k : ℕ) → k < count → Taken afi t (at + 128 * k)) → Kept (Taken afi t) best
-      → (bestIn t (scanAt (q .router) (q .source) (q .group) (q .class) t count at best) ≡ scanned afi q (bestIn t best) (routesFrom count (drop at t)))
-      × Kept (Taken afi t) (scanAt (q .router) (q .source) (q .group) (q .class) t count at best)
+      → (bestIn t (scanAt flow tiers t count at best) ≡ scanned afi q (bestIn t best) (routesFrom count (drop at t)))
+      × Kept (Taken afi t) (scanAt flow tiers t count at best)
   unfolding scanAt scanned routesFrom routeFrom part
   scan-here zero at best all old = (refl, old)
   scan-here (suc count) at best all old =
       let new : Taken afi t at = place-here (Taken afi t) (suc count) at all (omega arith) in
-      let next : Best = betterAt (q .router) (q .source) (q .group) (q .class) t best at in
-      let rest = scan-here count (at + 128) next (λ k h. places-next (Taken afi t) (suc count) at all (omega arith) k (omega arith)) (better-one _ _ _ _ t (Taken afi t) best at old new) in
+      let next : Best = betterAt flow tiers t best at in
+      let rest = scan-here count (at + 128) next (λ k h. places-next (Taken afi t) (suc count) at all (omega arith) k (omega arith)) (better-one _ _ t (Taken afi t) best at old new) in
       (rest .0 ∙ ap₂ (λ (f : Found) (s : List ℕ). scanned afi q f (routesFrom count s)) (better-here at best new old) (sym (drop-drop 128 at t)), rest .1)
 
 -- what the scan of a sound table's taken places finds is the match, and where it finds a route, its place is taken
@@ -117,21 +117,21 @@ module _ (t : List ℕ) (is : soundOf t ≡ true) where
   pub scan-ready : (count : ℕ) → count ≡ countIn t → (k : ℕ) → k < count → Readable t (8 + 128 * k)
   scan-ready count counted k h = taken-readable (afiIn t) t (8 + 128 * k) (table-taken k (omega arith))
 
-  module _ (router source group : List ℕ) (class : ℕ) (sourced : 0 < length source) (grouped : 0 < length group) where
-    whole : (bestIn t (scanAt router source group class t (countIn t) 8 noneYet) ≡ scanned (afiIn t) (queryOf router source group class) (bestIn t noneYet) (routesFrom (countIn t) (drop 8 t)))
-        × Kept (Taken (afiIn t) t) (scanAt router source group class t (countIn t) 8 noneYet)
-    unfolding noneYet queryOf
-    whole = scan-here (afiIn t) (queryOf router source group class) sourced grouped t (countIn t) 8 noneYet table-taken (λ h. absurd (h refl))
+  module _ (flow : Flow) (tiers : Tiers) (sourced : 0 < length (flow .source)) (grouped : 0 < length (flow .group)) where
+    whole : (bestIn t (scanAt flow tiers t (countIn t) 8 noneYet) ≡ scanned (afiIn t) (openQuery flow tiers) (bestIn t noneYet) (routesFrom (countIn t) (drop 8 t)))
+        × Kept (Taken (afiIn t) t) (scanAt flow tiers t (countIn t) 8 noneYet)
+    unfolding noneYet
+    whole = scan-here (afiIn t) flow tiers sourced grouped t (countIn t) 8 noneYet table-taken (λ h. absurd (h refl))
 
-    module _ (count : ℕ) (best : Best) (counted : count ≡ countIn t) (scans : best ≡ scanAt router source group class t count 8 noneYet) where
-      all : best ≡ scanAt router source group class t (countIn t) 8 noneYet
-      all = scans ∙ ap (λ (n : ℕ). scanAt router source group class t n 8 noneYet) counted
+    module _ (count : ℕ) (best : Best) (counted : count ≡ countIn t) (scans : best ≡ scanAt flow tiers t count 8 noneYet) where
+      all : best ≡ scanAt flow tiers t (countIn t) 8 noneYet
+      all = scans ∙ ap (λ (n : ℕ). scanAt flow tiers t n 8 noneYet) counted
 
-      scan-matches : bestIn t best ≡ matchIn (afiIn t) (queryOf router source group class) (routesOf t)
+      scan-matches : bestIn t best ≡ matchIn (afiIn t) (openQuery flow tiers) (routesOf t)
       unfolding noneYet routesOf
       scan-matches =
-          ap (bestIn t) all ∙ whole .0 ∙ ap (λ (f : Found). scanned (afiIn t) (queryOf router source group class) f (routesFrom (countIn t) (drop 8 t))) (best-none t noneYet refl)
-          ∙ one-pass (afiIn t) (queryOf router source group class) (routesOf t) (distinct-increasing (increasing-routesFrom (afiIn t) [] (countIn t) (drop 8 t) (sound t is .places)))
+          ap (bestIn t) all ∙ whole .0 ∙ ap (λ (f : Found). scanned (afiIn t) (openQuery flow tiers) f (routesFrom (countIn t) (drop 8 t))) (best-none t noneYet refl)
+          ∙ one-pass (afiIn t) (openQuery flow tiers) (routesOf t) (distinct-increasing (increasing-routesFrom (afiIn t) [] (countIn t) (drop 8 t) (sound t is .places)))
 
       pub scan-answerable : (output : List ℕ) → 124 ≤ length output → Answerable t best output
       scan-answerable output room some =
@@ -139,7 +139,6 @@ module _ (t : List ℕ) (is : soundOf t ≡ true) where
           (taken .within, taken-writable (afiIn t) t (best .start) taken output room)
 
       -- what the search answers, and leaves in the output
-      pub search-answers : (answer : Matched) (output left : List ℕ) → answer ≡ foundAnswer (bestIn t best) → left ≡ foundOutput (bestIn t best) output
-          → (answer ≡ foundAnswer (matchIn (afiIn t) (queryOf router source group class) (routesOf t)))
-          × (left ≡ foundOutput (matchIn (afiIn t) (queryOf router source group class) (routesOf t)) output)
-      search-answers answer output left a l = (a ∙ ap foundAnswer scan-matches, l ∙ ap (λ (f : Found). foundOutput f output) scan-matches)
+      pub search-answers : (answer : Matched) (output left : List ℕ) → Leaves (matchedBy (given (bestIn t best)) output) answer left
+          → Leaves (matchedBy (given (matchIn (afiIn t) (openQuery flow tiers) (routesOf t))) output) answer left
+      search-answers answer output left a = rw (← scan-matches) a

@@ -12,8 +12,14 @@ use Rattle.octets.specs.Order.{before}
 use Rattle.octets.proofs.Lists.{length-part}
 use Rattle.octets.proofs.Choice.{picks, skips, pick-true, pick-false}
 use Rattle.routes.specs.Place.{endIn, routeIn}
+use Rattle.octets.specs.Outcome.{given, onOutcome}
 use Rattle.routes.specs.Matching.{nothing, found}
+use Rattle.routes.specs.declared.Matched.{Matched}
+use Rattle.routes.specs.Answers.{emptyMatch, foundAnswer, foundOutput, matchedBy}
+use Rattle.table.specs.Changing.{Leaves}
+use Rattle.routes.specs.Query.{Flow}
 use Rattle.table.specs.declared.scan.Best.{Best}
+use Rattle.table.specs.declared.tier.Tiers.{Tiers}
 use Rattle.table.specs.Scanning.{standing, tierAt, nlriAt, Readable, aheadAt, betterAt, scanAt, noneYet, bestIn, RouteFits, Answerable}
 
 -- what a place's functions need of a place cut out of the table
@@ -36,42 +42,42 @@ picked-one P true ahead best new old fresh = old
 picked-one P false true best new old fresh = fresh
 picked-one P false false best new old fresh = old
 
-module _ (router source group : List ℕ) (class : ℕ) (t : List ℕ) where
+module _ (flow : Flow) (tiers : Tiers) (t : List ℕ) where
   -- the branches of one step
-  module _ (best : Best) (at : ℕ) (nlri : List ℕ) (tier : ℕ) (stands : nlri ≡ nlriAt t at) (is : tier ≡ tierAt router source group class nlri) where
-    here : tier ≡ tierAt router source group class (nlriAt t at)
-    here = is ∙ ap (tierAt router source group class) stands
+  module _ (best : Best) (at : ℕ) (nlri : List ℕ) (tier : ℕ) (stands : nlri ≡ nlriAt t at) (is : tier ≡ tierAt flow tiers nlri) where
+    here : tier ≡ tierAt flow tiers (nlriAt t at)
+    here = is ∙ ap (tierAt flow tiers) stands
 
-    pub no-tier : tier ≡ 0 → best ≡ betterAt router source group class t best at
+    pub no-tier : tier ≡ 0 → best ≡ betterAt flow tiers t best at
     unfolding betterAt
     no-tier e = picks _ _ _ _ (eq-eqb _ _ (sym here ∙ e)) refl
 
-    pub goes-ahead : (flag : Bool) → (tier ≡ 0 → ⊥) → flag ≡ aheadAt t tier at best → flag ≡ true → record { tier = tier; start = at } ≡ betterAt router source group class t best at
+    pub goes-ahead : (flag : Bool) → (tier ≡ 0 → ⊥) → flag ≡ aheadAt t tier at best → flag ≡ true → record { tier = tier; start = at } ≡ betterAt flow tiers t best at
     unfolding betterAt
     goes-ahead flag some f holds =
         skips _ _ _ _ (ne-eqb _ _ (λ e. some (here ∙ e)))
         (picks _ _ _ _ (ap (λ (k : ℕ). aheadAt t k at best) (sym here) ∙ sym f ∙ holds) (ap (λ (k : ℕ). record { tier = k; start = at }) here))
 
-    pub stays-behind : (flag : Bool) → (tier ≡ 0 → ⊥) → flag ≡ aheadAt t tier at best → flag ≡ false → best ≡ betterAt router source group class t best at
+    pub stays-behind : (flag : Bool) → (tier ≡ 0 → ⊥) → flag ≡ aheadAt t tier at best → flag ≡ false → best ≡ betterAt flow tiers t best at
     unfolding betterAt
     stays-behind flag some f fails =
         skips _ _ _ _ (ne-eqb _ _ (λ e. some (here ∙ e))) (skips _ _ _ _ (ap (λ (k : ℕ). aheadAt t k at best) (sym here) ∙ sym f ∙ fails) refl)
 
   -- what is the best after a step was the best before, or stands at the step's place
-  pub better-one : (P : ℕ → Type 0) (best : Best) (at : ℕ) → Kept P best → P at → Kept P (betterAt router source group class t best at)
+  pub better-one : (P : ℕ → Type 0) (best : Best) (at : ℕ) → Kept P best → P at → Kept P (betterAt flow tiers t best at)
   unfolding betterAt
   better-one P best at old new = picked-one P _ _ best _ old (λ h. new)
 
   -- so many places less to go
-  scan-step : (left at : ℕ) (best : Best) → 0 < left → scanAt router source group class t left at best ≡ scanAt router source group class t (left - 1) (at + 128) (betterAt router source group class t best at)
+  scan-step : (left at : ℕ) (best : Best) → 0 < left → scanAt flow tiers t left at best ≡ scanAt flow tiers t (left - 1) (at + 128) (betterAt flow tiers t best at)
   unfolding scanAt
   scan-step zero at best h = absurd (omega arith)
-  scan-step (suc left) at best h = ap (λ (k : ℕ). scanAt router source group class t k (at + 128) (betterAt router source group class t best at)) (sym (less left))
+  scan-step (suc left) at best h = ap (λ (k : ℕ). scanAt flow tiers t k (at + 128) (betterAt flow tiers t best at)) (sym (less left))
     where
       less : (n : ℕ) → suc n - 1 ≡ n
       less n = omega arith
 
-  scan-end : (left at : ℕ) (best : Best) → left ≤ 0 → scanAt router source group class t left at best ≡ best
+  scan-end : (left at : ℕ) (best : Best) → left ≤ 0 → scanAt flow tiers t left at best ≡ best
   unfolding scanAt
   scan-end zero at best h = refl
   scan-end (suc left) at best h = absurd (omega arith)
@@ -84,30 +90,30 @@ pub places-next : (P : ℕ → Type 0) (left at : ℕ) → ((k : ℕ) → k < le
 places-next P left at all some k h = let e : at + 128 * (k + 1) ≡ at + 128 + 128 * k = omega arith in subst P e (all (k + 1) (omega arith))
 
 -- the loop: what the scan comes to is what the rest of it comes to from the best so far on
-pub record Going (router source group : List ℕ) (class : ℕ) (t : List ℕ) (count : ℕ) (best : Best) (at left : ℕ) : Type 0 where
-  pub same : scanAt router source group class t count 8 noneYet ≡ scanAt router source group class t left at best
+pub record Going (flow : Flow) (tiers : Tiers) (t : List ℕ) (count : ℕ) (best : Best) (at left : ℕ) : Type 0 where
+  pub same : scanAt flow tiers t count 8 noneYet ≡ scanAt flow tiers t left at best
   pub coming : (k : ℕ) → k < left → Readable t (at + 128 * k)
   pub kept : Kept (Readable t) best
 
-module _ (router source group : List ℕ) (class : ℕ) (t : List ℕ) (count : ℕ) where
-  pub going-first : ((k : ℕ) → k < count → Readable t (8 + 128 * k)) → Going router source group class t count (record { tier = 0; start = 0 }) 8 count
+module _ (flow : Flow) (tiers : Tiers) (t : List ℕ) (count : ℕ) where
+  pub going-first : ((k : ℕ) → k < count → Readable t (8 + 128 * k)) → Going flow tiers t count (record { tier = 0; start = 0 }) 8 count
   unfolding noneYet
   going-first all = record { same = refl; coming = all; kept = λ h. absurd (h refl) }
 
-  module _ (best : Best) (at left : ℕ) (going : Going router source group class t count best at left) where
+  module _ (best : Best) (at left : ℕ) (going : Going flow tiers t count best at left) where
     pub going-here : 0 < left → Readable t at × Kept (Readable t) best
     going-here some = (place-here (Readable t) left at (going .coming) some, going .kept)
 
-    pub going-next : 0 < left → (next : Best) → next ≡ betterAt router source group class t best at → Going router source group class t count next (at + 128) (left - 1)
+    pub going-next : 0 < left → (next : Best) → next ≡ betterAt flow tiers t best at → Going flow tiers t count next (at + 128) (left - 1)
     going-next some next e =
         rw e (record {
-          same = going .same ∙ scan-step router source group class t left at best some;
+          same = going .same ∙ scan-step flow tiers t left at best some;
           coming = places-next (Readable t) left at (going .coming) some;
-          kept = better-one router source group class t (Readable t) best at (going .kept) (going-here some .0);
+          kept = better-one flow tiers t (Readable t) best at (going .kept) (going-here some .0);
         })
 
-    pub going-last : left ≤ 0 → best ≡ scanAt router source group class t count 8 noneYet
-    going-last none = sym (going .same ∙ scan-end router source group class t left at best none)
+    pub going-last : left ≤ 0 → best ≡ scanAt flow tiers t count 8 noneYet
+    going-last none = sym (going .same ∙ scan-end flow tiers t left at best none)
 
 -- no route so far, and one
 pub best-none : (t : List ℕ) (best : Best) → best .tier ≡ 0 → bestIn t best ≡ nothing
@@ -121,3 +127,12 @@ best-some t best h = pick-false _ _ _ (ne-eqb _ _ h)
 -- the place of the best route, cut out of the table
 pub best-writable : (t place output : List ℕ) (best : Best) → Answerable t best output → (best .tier ≡ 0 → ⊥) → place ≡ part t (best .start) 128 → RouteFits place output
 best-writable t place output best all some e = rw e (all some .1)
+
+-- what is answered and left in the output, where there is no route and where there is one
+pub best-none-left : (t output : List ℕ) (best : Best) (answer : Matched) → best .tier ≡ 0 → answer ≡ emptyMatch 0 → Leaves (matchedBy (given (bestIn t best)) output) answer output
+unfolding matchedBy onOutcome foundAnswer foundOutput
+best-none-left t output best answer e a = rw (best-none t best e) (a, refl)
+
+pub best-left : (t place output left : List ℕ) (best : Best) (answer : Matched) → (best .tier ≡ 0 → ⊥) → place ≡ part t (best .start) 128
+    → Leaves (matchedBy (given (found (best .tier) (routeIn place))) output) answer left → Leaves (matchedBy (given (bestIn t best)) output) answer left
+best-left t place output left best answer some e l = rw (best-some t best some, ← e) l

@@ -7,11 +7,10 @@ use lib.ListN.{take, drop}
 use Rattle.octets.specs.Octets.{part, placed}
 use Rattle.octets.specs.Choice.{pick}
 use Rattle.octets.specs.Order.{same, before, zeros}
-use Rattle.routes.specs.declared.Installed.{Installed}
 use Rattle.routes.specs.Route.{Route, nlriOf}
 use Rattle.routes.specs.Place.{PLACE, routeIn}
 use Rattle.routes.specs.Table.{HEADER, headerOf, afiIn}
-use Rattle.routes.specs.Calls.{installOf, withdrawOf}
+use Rattle.routes.specs.Answers.{Changed}
 
 -- the route in the place of an index
 unfoldable pub routeAt : (index : ℕ) (table : List ℕ) → Route
@@ -48,10 +47,6 @@ addedAt index count place t =
 unfoldable pub takenAt : (index count : ℕ) (table : List ℕ) → List ℕ
 takenAt index count t = headerOf (afiIn t) (count - 1) ++ drop HEADER (closed (HEADER + PLACE * index) (HEADER + PLACE * count) t)
 
--- install on t answers r and leaves u
-abbrev pub Installs : (t nlri attribute : List ℕ) (r : Installed) (u : List ℕ) → Type 0
-Installs t nlri attribute r u = (r ≡ installOf t nlri attribute .answer) × (u ≡ installOf t nlri attribute .octets)
-
--- withdraw on t answers r and leaves u
-abbrev pub Withdraws : (t nlri : List ℕ) (r : ℕ) (u : List ℕ) → Type 0
-Withdraws t nlri r u = (r ≡ withdrawOf t nlri .answer) × (u ≡ withdrawOf t nlri .octets)
+-- a call of which this is due answers r and leaves u
+abbrev pub Leaves : {A : Type 0} → Changed A → A → List ℕ → Type 0
+Leaves due r u = (r ≡ due .answer) × (u ≡ due .octets)

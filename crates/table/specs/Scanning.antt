@@ -1,13 +1,13 @@
--- Definitions that mirror the functions of the scan for a flow; laws tie them to those of `routes`.
+-- Definitions that mirror the functions of the scan; laws tie them to those of `routes`.
 use Prim.Native.Nat.{ℕ, zero, suc, _+_, _/_, _≤_}
 use mathlib.Core.Path.{_≡_}
 use mathlib.Core.Bool.{Bool, true, false}
-use mathlib.Core.List.{List, []}
+use mathlib.Core.List.{List, [], _∷_}
 use lib.Dec.{ltb, eqb}
 use lib.ListN.{length, getD, drop}
 use Rattle.octets.specs.Numbers.{FLOW}
 use Rattle.octets.specs.Choice.{pick}
-use Rattle.octets.specs.Outcome.{Outcome, given, refused}
+use Rattle.octets.specs.Outcome.{Outcome, given, unless}
 use Rattle.octets.specs.Octets.{part}
 use Rattle.octets.specs.Order.{same, before}
 use Rattle.nlri.specs.Fields.{Fields}
@@ -15,10 +15,11 @@ use Rattle.nlri.specs.Family.{isOriginatorSize}
 use Rattle.nlri.specs.Groups.{ASM, SSM, classOf}
 use Rattle.tunnel.specs.Attribute.{fieldsIn, readAttribute}
 use Rattle.routes.specs.Route.{nlriOf, attributeOf}
-use Rattle.routes.specs.Arguments.{Query}
+use Rattle.routes.specs.Query.{noRoute, these, Query, Flow}
 use Rattle.routes.specs.Place.{PLACE, endIn, routeIn}
-use Rattle.routes.specs.Matching.{wildcard, Found, nothing, found}
+use Rattle.routes.specs.Matching.{Found, nothing, found}
 use Rattle.table.specs.declared.scan.Best.{Best}
+use Rattle.table.specs.declared.tier.Tiers.{Tiers}
 
 -- Where the fields of an S-PMSI NLRI stand: the distinguisher behind the header, then a source and a group, each behind its length octet
 -- in bits, then the originator.
@@ -52,23 +53,44 @@ standing s =
 pub record Bounded (s : List ℕ) : Type 0 where
   pub within : originatorStart s + 4 ≤ length s
 
--- the tier of a route whose source is the flow's, by its group
-unfoldable pub sourceTier : (group : List ℕ) (class : ℕ) (routeGroup : List ℕ) → ℕ
-sourceTier group class routeGroup = pick (same routeGroup group) 1 (pick (wildcard routeGroup) (pick (eqb class SSM) 2 0) 0)
+-- a flow's tiers, by the class of its group
+abbrev pub openTiers : (class : ℕ) → Tiers
+openTiers class = record { exact = true; «any_group» = eqb class SSM; «any_source» = eqb class ASM; any = true }
+
+-- what a match asks where these tiers are open
+unfoldable pub openQuery : Flow → Tiers → Query
+openQuery flow tiers =
+    record {
+      router = flow .router;
+      tiers =
+          pick (tiers .exact) (these (flow .source) (flow .group)) noRoute
+          ∷ (pick (tiers .«any_group») (these (flow .source) []) noRoute
+          ∷ (pick (tiers .«any_source») (these [] (flow .group)) noRoute
+          ∷ (pick (tiers .any) (these [] []) noRoute
+          ∷ [])));
+    }
+
+-- a wildcard is no octets
+unfoldable pub wildcard : List ℕ → Bool
+wildcard address = eqb (length address) 0
+
+-- the tier of a route whose source is the one wanted, by its group
+unfoldable pub sourceTier : (group : List ℕ) → Tiers → (routeGroup : List ℕ) → ℕ
+sourceTier group tiers routeGroup = pick (same routeGroup group) (pick (tiers .exact) 1 0) (pick (wildcard routeGroup) (pick (tiers .«any_group») 2 0) 0)
 
 -- of one whose source is a wildcard
-unfoldable pub anySourceTier : (group : List ℕ) (class : ℕ) (routeGroup : List ℕ) → ℕ
-anySourceTier group class routeGroup = pick (wildcard routeGroup) 4 (pick (eqb class ASM) (pick (same routeGroup group) 3 0) 0)
+unfoldable pub anySourceTier : (group : List ℕ) → Tiers → (routeGroup : List ℕ) → ℕ
+anySourceTier group tiers routeGroup = pick (wildcard routeGroup) (pick (tiers .any) 4 0) (pick (same routeGroup group) (pick (tiers .«any_source») 3 0) 0)
 
--- 0 where the route meets the condition of no tier
-unfoldable pub flowTier : (source group : List ℕ) (class : ℕ) → Fields → ℕ
-flowTier source group class f =
-    pick (wildcard (f .source)) (anySourceTier group class (f .group))
-    (pick (same (f .source) source) (sourceTier group class (f .group)) 0)
+-- 0 where the route is of no tier
+unfoldable pub flowTier : (source group : List ℕ) → Tiers → Fields → ℕ
+flowTier source group tiers f =
+    pick (wildcard (f .source)) (anySourceTier group tiers (f .group))
+    (pick (same (f .source) source) (sourceTier group tiers (f .group)) 0)
 
 -- 0 for a route of another router
-unfoldable pub tierAt : (router source group : List ℕ) (class : ℕ) → (nlri : List ℕ) → ℕ
-tierAt router source group class nlri = pick (same (standing nlri .originator) router) (flowTier source group class (standing nlri)) 0
+unfoldable pub tierAt : Flow → Tiers → (nlri : List ℕ) → ℕ
+tierAt flow tiers nlri = pick (same (standing nlri .originator) (flow .router)) (flowTier (flow .source) (flow .group) tiers (standing nlri)) 0
 
 -- a place whose attribute reads, and an output of a size that every route fits into
 pub record RouteFits (place output : List ℕ) : Type 0 where
@@ -94,12 +116,12 @@ aheadAt t tier at best =
     (pick (ltb tier (best .tier)) true
     (pick (eqb tier (best .tier)) (before (standing (nlriAt t at) .distinguisher) (standing (nlriAt t (best .start)) .distinguisher)) false))
 
-module _ (router source group : List ℕ) (class : ℕ) (t : List ℕ) where
+module _ (flow : Flow) (tiers : Tiers) (t : List ℕ) where
   -- the best so far with the route at one more place
   unfoldable pub betterAt : Best → (at : ℕ) → Best
   betterAt best at =
-      pick (eqb (tierAt router source group class (nlriAt t at)) 0) best
-      (pick (aheadAt t (tierAt router source group class (nlriAt t at)) at best) (record { tier = tierAt router source group class (nlriAt t at); start = at }) best)
+      pick (eqb (tierAt flow tiers (nlriAt t at)) 0) best
+      (pick (aheadAt t (tierAt flow tiers (nlriAt t at)) at best) (record { tier = tierAt flow tiers (nlriAt t at); start = at }) best)
 
   -- with the routes at so many places more
   unfoldable pub scanAt : ℕ → (at : ℕ) → Best → Best
@@ -119,10 +141,6 @@ abbrev pub Answerable : (table : List ℕ) → Best → (output : List ℕ) → 
 Answerable t best output = (best .tier ≡ 0 → ⊥) → (best .start + PLACE ≤ length t) × RouteFits (part t (best .start) PLACE) output
 
 -- the class of a flow's group under a good AFI; FLOW for a flow that a match does not take
-unfoldable pub flowClass : (afi : ℕ) (router source group : List ℕ) → Outcome ℕ
-flowClass afi router source group =
-    pick (isOriginatorSize (length router)) (pick (eqb (length source) (length group)) (classOf afi group) (refused FLOW)) (refused FLOW)
-
--- a flow that a match takes, asked of a router
-unfoldable pub queryOf : (router source group : List ℕ) (class : ℕ) → Query
-queryOf router source group class = record { router = router; source = source; group = group; class = class }
+unfoldable pub flowClass : (afi : ℕ) → Flow → Outcome ℕ
+flowClass afi flow =
+    unless (isOriginatorSize (length (flow .router))) FLOW (unless (eqb (length (flow .source)) (length (flow .group))) FLOW (classOf afi (flow .group)))

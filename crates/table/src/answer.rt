@@ -8,10 +8,14 @@ ghost use Rattle.tunnel.specs.Attribute.{fieldsIn, readAttribute};
 ghost use Rattle.routes.specs.Route.{attributeOf};
 ghost use Rattle.routes.specs.Place.{endIn, routeIn};
 ghost use Rattle.routes.specs.Matching.{found};
-ghost use Rattle.routes.specs.Answers.{foundAnswer, foundOutput};
+ghost use Rattle.routes.specs.Answers.{matchedBy};
+ghost use Rattle.table.specs.Changing.{Leaves};
 ghost use Rattle.table.specs.Scanning.{RouteFits, bestIn, Answerable};
 use crate::find;
-use crate::find::PLACE;
+use crate::geometry::ATTRIBUTE_SIZE;
+use crate::geometry::NLRI_SIZE;
+use crate::geometry::PLACE;
+use crate::geometry::ROUTE;
 use crate::judge::LABEL_FIELD;
 use crate::scan::Best;
 use octets::number::DONE;
@@ -25,7 +29,11 @@ fn attribute_in(place: &[u8]) -> &[u8]
     requires { ⌜ endIn (now place) ≤ length (now place) ⌝ }
     ensures { λ r. ⌜ now r ≡ attributeOf (routeIn (now (place .entry))) ⌝ }
 {
-    octets::parts::between(place, 2 + place[0] as usize, place[1] as usize)
+    octets::parts::between(
+        place,
+        ROUTE + place[NLRI_SIZE] as usize,
+        place[ATTRIBUTE_SIZE] as usize,
+    )
 }
 
 // Writes an attribute as it was read, into the output's remaining part, and answers its size.
@@ -49,8 +57,7 @@ fn write_attribute(attribute: &[u8], output: &mut [u8], at: usize) -> usize
 // NLRI and attribute, one straight after the other.
 fn write_route(tier: u32, place: &[u8], output: &mut [u8]) -> Matched
     requires { ⌜ RouteFits (now place) (now output) ⌝ }
-    ensures { λ r. ⌜ r ≡ foundAnswer (found tier (routeIn (now (place .entry)))) ⌝ }
-    ensures { λ r. ⌜ now (output .exit) ≡ foundOutput (found tier (routeIn (now (place .entry)))) (now (output .entry)) ⌝ }
+    ensures { λ r. ⌜ Leaves (matchedBy (given (found tier (routeIn (now (place .entry))))) (now (output .entry))) r (now (output .exit)) ⌝ }
 {
     let nlri_size = octets::parts::place(find::nlri_in(place), output, 0);
     let attribute_size = write_attribute(attribute_in(place), output, nlri_size);
@@ -65,18 +72,12 @@ fn write_route(tier: u32, place: &[u8], output: &mut [u8]) -> Matched
 // The best route written, or, where there is none, the output untouched.
 pub(crate) fn answer(table: &[u8], best: Best, output: &mut [u8]) -> Matched
     requires { ⌜ Answerable (now table) best (now output) ⌝ }
-    ensures { λ r. ⌜ r ≡ foundAnswer (bestIn (now (table .entry)) best) ⌝ }
-    ensures { λ r. ⌜ now (output .exit) ≡ foundOutput (bestIn (now (table .entry)) best) (now (output .entry)) ⌝ }
+    ensures { λ r. ⌜ Leaves (matchedBy (given (bestIn (now (table .entry)) best)) (now (output .entry))) r (now (output .exit)) ⌝ }
 {
     let tier = best.tier;
     let start = best.start;
     if tier == 0 {
-        return Matched {
-            number: DONE,
-            tier: 0,
-            nlri_size: 0,
-            attribute_size: 0,
-        };
+        return Matched::none();
     }
     write_route(tier, octets::parts::between(table, start, PLACE), output)
 }

@@ -7,8 +7,8 @@ ghost use Rattle.octets.specs.Order.{zeros};
 ghost use Rattle.routes.specs.Route.{route};
 ghost use Rattle.routes.specs.Place.{placeOf};
 ghost use Rattle.table.specs.Changing.{opened, closed, replacedAt, addedAt, takenAt};
-use crate::find::HEADER;
-use crate::find::PLACE;
+use crate::geometry::HEADER;
+use crate::geometry::PLACE;
 use crate::header;
 use crate::sound;
 

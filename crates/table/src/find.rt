@@ -8,11 +8,10 @@ ghost use Rattle.routes.specs.Route.{nlriOf};
 ghost use Rattle.routes.specs.Place.{endIn, routeIn};
 ghost use Rattle.routes.specs.Table.{countIn, routesOf, soundOf};
 ghost use Rattle.table.specs.Changing.{routeAt, rank, firstIs};
-
-// The octets before the places, and those of a place.
-pub(crate) const HEADER: usize = 8;
-
-pub(crate) const PLACE: usize = 128;
+use crate::geometry::HEADER;
+use crate::geometry::NLRI_SIZE;
+use crate::geometry::PLACE;
+use crate::geometry::ROUTE;
 
 // The place of an index.
 fn place_at(table: &[u8], index: usize) -> &[u8]
@@ -27,7 +26,7 @@ pub(crate) fn nlri_in(place: &[u8]) -> &[u8]
     requires { ⌜ endIn (now place) ≤ length (now place) ⌝ }
     ensures { λ r. ⌜ now r ≡ nlriOf (routeIn (now (place .entry))) ⌝ }
 {
-    octets::parts::between(place, 2, place[0] as usize)
+    octets::parts::between(place, ROUTE, place[NLRI_SIZE] as usize)
 }
 
 // The NLRI of the route at an index.
@@ -61,8 +60,8 @@ pub(crate) fn stands_at(table: &[u8], index: usize, count: usize, nlri: &[u8]) -
     requires { ⌜ (soundOf (now table) ≡ true) × (count ≡ countIn (now table)) ⌝ }
     ensures { λ r. ⌜ r ≡ firstIs (now (nlri .entry)) (drop index (routesOf (now (table .entry)))) ⌝ }
 {
-    if index < count {
-        return octets::order::is_same(nlri, nlri_at(table, index));
+    if count <= index {
+        return false;
     }
-    false
+    octets::order::is_same(nlri, nlri_at(table, index))
 }

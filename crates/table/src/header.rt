@@ -6,6 +6,8 @@ ghost use lib.ListN.{length, drop};
 ghost use lib.Dec.{eqb};
 ghost use Rattle.octets.specs.Choice.{either};
 ghost use Rattle.routes.specs.Table.{headerOf, headerSound};
+use crate::geometry::AFI;
+use crate::geometry::COUNT;
 use nlri::AddressFamily;
 
 const VERSION: u8 = 1;
@@ -43,9 +45,9 @@ pub(crate) fn is_header_sound(table: &[u8]) -> bool
     requires { ⌜ 8 ≤ length (now table) ⌝ }
     ensures { λ r. ⌜ r ≡ headerSound (now (table .entry)) ⌝ }
 {
-    let start = [b'M', b'V', b'T', 0, VERSION, table[5]];
-    if octets::order::is_same(octets::parts::between(table, 0, 6), &start) {
-        return is_family(table[5] as u16);
+    let start = [b'M', b'V', b'T', 0, VERSION, table[AFI]];
+    if !octets::order::is_same(octets::parts::between(table, 0, COUNT), &start) {
+        return false;
     }
-    false
+    is_family(table[AFI] as u16)
 }

@@ -6,7 +6,7 @@ ghost use Rattle.octets.specs.Outcome.{numberOf};
 ghost use Rattle.routes.specs.Arguments.{readRoute};
 ghost use Rattle.routes.specs.Table.{afiIn, routesOf, soundOf};
 ghost use Rattle.routes.specs.Calls.{installOf};
-ghost use Rattle.table.specs.Changing.{rank, firstIs, Installs};
+ghost use Rattle.table.specs.Changing.{rank, firstIs, Leaves};
 use crate::change;
 use crate::find;
 use crate::judge;
@@ -22,51 +22,39 @@ fn enter_new(table: &mut [u8], index: usize, nlri: &[u8], attribute: &[u8]) -> I
     requires { ⌜ numberOf (readRoute (afiIn (now table)) (now nlri) (now attribute)) ≡ 0 ⌝ }
     requires { ⌜ index ≡ rank (now nlri) (routesOf (now table)) ⌝ }
     requires { ⌜ firstIs (now nlri) (drop index (routesOf (now table))) ≡ false ⌝ }
-    ensures { λ r. ⌜ Installs (now (table .entry)) (now (nlri .entry)) (now (attribute .entry)) r (now (table .exit)) ⌝ }
+    ensures { λ r. ⌜ Leaves (installOf (now (table .entry)) (now (nlri .entry)) (now (attribute .entry))) r (now (table .exit)) ⌝ }
 {
     let count = sound::count_of(table);
     if sound::places_of(table) <= count {
-        return Installed {
-            number: ROOM,
-            outcome: 0,
-        };
+        return Installed::refused(ROOM);
     }
     change::add(table, index, count, nlri, attribute);
-    Installed {
-        number: DONE,
-        outcome: Installed::NEW,
-    }
+    Installed::done(Installed::NEW)
 }
 
 // A route that is acceptable, entered where its NLRI stands or belongs.
 fn enter(table: &mut [u8], nlri: &[u8], attribute: &[u8]) -> Installed
     requires { ⌜ soundOf (now table) ≡ true ⌝ }
     requires { ⌜ numberOf (readRoute (afiIn (now table)) (now nlri) (now attribute)) ≡ 0 ⌝ }
-    ensures { λ r. ⌜ Installs (now (table .entry)) (now (nlri .entry)) (now (attribute .entry)) r (now (table .exit)) ⌝ }
+    ensures { λ r. ⌜ Leaves (installOf (now (table .entry)) (now (nlri .entry)) (now (attribute .entry))) r (now (table .exit)) ⌝ }
 {
     let count = sound::count_of(table);
     let index = find::position(table, count, nlri);
-    if find::stands_at(table, index, count, nlri) {
-        change::replace(table, index, nlri, attribute);
-        return Installed {
-            number: DONE,
-            outcome: Installed::REPLACED,
-        };
+    if !find::stands_at(table, index, count, nlri) {
+        return enter_new(table, index, nlri, attribute);
     }
-    enter_new(table, index, nlri, attribute)
+    change::replace(table, index, nlri, attribute);
+    Installed::done(Installed::REPLACED)
 }
 
 // Install into a sound table.
 fn install_sound(table: &mut [u8], nlri: &[u8], attribute: &[u8]) -> Installed
     requires { ⌜ soundOf (now table) ≡ true ⌝ }
-    ensures { λ r. ⌜ Installs (now (table .entry)) (now (nlri .entry)) (now (attribute .entry)) r (now (table .exit)) ⌝ }
+    ensures { λ r. ⌜ Leaves (installOf (now (table .entry)) (now (nlri .entry)) (now (attribute .entry))) r (now (table .exit)) ⌝ }
 {
     let fault = judge::route_fault(sound::afi_of(table), nlri, attribute);
     if fault != DONE {
-        return Installed {
-            number: fault,
-            outcome: 0,
-        };
+        return Installed::refused(fault);
     }
     enter(table, nlri, attribute)
 }
@@ -76,11 +64,8 @@ pub fn install(table: &mut [u8], nlri: &[u8], attribute: &[u8]) -> Installed
     ensures { λ r. ⌜ r ≡ installOf (now (table .entry)) (now (nlri .entry)) (now (attribute .entry)) .answer ⌝ }
     ensures { λ _. ⌜ now (table .exit) ≡ installOf (now (table .entry)) (now (nlri .entry)) (now (attribute .entry)) .octets ⌝ }
 {
-    if sound::is_sound(table) {
-        return install_sound(table, nlri, attribute);
+    if !sound::is_sound(table) {
+        return Installed::refused(TABLE);
     }
-    Installed {
-        number: TABLE,
-        outcome: 0,
-    }
+    install_sound(table, nlri, attribute)
 }

@@ -20,10 +20,10 @@ pub(crate) fn s_pmsi_fault(afi: u16, nlri: &[u8]) -> u32
     match nlri::read_layout(afi, nlri) {
         nlri::Reading::Refused(number) => number,
         nlri::Reading::Nlri(layout) => {
-            if layout.route_type == RouteType::S_PMSI {
-                return DONE;
+            if layout.route_type != RouteType::S_PMSI {
+                return KIND;
             }
-            KIND
+            DONE
         }
     }
 }
@@ -33,12 +33,13 @@ pub(crate) fn label_fault(attribute: &[u8]) -> u32
     requires { ⌜ numberOf (readAttribute (now attribute)) ≡ DONE ⌝ }
     ensures { λ r. ⌜ r ≡ numberOf (readLabelled (now (attribute .entry))) ⌝ }
 {
-    if attribute[1] == TunnelType::BIER {
-        if octets::wide::three(attribute, LABEL_FIELD) / 16 == 0 {
-            return LABEL;
-        }
+    if attribute[1] != TunnelType::BIER {
+        return DONE;
     }
-    DONE
+    if octets::wide::three(attribute, LABEL_FIELD) / 16 != 0 {
+        return DONE;
+    }
+    LABEL
 }
 
 // An attribute that install takes: attribute reading, then LABEL.

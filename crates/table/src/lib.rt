@@ -4,6 +4,7 @@ mod answer;
 mod change;
 mod find;
 mod flow;
+mod geometry;
 mod header;
 mod installing;
 mod judge;

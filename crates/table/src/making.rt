@@ -13,13 +13,13 @@ pub fn make(afi: u16, table: &mut [u8]) -> u32
     ensures { λ r. ⌜ r ≡ makeOf afi (now (table .entry)) .answer ⌝ }
     ensures { λ r. ⌜ now (table .exit) ≡ makeOf afi (now (table .entry)) .octets ⌝ }
 {
-    if header::is_family(afi) {
-        if sound::is_table_size(table.len()) {
-            change::clear_places(table);
-            header::write_header(afi, 0, table);
-            return DONE;
-        }
+    if !header::is_family(afi) {
+        return FAMILY;
+    }
+    if !sound::is_table_size(table.len()) {
         return TABLE;
     }
-    FAMILY
+    change::clear_places(table);
+    header::write_header(afi, 0, table);
+    DONE
 }

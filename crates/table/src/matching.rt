@@ -5,13 +5,17 @@ ghost use Prim.Native.Nat.{_≤_, _<_};
 ghost use lib.ListN.{length};
 ghost use Rattle.routes.specs.Table.{afiIn, routesOf, soundOf};
 ghost use Rattle.routes.specs.Matching.{matchIn};
-ghost use Rattle.routes.specs.Answers.{refusedMatch, foundAnswer, foundOutput};
+ghost use Rattle.routes.specs.Answers.{matchedBy};
 ghost use Rattle.routes.specs.Calls.{matchOf};
-ghost use Rattle.table.specs.Scanning.{queryOf};
+ghost use Rattle.routes.specs.Query.{flowOf};
+ghost use Rattle.octets.specs.Outcome.{given};
+ghost use Rattle.table.specs.Changing.{Leaves};
+ghost use Rattle.table.specs.Scanning.{openQuery};
 use crate::answer;
 use crate::flow;
 use crate::scan;
 use crate::sound;
+use crate::tier::Tiers;
 use octets::number::DONE;
 use octets::number::SPACE;
 use octets::number::TABLE;
@@ -20,33 +24,20 @@ use routes::Matched;
 // An output that every route fits into.
 const LEAST_OUTPUT: usize = 124;
 
-// A refused match: the number, with tier 0 and no sizes.
-fn refusal(number: u32) -> Matched
-    ensures { λ r. ⌜ r ≡ refusedMatch number ⌝ }
-{
-    Matched {
-        number,
-        tier: 0,
-        nlri_size: 0,
-        attribute_size: 0,
-    }
-}
-
-// The search, for a flow of this class.
+// The search, with these tiers open.
 fn search(
     table: &[u8],
     router: &[u8],
     source: &[u8],
     group: &[u8],
-    class: u32,
+    tiers: Tiers,
     output: &mut [u8],
 ) -> Matched
     requires { ⌜ (soundOf (now table) ≡ true) × (124 ≤ length (now output)) × (0 < length (now source)) × (0 < length (now group)) × (4 ≤ length (now router)) ⌝ }
-    ensures { λ r. ⌜ r ≡ foundAnswer (matchIn (afiIn (now (table .entry))) (queryOf (now (router .entry)) (now (source .entry)) (now (group .entry)) class) (routesOf (now (table .entry)))) ⌝ }
-    ensures { λ r. ⌜ now (output .exit) ≡ foundOutput (matchIn (afiIn (now (table .entry))) (queryOf (now (router .entry)) (now (source .entry)) (now (group .entry)) class) (routesOf (now (table .entry)))) (now (output .entry)) ⌝ }
+    ensures { λ r. ⌜ Leaves (matchedBy (given (matchIn (afiIn (now (table .entry))) (openQuery (flowOf (now (router .entry)) (now (source .entry)) (now (group .entry))) tiers) (routesOf (now (table .entry))))) (now (output .entry))) r (now (output .exit)) ⌝ }
 {
     let count = sound::count_of(table);
-    let best = scan::scan(table, count, router, source, group, class);
+    let best = scan::scan(table, count, router, source, group, tiers);
     answer::answer(table, best, output)
 }
 
@@ -59,17 +50,23 @@ fn match_sound(
     output: &mut [u8],
 ) -> Matched
     requires { ⌜ soundOf (now table) ≡ true ⌝ }
-    ensures { λ r. ⌜ r ≡ matchOf (now (table .entry)) (now (router .entry)) (now (source .entry)) (now (group .entry)) (now (output .entry)) .answer ⌝ }
-    ensures { λ r. ⌜ now (output .exit) ≡ matchOf (now (table .entry)) (now (router .entry)) (now (source .entry)) (now (group .entry)) (now (output .entry)) .octets ⌝ }
+    ensures { λ r. ⌜ Leaves (matchOf (now (table .entry)) (flowOf (now (router .entry)) (now (source .entry)) (now (group .entry))) (now (output .entry))) r (now (output .exit)) ⌝ }
 {
     let flow = flow::flow_class(sound::afi_of(table), router, source, group);
     if flow.number != DONE {
-        return refusal(flow.number);
+        return Matched::refused(flow.number);
     }
     if output.len() < LEAST_OUTPUT {
-        return refusal(SPACE);
+        return Matched::refused(SPACE);
     }
-    search(table, router, source, group, flow.group_class, output)
+    search(
+        table,
+        router,
+        source,
+        group,
+        Tiers::of_class(flow.group_class),
+        output,
+    )
 }
 
 // Finds the route that a flow takes, and writes it at the front of the output: TABLE, FLOW, SPACE.
@@ -80,11 +77,11 @@ pub fn match_flow(
     group: &[u8],
     output: &mut [u8],
 ) -> Matched
-    ensures { λ r. ⌜ r ≡ matchOf (now (table .entry)) (now (router .entry)) (now (source .entry)) (now (group .entry)) (now (output .entry)) .answer ⌝ }
-    ensures { λ r. ⌜ now (output .exit) ≡ matchOf (now (table .entry)) (now (router .entry)) (now (source .entry)) (now (group .entry)) (now (output .entry)) .octets ⌝ }
+    ensures { λ r. ⌜ r ≡ matchOf (now (table .entry)) (flowOf (now (router .entry)) (now (source .entry)) (now (group .entry))) (now (output .entry)) .answer ⌝ }
+    ensures { λ r. ⌜ now (output .exit) ≡ matchOf (now (table .entry)) (flowOf (now (router .entry)) (now (source .entry)) (now (group .entry))) (now (output .entry)) .octets ⌝ }
 {
-    if sound::is_sound(table) {
-        return match_sound(table, router, source, group, output);
+    if !sound::is_sound(table) {
+        return Matched::refused(TABLE);
     }
-    refusal(TABLE)
+    match_sound(table, router, source, group, output)
 }

@@ -1,13 +1,15 @@
-// The best route for a flow, found in one pass over a sound table's places.
+// The best route, found in one pass over a sound table's places.
 ghost use mathlib.Core.Path.{_≡_};
 ghost use Prim.Native.Nat.{ℕ, _+_, _*_, _≤_, _<_};
 ghost use lib.ListN.{length};
 ghost use Rattle.octets.specs.Order.{before};
+ghost use Rattle.routes.specs.Query.{flowOf};
 ghost use Rattle.table.specs.Scanning.{standing, nlriAt, Readable, aheadAt, betterAt, scanAt, noneYet};
 use crate::find;
-use crate::find::HEADER;
-use crate::find::PLACE;
+use crate::geometry::HEADER;
+use crate::geometry::PLACE;
 use crate::tier;
+use crate::tier::Tiers;
 use octets::order;
 use octets::parts;
 
@@ -60,15 +62,15 @@ fn better(
     router: &[u8],
     source: &[u8],
     group: &[u8],
-    class: u32,
+    tiers: Tiers,
     best: Best,
     at: usize,
 ) -> Best
     requires { ⌜ Readable (now table) at × ((best .tier ≡ 0 → ⊥) → Readable (now table) (best .start)) ⌝ }
     requires { ⌜ 4 ≤ length (now router) ⌝ }
-    ensures { λ r. ⌜ r ≡ betterAt (now (router .entry)) (now (source .entry)) (now (group .entry)) class (now (table .entry)) best at ⌝ }
+    ensures { λ r. ⌜ r ≡ betterAt (flowOf (now (router .entry)) (now (source .entry)) (now (group .entry))) tiers (now (table .entry)) best at ⌝ }
 {
-    let tier = tier::tier_of(nlri_from(table, at), router, source, group, class);
+    let tier = tier::tier_of(nlri_from(table, at), router, source, group, tiers);
     if tier == 0 {
         return best;
     }
@@ -85,17 +87,17 @@ pub(crate) fn scan(
     router: &[u8],
     source: &[u8],
     group: &[u8],
-    class: u32,
+    tiers: Tiers,
 ) -> Best
     requires { ⌜ ((k : ℕ) → k < count → Readable (now table) (8 + 128 * k)) ⌝ }
     requires { ⌜ 4 ≤ length (now router) ⌝ }
-    ensures { λ r. ⌜ r ≡ scanAt (now (router .entry)) (now (source .entry)) (now (group .entry)) class (now (table .entry)) count 8 noneYet ⌝ }
+    ensures { λ r. ⌜ r ≡ scanAt (flowOf (now (router .entry)) (now (source .entry)) (now (group .entry))) tiers (now (table .entry)) count 8 noneYet ⌝ }
 {
     let mut best = Best { tier: 0, start: 0 };
     let mut at = HEADER;
     let mut left = count;
     while 0 < left {
-        best = better(table, router, source, group, class, best, at);
+        best = better(table, router, source, group, tiers, best, at);
         at += PLACE;
         left -= 1;
     }

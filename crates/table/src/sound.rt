@@ -9,21 +9,24 @@ ghost use Rattle.routes.specs.Route.{nlriOf};
 ghost use Rattle.routes.specs.Place.{routeIn, placeSound};
 ghost use Rattle.routes.specs.Table.{afiIn, countIn, placesIn, tableSize, placesSound, soundOf};
 use crate::find;
-use crate::find::HEADER;
-use crate::find::PLACE;
+use crate::geometry::AFI;
+use crate::geometry::ATTRIBUTE_SIZE;
+use crate::geometry::COUNT;
+use crate::geometry::HEADER;
+use crate::geometry::MOST_PLACES;
+use crate::geometry::NLRI_SIZE;
+use crate::geometry::PLACE;
+use crate::geometry::ROUTE;
 use crate::header;
 use crate::judge;
 use octets::number::DONE;
-
-// The most places of a table.
-const MOST_PLACES: usize = 500;
 
 // The AFI in the header.
 pub(crate) fn afi_of(table: &[u8]) -> u16
     requires { ⌜ 8 ≤ length (now table) ⌝ }
     ensures { λ r. ⌜ (r ≡ afiIn (now (table .entry))) × (r < 256) ⌝ }
 {
-    table[5] as u16
+    table[AFI] as u16
 }
 
 // The count in the header: how many places are taken.
@@ -31,7 +34,7 @@ pub(crate) fn count_of(table: &[u8]) -> usize
     requires { ⌜ 8 ≤ length (now table) ⌝ }
     ensures { λ r. ⌜ (r ≡ countIn (now (table .entry))) × (r < 65536) ⌝ }
 {
-    octets::wide::two(table, 6) as usize
+    octets::wide::two(table, COUNT) as usize
 }
 
 // How many places the memory has behind the header, taken or not.
@@ -49,10 +52,10 @@ pub(crate) fn is_table_size(size: usize) -> bool
     if size < HEADER {
         return false;
     }
-    if (size - HEADER) % PLACE == 0 {
-        return (size - HEADER) / PLACE <= MOST_PLACES;
+    if (size - HEADER) % PLACE != 0 {
+        return false;
     }
-    false
+    (size - HEADER) / PLACE <= MOST_PLACES
 }
 
 // A place holds a route that install would accept and then zeros. Nothing is copied out of it. The attribute's two judges are
@@ -61,21 +64,23 @@ fn is_place_sound(afi: u16, place: &[u8]) -> bool
     requires { ⌜ length (now place) ≡ 128 ⌝ }
     ensures { λ r. ⌜ r ≡ placeSound afi (now (place .entry)) ⌝ }
 {
-    let nlri_size = place[0] as usize;
-    let attribute_size = place[1] as usize;
-    let end = 2 + (nlri_size + attribute_size);
+    let nlri_size = place[NLRI_SIZE] as usize;
+    let attribute_size = place[ATTRIBUTE_SIZE] as usize;
+    let end = ROUTE + (nlri_size + attribute_size);
     if PLACE < end {
         return false;
     }
-    if nlri::is_s_pmsi(afi, octets::parts::between(place, 2, nlri_size)) {
-        let attribute = octets::parts::between(place, 2 + nlri_size, attribute_size);
-        if tunnel::fault(attribute) == DONE {
-            if judge::label_fault(attribute) == DONE {
-                return octets::order::is_zero(octets::parts::after(place, end));
-            }
-        }
+    if !nlri::is_s_pmsi(afi, octets::parts::between(place, ROUTE, nlri_size)) {
+        return false;
     }
-    false
+    let attribute = octets::parts::between(place, ROUTE + nlri_size, attribute_size);
+    if tunnel::fault(attribute) != DONE {
+        return false;
+    }
+    if judge::label_fault(attribute) != DONE {
+        return false;
+    }
+    octets::order::is_zero(octets::parts::after(place, end))
 }
 
 // A sound place whose NLRI comes after the previous one.
@@ -83,10 +88,10 @@ fn follows(afi: u16, previous: &[u8], place: &[u8]) -> bool
     requires { ⌜ length (now place) ≡ 128 ⌝ }
     ensures { λ r. ⌜ r ≡ both (placeSound afi (now (place .entry))) (before (now (previous .entry)) (nlriOf (routeIn (now (place .entry))))) ⌝ }
 {
-    if is_place_sound(afi, place) {
-        return octets::order::comes_before(previous, find::nlri_in(place));
+    if !is_place_sound(afi, place) {
+        return false;
     }
-    false
+    octets::order::comes_before(previous, find::nlri_in(place))
 }
 
 // The first `count` places are sound, their NLRIs strictly increase, and everything after them is zero. The previous NLRI is
@@ -102,7 +107,7 @@ fn are_places_sound(afi: u16, count: usize, table: &[u8]) -> bool
     while 0 < left {
         let previous = octets::parts::between(table, start, size);
         if follows(afi, previous, octets::parts::between(table, at, PLACE)) {
-            start = at + 2;
+            start = at + ROUTE;
             size = table[at] as usize;
             at += PLACE;
             left -= 1;
@@ -117,13 +122,15 @@ fn are_places_sound(afi: u16, count: usize, table: &[u8]) -> bool
 pub(crate) fn is_sound(table: &[u8]) -> bool
     ensures { λ r. ⌜ r ≡ soundOf (now (table .entry)) ⌝ }
 {
-    if is_table_size(table.len()) {
-        if header::is_header_sound(table) {
-            let count = count_of(table);
-            if count <= places_of(table) {
-                return are_places_sound(afi_of(table), count, table);
-            }
-        }
+    if !is_table_size(table.len()) {
+        return false;
     }
-    false
+    if !header::is_header_sound(table) {
+        return false;
+    }
+    let count = count_of(table);
+    if places_of(table) < count {
+        return false;
+    }
+    are_places_sound(afi_of(table), count, table)
 }

@@ -1,19 +1,42 @@
-// The tier of a route for a flow (document 01, "Which route a flow takes"), by the octets of its NLRI where they stand.
+// The tier of a route (document 01, "Which route a flow takes"), by the octets of its NLRI where they stand.
 ghost use mathlib.Core.Path.{_≡_};
 ghost use mathlib.Core.Bool.{true, false};
 ghost use Prim.Native.Nat.{_+_, _≤_};
 ghost use lib.ListN.{length};
 ghost use Rattle.octets.specs.Order.{same};
-ghost use Rattle.table.specs.Scanning.{Bounded, sourceSize, standing, sourceTier, anySourceTier, flowTier, tierAt};
+ghost use Rattle.octets.specs.Choice.{pick};
+ghost use Rattle.routes.specs.Query.{flowOf};
+ghost use Rattle.table.specs.Scanning.{Bounded, sourceSize, standing, openTiers, sourceTier, anySourceTier, flowTier, tierAt};
 use nlri::Group;
+use nlri::RouteDistinguisher;
 use octets::order;
 use octets::parts;
 use octets::wide;
 
-// Where the route distinguisher stands, behind the header, and its size; behind it the source's length octet, in bits.
-const DISTINGUISHER: usize = 2;
+// Which tiers are open; no route is of one that is not.
+pub(crate) struct Tiers {
+    pub exact: bool,
+    pub any_group: bool,
+    pub any_source: bool,
+    pub any: bool,
+}
 
-const DISTINGUISHER_SIZE: usize = 8;
+impl Tiers {
+    // A flow's tiers, by the class of its group: for any group where it is SSM, for any source where it is ASM.
+    pub(crate) fn of_class(class: u32) -> Tiers
+        ensures { λ r. ⌜ r ≡ openTiers class ⌝ }
+    {
+        Tiers {
+            exact: true,
+            any_group: class == Group::SSM,
+            any_source: class == Group::ASM,
+            any: true,
+        }
+    }
+}
+
+// Where the route distinguisher stands, behind the header; behind it the source's length octet, in bits.
+const DISTINGUISHER: usize = 2;
 
 const SOURCE_LENGTH: usize = 10;
 
@@ -25,7 +48,7 @@ pub(crate) fn distinguisher_in(nlri: &[u8]) -> &[u8]
     requires { ⌜ Bounded (now nlri) ⌝ }
     ensures { λ r. ⌜ now r ≡ standing (now (nlri .entry)) .distinguisher ⌝ }
 {
-    parts::between(nlri, DISTINGUISHER, DISTINGUISHER_SIZE)
+    parts::between(nlri, DISTINGUISHER, RouteDistinguisher::OCTETS)
 }
 
 // The source; no octets are a wildcard.
@@ -62,51 +85,55 @@ fn originator_in(nlri: &[u8]) -> &[u8]
     parts::after(nlri, length_at + 1 + nlri[length_at] as usize / 8)
 }
 
-// The source agrees: tier 1 or 2.
-fn source_tier(route_group: &[u8], group: &[u8], class: u32) -> u32
-    ensures { λ r. ⌜ r ≡ sourceTier (now (group .entry)) class (now («route_group» .entry)) ⌝ }
+// A tier where it is open, else 0.
+fn where_open(is_open: bool, tier: u32) -> u32
+    ensures { λ r. ⌜ r ≡ pick «is_open» tier 0 ⌝ }
+{
+    if is_open {
+        return tier;
+    }
+    0
+}
+
+// The source is the one wanted: tier 1 or 2.
+fn source_tier(route_group: &[u8], group: &[u8], tiers: Tiers) -> u32
+    ensures { λ r. ⌜ r ≡ sourceTier (now (group .entry)) tiers (now («route_group» .entry)) ⌝ }
 {
     if order::is_same(route_group, group) {
-        return 1;
+        return where_open(tiers.exact, 1);
     }
     if route_group.len() != 0 {
         return 0;
     }
-    if class == Group::SSM {
-        return 2;
-    }
-    0
+    where_open(tiers.any_group, 2)
 }
 
 // The source is a wildcard: tier 4 or 3.
-fn any_source_tier(route_group: &[u8], group: &[u8], class: u32) -> u32
-    ensures { λ r. ⌜ r ≡ anySourceTier (now (group .entry)) class (now («route_group» .entry)) ⌝ }
+fn any_source_tier(route_group: &[u8], group: &[u8], tiers: Tiers) -> u32
+    ensures { λ r. ⌜ r ≡ anySourceTier (now (group .entry)) tiers (now («route_group» .entry)) ⌝ }
 {
     if route_group.len() == 0 {
-        return 4;
+        return where_open(tiers.any, 4);
     }
-    if class != Group::ASM {
+    if !order::is_same(route_group, group) {
         return 0;
     }
-    if order::is_same(route_group, group) {
-        return 3;
-    }
-    0
+    where_open(tiers.any_source, 3)
 }
 
 // 0 where the route meets the condition of no tier.
-fn flow_tier(nlri: &[u8], source: &[u8], group: &[u8], class: u32) -> u32
+fn flow_tier(nlri: &[u8], source: &[u8], group: &[u8], tiers: Tiers) -> u32
     requires { ⌜ Bounded (now nlri) ⌝ }
-    ensures { λ r. ⌜ r ≡ flowTier (now (source .entry)) (now (group .entry)) class (standing (now (nlri .entry))) ⌝ }
+    ensures { λ r. ⌜ r ≡ flowTier (now (source .entry)) (now (group .entry)) tiers (standing (now (nlri .entry))) ⌝ }
 {
     let route_source = source_in(nlri);
     if route_source.len() == 0 {
-        return any_source_tier(group_in(nlri), group, class);
+        return any_source_tier(group_in(nlri), group, tiers);
     }
-    if order::is_same(route_source, source) {
-        return source_tier(group_in(nlri), group, class);
+    if !order::is_same(route_source, source) {
+        return 0;
     }
-    0
+    source_tier(group_in(nlri), group, tiers)
 }
 
 // The last four octets are not the router's: this tells most routes of other routers, and needs no field to be found.
@@ -119,15 +146,15 @@ fn ends_otherwise(nlri: &[u8], router: &[u8]) -> bool
 }
 
 // The tier of a candidate; 0 for a route of another router, or where no tier's condition is met.
-pub(crate) fn tier_of(nlri: &[u8], router: &[u8], source: &[u8], group: &[u8], class: u32) -> u32
+pub(crate) fn tier_of(nlri: &[u8], router: &[u8], source: &[u8], group: &[u8], tiers: Tiers) -> u32
     requires { ⌜ Bounded (now nlri) × (4 ≤ length (now router)) ⌝ }
-    ensures { λ r. ⌜ r ≡ tierAt (now (router .entry)) (now (source .entry)) (now (group .entry)) class (now (nlri .entry)) ⌝ }
+    ensures { λ r. ⌜ r ≡ tierAt (flowOf (now (router .entry)) (now (source .entry)) (now (group .entry))) tiers (now (nlri .entry)) ⌝ }
 {
     if ends_otherwise(nlri, router) {
         return 0;
     }
-    if order::is_same(originator_in(nlri), router) {
-        return flow_tier(nlri, source, group, class);
+    if !order::is_same(originator_in(nlri), router) {
+        return 0;
     }
-    0
+    flow_tier(nlri, source, group, tiers)
 }

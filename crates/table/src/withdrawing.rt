@@ -5,7 +5,7 @@ ghost use Rattle.octets.specs.Outcome.{numberOf};
 ghost use Rattle.routes.specs.Arguments.{readSPmsi};
 ghost use Rattle.routes.specs.Table.{afiIn, soundOf};
 ghost use Rattle.routes.specs.Calls.{withdrawOf};
-ghost use Rattle.table.specs.Changing.{Withdraws};
+ghost use Rattle.table.specs.Changing.{Leaves};
 use crate::change;
 use crate::find;
 use crate::judge;
@@ -18,21 +18,21 @@ use octets::number::TABLE;
 fn leave(table: &mut [u8], nlri: &[u8]) -> u32
     requires { ⌜ soundOf (now table) ≡ true ⌝ }
     requires { ⌜ numberOf (readSPmsi (afiIn (now table)) (now nlri)) ≡ 0 ⌝ }
-    ensures { λ r. ⌜ Withdraws (now (table .entry)) (now (nlri .entry)) r (now (table .exit)) ⌝ }
+    ensures { λ r. ⌜ Leaves (withdrawOf (now (table .entry)) (now (nlri .entry))) r (now (table .exit)) ⌝ }
 {
     let count = sound::count_of(table);
     let index = find::position(table, count, nlri);
-    if find::stands_at(table, index, count, nlri) {
-        change::remove(table, index, count);
-        return DONE;
+    if !find::stands_at(table, index, count, nlri) {
+        return ABSENT;
     }
-    ABSENT
+    change::remove(table, index, count);
+    DONE
 }
 
 // Withdraw from a sound table.
 fn withdraw_sound(table: &mut [u8], nlri: &[u8]) -> u32
     requires { ⌜ soundOf (now table) ≡ true ⌝ }
-    ensures { λ r. ⌜ Withdraws (now (table .entry)) (now (nlri .entry)) r (now (table .exit)) ⌝ }
+    ensures { λ r. ⌜ Leaves (withdrawOf (now (table .entry)) (now (nlri .entry))) r (now (table .exit)) ⌝ }
 {
     let fault = judge::s_pmsi_fault(sound::afi_of(table), nlri);
     if fault != DONE {
@@ -46,8 +46,8 @@ pub fn withdraw(table: &mut [u8], nlri: &[u8]) -> u32
     ensures { λ r. ⌜ r ≡ withdrawOf (now (table .entry)) (now (nlri .entry)) .answer ⌝ }
     ensures { λ _. ⌜ now (table .exit) ≡ withdrawOf (now (table .entry)) (now (nlri .entry)) .octets ⌝ }
 {
-    if sound::is_sound(table) {
-        return withdraw_sound(table, nlri);
+    if !sound::is_sound(table) {
+        return TABLE;
     }
-    TABLE
+    withdraw_sound(table, nlri)
 }

@@ -1,15 +1,13 @@
 -- Laws of books fed calls: what one router's book and all books together hold of an NLRI, and that a table can hold all of them.
 use Prim.Native.Nat.{ℕ, _≤_}
 use mathlib.Core.Path.{_≡_, refl, sym, ap, _∙_}
-use mathlib.Core.Bool.{true, false}
 use mathlib.Core.List.{List, [], _∷_, _++_}
 use mathlib.Core.Logic.{⊎-elim}
 use native.Mathlib.Nat.{le-trans}
 use lib.ListN.{length}
-use Rattle.octets.specs.Order.{same}
 use Rattle.octets.proofs.Choice.{opposite, tested, is-true}
-use Rattle.octets.proofs.Orders.{same-equal, same-itself, other-unequal}
-use Rattle.routes.specs.Route.{Route, nlriOf, attributeOf, Held, absent, held, lookup, holds, arranged, Distinct, Increasing}
+use Rattle.octets.proofs.Orders.{same-equal, same-of-equal, other-unequal}
+use Rattle.routes.specs.Route.{Route, nlriOf, Held, absent, held, lookup, arranged, Distinct, Increasing}
 use Rattle.routes.specs.Place.{AllAcceptable}
 use Rattle.routes.specs.ArgumentRules.{KnownFamily}
 use Rattle.routes.specs.Images.{Holdable}
@@ -17,9 +15,10 @@ use Rattle.routes.specs.Call.{Call, Owner, nobody, owner, originatorOf, 
 use Rattle.routes.specs.Book.{bookAfter, fed, ownCalls, bookOf, isAmong, onceEach, withOwner, routersOf, gathered, allBooks}
 use Rattle.routes.specs.Run.{namedIn, namedBy, Fits}
 use Rattle.octets.specs.Lists.{Among, first, later, Once, chosen}
-use Rattle.routes.proofs.Definitions.Lookups.{lookup-none, lookup-first, lookup-later, lookup-arranged, held-or-absent, held-absent, held-holds, holds-held, holds-absent, holds-alike, absent-holds, increasing-arranged, distinct-increasing, acceptable-arranged, acceptable-member}
-use Rattle.routes.proofs.Definitions.Distincts.{among-left, among-right, is-among-true, among-is-among, among-once-each, once-once-each, among-cases, routes-fewer}
-use Rattle.routes.proofs.Definitions.Chosen.{chosen-first, chosen-later}
+use Rattle.routes.proofs.Definitions.Lookups.{lookup-none, lookup-first, lookup-later, lookup-own, lookup-cases, lookup-arranged, held-or-absent, held-absent, held-holds, increasing-arranged, distinct-increasing, acceptable-arranged, acceptable-member}
+use Rattle.octets.proofs.Among.{among-left, among-right, among-cases}
+use Rattle.routes.proofs.Definitions.OnceEach.{is-among-true, among-is-among, among-once-each, once-once-each, routes-fewer}
+use Rattle.octets.proofs.Chosen.{chosen-first, chosen-later}
 use Rattle.routes.proofs.Definitions.Ownership.{owner-nobody, owners-same, acceptable-after-none, owned-itself, owned-by}
 use Rattle.routes.proofs.Definitions.Books.{heldAfter, heldAfterAll, lookup-after, distinct-after, acceptable-after, held-apart, installed-held}
 
@@ -94,19 +93,15 @@ lookup-foreign afi router nlri calls foreign = fed-foreign afi router nlri forei
 
 -- all books together
 
-lookup-append-held : (nlri a : List ℕ) (xs ys : List Route) → lookup nlri xs ≡ held a → lookup nlri (xs ++ ys) ≡ held a
+lookup-append-held : (nlri : List ℕ) (a : Route) (xs ys : List Route) → lookup nlri xs ≡ held a → lookup nlri (xs ++ ys) ≡ held a
 lookup-append-held nlri a [] ys h = absurd (held-absent h (lookup-none nlri))
 lookup-append-held nlri a (r ∷ xs) ys h =
-    tested (same nlri (nlriOf r))
-    (λ t. lookup-first nlri r (xs ++ ys) t ∙ sym (lookup-first nlri r xs t) ∙ h)
-    (λ f. lookup-later nlri r (xs ++ ys) f ∙ lookup-append-held nlri a xs ys (sym (lookup-later nlri r xs f) ∙ h))
+    lookup-cases nlri r xs (λ t e. lookup-first nlri r (xs ++ ys) (same-of-equal _ _ t) ∙ sym e ∙ h) (λ f e. lookup-later nlri r (xs ++ ys) f ∙ lookup-append-held nlri a xs ys (sym e ∙ h))
 
 lookup-append-absent : (nlri : List ℕ) (xs ys : List Route) → lookup nlri xs ≡ absent → lookup nlri (xs ++ ys) ≡ lookup nlri ys
 lookup-append-absent nlri [] ys h = refl
 lookup-append-absent nlri (r ∷ xs) ys h =
-    tested (same nlri (nlriOf r))
-    (λ t. absurd (held-absent (lookup-first nlri r xs t) h))
-    (λ f. lookup-later nlri r (xs ++ ys) f ∙ lookup-append-absent nlri xs ys (sym (lookup-later nlri r xs f) ∙ h))
+    lookup-cases nlri r xs (λ t e. absurd (held-absent e h)) (λ f e. lookup-later nlri r (xs ++ ys) f ∙ lookup-append-absent nlri xs ys (sym e ∙ h))
 
 lookup-gathered-foreign : (afi : ℕ) (nlri : List ℕ) (routers : List (List ℕ)) (calls : List Call) → ((router : List ℕ) → Among router routers → originatorOf afi nlri ≡ owner router → ⊥)
     → lookup nlri (gathered afi routers calls) ≡ absent
@@ -118,27 +113,18 @@ lookup-gathered-foreign afi nlri (router ∷ routers) calls h =
 
 -- no NLRI stands in two books
 
-distinct-append : {xs ys : List Route} → Distinct xs → Distinct ys → ((nlri : List ℕ) → holds nlri xs ≡ true → holds nlri ys ≡ false) → Distinct (xs ++ ys)
+distinct-append : {xs ys : List Route} → Distinct xs → Distinct ys → ((nlri : List ℕ) → (lookup nlri xs ≡ absent → ⊥) → lookup nlri ys ≡ absent) → Distinct (xs ++ ys)
 distinct-append Distinct.none b apart = b
 distinct-append {ys = ys} (Distinct.one {r} {rs} h a) b apart =
-    Distinct.one
-    (holds-alike (nlriOf r) (rs ++ ys) ys (lookup-append-absent (nlriOf r) rs ys (absent-holds (nlriOf r) rs h))
-    ∙ apart (nlriOf r) (holds-held (nlriOf r) (r ∷ rs) (attributeOf r) (lookup-first (nlriOf r) r rs (same-itself (nlriOf r)))))
-    (distinct-append a b
-    (λ nlri m.
-    tested (same nlri (nlriOf r))
-    (λ t. absurd (opposite (rw (same-equal nlri (nlriOf r) t) at m) h))
-    (λ f. apart nlri (holds-alike nlri (r ∷ rs) rs (lookup-later nlri r rs f) ∙ m))))
+    Distinct.one (lookup-append-absent (nlriOf r) rs ys h ∙ apart (nlriOf r) (held-absent (lookup-own r rs)))
+    (distinct-append a b (λ nlri m. apart nlri (λ n. lookup-cases nlri r rs (λ t e. held-absent e n) (λ f e. m (sym e ∙ n)))))
 
 distinct-gathered : (afi : ℕ) {routers : List (List ℕ)} (calls : List Call) → Once routers → Distinct (gathered afi routers calls)
 unfolding gathered
 distinct-gathered afi calls Once.none = Distinct.none
 distinct-gathered afi calls (Once.one {x = router} {xs = routers} n o) =
     distinct-append (distinct-book afi router calls) (distinct-gathered afi calls o)
-    (λ nlri m.
-    holds-absent nlri (gathered afi routers calls)
-    (lookup-gathered-foreign afi nlri routers calls
-    (λ other a q. opposite m (holds-absent nlri (bookOf afi router calls) (lookup-foreign afi router nlri calls (λ p. n (rw (owners-same p q) a)))))))
+    (λ nlri m. lookup-gathered-foreign afi nlri routers calls (λ other a q. m (lookup-foreign afi router nlri calls (λ p. n (rw (owners-same p q) a)))))
 
 pub distinct-all : (afi : ℕ) (calls : List Call) → Distinct (allBooks afi calls)
 unfolding allBooks
@@ -205,7 +191,7 @@ lookup-all-next afi nlri earlier c =
 
 -- what is held was named by an install
 
-held-named : (afi : ℕ) (nlri : List ℕ) (calls : List Call) (a : List ℕ) → heldAfterAll afi calls nlri absent ≡ held a → Among nlri (namedBy afi calls)
+held-named : (afi : ℕ) (nlri : List ℕ) (calls : List Call) (a : Route) → heldAfterAll afi calls nlri absent ≡ held a → Among nlri (namedBy afi calls)
 unfolding heldAfterAll namedBy
 held-named afi nlri [] a h = absurd (held-absent h refl)
 held-named afi nlri (c ∷ cs) a h = go (heldAfter afi c nlri absent) refl h (held-named afi nlri cs a)
@@ -245,6 +231,6 @@ holdable-books afi places calls bits most fits =
       family = bits;
       most = most;
       within = le-trans (length-books afi calls) fits;
-      acceptable = acceptable-arranged afi (acceptable-all afi calls);
+      acceptable = acceptable-arranged (acceptable-all afi calls);
       increasing = increasing-books afi calls;
     }

@@ -1,6 +1,6 @@
 -- Laws of a book after one call: what it then holds of an NLRI, that its NLRIs stay distinct and its routes acceptable.
 use Prim.Native.Nat.{ℕ}
-use mathlib.Core.Path.{_≡_, refl, sym, _∙_}
+use mathlib.Core.Path.{_≡_, refl}
 use mathlib.Core.List.{List, [], _∷_}
 use Rattle.octets.specs.Choice.{pick}
 use Rattle.octets.specs.Outcome.{Outcome, onOutcome}
@@ -8,17 +8,17 @@ use Rattle.octets.specs.Order.{same}
 use Rattle.octets.proofs.Choice.{pick-true, pick-false, tested}
 use Rattle.octets.proofs.Orders.{same-equal, unequal-other}
 use Rattle.octets.specs.Lists.{Among}
-use Rattle.routes.specs.Route.{Route, nlriOf, attributeOf, Held, absent, held, lookup, removed, Distinct}
+use Rattle.routes.specs.Route.{Route, nlriOf, Held, absent, held, lookup, Distinct}
 use Rattle.routes.specs.Place.{AllAcceptable}
 use Rattle.routes.specs.Call.{Call, owner, originatorOf, ownerOf, Act, enter, leave, ask, argued}
 use Rattle.routes.specs.Book.{actAfter, bookAfter}
 use Rattle.routes.specs.Run.{namedIn}
-use Rattle.routes.proofs.Definitions.Lookups.{held-absent, lookup-entered, lookup-removed-same, lookup-removed-other, distinct-entered, distinct-removed, acceptable-entered, acceptable-removed}
+use Rattle.routes.proofs.Definitions.Lookups.{held-absent, lookup-entered, lookup-removed, distinct-entered, distinct-removed, acceptable-entered, acceptable-removed}
 use Rattle.routes.proofs.Definitions.Acts.{Known, enters, leaves, asks, argued-cases}
 
 -- what is held of an NLRI after an act, by what was held before
 unfoldable pub heldBy : Act → (nlri : List ℕ) → Held → Held
-heldBy (enter r) nlri h = pick (same nlri (nlriOf r)) (held (attributeOf r)) h
+heldBy (enter r) nlri h = pick (same nlri (nlriOf r)) (held r) h
 heldBy (leave named) nlri h = pick (same nlri named) absent h
 heldBy (ask q output) nlri h = h
 
@@ -30,12 +30,6 @@ heldAfter afi c nlri h = onOutcome (λ number. h) (λ act. heldBy act nlri h) (a
 unfoldable pub heldAfterAll : ℕ → List Call → (nlri : List ℕ) → Held → Held
 heldAfterAll afi [] nlri h = h
 heldAfterAll afi (c ∷ cs) nlri h = heldAfterAll afi cs nlri (heldAfter afi c nlri h)
-
-pub lookup-removed : (nlri named : List ℕ) {rs : List Route} → Distinct rs → lookup nlri (removed named rs) ≡ pick (same nlri named) absent (lookup nlri rs)
-lookup-removed nlri named {rs} d =
-    tested (same nlri named)
-    (λ t. rw (pick-true _ absent (lookup nlri rs) t, same-equal nlri named t) (lookup-removed-same named d))
-    (λ f. lookup-removed-other nlri named rs f ∙ sym (pick-false _ _ _ f))
 
 -- acts
 
@@ -54,8 +48,8 @@ distinct-act (ask q output) d = d
 module _ {afi : ℕ} {c : Call} {router : List ℕ} where
   acceptable-act : {act : Act} {book : List Route} → Known afi c router act → AllAcceptable afi book → AllAcceptable afi (actAfter book act)
   unfolding actAfter
-  acceptable-act (enters {r} h own m) a = acceptable-entered afi r h a
-  acceptable-act (leaves {nlri = named} own) a = acceptable-removed afi named a
+  acceptable-act (enters {r} h own m) a = acceptable-entered r h a
+  acceptable-act (leaves {nlri = named} own) a = acceptable-removed named a
   acceptable-act (asks e) a = a
 
   -- an act leaves what is held of another router's NLRI
@@ -66,7 +60,7 @@ module _ {afi : ℕ} {c : Call} {router : List ℕ} where
   apart-act nlri h (asks e) foreign = refl
 
   -- what is first held was named
-  named-act : {act : Act} (nlri a : List ℕ) → Known afi c router act → heldBy act nlri absent ≡ held a → Among nlri (namedIn afi c)
+  named-act : {act : Act} (nlri : List ℕ) (a : Route) → Known afi c router act → heldBy act nlri absent ≡ held a → Among nlri (namedIn afi c)
   unfolding heldBy
   named-act nlri a (enters {r} x own m) h = tested (same nlri (nlriOf r)) (λ t. rw (same-equal nlri (nlriOf r) t) m) (λ f. absurd (held-absent h (pick-false _ _ _ f)))
   named-act nlri a (leaves {nlri = named} own) h = absurd (held-absent h (tested (same nlri named) (λ t. pick-true _ _ _ t) (λ f. pick-false _ _ _ f)))
@@ -101,7 +95,7 @@ held-apart afi nlri c h apart =
     argued-cases (λ (o : Outcome Act). onOutcome (λ number. h) (λ act. heldBy act nlri h) o ≡ h) afi c
     (λ n e. refl) (λ act e k. apart-act nlri h (k .known) (λ q. apart (k .router) q (k .own)))
 
-pub installed-held : (afi : ℕ) (nlri : List ℕ) (c : Call) (a : List ℕ) → heldAfter afi c nlri absent ≡ held a → Among nlri (namedIn afi c)
+pub installed-held : (afi : ℕ) (nlri : List ℕ) (c : Call) (a : Route) → heldAfter afi c nlri absent ≡ held a → Among nlri (namedIn afi c)
 unfolding heldAfter onOutcome
 installed-held afi nlri c a =
     argued-cases (λ (o : Outcome Act). onOutcome (λ number. absent) (λ act. heldBy act nlri absent) o ≡ held a → Among nlri (namedIn afi c)) afi c

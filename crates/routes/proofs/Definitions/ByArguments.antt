@@ -10,6 +10,7 @@ use Rattle.nlri.specs.Groups.{classUnder}
 use Rattle.nlri.proofs.Definitions.ReadNumbers.{ByReading, refuses-family, refuses-nlri}
 use Rattle.tunnel.specs.Attribute.{readAttribute}
 use Rattle.tunnel.specs.Identifier.{TableRow, identifierForms, formIn, formOf, readIdentifier}
+use Rattle.routes.specs.Query.{Flow}
 use Rattle.routes.specs.Arguments.{readSPmsi, readLabelled, readRoute, readFlow, readMatch}
 use Rattle.routes.specs.Call.{Call, install, withdraw, match, argued}
 
@@ -45,12 +46,12 @@ class-argued : (bits : ℕ) (g : List ℕ) → Refuses ByArguments (classUnder b
 unfolding classUnder
 class-argued bits g = refuses-pick _ _ _ (refuses-pick _ _ _ (refuses-pick _ _ _ value value) (number (omega arith))) (number (omega arith))
 
-match-argued : (afi : ℕ) (router source group output : List ℕ) → Refuses ByArguments (readMatch afi router source group output)
+match-argued : (afi : ℕ) (flow : Flow) (output : List ℕ) → Refuses ByArguments (readMatch afi flow output)
 unfolding readMatch readFlow
-match-argued afi router source group output =
+match-argued afi flow output =
     refuses-then _ _
     (refuses-then _ _ (refuses-also by-reading (refuses-family afi))
-    (λ bits. refuses-pick _ _ _ (refuses-pick _ _ _ (refuses-then _ _ (class-argued bits group) (λ class. value)) (number (omega arith))) (number (omega arith))))
+    (λ bits. refuses-pick _ _ _ (refuses-pick _ _ _ (refuses-then _ _ (class-argued bits (flow .group)) (λ class. value)) (number (omega arith))) (number (omega arith))))
     (λ query. refuses-pick _ _ _ (number (omega arith)) value)
 
 pub number-s-pmsi : (afi : ℕ) (nlri : List ℕ) (n : ℕ) → readSPmsi afi nlri ≡ refused n → ByArguments n
@@ -63,7 +64,7 @@ refuses-argued : (afi : ℕ) (c : Call) → Refuses ByArguments (argued afi c)
 unfolding argued
 refuses-argued afi (install nlri attribute) = refuses-then _ _ (route-argued afi nlri attribute) (λ r. value)
 refuses-argued afi (withdraw nlri) = refuses-then _ _ (s-pmsi-argued afi nlri) (λ f. value)
-refuses-argued afi (match router source group output) = refuses-then _ _ (match-argued afi router source group output) (λ q. value)
+refuses-argued afi (match flow output) = refuses-then _ _ (match-argued afi flow output) (λ q. value)
 
 pub number-argued : (afi : ℕ) (c : Call) (n : ℕ) → argued afi c ≡ refused n → ByArguments n
 number-argued afi c n e = refuses-by _ n (refuses-argued afi c) e

@@ -8,7 +8,7 @@ use Rattle.octets.proofs.Choice.{opposite, tested}
 use Rattle.octets.specs.Lists.{PutIn, front, Rearranged, none, one, chosen}
 use Rattle.routes.specs.Call.{Owner, nobody, owner, ownedBy, isNobody}
 use Rattle.routes.proofs.Definitions.Ownership.{owned-itself, owned-nobody, owned-by, owners-same}
-use Rattle.routes.proofs.Definitions.Chosen.{chosen-first, chosen-later, put-back}
+use Rattle.octets.proofs.Chosen.{chosen-first, chosen-later, put-back}
 
 occupied : {A : Type 0} {x : A} {xs : List A} → x ∷ xs ≡ [] → ⊥
 occupied e = let z : _≡_ {A = ℕ} 0 1 = cc in omega arith

@@ -1,93 +1,97 @@
--- Which route `matchIn` is: of the lowest tier that a candidate meets the condition of, and in it of the lowest route distinguisher. Among
--- routes with no NLRI twice there is one such answer.
-use Prim.Native.Nat.{ℕ, zero, suc, _+_, _≤_, _<_}
-use mathlib.Core.Path.{_≡_, refl, sym, _∙_, ap, ap₂, subst}
-use mathlib.Core.Bool.{true, false}
+-- Which route `matchIn` is: of the first tier that has a candidate, and in it of the lowest route distinguisher. Among routes with no NLRI
+-- twice there is one such answer.
+use Prim.Native.Nat.{ℕ, suc, _≤_, _<_}
+use mathlib.Core.Path.{_≡_, refl, sym, ap, subst, _∙_}
+use mathlib.Core.Bool.{true}
 use mathlib.Core.List.{List, [], _∷_}
-use mathlib.Core.Logic.{⊎-elim}
-use native.Mathlib.Nat.{eq-or-lt-of-le}
 use native.Mathlib.Omega.{arith}
-use Rattle.octets.specs.Order.{before}
-use Rattle.octets.proofs.Choice.{opposite, is-true}
-use Rattle.octets.proofs.Orders.{same-equal, before-other}
+use lib.Dec.{eqb}
+use borrow.Author.Tests.{eq-eqb, ne-eqb}
+use Rattle.octets.specs.Choice.{pick}
+use Rattle.octets.proofs.Choice.{opposite, pick-true, pick-false, pick-case, is-false}
+use Rattle.octets.proofs.Orders.{before-neither}
 use Rattle.octets.specs.Lists.{Among}
-use Rattle.routes.specs.Route.{Route, nlriOf, lookup, Distinct}
-use Rattle.routes.specs.Arguments.{Query}
-use Rattle.routes.specs.Matching.{distinguisherOf, Found, nothing, found, lowestIn, orElse, firstOf, matchIn}
-use Rattle.routes.proofs.Definitions.Lookups.{route-equal, held-attribute, lookup-of-member}
-use Rattle.routes.proofs.Definitions.Lowest.{qualifies, Lowest, lowest-is}
-use Rattle.routes.proofs.Definitions.Conditions.{same-nlri}
+use Rattle.routes.specs.Route.{Route, Distinct}
+use Rattle.routes.specs.Query.{Wanted, noRoute, meets, Query}
+use Rattle.routes.specs.Matching.{eligible, Found, nothing, found, orElse, firstOf, matchIn}
+use Rattle.routes.proofs.Definitions.Lookups.{one-member}
+use Rattle.routes.proofs.Definitions.Lowest.{None, Least, Lowest, lowest-is}
+use Rattle.routes.proofs.Definitions.Conditions.{qualified, same-nlri}
 
--- of two that do not come before each other
-neither-before : (x y : List ℕ) → before x y ≡ false → before y x ≡ false → x ≡ y
-neither-before x y h k = same-equal x y (is-true _ (λ d. opposite (before-other x y d h) k))
+module _ (afi : ℕ) (router : List ℕ) where
+  -- the answer of these tiers, numbered from `tier` on
+  pub data First (rs : List Route) : (tier : ℕ) → List Wanted → Found → Type 0 where
+    nowhere : {tier : ℕ} → First rs tier [] nothing
+    here : {tier : ℕ} {w : Wanted} {ws : List Wanted} {r : Route} → Least afi router w rs r → First rs tier (w ∷ ws) (found tier r)
+    past : {tier : ℕ} {w : Wanted} {ws : List Wanted} {best : Found} → None afi router w rs → First rs (suc tier) ws best → First rs tier (w ∷ ws) best
 
--- with no NLRI twice, members of one NLRI are one
-pub one-member : {rs : List Route} (r u : Route) → Distinct rs → Among r rs → Among u rs → nlriOf r ≡ nlriOf u → r ≡ u
-one-member {rs} r u d m n e = route-equal r u e (held-attribute (sym (lookup-of-member d m) ∙ ap (λ (x : List ℕ). lookup x rs) e ∙ lookup-of-member d n))
-
--- so many tiers, one after the other
-tiersFrom : (low count : ℕ) → List ℕ
-tiersFrom low zero = []
-tiersFrom low (suc count) = low ∷ tiersFrom (suc low) count
-
-module _ (afi : ℕ) (q : Query) where
-  -- no candidate meets the condition of a tier from `low` on and below `high`
-  abbrev pub None : (low high : ℕ) → List Route → Type 0
-  None low high rs = (tier : ℕ) → low ≤ tier → tier < high → (u : Route) → Among u rs → qualifies afi q tier u ≡ false
-
-  -- the answer of the tiers from `low` on and below `high`
-  abbrev pub First : (low high : ℕ) → List Route → Found → Type 0
-  First low high rs nothing = None low high rs
-  First low high rs (found t r) = (low ≤ t) × (t < high) × Lowest afi q t rs (found t r) × None low t rs
-
-  -- no candidate meets the condition of the lowest tier
-  without : (low high : ℕ) (rs : List Route) → ((u : Route) → Among u rs → qualifies afi q low u ≡ false) → None (suc low) high rs → None low high rs
-  without low high rs h k tier a b u m = ⊎-elim (λ e. subst (λ (n : ℕ). qualifies afi q n u ≡ false) e (h u m)) (λ l. k tier (omega arith) b u m) (eq-or-lt-of-le a)
-
-  first-step : (low high : ℕ) (rs : List Route) (here later : Found) → low < high → Lowest afi q low rs here → First (suc low) high rs later → First low high rs (orElse here later)
+  first-step : (rs : List Route) (tier : ℕ) (w : Wanted) (ws : List Wanted) (best rest : Found) → Lowest afi router tier w rs best → First rs (suc tier) ws rest → First rs tier (w ∷ ws) (orElse best rest)
   unfolding orElse
-  first-step low high rs nothing nothing h l f = without low high rs l f
-  first-step low high rs nothing (found t r) h l f = (omega (arith, f .0), f .1, f .2, without low t rs l (f .3))
-  first-step low high rs (found t r) later h l f =
-      subst (λ (n : ℕ). First low high rs (found n r)) (sym (l .0)) (omega arith, h, (refl, l .1, l .2, l .3), λ tier a b. absurd (omega arith))
+  first-step rs tier w ws nothing rest l f = past l f
+  first-step rs tier w ws (found t r) rest l f = subst (λ n. First rs tier (w ∷ ws) (found n r)) (sym (l .0)) (here (l .1))
 
-  first-from : (low count : ℕ) (rs : List Route) → First low (low + count) rs (firstOf afi q (tiersFrom low count) rs)
-  unfolding tiersFrom firstOf
-  first-from low zero rs = λ tier a b. absurd (omega arith)
-  first-from low (suc count) rs =
-      let sum : suc low + count ≡ low + suc count = omega arith in
-      first-step low (low + suc count) rs (lowestIn afi q low rs) (firstOf afi q (tiersFrom (suc low) count) rs) (omega arith) (lowest-is afi q low rs)
-      (subst (λ (n : ℕ). First (suc low) n rs (firstOf afi q (tiersFrom (suc low) count) rs)) sum (first-from (suc low) count rs))
+  first-from : (rs : List Route) (tier : ℕ) (ws : List Wanted) → First rs tier ws (firstOf afi router tier ws rs)
+  unfolding firstOf
+  first-from rs tier [] = nowhere
+  first-from rs tier (w ∷ ws) = first-step rs tier w ws _ _ (lowest-is afi router tier w rs) (first-from rs (suc tier) ws)
 
-  pub first-is : (rs : List Route) → First 1 5 rs (matchIn afi q rs)
-  unfolding tiersFrom matchIn
-  first-is rs = first-from 1 4 rs
-
-  -- what qualifies among some routes is among others
+  -- candidates among some routes are among others
   abbrev pub Carried : (rs us : List Route) → Type 0
-  Carried rs us = (tier : ℕ) (r : Route) → qualifies afi q tier r ≡ true → Among r rs → Among r us
+  Carried rs us = (w : Wanted) (r : Route) → eligible afi router w r ≡ true → Among r rs → Among r us
 
-  -- the tier of one answer is not below that of the other
-  not-lower : (rs us : List Route) → Carried rs us → (t s : ℕ) (r u : Route) → First 1 5 rs (found t r) → First 1 5 us (found s u) → s ≤ t
-  not-lower rs us out t s r u f g =
-      let no-less : t < s → ⊥ = λ h. opposite (f .2 .2) (g .3 t (f .0) h r (out t r (f .2 .2) (f .2 .1))) in
-      omega arith
+  module _ {rs us : List Route} (d : Distinct rs) (out : Carried rs us) (back : Carried us rs) where
+    least-unique : {w : Wanted} {r u : Route} → Least afi router w rs r → Least afi router w us u → r ≡ u
+    least-unique {w} {r} {u} l k =
+        let there : Among u rs = back w u (k .good) (k .member) in
+        let rd = before-neither _ _ (k .least r (out w r (l .good) (l .member)) (l .good)) (l .least u there (k .good)) in
+        one-member r u d (l .member) there (same-nlri afi router w r u (l .good) (k .good) rd)
 
-  module _ (rs us : List Route) (d : Distinct rs) (out : Carried rs us) (back : Carried us rs) where
-    of-tier : (t : ℕ) (r u : Route) → Lowest afi q t rs (found t r) → Lowest afi q t us (found t u) → r ≡ u
-    of-tier t r u l k =
-        let r-there : Among r us = out t r (l .2) (l .1) in
-        let u-there : Among u rs = back t u (k .2) (k .1) in
-        let rd : distinguisherOf afi r ≡ distinguisherOf afi u = neither-before _ _ (k .3 r r-there (l .2)) (l .3 u u-there (k .2)) in
-        one-member r u d (l .1) u-there (same-nlri afi q t r u (l .2) (k .2) rd)
+    pub first-unique : {tier : ℕ} {ws : List Wanted} {a b : Found} → First rs tier ws a → First us tier ws b → a ≡ b
+    first-unique nowhere nowhere = refl
+    first-unique (here {tier = tier} l) (here k) = ap (found tier) (least-unique l k)
+    first-unique (here {w = w} {r = r} l) (past n g) = absurd (opposite (l .good) (n r (out w r (l .good) (l .member))))
+    first-unique (past n f) (here {w = w} {r = u} k) = absurd (opposite (k .good) (n u (back w u (k .good) (k .member))))
+    first-unique (past n f) (past m g) = first-unique f g
 
-    pub first-unique : (a b : Found) → First 1 5 rs a → First 1 5 us b → a ≡ b
-    first-unique nothing nothing f g = refl
-    first-unique nothing (found s u) f g = absurd (opposite (g .2 .2) (f s (g .0) (g .1) u (back s u (g .2 .2) (g .2 .1))))
-    first-unique (found t r) nothing f g = absurd (opposite (f .2 .2) (g t (f .0) (f .1) r (out t r (f .2 .2) (f .2 .1))))
-    first-unique (found t r) (found s u) f g =
-        let low : s ≤ t = not-lower rs us out t s r u f g in
-        let high : t ≤ s = not-lower us rs back s t u r g f in
-        let tier : t ≡ s = omega arith in
-        ap₂ found tier (of-tier s r u (subst (λ (n : ℕ). Lowest afi q n rs (found n r)) tier (f .2)) (g .2))
+-- the answer, tier by tier
+
+-- what is wanted of routes of a tier, by tiers that are numbered from `low` on
+unfoldable pub wantedAt : (low tier : ℕ) → List Wanted → Wanted
+wantedAt low tier [] = noRoute
+wantedAt low tier (w ∷ ws) = pick (eqb tier low) w (wantedAt (suc low) tier ws)
+
+wanted-below : (low tier : ℕ) (ws : List Wanted) → tier < low → wantedAt low tier ws ≡ noRoute
+unfolding wantedAt
+wanted-below low tier [] h = refl
+wanted-below low tier (w ∷ ws) h = let other : tier ≡ low → ⊥ = λ e. omega arith in pick-false _ _ _ (ne-eqb tier low other) ∙ wanted-below (suc low) tier ws (omega arith)
+
+none-wanted : (afi : ℕ) (router : List ℕ) (rs : List Route) {w : Wanted} → w ≡ noRoute → None afi router w rs
+unfolding meets
+none-wanted afi router rs e u m = rw e (is-false _ (λ h. opposite (qualified afi router noRoute u h .met) refl))
+
+module _ {afi : ℕ} {router : List ℕ} {rs : List Route} where
+  pub first-range : {low : ℕ} {ws : List Wanted} {t : ℕ} {r : Route} → First afi router rs low ws (found t r) → low ≤ t
+  first-range (here l) = omega arith
+  first-range (past n f) = let l = first-range f in omega arith
+
+  pub first-none : {low : ℕ} {ws : List Wanted} → First afi router rs low ws nothing → (tier : ℕ) → None afi router (wantedAt low tier ws) rs
+  unfolding wantedAt
+  first-none nowhere tier = none-wanted afi router rs refl
+  first-none (past n f) tier = pick-case (λ w. None afi router w rs) _ _ _ (λ t. n) (λ e. first-none f tier)
+
+  pub first-least : {low : ℕ} {ws : List Wanted} {t : ℕ} {r : Route} → First afi router rs low ws (found t r) → Least afi router (wantedAt low t ws) rs r
+  unfolding wantedAt
+  first-least {r = r} (here {tier = low} l) = subst (λ w. Least afi router w rs r) (sym (pick-true _ _ _ (eq-eqb low low refl))) l
+  first-least {t = t} {r = r} (past {tier = low} n f) =
+      let h = first-range f in
+      let other : t ≡ low → ⊥ = λ e. omega arith in
+      subst (λ w. Least afi router w rs r) (sym (pick-false _ _ _ (ne-eqb t low other))) (first-least f)
+
+  pub first-below : {low : ℕ} {ws : List Wanted} {t : ℕ} {r : Route} → First afi router rs low ws (found t r) → (tier : ℕ) → tier < t → None afi router (wantedAt low tier ws) rs
+  unfolding wantedAt
+  first-below (here {tier = low} {w = w} {ws = ws} l) tier h = none-wanted afi router rs (wanted-below low tier (w ∷ ws) h)
+  first-below (past n f) tier h = pick-case (λ w. None afi router w rs) _ _ _ (λ t. n) (λ e. first-below f tier h)
+
+pub first-is : (afi : ℕ) (q : Query) (rs : List Route) → First afi (q .router) rs 1 (q .tiers) (matchIn afi q rs)
+unfolding matchIn
+first-is afi q rs = first-from afi (q .router) rs 1 (q .tiers)

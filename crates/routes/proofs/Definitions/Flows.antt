@@ -1,6 +1,6 @@
 -- The flows that a match takes (document 01, "The numbers a call gives back", FLOW).
 use Prim.Native.Nat.{ℕ, _*_, _≤_}
-use mathlib.Core.Path.{_≡_, refl, sym, _∙_, ap, subst}
+use mathlib.Core.Path.{_≡_, refl, sym, _∙_, ap}
 use mathlib.Core.List.{List}
 use mathlib.Core.Logic.{_↔_, _⊎_, inl, inr, ⊎-elim}
 use native.Mathlib.Omega.{arith}
@@ -15,7 +15,8 @@ use Rattle.nlri.specs.Groups.{ASM, SSM, classUnder, classOf}
 use Rattle.nlri.specs.Statements.{Multicast, SourceSpecific, GroupRefusal, badFamily, badGroup}
 use Rattle.nlri.proofs.Theorems.{lengths, groupRule}
 use Rattle.nlri.proofs.Definitions.Lengths.{family-good}
-use Rattle.routes.specs.Arguments.{Query, readFlow}
+use Rattle.routes.specs.Query.{Query, Flow, flowQuery}
+use Rattle.routes.specs.Arguments.{readFlow}
 use Rattle.routes.specs.ArgumentRules.{KnownFamily, GoodFlow}
 
 pub class-under : (afi bits : ℕ) (g : List ℕ) → familyBits afi ≡ given bits → classUnder bits g ≡ classOf afi g
@@ -57,14 +58,17 @@ classed afi g class e k =
       other = (λ a. of-asm a .1, λ n. ⊎-elim (λ s. absurd (n (of-ssm s))) (λ a. a) k);
     }
 
--- what a match asks of a flow that it takes
-pub record Asked (afi : ℕ) (router source group : List ℕ) (q : Query) : Type 0 where
-  pub good : GoodFlow afi router source group
-  pub ofRouter : q .router ≡ router
-  pub ofSource : q .source ≡ source
-  pub ofGroup : q .group ≡ group
-  pub specific : (q .class ≡ SSM) ↔ SourceSpecific afi group
-  pub other : (q .class ≡ ASM) ↔ (SourceSpecific afi group → ⊥)
+-- what a match asks of a flow that it takes: the flow's query, by the class of its group
+pub record Asked (afi : ℕ) (flow : Flow) (q : Query) : Type 0 where
+  pub good : GoodFlow afi flow
+  pub class : ℕ
+  pub is : q ≡ flowQuery flow class
+  pub specific : (class ≡ SSM) ↔ SourceSpecific afi (flow .group)
+  pub other : (class ≡ ASM) ↔ (SourceSpecific afi (flow .group) → ⊥)
+
+pub asked-router : {afi : ℕ} {flow : Flow} {q : Query} → Asked afi flow q → q .router ≡ flow .router
+unfolding flowQuery
+asked-router a = ap (λ (x : Query). x .router) (a .is)
 
 source-sized : (afi bits : ℕ) (source : List ℕ) → familyBits afi ≡ given bits → (8 * length source ≡ bits) ↔ (((afi ≡ 1) × (length source ≡ 4)) ⊎ ((afi ≡ 2) × (length source ≡ 16)))
 source-sized afi bits source ofFamily =
@@ -73,23 +77,21 @@ source-sized afi bits source ofFamily =
     (λ a. (λ h. inr (a .0, omega (arith, a .1)), λ h. ⊎-elim (λ b. absurd (omega (arith, a .0, b .0))) (λ b. omega (arith, a .1, b .1)) h))
     (lengths .families afi bits .0 ofFamily)
 
-pub flow-asked : (afi : ℕ) (router source group : List ℕ) (q : Query) → readFlow afi router source group ≡ given q → Asked afi router source group q
+pub flow-asked : (afi : ℕ) (flow : Flow) (q : Query) → readFlow afi flow ≡ given q → Asked afi flow q
 unfolding readFlow
-flow-asked afi router source group q e =
+flow-asked afi flow q e =
     let p = passed _ _ _ e in
     let r = given-unless _ _ _ _ (p .second) in
     let s = given-unless _ _ _ _ (r .1) in
     let c = passed _ _ _ (s .1) in
-    let k = classed afi group (c .value) (sym (class-under afi (p .value) group (p .first)) ∙ c .first) (class-given (p .value) (c .value) group (c .first)) in
-    subst (Asked afi router source group) (given-same (c .second))
-    (record {
-      good = record { addressed = lengths .originators (length router) .0 (r .0); sourced = source-sized afi (p .value) source (p .first) .0 (eqb-true _ _ (s .0)); multicast = k .multicast };
-      ofRouter = refl;
-      ofSource = refl;
-      ofGroup = refl;
+    let k = classed afi (flow .group) (c .value) (sym (class-under afi (p .value) (flow .group) (p .first)) ∙ c .first) (class-given (p .value) (c .value) (flow .group) (c .first)) in
+    record {
+      good = record { addressed = lengths .originators (length (flow .router)) .0 (r .0); sourced = source-sized afi (p .value) (flow .source) (p .first) .0 (eqb-true _ _ (s .0)); multicast = k .multicast };
+      class = c .value;
+      is = sym (given-same (c .second));
       specific = k .specific;
       other = k .other;
-    })
+    }
 
 multicast-taken : {afi : ℕ} {g : List ℕ} {n : ℕ} → GroupRefusal afi g n → Multicast afi g → ⊥
 multicast-taken (badFamily one two) (Multicast.ipv4 l low high) = one refl
@@ -105,25 +107,25 @@ multicast-classed afi bits g ofFamily m =
 source-family : (afi : ℕ) (source : List ℕ) → ((afi ≡ 1) × (length source ≡ 4)) ⊎ ((afi ≡ 2) × (length source ≡ 16)) → KnownFamily afi
 source-family afi source h = ⊎-elim (λ a. inl (a .0)) (λ a. inr (a .0)) h
 
-pub flow-given : (afi : ℕ) (router source group : List ℕ) → GoodFlow afi router source group → (q : Query) × (readFlow afi router source group ≡ given q)
+pub flow-given : (afi : ℕ) (flow : Flow) → GoodFlow afi flow → (q : Query) × (readFlow afi flow ≡ given q)
 unfolding readFlow
-flow-given afi router source group f =
-    let bits = family-good afi (source-family afi source (f .sourced)) in
-    let class = multicast-classed afi (bits .0) group (bits .1) (f .multicast) in (
-      record { router = router; source = source; group = group; class = class .0 },
-      sym (goes _ _ _ _ (bits .1) (sym (pick-true _ _ _ (lengths .originators (length router) .1 (f .addressed))
-          ∙ pick-true _ _ _ (eq-eqb _ _ (source-sized afi (bits .0) source (bits .1) .1 (f .sourced)))
+flow-given afi flow f =
+    let bits = family-good afi (source-family afi (flow .source) (f .sourced)) in
+    let class = multicast-classed afi (bits .0) (flow .group) (bits .1) (f .multicast) in (
+      flowQuery flow (class .0),
+      sym (goes _ _ _ _ (bits .1) (sym (pick-true _ _ _ (lengths .originators (length (flow .router)) .1 (f .addressed))
+          ∙ pick-true _ _ _ (eq-eqb _ _ (source-sized afi (bits .0) (flow .source) (bits .1) .1 (f .sourced)))
           ∙ sym (goes _ _ _ _ (class .1) refl)))),
     )
 
-pub flow-refused : (afi : ℕ) (router source group : List ℕ) (n : ℕ) → KnownFamily afi → readFlow afi router source group ≡ refused n → n ≡ FLOW
+pub flow-refused : (afi : ℕ) (flow : Flow) (n : ℕ) → KnownFamily afi → readFlow afi flow ≡ refused n → n ≡ FLOW
 unfolding readFlow
-flow-refused afi router source group n bits e =
+flow-refused afi flow n bits e =
     let ofFamily = family-good afi bits in
     ⊎-elim (λ none. absurd (never (ofFamily .1) none))
     (λ l. ⊎-elim
     (λ r. ⊎-elim
-    (λ s. ⊎-elim (λ c. class-refused (l .value) n group c) (λ c. absurd (never refl (c .second))) (stopped _ _ _ (s .1)))
+    (λ s. ⊎-elim (λ c. class-refused (l .value) n (flow .group) c) (λ c. absurd (never refl (c .second))) (stopped _ _ _ (s .1)))
     (λ s. sym (refused-same {A = Query} (s .1)))
     (picked _ _ _ _ (r .1)))
     (λ r. sym (refused-same {A = Query} (r .1)))

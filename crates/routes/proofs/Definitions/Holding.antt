@@ -34,7 +34,7 @@ module _ (afi places : ℕ) (rs : List Route) (h : Holdable afi places rs) where
         family = h .family;
         most = h .most;
         within = inserted-within r room;
-        acceptable = acceptable-inserted afi r a (h .acceptable);
+        acceptable = acceptable-inserted r a (h .acceptable);
         increasing = increasing-inserted r (before-none (nlriOf r) (omega (arith, sizes-of afi r a .least))) (h .increasing);
       }
 
@@ -44,6 +44,6 @@ module _ (afi places : ℕ) (rs : List Route) (h : Holdable afi places rs) where
         family = h .family;
         most = h .most;
         within = removed-within nlri;
-        acceptable = acceptable-removed afi nlri (h .acceptable);
+        acceptable = acceptable-removed nlri (h .acceptable);
         increasing = increasing-removed nlri (h .increasing);
       }

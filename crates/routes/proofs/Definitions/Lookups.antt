@@ -9,25 +9,18 @@ use native.Mathlib.Omega.{arith}
 use lib.ListN.{length}
 use Rattle.octets.specs.Choice.{pick}
 use Rattle.octets.specs.Order.{same, before}
-use Rattle.octets.proofs.Choice.{opposite, pick-true, pick-false, tested, is-false, is-true}
-use Rattle.octets.proofs.Orders.{same-itself, same-equal, same-swapped, before-itself, before-other, before-then, before-differs}
 use Rattle.octets.specs.Lists.{Among, first, later}
-use Rattle.routes.specs.Route.{Route, route, nlriOf, attributeOf, Held, absent, held, lookup, isHeld, holds, inserted, arranged, removed, Distinct, none, one, Increasing, last, next}
+use Rattle.octets.proofs.Choice.{opposite, pick-true, pick-false, pick-case, pick-cong, tested, is-false}
+use Rattle.octets.proofs.Orders.{same-itself, same-equal, same-of-equal, same-swapped, unequal-other, before-itself, before-other, before-then, before-neither}
+use Rattle.routes.specs.Route.{Route, nlriOf, Held, absent, held, lookup, isHeld, holds, inserted, arranged, removed, Distinct, none, one, Increasing, last, next}
 use Rattle.routes.specs.Place.{acceptable, AllAcceptable}
 use Rattle.routes.specs.Book.{entered}
-use Rattle.routes.specs.CallRules.{LookupRule}
+use Rattle.routes.specs.CallRules.{LookupRule, HeldNow}
 
-pub route-again : (r : Route) → route (nlriOf r) (attributeOf r) ≡ r
-unfolding nlriOf attributeOf
-route-again (route nlri attribute) = refl
+pub held-same : {r q : Route} {h : Held} → h ≡ held r → h ≡ held q → r ≡ q
+held-same p q = cc
 
-pub route-equal : (r q : Route) → nlriOf r ≡ nlriOf q → attributeOf r ≡ attributeOf q → r ≡ q
-route-equal r q n a = sym (route-again r) ∙ ap₂ (λ (m b : List ℕ). route m b) n a ∙ route-again q
-
-pub held-attribute : {a b : List ℕ} → held a ≡ held b → a ≡ b
-held-attribute h = cc
-
-pub held-absent : {a : List ℕ} {h : Held} → h ≡ held a → h ≡ absent → ⊥
+pub held-absent : {r : Route} {h : Held} → h ≡ held r → h ≡ absent → ⊥
 held-absent p q = let z : _≡_ {A = ℕ} 0 1 = cc in omega arith
 
 -- lookups, step by step
@@ -36,7 +29,7 @@ pub lookup-none : (nlri : List ℕ) → lookup nlri [] ≡ absent
 unfolding lookup
 lookup-none nlri = refl
 
-pub lookup-first : (nlri : List ℕ) (r : Route) (rs : List Route) → same nlri (nlriOf r) ≡ true → lookup nlri (r ∷ rs) ≡ held (attributeOf r)
+pub lookup-first : (nlri : List ℕ) (r : Route) (rs : List Route) → same nlri (nlriOf r) ≡ true → lookup nlri (r ∷ rs) ≡ held r
 unfolding lookup
 lookup-first nlri r rs t = pick-true _ _ _ t
 
@@ -44,124 +37,85 @@ pub lookup-later : (nlri : List ℕ) (r : Route) (rs : List Route) → same nlri
 unfolding lookup
 lookup-later nlri r rs f = pick-false _ _ _ f
 
-pub lookup-own : (r : Route) (rs : List Route) → lookup (nlriOf r) (r ∷ rs) ≡ held (attributeOf r)
+pub lookup-own : (r : Route) (rs : List Route) → lookup (nlriOf r) (r ∷ rs) ≡ held r
 lookup-own r rs = lookup-first (nlriOf r) r rs (same-itself (nlriOf r))
 
 lookup-behind : (nlri : List ℕ) (r : Route) (rs us : List Route) → lookup nlri rs ≡ lookup nlri us → lookup nlri (r ∷ rs) ≡ lookup nlri (r ∷ us)
 unfolding lookup
-lookup-behind nlri r rs us h = ap (λ (x : Held). pick (same nlri (nlriOf r)) (held (attributeOf r)) x) h
+lookup-behind nlri r rs us h = ap (λ (x : Held). pick (same nlri (nlriOf r)) (held r) x) h
 
 -- a route hides one of the same NLRI behind it
 lookup-hidden : (nlri : List ℕ) (r q : Route) (rs : List Route) → nlriOf r ≡ nlriOf q → lookup nlri (r ∷ rs) ≡ lookup nlri (r ∷ (q ∷ rs))
-lookup-hidden nlri r q rs e =
-    tested (same nlri (nlriOf r))
-    (λ t. lookup-first nlri r rs t ∙ sym (lookup-first nlri r (q ∷ rs) t))
-    (λ f. lookup-behind nlri r rs (q ∷ rs) (sym (lookup-later nlri q rs (rw (← e) f))))
+unfolding lookup
+lookup-hidden nlri r q rs e = pick-cong _ _ _ _ _ (λ t. refl) (λ f. sym (lookup-later nlri q rs (rw (← e) f)))
 
 -- routes of two NLRIs change places
 lookup-changed : (nlri : List ℕ) (q r : Route) (rs : List Route) → same (nlriOf r) (nlriOf q) ≡ false → lookup nlri (q ∷ (r ∷ rs)) ≡ lookup nlri (r ∷ (q ∷ rs))
 lookup-changed nlri q r rs d =
     tested (same nlri (nlriOf r))
-    (λ t.
-    let other : same nlri (nlriOf q) ≡ false = rw (same-equal nlri (nlriOf r) t) d in
-    lookup-later nlri q (r ∷ rs) other ∙ lookup-first nlri r rs t ∙ sym (lookup-first nlri r (q ∷ rs) t))
+    (λ t. lookup-later nlri q (r ∷ rs) (rw (same-equal nlri (nlriOf r) t) d) ∙ lookup-first nlri r rs t ∙ sym (lookup-first nlri r (q ∷ rs) t))
     (λ f. lookup-behind nlri q (r ∷ rs) rs (lookup-later nlri r rs f) ∙ sym (lookup-later nlri r (q ∷ rs) f))
 
 -- what is held
 
-pub holds-held : (nlri : List ℕ) (rs : List Route) (a : List ℕ) → lookup nlri rs ≡ held a → holds nlri rs ≡ true
+pub holds-held : (nlri : List ℕ) (rs : List Route) (r : Route) → lookup nlri rs ≡ held r → holds nlri rs ≡ true
 unfolding holds isHeld
-holds-held nlri rs a h = rw h
+holds-held nlri rs r h = rw h
 
 pub holds-absent : (nlri : List ℕ) (rs : List Route) → lookup nlri rs ≡ absent → holds nlri rs ≡ false
 unfolding holds isHeld
 holds-absent nlri rs h = rw h
 
-pub absent-holds : (nlri : List ℕ) (rs : List Route) → holds nlri rs ≡ false → lookup nlri rs ≡ absent
-unfolding holds isHeld
-absent-holds nlri rs = go (lookup nlri rs)
-  where
-    go : (h : Held) → isHeld h ≡ false → h ≡ absent
-    go absent e = refl
-    go (held a) e = absurd (opposite {b = true} refl e)
-
-pub held-holds : (nlri : List ℕ) (rs : List Route) → holds nlri rs ≡ true → (a : List ℕ) × (lookup nlri rs ≡ held a)
-unfolding holds isHeld
-held-holds nlri rs = go (lookup nlri rs)
-  where
-    go : (h : Held) → isHeld h ≡ true → (a : List ℕ) × (h ≡ held a)
-    go absent e = absurd (opposite {b = false} e refl)
-    go (held a) e = (a, refl)
-
 pub holds-alike : (nlri : List ℕ) (rs us : List Route) → lookup nlri rs ≡ lookup nlri us → holds nlri rs ≡ holds nlri us
 unfolding holds
 holds-alike nlri rs us h = rw h
 
--- an NLRI is held with an attribute, or absent
-pub held-or-absent : (nlri : List ℕ) (rs : List Route) → ((a : List ℕ) × (lookup nlri rs ≡ held a)) ⊎ (lookup nlri rs ≡ absent)
+-- a route is held, or none
+pub held-or-absent : (nlri : List ℕ) (rs : List Route) → ((r : Route) × (lookup nlri rs ≡ held r)) ⊎ (lookup nlri rs ≡ absent)
 held-or-absent nlri rs = go (lookup nlri rs)
   where
-    go : (h : Held) → ((a : List ℕ) × (h ≡ held a)) ⊎ (h ≡ absent)
+    go : (h : Held) → ((r : Route) × (h ≡ held r)) ⊎ (h ≡ absent)
     go absent = inr refl
-    go (held a) = inl (a, refl)
+    go (held r) = inl (r, refl)
+
+pub absent-holds : (nlri : List ℕ) (rs : List Route) → holds nlri rs ≡ false → lookup nlri rs ≡ absent
+absent-holds nlri rs h = ⊎-elim (λ p. absurd (opposite (holds-held nlri rs (p .0) (p .1)) h)) (λ e. e) (held-or-absent nlri rs)
+
+pub held-holds : (nlri : List ℕ) (rs : List Route) → holds nlri rs ≡ true → (r : Route) × (lookup nlri rs ≡ held r)
+held-holds nlri rs h = ⊎-elim (λ p. p) (λ e. absurd (opposite h (holds-absent nlri rs e))) (held-or-absent nlri rs)
+
+-- by the first route
+pub lookup-cases : {P : Type 0} (nlri : List ℕ) (q : Route) (rs : List Route)
+    → (nlri ≡ nlriOf q → lookup nlri (q ∷ rs) ≡ held q → P) → (same nlri (nlriOf q) ≡ false → lookup nlri (q ∷ rs) ≡ lookup nlri rs → P) → P
+lookup-cases nlri q rs x y = tested (same nlri (nlriOf q)) (λ t. x (same-equal nlri (nlriOf q) t) (lookup-first nlri q rs t)) (λ f. y f (lookup-later nlri q rs f))
 
 -- inserted and entered: the lookups are those with the route in front
 
-inserted-replaced : (r q : Route) (rs : List Route) → same (nlriOf r) (nlriOf q) ≡ true → inserted r (q ∷ rs) ≡ r ∷ rs
-unfolding inserted
-inserted-replaced r q rs t = pick-true _ _ _ t
-
-inserted-front : (r q : Route) (rs : List Route) → before (nlriOf r) (nlriOf q) ≡ true → inserted r (q ∷ rs) ≡ r ∷ (q ∷ rs)
-unfolding inserted
-inserted-front r q rs b = pick-false _ _ _ (before-differs (nlriOf r) (nlriOf q) b) ∙ pick-true _ _ _ b
-
-inserted-later : (r q : Route) (rs : List Route) → same (nlriOf r) (nlriOf q) ≡ false → before (nlriOf r) (nlriOf q) ≡ false → inserted r (q ∷ rs) ≡ q ∷ inserted r rs
-unfolding inserted
-inserted-later r q rs d b = pick-false _ _ _ d ∙ pick-false _ _ _ b
-
 -- by where the route goes
-inserting : {P : Type 0} (r q : Route) (rs : List Route)
-    → (same (nlriOf r) (nlriOf q) ≡ true → inserted r (q ∷ rs) ≡ r ∷ rs → P)
-    → (before (nlriOf r) (nlriOf q) ≡ true → inserted r (q ∷ rs) ≡ r ∷ (q ∷ rs) → P)
-    → (same (nlriOf r) (nlriOf q) ≡ false → before (nlriOf q) (nlriOf r) ≡ true → inserted r (q ∷ rs) ≡ q ∷ inserted r rs → P) → P
-inserting r q rs x y z =
-    tested (same (nlriOf r) (nlriOf q))
-    (λ t. x t (inserted-replaced r q rs t))
-    (λ d. tested (before (nlriOf r) (nlriOf q)) (λ t. y t (inserted-front r q rs t)) (λ f. z d (before-other (nlriOf r) (nlriOf q) d f) (inserted-later r q rs d f)))
+inserted-case : (P : List Route → Type 0) (r q : Route) (rs : List Route)
+    → (nlriOf r ≡ nlriOf q → P (r ∷ rs)) → (before (nlriOf r) (nlriOf q) ≡ true → P (r ∷ (q ∷ rs)))
+    → (same (nlriOf r) (nlriOf q) ≡ false → before (nlriOf q) (nlriOf r) ≡ true → P (q ∷ inserted r rs)) → P (inserted r (q ∷ rs))
+unfolding inserted
+inserted-case P r q rs x y z =
+    pick-case P _ _ _ (λ t. x (same-equal (nlriOf r) (nlriOf q) t)) (λ d. pick-case P _ _ _ (λ t. y t) (λ f. z d (before-other (nlriOf r) (nlriOf q) d f)))
 
 pub lookup-inserted : (nlri : List ℕ) (r : Route) (rs : List Route) → lookup nlri (inserted r rs) ≡ lookup nlri (r ∷ rs)
 unfolding inserted
 lookup-inserted nlri r [] = refl
 lookup-inserted nlri r (q ∷ rs) =
-    inserting r q rs
-    (λ t e. ap (lookup nlri) e ∙ lookup-hidden nlri r q rs (same-equal _ _ t))
-    (λ b e. ap (lookup nlri) e)
-    (λ d b e. ap (lookup nlri) e ∙ lookup-behind nlri q (inserted r rs) (r ∷ rs) (lookup-inserted nlri r rs) ∙ lookup-changed nlri q r rs d)
-
-entered-first : (r q : Route) (rs : List Route) → same (nlriOf r) (nlriOf q) ≡ true → entered r (q ∷ rs) ≡ r ∷ rs
-unfolding entered
-entered-first r q rs t = pick-true _ _ _ t
-
-entered-later : (r q : Route) (rs : List Route) → same (nlriOf r) (nlriOf q) ≡ false → entered r (q ∷ rs) ≡ q ∷ entered r rs
-unfolding entered
-entered-later r q rs d = pick-false _ _ _ d
+    inserted-case (λ l. lookup nlri l ≡ lookup nlri (r ∷ (q ∷ rs))) r q rs (lookup-hidden nlri r q rs) (λ b. refl)
+    (λ d b. lookup-behind nlri q (inserted r rs) (r ∷ rs) (lookup-inserted nlri r rs) ∙ lookup-changed nlri q r rs d)
 
 pub lookup-entered : (nlri : List ℕ) (r : Route) (rs : List Route) → lookup nlri (entered r rs) ≡ lookup nlri (r ∷ rs)
 unfolding entered
 lookup-entered nlri r [] = refl
 lookup-entered nlri r (q ∷ rs) =
-    tested (same (nlriOf r) (nlriOf q))
-    (λ t. ap (lookup nlri) (entered-first r q rs t) ∙ lookup-hidden nlri r q rs (same-equal _ _ t))
-    (λ d. ap (lookup nlri) (entered-later r q rs d) ∙ lookup-behind nlri q (entered r rs) (r ∷ rs) (lookup-entered nlri r rs) ∙ lookup-changed nlri q r rs d)
+    pick-case (λ l. lookup nlri l ≡ lookup nlri (r ∷ (q ∷ rs))) _ _ _ (λ t. lookup-hidden nlri r q rs (same-equal _ _ t))
+    (λ d. lookup-behind nlri q (entered r rs) (r ∷ rs) (lookup-entered nlri r rs) ∙ lookup-changed nlri q r rs d)
 
-pub lookup-inserted-same : (r : Route) (rs : List Route) → lookup (nlriOf r) (inserted r rs) ≡ held (attributeOf r)
-lookup-inserted-same r rs = lookup-inserted (nlriOf r) r rs ∙ lookup-own r rs
-
-pub lookup-inserted-other : (nlri : List ℕ) (r : Route) (rs : List Route) → same nlri (nlriOf r) ≡ false → lookup nlri (inserted r rs) ≡ lookup nlri rs
-lookup-inserted-other nlri r rs d = lookup-inserted nlri r rs ∙ lookup-later nlri r rs d
-
-lookup-entered-other : (nlri : List ℕ) (r : Route) (rs : List Route) → same nlri (nlriOf r) ≡ false → lookup nlri (entered r rs) ≡ lookup nlri rs
-lookup-entered-other nlri r rs d = lookup-entered nlri r rs ∙ lookup-later nlri r rs d
+-- what such routes hold: of its NLRI this route, of every other what was held
+pub held-now : (r : Route) (rs us : List Route) → ((nlri : List ℕ) → lookup nlri us ≡ lookup nlri (r ∷ rs)) → HeldNow (nlriOf r) (held r) rs us
+held-now r rs us h = record { own = h (nlriOf r) ∙ lookup-own r rs; others = λ other d. h other ∙ lookup-later other r rs (unequal-other other (nlriOf r) d) }
 
 -- arranging keeps the lookups
 pub lookup-arranged : (nlri : List ℕ) (rs : List Route) → lookup nlri (arranged rs) ≡ lookup nlri rs
@@ -171,126 +125,89 @@ lookup-arranged nlri (r ∷ rs) = lookup-inserted nlri r (arranged rs) ∙ looku
 
 -- removed
 
-removed-first : (nlri : List ℕ) (q : Route) (rs : List Route) → same nlri (nlriOf q) ≡ true → removed nlri (q ∷ rs) ≡ rs
-unfolding removed
-removed-first nlri q rs t = pick-true _ _ _ t
-
-removed-later : (nlri : List ℕ) (q : Route) (rs : List Route) → same nlri (nlriOf q) ≡ false → removed nlri (q ∷ rs) ≡ q ∷ removed nlri rs
-unfolding removed
-removed-later nlri q rs f = pick-false _ _ _ f
-
-pub lookup-removed-other : (nlri other : List ℕ) (rs : List Route) → same nlri other ≡ false → lookup nlri (removed other rs) ≡ lookup nlri rs
+lookup-removed-other : (nlri other : List ℕ) (rs : List Route) → same nlri other ≡ false → lookup nlri (removed other rs) ≡ lookup nlri rs
 unfolding removed
 lookup-removed-other nlri other [] d = refl
 lookup-removed-other nlri other (q ∷ rs) d =
-    tested (same other (nlriOf q))
-    (λ t. ap (lookup nlri) (removed-first other q rs t) ∙ sym (lookup-later nlri q rs (rw (← same-equal other (nlriOf q) t) d)))
-    (λ f. ap (lookup nlri) (removed-later other q rs f) ∙ lookup-behind nlri q (removed other rs) rs (lookup-removed-other nlri other rs d))
+    pick-case (λ l. lookup nlri l ≡ lookup nlri (q ∷ rs)) _ _ _ (λ t. sym (lookup-later nlri q rs (rw (← same-equal other (nlriOf q) t) d)))
+    (λ f. lookup-behind nlri q (removed other rs) rs (lookup-removed-other nlri other rs d))
 
-pub lookup-removed-same : (nlri : List ℕ) {rs : List Route} → Distinct rs → lookup nlri (removed nlri rs) ≡ absent
+lookup-removed-same : (nlri : List ℕ) {rs : List Route} → Distinct rs → lookup nlri (removed nlri rs) ≡ absent
 unfolding removed
 lookup-removed-same nlri none = lookup-none nlri
 lookup-removed-same nlri (one {r} {rs} h d) =
-    tested (same nlri (nlriOf r))
-    (λ t. ap (lookup nlri) (removed-first nlri r rs t) ∙ absent-holds nlri rs (rw (same-equal nlri (nlriOf r) t) h))
-    (λ f. ap (lookup nlri) (removed-later nlri r rs f) ∙ lookup-later nlri r (removed nlri rs) f ∙ lookup-removed-same nlri d)
+    pick-case (λ l. lookup nlri l ≡ absent) _ _ _ (λ t. rw (same-equal nlri (nlriOf r) t) h) (λ f. lookup-later nlri r (removed nlri rs) f ∙ lookup-removed-same nlri d)
+
+pub lookup-removed : (nlri named : List ℕ) {rs : List Route} → Distinct rs → lookup nlri (removed named rs) ≡ pick (same nlri named) absent (lookup nlri rs)
+lookup-removed nlri named {rs} d =
+    pick-case (λ h. lookup nlri (removed named rs) ≡ h) _ _ _ (λ t. rw (same-equal nlri named t) (lookup-removed-same named d)) (lookup-removed-other nlri named rs)
+
+pub removed-now : (nlri : List ℕ) {rs : List Route} → Distinct rs → HeldNow nlri absent rs (removed nlri rs)
+removed-now nlri {rs} d = record { own = lookup-removed-same nlri d; others = λ other n. lookup-removed-other other nlri rs (unequal-other other nlri n) }
 
 -- an NLRI that is not held is not removed
 pub removed-absent : (nlri : List ℕ) (rs : List Route) → lookup nlri rs ≡ absent → removed nlri rs ≡ rs
 unfolding removed
 removed-absent nlri [] h = refl
 removed-absent nlri (q ∷ rs) h =
-    tested (same nlri (nlriOf q))
-    (λ t. absurd (held-absent (lookup-first nlri q rs t) h))
-    (λ f. removed-later nlri q rs f ∙ ap (λ (l : List Route). q ∷ l) (removed-absent nlri rs (sym (lookup-later nlri q rs f) ∙ h)))
-
--- what holds for a tail
-tail-absent : (nlri : List ℕ) (q : Route) (rs : List Route) → lookup nlri (q ∷ rs) ≡ absent → (same nlri (nlriOf q) ≡ false) × (lookup nlri rs ≡ absent)
-tail-absent nlri q rs h =
-    tested (same nlri (nlriOf q))
-    (λ t. absurd (held-absent (lookup-first nlri q rs t) h))
-    (λ f. (f, sym (lookup-later nlri q rs f) ∙ h))
+    lookup-cases nlri q rs (λ t e. absurd (held-absent e h)) (λ f e. pick-false _ _ _ f ∙ ap (λ (l : List Route). q ∷ l) (removed-absent nlri rs (sym e ∙ h)))
 
 -- distinct NLRIs
 
-absent-removed : (nlri other : List ℕ) (rs : List Route) → holds nlri rs ≡ false → holds nlri (removed other rs) ≡ false
+absent-removed : (nlri other : List ℕ) (rs : List Route) → lookup nlri rs ≡ absent → lookup nlri (removed other rs) ≡ absent
 unfolding removed
 absent-removed nlri other [] h = h
 absent-removed nlri other (q ∷ rs) h =
-    let t = tail-absent nlri q rs (absent-holds nlri (q ∷ rs) h) in
-    tested (same other (nlriOf q))
-    (λ s. rw (removed-first other q rs s) (holds-absent nlri rs (t .1)))
-    (λ f.
-    rw (removed-later other q rs f)
-    (holds-absent nlri (q ∷ removed other rs) (lookup-later nlri q (removed other rs) (t .0) ∙ absent-holds nlri (removed other rs) (absent-removed nlri other rs (holds-absent nlri rs (t .1))))))
+    lookup-cases nlri q rs (λ t e. absurd (held-absent e h))
+    (λ d e. pick-case (λ l. lookup nlri l ≡ absent) _ _ _ (λ t. sym e ∙ h) (λ f. lookup-later nlri q (removed other rs) d ∙ absent-removed nlri other rs (sym e ∙ h)))
 
 pub distinct-removed : (nlri : List ℕ) {rs : List Route} → Distinct rs → Distinct (removed nlri rs)
 unfolding removed
 distinct-removed nlri none = none
-distinct-removed nlri (one {r} {rs} h d) =
-    tested (same nlri (nlriOf r))
-    (λ t. rw (removed-first nlri r rs t) d)
-    (λ f. rw (removed-later nlri r rs f) (one (absent-removed (nlriOf r) nlri rs h) (distinct-removed nlri d)))
+distinct-removed nlri (one {r} {rs} h d) = pick-case Distinct _ _ _ (λ t. d) (λ f. one (absent-removed (nlriOf r) nlri rs h) (distinct-removed nlri d))
 
 pub distinct-entered : (r : Route) {rs : List Route} → Distinct rs → Distinct (entered r rs)
 unfolding entered
-distinct-entered r none = one (holds-absent (nlriOf r) [] (lookup-none (nlriOf r))) none
+distinct-entered r none = one (lookup-none (nlriOf r)) none
 distinct-entered r (one {r = q} {rs = rs} h d) =
-    tested (same (nlriOf r) (nlriOf q))
-    (λ t. rw (entered-first r q rs t) (one {r = r} {rs = rs} (rw (same-equal (nlriOf r) (nlriOf q) t) h) d))
-    (λ f.
-    let g : same (nlriOf q) (nlriOf r) ≡ false = same-swapped (nlriOf q) (nlriOf r) ∙ f in
-    rw (entered-later r q rs f)
-    (one (holds-absent (nlriOf q) (entered r rs) (lookup-entered-other (nlriOf q) r rs g ∙ absent-holds (nlriOf q) rs h)) (distinct-entered r d)))
+    pick-case Distinct _ _ _ (λ t. one {r = r} {rs = rs} (rw (same-equal (nlriOf r) (nlriOf q) t) h) d)
+    (λ f. one (lookup-entered (nlriOf q) r rs ∙ lookup-later (nlriOf q) r rs (same-swapped (nlriOf q) (nlriOf r) ∙ f) ∙ h) (distinct-entered r d))
 
 -- members and lookups
 
-pub lookup-member : (nlri a : List ℕ) (rs : List Route) → lookup nlri rs ≡ held a → Among (route nlri a) rs
-lookup-member nlri a [] h = absurd (held-absent h (lookup-none nlri))
-lookup-member nlri a (q ∷ rs) h =
-    tested (same nlri (nlriOf q))
-    (λ t.
-    let e : route nlri a ≡ q = ap₂ (λ (m b : List ℕ). route m b) (same-equal nlri (nlriOf q) t) (held-attribute (sym h ∙ lookup-first nlri q rs t)) ∙ route-again q in
-    rw e (first refl))
-    (λ f. later (lookup-member nlri a rs (sym (lookup-later nlri q rs f) ∙ h)))
+pub lookup-member : {nlri : List ℕ} {r : Route} (rs : List Route) → lookup nlri rs ≡ held r → Among r rs × (nlriOf r ≡ nlri)
+lookup-member {nlri} [] h = absurd (held-absent h (lookup-none nlri))
+lookup-member {nlri} {r} (q ∷ rs) h =
+    lookup-cases nlri q rs (λ t e. let is : r ≡ q = held-same h e in (first is, rw (is, t))) (λ f e. let m = lookup-member rs (sym e ∙ h) in (later (m .0), m .1))
 
-member-held : {r : Route} {rs : List Route} → Among r rs → holds (nlriOf r) rs ≡ true
-member-held {r} (first {y = q} {ys = rs} e) = rw e (holds-held (nlriOf q) (q ∷ rs) (attributeOf q) (lookup-own q rs))
-member-held {r} (later {y = q} {ys = rs} m) =
-    tested (same (nlriOf r) (nlriOf q))
-    (λ t. holds-held (nlriOf r) (q ∷ rs) (attributeOf q) (lookup-first (nlriOf r) q rs t))
-    (λ f. holds-alike (nlriOf r) (q ∷ rs) rs (lookup-later (nlriOf r) q rs f) ∙ member-held m)
+member-held : {r : Route} {rs : List Route} → Among r rs → lookup (nlriOf r) rs ≡ absent → ⊥
+member-held {r} (first {y = q} {ys = rs} e) h = held-absent (lookup-first (nlriOf r) q rs (same-of-equal _ _ (ap nlriOf e))) h
+member-held {r} (later {y = q} {ys = rs} m) h = lookup-cases (nlriOf r) q rs (λ t e. held-absent e h) (λ f e. member-held m (sym e ∙ h))
 
-pub lookup-of-member : {r : Route} {rs : List Route} → Distinct rs → Among r rs → lookup (nlriOf r) rs ≡ held (attributeOf r)
+pub lookup-of-member : {r : Route} {rs : List Route} → Distinct rs → Among r rs → lookup (nlriOf r) rs ≡ held r
 lookup-of-member {r} (one {r = q} {rs = rs} h d) (first e) = rw e (lookup-own q rs)
-lookup-of-member {r} (one {r = q} {rs = rs} h d) (later m) =
-    let f : same (nlriOf r) (nlriOf q) ≡ false = is-false _ (λ t. opposite (member-held m) (rw (same-equal (nlriOf r) (nlriOf q) t) h)) in
-    lookup-later (nlriOf r) q rs f ∙ lookup-of-member d m
+lookup-of-member {r} (one {r = q} {rs = rs} h d) (later m) = lookup-cases (nlriOf r) q rs (λ t e. absurd (member-held m (rw t h))) (λ f e. e ∙ lookup-of-member d m)
 
--- what distinct routes hold, others with the same members hold
-lookup-carried : {us : List Route} (nlri a : List ℕ) → Distinct us → Among (route nlri a) us → lookup nlri us ≡ held a
-unfolding nlriOf attributeOf
-lookup-carried nlri a e m = lookup-of-member e m
+-- with no NLRI twice, members of one NLRI are one
+pub one-member : {rs : List Route} (r u : Route) → Distinct rs → Among r rs → Among u rs → nlriOf r ≡ nlriOf u → r ≡ u
+one-member {rs} r u d m n e = held-same (lookup-of-member d m) (ap (λ (x : List ℕ). lookup x rs) e ∙ lookup-of-member d n)
 
 -- what is held of an NLRI, by the routes that are there
 pub lookupRule : LookupRule
-unfolding nlriOf
 lookupRule =
     record {
       missing = λ nlri rs. (
-        λ e attribute m. opposite (member-held m) (holds-absent nlri rs e),
-        λ none. ⊎-elim (λ p. absurd (none (p .0) (lookup-member nlri (p .0) rs (p .1)))) (λ e. e) (held-or-absent nlri rs),
+        λ e r m is. member-held m (ap (λ (x : List ℕ). lookup x rs) is ∙ e),
+        λ none. ⊎-elim (λ p. let m = lookup-member rs (p .1) in absurd (none (p .0) (m .0) (m .1))) (λ e. e) (held-or-absent nlri rs),
       );
-      found = λ nlri attribute rs d. (lookup-member nlri attribute rs, lookup-carried nlri attribute d);
+      found = λ nlri r rs d. (lookup-member rs, λ m. rw (← m .1) (lookup-of-member d (m .0)));
     }
 
 lookup-members : {rs us : List Route} → Distinct rs → Distinct us → ((r : Route) → Among r rs ↔ Among r us) → (nlri : List ℕ) → lookup nlri rs ≡ lookup nlri us
-lookup-members {rs} {us} d e m nlri = go (held-or-absent nlri rs) (held-or-absent nlri us)
-  where
-    go : ((a : List ℕ) × (lookup nlri rs ≡ held a)) ⊎ (lookup nlri rs ≡ absent) → ((a : List ℕ) × (lookup nlri us ≡ held a)) ⊎ (lookup nlri us ≡ absent) → lookup nlri rs ≡ lookup nlri us
-    go (inl p) y = p .1 ∙ sym (lookup-carried nlri (p .0) e (m (route nlri (p .0)) .0 (lookup-member nlri (p .0) rs (p .1))))
-    go (inr p) (inl q) = lookup-carried nlri (q .0) d (m (route nlri (q .0)) .1 (lookup-member nlri (q .0) us (q .1))) ∙ sym (q .1)
-    go (inr p) (inr q) = p ∙ sym q
+lookup-members {rs} {us} d e m nlri =
+    ⊎-elim (λ p. let n = lookup-member rs (p .1) in p .1 ∙ sym (lookupRule .found nlri (p .0) us e .1 (m (p .0) .0 (n .0), n .1)))
+    (λ a. a ∙ sym (lookupRule .missing nlri us .1 (λ r n. lookupRule .missing nlri rs .0 a r (m r .1 n))))
+    (held-or-absent nlri rs)
 
 -- increasing NLRIs
 
@@ -302,30 +219,23 @@ increasing-from p q b (next {r} h i) = next (before-then p q (nlriOf r) b h) i
 pub lookup-early : (nlri : List ℕ) {p : List ℕ} {rs : List Route} → Increasing p rs → before p nlri ≡ false → lookup nlri rs ≡ absent
 lookup-early nlri last h = lookup-none nlri
 lookup-early nlri {p} (next {r} {rs} b i) h =
-    let d : same nlri (nlriOf r) ≡ false = is-false _ (λ t. opposite {b = before p nlri} (rw (same-equal nlri (nlriOf r) t) b) h) in
-    let g : before (nlriOf r) nlri ≡ false = is-false _ (λ t. opposite {b = before p nlri} (before-then p (nlriOf r) nlri b t) h) in
-    lookup-later nlri r rs d ∙ lookup-early nlri i g
+    lookup-cases nlri r rs (λ t e. absurd (opposite {b = before p nlri} (rw t b) h))
+    (λ f e. e ∙ lookup-early nlri i (is-false _ (λ t. opposite {b = before p nlri} (before-then p (nlriOf r) nlri b t) h)))
 
 pub distinct-increasing : {p : List ℕ} {rs : List Route} → Increasing p rs → Distinct rs
 distinct-increasing last = none
-distinct-increasing (next {r} {rs} b i) = one (holds-absent (nlriOf r) rs (lookup-early (nlriOf r) i (before-itself (nlriOf r)))) (distinct-increasing i)
+distinct-increasing (next {r} {rs} b i) = one (lookup-early (nlriOf r) i (before-itself (nlriOf r))) (distinct-increasing i)
 
 pub increasing-inserted : (r : Route) {p : List ℕ} {rs : List Route} → before p (nlriOf r) ≡ true → Increasing p rs → Increasing p (inserted r rs)
 unfolding inserted
 increasing-inserted r h last = next h last
 increasing-inserted r {p} h (next {r = q} {rs = rs} b i) =
-    inserting r q rs
-    (λ t e. rw e (next {rs = rs} h (rw (same-equal (nlriOf r) (nlriOf q) t) i)))
-    (λ t e. rw e (next h (next t i)))
-    (λ d t e. rw e (next b (increasing-inserted r t i)))
+    inserted-case (Increasing p) r q rs (λ t. next {rs = rs} h (rw t i)) (λ t. next h (next t i)) (λ d t. next b (increasing-inserted r t i))
 
 pub increasing-removed : (nlri : List ℕ) {p : List ℕ} {rs : List Route} → Increasing p rs → Increasing p (removed nlri rs)
 unfolding removed
 increasing-removed nlri last = last
-increasing-removed nlri {p} (next {r = q} {rs = rs} b i) =
-    tested (same nlri (nlriOf q))
-    (λ t. rw (removed-first nlri q rs t) (increasing-from p (nlriOf q) b i))
-    (λ f. rw (removed-later nlri q rs f) (next b (increasing-removed nlri i)))
+increasing-removed nlri {p} (next {r = q} {rs = rs} b i) = pick-case (Increasing p) _ _ _ (λ t. increasing-from p (nlriOf q) b i) (λ f. next b (increasing-removed nlri i))
 
 -- every NLRI comes after a previous one
 pub increasing-arranged : (p : List ℕ) (rs : List Route) → ((r : Route) → Among r rs → before p (nlriOf r) ≡ true) → Increasing p (arranged rs)
@@ -335,32 +245,22 @@ increasing-arranged p (r ∷ rs) h = increasing-inserted r (h r (first refl)) (i
 
 -- increasing routes with equal lookups, or equal members, are equal
 
-heads : {p : List ℕ} {r u : Route} {rs us : List Route} → Increasing p (r ∷ rs) → Increasing p (u ∷ us) → lookup (nlriOf r) (r ∷ rs) ≡ lookup (nlriOf r) (u ∷ us)
-    → before (nlriOf r) (nlriOf u) ≡ false
-heads {p} {r} {u} {rs} {us} (next b i) (next c j) h =
-    is-false _ (λ t. held-absent (sym h ∙ lookup-own r rs) (lookup-early (nlriOf r) (next t j) (before-itself (nlriOf r))))
+heads : {p : List ℕ} (r : Route) {u : Route} (rs : List Route) {us : List Route} → Increasing p (u ∷ us) → lookup (nlriOf r) (r ∷ rs) ≡ lookup (nlriOf r) (u ∷ us) → before (nlriOf r) (nlriOf u) ≡ false
+heads r rs (next c j) h = is-false _ (λ t. held-absent (sym h ∙ lookup-own r rs) (lookup-early (nlriOf r) (next t j) (before-itself (nlriOf r))))
 
 pub increasing-equal : {p : List ℕ} {rs us : List Route} → Increasing p rs → Increasing p us → ((nlri : List ℕ) → lookup nlri rs ≡ lookup nlri us) → rs ≡ us
 increasing-equal last last h = refl
 increasing-equal last (next {r} {rs} b i) h = absurd (held-absent (lookup-own r rs) (sym (h (nlriOf r)) ∙ lookup-none (nlriOf r)))
 increasing-equal (next {r} {rs} b i) last h = absurd (held-absent (lookup-own r rs) (h (nlriOf r) ∙ lookup-none (nlriOf r)))
 increasing-equal (next {r} {rs} b i) (next {r = u} {rs = us} c j) h =
-    let low : before (nlriOf r) (nlriOf u) ≡ false = heads (next b i) (next c j) (h (nlriOf r)) in
-    let high : before (nlriOf u) (nlriOf r) ≡ false = heads (next c j) (next b i) (sym (h (nlriOf u))) in
-    let s : same (nlriOf r) (nlriOf u) ≡ true = is-true _ (λ d. opposite (before-other (nlriOf r) (nlriOf u) d low) high) in
-    let n : nlriOf r ≡ nlriOf u = same-equal (nlriOf r) (nlriOf u) s in
-    let a : attributeOf r ≡ attributeOf u = held-attribute (sym (lookup-own r rs) ∙ h (nlriOf r) ∙ lookup-first (nlriOf r) u us s) in
-    ap₂ (λ (x : Route) (l : List Route). x ∷ l) (route-equal r u n a) (increasing-equal i (rw n j) (λ nlri. tails n nlri))
+    let n : nlriOf r ≡ nlriOf u = before-neither (nlriOf r) (nlriOf u) (heads r rs (next c j) (h (nlriOf r))) (heads u us (next b i) (sym (h (nlriOf u)))) in
+    ap₂ (λ (x : Route) (l : List Route). x ∷ l) (held-same (sym (h (nlriOf r)) ∙ lookup-own r rs) (lookup-first (nlriOf r) u us (same-of-equal _ _ n))) (increasing-equal i (rw n j) (tails n))
   where
     tails : nlriOf r ≡ nlriOf u → (nlri : List ℕ) → lookup nlri rs ≡ lookup nlri us
     tails n nlri =
-        tested (same nlri (nlriOf r))
-        (λ t.
-        let e : nlri ≡ nlriOf r = same-equal nlri (nlriOf r) t in
-        let x : lookup nlri rs ≡ absent = lookup-early nlri i (rw e (before-itself (nlriOf r))) in
-        let y : lookup nlri us ≡ absent = lookup-early nlri j (rw (e, n) (before-itself (nlriOf u))) in
-        x ∙ sym y)
-        (λ f. sym (lookup-later nlri r rs f) ∙ h nlri ∙ lookup-later nlri u us (rw (← n) f))
+        lookup-cases nlri r rs
+        (λ t e. lookup-early nlri i (rw t (before-itself (nlriOf r))) ∙ sym (lookup-early nlri j (rw (t, n) (before-itself (nlriOf u)))))
+        (λ f e. sym e ∙ h nlri ∙ lookup-later nlri u us (rw (← n) f))
 
 pub increasing-members : {p : List ℕ} {rs us : List Route} → Increasing p rs → Increasing p us → ((r : Route) → Among r rs ↔ Among r us) → rs ≡ us
 increasing-members i j m = increasing-equal i j (lookup-members (distinct-increasing i) (distinct-increasing j) m)
@@ -371,56 +271,47 @@ pub length-inserted-new : (r : Route) (rs : List Route) → lookup (nlriOf r) rs
 unfolding inserted
 length-inserted-new r [] h = refl
 length-inserted-new r (q ∷ rs) h =
-    let t = tail-absent (nlriOf r) q rs h in
-    inserting r q rs
-    (λ s e. absurd (opposite s (t .0)))
-    (λ b e. ap length e)
-    (λ d b e. ap length e ∙ ap suc (length-inserted-new r rs (t .1)))
+    inserted-case (λ l. length l ≡ suc (suc (length rs))) r q rs (λ t. absurd (held-absent (lookup-first (nlriOf r) q rs (same-of-equal _ _ t)) h)) (λ b. refl)
+    (λ d b. ap suc (length-inserted-new r rs (sym (lookup-later (nlriOf r) q rs d) ∙ h)))
 
 pub length-inserted-held : (r : Route) {p : List ℕ} {rs : List Route} → Increasing p rs → holds (nlriOf r) rs ≡ true → length (inserted r rs) ≡ length rs
 length-inserted-held r last h = absurd (opposite h (holds-absent (nlriOf r) [] (lookup-none (nlriOf r))))
 length-inserted-held r {p} (next {r = q} {rs = rs} b i) h =
-    inserting r q rs
-    (λ s e. ap length e)
-    (λ t e. absurd (opposite h (holds-absent (nlriOf r) (q ∷ rs) (lookup-early (nlriOf r) (next t i) (before-itself (nlriOf r))))))
-    (λ d t e. ap length e ∙ ap suc (length-inserted-held r i (sym (holds-alike (nlriOf r) (q ∷ rs) rs (lookup-later (nlriOf r) q rs d)) ∙ h)))
+    inserted-case (λ l. length l ≡ suc (length rs)) r q rs (λ t. refl)
+    (λ t. absurd (opposite h (holds-absent (nlriOf r) (q ∷ rs) (lookup-early (nlriOf r) (next t i) (before-itself (nlriOf r))))))
+    (λ d t. ap suc (length-inserted-held r i (sym (holds-alike (nlriOf r) (q ∷ rs) rs (lookup-later (nlriOf r) q rs d)) ∙ h)))
 
 pub length-removed-held : (nlri : List ℕ) (rs : List Route) → holds nlri rs ≡ true → suc (length (removed nlri rs)) ≡ length rs
+unfolding removed
 length-removed-held nlri [] h = absurd (opposite h (holds-absent nlri [] (lookup-none nlri)))
 length-removed-held nlri (q ∷ rs) h =
-    tested (same nlri (nlriOf q))
-    (λ t. ap (λ (l : List Route). suc (length l)) (removed-first nlri q rs t))
-    (λ f. ap (λ (l : List Route). suc (length l)) (removed-later nlri q rs f) ∙ ap suc (length-removed-held nlri rs (sym (holds-alike nlri (q ∷ rs) rs (lookup-later nlri q rs f)) ∙ h)))
+    pick-case (λ (l : List Route). suc (length l) ≡ suc (length rs)) _ _ _ (λ t. refl)
+    (λ f. ap suc (length-removed-held nlri rs (sym (holds-alike nlri (q ∷ rs) rs (lookup-later nlri q rs f)) ∙ h)))
 
 -- acceptable routes
 
-pub acceptable-member : {afi : ℕ} {r : Route} {rs : List Route} → AllAcceptable afi rs → Among r rs → acceptable afi r ≡ true
-acceptable-member (AllAcceptable.one h a) (first e) = rw e h
-acceptable-member (AllAcceptable.one h a) (later m) = acceptable-member a m
+module _ {afi : ℕ} where
+  pub acceptable-member : {r : Route} {rs : List Route} → AllAcceptable afi rs → Among r rs → acceptable afi r ≡ true
+  acceptable-member (AllAcceptable.one h a) (first e) = rw e h
+  acceptable-member (AllAcceptable.one h a) (later m) = acceptable-member a m
 
-pub acceptable-inserted : (afi : ℕ) (r : Route) {rs : List Route} → acceptable afi r ≡ true → AllAcceptable afi rs → AllAcceptable afi (inserted r rs)
-unfolding inserted
-acceptable-inserted afi r h AllAcceptable.none = AllAcceptable.one h AllAcceptable.none
-acceptable-inserted afi r h (AllAcceptable.one {r = q} {rs = rs} k a) =
-    inserting r q rs (λ t e. rw e (AllAcceptable.one h a)) (λ t e. rw e (AllAcceptable.one h (AllAcceptable.one k a))) (λ d t e. rw e (AllAcceptable.one k (acceptable-inserted afi r h a)))
+  pub acceptable-inserted : (r : Route) {rs : List Route} → acceptable afi r ≡ true → AllAcceptable afi rs → AllAcceptable afi (inserted r rs)
+  unfolding inserted
+  acceptable-inserted r h AllAcceptable.none = AllAcceptable.one h AllAcceptable.none
+  acceptable-inserted r h (AllAcceptable.one {r = q} {rs = rs} k a) =
+      inserted-case (AllAcceptable afi) r q rs (λ t. AllAcceptable.one h a) (λ t. AllAcceptable.one h (AllAcceptable.one k a)) (λ d t. AllAcceptable.one k (acceptable-inserted r h a))
 
-pub acceptable-removed : (afi : ℕ) (nlri : List ℕ) {rs : List Route} → AllAcceptable afi rs → AllAcceptable afi (removed nlri rs)
-unfolding removed
-acceptable-removed afi nlri AllAcceptable.none = AllAcceptable.none
-acceptable-removed afi nlri (AllAcceptable.one {r = q} {rs = rs} k a) =
-    tested (same nlri (nlriOf q))
-    (λ t. rw (removed-first nlri q rs t) a)
-    (λ f. rw (removed-later nlri q rs f) (AllAcceptable.one k (acceptable-removed afi nlri a)))
+  pub acceptable-removed : (nlri : List ℕ) {rs : List Route} → AllAcceptable afi rs → AllAcceptable afi (removed nlri rs)
+  unfolding removed
+  acceptable-removed nlri AllAcceptable.none = AllAcceptable.none
+  acceptable-removed nlri (AllAcceptable.one k a) = pick-case (AllAcceptable afi) _ _ _ (λ t. a) (λ f. AllAcceptable.one k (acceptable-removed nlri a))
 
-pub acceptable-entered : (afi : ℕ) (r : Route) {rs : List Route} → acceptable afi r ≡ true → AllAcceptable afi rs → AllAcceptable afi (entered r rs)
-unfolding entered
-acceptable-entered afi r h AllAcceptable.none = AllAcceptable.one h AllAcceptable.none
-acceptable-entered afi r h (AllAcceptable.one {r = q} {rs = rs} k a) =
-    tested (same (nlriOf r) (nlriOf q))
-    (λ t. rw (entered-first r q rs t) (AllAcceptable.one h a))
-    (λ f. rw (entered-later r q rs f) (AllAcceptable.one k (acceptable-entered afi r h a)))
+  pub acceptable-entered : (r : Route) {rs : List Route} → acceptable afi r ≡ true → AllAcceptable afi rs → AllAcceptable afi (entered r rs)
+  unfolding entered
+  acceptable-entered r h AllAcceptable.none = AllAcceptable.one h AllAcceptable.none
+  acceptable-entered r h (AllAcceptable.one k a) = pick-case (AllAcceptable afi) _ _ _ (λ t. AllAcceptable.one h a) (λ f. AllAcceptable.one k (acceptable-entered r h a))
 
-pub acceptable-arranged : (afi : ℕ) {rs : List Route} → AllAcceptable afi rs → AllAcceptable afi (arranged rs)
-unfolding arranged
-acceptable-arranged afi AllAcceptable.none = AllAcceptable.none
-acceptable-arranged afi (AllAcceptable.one {r} h a) = acceptable-inserted afi r h (acceptable-arranged afi a)
+  pub acceptable-arranged : {rs : List Route} → AllAcceptable afi rs → AllAcceptable afi (arranged rs)
+  unfolding arranged
+  acceptable-arranged AllAcceptable.none = AllAcceptable.none
+  acceptable-arranged (AllAcceptable.one {r} h a) = acceptable-inserted r h (acceptable-arranged a)

@@ -1,62 +1,48 @@
--- Which route `lowestIn` is: a candidate that meets the tier's condition, with no candidate of a lower route distinguisher that does.
+-- Which route `lowestIn` is: a candidate of the tier, with no candidate of a lower route distinguisher.
 use Prim.Native.Nat.{ℕ}
-use mathlib.Core.Path.{_≡_, refl, sym, subst}
-use mathlib.Core.Bool.{Bool, true, false}
+use mathlib.Core.Path.{_≡_, refl}
+use mathlib.Core.Bool.{true, false}
 use mathlib.Core.List.{List, [], _∷_}
-use native.Mathlib.Omega.{arith}
-use Rattle.octets.specs.Choice.{both}
-use Rattle.octets.specs.Order.{same, before}
-use Rattle.octets.proofs.Choice.{opposite, pick-true, pick-false, tested, is-false}
-use Rattle.octets.proofs.Orders.{same-equal, before-itself, before-other, before-then, before-once}
+use Rattle.octets.specs.Order.{before}
 use Rattle.octets.specs.Lists.{Among, first, later}
+use Rattle.octets.proofs.Choice.{opposite, pick-case}
+use Rattle.octets.proofs.Orders.{before-itself, before-once, before-not}
+use Rattle.octets.proofs.Among.{among-none, among-each}
 use Rattle.routes.specs.Route.{Route}
-use Rattle.routes.specs.Arguments.{Query}
-use Rattle.routes.specs.Matching.{candidate, meets, distinguisherOf, Found, nothing, found, lower, lowestIn}
+use Rattle.routes.specs.Query.{Wanted}
+use Rattle.routes.specs.Matching.{eligible, distinguisherOf, Found, nothing, found, lower, lowestIn}
 
--- what holds of a route and of those behind it
-pub of-members : (P : Route → Type 0) (r : Route) (rs : List Route) → P r → ((u : Route) → Among u rs → P u) → (u : Route) → Among u (r ∷ rs) → P u
-of-members P r rs p f u (first e) = subst P (sym e) p
-of-members P r rs p f u (later m) = f u m
+module _ (afi : ℕ) (router : List ℕ) (w : Wanted) where
+  -- no route is a candidate of the tier
+  abbrev pub None : List Route → Type 0
+  None rs = (u : Route) → Among u rs → eligible afi router w u ≡ false
 
-pub no-member : {r : Route} {rs : List Route} → Among r rs → rs ≡ [] → ⊥
-no-member (first h) e = let z : _≡_ {A = ℕ} 0 1 = cc in omega arith
-no-member (later m) e = let z : _≡_ {A = ℕ} 0 1 = cc in omega arith
+  -- a route is one, and none has a lower route distinguisher
+  pub record Least (rs : List Route) (r : Route) : Type 0 where
+    pub member : Among r rs
+    pub good : eligible afi router w r ≡ true
+    pub least : (u : Route) → Among u rs → eligible afi router w u ≡ true → before (distinguisherOf afi u) (distinguisherOf afi r) ≡ false
 
--- where one does not come before a second, nor the second before a third, the first does not come before the third
-before-not : (x y z : List ℕ) → before x y ≡ false → before y z ≡ false → before x z ≡ false
-before-not x y z h k =
-    is-false (before x z) (λ b.
-    tested (same y z)
-    (λ t. opposite b (rw (← same-equal y z t) h))
-    (λ d. opposite (before-then x z y b (before-other y z d k)) h))
-
-module _ (afi : ℕ) (q : Query) (tier : ℕ) where
-  -- a candidate that meets the tier's condition
-  abbrev pub qualifies : Route → Bool
-  qualifies r = both (candidate afi q r) (meets afi q tier r)
-
+module _ (afi : ℕ) (router : List ℕ) (tier : ℕ) (w : Wanted) where
   abbrev pub Lowest : List Route → Found → Type 0
-  Lowest rs nothing = (u : Route) → Among u rs → qualifies u ≡ false
-  Lowest rs (found t r) =
-      (t ≡ tier) × Among r rs × (qualifies r ≡ true) × ((u : Route) → Among u rs → qualifies u ≡ true → before (distinguisherOf afi u) (distinguisherOf afi r) ≡ false)
+  Lowest rs nothing = None afi router w rs
+  Lowest rs (found t r) = (t ≡ tier) × Least afi router w rs r
 
-  passed-over : (r : Route) (rs : List Route) (best : Found) → qualifies r ≡ false → Lowest rs best → Lowest (r ∷ rs) best
-  passed-over r rs nothing bad l = of-members _ r rs bad l
-  passed-over r rs (found t w) bad l = (l .0, later (l .1), l .2, of-members _ r rs (λ yes. absurd (opposite yes bad)) (l .3))
+  passed-over : (r : Route) (rs : List Route) (best : Found) → eligible afi router w r ≡ false → Lowest rs best → Lowest (r ∷ rs) best
+  passed-over r rs nothing bad l = among-each _ bad l
+  passed-over r rs (found t u) bad l =
+      (l .0, record { member = later (l .1 .member); good = l .1 .good; least = among-each _ (λ yes. absurd (opposite yes bad)) (l .1 .least) })
 
-  compared : (r : Route) (rs : List Route) (best : Found) → qualifies r ≡ true → Lowest rs best → Lowest (r ∷ rs) (lower afi tier r best)
+  compared : (r : Route) (rs : List Route) (best : Found) → eligible afi router w r ≡ true → Lowest rs best → Lowest (r ∷ rs) (lower afi tier r best)
   unfolding lower
-  compared r rs nothing good l = (refl, first refl, good, of-members _ r rs (λ _. before-itself _) (λ u m h. absurd (opposite h (l u m))))
-  compared r rs (found t w) good l =
-      tested (before (distinguisherOf afi w) (distinguisherOf afi r))
-      (λ b. subst (Lowest (r ∷ rs)) (sym (pick-true _ (found t w) (found tier r) b)) (l .0, later (l .1), l .2, of-members _ r rs (λ _. before-once _ _ b) (l .3)))
-      (λ b. subst (Lowest (r ∷ rs)) (sym (pick-false _ (found t w) (found tier r) b))
-      (refl, first refl, good, of-members _ r rs (λ _. before-itself _) (λ u m h. before-not _ _ _ (l .3 u m h) b)))
+  compared r rs nothing good l =
+      (refl, record { member = first refl; good = good; least = among-each _ (λ _. before-itself _) (λ u m h. absurd (opposite h (l u m))) })
+  compared r rs (found t u) good l =
+      pick-case (Lowest (r ∷ rs)) _ _ _
+      (λ b. (l .0, record { member = later (l .1 .member); good = l .1 .good; least = among-each _ (λ _. before-once _ _ b) (l .1 .least) }))
+      (λ b. (refl, record { member = first refl; good = good; least = among-each _ (λ _. before-itself _) (λ v m h. before-not _ _ _ (l .1 .least v m h) b) }))
 
-  pub lowest-is : (rs : List Route) → Lowest rs (lowestIn afi q tier rs)
+  pub lowest-is : (rs : List Route) → Lowest rs (lowestIn afi router tier w rs)
   unfolding lowestIn
-  lowest-is [] = λ u m. absurd (no-member m refl)
-  lowest-is (r ∷ rs) =
-      tested (qualifies r)
-      (λ good. subst (Lowest (r ∷ rs)) (sym (pick-true _ _ _ good)) (compared r rs (lowestIn afi q tier rs) good (lowest-is rs)))
-      (λ bad. subst (Lowest (r ∷ rs)) (sym (pick-false _ _ _ bad)) (passed-over r rs (lowestIn afi q tier rs) bad (lowest-is rs)))
+  lowest-is [] = λ u m. absurd (among-none m)
+  lowest-is (r ∷ rs) = pick-case (Lowest (r ∷ rs)) _ _ _ (λ good. compared r rs _ good (lowest-is rs)) (λ bad. passed-over r rs (lowestIn afi router tier w rs) bad (lowest-is rs))

@@ -11,7 +11,7 @@ use Rattle.routes.specs.ArgumentRules.{SPmsi}
 use Rattle.routes.specs.Call.{Call, install, withdraw, match}
 use Rattle.routes.specs.Run.{namedIn, namedBy}
 use Rattle.routes.proofs.Statements.ArgumentRules.{nlri-accepted, nlri-accepts}
-use Rattle.routes.proofs.Definitions.Distincts.{nowhere, among-cases, among-left, among-right, among-either}
+use Rattle.octets.proofs.Among.{among-none, among-cases, among-left, among-right, among-either}
 
 module _ (afi : ℕ) (nlri : List ℕ) where
   -- an install of a well-formed S-PMSI NLRI names it, whatever its attribute
@@ -28,14 +28,14 @@ module _ (afi : ℕ) (nlri : List ℕ) where
   named-first (install named attribute) cs m = go (readSPmsi afi named) refl m
     where
       go : (o : Outcome Fields) → readSPmsi afi named ≡ o → Among nlri (onOutcome (λ number. []) (λ f. named ∷ []) o) → Named (install named attribute ∷ cs)
-      go (given f) e a = ⊎-elim (λ h. (rw h (nlri-accepted afi named f e), (attribute, first (rw h)))) (λ b. absurd (nowhere b)) (among-cases a)
-      go (refused n) e a = absurd (nowhere a)
-  named-first (withdraw named) cs m = absurd (nowhere m)
-  named-first (match router source group output) cs m = absurd (nowhere m)
+      go (given f) e a = ⊎-elim (λ h. (rw h (nlri-accepted afi named f e), (attribute, first (rw h)))) (λ b. absurd (among-none b)) (among-cases a)
+      go (refused n) e a = absurd (among-none a)
+  named-first (withdraw named) cs m = absurd (among-none m)
+  named-first (match flow output) cs m = absurd (among-none m)
 
   named-install : (calls : List Call) → Among nlri (namedBy afi calls) → Named calls
   unfolding namedBy
-  named-install [] m = absurd (nowhere m)
+  named-install [] m = absurd (among-none m)
   named-install (c ∷ cs) m =
       ⊎-elim (λ a. named-first c cs a) (λ b. let p = named-install cs b in (p .0, (p .1 .0, later (p .1 .1)))) (among-either (namedIn afi c) m)
 

@@ -1,135 +1,102 @@
 -- One pass that keeps the best route so far comes to the route that the rule says.
-use Prim.Native.Nat.{ℕ, _≤_, _<_}
-use mathlib.Core.Path.{_≡_, refl, sym, _∙_, subst}
-use mathlib.Core.Bool.{Bool, true, false}
-use mathlib.Core.List.{List, [], _∷_}
+use Prim.Native.Nat.{ℕ, suc, _≤_}
+use mathlib.Core.Path.{_≡_, refl, sym, subst}
+use mathlib.Core.Bool.{true, false}
+use mathlib.Core.List.{List, [], _∷_, _++_, append-assoc, append-nil}
 use mathlib.Core.Logic.{_⊎_, inl, inr, ⊎-elim}
-use native.Mathlib.Nat.{eq-or-lt-of-le}
 use native.Mathlib.Omega.{arith}
-use lib.Dec.{eqb}
-use borrow.Author.Tests.{eqb-true, eq-eqb, ltb-true, ltb-false}
-use Rattle.octets.specs.Choice.{pick, both}
+use borrow.Author.Tests.{eq-eqb, ne-eqb, lt-ltb, le-ltb}
 use Rattle.octets.specs.Order.{before}
-use Rattle.octets.proofs.Choice.{opposite, both-held, either-true, pick-true, pick-false, tested, is-false, either-false-left, either-false-right, both-true}
-use Rattle.octets.proofs.Orders.{before-itself, before-then}
-use Rattle.octets.specs.Lists.{Among, first, later}
+use Rattle.octets.specs.Lists.{first}
+use Rattle.octets.proofs.Choice.{opposite, pick-true, pick-false, pick-case, tested, either-left, either-second, either-false, both-left, both-true, both-right}
+use Rattle.octets.proofs.Orders.{before-itself, before-once, before-not}
+use Rattle.octets.proofs.Among.{among-none, among-left, among-right, among-each-last}
 use Rattle.routes.specs.Route.{Route, Distinct}
-use Rattle.routes.specs.Arguments.{Query}
-use Rattle.routes.specs.Matching.{candidate, meets, distinguisherOf, Found, nothing, found, lower, lowestIn, orElse, firstOf, matchIn}
-use Rattle.routes.specs.OnePass.{tierOf, ahead, against, better, scanned}
-use Rattle.routes.proofs.Definitions.Lowest.{qualifies, of-members, no-member}
-use Rattle.routes.proofs.Definitions.First.{None, First, first-is, first-unique}
+use Rattle.routes.specs.Query.{Wanted, Query}
+use Rattle.routes.specs.Matching.{eligible, distinguisherOf, Found, nothing, found, matchIn}
+use Rattle.routes.specs.OnePass.{tierFrom, ahead, against, better, scanned}
+use Rattle.routes.proofs.Definitions.Lowest.{Least}
+use Rattle.routes.proofs.Definitions.First.{First, nowhere, here, past, first-range, first-is, first-unique}
 
--- the routes passed, the last one first
-onto : (rs seen : List Route) → List Route
-onto [] seen = seen
-onto (r ∷ rs) seen = onto rs (r ∷ seen)
+better-nowhere : (afi : ℕ) (r : Route) → better afi 0 r nothing ≡ nothing
+unfolding better
+better-nowhere afi r = pick-true _ _ _ (eq-eqb 0 0 refl)
 
-into-onto : (u : Route) (rs seen : List Route) → Among u rs ⊎ Among u seen → Among u (onto rs seen)
-unfolding onto
-into-onto u [] seen (inl m) = absurd (no-member m refl)
-into-onto u [] seen (inr m) = m
-into-onto u (r ∷ rs) seen (inl m) = into-onto u rs (r ∷ seen) (of-members (λ (w : Route). Among w rs ⊎ Among w (r ∷ seen)) r rs (inr (first refl)) (λ w n. inl n) u m)
-into-onto u (r ∷ rs) seen (inr m) = into-onto u rs (r ∷ seen) (inr (later m))
+-- a route of a tier that is ahead of the best so far is the best, one that is not leaves it
+module _ (afi : ℕ) (tier : ℕ) (r : Route) (some : (tier ≡ 0 → ⊥)) where
+  better-first : better afi tier r nothing ≡ found tier r
+  unfolding better against
+  better-first = pick-false _ _ _ (ne-eqb tier 0 some)
 
-from-onto : (u : Route) (rs seen : List Route) → Among u (onto rs seen) → Among u rs ⊎ Among u seen
-unfolding onto
-from-onto u [] seen m = inr m
-from-onto u (r ∷ rs) seen m =
-    ⊎-elim (λ n. inl (later n)) (λ n. of-members (λ (w : Route). Among w (r ∷ rs) ⊎ Among w seen) r seen (inl (first refl)) (λ w k. inr k) u n) (from-onto u rs (r ∷ seen) m)
+  better-ahead : (t : ℕ) (u : Route) → ahead afi tier r t u ≡ true → better afi tier r (found t u) ≡ found tier r
+  unfolding better against
+  better-ahead t u h = rw (pick-true _ (found tier r) (found t u) h) (pick-false _ _ _ (ne-eqb tier 0 some))
 
--- a route by itself, by the tests of its tiers
-alone-by : (r : Route) (c a₁ a₂ a₃ a₄ : Bool)
-    → orElse (pick (both c a₁) (found 1 r) nothing) (orElse (pick (both c a₂) (found 2 r) nothing) (orElse (pick (both c a₃) (found 3 r) nothing) (orElse (pick (both c a₄) (found 4 r) nothing) nothing)))
-    ≡ pick (eqb (pick c (pick a₁ 1 (pick a₂ 2 (pick a₃ 3 (pick a₄ 4 0)))) 0) 0) nothing (found (pick c (pick a₁ 1 (pick a₂ 2 (pick a₃ 3 (pick a₄ 4 0)))) 0) r)
-unfolding pick both orElse
-alone-by r false a₁ a₂ a₃ a₄ = refl
-alone-by r true true a₂ a₃ a₄ = refl
-alone-by r true false true a₃ a₄ = refl
-alone-by r true false false true a₄ = refl
-alone-by r true false false false true = refl
-alone-by r true false false false false = refl
+  better-behind : (t : ℕ) (u : Route) → ahead afi tier r t u ≡ false → better afi tier r (found t u) ≡ found t u
+  unfolding better against
+  better-behind t u h = rw (pick-false _ (found tier r) (found t u) h) (pick-false _ _ _ (ne-eqb tier 0 some))
 
-module _ (afi : ℕ) (q : Query) where
-  alone : (r : Route) → matchIn afi q (r ∷ []) ≡ pick (eqb (tierOf afi q r) 0) nothing (found (tierOf afi q r) r)
-  unfolding matchIn firstOf lowestIn lower tierOf
-  alone r = alone-by r (candidate afi q r) (meets afi q 1 r) (meets afi q 2 r) (meets afi q 3 r) (meets afi q 4 r)
+module _ (afi : ℕ) (router : List ℕ) (r : Route) (seen : List Route) where
+  -- the routes seen, with this one
+  abbrev more : List Route
+  more = seen ++ (r ∷ [])
 
-  -- a route of no tier
-  tier-none : (r : Route) → eqb (tierOf afi q r) 0 ≡ true → (tier : ℕ) → 1 ≤ tier → tier < 5 → qualifies afi q tier r ≡ false
-  tier-none r e tier a b = subst (First afi q 1 5 (r ∷ [])) (alone r ∙ pick-true _ _ _ e) (first-is afi q (r ∷ [])) tier a b r (first refl)
+  -- a route's tier is not below the first of the tiers
+  tier-range : (tier : ℕ) (ws : List Wanted) → (tierFrom afi router tier ws r ≡ 0) ⊎ (tier ≤ tierFrom afi router tier ws r)
+  unfolding tierFrom
+  tier-range tier [] = inl refl
+  tier-range tier (w ∷ ws) =
+      pick-case (λ n. (n ≡ 0) ⊎ (tier ≤ n)) _ _ _ (λ t. inr (omega arith)) (λ f. ⊎-elim (λ e. inl e) (λ l. inr (omega arith)) (tier-range (suc tier) ws))
 
-  -- a route's tier is the first whose condition it meets
-  record Tiered (r : Route) (tier : ℕ) : Type 0 where
-    least : 1 ≤ tier
-    most : tier < 5
-    met : qualifies afi q tier r ≡ true
-    lowest : (other : ℕ) → 1 ≤ other → other < tier → qualifies afi q other r ≡ false
+  -- the best so far is of a lower tier, or of a higher one
+  better-kept : (n tier : ℕ) (u : Route) → (n ≡ 0) ⊎ (suc tier ≤ n) → better afi n r (found tier u) ≡ found tier u
+  unfolding better ahead
+  better-kept n tier u (inl e) = pick-true _ _ _ (eq-eqb n 0 e)
+  better-kept n tier u (inr h) =
+      let other : (n ≡ tier) → ⊥ = λ e. omega arith in
+      better-behind afi n r (λ e. omega arith) tier u (either-false _ _ (le-ltb n tier (omega arith)) (both-left _ _ (ne-eqb n tier other)))
 
-  tier-some : (r : Route) → eqb (tierOf afi q r) 0 ≡ false → Tiered r (tierOf afi q r)
-  tier-some r e =
-      let f : First afi q 1 5 (r ∷ []) (found (tierOf afi q r) r) = subst (First afi q 1 5 (r ∷ [])) (alone r ∙ pick-false _ _ _ e) (first-is afi q (r ∷ [])) in
-      record { least = f .0; most = f .1; met = f .2 .2; lowest = λ other a b. f .3 other a b r (first refl) }
+  better-lower : (tier : ℕ) (ws : List Wanted) (best : Found) → (tier ≡ 0 → ⊥) → First afi router seen (suc tier) ws best → better afi tier r best ≡ found tier r
+  unfolding ahead
+  better-lower tier ws nothing some f = better-first afi tier r some
+  better-lower tier ws (found t u) some f = let l = first-range f in better-ahead afi tier r some t u (either-left _ _ (lt-ltb tier t (omega arith)))
 
-  module _ (r : Route) (seen : List Route) where
-    -- the best so far stays
-    stays : (t : ℕ) (w : Route) → (qualifies afi q t r ≡ true → before (distinguisherOf afi r) (distinguisherOf afi w) ≡ false)
-        → ((tier : ℕ) → 1 ≤ tier → tier < t → qualifies afi q tier r ≡ false) → First afi q 1 5 seen (found t w) → First afi q 1 5 (r ∷ seen) (found t w)
-    stays t w level below f = (f .0, f .1, (refl, later (f .2 .1), f .2 .2, of-members _ r seen level (f .2 .3)), λ tier a b. of-members _ r seen (below tier a b) (f .3 tier a b))
+  module _ (w : Wanted) (u : Route) (l : Least afi router w seen u) where
+    -- the best so far stays, or the route takes its place
+    least-kept : (eligible afi router w r ≡ true → before (distinguisherOf afi r) (distinguisherOf afi u) ≡ false) → Least afi router w more u
+    least-kept h = record { member = among-left _ (l .member); good = l .good; least = among-each-last _ seen (l .least) h }
 
-    passed-over : (best : Found) → ((tier : ℕ) → 1 ≤ tier → tier < 5 → qualifies afi q tier r ≡ false) → First afi q 1 5 seen best → First afi q 1 5 (r ∷ seen) best
-    passed-over nothing h f = λ tier a b. of-members _ r seen (h tier a b) (f tier a b)
-    passed-over (found t w) h f = stays t w (λ good. absurd (opposite good (h t (f .0) (f .1)))) (λ tier a b. h tier a (omega (arith, f .1))) f
+    least-taken : eligible afi router w r ≡ true → before (distinguisherOf afi r) (distinguisherOf afi u) ≡ true → Least afi router w more r
+    least-taken good b =
+        record { member = among-right seen (first refl); good = good; least = among-each-last _ seen (λ v m h. before-not _ _ _ (l .least v m h) (before-once _ _ b)) (λ _. before-itself _) }
 
-    -- a route that is lower than any before it
-    taken : (t : ℕ) → Tiered r t → None afi q 1 t seen → ((u : Route) → Among u seen → qualifies afi q t u ≡ true → before (distinguisherOf afi u) (distinguisherOf afi r) ≡ false)
-        → First afi q 1 5 (r ∷ seen) (found t r)
-    taken t y none low = (
-      y .least,
-      y .most,
-      (refl, first refl, y .met, of-members _ r seen (λ _. before-itself _) low),
-      λ tier a b. of-members _ r seen (y .lowest tier a b) (none tier a b),
-    )
+  better-goes : {tier : ℕ} {ws : List Wanted} {best : Found} → First afi router seen tier ws best → (tier ≡ 0 → ⊥) → First afi router more tier ws (better afi (tierFrom afi router tier ws r) r best)
+  unfolding tierFrom ahead
+  better-goes nowhere some = subst (First afi router more _ []) (sym (better-nowhere afi r)) nowhere
+  better-goes (here {tier = tier} {w = w} {ws = ws} {r = u} l) some =
+      pick-case (λ n. First afi router more tier (w ∷ ws) (better afi n r (found tier u))) _ _ _
+      (λ good.
+      tested (before (distinguisherOf afi r) (distinguisherOf afi u))
+      (λ b. subst (First afi router more tier (w ∷ ws)) (sym (better-ahead afi tier r some tier u (either-second _ _ (both-true _ _ (eq-eqb tier tier refl) b)))) (here (least-taken w u l good b)))
+      (λ b. subst (First afi router more tier (w ∷ ws)) (sym (better-behind afi tier r some tier u (either-false _ _ (le-ltb tier tier (omega arith)) (both-right _ _ (eq-eqb tier tier refl) b)))) (here (least-kept w u l (λ _. b)))))
+      (λ bad. subst (First afi router more tier (w ∷ ws)) (sym (better-kept _ tier u (tier-range (suc tier) ws))) (here (least-kept w u l (λ good. absurd (opposite good bad)))))
+  better-goes (past {tier = tier} {w = w} {ws = ws} {best = best} n f) some =
+      pick-case (λ m. First afi router more tier (w ∷ ws) (better afi m r best)) _ _ _
+      (λ good. subst (First afi router more tier (w ∷ ws)) (sym (better-lower tier ws best some f))
+      (here (record { member = among-right seen (first refl); good = good; least = among-each-last _ seen (λ u m h. absurd (opposite h (n u m))) (λ _. before-itself _) })))
+      (λ bad. past (among-each-last _ seen n bad) (better-goes f (λ e. omega arith)))
 
-    against-first : (t : ℕ) (best : Found) → Tiered r t → First afi q 1 5 seen best → First afi q 1 5 (r ∷ seen) (against afi t r best)
-    unfolding against ahead
-    against-first t nothing y f = taken t y (λ tier a b. f tier a (omega (arith, y .most))) (λ u m good. absurd (opposite good (f t (y .least) (y .most) u m)))
-    against-first t (found s w) y f =
-        tested (ahead afi t r s w)
-        (λ yes′. subst (First afi q 1 5 (r ∷ seen)) (sym (pick-true _ (found t r) (found s w) yes′))
-        (⊎-elim
-        (λ less.
-        let h : t < s = ltb-true _ _ less in
-        taken t y (λ tier a b. f .3 tier a (omega arith)) (λ u m good. absurd (opposite good (f .3 t (y .least) h u m))))
-        (λ level.
-        let b = both-held _ _ level in
-        let e : t ≡ s = eqb-true _ _ (b .0) in
-        taken t y (subst (λ (n : ℕ). None afi q 1 n seen) (sym e) (f .3))
-        (λ u m good. is-false _ (λ c. opposite (before-then _ _ _ c (b .1)) (f .2 .3 u m (subst (λ (n : ℕ). qualifies afi q n u ≡ true) e good)))))
-        (either-true _ _ yes′)))
-        (λ no′. subst (First afi q 1 5 (r ∷ seen)) (sym (pick-false _ (found t r) (found s w) no′))
-        (let h : s ≤ t = ltb-false _ _ (either-false-left _ _ no′) in
-        stays s w
-        (λ good. ⊎-elim
-        (λ e. is-false _ (λ c. opposite (both-true _ _ (eq-eqb t s (sym e)) c) (either-false-right _ _ no′)))
-        (λ more. absurd (opposite good (y .lowest s (f .0) more)))
-        (eq-or-lt-of-le h))
-        (λ tier a b. y .lowest tier a (omega arith)) f))
+scanned-goes : (afi : ℕ) (q : Query) (best : Found) (seen rs : List Route) → First afi (q .router) seen 1 (q .tiers) best → First afi (q .router) (seen ++ rs) 1 (q .tiers) (scanned afi q best rs)
+unfolding scanned
+scanned-goes afi q best seen [] f = rw append-nil f
+scanned-goes afi q best seen (r ∷ rs) f =
+    rw (append-assoc seen (r ∷ []) rs) at (scanned-goes afi q _ (seen ++ (r ∷ [])) rs (better-goes afi (q .router) r seen f (λ e. omega arith)))
 
-    better-first : (best : Found) → First afi q 1 5 seen best → First afi q 1 5 (r ∷ seen) (better afi q best r)
-    unfolding better
-    better-first best f =
-        tested (eqb (tierOf afi q r) 0)
-        (λ e. subst (First afi q 1 5 (r ∷ seen)) (sym (pick-true _ _ _ e)) (passed-over best (tier-none r e) f))
-        (λ e. subst (First afi q 1 5 (r ∷ seen)) (sym (pick-false _ _ _ e)) (against-first (tierOf afi q r) best (tier-some r e) f))
-
-  scanned-first : (best : Found) (rs seen : List Route) → First afi q 1 5 seen best → First afi q 1 5 (onto rs seen) (scanned afi q best rs)
-  unfolding scanned onto
-  scanned-first best [] seen f = f
-  scanned-first best (r ∷ rs) seen f = scanned-first (better afi q best r) rs (r ∷ seen) (better-first r seen best f)
+first-none : (afi : ℕ) (router : List ℕ) (tier : ℕ) (ws : List Wanted) → First afi router [] tier ws nothing
+first-none afi router tier [] = nowhere
+first-none afi router tier (w ∷ ws) = past (λ u m. absurd (among-none m)) (first-none afi router (suc tier) ws)
 
 -- with no NLRI twice, the pass from nothing is the match
 pub one-pass : (afi : ℕ) (q : Query) (rs : List Route) → Distinct rs → scanned afi q nothing rs ≡ matchIn afi q rs
 one-pass afi q rs d =
-    sym (first-unique afi q rs (onto rs []) d (λ tier r good m. into-onto r rs [] (inl m)) (λ tier r good m. ⊎-elim (λ n. n) (λ n. absurd (no-member n refl)) (from-onto r rs [] m)) _ _
-    (first-is afi q rs) (scanned-first afi q nothing rs [] (λ tier a b u m. absurd (no-member m refl))))
+    sym (first-unique afi (q .router) d (λ w r good m. m) (λ w r good m. m) (first-is afi q rs) (scanned-goes afi q nothing [] rs (first-none afi (q .router) 1 (q .tiers))))

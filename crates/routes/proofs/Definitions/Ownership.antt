@@ -1,6 +1,6 @@
 -- What a call's arguments come to: what is known of a route, an NLRI or a query that was read, and whom the call belongs to.
 use Prim.Native.Nat.{ℕ}
-use mathlib.Core.Path.{_≡_, refl, sym, ap, _∙_}
+use mathlib.Core.Path.{_≡_, refl, sym, ap}
 use mathlib.Core.Bool.{true, false}
 use mathlib.Core.List.{List, []}
 use native.Mathlib.Omega.{arith}
@@ -8,14 +8,17 @@ use lib.ListN.{length}
 use Rattle.octets.specs.Outcome.{given, onOutcome}
 use Rattle.octets.specs.Order.{before}
 use Rattle.octets.proofs.Choice.{pick-true, opposite}
-use Rattle.octets.proofs.Outcome.{given-same, given-unless, given-otherwise, passed}
 use Rattle.octets.proofs.Orders.{same-equal, same-of-equal, before-none}
 use Rattle.nlri.specs.Family.{isOriginatorSize}
 use Rattle.nlri.specs.Fields.{Fields}
 use Rattle.routes.specs.Route.{Route, route, nlriOf, attributeOf}
-use Rattle.routes.specs.Arguments.{Query, readSPmsi, readRoute, readFlow, readMatch}
+use Rattle.routes.specs.Query.{Query, Flow}
+use Rattle.routes.specs.Arguments.{readSPmsi, readRoute, readMatch}
 use Rattle.routes.specs.Place.{acceptable}
 use Rattle.routes.specs.Call.{match, Owner, nobody, owner, originatorOf, ownerOf, ownedBy}
+use Rattle.nlri.proofs.Theorems.{lengths}
+use Rattle.routes.proofs.Definitions.Flows.{asked-router, flow-asked}
+use Rattle.routes.proofs.Statements.ArgumentRules.{flow-passed}
 use Rattle.routes.proofs.Definitions.Bounds.{accepted, route-read, read-acceptable, nlri-size}
 
 -- an accepted install
@@ -56,17 +59,9 @@ pub owners-same : {x y : List ℕ} {o : Owner} → o ≡ owner x → o ≡ owner
 owners-same p q = cc
 
 -- a query that was read asks of the router given, whose address has 4 or 16 octets
-pub query-router : (afi : ℕ) (router source group output : List ℕ) (q : Query) → readMatch afi router source group output ≡ given q → (q .router ≡ router) × (isOriginatorSize (length router) ≡ true)
-unfolding readMatch readFlow
-query-router afi router source group output q e =
-    let p = passed _ _ _ e in
-    let f = passed _ _ _ (p .first) in
-    let size = given-unless _ _ _ _ (f .second) in
-    let s = given-unless _ _ _ _ (size .1) in
-    let c = passed _ _ _ (s .1) in
-    let g = given-otherwise _ _ _ _ (p .second) in
-    (ap (λ (x : Query). x .router) (sym (given-same (g .1)) ∙ sym (given-same (c .second))), size .0)
+pub query-router : (afi : ℕ) (flow : Flow) (output : List ℕ) (q : Query) → readMatch afi flow output ≡ given q → (q .router ≡ flow .router) × (isOriginatorSize (length (flow .router)) ≡ true)
+query-router afi flow output q e = let a = flow-asked afi flow q (flow-passed afi flow output q e .0) in (asked-router a, lengths .originators (length (flow .router)) .1 (a .good .addressed))
 
-pub match-owner : (afi : ℕ) (router source group output : List ℕ) → isOriginatorSize (length router) ≡ true → ownerOf afi (match router source group output) ≡ owner router
+pub match-owner : (afi : ℕ) (flow : Flow) (output : List ℕ) → isOriginatorSize (length (flow .router)) ≡ true → ownerOf afi (match flow output) ≡ owner (flow .router)
 unfolding ownerOf
-match-owner afi router source group output h = pick-true _ _ _ h
+match-owner afi flow output h = pick-true _ _ _ h

@@ -13,7 +13,8 @@ use Rattle.nlri.specs.Fields.{Fields}
 use Rattle.nlri.specs.Reading.{readNlri}
 use Rattle.tunnel.specs.Attribute.{AttributeFields, labelOf}
 use Rattle.routes.specs.Route.{route}
-use Rattle.routes.specs.Arguments.{Query, readSPmsi, readLabelled, readRoute, readFlow, readMatch}
+use Rattle.routes.specs.Query.{Query, Flow}
+use Rattle.routes.specs.Arguments.{readSPmsi, readLabelled, readRoute, readFlow, readMatch}
 use Rattle.routes.specs.ArgumentRules.{KnownFamily, SPmsi, Labelled, GoodFlow, NlriRefusal, unreadNlri, otherKind, RouteRefusal, badNlri, unreadAttribute, noLabel, FlowRefusal, badFlow, noSpace, ArgumentRule}
 use Rattle.routes.proofs.Definitions.Flows.{flow-asked, flow-given, flow-refused}
 
@@ -101,46 +102,46 @@ module _ (afi : ℕ) (nlri attribute : List ℕ) where
   unfolding readRoute
   route-passes a = sym (goes _ _ _ _ (nlri-accepts afi nlri (a .0)) (goes _ _ _ _ (takes-labelled attribute (a .1)) refl))
 
-module _ (afi : ℕ) (router source group output : List ℕ) where
-  flow-refusal : (n : ℕ) → KnownFamily afi → readMatch afi router source group output ≡ refused n → FlowRefusal afi router source group output n
+module _ (afi : ℕ) (flow : Flow) (output : List ℕ) where
+  flow-refusal : (n : ℕ) → KnownFamily afi → readMatch afi flow output ≡ refused n → FlowRefusal afi flow output n
   unfolding readMatch
   flow-refusal n bits e =
       ⊎-elim
       (λ first.
-      subst (FlowRefusal afi router source group output) (sym (flow-refused afi router source group n bits first))
-      (badFlow (λ good. never (flow-given afi router source group good .1) first)))
+      subst (FlowRefusal afi flow output) (sym (flow-refused afi flow n bits first))
+      (badFlow (λ good. never (flow-given afi flow good .1) first)))
       (λ later.
       let p = refuses-where SPACE n _ _ (later .second) in
-      subst (FlowRefusal afi router source group output) (sym (p .1)) (noSpace (flow-asked afi router source group (later .value) (later .first) .good) (ltb-true _ _ (p .0))))
+      subst (FlowRefusal afi flow output) (sym (p .1)) (noSpace (flow-asked afi flow (later .value) (later .first) .good) (ltb-true _ _ (p .0))))
       (stopped _ _ _ e)
 
-  bad-flow : KnownFamily afi → (GoodFlow afi router source group → ⊥) → readFlow afi router source group ≡ refused FLOW
+  bad-flow : KnownFamily afi → (GoodFlow afi flow → ⊥) → readFlow afi flow ≡ refused FLOW
   bad-flow bits bad =
-      ⊎-elim (λ p. absurd (bad (flow-asked afi router source group (p .0) (p .1) .good)))
-      (λ p. p .1 ∙ ap refused (flow-refused afi router source group (p .0) bits (p .1)))
-      (outcome (readFlow afi router source group))
+      ⊎-elim (λ p. absurd (bad (flow-asked afi flow (p .0) (p .1) .good)))
+      (λ p. p .1 ∙ ap refused (flow-refused afi flow (p .0) bits (p .1)))
+      (outcome (readFlow afi flow))
 
-  flow-refuses : {n : ℕ} → KnownFamily afi → FlowRefusal afi router source group output n → readMatch afi router source group output ≡ refused n
+  flow-refuses : {n : ℕ} → KnownFamily afi → FlowRefusal afi flow output n → readMatch afi flow output ≡ refused n
   unfolding readMatch
   flow-refuses bits (badFlow bad) = sym (stops _ _ _ (bad-flow bits bad))
-  flow-refuses bits (noSpace good less) = sym (goes _ _ _ _ (flow-given afi router source group good .1) (sym (pick-true _ _ _ (lt-ltb (length output) 124 less))))
+  flow-refuses bits (noSpace good less) = sym (goes _ _ _ _ (flow-given afi flow good .1) (sym (pick-true _ _ _ (lt-ltb (length output) 124 less))))
 
-  pub flow-passed : (q : Query) → readMatch afi router source group output ≡ given q → (readFlow afi router source group ≡ given q) × (124 ≤ length output)
+  pub flow-passed : (q : Query) → readMatch afi flow output ≡ given q → (readFlow afi flow ≡ given q) × (124 ≤ length output)
   unfolding readMatch
   flow-passed q e =
       let p = passed _ _ _ e in
       let g = given-otherwise _ _ _ _ (p .second) in
       (p .first ∙ g .1, ltb-false _ _ (g .0))
 
-  pub flow-passes : (q : Query) → readFlow afi router source group ≡ given q → 124 ≤ length output → readMatch afi router source group output ≡ given q
+  pub flow-passes : (q : Query) → readFlow afi flow ≡ given q → 124 ≤ length output → readMatch afi flow output ≡ given q
   unfolding readMatch
   flow-passes q e enough = sym (goes _ _ _ _ e (sym (pick-false _ _ _ (le-ltb (length output) 124 enough))))
 
-  flow-accepted : (q : Query) → readMatch afi router source group output ≡ given q → GoodFlow afi router source group × (124 ≤ length output)
-  flow-accepted q e = let p = flow-passed q e in (flow-asked afi router source group q (p .0) .good, p .1)
+  flow-accepted : (q : Query) → readMatch afi flow output ≡ given q → GoodFlow afi flow × (124 ≤ length output)
+  flow-accepted q e = let p = flow-passed q e in (flow-asked afi flow q (p .0) .good, p .1)
 
-  flow-taken : GoodFlow afi router source group × (124 ≤ length output) → (q : Query) × (readMatch afi router source group output ≡ given q)
-  flow-taken h = let f = flow-given afi router source group (h .0) in (f .0, flow-passes (f .0) (f .1) (h .1))
+  flow-taken : GoodFlow afi flow × (124 ≤ length output) → (q : Query) × (readMatch afi flow output ≡ given q)
+  flow-taken h = let f = flow-given afi flow (h .0) in (f .0, flow-passes (f .0) (f .1) (h .1))
 
 pub argumentRule : ArgumentRule
 argumentRule =
@@ -149,6 +150,6 @@ argumentRule =
       acceptedNlri = λ afi nlri f. (nlri-passed afi nlri f, nlri-passes afi nlri f);
       refusedRoute = λ afi nlri attribute n. (route-refused afi nlri attribute n, route-refuses afi nlri attribute);
       acceptedRoute = λ afi nlri attribute. (route-passed afi nlri attribute, route-passes afi nlri attribute);
-      refusedFlow = λ afi router source group output n bits. (flow-refusal afi router source group output n bits, flow-refuses afi router source group output bits);
-      acceptedFlow = λ afi router source group output. (λ p. flow-accepted afi router source group output (p .0) (p .1), flow-taken afi router source group output);
+      refusedFlow = λ afi flow output n bits. (flow-refusal afi flow output n bits, flow-refuses afi flow output bits);
+      acceptedFlow = λ afi flow output. (λ p. flow-accepted afi flow output (p .0) (p .1), flow-taken afi flow output);
     }

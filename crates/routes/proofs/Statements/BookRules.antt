@@ -10,18 +10,18 @@ use Rattle.octets.specs.Lists.{Among, chosen}
 use Rattle.octets.proofs.Choice.{opposite, tested, picked, is-false}
 use Rattle.nlri.specs.Fields.{Fields}
 use Rattle.nlri.proofs.Theorems.{lengths}
-use Rattle.routes.specs.Route.{Route, nlriOf, attributeOf, held, lookup, arranged}
+use Rattle.routes.specs.Route.{Route, nlriOf, held, lookup, arranged}
 use Rattle.routes.specs.Arguments.{readSPmsi}
 use Rattle.routes.specs.ArgumentRules.{KnownFamily, SPmsiOf}
 use Rattle.routes.specs.Call.{Call, install, withdraw, match, Owner, nobody, owner, originatorOf, ownerOf, ownedBy, owns, Act, argued, refusalOf}
 use Rattle.routes.specs.Book.{bookAfter, fed, ownCalls, bookOf, allBooks, dueAnswer}
 use Rattle.routes.specs.Run.{imageOfBooks, namedBy, Fits}
 use Rattle.routes.specs.BookRules.{BelongsTo, ownInstall, ownWithdrawal, ownMatch, Nobodys, OwnerRule, PremiseRule, RefusedCall, BookStep, BookRule, ImageRule}
-use Rattle.routes.proofs.Definitions.Lookups.{route-again, held-absent, lookup-arranged, lookup-member, lookup-of-member, distinct-increasing}
+use Rattle.routes.proofs.Definitions.Lookups.{held-absent, lookup-arranged, lookup-member, lookup-of-member, distinct-increasing}
 use Rattle.routes.proofs.Statements.ArgumentRules.{argumentRule, nlri-accepts}
 use Rattle.routes.proofs.Statements.Images.{images}
-use Rattle.routes.proofs.Definitions.Distincts.{once-each-among, among-once-each, once-once-each}
-use Rattle.routes.proofs.Definitions.Chosen.{chosen-first, chosen-later}
+use Rattle.routes.proofs.Definitions.OnceEach.{once-each-among, among-once-each, once-once-each}
+use Rattle.octets.proofs.Chosen.{chosen-first, chosen-later}
 use Rattle.routes.proofs.Definitions.Ownership.{owner-read, owner-nobody, owners-same, owned-by, owned-itself, match-owner}
 use Rattle.routes.proofs.Definitions.Acts.{owned}
 use Rattle.routes.proofs.Definitions.Named.{named-exactly}
@@ -49,9 +49,9 @@ pub belongs : (afi : ℕ) (router : List ℕ) (c : Call) → ownerOf afi c ≡ o
 unfolding ownerOf
 belongs afi router (install nlri attribute) h = ownInstall (originated afi router nlri h)
 belongs afi router (withdraw nlri) h = ownWithdrawal (originated afi router nlri h)
-belongs afi router (match address source group output) h =
+belongs afi router (match flow output) h =
     ⊎-elim
-    (λ p. subst (λ (x : List ℕ). BelongsTo afi x (match address source group output)) (owners-same refl (p .1)) (ownMatch (lengths .originators (length address) .0 (p .0))))
+    (λ p. let is : flow .router ≡ router = owners-same refl (p .1) in ownMatch is (rw is at (lengths .originators (length (flow .router)) .0 (p .0))))
     (λ p. absurd (owner-nobody refl (p .1)))
     (picked _ _ _ _ h)
 
@@ -59,7 +59,7 @@ belonging : {afi : ℕ} {router : List ℕ} {c : Call} → BelongsTo afi router 
 unfolding ownerOf
 belonging {afi} {router} (ownInstall {nlri} s) = originator afi router nlri s
 belonging {afi} {router} (ownWithdrawal {nlri} s) = originator afi router nlri s
-belonging {afi} {router} (ownMatch {source} {group} {output} size) = match-owner afi router source group output (lengths .originators (length router) .1 size)
+belonging {afi} {router} (ownMatch {flow} {output} is size) = match-owner afi flow output (rw is (lengths .originators (length router) .1 size)) ∙ ap owner is
 
 nobodys-owner : (afi : ℕ) (c : Call) → Nobodys afi c → ownerOf afi c ≡ nobody
 nobodys-owner afi c h = go (ownerOf afi c) refl
@@ -143,22 +143,20 @@ module _ (afi : ℕ) (calls : List Call) where
   gathered-from : (r : Route) → Among r (arranged (allBooks afi calls)) → (router : List ℕ) × Among r (bookOf afi router calls)
   gathered-from r m = go (originatorOf afi (nlriOf r)) refl
     where
-      all : lookup (nlriOf r) (allBooks afi calls) ≡ held (attributeOf r)
+      all : lookup (nlriOf r) (allBooks afi calls) ≡ held r
       all = sym (lookup-arranged (nlriOf r) (allBooks afi calls)) ∙ lookup-of-member (distinct-increasing (increasing-books afi calls)) m
 
       go : (o : Owner) → originatorOf afi (nlriOf r) ≡ o → (router : List ℕ) × Among r (bookOf afi router calls)
       go nobody e = absurd (held-absent all (lookup-nobody afi (nlriOf r) calls e))
-      go (owner router) e =
-          (router, subst (λ (x : Route). Among x (bookOf afi router calls)) (route-again r) (lookup-member (nlriOf r) (attributeOf r) (bookOf afi router calls) (sym (lookup-all afi router (nlriOf r) calls e) ∙ all)))
+      go (owner router) e = (router, lookup-member (bookOf afi router calls) (sym (lookup-all afi router (nlriOf r) calls e) ∙ all) .0)
 
   gathered-in : (r : Route) (router : List ℕ) → Among r (bookOf afi router calls) → Among r (arranged (allBooks afi calls))
   gathered-in r router m =
-      let book : lookup (nlriOf r) (bookOf afi router calls) ≡ held (attributeOf r) = lookup-of-member (distinct-book afi router calls) m in
+      let book : lookup (nlriOf r) (bookOf afi router calls) ≡ held r = lookup-of-member (distinct-book afi router calls) m in
       tested (ownedBy router (originatorOf afi (nlriOf r)))
       (λ t.
       let own = owned-by router (originatorOf afi (nlriOf r)) t in
-      subst (λ (x : Route). Among x (arranged (allBooks afi calls))) (route-again r)
-      (lookup-member (nlriOf r) (attributeOf r) (arranged (allBooks afi calls)) (lookup-arranged (nlriOf r) (allBooks afi calls) ∙ lookup-all afi router (nlriOf r) calls own ∙ book)))
+      lookup-member (arranged (allBooks afi calls)) (lookup-arranged (nlriOf r) (allBooks afi calls) ∙ lookup-all afi router (nlriOf r) calls own ∙ book) .0)
       (λ f. absurd (held-absent book (lookup-foreign afi router (nlriOf r) calls (λ e. opposite (owned-itself router _ e) f))))
 
   pub image-rule : (places : ℕ) → KnownFamily afi → places ≤ 500 → Fits afi places calls → ImageRule afi places calls

@@ -4,38 +4,30 @@ use mathlib.Core.Path.{_≡_, refl, sym, ap, _∙_}
 use mathlib.Core.List.{List}
 use mathlib.Core.Logic.{⊎-elim}
 use Rattle.octets.specs.Numbers.{DONE, ABSENT}
-use Rattle.octets.specs.Outcome.{Outcome, given, refused, onOutcome, andThen, numberOf}
+use Rattle.octets.specs.Outcome.{Outcome, given, refused, onOutcome, andThen}
 use Rattle.octets.proofs.Choice.{pick-true, pick-false, tested}
 use Rattle.octets.proofs.Outcome.{never, outcome, stopped, goes, stops}
-use Rattle.octets.proofs.Orders.{unequal-other}
-use Rattle.routes.specs.Route.{Route, route, nlriOf, attributeOf, absent, held, holds, removed, Distinct}
-use Rattle.routes.specs.Arguments.{Query, readSPmsi, readRoute, readMatch}
+use Rattle.routes.specs.Route.{Route, route, nlriOf, held, holds, Distinct}
+use Rattle.routes.specs.Query.{Query, Flow}
+use Rattle.routes.specs.Arguments.{readSPmsi, readRoute, readMatch}
 use Rattle.routes.specs.Place.{AllAcceptable}
-use Rattle.routes.specs.Answers.{NEW, REPLACED, installedOf, refusedMatch, matchedBy}
+use Rattle.routes.specs.Answers.{NEW, REPLACED, installedOf, matchedBy}
 use Rattle.routes.specs.Call.{Call, install, withdraw, match, Act, enter, leave, ask, argued, refusalAnswer}
 use Rattle.routes.specs.Book.{entered, actAnswer, actAfter, bookAnswer, bookAfter}
 use Rattle.routes.specs.ArgumentRules.{KnownFamily, SPmsi, Labelled}
 use Rattle.routes.specs.CallRules.{HeldNow}
 use Rattle.routes.specs.BookRules.{RefusedCall, refusedInstall, refusedWithdrawal, refusedFlow, BookStep, refusal, replacedRoute, newRoute, takenOut, notInBook, matchedFlow}
-use Rattle.routes.proofs.Definitions.Lookups.{lookup-own, lookup-later, lookup-entered, lookup-removed-same, lookup-removed-other, held-holds, absent-holds, removed-absent}
+use Rattle.routes.proofs.Definitions.Lookups.{lookup-entered, held-now, removed-now, held-holds, absent-holds, removed-absent}
 use Rattle.routes.proofs.Definitions.Bounds.{route-read}
 use Rattle.routes.proofs.Definitions.Flows.{flow-asked}
 use Rattle.routes.proofs.Statements.ArgumentRules.{argumentRule, nlri-accepted, flow-passed}
 use Rattle.routes.proofs.Definitions.ByArguments.{number-argued}
-use Rattle.routes.proofs.Statements.MatchRule.{match-answer}
+use Rattle.routes.proofs.Statements.MatchRule.{flow-answer}
 
--- an install's NLRI has its attribute, a withdrawn NLRI nothing
-
-held-entered : (nlri attribute : List ℕ) (book : List Route) → HeldNow nlri (held attribute) book (entered (route nlri attribute) book)
-unfolding nlriOf attributeOf
-held-entered nlri attribute book =
-    record {
-      own = lookup-entered nlri (route nlri attribute) book ∙ lookup-own (route nlri attribute) book;
-      others = λ other d. lookup-entered other (route nlri attribute) book ∙ lookup-later other (route nlri attribute) book (unequal-other other nlri d);
-    }
-
-held-removed : (nlri : List ℕ) {book : List Route} → Distinct book → HeldNow nlri absent book (removed nlri book)
-held-removed nlri {book} d = record { own = lookup-removed-same nlri d; others = λ other n. lookup-removed-other other nlri book (unequal-other other nlri n) }
+-- an install's NLRI has its attribute
+held-entered : (nlri attribute : List ℕ) (book : List Route) → HeldNow nlri (held (route nlri attribute)) book (entered (route nlri attribute) book)
+unfolding nlriOf
+held-entered nlri attribute book = held-now (route nlri attribute) book _ (λ n. lookup-entered n (route nlri attribute) book)
 
 -- arguments that only the first step refuses
 first-refuses : {A B : Type 0} (o : Outcome A) (good : A → B) (n : ℕ) → andThen o (λ x. given (good x)) ≡ refused n → o ≡ refused n
@@ -44,12 +36,12 @@ first-refuses o good n e = ⊎-elim (λ first. first) (λ later. absurd (never r
 module _ (afi : ℕ) (bits : KnownFamily afi) where
   -- what a call that its arguments refuse answers
   pub refused-call : (c : Call) (n : ℕ) → argued afi c ≡ refused n → RefusedCall afi c (refusalAnswer c n)
-  unfolding argued refusalAnswer installedOf matchedBy refusedMatch numberOf onOutcome
+  unfolding argued refusalAnswer installedOf matchedBy onOutcome
   refused-call (install nlri attribute) n e =
       refusedInstall (number-argued afi (install nlri attribute) n e .0) (argumentRule .refusedRoute afi nlri attribute n .0 (first-refuses _ _ n e))
   refused-call (withdraw nlri) n e = refusedWithdrawal (number-argued afi (withdraw nlri) n e .0) (argumentRule .refusedNlri afi nlri n .0 (first-refuses _ _ n e))
-  refused-call (match router source group output) n e =
-      refusedFlow (argumentRule .refusedFlow afi router source group output n bits .0 (first-refuses _ _ n e)) (record { tierless = refl; sizes = (refl, refl); untouched = refl })
+  refused-call (match flow output) n e =
+      refusedFlow (argumentRule .refusedFlow afi flow output n bits .0 (first-refuses _ _ n e)) (record { tierless = refl; sizes = (refl, refl); untouched = refl })
 
   module _ {book : List Route} (d : Distinct book) (a : AllAcceptable afi book) where
     by-refusal : (c : Call) (n : ℕ) → argued afi c ≡ refused n → BookStep afi book c (bookAnswer afi book c) (bookAfter afi book c)
@@ -72,15 +64,15 @@ module _ (afi : ℕ) (bits : KnownFamily afi) where
     unfolding actAnswer actAfter
     leave-step nlri s =
         tested (holds nlri book)
-        (λ y. rw (pick-true _ DONE ABSENT y) (takenOut s (held-holds nlri book y) (held-removed nlri d)))
+        (λ y. rw (pick-true _ DONE ABSENT y) (takenOut s (held-holds nlri book y) (removed-now nlri d)))
         (λ n. let missing = absent-holds nlri book n in rw (pick-false _ DONE ABSENT n, removed-absent nlri book missing) (notInBook s missing))
 
-    ask-step : (router source group output : List ℕ) (q : Query) → readMatch afi router source group output ≡ given q
-        → BookStep afi book (match router source group output) (actAnswer afi book (ask q output)) (actAfter book (ask q output))
+    ask-step : (flow : Flow) (output : List ℕ) (q : Query) → readMatch afi flow output ≡ given q
+        → BookStep afi book (match flow output) (actAnswer afi book (ask q output)) (actAfter book (ask q output))
     unfolding actAnswer actAfter
-    ask-step router source group output q e =
-        let p = flow-passed afi router source group output q e in
-        matchedFlow (flow-asked afi router source group q (p .0) .good) (p .1) (match-answer afi router source group output q (p .0) (p .1) book d a)
+    ask-step flow output q e =
+        let p = flow-passed afi flow output q e in
+        matchedFlow (flow-asked afi flow q (p .0) .good) (p .1) (flow-answer afi flow q (p .0) output (p .1) book d a)
 
     pub book-step : (c : Call) → BookStep afi book c (bookAnswer afi book c) (bookAfter afi book c)
     unfolding argued
@@ -97,8 +89,8 @@ module _ (afi : ℕ) (bits : KnownFamily afi) where
         (λ p. by-act (withdraw nlri) (leave nlri) (sym (goes _ _ _ _ (p .1) refl)) (leave-step nlri (nlri-accepted afi nlri (p .0) (p .1))))
         (λ p. by-refusal (withdraw nlri) (p .0) (sym (stops _ _ _ (p .1))))
         (outcome (readSPmsi afi nlri))
-    book-step (match router source group output) =
+    book-step (match flow output) =
         ⊎-elim
-        (λ p. by-act (match router source group output) (ask (p .0) output) (sym (goes _ _ _ _ (p .1) refl)) (ask-step router source group output (p .0) (p .1)))
-        (λ p. by-refusal (match router source group output) (p .0) (sym (stops _ _ _ (p .1))))
-        (outcome (readMatch afi router source group output))
+        (λ p. by-act (match flow output) (ask (p .0) output) (sym (goes _ _ _ _ (p .1) refl)) (ask-step flow output (p .0) (p .1)))
+        (λ p. by-refusal (match flow output) (p .0) (sym (stops _ _ _ (p .1))))
+        (outcome (readMatch afi flow output))

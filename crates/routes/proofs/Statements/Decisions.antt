@@ -12,7 +12,7 @@ use Rattle.octets.specs.Choice.{pick, both}
 use Rattle.octets.specs.Order.{same}
 use Rattle.octets.proofs.Choice.{opposite, both-true-left, both-true-right, pick-true, pick-false, tested, is-false, both-true}
 use Rattle.octets.proofs.Orders.{same-equal, same-itself}
-use Rattle.routes.specs.Route.{Held, absent, held}
+use Rattle.routes.specs.Route.{route, Held, absent, held}
 use Rattle.routes.specs.Calls.{installOf, withdrawOf}
 use Rattle.routes.specs.Call.{Call, install, withdraw, match}
 use Rattle.routes.specs.Run.{stepOf, endOf}
@@ -23,13 +23,13 @@ use Rattle.routes.proofs.Definitions.Lookups.{held-absent}
 unfoldable pub decides : (nlri t : List ℕ) → Call → Bool
 decides nlri t (install other attribute) = both (same nlri other) (eqb (installOf t other attribute .answer .number) DONE)
 decides nlri t (withdraw other) = both (same nlri other) (eqb (withdrawOf t other .answer) DONE)
-decides nlri t (match router source group output) = false
+decides nlri t (match flow output) = false
 
--- what it leaves of its NLRI: an install its attribute, a withdrawal nothing
+-- what it leaves of its NLRI: an install its route, a withdrawal nothing
 unfoldable pub leftBy : Call → Held
-leftBy (install nlri attribute) = held attribute
+leftBy (install nlri attribute) = held (route nlri attribute)
 leftBy (withdraw nlri) = absent
-leftBy (match router source group output) = absent
+leftBy (match flow output) = absent
 
 -- what calls on a table leave of an NLRI of which this was held
 unfoldable pub lastFrom : (nlri : List ℕ) → Held → (t : List ℕ) → List Call → Held
@@ -44,7 +44,7 @@ decides-true nlri t (install other attribute) d =
 decides-true nlri t (withdraw other) d =
     let e : nlri ≡ other = same-equal nlri other (both-true-left _ _ d) in
     subst (λ (x : List ℕ). Decides x t (withdraw other)) (sym e) (byWithdrawal (eqb-true _ _ (both-true-right _ _ d)))
-decides-true nlri t (match router source group output) d = absurd (opposite {b = false} d refl)
+decides-true nlri t (match flow output) d = absurd (opposite {b = false} d refl)
 
 true-decides : {nlri t : List ℕ} {c : Call} → Decides nlri t c → decides nlri t c ≡ true
 unfolding decides
@@ -61,7 +61,7 @@ record Sets (nlri attribute t : List ℕ) (c : Call) : Type 0 where
   is : c ≡ install nlri attribute
   done : installOf t nlri attribute .answer .number ≡ DONE
 
-sets : {nlri t : List ℕ} (attribute : List ℕ) {c : Call} → Decides nlri t c → leftBy c ≡ held attribute → Sets nlri attribute t c
+sets : {nlri t : List ℕ} (attribute : List ℕ) {c : Call} → Decides nlri t c → leftBy c ≡ held (route nlri attribute) → Sets nlri attribute t c
 unfolding leftBy
 sets {nlri} {t} attribute (byInstall {attribute = a} e) l =
     let x : a ≡ attribute = cc in
@@ -71,7 +71,7 @@ sets attribute (byWithdrawal e) l = let z : _≡_ {A = ℕ} 0 1 = cc in absurd (
 module _ (nlri attribute : List ℕ) where
   -- what is held at the end was set by the last accepted install, or was there at first and no call decided it
   abbrev From : (t : List ℕ) → Held → List Call → Type 0
-  From t h calls = LastInstall nlri attribute t calls ⊎ ((h ≡ held attribute) × Undecided nlri t calls)
+  From t h calls = LastInstall nlri attribute t calls ⊎ ((h ≡ held (route nlri attribute)) × Undecided nlri t calls)
 
   undecided-first : (t : List ℕ) (c : Call) (cs : List Call) → Undecided nlri t (c ∷ cs) → decides nlri t c ≡ false
   unfolding endOf
@@ -108,7 +108,7 @@ module _ (nlri attribute : List ℕ) where
         last = subst (λ (x : Call). Undecided nlri (stepOf t x .octets) cs) (s .is) u;
       }
 
-  came-from : (calls : List Call) (t : List ℕ) (h : Held) → lastFrom nlri h t calls ≡ held attribute → From t h calls
+  came-from : (calls : List Call) (t : List ℕ) (h : Held) → lastFrom nlri h t calls ≡ held (route nlri attribute) → From t h calls
   unfolding lastFrom
   came-from [] t h e = inr (e, none-undecided t)
   came-from (c ∷ cs) t h e =
@@ -119,22 +119,22 @@ module _ (nlri attribute : List ℕ) where
       (λ d. inr (sym (pick-false _ _ _ d) ∙ first .0, undecided-more t c cs d (first .1))))
       (came-from cs (stepOf t c .octets) (pick (decides nlri t c) (leftBy c) h) e)
 
-  stays : (calls : List Call) (t : List ℕ) (h : Held) → h ≡ held attribute → Undecided nlri t calls → lastFrom nlri h t calls ≡ held attribute
+  stays : (calls : List Call) (t : List ℕ) (h : Held) → h ≡ held (route nlri attribute) → Undecided nlri t calls → lastFrom nlri h t calls ≡ held (route nlri attribute)
   unfolding lastFrom
   stays [] t h e u = e
   stays (c ∷ cs) t h e u =
       stays cs (stepOf t c .octets) (pick (decides nlri t c) (leftBy c) h) (pick-false _ (leftBy c) h (undecided-first t c cs u) ∙ e) (undecided-rest t c cs u)
 
   set-last : (earlier : List Call) (t : List ℕ) (h : Held) (later : List Call) → installOf (endOf t earlier) nlri attribute .answer .number ≡ DONE
-      → Undecided nlri (endOf t (earlier ++ (install nlri attribute ∷ []))) later → lastFrom nlri h t (earlier ++ (install nlri attribute ∷ later)) ≡ held attribute
+      → Undecided nlri (endOf t (earlier ++ (install nlri attribute ∷ []))) later → lastFrom nlri h t (earlier ++ (install nlri attribute ∷ later)) ≡ held (route nlri attribute)
   unfolding lastFrom endOf leftBy
   set-last [] t h later done u =
-      stays later (stepOf t (install nlri attribute) .octets) _ (pick-true _ (held attribute) h (true-decides {c = install nlri attribute} (byInstall done))) u
+      stays later (stepOf t (install nlri attribute) .octets) _ (pick-true _ (held (route nlri attribute)) h (true-decides {c = install nlri attribute} (byInstall done))) u
   set-last (c ∷ earlier) t h later done u = set-last earlier (stepOf t c .octets) _ later done u
 
   -- among calls where nothing was held at first
-  pub last-exactly : (t : List ℕ) (calls : List Call) → (lastFrom nlri absent t calls ≡ held attribute) ↔ LastInstall nlri attribute t calls
+  pub last-exactly : (t : List ℕ) (calls : List Call) → (lastFrom nlri absent t calls ≡ held (route nlri attribute)) ↔ LastInstall nlri attribute t calls
   last-exactly t calls = (
     λ e. ⊎-elim (λ l. l) (λ first. absurd (held-absent (first .0) refl)) (came-from calls t absent e),
-    λ l. subst (λ (x : List Call). lastFrom nlri absent t x ≡ held attribute) (sym (l .among)) (set-last (l .earlier) t absent (l .later) (l .done) (l .last)),
+    λ l. subst (λ (x : List Call). lastFrom nlri absent t x ≡ held (route nlri attribute)) (sym (l .among)) (set-last (l .earlier) t absent (l .later) (l .done) (l .last)),
   )

@@ -13,7 +13,8 @@ use Rattle.octets.specs.Outcome.{Outcome, given, refused, onOutcome, andThen, n
 use Rattle.octets.proofs.Choice.{pick-true, tested}
 use Rattle.nlri.specs.Fields.{Fields}
 use Rattle.routes.specs.Route.{Route, nlriOf, lookup, holds, inserted, removed, arranged, Increasing}
-use Rattle.routes.specs.Arguments.{Query, readSPmsi, readRoute, readMatch}
+use Rattle.routes.specs.Query.{Query, Flow}
+use Rattle.routes.specs.Arguments.{readSPmsi, readRoute, readMatch}
 use Rattle.routes.specs.Table.{imageOf}
 use Rattle.routes.specs.Place.{acceptable}
 use Rattle.routes.specs.ArgumentRules.{KnownFamily}
@@ -24,13 +25,13 @@ use Rattle.routes.specs.Calls.{entering, installOutcome, installOf, leav
 use Rattle.routes.specs.Call.{Call, install, withdraw, match, Answer, installed, withdrawn, matched, Owner, nobody, owner, originatorOf, ownerOf, Act, enter, leave, ask, argued, refusalOf, refusalAnswer}
 use Rattle.routes.specs.Book.{bookOf, actAnswer, bookAnswer, allBooks, dueBy, dueAnswer}
 use Rattle.routes.specs.Run.{Step, stepOf, imageOfBooks, dueStep, Fits}
-use Rattle.routes.proofs.Definitions.Lookups.{lookup-inserted, lookup-arranged, holds-alike, increasing-equal, increasing-inserted, increasing-removed, distinct-increasing, length-inserted-new, absent-holds, removed-absent}
+use Rattle.routes.proofs.Definitions.Lookups.{lookup-inserted, lookup-removed, lookup-arranged, holds-alike, increasing-equal, increasing-inserted, increasing-removed, distinct-increasing, length-inserted-new, absent-holds, removed-absent}
 use Rattle.routes.proofs.Definitions.Bounds.{route-read}
 use Rattle.routes.proofs.Statements.Images.{images}
 use Rattle.routes.proofs.Definitions.MatchSame.{match-same}
 use Rattle.routes.proofs.Definitions.Ownership.{acceptable-after-none, owned-by}
 use Rattle.routes.proofs.Definitions.Acts.{Known, enters, leaves, asks, argued-cases}
-use Rattle.routes.proofs.Definitions.Books.{heldBy, heldAfter, lookup-removed}
+use Rattle.routes.proofs.Definitions.Books.{heldBy, heldAfter}
 use Rattle.routes.proofs.Definitions.AllBooks.{distinct-book, lookup-all, lookup-all-next, increasing-books, holdable-books}
 
 -- the routes of all books, as the table holds them
@@ -56,9 +57,9 @@ module _ (afi places : ℕ) (rs : List Route) (t : List ℕ) (of : TableOf afi p
   unfolding withdrawOutcome
   withdraw-on nlri = rw (of .family, of .routes) (pick-true _ _ _ (of .sound))
 
-  match-on : (router source group output : List ℕ) → matchOutcome t router source group output ≡ andThen (readMatch afi router source group output) (λ q. given (matchIn afi q rs))
+  match-on : (flow : Flow) (output : List ℕ) → matchOutcome t flow output ≡ andThen (readMatch afi flow output) (λ q. given (matchIn afi q rs))
   unfolding matchOutcome
-  match-on router source group output = rw (of .family, of .routes) (pick-true _ _ _ (of .sound))
+  match-on flow output = rw (of .family, of .routes) (pick-true _ _ _ (of .sound))
 
   -- a call is refused by its arguments, and leaves the octets, or does its act
   abbrev argued-step : Call → Outcome Act → Step
@@ -78,12 +79,12 @@ module _ (afi places : ℕ) (rs : List Route) (t : List ℕ) (of : TableOf afi p
       go : (o : Outcome Fields) → readSPmsi afi nlri ≡ o → stepOf t (withdraw nlri) ≡ argued-step (withdraw nlri) (andThen o (λ f. given (leave nlri)))
       go (given f) e = let x : withdrawOutcome t nlri ≡ leaving rs nlri = withdraw-on nlri ∙ rw e in rw (x, of .family, of .size, of .routes)
       go (refused n) e = let x : withdrawOutcome t nlri ≡ refused n = withdraw-on nlri ∙ rw e in rw x
-  step-on (match router source group output) = go (readMatch afi router source group output) refl
+  step-on (match flow output) = go (readMatch afi flow output) refl
     where
-      go : (o : Outcome Query) → readMatch afi router source group output ≡ o
-          → stepOf t (match router source group output) ≡ argued-step (match router source group output) (andThen o (λ q. given (ask q output)))
-      go (given q) e = let x : matchOutcome t router source group output ≡ given (matchIn afi q rs) = match-on router source group output ∙ rw e in rw x
-      go (refused n) e = let x : matchOutcome t router source group output ≡ refused n = match-on router source group output ∙ rw e in rw x
+      go : (o : Outcome Query) → readMatch afi flow output ≡ o
+          → stepOf t (match flow output) ≡ argued-step (match flow output) (andThen o (λ q. given (ask q output)))
+      go (given q) e = let x : matchOutcome t flow output ≡ given (matchIn afi q rs) = match-on flow output ∙ rw e in rw x
+      go (refused n) e = let x : matchOutcome t flow output ≡ refused n = match-on flow output ∙ rw e in rw x
 
 -- what is due, by whom the call belongs to
 

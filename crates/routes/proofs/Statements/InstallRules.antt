@@ -11,7 +11,6 @@ use Rattle.octets.specs.Numbers.{DONE, ROOM}
 use Rattle.octets.specs.Outcome.{Outcome, given, refused, onOutcome, numberOf}
 use Rattle.octets.proofs.Choice.{pick-true, pick-false, picked}
 use Rattle.octets.proofs.Outcome.{never, given-unless, passed, given-same, outcome, stopped, refused-same, refuses-unless, goes, stops, refused-of, number-refused, number-given, done-given}
-use Rattle.octets.proofs.Orders.{unequal-other}
 use Rattle.routes.specs.declared.Installed.{Installed}
 use Rattle.routes.specs.Route.{Route, route, nlriOf, attributeOf, held, lookup, inserted}
 use Rattle.routes.specs.Arguments.{readRoute}
@@ -25,7 +24,7 @@ use Rattle.routes.proofs.Definitions.Bounds.{route-read, read-acceptabl
 use Rattle.routes.proofs.Definitions.ByArguments.{number-route}
 use Rattle.routes.proofs.Definitions.Holding.{holdable-inserted}
 use Rattle.routes.proofs.Statements.Images.{images, sound, sound-holdable, length-image}
-use Rattle.routes.proofs.Definitions.Lookups.{absent-holds, holds-absent, held-holds, holds-held, lookup-inserted-same, lookup-inserted-other}
+use Rattle.routes.proofs.Definitions.Lookups.{absent-holds, holds-absent, held-holds, holds-held, lookup-inserted, held-now}
 
 -- a route that is acceptable enters a table
 module _ (t : List ℕ) (r : Route) where
@@ -121,8 +120,12 @@ module _ (t nlri attribute : List ℕ) where
 
   -- the answer by the outcome
   number : installOf t nlri attribute .answer .number ≡ numberOf (installOutcome t nlri attribute)
-  unfolding installOf installedOf
-  number = refl
+  unfolding installOf installedOf numberOf onOutcome
+  number = go (installOutcome t nlri attribute)
+    where
+      go : (o : Outcome ℕ) → installedOf o .number ≡ numberOf o
+      go (given a) = refl
+      go (refused n) = refl
 
   answer-given : (o : ℕ) → installOutcome t nlri attribute ≡ given o → installOf t nlri attribute .answer ≡ record { number = DONE; outcome = o }
   unfolding installOf installedOf numberOf onOutcome
@@ -166,14 +169,9 @@ module _ (t nlri attribute : List ℕ) where
   after-given : (o : ℕ) → installOutcome t nlri attribute ≡ given o → TableOf (afiIn t) (placesIn t) (inserted (route nlri attribute) (routesOf t)) (installOf t nlri attribute .octets)
   after-given o e = subst (TableOf _ _ _) (sym (install-octets o e)) (images .imaged (afiIn t) (placesIn t) (inserted (route nlri attribute) (routesOf t)) (install-holdable o e))
 
-  held-after : (o : ℕ) → installOutcome t nlri attribute ≡ given o → HeldNow nlri (held attribute) (routesOf t) (routesOf (installOf t nlri attribute .octets))
-  unfolding nlriOf attributeOf
-  held-after o e =
-      let a = after-given o e in
-      record {
-        own = ap (lookup nlri) (a .routes) ∙ lookup-inserted-same (route nlri attribute) (routesOf t);
-        others = λ other d. ap (lookup other) (a .routes) ∙ lookup-inserted-other other (route nlri attribute) (routesOf t) (unequal-other other nlri d);
-      }
+  held-after : (o : ℕ) → installOutcome t nlri attribute ≡ given o → HeldNow nlri (held (route nlri attribute)) (routesOf t) (routesOf (installOf t nlri attribute .octets))
+  unfolding nlriOf
+  held-after o e = held-now (route nlri attribute) (routesOf t) _ (λ n. ap (lookup n) (after-given o e .routes) ∙ lookup-inserted n (route nlri attribute) (routesOf t))
 
   size : length (installOf t nlri attribute .octets) ≡ length t
   size =
@@ -188,7 +186,7 @@ module _ (t nlri attribute : List ℕ) where
   unfolding installOf installedOf numberOf onOutcome
   empty = go (installOutcome t nlri attribute)
     where
-      go : (o : Outcome ℕ) → numberOf o ≢ DONE → onOutcome (λ number. 0) (λ x. x) o ≡ 0
+      go : (o : Outcome ℕ) → installedOf o .number ≢ DONE → installedOf o .outcome ≡ 0
       go (given a) h = absurd (h refl)
       go (refused n) h = refl
 

@@ -13,7 +13,7 @@ use Rattle.octets.specs.Order.{same}
 use Rattle.octets.proofs.Orders.{same-equal, other-unequal}
 use Rattle.octets.proofs.Choice.{pick-true, pick-false, tested, both-true, both-left, both-right}
 use Rattle.octets.specs.Lists.{Among}
-use Rattle.routes.specs.Route.{Route, route, nlriOf, attributeOf, Held, absent, held, lookup, inserted, removed}
+use Rattle.routes.specs.Route.{Route, route, nlriOf, Held, absent, held, lookup, inserted, removed}
 use Rattle.routes.specs.Table.{imageOf, afiIn, placesIn, routesOf, soundOf}
 use Rattle.routes.specs.Calls.{makeOf, installOf, withdrawOf}
 use Rattle.routes.specs.Call.{Call, install, withdraw, match}
@@ -65,11 +65,11 @@ decided other left number t u set untouched nlri =
 step-lookups : (t : List ℕ) (c : Call) (nlri : List ℕ) → lookup nlri (routesOf (stepOf t c .octets)) ≡ pick (decides nlri t c) (leftBy c) (lookup nlri (routesOf t))
 unfolding stepOf decides leftBy pick
 step-lookups t (install other attribute) nlri =
-    decided other (held attribute) (installOf t other attribute .answer .number) t (installOf t other attribute .octets)
+    decided other (held (route other attribute)) (installOf t other attribute .answer .number) t (installOf t other attribute .octets)
     (installRule .installed t other attribute) (installRule .untouched t other attribute) nlri
 step-lookups t (withdraw other) nlri =
     decided other absent (withdrawOf t other .answer) t (withdrawOf t other .octets) (withdrawRule .withdrawn t other) (withdrawRule .untouched t other) nlri
-step-lookups t (match router source group output) nlri = refl
+step-lookups t (match flow output) nlri = refl
 
 step-next : (t : List ℕ) (c : Call) → soundOf t ≡ true → Next t (stepOf t c .octets)
 unfolding stepOf
@@ -86,7 +86,7 @@ step-next t (withdraw nlri) s =
     let d = eqb-true _ _ done in
     next-image t _ (removed nlri (routesOf t)) (withdrawRule .size t nlri) (withdraw-octets t nlri (withdraw-done t nlri d)) (withdrawRule .after t nlri d))
     (λ bad. next-same t _ s (withdrawRule .untouched t nlri (eqb-false _ _ bad)))
-step-next t (match router source group output) s = next-same t t s refl
+step-next t (match flow output) s = next-same t t s refl
 
 next-then : {t u v : List ℕ} → Next t u → Next u v → Next t v
 next-then p q = record { sound = q .sound; family = q .family ∙ p .family; size = q .size ∙ p .size; image = λ i. q .image (p .image i) }
@@ -118,12 +118,12 @@ module _ (afi : ℕ) (memory : List ℕ) (calls : List Call) (done : makeOf afi 
       ∙ ap (λ (h : Held). lastFrom nlri h (makeOf afi memory .octets) calls) (ap (lookup nlri) (made .routes) ∙ lookup-none nlri)
 
   exactly : (nlri attribute : List ℕ) → Among (route nlri attribute) (routesOf (endOf (makeOf afi memory .octets) calls)) ↔ LastInstall nlri attribute (makeOf afi memory .octets) calls
-  unfolding nlriOf attributeOf
+  unfolding nlriOf
   exactly nlri attribute =
       let last = last-exactly nlri attribute (makeOf afi memory .octets) calls in
       let order = sound-holdable (endOf (makeOf afi memory .octets) calls) (next .sound) .increasing in (
         λ m. last .0 (sym (lookups nlri) ∙ lookup-of-member (distinct-increasing order) m),
-        λ l. lookup-member nlri attribute _ (lookups nlri ∙ last .1 l),
+        λ l. lookup-member _ (lookups nlri ∙ last .1 l) .0,
       )
 
   kept : Kept afi memory calls

@@ -3,7 +3,7 @@ use Prim.Native.Nat.{ℕ, _+_, _-_, _≤_}
 use mathlib.Core.Path.{_≡_, refl, sym, _∙_, ap, subst}
 use mathlib.Core.Bool.{true}
 use mathlib.Core.List.{List, _++_, append-assoc}
-use mathlib.Core.Logic.{_≢_, ⊎-elim}
+use mathlib.Core.Logic.{_↔_, _≢_, ⊎-elim}
 use native.Mathlib.Omega.{arith}
 use lib.ListN.{length, getD, drop, length-append, length-drop}
 use lib.Seq.{take-append-seam, drop-append-seam, getD-append-add, getD-drop}
@@ -12,21 +12,24 @@ use Rattle.octets.specs.Outcome.{Outcome, given, refused, onOutcome, numberOf}
 use Rattle.octets.specs.Octets.{part, front}
 use Rattle.octets.proofs.Choice.{pick-true, pick-false, picked}
 use Rattle.octets.proofs.Outcome.{never, given-unless, passed, stopped, refused-same, goes, stops, refused-of, number-refused, number-given, done-given}
+use Rattle.nlri.specs.Fields.{Fields}
 use Rattle.routes.specs.Route.{Route, nlriOf, attributeOf, Distinct}
 use Rattle.routes.specs.Place.{AllAcceptable}
-use Rattle.routes.specs.Arguments.{Query, readFlow}
+use Rattle.routes.specs.Query.{meets, Query, Flow}
+use Rattle.routes.specs.Arguments.{readFlow}
 use Rattle.routes.specs.Table.{afiIn, routesOf, soundOf}
 use Rattle.routes.specs.Matching.{Found, nothing, found, matchIn}
-use Rattle.routes.specs.Answers.{foundAnswer, refusedMatch, foundOutput, matchedBy}
+use Rattle.routes.specs.Answers.{foundAnswer, foundOutput, matchedBy}
 use Rattle.routes.specs.Calls.{matchOutcome, matchOf}
 use Rattle.routes.specs.ArgumentRules.{GoodFlow, badFlow, noSpace}
-use Rattle.routes.specs.MatchRule.{Told, Untold, MatchAnswer, oneTold, noneTold, MatchRefusal, matchUnsound, badMatch, MatchRule}
+use Rattle.routes.specs.MatchRule.{InTier, Taken, NoneTaken, Told, Untold, MatchAnswer, oneTold, noneTold, MatchRefusal, matchUnsound, badMatch, MatchRule}
 use Rattle.routes.proofs.Statements.ArgumentRules.{argumentRule, flow-passes}
 use Rattle.routes.proofs.Definitions.Lookups.{acceptable-member, distinct-increasing}
 use Rattle.routes.proofs.Definitions.Bounds.{Sized, sizes-of}
 use Rattle.routes.proofs.Statements.Images.{sound-holdable}
-use Rattle.routes.proofs.Definitions.Flows.{Asked, flow-asked, flow-given}
-use Rattle.routes.proofs.Statements.Taken.{found-taken, nothing-taken}
+use Rattle.routes.proofs.Definitions.Flows.{Asked, asked-router, flow-asked, flow-given}
+use Rattle.routes.proofs.Definitions.First.{wantedAt}
+use Rattle.routes.proofs.Statements.Taken.{found-taken, nothing-taken, flow-exactly}
 
 past-front : (e d : List ℕ) (i : ℕ) → length e ≤ i → getD (e ++ drop (length e) d) i 0 ≡ getD d i 0
 past-front e d i h =
@@ -53,8 +56,8 @@ unfolding matchedBy onOutcome foundAnswer
 found-number output nothing = refl
 found-number output (found tier r) = refl
 
--- what a match comes to, over any routes that a table or a book may hold
-module _ (afi : ℕ) (router source group output : List ℕ) (q : Query) (e : readFlow afi router source group ≡ given q) (enough : 124 ≤ length output) where
+-- what a match of any kind comes to, over any routes that a table or a book may hold
+module _ (afi : ℕ) (q : Query) (In : (tier : ℕ) → Fields → Type 0) (exactly : (tier : ℕ) (f : Fields) → (meets (wantedAt 1 tier (q .tiers)) f ≡ true) ↔ In tier f) (output : List ℕ) (enough : 124 ≤ length output) where
   nothing-untold : Untold output (matchedBy (given nothing) output)
   unfolding matchedBy onOutcome foundAnswer foundOutput
   nothing-untold = record { tierless = refl; sizes = (refl, refl); untouched = refl }
@@ -75,79 +78,96 @@ module _ (afi : ℕ) (router source group output : List ℕ) (q : Query) (e : re
         past = fronts .3;
       }
 
-  asked : Asked afi router source group q
-  asked = flow-asked afi router source group q e
-
-  pub match-answer : (rs : List Route) → Distinct rs → AllAcceptable afi rs → MatchAnswer afi router source group output rs (matchedBy (given (matchIn afi q rs)) output)
+  match-answer : (rs : List Route) → Distinct rs → AllAcceptable afi rs → MatchAnswer afi (q .router) In output rs (matchedBy (given (matchIn afi q rs)) output)
   match-answer rs d a = go (matchIn afi q rs) refl
     where
-      go : (f : Found) → matchIn afi q rs ≡ f → MatchAnswer afi router source group output rs (matchedBy (given f) output)
-      go nothing x = noneTold (nothing-taken afi router source group q asked rs .0 x) (found-number output nothing) nothing-untold
+      go : (f : Found) → matchIn afi q rs ≡ f → MatchAnswer afi (q .router) In output rs (matchedBy (given f) output)
+      go nothing x = noneTold (nothing-taken afi q In exactly rs .0 x) (found-number output nothing) nothing-untold
       go (found tier r) x =
-          let taken = found-taken afi router source group q asked rs d tier r .0 x in
+          let taken = found-taken afi q In exactly rs d tier r .0 x in
           oneTold tier r taken (found-told tier r (sizes-of afi r (acceptable-member a (taken .member))))
 
-module _ (t router source group output : List ℕ) where
+-- what a flow's match comes to
+module _ (afi : ℕ) (flow : Flow) (q : Query) (e : readFlow afi flow ≡ given q) where
+  asked : Asked afi flow q
+  asked = flow-asked afi flow q e
+
+  -- what holds of the query's router holds of the flow's
+  of-router : (P : List ℕ → Type 0) → P (q .router) → P (flow .router)
+  of-router P p = subst P (asked-router asked) p
+
+  pub flow-answer : (output : List ℕ) → 124 ≤ length output → (rs : List Route) → Distinct rs → AllAcceptable afi rs
+      → MatchAnswer afi (flow .router) (InTier afi flow) output rs (matchedBy (given (matchIn afi q rs)) output)
+  flow-answer output enough rs d a = of-router (λ router. MatchAnswer afi router (InTier afi flow) output rs (matchedBy (given (matchIn afi q rs)) output))
+      (match-answer afi q (InTier afi flow) (flow-exactly afi flow q asked) output enough rs d a)
+
+  flow-found : (rs : List Route) → Distinct rs → (tier : ℕ) (r : Route) → (matchIn afi q rs ≡ found tier r) ↔ Taken afi (flow .router) (InTier afi flow) rs tier r
+  flow-found rs d tier r = of-router (λ router. (matchIn afi q rs ≡ found tier r) ↔ Taken afi router (InTier afi flow) rs tier r) (found-taken afi q (InTier afi flow) (flow-exactly afi flow q asked) rs d tier r)
+
+  flow-nothing : (rs : List Route) → (matchIn afi q rs ≡ nothing) ↔ NoneTaken afi (flow .router) (InTier afi flow) rs
+  flow-nothing rs = of-router (λ router. (matchIn afi q rs ≡ nothing) ↔ NoneTaken afi router (InTier afi flow) rs) (nothing-taken afi q (InTier afi flow) (flow-exactly afi flow q asked) rs)
+
+module _ (t : List ℕ) (flow : Flow) (output : List ℕ) where
   -- the number by the outcome
-  number : matchOf t router source group output .answer .number ≡ numberOf (matchOutcome t router source group output)
-  unfolding matchOf matchedBy onOutcome numberOf refusedMatch
-  number = go (matchOutcome t router source group output)
+  number : matchOf t flow output .answer .number ≡ numberOf (matchOutcome t flow output)
+  unfolding matchOf matchedBy onOutcome numberOf
+  number = go (matchOutcome t flow output)
     where
       go : (o : Outcome Found) → matchedBy o output .answer .number ≡ numberOf o
       go (given f) = found-number output f
       go (refused n) = refl
 
-  refusal : (n : ℕ) → matchOutcome t router source group output ≡ refused n → MatchRefusal t router source group output n
+  refusal : (n : ℕ) → matchOutcome t flow output ≡ refused n → MatchRefusal t flow output n
   unfolding matchOutcome
   refusal n e =
       ⊎-elim
       (λ yes.
-      ⊎-elim (λ first. badMatch (yes .0) (argumentRule .refusedFlow (afiIn t) router source group output n (sound-holdable t (yes .0) .family) .0 first))
+      ⊎-elim (λ first. badMatch (yes .0) (argumentRule .refusedFlow (afiIn t) flow output n (sound-holdable t (yes .0) .family) .0 first))
       (λ later. absurd (never refl (later .second)))
       (stopped _ _ _ (yes .1)))
-      (λ no. subst (MatchRefusal t router source group output) (refused-same {A = Found} (no .1)) (matchUnsound (no .0)))
+      (λ no. subst (MatchRefusal t flow output) (refused-same {A = Found} (no .1)) (matchUnsound (no .0)))
       (picked _ _ _ _ e)
 
-  refuses : {n : ℕ} → MatchRefusal t router source group output n → matchOutcome t router source group output ≡ refused n
+  refuses : {n : ℕ} → MatchRefusal t flow output n → matchOutcome t flow output ≡ refused n
   unfolding matchOutcome
   refuses (matchUnsound h) = pick-false _ _ _ h
-  refuses (badMatch s r) = pick-true _ _ _ s ∙ sym (stops _ _ _ (argumentRule .refusedFlow (afiIn t) router source group output _ (sound-holdable t s .family) .1 r))
+  refuses (badMatch s r) = pick-true _ _ _ s ∙ sym (stops _ _ _ (argumentRule .refusedFlow (afiIn t) flow output _ (sound-holdable t s .family) .1 r))
 
-  not-done : {n : ℕ} → MatchRefusal t router source group output n → n ≢ DONE
+  not-done : {n : ℕ} → MatchRefusal t flow output n → n ≢ DONE
   not-done (matchUnsound h) e = omega arith
   not-done (badMatch s (badFlow h)) e = omega arith
   not-done (badMatch s (noSpace g h)) e = omega arith
 
   -- a flow that is good, with room for the answer, on a sound table
-  served-outcome : (q : Query) → soundOf t ≡ true → readFlow (afiIn t) router source group ≡ given q → 124 ≤ length output
-      → matchOutcome t router source group output ≡ given (matchIn (afiIn t) q (routesOf t))
+  served-outcome : (q : Query) → soundOf t ≡ true → readFlow (afiIn t) flow ≡ given q → 124 ≤ length output
+      → matchOutcome t flow output ≡ given (matchIn (afiIn t) q (routesOf t))
   unfolding matchOutcome
-  served-outcome q sound e enough = pick-true _ _ _ sound ∙ sym (goes _ _ _ _ (flow-passes (afiIn t) router source group output q e enough) refl)
+  served-outcome q sound e enough = pick-true _ _ _ sound ∙ sym (goes _ _ _ _ (flow-passes (afiIn t) flow output q e enough) refl)
 
-  served : matchOf t router source group output .answer .number ≡ DONE → (soundOf t ≡ true) × GoodFlow (afiIn t) router source group × (124 ≤ length output)
+  served : matchOf t flow output .answer .number ≡ DONE → (soundOf t ≡ true) × GoodFlow (afiIn t) flow × (124 ≤ length output)
   unfolding matchOutcome
   served e =
       let p = done-given _ (λ n r. not-done (refusal n r)) (sym number ∙ e) in
       let s = given-unless _ _ _ _ (p .1) in
       let q = passed _ _ _ (s .1) in
-      let f = argumentRule .acceptedFlow (afiIn t) router source group output .0 (q .value, q .first) in
+      let f = argumentRule .acceptedFlow (afiIn t) flow output .0 (q .value, q .first) in
       (s .0, f .0, f .1)
 
-  serves : (soundOf t ≡ true) × GoodFlow (afiIn t) router source group × (124 ≤ length output) → matchOf t router source group output .answer .number ≡ DONE
-  serves h = let f = flow-given (afiIn t) router source group (h .1) in number ∙ number-given (served-outcome (f .0) (h .0) (f .1) (h .2))
+  serves : (soundOf t ≡ true) × GoodFlow (afiIn t) flow × (124 ≤ length output) → matchOf t flow output .answer .number ≡ DONE
+  serves h = let f = flow-given (afiIn t) flow (h .1) in number ∙ number-given (served-outcome (f .0) (h .0) (f .1) (h .2))
 
-  answered : matchOf t router source group output .answer .number ≡ DONE → MatchAnswer (afiIn t) router source group output (routesOf t) (matchOf t router source group output)
+  answered : matchOf t flow output .answer .number ≡ DONE → MatchAnswer (afiIn t) (flow .router) (InTier (afiIn t) flow) output (routesOf t) (matchOf t flow output)
   unfolding matchOf
   answered e =
       let h = served e in
-      let f = flow-given (afiIn t) router source group (h .1) in
+      let f = flow-given (afiIn t) flow (h .1) in
       let holdable = sound-holdable t (h .0) in
-      subst (λ (o : Outcome Found). MatchAnswer (afiIn t) router source group output (routesOf t) (matchedBy o output)) (sym (served-outcome (f .0) (h .0) (f .1) (h .2)))
-      (match-answer (afiIn t) router source group output (f .0) (f .1) (h .2) (routesOf t) (distinct-increasing (holdable .increasing)) (holdable .acceptable))
+      subst (λ (o : Outcome Found). MatchAnswer (afiIn t) (flow .router) (InTier (afiIn t) flow) output (routesOf t) (matchedBy o output)) (sym (served-outcome (f .0) (h .0) (f .1) (h .2)))
+      (flow-answer (afiIn t) flow (f .0) (f .1) output (h .2) (routesOf t) (distinct-increasing (holdable .increasing)) (holdable .acceptable))
 
-  refused-untold : matchOf t router source group output .answer .number ≢ DONE → Untold output (matchOf t router source group output)
-  unfolding matchOf matchedBy onOutcome refusedMatch
-  refused-untold = go (matchOutcome t router source group output)
+  refused-untold : matchOf t flow output .answer .number ≢ DONE → Untold output (matchOf t flow output)
+  unfolding matchOf matchedBy onOutcome
+  refused-untold = go (matchOutcome t flow output)
     where
       go : (o : Outcome Found) → matchedBy o output .answer .number ≢ DONE → Untold output (matchedBy o output)
       go (given f) h = absurd (h (found-number output f))
@@ -156,13 +176,13 @@ module _ (t router source group output : List ℕ) where
 pub matchRule : MatchRule
 matchRule =
     record {
-      chosen = λ afi router source group q rs e d. found-taken afi router source group q (flow-asked afi router source group q e) rs d;
-      none = λ afi router source group q rs e. nothing-taken afi router source group q (flow-asked afi router source group q e) rs;
-      refuses = λ t router source group output n h. (
-        λ e. refusal t router source group output n (refused-of _ n (sym e ∙ number t router source group output) h),
-        λ r. number t router source group output ∙ number-refused (refuses t router source group output r),
+      chosen = λ afi flow q rs e. flow-found afi flow q e rs;
+      none = λ afi flow q rs e. flow-nothing afi flow q e rs;
+      refuses = λ t flow output n h. (
+        λ e. refusal t flow output n (refused-of _ n (sym e ∙ number t flow output) h),
+        λ r. number t flow output ∙ number-refused (refuses t flow output r),
       );
-      done = λ t router source group output. (served t router source group output, serves t router source group output);
+      done = λ t flow output. (served t flow output, serves t flow output);
       answers = answered;
       untold = refused-untold;
     }

@@ -14,8 +14,8 @@ use Rattle.routes.specs.ArgumentRules.{KnownFamily}
 use Rattle.routes.specs.MixedCalls.{Alone, Reordered, Alike, Claim, MixedCalls}
 use Rattle.routes.proofs.Statements.Images.{images}
 use Rattle.routes.proofs.Statements.MakeRules.{made-holdable}
-use Rattle.routes.proofs.Definitions.Chosen.{chosen-among}
-use Rattle.routes.proofs.Definitions.Distincts.{among-rearranged}
+use Rattle.octets.proofs.Chosen.{chosen-among}
+use Rattle.octets.proofs.Among.{among-rearranged}
 use Rattle.routes.proofs.Statements.Runs.{fits-drawn, run-due, end-due}
 use Rattle.routes.proofs.Statements.Reorders.{own-answers, same-own, same-answers, same-books}
 use Rattle.routes.proofs.Statements.BookRules.{ownerRule, premiseRule, bookRule, image-rule}
@@ -70,7 +70,7 @@ answered : (t : List ℕ) (c : Call) (cs : List Call) → answersIn (runFrom t (
 unfolding runFrom answersIn stepOf
 answered t (install nlri attribute) cs = refl
 answered t (withdraw nlri) cs = refl
-answered t (match router source group output) cs = refl
+answered t (match flow output) cs = refl
 
 pub mixedCalls : MixedCalls
 mixedCalls = record { claim = mixed; run = record { each = each; answers = answered }; owners = ownerRule; premise = premiseRule; books = bookRule }

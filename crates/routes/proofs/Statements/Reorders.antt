@@ -15,7 +15,7 @@ use Rattle.routes.proofs.Definitions.Lookups.{lookup-arranged, increasi
 use Rattle.routes.proofs.Definitions.Ownership.{owned-by}
 use Rattle.routes.proofs.Definitions.AllBooks.{lookup-all, lookup-nobody, increasing-books}
 use Rattle.routes.proofs.Statements.DueSteps.{due-owned, due-nobody}
-use Rattle.routes.proofs.Definitions.Chosen.{chosen-first, chosen-later, chosen-append, chosen-passes, chosen-all, chosen-rearranged}
+use Rattle.octets.proofs.Chosen.{chosen-first, chosen-later, chosen-append, chosen-passes, chosen-all, chosen-rearranged}
 use Rattle.routes.proofs.Definitions.ByOwner.{is-nobody, by-owner}
 
 module _ (afi : ℕ) (router : List ℕ) where

@@ -7,7 +7,8 @@ use Rattle.routes.specs.ArgumentRules.{KnownFamily}
 use Rattle.routes.specs.Call.{Call, install}
 use Rattle.routes.specs.Run.{Step, stepOf, runFrom, endOf, imageOfBooks, dueStep, dueFrom, namedBy, Fits}
 use Rattle.octets.specs.Lists.{Among}
-use Rattle.routes.proofs.Definitions.Distincts.{among-left, once-each-fewer}
+use Rattle.octets.proofs.Among.{among-left}
+use Rattle.routes.proofs.Definitions.OnceEach.{once-each-fewer}
 use Rattle.routes.proofs.Definitions.Named.{named-exactly}
 use Rattle.routes.proofs.Statements.DueSteps.{due-step}
 

@@ -1,101 +1,115 @@
--- The route that a flow takes of routes with no NLRI twice, in plain terms.
-use Prim.Native.Nat.{ℕ, _≤_, _<_}
+-- The route that a match takes of routes with no NLRI twice, in plain terms: for any query, and for a flow's.
+use Prim.Native.Nat.{ℕ, _<_}
 use mathlib.Core.Path.{_≡_, refl, sym, _∙_, ap₂, subst}
 use mathlib.Core.Bool.{true}
 use mathlib.Core.List.{List}
 use mathlib.Core.Logic.{_↔_}
 use native.Mathlib.Omega.{arith}
+use lib.Dec.{eqb}
+use borrow.Author.Tests.{eqb-true, eq-eqb}
+use Rattle.octets.specs.Choice.{pick}
 use Rattle.octets.specs.Order.{before}
-use Rattle.octets.proofs.Choice.{opposite, is-false, both-true}
-use Rattle.octets.proofs.Orders.{same-of-equal}
+use Rattle.octets.proofs.Choice.{opposite, pick-case}
+use Rattle.octets.proofs.Orders.{before-neither}
 use Rattle.nlri.specs.Fields.{Fields}
+use Rattle.nlri.specs.Groups.{ASM, SSM}
 use Rattle.routes.specs.Route.{Route, nlriOf, Distinct}
-use Rattle.routes.specs.Arguments.{Query}
-use Rattle.routes.specs.Matching.{candidate, condition, meets, distinguisherOf, Found, nothing, found, matchIn}
+use Rattle.routes.specs.Query.{Wanted, meets, Query, Flow, flowQuery}
+use Rattle.routes.specs.Matching.{eligible, distinguisherOf, Found, nothing, found, matchIn}
 use Rattle.routes.specs.MatchRule.{InTier, bothEqual, sourceEqual, groupEqual, bothWildcard, Eligible, Taken, NoneTaken}
-use Rattle.routes.proofs.Definitions.Lowest.{qualifies}
-use Rattle.routes.proofs.Definitions.Conditions.{first-tier, second-tier, third-tier, fourth-tier, by-tier, fields-of, qualified, distinguisher-is, same-nlri}
-use Rattle.routes.proofs.Definitions.First.{First, first-is, first-unique, one-member}
+use Rattle.routes.proofs.Definitions.Lookups.{one-member}
+use Rattle.routes.proofs.Definitions.Conditions.{meets-exactly, qualified, qualifies, distinguisher-is, same-nlri}
+use Rattle.routes.proofs.Definitions.First.{First, wantedAt, first-none, first-least, first-below, first-is}
 use Rattle.routes.proofs.Definitions.Flows.{Asked}
 use Rattle.routes.proofs.Statements.ArgumentRules.{argumentRule, nlri-accepts}
 
--- the tiers are 1 to 4
-tier-range : {afi : ℕ} {source group : List ℕ} {f : Fields} {tier : ℕ} → InTier afi source group f tier → (1 ≤ tier) × (tier < 5)
-tier-range (bothEqual s g) = (omega arith, omega arith)
-tier-range (sourceEqual s g ssm) = (omega arith, omega arith)
-tier-range (groupEqual s g asm) = (omega arith, omega arith)
-tier-range (bothWildcard s g) = (omega arith, omega arith)
+-- a query whose tiers want exactly what their conditions say
+module _ (afi : ℕ) (q : Query) (In : (tier : ℕ) → Fields → Type 0) (exactly : (tier : ℕ) (f : Fields) → (meets (wantedAt 1 tier (q .tiers)) f ≡ true) ↔ In tier f) where
+  abbrev wanted : ℕ → Wanted
+  wanted tier = wantedAt 1 tier (q .tiers)
 
-module _ (afi : ℕ) (router source group : List ℕ) (q : Query) (a : Asked afi router source group q) where
-  in-tier : (tier : ℕ) (f : Fields) → condition q tier f ≡ true → InTier afi source group f tier
-  in-tier tier f h =
-      by-tier (λ (n : ℕ). condition q n f ≡ true → InTier afi source group f n) q tier f h
-      (λ x. let c = first-tier q f .0 x in bothEqual (c .0 ∙ a .ofSource) (c .1 ∙ a .ofGroup))
-      (λ x. let c = second-tier q f .0 x in sourceEqual (c .0 ∙ a .ofSource) (c .1) (a .specific .0 (c .2)))
-      (λ x. let c = third-tier q f .0 x in groupEqual (c .0) (c .1 ∙ a .ofGroup) (a .other .0 (c .2)))
-      (λ x. let c = fourth-tier q f .0 x in bothWildcard (c .0) (c .1))
-      h
-
-  tier-met : {tier : ℕ} {f : Fields} → InTier afi source group f tier → condition q tier f ≡ true
-  tier-met {f = f} (bothEqual s g) = first-tier q f .1 (s ∙ sym (a .ofSource), g ∙ sym (a .ofGroup))
-  tier-met {f = f} (sourceEqual s g ssm) = second-tier q f .1 (s ∙ sym (a .ofSource), g, a .specific .1 ssm)
-  tier-met {f = f} (groupEqual s g asm) = third-tier q f .1 (s, g ∙ sym (a .ofGroup), a .other .1 asm)
-  tier-met {f = f} (bothWildcard s g) = fourth-tier q f .1 (s, g)
-
-  eligible : (tier : ℕ) (r : Route) → qualifies afi q tier r ≡ true → Eligible afi router source group tier r
-  eligible tier r h =
-      let x = qualified afi q tier r h in
+  is-eligible : (tier : ℕ) (r : Route) → eligible afi (q .router) (wanted tier) r ≡ true → Eligible afi (q .router) In tier r
+  is-eligible tier r h =
+      let x = qualified afi (q .router) (wanted tier) r h in
       let n = argumentRule .acceptedNlri afi (nlriOf r) (x .fields) .0 (x .read) in
-      record { candidate = record { named = record { fields = x .fields; read = n .0; kind = n .1 }; originator = x .own ∙ a .ofRouter }; met = in-tier tier (x .fields) (x .met) }
+      record { candidate = record { named = record { fields = x .fields; read = n .0; kind = n .1 }; originator = x .own }; met = exactly tier (x .fields) .0 (x .met) }
 
-  qualifying : (tier : ℕ) (r : Route) → Eligible afi router source group tier r → qualifies afi q tier r ≡ true
-  unfolding candidate meets
-  qualifying tier r e =
+  eligible-is : (tier : ℕ) (r : Route) → Eligible afi (q .router) In tier r → eligible afi (q .router) (wanted tier) r ≡ true
+  eligible-is tier r e =
       let f : Fields = e .candidate .named .fields in
-      let read = nlri-accepts afi (nlriOf r) (e .candidate .named) in
-      both-true _ _ (fields-of afi r _ f read ∙ same-of-equal (f .originator) (q .router) (e .candidate .originator ∙ sym (a .ofRouter)))
-      (fields-of afi r _ f read ∙ tier-met (e .met))
+      qualifies afi (q .router) (wanted tier) r
+      (record { fields = f; read = nlri-accepts afi (nlriOf r) (e .candidate .named); own = e .candidate .originator; met = exactly tier f .1 (e .met) })
 
-  rd : (tier : ℕ) (r : Route) (e : Eligible afi router source group tier r) → distinguisherOf afi r ≡ e .candidate .named .fields .distinguisher
-  rd tier r e = distinguisher-is afi r (e .candidate .named .fields) (nlri-accepts afi (nlriOf r) (e .candidate .named))
+  rd : {tier : ℕ} (r : Route) (e : Eligible afi (q .router) In tier r) → distinguisherOf afi r ≡ e .candidate .named .fields .distinguisher
+  rd r e = distinguisher-is afi r (e .candidate .named .fields) (nlri-accepts afi (nlriOf r) (e .candidate .named))
 
-  first-taken : (rs : List Route) → Distinct rs → (tier : ℕ) (r : Route) → First afi q 1 5 rs (found tier r) → Taken afi router source group rs tier r
-  first-taken rs d tier r f =
-      let own : Eligible afi router source group tier r = eligible tier r (f .2 .2) in
-      record {
-        member = f .2 .1;
-        eligible = own;
-        lowest = λ other u less m e. opposite (qualifying other u e) (f .3 other (tier-range (e .met) .0) less u m);
-        first = λ u m e. sym (ap₂ before (rd tier u e) (rd tier r own)) ∙ f .2 .3 u m (qualifying tier u e);
-        only = λ u m e same. one-member u r d m (f .2 .1) (same-nlri afi q tier u r (qualifying tier u e) (f .2 .2) (rd tier u e ∙ same ∙ sym (rd tier r own)));
-      }
+  module _ (rs : List Route) where
+    abbrev IsFirst : Found → Type 0
+    IsFirst best = First afi (q .router) rs 1 (q .tiers) best
 
-  taken-first : (rs : List Route) (tier : ℕ) (r : Route) → Taken afi router source group rs tier r → First afi q 1 5 rs (found tier r)
-  taken-first rs tier r t =
-      let range = tier-range (t .eligible .met) in (
-        range .0,
-        range .1,
-        (
-          refl,
-          t .member,
-          qualifying tier r (t .eligible),
-          λ u m h. let e : Eligible afi router source group tier u = eligible tier u h in ap₂ before (rd tier u e) (rd tier r (t .eligible)) ∙ t .first u m e,
-        ),
-        λ other low less u m. is-false _ (λ h. t .lowest other u less m (eligible other u h)),
-      )
+    none-taken : IsFirst nothing → NoneTaken afi (q .router) In rs
+    none-taken f tier u m e = opposite (eligible-is tier u e) (first-none f tier u m)
 
-  none-found : (rs : List Route) (best : Found) → NoneTaken afi router source group rs → First afi q 1 5 rs best → best ≡ nothing
-  none-found rs nothing none f = refl
-  none-found rs (found tier r) none f = absurd (none tier r (f .2 .1) (eligible tier r (f .2 .2)))
+    first-taken : Distinct rs → (tier : ℕ) (r : Route) → IsFirst (found tier r) → Taken afi (q .router) In rs tier r
+    first-taken d tier r f =
+        let l = first-least f in
+        let own : Eligible afi (q .router) In tier r = is-eligible tier r (l .good) in
+        record {
+          member = l .member;
+          eligible = own;
+          lowest = λ other u less m e. opposite (eligible-is other u e) (first-below f other less u m);
+          first = λ u m e. sym (ap₂ before (rd u e) (rd r own)) ∙ l .least u m (eligible-is tier u e);
+          only = λ u m e same. one-member u r d m (l .member) (same-nlri afi (q .router) (wanted tier) u r (eligible-is tier u e) (l .good) (rd u e ∙ same ∙ sym (rd r own)));
+        }
 
-  pub found-taken : (rs : List Route) → Distinct rs → (tier : ℕ) (r : Route) → (matchIn afi q rs ≡ found tier r) ↔ Taken afi router source group rs tier r
-  found-taken rs d tier r = (
-    λ e. first-taken rs d tier r (subst (First afi q 1 5 rs) e (first-is afi q rs)),
-    λ t. first-unique afi q rs rs d (λ n u h m. m) (λ n u h m. m) _ _ (first-is afi q rs) (taken-first rs tier r t),
-  )
+    -- one route is taken
+    taken-unique : {tier other : ℕ} {r u : Route} → Taken afi (q .router) In rs tier r → Taken afi (q .router) In rs other u → found other u ≡ found tier r
+    taken-unique {tier} {other} {r} {u} t s =
+        let low : tier < other → ⊥ = λ h. s .lowest tier r h (t .member) (t .eligible) in
+        let high : other < tier → ⊥ = λ h. t .lowest other u h (s .member) (s .eligible) in
+        let same : other ≡ tier = omega arith in
+        let v : Taken afi (q .router) In rs tier u = subst (λ (n : ℕ). Taken afi (q .router) In rs n u) same s in
+        ap₂ found same (t .only u (v .member) (v .eligible) (before-neither _ _ (t .first u (v .member) (v .eligible)) (v .first r (t .member) (t .eligible))))
 
-  pub nothing-taken : (rs : List Route) → (matchIn afi q rs ≡ nothing) ↔ NoneTaken afi router source group rs
-  nothing-taken rs = (
-    λ e tier u m x. let range = tier-range (x .met) in opposite (qualifying tier u x) (subst (First afi q 1 5 rs) e (first-is afi q rs) tier (range .0) (range .1) u m),
-    λ none. none-found rs (matchIn afi q rs) none (first-is afi q rs),
-  )
+    taken-found : Distinct rs → (tier : ℕ) (r : Route) (best : Found) → IsFirst best → Taken afi (q .router) In rs tier r → best ≡ found tier r
+    taken-found d tier r nothing f t = absurd (none-taken f tier r (t .member) (t .eligible))
+    taken-found d tier r (found other u) f t = taken-unique t (first-taken d other u f)
+
+    none-found : (best : Found) → IsFirst best → NoneTaken afi (q .router) In rs → best ≡ nothing
+    none-found nothing f none = refl
+    none-found (found tier r) f none = let l = first-least f in absurd (none tier r (l .member) (is-eligible tier r (l .good)))
+
+    pub found-taken : Distinct rs → (tier : ℕ) (r : Route) → (matchIn afi q rs ≡ found tier r) ↔ Taken afi (q .router) In rs tier r
+    found-taken d tier r = (λ e. first-taken d tier r (subst IsFirst e (first-is afi q rs)), taken-found d tier r (matchIn afi q rs) (first-is afi q rs))
+
+    pub nothing-taken : (matchIn afi q rs ≡ nothing) ↔ NoneTaken afi (q .router) In rs
+    nothing-taken = (λ e. none-taken (subst IsFirst e (first-is afi q rs)), none-found (matchIn afi q rs) (first-is afi q rs))
+
+-- a flow's query wants what document 01's conditions say
+module _ (afi : ℕ) (flow : Flow) (q : Query) (a : Asked afi flow q) (f : Fields) where
+  at-tier : (tier n : ℕ) → eqb tier n ≡ true → InTier afi flow n f → InTier afi flow tier f
+  at-tier tier n t i = subst (λ (k : ℕ). InTier afi flow k f) (sym (eqb-true tier n t)) i
+
+  in-tier : (tier : ℕ) → meets (wantedAt 1 tier (flowQuery flow (a .class) .tiers)) f ≡ true → InTier afi flow tier f
+  unfolding wantedAt flowQuery meets
+  in-tier tier =
+      pick-case Meant _ _ _ (λ t h. let e = meets-exactly _ _ f .0 h in at-tier tier 1 t (bothEqual (e .0) (e .1)))
+      (λ _. pick-case Meant _ _ _
+      (λ t. pick-case Meant _ _ _ (λ ssm h. let e = meets-exactly _ _ f .0 h in at-tier tier 2 t (sourceEqual (e .0) (e .1) (a .specific .0 (eqb-true _ _ ssm)))) (λ _ h. absurd (opposite h refl)))
+      (λ _. pick-case Meant _ _ _
+      (λ t. pick-case Meant _ _ _ (λ asm h. let e = meets-exactly _ _ f .0 h in at-tier tier 3 t (groupEqual (e .0) (e .1) (a .other .0 (eqb-true _ _ asm)))) (λ _ h. absurd (opposite h refl)))
+      (λ _. pick-case Meant _ _ _ (λ t h. let e = meets-exactly _ _ f .0 h in at-tier tier 4 t (bothWildcard (e .0) (e .1))) (λ _ h. absurd (opposite h refl)))))
+    where
+      Meant : Wanted → Type 0
+      Meant w = meets w f ≡ true → InTier afi flow tier f
+
+  tier-met : {tier : ℕ} → InTier afi flow tier f → meets (wantedAt 1 tier (flowQuery flow (a .class) .tiers)) f ≡ true
+  unfolding wantedAt flowQuery pick
+  tier-met (bothEqual s g) = meets-exactly _ _ f .1 (s, g)
+  tier-met (sourceEqual s g ssm) = rw (eq-eqb (a .class) SSM (a .specific .1 ssm)) (meets-exactly _ _ f .1 (s, g))
+  tier-met (groupEqual s g asm) = rw (eq-eqb (a .class) ASM (a .other .1 asm)) (meets-exactly _ _ f .1 (s, g))
+  tier-met (bothWildcard s g) = meets-exactly _ _ f .1 (s, g)
+
+pub flow-exactly : (afi : ℕ) (flow : Flow) (q : Query) (a : Asked afi flow q) → (tier : ℕ) (f : Fields) → (meets (wantedAt 1 tier (q .tiers)) f ≡ true) ↔ InTier afi flow tier f
+flow-exactly afi flow q a tier f =
+    subst (λ (x : Query). (meets (wantedAt 1 tier (x .tiers)) f ≡ true) ↔ InTier afi flow tier f) (sym (a .is)) (in-tier afi flow q a f tier, tier-met afi flow q a f)

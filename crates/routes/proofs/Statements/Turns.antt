@@ -11,8 +11,9 @@ use Rattle.octets.specs.Lists.{Among, first, later, Once, Rearranged, chosen}
 use Rattle.routes.specs.Call.{Call, ownerOf}
 use Rattle.routes.specs.Book.{ownCalls, nobodysCalls, isAmong, onceEach, routersOf}
 use Rattle.routes.specs.MixedCalls.{turns, inTurn, Reordered}
-use Rattle.routes.proofs.Definitions.Distincts.{nowhere, among-cases, is-among-true, among-is-among, among-once-each, once-once-each, rearranged-among, rearranged-itself, once-rearranged}
-use Rattle.routes.proofs.Definitions.Chosen.{chosen-append, chosen-passes, chosen-all, chosen-none}
+use Rattle.octets.proofs.Among.{among-none, among-cases, rearranged-among, rearranged-itself, once-rearranged}
+use Rattle.routes.proofs.Definitions.OnceEach.{is-among-true, among-is-among, among-once-each, once-once-each}
+use Rattle.octets.proofs.Chosen.{chosen-append, chosen-passes, chosen-all, chosen-none}
 use Rattle.routes.proofs.Definitions.Ownership.{owner-nobody, owners-same, owned-by}
 use Rattle.routes.proofs.Definitions.AllBooks.{own-none}
 use Rattle.routes.proofs.Definitions.ByOwner.{is-nobody, by-owner}
@@ -54,7 +55,7 @@ module _ (afi : ℕ) (calls : List Call) where
 
   own-turns : (router : List ℕ) {routers : List (List ℕ)} → Once routers → Among router routers → ownCalls afi router (turns afi routers calls) ≡ ownCalls afi router calls
   unfolding turns
-  own-turns router Once.none m = absurd (nowhere m)
+  own-turns router Once.none m = absurd (among-none m)
   own-turns router (Once.one {x = other} {xs = routers} n u) m =
       chosen-append _ (ownCalls afi other calls) (turns afi routers calls)
       ∙ tested (same router other)

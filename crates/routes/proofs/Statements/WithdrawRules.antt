@@ -9,8 +9,7 @@ use Rattle.octets.specs.Numbers.{DONE, ABSENT}
 use Rattle.octets.specs.Outcome.{given, refused, onOutcome, numberOf}
 use Rattle.octets.proofs.Choice.{pick-true, pick-false, picked}
 use Rattle.octets.proofs.Outcome.{given-unless, passed, given-same, outcome, stopped, refused-same, refuses-unless, goes, stops, refused-of, number-refused, number-given, done-given}
-use Rattle.octets.proofs.Orders.{unequal-other}
-use Rattle.routes.specs.Route.{lookup, absent, removed}
+use Rattle.routes.specs.Route.{absent, removed}
 use Rattle.routes.specs.Table.{imageOf, afiIn, placesIn, routesOf}
 use Rattle.routes.specs.Calls.{leaving, withdrawOutcome, withdrawOf}
 use Rattle.routes.specs.Images.{Holdable, TableOf}
@@ -19,7 +18,7 @@ use Rattle.routes.proofs.Statements.ArgumentRules.{argumentRule, nlri-a
 use Rattle.routes.proofs.Definitions.ByArguments.{number-s-pmsi}
 use Rattle.routes.proofs.Definitions.Holding.{holdable-removed}
 use Rattle.routes.proofs.Statements.Images.{images, sound, sound-holdable, length-image}
-use Rattle.routes.proofs.Definitions.Lookups.{absent-holds, holds-absent, held-holds, holds-held, lookup-removed-same, lookup-removed-other, distinct-increasing, length-removed-held}
+use Rattle.routes.proofs.Definitions.Lookups.{absent-holds, holds-absent, held-holds, holds-held, removed-now, distinct-increasing, length-removed-held}
 
 -- what a withdrawal that is not refused found
 pub record Left (t nlri : List ℕ) : Type 0 where
@@ -105,12 +104,7 @@ module _ (t nlri : List ℕ) where
       (λ n e. ap length (withdraw-leaves n e))
 
   held-after : withdrawOutcome t nlri ≡ given nlri → HeldNow nlri absent (routesOf t) (routesOf (withdrawOf t nlri .octets))
-  held-after e =
-      let a = after-given e in
-      record {
-        own = ap (lookup nlri) (a .routes) ∙ lookup-removed-same nlri (distinct-increasing (sound-holdable t (withdraw-given nlri e .0 .asked .sound) .increasing));
-        others = λ other d. ap (lookup other) (a .routes) ∙ lookup-removed-other other nlri (routesOf t) (unequal-other other nlri d);
-      }
+  held-after e = rw (after-given e .routes) (removed-now nlri (distinct-increasing (sound-holdable t (withdraw-given nlri e .0 .asked .sound) .increasing)))
 
   room : withdrawOutcome t nlri ≡ given nlri → suc (length (routesOf (withdrawOf t nlri .octets))) ≡ length (routesOf t)
   room e =

@@ -3,7 +3,9 @@ use native.Mathlib.Omega.{arith}
 use borrow.Author.Needs.{needs}
 use Rattle.table.proofs.RouteWrites.{route-written, nlri-room, attribute-room, nlri-small, attribute-small, route-answer}
 use denote.Ref.{now}
+use Rattle.octets.specs.Outcome.{onOutcome}
 use Rattle.routes.specs.Place.{routeIn}
+use Rattle.routes.specs.Answers.{matchedBy}
 use Rattle.table.proofs.answer.write_route.Statement.{statement}
 use Rattle.table.proofs.answer.write_route.Tie as tie
 
@@ -20,6 +22,7 @@ cast-t13 : tie.Need-cast-t13
 cast-t13 c = omega (arith, attribute-small _ _ _ (c .before .before .before .before .before .before .before .before .before .before .before .before .pre) (c .before .before .before .before .before .before .before .before .before .nlri-in .ensures) _ (c .before .before .before .before .attribute-in .ensures) _ (c .before .before .write-attribute .ensures .0))
 
 returns : tie.Need-returns
+unfolding matchedBy onOutcome
 returns c =
     let start = c .before .before .before .before .before .before .before .before .before .before .before .before in
     let a = start .args in

@@ -17,10 +17,4 @@ returns c =
 pub close-place-spec : {M : Type 1} → statement M
 close-place-spec =
     tie.close
-    (tie.spec
-    (search needs)
-    (search needs)
-    (search needs)
-    (search needs)
-    (search needs)
-    returns)
+    (tie.spec (search needs) (search needs) (search needs) (search needs) (search needs) returns)

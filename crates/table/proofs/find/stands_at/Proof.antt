@@ -8,21 +8,18 @@ use borrow.Author.Needs.{needs}
 use Rattle.table.proofs.find.stands_at.Statement.{statement}
 use Rattle.table.proofs.find.stands_at.Tie as tie
 
-nlri-at-requires : tie.Need-nlri-at-requires
-nlri-at-requires c κs = search needs
-
-is-same-requires : tie.Need-is-same-requires
-is-same-requires c κs = search needs
-
 returns : tie.Need-returns
 returns c =
-    let a = c .before .before .before .before .before .args in
-    c .is-same .ensures ∙ ap (same (now (a .nlri))) (c .before .nlri-at .ensures) ∙ sym (first-at (now (a .table)) (now (a .nlri)) (a .index) (omega arith))
-
-returns-2 : tie.Need-returns-2
-returns-2 c =
     let a = c .before .before .before .args in
     sym (first-past (now (a .table)) (now (a .nlri)) (a .index) (omega arith))
 
+nlri-at-requires : tie.Need-nlri-at-requires
+nlri-at-requires c κs = search needs
+
+returns-2 : tie.Need-returns-2
+returns-2 c =
+    let a = c .before .before .before .before .before .args in
+    c .is-same .ensures ∙ ap (same (now (a .nlri))) (c .before .nlri-at .ensures) ∙ sym (first-at (now (a .table)) (now (a .nlri)) (a .index) (omega arith))
+
 pub stands-at-spec : {M : Type 1} → statement M
-stands-at-spec = tie.close (tie.spec nlri-at-requires is-same-requires returns returns-2)
+stands-at-spec = tie.close (tie.spec returns nlri-at-requires (search needs) returns-2)

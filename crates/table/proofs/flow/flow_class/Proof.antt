@@ -5,20 +5,21 @@ use borrow.Author.Needs.{needs}
 use Rattle.octets.proofs.Choice.{picks, skips}
 use Rattle.nlri.specs.Groups.{groupOf}
 use Rattle.table.specs.Scanning.{flowClass}
+use borrow.Author.Tests.{not-true, not-false}
 use Rattle.table.proofs.flow.flow_class.Statement.{statement}
 use Rattle.table.proofs.flow.flow_class.Tie as tie
 
 returns : tie.Need-returns
 unfolding flowClass
-returns c = c .group-class .ensures ∙ ap groupOf (picks _ _ _ _ (sym (c .before .before .before .is-originator-size .ensures) ∙ c .before .before .if1 .taken) (picks _ _ _ _ (eq-eqb _ _ (c .before .if2 .taken)) refl))
+returns c = c .refused .ensures ∙ ap groupOf (skips _ _ _ _ (sym (c .before .before .is-originator-size .ensures) ∙ not-true _ (c .before .if1 .taken)) refl)
 
 returns-2 : tie.Need-returns-2
 unfolding flowClass
-returns-2 c = c .refusal .ensures ∙ ap groupOf (picks _ _ _ _ (sym (c .before .before .before .is-originator-size .ensures) ∙ c .before .before .if1 .taken) (skips _ _ _ _ (ne-eqb _ _ (c .before .if2 .left)) refl))
+returns-2 c = c .refused2 .ensures ∙ ap groupOf (picks _ _ _ _ (sym (c .before .before .before .is-originator-size .ensures) ∙ not-false _ (c .before .before .if1 .left)) (skips _ _ _ _ (ne-eqb _ _ (c .before .if2 .taken)) refl))
 
 returns-3 : tie.Need-returns-3
 unfolding flowClass
-returns-3 c = c .refusal2 .ensures ∙ ap groupOf (skips _ _ _ _ (sym (c .before .before .is-originator-size .ensures) ∙ c .before .if1 .left) refl)
+returns-3 c = c .group-class .ensures ∙ ap groupOf (picks _ _ _ _ (sym (c .before .before .before .is-originator-size .ensures) ∙ not-false _ (c .before .before .if1 .left)) (picks _ _ _ _ (eq-eqb _ _ (c .before .if2 .left)) refl))
 
 pub flow-class-spec : {M : Type 1} → statement M
 flow-class-spec =

@@ -11,7 +11,7 @@ use Rattle.routes.proofs.Statements.Images.{length-routes}
 use Rattle.table.specs.Changing.{addedAt}
 use Rattle.table.proofs.Ranks.{rank-most}
 use Rattle.table.proofs.Finds.{header-within, places-within}
-use Rattle.table.proofs.Installs.{route-fits, install-full, install-adds}
+use Rattle.table.proofs.Installs.{leaves-as, route-fits, install-full, install-adds}
 use borrow.Author.Needs.{needs}
 use Rattle.table.proofs.installing.enter_new.Statement.{statement}
 use Rattle.table.proofs.installing.enter_new.Tie as tie
@@ -24,9 +24,9 @@ places-of-requires c κs = header-within (now (c .before .before .before .before
 
 returns : tie.Need-returns
 returns c =
-    let a = c .before .before .before .before .before .before .before .before .args in
-    let p = c .before .before .before .before .before .before .before .before .pre in
-    install-full (now (a .table)) (now (a .nlri)) (now (a .attribute)) (a .index) (p .0) (p .1 .0) (p .1 .1 .0) (p .1 .1 .1) (omega (arith, c .before .before .before .count-of .ensures .0, c .before .places-of .ensures))
+    let a = c .before .before .before .before .before .before .before .before .before .args in
+    let p = c .before .before .before .before .before .before .before .before .before .pre in
+    leaves-as (c .refused .ensures) (install-full (now (a .table)) (now (a .nlri)) (now (a .attribute)) (a .index) (p .0) (p .1 .0) (p .1 .1 .0) (p .1 .1 .1) (omega (arith, c .before .before .before .before .count-of .ensures .0, c .before .before .places-of .ensures)))
 
 add-requires : tie.Need-add-requires
 add-requires c κs =
@@ -38,13 +38,13 @@ add-requires c κs =
 
 returns-2 : tie.Need-returns-2
 returns-2 c =
-    let a = c .before .before .before .before .before .before .before .before .before .before .before .before .args in
-    let p = c .before .before .before .before .before .before .before .before .before .before .before .before .pre in
+    let a = c .before .before .before .before .before .before .before .before .before .before .before .before .before .args in
+    let p = c .before .before .before .before .before .before .before .before .before .before .before .before .before .pre in
     let t = now (a .table) in
-    let n = c .before .before .before .before .before .before .before .count-of in
-    let octets = octets-of t (λ i. c .before .before .before .before .before .before .before .before .before .before .before .slice-known .given i .fits) in
-    let added = subst (λ (count : ℕ). c .before .before .add .last .0 ≡ addedAt (a .index) count (placeOf (route (now (a .nlri)) (now (a .attribute)))) t) (n .ensures .0) (c .before .before .add .ensures) in
-    install-adds t (now (a .nlri)) (now (a .attribute)) (c .before .before .add .last .0) (a .index) octets (p .0) (p .1 .0) (p .1 .1 .0) (p .1 .1 .1) (omega (arith, n .ensures .0, c .before .before .before .before .before .places-of .ensures)) added
+    let n = c .before .before .before .before .before .before .before .before .count-of in
+    let octets = octets-of t (λ i. c .before .before .before .before .before .before .before .before .before .before .before .before .slice-known .given i .fits) in
+    let added = subst (λ (count : ℕ). c .before .before .before .add .last .0 ≡ addedAt (a .index) count (placeOf (route (now (a .nlri)) (now (a .attribute)))) t) (n .ensures .0) (c .before .before .before .add .ensures) in
+    leaves-as (c .done .ensures) (install-adds t (now (a .nlri)) (now (a .attribute)) (c .before .before .before .add .last .0) (a .index) octets (p .0) (p .1 .0) (p .1 .1 .0) (p .1 .1 .1) (omega (arith, n .ensures .0, c .before .before .before .before .before .before .places-of .ensures)) added)
 
 pub enter-new-spec : {M : Type 1} → statement M
 enter-new-spec =
@@ -53,7 +53,9 @@ enter-new-spec =
     count-of-requires
     places-of-requires
     (search needs)
+    (search needs)
     returns
     add-requires
+    (search needs)
     (search needs)
     returns-2)

@@ -5,7 +5,7 @@ use denote.Ref.{now}
 use Rattle.octets.specs.Outcome.{numberOf}
 use Rattle.routes.specs.Arguments.{readRoute}
 use Rattle.table.proofs.Finds.{header-within}
-use Rattle.table.proofs.Installs.{install-faulty}
+use Rattle.table.proofs.Installs.{leaves-as, install-faulty}
 use borrow.Author.Needs.{needs}
 use Rattle.table.proofs.installing.install_sound.Statement.{statement}
 use Rattle.table.proofs.installing.install_sound.Tie as tie
@@ -13,17 +13,11 @@ use Rattle.table.proofs.installing.install_sound.Tie as tie
 afi-of-requires : tie.Need-afi-of-requires
 afi-of-requires c κs = header-within (now (c .before .before .before .before .args .table)) (c .before .before .before .before .pre)
 
-route-fault-requires : tie.Need-route-fault-requires
-route-fault-requires c κs = search needs
-
-same-length : tie.Need-same-length
-same-length c = search needs
-
 returns : tie.Need-returns
 returns c =
-    let a = c .before .before .before .before .before .before .before .args in
-    let fault = c .before .route-fault .ensures ∙ ap (λ (afi : ℕ). numberOf (readRoute afi (now (a .nlri)) (now (a .attribute)))) (c .before .before .afi-of .ensures .0) in
-    install-faulty (now (a .table)) (now (a .nlri)) (now (a .attribute)) (c .before .route-fault .result) (c .before .before .before .before .before .before .before .pre) fault (c .if1 .taken)
+    let a = c .before .before .before .before .before .before .before .before .args in
+    let fault = c .before .before .route-fault .ensures ∙ ap (λ (afi : ℕ). numberOf (readRoute afi (now (a .nlri)) (now (a .attribute)))) (c .before .before .before .afi-of .ensures .0) in
+    leaves-as (c .refused .ensures) (install-faulty (now (a .table)) (now (a .nlri)) (now (a .attribute)) (c .before .before .route-fault .result) (c .before .before .before .before .before .before .before .before .pre) fault (c .before .if1 .taken))
 
 enter-requires : tie.Need-enter-requires
 enter-requires c κs =
@@ -31,8 +25,8 @@ enter-requires c κs =
     let fault = c .before .before .route-fault .ensures ∙ ap (λ (afi : ℕ). numberOf (readRoute afi (now (a .nlri)) (now (a .attribute)))) (c .before .before .before .afi-of .ensures .0) in
     (c .before .before .before .before .before .before .before .before .pre, sym fault ∙ c .before .if1 .left)
 
-same-length-2 : tie.Need-same-length-2
-same-length-2 c = search needs
+route-fault-requires : tie.Need-route-fault-requires
+route-fault-requires c κs = search needs
 
 returns-2 : tie.Need-returns-2
 returns-2 c = search needs
@@ -43,8 +37,9 @@ install-sound-spec =
     (tie.spec
     afi-of-requires
     route-fault-requires
-    same-length
+    (search needs)
+    (search needs)
     returns
     enter-requires
-    same-length-2
+    (search needs)
     returns-2)

@@ -4,25 +4,15 @@ use borrow.Author.Needs.{needs}
 use Rattle.table.proofs.judge.s_pmsi_fault.Statement.{statement}
 use Rattle.table.proofs.judge.s_pmsi_fault.Tie as tie
 
-read-layout-requires : tie.Need-read-layout-requires
-read-layout-requires c κs = search needs
-
-enum-known-number : tie.Need-enum-known-number
-enum-known-number c = search needs
-
-enum-known-layout : tie.Need-enum-known-layout
-enum-known-layout c = search needs
-
 returns : tie.Need-returns
-returns c = s-pmsi-given _ _ _ (c .before .before .before .before .before .read-layout .ensures) _ (c .before .before .before .layout .given .1) (c .if1 .taken)
+returns c = s-pmsi-other _ _ _ (c .before .before .before .before .before .read-layout .ensures) _ (c .before .before .before .layout .given .1) (c .if1 .taken)
 
 returns-2 : tie.Need-returns-2
 returns-2 c = s-pmsi-refused _ _ _ (c .before .before .before .read-layout .ensures) _ (c .before .number .given .1)
 
 returns-3 : tie.Need-returns-3
-returns-3 c = s-pmsi-other _ _ _ (c .before .before .before .before .before .read-layout .ensures) _ (c .before .before .before .layout .given .1) (c .if1 .left)
+returns-3 c = s-pmsi-given _ _ _ (c .before .before .before .before .before .read-layout .ensures) _ (c .before .before .before .layout .given .1) (c .if1 .left)
 
 pub s-pmsi-fault-spec : {M : Type 1} → statement M
 s-pmsi-fault-spec =
-    tie.close
-    (tie.spec read-layout-requires enum-known-number enum-known-layout returns returns-2 returns-3)
+    tie.close (tie.spec (search needs) (search needs) (search needs) returns returns-2 returns-3)

@@ -2,34 +2,20 @@
 use Rattle.table.proofs.Matches.{match-unsound}
 use borrow.Author.Needs.{needs}
 use mathlib.Core.Path.{sym, _∙_}
+use borrow.Author.Tests.{not-true, not-false}
 use Rattle.table.proofs.matching.match_flow.Statement.{statement}
 use Rattle.table.proofs.matching.match_flow.Tie as tie
 
-is-sound-requires : tie.Need-is-sound-requires
-is-sound-requires c κs = search needs
+returns : tie.Need-returns
+returns c = match-unsound _ _ _ _ (sym (c .before .before .is-sound .ensures) ∙ not-true _ (c .before .if1 .taken)) (c .refused .ensures)
 
 match-sound-requires : tie.Need-match-sound-requires
-match-sound-requires c κs = sym (c .before .before .is-sound .ensures) ∙ c .before .if1 .taken
-
-same-length : tie.Need-same-length
-same-length c = search needs
-
-returns : tie.Need-returns
-returns c = search needs
-
-refusal-requires : tie.Need-refusal-requires
-refusal-requires c κs = search needs
+match-sound-requires c κs = sym (c .before .before .is-sound .ensures) ∙ not-false _ (c .before .if1 .left)
 
 returns-2 : tie.Need-returns-2
-returns-2 c = match-unsound _ _ _ _ _ _ (sym (c .before .before .is-sound .ensures) ∙ c .before .if1 .left) (c .refusal .ensures)
+returns-2 c = search needs
 
 pub match-flow-spec : {M : Type 1} → statement M
 match-flow-spec =
     tie.close
-    (tie.spec
-    is-sound-requires
-    match-sound-requires
-    same-length
-    returns
-    refusal-requires
-    returns-2)
+    (tie.spec (search needs) (search needs) returns match-sound-requires (search needs) returns-2)

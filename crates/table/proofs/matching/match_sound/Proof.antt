@@ -9,16 +9,16 @@ afi-of-requires : tie.Need-afi-of-requires
 afi-of-requires c κs = header-within _ (c .before .before .before .before .before .pre)
 
 returns : tie.Need-returns
-returns c = answers-flow _ _ _ _ (c .before .before .before .before .before .before .before .before .before .before .pre) _ _ (c .before .before .before .before .afi-of .ensures .0) (c .before .before .before .flow-class .ensures) _ _ (c .before .if1 .taken) (c .refusal .ensures)
+returns c = answers-flow _ _ (c .before .before .before .before .before .before .before .before .before .before .pre) _ _ (c .before .before .before .before .afi-of .ensures .0) (c .before .before .before .flow-class .ensures) _ _ (c .before .if1 .taken) (c .refused .ensures)
 
 returns-2 : tie.Need-returns-2
-returns-2 c = answers-space _ _ _ _ (c .before .before .before .before .before .before .before .before .before .before .before .pre) _ _ (c .before .before .before .before .before .afi-of .ensures .0) (c .before .before .before .before .flow-class .ensures) _ _ (c .before .before .if1 .left) (c .before .if2 .taken) (c .refusal2 .ensures)
+returns-2 c = answers-space _ _ (c .before .before .before .before .before .before .before .before .before .before .before .pre) _ _ (c .before .before .before .before .before .afi-of .ensures .0) (c .before .before .before .before .flow-class .ensures) _ _ (c .before .before .if1 .left) (c .before .if2 .taken) (c .refused2 .ensures)
 
 search-requires : tie.Need-search-requires
-search-requires c κs = let some = some-flow _ _ _ _ (c .before .before .before .before .before .before .before .before .before .before .before .pre) _ _ (c .before .before .before .before .before .afi-of .ensures .0) (c .before .before .before .before .flow-class .ensures) (c .before .before .if1 .left) in ((c .before .before .before .before .before .before .before .before .before .before .before .pre), c .before .if2 .left, some .0, some .1, some .2)
+search-requires c κs = let some = some-flow _ _ (c .before .before .before .before .before .before .before .before .before .before .before .before .pre) _ _ (c .before .before .before .before .before .before .afi-of .ensures .0) (c .before .before .before .before .before .flow-class .ensures) (c .before .before .before .if1 .left) in ((c .before .before .before .before .before .before .before .before .before .before .before .before .pre), c .before .before .if2 .left, some .0, some .1, some .2)
 
 returns-3 : tie.Need-returns-3
-returns-3 c = answers-search _ _ _ _ (c .before .before .before .before .before .before .before .before .before .before .before .before .before .before .pre) _ _ (c .before .before .before .before .before .before .before .before .afi-of .ensures .0) (c .before .before .before .before .before .before .before .flow-class .ensures) _ _ (c .before .before .before .before .before .if1 .left) (c .before .before .before .before .if2 .left) _ (c .before .before .search .ensures .0) (c .before .before .search .ensures .1)
+returns-3 c = answers-search _ _ (c .before .before .before .before .before .before .before .before .before .before .before .before .before .before .before .pre) _ _ (c .before .before .before .before .before .before .before .before .before .afi-of .ensures .0) (c .before .before .before .before .before .before .before .before .flow-class .ensures) _ _ (c .before .before .before .before .before .before .if1 .left) (c .before .before .before .before .before .if2 .left) _ _ (c .before .before .before .before .of-class .ensures) (c .before .before .search .ensures)
 
 pub match-sound-spec : {M : Type 1} → statement M
 match-sound-spec =
@@ -30,6 +30,7 @@ match-sound-spec =
     returns
     (search needs)
     returns-2
+    (search needs)
     search-requires
     (search needs)
     returns-3)

@@ -12,13 +12,13 @@ scan-requires : tie.Need-scan-requires
 scan-requires c κs = (scan-ready _ (c .before .before .before .before .before .before .pre .0) _ (c .count-of .ensures .0), c .before .before .before .before .before .before .pre .4)
 
 answer-requires : tie.Need-answer-requires
-answer-requires c κs = scan-answerable _ (c .before .before .before .before .before .before .before .before .pre .0) _ _ _ _ (c .before .before .before .before .before .before .before .before .pre .2) (c .before .before .before .before .before .before .before .before .pre .3) _ _ (c .before .before .count-of .ensures .0) (c .before .scan .ensures) _ (c .before .before .before .before .before .before .before .before .pre .1)
+answer-requires c κs = scan-answerable _ (c .before .before .before .before .before .before .before .before .pre .0) _ _ (c .before .before .before .before .before .before .before .before .pre .2) (c .before .before .before .before .before .before .before .before .pre .3) _ _ (c .before .before .count-of .ensures .0) (c .before .scan .ensures) _ (c .before .before .before .before .before .before .before .before .pre .1)
 
 same-length : tie.Need-same-length
 same-length c = search needs
 
 returns : tie.Need-returns
-returns c = search-answers _ (c .before .before .before .before .before .before .before .before .before .before .before .pre .0) _ _ _ _ (c .before .before .before .before .before .before .before .before .before .before .before .pre .2) (c .before .before .before .before .before .before .before .before .before .before .before .pre .3) _ _ (c .before .before .before .before .before .count-of .ensures .0) (c .before .before .before .before .scan .ensures) _ _ _ (c .before .before .answer .ensures .0) (c .before .before .answer .ensures .1)
+returns c = search-answers _ (c .before .before .before .before .before .before .before .before .before .before .before .pre .0) _ _ (c .before .before .before .before .before .before .before .before .before .before .before .pre .2) (c .before .before .before .before .before .before .before .before .before .before .before .pre .3) _ _ (c .before .before .before .before .before .count-of .ensures .0) (c .before .before .before .before .scan .ensures) _ _ _ (c .before .before .answer .ensures)
 
 pub search-spec : {M : Type 1} → statement M
 search-spec =

@@ -13,16 +13,16 @@ tier-of-requires : tie.Need-tier-of-requires
 tier-of-requires c κs = (subst Bounded (sym (c .nlri-from .ensures)) (c .before .before .before .before .before .pre .0 .0 .bounded), c .before .before .before .before .before .pre .1)
 
 returns : tie.Need-returns
-returns c = no-tier _ _ _ _ _ _ _ _ _ (c .before .before .nlri-from .ensures) (c .before .tier-of .ensures) (c .if1 .taken)
+returns c = no-tier _ _ _ _ _ _ _ (c .before .before .nlri-from .ensures) (c .before .tier-of .ensures) (c .if1 .taken)
 
 is-ahead-requires : tie.Need-is-ahead-requires
 is-ahead-requires c κs = search needs
 
 returns-2 : tie.Need-returns-2
-returns-2 c = goes-ahead _ _ _ _ _ _ _ _ _ (c .before .before .before .before .nlri-from .ensures) (c .before .before .before .tier-of .ensures) _ (c .before .before .if1 .left) (c .before .is-ahead .ensures) (c .if2 .taken)
+returns-2 c = goes-ahead _ _ _ _ _ _ _ (c .before .before .before .before .nlri-from .ensures) (c .before .before .before .tier-of .ensures) _ (c .before .before .if1 .left) (c .before .is-ahead .ensures) (c .if2 .taken)
 
 returns-3 : tie.Need-returns-3
-returns-3 c = stays-behind _ _ _ _ _ _ _ _ _ (c .before .before .before .before .nlri-from .ensures) (c .before .before .before .tier-of .ensures) _ (c .before .before .if1 .left) (c .before .is-ahead .ensures) (c .if2 .left)
+returns-3 c = stays-behind _ _ _ _ _ _ _ (c .before .before .before .before .nlri-from .ensures) (c .before .before .before .tier-of .ensures) _ (c .before .before .if1 .left) (c .before .is-ahead .ensures) (c .if2 .left)
 
 pub better-spec : {M : Type 1} → statement M
 better-spec =

@@ -1,13 +1,9 @@
 -- `table::tier::source_tier` meets its contract.
 use Rattle.octets.proofs.Tests.{flags}
-use Rattle.table.specs.Scanning.{sourceTier}
-use Rattle.routes.specs.Matching.{wildcard}
+use Rattle.table.specs.Scanning.{wildcard, sourceTier}
 use borrow.Author.Needs.{needs}
 use Rattle.table.proofs.tier.source_tier.Statement.{statement}
 use Rattle.table.proofs.tier.source_tier.Tie as tie
-
-is-same-requires : tie.Need-is-same-requires
-is-same-requires c κs = search needs
 
 returns : tie.Need-returns
 unfolding sourceTier wildcard
@@ -21,9 +17,6 @@ returns-3 : tie.Need-returns-3
 unfolding sourceTier wildcard
 returns-3 c = search flags
 
-returns-4 : tie.Need-returns-4
-unfolding sourceTier wildcard
-returns-4 c = search flags
-
 pub source-tier-spec : {M : Type 1} → statement M
-source-tier-spec = tie.close (tie.spec is-same-requires returns returns-2 returns-3 returns-4)
+source-tier-spec =
+    tie.close (tie.spec (search needs) (search needs) returns returns-2 (search needs) returns-3)

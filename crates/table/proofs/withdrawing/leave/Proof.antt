@@ -9,17 +9,18 @@ use Rattle.table.specs.Changing.{takenAt}
 use Rattle.table.proofs.Finds.{header-within, places-within, held-within}
 use Rattle.table.proofs.Withdraws.{withdraw-absent, withdraw-takes}
 use borrow.Author.Needs.{needs}
+use borrow.Author.Tests.{not-true, not-false}
 use Rattle.table.proofs.withdrawing.leave.Statement.{statement}
 use Rattle.table.proofs.withdrawing.leave.Tie as tie
 
 count-of-requires : tie.Need-count-of-requires
 count-of-requires c κs = header-within (now (c .before .before .before .args .table)) (c .before .before .before .pre .0)
 
-position-requires : tie.Need-position-requires
-position-requires c κs = search needs
-
-stands-at-requires : tie.Need-stands-at-requires
-stands-at-requires c κs = search needs
+returns : tie.Need-returns
+returns c =
+    let a = c .before .before .before .before .before .before .before .before .before .args in
+    let p = c .before .before .before .before .before .before .before .before .before .pre in
+    withdraw-absent (now (a .table)) (now (a .nlri)) (c .before .before .before .position .result) (p .0) (p .1) (c .before .before .before .position .ensures) (sym (c .before .stands-at .ensures) ∙ not-true _ (c .if1 .taken))
 
 remove-requires : tie.Need-remove-requires
 remove-requires c κs =
@@ -27,31 +28,25 @@ remove-requires c κs =
     let p = c .before .before .before .before .before .before .before .before .before .before .pre in
     let t = now (a .table) in
     let n = c .before .before .before .before .before .before .count-of .ensures .0 in
-    let here = sym (c .before .before .stands-at .ensures) ∙ c .before .if1 .taken in
+    let here = sym (c .before .before .stands-at .ensures) ∙ not-false _ (c .before .if1 .left) in
     (omega (arith, n, held-within t (now (a .nlri)) (c .before .before .before .before .position .result) (p .0) here), places-within t _ (p .0) (omega (arith, n, sound t (p .0) .within)))
 
-same-length : tie.Need-same-length
-same-length c = search needs
-
-returns : tie.Need-returns
-returns c =
+returns-2 : tie.Need-returns-2
+returns-2 c =
     let a = c .before .before .before .before .before .before .before .before .before .before .before .before .before .args in
     let p = c .before .before .before .before .before .before .before .before .before .before .before .before .before .pre in
     let t = now (a .table) in
     let k = c .before .before .before .before .before .before .before .position in
     let octets = octets-of t (λ i. c .before .before .before .before .before .before .before .before .before .before .before .before .slice-known .given i .fits) in
-    let here = sym (c .before .before .before .before .before .stands-at .ensures) ∙ c .before .before .before .before .if1 .taken in
+    let here = sym (c .before .before .before .before .before .stands-at .ensures) ∙ not-false _ (c .before .before .before .before .if1 .left) in
     let taken = subst (λ (count : ℕ). c .before .before .remove .last .0 ≡ takenAt (k .result) count t) (c .before .before .before .before .before .before .before .before .before .count-of .ensures .0) (c .before .before .remove .ensures) in
     withdraw-takes t (now (a .nlri)) (c .before .before .remove .last .0) (k .result) octets (p .0) (p .1) (k .ensures) here taken
 
-same-length-2 : tie.Need-same-length-2
-same-length-2 c = search needs
+position-requires : tie.Need-position-requires
+position-requires c κs = search needs
 
-returns-2 : tie.Need-returns-2
-returns-2 c =
-    let a = c .before .before .before .before .before .before .before .before .before .args in
-    let p = c .before .before .before .before .before .before .before .before .before .pre in
-    withdraw-absent (now (a .table)) (now (a .nlri)) (c .before .before .before .position .result) (p .0) (p .1) (c .before .before .before .position .ensures) (sym (c .before .stands-at .ensures) ∙ c .if1 .left)
+stands-at-requires : tie.Need-stands-at-requires
+stands-at-requires c κs = search needs
 
 pub leave-spec : {M : Type 1} → statement M
 leave-spec =
@@ -60,8 +55,8 @@ leave-spec =
     count-of-requires
     position-requires
     stands-at-requires
-    remove-requires
-    same-length
+    (search needs)
     returns
-    same-length-2
+    remove-requires
+    (search needs)
     returns-2)

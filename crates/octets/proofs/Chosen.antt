@@ -2,11 +2,10 @@
 use mathlib.Core.Path.{_≡_, refl, sym, ap, _∙_}
 use mathlib.Core.Bool.{Bool, true, false}
 use mathlib.Core.List.{List, [], _∷_, _++_}
-use mathlib.Core.Logic.{⊎-elim}
 use Rattle.octets.specs.Choice.{pick}
-use Rattle.octets.proofs.Choice.{pick-true, pick-false, tested, is-false}
 use Rattle.octets.specs.Lists.{Among, first, later, PutIn, front, behind, Rearranged, chosen}
-use Rattle.routes.proofs.Definitions.Distincts.{nowhere, among-cases}
+use Rattle.octets.proofs.Choice.{pick-true, pick-false, pick-case, tested, is-false}
+use Rattle.octets.proofs.Among.{among-none, among-behind, among-each}
 
 module _ {A : Type 0} (test : A → Bool) where
   pub chosen-first : (x : A) (xs : List A) → test x ≡ true → chosen test (x ∷ xs) ≡ x ∷ chosen test xs
@@ -20,27 +19,19 @@ module _ {A : Type 0} (test : A → Bool) where
   pub chosen-append : (xs ys : List A) → chosen test (xs ++ ys) ≡ chosen test xs ++ chosen test ys
   unfolding chosen
   chosen-append [] ys = refl
-  chosen-append (x ∷ xs) ys =
-      tested (test x)
-      (λ t. chosen-first x (xs ++ ys) t ∙ ap (λ (l : List A). x ∷ l) (chosen-append xs ys) ∙ sym (ap (λ (l : List A). l ++ chosen test ys) (chosen-first x xs t)))
-      (λ f. chosen-later x (xs ++ ys) f ∙ chosen-append xs ys ∙ sym (ap (λ (l : List A). l ++ chosen test ys) (chosen-later x xs f)))
+  chosen-append (x ∷ xs) ys = rw (chosen-append xs ys) (pick-case (λ (l : List A). pick (test x) (x ∷ (chosen test xs ++ chosen test ys)) (chosen test xs ++ chosen test ys) ≡ l ++ chosen test ys) (test x) _ _ (λ t. pick-true _ _ _ t) (λ f. pick-false _ _ _ f))
 
   pub chosen-among : {x : A} (xs : List A) → Among x (chosen test xs) → Among x xs
   unfolding chosen
   chosen-among [] m = m
-  chosen-among (y ∷ ys) m =
-      tested (test y)
-      (λ t. ⊎-elim (λ e. first e) (λ a. later (chosen-among ys a)) (among-cases (rw (chosen-first y ys t) at m)))
-      (λ f. later (chosen-among ys (rw (chosen-later y ys f) at m)))
+  chosen-among {x} (y ∷ ys) m = pick-case (λ (l : List A). Among x l → Among x (y ∷ ys)) (test y) _ _ (λ t. among-behind (chosen-among ys)) (λ f n. later (chosen-among ys n)) m
 
   -- what is chosen passes the test
   pub chosen-passes : {x : A} (xs : List A) → Among x (chosen test xs) → test x ≡ true
   unfolding chosen
-  chosen-passes [] m = absurd (nowhere m)
-  chosen-passes (y ∷ ys) m =
-      tested (test y)
-      (λ t. ⊎-elim (λ e. rw e t) (λ a. chosen-passes ys a) (among-cases (rw (chosen-first y ys t) at m)))
-      (λ f. chosen-passes ys (rw (chosen-later y ys f) at m))
+  chosen-passes [] m = absurd (among-none m)
+  chosen-passes {x} (y ∷ ys) m =
+      pick-case (λ (l : List A). Among x l → test x ≡ true) (test y) _ _ (λ t. among-each (λ z. test z ≡ true) t (λ z n. chosen-passes ys n) x) (λ f. chosen-passes ys) m
 
   -- all, or none
   pub chosen-all : (xs : List A) → ((x : A) → Among x xs → test x ≡ true) → chosen test xs ≡ xs

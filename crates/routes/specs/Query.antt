@@ -1,0 +1,49 @@
+-- What a match asks (document 01, "Which route a flow takes"): the router and, for each tier, the source and the group that a route of it has.
+-- A tier is document 01's term for the numbers 1 to 4 of its order.
+use Prim.Native.Nat.{ℕ}
+use mathlib.Core.Bool.{Bool, false}
+use mathlib.Core.List.{List, [], _∷_}
+use lib.Dec.{eqb}
+use Rattle.octets.specs.Choice.{pick, both}
+use Rattle.octets.specs.Order.{same}
+use Rattle.nlri.specs.Fields.{Fields}
+use Rattle.nlri.specs.Groups.{ASM, SSM}
+
+-- what a tier wants of a route: this source and this group, where a wildcard is no octets; or no route is of the tier
+pub data Wanted : Type 0 where
+  noRoute : Wanted
+  these : (source group : List ℕ) → Wanted
+
+-- fields are of a tier: source and group equal those wanted
+unfoldable pub meets : Wanted → Fields → Bool
+meets noRoute f = false
+meets (these source group) f = both (same (f .source) source) (same (f .group) group)
+
+-- of which router a match asks, and what the tiers want, the first one first
+pub record Query : Type 0 where
+  pub router : List ℕ
+  pub tiers : List Wanted
+
+-- a customer flow, and the router about which it is asked
+pub record Flow : Type 0 where
+  pub router : List ℕ
+  pub source : List ℕ
+  pub group : List ℕ
+
+-- the flow of a call's arguments
+abbrev pub flowOf : (router source group : List ℕ) → Flow
+flowOf router source group = record { router = router; source = source; group = group }
+
+-- what a flow asks, by its group's class. 1: source and group both equal; 2: source equal, group wildcard, and the group SSM; 3: source
+-- wildcard, group equal, and the group ASM; 4: both wildcard
+unfoldable pub flowQuery : Flow → (class : ℕ) → Query
+flowQuery flow class =
+    record {
+      router = flow .router;
+      tiers =
+          these (flow .source) (flow .group)
+          ∷ (pick (eqb class SSM) (these (flow .source) []) noRoute
+          ∷ (pick (eqb class ASM) (these [] (flow .group)) noRoute
+          ∷ (these [] []
+          ∷ [])));
+    }
