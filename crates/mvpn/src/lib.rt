@@ -4,24 +4,24 @@ ghost use lib.ListN.{length};
 ghost use Rattle.octets.specs.Outputs.{writtenOf, outputOf};
 ghost use Rattle.nlri.specs.Reading.{readNlri};
 ghost use Rattle.nlri.specs.Writing.{writeNlri};
-ghost use Rattle.nlri.specs.Walking.{stepFrom, refusedAt, walkOf};
+ghost use Rattle.runs.specs.Walking.{stepFrom, refusedAt, walkOf};
 ghost use Rattle.nlri.specs.Groups.{classOf, groupOf};
 ghost use Rattle.nlri.specs.Answers.{structFields, nlriAnswer};
 ghost use Rattle.tunnel.specs.Answers.{readStruct, writeOutcome};
 ghost use Rattle.routes.specs.Calls.{makeOf, installOf, withdrawOf, matchOf};
 ghost use Rattle.mvpn.specs.Answers.{stepAnswer, attributeGiven, attributeRefused, attributeAnswer};
-use nlri::Cursor;
 use nlri::Group;
 use nlri::Layout;
 use nlri::Nlri;
 use nlri::NlriReading;
-use nlri::Step;
-use nlri::Walked;
 use octets::Span;
 use octets::Written;
 use octets::number::DONE;
 use routes::Installed;
 use routes::Matched;
+use runs::Cursor;
+use runs::Step;
+use runs::Walked;
 use tunnel::Attribute;
 use tunnel::Reading;
 use tunnel::fec::Fec;
@@ -99,7 +99,7 @@ fn stopped(cursor: usize, number: u32) -> StepAnswer
 pub extern "C" fn mvpn_walk(afi: u16, run: &[u8]) -> Walked
     ensures { λ r. ⌜ r ≡ walkOf afi (now (run .entry)) ⌝ }
 {
-    nlri::walk(afi, run)
+    runs::walk(afi, run)
 }
 
 // The class of a customer group.

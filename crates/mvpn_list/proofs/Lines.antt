@@ -5,8 +5,8 @@ use Prim.Native.Nat.{ℕ, suc, _+_, _-_, _≤_}
 use native.Mathlib.Omega.{arith}
 use lib.ListN.{length, length-append}
 use Rattle.nlri.specs.declared.layout.Layout.{Layout}
-use Rattle.nlri.specs.Walking.{readTo, stepFrom}
-use Rattle.nlri.proofs.Functions.Steps.{Stops, step-moves}
+use Rattle.runs.specs.Walking.{readTo, stepFrom}
+use Rattle.runs.proofs.Steps.{Stops, step-moves}
 use Rattle.mvpn_list.specs.Listing.{nlriLine, lastLine, linesFrom, linesOf}
 use Rattle.mvpn_list.proofs.Steps.{linesFrom-reads, linesFrom-stops}
 use Rattle.octets.proofs.Lists.{Put, put-none, put-as, length-put}

@@ -5,9 +5,9 @@ ghost use lib.ListN.{length};
 ghost use Rattle.octets.specs.Octets.{placed, front};
 ghost use Rattle.mvpn_list.specs.Listing.{linesOf, listingOf};
 use crate::format;
-use nlri::Cursor;
-use nlri::Step;
 use octets::number::DONE;
+use runs::Cursor;
+use runs::Step;
 
 // The family whose runs are listed.
 const AFI: u16 = 1;

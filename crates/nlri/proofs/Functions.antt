@@ -6,7 +6,6 @@ pub mod Numbered
 pub mod Ends
 pub mod Standing
 pub mod KeyTests
-pub mod Steps
 pub mod Shapes
 pub mod Copies
 pub mod Singles
