@@ -1,7 +1,7 @@
 // The calls from C, as include/mvpn.h declares them. Each calls one function, and its contract cites the same definition.
 ghost use mathlib.Core.Path.{_≡_};
 ghost use lib.ListN.{length};
-ghost use Rattle.octets.specs.Outputs.{writtenOf, outputOf};
+ghost use Rattle.octets.specs.Outputs.{Wrote};
 ghost use Rattle.nlri.specs.Reading.{readNlri};
 ghost use Rattle.nlri.specs.Writing.{writeNlri};
 ghost use Rattle.runs.specs.Walking.{stepFrom, refusedAt, walkOf};
@@ -58,8 +58,7 @@ pub extern "C" fn mvpn_nlri_read(afi: u16, nlri: &[u8]) -> NlriReading
 // Writes an NLRI at the front of the output; the key is that of a Leaf.
 #[no_mangle]
 pub extern "C" fn mvpn_nlri_write(afi: u16, nlri: Nlri, key: &[u8], output: &mut [u8]) -> Written
-    ensures { λ r. ⌜ r ≡ writtenOf (writeNlri afi (structFields nlri (now (key .entry))) (length (now (output .entry)))) ⌝ }
-    ensures { λ r. ⌜ now (output .exit) ≡ outputOf (writeNlri afi (structFields nlri (now (key .entry))) (length (now (output .entry)))) (now (output .entry)) ⌝ }
+    ensures { λ r. ⌜ Wrote (writeNlri afi (structFields nlri (now (key .entry))) (length (now (output .entry)))) (now (output .entry)) r (now (output .exit)) ⌝ }
 {
     nlri::write_nlri(afi, nlri, key, output)
 }
@@ -169,8 +168,7 @@ pub extern "C" fn mvpn_attribute_write(
     identifier: &[u8],
     output: &mut [u8],
 ) -> Written
-    ensures { λ r. ⌜ r ≡ writtenOf (writeOutcome flags «tunnel_type» «label_field» (now (identifier .entry)) (now (output .entry))) ⌝ }
-    ensures { λ r. ⌜ now (output .exit) ≡ outputOf (writeOutcome flags «tunnel_type» «label_field» (now (identifier .entry)) (now (output .entry))) (now (output .entry)) ⌝ }
+    ensures { λ r. ⌜ Wrote (writeOutcome flags «tunnel_type» «label_field» (now (identifier .entry)) (now (output .entry))) (now (output .entry)) r (now (output .exit)) ⌝ }
 {
     // field by field: the answer then leaves in registers
     let written = tunnel::write(flags, tunnel_type, label_field, identifier, output);

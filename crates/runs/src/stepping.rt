@@ -61,10 +61,10 @@ fn step_under(kind: AddressKind, run: &[u8], at: usize) -> Step
     }
 }
 
-// The place just past an NLRI that begins at `at`, by its Length.
-pub(crate) fn advance(at: usize, length: usize) -> usize
-    requires { ⌜ advanced at length ≤ 4096 ⌝ }
-    ensures { λ r. ⌜ r ≡ advanced at length ⌝ }
+// The place just past an NLRI that begins at `at` and has a body of `size` octets, by its Length.
+pub(crate) fn advance(at: usize, size: usize) -> usize
+    requires { ⌜ advanced at size ≤ 4096 ⌝ }
+    ensures { λ r. ⌜ r ≡ advanced at size ⌝ }
 {
-    at + (HEADER + length)
+    at + (HEADER + size)
 }

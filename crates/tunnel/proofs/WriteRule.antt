@@ -1,6 +1,6 @@
 -- Laws of writing an attribute, by the tests that the code makes; and `attributeWriteRule`.
 use Prim.Native.Nat.{ℕ, _+_, _≤_, _<_}
-use mathlib.Core.Path.{_≡_, refl, sym, ap, ap₂, subst, _∙_}
+use mathlib.Core.Path.{_≡_, refl, sym, ap, subst, _∙_}
 use mathlib.Core.Bool.{true}
 use mathlib.Core.List.{List}
 use native.Mathlib.Omega.{arith}
@@ -9,10 +9,7 @@ use lib.ListN.{length}
 use borrow.Author.Tests.{ltb-true, ltb-false, le-ltb, lt-ltb}
 use Rattle.octets.specs.Choice.{pick}
 use Rattle.octets.specs.Numbers.{DONE, LONG, LABEL, SPACE}
-use Rattle.octets.specs.Outcome.{Outcome, given, refused, onOutcome, andThen, numberOf}
-use Rattle.octets.specs.Octets.{front}
-use Rattle.octets.specs.Outputs.{writtenOf, outputOf}
-use Rattle.octets.specs.declared.Written.{Written}
+use Rattle.octets.specs.Outcome.{Outcome, given, refused, andThen, numberOf}
 use Rattle.octets.proofs.Choice.{tested}
 use Rattle.octets.proofs.Outcome.{never, refused-same, number-of-refused, number-refuses}
 use Rattle.tunnel.specs.Identifier.{IdentifierForm, formOf, isIdentifier, readIdentifier}
@@ -160,19 +157,3 @@ attributeWriteRule =
       accepted = λ f space e o. (write-given f space e o, λ p. rw (p .2) (write-encode f space (p .0) (p .1)));
       exactly = λ f space n o. (refusal-of f space n o, refused-by f space n o);
     }
-
-abbrev writtenAs : (number size : ℕ) → Written
-writtenAs number size = record { number = number; size = size }
-
--- what a writer answers and leaves, of a refusal and of an encoding
-pub output-refused : (o : Outcome (List ℕ)) (n : ℕ) (d : List ℕ) → o ≡ refused n → (writtenAs n 0 ≡ writtenOf o) × (d ≡ outputOf o d)
-unfolding writtenOf outputOf onOutcome numberOf
-output-refused o n d e = (rw e, rw e)
-
-pub output-encoding : (o : Outcome (List ℕ)) (f : AttributeFields) (w : Written) (d x : List ℕ) → o ≡ given (encodeAttribute f)
-    → (w .number ≡ DONE) × ((w .size ≡ 5 + length (f .identifier)) × (x ≡ front (encodeAttribute f) d)) → (w ≡ writtenOf o) × (x ≡ outputOf o d)
-unfolding writtenOf outputOf onOutcome numberOf
-output-encoding o f w d x e p = (
-  rw e (ap₂ writtenAs (p .0) (p .1 .0 ∙ sym (length-attribute f))),
-  rw e (p .1 .1),
-)

@@ -1,26 +1,22 @@
 -- `tunnel::write` meets its contract: it goes by the number of the first fault.
 use denote.Ref.{now}
+use mathlib.Core.Path.{sym}
 use lib.ListN.{length}
 use native.Mathlib.Omega.{arith}
 use Rattle.octets.proofs.Outcome.{refused-of}
+use Rattle.octets.proofs.Outputs.{wrote-as, wrote-refused}
 use Rattle.tunnel.proofs.ReadRule.{length-attribute}
-use Rattle.tunnel.proofs.WriteRule.{write-done, output-refused, output-encoding}
-use Rattle.tunnel.specs.Attribute.{writeAttribute}
+use Rattle.tunnel.proofs.WriteRule.{write-done}
 use Rattle.tunnel.specs.Answers.{argumentFields}
 use borrow.Author.Needs.{needs}
 use Rattle.tunnel.proofs.write.Statement.{statement}
 use Rattle.tunnel.proofs.write.Tie as tie
 
-write-fault-requires : tie.Need-write-fault-requires
-write-fault-requires c κs = search needs
-
 returns : tie.Need-returns
 returns c =
-    let a = c .before .before .before .before .args in
-    let f = argumentFields (a .flags) (a .tunnel-type) (a .label-field) (now (a .identifier)) in
-    let space = length (now (a .output)) in
-    let n = c .before .write-fault in
-    output-refused (writeAttribute f space) (n .result) (now (a .output)) (refused-of (writeAttribute f space) (n .result) (n .ensures (a .flags)) (c .if1 .taken))
+    let a = c .before .before .before .before .before .args in
+    let n = c .before .before .write-fault in
+    wrote-refused _ _ _ _ (sym (refused-of _ (n .result) (n .ensures (a .flags)) (c .before .if1 .taken))) (c .refused .ensures)
 
 put-requires : tie.Need-put-requires
 put-requires c κs =
@@ -30,19 +26,12 @@ put-requires c κs =
     let w = write-done f (length (now (a .output))) (n .result) (n .ensures (a .flags)) (c .before .if1 .left) .0 in
     (w .most, omega (arith, length-attribute f, w .room))
 
-same-length : tie.Need-same-length
-same-length c = search needs
-
 returns-2 : tie.Need-returns-2
 returns-2 c =
     let a = c .before .before .before .before .before .before .before .before .args in
     let f = argumentFields (a .flags) (a .tunnel-type) (a .label-field) (now (a .identifier)) in
-    let space = length (now (a .output)) in
     let n = c .before .before .before .before .before .write-fault in
-    let p = c .before .before .put in
-    output-encoding (writeAttribute f space) f (p .result) (now (a .output)) (p .last .1 .1 .1 .1 .0)
-    (write-done f space (n .result) (n .ensures (a .flags)) (c .before .before .before .before .if1 .left) .1)
-    (p .ensures)
+    wrote-as _ _ _ _ _ (sym (write-done f (length (now (a .output))) (n .result) (n .ensures (a .flags)) (c .before .before .before .before .if1 .left) .1)) (c .before .before .put .ensures)
 
 pub write-spec : {M : Type 1} → statement M
-write-spec = tie.close (tie.spec write-fault-requires returns put-requires same-length returns-2)
+write-spec = tie.close (tie.spec (search needs) (search needs) returns put-requires (search needs) returns-2)
