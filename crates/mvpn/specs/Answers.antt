@@ -2,7 +2,7 @@
 use Prim.Native.Nat.{ℕ}
 use Rattle.octets.specs.Numbers.{DONE}
 use Rattle.octets.specs.Outcome.{Outcome, onOutcome}
-use Rattle.nlri.specs.Walking.{Stepped}
+use Rattle.runs.specs.Walking.{Stepped}
 use Rattle.tunnel.specs.declared.Attribute.{Attribute}
 use Rattle.tunnel.specs.Answers.{noFec}
 use Rattle.mvpn.specs.declared.StepAnswer.{StepAnswer}

@@ -8,8 +8,9 @@ use Rattle.octets.specs.Numbers.{DONE}
 use Rattle.octets.specs.Octets.{AllOctets}
 use Rattle.nlri.specs.Fields.{Fields, encodeNlri}
 use Rattle.nlri.specs.Layouts.{noLayout}
-use Rattle.nlri.specs.Walking.{stepFrom}
-use Rattle.nlri.specs.Statements.{layoutFor, EncodedAt, EndAt, StepRefusal}
+use Rattle.runs.specs.Walking.{stepFrom}
+use Rattle.nlri.specs.Statements.{layoutFor}
+use Rattle.runs.specs.Statements.{EncodedAt, EndAt, StepRefusal}
 use Rattle.mvpn.specs.declared.StepAnswer.{StepAnswer}
 use Rattle.mvpn.specs.Answers.{stepAnswer}
 

@@ -1,28 +1,28 @@
 // The calls from C, as include/mvpn.h declares them. Each calls one function, and its contract cites the same definition.
 ghost use mathlib.Core.Path.{_≡_};
 ghost use lib.ListN.{length};
-ghost use Rattle.octets.specs.Outputs.{writtenOf, outputOf};
+ghost use Rattle.octets.specs.Outputs.{Wrote};
 ghost use Rattle.nlri.specs.Reading.{readNlri};
 ghost use Rattle.nlri.specs.Writing.{writeNlri};
-ghost use Rattle.nlri.specs.Walking.{stepFrom, refusedAt, walkOf};
+ghost use Rattle.runs.specs.Walking.{stepFrom, refusedAt, walkOf};
 ghost use Rattle.nlri.specs.Groups.{classOf, groupOf};
 ghost use Rattle.nlri.specs.Answers.{structFields, nlriAnswer};
 ghost use Rattle.tunnel.specs.Answers.{readStruct, writeOutcome};
 ghost use Rattle.routes.specs.Query.{flowOf};
 ghost use Rattle.routes.specs.Calls.{makeOf, installOf, withdrawOf, matchOf};
 ghost use Rattle.mvpn.specs.Answers.{stepAnswer, attributeGiven, attributeRefused, attributeAnswer};
-use nlri::Cursor;
 use nlri::Group;
 use nlri::Layout;
 use nlri::Nlri;
 use nlri::NlriReading;
-use nlri::Step;
-use nlri::Walked;
 use octets::Span;
 use octets::Written;
 use octets::number::DONE;
 use routes::Installed;
 use routes::Matched;
+use runs::Cursor;
+use runs::Step;
+use runs::Walked;
 use tunnel::Attribute;
 use tunnel::Reading;
 use tunnel::fec::Fec;
@@ -108,8 +108,7 @@ pub extern "C" fn mvpn_nlri_read(afi: u16, nlri: &[u8]) -> NlriReading
 // Writes an NLRI at the front of the output; the key is that of a Leaf.
 #[no_mangle]
 pub extern "C" fn mvpn_nlri_write(afi: u16, nlri: Nlri, key: &[u8], output: &mut [u8]) -> Written
-    ensures { λ r. ⌜ r ≡ writtenOf (writeNlri afi (structFields nlri (now (key .entry))) (length (now (output .entry)))) ⌝ }
-    ensures { λ r. ⌜ now (output .exit) ≡ outputOf (writeNlri afi (structFields nlri (now (key .entry))) (length (now (output .entry)))) (now (output .entry)) ⌝ }
+    ensures { λ r. ⌜ Wrote (writeNlri afi (structFields nlri (now (key .entry))) (length (now (output .entry)))) (now (output .entry)) r (now (output .exit)) ⌝ }
 {
     nlri::write_nlri(afi, nlri, key, output)
 }
@@ -138,7 +137,7 @@ pub extern "C" fn mvpn_step(afi: u16, run: &[u8], cursor: usize) -> StepAnswer
 pub extern "C" fn mvpn_walk(afi: u16, run: &[u8]) -> Walked
     ensures { λ r. ⌜ r ≡ walkOf afi (now (run .entry)) ⌝ }
 {
-    nlri::walk(afi, run)
+    runs::walk(afi, run)
 }
 
 // The class of a customer group.
@@ -169,8 +168,7 @@ pub extern "C" fn mvpn_attribute_write(
     identifier: &[u8],
     output: &mut [u8],
 ) -> Written
-    ensures { λ r. ⌜ r ≡ writtenOf (writeOutcome flags «tunnel_type» «label_field» (now (identifier .entry)) (now (output .entry))) ⌝ }
-    ensures { λ r. ⌜ now (output .exit) ≡ outputOf (writeOutcome flags «tunnel_type» «label_field» (now (identifier .entry)) (now (output .entry))) (now (output .entry)) ⌝ }
+    ensures { λ r. ⌜ Wrote (writeOutcome flags «tunnel_type» «label_field» (now (identifier .entry)) (now (output .entry))) (now (output .entry)) r (now (output .exit)) ⌝ }
 {
     // field by field: the answer then leaves in registers
     let written = tunnel::write(flags, tunnel_type, label_field, identifier, output);

@@ -5,8 +5,8 @@ use Prim.Native.Nat.{ℕ, zero, suc, _+_, _*_, _^_, _≤_, _<_}
 use native.Mathlib.Omega.{arith}
 use lib.ListN.{length, length-append}
 use Rattle.octets.specs.Numbers.{DONE}
-use Rattle.nlri.specs.Walking.{stepFrom}
-use Rattle.nlri.proofs.Functions.Steps.{step-moves}
+use Rattle.runs.specs.Walking.{stepFrom}
+use Rattle.runs.proofs.Steps.{step-moves}
 use Rattle.mvpn_list.specs.Listing.{decimalOf, fieldOf, lineOf, nlriLine, openingOf, lastLine, headerLine, linesFrom, linesOf, listingOf}
 use Rattle.octets.proofs.Choice.{pick-case}
 use Rattle.mvpn_list.proofs.Decimals.{length-decimalOf}

@@ -5,12 +5,12 @@ use Prim.Native.Nat.{ℕ, suc, _+_, _-_, _≤_}
 use native.Mathlib.Omega.{arith}
 use lib.ListN.{length, length-append}
 use Rattle.nlri.specs.declared.layout.Layout.{Layout}
-use Rattle.nlri.specs.Walking.{readTo, stepFrom}
-use Rattle.nlri.proofs.Functions.Steps.{Stops, step-moves}
+use Rattle.runs.specs.Walking.{readTo, stepFrom}
+use Rattle.runs.proofs.Steps.{Stops, step-moves}
 use Rattle.mvpn_list.specs.Listing.{nlriLine, lastLine, linesFrom, linesOf}
 use Rattle.mvpn_list.proofs.Steps.{linesFrom-reads, linesFrom-stops}
-use Rattle.octets.proofs.Lists.{Put, put-none, put-as, length-put}
-use Rattle.mvpn_list.proofs.Writes.{room-next, put-both}
+use Rattle.octets.specs.Outputs.{Put}
+use Rattle.octets.proofs.Outputs.{put-none, put-as, put-then, length-put, room-next}
 
 -- from `start` on, `output` has the lines of the NLRIs before `offset`, and `at` is the place just past them
 pub record Listed (run output₀ : List ℕ) (start offset at : ℕ) (output : List ℕ) : Type 0 where
@@ -49,7 +49,7 @@ module _ (run output₀ : List ℕ) (start offset at : ℕ) (output : List ℕ) 
           left = so-far .left - 1;
           within = omega arith;
           enough = omega (arith, so-far .enough);
-          put = put-both start (so-far .done) this output₀ this-fits at output r x (so-far .put) w;
+          put = put-then start (so-far .done) this output₀ this-fits at output (so-far .put) r x w;
           goes = onward ∙ ap (λ (k : ℕ). (so-far .done ++ this) ++ linesFrom k run c) n;
         }
 
@@ -66,7 +66,7 @@ module _ (run output₀ : List ℕ) (start offset at : ℕ) (output : List ℕ) 
     pub listed-last : (r : ℕ) (y : List ℕ) → Put at (lastLine n offset) output r y → Put start (linesOf run) output₀ r y
     listed-last r y w =
         put-as start (so-far .done ++ lastLine n offset) (linesOf run) output₀ r y (sym whole)
-        (put-both start (so-far .done) (lastLine n offset) output₀ all-fits at output r y (so-far .put) w)
+        (put-then start (so-far .done) (lastLine n offset) output₀ all-fits at output (so-far .put) r y w)
 
     pub length-listed : (r : ℕ) (y : List ℕ) → Put at (lastLine n offset) output r y → length y ≡ length output₀
     length-listed r y w = length-put start (linesOf run) output₀ r y fits (listed-last r y w)

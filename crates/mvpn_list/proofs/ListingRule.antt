@@ -16,9 +16,8 @@ use Rattle.nlri.specs.Family.{familyBits, allowed, isOriginatorSize}
 use Rattle.nlri.specs.Bodies.{bodies, onBody, fieldIn, sameKind, codeOf}
 use Rattle.nlri.specs.Reading.{fixedField, addressEnd, addressField, originatorField, fieldSize, sizesOf, laidWith, laidAt}
 use Rattle.nlri.specs.Layouts.{layoutOf, layoutAt}
-use Rattle.nlri.specs.Walking.{readTo, refusedAt, stepUnder, stepFrom}
-use Rattle.nlri.proofs.Functions.Steps.{stops-refusedAt}
-use Rattle.nlri.proofs.Statements.StepCases.{step-long}
+use Rattle.runs.specs.Walking.{readTo, refusedAt, stepUnder, stepFrom}
+use Rattle.runs.proofs.Steps.{stops-refusedAt, step-long}
 use Rattle.mvpn_list.specs.Listing.{lastDigit, digitsWithin, decimalOf, fieldOf, headerLine, lineOf, openingOf, lastLine, linesFrom, linesOf, listingOf}
 use Rattle.mvpn_list.specs.ListingRule.{Decimal, RunLines, ListingRule}
 use Rattle.mvpn_list.proofs.DecimalRule.{decimal-decimalOf, decimal-only}

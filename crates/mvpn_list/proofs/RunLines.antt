@@ -5,18 +5,18 @@ use mathlib.Core.Logic.{inl}
 use Prim.Native.Nat.{ℕ, zero, suc, _+_, _-_, _≤_, _<_}
 use native.Mathlib.Omega.{arith}
 use borrow.Author.Tests.{eqb-true, eqb-false}
-use lib.ListN.{length, drop, length-append}
-use lib.Seq.{drop-drop, drop-append-seam}
+use lib.ListN.{length}
 use lib.Dec.{eqb}
 use Rattle.octets.specs.Numbers.{DONE}
 use Rattle.octets.specs.Octets.{AllOctets}
 use Rattle.octets.specs.Outcome.{given}
 use Rattle.nlri.specs.Family.{familyBits}
 use Rattle.nlri.specs.Fields.{Fields, encodeNlri}
-use Rattle.nlri.specs.Walking.{stepFrom}
-use Rattle.nlri.specs.Statements.{FrontRefusal, layoutFor, front, encodeRun, AllWellFormed, RunEnd, nothing, refusal, RunOf}
-use Rattle.nlri.proofs.Theorems.{lengths, stepRule}
-use Rattle.nlri.proofs.Functions.Steps.{Stops, stops-endedAt, stops-refusedAt}
+use Rattle.nlri.specs.Statements.{layoutFor}
+use Rattle.runs.specs.Statements.{AllWellFormed, RunEnd, RunOf}
+use Rattle.nlri.proofs.Theorems.{lengths}
+use Rattle.nlri.proofs.Statements.Layouts.{length-encoded}
+use Rattle.runs.proofs.WalkRule.{Follow, follow-next, step-follow, stops-follow}
 use Rattle.mvpn_list.specs.Listing.{decimalOf, fieldOf, lineOf, openingOf, lastLine, linesFrom, linesOf}
 use Rattle.mvpn_list.specs.ListingRule.{NumberLine, Opening, RunLines}
 use Rattle.octets.proofs.Choice.{pick-case}
@@ -48,35 +48,20 @@ runLines-lastLine number offset = RunLines.last (openingOf number) _ (opening-op
 pub familyBits-1 : familyBits 1 ≡ given 32
 familyBits-1 = lengths .families 1 32 .1 (inl (refl, refl))
 
-length-encodeNlri : (f : Fields) → 2 ≤ length (encodeNlri f)
-unfolding encodeNlri
-length-encodeNlri f = omega arith
-
 module _ (run : List ℕ) (octets : AllOctets run) (short : length run ≤ 4096) where
-  -- where the NLRIs end the step stops with the number there
-  stops-runEnd : (at : ℕ) (t : List ℕ) (n : ℕ) → RunEnd 32 t n → at + length t ≡ length run → drop at run ≡ t → Stops (stepFrom 1 run at) n
-  stops-runEnd at t n nothing size here = stops-endedAt DONE at refl (stepRule .ends 1 run at .1 (inl refl, short, omega arith))
-  stops-runEnd at t n (refusal some why) size here =
-      stops-refusedAt n at (stepRule .refuses 1 run at n octets .1 (front 32 familyBits-1 short (omega arith) (subst (λ (s : List ℕ). FrontRefusal 32 s n) (sym here) why)))
-
-  runLines-linesFrom : (t : List ℕ) (n : ℕ) → RunEnd 32 t n → (left : ℕ) (fs : List Fields) (at : ℕ) → AllWellFormed 32 fs → at + length (encodeRun fs ++ t) ≡ length run → drop at run ≡ encodeRun fs ++ t → length run < left + at
-      → RunLines n at fs (linesFrom left run at)
-  unfolding encodeRun layoutFor
-  runLines-linesFrom t n end zero fs at w size here enough = absurd (omega arith)
-  runLines-linesFrom t n end (suc left) [] at w size here enough =
-      subst (RunLines n at []) (sym (linesFrom-stops left run at n (stops-runEnd at t n end size here))) (runLines-lastLine n at)
-  runLines-linesFrom t n end (suc left) (f ∷ fs) at w size here enough =
-      let rest : List ℕ = encodeRun fs ++ t in
-      let now : drop at run ≡ encodeNlri f ++ rest = here ∙ append-assoc (encodeNlri f) (encodeRun fs) t in
-      let total : length ((encodeNlri f ++ encodeRun fs) ++ t) ≡ length (encodeNlri f) + length rest = ap length (append-assoc (encodeNlri f) (encodeRun fs) t) ∙ length-append (encodeNlri f) rest in
-      let next : drop (at + length (encodeNlri f)) run ≡ rest = sym (drop-drop (length (encodeNlri f)) at run) ∙ ap (drop (length (encodeNlri f))) now ∙ drop-append-seam (encodeNlri f) rest in
-      let later = runLines-linesFrom t n end left fs (at + length (encodeNlri f)) (w .1) (omega arith) next (omega (arith, length-encodeNlri f)) in
+  runLines-linesFrom : (t : List ℕ) (n : ℕ) → RunEnd 32 t n → (left : ℕ) (fs : List Fields) (at : ℕ) → AllWellFormed 32 fs → Follow run at fs t → length run < left + at → RunLines n at fs (linesFrom left run at)
+  unfolding layoutFor
+  runLines-linesFrom t n end zero fs at w r enough = absurd (omega (arith, r .size))
+  runLines-linesFrom t n end (suc left) [] at w r enough =
+      subst (RunLines n at []) (sym (linesFrom-stops left run at n (stops-follow 1 32 familyBits-1 run octets short at t n r end))) (runLines-lastLine n at)
+  runLines-linesFrom t n end (suc left) (f ∷ fs) at w r enough =
+      let later = runLines-linesFrom t n end left fs (at + length (encodeNlri f)) (w .1) (follow-next run at f fs t r) (omega (arith, length-encoded f)) in
       RunLines.nlri _ _ (numberLine-lineOf at (f .type) (length (encodeNlri f) - 2)) later
-      (linesFrom-reads left run at (layoutFor f) (at + length (encodeNlri f)) (stepRule .reads 1 run at f (record { bits = 32; ofFamily = familyBits-1; short = short; wellFormed = w .0; after = rest; is = now })))
+      (linesFrom-reads left run at (layoutFor f) (at + length (encodeNlri f)) (step-follow 1 32 familyBits-1 run octets short at f fs t r (w .0)))
 
   pub runLines-linesOf : (r : RunOf 32 run) → RunLines (r .number) 0 (r .nlris) (linesOf run)
   unfolding linesOf
-  runLines-linesOf r = runLines-linesFrom (r .tail) (r .number) (r .end) (suc (length run)) (r .nlris) 0 (r .wellFormed) (omega (arith, ap length (r .is))) (r .is) (omega arith)
+  runLines-linesOf r = runLines-linesFrom (r .tail) (r .number) (r .end) (suc (length run)) (r .nlris) 0 (r .wellFormed) (record { size = omega (arith, ap length (r .is)); here = r .is }) (omega arith)
 
 numberLine-some : {ns text : List ℕ} → NumberLine ns text → ns ≡ [] → ⊥
 numberLine-some (NumberLine.last digits p is) e = let z : _≡_ {A = ℕ} 0 1 = cc in omega arith

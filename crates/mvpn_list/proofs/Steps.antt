@@ -1,31 +1,19 @@
 -- What every step comes to: an NLRI of a known type whose Length is at most the next cursor, or a stop whose number has at most two
 -- digits; and how the lines go on by it.
 use mathlib.Core.Path.{_≡_, refl, _∙_, ap}
-use mathlib.Core.Bool.{false}
 use mathlib.Core.List.{List, _++_}
 use Prim.Native.Nat.{ℕ, suc, _≤_, _<_}
 use native.Mathlib.Omega.{arith}
 use lib.ListN.{drop}
 use Rattle.octets.specs.Numbers.{DONE, SHORT, LONG}
-use Rattle.octets.specs.Outcome.{given}
 use Rattle.octets.proofs.Choice.{pick-true, pick-false, pick-case}
-use Rattle.octets.proofs.Outcome.{passed, given-same, refuses-by, on-case}
+use Rattle.octets.proofs.Outcome.{refuses-by, on-case}
 use Rattle.nlri.specs.declared.layout.Layout.{Layout}
-use Rattle.nlri.specs.Reading.{keyField, laidAt}
-use Rattle.nlri.specs.Layouts.{layoutOf, layoutAt}
-use Rattle.nlri.specs.Walking.{Stepped, readTo, stepUnder, stepFrom}
+use Rattle.runs.specs.Walking.{Stepped, readTo, stepUnder, stepFrom}
 use Rattle.nlri.proofs.Definitions.ReadNumbers.{refuses-family, refuses-layout}
-use Rattle.nlri.proofs.Definitions.Whole.{laid-out}
-use Rattle.nlri.proofs.Functions.Steps.{Stops, stops-endedAt, stops-refusedAt}
+use Rattle.runs.proofs.StepRule.{layout-typed}
+use Rattle.runs.proofs.Steps.{Stops, stops-endedAt, stops-refusedAt}
 use Rattle.mvpn_list.specs.Listing.{nlriLine, lastLine, linesFrom}
-
--- a layout's route type is known
-route-type-layoutAt : (bits : ℕ) (s : List ℕ) (l : Layout) → layoutAt bits s ≡ given l → l .«route_type» ≤ 7
-unfolding layoutAt laidAt layoutOf
-route-type-layoutAt bits s l e =
-    let p = passed _ _ _ e in
-    let same : p .value .type ≡ l .«route_type» = ap (λ (x : Layout). x .«route_type») (given-same (p .second)) in
-    omega (arith, laid-out (keyField bits) bits s (p .value) (p .first) .row .high)
 
 -- what a step comes to
 pub data Comes (s : Stepped) : Type 0 where
@@ -37,10 +25,10 @@ unfolding stepFrom stepUnder
 comes-stepFrom afi run at =
     on-case Comes _ _ _ (λ n e. stops n (stops-refusedAt n at refl) (omega (arith, refuses-by _ n (refuses-family afi) e)))
     (λ bits _. pick-case Comes _ _ _ (λ _. stops LONG (stops-refusedAt LONG at refl) (omega arith))
-    (λ _. pick-case Comes _ _ _ (λ _. stops DONE (stops-endedAt DONE at refl refl) (omega arith))
+    (λ _. pick-case Comes _ _ _ (λ _. stops DONE (stops-endedAt at refl) (omega arith))
     (λ _. pick-case Comes _ _ _ (λ _. stops SHORT (stops-refusedAt SHORT at refl) (omega arith))
     (λ _. on-case Comes _ _ _ (λ n e. stops n (stops-refusedAt n at refl) (omega (arith, refuses-by _ n (refuses-layout bits (drop at run)) e)))
-    (λ layout e. reads layout _ refl (route-type-layoutAt bits (drop at run) layout e) (omega arith))))))
+    (λ layout e. reads layout _ refl (layout-typed bits (drop at run) layout e .1) (omega arith))))))
 
 -- how the lines go on by a step
 module _ (left : ℕ) (run : List ℕ) (at : ℕ) where

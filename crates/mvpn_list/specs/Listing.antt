@@ -6,7 +6,7 @@ use lib.Dec.{ltb, eqb}
 use Rattle.octets.specs.Numbers.{DONE}
 use Rattle.octets.specs.Choice.{pick}
 use Rattle.nlri.specs.declared.layout.Layout.{Layout}
-use Rattle.nlri.specs.Walking.{stepFrom}
+use Rattle.runs.specs.Walking.{stepFrom}
 
 -- what ends a line
 abbrev pub lineFeed : ℕ

@@ -8,7 +8,7 @@ use lib.ListN.{length, getD, take}
 use Rattle.octets.specs.Numbers.{DONE}
 use Rattle.octets.specs.Octets.{AllOctets}
 use Rattle.nlri.specs.Fields.{Fields, encodeNlri}
-use Rattle.nlri.specs.Statements.{RunOf}
+use Rattle.runs.specs.Statements.{RunOf}
 use Rattle.mvpn_list.specs.Listing.{decimalOf, linesOf, listingOf}
 
 -- the number that ASCII digits stand for, the most significant first

@@ -1,9 +1,8 @@
 // The lines of the listing (document 01, "Marked examples", the listing). Each is put into `output` from `at` on, where it
 // fits, and the answer is the place just past it.
-ghost use mathlib.Core.Path.{_≡_};
 ghost use Prim.Native.Nat.{_+_, _≤_};
 ghost use lib.ListN.{length};
-ghost use Rattle.octets.specs.Octets.{placed};
+ghost use Rattle.octets.specs.Outputs.{Put};
 ghost use Rattle.mvpn_list.specs.Listing.{fieldOf, headerLine, lineOf, openingOf, lastLine};
 use octets::number::DONE;
 use octets::parts::place;
@@ -11,7 +10,7 @@ use octets::parts::place;
 // A number in decimal, and the octet that ends its field.
 fn field(number: u64, ending: u8, output: &mut [u8], at: usize) -> usize
     requires { ⌜ at + length (fieldOf number ending) ≤ length (now output) ⌝ }
-    ensures { λ r. ⌜ (r ≡ at + length (fieldOf number ending)) × (now (output .exit) ≡ placed at (fieldOf number ending) (now (output .entry))) ⌝ }
+    ensures { λ r. ⌜ Put at (fieldOf number ending) (now (output .entry)) r (now (output .exit)) ⌝ }
 {
     let mut digits = [0u8; 20];
     let count = io::decimal(number, &mut digits);
@@ -22,7 +21,7 @@ fn field(number: u64, ending: u8, output: &mut [u8], at: usize) -> usize
 // The first line, which ends in the AFI.
 pub(crate) fn header(output: &mut [u8], at: usize) -> usize
     requires { ⌜ at + length headerLine ≤ length (now output) ⌝ }
-    ensures { λ r. ⌜ (r ≡ at + length headerLine) × (now (output .exit) ≡ placed at headerLine (now (output .entry))) ⌝ }
+    ensures { λ r. ⌜ Put at headerLine (now (output .entry)) r (now (output .exit)) ⌝ }
 {
     place(b"MVT list 1\n", output, at)
 }
@@ -36,7 +35,7 @@ pub(crate) fn line(
     at: usize,
 ) -> usize
     requires { ⌜ at + length (lineOf offset «route_type» «length_field») ≤ length (now output) ⌝ }
-    ensures { λ r. ⌜ (r ≡ at + length (lineOf offset «route_type» «length_field»)) × (now (output .exit) ≡ placed at (lineOf offset «route_type» «length_field») (now (output .entry))) ⌝ }
+    ensures { λ r. ⌜ Put at (lineOf offset «route_type» «length_field») (now (output .entry)) r (now (output .exit)) ⌝ }
 {
     let second = field(offset as u64, b' ', output, at);
     let third = field(route_type as u64, b' ', output, second);
@@ -46,7 +45,7 @@ pub(crate) fn line(
 // What opens the last line: whether the walk came to the run's end.
 fn opening(number: u32, output: &mut [u8], at: usize) -> usize
     requires { ⌜ at + length (openingOf number) ≤ length (now output) ⌝ }
-    ensures { λ r. ⌜ (r ≡ at + length (openingOf number)) × (now (output .exit) ≡ placed at (openingOf number) (now (output .entry))) ⌝ }
+    ensures { λ r. ⌜ Put at (openingOf number) (now (output .entry)) r (now (output .exit)) ⌝ }
 {
     if number == DONE {
         return place(b"end ", output, at);
@@ -57,7 +56,7 @@ fn opening(number: u32, output: &mut [u8], at: usize) -> usize
 // The last line: where the walk stopped, and its number.
 pub(crate) fn last_line(number: u32, offset: usize, output: &mut [u8], at: usize) -> usize
     requires { ⌜ at + length (lastLine number offset) ≤ length (now output) ⌝ }
-    ensures { λ r. ⌜ (r ≡ at + length (lastLine number offset)) × (now (output .exit) ≡ placed at (lastLine number offset) (now (output .entry))) ⌝ }
+    ensures { λ r. ⌜ Put at (lastLine number offset) (now (output .entry)) r (now (output .exit)) ⌝ }
 {
     let second = opening(number, output, at);
     let third = field(offset as u64, b' ', output, second);

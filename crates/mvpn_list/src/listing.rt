@@ -2,12 +2,13 @@
 ghost use mathlib.Core.Path.{_≡_};
 ghost use Prim.Native.Nat.{_+_, _≤_};
 ghost use lib.ListN.{length};
-ghost use Rattle.octets.specs.Octets.{placed, front};
+ghost use Rattle.octets.specs.Octets.{front};
+ghost use Rattle.octets.specs.Outputs.{Put};
 ghost use Rattle.mvpn_list.specs.Listing.{linesOf, listingOf};
 use crate::format;
-use nlri::Cursor;
-use nlri::Step;
 use octets::number::DONE;
+use runs::Cursor;
+use runs::Step;
 
 // The family whose runs are listed.
 const AFI: u16 = 1;
@@ -24,7 +25,7 @@ pub(crate) fn list(run: &[u8], output: &mut [u8]) -> usize
 // Puts a line for each NLRI read, and the last line, into `output` from `start` on, and answers the place just past them.
 fn lines(run: &[u8], output: &mut [u8], start: usize) -> usize
     requires { ⌜ start + length (linesOf (now run)) ≤ length (now output) ⌝ }
-    ensures { λ r. ⌜ (r ≡ start + length (linesOf (now (run .entry)))) × (now (output .exit) ≡ placed start (linesOf (now (run .entry))) (now (output .entry))) ⌝ }
+    ensures { λ r. ⌜ Put start (linesOf (now (run .entry))) (now (output .entry)) r (now (output .exit)) ⌝ }
 {
     let mut cursor = Cursor { at: 0 };
     let mut at = start;

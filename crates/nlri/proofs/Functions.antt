@@ -4,7 +4,6 @@ pub mod Fronts
 pub mod Ends
 pub mod Standing
 pub mod KeyTests
-pub mod Steps
 pub mod Shapes
 pub mod Copies
 pub mod Singles

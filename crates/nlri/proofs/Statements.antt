@@ -5,7 +5,4 @@ pub mod Faults
 pub mod ReadRefusals
 pub mod WriteRefusals
 pub mod Layouts
-pub mod StepCases
-pub mod Walks
-pub mod Apart
 pub mod Classes

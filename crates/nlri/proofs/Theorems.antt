@@ -5,7 +5,4 @@ pub use Rattle.nlri.proofs.Statements.RoundTrips.{roundTrips}
 pub use Rattle.nlri.proofs.Statements.ReadRefusals.{readRefusals}
 pub use Rattle.nlri.proofs.Statements.WriteRefusals.{writeRefusals}
 pub use Rattle.nlri.proofs.Statements.Layouts.{layoutRule}
-pub use Rattle.nlri.proofs.Statements.StepCases.{stepRule}
-pub use Rattle.nlri.proofs.Statements.Walks.{walkRule}
 pub use Rattle.nlri.proofs.Statements.Classes.{groupRule}
-pub use Rattle.nlri.proofs.Statements.Apart.{casesApart}

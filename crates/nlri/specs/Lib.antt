@@ -4,7 +4,6 @@ pub mod Bodies
 pub mod Fields
 pub mod Reading
 pub mod Layouts
-pub mod Walking
 pub mod Groups
 pub mod Writing
 pub mod Answers

@@ -4,8 +4,8 @@ use mathlib.Core.Path.{_≡_}
 use mathlib.Core.Bool.{true, false}
 use mathlib.Core.List.{List, [], _∷_, _++_}
 use mathlib.Core.Logic.{_↔_, _≢_, _⊎_}
-use lib.ListN.{length, getD, take, drop}
-use Rattle.octets.specs.Numbers.{DONE, SHORT, TYPE, LENGTH, WIDTH, KEY, LONG, FAMILY, FLOW, SPACE}
+use lib.ListN.{length, getD, take}
+use Rattle.octets.specs.Numbers.{DONE, SHORT, TYPE, LENGTH, WIDTH, KEY, FAMILY, FLOW, SPACE}
 use Rattle.octets.specs.Outcome.{given, refused}
 use Rattle.octets.specs.Octets.{AllOctets, part}
 use Rattle.nlri.specs.Family.{familyBits, allowed, isOriginatorSize}
@@ -14,13 +14,10 @@ use Rattle.nlri.specs.Fields.{Fields, encodeNlri, WellFormed, KeyOf, res
 use Rattle.nlri.specs.Reading.{laidAt, readNlri}
 use Rattle.nlri.specs.Layouts.{readingOf, layoutSingle}
 use Rattle.nlri.specs.Writing.{writeNlri}
-use Rattle.nlri.specs.Walking.{readTo, endedAt, refusedAt, stepFrom, steppedOf, walkOf}
 use Rattle.nlri.specs.Groups.{ASM, SSM, classOf}
 use Rattle.nlri.specs.declared.fields.Nlri.{Nlri}
 use Rattle.nlri.specs.declared.layout.Layout.{Layout}
 use Rattle.nlri.specs.declared.layout.Reading.{Reading}
-use Rattle.nlri.specs.declared.run.Step.{Step}
-use Rattle.nlri.specs.declared.run.Walked.{Walked}
 use Rattle.nlri.specs.Answers.{nlriStruct, structFields, keySpan, nlriAnswer}
 
 -- "NLRI on the wire": the lengths
@@ -180,6 +177,8 @@ layoutFor f =
 pub record LayoutRule : Type 0 where
   pub exactly : (afi : ℕ) (s : List ℕ) (l : Layout) → AllOctets s → (layoutSingle afi s ≡ given l) ↔ ((f : Fields) × ReadAs afi s f × (l ≡ layoutFor f))
   pub refuses : (afi : ℕ) (s : List ℕ) (n : ℕ) → AllOctets s → (layoutSingle afi s ≡ refused n) ↔ ReadRefusal afi s n
+  -- answers with the same number and values are equal
+  pub apart : (a b : Reading) → readingOf a ≡ readingOf b → a ≡ b
 
 -- a source or group of a length that the type and family do not allow, an originator not of 4 or 16 octets
 abbrev pub WidthFault : ℕ → Fields → FieldKind → Type 0
@@ -207,86 +206,6 @@ pub record WriteRefusals : Type 0 where
   pub accepted : (afi : ℕ) (f : Fields) (space : ℕ) (e : List ℕ) → HoldsOctets f
       → (writeNlri afi f space ≡ given e) ↔ ((bits : ℕ) × (familyBits afi ≡ given bits) × WellFormed bits f × (length e ≤ space) × (e ≡ encodeNlri f))
 
--- a step that reads: fields well-formed under the AFI's family stand encoded at the cursor of a run that is not too long
-pub record EncodedAt (afi : ℕ) (run : List ℕ) (at : ℕ) (f : Fields) : Type 0 where
-  pub bits : ℕ
-  pub ofFamily : familyBits afi ≡ given bits
-  pub short : length run ≤ 4096
-  pub wellFormed : WellFormed bits f
-  pub after : List ℕ
-  pub is : drop at run ≡ encodeNlri f ++ after
-
--- a step at the run's end: FAMILY and LONG do not refuse, and the cursor is at the end
-abbrev pub EndAt : (afi : ℕ) → List ℕ → (at : ℕ) → Type 0
-EndAt afi run at = ((afi ≡ 1) ⊎ (afi ≡ 2)) × (length run ≤ 4096) × (at ≡ length run)
-
--- why a step refuses: FAMILY, LONG, a cursor past the end, then NLRI reading
-pub data StepRefusal (afi : ℕ) (run : List ℕ) (at : ℕ) : ℕ → Type 0 where
-  badFamily : afi ≢ 1 → afi ≢ 2 → StepRefusal afi run at FAMILY
-  long : (bits : ℕ) → familyBits afi ≡ given bits → 4096 < length run → StepRefusal afi run at LONG
-  past : (bits : ℕ) → familyBits afi ≡ given bits → length run ≤ 4096 → length run < at → StepRefusal afi run at SHORT
-  front : (bits : ℕ) {n : ℕ} → familyBits afi ≡ given bits → length run ≤ 4096 → at < length run → FrontRefusal bits (drop at run) n → StepRefusal afi run at n
-
--- "Walking a run": what a step answers, in the order FAMILY, LONG, the cursor, NLRI reading
-pub record StepRule : Type 0 where
-  -- an NLRI at the cursor is read: its layout, and the cursor just past it
-  pub reads : (afi : ℕ) (run : List ℕ) (at : ℕ) (f : Fields) → EncodedAt afi run at f → stepFrom afi run at ≡ readTo (layoutFor f) (at + length (encodeNlri f))
-  -- at the run's end DONE with no NLRI, and the cursor given
-  pub ends : (afi : ℕ) (run : List ℕ) (at : ℕ) → (stepFrom afi run at ≡ endedAt at) ↔ EndAt afi run at
-  -- each number, with the cursor given, exactly when document 01 says
-  pub refuses : (afi : ℕ) (run : List ℕ) (at n : ℕ) → AllOctets run → (stepFrom afi run at ≡ refusedAt n at) ↔ StepRefusal afi run at n
-  -- there is no other step
-  pub decided : (afi : ℕ) (run : List ℕ) (at : ℕ) → AllOctets run → ((f : Fields) × EncodedAt afi run at f) ⊎ EndAt afi run at ⊎ ((n : ℕ) × StepRefusal afi run at n)
-  -- no refusal is DONE
-  pub done : (afi : ℕ) (run : List ℕ) (at : ℕ) → StepRefusal afi run at DONE → ⊥
-  -- an NLRI read has a route type of 1 to 7, where a step that reads none has 0
-  pub typed : (afi : ℕ) (run : List ℕ) (at : ℕ) → stepFrom afi run at .read ≡ true → KnownType (stepFrom afi run at .layout .«route_type»)
-  -- a step that reads moves the cursor by 2 and the Length, within the run
-  pub moves : (afi : ℕ) (run : List ℕ) (at : ℕ) → stepFrom afi run at .read ≡ true
-      → (stepFrom afi run at .cursor ≡ at + (2 + stepFrom afi run at .layout .length)) × (at < stepFrom afi run at .cursor) × (stepFrom afi run at .cursor ≤ length run)
-
--- the walk from a cursor as the iteration of the step: it goes on from the cursor that a step that read hands back, and stops at any other step
-pub data Walks (afi : ℕ) (run : List ℕ) : (at count : ℕ) → Walked → Type 0 where
-  stopping : {at count : ℕ} → stepFrom afi run at .read ≡ false → Walks afi run at count (record { number = stepFrom afi run at .number; count = count; offset = at })
-  going : {at count : ℕ} {w : Walked} → stepFrom afi run at .read ≡ true → Walks afi run (stepFrom afi run at .cursor) (count + 1) w → Walks afi run at count w
-
--- NLRIs that follow each other
-unfoldable pub encodeRun : List Fields → List ℕ
-encodeRun [] = []
-encodeRun (f ∷ fs) = encodeNlri f ++ encodeRun fs
-
--- each of them well-formed
-abbrev pub AllWellFormed : ℕ → List Fields → Type 0
-AllWellFormed bits [] = Unit {0}
-AllWellFormed bits (f ∷ fs) = WellFormed bits f × AllWellFormed bits fs
-
--- what may stand after the NLRIs of a run, and the number there: nothing, or octets that NLRI reading refuses
-pub data RunEnd (bits : ℕ) : List ℕ → ℕ → Type 0 where
-  nothing : RunEnd bits [] DONE
-  refusal : {t : List ℕ} {n : ℕ} → 0 < length t → FrontRefusal bits t n → RunEnd bits t n
-
--- a run as NLRIs and then its end
-pub record RunOf (bits : ℕ) (run : List ℕ) : Type 0 where
-  pub nlris : List Fields
-  pub tail : List ℕ
-  pub number : ℕ
-  pub wellFormed : AllWellFormed bits nlris
-  pub end : RunEnd bits tail number
-  pub is : run ≡ encodeRun nlris ++ tail
-
--- "Walking a run"
-pub record WalkRule : Type 0 where
-  -- every run of octets is NLRIs and then its end
-  pub splits : (afi bits : ℕ) (run : List ℕ) → familyBits afi ≡ given bits → AllOctets run → RunOf bits run
-  -- the walk counts these NLRIs, and stops where they end with the number there
-  pub counts : (afi bits : ℕ) (run : List ℕ) (r : RunOf bits run) → familyBits afi ≡ given bits → AllOctets run → length run ≤ 4096
-      → walkOf afi run ≡ record { number = r .number; count = length (r .nlris); offset = length (encodeRun (r .nlris)) }
-  -- where the first step refuses, as it does a bad AFI and a run that is too long, nothing is read
-  pub refuses : (afi : ℕ) (run : List ℕ) (n : ℕ) → AllOctets run → StepRefusal afi run 0 n → walkOf afi run ≡ record { number = n; count = 0; offset = 0 }
-  -- the walk is the iteration of the step, and nothing else is
-  pub iterates : (afi : ℕ) (run : List ℕ) → Walks afi run 0 0 (walkOf afi run)
-  pub only : (afi : ℕ) (run : List ℕ) (at count : ℕ) (v w : Walked) → Walks afi run at count v → Walks afi run at count w → v ≡ w
-
 -- "Which route a flow takes": 224.0.0.0/4, FF00::/8
 pub data Multicast : (afi : ℕ) → List ℕ → Type 0 where
   ipv4 : {g : List ℕ} → length g ≡ 4 → 224 ≤ getD g 0 0 → getD g 0 0 ≤ 239 → Multicast 1 g
@@ -307,8 +226,3 @@ pub record GroupRule : Type 0 where
   pub refuses : (afi : ℕ) (g : List ℕ) (n : ℕ) → (classOf afi g ≡ refused n) ↔ GroupRefusal afi g n
   pub ssm : (afi : ℕ) (g : List ℕ) → (classOf afi g ≡ given SSM) ↔ SourceSpecific afi g
   pub asm : (afi : ℕ) (g : List ℕ) → (classOf afi g ≡ given ASM) ↔ (Multicast afi g × (SourceSpecific afi g → ⊥))
-
--- the enums that answer a call: answers with the same number and values are equal
-pub record CasesApart : Type 0 where
-  pub readings : (a b : Reading) → readingOf a ≡ readingOf b → a ≡ b
-  pub steps : (a b : Step) → steppedOf a ≡ steppedOf b → a ≡ b

@@ -15,13 +15,13 @@ impl AddressFamily {
 }
 
 // A family by the kind of its addresses, or the refusal's number.
-pub(crate) enum Family {
+pub enum Family {
     Known(AddressKind),
     Unknown(u32),
 }
 
 // The family of an AFI.
-pub(crate) fn family_of(afi: u16) -> Family
+pub fn family_of(afi: u16) -> Family
     ensures { λ r. ⌜ familyOutcome r ≡ familyBits afi ⌝ }
 {
     if afi == AddressFamily::IPV4 {

@@ -1,4 +1,4 @@
-// MCAST-VPN NLRI (RFC 6514, section 4; RFC 6625): read, written and walked.
+// MCAST-VPN NLRI (RFC 6514, section 4; RFC 6625): read and written.
 mod address;
 mod body;
 mod family;
@@ -7,7 +7,6 @@ mod group;
 mod layout;
 mod read;
 mod route;
-mod run;
 mod write;
 
 pub use address::Address;
@@ -15,6 +14,8 @@ pub use address::AddressKind;
 pub use address::RouteDistinguisher;
 pub use body::is_originator_size;
 pub use family::AddressFamily;
+pub use family::Family;
+pub use family::family_of;
 pub use fields::Nlri;
 pub use fields::NlriReading;
 pub use fields::read_nlri;
@@ -22,11 +23,10 @@ pub use group::Group;
 pub use group::group_class;
 pub use layout::Layout;
 pub use layout::Reading;
+pub use read::HEADER;
+pub use read::front_fault;
 pub use read::is_s_pmsi;
+pub use read::read_front;
 pub use read::read_layout;
 pub use route::RouteType;
-pub use run::Cursor;
-pub use run::Step;
-pub use run::Walked;
-pub use run::walk;
 pub use write::write_nlri;

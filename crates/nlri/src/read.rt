@@ -21,7 +21,7 @@ use octets::number::LENGTH;
 use octets::number::SHORT;
 
 // Route Type and Length.
-pub(crate) const HEADER: usize = 2;
+pub const HEADER: usize = 2;
 
 // A route type and a Length with as many octets behind it, or the refusal's number.
 pub(crate) enum Header {
@@ -92,7 +92,7 @@ fn body_fault(kind: AddressKind, route_type: usize, s: &[u8]) -> u32
 }
 
 // The number of the NLRI at the front of `s`, under the family of a kind of addresses.
-pub(crate) fn front_fault(kind: AddressKind, s: &[u8]) -> u32
+pub fn front_fault(kind: AddressKind, s: &[u8]) -> u32
     ensures { λ r. ⌜ r ≡ numberOf (layoutAt (kind .bits) (now (s .entry))) ⌝ }
 {
     // parts handed on, so that the slice reaches this function in registers
@@ -156,7 +156,7 @@ fn plain_layout(route_type: usize, originator: usize, s: &[u8]) -> Layout
 }
 
 // The layout of the NLRI at the front of `s`, which `front_fault` has accepted.
-pub(crate) fn layout_in(s: &[u8]) -> Layout
+fn layout_in(s: &[u8]) -> Layout
     requires { ⌜ Stands (now s) ⌝ }
     ensures { λ r. ⌜ r ≡ layoutIn (now (s .entry)) ⌝ }
 {
@@ -179,7 +179,7 @@ pub(crate) fn layout_in(s: &[u8]) -> Layout
 }
 
 // The NLRI at the front of `s`.
-fn read_front(kind: AddressKind, s: &[u8]) -> Reading
+pub fn read_front(kind: AddressKind, s: &[u8]) -> Reading
     ensures { λ r. ⌜ readingOf r ≡ layoutAt (kind .bits) (now (s .entry)) ⌝ }
 {
     let fault = front_fault(kind, s);

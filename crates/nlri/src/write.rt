@@ -2,11 +2,10 @@
 ghost use mathlib.Core.Path.{_≡_};
 ghost use mathlib.Core.Logic.{_⊎_};
 ghost use mathlib.Core.List.{[], _∷_};
-ghost use Prim.Native.Nat.{_+_, _-_, _*_, _≤_, _<_};
+ghost use Prim.Native.Nat.{_+_, _≤_, _<_};
 ghost use lib.ListN.{length};
-ghost use Rattle.octets.specs.Octets.{placed};
-ghost use Rattle.octets.specs.Outcome.{given, refused, numberOf};
-ghost use Rattle.octets.specs.Outputs.{writtenOf, outputOf};
+ghost use Rattle.octets.specs.Outcome.{given, numberOf};
+ghost use Rattle.octets.specs.Outputs.{Put, Wrote};
 ghost use Rattle.nlri.specs.Fields.{encodeAddress};
 ghost use Rattle.nlri.specs.Writing.{isKey, writeNlri};
 ghost use Rattle.nlri.specs.Answers.{addressOctets, structFields};
@@ -170,7 +169,7 @@ fn size_of(nlri: Nlri, key: usize) -> usize
 // The octets of an address, from `at` on: copies of a known size are single moves.
 fn put_octets(address: Address, output: &mut [u8], at: usize) -> usize
     requires { ⌜ AddressSize (address .size) × (at + length (addressOctets address) ≤ length (now output)) ⌝ }
-    ensures { λ r. ⌜ (r ≡ at + length (addressOctets address)) × (now (output .exit) ≡ placed at (addressOctets address) (now (output .entry))) ⌝ }
+    ensures { λ r. ⌜ Put at (addressOctets address) (now (output .entry)) r (now (output .exit)) ⌝ }
 {
     let octets = address.octets;
     let size = address.size as usize;
@@ -186,7 +185,7 @@ fn put_octets(address: Address, output: &mut [u8], at: usize) -> usize
 // A source or group with its length octet, from `at` on.
 fn put_address(address: Address, output: &mut [u8], at: usize) -> usize
     requires { ⌜ AddressSize (address .size) × (at + length (encodeAddress (addressOctets address)) ≤ length (now output)) ⌝ }
-    ensures { λ r. ⌜ (r ≡ at + length (encodeAddress (addressOctets address))) × (now (output .exit) ≡ placed at (encodeAddress (addressOctets address)) (now (output .entry))) ⌝ }
+    ensures { λ r. ⌜ Put at (encodeAddress (addressOctets address)) (now (output .entry)) r (now (output .exit)) ⌝ }
 {
     let bits = [8 * address.size];
     let next = octets::parts::place(&bits, output, at);
@@ -196,7 +195,7 @@ fn put_address(address: Address, output: &mut [u8], at: usize) -> usize
 // Route Type and Length at the front of the output.
 fn put_header(route_type: u8, size: u8, output: &mut [u8]) -> usize
     requires { ⌜ 2 ≤ length (now output) ⌝ }
-    ensures { λ r. ⌜ (r ≡ 0 + length («route_type» ∷ size ∷ [])) × (now (output .exit) ≡ placed 0 («route_type» ∷ size ∷ []) (now (output .entry))) ⌝ }
+    ensures { λ r. ⌜ Put 0 («route_type» ∷ size ∷ []) (now (output .entry)) r (now (output .exit)) ⌝ }
 {
     let header = [route_type, size];
     octets::parts::place(&header, output, 0)
@@ -205,7 +204,7 @@ fn put_header(route_type: u8, size: u8, output: &mut [u8]) -> usize
 // A source AS behind the route distinguisher, where the type has one.
 fn put_source_as(nlri: Nlri, output: &mut [u8], at: usize) -> usize
     requires { ⌜ at + length (sourceAsOctets nlri) ≤ length (now output) ⌝ }
-    ensures { λ r. ⌜ (r ≡ at + length (sourceAsOctets nlri)) × (now (output .exit) ≡ placed at (sourceAsOctets nlri) (now (output .entry))) ⌝ }
+    ensures { λ r. ⌜ Put at (sourceAsOctets nlri) (now (output .entry)) r (now (output .exit)) ⌝ }
 {
     if fields::has_source_as(nlri.route_type as usize) {
         return octets::wide::place_four(nlri.source_as, output, at);
@@ -216,7 +215,7 @@ fn put_source_as(nlri: Nlri, output: &mut [u8], at: usize) -> usize
 // What stands before source and group: the key, or the route distinguisher with a source AS.
 fn put_fixed(nlri: Nlri, key: &[u8], output: &mut [u8], at: usize) -> usize
     requires { ⌜ at + length (fixedOctets nlri (now key)) ≤ length (now output) ⌝ }
-    ensures { λ r. ⌜ (r ≡ at + length (fixedOctets nlri (now (key .entry)))) × (now (output .exit) ≡ placed at (fixedOctets nlri (now (key .entry))) (now (output .entry))) ⌝ }
+    ensures { λ r. ⌜ Put at (fixedOctets nlri (now (key .entry))) (now (output .entry)) r (now (output .exit)) ⌝ }
 {
     if nlri.route_type as usize == RouteType::LEAF {
         return octets::parts::place(key, output, at);
@@ -230,7 +229,7 @@ fn put_fixed(nlri: Nlri, key: &[u8], output: &mut [u8], at: usize) -> usize
 // Source and group from `at` on, where the type has them.
 fn put_flow(nlri: Nlri, output: &mut [u8], at: usize) -> usize
     requires { ⌜ AddressesSized nlri × (at + length (flowOctets nlri) ≤ length (now output)) ⌝ }
-    ensures { λ r. ⌜ (r ≡ at + length (flowOctets nlri)) × (now (output .exit) ≡ placed at (flowOctets nlri) (now (output .entry))) ⌝ }
+    ensures { λ r. ⌜ Put at (flowOctets nlri) (now (output .entry)) r (now (output .exit)) ⌝ }
 {
     if has_flow(nlri.route_type as usize) {
         let source = nlri.source;
@@ -244,7 +243,7 @@ fn put_flow(nlri: Nlri, output: &mut [u8], at: usize) -> usize
 // The originator from `at` on, where the type has one.
 fn put_originator(nlri: Nlri, output: &mut [u8], at: usize) -> usize
     requires { ⌜ AddressesSized nlri × (at + length (originatorOctets nlri) ≤ length (now output)) ⌝ }
-    ensures { λ r. ⌜ (r ≡ at + length (originatorOctets nlri)) × (now (output .exit) ≡ placed at (originatorOctets nlri) (now (output .entry))) ⌝ }
+    ensures { λ r. ⌜ Put at (originatorOctets nlri) (now (output .entry)) r (now (output .exit)) ⌝ }
 {
     if has_originator(nlri.route_type as usize) {
         let originator = nlri.originator;
@@ -256,7 +255,7 @@ fn put_originator(nlri: Nlri, output: &mut [u8], at: usize) -> usize
 // The body from `at` on.
 fn put_body(nlri: Nlri, key: &[u8], output: &mut [u8], at: usize) -> usize
     requires { ⌜ AddressesSized nlri × (at + length (bodyOctets nlri (now key)) ≤ length (now output)) ⌝ }
-    ensures { λ r. ⌜ (r ≡ at + length (bodyOctets nlri (now (key .entry)))) × (now (output .exit) ≡ placed at (bodyOctets nlri (now (key .entry))) (now (output .entry))) ⌝ }
+    ensures { λ r. ⌜ Put at (bodyOctets nlri (now (key .entry))) (now (output .entry)) r (now (output .exit)) ⌝ }
 {
     let flow = put_fixed(nlri, key, output, at);
     let originator = put_flow(nlri, output, flow);
@@ -266,43 +265,35 @@ fn put_body(nlri: Nlri, key: &[u8], output: &mut [u8], at: usize) -> usize
 // The whole NLRI of `size` octets at the front of the output.
 fn put(nlri: Nlri, key: &[u8], size: usize, output: &mut [u8]) -> Written
     requires { ⌜ Putting nlri (now key) size (now output) ⌝ }
-    ensures { λ r. ⌜ (r ≡ writtenOf (given (nlriOctets nlri (now (key .entry))))) × (now (output .exit) ≡ outputOf (given (nlriOctets nlri (now (key .entry)))) (now (output .entry))) ⌝ }
+    ensures { λ r. ⌜ Wrote (given (nlriOctets nlri (now (key .entry)))) (now (output .entry)) r (now (output .exit)) ⌝ }
 {
     let at = put_header(nlri.route_type, (size - HEADER) as u8, output);
     put_body(nlri, key, output, at);
     Written { number: DONE, size }
 }
 
-// The answer of a refusal: its number.
-fn refusal(number: u32) -> Written
-    ensures { λ r. ⌜ r ≡ writtenOf (refused number) ⌝ }
-{
-    Written { number, size: 0 }
-}
-
 // Writing under the family of a kind of addresses. TYPE, WIDTH, KEY, SPACE.
 fn write_under(kind: AddressKind, nlri: Nlri, key: &[u8], output: &mut [u8]) -> Written
     requires { ⌜ (kind .bits ≡ 32) ⊎ (kind .bits ≡ 128) ⌝ }
-    ensures { λ r. ⌜ (r ≡ writtenOf (writeUnder (kind .bits) nlri (now (key .entry)) (length (now (output .entry))))) × (now (output .exit) ≡ outputOf (writeUnder (kind .bits) nlri (now (key .entry)) (length (now (output .entry)))) (now (output .entry))) ⌝ }
+    ensures { λ r. ⌜ Wrote (writeUnder (kind .bits) nlri (now (key .entry)) (length (now (output .entry)))) (now (output .entry)) r (now (output .exit)) ⌝ }
 {
     let fault = judge(kind, nlri, key);
     if fault != DONE {
-        return refusal(fault);
+        return Written::refused(fault);
     }
     let size = size_of(nlri, key.len());
     if output.len() < size {
-        return refusal(SPACE);
+        return Written::refused(SPACE);
     }
     put(nlri, key, size, output)
 }
 
 // Writes an NLRI at the front of the output; `key` is a Leaf's key. FAMILY, TYPE, WIDTH, KEY, SPACE.
 pub fn write_nlri(afi: u16, nlri: Nlri, key: &[u8], output: &mut [u8]) -> Written
-    ensures { λ r. ⌜ r ≡ writtenOf (writeNlri afi (structFields nlri (now (key .entry))) (length (now (output .entry)))) ⌝ }
-    ensures { λ r. ⌜ now (output .exit) ≡ outputOf (writeNlri afi (structFields nlri (now (key .entry))) (length (now (output .entry)))) (now (output .entry)) ⌝ }
+    ensures { λ r. ⌜ Wrote (writeNlri afi (structFields nlri (now (key .entry))) (length (now (output .entry)))) (now (output .entry)) r (now (output .exit)) ⌝ }
 {
     match family::family_of(afi) {
-        Family::Unknown(number) => refusal(number),
+        Family::Unknown(number) => Written::refused(number),
         Family::Known(kind) => write_under(kind, nlri, key, output),
     }
 }

@@ -3,6 +3,7 @@ pub mod Choice
 pub mod Outcome
 pub mod Tests
 pub mod Lists
+pub mod Outputs
 pub mod NetworkOrder
 pub mod LowFirst
 pub mod AllOctets

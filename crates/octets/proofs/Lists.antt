@@ -1,10 +1,10 @@
 -- Laws of `part`, `placed`, `front` and `sized`.
 use Prim.Native.Nat.{ℕ, suc, _+_, _-_, _≤_}
-use mathlib.Core.Path.{_≡_, refl, sym, ap, ap₂, subst, _∙_}
+use mathlib.Core.Path.{_≡_, refl, sym, ap, ap₂, _∙_}
 use mathlib.Core.List.{List, [], _∷_, _++_, append-assoc, append-nil}
-use native.Mathlib.Nat.{zero-add, add-zero, add-assoc, add-sub-cancel-left}
+use native.Mathlib.Nat.{zero-add, add-sub-cancel-left}
 use native.Mathlib.Omega.{arith}
-use lib.ListN.{length, getD, take, drop, replicate, length-append, length-take, length-drop, length-replicate, replicate-append-replicate, take-append-drop, drop-of-length-le}
+use lib.ListN.{length, getD, take, drop, replicate, length-append, length-take, length-drop, length-replicate, replicate-append-replicate, drop-of-length-le}
 use lib.Seq.{take-all, take-at, drop-at, drop-drop, length-take-le, take-append-le, take-length, take-append-add, take-add, take-take, take-append-seam}
 use Rattle.octets.specs.Octets.{part, placed, front, sized}
 use Rattle.octets.specs.Order.{zeros}
@@ -56,26 +56,6 @@ placed-placed at e f d h =
 -- the same, as two calls leave it
 pub placed-then : (at next : ℕ) (e f d y z : List ℕ) → at + length e + length f ≤ length d → next ≡ at + length e → y ≡ placed at e d → z ≡ placed next f y → z ≡ placed at (e ++ f) d
 placed-then at next e f d y z h k p q = q ∙ ap₂ (λ (i : ℕ) (l : List ℕ). placed i f l) k p ∙ placed-placed at e f d h
-
--- what a function that puts e into d from `at` on leaves, and the place that it answers
-abbrev pub Put : (at : ℕ) (e d : List ℕ) (next : ℕ) (y : List ℕ) → Type 0
-Put at e d next y = (next ≡ at + length e) × (y ≡ placed at e d)
-
-pub put-none : (at : ℕ) (d : List ℕ) → Put at [] d at d
-unfolding placed
-put-none at d = (sym (add-zero at), sym (ap (λ (n : ℕ). take at d ++ drop n d) (add-zero at) ∙ take-append-drop at d))
-
-pub put-as : (at : ℕ) (e e′ d : List ℕ) (next : ℕ) (y : List ℕ) → e ≡ e′ → Put at e d next y → Put at e′ d next y
-put-as at e e′ d next y q p = subst (λ (x : List ℕ). Put at x d next y) q p
-
-pub put-then : (at : ℕ) (e f d : List ℕ) (next : ℕ) (y : List ℕ) (last : ℕ) (z : List ℕ) → at + length e + length f ≤ length d → Put at e d next y → Put next f y last z → Put at (e ++ f) d last z
-put-then at e f d next y last z h p q = (
-  q .0 ∙ ap (λ (n : ℕ). n + length f) (p .0) ∙ add-assoc at (length e) (length f) ∙ ap (λ (n : ℕ). at + n) (sym (length-append e f)),
-  placed-then at next e f d y z h (p .0) (p .1) (q .1),
-)
-
-pub length-put : (at : ℕ) (e d : List ℕ) (next : ℕ) (y : List ℕ) → at + length e ≤ length d → Put at e d next y → length y ≡ length d
-length-put at e d next y h p = ap length (p .1) ∙ length-placed at e d h
 
 pub length-sized : (n : ℕ) (xs : List ℕ) → length (sized n xs) ≡ n
 unfolding sized

@@ -7,8 +7,8 @@ use native.Mathlib.Omega.{arith}
 use lib.ListN.{length, take, drop, getD, length-append, length-drop}
 use lib.Seq.{take-suc, getD-drop}
 use Rattle.octets.proofs.AllOctets.{octets-part, octets-append, number-fits}
-use Rattle.octets.proofs.Lists.{placed-then, length-part, part-then}
-use Rattle.octets.specs.Octets.{AllOctets, none, one, part, placed, numberIn, bigEndian}
+use Rattle.octets.proofs.Lists.{length-part, part-then}
+use Rattle.octets.specs.Octets.{AllOctets, none, one, part, numberIn, bigEndian}
 
 pub length-bigEndian : (n x : ℕ) → length (bigEndian n x) ≡ n
 unfolding bigEndian
@@ -72,15 +72,6 @@ number-then s at m n h =
 pub number-two : (s : List ℕ) (at : ℕ) → at + 2 ≤ length s → getD s at 0 * 256 + getD s (at + 1) 0 ≡ numberIn (part s at 2) 0
 unfolding part numberIn
 number-two s at h = sym (rw (number-part s at 1 (omega arith), number-part s at 0 (omega arith), add-zero) (omega arith))
-
--- the last octet put straight after the others
-pub placed-last : (at next n x : ℕ) (d y z : List ℕ) → at + suc n ≤ length d → next ≡ at + n → y ≡ placed at (bigEndian n (x / 256)) d → z ≡ placed next (x % 256 ∷ []) y
-    → z ≡ placed at (bigEndian (suc n) x) d
-unfolding bigEndian
-placed-last at next n x d y z h k p q =
-    let e : List ℕ = bigEndian n (x / 256) in
-    let l : length e ≡ n = length-bigEndian n (x / 256) in
-    placed-then at next e (x % 256 ∷ []) d y z (omega arith) (rw l k) p q
 
 -- the number in a part, and the part of a number
 pub part-number : {s : List ℕ} → AllOctets s → (at n : ℕ) → at + n ≤ length s → bigEndian n (numberIn (part s at n) 0) ≡ part s at n

@@ -1,10 +1,11 @@
--- What a writer answers, and what it leaves in the output (document 01, "The numbers a call gives back").
-use Prim.Native.Nat.{ℕ}
+-- What functions that write answer, and what they leave in the output (document 01, "The numbers a call gives back").
+use Prim.Native.Nat.{ℕ, _+_}
+use mathlib.Core.Path.{_≡_}
 use mathlib.Core.List.{List}
 use lib.ListN.{length}
 use Rattle.octets.specs.declared.Written.{Written}
 use Rattle.octets.specs.Outcome.{Outcome, onOutcome, numberOf}
-use Rattle.octets.specs.Octets.{front}
+use Rattle.octets.specs.Octets.{placed, front}
 
 -- DONE and the octets written, or the refusal's number and 0
 unfoldable pub writtenOf : Outcome (List ℕ) → Written
@@ -13,3 +14,11 @@ writtenOf outcome = record { number = numberOf outcome; size = onOutcome (λ num
 -- the octets written at the front, those past them untouched; on a refusal the output as it was
 unfoldable pub outputOf : Outcome (List ℕ) → List ℕ → List ℕ
 outputOf outcome output = onOutcome (λ number. output) (λ octets. front octets output) outcome
+
+-- octets put into an output from `at` on: the answer is the place just past them
+abbrev pub Put : (at : ℕ) (octets before : List ℕ) (answer : ℕ) (after : List ℕ) → Type 0
+Put at octets before answer after = (answer ≡ at + length octets) × (after ≡ placed at octets before)
+
+-- an outcome written: the answer, and what is left in the output
+abbrev pub Wrote : Outcome (List ℕ) → (before : List ℕ) → (answer : Written) → (after : List ℕ) → Type 0
+Wrote outcome before answer after = (answer ≡ writtenOf outcome) × (after ≡ outputOf outcome before)

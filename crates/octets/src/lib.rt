@@ -1,5 +1,9 @@
 // Octets in slices, and the numbers that calls give back: what the codecs share. Neither installed nor exported to C, so
 // its helpers may have a `requires`.
+ghost use mathlib.Core.Path.{_≡_};
+ghost use Rattle.octets.specs.Outcome.{refused};
+ghost use Rattle.octets.specs.Outputs.{writtenOf};
+
 pub mod number;
 pub mod order;
 pub mod parts;
@@ -17,4 +21,13 @@ pub struct Span {
 pub struct Written {
     pub number: u32,
     pub size: usize,
+}
+
+impl Written {
+    // The answer of a refusal: its number, and no octets written.
+    pub fn refused(number: u32) -> Written
+        ensures { λ r. ⌜ r ≡ writtenOf (refused number) ⌝ }
+    {
+        Written { number, size: 0 }
+    }
 }

@@ -2,7 +2,8 @@
 ghost use mathlib.Core.Path.{_≡_};
 ghost use Prim.Native.Nat.{_+_, _≤_};
 ghost use lib.ListN.{length, drop};
-ghost use Rattle.octets.specs.Octets.{part, placed};
+ghost use Rattle.octets.specs.Octets.{part};
+ghost use Rattle.octets.specs.Outputs.{Put};
 
 // The octets from `at` on.
 pub fn after(s: &[u8], at: usize) -> &[u8]
@@ -23,7 +24,7 @@ pub fn between(s: &[u8], start: usize, size: usize) -> &[u8]
 // Puts all of `octets` into `output` from `at` on, and answers the place just past them.
 pub fn place(octets: &[u8], output: &mut [u8], at: usize) -> usize
     requires { ⌜ at + length (now octets) ≤ length (now output) ⌝ }
-    ensures { λ r. ⌜ (r ≡ at + length (now (octets .entry))) × (now (output .exit) ≡ placed at (now (octets .entry)) (now (output .entry))) ⌝ }
+    ensures { λ r. ⌜ Put at (now (octets .entry)) (now (output .entry)) r (now (output .exit)) ⌝ }
 {
     at + bytes::copy(octets, &mut output[at..])
 }

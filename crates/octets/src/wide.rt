@@ -3,7 +3,8 @@
 ghost use mathlib.Core.Path.{_≡_};
 ghost use Prim.Native.Nat.{_+_, _^_, _<_, _≤_};
 ghost use lib.ListN.{length};
-ghost use Rattle.octets.specs.Octets.{part, placed, numberIn, lowFirst, bigEndian};
+ghost use Rattle.octets.specs.Octets.{part, numberIn, lowFirst, bigEndian};
+ghost use Rattle.octets.specs.Outputs.{Put};
 
 // The number in two octets from `at` on.
 pub fn two(s: &[u8], at: usize) -> u32
@@ -66,7 +67,7 @@ pub fn eight_low_first(s: &[u8], at: usize) -> u64
 // Puts the last three octets of a number into `output` from `at` on, and answers the place just past them.
 pub fn place_three(x: u32, output: &mut [u8], at: usize) -> usize
     requires { ⌜ at + 3 ≤ length (now output) ⌝ }
-    ensures { λ r. ⌜ (r ≡ at + 3) × (now (output .exit) ≡ placed at (bigEndian 3 x) (now (output .entry))) ⌝ }
+    ensures { λ r. ⌜ Put at (bigEndian 3 x) (now (output .entry)) r (now (output .exit)) ⌝ }
 {
     let octets = [
         (x / 256 / 256 % 256) as u8,
@@ -79,7 +80,7 @@ pub fn place_three(x: u32, output: &mut [u8], at: usize) -> usize
 // Puts the four octets of a number into `output` from `at` on, and answers the place just past them.
 pub fn place_four(x: u32, output: &mut [u8], at: usize) -> usize
     requires { ⌜ at + 4 ≤ length (now output) ⌝ }
-    ensures { λ r. ⌜ (r ≡ at + 4) × (now (output .exit) ≡ placed at (bigEndian 4 x) (now (output .entry))) ⌝ }
+    ensures { λ r. ⌜ Put at (bigEndian 4 x) (now (output .entry)) r (now (output .exit)) ⌝ }
 {
     let next = place_three(x / 256, output, at);
     let octets = [(x % 256) as u8];

@@ -4,11 +4,12 @@ use mathlib.Core.Path.{_≡_, sym, ap, _∙_}
 use mathlib.Core.List.{List, [], _∷_, _++_, append-assoc}
 use native.Mathlib.Nat.{zero-add}
 use native.Mathlib.Omega.{arith}
-use lib.ListN.{length, drop, replicate-append-replicate}
+use lib.ListN.{length, length-append, drop, replicate-append-replicate}
 use lib.Seq.{drop-at}
 use Rattle.octets.specs.Octets.{placed}
 use Rattle.octets.specs.Order.{zeros}
-use Rattle.octets.proofs.Lists.{Put, put-then}
+use Rattle.octets.specs.Outputs.{Put}
+use Rattle.octets.proofs.Outputs.{put-then}
 use Rattle.routes.specs.Route.{route}
 use Rattle.routes.specs.Place.{placeOf}
 use Rattle.routes.proofs.Definitions.Places.{length-zeros}
@@ -32,8 +33,8 @@ unfolding placeOf
 place-written n a z x y w i j k h e p q r =
     let lz : length z ≡ 128 = ap length e ∙ length-zeros 128 in
     let sizes : List ℕ = length n ∷ (length a ∷ []) in
-    let first : Put 0 (sizes ++ n) z j y = put-then 0 sizes n z i x j y (omega arith) p q in
-    let whole : Put 0 ((sizes ++ n) ++ a) z k w = put-then 0 (sizes ++ n) a z j y k w (omega arith) first r in
+    let first : Put 0 (sizes ++ n) z j y = put-then 0 sizes n z (omega arith) i x p j y q in
+    let whole : Put 0 ((sizes ++ n) ++ a) z k w = put-then 0 (sizes ++ n) a z (omega (arith, length-append n a)) j y first k w r in
     let over : placed 0 ((sizes ++ n) ++ a) (zeros 128) ≡ ((sizes ++ n) ++ a) ++ zeros (128 - length ((sizes ++ n) ++ a)) = over-zeros 128 ((sizes ++ n) ++ a) (omega arith) in
     let left : 128 - length ((sizes ++ n) ++ a) ≡ 126 - (length n + length a) = omega arith in
     whole .1 ∙ ap (placed 0 ((sizes ++ n) ++ a)) e ∙ over ∙ ap (λ (m : ℕ). ((sizes ++ n) ++ a) ++ zeros m) left

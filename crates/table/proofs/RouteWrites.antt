@@ -8,10 +8,11 @@ use lib.ListN.{length, getD, take, drop, length-take, length-drop}
 use lib.Seq.{take-length}
 use Rattle.octets.specs.Outcome.{Outcome, given, onOutcome}
 use Rattle.octets.specs.Octets.{AllOctets, part, placed, front, numberIn}
-use Rattle.octets.specs.Outputs.{writtenOf, outputOf}
+use Rattle.octets.specs.Outputs.{writtenOf, outputOf, Put}
 use Rattle.octets.specs.declared.Written.{Written}
 use Rattle.octets.proofs.Outcome.{given-otherwise}
-use Rattle.octets.proofs.Lists.{Put, length-put, lent-placed, placed-then, front-is-placed}
+use Rattle.octets.proofs.Outputs.{length-put}
+use Rattle.octets.proofs.Lists.{lent-placed, placed-then, front-is-placed}
 use Rattle.tunnel.specs.Attribute.{AttributeFields, fieldsIn, readAttribute, writeAttribute}
 use Rattle.tunnel.specs.Answers.{argumentFields}
 use Rattle.tunnel.proofs.Theorems.{attributeRoundTrips}

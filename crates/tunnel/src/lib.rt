@@ -2,7 +2,7 @@
 ghost use mathlib.Core.Path.{_≡_};
 ghost use Prim.Native.Nat.{ℕ};
 ghost use Rattle.octets.specs.Outcome.{numberOf};
-ghost use Rattle.octets.specs.Outputs.{writtenOf, outputOf};
+ghost use Rattle.octets.specs.Outputs.{Wrote};
 ghost use Rattle.tunnel.specs.Attribute.{readAttribute, writeAttribute};
 ghost use Rattle.tunnel.specs.Answers.{outcomeOf, readStruct, argumentFields, writeOutcome};
 use octets::Span;
@@ -108,15 +108,11 @@ pub fn write(
     identifier: &[u8],
     output: &mut [u8],
 ) -> Written
-    ensures { λ r. ⌜ r ≡ writtenOf (writeOutcome flags «tunnel_type» «label_field» (now (identifier .entry)) (now (output .entry))) ⌝ }
-    ensures { λ r. ⌜ now (output .exit) ≡ outputOf (writeOutcome flags «tunnel_type» «label_field» (now (identifier .entry)) (now (output .entry))) (now (output .entry)) ⌝ }
+    ensures { λ r. ⌜ Wrote (writeOutcome flags «tunnel_type» «label_field» (now (identifier .entry)) (now (output .entry))) (now (output .entry)) r (now (output .exit)) ⌝ }
 {
     let fault = write_fault(tunnel_type, label_field, identifier, output.len());
     if fault != number::DONE {
-        return Written {
-            number: fault,
-            size: 0,
-        };
+        return Written::refused(fault);
     }
     encoding::put(flags, tunnel_type, label_field, identifier, output)
 }

@@ -1,8 +1,8 @@
 -- `mvpn::mvpn_step` meets its contract.
 use mathlib.Core.Path.{_∙_, sym, ap}
 use Rattle.mvpn.specs.Answers.{stepAnswer}
-use Rattle.nlri.specs.Walking.{readTo, endedAt, refusedAt}
-use Rattle.nlri.proofs.Functions.Steps.{step-read, step-ended, step-refused}
+use Rattle.runs.specs.Walking.{readTo, endedAt, refusedAt}
+use Rattle.runs.proofs.Steps.{step-read, step-ended, step-refused}
 use borrow.Author.Needs.{needs}
 use Rattle.mvpn.proofs.mvpn_step.Statement.{statement}
 use Rattle.mvpn.proofs.mvpn_step.Tie as tie

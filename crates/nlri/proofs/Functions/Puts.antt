@@ -1,5 +1,5 @@
 -- What the inner functions of writing put, and how much room it takes.
-use mathlib.Core.Path.{_≡_, refl, sym, _∙_, ap, ap₂}
+use mathlib.Core.Path.{_≡_, refl, sym, _∙_, ap, ap₂, subst}
 use mathlib.Core.Bool.{Bool, true, false}
 use mathlib.Core.List.{List, [], _∷_, _++_}
 use Prim.Native.Nat.{ℕ, _+_, _*_, _≤_, _<_}
@@ -8,13 +8,8 @@ use lib.ListN.{length, take, length-append}
 use lib.Seq.{take-length}
 use lib.Dec.{eqb}
 use borrow.Author.Tests.{eqb-true}
-use Rattle.octets.specs.Numbers.{DONE}
 use Rattle.octets.specs.Choice.{pick}
-use Rattle.octets.specs.Outcome.{given, onOutcome, numberOf}
-use Rattle.octets.specs.Octets.{bigEndian}
-use Rattle.octets.specs.Outputs.{writtenOf, outputOf}
-use Rattle.octets.proofs.Lists.{Put, length-sized, sized-taken, front-is-placed}
-use Rattle.octets.proofs.Choice.{pick-true, pick-false}
+use Rattle.octets.proofs.Lists.{length-sized, sized-taken}
 use Rattle.octets.proofs.NetworkOrder.{length-bigEndian}
 use Rattle.nlri.specs.declared.address.Address.{Address}
 use Rattle.nlri.specs.declared.fields.Nlri.{Nlri}
@@ -41,44 +36,15 @@ pub address-split : (a : Address) → (8 * a .size ∷ []) ++ addressOctets a �
 unfolding encodeAddress
 address-split a = ap (λ (n : ℕ). 8 * n ∷ addressOctets a) (sym (length-octets a))
 
-pub address-room : (a : Address) → length (encodeAddress (addressOctets a)) ≡ 1 + length (addressOctets a)
+length-encodeAddress : (a : Address) → length (encodeAddress (addressOctets a)) ≡ 1 + a .size
 unfolding encodeAddress
-address-room a = omega arith
+length-encodeAddress a = omega (arith, length-octets a)
+
+pub room-address : (a : Address) (at n : ℕ) → at + length (encodeAddress (addressOctets a)) ≤ n → at + length ((8 * a .size ∷ []) ++ addressOctets a) ≤ n
+room-address a at n h = subst (λ (x : List ℕ). at + length x ≤ n) (sym (address-split a)) h
 
 module _ (nlri : Nlri) (key : List ℕ) where
-  pub source-as-there : withSourceAs (nlri .«route_type») ≡ true → bigEndian 4 (nlri .«source_as») ≡ sourceAsOctets nlri
-  unfolding sourceAsOctets
-  source-as-there h = sym (pick-true _ _ _ h)
-
-  pub source-as-none : withSourceAs (nlri .«route_type») ≡ false → [] ≡ sourceAsOctets nlri
-  unfolding sourceAsOctets
-  source-as-none h = sym (pick-false _ _ _ h)
-
-  pub fixed-key : eqb (nlri .«route_type») 4 ≡ true → key ≡ fixedOctets nlri key
-  unfolding fixedOctets
-  fixed-key h = sym (pick-true _ _ _ h)
-
-  pub fixed-distinguisher : eqb (nlri .«route_type») 4 ≡ false → nlri .distinguisher .octets ++ sourceAsOctets nlri ≡ fixedOctets nlri key
-  unfolding fixedOctets
-  fixed-distinguisher h = sym (pick-false _ _ _ h)
-
-  pub flow-there : hasFlow (nlri .«route_type») ≡ true → encodeAddress (addressOctets (nlri .source)) ++ encodeAddress (addressOctets (nlri .group)) ≡ flowOctets nlri
-  unfolding flowOctets
-  flow-there h = sym (pick-true _ _ _ h)
-
-  pub flow-none : hasFlow (nlri .«route_type») ≡ false → [] ≡ flowOctets nlri
-  unfolding flowOctets
-  flow-none h = sym (pick-false _ _ _ h)
-
-  pub originator-there : hasOriginator (nlri .«route_type») ≡ true → addressOctets (nlri .originator) ≡ originatorOctets nlri
-  unfolding originatorOctets
-  originator-there h = sym (pick-true _ _ _ h)
-
-  pub originator-none : hasOriginator (nlri .«route_type») ≡ false → [] ≡ originatorOctets nlri
-  unfolding originatorOctets
-  originator-none h = sym (pick-false _ _ _ h)
-
-  pub length-body : length (bodyOctets nlri key) ≡ length (fixedOctets nlri key) + length (flowOctets nlri) + length (originatorOctets nlri)
+  length-body : length (bodyOctets nlri key) ≡ length (fixedOctets nlri key) + length (flowOctets nlri) + length (originatorOctets nlri)
   unfolding bodyOctets
   length-body = simp length-append (omega arith)
 
@@ -89,11 +55,6 @@ module _ (nlri : Nlri) (key : List ℕ) where
   pub all-put : (n : ℕ) → n ≡ length (bodyOctets nlri key) → (nlri .«route_type» ∷ n ∷ []) ++ bodyOctets nlri key ≡ nlriOctets nlri key
   unfolding nlriOctets
   all-put n e = ap (λ (m : ℕ). nlri .«route_type» ∷ m ∷ bodyOctets nlri key) e
-
--- what is answered and left where all was put
-pub put-all : (e d : List ℕ) (size next : ℕ) (z : List ℕ) → size ≡ length e → Put 0 e d next z → (record { number = DONE; size = size } ≡ writtenOf (given e)) × (z ≡ outputOf (given e) d)
-unfolding writtenOf outputOf numberOf onOutcome
-put-all e d size next z s p = ((λ i. record { number = DONE; size = s i }), p .1 ∙ sym (front-is-placed e d))
 
 -- sizes without their octets
 under : (b : Bool) (x y n : ℕ) → (b ≡ true → x ≤ n) → y ≤ n → pick b x y ≤ n
@@ -151,10 +112,8 @@ module _ (nlri : Nlri) (key : List ℕ) (eight : length (nlri .distinguisher .oc
   flow-size : length (flowOctets nlri) ≡ flowSize (nlri .«route_type») (nlri .source .size) (nlri .group .size)
   unfolding flowOctets flowSize
   flow-size =
-      let a = address-room (nlri .source) in
-      let b = address-room (nlri .group) in
-      let la = length-octets (nlri .source) in
-      let lb = length-octets (nlri .group) in
+      let a = length-encodeAddress (nlri .source) in
+      let b = length-encodeAddress (nlri .group) in
       let l = length-append (encodeAddress (addressOctets (nlri .source))) (encodeAddress (addressOctets (nlri .group))) in
       length-pick _ _ _ ∙ ap (λ (n : ℕ). pick (hasFlow (nlri .«route_type»)) n 0) (omega arith)
 

@@ -1,54 +1,45 @@
--- The writer's verdict on an NLRI, and what it then writes, is document 01's, type by type.
+-- The writer's verdict on an NLRI, and what it then writes, is document 01's, row by row of the table of bodies.
 use mathlib.Core.Path.{_≡_, refl, sym, _∙_, ap, ap₂, subst}
 use mathlib.Core.Bool.{Bool, true, false}
 use mathlib.Core.Logic.{_⊎_, inl, inr}
-use mathlib.Core.List.{List, _∷_, append-nil, append-assoc}
-use Prim.Native.Nat.{ℕ, _+_, _*_, _≤_, _<_}
+use mathlib.Core.List.{List, [], _∷_, append-nil, append-assoc}
+use Prim.Native.Nat.{ℕ, _*_, _≤_, _<_}
 use native.Mathlib.Omega.{arith}
-use borrow.Author.Tests.{eqb-true, eqb-false, ltb-true, ltb-false, eq-eqb, ne-eqb, lt-ltb, le-ltb}
+use borrow.Author.Tests.{eqb-true, ltb-true, ltb-false, eq-eqb, lt-ltb, le-ltb}
 use lib.ListN.{length, getD}
 use lib.Dec.{eqb, ltb}
 use Rattle.octets.specs.Numbers.{DONE, TYPE, WIDTH, KEY, SPACE}
 use Rattle.octets.specs.Choice.{pick, both, either}
-use Rattle.octets.specs.Outcome.{Outcome, given, refused, andThen, onOutcome, numberOf}
-use Rattle.octets.specs.Outputs.{writtenOf, outputOf}
-use Rattle.octets.specs.declared.Written.{Written}
+use Rattle.octets.specs.Outcome.{Outcome, given, refused, andThen, numberOf}
 use Rattle.octets.proofs.AllOctets.{octets-of}
-use Rattle.octets.proofs.Choice.{both-true-left, both-true-right, either-true, pick-true, pick-false}
+use Rattle.octets.proofs.Choice.{opposite, both-true-left, both-true-right, either-true, pick-true, pick-false}
 use Rattle.octets.proofs.Outcome.{given-otherwise, given-unless, and-cong, goes, stops, refused-of}
 use Rattle.nlri.specs.declared.fields.Nlri.{Nlri}
 use Rattle.nlri.specs.Family.{familyBits, allowed, isOriginatorSize}
-use Rattle.nlri.specs.Bodies.{bodies, onBody, bodyOf}
+use Rattle.nlri.specs.Bodies.{FieldKind, Row, row, bodies, onBody, bodyOf}
 use Rattle.nlri.specs.Fields.{Fields, encodeField, encodeBody, encodeNlri}
 use Rattle.nlri.specs.Writing.{widthFits, widthsFit, keyFits, keysFit, isKey, writeNlri}
 use Rattle.nlri.specs.Answers.{addressOctets, structFields}
 use Rattle.nlri.specs.Inner.{withSourceAs}
 use Rattle.nlri.specs.InnerWriting.{hasFlow, hasOriginator, flowFits, originatorFits, leafFits, fitting, sizeOf, sourceAsOctets, fixedOctets, flowOctets, originatorOctets, bodyOctets, nlriOctets, AddressSize, AddressesSized, writeUnder}
+use Rattle.nlri.proofs.Definitions.Table.{listed, on-body, known, unlisted}
 use Rattle.nlri.proofs.Definitions.Keys.{octets-key}
 use Rattle.nlri.proofs.Definitions.Writes.{key-judged}
 use Rattle.nlri.proofs.Functions.Puts.{length-octets, size-is, fixed-short, flow-short, originator-short}
 
-more : (type k : ℕ) → k ≤ type → (type ≡ k → ⊥) → k + 1 ≤ type
-more type k h n = omega arith
+-- a property of each row of a table, and so of every type that it lists
+abbrev EachRow : (ℕ → List FieldKind → Type 0) → List Row → Type 0
+EachRow P [] = Unit {0}
+EachRow P (row n body ∷ rows) = P n body × EachRow P rows
 
-outside : (type : ℕ) → (type ≡ 1 → ⊥) → (type ≡ 2 → ⊥) → (type ≡ 3 → ⊥) → (type ≡ 4 → ⊥) → (type ≡ 5 → ⊥) → (type ≡ 6 → ⊥) → (type ≡ 7 → ⊥) → (type < 1) ⊎ (7 < type)
-outside type n₁ n₂ n₃ n₄ n₅ n₆ n₇ = go (ltb type 1) refl
+each-listed : (P : ℕ → List FieldKind → Type 0) (table : List Row) (type : ℕ) → EachRow P table → listed table type ≡ true → P type (onBody table type [] (λ body. body))
+unfolding listed onBody either pick
+each-listed P [] type each l = absurd (opposite l refl)
+each-listed P (row n body ∷ rows) type each l = go (eqb type n) refl l (each-listed P rows type (each .1))
   where
-    go : (b : Bool) → ltb type 1 ≡ b → (type < 1) ⊎ (7 < type)
-    go true e = inl (ltb-true type 1 e)
-    go false e = inr (more type 7 (more type 6 (more type 5 (more type 4 (more type 3 (more type 2 (more type 1 (ltb-false type 1 e) n₁) n₂) n₃) n₄) n₅) n₆) n₇)
-
--- a property of every type, from each type of the table and from any other number
-by-type : (P : ℕ → Type 0) (type : ℕ) → P 1 → P 2 → P 3 → P 4 → P 5 → P 6 → P 7 → ((type < 1) ⊎ (7 < type) → P type) → P type
-by-type P type p₁ p₂ p₃ p₄ p₅ p₆ p₇ other =
-    at 1 p₁ (λ n₁. at 2 p₂ (λ n₂. at 3 p₃ (λ n₃. at 4 p₄ (λ n₄. at 5 p₅ (λ n₅. at 6 p₆ (λ n₆. at 7 p₇ (λ n₇. other (outside type n₁ n₂ n₃ n₄ n₅ n₆ n₇))))))))
-  where
-    go : (b : Bool) (k : ℕ) → eqb type k ≡ b → P k → ((type ≡ k → ⊥) → P type) → P type
-    go true k e p rest = subst P (sym (eqb-true type k e)) p
-    go false k e p rest = rest (eqb-false type k e)
-
-    at : (k : ℕ) → P k → ((type ≡ k → ⊥) → P type) → P type
-    at k p rest = go (eqb type k) k refl p rest
+    go : (b : Bool) → eqb type n ≡ b → either b (listed rows type) ≡ true → (listed rows type ≡ true → P type (onBody rows type [] (λ body. body))) → P type (pick b body (onBody rows type [] (λ body. body)))
+    go true same l later = subst (λ (m : ℕ). P m body) (sym (eqb-true type n same)) (each .0)
+    go false other l later = later l
 
 -- the tests of a body, joined as the writer joins them
 widths-3 : (x y z : Bool) (A : Type 0) (u w : A) → pick (both true (both x (both y (both z true)))) u w ≡ pick (both x y) (pick z u w) w
@@ -76,31 +67,38 @@ leaf-tests true true A u s w = refl
 leaf-tests true false A u s w = refl
 leaf-tests false k A u s w = refl
 
-known : (P : ℕ → Type 0) (type : ℕ) → P 1 → P 2 → P 3 → P 4 → P 5 → P 6 → P 7 → 1 ≤ type → type ≤ 7 → P type
-known P type p₁ p₂ p₃ p₄ p₅ p₆ p₇ low high = by-type P type p₁ p₂ p₃ p₄ p₅ p₆ p₇ (λ out. absurd (not-out out))
-  where
-    not-out : (type < 1) ⊎ (7 < type) → ⊥
-    not-out (inl h) = omega arith
-    not-out (inr h) = omega arith
-
 module _ (nlri : Nlri) (key : List ℕ) where
   -- the body that is written is document 01's, for each type
-  body-at : (type : ℕ) → 1 ≤ type → type ≤ 7 → nlri .«route_type» ≡ type → encodeBody (structFields nlri key) (bodyOf type) ≡ bodyOctets nlri key
-  unfolding encodeBody encodeField structFields bodyOf bodies onBody pick either bodyOctets fixedOctets sourceAsOctets flowOctets originatorOctets withSourceAs hasFlow hasOriginator
-  body-at type low high =
-      known (λ (n : ℕ). nlri .«route_type» ≡ n → encodeBody (structFields nlri key) (bodyOf n) ≡ bodyOctets nlri key) type
-      (λ e. rw e (simp (append-nil, append-assoc)))
-      (λ e. rw e (simp (append-nil, append-assoc)))
-      (λ e. rw e (simp (append-nil, append-assoc)))
-      (λ e. rw e (simp (append-nil, append-assoc)))
-      (λ e. rw e (simp (append-nil, append-assoc)))
-      (λ e. rw e (simp (append-nil, append-assoc)))
-      (λ e. rw e (simp (append-nil, append-assoc)))
-      low high
+  body-at : (type : ℕ) → listed bodies type ≡ true → nlri .«route_type» ≡ type → encodeBody (structFields nlri key) (bodyOf type) ≡ bodyOctets nlri key
+  unfolding encodeBody encodeField structFields bodyOf bodies pick either bodyOctets fixedOctets sourceAsOctets flowOctets originatorOctets withSourceAs hasFlow hasOriginator
+  body-at type l =
+      each-listed (λ (n : ℕ) (body : List FieldKind). nlri .«route_type» ≡ n → encodeBody (structFields nlri key) body ≡ bodyOctets nlri key) bodies type (
+        (λ e. rw e (simp (append-nil, append-assoc))),
+        (
+          (λ e. rw e (simp (append-nil, append-assoc))),
+          (
+            (λ e. rw e (simp (append-nil, append-assoc))),
+            (
+              (λ e. rw e (simp (append-nil, append-assoc))),
+              (
+                (λ e. rw e (simp (append-nil, append-assoc))),
+                (
+                  (λ e. rw e (simp (append-nil, append-assoc))),
+                  (
+                    (λ e. rw e (simp (append-nil, append-assoc))),
+                    tt,
+                  ),
+                ),
+              ),
+            ),
+          ),
+        ),
+      )
+      l
 
-  all-is : 1 ≤ nlri .«route_type» → nlri .«route_type» ≤ 7 → encodeNlri (structFields nlri key) ≡ nlriOctets nlri key
+  all-is : listed bodies (nlri .«route_type») ≡ true → encodeNlri (structFields nlri key) ≡ nlriOctets nlri key
   unfolding encodeNlri nlriOctets structFields
-  all-is low high = ap (λ (b : List ℕ). nlri .«route_type» ∷ length b ∷ b) (body-at (nlri .«route_type») low high refl)
+  all-is l = ap (λ (b : List ℕ). nlri .«route_type» ∷ length b ∷ b) (body-at (nlri .«route_type») l refl)
 
 -- the verdict on a body: document 01's is the writer's
 module _ (bits : ℕ) (f : Fields) (A : Type 0) (done short wide : A) where
@@ -109,18 +107,32 @@ module _ (bits : ℕ) (f : Fields) (A : Type 0) (done short wide : A) where
       pick (flowFits bits type (length (f .source)) (length (f .group)))
       (pick (originatorFits type (length (f .originator))) (pick (leafFits bits type (f .key)) done short) wide) wide
 
-  verdict-at : (type : ℕ) → 1 ≤ type → type ≤ 7 → f .type ≡ type → pick (widthsFit bits f (bodyOf type)) (pick (keysFit bits f (bodyOf type)) done short) wide ≡ mine type
-  unfolding mine widthsFit widthFits keysFit keyFits bodyOf bodies onBody pick either both flowFits originatorFits leafFits hasFlow hasOriginator
-  verdict-at type low high =
-      known (λ (n : ℕ). f .type ≡ n → pick (widthsFit bits f (bodyOf n)) (pick (keysFit bits f (bodyOf n)) done short) wide ≡ mine n) type
-      (λ e. widths-1 (isOriginatorSize (length (f .originator))) A done wide)
-      (λ e. refl)
-      (λ e. rw e (widths-3 (allowed bits 3 (8 * length (f .source))) (allowed bits 3 (8 * length (f .group))) (isOriginatorSize (length (f .originator))) A done wide))
-      (λ e. leaf-tests (isOriginatorSize (length (f .originator))) (isKey bits (f .key)) A done short wide)
-      (λ e. rw e (widths-2 (allowed bits 5 (8 * length (f .source))) (allowed bits 5 (8 * length (f .group))) A done wide))
-      (λ e. rw e (widths-2 (allowed bits 6 (8 * length (f .source))) (allowed bits 6 (8 * length (f .group))) A done wide))
-      (λ e. rw e (widths-2 (allowed bits 7 (8 * length (f .source))) (allowed bits 7 (8 * length (f .group))) A done wide))
-      low high
+  verdict-at : (type : ℕ) → listed bodies type ≡ true → f .type ≡ type → pick (widthsFit bits f (bodyOf type)) (pick (keysFit bits f (bodyOf type)) done short) wide ≡ mine type
+  unfolding mine widthsFit widthFits keysFit keyFits bodyOf bodies pick either both flowFits originatorFits leafFits hasFlow hasOriginator
+  verdict-at type l =
+      each-listed (λ (n : ℕ) (body : List FieldKind). f .type ≡ n → pick (widthsFit bits f body) (pick (keysFit bits f body) done short) wide ≡ mine n) bodies type (
+        (λ e. widths-1 (isOriginatorSize (length (f .originator))) A done wide),
+        (
+          (λ e. refl),
+          (
+            (λ e. rw e (widths-3 (allowed bits 3 (8 * length (f .source))) (allowed bits 3 (8 * length (f .group))) (isOriginatorSize (length (f .originator))) A done wide)),
+            (
+              (λ e. leaf-tests (isOriginatorSize (length (f .originator))) (isKey bits (f .key)) A done short wide),
+              (
+                (λ e. rw e (widths-2 (allowed bits 5 (8 * length (f .source))) (allowed bits 5 (8 * length (f .group))) A done wide)),
+                (
+                  (λ e. rw e (widths-2 (allowed bits 6 (8 * length (f .source))) (allowed bits 6 (8 * length (f .group))) A done wide)),
+                  (
+                    (λ e. rw e (widths-2 (allowed bits 7 (8 * length (f .source))) (allowed bits 7 (8 * length (f .group))) A done wide)),
+                    tt,
+                  ),
+                ),
+              ),
+            ),
+          ),
+        ),
+      )
+      l
 
 -- the writer's verdict, and what comes after it
 verdict : {A : Type 0} (b d flow origin leaf : Bool) → Outcome A → Outcome A
@@ -155,58 +167,38 @@ module _ (nlri : Nlri) (key : List ℕ) (space bits : ℕ) (eight : length (nlri
   ours : Outcome (List ℕ)
   ours = pick (ltb space (sizeOf nlri (length key))) (refused SPACE) (given (nlriOctets nlri key))
 
-  same-octets : 1 ≤ nlri .«route_type» → nlri .«route_type» ≤ 7 → page ≡ ours
+  same-octets : listed bodies (nlri .«route_type») ≡ true → page ≡ ours
   unfolding page ours f
-  same-octets low high =
-      ap (λ (e : List ℕ). pick (ltb space (length e)) (refused SPACE) (given e)) (all-is nlri key low high)
+  same-octets l =
+      ap (λ (e : List ℕ). pick (ltb space (length e)) (refused SPACE) (given e)) (all-is nlri key l)
       ∙ ap (λ (n : ℕ). pick (ltb space n) (refused SPACE) (given (nlriOctets nlri key))) (sym (size-is nlri key eight))
 
-  tested : ℕ → Outcome (List ℕ) → Outcome (List ℕ)
-  tested type o =
-      pick (ltb type 1) (refused TYPE) (pick (ltb 7 type) (refused TYPE)
-      (pick (flowFits bits type (nlri .source .size) (nlri .group .size)) (pick (originatorFits type (nlri .originator .size)) (pick (leafFits bits type key) o (refused KEY)) (refused WIDTH)) (refused WIDTH)))
+  -- what stands after the test of the type
+  judged : Outcome (List ℕ) → Outcome (List ℕ)
+  judged o =
+      pick (flowFits bits (nlri .«route_type») (nlri .source .size) (nlri .group .size)) (pick (originatorFits (nlri .«route_type») (nlri .originator .size)) (pick (leafFits bits (nlri .«route_type») key) o (refused KEY)) (refused WIDTH)) (refused WIDTH)
 
-  row-is : ℕ → Outcome (List ℕ)
-  row-is type = onBody bodies type (refused TYPE) (λ body. pick (widthsFit bits f body) (pick (keysFit bits f body) page (refused KEY)) (refused WIDTH))
+  row-is : List FieldKind → Outcome (List ℕ)
+  row-is body = pick (widthsFit bits f body) (pick (keysFit bits f body) page (refused KEY)) (refused WIDTH)
 
-  in-table : (type : ℕ) → 1 ≤ type → type ≤ 7 → row-is type ≡ pick (widthsFit bits f (bodyOf type)) (pick (keysFit bits f (bodyOf type)) page (refused KEY)) (refused WIDTH)
-  unfolding row-is onBody bodies bodyOf pick
-  in-table type low high =
-      known (λ (n : ℕ). row-is n ≡ pick (widthsFit bits f (bodyOf n)) (pick (keysFit bits f (bodyOf n)) page (refused KEY)) (refused WIDTH)) type
-      refl refl refl refl refl refl refl low high
-
-  within : (type : ℕ) → nlri .«route_type» ≡ type → 1 ≤ type → type ≤ 7 → row-is type ≡ tested type ours
-  unfolding tested mine f structFields
-  within type e low high =
-      in-table type low high
-      ∙ verdict-at bits (structFields nlri key) (Outcome (List ℕ)) page (refused KEY) (refused WIDTH) type low high e
+  within : listed bodies (nlri .«route_type») ≡ true → row-is (bodyOf (nlri .«route_type»)) ≡ judged ours
+  unfolding row-is judged mine f structFields
+  within l =
+      let type : ℕ = nlri .«route_type» in
+      verdict-at bits (structFields nlri key) (Outcome (List ℕ)) page (refused KEY) (refused WIDTH) type l refl
       ∙ ap₂ (λ (a b : ℕ). pick (flowFits bits type a b) (pick (originatorFits type (length (addressOctets (nlri .originator)))) (pick (leafFits bits type key) page (refused KEY)) (refused WIDTH)) (refused WIDTH)) (length-octets (nlri .source)) (length-octets (nlri .group))
-      ∙ ap₂ (λ (c : ℕ) (o : Outcome (List ℕ)). pick (flowFits bits type (nlri .source .size) (nlri .group .size)) (pick (originatorFits type c) (pick (leafFits bits type key) o (refused KEY)) (refused WIDTH)) (refused WIDTH)) (length-octets (nlri .originator)) (same-octets (omega (arith, e)) (omega (arith, e)))
-      ∙ sym (pick-false _ _ _ (le-ltb type 1 low) ∙ pick-false _ _ _ (le-ltb 7 type high))
+      ∙ ap₂ (λ (c : ℕ) (o : Outcome (List ℕ)). pick (flowFits bits type (nlri .source .size) (nlri .group .size)) (pick (originatorFits type c) (pick (leafFits bits type key) o (refused KEY)) (refused WIDTH)) (refused WIDTH)) (length-octets (nlri .originator)) (same-octets l)
 
-  beyond : (type : ℕ) → (type < 1) ⊎ (7 < type) → row-is type ≡ tested type ours
-  unfolding row-is tested onBody bodies both
-  beyond type out = not-row _ _ 1 refl out ∙ not-row _ _ 2 refl out ∙ not-row _ _ 3 refl out ∙ not-row _ _ 4 refl out ∙ not-row _ _ 5 refl out ∙ not-row _ _ 6 refl out ∙ not-row _ _ 7 refl out ∙ refusal out
-    where
-      apart : (k : ℕ) → both (ltb 0 k) (ltb k 8) ≡ true → (type < 1) ⊎ (7 < type) → type ≡ k → ⊥
-      apart k row (inl h) q = omega (arith, ltb-true 0 k (both-true-left (ltb 0 k) (ltb k 8) row), ltb-true k 8 (both-true-right (ltb 0 k) (ltb k 8) row))
-      apart k row (inr h) q = omega (arith, ltb-true 0 k (both-true-left (ltb 0 k) (ltb k 8) row), ltb-true k 8 (both-true-right (ltb 0 k) (ltb k 8) row))
+  -- a type that the table lists, or not, by the writer's tests
+  by-tests : (b d : Bool) → ltb (nlri .«route_type») 1 ≡ b → ltb 7 (nlri .«route_type») ≡ d → pick (listed bodies (nlri .«route_type»)) (row-is (bodyOf (nlri .«route_type»))) (refused TYPE) ≡ pick b (refused TYPE) (pick d (refused TYPE) (judged ours))
+  unfolding pick
+  by-tests true d p q = pick-false _ _ _ (unlisted _ (λ h. omega (arith, ltb-true (nlri .«route_type») 1 p)))
+  by-tests false true p q = pick-false _ _ _ (unlisted _ (λ h. omega (arith, ltb-true 7 (nlri .«route_type») q)))
+  by-tests false false p q = let l = known (nlri .«route_type») (ltb-false (nlri .«route_type») 1 p) (ltb-false 7 (nlri .«route_type») q) in pick-true _ _ _ l ∙ within l
 
-      not-row : {A : Type 0} (x y : A) (k : ℕ) → both (ltb 0 k) (ltb k 8) ≡ true → (type < 1) ⊎ (7 < type) → pick (eqb type k) x y ≡ y
-      not-row x y k row o = pick-false (eqb type k) x y (ne-eqb type k (apart k row o))
-
-      refusal : (type < 1) ⊎ (7 < type) → refused TYPE ≡ tested type ours
-      refusal (inl h) = sym (pick-true (ltb type 1) _ _ (lt-ltb type 1 h))
-      refusal (inr h) = sym (pick-false (ltb type 1) _ _ (le-ltb type 1 (omega arith)) ∙ pick-true (ltb 7 type) _ _ (lt-ltb 7 type h))
-
-  under-is : row-is (nlri .«route_type») ≡ writeUnder bits nlri key space
-  unfolding writeUnder fitting tested ours verdict
-  under-is =
-      by-type (λ (n : ℕ). nlri .«route_type» ≡ n → row-is n ≡ tested n ours) (nlri .«route_type»)
-      (λ e. within 1 e (omega arith) (omega arith)) (λ e. within 2 e (omega arith) (omega arith)) (λ e. within 3 e (omega arith) (omega arith)) (λ e. within 4 e (omega arith) (omega arith))
-      (λ e. within 5 e (omega arith) (omega arith)) (λ e. within 6 e (omega arith) (omega arith)) (λ e. within 7 e (omega arith) (omega arith))
-      (λ out e. beyond (nlri .«route_type») out) refl
-      ∙ sym (verdict-then _ _ _ _ _ _ _)
+  under-is : onBody bodies (nlri .«route_type») (refused TYPE) row-is ≡ writeUnder bits nlri key space
+  unfolding writeUnder fitting judged ours verdict
+  under-is = on-body _ _ _ ∙ by-tests _ _ refl refl ∙ sym (verdict-then _ _ _ _ _ _ _)
 
 pub write-is : (afi : ℕ) (nlri : Nlri) (key : List ℕ) (space : ℕ) → length (nlri .distinguisher .octets) ≡ 8
     → andThen (familyBits afi) (λ bits. writeUnder bits nlri key space) ≡ writeNlri afi (structFields nlri key) space
@@ -286,14 +278,6 @@ module _ (bits : ℕ) (nlri : Nlri) (key : List ℕ) (space : ℕ) where
   pub given-under : fitting bits nlri key ≡ given nlri → sizeOf nlri (length key) ≤ space → given (nlriOctets nlri key) ≡ writeUnder bits nlri key space
   unfolding writeUnder
   given-under e h = goes _ _ _ _ e (sym (pick-false _ _ _ (le-ltb _ _ h)))
-
--- an answer and an output by an equal outcome
-pub answers : (r : Written) (z d : List ℕ) (o o′ : Outcome (List ℕ)) → o ≡ o′ → (r ≡ writtenOf o) × (z ≡ outputOf o d) → (r ≡ writtenOf o′) × (z ≡ outputOf o′ d)
-answers r z d o o′ e p = subst (λ (x : Outcome (List ℕ)). (r ≡ writtenOf x) × (z ≡ outputOf x d)) e p
-
-pub untouched : (n : ℕ) (d : List ℕ) → d ≡ outputOf (refused n) d
-unfolding outputOf onOutcome
-untouched n d = refl
 
 -- a key that the writer takes is short
 pub key-short : (bits : ℕ) (key : List ℕ) → (bits ≡ 32) ⊎ (bits ≡ 128) → ((i : ℕ) → getD key i 0 < 256) → isKey bits key ≡ true → length key ≤ 60

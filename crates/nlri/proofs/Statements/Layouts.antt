@@ -8,13 +8,15 @@ use lib.ListN.{length}
 use Rattle.octets.specs.Choice.{pick}
 use Rattle.octets.specs.Outcome.{given, refused}
 use Rattle.octets.specs.Octets.{AllOctets}
-use Rattle.octets.proofs.Outcome.{goes, stops, passed, given-same, refused-alike}
+use Rattle.octets.proofs.Outcome.{goes, stops, passed, never, given-same, refused-same, refused-alike}
 use Rattle.nlri.specs.declared.layout.Layout.{Layout}
+use Rattle.nlri.specs.declared.layout.Reading.{Reading}
+use Rattle.nlri.specs.declared.layout.Reading.the-variants as reading
 use Rattle.nlri.specs.Family.{familyBits}
 use Rattle.nlri.specs.Bodies.{FieldKind, source, group, originator, key, bodyOf, fieldIn, hasField}
 use Rattle.nlri.specs.Fields.{Fields, encodeAddress, encodeField, encodeBody, encodeNlri, restricted, WellFormed, KeyOf}
 use Rattle.nlri.specs.Reading.{keyField, laidAt, laidSingle, fieldsOf, readNlri}
-use Rattle.nlri.specs.Layouts.{layoutOf, layoutAt, layoutSingle}
+use Rattle.nlri.specs.Layouts.{readingOf, layoutOf, layoutAt, layoutSingle}
 use Rattle.nlri.specs.Statements.{ReadAs, layoutFor, LayoutRule}
 use Rattle.nlri.proofs.Definitions.Lengths.{family-octets}
 use Rattle.nlri.proofs.Definitions.Table.{field-of-map}
@@ -86,9 +88,18 @@ layout-single-refuses : (afi : ℕ) (s : List ℕ) (n : ℕ) → readNlri afi s 
 unfolding layoutSingle readNlri
 layout-single-refuses afi s n e = refused-alike (familyBits afi) (λ bits. laidSingle bits s) (λ bits laid. fieldsOf laid s) (λ bits laid. layoutOf laid) n e
 
+-- answers with the same number and values are equal
+readings-apart : (a b : Reading) → readingOf a ≡ readingOf b → a ≡ b
+unfolding readingOf
+readings-apart (reading.Nlri l) (reading.Nlri m) e = ap reading.Nlri (given-same e)
+readings-apart (reading.Nlri l) (reading.Refused n) e = absurd (never refl e)
+readings-apart (reading.Refused n) (reading.Nlri l) e = absurd (never refl (sym e))
+readings-apart (reading.Refused n) (reading.Refused m) e = ap reading.Refused (refused-same {A = Layout} e)
+
 pub layoutRule : LayoutRule
 layoutRule =
     record {
       exactly = λ afi s l a. (layout-single-given afi s l a, λ h. layout-single-encoded afi s (h .0) (h .1) ∙ ap given (sym (h .2)));
       refuses = λ afi s n a. (λ e. readRefusals .exactly afi s n a .0 (layout-single-refused afi s n e), λ h. layout-single-refuses afi s n (readRefusals .exactly afi s n a .1 h));
+      apart = readings-apart;
     }

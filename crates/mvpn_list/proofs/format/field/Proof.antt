@@ -4,8 +4,7 @@ use mathlib.Core.List.{[], _∷_}
 use denote.Ref.{now}
 use Rattle.mvpn_list.specs.Listing.{decimalOf, fieldOf}
 use Rattle.mvpn_list.proofs.Decimals.{digits-decimalOf}
-use Rattle.mvpn_list.proofs.Writes.{room-first, room-next, put-both}
-use Rattle.octets.proofs.Lists.{put-as}
+use Rattle.octets.proofs.Outputs.{put-as, room-first, room-next, put-then}
 use borrow.Author.Needs.{needs}
 use Rattle.mvpn_list.proofs.format.field.Statement.{statement}
 use Rattle.mvpn_list.proofs.format.field.Tie as tie
@@ -32,8 +31,8 @@ returns c =
     let a = c .before .before .before .before .before .before .before .before .before .before .before .before .before .args in
     let d = c .before .before .before .before .before .before .before .before .before .before .decimal .ensures in
     let w = c .before .before .before .before .before .before .before .place in
-    put-both (a .at) (decimalOf (a .number)) (a .ending ∷ []) (now (a .output)) (c .before .before .before .before .before .before .before .before .before .before .before .before .before .pre) (w .result) (w .last .1 .0) _ _
-    (put-as (a .at) _ _ (now (a .output)) _ _ (d .1 .1 ∙ digits-decimalOf _ _ (d .1 .0)) (w .ensures)) (c .before .before .place2 .ensures)
+    put-then (a .at) (decimalOf (a .number)) (a .ending ∷ []) (now (a .output)) (c .before .before .before .before .before .before .before .before .before .before .before .before .before .pre) (w .result) (w .last .1 .0)
+    (put-as (a .at) _ _ (now (a .output)) _ _ (d .1 .1 ∙ digits-decimalOf _ _ (d .1 .0)) (w .ensures)) _ _ (c .before .before .place2 .ensures)
 
 pub field-spec : {M : Type 1} → statement M
 field-spec =

@@ -1,7 +1,7 @@
 -- `mvpn_list::format::line` meets its contract: three fields, one straight after the other.
 use denote.Ref.{now}
 use Rattle.mvpn_list.specs.Listing.{fieldOf, lineOf}
-use Rattle.mvpn_list.proofs.Writes.{room-first, room-second, room-third, put-three}
+use Rattle.octets.proofs.Outputs.{room-first, room-second, room-third, put-three}
 use borrow.Author.Needs.{needs}
 use Rattle.mvpn_list.proofs.format.line.Statement.{statement}
 use Rattle.mvpn_list.proofs.format.line.Tie as tie

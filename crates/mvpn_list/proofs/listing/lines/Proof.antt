@@ -3,7 +3,7 @@ use Prim.Native.Nat.{_-_}
 use native.Mathlib.Omega.{arith}
 use borrow.Author.Needs.{needs}
 use lib.ListN.{length}
-use Rattle.nlri.proofs.Functions.Steps.{step-moves, step-read, stops-ended, stops-refused}
+use Rattle.runs.proofs.Steps.{step-moves, step-read, stops-ended, stops-refused}
 use Rattle.mvpn_list.proofs.Lines.{Listed, listed-first, listed-next, listed-last, room-nlriLine, room-lastLine, length-listed}
 use Rattle.mvpn_list.proofs.listing.lines.Statement.{statement}
 use Rattle.mvpn_list.proofs.listing.lines.Tie as tie

@@ -1,6 +1,6 @@
 -- `nlri::write::put` meets its contract.
-use Rattle.octets.proofs.Lists.{put-as, put-then}
-use Rattle.nlri.proofs.Functions.Puts.{length-nlri, all-put, put-all}
+use Rattle.octets.proofs.Outputs.{put-as, put-then, wrote-put}
+use Rattle.nlri.proofs.Functions.Puts.{length-nlri, all-put}
 use native.Mathlib.Omega.{arith}
 use denote.Ref.{now}
 use borrow.Author.Needs.{needs}
@@ -32,7 +32,7 @@ returns c =
     let start = c .before .before .before .before .before .before .before .before .before .before in
     let l = length-nlri (start .args .nlri) (now (start .args .key)) in
     let w = start .pre in
-    put-all _ _ _ _ _ (w .exact) (put-as _ _ _ _ _ _ (all-put (start .args .nlri) (now (start .args .key)) _ (omega (arith, w .exact))) (put-then _ _ _ _ _ _ _ _ (omega (arith, w .exact, w .room)) (c .before .before .before .before .before .before .put-header .ensures) (c .before .before .put-body .ensures)))
+    wrote-put _ _ _ _ _ (w .exact) (put-as _ _ _ _ _ _ (all-put (start .args .nlri) (now (start .args .key)) _ (omega (arith, w .exact))) (put-then _ _ _ _ (omega (arith, w .exact, w .room)) _ _ (c .before .before .before .before .before .before .put-header .ensures) _ _ (c .before .before .put-body .ensures)))
 
 pub put-spec : {M : Type 1} → statement M
 put-spec =

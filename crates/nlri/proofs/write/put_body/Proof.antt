@@ -1,44 +1,39 @@
 -- `nlri::write::put_body` meets its contract.
-use lib.ListN.{length-append}
-use Rattle.nlri.specs.InnerWriting.{bodyOctets, flowOctets, originatorOctets}
-use Rattle.octets.proofs.Lists.{put-then}
-use Rattle.nlri.proofs.Functions.Puts.{length-body}
-use native.Mathlib.Omega.{arith}
+use mathlib.Core.List.{_++_}
 use denote.Ref.{now}
+use Rattle.octets.proofs.Outputs.{room-first, room-second, room-third, put-three}
+use Rattle.nlri.specs.InnerWriting.{fixedOctets, flowOctets, originatorOctets, bodyOctets}
 use borrow.Author.Needs.{needs}
 use Rattle.nlri.proofs.write.put_body.Statement.{statement}
 use Rattle.nlri.proofs.write.put_body.Tie as tie
 
 put-fixed-requires : tie.Need-put-fixed-requires
+unfolding bodyOctets
 put-fixed-requires c κs =
-    let start = c .before .before .before in
-    let b = length-body (start .args .nlri) (now (start .args .key)) in
-    omega (arith, start .pre .1)
+    let a = c .before .before .before .args in
+    room-first (a .at) (fixedOctets (a .nlri) (now (a .key))) (flowOctets (a .nlri) ++ originatorOctets (a .nlri)) (now (a .output)) (c .before .before .before .pre .1)
 
 put-flow-requires : tie.Need-put-flow-requires
+unfolding bodyOctets
 put-flow-requires c κs =
-    let start = c .before .before .before .before .before .before .before in
-    let b = length-body (start .args .nlri) (now (start .args .key)) in
-    (start .pre .0, omega (arith, start .pre .1, c .before .before .before .put-fixed .ensures .0))
+    let a = c .before .before .before .before .before .before .before .args in
+    let pre = c .before .before .before .before .before .before .before .pre in
+    (pre .0, room-second (a .at) (fixedOctets (a .nlri) (now (a .key))) (flowOctets (a .nlri)) (originatorOctets (a .nlri)) (now (a .output)) (pre .1) _ _ (c .before .before .before .put-fixed .ensures))
 
 put-originator-requires : tie.Need-put-originator-requires
+unfolding bodyOctets
 put-originator-requires c κs =
-    let start = c .before .before .before .before .before .before .before .before .before .before .before in
-    let b = length-body (start .args .nlri) (now (start .args .key)) in
-    (start .pre .0, omega (arith, start .pre .1, c .before .before .before .before .before .before .before .put-fixed .ensures .0, c .before .before .before .put-flow .ensures .0))
-
-same-length : tie.Need-same-length
-same-length c = search needs
+    let pre = c .before .before .before .before .before .before .before .before .before .before .before .pre in
+    let a = c .before .before .before .before .before .before .before .before .before .before .before .args in
+    (pre .0, room-third (a .at) (fixedOctets (a .nlri) (now (a .key))) (flowOctets (a .nlri)) (originatorOctets (a .nlri)) (now (a .output)) (pre .1) _ _ (c .before .before .before .before .before .before .before .put-fixed .ensures) _ _ (c .before .before .before .put-flow .ensures))
 
 returns : tie.Need-returns
 unfolding bodyOctets
 returns c =
-    let start = c .before .before .before .before .before .before .before .before .before .before .before .before .before .before in
-    let b = length-body (start .args .nlri) (now (start .args .key)) in
-    let l = length-append (flowOctets (start .args .nlri)) (originatorOctets (start .args .nlri)) in
-    put-then _ _ _ _ _ _ _ _ (omega (arith, start .pre .1)) (c .before .before .before .before .before .before .before .before .before .before .put-fixed .ensures) (put-then _ _ _ _ _ _ _ _ (omega (arith, start .pre .1, c .before .before .before .before .before .before .before .before .before .before .put-fixed .ensures .0)) (c .before .before .before .before .before .before .put-flow .ensures) (c .before .before .put-originator .ensures))
+    let a = c .before .before .before .before .before .before .before .before .before .before .before .before .before .before .args in
+    put-three (a .at) (fixedOctets (a .nlri) (now (a .key))) (flowOctets (a .nlri)) (originatorOctets (a .nlri)) (now (a .output)) (c .before .before .before .before .before .before .before .before .before .before .before .before .before .before .pre .1) _ _ (c .before .before .before .before .before .before .before .before .before .before .put-fixed .ensures) _ _ (c .before .before .before .before .before .before .put-flow .ensures) _ _ (c .before .before .put-originator .ensures)
 
 pub put-body-spec : {M : Type 1} → statement M
 put-body-spec =
     tie.close
-    (tie.spec put-fixed-requires put-flow-requires put-originator-requires same-length returns)
+    (tie.spec put-fixed-requires put-flow-requires put-originator-requires (search needs) returns)

@@ -1,39 +1,48 @@
 -- `nlri::write::put_flow` meets its contract.
+use mathlib.Core.List.{List, [], _++_}
+use Prim.Native.Nat.{ℕ}
+use denote.Ref.{now}
+use Rattle.nlri.specs.declared.fields.Nlri.{Nlri}
 use Rattle.nlri.specs.Fields.{encodeAddress}
-use lib.ListN.{length-append, length}
-use mathlib.Core.List.{[]}
 use Rattle.nlri.specs.Answers.{addressOctets}
-use Rattle.octets.proofs.Lists.{put-as, put-none, put-then}
-use Rattle.nlri.proofs.Functions.Puts.{flow-there, flow-none}
-use native.Mathlib.Omega.{arith}
-use mathlib.Core.Path.{_∙_, sym, ap}
+use mathlib.Core.Path.{_∙_, sym}
+use Rattle.octets.proofs.Outputs.{put-none, put-then, put-picks, put-skips, room-picks, room-first, room-next}
+use Rattle.nlri.specs.InnerWriting.{flowOctets}
 use borrow.Author.Needs.{needs}
 use Rattle.nlri.proofs.write.put_flow.Statement.{statement}
 use Rattle.nlri.proofs.write.put_flow.Tie as tie
 
+-- source and group, and the room for both
+abbrev flow : Nlri → List ℕ
+flow nlri = encodeAddress (addressOctets (nlri .source)) ++ encodeAddress (addressOctets (nlri .group))
+
 put-address-requires : tie.Need-put-address-requires
+unfolding flowOctets
 put-address-requires c κs =
     let start = c .before .before .before .before .before .before .before in
-    let f = sym (c .before .before .before .before .has-flow .ensures) ∙ c .before .before .before .if1 .taken in
-    let e = sym (length-append (encodeAddress (addressOctets (start .args .nlri .source))) (encodeAddress (addressOctets (start .args .nlri .group)))) ∙ ap length (flow-there (start .args .nlri) [] (sym (c .before .before .before .before .has-flow .ensures) ∙ c .before .before .before .if1 .taken)) in
-    (start .pre .0 .source f, omega (arith, start .pre .1))
+    let has = sym (c .before .before .before .before .has-flow .ensures) ∙ c .before .before .before .if1 .taken in
+    let a = start .args in
+    (start .pre .0 .source has, room-first (a .at) (encodeAddress (addressOctets (a .nlri .source))) (encodeAddress (addressOctets (a .nlri .group))) (now (a .output)) (room-picks (a .at) _ (flow (a .nlri)) [] (now (a .output)) has (start .pre .1)))
 
 put-address-requires-2 : tie.Need-put-address-requires-2
+unfolding flowOctets
 put-address-requires-2 c κs =
     let start = c .before .before .before .before .before .before .before .before .before .before .before in
-    let f = sym (c .before .before .before .before .before .before .before .before .has-flow .ensures) ∙ c .before .before .before .before .before .before .before .if1 .taken in
-    let e = sym (length-append (encodeAddress (addressOctets (start .args .nlri .source))) (encodeAddress (addressOctets (start .args .nlri .group)))) ∙ ap length (flow-there (start .args .nlri) [] (sym (c .before .before .before .before .before .before .before .before .has-flow .ensures) ∙ c .before .before .before .before .before .before .before .if1 .taken)) in
-    (start .pre .0 .group f, omega (arith, start .pre .1, c .before .before .before .put-address .ensures .0))
+    let has = sym (c .before .before .before .before .before .before .before .before .has-flow .ensures) ∙ c .before .before .before .before .before .before .before .if1 .taken in
+    let a = start .args in
+    (start .pre .0 .group has, room-next (a .at) (encodeAddress (addressOctets (a .nlri .source))) (encodeAddress (addressOctets (a .nlri .group))) (now (a .output)) (room-picks (a .at) _ (flow (a .nlri)) [] (now (a .output)) has (start .pre .1)) _ _ (c .before .before .before .put-address .ensures))
 
 returns : tie.Need-returns
+unfolding flowOctets
 returns c =
     let start = c .before .before .before .before .before .before .before .before .before .before .before .before .before .before in
-    let e = sym (length-append (encodeAddress (addressOctets (start .args .nlri .source))) (encodeAddress (addressOctets (start .args .nlri .group)))) ∙ ap length (flow-there (start .args .nlri) [] (sym (c .before .before .before .before .before .before .before .before .before .before .before .has-flow .ensures) ∙ c .before .before .before .before .before .before .before .before .before .before .if1 .taken)) in
-    put-as _ _ _ _ _ _ (flow-there (start .args .nlri) [] (sym (c .before .before .before .before .before .before .before .before .before .before .before .has-flow .ensures) ∙ c .before .before .before .before .before .before .before .before .before .before .if1 .taken)) (put-then _ _ _ _ _ _ _ _ (omega (arith, start .pre .1)) (c .before .before .before .before .before .before .put-address .ensures) (c .before .before .put-address2 .ensures))
+    let has = sym (c .before .before .before .before .before .before .before .before .before .before .before .has-flow .ensures) ∙ c .before .before .before .before .before .before .before .before .before .before .if1 .taken in
+    let a = start .args in
+    put-picks _ _ _ _ _ _ _ has (put-then (a .at) (encodeAddress (addressOctets (a .nlri .source))) (encodeAddress (addressOctets (a .nlri .group))) (now (a .output)) (room-picks (a .at) _ (flow (a .nlri)) [] (now (a .output)) has (start .pre .1)) _ _ (c .before .before .before .before .before .before .put-address .ensures) _ _ (c .before .before .put-address2 .ensures))
 
 returns-2 : tie.Need-returns-2
-returns-2 c =
-    put-as _ _ _ _ _ _ (flow-none (c .before .before .before .before .args .nlri) [] (sym (c .before .has-flow .ensures) ∙ c .if1 .left)) (put-none _ _)
+unfolding flowOctets
+returns-2 c = put-skips _ _ _ _ _ _ _ (sym (c .before .has-flow .ensures) ∙ c .if1 .left) (put-none _ _)
 
 pub put-flow-spec : {M : Type 1} → statement M
 put-flow-spec =

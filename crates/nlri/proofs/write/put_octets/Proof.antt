@@ -1,5 +1,5 @@
 -- `nlri::write::put_octets` meets its contract.
-use Rattle.octets.proofs.Lists.{put-as, put-none}
+use Rattle.octets.proofs.Outputs.{put-as, put-none}
 use Rattle.nlri.proofs.Functions.Puts.{length-octets, octets-taken, octets-all, octets-none}
 use lib.Seq.{length-take-le}
 use lib.ListN.{length}

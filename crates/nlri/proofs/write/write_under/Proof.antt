@@ -1,5 +1,6 @@
 -- `nlri::write::write_under` meets its contract.
-use Rattle.nlri.proofs.Functions.Verdicts.{answers, untouched, fits-done, refused-under, space-under, given-under, key-short, keyed, sized-nlri, size-short}
+use Rattle.nlri.proofs.Functions.Verdicts.{fits-done, refused-under, space-under, given-under, key-short, keyed, sized-nlri, size-short}
+use Rattle.octets.proofs.Outputs.{wrote-as, wrote-refused}
 use Rattle.nlri.proofs.Functions.Puts.{size-is}
 use lib.ListN.{length}
 use native.Mathlib.Omega.{arith}
@@ -12,7 +13,7 @@ use Rattle.nlri.proofs.write.write_under.Tie as tie
 returns : tie.Need-returns
 returns c =
     let start = c .before .before .before .before .before in
-    answers _ _ _ _ _ (refused-under (start .args .kind .bits) (start .args .nlri) (now (start .args .key)) _ _ (c .before .before .judge .ensures) (c .before .if1 .taken)) (c .refusal .ensures, untouched _ _)
+    wrote-refused _ _ _ _ (refused-under (start .args .kind .bits) (start .args .nlri) (now (start .args .key)) _ _ (c .before .before .judge .ensures) (c .before .if1 .taken)) (c .refused .ensures)
 
 size-of-requires : tie.Need-size-of-requires
 size-of-requires c κs =
@@ -24,7 +25,7 @@ returns-2 : tie.Need-returns-2
 returns-2 c =
     let start = c .before .before .before .before .before .before .before in
     let fits = fits-done _ _ _ _ (c .before .before .before .before .judge .ensures) (c .before .before .before .if1 .left) in
-    answers _ _ _ _ _ (space-under (start .args .kind .bits) (start .args .nlri) (now (start .args .key)) _ fits (omega (arith, c .before .before .size-of .ensures, c .before .if2 .taken))) (c .refusal2 .ensures, untouched _ _)
+    wrote-refused _ _ _ _ (space-under (start .args .kind .bits) (start .args .nlri) (now (start .args .key)) _ fits (omega (arith, c .before .before .size-of .ensures, c .before .if2 .taken))) (c .refused2 .ensures)
 
 put-requires : tie.Need-put-requires
 put-requires c κs =
@@ -38,7 +39,7 @@ returns-3 : tie.Need-returns-3
 returns-3 c =
     let start = c .before .before .before .before .before .before .before .before .before .before in
     let fits = fits-done _ _ _ _ (c .before .before .before .before .before .before .before .judge .ensures) (c .before .before .before .before .before .before .if1 .left) in
-    answers _ _ _ _ _ (given-under (start .args .kind .bits) (start .args .nlri) (now (start .args .key)) _ fits (omega (arith, c .before .before .before .before .before .size-of .ensures, c .before .before .before .before .if2 .left))) (c .before .before .put .ensures)
+    wrote-as _ _ _ _ _ (given-under (start .args .kind .bits) (start .args .nlri) (now (start .args .key)) _ fits (omega (arith, c .before .before .before .before .before .size-of .ensures, c .before .before .before .before .if2 .left))) (c .before .before .put .ensures)
 
 pub write-under-spec : {M : Type 1} → statement M
 write-under-spec =

@@ -2,7 +2,7 @@
 use denote.Ref.{now}
 use mathlib.Core.List.{[], _∷_}
 use Rattle.octets.specs.Octets.{bigEndian}
-use Rattle.octets.proofs.Lists.{placed-then}
+use Rattle.octets.proofs.Outputs.{put-then}
 use Rattle.octets.proofs.NetworkOrder.{length-bigEndian}
 use native.Mathlib.Omega.{arith}
 use borrow.Author.Needs.{needs}
@@ -11,10 +11,10 @@ use Rattle.tunnel.proofs.encoding.put_header.Tie as tie
 
 returns : tie.Need-returns
 returns c =
-    let a = c .before .before .before .before .before .before .before .before .before .before .args in
+    let start = c .before .before .before .before .before .before .before .before .before .before in
+    let a = start .args in
     let p = c .before .before .before .before .before .before .place in
-    let t = c .before .before .place-three in
-    (search needs, placed-then 0 (p .result) (a .flags ∷ (a .tunnel-type ∷ [])) (bigEndian 3 (a .label-field)) (now (a .output)) (p .last .1 .0) (t .last .1 .0) (omega (arith, length-bigEndian 3 (a .label-field))) (p .ensures .0) (p .ensures .1) (t .ensures .1))
+    put-then 0 (a .flags ∷ (a .tunnel-type ∷ [])) (bigEndian 3 (a .label-field)) (now (a .output)) (omega (arith, length-bigEndian 3 (a .label-field), start .pre)) (p .result) (p .last .1 .0) (p .ensures) _ _ (c .before .before .place-three .ensures)
 
 pub put-header-spec : {M : Type 1} → statement M
 put-header-spec =

@@ -7,12 +7,12 @@ use lib.Dec.{ltb, eqb}
 use Rattle.octets.specs.Numbers.{DONE, SHORT, LONG}
 use Rattle.octets.specs.Choice.{pick}
 use Rattle.octets.specs.Outcome.{onOutcome}
 use Rattle.nlri.specs.declared.layout.Layout.{Layout}
-use Rattle.nlri.specs.declared.run.Step.{Step}
-use Rattle.nlri.specs.declared.run.Step.the-variants.{Nlri, End, Refused}
-use Rattle.nlri.specs.declared.run.Walked.{Walked}
+use Rattle.runs.specs.declared.stepping.Step.{Step}
+use Rattle.runs.specs.declared.stepping.Step.the-variants.{Nlri, End, Refused}
+use Rattle.runs.specs.declared.walking.Walked.{Walked}
 use Rattle.nlri.specs.Family.{familyBits}
 use Rattle.nlri.specs.Layouts.{layoutAt, noLayout}
 
 -- what a step answers: the number, whether an NLRI was read, whether the run ends at the cursor, the layout of the NLRI read, and the next cursor
 pub record Stepped : Type 0 where
@@ -34,13 +34,17 @@ endedAt cursor = record { number = DONE; read = false; ended = true; layout = no
 unfoldable pub refusedAt : (number cursor : ℕ) → Stepped
 refusedAt number cursor = record { number = number; read = false; ended = false; layout = noLayout; cursor = cursor }
 
+-- the place just past an NLRI that begins at a cursor, by its Length: header and body
+abbrev pub advanced : (at size : ℕ) → ℕ
+advanced at size = at + (2 + size)
+
 -- under a family: LONG, then the cursor, then NLRI reading; a cursor just past the NLRI read
 unfoldable pub stepUnder : ℕ → List ℕ → ℕ → Stepped
 stepUnder bits run at =
     pick (ltb 4096 (length run)) (refusedAt LONG at)
     (pick (eqb at (length run)) (endedAt at)
     (pick (ltb (length run) at) (refusedAt SHORT at)
-    (onOutcome (λ number. refusedAt number at) (λ layout. readTo layout (at + (2 + layout .length))) (layoutAt bits (drop at run)))))
+    (onOutcome (λ number. refusedAt number at) (λ layout. readTo layout (advanced at (layout .length))) (layoutAt bits (drop at run)))))
 
 -- FAMILY first
 unfoldable pub stepFrom : ℕ → List ℕ → ℕ → Stepped
@@ -52,12 +56,16 @@ steppedOf (Nlri layout cursor) = readTo layout (cursor .at)
 steppedOf (End cursor) = endedAt (cursor .at)
 steppedOf (Refused number cursor) = refusedAt number (cursor .at)
 
+-- what a walk answers: the number and the offset of its stop, and the count of NLRIs before it
+abbrev pub walkedTo : (number count offset : ℕ) → Walked
+walkedTo number count offset = record { number = number; count = count; offset = offset }
+
 -- at most so many steps on from a cursor, with the count read so far: the first stop decides
 unfoldable pub walkFrom : ℕ → ℕ → List ℕ → (at count : ℕ) → Walked
-walkFrom zero afi run at count = record { number = DONE; count = count; offset = at }
+walkFrom zero afi run at count = walkedTo DONE count at
 walkFrom (suc left) afi run at count =
     pick (stepFrom afi run at .read) (walkFrom left afi run (stepFrom afi run at .cursor) (count + 1))
-    (record { number = stepFrom afi run at .number; count = count; offset = at })
+    (walkedTo (stepFrom afi run at .number) count at)
 
 -- the walk: the count read, the offset of the stop and its number. Each step that reads passes octets, so that more steps than octets suffice
 unfoldable pub walkOf : ℕ → List ℕ → Walked

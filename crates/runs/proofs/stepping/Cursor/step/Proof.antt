@@ -1,9 +1,9 @@
--- `nlri::run::Cursor::step` meets its contract.
-use Rattle.nlri.specs.Walking.{steppedOf, stepFrom}
+-- `runs::stepping::Cursor::step` meets its contract.
+use Rattle.runs.specs.Walking.{steppedOf, stepFrom}
 use Rattle.nlri.proofs.Functions.Via.{reads}
 use borrow.Author.Needs.{needs}
-use Rattle.nlri.proofs.run.Cursor.step.Statement.{statement}
-use Rattle.nlri.proofs.run.Cursor.step.Tie as tie
+use Rattle.runs.proofs.stepping.Cursor.step.Statement.{statement}
+use Rattle.runs.proofs.stepping.Cursor.step.Tie as tie
 
 returns : tie.Need-returns
 unfolding steppedOf stepFrom
