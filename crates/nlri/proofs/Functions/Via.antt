@@ -50,6 +50,12 @@ on-known t r o kind bad good p q h = on-given t o (kind .bits) bad good (known-g
 pub on-unknown : {B : Type 0} (t : B) (r : Family) (o : Outcome ℕ) (n : ℕ) (bad : ℕ → B) (good : ℕ → B) → familyOutcome r ≡ o → r ≡ Unknown n → t ≡ bad n → t ≡ onOutcome bad good o
 on-unknown t r o n bad good p q h = on-refused t o n bad good (unknown-given r o n p q) h
 
+pub on-nlri : {B : Type 0} (t : B) (r : Reading) (o : Outcome Layout) (l : Layout) (bad : ℕ → B) (good : Layout → B) → readingOf r ≡ o → r ≡ Nlri l → t ≡ good l → t ≡ onOutcome bad good o
+on-nlri t r o l bad good p q h = on-given t o l bad good (nlri-given r o l p q) h
+
+pub on-refusal : {B : Type 0} (t : B) (r : Reading) (o : Outcome Layout) (n : ℕ) (bad : ℕ → B) (good : Layout → B) → readingOf r ≡ o → r ≡ Refused n → t ≡ bad n → t ≡ onOutcome bad good o
+on-refusal t r o n bad good p q h = on-refused t o n bad good (reading-refused r o n p q) h
+
 -- a test that the code made by its negation
 pub flag-off : (flag b : Bool) → flag ≡ b → not flag ≡ true → b ≡ false
 flag-off flag b p q = sym p ∙ not-true flag q
@@ -71,4 +77,4 @@ pub ruleset refusals = (flags, flag-off, flag-on)
 pub group-is : (g : Group) (o p : Outcome ℕ) → g ≡ groupOf o → o ≡ p → g ≡ groupOf p
 group-is g o p e q = e ∙ ap groupOf q
 
-pub ruleset reads = (tests, goes, stops, on-known, on-unknown, known-given, unknown-given, nlri-given, reading-refused)
+pub ruleset reads = (tests, goes, stops, on-known, on-unknown, on-nlri, on-refusal, known-given, unknown-given, nlri-given, reading-refused)
