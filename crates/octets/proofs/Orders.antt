@@ -11,7 +11,7 @@ use lib.ListN.{length, getD, take, drop, length-drop, take-append-drop, drop-of-
 use lib.Seq.{drop-cons, drop-drop, take-suc, take-all, take-take}
 use lib.Dec.{ltb, eqb}
 use borrow.Author.Tests.{ltb-true, ltb-false, eqb-true, eqb-false, eq-eqb, ne-eqb, lt-ltb, le-ltb}
-use Rattle.octets.specs.Choice.{pick, both}
+use Rattle.octets.specs.Choice.{both}
 use Rattle.octets.specs.Octets.{AllOctets, none, one, part, numberIn}
 use Rattle.octets.specs.Order.{same, before, zeros, allZero}
 use Rattle.octets.proofs.Choice.{opposite, test-same, both-held, both-true-left, both-true-right, both-true, pick-true, pick-false, tested, is-false, is-true}
