@@ -317,3 +317,23 @@ zero-overlap r s last n start m e h k q =
     let at : start + (last - start) ≡ last = omega arith in
     let end : take n (drop last s) ≡ drop (last - start) (drop start s) = take-all n (drop last s) (simp length-drop (omega arith)) ∙ ap (λ (j : ℕ). drop j s) (sym at) ∙ sym (drop-drop (last - start) start s) in
     q ∙ ap (λ (l : List ℕ). both (allZero l) (allZero (take m (drop start s)))) end ∙ zero-covered (drop start s) m (last - start) (omega arith)
+
+-- the same pass over two lists
+both-four : (e x y a b : Bool) → both (both e (both x y)) (both a b) ≡ both e (both (both x a) (both y b))
+unfolding both
+both-four false x y a b = refl
+both-four true false y a b = refl
+both-four true true false true b = refl
+both-four true true false false b = refl
+both-four true true true a b = refl
+
+module _ (a b : List ℕ) (i any : ℕ) (so-far : both (eqb any 0) (both (allZero (drop i a)) (allZero (drop i b))) ≡ both (allZero a) (allZero b)) where
+  pub zeros-next : i < length a → i < length b
+      → both (eqb (bitOr any (bitOr (getD a i 0) (getD b i 0))) 0) (both (allZero (drop (i + 1) a)) (allZero (drop (i + 1) b))) ≡ both (allZero a) (allZero b)
+  zeros-next h k =
+      rw (or-zero any (bitOr (getD a i 0) (getD b i 0)), or-zero (getD a i 0) (getD b i 0))
+      (both-four _ _ _ _ _ ∙ ap₂ (λ (x y : Bool). both (eqb any 0) (both x y)) (sym (zero-from a i h)) (sym (zero-from b i k)) ∙ so-far)
+
+  pub zeros-end : length a ≤ i → length b ≤ i → eqb any 0 ≡ both (allZero a) (allZero b)
+  unfolding allZero both
+  zeros-end h k = sym (both-then-true (eqb any 0)) ∙ ap (both (eqb any 0)) (rw (drop-of-length-le a h, drop-of-length-le b k)) ∙ so-far

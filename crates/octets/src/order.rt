@@ -6,6 +6,7 @@
 ghost use mathlib.Core.Path.{_≡_};
 ghost use Prim.Native.Nat.{min};
 ghost use lib.ListN.{length};
+ghost use Rattle.octets.specs.Choice.{both};
 ghost use Rattle.octets.specs.Order.{same, before, allZero};
 use crate::parts::between;
 use crate::wide::eight;
@@ -149,6 +150,20 @@ fn is_each_zero(s: &[u8]) -> bool
     let mut i = 0;
     while i < s.len() {
         any |= s[i];
+        i += 1;
+    }
+    any == 0
+}
+
+// Every octet of two slices of one size is zero. Both are looked at in one pass, with no early exit.
+pub fn are_each_zero(a: &[u8], b: &[u8]) -> bool
+    requires { ⌜ length (now a) ≡ length (now b) ⌝ }
+    ensures { λ r. ⌜ r ≡ both (allZero (now (a .entry))) (allZero (now (b .entry))) ⌝ }
+{
+    let mut any = 0;
+    let mut i = 0;
+    while i < a.len() {
+        any |= a[i] | b[i];
         i += 1;
     }
     any == 0

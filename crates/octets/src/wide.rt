@@ -41,7 +41,7 @@ pub fn eight(s: &[u8], at: usize) -> u64
 }
 
 // The number in two octets from `at` on, the least significant first.
-fn two_low_first(s: &[u8], at: usize) -> u32
+pub fn two_low_first(s: &[u8], at: usize) -> u32
     requires { ⌜ at + 2 ≤ length (now s) ⌝ }
     ensures { λ r. ⌜ (r ≡ lowFirst (part (now (s .entry)) at 2)) × (r < 2 ^ 16) ⌝ }
 {

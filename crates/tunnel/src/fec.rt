@@ -42,14 +42,14 @@ impl FecType {
     pub(crate) const MP2MP_DOWN: u8 = 8;
 }
 
-// Address family and address length (RFC 4760), as one number of three octets.
+// Address family and address length (RFC 4760), as one number of three octets, the least significant first.
 struct Root {}
 
 impl Root {
     // family 1, 4 octets
-    const IPV4: u32 = 260;
+    const IPV4: u32 = 262400;
     // family 2, 16 octets
-    const IPV6: u32 = 528;
+    const IPV6: u32 = 1049088;
 }
 
 // Where the opaque value starts: after type 1, address family 2, address length 1, the root and the 2 octets of the opaque length.
@@ -61,25 +61,27 @@ impl OpaqueStart {
     const IPV6: usize = 22;
 }
 
-// From `start` on as many octets as the opaque length before it says.
+// From `start` on as many octets as the opaque length before it says. That is below 256, so that the first of its two octets is 0.
 fn ends_from(identifier: &[u8], start: usize) -> bool
-    requires { ⌜ (2 ≤ start) × (start < 256) ⌝ }
+    requires { ⌜ (2 ≤ start) × (length (now identifier) < 256) ⌝ }
     ensures { λ r. ⌜ r ≡ endsFrom (now (identifier .entry)) start ⌝ }
 {
     if identifier.len() < start {
         return false;
     }
-    start + octets::wide::two(identifier, start - 2) as usize == identifier.len()
+    octets::wide::two_low_first(identifier, start - 2) as usize == (identifier.len() - start) * 256
 }
 
-// The octets are one FEC, whatever its type. None is shorter than one with an IPv4 root and no opaque value.
+// The octets are one FEC, whatever its type. None is shorter than one with an IPv4 root and no opaque value. Type, address
+// family and address length are one load.
 pub(crate) fn whole(identifier: &[u8]) -> bool
+    requires { ⌜ length (now identifier) < 256 ⌝ }
     ensures { λ r. ⌜ r ≡ wholeFec (now (identifier .entry)) ⌝ }
 {
     if identifier.len() < OpaqueStart::IPV4 {
         return false;
     }
-    let root = octets::wide::three(identifier, 1);
+    let root = octets::wide::four_low_first(identifier, 0) / 256;
     if root == Root::IPV4 {
         return ends_from(identifier, OpaqueStart::IPV4);
     }

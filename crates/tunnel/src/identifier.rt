@@ -2,6 +2,8 @@
 ghost use mathlib.Core.Path.{_≡_};
 ghost use mathlib.Core.Bool.{true, false};
 ghost use mathlib.Core.List.{[], _∷_};
+ghost use Prim.Native.Nat.{_<_};
+ghost use lib.ListN.{length};
 ghost use Rattle.octets.specs.Outcome.{numberOf};
 ghost use Rattle.tunnel.specs.Identifier.{sizes, judged, readIdentifier};
 ghost use Rattle.tunnel.specs.Inner.{unknown, mldp, typeSuits, TakesSizes};
@@ -100,7 +102,7 @@ fn type_suits(tunnel_type: u8, fec_type: u8) -> bool
 
 // A FEC, whose type is its first octet.
 fn of_fec(tunnel_type: u8, identifier: &[u8]) -> u32
-    requires { ⌜ mldp «tunnel_type» ≡ true ⌝ }
+    requires { ⌜ (mldp «tunnel_type» ≡ true) × (length (now identifier) < 256) ⌝ }
     ensures { λ r. ⌜ r ≡ numberOf (readIdentifier «tunnel_type» (now (identifier .entry))) ⌝ }
 {
     if crate::fec::whole(identifier) {
@@ -114,6 +116,7 @@ fn of_fec(tunnel_type: u8, identifier: &[u8]) -> u32
 
 // The number of an identifier's first fault, TUNNEL or IDENT, or DONE: the one judge for reading and writing.
 pub(crate) fn fault(tunnel_type: u8, identifier: &[u8]) -> u32
+    requires { ⌜ length (now identifier) < 256 ⌝ }
     ensures { λ r. ⌜ r ≡ numberOf (readIdentifier «tunnel_type» (now (identifier .entry))) ⌝ }
 {
     if is_mldp(tunnel_type) {
