@@ -206,3 +206,7 @@ module _ (afi : ℕ) (s : List ℕ) (f : Fields) (e : readSPmsi afi s ≡ given 
   -- and lie within it
   pub fields-bounded : Bounded s
   fields-bounded = layout-bounded afi s (read-by .layout) (read-by .laid) (read-by .third)
+
+  -- its Length octet tells its size
+  pub length-told : getD s 1 0 ≡ length s - 2
+  length-told = sym (all-of-it afi s (read-by .layout) (read-by .laid) (read-by .third) .all)

@@ -1,5 +1,6 @@
 -- `table::sound::is_place_sound` meets its contract.
 use native.Mathlib.Omega.{arith}
+use borrow.Author.Tests.{not-true, not-false}
 use Rattle.routes.specs.Place.{endIn}
 use Rattle.table.proofs.Sounds.{attribute-refused, place-over, place-other, place-refused, place-accepted}
 use borrow.Author.Needs.{needs}
@@ -24,21 +25,25 @@ returns c = place-over _ _ (c .if1 .taken)
 
 returns-2 : tie.Need-returns-2
 unfolding endIn
-returns-2 c =
-    let judged = c .before .before .before .before in
-    place-accepted _ _ (judged .before .before .before .before .before .before .if1 .left) _ _ (judged .before .before .before .before .before .between .ensures) (judged .before .before .before .before .is-s-pmsi .ensures) (judged .before .before .before .if2 .taken) _ _ (judged .before .before .between2 .ensures) (c .before .before .before .label-fault .ensures) (c .before .before .if4 .taken) _ _ (c .before .after .ensures) (c .is-zero .ensures)
+returns-2 c = place-other _ _ (c .before .before .before .if1 .left) _ _ (c .before .before .between .ensures) (c .before .is-s-pmsi .ensures) (not-true _ (c .if2 .taken))
 
 returns-3 : tie.Need-returns-3
 unfolding endIn
-returns-3 c = place-refused _ _ (c .before .before .before .before .before .before .before .before .if1 .left) _ _ (c .before .before .before .before .before .before .before .between .ensures) (c .before .before .before .before .before .before .is-s-pmsi .ensures) (c .before .before .before .before .before .if2 .taken) _ _ (c .before .before .before .before .between2 .ensures) (c .before .label-fault .ensures) (c .if4 .left)
+returns-3 c =
+    let n = c .before .before .before in
+    place-refused _ _ (n .before .before .before .if1 .left) _ _ (n .before .before .between .ensures) (n .before .is-s-pmsi .ensures) (not-false _ (n .if2 .left)) _ _ (c .before .before .between2 .ensures) (attribute-refused _ _ (c .before .fault .ensures) (c .if3 .taken)) (c .if3 .taken)
 
 returns-4 : tie.Need-returns-4
 unfolding endIn
-returns-4 c = place-refused _ _ (c .before .before .before .before .before .before .if1 .left) _ _ (c .before .before .before .before .before .between .ensures) (c .before .before .before .before .is-s-pmsi .ensures) (c .before .before .before .if2 .taken) _ _ (c .before .before .between2 .ensures) (attribute-refused _ _ (c .before .fault .ensures) (c .if3 .left)) (c .if3 .left)
+returns-4 c =
+    let n = c .before .before .before .before .before in
+    place-refused _ _ (n .before .before .before .if1 .left) _ _ (n .before .before .between .ensures) (n .before .is-s-pmsi .ensures) (not-false _ (n .if2 .left)) _ _ (c .before .before .before .before .between2 .ensures) (c .before .label-fault .ensures) (c .if4 .taken)
 
 returns-5 : tie.Need-returns-5
 unfolding endIn
-returns-5 c = place-other _ _ (c .before .before .before .if1 .left) _ _ (c .before .before .between .ensures) (c .before .is-s-pmsi .ensures) (c .if2 .left)
+returns-5 c =
+    let n = c .before .before .before .before .before .before in
+    place-accepted _ _ (n .before .before .before .if1 .left) _ _ (n .before .before .between .ensures) (n .before .is-s-pmsi .ensures) (not-false _ (n .if2 .left)) _ _ (c .before .before .before .before .before .between2 .ensures) (c .before .before .label-fault .ensures) (c .before .if4 .left) _ (c .is-tail-zero .ensures)
 
 pub is-place-sound-spec : {M : Type 1} → statement M
 is-place-sound-spec =
@@ -53,13 +58,12 @@ is-place-sound-spec =
     returns
     (search needs)
     (search needs)
-    (search needs)
-    (search needs)
-    (search needs)
-    (search needs)
-    (search needs)
-    (search needs)
     returns-2
+    (search needs)
+    (search needs)
+    (search needs)
     returns-3
+    (search needs)
     returns-4
+    (search needs)
     returns-5)
