@@ -68,3 +68,7 @@ module _ (afi : ℕ) (s : List ℕ) (f : Fields) (e : readSPmsi afi s ≡ given 
   fields-stand =
       sym (third .0 .fields) ∙ ap (λ (l : Layout). fieldsAt l s) layout-is
       ∙ fields-standing s rest (omega (arith, fields-bounded .within))
+
+  -- its Length octet tells its size
+  pub length-told : getD s 1 0 ≡ length s - 2
+  length-told = sym (third .0 .long .1)

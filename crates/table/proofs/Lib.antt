@@ -1,4 +1,5 @@
 -- Laws that the functions' proofs use.
+pub mod Neighbours
 pub mod Sounds
 pub mod Makes
 pub mod Moves

@@ -3,19 +3,20 @@ use Prim.Native.Nat.{ℕ, suc, _+_, _-_, _*_, _/_, _<_, _≤_}
 use mathlib.Core.Path.{_≡_, refl, sym, _∙_, ap, ap₂}
 use mathlib.Core.Bool.{Bool, true, false}
 use mathlib.Core.List.{List, []}
-use native.Mathlib.Nat.{add-zero}
 use native.Mathlib.Omega.{arith}
 use borrow.Author.Tests.{eq-eqb, ne-eqb, lt-leb, le-leb, leb-true}
 use lib.Dec.{eqb}
-use lib.ListN.{length, getD, take, drop, length-drop}
-use lib.Seq.{getD-take, getD-drop, take-take, drop-drop}
+use lib.ListN.{length, getD, take, drop}
+use lib.Seq.{drop-drop}
 use Rattle.octets.specs.Numbers.{DONE, LABEL, KIND}
 use Rattle.octets.specs.Choice.{pick, both, either}
 use Rattle.octets.specs.Outcome.{Outcome, given, refused, onOutcome, andThen, numberOf}
-use Rattle.octets.specs.Octets.{part, numberIn}
+use Rattle.octets.specs.Octets.{part, numberIn, lowFirst}
 use Rattle.octets.specs.Order.{same, before, allZero}
-use Rattle.octets.proofs.Choice.{both-true, both-left, both-right, both-last, pick-true, pick-false, opposite, both-true-left, both-true-right}
+use Rattle.octets.proofs.Choice.{both-true, both-left, both-right, both-last, pick-true, pick-false, opposite, both-true-left}
 use Rattle.octets.proofs.Outcome.{number-goes, number-stops, refused-of, done-given, number-kept, number-picks, number-skips}
+use Rattle.octets.proofs.LowFirst.{low-zero}
+use Rattle.octets.proofs.Orders.{zero-covered}
 use Rattle.nlri.specs.declared.layout.Layout.{Layout}
 use Rattle.nlri.specs.declared.layout.Reading.{Reading}
 use Rattle.nlri.specs.declared.layout.Reading.the-variants.{Nlri, Refused}
@@ -34,7 +35,8 @@ use Rattle.routes.specs.Table.{afiIn, countIn, placesIn, headerStart, tableSize
 use Rattle.routes.proofs.Definitions.ByArguments.{number-s-pmsi, number-route}
 use Rattle.routes.proofs.Definitions.Bounds.{route-read, read-acceptable}
 use Rattle.routes.proofs.Definitions.Headers.{SizeOf, sound-size}
-use Rattle.table.proofs.Moves.{drop-taken}
+use Rattle.table.specs.Passing.{risesAt}
+use Rattle.table.proofs.Neighbours.{NlriAt, nlri-at, rises-first, rises-next}
 
 -- the number of an S-PMSI NLRI, by what reading its layout answers
 module _ (afi : ℕ) (s : List ℕ) (r : Reading) (e : readingOf r ≡ layoutSingle afi s) where
@@ -172,93 +174,93 @@ module _ (afi : ℕ) (place : List ℕ) where
       pub place-refused : (fault ≡ DONE → ⊥) → false ≡ placeSound afi place
       place-refused q = unacceptable attribute a (fault-unacceptable afi nlri attribute fault judged-place q)
 
-      pub place-accepted : fault ≡ DONE → (rest : List ℕ) (r : Bool) → rest ≡ drop (endIn place) place → r ≡ allZero rest → r ≡ placeSound afi place
+      pub place-accepted : fault ≡ DONE → (r : Bool) → r ≡ allZero (drop (endIn place) place) → r ≡ placeSound afi place
       unfolding placeSound
-      place-accepted q rest r d z =
+      place-accepted q r z =
           both-last _ _ r (le-leb (endIn place) 128 within)
-          (both-last _ _ r (ap (acceptable afi) (sym (route-is attribute a)) ∙ fault-acceptable afi nlri attribute (sym judged-place ∙ q)) (z ∙ ap allZero d))
+          (both-last _ _ r (ap (acceptable afi) (sym (route-is attribute a)) ∙ fault-acceptable afi nlri attribute (sym judged-place ∙ q)) z)
 
   pub sound-end : placeSound afi place ≡ true → endIn place ≤ 128
   unfolding placeSound
   sound-end h = leb-true _ _ (both-true-left _ _ h)
 
--- a part of a part
-part-within : (s : List ℕ) (at n start size : ℕ) → at + n ≤ length s → start + size ≤ n → part (part s at n) start size ≡ part s (at + start) size
-unfolding part
-part-within s at n start size h k =
-    ap (take size) (drop-taken start n (drop at s) (omega arith) (simp length-drop (omega arith))) ∙ take-take size (n - start) (drop start (drop at s)) (omega arith) ∙ ap (take size) (drop-drop start at s)
+-- zeros from `at` on: those behind the first n octets, then these, by the number in them
+module _ (t : List ℕ) (at n : ℕ) (rest : List ℕ) (flag : Bool) (d : rest ≡ drop (at + n) t) (z : flag ≡ allZero rest) where
+  split : both (allZero rest) (allZero (part t at n)) ≡ allZero (drop at t)
+  unfolding part
+  split = ap (λ (l : List ℕ). both (allZero l) (allZero (take n (drop at t)))) (d ∙ sym (drop-drop n at t)) ∙ zero-covered (drop at t) n n (omega arith)
 
-part-first : (t : List ℕ) (at : ℕ) → getD (part t at 128) 0 0 ≡ getD t at 0
-unfolding part
-part-first t at = getD-take 128 (drop at t) 0 0 (omega arith) ∙ getD-drop at t 0 0 ∙ ap (λ (i : ℕ). getD t i 0) (add-zero at)
+  pub rest-other : flag ≡ false → false ≡ allZero (drop at t)
+  rest-other h = sym (sym split ∙ both-left _ _ (sym z ∙ h))
 
--- the NLRI of the place from `at` on
-nlri-within : (t : List ℕ) (at : ℕ) → at + 128 ≤ length t → endIn (part t at 128) ≤ 128
-    → (nlriOf (routeIn (part t at 128)) ≡ part t (at + 2) (getD t at 0)) × (at + 2 + getD t at 0 ≤ length t)
-unfolding endIn routeIn nlriOf
-nlri-within t at h k =
-    let first : getD (part t at 128) 0 0 ≡ getD t at 0 = part-first t at in
-    let fits : 2 + getD t at 0 ≤ 128 = omega arith in
-    (ap (part (part t at 128) 2) first ∙ part-within t at 128 2 (getD t at 0) h fits, omega arith)
+  pub rest-zero : flag ≡ true → (x : ℕ) → x ≡ lowFirst (part t at n) → eqb x 0 ≡ allZero (drop at t)
+  rest-zero h x e = both-last _ _ _ (sym z ∙ h) (ap (λ (k : ℕ). eqb k 0) e ∙ low-zero (part t at n)) ∙ split
 
--- tests joined, the last of which is left
-both-passed : (a b c : Bool) → both a b ≡ true → both a (both b c) ≡ c
-unfolding both
-both-passed a b c h = rw (both-true-left a b h, both-true-right a b h)
+-- the NLRI before the place from `at` on: of the sound place straight before it, and none before the first
+pub data Previous (afi : ℕ) (t : List ℕ) (at : ℕ) (previous : List ℕ) : Type 0 where
+  none : at ≡ 8 → previous ≡ [] → Previous afi t at previous
+  neighbour : (from : ℕ) → at ≡ from + 128 → NlriAt t from → previous ≡ nlriOf (routeIn (part t from 128)) → Previous afi t at previous
 
-both-stopped : (a b c : Bool) → both a b ≡ false → both a (both b c) ≡ false
-unfolding both
-both-stopped true b c h = rw h
-both-stopped false b c h = refl
+rises : {afi : ℕ} {t : List ℕ} {at : ℕ} {previous : List ℕ} → Previous afi t at previous → NlriAt t at → before previous (nlriOf (routeIn (part t at 128))) ≡ risesAt at t
+rises {t = t} {at = at} (none e q) n = ap (λ (s : List ℕ). before s (nlriOf (routeIn (part t at 128)))) q ∙ rises-first t at (omega arith) n
+rises {t = t} {at = at} (neighbour from e p q) n = ap (λ (s : List ℕ). before s (nlriOf (routeIn (part t at 128)))) q ∙ rises-next t from at e p n
 
--- the pass over the places: the places left lie in the table, and the previous NLRI; what is left decides
-pub record Passing (afi count : ℕ) (t : List ℕ) (at left start size : ℕ) : Type 0 where
-  pub room : at + 128 * left ≤ length t
-  pub known : start + size ≤ length t
-  pub is : placesSound afi [] count (drop 8 t) ≡ placesSound afi (part t start size) left (drop at t)
+-- the pass over the places: so many are left, with the NLRI before them, and what is left decides
+pub record Passing (afi count : ℕ) (t : List ℕ) (at : ℕ) : Type 0 where
+  pub left : ℕ
+  pub room : at + 128 * left ≡ 8 + 128 * count
+  pub previous : List ℕ
+  pub known : Previous afi t at previous
+  pub is : placesSound afi [] count (drop 8 t) ≡ placesSound afi previous left (drop at t)
 
-pub passing-first : (afi count : ℕ) (t : List ℕ) → 8 + 128 * count ≤ length t → Passing afi count t 8 count 0 0
-unfolding part
-passing-first afi count t h = record { room = h; known = omega arith; is = refl }
+pub passing-first : (afi count : ℕ) (t : List ℕ) → Passing afi count t 8
+passing-first afi count t = record { left = count; room = refl; previous = []; known = none refl refl; is = refl }
 
-module _ (afi count : ℕ) (t : List ℕ) (at left start size : ℕ) (p : Passing afi count t at left start size) where
-  places-step : (k : ℕ)
-      → placesSound afi (part t start size) (suc k) (drop at t)
-      ≡ both (placeSound afi (part t at 128))
-      (both (before (part t start size) (nlriOf (routeIn (part t at 128)))) (placesSound afi (nlriOf (routeIn (part t at 128))) k (drop (at + 128) t)))
-  unfolding placesSound part
-  places-step k = rw (drop-drop 128 at t)
-
-  module _ (some : 0 < left) (previous place : List ℕ) (r : Bool) (q : previous ≡ part t start size) (s : place ≡ part t at 128)
-      (e : r ≡ both (placeSound afi place) (before previous (nlriOf (routeIn place)))) where
-    judged : r ≡ both (placeSound afi (part t at 128)) (before (part t start size) (nlriOf (routeIn (part t at 128))))
-    judged = e ∙ ap₂ (λ (x y : List ℕ). both (placeSound afi y) (before x (nlriOf (routeIn y)))) q s
+module _ (afi count : ℕ) (t : List ℕ) (at : ℕ) (fits : 8 + 128 * count ≤ length t) (p : Passing afi count t at) where
+  module _ (some : at < 8 + 128 * count) (place : List ℕ) (sound : Bool) (s : place ≡ part t at 128) (e : sound ≡ placeSound afi place) where
+    nlri : List ℕ
+    nlri = nlriOf (routeIn (part t at 128))
 
     whole : placesSound afi [] count (drop 8 t)
-        ≡ both (placeSound afi (part t at 128))
-        (both (before (part t start size) (nlriOf (routeIn (part t at 128)))) (placesSound afi (nlriOf (routeIn (part t at 128))) (left - 1) (drop (at + 128) t)))
+        ≡ both (placeSound afi (part t at 128)) (both (before (p .previous) nlri) (placesSound afi nlri (p .left - 1) (drop (at + 128) t)))
+    unfolding placesSound part nlri
     whole =
-        let one : left ≡ suc (left - 1) = omega arith in
-        p .is ∙ ap (λ (k : ℕ). placesSound afi (part t start size) k (drop at t)) one ∙ places-step (left - 1)
+        let one : p .left ≡ suc (p .left - 1) = omega (arith, p .room) in
+        p .is ∙ ap (λ (k : ℕ). placesSound afi (p .previous) k (drop at t)) one ∙ rw (drop-drop 128 at t)
 
-    pub passing-stops : r ≡ false → false ≡ placesSound afi [] count (drop 8 t)
-    passing-stops h = sym (whole ∙ both-stopped _ _ _ (sym judged ∙ h))
+    judged : sound ≡ placeSound afi (part t at 128)
+    judged = e ∙ ap (placeSound afi) s
 
-    pub passing-next : r ≡ true → Passing afi count t (at + 128) (left - 1) (at + 2) (getD t at 0)
-    passing-next h =
-        let held : both (placeSound afi (part t at 128)) (before (part t start size) (nlriOf (routeIn (part t at 128)))) ≡ true = sym judged ∙ h in
-        let inside = nlri-within t at (omega (arith, p .room)) (sound-end afi (part t at 128) (both-true-left _ _ held)) in
-        record {
+    pub passing-unsound : sound ≡ false → false ≡ placesSound afi [] count (drop 8 t)
+    passing-unsound h = sym (whole ∙ both-left _ _ (sym judged ∙ h))
+
+    module _ (h : sound ≡ true) where
+      pub passing-nlri : NlriAt t at
+      passing-nlri = nlri-at afi t at (omega (arith, p .room)) (sym judged ∙ h)
+
+      module _ (r : Bool) (q : r ≡ risesAt at t) where
+        ordered : r ≡ before (p .previous) nlri
+        unfolding nlri
+        ordered = q ∙ sym (rises (p .known) passing-nlri)
+
+        pub passing-unordered : r ≡ false → false ≡ placesSound afi [] count (drop 8 t)
+        passing-unordered f = sym (whole ∙ both-right _ _ (sym judged ∙ h) (both-left _ _ (sym ordered ∙ f)))
+
+        pub passing-next : r ≡ true → Passing afi count t (at + 128)
+        unfolding both nlri
+        passing-next u = record {
+          left = p .left - 1;
           room = omega (arith, p .room);
-          known = inside .1;
-          is = whole ∙ both-passed _ _ _ held ∙ ap (λ (l : List ℕ). placesSound afi l (left - 1) (drop (at + 128) t)) (inside .0);
+          previous = nlri;
+          known = neighbour at refl passing-nlri refl;
+          is = whole ∙ rw (sym judged ∙ h, sym ordered ∙ u);
         }
 
-  pub passing-ends : left ≤ 0 → (rest : List ℕ) (r : Bool) → rest ≡ drop at t → r ≡ allZero rest → r ≡ placesSound afi [] count (drop 8 t)
+  pub passing-ends : 8 + 128 * count ≤ at → (r : Bool) → r ≡ allZero (drop at t) → r ≡ placesSound afi [] count (drop 8 t)
   unfolding placesSound
-  passing-ends h rest r d z =
-      let none : left ≡ 0 = omega arith in
-      z ∙ ap allZero d ∙ sym (p .is ∙ ap (λ (k : ℕ). placesSound afi (part t start size) k (drop at t)) none)
+  passing-ends h r z =
+      let none-left : p .left ≡ 0 = omega (arith, p .room) in
+      z ∙ sym (p .is ∙ ap (λ (k : ℕ). placesSound afi (p .previous) k (drop at t)) none-left)
 
 -- a table's size has room for the header
 pub header-room : (size : ℕ) (flag : Bool) → flag ≡ tableSize size → flag ≡ true → 8 ≤ size

@@ -2,13 +2,11 @@
 ghost use mathlib.Core.Path.{_≡_};
 ghost use mathlib.Core.List.{[]};
 ghost use Prim.Native.Nat.{_+_, _*_, _≤_, _<_};
-ghost use lib.ListN.{length, drop};
-ghost use Rattle.octets.specs.Choice.{both};
-ghost use Rattle.octets.specs.Order.{before};
-ghost use Rattle.routes.specs.Route.{nlriOf};
-ghost use Rattle.routes.specs.Place.{routeIn, placeSound};
+ghost use lib.ListN.{length, getD, drop};
+ghost use Rattle.octets.specs.Order.{before, allZero};
+ghost use Rattle.routes.specs.Place.{placeSound};
 ghost use Rattle.routes.specs.Table.{afiIn, countIn, placesIn, tableSize, placesSound, soundOf};
-use crate::find;
+ghost use Rattle.table.specs.Passing.{risesAt};
 use crate::geometry::AFI;
 use crate::geometry::ATTRIBUTE_SIZE;
 use crate::geometry::COUNT;
@@ -20,6 +18,16 @@ use crate::geometry::ROUTE;
 use crate::header;
 use crate::judge;
 use octets::number::DONE;
+
+// The octets that are compared at once, as one number.
+const WORD: usize = 8;
+
+// Those that are tested for zeros with no loop.
+const LARGE_BLOCK: usize = 64;
+
+const MIDDLE_BLOCK: usize = 32;
+
+const SMALL_BLOCK: usize = 16;
 
 // The AFI in the header.
 pub(crate) fn afi_of(table: &[u8]) -> u16
@@ -58,6 +66,35 @@ pub(crate) fn is_table_size(size: usize) -> bool
     (size - HEADER) / PLACE <= MOST_PLACES
 }
 
+// The octets of a place from `end` on are zeros, by two blocks of one size: the place's last octets and those that follow the route.
+// They leave nothing out between them, and may overlap.
+fn is_tail_zero_by(block: usize, place: &[u8], end: usize) -> bool
+    requires { ⌜ (length (now place) ≡ 128) × (end + block ≤ 128) × (128 ≤ end + 2 * block) ⌝ }
+    ensures { λ r. ⌜ r ≡ allZero (drop end (now (place .entry))) ⌝ }
+{
+    octets::order::are_each_zero(
+        octets::parts::between(place, PLACE - block, block),
+        octets::parts::between(place, end, block),
+    )
+}
+
+// The octets of a place from `end` on are zeros, by the largest blocks of a fixed size that fit behind the route.
+fn is_tail_zero(place: &[u8], end: usize) -> bool
+    requires { ⌜ (length (now place) ≡ 128) × (end ≤ 128) ⌝ }
+    ensures { λ r. ⌜ r ≡ allZero (drop end (now (place .entry))) ⌝ }
+{
+    if end <= PLACE - LARGE_BLOCK {
+        return is_tail_zero_by(LARGE_BLOCK, place, end);
+    }
+    if end <= PLACE - MIDDLE_BLOCK {
+        return is_tail_zero_by(MIDDLE_BLOCK, place, end);
+    }
+    if end <= PLACE - SMALL_BLOCK {
+        return is_tail_zero_by(SMALL_BLOCK, place, end);
+    }
+    octets::order::is_zero(octets::parts::after(place, end))
+}
+
 // A place holds a route that install would accept and then zeros. Nothing is copied out of it. The attribute's two judges are
 // called one by one: each is small enough that the compiler puts it into the loop over the places.
 fn is_place_sound(afi: u16, place: &[u8]) -> bool
@@ -80,42 +117,74 @@ fn is_place_sound(afi: u16, place: &[u8]) -> bool
     if judge::label_fault(attribute) != DONE {
         return false;
     }
-    octets::order::is_zero(octets::parts::after(place, end))
+    is_tail_zero(place, end)
 }
 
-// A sound place whose NLRI comes after the previous one.
-fn follows(afi: u16, previous: &[u8], place: &[u8]) -> bool
-    requires { ⌜ length (now place) ≡ 128 ⌝ }
-    ensures { λ r. ⌜ r ≡ both (placeSound afi (now (place .entry))) (before (now (previous .entry)) (nlriOf (routeIn (now (place .entry))))) ⌝ }
+// The order of octets of one size, at least a word: the first words that differ decide, as big-endian numbers. The last word may
+// begin inside the one before it.
+fn rises(a: &[u8], b: &[u8]) -> bool
+    requires { ⌜ (length (now a) ≡ length (now b)) × (8 ≤ length (now b)) ⌝ }
+    ensures { λ r. ⌜ r ≡ before (now (a .entry)) (now (b .entry)) ⌝ }
 {
-    if !is_place_sound(afi, place) {
+    let last = b.len() - WORD;
+    let mut i = 0;
+    while i < last {
+        if octets::wide::eight_low_first(a, i) != octets::wide::eight_low_first(b, i) {
+            return octets::wide::eight(a, i) < octets::wide::eight(b, i);
+        }
+        i += WORD;
+    }
+    octets::wide::eight(a, last) < octets::wide::eight(b, last)
+}
+
+// The NLRI of the sound place from `at` on comes after that of the place before it, which is sound too. The one before is looked at
+// as far as this one goes: where their sizes differ, so do their Length octets. The first place has none before it.
+fn follows(table: &[u8], at: usize) -> bool
+    requires { ⌜ (at + 128 ≤ length (now table)) × (8 ≤ getD (now table) at 0) × (getD (now table) at 0 ≤ 126) ⌝ }
+    ensures { λ r. ⌜ r ≡ risesAt at (now (table .entry)) ⌝ }
+{
+    if at < PLACE {
+        return true;
+    }
+    let size = table[at] as usize;
+    rises(
+        octets::parts::between(table, at - PLACE + ROUTE, size),
+        octets::parts::between(table, at + ROUTE, size),
+    )
+}
+
+// The octets from `at` on are zeros. The first eight are tested apart: as the header has eight, the blocks that are tested at once
+// then lie as the memory is aligned.
+fn is_rest_zero(table: &[u8], at: usize) -> bool
+    requires { ⌜ at ≤ length (now table) ⌝ }
+    ensures { λ r. ⌜ r ≡ allZero (drop at (now (table .entry))) ⌝ }
+{
+    if table.len() - at < WORD {
+        return octets::order::is_zero(octets::parts::after(table, at));
+    }
+    if !octets::order::is_zero(octets::parts::after(table, at + WORD)) {
         return false;
     }
-    octets::order::comes_before(previous, find::nlri_in(place))
+    octets::wide::eight_low_first(table, at) == 0
 }
 
-// The first `count` places are sound, their NLRIs strictly increase, and everything after them is zero. The previous NLRI is
-// known by where it stands; before the first there is none.
+// The first `count` places are sound, their NLRIs strictly increase, and everything after them is zero.
 fn are_places_sound(afi: u16, count: usize, table: &[u8]) -> bool
     requires { ⌜ 8 + 128 * count ≤ length (now table) ⌝ }
     ensures { λ r. ⌜ r ≡ placesSound afi [] count (drop 8 (now (table .entry))) ⌝ }
 {
+    let end = HEADER + PLACE * count;
     let mut at = HEADER;
-    let mut left = count;
-    let mut start = 0;
-    let mut size = 0;
-    while 0 < left {
-        let previous = octets::parts::between(table, start, size);
-        if follows(afi, previous, octets::parts::between(table, at, PLACE)) {
-            start = at + ROUTE;
-            size = table[at] as usize;
-            at += PLACE;
-            left -= 1;
-        } else {
+    while at < end {
+        if !is_place_sound(afi, octets::parts::between(table, at, PLACE)) {
             return false;
         }
+        if !follows(table, at) {
+            return false;
+        }
+        at += PLACE;
     }
-    octets::order::is_zero(octets::parts::after(table, at))
+    is_rest_zero(table, at)
 }
 
 // Sound: the size; a good header; count not over the places; the places.

@@ -1,9 +1,9 @@
 -- `table::sound::is_place_sound` meets its contract.
 use native.Mathlib.Omega.{arith}
+use borrow.Author.Tests.{not-true, not-false}
 use Rattle.routes.specs.Place.{endIn}
 use Rattle.table.proofs.Sounds.{attribute-refused, place-over, place-other, place-refused, place-accepted}
 use borrow.Author.Needs.{needs}
-use borrow.Author.Tests.{not-true, not-false}
 use Rattle.table.proofs.sound.is_place_sound.Statement.{statement}
 use Rattle.table.proofs.sound.is_place_sound.Tie as tie
 
@@ -29,17 +29,21 @@ returns-2 c = place-other _ _ (c .before .before .before .if1 .left) _ _ (c .bef
 
 returns-3 : tie.Need-returns-3
 unfolding endIn
-returns-3 c = place-refused _ _ (c .before .before .before .before .before .before .if1 .left) _ _ (c .before .before .before .before .before .between .ensures) (c .before .before .before .before .is-s-pmsi .ensures) (not-false _ (c .before .before .before .if2 .left)) _ _ (c .before .before .between2 .ensures) (attribute-refused _ _ (c .before .fault .ensures) (c .if3 .taken)) (c .if3 .taken)
+returns-3 c =
+    let n = c .before .before .before in
+    place-refused _ _ (n .before .before .before .if1 .left) _ _ (n .before .before .between .ensures) (n .before .is-s-pmsi .ensures) (not-false _ (n .if2 .left)) _ _ (c .before .before .between2 .ensures) (attribute-refused _ _ (c .before .fault .ensures) (c .if3 .taken)) (c .if3 .taken)
 
 returns-4 : tie.Need-returns-4
 unfolding endIn
-returns-4 c = place-refused _ _ (c .before .before .before .before .before .before .before .before .if1 .left) _ _ (c .before .before .before .before .before .before .before .between .ensures) (c .before .before .before .before .before .before .is-s-pmsi .ensures) (not-false _ (c .before .before .before .before .before .if2 .left)) _ _ (c .before .before .before .before .between2 .ensures) (c .before .label-fault .ensures) (c .if4 .taken)
+returns-4 c =
+    let n = c .before .before .before .before .before in
+    place-refused _ _ (n .before .before .before .if1 .left) _ _ (n .before .before .between .ensures) (n .before .is-s-pmsi .ensures) (not-false _ (n .if2 .left)) _ _ (c .before .before .before .before .between2 .ensures) (c .before .label-fault .ensures) (c .if4 .taken)
 
 returns-5 : tie.Need-returns-5
 unfolding endIn
 returns-5 c =
-    let judged = c .before .before .before .before in
-    place-accepted _ _ (judged .before .before .before .before .before .before .if1 .left) _ _ (judged .before .before .before .before .before .between .ensures) (judged .before .before .before .before .is-s-pmsi .ensures) (not-false _ (judged .before .before .before .if2 .left)) _ _ (judged .before .before .between2 .ensures) (c .before .before .before .label-fault .ensures) (c .before .before .if4 .left) _ _ (c .before .after .ensures) (c .is-zero .ensures)
+    let n = c .before .before .before .before .before .before in
+    place-accepted _ _ (n .before .before .before .if1 .left) _ _ (n .before .before .between .ensures) (n .before .is-s-pmsi .ensures) (not-false _ (n .if2 .left)) _ _ (c .before .before .before .before .before .between2 .ensures) (c .before .before .label-fault .ensures) (c .before .if4 .left) _ (c .is-tail-zero .ensures)
 
 pub is-place-sound-spec : {M : Type 1} → statement M
 is-place-sound-spec =
@@ -61,6 +65,5 @@ is-place-sound-spec =
     returns-3
     (search needs)
     returns-4
-    (search needs)
     (search needs)
     returns-5)
