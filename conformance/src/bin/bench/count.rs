@@ -7,6 +7,7 @@ use std::{
     collections::HashMap,
     env, fs,
     hint::black_box,
+    io::ErrorKind,
     path::Path,
     process::{Command, Output},
 };
@@ -79,7 +80,10 @@ fn callgrind(program: &Path, folder: &Path) -> Result<Output, String> {
         .arg(program)
         .arg(COUNTING)
         .output()
-        .map_err(|error| format!("valgrind, which counts them, did not start: {error}"))?;
+        .map_err(|error| match error.kind() {
+            ErrorKind::NotFound => "valgrind is not installed".into(),
+            _ => format!("valgrind did not start: {error}"),
+        })?;
     match output.status.success() {
         true => Ok(output),
         false => Err(format!("callgrind failed: {}", String::from_utf8_lossy(&output.stderr))),

@@ -148,5 +148,7 @@ impl Report {
 /// Prints a line. Two spaces at least stand between its cells, and never two in a name.
 pub fn line(name: &str, unit: &str, cells: [String; 5], mark: &str) {
     let [archive, plain, ratio, memcmp, reading] = cells;
-    println!("{name:<56}  {unit:<12}  {archive:>9}  {plain:>9}  {ratio:>6}  {memcmp:>9}  {reading:>10} {mark}");
+    let line =
+        format!("{name:<58}  {unit:<12}  {archive:>9}  {plain:>9}  {ratio:>6}  {memcmp:>9}  {reading:>10} {mark}");
+    println!("{}", line.trim_end());
 }
