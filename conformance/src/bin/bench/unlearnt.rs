@@ -1,5 +1,5 @@
-//! Rows on many inputs in ever new orders, whose branches the processor has not learnt. The inputs of a row lie in the
-//! second-level cache.
+//! Rows on many inputs in ever new orders, whose branches the processor has not learnt. The inputs of a row, up to a megabyte
+//! and a half, stay in the cache, though not in its first level.
 
 use crate::{
     report::Report,
