@@ -5,7 +5,7 @@ use conformance::{
     random::Random,
 };
 
-/// Each router has one route distinguisher and one tunnel.
+/// Each router has one route distinguisher, and in `routes` one tunnel.
 const ROUTERS: usize = 10;
 
 #[derive(PartialEq)]
@@ -46,7 +46,7 @@ fn route(afi: u16, router: u8, index: u8, tier: u32, attribute: Vec<u8>) -> Rout
         address(afi, [0x20, 1, 0x0D, 0xB8], [192, 0, 2, index]),
         address(afi, prefix, group),
     ];
-    of_flow(&[0, 0, 0, 100, 0, 0, 0, router], flow, tier, attribute)
+    of_flow(&distinguisher(router), flow, tier, attribute)
 }
 
 /// The route that a flow takes in this tier.
@@ -58,26 +58,43 @@ fn of_flow(distinguisher: &[u8], flow: [Vec<u8>; 3], tier: u32, attribute: Vec<u
     Route { nlri, attribute, flow, tier }
 }
 
-/// Different routes of random tiers, sources, groups, distinguishers and attributes, in a random order; of few routers,
-/// half of which have sixteen octets.
+/// Different routes in a random order: any tier, source, group and tunnel, and any of the routers, half of which have sixteen
+/// octets. As above, a router has one route distinguisher, so that routes differ behind it.
 pub fn random_routes(random: &mut Random, afi: u16, count: usize) -> Vec<Route> {
     let attributes = attributes();
     let routers: [Vec<u8>; ROUTERS] = std::array::from_fn(|at| random.octets(if at % 2 == 0 { 4 } else { 16 }));
-    let route = |_| {
-        let (tier, router) = (1 + random.below(4), routers[random.below(ROUTERS)].clone());
+    let mut routes: Vec<Route> = Vec::new();
+    while routes.len() < count {
+        let (tier, router) = (1 + random.below(4) as u32, random.below(ROUTERS));
+        let flow = [routers[router].clone(), random_source(random, afi), random_group(random, afi, tier)];
         let attribute = attributes[random.below(attributes.len())].clone();
-        let size = if afi == 1 { 4 } else { 16 };
-        let (distinguisher, source, mut group) = (random.octets(8), random.octets(size), random.octets(size));
-        // SSM, or for tier 3 ASM.
-        match (afi, tier) {
-            (1, 3) => group[0] = 239,
-            (1, _) => group[0] = 232,
-            (_, 3) => group[..4].copy_from_slice(&[0xFF, 0x0E, 0, 0]),
-            _ => group[..4].copy_from_slice(&[0xFF, 0x3E, 0, 0]),
+        let route = of_flow(&distinguisher(router as u8), flow, tier, attribute);
+        if routes.iter().all(|other| other.nlri != route.nlri) {
+            routes.push(route);
         }
-        of_flow(&distinguisher, [router, source, group], tier as u32, attribute)
+    }
+    routes
+}
+
+fn random_source(random: &mut Random, afi: u16) -> Vec<u8> {
+    random.octets(if afi == 1 { 4 } else { 16 })
+}
+
+/// An SSM group, or for tier 3 an ASM group.
+fn random_group(random: &mut Random, afi: u16, tier: u32) -> Vec<u8> {
+    let front: &[u8] = match (afi, tier) {
+        (1, 3) => &[239],
+        (1, _) => &[232],
+        (_, 3) => &[0xFF, 0x0E, 0, 0],
+        _ => &[0xFF, 0x3E, 0, 0],
     };
-    (0..count).map(route).collect()
+    let mut group = random_source(random, afi);
+    group[..front.len()].copy_from_slice(front);
+    group
+}
+
+fn distinguisher(router: u8) -> [u8; 8] {
+    [0, 0, 0, 100, 0, 0, 0, router]
 }
 
 /// The last four octets alone, or an IPv6 address that begins and ends in these.
