@@ -22,18 +22,25 @@ list: listing
 test:
 	.ci/run
 
+# The rounds of a run of the benchmark.
+rounds = 1500
+
 run_bench = CARGO_TARGET_DIR='$(CURDIR)/target/cargo' MVPN_LIB_DIR='$(CURDIR)/target/staticlib' \
-    cargo run --release --offline --manifest-path conformance/Cargo.toml --bin bench
+    cargo run --release --offline --manifest-path conformance/Cargo.toml --bin bench -- --rounds $(rounds)
 
 # The archive's calls beside the same work in plain Rust; what is printed is kept in target/bench.txt.
 bench: archive
 	$(run_bench) >target/bench.txt; status=$$?; cat target/bench.txt; exit $$status
 
-# The README's figures and its plot, from three runs of the benchmark. The machine should have nothing else to do.
+# Octets by which the code is moved in each run for the README: every place of a function, which lies at a multiple of 16, in
+# the 64 octets of a line of the cache.
+shifts = 0 16 32 48
+
+# The README's figures and its plot. The machine should have nothing else to do.
 figures: archive
-	for run in 1 2 3; do $(run_bench) >target/bench.$$run.txt || exit 1; done
-	tools/figures target/bench.1.txt target/bench.2.txt target/bench.3.txt
-	cat target/bench.1.txt target/bench.2.txt target/bench.3.txt | tools/plot >docs/match.svg
+	for shift in $(shifts); do BENCH_SHIFT=$$shift $(run_bench) >target/bench.$$shift.txt || exit 1; done
+	tools/figures $(shifts:%=target/bench.%.txt)
+	cat $(shifts:%=target/bench.%.txt) | tools/plot >docs/match.svg
 
 # A row for each crate: lines of code, contracts, definitions and proofs, functions, and the gate's seconds.
 sizes:

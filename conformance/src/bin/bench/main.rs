@@ -30,9 +30,17 @@ use conformance::{
 };
 use measure::Clock;
 use report::{Report, Task};
-use std::{env, hint::black_box, process::ExitCode};
+use std::{arch::global_asm, env, hint::black_box, process::ExitCode};
 
 const ROUNDS: usize = 1_500;
+
+// Moves the archive's code and plain Rust's, which the linker puts behind it: the time of a short loop depends on where it
+// lies in the lines of the cache.
+global_asm!(".globl bench_shift", "bench_shift:", concat!(".skip ", env!("BENCH_SHIFT")), "ret");
+
+extern "C" {
+    fn bench_shift();
+}
 
 /// Octets of a writer's output, more than any encoding.
 const ROOM: usize = 128;
@@ -41,6 +49,8 @@ const ROOM: usize = 128;
 const RUN: usize = 4_096;
 
 fn main() -> ExitCode {
+    // Or the linker would leave it out.
+    black_box(bench_shift as *const ());
     let arguments: Vec<String> = env::args().skip(1).collect();
     let arguments: Vec<&str> = arguments.iter().map(String::as_str).collect();
     let rounds = match arguments[..] {

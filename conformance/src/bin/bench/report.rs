@@ -42,6 +42,7 @@ impl Report {
                 "same buffers for both calls; ns: best of {} rounds, or their median where not learnt",
                 clock.rounds
             );
+            println!("code moved by {} octets", env!("BENCH_SHIFT"));
             println!("goal: {GOAL:.2} times plain; on an empty table of 500 places also {MEMCMP_GOAL:.2} times memcmp");
             line("call", "unit", ["archive", "plain", "ratio", "to memcmp", "to reading"].map(String::from), "");
         }
