@@ -1,7 +1,8 @@
-# Needs the Rattle toolchain (`rt`), and `make bench` also cargo. What `make test` needs is in README.md.
-# Everything that is made lies in target/, but for the README's plot. `rt` itself knows what has changed, so no target is a file.
+# Needs the Rattle toolchain (`rt`), and `make bench` also cargo, and valgrind to count instructions. What `make test` needs is
+# in README.md. Everything that is made lies in target/, but for the README's figures and plot. `rt` itself knows what has
+# changed, so no target is a file.
 
-.PHONY: all archive listing list test bench plot sizes install uninstall clean
+.PHONY: all archive listing list test bench figures sizes install uninstall clean
 .NOTPARALLEL:
 
 # The archive for C, target/staticlib/libmvpn.a, and the listing program, target/bin/mvpn_list.
@@ -21,15 +22,25 @@ list: listing
 test:
 	.ci/run
 
+# The rounds of a run of the benchmark.
+rounds = 1500
+
+run_bench = CARGO_TARGET_DIR='$(CURDIR)/target/cargo' MVPN_LIB_DIR='$(CURDIR)/target/staticlib' \
+    cargo run --release --offline --manifest-path conformance/Cargo.toml --bin bench -- --rounds $(rounds)
+
 # The archive's calls beside the same work in plain Rust; what is printed is kept in target/bench.txt.
 bench: archive
-	CARGO_TARGET_DIR='$(CURDIR)/target/cargo' MVPN_LIB_DIR='$(CURDIR)/target/staticlib' \
-	    cargo run --release --offline --manifest-path conformance/Cargo.toml --bin bench >target/bench.txt; \
-	    status=$$?; cat target/bench.txt; exit $$status
+	$(run_bench) >target/bench.txt; status=$$?; cat target/bench.txt; exit $$status
 
-# The README's plot, from the last benchmark.
-plot:
-	tools/plot <target/bench.txt >docs/match.svg
+# Octets by which the code is moved in each run for the README: every place of a function, which lies at a multiple of 16, in
+# the 64 octets of a line of the cache.
+shifts = 0 16 32 48
+
+# The README's figures and its plot. The machine should have nothing else to do.
+figures: archive
+	for shift in $(shifts); do BENCH_SHIFT=$$shift $(run_bench) >target/bench.$$shift.txt || exit 1; done
+	tools/figures $(shifts:%=target/bench.%.txt)
+	cat $(shifts:%=target/bench.%.txt) | tools/plot >docs/match.svg
 
 # A row for each crate: lines of code, contracts, definitions and proofs, functions, and the gate's seconds.
 sizes:

@@ -11,4 +11,7 @@ fn main() {
     println!("cargo:rerun-if-changed={}", directory.join("libmvpn.a").display());
     println!("cargo:rustc-link-search=native={}", directory.display());
     println!("cargo:rustc-link-lib=static=mvpn");
+    // Octets by which the benchmark's code is moved.
+    println!("cargo:rerun-if-env-changed=BENCH_SHIFT");
+    println!("cargo:rustc-env=BENCH_SHIFT={}", env::var("BENCH_SHIFT").unwrap_or_else(|_| "0".into()));
 }

@@ -36,6 +36,13 @@ impl Random {
         std::array::from_fn(|_| self.octet())
     }
 
+    /// Any order is as likely as any other.
+    pub fn shuffle<T>(&mut self, items: &mut [T]) {
+        for left in (1..items.len()).rev() {
+            items.swap(left, self.below(left + 1));
+        }
+    }
+
     pub fn pick<T: Copy>(&mut self, choices: &[T]) -> T {
         choices[self.below(choices.len())]
     }

@@ -1,5 +1,16 @@
-//! The same calls in plain Rust, written to be fast: what the archive's speed is held against. Same arguments and
-//! results by value, no allocation, not inlined into the measurement.
+//! The calls of `mvpn.h` in plain Rust: what the archive's speed is held against.
+//!
+//! Each does the whole work of the archive's call, no more and no less. It has the same C arguments and gives its answer by
+//! value; it refuses the same inputs with the same numbers, in document 01's order, before it writes anything; install,
+//! withdraw and match test every octet of the table for soundness each time; and every octet that the call promises is
+//! written, those behind a route included. Nothing is allocated or kept between calls. `tests.rs` and `table_tests.rs`
+//! compare all of this with the second decoder and the second table.
+//!
+//! It is written from document 01 and takes nothing from the crates, so it may go another way: a match looks for one tier
+//! after another among the routes of that tier's NLRI size, where the archive passes over all routes once. It is written
+//! to be fast, as Rust for release would be: slices and patterns, comparisons and copies of the standard library, a loop for
+//! each family where the family's size as a constant helps, and small functions inlined. Nothing is `unsafe` but the making of
+//! slices from the caller's pointers. A call itself is not inlined into the measurement.
 
 mod attribute;
 mod flow;

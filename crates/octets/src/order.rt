@@ -16,7 +16,7 @@ use crate::wide::four_low_first;
 // The octets that are compared at once, as one number, and those that are tested for zeros at once.
 const WORD: usize = 8;
 
-const BLOCK: usize = 32;
+const BLOCK: usize = 64;
 
 // The same size and octets.
 pub fn is_same(a: &[u8], b: &[u8]) -> bool

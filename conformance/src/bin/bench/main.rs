@@ -1,33 +1,79 @@
-//! The archive's calls beside the same work in plain Rust (`src/plain`): nanoseconds of each, and their ratio. The rows of
-//! the table's calls also give the ratio to `memcmp` of as many octets as the table has.
+//! The archive's calls beside the same work in plain Rust (`src/plain`): each one's cost, and their ratio. The rows of the
+//! table's calls also give the ratio to `memcmp` of as many octets as the table has, which reads two such buffers, and to
+//! reading the table's octets once.
 //!
-//! Both calls take the same buffers, warm in the cache, through a function pointer; their batches alternate, and the
-//! best batch of many rounds counts. The run ends with status 1 only where the two give different answers.
+//! Both calls take the same buffers, through a function pointer. There are three kinds of rows:
+//!
+//! - in instructions, which `count` has from callgrind: calls of a few nanoseconds, whose time depends on where their code
+//!   lies (on one NLRI, attribute or group, and on a table of at most one place);
+//! - in nanoseconds, warm and learnt: the same call again and again, in batches that alternate; the best batch counts;
+//! - in nanoseconds, not learnt: many inputs in ever new orders, so that the processor cannot foretell the branches.
+//!
+//! `--rounds N` makes N rounds. The run ends with status 1 only where the two give different answers.
 
+mod count;
+mod measure;
 mod report;
 mod routes;
 mod table;
+mod unlearnt;
 
 use conformance::{
     cases::{
         near,
         samples::{attributes, nlris, Sample, GOOD_AFIS},
     },
-    ffi::raw,
+    ffi::{raw, Stepped},
     options::SEED,
     plain,
     random::Random,
 };
-use report::Report;
-use std::{hint::black_box, process::ExitCode};
+use measure::Clock;
+use report::{Report, Task};
+use std::{arch::global_asm, env, hint::black_box, process::ExitCode};
+
+const ROUNDS: usize = 1_500;
+
+// Moves the archive's code and plain Rust's, which the linker puts behind it: the time of a short loop depends on where it
+// lies in the lines of the cache.
+global_asm!(".globl bench_shift", "bench_shift:", concat!(".skip ", env!("BENCH_SHIFT")), "ret");
+
+extern "C" {
+    fn bench_shift();
+}
 
 /// Octets of a writer's output, more than any encoding.
 const ROOM: usize = 128;
 
+/// Octets of the runs, the most that a run may have.
+const RUN: usize = 4_096;
+
 fn main() -> ExitCode {
-    let mut report = Report::begin();
-    runs(&mut report);
+    // Or the linker would leave it out.
+    black_box(bench_shift as *const ());
+    let arguments: Vec<String> = env::args().skip(1).collect();
+    let arguments: Vec<&str> = arguments.iter().map(String::as_str).collect();
+    let rounds = match arguments[..] {
+        [] => ROUNDS,
+        ["--rounds", number] => number.parse().unwrap_or(0),
+        [count::COUNTING] => return all_rows(Task::Count),
+        _ => 0,
+    };
+    if rounds == 0 {
+        eprintln!("bench: its only argument is --rounds N, with N over 0");
+        return ExitCode::FAILURE;
+    }
+    let counts = count::counts().unwrap_or_else(|why| {
+        println!("no instructions are counted: {why}");
+        Default::default()
+    });
+    all_rows(Task::Print(Clock { rounds }, counts))
+}
+
+fn all_rows(task: Task) -> ExitCode {
+    let mut report = Report::begin(task);
     for afi in GOOD_AFIS {
+        runs(&mut report, afi, &whole_run(&mut Random::new(SEED), afi));
         for sample in one_of_each_type(afi) {
             nlri(&mut report, &sample);
         }
@@ -37,6 +83,7 @@ fn main() -> ExitCode {
     }
     groups(&mut report);
     table::rows(&mut report);
+    unlearnt::rows(&mut report);
     if report.end() {
         ExitCode::SUCCESS
     } else {
@@ -44,28 +91,42 @@ fn main() -> ExitCode {
     }
 }
 
-/// A walk of 4,096 octets of mixed types, and one step in it.
-fn runs(report: &mut Report) {
-    let mut random = Random::new(SEED);
-    for afi in GOOD_AFIS {
-        let run = &whole_run(&mut random, afi)[..];
-        let calls = black_box([raw::mvpn_walk as raw::Walk, plain::walk]);
-        report.row(
-            format!("walk of 4,096 octets, afi {afi}"),
-            calls.map(|call| move || unsafe { call(afi, run.as_ptr(), black_box(run.len())) }),
-        );
-        let calls = black_box([raw::mvpn_step as raw::Step, plain::step]);
-        report.row(
-            format!("step at cursor 0, afi {afi}"),
-            calls.map(|call| move || unsafe { call(afi, run.as_ptr(), run.len(), black_box(0)) }),
-        );
+/// One step; a walk and the steps through a whole run of mixed types.
+fn runs(report: &mut Report, afi: u16, run: &[u8]) {
+    let calls = black_box(STEPS);
+    report.counted(
+        &format!("step, afi {afi}"),
+        calls.map(|call| move || unsafe { call(afi, run.as_ptr(), run.len(), black_box(0)) }),
+    );
+    report.timed(
+        &format!("steps through {RUN} octets, afi {afi}"),
+        calls.map(|call| move || steps(call, afi, black_box(run))),
+    );
+    report.timed(
+        &format!("walk of {RUN} octets, afi {afi}"),
+        black_box(WALKS).map(|call| move || unsafe { call(afi, run.as_ptr(), black_box(run.len())) }),
+    );
+}
+
+const STEPS: [raw::Step; 2] = [raw::mvpn_step, plain::step];
+const WALKS: [raw::Walk; 2] = [raw::mvpn_walk, plain::walk];
+
+/// Steps from the run's beginning until a step reads nothing.
+fn steps(call: raw::Step, afi: u16, run: &[u8]) -> Stepped {
+    let mut cursor = 0;
+    loop {
+        let stepped = unsafe { call(afi, run.as_ptr(), run.len(), cursor) };
+        if stepped.cursor == cursor {
+            return stepped;
+        }
+        cursor = stepped.cursor;
     }
 }
 
 /// Well-formed NLRIs of mixed types that fill the run exactly, so that the walk reaches its end.
 fn whole_run(random: &mut Random, afi: u16) -> Vec<u8> {
     loop {
-        let run = near::run_of(random, afi, 4_096);
+        let run = near::run_of(random, afi, RUN);
         if unsafe { plain::walk(afi, run.as_ptr(), run.len()) }.number == 0 {
             return run;
         }
@@ -77,8 +138,8 @@ fn nlri(report: &mut Report, sample: &Sample) {
     let (afi, nlri, octets, key) = (*afi, *nlri, &octets[..], &key[..]);
     let name = format!("afi {afi}, type {}, {} octets", nlri.route_type, octets.len());
     let calls = black_box([raw::mvpn_nlri_read as raw::NlriRead, plain::nlri_read]);
-    report.row(
-        format!("nlri_read {name}"),
+    report.counted(
+        &format!("nlri_read {name}"),
         calls.map(|call| move || unsafe { call(afi, octets.as_ptr(), black_box(octets.len())) }),
     );
     let mut buffer = [0u8; ROOM];
@@ -86,15 +147,15 @@ fn nlri(report: &mut Report, sample: &Sample) {
     let calls = black_box([raw::mvpn_nlri_write as raw::NlriWrite, plain::nlri_write]);
     let writes = calls
         .map(|call| move || unsafe { call(afi, nlri, key.as_ptr(), black_box(key.len()), black_box(output), ROOM) });
-    report.row(format!("nlri_write {name}"), writes);
+    report.counted(&format!("nlri_write {name}"), writes);
     report.check_output(&writes, output, ROOM, octets, &name);
 }
 
 fn tunnel(report: &mut Report, attribute: &[u8]) {
     let name = format!("tunnel type {}, {} octets", attribute[1], attribute.len());
     let calls = black_box([raw::mvpn_attribute_read as raw::AttributeRead, plain::attribute_read]);
-    report.row(
-        format!("attribute_read {name}"),
+    report.counted(
+        &format!("attribute_read {name}"),
         calls.map(|call| move || unsafe { call(attribute.as_ptr(), black_box(attribute.len())) }),
     );
     let mut buffer = [0u8; ROOM];
@@ -108,7 +169,7 @@ fn tunnel(report: &mut Report, attribute: &[u8]) {
             call(flags, tunnel_type, label_field, identifier.as_ptr(), size, black_box(output), ROOM)
         }
     });
-    report.row(format!("attribute_write {name}"), writes);
+    report.counted(&format!("attribute_write {name}"), writes);
     report.check_output(&writes, output, ROOM, attribute, &name);
 }
 
@@ -116,8 +177,8 @@ fn groups(report: &mut Report) {
     for (afi, group) in [(1, vec![232, 1, 1, 1]), (2, [&[0xFF, 0x3E][..], &[0; 14]].concat())] {
         let group = &group[..];
         let calls = black_box([raw::mvpn_group_class as raw::GroupClass, plain::group_class]);
-        report.row(
-            format!("group_class afi {afi}"),
+        report.counted(
+            &format!("group_class, afi {afi}"),
             calls.map(|call| move || unsafe { call(afi, group.as_ptr(), black_box(group.len())) }),
         );
     }

@@ -1,10 +1,14 @@
 //! Routes that the measured tables hold.
 
-use conformance::cases::{routes::s_pmsi, samples::attributes};
+use conformance::{
+    cases::{routes::s_pmsi, samples::attributes},
+    random::Random,
+};
 
-/// Each router has one route distinguisher and one tunnel.
+/// Each router has one route distinguisher, and in `routes` one tunnel.
 const ROUTERS: usize = 10;
 
+#[derive(PartialEq)]
 pub struct Route {
     pub nlri: Vec<u8>,
     pub attribute: Vec<u8>,
@@ -42,11 +46,55 @@ fn route(afi: u16, router: u8, index: u8, tier: u32, attribute: Vec<u8>) -> Rout
         address(afi, [0x20, 1, 0x0D, 0xB8], [192, 0, 2, index]),
         address(afi, prefix, group),
     ];
+    of_flow(&distinguisher(router), flow, tier, attribute)
+}
+
+/// The route that a flow takes in this tier.
+fn of_flow(distinguisher: &[u8], flow: [Vec<u8>; 3], tier: u32, attribute: Vec<u8>) -> Route {
     let [originator, source, group] = flow.each_ref().map(|octets| &octets[..]);
     let source = if tier >= 3 { &[] } else { source };
     let group = if tier == 2 || tier == 4 { &[] } else { group };
-    let nlri = s_pmsi(&[0, 0, 0, 100, 0, 0, 0, router], source, group, originator);
+    let nlri = s_pmsi(distinguisher, source, group, originator);
     Route { nlri, attribute, flow, tier }
+}
+
+/// Different routes in a random order: any tier, source, group and tunnel, and any of the routers, half of which have sixteen
+/// octets. As above, a router has one route distinguisher, so that routes differ behind it.
+pub fn random_routes(random: &mut Random, afi: u16, count: usize) -> Vec<Route> {
+    let attributes = attributes();
+    let routers: [Vec<u8>; ROUTERS] = std::array::from_fn(|at| random.octets(if at % 2 == 0 { 4 } else { 16 }));
+    let mut routes: Vec<Route> = Vec::new();
+    while routes.len() < count {
+        let (tier, router) = (1 + random.below(4) as u32, random.below(ROUTERS));
+        let flow = [routers[router].clone(), random_source(random, afi), random_group(random, afi, tier)];
+        let attribute = attributes[random.below(attributes.len())].clone();
+        let route = of_flow(&distinguisher(router as u8), flow, tier, attribute);
+        if routes.iter().all(|other| other.nlri != route.nlri) {
+            routes.push(route);
+        }
+    }
+    routes
+}
+
+fn random_source(random: &mut Random, afi: u16) -> Vec<u8> {
+    random.octets(if afi == 1 { 4 } else { 16 })
+}
+
+/// An SSM group, or for tier 3 an ASM group.
+fn random_group(random: &mut Random, afi: u16, tier: u32) -> Vec<u8> {
+    let front: &[u8] = match (afi, tier) {
+        (1, 3) => &[239],
+        (1, _) => &[232],
+        (_, 3) => &[0xFF, 0x0E, 0, 0],
+        _ => &[0xFF, 0x3E, 0, 0],
+    };
+    let mut group = random_source(random, afi);
+    group[..front.len()].copy_from_slice(front);
+    group
+}
+
+fn distinguisher(router: u8) -> [u8; 8] {
+    [0, 0, 0, 100, 0, 0, 0, router]
 }
 
 /// The last four octets alone, or an IPv6 address that begins and ends in these.

@@ -1,7 +1,8 @@
 //! Rows of the table's calls, by places and by routes held; of both families where routes are held.
 
 use crate::{
-    report::{best, best_on_copies, Memcmp, Report},
+    measure::Clock,
+    report::{line, Memory, Report},
     routes::{routes, Route},
 };
 use conformance::{
@@ -23,8 +24,14 @@ const PLACES: [usize; 5] = [0, 1, 50, 250, MOST_PLACES];
 /// Routes that a sparse table holds.
 const FEW: usize = 5;
 
+/// Octets that reading the memory looks at together.
+const BLOCK: usize = 64;
+
+/// The most places of the tables whose rows are counted.
+const COUNTED: usize = 1;
+
 /// Outcomes of install.
-const NEW: u32 = 1;
+pub const NEW: u32 = 1;
 const REPLACED: u32 = 2;
 
 extern "C" {
@@ -33,42 +40,56 @@ extern "C" {
 
 pub fn rows(report: &mut Report) {
     for places in PLACES {
-        let nanoseconds = memcmp_of(places);
-        empty(&mut Rows {
-            report,
-            memcmp: Memcmp { nanoseconds, has_goal: places == MOST_PLACES },
-            afi: 1,
-            places,
-            held: 0,
-        });
+        let memory = match report.clock() {
+            _ if places <= COUNTED => None,
+            Some(clock) => Some(memory_of(clock, places)),
+            None => continue,
+        };
+        let has_goal = places == MOST_PLACES;
+        let goal = memory.map(|memory| Memory { has_goal, ..memory });
+        empty(&mut Rows { report, memory: goal, afi: 1, places, held: 0 });
         let fills = match places {
             0 => &[][..],
             1 => &[1],
             _ => &[FEW, places],
         };
         for (held, afi) in fills.iter().flat_map(|held| GOOD_AFIS.map(|afi| (*held, afi))) {
-            let memcmp = Memcmp { nanoseconds, has_goal: false };
-            filled(&mut Rows { report, memcmp, afi, places, held });
+            filled(&mut Rows { report, memory, afi, places, held });
         }
     }
 }
 
-/// Nanoseconds of comparing two equal buffers of the table's size.
-fn memcmp_of(places: usize) -> f64 {
+/// Prints what it costs to compare two equal buffers of the table's size, and to read one of them.
+fn memory_of(clock: Clock, places: usize) -> Memory {
     let octets = size(places);
     let [left, right] = [vec![0u8; octets], vec![0u8; octets]];
-    let [nanoseconds] = best(&[|| unsafe {
+    let [memcmp] = clock.best(&[|| unsafe {
         let [left, right] = black_box([&left, &right]).map(|buffer| buffer.as_ptr().cast());
         memcmp(left, right, black_box(octets))
     }]);
-    println!("{:<48} {nanoseconds:>10.2}", format!("memcmp of {octets} octets"));
-    nanoseconds
+    let [reading] = clock.best(&[|| reading(black_box(&left))]);
+    for (name, nanoseconds) in [("memcmp of two buffers of", memcmp), ("reading once of", reading)] {
+        let cells = ["-".into(), format!("{nanoseconds:.2}"), "-".into(), "-".into(), "-".into()];
+        line(&format!("{name} {octets} octets"), "ns", cells, "");
+    }
+    Memory { memcmp, reading, has_goal: false }
 }
 
-/// What the rows of one kind of table share.
+/// Looks at every octet once, in blocks, so that the compiler can take many together.
+fn reading(octets: &[u8]) -> [u8; BLOCK] {
+    let (blocks, rest) = octets.as_chunks::<BLOCK>();
+    let mut seen = [0; BLOCK];
+    seen.iter_mut().zip(rest).for_each(|(seen, octet)| *seen |= octet);
+    for block in blocks {
+        seen.iter_mut().zip(block).for_each(|(seen, octet)| *seen |= octet);
+    }
+    seen
+}
+
+/// What the rows of one kind of table share. Counted rows are held against no memory.
 struct Rows<'a> {
     report: &'a mut Report,
-    memcmp: Memcmp,
+    memory: Option<Memory>,
     afi: u16,
     places: usize,
     held: usize,
@@ -76,14 +97,14 @@ struct Rows<'a> {
 
 fn empty(rows: &mut Rows) {
     let (afi, places) = (rows.afi, rows.places);
-    let made = table_of(afi, places, &[]);
+    let made = table_of(afi, places, []);
     let [route] = &routes(afi, 1)[..] else { unreachable!("one route was asked for") };
     let calls = black_box([raw::mvpn_make as raw::Make, plain::make]);
     let make = calls.map(|call| move |table| unsafe { call(afi, table, size(places)) });
     rows.changing("make", &vec![0xA5; made.len()], &made, 0, make);
     rows.matching("match none", &made, &route.flow, None);
     if places > 0 {
-        rows.install("install new", &made, &table_of(afi, places, &[route]), route, NEW);
+        rows.install("install new", &made, &table_of(afi, places, [route]), route, NEW);
     }
 }
 
@@ -92,9 +113,8 @@ fn filled(rows: &mut Rows) {
     let all = routes(rows.afi, rows.held);
     let middle = (all.len() / 2..all.len()).find(|at| all[*at].tier == 1).expect("the longest NLRIs are of tier 1");
     let route = &all[middle];
-    let others: Vec<&Route> = all.iter().filter(|other| other.nlri != route.nlri).collect();
-    let before = table_of(rows.afi, rows.places, &others);
-    let table = table_of(rows.afi, rows.places, &all.iter().collect::<Vec<_>>());
+    let before = table_of(rows.afi, rows.places, all.iter().filter(|other| other.nlri != route.nlri));
+    let table = table_of(rows.afi, rows.places, &all);
     rows.matching("match found", &table, &route.flow, Some(route));
     let [_, source, group] = route.flow.clone();
     rows.matching("match none", &table, &[vec![10, 9, 9, 9], source, group], None);
@@ -107,7 +127,7 @@ fn filled(rows: &mut Rows) {
 }
 
 /// A table that holds these routes.
-fn table_of(afi: u16, places: usize, routes: &[&Route]) -> Vec<u8> {
+pub fn table_of<'a>(afi: u16, places: usize, routes: impl IntoIterator<Item = &'a Route>) -> Vec<u8> {
     let mut table = vec![0; size(places)];
     let (octets, size) = (table.as_mut_ptr(), table.len());
     assert_eq!(unsafe { plain::make(afi, octets, size) }, 0);
@@ -119,6 +139,22 @@ fn table_of(afi: u16, places: usize, routes: &[&Route]) -> Vec<u8> {
     table
 }
 
+pub const INSTALLS: [raw::Install; 2] = [raw::mvpn_install, plain::install];
+pub const WITHDRAWALS: [raw::Withdraw; 2] = [raw::mvpn_withdraw, plain::withdraw];
+pub const MATCHES: [raw::Match; 2] = [raw::mvpn_match, plain::match_flow];
+
+/// A match with the least output.
+///
+/// # Safety
+/// The output has `LEAST_OUTPUT` octets and overlaps nothing.
+#[inline(always)]
+pub unsafe fn matched(call: raw::Match, table: &[u8], flow: &[Vec<u8>; 3], output: *mut u8) -> Matched {
+    let [(router, router_size), (source, source_size), (group, group_size)] =
+        flow.each_ref().map(|octets| (octets.as_ptr(), octets.len()));
+    let (table, size) = (table.as_ptr(), table.len());
+    call(table, size, router, router_size, source, source_size, group, group_size, output, LEAST_OUTPUT)
+}
+
 impl Rows<'_> {
     fn name(&self, call: &str) -> String {
         format!("{call}, afi {}, places {}, held {}", self.afi, self.places, self.held)
@@ -127,7 +163,7 @@ impl Rows<'_> {
     fn install(&mut self, call: &str, before: &[u8], after: &[u8], route: &Route, outcome: u32) {
         let Route { nlri, attribute, .. } = route;
         let (size, nlri, attribute) = (before.len(), &nlri[..], &attribute[..]);
-        let calls = black_box([raw::mvpn_install as raw::Install, plain::install]).map(|call| {
+        let calls = black_box(INSTALLS).map(|call| {
             move |table| unsafe { call(table, size, nlri.as_ptr(), nlri.len(), attribute.as_ptr(), attribute.len()) }
         });
         self.changing(call, before, after, Installed { number: 0, outcome }, calls);
@@ -135,8 +171,8 @@ impl Rows<'_> {
 
     fn withdraw(&mut self, call: &str, before: &[u8], after: &[u8], route: &Route) {
         let (size, nlri) = (before.len(), &route.nlri[..]);
-        let calls = black_box([raw::mvpn_withdraw as raw::Withdraw, plain::withdraw]);
-        let calls = calls.map(|call| move |table| unsafe { call(table, size, nlri.as_ptr(), nlri.len()) });
+        let calls =
+            black_box(WITHDRAWALS).map(|call| move |table| unsafe { call(table, size, nlri.as_ptr(), nlri.len()) });
         self.changing(call, before, after, 0, calls);
     }
 
@@ -157,7 +193,15 @@ impl Rows<'_> {
             (answer, table.iter().zip(after).position(|(is, should)| is != should))
         });
         self.report.check(&name, &results, &(expected, None));
-        self.report.line(&name, best_on_copies(before, &calls), Some(self.memcmp));
+        if self.places <= COUNTED {
+            let calls = calls.each_ref().map(|call| {
+                let mut table = before.to_vec();
+                move || call(table.as_mut_ptr())
+            });
+            self.report.count(&name, calls);
+        } else if let Some(clock) = self.report.clock() {
+            self.report.time(&name, clock.best_on_copies(before, &calls), self.memory);
+        }
     }
 
     /// A row of matches: they must give this route, or tier 0.
@@ -173,18 +217,13 @@ impl Rows<'_> {
         };
         let mut buffer = [0u8; LEAST_OUTPUT];
         let output = buffer.as_mut_ptr();
-        let [router, source, group] = flow.each_ref().map(|octets| &octets[..]);
-        let calls = black_box([raw::mvpn_match as raw::Match, plain::match_flow]).map(|call| {
-            move || unsafe {
-                let (router, router_size) = (router.as_ptr(), router.len());
-                let (source, source_size) = (source.as_ptr(), source.len());
-                let (group, group_size) = (group.as_ptr(), group.len());
-                let (table, size) = (table.as_ptr(), table.len());
-                call(table, size, router, router_size, source, source_size, group, group_size, output, LEAST_OUTPUT)
-            }
-        });
+        let calls = black_box(MATCHES).map(|call| move || unsafe { matched(call, table, flow, output) });
         self.report.check(&name, &calls.map(|call| call()), &expected);
         self.report.check_output(&calls, output, LEAST_OUTPUT, &written, &name);
-        self.report.line(&name, best(&calls), Some(self.memcmp));
+        if self.places <= COUNTED {
+            self.report.count(&name, calls);
+        } else if let Some(clock) = self.report.clock() {
+            self.report.time(&name, clock.best(&calls), self.memory);
+        }
     }
 }
