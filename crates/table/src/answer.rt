@@ -16,13 +16,9 @@ use crate::geometry::ATTRIBUTE_SIZE;
 use crate::geometry::NLRI_SIZE;
 use crate::geometry::PLACE;
 use crate::geometry::ROUTE;
-use crate::judge::LABEL_FIELD;
 use crate::scan::Best;
 use octets::number::DONE;
 use routes::Matched;
-
-// Where the identifier stands in an attribute.
-const IDENTIFIER: usize = 5;
 
 // The attribute in a place.
 fn attribute_in(place: &[u8]) -> &[u8]
@@ -42,8 +38,8 @@ fn write_attribute(attribute: &[u8], output: &mut [u8], at: usize) -> usize
     ensures { λ r. ⌜ r ≡ length (now (attribute .entry)) ⌝ }
     ensures { λ r. ⌜ now (output .exit) ≡ placed at (now (attribute .entry)) (now (output .entry)) ⌝ }
 {
-    let label_field = octets::wide::three(attribute, LABEL_FIELD);
-    let identifier = octets::parts::after(attribute, IDENTIFIER);
+    let label_field = octets::wide::three(attribute, tunnel::LABEL_FIELD);
+    let identifier = octets::parts::after(attribute, tunnel::HEADER);
     let written = tunnel::write(
         attribute[0],
         attribute[1],

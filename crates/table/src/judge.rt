@@ -10,9 +10,6 @@ use octets::number::KIND;
 use octets::number::LABEL;
 use tunnel::TunnelType;
 
-// Where the label field stands in an attribute.
-pub(crate) const LABEL_FIELD: usize = 2;
-
 // A well-formed S-PMSI NLRI: NLRI reading with no octets after it, then KIND.
 pub(crate) fn s_pmsi_fault(afi: u16, nlri: &[u8]) -> u32
     ensures { λ r. ⌜ r ≡ numberOf (readSPmsi afi (now (nlri .entry))) ⌝ }
@@ -36,7 +33,7 @@ pub(crate) fn label_fault(attribute: &[u8]) -> u32
     if attribute[1] != TunnelType::BIER {
         return DONE;
     }
-    if octets::wide::three(attribute, LABEL_FIELD) / 16 != 0 {
+    if octets::wide::three(attribute, tunnel::LABEL_FIELD) / 16 != 0 {
         return DONE;
     }
     LABEL

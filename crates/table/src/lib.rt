@@ -17,5 +17,6 @@ mod withdrawing;
 
 pub use installing::install;
 pub use making::make;
+pub use matching::LEAST_OUTPUT;
 pub use matching::match_flow;
 pub use withdrawing::withdraw;

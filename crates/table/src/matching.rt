@@ -22,7 +22,7 @@ use octets::number::TABLE;
 use routes::Matched;
 
 // An output that every route fits into.
-const LEAST_OUTPUT: usize = 124;
+pub const LEAST_OUTPUT: usize = 124;
 
 // The search, with these tiers open.
 fn search(

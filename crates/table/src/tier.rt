@@ -35,10 +35,8 @@ impl Tiers {
     }
 }
 
-// Where the route distinguisher stands, behind the header; behind it the source's length octet, in bits.
-const DISTINGUISHER: usize = 2;
-
-const SOURCE_LENGTH: usize = 10;
+// Where the source's length octet stands, in bits: behind the header and the route distinguisher.
+const SOURCE_LENGTH: usize = nlri::HEADER + RouteDistinguisher::OCTETS;
 
 // The octets at the end that are compared first.
 const ENDING: usize = 4;
@@ -48,7 +46,7 @@ pub(crate) fn distinguisher_in(nlri: &[u8]) -> &[u8]
     requires { ⌜ Bounded (now nlri) ⌝ }
     ensures { λ r. ⌜ now r ≡ standing (now (nlri .entry)) .distinguisher ⌝ }
 {
-    parts::between(nlri, DISTINGUISHER, RouteDistinguisher::OCTETS)
+    parts::between(nlri, nlri::HEADER, RouteDistinguisher::OCTETS)
 }
 
 // The source; no octets are a wildcard.
