@@ -122,7 +122,8 @@ pub(crate) fn keyable_body_fault(kind: AddressKind, route_type: usize, s: &[u8])
     TYPE
 }
 
-// A body of a type above a Leaf's: a source and a group, and nothing behind them.
+// A body of a type above a Leaf's: a source and a group, and nothing behind them. All are judged as type 5 is, a constant, so that the
+// judge is compiled for it.
 pub(crate) fn flow_body_fault(kind: AddressKind, route_type: usize, s: &[u8]) -> u32
     requires { ⌜ 4 < «route_type» ⌝ }
     ensures { λ r. ⌜ r ≡ bodyFault (kind .bits) «route_type» (now (s .entry)) ⌝ }
@@ -132,7 +133,7 @@ pub(crate) fn flow_body_fault(kind: AddressKind, route_type: usize, s: &[u8]) ->
     }
     flow_fault(
         kind,
-        route_type,
+        RouteType::SOURCE_ACTIVE,
         fields::source_start(route_type) - (HEADER + 1),
         s,
     )

@@ -318,6 +318,18 @@ zero-overlap r s last n start m e h k q =
     let end : take n (drop last s) ≡ drop (last - start) (drop start s) = take-all n (drop last s) (simp length-drop (omega arith)) ∙ ap (λ (j : ℕ). drop j s) (sym at) ∙ sym (drop-drop (last - start) start s) in
     q ∙ ap (λ (l : List ℕ). both (allZero l) (allZero (take m (drop start s)))) end ∙ zero-covered (drop start s) m (last - start) (omega arith)
 
+-- zeros as far as a test has come, block by block
+pub zero-begins : (flag : Bool) (s : List ℕ) (i n : ℕ) → allZero (take i s) ≡ true → flag ≡ allZero (part s i n) → flag ≡ true → allZero (take (i + n) s) ≡ true
+zero-begins flag s i n h e t = ap allZero (take-then s i n) ∙ zero-append (take i s) (part s i n) ∙ both-true _ _ h (sym e ∙ t)
+
+pub zero-fails : (flag : Bool) (s : List ℕ) (i n : ℕ) → flag ≡ allZero (part s i n) → flag ≡ false → false ≡ allZero s
+unfolding part
+zero-fails flag s i n e f = sym (is-false (allZero s) (λ t. opposite (zero-front n (drop i s) (zero-rest i s t)) (sym e ∙ f)))
+
+pub zero-last : (r : Bool) (s : List ℕ) (last n i : ℕ) → last + n ≡ length s → last ≤ i → allZero (take i s) ≡ true → r ≡ allZero (part s last n) → r ≡ allZero s
+unfolding part
+zero-last r s last n i e k h q = zero-overlap r s last n 0 i e (omega arith) (omega arith) (q ∙ sym (both-then-true _) ∙ ap (both (allZero (part s last n))) (sym h))
+
 -- the same pass over two lists
 both-four : (e x y a b : Bool) → both (both e (both x y)) (both a b) ≡ both e (both (both x a) (both y b))
 unfolding both

@@ -129,17 +129,22 @@ pub fn is_zero(s: &[u8]) -> bool
     is_zero_by_blocks(&s[0..])
 }
 
-// The last block, which may begin inside the others, and the whole blocks.
+// Block by block; the last block may begin inside the one before it.
 fn is_zero_by_blocks(s: &[u8]) -> bool
     ensures { λ r. ⌜ r ≡ allZero (now (s .entry)) ⌝ }
 {
     if s.len() < BLOCK {
         return is_each_zero(s);
     }
-    if is_each_zero(between(s, s.len() - BLOCK, BLOCK)) {
-        return is_each_zero(between(s, 0, s.len() / BLOCK * BLOCK));
+    let last = s.len() - BLOCK;
+    let mut i = 0;
+    while i < last {
+        if !is_each_zero(between(s, i, BLOCK)) {
+            return false;
+        }
+        i += BLOCK;
     }
-    false
+    is_each_zero(between(s, last, BLOCK))
 }
 
 // Every octet is looked at, with no early exit: so many octets are tested at once.

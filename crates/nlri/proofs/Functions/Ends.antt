@@ -150,6 +150,21 @@ start-least type = start-case (λ (n : ℕ). 3 ≤ n) type (omega arith) (omega 
 pub start-most : (type : ℕ) → sourceStart type ≤ 15
 start-most type = start-case (λ (n : ℕ). n ≤ 15) type (omega arith) (omega arith)
 
+-- only type 3 takes wildcards, so that any two other types judge their fields alike
+field-other : (bits m n : ℕ) → eqb m 3 ≡ false → eqb n 3 ≡ false → (k : FieldKind) (s : List ℕ) → fieldSize (keyField bits) bits m k s ≡ fieldSize (keyField bits) bits n k s
+unfolding fieldSize addressField allowed
+field-other bits m n p q distinguisher s = refl
+field-other bits m n p q sourceAs s = refl
+field-other bits m n p q source s = rw (p, q)
+field-other bits m n p q group s = rw (p, q)
+field-other bits m n p q originator s = refl
+field-other bits m n p q key s = refl
+
+left-other : (bits m n : ℕ) (kinds : List FieldKind) (at : ℕ) (s : List ℕ) → eqb m 3 ≡ false → eqb n 3 ≡ false → leftFault bits m kinds at s ≡ leftFault bits n kinds at s
+unfolding leftFault
+left-other bits m n kinds at s p q =
+    ap (λ (size : FieldKind → List ℕ → Outcome ℕ). pick (ltb (length s) at) LENGTH (numberOf (sizesOf size kinds (drop at s)))) (λ i k x. field-other bits m n p q k x i)
+
 -- the body of a route type
 module _ (bits type : ℕ) (s : List ℕ) where
   pub body-is : (n : ℕ) → type ≡ n → bodyFault bits n s ≡ bodyFault bits type s
@@ -165,14 +180,17 @@ module _ (bits type : ℕ) (s : List ℕ) where
       on-body type _ _ ∙ ap (λ (n : ℕ). pick (listed bodies type) n TYPE) (pick-false (ltb (length s) 0) LENGTH _ (le-ltb (length s) 0 (omega arith))) ∙ number-typed _ _ ∙ sym (ap numberOf (on-body type _ _))
 
   -- types 5 to 7: fixed octets, a source and a group
-  pub body-flow : 4 < type → type ≤ 7 → leftFault bits type (source ∷ group ∷ afterFlow type) (sourceStart type - 3) s ≡ bodyFault bits type s
+  pub body-flow : 4 < type → type ≤ 7 → leftFault bits 5 (source ∷ group ∷ afterFlow 5) (sourceStart type - 3) s ≡ bodyFault bits type s
   unfolding bodyFault onBody bodies afterFlow sourceStart withSourceAs either pick fieldSize
   body-flow low high =
       tested (eqb type 5) (λ t. at 5 (eqb-true _ _ t) (left-fixed bits 5 distinguisher _ 8 0 s (λ y. refl)))
-      (λ n₅. tested (eqb type 6) (λ t. at 6 (eqb-true _ _ t) (both 6)) (λ n₆. at 7 (omega (arith, eqb-false)) (both 7)))
+      (λ n₅. tested (eqb type 6) (λ t. at 6 (eqb-true _ _ t) (both 6 (alike 6 refl))) (λ n₆. at 7 (omega (arith, eqb-false)) (both 7 (alike 7 refl))))
     where
-      at : (k : ℕ) → type ≡ k → leftFault bits k (source ∷ group ∷ afterFlow k) (sourceStart k - 3) s ≡ bodyFault bits k s → leftFault bits type (source ∷ group ∷ afterFlow type) (sourceStart type - 3) s ≡ bodyFault bits type s
+      at : (k : ℕ) → type ≡ k → leftFault bits 5 (source ∷ group ∷ afterFlow 5) (sourceStart k - 3) s ≡ bodyFault bits k s → leftFault bits 5 (source ∷ group ∷ afterFlow 5) (sourceStart type - 3) s ≡ bodyFault bits type s
       at k e p = rw e p
 
-      both : (k : ℕ) → leftFault bits k (source ∷ group ∷ []) 12 s ≡ leftFault bits k (distinguisher ∷ sourceAs ∷ source ∷ group ∷ []) 0 s
-      both k = left-fixed bits k sourceAs _ 4 8 s (λ y. refl) ∙ left-fixed bits k distinguisher _ 8 0 s (λ y. refl)
+      alike : (k : ℕ) → eqb k 3 ≡ false → leftFault bits 5 (source ∷ group ∷ []) 12 s ≡ leftFault bits k (source ∷ group ∷ []) 12 s
+      alike k e = left-other bits 5 k (source ∷ group ∷ []) 12 s refl e
+
+      both : (k : ℕ) → leftFault bits 5 (source ∷ group ∷ []) 12 s ≡ leftFault bits k (source ∷ group ∷ []) 12 s → leftFault bits 5 (source ∷ group ∷ []) 12 s ≡ leftFault bits k (distinguisher ∷ sourceAs ∷ source ∷ group ∷ []) 0 s
+      both k e = e ∙ left-fixed bits k sourceAs _ 4 8 s (λ y. refl) ∙ left-fixed bits k distinguisher _ 8 0 s (λ y. refl)

@@ -15,7 +15,7 @@ returns-2 : tie.Need-returns-2
 returns-2 c =
     let a = c .before .before .before .before .args in
     c .flow-fault .ensures
-    ∙ ap (λ (at : ℕ). leftFault (a .kind .bits) (a .route-type) (source ∷ group ∷ afterFlow (a .route-type)) (at - 3) (now (a .s))) (c .before .source-start .ensures)
+    ∙ ap (λ (at : ℕ). leftFault (a .kind .bits) 5 (source ∷ group ∷ afterFlow 5) (at - 3) (now (a .s))) (c .before .source-start .ensures)
     ∙ body-flow _ _ _ (search needs) (search needs)
 
 pub flow-body-fault-spec : {M : Type 1} → statement M
