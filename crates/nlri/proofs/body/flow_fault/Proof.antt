@@ -1,6 +1,6 @@
 -- `nlri::body::flow_fault` meets its contract.
 use native.Mathlib.Omega.{arith}
-use Rattle.nlri.proofs.Functions.Via.{refusals}
+use Rattle.octets.proofs.Tests.{refusals}
 use Rattle.nlri.specs.Inner.{addressThen, flowFault}
 use borrow.Author.Needs.{needs}
 use Rattle.nlri.proofs.body.flow_fault.Statement.{statement}

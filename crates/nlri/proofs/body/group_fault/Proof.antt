@@ -1,6 +1,6 @@
 -- `nlri::body::group_fault` meets its contract.
 use native.Mathlib.Omega.{arith}
-use Rattle.nlri.proofs.Functions.Via.{refusals}
+use Rattle.octets.proofs.Tests.{refusals}
 use Rattle.nlri.specs.Inner.{addressThen, groupFault}
 use borrow.Author.Needs.{needs}
 use Rattle.nlri.proofs.body.group_fault.Statement.{statement}
