@@ -34,7 +34,7 @@ pub octets-append : {xs ys : List ℕ} → AllOctets xs → AllOctets ys → All
 octets-append none b = b
 octets-append (one h a) b = one h (octets-append a b)
 
-octets-zeros : (n : ℕ) → AllOctets (replicate n 0)
+pub octets-zeros : (n : ℕ) → AllOctets (replicate n 0)
 octets-zeros zero = none
 octets-zeros (suc n) = let h : 0 < 256 = omega arith in one h (octets-zeros n)
 

@@ -1,9 +1,10 @@
 -- Laws of `pick`, `both` and `either`, and of the tests that they go by.
-use mathlib.Core.Path.{_≡_, refl, sym, _∙_}
-use mathlib.Core.Bool.{Bool, true, false}
+use mathlib.Core.Path.{_≡_, refl, sym, ap, _∙_}
+use mathlib.Core.Bool.{Bool, true, false, not}
 use mathlib.Core.Logic.{_⊎_, inl, inr}
 use Prim.Native.Nat.{ℕ}
 use native.Mathlib.Omega.{arith}
+use borrow.Author.Tests.{not-true, not-false}
 use Rattle.octets.specs.Choice.{pick, both, either}
 
 -- a test holds or fails
@@ -101,6 +102,11 @@ pub both-last : (a b c : Bool) → a ≡ true → c ≡ b → c ≡ both a b
 unfolding both
 both-last a b c p q = rw p q
 
+pub both-assoc : (a b c : Bool) → both (both a b) c ≡ both a (both b c)
+unfolding both
+both-assoc true b c = refl
+both-assoc false b c = refl
+
 pub either-left : (a b : Bool) → a ≡ true → either a b ≡ true
 unfolding either
 either-left a b p = rw p
@@ -139,6 +145,19 @@ flag-true flag b p q = sym p ∙ q
 
 pub flag-false : (flag b : Bool) → flag ≡ b → flag ≡ false → b ≡ false
 flag-false flag b p q = sym p ∙ q
+
+-- a test that the code made by its negation
+pub flag-off : (flag b : Bool) → flag ≡ b → not flag ≡ true → b ≡ false
+flag-off flag b p q = sym p ∙ not-true flag q
+
+pub flag-on : (flag b : Bool) → flag ≡ b → not flag ≡ false → b ≡ true
+flag-on flag b p q = sym p ∙ not-false flag q
+
+pub flag-not : (flag b c : Bool) → flag ≡ b → not flag ≡ c → not b ≡ c
+flag-not flag b c p q = sym (ap not p) ∙ q
+
+pub not-is : (flag b : Bool) → flag ≡ b → not flag ≡ not b
+not-is flag b p = ap not p
 
 pub true-is : (b : Bool) → b ≡ true → true ≡ b
 true-is b p = sym p

@@ -14,7 +14,7 @@ use borrow.Author.Tests.{ltb-true, ltb-false, eqb-true, eqb-false, eq-eqb, ne-eq
 use Rattle.octets.specs.Choice.{both}
 use Rattle.octets.specs.Octets.{AllOctets, none, one, part, numberIn}
 use Rattle.octets.specs.Order.{same, before, zeros, allZero}
-use Rattle.octets.proofs.Choice.{opposite, test-same, both-held, both-true-left, both-true-right, both-true, pick-true, pick-false, tested, is-false, is-true}
+use Rattle.octets.proofs.Choice.{opposite, test-same, both-held, both-true-left, both-true-right, both-true, both-assoc, pick-true, pick-false, tested, is-false, is-true}
 use Rattle.octets.proofs.AllOctets.{octets-part, number-below}
 use Rattle.octets.proofs.Lists.{length-part, take-then}
 use Rattle.octets.proofs.NetworkOrder.{number-high}
@@ -46,6 +46,17 @@ same-swapped xs ys =
     tested (same xs ys)
     (λ t. let e : xs ≡ ys = same-equal xs ys t in rw e)
     (λ f. f ∙ sym (unequal-other ys xs (λ e. other-unequal xs ys f (sym e))))
+
+-- octets compared, and others that they are
+module _ (flag : Bool) (xs zs ys : List ℕ) (are : zs ≡ xs) (told : flag ≡ same zs ys) where
+  pub same-is : flag ≡ same xs ys
+  same-is = rw (← are) told
+
+  pub same-on : flag ≡ true → same xs ys ≡ true
+  same-on h = sym same-is ∙ h
+
+  pub same-off : flag ≡ false → same xs ys ≡ false
+  same-off h = sym same-is ∙ h
 
 -- nothing comes before itself
 pub before-itself : (xs : List ℕ) → before xs xs ≡ false
@@ -263,11 +274,6 @@ lengths-decide a b n h e r q =
     (λ f.
     let l : length b ≤ length a = ltb-false _ _ f in
     rw (drop-of-length-le b {i = n} (omega arith), f) (none-after (drop n a))))
-
-both-assoc : (a b c : Bool) → both (both a b) c ≡ both a (both b c)
-unfolding both
-both-assoc true b c = refl
-both-assoc false b c = refl
 
 both-then-true : (a : Bool) → both a true ≡ a
 unfolding both

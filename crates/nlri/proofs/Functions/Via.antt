@@ -1,12 +1,10 @@
 -- What a `match` on an answer tells: how a definition goes on after a step, by the case that the step's answer was.
 use mathlib.Core.Path.{_≡_, sym, _∙_, ap}
-use mathlib.Core.Bool.{Bool, true, false, not}
 use Prim.Native.Nat.{ℕ}
-use borrow.Author.Tests.{not-true, not-false}
 use Rattle.octets.specs.Numbers.{DONE}
 use Rattle.octets.specs.Outcome.{Outcome, given, refused, onOutcome, numberOf}
 use Rattle.octets.proofs.Outcome.{goes, stops, on-given, on-refused}
-use Rattle.octets.proofs.Tests.{tests, flags}
+use Rattle.octets.proofs.Tests.{tests}
 use Rattle.nlri.specs.declared.layout.Layout.{Layout}
 use Rattle.nlri.specs.declared.layout.Reading.{Reading}
 use Rattle.nlri.specs.declared.layout.Reading.the-variants.{Nlri, Refused}
@@ -56,13 +54,6 @@ on-nlri t r o l bad good p q h = on-given t o l bad good (nlri-given r o l p q) 
 pub on-refusal : {B : Type 0} (t : B) (r : Reading) (o : Outcome Layout) (n : ℕ) (bad : ℕ → B) (good : Layout → B) → readingOf r ≡ o → r ≡ Refused n → t ≡ bad n → t ≡ onOutcome bad good o
 on-refusal t r o n bad good p q h = on-refused t o n bad good (reading-refused r o n p q) h
 
--- a test that the code made by its negation
-pub flag-off : (flag b : Bool) → flag ≡ b → not flag ≡ true → b ≡ false
-flag-off flag b p q = sym p ∙ not-true flag q
-
-pub flag-on : (flag b : Bool) → flag ≡ b → not flag ≡ false → b ≡ true
-flag-on flag b p q = sym p ∙ not-false flag q
-
 -- a number by the refusal, or by the value
 pub by-refusal : {A : Type 0} (n : ℕ) (o : Outcome A) → refused n ≡ o → n ≡ numberOf o
 unfolding numberOf
@@ -71,8 +62,6 @@ by-refusal n o e = ap numberOf e
 pub by-value : {A : Type 0} (a : A) (o : Outcome A) → given a ≡ o → DONE ≡ numberOf o
 unfolding numberOf
 by-value a o e = ap numberOf e
-
-pub ruleset refusals = (flags, flag-off, flag-on)
 
 pub group-is : (g : Group) (o p : Outcome ℕ) → g ≡ groupOf o → o ≡ p → g ≡ groupOf p
 group-is g o p e q = e ∙ ap groupOf q

@@ -1,10 +1,10 @@
 -- `nlri::body::group_fault` meets its contract.
 use mathlib.Core.Path.{refl, _∙_}
 use native.Mathlib.Omega.{arith}
+use Rattle.octets.proofs.Choice.{flag-off, flag-on}
 use Rattle.nlri.specs.Bodies.{group}
 use Rattle.nlri.specs.Reading.{fieldSize}
 use Rattle.nlri.proofs.Functions.Ends.{left-missing, left-wide, left-allowed}
-use Rattle.nlri.proofs.Functions.Via.{flag-off, flag-on}
 use borrow.Author.Needs.{needs}
 use Rattle.nlri.proofs.body.group_fault.Statement.{statement}
 use Rattle.nlri.proofs.body.group_fault.Tie as tie

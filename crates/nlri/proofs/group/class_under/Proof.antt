@@ -3,7 +3,8 @@ use mathlib.Core.Path.{_≡_, _∙_, subst}
 use Prim.Native.Nat.{ℕ}
 use denote.Ref.{now}
 use lib.ListN.{length}
-use Rattle.nlri.proofs.Functions.Via.{refusals, group-is}
+use Rattle.octets.proofs.Tests.{refusals}
+use Rattle.nlri.proofs.Functions.Via.{group-is}
 use Rattle.nlri.specs.Groups.{classUnder}
 use borrow.Author.Needs.{needs}
 use Rattle.nlri.proofs.group.class_under.Statement.{statement}

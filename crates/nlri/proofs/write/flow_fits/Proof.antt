@@ -1,6 +1,6 @@
 -- `nlri::write::flow_fits` meets its contract.
 use Rattle.nlri.specs.InnerWriting.{flowFits}
-use Rattle.nlri.proofs.Functions.Via.{refusals}
+use Rattle.octets.proofs.Tests.{refusals}
 use borrow.Author.Needs.{needs}
 use Rattle.nlri.proofs.write.flow_fits.Statement.{statement}
 use Rattle.nlri.proofs.write.flow_fits.Tie as tie

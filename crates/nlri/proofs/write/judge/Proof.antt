@@ -1,7 +1,8 @@
 -- `nlri::write::judge` meets its contract.
 use Rattle.nlri.specs.InnerWriting.{fitting}
+use Rattle.octets.proofs.Choice.{flag-off, flag-on}
 use Rattle.octets.proofs.Tests.{tests}
-use Rattle.nlri.proofs.Functions.Via.{flag-off, flag-on, by-refusal, by-value}
+use Rattle.nlri.proofs.Functions.Via.{by-refusal, by-value}
 use borrow.Author.Needs.{needs}
 use Rattle.nlri.proofs.write.judge.Statement.{statement}
 use Rattle.nlri.proofs.write.judge.Tie as tie

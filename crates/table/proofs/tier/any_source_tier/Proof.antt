@@ -1,5 +1,5 @@
 -- `table::tier::any_source_tier` meets its contract.
-use Rattle.nlri.proofs.Functions.Via.{refusals}
+use Rattle.octets.proofs.Tests.{refusals}
 use Rattle.table.specs.Scanning.{wildcard, anySourceTier}
 use borrow.Author.Needs.{needs}
 use Rattle.table.proofs.tier.any_source_tier.Statement.{statement}
