@@ -3,6 +3,7 @@
 pub mod Route
 pub mod Query
 pub mod Arguments
+pub mod SharedTree
 pub mod Place
 pub mod Table
 pub mod Matching
