@@ -1,7 +1,7 @@
 -- The match for a shared tree (C-*,C-G), asked of a PE (RFC 6625, section 3.2.2; request W-201): what the daemon tells, the refusals in their
 -- order, which conditions make a route eligible, and what is asked then.
 use Prim.Native.Nat.{ℕ, _*_}
-use mathlib.Core.Bool.{Bool, true, false, not}
+use mathlib.Core.Bool.{Bool, false, not}
 use mathlib.Core.List.{List, [], _∷_}
 use lib.ListN.{length}
 use lib.Dec.{ltb, leb, eqb}
@@ -9,7 +9,7 @@ use Rattle.octets.specs.Numbers.{DONE, LONG, FLOW, SPACE}
 use Rattle.octets.specs.Choice.{pick, both, either}
 use Rattle.octets.specs.Outcome.{Outcome, given, refused, onOutcome, unless, andThen, numberOf}
 use Rattle.octets.specs.Order.{same}
-use Rattle.lists.specs.LentLists.{Item, itemField, listCount, listItems, readList, firstItem}
+use Rattle.lists.specs.LentLists.{Item, itemField, listCount, listItems, readList, firstItem, everyItem, someItem}
 use Rattle.nlri.specs.Family.{familyBits, isOriginatorSize}
 use Rattle.nlri.specs.Fields.{Fields}
 use Rattle.nlri.specs.Groups.{ASM, classUnder}
@@ -30,14 +30,6 @@ pub record SharedTree : Type 0 where
 -- the most items of either list
 abbrev pub MOST_ITEMS : ℕ
 MOST_ITEMS = 256
-
--- every item of a list meets a test
-unfoldable pub everyItem : (Item → Bool) → List Item → Bool
-everyItem test items = firstItem (λ x. not (test x)) (λ x. false) true items
-
--- some item of a list meets a test
-unfoldable pub someItem : (Item → Bool) → List Item → Bool
-someItem test items = firstItem test (λ x. true) false items
 
 -- a Source Active route comes with an originator of 4 or 16 octets
 unfoldable pub originatorSized : Item → Bool
