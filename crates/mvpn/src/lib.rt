@@ -9,6 +9,7 @@ ghost use Rattle.nlri.specs.Groups.{classOf, groupOf};
 ghost use Rattle.nlri.specs.Answers.{structFields, nlriAnswer};
 ghost use Rattle.tunnel.specs.Answers.{readStruct, writeOutcome};
 ghost use Rattle.routes.specs.Query.{flowOf};
+ghost use Rattle.routes.specs.Asked.{ofFlow};
 ghost use Rattle.routes.specs.Calls.{makeOf, installOf, withdrawOf, matchOf};
 ghost use Rattle.mvpn.specs.Answers.{stepAnswer, attributeGiven, attributeRefused, attributeAnswer};
 use nlri::Group;
@@ -214,8 +215,8 @@ pub extern "C" fn mvpn_match(
     group: &[u8],
     output: &mut [u8],
 ) -> Matched
-    ensures { λ r. ⌜ r ≡ matchOf (now (table .entry)) (flowOf (now (router .entry)) (now (source .entry)) (now (group .entry))) (now (output .entry)) .answer ⌝ }
-    ensures { λ r. ⌜ now (output .exit) ≡ matchOf (now (table .entry)) (flowOf (now (router .entry)) (now (source .entry)) (now (group .entry))) (now (output .entry)) .octets ⌝ }
+    ensures { λ r. ⌜ r ≡ matchOf (now (table .entry)) (ofFlow (flowOf (now (router .entry)) (now (source .entry)) (now (group .entry)))) (now (output .entry)) .answer ⌝ }
+    ensures { λ r. ⌜ now (output .exit) ≡ matchOf (now (table .entry)) (ofFlow (flowOf (now (router .entry)) (now (source .entry)) (now (group .entry)))) (now (output .entry)) .octets ⌝ }
 {
     table::match_flow(table, router, source, group, output)
 }

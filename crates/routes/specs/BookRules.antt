@@ -10,6 +10,7 @@ use Rattle.octets.specs.Lists.{Among, Once}
 use Rattle.routes.specs.declared.Matched.{Matched}
 use Rattle.routes.specs.Route.{Route, route, absent, held, lookup, Distinct}
 use Rattle.routes.specs.Query.{Flow}
+use Rattle.routes.specs.Asked.{ofFlow}
 use Rattle.routes.specs.Answers.{Changed, NEW, REPLACED}
 use Rattle.routes.specs.Call.{Call, install, withdraw, match, Answer, installed, withdrawn, matched, nobody, owner, ownerOf}
 use Rattle.routes.specs.Book.{ownCalls, bookOf, allBooks, dueAnswer}
@@ -24,7 +25,7 @@ use Rattle.routes.specs.MatchRule.{InTier, Untold, MatchAnswer}
 pub data BelongsTo (afi : ℕ) (router : List ℕ) : Call → Type 0 where
   ownInstall : {nlri attribute : List ℕ} → SPmsiOf afi router nlri → BelongsTo afi router (install nlri attribute)
   ownWithdrawal : {nlri : List ℕ} → SPmsiOf afi router nlri → BelongsTo afi router (withdraw nlri)
-  ownMatch : {flow : Flow} {output : List ℕ} → flow .router ≡ router → (length router ≡ 4) ⊎ (length router ≡ 16) → BelongsTo afi router (match flow output)
+  ownMatch : {flow : Flow} {output : List ℕ} → flow .router ≡ router → (length router ≡ 4) ⊎ (length router ≡ 16) → BelongsTo afi router (match (ofFlow flow) output)
 
 -- any other call belongs to nobody
 abbrev pub Nobodys : ℕ → Call → Type 0
@@ -50,7 +51,7 @@ pub data RefusedCall (afi : ℕ) : Call → Answer → Type 0 where
       → RefusedCall afi (install nlri attribute) (installed (record { number = n; outcome = 0 }))
   refusedWithdrawal : {nlri : List ℕ} {n : ℕ} → n ≢ DONE → NlriRefusal afi nlri n → RefusedCall afi (withdraw nlri) (withdrawn n)
   refusedFlow : {flow : Flow} {output : List ℕ} {changed : Changed Matched} → FlowRefusal afi flow output (changed .answer .number) → Untold output changed
-      → RefusedCall afi (match flow output) (matched changed)
+      → RefusedCall afi (match (ofFlow flow) output) (matched changed)
 
 -- what a book answers to a call, and the book afterwards
 pub data BookStep (afi : ℕ) (book : List Route) : Call → Answer → (after : List Route) → Type 0 where
@@ -67,7 +68,7 @@ pub data BookStep (afi : ℕ) (book : List Route) : Call → Answer → (after :
   notInBook : {nlri : List ℕ} → SPmsi afi nlri → lookup nlri book ≡ absent → BookStep afi book (withdraw nlri) (withdrawn ABSENT) book
   -- any other match answers by the rule over the book's routes; the book stays
   matchedFlow : {flow : Flow} {output : List ℕ} {changed : Changed Matched} → GoodFlow afi flow → 124 ≤ length output
-      → MatchAnswer afi (flow .router) (InTier afi flow) output book changed → BookStep afi book (match flow output) (matched changed) book
+      → MatchAnswer afi (flow .router) (InTier afi flow) output book changed → BookStep afi book (match (ofFlow flow) output) (matched changed) book
 
 -- the books, under a family that a table can have
 pub record BookRule (afi : ℕ) : Type 0 where

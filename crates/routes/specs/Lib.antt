@@ -3,6 +3,8 @@
 pub mod Route
 pub mod Query
 pub mod Arguments
+pub mod SharedTree
+pub mod Asked
 pub mod Place
 pub mod Table
 pub mod Matching

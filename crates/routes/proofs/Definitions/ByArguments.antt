@@ -10,8 +10,8 @@ use Rattle.nlri.specs.Groups.{classUnder}
 use Rattle.nlri.proofs.Definitions.ReadNumbers.{ByReading, refuses-family, refuses-nlri}
 use Rattle.tunnel.specs.Attribute.{readAttribute}
 use Rattle.tunnel.specs.Identifier.{TableRow, identifierForms, formIn, formOf, readIdentifier}
-use Rattle.routes.specs.Query.{Flow}
 use Rattle.routes.specs.Arguments.{readSPmsi, readLabelled, readRoute, readFlow, readMatch}
+use Rattle.routes.specs.Asked.{Asked, ofFlow, readAsked}
 use Rattle.routes.specs.Call.{Call, install, withdraw, match, argued}
 
 -- a number that the table does not decide
@@ -46,9 +46,9 @@ class-argued : (bits : ℕ) (g : List ℕ) → Refuses ByArguments (classUnder b
 unfolding classUnder
 class-argued bits g = refuses-pick _ _ _ (refuses-pick _ _ _ (refuses-pick _ _ _ value value) (number (omega arith))) (number (omega arith))
 
-match-argued : (afi : ℕ) (flow : Flow) (output : List ℕ) → Refuses ByArguments (readMatch afi flow output)
-unfolding readMatch readFlow
-match-argued afi flow output =
+asked-argued : (afi : ℕ) (asked : Asked) (output : List ℕ) → Refuses ByArguments (readAsked afi asked output)
+unfolding readAsked readMatch readFlow
+asked-argued afi (ofFlow flow) output =
     refuses-then _ _
     (refuses-then _ _ (refuses-also by-reading (refuses-family afi))
     (λ bits. refuses-pick _ _ _ (refuses-pick _ _ _ (refuses-then _ _ (class-argued bits (flow .group)) (λ class. value)) (number (omega arith))) (number (omega arith))))
@@ -57,6 +57,9 @@ match-argued afi flow output =
 pub number-s-pmsi : (afi : ℕ) (nlri : List ℕ) (n : ℕ) → readSPmsi afi nlri ≡ refused n → ByArguments n
 number-s-pmsi afi nlri n e = refuses-by _ n (s-pmsi-argued afi nlri) e
 
+pub number-asked : (afi : ℕ) (asked : Asked) (output : List ℕ) (n : ℕ) → readAsked afi asked output ≡ refused n → ByArguments n
+number-asked afi asked output n e = refuses-by _ n (asked-argued afi asked output) e
+
 pub number-route : (afi : ℕ) (nlri attribute : List ℕ) (n : ℕ) → readRoute afi nlri attribute ≡ refused n → ByArguments n
 number-route afi nlri attribute n e = refuses-by _ n (route-argued afi nlri attribute) e
 
@@ -64,7 +67,7 @@ refuses-argued : (afi : ℕ) (c : Call) → Refuses ByArguments (argued afi c)
 unfolding argued
 refuses-argued afi (install nlri attribute) = refuses-then _ _ (route-argued afi nlri attribute) (λ r. value)
 refuses-argued afi (withdraw nlri) = refuses-then _ _ (s-pmsi-argued afi nlri) (λ f. value)
-refuses-argued afi (match flow output) = refuses-then _ _ (match-argued afi flow output) (λ q. value)
+refuses-argued afi (match asked output) = refuses-then _ _ (asked-argued afi asked output) (λ q. value)
 
 pub number-argued : (afi : ℕ) (c : Call) (n : ℕ) → argued afi c ≡ refused n → ByArguments n
 number-argued afi c n e = refuses-by _ n (refuses-argued afi c) e

@@ -59,14 +59,14 @@ classed afi g class e k =
     }
 
 -- what a match asks of a flow that it takes: the flow's query, by the class of its group
-pub record Asked (afi : ℕ) (flow : Flow) (q : Query) : Type 0 where
+pub record AskedFlow (afi : ℕ) (flow : Flow) (q : Query) : Type 0 where
   pub good : GoodFlow afi flow
   pub class : ℕ
   pub is : q ≡ flowQuery flow class
   pub specific : (class ≡ SSM) ↔ SourceSpecific afi (flow .group)
   pub other : (class ≡ ASM) ↔ (SourceSpecific afi (flow .group) → ⊥)
 
-pub asked-router : {afi : ℕ} {flow : Flow} {q : Query} → Asked afi flow q → q .router ≡ flow .router
+pub asked-router : {afi : ℕ} {flow : Flow} {q : Query} → AskedFlow afi flow q → q .router ≡ flow .router
 unfolding flowQuery
 asked-router a = ap (λ (x : Query). x .router) (a .is)
 
@@ -77,7 +77,7 @@ source-sized afi bits source ofFamily =
     (λ a. (λ h. inr (a .0, omega (arith, a .1)), λ h. ⊎-elim (λ b. absurd (omega (arith, a .0, b .0))) (λ b. omega (arith, a .1, b .1)) h))
     (lengths .families afi bits .0 ofFamily)
 
-pub flow-asked : (afi : ℕ) (flow : Flow) (q : Query) → readFlow afi flow ≡ given q → Asked afi flow q
+pub flow-asked : (afi : ℕ) (flow : Flow) (q : Query) → readFlow afi flow ≡ given q → AskedFlow afi flow q
 unfolding readFlow
 flow-asked afi flow q e =
     let p = passed _ _ _ e in
