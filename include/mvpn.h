@@ -223,6 +223,42 @@ enum {
 /* The octets of a table of `places` places. */
 #define MVPN_TABLE_SIZE(places) ((size_t)MVPN_TABLE_HEADER + (size_t)MVPN_PLACE * (size_t)(places))
 
+/*
+ * A list, as calls take it: a count of items (2 octets), then the items. An item is a fixed number of fields, which the call
+ * names; a field is its size (2 octets) and that many octets. A list that ends before its items do is SHORT, and the count of
+ * one of fewer than two octets is 0. Octets after the last item are not looked at.
+ */
+enum { MVPN_LIST_COUNT = 2, MVPN_FIELD_SIZE = 2 };
+
+/* The list that has no items. */
+static const uint8_t mvpn_no_items[MVPN_LIST_COUNT] = {0, 0};
+
+/* Starts a list of `count` items in `list`, a buffer of `space` octets: the octets it has so far, or 0 where there is no space. */
+static inline size_t
+mvpn_list_start(uint8_t *list, size_t space, uint16_t count)
+{
+    if (space < MVPN_LIST_COUNT) return 0;
+    list[0] = (uint8_t)(count >> 8);
+    list[1] = (uint8_t)(count & 255);
+    return MVPN_LIST_COUNT;
+}
+
+/*
+ * Appends a field to a list that has `size` octets: the octets it has then. 0, and nothing written, where there is no space,
+ * where the field has over 65,535 octets, and where `size` is 0, so that a caller may test the last answer alone.
+ */
+static inline size_t
+mvpn_list_field(uint8_t *list, size_t space, size_t size, const uint8_t *field, size_t field_len)
+{
+    size_t i;
+    if (size < MVPN_LIST_COUNT || space < size || 65535 < field_len) return 0;
+    if (space - size < MVPN_FIELD_SIZE + field_len) return 0;
+    list[size] = (uint8_t)(field_len >> 8);
+    list[size + 1] = (uint8_t)(field_len & 255);
+    for (i = 0; i < field_len; i++) list[size + MVPN_FIELD_SIZE + i] = field[i];
+    return size + MVPN_FIELD_SIZE + field_len;
+}
+
 /* Tiers of a match, in the order in which they are tried; no tier where no route matches. */
 enum {
     MVPN_NO_TIER = 0,
@@ -283,13 +319,8 @@ mvpn_matched mvpn_match(const uint8_t *table, size_t table_len, const uint8_t *r
                         const uint8_t *source, size_t source_len, const uint8_t *group, size_t group_len,
                         uint8_t *output, size_t output_len);
 
-/*
- * Lists that are lent: a count (2 octets, big-endian), then so many items. An item is a fixed number of fields; a field is
- * its size (2 octets, big-endian) and that many octets. Octets after the last item are not looked at. A list that ends
- * before its items do is refused with SHORT, right after its count was tested; the count of a list shorter than two octets
- * is 0, and such a list is SHORT. A list of no items is two octets of 0.
- */
-enum { MVPN_LIST_HEADER = 2, MVPN_MOST_ITEMS = 256 };
+/* The most items of each list of a match for a shared tree. */
+enum { MVPN_MOST_ITEMS = 256 };
 
 /* What the daemon knows of a shared tree (C-*,C-G) and the PE asked (RFC 6625, section 3.2.2); each is 0 or not. */
 typedef struct {
