@@ -119,7 +119,8 @@ static const answer_row answers[] = {
     { "a fact is any number but 0: 65,536", { PE1, G1, { .source_active_unused = 65536 }, NULL, NULL }, 3, &group_of_pe1 },
 
     { "Source Active, no state", { PE1, G1, NOTHING, "0001" ITEM(PE1, S1, G1), NULL }, 3, &group_of_pe1 },
-    { "Source Active of another RD", { PE1, G1, NOTHING, "0001 0004" PE1 "0014" ACTIVE("63", S1, G1), NULL }, 3, &group_of_pe1 },
+    { "Source Active of another RD",
+      { PE1, G1, NOTHING, "0001 0004" PE1 "0014" ACTIVE("63", S1, G1), NULL }, 3, &group_of_pe1 },
     { "Source Active with its state", { PE1, G1, NOTHING, "0001" ITEM(PE1, S1, G1), "0001" STATE(S1, G1) }, 0, NULL },
     { "its state behind another", { PE1, G1, NOTHING, "0001" ITEM(PE1, S1, G1), "0002" STATE(S2, G1) STATE(S1, G1) }, 0, NULL },
     { "state of another source", { PE1, G1, NOTHING, "0001" ITEM(PE1, S1, G1), "0001" STATE(S2, G1) }, 3, &group_of_pe1 },
@@ -141,7 +142,8 @@ static const answer_row answers[] = {
     { "with its state, and one of another group without",
       { PE1, G1, NOTHING, "0002" ITEM(PE1, S1, G1) ITEM(PE1, S2, G2), "0001" STATE(S1, G1) }, 0, NULL },
     { "states alone", { PE1, G1, NOTHING, NULL, "0001" STATE(S1, G1) }, 0, NULL },
-    { "upstream, whatever the states", { PE1, G1, UPSTREAM, "0001" ITEM(PE1, S1, G1), "0001" STATE(S1, G1) }, 3, &group_of_pe1 },
+    { "upstream, whatever the states",
+      { PE1, G1, UPSTREAM, "0001" ITEM(PE1, S1, G1), "0001" STATE(S1, G1) }, 3, &group_of_pe1 },
 
     { "tier 4, no condition", { PE2, G1, NOTHING, "0001" ITEM(PE1, S1, G1), NULL }, 0, NULL },
     { "tier 4, upstream", { PE2, G1, UPSTREAM, NULL, NULL }, 4, &any_of_pe2 },
@@ -396,7 +398,7 @@ static void most(lent table)
     const tree t = { PE1, G1, NOTHING, NULL, NULL };
     lent actives = most_items(PE1, ACTIVE("07", "C0000200", G1), 4 + 14), states = most_items("C0000200", G1, 3);
     lent output = lent_of(MVPN_MATCH_OUTPUT, FILL);
-    same_matched("256 Source Active routes with their states", match_lists(table, &t, actives, states, output), output, 0, NULL);
+    same_matched("256 routes with their states", match_lists(table, &t, actives, states, output), output, 0, NULL);
     states.at[states.size - 1] ^= 1;
     same_matched("the last of 256 without its state", match_lists(table, &t, actives, states, output), output, 3, group_of_pe1);
     memset(output.at, FILL, output.size);

@@ -134,7 +134,8 @@ RUN(match_none, MATCHES(source, 0))
 #define SHARED_GROUP 0xFF, 0x0E, 0, 0, 0, 0, 0, 0, 0, 0, 0, 0, 0, 0, 0, 1
 
 static const uint8_t shared_group[] = { SHARED_GROUP };
-static const uint8_t group_route[] = { 3, 42, RD, 0, 128, SHARED_GROUP, ORIGINATOR }, any_route[] = { 3, 26, RD, 0, 0, ORIGINATOR };
+static const uint8_t group_route[] = { 3, 42, RD, 0, 128, SHARED_GROUP, ORIGINATOR };
+static const uint8_t any_route[] = { 3, 26, RD, 0, 0, ORIGINATOR };
 static const uint8_t shared_active[] = { 5, 42, RD, 128, SOURCE, 128, SHARED_GROUP };
 
 static uint8_t shared_trees[sizeof full], any_trees[sizeof full];
