@@ -1,10 +1,10 @@
 /*
  * mvpn.h: MCAST-VPN NLRI (RFC 6514, RFC 6625) and the PMSI Tunnel attribute (RFC 6514, RFC 8556), read and written; one
  * VRF's S-PMSI A-D routes for one address family, kept in memory that the caller lends, and the route that a customer
- * flow (C-S,C-G) matches.
+ * flow (C-S,C-G) or a shared tree (C-*,C-G) takes.
  *
- * Best paths, Route Targets, BGP sessions and joining tunnels are the daemon's. BIDIR groups and (C-*,C-G) reception are
- * out of its scope.
+ * Best paths, Route Targets, BGP sessions and joining tunnels are the daemon's. So is the knowledge of a shared tree that its
+ * match is told: which PE is upstream, which groups are BIDIR-PIM, the Source Active routes and the (C-S,C-G) states.
  *
  * Every call ends with a stated answer on any octets. A call that refuses returns its number, changes no octet of any
  * buffer, and leaves every other field of its answer 0, but for the count and offset of a walk and the cursor of a step.
@@ -27,9 +27,9 @@
 #include <stdint.h>
 
 /* The version of this header and its archive; before 1.0.0 a new minor version may change calls. */
-#define MVPN_VERSION "0.3.0"
+#define MVPN_VERSION "0.4.0"
 #define MVPN_VERSION_MAJOR 0
-#define MVPN_VERSION_MINOR 3
+#define MVPN_VERSION_MINOR 4
 #define MVPN_VERSION_PATCH 0
 
 #ifdef __cplusplus
@@ -39,21 +39,21 @@ extern "C" {
 /* The numbers a call gives back. */
 enum {
     MVPN_DONE = 0,    /* the work was done */
-    MVPN_SHORT = 1,   /* fewer octets than the header, or than the Length field, asks */
+    MVPN_SHORT = 1,   /* fewer octets than the header, or than the Length field, asks; a list that ends before its items do */
     MVPN_TYPE = 2,    /* route type not 1 to 7 */
     MVPN_LENGTH = 3,  /* the body ends inside a field, or what remains is not the last field, or octets follow a single NLRI */
     MVPN_WIDTH = 4,   /* an address length that the type and family do not allow; at writing also an originator not of 4 or 16 octets */
     MVPN_KEY = 5,     /* a Leaf's key is not a well-formed NLRI of type 1, 2 or 3 */
     MVPN_TUNNEL = 6,  /* tunnel type not 0 to 7 or 11 */
     MVPN_IDENT = 7,   /* identifier not of that tunnel type's form */
-    MVPN_LONG = 8,    /* attribute over 64 octets, or run over 4,096 */
+    MVPN_LONG = 8,    /* attribute over 64 octets, run over 4,096, or list of more items than the call takes */
     MVPN_LABEL = 9,   /* BIER with label 0 at install; a label field over 16,777,215 at writing */
     MVPN_FAMILY = 10, /* AFI not 1 or 2 */
     MVPN_TABLE = 11,  /* lent memory is not a sound table; for making one: not of a table's size */
-    MVPN_KIND = 12,   /* well-formed NLRI, but not type 3 */
+    MVPN_KIND = 12,   /* well-formed NLRI, but not type 3; in a list of Source Active routes: not type 5 */
     MVPN_ROOM = 13,   /* new NLRI and every place taken */
     MVPN_ABSENT = 14, /* withdrawn NLRI not in the table */
-    MVPN_FLOW = 15,   /* router address not 4 or 16 octets, source or group not of the family's size, or group not multicast */
+    MVPN_FLOW = 15,   /* router or originator address not 4 or 16 octets, source or group not of the family's size, or group asked not multicast */
     MVPN_SPACE = 16   /* output buffer too small */
 };
 
@@ -210,8 +210,8 @@ mvpn_written mvpn_attribute_write(uint8_t flags, uint8_t tunnel_type, uint32_t l
  * PMSI Tunnel attribute. Routes stand in the order of their NLRIs, octet by octet, and every octet behind them is 0, so for
  * one family and number of places a set of routes has one image. A table may be copied, stored and lent again anywhere.
  *
- * Install, withdraw and match look at every octet of the table, and refuse one that is not sound; beyond that, their cost
- * grows with the places that are taken.
+ * Install, withdraw and both matches look at every octet of the table, and refuse one that is not sound; beyond that, their
+ * cost grows with the places that are taken.
  */
 enum {
     MVPN_TABLE_HEADER = 8,
