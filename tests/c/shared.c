@@ -23,6 +23,7 @@ _Static_assert(MVPN_LIST_COUNT == 2 && MVPN_FIELD_SIZE == 2 && MVPN_MOST_ITEMS =
 #define PE3 "0A000003 "
 #define PE4 "0A000004 "
 #define PE1_MAPPED "00000000 00000000 0000FFFF 0A000001 "
+#define PE1_EXTENDED "0A000001 00000000 00000000 00000000 "
 #define S1 "C0000201 "
 #define S2 "C0000202 "
 #define G1 "EF010101 "
@@ -136,6 +137,8 @@ static const answer_row answers[] = {
     { "Source Active of another PE", { PE1, G1, NOTHING, "0001" ITEM(PE2, S1, G1), NULL }, 0, NULL },
     { "Source Active of the PE in 16 octets",
       { PE1, G1, NOTHING, "0001 0010" PE1_MAPPED "0014" ACTIVE("07", S1, G1), NULL }, 0, NULL },
+    { "Source Active of a PE whose 16 octets begin as the PE's",
+      { PE1, G1, NOTHING, "0001 0010" PE1_EXTENDED "0014" ACTIVE("07", S1, G1), NULL }, 0, NULL },
     { "Source Active of another group", { PE1, G1, NOTHING, "0001" ITEM(PE1, S1, G2), NULL }, 0, NULL },
     { "with its state, and one of another PE without",
       { PE1, G1, NOTHING, "0002" ITEM(PE1, S1, G1) ITEM(PE2, S2, G1), "0001" STATE(S1, G1) }, 0, NULL },
@@ -157,6 +160,7 @@ static const answer_row answers[] = {
     { "a route of another group alone", { PE3, G2, ALL, NULL, NULL }, 0, NULL },
     { "a PE without routes", { "0A000005", G1, ALL, NULL, NULL }, 0, NULL },
     { "the PE in 16 octets", { PE1_MAPPED, G1, ALL, NULL, NULL }, 0, NULL },
+    { "a PE whose 16 octets begin as the PE's", { PE1_EXTENDED, G1, ALL, NULL, NULL }, 0, NULL },
     { "tier 3: the lowest RD, over a lower one of tier 4", { PE4, G1, UPSTREAM, NULL, NULL }, 3, &group_of_pe4 },
     { "tier 4: the lowest RD", { PE4, G2, UPSTREAM, NULL, NULL }, 4, &any_of_pe4 },
     { "SSM, every condition", { PE1, SSM, ALL, "0001" ITEM(PE1, S1, SSM), NULL }, 0, NULL },
