@@ -283,6 +283,49 @@ mvpn_matched mvpn_match(const uint8_t *table, size_t table_len, const uint8_t *r
                         const uint8_t *source, size_t source_len, const uint8_t *group, size_t group_len,
                         uint8_t *output, size_t output_len);
 
+/*
+ * Lists that are lent: a count (2 octets, big-endian), then so many items. An item is a fixed number of fields; a field is
+ * its size (2 octets, big-endian) and that many octets. Octets after the last item are not looked at. A list that ends
+ * before its items do is refused with SHORT, right after its count was tested; the count of a list shorter than two octets
+ * is 0, and such a list is SHORT. A list of no items is two octets of 0.
+ */
+enum { MVPN_LIST_HEADER = 2, MVPN_MOST_ITEMS = 256 };
+
+/* What the daemon knows of a shared tree (C-*,C-G) and the PE asked (RFC 6625, section 3.2.2); each is 0 or not. */
+typedef struct {
+    uint32_t upstream;             /* the PE is the upstream PE for the C-RP of the group */
+    uint32_t bidirectional;        /* the group is a BIDIR-PIM group */
+    uint32_t source_active_unused; /* Source Active A-D routes are not being used */
+} mvpn_shared_tree;
+
+/*
+ * The route that a shared tree (C-*,C-G) takes (RFC 6625, section 3.2.2), among those whose originator equals `router`, the
+ * PE asked, in size and octets. For an ASM group a route is eligible exactly when one of these holds:
+ *   - facts.upstream;
+ *   - one or more Source Active routes of the list are for this group and were originated by this PE, and for at least one of
+ *     them no state of the list has its source and its group;
+ *   - facts.bidirectional;
+ *   - facts.source_active_unused.
+ * It is told by the daemon, and not guessed from an empty list, that Source Active routes are not being used.
+ *
+ * `source_actives`: at most 256 items of two fields, the originator (4 or 16 octets) and the NLRI of a Source Active A-D
+ * route. `states`: at most 256 items of two fields, source and group of a (C-S,C-G) state, each of the family's size.
+ *
+ * TABLE; LONG (a count over 256, of either list); SHORT (either list ends before its items do); FLOW (router or an originator
+ * not of 4 or 16 octets, a state's source or group not of the family's size, a group not multicast or not of the family's
+ * size; only the group asked must be multicast); then for each Source Active route in turn NLRI reading under the table's AFI
+ * (LENGTH for octets after it) and KIND (not type 5); SPACE (an output under MVPN_MATCH_OUTPUT octets, also where nothing
+ * matches).
+ *
+ * The answer and the output are as those of a match: tier 3 with an eligible route of a wildcard source and this group, else
+ * tier 4 with an eligible route of both wildcards, else tier 0; ties go to the lowest route distinguisher. An SSM group gets
+ * tier 0, whatever is told.
+ */
+mvpn_matched mvpn_match_shared(const uint8_t *table, size_t table_len, const uint8_t *router, size_t router_len,
+                               const uint8_t *group, size_t group_len, mvpn_shared_tree facts,
+                               const uint8_t *source_actives, size_t source_actives_len,
+                               const uint8_t *states, size_t states_len, uint8_t *output, size_t output_len);
+
 #ifdef __cplusplus
 }
 #endif
