@@ -6,6 +6,7 @@
 
 mod report;
 mod routes;
+mod shared;
 mod table;
 
 use conformance::{
@@ -37,6 +38,7 @@ fn main() -> ExitCode {
     }
     groups(&mut report);
     table::rows(&mut report);
+    shared::rows(&mut report);
     if report.end() {
         ExitCode::SUCCESS
     } else {
