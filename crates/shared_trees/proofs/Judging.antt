@@ -1,27 +1,28 @@
 -- The refusals of a shared tree, case by case, as `judgedTree` has them in their order.
-use Prim.Native.Nat.{ℕ, _*_, _/_}
+use Prim.Native.Nat.{ℕ, _*_, _/_, _≤_, _<_}
 use mathlib.Core.Path.{_≡_, refl, sym, _∙_, ap}
 use mathlib.Core.Bool.{Bool, true, false}
 use mathlib.Core.List.{List}
-use mathlib.Core.Logic.{⊎-elim}
 use native.Mathlib.Omega.{arith}
-use borrow.Author.Tests.{eqb-true, eq-eqb, ne-eqb}
+use borrow.Author.Tests.{eqb-true, eqb-false, eq-eqb, ne-eqb}
 use lib.Dec.{leb, eqb}
 use lib.ListN.{length}
 use Rattle.octets.specs.Numbers.{DONE, SHORT, LONG, FLOW}
 use Rattle.octets.specs.Choice.{pick, both}
-use Rattle.octets.specs.Outcome.{Outcome, given, refused, andThen, numberOf}
-use Rattle.octets.proofs.Choice.{pick-true, pick-false, picks, skips, tested, opposite}
-use Rattle.octets.proofs.Outcome.{Refuses, value, number, refuses-pick, refuses-then, refuses-by, done-given, outcome, goes, stops, refused-of, and-cong}
-use Rattle.lists.specs.LentLists.{listCount, wholeList, listItems, readList}
+use Rattle.octets.specs.Outcome.{given, refused, onOutcome, andThen, numberOf}
+use Rattle.octets.proofs.Choice.{pick-true, pick-false, pick-case, tested}
+use Rattle.octets.proofs.Outcome.{Refuses, value, number, refuses-pick, refuses-then, refuses-by, done-given, goes, stops, refused-of, given-unless, passed, given-same}
+use Rattle.lists.specs.LentLists.{Item, listCount, wholeList, listItems, readList, everyItem}
 use Rattle.nlri.specs.declared.group.Group.{Group}
 use Rattle.nlri.specs.Family.{familyBits, isOriginatorSize}
 use Rattle.nlri.specs.Groups.{classUnder, classOf, groupOf}
-use Rattle.nlri.proofs.Definitions.Lengths.{family-octets}
-use Rattle.routes.specs.SharedTree.{SharedTree, MOST_ITEMS, everyItem, originatorSized, stateSized, sourceActiveFault, judgedTree}
+use Rattle.nlri.proofs.Definitions.Lengths.{family-octets, originator-sized}
+use Rattle.nlri.proofs.Definitions.Families.{family-least}
+use Rattle.routes.specs.SharedTree.{SharedTree, MOST_ITEMS, originatorSized, stateSized, sourceActiveFault, judgedTree}
 use Rattle.routes.proofs.Definitions.Flows.{class-under}
 use Rattle.shared_trees.specs.declared.Facts.{Facts}
-use Rattle.shared_trees.specs.Told.{treeOf, listsFault, addressesSized, classUnless, judgedWhole}
+use Rattle.shared_trees.specs.Told.{treeOf, listsFault, addressesSized, classUnless, judgedWhole, Judged}
+use Rattle.shared_trees.proofs.SourceActives.{all-bounded}
 
 -- no refusal of a group's class is DONE
 class-refuses : (afi : ℕ) (g : List ℕ) → Refuses (λ n. n ≡ DONE → ⊥) (classOf afi g)
@@ -65,6 +66,66 @@ module _ (afi bits : ℕ) (router group sourceActives states : List ℕ) where
       pub whole-done : fault ≡ DONE → class ≡ groupOf (judgedWhole afi bits router group sourceActives states)
       unfolding classUnless
       whole-done h = is ∙ ap groupOf (class-done afi group class is done .1 ∙ sym (by-class ∙ pick-true _ _ _ (eq-eqb _ _ h)))
+
+-- no refusal of a shared tree is DONE
+tree-refuses : (afi : ℕ) (tree : SharedTree) → Refuses (λ n. n ≡ DONE → ⊥) (judgedTree afi tree)
+unfolding judgedTree readList familyBits classUnder
+tree-refuses afi tree =
+    refuses-then _ _ (refuses-pick _ _ _ value (refuses-pick _ _ _ value (number (λ e. omega arith))))
+    (λ bits. refuses-pick _ _ _ (refuses-pick _ _ _
+    (refuses-then _ _ (refuses-pick _ _ _ value (number (λ e. omega arith)))
+    (λ a. refuses-then _ _ (refuses-pick _ _ _ value (number (λ e. omega arith)))
+    (λ b. refuses-pick _ _ _ (refuses-pick _ _ _ (refuses-pick _ _ _
+    (refuses-then _ _ (refuses-pick _ _ _ (refuses-pick _ _ _ (refuses-pick _ _ _ value value) (number (λ e. omega arith))) (number (λ e. omega arith)))
+    (λ class. pick-case (Refuses (λ n. n ≡ DONE → ⊥)) _ _ _ (λ done. value) (λ fault. number (eqb-false _ _ fault))))
+    (number (λ e. omega arith))) (number (λ e. omega arith))) (number (λ e. omega arith)))))
+    (number (λ e. omega arith))) (number (λ e. omega arith)))
+
+-- what the function answers with DONE is the class, and any other number the refusal's
+module _ (afi : ℕ) (tree : SharedTree) (class : Group) (is : class ≡ groupOf (judgedTree afi tree)) where
+  pub tree-refused : (class .number ≡ DONE → ⊥) → judgedTree afi tree ≡ refused (class .number)
+  unfolding groupOf
+  tree-refused h = refused-of _ _ (ap (λ (c : Group). c .number) is) h
+
+  pub tree-given : class .number ≡ DONE → judgedTree afi tree ≡ given (class .«group_class»)
+  unfolding groupOf onOutcome
+  tree-given h =
+      let p = done-given (judgedTree afi tree) (λ n q. refuses-by _ n (tree-refuses afi tree) q) (sym (ap (λ (c : Group). c .number) is) ∙ h) in
+      p .1 ∙ ap given (sym (ap (λ (c : Group). c .«group_class») is ∙ ap (onOutcome (λ number. 0) (λ c. c)) (p .1)))
+
+-- what a shared tree that is not refused is: its lists and their NLRIs as `is_eligible` asks, a group, and a router address of four octets or more
+pub record Accepted (afi : ℕ) (tree : SharedTree) : Type 0 where
+  pub judged : Judged (tree .sourceActives) (tree .states)
+  pub read : sourceActiveFault afi (listItems 2 (tree .sourceActives)) ≡ DONE
+  pub grouped : 0 < length (tree .group)
+  pub routed : 4 ≤ length (tree .router)
+
+-- a list that is read
+list-read : (list : List ℕ) (items : List Item) → readList 2 list ≡ given items → (wholeList 2 list ≡ true) × (listItems 2 list ≡ items)
+unfolding readList
+list-read list items e = let p = given-unless _ _ _ _ e in (p .0, given-same (p .1))
+
+pub tree-accepted : (afi : ℕ) (tree : SharedTree) (class : ℕ) → judgedTree afi tree ≡ given class → Accepted afi tree
+unfolding judgedTree classUnder
+tree-accepted afi tree class e =
+    let bits = passed _ _ _ e in
+    let counts = given-unless _ _ _ _ (given-unless _ _ _ _ (bits .second) .1) in
+    let a = passed _ _ _ (counts .1) in
+    let b = passed _ _ _ (a .second) in
+    let router = given-unless _ _ _ _ (b .second) in
+    let group = passed _ _ _ (given-unless _ _ _ _ (given-unless _ _ _ _ (router .1) .1) .1) in
+    let actives = list-read _ _ (a .first) in
+    let none : sourceActiveFault afi (listItems 2 (tree .sourceActives)) ≡ DONE = ap (sourceActiveFault afi) (actives .1) ∙ done-of _ _ _ (group .second) in
+    let sized : length (tree .group) ≡ bits .value / 8 = eqb-true _ _ (given-unless _ _ _ _ (group .first) .0) in
+    record {
+      judged = record { listed = actives .0; held = list-read _ _ (b .first) .0; stand = all-bounded afi _ none };
+      read = none;
+      grouped = omega (arith, family-least afi (bits .value) (bits .first));
+      routed = omega (arith, originator-sized _ (router .0));
+    }
+  where
+    done-of : (n class k : ℕ) → pick (eqb n DONE) (given class) (refused n) ≡ given k → n ≡ DONE
+    done-of n class k e = eqb-true _ _ (given-unless _ _ _ _ e .0)
 
 -- a test of two by one after the other
 both-unless : {A : Type 0} (a b : Bool) (x y : A) → pick (both a b) x y ≡ pick a (pick b x y) y

@@ -1,4 +1,4 @@
 -- Laws that the functions' proofs use.
 pub mod Sized
-pub mod Judging
 pub mod SourceActives
+pub mod Judging

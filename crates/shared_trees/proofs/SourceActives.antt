@@ -14,7 +14,7 @@ use Rattle.octets.specs.Octets.{part}
 use Rattle.octets.specs.Order.{same}
 use Rattle.octets.proofs.Choice.{pick-true, pick-false, tested, opposite, is-true, both-left, both-last, either-left, either-second, either-false, either-last, flag-off, flag-on}
 use Rattle.octets.proofs.Outcome.{value, number, Refuses, refuses-also, refuses-pick, refuses-then, refuses-by, done-given, given-unless, passed, given-same, number-picks, number-skips, number-goes, number-stops, on-given}
-use Rattle.lists.specs.LentLists.{Item, itemField, frontItem, afterItem, listItems, firstItem}
+use Rattle.lists.specs.LentLists.{Item, itemField, frontItem, afterItem, listItems, firstItem, everyItem, someItem}
 use Rattle.lists.proofs.Going.{Going, going-next, going-stop}
 use Rattle.lists.proofs.Fields.{item-field-of}
 use Rattle.nlri.specs.declared.layout.Layout.{Layout}
@@ -27,7 +27,7 @@ use Rattle.nlri.proofs.Definitions.ReadNumbers.{refuses-nlri}
 use Rattle.nlri.proofs.Functions.Singles.{ReadAt, read-at, read-by-layout, read-refused}
 use Rattle.nlri.proofs.Functions.Via.{nlri-given, reading-refused}
 use Rattle.routes.specs.Arguments.{readOfType}
-use Rattle.routes.specs.SharedTree.{SharedTree, everyItem, someItem, readSourceActive, sourceActiveFault, isState, lacksState, conditionHolds}
+use Rattle.routes.specs.SharedTree.{SharedTree, readSourceActive, sourceActiveFault, isState, lacksState, conditionHolds}
 use Rattle.shared_trees.specs.Told.{sourceIn, groupIn, groupEnd, Bounded, bounded, withoutState, withoutStateAt}
 
 -- the number of an NLRI that is to be of a type, by what reading its layout answers

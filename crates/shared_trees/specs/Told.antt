@@ -10,11 +10,11 @@ use Rattle.octets.specs.Choice.{pick, both}
 use Rattle.octets.specs.Outcome.{Outcome, given, refused, unless, andThen}
 use Rattle.octets.specs.Octets.{part}
 use Rattle.octets.specs.Order.{same}
-use Rattle.lists.specs.LentLists.{Item, itemField, listCount, wholeList, listItems}
+use Rattle.lists.specs.LentLists.{Item, itemField, listCount, wholeList, listItems, everyItem, someItem}
 use Rattle.nlri.specs.Family.{isOriginatorSize}
 use Rattle.nlri.specs.Groups.{classOf}
 use Rattle.nlri.specs.Inner.{sizeAt}
-use Rattle.routes.specs.SharedTree.{SharedTree, MOST_ITEMS, everyItem, someItem, originatorSized, stateSized, sourceActiveFault, isState}
+use Rattle.routes.specs.SharedTree.{SharedTree, MOST_ITEMS, originatorSized, stateSized, sourceActiveFault, isState}
 use Rattle.shared_trees.specs.declared.Facts.{Facts}
 
 -- the shared tree of a call's arguments: a fact holds where it is not 0

@@ -17,3 +17,4 @@ pub mod Taken
 pub mod BestRoutes
 pub mod FlowClasses
 pub mod Matches
+pub mod SharedMatches

@@ -23,10 +23,10 @@ use octets::number::TABLE;
 use routes::Matched;
 
 // An output that every route fits into.
-const LEAST_OUTPUT: usize = 124;
+pub(crate) const LEAST_OUTPUT: usize = 124;
 
 // The search, with these tiers open.
-fn search(
+pub(crate) fn search(
     table: &[u8],
     router: &[u8],
     source: &[u8],

@@ -2,8 +2,7 @@
 use mathlib.Core.Bool.{true, false, not}
 use lib.ListN.{drop}
 use Rattle.octets.proofs.Choice.{flag-false}
-use Rattle.lists.specs.LentLists.{firstItem}
-use Rattle.routes.specs.SharedTree.{everyItem, someItem}
+use Rattle.lists.specs.LentLists.{firstItem, everyItem, someItem}
 use Rattle.shared_trees.specs.Told.{bounded, withoutStateAt}
 use Rattle.lists.proofs.Going.{Going, going, going-here, going-next}
 use Rattle.shared_trees.proofs.SourceActives.{going-every, going-every-next}

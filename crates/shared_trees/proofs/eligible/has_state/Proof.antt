@@ -1,8 +1,8 @@
 -- `shared_trees::eligible::has_state` meets its contract.
 use mathlib.Core.Bool.{true, false}
 use lib.ListN.{drop}
-use Rattle.lists.specs.LentLists.{firstItem}
-use Rattle.routes.specs.SharedTree.{someItem, isState}
+use Rattle.lists.specs.LentLists.{firstItem, someItem}
+use Rattle.routes.specs.SharedTree.{isState}
 use Rattle.lists.proofs.Going.{Going, going}
 use Rattle.shared_trees.proofs.eligible.has_state.Statement.{statement}
 use Rattle.shared_trees.proofs.eligible.has_state.Tie as tie

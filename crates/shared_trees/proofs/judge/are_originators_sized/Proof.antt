@@ -1,8 +1,8 @@
 -- `shared_trees::judge::are_originators_sized` meets its contract.
 use mathlib.Core.Bool.{true, false, not}
 use lib.ListN.{drop}
-use Rattle.lists.specs.LentLists.{firstItem}
-use Rattle.routes.specs.SharedTree.{everyItem, originatorSized}
+use Rattle.lists.specs.LentLists.{firstItem, everyItem}
+use Rattle.routes.specs.SharedTree.{originatorSized}
 use Rattle.lists.proofs.Going.{Going, going}
 use Rattle.shared_trees.proofs.judge.are_originators_sized.Statement.{statement}
 use Rattle.shared_trees.proofs.judge.are_originators_sized.Tie as tie

@@ -2,8 +2,8 @@
 use Prim.Native.Nat.{_*_}
 use mathlib.Core.Bool.{true, false, not}
 use lib.ListN.{drop}
-use Rattle.lists.specs.LentLists.{firstItem}
-use Rattle.routes.specs.SharedTree.{everyItem, stateSized}
+use Rattle.lists.specs.LentLists.{firstItem, everyItem}
+use Rattle.routes.specs.SharedTree.{stateSized}
 use Rattle.lists.proofs.Going.{Going, going}
 use Rattle.shared_trees.proofs.judge.are_states_sized.Statement.{statement}
 use Rattle.shared_trees.proofs.judge.are_states_sized.Tie as tie
