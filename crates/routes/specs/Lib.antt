@@ -19,6 +19,7 @@ pub mod ArgumentRules
 pub mod Images
 pub mod CallRules
 pub mod MatchRule
+pub mod SharedTreeRule
 pub mod LastInstalled
 pub mod BookRules
 pub mod MixedCalls

@@ -26,7 +26,7 @@ use routes::Matched;
 pub const LEAST_OUTPUT: usize = 124;
 
 // The search, with these tiers open.
-fn search(
+pub(crate) fn search(
     table: &[u8],
     router: &[u8],
     source: &[u8],

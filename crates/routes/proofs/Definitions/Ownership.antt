@@ -14,11 +14,12 @@ use Rattle.nlri.specs.Fields.{Fields}
 use Rattle.routes.specs.Route.{Route, route, nlriOf, attributeOf}
 use Rattle.routes.specs.Query.{Query}
 use Rattle.routes.specs.Arguments.{readSPmsi, readRoute}
-use Rattle.routes.specs.Asked.{Asked, ofFlow, askedRouter, readAsked}
+use Rattle.routes.specs.Asked.{Asked, ofFlow, ofSharedTree, askedRouter, readAsked}
 use Rattle.routes.specs.Place.{acceptable}
 use Rattle.routes.specs.Call.{match, Owner, nobody, owner, originatorOf, ownerOf, ownedBy}
 use Rattle.nlri.proofs.Theorems.{lengths}
 use Rattle.routes.proofs.Definitions.Flows.{asked-router, flow-asked}
+use Rattle.routes.proofs.Definitions.SharedTrees.{asked-tree-router, tree-asked}
 use Rattle.routes.proofs.Statements.ArgumentRules.{flow-passed}
 use Rattle.routes.proofs.Definitions.Bounds.{accepted, route-read, read-acceptable, nlri-size}
 
@@ -63,6 +64,7 @@ owners-same p q = cc
 pub query-router : (afi : ℕ) (asked : Asked) (output : List ℕ) (q : Query) → readAsked afi asked output ≡ given q → (q .router ≡ askedRouter asked) × (isOriginatorSize (length (askedRouter asked)) ≡ true)
 unfolding readAsked askedRouter
 query-router afi (ofFlow flow) output q e = let a = flow-asked afi flow q (flow-passed afi flow output q e .0) in (asked-router a, lengths .originators (length (flow .router)) .1 (a .good .addressed))
+query-router afi (ofSharedTree tree) output q e = let a = tree-asked afi tree output q e in (asked-tree-router a, lengths .originators (length (tree .router)) .1 (a .good .addressed .router))
 
 pub match-owner : (afi : ℕ) (asked : Asked) (output : List ℕ) → isOriginatorSize (length (askedRouter asked)) ≡ true → ownerOf afi (match asked output) ≡ owner (askedRouter asked)
 unfolding ownerOf

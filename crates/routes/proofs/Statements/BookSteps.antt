@@ -10,20 +10,20 @@ use Rattle.octets.proofs.Outcome.{never, outcome, stopped, goes, stops}
 use Rattle.routes.specs.Route.{Route, route, nlriOf, held, holds, Distinct}
 use Rattle.routes.specs.Query.{Query}
 use Rattle.routes.specs.Arguments.{readSPmsi, readRoute}
-use Rattle.routes.specs.Asked.{Asked, ofFlow, readAsked}
+use Rattle.routes.specs.Asked.{Asked, ofFlow, ofSharedTree, readAsked}
 use Rattle.routes.specs.Place.{AllAcceptable}
 use Rattle.routes.specs.Answers.{NEW, REPLACED, installedOf, matchedBy}
 use Rattle.routes.specs.Call.{Call, install, withdraw, match, Act, enter, leave, ask, argued, refusalAnswer}
 use Rattle.routes.specs.Book.{entered, actAnswer, actAfter, bookAnswer, bookAfter}
 use Rattle.routes.specs.ArgumentRules.{KnownFamily, SPmsi, Labelled}
 use Rattle.routes.specs.CallRules.{HeldNow}
-use Rattle.routes.specs.BookRules.{RefusedCall, refusedInstall, refusedWithdrawal, refusedFlow, BookStep, refusal, replacedRoute, newRoute, takenOut, notInBook, matchedFlow}
+use Rattle.routes.specs.BookRules.{RefusedCall, refusedInstall, refusedWithdrawal, refusedFlow, refusedTree, BookStep, refusal, replacedRoute, newRoute, takenOut, notInBook, matchedFlow, matchedTree}
 use Rattle.routes.proofs.Definitions.Lookups.{lookup-entered, held-now, removed-now, held-holds, absent-holds, removed-absent}
 use Rattle.routes.proofs.Definitions.Bounds.{route-read}
-use Rattle.routes.proofs.Definitions.Flows.{flow-asked}
-use Rattle.routes.proofs.Statements.ArgumentRules.{argumentRule, nlri-accepted, flow-passed}
+use Rattle.routes.proofs.Statements.ArgumentRules.{argumentRule, nlri-accepted}
 use Rattle.routes.proofs.Definitions.ByArguments.{number-argued}
-use Rattle.routes.proofs.Statements.MatchRule.{flow-answer}
+use Rattle.routes.proofs.Statements.MatchRule.{served-answer, served-flow}
+use Rattle.routes.proofs.Statements.SharedTreeRule.{served-tree}
 
 -- an install's NLRI has its attribute
 held-entered : (nlri attribute : List ℕ) (book : List Route) → HeldNow nlri (held (route nlri attribute)) book (entered (route nlri attribute) book)
@@ -42,7 +42,9 @@ module _ (afi : ℕ) (bits : KnownFamily afi) where
       refusedInstall (number-argued afi (install nlri attribute) n e .0) (argumentRule .refusedRoute afi nlri attribute n .0 (first-refuses _ _ n e))
   refused-call (withdraw nlri) n e = refusedWithdrawal (number-argued afi (withdraw nlri) n e .0) (argumentRule .refusedNlri afi nlri n .0 (first-refuses _ _ n e))
   refused-call (match (ofFlow flow) output) n e =
-      refusedFlow (argumentRule .refusedFlow afi flow output n bits .0 (first-refuses _ _ n e)) (record { tierless = refl; sizes = (refl, refl); untouched = refl })
+      refusedFlow (served-flow flow .refuses afi output n bits .0 (first-refuses _ _ n e)) (record { tierless = refl; sizes = (refl, refl); untouched = refl })
+  refused-call (match (ofSharedTree tree) output) n e =
+      refusedTree (served-tree tree .refuses afi output n bits .0 (first-refuses _ _ n e)) (record { tierless = refl; sizes = (refl, refl); untouched = refl })
 
   module _ {book : List Route} (d : Distinct book) (a : AllAcceptable afi book) where
     by-refusal : (c : Call) (n : ℕ) → argued afi c ≡ refused n → BookStep afi book c (bookAnswer afi book c) (bookAfter afi book c)
@@ -71,9 +73,8 @@ module _ (afi : ℕ) (bits : KnownFamily afi) where
     ask-step : (asked : Asked) (output : List ℕ) (q : Query) → readAsked afi asked output ≡ given q
         → BookStep afi book (match asked output) (actAnswer afi book (ask q output)) (actAfter book (ask q output))
     unfolding readAsked actAnswer actAfter
-    ask-step (ofFlow flow) output q e =
-        let p = flow-passed afi flow output q e in
-        matchedFlow (flow-asked afi flow q (p .0) .good) (p .1) (flow-answer afi flow q (p .0) output (p .1) book d a)
+    ask-step (ofFlow flow) output q e = let h = served-flow flow .takes afi output .0 (q, e) in matchedFlow (h .0) (h .1) (served-answer (served-flow flow) afi output q e book d a)
+    ask-step (ofSharedTree tree) output q e = let h = served-tree tree .takes afi output .0 (q, e) in matchedTree (h .0) (h .1) (served-answer (served-tree tree) afi output q e book d a)
 
     pub book-step : (c : Call) → BookStep afi book c (bookAnswer afi book c) (bookAfter afi book c)
     unfolding argued

@@ -29,7 +29,7 @@ use Rattle.routes.proofs.Definitions.ByArguments.{number-asked}
 use Rattle.routes.proofs.Definitions.Lookups.{acceptable-member, distinct-increasing}
 use Rattle.routes.proofs.Definitions.Bounds.{Sized, sizes-of}
 use Rattle.routes.proofs.Statements.Images.{sound-holdable}
-use Rattle.routes.proofs.Definitions.Flows.{AskedFlow, asked-router, flow-asked}
+use Rattle.routes.proofs.Definitions.Flows.{asked-router, flow-asked}
 use Rattle.routes.proofs.Definitions.First.{wantedAt}
 use Rattle.routes.proofs.Statements.Taken.{found-taken, nothing-taken, flow-exactly}
 
@@ -58,66 +58,62 @@ unfolding matchedBy onOutcome foundAnswer
 found-number output nothing = refl
 found-number output (found tier r) = refl
 
+-- a query that asks of a router what the conditions of its tiers say
+pub record Asks (afi : ℕ) (router : List ℕ) (In : (tier : ℕ) → Fields → Type 0) (q : Query) : Type 0 where
+  pub of : q .router ≡ router
+  pub exactly : (tier : ℕ) (f : Fields) → (meets (wantedAt 1 tier (q .tiers)) f ≡ true) ↔ In tier f
+
+nothing-untold : (output : List ℕ) → Untold output (matchedBy (given nothing) output)
+unfolding matchedBy onOutcome foundAnswer foundOutput
+nothing-untold output = record { tierless = refl; sizes = (refl, refl); untouched = refl }
+
+found-told : (output : List ℕ) → 124 ≤ length output → (tier : ℕ) (r : Route) → Sized r → Told tier r output (matchedBy (given (found tier r)) output)
+unfolding matchedBy onOutcome foundAnswer foundOutput
+found-told output enough tier r sized =
+    let fits : length (nlriOf r) + length (attributeOf r) ≤ 124 = omega (arith, sized .nlri, sized .attribute) in
+    let fronts = front-two (nlriOf r) (attributeOf r) output (omega arith) in
+    record {
+      number = refl;
+      ofTier = refl;
+      sizes = (refl, refl);
+      most = fits;
+      size = fronts .0;
+      nlri = fronts .1;
+      attribute = fronts .2;
+      past = fronts .3;
+    }
+
 -- what a match of any kind comes to, over any routes that a table or a book may hold
-module _ (afi : ℕ) (q : Query) (In : (tier : ℕ) → Fields → Type 0) (exactly : (tier : ℕ) (f : Fields) → (meets (wantedAt 1 tier (q .tiers)) f ≡ true) ↔ In tier f) (output : List ℕ) (enough : 124 ≤ length output) where
-  nothing-untold : Untold output (matchedBy (given nothing) output)
-  unfolding matchedBy onOutcome foundAnswer foundOutput
-  nothing-untold = record { tierless = refl; sizes = (refl, refl); untouched = refl }
+module _ {afi : ℕ} {router : List ℕ} {In : (tier : ℕ) → Fields → Type 0} {q : Query} (asks : Asks afi router In q) (rs : List Route) where
+  pub asks-found : Distinct rs → (tier : ℕ) (r : Route) → (matchIn afi q rs ≡ found tier r) ↔ Taken afi router In rs tier r
+  asks-found d tier r = subst (λ (x : List ℕ). (matchIn afi q rs ≡ found tier r) ↔ Taken afi x In rs tier r) (asks .of) (found-taken afi q In (asks .exactly) rs d tier r)
 
-  found-told : (tier : ℕ) (r : Route) → Sized r → Told tier r output (matchedBy (given (found tier r)) output)
-  unfolding matchedBy onOutcome foundAnswer foundOutput
-  found-told tier r sized =
-      let fits : length (nlriOf r) + length (attributeOf r) ≤ 124 = omega (arith, sized .nlri, sized .attribute) in
-      let fronts = front-two (nlriOf r) (attributeOf r) output (omega arith) in
-      record {
-        number = refl;
-        ofTier = refl;
-        sizes = (refl, refl);
-        most = fits;
-        size = fronts .0;
-        nlri = fronts .1;
-        attribute = fronts .2;
-        past = fronts .3;
-      }
+  pub asks-nothing : (matchIn afi q rs ≡ nothing) ↔ NoneTaken afi router In rs
+  asks-nothing = subst (λ (x : List ℕ). (matchIn afi q rs ≡ nothing) ↔ NoneTaken afi x In rs) (asks .of) (nothing-taken afi q In (asks .exactly) rs)
 
-  match-answer : (rs : List Route) → Distinct rs → AllAcceptable afi rs → MatchAnswer afi (q .router) In output rs (matchedBy (given (matchIn afi q rs)) output)
-  match-answer rs d a = go (matchIn afi q rs) refl
+  pub asks-answer : (output : List ℕ) → 124 ≤ length output → Distinct rs → AllAcceptable afi rs → MatchAnswer afi router In output rs (matchedBy (given (matchIn afi q rs)) output)
+  asks-answer output enough d a = go (matchIn afi q rs) refl
     where
-      go : (f : Found) → matchIn afi q rs ≡ f → MatchAnswer afi (q .router) In output rs (matchedBy (given f) output)
-      go nothing x = noneTold (nothing-taken afi q In exactly rs .0 x) (found-number output nothing) nothing-untold
+      go : (f : Found) → matchIn afi q rs ≡ f → MatchAnswer afi router In output rs (matchedBy (given f) output)
+      go nothing x = noneTold (asks-nothing .0 x) (found-number output nothing) (nothing-untold output)
       go (found tier r) x =
-          let taken = found-taken afi q In exactly rs d tier r .0 x in
-          oneTold tier r taken (found-told tier r (sizes-of afi r (acceptable-member a (taken .member))))
+          let taken = asks-found d tier r .0 x in
+          oneTold tier r taken (found-told output enough tier r (sizes-of afi r (acceptable-member a (taken .member))))
 
--- what a flow's match comes to
-module _ (afi : ℕ) (flow : Flow) (q : Query) (e : readFlow afi flow ≡ given q) where
-  asked-flow : AskedFlow afi flow q
-  asked-flow = flow-asked afi flow q e
-
-  -- what holds of the query's router holds of the flow's
-  of-router : (P : List ℕ → Type 0) → P (q .router) → P (flow .router)
-  of-router P p = subst P (asked-router asked-flow) p
-
-  pub flow-answer : (output : List ℕ) → 124 ≤ length output → (rs : List Route) → Distinct rs → AllAcceptable afi rs
-      → MatchAnswer afi (flow .router) (InTier afi flow) output rs (matchedBy (given (matchIn afi q rs)) output)
-  flow-answer output enough rs d a = of-router (λ router. MatchAnswer afi router (InTier afi flow) output rs (matchedBy (given (matchIn afi q rs)) output))
-      (match-answer afi q (InTier afi flow) (flow-exactly afi flow q asked-flow) output enough rs d a)
-
-  flow-found : (rs : List Route) → Distinct rs → (tier : ℕ) (r : Route) → (matchIn afi q rs ≡ found tier r) ↔ Taken afi (flow .router) (InTier afi flow) rs tier r
-  flow-found rs d tier r = of-router (λ router. (matchIn afi q rs ≡ found tier r) ↔ Taken afi router (InTier afi flow) rs tier r) (found-taken afi q (InTier afi flow) (flow-exactly afi flow q asked-flow) rs d tier r)
-
-  flow-nothing : (rs : List Route) → (matchIn afi q rs ≡ nothing) ↔ NoneTaken afi (flow .router) (InTier afi flow) rs
-  flow-nothing rs = of-router (λ router. (matchIn afi q rs ≡ nothing) ↔ NoneTaken afi router (InTier afi flow) rs) (nothing-taken afi q (InTier afi flow) (flow-exactly afi flow q asked-flow) rs)
-
--- what is shown of a kind of match, from which its answers over a table follow
+-- what is shown of a kind of match, from which its answers over a table and over a book follow
 pub record Served (asked : Asked) (router : List ℕ) (Good : (afi : ℕ) → Type 0) (Refusal : (output : List ℕ) (afi : ℕ) → ℕ → Type 0) (In : (afi tier : ℕ) → Fields → Type 0) : Type 0 where
   pub refuses : (afi : ℕ) (output : List ℕ) (n : ℕ) → KnownFamily afi → (readAsked afi asked output ≡ refused n) ↔ Refusal output afi n
   pub takes : (afi : ℕ) (output : List ℕ) → ((q : Query) × (readAsked afi asked output ≡ given q)) ↔ (Good afi × (124 ≤ length output))
-  pub answers : (afi : ℕ) (output : List ℕ) (q : Query) → readAsked afi asked output ≡ given q → (rs : List Route) → Distinct rs → AllAcceptable afi rs
-      → MatchAnswer afi router (In afi) output rs (matchedBy (given (matchIn afi q rs)) output)
+  pub asks : (afi : ℕ) (output : List ℕ) (q : Query) → readAsked afi asked output ≡ given q → Asks afi router (In afi) q
 
--- a match of any kind over a table
+-- a match of any kind
 module _ {asked : Asked} {router : List ℕ} {Good : (afi : ℕ) → Type 0} {Refusal : (output : List ℕ) (afi : ℕ) → ℕ → Type 0} {In : (afi tier : ℕ) → Fields → Type 0} (served : Served asked router Good Refusal In) where
+  -- over routes that a table or a book holds
+  pub served-answer : (afi : ℕ) (output : List ℕ) (q : Query) → readAsked afi asked output ≡ given q → (rs : List Route) → Distinct rs → AllAcceptable afi rs
+      → MatchAnswer afi router (In afi) output rs (matchedBy (given (matchIn afi q rs)) output)
+  served-answer afi output q e rs d a = asks-answer (served .asks afi output q e) rs output (served .takes afi output .0 (q, e) .1) d a
+
+  -- over a table
   module _ (t output : List ℕ) where
     -- the number by the outcome
     number : matchOf t asked output .answer .number ≡ numberOf (matchOutcome t asked output)
@@ -171,7 +167,7 @@ module _ {asked : Asked} {router : List ℕ} {Good : (afi : ℕ) → Type 0} {Re
         let h = done e in
         let holdable = sound-holdable t (h .0) in
         subst (λ (o : Outcome Found). MatchAnswer (afiIn t) router (In (afiIn t)) output (routesOf t) (matchedBy o output)) (sym (served-outcome (h .1 .0) (h .0) (h .1 .1)))
-        (served .answers (afiIn t) output (h .1 .0) (h .1 .1) (routesOf t) (distinct-increasing (holdable .increasing)) (holdable .acceptable))
+        (served-answer (afiIn t) output (h .1 .0) (h .1 .1) (routesOf t) (distinct-increasing (holdable .increasing)) (holdable .acceptable))
 
     refused-untold : matchOf t asked output .answer .number ≢ DONE → Untold output (matchOf t asked output)
     unfolding matchOf matchedBy onOutcome
@@ -193,19 +189,22 @@ module _ {asked : Asked} {router : List ℕ} {Good : (afi : ℕ) → Type 0} {Re
         untold = refused-untold;
       }
 
+flow-asks : (afi : ℕ) (flow : Flow) (q : Query) → readFlow afi flow ≡ given q → Asks afi (flow .router) (InTier afi flow) q
+flow-asks afi flow q e = let a = flow-asked afi flow q e in record { of = asked-router a; exactly = flow-exactly afi flow q a }
+
 pub served-flow : (flow : Flow) → Served (ofFlow flow) (flow .router) (λ afi. GoodFlow afi flow) (λ output afi. FlowRefusal afi flow output) (λ afi. InTier afi flow)
 unfolding readAsked
 served-flow flow =
     record {
       refuses = λ afi output n. argumentRule .refusedFlow afi flow output n;
       takes = λ afi output. argumentRule .acceptedFlow afi flow output;
-      answers = λ afi output q e. let p = flow-passed afi flow output q e in flow-answer afi flow q (p .0) output (p .1);
+      asks = λ afi output q e. flow-asks afi flow q (flow-passed afi flow output q e .0);
     }
 
 pub matchRule : MatchRule
 matchRule =
     record {
-      chosen = λ afi flow q rs e. flow-found afi flow q e rs;
-      none = λ afi flow q rs e. flow-nothing afi flow q e rs;
+      chosen = λ afi flow q rs e. asks-found (flow-asks afi flow q e) rs;
+      none = λ afi flow q rs e. asks-nothing (flow-asks afi flow q e) rs;
       table = λ flow. table-match (served-flow flow);
     }

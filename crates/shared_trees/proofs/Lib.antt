@@ -1,0 +1,4 @@
+-- Laws that the functions' proofs use.
+pub mod Sized
+pub mod SourceActives
+pub mod Judging
