@@ -4,14 +4,14 @@ use mathlib.Core.Path.{_≡_, refl, sym, _∙_, ap, subst}
 use mathlib.Core.Bool.{Bool, true, false, not}
 use mathlib.Core.List.{List, [], _∷_, _++_}
 use mathlib.Core.Logic.{_↔_, _⊎_, inl, inr, ⊎-elim}
-use borrow.Author.Tests.{not-true, not-false}
+use borrow.Author.Tests.{not-false}
 use Rattle.octets.specs.Numbers.{SHORT}
 use Rattle.octets.specs.Outcome.{given, refused}
 use Rattle.octets.specs.Lists.{Among, first, later}
-use Rattle.octets.proofs.Choice.{opposite, is-true, is-false, pick-true, pick-false, pick-case, tested}
+use Rattle.octets.proofs.Choice.{opposite, pick-true, pick-false, pick-case, tested}
 use Rattle.octets.proofs.Outcome.{given-same, given-unless, refuses-unless}
 use Rattle.octets.proofs.Among.{among-none, among-cases, among-each}
-use Rattle.lists.specs.LentLists.{Item, itemField, frontItem, afterItem, frontItems, listCount, wholeList, listItems, readList, firstItem, everyItem, someItem}
+use Rattle.lists.specs.LentLists.{Item, itemField, frontItem, afterItem, frontItems, listCount, listItems, readList, firstItem, everyItem, someItem}
 
 -- the first item that meets a test: those before it do not
 pub record FirstMet (test : Item → Bool) (items : List Item) (x : Item) : Type 0 where
