@@ -4,14 +4,14 @@ use mathlib.Core.Path.{_≡_, refl, sym, _∙_, ap, subst}
 use mathlib.Core.Bool.{Bool, true, false, not}
 use mathlib.Core.List.{List, [], _∷_, _++_}
 use mathlib.Core.Logic.{_↔_, _⊎_, inl, inr, ⊎-elim}
-use borrow.Author.Tests.{not-true, not-false}
+use borrow.Author.Tests.{not-false}
 use Rattle.octets.specs.Numbers.{SHORT}
 use Rattle.octets.specs.Outcome.{given, refused}
 use Rattle.octets.specs.Lists.{Among, first, later}
-use Rattle.octets.proofs.Choice.{opposite, is-true, is-false, pick-true, pick-false, pick-case, tested}
+use Rattle.octets.proofs.Choice.{opposite, pick-true, pick-false, pick-case, tested}
 use Rattle.octets.proofs.Outcome.{given-same, given-unless, refuses-unless}
 use Rattle.octets.proofs.Among.{among-none, among-cases, among-each}
-use Rattle.lists.specs.LentLists.{Item, itemField, frontItem, afterItem, frontItems, listCount, wholeList, listItems, readList, firstItem, everyItem, someItem}
+use Rattle.lists.specs.LentLists.{Item, itemField, frontItem, afterItem, frontItems, listCount, listItems, readList, firstItem, everyItem, someItem}
 
 -- the first item that meets a test: those before it do not
 pub record FirstMet (test : Item → Bool) (items : List Item) (x : Item) : Type 0 where
@@ -84,12 +84,28 @@ pub read-list-refused : (fields : ℕ) (list : List ℕ) (n : ℕ) → readList 
 unfolding readList
 read-list-refused fields list n e = refuses-unless SHORT n _ _ e .1
 
--- an item of two fields is those two
-front-items-two : (count : ℕ) (s : List ℕ) (x : Item) → Among x (frontItems 2 count s) → x ≡ itemField 0 x ∷ (itemField 1 x ∷ [])
-unfolding frontItems frontItem itemField
-front-items-two zero s x m = absurd (among-none m)
-front-items-two (suc count) s x m = ⊎-elim (λ e. rw e) (front-items-two count (afterItem 2 s) x) (among-cases m)
+-- items of two fields each
+abbrev pub Pairs : List Item → Type 0
+Pairs items = (x : Item) → Among x items → x ≡ itemField 0 x ∷ (itemField 1 x ∷ [])
 
-pub read-list-two : (list : List ℕ) (items : List Item) → readList 2 list ≡ given items → (x : Item) → Among x items → x ≡ itemField 0 x ∷ (itemField 1 x ∷ [])
+-- what holds of each pair of fields holds of each item
+pub pairs-each : (P : Item → Type 0) (items : List Item) → Pairs items → ((a b : List ℕ) → Among (a ∷ (b ∷ [])) items → P (a ∷ (b ∷ []))) → (x : Item) → Among x items → P x
+pairs-each P items pairs h x m = let e = pairs x m in subst P (sym e) (h (itemField 0 x) (itemField 1 x) (subst (λ (z : Item). Among z items) e m))
+
+-- every item meets a test exactly when each pair is what the test says
+pub every-pair : (test : Item → Bool) (Is : List ℕ → List ℕ → Type 0) → ((a b : List ℕ) → (test (a ∷ (b ∷ [])) ≡ true) ↔ Is a b) → (items : List Item) → Pairs items
+    → (everyItem test items ≡ true) ↔ ((a b : List ℕ) → Among (a ∷ (b ∷ [])) items → Is a b)
+every-pair test Is says items pairs = (
+  λ h a b m. says a b .0 (every-item-exactly test items .0 h (a ∷ (b ∷ [])) m),
+  λ h. every-item-exactly test items .1 (pairs-each (λ x. test x ≡ true) items pairs (λ a b m. says a b .1 (h a b m))),
+)
+
+-- a list of items of two fields gives such items
+front-items-pairs : (count : ℕ) (s : List ℕ) → Pairs (frontItems 2 count s)
+unfolding frontItems frontItem itemField
+front-items-pairs zero s x m = absurd (among-none m)
+front-items-pairs (suc count) s x m = ⊎-elim (λ e. rw e) (front-items-pairs count (afterItem 2 s) x) (among-cases m)
+
+pub read-list-pairs : (list : List ℕ) (items : List Item) → readList 2 list ≡ given items → Pairs items
 unfolding listItems
-read-list-two list items e x m = front-items-two (listCount list) _ x (subst (Among x) (read-list-given 2 list items e) m)
+read-list-pairs list items e x m = front-items-pairs (listCount list) _ x (subst (Among x) (read-list-given 2 list items e) m)

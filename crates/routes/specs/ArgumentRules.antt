@@ -28,14 +28,14 @@ abbrev pub FamilySized : (afi : ℕ) → List ℕ → Type 0
 FamilySized afi address = ((afi ≡ 1) × (length address ≡ 4)) ⊎ ((afi ≡ 2) × (length address ≡ 16))
 
 -- a well-formed NLRI of one route type: NLRI reading accepts it with no octets after it
-pub record OfType (type afi : ℕ) (nlri : List ℕ) : Type 0 where
+pub record NlriOfType (type afi : ℕ) (nlri : List ℕ) : Type 0 where
   pub fields : Fields
   pub read : readNlri afi nlri ≡ given fields
   pub kind : fields .type ≡ type
 
 -- a well-formed S-PMSI NLRI: of type 3
 abbrev pub SPmsi : (afi : ℕ) → (nlri : List ℕ) → Type 0
-SPmsi afi nlri = OfType 3 afi nlri
+SPmsi afi nlri = NlriOfType 3 afi nlri
 
 -- a well-formed S-PMSI NLRI of a router: the router is its originator, in size and octets
 pub record SPmsiOf (afi : ℕ) (router nlri : List ℕ) : Type 0 where

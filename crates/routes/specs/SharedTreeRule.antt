@@ -17,12 +17,12 @@ use Rattle.routes.specs.Query.{Query}
 use Rattle.routes.specs.SharedTree.{SharedTree, readTree}
 use Rattle.routes.specs.Asked.{ofSharedTree}
 use Rattle.routes.specs.Matching.{nothing, found, matchIn}
-use Rattle.routes.specs.ArgumentRules.{RouterSized, FamilySized, OfType, TypeRefusal}
+use Rattle.routes.specs.ArgumentRules.{RouterSized, FamilySized, NlriOfType, TypeRefusal}
 use Rattle.routes.specs.MatchRule.{Taken, NoneTaken, TableMatch}
 
 -- a well-formed Source Active NLRI: of type 5
 abbrev pub SourceActive : (afi : ℕ) → (nlri : List ℕ) → Type 0
-SourceActive afi nlri = OfType 5 afi nlri
+SourceActive afi nlri = NlriOfType 5 afi nlri
 
 -- the items that the two lists hold: of a Source Active route its originator and its NLRI, of a state its source and its group
 pub record Lent (tree : SharedTree) : Type 0 where

@@ -17,7 +17,7 @@ use Rattle.octets.proofs.Outcome.{never, given-same, given-otherwise, refuses-w
 use Rattle.octets.proofs.Among.{among-left, among-right}
 use Rattle.octets.proofs.Orders.{same-equal, same-of-equal}
 use Rattle.lists.specs.LentLists.{Item, itemField, listCount, listItems, readList, everyItem, someItem}
-use Rattle.lists.proofs.Items.{first-met, first-item-met, first-item-unmet, every-item-exactly, some-item-exactly, read-list-given, read-list-refused, read-list-two}
+use Rattle.lists.proofs.Items.{first-met, first-item-met, first-item-unmet, some-item-exactly, read-list-given, read-list-refused, Pairs, pairs-each, every-pair, read-list-pairs}
 use Rattle.nlri.specs.Family.{familyBits, isOriginatorSize}
 use Rattle.nlri.specs.Fields.{Fields}
 use Rattle.nlri.specs.Groups.{classUnder}
@@ -25,28 +25,11 @@ use Rattle.nlri.proofs.Theorems.{lengths}
 use Rattle.nlri.proofs.Definitions.Lengths.{family-good}
 use Rattle.routes.specs.Query.{Query}
 use Rattle.routes.specs.SharedTree.{SharedTree, originatorSized, stateSized, readSourceActive, sourceActiveFault, judgedTree, isState, lacksState, conditionHolds, treeQuery, readTree}
-use Rattle.routes.specs.ArgumentRules.{KnownFamily, RouterSized, FamilySized, OfType}
+use Rattle.routes.specs.ArgumentRules.{KnownFamily, RouterSized, FamilySized}
 use Rattle.routes.specs.SharedTreeRule.{SourceActive, Lent, WithoutState, Condition, isUpstream, isWithoutState, isBidirectional, isUnused, FewItems, Addressed, AllRead, GoodTree, FirstRefused, SharedTreeRefusal, longList, shortList, badAddress, badSourceActive, tooSmall}
 use Rattle.routes.proofs.Definitions.Flows.{class-under, class-given, class-refused, Classed, classed, family-sized, multicast-classed, multicast-family}
 use Rattle.routes.proofs.Definitions.ByArguments.{number-source-active}
 use Rattle.routes.proofs.Statements.ArgumentRules.{type-exactly, type-refused-exactly}
-
--- items of two fields each
-
-abbrev Pairs : List Item → Type 0
-Pairs items = (x : Item) → Among x items → x ≡ itemField 0 x ∷ (itemField 1 x ∷ [])
-
--- what holds of each pair of fields holds of each item, and the other way round
-pairs-each : (P : Item → Type 0) (items : List Item) → Pairs items → ((a b : List ℕ) → Among (a ∷ (b ∷ [])) items → P (a ∷ (b ∷ []))) → (x : Item) → Among x items → P x
-pairs-each P items pairs h x m = let e = pairs x m in subst P (sym e) (h (itemField 0 x) (itemField 1 x) (subst (λ (z : Item). Among z items) e m))
-
--- every item meets a test exactly when each pair is what the test says
-every-pair : (test : Item → Bool) (Is : List ℕ → List ℕ → Type 0) → ((a b : List ℕ) → (test (a ∷ (b ∷ [])) ≡ true) ↔ Is a b) → (items : List Item) → Pairs items
-    → (everyItem test items ≡ true) ↔ ((a b : List ℕ) → Among (a ∷ (b ∷ [])) items → Is a b)
-every-pair test Is says items pairs = (
-  λ h a b m. says a b .0 (every-item-exactly test items .0 h (a ∷ (b ∷ [])) m),
-  λ h. every-item-exactly test items .1 (pairs-each (λ x. test x ≡ true) items pairs (λ a b m. says a b .1 (h a b m))),
-)
 
 -- sizes
 
@@ -67,7 +50,7 @@ module _ (afi : ℕ) where
   abbrev faulty : Item → Bool
   faulty x = not (eqb (numberOf (readSourceActive afi x)) DONE)
 
-  -- one that is read, and one that is not
+  -- an item has no fault exactly when its NLRI is a well-formed Source Active NLRI
   read-faultless : (originator nlri : List ℕ) → (faulty (originator ∷ (nlri ∷ [])) ≡ false) ↔ SourceActive afi nlri
   unfolding readSourceActive itemField
   read-faultless originator nlri = (
@@ -136,10 +119,10 @@ module _ (afi : ℕ) where
 
 module _ (afi : ℕ) (tree : SharedTree) where
   routes-pairs : (lent : Lent tree) → Pairs (lent .sourceActives)
-  routes-pairs lent = read-list-two _ _ (lent .routesRead)
+  routes-pairs lent = read-list-pairs _ _ (lent .routesRead)
 
   states-pairs : (lent : Lent tree) → Pairs (lent .states)
-  states-pairs lent = read-list-two _ _ (lent .statesRead)
+  states-pairs lent = read-list-pairs _ _ (lent .statesRead)
 
   module _ (bits : ℕ) (ofFamily : familyBits afi ≡ given bits) where
     -- what follows the reading of both lists

@@ -12,7 +12,7 @@ use Rattle.octets.proofs.Choice.{opposite, pick-case, both-held, both-true}
 use Rattle.nlri.specs.Fields.{Fields}
 use Rattle.nlri.specs.Groups.{ASM}
 use Rattle.routes.specs.Query.{Wanted, meets, Query}
-use Rattle.routes.specs.SharedTree.{SharedTree, conditionHolds, treeQuery, readTree}
+use Rattle.routes.specs.SharedTree.{SharedTree, treeQuery, readTree}
 use Rattle.routes.specs.Asked.{ofSharedTree, readAsked}
 use Rattle.routes.specs.SharedTreeRule.{InSharedTier, sharedGroup, sharedWildcard, GoodTree, SharedTreeRefusal, SharedTreeRule}
 use Rattle.routes.proofs.Definitions.Conditions.{meets-exactly}
