@@ -1,6 +1,6 @@
 -- The refusals of a shared tree, case by case, as `judgedTree` has them in their order.
 use Prim.Native.Nat.{ℕ, _*_, _/_, _≤_, _<_}
-use mathlib.Core.Path.{_≡_, refl, sym, _∙_, ap}
+use mathlib.Core.Path.{_≡_, refl, sym, _∙_, ap, ap₂}
 use mathlib.Core.Bool.{Bool, true, false}
 use mathlib.Core.List.{List}
 use native.Mathlib.Omega.{arith}
@@ -95,7 +95,7 @@ module _ (afi : ℕ) (tree : SharedTree) (class : Group) (is : class ≡ groupOf
 
 -- what a shared tree that is not refused is: its lists and their NLRIs as `is_eligible` asks, a group, and a router address of four octets or more
 pub record Accepted (afi : ℕ) (tree : SharedTree) : Type 0 where
-  pub judged : Judged (tree .sourceActives) (tree .states)
+  pub judged : Judged (length (tree .group)) (tree .sourceActives) (tree .states)
   pub read : sourceActiveFault afi (listItems 2 (tree .sourceActives)) ≡ DONE
   pub grouped : 0 < length (tree .group)
   pub routed : 4 ≤ length (tree .router)
@@ -113,14 +113,20 @@ tree-accepted afi tree class e =
     let a = passed _ _ _ (counts .1) in
     let b = passed _ _ _ (a .second) in
     let router = given-unless _ _ _ _ (b .second) in
-    let group = passed _ _ _ (given-unless _ _ _ _ (given-unless _ _ _ _ (router .1) .1) .1) in
+    let sizes = given-unless _ _ _ _ (given-unless _ _ _ _ (router .1) .1) in
+    let group = passed _ _ _ (sizes .1) in
+    let states = list-read _ _ (b .first) in
     let actives = list-read _ _ (a .first) in
     let none : sourceActiveFault afi (listItems 2 (tree .sourceActives)) ≡ DONE = ap (sourceActiveFault afi) (actives .1) ∙ done-of _ _ _ (group .second) in
     let sized : length (tree .group) ≡ bits .value / 8 = eqb-true _ _ (given-unless _ _ _ _ (group .first) .0) in
+    let least : 4 ≤ length (tree .group) = omega (arith, family-least afi (bits .value) (bits .first)) in
+    let all : bits .value ≡ 8 * length (tree .group) = omega (arith, family-octets afi (bits .value) (bits .first) .0) in
+    let every-sized : everyItem (stateSized (8 * length (tree .group))) (listItems 2 (tree .states)) ≡ true =
+    ap₂ (λ (n : ℕ) (xs : List Item). everyItem (stateSized n) xs) (sym all) (states .1) ∙ sizes .0 in
     record {
-      judged = record { listed = actives .0; held = list-read _ _ (b .first) .0; stand = all-bounded afi _ none };
+      judged = record { listed = actives .0; held = record { whole = states .0; sized = every-sized; least = least }; stand = all-bounded afi _ none };
       read = none;
-      grouped = omega (arith, family-least afi (bits .value) (bits .first));
+      grouped = omega arith;
       routed = omega (arith, originator-sized _ (router .0));
     }
   where

@@ -27,7 +27,7 @@ unfolding originatorSized
 originator-of s field r e q = e ∙ ap (λ (f : List ℕ). isOriginatorSize (length f)) (item-field-of 0 2 s field q (omega arith))
 
 -- so many bits are so many octets
-in-octets : (n size : ℕ) → eqb (8 * n) (8 * size) ≡ eqb n size
+pub in-octets : (n size : ℕ) → eqb (8 * n) (8 * size) ≡ eqb n size
 in-octets n size =
     tested (eqb n size)
     (λ t. let e : n ≡ size = eqb-true _ _ t in eq-eqb (8 * n) (8 * size) (omega arith) ∙ sym t)

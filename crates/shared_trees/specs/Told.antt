@@ -1,5 +1,5 @@
 -- A shared tree by a call's arguments, and definitions that mirror the functions; laws tie them to those of `routes`.
-use Prim.Native.Nat.{ℕ, _+_, _≤_}
+use Prim.Native.Nat.{ℕ, _+_, _*_, _-_, _≤_}
 use mathlib.Core.Path.{_≡_}
 use mathlib.Core.Bool.{Bool, true, not}
 use mathlib.Core.List.{List}
@@ -8,9 +8,9 @@ use lib.Dec.{leb, eqb}
 use Rattle.octets.specs.Numbers.{DONE, SHORT, LONG, FLOW}
 use Rattle.octets.specs.Choice.{pick, both}
 use Rattle.octets.specs.Outcome.{Outcome, given, refused, unless, andThen}
-use Rattle.octets.specs.Octets.{part}
+use Rattle.octets.specs.Octets.{part, lowFirst}
 use Rattle.octets.specs.Order.{same}
-use Rattle.lists.specs.LentLists.{Item, itemField, listCount, wholeList, listItems, everyItem, someItem}
+use Rattle.lists.specs.LentLists.{Item, itemField, frontItem, wholeItem, listCount, wholeList, listItems, everyItem, someItem}
 use Rattle.nlri.specs.Family.{isOriginatorSize}
 use Rattle.nlri.specs.Groups.{classOf}
 use Rattle.nlri.specs.Inner.{sizeAt}
@@ -77,10 +77,26 @@ pub record Bounded (nlri : List ℕ) : Type 0 where
 unfoldable pub bounded : Item → Bool
 bounded x = leb (groupEnd (itemField 1 x)) (length (itemField 1 x))
 
--- both lists are whole, and in each Source Active NLRI source and group stand
-pub record Judged (sourceActives states : List ℕ) : Type 0 where
+-- the last four octets of a source that has as many, the least significant first
+pub record Ending (source : List ℕ) (r : ℕ) : Type 0 where
+  pub is : 4 ≤ length source → r ≡ lowFirst (part source (length source - 4) 4)
+
+-- a state at a cursor, whose source and group have so many octets, four or more
+pub record StateStands (size : ℕ) (s : List ℕ) : Type 0 where
+  pub whole : wholeItem 2 s ≡ true
+  pub sized : stateSized (8 * size) (frontItem 2 s) ≡ true
+  pub least : 4 ≤ size
+
+-- a list of such states
+pub record Held (size : ℕ) (states : List ℕ) : Type 0 where
+  pub whole : wholeList 2 states ≡ true
+  pub sized : everyItem (stateSized (8 * size)) (listItems 2 states) ≡ true
+  pub least : 4 ≤ size
+
+-- both lists are whole, the states have addresses of so many octets, and in each Source Active NLRI source and group stand
+pub record Judged (size : ℕ) (sourceActives states : List ℕ) : Type 0 where
   pub listed : wholeList 2 sourceActives ≡ true
-  pub held : wholeList 2 states ≡ true
+  pub held : Held size states
   pub stand : everyItem bounded (listItems 2 sourceActives) ≡ true
 
 -- a Source Active NLRI is for the group, and no state has its source and group

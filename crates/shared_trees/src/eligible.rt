@@ -2,12 +2,12 @@
 ghost use mathlib.Core.Path.{_≡_};
 ghost use mathlib.Core.Bool.{true};
 ghost use Prim.Native.Nat.{ℕ, _+_};
-ghost use lib.ListN.{drop};
+ghost use lib.ListN.{length, drop};
 ghost use Rattle.octets.specs.Numbers.{DONE};
-ghost use Rattle.lists.specs.LentLists.{frontItem, wholeItem, wholeList, listItems, someItem};
+ghost use Rattle.lists.specs.LentLists.{frontItem, afterItem, wholeItem, listItems, someItem};
 ghost use Rattle.nlri.specs.Inner.{sizeAt};
 ghost use Rattle.routes.specs.SharedTree.{sourceActiveFault, isState, conditionHolds};
-ghost use Rattle.shared_trees.specs.Told.{treeOf, sourceIn, groupIn, Bounded, bounded, Judged, withoutState, withoutStateAt};
+ghost use Rattle.shared_trees.specs.Told.{treeOf, sourceIn, groupIn, Bounded, bounded, Ending, StateStands, Held, Judged, withoutState, withoutStateAt};
 use crate::FIELDS;
 use crate::Facts;
 use lists::FIRST;
@@ -15,9 +15,13 @@ use nlri::HEADER;
 use nlri::RouteDistinguisher;
 use octets::order;
 use octets::parts;
+use octets::wide;
 
 // Where the source's length octet, in bits, stands in a Source Active NLRI.
 const SOURCE_LENGTH: usize = HEADER + RouteDistinguisher::OCTETS;
+
+// The octets at a source's end that are compared first.
+const ENDING: usize = 4;
 
 // The source of a Source Active NLRI.
 fn source_in(nlri: &[u8]) -> &[u8]
@@ -44,11 +48,37 @@ fn group_in(nlri: &[u8]) -> &[u8]
     parts::between(nlri, length_at + 1, nlri[length_at] as usize / 8)
 }
 
-// A state has this source and this group.
-fn is_state(list: &[u8], at: usize, source: &[u8], group: &[u8]) -> bool
-    requires { ⌜ wholeItem 2 (drop at (now list)) ≡ true ⌝ }
+// The last four octets of its source, of those that have as many.
+fn ending_in(nlri: &[u8]) -> u32
+    requires { ⌜ Bounded (now nlri) ⌝ }
+    ensures { λ r. ⌜ Ending (sourceIn (now (nlri .entry))) r ⌝ }
+{
+    wide::four_low_first(nlri, group_length_at(nlri) - ENDING)
+}
+
+// Where the next state starts: source and group have so many octets.
+fn after_state(list: &[u8], at: usize, size: usize) -> usize
+    requires { ⌜ StateStands size (drop at (now list)) ⌝ }
+    ensures { λ r. ⌜ drop r (now (list .entry)) ≡ afterItem 2 (drop at (now (list .entry))) ⌝ }
+{
+    at + 4 + 2 * size
+}
+
+// A state has this source and this group. The last four octets of its source, which tell most states apart, are compared first.
+fn is_state(
+    list: &[u8],
+    at: usize,
+    size: usize,
+    source: &[u8],
+    ending: u32,
+    group: &[u8],
+) -> bool
+    requires { ⌜ StateStands size (drop at (now list)) × Ending (now source) ending ⌝ }
     ensures { λ r. ⌜ r ≡ isState (now (source .entry)) (now (group .entry)) (frontItem 2 (drop at (now (list .entry)))) ⌝ }
 {
+    if wide::four_low_first(list, at + 2 + size - ENDING) != ending {
+        return false;
+    }
     if !order::is_same(lists::item_field(list, at, 0), source) {
         return false;
     }
@@ -56,17 +86,17 @@ fn is_state(list: &[u8], at: usize, source: &[u8], group: &[u8]) -> bool
 }
 
 // Some state does.
-fn has_state(states: &[u8], source: &[u8], group: &[u8]) -> bool
-    requires { ⌜ wholeList 2 (now states) ≡ true ⌝ }
+fn has_state(states: &[u8], size: usize, source: &[u8], ending: u32, group: &[u8]) -> bool
+    requires { ⌜ Held size (now states) × Ending (now source) ending ⌝ }
     ensures { λ r. ⌜ r ≡ someItem (isState (now (source .entry)) (now (group .entry))) (listItems 2 (now (states .entry))) ⌝ }
 {
     let mut at = FIRST;
     let mut left = lists::count_of(states);
     while 0 < left {
-        if is_state(states, at, source, group) {
+        if is_state(states, at, size, source, ending, group) {
             return true;
         }
-        at = lists::after_item(states, at, FIELDS);
+        at = after_state(states, at, size);
         left -= 1;
     }
     false
@@ -74,18 +104,24 @@ fn has_state(states: &[u8], source: &[u8], group: &[u8]) -> bool
 
 // A Source Active NLRI is for the group, and no state has its source and group.
 fn is_without_state(nlri: &[u8], group: &[u8], states: &[u8]) -> bool
-    requires { ⌜ Bounded (now nlri) × (wholeList 2 (now states) ≡ true) ⌝ }
+    requires { ⌜ Bounded (now nlri) × Held (length (now group)) (now states) ⌝ }
     ensures { λ r. ⌜ r ≡ withoutState (now (group .entry)) (now (states .entry)) (now (nlri .entry)) ⌝ }
 {
     if !order::is_same(group_in(nlri), group) {
         return false;
     }
-    !has_state(states, source_in(nlri), group)
+    !has_state(
+        states,
+        group.len(),
+        source_in(nlri),
+        ending_in(nlri),
+        group,
+    )
 }
 
 // A Source Active route for the group, originated by the PE, to whose (C-S,C-G) no state corresponds.
 fn lacks_state(list: &[u8], at: usize, router: &[u8], group: &[u8], states: &[u8]) -> bool
-    requires { ⌜ (wholeItem 2 (drop at (now list)) ≡ true) × (bounded (frontItem 2 (drop at (now list))) ≡ true) × (wholeList 2 (now states) ≡ true) ⌝ }
+    requires { ⌜ (wholeItem 2 (drop at (now list)) ≡ true) × (bounded (frontItem 2 (drop at (now list))) ≡ true) × Held (length (now group)) (now states) ⌝ }
     ensures { λ r. ⌜ r ≡ withoutStateAt (now (router .entry)) (now (group .entry)) (now (states .entry)) (frontItem 2 (drop at (now (list .entry)))) ⌝ }
 {
     if !order::is_same(lists::item_field(list, at, 0), router) {
@@ -96,7 +132,7 @@ fn lacks_state(list: &[u8], at: usize, router: &[u8], group: &[u8], states: &[u8
 
 // Some Source Active route is one.
 fn has_source(list: &[u8], router: &[u8], group: &[u8], states: &[u8]) -> bool
-    requires { ⌜ Judged (now list) (now states) ⌝ }
+    requires { ⌜ Judged (length (now group)) (now list) (now states) ⌝ }
     ensures { λ r. ⌜ r ≡ someItem (withoutStateAt (now (router .entry)) (now (group .entry)) (now (states .entry))) (listItems 2 (now (list .entry))) ⌝ }
 {
     let mut at = FIRST;
@@ -119,7 +155,7 @@ pub fn is_eligible(
     source_actives: &[u8],
     states: &[u8],
 ) -> bool
-    requires { ⌜ Judged (now «source_actives») (now states) ⌝ }
+    requires { ⌜ Judged (length (now group)) (now «source_actives») (now states) ⌝ }
     ensures { λ r. ⌜ ((afi : ℕ) → sourceActiveFault afi (listItems 2 (now («source_actives» .entry))) ≡ DONE → r ≡ conditionHolds afi (treeOf (now (router .entry)) (now (group .entry)) facts (now («source_actives» .entry)) (now (states .entry)))) ⌝ }
 {
     if facts.upstream != 0 {

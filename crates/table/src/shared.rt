@@ -3,6 +3,7 @@ ghost use mathlib.Core.Path.{_≡_};
 ghost use mathlib.Core.Bool.{true};
 ghost use Prim.Native.Nat.{ℕ};
 ghost use lib.Dec.{eqb};
+ghost use lib.ListN.{length};
 ghost use Rattle.octets.specs.Numbers.{DONE};
 ghost use Rattle.octets.specs.Choice.{both};
 ghost use Rattle.lists.specs.LentLists.{listItems};
@@ -34,7 +35,7 @@ fn open_tiers(
     source_actives: &[u8],
     states: &[u8],
 ) -> Tiers
-    requires { ⌜ Judged (now «source_actives») (now states) ⌝ }
+    requires { ⌜ Judged (length (now group)) (now «source_actives») (now states) ⌝ }
     ensures { λ r. ⌜ ((afi : ℕ) → sourceActiveFault afi (listItems 2 (now («source_actives» .entry))) ≡ DONE → r ≡ treeTiers (both (eqb class ASM) (conditionHolds afi (treeOf (now (router .entry)) (now (group .entry)) facts (now («source_actives» .entry)) (now (states .entry)))))) ⌝ }
 {
     if class != Group::ASM {

@@ -8,7 +8,10 @@ returns : tie.Need-returns
 returns c = without-other _ _ _ _ (c .before .before .group-in .ensures) _ (c .before .is-same .ensures) (c .if1 .taken)
 
 returns-2 : tie.Need-returns-2
-returns-2 c = without-none _ _ _ _ (c .before .before .before .before .group-in .ensures) _ (c .before .before .before .is-same .ensures) (c .before .before .if1 .left) _ (c .before .source-in .ensures) _ (c .has-state .ensures)
+returns-2 c = without-none _ _ _ _ (c .before .before .before .before .before .group-in .ensures) _ (c .before .before .before .before .is-same .ensures) (c .before .before .before .if1 .left) _ (c .before .before .source-in .ensures) _ (c .has-state .ensures)
+
+has-state-requires : tie.Need-has-state-requires
+has-state-requires c κs = (c .before .before .before .before .before .before .before .before .pre .1, rw (c .before .source-in .ensures) (c .ending-in .ensures))
 
 pub is-without-state-spec : {M : Type 1} → statement M
 is-without-state-spec =
@@ -19,4 +22,5 @@ is-without-state-spec =
     returns
     (λ c κs. search needs)
     (λ c κs. search needs)
+    has-state-requires
     returns-2)
