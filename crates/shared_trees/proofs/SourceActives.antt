@@ -28,7 +28,7 @@ use Rattle.nlri.proofs.Functions.Singles.{ReadAt, read-at, read-by-layout, read
 use Rattle.nlri.proofs.Functions.Via.{nlri-given, reading-refused}
 use Rattle.routes.specs.Arguments.{readOfType}
 use Rattle.routes.specs.SharedTree.{SharedTree, readSourceActive, sourceActiveFault, isState, lacksState, conditionHolds}
-use Rattle.shared_trees.specs.Told.{sourceIn, groupIn, groupEnd, Bounded, bounded, withoutState, withoutStateAt}
+use Rattle.shared_trees.specs.Told.{sourceIn, groupIn, groupEnd, FieldsWithin, fieldsWithin, withoutState, withoutStateAt}
 
 -- the number of an NLRI that is to be of a type, by what reading its layout answers
 module _ (type afi : ℕ) (s : List ℕ) (r : Reading) (e : readingOf r ≡ layoutSingle afi s) where
@@ -55,7 +55,7 @@ module _ (s : List ℕ) (at : ℕ) (is : at ≡ 11 + sizeAt s 10) where
   unfolding sizeAt
   size-is = rw is
 
-  pub group-within : Bounded s → at + 1 + getD s at 0 / 8 ≤ length s
+  pub group-within : FieldsWithin s → at + 1 + getD s at 0 / 8 ≤ length s
   unfolding groupEnd
   group-within b = let within = b .within in omega (arith, size-is)
 
@@ -121,8 +121,8 @@ module _ (afi : ℕ) (x : Item) (xs : List Item) (none : sourceActiveFault afi (
   later-none = sym (pick-false _ _ _ (ap not first-number)) ∙ turn
 
 -- then source and group stand in each
-pub all-bounded : (afi : ℕ) (xs : List Item) → sourceActiveFault afi xs ≡ DONE → everyItem bounded xs ≡ true
-unfolding everyItem firstItem bounded readSourceActive
+pub all-bounded : (afi : ℕ) (xs : List Item) → sourceActiveFault afi xs ≡ DONE → everyItem fieldsWithin xs ≡ true
+unfolding everyItem firstItem fieldsWithin readSourceActive
 all-bounded afi [] none = refl
 all-bounded afi (x ∷ xs) none =
     let f = first-read afi x xs none in
@@ -157,8 +157,8 @@ module _ (test : Item → Bool) {fields : ℕ} {list : List ℕ} {left : ℕ} {t
   going-every-next t′ e = going-next (λ x. not (test x)) (λ x. false) true going more (ap not going-every) t′ e
 
 -- an item's source and group stand in its NLRI
-pub item-bounded : (s nlri : List ℕ) → nlri ≡ itemField 1 (frontItem 2 s) → bounded (frontItem 2 s) ≡ true → Bounded nlri
-unfolding bounded
+pub item-bounded : (s nlri : List ℕ) → nlri ≡ itemField 1 (frontItem 2 s) → fieldsWithin (frontItem 2 s) ≡ true → FieldsWithin nlri
+unfolding fieldsWithin
 item-bounded s nlri e b = rw e (record { within = leb-true _ _ b })
 
 -- what the branches show

@@ -17,7 +17,7 @@ use Rattle.octets.proofs.Orders.{unequal-other}
 use Rattle.lists.specs.LentLists.{itemField, frontNumber, frontField, afterField, wholeField, frontItem, afterItem, wholeItem}
 use Rattle.nlri.specs.Inner.{sizeAt}
 use Rattle.routes.specs.SharedTree.{stateSized, isState}
-use Rattle.shared_trees.specs.Told.{sourceIn, groupEnd, Bounded, Ending, StateStands}
+use Rattle.shared_trees.specs.Told.{sourceIn, groupEnd, FieldsWithin, Ending, StateStands}
 use Rattle.shared_trees.proofs.Sized.{in-octets}
 
 -- the end of a part
@@ -103,7 +103,7 @@ module _ (size : ℕ) (list : List ℕ) (at : ℕ) (stands : StateStands size (d
       differ (is ∙ ap lowFirst (sym last) ∙ sym (e .is (omega arith))))))
 
 -- the end of a Source Active NLRI's source
-pub ending-stands : (s : List ℕ) (at r : ℕ) → Bounded s → at ≡ 11 + sizeAt s 10 → r ≡ lowFirst (part s (at - 4) 4) → Ending (sourceIn s) r
+pub ending-stands : (s : List ℕ) (at r : ℕ) → FieldsWithin s → at ≡ 11 + sizeAt s 10 → r ≡ lowFirst (part s (at - 4) 4) → Ending (sourceIn s) r
 unfolding sourceIn groupEnd
 ending-stands s at r b is e =
     let within = b .within in

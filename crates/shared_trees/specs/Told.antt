@@ -70,12 +70,12 @@ unfoldable pub groupEnd : List ℕ → ℕ
 groupEnd nlri = 12 + sizeAt nlri 10 + sizeAt nlri (11 + sizeAt nlri 10)
 
 -- they lie within the NLRI
-pub record Bounded (nlri : List ℕ) : Type 0 where
+pub record FieldsWithin (nlri : List ℕ) : Type 0 where
   pub within : groupEnd nlri ≤ length nlri
 
 -- those of an item do
-unfoldable pub bounded : Item → Bool
-bounded x = leb (groupEnd (itemField 1 x)) (length (itemField 1 x))
+unfoldable pub fieldsWithin : Item → Bool
+fieldsWithin x = leb (groupEnd (itemField 1 x)) (length (itemField 1 x))
 
 -- the last four octets of a source that has as many, the least significant first
 pub record Ending (source : List ℕ) (r : ℕ) : Type 0 where
@@ -88,7 +88,7 @@ pub record StateStands (size : ℕ) (s : List ℕ) : Type 0 where
   pub least : 4 ≤ size
 
 -- a list of such states
-pub record Held (size : ℕ) (states : List ℕ) : Type 0 where
+pub record StatesSized (size : ℕ) (states : List ℕ) : Type 0 where
   pub whole : wholeList 2 states ≡ true
   pub sized : everyItem (stateSized (8 * size)) (listItems 2 states) ≡ true
   pub least : 4 ≤ size
@@ -96,8 +96,8 @@ pub record Held (size : ℕ) (states : List ℕ) : Type 0 where
 -- both lists are whole, the states have addresses of so many octets, and in each Source Active NLRI source and group stand
 pub record Judged (size : ℕ) (sourceActives states : List ℕ) : Type 0 where
   pub listed : wholeList 2 sourceActives ≡ true
-  pub held : Held size states
-  pub stand : everyItem bounded (listItems 2 sourceActives) ≡ true
+  pub held : StatesSized size states
+  pub stand : everyItem fieldsWithin (listItems 2 sourceActives) ≡ true
 
 -- a Source Active NLRI is for the group, and no state has its source and group
 unfoldable pub withoutState : (group states nlri : List ℕ) → Bool

@@ -7,7 +7,7 @@ ghost use Rattle.octets.specs.Numbers.{DONE};
 ghost use Rattle.lists.specs.LentLists.{frontItem, afterItem, wholeItem, listItems, someItem};
 ghost use Rattle.nlri.specs.Inner.{sizeAt};
 ghost use Rattle.routes.specs.SharedTree.{sourceActiveFault, isState, conditionHolds};
-ghost use Rattle.shared_trees.specs.Told.{treeOf, sourceIn, groupIn, Bounded, bounded, Ending, StateStands, Held, Judged, withoutState, withoutStateAt};
+ghost use Rattle.shared_trees.specs.Told.{treeOf, sourceIn, groupIn, FieldsWithin, fieldsWithin, Ending, StateStands, StatesSized, Judged, withoutState, withoutStateAt};
 use crate::FIELDS;
 use crate::Facts;
 use lists::FIRST;
@@ -25,7 +25,7 @@ const ENDING: usize = 4;
 
 // The source of a Source Active NLRI.
 fn source_in(nlri: &[u8]) -> &[u8]
-    requires { ⌜ Bounded (now nlri) ⌝ }
+    requires { ⌜ FieldsWithin (now nlri) ⌝ }
     ensures { λ r. ⌜ now r ≡ sourceIn (now (nlri .entry)) ⌝ }
 {
     parts::between(nlri, SOURCE_LENGTH + 1, nlri[SOURCE_LENGTH] as usize / 8)
@@ -33,7 +33,7 @@ fn source_in(nlri: &[u8]) -> &[u8]
 
 // Where its group's length octet stands, behind the source.
 fn group_length_at(nlri: &[u8]) -> usize
-    requires { ⌜ Bounded (now nlri) ⌝ }
+    requires { ⌜ FieldsWithin (now nlri) ⌝ }
     ensures { λ r. ⌜ r ≡ 11 + sizeAt (now (nlri .entry)) 10 ⌝ }
 {
     SOURCE_LENGTH + 1 + nlri[SOURCE_LENGTH] as usize / 8
@@ -41,7 +41,7 @@ fn group_length_at(nlri: &[u8]) -> usize
 
 // Its group.
 fn group_in(nlri: &[u8]) -> &[u8]
-    requires { ⌜ Bounded (now nlri) ⌝ }
+    requires { ⌜ FieldsWithin (now nlri) ⌝ }
     ensures { λ r. ⌜ now r ≡ groupIn (now (nlri .entry)) ⌝ }
 {
     let length_at = group_length_at(nlri);
@@ -50,7 +50,7 @@ fn group_in(nlri: &[u8]) -> &[u8]
 
 // The last four octets of its source, of those that have as many.
 fn ending_in(nlri: &[u8]) -> u32
-    requires { ⌜ Bounded (now nlri) ⌝ }
+    requires { ⌜ FieldsWithin (now nlri) ⌝ }
     ensures { λ r. ⌜ Ending (sourceIn (now (nlri .entry))) r ⌝ }
 {
     wide::four_low_first(nlri, group_length_at(nlri) - ENDING)
@@ -65,14 +65,7 @@ fn after_state(list: &[u8], at: usize, size: usize) -> usize
 }
 
 // A state has this source and this group. The last four octets of its source, which tell most states apart, are compared first.
-fn is_state(
-    list: &[u8],
-    at: usize,
-    size: usize,
-    source: &[u8],
-    ending: u32,
-    group: &[u8],
-) -> bool
+fn is_state(list: &[u8], at: usize, size: usize, source: &[u8], ending: u32, group: &[u8]) -> bool
     requires { ⌜ StateStands size (drop at (now list)) × Ending (now source) ending ⌝ }
     ensures { λ r. ⌜ r ≡ isState (now (source .entry)) (now (group .entry)) (frontItem 2 (drop at (now (list .entry)))) ⌝ }
 {
@@ -87,7 +80,7 @@ fn is_state(
 
 // Some state does.
 fn has_state(states: &[u8], size: usize, source: &[u8], ending: u32, group: &[u8]) -> bool
-    requires { ⌜ Held size (now states) × Ending (now source) ending ⌝ }
+    requires { ⌜ StatesSized size (now states) × Ending (now source) ending ⌝ }
     ensures { λ r. ⌜ r ≡ someItem (isState (now (source .entry)) (now (group .entry))) (listItems 2 (now (states .entry))) ⌝ }
 {
     let mut at = FIRST;
@@ -104,24 +97,18 @@ fn has_state(states: &[u8], size: usize, source: &[u8], ending: u32, group: &[u8
 
 // A Source Active NLRI is for the group, and no state has its source and group.
 fn is_without_state(nlri: &[u8], group: &[u8], states: &[u8]) -> bool
-    requires { ⌜ Bounded (now nlri) × Held (length (now group)) (now states) ⌝ }
+    requires { ⌜ FieldsWithin (now nlri) × StatesSized (length (now group)) (now states) ⌝ }
     ensures { λ r. ⌜ r ≡ withoutState (now (group .entry)) (now (states .entry)) (now (nlri .entry)) ⌝ }
 {
     if !order::is_same(group_in(nlri), group) {
         return false;
     }
-    !has_state(
-        states,
-        group.len(),
-        source_in(nlri),
-        ending_in(nlri),
-        group,
-    )
+    !has_state(states, group.len(), source_in(nlri), ending_in(nlri), group)
 }
 
 // A Source Active route for the group, originated by the PE, to whose (C-S,C-G) no state corresponds.
 fn lacks_state(list: &[u8], at: usize, router: &[u8], group: &[u8], states: &[u8]) -> bool
-    requires { ⌜ (wholeItem 2 (drop at (now list)) ≡ true) × (bounded (frontItem 2 (drop at (now list))) ≡ true) × Held (length (now group)) (now states) ⌝ }
+    requires { ⌜ (wholeItem 2 (drop at (now list)) ≡ true) × (fieldsWithin (frontItem 2 (drop at (now list))) ≡ true) × StatesSized (length (now group)) (now states) ⌝ }
     ensures { λ r. ⌜ r ≡ withoutStateAt (now (router .entry)) (now (group .entry)) (now (states .entry)) (frontItem 2 (drop at (now (list .entry)))) ⌝ }
 {
     if !order::is_same(lists::item_field(list, at, 0), router) {
