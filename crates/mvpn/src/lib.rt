@@ -237,13 +237,5 @@ pub extern "C" fn mvpn_match_shared(
     ensures { λ r. ⌜ r ≡ matchOf (now (table .entry)) (ofSharedTree (treeOf (now (router .entry)) (now (group .entry)) facts (now («source_actives» .entry)) (now (states .entry)))) (now (output .entry)) .answer ⌝ }
     ensures { λ r. ⌜ now (output .exit) ≡ matchOf (now (table .entry)) (ofSharedTree (treeOf (now (router .entry)) (now (group .entry)) facts (now («source_actives» .entry)) (now (states .entry)))) (now (output .entry)) .octets ⌝ }
 {
-    table::match_shared(
-        table,
-        router,
-        group,
-        facts,
-        source_actives,
-        states,
-        output,
-    )
+    table::match_shared(table, router, group, facts, source_actives, states, output)
 }

@@ -65,14 +65,7 @@ fn after_state(list: &[u8], at: usize, size: usize) -> usize
 }
 
 // A state has this source and this group. The last four octets of its source, which tell most states apart, are compared first.
-fn is_state(
-    list: &[u8],
-    at: usize,
-    size: usize,
-    source: &[u8],
-    ending: u32,
-    group: &[u8],
-) -> bool
+fn is_state(list: &[u8], at: usize, size: usize, source: &[u8], ending: u32, group: &[u8]) -> bool
     requires { ⌜ StateStands size (drop at (now list)) × Ending (now source) ending ⌝ }
     ensures { λ r. ⌜ r ≡ isState (now (source .entry)) (now (group .entry)) (frontItem 2 (drop at (now (list .entry)))) ⌝ }
 {
@@ -110,13 +103,7 @@ fn is_without_state(nlri: &[u8], group: &[u8], states: &[u8]) -> bool
     if !order::is_same(group_in(nlri), group) {
         return false;
     }
-    !has_state(
-        states,
-        group.len(),
-        source_in(nlri),
-        ending_in(nlri),
-        group,
-    )
+    !has_state(states, group.len(), source_in(nlri), ending_in(nlri), group)
 }
 
 // A Source Active route for the group, originated by the PE, to whose (C-S,C-G) no state corresponds.

@@ -64,4 +64,4 @@ module _ (t : List ℕ) (tree : SharedTree) (output : List ℕ) (answer : Matche
 -- a tree that was judged with DONE
 pub shared-accepted : (t : List ℕ) (tree : SharedTree) (afi : ℕ) → afi ≡ afiIn t → (class : Group) → class ≡ groupOf (judgedTree afi tree) → class .number ≡ 0 → Accepted (afiIn t) tree
 shared-accepted t tree afi bits class judges done =
-  tree-accepted (afiIn t) tree _ (tree-given (afiIn t) tree class (judges ∙ ap (λ (a : ℕ). groupOf (judgedTree a tree)) bits) done)
+    tree-accepted (afiIn t) tree _ (tree-given (afiIn t) tree class (judges ∙ ap (λ (a : ℕ). groupOf (judgedTree a tree)) bits) done)

@@ -41,13 +41,7 @@ fn open_tiers(
     if class != Group::ASM {
         return Tiers::of_tree(false);
     }
-    Tiers::of_tree(shared_trees::is_eligible(
-        router,
-        group,
-        facts,
-        source_actives,
-        states,
-    ))
+    Tiers::of_tree(shared_trees::is_eligible(router, group, facts, source_actives, states))
 }
 
 // The refusals between TABLE and SPACE, SPACE, then the search. Tiers 1 and 2 are closed, so that the group serves as source.
@@ -63,15 +57,27 @@ fn match_sound_shared(
     requires { ⌜ soundOf (now table) ≡ true ⌝ }
     ensures { λ r. ⌜ Leaves (matchOf (now (table .entry)) (ofSharedTree (treeOf (now (router .entry)) (now (group .entry)) facts (now («source_actives» .entry)) (now (states .entry)))) (now (output .entry))) r (now (output .exit)) ⌝ }
 {
-    let class =
-        shared_trees::tree_class(sound::afi_of(table), router, group, source_actives, states);
+    let class = shared_trees::tree_class(
+        sound::afi_of(table),
+        router,
+        group,
+        source_actives,
+        states,
+    );
     if class.number != DONE {
         return Matched::refused(class.number);
     }
     if output.len() < LEAST_OUTPUT {
         return Matched::refused(SPACE);
     }
-    let tiers = open_tiers(class.group_class, router, group, facts, source_actives, states);
+    let tiers = open_tiers(
+        class.group_class,
+        router,
+        group,
+        facts,
+        source_actives,
+        states,
+    );
     matching::search(table, router, group, group, tiers, output)
 }
 
@@ -92,13 +98,5 @@ pub fn match_shared(
     if !sound::is_sound(table) {
         return Matched::refused(TABLE);
     }
-    match_sound_shared(
-        table,
-        router,
-        group,
-        facts,
-        source_actives,
-        states,
-        output,
-    )
+    match_sound_shared(table, router, group, facts, source_actives, states, output)
 }

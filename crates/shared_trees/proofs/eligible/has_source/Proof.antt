@@ -25,9 +25,10 @@ lacks-state-requires c κs =
 loop-again : tie.Need-loop-again Inv-loop μ-loop
 loop-again c =
     let inv = c .before .before .before .before .loop .inv in
-    let more = c .before .before .before .loop-test .taken in
-    (going-next _ _ _ (inv .0) more (flag-false _ _ (c .before .before .lacks-state .ensures) (c .before .if1 .left)) _ (c .after-item .ensures),
-     going-every-next bounded (inv .1) (c .before .before .before .before .before .before .before .before .before .before .pre .stand) more _ (c .after-item .ensures))
+    let more = c .before .before .before .loop-test .taken in (
+      going-next _ _ _ (inv .0) more (flag-false _ _ (c .before .before .lacks-state .ensures) (c .before .if1 .left)) _ (c .after-item .ensures),
+      going-every-next bounded (inv .1) (c .before .before .before .before .before .before .before .before .before .before .pre .stand) more _ (c .after-item .ensures),
+    )
 
 pub has-source-spec : {M : Type 1} → statement M
 unfolding everyItem someItem

@@ -33,9 +33,10 @@ after-state-requires c κs =
 loop-again : tie.Need-loop-again Inv-loop μ-loop
 loop-again c =
     let inv = c .before .before .before .before .loop .inv in
-    let more = c .before .before .before .loop-test .taken in
-    (going-next _ _ _ (inv .0) more (flag-false _ _ (c .before .before .is-state .ensures) (c .before .if1 .left)) _ (c .after-state .ensures),
-     going-every-next (stateSized _) (inv .1) (c .before .before .before .before .before .before .before .before .before .pre .0 .sized) more _ (c .after-state .ensures))
+    let more = c .before .before .before .loop-test .taken in (
+      going-next _ _ _ (inv .0) more (flag-false _ _ (c .before .before .is-state .ensures) (c .before .if1 .left)) _ (c .after-state .ensures),
+      going-every-next (stateSized _) (inv .1) (c .before .before .before .before .before .before .before .before .before .pre .0 .sized) more _ (c .after-state .ensures),
+    )
 
 pub has-state-spec : {M : Type 1} → statement M
 unfolding everyItem someItem
