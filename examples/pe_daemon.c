@@ -1,21 +1,28 @@
 /*
- * A provider edge router's use of mvpn.h. It reads BGP UPDATE messages, keeps the S-PMSI A-D routes of one VRF in them, and
- * tells which route and which tunnel a customer flow (C-S,C-G) takes.
+ * A provider edge router's use of mvpn.h. It reads BGP UPDATE messages, keeps the S-PMSI A-D and Source Active A-D routes of
+ * one VRF in them, and tells which route and which tunnel a customer flow (C-S,C-G) or a shared tree (C-*,C-G) takes.
  *
- *     pe_daemon FILE [ROUTER SOURCE GROUP]...
+ *     pe_daemon FILE [REQUEST]...
  *
- * FILE holds whole messages, one after another; `-` is standard input. ROUTER is the PE that the flow comes from: ourselves
- * for sending, the upstream PE for receiving.
+ * FILE holds whole messages, one after another; `-` is standard input. A request is one of
  *
- * Only this file calls the library; pe_daemon/update.c takes BGP messages apart, pe_daemon/words.c prints. There is one peer
- * and one VRF, so every route is the best path and every route is imported; a router with more chooses first and then
- * installs.
+ *     ROUTER SOURCE GROUP                              a flow; ROUTER is the PE that it comes from: ourselves for sending,
+ *                                                      the upstream PE for receiving
+ *     shared ROUTER GROUP [upstream] [bidir] [unused]  a shared tree, from the PE ROUTER: which is the upstream PE for the
+ *                                                      group's C-RP; of a BIDIR-PIM group; where Source Active A-D routes
+ *                                                      are not being used
+ *     state SOURCE GROUP                               a (C-S,C-G) state that we hold, for the requests behind it
+ *
+ * Only this file calls the library; pe_daemon/update.c takes BGP messages apart, requests.c the command line, lists.c keeps
+ * what is lent in lists, words.c prints. There is one peer and one VRF, so every route is the best path and every route is
+ * imported; a router with more chooses first and then installs.
  */
 #include "mvpn.h"
+#include "pe_daemon/lists.h"
+#include "pe_daemon/requests.h"
 #include "pe_daemon/update.h"
 #include "pe_daemon/words.h"
 
-#include <arpa/inet.h>
 #include <stdbool.h>
 #include <stdio.h>
 #include <string.h>
@@ -23,17 +30,33 @@
 /* The memory of a family's table, for 64 routes. A call looks at all of it, so it is made no larger than needed. */
 enum { TABLE_SIZE = MVPN_TABLE_SIZE(64) };
 
+/* One address family of a VRF. */
 typedef struct {
-    uint8_t tables[2][TABLE_SIZE];                     /* of AFI 1 and AFI 2 */
-    size_t messages, dropped, damaged_runs;            /* a run is the NLRIs of one attribute */
-    size_t added, replaced, withdrawn, refused, other; /* NLRIs, by what became of them */
+    uint8_t table[TABLE_SIZE];
+    source_actives sources;
+    customer_states states;
+} customer_family;
+
+/* NLRIs, by what became of them. */
+typedef struct { size_t added, replaced, withdrawn, refused; } changes;
+
+typedef struct {
+    customer_family families[2];            /* of AFI 1 and AFI 2 */
+    size_t messages, dropped, damaged_runs; /* a run is the NLRIs of one attribute */
+    changes routes, sources;                /* of S-PMSI A-D and Source Active A-D routes */
+    size_t other;                           /* NLRIs of other route types */
 } customer_vrf;
 
 /* ---- the table of a family */
 
+static customer_family *family_of(customer_vrf *vrf, uint16_t afi)
+{
+    return &vrf->families[afi - MVPN_AFI_IPV4];
+}
+
 static uint8_t *table_of(customer_vrf *vrf, uint16_t afi)
 {
-    return vrf->tables[afi - MVPN_AFI_IPV4];
+    return family_of(vrf, afi)->table;
 }
 
 /* The AFIs and the size are right, so neither call is refused. */
@@ -48,10 +71,10 @@ static void withdraw(customer_vrf *vrf, uint16_t afi, octets nlri)
 {
     uint32_t number = mvpn_withdraw(table_of(vrf, afi), TABLE_SIZE, nlri.at, nlri.size);
     if (number == MVPN_DONE) {
-        vrf->withdrawn++;
+        vrf->routes.withdrawn++;
         printf("withdrawn");
     } else {
-        vrf->refused++;
+        vrf->routes.refused++;
         printf("not withdrawn, ");
         print_number(number);
     }
@@ -61,9 +84,9 @@ static void withdraw(customer_vrf *vrf, uint16_t afi, octets nlri)
  * ("treat-as-withdraw", RFC 7606, section 2). The library leaves that to us: a refusal changes nothing. */
 static void treat_as_withdrawn(customer_vrf *vrf, uint16_t afi, octets nlri)
 {
-    vrf->refused++;
+    vrf->routes.refused++;
     if (mvpn_withdraw(table_of(vrf, afi), TABLE_SIZE, nlri.at, nlri.size) == MVPN_DONE) {
-        vrf->withdrawn++;
+        vrf->routes.withdrawn++;
         printf("; treated as withdrawn");
     }
 }
@@ -81,12 +104,49 @@ static void install(customer_vrf *vrf, uint16_t afi, octets nlri, octets tunnel)
         print_number(installed.number);
         treat_as_withdrawn(vrf, afi, nlri);
     } else if (installed.outcome == MVPN_NEW) {
-        vrf->added++;
+        vrf->routes.added++;
         printf("installed, new");
     } else {
-        vrf->replaced++;
+        vrf->routes.replaced++;
         printf("installed, replaces the attribute it had");
     }
+}
+
+/* ---- Source Active A-D routes */
+
+/* A Source Active NLRI has no originator field. The PE that originates the route puts the address into its next hop by which
+ * its VRF is known (RFC 6514, section 13.1), and the same address into the originator field of its S-PMSI A-D routes (section
+ * 12.1); route reflectors leave it. So it is the next hop that we take. A router whose ASBRs put themselves there needs
+ * another way. */
+static void keep_source(customer_vrf *vrf, const route_run *routes, octets nlri)
+{
+    source_actives *sources = &family_of(vrf, routes->afi)->sources;
+    octets originator = routes->next_hop;
+    if (originator.size != 4 && originator.size != 16) {
+        vrf->sources.refused++;
+        printf("not kept, a next hop of %zu octets", originator.size);
+        if (forget_source_active(sources, nlri)) {
+            vrf->sources.withdrawn++;
+            printf("; treated as withdrawn");
+        }
+        return;
+    }
+    keeping kept = keep_source_active(sources, nlri, originator);
+    if (kept == NOT_KEPT) {
+        vrf->sources.refused++;
+        printf("not kept, there are %d", MVPN_MOST_ITEMS);
+        return;
+    }
+    *(kept == KEPT_NEW ? &vrf->sources.added : &vrf->sources.replaced) += 1;
+    printf("kept, %s, originator ", kept == KEPT_NEW ? "new" : "replaced");
+    print_address(originator.at, originator.size);
+}
+
+static void forget_source(customer_vrf *vrf, uint16_t afi, octets nlri)
+{
+    bool forgotten = forget_source_active(&family_of(vrf, afi)->sources, nlri);
+    *(forgotten ? &vrf->sources.withdrawn : &vrf->sources.refused) += 1;
+    printf("%s", forgotten ? "withdrawn" : "not withdrawn, it was not kept");
 }
 
 /* ---- the NLRIs of an attribute */
@@ -126,30 +186,34 @@ static octets nlri_at(const route_run *routes, size_t at, size_t *route_type)
 
 typedef enum { INSTALL, WITHDRAW } change;
 
-static void change_route(customer_vrf *vrf, change what, uint16_t afi, octets nlri, octets tunnel)
+/* S-PMSI A-D routes go into the table, Source Active A-D routes are kept beside it; others are named and counted. */
+static void use_nlri(customer_vrf *vrf, change what, const route_run *routes, octets nlri, size_t route_type, octets tunnel)
 {
-    mvpn_nlri route = mvpn_nlri_read(afi, nlri.at, nlri.size).nlri;
+    if (route_type != MVPN_S_PMSI && route_type != MVPN_SOURCE_ACTIVE) {
+        vrf->other++;
+        printf("route type %u, %s: not used", nlri.at[0], route_type_name(nlri.at[0]));
+        return;
+    }
+    mvpn_nlri route = mvpn_nlri_read(routes->afi, nlri.at, nlri.size).nlri;
     print_route(&route);
     printf(": ");
-    if (what == INSTALL)
-        install(vrf, afi, nlri, tunnel);
+    if (route_type == MVPN_SOURCE_ACTIVE && what == INSTALL)
+        keep_source(vrf, routes, nlri);
+    else if (route_type == MVPN_SOURCE_ACTIVE)
+        forget_source(vrf, routes->afi, nlri);
+    else if (what == INSTALL)
+        install(vrf, routes->afi, nlri, tunnel);
     else
-        withdraw(vrf, afi, nlri);
+        withdraw(vrf, routes->afi, nlri);
 }
 
-/* Only S-PMSI A-D routes are for the table; others are named and counted. */
 static void use_nlris(customer_vrf *vrf, change what, const route_run *routes, octets tunnel)
 {
     size_t at = 0, route_type;
     octets nlri;
     while ((nlri = nlri_at(routes, at, &route_type)).size > 0) {
         printf("    octet %zu: ", at);
-        if (route_type == MVPN_S_PMSI)
-            change_route(vrf, what, routes->afi, nlri, tunnel);
-        else {
-            vrf->other++;
-            printf("route type %u, %s: not for the table", nlri.at[0], route_type_name(nlri.at[0]));
-        }
+        use_nlri(vrf, what, routes, nlri, route_type, tunnel);
         printf("\n");
         at += nlri.size;
     }
@@ -233,42 +297,45 @@ static bool use_messages(customer_vrf *vrf, FILE *input)
     }
 }
 
+static void print_changes(const char *of, const changes *made)
+{
+    printf("%s: new %zu, replaced %zu, withdrawn %zu, refused %zu\n", of, made->added, made->replaced, made->withdrawn,
+           made->refused);
+}
+
 static void print_counts(const customer_vrf *vrf)
 {
     printf("\nmessages: read %zu, dropped %zu; runs with a damaged NLRI %zu\n", vrf->messages - vrf->dropped, vrf->dropped,
            vrf->damaged_runs);
-    printf("routes: new %zu, replaced %zu, withdrawn %zu, refused %zu; other NLRIs %zu\n", vrf->added, vrf->replaced,
-           vrf->withdrawn, vrf->refused, vrf->other);
+    print_changes("S-PMSI A-D routes", &vrf->routes);
+    print_changes("Source Active A-D routes", &vrf->sources);
+    printf("other NLRIs: %zu\n", vrf->other);
 }
 
-/* ---- flows */
+/* ---- answers */
 
-typedef struct { mvpn_address router, source, group; } customer_flow;
-
-static bool parse_address(const char *text, mvpn_address *address)
+/* The group tells the family, and with it the table. */
+static uint16_t afi_of(const request *asked)
 {
-    address->size = strchr(text, ':') ? 16 : 4;
-    if (inet_pton(address->size == 4 ? AF_INET : AF_INET6, text, address->octets) == 1)
-        return true;
-    fprintf(stderr, "pe_daemon: %s is not an address\n", text);
-    return false;
+    return asked->group.size == 4 ? MVPN_AFI_IPV4 : MVPN_AFI_IPV6;
 }
 
-static bool parse_flow(char **words, customer_flow *flow)
+static void print_asked(const char *what, const request *asked)
 {
-    return parse_address(words[0], &flow->router) && parse_address(words[1], &flow->source) &&
-           parse_address(words[2], &flow->group);
-}
-
-static void print_flow(const customer_flow *flow, uint16_t afi)
-{
-    mvpn_group group = mvpn_group_class(afi, flow->group.octets, flow->group.size);
-    printf("\nflow ");
-    print_pair(&flow->source, &flow->group);
+    mvpn_group group = mvpn_group_class(afi_of(asked), asked->group.octets, asked->group.size);
+    printf("\n%s ", what);
+    print_pair(&asked->source, &asked->group);
     printf(" of router ");
-    print_address(flow->router.octets, flow->router.size);
+    print_address(asked->router.octets, asked->router.size);
     if (group.number == MVPN_DONE)
         printf(", %s group", group_class_name(group.group_class));
+    printf("\n");
+}
+
+static void print_refusal(uint32_t number)
+{
+    printf("  refused, ");
+    print_number(number);
     printf("\n");
 }
 
@@ -288,23 +355,109 @@ static void print_match(uint16_t afi, mvpn_matched match, const uint8_t *output)
     printf("\n");
 }
 
-/* The group tells the family, and with it the table. */
-static void answer(customer_vrf *vrf, const customer_flow *flow)
+static void answer_flow(customer_vrf *vrf, const request *flow)
 {
-    uint16_t afi = flow->group.size == 4 ? MVPN_AFI_IPV4 : MVPN_AFI_IPV6;
     uint8_t output[MVPN_MATCH_OUTPUT];
-    mvpn_matched match = mvpn_match(table_of(vrf, afi), TABLE_SIZE, flow->router.octets, flow->router.size,
+    mvpn_matched match = mvpn_match(table_of(vrf, afi_of(flow)), TABLE_SIZE, flow->router.octets, flow->router.size,
                                     flow->source.octets, flow->source.size, flow->group.octets, flow->group.size,
                                     output, sizeof output);
-    print_flow(flow, afi);
-    if (match.number != MVPN_DONE) {
-        printf("  refused, ");
-        print_number(match.number);
-        printf("\n");
-    } else if (match.tier == MVPN_NO_TIER)
+    print_asked("flow", flow);
+    if (match.number != MVPN_DONE)
+        print_refusal(match.number);
+    else if (match.tier == MVPN_NO_TIER)
         printf("  no route\n");
     else
-        print_match(afi, match, output);
+        print_match(afi_of(flow), match, output);
+}
+
+/* ---- shared trees (RFC 6625, section 3.2.2) */
+
+/* The answer for a tree of which these facts are told. */
+static mvpn_matched match_shared(customer_vrf *vrf, const request *tree, mvpn_shared_tree facts,
+                                 uint8_t output[MVPN_MATCH_OUTPUT])
+{
+    uint8_t sources_list[SOURCE_ACTIVES_SPACE], states_list[STATES_SPACE];
+    customer_family *family = family_of(vrf, afi_of(tree));
+    octets sources = list_source_actives(&family->sources, sources_list), states = list_states(&family->states, states_list);
+    return mvpn_match_shared(family->table, TABLE_SIZE, tree->router.octets, tree->router.size, tree->group.octets,
+                             tree->group.size, facts, sources.at, sources.size, states.at, states.size,
+                             output, MVPN_MATCH_OUTPUT);
+}
+
+/* Whether the tree would have a route if no more than this were told. */
+static bool has_route(customer_vrf *vrf, const request *tree, mvpn_shared_tree facts)
+{
+    uint8_t output[MVPN_MATCH_OUTPUT];
+    return match_shared(vrf, tree, facts, output).tier != MVPN_NO_TIER;
+}
+
+/* The conditions that hold, of a tree that has a route. Three of them are told; the library says that the other one holds by
+ * the route that it gives where none of the three is told. */
+static void print_conditions(customer_vrf *vrf, const request *tree)
+{
+    if (tree->facts.upstream)
+        printf("  condition:  the router is the upstream PE for the C-RP\n");
+    if (has_route(vrf, tree, (mvpn_shared_tree){ 0, 0, 0 }))
+        printf("  condition:  the router has originated a Source Active route for which there is no state\n");
+    if (tree->facts.bidirectional)
+        printf("  condition:  the group is a BIDIR-PIM group\n");
+    if (tree->facts.source_active_unused)
+        printf("  condition:  Source Active routes are not being used\n");
+}
+
+static void answer_shared_tree(customer_vrf *vrf, const request *tree)
+{
+    uint8_t output[MVPN_MATCH_OUTPUT];
+    mvpn_matched match = match_shared(vrf, tree, tree->facts, output);
+    print_asked("shared tree", tree);
+    if (match.number != MVPN_DONE)
+        print_refusal(match.number);
+    else if (match.tier == MVPN_NO_TIER)
+        printf("  no route%s\n", has_route(vrf, tree, (mvpn_shared_tree){ 1, 0, 0 }) ? ", as no condition holds" : "");
+    else {
+        print_conditions(vrf, tree);
+        print_match(afi_of(tree), match, output);
+    }
+}
+
+/* ---- requests */
+
+static void take_state(customer_vrf *vrf, const request *told)
+{
+    printf("\nstate ");
+    print_pair(&told->source, &told->group);
+    if (hold_state(&family_of(vrf, afi_of(told))->states, &told->source, &told->group))
+        printf(": held\n");
+    else
+        printf(": not held, there are %d\n", MVPN_MOST_ITEMS);
+}
+
+static void answer(customer_vrf *vrf, const request *asked)
+{
+    switch (asked->kind) {
+    case FLOW:
+        answer_flow(vrf, asked);
+        break;
+    case SHARED_TREE:
+        answer_shared_tree(vrf, asked);
+        break;
+    case STATE:
+        take_state(vrf, asked);
+        break;
+    }
+}
+
+/* Whether every request of the command line is right. */
+static bool requests_are_right(char **words)
+{
+    request asked;
+    while (*words) {
+        int count = parse_request(words, &asked);
+        if (count == 0)
+            return false;
+        words += count;
+    }
+    return true;
 }
 
 /* ---- the program */
@@ -321,14 +474,13 @@ static FILE *open_input(const char *name)
 int main(int argc, char **argv)
 {
     static customer_vrf vrf;
-    customer_flow flow;
-    if (argc < 2 || (argc - 2) % 3 != 0) {
-        fprintf(stderr, "usage: pe_daemon FILE [ROUTER SOURCE GROUP]...\n");
+    request asked;
+    if (argc < 2) {
+        print_usage();
         return 2;
     }
-    for (int i = 2; i < argc; i += 3)
-        if (!parse_flow(argv + i, &flow))
-            return 2;
+    if (!requests_are_right(argv + 2))
+        return 2;
     FILE *input = open_input(argv[1]);
     if (!input)
         return 1;
@@ -338,9 +490,10 @@ int main(int argc, char **argv)
     if (ferror(input))
         fprintf(stderr, "pe_daemon: %s cannot be read\n", argv[1]);
     print_counts(&vrf);
-    for (int i = 2; i < argc; i += 3)
-        if (parse_flow(argv + i, &flow))
-            answer(&vrf, &flow);
+    for (char **words = argv + 2; *words;) {
+        words += parse_request(words, &asked);
+        answer(&vrf, &asked);
+    }
     fclose(input);
     return whole ? 0 : 1;
 }

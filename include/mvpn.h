@@ -1,10 +1,10 @@
 /*
  * mvpn.h: MCAST-VPN NLRI (RFC 6514, RFC 6625) and the PMSI Tunnel attribute (RFC 6514, RFC 8556), read and written; one
  * VRF's S-PMSI A-D routes for one address family, kept in memory that the caller lends, and the route that a customer
- * flow (C-S,C-G) matches.
+ * flow (C-S,C-G) or a shared tree (C-*,C-G) takes.
  *
- * Best paths, Route Targets, BGP sessions and joining tunnels are the daemon's. BIDIR groups and (C-*,C-G) reception are
- * out of its scope.
+ * Best paths, Route Targets, BGP sessions and joining tunnels are the daemon's. So is the knowledge of a shared tree that its
+ * match is told: which PE is upstream, which groups are BIDIR-PIM, the Source Active routes and the (C-S,C-G) states.
  *
  * Every call ends with a stated answer on any octets. A call that refuses returns its number, changes no octet of any
  * buffer, and leaves every other field of its answer 0, but for the count and offset of a walk and the cursor of a step.
@@ -27,9 +27,9 @@
 #include <stdint.h>
 
 /* The version of this header and its archive; before 1.0.0 a new minor version may change calls. */
-#define MVPN_VERSION "0.3.0"
+#define MVPN_VERSION "0.4.0"
 #define MVPN_VERSION_MAJOR 0
-#define MVPN_VERSION_MINOR 3
+#define MVPN_VERSION_MINOR 4
 #define MVPN_VERSION_PATCH 0
 
 #ifdef __cplusplus
@@ -39,21 +39,21 @@ extern "C" {
 /* The numbers a call gives back. */
 enum {
     MVPN_DONE = 0,    /* the work was done */
-    MVPN_SHORT = 1,   /* fewer octets than the header, or than the Length field, asks */
+    MVPN_SHORT = 1,   /* fewer octets than the header, or than the Length field, asks; a list that ends before its items do */
     MVPN_TYPE = 2,    /* route type not 1 to 7 */
     MVPN_LENGTH = 3,  /* the body ends inside a field, or what remains is not the last field, or octets follow a single NLRI */
     MVPN_WIDTH = 4,   /* an address length that the type and family do not allow; at writing also an originator not of 4 or 16 octets */
     MVPN_KEY = 5,     /* a Leaf's key is not a well-formed NLRI of type 1, 2 or 3 */
     MVPN_TUNNEL = 6,  /* tunnel type not 0 to 7 or 11 */
     MVPN_IDENT = 7,   /* identifier not of that tunnel type's form */
-    MVPN_LONG = 8,    /* attribute over 64 octets, or run over 4,096 */
+    MVPN_LONG = 8,    /* attribute over 64 octets, run over 4,096, or list of more items than the call takes */
     MVPN_LABEL = 9,   /* BIER with label 0 at install; a label field over 16,777,215 at writing */
     MVPN_FAMILY = 10, /* AFI not 1 or 2 */
     MVPN_TABLE = 11,  /* lent memory is not a sound table; for making one: not of a table's size */
-    MVPN_KIND = 12,   /* well-formed NLRI, but not type 3 */
+    MVPN_KIND = 12,   /* well-formed NLRI, but not type 3; in a list of Source Active routes: not type 5 */
     MVPN_ROOM = 13,   /* new NLRI and every place taken */
     MVPN_ABSENT = 14, /* withdrawn NLRI not in the table */
-    MVPN_FLOW = 15,   /* router address not 4 or 16 octets, source or group not of the family's size, or group not multicast */
+    MVPN_FLOW = 15,   /* router or originator address not 4 or 16 octets, source or group not of the family's size, or group asked not multicast */
     MVPN_SPACE = 16   /* output buffer too small */
 };
 
@@ -210,8 +210,8 @@ mvpn_written mvpn_attribute_write(uint8_t flags, uint8_t tunnel_type, uint32_t l
  * PMSI Tunnel attribute. Routes stand in the order of their NLRIs, octet by octet, and every octet behind them is 0, so for
  * one family and number of places a set of routes has one image. A table may be copied, stored and lent again anywhere.
  *
- * Install, withdraw and match look at every octet of the table, and refuse one that is not sound; beyond that, their cost
- * grows with the places that are taken.
+ * Install, withdraw and both matches look at every octet of the table, and refuse one that is not sound; beyond that, their
+ * cost grows with the places that are taken.
  */
 enum {
     MVPN_TABLE_HEADER = 8,
@@ -222,6 +222,42 @@ enum {
 
 /* The octets of a table of `places` places. */
 #define MVPN_TABLE_SIZE(places) ((size_t)MVPN_TABLE_HEADER + (size_t)MVPN_PLACE * (size_t)(places))
+
+/*
+ * A list, as calls take it: a count of items (2 octets), then the items. An item is a fixed number of fields, which the call
+ * names; a field is its size (2 octets) and that many octets. A list that ends before its items do is SHORT, and the count of
+ * one of fewer than two octets is 0. Octets after the last item are not looked at.
+ */
+enum { MVPN_LIST_COUNT = 2, MVPN_FIELD_SIZE = 2 };
+
+/* The list that has no items. */
+static const uint8_t mvpn_no_items[MVPN_LIST_COUNT] = {0, 0};
+
+/* Starts a list of `count` items in `list`, a buffer of `space` octets: the octets it has so far, or 0 where there is no space. */
+static inline size_t
+mvpn_list_start(uint8_t *list, size_t space, uint16_t count)
+{
+    if (space < MVPN_LIST_COUNT) return 0;
+    list[0] = (uint8_t)(count >> 8);
+    list[1] = (uint8_t)(count & 255);
+    return MVPN_LIST_COUNT;
+}
+
+/*
+ * Appends a field to a list that has `size` octets: the octets it has then. 0, and nothing written, where there is no space,
+ * where the field has over 65,535 octets, and where `size` is 0, so that a caller may test the last answer alone.
+ */
+static inline size_t
+mvpn_list_field(uint8_t *list, size_t space, size_t size, const uint8_t *field, size_t field_len)
+{
+    size_t i;
+    if (size < MVPN_LIST_COUNT || space < size || 65535 < field_len) return 0;
+    if (space - size < MVPN_FIELD_SIZE + field_len) return 0;
+    list[size] = (uint8_t)(field_len >> 8);
+    list[size + 1] = (uint8_t)(field_len & 255);
+    for (i = 0; i < field_len; i++) list[size + MVPN_FIELD_SIZE + i] = field[i];
+    return size + MVPN_FIELD_SIZE + field_len;
+}
 
 /* Tiers of a match, in the order in which they are tried; no tier where no route matches. */
 enum {
@@ -282,6 +318,44 @@ uint32_t mvpn_withdraw(uint8_t *table, size_t table_len, const uint8_t *nlri, si
 mvpn_matched mvpn_match(const uint8_t *table, size_t table_len, const uint8_t *router, size_t router_len,
                         const uint8_t *source, size_t source_len, const uint8_t *group, size_t group_len,
                         uint8_t *output, size_t output_len);
+
+/* The most items of each list of a match for a shared tree. */
+enum { MVPN_MOST_ITEMS = 256 };
+
+/* What the daemon knows of a shared tree (C-*,C-G) and the PE asked (RFC 6625, section 3.2.2); each is 0 or not. */
+typedef struct {
+    uint32_t upstream;             /* the PE is the upstream PE for the C-RP of the group */
+    uint32_t bidirectional;        /* the group is a BIDIR-PIM group */
+    uint32_t source_active_unused; /* Source Active A-D routes are not being used */
+} mvpn_shared_tree;
+
+/*
+ * The route that a shared tree (C-*,C-G) takes (RFC 6625, section 3.2.2), among those whose originator equals `router`, the
+ * PE asked, in size and octets. For an ASM group a route is eligible exactly when one of these holds:
+ *   - facts.upstream;
+ *   - one or more Source Active routes of the list are for this group and were originated by this PE, and for at least one of
+ *     them no state of the list has its source and its group;
+ *   - facts.bidirectional;
+ *   - facts.source_active_unused.
+ * It is told by the daemon, and not guessed from an empty list, that Source Active routes are not being used.
+ *
+ * `source_actives`: at most 256 items of two fields, the originator (4 or 16 octets) and the NLRI of a Source Active A-D
+ * route. `states`: at most 256 items of two fields, source and group of a (C-S,C-G) state, each of the family's size.
+ *
+ * TABLE; LONG (a count over 256, of either list); SHORT (either list ends before its items do); FLOW (router or an originator
+ * not of 4 or 16 octets, a state's source or group not of the family's size, a group not multicast or not of the family's
+ * size; only the group asked must be multicast); then for each Source Active route in turn NLRI reading under the table's AFI
+ * (LENGTH for octets after it) and KIND (not type 5); SPACE (an output under MVPN_MATCH_OUTPUT octets, also where nothing
+ * matches).
+ *
+ * The answer and the output are as those of a match: tier 3 with an eligible route of a wildcard source and this group, else
+ * tier 4 with an eligible route of both wildcards, else tier 0; ties go to the lowest route distinguisher. An SSM group gets
+ * tier 0, whatever is told.
+ */
+mvpn_matched mvpn_match_shared(const uint8_t *table, size_t table_len, const uint8_t *router, size_t router_len,
+                               const uint8_t *group, size_t group_len, mvpn_shared_tree facts,
+                               const uint8_t *source_actives, size_t source_actives_len,
+                               const uint8_t *states, size_t states_len, uint8_t *output, size_t output_len);
 
 #ifdef __cplusplus
 }

@@ -19,6 +19,7 @@ pub enum Call {
     Install,
     Withdraw,
     Match,
+    MatchShared,
     /// A call in a sequence on one table.
     Sequence,
 }
@@ -43,16 +44,18 @@ pub enum Seen {
     Family(u16),
     /// AFI and outcome of an install.
     Outcome(u16, u32),
-    /// AFI and tier of a match.
+    /// AFI and tier of a match of either kind.
     Tier(u16, u32),
     /// AFI and places of a sequence's table, and whether the premise of demand 3 holds.
     Places(u16, usize, bool),
     /// A call of a sequence that belongs to nobody.
     Nobody,
+    /// AFI and tier of a sequence's match for a shared tree.
+    SharedTree(u16, u32),
 }
 
-/// The numbers that each call can give (document 01, "The numbers a call gives back").
-const NUMBERS: [(Call, &[u32]); 11] = [
+/// The numbers that each call can give (document 01, "The numbers a call gives back"; document 02).
+const NUMBERS: [(Call, &[u32]); 12] = [
     (Call::NlriRead, &[0, 1, 2, 3, 4, 5, 10]),
     (Call::NlriWrite, &[0, 2, 4, 5, 10, 16]),
     (Call::Step, &[0, 1, 2, 3, 4, 5, 8, 10]),
@@ -64,6 +67,7 @@ const NUMBERS: [(Call, &[u32]); 11] = [
     (Call::Install, &[0, 1, 2, 3, 4, 5, 6, 7, 8, 9, 11, 12, 13]),
     (Call::Withdraw, &[0, 1, 2, 3, 4, 5, 11, 12, 14]),
     (Call::Match, &[0, 11, 15, 16]),
+    (Call::MatchShared, &[0, 1, 2, 3, 4, 5, 8, 11, 12, 15, 16]),
 ];
 
 /// The numbers of places that sequences and table cases use.
@@ -112,6 +116,9 @@ fn required_of_tables(afi: u16) -> Vec<(Call, Seen)> {
     let mut rows = vec![(Call::Make, Seen::Family(afi)), (Call::Withdraw, Seen::Family(afi))];
     rows.extend((1..=2).map(|outcome| (Call::Install, Seen::Outcome(afi, outcome))));
     rows.extend((0..=4).map(|tier| (Call::Match, Seen::Tier(afi, tier))));
+    for tier in [0, 3, 4] {
+        rows.extend([(Call::MatchShared, Seen::Tier(afi, tier)), (Call::Sequence, Seen::SharedTree(afi, tier))]);
+    }
     for places in PLACES {
         rows.extend([true, false].map(|premise| (Call::Sequence, Seen::Places(afi, places, premise))));
     }

@@ -141,6 +141,15 @@ pub struct Matched {
     pub attribute_size: u32,
 }
 
+/// What the daemon knows of a shared tree and the PE asked; each is 0 or not.
+#[repr(C)]
+#[derive(Clone, Copy, Debug, Default, PartialEq, Eq)]
+pub struct SharedTree {
+    pub upstream: u32,
+    pub bidirectional: u32,
+    pub source_active_unused: u32,
+}
+
 // The sizes that a C compiler gives these structs where size_t has eight octets.
 #[cfg(target_pointer_width = "64")]
 const _: () = assert!(
@@ -151,6 +160,7 @@ const _: () = assert!(
         && size_of::<AttributeReading>() == 80
         && size_of::<Installed>() == 8
         && size_of::<Matched>() == 16
+        && size_of::<SharedTree>() == 12
 );
 
 /// The calls as C declares them.
@@ -170,6 +180,11 @@ pub mod raw {
     #[rustfmt::skip]
     pub type Match = unsafe extern "C" fn(
         *const u8, usize, *const u8, usize, *const u8, usize, *const u8, usize, *mut u8, usize,
+    ) -> Matched;
+    #[rustfmt::skip]
+    pub type MatchShared = unsafe extern "C" fn(
+        *const u8, usize, *const u8, usize, *const u8, usize, SharedTree, *const u8, usize, *const u8, usize,
+        *mut u8, usize,
     ) -> Matched;
 
     extern "C" {
@@ -214,6 +229,21 @@ pub mod raw {
             source_len: usize,
             group: *const u8,
             group_len: usize,
+            output: *mut u8,
+            output_len: usize,
+        ) -> Matched;
+        pub fn mvpn_match_shared(
+            table: *const u8,
+            table_len: usize,
+            router: *const u8,
+            router_len: usize,
+            group: *const u8,
+            group_len: usize,
+            facts: SharedTree,
+            source_actives: *const u8,
+            source_actives_len: usize,
+            states: *const u8,
+            states_len: usize,
             output: *mut u8,
             output_len: usize,
         ) -> Matched;
@@ -284,6 +314,36 @@ pub fn match_flow(table: &mut Lent, flow: &mut [Lent; 3], output: &mut Lent) -> 
             source.1,
             group.0,
             group.1,
+            place,
+            room,
+        )
+    }
+}
+
+/// `tree` is the router and the group; `lists` are the Source Active routes and the states.
+pub fn match_shared(
+    table: &mut Lent,
+    tree: [&mut Lent; 2],
+    facts: SharedTree,
+    lists: &mut [Lent; 2],
+    output: &mut Lent,
+) -> Matched {
+    let [router, group] = tree.map(|field| (field.pointer(), field.len()));
+    let [source_actives, states] = lists.each_mut().map(|list| (list.pointer(), list.len()));
+    let (place, room) = (output.pointer(), output.len());
+    unsafe {
+        raw::mvpn_match_shared(
+            table.pointer(),
+            table.len(),
+            router.0,
+            router.1,
+            group.0,
+            group.1,
+            facts,
+            source_actives.0,
+            source_actives.1,
+            states.0,
+            states.1,
             place,
             room,
         )

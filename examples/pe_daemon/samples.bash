@@ -1,10 +1,11 @@
 #!/usr/bin/env bash
-# Runs the program over the sample messages and asks it about flows: samples.bash PROGRAM. What it prints is samples.txt.
+# Runs the program over the sample messages and asks it about flows and shared trees: samples.bash PROGRAM. What it prints is
+# samples.txt.
 set -euo pipefail
 program=$(realpath "$1")
 cd "$(dirname "${BASH_SOURCE[0]}")/../updates"
 
-# run FILE [ROUTER SOURCE GROUP]...
+# run FILE [REQUEST]...
 run() {
     printf '\n==== pe_daemon %s\n\n' "$1"
     "$program" "$@" || echo "exit status $?"
@@ -41,6 +42,32 @@ run ipv6.bin \
 
 run both.bin 10.0.0.1 192.0.2.1 232.1.1.1 10.0.0.1 192.0.2.1 239.1.1.1 10.0.0.1 2001:db8:1::1 ff3e::1
 
+# The tree of PE 10.0.0.1 is eligible by its Source Active routes until there is a state for each of them, then by what is told,
+# one condition at a time; PE 10.0.0.2 has another Source Active route, and a route for everything only. Then a Source Active
+# route that moved from the one to the other, one that was withdrawn, an SSM group, a PE without routes, a group that is not
+# multicast, IPv6, and a state with a source of the other family.
+run shared.bin \
+    shared 10.0.0.1 239.1.1.1 \
+    state 192.0.2.1 239.1.1.1 \
+    shared 10.0.0.1 239.1.1.1 upstream \
+    state 192.0.2.2 239.1.1.1 \
+    shared 10.0.0.1 239.1.1.1 \
+    shared 10.0.0.1 239.1.1.1 upstream \
+    shared 10.0.0.1 239.1.1.1 bidir \
+    shared 10.0.0.1 239.1.1.1 unused \
+    shared 10.0.0.2 239.1.1.1 \
+    shared 10.0.0.1 239.1.1.4 \
+    shared 10.0.0.2 239.1.1.4 \
+    shared 10.0.0.1 239.1.1.5 \
+    shared 10.0.0.1 239.1.1.5 unused bidir upstream \
+    shared 10.0.0.1 232.9.9.9 upstream bidir unused \
+    shared 10.0.0.3 239.1.1.1 upstream \
+    shared 10.0.0.1 192.0.2.2 upstream \
+    shared 2001:db8::1 ff0e::1 \
+    shared 10.0.0.1 ff0e::1 \
+    state 2001:db8:1::1 239.1.1.1 \
+    shared 10.0.0.1 239.1.1.1 upstream
+
 # Nothing was installed for the first flow, and what was installed for the second is gone again.
 run damaged.bin 10.0.0.1 192.0.2.1 239.1.1.1 10.0.0.1 192.0.2.1 232.1.1.1
 
@@ -58,6 +85,24 @@ header() {
 header '\x00\x12' | run -
 header '\x10\x01' | run -
 
-# Two addresses of three, and a word that is no address.
+# source_active NUMBER: an UPDATE of 10.0.0.1, with the Source Active route of source 192.0.N.N and group 239.1.1.1.
+source_active() {
+    header '\x00\x37'
+    printf '\x00\x00\x00\x20\x80\x0E\x1D\x00\x01\x05\x04\x0A\x00\x00\x01\x00\x05\x12\x00\x00\x00\x64\x00\x00\x00\x07'
+    printf "\\x20\\xC0\\x00$(printf '\\x%02X\\x%02X' $(($1 / 256)) $(($1 % 256)))\\x20\\xEF\\x01\\x01\\x01"
+}
+
+# The most Source Active routes and states, all of them lent, and one more of each. The tree is eligible until the last state
+# is held. What is printed of the messages between the first and the last two, and of all but the last two states, is left out.
+mapfile -t states < <(printf 'state\n192.0.0.%d\n239.1.1.1\n' {0..254})
+{ head -c 115 shared.bin && for i in {0..256}; do source_active "$i"; done; } |
+    run - "${states[@]}" shared 10.0.0.1 239.1.1.1 state 192.0.0.255 239.1.1.1 shared 10.0.0.1 239.1.1.1 \
+        state 192.0.1.0 239.1.1.1 |
+    sed -e '8,772d' -e '/^state (192\.0\.0\.0,/,/^state (192\.0\.0\.254,/d' | cat -s
+
+# Two addresses of three, words that are no addresses, and requests that are not whole.
 run ipv4.bin 10.0.0.1 192.0.2.1 2>&1
 run ipv4.bin 10.0.0.1 192.0.2.1 all 2>&1
+run ipv4.bin shared 10.0.0.1 2>&1
+run ipv4.bin shared 10.0.0.1 239.1.1.1 downstream 2>&1
+run ipv4.bin state 192.0.2.1 2>&1

@@ -113,16 +113,16 @@ static void keep_run(update *found, route_run *kept, size_t afi, size_t safi, oc
         found->skipped++;
 }
 
-/* AFI, SAFI, the next hop with its size, a reserved octet, then NLRIs. A router that resolves next hops would keep it. */
+/* AFI, SAFI, the next hop with its size, a reserved octet, then NLRIs. */
 static const char *keep_reach(update *found, octets value)
 {
     size_t afi, safi;
-    octets next_hop, reserved;
+    octets reserved;
     if (found->reach.given)
         return "MP_REACH_NLRI is given twice";
     found->reach.given = true;
-    if (!take_number(&value, 2, &afi) || !take_number(&value, 1, &safi) || !take_sized(&value, 1, &next_hop) ||
-        !take(&value, 1, &reserved))
+    if (!take_number(&value, 2, &afi) || !take_number(&value, 1, &safi) ||
+        !take_sized(&value, 1, &found->reach.next_hop) || !take(&value, 1, &reserved))
         return "MP_REACH_NLRI ends before its NLRIs";
     keep_run(found, &found->reach, afi, safi, value);
     return NULL;

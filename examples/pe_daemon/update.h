@@ -21,8 +21,9 @@ typedef struct { const char *text; size_t offset; } fault;
 /* An MP_REACH_NLRI or MP_UNREACH_NLRI attribute. */
 typedef struct {
     bool given;
-    uint16_t afi; /* 1 or 2 where it is of SAFI 5 (MCAST-VPN); 0 where it is of another family or not given */
-    octets run;   /* its NLRIs, one after another */
+    uint16_t afi;    /* 1 or 2 where it is of SAFI 5 (MCAST-VPN); 0 where it is of another family or not given */
+    octets run;      /* its NLRIs, one after another */
+    octets next_hop; /* of MP_REACH_NLRI */
 } route_run;
 
 typedef struct {

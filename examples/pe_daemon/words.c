@@ -21,11 +21,11 @@ static const number_words numbers[] = {
     WORDS(MVPN_KEY, "a Leaf's key is not a well-formed NLRI of type 1, 2 or 3"),
     WORDS(MVPN_TUNNEL, "unknown tunnel type"),
     WORDS(MVPN_IDENT, "the tunnel identifier is not of the tunnel type's form"),
-    WORDS(MVPN_LONG, "more octets than the library takes"),
+    WORDS(MVPN_LONG, "more octets or items than the library takes"),
     WORDS(MVPN_LABEL, "BIER with label 0"),
     WORDS(MVPN_FAMILY, "the AFI is not 1 or 2"),
     WORDS(MVPN_TABLE, "the memory is not a sound table"),
-    WORDS(MVPN_KIND, "not an S-PMSI A-D route"),
+    WORDS(MVPN_KIND, "an NLRI of another route type than is asked"),
     WORDS(MVPN_ROOM, "every place of the table is taken"),
     WORDS(MVPN_ABSENT, "the table does not hold this route"),
     WORDS(MVPN_FLOW, "an address of the wrong size, or a group that is not multicast"),
@@ -167,8 +167,10 @@ void print_route(const mvpn_nlri *route)
     print_distinguisher(route->distinguisher);
     printf(", ");
     print_pair(&route->source, &route->group);
-    printf(", originator ");
-    print_address(route->originator.octets, route->originator.size);
+    if (route->originator.size > 0) {
+        printf(", originator ");
+        print_address(route->originator.octets, route->originator.size);
+    }
 }
 
 /* ---- tunnels (RFC 6514, section 5; RFC 8556, section 2) */

@@ -24,7 +24,7 @@ void print_address(const uint8_t *address, size_t size);
 /* "(192.0.2.1, 232.1.1.1)" */
 void print_pair(const mvpn_address *source, const mvpn_address *group);
 
-/* An S-PMSI A-D route. */
+/* An S-PMSI A-D or Source Active A-D route; the latter has no originator field. */
 void print_route(const mvpn_nlri *route);
 
 /* Tunnel type, label and flags; then the tunnel identifier. `tunnel` is what reading the attribute gave. */

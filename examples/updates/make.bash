@@ -72,6 +72,11 @@ s_pmsi() {
     nlri 3 "$(rd "$1")$(field "$2")$(field "$3")$(address "$4")"
 }
 
+# source_active RD SOURCE GROUP
+source_active() {
+    nlri 5 "$(rd "$1")$(field "$2")$(field "$3")"
+}
+
 # one_of_each: an NLRI of each route type but S-PMSI A-D, and one of a route type that is not defined.
 one_of_each() {
     local rd as=0000FDE8
@@ -79,7 +84,7 @@ one_of_each() {
     nlri 1 "$rd$(address 10.0.0.1)"
     nlri 2 "$rd$as"
     nlri 4 "$(s_pmsi 0:100:7 '*' '*' 10.0.0.1)$(address 10.0.0.2)"
-    nlri 5 "$rd$(field 192.0.2.1)$(field 239.1.1.1)"
+    source_active 0:100:7 192.0.2.1 239.1.1.1
     nlri 6 "$rd$as$(field 192.0.2.9)$(field 239.1.1.1)"
     nlri 7 "$rd$as$(field 192.0.2.1)$(field 232.1.1.1)"
     nlri 9 ABCDEF
@@ -101,21 +106,26 @@ extended() {
     sized 2 "$3"
 }
 
-# reach_value AFI NLRIS, unreach_value AFI NLRIS: of SAFI 5; the next hop is of the same family.
+# reach_value NEXT_HOP AFI NLRIS, unreach_value AFI NLRIS: of SAFI 5.
 reach_value() {
-    local next_hop=10.0.0.1
-    [ "$1" -ne 2 ] || next_hop=2001:db8::1
-    printf '%s05%s00%s' "$(number 2 "$1")" "$(sized 1 "$(address $next_hop)")" "$2"
+    printf '%s05%s00%s' "$(number 2 "$2")" "$(sized 1 "$(address "$1")")" "$3"
 }
 
 unreach_value() {
     printf '%s05%s' "$(number 2 "$1")" "$2"
 }
 
-# reach AFI NLRI..., unreach AFI NLRI...
-reach() {
+# reach_by NEXT_HOP AFI NLRI...
+reach_by() {
     local IFS=
-    attribute 80 14 "$(reach_value "$1" "${*:2}")"
+    attribute 80 14 "$(reach_value "$1" "$2" "${*:3}")"
+}
+
+# reach AFI NLRI..., unreach AFI NLRI...: the next hop is of the same family.
+reach() {
+    local next_hop=10.0.0.1
+    [ "$1" -ne 2 ] || next_hop=2001:db8::1
+    reach_by $next_hop "$@"
 }
 
 unreach() {
@@ -279,7 +289,7 @@ both() {
     update "$(usual)" "$(reach 2 "$ipv6" "$(s_pmsi 0:100:7 '*' '*' 10.0.0.1)")" "$(bier 00 1000 0 1 10.0.0.1)"
 
     # IPv4 routes announced and an IPv6 route withdrawn; an unknown attribute; lengths of two octets
-    update "$(usual)" "$unknown" "$(extended 80 14 "$(reach_value 1 "$ipv4")")" \
+    update "$(usual)" "$unknown" "$(extended 80 14 "$(reach_value 10.0.0.1 1 "$ipv4")")" \
         "$(extended C0 22 "$(tunnel_value 01 6 3000 "$(address 10.0.0.1)")")" "$(unreach 2 "$ipv6")"
 
     # 198.51.100.0/24 withdrawn and 203.0.113.0/24 announced: IPv4 unicast, before and behind the attributes
@@ -293,6 +303,40 @@ both() {
 
     # a route in both attributes is announced; of two PMSI Tunnel attributes the first counts
     update "$(usual)" "$(reach 1 "$ipv4")" "$(unreach 1 "$ipv4")" "$(bier 00 1002 0 1 10.0.0.1)" "$(no_tunnel 00)"
+}
+
+shared() {
+    local one moved gone
+    one=$(source_active 0:100:7 192.0.2.1 239.1.1.1) moved=$(source_active 0:100:9 192.0.2.4 239.1.1.4)
+    gone=$(source_active 0:100:7 192.0.2.5 239.1.1.5)
+
+    # 10.0.0.1 has routes for two groups, of which one is SSM, and one for everything; 10.0.0.2 has one for everything
+    update "$(usual)" "$(reach 1 "$(s_pmsi 0:100:7 '*' 239.1.1.1 10.0.0.1)" "$(s_pmsi 0:100:7 '*' 232.9.9.9 10.0.0.1)")" \
+        "$(bier 00 1000 0 1 10.0.0.1)"
+    update "$(usual)" "$(reach 1 "$(s_pmsi 0:100:7 '*' '*' 10.0.0.1)")" "$(ingress_replication 00 3000 10.0.0.1)"
+    update "$(usual)" "$(reach_by 10.0.0.2 1 "$(s_pmsi 0:100:8 '*' '*' 10.0.0.2)")" "$(mldp_p2mp 10.0.0.2 "$(generic 42)")"
+
+    # the sources that each has found
+    update "$(usual)" "$(reach 1 "$one" "$(source_active 0:100:7 192.0.2.2 239.1.1.1)")"
+    update "$(usual)" "$(reach_by 10.0.0.2 1 "$(source_active 0:100:8 192.0.2.3 239.1.1.1)")"
+
+    # announced by the one, then by the other; announced and withdrawn, and withdrawn again
+    update "$(usual)" "$(reach 1 "$moved")"
+    update "$(usual)" "$(reach_by 10.0.0.2 1 "$moved")"
+    update "$(usual)" "$(reach 1 "$gone")"
+    update "$(unreach 1 "$gone")"
+    update "$(unreach 1 "$gone")"
+
+    # a next hop of no octets: nobody's route, where one was kept and where none was
+    update "$(usual)" "$(reach 1 "$gone")"
+    update "$(usual)" "$(reach_by '*' 1 "$gone")"
+    update "$(usual)" "$(reach_by '*' 1 "$(source_active 0:100:7 192.0.2.6 239.1.1.1)")"
+
+    # IPv6: a PE that is known by an IPv6 address, and one that is known by an IPv4 address
+    update "$(usual)" "$(reach 2 "$(s_pmsi 0:100:7 '*' ff0e::1 2001:db8::1)" "$(source_active 0:100:7 2001:db8:1::1 ff0e::1)")" \
+        "$(pim 4 2001:db8::1 ff0e::8000:2)"
+    update "$(usual)" "$(reach_by 10.0.0.1 2 "$(s_pmsi 1:10.0.0.1:7 '*' '*' 10.0.0.1)" \
+        "$(source_active 1:10.0.0.1:7 2001:db8:1::2 ff0e::1)")" "$(bier 00 1001 0 1 10.0.0.1)"
 }
 
 # Announces a route with a tunnel: announce NLRI TUNNEL.
@@ -350,6 +394,6 @@ octets() {
     printf "$("$1" | sed 's/../\\x&/g')" >"$folder/$1.bin"
 }
 
-for sample in ipv4 ipv6 both damaged; do
+for sample in ipv4 ipv6 both shared damaged; do
     octets "$sample"
 done

@@ -94,3 +94,72 @@ void untouched(const char *shows, lent output)
 {
     same_output(shows, output, output.at, 0);
 }
+
+/* ---- tables */
+
+lent made(uint16_t afi, size_t places)
+{
+    lent table = lent_of(MVPN_TABLE_SIZE(places), FILL);
+    same("making a table", "number", mvpn_make(afi, table.at, table.size), MVPN_DONE);
+    return table;
+}
+
+mvpn_installed install(lent table, const char *nlri_text, const char *attribute_text)
+{
+    lent nlri = hex(nlri_text), attribute = hex(attribute_text);
+    mvpn_installed i = mvpn_install(table.at, table.size, nlri.at, nlri.size, attribute.at, attribute.size);
+    free(nlri.at);
+    free(attribute.at);
+    return i;
+}
+
+lent holding(uint16_t afi, size_t places, const route *routes, size_t count)
+{
+    lent table = made(afi, places);
+    for (size_t i = 0; i < count; i++) {
+        mvpn_installed installed = install(table, routes[i].nlri, routes[i].attribute);
+        same(routes[i].nlri, "number of install", installed.number, MVPN_DONE);
+        same(routes[i].nlri, "outcome", installed.outcome, MVPN_NEW);
+    }
+    return table;
+}
+
+lent copy_of(lent table)
+{
+    lent copy = lent_of(table.size, 0);
+    memcpy(copy.at, table.at, table.size);
+    return copy;
+}
+
+void same_table(const char *shows, lent table, lent expected)
+{
+    same(shows, "table size", table.size, expected.size);
+    same_octets(shows, "table", table.at, expected.at, table.size);
+}
+
+/* ---- matches */
+
+void same_matched(const char *shows, mvpn_matched got, lent output, uint32_t tier, const route *expected)
+{
+    lent nlri = hex(expected ? expected->nlri : ""), attribute = hex(expected ? expected->attribute : "");
+    lent written = lent_of(nlri.size + attribute.size, 0);
+    same(shows, "number", got.number, MVPN_DONE);
+    same(shows, "tier", got.tier, tier);
+    same(shows, "nlri_size", got.nlri_size, nlri.size);
+    same(shows, "attribute_size", got.attribute_size, attribute.size);
+    memcpy(written.at, nlri.at, nlri.size);
+    memcpy(written.at + nlri.size, attribute.at, attribute.size);
+    same_output(shows, output, written.at, written.size);
+    free(nlri.at);
+    free(attribute.at);
+    free(written.at);
+}
+
+void refused_matched(const char *shows, mvpn_matched got, lent output, uint32_t number)
+{
+    same(shows, "number of match", got.number, number);
+    same(shows, "tier", got.tier, 0);
+    same(shows, "nlri_size", got.nlri_size, 0);
+    same(shows, "attribute_size", got.attribute_size, 0);
+    untouched(shows, output);
+}

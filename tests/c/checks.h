@@ -1,4 +1,4 @@
-/* What the C tests share: checks that count their failures, and octets that are lent to a call. */
+/* What the C tests share: checks that count their failures, octets that are lent to a call, tables and matches. */
 #ifndef CHECKS_H
 #define CHECKS_H
 
@@ -34,5 +34,24 @@ enum { FILL = 0xA5 };
 /* Whether the output holds `written` at its front and its old octets behind. */
 void same_output(const char *shows, lent output, const uint8_t *written, size_t size);
 void untouched(const char *shows, lent output);
+
+/* ---- tables, of routes whose octets are given as text */
+
+typedef struct { const char *nlri, *attribute; } route;
+
+lent made(uint16_t afi, size_t places);
+mvpn_installed install(lent table, const char *nlri_text, const char *attribute_text);
+
+/* A table just made, in which these routes were installed, each of them new. */
+lent holding(uint16_t afi, size_t places, const route *routes, size_t count);
+
+lent copy_of(lent table);
+void same_table(const char *shows, lent table, lent expected);
+
+/* ---- what a match answers, and its output */
+
+/* No tier and no route: nothing matches. */
+void same_matched(const char *shows, mvpn_matched got, lent output, uint32_t tier, const route *expected);
+void refused_matched(const char *shows, mvpn_matched got, lent output, uint32_t number);
 
 #endif

@@ -1,5 +1,5 @@
-// mvpn.h in C++: it may be included twice, its types have the sizes that callers are built with (64-bit), and its calls
-// link.
+// mvpn.h in C++: it may be included twice, its types have the sizes that callers are built with (64-bit), its calls link,
+// and its helpers for lists compile.
 #include "mvpn.h"
 #include "mvpn.h"
 
@@ -17,7 +17,18 @@ static_assert(sizeof(mvpn_fec) == 40, "mvpn_fec");
 static_assert(sizeof(mvpn_attribute_reading) == 80, "mvpn_attribute_reading");
 static_assert(sizeof(mvpn_installed) == 8, "mvpn_installed");
 static_assert(sizeof(mvpn_matched) == 16, "mvpn_matched");
+static_assert(sizeof(mvpn_shared_tree) == 12, "mvpn_shared_tree");
+static_assert(sizeof mvpn_no_items == 2, "mvpn_no_items");
 static_assert(MVPN_TABLE_SIZE(MVPN_MOST_PLACES) == 64008, "MVPN_TABLE_SIZE");
+
+// A list of one item of one field.
+static bool lists()
+{
+    const uint8_t field[] = {7};
+    uint8_t list[5];
+    size_t size = mvpn_list_start(list, sizeof list, 1);
+    return mvpn_list_field(list, sizeof list, size, field, sizeof field) == sizeof list && list[1] == 1 && list[4] == 7;
+}
 
 int main()
 {
@@ -33,6 +44,8 @@ int main()
                        mvpn_make(1, output, 0) == MVPN_TABLE &&
                        mvpn_install(output, 0, octets, 0, octets, 0).number == MVPN_TABLE &&
                        mvpn_withdraw(output, 0, octets, 0) == MVPN_TABLE &&
-                       mvpn_match(octets, 0, octets, 0, octets, 0, octets, 0, output, 0).number == MVPN_TABLE;
-    return as_expected ? 0 : 1;
+                       mvpn_match(octets, 0, octets, 0, octets, 0, octets, 0, output, 0).number == MVPN_TABLE &&
+                       mvpn_match_shared(octets, 0, octets, 0, octets, 0, mvpn_shared_tree{}, octets, 0, octets, 0, output, 0)
+                               .number == MVPN_TABLE;
+    return as_expected && lists() ? 0 : 1;
 }

@@ -21,6 +21,7 @@ static void take_apart(octets message)
     same("a changed message", "fault's octet lies in it", damage.offset <= message.size, true);
     if (!damage.text) {
         lies_inside("MP_REACH_NLRI lies in it", found.reach.run, message);
+        lies_inside("its next hop lies in it", found.reach.next_hop, message);
         lies_inside("MP_UNREACH_NLRI lies in it", found.unreach.run, message);
         lies_inside("PMSI Tunnel lies in it", found.tunnel, message);
         same("a changed message", "skipped attributes are attributes", found.skipped <= found.attributes, true);

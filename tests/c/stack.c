@@ -129,6 +129,50 @@ static mvpn_matched matched;
 RUN(match_found, MATCHES(originator, 1))
 RUN(match_none, MATCHES(source, 0))
 
+/* ---- shared trees: a table of (C-*,C-G) and (C-*,C-*) routes of one PE, and the longest lists */
+
+#define SHARED_GROUP 0xFF, 0x0E, 0, 0, 0, 0, 0, 0, 0, 0, 0, 0, 0, 0, 0, 1
+
+static const uint8_t shared_group[] = { SHARED_GROUP };
+static const uint8_t group_route[] = { 3, 42, RD, 0, 128, SHARED_GROUP, ORIGINATOR };
+static const uint8_t any_route[] = { 3, 26, RD, 0, 0, ORIGINATOR };
+static const uint8_t shared_active[] = { 5, 42, RD, 128, SOURCE, 128, SHARED_GROUP };
+
+static uint8_t shared_trees[sizeof full], any_trees[sizeof full];
+static uint8_t source_actives[2 + 256 * (2 + 16 + 2 + sizeof shared_active)], states[2 + 256 * (2 + 16 + 2 + 16)];
+
+/* 256 items of two fields. */
+static void fill_list(uint8_t *list, size_t space, const uint8_t *first_field, size_t first_len, const uint8_t *second_field,
+                      size_t second_len)
+{
+    size_t size = mvpn_list_start(list, space, MVPN_MOST_ITEMS);
+    for (unsigned i = 0; i < MVPN_MOST_ITEMS; i++) {
+        size = mvpn_list_field(list, space, size, first_field, first_len);
+        size = mvpn_list_field(list, space, size, second_field, second_len);
+    }
+}
+
+static void fill_shared_trees(void)
+{
+    memcpy(any_trees, roomy, sizeof any_trees);
+    mvpn_install(any_trees, sizeof any_trees, any_route, sizeof any_route, bier, sizeof bier);
+    memcpy(shared_trees, any_trees, sizeof shared_trees);
+    mvpn_withdraw(shared_trees, sizeof shared_trees, last, sizeof last);
+    mvpn_install(shared_trees, sizeof shared_trees, group_route, sizeof group_route, mldp, sizeof mldp);
+    fill_list(source_actives, sizeof source_actives, originator, sizeof originator, shared_active, sizeof shared_active);
+    fill_list(states, sizeof states, source, sizeof source, group, sizeof group);
+}
+
+#define MATCHES_SHARED(asked, states_len, wanted_number, wanted_tier) \
+    (matched = mvpn_match_shared(table, sizeof table, originator, sizeof originator, asked, sizeof asked, \
+                                 (mvpn_shared_tree){ 0, 0, 0 }, source_actives, sizeof source_actives, states, states_len, \
+                                 output, sizeof output), \
+     matched.number == (wanted_number) && matched.tier == (wanted_tier))
+RUN(shared_group_route, MATCHES_SHARED(shared_group, sizeof states, MVPN_DONE, 3))
+RUN(shared_any_route, MATCHES_SHARED(shared_group, sizeof states, MVPN_DONE, 4))
+RUN(shared_none, MATCHES_SHARED(group, sizeof states, MVPN_DONE, 0))
+RUN(shared_short, MATCHES_SHARED(shared_group, sizeof states - 1, MVPN_SHORT, 0))
+
 /* Runs of one call stand together. */
 static const struct {
     const char *name;
@@ -168,6 +212,10 @@ static const struct {
     { "mvpn_withdraw", withdraw_leaf, full },
     { "mvpn_match", match_found, full },
     { "mvpn_match", match_none, full },
+    { "mvpn_match_shared", shared_group_route, shared_trees },
+    { "mvpn_match_shared", shared_any_route, any_trees },
+    { "mvpn_match_shared", shared_none, shared_trees },
+    { "mvpn_match_shared", shared_short, shared_trees },
 };
 
 /* ---- the painted stack */
@@ -234,6 +282,7 @@ int main(void)
     number_nlri(absent, MVPN_MOST_PLACES);
     fill(full, 0);
     fill(roomy, 1);
+    fill_shared_trees();
     size_t base = depth(nothing, full);
     for (size_t i = 0; i < ROWS(runs);) {
         const char *name = runs[i].name;

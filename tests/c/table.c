@@ -32,29 +32,11 @@ _Static_assert(MVPN_TABLE == 11 && MVPN_KIND == 12 && MVPN_ROOM == 13 && MVPN_AB
 /* The most routes of a table here. */
 enum { MOST = 5 };
 
-typedef struct { const char *nlri, *attribute; } route;
-
 static const route marked[] = {
     { A_NLRI, FLAGS("0A") }, { B_NLRI, FLAGS("0B") }, { C_NLRI, FLAGS("0C") }, { D_NLRI, FLAGS("0D") }, { E_NLRI, FLAGS("0E") },
 };
 
 /* ---- calls with octets given as text */
-
-static lent made(uint16_t afi, size_t places)
-{
-    lent table = lent_of(MVPN_TABLE_SIZE(places), FILL);
-    same("making a table", "number", mvpn_make(afi, table.at, table.size), MVPN_DONE);
-    return table;
-}
-
-static mvpn_installed install(lent table, const char *nlri_text, const char *attribute_text)
-{
-    lent nlri = hex(nlri_text), attribute = hex(attribute_text);
-    mvpn_installed i = mvpn_install(table.at, table.size, nlri.at, nlri.size, attribute.at, attribute.size);
-    free(nlri.at);
-    free(attribute.at);
-    return i;
-}
 
 static uint32_t withdraw(lent table, const char *nlri_text)
 {
@@ -75,24 +57,6 @@ static mvpn_matched match(lent table, flow f, lent output)
     free(source.at);
     free(group.at);
     return m;
-}
-
-static lent copy_of(lent table)
-{
-    lent copy = lent_of(table.size, 0);
-    memcpy(copy.at, table.at, table.size);
-    return copy;
-}
-
-static lent holding(uint16_t afi, size_t places, const route *routes, size_t count)
-{
-    lent table = made(afi, places);
-    for (size_t i = 0; i < count; i++) {
-        mvpn_installed installed = install(table, routes[i].nlri, routes[i].attribute);
-        same(routes[i].nlri, "number of install", installed.number, MVPN_DONE);
-        same(routes[i].nlri, "outcome", installed.outcome, MVPN_NEW);
-    }
-    return table;
 }
 
 /* ---- the expected octets */
@@ -116,12 +80,6 @@ static lent image(uint16_t afi, size_t places, const route *routes)
     return expected;
 }
 
-static void same_table(const char *shows, lent table, lent expected)
-{
-    same(shows, "table size", table.size, expected.size);
-    same_octets(shows, "table", table.at, expected.at, table.size);
-}
-
 static void holds(const char *shows, lent table, uint16_t afi, size_t places, const route *routes)
 {
     lent expected = image(afi, places, routes);
@@ -131,20 +89,9 @@ static void holds(const char *shows, lent table, uint16_t afi, size_t places, co
 
 static void same_match(const char *shows, lent table, flow f, uint32_t tier, const route *expected)
 {
-    lent nlri = hex(expected ? expected->nlri : ""), attribute = hex(expected ? expected->attribute : "");
-    lent output = lent_of(MVPN_MATCH_OUTPUT + 1, FILL), written = lent_of(nlri.size + attribute.size, 0);
-    mvpn_matched m = match(table, f, output);
-    same(shows, "number", m.number, MVPN_DONE);
-    same(shows, "tier", m.tier, tier);
-    same(shows, "nlri_size", m.nlri_size, nlri.size);
-    same(shows, "attribute_size", m.attribute_size, attribute.size);
-    memcpy(written.at, nlri.at, nlri.size);
-    memcpy(written.at + nlri.size, attribute.at, attribute.size);
-    same_output(shows, output, written.at, written.size);
-    free(nlri.at);
-    free(attribute.at);
+    lent output = lent_of(MVPN_MATCH_OUTPUT + 1, FILL);
+    same_matched(shows, match(table, f, output), output, tier, expected);
     free(output.at);
-    free(written.at);
 }
 
 /* ---- making */
@@ -250,12 +197,7 @@ static const refused_match refused_matches[] = {
 static void refuse_match(const char *shows, lent table, flow f, size_t room, uint32_t number)
 {
     lent output = lent_of(room, FILL);
-    mvpn_matched m = match(table, f, output);
-    same(shows, "number of match", m.number, number);
-    same(shows, "tier", m.tier, 0);
-    same(shows, "nlri_size", m.nlri_size, 0);
-    same(shows, "attribute_size", m.attribute_size, 0);
-    untouched(shows, output);
+    refused_matched(shows, match(table, f, output), output, number);
     free(output.at);
 }
 

@@ -10,6 +10,7 @@ use crate::{
         table_calls::{TableAnswer, TableCall},
     },
 };
+use std::fmt::Debug;
 
 /// The distinguisher 100:7 of the listing example.
 pub const RD: &str = "0000006400000007";
@@ -138,10 +139,15 @@ pub fn all(harness: &mut Harness) -> Checked {
 }
 
 /// Checks an answer against document 01. That of a call is both decoders', which have been compared.
-fn in_document<Answer: PartialEq + std::fmt::Debug>(shows: &str, answer: Answer, asked: Answer) -> Checked {
+fn in_document<Answer: PartialEq + Debug>(shows: &str, answer: Answer, asked: Answer) -> Checked {
+    in_papers(format!("document 01, {shows}"), answer, asked)
+}
+
+/// Checks an answer against the one that the papers ask.
+pub fn in_papers<Answer: PartialEq + Debug>(shows: String, answer: Answer, asked: Answer) -> Checked {
     match answer == asked {
         true => Ok(()),
-        false => disagree(format!("document 01, {shows}"), format!("{answer:?}"), format!("{asked:?}")),
+        false => disagree(shows, format!("{answer:?}"), format!("{asked:?}")),
     }
 }
 

@@ -8,6 +8,7 @@ pub mod groups;
 pub mod headers;
 pub mod limits;
 pub mod listing;
+pub mod lists;
 pub mod mutations;
 pub mod near;
 pub mod nlri_writing;
@@ -16,6 +17,9 @@ pub mod random_cases;
 pub mod routes;
 pub mod samples;
 pub mod sequences;
+pub mod shared;
+pub mod shared_examples;
+pub mod shared_refusals;
 pub mod tables;
 
 use crate::{
@@ -27,6 +31,7 @@ use crate::{
 /// Runs every kind of case; stops at the first disagreement.
 pub fn all(harness: &mut Harness, options: &Options) -> Checked {
     of_encodings(harness, options)?;
+    of_shared_trees(harness, options)?;
     of_tables(harness, options)
 }
 
@@ -48,7 +53,12 @@ pub fn of_encodings(harness: &mut Harness, options: &Options) -> Checked {
     }
 }
 
-/// The table calls.
+/// The match for shared trees alone.
+pub fn of_shared_trees(harness: &mut Harness, options: &Options) -> Checked {
+    shared::all(harness, &mut Random::new(options.seed), options.cases)
+}
+
+/// The table calls, mixed ones with matches for shared trees among them.
 pub fn of_tables(harness: &mut Harness, options: &Options) -> Checked {
     let mut random = Random::new(options.seed);
     document::tables(harness)?;

@@ -124,6 +124,13 @@ pub fn s_pmsi(distinguisher: &[u8], source: &[u8], group: &[u8], originator: &[u
     [&[3, body.len() as u8], &body[..]].concat()
 }
 
+/// A Source Active A-D route's NLRI (RFC 6514, section 4.5).
+pub fn source_active(distinguisher: &[u8], source: &[u8], group: &[u8]) -> Vec<u8> {
+    let bits = |address: &[u8]| [address.len() as u8 * 8];
+    let body = [distinguisher, &bits(source), source, &bits(group), group].concat();
+    [&[5, body.len() as u8], &body[..]].concat()
+}
+
 /// Attributes that install accepts, all different: every tunnel type, none of them BIER with label 0.
 pub fn good_attributes() -> Vec<Vec<u8>> {
     let mut attributes = attributes();

@@ -4,8 +4,10 @@
 //! book, and the list is run again in other orders that keep each router's own. Elsewhere it is compared with the table.
 
 use super::{
+    lists::EMPTY,
     routes::{bad_attributes, bad_nlris, good_attributes, picked, s_pmsi, Addresses},
     samples::GOOD_AFIS,
+    shared::{any_facts, UPSTREAM},
 };
 use crate::{
     compare::{disagree, Checked, Disagreement, Harness},
@@ -16,6 +18,7 @@ use crate::{
         books::{Books, Router},
         choice::{Flow, LEAST_OUTPUT},
         rows::Field,
+        shared::Reception,
         table::{size, Table, MOST_PLACES},
         table_calls::{TableAnswer, TableCall},
         Second,
@@ -26,6 +29,12 @@ use std::collections::{BTreeMap, BTreeSet};
 /// Runs of a list in other orders: on small tables and on the largest.
 const ORDERS: usize = 4;
 const ORDERS_OF_LARGEST: usize = 2;
+
+/// Lists of each kind that the calls of one list of calls draw from.
+const LISTS: usize = 12;
+
+/// Where the source's length octet stands in an S-PMSI NLRI: behind the header and the distinguisher.
+const SOURCE_LENGTH: usize = 10;
 
 /// Calls of sequences on small tables: one for so many random cases.
 const CASES_A_CALL: u64 = 10;
@@ -46,7 +55,8 @@ pub fn all(harness: &mut Harness, random: &mut Random, cases: u64) -> Checked {
     GOOD_AFIS.into_iter().try_for_each(|afi| both(harness, random, afi, MOST_PLACES, 1_200))
 }
 
-/// Every list of three calls, of these: installs, withdrawals and matches of two routers, and calls of nobody.
+/// Every list of three calls, of these: installs, withdrawals and matches of two routers, also for a shared tree, and
+/// calls of nobody.
 fn short_lists(harness: &mut Harness, random: &mut Random, afi: u16, places: usize) -> Checked {
     let Addresses { distinguishers, sources, groups, routers, .. } = Addresses::of_family(afi);
     let nlris = [(0, 2), (0, 1), (1, 1)].map(|(router, distinguisher)| {
@@ -62,6 +72,16 @@ fn short_lists(harness: &mut Harness, random: &mut Random, afi: u16, places: usi
     for router in [&routers[0][..], &routers[1], &[10, 0, 0]] {
         let flow = Flow { router, source: &sources[0], group: &groups[0] };
         calls.push(TableCall::Match { flow, output: &output });
+    }
+    let wildcards = s_pmsi(&distinguishers[1], &[], &[], &routers[0]);
+    calls.extend([
+        TableCall::Install { nlri: &wildcards, attribute: &good[3] },
+        TableCall::Withdraw { nlri: &wildcards },
+    ]);
+    for router in [&routers[0][..], &routers[1], &[10, 0, 0]] {
+        let (group, source_actives, states) = (&groups[2], EMPTY, EMPTY);
+        let reception = Reception { router, group, facts: UPSTREAM, source_actives, states };
+        calls.push(TableCall::MatchShared { reception, output: &output });
     }
     let cut = &nlris[0][..20];
     calls.extend([TableCall::Install { nlri: cut, attribute: &good[1] }, TableCall::Withdraw { nlri: cut }]);
@@ -88,23 +108,32 @@ struct Stock {
     addresses: Addresses,
     /// The well-formed NLRIs that installs name.
     installed: Vec<Vec<u8>>,
+    /// Those of them that a shared tree may take.
+    shared: Vec<Vec<u8>>,
     /// Other well-formed NLRIs, for withdrawals.
     absent: Vec<Vec<u8>>,
     bad_nlris: Vec<Vec<u8>>,
     attributes: Vec<Vec<u8>>,
     bad_attributes: Vec<Vec<u8>>,
+    /// Lists of Source Active routes and of states.
+    source_actives: Vec<Vec<u8>>,
+    states: Vec<Vec<u8>>,
     outputs: Vec<Vec<u8>>,
 }
 
 impl Stock {
     fn new(random: &mut Random, afi: u16, installed: usize) -> Self {
         let addresses = Addresses::of_family(afi);
+        let installed = addresses.nlris(random, installed);
         Stock {
-            installed: addresses.nlris(random, installed),
+            shared: installed.iter().filter(|nlri| nlri[SOURCE_LENGTH] == 0).cloned().collect(),
+            installed,
             absent: addresses.nlris(random, 3),
             bad_nlris: bad_nlris(afi),
             attributes: good_attributes(),
             bad_attributes: bad_attributes(),
+            source_actives: (0..LISTS).map(|_| addresses.source_actives(random)).collect(),
+            states: (0..LISTS).map(|_| addresses.states(random)).collect(),
             outputs: [0, 60, 123, 124, 124, 124, 130, 200].map(|size| random.octets(size)).to_vec(),
             addresses,
         }
@@ -123,7 +152,8 @@ impl Stock {
                 let well_formed = if random.once_in(6) { &self.absent } else { &self.installed };
                 TableCall::Withdraw { nlri: self.nlri(random, well_formed) }
             }
-            _ => TableCall::Match { flow: self.flow(random), output: picked(random, &self.outputs) },
+            13..=16 => TableCall::Match { flow: self.flow(random), output: picked(random, &self.outputs) },
+            _ => TableCall::MatchShared { reception: self.reception(random), output: picked(random, &self.outputs) },
         }
     }
 
@@ -147,6 +177,22 @@ impl Stock {
             1 => Flow { source: &flow.source[..size], ..flow },
             2 => Flow { group: &flow.group[..size], ..flow },
             _ => flow,
+        }
+    }
+
+    /// The shared tree of a flow's group, asked of the flow's router; half the time one that an installed NLRI may take.
+    fn reception(&self, random: &mut Random) -> Reception<'_> {
+        let mut flow = self.flow(random);
+        if !self.shared.is_empty() && random.once_in(2) {
+            flow = self.towards(flow, picked(random, &self.shared));
+        }
+        let Flow { router, group, .. } = flow;
+        Reception {
+            router,
+            group,
+            facts: any_facts(random),
+            source_actives: picked(random, &self.source_actives),
+            states: picked(random, &self.states),
         }
     }
 
@@ -236,13 +282,23 @@ impl<'a> Sequence<'a> {
                 false => (harness.second.on_table(&mut table, call), table.image()),
             };
             let answer = earlier.map_or(&answer, |answers| &answers[*occurrence]);
-            answers.insert(*occurrence, harness.next_call(call, answer, &image)?);
-            harness.coverage.count(Call::Sequence, Seen::Places(self.afi, self.places, self.premise));
-            if self.routers[*occurrence].is_none() {
-                harness.coverage.count(Call::Sequence, Seen::Nobody);
-            }
+            let answer = harness.next_call(call, answer, &image)?;
+            self.count(harness, *occurrence, &answer);
+            answers.insert(*occurrence, answer);
         }
         Ok((answers.into_values().collect(), harness.table().to_vec()))
+    }
+
+    fn count(&self, harness: &mut Harness, occurrence: usize, answer: &TableAnswer) {
+        harness.coverage.count(Call::Sequence, Seen::Places(self.afi, self.places, self.premise));
+        if self.routers[occurrence].is_none() {
+            harness.coverage.count(Call::Sequence, Seen::Nobody);
+        }
+        if let (TableCall::MatchShared { .. }, TableAnswer::Matched(matched, _)) = (self.calls[occurrence], answer) {
+            if matched.number == 0 {
+                harness.coverage.count(Call::Sequence, Seen::SharedTree(self.afi, matched.tier));
+            }
+        }
     }
 
     /// All calls of one router, then all of another; calls of nobody before, between or after them.

@@ -2,8 +2,10 @@
 
 use super::{
     damage::DAMAGES,
+    lists::EMPTY,
     routes::{bad_attributes, bad_nlris, good_attributes, picked, s_pmsi, Addresses},
     samples::{BAD_AFIS, GOOD_AFIS},
+    shared::UPSTREAM,
 };
 use crate::{
     compare::{Checked, Harness, Input},
@@ -11,6 +13,7 @@ use crate::{
     random::Random,
     second::{
         choice::Flow,
+        shared::Reception,
         table::{size, Table, MOST_PLACES, PLACE},
         table_calls::TableCall,
     },
@@ -119,7 +122,7 @@ fn damaged(harness: &mut Harness, random: &mut Random, addresses: &Addresses, pl
     Ok(())
 }
 
-/// Match, install and withdraw on memory that is, or once was, the table's: held routes and others.
+/// Each call on memory that is, or once was, the table's: held routes and others.
 fn each_call(
     harness: &mut Harness,
     random: &mut Random,
@@ -129,6 +132,9 @@ fn each_call(
 ) -> Checked {
     let flow = addresses.flow(random);
     harness.table_call(memory, TableCall::Match { flow, output: &OUTPUT })?;
+    let Flow { router, group, .. } = flow;
+    let reception = Reception { router, group, facts: UPSTREAM, source_actives: EMPTY, states: EMPTY };
+    harness.table_call(memory, TableCall::MatchShared { reception, output: &OUTPUT })?;
     let held: Vec<_> = table.routes.keys().cloned().collect();
     let nlri = match held.is_empty() || random.once_in(2) {
         true => addresses.nlri(random),

@@ -82,6 +82,8 @@ pub struct Harness {
     attribute: Lent,
     /// Router, source and group.
     flow: [Lent; 3],
+    /// Source Active routes and states.
+    lists: [Lent; 2],
 }
 
 impl Harness {
@@ -143,8 +145,9 @@ impl Harness {
         }
     }
 
-    fn buffers(&self) -> [(&'static str, &Lent); 7] {
+    fn buffers(&self) -> [(&'static str, &Lent); 9] {
         let [router, source, group] = &self.flow;
+        let [source_actives, states] = &self.lists;
         [
             ("input", &self.input),
             ("output", &self.output),
@@ -153,6 +156,8 @@ impl Harness {
             ("router", router),
             ("source", source),
             ("group", group),
+            ("list of Source Active routes", source_actives),
+            ("list of states", states),
         ]
     }
 }

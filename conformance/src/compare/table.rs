@@ -1,4 +1,4 @@
-//! `mvpn_make`, `mvpn_install`, `mvpn_withdraw` and `mvpn_match`.
+//! `mvpn_make`, `mvpn_install`, `mvpn_withdraw`, `mvpn_match` and `mvpn_match_shared`.
 
 use super::{Disagreement, Harness, Input};
 use crate::{
@@ -84,7 +84,7 @@ impl Harness {
         }
         let archive = self.archive_answer(call);
         self.agree(|| format!("{call:?} on {}", encode(&before)), &archive, second)?;
-        self.count_answer(&archive);
+        self.count_answer(call, &archive);
         Ok(archive)
     }
 
@@ -102,6 +102,15 @@ impl Harness {
                 }
                 self.output.place(output, &[], pattern);
             }
+            TableCall::MatchShared { reception, output } => {
+                let [router, _, group] = &mut self.flow;
+                let [source_actives, states] = &mut self.lists;
+                router.place(reception.router, after, pattern);
+                group.place(reception.group, after, pattern);
+                source_actives.place(reception.source_actives, after, pattern);
+                states.place(reception.states, after, pattern);
+                self.output.place(output, &[], pattern);
+            }
         }
     }
 
@@ -115,18 +124,28 @@ impl Harness {
                 let matched = ffi::match_flow(&mut self.table, &mut self.flow, &mut self.output);
                 TableAnswer::Matched(matched, self.output.octets().to_vec())
             }
+            TableCall::MatchShared { reception, .. } => {
+                let [router, _, group] = &mut self.flow;
+                let (tree, lists) = ([router, group], &mut self.lists);
+                let matched = ffi::match_shared(&mut self.table, tree, reception.facts, lists, &mut self.output);
+                TableAnswer::Matched(matched, self.output.octets().to_vec())
+            }
         }
     }
 
-    fn count_answer(&mut self, answer: &TableAnswer) {
+    fn count_answer(&mut self, call: &TableCall, answer: &TableAnswer) {
         // Only a sound table has an answer that counts by its family.
         let afi = self.table.octets().get(5).map_or(0, |afi| u16::from(*afi));
-        let (call, number, seen) = match answer {
-            TableAnswer::Installed(installed) => {
-                (Call::Install, installed.number, Seen::Outcome(afi, installed.outcome))
-            }
-            TableAnswer::Withdrawn(number) => (Call::Withdraw, *number, Seen::Family(afi)),
-            TableAnswer::Matched(matched, _) => (Call::Match, matched.number, Seen::Tier(afi, matched.tier)),
+        let (number, seen) = match answer {
+            TableAnswer::Installed(installed) => (installed.number, Seen::Outcome(afi, installed.outcome)),
+            TableAnswer::Withdrawn(number) => (*number, Seen::Family(afi)),
+            TableAnswer::Matched(matched, _) => (matched.number, Seen::Tier(afi, matched.tier)),
+        };
+        let call = match call {
+            TableCall::Install { .. } => Call::Install,
+            TableCall::Withdraw { .. } => Call::Withdraw,
+            TableCall::Match { .. } => Call::Match,
+            TableCall::MatchShared { .. } => Call::MatchShared,
         };
         self.coverage.count(call, Seen::Number(number));
         if number == 0 {

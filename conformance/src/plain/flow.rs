@@ -10,7 +10,7 @@ use super::{
 use crate::ffi::Matched;
 
 /// The least output: the longest NLRI of type 3 and the longest attribute.
-const OUTPUT: usize = 124;
+pub const OUTPUT: usize = 124;
 
 /// # Safety
 /// As `mvpn.h` says: each pointer is valid for the length beside it, and the output overlaps nothing.
@@ -30,7 +30,14 @@ pub unsafe extern "C" fn match_flow(
 ) -> Matched {
     let (router, source, group) = (lent(router, router_len), lent(source, source_len), lent(group, group_len));
     let output = std::slice::from_raw_parts_mut(output, output_len);
-    match taken_by(lent(table, table_len), router, source, group, output.len()) {
+    let taken = taken_by(lent(table, table_len), router, source, group, output.len());
+    answer(taken, output)
+}
+
+/// The number and the tier, with the route's NLRI and attribute written at the front of the output.
+#[inline(always)]
+pub fn answer(taken: Result<Option<(u32, &Place)>, u32>, output: &mut [u8]) -> Matched {
+    match taken {
         Err(number) => Matched { number, ..Default::default() },
         Ok(None) => Matched::default(),
         Ok(Some((tier, place))) => {
@@ -68,7 +75,7 @@ fn taken_by<'a>(
 /// The route of this source, group (each may be the wildcard, no octets) and originator with the lowest distinguisher: the
 /// first one, as such routes differ in nothing else and stand in order. Those of one NLRI size stand together.
 #[inline(always)]
-fn lowest<'a>(taken: &'a [Place], source: &[u8], group: &[u8], originator: &[u8]) -> Option<&'a Place> {
+pub fn lowest<'a>(taken: &'a [Place], source: &[u8], group: &[u8], originator: &[u8]) -> Option<&'a Place> {
     let size = 12 + source.len() + group.len() + originator.len();
     let ending = originator.last_chunk::<4>()?;
     let first = taken.partition_point(|place| usize::from(place[0]) < size);

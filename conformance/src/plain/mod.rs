@@ -19,6 +19,9 @@ mod nlri_read;
 mod nlri_write;
 mod run;
 mod shape;
+mod shared;
+#[cfg(test)]
+mod shared_tests;
 mod sound;
 mod table;
 #[cfg(test)]
@@ -32,6 +35,7 @@ pub use group::group_class;
 pub use nlri_read::nlri_read;
 pub use nlri_write::nlri_write;
 pub use run::{step, walk};
+pub use shared::match_shared;
 pub use table::{install, make, withdraw};
 
 const DONE: u32 = 0;

@@ -5,12 +5,14 @@ use crate::{
     cases::{
         damage::DAMAGES,
         routes::{bad_attributes, bad_nlris, good_attributes, picked, s_pmsi, Addresses},
+        shared::any_facts,
     },
     ffi::{Installed, Matched},
-    plain,
+    plain::{self, shared_tests::matched_shared},
     random::Random,
     second::{
         choice::Flow,
+        shared::Reception,
         table_calls::{TableAnswer, TableCall},
         Second,
     },
@@ -51,6 +53,10 @@ impl Table {
             TableCall::Match { flow, output } => {
                 let mut output = output.to_vec();
                 TableAnswer::Matched(matched(&self.0, flow, &mut output), output)
+            }
+            TableCall::MatchShared { reception, output } => {
+                let mut output = output.to_vec();
+                TableAnswer::Matched(matched_shared(&self.0, reception, &mut output), output)
             }
         }
     }
@@ -300,21 +306,41 @@ struct Stock {
     addresses: Addresses,
     nlris: Vec<Vec<u8>>,
     attributes: Vec<Vec<u8>>,
+    source_actives: Vec<Vec<u8>>,
+    states: Vec<Vec<u8>>,
 }
 
 impl Stock {
     fn new(random: &mut Random, afi: u16) -> Self {
         let addresses = Addresses::of_family(afi);
         let nlris = [addresses.nlris(random, 24), bad_nlris(afi)].concat();
-        Stock { addresses, nlris, attributes: [good_attributes(), bad_attributes()].concat() }
+        Stock {
+            nlris,
+            attributes: [good_attributes(), bad_attributes()].concat(),
+            source_actives: (0..20).map(|_| addresses.source_actives(random)).collect(),
+            states: (0..20).map(|_| addresses.states(random)).collect(),
+            addresses,
+        }
     }
 
     fn call(&self, random: &mut Random) -> TableCall<'_> {
         let nlri = picked(random, &self.nlris);
-        match random.below(3) {
+        let (flow, output) = (self.addresses.flow(random), &[0x5A; 130][random.below(9)..]);
+        match random.below(4) {
             0 => TableCall::Install { nlri, attribute: picked(random, &self.attributes) },
             1 => TableCall::Withdraw { nlri },
-            _ => TableCall::Match { flow: self.addresses.flow(random), output: &[0x5A; 130][random.below(9)..] },
+            2 => TableCall::Match { flow, output },
+            _ => TableCall::MatchShared { reception: self.reception(random, flow), output },
+        }
+    }
+
+    fn reception<'a>(&'a self, random: &mut Random, flow: Flow<'a>) -> Reception<'a> {
+        Reception {
+            router: flow.router,
+            group: flow.group,
+            facts: any_facts(random),
+            source_actives: picked(random, &self.source_actives),
+            states: picked(random, &self.states),
         }
     }
 }

@@ -1,9 +1,11 @@
 //! Each router's book, fed by that router's calls only (document 01, "Mixed calls and each router's book").
 
 use super::{
+    choice::Flow,
     fault::Fault,
     number::Number,
     rows::Field,
+    shared::Reception,
     table::{image, size, Route, Routes},
     table_calls::{withdrawn, Outcome, TableAnswer, TableCall},
     Second,
@@ -48,14 +50,17 @@ impl Books {
 }
 
 impl Second {
-    /// The router that a call belongs to: the originator of a well-formed S-PMSI NLRI, or the router that a match asks
-    /// about; none for a call of nobody.
+    /// The router that a call belongs to: the originator of a well-formed S-PMSI NLRI, or the router that a match of either
+    /// kind asks about; none for a call of nobody.
     pub fn router(&self, afi: u16, call: &TableCall) -> Option<Router> {
         match *call {
             TableCall::Install { nlri, .. } | TableCall::Withdraw { nlri } => {
                 self.s_pmsi(afi, nlri).ok().map(|reading| reading.octets(Field::Originator).to_vec())
             }
-            TableCall::Match { flow, .. } => matches!(flow.router.len(), 4 | 16).then(|| flow.router.to_vec()),
+            TableCall::Match { flow: Flow { router, .. }, .. }
+            | TableCall::MatchShared { reception: Reception { router, .. }, .. } => {
+                matches!(router.len(), 4 | 16).then(|| router.to_vec())
+            }
         }
     }
 
@@ -75,6 +80,9 @@ impl Second {
             TableCall::Withdraw { nlri } => withdrawn(book.remove(nlri).map(drop).ok_or(Number::Absent)),
             TableCall::Match { flow, output } => {
                 self.matched(self.choice(afi, &flow, output.len(), book.iter()), output)
+            }
+            TableCall::MatchShared { reception, output } => {
+                self.matched(self.shared_choice(afi, &reception, output.len(), book.iter()), output)
             }
         }
     }

@@ -52,7 +52,7 @@ impl Second {
         }
     }
 
-    /// The first of these routes in tier order, in a tier the one of the lowest distinguisher. FLOW, SPACE.
+    /// The route of these that the flow takes. FLOW, SPACE.
     pub(super) fn choice<'a>(
         &self,
         afi: u16,
@@ -61,17 +61,27 @@ impl Second {
         routes: impl Iterator<Item = Route<'a>>,
     ) -> Result<Option<Choice<'a>>, Number> {
         let class = self.flow_class(afi, flow, room)?;
-        let ranked = routes.filter_map(|(nlri, attribute)| {
-            let reading = self.single(afi, nlri).ok()?;
-            let tier = self.tier(&reading, flow, class)?;
-            Some((self.rank(tier, &reading), Choice { tier, nlri, attribute }))
-        });
-        let chosen = ranked.min_by_key(|(rank, _)| *rank).map(|(_, choice)| choice);
+        let chosen = self.first(afi, routes, |route| self.tier(route, flow, class));
         // Only under `SpaceWhenNeeded` has a smaller output come this far.
         match chosen {
             Some(choice) if choice.nlri.len() + choice.attribute.len() > room => Err(Number::Space),
             chosen => Ok(chosen),
         }
+    }
+
+    /// The first of these routes in the order of their tiers, in a tier the one of the lowest distinguisher.
+    pub(super) fn first<'a>(
+        &self,
+        afi: u16,
+        routes: impl Iterator<Item = Route<'a>>,
+        tier_of: impl Fn(&Reading) -> Option<u32>,
+    ) -> Option<Choice<'a>> {
+        let ranked = routes.filter_map(|(nlri, attribute)| {
+            let reading = self.single(afi, nlri).ok()?;
+            let tier = tier_of(&reading)?;
+            Some((self.rank(tier, &reading), Choice { tier, nlri, attribute }))
+        });
+        ranked.min_by_key(|(rank, _)| *rank).map(|(_, choice)| choice)
     }
 
     /// The tier in which a route of the router takes the flow.
@@ -101,6 +111,7 @@ impl Second {
         }
         match tier {
             _ if self.has(Fault::TIER_HIGHEST) => (u32::MAX - tier, distinguisher),
+            4 if self.has(Fault::ANY_GROUP_FIRST) => (0, distinguisher),
             _ if self.has(Fault::DISTINGUISHER_BEFORE_TIER) => (0, distinguisher),
             _ => (tier, distinguisher),
         }

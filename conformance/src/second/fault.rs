@@ -1,11 +1,13 @@
 //! Wrong behaviours that can be switched on in the second decoder, one at a time. A comparison that does not notice one
 //! is too weak.
 
-/// The calls that show a fault; those on a table alone show the faults of the table and of the books.
+/// The calls that show a fault; those on a table alone show the faults of the table and of the books, and matches for
+/// shared trees alone those of that call and of its lists.
 #[derive(Clone, Copy, Debug, PartialEq, Eq)]
 pub enum ShownBy {
     Encodings,
     Tables,
+    SharedTrees,
 }
 
 #[derive(Clone, Copy, Debug, PartialEq, Eq)]
@@ -114,6 +116,48 @@ faults! {
         OUTPUT_CLEARED: "a match clears the output past its answer",
         ONE_BOOK: "all routers share one book",
         BOOK_TAKES_REFUSED: "a refused install enters its router's book",
+    }
+    SharedTrees {
+        LIST_OF_NO_OCTETS: "a list of no octets is one of no items",
+        LIST_OCTET_COUNTED: "a list of one octet has that octet as its count",
+        LIST_OCTET_COUNTED_HIGH: "a list of one octet has it as the high octet of its count",
+        LIST_COUNT_LOW_OCTET: "only the low octet of a list's count is read",
+        LIST_ENDS_WITH_ITEMS: "octets after the last item of a list are SHORT",
+        ITEMS_LIMIT_255: "256 items are LONG",
+        ITEMS_LIMIT_257: "257 items are not LONG",
+        LONG_AFTER_SHORT: "a list that ends early is found before a count over the limit",
+        LISTS_ONE_BY_ONE: "a Source Active list that ends early is found before too many states",
+        SHORT_AFTER_FLOW: "a bad address is found before a list that ends early",
+        FLOW_AFTER_ROUTES: "a bad Source Active route is found before a bad address",
+        FLOW_OF_PE_ONLY: "the addresses of listed items may have any size",
+        ORIGINATORS_BY_FAMILY: "a Source Active route's originator must have the family's size",
+        STATES_MULTICAST: "a state's group must be multicast",
+        SOURCE_ACTIVE_ANY_KIND: "a listed Source Active route may be of any type",
+        KIND_AFTER_READING: "every Source Active route is read before the type of any is judged",
+        OTHER_PE_UNREAD: "Source Active routes of another PE are not read",
+        FAMILY_OF_ORIGINATOR: "a Source Active route's family is told from its originator",
+        SPACE_BEFORE_ROUTES: "a small output is found before a bad Source Active route",
+        SPACE_WHERE_MATCHED: "SPACE is given only where a route matches",
+        SSM_UNREFUSED: "an SSM group gets tier 0 before its Source Active routes and the output are judged",
+        SHARED_FOR_SSM: "the shared tree of an SSM group takes a route",
+        ELIGIBLE_ALWAYS: "a route needs no condition",
+        ELIGIBLE_NEVER: "no condition makes a route eligible",
+        UPSTREAM_NOT_ASKED: "the upstream PE for the C-RP is no condition",
+        SOURCE_ACTIVE_NOT_ASKED: "Source Active routes are no condition",
+        BIDIRECTIONAL_NOT_ASKED: "a BIDIR group is no condition",
+        UNUSED_NOT_ASKED: "Source Active routes that are not being used are no condition",
+        EMPTY_LIST_UNUSED: "an empty list means that Source Active routes are not being used",
+        FACT_IS_ONE: "a fact holds only where it is 1",
+        ACTIVE_OF_ANY_PE: "Source Active routes of any PE count",
+        ACTIVE_FOR_ANY_GROUP: "Source Active routes for any group count",
+        ACTIVE_GROUP_FRONT: "a Source Active route's group is compared by its first four octets",
+        ACTIVE_WITH_STATE: "a Source Active route counts where there is a state for it",
+        ACTIVE_ALL_WITHOUT_STATE: "all counting Source Active routes must be without a state",
+        STATE_BY_SOURCE: "a state corresponds by its source alone",
+        STATE_BY_GROUP: "a state corresponds by its group alone",
+        ANY_GROUP_FIRST: "(C-*,C-*) is taken though a (C-*,C-G) route stands",
+        SHARED_SOURCE_AND_GROUP: "(C-S,C-G) takes a shared tree",
+        SHARED_SOURCE_ANY_GROUP: "(C-S,C-*) takes a shared tree",
     }
 }
 

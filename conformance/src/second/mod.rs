@@ -1,5 +1,5 @@
-//! The second decoder and encoder, written from RFC 6514, RFC 6625, RFC 8556, RFC 4607 and document 01: tables of rows
-//! that one routine interprets. A route table is a map of attributes by NLRI, and its octets are the image of that map.
+//! The second decoder and encoder, written from RFC 6514, RFC 6625, RFC 8556, RFC 4607 and documents 01 and 02: tables of
+//! rows that one routine interprets. A route table is a map of attributes by NLRI, and its octets are the image of that map.
 
 pub mod answers;
 pub mod attribute;
@@ -10,11 +10,15 @@ pub mod fault;
 pub mod forms;
 pub mod group;
 pub mod listing;
+pub mod lists;
 pub mod nlri;
 pub mod nlri_writing;
 pub mod number;
 pub mod rows;
 pub mod run;
+pub mod shared;
+#[cfg(test)]
+mod shared_tests;
 pub mod table;
 pub mod table_calls;
 #[cfg(test)]

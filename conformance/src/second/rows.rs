@@ -13,13 +13,14 @@ pub enum Field {
 }
 
 pub const S_PMSI: u8 = 3;
+pub const SOURCE_ACTIVE: u8 = 5;
 
 const ROWS: [(u8, &[Field]); 7] = [
     (1, &[Distinguisher, Originator]),
     (2, &[Distinguisher, SourceAs]),
     (S_PMSI, &[Distinguisher, Source, Group, Originator]),
     (4, &[Key, Originator]),
-    (5, &[Distinguisher, Source, Group]),
+    (SOURCE_ACTIVE, &[Distinguisher, Source, Group]),
     (6, &[Distinguisher, SourceAs, Source, Group]),
     (7, &[Distinguisher, SourceAs, Source, Group]),
 ];

@@ -1,11 +1,12 @@
-//! Making a table, install, withdraw and match, on a table and on lent memory.
+//! Making a table, install, withdraw and both matches, on a table and on lent memory.
 
 use super::{
     choice::{Choice, Flow},
     fault::Fault,
     number::Number,
     rows::Field,
-    table::{size, Table, PLACE},
+    shared::Reception,
+    table::{size, Route, Table, PLACE},
     Second,
 };
 use crate::{
@@ -29,6 +30,11 @@ pub enum TableCall<'a> {
         flow: Flow<'a>,
         output: &'a [u8],
     },
+    /// `output` as of a match.
+    MatchShared {
+        reception: Reception<'a>,
+        output: &'a [u8],
+    },
 }
 
 /// The number, its fields and, for a match, the output octets afterwards.
@@ -50,6 +56,13 @@ impl Debug for TableCall<'_> {
                 let [router, source, group] = [router, source, group].map(|octets| encode(octets));
                 let room = output.len();
                 write!(formatter, "mvpn_match(router {router}, source {source}, group {group}, output of {room})")
+            }
+            TableCall::MatchShared { reception, output } => {
+                let Reception { router, group, facts, source_actives, states } = reception;
+                let [router, group, source_actives, states] =
+                    [router, group, source_actives, states].map(|it| encode(it));
+                write!(formatter, "mvpn_match_shared(router {router}, group {group}, {facts:?}, ")?;
+                write!(formatter, "source_actives {source_actives}, states {states}, output of {})", output.len())
             }
         }
     }
@@ -115,6 +128,7 @@ impl Second {
             TableCall::Install { nlri, attribute } => self.accepted(afi, nlri, attribute).err(),
             TableCall::Withdraw { nlri } => self.s_pmsi(afi, nlri).err(),
             TableCall::Match { flow, output } => self.flow_class(afi, &flow, output.len()).err(),
+            TableCall::MatchShared { reception, output } => self.reception_refusal(afi, &reception, output.len()),
         }
     }
 
@@ -123,7 +137,9 @@ impl Second {
         match call {
             TableCall::Install { .. } => self.installed(Err(number)),
             TableCall::Withdraw { .. } => withdrawn(Err(number)),
-            TableCall::Match { output, .. } => self.matched(Err(number), output),
+            TableCall::Match { output, .. } | TableCall::MatchShared { output, .. } => {
+                self.matched(Err(number), output)
+            }
         }
     }
 
@@ -132,7 +148,14 @@ impl Second {
         match *call {
             TableCall::Install { nlri, attribute } => self.installed(self.install(table, nlri, attribute)),
             TableCall::Withdraw { nlri } => withdrawn(self.withdraw(table, nlri)),
-            TableCall::Match { flow, output } => self.matched(self.match_route(table, &flow, output.len()), output),
+            TableCall::Match { flow, output } => {
+                let candidates = self.candidates(table, flow.router);
+                self.matched(self.choice(table.afi, &flow, output.len(), candidates), output)
+            }
+            TableCall::MatchShared { reception, output } => {
+                let candidates = self.candidates(table, reception.router);
+                self.matched(self.shared_choice(table.afi, &reception, output.len(), candidates), output)
+            }
         }
     }
 
@@ -173,9 +196,9 @@ impl Second {
         }
     }
 
-    fn match_route<'a>(&self, table: &'a Table, flow: &Flow, room: usize) -> Result<Option<Choice<'a>>, Number> {
-        let candidates = table.routes.iter().filter(|(nlri, _)| self.originates(table.afi, nlri, flow.router));
-        self.choice(table.afi, flow, room, candidates)
+    /// The routes whose originator is the router asked about.
+    fn candidates<'a>(&'a self, table: &'a Table, router: &'a [u8]) -> impl Iterator<Item = Route<'a>> {
+        table.routes.iter().filter(|(nlri, _)| self.originates(table.afi, nlri, router))
     }
 
     /// Whether the route's originator is the router, in size and octets.

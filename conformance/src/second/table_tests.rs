@@ -4,6 +4,7 @@ use super::{
     books::Books,
     choice::Flow,
     number::Number,
+    shared::Reception,
     table::Table,
     table_calls::{TableAnswer, TableCall},
     Second,
@@ -14,6 +15,7 @@ use crate::{
         document::{route, table_image, FLOWS, LABELS, ORDER, RD},
         routes::{bad_attributes, good_attributes, picked, Addresses},
         samples::GOOD_AFIS,
+        shared::any_facts,
     },
     ffi::{Installed, Matched},
     hexadecimal::octets,
@@ -158,11 +160,15 @@ fn books_and_table() {
         let mut table = Table::new(afi, 12);
         let mut books = Books::new(second, afi, 12);
         for _ in 0..100 {
-            let nlri = picked(&mut random, &nlris);
-            let call = match random.below(3) {
+            let (nlri, flow) = (picked(&mut random, &nlris), addresses.flow(&mut random));
+            let [source_actives, states] = [addresses.source_actives(&mut random), addresses.states(&mut random)];
+            let (facts, source_actives, states) = (any_facts(&mut random), &source_actives[..], &states[..]);
+            let reception = Reception { router: flow.router, group: flow.group, facts, source_actives, states };
+            let call = match random.below(4) {
                 0 => TableCall::Install { nlri, attribute: picked(&mut random, &attributes) },
                 1 => TableCall::Withdraw { nlri },
-                _ => TableCall::Match { flow: addresses.flow(&mut random), output: &[9; 124] },
+                2 => TableCall::Match { flow, output: &[9; 124] },
+                _ => TableCall::MatchShared { reception, output: &[9; 124] },
             };
             assert_eq!(books.answer(&call), second.on_table(&mut table, &call), "{call:?}");
             assert_eq!(books.image(), table.image());

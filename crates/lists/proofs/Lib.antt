@@ -2,5 +2,6 @@
 pub mod Fields
 pub mod Walks
 pub mod Going
+pub mod Items
 pub mod Accepting
 pub mod ListRule

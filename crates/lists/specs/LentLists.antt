@@ -1,7 +1,7 @@
 -- A list that a caller lends: a count of two octets, then its items. An item is a fixed number of fields; a field is its size in two octets, and so
 -- many octets. `s` is the list from a cursor on.
 use Prim.Native.Nat.{ℕ, zero, suc, _+_}
-use mathlib.Core.Bool.{Bool, true}
+use mathlib.Core.Bool.{Bool, true, false, not}
 use mathlib.Core.List.{List, [], _∷_}
 use lib.ListN.{length, getD, take, drop}
 use lib.Dec.{leb}
@@ -79,6 +79,14 @@ readList fields list = unless (wholeList fields list) SHORT (given (listItems fi
 unfoldable pub firstItem : {A : Type 0} → (test : Item → Bool) → (found : Item → A) → (none : A) → List Item → A
 firstItem test found none [] = none
 firstItem test found none (x ∷ xs) = pick (test x) (found x) (firstItem test found none xs)
+
+-- every item meets a test
+unfoldable pub everyItem : (Item → Bool) → List Item → Bool
+everyItem test items = firstItem (λ x. not (test x)) (λ x. false) true items
+
+-- some item meets a test
+unfoldable pub someItem : (Item → Bool) → List Item → Bool
+someItem test items = firstItem test (λ x. true) false items
 
 -- what all the items come to, one after the other
 unfoldable pub eachItem : {A : Type 0} → (step : A → Item → A) → A → List Item → A

@@ -9,7 +9,9 @@ ghost use Rattle.nlri.specs.Groups.{classOf, groupOf};
 ghost use Rattle.nlri.specs.Answers.{structFields, nlriAnswer};
 ghost use Rattle.tunnel.specs.Answers.{readStruct, writeOutcome};
 ghost use Rattle.routes.specs.Query.{flowOf};
+ghost use Rattle.routes.specs.Asked.{ofFlow, ofSharedTree};
 ghost use Rattle.routes.specs.Calls.{makeOf, installOf, withdrawOf, matchOf};
+ghost use Rattle.shared_trees.specs.Told.{treeOf};
 ghost use Rattle.mvpn.specs.Answers.{stepAnswer, attributeGiven, attributeRefused, attributeAnswer};
 use nlri::Group;
 use nlri::Layout;
@@ -23,6 +25,7 @@ use routes::Matched;
 use runs::Cursor;
 use runs::Step;
 use runs::Walked;
+use shared_trees::Facts;
 use tunnel::Attribute;
 use tunnel::Reading;
 use tunnel::fec::Fec;
@@ -214,8 +217,25 @@ pub extern "C" fn mvpn_match(
     group: &[u8],
     output: &mut [u8],
 ) -> Matched
-    ensures { λ r. ⌜ r ≡ matchOf (now (table .entry)) (flowOf (now (router .entry)) (now (source .entry)) (now (group .entry))) (now (output .entry)) .answer ⌝ }
-    ensures { λ r. ⌜ now (output .exit) ≡ matchOf (now (table .entry)) (flowOf (now (router .entry)) (now (source .entry)) (now (group .entry))) (now (output .entry)) .octets ⌝ }
+    ensures { λ r. ⌜ r ≡ matchOf (now (table .entry)) (ofFlow (flowOf (now (router .entry)) (now (source .entry)) (now (group .entry)))) (now (output .entry)) .answer ⌝ }
+    ensures { λ r. ⌜ now (output .exit) ≡ matchOf (now (table .entry)) (ofFlow (flowOf (now (router .entry)) (now (source .entry)) (now (group .entry)))) (now (output .entry)) .octets ⌝ }
 {
     table::match_flow(table, router, source, group, output)
+}
+
+// Finds the route that a shared tree takes.
+#[no_mangle]
+pub extern "C" fn mvpn_match_shared(
+    table: &[u8],
+    router: &[u8],
+    group: &[u8],
+    facts: Facts,
+    source_actives: &[u8],
+    states: &[u8],
+    output: &mut [u8],
+) -> Matched
+    ensures { λ r. ⌜ r ≡ matchOf (now (table .entry)) (ofSharedTree (treeOf (now (router .entry)) (now (group .entry)) facts (now («source_actives» .entry)) (now (states .entry)))) (now (output .entry)) .answer ⌝ }
+    ensures { λ r. ⌜ now (output .exit) ≡ matchOf (now (table .entry)) (ofSharedTree (treeOf (now (router .entry)) (now (group .entry)) facts (now («source_actives» .entry)) (now (states .entry)))) (now (output .entry)) .octets ⌝ }
+{
+    table::match_shared(table, router, group, facts, source_actives, states, output)
 }

@@ -1,11 +1,11 @@
--- Document 01, "The numbers a call gives back".
+-- Document 01, "The numbers a call gives back", with what requests have added.
 use Prim.Native.Nat.{ℕ}
 
 -- the work was done
 abbrev pub DONE : ℕ
 DONE = 0
 
--- fewer octets than the header, or than the Length field, asks
+-- fewer octets than the header, or than the Length field, asks; a list that ends before its items do
 abbrev pub SHORT : ℕ
 SHORT = 1
 
@@ -33,7 +33,7 @@ TUNNEL = 6
 abbrev pub IDENT : ℕ
 IDENT = 7
 
--- attribute over 64 octets, or run over 4,096
+-- attribute over 64 octets, run over 4,096, or list of more items than the call takes
 abbrev pub LONG : ℕ
 LONG = 8
 
@@ -49,7 +49,7 @@ FAMILY = 10
 abbrev pub TABLE : ℕ
 TABLE = 11
 
--- well-formed NLRI, but not type 3
+-- well-formed NLRI, but not type 3; in a list of Source Active routes: not type 5
 abbrev pub KIND : ℕ
 KIND = 12
 
@@ -61,7 +61,7 @@ ROOM = 13
 abbrev pub ABSENT : ℕ
 ABSENT = 14
 
--- router address not 4 or 16 octets, source or group not of the family's size, or group not multicast
+-- router or originator address not 4 or 16 octets, source or group not of the family's size, or group asked not multicast
 abbrev pub FLOW : ℕ
 FLOW = 15
 

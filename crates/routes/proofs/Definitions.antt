@@ -11,6 +11,7 @@ pub mod Bounds
 pub mod Places
 pub mod Headers
 pub mod ByArguments
+pub mod SharedTrees
 pub mod Holding
 pub mod OnceEach
 pub mod Named

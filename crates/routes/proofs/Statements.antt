@@ -1,6 +1,7 @@
 -- Proofs of what the rules in specs/ state.
 pub mod Taken
 pub mod MatchRule
+pub mod SharedTreeRule
 pub mod Marked
 pub mod Images
 pub mod ArgumentRules

@@ -5,6 +5,8 @@ pub use Rattle.routes.proofs.Statements.Images.{images}
 pub use Rattle.routes.proofs.Statements.LastInstalled.{lastInstalled}
 -- MatchRule
 pub use Rattle.routes.proofs.Statements.MatchRule.{matchRule}
+-- SharedTreeRule
+pub use Rattle.routes.proofs.Statements.SharedTreeRule.{sharedTreeRule}
 -- MixedCalls
 pub use Rattle.routes.proofs.Statements.MixedCalls.{mixedCalls}
 pub use Rattle.routes.proofs.Statements.Premise.{premise}

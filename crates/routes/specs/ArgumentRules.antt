@@ -19,11 +19,23 @@ use Rattle.routes.specs.Arguments.{readSPmsi, readRoute, readMatch}
 abbrev pub KnownFamily : ℕ → Type 0
 KnownFamily afi = (afi ≡ 1) ⊎ (afi ≡ 2)
 
--- a well-formed S-PMSI NLRI: NLRI reading accepts it with no octets after it, and it is of type 3
-pub record SPmsi (afi : ℕ) (nlri : List ℕ) : Type 0 where
+-- a router address: 4 or 16 octets
+abbrev pub RouterSized : List ℕ → Type 0
+RouterSized router = (length router ≡ 4) ⊎ (length router ≡ 16)
+
+-- an address of the family's size
+abbrev pub FamilySized : (afi : ℕ) → List ℕ → Type 0
+FamilySized afi address = ((afi ≡ 1) × (length address ≡ 4)) ⊎ ((afi ≡ 2) × (length address ≡ 16))
+
+-- a well-formed NLRI of one route type: NLRI reading accepts it with no octets after it
+pub record NlriOfType (type afi : ℕ) (nlri : List ℕ) : Type 0 where
   pub fields : Fields
   pub read : readNlri afi nlri ≡ given fields
-  pub kind : fields .type ≡ 3
+  pub kind : fields .type ≡ type
+
+-- a well-formed S-PMSI NLRI: of type 3
+abbrev pub SPmsi : (afi : ℕ) → (nlri : List ℕ) → Type 0
+SPmsi afi nlri = NlriOfType 3 afi nlri
 
 -- a well-formed S-PMSI NLRI of a router: the router is its originator, in size and octets
 pub record SPmsiOf (afi : ℕ) (router nlri : List ℕ) : Type 0 where
@@ -38,14 +50,18 @@ pub record Labelled (attribute : List ℕ) : Type 0 where
 
 -- a flow that a match takes: a router address of 4 or 16 octets, a source of the family's size, a multicast group of that size
 pub record GoodFlow (afi : ℕ) (flow : Flow) : Type 0 where
-  pub addressed : (length (flow .router) ≡ 4) ⊎ (length (flow .router) ≡ 16)
-  pub sourced : ((afi ≡ 1) × (length (flow .source) ≡ 4)) ⊎ ((afi ≡ 2) × (length (flow .source) ≡ 16))
+  pub addressed : RouterSized (flow .router)
+  pub sourced : FamilySized afi (flow .source)
   pub multicast : Multicast afi (flow .group)
 
--- why an NLRI is refused: NLRI reading, then KIND
-pub data NlriRefusal (afi : ℕ) (nlri : List ℕ) : ℕ → Type 0 where
-  unreadNlri : {n : ℕ} → readNlri afi nlri ≡ refused n → NlriRefusal afi nlri n
-  otherKind : (f : Fields) → readNlri afi nlri ≡ given f → f .type ≢ 3 → NlriRefusal afi nlri KIND
+-- why an NLRI that is to be of one route type is refused: NLRI reading, then KIND
+pub data TypeRefusal (type afi : ℕ) (nlri : List ℕ) : ℕ → Type 0 where
+  unreadNlri : {n : ℕ} → readNlri afi nlri ≡ refused n → TypeRefusal type afi nlri n
+  otherKind : (f : Fields) → readNlri afi nlri ≡ given f → f .type ≢ type → TypeRefusal type afi nlri KIND
+
+-- why one that is to be S-PMSI is
+abbrev pub NlriRefusal : (afi : ℕ) → (nlri : List ℕ) → ℕ → Type 0
+NlriRefusal afi nlri n = TypeRefusal 3 afi nlri n
 
 -- why install refuses its arguments: the NLRI, then attribute reading, then LABEL
 pub data RouteRefusal (afi : ℕ) (nlri attribute : List ℕ) : ℕ → Type 0 where

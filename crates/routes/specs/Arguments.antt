@@ -14,9 +14,13 @@ use Rattle.tunnel.specs.Attribute.{AttributeFields, labelOf, readAttribute}
 use Rattle.routes.specs.Route.{Route, route}
 use Rattle.routes.specs.Query.{Query, Flow, flowQuery}
 
--- "A well-formed S-PMSI NLRI": octets that NLRI reading under the table's AFI accepts, with none after it, of type 3; else KIND
+-- an NLRI of one route type: NLRI reading under the table's AFI with no octets after it, then KIND for any other type
+abbrev pub readOfType : (type afi : ℕ) → List ℕ → Outcome Fields
+readOfType type afi nlri = andThen (readNlri afi nlri) (λ f. unless (eqb (f .type) type) KIND (given f))
+
+-- "A well-formed S-PMSI NLRI": of type 3
 unfoldable pub readSPmsi : ℕ → List ℕ → Outcome Fields
-readSPmsi afi nlri = andThen (readNlri afi nlri) (λ f. unless (eqb (f .type) 3) KIND (given f))
+readSPmsi afi nlri = readOfType 3 afi nlri
 
 -- an attribute that install takes: attribute reading, then LABEL for BIER with label 0
 unfoldable pub readLabelled : List ℕ → Outcome AttributeFields

@@ -11,15 +11,16 @@ use Rattle.nlri.specs.Family.{isOriginatorSize}
 use Rattle.routes.specs.declared.Installed.{Installed}
 use Rattle.routes.specs.declared.Matched.{Matched}
 use Rattle.routes.specs.Route.{Route}
-use Rattle.routes.specs.Query.{Query, Flow}
-use Rattle.routes.specs.Arguments.{readSPmsi, readRoute, readMatch}
+use Rattle.routes.specs.Query.{Query}
+use Rattle.routes.specs.Arguments.{readSPmsi, readRoute}
+use Rattle.routes.specs.Asked.{Asked, askedRouter, readAsked}
 use Rattle.routes.specs.Answers.{Changed, installedOf, matchedBy}
 
 -- a call with every argument whole; a match with what its output holds beforehand
 pub data Call : Type 0 where
   install : (nlri attribute : List ℕ) → Call
   withdraw : (nlri : List ℕ) → Call
-  match : Flow → (output : List ℕ) → Call
+  match : Asked → (output : List ℕ) → Call
 
 -- an answer: the number with its fields and, for a match, the output octets afterwards
 pub data Answer : Type 0 where
@@ -40,7 +41,7 @@ originatorOf afi nlri = onOutcome (λ number. nobody) (λ f. owner (f .originato
 unfoldable pub ownerOf : ℕ → Call → Owner
 ownerOf afi (install nlri attribute) = originatorOf afi nlri
 ownerOf afi (withdraw nlri) = originatorOf afi nlri
-ownerOf afi (match flow output) = pick (isOriginatorSize (length (flow .router))) (owner (flow .router)) nobody
+ownerOf afi (match asked output) = pick (isOriginatorSize (length (askedRouter asked))) (owner (askedRouter asked)) nobody
 
 -- routers are the same when size and octets are
 unfoldable pub ownedBy : (router : List ℕ) → Owner → Bool
@@ -66,7 +67,7 @@ pub data Act : Type 0 where
 unfoldable pub argued : ℕ → Call → Outcome Act
 argued afi (install nlri attribute) = andThen (readRoute afi nlri attribute) (λ r. given (enter r))
 argued afi (withdraw nlri) = andThen (readSPmsi afi nlri) (λ f. given (leave nlri))
-argued afi (match flow output) = andThen (readMatch afi flow output) (λ q. given (ask q output))
+argued afi (match asked output) = andThen (readAsked afi asked output) (λ q. given (ask q output))
 
 -- that refusal; DONE where they cause none
 unfoldable pub refusalOf : ℕ → Call → ℕ
@@ -76,4 +77,4 @@ refusalOf afi call = numberOf (argued afi call)
 unfoldable pub refusalAnswer : Call → ℕ → Answer
 refusalAnswer (install nlri attribute) number = installed (installedOf (refused number))
 refusalAnswer (withdraw nlri) number = withdrawn number
-refusalAnswer (match flow output) number = matched (matchedBy (refused number) output)
+refusalAnswer (match asked output) number = matched (matchedBy (refused number) output)

@@ -11,8 +11,8 @@ use Rattle.nlri.specs.Family.{familyBits}
 use Rattle.routes.specs.declared.Installed.{Installed}
 use Rattle.routes.specs.declared.Matched.{Matched}
 use Rattle.routes.specs.Route.{Route, route, nlriOf, holds, inserted, removed}
-use Rattle.routes.specs.Query.{Flow}
-use Rattle.routes.specs.Arguments.{readSPmsi, readRoute, readMatch}
+use Rattle.routes.specs.Arguments.{readSPmsi, readRoute}
+use Rattle.routes.specs.Asked.{Asked, readAsked}
 use Rattle.routes.specs.Table.{imageOf, afiIn, placesIn, routesOf, tableSize, soundOf}
 use Rattle.routes.specs.Matching.{Found, matchIn}
 use Rattle.routes.specs.Answers.{Changed, NEW, REPLACED, installedOf, matchedBy}
@@ -57,10 +57,10 @@ withdrawOf t nlri =
       octets = onOutcome (λ number. t) (λ n. imageOf (afiIn t) (placesIn t) (removed n (routesOf t))) (withdrawOutcome t nlri);
     }
 
--- match: TABLE, then its arguments
-unfoldable pub matchOutcome : (table : List ℕ) → Flow → (output : List ℕ) → Outcome Found
-matchOutcome t flow output = unless (soundOf t) TABLE (andThen (readMatch (afiIn t) flow output) (λ q. given (matchIn (afiIn t) q (routesOf t))))
+-- a match of any kind: TABLE, then its arguments
+unfoldable pub matchOutcome : (table : List ℕ) → Asked → (output : List ℕ) → Outcome Found
+matchOutcome t asked output = unless (soundOf t) TABLE (andThen (readAsked (afiIn t) asked output) (λ q. given (matchIn (afiIn t) q (routesOf t))))
 
 -- the answer, and the output afterwards
-unfoldable pub matchOf : (table : List ℕ) → Flow → (output : List ℕ) → Changed Matched
-matchOf t flow output = matchedBy (matchOutcome t flow output) output
+unfoldable pub matchOf : (table : List ℕ) → Asked → (output : List ℕ) → Changed Matched
+matchOf t asked output = matchedBy (matchOutcome t asked output) output

@@ -13,6 +13,7 @@ use Rattle.routes.specs.declared.Installed.{Installed}
 use Rattle.routes.specs.declared.Matched.{Matched}
 use Rattle.routes.specs.Route.{Route, route, nlriOf, attributeOf}
 use Rattle.routes.specs.Query.{Flow, flowOf}
+use Rattle.routes.specs.Asked.{ofFlow}
 use Rattle.routes.specs.Place.{PLACE}
 use Rattle.routes.specs.Table.{HEADER, imageOf}
 use Rattle.routes.specs.Answers.{Changed, NEW}
@@ -29,7 +30,7 @@ pub data Example : Type 0 where
 abbrev pub ExampleHolds : Example → Type 0
 ExampleHolds (grouped afi g class) = classOf afi g ≡ class
 ExampleHolds (reading afi s fields) = readNlri afi s ≡ fields
-ExampleHolds (matching t flow output answer) = matchOf t flow output ≡ answer
+ExampleHolds (matching t flow output answer) = matchOf t (ofFlow flow) output ≡ answer
 ExampleHolds (installing t nlri attribute answer) = installOf t nlri attribute ≡ answer
 
 -- every one of these cases

@@ -3,6 +3,8 @@
 pub mod Route
 pub mod Query
 pub mod Arguments
+pub mod SharedTree
+pub mod Asked
 pub mod Place
 pub mod Table
 pub mod Matching
@@ -17,6 +19,7 @@ pub mod ArgumentRules
 pub mod Images
 pub mod CallRules
 pub mod MatchRule
+pub mod SharedTreeRule
 pub mod LastInstalled
 pub mod BookRules
 pub mod MixedCalls

@@ -17,6 +17,7 @@ use Rattle.routes.specs.declared.Matched.{Matched}
 use Rattle.routes.specs.Route.{Route, nlriOf, attributeOf, Distinct}
 use Rattle.routes.specs.Query.{Query, Flow}
 use Rattle.routes.specs.Arguments.{readFlow}
+use Rattle.routes.specs.Asked.{Asked, ofFlow}
 use Rattle.routes.specs.Table.{afiIn, routesOf, soundOf}
 use Rattle.routes.specs.Matching.{nothing, found, matchIn}
 use Rattle.routes.specs.Answers.{Changed}
@@ -76,12 +77,21 @@ pub data MatchAnswer (afi : ℕ) (router : List ℕ) (In : (tier : ℕ) → Fiel
   oneTold : (tier : ℕ) (r : Route) → Taken afi router In rs tier r → Told tier r output changed → MatchAnswer afi router In output rs changed
   noneTold : NoneTaken afi router In rs → changed .answer .number ≡ DONE → Untold output changed → MatchAnswer afi router In output rs changed
 
--- why match refuses: TABLE, then its arguments
-pub data MatchRefusal (t : List ℕ) (flow : Flow) (output : List ℕ) : ℕ → Type 0 where
-  matchUnsound : soundOf t ≡ false → MatchRefusal t flow output TABLE
-  badMatch : {n : ℕ} → soundOf t ≡ true → FlowRefusal (afiIn t) flow output n → MatchRefusal t flow output n
+-- why a match refuses: TABLE, then its arguments
+pub data MatchRefusal (Refusal : (afi : ℕ) → ℕ → Type 0) (t : List ℕ) : ℕ → Type 0 where
+  matchUnsound : soundOf t ≡ false → MatchRefusal Refusal t TABLE
+  badMatch : {n : ℕ} → soundOf t ≡ true → Refusal (afiIn t) n → MatchRefusal Refusal t n
 
--- match: what it chooses, each answer exactly when, and what it leaves
+-- a match of any kind over a table: each answer exactly when, and what it leaves. Its kind says of whom it is asked, when its arguments are good, why
+-- they are refused, and the conditions of its tiers
+pub record TableMatch (asked : Asked) (router : List ℕ) (Good : (afi : ℕ) → Type 0) (Refusal : (output : List ℕ) (afi : ℕ) → ℕ → Type 0) (In : (afi tier : ℕ) → Fields → Type 0) : Type 0 where
+  pub refuses : (t output : List ℕ) (n : ℕ) → n ≢ DONE → (matchOf t asked output .answer .number ≡ n) ↔ MatchRefusal (Refusal output) t n
+  pub done : (t output : List ℕ) → (matchOf t asked output .answer .number ≡ DONE) ↔ ((soundOf t ≡ true) × Good (afiIn t) × (124 ≤ length output))
+  pub answers : (t output : List ℕ) → matchOf t asked output .answer .number ≡ DONE → MatchAnswer (afiIn t) router (In (afiIn t)) output (routesOf t) (matchOf t asked output)
+  -- a refusal has empty fields and changes no octet
+  pub untold : (t output : List ℕ) → matchOf t asked output .answer .number ≢ DONE → Untold output (matchOf t asked output)
+
+-- the match for a flow: what it chooses, and what it answers
 pub record MatchRule : Type 0 where
   -- over any routes with no NLRI twice, in any order
   pub chosen : (afi : ℕ) (flow : Flow) (q : Query) (rs : List Route) → readFlow afi flow ≡ given q → Distinct rs
@@ -89,10 +99,4 @@ pub record MatchRule : Type 0 where
   pub none : (afi : ℕ) (flow : Flow) (q : Query) (rs : List Route) → readFlow afi flow ≡ given q
       → (matchIn afi q rs ≡ nothing) ↔ NoneTaken afi (flow .router) (InTier afi flow) rs
   -- over a table
-  pub refuses : (t : List ℕ) (flow : Flow) (output : List ℕ) (n : ℕ) → n ≢ DONE → (matchOf t flow output .answer .number ≡ n) ↔ MatchRefusal t flow output n
-  pub done : (t : List ℕ) (flow : Flow) (output : List ℕ)
-      → (matchOf t flow output .answer .number ≡ DONE) ↔ ((soundOf t ≡ true) × GoodFlow (afiIn t) flow × (124 ≤ length output))
-  pub answers : (t : List ℕ) (flow : Flow) (output : List ℕ) → matchOf t flow output .answer .number ≡ DONE
-      → MatchAnswer (afiIn t) (flow .router) (InTier (afiIn t) flow) output (routesOf t) (matchOf t flow output)
-  -- a refusal has empty fields and changes no octet
-  pub untold : (t : List ℕ) (flow : Flow) (output : List ℕ) → matchOf t flow output .answer .number ≢ DONE → Untold output (matchOf t flow output)
+  pub table : (flow : Flow) → TableMatch (ofFlow flow) (flow .router) (λ afi. GoodFlow afi flow) (λ output afi. FlowRefusal afi flow output) (λ afi. InTier afi flow)

@@ -21,7 +21,7 @@ pub record Step : Type 0 where
 unfoldable pub stepOf : List ℕ → Call → Step
 stepOf t (install nlri attribute) = record { call = install nlri attribute; answer = installed (installOf t nlri attribute .answer); octets = installOf t nlri attribute .octets }
 stepOf t (withdraw nlri) = record { call = withdraw nlri; answer = withdrawn (withdrawOf t nlri .answer); octets = withdrawOf t nlri .octets }
-stepOf t (match flow output) = record { call = match flow output; answer = matched (matchOf t flow output); octets = t }
+stepOf t (match asked output) = record { call = match asked output; answer = matched (matchOf t asked output); octets = t }
 
 -- calls one after the other, each on the octets that the last one left
 unfoldable pub runFrom : List ℕ → List Call → List Step
@@ -64,7 +64,7 @@ dueFrom afi places earlier (c ∷ cs) = dueStep afi places earlier c ∷ dueFrom
 unfoldable pub namedIn : ℕ → Call → List (List ℕ)
 namedIn afi (install nlri attribute) = onOutcome (λ number. []) (λ f. nlri ∷ []) (readSPmsi afi nlri)
 namedIn afi (withdraw nlri) = []
-namedIn afi (match flow output) = []
+namedIn afi (match asked output) = []
 
 -- those that calls name
 unfoldable pub namedBy : ℕ → List Call → List (List ℕ)

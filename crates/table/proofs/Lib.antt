@@ -18,3 +18,4 @@ pub mod Taken
 pub mod BestRoutes
 pub mod FlowClasses
 pub mod Matches
+pub mod SharedMatches

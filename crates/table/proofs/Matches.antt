@@ -12,7 +12,8 @@ use Rattle.octets.proofs.Outcome.{goes, stops}
 use Rattle.nlri.specs.declared.group.Group.{Group}
 use Rattle.nlri.specs.Groups.{groupOf}
 use Rattle.routes.specs.declared.Matched.{Matched}
-use Rattle.routes.specs.Arguments.{readFlow, readMatch}
+use Rattle.routes.specs.Arguments.{readMatch}
+use Rattle.routes.specs.Asked.{Asked, ofFlow, readAsked}
 use Rattle.routes.specs.Query.{Query, Flow}
 use Rattle.routes.specs.Table.{afiIn, routesOf, soundOf}
 use Rattle.routes.specs.Matching.{Found, matchIn}
@@ -30,36 +31,28 @@ by-refusal : (o : Outcome Found) (n : ℕ) (output : List ℕ) (answer : Matched
 unfolding matchedBy onOutcome
 by-refusal o n output answer e a = rw e (a, refl)
 
-module _ (t : List ℕ) (flow : Flow) (output : List ℕ) (answer : Matched) where
+-- a match of any kind
+module _ (t : List ℕ) (asked : Asked) (output : List ℕ) (answer : Matched) where
   -- TABLE
-  pub match-unsound : soundOf t ≡ false → answer ≡ emptyMatch TABLE → Leaves (matchOf t flow output) answer output
+  pub match-unsound : soundOf t ≡ false → answer ≡ emptyMatch TABLE → Leaves (matchOf t asked output) answer output
   unfolding matchOf matchOutcome
   match-unsound h a = by-refusal _ TABLE output answer (pick-false _ _ _ h) a
 
   module _ (is : soundOf t ≡ true) where
-    judged : matchOutcome t flow output ≡ andThen (readMatch (afiIn t) flow output) (λ q. given (matchIn (afiIn t) q (routesOf t)))
+    judged : matchOutcome t asked output ≡ andThen (readAsked (afiIn t) asked output) (λ q. given (matchIn (afiIn t) q (routesOf t)))
     unfolding matchOutcome
     judged = pick-true _ _ _ is
 
-    stopped : (n : ℕ) → readMatch (afiIn t) flow output ≡ refused n → answer ≡ emptyMatch n → Leaves (matchOf t flow output) answer output
+    -- its arguments
+    pub match-stopped : (n : ℕ) → readAsked (afiIn t) asked output ≡ refused n → answer ≡ emptyMatch n → Leaves (matchOf t asked output) answer output
     unfolding matchOf
-    stopped n e a = by-refusal _ n output answer (judged ∙ sym (stops _ _ _ e)) a
+    match-stopped n e a = by-refusal _ n output answer (judged ∙ sym (stops _ _ _ e)) a
 
-    -- FLOW
-    match-stopped : (n : ℕ) → readFlow (afiIn t) flow ≡ refused n → answer ≡ emptyMatch n → Leaves (matchOf t flow output) answer output
-    unfolding readMatch
-    match-stopped n e a = stopped n (sym (stops _ _ _ e)) a
-
-    module _ (q : Query) (taken : readFlow (afiIn t) flow ≡ given q) where
-      -- SPACE
-      match-crowded : length output < 124 → answer ≡ emptyMatch SPACE → Leaves (matchOf t flow output) answer output
-      unfolding readMatch
-      match-crowded h a = stopped SPACE (sym (goes _ _ _ _ taken (picks _ _ _ _ (lt-ltb _ _ h) refl))) a
-
-      -- the route that the rule takes, or none
-      match-searched : (left : List ℕ) → 124 ≤ length output → Leaves (matchedBy (given (matchIn (afiIn t) q (routesOf t))) output) answer left → Leaves (matchOf t flow output) answer left
-      unfolding matchOf readMatch
-      match-searched left h a = rw (judged ∙ sym (goes _ _ _ _ (sym (goes _ _ _ _ taken (skips _ _ _ _ (le-ltb _ _ h) refl))) refl)) a
+    -- the route that the rule takes, or none
+    pub match-searched : (q : Query) → readAsked (afiIn t) asked output ≡ given q → (left : List ℕ)
+        → Leaves (matchedBy (given (matchIn (afiIn t) q (routesOf t))) output) answer left → Leaves (matchOf t asked output) answer left
+    unfolding matchOf
+    match-searched q e left a = rw (judged ∙ sym (goes _ _ _ _ e refl)) a
 
 -- the branches of a match of a sound table, by what judging its flow answered
 module _ (t : List ℕ) (flow : Flow) (is : soundOf t ≡ true) (afi : ℕ) (class : Group) (bits : afi ≡ afiIn t) (judges : class ≡ groupOf (flowClass afi flow)) where
@@ -73,13 +66,17 @@ module _ (t : List ℕ) (flow : Flow) (is : soundOf t ≡ true) (afi : ℕ) (cla
   some-flow done = flow-some (afiIn t) flow good class judges-its done
 
   module _ (output : List ℕ) (answer : Matched) where
-    pub answers-flow : (class .number ≡ 0 → ⊥) → answer ≡ emptyMatch (class .number) → Leaves (matchOf t flow output) answer output
-    answers-flow some a = match-stopped t flow output answer is (class .number) (flow-stopped (afiIn t) flow good class judges-its some) a
+    pub answers-flow : (class .number ≡ 0 → ⊥) → answer ≡ emptyMatch (class .number) → Leaves (matchOf t (ofFlow flow) output) answer output
+    unfolding readAsked readMatch
+    answers-flow some a = match-stopped t (ofFlow flow) output answer is (class .number) (sym (stops _ _ _ (flow-stopped (afiIn t) flow good class judges-its some))) a
 
-    pub answers-space : class .number ≡ 0 → length output < 124 → answer ≡ emptyMatch SPACE → Leaves (matchOf t flow output) answer output
-    answers-space done h a = match-crowded t flow output answer is _ (flow-taken (afiIn t) flow good class judges-its done) h a
+    pub answers-space : class .number ≡ 0 → length output < 124 → answer ≡ emptyMatch SPACE → Leaves (matchOf t (ofFlow flow) output) answer output
+    unfolding readAsked readMatch
+    answers-space done h a =
+        match-stopped t (ofFlow flow) output answer is SPACE (sym (goes _ _ _ _ (flow-taken (afiIn t) flow good class judges-its done) (picks _ _ _ _ (lt-ltb _ _ h) refl))) a
 
     pub answers-search : class .number ≡ 0 → 124 ≤ length output → (left : List ℕ) (tiers : Tiers) → tiers ≡ openTiers (class .«group_class»)
-        → Leaves (matchedBy (given (matchIn (afiIn t) (openQuery flow tiers) (routesOf t))) output) answer left → Leaves (matchOf t flow output) answer left
+        → Leaves (matchedBy (given (matchIn (afiIn t) (openQuery flow tiers) (routesOf t))) output) answer left → Leaves (matchOf t (ofFlow flow) output) answer left
+    unfolding readAsked readMatch
     answers-search done h left tiers shows a =
-        match-searched t flow output answer is _ (flow-taken (afiIn t) flow good class judges-its done) left h (rw shows at a)
+        match-searched t (ofFlow flow) output answer is _ (sym (goes _ _ _ _ (flow-taken (afiIn t) flow good class judges-its done) (skips _ _ _ _ (le-ltb _ _ h) refl))) left (rw shows at a)

@@ -57,6 +57,10 @@ pub record Bounded (s : List ℕ) : Type 0 where
 abbrev pub openTiers : (class : ℕ) → Tiers
 openTiers class = record { exact = true; «any_group» = eqb class SSM; «any_source» = eqb class ASM; any = true }
 
+-- a shared tree's tiers, by whether its routes are eligible
+abbrev pub treeTiers : (eligible : Bool) → Tiers
+treeTiers eligible = record { exact = false; «any_group» = false; «any_source» = eligible; any = eligible }
+
 -- what a match asks where these tiers are open
 unfoldable pub openQuery : Flow → Tiers → Query
 openQuery flow tiers =

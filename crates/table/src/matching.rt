@@ -8,6 +8,7 @@ ghost use Rattle.routes.specs.Matching.{matchIn};
 ghost use Rattle.routes.specs.Answers.{matchedBy};
 ghost use Rattle.routes.specs.Calls.{matchOf};
 ghost use Rattle.routes.specs.Query.{flowOf};
+ghost use Rattle.routes.specs.Asked.{ofFlow};
 ghost use Rattle.octets.specs.Outcome.{given};
 ghost use Rattle.table.specs.Changing.{Leaves};
 ghost use Rattle.table.specs.Scanning.{openQuery};
@@ -25,7 +26,7 @@ use routes::Matched;
 pub const LEAST_OUTPUT: usize = 124;
 
 // The search, with these tiers open.
-fn search(
+pub(crate) fn search(
     table: &[u8],
     router: &[u8],
     source: &[u8],
@@ -50,7 +51,7 @@ fn match_sound(
     output: &mut [u8],
 ) -> Matched
     requires { ⌜ soundOf (now table) ≡ true ⌝ }
-    ensures { λ r. ⌜ Leaves (matchOf (now (table .entry)) (flowOf (now (router .entry)) (now (source .entry)) (now (group .entry))) (now (output .entry))) r (now (output .exit)) ⌝ }
+    ensures { λ r. ⌜ Leaves (matchOf (now (table .entry)) (ofFlow (flowOf (now (router .entry)) (now (source .entry)) (now (group .entry)))) (now (output .entry))) r (now (output .exit)) ⌝ }
 {
     let flow = flow::flow_class(sound::afi_of(table), router, source, group);
     if flow.number != DONE {
@@ -77,8 +78,8 @@ pub fn match_flow(
     group: &[u8],
     output: &mut [u8],
 ) -> Matched
-    ensures { λ r. ⌜ r ≡ matchOf (now (table .entry)) (flowOf (now (router .entry)) (now (source .entry)) (now (group .entry))) (now (output .entry)) .answer ⌝ }
-    ensures { λ r. ⌜ now (output .exit) ≡ matchOf (now (table .entry)) (flowOf (now (router .entry)) (now (source .entry)) (now (group .entry))) (now (output .entry)) .octets ⌝ }
+    ensures { λ r. ⌜ r ≡ matchOf (now (table .entry)) (ofFlow (flowOf (now (router .entry)) (now (source .entry)) (now (group .entry)))) (now (output .entry)) .answer ⌝ }
+    ensures { λ r. ⌜ now (output .exit) ≡ matchOf (now (table .entry)) (ofFlow (flowOf (now (router .entry)) (now (source .entry)) (now (group .entry)))) (now (output .entry)) .octets ⌝ }
 {
     if !sound::is_sound(table) {
         return Matched::refused(TABLE);

@@ -6,7 +6,7 @@ ghost use lib.ListN.{length};
 ghost use Rattle.octets.specs.Order.{same};
 ghost use Rattle.octets.specs.Choice.{pick};
 ghost use Rattle.routes.specs.Query.{flowOf};
-ghost use Rattle.table.specs.Scanning.{Bounded, sourceSize, standing, openTiers, sourceTier, anySourceTier, flowTier, tierAt};
+ghost use Rattle.table.specs.Scanning.{Bounded, sourceSize, standing, openTiers, treeTiers, sourceTier, anySourceTier, flowTier, tierAt};
 use nlri::Group;
 use nlri::RouteDistinguisher;
 use octets::order;
@@ -31,6 +31,18 @@ impl Tiers {
             any_group: class == Group::SSM,
             any_source: class == Group::ASM,
             any: true,
+        }
+    }
+
+    // A shared tree's tiers: those of a wildcard source, where its routes are eligible.
+    pub(crate) fn of_tree(is_eligible: bool) -> Tiers
+        ensures { λ r. ⌜ r ≡ treeTiers «is_eligible» ⌝ }
+    {
+        Tiers {
+            exact: false,
+            any_group: false,
+            any_source: is_eligible,
+            any: is_eligible,
         }
     }
 }

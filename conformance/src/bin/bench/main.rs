@@ -15,6 +15,7 @@ mod count;
 mod measure;
 mod report;
 mod routes;
+mod shared;
 mod table;
 mod unlearnt;
 
@@ -83,6 +84,7 @@ fn all_rows(task: Task) -> ExitCode {
     }
     groups(&mut report);
     table::rows(&mut report);
+    shared::rows(&mut report);
     unlearnt::rows(&mut report);
     if report.end() {
         ExitCode::SUCCESS

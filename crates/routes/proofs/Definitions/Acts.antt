@@ -8,6 +8,7 @@ use Rattle.octets.proofs.Outcome.{given-same, passed}
 use Rattle.octets.specs.Lists.{Among, first}
 use Rattle.routes.specs.Route.{Route, nlriOf}
 use Rattle.routes.specs.Query.{Query}
+use Rattle.routes.specs.Asked.{askedRouter}
 use Rattle.routes.specs.Place.{acceptable}
 use Rattle.routes.specs.Call.{Call, install, withdraw, match, owner, originatorOf, ownerOf, Act, enter, leave, ask, argued}
 use Rattle.routes.specs.Run.{namedIn}
@@ -43,11 +44,11 @@ owned afi (withdraw nlri) act e =
     let p = passed _ _ _ e in
     let own : originatorOf afi nlri ≡ owner (p .value .originator) = owner-read afi nlri (p .value) (p .first) in
     subst (Owned afi (withdraw nlri)) (given-same (p .second)) (record { router = p .value .originator; own = own; known = leaves own })
-owned afi (match flow output) act e =
+owned afi (match asked output) act e =
     let p = passed _ _ _ e in
-    let q = query-router afi flow output (p .value) (p .first) in
-    subst (Owned afi (match flow output)) (given-same (p .second))
-    (record { router = flow .router; own = match-owner afi flow output (q .1); known = asks (q .0) })
+    let q = query-router afi asked output (p .value) (p .first) in
+    subst (Owned afi (match asked output)) (given-same (p .second))
+    (record { router = askedRouter asked; own = match-owner afi asked output (q .1); known = asks (q .0) })
 
 -- by what arguments come to
 pub argued-cases : (P : Outcome Act → Type 0) (afi : ℕ) (c : Call) → ((n : ℕ) → argued afi c ≡ refused n → P (refused n)) → ((act : Act) → argued afi c ≡ given act → Owned afi c act → P (given act)) → P (argued afi c)

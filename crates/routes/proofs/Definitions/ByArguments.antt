@@ -1,17 +1,24 @@
 -- The numbers by which arguments and the family are refused: none is DONE, TABLE, ROOM or ABSENT, which the table decides.
 use Prim.Native.Nat.{ℕ}
-use mathlib.Core.Path.{_≡_}
+use mathlib.Core.Path.{_≡_, refl}
+use mathlib.Core.Bool.{true, false}
 use mathlib.Core.List.{List, [], _∷_}
 use native.Mathlib.Omega.{arith}
+use borrow.Author.Tests.{eqb-false}
+use lib.Dec.{eqb}
 use Rattle.octets.specs.Numbers.{DONE, TUNNEL, TABLE, ROOM, ABSENT}
 use Rattle.octets.specs.Outcome.{refused}
-use Rattle.octets.proofs.Outcome.{Refuses, value, number, refuses-pick, refuses-then, refuses-by, refuses-also}
+use Rattle.octets.proofs.Outcome.{Refuses, value, number, refuses-pick, refuses-then, refuses-by, refuses-also, refused-of}
+use Rattle.octets.proofs.Choice.{opposite, pick-case}
+use Rattle.lists.specs.LentLists.{Item, itemField, readList}
+use Rattle.lists.proofs.Items.{first-item-case}
 use Rattle.nlri.specs.Groups.{classUnder}
 use Rattle.nlri.proofs.Definitions.ReadNumbers.{ByReading, refuses-family, refuses-nlri}
 use Rattle.tunnel.specs.Attribute.{readAttribute}
 use Rattle.tunnel.specs.Identifier.{TableRow, identifierForms, formIn, formOf, readIdentifier}
-use Rattle.routes.specs.Query.{Flow}
-use Rattle.routes.specs.Arguments.{readSPmsi, readLabelled, readRoute, readFlow, readMatch}
+use Rattle.routes.specs.Arguments.{readOfType, readSPmsi, readLabelled, readRoute, readFlow, readMatch}
+use Rattle.routes.specs.SharedTree.{SharedTree, readSourceActive, sourceActiveFault, judgedTree, readTree}
+use Rattle.routes.specs.Asked.{Asked, ofFlow, ofSharedTree, readAsked}
 use Rattle.routes.specs.Call.{Call, install, withdraw, match, argued}
 
 -- a number that the table does not decide
@@ -21,9 +28,12 @@ ByArguments n = (n ≡ DONE → ⊥) × (n ≡ TABLE → ⊥) × (n ≡ ROOM →
 by-reading : (n : ℕ) → ByReading n → ByArguments n
 by-reading n h = omega arith
 
+type-argued : (type afi : ℕ) (nlri : List ℕ) → Refuses ByArguments (readOfType type afi nlri)
+type-argued type afi nlri = refuses-then _ _ (refuses-also by-reading (refuses-nlri afi nlri)) (λ f. refuses-pick _ _ _ value (number (omega arith)))
+
 s-pmsi-argued : (afi : ℕ) (nlri : List ℕ) → Refuses ByArguments (readSPmsi afi nlri)
 unfolding readSPmsi
-s-pmsi-argued afi nlri = refuses-then _ _ (refuses-also by-reading (refuses-nlri afi nlri)) (λ f. refuses-pick _ _ _ value (number (omega arith)))
+s-pmsi-argued afi nlri = type-argued 3 afi nlri
 
 form-argued : (rows : List TableRow) (type : ℕ) → Refuses ByArguments (formIn rows type)
 unfolding formIn
@@ -46,16 +56,52 @@ class-argued : (bits : ℕ) (g : List ℕ) → Refuses ByArguments (classUnder b
 unfolding classUnder
 class-argued bits g = refuses-pick _ _ _ (refuses-pick _ _ _ (refuses-pick _ _ _ value value) (number (omega arith))) (number (omega arith))
 
-match-argued : (afi : ℕ) (flow : Flow) (output : List ℕ) → Refuses ByArguments (readMatch afi flow output)
-unfolding readMatch readFlow
-match-argued afi flow output =
+list-argued : (fields : ℕ) (list : List ℕ) → Refuses ByArguments (readList fields list)
+unfolding readList
+list-argued fields list = refuses-pick _ _ _ value (number (omega arith))
+
+pub number-source-active : (afi : ℕ) (x : Item) (n : ℕ) → readSourceActive afi x ≡ refused n → ByArguments n
+unfolding readSourceActive
+number-source-active afi x n e = refuses-by _ n (type-argued 5 afi (itemField 1 x)) e
+
+fault-argued : (afi : ℕ) (items : List Item) → eqb (sourceActiveFault afi items) DONE ≡ false → ByArguments (sourceActiveFault afi items)
+unfolding sourceActiveFault
+fault-argued afi items =
+    first-item-case _ _ _ (λ (n : ℕ). eqb n DONE ≡ false → ByArguments n) (λ f. absurd (opposite {b = true} refl f))
+    (λ x t f. number-source-active afi x _ (refused-of (readSourceActive afi x) _ refl (eqb-false _ _ f))) items
+
+tree-argued : (afi : ℕ) (tree : SharedTree) → Refuses ByArguments (judgedTree afi tree)
+unfolding judgedTree
+tree-argued afi tree =
+    refuses-then _ _ (refuses-also by-reading (refuses-family afi))
+    (λ bits. refuses-pick _ _ _
+    (refuses-pick _ _ _
+    (refuses-then _ _ (list-argued 2 (tree .sourceActives))
+    (λ sourceActives. refuses-then _ _ (list-argued 2 (tree .states))
+    (λ states. refuses-pick _ _ _
+    (refuses-pick _ _ _
+    (refuses-pick _ _ _
+    (refuses-then _ _ (class-argued bits (tree .group)) (λ class. pick-case (Refuses ByArguments) _ _ _ (λ done. value) (λ fault. number (fault-argued afi sourceActives fault))))
+    (number (omega arith)))
+    (number (omega arith)))
+    (number (omega arith)))))
+    (number (omega arith)))
+    (number (omega arith)))
+
+asked-argued : (afi : ℕ) (asked : Asked) (output : List ℕ) → Refuses ByArguments (readAsked afi asked output)
+unfolding readAsked readMatch readFlow readTree
+asked-argued afi (ofFlow flow) output =
     refuses-then _ _
     (refuses-then _ _ (refuses-also by-reading (refuses-family afi))
     (λ bits. refuses-pick _ _ _ (refuses-pick _ _ _ (refuses-then _ _ (class-argued bits (flow .group)) (λ class. value)) (number (omega arith))) (number (omega arith))))
     (λ query. refuses-pick _ _ _ (number (omega arith)) value)
+asked-argued afi (ofSharedTree tree) output = refuses-then _ _ (tree-argued afi tree) (λ class. refuses-pick _ _ _ (number (omega arith)) value)
 
 pub number-s-pmsi : (afi : ℕ) (nlri : List ℕ) (n : ℕ) → readSPmsi afi nlri ≡ refused n → ByArguments n
 number-s-pmsi afi nlri n e = refuses-by _ n (s-pmsi-argued afi nlri) e
+
+pub number-asked : (afi : ℕ) (asked : Asked) (output : List ℕ) (n : ℕ) → readAsked afi asked output ≡ refused n → ByArguments n
+number-asked afi asked output n e = refuses-by _ n (asked-argued afi asked output) e
 
 pub number-route : (afi : ℕ) (nlri attribute : List ℕ) (n : ℕ) → readRoute afi nlri attribute ≡ refused n → ByArguments n
 number-route afi nlri attribute n e = refuses-by _ n (route-argued afi nlri attribute) e
@@ -64,7 +110,7 @@ refuses-argued : (afi : ℕ) (c : Call) → Refuses ByArguments (argued afi c)
 unfolding argued
 refuses-argued afi (install nlri attribute) = refuses-then _ _ (route-argued afi nlri attribute) (λ r. value)
 refuses-argued afi (withdraw nlri) = refuses-then _ _ (s-pmsi-argued afi nlri) (λ f. value)
-refuses-argued afi (match flow output) = refuses-then _ _ (match-argued afi flow output) (λ q. value)
+refuses-argued afi (match asked output) = refuses-then _ _ (asked-argued afi asked output) (λ q. value)
 
 pub number-argued : (afi : ℕ) (c : Call) (n : ℕ) → argued afi c ≡ refused n → ByArguments n
 number-argued afi c n e = refuses-by _ n (refuses-argued afi c) e

@@ -17,20 +17,20 @@ use Rattle.nlri.proofs.Theorems.{lengths, groupRule}
 use Rattle.nlri.proofs.Definitions.Lengths.{family-good}
 use Rattle.routes.specs.Query.{Query, Flow, flowQuery}
 use Rattle.routes.specs.Arguments.{readFlow}
-use Rattle.routes.specs.ArgumentRules.{KnownFamily, GoodFlow}
+use Rattle.routes.specs.ArgumentRules.{KnownFamily, FamilySized, GoodFlow}
 
 pub class-under : (afi bits : ℕ) (g : List ℕ) → familyBits afi ≡ given bits → classUnder bits g ≡ classOf afi g
 unfolding classOf
 class-under afi bits g ofFamily = goes _ _ _ _ ofFamily refl
 
 -- a class is SSM or ASM, or refused with FLOW
-class-given : (bits class : ℕ) (g : List ℕ) → classUnder bits g ≡ given class → (class ≡ SSM) ⊎ (class ≡ ASM)
+pub class-given : (bits class : ℕ) (g : List ℕ) → classUnder bits g ≡ given class → (class ≡ SSM) ⊎ (class ≡ ASM)
 unfolding classUnder
 class-given bits class g e =
     let p = given-unless _ _ _ _ (given-unless _ _ _ _ e .1) in
     ⊎-elim (λ s. inl (sym (given-same (s .1)))) (λ a. inr (sym (given-same (a .1)))) (picked _ _ _ _ (p .1))
 
-class-refused : (bits n : ℕ) (g : List ℕ) → classUnder bits g ≡ refused n → n ≡ FLOW
+pub class-refused : (bits n : ℕ) (g : List ℕ) → classUnder bits g ≡ refused n → n ≡ FLOW
 unfolding classUnder
 class-refused bits n g e =
     ⊎-elim
@@ -43,12 +43,12 @@ specific-multicast (SourceSpecific.ipv4 {g} l h) = let low : 224 ≤ getD g 0 0 
 specific-multicast (SourceSpecific.ipv6 l h h₁ h₂ h₃) = Multicast.ipv6 l h
 
 -- what a group's class says
-record Classed (afi : ℕ) (g : List ℕ) (class : ℕ) : Type 0 where
-  multicast : Multicast afi g
-  specific : (class ≡ SSM) ↔ SourceSpecific afi g
-  other : (class ≡ ASM) ↔ (SourceSpecific afi g → ⊥)
+pub record Classed (afi : ℕ) (g : List ℕ) (class : ℕ) : Type 0 where
+  pub multicast : Multicast afi g
+  pub specific : (class ≡ SSM) ↔ SourceSpecific afi g
+  pub other : (class ≡ ASM) ↔ (SourceSpecific afi g → ⊥)
 
-classed : (afi : ℕ) (g : List ℕ) (class : ℕ) → classOf afi g ≡ given class → (class ≡ SSM) ⊎ (class ≡ ASM) → Classed afi g class
+pub classed : (afi : ℕ) (g : List ℕ) (class : ℕ) → classOf afi g ≡ given class → (class ≡ SSM) ⊎ (class ≡ ASM) → Classed afi g class
 classed afi g class e k =
     let of-ssm : class ≡ SSM → SourceSpecific afi g = λ s. groupRule .ssm afi g .0 (e ∙ ap given s) in
     let of-asm : class ≡ ASM → Multicast afi g × (SourceSpecific afi g → ⊥) = λ a. groupRule .asm afi g .0 (e ∙ ap given a) in
@@ -59,25 +59,25 @@ classed afi g class e k =
     }
 
 -- what a match asks of a flow that it takes: the flow's query, by the class of its group
-pub record Asked (afi : ℕ) (flow : Flow) (q : Query) : Type 0 where
+pub record AskedFlow (afi : ℕ) (flow : Flow) (q : Query) : Type 0 where
   pub good : GoodFlow afi flow
   pub class : ℕ
   pub is : q ≡ flowQuery flow class
   pub specific : (class ≡ SSM) ↔ SourceSpecific afi (flow .group)
   pub other : (class ≡ ASM) ↔ (SourceSpecific afi (flow .group) → ⊥)
 
-pub asked-router : {afi : ℕ} {flow : Flow} {q : Query} → Asked afi flow q → q .router ≡ flow .router
+pub asked-router : {afi : ℕ} {flow : Flow} {q : Query} → AskedFlow afi flow q → q .router ≡ flow .router
 unfolding flowQuery
 asked-router a = ap (λ (x : Query). x .router) (a .is)
 
-source-sized : (afi bits : ℕ) (source : List ℕ) → familyBits afi ≡ given bits → (8 * length source ≡ bits) ↔ (((afi ≡ 1) × (length source ≡ 4)) ⊎ ((afi ≡ 2) × (length source ≡ 16)))
-source-sized afi bits source ofFamily =
-    ⊎-elim {C = (8 * length source ≡ bits) ↔ (((afi ≡ 1) × (length source ≡ 4)) ⊎ ((afi ≡ 2) × (length source ≡ 16)))}
+pub family-sized : (afi bits : ℕ) (source : List ℕ) → familyBits afi ≡ given bits → (8 * length source ≡ bits) ↔ FamilySized afi source
+family-sized afi bits source ofFamily =
+    ⊎-elim {C = (8 * length source ≡ bits) ↔ FamilySized afi source}
     (λ a. (λ h. inl (a .0, omega (arith, a .1)), λ h. ⊎-elim (λ b. omega (arith, a .1, b .1)) (λ b. absurd (omega (arith, a .0, b .0))) h))
     (λ a. (λ h. inr (a .0, omega (arith, a .1)), λ h. ⊎-elim (λ b. absurd (omega (arith, a .0, b .0))) (λ b. omega (arith, a .1, b .1)) h))
     (lengths .families afi bits .0 ofFamily)
 
-pub flow-asked : (afi : ℕ) (flow : Flow) (q : Query) → readFlow afi flow ≡ given q → Asked afi flow q
+pub flow-asked : (afi : ℕ) (flow : Flow) (q : Query) → readFlow afi flow ≡ given q → AskedFlow afi flow q
 unfolding readFlow
 flow-asked afi flow q e =
     let p = passed _ _ _ e in
@@ -86,7 +86,7 @@ flow-asked afi flow q e =
     let c = passed _ _ _ (s .1) in
     let k = classed afi (flow .group) (c .value) (sym (class-under afi (p .value) (flow .group) (p .first)) ∙ c .first) (class-given (p .value) (c .value) (flow .group) (c .first)) in
     record {
-      good = record { addressed = lengths .originators (length (flow .router)) .0 (r .0); sourced = source-sized afi (p .value) (flow .source) (p .first) .0 (eqb-true _ _ (s .0)); multicast = k .multicast };
+      good = record { addressed = lengths .originators (length (flow .router)) .0 (r .0); sourced = family-sized afi (p .value) (flow .source) (p .first) .0 (eqb-true _ _ (s .0)); multicast = k .multicast };
       class = c .value;
       is = sym (given-same (c .second));
       specific = k .specific;
@@ -98,23 +98,24 @@ multicast-taken (badFamily one two) (Multicast.ipv4 l low high) = one refl
 multicast-taken (badFamily one two) (Multicast.ipv6 l h) = two refl
 multicast-taken (badGroup bits ofFamily none) m = none m
 
-multicast-classed : (afi bits : ℕ) (g : List ℕ) → familyBits afi ≡ given bits → Multicast afi g → (class : ℕ) × (classUnder bits g ≡ given class)
+pub multicast-classed : (afi bits : ℕ) (g : List ℕ) → familyBits afi ≡ given bits → Multicast afi g → (class : ℕ) × (classUnder bits g ≡ given class)
 multicast-classed afi bits g ofFamily m =
     ⊎-elim (λ c. c)
     (λ n. absurd (multicast-taken (groupRule .refuses afi g (n .0) .0 (sym (class-under afi bits g ofFamily) ∙ n .1)) m))
     (outcome (classUnder bits g))
 
-source-family : (afi : ℕ) (source : List ℕ) → ((afi ≡ 1) × (length source ≡ 4)) ⊎ ((afi ≡ 2) × (length source ≡ 16)) → KnownFamily afi
-source-family afi source h = ⊎-elim (λ a. inl (a .0)) (λ a. inr (a .0)) h
+pub multicast-family : {afi : ℕ} {g : List ℕ} → Multicast afi g → KnownFamily afi
+multicast-family (Multicast.ipv4 l low high) = inl refl
+multicast-family (Multicast.ipv6 l h) = inr refl
 
 pub flow-given : (afi : ℕ) (flow : Flow) → GoodFlow afi flow → (q : Query) × (readFlow afi flow ≡ given q)
 unfolding readFlow
 flow-given afi flow f =
-    let bits = family-good afi (source-family afi (flow .source) (f .sourced)) in
+    let bits = family-good afi (multicast-family (f .multicast)) in
     let class = multicast-classed afi (bits .0) (flow .group) (bits .1) (f .multicast) in (
       flowQuery flow (class .0),
       sym (goes _ _ _ _ (bits .1) (sym (pick-true _ _ _ (lengths .originators (length (flow .router)) .1 (f .addressed))
-          ∙ pick-true _ _ _ (eq-eqb _ _ (source-sized afi (bits .0) (flow .source) (bits .1) .1 (f .sourced)))
+          ∙ pick-true _ _ _ (eq-eqb _ _ (family-sized afi (bits .0) (flow .source) (bits .1) .1 (f .sourced)))
           ∙ sym (goes _ _ _ _ (class .1) refl)))),
     )
 

@@ -31,7 +31,7 @@ module _ (afi : ℕ) (nlri : List ℕ) where
       go (given f) e a = ⊎-elim (λ h. (rw h (nlri-accepted afi named f e), (attribute, first (rw h)))) (λ b. absurd (among-none b)) (among-cases a)
       go (refused n) e a = absurd (among-none a)
   named-first (withdraw named) cs m = absurd (among-none m)
-  named-first (match flow output) cs m = absurd (among-none m)
+  named-first (match asked output) cs m = absurd (among-none m)
 
   named-install : (calls : List Call) → Among nlri (namedBy afi calls) → Named calls
   unfolding namedBy

@@ -12,12 +12,14 @@ use Rattle.octets.proofs.Orders.{same-equal, same-of-equal, before-none}
 use Rattle.nlri.specs.Family.{isOriginatorSize}
 use Rattle.nlri.specs.Fields.{Fields}
 use Rattle.routes.specs.Route.{Route, route, nlriOf, attributeOf}
-use Rattle.routes.specs.Query.{Query, Flow}
-use Rattle.routes.specs.Arguments.{readSPmsi, readRoute, readMatch}
+use Rattle.routes.specs.Query.{Query}
+use Rattle.routes.specs.Arguments.{readSPmsi, readRoute}
+use Rattle.routes.specs.Asked.{Asked, ofFlow, ofSharedTree, askedRouter, readAsked}
 use Rattle.routes.specs.Place.{acceptable}
 use Rattle.routes.specs.Call.{match, Owner, nobody, owner, originatorOf, ownerOf, ownedBy}
 use Rattle.nlri.proofs.Theorems.{lengths}
 use Rattle.routes.proofs.Definitions.Flows.{asked-router, flow-asked}
+use Rattle.routes.proofs.Definitions.SharedTrees.{asked-tree-router, tree-asked}
 use Rattle.routes.proofs.Statements.ArgumentRules.{flow-passed}
 use Rattle.routes.proofs.Definitions.Bounds.{accepted, route-read, read-acceptable, nlri-size}
 
@@ -59,9 +61,11 @@ pub owners-same : {x y : List ℕ} {o : Owner} → o ≡ owner x → o ≡ owner
 owners-same p q = cc
 
 -- a query that was read asks of the router given, whose address has 4 or 16 octets
-pub query-router : (afi : ℕ) (flow : Flow) (output : List ℕ) (q : Query) → readMatch afi flow output ≡ given q → (q .router ≡ flow .router) × (isOriginatorSize (length (flow .router)) ≡ true)
-query-router afi flow output q e = let a = flow-asked afi flow q (flow-passed afi flow output q e .0) in (asked-router a, lengths .originators (length (flow .router)) .1 (a .good .addressed))
+pub query-router : (afi : ℕ) (asked : Asked) (output : List ℕ) (q : Query) → readAsked afi asked output ≡ given q → (q .router ≡ askedRouter asked) × (isOriginatorSize (length (askedRouter asked)) ≡ true)
+unfolding readAsked askedRouter
+query-router afi (ofFlow flow) output q e = let a = flow-asked afi flow q (flow-passed afi flow output q e .0) in (asked-router a, lengths .originators (length (flow .router)) .1 (a .good .addressed))
+query-router afi (ofSharedTree tree) output q e = let a = tree-asked afi tree output q e in (asked-tree-router a, lengths .originators (length (tree .router)) .1 (a .good .addressed .router))
 
-pub match-owner : (afi : ℕ) (flow : Flow) (output : List ℕ) → isOriginatorSize (length (flow .router)) ≡ true → ownerOf afi (match flow output) ≡ owner (flow .router)
+pub match-owner : (afi : ℕ) (asked : Asked) (output : List ℕ) → isOriginatorSize (length (askedRouter asked)) ≡ true → ownerOf afi (match asked output) ≡ owner (askedRouter asked)
 unfolding ownerOf
-match-owner afi flow output h = pick-true _ _ _ h
+match-owner afi asked output h = pick-true _ _ _ h

@@ -1,7 +1,7 @@
 -- How arguments are refused, and what is accepted (specs/ArgumentRules.antt).
 use Prim.Native.Nat.{ℕ, _≤_}
 use mathlib.Core.Path.{_≡_, refl, sym, ap, subst, _∙_}
-use mathlib.Core.Logic.{⊎-elim}
+use mathlib.Core.Logic.{_↔_, ⊎-elim}
 use mathlib.Core.List.{List}
 use lib.ListN.{length}
 use borrow.Author.Tests.{eqb-true, eqb-false, eq-eqb, ne-eqb, ltb-true, ltb-false, lt-ltb, le-ltb}
@@ -14,41 +14,53 @@ use Rattle.nlri.specs.Reading.{readNlri}
 use Rattle.tunnel.specs.Attribute.{AttributeFields, labelOf}
 use Rattle.routes.specs.Route.{route}
 use Rattle.routes.specs.Query.{Query, Flow}
-use Rattle.routes.specs.Arguments.{readSPmsi, readLabelled, readRoute, readFlow, readMatch}
-use Rattle.routes.specs.ArgumentRules.{KnownFamily, SPmsi, Labelled, GoodFlow, NlriRefusal, unreadNlri, otherKind, RouteRefusal, badNlri, unreadAttribute, noLabel, FlowRefusal, badFlow, noSpace, ArgumentRule}
+use Rattle.routes.specs.Arguments.{readOfType, readSPmsi, readLabelled, readRoute, readFlow, readMatch}
+use Rattle.routes.specs.ArgumentRules.{KnownFamily, SPmsi, Labelled, GoodFlow, TypeRefusal, NlriRefusal, unreadNlri, otherKind, RouteRefusal, badNlri, unreadAttribute, noLabel, FlowRefusal, badFlow, noSpace, ArgumentRule}
 use Rattle.routes.proofs.Definitions.Flows.{flow-asked, flow-given, flow-refused}
 
-module _ (afi : ℕ) (nlri : List ℕ) where
-  nlri-refused : (n : ℕ) → readSPmsi afi nlri ≡ refused n → NlriRefusal afi nlri n
-  unfolding readSPmsi
-  nlri-refused n e =
+-- an NLRI of one route type
+module _ (type afi : ℕ) (nlri : List ℕ) where
+  type-refused : (n : ℕ) → readOfType type afi nlri ≡ refused n → TypeRefusal type afi nlri n
+  type-refused n e =
       ⊎-elim (λ first. unreadNlri first)
       (λ later.
       let p = refuses-unless KIND n _ _ (later .second) in
-      subst (NlriRefusal afi nlri) (sym (p .1)) (otherKind (later .value) (later .first) (eqb-false _ _ (p .0))))
+      subst (TypeRefusal type afi nlri) (sym (p .1)) (otherKind (later .value) (later .first) (eqb-false _ _ (p .0))))
       (stopped _ _ _ e)
 
-  nlri-refuses : {n : ℕ} → NlriRefusal afi nlri n → readSPmsi afi nlri ≡ refused n
-  unfolding readSPmsi
-  nlri-refuses (unreadNlri e) = sym (stops _ _ _ e)
-  nlri-refuses (otherKind f e k) = sym (goes _ _ _ _ e (sym (pick-false _ _ _ (ne-eqb (f .type) 3 k))))
+  type-refuses : {n : ℕ} → TypeRefusal type afi nlri n → readOfType type afi nlri ≡ refused n
+  type-refuses (unreadNlri e) = sym (stops _ _ _ e)
+  type-refuses (otherKind f e k) = sym (goes _ _ _ _ e (sym (pick-false _ _ _ (ne-eqb (f .type) type k))))
 
-  nlri-passed : (f : Fields) → readSPmsi afi nlri ≡ given f → (readNlri afi nlri ≡ given f) × (f .type ≡ 3)
-  unfolding readSPmsi
-  nlri-passed f e =
+  type-passed : (f : Fields) → readOfType type afi nlri ≡ given f → (readNlri afi nlri ≡ given f) × (f .type ≡ type)
+  type-passed f e =
       let p = passed _ _ _ e in
       let q = given-unless _ _ _ _ (p .second) in
       (p .first ∙ q .1, ap (λ (g : Fields). g .type) (sym (given-same (q .1))) ∙ eqb-true _ _ (q .0))
 
-  nlri-passes : (f : Fields) → (readNlri afi nlri ≡ given f) × (f .type ≡ 3) → readSPmsi afi nlri ≡ given f
+  type-passes : (f : Fields) → (readNlri afi nlri ≡ given f) × (f .type ≡ type) → readOfType type afi nlri ≡ given f
+  type-passes f p = sym (goes _ _ _ _ (p .0) (sym (pick-true _ _ _ (eq-eqb (f .type) type (p .1)))))
+
+  pub type-exactly : (f : Fields) → (readOfType type afi nlri ≡ given f) ↔ ((readNlri afi nlri ≡ given f) × (f .type ≡ type))
+  type-exactly f = (type-passed f, type-passes f)
+
+  pub type-refused-exactly : (n : ℕ) → (readOfType type afi nlri ≡ refused n) ↔ TypeRefusal type afi nlri n
+  type-refused-exactly n = (type-refused n, type-refuses)
+
+module _ (afi : ℕ) (nlri : List ℕ) where
+  nlri-exactly : (f : Fields) → (readSPmsi afi nlri ≡ given f) ↔ ((readNlri afi nlri ≡ given f) × (f .type ≡ 3))
   unfolding readSPmsi
-  nlri-passes f p = sym (goes _ _ _ _ (p .0) (sym (pick-true _ _ _ (eq-eqb (f .type) 3 (p .1)))))
+  nlri-exactly f = type-exactly 3 afi nlri f
+
+  nlri-refused : (n : ℕ) → (readSPmsi afi nlri ≡ refused n) ↔ NlriRefusal afi nlri n
+  unfolding readSPmsi
+  nlri-refused n = type-refused-exactly 3 afi nlri n
 
   pub nlri-accepted : (f : Fields) → readSPmsi afi nlri ≡ given f → SPmsi afi nlri
-  nlri-accepted f e = let p = nlri-passed f e in record { fields = f; read = p .0; kind = p .1 }
+  nlri-accepted f e = let p = nlri-exactly f .0 e in record { fields = f; read = p .0; kind = p .1 }
 
   pub nlri-accepts : (s : SPmsi afi nlri) → readSPmsi afi nlri ≡ given (s .fields)
-  nlri-accepts s = nlri-passes (s .fields) (s .read, s .kind)
+  nlri-accepts s = nlri-exactly (s .fields) .1 (s .read, s .kind)
 
 module _ (attribute : List ℕ) where
   labelled : (f : AttributeFields) → readLabelled attribute ≡ given f → Labelled attribute
@@ -68,7 +80,7 @@ module _ (afi : ℕ) (nlri attribute : List ℕ) where
   route-refused : (n : ℕ) → readRoute afi nlri attribute ≡ refused n → RouteRefusal afi nlri attribute n
   unfolding readRoute readLabelled
   route-refused n e =
-      ⊎-elim (λ first. badNlri (nlri-refused afi nlri n first))
+      ⊎-elim (λ first. badNlri (nlri-refused afi nlri n .0 first))
       (λ later.
       let s = nlri-accepted afi nlri (later .value) (later .first) in
       ⊎-elim
@@ -85,7 +97,7 @@ module _ (afi : ℕ) (nlri attribute : List ℕ) where
 
   route-refuses : {n : ℕ} → RouteRefusal afi nlri attribute n → readRoute afi nlri attribute ≡ refused n
   unfolding readRoute readLabelled
-  route-refuses (badNlri r) = sym (stops _ _ _ (nlri-refuses afi nlri r))
+  route-refuses (badNlri r) = sym (stops _ _ _ (nlri-refused afi nlri _ .1 r))
   route-refuses (unreadAttribute s e) = sym (goes _ _ _ _ (nlri-accepts afi nlri s) (stops _ _ _ (sym (stops _ _ _ e))))
   route-refuses (noLabel f s e bier zero) =
       sym (goes _ _ _ _ (nlri-accepts afi nlri s)
@@ -146,8 +158,8 @@ module _ (afi : ℕ) (flow : Flow) (output : List ℕ) where
 pub argumentRule : ArgumentRule
 argumentRule =
     record {
-      refusedNlri = λ afi nlri n. (nlri-refused afi nlri n, nlri-refuses afi nlri);
-      acceptedNlri = λ afi nlri f. (nlri-passed afi nlri f, nlri-passes afi nlri f);
+      refusedNlri = λ afi nlri n. nlri-refused afi nlri n;
+      acceptedNlri = λ afi nlri f. nlri-exactly afi nlri f;
       refusedRoute = λ afi nlri attribute n. (route-refused afi nlri attribute n, route-refuses afi nlri attribute);
       acceptedRoute = λ afi nlri attribute. (route-passed afi nlri attribute, route-passes afi nlri attribute);
       refusedFlow = λ afi flow output n bits. (flow-refusal afi flow output n bits, flow-refuses afi flow output bits);

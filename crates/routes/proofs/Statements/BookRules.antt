@@ -13,10 +13,11 @@ use Rattle.nlri.proofs.Theorems.{lengths}
 use Rattle.routes.specs.Route.{Route, nlriOf, held, lookup, arranged}
 use Rattle.routes.specs.Arguments.{readSPmsi}
 use Rattle.routes.specs.ArgumentRules.{KnownFamily, SPmsiOf}
+use Rattle.routes.specs.Asked.{ofFlow, ofSharedTree, askedRouter}
 use Rattle.routes.specs.Call.{Call, install, withdraw, match, Owner, nobody, owner, originatorOf, ownerOf, ownedBy, owns, Act, argued, refusalOf}
 use Rattle.routes.specs.Book.{bookAfter, fed, ownCalls, bookOf, allBooks, dueAnswer}
 use Rattle.routes.specs.Run.{imageOfBooks, namedBy, Fits}
-use Rattle.routes.specs.BookRules.{BelongsTo, ownInstall, ownWithdrawal, ownMatch, Nobodys, OwnerRule, PremiseRule, RefusedCall, BookStep, BookRule, ImageRule}
+use Rattle.routes.specs.BookRules.{BelongsTo, ownInstall, ownWithdrawal, ownMatch, ownSharedMatch, Nobodys, OwnerRule, PremiseRule, RefusedCall, BookStep, BookRule, ImageRule}
 use Rattle.routes.proofs.Definitions.Lookups.{held-absent, lookup-arranged, lookup-member, lookup-of-member, distinct-increasing}
 use Rattle.routes.proofs.Statements.ArgumentRules.{argumentRule, nlri-accepts}
 use Rattle.routes.proofs.Statements.Images.{images}
@@ -46,20 +47,26 @@ originator : (afi : ℕ) (router nlri : List ℕ) → SPmsiOf afi router nlri �
 originator afi router nlri s = owner-read afi nlri (s .named .fields) (nlri-accepts afi nlri (s .named)) ∙ ap owner (s .originator)
 
 pub belongs : (afi : ℕ) (router : List ℕ) (c : Call) → ownerOf afi c ≡ owner router → BelongsTo afi router c
-unfolding ownerOf
+unfolding ownerOf askedRouter
 belongs afi router (install nlri attribute) h = ownInstall (originated afi router nlri h)
 belongs afi router (withdraw nlri) h = ownWithdrawal (originated afi router nlri h)
-belongs afi router (match flow output) h =
+belongs afi router (match (ofFlow flow) output) h =
     ⊎-elim
     (λ p. let is : flow .router ≡ router = owners-same refl (p .1) in ownMatch is (rw is at (lengths .originators (length (flow .router)) .0 (p .0))))
     (λ p. absurd (owner-nobody refl (p .1)))
     (picked _ _ _ _ h)
+belongs afi router (match (ofSharedTree tree) output) h =
+    ⊎-elim
+    (λ p. let is : tree .router ≡ router = owners-same refl (p .1) in ownSharedMatch is (rw is at (lengths .originators (length (tree .router)) .0 (p .0))))
+    (λ p. absurd (owner-nobody refl (p .1)))
+    (picked _ _ _ _ h)
 
 belonging : {afi : ℕ} {router : List ℕ} {c : Call} → BelongsTo afi router c → ownerOf afi c ≡ owner router
-unfolding ownerOf
+unfolding ownerOf askedRouter
 belonging {afi} {router} (ownInstall {nlri} s) = originator afi router nlri s
 belonging {afi} {router} (ownWithdrawal {nlri} s) = originator afi router nlri s
-belonging {afi} {router} (ownMatch {flow} {output} is size) = match-owner afi flow output (rw is (lengths .originators (length router) .1 size)) ∙ ap owner is
+belonging {afi} {router} (ownMatch {flow} {output} is size) = match-owner afi (ofFlow flow) output (rw is (lengths .originators (length router) .1 size)) ∙ ap owner is
+belonging {afi} {router} (ownSharedMatch {tree} {output} is size) = match-owner afi (ofSharedTree tree) output (rw is (lengths .originators (length router) .1 size)) ∙ ap owner is
 
 nobodys-owner : (afi : ℕ) (c : Call) → Nobodys afi c → ownerOf afi c ≡ nobody
 nobodys-owner afi c h = go (ownerOf afi c) refl

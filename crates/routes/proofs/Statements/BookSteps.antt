@@ -8,21 +8,22 @@ use Rattle.octets.specs.Outcome.{Outcome, given, refused, onOutcome, andThen}
 use Rattle.octets.proofs.Choice.{pick-true, pick-false, tested}
 use Rattle.octets.proofs.Outcome.{never, outcome, stopped, goes, stops}
 use Rattle.routes.specs.Route.{Route, route, nlriOf, held, holds, Distinct}
-use Rattle.routes.specs.Query.{Query, Flow}
-use Rattle.routes.specs.Arguments.{readSPmsi, readRoute, readMatch}
+use Rattle.routes.specs.Query.{Query}
+use Rattle.routes.specs.Arguments.{readSPmsi, readRoute}
+use Rattle.routes.specs.Asked.{Asked, ofFlow, ofSharedTree, readAsked}
 use Rattle.routes.specs.Place.{AllAcceptable}
 use Rattle.routes.specs.Answers.{NEW, REPLACED, installedOf, matchedBy}
 use Rattle.routes.specs.Call.{Call, install, withdraw, match, Act, enter, leave, ask, argued, refusalAnswer}
 use Rattle.routes.specs.Book.{entered, actAnswer, actAfter, bookAnswer, bookAfter}
 use Rattle.routes.specs.ArgumentRules.{KnownFamily, SPmsi, Labelled}
 use Rattle.routes.specs.CallRules.{HeldNow}
-use Rattle.routes.specs.BookRules.{RefusedCall, refusedInstall, refusedWithdrawal, refusedFlow, BookStep, refusal, replacedRoute, newRoute, takenOut, notInBook, matchedFlow}
+use Rattle.routes.specs.BookRules.{RefusedCall, refusedInstall, refusedWithdrawal, refusedFlow, refusedTree, BookStep, refusal, replacedRoute, newRoute, takenOut, notInBook, matchedFlow, matchedTree}
 use Rattle.routes.proofs.Definitions.Lookups.{lookup-entered, held-now, removed-now, held-holds, absent-holds, removed-absent}
 use Rattle.routes.proofs.Definitions.Bounds.{route-read}
-use Rattle.routes.proofs.Definitions.Flows.{flow-asked}
-use Rattle.routes.proofs.Statements.ArgumentRules.{argumentRule, nlri-accepted, flow-passed}
+use Rattle.routes.proofs.Statements.ArgumentRules.{argumentRule, nlri-accepted}
 use Rattle.routes.proofs.Definitions.ByArguments.{number-argued}
-use Rattle.routes.proofs.Statements.MatchRule.{flow-answer}
+use Rattle.routes.proofs.Statements.MatchRule.{served-answer, served-flow}
+use Rattle.routes.proofs.Statements.SharedTreeRule.{served-tree}
 
 -- an install's NLRI has its attribute
 held-entered : (nlri attribute : List ℕ) (book : List Route) → HeldNow nlri (held (route nlri attribute)) book (entered (route nlri attribute) book)
@@ -36,12 +37,14 @@ first-refuses o good n e = ⊎-elim (λ first. first) (λ later. absurd (never r
 module _ (afi : ℕ) (bits : KnownFamily afi) where
   -- what a call that its arguments refuse answers
   pub refused-call : (c : Call) (n : ℕ) → argued afi c ≡ refused n → RefusedCall afi c (refusalAnswer c n)
-  unfolding argued refusalAnswer installedOf matchedBy onOutcome
+  unfolding argued readAsked refusalAnswer installedOf matchedBy onOutcome
   refused-call (install nlri attribute) n e =
       refusedInstall (number-argued afi (install nlri attribute) n e .0) (argumentRule .refusedRoute afi nlri attribute n .0 (first-refuses _ _ n e))
   refused-call (withdraw nlri) n e = refusedWithdrawal (number-argued afi (withdraw nlri) n e .0) (argumentRule .refusedNlri afi nlri n .0 (first-refuses _ _ n e))
-  refused-call (match flow output) n e =
-      refusedFlow (argumentRule .refusedFlow afi flow output n bits .0 (first-refuses _ _ n e)) (record { tierless = refl; sizes = (refl, refl); untouched = refl })
+  refused-call (match (ofFlow flow) output) n e =
+      refusedFlow (served-flow flow .refuses afi output n bits .0 (first-refuses _ _ n e)) (record { tierless = refl; sizes = (refl, refl); untouched = refl })
+  refused-call (match (ofSharedTree tree) output) n e =
+      refusedTree (served-tree tree .refuses afi output n bits .0 (first-refuses _ _ n e)) (record { tierless = refl; sizes = (refl, refl); untouched = refl })
 
   module _ {book : List Route} (d : Distinct book) (a : AllAcceptable afi book) where
     by-refusal : (c : Call) (n : ℕ) → argued afi c ≡ refused n → BookStep afi book c (bookAnswer afi book c) (bookAfter afi book c)
@@ -67,12 +70,11 @@ module _ (afi : ℕ) (bits : KnownFamily afi) where
         (λ y. rw (pick-true _ DONE ABSENT y) (takenOut s (held-holds nlri book y) (removed-now nlri d)))
         (λ n. let missing = absent-holds nlri book n in rw (pick-false _ DONE ABSENT n, removed-absent nlri book missing) (notInBook s missing))
 
-    ask-step : (flow : Flow) (output : List ℕ) (q : Query) → readMatch afi flow output ≡ given q
-        → BookStep afi book (match flow output) (actAnswer afi book (ask q output)) (actAfter book (ask q output))
-    unfolding actAnswer actAfter
-    ask-step flow output q e =
-        let p = flow-passed afi flow output q e in
-        matchedFlow (flow-asked afi flow q (p .0) .good) (p .1) (flow-answer afi flow q (p .0) output (p .1) book d a)
+    ask-step : (asked : Asked) (output : List ℕ) (q : Query) → readAsked afi asked output ≡ given q
+        → BookStep afi book (match asked output) (actAnswer afi book (ask q output)) (actAfter book (ask q output))
+    unfolding readAsked actAnswer actAfter
+    ask-step (ofFlow flow) output q e = let h = served-flow flow .takes afi output .0 (q, e) in matchedFlow (h .0) (h .1) (served-answer (served-flow flow) afi output q e book d a)
+    ask-step (ofSharedTree tree) output q e = let h = served-tree tree .takes afi output .0 (q, e) in matchedTree (h .0) (h .1) (served-answer (served-tree tree) afi output q e book d a)
 
     pub book-step : (c : Call) → BookStep afi book c (bookAnswer afi book c) (bookAfter afi book c)
     unfolding argued
@@ -89,8 +91,8 @@ module _ (afi : ℕ) (bits : KnownFamily afi) where
         (λ p. by-act (withdraw nlri) (leave nlri) (sym (goes _ _ _ _ (p .1) refl)) (leave-step nlri (nlri-accepted afi nlri (p .0) (p .1))))
         (λ p. by-refusal (withdraw nlri) (p .0) (sym (stops _ _ _ (p .1))))
         (outcome (readSPmsi afi nlri))
-    book-step (match flow output) =
+    book-step (match asked output) =
         ⊎-elim
-        (λ p. by-act (match flow output) (ask (p .0) output) (sym (goes _ _ _ _ (p .1) refl)) (ask-step flow output (p .0) (p .1)))
-        (λ p. by-refusal (match flow output) (p .0) (sym (stops _ _ _ (p .1))))
-        (outcome (readMatch afi flow output))
+        (λ p. by-act (match asked output) (ask (p .0) output) (sym (goes _ _ _ _ (p .1) refl)) (ask-step asked output (p .0) (p .1)))
+        (λ p. by-refusal (match asked output) (p .0) (sym (stops _ _ _ (p .1))))
+        (outcome (readAsked afi asked output))

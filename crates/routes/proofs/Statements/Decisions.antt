@@ -23,13 +23,13 @@ use Rattle.routes.proofs.Definitions.Lookups.{held-absent}
 unfoldable pub decides : (nlri t : List ℕ) → Call → Bool
 decides nlri t (install other attribute) = both (same nlri other) (eqb (installOf t other attribute .answer .number) DONE)
 decides nlri t (withdraw other) = both (same nlri other) (eqb (withdrawOf t other .answer) DONE)
-decides nlri t (match flow output) = false
+decides nlri t (match asked output) = false
 
 -- what it leaves of its NLRI: an install its route, a withdrawal nothing
 unfoldable pub leftBy : Call → Held
 leftBy (install nlri attribute) = held (route nlri attribute)
 leftBy (withdraw nlri) = absent
-leftBy (match flow output) = absent
+leftBy (match asked output) = absent
 
 -- what calls on a table leave of an NLRI of which this was held
 unfoldable pub lastFrom : (nlri : List ℕ) → Held → (t : List ℕ) → List Call → Held
@@ -44,7 +44,7 @@ decides-true nlri t (install other attribute) d =
 decides-true nlri t (withdraw other) d =
     let e : nlri ≡ other = same-equal nlri other (both-true-left _ _ d) in
     subst (λ (x : List ℕ). Decides x t (withdraw other)) (sym e) (byWithdrawal (eqb-true _ _ (both-true-right _ _ d)))
-decides-true nlri t (match flow output) d = absurd (opposite {b = false} d refl)
+decides-true nlri t (match asked output) d = absurd (opposite {b = false} d refl)
 
 true-decides : {nlri t : List ℕ} {c : Call} → Decides nlri t c → decides nlri t c ≡ true
 unfolding decides

@@ -13,8 +13,9 @@ use Rattle.octets.specs.Outcome.{Outcome, given, refused, onOutcome, andThen, n
 use Rattle.octets.proofs.Choice.{pick-true, tested}
 use Rattle.nlri.specs.Fields.{Fields}
 use Rattle.routes.specs.Route.{Route, nlriOf, lookup, holds, inserted, removed, arranged, Increasing}
-use Rattle.routes.specs.Query.{Query, Flow}
-use Rattle.routes.specs.Arguments.{readSPmsi, readRoute, readMatch}
+use Rattle.routes.specs.Query.{Query}
+use Rattle.routes.specs.Arguments.{readSPmsi, readRoute}
+use Rattle.routes.specs.Asked.{Asked, readAsked}
 use Rattle.routes.specs.Table.{imageOf}
 use Rattle.routes.specs.Place.{acceptable}
 use Rattle.routes.specs.ArgumentRules.{KnownFamily}
@@ -57,9 +58,9 @@ module _ (afi places : ℕ) (rs : List Route) (t : List ℕ) (of : TableOf afi p
   unfolding withdrawOutcome
   withdraw-on nlri = rw (of .family, of .routes) (pick-true _ _ _ (of .sound))
 
-  match-on : (flow : Flow) (output : List ℕ) → matchOutcome t flow output ≡ andThen (readMatch afi flow output) (λ q. given (matchIn afi q rs))
+  match-on : (asked : Asked) (output : List ℕ) → matchOutcome t asked output ≡ andThen (readAsked afi asked output) (λ q. given (matchIn afi q rs))
   unfolding matchOutcome
-  match-on flow output = rw (of .family, of .routes) (pick-true _ _ _ (of .sound))
+  match-on asked output = rw (of .family, of .routes) (pick-true _ _ _ (of .sound))
 
   -- a call is refused by its arguments, and leaves the octets, or does its act
   abbrev argued-step : Call → Outcome Act → Step
@@ -79,12 +80,12 @@ module _ (afi places : ℕ) (rs : List Route) (t : List ℕ) (of : TableOf afi p
       go : (o : Outcome Fields) → readSPmsi afi nlri ≡ o → stepOf t (withdraw nlri) ≡ argued-step (withdraw nlri) (andThen o (λ f. given (leave nlri)))
       go (given f) e = let x : withdrawOutcome t nlri ≡ leaving rs nlri = withdraw-on nlri ∙ rw e in rw (x, of .family, of .size, of .routes)
       go (refused n) e = let x : withdrawOutcome t nlri ≡ refused n = withdraw-on nlri ∙ rw e in rw x
-  step-on (match flow output) = go (readMatch afi flow output) refl
+  step-on (match asked output) = go (readAsked afi asked output) refl
     where
-      go : (o : Outcome Query) → readMatch afi flow output ≡ o
-          → stepOf t (match flow output) ≡ argued-step (match flow output) (andThen o (λ q. given (ask q output)))
-      go (given q) e = let x : matchOutcome t flow output ≡ given (matchIn afi q rs) = match-on flow output ∙ rw e in rw x
-      go (refused n) e = let x : matchOutcome t flow output ≡ refused n = match-on flow output ∙ rw e in rw x
+      go : (o : Outcome Query) → readAsked afi asked output ≡ o
+          → stepOf t (match asked output) ≡ argued-step (match asked output) (andThen o (λ q. given (ask q output)))
+      go (given q) e = let x : matchOutcome t asked output ≡ given (matchIn afi q rs) = match-on asked output ∙ rw e in rw x
+      go (refused n) e = let x : matchOutcome t asked output ≡ refused n = match-on asked output ∙ rw e in rw x
 
 -- what is due, by whom the call belongs to
 

@@ -69,7 +69,7 @@ step-lookups t (install other attribute) nlri =
     (installRule .installed t other attribute) (installRule .untouched t other attribute) nlri
 step-lookups t (withdraw other) nlri =
     decided other absent (withdrawOf t other .answer) t (withdrawOf t other .octets) (withdrawRule .withdrawn t other) (withdrawRule .untouched t other) nlri
-step-lookups t (match flow output) nlri = refl
+step-lookups t (match asked output) nlri = refl
 
 step-next : (t : List ℕ) (c : Call) → soundOf t ≡ true → Next t (stepOf t c .octets)
 unfolding stepOf
@@ -86,7 +86,7 @@ step-next t (withdraw nlri) s =
     let d = eqb-true _ _ done in
     next-image t _ (removed nlri (routesOf t)) (withdrawRule .size t nlri) (withdraw-octets t nlri (withdraw-done t nlri d)) (withdrawRule .after t nlri d))
     (λ bad. next-same t _ s (withdrawRule .untouched t nlri (eqb-false _ _ bad)))
-step-next t (match flow output) s = next-same t t s refl
+step-next t (match asked output) s = next-same t t s refl
 
 next-then : {t u v : List ℕ} → Next t u → Next u v → Next t v
 next-then p q = record { sound = q .sound; family = q .family ∙ p .family; size = q .size ∙ p .size; image = λ i. q .image (p .image i) }

@@ -17,17 +17,19 @@ use Rattle.routes.specs.Route.{Route, nlriOf, attributeOf, Distinct}
 use Rattle.routes.specs.Place.{AllAcceptable}
 use Rattle.routes.specs.Query.{meets, Query, Flow}
 use Rattle.routes.specs.Arguments.{readFlow}
+use Rattle.routes.specs.Asked.{Asked, ofFlow, readAsked}
 use Rattle.routes.specs.Table.{afiIn, routesOf, soundOf}
 use Rattle.routes.specs.Matching.{Found, nothing, found, matchIn}
 use Rattle.routes.specs.Answers.{foundAnswer, foundOutput, matchedBy}
 use Rattle.routes.specs.Calls.{matchOutcome, matchOf}
-use Rattle.routes.specs.ArgumentRules.{GoodFlow, badFlow, noSpace}
-use Rattle.routes.specs.MatchRule.{InTier, Taken, NoneTaken, Told, Untold, MatchAnswer, oneTold, noneTold, MatchRefusal, matchUnsound, badMatch, MatchRule}
-use Rattle.routes.proofs.Statements.ArgumentRules.{argumentRule, flow-passes}
+use Rattle.routes.specs.ArgumentRules.{KnownFamily, GoodFlow, FlowRefusal}
+use Rattle.routes.specs.MatchRule.{InTier, Taken, NoneTaken, Told, Untold, MatchAnswer, oneTold, noneTold, MatchRefusal, matchUnsound, badMatch, TableMatch, MatchRule}
+use Rattle.routes.proofs.Statements.ArgumentRules.{argumentRule, flow-passed}
+use Rattle.routes.proofs.Definitions.ByArguments.{number-asked}
 use Rattle.routes.proofs.Definitions.Lookups.{acceptable-member, distinct-increasing}
 use Rattle.routes.proofs.Definitions.Bounds.{Sized, sizes-of}
 use Rattle.routes.proofs.Statements.Images.{sound-holdable}
-use Rattle.routes.proofs.Definitions.Flows.{Asked, asked-router, flow-asked, flow-given}
+use Rattle.routes.proofs.Definitions.Flows.{asked-router, flow-asked}
 use Rattle.routes.proofs.Definitions.First.{wantedAt}
 use Rattle.routes.proofs.Statements.Taken.{found-taken, nothing-taken, flow-exactly}
 
@@ -56,133 +58,153 @@ unfolding matchedBy onOutcome foundAnswer
 found-number output nothing = refl
 found-number output (found tier r) = refl
 
--- what a match of any kind comes to, over any routes that a table or a book may hold
-module _ (afi : ℕ) (q : Query) (In : (tier : ℕ) → Fields → Type 0) (exactly : (tier : ℕ) (f : Fields) → (meets (wantedAt 1 tier (q .tiers)) f ≡ true) ↔ In tier f) (output : List ℕ) (enough : 124 ≤ length output) where
-  nothing-untold : Untold output (matchedBy (given nothing) output)
-  unfolding matchedBy onOutcome foundAnswer foundOutput
-  nothing-untold = record { tierless = refl; sizes = (refl, refl); untouched = refl }
+-- a query that asks of a router what the conditions of its tiers say
+pub record Asks (afi : ℕ) (router : List ℕ) (In : (tier : ℕ) → Fields → Type 0) (q : Query) : Type 0 where
+  pub of : q .router ≡ router
+  pub exactly : (tier : ℕ) (f : Fields) → (meets (wantedAt 1 tier (q .tiers)) f ≡ true) ↔ In tier f
 
-  found-told : (tier : ℕ) (r : Route) → Sized r → Told tier r output (matchedBy (given (found tier r)) output)
-  unfolding matchedBy onOutcome foundAnswer foundOutput
-  found-told tier r sized =
-      let fits : length (nlriOf r) + length (attributeOf r) ≤ 124 = omega (arith, sized .nlri, sized .attribute) in
-      let fronts = front-two (nlriOf r) (attributeOf r) output (omega arith) in
+nothing-untold : (output : List ℕ) → Untold output (matchedBy (given nothing) output)
+unfolding matchedBy onOutcome foundAnswer foundOutput
+nothing-untold output = record { tierless = refl; sizes = (refl, refl); untouched = refl }
+
+found-told : (output : List ℕ) → 124 ≤ length output → (tier : ℕ) (r : Route) → Sized r → Told tier r output (matchedBy (given (found tier r)) output)
+unfolding matchedBy onOutcome foundAnswer foundOutput
+found-told output enough tier r sized =
+    let fits : length (nlriOf r) + length (attributeOf r) ≤ 124 = omega (arith, sized .nlri, sized .attribute) in
+    let fronts = front-two (nlriOf r) (attributeOf r) output (omega arith) in
+    record {
+      number = refl;
+      ofTier = refl;
+      sizes = (refl, refl);
+      most = fits;
+      size = fronts .0;
+      nlri = fronts .1;
+      attribute = fronts .2;
+      past = fronts .3;
+    }
+
+-- what a match of any kind comes to, over any routes that a table or a book may hold
+module _ {afi : ℕ} {router : List ℕ} {In : (tier : ℕ) → Fields → Type 0} {q : Query} (asks : Asks afi router In q) (rs : List Route) where
+  pub asks-found : Distinct rs → (tier : ℕ) (r : Route) → (matchIn afi q rs ≡ found tier r) ↔ Taken afi router In rs tier r
+  asks-found d tier r = subst (λ (x : List ℕ). (matchIn afi q rs ≡ found tier r) ↔ Taken afi x In rs tier r) (asks .of) (found-taken afi q In (asks .exactly) rs d tier r)
+
+  pub asks-nothing : (matchIn afi q rs ≡ nothing) ↔ NoneTaken afi router In rs
+  asks-nothing = subst (λ (x : List ℕ). (matchIn afi q rs ≡ nothing) ↔ NoneTaken afi x In rs) (asks .of) (nothing-taken afi q In (asks .exactly) rs)
+
+  pub asks-answer : (output : List ℕ) → 124 ≤ length output → Distinct rs → AllAcceptable afi rs → MatchAnswer afi router In output rs (matchedBy (given (matchIn afi q rs)) output)
+  asks-answer output enough d a = go (matchIn afi q rs) refl
+    where
+      go : (f : Found) → matchIn afi q rs ≡ f → MatchAnswer afi router In output rs (matchedBy (given f) output)
+      go nothing x = noneTold (asks-nothing .0 x) (found-number output nothing) (nothing-untold output)
+      go (found tier r) x =
+          let taken = asks-found d tier r .0 x in
+          oneTold tier r taken (found-told output enough tier r (sizes-of afi r (acceptable-member a (taken .member))))
+
+-- what is shown of a kind of match, from which its answers over a table and over a book follow
+pub record Served (asked : Asked) (router : List ℕ) (Good : (afi : ℕ) → Type 0) (Refusal : (output : List ℕ) (afi : ℕ) → ℕ → Type 0) (In : (afi tier : ℕ) → Fields → Type 0) : Type 0 where
+  pub refuses : (afi : ℕ) (output : List ℕ) (n : ℕ) → KnownFamily afi → (readAsked afi asked output ≡ refused n) ↔ Refusal output afi n
+  pub takes : (afi : ℕ) (output : List ℕ) → ((q : Query) × (readAsked afi asked output ≡ given q)) ↔ (Good afi × (124 ≤ length output))
+  pub asks : (afi : ℕ) (output : List ℕ) (q : Query) → readAsked afi asked output ≡ given q → Asks afi router (In afi) q
+
+-- a match of any kind
+module _ {asked : Asked} {router : List ℕ} {Good : (afi : ℕ) → Type 0} {Refusal : (output : List ℕ) (afi : ℕ) → ℕ → Type 0} {In : (afi tier : ℕ) → Fields → Type 0} (served : Served asked router Good Refusal In) where
+  -- over routes that a table or a book holds
+  pub served-answer : (afi : ℕ) (output : List ℕ) (q : Query) → readAsked afi asked output ≡ given q → (rs : List Route) → Distinct rs → AllAcceptable afi rs
+      → MatchAnswer afi router (In afi) output rs (matchedBy (given (matchIn afi q rs)) output)
+  served-answer afi output q e rs d a = asks-answer (served .asks afi output q e) rs output (served .takes afi output .0 (q, e) .1) d a
+
+  -- over a table
+  module _ (t output : List ℕ) where
+    -- the number by the outcome
+    number : matchOf t asked output .answer .number ≡ numberOf (matchOutcome t asked output)
+    unfolding matchOf matchedBy onOutcome numberOf
+    number = go (matchOutcome t asked output)
+      where
+        go : (o : Outcome Found) → matchedBy o output .answer .number ≡ numberOf o
+        go (given f) = found-number output f
+        go (refused n) = refl
+
+    refusal : (n : ℕ) → matchOutcome t asked output ≡ refused n → MatchRefusal (Refusal output) t n
+    unfolding matchOutcome
+    refusal n e =
+        ⊎-elim
+        (λ yes.
+        ⊎-elim (λ first. badMatch (yes .0) (served .refuses (afiIn t) output n (sound-holdable t (yes .0) .family) .0 first))
+        (λ later. absurd (never refl (later .second)))
+        (stopped _ _ _ (yes .1)))
+        (λ no. subst (MatchRefusal (Refusal output) t) (refused-same {A = Found} (no .1)) (matchUnsound (no .0)))
+        (picked _ _ _ _ e)
+
+    refuses : {n : ℕ} → MatchRefusal (Refusal output) t n → matchOutcome t asked output ≡ refused n
+    unfolding matchOutcome
+    refuses (matchUnsound h) = pick-false _ _ _ h
+    refuses (badMatch s r) = pick-true _ _ _ s ∙ sym (stops _ _ _ (served .refuses (afiIn t) output _ (sound-holdable t s .family) .1 r))
+
+    not-done : {n : ℕ} → MatchRefusal (Refusal output) t n → n ≢ DONE
+    not-done (matchUnsound h) e = omega arith
+    not-done (badMatch s r) e = number-asked (afiIn t) asked output _ (served .refuses (afiIn t) output _ (sound-holdable t s .family) .1 r) .0 e
+
+    -- good arguments, on a sound table
+    served-outcome : (q : Query) → soundOf t ≡ true → readAsked (afiIn t) asked output ≡ given q → matchOutcome t asked output ≡ given (matchIn (afiIn t) q (routesOf t))
+    unfolding matchOutcome
+    served-outcome q sound e = pick-true _ _ _ sound ∙ sym (goes _ _ _ _ e refl)
+
+    -- a match that is done: on a sound table, with arguments that come to a query
+    done : matchOf t asked output .answer .number ≡ DONE → (soundOf t ≡ true) × ((q : Query) × (readAsked (afiIn t) asked output ≡ given q))
+    unfolding matchOutcome
+    done e =
+        let p = done-given _ (λ n r. not-done (refusal n r)) (sym number ∙ e) in
+        let s = given-unless _ _ _ _ (p .1) in
+        let q = passed _ _ _ (s .1) in
+        (s .0, (q .value, q .first))
+
+    serves : soundOf t ≡ true → (q : Query) × (readAsked (afiIn t) asked output ≡ given q) → matchOf t asked output .answer .number ≡ DONE
+    serves s q = number ∙ number-given (served-outcome (q .0) s (q .1))
+
+    answered : matchOf t asked output .answer .number ≡ DONE → MatchAnswer (afiIn t) router (In (afiIn t)) output (routesOf t) (matchOf t asked output)
+    unfolding matchOf
+    answered e =
+        let h = done e in
+        let holdable = sound-holdable t (h .0) in
+        subst (λ (o : Outcome Found). MatchAnswer (afiIn t) router (In (afiIn t)) output (routesOf t) (matchedBy o output)) (sym (served-outcome (h .1 .0) (h .0) (h .1 .1)))
+        (served-answer (afiIn t) output (h .1 .0) (h .1 .1) (routesOf t) (distinct-increasing (holdable .increasing)) (holdable .acceptable))
+
+    refused-untold : matchOf t asked output .answer .number ≢ DONE → Untold output (matchOf t asked output)
+    unfolding matchOf matchedBy onOutcome
+    refused-untold = go (matchOutcome t asked output)
+      where
+        go : (o : Outcome Found) → matchedBy o output .answer .number ≢ DONE → Untold output (matchedBy o output)
+        go (given f) h = absurd (h (found-number output f))
+        go (refused n) h = record { tierless = refl; sizes = (refl, refl); untouched = refl }
+
+  pub table-match : TableMatch asked router Good Refusal In
+  table-match =
       record {
-        number = refl;
-        ofTier = refl;
-        sizes = (refl, refl);
-        most = fits;
-        size = fronts .0;
-        nlri = fronts .1;
-        attribute = fronts .2;
-        past = fronts .3;
+        refuses = λ t output n h. (λ e. refusal t output n (refused-of _ n (sym e ∙ number t output) h), λ r. number t output ∙ number-refused (refuses t output r));
+        done = λ t output. (
+          λ e. let h = done t output e in let g = served .takes (afiIn t) output .0 (h .1) in (h .0, g .0, g .1),
+          λ h. serves t output (h .0) (served .takes (afiIn t) output .1 (h .1, h .2)),
+        );
+        answers = answered;
+        untold = refused-untold;
       }
 
-  match-answer : (rs : List Route) → Distinct rs → AllAcceptable afi rs → MatchAnswer afi (q .router) In output rs (matchedBy (given (matchIn afi q rs)) output)
-  match-answer rs d a = go (matchIn afi q rs) refl
-    where
-      go : (f : Found) → matchIn afi q rs ≡ f → MatchAnswer afi (q .router) In output rs (matchedBy (given f) output)
-      go nothing x = noneTold (nothing-taken afi q In exactly rs .0 x) (found-number output nothing) nothing-untold
-      go (found tier r) x =
-          let taken = found-taken afi q In exactly rs d tier r .0 x in
-          oneTold tier r taken (found-told tier r (sizes-of afi r (acceptable-member a (taken .member))))
+flow-asks : (afi : ℕ) (flow : Flow) (q : Query) → readFlow afi flow ≡ given q → Asks afi (flow .router) (InTier afi flow) q
+flow-asks afi flow q e = let a = flow-asked afi flow q e in record { of = asked-router a; exactly = flow-exactly afi flow q a }
 
--- what a flow's match comes to
-module _ (afi : ℕ) (flow : Flow) (q : Query) (e : readFlow afi flow ≡ given q) where
-  asked : Asked afi flow q
-  asked = flow-asked afi flow q e
-
-  -- what holds of the query's router holds of the flow's
-  of-router : (P : List ℕ → Type 0) → P (q .router) → P (flow .router)
-  of-router P p = subst P (asked-router asked) p
-
-  pub flow-answer : (output : List ℕ) → 124 ≤ length output → (rs : List Route) → Distinct rs → AllAcceptable afi rs
-      → MatchAnswer afi (flow .router) (InTier afi flow) output rs (matchedBy (given (matchIn afi q rs)) output)
-  flow-answer output enough rs d a = of-router (λ router. MatchAnswer afi router (InTier afi flow) output rs (matchedBy (given (matchIn afi q rs)) output))
-      (match-answer afi q (InTier afi flow) (flow-exactly afi flow q asked) output enough rs d a)
-
-  flow-found : (rs : List Route) → Distinct rs → (tier : ℕ) (r : Route) → (matchIn afi q rs ≡ found tier r) ↔ Taken afi (flow .router) (InTier afi flow) rs tier r
-  flow-found rs d tier r = of-router (λ router. (matchIn afi q rs ≡ found tier r) ↔ Taken afi router (InTier afi flow) rs tier r) (found-taken afi q (InTier afi flow) (flow-exactly afi flow q asked) rs d tier r)
-
-  flow-nothing : (rs : List Route) → (matchIn afi q rs ≡ nothing) ↔ NoneTaken afi (flow .router) (InTier afi flow) rs
-  flow-nothing rs = of-router (λ router. (matchIn afi q rs ≡ nothing) ↔ NoneTaken afi router (InTier afi flow) rs) (nothing-taken afi q (InTier afi flow) (flow-exactly afi flow q asked) rs)
-
-module _ (t : List ℕ) (flow : Flow) (output : List ℕ) where
-  -- the number by the outcome
-  number : matchOf t flow output .answer .number ≡ numberOf (matchOutcome t flow output)
-  unfolding matchOf matchedBy onOutcome numberOf
-  number = go (matchOutcome t flow output)
-    where
-      go : (o : Outcome Found) → matchedBy o output .answer .number ≡ numberOf o
-      go (given f) = found-number output f
-      go (refused n) = refl
-
-  refusal : (n : ℕ) → matchOutcome t flow output ≡ refused n → MatchRefusal t flow output n
-  unfolding matchOutcome
-  refusal n e =
-      ⊎-elim
-      (λ yes.
-      ⊎-elim (λ first. badMatch (yes .0) (argumentRule .refusedFlow (afiIn t) flow output n (sound-holdable t (yes .0) .family) .0 first))
-      (λ later. absurd (never refl (later .second)))
-      (stopped _ _ _ (yes .1)))
-      (λ no. subst (MatchRefusal t flow output) (refused-same {A = Found} (no .1)) (matchUnsound (no .0)))
-      (picked _ _ _ _ e)
-
-  refuses : {n : ℕ} → MatchRefusal t flow output n → matchOutcome t flow output ≡ refused n
-  unfolding matchOutcome
-  refuses (matchUnsound h) = pick-false _ _ _ h
-  refuses (badMatch s r) = pick-true _ _ _ s ∙ sym (stops _ _ _ (argumentRule .refusedFlow (afiIn t) flow output _ (sound-holdable t s .family) .1 r))
-
-  not-done : {n : ℕ} → MatchRefusal t flow output n → n ≢ DONE
-  not-done (matchUnsound h) e = omega arith
-  not-done (badMatch s (badFlow h)) e = omega arith
-  not-done (badMatch s (noSpace g h)) e = omega arith
-
-  -- a flow that is good, with room for the answer, on a sound table
-  served-outcome : (q : Query) → soundOf t ≡ true → readFlow (afiIn t) flow ≡ given q → 124 ≤ length output
-      → matchOutcome t flow output ≡ given (matchIn (afiIn t) q (routesOf t))
-  unfolding matchOutcome
-  served-outcome q sound e enough = pick-true _ _ _ sound ∙ sym (goes _ _ _ _ (flow-passes (afiIn t) flow output q e enough) refl)
-
-  served : matchOf t flow output .answer .number ≡ DONE → (soundOf t ≡ true) × GoodFlow (afiIn t) flow × (124 ≤ length output)
-  unfolding matchOutcome
-  served e =
-      let p = done-given _ (λ n r. not-done (refusal n r)) (sym number ∙ e) in
-      let s = given-unless _ _ _ _ (p .1) in
-      let q = passed _ _ _ (s .1) in
-      let f = argumentRule .acceptedFlow (afiIn t) flow output .0 (q .value, q .first) in
-      (s .0, f .0, f .1)
-
-  serves : (soundOf t ≡ true) × GoodFlow (afiIn t) flow × (124 ≤ length output) → matchOf t flow output .answer .number ≡ DONE
-  serves h = let f = flow-given (afiIn t) flow (h .1) in number ∙ number-given (served-outcome (f .0) (h .0) (f .1) (h .2))
-
-  answered : matchOf t flow output .answer .number ≡ DONE → MatchAnswer (afiIn t) (flow .router) (InTier (afiIn t) flow) output (routesOf t) (matchOf t flow output)
-  unfolding matchOf
-  answered e =
-      let h = served e in
-      let f = flow-given (afiIn t) flow (h .1) in
-      let holdable = sound-holdable t (h .0) in
-      subst (λ (o : Outcome Found). MatchAnswer (afiIn t) (flow .router) (InTier (afiIn t) flow) output (routesOf t) (matchedBy o output)) (sym (served-outcome (f .0) (h .0) (f .1) (h .2)))
-      (flow-answer (afiIn t) flow (f .0) (f .1) output (h .2) (routesOf t) (distinct-increasing (holdable .increasing)) (holdable .acceptable))
-
-  refused-untold : matchOf t flow output .answer .number ≢ DONE → Untold output (matchOf t flow output)
-  unfolding matchOf matchedBy onOutcome
-  refused-untold = go (matchOutcome t flow output)
-    where
-      go : (o : Outcome Found) → matchedBy o output .answer .number ≢ DONE → Untold output (matchedBy o output)
-      go (given f) h = absurd (h (found-number output f))
-      go (refused n) h = record { tierless = refl; sizes = (refl, refl); untouched = refl }
+pub served-flow : (flow : Flow) → Served (ofFlow flow) (flow .router) (λ afi. GoodFlow afi flow) (λ output afi. FlowRefusal afi flow output) (λ afi. InTier afi flow)
+unfolding readAsked
+served-flow flow =
+    record {
+      refuses = λ afi output n. argumentRule .refusedFlow afi flow output n;
+      takes = λ afi output. argumentRule .acceptedFlow afi flow output;
+      asks = λ afi output q e. flow-asks afi flow q (flow-passed afi flow output q e .0);
+    }
 
 pub matchRule : MatchRule
 matchRule =
     record {
-      chosen = λ afi flow q rs e. flow-found afi flow q e rs;
-      none = λ afi flow q rs e. flow-nothing afi flow q e rs;
-      refuses = λ t flow output n h. (
-        λ e. refusal t flow output n (refused-of _ n (sym e ∙ number t flow output) h),
-        λ r. number t flow output ∙ number-refused (refuses t flow output r),
-      );
-      done = λ t flow output. (served t flow output, serves t flow output);
-      answers = answered;
-      untold = refused-untold;
+      chosen = λ afi flow q rs e. asks-found (flow-asks afi flow q e) rs;
+      none = λ afi flow q rs e. asks-nothing (flow-asks afi flow q e) rs;
+      table = λ flow. table-match (served-flow flow);
     }

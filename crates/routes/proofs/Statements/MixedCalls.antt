@@ -70,7 +70,7 @@ answered : (t : List ℕ) (c : Call) (cs : List Call) → answersIn (runFrom t (
 unfolding runFrom answersIn stepOf
 answered t (install nlri attribute) cs = refl
 answered t (withdraw nlri) cs = refl
-answered t (match flow output) cs = refl
+answered t (match asked output) cs = refl
 
 pub mixedCalls : MixedCalls
 mixedCalls = record { claim = mixed; run = record { each = each; answers = answered }; owners = ownerRule; premise = premiseRule; books = bookRule }

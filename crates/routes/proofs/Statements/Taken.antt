@@ -20,7 +20,7 @@ use Rattle.routes.specs.MatchRule.{InTier, bothEqual, sourceEqual, group
 use Rattle.routes.proofs.Definitions.Lookups.{one-member}
 use Rattle.routes.proofs.Definitions.Conditions.{meets-exactly, qualified, qualifies, distinguisher-is, same-nlri}
 use Rattle.routes.proofs.Definitions.First.{First, wantedAt, first-none, first-least, first-below, first-is}
-use Rattle.routes.proofs.Definitions.Flows.{Asked}
+use Rattle.routes.proofs.Definitions.Flows.{AskedFlow}
 use Rattle.routes.proofs.Statements.ArgumentRules.{argumentRule, nlri-accepts}
 
 -- a query whose tiers want exactly what their conditions say
@@ -86,7 +86,7 @@ module _ (afi : ℕ) (q : Query) (In : (tier : ℕ) → Fields → Type 0) (exac
     nothing-taken = (λ e. none-taken (subst IsFirst e (first-is afi q rs)), none-found (matchIn afi q rs) (first-is afi q rs))
 
 -- a flow's query wants what document 01's conditions say
-module _ (afi : ℕ) (flow : Flow) (q : Query) (a : Asked afi flow q) (f : Fields) where
+module _ (afi : ℕ) (flow : Flow) (q : Query) (a : AskedFlow afi flow q) (f : Fields) where
   at-tier : (tier n : ℕ) → eqb tier n ≡ true → InTier afi flow n f → InTier afi flow tier f
   at-tier tier n t i = subst (λ (k : ℕ). InTier afi flow k f) (sym (eqb-true tier n t)) i
 
@@ -110,6 +110,6 @@ module _ (afi : ℕ) (flow : Flow) (q : Query) (a : Asked afi flow q) (f : Field
   tier-met (groupEqual s g asm) = rw (eq-eqb (a .class) ASM (a .other .1 asm)) (meets-exactly _ _ f .1 (s, g))
   tier-met (bothWildcard s g) = meets-exactly _ _ f .1 (s, g)
 
-pub flow-exactly : (afi : ℕ) (flow : Flow) (q : Query) (a : Asked afi flow q) → (tier : ℕ) (f : Fields) → (meets (wantedAt 1 tier (q .tiers)) f ≡ true) ↔ InTier afi flow tier f
+pub flow-exactly : (afi : ℕ) (flow : Flow) (q : Query) (a : AskedFlow afi flow q) → (tier : ℕ) (f : Fields) → (meets (wantedAt 1 tier (q .tiers)) f ≡ true) ↔ InTier afi flow tier f
 flow-exactly afi flow q a tier f =
     subst (λ (x : Query). (meets (wantedAt 1 tier (x .tiers)) f ≡ true) ↔ InTier afi flow tier f) (sym (a .is)) (in-tier afi flow q a f tier, tier-met afi flow q a f)

@@ -1,0 +1,91 @@
+//! Lists that are lent, laid out octet by octet: Source Active routes with their originators, and states.
+
+use super::{
+    near,
+    routes::{picked, source_active, Addresses},
+};
+use crate::random::Random;
+
+/// The two fields of an item: originator and NLRI of a Source Active route, or source and group of a state.
+pub type Item = [Vec<u8>; 2];
+
+/// A list of no items.
+pub const EMPTY: &[u8] = &[0, 0];
+
+pub fn list(items: &[Item]) -> Vec<u8> {
+    counting(items.len(), items)
+}
+
+/// A list that says that it has so many items.
+pub fn counting(count: usize, items: &[Item]) -> Vec<u8> {
+    let sized = |field: &Vec<u8>| [&(field.len() as u16).to_be_bytes(), &field[..]].concat();
+    [(count as u16).to_be_bytes().to_vec()]
+        .into_iter()
+        .chain(items.as_flattened().iter().map(sized))
+        .flatten()
+        .collect()
+}
+
+impl Addresses {
+    /// A Source Active route, with its originator.
+    pub fn source_active(&self, random: &mut Random) -> Item {
+        let [distinguisher, source, group] =
+            [&self.distinguishers, &self.sources, &self.groups].map(|addresses| picked(random, addresses));
+        [picked(random, &self.routers).to_vec(), source_active(distinguisher, source, group)]
+    }
+
+    pub fn state(&self, random: &mut Random) -> Item {
+        [&self.sources, &self.groups].map(|addresses| picked(random, addresses).to_vec())
+    }
+
+    /// A list of Source Active routes; seldom one that is not well-formed.
+    pub fn source_actives(&self, random: &mut Random) -> Vec<u8> {
+        let items: Vec<Item> = (0..few(random)).map(|_| self.near_source_active(random)).collect();
+        nearly(random, list(&items))
+    }
+
+    fn near_source_active(&self, random: &mut Random) -> Item {
+        let [mut originator, mut nlri] = self.source_active(random);
+        match random.below(120) {
+            0 => near::disturb(random, &mut originator),
+            1 => nlri = near::nlri(random, self.afi),
+            2 | 3 => near::disturb_nlri(random, &mut nlri),
+            _ => {}
+        }
+        [originator, nlri]
+    }
+
+    /// A list of states; seldom one with an address of another size.
+    pub fn states(&self, random: &mut Random) -> Vec<u8> {
+        let items: Vec<Item> = (0..few(random)).map(|_| self.near_state(random)).collect();
+        nearly(random, list(&items))
+    }
+
+    fn near_state(&self, random: &mut Random) -> Item {
+        let mut state = self.state(random);
+        let field = random.below(2);
+        if random.once_in(60) {
+            near::disturb(random, &mut state[field]);
+        }
+        state
+    }
+}
+
+/// A number of items, mostly under eight.
+fn few(random: &mut Random) -> usize {
+    match random.below(200) {
+        0 => 250 + random.below(10),
+        1..=9 => random.below(40),
+        _ => random.below(8),
+    }
+}
+
+/// The list as it is, or with octets after it, or seldom disturbed.
+fn nearly(random: &mut Random, mut list: Vec<u8>) -> Vec<u8> {
+    match random.below(16) {
+        0 => near::disturb(random, &mut list),
+        1 => list.extend(random.octets(3)),
+        _ => {}
+    }
+    list
+}

@@ -1,0 +1,356 @@
+-- The shared trees that a match takes, and why others are refused (specs/SharedTree.antt), by what the lent lists hold; and what a tree asks.
+use Prim.Native.Nat.{ℕ, _≤_, _<_}
+use mathlib.Core.Path.{_≡_, refl, sym, _∙_, ap, ap₂, subst}
+use mathlib.Core.Bool.{Bool, true, false, not}
+use mathlib.Core.List.{List, [], _∷_, _++_}
+use mathlib.Core.Logic.{_↔_, _⊎_, inl, inr, ⊎-elim}
+use lib.ListN.{length}
+use lib.Dec.{leb, eqb}
+use borrow.Author.Tests.{eqb-true, eqb-false, eq-eqb, ne-eqb, ltb-true, ltb-false, lt-ltb, le-ltb, leb-true, leb-false, le-leb, lt-leb, not-true, not-false}
+use Rattle.octets.specs.Numbers.{DONE, LONG, SHORT, FLOW, SPACE}
+use Rattle.octets.specs.Choice.{pick, both}
+use Rattle.octets.specs.Outcome.{Outcome, given, refused, onOutcome, unless, andThen, numberOf}
+use Rattle.octets.specs.Order.{same}
+use Rattle.octets.specs.Lists.{Among, first}
+use Rattle.octets.proofs.Choice.{opposite, tested, is-false, pick-true, pick-false, pick-case, both-held, both-true, either-true, either-left, either-second}
+use Rattle.octets.proofs.Outcome.{never, given-same, given-otherwise, refuses-where, passed, stopped, goes, stops, and-case, outcome, refused-of, number-given, number-refused, done-given}
+use Rattle.octets.proofs.Among.{among-left, among-right}
+use Rattle.octets.proofs.Orders.{same-equal, same-of-equal}
+use Rattle.lists.specs.LentLists.{Item, itemField, listCount, listItems, readList, everyItem, someItem}
+use Rattle.lists.proofs.Items.{first-met, first-item-met, first-item-unmet, some-item-exactly, read-list-given, read-list-refused, Pairs, pairs-each, every-pair, read-list-pairs}
+use Rattle.nlri.specs.Family.{familyBits, isOriginatorSize}
+use Rattle.nlri.specs.Fields.{Fields}
+use Rattle.nlri.specs.Groups.{classUnder}
+use Rattle.nlri.proofs.Theorems.{lengths}
+use Rattle.nlri.proofs.Definitions.Lengths.{family-good}
+use Rattle.routes.specs.Query.{Query}
+use Rattle.routes.specs.SharedTree.{SharedTree, originatorSized, stateSized, readSourceActive, sourceActiveFault, judgedTree, isState, lacksState, conditionHolds, treeQuery, readTree}
+use Rattle.routes.specs.ArgumentRules.{KnownFamily, RouterSized, FamilySized}
+use Rattle.routes.specs.SharedTreeRule.{SourceActive, Lent, WithoutState, Condition, isUpstream, isWithoutState, isBidirectional, isUnused, FewItems, Addressed, AllRead, GoodTree, FirstRefused, SharedTreeRefusal, longList, shortList, badAddress, badSourceActive, tooSmall}
+use Rattle.routes.proofs.Definitions.Flows.{class-under, class-given, class-refused, Classed, classed, family-sized, multicast-classed, multicast-family}
+use Rattle.routes.proofs.Definitions.ByArguments.{number-source-active}
+use Rattle.routes.proofs.Statements.ArgumentRules.{type-exactly, type-refused-exactly}
+
+-- sizes
+
+originator-says : (originator nlri : List ℕ) → (originatorSized (originator ∷ (nlri ∷ [])) ≡ true) ↔ RouterSized originator
+unfolding originatorSized itemField
+originator-says originator nlri = lengths .originators (length originator)
+
+state-says : (afi bits : ℕ) → familyBits afi ≡ given bits → (source group : List ℕ) → (stateSized bits (source ∷ (group ∷ [])) ≡ true) ↔ (FamilySized afi source × FamilySized afi group)
+unfolding stateSized itemField
+state-says afi bits ofFamily source group = (
+  λ h. let b = both-held _ _ h in (family-sized afi bits source ofFamily .0 (eqb-true _ _ (b .0)), family-sized afi bits group ofFamily .0 (eqb-true _ _ (b .1))),
+  λ h. both-true _ _ (eq-eqb _ _ (family-sized afi bits source ofFamily .1 (h .0))) (eq-eqb _ _ (family-sized afi bits group ofFamily .1 (h .1))),
+)
+
+-- Source Active routes in turn
+
+module _ (afi : ℕ) where
+  abbrev faulty : Item → Bool
+  faulty x = not (eqb (numberOf (readSourceActive afi x)) DONE)
+
+  -- an item has no fault exactly when its NLRI is a well-formed Source Active NLRI
+  read-faultless : (originator nlri : List ℕ) → (faulty (originator ∷ (nlri ∷ [])) ≡ false) ↔ SourceActive afi nlri
+  unfolding readSourceActive itemField
+  read-faultless originator nlri = (
+    λ h.
+        let p = done-given _ (λ n r. number-source-active afi (originator ∷ (nlri ∷ [])) n r .0) (eqb-true _ _ (not-false _ h)) in
+        let q = type-exactly 5 afi nlri (p .0) .0 (p .1) in
+        record { fields = p .0; read = q .0; kind = q .1 },
+    λ s. ap not (eq-eqb _ _ (number-given (type-exactly 5 afi nlri (s .fields) .1 (s .read, s .kind)))),
+  )
+
+  -- what follows the judging of addresses, of a group of a class
+  abbrev inTurn : List Item → (class : ℕ) → Outcome ℕ
+  inTurn items class = pick (eqb (sourceActiveFault afi items) DONE) (given class) (refused (sourceActiveFault afi items))
+
+  module _ (items : List Item) (pairs : Pairs items) where
+    refused-fault : (n : ℕ) → FirstRefused afi items n → (sourceActiveFault afi items ≡ n) × (n ≡ DONE → ⊥)
+    unfolding sourceActiveFault readSourceActive itemField
+    refused-fault n r =
+        let x : Item = r .originator ∷ (r .nlri ∷ []) in
+        let e : readSourceActive afi x ≡ refused n = type-refused-exactly 5 afi (r .nlri) n .1 (r .refuses) in
+        let some : n ≡ DONE → ⊥ = number-source-active afi x n e .0 in
+        let earlier : Pairs (r .earlier) = λ y m. pairs y (subst (λ (l : List Item). Among y l) (sym (r .is)) (among-left (x ∷ r .later) m)) in (
+          ap (sourceActiveFault afi) (r .is)
+              ∙ first-item-met faulty (λ y. numberOf (readSourceActive afi y)) DONE (r .earlier) x (r .later)
+              (pairs-each (λ y. faulty y ≡ false) (r .earlier) earlier (λ a b m. read-faultless a b .1 (r .read a b m)))
+              (ap not (ne-eqb _ _ (λ z. some (sym (number-refused e) ∙ z))))
+              ∙ number-refused e,
+          some,
+        )
+
+    pub in-turn-refused : (class n : ℕ) → FirstRefused afi items n → inTurn items class ≡ refused n
+    in-turn-refused class n r = let f = refused-fault n r in pick-false _ _ _ (ne-eqb _ _ (λ z. f .1 (sym (f .0) ∙ z))) ∙ ap refused (f .0)
+
+    pub in-turn-read : (class : ℕ) → AllRead afi items → inTurn items class ≡ given class
+    unfolding sourceActiveFault
+    in-turn-read class h =
+        pick-true _ _ _ (eq-eqb _ _ (first-item-unmet faulty (λ y. numberOf (readSourceActive afi y)) DONE items (pairs-each (λ y. faulty y ≡ false) items pairs (λ a b m. read-faultless a b .1 (h a b m)))))
+
+    -- the first one that is refused, or all are read
+    pub in-turn : ((n : ℕ) × FirstRefused afi items n) ⊎ AllRead afi items
+    unfolding readSourceActive
+    in-turn =
+        ⊎-elim
+        (λ p.
+        let x : Item = p .0 in
+        let m = p .1 in
+        let n : ℕ = numberOf (readSourceActive afi x) in
+        let e : readSourceActive afi x ≡ refused n = refused-of _ n refl (eqb-false _ _ (not-true _ (m .met))) in
+        let pair = pairs x (subst (λ (l : List Item). Among x l) (sym (m .is)) (among-right (m .before) (first refl))) in
+        inl (
+          n,
+          record {
+            earlier = m .before;
+            originator = itemField 0 x;
+            nlri = itemField 1 x;
+            later = m .after;
+            is = m .is ∙ ap (λ (z : Item). m .before ++ (z ∷ m .after)) pair;
+            read = λ a b k. read-faultless a b .0 (m .unmet _ k);
+            refuses = type-refused-exactly 5 afi (itemField 1 x) n .0 e;
+          },
+        ))
+        (λ none. inr (λ a b k. read-faultless a b .0 (none _ k)))
+        (first-met faulty items)
+
+-- judging a shared tree
+
+module _ (afi : ℕ) (tree : SharedTree) where
+  routes-pairs : (lent : Lent tree) → Pairs (lent .sourceActives)
+  routes-pairs lent = read-list-pairs _ _ (lent .routesRead)
+
+  states-pairs : (lent : Lent tree) → Pairs (lent .states)
+  states-pairs lent = read-list-pairs _ _ (lent .statesRead)
+
+  module _ (bits : ℕ) (ofFamily : familyBits afi ≡ given bits) where
+    -- what follows the reading of both lists
+    abbrev addresses : (sourceActives states : List Item) → Outcome ℕ
+    addresses sourceActives states =
+        unless (isOriginatorSize (length (tree .router))) FLOW
+        (unless (everyItem originatorSized sourceActives) FLOW
+        (unless (everyItem (stateSized bits) states) FLOW
+        (andThen (classUnder bits (tree .group)) (λ class. inTurn afi sourceActives class))))
+
+    addresses-case : (P : Outcome ℕ → Type 0) (lent : Lent tree) → ((Addressed afi tree lent → ⊥) → P (refused FLOW))
+        → (Addressed afi tree lent → (class : ℕ) → Classed afi (tree .group) class → P (inTurn afi (lent .sourceActives) class)) → P (addresses (lent .sourceActives) (lent .states))
+    addresses-case P lent bad good =
+        pick-case P _ _ _
+        (λ r. pick-case P _ _ _
+        (λ o. pick-case P _ _ _
+        (λ s. and-case P _ _
+        (λ n e. subst (λ (k : ℕ). P (refused k)) (sym (class-refused bits n (tree .group) e)) (bad (λ a. never (multicast-classed afi bits (tree .group) ofFamily (a .multicast) .1) e)))
+        (λ class e.
+        let k = classed afi (tree .group) class (sym (class-under afi bits (tree .group) ofFamily) ∙ e) (class-given bits class (tree .group) e) in
+        good (record { router = lengths .originators (length (tree .router)) .0 r; originators = routes .0 o; states = states .0 s; multicast = k .multicast }) class k))
+        (λ f. bad (λ a. opposite (states .1 (a .states)) f)))
+        (λ f. bad (λ a. opposite (routes .1 (a .originators)) f)))
+        (λ f. bad (λ a. opposite (lengths .originators (length (tree .router)) .1 (a .router)) f))
+      where
+        routes : (everyItem originatorSized (lent .sourceActives) ≡ true) ↔ ((originator nlri : List ℕ) → Among (originator ∷ (nlri ∷ [])) (lent .sourceActives) → RouterSized originator)
+        routes = every-pair originatorSized (λ originator nlri. RouterSized originator) originator-says (lent .sourceActives) (routes-pairs lent)
+
+        states : (everyItem (stateSized bits) (lent .states) ≡ true) ↔ ((source group : List ℕ) → Among (source ∷ (group ∷ [])) (lent .states) → FamilySized afi source × FamilySized afi group)
+        states = every-pair (stateSized bits) (λ source group. FamilySized afi source × FamilySized afi group) (state-says afi bits ofFamily) (lent .states) (states-pairs lent)
+
+    -- what follows the counts
+    abbrev lists : Outcome ℕ
+    lists = andThen (readList 2 (tree .sourceActives)) (λ sourceActives. andThen (readList 2 (tree .states)) (λ states. addresses sourceActives states))
+
+    judged-few : FewItems tree → judgedTree afi tree ≡ lists
+    unfolding judgedTree
+    judged-few few = sym (goes _ _ _ _ ofFamily (sym (pick-true _ _ _ (le-leb _ _ (few .sourceActives)) ∙ pick-true _ _ _ (le-leb _ _ (few .states)))))
+
+    judged-lent : FewItems tree → (lent : Lent tree) → judgedTree afi tree ≡ addresses (lent .sourceActives) (lent .states)
+    judged-lent few lent = judged-few few ∙ sym (goes _ _ _ _ (lent .routesRead) (goes _ _ _ _ (lent .statesRead) refl))
+
+    judged-long : (256 < listCount (tree .sourceActives)) ⊎ (256 < listCount (tree .states)) → judgedTree afi tree ≡ refused LONG
+    unfolding judgedTree
+    judged-long h = sym (goes _ _ _ _ ofFamily (sym (⊎-elim (λ routes. pick-false _ _ _ (lt-leb _ _ routes)) (λ states. pick-case (λ o. o ≡ refused LONG) _ _ _ (λ few. pick-false _ _ _ (lt-leb _ _ states)) (λ many. refl)) h)))
+
+    judged-short : FewItems tree → (readList 2 (tree .sourceActives) ≡ refused SHORT) ⊎ (readList 2 (tree .states) ≡ refused SHORT) → judgedTree afi tree ≡ refused SHORT
+    judged-short few h =
+        judged-few few
+        ∙ ⊎-elim (λ routes. sym (stops _ _ _ routes))
+        (λ states. and-case (λ o. o ≡ refused SHORT) _ _ (λ n e. ap refused (read-list-refused 2 (tree .sourceActives) n e)) (λ routes e. sym (stops _ _ _ states)))
+        h
+
+    pub judged-refuses : {output : List ℕ} {n : ℕ} → SharedTreeRefusal afi tree output n → (judgedTree afi tree ≡ refused n) ⊎ (GoodTree afi tree × (length output < 124) × (n ≡ SPACE))
+    judged-refuses (longList h) = inl (judged-long h)
+    judged-refuses (shortList few h) = inl (judged-short few h)
+    judged-refuses (badAddress few lent bad) = inl (judged-lent few lent ∙ addresses-case (λ o. o ≡ refused FLOW) lent (λ none. refl) (λ a. absurd (bad a)))
+    judged-refuses (badSourceActive {n} few lent good r) =
+        inl (judged-lent few lent
+        ∙ addresses-case (λ o. o ≡ refused n) lent (λ bad. absurd (bad good)) (λ a class k. in-turn-refused afi (lent .sourceActives) (routes-pairs lent) class n r))
+    judged-refuses (tooSmall good less) = inr (good, less, refl)
+
+    pub judged-given : (g : GoodTree afi tree) → (class : ℕ) × (judgedTree afi tree ≡ given class)
+    judged-given g =
+        let lent = g .lent in
+        let o = addresses-case (λ o. (class : ℕ) × (o ≡ given class)) lent (λ bad. absurd (bad (g .addressed))) (λ a class k. (class, in-turn-read afi (lent .sourceActives) (routes-pairs lent) class (g .read))) in
+        (o .0, judged-lent (g .few) lent ∙ o .1)
+
+    -- what judging comes to
+    pub data Judged (output : List ℕ) : Outcome ℕ → Type 0 where
+      refuses : {n : ℕ} → SharedTreeRefusal afi tree output n → Judged output (refused n)
+      takes : {class : ℕ} → GoodTree afi tree → Classed afi (tree .group) class → Judged output (given class)
+
+    pub judged-is : (output : List ℕ) → Judged output (judgedTree afi tree)
+    judged-is output =
+        tested (leb (listCount (tree .sourceActives)) 256)
+        (λ r. tested (leb (listCount (tree .states)) 256) (λ s. read (record { sourceActives = leb-true _ _ r; states = leb-true _ _ s })) (λ s. long (inr (leb-false _ _ s))))
+        (λ r. long (inl (leb-false _ _ r)))
+      where
+        long : (256 < listCount (tree .sourceActives)) ⊎ (256 < listCount (tree .states)) → Judged output (judgedTree afi tree)
+        long h = subst (Judged output) (sym (judged-long h)) (refuses (longList h))
+
+        short : FewItems tree → (readList 2 (tree .sourceActives) ≡ refused SHORT) ⊎ (readList 2 (tree .states) ≡ refused SHORT) → Judged output (judgedTree afi tree)
+        short few h = subst (Judged output) (sym (judged-short few h)) (refuses (shortList few h))
+
+        whole : FewItems tree → (lent : Lent tree) → Judged output (judgedTree afi tree)
+        whole few lent =
+            subst (Judged output) (sym (judged-lent few lent))
+            (addresses-case (Judged output) lent (λ bad. refuses (badAddress few lent bad))
+            (λ a class k. ⊎-elim
+            (λ r. subst (Judged output) (sym (in-turn-refused afi (lent .sourceActives) (routes-pairs lent) class (r .0) (r .1))) (refuses (badSourceActive few lent a (r .1))))
+            (λ all. subst (Judged output) (sym (in-turn-read afi (lent .sourceActives) (routes-pairs lent) class all)) (takes (record { few = few; lent = lent; addressed = a; read = all }) k))
+            (in-turn afi (lent .sourceActives) (routes-pairs lent))))
+
+        read : FewItems tree → Judged output (judgedTree afi tree)
+        read few =
+            ⊎-elim
+            (λ routes. ⊎-elim
+            (λ states. whole few (record { sourceActives = routes .0; states = states .0; routesRead = routes .1; statesRead = states .1 }))
+            (λ n. short few (inr (n .1 ∙ ap refused (read-list-refused 2 _ _ (n .1)))))
+            (outcome (readList 2 (tree .states))))
+            (λ n. short few (inl (n .1 ∙ ap refused (read-list-refused 2 _ _ (n .1)))))
+            (outcome (readList 2 (tree .sourceActives)))
+
+-- a shared tree that is taken, and what it asks
+pub record AskedTree (afi : ℕ) (tree : SharedTree) (output : List ℕ) (q : Query) : Type 0 where
+  pub good : GoodTree afi tree
+  pub enough : 124 ≤ length output
+  pub class : ℕ
+  pub classes : Classed afi (tree .group) class
+  pub is : q ≡ treeQuery afi tree class
+
+pub asked-tree-router : {afi : ℕ} {tree : SharedTree} {output : List ℕ} {q : Query} → AskedTree afi tree output q → q .router ≡ tree .router
+unfolding treeQuery
+asked-tree-router a = ap (λ (x : Query). x .router) (a .is)
+
+module _ (afi : ℕ) (tree : SharedTree) (output : List ℕ) where
+  -- a refusal by judging, and a class that it gives
+  judged-refused : (bits : ℕ) (ofFamily : familyBits afi ≡ given bits) {n : ℕ} → Judged afi tree bits ofFamily output (refused n) → SharedTreeRefusal afi tree output n
+  judged-refused bits ofFamily (refuses r) = r
+
+  judged-taken : (bits : ℕ) (ofFamily : familyBits afi ≡ given bits) {class : ℕ} → Judged afi tree bits ofFamily output (given class) → GoodTree afi tree × Classed afi (tree .group) class
+  judged-taken bits ofFamily (takes g k) = (g, k)
+
+  judged-good : (class : ℕ) → judgedTree afi tree ≡ given class → GoodTree afi tree × Classed afi (tree .group) class
+  unfolding judgedTree
+  judged-good class e = let p = passed _ _ _ e in judged-taken (p .value) (p .first) (subst (Judged afi tree (p .value) (p .first) output) e (judged-is afi tree (p .value) (p .first) output))
+
+  pub tree-asked : (q : Query) → readTree afi tree output ≡ given q → AskedTree afi tree output q
+  unfolding readTree
+  tree-asked q e =
+      let p = passed _ _ _ e in
+      let g = given-otherwise _ _ _ _ (p .second) in
+      let j = judged-good (p .value) (p .first) in
+      record { good = j .0; enough = ltb-false _ _ (g .0); class = p .value; classes = j .1; is = sym (given-same (g .1)) }
+
+  pub tree-given : GoodTree afi tree → 124 ≤ length output → (q : Query) × (readTree afi tree output ≡ given q)
+  unfolding readTree
+  tree-given g enough =
+      let bits = family-good afi (multicast-family (g .addressed .multicast)) in
+      let j = judged-given afi tree (bits .0) (bits .1) g in
+      (treeQuery afi tree (j .0), sym (goes _ _ _ _ (j .1) (sym (pick-false _ _ _ (le-ltb (length output) 124 enough)))))
+
+  pub tree-refused : (n : ℕ) → KnownFamily afi → (readTree afi tree output ≡ refused n) ↔ SharedTreeRefusal afi tree output n
+  unfolding readTree
+  tree-refused n known =
+      let bits = family-good afi known in (
+        λ e.
+            ⊎-elim (λ r. judged-refused (bits .0) (bits .1) (subst (Judged afi tree (bits .0) (bits .1) output) r (judged-is afi tree (bits .0) (bits .1) output)))
+            (λ later.
+            let p = refuses-where SPACE n _ _ (later .second) in
+            subst (SharedTreeRefusal afi tree output) (sym (p .1)) (tooSmall (judged-good (later .value) (later .first) .0) (ltb-true _ _ (p .0))))
+            (stopped _ _ _ e),
+        λ r.
+            ⊎-elim (λ j. sym (stops _ _ _ j))
+            (λ s. sym (goes _ _ _ _ (judged-given afi tree (bits .0) (bits .1) (s .0) .1) (sym (pick-true _ _ _ (lt-ltb (length output) 124 (s .1)) ∙ ap refused (sym (s .2))))))
+            (judged-refuses afi tree (bits .0) (bits .1) r),
+      )
+
+-- what makes a route eligible
+
+module _ (afi : ℕ) (tree : SharedTree) where
+  -- a state of this source and the group
+  has-state : (lent : Lent tree) (source : List ℕ) → (someItem (isState source (tree .group)) (listItems 2 (tree .states)) ≡ true) ↔ Among (source ∷ (tree .group ∷ [])) (lent .states)
+  unfolding isState itemField
+  has-state lent source =
+      let same-items : lent .states ≡ listItems 2 (tree .states) = read-list-given 2 _ _ (lent .statesRead) in (
+        λ h.
+            let p = some-item-exactly _ _ .0 h in
+            let x : Item = p .0 in
+            let m : Among x (lent .states) = subst (λ (l : List Item). Among x l) (sym same-items) (p .1) in
+            let b = both-held _ _ (p .2) in
+            let pair : x ≡ itemField 0 x ∷ (itemField 1 x ∷ []) = states-pairs afi tree lent x m in
+            let is : x ≡ source ∷ (tree .group ∷ []) = pair ∙ ap₂ (λ (s g : List ℕ). s ∷ (g ∷ [])) (same-equal _ _ (b .0)) (same-equal _ _ (b .1)) in
+            subst (λ (z : Item). Among z (lent .states)) is m,
+        λ m. some-item-exactly _ _ .1 (source ∷ (tree .group ∷ []), subst (λ (l : List Item). Among (source ∷ (tree .group ∷ [])) l) same-items m, both-true _ _ (same-of-equal source source refl) (same-of-equal (tree .group) (tree .group) refl)),
+      )
+
+  lacking : (lent : Lent tree) (x : Item) → Among x (lent .sourceActives) → lacksState afi tree x ≡ true → WithoutState afi tree
+  unfolding lacksState onOutcome readSourceActive
+  lacking lent x m = go (readSourceActive afi x) refl
+    where
+      go : (o : Outcome Fields) → readSourceActive afi x ≡ o
+          → onOutcome (λ number. false)
+          (λ f. both (same (itemField 0 x) (tree .router)) (both (same (f .group) (tree .group)) (not (someItem (isState (f .source) (tree .group)) (listItems 2 (tree .states)))))) o ≡ true
+          → WithoutState afi tree
+      go (given f) e h =
+          let b = both-held _ _ h in
+          let c = both-held _ _ (b .1) in
+          let read = type-exactly 5 afi (itemField 1 x) f .0 e in
+          let is : x ≡ tree .router ∷ (itemField 1 x ∷ []) = routes-pairs afi tree lent x m ∙ ap (λ (o : List ℕ). o ∷ (itemField 1 x ∷ [])) (same-equal _ _ (b .0)) in
+          record {
+            lent = lent;
+            nlri = itemField 1 x;
+            installed = subst (λ (z : Item). Among z (lent .sourceActives)) is m;
+            named = record { fields = f; read = read .0; kind = read .1 };
+            ofGroup = same-equal _ _ (c .0);
+            stateless = λ k. opposite (has-state lent (f .source) .1 k) (not-true _ (c .1));
+          }
+      go (refused n) e h = absurd (opposite {b = false} h refl)
+
+  lacks : (w : WithoutState afi tree) → lacksState afi tree (tree .router ∷ (w .nlri ∷ [])) ≡ true
+  unfolding lacksState onOutcome readSourceActive itemField
+  lacks w =
+      let e = type-exactly 5 afi (w .nlri) (w .named .fields) .1 (w .named .read, w .named .kind) in
+      rw e
+      (both-true _ _ (same-of-equal (tree .router) (tree .router) refl)
+      (both-true _ _ (same-of-equal _ _ (w .ofGroup)) (ap not (is-false _ (λ h. w .stateless (has-state (w .lent) (w .named .fields .source) .0 h))))))
+
+  lacks-exactly : Lent tree → (someItem (lacksState afi tree) (listItems 2 (tree .sourceActives)) ≡ true) ↔ WithoutState afi tree
+  lacks-exactly lent = (
+    λ h. let p = some-item-exactly _ _ .0 h in lacking lent (p .0) (subst (λ (l : List Item). Among (p .0) l) (sym (read-list-given 2 _ _ (lent .routesRead))) (p .1)) (p .2),
+    λ w. let x : Item = tree .router ∷ (w .nlri ∷ []) in some-item-exactly _ _ .1 (x, subst (λ (l : List Item). Among x l) (read-list-given 2 _ _ (w .lent .routesRead)) (w .installed), lacks w),
+  )
+
+  condition-is : Lent tree → conditionHolds afi tree ≡ true → Condition afi tree
+  unfolding conditionHolds
+  condition-is lent h =
+      ⊎-elim (λ u. isUpstream u)
+      (λ r. ⊎-elim (λ w. isWithoutState (lacks-exactly lent .0 w)) (λ s. ⊎-elim (λ b. isBidirectional b) (λ n. isUnused n) (either-true _ _ s)) (either-true _ _ r))
+      (either-true _ _ h)
+
+  condition-holds : Lent tree → Condition afi tree → conditionHolds afi tree ≡ true
+  unfolding conditionHolds
+  condition-holds lent (isUpstream u) = either-left _ _ u
+  condition-holds lent (isWithoutState w) = either-second _ _ (either-left _ _ (lacks-exactly lent .1 w))
+  condition-holds lent (isBidirectional b) = either-second _ _ (either-second _ _ (either-left _ _ b))
+  condition-holds lent (isUnused n) = either-second _ _ (either-second _ _ (either-second _ _ n))
+
+  pub condition-exactly : Lent tree → (conditionHolds afi tree ≡ true) ↔ Condition afi tree
+  condition-exactly lent = (condition-is lent, condition-holds lent)

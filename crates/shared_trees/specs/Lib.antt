@@ -1,0 +1,2 @@
+-- What a daemon tells of a shared tree, as the functions take it.
+pub mod Told

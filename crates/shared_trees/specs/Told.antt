@@ -1,0 +1,108 @@
+-- A shared tree by a call's arguments, and definitions that mirror the functions; laws tie them to those of `routes`.
+use Prim.Native.Nat.{ℕ, _+_, _*_, _-_, _≤_}
+use mathlib.Core.Path.{_≡_}
+use mathlib.Core.Bool.{Bool, true, not}
+use mathlib.Core.List.{List}
+use lib.ListN.{length}
+use lib.Dec.{leb, eqb}
+use Rattle.octets.specs.Numbers.{DONE, SHORT, LONG, FLOW}
+use Rattle.octets.specs.Choice.{pick, both}
+use Rattle.octets.specs.Outcome.{Outcome, given, refused, unless, andThen}
+use Rattle.octets.specs.Octets.{part, lowFirst}
+use Rattle.octets.specs.Order.{same}
+use Rattle.lists.specs.LentLists.{Item, itemField, frontItem, wholeItem, listCount, wholeList, listItems, everyItem, someItem}
+use Rattle.nlri.specs.Family.{isOriginatorSize}
+use Rattle.nlri.specs.Groups.{classOf}
+use Rattle.nlri.specs.Inner.{sizeAt}
+use Rattle.routes.specs.SharedTree.{SharedTree, MOST_ITEMS, originatorSized, stateSized, sourceActiveFault, isState}
+use Rattle.shared_trees.specs.declared.Facts.{Facts}
+
+-- the shared tree of a call's arguments: a fact holds where it is not 0
+abbrev pub treeOf : (router group : List ℕ) → Facts → (sourceActives states : List ℕ) → SharedTree
+treeOf router group facts sourceActives states =
+    record {
+      router = router;
+      group = group;
+      upstream = not (eqb (facts .upstream) 0);
+      bidirectional = not (eqb (facts .bidirectional) 0);
+      unused = not (eqb (facts .«source_active_unused») 0);
+      sourceActives = sourceActives;
+      states = states;
+    }
+
+-- the number of the two lists as lists
+unfoldable pub listsFault : (sourceActives states : List ℕ) → ℕ
+listsFault sourceActives states =
+    pick (leb (listCount sourceActives) MOST_ITEMS)
+    (pick (leb (listCount states) MOST_ITEMS)
+    (pick (wholeList 2 sourceActives)
+    (pick (wholeList 2 states) DONE SHORT) SHORT) LONG) LONG
+
+-- the addresses but for the group asked have their sizes
+unfoldable pub addressesSized : (bits : ℕ) → (router sourceActives states : List ℕ) → Bool
+addressesSized bits router sourceActives states =
+    both (isOriginatorSize (length router))
+    (both (everyItem originatorSized (listItems 2 sourceActives))
+    (everyItem (stateSized bits) (listItems 2 states)))
+
+-- the group's class by the Source Active routes' number
+unfoldable pub classUnless : (fault : ℕ) → (class : ℕ) → Outcome ℕ
+classUnless fault class = pick (eqb fault DONE) (given class) (refused fault)
+
+-- what follows once both lists are whole
+unfoldable pub judgedWhole : (afi bits : ℕ) → (router group sourceActives states : List ℕ) → Outcome ℕ
+judgedWhole afi bits router group sourceActives states =
+    unless (addressesSized bits router sourceActives states) FLOW
+    (andThen (classOf afi group) (classUnless (sourceActiveFault afi (listItems 2 sourceActives))))
+
+-- Where source and group stand in a Source Active NLRI: behind the distinguisher, each behind its length octet in bits.
+
+-- the source
+unfoldable pub sourceIn : List ℕ → List ℕ
+sourceIn nlri = part nlri 11 (sizeAt nlri 10)
+
+-- the group
+unfoldable pub groupIn : List ℕ → List ℕ
+groupIn nlri = part nlri (12 + sizeAt nlri 10) (sizeAt nlri (11 + sizeAt nlri 10))
+
+-- where the group ends
+unfoldable pub groupEnd : List ℕ → ℕ
+groupEnd nlri = 12 + sizeAt nlri 10 + sizeAt nlri (11 + sizeAt nlri 10)
+
+-- they lie within the NLRI
+pub record FieldsWithin (nlri : List ℕ) : Type 0 where
+  pub within : groupEnd nlri ≤ length nlri
+
+-- those of an item do
+unfoldable pub fieldsWithin : Item → Bool
+fieldsWithin x = leb (groupEnd (itemField 1 x)) (length (itemField 1 x))
+
+-- the last four octets of a source that has as many, the least significant first
+pub record Ending (source : List ℕ) (r : ℕ) : Type 0 where
+  pub is : 4 ≤ length source → r ≡ lowFirst (part source (length source - 4) 4)
+
+-- a state at a cursor, whose source and group have so many octets, four or more
+pub record StateStands (size : ℕ) (s : List ℕ) : Type 0 where
+  pub whole : wholeItem 2 s ≡ true
+  pub sized : stateSized (8 * size) (frontItem 2 s) ≡ true
+  pub least : 4 ≤ size
+
+-- a list of such states
+pub record StatesSized (size : ℕ) (states : List ℕ) : Type 0 where
+  pub whole : wholeList 2 states ≡ true
+  pub sized : everyItem (stateSized (8 * size)) (listItems 2 states) ≡ true
+  pub least : 4 ≤ size
+
+-- both lists are whole, the states have addresses of so many octets, and in each Source Active NLRI source and group stand
+pub record Judged (size : ℕ) (sourceActives states : List ℕ) : Type 0 where
+  pub listed : wholeList 2 sourceActives ≡ true
+  pub held : StatesSized size states
+  pub stand : everyItem fieldsWithin (listItems 2 sourceActives) ≡ true
+
+-- a Source Active NLRI is for the group, and no state has its source and group
+unfoldable pub withoutState : (group states nlri : List ℕ) → Bool
+withoutState group states nlri = both (same (groupIn nlri) group) (not (someItem (isState (sourceIn nlri) group) (listItems 2 states)))
+
+-- an item's is, and its originator is the PE
+unfoldable pub withoutStateAt : (router group states : List ℕ) → Item → Bool
+withoutStateAt router group states x = both (same (itemField 0 x) router) (withoutState group states (itemField 1 x))

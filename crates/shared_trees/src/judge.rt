@@ -1,0 +1,201 @@
+// The refusals of a match for a shared tree between TABLE and SPACE, in their order.
+ghost use mathlib.Core.Path.{_≡_};
+ghost use mathlib.Core.Bool.{true};
+ghost use Prim.Native.Nat.{_*_};
+ghost use lib.ListN.{drop};
+ghost use Rattle.octets.specs.Outcome.{numberOf};
+ghost use Rattle.lists.specs.LentLists.{frontItem, wholeItem, wholeList, listItems, everyItem};
+ghost use Rattle.nlri.specs.Groups.{groupOf};
+ghost use Rattle.routes.specs.Arguments.{readOfType};
+ghost use Rattle.routes.specs.SharedTree.{originatorSized, stateSized, readSourceActive, sourceActiveFault, judgedTree};
+ghost use Rattle.shared_trees.specs.declared.Facts.{Facts};
+ghost use Rattle.shared_trees.specs.Told.{treeOf, listsFault, addressesSized, judgedWhole};
+use crate::FIELDS;
+use lists::FIRST;
+use nlri::Family;
+use nlri::Group;
+use nlri::Reading;
+use nlri::RouteType;
+use octets::number::DONE;
+use octets::number::FLOW;
+use octets::number::KIND;
+use octets::number::LONG;
+use octets::number::SHORT;
+
+// The most items of either list.
+const MOST_ITEMS: usize = 256;
+
+// LONG for a count over the limit in either list, SHORT for either that ends before its items do.
+fn lists_fault(source_actives: &[u8], states: &[u8]) -> u32
+    ensures { λ r. ⌜ r ≡ listsFault (now («source_actives» .entry)) (now (states .entry)) ⌝ }
+{
+    if MOST_ITEMS < lists::count_of(source_actives) {
+        return LONG;
+    }
+    if MOST_ITEMS < lists::count_of(states) {
+        return LONG;
+    }
+    if !lists::is_whole(source_actives, FIELDS) {
+        return SHORT;
+    }
+    if !lists::is_whole(states, FIELDS) {
+        return SHORT;
+    }
+    DONE
+}
+
+// A Source Active route comes with an originator of 4 or 16 octets.
+fn is_originator_sized(list: &[u8], at: usize) -> bool
+    requires { ⌜ wholeItem 2 (drop at (now list)) ≡ true ⌝ }
+    ensures { λ r. ⌜ r ≡ originatorSized (frontItem 2 (drop at (now (list .entry)))) ⌝ }
+{
+    nlri::is_originator_size(lists::item_field(list, at, 0).len())
+}
+
+// Every Source Active route does.
+fn are_originators_sized(list: &[u8]) -> bool
+    requires { ⌜ wholeList 2 (now list) ≡ true ⌝ }
+    ensures { λ r. ⌜ r ≡ everyItem originatorSized (listItems 2 (now (list .entry))) ⌝ }
+{
+    let mut at = FIRST;
+    let mut left = lists::count_of(list);
+    while 0 < left {
+        if !is_originator_sized(list, at) {
+            return false;
+        }
+        at = lists::after_item(list, at, FIELDS);
+        left -= 1;
+    }
+    true
+}
+
+// Source and group of a state have so many octets.
+fn is_state_sized(list: &[u8], at: usize, size: usize) -> bool
+    requires { ⌜ wholeItem 2 (drop at (now list)) ≡ true ⌝ }
+    ensures { λ r. ⌜ r ≡ stateSized (8 * size) (frontItem 2 (drop at (now (list .entry)))) ⌝ }
+{
+    if lists::item_field(list, at, 0).len() != size {
+        return false;
+    }
+    lists::item_field(list, at, 1).len() == size
+}
+
+// Those of every state do.
+fn are_states_sized(list: &[u8], size: usize) -> bool
+    requires { ⌜ wholeList 2 (now list) ≡ true ⌝ }
+    ensures { λ r. ⌜ r ≡ everyItem (stateSized (8 * size)) (listItems 2 (now (list .entry))) ⌝ }
+{
+    let mut at = FIRST;
+    let mut left = lists::count_of(list);
+    while 0 < left {
+        if !is_state_sized(list, at, size) {
+            return false;
+        }
+        at = lists::after_item(list, at, FIELDS);
+        left -= 1;
+    }
+    true
+}
+
+// The addresses but for the group asked: 4 or 16 octets of the PE and of every originator, `size` octets in every state.
+fn are_addresses_sized(size: usize, router: &[u8], source_actives: &[u8], states: &[u8]) -> bool
+    requires { ⌜ (wholeList 2 (now «source_actives») ≡ true) × (wholeList 2 (now states) ≡ true) ⌝ }
+    ensures { λ r. ⌜ r ≡ addressesSized (8 * size) (now (router .entry)) (now («source_actives» .entry)) (now (states .entry)) ⌝ }
+{
+    if !nlri::is_originator_size(router.len()) {
+        return false;
+    }
+    if !are_originators_sized(source_actives) {
+        return false;
+    }
+    are_states_sized(states, size)
+}
+
+// NLRI reading with no octets after it, then KIND where it is not type 5.
+fn nlri_fault(afi: u16, nlri: &[u8]) -> u32
+    ensures { λ r. ⌜ r ≡ numberOf (readOfType 5 afi (now (nlri .entry))) ⌝ }
+{
+    match nlri::read_layout(afi, nlri) {
+        Reading::Refused(number) => number,
+        Reading::Nlri(layout) => {
+            if layout.route_type != RouteType::SOURCE_ACTIVE {
+                return KIND;
+            }
+            DONE
+        }
+    }
+}
+
+// The NLRI of an item that is to be a Source Active route.
+fn item_fault(afi: u16, list: &[u8], at: usize) -> u32
+    requires { ⌜ wholeItem 2 (drop at (now list)) ≡ true ⌝ }
+    ensures { λ r. ⌜ r ≡ numberOf (readSourceActive afi (frontItem 2 (drop at (now (list .entry))))) ⌝ }
+{
+    nlri_fault(afi, lists::item_field(list, at, 1))
+}
+
+// The number of the first of them that is refused, or DONE.
+fn source_active_fault(afi: u16, list: &[u8]) -> u32
+    requires { ⌜ wholeList 2 (now list) ≡ true ⌝ }
+    ensures { λ r. ⌜ r ≡ sourceActiveFault afi (listItems 2 (now (list .entry))) ⌝ }
+{
+    let mut at = FIRST;
+    let mut left = lists::count_of(list);
+    while 0 < left {
+        let number = item_fault(afi, list, at);
+        if number != DONE {
+            return number;
+        }
+        at = lists::after_item(list, at, FIELDS);
+        left -= 1;
+    }
+    DONE
+}
+
+// The group's class under a family of `size` octets, after the lists were found whole: FLOW, then each Source Active route in turn.
+fn class_of_whole(
+    afi: u16,
+    size: usize,
+    router: &[u8],
+    group: &[u8],
+    source_actives: &[u8],
+    states: &[u8],
+) -> Group
+    requires { ⌜ (wholeList 2 (now «source_actives») ≡ true) × (wholeList 2 (now states) ≡ true) ⌝ }
+    ensures { λ r. ⌜ r ≡ groupOf (judgedWhole afi (8 * size) (now (router .entry)) (now (group .entry)) (now («source_actives» .entry)) (now (states .entry))) ⌝ }
+{
+    if !are_addresses_sized(size, router, source_actives, states) {
+        return Group::refused(FLOW);
+    }
+    let class = nlri::group_class(afi, group);
+    if class.number != DONE {
+        return class;
+    }
+    let fault = source_active_fault(afi, source_actives);
+    if fault != DONE {
+        return Group::refused(fault);
+    }
+    class
+}
+
+// The class of the group asked, or the first refusal: LONG, SHORT, FLOW, then each Source Active route in turn.
+pub fn tree_class(
+    afi: u16,
+    router: &[u8],
+    group: &[u8],
+    source_actives: &[u8],
+    states: &[u8],
+) -> Group
+    ensures { λ r. ⌜ ((facts : Facts) → r ≡ groupOf (judgedTree afi (treeOf (now (router .entry)) (now (group .entry)) facts (now («source_actives» .entry)) (now (states .entry))))) ⌝ }
+{
+    match nlri::family_of(afi) {
+        Family::Unknown(number) => Group::refused(number),
+        Family::Known(kind) => {
+            let fault = lists_fault(source_actives, states);
+            if fault != DONE {
+                return Group::refused(fault);
+            }
+            class_of_whole(afi, kind.octets(), router, group, source_actives, states)
+        }
+    }
+}

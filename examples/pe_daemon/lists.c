@@ -1,0 +1,74 @@
+#include "lists.h"
+
+#include <string.h>
+
+/* ---- Source Active A-D routes */
+
+/* Which of the routes has this NLRI; `count` where none has. */
+static size_t place_of(const source_actives *routes, octets nlri)
+{
+    size_t i = 0;
+    while (i < routes->count &&
+           (routes->kept[i].nlri_size != nlri.size || memcmp(routes->kept[i].nlri, nlri.at, nlri.size) != 0))
+        i++;
+    return i;
+}
+
+keeping keep_source_active(source_actives *routes, octets nlri, octets originator)
+{
+    size_t place = place_of(routes, nlri);
+    bool again = place < routes->count;
+    if (place == MVPN_MOST_ITEMS)
+        return NOT_KEPT;
+    source_active *route = &routes->kept[place];
+    memcpy(route->nlri, nlri.at, nlri.size);
+    route->nlri_size = nlri.size;
+    memcpy(route->originator.octets, originator.at, originator.size);
+    route->originator.size = (uint8_t)originator.size;
+    routes->count += !again;
+    return again ? KEPT_AGAIN : KEPT_NEW;
+}
+
+/* The last one takes its place. */
+bool forget_source_active(source_actives *routes, octets nlri)
+{
+    size_t place = place_of(routes, nlri);
+    if (place == routes->count)
+        return false;
+    routes->kept[place] = routes->kept[--routes->count];
+    return true;
+}
+
+/* ---- states */
+
+bool hold_state(customer_states *states, const mvpn_address *source, const mvpn_address *group)
+{
+    if (states->count == MVPN_MOST_ITEMS)
+        return false;
+    states->held[states->count++] = (customer_state){ *source, *group };
+    return true;
+}
+
+/* ---- the lists: there is space for each, so no answer of a helper is 0 */
+
+octets list_source_actives(const source_actives *routes, uint8_t list[SOURCE_ACTIVES_SPACE])
+{
+    size_t size = mvpn_list_start(list, SOURCE_ACTIVES_SPACE, (uint16_t)routes->count);
+    for (size_t i = 0; i < routes->count; i++) {
+        const source_active *route = &routes->kept[i];
+        size = mvpn_list_field(list, SOURCE_ACTIVES_SPACE, size, route->originator.octets, route->originator.size);
+        size = mvpn_list_field(list, SOURCE_ACTIVES_SPACE, size, route->nlri, route->nlri_size);
+    }
+    return (octets){ list, size };
+}
+
+octets list_states(const customer_states *states, uint8_t list[STATES_SPACE])
+{
+    size_t size = mvpn_list_start(list, STATES_SPACE, (uint16_t)states->count);
+    for (size_t i = 0; i < states->count; i++) {
+        const customer_state *state = &states->held[i];
+        size = mvpn_list_field(list, STATES_SPACE, size, state->source.octets, state->source.size);
+        size = mvpn_list_field(list, STATES_SPACE, size, state->group.octets, state->group.size);
+    }
+    return (octets){ list, size };
+}

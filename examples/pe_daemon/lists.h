@@ -1,0 +1,58 @@
+/* What a match for a shared tree is told of one family: the Source Active A-D routes of the VRF, its (C-S,C-G) states, and
+ * both as the lists that the library is lent. */
+#ifndef LISTS_H
+#define LISTS_H
+
+#include "mvpn.h"
+#include "update.h"
+
+/* ---- Source Active A-D routes */
+
+/* The octets of the longest NLRI: of IPv6. */
+enum { LONGEST_SOURCE_ACTIVE = 44 };
+
+typedef struct {
+    mvpn_address originator;
+    uint8_t nlri[LONGEST_SOURCE_ACTIVE];
+    size_t nlri_size;
+} source_active;
+
+/* No more than a list may have. No NLRI stands twice. */
+typedef struct {
+    source_active kept[MVPN_MOST_ITEMS];
+    size_t count;
+} source_actives;
+
+typedef enum { KEPT_NEW, KEPT_AGAIN, NOT_KEPT } keeping;
+
+/* Keeps a route, whose NLRI the library has read, or gives one that is kept this originator; not one more than there is room
+ * for. */
+keeping keep_source_active(source_actives *routes, octets nlri, octets originator);
+
+/* Whether the route was kept. */
+bool forget_source_active(source_actives *routes, octets nlri);
+
+/* ---- states */
+
+typedef struct { mvpn_address source, group; } customer_state;
+
+typedef struct {
+    customer_state held[MVPN_MOST_ITEMS];
+    size_t count;
+} customer_states;
+
+/* Whether there was room for it. */
+bool hold_state(customer_states *states, const mvpn_address *source, const mvpn_address *group);
+
+/* ---- the lists */
+
+/* The octets of the longest lists: a count, and for each item two fields, each with its size. */
+enum {
+    SOURCE_ACTIVES_SPACE = MVPN_LIST_COUNT + MVPN_MOST_ITEMS * (MVPN_FIELD_SIZE + 16 + MVPN_FIELD_SIZE + LONGEST_SOURCE_ACTIVE),
+    STATES_SPACE = MVPN_LIST_COUNT + MVPN_MOST_ITEMS * (MVPN_FIELD_SIZE + 16 + MVPN_FIELD_SIZE + 16)
+};
+
+octets list_source_actives(const source_actives *routes, uint8_t list[SOURCE_ACTIVES_SPACE]);
+octets list_states(const customer_states *states, uint8_t list[STATES_SPACE]);
+
+#endif

@@ -1,0 +1,24 @@
+/* What the command line asks for and tells. */
+#ifndef REQUESTS_H
+#define REQUESTS_H
+
+#include "mvpn.h"
+
+/* How the command line is written. */
+void print_usage(void);
+
+typedef enum { FLOW, SHARED_TREE, STATE } request_kind;
+
+typedef struct {
+    request_kind kind;
+    mvpn_address router;    /* of a flow and of a shared tree: the PE that is asked about */
+    mvpn_address source;    /* of a flow and of a state */
+    mvpn_address group;
+    mvpn_shared_tree facts; /* of a shared tree */
+} request;
+
+/* Reads the request that the words begin with; NULL stands behind the last word. How many words it has; 0, after standard
+ * error has been told why, where it is wrong. */
+int parse_request(char **words, request *asked);
+
+#endif
