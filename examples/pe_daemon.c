@@ -91,6 +91,12 @@ static void treat_as_withdrawn(customer_vrf *vrf, uint16_t afi, octets nlri)
     }
 }
 
+/* A route of tunnel type 0 asks for tracking: the table holds it, and no match takes it (RFC 8556, section 4.1). */
+static bool names_no_tunnel(octets attribute)
+{
+    return mvpn_attribute_read(attribute.at, attribute.size).tunnel_type == MVPN_TUNNEL_NONE;
+}
+
 static void install(customer_vrf *vrf, uint16_t afi, octets nlri, octets tunnel)
 {
     if (!tunnel.at) {
@@ -103,13 +109,13 @@ static void install(customer_vrf *vrf, uint16_t afi, octets nlri, octets tunnel)
         printf("not installed, ");
         print_number(installed.number);
         treat_as_withdrawn(vrf, afi, nlri);
-    } else if (installed.outcome == MVPN_NEW) {
-        vrf->routes.added++;
-        printf("installed, new");
-    } else {
-        vrf->routes.replaced++;
-        printf("installed, replaces the attribute it had");
+        return;
     }
+    bool is_new = installed.outcome == MVPN_NEW;
+    *(is_new ? &vrf->routes.added : &vrf->routes.replaced) += 1;
+    printf("installed, %s", is_new ? "new" : "replaces the attribute it had");
+    if (names_no_tunnel(tunnel))
+        printf("; it names no tunnel, so no match takes it");
 }
 
 /* ---- Source Active A-D routes */

@@ -27,9 +27,9 @@
 #include <stdint.h>
 
 /* The version of this header and its archive; before 1.0.0 a new minor version may change calls. */
-#define MVPN_VERSION "0.4.0"
+#define MVPN_VERSION "0.5.0"
 #define MVPN_VERSION_MAJOR 0
-#define MVPN_VERSION_MINOR 4
+#define MVPN_VERSION_MINOR 5
 #define MVPN_VERSION_PATCH 0
 
 #ifdef __cplusplus
@@ -76,7 +76,7 @@ enum {
 
 /* Tunnel types (RFC 6514, section 5; RFC 8556, section 2), with the octets of the identifier. */
 enum {
-    MVPN_TUNNEL_NONE = 0,                /* none */
+    MVPN_TUNNEL_NONE = 0,                /* none: the route names no tunnel, and no match takes it */
     MVPN_TUNNEL_RSVP_TE_P2MP = 1,        /* extended tunnel ID 4, reserved 2, tunnel ID 2, P2MP ID 4 */
     MVPN_TUNNEL_MLDP_P2MP = 2,           /* a FEC element of type 6 */
     MVPN_TUNNEL_PIM_SSM = 3,             /* P-root node and P-multicast group, each 4 or each 16 */
@@ -302,15 +302,18 @@ uint32_t mvpn_withdraw(uint8_t *table, size_t table_len, const uint8_t *nlri, si
 
 /*
  * The route that the flow (source, group) takes (RFC 6625, section 3), among those whose originator equals `router` in size
- * and octets: ourselves for sending, the upstream PE for receiving. TABLE, FLOW, SPACE (an output under MVPN_MATCH_OUTPUT
- * octets, also where the answer would fit or nothing matches).
+ * and octets, ourselves for sending, the upstream PE for receiving, and whose tunnel type is not 0. A route of tunnel type 0
+ * asks for tracking and names no tunnel: it is installed, replaced and withdrawn like others, and passed over here (RFC 8556,
+ * section 4.1). TABLE, FLOW, SPACE (an output under MVPN_MATCH_OUTPUT octets, also where the answer would fit or nothing
+ * matches).
  *
- * The lowest tier that has a route wins:
+ * The lowest tier that has such a route wins:
  *   1  source and group both equal
  *   2  source equal, group wildcard, and the group SSM
  *   3  source wildcard, group equal, and the group ASM
  *   4  both wildcard
- * Ties go to the lowest route distinguisher, compared as eight octets.
+ * Ties go to the lowest route distinguisher, compared as eight octets: behind one of tunnel type 0 the next one of that tier
+ * is taken, before a later tier.
  *
  * The NLRI is written at the front of the output and the attribute straight after it; octets past them are untouched. No
  * place number is given. Where no route matches: DONE with tier 0, both sizes 0 and the output untouched.
@@ -331,7 +334,8 @@ typedef struct {
 
 /*
  * The route that a shared tree (C-*,C-G) takes (RFC 6625, section 3.2.2), among those whose originator equals `router`, the
- * PE asked, in size and octets. For an ASM group a route is eligible exactly when one of these holds:
+ * PE asked, in size and octets, and whose tunnel type is not 0. For an ASM group a route is eligible exactly when one of these
+ * holds:
  *   - facts.upstream;
  *   - one or more Source Active routes of the list are for this group and were originated by this PE, and for at least one of
  *     them no state of the list has its source and its group;

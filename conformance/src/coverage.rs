@@ -46,6 +46,10 @@ pub enum Seen {
     Outcome(u16, u32),
     /// AFI and tier of a match of either kind.
     Tier(u16, u32),
+    /// AFI and tier of a match of either kind that passes a route over which names no tunnel.
+    PassedOver(u16, u32),
+    /// A route that names no tunnel, installed in a sequence: AFI.
+    NoTunnel(u16),
     /// AFI and places of a sequence's table, and whether the premise of demand 3 holds.
     Places(u16, usize, bool),
     /// A call of a sequence that belongs to nobody.
@@ -115,10 +119,14 @@ fn required() -> Vec<(Call, Seen)> {
 fn required_of_tables(afi: u16) -> Vec<(Call, Seen)> {
     let mut rows = vec![(Call::Make, Seen::Family(afi)), (Call::Withdraw, Seen::Family(afi))];
     rows.extend((1..=2).map(|outcome| (Call::Install, Seen::Outcome(afi, outcome))));
-    rows.extend((0..=4).map(|tier| (Call::Match, Seen::Tier(afi, tier))));
+    rows.extend(
+        (0..=4).flat_map(|tier| [Seen::Tier(afi, tier), Seen::PassedOver(afi, tier)].map(|it| (Call::Match, it))),
+    );
     for tier in [0, 3, 4] {
-        rows.extend([(Call::MatchShared, Seen::Tier(afi, tier)), (Call::Sequence, Seen::SharedTree(afi, tier))]);
+        rows.extend([Seen::Tier(afi, tier), Seen::PassedOver(afi, tier)].map(|seen| (Call::MatchShared, seen)));
+        rows.push((Call::Sequence, Seen::SharedTree(afi, tier)));
     }
+    rows.push((Call::Sequence, Seen::NoTunnel(afi)));
     for places in PLACES {
         rows.extend([true, false].map(|premise| (Call::Sequence, Seen::Places(afi, places, premise))));
     }

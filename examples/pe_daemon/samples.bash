@@ -11,8 +11,10 @@ run() {
     "$program" "$@" || echo "exit status $?"
 }
 
-# The tiers in turn; a route that was withdrawn, so the next tier has it; (C-*,C-G) is not for SSM groups; a tie; the other
-# kinds of tunnel; a router without routes; a group that is not multicast; a source of the other family.
+# The tiers in turn; a route that was withdrawn, so the next tier has it; (C-*,C-G) is not for SSM groups; a tie, in which a
+# tracking route has the lowest route distinguisher; a flow for which a tracking route stands in tier 1; the other kinds of
+# tunnel; a router that has only a tracking route; a router without routes; a group that is not multicast; a source of the other
+# family.
 run ipv4.bin \
     10.0.0.1 192.0.2.1 232.1.1.1 \
     10.0.0.1 192.0.2.1 232.1.1.2 \
@@ -21,6 +23,7 @@ run ipv4.bin \
     10.0.0.1 192.0.2.9 232.1.1.2 \
     10.0.0.1 192.0.2.2 232.9.9.9 \
     10.0.0.1 192.0.2.1 239.2.2.2 \
+    10.0.0.1 192.0.2.3 239.1.1.1 \
     10.0.0.2 192.0.2.1 232.1.1.1 \
     10.0.0.3 192.0.2.1 232.1.1.1 \
     10.0.0.4 192.0.2.1 232.1.1.1 \
@@ -44,8 +47,9 @@ run both.bin 10.0.0.1 192.0.2.1 232.1.1.1 10.0.0.1 192.0.2.1 239.1.1.1 10.0.0.1 
 
 # The tree of PE 10.0.0.1 is eligible by its Source Active routes until there is a state for each of them, then by what is told,
 # one condition at a time; PE 10.0.0.2 has another Source Active route, and a route for everything only. Then a Source Active
-# route that moved from the one to the other, one that was withdrawn, an SSM group, a PE without routes, a group that is not
-# multicast, IPv6, and a state with a source of the other family.
+# route that moved from the one to the other, one that was withdrawn, whose group has a tracking route, an SSM group, a PE
+# without routes, one that has only a tracking route, a group that is not multicast, IPv6, and a state with a source of the other
+# family.
 run shared.bin \
     shared 10.0.0.1 239.1.1.1 \
     state 192.0.2.1 239.1.1.1 \
@@ -62,6 +66,7 @@ run shared.bin \
     shared 10.0.0.1 239.1.1.5 unused bidir upstream \
     shared 10.0.0.1 232.9.9.9 upstream bidir unused \
     shared 10.0.0.3 239.1.1.1 upstream \
+    shared 10.0.0.4 239.1.1.1 upstream \
     shared 10.0.0.1 192.0.2.2 upstream \
     shared 2001:db8::1 ff0e::1 \
     shared 10.0.0.1 ff0e::1 \

@@ -246,7 +246,13 @@ ipv4() {
     update "$(usual)" "$(reach 1 "$(s_pmsi 0:100:9 192.0.2.1 239.2.2.2 10.0.0.1)")" "$(pim 3 10.0.0.1 232.0.0.3)"
     update "$(usual)" "$(reach 1 "$(s_pmsi 2:65536:9 192.0.2.1 239.2.2.2 10.0.0.1)")" "$(pim 3 10.0.0.1 232.0.0.4)"
 
-    # routers with one route for everything, each with another kind of tunnel and of route distinguisher
+    # tracking (RFC 8556, section 4.1), which names no tunnel: under a lower route distinguisher still, for one source of a
+    # group that has a route, and for one that is withdrawn below
+    update "$(usual)" "$(reach 1 "$(s_pmsi 0:100:1 192.0.2.1 239.2.2.2 10.0.0.1)" \
+        "$(s_pmsi 0:100:7 192.0.2.3 239.1.1.1 10.0.0.1)" "$(s_pmsi 0:100:7 192.0.2.3 239.1.1.2 10.0.0.1)")" "$(no_tunnel 01)"
+
+    # routers with one route for everything, each with another kind of tunnel and of route distinguisher; the last one's names
+    # no tunnel
     update "$(usual)" "$(reach 1 "$(s_pmsi 1:10.0.0.2:7 '*' '*' 10.0.0.2)")" "$(pim 4 10.0.0.2 239.0.0.1)"
     update "$(usual)" "$(reach 1 "$(s_pmsi 2:65536:7 '*' '*' 10.0.0.3)")" "$(pim 5 10.0.0.3 239.0.0.2)"
     update "$(usual)" "$(reach 1 "$(s_pmsi 0:100:8 '*' '*' 10.0.0.4)")" "$(rsvp_te 10.0.0.4 6 2)"
@@ -256,9 +262,9 @@ ipv4() {
     update "$(usual)" "$(reach 1 "$(one_of_each)" "$(s_pmsi 0:100:7 192.0.2.7 232.7.7.7 10.0.0.1)")" \
         "$(bier 00 1001 0 1 10.0.0.1)"
 
-    # another tunnel for a route that is held, and one route less
+    # another tunnel for a route that is held, and two routes less
     update "$(usual)" "$(reach 1 "$(s_pmsi 0:100:7 '*' 239.1.1.1 10.0.0.1)")" "$(bier 01 1000 0 1 10.0.0.1)"
-    update "$(unreach 1 "$(s_pmsi 0:100:7 192.0.2.9 '*' 10.0.0.1)")"
+    update "$(unreach 1 "$(s_pmsi 0:100:7 192.0.2.9 '*' 10.0.0.1)" "$(s_pmsi 0:100:7 192.0.2.3 239.1.1.2 10.0.0.1)")"
 
     # End-of-RIB (RFC 4724, section 2): no NLRIs; then NOTIFICATION: administrative shutdown
     update "$(unreach 1)"
@@ -273,6 +279,9 @@ ipv6() {
     update "$(usual)" "$(reach 2 "$(s_pmsi 0:100:7 '*' ff0e::1 $pe)")" "$(ingress_replication 00 3000 $pe)"
     update "$(usual)" "$(reach 2 "$(s_pmsi 0:100:7 '*' '*' $pe)")" "$(bier 01 1000 1 258 $pe)"
     update "$(usual)" "$(reach 2 "$(s_pmsi 2:65536:7 '*' '*' $pe)")" "$(bier 01 1001 1 258 $pe)"
+
+    # tracking: one source of a group that has a route, and everything under the lowest route distinguisher
+    update "$(usual)" "$(reach 2 "$(s_pmsi 0:100:7 $source ff0e::1 $pe)" "$(s_pmsi 0:100:1 '*' '*' $pe)")" "$(no_tunnel 01)"
 
     # a router that is known by an IPv4 address: another router, in the same family
     update "$(usual)" "$(reach 2 "$(s_pmsi 1:10.0.0.1:7 '*' '*' 10.0.0.1)")" "$(mldp_mp2mp 07 10.0.0.99 '')"
@@ -315,6 +324,9 @@ shared() {
         "$(bier 00 1000 0 1 10.0.0.1)"
     update "$(usual)" "$(reach 1 "$(s_pmsi 0:100:7 '*' '*' 10.0.0.1)")" "$(ingress_replication 00 3000 10.0.0.1)"
     update "$(usual)" "$(reach_by 10.0.0.2 1 "$(s_pmsi 0:100:8 '*' '*' 10.0.0.2)")" "$(mldp_p2mp 10.0.0.2 "$(generic 42)")"
+
+    # tracking: 10.0.0.1 of one group more, 10.0.0.4 of everything
+    update "$(usual)" "$(reach 1 "$(s_pmsi 0:100:7 '*' 239.1.1.5 10.0.0.1)" "$(s_pmsi 0:100:4 '*' '*' 10.0.0.4)")" "$(no_tunnel 01)"
 
     # the sources that each has found
     update "$(usual)" "$(reach 1 "$one" "$(source_active 0:100:7 192.0.2.2 239.1.1.1)")"

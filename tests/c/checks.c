@@ -113,6 +113,14 @@ mvpn_installed install(lent table, const char *nlri_text, const char *attribute_
     return i;
 }
 
+uint32_t withdraw(lent table, const char *nlri_text)
+{
+    lent nlri = hex(nlri_text);
+    uint32_t number = mvpn_withdraw(table.at, table.size, nlri.at, nlri.size);
+    free(nlri.at);
+    return number;
+}
+
 lent holding(uint16_t afi, size_t places, const route *routes, size_t count)
 {
     lent table = made(afi, places);
@@ -138,6 +146,24 @@ void same_table(const char *shows, lent table, lent expected)
 }
 
 /* ---- matches */
+
+mvpn_matched match(lent table, flow f, lent output)
+{
+    lent router = hex(f.router), source = hex(f.source), group = hex(f.group);
+    mvpn_matched m = mvpn_match(table.at, table.size, router.at, router.size, source.at, source.size, group.at, group.size,
+                                output.at, output.size);
+    free(router.at);
+    free(source.at);
+    free(group.at);
+    return m;
+}
+
+void same_match(const char *shows, lent table, flow f, uint32_t tier, const route *expected)
+{
+    lent output = lent_of(MVPN_MATCH_OUTPUT + 1, FILL);
+    same_matched(shows, match(table, f, output), output, tier, expected);
+    free(output.at);
+}
 
 void same_matched(const char *shows, mvpn_matched got, lent output, uint32_t tier, const route *expected)
 {

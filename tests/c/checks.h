@@ -41,6 +41,7 @@ typedef struct { const char *nlri, *attribute; } route;
 
 lent made(uint16_t afi, size_t places);
 mvpn_installed install(lent table, const char *nlri_text, const char *attribute_text);
+uint32_t withdraw(lent table, const char *nlri_text);
 
 /* A table just made, in which these routes were installed, each of them new. */
 lent holding(uint16_t afi, size_t places, const route *routes, size_t count);
@@ -50,7 +51,12 @@ void same_table(const char *shows, lent table, lent expected);
 
 /* ---- what a match answers, and its output */
 
+typedef struct { const char *router, *source, *group; } flow;
+
+mvpn_matched match(lent table, flow f, lent output);
+
 /* No tier and no route: nothing matches. */
+void same_match(const char *shows, lent table, flow f, uint32_t tier, const route *expected);
 void same_matched(const char *shows, mvpn_matched got, lent output, uint32_t tier, const route *expected);
 void refused_matched(const char *shows, mvpn_matched got, lent output, uint32_t number);
 

@@ -15,10 +15,12 @@ _Static_assert(MVPN_TABLE_SIZE(0) == 8 && MVPN_TABLE_SIZE(1) == 136 && MVPN_TABL
 _Static_assert(MVPN_TABLE == 11 && MVPN_KIND == 12 && MVPN_ROOM == 13 && MVPN_ABSENT == 14 && MVPN_MATCH_OUTPUT == 124,
                "numbers");
 
-/* A route distinguisher that ends in N, an IPv6 address that ends in N, and a tunnel type 0 attribute with flags N. */
+/* A route distinguisher that ends in N, an IPv6 address that ends in N, and with flags N an attribute of ingress replication
+ * and one that names no tunnel. */
 #define RD(n) "00000064000000" n " "
 #define IPV6(n) "20010DB8 00000000 00000000 000000" n " "
-#define FLAGS(n) n " 00 000000"
+#define FLAGS(n) n " 06 000000 0A000001"
+#define NO_TUNNEL(n) n " 00 000000"
 
 /* Document 01's marked routes, of router 10.0.0.1. */
 #define A_NLRI "0316 " RD("07") "20 C0000201 20 E8010101 0A000001"
@@ -35,29 +37,6 @@ enum { MOST = 5 };
 static const route marked[] = {
     { A_NLRI, FLAGS("0A") }, { B_NLRI, FLAGS("0B") }, { C_NLRI, FLAGS("0C") }, { D_NLRI, FLAGS("0D") }, { E_NLRI, FLAGS("0E") },
 };
-
-/* ---- calls with octets given as text */
-
-static uint32_t withdraw(lent table, const char *nlri_text)
-{
-    lent nlri = hex(nlri_text);
-    uint32_t number = mvpn_withdraw(table.at, table.size, nlri.at, nlri.size);
-    free(nlri.at);
-    return number;
-}
-
-typedef struct { const char *router, *source, *group; } flow;
-
-static mvpn_matched match(lent table, flow f, lent output)
-{
-    lent router = hex(f.router), source = hex(f.source), group = hex(f.group);
-    mvpn_matched m = mvpn_match(table.at, table.size, router.at, router.size, source.at, source.size, group.at, group.size,
-                                output.at, output.size);
-    free(router.at);
-    free(source.at);
-    free(group.at);
-    return m;
-}
 
 /* ---- the expected octets */
 
@@ -85,13 +64,6 @@ static void holds(const char *shows, lent table, uint16_t afi, size_t places, co
     lent expected = image(afi, places, routes);
     same_table(shows, table, expected);
     free(expected.at);
-}
-
-static void same_match(const char *shows, lent table, flow f, uint32_t tier, const route *expected)
-{
-    lent output = lent_of(MVPN_MATCH_OUTPUT + 1, FILL);
-    same_matched(shows, match(table, f, output), output, tier, expected);
-    free(output.at);
 }
 
 /* ---- making */
@@ -213,6 +185,7 @@ typedef struct {
 #define A(n) { A_NLRI, FLAGS(n) }
 #define B(n) { B_NLRI, FLAGS(n) }
 #define D(n) { D_NLRI, FLAGS(n) }
+#define B_NO_TUNNEL(n) { B_NLRI, NO_TUNNEL(n) }
 #define END { NULL, NULL }
 #define BIER(field) "00 0B " field " 01 0002 0A000001"
 
@@ -233,6 +206,15 @@ static const session_row session[] = {
     { "install in room that came back", B("06"), MVPN_DONE, MVPN_NEW, { B("06"), A("04"), END } },
     { "withdrawal at the end", { A_NLRI, NULL }, MVPN_DONE, 0, { B("06"), END } },
     { "withdrawal again", { A_NLRI, NULL }, MVPN_ABSENT, 0, { B("06"), END } },
+    { "a route that names no tunnel replaces", B_NO_TUNNEL("07"), MVPN_DONE, MVPN_REPLACED, { B_NO_TUNNEL("07"), END } },
+    { "and is replaced by another", B_NO_TUNNEL("08"), MVPN_DONE, MVPN_REPLACED, { B_NO_TUNNEL("08"), END } },
+    { "install behind it", A("09"), MVPN_DONE, MVPN_NEW, { B_NO_TUNNEL("08"), A("09"), END } },
+    { "it takes a place", D("0A"), MVPN_ROOM, 0, { B_NO_TUNNEL("08"), A("09"), END } },
+    { "withdrawal of a route that names no tunnel", { B_NLRI, NULL }, MVPN_DONE, 0, { A("09"), END } },
+    { "its withdrawal again", { B_NLRI, NULL }, MVPN_ABSENT, 0, { A("09"), END } },
+    { "a route that names no tunnel is new", B_NO_TUNNEL("0B"), MVPN_DONE, MVPN_NEW, { B_NO_TUNNEL("0B"), A("09"), END } },
+    { "and is replaced by one with a tunnel", B("0C"), MVPN_DONE, MVPN_REPLACED, { B("0C"), A("09"), END } },
+    { "withdrawal behind it", { A_NLRI, NULL }, MVPN_DONE, 0, { B("0C"), END } },
     { "the last withdrawal", { B_NLRI, NULL }, MVPN_DONE, 0, { END } },
 };
 

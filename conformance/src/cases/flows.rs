@@ -62,7 +62,7 @@ fn outputs(harness: &mut Harness, random: &mut Random, addresses: &Addresses) ->
     let (source, group) = (&addresses.sources[0], &addresses.groups[0]);
     let attributes = good_attributes();
     let mut routes = Routes::new();
-    for (router, source, group, size) in [(4, &source[..], &group[..], 64), (0, &[], &[], 5)] {
+    for (router, source, group, size) in [(4, &source[..], &group[..], 64), (0, &[], &[], 9)] {
         let nlri = s_pmsi(&addresses.distinguishers[0], source, group, &addresses.routers[router]);
         let attribute = attributes.iter().find(|attribute| attribute.len() == size).expect("an attribute of that size");
         routes.insert(nlri, attribute.clone());

@@ -12,6 +12,7 @@ pub mod lists;
 pub mod mutations;
 pub mod near;
 pub mod nlri_writing;
+pub mod no_tunnel;
 pub mod outside;
 pub mod random_cases;
 pub mod routes;
@@ -55,6 +56,7 @@ pub fn of_encodings(harness: &mut Harness, options: &Options) -> Checked {
 
 /// The match for shared trees alone.
 pub fn of_shared_trees(harness: &mut Harness, options: &Options) -> Checked {
+    no_tunnel::shared_trees(harness)?;
     shared::all(harness, &mut Random::new(options.seed), options.cases)
 }
 
@@ -62,7 +64,9 @@ pub fn of_shared_trees(harness: &mut Harness, options: &Options) -> Checked {
 pub fn of_tables(harness: &mut Harness, options: &Options) -> Checked {
     let mut random = Random::new(options.seed);
     document::tables(harness)?;
+    no_tunnel::examples(harness)?;
     flows::all(harness, &mut random)?;
     tables::all(harness, &mut random)?;
+    no_tunnel::flows(harness)?;
     sequences::all(harness, &mut random, options.cases)
 }

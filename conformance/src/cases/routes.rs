@@ -131,13 +131,19 @@ pub fn source_active(distinguisher: &[u8], source: &[u8], group: &[u8]) -> Vec<u
     [&[5, body.len() as u8], &body[..]].concat()
 }
 
-/// Attributes that install accepts, all different: every tunnel type, none of them BIER with label 0.
+/// Attributes that name no tunnel, with flags and label fields that are 0 or not: such a route is stored and takes no flow.
+pub const NO_TUNNEL: [&str; 6] =
+    ["00 00 000000", "01 00 000000", "00 00 00000F", "02 00 000010", "FF 00 FFFFFF", "03 00 0B0000"];
+
+/// Attributes that install accepts, all different: every tunnel type, none of them BIER with label 0. About one in six names
+/// no tunnel.
 pub fn good_attributes() -> Vec<Vec<u8>> {
     let mut attributes = attributes();
     for (number, attribute) in attributes.iter_mut().enumerate() {
         attribute[0] = number as u8;
     }
     attributes.extend([octets("00 0B 000010 01 0002 0A000001"), octets("FF 06 000000 0A000001")]);
+    attributes.extend(NO_TUNNEL.map(octets));
     attributes
 }
 

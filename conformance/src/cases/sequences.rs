@@ -64,8 +64,9 @@ fn short_lists(harness: &mut Harness, random: &mut Random, afi: u16, places: usi
     });
     let (good, bad, output) = (good_attributes(), bad_attributes(), random.octets(LEAST_OUTPUT));
     let mut calls = Vec::new();
-    for nlri in &nlris {
-        let attributes = [&good[1], &good[2], &bad[8]];
+    // The second NLRI, which has the lowest distinguisher of its router, may name no tunnel.
+    for (nlri, other) in nlris.iter().zip([2, 0, 2]) {
+        let attributes = [&good[1], &good[other], &bad[8]];
         calls.extend(attributes.map(|attribute| TableCall::Install { nlri, attribute }));
         calls.push(TableCall::Withdraw { nlri });
     }
@@ -76,6 +77,7 @@ fn short_lists(harness: &mut Harness, random: &mut Random, afi: u16, places: usi
     let wildcards = s_pmsi(&distinguishers[1], &[], &[], &routers[0]);
     calls.extend([
         TableCall::Install { nlri: &wildcards, attribute: &good[3] },
+        TableCall::Install { nlri: &wildcards, attribute: &good[0] },
         TableCall::Withdraw { nlri: &wildcards },
     ]);
     for router in [&routers[0][..], &routers[1], &[10, 0, 0]] {
@@ -294,10 +296,16 @@ impl<'a> Sequence<'a> {
         if self.routers[occurrence].is_none() {
             harness.coverage.count(Call::Sequence, Seen::Nobody);
         }
-        if let (TableCall::MatchShared { .. }, TableAnswer::Matched(matched, _)) = (self.calls[occurrence], answer) {
-            if matched.number == 0 {
+        match (self.calls[occurrence], answer) {
+            (TableCall::MatchShared { .. }, TableAnswer::Matched(matched, _)) if matched.number == 0 => {
                 harness.coverage.count(Call::Sequence, Seen::SharedTree(self.afi, matched.tier));
             }
+            (TableCall::Install { attribute, .. }, TableAnswer::Installed(installed))
+                if installed.number == 0 && !Second::sound().names_tunnel(attribute) =>
+            {
+                harness.coverage.count(Call::Sequence, Seen::NoTunnel(self.afi));
+            }
+            _ => {}
         }
     }
 

@@ -215,7 +215,7 @@ fn outputs(harness: &mut Harness, random: &mut Random, addresses: &Addresses) ->
     let (routers, groups) = (&addresses.routers, &addresses.groups);
     let attributes = good_attributes();
     let mut routes = Routes::new();
-    for (router, group, size) in [(4, &groups[2][..], 64), (0, &[], 5)] {
+    for (router, group, size) in [(4, &groups[2][..], 64), (0, &[], 9)] {
         let nlri = s_pmsi(&addresses.distinguishers[0], &[], group, &routers[router]);
         let attribute = attributes.iter().find(|attribute| attribute.len() == size).expect("an attribute of that size");
         routes.insert(nlri, attribute.clone());

@@ -12,6 +12,9 @@ use crate::ffi::Matched;
 /// The least output: the longest NLRI of type 3 and the longest attribute.
 pub const OUTPUT: usize = 124;
 
+/// Where the tunnel type stands in an attribute.
+const TUNNEL_TYPE: usize = 1;
+
 /// # Safety
 /// As `mvpn.h` says: each pointer is valid for the length beside it, and the output overlaps nothing.
 #[allow(clippy::too_many_arguments)]
@@ -72,8 +75,9 @@ fn taken_by<'a>(
     Ok(route(1, source, group).or_else(half).or_else(|| route(4, wildcard, wildcard)))
 }
 
-/// The route of this source, group (each may be the wildcard, no octets) and originator with the lowest distinguisher: the
-/// first one, as such routes differ in nothing else and stand in order. Those of one NLRI size stand together.
+/// The route of this source, group (each may be the wildcard, no octets) and originator that names a tunnel, with the lowest
+/// distinguisher: the first one, as such routes differ in nothing else and stand in order. Those of one NLRI size stand
+/// together.
 #[inline(always)]
 pub fn lowest<'a>(taken: &'a [Place], source: &[u8], group: &[u8], originator: &[u8]) -> Option<&'a Place> {
     let size = 12 + source.len() + group.len() + originator.len();
@@ -84,7 +88,8 @@ pub fn lowest<'a>(taken: &'a [Place], source: &[u8], group: &[u8], originator: &
             break;
         }
         let nlri = &place[2..][..size];
-        if nlri.ends_with(ending) && holds(&nlri[10..], source, group, originator) {
+        let names_tunnel = place[2 + size + TUNNEL_TYPE] != 0;
+        if nlri.ends_with(ending) && holds(&nlri[10..], source, group, originator) && names_tunnel {
             return Some(place);
         }
     }

@@ -28,6 +28,8 @@ const ASM: &[u8] = &[239, 1, 1, 1];
 const WILDCARD: &[u8] = &[];
 /// No tunnel.
 const NONE: &[u8] = &[0, 0, 0, 0, 0];
+/// Ingress replication.
+const REPLICATED: &[u8] = &[0, 6, 0, 0, 0, 10, 0, 0, 1];
 
 /// NLRI and attribute of a match that gives none.
 const NO_ROUTE: [Vec<u8>; 2] = [Vec::new(), Vec::new()];
@@ -138,8 +140,8 @@ fn marked_flows() {
     let c = nlri(1, WILDCARD, ASM, ROUTER);
     let d = nlri(1, WILDCARD, WILDCARD, ROUTER);
     let e = nlri(1, WILDCARD, &[232, 9, 9, 9], ROUTER);
-    [&a, &b, &c, &d, &e].into_iter().for_each(|nlri| assert_eq!(table.install(nlri, NONE), (0, NEW)));
-    let route = |nlri: &[u8]| [nlri.to_vec(), NONE.to_vec()];
+    [&a, &b, &c, &d, &e].into_iter().for_each(|nlri| assert_eq!(table.install(nlri, REPLICATED), (0, NEW)));
+    let route = |nlri: &[u8]| [nlri.to_vec(), REPLICATED.to_vec()];
     let asked = |router, source, group| table.matched([router, source, group], 130);
     assert_eq!(asked(ROUTER, SOURCE, SSM), (0, 1, route(&a)), "P1");
     assert_eq!(asked(ROUTER, SOURCE, &[232, 1, 1, 2]), (0, 2, route(&b)), "P2");
@@ -155,10 +157,12 @@ fn the_lowest_distinguisher_of_the_router_asked() {
     let wide = [[0; 12].as_slice(), ROUTER].concat();
     let routes = [(9, ROUTER), (3, ROUTER), (1, &wide), (2, &[10, 0, 0, 2]), (7, ROUTER)];
     for (last, originator) in routes {
-        assert_eq!(table.install(&nlri(last, SOURCE, SSM, originator), &[last, 0, 0, 0, 0]), (0, NEW));
+        assert_eq!(table.install(&nlri(last, SOURCE, SSM, originator), REPLICATED), (0, NEW));
     }
-    let lowest = [nlri(3, SOURCE, SSM, ROUTER), vec![3, 0, 0, 0, 0]];
-    assert_eq!(table.matched([ROUTER, SOURCE, SSM], 124), (0, 1, lowest));
+    let route = |last| [nlri(last, SOURCE, SSM, ROUTER), REPLICATED.to_vec()];
+    assert_eq!(table.matched([ROUTER, SOURCE, SSM], 124), (0, 1, route(3)));
+    assert_eq!(table.install(&nlri(3, SOURCE, SSM, ROUTER), NONE), (0, REPLACED));
+    assert_eq!(table.matched([ROUTER, SOURCE, SSM], 124), (0, 1, route(7)), "W-202");
 }
 
 /// Routes of the size that is looked for, with octets that fit if an address is taken for another field.

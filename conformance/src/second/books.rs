@@ -72,6 +72,10 @@ impl Second {
             }
             return self.refused(call, number);
         }
+        let judge = match self.has(Fault::NO_TUNNEL_IN_BOOKS) {
+            true => Second::with_fault(Fault::NO_TUNNEL_TAKEN),
+            false => *self,
+        };
         match *call {
             TableCall::Install { nlri, attribute } => {
                 let before = book.insert(nlri.to_vec(), attribute.to_vec());
@@ -79,7 +83,7 @@ impl Second {
             }
             TableCall::Withdraw { nlri } => withdrawn(book.remove(nlri).map(drop).ok_or(Number::Absent)),
             TableCall::Match { flow, output } => {
-                self.matched(self.choice(afi, &flow, output.len(), book.iter()), output)
+                self.matched(judge.choice(afi, &flow, output.len(), book.iter()), output)
             }
             TableCall::MatchShared { reception, output } => {
                 self.matched(self.shared_choice(afi, &reception, output.len(), book.iter()), output)

@@ -1,6 +1,8 @@
-//! The route that a customer flow takes (RFC 6625, sections 3.1 and 3.2; document 01, "Which route a flow takes").
+//! The route that a customer flow takes (RFC 6625, sections 3.1 and 3.2; document 01, "Which route a flow takes"; RFC 8556,
+//! section 4.1, and document 02, W-202).
 
 use super::{
+    attribute::Attribute,
     fault::Fault,
     group::Class,
     nlri::Reading,
@@ -61,7 +63,7 @@ impl Second {
         routes: impl Iterator<Item = Route<'a>>,
     ) -> Result<Option<Choice<'a>>, Number> {
         let class = self.flow_class(afi, flow, room)?;
-        let chosen = self.first(afi, routes, |route| self.tier(route, flow, class));
+        let chosen = self.first(afi, routes, Fault::NO_TUNNEL_TAKEN, |route| self.tier(route, flow, class));
         // Only under `SpaceWhenNeeded` has a smaller output come this far.
         match chosen {
             Some(choice) if choice.nlri.len() + choice.attribute.len() > room => Err(Number::Space),
@@ -69,11 +71,13 @@ impl Second {
         }
     }
 
-    /// The first of these routes in the order of their tiers, in a tier the one of the lowest distinguisher.
+    /// The first of these routes that names a tunnel, in the order of their tiers and in a tier of their distinguishers.
+    /// `unnamed` is the fault that takes any.
     pub(super) fn first<'a>(
         &self,
         afi: u16,
         routes: impl Iterator<Item = Route<'a>>,
+        unnamed: Fault,
         tier_of: impl Fn(&Reading) -> Option<u32>,
     ) -> Option<Choice<'a>> {
         let ranked = routes.filter_map(|(nlri, attribute)| {
@@ -81,7 +85,28 @@ impl Second {
             let tier = tier_of(&reading)?;
             Some((self.rank(tier, &reading), Choice { tier, nlri, attribute }))
         });
-        ranked.min_by_key(|(rank, _)| *rank).map(|(_, choice)| choice)
+        let mut ranked: Vec<_> = ranked.collect();
+        ranked.sort_by_key(|(rank, _)| *rank);
+        if self.has(Fault::NO_TUNNEL_HIDES_TIER) {
+            ranked.dedup_by_key(|(_, choice)| choice.tier);
+        }
+        if self.has(Fault::NO_TUNNEL_HIDES_ALL) {
+            ranked.truncate(1);
+        }
+        let takes = |choice: &Choice| self.has(unnamed) || self.names_tunnel(choice.attribute);
+        ranked.into_iter().map(|(_, choice)| choice).find(takes)
+    }
+
+    /// Whether an attribute names a tunnel: one of type 0, "no tunnel information present", does not (RFC 6514, section 5).
+    pub fn names_tunnel(&self, attribute: &[u8]) -> bool {
+        let Ok(Attribute { flags, tunnel_type, label_field, .. }) = self.attribute(attribute) else { return false };
+        if self.has(Fault::NO_TUNNEL_BY_FLAGS) {
+            return flags != 0;
+        }
+        if self.has(Fault::NO_TUNNEL_BY_LABEL) {
+            return label_field >> 4 != 0;
+        }
+        tunnel_type != 0 || self.has(Fault::NO_TUNNEL_ASKS_LEAVES) && flags & 1 == 1
     }
 
     /// The tier in which a route of the router takes the flow.

@@ -114,6 +114,16 @@ faults! {
         DISTINGUISHER_FROM_THE_END: "distinguishers are compared from the last octet",
         DISTINGUISHER_SIGNED: "distinguishers are compared as signed octets",
         OUTPUT_CLEARED: "a match clears the output past its answer",
+        NO_TUNNEL_TAKEN: "a flow may take a route that names no tunnel",
+        NO_TUNNEL_HIDES_TIER: "a tier whose lowest distinguisher names no tunnel is left",
+        NO_TUNNEL_HIDES_ALL: "a match whose first route names no tunnel gives none",
+        NO_TUNNEL_BY_FLAGS: "a route is passed over for flags of 0, whatever its tunnel type",
+        NO_TUNNEL_BY_LABEL: "a route is passed over for label 0, whatever its tunnel type",
+        NO_TUNNEL_ASKS_LEAVES: "a route that names no tunnel is taken where it asks for Leaf A-D routes",
+        NO_TUNNEL_REFUSED: "install refuses an attribute that names no tunnel",
+        NO_TUNNEL_UNSOUND: "a place may not hold an attribute that names no tunnel",
+        NO_TUNNEL_ABSENT: "a withdrawal does not find a route that names no tunnel",
+        NO_TUNNEL_IN_BOOKS: "a book's match may take a route that names no tunnel",
         ONE_BOOK: "all routers share one book",
         BOOK_TAKES_REFUSED: "a refused install enters its router's book",
     }
@@ -158,6 +168,7 @@ faults! {
         ANY_GROUP_FIRST: "(C-*,C-*) is taken though a (C-*,C-G) route stands",
         SHARED_SOURCE_AND_GROUP: "(C-S,C-G) takes a shared tree",
         SHARED_SOURCE_ANY_GROUP: "(C-S,C-*) takes a shared tree",
+        NO_TUNNEL_TAKEN_SHARED: "a shared tree may take a route that names no tunnel",
     }
 }
 

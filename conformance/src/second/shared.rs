@@ -230,7 +230,8 @@ impl Second {
         if !asm || !self.eligible(&arguments) {
             return Ok(None);
         }
-        let chosen = self.first(afi, routes, |route| self.shared_tier(route, reception.group));
+        let tier_of = |route: &Reading| self.shared_tier(route, reception.group);
+        let chosen = self.first(afi, routes, Fault::NO_TUNNEL_TAKEN_SHARED, tier_of);
         // Only under `SPACE_WHERE_MATCHED` has a smaller output come this far.
         match chosen {
             Some(_) if room < LEAST_OUTPUT => Err(Number::Space),

@@ -87,7 +87,7 @@ fn ties() {
     .map(octets);
     let any = octets("030E 0000000000000000 00 00 0A000001");
     for nlri in [&higher, &other_router, &lowest, &any, &wide] {
-        table.routes.insert(nlri.clone(), vec![0, 0, 0, 0, 0]);
+        table.routes.insert(nlri.clone(), octets("00 06 000000 0A000001"));
     }
     let facts = SharedTree { bidirectional: 7, ..Default::default() };
     let mut tier_and_route = |router: &[u8], group: &[u8]| {

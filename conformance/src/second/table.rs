@@ -106,7 +106,8 @@ impl Second {
         let kind = reading.route_type == S_PMSI || self.has(Fault::PLACE_KIND_UNCHECKED);
         let tunnel = self.attribute(attribute).ok();
         let label = tunnel.is_some_and(|tunnel| self.labelled(&tunnel) || self.has(Fault::PLACE_LABEL_UNCHECKED));
-        let accepted = kind && (label || self.has(Fault::PLACE_ATTRIBUTE_UNCHECKED));
+        let unnamed = self.has(Fault::NO_TUNNEL_UNSOUND) && !self.names_tunnel(attribute);
+        let accepted = kind && (label || self.has(Fault::PLACE_ATTRIBUTE_UNCHECKED)) && !unnamed;
         accepted.then(|| (nlri.to_vec(), attribute.to_vec()))
     }
 
@@ -147,6 +148,9 @@ impl Second {
         let tunnel = self.attribute(attribute)?;
         if reading.route_type != S_PMSI {
             return Err(Number::Kind);
+        }
+        if self.has(Fault::NO_TUNNEL_REFUSED) && tunnel.tunnel_type == 0 {
+            return Err(Number::Tunnel);
         }
         match self.labelled(&tunnel) {
             true => Ok(()),

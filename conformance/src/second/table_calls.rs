@@ -190,13 +190,17 @@ impl Second {
             return Err(Number::Absent);
         }
         self.s_pmsi(table.afi, nlri)?;
+        let unnamed = table.routes.get(nlri).is_some_and(|attribute| !self.names_tunnel(attribute));
+        if unnamed && self.has(Fault::NO_TUNNEL_ABSENT) {
+            return Err(Number::Absent);
+        }
         match table.routes.remove(nlri) {
             None if !self.has(Fault::ABSENT_DONE) => Err(Number::Absent),
             _ => Ok(()),
         }
     }
 
-    /// The routes whose originator is the router asked about.
+    /// The routes whose originator is the router asked about, those that name no tunnel among them.
     fn candidates<'a>(&'a self, table: &'a Table, router: &'a [u8]) -> impl Iterator<Item = Route<'a>> {
         table.routes.iter().filter(|(nlri, _)| self.originates(table.afi, nlri, router))
     }

@@ -13,6 +13,7 @@ use crate::{
     cases::{
         damage::DAMAGES,
         document::{route, table_image, FLOWS, LABELS, ORDER, RD},
+        no_tunnel,
         routes::{bad_attributes, good_attributes, picked, Addresses},
         samples::GOOD_AFIS,
         shared::any_facts,
@@ -192,4 +193,25 @@ fn routers_of_calls() {
     let asked = |router| TableCall::Match { flow: Flow { router, source: &[], group: &[] }, output: &[] };
     assert_eq!(router(asked(&[10, 0, 0, 2])), Some(vec![10, 0, 0, 2]));
     assert_eq!(router(asked(&[10, 0, 0, 2, 0])), None);
+}
+
+/// Document 02, W-202: a route that names no tunnel is passed over, is held, and is withdrawn.
+#[test]
+fn no_tunnel() {
+    let second = Second::sound();
+    for (shows, held, source, group, tier, name) in no_tunnel::FLOWS {
+        let mut table = second.table(&no_tunnel::table_of(held)).expect("a sound table");
+        let got = no_tunnel::ask_flow(source, group, |call| second.on_table(&mut table, call));
+        assert_eq!(got, no_tunnel::answer(tier, name), "{shows}");
+    }
+    for (shows, held, tier, name) in no_tunnel::SHARED_TREES {
+        let mut table = second.table(&no_tunnel::table_of(held)).expect("a sound table");
+        let got = no_tunnel::ask_shared_tree(|call| second.on_table(&mut table, call));
+        assert_eq!(got, no_tunnel::answer(tier, name), "{shows}");
+    }
+    let (nlri, _) = route("A");
+    let mut table = Table::new(1, 1);
+    let install = TableCall::Install { nlri: &nlri, attribute: &[1, 0, 0, 0, 0] };
+    assert_eq!([0; 2].map(|_| second.on_table(&mut table, &install)), [installed(0, 1), installed(0, 2)]);
+    assert_eq!(second.on_table(&mut table, &TableCall::Withdraw { nlri: &nlri }), TableAnswer::Withdrawn(0));
 }

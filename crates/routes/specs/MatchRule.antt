@@ -3,7 +3,7 @@
 use Prim.Native.Nat.{ℕ, _+_, _≤_, _<_}
 use mathlib.Core.Path.{_≡_}
 use mathlib.Core.Bool.{true, false}
-use mathlib.Core.List.{List, []}
+use mathlib.Core.List.{List, [], _∷_, _++_}
 use mathlib.Core.Logic.{_↔_, _≢_}
 use lib.ListN.{length, getD}
 use Rattle.octets.specs.Numbers.{DONE, TABLE}
@@ -13,6 +13,7 @@ use Rattle.octets.specs.Order.{before}
 use Rattle.octets.specs.Lists.{Among}
 use Rattle.nlri.specs.Fields.{Fields}
 use Rattle.nlri.specs.Statements.{SourceSpecific}
+use Rattle.tunnel.specs.Attribute.{AttributeFields, readAttribute}
 use Rattle.routes.specs.declared.Matched.{Matched}
 use Rattle.routes.specs.Route.{Route, nlriOf, attributeOf, Distinct}
 use Rattle.routes.specs.Query.{Query, Flow}
@@ -31,12 +32,23 @@ pub data InTier (afi : ℕ) (flow : Flow) : (tier : ℕ) → Fields → Type 0 w
   groupEqual : {f : Fields} → f .source ≡ [] → f .group ≡ flow .group → (SourceSpecific afi (flow .group) → ⊥) → InTier afi flow 3 f
   bothWildcard : {f : Fields} → f .source ≡ [] → f .group ≡ [] → InTier afi flow 4 f
 
+-- an attribute that names a tunnel: attribute reading accepts it, and its tunnel type is not 0, "no tunnel information"
+pub record NamesTunnel (attribute : List ℕ) : Type 0 where
+  pub fields : AttributeFields
+  pub read : readAttribute attribute ≡ given fields
+  pub some : fields .tunnelType ≢ 0
+
+-- a candidate: a route of the router asked whose attribute names a tunnel
+pub record Candidate (afi : ℕ) (router : List ℕ) (r : Route) : Type 0 where
+  pub own : SPmsiOf afi router (nlriOf r)
+  pub tunnel : NamesTunnel (attributeOf r)
+
 -- what a match of any kind takes, by the router asked and the conditions of the tiers
 module _ (afi : ℕ) (router : List ℕ) (In : (tier : ℕ) → Fields → Type 0) where
-  -- a candidate, that is a route of the router asked, that meets the condition of a tier
+  -- a candidate that meets the condition of a tier
   pub record Eligible (tier : ℕ) (r : Route) : Type 0 where
-    pub candidate : SPmsiOf afi router (nlriOf r)
-    pub met : In tier (candidate .named .fields)
+    pub candidate : Candidate afi router r
+    pub met : In tier (candidate .own .named .fields)
 
   -- the route that is taken of some routes, with its tier
   pub record Taken (rs : List Route) (tier : ℕ) (r : Route) : Type 0 where
@@ -45,9 +57,9 @@ module _ (afi : ℕ) (router : List ℕ) (In : (tier : ℕ) → Fields → Type 
     -- no candidate meets the condition of a lower tier
     pub lowest : (other : ℕ) (u : Route) → other < tier → Among u rs → Eligible other u → ⊥
     -- none of its tier has a lower route distinguisher, compared as eight octets
-    pub first : (u : Route) → Among u rs → (e : Eligible tier u) → before (e .candidate .named .fields .distinguisher) (eligible .candidate .named .fields .distinguisher) ≡ false
+    pub first : (u : Route) → Among u rs → (e : Eligible tier u) → before (e .candidate .own .named .fields .distinguisher) (eligible .candidate .own .named .fields .distinguisher) ≡ false
     -- it is the only route of that tier and route distinguisher
-    pub only : (u : Route) → Among u rs → (e : Eligible tier u) → e .candidate .named .fields .distinguisher ≡ eligible .candidate .named .fields .distinguisher → u ≡ r
+    pub only : (u : Route) → Among u rs → (e : Eligible tier u) → e .candidate .own .named .fields .distinguisher ≡ eligible .candidate .own .named .fields .distinguisher → u ≡ r
 
   -- no candidate meets the condition of any tier
   abbrev pub NoneTaken : List Route → Type 0
@@ -93,6 +105,8 @@ pub record TableMatch (asked : Asked) (router : List ℕ) (Good : (afi : ℕ) �
 
 -- the match for a flow: what it chooses, and what it answers
 pub record MatchRule : Type 0 where
+  -- a route that names no tunnel is ignored (RFC 8556, section 4.1), whatever a match of any kind asks and wherever the route stands
+  pub ignored : (afi : ℕ) (q : Query) (earlier later : List Route) (r : Route) → (NamesTunnel (attributeOf r) → ⊥) → matchIn afi q (earlier ++ (r ∷ later)) ≡ matchIn afi q (earlier ++ later)
   -- over any routes with no NLRI twice, in any order
   pub chosen : (afi : ℕ) (flow : Flow) (q : Query) (rs : List Route) → readFlow afi flow ≡ given q → Distinct rs
       → (tier : ℕ) (r : Route) → (matchIn afi q rs ≡ found tier r) ↔ Taken afi (flow .router) (InTier afi flow) rs tier r

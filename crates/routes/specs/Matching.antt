@@ -1,12 +1,14 @@
 -- Which route a match takes (document 01, "Which route a flow takes"), over any list of routes, whatever their order.
 use Prim.Native.Nat.{ℕ, suc}
-use mathlib.Core.Bool.{Bool, false}
+use mathlib.Core.Bool.{Bool, false, not}
 use mathlib.Core.List.{List, [], _∷_}
+use lib.Dec.{eqb}
 use Rattle.octets.specs.Choice.{pick, both}
 use Rattle.octets.specs.Outcome.{onOutcome}
 use Rattle.octets.specs.Order.{same, before}
 use Rattle.nlri.specs.Fields.{Fields}
-use Rattle.routes.specs.Route.{Route, nlriOf}
+use Rattle.tunnel.specs.Attribute.{readAttribute}
+use Rattle.routes.specs.Route.{Route, nlriOf, attributeOf}
 use Rattle.routes.specs.Query.{Wanted, meets, Query}
 use Rattle.routes.specs.Arguments.{readSPmsi}
 
@@ -14,9 +16,13 @@ use Rattle.routes.specs.Arguments.{readSPmsi}
 unfoldable pub ofFields : ℕ → Route → (Fields → Bool) → Bool
 ofFields afi r test = onOutcome (λ number. false) test (readSPmsi afi (nlriOf r))
 
--- a candidate: its originator equals the router asked about, in size and octets
+-- its attribute names a tunnel: the tunnel type is not 0, "no tunnel information"
+unfoldable pub namesTunnel : Route → Bool
+namesTunnel r = onOutcome (λ number. false) (λ f. not (eqb (f .tunnelType) 0)) (readAttribute (attributeOf r))
+
+-- a candidate: its originator equals the router asked about, in size and octets, and it names a tunnel (RFC 8556, section 4.1; request W-202)
 unfoldable pub candidate : ℕ → (router : List ℕ) → Route → Bool
-candidate afi router r = ofFields afi r (λ f. same (f .originator) router)
+candidate afi router r = both (ofFields afi r (λ f. same (f .originator) router)) (namesTunnel r)
 
 -- a candidate of a tier
 unfoldable pub eligible : ℕ → (router : List ℕ) → Wanted → Route → Bool

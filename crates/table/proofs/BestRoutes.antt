@@ -1,7 +1,7 @@
 -- The best place that the scan finds holds the route that the match's rule takes.
 use Prim.Native.Nat.{ℕ, zero, suc, _+_, _*_, _≤_, _<_}
 use mathlib.Core.Path.{_≡_, refl, sym, _∙_, ap, ap₂, subst}
-use mathlib.Core.Bool.{Bool, true, false}
+use mathlib.Core.Bool.{Bool, true, false, not}
 use mathlib.Core.List.{List, []}
 use native.Mathlib.Omega.{arith}
 use borrow.Author.Tests.{ne-eqb, eqb-true, eqb-false}
@@ -12,12 +12,12 @@ use Rattle.octets.specs.Choice.{pick, both, either}
 use Rattle.octets.specs.Outcome.{given}
 use Rattle.octets.specs.Octets.{part}
 use Rattle.octets.specs.Order.{before}
-use Rattle.octets.proofs.Choice.{pick-true, pick-false, pick-cong, tested}
+use Rattle.octets.proofs.Choice.{pick-true, pick-false, pick-cong, pick-case, tested}
 use Rattle.routes.specs.Route.{Route}
 use Rattle.routes.specs.Query.{Query, Flow}
 use Rattle.routes.specs.Place.{routeIn}
 use Rattle.routes.specs.Table.{afiIn, countIn, routesFrom, routesOf, soundOf}
-use Rattle.routes.specs.Matching.{distinguisherOf, Found, nothing, found, matchIn}
+use Rattle.routes.specs.Matching.{namesTunnel, distinguisherOf, Found, nothing, found, matchIn}
 use Rattle.routes.specs.declared.Matched.{Matched}
 use Rattle.routes.specs.Answers.{matchedBy}
 use Rattle.routes.specs.OnePass.{tierOf, ahead, against, better, scanned}
@@ -59,7 +59,7 @@ module _ (afi : ℕ) (flow : Flow) (tiers : Tiers) (source : 0 < length (flow .s
   abbrev q : Query
   q = openQuery flow tiers
 
-  tier-here : (at : ℕ) → Taken afi t at → tierAt flow tiers (nlriAt t at) ≡ tierOf afi q (routeFrom t at)
+  tier-here : (at : ℕ) → Taken afi t at → pick (namesTunnel (routeFrom t at)) (tierAt flow tiers (nlriAt t at)) 0 ≡ tierOf afi q (routeFrom t at)
   unfolding nlriAt routeFrom
   tier-here at taken = let a = route-accepted afi t at taken in tier-stands afi (routeIn (part t at 128)) (a .fields) (a .read) flow tiers source group
 
@@ -90,11 +90,22 @@ module _ (afi : ℕ) (flow : Flow) (tiers : Tiers) (source : 0 < length (flow .s
       ap₂ (λ (b : Bool) (f : Found). pick b (found tier (routeFrom t at)) f) (ahead-here tier at best new (old there) there) one
       ∙ sym (ap (against afi tier (routeFrom t at)) one))
 
+  tunnelled-here : (tier at : ℕ) (best : Best) → Taken afi t at → Kept (Taken afi t) best
+      → bestIn t (pick (eqb tier 0) best (pick (aheadAt t tier at best) (record { tier = tier; start = at }) best)) ≡ better afi tier (routeFrom t at) (bestIn t best)
+  unfolding better
+  tunnelled-here tier at best new old = best-picked t _ _ _ ∙ pick-cong _ _ _ _ _ (λ h. refl) (λ h. against-here tier at best new old (eqb-false _ _ h))
+
+  -- and by whether it names a tunnel
+  named-here : (tier at : ℕ) (best : Best) (named : Bool) → Taken afi t at → Kept (Taken afi t) best
+      → bestIn t (pick (eqb tier 0) best (pick (not named) best (pick (aheadAt t tier at best) (record { tier = tier; start = at }) best))) ≡ better afi (pick named tier 0) (routeFrom t at) (bestIn t best)
+  unfolding better pick
+  named-here tier at best true new old = tunnelled-here tier at best new old
+  named-here tier at best false new old = pick-case (λ (b : Best). bestIn t b ≡ bestIn t best) (eqb tier 0) best best (λ h. refl) (λ h. refl)
+
   better-here : (at : ℕ) (best : Best) → Taken afi t at → Kept (Taken afi t) best
       → bestIn t (betterAt flow tiers t best at) ≡ better afi (tierOf afi q (routeFrom t at)) (routeFrom t at) (bestIn t best)
-  unfolding betterAt better
-  better-here at best new old =
-      rw (← tier-here at new) (best-picked t _ _ _ ∙ pick-cong _ _ _ _ _ (λ h. refl) (λ h. against-here (tierAt flow tiers (nlriAt t at)) at best new old (eqb-false _ _ h)))
+  unfolding betterAt routeFrom
+  better-here at best new old = rw (← tier-here at new) (named-here (tierAt flow tiers (nlriAt t at)) at best _ new old)
 
   scan-here : (count at : ℕ) (best : Best) → ((k : ℕ) → k < count → Taken afi t (at + 128 * k)) → Kept (Taken afi t) best
       → (bestIn t (scanAt flow tiers t count at best) ≡ scanned afi q (bestIn t best) (routesFrom count (drop at t)))

@@ -1,19 +1,23 @@
 -- The scan over a table's places: its functions' branches and its loop.
 use Prim.Native.Nat.{ℕ, zero, suc, _+_, _*_, _-_, _≤_, _<_}
 use mathlib.Core.Path.{_≡_, refl, sym, _∙_, ap, ap₂, subst}
-use mathlib.Core.Bool.{Bool, true, false}
+use mathlib.Core.Bool.{Bool, true, false, not}
 use mathlib.Core.List.{List}
 use native.Mathlib.Omega.{arith}
 use borrow.Author.Tests.{eq-eqb, ne-eqb}
-use lib.ListN.{length}
+use lib.Dec.{eqb}
+use lib.ListN.{length, getD}
 use Rattle.octets.specs.Choice.{pick}
 use Rattle.octets.specs.Octets.{part}
 use Rattle.octets.specs.Order.{before}
 use Rattle.octets.proofs.Lists.{length-part}
-use Rattle.octets.proofs.Choice.{picks, skips, pick-true, pick-false}
+use Rattle.octets.proofs.Choice.{picks, skips, pick-true, pick-false, not-is}
+use Rattle.tunnel.specs.Attribute.{fieldsIn}
+use Rattle.routes.specs.Route.{attributeOf}
 use Rattle.routes.specs.Place.{endIn, routeIn}
 use Rattle.octets.specs.Outcome.{given, onOutcome}
-use Rattle.routes.specs.Matching.{nothing, found}
+use Rattle.routes.specs.Matching.{namesTunnel, nothing, found}
+use Rattle.routes.proofs.Definitions.Conditions.{tunnel-of}
 use Rattle.routes.specs.declared.Matched.{Matched}
 use Rattle.routes.specs.Answers.{emptyMatch, foundAnswer, foundOutput, matchedBy}
 use Rattle.table.specs.Changing.{Leaves}
@@ -21,10 +25,23 @@ use Rattle.routes.specs.Query.{Flow}
 use Rattle.table.specs.declared.scan.Best.{Best}
 use Rattle.table.specs.declared.tier.Tiers.{Tiers}
 use Rattle.table.specs.Scanning.{standing, tierAt, nlriAt, Readable, aheadAt, betterAt, scanAt, noneYet, bestIn, RouteFits, Answerable}
+use Rattle.table.proofs.RouteWrites.{attribute-least}
 
 -- what a place's functions need of a place cut out of the table
 pub place-ends : (t place : List ℕ) (at : ℕ) → Readable t at → place ≡ part t at 128 → endIn place ≤ length place
 place-ends t place at r e = rw e (let ends = r .ends in omega (arith, length-part t at 128 (r .within)))
+
+-- the attribute of a place's route: its tunnel type stands within it, and says whether the route names a tunnel
+module _ (t place attribute : List ℕ) (at : ℕ) (r : Readable t at) (cut : place ≡ part t at 128) (is : attribute ≡ attributeOf (routeIn place)) where
+  in-place : attribute ≡ attributeOf (routeIn (part t at 128))
+  in-place = is ∙ ap (λ (s : List ℕ). attributeOf (routeIn s)) cut
+
+  pub type-within : 1 < length attribute
+  type-within = let least = attribute-least _ _ (r .read) in omega (arith, ap length in-place)
+
+  pub names-by-type : not (eqb (getD attribute 1 0) 0) ≡ namesTunnel (routeIn (part t at 128))
+  unfolding fieldsIn
+  names-by-type = ap (λ (s : List ℕ). not (eqb (getD s 1 0) 0)) in-place ∙ sym (tunnel-of (routeIn (part t at 128)) _ (r .read))
 
 -- route distinguishers of two places, compared
 pub lower-is : (t : List ℕ) (at other : ℕ) (flag : Bool) (n m x y : List ℕ) → n ≡ nlriAt t at → m ≡ nlriAt t other → x ≡ standing n .distinguisher → y ≡ standing m .distinguisher
@@ -36,11 +53,12 @@ lower-is t at other flag n m x y p q d e f =
 abbrev pub Kept : (ℕ → Type 0) → Best → Type 0
 Kept P best = (best .tier ≡ 0 → ⊥) → P (best .start)
 
-picked-one : (P : ℕ → Type 0) (none ahead : Bool) (best new : Best) → Kept P best → Kept P new → Kept P (pick none best (pick ahead new best))
+picked-one : (P : ℕ → Type 0) (none over ahead : Bool) (best new : Best) → Kept P best → Kept P new → Kept P (pick none best (pick over best (pick ahead new best)))
 unfolding pick
-picked-one P true ahead best new old fresh = old
-picked-one P false true best new old fresh = fresh
-picked-one P false false best new old fresh = old
+picked-one P true over ahead best new old fresh = old
+picked-one P false true ahead best new old fresh = old
+picked-one P false false true best new old fresh = fresh
+picked-one P false false false best new old fresh = old
 
 module _ (flow : Flow) (tiers : Tiers) (t : List ℕ) where
   -- the branches of one step
@@ -52,21 +70,29 @@ module _ (flow : Flow) (tiers : Tiers) (t : List ℕ) where
     unfolding betterAt
     no-tier e = picks _ _ _ _ (eq-eqb _ _ (sym here ∙ e)) refl
 
-    pub goes-ahead : (flag : Bool) → (tier ≡ 0 → ⊥) → flag ≡ aheadAt t tier at best → flag ≡ true → record { tier = tier; start = at } ≡ betterAt flow tiers t best at
-    unfolding betterAt
-    goes-ahead flag some f holds =
-        skips _ _ _ _ (ne-eqb _ _ (λ e. some (here ∙ e)))
-        (picks _ _ _ _ (ap (λ (k : ℕ). aheadAt t k at best) (sym here) ∙ sym f ∙ holds) (ap (λ (k : ℕ). record { tier = k; start = at }) here))
+    -- where the route has a tier
+    module _ (some : tier ≡ 0 → ⊥) (named : Bool) (names : named ≡ namesTunnel (routeIn (part t at 128))) where
+      pub no-tunnel : not named ≡ true → best ≡ betterAt flow tiers t best at
+      unfolding betterAt
+      no-tunnel over = skips _ _ _ _ (ne-eqb _ _ (λ e. some (here ∙ e))) (picks _ _ _ _ (sym (not-is _ _ names) ∙ over) refl)
 
-    pub stays-behind : (flag : Bool) → (tier ≡ 0 → ⊥) → flag ≡ aheadAt t tier at best → flag ≡ false → best ≡ betterAt flow tiers t best at
-    unfolding betterAt
-    stays-behind flag some f fails =
-        skips _ _ _ _ (ne-eqb _ _ (λ e. some (here ∙ e))) (skips _ _ _ _ (ap (λ (k : ℕ). aheadAt t k at best) (sym here) ∙ sym f ∙ fails) refl)
+      pub goes-ahead : (flag : Bool) → not named ≡ false → flag ≡ aheadAt t tier at best → flag ≡ true → record { tier = tier; start = at } ≡ betterAt flow tiers t best at
+      unfolding betterAt
+      goes-ahead flag on f holds =
+          skips _ _ _ _ (ne-eqb _ _ (λ e. some (here ∙ e)))
+          (skips _ _ _ _ (sym (not-is _ _ names) ∙ on)
+          (picks _ _ _ _ (ap (λ (k : ℕ). aheadAt t k at best) (sym here) ∙ sym f ∙ holds) (ap (λ (k : ℕ). record { tier = k; start = at }) here)))
+
+      pub stays-behind : (flag : Bool) → not named ≡ false → flag ≡ aheadAt t tier at best → flag ≡ false → best ≡ betterAt flow tiers t best at
+      unfolding betterAt
+      stays-behind flag on f fails =
+          skips _ _ _ _ (ne-eqb _ _ (λ e. some (here ∙ e)))
+          (skips _ _ _ _ (sym (not-is _ _ names) ∙ on) (skips _ _ _ _ (ap (λ (k : ℕ). aheadAt t k at best) (sym here) ∙ sym f ∙ fails) refl))
 
   -- what is the best after a step was the best before, or stands at the step's place
   pub better-one : (P : ℕ → Type 0) (best : Best) (at : ℕ) → Kept P best → P at → Kept P (betterAt flow tiers t best at)
   unfolding betterAt
-  better-one P best at old new = picked-one P _ _ best _ old (λ h. new)
+  better-one P best at old new = picked-one P _ _ _ best _ old (λ h. new)
 
   -- so many places less to go
   scan-step : (left at : ℕ) (best : Best) → 0 < left → scanAt flow tiers t left at best ≡ scanAt flow tiers t (left - 1) (at + 128) (betterAt flow tiers t best at)

@@ -44,10 +44,13 @@ module _ (afi : ℕ) (t : List ℕ) (at : ℕ) (taken : Taken afi t at) where
   pub route-accepted : Accepted afi (nlriOf (routeIn (part t at 128))) (attributeOf (routeIn (part t at 128)))
   route-accepted = accepted afi (routeIn (part t at 128)) (sound-acceptable afi (part t at 128) (taken .sound))
 
+  attribute-read : readAttribute (attributeOf (routeIn (part t at 128))) ≡ given (fieldsIn (attributeOf (routeIn (part t at 128))))
+  attribute-read = labelled-read _ (route-accepted .attributeFields) (route-accepted .labelled)
+
   -- so its octets can be read where they stand
   pub taken-readable : Readable t at
   unfolding nlriAt
-  taken-readable = record { within = taken .within; ends = place-end; bounded = fields-bounded afi _ (route-accepted .fields) (route-accepted .read) }
+  taken-readable = record { within = taken .within; ends = place-end; bounded = fields-bounded afi _ (route-accepted .fields) (route-accepted .read); read = attribute-read }
 
   -- and its route can be written
   pub taken-writable : (output : List ℕ) → 124 ≤ length output → RouteFits (part t at 128) output
@@ -55,7 +58,7 @@ module _ (afi : ℕ) (t : List ℕ) (at : ℕ) (taken : Taken afi t at) where
       let sizes = sizes-of afi (routeIn (part t at 128)) (sound-acceptable afi (part t at 128) (taken .sound)) in
       record {
         within = rw (length-part t at 128 (taken .within)) place-end;
-        read = labelled-read _ (route-accepted .attributeFields) (route-accepted .labelled);
+        read = attribute-read;
         most = omega arith;
         room = room;
       }

@@ -17,7 +17,7 @@ use Rattle.nlri.specs.Fields.{Fields}
 use Rattle.routes.specs.Route.{Route, nlriOf}
 use Rattle.routes.specs.Query.{Wanted, noRoute, meets, Flow}
 use Rattle.routes.specs.Arguments.{readSPmsi}
-use Rattle.routes.specs.Matching.{candidate, eligible, distinguisherOf}
+use Rattle.routes.specs.Matching.{namesTunnel, candidate, eligible, distinguisherOf}
 use Rattle.routes.specs.OnePass.{tierFrom, tierOf}
 use Rattle.routes.proofs.Definitions.Conditions.{fields-of, distinguisher-is}
 use Rattle.table.proofs.FieldStarts.{fields-stand}
@@ -91,19 +91,27 @@ other-router flow tiers nlri fails = skips _ _ _ _ fails refl
 
 -- a route of the router asked about, and one of another
 module _ (flow : Flow) (tiers : Tiers) (nlri originator : List ℕ) (flag : Bool) (stands : originator ≡ standing nlri .originator) (is : flag ≡ same originator (flow .router)) where
-  pub candidate-tier : (tier : ℕ) → flag ≡ true → tier ≡ flowTier (flow .source) (flow .group) tiers (standing nlri) → tier ≡ tierAt flow tiers nlri
+  pub own-tier : (tier : ℕ) → flag ≡ true → tier ≡ flowTier (flow .source) (flow .group) tiers (standing nlri) → tier ≡ tierAt flow tiers nlri
   unfolding tierAt
-  candidate-tier tier holds e = picks _ _ _ _ (ap (λ (x : List ℕ). same x (flow .router)) (sym stands) ∙ sym is ∙ holds) e
+  own-tier tier holds e = picks _ _ _ _ (ap (λ (x : List ℕ). same x (flow .router)) (sym stands) ∙ sym is ∙ holds) e
 
   pub other-tier : flag ≡ false → 0 ≡ tierAt flow tiers nlri
   other-tier fails = other-router flow tiers nlri (ap (λ (x : List ℕ). same x (flow .router)) (sym stands) ∙ sym is ∙ fails)
 
--- the tiers in order, by the tests of router, source and group (same, wildcard), and which of them are open
-in-order : (own sameSource wildSource sameGroup wildGroup : Bool) (tiers : Tiers) → (wildSource ≡ true → sameSource ≡ false) → (wildGroup ≡ true → sameGroup ≡ false)
-    → _≡_ {A = ℕ} (pick own (pick wildSource (pick wildGroup (pick (tiers .any) 4 0) (pick sameGroup (pick (tiers .«any_source») 3 0) 0))
+-- a tier behind two tests
+one-test : (second first : Bool) (tier : ℕ) → pick second (pick first tier 0) 0 ≡ pick (both first second) tier 0
+unfolding pick both
+one-test true true tier = refl
+one-test true false tier = refl
+one-test false true tier = refl
+one-test false false tier = refl
+
+-- the tiers in order, by the tests of a candidate, source and group (same, wildcard), and which of them are open
+in-order : (candidate sameSource wildSource sameGroup wildGroup : Bool) (tiers : Tiers) → (wildSource ≡ true → sameSource ≡ false) → (wildGroup ≡ true → sameGroup ≡ false)
+    → _≡_ {A = ℕ} (pick candidate (pick wildSource (pick wildGroup (pick (tiers .any) 4 0) (pick sameGroup (pick (tiers .«any_source») 3 0) 0))
     (pick sameSource (pick sameGroup (pick (tiers .exact) 1 0) (pick wildGroup (pick (tiers .«any_group») 2 0) 0)) 0)) 0)
-    (pick (both own (both (both sameSource sameGroup) (tiers .exact))) 1 (pick (both own (both (both sameSource wildGroup) (tiers .«any_group»))) 2
-    (pick (both own (both (both wildSource sameGroup) (tiers .«any_source»))) 3 (pick (both own (both (both wildSource wildGroup) (tiers .any))) 4 0))))
+    (pick (both candidate (both (both sameSource sameGroup) (tiers .exact))) 1 (pick (both candidate (both (both sameSource wildGroup) (tiers .«any_group»))) 2
+    (pick (both candidate (both (both wildSource sameGroup) (tiers .«any_source»))) 3 (pick (both candidate (both (both wildSource wildGroup) (tiers .any))) 4 0))))
 unfolding pick both
 in-order false s w g v tiers p q = refl
 in-order true true true g v tiers p q = absurd (opposite {b = true} refl (p refl))
@@ -146,16 +154,17 @@ module _ (afi : ℕ) (r : Route) (f : Fields) (read : readSPmsi afi (nlriOf r) �
   pub distinguisher-stands : distinguisherOf afi r ≡ standing (nlriOf r) .distinguisher
   distinguisher-stands = distinguisher-is afi r f read ∙ ap (λ (x : Fields). x .distinguisher) (fields-stand afi (nlriOf r) f read)
 
-  eligible-open : (router : List ℕ) (b : Bool) (w : Wanted) → eligible afi router (pick b w noRoute) r ≡ both (same (f .originator) router) (both (meets w f) b)
+  eligible-open : (router : List ℕ) (b : Bool) (w : Wanted) → eligible afi router (pick b w noRoute) r ≡ both (both (same (f .originator) router) (namesTunnel r)) (both (meets w f) b)
   unfolding eligible candidate
-  eligible-open router b w = ap₂ both (fields-of afi r _ f read) (fields-of afi r _ f read ∙ meets-open f b w)
+  eligible-open router b w = ap₂ both (ap (λ (own : Bool). both own (namesTunnel r)) (fields-of afi r _ f read)) (fields-of afi r _ f read ∙ meets-open f b w)
 
-  -- the tier by the octets is the first of which the route is a candidate
-  pub tier-stands : (flow : Flow) (tiers : Tiers) → 0 < length (flow .source) → 0 < length (flow .group) → tierAt flow tiers (nlriOf r) ≡ tierOf afi (openQuery flow tiers) r
+  -- the tier by the octets, where the route names a tunnel, is the first of which it is a candidate
+  pub tier-stands : (flow : Flow) (tiers : Tiers) → 0 < length (flow .source) → 0 < length (flow .group) → pick (namesTunnel r) (tierAt flow tiers (nlriOf r)) 0 ≡ tierOf afi (openQuery flow tiers) r
   unfolding tierAt flowTier sourceTier anySourceTier tierFrom openQuery meets
   tier-stands flow tiers hs hg =
       let router : List ℕ = flow .router in
-      ap (λ (x : Fields). pick (same (x .originator) router) (flowTier (flow .source) (flow .group) tiers x) 0) (sym (fields-stand afi (nlriOf r) f read))
+      ap (λ (x : Fields). pick (namesTunnel r) (pick (same (x .originator) router) (flowTier (flow .source) (flow .group) tiers x) 0) 0) (sym (fields-stand afi (nlriOf r) f read))
+      ∙ one-test (namesTunnel r) (same (f .originator) router) _
       ∙ rw (eligible-open router (tiers .exact), eligible-open router (tiers .«any_group»), eligible-open router (tiers .«any_source»), eligible-open router (tiers .any), wild-same (f .source), wild-same (f .group))
-      (in-order (same (f .originator) router) (same (f .source) (flow .source)) (wildcard (f .source)) (same (f .group) (flow .group)) (wildcard (f .group)) tiers
+      (in-order (both (same (f .originator) router) (namesTunnel r)) (same (f .source) (flow .source)) (wildcard (f .source)) (same (f .group) (flow .group)) (wildcard (f .group)) tiers
       (wild-other (f .source) (flow .source) hs) (wild-other (f .group) (flow .group) hg))

@@ -1,7 +1,7 @@
 -- Definitions that mirror the functions of the scan; laws tie them to those of `routes`.
 use Prim.Native.Nat.{ℕ, zero, suc, _+_, _/_, _≤_}
 use mathlib.Core.Path.{_≡_}
-use mathlib.Core.Bool.{Bool, true, false}
+use mathlib.Core.Bool.{Bool, true, false, not}
 use mathlib.Core.List.{List, [], _∷_}
 use lib.Dec.{ltb, eqb}
 use lib.ListN.{length, getD, drop}
@@ -17,7 +17,7 @@ use Rattle.tunnel.specs.Attribute.{fieldsIn, readAttribute}
 use Rattle.routes.specs.Route.{nlriOf, attributeOf}
 use Rattle.routes.specs.Query.{noRoute, these, Query, Flow}
 use Rattle.routes.specs.Place.{PLACE, endIn, routeIn}
-use Rattle.routes.specs.Matching.{Found, nothing, found}
+use Rattle.routes.specs.Matching.{namesTunnel, Found, nothing, found}
 use Rattle.table.specs.declared.scan.Best.{Best}
 use Rattle.table.specs.declared.tier.Tiers.{Tiers}
 
@@ -107,11 +107,12 @@ pub record RouteFits (place output : List ℕ) : Type 0 where
 unfoldable pub nlriAt : (table : List ℕ) (at : ℕ) → List ℕ
 nlriAt t at = nlriOf (routeIn (part t at PLACE))
 
--- a place starts there, and the fields of its NLRI stand within it
+-- a place starts there, the fields of its NLRI stand within it, and its attribute reads
 pub record Readable (t : List ℕ) (at : ℕ) : Type 0 where
   pub within : at + PLACE ≤ length t
   pub ends : endIn (part t at PLACE) ≤ PLACE
   pub bounded : Bounded (nlriAt t at)
+  pub read : readAttribute (attributeOf (routeIn (part t at PLACE))) ≡ given (fieldsIn (attributeOf (routeIn (part t at PLACE))))
 
 -- a route of a tier goes ahead of the best so far
 unfoldable pub aheadAt : (table : List ℕ) (tier at : ℕ) → Best → Bool
@@ -121,11 +122,12 @@ aheadAt t tier at best =
     (pick (eqb tier (best .tier)) (before (standing (nlriAt t at) .distinguisher) (standing (nlriAt t (best .start)) .distinguisher)) false))
 
 module _ (flow : Flow) (tiers : Tiers) (t : List ℕ) where
-  -- the best so far with the route at one more place
+  -- the best so far with the route at one more place, which is passed over where it is of no tier or names no tunnel
   unfoldable pub betterAt : Best → (at : ℕ) → Best
   betterAt best at =
       pick (eqb (tierAt flow tiers (nlriAt t at)) 0) best
-      (pick (aheadAt t (tierAt flow tiers (nlriAt t at)) at best) (record { tier = tierAt flow tiers (nlriAt t at); start = at }) best)
+      (pick (not (namesTunnel (routeIn (part t at PLACE)))) best
+      (pick (aheadAt t (tierAt flow tiers (nlriAt t at)) at best) (record { tier = tierAt flow tiers (nlriAt t at); start = at }) best))
 
   -- with the routes at so many places more
   unfoldable pub scanAt : ℕ → (at : ℕ) → Best → Best

@@ -21,7 +21,7 @@ use octets::number::DONE;
 use routes::Matched;
 
 // The attribute in a place.
-fn attribute_in(place: &[u8]) -> &[u8]
+pub(crate) fn attribute_in(place: &[u8]) -> &[u8]
     requires { ⌜ endIn (now place) ≤ length (now place) ⌝ }
     ensures { λ r. ⌜ now r ≡ attributeOf (routeIn (now (place .entry))) ⌝ }
 {

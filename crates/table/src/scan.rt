@@ -2,9 +2,13 @@
 ghost use mathlib.Core.Path.{_≡_};
 ghost use Prim.Native.Nat.{ℕ, _+_, _*_, _≤_, _<_};
 ghost use lib.ListN.{length};
+ghost use Rattle.octets.specs.Octets.{part};
 ghost use Rattle.octets.specs.Order.{before};
 ghost use Rattle.routes.specs.Query.{flowOf};
+ghost use Rattle.routes.specs.Place.{routeIn};
+ghost use Rattle.routes.specs.Matching.{namesTunnel};
 ghost use Rattle.table.specs.Scanning.{standing, nlriAt, Readable, aheadAt, betterAt, scanAt, noneYet};
+use crate::answer;
 use crate::find;
 use crate::geometry::HEADER;
 use crate::geometry::PLACE;
@@ -12,6 +16,7 @@ use crate::tier;
 use crate::tier::Tiers;
 use octets::order;
 use octets::parts;
+use tunnel::TunnelType;
 
 // The best route so far: its tier, and where its place starts. Tier 0 is no route.
 pub(crate) struct Best {
@@ -25,6 +30,15 @@ fn nlri_from(table: &[u8], at: usize) -> &[u8]
     ensures { λ r. ⌜ now r ≡ nlriAt (now (table .entry)) at ⌝ }
 {
     find::nlri_in(parts::between(table, at, PLACE))
+}
+
+// The route in the place that starts there names a tunnel: its type is not "no tunnel information" (RFC 8556, section 4.1).
+fn names_tunnel(table: &[u8], at: usize) -> bool
+    requires { ⌜ Readable (now table) at ⌝ }
+    ensures { λ r. ⌜ r ≡ namesTunnel (routeIn (part (now (table .entry)) at 128)) ⌝ }
+{
+    let attribute = answer::attribute_in(parts::between(table, at, PLACE));
+    attribute[1] != TunnelType::NONE
 }
 
 // Route distinguishers are compared as eight octets.
@@ -56,7 +70,7 @@ fn is_ahead(table: &[u8], tier: u32, at: usize, best: Best) -> bool
     is_lower(table, at, start)
 }
 
-// The best so far, with the route in one more place.
+// The best so far, with the route in one more place. Few routes have a tier: of these alone it is asked whether they name a tunnel.
 fn better(
     table: &[u8],
     router: &[u8],
@@ -72,6 +86,9 @@ fn better(
 {
     let tier = tier::tier_of(nlri_from(table, at), router, source, group, tiers);
     if tier == 0 {
+        return best;
+    }
+    if !names_tunnel(table, at) {
         return best;
     }
     if is_ahead(table, tier, at, best) {

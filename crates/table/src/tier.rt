@@ -155,7 +155,7 @@ fn ends_otherwise(nlri: &[u8], router: &[u8]) -> bool
         != wide::four_low_first(router, router.len() - ENDING)
 }
 
-// The tier of a candidate; 0 for a route of another router, or where no tier's condition is met.
+// The tier of a route of the router asked; 0 for one of another router, or where no tier's condition is met.
 pub(crate) fn tier_of(nlri: &[u8], router: &[u8], source: &[u8], group: &[u8], tiers: Tiers) -> u32
     requires { ⌜ Bounded (now nlri) × (4 ≤ length (now router)) ⌝ }
     ensures { λ r. ⌜ r ≡ tierAt (flowOf (now (router .entry)) (now (source .entry)) (now (group .entry))) tiers (now (nlri .entry)) ⌝ }

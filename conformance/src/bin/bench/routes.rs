@@ -3,6 +3,7 @@
 use conformance::{
     cases::{routes::s_pmsi, samples::attributes},
     random::Random,
+    second::Second,
 };
 
 /// Each router has one route distinguisher, and in `routes` one tunnel.
@@ -20,7 +21,7 @@ pub struct Route {
 /// Different routes in the order of their NLRIs: of each router one (C-*,C-*), every eighth (C-S,C-*) and (C-*,C-G), and
 /// else (C-S,C-G). Originators have four octets under AFI 1 and sixteen under AFI 2.
 pub fn routes(afi: u16, count: usize) -> Vec<Route> {
-    let attributes = attributes();
+    let attributes = tunnels();
     let mut routes: Vec<_> = (0..count)
         .map(|at| {
             let (router, index) = (at % ROUTERS, at / ROUTERS);
@@ -36,6 +37,12 @@ pub fn routes(afi: u16, count: usize) -> Vec<Route> {
         .collect();
     routes.sort_by(|left, right| left.nlri.cmp(&right.nlri));
     routes
+}
+
+/// Attributes of every tunnel type: a route that names no tunnel takes no flow.
+fn tunnels() -> Vec<Vec<u8>> {
+    let second = Second::sound();
+    attributes().into_iter().filter(|attribute| second.names_tunnel(attribute)).collect()
 }
 
 fn route(afi: u16, router: u8, index: u8, tier: u32, attribute: Vec<u8>) -> Route {
@@ -61,7 +68,7 @@ fn of_flow(distinguisher: &[u8], flow: [Vec<u8>; 3], tier: u32, attribute: Vec<u
 /// Different routes in a random order: any tier, source, group and tunnel, and any of the routers, half of which have sixteen
 /// octets. As above, a router has one route distinguisher, so that routes differ behind it.
 pub fn random_routes(random: &mut Random, afi: u16, count: usize) -> Vec<Route> {
-    let attributes = attributes();
+    let attributes = tunnels();
     let routers: [Vec<u8>; ROUTERS] = std::array::from_fn(|at| random.octets(if at % 2 == 0 { 4 } else { 16 }));
     let mut routes: Vec<Route> = Vec::new();
     while routes.len() < count {

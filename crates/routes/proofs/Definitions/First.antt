@@ -1,9 +1,9 @@
 -- Which route `matchIn` is: of the first tier that has a candidate, and in it of the lowest route distinguisher. Among routes with no NLRI
 -- twice there is one such answer.
 use Prim.Native.Nat.{ℕ, suc, _≤_, _<_}
-use mathlib.Core.Path.{_≡_, refl, sym, ap, subst, _∙_}
-use mathlib.Core.Bool.{true}
-use mathlib.Core.List.{List, [], _∷_}
+use mathlib.Core.Path.{_≡_, refl, sym, ap, ap₂, subst, _∙_}
+use mathlib.Core.Bool.{true, false}
+use mathlib.Core.List.{List, [], _∷_, _++_}
 use native.Mathlib.Omega.{arith}
 use lib.Dec.{eqb}
 use borrow.Author.Tests.{eq-eqb, ne-eqb}
@@ -11,11 +11,12 @@ use Rattle.octets.specs.Choice.{pick}
 use Rattle.octets.proofs.Choice.{opposite, pick-true, pick-false, pick-case, is-false}
 use Rattle.octets.proofs.Orders.{before-neither}
 use Rattle.octets.specs.Lists.{Among}
-use Rattle.routes.specs.Route.{Route, Distinct}
+use Rattle.routes.specs.Route.{Route, attributeOf, Distinct}
 use Rattle.routes.specs.Query.{Wanted, noRoute, meets, Query}
 use Rattle.routes.specs.Matching.{eligible, Found, nothing, found, orElse, firstOf, matchIn}
+use Rattle.routes.specs.MatchRule.{NamesTunnel}
 use Rattle.routes.proofs.Definitions.Lookups.{one-member}
-use Rattle.routes.proofs.Definitions.Lowest.{None, Least, Lowest, lowest-is}
+use Rattle.routes.proofs.Definitions.Lowest.{None, Least, Lowest, lowest-is, lowest-ignored}
 use Rattle.routes.proofs.Definitions.Conditions.{qualified, same-nlri}
 
 module _ (afi : ℕ) (router : List ℕ) where
@@ -95,3 +96,14 @@ module _ {afi : ℕ} {router : List ℕ} {rs : List Route} where
 pub first-is : (afi : ℕ) (q : Query) (rs : List Route) → First afi (q .router) rs 1 (q .tiers) (matchIn afi q rs)
 unfolding matchIn
 first-is afi q rs = first-from afi (q .router) rs 1 (q .tiers)
+
+-- a route that is no candidate of any tier is ignored
+module _ (afi : ℕ) (router : List ℕ) (earlier rest : List Route) (r : Route) (bad : (w : Wanted) → eligible afi router w r ≡ false) where
+  first-ignored : (tier : ℕ) (ws : List Wanted) → firstOf afi router tier ws (earlier ++ (r ∷ rest)) ≡ firstOf afi router tier ws (earlier ++ rest)
+  unfolding firstOf
+  first-ignored tier [] = refl
+  first-ignored tier (w ∷ ws) = ap₂ orElse (lowest-ignored afi router tier w earlier rest r (bad w)) (first-ignored (suc tier) ws)
+
+pub match-ignored : (afi : ℕ) (q : Query) (earlier rest : List Route) (r : Route) → (NamesTunnel (attributeOf r) → ⊥) → matchIn afi q (earlier ++ (r ∷ rest)) ≡ matchIn afi q (earlier ++ rest)
+unfolding matchIn
+match-ignored afi q earlier rest r none = first-ignored afi (q .router) earlier rest r (λ w. is-false _ (λ h. none (qualified afi (q .router) w r h .tunnel))) 1 (q .tiers)

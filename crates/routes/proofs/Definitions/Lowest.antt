@@ -1,11 +1,12 @@
 -- Which route `lowestIn` is: a candidate of the tier, with no candidate of a lower route distinguisher.
 use Prim.Native.Nat.{ℕ}
-use mathlib.Core.Path.{_≡_, refl}
+use mathlib.Core.Path.{_≡_, refl, ap}
 use mathlib.Core.Bool.{true, false}
-use mathlib.Core.List.{List, [], _∷_}
+use mathlib.Core.List.{List, [], _∷_, _++_}
 use Rattle.octets.specs.Order.{before}
 use Rattle.octets.specs.Lists.{Among, first, later}
-use Rattle.octets.proofs.Choice.{opposite, pick-case}
+use Rattle.octets.specs.Choice.{pick}
+use Rattle.octets.proofs.Choice.{opposite, pick-case, pick-false}
 use Rattle.octets.proofs.Orders.{before-itself, before-once, before-not}
 use Rattle.octets.proofs.Among.{among-none, among-each}
 use Rattle.routes.specs.Route.{Route}
@@ -46,3 +47,9 @@ module _ (afi : ℕ) (router : List ℕ) (tier : ℕ) (w : Wanted) where
   unfolding lowestIn
   lowest-is [] = λ u m. absurd (among-none m)
   lowest-is (r ∷ rs) = pick-case (Lowest (r ∷ rs)) _ _ _ (λ good. compared r rs _ good (lowest-is rs)) (λ bad. passed-over r rs (lowestIn afi router tier w rs) bad (lowest-is rs))
+
+  -- a route that is no candidate of the tier, wherever it stands
+  pub lowest-ignored : (earlier rest : List Route) (r : Route) → eligible afi router w r ≡ false → lowestIn afi router tier w (earlier ++ (r ∷ rest)) ≡ lowestIn afi router tier w (earlier ++ rest)
+  unfolding lowestIn
+  lowest-ignored [] rest r bad = pick-false _ _ _ bad
+  lowest-ignored (q ∷ earlier) rest r bad = ap (λ best. pick (eligible afi router w q) (lower afi tier q best) best) (lowest-ignored earlier rest r bad)

@@ -30,7 +30,7 @@ use Rattle.routes.proofs.Definitions.Lookups.{acceptable-member, distin
 use Rattle.routes.proofs.Definitions.Bounds.{Sized, sizes-of}
 use Rattle.routes.proofs.Statements.Images.{sound-holdable}
 use Rattle.routes.proofs.Definitions.Flows.{asked-router, flow-asked}
-use Rattle.routes.proofs.Definitions.First.{wantedAt}
+use Rattle.routes.proofs.Definitions.First.{wantedAt, match-ignored}
 use Rattle.routes.proofs.Statements.Taken.{found-taken, nothing-taken, flow-exactly}
 
 past-front : (e d : List ℕ) (i : ℕ) → length e ≤ i → getD (e ++ drop (length e) d) i 0 ≡ getD d i 0
@@ -204,6 +204,7 @@ served-flow flow =
 pub matchRule : MatchRule
 matchRule =
     record {
+      ignored = match-ignored;
       chosen = λ afi flow q rs e. asks-found (flow-asks afi flow q e) rs;
       none = λ afi flow q rs e. asks-nothing (flow-asks afi flow q e) rs;
       table = λ flow. table-match (served-flow flow);

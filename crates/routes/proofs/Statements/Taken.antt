@@ -32,16 +32,17 @@ module _ (afi : ℕ) (q : Query) (In : (tier : ℕ) → Fields → Type 0) (exac
   is-eligible tier r h =
       let x = qualified afi (q .router) (wanted tier) r h in
       let n = argumentRule .acceptedNlri afi (nlriOf r) (x .fields) .0 (x .read) in
-      record { candidate = record { named = record { fields = x .fields; read = n .0; kind = n .1 }; originator = x .own }; met = exactly tier (x .fields) .0 (x .met) }
+      record { candidate = record { own = record { named = record { fields = x .fields; read = n .0; kind = n .1 }; originator = x .own }; tunnel = x .tunnel }; met = exactly tier (x .fields) .0 (x .met) }
 
   eligible-is : (tier : ℕ) (r : Route) → Eligible afi (q .router) In tier r → eligible afi (q .router) (wanted tier) r ≡ true
   eligible-is tier r e =
-      let f : Fields = e .candidate .named .fields in
+      let own = e .candidate .own in
+      let f : Fields = own .named .fields in
       qualifies afi (q .router) (wanted tier) r
-      (record { fields = f; read = nlri-accepts afi (nlriOf r) (e .candidate .named); own = e .candidate .originator; met = exactly tier f .1 (e .met) })
+      (record { fields = f; read = nlri-accepts afi (nlriOf r) (own .named); own = own .originator; tunnel = e .candidate .tunnel; met = exactly tier f .1 (e .met) })
 
-  rd : {tier : ℕ} (r : Route) (e : Eligible afi (q .router) In tier r) → distinguisherOf afi r ≡ e .candidate .named .fields .distinguisher
-  rd r e = distinguisher-is afi r (e .candidate .named .fields) (nlri-accepts afi (nlriOf r) (e .candidate .named))
+  rd : {tier : ℕ} (r : Route) (e : Eligible afi (q .router) In tier r) → distinguisherOf afi r ≡ e .candidate .own .named .fields .distinguisher
+  rd r e = distinguisher-is afi r (e .candidate .own .named .fields) (nlri-accepts afi (nlriOf r) (e .candidate .own .named))
 
   module _ (rs : List Route) where
     abbrev IsFirst : Found → Type 0

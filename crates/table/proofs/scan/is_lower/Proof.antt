@@ -24,9 +24,9 @@ pub is-lower-spec : {M : Type 1} → statement M
 is-lower-spec =
     tie.close
     (tie.spec
-    (search needs)
+    (λ c κs. search needs)
     distinguisher-in-requires
-    (search needs)
+    (λ c κs. search needs)
     distinguisher-in-requires-2
     (search needs)
     returns)

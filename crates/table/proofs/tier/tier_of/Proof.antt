@@ -1,5 +1,5 @@
 -- `table::tier::tier_of` meets its contract.
-use Rattle.table.proofs.Tiers.{other-router, candidate-tier, other-tier}
+use Rattle.table.proofs.Tiers.{other-router, own-tier, other-tier}
 use borrow.Author.Needs.{needs}
 use borrow.Author.Tests.{not-true, not-false}
 use Rattle.table.proofs.tier.tier_of.Statement.{statement}
@@ -12,7 +12,7 @@ returns-2 : tie.Need-returns-2
 returns-2 c = other-tier _ _ _ _ _ (c .before .before .originator-in .ensures) (c .before .is-same .ensures) (not-true _ (c .if2 .taken))
 
 returns-3 : tie.Need-returns-3
-returns-3 c = candidate-tier _ _ _ _ _ (c .before .before .before .originator-in .ensures) (c .before .before .is-same .ensures) _ (not-false _ (c .before .if2 .left)) (c .flow-tier .ensures)
+returns-3 c = own-tier _ _ _ _ _ (c .before .before .before .originator-in .ensures) (c .before .before .is-same .ensures) _ (not-false _ (c .before .if2 .left)) (c .flow-tier .ensures)
 
 pub tier-of-spec : {M : Type 1} → statement M
 tier-of-spec =
