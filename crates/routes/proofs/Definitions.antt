@@ -4,6 +4,7 @@ pub mod SPmsi
 pub mod Lowest
 pub mod Conditions
 pub mod First
+pub mod OpenTiers
 pub mod MatchSame
 pub mod OnePass
 pub mod Flows

@@ -1,7 +1,7 @@
 -- What a match asks (document 01, "Which route a flow takes"): the router and, for each tier, the source and the group that a route of it has.
 -- A tier is document 01's term for the numbers 1 to 4 of its order.
 use Prim.Native.Nat.{ℕ}
-use mathlib.Core.Bool.{Bool, false}
+use mathlib.Core.Bool.{Bool, true, false}
 use mathlib.Core.List.{List, [], _∷_}
 use lib.Dec.{eqb}
 use Rattle.octets.specs.Choice.{pick, both}
@@ -19,6 +19,16 @@ unfoldable pub meets : Wanted → Fields → Bool
 meets noRoute f = false
 meets (these source group) f = both (same (f .source) source) (same (f .group) group)
 
+-- this source and this group where the tier is open; else no route is of it
+abbrev pub wantedIf : (isOpen : Bool) (source group : List ℕ) → Wanted
+wantedIf isOpen source group = pick isOpen (these source group) noRoute
+
+-- the tiers of a source and a group, each where it is open. 1: source and group both equal; 2: source equal, group wildcard; 3: source wildcard,
+-- group equal; 4: both wildcard
+unfoldable pub tiersOf : (source group : List ℕ) (exact anyGroup anySource any : Bool) → List Wanted
+tiersOf source group exact anyGroup anySource any =
+    wantedIf exact source group ∷ (wantedIf anyGroup source [] ∷ (wantedIf anySource [] group ∷ (wantedIf any [] [] ∷ [])))
+
 -- of which router a match asks, and what the tiers want, the first one first
 pub record Query : Type 0 where
   pub router : List ℕ
@@ -34,16 +44,6 @@ pub record Flow : Type 0 where
 abbrev pub flowOf : (router source group : List ℕ) → Flow
 flowOf router source group = record { router = router; source = source; group = group }
 
--- what a flow asks, by its group's class. 1: source and group both equal; 2: source equal, group wildcard, and the group SSM; 3: source
--- wildcard, group equal, and the group ASM; 4: both wildcard
+-- what a flow asks, by its group's class: tier 2 where the group is SSM, tier 3 where it is ASM, 1 and 4 always
 unfoldable pub flowQuery : Flow → (class : ℕ) → Query
-flowQuery flow class =
-    record {
-      router = flow .router;
-      tiers =
-          these (flow .source) (flow .group)
-          ∷ (pick (eqb class SSM) (these (flow .source) []) noRoute
-          ∷ (pick (eqb class ASM) (these [] (flow .group)) noRoute
-          ∷ (these [] []
-          ∷ [])));
-    }
+flowQuery flow class = record { router = flow .router; tiers = tiersOf (flow .source) (flow .group) true (eqb class SSM) (eqb class ASM) true }

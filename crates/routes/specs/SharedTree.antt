@@ -2,7 +2,7 @@
 -- order, which conditions make a route eligible, and what is asked then.
 use Prim.Native.Nat.{ℕ, _*_}
 use mathlib.Core.Bool.{Bool, false, not}
-use mathlib.Core.List.{List, [], _∷_}
+use mathlib.Core.List.{List, []}
 use lib.ListN.{length}
 use lib.Dec.{ltb, leb, eqb}
 use Rattle.octets.specs.Numbers.{DONE, LONG, FLOW, SPACE}
@@ -13,7 +13,7 @@ use Rattle.lists.specs.LentLists.{Item, itemField, listCount, listItems, readLi
 use Rattle.nlri.specs.Family.{familyBits, isOriginatorSize}
 use Rattle.nlri.specs.Fields.{Fields}
 use Rattle.nlri.specs.Groups.{ASM, classUnder}
-use Rattle.routes.specs.Query.{Wanted, noRoute, these, Query}
+use Rattle.routes.specs.Query.{tiersOf, Query}
 use Rattle.routes.specs.Arguments.{readOfType}
 
 -- a shared tree and the PE asked, with what the daemon tells: the PE is upstream for the C-RP of the group; the group is a BIDIR-PIM group; Source
@@ -81,22 +81,13 @@ conditionHolds afi tree =
     (either (tree .bidirectional)
     (tree .unused)))
 
--- a tier's source and group for an ASM group of which a condition holds; else no route is of it
-abbrev pub wantedIf : Bool → (source group : List ℕ) → Wanted
-wantedIf eligible source group = pick eligible (these source group) noRoute
+-- routes are eligible for the tree: its group is ASM, and a condition holds
+abbrev pub treeOpen : (afi : ℕ) → SharedTree → (class : ℕ) → Bool
+treeOpen afi tree class = both (eqb class ASM) (conditionHolds afi tree)
 
--- what a shared tree asks: the (C-*,C-G) route as tier 3, else the (C-*,C-*) route as tier 4
+-- what a shared tree asks: the (C-*,C-G) route as tier 3, else the (C-*,C-*) route as tier 4. Neither has a source
 unfoldable pub treeQuery : (afi : ℕ) → SharedTree → (class : ℕ) → Query
-treeQuery afi tree class =
-    record {
-      router = tree .router;
-      tiers =
-          noRoute
-          ∷ (noRoute
-          ∷ (wantedIf (both (eqb class ASM) (conditionHolds afi tree)) [] (tree .group)
-          ∷ (wantedIf (both (eqb class ASM) (conditionHolds afi tree)) [] []
-          ∷ [])));
-    }
+treeQuery afi tree class = record { router = tree .router; tiers = tiersOf [] (tree .group) false false (treeOpen afi tree class) (treeOpen afi tree class) }
 
 -- the match for a shared tree, after TABLE: the refusals above, then SPACE for an output under 124 octets
 unfoldable pub readTree : (afi : ℕ) → SharedTree → (output : List ℕ) → Outcome Query

@@ -16,7 +16,7 @@ use Rattle.nlri.specs.declared.group.Group.{Group}
 use Rattle.nlri.specs.Family.{isOriginatorSize}
 use Rattle.nlri.specs.Groups.{classUnder, groupOf}
 use Rattle.nlri.proofs.Definitions.Lengths.{family-octets, family-good}
-use Rattle.routes.specs.Query.{Query, Flow, flowQuery}
+use Rattle.routes.specs.Query.{tiersOf, Query, Flow, flowQuery}
 use Rattle.routes.specs.Arguments.{readFlow}
 use Rattle.routes.specs.ArgumentRules.{KnownFamily}
 use Rattle.routes.proofs.Definitions.Flows.{class-under, flow-asked, flow-refused}
@@ -49,7 +49,7 @@ module _ (bits : ℕ) (whole : 8 * (bits / 8) ≡ bits) (source group : List ℕ
 
 module _ (afi : ℕ) (flow : Flow) (good : KnownFamily afi) where
   by-class : readFlow afi flow ≡ andThen (flowClass afi flow) (λ class. given (openQuery flow (openTiers class)))
-  unfolding readFlow flowClass flowQuery openQuery pick
+  unfolding readFlow flowClass flowQuery openQuery tiersOf pick
   by-class =
       let bits = family-good afi good in
       let next : ℕ → Outcome Query = λ class. given (flowQuery flow class) in

@@ -4,18 +4,17 @@ use mathlib.Core.Path.{_≡_, refl, sym, _∙_, ap}
 use mathlib.Core.Bool.{Bool, true, false}
 use mathlib.Core.List.{List}
 use borrow.Author.Tests.{eq-eqb, ne-eqb, lt-ltb, le-ltb}
-use lib.Dec.{eqb}
 use lib.ListN.{length}
 use Rattle.octets.specs.Numbers.{SPACE}
-use Rattle.octets.specs.Choice.{pick, both}
+use Rattle.octets.specs.Choice.{pick}
 use Rattle.octets.specs.Outcome.{given}
 use Rattle.octets.proofs.Choice.{picks, skips, both-left, both-last}
 use Rattle.octets.proofs.Outcome.{goes, stops}
 use Rattle.nlri.specs.declared.group.Group.{Group}
 use Rattle.nlri.specs.Groups.{ASM, groupOf}
 use Rattle.routes.specs.declared.Matched.{Matched}
-use Rattle.routes.specs.Query.{flowOf}
-use Rattle.routes.specs.SharedTree.{SharedTree, judgedTree, conditionHolds, treeQuery, readTree}
+use Rattle.routes.specs.Query.{tiersOf, flowOf}
+use Rattle.routes.specs.SharedTree.{SharedTree, judgedTree, conditionHolds, treeOpen, treeQuery, readTree}
 use Rattle.routes.specs.Asked.{ofSharedTree, readAsked}
 use Rattle.routes.specs.Table.{afiIn, routesOf, soundOf}
 use Rattle.routes.specs.Matching.{matchIn}
@@ -28,16 +27,16 @@ use Rattle.table.specs.declared.tier.Tiers.{Tiers}
 use Rattle.table.proofs.Matches.{match-stopped, match-searched}
 
 -- what a shared tree asks, as tiers that are open; its group stands for a source, which no open tier looks at
-tree-query : (afi : ℕ) (tree : SharedTree) (class : ℕ) → treeQuery afi tree class ≡ openQuery (flowOf (tree .router) (tree .group) (tree .group)) (treeTiers (both (eqb class ASM) (conditionHolds afi tree)))
-unfolding treeQuery openQuery pick
+tree-query : (afi : ℕ) (tree : SharedTree) (class : ℕ) → treeQuery afi tree class ≡ openQuery (flowOf (tree .router) (tree .group) (tree .group)) (treeTiers (treeOpen afi tree class))
+unfolding treeQuery openQuery tiersOf pick
 tree-query afi tree class = refl
 
 -- the tiers, by the branches of the function that opens them
-pub tiers-closed : (afi : ℕ) (tree : SharedTree) (class : ℕ) (tiers : Tiers) → (class ≡ ASM → ⊥) → tiers ≡ treeTiers false → tiers ≡ treeTiers (both (eqb class ASM) (conditionHolds afi tree))
+pub tiers-closed : (afi : ℕ) (tree : SharedTree) (class : ℕ) (tiers : Tiers) → (class ≡ ASM → ⊥) → tiers ≡ treeTiers false → tiers ≡ treeTiers (treeOpen afi tree class)
 tiers-closed afi tree class tiers h e = e ∙ ap treeTiers (sym (both-left _ _ (ne-eqb _ _ h)))
 
 pub tiers-open : (afi : ℕ) (tree : SharedTree) (class : ℕ) (tiers : Tiers) → class ≡ ASM → (eligible : Bool) → eligible ≡ conditionHolds afi tree → tiers ≡ treeTiers eligible
-    → tiers ≡ treeTiers (both (eqb class ASM) (conditionHolds afi tree))
+    → tiers ≡ treeTiers (treeOpen afi tree class)
 tiers-open afi tree class tiers h eligible q e = e ∙ ap treeTiers (both-last _ _ _ (eq-eqb _ _ h) q)
 
 module _ (t : List ℕ) (tree : SharedTree) (output : List ℕ) (answer : Matched) (is : soundOf t ≡ true) where
@@ -54,7 +53,7 @@ module _ (t : List ℕ) (tree : SharedTree) (output : List ℕ) (answer : Matche
     unfolding readAsked readTree
     shared-space done h a = match-stopped t (ofSharedTree tree) output answer is SPACE (sym (goes _ _ _ _ (tree-given (afiIn t) tree class judges-its done) (picks _ _ _ _ (lt-ltb _ _ h) refl))) a
 
-    pub shared-search : class .number ≡ 0 → 124 ≤ length output → (left : List ℕ) (tiers : Tiers) → tiers ≡ treeTiers (both (eqb (class .«group_class») ASM) (conditionHolds (afiIn t) tree))
+    pub shared-search : class .number ≡ 0 → 124 ≤ length output → (left : List ℕ) (tiers : Tiers) → tiers ≡ treeTiers (treeOpen (afiIn t) tree (class .«group_class»))
         → Leaves (matchedBy (given (matchIn (afiIn t) (openQuery (flowOf (tree .router) (tree .group) (tree .group)) tiers) (routesOf t))) output) answer left → Leaves (matchOf t (ofSharedTree tree) output) answer left
     unfolding readAsked readTree
     shared-search done h left tiers shows a =

@@ -15,7 +15,7 @@ use Rattle.octets.proofs.Choice.{opposite, picks, skips}
 use Rattle.octets.proofs.Orders.{unequal-other}
 use Rattle.nlri.specs.Fields.{Fields}
 use Rattle.routes.specs.Route.{Route, nlriOf}
-use Rattle.routes.specs.Query.{Wanted, noRoute, meets, Flow}
+use Rattle.routes.specs.Query.{Wanted, noRoute, meets, tiersOf, Flow}
 use Rattle.routes.specs.Arguments.{readSPmsi}
 use Rattle.routes.specs.Matching.{namesTunnel, candidate, eligible, distinguisherOf}
 use Rattle.routes.specs.OnePass.{tierFrom, tierOf}
@@ -160,7 +160,7 @@ module _ (afi : ℕ) (r : Route) (f : Fields) (read : readSPmsi afi (nlriOf r) �
 
   -- the tier by the octets, where the route names a tunnel, is the first of which it is a candidate
   pub tier-stands : (flow : Flow) (tiers : Tiers) → 0 < length (flow .source) → 0 < length (flow .group) → pick (namesTunnel r) (tierAt flow tiers (nlriOf r)) 0 ≡ tierOf afi (openQuery flow tiers) r
-  unfolding tierAt flowTier sourceTier anySourceTier tierFrom openQuery meets
+  unfolding tierAt flowTier sourceTier anySourceTier tierFrom openQuery tiersOf meets
   tier-stands flow tiers hs hg =
       let router : List ℕ = flow .router in
       ap (λ (x : Fields). pick (namesTunnel r) (pick (same (x .originator) router) (flowTier (flow .source) (flow .group) tiers x) 0) 0) (sym (fields-stand afi (nlriOf r) f read))

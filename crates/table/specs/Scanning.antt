@@ -2,7 +2,7 @@
 use Prim.Native.Nat.{ℕ, zero, suc, _+_, _/_, _≤_}
 use mathlib.Core.Path.{_≡_}
 use mathlib.Core.Bool.{Bool, true, false, not}
-use mathlib.Core.List.{List, [], _∷_}
+use mathlib.Core.List.{List, []}
 use lib.Dec.{ltb, eqb}
 use lib.ListN.{length, getD, drop}
 use Rattle.octets.specs.Numbers.{FLOW}
@@ -15,7 +15,7 @@ use Rattle.nlri.specs.Family.{isOriginatorSize}
 use Rattle.nlri.specs.Groups.{ASM, SSM, classOf}
 use Rattle.tunnel.specs.Attribute.{fieldsIn, readAttribute}
 use Rattle.routes.specs.Route.{nlriOf, attributeOf}
-use Rattle.routes.specs.Query.{noRoute, these, Query, Flow}
+use Rattle.routes.specs.Query.{tiersOf, Query, Flow}
 use Rattle.routes.specs.Place.{PLACE, endIn, routeIn}
 use Rattle.routes.specs.Matching.{namesTunnel, Found, nothing, found}
 use Rattle.table.specs.declared.scan.Best.{Best}
@@ -64,15 +64,7 @@ treeTiers eligible = record { exact = false; «any_group» = false; «any_source
 -- what a match asks where these tiers are open
 unfoldable pub openQuery : Flow → Tiers → Query
 openQuery flow tiers =
-    record {
-      router = flow .router;
-      tiers =
-          pick (tiers .exact) (these (flow .source) (flow .group)) noRoute
-          ∷ (pick (tiers .«any_group») (these (flow .source) []) noRoute
-          ∷ (pick (tiers .«any_source») (these [] (flow .group)) noRoute
-          ∷ (pick (tiers .any) (these [] []) noRoute
-          ∷ [])));
-    }
+    record { router = flow .router; tiers = tiersOf (flow .source) (flow .group) (tiers .exact) (tiers .«any_group») (tiers .«any_source») (tiers .any) }
 
 -- a wildcard is no octets
 unfoldable pub wildcard : List ℕ → Bool

@@ -2,14 +2,11 @@
 ghost use mathlib.Core.Path.{_≡_};
 ghost use mathlib.Core.Bool.{true};
 ghost use Prim.Native.Nat.{ℕ};
-ghost use lib.Dec.{eqb};
 ghost use lib.ListN.{length};
 ghost use Rattle.octets.specs.Numbers.{DONE};
-ghost use Rattle.octets.specs.Choice.{both};
 ghost use Rattle.lists.specs.LentLists.{listItems};
-ghost use Rattle.nlri.specs.Groups.{ASM};
 ghost use Rattle.routes.specs.Table.{soundOf};
-ghost use Rattle.routes.specs.SharedTree.{sourceActiveFault, conditionHolds};
+ghost use Rattle.routes.specs.SharedTree.{sourceActiveFault, treeOpen};
 ghost use Rattle.routes.specs.Asked.{ofSharedTree};
 ghost use Rattle.routes.specs.Calls.{matchOf};
 ghost use Rattle.shared_trees.specs.Told.{treeOf, Judged};
@@ -36,7 +33,7 @@ fn open_tiers(
     states: &[u8],
 ) -> Tiers
     requires { ⌜ Judged (length (now group)) (now «source_actives») (now states) ⌝ }
-    ensures { λ r. ⌜ ((afi : ℕ) → sourceActiveFault afi (listItems 2 (now («source_actives» .entry))) ≡ DONE → r ≡ treeTiers (both (eqb class ASM) (conditionHolds afi (treeOf (now (router .entry)) (now (group .entry)) facts (now («source_actives» .entry)) (now (states .entry)))))) ⌝ }
+    ensures { λ r. ⌜ ((afi : ℕ) → sourceActiveFault afi (listItems 2 (now («source_actives» .entry))) ≡ DONE → r ≡ treeTiers (treeOpen afi (treeOf (now (router .entry)) (now (group .entry)) facts (now («source_actives» .entry)) (now (states .entry))) class)) ⌝ }
 {
     if class != Group::ASM {
         return Tiers::of_tree(false);

@@ -190,7 +190,7 @@ module _ {asked : Asked} {router : List ℕ} {Good : (afi : ℕ) → Type 0} {Re
       }
 
 flow-asks : (afi : ℕ) (flow : Flow) (q : Query) → readFlow afi flow ≡ given q → Asks afi (flow .router) (InTier afi flow) q
-flow-asks afi flow q e = let a = flow-asked afi flow q e in record { of = asked-router a; exactly = flow-exactly afi flow q a }
+flow-asks afi flow q e = let a = flow-asked afi flow q e in record { of = asked-router a; exactly = λ tier f. flow-exactly afi flow q a f tier }
 
 pub served-flow : (flow : Flow) → Served (ofFlow flow) (flow .router) (λ afi. GoodFlow afi flow) (λ output afi. FlowRefusal afi flow output) (λ afi. InTier afi flow)
 unfolding readAsked

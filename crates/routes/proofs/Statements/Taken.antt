@@ -7,9 +7,8 @@ use mathlib.Core.Logic.{_↔_}
 use native.Mathlib.Omega.{arith}
 use lib.Dec.{eqb}
 use borrow.Author.Tests.{eqb-true, eq-eqb}
-use Rattle.octets.specs.Choice.{pick}
 use Rattle.octets.specs.Order.{before}
-use Rattle.octets.proofs.Choice.{opposite, pick-case}
+use Rattle.octets.proofs.Choice.{opposite}
 use Rattle.octets.proofs.Orders.{before-neither}
 use Rattle.nlri.specs.Fields.{Fields}
 use Rattle.nlri.specs.Groups.{ASM, SSM}
@@ -18,8 +17,9 @@ use Rattle.routes.specs.Query.{Wanted, meets, Query, Flow, flowQuery}
 use Rattle.routes.specs.Matching.{eligible, distinguisherOf, Found, nothing, found, matchIn}
 use Rattle.routes.specs.MatchRule.{InTier, bothEqual, sourceEqual, groupEqual, bothWildcard, Eligible, Taken, NoneTaken}
 use Rattle.routes.proofs.Definitions.Lookups.{one-member}
-use Rattle.routes.proofs.Definitions.Conditions.{meets-exactly, qualified, qualifies, distinguisher-is, same-nlri}
+use Rattle.routes.proofs.Definitions.Conditions.{qualified, qualifies, distinguisher-is, same-nlri}
 use Rattle.routes.proofs.Definitions.First.{First, wantedAt, first-none, first-least, first-below, first-is}
+use Rattle.routes.proofs.Definitions.OpenTiers.{Opened, opened1, opened2, opened3, opened4, tiers-exactly}
 use Rattle.routes.proofs.Definitions.Flows.{AskedFlow}
 use Rattle.routes.proofs.Statements.ArgumentRules.{argumentRule, nlri-accepts}
 
@@ -88,29 +88,23 @@ module _ (afi : ℕ) (q : Query) (In : (tier : ℕ) → Fields → Type 0) (exac
 
 -- a flow's query wants what document 01's conditions say
 module _ (afi : ℕ) (flow : Flow) (q : Query) (a : AskedFlow afi flow q) (f : Fields) where
-  at-tier : (tier n : ℕ) → eqb tier n ≡ true → InTier afi flow n f → InTier afi flow tier f
-  at-tier tier n t i = subst (λ (k : ℕ). InTier afi flow k f) (sym (eqb-true tier n t)) i
+  abbrev FlowOpened : ℕ → Type 0
+  FlowOpened tier = Opened (flow .source) (flow .group) true (eqb (a .class) SSM) (eqb (a .class) ASM) true f tier
 
-  in-tier : (tier : ℕ) → meets (wantedAt 1 tier (flowQuery flow (a .class) .tiers)) f ≡ true → InTier afi flow tier f
-  unfolding wantedAt flowQuery meets
-  in-tier tier =
-      pick-case Meant _ _ _ (λ t h. let e = meets-exactly _ _ f .0 h in at-tier tier 1 t (bothEqual (e .0) (e .1)))
-      (λ _. pick-case Meant _ _ _
-      (λ t. pick-case Meant _ _ _ (λ ssm h. let e = meets-exactly _ _ f .0 h in at-tier tier 2 t (sourceEqual (e .0) (e .1) (a .specific .0 (eqb-true _ _ ssm)))) (λ _ h. absurd (opposite h refl)))
-      (λ _. pick-case Meant _ _ _
-      (λ t. pick-case Meant _ _ _ (λ asm h. let e = meets-exactly _ _ f .0 h in at-tier tier 3 t (groupEqual (e .0) (e .1) (a .other .0 (eqb-true _ _ asm)))) (λ _ h. absurd (opposite h refl)))
-      (λ _. pick-case Meant _ _ _ (λ t h. let e = meets-exactly _ _ f .0 h in at-tier tier 4 t (bothWildcard (e .0) (e .1))) (λ _ h. absurd (opposite h refl)))))
-    where
-      Meant : Wanted → Type 0
-      Meant w = meets w f ≡ true → InTier afi flow tier f
+  in-tier : {tier : ℕ} → FlowOpened tier → InTier afi flow tier f
+  in-tier (opened1 on s g) = bothEqual s g
+  in-tier (opened2 on s g) = sourceEqual s g (a .specific .0 (eqb-true _ _ on))
+  in-tier (opened3 on s g) = groupEqual s g (a .other .0 (eqb-true _ _ on))
+  in-tier (opened4 on s g) = bothWildcard s g
 
-  tier-met : {tier : ℕ} → InTier afi flow tier f → meets (wantedAt 1 tier (flowQuery flow (a .class) .tiers)) f ≡ true
-  unfolding wantedAt flowQuery pick
-  tier-met (bothEqual s g) = meets-exactly _ _ f .1 (s, g)
-  tier-met (sourceEqual s g ssm) = rw (eq-eqb (a .class) SSM (a .specific .1 ssm)) (meets-exactly _ _ f .1 (s, g))
-  tier-met (groupEqual s g asm) = rw (eq-eqb (a .class) ASM (a .other .1 asm)) (meets-exactly _ _ f .1 (s, g))
-  tier-met (bothWildcard s g) = meets-exactly _ _ f .1 (s, g)
+  tier-opened : {tier : ℕ} → InTier afi flow tier f → FlowOpened tier
+  tier-opened (bothEqual s g) = opened1 refl s g
+  tier-opened (sourceEqual s g ssm) = opened2 (eq-eqb _ _ (a .specific .1 ssm)) s g
+  tier-opened (groupEqual s g asm) = opened3 (eq-eqb _ _ (a .other .1 asm)) s g
+  tier-opened (bothWildcard s g) = opened4 refl s g
 
-pub flow-exactly : (afi : ℕ) (flow : Flow) (q : Query) (a : AskedFlow afi flow q) → (tier : ℕ) (f : Fields) → (meets (wantedAt 1 tier (q .tiers)) f ≡ true) ↔ InTier afi flow tier f
-flow-exactly afi flow q a tier f =
-    subst (λ (x : Query). (meets (wantedAt 1 tier (x .tiers)) f ≡ true) ↔ InTier afi flow tier f) (sym (a .is)) (in-tier afi flow q a f tier, tier-met afi flow q a f)
+  pub flow-exactly : (tier : ℕ) → (meets (wantedAt 1 tier (q .tiers)) f ≡ true) ↔ InTier afi flow tier f
+  unfolding flowQuery
+  flow-exactly tier =
+      let wants = tiers-exactly (flow .source) (flow .group) true (eqb (a .class) SSM) (eqb (a .class) ASM) true f tier in
+      subst (λ (x : Query). (meets (wantedAt 1 tier (x .tiers)) f ≡ true) ↔ InTier afi flow tier f) (sym (a .is)) (λ h. in-tier (wants .0 h), λ i. wants .1 (tier-opened i))
