@@ -5,12 +5,12 @@ use Prim.Native.Nat.{ℕ, zero, suc, _+_, _*_, _^_, _≤_, _<_}
 use native.Mathlib.Omega.{arith}
 use lib.ListN.{length, length-append}
 use Rattle.octets.specs.Numbers.{DONE}
-use Rattle.runs.specs.Walking.{stepFrom}
+use Rattle.runs.specs.Walking.{stepFrom, walkFrom, walkOf, nlrisFrom, nlrisOf}
 use Rattle.runs.proofs.Steps.{step-moves}
-use Rattle.mvpn_list.specs.Listing.{decimalOf, fieldOf, lineOf, nlriLine, openingOf, lastLine, headerLine, linesFrom, linesOf, listingOf}
+use Rattle.mvpn_list.specs.Listing.{decimalOf, fieldOf, lineOf, nlriLines, openingOf, lastLine, headerLine, linesOf, listingOf}
 use Rattle.octets.proofs.Choice.{pick-case}
 use Rattle.mvpn_list.proofs.Decimals.{length-decimalOf}
-use Rattle.mvpn_list.proofs.Steps.{Comes, reads, stops, comes-stepFrom, linesFrom-reads, linesFrom-stops}
+use Rattle.mvpn_list.proofs.Steps.{Comes, reads, stops, comes-stepFrom, layoutLine, linesFrom, linesFrom-reads, linesFrom-stops}
 
 length-fieldOf : (k n ending : ℕ) → n < 10 ^ suc k → length (fieldOf n ending) ≤ suc (suc k)
 unfolding fieldOf
@@ -38,20 +38,20 @@ Within left run at = length (linesFrom left run at) + 6 * at ≤ 6 * 4096 + 13
 within-next : (left : ℕ) (run : List ℕ) (at : ℕ) → at ≤ 4096 → ((c : ℕ) → c ≤ 4096 → Within left run c) → Comes (stepFrom 1 run at) → Within (suc left) run at
 within-next left run at h later (reads l c e known before) =
     let m = step-moves 1 run at l c e in
-    let one : length (nlriLine at l) ≤ 12 = length-lineOf _ _ _ (omega arith) (omega arith) (omega arith) in
+    let one : length (layoutLine at l) ≤ 12 = length-lineOf _ _ _ (omega arith) (omega arith) (omega arith) in
     let rest = later c (omega arith) in
-    let n = ap length (linesFrom-reads left run at l c e) ∙ length-append (nlriLine at l) (linesFrom left run c) in
+    let n = ap length (linesFrom-reads left run at l c e) ∙ length-append (layoutLine at l) (linesFrom left run c) in
     omega arith
 within-next left run at h later (stops n s small) = let last = length-lastLine n at small h in omega (arith, ap length (linesFrom-stops left run at n s))
 
 length-linesFrom : (left : ℕ) (run : List ℕ) (at : ℕ) → at ≤ 4096 → Within left run at
-unfolding linesFrom
+unfolding linesFrom nlrisFrom walkFrom nlriLines
 length-linesFrom zero run at h = let last = length-lastLine DONE at (omega arith) h in omega arith
 length-linesFrom (suc left) run at h = within-next left run at h (length-linesFrom left run) (comes-stepFrom 1 run at)
 
 -- the listing of every run
 length-listingOf : (run : List ℕ) → length (listingOf run) ≤ 24600
-unfolding listingOf linesOf headerLine
+unfolding listingOf linesOf linesFrom nlrisOf walkOf headerLine
 length-listingOf run = omega (arith, length-append headerLine (linesOf run), length-linesFrom (suc (length run)) run 0 (omega arith))
 
 pub listingOf-fits : (run output : List ℕ) → 65536 ≡ length output → length (listingOf run) ≤ length output

@@ -5,10 +5,10 @@ use Prim.Native.Nat.{ℕ, suc, _+_, _-_, _≤_}
 use native.Mathlib.Omega.{arith}
 use lib.ListN.{length, length-append}
 use Rattle.nlri.specs.declared.layout.Layout.{Layout}
-use Rattle.runs.specs.Walking.{readTo, stepFrom}
+use Rattle.runs.specs.Walking.{readTo, stepFrom, walkOf, nlrisOf}
 use Rattle.runs.proofs.Steps.{Stops, step-moves}
-use Rattle.mvpn_list.specs.Listing.{nlriLine, lastLine, linesFrom, linesOf}
-use Rattle.mvpn_list.proofs.Steps.{linesFrom-reads, linesFrom-stops}
+use Rattle.mvpn_list.specs.Listing.{lastLine, linesOf}
+use Rattle.mvpn_list.proofs.Steps.{layoutLine, linesFrom, linesFrom-reads, linesFrom-stops}
 use Rattle.octets.specs.Outputs.{Put}
 use Rattle.octets.proofs.Outputs.{put-none, put-as, put-then, length-put, room-next}
 
@@ -22,14 +22,14 @@ pub record Listed (run output₀ : List ℕ) (start offset at : ℕ) (output : L
   pub goes : linesOf run ≡ done ++ linesFrom (suc left) run offset
 
 pub listed-first : (run output : List ℕ) (start : ℕ) → Listed run output start 0 start output
-unfolding linesOf
+unfolding linesOf linesFrom nlrisOf walkOf
 listed-first run output start =
     record { done = []; left = length run; within = omega arith; enough = omega arith; put = put-none start output; goes = refl }
 
 module _ (run output₀ : List ℕ) (start offset at : ℕ) (output : List ℕ) (fits : start + length (linesOf run) ≤ length output₀) (so-far : Listed run output₀ start offset at output) where
   module _ (l : Layout) (c : ℕ) (e : stepFrom 1 run offset ≡ readTo l c) where
     abbrev this : List ℕ
-    this = nlriLine offset l
+    this = layoutLine offset l
 
     onward : linesOf run ≡ (so-far .done ++ this) ++ linesFrom (so-far .left) run c
     onward = so-far .goes ∙ ap (λ (x : List ℕ). so-far .done ++ x) (linesFrom-reads (so-far .left) run offset l c e) ∙ sym (append-assoc (so-far .done) this (linesFrom (so-far .left) run c))
@@ -37,8 +37,8 @@ module _ (run output₀ : List ℕ) (start offset at : ℕ) (output : List ℕ) 
     this-fits : start + length (so-far .done ++ this) ≤ length output₀
     this-fits = omega (arith, ap length onward, length-append (so-far .done ++ this) (linesFrom (so-far .left) run c))
 
-    pub room-nlriLine : at + length this ≤ length output
-    room-nlriLine = room-next start (so-far .done) this output₀ this-fits at output (so-far .put)
+    pub room-layoutLine : at + length this ≤ length output
+    room-layoutLine = room-next start (so-far .done) this output₀ this-fits at output (so-far .put)
 
     pub listed-next : (r : ℕ) (x : List ℕ) → Put at this output r x → Listed run output₀ start c r x
     listed-next r x w =

@@ -16,12 +16,12 @@ use Rattle.nlri.specs.Family.{familyBits, allowed, isOriginatorSize}
 use Rattle.nlri.specs.Bodies.{bodies, onBody, fieldIn, sameKind, codeOf}
 use Rattle.nlri.specs.Reading.{fixedField, addressEnd, addressField, originatorField, fieldSize, sizesOf, laidWith, laidAt}
 use Rattle.nlri.specs.Layouts.{layoutOf, layoutAt}
-use Rattle.runs.specs.Walking.{readTo, refusedAt, stepUnder, stepFrom}
+use Rattle.runs.specs.Walking.{readTo, refusedAt, stepUnder, stepFrom, walkFrom, walkOf, nlrisFrom, nlrisOf}
 use Rattle.runs.proofs.Steps.{stops-refusedAt, step-long}
-use Rattle.mvpn_list.specs.Listing.{lastDigit, digitsWithin, decimalOf, fieldOf, headerLine, lineOf, openingOf, lastLine, linesFrom, linesOf, listingOf}
+use Rattle.mvpn_list.specs.Listing.{lastDigit, digitsWithin, decimalOf, fieldOf, headerLine, lineOf, nlriLines, openingOf, lastLine, linesOf, listingOf}
 use Rattle.mvpn_list.specs.ListingRule.{Decimal, RunLines, ListingRule}
 use Rattle.mvpn_list.proofs.DecimalRule.{decimal-decimalOf, decimal-only}
-use Rattle.mvpn_list.proofs.Steps.{linesFrom-stops}
+use Rattle.mvpn_list.proofs.Steps.{linesFrom, linesFrom-stops}
 use Rattle.mvpn_list.proofs.RunLines.{familyBits-1, runLines-linesOf, runLines-only}
 
 listingOf-header : (run : List ℕ) → listingOf run ≡ 77 ∷ 86 ∷ 84 ∷ 32 ∷ 108 ∷ 105 ∷ 115 ∷ 116 ∷ 32 ∷ 49 ∷ 10 ∷ linesOf run
@@ -33,7 +33,7 @@ unfolding lastLine openingOf fieldOf decimalOf digitsWithin lastDigit pick
 lastLine-long = refl
 
 linesOf-long : (run : List ℕ) → 4096 < length run → linesOf run ≡ lastLine LONG 0
-unfolding linesOf
+unfolding linesOf linesFrom nlrisOf walkOf
 linesOf-long run h = linesFrom-stops (length run) run 0 LONG (stops-refusedAt LONG 0 (step-long 1 run 0 32 familyBits-1 h))
 
 listingOf-long : (run : List ℕ) → 4096 < length run → listingOf run ≡ headerLine ++ lastLine LONG 0
@@ -49,7 +49,7 @@ listingOf-take input =
 
 listingOf-marked : listingOf (3 ∷ 14 ∷ 0 ∷ 0 ∷ 0 ∷ 100 ∷ 0 ∷ 0 ∷ 0 ∷ 7 ∷ 0 ∷ 0 ∷ 10 ∷ 0 ∷ 0 ∷ 1 ∷ 9 ∷ 0 ∷ [])
     ≡ 77 ∷ 86 ∷ 84 ∷ 32 ∷ 108 ∷ 105 ∷ 115 ∷ 116 ∷ 32 ∷ 49 ∷ 10 ∷ 48 ∷ 32 ∷ 51 ∷ 32 ∷ 49 ∷ 52 ∷ 10 ∷ 115 ∷ 116 ∷ 111 ∷ 112 ∷ 32 ∷ 49 ∷ 54 ∷ 32 ∷ 50 ∷ 10 ∷ []
-unfolding listingOf headerLine linesOf linesFrom lineOf lastLine openingOf fieldOf decimalOf digitsWithin lastDigit stepFrom stepUnder readTo refusedAt familyBits layoutAt laidAt laidWith bodies onBody sizesOf fieldSize fixedField addressField addressEnd originatorField isOriginatorSize allowed layoutOf fieldIn sameKind codeOf part pick both either onOutcome andThen
+unfolding listingOf headerLine linesOf nlriLines nlrisOf nlrisFrom walkOf walkFrom lineOf lastLine openingOf fieldOf decimalOf digitsWithin lastDigit stepFrom stepUnder readTo refusedAt familyBits layoutAt laidAt laidWith bodies onBody sizesOf fieldSize fixedField addressField addressEnd originatorField isOriginatorSize allowed layoutOf fieldIn sameKind codeOf part pick both either onOutcome andThen
 listingOf-marked = refl
 
 pub listingRule : ListingRule

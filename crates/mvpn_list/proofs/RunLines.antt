@@ -13,15 +13,16 @@ use Rattle.octets.specs.Outcome.{given}
 use Rattle.nlri.specs.Family.{familyBits}
 use Rattle.nlri.specs.Fields.{Fields, encodeNlri}
 use Rattle.nlri.specs.Statements.{layoutFor}
+use Rattle.runs.specs.Walking.{walkOf, nlrisOf}
 use Rattle.runs.specs.Statements.{AllWellFormed, RunEnd, RunOf}
 use Rattle.nlri.proofs.Theorems.{lengths}
 use Rattle.nlri.proofs.Statements.Layouts.{length-encoded}
 use Rattle.runs.proofs.WalkRule.{Follow, follow-next, step-follow, stops-follow}
-use Rattle.mvpn_list.specs.Listing.{decimalOf, fieldOf, lineOf, openingOf, lastLine, linesFrom, linesOf}
+use Rattle.mvpn_list.specs.Listing.{decimalOf, fieldOf, lineOf, openingOf, lastLine, linesOf}
 use Rattle.mvpn_list.specs.ListingRule.{NumberLine, Opening, RunLines}
 use Rattle.octets.proofs.Choice.{pick-case}
 use Rattle.mvpn_list.proofs.DecimalRule.{decimal-decimalOf, decimal-only}
-use Rattle.mvpn_list.proofs.Steps.{linesFrom-reads, linesFrom-stops}
+use Rattle.mvpn_list.proofs.Steps.{linesFrom, linesFrom-reads, linesFrom-stops}
 
 numberLine-last : (n : ℕ) → NumberLine (n ∷ []) (fieldOf n 10)
 unfolding fieldOf
@@ -60,7 +61,7 @@ module _ (run : List ℕ) (octets : AllOctets run) (short : length run ≤ 4096)
       (linesFrom-reads left run at (layoutFor f) (at + length (encodeNlri f)) (step-follow 1 32 familyBits-1 run octets short at f fs t r (w .0)))
 
   pub runLines-linesOf : (r : RunOf 32 run) → RunLines (r .number) 0 (r .nlris) (linesOf run)
-  unfolding linesOf
+  unfolding linesOf linesFrom nlrisOf walkOf
   runLines-linesOf r = runLines-linesFrom (r .tail) (r .number) (r .end) (suc (length run)) (r .nlris) 0 (r .wellFormed) (record { size = omega (arith, ap length (r .is)); here = r .is }) (omega arith)
 
 numberLine-some : {ns text : List ℕ} → NumberLine ns text → ns ≡ [] → ⊥

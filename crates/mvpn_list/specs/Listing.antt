@@ -1,12 +1,11 @@
 -- What the listing program prints for every run of AFI 1 (document 01, "Marked examples", the listing), as ASCII octets.
 use Prim.Native.Nat.{ℕ, zero, suc, _+_, _/_, _%_}
 use mathlib.Core.List.{List, [], _∷_, _++_}
-use lib.ListN.{length}
+use lib.ListN.{getD}
 use lib.Dec.{ltb, eqb}
 use Rattle.octets.specs.Numbers.{DONE}
 use Rattle.octets.specs.Choice.{pick}
-use Rattle.nlri.specs.declared.layout.Layout.{Layout}
-use Rattle.runs.specs.Walking.{stepFrom}
+use Rattle.runs.specs.Walking.{walkOf, NlriRead, nlrisOf}
 
 -- what ends a line
 abbrev pub lineFeed : ℕ
@@ -41,9 +40,14 @@ headerLine = 77 ∷ 86 ∷ 84 ∷ 32 ∷ 108 ∷ 105 ∷ 115 ∷ 116 ∷ 32 ∷ 
 unfoldable pub lineOf : (offset type lengthField : ℕ) → List ℕ
 lineOf offset type lengthField = fieldOf offset blank ++ (fieldOf type blank ++ fieldOf lengthField lineFeed)
 
--- the line of an NLRI that begins at an offset
-abbrev pub nlriLine : (offset : ℕ) → Layout → List ℕ
-nlriLine offset layout = lineOf offset (layout .«route_type») (layout .length)
+-- the line of an NLRI that the walk reads: where it begins, and its type and Length, which are its first octets
+abbrev pub nlriLine : NlriRead → List ℕ
+nlriLine nlri = lineOf (nlri .offset) (getD (nlri .octets) 0 0) (getD (nlri .octets) 1 0)
+
+-- a line for each of them
+unfoldable pub nlriLines : List NlriRead → List ℕ
+nlriLines [] = []
+nlriLines (nlri ∷ nlris) = nlriLine nlri ++ nlriLines nlris
 
 -- `end ` where the number is DONE, else `stop `
 unfoldable pub openingOf : ℕ → List ℕ
@@ -53,17 +57,9 @@ openingOf number = pick (eqb number DONE) (101 ∷ 110 ∷ 100 ∷ 32 ∷ []) (1
 unfoldable pub lastLine : (number offset : ℕ) → List ℕ
 lastLine number offset = openingOf number ++ (fieldOf offset blank ++ fieldOf number lineFeed)
 
--- at most so many steps on from a cursor (document 01, "NLRI on the wire", walking a run): a line for each NLRI read, and the last line at the first stop
-unfoldable pub linesFrom : ℕ → List ℕ → ℕ → List ℕ
-linesFrom zero run at = lastLine DONE at
-linesFrom (suc left) run at =
-    pick (stepFrom 1 run at .read)
-    (nlriLine at (stepFrom 1 run at .layout) ++ linesFrom left run (stepFrom 1 run at .cursor))
-    (lastLine (stepFrom 1 run at .number) at)
-
--- the lines after the header. Each step that reads passes octets, so that more steps than octets suffice
+-- the lines after the header: a line for each NLRI that the walk reads, and the last line, where and why it stops
 unfoldable pub linesOf : List ℕ → List ℕ
-linesOf run = linesFrom (suc (length run)) run 0
+linesOf run = nlriLines (nlrisOf 1 run) ++ lastLine (walkOf 1 run .number) (walkOf 1 run .offset)
 
 -- all that is printed
 unfoldable pub listingOf : List ℕ → List ℕ

@@ -7,14 +7,14 @@ use native.Mathlib.Omega.{arith}
 use lib.ListN.{length, getD, drop}
 use Rattle.octets.specs.Numbers.{DONE, LONG, FAMILY}
 use Rattle.octets.specs.Outcome.{given, refused, numberOf}
-use Rattle.octets.proofs.Choice.{pick-true, pick-false}
 use Rattle.octets.proofs.Outcome.{refused-of}
 use Rattle.nlri.specs.declared.layout.Layout.{Layout}
 use Rattle.nlri.specs.Family.{familyBits}
 use Rattle.nlri.specs.Layouts.{layoutAt}
 use Rattle.nlri.proofs.Statements.Faults.{family-refused}
-use Rattle.runs.specs.Walking.{Stepped, readTo, advanced, stepFrom, walkedTo, walkFrom, walkOf}
+use Rattle.runs.specs.Walking.{readTo, advanced, stepFrom, walkedTo, walkFrom, walkOf}
 use Rattle.runs.proofs.Steps.{Stops, stops-endedAt, stops-refusedAt, step-family, step-long, step-end, step-unlaid, step-octet, step-moves}
+use Rattle.runs.proofs.Nlris.{walkFrom-reads, walkFrom-stops}
 
 -- what holds of the walk so far, under a family, at a cursor with a count
 pub record Going (afi bits : ℕ) (run : List ℕ) (at count : ℕ) : Type 0 where
@@ -26,8 +26,8 @@ pub record Going (afi bits : ℕ) (run : List ℕ) (at count : ℕ) : Type 0 whe
 
 -- a walk whose first step stops
 walk-first : (afi : ℕ) (run : List ℕ) (number : ℕ) → Stops (stepFrom afi run 0) number → walkedTo number 0 0 ≡ walkOf afi run
-unfolding walkOf walkFrom
-walk-first afi run number s = sym (pick-false _ _ _ (s .unread) ∙ ap (λ (n : ℕ). walkedTo n 0 0) (s .numbered))
+unfolding walkOf
+walk-first afi run number s = sym (walkFrom-stops _ afi run 0 0 number s)
 
 pub walk-family : (afi : ℕ) (run : List ℕ) (n : ℕ) → familyBits afi ≡ refused n → walkedTo FAMILY 0 0 ≡ walkOf afi run
 walk-family afi run n e = ap (λ (k : ℕ). walkedTo k 0 0) (sym (family-refused afi n e .0)) ∙ walk-first afi run n (stops-refusedAt n 0 (step-family afi run 0 n e))
@@ -42,8 +42,7 @@ going-first afi bits run f h =
 
 module _ (afi bits : ℕ) (run : List ℕ) (at count : ℕ) (so-far : Going afi bits run at count) where
   going-stop : (number : ℕ) → Stops (stepFrom afi run at) number → walkedTo number count at ≡ walkOf afi run
-  unfolding walkFrom
-  going-stop number s = sym (so-far .goes ∙ pick-false _ _ _ (s .unread) ∙ ap (λ (n : ℕ). walkedTo n count at) (s .numbered))
+  going-stop number s = sym (so-far .goes ∙ walkFrom-stops _ afi run at count number s)
 
   pub going-last : length run ≤ at → walkedTo DONE count at ≡ walkOf afi run
   going-last h = going-stop DONE (stops-endedAt at (step-end afi run at bits (so-far .ofFamily) (so-far .short) (omega (arith, so-far .within))))
@@ -65,7 +64,6 @@ module _ (afi bits : ℕ) (run : List ℕ) (at count : ℕ) (so-far : Going afi 
       going-within = step-moves afi run at _ _ (read .1) .1
 
       pub going-next : (next : ℕ) → next ≡ advanced at (getD run (at + 1) 0) → Going afi bits run next (count + 1)
-      unfolding walkFrom readTo
       going-next next past =
           let is = read .1 ∙ ap (readTo (read .0)) (sym past) in
           let left : length run - count ≡ suc (length run - (count + 1)) = omega (arith, so-far .counted) in
@@ -74,7 +72,5 @@ module _ (afi bits : ℕ) (run : List ℕ) (at count : ℕ) (so-far : Going afi 
             short = so-far .short;
             counted = omega (arith, so-far .counted);
             within = omega (arith, going-within);
-            goes =
-                so-far .goes ∙ pick-true _ _ _ (ap (λ (x : Stepped). x .read) is) ∙ ap (λ (x : Stepped). walkFrom (length run - count) afi run (x .cursor) (count + 1)) is
-                ∙ ap (λ (k : ℕ). walkFrom k afi run next (count + 1)) left;
+            goes = so-far .goes ∙ walkFrom-reads _ afi run at count (read .0) next is ∙ ap (λ (k : ℕ). walkFrom k afi run next (count + 1)) left;
           }

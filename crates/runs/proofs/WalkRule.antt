@@ -1,15 +1,16 @@
 -- The walk (document 01, "NLRI on the wire", walking a run): it is the iteration of the step, and counts the NLRIs that the run is made of.
-use mathlib.Core.Path.{_≡_, refl, sym, _∙_, ap, subst}
+use mathlib.Core.Path.{_≡_, refl, sym, _∙_, ap, ap₂, subst}
 use mathlib.Core.Bool.{Bool, true, false}
 use mathlib.Core.Logic.{⊎-elim}
 use mathlib.Core.List.{List, [], _∷_, _++_, append-assoc}
 use Prim.Native.Nat.{ℕ, zero, suc, _+_, _≤_, _<_}
+use native.Mathlib.Nat.{zero-add, add-sub-cancel-left}
 use native.Mathlib.Omega.{arith}
-use lib.ListN.{length, drop, length-append, length-drop}
-use lib.Seq.{drop-drop, drop-append-seam}
+use lib.ListN.{length, take, drop, length-append, length-drop}
+use lib.Seq.{drop-drop, drop-append-seam, take-append-seam}
 use Rattle.octets.specs.Numbers.{DONE}
 use Rattle.octets.specs.Outcome.{given, refused}
-use Rattle.octets.specs.Octets.{AllOctets}
+use Rattle.octets.specs.Octets.{AllOctets, part}
 use Rattle.octets.proofs.Choice.{pick-true, pick-false, opposite}
 use Rattle.octets.proofs.Outcome.{outcome}
 use Rattle.octets.proofs.AllOctets.{octets-drop}
@@ -21,9 +22,11 @@ use Rattle.nlri.specs.Reading.{Laid, laidAt}
 use Rattle.nlri.specs.Statements.{FrontRefusal, layoutFor}
 use Rattle.nlri.proofs.Statements.Acceptance.{front-sound}
 use Rattle.nlri.proofs.Statements.ReadRefusals.{readRefusals}
-use Rattle.runs.specs.Walking.{Stepped, readTo, stepFrom, walkedTo, walkFrom, walkOf}
-use Rattle.runs.specs.Statements.{front, Walks, stopping, going, encodeRun, AllWellFormed, RunEnd, nothing, refusal, RunOf, WalkRule}
+use Rattle.nlri.proofs.Statements.Layouts.{length-encoded}
+use Rattle.runs.specs.Walking.{Stepped, readTo, stepFrom, walkedTo, walkFrom, walkOf, NlriRead, nlrisFrom, nlrisOf}
+use Rattle.runs.specs.Statements.{front, Walks, stopping, going, encodeRun, encodedFrom, AllWellFormed, RunEnd, nothing, refusal, RunOf, WalkRule}
 use Rattle.runs.proofs.Steps.{Stops, step-end, stops-endedAt, stops-refusedAt}
+use Rattle.runs.proofs.Nlris.{nlrisFrom-reads, nlrisFrom-stops, length-nlrisFrom}
 use Rattle.runs.proofs.StepRule.{stepRule}
 
 module _ (afi : ℕ) (run : List ℕ) where
@@ -41,6 +44,10 @@ module _ (afi : ℕ) (run : List ℕ) where
   iterates : Walks afi run 0 0 (walkOf afi run)
   unfolding walkOf
   iterates = walk-from (suc (length run)) 0 0 (omega arith) (omega arith)
+
+counted : (afi : ℕ) (run : List ℕ) → walkOf afi run .count ≡ length (nlrisOf afi run)
+unfolding walkOf nlrisOf
+counted afi run = length-nlrisFrom (suc (length run)) afi run 0 0 ∙ zero-add _
 
 walks-once : (afi : ℕ) (run : List ℕ) (at count : ℕ) (v w : Walked) → Walks afi run at count v → Walks afi run at count w → v ≡ w
 walks-once afi run at count v w (stopping r) (stopping q) = refl
@@ -100,6 +107,21 @@ module _ (afi bits : ℕ) (ofFamily : familyBits afi ≡ given bits) (run : List
       let w = walks-run (r .tail) (r .number) (r .end) (r .nlris) 0 0 (r .wellFormed) (record { size = omega (arith, ap length (r .is)); here = r .is }) in
       walks-once afi run 0 0 _ _ (iterates afi run) w ∙ walked-same (r .number) _ _ _ _ (omega arith) (omega arith)
 
+  nlris-run : (t : List ℕ) (n : ℕ) → RunEnd bits t n → (left : ℕ) (fs : List Fields) (at : ℕ) → AllWellFormed bits fs → Follow run at fs t → length run < left + at → nlrisFrom left afi run at ≡ encodedFrom at fs
+  unfolding encodedFrom part
+  nlris-run t n end zero fs at w r enough = absurd (omega (arith, r .size))
+  nlris-run t n end (suc left) [] at w r enough = nlrisFrom-stops left afi run at n (stops-follow at t n r end)
+  nlris-run t n end (suc left) (f ∷ fs) at w r enough =
+      let size = length (encodeNlri f) in
+      let here : part run at size ≡ encodeNlri f = ap (take size) (first-here run at f fs t r) ∙ take-append-seam (encodeNlri f) (encodeRun fs ++ t) in
+      let later = nlris-run t n end left fs (at + size) (w .1) (follow-next run at f fs t r) (omega (arith, length-encoded f)) in
+      nlrisFrom-reads left afi run at (layoutFor f) (at + size) (step-follow at f fs t r (w .0))
+      ∙ ap₂ (λ (x : List ℕ) (y : List NlriRead). record { offset = at; octets = x } ∷ y) (ap (part run at) (add-sub-cancel-left at size) ∙ here) later
+
+  reads : (r : RunOf bits run) → nlrisOf afi run ≡ encodedFrom 0 (r .nlris)
+  unfolding nlrisOf
+  reads r = nlris-run (r .tail) (r .number) (r .end) (suc (length run)) (r .nlris) 0 (r .wellFormed) (record { size = omega (arith, ap length (r .is)); here = r .is }) (omega arith)
+
 module _ (afi bits : ℕ) (ofFamily : familyBits afi ≡ given bits) where
   -- NLRIs from the front, while reading accepts
   split : (left : ℕ) (s : List ℕ) → length s ≤ left → AllOctets s → RunOf bits s
@@ -133,6 +155,8 @@ walkRule =
     record {
       splits = λ afi bits run ofFamily a. split afi bits ofFamily (length run) run (omega arith) a;
       counts = λ afi bits run r ofFamily a short. counts afi bits ofFamily run a short r;
+      reads = λ afi bits run r ofFamily a short. reads afi bits ofFamily run a short r;
+      counted = counted;
       refuses = λ afi run n a why. walks-once afi run 0 0 _ _ (iterates afi run) (walks-stop afi run 0 0 n (stops-refusedAt n 0 (stepRule .refuses afi run 0 n a .1 why)) _ refl);
       iterates = iterates;
       only = walks-once;

@@ -13,7 +13,7 @@ use Rattle.nlri.specs.Fields.{Fields, encodeNlri, WellFormed}
 use Rattle.nlri.specs.Statements.{KnownType, FrontRefusal, layoutFor}
 use Rattle.runs.specs.declared.stepping.Step.{Step}
 use Rattle.runs.specs.declared.walking.Walked.{Walked}
-use Rattle.runs.specs.Walking.{readTo, endedAt, refusedAt, advanced, stepFrom, steppedOf, walkedTo, walkOf}
+use Rattle.runs.specs.Walking.{readTo, endedAt, refusedAt, advanced, stepFrom, steppedOf, walkedTo, walkOf, NlriRead, nlrisOf}
 
 -- a step that reads: fields well-formed under the AFI's family stand encoded at the cursor of a run that is not too long
 pub record EncodedAt (afi : ℕ) (run : List ℕ) (at : ℕ) (f : Fields) : Type 0 where
@@ -65,6 +65,11 @@ unfoldable pub encodeRun : List Fields → List ℕ
 encodeRun [] = []
 encodeRun (f ∷ fs) = encodeNlri f ++ encodeRun fs
 
+-- the encodings of these NLRIs, each with the offset where it begins, the first of them at an offset
+unfoldable pub encodedFrom : (offset : ℕ) → List Fields → List NlriRead
+encodedFrom offset [] = []
+encodedFrom offset (f ∷ fs) = record { offset = offset; octets = encodeNlri f } ∷ encodedFrom (offset + length (encodeNlri f)) fs
+
 -- each of them well-formed
 abbrev pub AllWellFormed : ℕ → List Fields → Type 0
 AllWellFormed bits [] = Unit {0}
@@ -91,6 +96,10 @@ pub record WalkRule : Type 0 where
   -- the walk counts these NLRIs, and stops where they end with the number there
   pub counts : (afi bits : ℕ) (run : List ℕ) (r : RunOf bits run) → familyBits afi ≡ given bits → AllOctets run → length run ≤ 4096
       → walkOf afi run ≡ walkedTo (r .number) (length (r .nlris)) (length (encodeRun (r .nlris)))
+  -- what it reads is the encodings of these NLRIs, where they stand
+  pub reads : (afi bits : ℕ) (run : List ℕ) (r : RunOf bits run) → familyBits afi ≡ given bits → AllOctets run → length run ≤ 4096 → nlrisOf afi run ≡ encodedFrom 0 (r .nlris)
+  -- of every run it reads as many NLRIs as it counts
+  pub counted : (afi : ℕ) (run : List ℕ) → walkOf afi run .count ≡ length (nlrisOf afi run)
   -- where the first step refuses, as it does a bad AFI and a run that is too long, nothing is read
   pub refuses : (afi : ℕ) (run : List ℕ) (n : ℕ) → AllOctets run → StepRefusal afi run 0 n → walkOf afi run ≡ walkedTo n 0 0
   -- the walk is the iteration of the step, and nothing else is

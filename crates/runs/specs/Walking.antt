@@ -1,12 +1,13 @@
 -- Walking a run (document 01, "NLRI on the wire"): the step from a cursor, and the walk as its iteration.
-use Prim.Native.Nat.{ℕ, zero, suc, _+_}
+use Prim.Native.Nat.{ℕ, zero, suc, _+_, _-_}
 use mathlib.Core.Bool.{Bool, true, false}
-use mathlib.Core.List.{List}
+use mathlib.Core.List.{List, [], _∷_}
 use lib.ListN.{length, drop}
 use lib.Dec.{ltb, eqb}
 use Rattle.octets.specs.Numbers.{DONE, SHORT, LONG}
 use Rattle.octets.specs.Choice.{pick}
 use Rattle.octets.specs.Outcome.{onOutcome}
+use Rattle.octets.specs.Octets.{part}
 use Rattle.nlri.specs.declared.layout.Layout.{Layout}
 use Rattle.runs.specs.declared.stepping.Step.{Step}
 use Rattle.runs.specs.declared.stepping.Step.the-variants.{Nlri, End, Refused}
@@ -70,3 +71,20 @@ walkFrom (suc left) afi run at count =
 -- the walk: the count read, the offset of the stop and its number. Each step that reads passes octets, so that more steps than octets suffice
 unfoldable pub walkOf : ℕ → List ℕ → Walked
 walkOf afi run = walkFrom (suc (length run)) afi run 0 0
+
+-- an NLRI that the walk reads: where it begins in the run, and its octets
+pub record NlriRead : Type 0 where
+  pub offset : ℕ
+  pub octets : List ℕ
+
+-- the NLRIs that the walk reads, in at most so many steps on from a cursor
+unfoldable pub nlrisFrom : ℕ → ℕ → List ℕ → (at : ℕ) → List NlriRead
+nlrisFrom zero afi run at = []
+nlrisFrom (suc left) afi run at =
+    pick (stepFrom afi run at .read)
+    (record { offset = at; octets = part run at (stepFrom afi run at .cursor - at) } ∷ nlrisFrom left afi run (stepFrom afi run at .cursor))
+    []
+
+-- all NLRIs that the walk reads, in order
+unfoldable pub nlrisOf : ℕ → List ℕ → List NlriRead
+nlrisOf afi run = nlrisFrom (suc (length run)) afi run 0

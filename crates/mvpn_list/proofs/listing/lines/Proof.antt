@@ -4,7 +4,7 @@ use native.Mathlib.Omega.{arith}
 use borrow.Author.Needs.{needs}
 use lib.ListN.{length}
 use Rattle.runs.proofs.Steps.{step-moves, step-read, stops-ended, stops-refused}
-use Rattle.mvpn_list.proofs.Lines.{Listed, listed-first, listed-next, listed-last, room-nlriLine, room-lastLine, length-listed}
+use Rattle.mvpn_list.proofs.Lines.{Listed, listed-first, listed-next, listed-last, room-layoutLine, room-lastLine, length-listed}
 use Rattle.mvpn_list.proofs.listing.lines.Statement.{statement}
 use Rattle.mvpn_list.proofs.listing.lines.Tie as tie
 
@@ -18,7 +18,7 @@ loop-holds : tie.Need-loop-holds Inv-loop μ-loop
 loop-holds c = listed-first _ _ _
 
 line-requires : tie.Need-line-requires Inv-loop μ-loop
-line-requires c κs = room-nlriLine _ _ _ _ _ _ (c .before .before .before .before .before .before .before .before .pre) (c .before .before .before .before .before .loop .inv) _ _ (step-read _ _ _ _ (c .before .before .before .before .step .ensures) (c .before .before .layout .given .1))
+line-requires c κs = room-layoutLine _ _ _ _ _ _ (c .before .before .before .before .before .before .before .before .pre) (c .before .before .before .before .before .loop .inv) _ _ (step-read _ _ _ _ (c .before .before .before .before .step .ensures) (c .before .before .layout .given .1))
 
 loop-less : tie.Need-loop-less Inv-loop μ-loop
 loop-less c = let m = step-moves _ _ _ _ _ (step-read _ _ _ _ (c .before .before .before .before .before .before .before .step .ensures) (c .before .before .before .before .before .layout .given .1)) in omega arith
