@@ -2,9 +2,10 @@
  * A provider edge router's use of mvpn.h. It reads BGP UPDATE messages, keeps the S-PMSI A-D and Source Active A-D routes of
  * one VRF in them, and tells which route and which tunnel a customer flow (C-S,C-G) or a shared tree (C-*,C-G) takes.
  *
- *     pe_daemon FILE [REQUEST]...
+ *     pe_daemon [--pieces OCTETS] FILE [REQUEST]...
  *
- * FILE holds whole messages, one after another; `-` is standard input. A request is one of
+ * FILE holds whole messages, one after another; `-` is standard input. The NLRIs of a message are handed to the library in
+ * pieces of so many octets, as a session may deliver them; what is printed is the same for every size. A request is one of
  *
  *     ROUTER SOURCE GROUP                              a flow; ROUTER is the PE that it comes from: ourselves for sending,
  *                                                      the upstream PE for receiving
@@ -40,8 +41,15 @@ typedef struct {
 /* NLRIs, by what became of them. */
 typedef struct { size_t added, replaced, withdrawn, refused; } changes;
 
+/* NLRIs of a run, one after another, kept until it is known that nothing of the run is damaged. */
+typedef struct {
+    uint8_t octets[BGP_LONGEST_MESSAGE];
+    size_t size;
+} kept_nlris;
+
 typedef struct {
     customer_family families[2];            /* of AFI 1 and AFI 2 */
+    size_t piece_size;                      /* the octets of a run that are handed over at once */
     size_t messages, dropped, damaged_runs; /* a run is the NLRIs of one attribute */
     changes routes, sources;                /* of S-PMSI A-D and Source Active A-D routes */
     size_t other;                           /* NLRIs of other route types */
@@ -157,47 +165,79 @@ static void forget_source(customer_vrf *vrf, uint16_t afi, octets nlri)
 
 /* ---- the NLRIs of an attribute */
 
-/* An NLRI of a route type that the library does not know is no damage: it is passed over by its Length field (RFC 7606,
- * section 5.4). The library gives TYPE only where all octets of that NLRI are there. */
-static size_t unknown_size(octets run, size_t at)
+/* An NLRI has its header, and then as many octets as its Length says. */
+static octets first_nlri(octets run)
 {
-    return MVPN_NLRI_HEADER + (size_t)run.at[at + 1];
+    return (octets){ run.at, MVPN_NLRI_HEADER + (size_t)run.at[1] };
 }
 
-/* Walks a whole run, also past NLRIs of unknown type. The number is DONE where no NLRI of the run is damaged. */
-static mvpn_walked walk_run(uint16_t afi, octets run)
+/* The octets behind the first `size` ones. */
+static octets behind(octets all, size_t size)
+{
+    return (octets){ all.at + size, all.size - size };
+}
+
+static void keep_nlri(kept_nlris *kept, octets nlri)
+{
+    memcpy(kept->octets + kept->size, nlri.at, nlri.size);
+    kept->size += nlri.size;
+}
+
+/* Takes a piece off the front of what remains of a run; a piece of no octets is its end. */
+static octets next_piece(octets *run, size_t piece_size)
+{
+    octets piece = { run->at, run->size < piece_size ? run->size : piece_size };
+    *run = behind(*run, piece.size);
+    return piece;
+}
+
+/* Reads a run up to the first refusal, in pieces, and keeps its NLRIs: the loop of mvpn.h. */
+static mvpn_walked read_pieces(uint16_t afi, octets run, size_t piece_size, kept_nlris *kept)
+{
+    uint8_t unfinished[MVPN_UNFINISHED];
+    mvpn_pieces pieces = mvpn_pieces_start(afi);
+    octets piece;
+    while ((piece = next_piece(&run, piece_size)).size > 0)
+        while (piece.size > 0) {
+            mvpn_fed fed = mvpn_pieces_feed(pieces, unfinished, piece.at, piece.size);
+            if (fed.size > 0)
+                keep_nlri(kept, (octets){ unfinished, fed.size });
+            pieces = fed.pieces;
+            piece = behind(piece, fed.taken);
+        }
+    return mvpn_pieces_finish(pieces).walked;
+}
+
+/* Reads a whole run. An NLRI of a route type that the library does not know is no damage: it is passed over by its Length
+ * field (RFC 7606, section 5.4), and the next reader starts behind it; the library gives TYPE only where all octets of that
+ * NLRI are there. The number is DONE where no NLRI of the run is damaged. */
+static mvpn_walked read_run(const route_run *routes, size_t piece_size, kept_nlris *kept)
 {
     mvpn_walked whole = { MVPN_DONE, 0, 0 };
     do {
-        mvpn_walked part = mvpn_walk(afi, run.at + whole.offset, run.size - whole.offset);
+        mvpn_walked part = read_pieces(routes->afi, behind(routes->run, whole.offset), piece_size, kept);
         whole.number = part.number;
         whole.count += part.count;
         whole.offset += part.offset;
         if (part.number == MVPN_TYPE) {
+            octets unknown = first_nlri(behind(routes->run, whole.offset));
+            keep_nlri(kept, unknown);
             whole.count++;
-            whole.offset += (uint32_t)unknown_size(run, whole.offset);
+            whole.offset += (uint32_t)unknown.size;
         }
     } while (whole.number == MVPN_TYPE);
     return whole;
 }
 
-/* One NLRI of a run that has been walked: the octets between two cursors, none at the run's end. Its route type is 0 if the
- * library does not know it; no other step of such a run is refused. */
-static octets nlri_at(const route_run *routes, size_t at, size_t *route_type)
-{
-    mvpn_stepped step = mvpn_step(routes->afi, routes->run.at, routes->run.size, at);
-    *route_type = step.layout.route_type;
-    return (octets){ routes->run.at + at, step.number == MVPN_TYPE ? unknown_size(routes->run, at) : step.cursor - at };
-}
-
 typedef enum { INSTALL, WITHDRAW } change;
 
 /* S-PMSI A-D routes go into the table, Source Active A-D routes are kept beside it; others are named and counted. */
-static void use_nlri(customer_vrf *vrf, change what, const route_run *routes, octets nlri, size_t route_type, octets tunnel)
+static void use_nlri(customer_vrf *vrf, change what, const route_run *routes, octets nlri, octets tunnel)
 {
+    uint8_t route_type = nlri.at[0];
     if (route_type != MVPN_S_PMSI && route_type != MVPN_SOURCE_ACTIVE) {
         vrf->other++;
-        printf("route type %u, %s: not used", nlri.at[0], route_type_name(nlri.at[0]));
+        printf("route type %u, %s: not used", route_type, route_type_name(route_type));
         return;
     }
     mvpn_nlri route = mvpn_nlri_read(routes->afi, nlri.at, nlri.size).nlri;
@@ -213,28 +253,29 @@ static void use_nlri(customer_vrf *vrf, change what, const route_run *routes, oc
         withdraw(vrf, routes->afi, nlri);
 }
 
-static void use_nlris(customer_vrf *vrf, change what, const route_run *routes, octets tunnel)
+static void use_nlris(customer_vrf *vrf, change what, const route_run *routes, const kept_nlris *kept, octets tunnel)
 {
-    size_t at = 0, route_type;
-    octets nlri;
-    while ((nlri = nlri_at(routes, at, &route_type)).size > 0) {
-        printf("    octet %zu: ", at);
-        use_nlri(vrf, what, routes, nlri, route_type, tunnel);
+    octets rest = { kept->octets, kept->size };
+    while (rest.size > 0) {
+        octets nlri = first_nlri(rest);
+        printf("    octet %zu: ", kept->size - rest.size);
+        use_nlri(vrf, what, routes, nlri, tunnel);
         printf("\n");
-        at += nlri.size;
+        rest = behind(rest, nlri.size);
     }
 }
 
-/* The whole run is walked before any of it is used. Where an NLRI is damaged, nobody can tell which routes were meant, so
+/* The whole run is read before any of it is used. Where an NLRI is damaged, nobody can tell which routes were meant, so
  * nothing of that run is installed or withdrawn, not even the NLRIs before the damage, and what the table holds stays.
  * (RFC 7606, section 3, asks for more then: to reset the session or to give up the family. Here there is no session.) */
 static void use_run(customer_vrf *vrf, change what, const route_run *routes, octets tunnel)
 {
-    mvpn_walked walked = walk_run(routes->afi, routes->run);
+    kept_nlris kept = { .size = 0 };
+    mvpn_walked walked = read_run(routes, vrf->piece_size, &kept);
     printf("  %s, %s: ", what == INSTALL ? "MP_REACH_NLRI" : "MP_UNREACH_NLRI", family_name(routes->afi));
     if (walked.number == MVPN_DONE) {
         printf("%u NLRI%s\n", (unsigned)walked.count, walked.count == 1 ? "" : "s");
-        use_nlris(vrf, what, routes, tunnel);
+        use_nlris(vrf, what, routes, &kept, tunnel);
     } else {
         vrf->damaged_runs++;
         printf("nothing of it is used\n    octet %u: damaged NLRI, ", (unsigned)walked.offset);
@@ -480,23 +521,30 @@ static FILE *open_input(const char *name)
 int main(int argc, char **argv)
 {
     static customer_vrf vrf;
+    size_t piece_size = BGP_LONGEST_MESSAGE;
     request asked;
-    if (argc < 2) {
+    int option = parse_pieces(argv + 1, BGP_LONGEST_MESSAGE, &piece_size);
+    if (option < 0)
+        return 2;
+    if (argc < 2 + option) {
         print_usage();
         return 2;
     }
-    if (!requests_are_right(argv + 2))
+    const char *file = argv[1 + option];
+    char **words = argv + 2 + option;
+    if (!requests_are_right(words))
         return 2;
-    FILE *input = open_input(argv[1]);
+    FILE *input = open_input(file);
     if (!input)
         return 1;
 
     make_tables(&vrf);
+    vrf.piece_size = piece_size;
     bool whole = use_messages(&vrf, input);
     if (ferror(input))
-        fprintf(stderr, "pe_daemon: %s cannot be read\n", argv[1]);
+        fprintf(stderr, "pe_daemon: %s cannot be read\n", file);
     print_counts(&vrf);
-    for (char **words = argv + 2; *words;) {
+    while (*words) {
         words += parse_request(words, &asked);
         answer(&vrf, &asked);
     }

@@ -7,7 +7,8 @@
  * match is told: which PE is upstream, which groups are BIDIR-PIM, the Source Active routes and the (C-S,C-G) states.
  *
  * Every call ends with a stated answer on any octets. A call that refuses returns its number, changes no octet of any
- * buffer, and leaves every other field of its answer 0, but for the count and offset of a walk and the cursor of a step.
+ * buffer, and leaves every other field of its answer 0, but for the count and offset of a walk, the cursor of a step, and what
+ * a reader of pieces keeps.
  *
  * What the caller owes: a pointer is valid for the length given beside it, which is at most PTRDIFF_MAX; where the length
  * is 0 the pointer may be any non-null address. No alignment is asked. A buffer that is written overlaps no other argument.
@@ -27,9 +28,9 @@
 #include <stdint.h>
 
 /* The version of this header and its archive; before 1.0.0 a new minor version may change calls. */
-#define MVPN_VERSION "0.5.0"
+#define MVPN_VERSION "0.6.0"
 #define MVPN_VERSION_MAJOR 0
-#define MVPN_VERSION_MINOR 5
+#define MVPN_VERSION_MINOR 6
 #define MVPN_VERSION_PATCH 0
 
 #ifdef __cplusplus
@@ -171,6 +172,59 @@ mvpn_stepped mvpn_step(uint16_t afi, const uint8_t *run, size_t run_len, size_t 
  * An NLRI refused with TYPE is whole: a caller may go on behind it, run[offset + 1] octets past its header.
  */
 mvpn_walked mvpn_walk(uint16_t afi, const uint8_t *run, size_t run_len);
+
+/*
+ * A run that arrives in pieces, as a session delivers it. Wherever a run of at most 4,096 octets is cut, also with pieces of no
+ * octets, a reader gives the NLRIs that the walk reads in the whole run, each once and in order, and after finish it has the
+ * walk's answer. It keeps one unfinished NLRI at the most, in octets that the caller lends. The caller's loop:
+ *
+ *     uint8_t unfinished[MVPN_UNFINISHED];
+ *     mvpn_pieces pieces = mvpn_pieces_start(afi);
+ *     while (next_piece(&piece, &size))
+ *         while (size > 0) {
+ *             mvpn_fed fed = mvpn_pieces_feed(pieces, unfinished, piece, size);
+ *             if (fed.size > 0) keep_nlri(unfinished, fed.size);
+ *             pieces = fed.pieces, piece += fed.taken, size -= fed.taken;
+ *         }
+ *     pieces = mvpn_pieces_finish(pieces);
+ *     if (pieces.walked.number == MVPN_DONE) use_kept_nlris();
+ *
+ * A reader's state is plain numbers, and only these calls write it; between two feeds nobody else writes `unfinished`. Of a
+ * state that these calls did not make, or of `unfinished` that somebody else wrote, the answer means nothing, and is still safe:
+ * no octet is touched but of `unfinished`, no more octets are taken than were lent, no more given than `unfinished` has.
+ */
+enum { MVPN_UNFINISHED = 257 }; /* the longest NLRI: its header and a Length of 255 */
+
+typedef struct {
+    mvpn_walked walked; /* after finish: the walk's answer */
+    uint32_t afi, stage, total, kept;
+} mvpn_pieces;
+
+typedef struct {
+    mvpn_pieces pieces; /* the reader afterwards */
+    size_t taken;       /* octets taken of the piece; the rest is handed over next */
+    size_t size;        /* of the NLRI that is now whole at the front of `unfinished`; 0: none */
+} mvpn_fed;
+
+/* Starts a reader. FAMILY: the reader is finished from the start, and has the walk's answer, 0, 0, FAMILY. */
+mvpn_pieces mvpn_pieces_start(uint16_t afi);
+
+/*
+ * Hands over a piece, or the rest of one: octets of it are taken up to the end of one NLRI, and of a piece that is not empty at
+ * least one. `unfinished` is MVPN_UNFINISHED octets; what they hold before the first feed is no matter. An NLRI that is given
+ * stands there until the next feed. No number is told before finish:
+ *   - at the first NLRI that is whole and refused the reading stops: pieces are taken whole and counted, and no NLRI is given;
+ *   - where the octets taken before and the piece are over 4,096 together, stop or no stop, the run is LONG: the piece is taken
+ *     whole and gives no NLRI, those given before are void, and so it stays;
+ *   - after finish a piece is taken whole, and nothing is counted, given or written.
+ */
+mvpn_fed mvpn_pieces_feed(mvpn_pieces pieces, uint8_t *unfinished, const uint8_t *piece, size_t piece_len);
+
+/*
+ * Ends the run: `walked` has the walk's answer to all octets handed over. SHORT where an NLRI is unfinished. A reader that is
+ * finished stays as it is.
+ */
+mvpn_pieces mvpn_pieces_finish(mvpn_pieces pieces);
 
 typedef struct { uint32_t number, group_class; } mvpn_group;
 

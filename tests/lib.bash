@@ -53,6 +53,11 @@ cpp() {
 
 # ---- documents
 
+# The loop that the header shows to callers who read a run in pieces.
+callers_loop() {
+    sed -n "/The caller's loop:/,/\*\//s/^ \*     //p" include/mvpn.h
+}
+
 # blocks LANGUAGE FILE: the lines of the fenced blocks of that language.
 blocks() {
     awk -v fence="\`\`\`$1" '$0 == fence { inside = 1; next } /^```/ { inside = 0 } inside' "$2"

@@ -12,6 +12,9 @@ pub enum Call {
     NlriWrite,
     Step,
     Walk,
+    PiecesStart,
+    PiecesFeed,
+    PiecesFinish,
     GroupClass,
     AttributeRead,
     AttributeWrite,
@@ -35,6 +38,14 @@ pub enum Seen {
     Leaf(u16, u8, usize),
     /// A step at the run's end.
     End,
+    /// Feeds that it took to give an NLRI; 3 stands for more.
+    Feeds(usize),
+    /// A feed of no octets.
+    NoOctets,
+    /// A feed of a reader that is finished.
+    Finished,
+    /// A reader's state that no call made.
+    Forged,
     /// AFI and class.
     Class(u16, u32),
     Tunnel(u32),
@@ -59,11 +70,13 @@ pub enum Seen {
 }
 
 /// The numbers that each call can give (document 01, "The numbers a call gives back"; document 02).
-const NUMBERS: [(Call, &[u32]); 12] = [
+const NUMBERS: [(Call, &[u32]); 14] = [
     (Call::NlriRead, &[0, 1, 2, 3, 4, 5, 10]),
     (Call::NlriWrite, &[0, 2, 4, 5, 10, 16]),
     (Call::Step, &[0, 1, 2, 3, 4, 5, 8, 10]),
     (Call::Walk, &[0, 1, 2, 3, 4, 5, 8, 10]),
+    (Call::PiecesStart, &[0, 10]),
+    (Call::PiecesFinish, &[0, 1, 2, 3, 4, 5, 8, 10]),
     (Call::GroupClass, &[0, 10, 15]),
     (Call::AttributeRead, &[0, 1, 6, 7, 8]),
     (Call::AttributeWrite, &[0, 6, 7, 8, 9, 16]),
@@ -113,7 +126,9 @@ fn required() -> Vec<(Call, Seen)> {
         .flat_map(|(tunnel, element)| [1, 2].map(|family| (Call::AttributeRead, Seen::Fec(tunnel, element, family))));
     let tables = [1, 2].into_iter().flat_map(required_of_tables);
     let single = [(Call::Step, Seen::End), (Call::Sequence, Seen::Nobody)];
-    numbers.chain(families).chain(tunnels).chain(elements).chain(tables).chain(single).collect()
+    let fed = [Seen::Feeds(1), Seen::Feeds(2), Seen::Feeds(3), Seen::NoOctets, Seen::Finished, Seen::Forged];
+    let fed = fed.map(|seen| (Call::PiecesFeed, seen));
+    numbers.chain(families).chain(tunnels).chain(elements).chain(tables).chain(single).chain(fed).collect()
 }
 
 fn required_of_tables(afi: u16) -> Vec<(Call, Seen)> {
@@ -135,7 +150,7 @@ fn required_of_tables(afi: u16) -> Vec<(Call, Seen)> {
 
 fn required_of_family(afi: u16) -> Vec<(Call, Seen)> {
     let mut rows = vec![(Call::GroupClass, Seen::Class(afi, 1)), (Call::GroupClass, Seen::Class(afi, 2))];
-    for call in [Call::NlriRead, Call::NlriWrite, Call::Step] {
+    for call in [Call::NlriRead, Call::NlriWrite, Call::Step, Call::PiecesFeed] {
         rows.extend((1..=7).map(|route_type| (call, Seen::Route(route_type, afi))));
     }
     for originator in [4, 16] {

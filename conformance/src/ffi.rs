@@ -95,6 +95,32 @@ pub struct Walked {
     pub offset: u32,
 }
 
+/// Octets that a reader of pieces is lent: the longest NLRI.
+pub const UNFINISHED: usize = 257;
+
+/// A reader of a run that arrives in pieces.
+#[repr(C)]
+#[derive(Clone, Copy, Debug, Default, PartialEq, Eq)]
+pub struct Pieces {
+    /// After finish the walk's answer.
+    pub walked: Walked,
+    // What the reader keeps, as it likes.
+    pub afi: u32,
+    pub stage: u32,
+    pub total: u32,
+    pub kept: u32,
+}
+
+#[repr(C)]
+#[derive(Clone, Copy, Debug, Default, PartialEq, Eq)]
+pub struct Fed {
+    pub pieces: Pieces,
+    /// Octets taken of the piece.
+    pub taken: usize,
+    /// Octets of the NLRI that is whole at the front of the lent ones; 0 where there is none.
+    pub size: usize,
+}
+
 #[repr(C)]
 #[derive(Clone, Copy, Debug, Default, PartialEq, Eq)]
 pub struct Group {
@@ -157,6 +183,8 @@ const _: () = assert!(
         && size_of::<Nlri>() == 68
         && size_of::<NlriReading>() == 88
         && size_of::<Stepped>() == 64
+        && size_of::<Pieces>() == 28
+        && size_of::<Fed>() == 48
         && size_of::<AttributeReading>() == 80
         && size_of::<Installed>() == 8
         && size_of::<Matched>() == 16
@@ -171,6 +199,9 @@ pub mod raw {
     pub type NlriWrite = unsafe extern "C" fn(u16, Nlri, *const u8, usize, *mut u8, usize) -> Written;
     pub type Step = unsafe extern "C" fn(u16, *const u8, usize, usize) -> Stepped;
     pub type Walk = unsafe extern "C" fn(u16, *const u8, usize) -> Walked;
+    pub type PiecesStart = unsafe extern "C" fn(u16) -> Pieces;
+    pub type PiecesFeed = unsafe extern "C" fn(Pieces, *mut u8, *const u8, usize) -> Fed;
+    pub type PiecesFinish = unsafe extern "C" fn(Pieces) -> Pieces;
     pub type GroupClass = unsafe extern "C" fn(u16, *const u8, usize) -> Group;
     pub type AttributeRead = unsafe extern "C" fn(*const u8, usize) -> AttributeReading;
     pub type AttributeWrite = unsafe extern "C" fn(u8, u8, u32, *const u8, usize, *mut u8, usize) -> Written;
@@ -199,6 +230,9 @@ pub mod raw {
         ) -> Written;
         pub fn mvpn_step(afi: u16, run: *const u8, run_len: usize, cursor: usize) -> Stepped;
         pub fn mvpn_walk(afi: u16, run: *const u8, run_len: usize) -> Walked;
+        pub fn mvpn_pieces_start(afi: u16) -> Pieces;
+        pub fn mvpn_pieces_feed(pieces: Pieces, unfinished: *mut u8, piece: *const u8, piece_len: usize) -> Fed;
+        pub fn mvpn_pieces_finish(pieces: Pieces) -> Pieces;
         pub fn mvpn_group_class(afi: u16, group: *const u8, group_len: usize) -> Group;
         pub fn mvpn_attribute_read(attribute: *const u8, attribute_len: usize) -> AttributeReading;
         pub fn mvpn_attribute_write(
@@ -266,6 +300,20 @@ pub fn step(afi: u16, run: &mut Lent, cursor: usize) -> Stepped {
 
 pub fn walk(afi: u16, run: &mut Lent) -> Walked {
     unsafe { raw::mvpn_walk(afi, run.pointer(), run.len()) }
+}
+
+pub fn pieces_start(afi: u16) -> Pieces {
+    unsafe { raw::mvpn_pieces_start(afi) }
+}
+
+/// `unfinished` has exactly `UNFINISHED` octets.
+pub fn pieces_feed(pieces: Pieces, unfinished: &mut Lent, piece: &mut Lent) -> Fed {
+    assert_eq!(unfinished.len(), UNFINISHED);
+    unsafe { raw::mvpn_pieces_feed(pieces, unfinished.pointer(), piece.pointer(), piece.len()) }
+}
+
+pub fn pieces_finish(pieces: Pieces) -> Pieces {
+    unsafe { raw::mvpn_pieces_finish(pieces) }
 }
 
 pub fn group_class(afi: u16, group: &mut Lent) -> Group {

@@ -40,6 +40,12 @@ impl Lent {
         self.expected[self.start..][..octets.len()].copy_from_slice(octets);
     }
 
+    /// States that the call may leave any octets in what was lent.
+    pub fn expect_any(&mut self) {
+        let lent = self.start..self.start + self.size;
+        self.expected[lent.clone()].copy_from_slice(&self.memory[lent]);
+    }
+
     /// The pointer handed to C. It is good for the whole memory, so that a stray write is seen and not undefined.
     pub fn pointer(&mut self) -> *mut u8 {
         match self.dangling {

@@ -84,6 +84,7 @@ fn finds(options: &Options, fault: Fault) -> bool {
         ShownBy::Tables => cases::of_tables(&mut harness, options),
         ShownBy::SharedTrees => cases::of_shared_trees(&mut harness, options),
         ShownBy::Encodings => cases::of_encodings(&mut harness, options),
+        ShownBy::Pieces => cases::of_pieces(&mut harness, options),
     };
     let name = fault.name();
     match result {

@@ -3,11 +3,12 @@
 #include <arpa/inet.h>
 #include <stdbool.h>
 #include <stdio.h>
+#include <stdlib.h>
 #include <string.h>
 
 void print_usage(void)
 {
-    fprintf(stderr, "usage: pe_daemon FILE [REQUEST]...\n"
+    fprintf(stderr, "usage: pe_daemon [--pieces OCTETS] FILE [REQUEST]...\n"
                     "a request is one of\n"
                     "  ROUTER SOURCE GROUP\n"
                     "  shared ROUTER GROUP [upstream] [bidir] [unused]\n"
@@ -17,6 +18,20 @@ void print_usage(void)
 static bool is(const char *word, const char *name)
 {
     return word && strcmp(word, name) == 0;
+}
+
+int parse_pieces(char **words, size_t most, size_t *octets)
+{
+    if (!is(words[0], "--pieces"))
+        return 0;
+    char *end = words[1];
+    unsigned long number = words[1] ? strtoul(words[1], &end, 10) : 0;
+    if (!end || *end || number < 1 || number > most) {
+        fprintf(stderr, "pe_daemon: a piece has 1 to %zu octets\n", most);
+        return -1;
+    }
+    *octets = number;
+    return 2;
 }
 
 static bool parse_address(const char *text, mvpn_address *address)

@@ -7,6 +7,10 @@
 /* How the command line is written. */
 void print_usage(void);
 
+/* Reads the option `--pieces OCTETS`, 1 to `most` of them, where the words begin with it. How many words it has: 0 where it is
+ * not given, and -1, after standard error has been told why, where it is wrong. */
+int parse_pieces(char **words, size_t most, size_t *octets);
+
 typedef enum { FLOW, SHARED_TREE, STATE } request_kind;
 
 typedef struct {

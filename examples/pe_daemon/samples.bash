@@ -1,14 +1,15 @@
 #!/usr/bin/env bash
-# Runs the program over the sample messages and asks it about flows and shared trees: samples.bash PROGRAM. What it prints is
-# samples.txt.
+# Runs the program over the sample messages and asks it about flows and shared trees: samples.bash PROGRAM [OCTETS]. What it
+# prints is samples.txt, whatever the octets of a piece.
 set -euo pipefail
 program=$(realpath "$1")
+pieces=(${2:+--pieces "$2"})
 cd "$(dirname "${BASH_SOURCE[0]}")/../updates"
 
 # run FILE [REQUEST]...
 run() {
     printf '\n==== pe_daemon %s\n\n' "$1"
-    "$program" "$@" || echo "exit status $?"
+    "$program" "${pieces[@]}" "$@" || echo "exit status $?"
 }
 
 # The tiers in turn; a route that was withdrawn, so the next tier has it; (C-*,C-G) is not for SSM groups; a tie, in which a
@@ -111,3 +112,11 @@ run ipv4.bin 10.0.0.1 192.0.2.1 all 2>&1
 run ipv4.bin shared 10.0.0.1 2>&1
 run ipv4.bin shared 10.0.0.1 239.1.1.1 downstream 2>&1
 run ipv4.bin state 192.0.2.1 2>&1
+
+# Pieces of no octets, of more than a message has, of what is no number, and of nothing; no file.
+for words in '--pieces 0 ipv4.bin' '--pieces 4097 ipv4.bin' '--pieces 1O ipv4.bin' '--pieces' '--pieces 1' ''; do
+    printf '\n==== pe_daemon%s\n\n' "${words:+ $words}"
+    # The words are several.
+    # shellcheck disable=SC2086
+    "$program" $words 2>&1 || echo "exit status $?"
+done

@@ -12,6 +12,8 @@ static_assert(sizeof(mvpn_written) == 16, "mvpn_written");
 static_assert(sizeof(mvpn_layout) == 48, "mvpn_layout");
 static_assert(sizeof(mvpn_stepped) == 64, "mvpn_stepped");
 static_assert(sizeof(mvpn_walked) == 12, "mvpn_walked");
+static_assert(sizeof(mvpn_pieces) == 28, "mvpn_pieces");
+static_assert(sizeof(mvpn_fed) == 48, "mvpn_fed");
 static_assert(sizeof(mvpn_group) == 8, "mvpn_group");
 static_assert(sizeof(mvpn_fec) == 40, "mvpn_fec");
 static_assert(sizeof(mvpn_attribute_reading) == 80, "mvpn_attribute_reading");
@@ -33,11 +35,13 @@ static bool lists()
 int main()
 {
     const uint8_t octets[] = {0};
-    uint8_t output[] = {0};
-    // With no octets: DONE of step and walk, and each other call's first refusal.
+    uint8_t output[] = {0}, unfinished[MVPN_UNFINISHED];
+    mvpn_fed fed = mvpn_pieces_feed(mvpn_pieces_start(1), unfinished, octets, 0);
+    // With no octets: DONE of step, walk and pieces, and each other call's first refusal.
     bool as_expected = mvpn_nlri_read(1, octets, 0).number == MVPN_SHORT &&
                        mvpn_nlri_write(1, mvpn_nlri{}, octets, 0, output, 0).number == MVPN_TYPE &&
                        mvpn_step(1, octets, 0, 0).number == MVPN_DONE && mvpn_walk(1, octets, 0).number == MVPN_DONE &&
+                       fed.size == 0 && mvpn_pieces_finish(fed.pieces).walked.number == MVPN_DONE &&
                        mvpn_group_class(1, octets, 0).number == MVPN_FLOW &&
                        mvpn_attribute_read(octets, 0).number == MVPN_SHORT &&
                        mvpn_attribute_write(0, 0, 0, octets, 0, output, 0).number == MVPN_SPACE &&

@@ -29,7 +29,9 @@ static const uint8_t run[] = { 4, 76, S_PMSI, ORIGINATOR, S_PMSI, 1, 24, RD, ORI
 static const uint8_t mldp[] = { 0, 2, 0, 0, 0, 6, 0, 2, 16, ORIGINATOR, 0, 3, 1, 2, 3 };
 static const uint8_t bier[] = { 0, 11, 0, 0, 16, 1, 0, 2, ORIGINATOR }, pim[] = { 0, 3, 0, 0, 0, SOURCE, GROUP };
 
-static uint8_t output[MVPN_MATCH_OUTPUT];
+static const uint8_t unknown[] = { 9, 0 };
+
+static uint8_t output[MVPN_MATCH_OUTPUT], unfinished[MVPN_UNFINISHED];
 
 /* What NLRI writing takes; a type lacks some of it. */
 static mvpn_nlri fields = { .distinguisher = { { RD } }, .source = { { SOURCE }, 16 }, .group = { { GROUP }, 16 },
@@ -93,6 +95,30 @@ RUN(write_join, WRITES(join))
 RUN(step_leaf, mvpn_step(2, run, sizeof run, 0).layout.key == sizeof s_pmsi)
 RUN(step_s_pmsi, mvpn_step(2, run, sizeof run, sizeof leaf).layout.group == 16)
 RUN(walk_run, mvpn_walk(2, run, sizeof run).count == 3)
+
+RUN(start_pieces, mvpn_pieces_start(2).walked.number == MVPN_DONE)
+RUN(start_no_family, mvpn_pieces_start(3).walked.number == MVPN_FAMILY)
+
+/* A reader just started, and one that has read a part of an NLRI. */
+static mvpn_pieces started, inside;
+
+static void read_part(void)
+{
+    started = mvpn_pieces_start(2);
+    inside = mvpn_pieces_feed(started, unfinished, leaf, 20).pieces;
+}
+
+static mvpn_fed fed;
+
+#define FEEDS(octets, len, wanted_taken, wanted_size) \
+    (fed = mvpn_pieces_feed(started, unfinished, octets, len), fed.taken == (wanted_taken) && fed.size == (wanted_size))
+RUN(feed_whole, FEEDS(run, sizeof run, sizeof leaf, sizeof leaf))
+RUN(feed_part, FEEDS(leaf, 20, 20, 0))
+RUN(feed_unknown, FEEDS(unknown, sizeof unknown, sizeof unknown, 0))
+RUN(feed_long, FEEDS(full, sizeof full, sizeof full, 0))
+RUN(finish_whole, mvpn_pieces_finish(started).walked.number == MVPN_DONE)
+RUN(finish_part, mvpn_pieces_finish(inside).walked.number == MVPN_SHORT)
+
 RUN(class_group, mvpn_group_class(2, group, sizeof group).group_class == MVPN_SSM)
 
 #define READS_ATTRIBUTE(octets) mvpn_attribute_read(octets, sizeof octets).number == MVPN_DONE
@@ -194,6 +220,14 @@ static const struct {
     { "mvpn_step", step_leaf, full },
     { "mvpn_step", step_s_pmsi, full },
     { "mvpn_walk", walk_run, full },
+    { "mvpn_pieces_start", start_pieces, full },
+    { "mvpn_pieces_start", start_no_family, full },
+    { "mvpn_pieces_feed", feed_whole, full },
+    { "mvpn_pieces_feed", feed_part, full },
+    { "mvpn_pieces_feed", feed_unknown, full },
+    { "mvpn_pieces_feed", feed_long, full },
+    { "mvpn_pieces_finish", finish_whole, full },
+    { "mvpn_pieces_finish", finish_part, full },
     { "mvpn_group_class", class_group, full },
     { "mvpn_attribute_read", read_mldp, full },
     { "mvpn_attribute_read", read_bier, full },
@@ -283,6 +317,7 @@ int main(void)
     fill(full, 0);
     fill(roomy, 1);
     fill_shared_trees();
+    read_part();
     size_t base = depth(nothing, full);
     for (size_t i = 0; i < ROWS(runs);) {
         const char *name = runs[i].name;

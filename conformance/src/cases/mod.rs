@@ -14,6 +14,7 @@ pub mod near;
 pub mod nlri_writing;
 pub mod no_tunnel;
 pub mod outside;
+pub mod pieces;
 pub mod random_cases;
 pub mod routes;
 pub mod samples;
@@ -32,6 +33,7 @@ use crate::{
 /// Runs every kind of case; stops at the first disagreement.
 pub fn all(harness: &mut Harness, options: &Options) -> Checked {
     of_encodings(harness, options)?;
+    of_pieces(harness, options)?;
     of_shared_trees(harness, options)?;
     of_tables(harness, options)
 }
@@ -52,6 +54,11 @@ pub fn of_encodings(harness: &mut Harness, options: &Options) -> Checked {
         Some(program) => listing::all(harness, &mut random, program),
         None => Ok(()),
     }
+}
+
+/// Runs that arrive in pieces.
+pub fn of_pieces(harness: &mut Harness, options: &Options) -> Checked {
+    pieces::all(harness, &mut Random::new(options.seed), options.cases)
 }
 
 /// The match for shared trees alone.

@@ -3,6 +3,7 @@
 pub mod attribute;
 pub mod group;
 pub mod nlri;
+pub mod pieces;
 pub mod run;
 pub mod table;
 
@@ -84,6 +85,8 @@ pub struct Harness {
     flow: [Lent; 3],
     /// Source Active routes and states.
     lists: [Lent; 2],
+    /// What a reader of pieces is lent.
+    unfinished: Lent,
 }
 
 impl Harness {
@@ -145,7 +148,7 @@ impl Harness {
         }
     }
 
-    fn buffers(&self) -> [(&'static str, &Lent); 9] {
+    fn buffers(&self) -> [(&'static str, &Lent); 10] {
         let [router, source, group] = &self.flow;
         let [source_actives, states] = &self.lists;
         [
@@ -158,6 +161,7 @@ impl Harness {
             ("group", group),
             ("list of Source Active routes", source_actives),
             ("list of states", states),
+            ("unfinished NLRI", &self.unfinished),
         ]
     }
 }

@@ -2,6 +2,7 @@
 
 use crate::{
     cases::{near, nlri_writing::fields},
+    ffi::UNFINISHED,
     plain,
     random::Random,
     second::{answers::written, Second},
@@ -50,5 +51,35 @@ fn writing_as_the_second_decoder() {
         let answer = unsafe { plain::attribute_write(7, tunnel_type, label_field, octets, size, pointer, room) };
         assert_eq!(answer, written(&encoding));
         assert_eq!(output[..answer.size], encoding.unwrap_or_default());
+    }
+}
+
+/// Any run in any pieces: the same NLRIs and the same answer, and every call after finish repeats it.
+#[test]
+fn pieces_as_the_second_decoder() {
+    let (second, mut random) = (Second::sound(), Random::new(3));
+    for round in 0..6_000 {
+        let afi = near::afi(&mut random);
+        let size = if round % 30 == 0 { 4_000 + random.below(200) } else { random.below(300) };
+        let mut run = near::run_of(&mut random, afi, size);
+        near::disturb(&mut random, &mut run);
+        let most = 1 + random.below(120);
+        let mut unfinished: [u8; UNFINISHED] = random.array();
+        let (mut plain, mut reader) = (plain::pieces_start(afi), second.pieces_start(afi));
+        let mut rest = &run[..];
+        while !rest.is_empty() {
+            let piece = &rest[..rest.len().min(random.below(most + 1))];
+            let fed = unsafe { plain::pieces_feed(plain, unfinished.as_mut_ptr(), piece.as_ptr(), piece.len()) };
+            let expected = second.pieces_feed(&reader, piece);
+            assert!(expected.taken.contains(&fed.taken), "{fed:?} {expected:?}");
+            assert_eq!(unfinished[..fed.size], expected.nlri);
+            second.pieces_fed(&mut reader, piece, &expected.nlri, fed.taken);
+            (plain, rest) = (fed.pieces, &rest[fed.taken..]);
+        }
+        for _ in 0..2 {
+            plain = plain::pieces_finish(plain);
+            assert_eq!(plain.walked, second.pieces_finish(&mut reader));
+            plain = unsafe { plain::pieces_feed(plain, unfinished.as_mut_ptr(), run.as_ptr(), run.len()) }.pieces;
+        }
     }
 }

@@ -1,11 +1,12 @@
 //! Wrong behaviours that can be switched on in the second decoder, one at a time. A comparison that does not notice one
 //! is too weak.
 
-/// The calls that show a fault; those on a table alone show the faults of the table and of the books, and matches for
-/// shared trees alone those of that call and of its lists.
+/// The calls that show a fault; those on a table alone show the faults of the table and of the books, and the others each
+/// those of one call alone: readers of pieces, matches for shared trees.
 #[derive(Clone, Copy, Debug, PartialEq, Eq)]
 pub enum ShownBy {
     Encodings,
+    Pieces,
     Tables,
     SharedTrees,
 }
@@ -71,6 +72,29 @@ faults! {
         SOURCE_AS_LITTLE_ENDIAN: "the source AS is written low octet first",
         LABEL_LIMIT_OFF: "a label field of 16,777,216 is allowed",
         LABEL_BEFORE_IDENT: "writing finds a bad label field before a bad tunnel or identifier",
+    }
+    Pieces {
+        PIECES_GIVE_NONE: "no NLRI is given",
+        PIECES_GIVE_TWICE: "an NLRI that came in several pieces is given twice",
+        PIECES_FORGET: "what a piece leaves unfinished is forgotten",
+        PIECES_TAKE_ALL: "a feed takes the rest of its piece with an NLRI",
+        PIECES_WITHOUT_HEADER: "an NLRI is given without its header",
+        EMPTY_PIECE_ENDS: "a piece of no octets ends the run",
+        SHORT_AT_ONCE: "an NLRI that its piece cuts is SHORT before finish",
+        SHORT_UNTOLD: "octets left at finish are not SHORT",
+        STOP_READS_ON: "NLRIs behind a refused one are given",
+        STOP_UNCOUNTED: "octets after a stop are not counted",
+        PIECES_LIMIT_4095: "4,096 octets in all are LONG",
+        PIECES_LIMIT_4097: "4,097 octets in all are not LONG",
+        PIECES_LIMIT_EACH: "each piece may have 4,096 octets",
+        LONG_WHEN_TAKEN: "a piece that passes 4,096 gives the NLRIs within them",
+        LONG_KEEPS_COUNT: "LONG keeps the count and the offset",
+        LONG_KEEPS_STOP: "an earlier stop's number is kept where LONG is due",
+        FINISH_ANEW: "a second finish answers as for no octets",
+        FED_AFTER_FINISH: "a feed after finish is read",
+        FINISHED_TAKES_NONE: "a feed after finish takes no octets",
+        BAD_AFI_COUNTED: "with a bad AFI too many octets are LONG",
+        BAD_AFI_FINISHED: "with a bad AFI finish answers as for no octets",
     }
     Tables {
         PLACES_LIMIT_OFF: "a table may have 501 places",

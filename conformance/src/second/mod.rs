@@ -14,6 +14,9 @@ pub mod lists;
 pub mod nlri;
 pub mod nlri_writing;
 pub mod number;
+pub mod pieces;
+#[cfg(test)]
+mod pieces_tests;
 pub mod rows;
 pub mod run;
 pub mod shared;

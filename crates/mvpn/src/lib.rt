@@ -5,6 +5,7 @@ ghost use Rattle.octets.specs.Outputs.{Wrote};
 ghost use Rattle.nlri.specs.Reading.{readNlri};
 ghost use Rattle.nlri.specs.Writing.{writeNlri};
 ghost use Rattle.runs.specs.Walking.{stepFrom, refusedAt, walkOf};
+ghost use Rattle.pieces.specs.Feeding.{startOf, feedOf, finishOf};
 ghost use Rattle.nlri.specs.Groups.{classOf, groupOf};
 ghost use Rattle.nlri.specs.Answers.{structFields, nlriAnswer};
 ghost use Rattle.tunnel.specs.Answers.{readStruct, writeOutcome};
@@ -20,6 +21,9 @@ use nlri::NlriReading;
 use octets::Span;
 use octets::Written;
 use octets::number::DONE;
+use pieces::Fed;
+use pieces::Pieces;
+use pieces::UnfinishedNlri;
 use routes::Installed;
 use routes::Matched;
 use runs::Cursor;
@@ -141,6 +145,35 @@ pub extern "C" fn mvpn_walk(afi: u16, run: &[u8]) -> Walked
     ensures { λ r. ⌜ r ≡ walkOf afi (now (run .entry)) ⌝ }
 {
     runs::walk(afi, run)
+}
+
+// Starts a reader of a run that arrives in pieces.
+#[no_mangle]
+pub extern "C" fn mvpn_pieces_start(afi: u16) -> Pieces
+    ensures { λ r. ⌜ r ≡ startOf afi ⌝ }
+{
+    pieces::start(afi)
+}
+
+// Hands over a piece, of which octets are taken up to the end of one NLRI.
+#[no_mangle]
+pub extern "C" fn mvpn_pieces_feed(
+    reader: Pieces,
+    unfinished: &mut UnfinishedNlri,
+    piece: &[u8],
+) -> Fed
+    ensures { λ r. ⌜ r ≡ feedOf reader (now (unfinished .entry)) (now (piece .entry)) .answer ⌝ }
+    ensures { λ r. ⌜ now (unfinished .exit) ≡ feedOf reader (now (unfinished .entry)) (now (piece .entry)) .octets ⌝ }
+{
+    pieces::feed(reader, unfinished, piece)
+}
+
+// Ends the run: the reader afterwards has the walk's answer.
+#[no_mangle]
+pub extern "C" fn mvpn_pieces_finish(reader: Pieces) -> Pieces
+    ensures { λ r. ⌜ r ≡ finishOf reader ⌝ }
+{
+    pieces::finish(reader)
 }
 
 // The class of a customer group.

@@ -1,6 +1,5 @@
 -- How a walk, and the NLRIs that it reads, go on by a step.
 use mathlib.Core.Path.{_≡_, refl, sym, _∙_, ap}
-use mathlib.Core.Bool.{true, false}
 use mathlib.Core.List.{List, [], _∷_}
 use Prim.Native.Nat.{ℕ, zero, suc, _+_, _-_, _≤_}
 use native.Mathlib.Omega.{arith}
@@ -11,8 +10,7 @@ use Rattle.octets.specs.Octets.{part}
 use Rattle.octets.proofs.Choice.{pick-true, pick-false, tested}
 use Rattle.nlri.specs.declared.layout.Layout.{Layout}
 use Rattle.nlri.proofs.Functions.Fronts.{layout-octets}
-use Rattle.runs.specs.declared.walking.Walked.{Walked}
-use Rattle.runs.specs.Walking.{Stepped, readTo, advanced, stepFrom, walkedTo, walkFrom, NlriRead, nlrisFrom}
+use Rattle.runs.specs.Walking.{Stepped, readTo, stepFrom, walkedTo, walkFrom, nlrisFrom}
 use Rattle.runs.proofs.Steps.{Stops, reads-stepFrom}
 
 module _ (left afi : ℕ) (run : List ℕ) (at : ℕ) where

@@ -13,6 +13,7 @@
 
 mod count;
 mod measure;
+mod pieces;
 mod report;
 mod routes;
 mod shared;
@@ -74,7 +75,9 @@ fn main() -> ExitCode {
 fn all_rows(task: Task) -> ExitCode {
     let mut report = Report::begin(task);
     for afi in GOOD_AFIS {
-        runs(&mut report, afi, &whole_run(&mut Random::new(SEED), afi));
+        let run = whole_run(&mut Random::new(SEED), afi);
+        runs(&mut report, afi, &run);
+        pieces::rows(&mut report, afi, &run);
         for sample in one_of_each_type(afi) {
             nlri(&mut report, &sample);
         }

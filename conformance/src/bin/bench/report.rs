@@ -99,6 +99,13 @@ impl Report {
         self.row(name, "ns", times, memory);
     }
 
+    /// A line in nanoseconds of the archive beside something else that it is compared with, for which no goal is set.
+    pub fn aside(&self, name: &str, [archive, other]: [f64; 2]) {
+        let cells = [format!("{archive:.2}"), format!("{other:.2}"), format!("{:.2}", archive / other)];
+        let [archive, other, ratio] = cells;
+        line(name, "ns", [archive, other, ratio, "-".into(), "-".into()], "");
+    }
+
     fn row(&mut self, name: &str, unit: &str, [archive, plain]: [f64; 2], memory: Option<Memory>) {
         let ratio = archive / plain;
         let to_memory = memory.map(|memory| [archive / memory.memcmp, archive / memory.reading]);

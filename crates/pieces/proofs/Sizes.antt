@@ -1,0 +1,98 @@
+-- The size of the NLRI at the front of octets, as far as they tell; and that reading looks at no octet past it.
+use mathlib.Core.Path.{_≡_, sym, _∙_, ap, ap₂}
+use mathlib.Core.List.{List, _++_}
+use mathlib.Core.Logic.{⊎-elim}
+use Prim.Native.Nat.{ℕ, _+_, _-_, _≤_, _<_}
+use native.Mathlib.Omega.{arith}
+use borrow.Author.Tests.{ltb-true, ltb-false, lt-ltb, le-ltb}
+use lib.ListN.{length, getD, take, drop, length-append, length-drop, List·getD-append}
+use lib.Seq.{length-take-le, take-append-add, drop-append-le, take-append-le}
+use lib.Dec.{ltb}
+use Rattle.octets.specs.Numbers.{SHORT, TYPE}
+use Rattle.octets.specs.Outcome.{Outcome, given, refused, andThen}
+use Rattle.octets.specs.Octets.{AllOctets, part}
+use Rattle.octets.proofs.Choice.{tested, pick-true, pick-false}
+use Rattle.octets.proofs.AllOctets.{octet-at}
+use Rattle.nlri.specs.Bodies.{bodies, onBody}
+use Rattle.nlri.specs.Reading.{Laid, fieldSize, sizesOf, laidWith, keyField, laidAt}
+use Rattle.nlri.specs.Layouts.{layoutOf, layoutAt}
+use Rattle.nlri.specs.Statements.{FrontRefusal, short, badType, badBody}
+use Rattle.nlri.proofs.Statements.Layouts.{layout-refused}
+use Rattle.nlri.proofs.Statements.ReadRefusals.{readRefusals}
+use Rattle.pieces.specs.Feeding.{sizeIn}
+
+-- the size that octets tell of the NLRI at their front
+pub size-few : (s : List ℕ) → length s < 2 → sizeIn s ≡ 2
+unfolding sizeIn
+size-few s h = pick-true _ _ _ (lt-ltb (length s) 2 h)
+
+pub size-known : (s : List ℕ) → 2 ≤ length s → sizeIn s ≡ 2 + getD s 1 0
+unfolding sizeIn
+size-known s h = pick-false _ _ _ (le-ltb (length s) 2 h)
+
+pub size-least : (s : List ℕ) → 2 ≤ sizeIn s
+size-least s = tested (ltb (length s) 2) (λ t. omega (arith, size-few s (ltb-true _ _ t))) (λ f. omega (arith, size-known s (ltb-false _ _ f)))
+
+pub size-most : (s : List ℕ) → AllOctets s → sizeIn s ≤ 257
+size-most s a =
+    let octet = octet-at a 1 in
+    tested (ltb (length s) 2) (λ t. omega (arith, size-few s (ltb-true _ _ t))) (λ f. omega (arith, size-known s (ltb-false _ _ f)))
+
+-- an NLRI that is unfinished stays so until as many octets are there
+pub size-grows : (s t : List ℕ) → length s < sizeIn s → length s < sizeIn (s ++ t)
+size-grows s t h =
+    tested (ltb (length s) 2) (λ few. omega (arith, ltb-true (length s) 2 few, size-least (s ++ t)))
+    (λ f.
+    let two : 2 ≤ length s = ltb-false _ _ f in
+    omega (arith, size-known s two, size-known (s ++ t) (omega (arith, length-append s t)), List·getD-append s t 0 1 (omega arith)))
+
+-- the octets kept and those of the piece
+module _ (kept : ℕ) (unfinished piece : List ℕ) (room : kept ≤ length unfinished) where
+  pub length-together : length (take kept unfinished ++ piece) ≡ kept + length piece
+  length-together = length-append (take kept unfinished) piece ∙ ap (λ (n : ℕ). n + length piece) (length-take-le kept unfinished room)
+
+  pub take-together : (n : ℕ) → take kept unfinished ++ take n piece ≡ take (kept + n) (take kept unfinished ++ piece)
+  take-together n = sym (ap (λ (m : ℕ). take (m + n) (take kept unfinished ++ piece)) (sym (length-take-le kept unfinished room)) ∙ take-append-add (take kept unfinished) piece n)
+
+-- an NLRI that is whole, by its type, its Length and its body
+bodyRead : (bits type size : ℕ) → List ℕ → Outcome Laid
+bodyRead bits type size s =
+    onBody bodies type (refused TYPE)
+    (λ body. andThen (sizesOf (fieldSize (keyField bits) bits type) body s) (λ sizes. given (record { type = type; size = size; body = body; sizes = sizes })))
+
+read-whole : (bits : ℕ) (s : List ℕ) → 2 ≤ length s → 2 + getD s 1 0 ≤ length s → laidAt bits s ≡ bodyRead bits (getD s 0 0) (getD s 1 0) (part s 2 (getD s 1 0))
+unfolding laidAt laidWith bodyRead
+read-whole bits s two all = pick-false _ _ _ (le-ltb (length s) 2 two) ∙ pick-false _ _ _ (le-ltb (length s - 2) (getD s 1 0) (omega arith))
+
+-- octets after an NLRI that is whole do not matter
+pub layout-alone : (bits : ℕ) (s t : List ℕ) → sizeIn s ≡ length s → layoutAt bits (s ++ t) ≡ layoutAt bits s
+unfolding layoutAt part
+layout-alone bits s t is =
+    let two : 2 ≤ length s = omega (arith, size-least s) in
+    let x : ℕ = getD s 1 0 in
+    let all : 2 + x ≡ length s = sym (size-known s two) ∙ is in
+    let more = length-append s t in
+    let first : getD (s ++ t) 0 0 ≡ getD s 0 0 = List·getD-append s t 0 0 (omega arith) in
+    let second : getD (s ++ t) 1 0 ≡ x = List·getD-append s t 0 1 (omega arith) in
+    let body : part (s ++ t) 2 x ≡ part s 2 x = ap (take x) (drop-append-le 2 s t two) ∙ take-append-le x (drop 2 s) t (omega (arith, length-drop 2 s)) in
+    ap (λ (o : Outcome Laid). andThen o (λ laid. given (layoutOf laid)))
+    (read-whole bits (s ++ t) (omega arith) (omega arith)
+    ∙ ap (λ (n : ℕ). bodyRead bits (getD (s ++ t) 0 0) n (part (s ++ t) 2 n)) second
+    ∙ ap₂ (λ (type : ℕ) (l : List ℕ). bodyRead bits type x l) first body
+    ∙ sym (read-whole bits s two (omega arith)))
+
+-- an NLRI that is unfinished is SHORT, and one that is whole is not
+pub layout-short : (bits : ℕ) (s : List ℕ) → length s < sizeIn s → layoutAt bits s ≡ refused SHORT
+unfolding laidAt laidWith
+layout-short bits s h =
+    layout-refused bits s SHORT
+    (tested (ltb (length s) 2) (λ t. pick-true _ _ _ t)
+    (λ f. pick-false _ _ _ f ∙ pick-true _ _ _ (lt-ltb (length s - 2) (getD s 1 0) (omega (arith, ltb-false (length s) 2 f, size-known s (ltb-false _ _ f))))))
+
+pub whole-not-short : (bits : ℕ) (s : List ℕ) (n : ℕ) → sizeIn s ≤ length s → FrontRefusal bits s n → n ≡ SHORT → ⊥
+whole-not-short bits s n all (short why) e =
+    let two : 2 ≤ length s = omega (arith, size-least s) in
+    ⊎-elim (λ few. omega arith) (λ few. omega (arith, size-known s two)) why
+whole-not-short bits s n all (badType enough type) e = omega arith
+whole-not-short bits s n all (badBody enough type fault) e =
+    ⊎-elim (λ a. omega arith) (λ b. ⊎-elim (λ c. omega arith) (λ d. omega arith) b) (readRefusals .bodies bits _ _ _ n fault)

@@ -1,0 +1,60 @@
+-- What holds of a run that arrives in pieces (document 02, W-203), by the walk over the whole run. Proved in proofs/PiecesRule.antt.
+use Prim.Native.Nat.{ℕ, _+_, _≤_, _<_}
+use mathlib.Core.Path.{_≡_}
+use mathlib.Core.List.{List}
+use mathlib.Core.Logic.{_≢_}
+use lib.ListN.{length, take, drop}
+use Rattle.octets.specs.Numbers.{SHORT, LONG, FAMILY}
+use Rattle.octets.specs.Outcome.{given}
+use Rattle.octets.specs.Octets.{AllOctets}
+use Rattle.nlri.specs.Family.{familyBits}
+use Rattle.runs.specs.Walking.{walkedTo, walkOf, nlrisOf}
+use Rattle.pieces.specs.declared.state.Pieces.{Pieces}
+use Rattle.pieces.specs.Feeding.{READING, STOPPED, FINISHED, startedAs, startOf, finishOf, feedOf, passedOf}
+use Rattle.pieces.specs.Handing.{Caller, startedWith, fedBy, feedPieces, joined, Moment}
+
+-- a caller whose reader has taken a run
+pub record PiecesClaim (afi : ℕ) (run : List ℕ) (c : Caller) : Type 0 where
+  -- at finish count, offset and number are those of the walk over the whole run
+  pub answers : finishOf (c .pieces) .walked ≡ walkOf afi run
+  -- within 4,096 octets the NLRIs given are those that the walk reads: their octets, in order, and where each begins
+  pub gives : length run ≤ 4096 → c .nlris ≡ nlrisOf afi run
+  -- over 4,096 in all, wherever the cut lies and stop or no stop: 0, 0, LONG, before finish and after
+  pub long : (bits : ℕ) → familyBits afi ≡ given bits → 4096 < length run → (c .pieces .walked ≡ walkedTo LONG 0 0) × (finishOf (c .pieces) .walked ≡ walkedTo LONG 0 0)
+
+-- at a moment of a reader that has taken a run
+pub record AtMoment (afi : ℕ) (run : List ℕ) (c : Caller) : Type 0 where
+  -- SHORT is not told before finish
+  pub early : c .pieces .walked .number ≢ SHORT
+  -- every octet is counted, after a stop too
+  pub counts : (bits : ℕ) → familyBits afi ≡ given bits → length run ≤ 4096 → c .pieces .total ≡ length run
+  -- while it reads it keeps what the run has after the last whole NLRI, at most 256 octets
+  pub keeps : c .pieces .stage ≡ READING → (take (c .pieces .kept) (c .unfinished) ≡ drop (walkOf afi run .offset) run) × (c .pieces .kept ≤ 256)
+  -- a piece that passes 4,096 in all gives no NLRI, whatever its first octets complete
+  pub passes : (piece : List ℕ) → 4096 < length run + length piece → fedBy c piece .answer .size ≡ 0
+
+-- a reader that has stopped, and a piece: no NLRI is given, all of it is taken, the lent octets stay, and so does the stop
+pub record Stays (p : Pieces) (unfinished piece : List ℕ) : Type 0 where
+  pub none : feedOf p unfinished piece .answer .size ≡ 0
+  pub all : feedOf p unfinished piece .answer .taken ≡ length piece
+  pub lent : feedOf p unfinished piece .octets ≡ unfinished
+  pub stage : feedOf p unfinished piece .answer .pieces .stage ≡ STOPPED
+
+-- "Updates that arrive in bits"
+pub record PiecesRule : Type 0 where
+  -- the claim, for every run and every way to cut it, pieces of no octets included, by the loop that a caller writes
+  pub claim : (afi : ℕ) (unfinished : List ℕ) (pieces : List (List ℕ)) → length unfinished ≡ 257 → AllOctets (joined pieces) → PiecesClaim afi (joined pieces) (feedPieces (startedWith afi unfinished) pieces)
+  -- the same of any other caller, whatever it hands over next, and at every moment
+  pub claims : (afi : ℕ) (run : List ℕ) (c : Caller) → Moment afi run c → PiecesClaim afi run c
+  pub moments : (afi : ℕ) (run : List ℕ) (c : Caller) → Moment afi run c → AtMoment afi run c
+  -- a moment of the loop is one of these
+  pub loop : (afi : ℕ) (unfinished : List ℕ) (pieces : List (List ℕ)) → length unfinished ≡ 257 → AllOctets (joined pieces) → Moment afi (joined pieces) (feedPieces (startedWith afi unfinished) pieces)
+  -- a bad AFI is told at the start, and the reader is then finished
+  pub family : (afi : ℕ) → afi ≢ 1 → afi ≢ 2 → startOf afi ≡ startedAs afi FINISHED FAMILY
+  -- of every state, also of one that no call made. After a stop no NLRI is given
+  pub stopped : (p : Pieces) (unfinished piece : List ℕ) → p .stage ≡ STOPPED → Stays p unfinished piece
+  -- after finish every call repeats the answer, and leaves the lent octets
+  pub finished : (p : Pieces) (unfinished piece : List ℕ) → feedOf (finishOf p) unfinished piece ≡ passedOf (finishOf p) unfinished piece
+  pub again : (p : Pieces) → finishOf (finishOf p) ≡ finishOf p
+  -- octets past those that a feed takes are not looked at: the rest of a piece is another piece
+  pub rest : (p : Pieces) (unfinished piece : List ℕ) → length unfinished ≡ 257 → feedOf p unfinished (take (feedOf p unfinished piece .answer .taken) piece) ≡ feedOf p unfinished piece

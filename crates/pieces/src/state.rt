@@ -1,0 +1,148 @@
+// The reader's state: plain numbers, which only these calls write.
+ghost use mathlib.Core.Path.{_≡_};
+ghost use Prim.Native.Nat.{_+_, _≤_};
+ghost use Rattle.pieces.specs.Feeding.{startedAs, startOf, answerAtEnd, finishOf, longOf, countedOf, overOf};
+use nlri::Family;
+use octets::number::DONE;
+use octets::number::LONG;
+use octets::number::SHORT;
+use runs::Walked;
+
+// The most octets of a run.
+const RUN: usize = 4096;
+
+// The most octets of an NLRI that is not yet whole.
+const LEFT: u32 = 256;
+
+// What a reader does with octets; any greater number is finished too.
+pub struct Stage {}
+
+impl Stage {
+    pub const READING: u32 = 0;
+
+    pub const STOPPED: u32 = 1;
+
+    pub const FINISHED: u32 = 2;
+}
+
+// A reader of a run that arrives in pieces: while it reads, `walked` is the walk's answer up to the NLRI that is unfinished; `total` counts the
+// octets taken, `kept` those of the unfinished NLRI.
+#[repr(C)]
+pub struct Pieces {
+    pub walked: Walked,
+    pub afi: u32,
+    pub stage: u32,
+    pub total: u32,
+    pub kept: u32,
+}
+
+// A reader just started; a bad AFI is refused here.
+pub fn start(afi: u16) -> Pieces
+    ensures { λ r. ⌜ r ≡ startOf afi ⌝ }
+{
+    match nlri::family_of(afi) {
+        Family::Unknown(number) => started(afi, Stage::FINISHED, number),
+        Family::Known(_) => started(afi, Stage::READING, DONE),
+    }
+}
+
+// A reader that has taken no octet.
+fn started(afi: u16, stage: u32, number: u32) -> Pieces
+    ensures { λ r. ⌜ r ≡ startedAs afi stage number ⌝ }
+{
+    Pieces {
+        walked: Walked {
+            number,
+            count: 0,
+            offset: 0,
+        },
+        afi: afi as u32,
+        stage,
+        total: 0,
+        kept: 0,
+    }
+}
+
+// The walk's answer where the run ends.
+fn end(p: Pieces) -> Walked
+    ensures { λ r. ⌜ r ≡ answerAtEnd p ⌝ }
+{
+    let walked = p.walked;
+    if p.stage != Stage::READING {
+        return walked;
+    }
+    if p.kept == 0 {
+        return Walked {
+            number: DONE,
+            count: walked.count,
+            offset: walked.offset,
+        };
+    }
+    Walked {
+        number: SHORT,
+        count: walked.count,
+        offset: walked.offset,
+    }
+}
+
+// The run has ended: the reader has the walk's answer, and only repeats it from now on.
+pub fn finish(p: Pieces) -> Pieces
+    ensures { λ r. ⌜ r ≡ finishOf p ⌝ }
+{
+    Pieces {
+        walked: end(p),
+        afi: p.afi,
+        stage: Stage::FINISHED,
+        total: p.total,
+        kept: p.kept,
+    }
+}
+
+// More than 4,096 octets in all with `size` more; or numbers that these calls never give.
+pub(crate) fn is_over(p: Pieces, size: usize) -> bool
+    ensures { λ r. ⌜ r ≡ overOf p size ⌝ }
+{
+    if RUN < size {
+        return true;
+    }
+    if RUN - size < p.total as usize {
+        return true;
+    }
+    let walked = p.walked;
+    if RUN < walked.count as usize {
+        return true;
+    }
+    LEFT < p.kept
+}
+
+// The reader of a run of more than 4,096 octets. Its total stays over.
+pub(crate) fn too_long(p: Pieces) -> Pieces
+    ensures { λ r. ⌜ r ≡ longOf p ⌝ }
+{
+    Pieces {
+        walked: Walked {
+            number: LONG,
+            count: 0,
+            offset: 0,
+        },
+        afi: p.afi,
+        stage: Stage::STOPPED,
+        total: RUN as u32 + 1,
+        kept: 0,
+    }
+}
+
+// A reader that has stopped, with `size` more octets counted.
+pub(crate) fn counted(p: Pieces, size: usize) -> Pieces
+    requires { ⌜ p .total + size ≤ 4096 ⌝ }
+    ensures { λ r. ⌜ r ≡ countedOf p size ⌝ }
+{
+    let walked = p.walked;
+    Pieces {
+        walked,
+        afi: p.afi,
+        stage: Stage::STOPPED,
+        total: p.total + size as u32,
+        kept: 0,
+    }
+}
