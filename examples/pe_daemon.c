@@ -1,6 +1,7 @@
 /*
  * A provider edge router's use of mvpn.h. It reads BGP UPDATE messages, keeps the S-PMSI A-D and Source Active A-D routes of
- * one VRF in them, and tells which route and which tunnel a customer flow (C-S,C-G) or a shared tree (C-*,C-G) takes.
+ * one VRF in them, and tells which route and which tunnel a customer flow (C-S,C-G) or a shared tree (C-*,C-G) takes, and of a
+ * flow also why.
  *
  *     pe_daemon [--pieces OCTETS] FILE [REQUEST]...
  *
@@ -402,19 +403,37 @@ static void print_match(uint16_t afi, mvpn_matched match, const uint8_t *output)
     printf("\n");
 }
 
+/* What a tier looks for, and why it was taken or not; for the person who asks at four in the morning. */
+static void print_reasons(const request *flow, const uint32_t reasons[4])
+{
+    static const mvpn_address wildcard;
+    for (uint32_t tier = 1; tier <= 4; tier++) {
+        bool any_source = tier == MVPN_ANY_SOURCE_GROUP || tier == MVPN_ANY_SOURCE_ANY_GROUP;
+        bool any_group = tier == MVPN_SOURCE_ANY_GROUP || tier == MVPN_ANY_SOURCE_ANY_GROUP;
+        printf("  %-11s tier %u, ", tier == 1 ? "why:" : "", (unsigned)tier);
+        print_pair(any_source ? &wildcard : &flow->source, any_group ? &wildcard : &flow->group);
+        printf(": ");
+        print_reason(tier, reasons[tier - 1]);
+        printf("\n");
+    }
+}
+
 static void answer_flow(customer_vrf *vrf, const request *flow)
 {
     uint8_t output[MVPN_MATCH_OUTPUT];
-    mvpn_matched match = mvpn_match(table_of(vrf, afi_of(flow)), TABLE_SIZE, flow->router.octets, flow->router.size,
-                                    flow->source.octets, flow->source.size, flow->group.octets, flow->group.size,
-                                    output, sizeof output);
+    mvpn_explained found = mvpn_explain(table_of(vrf, afi_of(flow)), TABLE_SIZE, flow->router.octets, flow->router.size,
+                                        flow->source.octets, flow->source.size, flow->group.octets, flow->group.size,
+                                        output, sizeof output);
     print_asked("flow", flow);
-    if (match.number != MVPN_DONE)
-        print_refusal(match.number);
-    else if (match.tier == MVPN_NO_TIER)
+    if (found.matched.number != MVPN_DONE) {
+        print_refusal(found.matched.number);
+        return;
+    }
+    if (found.matched.tier == MVPN_NO_TIER)
         printf("  no route\n");
     else
-        print_match(afi_of(flow), match, output);
+        print_match(afi_of(flow), found.matched, output);
+    print_reasons(flow, found.reasons);
 }
 
 /* ---- shared trees (RFC 6625, section 3.2.2) */

@@ -1,7 +1,7 @@
 /*
  * mvpn.h: MCAST-VPN NLRI (RFC 6514, RFC 6625) and the PMSI Tunnel attribute (RFC 6514, RFC 8556), read and written; one
  * VRF's S-PMSI A-D routes for one address family, kept in memory that the caller lends, and the route that a customer
- * flow (C-S,C-G) or a shared tree (C-*,C-G) takes.
+ * flow (C-S,C-G) or a shared tree (C-*,C-G) takes; of a flow also why.
  *
  * Best paths, Route Targets, BGP sessions and joining tunnels are the daemon's. So is the knowledge of a shared tree that its
  * match is told: which PE is upstream, which groups are BIDIR-PIM, the Source Active routes and the (C-S,C-G) states.
@@ -28,9 +28,9 @@
 #include <stdint.h>
 
 /* The version of this header and its archive; before 1.0.0 a new minor version may change calls. */
-#define MVPN_VERSION "0.6.0"
+#define MVPN_VERSION "0.7.0"
 #define MVPN_VERSION_MAJOR 0
-#define MVPN_VERSION_MINOR 6
+#define MVPN_VERSION_MINOR 7
 #define MVPN_VERSION_PATCH 0
 
 #ifdef __cplusplus
@@ -264,8 +264,8 @@ mvpn_written mvpn_attribute_write(uint8_t flags, uint8_t tunnel_type, uint32_t l
  * PMSI Tunnel attribute. Routes stand in the order of their NLRIs, octet by octet, and every octet behind them is 0, so for
  * one family and number of places a set of routes has one image. A table may be copied, stored and lent again anywhere.
  *
- * Install, withdraw and both matches look at every octet of the table, and refuse one that is not sound; beyond that, their
- * cost grows with the places that are taken.
+ * Install, withdraw, both matches and explain look at every octet of the table, and refuse one that is not sound; beyond that,
+ * their cost grows with the places that are taken.
  */
 enum {
     MVPN_TABLE_HEADER = 8,
@@ -375,6 +375,29 @@ uint32_t mvpn_withdraw(uint8_t *table, size_t table_len, const uint8_t *nlri, si
 mvpn_matched mvpn_match(const uint8_t *table, size_t table_len, const uint8_t *router, size_t router_len,
                         const uint8_t *source, size_t source_len, const uint8_t *group, size_t group_len,
                         uint8_t *output, size_t output_len);
+
+/* Why a tier was taken, or was not. */
+enum {
+    MVPN_TAKEN = 1,             /* the route of the answer is of this tier */
+    MVPN_NO_SUCH_ROUTE = 2,     /* the group's class allows this tier, and none of its routes may be taken: there is none of
+                                   this router, or each has tunnel type 0 */
+    MVPN_WRONG_GROUP_CLASS = 3, /* the group's class forbids this tier: tier 2 is for SSM groups, tier 3 for ASM groups */
+    MVPN_EARLIER_TIER_WON = 4   /* an earlier tier was taken */
+};
+
+typedef struct {
+    mvpn_matched matched; /* the match's whole answer */
+    uint32_t reasons[4];  /* of tiers 1 to 4 in turn; 0 on a refusal */
+} mvpn_explained;
+
+/*
+ * The match for a flow, and why: its arguments, refusals, answer and output are those of mvpn_match, and each tier, 1 to 4 in
+ * turn, has a reason. Every tier after the one taken says MVPN_EARLIER_TIER_WON, whatever its class and routes; any other that
+ * is not taken says MVPN_WRONG_GROUP_CLASS before MVPN_NO_SUCH_ROUTE.
+ */
+mvpn_explained mvpn_explain(const uint8_t *table, size_t table_len, const uint8_t *router, size_t router_len,
+                            const uint8_t *source, size_t source_len, const uint8_t *group, size_t group_len,
+                            uint8_t *output, size_t output_len);
 
 /* The most items of each list of a match for a shared tree. */
 enum { MVPN_MOST_ITEMS = 256 };

@@ -22,6 +22,7 @@ pub enum Call {
     Install,
     Withdraw,
     Match,
+    Explain,
     MatchShared,
     /// A call in a sequence on one table.
     Sequence,
@@ -55,8 +56,10 @@ pub enum Seen {
     Family(u16),
     /// AFI and outcome of an install.
     Outcome(u16, u32),
-    /// AFI and tier of a match of either kind.
+    /// AFI and tier of a match of any kind.
     Tier(u16, u32),
+    /// A tier and the reason told of it.
+    Reason(u32, u32),
     /// AFI and tier of a match of either kind that passes a route over which names no tunnel.
     PassedOver(u16, u32),
     /// A route that names no tunnel, installed in a sequence: AFI.
@@ -70,7 +73,7 @@ pub enum Seen {
 }
 
 /// The numbers that each call can give (document 01, "The numbers a call gives back"; document 02).
-const NUMBERS: [(Call, &[u32]); 14] = [
+const NUMBERS: [(Call, &[u32]); 15] = [
     (Call::NlriRead, &[0, 1, 2, 3, 4, 5, 10]),
     (Call::NlriWrite, &[0, 2, 4, 5, 10, 16]),
     (Call::Step, &[0, 1, 2, 3, 4, 5, 8, 10]),
@@ -84,6 +87,7 @@ const NUMBERS: [(Call, &[u32]); 14] = [
     (Call::Install, &[0, 1, 2, 3, 4, 5, 6, 7, 8, 9, 11, 12, 13]),
     (Call::Withdraw, &[0, 1, 2, 3, 4, 5, 11, 12, 14]),
     (Call::Match, &[0, 11, 15, 16]),
+    (Call::Explain, &[0, 11, 15, 16]),
     (Call::MatchShared, &[0, 1, 2, 3, 4, 5, 8, 11, 12, 15, 16]),
 ];
 
@@ -91,6 +95,9 @@ const NUMBERS: [(Call, &[u32]); 14] = [
 pub const PLACES: [usize; 5] = [0, 1, 2, 16, 500];
 
 const TUNNELS: [u32; 9] = [0, 1, 2, 3, 4, 5, 6, 7, 11];
+
+/// The reasons that can be told of each tier: no class is wrong for the first and the last, and none is before the first.
+const REASONS: [(u32, &[u32]); 4] = [(1, &[1, 2]), (2, &[1, 2, 3, 4]), (3, &[1, 2, 3, 4]), (4, &[1, 2, 4])];
 
 #[derive(Default)]
 pub struct Coverage {
@@ -128,15 +135,18 @@ fn required() -> Vec<(Call, Seen)> {
     let single = [(Call::Step, Seen::End), (Call::Sequence, Seen::Nobody)];
     let fed = [Seen::Feeds(1), Seen::Feeds(2), Seen::Feeds(3), Seen::NoOctets, Seen::Finished, Seen::Forged];
     let fed = fed.map(|seen| (Call::PiecesFeed, seen));
-    numbers.chain(families).chain(tunnels).chain(elements).chain(tables).chain(single).chain(fed).collect()
+    let told = REASONS.iter().flat_map(|(tier, reasons)| reasons.iter().map(|reason| Seen::Reason(*tier, *reason)));
+    let told = told.map(|seen| (Call::Explain, seen));
+    numbers.chain(families).chain(tunnels).chain(elements).chain(tables).chain(single).chain(fed).chain(told).collect()
 }
 
 fn required_of_tables(afi: u16) -> Vec<(Call, Seen)> {
     let mut rows = vec![(Call::Make, Seen::Family(afi)), (Call::Withdraw, Seen::Family(afi))];
     rows.extend((1..=2).map(|outcome| (Call::Install, Seen::Outcome(afi, outcome))));
-    rows.extend(
-        (0..=4).flat_map(|tier| [Seen::Tier(afi, tier), Seen::PassedOver(afi, tier)].map(|it| (Call::Match, it))),
-    );
+    for tier in 0..=4 {
+        rows.extend([Seen::Tier(afi, tier), Seen::PassedOver(afi, tier)].map(|seen| (Call::Match, seen)));
+        rows.push((Call::Explain, Seen::Tier(afi, tier)));
+    }
     for tier in [0, 3, 4] {
         rows.extend([Seen::Tier(afi, tier), Seen::PassedOver(afi, tier)].map(|seen| (Call::MatchShared, seen)));
         rows.push((Call::Sequence, Seen::SharedTree(afi, tier)));

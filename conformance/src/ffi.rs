@@ -167,6 +167,14 @@ pub struct Matched {
     pub attribute_size: u32,
 }
 
+#[repr(C)]
+#[derive(Clone, Copy, Debug, Default, PartialEq, Eq)]
+pub struct Explained {
+    pub matched: Matched,
+    /// Of tiers 1 to 4 in turn; 0 on a refusal.
+    pub reasons: [u32; 4],
+}
+
 /// What the daemon knows of a shared tree and the PE asked; each is 0 or not.
 #[repr(C)]
 #[derive(Clone, Copy, Debug, Default, PartialEq, Eq)]
@@ -188,6 +196,7 @@ const _: () = assert!(
         && size_of::<AttributeReading>() == 80
         && size_of::<Installed>() == 8
         && size_of::<Matched>() == 16
+        && size_of::<Explained>() == 32
         && size_of::<SharedTree>() == 12
 );
 
@@ -212,6 +221,10 @@ pub mod raw {
     pub type Match = unsafe extern "C" fn(
         *const u8, usize, *const u8, usize, *const u8, usize, *const u8, usize, *mut u8, usize,
     ) -> Matched;
+    #[rustfmt::skip]
+    pub type Explain = unsafe extern "C" fn(
+        *const u8, usize, *const u8, usize, *const u8, usize, *const u8, usize, *mut u8, usize,
+    ) -> Explained;
     #[rustfmt::skip]
     pub type MatchShared = unsafe extern "C" fn(
         *const u8, usize, *const u8, usize, *const u8, usize, SharedTree, *const u8, usize, *const u8, usize,
@@ -266,6 +279,18 @@ pub mod raw {
             output: *mut u8,
             output_len: usize,
         ) -> Matched;
+        pub fn mvpn_explain(
+            table: *const u8,
+            table_len: usize,
+            router: *const u8,
+            router_len: usize,
+            source: *const u8,
+            source_len: usize,
+            group: *const u8,
+            group_len: usize,
+            output: *mut u8,
+            output_len: usize,
+        ) -> Explained;
         pub fn mvpn_match_shared(
             table: *const u8,
             table_len: usize,
@@ -354,6 +379,26 @@ pub fn match_flow(table: &mut Lent, flow: &mut [Lent; 3], output: &mut Lent) -> 
     let (place, room) = (output.pointer(), output.len());
     unsafe {
         raw::mvpn_match(
+            table.pointer(),
+            table.len(),
+            router.0,
+            router.1,
+            source.0,
+            source.1,
+            group.0,
+            group.1,
+            place,
+            room,
+        )
+    }
+}
+
+/// `flow` as of a match.
+pub fn explain(table: &mut Lent, flow: &mut [Lent; 3], output: &mut Lent) -> Explained {
+    let [router, source, group] = flow.each_mut().map(|field| (field.pointer(), field.len()));
+    let (place, room) = (output.pointer(), output.len());
+    unsafe {
+        raw::mvpn_explain(
             table.pointer(),
             table.len(),
             router.0,

@@ -82,6 +82,7 @@ fn finds(options: &Options, fault: Fault) -> bool {
     let mut harness = Harness::new(Second::with_fault(fault));
     let result = match fault.shown_by {
         ShownBy::Tables => cases::of_tables(&mut harness, options),
+        ShownBy::Explanations => cases::of_explanations(&mut harness, options),
         ShownBy::SharedTrees => cases::of_shared_trees(&mut harness, options),
         ShownBy::Encodings => cases::of_encodings(&mut harness, options),
         ShownBy::Pieces => cases::of_pieces(&mut harness, options),

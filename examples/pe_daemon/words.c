@@ -2,6 +2,7 @@
 
 #include <arpa/inet.h>
 #include <inttypes.h>
+#include <stdbool.h>
 #include <stdio.h>
 
 #define COUNT(list) (sizeof(list) / sizeof((list)[0]))
@@ -99,6 +100,36 @@ const char *tier_name(uint32_t tier)
         [MVPN_ANY_SOURCE_ANY_GROUP] = "(C-*,C-*): any source, any group",
     };
     return listed(names, COUNT(names), tier, "unknown tier");
+}
+
+/* ---- reasons */
+
+/* The class that a tier is for, and the one that it is not for. */
+static void print_wrong_class(uint32_t tier)
+{
+    bool is_for_ssm = tier == MVPN_SOURCE_ANY_GROUP;
+    printf("ruled out, such a route is for %s groups, and this group is %s", is_for_ssm ? "SSM" : "ASM",
+           is_for_ssm ? "ASM" : "SSM");
+}
+
+void print_reason(uint32_t tier, uint32_t reason)
+{
+    switch (reason) {
+    case MVPN_TAKEN:
+        printf("taken");
+        break;
+    case MVPN_NO_SUCH_ROUTE:
+        printf("not there, the router has no such route that names a tunnel");
+        break;
+    case MVPN_WRONG_GROUP_CLASS:
+        print_wrong_class(tier);
+        break;
+    case MVPN_EARLIER_TIER_WON:
+        printf("too late, an earlier tier was taken");
+        break;
+    default:
+        printf("a reason that mvpn.h does not have");
+    }
 }
 
 /* ---- addresses and route distinguishers */

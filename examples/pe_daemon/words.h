@@ -19,6 +19,9 @@ const char *tier_name(uint32_t tier);
 /* "MVPN_SHORT (too few octets)" */
 void print_number(uint32_t number);
 
+/* Why a tier was taken, or was not. */
+void print_reason(uint32_t tier, uint32_t reason);
+
 void print_address(const uint8_t *address, size_t size);
 
 /* "(192.0.2.1, 232.1.1.1)" */

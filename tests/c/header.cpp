@@ -19,6 +19,7 @@ static_assert(sizeof(mvpn_fec) == 40, "mvpn_fec");
 static_assert(sizeof(mvpn_attribute_reading) == 80, "mvpn_attribute_reading");
 static_assert(sizeof(mvpn_installed) == 8, "mvpn_installed");
 static_assert(sizeof(mvpn_matched) == 16, "mvpn_matched");
+static_assert(sizeof(mvpn_explained) == 32, "mvpn_explained");
 static_assert(sizeof(mvpn_shared_tree) == 12, "mvpn_shared_tree");
 static_assert(sizeof mvpn_no_items == 2, "mvpn_no_items");
 static_assert(MVPN_TABLE_SIZE(MVPN_MOST_PLACES) == 64008, "MVPN_TABLE_SIZE");
@@ -49,6 +50,7 @@ int main()
                        mvpn_install(output, 0, octets, 0, octets, 0).number == MVPN_TABLE &&
                        mvpn_withdraw(output, 0, octets, 0) == MVPN_TABLE &&
                        mvpn_match(octets, 0, octets, 0, octets, 0, octets, 0, output, 0).number == MVPN_TABLE &&
+                       mvpn_explain(octets, 0, octets, 0, octets, 0, octets, 0, output, 0).matched.number == MVPN_TABLE &&
                        mvpn_match_shared(octets, 0, octets, 0, octets, 0, mvpn_shared_tree{}, octets, 0, octets, 0, output, 0)
                                .number == MVPN_TABLE;
     return as_expected && lists() ? 0 : 1;

@@ -155,6 +155,15 @@ static mvpn_matched matched;
 RUN(match_found, MATCHES(originator, 1))
 RUN(match_none, MATCHES(source, 0))
 
+static mvpn_explained explained;
+
+#define EXPLAINS(router, wanted, first_reason) \
+    (explained = mvpn_explain(table, sizeof table, router, sizeof router, source, sizeof source, group, sizeof group, output, \
+                              sizeof output), \
+     explained.matched.number == MVPN_DONE && explained.matched.tier == (wanted) && explained.reasons[0] == (first_reason))
+RUN(explain_found, EXPLAINS(originator, 1, MVPN_TAKEN))
+RUN(explain_none, EXPLAINS(source, 0, MVPN_NO_SUCH_ROUTE))
+
 /* ---- shared trees: a table of (C-*,C-G) and (C-*,C-*) routes of one PE, and the longest lists */
 
 #define SHARED_GROUP 0xFF, 0x0E, 0, 0, 0, 0, 0, 0, 0, 0, 0, 0, 0, 0, 0, 1
@@ -246,6 +255,8 @@ static const struct {
     { "mvpn_withdraw", withdraw_leaf, full },
     { "mvpn_match", match_found, full },
     { "mvpn_match", match_none, full },
+    { "mvpn_explain", explain_found, full },
+    { "mvpn_explain", explain_none, full },
     { "mvpn_match_shared", shared_group_route, shared_trees },
     { "mvpn_match_shared", shared_any_route, any_trees },
     { "mvpn_match_shared", shared_none, shared_trees },

@@ -1,4 +1,4 @@
-//! Matching: wildcards of each tier, ties, routers, flows that are refused, and every output size.
+//! Matching, and explaining a match: wildcards of each tier, ties, routers, flows that are refused, and every output size.
 
 use super::{
     routes::{good_attributes, picked, s_pmsi, Addresses},
@@ -15,27 +15,26 @@ use crate::{
     },
 };
 
-pub fn all(harness: &mut Harness, random: &mut Random) -> Checked {
+/// The call that is made of a flow and an output.
+pub type Asks = for<'a> fn(Flow<'a>, &'a [u8]) -> TableCall<'a>;
+
+pub fn all(harness: &mut Harness, random: &mut Random, asks: Asks) -> Checked {
     for afi in GOOD_AFIS {
         let addresses = Addresses::of_family(afi);
-        tiers(harness, random, &addresses)?;
-        outputs(harness, random, &addresses)?;
-        sizes(harness, random, &addresses)?;
-        groups(harness, random, &addresses)?;
-        refusals(harness, random, &addresses)?;
+        tiers(harness, random, &addresses, asks)?;
+        outputs(harness, random, &addresses, asks)?;
+        sizes(harness, random, &addresses, asks)?;
+        groups(harness, random, &addresses, asks)?;
+        refusals(harness, random, &addresses, asks)?;
         for count in [1, 4, 16, 60, 200] {
-            every_flow(harness, random, &addresses, count)?;
+            every_flow(harness, random, &addresses, asks, count)?;
         }
     }
     Ok(())
 }
 
-fn matched(harness: &mut Harness, memory: &[u8], flow: Flow, output: &[u8]) -> Checked {
-    harness.table_call(memory, TableCall::Match { flow, output }).map(drop)
-}
-
 /// Every choice among the four tiers' routes, each with two distinguishers, for SSM and ASM groups.
-fn tiers(harness: &mut Harness, random: &mut Random, addresses: &Addresses) -> Checked {
+fn tiers(harness: &mut Harness, random: &mut Random, addresses: &Addresses, asks: Asks) -> Checked {
     let attributes = good_attributes();
     let (source, wildcard) = (&addresses.sources[0], Vec::new());
     for (group, chosen) in addresses.groups[..4].iter().flat_map(|group| (0..256).map(move |chosen| (group, chosen))) {
@@ -51,14 +50,14 @@ fn tiers(harness: &mut Harness, random: &mut Random, addresses: &Addresses) -> C
         let memory = Table { afi: addresses.afi, places: 8, routes }.image();
         for (router, source) in [(0, 0), (0, 1), (1, 0), (2, 0), (3, 0)] {
             let flow = Flow { router: &addresses.routers[router], source: &addresses.sources[source], group };
-            matched(harness, &memory, flow, &OUTPUT)?;
+            harness.table_call(&memory, asks(flow, &OUTPUT))?;
         }
     }
     Ok(())
 }
 
 /// Every output size up to and past the least, for the longest answer, a short one and none.
-fn outputs(harness: &mut Harness, random: &mut Random, addresses: &Addresses) -> Checked {
+fn outputs(harness: &mut Harness, random: &mut Random, addresses: &Addresses, asks: Asks) -> Checked {
     let (source, group) = (&addresses.sources[0], &addresses.groups[0]);
     let attributes = good_attributes();
     let mut routes = Routes::new();
@@ -72,14 +71,14 @@ fn outputs(harness: &mut Harness, random: &mut Random, addresses: &Addresses) ->
         let output = random.octets(room);
         for router in [4, 0, 1] {
             let flow = Flow { router: &addresses.routers[router], source, group };
-            matched(harness, &memory, flow, &output)?;
+            harness.table_call(&memory, asks(flow, &output))?;
         }
     }
     Ok(())
 }
 
 /// Routers, sources and groups of every size up to 40 and of sizes that are 4 or 16 in their low bits.
-fn sizes(harness: &mut Harness, random: &mut Random, addresses: &Addresses) -> Checked {
+fn sizes(harness: &mut Harness, random: &mut Random, addresses: &Addresses, asks: Asks) -> Checked {
     let table = addresses.table(random, 40, 40);
     let memory = table.image();
     let whole = |octets: &[u8]| [octets, &[0; 65_556]].concat();
@@ -92,15 +91,14 @@ fn sizes(harness: &mut Harness, random: &mut Random, addresses: &Addresses) -> C
             fields[changed] = sized;
             let [router, source, group] = &fields;
             let flow = Flow { router, source, group };
-            let call = TableCall::Match { flow, output: &OUTPUT };
-            harness.table_call_before(&memory, call, &after[..after.len().min(16)])?;
+            harness.table_call_before(&memory, asks(flow, &OUTPUT), &after[..after.len().min(16)])?;
         }
     }
     Ok(())
 }
 
 /// Flows to any group: every first octet, and second octets about the SSM range.
-fn groups(harness: &mut Harness, random: &mut Random, addresses: &Addresses) -> Checked {
+fn groups(harness: &mut Harness, random: &mut Random, addresses: &Addresses, asks: Asks) -> Checked {
     let any = s_pmsi(&addresses.distinguishers[0], &[], &[], &addresses.routers[0]);
     let source = s_pmsi(&addresses.distinguishers[0], &addresses.sources[0], &[], &addresses.routers[0]);
     let attributes = good_attributes();
@@ -110,13 +108,13 @@ fn groups(harness: &mut Harness, random: &mut Random, addresses: &Addresses) -> 
     for (first, second) in (0..=255).flat_map(|first| [0, 0x2F, 0x30, 0x3F, 0x40, 0xFF].map(|second| (first, second))) {
         let mut group = random.octets(addresses.groups[0].len());
         group[..4].copy_from_slice(&[first, second, 0, random.pick(&[0, 0, 1])]);
-        matched(harness, &memory, Flow { router, source, group: &group }, &OUTPUT)?;
+        harness.table_call(&memory, asks(Flow { router, source, group: &group }, &OUTPUT))?;
     }
     Ok(())
 }
 
 /// Every pair of a sound or unsound table, a good or bad flow, and a large or small output: the order of refusals.
-fn refusals(harness: &mut Harness, random: &mut Random, addresses: &Addresses) -> Checked {
+fn refusals(harness: &mut Harness, random: &mut Random, addresses: &Addresses, asks: Asks) -> Checked {
     let table = addresses.table(random, 16, 12);
     let mut unsound = table.image();
     unsound[7] += 1;
@@ -133,7 +131,7 @@ fn refusals(harness: &mut Harness, random: &mut Random, addresses: &Addresses) -
     for memory in [table.image(), unsound, Vec::new()] {
         for flow in flows {
             for room in [0, LEAST_OUTPUT - 1, LEAST_OUTPUT] {
-                matched(harness, &memory, flow, &OUTPUT[..room])?;
+                harness.table_call(&memory, asks(flow, &OUTPUT[..room]))?;
             }
         }
     }
@@ -141,13 +139,13 @@ fn refusals(harness: &mut Harness, random: &mut Random, addresses: &Addresses) -
 }
 
 /// Every router, source and group on random tables.
-fn every_flow(harness: &mut Harness, random: &mut Random, addresses: &Addresses, count: usize) -> Checked {
+fn every_flow(harness: &mut Harness, random: &mut Random, addresses: &Addresses, asks: Asks, count: usize) -> Checked {
     let places = count + random.below(3);
     let memory = addresses.table(random, places, count).image();
     for router in &addresses.routers {
         for source in &addresses.sources {
             for group in &addresses.groups {
-                matched(harness, &memory, Flow { router, source, group }, &OUTPUT)?;
+                harness.table_call(&memory, asks(Flow { router, source, group }, &OUTPUT))?;
             }
         }
     }

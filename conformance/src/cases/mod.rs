@@ -3,6 +3,7 @@
 pub mod attribute_writing;
 pub mod damage;
 pub mod document;
+pub mod explanations;
 pub mod flows;
 pub mod groups;
 pub mod headers;
@@ -28,6 +29,7 @@ use crate::{
     compare::{Checked, Harness},
     options::Options,
     random::Random,
+    second::table_calls::TableCall,
 };
 
 /// Runs every kind of case; stops at the first disagreement.
@@ -35,20 +37,22 @@ pub fn all(harness: &mut Harness, options: &Options) -> Checked {
     of_encodings(harness, options)?;
     of_pieces(harness, options)?;
     of_shared_trees(harness, options)?;
+    of_explanations(harness, options)?;
     of_tables(harness, options)
 }
 
-/// The calls that read and write, and the listing program.
+/// The calls that read and write, and the listing program. The kinds that have few cases come first, so that most faults are
+/// found soon.
 pub fn of_encodings(harness: &mut Harness, options: &Options) -> Checked {
     let mut random = Random::new(options.seed);
     document::all(harness)?;
     outside::all(harness, options.outside)?;
+    groups::all(harness, &mut random)?;
+    limits::all(harness, &mut random)?;
+    attribute_writing::all(harness, &mut random)?;
+    nlri_writing::all(harness, &mut random)?;
     mutations::all(harness)?;
     headers::all(harness, &mut random)?;
-    limits::all(harness, &mut random)?;
-    groups::all(harness, &mut random)?;
-    nlri_writing::all(harness, &mut random)?;
-    attribute_writing::all(harness, &mut random)?;
     random_cases::all(harness, &mut random, options.cases)?;
     match &options.listing {
         Some(program) => listing::all(harness, &mut random, program),
@@ -67,13 +71,18 @@ pub fn of_shared_trees(harness: &mut Harness, options: &Options) -> Checked {
     shared::all(harness, &mut Random::new(options.seed), options.cases)
 }
 
+/// Explanations alone.
+pub fn of_explanations(harness: &mut Harness, options: &Options) -> Checked {
+    explanations::all(harness, &mut Random::new(options.seed))
+}
+
 /// The table calls, mixed ones with matches for shared trees among them.
 pub fn of_tables(harness: &mut Harness, options: &Options) -> Checked {
     let mut random = Random::new(options.seed);
     document::tables(harness)?;
     no_tunnel::examples(harness)?;
-    flows::all(harness, &mut random)?;
+    flows::all(harness, &mut random, |flow, output| TableCall::Match { flow, output })?;
     tables::all(harness, &mut random)?;
-    no_tunnel::flows(harness)?;
+    no_tunnel::flows(harness, 2, |flow, output| TableCall::Match { flow, output })?;
     sequences::all(harness, &mut random, options.cases)
 }

@@ -3,6 +3,7 @@
 
 use super::{
     document::{in_papers, route},
+    flows::Asks,
     lists::EMPTY,
     routes::{s_pmsi, Addresses, NO_TUNNEL},
     samples::GOOD_AFIS,
@@ -110,16 +111,15 @@ pub fn examples(harness: &mut Harness) -> Checked {
     Ok(())
 }
 
-/// Routes of every tier, for an SSM and an ASM group.
-pub fn flows(harness: &mut Harness) -> Checked {
+/// Routes of every tier and of so many distinguishers, for an SSM and an ASM group.
+pub fn flows(harness: &mut Harness, distinguishers: usize, asks: Asks) -> Checked {
     for afi in GOOD_AFIS {
         let addresses = Addresses::of_family(afi);
         let source = &addresses.sources[0];
         for group in [&addresses.groups[0], &addresses.groups[2]] {
             let flow = Flow { router: &addresses.routers[0], source, group };
-            let call = TableCall::Match { flow, output: &OUTPUT };
             let shapes = [[source, &group[..]], [source, &[]], [&[], group], [&[], &[]]];
-            every_choice(harness, &addresses, &shapes, 2, call)?;
+            every_choice(harness, &addresses, &shapes, distinguishers, asks(flow, &OUTPUT))?;
         }
     }
     Ok(())
@@ -174,9 +174,10 @@ fn every_choice(
 fn count(harness: &mut Harness, mut table: Table, call: &TableCall, answer: &TableAnswer) {
     let (counted, unnamed) = match call {
         TableCall::MatchShared { .. } => (Call::MatchShared, Fault::NO_TUNNEL_TAKEN_SHARED),
-        _ => (Call::Match, Fault::NO_TUNNEL_TAKEN),
+        TableCall::Match { .. } => (Call::Match, Fault::NO_TUNNEL_TAKEN),
+        _ => return,
     };
-    let TableAnswer::Matched(matched, _) = answer else { return };
+    let Some((matched, _)) = answer.matched() else { return };
     if Second::with_fault(unnamed).on_table(&mut table, call) != *answer {
         harness.coverage.count(counted, Seen::PassedOver(table.afi, matched.tier));
     }

@@ -131,7 +131,9 @@ fn each_call(
     memory: &[u8],
 ) -> Checked {
     let flow = addresses.flow(random);
-    harness.table_call(memory, TableCall::Match { flow, output: &OUTPUT })?;
+    let output = &OUTPUT;
+    let asked = if random.once_in(3) { TableCall::Explain { flow, output } } else { TableCall::Match { flow, output } };
+    harness.table_call(memory, asked)?;
     let Flow { router, group, .. } = flow;
     let reception = Reception { router, group, facts: UPSTREAM, source_actives: EMPTY, states: EMPTY };
     harness.table_call(memory, TableCall::MatchShared { reception, output: &OUTPUT })?;

@@ -1,9 +1,9 @@
-//! `mvpn_make`, `mvpn_install`, `mvpn_withdraw`, `mvpn_match` and `mvpn_match_shared`.
+//! `mvpn_make`, `mvpn_install`, `mvpn_withdraw`, `mvpn_match`, `mvpn_explain` and `mvpn_match_shared`.
 
 use super::{Disagreement, Harness, Input};
 use crate::{
     coverage::{Call, Seen},
-    ffi,
+    ffi::{self, Explained},
     hexadecimal::encode,
     second::table_calls::{TableAnswer, TableCall},
 };
@@ -79,7 +79,7 @@ impl Harness {
         let before = self.table.octets().to_vec();
         self.lend_arguments(call, after);
         self.table.expect_front(image);
-        if let TableAnswer::Matched(_, output) = second {
+        if let Some((_, output)) = second.matched() {
             self.output.expect_front(output);
         }
         let archive = self.archive_answer(call);
@@ -96,7 +96,7 @@ impl Harness {
                 self.attribute.place(attribute, after, pattern);
             }
             TableCall::Withdraw { nlri } => self.lend(Input { octets: nlri, after }),
-            TableCall::Match { flow, output } => {
+            TableCall::Match { flow, output } | TableCall::Explain { flow, output } => {
                 for (lent, octets) in self.flow.iter_mut().zip([flow.router, flow.source, flow.group]) {
                     lent.place(octets, after, pattern);
                 }
@@ -124,6 +124,10 @@ impl Harness {
                 let matched = ffi::match_flow(&mut self.table, &mut self.flow, &mut self.output);
                 TableAnswer::Matched(matched, self.output.octets().to_vec())
             }
+            TableCall::Explain { .. } => {
+                let explained = ffi::explain(&mut self.table, &mut self.flow, &mut self.output);
+                TableAnswer::Explained(explained, self.output.octets().to_vec())
+            }
             TableCall::MatchShared { reception, .. } => {
                 let [router, _, group] = &mut self.flow;
                 let (tree, lists) = ([router, group], &mut self.lists);
@@ -139,17 +143,24 @@ impl Harness {
         let (number, seen) = match answer {
             TableAnswer::Installed(installed) => (installed.number, Seen::Outcome(afi, installed.outcome)),
             TableAnswer::Withdrawn(number) => (*number, Seen::Family(afi)),
-            TableAnswer::Matched(matched, _) => (matched.number, Seen::Tier(afi, matched.tier)),
+            TableAnswer::Matched(matched, _) | TableAnswer::Explained(Explained { matched, .. }, _) => {
+                (matched.number, Seen::Tier(afi, matched.tier))
+            }
         };
         let call = match call {
             TableCall::Install { .. } => Call::Install,
             TableCall::Withdraw { .. } => Call::Withdraw,
             TableCall::Match { .. } => Call::Match,
+            TableCall::Explain { .. } => Call::Explain,
             TableCall::MatchShared { .. } => Call::MatchShared,
         };
         self.coverage.count(call, Seen::Number(number));
         if number == 0 {
             self.coverage.count(call, seen);
+        }
+        if let TableAnswer::Explained(Explained { reasons, .. }, _) = answer {
+            let told = reasons.iter().zip(1..).filter(|(reason, _)| **reason != 0);
+            told.for_each(|(reason, tier)| self.coverage.count(call, Seen::Reason(tier, *reason)));
         }
     }
 }

@@ -12,6 +12,9 @@ use crate::ffi::Matched;
 /// The least output: the longest NLRI of type 3 and the longest attribute.
 pub const OUTPUT: usize = 124;
 
+/// The tier and the route taken, if there is one, or a refusal.
+pub type Taken<'a> = Result<Option<(u32, &'a Place)>, u32>;
+
 /// Where the tunnel type stands in an attribute.
 const TUNNEL_TYPE: usize = 1;
 
@@ -33,13 +36,13 @@ pub unsafe extern "C" fn match_flow(
 ) -> Matched {
     let (router, source, group) = (lent(router, router_len), lent(source, source_len), lent(group, group_len));
     let output = std::slice::from_raw_parts_mut(output, output_len);
-    let taken = taken_by(lent(table, table_len), router, source, group, output.len());
+    let (taken, _) = taken_by(lent(table, table_len), router, source, group, output.len());
     answer(taken, output)
 }
 
 /// The number and the tier, with the route's NLRI and attribute written at the front of the output.
 #[inline(always)]
-pub fn answer(taken: Result<Option<(u32, &Place)>, u32>, output: &mut [u8]) -> Matched {
+pub fn answer(taken: Taken, output: &mut [u8]) -> Matched {
     match taken {
         Err(number) => Matched { number, ..Default::default() },
         Ok(None) => Matched::default(),
@@ -52,27 +55,21 @@ pub fn answer(taken: Result<Option<(u32, &Place)>, u32>, output: &mut [u8]) -> M
     }
 }
 
-/// The tier and the route that the flow takes, or TABLE, FLOW, SPACE.
+/// The tier and the route that the flow takes, or TABLE, FLOW, SPACE; and the group's class where there is an answer.
 #[inline(always)]
-fn taken_by<'a>(
-    table: &'a [u8],
-    router: &[u8],
-    source: &[u8],
-    group: &[u8],
-    room: usize,
-) -> Result<Option<(u32, &'a Place)>, u32> {
-    let Sound { afi, taken } = sound(table).ok_or(TABLE)?;
+pub fn taken_by<'a>(table: &'a [u8], router: &[u8], source: &[u8], group: &[u8], room: usize) -> (Taken<'a>, u32) {
+    let Some(Sound { afi, taken }) = sound(table) else { return (Err(TABLE), 0) };
     let (number, class) = class(afi, group);
     if !matches!(router.len(), 4 | 16) || source.len() != family_size(afi) || number != DONE {
-        return Err(FLOW);
+        return (Err(FLOW), 0);
     }
     if room < OUTPUT {
-        return Err(SPACE);
+        return (Err(SPACE), 0);
     }
     let wildcard = &source[..0];
     let route = |tier, source, group| Some((tier, lowest(taken, source, group, router)?));
     let half = || if class == SSM { route(2, source, wildcard) } else { route(3, wildcard, group) };
-    Ok(route(1, source, group).or_else(half).or_else(|| route(4, wildcard, wildcard)))
+    (Ok(route(1, source, group).or_else(half).or_else(|| route(4, wildcard, wildcard))), class)
 }
 
 /// The route of this source, group (each may be the wildcard, no octets) and originator that names a tunnel, with the lowest

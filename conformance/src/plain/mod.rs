@@ -13,6 +13,7 @@
 //! slices from the caller's pointers. A call itself is not inlined into the measurement.
 
 mod attribute;
+mod explain;
 mod flow;
 mod group;
 mod nlri_read;
@@ -31,6 +32,7 @@ mod table_tests;
 mod tests;
 
 pub use attribute::{attribute_read, attribute_write};
+pub use explain::explain;
 pub use flow::match_flow;
 pub use group::group_class;
 pub use nlri_read::nlri_read;

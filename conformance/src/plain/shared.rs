@@ -2,11 +2,11 @@
 
 use super::{
     family_size,
-    flow::{answer, lowest, OUTPUT},
+    flow::{answer, lowest, Taken, OUTPUT},
     group::{class, SSM},
     lent,
     shape::shape,
-    sound::{sound, Place, Sound},
+    sound::{sound, Sound},
     DONE, FLOW, KIND, LENGTH, LONG, SHORT, SPACE, TABLE,
 };
 use crate::ffi::{Matched, SharedTree};
@@ -57,7 +57,7 @@ struct Told<'a> {
 
 /// The tier and the route that the shared tree takes, or TABLE, LONG, SHORT, FLOW, a reading number or KIND, SPACE.
 #[inline(always)]
-fn received<'a>(table: &'a [u8], told: &Told, room: usize) -> Result<Option<(u32, &'a Place)>, u32> {
+fn received<'a>(table: &'a [u8], told: &Told, room: usize) -> Taken<'a> {
     let Sound { afi, taken } = sound(table).ok_or(TABLE)?;
     let family = family_size(afi);
     let (number, class) = class(afi, told.group);

@@ -7,7 +7,7 @@ use crate::{
         routes::{bad_attributes, bad_nlris, good_attributes, picked, s_pmsi, Addresses},
         shared::any_facts,
     },
-    ffi::{Installed, Matched},
+    ffi::{Explained, Installed, Matched},
     plain::{self, shared_tests::matched_shared},
     random::Random,
     second::{
@@ -56,6 +56,10 @@ impl Table {
                 let mut output = output.to_vec();
                 TableAnswer::Matched(matched(&self.0, flow, &mut output), output)
             }
+            TableCall::Explain { flow, output } => {
+                let mut output = output.to_vec();
+                TableAnswer::Explained(explained(&self.0, flow, &mut output), output)
+            }
             TableCall::MatchShared { reception, output } => {
                 let mut output = output.to_vec();
                 TableAnswer::Matched(matched_shared(&self.0, reception, &mut output), output)
@@ -92,6 +96,23 @@ impl Table {
 fn matched(table: &[u8], Flow { router, source, group }: Flow, output: &mut [u8]) -> Matched {
     unsafe {
         plain::match_flow(
+            table.as_ptr(),
+            table.len(),
+            router.as_ptr(),
+            router.len(),
+            source.as_ptr(),
+            source.len(),
+            group.as_ptr(),
+            group.len(),
+            output.as_mut_ptr(),
+            output.len(),
+        )
+    }
+}
+
+fn explained(table: &[u8], Flow { router, source, group }: Flow, output: &mut [u8]) -> Explained {
+    unsafe {
+        plain::explain(
             table.as_ptr(),
             table.len(),
             router.as_ptr(),
@@ -330,10 +351,11 @@ impl Stock {
     fn call(&self, random: &mut Random) -> TableCall<'_> {
         let nlri = picked(random, &self.nlris);
         let (flow, output) = (self.addresses.flow(random), &[0x5A; 130][random.below(9)..]);
-        match random.below(4) {
+        match random.below(5) {
             0 => TableCall::Install { nlri, attribute: picked(random, &self.attributes) },
             1 => TableCall::Withdraw { nlri },
             2 => TableCall::Match { flow, output },
+            3 => TableCall::Explain { flow, output },
             _ => TableCall::MatchShared { reception: self.reception(random, flow), output },
         }
     }

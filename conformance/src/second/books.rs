@@ -58,6 +58,7 @@ impl Second {
                 self.s_pmsi(afi, nlri).ok().map(|reading| reading.octets(Field::Originator).to_vec())
             }
             TableCall::Match { flow: Flow { router, .. }, .. }
+            | TableCall::Explain { flow: Flow { router, .. }, .. }
             | TableCall::MatchShared { reception: Reception { router, .. }, .. } => {
                 matches!(router.len(), 4 | 16).then(|| router.to_vec())
             }
@@ -84,6 +85,9 @@ impl Second {
             TableCall::Withdraw { nlri } => withdrawn(book.remove(nlri).map(drop).ok_or(Number::Absent)),
             TableCall::Match { flow, output } => {
                 self.matched(judge.choice(afi, &flow, output.len(), book.iter()), output)
+            }
+            TableCall::Explain { flow, output } => {
+                self.explained(self.explanation(afi, &flow, output.len(), book.iter().collect()), output)
             }
             TableCall::MatchShared { reception, output } => {
                 self.matched(self.shared_choice(afi, &reception, output.len(), book.iter()), output)

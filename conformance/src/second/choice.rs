@@ -11,13 +11,22 @@ use super::{
     table::Route,
     Second,
 };
+use crate::hexadecimal::encode;
+use std::fmt::{self, Debug, Formatter};
 
 /// A router asked about and a flow (C-S,C-G).
-#[derive(Clone, Copy, Debug, PartialEq, Eq)]
+#[derive(Clone, Copy, PartialEq, Eq)]
 pub struct Flow<'a> {
     pub router: &'a [u8],
     pub source: &'a [u8],
     pub group: &'a [u8],
+}
+
+impl Debug for Flow<'_> {
+    fn fmt(&self, formatter: &mut Formatter) -> fmt::Result {
+        let [router, source, group] = [self.router, self.source, self.group].map(encode);
+        write!(formatter, "router {router}, source {source}, group {group}")
+    }
 }
 
 /// The route chosen, with its tier.

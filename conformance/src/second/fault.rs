@@ -2,12 +2,13 @@
 //! is too weak.
 
 /// The calls that show a fault; those on a table alone show the faults of the table and of the books, and the others each
-/// those of one call alone: readers of pieces, matches for shared trees.
+/// those of one call alone: readers of pieces, explanations, matches for shared trees.
 #[derive(Clone, Copy, Debug, PartialEq, Eq)]
 pub enum ShownBy {
     Encodings,
     Pieces,
     Tables,
+    Explanations,
     SharedTrees,
 }
 
@@ -150,6 +151,24 @@ faults! {
         NO_TUNNEL_IN_BOOKS: "a book's match may take a route that names no tunnel",
         ONE_BOOK: "all routers share one book",
         BOOK_TAKES_REFUSED: "a refused install enters its router's book",
+    }
+    Explanations {
+        REASONS_ALL_ABSENT: "every tier says that it has no such route",
+        REASONS_BACKWARDS: "the reasons stand from tier 4 to tier 1",
+        REASONS_WHEN_REFUSED: "a refusal has reasons",
+        REASONS_WHEN_TAKEN: "there are no reasons where no route matches",
+        REASONS_OF_OTHER_SOURCE: "the reasons are those of a flow from another source",
+        REASONS_OF_OTHER_CLASS: "the reasons are those of a group of the other class",
+        REASONS_COUNT_NO_TUNNEL: "a route that names no tunnel is one that a tier has",
+        REASON_TAKEN_AGAIN: "each tier that has a route says that it is taken",
+        REASON_WON_BEFORE: "a tier before the one taken says that an earlier one won",
+        REASON_WON_NEXT: "only the tier next after the one taken says that an earlier one won",
+        REASON_CLASS_AFTER: "a tier after the one taken says its wrong class",
+        REASON_ABSENT_AFTER: "a tier after the one taken says that it has no such route",
+        REASON_ABSENT_FIRST: "no such route is said before a wrong class",
+        REASON_CLASS_UNTOLD: "a wrong class is told as no such route",
+        EXPLAINED_UNWRITTEN: "an explanation does not write the route",
+        EXPLAINED_NO_ROOM: "an explanation asks for no room where no route matches",
     }
     SharedTrees {
         LIST_OF_NO_OCTETS: "a list of no octets is one of no items",

@@ -17,6 +17,7 @@ pub mod number;
 pub mod pieces;
 #[cfg(test)]
 mod pieces_tests;
+pub mod reasons;
 pub mod rows;
 pub mod run;
 pub mod shared;

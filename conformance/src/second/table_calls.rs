@@ -1,4 +1,4 @@
-//! Making a table, install, withdraw and both matches, on a table and on lent memory.
+//! Making a table, install, withdraw, both matches and explain, on a table and on lent memory.
 
 use super::{
     choice::{Choice, Flow},
@@ -10,7 +10,7 @@ use super::{
     Second,
 };
 use crate::{
-    ffi::{Installed, Matched},
+    ffi::{Explained, Installed, Matched},
     hexadecimal::encode,
 };
 use std::fmt::{self, Debug, Formatter};
@@ -30,6 +30,11 @@ pub enum TableCall<'a> {
         flow: Flow<'a>,
         output: &'a [u8],
     },
+    /// A match's arguments.
+    Explain {
+        flow: Flow<'a>,
+        output: &'a [u8],
+    },
     /// `output` as of a match.
     MatchShared {
         reception: Reception<'a>,
@@ -43,6 +48,18 @@ pub enum TableAnswer {
     Installed(Installed),
     Withdrawn(u32),
     Matched(Matched, Vec<u8>),
+    Explained(Explained, Vec<u8>),
+}
+
+impl TableAnswer {
+    /// What a match of any kind answered, and the output afterwards.
+    pub fn matched(&self) -> Option<(&Matched, &[u8])> {
+        match self {
+            TableAnswer::Matched(matched, output) => Some((matched, output)),
+            TableAnswer::Explained(explained, output) => Some((&explained.matched, output)),
+            TableAnswer::Installed(_) | TableAnswer::Withdrawn(_) => None,
+        }
+    }
 }
 
 impl Debug for TableCall<'_> {
@@ -52,10 +69,9 @@ impl Debug for TableCall<'_> {
                 write!(formatter, "mvpn_install(nlri {}, attribute {})", encode(nlri), encode(attribute))
             }
             TableCall::Withdraw { nlri } => write!(formatter, "mvpn_withdraw(nlri {})", encode(nlri)),
-            TableCall::Match { flow: Flow { router, source, group }, output } => {
-                let [router, source, group] = [router, source, group].map(|octets| encode(octets));
-                let room = output.len();
-                write!(formatter, "mvpn_match(router {router}, source {source}, group {group}, output of {room})")
+            TableCall::Match { flow, output } => write!(formatter, "mvpn_match({flow:?}, output of {})", output.len()),
+            TableCall::Explain { flow, output } => {
+                write!(formatter, "mvpn_explain({flow:?}, output of {})", output.len())
             }
             TableCall::MatchShared { reception, output } => {
                 let Reception { router, group, facts, source_actives, states } = reception;
@@ -74,6 +90,7 @@ impl Debug for TableAnswer {
             TableAnswer::Installed(installed) => write!(formatter, "{installed:?}"),
             TableAnswer::Withdrawn(number) => write!(formatter, "number {number}"),
             TableAnswer::Matched(matched, output) => write!(formatter, "{matched:?}, output {}", encode(output)),
+            TableAnswer::Explained(explained, output) => write!(formatter, "{explained:?}, output {}", encode(output)),
         }
     }
 }
@@ -127,7 +144,9 @@ impl Second {
         match *call {
             TableCall::Install { nlri, attribute } => self.accepted(afi, nlri, attribute).err(),
             TableCall::Withdraw { nlri } => self.s_pmsi(afi, nlri).err(),
-            TableCall::Match { flow, output } => self.flow_class(afi, &flow, output.len()).err(),
+            TableCall::Match { flow, output } | TableCall::Explain { flow, output } => {
+                self.flow_class(afi, &flow, output.len()).err()
+            }
             TableCall::MatchShared { reception, output } => self.reception_refusal(afi, &reception, output.len()),
         }
     }
@@ -140,6 +159,7 @@ impl Second {
             TableCall::Match { output, .. } | TableCall::MatchShared { output, .. } => {
                 self.matched(Err(number), output)
             }
+            TableCall::Explain { output, .. } => self.explained(Err(number), output),
         }
     }
 
@@ -151,6 +171,10 @@ impl Second {
             TableCall::Match { flow, output } => {
                 let candidates = self.candidates(table, flow.router);
                 self.matched(self.choice(table.afi, &flow, output.len(), candidates), output)
+            }
+            TableCall::Explain { flow, output } => {
+                let candidates = self.candidates(table, flow.router).collect();
+                self.explained(self.explanation(table.afi, &flow, output.len(), candidates), output)
             }
             TableCall::MatchShared { reception, output } => {
                 let candidates = self.candidates(table, reception.router);

@@ -13,6 +13,7 @@ use crate::{
     cases::{
         damage::DAMAGES,
         document::{route, table_image, FLOWS, LABELS, ORDER, RD},
+        explanations::EXAMPLES,
         no_tunnel,
         routes::{bad_attributes, good_attributes, picked, Addresses},
         samples::GOOD_AFIS,
@@ -165,10 +166,11 @@ fn books_and_table() {
             let [source_actives, states] = [addresses.source_actives(&mut random), addresses.states(&mut random)];
             let (facts, source_actives, states) = (any_facts(&mut random), &source_actives[..], &states[..]);
             let reception = Reception { router: flow.router, group: flow.group, facts, source_actives, states };
-            let call = match random.below(4) {
+            let call = match random.below(5) {
                 0 => TableCall::Install { nlri, attribute: picked(&mut random, &attributes) },
                 1 => TableCall::Withdraw { nlri },
                 2 => TableCall::Match { flow, output: &[9; 124] },
+                3 => TableCall::Explain { flow, output: &[9; 124] },
                 _ => TableCall::MatchShared { reception, output: &[9; 124] },
             };
             assert_eq!(books.answer(&call), second.on_table(&mut table, &call), "{call:?}");
@@ -214,4 +216,15 @@ fn no_tunnel() {
     let install = TableCall::Install { nlri: &nlri, attribute: &[1, 0, 0, 0, 0] };
     assert_eq!([0; 2].map(|_| second.on_table(&mut table, &install)), [installed(0, 1), installed(0, 2)]);
     assert_eq!(second.on_table(&mut table, &TableCall::Withdraw { nlri: &nlri }), TableAnswer::Withdrawn(0));
+}
+
+/// Document 02, W-204.
+#[test]
+fn reasons() {
+    let second = Second::sound();
+    for example in &EXAMPLES {
+        let mut table = second.table(&no_tunnel::table_of(example.held)).expect("a sound table");
+        let answer = example.ask(|call| second.on_table(&mut table, call));
+        assert_eq!(Some(answer), example.asked(), "{}", example.shows);
+    }
 }

@@ -12,6 +12,7 @@ ghost use Rattle.tunnel.specs.Answers.{readStruct, writeOutcome};
 ghost use Rattle.routes.specs.Query.{flowOf};
 ghost use Rattle.routes.specs.Asked.{ofFlow, ofSharedTree};
 ghost use Rattle.routes.specs.Calls.{makeOf, installOf, withdrawOf, matchOf};
+ghost use Rattle.routes.specs.Reasons.{explainOf};
 ghost use Rattle.shared_trees.specs.Told.{treeOf};
 ghost use Rattle.mvpn.specs.Answers.{stepAnswer, attributeGiven, attributeRefused, attributeAnswer};
 use nlri::Group;
@@ -24,6 +25,7 @@ use octets::number::DONE;
 use pieces::Fed;
 use pieces::Pieces;
 use pieces::UnfinishedNlri;
+use routes::Explained;
 use routes::Installed;
 use routes::Matched;
 use runs::Cursor;
@@ -254,6 +256,21 @@ pub extern "C" fn mvpn_match(
     ensures { λ r. ⌜ now (output .exit) ≡ matchOf (now (table .entry)) (ofFlow (flowOf (now (router .entry)) (now (source .entry)) (now (group .entry)))) (now (output .entry)) .octets ⌝ }
 {
     table::match_flow(table, router, source, group, output)
+}
+
+// The same, and why each tier was taken or not.
+#[no_mangle]
+pub extern "C" fn mvpn_explain(
+    table: &[u8],
+    router: &[u8],
+    source: &[u8],
+    group: &[u8],
+    output: &mut [u8],
+) -> Explained
+    ensures { λ r. ⌜ r ≡ explainOf (now (table .entry)) (flowOf (now (router .entry)) (now (source .entry)) (now (group .entry))) (now (output .entry)) .answer ⌝ }
+    ensures { λ r. ⌜ now (output .exit) ≡ explainOf (now (table .entry)) (flowOf (now (router .entry)) (now (source .entry)) (now (group .entry))) (now (output .entry)) .octets ⌝ }
+{
+    table::explain(table, router, source, group, output)
 }
 
 // Finds the route that a shared tree takes.

@@ -2,6 +2,7 @@
 pub mod Taken
 pub mod MatchRule
 pub mod SharedTreeRule
+pub mod ReasonRule
 pub mod Marked
 pub mod Images
 pub mod ArgumentRules

@@ -7,6 +7,8 @@ pub use Rattle.routes.proofs.Statements.LastInstalled.{lastInstalled}
 pub use Rattle.routes.proofs.Statements.MatchRule.{matchRule}
 -- SharedTreeRule
 pub use Rattle.routes.proofs.Statements.SharedTreeRule.{sharedTreeRule}
+-- ReasonRule
+pub use Rattle.routes.proofs.Statements.ReasonRule.{reasonRule}
 -- MixedCalls
 pub use Rattle.routes.proofs.Statements.MixedCalls.{mixedCalls}
 pub use Rattle.routes.proofs.Statements.Premise.{premise}

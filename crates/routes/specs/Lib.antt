@@ -1,5 +1,5 @@
--- Route tables. Definitions, in document 01's order: routes, arguments, the table memory, which route a flow takes, the calls on octets; then
--- mixed calls, each router's book, and runs.
+-- Route tables. Definitions, in document 01's order: routes, arguments, the table memory, which route a flow takes, the calls on octets, why
+-- a tier was taken or not; then mixed calls, each router's book, and runs.
 pub mod Route
 pub mod Query
 pub mod Arguments
@@ -11,6 +11,7 @@ pub mod Matching
 pub mod OnePass
 pub mod Answers
 pub mod Calls
+pub mod Reasons
 pub mod Call
 pub mod Book
 pub mod Run
@@ -20,6 +21,7 @@ pub mod Images
 pub mod CallRules
 pub mod MatchRule
 pub mod SharedTreeRule
+pub mod ReasonRule
 pub mod LastInstalled
 pub mod BookRules
 pub mod MixedCalls

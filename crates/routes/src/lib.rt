@@ -1,6 +1,7 @@
 // What calls on a route table answer. The definitions and theorems about tables stand in specs/ and proofs/.
 ghost use mathlib.Core.Path.{_≡_};
 ghost use Rattle.routes.specs.Answers.{refusedInstall, doneInstall, emptyMatch};
+ghost use Rattle.routes.specs.Reasons.{refusedExplanation};
 use octets::number::DONE;
 
 // What install answers: DONE with NEW or REPLACED, or the refusal's number and 0.
@@ -60,5 +61,32 @@ impl Matched {
         ensures { λ r. ⌜ r ≡ emptyMatch 0 ⌝ }
     {
         Matched::refused(DONE)
+    }
+}
+
+// What explain answers: match's whole answer, and of tiers 1 to 4 in turn why it was taken or not; on a refusal all reasons are 0.
+#[repr(C)]
+pub struct Explained {
+    pub matched: Matched,
+    pub reasons: [u32; 4],
+}
+
+impl Explained {
+    pub const TAKEN: u32 = 1;
+
+    pub const NO_SUCH_ROUTE: u32 = 2;
+
+    pub const WRONG_GROUP_CLASS: u32 = 3;
+
+    pub const EARLIER_TIER_WON: u32 = 4;
+
+    // A refusal, of which there is no reason to tell.
+    pub fn refused(number: u32) -> Explained
+        ensures { λ r. ⌜ r ≡ refusedExplanation number ⌝ }
+    {
+        Explained {
+            matched: Matched::refused(number),
+            reasons: [0; 4],
+        }
     }
 }

@@ -14,7 +14,7 @@ use Rattle.octets.proofs.Choice.{pick-true, pick-false, tested}
 use Rattle.octets.proofs.Outcome.{given-unless, and-pick, and-refused, outcome, goes, stops}
 use Rattle.nlri.specs.declared.group.Group.{Group}
 use Rattle.nlri.specs.Family.{isOriginatorSize}
-use Rattle.nlri.specs.Groups.{classUnder, groupOf}
+use Rattle.nlri.specs.Groups.{classUnder, classOf, groupOf}
 use Rattle.nlri.proofs.Definitions.Lengths.{family-octets, family-good}
 use Rattle.routes.specs.Query.{tiersOf, Query, Flow, flowQuery}
 use Rattle.routes.specs.Arguments.{readFlow}
@@ -87,6 +87,11 @@ module _ (afi : ℕ) (flow : Flow) (good : KnownFamily afi) where
 
     pub flow-taken : class .number ≡ 0 → readFlow afi flow ≡ given (openQuery flow (openTiers (class .«group_class»)))
     flow-taken h = by-class ∙ sym (goes _ _ _ _ (given-class h) refl)
+
+    -- its class is that of its group
+    pub flow-classed : class .number ≡ 0 → groupOf (classOf afi (flow .group)) .«group_class» ≡ class .«group_class»
+    unfolding flowClass groupOf onOutcome
+    flow-classed h = let e : classOf afi (flow .group) ≡ given (class .«group_class») = given-unless _ _ _ _ (given-unless _ _ _ _ (given-class h) .1) .1 in rw e
 
     -- a flow that is taken has a source and a group, and a router address of four octets or more
     pub flow-some : class .number ≡ 0 → (0 < length (flow .source)) × (0 < length (flow .group)) × (4 ≤ length (flow .router))

@@ -19,3 +19,4 @@ pub mod BestRoutes
 pub mod FlowClasses
 pub mod Matches
 pub mod SharedMatches
+pub mod Explanations

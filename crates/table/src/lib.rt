@@ -1,7 +1,8 @@
-// S-PMSI A-D routes of one VRF in lent memory: made, installed, withdrawn and matched (document 01, "The table memory" and
+// S-PMSI A-D routes of one VRF in lent memory: made, installed, withdrawn, matched and explained (document 01, "The table memory" and
 // "Which route a flow takes").
 mod answer;
 mod change;
+mod explaining;
 mod find;
 mod flow;
 mod geometry;
@@ -16,6 +17,7 @@ mod sound;
 mod tier;
 mod withdrawing;
 
+pub use explaining::explain;
 pub use installing::install;
 pub use making::make;
 pub use matching::LEAST_OUTPUT;

@@ -16,7 +16,7 @@ use std::{
 pub const COUNTING: &str = "--counting";
 
 /// The functions that callgrind looks inside. None of them calls another one.
-const COUNTED: [&str; 12] = [
+const COUNTED: [&str; 13] = [
     "mvpn_*",
     "conformance::plain::nlri_read::nlri_read",
     "conformance::plain::nlri_write::nlri_write",
@@ -29,6 +29,7 @@ const COUNTED: [&str; 12] = [
     "conformance::plain::table::install",
     "conformance::plain::table::withdraw",
     "conformance::plain::flow::match_flow",
+    "conformance::plain::explain::explain",
 ];
 
 /// The instructions of archive and plain Rust for each counted row, by its name.

@@ -12,6 +12,7 @@
 //! `--rounds N` makes N rounds. The run ends with status 1 only where the two give different answers.
 
 mod count;
+mod explain;
 mod measure;
 mod pieces;
 mod report;
@@ -87,6 +88,7 @@ fn all_rows(task: Task) -> ExitCode {
     }
     groups(&mut report);
     table::rows(&mut report);
+    explain::rows(&mut report);
     shared::rows(&mut report);
     unlearnt::rows(&mut report);
     if report.end() {

@@ -24,7 +24,6 @@ const CALLS: [Calls; 2] = [
 ];
 
 pub fn rows(report: &mut Report, afi: u16, run: &[u8]) {
-    let Some(clock) = report.clock() else { return };
     let [walk, _] = black_box(WALKS);
     let walk = || unsafe { walk(afi, run.as_ptr(), black_box(run.len())) };
     let mut buffer = [0u8; UNFINISHED];
@@ -35,9 +34,7 @@ pub fn rows(report: &mut Report, afi: u16, run: &[u8]) {
         report.check(&name, &calls.map(|call| call()), &walk());
         report.timed(&name, calls);
         let [archive, _] = calls;
-        let [pieces] = clock.best(&[archive]);
-        let [walk] = clock.best(&[walk]);
-        report.aside(&format!("{name}, to the walk"), [pieces, walk]);
+        report.beside(&format!("{name}, to the walk"), archive, walk);
     }
 }
 

@@ -4,7 +4,7 @@ use crate::{
     count::{self, Counts},
     measure::Clock,
 };
-use std::fmt::Debug;
+use std::{fmt::Debug, hint::black_box};
 
 const GOAL: f64 = 1.10;
 /// For the calls on an empty table of the most places.
@@ -99,11 +99,20 @@ impl Report {
         self.row(name, "ns", times, memory);
     }
 
-    /// A line in nanoseconds of the archive beside something else that it is compared with, for which no goal is set.
-    pub fn aside(&self, name: &str, [archive, other]: [f64; 2]) {
-        let cells = [format!("{archive:.2}"), format!("{other:.2}"), format!("{:.2}", archive / other)];
-        let [archive, other, ratio] = cells;
-        line(name, "ns", [archive, other, ratio, "-".into(), "-".into()], "");
+    /// A line in nanoseconds of a call of the archive beside another one, for which no goal is set.
+    pub fn beside<Answer, Other>(&self, name: &str, call: impl Fn() -> Answer, other: impl Fn() -> Other) {
+        let Some(clock) = self.clock() else { return };
+        let calls: [&dyn Fn(); 2] = [
+            &|| {
+                black_box(&other());
+            },
+            &|| {
+                black_box(&call());
+            },
+        ];
+        let [other, call] = clock.best(&calls);
+        let [ratio, call, other] = [call / other, call, other].map(|figure| format!("{figure:.2}"));
+        line(name, "ns", [call, other, ratio, "-".into(), "-".into()], "");
     }
 
     fn row(&mut self, name: &str, unit: &str, [archive, plain]: [f64; 2], memory: Option<Memory>) {

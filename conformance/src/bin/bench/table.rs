@@ -22,13 +22,13 @@ use std::{
 
 const PLACES: [usize; 5] = [0, 1, 50, 250, MOST_PLACES];
 /// Routes that a sparse table holds.
-const FEW: usize = 5;
+pub const FEW: usize = 5;
 
 /// Octets that reading the memory looks at together.
 const BLOCK: usize = 64;
 
 /// The most places of the tables whose rows are counted.
-const COUNTED: usize = 1;
+pub const COUNTED: usize = 1;
 
 /// Outcomes of install.
 pub const NEW: u32 = 1;

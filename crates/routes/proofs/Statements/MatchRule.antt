@@ -53,7 +53,7 @@ front-two n a d h =
       λ i low. past-front (n ++ a) d i (rw length-append low),
     )
 
-found-number : (output : List ℕ) (f : Found) → matchedBy (given f) output .answer .number ≡ DONE
+pub found-number : (output : List ℕ) (f : Found) → matchedBy (given f) output .answer .number ≡ DONE
 unfolding matchedBy onOutcome foundAnswer
 found-number output nothing = refl
 found-number output (found tier r) = refl
