@@ -28,9 +28,9 @@
 #include <stdint.h>
 
 /* The version of this header and its archive; before 1.0.0 a new minor version may change calls. */
-#define MVPN_VERSION "0.7.0"
+#define MVPN_VERSION "0.8.0"
 #define MVPN_VERSION_MAJOR 0
-#define MVPN_VERSION_MINOR 7
+#define MVPN_VERSION_MINOR 8
 #define MVPN_VERSION_PATCH 0
 
 #ifdef __cplusplus

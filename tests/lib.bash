@@ -3,6 +3,8 @@
 set -euo pipefail
 cd "$(dirname "${BASH_SOURCE[0]}")/.."
 
+header=include/mvpn.h
+
 # What `make` builds.
 archive=target/staticlib/libmvpn.a
 listing=target/bin/mvpn_list
@@ -53,9 +55,14 @@ cpp() {
 
 # ---- documents
 
+# The calls that the header declares.
+calls() {
+    sed -n 's/^[a-z].* \(mvpn_[a-z_]*\)(.*/\1/p' "$header"
+}
+
 # The loop that the header shows to callers who read a run in pieces.
 callers_loop() {
-    sed -n "/The caller's loop:/,/\*\//s/^ \*     //p" include/mvpn.h
+    sed -n "/The caller's loop:/,/\*\//s/^ \*     //p" "$header"
 }
 
 # blocks LANGUAGE FILE: the lines of the fenced blocks of that language.

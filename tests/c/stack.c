@@ -329,15 +329,22 @@ int main(void)
     fill(roomy, 1);
     fill_shared_trees();
     read_part();
-    size_t base = depth(nothing, full);
+    size_t base = depth(nothing, full), greatest = 0;
+    const char *greatest_name = "";
     for (size_t i = 0; i < ROWS(runs);) {
         const char *name = runs[i].name;
         size_t octets = deepest_of(&i, base);
         printf("%s %zu\n", name, octets);
+        if (octets > greatest) {
+            greatest = octets;
+            greatest_name = name;
+        }
         if (octets > MOST_OCTETS) {
             printf("FAILED: %s takes more than %d octets of stack\n", name, MOST_OCTETS);
             status = EXIT_FAILURE;
         }
     }
+    printf("the greatest: %s, %zu octets of %d, a margin of %d\n", greatest_name, greatest, MOST_OCTETS,
+           MOST_OCTETS - (int)greatest);
     return status;
 }
