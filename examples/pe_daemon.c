@@ -42,10 +42,12 @@ typedef struct {
 /* NLRIs, by what became of them. */
 typedef struct { size_t added, replaced, withdrawn, refused; } changes;
 
-/* NLRIs of a run, one after another, kept until it is known that nothing of the run is damaged. */
+/* NLRIs of a run, each where it stands in the run, kept until it is known that nothing of the run is damaged. Those of unknown
+ * route types are not among them. */
 typedef struct {
     uint8_t octets[BGP_LONGEST_MESSAGE];
-    size_t size;
+    uint16_t offsets[BGP_LONGEST_MESSAGE / MVPN_NLRI_HEADER];
+    size_t count;
 } kept_nlris;
 
 typedef struct {
@@ -53,7 +55,7 @@ typedef struct {
     size_t piece_size;                      /* the octets of a run that are handed over at once */
     size_t messages, dropped, damaged_runs; /* a run is the NLRIs of one attribute */
     changes routes, sources;                /* of S-PMSI A-D and Source Active A-D routes */
-    size_t other;                           /* NLRIs of other route types */
+    size_t other, skipped;                  /* NLRIs of other route types; of unknown ones */
 } customer_vrf;
 
 /* ---- the table of a family */
@@ -166,22 +168,22 @@ static void forget_source(customer_vrf *vrf, uint16_t afi, octets nlri)
 
 /* ---- the NLRIs of an attribute */
 
-/* An NLRI has its header, and then as many octets as its Length says. */
-static octets first_nlri(octets run)
-{
-    return (octets){ run.at, MVPN_NLRI_HEADER + (size_t)run.at[1] };
-}
-
 /* The octets behind the first `size` ones. */
 static octets behind(octets all, size_t size)
 {
     return (octets){ all.at + size, all.size - size };
 }
 
-static void keep_nlri(kept_nlris *kept, octets nlri)
+static void keep_nlri(kept_nlris *kept, size_t offset, octets nlri)
 {
-    memcpy(kept->octets + kept->size, nlri.at, nlri.size);
-    kept->size += nlri.size;
+    memcpy(kept->octets + offset, nlri.at, nlri.size);
+    kept->offsets[kept->count++] = (uint16_t)offset;
+}
+
+/* An NLRI has its header, and then as many octets as its Length says. */
+static octets nlri_at(const kept_nlris *kept, size_t offset)
+{
+    return (octets){ kept->octets + offset, MVPN_NLRI_HEADER + (size_t)kept->octets[offset + 1] };
 }
 
 /* Takes a piece off the front of what remains of a run; a piece of no octets is its end. */
@@ -192,42 +194,25 @@ static octets next_piece(octets *run, size_t piece_size)
     return piece;
 }
 
-/* Reads a run up to the first refusal, in pieces, and keeps its NLRIs: the loop of mvpn.h. */
-static mvpn_walked read_pieces(uint16_t afi, octets run, size_t piece_size, kept_nlris *kept)
+/* Reads a run in pieces, and keeps its NLRIs: the loop of mvpn.h. An NLRI of a route type that the library does not know is no
+ * damage (RFC 7606, section 5.4): in this mode the library steps over it and counts it as skipped. An NLRI that is whole ends
+ * where the octets taken so far end. */
+static mvpn_walked read_run(const route_run *routes, size_t piece_size, kept_nlris *kept)
 {
     uint8_t unfinished[MVPN_UNFINISHED];
-    mvpn_pieces pieces = mvpn_pieces_start(afi);
-    octets piece;
+    mvpn_pieces pieces = mvpn_pieces_start(routes->afi, MVPN_SKIP);
+    octets run = routes->run, piece;
+    size_t taken = 0;
     while ((piece = next_piece(&run, piece_size)).size > 0)
         while (piece.size > 0) {
             mvpn_fed fed = mvpn_pieces_feed(pieces, unfinished, piece.at, piece.size);
+            taken += fed.taken;
             if (fed.size > 0)
-                keep_nlri(kept, (octets){ unfinished, fed.size });
+                keep_nlri(kept, taken - fed.size, (octets){ unfinished, fed.size });
             pieces = fed.pieces;
             piece = behind(piece, fed.taken);
         }
     return mvpn_pieces_finish(pieces).walked;
-}
-
-/* Reads a whole run. An NLRI of a route type that the library does not know is no damage: it is passed over by its Length
- * field (RFC 7606, section 5.4), and the next reader starts behind it; the library gives TYPE only where all octets of that
- * NLRI are there. The number is DONE where no NLRI of the run is damaged. */
-static mvpn_walked read_run(const route_run *routes, size_t piece_size, kept_nlris *kept)
-{
-    mvpn_walked whole = { MVPN_DONE, 0, 0 };
-    do {
-        mvpn_walked part = read_pieces(routes->afi, behind(routes->run, whole.offset), piece_size, kept);
-        whole.number = part.number;
-        whole.count += part.count;
-        whole.offset += part.offset;
-        if (part.number == MVPN_TYPE) {
-            octets unknown = first_nlri(behind(routes->run, whole.offset));
-            keep_nlri(kept, unknown);
-            whole.count++;
-            whole.offset += (uint32_t)unknown.size;
-        }
-    } while (whole.number == MVPN_TYPE);
-    return whole;
 }
 
 typedef enum { INSTALL, WITHDRAW } change;
@@ -256,14 +241,19 @@ static void use_nlri(customer_vrf *vrf, change what, const route_run *routes, oc
 
 static void use_nlris(customer_vrf *vrf, change what, const route_run *routes, const kept_nlris *kept, octets tunnel)
 {
-    octets rest = { kept->octets, kept->size };
-    while (rest.size > 0) {
-        octets nlri = first_nlri(rest);
-        printf("    octet %zu: ", kept->size - rest.size);
-        use_nlri(vrf, what, routes, nlri, tunnel);
+    for (size_t i = 0; i < kept->count; i++) {
+        printf("    octet %u: ", kept->offsets[i]);
+        use_nlri(vrf, what, routes, nlri_at(kept, kept->offsets[i]), tunnel);
         printf("\n");
-        rest = behind(rest, nlri.size);
     }
+}
+
+static void print_walked(mvpn_walked walked)
+{
+    printf("%u NLRI%s", (unsigned)walked.count, walked.count == 1 ? "" : "s");
+    if (walked.skipped > 0)
+        printf(", and skipped %u of unknown route type", (unsigned)walked.skipped);
+    printf("\n");
 }
 
 /* The whole run is read before any of it is used. Where an NLRI is damaged, nobody can tell which routes were meant, so
@@ -271,11 +261,13 @@ static void use_nlris(customer_vrf *vrf, change what, const route_run *routes, c
  * (RFC 7606, section 3, asks for more then: to reset the session or to give up the family. Here there is no session.) */
 static void use_run(customer_vrf *vrf, change what, const route_run *routes, octets tunnel)
 {
-    kept_nlris kept = { .size = 0 };
+    kept_nlris kept;
+    kept.count = 0;
     mvpn_walked walked = read_run(routes, vrf->piece_size, &kept);
     printf("  %s, %s: ", what == INSTALL ? "MP_REACH_NLRI" : "MP_UNREACH_NLRI", family_name(routes->afi));
     if (walked.number == MVPN_DONE) {
-        printf("%u NLRI%s\n", (unsigned)walked.count, walked.count == 1 ? "" : "s");
+        vrf->skipped += walked.skipped;
+        print_walked(walked);
         use_nlris(vrf, what, routes, &kept, tunnel);
     } else {
         vrf->damaged_runs++;
@@ -357,7 +349,7 @@ static void print_counts(const customer_vrf *vrf)
            vrf->damaged_runs);
     print_changes("S-PMSI A-D routes", &vrf->routes);
     print_changes("Source Active A-D routes", &vrf->sources);
-    printf("other NLRIs: %zu\n", vrf->other);
+    printf("other NLRIs: %zu; skipped, of unknown route type: %zu\n", vrf->other, vrf->skipped);
 }
 
 /* ---- answers */

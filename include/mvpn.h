@@ -7,8 +7,8 @@
  * match is told: which PE is upstream, which groups are BIDIR-PIM, the Source Active routes and the (C-S,C-G) states.
  *
  * Every call ends with a stated answer on any octets. A call that refuses returns its number, changes no octet of any
- * buffer, and leaves every other field of its answer 0, but for the count and offset of a walk, the cursor of a step, and what
- * a reader of pieces keeps.
+ * buffer, and leaves every other field of its answer 0, but for what a walk counts and its offset, the cursor of a step, and
+ * what a reader of pieces keeps.
  *
  * What the caller owes: a pointer is valid for the length given beside it, which is at most PTRDIFF_MAX; where the length
  * is 0 the pointer may be any non-null address. No alignment is asked. A buffer that is written overlaps no other argument.
@@ -28,9 +28,9 @@
 #include <stdint.h>
 
 /* The version of this header and its archive; before 1.0.0 a new minor version may change calls. */
-#define MVPN_VERSION "0.8.0"
+#define MVPN_VERSION "0.9.0"
 #define MVPN_VERSION_MAJOR 0
-#define MVPN_VERSION_MINOR 8
+#define MVPN_VERSION_MINOR 9
 #define MVPN_VERSION_PATCH 0
 
 #ifdef __cplusplus
@@ -158,28 +158,44 @@ typedef struct {
     mvpn_layout layout; /* all 0 at the run's end, where the number is DONE */
 } mvpn_stepped;
 
-typedef struct { uint32_t number, count, offset; } mvpn_walked;
+/*
+ * What a walk, and a reader of pieces, does at an NLRI of unknown route type, one that is whole and refused with TYPE. Every
+ * number but MVPN_SKIP is the old mode.
+ */
+enum {
+    MVPN_SKIP = 0, /* steps over it by its Length field, and counts it as skipped */
+    MVPN_OLD = 1   /* stops at it, as at any other refusal: for a conformance run */
+};
+
+typedef struct {
+    uint32_t number;
+    uint32_t count;   /* NLRIs read */
+    uint32_t offset;  /* just past the last NLRI read or skipped: the run's end, or where the refused NLRI begins */
+    uint32_t skipped; /* NLRIs of unknown route types, stepped over; in the old mode 0 */
+} mvpn_walked;
 
 /*
  * Reads the NLRI of a run at a cursor (0 at first): run[cursor] up to run[answer.cursor]. FAMILY, LONG (a run over 4,096
- * octets), then NLRI reading. At the run's end: DONE with route type 0. With a cursor past the end: SHORT.
+ * octets), then NLRI reading. At the run's end: DONE with route type 0. With a cursor past the end: SHORT. A step skips
+ * nothing: an unknown route type is TYPE, in every mode of a walk.
  */
 mvpn_stepped mvpn_step(uint16_t afi, const uint8_t *run, size_t run_len, size_t cursor);
 
 /*
- * Walks a run of NLRIs up to the first refusal: how many were read, the offset just past the last one read, and the
- * number of the refusal, or DONE at the run's end. A bad AFI gives 0, 0, FAMILY; a run over 4,096 octets 0, 0, LONG.
- * An NLRI refused with TYPE is whole: a caller may go on behind it, run[offset + 1] octets past its header.
+ * Walks a run of NLRIs up to the first refusal that its mode does not skip: how many were read, how many were skipped, the
+ * offset just past the last of them, and the number of the refusal, or DONE at the run's end. FAMILY and LONG (a run over 4,096
+ * octets) give 0 read, 0 skipped, offset 0. What is skipped is an NLRI alone: one whose Length goes past the run is SHORT, an
+ * unknown route type inside a Leaf's key is KEY, and both stop the walk.
  */
-mvpn_walked mvpn_walk(uint16_t afi, const uint8_t *run, size_t run_len);
+mvpn_walked mvpn_walk(uint16_t afi, uint32_t mode, const uint8_t *run, size_t run_len);
 
 /*
  * A run that arrives in pieces, as a session delivers it. Wherever a run of at most 4,096 octets is cut, also with pieces of no
- * octets, a reader gives the NLRIs that the walk reads in the whole run, each once and in order, and after finish it has the
- * walk's answer. It keeps one unfinished NLRI at the most, in octets that the caller lends. The caller's loop:
+ * octets, a reader gives the NLRIs that the walk of its mode reads in the whole run, each once and in order, and after finish it
+ * has that walk's answer. It keeps one unfinished NLRI at the most, in octets that the caller lends. The caller's loop:
  *
  *     uint8_t unfinished[MVPN_UNFINISHED];
- *     mvpn_pieces pieces = mvpn_pieces_start(afi);
+ *     mvpn_pieces pieces = mvpn_pieces_start(afi, mode);
  *     while (next_piece(&piece, &size))
  *         while (size > 0) {
  *             mvpn_fed fed = mvpn_pieces_feed(pieces, unfinished, piece, size);
@@ -197,7 +213,7 @@ enum { MVPN_UNFINISHED = 257 }; /* the longest NLRI: its header and a Length of 
 
 typedef struct {
     mvpn_walked walked; /* after finish: the walk's answer */
-    uint32_t afi, stage, total, kept;
+    uint32_t afi, mode, stage, total, kept;
 } mvpn_pieces;
 
 typedef struct {
@@ -206,14 +222,16 @@ typedef struct {
     size_t size;        /* of the NLRI that is now whole at the front of `unfinished`; 0: none */
 } mvpn_fed;
 
-/* Starts a reader. FAMILY: the reader is finished from the start, and has the walk's answer, 0, 0, FAMILY. */
-mvpn_pieces mvpn_pieces_start(uint16_t afi);
+/* Starts a reader of this mode. FAMILY: the reader is finished from the start, and has the walk's answer, all 0 but FAMILY. */
+mvpn_pieces mvpn_pieces_start(uint16_t afi, uint32_t mode);
 
 /*
  * Hands over a piece, or the rest of one: octets of it are taken up to the end of one NLRI, and of a piece that is not empty at
  * least one. `unfinished` is MVPN_UNFINISHED octets; what they hold before the first feed is no matter. An NLRI that is given
  * stands there until the next feed. No number is told before finish:
- *   - at the first NLRI that is whole and refused the reading stops: pieces are taken whole and counted, and no NLRI is given;
+ *   - an NLRI of unknown route type that is whole is skipped in the mode MVPN_SKIP: it is taken, and not given;
+ *   - at the first NLRI that is whole, refused and not skipped the reading stops: pieces are taken whole and counted, and no
+ *     NLRI is given;
  *   - where the octets taken before and the piece are over 4,096 together, stop or no stop, the run is LONG: the piece is taken
  *     whole and gives no NLRI, those given before are void, and so it stays;
  *   - after finish a piece is taken whole, and nothing is counted, given or written.

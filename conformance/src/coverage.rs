@@ -37,6 +37,8 @@ pub enum Seen {
     SPmsi(u16, bool, bool, usize),
     /// An accepted Leaf: AFI, route type of its key, octets of the originator.
     Leaf(u16, u8, usize),
+    /// Unknown route types that a walk skipped; 3 stands for more.
+    Skipped(u32),
     /// A step at the run's end.
     End,
     /// Feeds that it took to give an NLRI; 3 stands for more.
@@ -135,9 +137,20 @@ fn required() -> Vec<(Call, Seen)> {
     let single = [(Call::Step, Seen::End), (Call::Sequence, Seen::Nobody)];
     let fed = [Seen::Feeds(1), Seen::Feeds(2), Seen::Feeds(3), Seen::NoOctets, Seen::Finished, Seen::Forged];
     let fed = fed.map(|seen| (Call::PiecesFeed, seen));
+    let skipped =
+        [Call::Walk, Call::PiecesFinish].into_iter().flat_map(|call| [0, 1, 2, 3].map(|it| (call, Seen::Skipped(it))));
     let told = REASONS.iter().flat_map(|(tier, reasons)| reasons.iter().map(|reason| Seen::Reason(*tier, *reason)));
     let told = told.map(|seen| (Call::Explain, seen));
-    numbers.chain(families).chain(tunnels).chain(elements).chain(tables).chain(single).chain(fed).chain(told).collect()
+    numbers
+        .chain(families)
+        .chain(tunnels)
+        .chain(elements)
+        .chain(tables)
+        .chain(single)
+        .chain(fed)
+        .chain(skipped)
+        .chain(told)
+        .collect()
 }
 
 fn required_of_tables(afi: u16) -> Vec<(Call, Seen)> {

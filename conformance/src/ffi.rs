@@ -93,6 +93,7 @@ pub struct Walked {
     pub number: u32,
     pub count: u32,
     pub offset: u32,
+    pub skipped: u32,
 }
 
 /// Octets that a reader of pieces is lent: the longest NLRI.
@@ -106,6 +107,7 @@ pub struct Pieces {
     pub walked: Walked,
     // What the reader keeps, as it likes.
     pub afi: u32,
+    pub mode: u32,
     pub stage: u32,
     pub total: u32,
     pub kept: u32,
@@ -191,8 +193,9 @@ const _: () = assert!(
         && size_of::<Nlri>() == 68
         && size_of::<NlriReading>() == 88
         && size_of::<Stepped>() == 64
-        && size_of::<Pieces>() == 28
-        && size_of::<Fed>() == 48
+        && size_of::<Walked>() == 16
+        && size_of::<Pieces>() == 36
+        && size_of::<Fed>() == 56
         && size_of::<AttributeReading>() == 80
         && size_of::<Installed>() == 8
         && size_of::<Matched>() == 16
@@ -207,8 +210,8 @@ pub mod raw {
     pub type NlriRead = unsafe extern "C" fn(u16, *const u8, usize) -> NlriReading;
     pub type NlriWrite = unsafe extern "C" fn(u16, Nlri, *const u8, usize, *mut u8, usize) -> Written;
     pub type Step = unsafe extern "C" fn(u16, *const u8, usize, usize) -> Stepped;
-    pub type Walk = unsafe extern "C" fn(u16, *const u8, usize) -> Walked;
-    pub type PiecesStart = unsafe extern "C" fn(u16) -> Pieces;
+    pub type Walk = unsafe extern "C" fn(u16, u32, *const u8, usize) -> Walked;
+    pub type PiecesStart = unsafe extern "C" fn(u16, u32) -> Pieces;
     pub type PiecesFeed = unsafe extern "C" fn(Pieces, *mut u8, *const u8, usize) -> Fed;
     pub type PiecesFinish = unsafe extern "C" fn(Pieces) -> Pieces;
     pub type GroupClass = unsafe extern "C" fn(u16, *const u8, usize) -> Group;
@@ -242,8 +245,8 @@ pub mod raw {
             output_len: usize,
         ) -> Written;
         pub fn mvpn_step(afi: u16, run: *const u8, run_len: usize, cursor: usize) -> Stepped;
-        pub fn mvpn_walk(afi: u16, run: *const u8, run_len: usize) -> Walked;
-        pub fn mvpn_pieces_start(afi: u16) -> Pieces;
+        pub fn mvpn_walk(afi: u16, mode: u32, run: *const u8, run_len: usize) -> Walked;
+        pub fn mvpn_pieces_start(afi: u16, mode: u32) -> Pieces;
         pub fn mvpn_pieces_feed(pieces: Pieces, unfinished: *mut u8, piece: *const u8, piece_len: usize) -> Fed;
         pub fn mvpn_pieces_finish(pieces: Pieces) -> Pieces;
         pub fn mvpn_group_class(afi: u16, group: *const u8, group_len: usize) -> Group;
@@ -323,12 +326,12 @@ pub fn step(afi: u16, run: &mut Lent, cursor: usize) -> Stepped {
     unsafe { raw::mvpn_step(afi, run.pointer(), run.len(), cursor) }
 }
 
-pub fn walk(afi: u16, run: &mut Lent) -> Walked {
-    unsafe { raw::mvpn_walk(afi, run.pointer(), run.len()) }
+pub fn walk(afi: u16, mode: u32, run: &mut Lent) -> Walked {
+    unsafe { raw::mvpn_walk(afi, mode, run.pointer(), run.len()) }
 }
 
-pub fn pieces_start(afi: u16) -> Pieces {
-    unsafe { raw::mvpn_pieces_start(afi) }
+pub fn pieces_start(afi: u16, mode: u32) -> Pieces {
+    unsafe { raw::mvpn_pieces_start(afi, mode) }
 }
 
 /// `unfinished` has exactly `UNFINISHED` octets.

@@ -85,6 +85,7 @@ fn finds(options: &Options, fault: Fault) -> bool {
         ShownBy::Explanations => cases::of_explanations(&mut harness, options),
         ShownBy::SharedTrees => cases::of_shared_trees(&mut harness, options),
         ShownBy::Encodings => cases::of_encodings(&mut harness, options),
+        ShownBy::Skips => cases::of_skips(&mut harness, options),
         ShownBy::Pieces => cases::of_pieces(&mut harness, options),
     };
     let name = fault.name();

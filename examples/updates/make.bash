@@ -262,6 +262,12 @@ ipv4() {
     update "$(usual)" "$(reach 1 "$(one_of_each)" "$(s_pmsi 0:100:7 192.0.2.7 232.7.7.7 10.0.0.1)")" \
         "$(bier 00 1001 0 1 10.0.0.1)"
 
+    # route types that are not defined: first, one behind another, last; with no body and with the longest; alone
+    update "$(usual)" "$(reach 1 "$(nlri 0 '')" "$(nlri 255 AB)" "$(s_pmsi 0:100:7 192.0.2.8 232.7.7.7 10.0.0.1)" "$(nlri 9 '')")" \
+        "$(bier 00 1001 0 1 10.0.0.1)"
+    update "$(extended 80 15 "$(unreach_value 1 "$(nlri 8 "$(printf '%0510d' 0)")$(s_pmsi 0:100:7 192.0.2.8 232.7.7.7 10.0.0.1)")")"
+    update "$(unreach 1 "$(nlri 9 ABCDEF)")"
+
     # another tunnel for a route that is held, and two routes less
     update "$(usual)" "$(reach 1 "$(s_pmsi 0:100:7 '*' 239.1.1.1 10.0.0.1)")" "$(bier 01 1000 0 1 10.0.0.1)"
     update "$(unreach 1 "$(s_pmsi 0:100:7 192.0.2.9 '*' 10.0.0.1)" "$(s_pmsi 0:100:7 192.0.2.3 239.1.1.2 10.0.0.1)")"
@@ -362,6 +368,8 @@ damaged_nlris() {
     announce "$good$(nlri 3 "${rd}18C0000200")" "$tunnel"                       # a source of 24 bits
     announce "$(nlri 9 AB)$(nlri 3 "$rd$(field '*')$(field '*')0A0000")" "$tunnel" # an originator of three octets
     announce "${good}0320$rd" "$tunnel"                                         # a Length past the run's end
+    announce "${good}0920$rd" "$tunnel"                                         # the same of a route type that is not defined
+    announce "$(nlri 4 "$(nlri 9 "$rd")$(address 10.0.0.1)")" "$tunnel"         # a Leaf's key of such a type
     announce "$(nlri 4 "$(nlri 5 "$rd")$(address 10.0.0.1)")" "$tunnel"         # a Leaf's key that is Source Active
     update "$(unreach 1 "$(s_pmsi 0:100:7 '*' '*' 10.0.0.1)" 03)"                 # a withdrawal, and half a header
 }

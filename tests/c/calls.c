@@ -243,55 +243,115 @@ static void step(const step_row *row)
     free(run.at);
 }
 
+/* What a walk answers in each mode; in the old mode nothing is skipped. */
 typedef struct {
     const char *shows;
     uint16_t afi;
     const char *run;
-    uint32_t number, count, offset;
+    mvpn_walked skipping, old;
 } walk_row;
 
+#define WALKED(number_, count_, offset_, skipped_) \
+    { .number = (number_), .count = (count_), .offset = (offset_), .skipped = (skipped_) }
+#define BOTH(number, count, offset) WALKED(number, count, offset, 0), WALKED(number, count, offset, 0)
+
+/* 254 and 255 octets. */
+#define OCTETS_15 "000102030405060708090A0B0C0D0E "
+#define OCTETS_51 OCTETS_15 OCTETS_15 OCTETS_15 "0F1011121314 "
+#define OCTETS_254 OCTETS_51 OCTETS_51 OCTETS_51 OCTETS_51 OCTETS_15 OCTETS_15 OCTETS_15 "0F10111213 "
+#define OCTETS_255 OCTETS_254 "14 "
+
 static const walk_row walks[] = {
-    { "walk of document 01's octets", 1, LISTED, MVPN_TYPE, 1, 16 },
-    { "walk to the run's end", 1, WILDCARDS WILDCARDS, MVPN_DONE, 2, 32 },
-    { "walk, a zero length does not end the run", 1, WILDCARDS "0300 " WILDCARDS, MVPN_LENGTH, 1, 16 },
-    { "walk, the last NLRI cut short", 2, WILDCARDS "030E 00", MVPN_SHORT, 1, 16 },
-    { "walk, no octets", 1, "", MVPN_DONE, 0, 0 },
-    { "walk, AFI 3", 3, LISTED, MVPN_FAMILY, 0, 0 },
-    { "walk, AFI 3, no octets", 3, "", MVPN_FAMILY, 0, 0 },
+    { "walk to the run's end", 1, WILDCARDS WILDCARDS, BOTH(MVPN_DONE, 2, 32) },
+    { "walk, a zero length does not end the run", 1, WILDCARDS "0300 " WILDCARDS, BOTH(MVPN_LENGTH, 1, 16) },
+    { "walk, the last NLRI cut short", 2, WILDCARDS "030E 00", BOTH(MVPN_SHORT, 1, 16) },
+    { "walk, no octets", 1, "", BOTH(MVPN_DONE, 0, 0) },
+    { "walk, AFI 3", 3, LISTED, BOTH(MVPN_FAMILY, 0, 0) },
+    { "walk, AFI 3, no octets", 3, "", BOTH(MVPN_FAMILY, 0, 0) },
+
+    { "walk of document 01's octets", 1, LISTED, WALKED(MVPN_DONE, 1, 18, 1), WALKED(MVPN_TYPE, 1, 16, 0) },
+    { "walk, an unknown type first", 1, "0903 ABCDEF" WILDCARDS, WALKED(MVPN_DONE, 1, 21, 1), WALKED(MVPN_TYPE, 0, 0, 0) },
+    { "walk, an unknown type in the middle", 2, WILDCARDS "0903 ABCDEF" WILDCARDS, WALKED(MVPN_DONE, 2, 37, 1),
+      WALKED(MVPN_TYPE, 1, 16, 0) },
+    { "walk, an unknown type last", 1, WILDCARDS WILDCARDS "0903 ABCDEF", WALKED(MVPN_DONE, 2, 37, 1), WALKED(MVPN_TYPE, 2, 32, 0) },
+    { "walk, unknown types one after another", 1, "0000 0801AA FF00" WILDCARDS "0900", WALKED(MVPN_DONE, 1, 25, 4),
+      WALKED(MVPN_TYPE, 0, 0, 0) },
+    { "walk, an unknown type alone, Length 0", 1, "0900", WALKED(MVPN_DONE, 0, 2, 1), WALKED(MVPN_TYPE, 0, 0, 0) },
+    { "walk, an unknown type, Length 0, does not end the run", 1, "0000" WILDCARDS, WALKED(MVPN_DONE, 1, 18, 1),
+      WALKED(MVPN_TYPE, 0, 0, 0) },
+    { "walk, an unknown type, Length 255", 1, "09FF" OCTETS_255 WILDCARDS, WALKED(MVPN_DONE, 1, 273, 1), WALKED(MVPN_TYPE, 0, 0, 0) },
+    { "walk, an unknown type whose body looks like NLRIs", 1, "0920" WILDCARDS WILDCARDS WILDCARDS, WALKED(MVPN_DONE, 1, 50, 1),
+      WALKED(MVPN_TYPE, 0, 0, 0) },
+
+    { "walk, an unknown type past the run's end", 1, WILDCARDS "0905 01020304", BOTH(MVPN_SHORT, 1, 16) },
+    { "walk, an unknown type of 255 octets past the run's end", 1, "09FF" OCTETS_254, BOTH(MVPN_SHORT, 0, 0) },
+    { "walk, an unknown type, then one past the run's end", 1, "0900 0801", WALKED(MVPN_SHORT, 0, 2, 1), WALKED(MVPN_TYPE, 0, 0, 0) },
+    { "walk, an unknown type, then half a header", 1, WILDCARDS "0900 09", WALKED(MVPN_SHORT, 1, 18, 1), WALKED(MVPN_TYPE, 1, 16, 0) },
+    { "walk, a Leaf whose key is of unknown type", 1, "0406 0900 0A000001" WILDCARDS, BOTH(MVPN_KEY, 0, 0) },
+    { "walk, an unknown type, then a Leaf with such a key", 1, WILDCARDS "0900 0406 0900 0A000001", WALKED(MVPN_KEY, 1, 18, 1),
+      WALKED(MVPN_TYPE, 1, 16, 0) },
+    { "walk, an unknown type, then a source of 24 bits", 1, "0801AA 0309 " RD "18", WALKED(MVPN_WIDTH, 0, 3, 1),
+      WALKED(MVPN_TYPE, 0, 0, 0) },
+    { "walk, a refusal, then an unknown type", 1, "0100 0900", BOTH(MVPN_LENGTH, 0, 0) },
+    { "walk, AFI 0, an unknown type", 0, "0900", BOTH(MVPN_FAMILY, 0, 0) },
 };
 
-static void same_walk(const char *shows, mvpn_walked got, uint32_t number, uint32_t count, uint32_t offset)
+static void same_walk(const char *shows, mvpn_walked got, mvpn_walked expected)
 {
-    same(shows, "number", got.number, number);
-    same(shows, "count", got.count, count);
-    same(shows, "offset", got.offset, offset);
+    same(shows, "number", got.number, expected.number);
+    same(shows, "count", got.count, expected.count);
+    same(shows, "offset", got.offset, expected.offset);
+    same(shows, "skipped", got.skipped, expected.skipped);
 }
 
-static void walk(const walk_row *row)
+/* Every number but MVPN_SKIP is the old mode. */
+static const uint32_t old_modes[] = { MVPN_OLD, 2, 256, 0x80000000, UINT32_MAX };
+
+static void walk(const char *shows, uint16_t afi, const uint8_t *run, size_t size, mvpn_walked skipping, mvpn_walked old)
+{
+    same_walk(shows, mvpn_walk(afi, MVPN_SKIP, run, size), skipping);
+    for (size_t i = 0; i < ROWS(old_modes); i++)
+        same_walk(shows, mvpn_walk(afi, old_modes[i], run, size), old);
+}
+
+static void walk_run(const walk_row *row)
 {
     lent run = hex(row->run);
-    same_walk(row->shows, mvpn_walk(row->afi, run.at, run.size), row->number, row->count, row->offset);
+    walk(row->shows, row->afi, run.at, run.size, row->skipping, row->old);
     free(run.at);
+}
+
+/* A run of NLRIs of 16 octets, or of unknown types of 2 octets; one octet more than a run may have. */
+static lent long_run(const char *nlri_text)
+{
+    lent nlri = hex(nlri_text), run = lent_of(RUN + 1, 0);
+    for (size_t at = 0; at < RUN; at += nlri.size)
+        memcpy(run.at + at, nlri.at, nlri.size);
+    free(nlri.at);
+    return run;
 }
 
 /* A run of 4,096 octets is walked whole; with one octet more it is LONG, for the step wherever the cursor stands. */
 static void longest_run(void)
 {
-    lent nlri = hex(WILDCARDS), run = lent_of(RUN + 1, 0);
-    for (size_t at = 0; at < RUN; at += nlri.size)
-        memcpy(run.at + at, nlri.at, nlri.size);
-    same_walk("walk of 4,096 octets", mvpn_walk(1, run.at, RUN), MVPN_DONE, RUN / 16, RUN);
-    same_walk("walk of 4,097 octets", mvpn_walk(1, run.at, RUN + 1), MVPN_LONG, 0, 0);
-    same_walk("walk of 4,097 octets, AFI 3", mvpn_walk(3, run.at, RUN + 1), MVPN_FAMILY, 0, 0);
+    static const mvpn_walked whole = WALKED(MVPN_DONE, RUN / 16, RUN, 0), skipped = WALKED(MVPN_DONE, 0, RUN, RUN / 2),
+                             stopped = WALKED(MVPN_TYPE, 0, 0, 0), too_long = WALKED(MVPN_LONG, 0, 0, 0),
+                             no_family = WALKED(MVPN_FAMILY, 0, 0, 0);
+    lent run = long_run(WILDCARDS), unknown = long_run("0900");
+    walk("walk of 4,096 octets", 1, run.at, RUN, whole, whole);
+    walk("walk of 4,096 octets of unknown types", 1, unknown.at, RUN, skipped, stopped);
+    walk("walk of 4,097 octets", 1, run.at, RUN + 1, too_long, too_long);
+    walk("walk of 4,097 octets of unknown types", 1, unknown.at, RUN + 1, too_long, too_long);
+    walk("walk of 4,097 octets, AFI 3", 3, run.at, RUN + 1, no_family, no_family);
     mvpn_stepped s = mvpn_step(1, run.at, RUN + 1, 16);
     same("step in 4,097 octets", "number", s.number, MVPN_LONG);
     same("step in 4,097 octets", "cursor", s.cursor, 16);
     same_layout("step in 4,097 octets", s.layout, (mvpn_layout){ .route_type = 0 });
-    free(nlri.at);
     free(run.at);
+    free(unknown.at);
 }
 
-/* Stepping from cursor to cursor comes to what the walk tells. */
+/* Stepping from cursor to cursor comes to what the walk of the old mode tells: a step skips nothing. */
 static void step_through(void)
 {
     const char *shows = "stepping through document 01's octets";
@@ -481,7 +541,7 @@ static void runs(void)
     for (size_t i = 0; i < ROWS(steps); i++)
         step(&steps[i]);
     for (size_t i = 0; i < ROWS(walks); i++)
-        walk(&walks[i]);
+        walk_run(&walks[i]);
     longest_run();
     step_through();
 }

@@ -11,9 +11,9 @@ static_assert(sizeof(mvpn_nlri_reading) == 88, "mvpn_nlri_reading");
 static_assert(sizeof(mvpn_written) == 16, "mvpn_written");
 static_assert(sizeof(mvpn_layout) == 48, "mvpn_layout");
 static_assert(sizeof(mvpn_stepped) == 64, "mvpn_stepped");
-static_assert(sizeof(mvpn_walked) == 12, "mvpn_walked");
-static_assert(sizeof(mvpn_pieces) == 28, "mvpn_pieces");
-static_assert(sizeof(mvpn_fed) == 48, "mvpn_fed");
+static_assert(sizeof(mvpn_walked) == 16, "mvpn_walked");
+static_assert(sizeof(mvpn_pieces) == 36, "mvpn_pieces");
+static_assert(sizeof(mvpn_fed) == 56, "mvpn_fed");
 static_assert(sizeof(mvpn_group) == 8, "mvpn_group");
 static_assert(sizeof(mvpn_fec) == 40, "mvpn_fec");
 static_assert(sizeof(mvpn_attribute_reading) == 80, "mvpn_attribute_reading");
@@ -37,11 +37,12 @@ int main()
 {
     const uint8_t octets[] = {0};
     uint8_t output[] = {0}, unfinished[MVPN_UNFINISHED];
-    mvpn_fed fed = mvpn_pieces_feed(mvpn_pieces_start(1), unfinished, octets, 0);
+    mvpn_fed fed = mvpn_pieces_feed(mvpn_pieces_start(1, MVPN_SKIP), unfinished, octets, 0);
     // With no octets: DONE of step, walk and pieces, and each other call's first refusal.
     bool as_expected = mvpn_nlri_read(1, octets, 0).number == MVPN_SHORT &&
                        mvpn_nlri_write(1, mvpn_nlri{}, octets, 0, output, 0).number == MVPN_TYPE &&
-                       mvpn_step(1, octets, 0, 0).number == MVPN_DONE && mvpn_walk(1, octets, 0).number == MVPN_DONE &&
+                       mvpn_step(1, octets, 0, 0).number == MVPN_DONE &&
+                       mvpn_walk(1, MVPN_SKIP, octets, 0).number == MVPN_DONE &&
                        fed.size == 0 && mvpn_pieces_finish(fed.pieces).walked.number == MVPN_DONE &&
                        mvpn_group_class(1, octets, 0).number == MVPN_FLOW &&
                        mvpn_attribute_read(octets, 0).number == MVPN_SHORT &&

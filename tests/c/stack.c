@@ -29,7 +29,10 @@ static const uint8_t run[] = { 4, 76, S_PMSI, ORIGINATOR, S_PMSI, 1, 24, RD, ORI
 static const uint8_t mldp[] = { 0, 2, 0, 0, 0, 6, 0, 2, 16, ORIGINATOR, 0, 3, 1, 2, 3 };
 static const uint8_t bier[] = { 0, 11, 0, 0, 16, 1, 0, 2, ORIGINATOR }, pim[] = { 0, 3, 0, 0, 0, SOURCE, GROUP };
 
-static const uint8_t unknown[] = { 9, 0 };
+/* An unknown route type, and one between two NLRIs. */
+#define UNKNOWN 9, 3, 1, 2, 3
+
+static const uint8_t unknown[] = { UNKNOWN }, mixed[] = { 1, 24, RD, ORIGINATOR, UNKNOWN, S_PMSI };
 
 static uint8_t output[MVPN_MATCH_OUTPUT], unfinished[MVPN_UNFINISHED];
 
@@ -94,28 +97,33 @@ RUN(write_join, WRITES(join))
 
 RUN(step_leaf, mvpn_step(2, run, sizeof run, 0).layout.key == sizeof s_pmsi)
 RUN(step_s_pmsi, mvpn_step(2, run, sizeof run, sizeof leaf).layout.group == 16)
-RUN(walk_run, mvpn_walk(2, run, sizeof run).count == 3)
+RUN(walk_run, mvpn_walk(2, MVPN_SKIP, run, sizeof run).count == 3)
+RUN(walk_skipping, mvpn_walk(2, MVPN_SKIP, mixed, sizeof mixed).skipped == 1)
+RUN(walk_stopping, mvpn_walk(2, MVPN_OLD, mixed, sizeof mixed).number == MVPN_TYPE)
 
-RUN(start_pieces, mvpn_pieces_start(2).walked.number == MVPN_DONE)
-RUN(start_no_family, mvpn_pieces_start(3).walked.number == MVPN_FAMILY)
+RUN(start_pieces, mvpn_pieces_start(2, MVPN_SKIP).walked.number == MVPN_DONE)
+RUN(start_old, mvpn_pieces_start(2, MVPN_OLD).walked.number == MVPN_DONE)
+RUN(start_no_family, mvpn_pieces_start(3, MVPN_SKIP).walked.number == MVPN_FAMILY)
 
-/* A reader just started, and one that has read a part of an NLRI. */
-static mvpn_pieces started, inside;
+/* Readers just started, of each mode, and one that has read a part of an NLRI. */
+static mvpn_pieces started, started_old, inside;
 
 static void read_part(void)
 {
-    started = mvpn_pieces_start(2);
+    started = mvpn_pieces_start(2, MVPN_SKIP);
+    started_old = mvpn_pieces_start(2, MVPN_OLD);
     inside = mvpn_pieces_feed(started, unfinished, leaf, 20).pieces;
 }
 
 static mvpn_fed fed;
 
-#define FEEDS(octets, len, wanted_taken, wanted_size) \
-    (fed = mvpn_pieces_feed(started, unfinished, octets, len), fed.taken == (wanted_taken) && fed.size == (wanted_size))
-RUN(feed_whole, FEEDS(run, sizeof run, sizeof leaf, sizeof leaf))
-RUN(feed_part, FEEDS(leaf, 20, 20, 0))
-RUN(feed_unknown, FEEDS(unknown, sizeof unknown, sizeof unknown, 0))
-RUN(feed_long, FEEDS(full, sizeof full, sizeof full, 0))
+#define FEEDS(reader, octets, len, wanted_taken, wanted_size) \
+    (fed = mvpn_pieces_feed(reader, unfinished, octets, len), fed.taken == (wanted_taken) && fed.size == (wanted_size))
+RUN(feed_whole, FEEDS(started, run, sizeof run, sizeof leaf, sizeof leaf))
+RUN(feed_part, FEEDS(started, leaf, 20, 20, 0))
+RUN(feed_skipped, FEEDS(started, unknown, sizeof unknown, sizeof unknown, 0))
+RUN(feed_stopped, FEEDS(started_old, unknown, sizeof unknown, sizeof unknown, 0))
+RUN(feed_long, FEEDS(started, full, sizeof full, sizeof full, 0))
 RUN(finish_whole, mvpn_pieces_finish(started).walked.number == MVPN_DONE)
 RUN(finish_part, mvpn_pieces_finish(inside).walked.number == MVPN_SHORT)
 
@@ -229,11 +237,15 @@ static const struct {
     { "mvpn_step", step_leaf, full },
     { "mvpn_step", step_s_pmsi, full },
     { "mvpn_walk", walk_run, full },
+    { "mvpn_walk", walk_skipping, full },
+    { "mvpn_walk", walk_stopping, full },
     { "mvpn_pieces_start", start_pieces, full },
+    { "mvpn_pieces_start", start_old, full },
     { "mvpn_pieces_start", start_no_family, full },
     { "mvpn_pieces_feed", feed_whole, full },
     { "mvpn_pieces_feed", feed_part, full },
-    { "mvpn_pieces_feed", feed_unknown, full },
+    { "mvpn_pieces_feed", feed_skipped, full },
+    { "mvpn_pieces_feed", feed_stopped, full },
     { "mvpn_pieces_feed", feed_long, full },
     { "mvpn_pieces_finish", finish_whole, full },
     { "mvpn_pieces_finish", finish_part, full },

@@ -7,6 +7,7 @@ use crate::{
     hexadecimal::octets,
     second::{
         choice::Flow,
+        run::{OLD, SKIP},
         table_calls::{TableAnswer, TableCall},
     },
 };
@@ -15,7 +16,7 @@ use std::fmt::Debug;
 /// The distinguisher 100:7 of the listing example.
 pub const RD: &str = "0000006400000007";
 
-/// The listing's 18 octets, and the text for them.
+/// The listing's 18 octets, and the text for them, which document 02, W-206, keeps for the old mode.
 pub const LISTED: &str = "030E 0000006400000007 00 00 0A000001 0900";
 pub const LISTED_TEXT: &str = "MVT list 1\n0 3 14\nstop 16 2\n";
 
@@ -134,7 +135,7 @@ pub fn all(harness: &mut Harness) -> Checked {
     nlris(harness)?;
     attributes(harness)?;
     runs(harness)?;
-    let listed = harness.second.listing(&octets(LISTED));
+    let listed = harness.second.listing(&[b"old"], &octets(LISTED));
     in_document("the listing's text", listed, LISTED_TEXT.to_string())
 }
 
@@ -177,16 +178,16 @@ fn attributes(harness: &mut Harness) -> Checked {
 /// The listing's run, the empty run and the bad AFIs.
 fn runs(harness: &mut Harness) -> Checked {
     let listed = octets(LISTED);
-    let answer = harness.walk(1, &listed)?;
-    in_document("the listing's 18 octets", answer, Walked { number: 2, count: 1, offset: 16 })?;
+    let answer = harness.walk(1, OLD, &listed)?;
+    in_document("the listing's 18 octets", answer, Walked { number: 2, count: 1, offset: 16, skipped: 0 })?;
     harness.walk_by_steps(1, &listed)?;
-    for afi in [1, 2] {
-        in_document("an empty run", harness.walk(afi, &[])?, Walked::default())?;
+    for (afi, mode) in [(1, OLD), (2, OLD), (1, SKIP), (2, SKIP)] {
+        in_document("an empty run", harness.walk(afi, mode, &[])?, Walked::default())?;
     }
-    for afi in BAD_AFIS {
-        let refusal = Walked { number: 10, count: 0, offset: 0 };
-        in_document("a bad AFI", harness.walk(afi, &listed)?, refusal)?;
-        in_document("a bad AFI, empty run", harness.walk(afi, &[])?, refusal)?;
+    for (afi, mode) in BAD_AFIS.into_iter().flat_map(|afi| [(afi, OLD), (afi, SKIP)]) {
+        let refusal = Walked { number: 10, ..Default::default() };
+        in_document("a bad AFI", harness.walk(afi, mode, &listed)?, refusal)?;
+        in_document("a bad AFI, empty run", harness.walk(afi, mode, &[])?, refusal)?;
     }
     Ok(())
 }

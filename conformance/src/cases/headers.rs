@@ -36,5 +36,5 @@ fn with_bodies(harness: &mut Harness, random: &mut Random, afi: u16, header: [u8
 fn compare(harness: &mut Harness, afi: u16, input: Input) -> Checked {
     harness.inputs += 1;
     harness.nlri_read(afi, input)?;
-    harness.walk(afi, input).map(|_| ())
+    harness.walk(afi, harness.any_mode(), input).map(|_| ())
 }

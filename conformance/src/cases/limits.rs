@@ -44,7 +44,7 @@ fn long_runs(harness: &mut Harness, random: &mut Random, afi: u16) -> Checked {
         let run = near::run_of(random, afi, size);
         harness.inputs += 2;
         harness.walk_by_steps(afi, &run)?;
-        harness.walk(afi, &vec![0; size])?;
+        harness.walk_both_ways(afi, &vec![0; size])?;
         for cursor in [0, 1, size.saturating_sub(1), size, size + 1, LONGEST_RUN, usize::MAX] {
             harness.step(afi, &run, cursor)?;
         }
@@ -66,7 +66,7 @@ fn cursors(harness: &mut Harness, afi: u16) -> Checked {
     }
     // Octets that stand behind the run's end are not its octets.
     for size in 0..=run.len() {
-        harness.walk(afi, Input::cut(&run, size))?;
+        harness.walk_both_ways(afi, Input::cut(&run, size))?;
         harness.step(afi, Input::cut(&run, size), size)?;
         harness.step(afi, Input::cut(&run, size), size + 1)?;
     }

@@ -1,9 +1,11 @@
-//! The listing program: its whole output and exit status beside the second decoder's text.
+//! The listing program, with `old` as its only argument and otherwise: its whole output and exit status beside the second
+//! decoder's text.
 
 use super::{
-    document::{LISTED, LISTED_TEXT},
+    document::{in_papers, LISTED},
     near,
     samples::nlris,
+    skips::LISTINGS,
 };
 use crate::{
     compare::{disagree, Checked, Disagreement, Harness},
@@ -11,7 +13,9 @@ use crate::{
     random::Random,
 };
 use std::{
+    ffi::OsStr,
     io::{self, Write},
+    os::unix::ffi::OsStrExt,
     process::{Child, Command, Stdio},
     thread::sleep,
     time::Duration,
@@ -23,20 +27,25 @@ const REFUSALS: [&str; 8] = ["03", "0305 00", "0900", "0300", "0309 000000640000
 const RANDOM_RUNS: usize = 250;
 
 pub fn all(harness: &mut Harness, random: &mut Random, program: &str) -> Checked {
-    let text = output(program, &octets(LISTED), &Pace::Whole)?;
-    if text != LISTED_TEXT {
-        return disagree("document 01, the listing".into(), text, LISTED_TEXT.into());
+    for (shows, arguments, run, text) in LISTINGS {
+        let listed = output(program, arguments, &octets(run), &Pace::Whole)?;
+        in_papers(format!("document 02, W-206, listing, {shows}"), listed, text.to_string())?;
     }
     let whole = nlris(1).into_iter().flat_map(|sample| sample.octets).collect::<Vec<u8>>();
-    for run in fixed_runs(random, &whole) {
-        compare(harness, program, &run, &Pace::Whole)?;
-        compare(harness, program, &run, &Pace::Pieces(1 + run.len() / 9))?;
+    for (number, run) in fixed_runs(random, &whole).into_iter().enumerate() {
+        let mut ways = [SKIPPING, OLD];
+        ways.rotate_left(number % 2);
+        compare(harness, program, ways[0], &run, &Pace::Whole)?;
+        compare(harness, program, ways[1], &run, &Pace::Pieces(1 + run.len() / 9))?;
     }
-    compare(harness, program, &octets(LISTED), &Pace::Pieces(1))?;
+    for arguments in [SKIPPING, OLD] {
+        compare(harness, program, arguments, &octets(LISTED), &Pace::Pieces(1))?;
+    }
     for number in 0..RANDOM_RUNS {
         let run = random_run(random);
         let pace = if number % 5 == 0 { Pace::Pieces(1 + random.below(200)) } else { Pace::Whole };
-        compare(harness, program, &run, &pace)?;
+        let arguments = random.pick(&[SKIPPING, SKIPPING, OLD, &[b"old", b"old"]]);
+        compare(harness, program, arguments, &run, &pace)?;
     }
     Ok(())
 }
@@ -61,7 +70,7 @@ fn random_run(random: &mut Random) -> Vec<u8> {
     let count = random.below(60);
     let mut run = Vec::new();
     for _ in 0..count {
-        let mut octets = near::nlri(random, 1);
+        let mut octets = near::item(random, 1);
         if random.once_in(20) {
             near::disturb_nlri(random, &mut octets);
         }
@@ -70,31 +79,40 @@ fn random_run(random: &mut Random) -> Vec<u8> {
     run
 }
 
+/// The program's arguments.
+type Arguments = &'static [&'static [u8]];
+
+const SKIPPING: Arguments = &[];
+const OLD: Arguments = &[b"old"];
+
 /// How standard input is fed: at once, or in pieces with a pause after each.
 enum Pace {
     Whole,
     Pieces(usize),
 }
 
-fn compare(harness: &mut Harness, program: &str, run: &[u8], pace: &Pace) -> Checked {
+fn compare(harness: &mut Harness, program: &str, arguments: Arguments, run: &[u8], pace: &Pace) -> Checked {
     harness.inputs += 1;
     harness.calls += 1;
-    let second = harness.second.listing(run);
-    let archive = output(program, run, pace)?;
+    let second = harness.second.listing(arguments, run);
+    let archive = output(program, arguments, run, pace)?;
     match archive == second {
         true => Ok(()),
-        false => disagree(format!("listing of {}", encode(run)), archive, second),
+        false => disagree(called(arguments, run), archive, second),
     }
 }
 
+fn called(arguments: Arguments, run: &[u8]) -> String {
+    let shown: Vec<_> = arguments.iter().map(|argument| String::from_utf8_lossy(argument)).collect();
+    format!("listing with the arguments {shown:?} of {}", encode(run))
+}
+
 /// The program's standard output; its exit status must be 0.
-fn output(program: &str, run: &[u8], pace: &Pace) -> Result<String, Disagreement> {
-    let failed = |what: String| Disagreement {
-        call: format!("listing of {}", encode(run)),
-        archive: what,
-        second: "exit status 0".into(),
-    };
+fn output(program: &str, arguments: Arguments, run: &[u8], pace: &Pace) -> Result<String, Disagreement> {
+    let failed =
+        |what: String| Disagreement { call: called(arguments, run), archive: what, second: "exit status 0".into() };
     let mut child = Command::new(program)
+        .args(arguments.iter().map(|argument| OsStr::from_bytes(argument)))
         .stdin(Stdio::piped())
         .stdout(Stdio::piped())
         .spawn()

@@ -23,6 +23,7 @@ pub mod sequences;
 pub mod shared;
 pub mod shared_examples;
 pub mod shared_refusals;
+pub mod skips;
 pub mod tables;
 
 use crate::{
@@ -35,6 +36,7 @@ use crate::{
 /// Runs every kind of case; stops at the first disagreement.
 pub fn all(harness: &mut Harness, options: &Options) -> Checked {
     of_encodings(harness, options)?;
+    of_skips(harness, options)?;
     of_pieces(harness, options)?;
     of_shared_trees(harness, options)?;
     of_explanations(harness, options)?;
@@ -58,6 +60,11 @@ pub fn of_encodings(harness: &mut Harness, options: &Options) -> Checked {
         Some(program) => listing::all(harness, &mut random, program),
         None => Ok(()),
     }
+}
+
+/// Unknown route types.
+pub fn of_skips(harness: &mut Harness, options: &Options) -> Checked {
+    skips::all(harness, &mut Random::new(options.seed), options.cases)
 }
 
 /// Runs that arrive in pieces.

@@ -20,6 +20,27 @@ pub fn nlri(random: &mut Random, afi: u16) -> Vec<u8> {
     [&[route_type, body.len() as u8], &body[..]].concat()
 }
 
+/// Route types that no document names.
+pub const UNKNOWN: [u8; 10] = [0, 8, 9, 10, 0x42, 0x45, 0x46, 0x48, 0x80, 255];
+
+/// A whole NLRI of an unknown type, mostly short.
+pub fn unknown(random: &mut Random) -> Vec<u8> {
+    let length = match random.below(8) {
+        0 => random.below(256),
+        1..=3 => 0,
+        _ => random.below(24),
+    };
+    [&[random.pick(&UNKNOWN), length as u8], &random.octets(length)[..]].concat()
+}
+
+/// What a run may hold: an NLRI, now and then of an unknown type.
+pub fn item(random: &mut Random, afi: u16) -> Vec<u8> {
+    match random.once_in(12) {
+        true => unknown(random),
+        false => nlri(random, afi),
+    }
+}
+
 fn body(random: &mut Random, afi: u16, route_type: u8) -> Vec<u8> {
     let distinguisher = random.octets(8);
     let source_as = random.octets(4);

@@ -8,6 +8,7 @@ use crate::{
     compare::{disagree, Checked, Disagreement, Harness},
     ffi::{Address, NlriReading, Walked},
     hexadecimal::{decode, encode},
+    second::run::OLD,
 };
 use std::{collections::BTreeMap, fs, path::Path};
 
@@ -116,8 +117,8 @@ fn nlri(harness: &mut Harness, run: &mut Run, line: &Line) -> Checked {
 fn end(harness: &mut Harness, run: &Run, line: &Line) -> Checked {
     let offset = number(line, line.plain.first().copied())? as u32;
     let number = number(line, line.plain.get(1).copied())? as u32;
-    let walked = harness.walk(run.afi, &run.octets)?;
-    same(line, walked, Walked { number, count: run.count, offset })?;
+    let walked = harness.walk(run.afi, OLD, &run.octets)?;
+    same(line, walked, Walked { number, count: run.count, offset, skipped: 0 })?;
     harness.walk_by_steps(run.afi, &run.octets)
 }
 

@@ -1,4 +1,4 @@
-//! Runs that arrive in pieces (document 02, W-203): examples with their answers, every cut of short runs, any cut of any run,
+//! Runs that arrive in pieces, in both modes (document 02, W-203): examples with their answers, every cut of short runs, any cut of any run,
 //! totals about 4,096 octets, and states that no call made.
 
 use super::{
@@ -7,14 +7,15 @@ use super::{
     samples::{nlris, BAD_AFIS, GOOD_AFIS},
 };
 use crate::{
-    compare::{pieces::Reader, Checked, Disagreement, Harness, Input},
+    compare::{pieces::Reader, run::MODES, Checked, Disagreement, Harness, Input},
     ffi::{Pieces, Walked},
     hexadecimal::octets,
     random::Random,
+    second::run::{OLD, SKIP},
 };
 
-/// What it shows, AFI, the pieces with bars between them and `RD` for the distinguisher, the NLRIs given, and the walk's
-/// number, count and offset.
+/// What it shows, AFI, the pieces with bars between them and `RD` for the distinguisher, the NLRIs given, and the number, count
+/// and offset of the walk in the old mode.
 type Example = (&'static str, u16, &'static str, &'static [&'static str], [u32; 3]);
 
 pub const EXAMPLES: [Example; 20] = [
@@ -95,25 +96,37 @@ pub fn all(harness: &mut Harness, random: &mut Random, cases: u64) -> Checked {
     (0..FORGED).try_for_each(|_| forged(harness, random))
 }
 
-fn start(harness: &mut Harness, random: &mut Random, afi: u16) -> Result<Reader, Disagreement> {
+fn start(harness: &mut Harness, random: &mut Random, afi: u16, mode: u32) -> Result<Reader, Disagreement> {
     harness.inputs += 1;
-    harness.pieces_start(afi, random.array())
+    harness.pieces_start(afi, mode, random.array())
 }
 
 /// Hands the pieces over and finishes; then all of it repeats the answer.
-fn read<'a>(
+pub fn read<'a>(
     harness: &mut Harness,
     random: &mut Random,
     afi: u16,
+    mode: u32,
     pieces: impl IntoIterator<Item = Input<'a>>,
 ) -> Result<(Reader, Walked), Disagreement> {
-    let mut reader = start(harness, random, afi)?;
+    let mut reader = start(harness, random, afi, mode)?;
     pieces.into_iter().try_for_each(|piece| harness.pieces_hand_over(&mut reader, piece))?;
     let walked = harness.pieces_finish(&mut reader)?;
     if random.once_in(4) {
         repeated(harness, random, &mut reader)?;
     }
     Ok((reader, walked))
+}
+
+/// The same in any mode.
+fn read_any_mode<'a>(
+    harness: &mut Harness,
+    random: &mut Random,
+    afi: u16,
+    pieces: impl IntoIterator<Item = Input<'a>>,
+) -> Checked {
+    let mode = random.pick(&MODES);
+    read(harness, random, afi, mode, pieces).map(drop)
 }
 
 /// Finish once more, feeds of none, of an NLRI and of too many octets, and finish again.
@@ -127,7 +140,7 @@ fn repeated(harness: &mut Harness, random: &mut Random, reader: &mut Reader) -> 
 }
 
 /// The run between these places of it, each piece with the next octets standing behind it.
-fn pieces<'a>(run: &'a [u8], ends: &[usize]) -> Vec<Input<'a>> {
+pub fn pieces<'a>(run: &'a [u8], ends: &[usize]) -> Vec<Input<'a>> {
     let starts = [0].into_iter().chain(ends.iter().copied());
     let piece = |(start, end): (usize, &usize)| Input::cut(&run[start..run.len().min(end + AFTER)], end - start);
     starts.zip(ends).map(piece).collect()
@@ -137,20 +150,22 @@ fn examples(harness: &mut Harness, random: &mut Random) -> Checked {
     for (shows, afi, text, given, [number, count, offset]) in EXAMPLES {
         let decoded = |text: &str| octets(&text.replace("RD", RD));
         let parts: Vec<Vec<u8>> = text.split('|').map(decoded).collect();
-        let (reader, walked) = read(harness, random, afi, parts.iter().map(Input::from))?;
-        let asked = (given.iter().map(|text| decoded(text)).collect(), Walked { number, count, offset });
+        let (reader, walked) = read(harness, random, afi, OLD, parts.iter().map(Input::from))?;
+        let asked = (given.iter().map(|text| decoded(text)).collect(), Walked { number, count, offset, skipped: 0 });
         in_papers(format!("document 02, W-203, {shows}"), (reader.given, walked), asked)?;
     }
     Ok(())
 }
 
-/// The run in one piece, in two and in three, wherever it is cut; and what the walk says of it.
-fn every_cut(harness: &mut Harness, random: &mut Random, afi: u16, run: &[u8]) -> Checked {
-    let walked = harness.walk(afi, run)?;
-    for first in 0..=run.len() {
-        for second in first..=run.len() {
-            let (_, in_pieces) = read(harness, random, afi, pieces(run, &[first, second, run.len()]))?;
-            in_papers(format!("walk and pieces (afi {afi}, cut at {first} and {second})"), in_pieces, walked)?;
+/// The run in one piece, in two and in three, wherever it is cut; and what the walk of each mode says of it.
+pub fn every_cut(harness: &mut Harness, random: &mut Random, afi: u16, run: &[u8]) -> Checked {
+    for mode in [SKIP, OLD] {
+        let walked = harness.walk(afi, mode, run)?;
+        for (first, second) in (0..=run.len()).flat_map(|first| (first..=run.len()).map(move |second| (first, second)))
+        {
+            let (_, in_pieces) = read(harness, random, afi, mode, pieces(run, &[first, second, run.len()]))?;
+            let shows = format!("walk and pieces (afi {afi}, mode {mode}, cut at {first} and {second})");
+            in_papers(shows, in_pieces, walked)?;
         }
     }
     Ok(())
@@ -161,7 +176,7 @@ fn bad_afis(harness: &mut Harness, random: &mut Random) -> Checked {
         let run = near::run_of(random, 1, size);
         for _ in 0..8 {
             let ends = any_ends(random, size);
-            read(harness, random, afi, pieces(&run, &ends))?;
+            read_any_mode(harness, random, afi, pieces(&run, &ends))?;
         }
     }
     Ok(())
@@ -172,17 +187,17 @@ fn samples(harness: &mut Harness, random: &mut Random, afi: u16) -> Checked {
     let samples: Vec<Vec<u8>> = nlris(afi).into_iter().map(|sample| sample.octets).collect();
     for sample in &samples {
         let ends: Vec<usize> = (1..=sample.len()).collect();
-        read(harness, random, afi, pieces(sample, &ends))?;
+        read_any_mode(harness, random, afi, pieces(sample, &ends))?;
     }
     let run = samples.concat();
     for size in 1..=80 {
         let ends: Vec<usize> = (0..=run.len()).step_by(size).chain([run.len()]).collect();
-        read(harness, random, afi, pieces(&run, &ends))?;
+        read_any_mode(harness, random, afi, pieces(&run, &ends))?;
     }
     // Finished at every place, whatever has come by then.
     for end in 0..=run.len() {
         let middle = random.below(end + 1);
-        read(harness, random, afi, pieces(&run, &[middle, end]))?;
+        read_any_mode(harness, random, afi, pieces(&run, &[middle, end]))?;
     }
     Ok(())
 }
@@ -197,11 +212,11 @@ fn totals(harness: &mut Harness, random: &mut Random, afi: u16) -> Checked {
             let last: Vec<usize> = about.into_iter().filter(|end| *end <= size).chain([size, size]).collect();
             let thousands: Vec<usize> = (0..size).step_by(1_000).skip(1).chain([size]).collect();
             for ends in [vec![size - 1, size], last, thousands, vec![size]] {
-                read(harness, random, afi, pieces(&run, &ends))?;
+                read_any_mode(harness, random, afi, pieces(&run, &ends))?;
             }
             if size <= LONGEST + 2 {
                 let ends = any_ends(random, size);
-                read(harness, random, afi, pieces(&run, &ends))?;
+                read_any_mode(harness, random, afi, pieces(&run, &ends))?;
             }
         }
     }
@@ -213,7 +228,7 @@ fn octet_by_octet(harness: &mut Harness, random: &mut Random, afi: u16) -> Check
     for size in [LONGEST - 1, LONGEST, LONGEST + 1] {
         let run = long_run(random, afi, size, None);
         let ends: Vec<usize> = (1..=size).collect();
-        read(harness, random, afi, pieces(&run, &ends))?;
+        read_any_mode(harness, random, afi, pieces(&run, &ends))?;
     }
     Ok(())
 }
@@ -232,7 +247,7 @@ fn long_run(random: &mut Random, afi: u16, size: usize, stop: Option<usize>) -> 
 }
 
 /// Places to cut a run at: octet by octet, or pieces of up to a few, some or many octets, none among them.
-fn any_ends(random: &mut Random, size: usize) -> Vec<usize> {
+pub fn any_ends(random: &mut Random, size: usize) -> Vec<usize> {
     let most = match size {
         0..300 => random.pick(&[1, 2, 8, 60, 300]),
         _ => random.pick(&[60, 300, 4_000]),
@@ -255,7 +270,7 @@ fn any_run(harness: &mut Harness, random: &mut Random, round: u64) -> Checked {
     let afi = near::afi(random);
     let mut run = Vec::new();
     for _ in 0..round % 13 {
-        let mut octets = near::nlri(random, afi);
+        let mut octets = near::item(random, afi);
         if random.once_in(10) {
             near::disturb_nlri(random, &mut octets);
         }
@@ -265,17 +280,18 @@ fn any_run(harness: &mut Harness, random: &mut Random, round: u64) -> Checked {
         let size = random.below(300);
         run = random.octets(size);
     }
-    let walked = harness.walk(afi, &run)?;
+    let mode = random.pick(&MODES);
+    let walked = harness.walk(afi, mode, &run)?;
     let ends = any_ends(random, run.len());
-    let (_, in_pieces) = read(harness, random, afi, pieces(&run, &ends))?;
-    in_papers(format!("walk and pieces (afi {afi}, cut at {ends:?})"), in_pieces, walked)
+    let (_, in_pieces) = read(harness, random, afi, mode, pieces(&run, &ends))?;
+    in_papers(format!("walk and pieces (afi {afi}, mode {mode}, cut at {ends:?})"), in_pieces, walked)
 }
 
 /// Two readers that take turns: what one keeps is nothing to the other.
 fn two_readers(harness: &mut Harness, random: &mut Random) -> Checked {
     for _ in 0..50 {
         let runs = GOOD_AFIS.map(|afi| near::run_of(random, afi, 400));
-        let [first, second] = [1, 2].map(|afi| start(harness, random, afi));
+        let [first, second] = [(1, SKIP), (2, OLD)].map(|(afi, mode)| start(harness, random, afi, mode));
         let mut readers = [first?, second?];
         let most = 1 + random.below(40);
         for at in (0..400).step_by(most) {
@@ -299,12 +315,13 @@ fn any_number(random: &mut Random) -> u32 {
 
 fn forged(harness: &mut Harness, random: &mut Random) -> Checked {
     harness.inputs += 1;
-    let [number, count, offset, afi, stage, total, kept] = [0; 7].map(|_| any_number(random));
+    let [number, count, offset, skipped, afi, mode, stage, total, kept] = [0; 9].map(|_| any_number(random));
     let size = random.pick(&[0, 1, 2, 16, 255, 256, 257, 258, 300, 4_096, 5_000]);
     let mut piece = random.octets(size);
     if random.once_in(2) {
         piece = near::run_of(random, 1, size);
     }
-    let pieces = Pieces { walked: Walked { number, count, offset }, afi, stage, total, kept };
+    let walked = Walked { number, count, offset, skipped };
+    let pieces = Pieces { walked, afi, mode, stage, total, kept };
     harness.pieces_forged(pieces, random.array(), &piece)
 }

@@ -46,7 +46,7 @@ fn run(harness: &mut Harness, random: &mut Random) -> Checked {
     let count = random.below(40);
     let mut run = Vec::new();
     for _ in 0..count {
-        let mut octets = near::nlri(random, afi);
+        let mut octets = near::item(random, afi);
         if random.once_in(12) {
             near::disturb_nlri(random, &mut octets);
         }

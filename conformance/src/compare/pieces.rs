@@ -40,12 +40,12 @@ impl Debug for Answer {
 
 impl Harness {
     /// A reader just started, whose lent octets hold these at first.
-    pub fn pieces_start(&mut self, afi: u16, unfinished: [u8; UNFINISHED]) -> Result<Reader, Disagreement> {
-        let (archive, second) = (ffi::pieces_start(afi), self.second.pieces_start(afi));
+    pub fn pieces_start(&mut self, afi: u16, mode: u32, unfinished: [u8; UNFINISHED]) -> Result<Reader, Disagreement> {
+        let (archive, second) = (ffi::pieces_start(afi, mode), self.second.pieces_start(afi, mode));
         let unfinished = unfinished.to_vec();
         let answer = second.answer();
         let archive_answer = answer.map(|_| archive.walked);
-        self.agree(|| format!("mvpn_pieces_start(afi {afi})"), &archive_answer, &answer)?;
+        self.agree(|| format!("mvpn_pieces_start(afi {afi}, mode {mode})"), &archive_answer, &answer)?;
         self.coverage.count(Call::PiecesStart, Seen::Number(answer.map_or(0, |walked| walked.number)));
         Ok(Reader { afi, archive, second, unfinished, given: Vec::new(), feeds: 0 })
     }
@@ -91,6 +91,7 @@ impl Harness {
         self.agree(|| format!("mvpn_pieces_finish({:?})", reader.archive), &archive.walked, &second)?;
         reader.archive = archive;
         self.coverage.count(Call::PiecesFinish, Seen::Number(second.number));
+        self.coverage.count(Call::PiecesFinish, Seen::Skipped(second.skipped.min(3)));
         Ok(second)
     }
 

@@ -2,8 +2,9 @@
 
 use super::{
     family_size, lent,
+    run::SKIP,
     shape::{shape, Shape},
-    DONE, FAMILY, LONG, SHORT,
+    DONE, FAMILY, LONG, SHORT, TYPE,
 };
 use crate::ffi::{Fed, Pieces, Walked, UNFINISHED};
 
@@ -15,9 +16,10 @@ const STOPPED: u32 = 1;
 const FINISHED: u32 = 2;
 
 #[inline(never)]
-pub extern "C" fn pieces_start(afi: u16) -> Pieces {
+pub extern "C" fn pieces_start(afi: u16, mode: u32) -> Pieces {
     let (number, stage) = if family_size(afi) == 0 { (FAMILY, FINISHED) } else { (DONE, READING) };
-    Pieces { walked: Walked { number, count: 0, offset: 0 }, afi: u32::from(afi), stage, total: 0, kept: 0 }
+    let walked = Walked { number, ..Default::default() };
+    Pieces { walked, afi: u32::from(afi), mode, stage, total: 0, kept: 0 }
 }
 
 /// # Safety
@@ -30,7 +32,7 @@ pub unsafe extern "C" fn pieces_feed(pieces: Pieces, unfinished: *mut u8, piece:
         return fed(pieces, piece_len, 0);
     }
     if piece_len > LONGEST.saturating_sub(pieces.total as usize) {
-        let walked = Walked { number: LONG, count: 0, offset: 0 };
+        let walked = Walked { number: LONG, ..Default::default() };
         return fed(Pieces { walked, stage: FINISHED, ..pieces }, piece_len, 0);
     }
     if pieces.stage == STOPPED {
@@ -52,14 +54,19 @@ pub unsafe extern "C" fn pieces_feed(pieces: Pieces, unfinished: *mut u8, piece:
         },
     };
     let total = pieces.total + taken as u32;
-    let Walked { number, count, offset } = pieces.walked;
+    let Walked { count, offset, skipped, .. } = pieces.walked;
+    let passed = offset + size as u32;
     match judged {
         Ok(_) => {
-            let walked = Walked { number, count: count + 1, offset: offset + size as u32 };
+            let walked = Walked { count: count + 1, offset: passed, ..pieces.walked };
             fed(Pieces { walked, total, kept: 0, ..pieces }, taken, size)
         }
+        Err(TYPE) if pieces.mode == SKIP => {
+            let walked = Walked { offset: passed, skipped: skipped + 1, ..pieces.walked };
+            fed(Pieces { walked, total, kept: 0, ..pieces }, taken, 0)
+        }
         Err(number) => {
-            let walked = Walked { number, count, offset };
+            let walked = Walked { number, ..pieces.walked };
             fed(Pieces { walked, stage: STOPPED, total, ..pieces }, taken, 0)
         }
     }

@@ -1,9 +1,12 @@
 //! `mvpn_step` and `mvpn_walk` in plain Rust.
 
-use super::{family_size, lent, shape::shape, DONE, FAMILY, LONG, SHORT};
+use super::{family_size, lent, shape::shape, DONE, FAMILY, LONG, SHORT, TYPE};
 use crate::ffi::{Layout, Stepped, Walked};
 
 const LONGEST: usize = 4_096;
+
+/// The mode that skips an NLRI of an unknown type.
+pub const SKIP: u32 = 0;
 
 /// # Safety
 /// As `mvpn.h` says: the pointer is valid for the length beside it.
@@ -41,32 +44,39 @@ pub unsafe extern "C" fn step(afi: u16, run: *const u8, run_len: usize, cursor: 
 /// # Safety
 /// As `mvpn.h` says: the pointer is valid for the length beside it.
 #[inline(never)]
-pub unsafe extern "C" fn walk(afi: u16, run: *const u8, run_len: usize) -> Walked {
-    let refused = |number| Walked { number, count: 0, offset: 0 };
+pub unsafe extern "C" fn walk(afi: u16, mode: u32, run: *const u8, run_len: usize) -> Walked {
+    let refused = |number| Walked { number, ..Default::default() };
     if run_len > LONGEST && family_size(afi) != 0 {
         return refused(LONG);
     }
     // Each family has its own loop, with its size a constant.
     match afi {
-        1 => walk_family(4, lent(run, run_len)),
-        2 => walk_family(16, lent(run, run_len)),
+        1 => walk_family(4, mode, lent(run, run_len)),
+        2 => walk_family(16, mode, lent(run, run_len)),
         _ => refused(FAMILY),
     }
 }
 
 #[inline(always)]
-fn walk_family(family: usize, run: &[u8]) -> Walked {
+fn walk_family(family: usize, mode: u32, run: &[u8]) -> Walked {
     let mut rest = run;
-    let mut count = 0;
+    let (mut count, mut skipped) = (0, 0);
     let number = loop {
         if rest.is_empty() {
             break DONE;
         }
         match shape(family, rest) {
+            // A TYPE refusal is of a whole NLRI.
+            Err(TYPE) if mode == SKIP => {
+                rest = &rest[2 + usize::from(rest[1])..];
+                skipped += 1;
+            }
             Err(number) => break number,
-            Ok(shape) => rest = &rest[shape.length + 2..],
+            Ok(shape) => {
+                rest = &rest[shape.length + 2..];
+                count += 1;
+            }
         }
-        count += 1;
     };
-    Walked { number, count, offset: (run.len() - rest.len()) as u32 }
+    Walked { number, count, offset: (run.len() - rest.len()) as u32, skipped }
 }

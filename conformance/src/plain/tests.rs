@@ -2,6 +2,7 @@
 
 use crate::{
     cases::{near, nlri_writing::fields},
+    compare::run::MODES,
     ffi::UNFINISHED,
     plain,
     random::Random,
@@ -19,7 +20,8 @@ fn reading_as_the_second_decoder() {
         near::disturb_nlri(&mut random, &mut octets);
         let (pointer, size) = (octets.as_ptr(), octets.len());
         assert_eq!(unsafe { plain::nlri_read(afi, pointer, size) }, second.answer_nlri_read(afi, &octets));
-        assert_eq!(unsafe { plain::walk(afi, pointer, size) }, second.answer_walk(afi, &octets));
+        let mode = random.pick(&MODES);
+        assert_eq!(unsafe { plain::walk(afi, mode, pointer, size) }, second.answer_walk(afi, mode, &octets));
         let cursor = random.below(3);
         assert_eq!(unsafe { plain::step(afi, pointer, size, cursor) }, second.answer_step(afi, &octets, cursor));
         assert_eq!(unsafe { plain::group_class(afi, pointer, size) }, second.answer_group_class(afi, &octets));
@@ -61,11 +63,16 @@ fn pieces_as_the_second_decoder() {
     for round in 0..6_000 {
         let afi = near::afi(&mut random);
         let size = if round % 30 == 0 { 4_000 + random.below(200) } else { random.below(300) };
-        let mut run = near::run_of(&mut random, afi, size);
+        let (mode, mut run) = (random.pick(&MODES), Vec::new());
+        while run.len() < size {
+            run.extend(near::item(&mut random, afi));
+        }
+        run.truncate(size);
+        assert_eq!(unsafe { plain::walk(afi, mode, run.as_ptr(), size) }, second.answer_walk(afi, mode, &run));
         near::disturb(&mut random, &mut run);
         let most = 1 + random.below(120);
         let mut unfinished: [u8; UNFINISHED] = random.array();
-        let (mut plain, mut reader) = (plain::pieces_start(afi), second.pieces_start(afi));
+        let (mut plain, mut reader) = (plain::pieces_start(afi, mode), second.pieces_start(afi, mode));
         let mut rest = &run[..];
         while !rest.is_empty() {
             let piece = &rest[..rest.len().min(random.below(most + 1))];

@@ -44,16 +44,34 @@ impl Second {
         ffi::Stepped { number, ..Default::default() }
     }
 
-    pub fn answer_walk(&self, afi: u16, run: &[u8]) -> ffi::Walked {
-        let walk = self.walk(afi, run);
+    pub fn answer_walk(&self, afi: u16, mode: u32, run: &[u8]) -> ffi::Walked {
+        let walk = self.walk(afi, mode, run);
         let refused = walk.number != Number::Done;
-        let extra = u32::from(refused && self.has(Fault::WALK_COUNT_OFF_BY_ONE));
-        let past = 2 * u32::from(refused && self.has(Fault::WALK_OFFSET_PAST_HEADER));
-        ffi::Walked {
-            number: walk.number.value(),
-            count: walk.read.len() as u32 + extra,
-            offset: walk.offset as u32 + past,
+        let (mut count, mut offset, mut skipped) = (walk.read().count(), walk.offset(), walk.skipped());
+        if refused && self.has(Fault::WALK_COUNT_OFF_BY_ONE) {
+            count += 1;
         }
+        if refused && self.has(Fault::WALK_OFFSET_PAST_HEADER) {
+            offset += 2;
+        }
+        if self.has(Fault::SKIP_COUNTED_AS_READ) {
+            count += skipped;
+        }
+        if self.has(Fault::SKIP_OFFSET_STAYS) {
+            let last = walk.read().last();
+            offset = last.map_or(0, |(offset, reading)| offset + 2 + usize::from(reading.length));
+        }
+        if self.has(Fault::SKIPPED_ONCE) {
+            skipped = skipped.min(1);
+        }
+        if refused && self.has(Fault::SKIPPED_UNTOLD_AT_STOP) {
+            skipped = 0;
+        }
+        if walk.number == Number::Type && self.has(Fault::OLD_COUNTS_SKIPPED) {
+            skipped += 1;
+        }
+        let [count, offset, skipped] = [count, offset, skipped].map(|figure| figure as u32);
+        ffi::Walked { number: walk.number.value(), count, offset, skipped }
     }
 
     pub fn answer_group_class(&self, afi: u16, group: &[u8]) -> ffi::Group {

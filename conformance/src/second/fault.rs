@@ -2,10 +2,11 @@
 //! is too weak.
 
 /// The calls that show a fault; those on a table alone show the faults of the table and of the books, and the others each
-/// those of one call alone: readers of pieces, explanations, matches for shared trees.
+/// those of one call or rule alone: unknown route types, readers of pieces, explanations, matches for shared trees.
 #[derive(Clone, Copy, Debug, PartialEq, Eq)]
 pub enum ShownBy {
     Encodings,
+    Skips,
     Pieces,
     Tables,
     Explanations,
@@ -73,6 +74,34 @@ faults! {
         SOURCE_AS_LITTLE_ENDIAN: "the source AS is written low octet first",
         LABEL_LIMIT_OFF: "a label field of 16,777,216 is allowed",
         LABEL_BEFORE_IDENT: "writing finds a bad label field before a bad tunnel or identifier",
+    }
+    Skips {
+        SKIP_ALWAYS: "every mode skips",
+        SKIP_NEVER: "no mode skips",
+        OLD_IS_ONE: "modes over 1 skip",
+        OLD_BY_LOW_OCTET: "only the low octet of the mode is compared",
+        OLD_COUNTS_SKIPPED: "the old mode tells the type that stops it as skipped",
+        STEP_SKIPS: "a step skips an unknown type",
+        SKIP_ENDS_RUN: "what stands behind an unknown type is lost",
+        SKIP_LENGTH_0_ENDS: "an unknown type of Length 0 ends the run",
+        SKIP_COUNTED_AS_READ: "an unknown type is counted as read",
+        SKIP_OFFSET_STAYS: "the offset is past the last NLRI read, not past what was skipped",
+        SKIP_INSIDE_KEY: "a Leaf whose key has an unknown type is skipped",
+        SKIP_PAST_THE_RUN: "an unknown type whose Length runs past the run is skipped",
+        SKIP_ANY_REFUSAL: "LENGTH, WIDTH and KEY are skipped too",
+        SKIP_NOT_TYPE_0: "type 0 stops the walk",
+        SKIP_HEADER_ONLY: "of an unknown type the header alone is skipped",
+        SKIP_WITHOUT_HEADER: "an unknown type is skipped without the octets of its header",
+        SKIPPED_ONCE: "of several unknown types one is told",
+        SKIPPED_UNTOLD_AT_STOP: "a refusal behind an unknown type tells none skipped",
+        SKIP_GIVEN: "a reader of pieces gives an unknown type",
+        PIECES_OLD: "a reader of pieces stops at an unknown type in every mode",
+        LONG_KEEPS_SKIPPED: "a reader's LONG keeps the number skipped",
+        LISTED_SKIPPED: "the listing has a line for an unknown type",
+        LISTED_FIGURE_AT_END: "the listing's third figure stands on `end` lines alone",
+        LISTED_FIGURE_IN_OLD: "the listing's third figure stands in the old mode too",
+        LISTED_OLD_ANYWHERE: "the listing takes `old` among other arguments",
+        LISTED_OLD_FRONT: "the listing takes an argument that begins with `old`",
     }
     Pieces {
         PIECES_GIVE_NONE: "no NLRI is given",

@@ -1,14 +1,35 @@
-//! The text of the listing program (document 01, "Marked examples"): an AFI 1 run, one line for each NLRI.
+//! The text of the listing program (document 01, "Marked examples"; document 02, W-206): an AFI 1 run, one line for each NLRI
+//! that is read.
 
-use super::{number::Number, Second};
+use super::{
+    fault::Fault,
+    number::Number,
+    run::{OLD, SKIP},
+    Second,
+};
 use std::iter::once;
 
 impl Second {
-    pub fn listing(&self, run: &[u8]) -> String {
-        let walk = self.walk(1, run);
-        let opening = if walk.number == Number::Done { "end" } else { "stop" };
-        let last = format!("{opening} {} {}\n", walk.offset, walk.number.value());
-        let lines = walk.read.iter().map(|(offset, nlri)| format!("{offset} {} {}\n", nlri.route_type, nlri.length));
-        once("MVT list 1\n".to_string()).chain(lines).chain(once(last)).collect()
+    /// What the program prints for its arguments and its standard input.
+    pub fn listing(&self, arguments: &[&[u8]], run: &[u8]) -> String {
+        let old = match arguments {
+            [only] => *only == b"old" || self.has(Fault::LISTED_OLD_FRONT) && only.starts_with(b"old"),
+            others => others.contains(&&b"old"[..]) && self.has(Fault::LISTED_OLD_ANYWHERE),
+        };
+        let walk = self.walk(1, if old { OLD } else { SKIP }, run);
+        let done = walk.number == Number::Done;
+        let mut last = vec![walk.offset(), walk.number.value() as usize];
+        let told = match old {
+            true => self.has(Fault::LISTED_FIGURE_IN_OLD),
+            false => done || !self.has(Fault::LISTED_FIGURE_AT_END),
+        };
+        last.extend(told.then(|| walk.skipped()));
+        let last: String = last.iter().map(|figure| format!(" {figure}")).collect();
+        let lines = walk.places().filter_map(|(offset, stretch)| match &stretch.reading {
+            Some(nlri) => Some(format!("{offset} {} {}\n", nlri.route_type, nlri.length)),
+            None => self.has(Fault::LISTED_SKIPPED).then(|| format!("{offset} {} {}\n", run[offset], run[offset + 1])),
+        });
+        let last = once(format!("{}{last}\n", if done { "end" } else { "stop" }));
+        once("MVT list 1\n".to_string()).chain(lines).chain(last).collect()
     }
 }

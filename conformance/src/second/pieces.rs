@@ -1,6 +1,13 @@
-//! A run that arrives in pieces (document 02, W-203): a reader that keeps every octet it took, and walks them all each time.
+//! A run that arrives in pieces (document 02, W-203 and W-206): a reader that keeps every octet it took, and walks them all
+//! each time.
 
-use super::{fault::Fault, nlri::Reading, number::Number, run::Walk, Second};
+use super::{
+    fault::Fault,
+    nlri::Reading,
+    number::Number,
+    run::{Walk, OLD},
+    Second,
+};
 use crate::ffi::Walked;
 use std::ops::RangeInclusive;
 
@@ -10,6 +17,7 @@ const LONGEST: usize = 4_096;
 #[derive(Clone, Debug)]
 pub struct Pieces {
     afi: u16,
+    mode: u32,
     /// Every octet taken.
     run: Vec<u8>,
     /// NLRIs given.
@@ -41,13 +49,17 @@ pub struct Fed {
 
 impl Second {
     /// FAMILY at once: such a reader is finished.
-    pub fn pieces_start(&self, afi: u16) -> Pieces {
+    pub fn pieces_start(&self, afi: u16, mode: u32) -> Pieces {
         let refused = self.family(afi).is_err() && !self.has(Fault::BAD_AFI_COUNTED);
+        let mode = match self.has(Fault::PIECES_OLD) {
+            true => OLD,
+            false => mode,
+        };
         let answer = refused.then(|| match self.has(Fault::BAD_AFI_FINISHED) {
             true => Walked::default(),
-            false => self.answer_walk(afi, &[]),
+            false => self.answer_walk(afi, mode, &[]),
         });
-        Pieces { afi, run: Vec::new(), given: 0, long: false, answer }
+        Pieces { afi, mode, run: Vec::new(), given: 0, long: false, answer }
     }
 
     /// What the reader gives for a piece: the next NLRI of the run that ends with this piece.
@@ -64,9 +76,13 @@ impl Second {
         }
         let mut whole = [&reader.run, piece].concat();
         whole.truncate(LONGEST);
-        let walk = self.walk(reader.afi, &whole);
-        if let Some((start, reading)) = self.read_on(reader.afi, &whole, &walk).get(reader.given) {
-            let end = start + 2 + usize::from(reading.length);
+        let walk = self.walk(reader.afi, reader.mode, &whole);
+        let next = self.read_on(reader, &whole, &walk).get(reader.given).copied();
+        if let Some((start, end)) = self.skipped_next(&walk, before, next.map(|(start, _)| start)) {
+            let nlri = if self.has(Fault::SKIP_GIVEN) { &whole[start..end] } else { &[] };
+            return takes(end - before..=end - before, nlri);
+        }
+        if let Some((start, end)) = next {
             let taken = if self.has(Fault::PIECES_TAKE_ALL) { size } else { end.saturating_sub(before) };
             let header = 2 * usize::from(self.has(Fault::PIECES_WITHOUT_HEADER));
             let nlri = if self.has(Fault::PIECES_GIVE_NONE) { &[] } else { &whole[start + header..end] };
@@ -100,8 +116,8 @@ impl Second {
         if self.fault.is_none() {
             return;
         }
-        let walk = self.walk(reader.afi, &reader.run);
-        let (offset, end) = (walk.offset, refused_end(&reader.run, &walk));
+        let walk = self.walk(reader.afi, reader.mode, &reader.run);
+        let (offset, end) = (walk.offset(), refused_end(&reader.run, &walk));
         let cut = walk.number == Number::Short;
         let empty = reader.run.len() == before;
         if cut && self.has(Fault::PIECES_FORGET) {
@@ -111,7 +127,7 @@ impl Second {
             reader.run.truncate(end.unwrap_or(usize::MAX));
         }
         if cut && self.has(Fault::SHORT_AT_ONCE) || empty && self.has(Fault::EMPTY_PIECE_ENDS) {
-            reader.answer = Some(self.answer_walk(reader.afi, &reader.run));
+            reader.answer = Some(self.answer_walk(reader.afi, reader.mode, &reader.run));
         }
     }
 
@@ -127,9 +143,10 @@ impl Second {
     }
 
     fn finished(&self, reader: &Pieces) -> Walked {
-        let walked = self.answer_walk(reader.afi, &reader.run[..reader.run.len().min(LONGEST)]);
-        let long = Walked { number: Number::Long.value(), count: 0, offset: 0 };
+        let walked = self.answer_walk(reader.afi, reader.mode, &reader.run[..reader.run.len().min(LONGEST)]);
+        let long = Walked { number: Number::Long.value(), ..Default::default() };
         match reader.long {
+            true if self.has(Fault::LONG_KEEPS_SKIPPED) => Walked { skipped: walked.skipped, ..long },
             true if self.has(Fault::LONG_KEEPS_COUNT) => Walked { number: long.number, ..walked },
             true if self.has(Fault::LONG_KEEPS_STOP) && walked.number > Number::Short.value() => walked,
             true => long,
@@ -148,22 +165,32 @@ impl Second {
         before + more > LONGEST - less + added
     }
 
-    /// The NLRIs that a walk read, which are given, each with its offset.
-    fn read_on<'a>(&self, afi: u16, run: &'a [u8], walk: &Walk<'a>) -> Vec<(usize, Reading<'a>)> {
-        let mut read = walk.read.clone();
+    /// The offsets between which the NLRIs stand that a walk read, which are given.
+    fn read_on(&self, reader: &Pieces, run: &[u8], walk: &Walk) -> Vec<(usize, usize)> {
+        let ends = |(offset, reading): (usize, &Reading)| (offset, offset + 2 + usize::from(reading.length));
+        let mut read: Vec<_> = walk.read().map(ends).collect();
         if let (Some(end), true) = (refused_end(run, walk), self.has(Fault::STOP_READS_ON)) {
-            let behind = self.walk(afi, &run[end..]).read.into_iter();
-            read.extend(behind.map(|(offset, reading)| (end + offset, reading)));
+            let behind = self.walk(reader.afi, reader.mode, &run[end..]);
+            read.extend(behind.read().map(ends).map(|(start, stop)| (end + start, end + stop)));
         }
         read
+    }
+
+    /// The offsets between which an NLRI stands that this piece makes whole, before the next one that is given, and that is
+    /// skipped. A feed takes it to its end, and gives nothing.
+    fn skipped_next(&self, walk: &Walk, before: usize, next: Option<usize>) -> Option<(usize, usize)> {
+        let skipped = walk.places().filter(|(_, stretch)| stretch.reading.is_none());
+        let (start, end) = skipped.map(|(offset, stretch)| (offset, offset + stretch.size)).find(|it| it.1 > before)?;
+        next.is_none_or(|next| start < next).then_some((start, end))
     }
 }
 
 /// The offset past the NLRI that a walk refused, which is whole; none where it refused none.
 fn refused_end(run: &[u8], walk: &Walk) -> Option<usize> {
-    match (walk.number, run.get(walk.offset..)?) {
+    let offset = walk.offset();
+    match (walk.number, run.get(offset..)?) {
         (Number::Done | Number::Short | Number::Family, _) => None,
-        (_, [_, length, ..]) => Some(walk.offset + 2 + usize::from(*length)),
+        (_, [_, length, ..]) => Some(offset + 2 + usize::from(*length)),
         _ => None,
     }
 }

@@ -1,16 +1,19 @@
 //! The reader of pieces on document 02's words, W-203.
 
-use super::Second;
+use super::{
+    run::{OLD, SKIP},
+    Second,
+};
 use crate::{
-    cases::{document::RD, pieces::EXAMPLES},
+    cases::{document::RD, pieces::EXAMPLES, skips},
     ffi::Walked,
     hexadecimal::octets,
 };
 
 /// What is given and answered when these pieces are handed over, each as far as it may be taken at most.
-fn read(afi: u16, pieces: &[Vec<u8>]) -> (Vec<Vec<u8>>, Walked) {
+fn read(afi: u16, mode: u32, pieces: &[Vec<u8>]) -> (Vec<Vec<u8>>, Walked) {
     let second = Second::sound();
-    let mut reader = second.pieces_start(afi);
+    let mut reader = second.pieces_start(afi, mode);
     let mut given = Vec::new();
     for piece in pieces {
         let mut rest = &piece[..];
@@ -30,11 +33,14 @@ fn read(afi: u16, pieces: &[Vec<u8>]) -> (Vec<Vec<u8>>, Walked) {
 
 #[test]
 fn written_examples() {
-    for (shows, afi, text, given, [number, count, offset]) in EXAMPLES {
-        let decoded = |text: &str| octets(&text.replace("RD", RD));
+    let decoded = |text: &str| octets(&text.replace("RD", RD));
+    let of_old_mode = EXAMPLES.iter().map(|(shows, afi, text, given, [number, count, offset])| {
+        (*shows, *afi, OLD, *text, *given, [*number, *count, *offset, 0])
+    });
+    for (shows, afi, mode, text, given, [number, count, offset, skipped]) in of_old_mode.chain(skips::EXAMPLES) {
         let pieces: Vec<Vec<u8>> = text.split('|').map(decoded).collect();
         let given: Vec<Vec<u8>> = given.iter().map(|text| decoded(text)).collect();
-        assert_eq!(read(afi, &pieces), (given, Walked { number, count, offset }), "{shows}");
+        assert_eq!(read(afi, mode, &pieces), (given, Walked { number, count, offset, skipped }), "{shows}");
     }
 }
 
@@ -42,12 +48,18 @@ fn written_examples() {
 #[test]
 fn long_runs() {
     let nlri = octets(&"020C RD 0000FDE8".replace("RD", RD));
-    let long = Walked { number: 8, count: 0, offset: 0 };
-    assert_eq!(read(1, &[vec![0; 4_096]]), (vec![], Walked { number: 2, count: 0, offset: 0 }));
-    assert_eq!(read(1, &[vec![0; 4_096], vec![0]]), (vec![], long));
-    assert_eq!(read(1, &[nlri.clone(), vec![0; 4_083]]), (vec![nlri.clone()], long));
-    assert_eq!(read(1, &[[&nlri[..], &[0; 4_083]].concat()]), (vec![], long));
-    assert_eq!(read(1, &[[&nlri[..], &[0; 4_083]].concat(), nlri]), (vec![], long));
+    let long = Walked { number: 8, ..Default::default() };
+    let stop = Walked { number: 2, ..Default::default() };
+    let skipped = Walked { skipped: 2_048, offset: 4_096, ..Default::default() };
+    assert_eq!(read(1, OLD, &[vec![0; 4_096]]), (vec![], stop));
+    assert_eq!(read(1, SKIP, &[vec![0; 4_096]]), (vec![], skipped));
+    for mode in [SKIP, OLD] {
+        let read = |pieces: &[Vec<u8>]| read(1, mode, pieces);
+        assert_eq!(read(&[vec![0; 4_096], vec![0]]), (vec![], long));
+        assert_eq!(read(&[nlri.clone(), vec![0; 4_083]]), (vec![nlri.clone()], long));
+        assert_eq!(read(&[[&nlri[..], &[0; 4_083]].concat()]), (vec![], long));
+        assert_eq!(read(&[[&nlri[..], &[0; 4_083]].concat(), nlri.clone()]), (vec![], long));
+    }
 }
 
 /// After finish every call repeats the answer, and a feed takes its whole piece.
@@ -55,10 +67,10 @@ fn long_runs() {
 fn after_finish() {
     let second = Second::sound();
     for (afi, number) in [(1, 1), (3, 10)] {
-        let mut reader = second.pieces_start(afi);
+        let mut reader = second.pieces_start(afi, OLD);
         let fed = second.pieces_feed(&reader, &[3]);
         second.pieces_fed(&mut reader, &[3], &fed.nlri, 1);
-        let answer = Walked { number, count: 0, offset: 0 };
+        let answer = Walked { number, ..Default::default() };
         assert_eq!(second.pieces_finish(&mut reader), answer);
         for piece in [&[][..], &[0x0E; 20], &[0; 5_000]] {
             let fed = second.pieces_feed(&reader, piece);

@@ -5,6 +5,7 @@ use crate::{
     cases::{
         document::{ATTRIBUTES, GROUPS, LISTED, LISTED_TEXT, NLRIS, RD},
         samples::{all_nlris, identifiers},
+        skips::LISTINGS,
     },
     ffi::{Group, Span},
     hexadecimal::octets,
@@ -29,9 +30,13 @@ fn document_examples() {
 #[test]
 fn listing_text() {
     let second = Second::sound();
-    assert_eq!(second.listing(&octets(LISTED)), LISTED_TEXT);
-    assert_eq!(second.listing(&[]), "MVT list 1\nend 0 0\n");
-    assert_eq!(second.listing(&[0; 4_097]), "MVT list 1\nstop 0 8\n");
+    assert_eq!(second.listing(&[b"old"], &octets(LISTED)), LISTED_TEXT);
+    for (shows, arguments, run, text) in LISTINGS {
+        assert_eq!(second.listing(arguments, &octets(run)), text, "{shows}");
+    }
+    assert_eq!(second.listing(&[b"old"], &[0; 4_097]), "MVT list 1\nstop 0 8\n");
+    assert_eq!(second.listing(&[], &[0; 4_097]), "MVT list 1\nstop 0 8 0\n");
+    assert_eq!(second.listing(&[], &[0; 4_096]), "MVT list 1\nend 4096 0 2048\n");
 }
 
 /// RFC 6514, section 4.4: the key of a Leaf is the whole NLRI it answers, here an IPv6 S-PMSI route for one source and

@@ -4,7 +4,8 @@ ghost use lib.ListN.{length};
 ghost use Rattle.octets.specs.Outputs.{Wrote};
 ghost use Rattle.nlri.specs.Reading.{readNlri};
 ghost use Rattle.nlri.specs.Writing.{writeNlri};
-ghost use Rattle.runs.specs.Walking.{stepFrom, refusedAt, walkOf};
+ghost use Rattle.runs.specs.Walking.{stepFrom, refusedAt};
+ghost use Rattle.runs.specs.Modes.{walkBy};
 ghost use Rattle.pieces.specs.Feeding.{startOf, feedOf, finishOf};
 ghost use Rattle.nlri.specs.Groups.{classOf, groupOf};
 ghost use Rattle.nlri.specs.Answers.{structFields, nlriAnswer};
@@ -141,20 +142,20 @@ pub extern "C" fn mvpn_step(afi: u16, run: &[u8], cursor: usize) -> StepAnswer
     }
 }
 
-// Walks a run to its end or its first refusal.
+// Walks a run to its end or its first refusal; in mode 0 unknown route types are skipped.
 #[no_mangle]
-pub extern "C" fn mvpn_walk(afi: u16, run: &[u8]) -> Walked
-    ensures { λ r. ⌜ r ≡ walkOf afi (now (run .entry)) ⌝ }
+pub extern "C" fn mvpn_walk(afi: u16, mode: u32, run: &[u8]) -> Walked
+    ensures { λ r. ⌜ r ≡ walkBy afi mode (now (run .entry)) ⌝ }
 {
-    runs::walk(afi, run)
+    runs::walk(afi, mode, run)
 }
 
-// Starts a reader of a run that arrives in pieces.
+// Starts a reader of a run that arrives in pieces, which goes by the walk of a mode.
 #[no_mangle]
-pub extern "C" fn mvpn_pieces_start(afi: u16) -> Pieces
-    ensures { λ r. ⌜ r ≡ startOf afi ⌝ }
+pub extern "C" fn mvpn_pieces_start(afi: u16, mode: u32) -> Pieces
+    ensures { λ r. ⌜ r ≡ startOf afi mode ⌝ }
 {
-    pieces::start(afi)
+    pieces::start(afi, mode)
 }
 
 // Hands over a piece, of which octets are taken up to the end of one NLRI.

@@ -1,28 +1,29 @@
 -- The lines of a run are those of its NLRIs and of its end, and no other text is.
 use mathlib.Core.Path.{_≡_, refl, sym, _∙_, ap, ap₂, subst}
 use mathlib.Core.List.{List, [], _∷_, _++_, append-assoc}
-use mathlib.Core.Logic.{inl}
-use Prim.Native.Nat.{ℕ, zero, suc, _+_, _-_, _≤_, _<_}
+use mathlib.Core.Logic.{inl, _≢_}
+use Prim.Native.Nat.{ℕ, _+_, _-_, _≤_}
 use native.Mathlib.Omega.{arith}
-use borrow.Author.Tests.{eqb-true, eqb-false}
-use lib.ListN.{length}
+use borrow.Author.Tests.{eqb-true, eqb-false, ne-eqb}
+use lib.ListN.{length, getD}
 use lib.Dec.{eqb}
 use Rattle.octets.specs.Numbers.{DONE}
+use Rattle.octets.specs.Choice.{pick}
 use Rattle.octets.specs.Octets.{AllOctets}
 use Rattle.octets.specs.Outcome.{given}
+use Rattle.octets.proofs.Choice.{pick-false, pick-case}
 use Rattle.nlri.specs.Family.{familyBits}
 use Rattle.nlri.specs.Fields.{Fields, encodeNlri}
-use Rattle.nlri.specs.Statements.{layoutFor}
-use Rattle.runs.specs.Walking.{walkOf, nlrisOf}
-use Rattle.runs.specs.Statements.{AllWellFormed, RunEnd, RunOf}
 use Rattle.nlri.proofs.Theorems.{lengths}
-use Rattle.nlri.proofs.Statements.Layouts.{length-encoded}
-use Rattle.runs.proofs.WalkRule.{Follow, follow-next, step-follow, stops-follow}
-use Rattle.mvpn_list.specs.Listing.{decimalOf, fieldOf, lineOf, openingOf, lastLine, linesOf}
-use Rattle.mvpn_list.specs.ListingRule.{NumberLine, Opening, RunLines}
-use Rattle.octets.proofs.Choice.{pick-case}
+use Rattle.runs.specs.declared.walking.Walked.{Walked}
+use Rattle.runs.specs.Walking.{walkedWith, NlriRead}
+use Rattle.runs.specs.Statements.{encodeRun, encodedFrom, RunOf}
+use Rattle.runs.specs.Modes.{SKIP, walkBy, nlrisBy}
+use Rattle.runs.specs.ModeRule.{FieldsAt, encodings, Split}
+use Rattle.runs.proofs.Theorems.{walkRule, modeRule}
+use Rattle.mvpn_list.specs.Listing.{decimalOf, fieldOf, lineOf, nlriLine, nlriLines, openingOf, lastFields, lastLine, linesOf}
+use Rattle.mvpn_list.specs.ListingRule.{NumberLine, Opening, fieldsFrom, RunLines}
 use Rattle.mvpn_list.proofs.DecimalRule.{decimal-decimalOf, decimal-only}
-use Rattle.mvpn_list.proofs.Steps.{linesFrom, linesFrom-reads, linesFrom-stops}
 
 numberLine-last : (n : ℕ) → NumberLine (n ∷ []) (fieldOf n 10)
 unfolding fieldOf
@@ -41,28 +42,58 @@ unfolding openingOf
 opening-openingOf number =
     pick-case (Opening number) (eqb number DONE) _ _ (λ e. subst (λ (n : ℕ). Opening n (101 ∷ 110 ∷ 100 ∷ 32 ∷ [])) (sym (eqb-true number DONE e)) Opening.end) (λ e. Opening.stop (eqb-false number DONE e))
 
-runLines-lastLine : (number offset : ℕ) → RunLines number offset [] (lastLine number offset)
-unfolding lastLine
-runLines-lastLine number offset = RunLines.last (openingOf number) _ (opening-openingOf number) (numberLine-next offset (numberLine-last number)) refl
+runLines-lastLine : (number offset : ℕ) (figures fields : List ℕ) → NumberLine figures fields → RunLines number (offset ∷ figures) [] (openingOf number ++ (fieldOf offset 32 ++ fields))
+runLines-lastLine number offset figures fields line = RunLines.last (openingOf number) _ (opening-openingOf number) (numberLine-next offset line) refl
+
+-- the first octets of an encoding
+encoded-header : (f : Fields) → (getD (encodeNlri f) 0 0 ≡ f .type) × (getD (encodeNlri f) 1 0 ≡ length (encodeNlri f) - 2)
+unfolding encodeNlri
+encoded-header f = (refl, omega arith)
+
+-- a line for each encoding, and a last line after them
+runLines-encodings : {number : ℕ} {figures last : List ℕ} → RunLines number figures [] last → (fs : List FieldsAt) → RunLines number figures fs (nlriLines (encodings fs) ++ last)
+unfolding nlriLines encodings
+runLines-encodings end [] = end
+runLines-encodings {number} {figures} {last} end (f ∷ fs) =
+    let h = encoded-header (f .fields) in
+    let line = subst (λ (x : List ℕ). NumberLine (f .offset ∷ f .fields .type ∷ (length (encodeNlri (f .fields)) - 2) ∷ []) x) (sym (ap₂ (lineOf (f .offset)) (h .0) (h .1))) (numberLine-lineOf (f .offset) (f .fields .type) (length (encodeNlri (f .fields)) - 2)) in
+    RunLines.nlri _ _ line (runLines-encodings end fs) (append-assoc (nlriLine (record { offset = f .offset; octets = encodeNlri (f .fields) })) (nlriLines (encodings fs)) last)
 
 -- AFI 1 has addresses of 32 bits
 pub familyBits-1 : familyBits 1 ≡ given 32
 familyBits-1 = lengths .families 1 32 .1 (inl (refl, refl))
 
-module _ (run : List ℕ) (octets : AllOctets run) (short : length run ≤ 4096) where
-  runLines-linesFrom : (t : List ℕ) (n : ℕ) → RunEnd 32 t n → (left : ℕ) (fs : List Fields) (at : ℕ) → AllWellFormed 32 fs → Follow run at fs t → length run < left + at → RunLines n at fs (linesFrom left run at)
-  unfolding layoutFor
-  runLines-linesFrom t n end zero fs at w r enough = absurd (omega (arith, r .size))
-  runLines-linesFrom t n end (suc left) [] at w r enough =
-      subst (RunLines n at []) (sym (linesFrom-stops left run at n (stops-follow 1 32 familyBits-1 run octets short at t n r end))) (runLines-lastLine n at)
-  runLines-linesFrom t n end (suc left) (f ∷ fs) at w r enough =
-      let later = runLines-linesFrom t n end left fs (at + length (encodeNlri f)) (w .1) (follow-next run at f fs t r) (omega (arith, length-encoded f)) in
-      RunLines.nlri _ _ (numberLine-lineOf at (f .type) (length (encodeNlri f) - 2)) later
-      (linesFrom-reads left run at (layoutFor f) (at + length (encodeNlri f)) (step-follow 1 32 familyBits-1 run octets short at f fs t r (w .0)))
+encodedFrom-encodings : (at : ℕ) (fs : List Fields) → encodedFrom at fs ≡ encodings (fieldsFrom at fs)
+unfolding encodedFrom encodings fieldsFrom
+encodedFrom-encodings at [] = refl
+encodedFrom-encodings at (f ∷ fs) = ap (λ (ns : List NlriRead). record { offset = at; octets = encodeNlri f } ∷ ns) (encodedFrom-encodings (at + length (encodeNlri f)) fs)
 
-  pub runLines-linesOf : (r : RunOf 32 run) → RunLines (r .number) 0 (r .nlris) (linesOf run)
-  unfolding linesOf linesFrom nlrisOf walkOf
-  runLines-linesOf r = runLines-linesFrom (r .tail) (r .number) (r .end) (suc (length run)) (r .nlris) 0 (r .wellFormed) (record { size = omega (arith, ap length (r .is)); here = r .is }) (omega arith)
+module _ (run : List ℕ) (octets : AllOctets run) (short : length run ≤ 4096) where
+  -- the lines by what the walk of the mode reads, and where and why it stops
+  lines-walked : (mode number count offset skipped : ℕ) (fs : List FieldsAt) → walkBy 1 mode run ≡ walkedWith number count offset skipped → nlrisBy 1 mode run ≡ encodings fs
+      → linesOf mode run ≡ nlriLines (encodings fs) ++ lastLine mode number offset skipped
+  unfolding linesOf
+  lines-walked mode number count offset skipped fs w e = ap₂ (λ (ns : List NlriRead) (x : Walked). nlriLines ns ++ lastLine mode (x .number) (x .offset) (x .skipped)) e w
+
+  pub runLines-skip : (s : Split 32 0 run) → RunLines (s .number) (s .offset ∷ s .number ∷ s .skipped ∷ []) (s .nlris) (linesOf SKIP run)
+  unfolding lastLine lastFields pick
+  runLines-skip s =
+      let w = modeRule .skips 1 32 run s familyBits-1 octets short in
+      let last = runLines-lastLine (s .number) (s .offset) (s .number ∷ s .skipped ∷ []) _ (numberLine-next (s .number) (numberLine-last (s .skipped))) in
+      subst (RunLines (s .number) (s .offset ∷ s .number ∷ s .skipped ∷ []) (s .nlris)) (sym (lines-walked SKIP _ _ _ _ (s .nlris) (w .0) (w .1))) (runLines-encodings last (s .nlris))
+
+  pub runLines-old : (mode : ℕ) → mode ≢ SKIP → (r : RunOf 32 run) → RunLines (r .number) (length (encodeRun (r .nlris)) ∷ r .number ∷ []) (fieldsFrom 0 (r .nlris)) (linesOf mode run)
+  unfolding lastLine lastFields
+  runLines-old mode other r =
+      let same = modeRule .old 1 mode run other in
+      let fs : List FieldsAt = fieldsFrom 0 (r .nlris) in
+      let offset : ℕ = length (encodeRun (r .nlris)) in
+      let lines =
+      lines-walked mode (r .number) (length (r .nlris)) offset 0 fs (same .0 ∙ walkRule .counts 1 32 run r familyBits-1 octets short)
+      (same .1 ∙ walkRule .reads 1 32 run r familyBits-1 octets short ∙ encodedFrom-encodings 0 (r .nlris)) in
+      let fields : lastFields mode (r .number) 0 ≡ fieldOf (r .number) 10 = pick-false _ _ _ (ne-eqb mode SKIP other) in
+      let last = runLines-lastLine (r .number) offset (r .number ∷ []) _ (numberLine-last (r .number)) in
+      subst (RunLines (r .number) (offset ∷ r .number ∷ []) fs) (sym (lines ∙ ap (λ (x : List ℕ). nlriLines (encodings fs) ++ (openingOf (r .number) ++ (fieldOf offset 32 ++ x))) fields)) (runLines-encodings last fs)
 
 numberLine-some : {ns text : List ℕ} → NumberLine ns text → ns ≡ [] → ⊥
 numberLine-some (NumberLine.last digits p is) e = let z : _≡_ {A = ℕ} 0 1 = cc in omega arith
@@ -81,7 +112,7 @@ opening-only Opening.end (Opening.stop other) e = absurd (other (sym e))
 opening-only (Opening.stop other) Opening.end e = absurd (other e)
 opening-only (Opening.stop other) (Opening.stop other′) e = refl
 
-pub runLines-only : {number offset : ℕ} {fs : List Fields} {s t : List ℕ} → RunLines number offset fs s → RunLines number offset fs t → s ≡ t
+pub runLines-only : {number : ℕ} {figures : List ℕ} {fs : List FieldsAt} {s t : List ℕ} → RunLines number figures fs s → RunLines number figures fs t → s ≡ t
 runLines-only (RunLines.nlri line later a lines is) (RunLines.nlri line′ later′ a′ lines′ is′) =
     is ∙ ap₂ (λ (x y : List ℕ). x ++ y) (numberLine-only a a′) (runLines-only lines lines′) ∙ sym is′
 runLines-only (RunLines.last opening line o a is) (RunLines.last opening′ line′ o′ a′ is′) =

@@ -1,11 +1,13 @@
--- What the listing program prints for every run of AFI 1 (document 01, "Marked examples", the listing), as ASCII octets.
+-- What the listing program prints for every run of AFI 1 (document 01, "Marked examples", the listing; document 02, W-206), as ASCII octets.
 use Prim.Native.Nat.{ℕ, zero, suc, _+_, _/_, _%_}
 use mathlib.Core.List.{List, [], _∷_, _++_}
 use lib.ListN.{getD}
 use lib.Dec.{ltb, eqb}
 use Rattle.octets.specs.Numbers.{DONE}
-use Rattle.octets.specs.Choice.{pick}
-use Rattle.runs.specs.Walking.{walkOf, NlriRead, nlrisOf}
+use Rattle.octets.specs.Choice.{pick, both}
+use Rattle.octets.specs.Order.{same}
+use Rattle.runs.specs.Walking.{NlriRead}
+use Rattle.runs.specs.Modes.{SKIP, OLD, walkBy, nlrisBy}
 
 -- what ends a line
 abbrev pub lineFeed : ℕ
@@ -53,14 +55,22 @@ nlriLines (nlri ∷ nlris) = nlriLine nlri ++ nlriLines nlris
 unfoldable pub openingOf : ℕ → List ℕ
 openingOf number = pick (eqb number DONE) (101 ∷ 110 ∷ 100 ∷ 32 ∷ []) (115 ∷ 116 ∷ 111 ∷ 112 ∷ 32 ∷ [])
 
--- the last line: offset and number, opened
-unfoldable pub lastLine : (number offset : ℕ) → List ℕ
-lastLine number offset = openingOf number ++ (fieldOf offset blank ++ fieldOf number lineFeed)
+-- the last fields: the number, and in the mode that skips how many were skipped
+unfoldable pub lastFields : (mode number skipped : ℕ) → List ℕ
+lastFields mode number skipped = pick (eqb mode SKIP) (fieldOf number blank ++ fieldOf skipped lineFeed) (fieldOf number lineFeed)
 
--- the lines after the header: a line for each NLRI that the walk reads, and the last line, where and why it stops
-unfoldable pub linesOf : List ℕ → List ℕ
-linesOf run = nlriLines (nlrisOf 1 run) ++ lastLine (walkOf 1 run .number) (walkOf 1 run .offset)
+-- the last line: where and why the walk stops, opened
+unfoldable pub lastLine : (mode number offset skipped : ℕ) → List ℕ
+lastLine mode number offset skipped = openingOf number ++ (fieldOf offset blank ++ lastFields mode number skipped)
+
+-- the lines after the header: a line for each NLRI that the walk of a mode reads, and the last line
+unfoldable pub linesOf : (mode : ℕ) → List ℕ → List ℕ
+linesOf mode run = nlriLines (nlrisBy 1 mode run) ++ lastLine mode (walkBy 1 mode run .number) (walkBy 1 mode run .offset) (walkBy 1 mode run .skipped)
 
 -- all that is printed
-unfoldable pub listingOf : List ℕ → List ℕ
-listingOf run = headerLine ++ linesOf run
+unfoldable pub listingOf : (mode : ℕ) → List ℕ → List ℕ
+listingOf mode run = headerLine ++ linesOf mode run
+
+-- the mode by the program's arguments, of which the first is its own name: how many there are, and the one after the name, `old`
+unfoldable pub modeOf : (count : ℕ) (argument : List ℕ) → ℕ
+modeOf count argument = pick (both (eqb count 2) (same argument (111 ∷ 108 ∷ 100 ∷ []))) OLD SKIP

@@ -1,11 +1,12 @@
-// The lines of the listing (document 01, "Marked examples", the listing). Each is put into `output` from `at` on, where it
+// The lines of the listing (document 01, "Marked examples", the listing; document 02, W-206). Each is put into `output` from `at` on, where it
 // fits, and the answer is the place just past it.
 ghost use Prim.Native.Nat.{_+_, _≤_};
 ghost use lib.ListN.{length};
 ghost use Rattle.octets.specs.Outputs.{Put};
-ghost use Rattle.mvpn_list.specs.Listing.{fieldOf, headerLine, lineOf, openingOf, lastLine};
+ghost use Rattle.mvpn_list.specs.Listing.{fieldOf, headerLine, lineOf, openingOf, lastFields, lastLine};
 use octets::number::DONE;
 use octets::parts::place;
+use runs::Mode;
 
 // A number in decimal, and the octet that ends its field.
 fn field(number: u64, ending: u8, output: &mut [u8], at: usize) -> usize
@@ -53,12 +54,31 @@ fn opening(number: u32, output: &mut [u8], at: usize) -> usize
     place(b"stop ", output, at)
 }
 
-// The last line: where the walk stopped, and its number.
-pub(crate) fn last_line(number: u32, offset: usize, output: &mut [u8], at: usize) -> usize
-    requires { ⌜ at + length (lastLine number offset) ≤ length (now output) ⌝ }
-    ensures { λ r. ⌜ Put at (lastLine number offset) (now (output .entry)) r (now (output .exit)) ⌝ }
+// The last fields: the number of the walk's stop, and how many NLRIs a walk that skips has skipped.
+fn last_fields(mode: u32, number: u32, skipped: u32, output: &mut [u8], at: usize) -> usize
+    requires { ⌜ at + length (lastFields mode number skipped) ≤ length (now output) ⌝ }
+    ensures { λ r. ⌜ Put at (lastFields mode number skipped) (now (output .entry)) r (now (output .exit)) ⌝ }
+{
+    if mode != Mode::SKIP {
+        return field(number as u64, b'\n', output, at);
+    }
+    let second = field(number as u64, b' ', output, at);
+    field(skipped as u64, b'\n', output, second)
+}
+
+// The last line: where and why the walk stopped.
+pub(crate) fn last_line(
+    mode: u32,
+    number: u32,
+    offset: usize,
+    skipped: u32,
+    output: &mut [u8],
+    at: usize,
+) -> usize
+    requires { ⌜ at + length (lastLine mode number offset skipped) ≤ length (now output) ⌝ }
+    ensures { λ r. ⌜ Put at (lastLine mode number offset skipped) (now (output .entry)) r (now (output .exit)) ⌝ }
 {
     let second = opening(number, output, at);
     let third = field(offset as u64, b' ', output, second);
-    field(number as u64, b'\n', output, third)
+    last_fields(mode, number, skipped, output, third)
 }

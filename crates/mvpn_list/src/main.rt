@@ -1,4 +1,6 @@
-// Prints where each NLRI of an AFI 1 run on standard input begins, with its type and Length, and where and why the walk stops.
+// Prints where each NLRI of an AFI 1 run on standard input begins, with its type and Length, and where and why the walk stops. With `old` as its only
+// argument an unknown route type stops the walk; else it is skipped.
+mod arguments;
 mod format;
 mod listing;
 
@@ -8,11 +10,19 @@ use libc::STDOUT_FILENO;
 // One octet more than a run may have, so that a longer one is seen to be so.
 const SEEN: usize = 4097;
 
-// A listing has at most 24,600 octets, so that the output's 65,536 suffice.
+// The mode asked. An argument that is longer than `old` is not taken.
+fn asked_mode() -> u32 {
+    let mut argument = [0u8; 3];
+    let size = os::arg(1, &mut argument);
+    arguments::mode_of(os::arg_count(), &argument[..size])
+}
+
+// A listing has at most 24,610 octets, so that the output's 65,536 suffice.
 fn main() {
+    let mode = asked_mode();
     let mut run = [0u8; SEEN];
     let mut output = io::large_buffer();
     let size = io::read_full(STDIN_FILENO, &mut run);
-    let end = listing::list(&run[..size], &mut output);
+    let end = listing::list(mode, &run[..size], &mut output);
     io::write_all(STDOUT_FILENO, &output[..end]);
 }

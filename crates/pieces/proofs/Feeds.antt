@@ -8,11 +8,13 @@ use borrow.Author.Tests.{eqb-true, eqb-false, eq-eqb, ne-eqb, ltb-true, ltb-fals
 use lib.ListN.{length, getD, take}
 use lib.Seq.{getD-take, length-take-le, take-take, take-all}
 use lib.Dec.{ltb, eqb}
+use Rattle.octets.specs.Numbers.{DONE}
 use Rattle.octets.specs.Octets.{placed}
 use Rattle.octets.proofs.Choice.{tested, pick-true, pick-false, pick-case, either-left, either-false, either-false-left, either-false-right}
+use Rattle.runs.specs.Modes.{isSkipped}
 use Rattle.pieces.specs.declared.state.Pieces.{Pieces}
 use Rattle.pieces.specs.declared.feeding.Fed.{Fed}
-use Rattle.pieces.specs.Feeding.{READING, STOPPED, AfterFeed, passedOf, longOf, countedOf, overOf, sizeIn, wantedOf, shareOf, numberUnder, keptOf, judgedOf, settledOf, takenOf, readOnOf, feedOf, Within}
+use Rattle.pieces.specs.Feeding.{READING, STOPPED, AfterFeed, passedOf, longOf, countedOf, overOf, sizeIn, wantedOf, shareOf, numberUnder, keptOf, readOf, skippedOf, stoppedOf, judgedOf, settledOf, takenOf, readOnOf, feedOf, Within}
 use Rattle.pieces.proofs.Sizes.{size-known, size-least, length-together, take-together}
 
 -- what is over, and what is not
@@ -24,13 +26,15 @@ module _ (p : Pieces) (size : ℕ) where
   pub not-over : Within p size → overOf p size ≡ false
   unfolding overOf
   not-over w =
-      either-false _ _ (le-ltb 4096 (p .total + size) (w .total)) (either-false _ _ (le-ltb 4096 (p .walked .count) (w .count)) (le-ltb 256 (p .kept) (w .kept)))
+      either-false _ _ (le-ltb 4096 (p .total + size) (w .total))
+      (either-false _ _ (le-ltb 4096 (p .walked .count) (w .count)) (either-false _ _ (le-ltb 4096 (p .walked .skipped) (w .skipped)) (le-ltb 256 (p .kept) (w .kept))))
 
   pub within-not-over : overOf p size ≡ false → Within p size
   unfolding overOf
   within-not-over e =
       let later = either-false-right _ _ e in
-      record { total = ltb-false _ _ (either-false-left _ _ e); count = ltb-false _ _ (either-false-left _ _ later); kept = ltb-false _ _ (either-false-right _ _ later) }
+      let last = either-false-right _ _ later in
+      record { total = ltb-false _ _ (either-false-left _ _ e); count = ltb-false _ _ (either-false-left _ _ later); skipped = ltb-false _ _ (either-false-left _ _ last); kept = ltb-false _ _ (either-false-right _ _ last) }
 
 -- a feed in each case
 module _ (p : Pieces) (unfinished piece : List ℕ) where
@@ -79,11 +83,26 @@ module _ (p : Pieces) (unfinished piece : List ℕ) (wanted share : ℕ) where
   unfolding takenOf settledOf
   taken-judged h = ap (λ (f : Fed). record { answer = f; octets = placed (p .kept) (take share piece) unfinished }) (pick-false _ _ _ (le-ltb (p .kept + length piece) wanted h))
 
+-- an NLRI that is whole, by its number
+module _ (p : Pieces) (number wanted share : ℕ) where
+  pub judged-read : number ≡ DONE → judgedOf p number wanted share ≡ readOf p wanted share
+  unfolding judgedOf
+  judged-read e = pick-true _ _ _ (eq-eqb number DONE e)
+
+  module _ (other : number ≡ DONE → ⊥) where
+    pub judged-skipped : isSkipped (p .mode) number ≡ true → judgedOf p number wanted share ≡ skippedOf p share
+    unfolding judgedOf
+    judged-skipped e = pick-false _ _ _ (ne-eqb number DONE other) ∙ pick-true _ _ _ e
+
+    pub judged-stopped : isSkipped (p .mode) number ≡ false → judgedOf p number wanted share ≡ stoppedOf p number share
+    unfolding judgedOf
+    judged-stopped e = pick-false _ _ _ (ne-eqb number DONE other) ∙ pick-false _ _ _ e
+
 pub taken-share : (p : Pieces) (unfinished piece : List ℕ) (wanted share : ℕ) → takenOf p unfinished piece wanted share .answer .taken ≡ share
 unfolding takenOf settledOf judgedOf
 taken-share p unfinished piece wanted share =
     let is : Fed → Type 0 = λ f. f .taken ≡ share in
-    pick-case is _ _ _ (λ _. refl) (λ _. pick-case is _ _ _ (λ _. refl) (λ _. refl))
+    pick-case is _ _ _ (λ _. refl) (λ _. pick-case is _ _ _ (λ _. refl) (λ _. pick-case is _ _ _ (λ _. refl) (λ _. refl)))
 
 -- what holds in every case of a feed
 pub feed-case : (P : AfterFeed → Type 0) (p : Pieces) (unfinished piece : List ℕ) → ((q : Pieces) → P (passedOf q unfinished piece))
@@ -153,7 +172,7 @@ feed-front-reads p unfinished piece room going o r =
     let taken : feedOf p unfinished piece .answer .taken ≡ share = ap (λ (a : AfterFeed). a .answer .taken) is ∙ taken-share p unfinished piece wanted share in
     let len : length (take share piece) ≡ share = length-take-le share piece (share-most wanted (p .kept) (length piece)) in
     let few = share-most wanted (p .kept) (length piece) in
-    let o′ : overOf p (length (take share piece)) ≡ false = not-over p _ (record { total = omega (arith, within .total); count = within .count; kept = within .kept }) in
+    let o′ : overOf p (length (take share piece)) ≡ false = not-over p _ (record { total = omega (arith, within .total); count = within .count; skipped = within .skipped; kept = within .kept }) in
     ap (λ (n : ℕ). feedOf p unfinished (take n piece)) taken ∙ feed-reads p unfinished (take share piece) going o′ r ∙ reads-front p unfinished piece (omega (arith, within .kept)) ∙ sym is
 
 pub feed-front : (p : Pieces) (unfinished piece : List ℕ) → length unfinished ≡ 257 → feedOf p unfinished (take (feedOf p unfinished piece .answer .taken) piece) ≡ feedOf p unfinished piece

@@ -28,19 +28,23 @@ module _ (p : Pieces) (size : ℕ) where
     over-sum h = sym (over-total p size (omega arith))
 
     module _ (h : p .total ≤ 4096 - size) where
-      over-later : (b : Bool) → b ≡ either (ltb 4096 (p .walked .count)) (ltb 256 (p .kept)) → b ≡ overOf p size
+      over-later : (b : Bool) → b ≡ either (ltb 4096 (p .walked .count)) (either (ltb 4096 (p .walked .skipped)) (ltb 256 (p .kept))) → b ≡ overOf p size
       unfolding overOf
       over-later b e = either-last _ _ b (le-ltb 4096 (p .total + size) (omega arith)) e
 
       pub over-count : 4096 < p .walked .count → true ≡ overOf p size
       over-count c = over-later true (sym (either-left _ _ (lt-ltb 4096 (p .walked .count) c)))
 
-      pub over-kept : p .walked .count ≤ 4096 → ltb 256 (p .kept) ≡ overOf p size
-      over-kept c = over-later _ (either-last _ _ _ (le-ltb 4096 (p .walked .count) c) refl)
+      module _ (c : p .walked .count ≤ 4096) where
+        pub over-skipped : 4096 < p .walked .skipped → true ≡ overOf p size
+        over-skipped k = over-later true (either-last _ _ _ (le-ltb 4096 (p .walked .count) c) (sym (either-left _ _ (lt-ltb 4096 (p .walked .skipped) k))))
+
+        pub over-kept : p .walked .skipped ≤ 4096 → ltb 256 (p .kept) ≡ overOf p size
+        over-kept k = over-later _ (either-last _ _ _ (le-ltb 4096 (p .walked .count) c) (either-last _ _ _ (le-ltb 4096 (p .walked .skipped) k) refl))
 
 -- a reader that is finished, by its answer
-pub finish-as : (p : Pieces) (w : Walked) → w ≡ answerAtEnd p → record { walked = w; afi = p .afi; stage = FINISHED; total = p .total; kept = p .kept } ≡ finishOf p
-finish-as p w e = ap (λ (x : Walked). record { walked = x; afi = p .afi; stage = FINISHED; total = p .total; kept = p .kept }) e
+pub finish-as : (p : Pieces) (w : Walked) → w ≡ answerAtEnd p → record { walked = w; afi = p .afi; mode = p .mode; stage = FINISHED; total = p .total; kept = p .kept } ≡ finishOf p
+finish-as p w e = ap (λ (x : Walked). record { walked = x; afi = p .afi; mode = p .mode; stage = FINISHED; total = p .total; kept = p .kept }) e
 
 -- the size that the kept octets and the piece tell
 module _ (kept : ℕ) (unfinished piece : List ℕ) (room : kept ≤ length unfinished) where

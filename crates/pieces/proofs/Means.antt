@@ -1,5 +1,6 @@
 -- What a reader's state means for a run of which it has taken all but a rest; and that a feed keeps it so.
 use mathlib.Core.Path.{_≡_, refl, sym, _∙_, ap, ap₂, subst}
+use mathlib.Core.Bool.{true, false}
 use mathlib.Core.List.{List, [], _∷_, _++_, append-assoc, append-nil}
 use mathlib.Core.Logic.{_⊎_, inl, inr, ⊎-elim, _≢_}
 use Prim.Native.Nat.{ℕ, suc, _+_, _-_, _≤_, _<_}
@@ -18,49 +19,53 @@ use Rattle.octets.proofs.Lists.{length-placed}
 use Rattle.octets.proofs.AllOctets.{octets-take, octets-drop}
 use Rattle.nlri.specs.Family.{familyBits}
 use Rattle.nlri.specs.Layouts.{layoutAt}
-use Rattle.runs.specs.Walking.{walkedTo, walkOf, stepFrom, readTo, refusedAt, advanced, NlriRead, nlrisFrom, nlrisOf}
+use Rattle.runs.specs.declared.turning.Turn.the-variants.{Skipped}
+use Rattle.runs.specs.Walking.{walkedWith, stepFrom, readTo, refusedAt, NlriRead}
+use Rattle.runs.specs.Modes.{isSkipped, pastNlri, turnFrom, walkBy, nlrisByFrom, nlrisBy}
 use Rattle.runs.specs.Statements.{StepRefusal, badFamily, long, past, front}
 use Rattle.runs.proofs.Steps.{Stops, stops-endedAt, stops-refusedAt, step-end, step-octet, step-unlaid}
-use Rattle.runs.proofs.Nlris.{nlrisFrom-reads, nlrisFrom-stops}
-use Rattle.runs.proofs.Going.{Going, going-last, going-refused, going-next}
+use Rattle.runs.proofs.Turns.{not-skipped, turn-reads, turn-skips, turn-stops, nlrisByFrom-read, nlrisByFrom-skipped, nlrisByFrom-stopped}
+use Rattle.runs.proofs.Going.{Going, going-last, going-refused, going-read, going-skipped}
 use Rattle.runs.proofs.Theorems.{stepRule}
 use Rattle.pieces.specs.declared.feeding.Fed.{Fed}
 use Rattle.pieces.specs.Feeding.{READING, STOPPED, AfterFeed, answerAtEnd, passedOf, countedOf, sizeIn, wantedOf, shareOf, numberUnder, keptOf, judgedOf, takenOf, readOnOf, Within}
 use Rattle.pieces.specs.Handing.{Caller, givenBy, fedBy, afterFeed}
 use Rattle.pieces.proofs.Sizes.{size-known, size-least, size-most, size-grows, layout-alone, layout-short, whole-not-short}
-use Rattle.pieces.proofs.Feeds.{not-over, feed-reads, feed-counts, share-all, share-rest, taken-kept, taken-judged, taken-share}
+use Rattle.pieces.proofs.Feeds.{not-over, feed-reads, feed-counts, share-all, share-rest, taken-kept, taken-judged, judged-read, judged-skipped, judged-stopped, taken-share}
 
 -- the NLRI that is unfinished: its octets so far
 abbrev pub front-of : Caller → List ℕ
 front-of c = take (c .pieces .kept) (c .unfinished)
 
 -- while reading: the unfinished NLRI begins where the walk over the run goes on, and what is kept of it stands there
-pub record Reading (afi bits : ℕ) (run rest : List ℕ) (c : Caller) : Type 0 where
+pub record Reading (afi mode bits : ℕ) (run rest : List ℕ) (c : Caller) : Type 0 where
   pub family : c .pieces .afi ≡ afi
+  pub by-mode : c .pieces .mode ≡ mode
   pub stage : c .pieces .stage ≡ READING
   pub number : c .pieces .walked .number ≡ DONE
   pub total : c .pieces .total + length rest ≡ length run
   pub place : c .pieces .total ≡ c .pieces .walked .offset + c .pieces .kept
-  pub going : Going afi bits run (c .pieces .walked .offset) (c .pieces .walked .count)
-  pub told : nlrisOf afi run ≡ c .nlris ++ nlrisFrom (suc (length run - c .pieces .walked .count)) afi run (c .pieces .walked .offset)
+  pub going : Going afi mode bits run (c .pieces .walked .offset) (c .pieces .walked .count) (c .pieces .walked .skipped)
+  pub told : nlrisBy afi mode run ≡ c .nlris ++ nlrisByFrom (suc (length run - (c .pieces .walked .count + c .pieces .walked .skipped))) afi mode run (c .pieces .walked .offset)
   pub room : length (c .unfinished) ≡ 257
   pub here : drop (c .pieces .walked .offset) run ≡ front-of c ++ rest
   pub part-way : c .pieces .kept < sizeIn (front-of c)
 
 -- after a stop: the walk's answer is known
-pub record Stopped (afi : ℕ) (run rest : List ℕ) (c : Caller) : Type 0 where
+pub record Stopped (afi mode : ℕ) (run rest : List ℕ) (c : Caller) : Type 0 where
   pub stage : c .pieces .stage ≡ STOPPED
   pub total : c .pieces .total + length rest ≡ length run
   pub short : length run ≤ 4096
   pub count : c .pieces .walked .count ≤ 4096
+  pub skipped : c .pieces .walked .skipped ≤ 4096
   pub kept : c .pieces .kept ≡ 0
-  pub answer : c .pieces .walked ≡ walkOf afi run
-  pub told : c .nlris ≡ nlrisOf afi run
+  pub answer : c .pieces .walked ≡ walkBy afi mode run
+  pub told : c .nlris ≡ nlrisBy afi mode run
   pub early : c .pieces .walked .number ≢ SHORT
   pub room : length (c .unfinished) ≡ 257
 
-abbrev pub Means : (afi bits : ℕ) (run rest : List ℕ) → Caller → Type 0
-Means afi bits run rest c = Reading afi bits run rest c ⊎ Stopped afi run rest c
+abbrev pub Means : (afi mode bits : ℕ) (run rest : List ℕ) → Caller → Type 0
+Means afi mode bits run rest c = Reading afi mode bits run rest c ⊎ Stopped afi mode run rest c
 
 -- octets put behind the first k
 take-placed : (k : ℕ) (e d : List ℕ) → k ≤ length d → take (k + length e) (placed k e d) ≡ take k d ++ e
@@ -74,9 +79,9 @@ number-under : (afi bits : ℕ) (s : List ℕ) → familyBits afi ≡ given bits
 unfolding numberUnder
 number-under afi bits s f = ap (λ o. numberOf (andThen o (λ b. layoutAt b s))) f ∙ ap numberOf (and-given _ _)
 
-module _ (afi bits : ℕ) (run : List ℕ) (octets : AllOctets run) where
+module _ (afi mode bits : ℕ) (run : List ℕ) (octets : AllOctets run) where
   -- facts of a reader that reads
-  module _ (rest : List ℕ) (c : Caller) (r : Reading afi bits run rest c) where
+  module _ (rest : List ℕ) (c : Caller) (r : Reading afi mode bits run rest c) where
     octets-front : AllOctets (front-of c)
     octets-front = subst AllOctets (ap (take (length (front-of c))) (r .here) ∙ take-append-seam (front-of c) rest) (octets-take (length (front-of c)) (octets-drop (c .pieces .walked .offset) octets))
 
@@ -87,7 +92,14 @@ module _ (afi bits : ℕ) (run : List ℕ) (octets : AllOctets run) where
     length-front = length-take-le (c .pieces .kept) (c .unfinished) (omega (arith, kept-most, r .room))
 
     pub within-reading : (size : ℕ) → size ≤ length rest → Within (c .pieces) size
-    within-reading size h = record { total = omega (arith, r .total, r .going .short); count = omega (arith, r .going .counted, r .going .within, r .going .short); kept = kept-most }
+    within-reading size h =
+        let few = r .going .short in
+        record { total = omega (arith, r .total); count = omega (arith, r .going .counted, r .going .within); skipped = omega (arith, r .going .counted, r .going .within); kept = kept-most }
+
+    -- where the walk stops the NLRIs given are all that it reads
+    told-stopped : (n : ℕ) → Stops (stepFrom afi run (c .pieces .walked .offset)) n → isSkipped mode n ≡ false → c .nlris ≡ nlrisBy afi mode run
+    told-stopped n s f =
+        sym (r .told ∙ ap (λ (l : List NlriRead). c .nlris ++ l) (nlrisByFrom-stopped afi run (c .pieces .walked .offset) mode _ n (turn-stops afi run (c .pieces .walked .offset) mode n s f)) ∙ append-nil (c .nlris))
 
     -- a feed of no more octets than the run has
     module _ (piece : List ℕ) (h : length piece ≤ length rest) where
@@ -102,7 +114,7 @@ module _ (afi bits : ℕ) (run : List ℕ) (octets : AllOctets run) where
     wants-more piece = omega (arith, size-grows (front-of c) piece (omega (arith, length-front, r .part-way)), length-front)
 
   -- a feed of octets that are all taken
-  module _ (piece rest : List ℕ) (c : Caller) (r : Reading afi bits run (piece ++ rest) c) (all : fedBy c piece .answer .taken ≡ length piece) where
+  module _ (piece rest : List ℕ) (c : Caller) (r : Reading afi mode bits run (piece ++ rest) c) (all : fedBy c piece .answer .taken ≡ length piece) where
     -- the NLRI's octets with those of the piece
     abbrev nlri : List ℕ
     nlri = front-of c ++ piece
@@ -147,22 +159,23 @@ module _ (afi bits : ℕ) (run : List ℕ) (octets : AllOctets run) where
     total-after = omega (arith, r .total, length-append piece rest)
 
     -- the piece ends inside the NLRI
-    goes-on : c .pieces .kept + length piece < sizeIn nlri → Means afi bits run rest (afterFeed c (fedBy c piece))
+    goes-on : c .pieces .kept + length piece < sizeIn nlri → Means afi mode bits run rest (afterFeed c (fedBy c piece))
     unfolding afterFeed givenBy pick
     goes-on h =
         let is : fedBy c piece ≡ record { answer = keptOf (c .pieces) (length piece); octets = filled } =
         takes ∙ taken-kept (c .pieces) (c .unfinished) piece (sizeIn nlri) (length piece) h
         ∙ ap (λ (l : List ℕ). record { answer = keptOf (c .pieces) (length piece); octets = placed (c .pieces .kept) l (c .unfinished) }) whole-piece in
-        subst (λ (a : AfterFeed). Means afi bits run rest (afterFeed c a)) (sym is)
+        subst (λ (a : AfterFeed). Means afi mode bits run rest (afterFeed c a)) (sym is)
         (inl
         (record {
           family = r .family;
+          by-mode = r .by-mode;
           stage = refl;
           number = r .number;
           total = total-after;
           place = omega (arith, r .place);
           going = r .going;
-          told = r .told ∙ ap (λ (l : List NlriRead). l ++ nlrisFrom (suc (length run - c .pieces .walked .count)) afi run (c .pieces .walked .offset)) (sym (append-nil (c .nlris)));
+          told = r .told ∙ ap (λ (l : List NlriRead). l ++ nlrisByFrom (suc (length run - (c .pieces .walked .count + c .pieces .walked .skipped))) afi mode run (c .pieces .walked .offset)) (sym (append-nil (c .nlris)));
           room = room-filled (omega (arith, size-most nlri octets-nlri));
           here = stands ∙ ap (λ (l : List ℕ). l ++ rest) (sym front-filled);
           part-way = subst (λ (l : List ℕ). c .pieces .kept + length piece < sizeIn l) (sym front-filled) h;
@@ -189,33 +202,62 @@ module _ (afi bits : ℕ) (run : List ℕ) (octets : AllOctets run) where
           (sym (getD-drop (c .pieces .walked .offset) run 1 0) ∙ ap (λ (l : List ℕ). getD l 1 0) stands ∙ List·getD-append nlri rest 0 1 (omega (arith, length-nlri, two)))
           ∙ sym (size-known nlri (omega (arith, length-nlri, two))) ∙ size
 
-      judges : (number : ℕ) → number ≡ numberUnder afi nlri → fedBy c piece ≡ record { answer = judgedOf (c .pieces) number n (length piece); octets = filled }
-      judges number is =
+      judges : (f : Fed) → judgedOf (c .pieces) (numberUnder afi nlri) n (length piece) ≡ f → fedBy c piece ≡ record { answer = f; octets = filled }
+      judges f is =
           let taken : take n filled ≡ nlri = ap (λ (k : ℕ). take k filled) whole ∙ front-filled in
           takes ∙ ap (λ (k : ℕ). takenOf (c .pieces) (c .unfinished) piece k (length piece)) size
           ∙ taken-judged (c .pieces) (c .unfinished) piece n (length piece) (omega arith)
           ∙ ap (λ (l : List ℕ). record { answer = judgedOf (c .pieces) (numberUnder (c .pieces .afi) (take n (placed (c .pieces .kept) l (c .unfinished)))) n (length piece); octets = placed (c .pieces .kept) l (c .unfinished) }) whole-piece
-          ∙ ap (λ (k : ℕ). record { answer = judgedOf (c .pieces) k n (length piece); octets = filled }) (ap₂ numberUnder (r .family) taken ∙ sym is)
+          ∙ ap (λ (f : Fed). record { answer = f; octets = filled }) (ap (λ (k : ℕ). judgedOf (c .pieces) k n (length piece)) (ap₂ numberUnder (r .family) taken) ∙ is)
 
       room-after : length filled ≡ 257
       room-after = room-filled (omega (arith, size-most nlri octets-nlri))
 
-      -- what follows it
-      stands-next : drop (c .pieces .total + length piece) run ≡ rest
+      -- where the next one begins, and what stands there
+      abbrev next : ℕ
+      next = c .pieces .total + length piece
+
+      stands-next : drop next run ≡ rest
       stands-next =
-          let next : c .pieces .total + length piece ≡ c .pieces .walked .offset + length nlri = omega (arith, r .place, length-nlri) in
-          ap (λ (k : ℕ). drop k run) next ∙ sym (drop-drop (length nlri) (c .pieces .walked .offset) run) ∙ ap (drop (length nlri)) stands ∙ drop-append-seam nlri rest
+          let is : next ≡ c .pieces .walked .offset + length nlri = omega (arith, r .place, length-nlri) in
+          ap (λ (k : ℕ). drop k run) is ∙ sym (drop-drop (length nlri) (c .pieces .walked .offset) run) ∙ ap (drop (length nlri)) stands ∙ drop-append-seam nlri rest
+
+      next-is : next ≡ pastNlri run (c .pieces .walked .offset)
+      next-is = omega (arith, r .place, octet-stands)
+
+      -- the walk goes on there, with these counts, and with these NLRIs given
+      moves-on : (count skipped : ℕ) (nlris : List NlriRead) → Going afi mode bits run next count skipped
+          → nlrisBy afi mode run ≡ nlris ++ nlrisByFrom (suc (length run - (count + skipped))) afi mode run next
+          → Means afi mode bits run rest (record { pieces = record { walked = walkedWith DONE count next skipped; afi = c .pieces .afi; mode = c .pieces .mode; stage = READING; total = next; kept = 0 }; unfinished = filled; nlris = nlris })
+      moves-on count skipped nlris going told =
+          inl
+          (record {
+            family = r .family;
+            by-mode = r .by-mode;
+            stage = refl;
+            number = refl;
+            total = total-after;
+            place = omega arith;
+            going = going;
+            told = told;
+            room = room-after;
+            here = stands-next;
+            part-way = omega (arith, size-least []);
+          })
+
+      -- one turn fewer is left
+      left-after : (count skipped : ℕ) → count + skipped ≡ suc (c .pieces .walked .count + c .pieces .walked .skipped) → length run - (c .pieces .walked .count + c .pieces .walked .skipped) ≡ suc (length run - (count + skipped))
+      left-after count skipped one = omega (arith, r .going .counted, before)
 
       -- it is read, and given
-      gives : numberUnder afi nlri ≡ DONE → Means afi bits run rest (afterFeed c (fedBy c piece))
-      unfolding afterFeed givenBy judgedOf pick part
+      gives : numberUnder afi nlri ≡ DONE → Means afi mode bits run rest (afterFeed c (fedBy c piece))
+      unfolding afterFeed givenBy pick part
       gives done =
           let offset : ℕ = c .pieces .walked .offset in
           let count : ℕ = c .pieces .walked .count in
-          let next : ℕ = c .pieces .total + length piece in
-          let past : next ≡ advanced offset (getD run (offset + 1) 0) = omega (arith, r .place, octet-stands) in
+          let skipped : ℕ = c .pieces .walked .skipped in
           let read = step-octet afi run offset bits (r .going .ofFamily) (r .going .short) before (sym number-stands ∙ done) in
-          let step : stepFrom afi run offset ≡ readTo (read .0) next = read .1 ∙ ap (readTo (read .0)) (sym past) in
+          let step : stepFrom afi run offset ≡ readTo (read .0) next = read .1 ∙ ap (readTo (read .0)) (sym next-is) in
           let size-is : next - offset ≡ n = omega (arith, r .place) in
           let began : next - n ≡ offset = omega (arith, r .place) in
           let octets-are : part run offset (next - offset) ≡ take n filled =
@@ -224,83 +266,96 @@ module _ (afi bits : ℕ) (run : List ℕ) (octets : AllOctets run) where
           let nlris : (o : ℕ) → List ℕ → List NlriRead = λ o l. record { offset = o; octets = l } ∷ [] in
           let given-it : pick (eqb n 0) [] (nlris (next - n) (take n filled)) ≡ nlris offset (part run offset (next - offset)) =
           pick-false _ _ _ (ne-eqb n 0 (λ z. omega (arith, two))) ∙ ap₂ nlris began (sym octets-are) in
-          let left : length run - count ≡ suc (length run - (count + 1)) = omega (arith, r .going .counted, before) in
-          subst (λ (a : AfterFeed). Means afi bits run rest (afterFeed c a)) (sym (judges DONE (sym done)))
-          (inl
-          (record {
-            family = r .family;
-            stage = refl;
-            number = refl;
-            total = total-after;
-            place = omega arith;
-            going = going-next afi bits run offset count (r .going) before (drop offset run) refl DONE (sym done ∙ number-stands) refl next past;
-            told = r .told ∙ ap (λ (l : List NlriRead). c .nlris ++ l) (nlrisFrom-reads (length run - count) afi run offset (read .0) next step)
-                ∙ sym (append-assoc (c .nlris) (nlris offset (part run offset (next - offset))) (nlrisFrom (length run - count) afi run next))
-                ∙ ap₂ (λ (l : List NlriRead) (k : ℕ). (c .nlris ++ l) ++ nlrisFrom k afi run next) (sym given-it) left;
-            room = room-after;
-            here = stands-next;
-            part-way = omega (arith, size-least []);
-          }))
+          subst (λ (a : AfterFeed). Means afi mode bits run rest (afterFeed c a)) (sym (judges _ (judged-read (c .pieces) _ n (length piece) done)))
+          (moves-on (count + 1) skipped _
+          (going-read afi mode bits run offset count skipped (r .going) before (drop offset run) refl DONE (sym done ∙ number-stands) refl next next-is (count + 1) skipped refl refl)
+          (r .told ∙ ap (λ (l : List NlriRead). c .nlris ++ l) (nlrisByFrom-read afi run offset mode (length run - (count + skipped)) (read .0) _ (turn-reads afi run offset mode (read .0) next step))
+          ∙ sym (append-assoc (c .nlris) (nlris offset (part run offset (next - offset))) (nlrisByFrom (length run - (count + skipped)) afi mode run next))
+          ∙ ap₂ (λ (l : List NlriRead) (k : ℕ). (c .nlris ++ l) ++ nlrisByFrom k afi mode run next) (sym given-it) (left-after (count + 1) skipped (omega arith))))
 
-      -- it is refused, and stops the reading
-      stops : numberUnder afi nlri ≢ DONE → Means afi bits run rest (afterFeed c (fedBy c piece))
-      unfolding afterFeed givenBy judgedOf pick
-      stops other =
-          let offset : ℕ = c .pieces .walked .offset in
-          let count : ℕ = c .pieces .walked .count in
-          let number : ℕ = numberUnder afi nlri in
-          let step : stepFrom afi run offset ≡ refusedAt number offset = step-unlaid afi run offset bits (r .going .ofFamily) (r .going .short) before number (refused-of _ number number-stands other) in
-          let answer = going-refused afi bits run offset count (r .going) before (drop offset run) refl number number-stands other in
-          subst (λ (a : AfterFeed). Means afi bits run rest (afterFeed c a)) (sym (judges number refl ∙ ap (λ (f : Fed). record { answer = f; octets = filled }) (pick-false _ _ _ (ne-eqb number DONE other))))
-          (inr
-          (record {
-            stage = refl;
-            total = total-after;
-            short = r .going .short;
-            count = omega (arith, r .going .counted, r .going .within, r .going .short);
-            kept = refl;
-            answer = answer;
-            told = append-nil (c .nlris) ∙ sym (r .told ∙ ap (λ (l : List NlriRead). c .nlris ++ l) (nlrisFrom-stops (length run - count) afi run offset number (stops-refusedAt number offset step)) ∙ append-nil (c .nlris));
-            early = refusal-early number (stepRule .refuses afi run offset number octets .0 step);
-            room = room-after;
-          }))
-        where
-          enough : sizeIn (drop (c .pieces .walked .offset) run) ≤ length (drop (c .pieces .walked .offset) run)
-          enough =
-              let size-stands : sizeIn (nlri ++ rest) ≡ n = size-known (nlri ++ rest) (omega (arith, length-append nlri rest, length-nlri, two)) ∙ ap (λ (x : ℕ). 2 + x) (List·getD-append nlri rest 0 1 (omega (arith, length-nlri, two))) ∙ sym (size-known nlri (omega (arith, length-nlri, two))) ∙ size in
-              omega (arith, ap sizeIn stands ∙ size-stands, ap length stands, length-append nlri rest, length-nlri)
+      -- it is refused
+      module _ (other : numberUnder afi nlri ≢ DONE) where
+        step-refused : stepFrom afi run (c .pieces .walked .offset) ≡ refusedAt (numberUnder afi nlri) (c .pieces .walked .offset)
+        step-refused = step-unlaid afi run _ bits (r .going .ofFamily) (r .going .short) before _ (refused-of _ _ number-stands other)
 
-          refusal-early : (m : ℕ) → StepRefusal afi run (c .pieces .walked .offset) m → m ≢ SHORT
-          refusal-early m (badFamily one two) e = omega arith
-          refusal-early m (long b f h) e = omega arith
-          refusal-early m (past b f few far) e = omega (arith, before)
-          refusal-early m (front b f few near why) e = whole-not-short b _ m enough why e
+        -- and skipped
+        skips : isSkipped mode (numberUnder afi nlri) ≡ true → Means afi mode bits run rest (afterFeed c (fedBy c piece))
+        unfolding afterFeed givenBy pick
+        skips t =
+            let offset : ℕ = c .pieces .walked .offset in
+            let count : ℕ = c .pieces .walked .count in
+            let skipped : ℕ = c .pieces .walked .skipped in
+            let number : ℕ = numberUnder afi nlri in
+            let turn : turnFrom afi mode run offset ≡ Skipped (record { at = next }) =
+            turn-skips afi run offset mode number (stops-refusedAt number offset step-refused) t ∙ ap (λ (k : ℕ). Skipped (record { at = k })) (sym next-is) in
+            subst (λ (a : AfterFeed). Means afi mode bits run rest (afterFeed c a)) (sym (judges _ (judged-skipped (c .pieces) number n (length piece) other (ap (λ (m : ℕ). isSkipped m number) (r .by-mode) ∙ t))))
+            (moves-on count (skipped + 1) _
+            (going-skipped afi mode bits run offset count skipped (r .going) before (drop offset run) refl number number-stands t next next-is count (skipped + 1) refl refl)
+            (r .told ∙ ap (λ (l : List NlriRead). c .nlris ++ l) (nlrisByFrom-skipped afi run offset mode (length run - (count + skipped)) _ turn)
+            ∙ ap₂ (λ (l : List NlriRead) (k : ℕ). l ++ nlrisByFrom k afi mode run next) (sym (append-nil (c .nlris))) (left-after count (skipped + 1) (omega arith))))
 
-    fed-reading : Means afi bits run rest (afterFeed c (fedBy c piece))
+        -- or it stops the reading
+        stops : isSkipped mode (numberUnder afi nlri) ≡ false → Means afi mode bits run rest (afterFeed c (fedBy c piece))
+        unfolding afterFeed givenBy pick
+        stops f =
+            let offset : ℕ = c .pieces .walked .offset in
+            let number : ℕ = numberUnder afi nlri in
+            let few = within-reading (piece ++ rest) c r 0 (omega arith) in
+            subst (λ (a : AfterFeed). Means afi mode bits run rest (afterFeed c a)) (sym (judges _ (judged-stopped (c .pieces) number n (length piece) other (ap (λ (m : ℕ). isSkipped m number) (r .by-mode) ∙ f))))
+            (inr
+            (record {
+              stage = refl;
+              total = total-after;
+              short = r .going .short;
+              count = few .count;
+              skipped = few .skipped;
+              kept = refl;
+              answer = going-refused afi mode bits run offset _ _ (r .going) before (drop offset run) refl number number-stands other f;
+              told = append-nil (c .nlris) ∙ told-stopped (piece ++ rest) c r number (stops-refusedAt number offset step-refused) f;
+              early = refusal-early number (stepRule .refuses afi run offset number octets .0 step-refused);
+              room = room-after;
+            }))
+          where
+            enough : sizeIn (drop (c .pieces .walked .offset) run) ≤ length (drop (c .pieces .walked .offset) run)
+            enough =
+                let size-stands : sizeIn (nlri ++ rest) ≡ n = size-known (nlri ++ rest) (omega (arith, length-append nlri rest, length-nlri, two)) ∙ ap (λ (x : ℕ). 2 + x) (List·getD-append nlri rest 0 1 (omega (arith, length-nlri, two))) ∙ sym (size-known nlri (omega (arith, length-nlri, two))) ∙ size in
+                omega (arith, ap sizeIn stands ∙ size-stands, ap length stands, length-append nlri rest, length-nlri)
+
+            refusal-early : (m : ℕ) → StepRefusal afi run (c .pieces .walked .offset) m → m ≢ SHORT
+            refusal-early m (badFamily one two) e = omega arith
+            refusal-early m (long b f h) e = omega arith
+            refusal-early m (past b f few far) e = omega (arith, before)
+            refusal-early m (front b f few near why) e = whole-not-short b _ m enough why e
+
+    fed-reading : Means afi mode bits run rest (afterFeed c (fedBy c piece))
     fed-reading =
         tested (ltb (c .pieces .kept + length piece) (sizeIn nlri)) (λ t. goes-on (ltb-true _ _ t))
         (λ f.
         let whole = fits (ltb-false _ _ f) in
-        tested (eqb (numberUnder afi nlri) DONE) (λ d. gives (sizeIn nlri) refl whole (eqb-true _ _ d)) (λ d. stops (sizeIn nlri) refl whole (eqb-false _ _ d)))
+        tested (eqb (numberUnder afi nlri) DONE) (λ d. gives (sizeIn nlri) refl whole (eqb-true _ _ d))
+        (λ d.
+        let other = eqb-false _ _ d in
+        tested (isSkipped mode (numberUnder afi nlri)) (λ t. skips (sizeIn nlri) refl whole other t) (λ f. stops (sizeIn nlri) refl whole other f)))
 
   -- a reader that has stopped counts
-  counts-stopped : (piece rest : List ℕ) (c : Caller) → Stopped afi run (piece ++ rest) c → fedBy c piece ≡ passedOf (countedOf (c .pieces) (length piece)) (c .unfinished) piece
+  counts-stopped : (piece rest : List ℕ) (c : Caller) → Stopped afi mode run (piece ++ rest) c → fedBy c piece ≡ passedOf (countedOf (c .pieces) (length piece)) (c .unfinished) piece
   counts-stopped piece rest c s =
       let sum = length-append piece rest in
-      let within : Within (c .pieces) (length piece) = record { total = omega (arith, s .total, s .short); count = s .count; kept = omega (arith, s .kept) } in
+      let within : Within (c .pieces) (length piece) = record { total = omega (arith, s .total, s .short); count = s .count; skipped = s .skipped; kept = omega (arith, s .kept) } in
       feed-counts (c .pieces) (c .unfinished) piece (omega (arith, s .stage)) (not-over (c .pieces) (length piece) within) (λ z. omega (arith, s .stage))
 
-  fed-stopped : (piece rest : List ℕ) (c : Caller) → Stopped afi run (piece ++ rest) c → Means afi bits run rest (afterFeed c (fedBy c piece))
+  fed-stopped : (piece rest : List ℕ) (c : Caller) → Stopped afi mode run (piece ++ rest) c → Means afi mode bits run rest (afterFeed c (fedBy c piece))
   unfolding afterFeed givenBy pick
   fed-stopped piece rest c s =
       let sum = length-append piece rest in
-      subst (λ (a : AfterFeed). Means afi bits run rest (afterFeed c a)) (sym (counts-stopped piece rest c s))
+      subst (λ (a : AfterFeed). Means afi mode bits run rest (afterFeed c a)) (sym (counts-stopped piece rest c s))
       (inr
       (record {
         stage = refl;
         total = omega (arith, s .total);
         short = s .short;
         count = s .count;
+        skipped = s .skipped;
         kept = refl;
         answer = s .answer;
         told = append-nil (c .nlris) ∙ s .told;
@@ -308,11 +363,11 @@ module _ (afi bits : ℕ) (run : List ℕ) (octets : AllOctets run) where
         room = s .room;
       }))
 
-  pub fed : (piece rest : List ℕ) (c : Caller) → Means afi bits run (piece ++ rest) c → fedBy c piece .answer .taken ≡ length piece → Means afi bits run rest (afterFeed c (fedBy c piece))
+  pub fed : (piece rest : List ℕ) (c : Caller) → Means afi mode bits run (piece ++ rest) c → fedBy c piece .answer .taken ≡ length piece → Means afi mode bits run rest (afterFeed c (fedBy c piece))
   fed piece rest c m all = ⊎-elim (λ r. fed-reading piece rest c r all) (λ s. fed-stopped piece rest c s) m
 
   -- some octets are taken of a piece that has some
-  progress-reading : (piece : List ℕ) (c : Caller) (r : Reading afi bits run piece c) → 0 < length piece → 0 < fedBy c piece .answer .taken
+  progress-reading : (piece : List ℕ) (c : Caller) (r : Reading afi mode bits run piece c) → 0 < length piece → 0 < fedBy c piece .answer .taken
   progress-reading piece c r some =
       let size : ℕ = sizeIn (front-of c ++ piece) in
       let taken = shares piece c r piece (omega arith) in
@@ -320,24 +375,23 @@ module _ (afi bits : ℕ) (run : List ℕ) (octets : AllOctets run) where
       tested (ltb (c .pieces .kept + length piece) size) (λ t. omega (arith, share-all size (c .pieces .kept) (length piece) (ltb-true _ _ t)))
       (λ f. let h : size ≤ c .pieces .kept + length piece = ltb-false _ _ f in omega (arith, share-rest size (c .pieces .kept) (length piece) h))
 
-  pub progress : (piece : List ℕ) (c : Caller) → Means afi bits run piece c → 0 < length piece → 0 < fedBy c piece .answer .taken
+  pub progress : (piece : List ℕ) (c : Caller) → Means afi mode bits run piece c → 0 < length piece → 0 < fedBy c piece .answer .taken
   progress piece c m some =
       ⊎-elim (λ r. progress-reading piece c r some)
-      (λ s. omega (arith, ap (λ (a : AfterFeed). a .answer .taken) (counts-stopped piece [] c (subst (λ (l : List ℕ). Stopped afi run l c) (sym (append-nil piece)) s)))) m
+      (λ s. omega (arith, ap (λ (a : AfterFeed). a .answer .taken) (counts-stopped piece [] c (subst (λ (l : List ℕ). Stopped afi mode run l c) (sym (append-nil piece)) s)))) m
 
   -- the walk at the end of the run
-  ended-by : (c : Caller) (r : Reading afi bits run [] c) (n : ℕ) → pick (eqb (c .pieces .kept) 0) DONE SHORT ≡ n → walkedTo n (c .pieces .walked .count) (c .pieces .walked .offset) ≡ walkOf afi run
-      → Stops (stepFrom afi run (c .pieces .walked .offset)) n → (answerAtEnd (c .pieces) ≡ walkOf afi run) × (c .nlris ≡ nlrisOf afi run)
+  ended-by : (c : Caller) (r : Reading afi mode bits run [] c) (n : ℕ) → pick (eqb (c .pieces .kept) 0) DONE SHORT ≡ n → walkedWith n (c .pieces .walked .count) (c .pieces .walked .offset) (c .pieces .walked .skipped) ≡ walkBy afi mode run
+      → Stops (stepFrom afi run (c .pieces .walked .offset)) n → isSkipped mode n ≡ false → (answerAtEnd (c .pieces) ≡ walkBy afi mode run) × (c .nlris ≡ nlrisBy afi mode run)
   unfolding answerAtEnd
-  ended-by c r n is answer stop = (
-    pick-true _ _ _ (eq-eqb (c .pieces .stage) READING (r .stage)) ∙ ap (λ (m : ℕ). walkedTo m (c .pieces .walked .count) (c .pieces .walked .offset)) is ∙ answer,
-    sym (r .told ∙ ap (λ (l : List NlriRead). c .nlris ++ l) (nlrisFrom-stops _ afi run (c .pieces .walked .offset) n stop) ∙ append-nil (c .nlris)),
+  ended-by c r n is answer stop f = (
+    pick-true _ _ _ (eq-eqb (c .pieces .stage) READING (r .stage)) ∙ ap (λ (m : ℕ). walkedWith m (c .pieces .walked .count) (c .pieces .walked .offset) (c .pieces .walked .skipped)) is ∙ answer,
+    told-stopped [] c r n stop f,
   )
 
-  ended-reading : (c : Caller) → Reading afi bits run [] c → (answerAtEnd (c .pieces) ≡ walkOf afi run) × (c .nlris ≡ nlrisOf afi run)
+  ended-reading : (c : Caller) → Reading afi mode bits run [] c → (answerAtEnd (c .pieces) ≡ walkBy afi mode run) × (c .nlris ≡ nlrisBy afi mode run)
   ended-reading c r =
       let offset : ℕ = c .pieces .walked .offset in
-      let count : ℕ = c .pieces .walked .count in
       let here : drop offset run ≡ front-of c = r .here ∙ append-nil (front-of c) in
       let len = length-front [] c r in
       let total = r .total in
@@ -345,16 +399,18 @@ module _ (afi bits : ℕ) (run : List ℕ) (octets : AllOctets run) where
       (λ t.
       let none : c .pieces .kept ≡ 0 = eqb-true _ _ t in
       let last : offset ≡ length run = omega (arith, r .place) in
-      ended-by c r DONE (pick-true _ _ _ t) (going-last afi bits run offset count (r .going) (omega arith)) (stops-endedAt offset (step-end afi run offset bits (r .going .ofFamily) (r .going .short) last)))
+      ended-by c r DONE (pick-true _ _ _ t) (going-last afi mode bits run offset _ _ (r .going) (omega arith)) (stops-endedAt offset (step-end afi run offset bits (r .going .ofFamily) (r .going .short) last))
+      (not-skipped mode DONE (λ _ z. omega arith)))
       (λ f.
       let some = eqb-false (c .pieces .kept) 0 f in
       let before : offset < length run = omega (arith, r .place) in
       let laid = ap (layoutAt bits) here ∙ layout-short bits (front-of c) (omega (arith, r .part-way)) in
-      ended-by c r SHORT (pick-false _ _ _ f) (going-refused afi bits run offset count (r .going) before (drop offset run) refl SHORT (sym (number-refused laid)) (λ z. omega arith))
-      (stops-refusedAt SHORT offset (step-unlaid afi run offset bits (r .going .ofFamily) (r .going .short) before SHORT laid)))
+      let told = not-skipped mode SHORT (λ _ z. omega arith) in
+      ended-by c r SHORT (pick-false _ _ _ f) (going-refused afi mode bits run offset _ _ (r .going) before (drop offset run) refl SHORT (sym (number-refused laid)) (λ z. omega arith) told)
+      (stops-refusedAt SHORT offset (step-unlaid afi run offset bits (r .going .ofFamily) (r .going .short) before SHORT laid)) told)
 
   -- where the run ends
-  pub ended : (c : Caller) → Means afi bits run [] c → (answerAtEnd (c .pieces) ≡ walkOf afi run) × (c .nlris ≡ nlrisOf afi run)
+  pub ended : (c : Caller) → Means afi mode bits run [] c → (answerAtEnd (c .pieces) ≡ walkBy afi mode run) × (c .nlris ≡ nlrisBy afi mode run)
   unfolding answerAtEnd
   ended c m =
       ⊎-elim (λ r. ended-reading c r) (λ s. (pick-false _ _ _ (ne-eqb (c .pieces .stage) READING (λ z. omega (arith, s .stage))) ∙ s .answer, s .told)) m

@@ -1,4 +1,4 @@
--- A run that arrives in pieces (document 02, W-203): what start, feed and finish answer.
+-- A run that arrives in pieces (document 02, W-203), read by the mode of the walk (W-206): what start, feed and finish answer.
 use Prim.Native.Nat.{ℕ, _+_, _-_, _≤_}
 use mathlib.Core.Bool.{Bool}
 use mathlib.Core.List.{List, _++_}
@@ -11,7 +11,8 @@ use Rattle.octets.specs.Octets.{placed}
 use Rattle.nlri.specs.Family.{familyBits}
 use Rattle.nlri.specs.Layouts.{layoutAt}
 use Rattle.runs.specs.declared.walking.Walked.{Walked}
-use Rattle.runs.specs.Walking.{walkedTo}
+use Rattle.runs.specs.Walking.{walkedTo, walkedWith}
+use Rattle.runs.specs.Modes.{isSkipped}
 use Rattle.pieces.specs.declared.state.Pieces.{Pieces}
 use Rattle.pieces.specs.declared.feeding.Fed.{Fed}
 
@@ -28,20 +29,20 @@ abbrev pub FINISHED : ℕ
 FINISHED = 2
 
 -- a reader that has taken no octet
-abbrev pub startedAs : (afi stage number : ℕ) → Pieces
-startedAs afi stage number = record { walked = walkedTo number 0 0; afi = afi; stage = stage; total = 0; kept = 0 }
+abbrev pub startedAs : (afi mode stage number : ℕ) → Pieces
+startedAs afi mode stage number = record { walked = walkedTo number 0 0; afi = afi; mode = mode; stage = stage; total = 0; kept = 0 }
 
 -- start: FAMILY, and then the reader is finished
-unfoldable pub startOf : ℕ → Pieces
-startOf afi = onOutcome (λ number. startedAs afi FINISHED number) (λ bits. startedAs afi READING DONE) (familyBits afi)
+unfoldable pub startOf : (afi mode : ℕ) → Pieces
+startOf afi mode = onOutcome (λ number. startedAs afi mode FINISHED number) (λ bits. startedAs afi mode READING DONE) (familyBits afi)
 
 -- the walk's answer where the run ends: SHORT where an NLRI is unfinished; a stop's answer stays
 unfoldable pub answerAtEnd : Pieces → Walked
-answerAtEnd p = pick (eqb (p .stage) READING) (walkedTo (pick (eqb (p .kept) 0) DONE SHORT) (p .walked .count) (p .walked .offset)) (p .walked)
+answerAtEnd p = pick (eqb (p .stage) READING) (walkedWith (pick (eqb (p .kept) 0) DONE SHORT) (p .walked .count) (p .walked .offset) (p .walked .skipped)) (p .walked)
 
 -- finish
 abbrev pub finishOf : Pieces → Pieces
-finishOf p = record { walked = answerAtEnd p; afi = p .afi; stage = FINISHED; total = p .total; kept = p .kept }
+finishOf p = record { walked = answerAtEnd p; afi = p .afi; mode = p .mode; stage = FINISHED; total = p .total; kept = p .kept }
 
 -- what a feed answers, and the lent octets afterwards
 pub record AfterFeed : Type 0 where
@@ -54,15 +55,15 @@ passedOf p unfinished piece = record { answer = record { pieces = p; taken = len
 
 -- the total passed 4,096: 0, 0, LONG, and a total that stays over
 abbrev pub longOf : Pieces → Pieces
-longOf p = record { walked = walkedTo LONG 0 0; afi = p .afi; stage = STOPPED; total = 4097; kept = 0 }
+longOf p = record { walked = walkedTo LONG 0 0; afi = p .afi; mode = p .mode; stage = STOPPED; total = 4097; kept = 0 }
 
 -- after a stop: octets are counted
 abbrev pub countedOf : Pieces → ℕ → Pieces
-countedOf p size = record { walked = p .walked; afi = p .afi; stage = STOPPED; total = p .total + size; kept = 0 }
+countedOf p size = record { walked = p .walked; afi = p .afi; mode = p .mode; stage = STOPPED; total = p .total + size; kept = 0 }
 
 -- more than 4,096 octets in all; or numbers that these calls never give
 unfoldable pub overOf : Pieces → (size : ℕ) → Bool
-overOf p size = either (ltb 4096 (p .total + size)) (either (ltb 4096 (p .walked .count)) (ltb 256 (p .kept)))
+overOf p size = either (ltb 4096 (p .total + size)) (either (ltb 4096 (p .walked .count)) (either (ltb 4096 (p .walked .skipped)) (ltb 256 (p .kept))))
 
 -- the octets of the NLRI at the front of s, as far as s tells: those of its header, then those that its Length asks
 unfoldable pub sizeIn : List ℕ → ℕ
@@ -82,29 +83,38 @@ numberUnder afi s = numberOf (andThen (familyBits afi) (λ bits. layoutAt bits s
 
 -- the piece ends inside the NLRI, which is kept
 abbrev pub keptOf : Pieces → (share : ℕ) → Fed
-keptOf p share = record { pieces = record { walked = p .walked; afi = p .afi; stage = READING; total = p .total + share; kept = p .kept + share }; taken = share; size = 0 }
+keptOf p share = record { pieces = record { walked = p .walked; afi = p .afi; mode = p .mode; stage = READING; total = p .total + share; kept = p .kept + share }; taken = share; size = 0 }
 
 -- the NLRI is whole and read: it is given and counted, and the next one begins after it
 abbrev pub readOf : Pieces → (wanted share : ℕ) → Fed
 readOf p wanted share =
     record {
-      pieces = record { walked = walkedTo DONE (p .walked .count + 1) (p .total + share); afi = p .afi; stage = READING; total = p .total + share; kept = 0 };
+      pieces = record { walked = walkedWith DONE (p .walked .count + 1) (p .total + share) (p .walked .skipped); afi = p .afi; mode = p .mode; stage = READING; total = p .total + share; kept = 0 };
       taken = share;
       size = wanted;
+    }
+
+-- the NLRI is whole and skipped: it is counted apart and not given, and the next one begins after it
+abbrev pub skippedOf : Pieces → (share : ℕ) → Fed
+skippedOf p share =
+    record {
+      pieces = record { walked = walkedWith DONE (p .walked .count) (p .total + share) (p .walked .skipped + 1); afi = p .afi; mode = p .mode; stage = READING; total = p .total + share; kept = 0 };
+      taken = share;
+      size = 0;
     }
 
 -- the NLRI is whole and refused: its number stops the reading where it begins
 abbrev pub stoppedOf : Pieces → (number share : ℕ) → Fed
 stoppedOf p number share =
     record {
-      pieces = record { walked = walkedTo number (p .walked .count) (p .walked .offset); afi = p .afi; stage = STOPPED; total = p .total + share; kept = 0 };
+      pieces = record { walked = walkedWith number (p .walked .count) (p .walked .offset) (p .walked .skipped); afi = p .afi; mode = p .mode; stage = STOPPED; total = p .total + share; kept = 0 };
       taken = share;
       size = 0;
     }
 
--- an NLRI that is whole, by its number
+-- an NLRI that is whole, by its number: it is read; or it is refused, and skipped as the walk of the mode skips it; or it stops the reading
 unfoldable pub judgedOf : Pieces → (number wanted share : ℕ) → Fed
-judgedOf p number wanted share = pick (eqb number DONE) (readOf p wanted share) (stoppedOf p number share)
+judgedOf p number wanted share = pick (eqb number DONE) (readOf p wanted share) (pick (isSkipped (p .mode) number) (skippedOf p share) (stoppedOf p number share))
 
 -- while reading, of an NLRI of `wanted` octets, `share` of which were taken of a piece of `size` octets: whether it is whole
 unfoldable pub settledOf : Pieces → (unfinished : List ℕ) → (size wanted share : ℕ) → Fed
@@ -136,4 +146,5 @@ feedOf p unfinished piece =
 pub record Within (p : Pieces) (size : ℕ) : Type 0 where
   pub total : p .total + size ≤ 4096
   pub count : p .walked .count ≤ 4096
+  pub skipped : p .walked .skipped ≤ 4096
   pub kept : p .kept ≤ 256

@@ -23,8 +23,8 @@ givenBy a =
     (record { offset = a .answer .pieces .walked .offset - a .answer .size; octets = take (a .answer .size) (a .octets) } ∷ [])
 
 -- a reader just started, with lent octets of any content
-abbrev pub startedWith : (afi : ℕ) (unfinished : List ℕ) → Caller
-startedWith afi unfinished = record { pieces = startOf afi; unfinished = unfinished; nlris = [] }
+abbrev pub startedWith : (afi mode : ℕ) (unfinished : List ℕ) → Caller
+startedWith afi mode unfinished = record { pieces = startOf afi mode; unfinished = unfinished; nlris = [] }
 
 -- what a feed answers to a caller
 abbrev pub fedBy : Caller → (piece : List ℕ) → AfterFeed
@@ -53,6 +53,6 @@ joined (piece ∷ pieces) = piece ++ joined pieces
 
 -- every moment of a reader that was started, in the hands of any caller, with the run that it has taken so far: at first none, and after a feed
 -- of any octets those that the feed took. The lent octets stay with the reader
-pub data Moment (afi : ℕ) : (run : List ℕ) → Caller → Type 0 where
-  first : (unfinished : List ℕ) → length unfinished ≡ 257 → Moment afi [] (startedWith afi unfinished)
-  next : {run : List ℕ} {c : Caller} → Moment afi run c → (piece : List ℕ) → AllOctets piece → Moment afi (run ++ take (fedBy c piece .answer .taken) piece) (afterFeed c (fedBy c piece))
+pub data Moment (afi mode : ℕ) : (run : List ℕ) → Caller → Type 0 where
+  first : (unfinished : List ℕ) → length unfinished ≡ 257 → Moment afi mode [] (startedWith afi mode unfinished)
+  next : {run : List ℕ} {c : Caller} → Moment afi mode run c → (piece : List ℕ) → AllOctets piece → Moment afi mode (run ++ take (fedBy c piece .answer .taken) piece) (afterFeed c (fedBy c piece))

@@ -2,7 +2,7 @@
 ghost use mathlib.Core.Path.{_≡_};
 ghost use Prim.Native.Nat.{_+_, _≤_};
 ghost use lib.ListN.{length, take};
-ghost use Rattle.pieces.specs.Feeding.{feedOf, readOnOf, settledOf, judgedOf, keptOf, readOf, stoppedOf, Within};
+ghost use Rattle.pieces.specs.Feeding.{feedOf, readOnOf, settledOf, judgedOf, keptOf, readOf, skippedOf, stoppedOf, Within};
 use crate::reading;
 use crate::reading::UnfinishedNlri;
 use crate::state;
@@ -83,6 +83,7 @@ fn unsettled(p: Pieces, share: usize) -> Fed
         pieces: Pieces {
             walked,
             afi: p.afi,
+            mode: p.mode,
             stage: Stage::READING,
             total: p.total + share as u32,
             kept: p.kept + share as u32,
@@ -94,11 +95,14 @@ fn unsettled(p: Pieces, share: usize) -> Fed
 
 // The NLRI is whole, and has this number.
 fn judged(p: Pieces, number: u32, wanted: usize, share: usize) -> Fed
-    requires { ⌜ (p .total + share ≤ 4096) × (p .walked .count ≤ 4096) ⌝ }
+    requires { ⌜ (p .total + share ≤ 4096) × (p .walked .count ≤ 4096) × (p .walked .skipped ≤ 4096) ⌝ }
     ensures { λ r. ⌜ r ≡ judgedOf p number wanted share ⌝ }
 {
     if number == DONE {
         return read(p, wanted, share);
+    }
+    if runs::is_skipped(p.mode, number) {
+        return skipped(p, share);
     }
     stopped(p, number, share)
 }
@@ -116,14 +120,42 @@ fn read(p: Pieces, wanted: usize, share: usize) -> Fed
                 number: DONE,
                 count: walked.count + 1,
                 offset: total,
+                skipped: walked.skipped,
             },
             afi: p.afi,
+            mode: p.mode,
             stage: Stage::READING,
             total,
             kept: 0,
         },
         taken: share,
         size: wanted,
+    }
+}
+
+// An NLRI that is skipped is counted apart, and not given; the next one begins after it.
+fn skipped(p: Pieces, share: usize) -> Fed
+    requires { ⌜ (p .total + share ≤ 4096) × (p .walked .skipped ≤ 4096) ⌝ }
+    ensures { λ r. ⌜ r ≡ skippedOf p share ⌝ }
+{
+    let walked = p.walked;
+    let total = p.total + share as u32;
+    Fed {
+        pieces: Pieces {
+            walked: Walked {
+                number: DONE,
+                count: walked.count,
+                offset: total,
+                skipped: walked.skipped + 1,
+            },
+            afi: p.afi,
+            mode: p.mode,
+            stage: Stage::READING,
+            total,
+            kept: 0,
+        },
+        taken: share,
+        size: 0,
     }
 }
 
@@ -139,8 +171,10 @@ fn stopped(p: Pieces, number: u32, share: usize) -> Fed
                 number,
                 count: walked.count,
                 offset: walked.offset,
+                skipped: walked.skipped,
             },
             afi: p.afi,
+            mode: p.mode,
             stage: Stage::STOPPED,
             total: p.total + share as u32,
             kept: 0,

@@ -31,32 +31,35 @@ impl Stage {
 pub struct Pieces {
     pub walked: Walked,
     pub afi: u32,
+    pub mode: u32,
     pub stage: u32,
     pub total: u32,
     pub kept: u32,
 }
 
 // A reader just started; a bad AFI is refused here.
-pub fn start(afi: u16) -> Pieces
-    ensures { λ r. ⌜ r ≡ startOf afi ⌝ }
+pub fn start(afi: u16, mode: u32) -> Pieces
+    ensures { λ r. ⌜ r ≡ startOf afi mode ⌝ }
 {
     match nlri::family_of(afi) {
-        Family::Unknown(number) => started(afi, Stage::FINISHED, number),
-        Family::Known(_) => started(afi, Stage::READING, DONE),
+        Family::Unknown(number) => started(afi, mode, Stage::FINISHED, number),
+        Family::Known(_) => started(afi, mode, Stage::READING, DONE),
     }
 }
 
 // A reader that has taken no octet.
-fn started(afi: u16, stage: u32, number: u32) -> Pieces
-    ensures { λ r. ⌜ r ≡ startedAs afi stage number ⌝ }
+fn started(afi: u16, mode: u32, stage: u32, number: u32) -> Pieces
+    ensures { λ r. ⌜ r ≡ startedAs afi mode stage number ⌝ }
 {
     Pieces {
         walked: Walked {
             number,
             count: 0,
             offset: 0,
+            skipped: 0,
         },
         afi: afi as u32,
+        mode,
         stage,
         total: 0,
         kept: 0,
@@ -76,12 +79,14 @@ fn end(p: Pieces) -> Walked
             number: DONE,
             count: walked.count,
             offset: walked.offset,
+            skipped: walked.skipped,
         };
     }
     Walked {
         number: SHORT,
         count: walked.count,
         offset: walked.offset,
+        skipped: walked.skipped,
     }
 }
 
@@ -92,6 +97,7 @@ pub fn finish(p: Pieces) -> Pieces
     Pieces {
         walked: end(p),
         afi: p.afi,
+        mode: p.mode,
         stage: Stage::FINISHED,
         total: p.total,
         kept: p.kept,
@@ -112,6 +118,9 @@ pub(crate) fn is_over(p: Pieces, size: usize) -> bool
     if RUN < walked.count as usize {
         return true;
     }
+    if RUN < walked.skipped as usize {
+        return true;
+    }
     LEFT < p.kept
 }
 
@@ -124,8 +133,10 @@ pub(crate) fn too_long(p: Pieces) -> Pieces
             number: LONG,
             count: 0,
             offset: 0,
+            skipped: 0,
         },
         afi: p.afi,
+        mode: p.mode,
         stage: Stage::STOPPED,
         total: RUN as u32 + 1,
         kept: 0,
@@ -141,6 +152,7 @@ pub(crate) fn counted(p: Pieces, size: usize) -> Pieces
     Pieces {
         walked,
         afi: p.afi,
+        mode: p.mode,
         stage: Stage::STOPPED,
         total: p.total + size as u32,
         kept: 0,

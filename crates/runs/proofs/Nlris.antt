@@ -1,5 +1,5 @@
 -- How a walk, and the NLRIs that it reads, go on by a step.
-use mathlib.Core.Path.{_≡_, refl, sym, _∙_, ap}
+use mathlib.Core.Path.{_≡_, sym, _∙_, ap}
 use mathlib.Core.List.{List, [], _∷_}
 use Prim.Native.Nat.{ℕ, zero, suc, _+_, _-_, _≤_}
 use native.Mathlib.Omega.{arith}
@@ -14,10 +14,6 @@ use Rattle.runs.specs.Walking.{Stepped, readTo, stepFrom, walkedTo, walk
 use Rattle.runs.proofs.Steps.{Stops, reads-stepFrom}
 
 module _ (left afi : ℕ) (run : List ℕ) (at : ℕ) where
-  pub walkFrom-reads : (count : ℕ) (l : Layout) (c : ℕ) → stepFrom afi run at ≡ readTo l c → walkFrom (suc left) afi run at count ≡ walkFrom left afi run c (count + 1)
-  unfolding walkFrom readTo
-  walkFrom-reads count l c e = pick-true _ _ _ (ap (λ (s : Stepped). s .read) e) ∙ ap (λ (s : Stepped). walkFrom left afi run (s .cursor) (count + 1)) e
-
   pub walkFrom-stops : (count n : ℕ) → Stops (stepFrom afi run at) n → walkFrom (suc left) afi run at count ≡ walkedTo n count at
   unfolding walkFrom
   walkFrom-stops count n s = pick-false _ _ _ (s .unread) ∙ ap (λ (m : ℕ). walkedTo m count at) (s .numbered)
@@ -31,15 +27,6 @@ module _ (left afi : ℕ) (run : List ℕ) (at : ℕ) where
   pub nlrisFrom-stops : (n : ℕ) → Stops (stepFrom afi run at) n → nlrisFrom (suc left) afi run at ≡ []
   unfolding nlrisFrom
   nlrisFrom-stops n s = pick-false _ _ _ (s .unread)
-
--- the count so far is in the count alone
-pub walkFrom-apart : (left afi : ℕ) (run : List ℕ) (at count : ℕ) → (walkFrom left afi run at count .number ≡ walkFrom left afi run at 0 .number) × (walkFrom left afi run at count .offset ≡ walkFrom left afi run at 0 .offset)
-unfolding walkFrom pick
-walkFrom-apart zero afi run at count = (refl, refl)
-walkFrom-apart (suc left) afi run at count =
-    let here = walkFrom-apart left afi run (stepFrom afi run at .cursor) (count + 1) in
-    let first = walkFrom-apart left afi run (stepFrom afi run at .cursor) 1 in
-    tested (stepFrom afi run at .read) (λ t. rw t (omega (arith, here .0, first .0), omega (arith, here .1, first .1))) (λ f. rw f (refl, refl))
 
 -- the walk counts what it reads
 pub length-nlrisFrom : (left afi : ℕ) (run : List ℕ) (at count : ℕ) → walkFrom left afi run at count .count ≡ count + length (nlrisFrom left afi run at)

@@ -31,7 +31,7 @@ use Rattle.runs.specs.Statements.{EncodedAt, EndAt, StepRefusal, badFami
 use Rattle.runs.proofs.Steps.{step-family, step-long, step-end, step-past, step-laid, step-unlaid, Comes, family, tooLong, end, beyond, unlaid, laid, comes-stepFrom, reads-stepFrom}
 
 -- the route type of a layout is known
-pub layout-typed : (bits : ℕ) (s : List ℕ) (l : Layout) → layoutAt bits s ≡ given l → KnownType (l .«route_type»)
+layout-typed : (bits : ℕ) (s : List ℕ) (l : Layout) → layoutAt bits s ≡ given l → KnownType (l .«route_type»)
 unfolding layoutAt laidAt layoutOf
 layout-typed bits s l e =
     let p = passed _ _ _ e in

@@ -73,7 +73,7 @@ unfolding encodeRun
 first-here run at f fs t r = r .here ∙ append-assoc (encodeNlri f) (encodeRun fs) t
 
 -- past the first of them
-pub follow-next : (run : List ℕ) (at : ℕ) (f : Fields) (fs : List Fields) (t : List ℕ) → Follow run at (f ∷ fs) t → Follow run (at + length (encodeNlri f)) fs t
+follow-next : (run : List ℕ) (at : ℕ) (f : Fields) (fs : List Fields) (t : List ℕ) → Follow run at (f ∷ fs) t → Follow run (at + length (encodeNlri f)) fs t
 follow-next run at f fs t r =
     let n : List ℕ = encodeNlri f in
     let rest : List ℕ = encodeRun fs ++ t in
@@ -83,7 +83,7 @@ follow-next run at f fs t r =
 
 module _ (afi bits : ℕ) (ofFamily : familyBits afi ≡ given bits) (run : List ℕ) (a : AllOctets run) (short : length run ≤ 4096) where
   -- the step at the first of them, and where they end
-  pub step-follow : (at : ℕ) (f : Fields) (fs : List Fields) (t : List ℕ) → Follow run at (f ∷ fs) t → WellFormed bits f → stepFrom afi run at ≡ readTo (layoutFor f) (at + length (encodeNlri f))
+  step-follow : (at : ℕ) (f : Fields) (fs : List Fields) (t : List ℕ) → Follow run at (f ∷ fs) t → WellFormed bits f → stepFrom afi run at ≡ readTo (layoutFor f) (at + length (encodeNlri f))
   step-follow at f fs t r w = stepRule .reads afi run at f (record { bits = bits; ofFamily = ofFamily; short = short; wellFormed = w; after = encodeRun fs ++ t; is = first-here run at f fs t r })
 
   pub stops-follow : (at : ℕ) (t : List ℕ) (n : ℕ) → Follow run at [] t → RunEnd bits t n → Stops (stepFrom afi run at) n

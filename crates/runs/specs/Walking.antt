@@ -57,9 +57,13 @@ steppedOf (Nlri layout cursor) = readTo layout (cursor .at)
 steppedOf (End cursor) = endedAt (cursor .at)
 steppedOf (Refused number cursor) = refusedAt number (cursor .at)
 
--- what a walk answers: the number and the offset of its stop, and the count of NLRIs before it
+-- what a walk answers: the number and the offset of its stop, the count of NLRIs read before it, and the number of those skipped
+abbrev pub walkedWith : (number count offset skipped : ℕ) → Walked
+walkedWith number count offset skipped = record { number = number; count = count; offset = offset; skipped = skipped }
+
+-- with none skipped
 abbrev pub walkedTo : (number count offset : ℕ) → Walked
-walkedTo number count offset = record { number = number; count = count; offset = offset }
+walkedTo number count offset = walkedWith number count offset 0
 
 -- at most so many steps on from a cursor, with the count read so far: the first stop decides
 unfoldable pub walkFrom : ℕ → ℕ → List ℕ → (at count : ℕ) → Walked

@@ -30,6 +30,7 @@ use conformance::{
     options::SEED,
     plain,
     random::Random,
+    second::run::SKIP,
 };
 use measure::Clock;
 use report::{Report, Task};
@@ -76,8 +77,12 @@ fn main() -> ExitCode {
 fn all_rows(task: Task) -> ExitCode {
     let mut report = Report::begin(task);
     for afi in GOOD_AFIS {
-        let run = whole_run(&mut Random::new(SEED), afi);
+        let mut random = Random::new(SEED);
+        let run = whole_run(&mut random, afi);
         runs(&mut report, afi, &run);
+        walk(&mut report, &format!("walk of {RUN} octets, afi {afi}"), afi, &run);
+        let run_with_unknown = unknown_among(&mut random, afi);
+        walk(&mut report, &format!("walk of {RUN} octets with unknown types, afi {afi}"), afi, &run_with_unknown);
         pieces::rows(&mut report, afi, &run);
         for sample in one_of_each_type(afi) {
             nlri(&mut report, &sample);
@@ -98,7 +103,7 @@ fn all_rows(task: Task) -> ExitCode {
     }
 }
 
-/// One step; a walk and the steps through a whole run of mixed types.
+/// One step; the steps through a whole run of mixed types.
 fn runs(report: &mut Report, afi: u16, run: &[u8]) {
     let calls = black_box(STEPS);
     report.counted(
@@ -109,9 +114,13 @@ fn runs(report: &mut Report, afi: u16, run: &[u8]) {
         &format!("steps through {RUN} octets, afi {afi}"),
         calls.map(|call| move || steps(call, afi, black_box(run))),
     );
+}
+
+/// A walk that skips unknown types.
+fn walk(report: &mut Report, name: &str, afi: u16, run: &[u8]) {
     report.timed(
-        &format!("walk of {RUN} octets, afi {afi}"),
-        black_box(WALKS).map(|call| move || unsafe { call(afi, run.as_ptr(), black_box(run.len())) }),
+        name,
+        black_box(WALKS).map(|call| move || unsafe { call(afi, SKIP, run.as_ptr(), black_box(run.len())) }),
     );
 }
 
@@ -134,10 +143,24 @@ fn steps(call: raw::Step, afi: u16, run: &[u8]) -> Stepped {
 fn whole_run(random: &mut Random, afi: u16) -> Vec<u8> {
     loop {
         let run = near::run_of(random, afi, RUN);
-        if unsafe { plain::walk(afi, run.as_ptr(), run.len()) }.number == 0 {
+        if unsafe { plain::walk(afi, SKIP, run.as_ptr(), run.len()) }.number == 0 {
             return run;
         }
     }
+}
+
+/// A run whose every third NLRI, or so, is of an unknown type.
+fn unknown_among(random: &mut Random, afi: u16) -> Vec<u8> {
+    let mut run = whole_run(random, afi);
+    let mut at = 0;
+    while at < run.len() {
+        let size = 2 + usize::from(run[at + 1]);
+        if random.once_in(3) {
+            run[at] = random.pick(&near::UNKNOWN);
+        }
+        at += size;
+    }
+    run
 }
 
 fn nlri(report: &mut Report, sample: &Sample) {

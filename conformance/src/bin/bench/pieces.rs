@@ -5,6 +5,7 @@ use crate::{report::Report, RUN, WALKS};
 use conformance::{
     ffi::{raw, Walked, UNFINISHED},
     plain,
+    second::run::SKIP,
 };
 use std::hint::black_box;
 
@@ -25,7 +26,7 @@ const CALLS: [Calls; 2] = [
 
 pub fn rows(report: &mut Report, afi: u16, run: &[u8]) {
     let [walk, _] = black_box(WALKS);
-    let walk = || unsafe { walk(afi, run.as_ptr(), black_box(run.len())) };
+    let walk = || unsafe { walk(afi, SKIP, run.as_ptr(), black_box(run.len())) };
     let mut buffer = [0u8; UNFINISHED];
     let unfinished = buffer.as_mut_ptr();
     for size in SIZES {
@@ -41,7 +42,7 @@ pub fn rows(report: &mut Report, afi: u16, run: &[u8]) {
 /// The caller's loop.
 fn in_pieces(calls: Calls, afi: u16, run: &[u8], size: usize, unfinished: *mut u8) -> Walked {
     unsafe {
-        let mut pieces = (calls.start)(afi);
+        let mut pieces = (calls.start)(afi, SKIP);
         for piece in run.chunks(size) {
             let mut rest = piece;
             while !rest.is_empty() {

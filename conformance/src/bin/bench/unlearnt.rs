@@ -14,7 +14,7 @@ use conformance::{
     options::SEED,
     plain,
     random::Random,
-    second::{choice::LEAST_OUTPUT, table::MOST_PLACES},
+    second::{choice::LEAST_OUTPUT, run::SKIP, table::MOST_PLACES},
 };
 use std::{fmt::Debug, hint::black_box};
 
@@ -53,8 +53,9 @@ fn runs(report: &mut Report, random: &mut Random, afi: u16) {
     let calls = black_box(STEPS).map(|call| move |run: &mut Vec<u8>| steps(call, afi, run));
     let end = Stepped { cursor: RUN, ..Default::default() };
     row(report, &format!("steps through {RUN} {inputs}"), &mut runs, |_| (), calls, &end);
-    let calls = black_box(WALKS).map(|call| move |run: &mut Vec<u8>| unsafe { call(afi, run.as_ptr(), run.len()) });
-    let end = Walked { number: 0, count, offset: RUN as u32 };
+    let calls =
+        black_box(WALKS).map(|call| move |run: &mut Vec<u8>| unsafe { call(afi, SKIP, run.as_ptr(), run.len()) });
+    let end = Walked { number: 0, count, offset: RUN as u32, skipped: 0 };
     row(report, &format!("walk of {RUN} {inputs}"), &mut runs, |_| (), calls, &end);
 }
 

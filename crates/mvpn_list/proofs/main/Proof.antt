@@ -6,7 +6,7 @@ use Rattle.mvpn_list.proofs.main.Statement.{statement}
 use Rattle.mvpn_list.proofs.main.Tie as tie
 
 list-requires : tie.Need-list-requires
-list-requires c κs = let b = c .before .before .before .before .before .large-buffer in listingOf-fits _ (b .result) (b .ensures)
+list-requires c κs = let b = c .before .before .before .before .before .large-buffer in listingOf-fits _ _ (b .result) (b .ensures)
 
 array-share-prefix-output : tie.Need-array-share-prefix-output
 array-share-prefix-output c = front-within _ _ _ _ (c .before .list .ensures)
@@ -18,6 +18,7 @@ pub main-spec : {M : Type 1} → statement M
 main-spec =
     tie.close
     (tie.spec
+    (search needs)
     (search needs)
     (search needs)
     (search needs)

@@ -1,6 +1,6 @@
--- `mvpn_list::format::last_line` meets its contract: the opening and two fields, one straight after the other.
+-- `mvpn_list::format::last_line` meets its contract: the opening, a field and the last fields, one straight after the other.
 use denote.Ref.{now}
-use Rattle.mvpn_list.specs.Listing.{fieldOf, openingOf, lastLine}
+use Rattle.mvpn_list.specs.Listing.{fieldOf, openingOf, lastFields, lastLine}
 use Rattle.octets.proofs.Outputs.{room-first, room-second, room-third, put-three}
 use borrow.Author.Needs.{needs}
 use Rattle.mvpn_list.proofs.format.last_line.Statement.{statement}
@@ -14,13 +14,13 @@ field-requires : tie.Need-field-requires
 unfolding lastLine
 field-requires c κs = search (needs, room-second)
 
-field-requires-2 : tie.Need-field-requires-2
+last-fields-requires : tie.Need-last-fields-requires
 unfolding lastLine
-field-requires-2 c κs =
+last-fields-requires c κs =
     let a = c .before .before .before .before .before .before .before .before .before .before .args in
     let w = c .before .before .before .before .before .before .before .opening in
     let w₂ = c .before .before .before .field in
-    room-third (a .at) (openingOf (a .number)) (fieldOf (a .offset) 32) (fieldOf (a .number) 10) (now (a .output)) (c .before .before .before .before .before .before .before .before .before .before .pre) (w .result) (w .last .1 .0) (w .ensures) (w₂ .result) (w₂ .last .1 .1 .0) (w₂ .ensures)
+    room-third (a .at) (openingOf (a .number)) (fieldOf (a .offset) 32) (lastFields (a .mode) (a .number) (a .skipped)) (now (a .output)) (c .before .before .before .before .before .before .before .before .before .before .pre) (w .result) (w .last .1 .0) (w .ensures) (w₂ .result) (w₂ .last .1 .1 .0) (w₂ .ensures)
 
 returns : tie.Need-returns
 unfolding lastLine
@@ -28,10 +28,10 @@ returns c =
     let a = c .before .before .before .before .before .before .before .before .before .before .before .before .before .args in
     let w = c .before .before .before .before .before .before .before .before .before .before .opening in
     let w₂ = c .before .before .before .before .before .before .field in
-    let w₃ = c .before .before .field2 in
-    put-three (a .at) (openingOf (a .number)) (fieldOf (a .offset) 32) (fieldOf (a .number) 10) (now (a .output)) (c .before .before .before .before .before .before .before .before .before .before .before .before .before .pre) (w .result) (w .last .1 .0) (w .ensures) (w₂ .result) (w₂ .last .1 .1 .0) (w₂ .ensures) (w₃ .result) (w₃ .last .1 .1 .0) (w₃ .ensures)
+    let w₃ = c .before .before .last-fields in
+    put-three (a .at) (openingOf (a .number)) (fieldOf (a .offset) 32) (lastFields (a .mode) (a .number) (a .skipped)) (now (a .output)) (c .before .before .before .before .before .before .before .before .before .before .before .before .before .pre) (w .result) (w .last .1 .0) (w .ensures) (w₂ .result) (w₂ .last .1 .1 .0) (w₂ .ensures) (w₃ .result) (w₃ .last .1 .1 .1 .0) (w₃ .ensures)
 
 pub last-line-spec : {M : Type 1} → statement M
 last-line-spec =
     tie.close
-    (tie.spec opening-requires field-requires field-requires-2 (search needs) returns)
+    (tie.spec opening-requires field-requires last-fields-requires (search needs) returns)

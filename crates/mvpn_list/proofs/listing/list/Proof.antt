@@ -20,7 +20,7 @@ returns c =
     let a = c .before .before .before .before .before .before .before .before .before .before .args in
     let w = c .before .before .before .before .before .before .header in
     let w₂ = c .before .before .lines in
-    front-both headerLine (linesOf (now (a .run))) (now (a .output)) (c .before .before .before .before .before .before .before .before .before .before .pre) (w .result) (w .last .0) (w .ensures) (w₂ .result) (w₂ .last .1 .0) (w₂ .ensures)
+    front-both headerLine (linesOf (a .mode) (now (a .run))) (now (a .output)) (c .before .before .before .before .before .before .before .before .before .before .pre) (w .result) (w .last .0) (w .ensures) (w₂ .result) (w₂ .last .1 .1 .0) (w₂ .ensures)
 
 pub list-spec : {M : Type 1} → statement M
 list-spec = tie.close (tie.spec header-requires lines-requires (search needs) returns)

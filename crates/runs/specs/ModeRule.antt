@@ -1,0 +1,62 @@
+-- What holds of the walk by its mode (document 02, W-206), said of the run's octets. Proved in proofs/ModeRule.antt.
+use Prim.Native.Nat.{ℕ, _+_, _≤_}
+use mathlib.Core.Path.{_≡_}
+use mathlib.Core.List.{List, [], _∷_, _++_}
+use mathlib.Core.Logic.{_≢_}
+use lib.ListN.{length}
+use Rattle.octets.specs.Numbers.{TYPE}
+use Rattle.octets.specs.Outcome.{given}
+use Rattle.octets.specs.Octets.{AllOctets}
+use Rattle.nlri.specs.Family.{familyBits}
+use Rattle.nlri.specs.Fields.{Fields, encodeNlri, WellFormed}
+use Rattle.nlri.specs.Statements.{KnownType}
+use Rattle.runs.specs.Walking.{walkedWith, walkedTo, walkOf, NlriRead, nlrisOf}
+use Rattle.runs.specs.Statements.{RunEnd, StepRefusal}
+use Rattle.runs.specs.Modes.{SKIP, walkBy, nlrisBy}
+
+-- an NLRI of a run: its fields, and the offset where their encoding begins
+pub record FieldsAt : Type 0 where
+  pub offset : ℕ
+  pub fields : Fields
+
+-- their encodings
+unfoldable pub encodings : List FieldsAt → List NlriRead
+encodings [] = []
+encodings (f ∷ fs) = record { offset = f .offset; octets = encodeNlri (f .fields) } ∷ encodings fs
+
+-- a run from an offset on, with its figures: its NLRIs; how many unknown types stand between them, each with its Length and that many octets; and
+-- where and why it ends: with nothing, or with octets that NLRI reading refuses otherwise
+pub data SkippingRun (bits : ℕ) : (at : ℕ) → List ℕ → (nlris : List FieldsAt) → (number offset skipped : ℕ) → Type 0 where
+  end : {at number : ℕ} {run : List ℕ} → RunEnd bits run number → number ≢ TYPE → SkippingRun bits at run [] number at 0
+  nlri : {at number offset skipped : ℕ} {rest : List ℕ} {nlris : List FieldsAt} (f : Fields) → WellFormed bits f
+      → SkippingRun bits (at + length (encodeNlri f)) rest nlris number offset skipped
+      → SkippingRun bits at (encodeNlri f ++ rest) (record { offset = at; fields = f } ∷ nlris) number offset skipped
+  unknown : {at number offset skipped : ℕ} {rest : List ℕ} {nlris : List FieldsAt} (type : ℕ) (body : List ℕ) → (KnownType type → ⊥)
+      → SkippingRun bits (at + (2 + length body)) rest nlris number offset skipped
+      → SkippingRun bits at (type ∷ (length body ∷ (body ++ rest))) nlris number offset (skipped + 1)
+
+-- such a run, whatever its figures
+pub record Split (bits at : ℕ) (run : List ℕ) : Type 0 where
+  pub nlris : List FieldsAt
+  pub number : ℕ
+  pub offset : ℕ
+  pub skipped : ℕ
+  pub is : SkippingRun bits at run nlris number offset skipped
+
+-- "Unknown route types are stepped over"
+pub record ModeRule : Type 0 where
+  -- every mode but SKIP is the walk as it was, of which `walkRule` speaks
+  pub old : (afi mode : ℕ) (run : List ℕ) → mode ≢ SKIP → (walkBy afi mode run ≡ walkOf afi run) × (nlrisBy afi mode run ≡ nlrisOf afi run)
+  -- which skips nothing
+  pub none : (afi : ℕ) (run : List ℕ) → walkOf afi run .skipped ≡ 0
+  -- every run of octets is NLRIs and unknown types, and then its end
+  pub splits : (afi bits : ℕ) (run : List ℕ) → familyBits afi ≡ given bits → AllOctets run → Split bits 0 run
+  -- the walk that skips has exactly the figures of such a run, and reads its NLRIs where they stand
+  pub skips : (afi bits : ℕ) (run : List ℕ) (s : Split bits 0 run) → familyBits afi ≡ given bits → AllOctets run → length run ≤ 4096
+      → (walkBy afi SKIP run ≡ walkedWith (s .number) (length (s .nlris)) (s .offset) (s .skipped)) × (nlrisBy afi SKIP run ≡ encodings (s .nlris))
+  -- where the walk as it was meets no unknown type, each mode is that walk
+  pub agree : (afi mode : ℕ) (run : List ℕ) → walkOf afi run .number ≢ TYPE → (walkBy afi mode run ≡ walkOf afi run) × (nlrisBy afi mode run ≡ nlrisOf afi run)
+  -- where the first step refuses otherwise, as it does a bad AFI and a run that is too long, nothing is read or skipped
+  pub refuses : (afi mode : ℕ) (run : List ℕ) (n : ℕ) → AllOctets run → StepRefusal afi run 0 n → n ≢ TYPE → walkBy afi mode run ≡ walkedTo n 0 0
+  -- of every run each mode reads as many NLRIs as it counts
+  pub counted : (afi mode : ℕ) (run : List ℕ) → walkBy afi mode run .count ≡ length (nlrisBy afi mode run)
