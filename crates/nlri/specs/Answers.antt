@@ -12,6 +12,7 @@ use Rattle.nlri.specs.declared.address.Address.{Address}
 use Rattle.nlri.specs.declared.address.RouteDistinguisher.{RouteDistinguisher}
 use Rattle.nlri.specs.declared.fields.Nlri.{Nlri}
 use Rattle.nlri.specs.declared.fields.NlriReading.{NlriReading}
+use Rattle.nlri.specs.Bodies.{key, bodyOf, hasField}
 use Rattle.nlri.specs.Fields.{Fields}
 
 -- an address as a struct: its octets, then zeros, and its size
@@ -44,7 +45,7 @@ nlriStruct f =
 
 -- the fields that an NLRI struct and a key's octets stand for
 unfoldable pub structFields : Nlri → List ℕ → Fields
-structFields nlri key =
+structFields nlri keyOctets =
     record {
       type = nlri .«route_type»;
       distinguisher = nlri .distinguisher .octets;
@@ -52,7 +53,7 @@ structFields nlri key =
       source = addressOctets (nlri .source);
       group = addressOctets (nlri .group);
       originator = addressOctets (nlri .originator);
-      key = key;
+      key = keyOctets;
     }
 
 -- no fields
@@ -61,7 +62,7 @@ noFields = record { type = 0; distinguisher = []; sourceAs = 0; source = []; gro
 
 -- a key stands straight after the header
 unfoldable pub keySpan : Fields → Span
-keySpan f = record { start = pick (eqb (f .type) 4) 2 0; size = length (f .key) }
+keySpan f = record { start = pick (hasField key (bodyOf (f .type))) 2 0; size = length (f .key) }
 
 -- the answer of reading a single NLRI: on a refusal its number and empty fields
 unfoldable pub nlriAnswer : Outcome Fields → NlriReading

@@ -1,9 +1,9 @@
 -- The table of bodies (document 01, "NLRI on the wire"), as data.
-use Prim.Native.Nat.{ℕ}
+use Prim.Native.Nat.{ℕ, _≤_}
 use mathlib.Core.Bool.{Bool, false}
 use mathlib.Core.List.{List, [], _∷_}
-use lib.Dec.{eqb}
-use Rattle.octets.specs.Choice.{pick, either}
+use lib.Dec.{leb, eqb}
+use Rattle.octets.specs.Choice.{pick, both, either}
 
 -- the kinds of fields
 pub data FieldKind : Type 0 where
@@ -24,6 +24,14 @@ bodies =
     ∷ row 6 (distinguisher ∷ sourceAs ∷ source ∷ group ∷ [])
     ∷ row 7 (distinguisher ∷ sourceAs ∷ source ∷ group ∷ [])
     ∷ []
+
+-- a route type that there is
+abbrev pub KnownType : ℕ → Type 0
+KnownType type = (1 ≤ type) × (type ≤ 7)
+
+-- whether an NLRI of a type may stand in the key of another's: in a Leaf's those of type 1, 2 and 3
+unfoldable pub keyable : (type inKey : ℕ) → Bool
+keyable type inKey = both (eqb type 4) (leb inKey 3)
 
 -- what `next` makes of the body of a route type, or `other` where no row has the type
 unfoldable pub onBody : {B : Type 0} → List Row → ℕ → B → (List FieldKind → B) → B

@@ -7,7 +7,7 @@ use lib.ListN.{length}
 use Rattle.octets.specs.Choice.{pick}
 use Rattle.octets.specs.Octets.{AllOctets, bigEndian}
 use Rattle.nlri.specs.Family.{allowed, isOriginatorSize}
-use Rattle.nlri.specs.Bodies.{FieldKind, distinguisher, sourceAs, source, group, originator, key, bodyOf, hasField}
+use Rattle.nlri.specs.Bodies.{FieldKind, distinguisher, sourceAs, source, group, originator, key, KnownType, bodyOf, hasField}
 
 -- the fields of an NLRI as lists of octets; a wildcard is no octets, and so is a field that the type lacks
 pub record Fields : Type 0 where
@@ -41,34 +41,38 @@ encodeBody f (k ∷ body) = encodeField f k ++ encodeBody f body
 unfoldable pub encodeNlri : Fields → List ℕ
 encodeNlri f = f .type ∷ length (encodeBody f (bodyOf (f .type))) ∷ encodeBody f (bodyOf (f .type))
 
--- a field of the size that the type and the family's bits allow, its octets octets; of a key, what `Key` says
-abbrev pub WellFormedField : (List ℕ → Type 0) → ℕ → Fields → FieldKind → Type 0
+-- a field of the size that the type and the family's bits allow, its octets octets; of a key, what `Key` says of it in that type
+abbrev pub WellFormedField : (ℕ → List ℕ → Type 0) → ℕ → Fields → FieldKind → Type 0
 WellFormedField Key bits f distinguisher = (length (f .distinguisher) ≡ 8) × AllOctets (f .distinguisher)
 WellFormedField Key bits f sourceAs = f .sourceAs < 2 ^ 32
 WellFormedField Key bits f source = (allowed bits (f .type) (8 * length (f .source)) ≡ true) × AllOctets (f .source)
 WellFormedField Key bits f group = (allowed bits (f .type) (8 * length (f .group)) ≡ true) × AllOctets (f .group)
 WellFormedField Key bits f originator = (isOriginatorSize (length (f .originator)) ≡ true) × AllOctets (f .originator)
-WellFormedField Key bits f key = Key (f .key)
+WellFormedField Key bits f key = Key (f .type) (f .key)
 
 -- every field of a body is well-formed
-abbrev pub WellFormedBody : (List ℕ → Type 0) → ℕ → Fields → List FieldKind → Type 0
+abbrev pub WellFormedBody : (ℕ → List ℕ → Type 0) → ℕ → Fields → List FieldKind → Type 0
 WellFormedBody Key bits f [] = Unit {0}
 WellFormedBody Key bits f (k ∷ body) = WellFormedField Key bits f k × WellFormedBody Key bits f body
 
 -- no octets are a key: of the NLRIs that may stand in a key, none has a key
-abbrev pub NoKey : List ℕ → Type 0
-NoKey octets = ⊥
+abbrev pub NoKey : ℕ → List ℕ → Type 0
+NoKey type octets = ⊥
 
--- octets that are a whole NLRI of type 1, 2 or 3 of the same family, header included
-pub record KeyOf (bits : ℕ) (octets : List ℕ) : Type 0 where
+-- the types of NLRIs that may stand in the key of a type: in a Leaf's 1, 2 and 3
+pub data KeyType : (type inKey : ℕ) → Type 0 where
+  leaf : {inKey : ℕ} → 1 ≤ inKey → inKey ≤ 3 → KeyType 4 inKey
+
+-- octets that are the key of an NLRI of a type: a whole NLRI of the same family, header included
+pub record KeyOf (bits type : ℕ) (octets : List ℕ) : Type 0 where
   pub fields : Fields
-  pub typed : (1 ≤ fields .type) × (fields .type ≤ 3)
+  pub typed : KeyType type (fields .type)
   pub wellFormed : WellFormedBody NoKey bits fields (bodyOf (fields .type))
   pub encoded : octets ≡ encodeNlri fields
 
--- fields of an NLRI of type 1 to 7 of which every field of its body is well-formed
+-- fields of an NLRI of a known type of which every field of its body is well-formed
 pub record WellFormed (bits : ℕ) (f : Fields) : Type 0 where
-  pub typed : (1 ≤ f .type) × (f .type ≤ 7)
+  pub typed : KnownType (f .type)
   pub body : WellFormedBody (KeyOf bits) bits f (bodyOf (f .type))
 
 -- f with the fields that its type lacks emptied

@@ -1,7 +1,7 @@
 -- Definitions that mirror the inner functions of reading, and those that lead from them to document 01's in `Reading`; laws tie them together.
 use Prim.Native.Nat.{ℕ, _+_, _-_, _/_, _≤_, _<_}
 use mathlib.Core.Path.{_≡_}
-use mathlib.Core.Bool.{Bool, true}
+use mathlib.Core.Bool.{Bool, true, false}
 use mathlib.Core.List.{List, [], _∷_}
 use lib.ListN.{length, getD, drop}
 use lib.Dec.{ltb, leb, eqb}
@@ -15,7 +15,7 @@ use Rattle.nlri.specs.declared.family.Family.{Family}
 use Rattle.nlri.specs.declared.family.Family.the-variants.{Known, Unknown}
 use Rattle.nlri.specs.declared.read.Header.{Header}
 use Rattle.nlri.specs.declared.read.Header.the-variants.{Typed, Unread}
-use Rattle.nlri.specs.Bodies.{FieldKind, source, group, originator, key, bodies, onBody}
+use Rattle.nlri.specs.Bodies.{FieldKind, source, group, originator, key, bodies, onBody, bodyOf, hasField}
 use Rattle.nlri.specs.Fields.{Fields}
 use Rattle.nlri.specs.Reading.{fieldSize, sizesOf, keyField}
 use Rattle.nlri.specs.Layouts.{layoutAt}
@@ -62,6 +62,10 @@ headerAt s =
     pick (ltb (length s) 2) (refused SHORT)
     (pick (ltb (length s - 2) (getD s 1 0)) (refused SHORT) (given (getD s 0 0, getD s 1 0)))
 
+-- whether a key stands first
+unfoldable pub withKey : ℕ → Bool
+withKey type = eqb type 4
+
 -- whether a source AS stands behind the route distinguisher
 unfoldable pub withSourceAs : ℕ → Bool
 withSourceAs type = either (eqb type 2) (either (eqb type 6) (eqb type 7))
@@ -79,16 +83,16 @@ unfoldable pub flowLayout : (type at : ℕ) → List ℕ → Layout
 flowLayout type at s =
     layoutWith type (getD s 1 0) (sizeAt s at) (sizeAt s (at + 1 + sizeAt s at)) (getD s 1 0 - at - sizeAt s at - sizeAt s (at + 1 + sizeAt s at)) 0
 
--- the layout of an accepted Leaf by its octets
-unfoldable pub leafLayout : List ℕ → Layout
-leafLayout s = layoutWith 4 (getD s 1 0) 0 0 (getD s 1 0 - (2 + getD s 3 0)) (2 + getD s 3 0)
+-- the layout of an accepted NLRI with a key by its octets
+unfoldable pub leafLayout : ℕ → List ℕ → Layout
+leafLayout type s = layoutWith type (getD s 1 0) 0 0 (getD s 1 0 - (2 + getD s 3 0)) (2 + getD s 3 0)
 
 -- the layout of an accepted NLRI by its octets
 unfoldable pub layoutIn : List ℕ → Layout
 layoutIn s =
     pick (eqb (getD s 0 0) 1) (layoutWith 1 (getD s 1 0) 0 0 (getD s 1 0 - 8) 0)
     (pick (eqb (getD s 0 0) 2) (layoutWith 2 (getD s 1 0) 0 0 0 0)
-    (pick (eqb (getD s 0 0) 4) (leafLayout s) (flowLayout (getD s 0 0) (sourceStart (getD s 0 0) - 1) s)))
+    (pick (withKey (getD s 0 0)) (leafLayout (getD s 0 0) s) (flowLayout (getD s 0 0) (sourceStart (getD s 0 0) - 1) s)))
 
 -- source and group lie within the body
 pub record FlowStands (at : ℕ) (s : List ℕ) : Type 0 where
@@ -99,12 +103,12 @@ pub record FlowStands (at : ℕ) (s : List ℕ) : Type 0 where
 pub record Stands (s : List ℕ) : Type 0 where
   pub header : 2 ≤ length s
   pub intraAs : getD s 0 0 ≡ 1 → 8 ≤ getD s 1 0
-  pub leaf : getD s 0 0 ≡ 4 → (4 ≤ length s) × (2 + getD s 3 0 ≤ getD s 1 0)
-  pub flow : (getD s 0 0 ≡ 1 → ⊥) → (getD s 0 0 ≡ 2 → ⊥) → (getD s 0 0 ≡ 4 → ⊥) → FlowStands (sourceStart (getD s 0 0) - 1) s
+  pub leaf : withKey (getD s 0 0) ≡ true → (4 ≤ length s) × (2 + getD s 3 0 ≤ getD s 1 0)
+  pub flow : (getD s 0 0 ≡ 1 → ⊥) → (getD s 0 0 ≡ 2 → ⊥) → withKey (getD s 0 0) ≡ false → FlowStands (sourceStart (getD s 0 0) - 1) s
 
--- the route distinguisher of an NLRI; a Leaf has none
+-- the route distinguisher of an NLRI; one with a key has none
 unfoldable pub distinguisherAt : ℕ → List ℕ → List ℕ
-distinguisherAt type s = pick (eqb type 4) [] (part s 2 8)
+distinguisherAt type s = pick (withKey type) [] (part s 2 8)
 
 -- the source AS of an NLRI, or 0 where its type has none
 unfoldable pub sourceAsAt : ℕ → List ℕ → ℕ
@@ -125,16 +129,17 @@ fieldsAt l s =
 
 -- a key stands straight after the header
 unfoldable pub keyAt : Layout → Span
-keyAt l = record { start = pick (eqb (l .«route_type») 4) 2 0; size = l .key }
+keyAt l = record { start = pick (withKey (l .«route_type»)) 2 0; size = l .key }
 
 -- a layout's fields lie within the NLRI, and have the sizes of addresses
 pub record LayoutWithin (l : Layout) (s : List ℕ) : Type 0 where
-  pub typed : l .«route_type» ≤ 7
-  pub distinguished : (l .«route_type» ≡ 4 → ⊥) → 10 ≤ length s
+  pub typed : l .«route_type» < 256
+  pub distinguished : withKey (l .«route_type») ≡ false → 10 ≤ length s
   pub numbered : withSourceAs (l .«route_type») ≡ true → 14 ≤ length s
   pub source : (l .source ≤ 16) × (0 < l .source → sourceStart (l .«route_type») + l .source ≤ length s)
   pub group : (l .group ≤ 16) × (0 < l .group → sourceStart (l .«route_type») + l .source + 1 + l .group ≤ length s)
   pub originator : (l .originator ≤ 16) × (l .originator ≤ length s)
+  pub keyed : hasField key (bodyOf (l .«route_type»)) ≡ withKey (l .«route_type»)
   pub key : 2 + l .key ≤ length s
 
 -- nothing stands behind the NLRI

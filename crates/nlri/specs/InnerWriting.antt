@@ -34,7 +34,7 @@ originatorFits type size = pick (hasOriginator type) (isOriginatorSize size) tru
 
 -- a Leaf's key is exactly one NLRI of type 1, 2 or 3
 unfoldable pub leafFits : (bits type : ℕ) → List ℕ → Bool
-leafFits bits type key = pick (eqb type 4) (isKey bits key) true
+leafFits bits type key = pick (eqb type 4) (isKey bits 4 key) true
 
 -- an NLRI whose fields fit: TYPE, WIDTH, KEY
 unfoldable pub fitting : ℕ → Nlri → List ℕ → Outcome Nlri

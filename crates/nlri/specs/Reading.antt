@@ -9,7 +9,7 @@ use Rattle.octets.specs.Choice.{pick}
 use Rattle.octets.specs.Outcome.{Outcome, given, refused, onOutcome, unless, andThen}
 use Rattle.octets.specs.Octets.{part, numberIn}
 use Rattle.nlri.specs.Family.{familyBits, allowed, isOriginatorSize}
-use Rattle.nlri.specs.Bodies.{FieldKind, distinguisher, sourceAs, source, group, originator, key, bodies, onBody, fieldIn}
+use Rattle.nlri.specs.Bodies.{FieldKind, distinguisher, sourceAs, source, group, originator, key, keyable, bodies, onBody, fieldIn}
 use Rattle.nlri.specs.Fields.{Fields}
 
 -- a field of n octets, n known
@@ -31,14 +31,14 @@ addressField bits type s =
 unfoldable pub originatorField : List ℕ → Outcome ℕ
 originatorField s = unless (isOriginatorSize (length s)) LENGTH (given (length s))
 
--- how many octets the field at the front of s takes, or the number that refuses it; `keyField` judges a key
-unfoldable pub fieldSize : (List ℕ → Outcome ℕ) → (bits type : ℕ) → FieldKind → List ℕ → Outcome ℕ
+-- how many octets the field at the front of s takes, or the number that refuses it; `keyField` judges the key of a type
+unfoldable pub fieldSize : (ℕ → List ℕ → Outcome ℕ) → (bits type : ℕ) → FieldKind → List ℕ → Outcome ℕ
 fieldSize keyField bits type distinguisher s = fixedField 8 s
 fieldSize keyField bits type sourceAs s = fixedField 4 s
 fieldSize keyField bits type source s = addressField bits type s
 fieldSize keyField bits type group s = addressField bits type s
 fieldSize keyField bits type originator s = originatorField s
-fieldSize keyField bits type key s = keyField s
+fieldSize keyField bits type key s = keyField type s
 
 -- the sizes of a body's fields from left to right, the first fault deciding; nothing may remain
 unfoldable pub sizesOf : (FieldKind → List ℕ → Outcome ℕ) → List FieldKind → List ℕ → Outcome (List ℕ)
@@ -53,7 +53,7 @@ pub record Laid : Type 0 where
   pub sizes : List ℕ
 
 -- the NLRI at the front of s: SHORT, TYPE, then its body
-unfoldable pub laidWith : (List ℕ → Outcome ℕ) → ℕ → List ℕ → Outcome Laid
+unfoldable pub laidWith : (ℕ → List ℕ → Outcome ℕ) → ℕ → List ℕ → Outcome Laid
 laidWith keyField bits s =
     pick (ltb (length s) 2) (refused SHORT)
     (pick (ltb (length s - 2) (getD s 1 0)) (refused SHORT)
@@ -62,13 +62,13 @@ laidWith keyField bits s =
     (λ sizes. given (record { type = getD s 0 0; size = getD s 1 0; body = body; sizes = sizes })))))
 
 -- a key inside an NLRI that may stand in a key: there is none
-unfoldable pub noKey : List ℕ → Outcome ℕ
-noKey s = refused KEY
+unfoldable pub noKey : ℕ → List ℕ → Outcome ℕ
+noKey type s = refused KEY
 
--- a key is a whole NLRI of type 1, 2 or 3, header included; any fault inside it is KEY
-unfoldable pub keyField : ℕ → List ℕ → Outcome ℕ
-keyField bits s =
-    onOutcome (λ fault. refused KEY) (λ laid. pick (ltb 3 (laid .type)) (refused KEY) (given (2 + laid .size)))
+-- the key of a type is a whole NLRI of a type that may stand there, header included; any fault inside it is KEY
+unfoldable pub keyField : (bits type : ℕ) → List ℕ → Outcome ℕ
+keyField bits type s =
+    onOutcome (λ fault. refused KEY) (λ laid. unless (keyable type (laid .type)) KEY (given (2 + laid .size)))
     (laidWith noKey bits s)
 
 -- the NLRI at the front of s, of any type

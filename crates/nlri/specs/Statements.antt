@@ -9,7 +9,7 @@ use Rattle.octets.specs.Numbers.{DONE, SHORT, TYPE, LENGTH, WIDTH, KEY, FAMILY,
 use Rattle.octets.specs.Outcome.{given, refused}
 use Rattle.octets.specs.Octets.{AllOctets, part}
 use Rattle.nlri.specs.Family.{familyBits, allowed, isOriginatorSize}
-use Rattle.nlri.specs.Bodies.{FieldKind, distinguisher, sourceAs, source, group, originator, key, bodyOf, hasField}
+use Rattle.nlri.specs.Bodies.{FieldKind, distinguisher, sourceAs, source, group, originator, key, KnownType, bodyOf, hasField}
 use Rattle.nlri.specs.Fields.{Fields, encodeNlri, WellFormed, KeyOf, restricted}
 use Rattle.nlri.specs.Reading.{laidAt, readNlri}
 use Rattle.nlri.specs.Layouts.{readingOf, layoutSingle}
@@ -103,7 +103,7 @@ FieldAt bits type sourceAs x t = length x ≡ 4
 FieldAt bits type source x t = AddressAt bits type x
 FieldAt bits type group x t = AddressAt bits type x
 FieldAt bits type originator x t = (isOriginatorSize (length x) ≡ true) × (t ≡ [])
-FieldAt bits type key x t = KeyOf bits x
+FieldAt bits type key x t = KeyOf bits type x
 
 -- the fault of a source or group where s is what remains of the body: a missing length octet; a bad one, before its address is looked for; an end inside the address
 pub data AddressFault (bits type : ℕ) (s : List ℕ) : ℕ → Type 0 where
@@ -118,7 +118,7 @@ Fault bits type sourceAs s n = (length s < 4) × (n ≡ LENGTH)
 Fault bits type source s n = AddressFault bits type s n
 Fault bits type group s n = AddressFault bits type s n
 Fault bits type originator s n = (isOriginatorSize (length s) ≡ false) × (n ≡ LENGTH)
-Fault bits type key s n = ((size : ℕ) → size ≤ length s → KeyOf bits (take size s) → ⊥) × (n ≡ KEY)
+Fault bits type key s n = ((size : ℕ) → size ≤ length s → KeyOf bits type (take size s) → ⊥) × (n ≡ KEY)
 
 -- the first fault of a body from left to right: octets remain after its last field, its first field faults, or its first field stands and a later one faults
 pub data Faulty (bits type : ℕ) : List FieldKind → List ℕ → ℕ → Type 0 where
@@ -129,10 +129,6 @@ pub data Faulty (bits type : ℕ) : List FieldKind → List ℕ → ℕ → Type
 -- fewer octets than the header, or than the Length field, asks
 abbrev pub TooShort : List ℕ → Type 0
 TooShort s = (length s < 2) ⊎ (length s - 2 < getD s 1 0)
-
--- a route type that there is
-abbrev pub KnownType : ℕ → Type 0
-KnownType type = (1 ≤ type) × (type ≤ 7)
 
 -- why reading the NLRI at the front of octets refuses: SHORT, TYPE, then the body
 pub data FrontRefusal (bits : ℕ) (s : List ℕ) : ℕ → Type 0 where
@@ -195,7 +191,7 @@ pub data WriteRefusal (afi : ℕ) (f : Fields) (space : ℕ) : ℕ → Type 0 wh
   badType : (bits : ℕ) → familyBits afi ≡ given bits → (KnownType (f .type) → ⊥) → WriteRefusal afi f space TYPE
   badWidth : (bits : ℕ) → familyBits afi ≡ given bits → KnownType (f .type) → (k : FieldKind) → hasField k (bodyOf (f .type)) ≡ true → WidthFault bits f k → WriteRefusal afi f space WIDTH
   badKey : (bits : ℕ) → familyBits afi ≡ given bits → KnownType (f .type) → ((k : FieldKind) → hasField k (bodyOf (f .type)) ≡ true → WidthFault bits f k → ⊥)
-      → hasField key (bodyOf (f .type)) ≡ true → (KeyOf bits (f .key) → ⊥) → WriteRefusal afi f space KEY
+      → hasField key (bodyOf (f .type)) ≡ true → (KeyOf bits (f .type) (f .key) → ⊥) → WriteRefusal afi f space KEY
   noSpace : (bits : ℕ) → familyBits afi ≡ given bits → WellFormed bits f → space < length (encodeNlri f) → WriteRefusal afi f space SPACE
 
 -- "The numbers a call gives back", at NLRI writing: well-formed fields are written where there is space, and any others are refused by one number

@@ -26,9 +26,9 @@ unfoldable pub widthsFit : ℕ → Fields → List FieldKind → Bool
 widthsFit bits f [] = true
 widthsFit bits f (k ∷ body) = both (widthFits bits f k) (widthsFit bits f body)
 
--- octets that are exactly one key
-unfoldable pub isKey : ℕ → List ℕ → Bool
-isKey bits octets = onOutcome (λ fault. false) (λ size. eqb size (length octets)) (keyField bits octets)
+-- octets that are exactly one key of a type
+unfoldable pub isKey : (bits type : ℕ) → List ℕ → Bool
+isKey bits type octets = onOutcome (λ fault. false) (λ size. eqb size (length octets)) (keyField bits type octets)
 
 -- a field that is a key holds exactly one key
 unfoldable pub keyFits : ℕ → Fields → FieldKind → Bool
@@ -37,7 +37,7 @@ keyFits bits f sourceAs = true
 keyFits bits f source = true
 keyFits bits f group = true
 keyFits bits f originator = true
-keyFits bits f key = isKey bits (f .key)
+keyFits bits f key = isKey bits (f .type) (f .key)
 
 -- every key of a body fits
 unfoldable pub keysFit : ℕ → Fields → List FieldKind → Bool

@@ -1,13 +1,13 @@
 // The fields of an NLRI, copied out of it by its layout.
 ghost use mathlib.Core.Path.{_≡_};
-ghost use mathlib.Core.Bool.{true};
+ghost use mathlib.Core.Bool.{true, false};
 ghost use Prim.Native.Nat.{_+_, _≤_, _<_};
 ghost use lib.ListN.{length};
 ghost use Rattle.octets.specs.Octets.{part};
 ghost use Rattle.octets.specs.Outcome.{refused};
 ghost use Rattle.nlri.specs.Reading.{readNlri};
 ghost use Rattle.nlri.specs.Answers.{addressStruct, distinguisherStruct, nlriStruct, nlriAnswer};
-ghost use Rattle.nlri.specs.Inner.{withSourceAs, sourceStart, distinguisherAt, sourceAsAt, fieldsAt, keyAt, LayoutWithin};
+ghost use Rattle.nlri.specs.Inner.{withKey, withSourceAs, sourceStart, distinguisherAt, sourceAsAt, fieldsAt, keyAt, LayoutWithin};
 use crate::address::Address;
 use crate::address::AddressKind;
 use crate::address::RouteDistinguisher;
@@ -52,13 +52,20 @@ fn address_at(s: &[u8], start: usize, size: usize) -> Address
     AddressKind::ipv6().address(octets::parts::between(s, start, size))
 }
 
-// The route distinguisher, which stands behind the header; zeros of a Leaf, which has none.
+// A Leaf has a key, straight after the header, and no route distinguisher.
+pub(crate) fn has_key(route_type: usize) -> bool
+    ensures { λ r. ⌜ r ≡ withKey «route_type» ⌝ }
+{
+    route_type == RouteType::LEAF
+}
+
+// The route distinguisher, which stands behind the header; zeros where the type has a key instead.
 fn distinguisher_in(route_type: usize, s: &[u8]) -> RouteDistinguisher
-    requires { ⌜ ((«route_type» ≡ 4 → ⊥) → 10 ≤ length (now s)) ⌝ }
+    requires { ⌜ (withKey «route_type» ≡ false → 10 ≤ length (now s)) ⌝ }
     ensures { λ r. ⌜ r ≡ distinguisherStruct (distinguisherAt «route_type» (now (s .entry))) ⌝ }
 {
     let mut octets = [0u8; 8];
-    if route_type == RouteType::LEAF {
+    if has_key(route_type) {
         return RouteDistinguisher { octets };
     }
     bytes::copy(
@@ -145,7 +152,7 @@ fn refusal(number: u32) -> NlriReading
 fn key_in(layout: Layout) -> Span
     ensures { λ r. ⌜ r ≡ keyAt layout ⌝ }
 {
-    if layout.route_type == RouteType::LEAF {
+    if has_key(layout.route_type) {
         return Span {
             start: HEADER,
             size: layout.key,

@@ -45,7 +45,7 @@ fn read_header(s: &[u8]) -> Header
 
 // The key at the front of `s`, a whole NLRI of type 1, 2 or 3: its type and Length, or a number that refuses it.
 fn read_key(kind: AddressKind, s: &[u8]) -> Header
-    ensures { λ r. ⌜ keyOutcome r ≡ keyField (kind .bits) (now (s .entry)) ⌝ }
+    ensures { λ r. ⌜ keyOutcome r ≡ keyField (kind .bits) 4 (now (s .entry)) ⌝ }
 {
     match read_header(s) {
         Header::Unread(number) => Header::Unread(number),
@@ -122,15 +122,15 @@ fn flow_layout(route_type: usize, at: usize, s: &[u8]) -> Layout
     }
 }
 
-// The layout of a Leaf, by its Length and that of its key.
-fn leaf_layout(s: &[u8]) -> Layout
+// The layout of an NLRI with a key, by its Length and that of its key.
+fn leaf_layout(route_type: usize, s: &[u8]) -> Layout
     requires { ⌜ (4 ≤ length (now s)) × (2 + getD (now s) 3 0 ≤ getD (now s) 1 0) ⌝ }
-    ensures { λ r. ⌜ r ≡ leafLayout (now (s .entry)) ⌝ }
+    ensures { λ r. ⌜ r ≡ leafLayout «route_type» (now (s .entry)) ⌝ }
 {
     let length = s[1] as usize;
     let key = HEADER + s[HEADER + 1] as usize;
     Layout {
-        route_type: RouteType::LEAF,
+        route_type,
         length,
         source: 0,
         group: 0,
@@ -172,8 +172,8 @@ fn layout_in(s: &[u8]) -> Layout
     if route_type == RouteType::INTER_AS_I_PMSI {
         return plain_layout(RouteType::INTER_AS_I_PMSI, 0, s);
     }
-    if route_type == RouteType::LEAF {
-        return leaf_layout(s);
+    if fields::has_key(route_type) {
+        return leaf_layout(route_type, s);
     }
     flow_layout(route_type, fields::source_start(route_type) - 1, s)
 }

@@ -87,7 +87,7 @@ fn key_fits(kind: AddressKind, route_type: usize, key: &[u8]) -> bool
 
 // Octets that are exactly one key, judged as a Leaf's key is when it is read.
 fn is_key(kind: AddressKind, key: &[u8]) -> bool
-    ensures { λ r. ⌜ r ≡ isKey (kind .bits) (now (key .entry)) ⌝ }
+    ensures { λ r. ⌜ r ≡ isKey (kind .bits) 4 (now (key .entry)) ⌝ }
 {
     read::keyed_fault(kind, true, key) == DONE
 }

@@ -13,10 +13,11 @@ use Rattle.octets.proofs.Choice.{opposite}
 use Rattle.octets.proofs.Outcome.{never, passed, given-same, stopped}
 use Rattle.octets.proofs.AllOctets.{octets-drop}
 use Rattle.nlri.specs.declared.layout.Layout.{Layout}
+use Rattle.nlri.specs.Bodies.{KnownType}
 use Rattle.nlri.specs.Fields.{Fields, encodeNlri}
 use Rattle.nlri.specs.Reading.{keyField, laidAt}
 use Rattle.nlri.specs.Layouts.{layoutOf, layoutAt}
-use Rattle.nlri.specs.Statements.{KnownType, layoutFor}
+use Rattle.nlri.specs.Statements.{layoutFor}
 use Rattle.nlri.proofs.Definitions.Lengths.{good-family, family-good}
 use Rattle.nlri.proofs.Definitions.Whole.{laid-out}
 use Rattle.nlri.proofs.Statements.Faults.{family-refused, family-refuses}
@@ -36,7 +37,7 @@ unfolding layoutAt laidAt layoutOf
 layout-typed bits s l e =
     let p = passed _ _ _ e in
     let o = laid-out (keyField bits) bits s (p .value) (p .first) in
-    subst KnownType (ap (λ (x : Layout). x .«route_type») (given-same (p .second))) (o .row .low, o .row .high)
+    subst KnownType (ap (λ (x : Layout). x .«route_type») (given-same (p .second))) (o .row .known)
 
 -- an NLRI that stands at the cursor is read
 pub step-encoded : (afi : ℕ) (run : List ℕ) (at : ℕ) (f : Fields) → EncodedAt afi run at f → stepFrom afi run at ≡ readTo (layoutFor f) (at + length (encodeNlri f))

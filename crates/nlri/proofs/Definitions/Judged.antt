@@ -22,12 +22,12 @@ use Rattle.nlri.proofs.Definitions.Table.{most}
 use Rattle.nlri.proofs.Definitions.Sizes.{fixed-is, address-is, originator-given}
 use Rattle.nlri.proofs.Definitions.Lengths.{whole-octets, allowed-most, originator-sized}
 
--- a judge of keys that says of octets how many a key at their front takes
-pub record Judges (judge : List ℕ → Outcome ℕ) (Key : List ℕ → Type 0) : Type 0 where
-  pub within : (s : List ℕ) (n : ℕ) → judge s ≡ given n → n ≤ length s
-  pub sound : (s : List ℕ) (n : ℕ) → AllOctets s → judge s ≡ given n → (n ≤ length s) × Key (take n s)
-  pub complete : (k t : List ℕ) → Key k → judge (k ++ t) ≡ given (length k)
-  pub refuses : (s : List ℕ) (n : ℕ) → judge s ≡ refused n → n ≡ KEY
+-- a judge of keys that says of octets how many the key of a type at their front takes
+pub record Judges (judge : ℕ → List ℕ → Outcome ℕ) (Key : ℕ → List ℕ → Type 0) : Type 0 where
+  pub within : (type : ℕ) (s : List ℕ) (n : ℕ) → judge type s ≡ given n → n ≤ length s
+  pub sound : (type : ℕ) (s : List ℕ) (n : ℕ) → AllOctets s → judge type s ≡ given n → (n ≤ length s) × Key type (take n s)
+  pub complete : (type : ℕ) (k t : List ℕ) → Key type k → judge type (k ++ t) ≡ given (length k)
+  pub refuses : (type : ℕ) (s : List ℕ) (n : ℕ) → judge type s ≡ refused n → n ≡ KEY
 
 -- an originator is what remains
 abbrev pub Closes : FieldKind → List ℕ → Type 0
@@ -82,28 +82,28 @@ octets-address : (bits type : ℕ) (x : List ℕ) → bits ≤ 128 → allowed b
 unfolding encodeAddress
 octets-address bits type x small e a = let h : 8 * length x < 256 = omega (arith, allowed-most bits type (8 * length x) small e) in one h a
 
-address-most : (type : ℕ) (s : List ℕ) (n : ℕ) {bits : ℕ} → bits ≤ 128 → addressField bits type s ≡ given n → n ≤ 17
+pub address-most : (type : ℕ) (s : List ℕ) (n : ℕ) {bits : ℕ} → bits ≤ 128 → addressField bits type s ≡ given n → n ≤ 17
 address-most type s n {bits} small e = let p = address-is bits type s n e in omega (arith, p .0, allowed-most bits type (getD s 0 0) small (p .2))
 
 -- a field read lies within the octets, and has at most so many
-module _ (judge : List ℕ → Outcome ℕ) (bits : ℕ) where
-  pub field-within : ((s : List ℕ) (n : ℕ) → judge s ≡ given n → n ≤ length s) → (type : ℕ) (k : FieldKind) (s : List ℕ) (n : ℕ) → fieldSize judge bits type k s ≡ given n → n ≤ length s
+module _ (judge : ℕ → List ℕ → Outcome ℕ) (bits : ℕ) where
+  pub field-within : ((type : ℕ) (s : List ℕ) (n : ℕ) → judge type s ≡ given n → n ≤ length s) → (type : ℕ) (k : FieldKind) (s : List ℕ) (n : ℕ) → fieldSize judge bits type k s ≡ given n → n ≤ length s
   unfolding fieldSize
   field-within within type distinguisher s n e = omega (arith, fixed-is 8 n s e)
   field-within within type sourceAs s n e = omega (arith, fixed-is 4 n s e)
   field-within within type source s n e = address-is bits type s n e .1
   field-within within type group s n e = address-is bits type s n e .1
   field-within within type originator s n e = omega (arith, originator-given n s e .1)
-  field-within within type key s n e = within s n e
+  field-within within type key s n e = within type s n e
 
-  pub field-most : (w : ℕ) → ((s : List ℕ) (n : ℕ) → judge s ≡ given n → n ≤ w) → bits ≤ 128 → (type : ℕ) (k : FieldKind) (s : List ℕ) (n : ℕ) → fieldSize judge bits type k s ≡ given n → n ≤ most w k
+  pub field-most : (w type : ℕ) → ((s : List ℕ) (n : ℕ) → judge type s ≡ given n → n ≤ w) → bits ≤ 128 → (k : FieldKind) (s : List ℕ) (n : ℕ) → fieldSize judge bits type k s ≡ given n → n ≤ most w k
   unfolding fieldSize most
-  field-most w bound small type distinguisher s n e = omega (arith, fixed-is 8 n s e)
-  field-most w bound small type sourceAs s n e = omega (arith, fixed-is 4 n s e)
-  field-most w bound small type source s n e = address-most type s n small e
-  field-most w bound small type group s n e = address-most type s n small e
-  field-most w bound small type originator s n e = let p = originator-given n s e in omega (arith, p .1, originator-sized (length s) (p .0))
-  field-most w bound small type key s n e = bound s n e
+  field-most w type bound small distinguisher s n e = omega (arith, fixed-is 8 n s e)
+  field-most w type bound small sourceAs s n e = omega (arith, fixed-is 4 n s e)
+  field-most w type bound small source s n e = address-most type s n small e
+  field-most w type bound small group s n e = address-most type s n small e
+  field-most w type bound small originator s n e = let p = originator-given n s e in omega (arith, p .1, originator-sized (length s) (p .0))
+  field-most w type bound small key s n e = bound s n e
 
   -- a field read is its encoding; the number in a source AS must be one of octets
   pub field-encoded : 8 * (bits / 8) ≡ bits → (type : ℕ) (k : FieldKind) (s : List ℕ) (n : ℕ) (field : FieldKind → List ℕ) → (sameKind sourceAs k ≡ true → AllOctets s)
@@ -119,7 +119,7 @@ module _ (judge : List ℕ → Outcome ℕ) (bits : ℕ) where
   field-encoded whole type originator s n field a e at = at
   field-encoded whole type key s n field a e at = at
 
-module _ (judge : List ℕ → Outcome ℕ) (Key : List ℕ → Type 0) (judges : Judges judge Key) (bits : ℕ) (whole : 8 * (bits / 8) ≡ bits) where
+module _ (judge : ℕ → List ℕ → Outcome ℕ) (Key : ℕ → List ℕ → Type 0) (judges : Judges judge Key) (bits : ℕ) (whole : 8 * (bits / 8) ≡ bits) where
   -- a field read is well-formed
   pub field-sound : (type : ℕ) (k : FieldKind) (s : List ℕ) (n : ℕ) (field : FieldKind → List ℕ) → AllOctets s → fieldSize judge bits type k s ≡ given n → field k ≡ take n s
       → WellFormedField Key bits (fieldsFrom type field) k
@@ -137,7 +137,7 @@ module _ (judge : List ℕ → Outcome ℕ) (Key : List ℕ → Type 0) (judges 
       let p = originator-given n s e in
       let l : length (field originator) ≡ length s = ap length at ∙ length-take-le n s (omega arith) ∙ p .1 in
       (rw l (p .0), subst AllOctets (sym at) (octets-take n a))
-  field-sound type key s n field a e at = subst Key (sym at) (judges .sound s n a e .1)
+  field-sound type key s n field a e at = subst (Key type) (sym at) (judges .sound type s n a e .1)
 
   -- a well-formed field that stands encoded is read
   pub field-complete : (f : Fields) (k : FieldKind) (t : List ℕ) → WellFormedField Key bits f k → Closes k t
@@ -148,13 +148,13 @@ module _ (judge : List ℕ → Outcome ℕ) (Key : List ℕ → Type 0) (judges 
   field-complete f source t w c = address-stands bits (f .type) (f .source) t (w .0)
   field-complete f group t w c = address-stands bits (f .type) (f .group) t (w .0)
   field-complete f originator t w c = rw (c, append-nil) (pick-true _ _ _ (w .0))
-  field-complete f key t w c = judges .complete (f .key) t w
+  field-complete f key t w c = judges .complete (f .type) (f .key) t w
 
-  pub octets-field : ((k : List ℕ) → Key k → AllOctets k) → bits ≤ 128 → (f : Fields) (k : FieldKind) → WellFormedField Key bits f k → AllOctets (encodeField f k)
+  pub octets-field : ((type : ℕ) (k : List ℕ) → Key type k → AllOctets k) → bits ≤ 128 → (f : Fields) (k : FieldKind) → WellFormedField Key bits f k → AllOctets (encodeField f k)
   unfolding encodeField encodeAddress
   octets-field ofKey small f distinguisher h = h .1
   octets-field ofKey small f sourceAs h = octets-bigEndian 4 (f .sourceAs)
   octets-field ofKey small f source h = octets-address bits (f .type) (f .source) small (h .0) (h .1)
   octets-field ofKey small f group h = octets-address bits (f .type) (f .group) small (h .0) (h .1)
   octets-field ofKey small f originator h = h .1
-  octets-field ofKey small f key h = ofKey (f .key) h
+  octets-field ofKey small f key h = ofKey (f .type) (f .key) h

@@ -1,21 +1,23 @@
--- A key is read exactly where octets begin with an NLRI of type 1, 2 or 3 encoded and well-formed (document 01, "NLRI on the wire").
-use mathlib.Core.Path.{_≡_, refl, sym, _∙_, ap}
-use mathlib.Core.Logic.{⊎-elim}
+-- The key of a type is read exactly where octets begin with an NLRI that may stand there, encoded and well-formed (document 01, "NLRI on the wire").
+use mathlib.Core.Path.{_≡_, refl, sym, _∙_, ap, subst}
+use mathlib.Core.Bool.{Bool, true, false, not}
 use mathlib.Core.List.{List, _++_}
 use Prim.Native.Nat.{ℕ, _+_, _*_, _/_, _≤_}
 use native.Mathlib.Omega.{arith}
-use borrow.Author.Tests.{ltb-false, le-ltb}
+use borrow.Author.Tests.{eqb-true, leb-true, le-leb, not-true}
 use lib.ListN.{length, getD, take}
+use lib.Dec.{leb}
 use Rattle.octets.specs.Numbers.{KEY}
+use Rattle.octets.specs.Choice.{pick, both, either}
 use Rattle.octets.specs.Outcome.{given, refused}
 use Rattle.octets.specs.Octets.{AllOctets}
-use Rattle.octets.proofs.Choice.{pick-false, picked}
+use Rattle.octets.proofs.Choice.{pick-true, both-true-left, both-true-right}
 use Rattle.octets.proofs.Lists.{length-part}
-use Rattle.octets.proofs.Outcome.{on-given, never, given-otherwise, given-same, on-given-given, refused-same, turned}
-use Rattle.nlri.specs.Bodies.{bodyOf}
-use Rattle.nlri.specs.Fields.{Fields, encodeNlri, NoKey, KeyOf}
+use Rattle.octets.proofs.Outcome.{on-given, never, given-unless, given-same, on-given-given, refused-same, refuses-unless, turned}
+use Rattle.nlri.specs.Bodies.{FieldKind, key, KnownType, keyable, bodies, bodyOf, codeOf, sameKind, hasField}
+use Rattle.nlri.specs.Fields.{Fields, encodeNlri, NoKey, KeyType, leaf, KeyOf}
 use Rattle.nlri.specs.Reading.{Laid, laidWith, noKey, keyField}
-use Rattle.nlri.proofs.Definitions.Table.{rowOf, known}
+use Rattle.nlri.proofs.Definitions.Table.{listed, known, rowOf, every, every-row, most, mostIn}
 use Rattle.nlri.proofs.Definitions.Judged.{Judges}
 use Rattle.nlri.proofs.Definitions.Whole.{LaidOut, laid-out, fieldsLaid, sizes-most, laid-encoded, laid-sound, laid-complete, octets-nlri}
 
@@ -24,74 +26,110 @@ none-judges : Judges noKey NoKey
 unfolding noKey
 none-judges =
     record {
-      within = λ s n e. absurd (never e refl);
-      sound = λ s n a e. absurd (never e refl);
-      complete = λ k t none. absurd none;
-      refuses = λ s n e. sym (refused-same {A = ℕ} e);
+      within = λ type s n e. absurd (never e refl);
+      sound = λ type s n a e. absurd (never e refl);
+      complete = λ type k t none. absurd none;
+      refuses = λ type s n e. sym (refused-same {A = ℕ} e);
     }
 
--- a key is laid out within the octets, takes its header and as many octets as its Length says, and is of type 3 or less
-pub record KeyLaid (bits : ℕ) (s : List ℕ) (n : ℕ) : Type 0 where
+-- a key is laid out within the octets, takes its header and as many octets as its Length says, and is of a type that may stand there
+pub record KeyLaid (bits type : ℕ) (s : List ℕ) (n : ℕ) : Type 0 where
   pub laid : Laid
   pub is : laidWith noKey bits s ≡ given laid
   pub out : LaidOut noKey bits s laid
-  pub low : laid .type ≤ 3
+  pub may : keyable type (laid .type) ≡ true
   pub size : 2 + laid .size ≡ n
 
-pub key-laid : (bits : ℕ) (s : List ℕ) (n : ℕ) → keyField bits s ≡ given n → KeyLaid bits s n
+pub key-laid : (bits type : ℕ) (s : List ℕ) (n : ℕ) → keyField bits type s ≡ given n → KeyLaid bits type s n
 unfolding keyField
-key-laid bits s n e =
+key-laid bits type s n e =
     let p = on-given-given _ _ _ _ e in
-    let q = given-otherwise _ _ _ _ (p .second) in
-    record { laid = p .value; is = p .first; out = laid-out noKey bits s (p .value) (p .first); low = ltb-false _ _ (q .0); size = given-same (q .1) }
+    let q = given-unless _ _ _ _ (p .second) in
+    record { laid = p .value; is = p .first; out = laid-out noKey bits s (p .value) (p .first); may = q .0; size = given-same (q .1) }
 
-pub key-within : (bits : ℕ) (s : List ℕ) (n : ℕ) → keyField bits s ≡ given n → (2 ≤ n) × (n ≤ length s) × (n ≡ 2 + getD s 1 0)
-key-within bits s n e = let k = key-laid bits s n e in omega (arith, k .size, k .out .fits, k .out .enough, k .out .sized)
+pub key-within : (bits type : ℕ) (s : List ℕ) (n : ℕ) → keyField bits type s ≡ given n → (2 ≤ n) × (n ≤ length s) × (n ≡ 2 + getD s 1 0)
+key-within bits type s n e = let k = key-laid bits type s n e in omega (arith, k .size, k .out .fits, k .out .enough, k .out .sized)
+
+-- which NLRIs may stand in a key, by the test; none of them has a key
+may-stand : (type inKey : ℕ) → KeyType type inKey → keyable type inKey ≡ true
+unfolding keyable both
+may-stand type inKey (leaf low high) = le-leb inKey 3 high
+
+stands-in : (type inKey : ℕ) → KnownType inKey → keyable type inKey ≡ true → KeyType type inKey
+unfolding keyable
+stands-in type inKey known h =
+    let four : type ≡ 4 = eqb-true _ _ (both-true-left _ _ h) in
+    subst (λ (t : ℕ). KeyType t inKey) (sym four) (leaf (known .0) (leb-true _ _ (both-true-right _ _ h)))
+
+key-known : (type inKey : ℕ) → KeyType type inKey → KnownType inKey
+key-known type inKey (leaf low high) = omega arith
+
+-- what stands in a Leaf's key has no key itself, and at most 60 octets
+leafTest : ℕ → List FieldKind → Bool
+leafTest n body = pick (leb n 3) (both (not (hasField key body)) (leb (mostIn 60 body) 58)) true
+
+leaf-rows : every leafTest bodies ≡ true
+unfolding leafTest every bodies both pick mostIn most hasField either sameKind codeOf
+leaf-rows = refl
+
+in-leaf : (inKey : ℕ) → KnownType inKey → inKey ≤ 3 → (hasField key (bodyOf inKey) ≡ false) × (mostIn 60 (bodyOf inKey) ≤ 58)
+unfolding leafTest
+in-leaf inKey k low =
+    let h = sym (pick-true _ _ _ (le-leb inKey 3 low)) ∙ every-row leafTest leaf-rows inKey (known inKey k) in
+    (not-true _ (both-true-left _ _ h), leb-true _ _ (both-true-right _ _ h))
+
+key-plain : (type inKey : ℕ) → KeyType type inKey → hasField key (bodyOf inKey) ≡ false
+key-plain type inKey (leaf low high) = in-leaf inKey (omega arith) high .0
+
+pub keyable-plain : (type inKey : ℕ) → listed bodies inKey ≡ true → keyable type inKey ≡ true → hasField key (bodyOf inKey) ≡ false
+keyable-plain type inKey l h = key-plain type inKey (stands-in type inKey (rowOf inKey l .known) h)
+
+key-short : (type inKey : ℕ) → KeyType type inKey → mostIn 60 (bodyOf inKey) ≤ 58
+key-short type inKey (leaf low high) = in-leaf inKey (omega arith) high .1
 
 -- a key takes at most 60 octets
-pub key-most : (bits : ℕ) → bits ≤ 128 → (s : List ℕ) (n : ℕ) → keyField bits s ≡ given n → n ≤ 60
+pub key-most : (bits : ℕ) → bits ≤ 128 → (type : ℕ) (s : List ℕ) (n : ℕ) → keyField bits type s ≡ given n → n ≤ 60
 unfolding noKey
-key-most bits small s n e =
-    let k = key-laid bits s n e in
+key-most bits small type s n e =
+    let k = key-laid bits type s n e in
     let l = length-part s 2 (k .laid .size) (omega (arith, k .out .fits, k .out .enough)) in
-    let most = sizes-most noKey bits 60 (λ s n e. absurd (never e refl)) small (k .laid .type) (bodyOf (k .laid .type)) _ _ (k .out .sizes) in
-    omega (arith, k .size, k .out .row .plain (λ four. omega (arith, k .low)) .1)
+    let most = sizes-most noKey bits 60 (k .laid .type) (λ s n e. absurd (never e refl)) small (bodyOf (k .laid .type)) _ _ (k .out .sizes) in
+    omega (arith, k .size, key-short type (k .laid .type) (stands-in type (k .laid .type) (k .out .row .known) (k .may)))
 
 module _ (bits : ℕ) (whole : 8 * (bits / 8) ≡ bits) where
-  key-sound : (s : List ℕ) (n : ℕ) → AllOctets s → keyField bits s ≡ given n → (n ≤ length s) × KeyOf bits (take n s)
-  key-sound s n a e =
-      let k = key-laid bits s n e in (
-        key-within bits s n e .1,
+  key-sound : (type : ℕ) (s : List ℕ) (n : ℕ) → AllOctets s → keyField bits type s ≡ given n → (n ≤ length s) × KeyOf bits type (take n s)
+  key-sound type s n a e =
+      let k = key-laid bits type s n e in (
+        key-within bits type s n e .1,
         record {
           fields = fieldsLaid s (k .laid);
-          typed = (k .out .row .low, k .low);
+          typed = stands-in type (k .laid .type) (k .out .row .known) (k .may);
           wellFormed = laid-sound noKey NoKey none-judges bits whole s (k .laid) a (k .is);
           encoded = ap (λ (m : ℕ). take m s) (sym (k .size)) ∙ laid-encoded noKey bits whole s (k .laid) (λ _. a) (k .is);
         },
       )
 
-  key-complete : (k t : List ℕ) → KeyOf bits k → keyField bits (k ++ t) ≡ given (length k)
+  key-complete : (type : ℕ) (k t : List ℕ) → KeyOf bits type k → keyField bits type (k ++ t) ≡ given (length k)
   unfolding keyField encodeNlri
-  key-complete k t of =
+  key-complete type k t of =
       let f : Fields = of .fields in
-      let range : (1 ≤ f .type) × (f .type ≤ 7) = omega (arith, of .typed) in
       rw (of .encoded)
-      (sym (on-given _ _ _ _ _ (laid-complete noKey NoKey none-judges bits whole f t range (of .wellFormed)) (sym (pick-false _ _ _ (le-ltb 3 (f .type) (of .typed .1)) ∙ ap given (omega arith)))))
+      (sym (on-given _ _ _ _ _ (laid-complete noKey NoKey none-judges bits whole f t (key-known type (f .type) (of .typed)) (of .wellFormed))
+      (sym (pick-true _ _ _ (may-stand type (f .type) (of .typed)) ∙ ap given (omega arith)))))
 
-  key-refuses : (s : List ℕ) (n : ℕ) → keyField bits s ≡ refused n → n ≡ KEY
+  key-refuses : (type : ℕ) (s : List ℕ) (n : ℕ) → keyField bits type s ≡ refused n → n ≡ KEY
   unfolding keyField
-  key-refuses s n e =
-      turned KEY n _ (laidWith noKey bits s) (λ laid m q. ⊎-elim (λ long. sym (refused-same {A = ℕ} (long .1))) (λ short. absurd (never refl (short .1))) (picked _ _ _ _ q)) e
+  key-refuses type s n e =
+      turned KEY n _ (laidWith noKey bits s) (λ laid m q. refuses-unless _ _ _ _ q .1) e
 
   pub key-judges : Judges (keyField bits) (KeyOf bits)
-  key-judges = record { within = λ s n e. key-within bits s n e .1; sound = key-sound; complete = key-complete; refuses = key-refuses }
+  key-judges = record { within = λ type s n e. key-within bits type s n e .1; sound = key-sound; complete = key-complete; refuses = key-refuses }
 
   -- a key takes at most 60 octets
-  pub octets-key : bits ≤ 128 → (k : List ℕ) → KeyOf bits k → (length k ≤ 60) × AllOctets k
+  pub octets-key : bits ≤ 128 → (type : ℕ) (k : List ℕ) → KeyOf bits type k → (length k ≤ 60) × AllOctets k
   unfolding noKey
-  octets-key small k of =
+  octets-key small type k of =
       let f : Fields = of .fields in
-      let range : (1 ≤ f .type) × (f .type ≤ 7) = omega (arith, of .typed) in
-      let row = rowOf (f .type) (known (f .type) (range .0) (range .1)) in
-      let h = octets-nlri noKey NoKey none-judges bits whole 60 (λ s n e. absurd (never e refl)) (λ k none. absurd none) small f range (of .wellFormed) 58 (row .plain (λ e. omega (arith, of .typed)) .1) (omega arith) in
+      let typed : KnownType (f .type) = key-known type (f .type) (of .typed) in
+      let h = octets-nlri noKey NoKey none-judges bits whole 60 f (λ s n e. absurd (never e refl)) (λ type k none. absurd none) small typed (of .wellFormed) 58 (key-short type (f .type) (of .typed)) (omega arith) in
       rw (of .encoded) (omega (arith, h .0), h .1)

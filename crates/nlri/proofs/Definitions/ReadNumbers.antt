@@ -34,7 +34,7 @@ refuses-address : (bits type : ℕ) (s : List ℕ) → Refuses ByReading (addres
 unfolding addressField addressEnd
 refuses-address bits type s = refuses-pick _ _ _ (number (omega arith)) (refuses-pick _ _ _ (refuses-pick _ _ _ (number (omega arith)) value) (number (omega arith)))
 
-module _ (judge : List ℕ → Outcome ℕ) (judge-refuses : (s : List ℕ) → Refuses ByReading (judge s)) (bits : ℕ) where
+module _ (judge : ℕ → List ℕ → Outcome ℕ) (judge-refuses : (type : ℕ) (s : List ℕ) → Refuses ByReading (judge type s)) (bits : ℕ) where
   refuses-field : (type : ℕ) (k : FieldKind) (s : List ℕ) → Refuses ByReading (fieldSize judge bits type k s)
   unfolding fieldSize originatorField
   refuses-field type distinguisher s = refuses-fixed 8 s
@@ -42,7 +42,7 @@ module _ (judge : List ℕ → Outcome ℕ) (judge-refuses : (s : List ℕ) → 
   refuses-field type source s = refuses-address bits type s
   refuses-field type group s = refuses-address bits type s
   refuses-field type originator s = refuses-pick _ _ _ value (number (omega arith))
-  refuses-field type key s = judge-refuses s
+  refuses-field type key s = judge-refuses type s
 
   refuses-sizes : (type : ℕ) (body : List FieldKind) (s : List ℕ) → Refuses ByReading (sizesOf (fieldSize judge bits type) body s)
   unfolding sizesOf
@@ -55,13 +55,13 @@ module _ (judge : List ℕ → Outcome ℕ) (judge-refuses : (s : List ℕ) → 
       refuses-pick _ _ _ (number (omega arith))
       (refuses-pick _ _ _ (number (omega arith)) (refuses-body bodies _ _ _ (omega arith) (λ body. refuses-then _ _ (refuses-sizes _ body _) (λ sizes. value))))
 
-pub refuses-no-key : (s : List ℕ) → Refuses ByReading (noKey s)
+pub refuses-no-key : (type : ℕ) (s : List ℕ) → Refuses ByReading (noKey type s)
 unfolding noKey
-refuses-no-key s = number {n = KEY} (omega arith)
+refuses-no-key type s = number {n = KEY} (omega arith)
 
-pub refuses-key : (bits : ℕ) (s : List ℕ) → Refuses ByReading (keyField bits s)
+pub refuses-key : (bits type : ℕ) (s : List ℕ) → Refuses ByReading (keyField bits type s)
 unfolding keyField
-refuses-key bits s = refuses-turned _ _ _ (omega arith) (λ laid. refuses-pick _ _ _ (number (omega arith)) value)
+refuses-key bits type s = refuses-turned _ _ _ (omega arith) (λ laid. refuses-pick _ _ _ value (number (omega arith)))
 
 pub refuses-front : (bits : ℕ) (s : List ℕ) → Refuses ByReading (laidAt bits s)
 unfolding laidAt

@@ -9,13 +9,13 @@ use borrow.Author.Tests.{eqb-true}
 use lib.ListN.{length, take, drop, length-drop}
 use lib.Seq.{drop-drop}
 use Rattle.octets.specs.Choice.{pick, either}
-use Rattle.octets.specs.Outcome.{Outcome, given}
+use Rattle.octets.specs.Outcome.{Outcome, given, andThen}
 use Rattle.octets.specs.Octets.{part}
 use Rattle.octets.proofs.Choice.{pick-true, pick-false, tested, opposite}
-use Rattle.octets.proofs.Outcome.{given-unless, passed, given-same}
+use Rattle.octets.proofs.Outcome.{given-unless, passed, given-same, and-cong}
 use Rattle.nlri.specs.Bodies.{FieldKind, distinguisher, sourceAs, source, group, originator, key, fieldIn, codeOf, sameKind, hasField}
 use Rattle.nlri.specs.Reading.{sizesOf, cut}
-use Rattle.nlri.proofs.Definitions.Table.{kept, order, distinct, same-kind, same-self, Along, along-fields, lacks}
+use Rattle.nlri.proofs.Definitions.Table.{kept, order, distinct, same-kind, same-self, has-first, has-later, Along, along-fields, lacks}
 
 -- the kinds before one
 unfoldable pub before : FieldKind → List FieldKind → List FieldKind
@@ -35,6 +35,14 @@ sizes-first P size k body x sizes e next =
     let p = passed _ _ _ e in
     let q = passed _ _ _ (p .second) in
     rw (sym (given-same (q .second))) (next (p .value) (q .value) (p .first) (q .first))
+
+-- sizes that agree in the kinds of a body
+pub sizes-same : (size other : FieldKind → List ℕ → Outcome ℕ) (body : List FieldKind) → ((k : FieldKind) → hasField k body ≡ true → (x : List ℕ) → size k x ≡ other k x) → (x : List ℕ) → sizesOf size body x ≡ sizesOf other body x
+unfolding sizesOf
+sizes-same size other [] same x = refl
+sizes-same size other (k ∷ body) same x =
+    ap (λ (o : Outcome ℕ). andThen o (λ n. andThen (sizesOf size body (drop n x)) (λ sizes. given (n ∷ sizes)))) (same k (has-first k body) x)
+    ∙ and-cong _ _ _ (λ n e. ap (λ (o : Outcome (List ℕ)). andThen o (λ sizes. given (n ∷ sizes))) (sizes-same size other body (λ j h. same j (has-later j k body h)) (drop n x)))
 
 pub length-sizes : (size : FieldKind → List ℕ → Outcome ℕ) (body : List FieldKind) (x sizes : List ℕ) → sizesOf size body x ≡ given sizes → length sizes ≡ length body
 unfolding sizesOf

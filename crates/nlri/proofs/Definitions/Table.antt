@@ -2,15 +2,14 @@
 use mathlib.Core.Path.{_≡_, refl, sym, _∙_, ap, ap₂, subst}
 use mathlib.Core.Bool.{Bool, true, false, not}
 use mathlib.Core.List.{List, [], _∷_, map}
-use mathlib.Core.Logic.{⊎-elim}
-use Prim.Native.Nat.{ℕ, zero, suc, _+_, _≤_}
+use Prim.Native.Nat.{ℕ, zero, suc, _+_, _≤_, _<_}
 use native.Mathlib.Omega.{arith}
 use borrow.Author.Tests.{eqb-true, eq-eqb, leb-true, not-true}
 use lib.ListN.{length}
 use lib.Dec.{eqb, leb}
 use Rattle.octets.specs.Choice.{pick, both, either}
-use Rattle.octets.proofs.Choice.{pick-true, pick-false, either-left, either-false-left, either-false-right, either-second, is-false, opposite, either-true, both-true-left, both-true-right}
-use Rattle.nlri.specs.Bodies.{FieldKind, distinguisher, sourceAs, source, group, originator, key, Row, row, bodies, onBody, bodyOf, codeOf, sameKind, fieldIn, hasField}
+use Rattle.octets.proofs.Choice.{pick-true, pick-false, either-left, either-false-left, either-false-right, either-second, is-false, opposite, both-true-left, both-true-right}
+use Rattle.nlri.specs.Bodies.{FieldKind, distinguisher, sourceAs, source, group, originator, key, KnownType, Row, row, bodies, onBody, bodyOf, codeOf, sameKind, fieldIn, hasField}
 
 unfoldable pub listed : List Row → ℕ → Bool
 listed [] type = false
@@ -35,17 +34,32 @@ pub on-body : {B : Type 0} (type : ℕ) (other : B) (next : List FieldKind → B
 unfolding bodyOf bodyIn
 on-body type other next = on-table bodies type other next
 
-pub known : (type : ℕ) → 1 ≤ type → type ≤ 7 → listed bodies type ≡ true
+to-seven : (type : ℕ) → 1 ≤ type → type ≤ 7 → listed bodies type ≡ true
 unfolding listed bodies either
-known zero low high = absurd (omega arith)
-known (suc zero) low high = refl
-known (suc (suc zero)) low high = refl
-known (suc (suc (suc zero))) low high = refl
-known (suc (suc (suc (suc zero)))) low high = refl
-known (suc (suc (suc (suc (suc zero))))) low high = refl
-known (suc (suc (suc (suc (suc (suc zero)))))) low high = refl
-known (suc (suc (suc (suc (suc (suc (suc zero))))))) low high = refl
-known (suc (suc (suc (suc (suc (suc (suc (suc n)))))))) low high = absurd (omega arith)
+to-seven zero low high = absurd (omega arith)
+to-seven (suc zero) low high = refl
+to-seven (suc (suc zero)) low high = refl
+to-seven (suc (suc (suc zero))) low high = refl
+to-seven (suc (suc (suc (suc zero)))) low high = refl
+to-seven (suc (suc (suc (suc (suc zero))))) low high = refl
+to-seven (suc (suc (suc (suc (suc (suc zero)))))) low high = refl
+to-seven (suc (suc (suc (suc (suc (suc (suc zero))))))) low high = refl
+to-seven (suc (suc (suc (suc (suc (suc (suc (suc n)))))))) low high = absurd (omega arith)
+
+-- the types that there are are those that the table lists
+pub known : (type : ℕ) → KnownType type → listed bodies type ≡ true
+known type k = to-seven type (k .0) (k .1)
+
+knownTest : ℕ → Bool
+knownTest type = both (leb 1 type) (leb type 7)
+
+test-known : (type : ℕ) → knownTest type ≡ true → KnownType type
+unfolding knownTest
+test-known type h = (leb-true _ _ (both-true-left _ _ h), leb-true _ _ (both-true-right _ _ h))
+
+-- a route type is an octet
+pub known-octet : (type : ℕ) → KnownType type → type < 256
+known-octet type k = omega (arith, k)
 
 -- a test that every row passes
 unfoldable pub every : (ℕ → List FieldKind → Bool) → List Row → Bool
@@ -109,7 +123,7 @@ kept has (k ∷ kinds) = pick (has k) (k ∷ kept has kinds) (kept has kinds)
 unfoldable pub order : List FieldKind
 order = key ∷ distinguisher ∷ sourceAs ∷ source ∷ group ∷ originator ∷ []
 
-sameKinds : List FieldKind → List FieldKind → Bool
+unfoldable pub sameKinds : List FieldKind → List FieldKind → Bool
 sameKinds [] [] = true
 sameKinds [] (b ∷ right) = false
 sameKinds (a ∷ left) [] = false
@@ -136,54 +150,72 @@ pub same-kind : (a b : FieldKind) → sameKind a b ≡ true → a ≡ b
 unfolding sameKind
 same-kind a b e = by-code a ∙ ap kindAt (eqb-true (codeOf a) (codeOf b) e) ∙ sym (by-code b)
 
-same-kinds : (a b : List FieldKind) → sameKinds a b ≡ true → a ≡ b
+pub same-kinds : (a b : List FieldKind) → sameKinds a b ≡ true → a ≡ b
 unfolding sameKinds
 same-kinds [] [] e = refl
 same-kinds [] (y ∷ b) e = absurd (opposite e refl)
 same-kinds (x ∷ a) [] e = absurd (opposite e refl)
 same-kinds (x ∷ a) (y ∷ b) e = ap₂ (λ (k : FieldKind) (kinds : List FieldKind). k ∷ kinds) (same-kind x y (both-true-left _ _ e)) (same-kinds a b (both-true-right (sameKind x y) _ e))
 
+-- two tests that say the same
+unfoldable pub agree : Bool → Bool → Bool
+agree a b = pick a b (not b)
+
+pub agree-same : (a b : Bool) → agree a b ≡ true → a ≡ b
+unfolding agree pick
+agree-same true b e = sym e
+agree-same false true e = e
+agree-same false false e = refl
+
+shapeTest : List FieldKind → Bool
+shapeTest body = both (distinct body) (both (closed body) (sameKinds body (kept (λ k. hasField k body) order)))
+
+-- the fields of a body with a key; in any other a route distinguisher, and a group where there is a source
+kindsTest : List FieldKind → Bool
+kindsTest body = pick (hasField key body) (sameKinds body (key ∷ originator ∷ [])) (both (hasField distinguisher body) (agree (hasField group body) (hasField source body)))
+
+sizeTest : List FieldKind → Bool
+sizeTest body = both (leb (mostIn 60 body) 76) (pick (hasField key body) true (leb (mostIn 60 body) 58))
+
 rowTest : ℕ → List FieldKind → Bool
-rowTest n body =
-    both (both (leb 1 n) (leb n 7))
-    (both (both (distinct body) (both (closed body) (sameKinds body (kept (λ k. hasField k body) order)))) (both (leb (mostIn 60 body) 76) (either (eqb n 4) (both (not (hasField key body)) (leb (mostIn 60 body) 58)))))
+rowTest n body = both (knownTest n) (both (shapeTest body) (both (kindsTest body) (sizeTest body)))
 
 -- what holds of the row of a type
 pub record RowOf (type : ℕ) : Type 0 where
-  pub low : 1 ≤ type
-  pub high : type ≤ 7
+  pub known : KnownType type
   pub distinct : distinct (bodyOf type) ≡ true
   pub closed : closed (bodyOf type) ≡ true
   pub ordered : bodyOf type ≡ kept (λ k. hasField k (bodyOf type)) order
+  pub keyed : hasField key (bodyOf type) ≡ true → bodyOf type ≡ key ∷ originator ∷ []
+  pub unkeyed : hasField key (bodyOf type) ≡ false → (hasField distinguisher (bodyOf type) ≡ true) × (hasField group (bodyOf type) ≡ hasField source (bodyOf type))
   pub most : mostIn 60 (bodyOf type) ≤ 76
-  -- only a Leaf has a key
-  pub plain : (type ≡ 4 → ⊥) → (hasField key (bodyOf type) ≡ false) × (mostIn 60 (bodyOf type) ≤ 58)
+  pub plain : hasField key (bodyOf type) ≡ false → mostIn 60 (bodyOf type) ≤ 58
 
 tested : every rowTest bodies ≡ true
-unfolding every rowTest bodies both distinct closed closes sameKinds kept order pick mostIn most hasField either sameKind codeOf
+unfolding every rowTest knownTest shapeTest kindsTest sizeTest agree bodies both distinct closed closes sameKinds kept order pick mostIn most hasField either sameKind codeOf
 tested = refl
 
 pub rowOf : (type : ℕ) → listed bodies type ≡ true → RowOf type
-unfolding rowTest
+unfolding rowTest shapeTest kindsTest sizeTest
 rowOf type l =
     let h = every-row rowTest tested type l in
-    let range = both-true-left _ _ h in
     let rest = both-true-right _ _ h in
     let shape = both-true-left _ _ rest in
-    let size = both-true-right _ _ rest in
+    let kinds = both-true-left _ _ (both-true-right _ _ rest) in
+    let size = both-true-right _ _ (both-true-right _ _ rest) in
     record {
-      low = leb-true _ _ (both-true-left _ _ range);
-      high = leb-true _ _ (both-true-right _ _ range);
+      known = test-known type (both-true-left _ _ h);
       distinct = both-true-left _ _ shape;
       closed = both-true-left _ _ (both-true-right _ _ shape);
       ordered = same-kinds _ _ (both-true-right _ _ (both-true-right _ _ shape));
+      keyed = λ yes. same-kinds _ _ (sym (pick-true _ _ _ yes) ∙ kinds);
+      unkeyed = λ no. let other = sym (pick-false _ _ _ no) ∙ kinds in (both-true-left _ _ other, agree-same _ _ (both-true-right _ _ other));
       most = leb-true _ _ (both-true-left _ _ size);
-      plain = λ other.
-          ⊎-elim (λ leaf. absurd (other (eqb-true _ _ leaf))) (λ h. (not-true _ (both-true-left _ _ h), leb-true _ _ (both-true-right _ _ h))) (either-true _ _ (both-true-right _ _ size));
+      plain = λ no. leb-true _ _ (sym (pick-false _ _ _ no) ∙ both-true-right _ _ size);
     }
 
-pub unlisted : (type : ℕ) → ((1 ≤ type) × (type ≤ 7) → ⊥) → listed bodies type ≡ false
-unlisted type h = is-false _ (λ l. let row = rowOf type l in h (row .low, row .high))
+pub unlisted : (type : ℕ) → (KnownType type → ⊥) → listed bodies type ≡ false
+unlisted type h = is-false _ (λ l. h (rowOf type l .known))
 
 -- of what a function makes of each kind along a body, the one of a kind is the function's at that kind
 pub field-of-map : {A : Type 0} (none : A) (g : FieldKind → A) (kind : FieldKind) (body : List FieldKind) → fieldIn none kind body (map g body) ≡ pick (hasField kind body) (g kind) none
@@ -215,7 +247,7 @@ along-same field other [] xs h a = tt
 along-same field other (k ∷ body) [] h a = a
 along-same field other (k ∷ body) (x ∷ xs) h a = (h k (has-first k body) ∙ a .0, along-same field other body xs (λ kind e. h kind (has-later kind k body e)) (a .1))
 
-apart : (kind k : FieldKind) (body : List FieldKind) → hasField kind body ≡ true → hasField k body ≡ false → sameKind kind k ≡ false
+pub apart : (kind k : FieldKind) (body : List FieldKind) → hasField kind body ≡ true → hasField k body ≡ false → sameKind kind k ≡ false
 apart kind k body h n = is-false _ (λ e. opposite (ap (λ (x : FieldKind). hasField x body) (sym (same-kind kind k e)) ∙ h) n)
 
 pub along-fields : {A : Type 0} (none : A) (body : List FieldKind) (xs : List A) → distinct body ≡ true → length xs ≡ length body → Along (λ kind. fieldIn none kind body xs) body xs

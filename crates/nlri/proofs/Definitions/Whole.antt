@@ -13,10 +13,10 @@ use Rattle.octets.proofs.Choice.{pick-true, pick-false, opposite, both-true-lef
 use Rattle.octets.proofs.Outcome.{goes, given-otherwise, given-unless, passed, given-same}
 use Rattle.octets.proofs.AllOctets.{octets-drop, octets-part, octets-append}
 use Rattle.octets.proofs.Lists.{empty-list, take-two, length-part}
-use Rattle.nlri.specs.Bodies.{FieldKind, distinguisher, sourceAs, source, group, originator, key, bodies, bodyOf, fieldIn, hasField}
+use Rattle.nlri.specs.Bodies.{FieldKind, distinguisher, sourceAs, source, group, originator, key, KnownType, bodies, bodyOf, fieldIn, hasField}
 use Rattle.nlri.specs.Fields.{Fields, encodeField, encodeBody, encodeNlri, WellFormedBody}
 use Rattle.nlri.specs.Reading.{Laid, fieldSize, sizesOf, laidWith, keyField, laidAt, laidSingle, cut, fieldsOf}
-use Rattle.nlri.proofs.Definitions.Table.{listed, on-body, known, RowOf, rowOf, closes, closed, most, mostIn, Along, along-fields}
+use Rattle.nlri.proofs.Definitions.Table.{listed, on-body, known, known-octet, RowOf, rowOf, closes, closed, most, mostIn, Along, along-fields}
 use Rattle.nlri.proofs.Definitions.Starts.{sizes-first, length-sizes}
 use Rattle.nlri.proofs.Definitions.Judged.{Judges, Closes, fieldsFrom, field-most, field-encoded, field-sound, field-complete, octets-field}
 
@@ -53,7 +53,7 @@ closes-body f originator (k ∷ body) h = absurd (opposite h refl)
 closes-body f key body h = tt
 
 -- what was laid out
-pub record LaidOut (judge : List ℕ → Outcome ℕ) (bits : ℕ) (s : List ℕ) (laid : Laid) : Type 0 where
+pub record LaidOut (judge : ℕ → List ℕ → Outcome ℕ) (bits : ℕ) (s : List ℕ) (laid : Laid) : Type 0 where
   pub row : RowOf (laid .type)
   pub body : laid .body ≡ bodyOf (laid .type)
   pub enough : 2 ≤ length s
@@ -62,7 +62,7 @@ pub record LaidOut (judge : List ℕ → Outcome ℕ) (bits : ℕ) (s : List ℕ
   pub fits : laid .size ≤ length s - 2
   pub sizes : sizesOf (fieldSize judge bits (laid .type)) (bodyOf (laid .type)) (part s 2 (laid .size)) ≡ given (laid .sizes)
 
-pub laid-out : (judge : List ℕ → Outcome ℕ) (bits : ℕ) (s : List ℕ) (laid : Laid) → laidWith judge bits s ≡ given laid → LaidOut judge bits s laid
+pub laid-out : (judge : ℕ → List ℕ → Outcome ℕ) (bits : ℕ) (s : List ℕ) (laid : Laid) → laidWith judge bits s ≡ given laid → LaidOut judge bits s laid
 unfolding laidWith
 laid-out judge bits s laid e =
     let p = given-otherwise _ _ _ _ e in
@@ -110,15 +110,15 @@ single-laid-out bits s laid e =
       fields = ap (λ (x : List ℕ). fieldsFrom (laid .type) (λ kind. fieldIn [] kind (laid .body) (cut (laid .sizes) x))) (part-whole s (laid .size) size);
     }
 
-module _ (judge : List ℕ → Outcome ℕ) (bits : ℕ) where
+module _ (judge : ℕ → List ℕ → Outcome ℕ) (bits : ℕ) where
   -- a body has at most so many octets
-  pub sizes-most : (w : ℕ) → ((s : List ℕ) (n : ℕ) → judge s ≡ given n → n ≤ w) → bits ≤ 128 → (type : ℕ) (body : List FieldKind) (s sizes : List ℕ)
+  pub sizes-most : (w type : ℕ) → ((s : List ℕ) (n : ℕ) → judge type s ≡ given n → n ≤ w) → bits ≤ 128 → (body : List FieldKind) (s sizes : List ℕ)
       → sizesOf (fieldSize judge bits type) body s ≡ given sizes → length s ≤ mostIn w body
   unfolding sizesOf mostIn
-  sizes-most w bound small type [] s sizes e = let h : length s ≡ 0 = eqb-true _ _ (given-unless _ _ _ _ e .0) in omega arith
-  sizes-most w bound small type (k ∷ body) s sizes e =
+  sizes-most w type bound small [] s sizes e = let h : length s ≡ 0 = eqb-true _ _ (given-unless _ _ _ _ e .0) in omega arith
+  sizes-most w type bound small (k ∷ body) s sizes e =
       sizes-first (λ _. length s ≤ most w k + mostIn w body) _ k body s sizes e
-      (λ n rest here left. let l = length-drop n s in omega (arith, field-most judge bits w bound small type k s n here, sizes-most w bound small type body (drop n s) rest left))
+      (λ n rest here left. let l = length-drop n s in omega (arith, field-most judge bits w type bound small k s n here, sizes-most w type bound small body (drop n s) rest left))
 
   -- a body read is its encoding
   body-encoded : 8 * (bits / 8) ≡ bits → (type : ℕ) (body : List FieldKind) (s sizes : List ℕ) (field : FieldKind → List ℕ) → (hasField sourceAs body ≡ true → AllOctets s)
@@ -147,7 +147,7 @@ module _ (judge : List ℕ → Outcome ℕ) (bits : ℕ) where
       let len : laid .size ≡ length (encodeBody (fieldsLaid s laid) (bodyOf (laid .type))) = sym (ap length b ∙ length-part s 2 (laid .size) (omega (arith, o .fits, o .enough))) in
       take-two s (laid .size) (o .enough) ∙ ap₂ (λ (x : ℕ) (y : List ℕ). x ∷ y) (sym (o .typed)) (ap₂ (λ (x : ℕ) (y : List ℕ). x ∷ y) (sym (o .sized) ∙ len) (sym b))
 
-module _ (judge : List ℕ → Outcome ℕ) (Key : List ℕ → Type 0) (judges : Judges judge Key) (bits : ℕ) (whole : 8 * (bits / 8) ≡ bits) where
+module _ (judge : ℕ → List ℕ → Outcome ℕ) (Key : ℕ → List ℕ → Type 0) (judges : Judges judge Key) (bits : ℕ) (whole : 8 * (bits / 8) ≡ bits) where
   -- a body read is well-formed
   body-sound : (type : ℕ) (body : List FieldKind) (s sizes : List ℕ) (field : FieldKind → List ℕ) → AllOctets s → sizesOf (fieldSize judge bits type) body s ≡ given sizes → Along field body (cut sizes s)
       → WellFormedBody Key bits (fieldsFrom type field) body
@@ -165,7 +165,7 @@ module _ (judge : List ℕ → Outcome ℕ) (Key : List ℕ → Type 0) (judges 
       sym (goes _ _ _ _ (field-complete judge Key judges bits whole f k (encodeBody f body) (w .0) (closes-body f k body (both-true-left _ _ c)))
       (goes _ _ _ _ (ap (sizesOf (fieldSize judge bits (f .type)) body) (drop-append-seam (encodeField f k) (encodeBody f body)) ∙ body-complete f body (both-true-right (closes k body) _ c) (w .1)) refl))
 
-  octets-body : ((k : List ℕ) → Key k → AllOctets k) → bits ≤ 128 → (f : Fields) (body : List FieldKind) → WellFormedBody Key bits f body → AllOctets (encodeBody f body)
+  octets-body : ((type : ℕ) (k : List ℕ) → Key type k → AllOctets k) → bits ≤ 128 → (f : Fields) (body : List FieldKind) → WellFormedBody Key bits f body → AllOctets (encodeBody f body)
   unfolding encodeBody
   octets-body ofKey small f [] h = none
   octets-body ofKey small f (k ∷ body) h = octets-append (octets-field judge Key judges bits whole ofKey small f k (h .0)) (octets-body ofKey small f body (h .1))
@@ -177,11 +177,11 @@ module _ (judge : List ℕ → Outcome ℕ) (Key : List ℕ → Type 0) (judges 
       body-sound (laid .type) (bodyOf (laid .type)) (part s 2 (laid .size)) (laid .sizes) _ (octets-part 2 (laid .size) a) (o .sizes) (along-laid judge bits s laid o)
 
   -- a well-formed NLRI that stands encoded is read
-  pub laid-complete : (f : Fields) (t : List ℕ) → (1 ≤ f .type) × (f .type ≤ 7) → WellFormedBody Key bits f (bodyOf (f .type))
+  pub laid-complete : (f : Fields) (t : List ℕ) → KnownType (f .type) → WellFormedBody Key bits f (bodyOf (f .type))
       → laidWith judge bits (encodeNlri f ++ t) ≡ given (laidOf f)
   unfolding laidWith encodeNlri part
   laid-complete f t range w =
-      let l : listed bodies (f .type) ≡ true = known (f .type) (range .0) (range .1) in
+      let l : listed bodies (f .type) ≡ true = known (f .type) range in
       let body : List FieldKind = bodyOf (f .type) in
       pick-false _ _ _ (le-ltb (suc (suc (length (encodeBody f body ++ t)))) 2 (omega arith))
       ∙ pick-false _ _ _ (le-ltb (suc (suc (length (encodeBody f body ++ t))) - 2) (length (encodeBody f body)) (simp length-append (omega arith)))
@@ -190,12 +190,12 @@ module _ (judge : List ℕ → Outcome ℕ) (Key : List ℕ → Type 0) (judges 
       ∙ sym (goes _ _ _ _ (ap (sizesOf (fieldSize judge bits (f .type)) body) (take-append-seam (encodeBody f body) t) ∙ body-complete f body (rowOf (f .type) l .closed) w) refl)
 
   -- a well-formed NLRI in octets: its Length fits an octet
-  pub octets-nlri : (w : ℕ) → ((s : List ℕ) (n : ℕ) → judge s ≡ given n → n ≤ w) → ((k : List ℕ) → Key k → AllOctets k) → bits ≤ 128 → (f : Fields) → (1 ≤ f .type) × (f .type ≤ 7) → WellFormedBody Key bits f (bodyOf (f .type))
+  pub octets-nlri : (w : ℕ) (f : Fields) → ((s : List ℕ) (n : ℕ) → judge (f .type) s ≡ given n → n ≤ w) → ((type : ℕ) (k : List ℕ) → Key type k → AllOctets k) → bits ≤ 128 → KnownType (f .type) → WellFormedBody Key bits f (bodyOf (f .type))
       → (most : ℕ) → mostIn w (bodyOf (f .type)) ≤ most → most < 256 → (length (encodeNlri f) ≤ 2 + most) × AllOctets (encodeNlri f)
   unfolding encodeNlri
-  octets-nlri w bound ofKey small f range h most within fits =
-      let row = rowOf (f .type) (known (f .type) (range .0) (range .1)) in
-      let len = sizes-most judge bits w bound small (f .type) (bodyOf (f .type)) _ _ (body-complete f (bodyOf (f .type)) (row .closed) h) in
-      let first : f .type < 256 = omega arith in
+  octets-nlri w f bound ofKey small range h most within fits =
+      let row = rowOf (f .type) (known (f .type) range) in
+      let len = sizes-most judge bits w (f .type) bound small (bodyOf (f .type)) _ _ (body-complete f (bodyOf (f .type)) (row .closed) h) in
+      let first : f .type < 256 = known-octet (f .type) range in
       let second : length (encodeBody f (bodyOf (f .type))) < 256 = omega arith in
       (omega arith, one first (one second (octets-body ofKey small f (bodyOf (f .type)) h)))

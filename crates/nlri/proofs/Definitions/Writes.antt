@@ -60,14 +60,14 @@ same-width bits f g t group e = ap₂ (λ (n : ℕ) (x : List ℕ). allowed bits
 same-width bits f g t originator e = ap (λ (x : List ℕ). isOriginatorSize (length x)) e
 same-width bits f g t key e = refl
 
-same-key : (bits : ℕ) (f g : Fields) (k : FieldKind) → SameField f g k → keyFits bits f k ≡ keyFits bits g k
+same-key : (bits : ℕ) (f g : Fields) → f .type ≡ g .type → (k : FieldKind) → SameField f g k → keyFits bits f k ≡ keyFits bits g k
 unfolding keyFits
-same-key bits f g distinguisher e = refl
-same-key bits f g sourceAs e = refl
-same-key bits f g source e = refl
-same-key bits f g group e = refl
-same-key bits f g originator e = refl
-same-key bits f g key e = ap (isKey bits) e
+same-key bits f g t distinguisher e = refl
+same-key bits f g t sourceAs e = refl
+same-key bits f g t source e = refl
+same-key bits f g t group e = refl
+same-key bits f g t originator e = refl
+same-key bits f g t key e = ap₂ (isKey bits) t e
 
 same-body : (bits : ℕ) (f g : Fields) → f .type ≡ g .type → (body : List FieldKind) → ((k : FieldKind) → hasField k body ≡ true → SameField f g k)
     → (encodeBody f body ≡ encodeBody g body) × (widthsFit bits f body ≡ widthsFit bits g body) × (keysFit bits f body ≡ keysFit bits g body)
@@ -76,7 +76,22 @@ same-body bits f g t [] same = (refl, refl, refl)
 same-body bits f g t (k ∷ body) same =
     let later = same-body bits f g t body (λ k′ h. same k′ (has-later k′ k body h)) in
     let here = same k (has-first k body) in
-    (ap₂ (λ (x y : List ℕ). x ++ y) (same-encoding f g k here) (later .0), ap₂ both (same-width bits f g t k here) (later .1), ap₂ both (same-key bits f g k here) (later .2))
+    (ap₂ (λ (x y : List ℕ). x ++ y) (same-encoding f g k here) (later .0), ap₂ both (same-width bits f g t k here) (later .1), ap₂ both (same-key bits f g t k here) (later .2))
+
+-- a test of every kind of field along a body
+unfoldable pub all : (FieldKind → Bool) → List FieldKind → Bool
+all test [] = true
+all test (k ∷ body) = both (test k) (all test body)
+
+pub widths-all : (bits : ℕ) (f : Fields) (body : List FieldKind) → widthsFit bits f body ≡ all (widthFits bits f) body
+unfolding widthsFit all
+widths-all bits f [] = refl
+widths-all bits f (k ∷ body) = ap (both (widthFits bits f k)) (widths-all bits f body)
+
+pub keys-all : (bits : ℕ) (f : Fields) (body : List FieldKind) → keysFit bits f body ≡ all (keyFits bits f) body
+unfolding keysFit all
+keys-all bits f [] = refl
+keys-all bits f (k ∷ body) = ap (both (keyFits bits f k)) (keys-all bits f body)
 
 -- the order of writing: WIDTH, KEY, SPACE
 unfoldable pub verdict : ℕ → List ℕ → (widths keys : Bool) → Outcome (List ℕ)
@@ -102,20 +117,20 @@ write-restricted afi f space =
     ∙ sym (write-is afi f space)
 
 -- octets that the writer takes for a key
-pub key-judged : (afi bits : ℕ) → familyBits afi ≡ given bits → (k : List ℕ) → AllOctets k → isKey bits k ≡ true → KeyOf bits k
+pub key-judged : (afi bits : ℕ) → familyBits afi ≡ given bits → (type : ℕ) (k : List ℕ) → AllOctets k → isKey bits type k ≡ true → KeyOf bits type k
 unfolding isKey onOutcome
-key-judged afi bits ofFamily k a e = go (keyField bits k) refl e
+key-judged afi bits ofFamily type k a e = go (keyField bits type k) refl e
   where
-    go : (o : Outcome ℕ) → keyField bits k ≡ o → onOutcome (λ fault. false) (λ size. eqb size (length k)) o ≡ true → KeyOf bits k
+    go : (o : Outcome ℕ) → keyField bits type k ≡ o → onOutcome (λ fault. false) (λ size. eqb size (length k)) o ≡ true → KeyOf bits type k
     go (given n) p q =
         let size : n ≡ length k = eqb-true _ _ q in
-        subst (KeyOf bits) (take-all n k (omega arith)) (key-judges bits (family-octets afi bits ofFamily .0) .sound k n a p .1)
+        subst (KeyOf bits type) (take-all n k (omega arith)) (key-judges bits (family-octets afi bits ofFamily .0) .sound type k n a p .1)
     go (refused n) p q = absurd (opposite q refl)
 
-pub key-fits : (afi bits : ℕ) → familyBits afi ≡ given bits → (k : List ℕ) → KeyOf bits k → isKey bits k ≡ true
+pub key-fits : (afi bits : ℕ) → familyBits afi ≡ given bits → (type : ℕ) (k : List ℕ) → KeyOf bits type k → isKey bits type k ≡ true
 unfolding isKey
-key-fits afi bits ofFamily k of =
-    sym (on-given _ _ _ _ _ (ap (keyField bits) (sym (append-nil k)) ∙ key-judges bits (family-octets afi bits ofFamily .0) .complete k [] of) (sym (eq-eqb (length k) (length k) refl)))
+key-fits afi bits ofFamily type k of =
+    sym (on-given _ _ _ _ _ (ap (keyField bits type) (sym (append-nil k)) ∙ key-judges bits (family-octets afi bits ofFamily .0) .complete type k [] of) (sym (eq-eqb (length k) (length k) refl)))
 
 module _ (afi bits : ℕ) (ofFamily : familyBits afi ≡ given bits) (f : Fields) where
   fits-well : (body : List FieldKind) → WellFormedBody (KeyOf bits) bits f body → (widthsFit bits f body ≡ true) × (keysFit bits f body ≡ true)
@@ -132,7 +147,7 @@ module _ (afi bits : ℕ) (ofFamily : familyBits afi ≡ given bits) (f : Fields
       at source h = (h .0, refl)
       at group h = (h .0, refl)
       at originator h = (h .0, refl)
-      at key h = (refl, key-fits afi bits ofFamily (f .key) h)
+      at key h = (refl, key-fits afi bits ofFamily (f .type) (f .key) h)
 
   -- of fields whose kinds the type has
   pub well-fits : HoldsOctets f → (body : List FieldKind) → ((kind : FieldKind) → hasField kind body ≡ true → hasField kind (bodyOf (f .type)) ≡ true)
@@ -150,14 +165,14 @@ module _ (afi bits : ℕ) (ofFamily : familyBits afi ≡ given bits) (f : Fields
       at source has w h = (w, held .source)
       at group has w h = (w, held .group)
       at originator has w h = (w, held .originator)
-      at key has w h = key-judged afi bits ofFamily (f .key) (held .key) h
+      at key has w h = key-judged afi bits ofFamily (f .type) (f .key) (held .key) h
 
   -- well-formed fields are written where there is space
   pub write-well : (space : ℕ) → WellFormed bits f → writeNlri afi f space ≡ pick (ltb space (length (encodeNlri f))) (refused SPACE) (given (encodeNlri f))
   unfolding verdictOf verdict
   write-well space w =
       let fits = fits-well (bodyOf (f .type)) (w .body) in
-      write-is afi f space ∙ sym (goes _ _ _ _ ofFamily (sym (pick-true _ _ _ (known (f .type) (w .typed .0) (w .typed .1)) ∙ pick-true _ _ _ (fits .0) ∙ pick-true _ _ _ (fits .1))))
+      write-is afi f space ∙ sym (goes _ _ _ _ ofFamily (sym (pick-true _ _ _ (known (f .type) (w .typed)) ∙ pick-true _ _ _ (fits .0) ∙ pick-true _ _ _ (fits .1))))
 
   -- what was written is the encoding, and the fields are well-formed
   pub written : HoldsOctets f → (space : ℕ) (e : List ℕ) → writeNlri afi f space ≡ given e → WellFormed bits f × (encodeNlri f ≡ e)
@@ -172,4 +187,4 @@ module _ (afi bits : ℕ) (ofFamily : familyBits afi ≡ given bits) (f : Fields
       let row = rowOf (f .type) (q .0) in
       let widths : widthsFit bits f (bodyOf (f .type)) ≡ true = ap (λ (n : ℕ). widthsFit n f (bodyOf (f .type))) (sym same) ∙ r .0 in
       let keys : keysFit bits f (bodyOf (f .type)) ≡ true = ap (λ (n : ℕ). keysFit n f (bodyOf (f .type))) (sym same) ∙ k .0 in
-      (record { typed = (row .low, row .high); body = well-fits held (bodyOf (f .type)) (λ kind h. h) widths keys }, given-same (u .1))
+      (record { typed = row .known; body = well-fits held (bodyOf (f .type)) (λ kind h. h) widths keys }, given-same (u .1))

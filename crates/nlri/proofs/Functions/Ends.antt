@@ -12,13 +12,14 @@ use lib.Dec.{ltb, leb, eqb}
 use Rattle.octets.specs.Numbers.{DONE, TYPE, LENGTH, WIDTH}
 use Rattle.octets.specs.Choice.{pick, either}
 use Rattle.octets.specs.Outcome.{Outcome, given, refused, andThen, numberOf}
-use Rattle.octets.proofs.Choice.{pick-true, pick-false, pick-case, picks, skips, tested, either-false}
+use Rattle.octets.proofs.Choice.{pick-true, pick-false, pick-case, picks, skips, tested, either-false, opposite}
 use Rattle.octets.proofs.Outcome.{number-goes, number-stops}
 use Rattle.nlri.specs.Family.{allowed, isOriginatorSize}
-use Rattle.nlri.specs.Bodies.{FieldKind, distinguisher, sourceAs, source, group, originator, key, bodies, onBody}
+use Rattle.nlri.specs.Bodies.{FieldKind, distinguisher, sourceAs, source, group, originator, key, KnownType, bodies, onBody, codeOf, sameKind, hasField}
 use Rattle.nlri.specs.Reading.{fixedField, addressEnd, addressField, originatorField, fieldSize, sizesOf, keyField}
 use Rattle.nlri.specs.Inner.{leftFault, bodyFault, afterFlow, withSourceAs, sourceStart}
-use Rattle.nlri.proofs.Definitions.Table.{listed, on-body, unlisted}
+use Rattle.nlri.proofs.Definitions.Table.{listed, on-body, unlisted, apart}
+use Rattle.nlri.proofs.Definitions.Starts.{sizes-same}
 
 pub number-mapped : {A B : Type 0} (o : Outcome A) (f : A → B) → numberOf (andThen o (λ a. given (f a))) ≡ numberOf o
 unfolding numberOf andThen
@@ -131,11 +132,11 @@ module _ (bits type : ℕ) where
 
   -- a key, which stands first
   module _ (kinds : List FieldKind) (s : List ℕ) where
-    pub left-keyed : (n : ℕ) → n ≤ length s → keyField bits s ≡ given n → leftFault bits type kinds n s ≡ leftFault bits type (key ∷ kinds) 0 s
+    pub left-keyed : (n : ℕ) → n ≤ length s → keyField bits type s ≡ given n → leftFault bits type kinds n s ≡ leftFault bits type (key ∷ kinds) 0 s
     unfolding fieldSize
     left-keyed n h e = ap (λ (i : ℕ). leftFault bits type kinds i s) (sym (zero-add n)) ∙ left-given key kinds 0 s n (omega arith) e
 
-    pub left-unkeyed : (m : ℕ) → keyField bits s ≡ refused m → m ≡ leftFault bits type (key ∷ kinds) 0 s
+    pub left-unkeyed : (m : ℕ) → keyField bits type s ≡ refused m → m ≡ leftFault bits type (key ∷ kinds) 0 s
     unfolding fieldSize
     left-unkeyed m e = left-refused key kinds 0 s m (omega arith) e
 
@@ -150,27 +151,27 @@ start-least type = start-case (λ (n : ℕ). 3 ≤ n) type (omega arith) (omega 
 pub start-most : (type : ℕ) → sourceStart type ≤ 15
 start-most type = start-case (λ (n : ℕ). n ≤ 15) type (omega arith) (omega arith)
 
--- only type 3 takes wildcards, so that any two other types judge their fields alike
-field-other : (bits m n : ℕ) → eqb m 3 ≡ false → eqb n 3 ≡ false → (k : FieldKind) (s : List ℕ) → fieldSize (keyField bits) bits m k s ≡ fieldSize (keyField bits) bits n k s
-unfolding fieldSize addressField allowed
-field-other bits m n p q distinguisher s = refl
-field-other bits m n p q sourceAs s = refl
-field-other bits m n p q source s = rw (p, q)
-field-other bits m n p q group s = rw (p, q)
-field-other bits m n p q originator s = refl
-field-other bits m n p q key s = refl
+-- only type 3 takes wildcards, so that any two other types judge their fields alike, but for a key
+field-other : (bits m n : ℕ) → eqb m 3 ≡ false → eqb n 3 ≡ false → (k : FieldKind) → sameKind k key ≡ false → (s : List ℕ) → fieldSize (keyField bits) bits m k s ≡ fieldSize (keyField bits) bits n k s
+unfolding fieldSize addressField allowed sameKind codeOf
+field-other bits m n p q distinguisher h s = refl
+field-other bits m n p q sourceAs h s = refl
+field-other bits m n p q source h s = rw (p, q)
+field-other bits m n p q group h s = rw (p, q)
+field-other bits m n p q originator h s = refl
+field-other bits m n p q key h s = absurd (opposite refl h)
 
-left-other : (bits m n : ℕ) (kinds : List FieldKind) (at : ℕ) (s : List ℕ) → eqb m 3 ≡ false → eqb n 3 ≡ false → leftFault bits m kinds at s ≡ leftFault bits n kinds at s
+left-other : (bits m n : ℕ) (kinds : List FieldKind) (at : ℕ) (s : List ℕ) → hasField key kinds ≡ false → eqb m 3 ≡ false → eqb n 3 ≡ false → leftFault bits m kinds at s ≡ leftFault bits n kinds at s
 unfolding leftFault
-left-other bits m n kinds at s p q =
-    ap (λ (size : FieldKind → List ℕ → Outcome ℕ). pick (ltb (length s) at) LENGTH (numberOf (sizesOf size kinds (drop at s)))) (λ i k x. field-other bits m n p q k x i)
+left-other bits m n kinds at s none p q =
+    ap (λ (o : Outcome (List ℕ)). pick (ltb (length s) at) LENGTH (numberOf o)) (sizes-same _ _ kinds (λ k h. field-other bits m n p q k (apart k key kinds h none)) (drop at s))
 
 -- the body of a route type
 module _ (bits type : ℕ) (s : List ℕ) where
   pub body-is : (n : ℕ) → type ≡ n → bodyFault bits n s ≡ bodyFault bits type s
   body-is n e = ap (λ (k : ℕ). bodyFault bits k s) (sym e)
 
-  pub body-none : ((1 ≤ type) × (type ≤ 7) → ⊥) → TYPE ≡ bodyFault bits type s
+  pub body-none : (KnownType type → ⊥) → TYPE ≡ bodyFault bits type s
   unfolding bodyFault
   body-none h = sym (on-body type _ _ ∙ pick-false _ _ _ (unlisted type h))
 
@@ -181,7 +182,7 @@ module _ (bits type : ℕ) (s : List ℕ) where
 
   -- types 5 to 7: fixed octets, a source and a group
   pub body-flow : 4 < type → type ≤ 7 → leftFault bits 5 (source ∷ group ∷ afterFlow 5) (sourceStart type - 3) s ≡ bodyFault bits type s
-  unfolding bodyFault onBody bodies afterFlow sourceStart withSourceAs either pick fieldSize
+  unfolding bodyFault onBody bodies afterFlow sourceStart withSourceAs either pick fieldSize hasField sameKind codeOf
   body-flow low high =
       tested (eqb type 5) (λ t. at 5 (eqb-true _ _ t) (left-fixed bits 5 distinguisher _ 8 0 s (λ y. refl)))
       (λ n₅. tested (eqb type 6) (λ t. at 6 (eqb-true _ _ t) (both 6 (alike 6 refl))) (λ n₆. at 7 (omega (arith, eqb-false)) (both 7 (alike 7 refl))))
@@ -190,7 +191,7 @@ module _ (bits type : ℕ) (s : List ℕ) where
       at k e p = rw e p
 
       alike : (k : ℕ) → eqb k 3 ≡ false → leftFault bits 5 (source ∷ group ∷ []) 12 s ≡ leftFault bits k (source ∷ group ∷ []) 12 s
-      alike k e = left-other bits 5 k (source ∷ group ∷ []) 12 s refl e
+      alike k e = left-other bits 5 k (source ∷ group ∷ []) 12 s refl refl e
 
       both : (k : ℕ) → leftFault bits 5 (source ∷ group ∷ []) 12 s ≡ leftFault bits k (source ∷ group ∷ []) 12 s → leftFault bits 5 (source ∷ group ∷ []) 12 s ≡ leftFault bits k (distinguisher ∷ sourceAs ∷ source ∷ group ∷ []) 0 s
       both k e = e ∙ left-fixed bits k sourceAs _ 4 8 s (λ y. refl) ∙ left-fixed bits k distinguisher _ 8 0 s (λ y. refl)

@@ -16,7 +16,7 @@ use Rattle.nlri.specs.Family.{familyBits}
 use Rattle.nlri.specs.Bodies.{distinguisher, source, group, bodies, onBody}
 use Rattle.nlri.specs.Reading.{Laid, fieldSize, laidAt, laidSingle, fieldsOf, readNlri, isSPmsi}
 use Rattle.nlri.specs.Layouts.{layoutAt}
-use Rattle.nlri.specs.Inner.{leftFault, bodyFault, afterFlow, headerAt, sPmsiUnder}
+use Rattle.nlri.specs.Inner.{leftFault, bodyFault, afterFlow, headerAt, withKey, sPmsiUnder}
 use Rattle.nlri.proofs.Definitions.Whole.{part-whole, single-laid-out}
 use Rattle.nlri.proofs.Definitions.ReadNumbers.{refuses-done, refuses-front}
 use Rattle.nlri.proofs.Functions.Ends.{number-mapped, left-fixed, left-drop}
@@ -42,9 +42,10 @@ none-of (given laid) h = tested (eqb (laid .type) 3) (λ t. absurd (h laid refl 
 module _ (bits : ℕ) (s : List ℕ) where
   -- the octets of a single NLRI of type 3
   opens : (laid : Laid) → laidSingle bits s ≡ given laid → laid .type ≡ 3 → (getD s 0 0 ≡ 3) × (getD s 1 0 ≡ length s - 2) × (10 ≤ length s)
+  unfolding withKey
   opens laid e three =
       let o = single-laid-out bits s laid e in
-      let z = other-sizes bits s laid (o .front) (λ q. omega (arith, three)) in
+      let z = other-sizes bits s laid (o .front) (ap withKey three) in
       (sym (o .out .typed) ∙ three, sym (o .out .sized) ∙ sym (o .all), omega (arith, z .eight, total bits s laid (o .front), o .all, o .out .enough))
 
   module _ (enough : 2 ≤ length s) (t : getD s 0 0 ≡ 3) (n : getD s 1 0 ≡ length s - 2) where

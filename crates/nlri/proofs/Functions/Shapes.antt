@@ -1,15 +1,13 @@
 -- Where the fields of an accepted NLRI stand, for every route type at once: each behind those before it in the order of kinds.
 use mathlib.Core.Path.{_≡_, refl, sym, _∙_, ap, ap₂}
-use mathlib.Core.Bool.{Bool, true, false, not}
+use mathlib.Core.Bool.{Bool, true, false}
 use mathlib.Core.Logic.{_⊎_, inl, inr}
 use mathlib.Core.List.{List, [], _∷_}
 use Prim.Native.Nat.{ℕ, zero, suc, _+_, _-_, _/_, _≤_, _<_}
 use native.Mathlib.Nat.{add-zero}
 use native.Mathlib.Omega.{arith}
-use borrow.Author.Tests.{eqb-true, eqb-false, eq-eqb, ne-eqb}
 use lib.ListN.{length, getD, take, drop, length-drop}
 use lib.Seq.{drop-drop, take-nil, getD-take, getD-drop}
-use lib.Dec.{eqb}
 use Rattle.octets.specs.Choice.{pick, either, both}
 use Rattle.octets.specs.Outcome.{given}
 use Rattle.octets.specs.Octets.{part, numberIn}
@@ -18,29 +16,15 @@ use Rattle.octets.proofs.Lists.{length-part}
 use Rattle.nlri.specs.Bodies.{FieldKind, distinguisher, sourceAs, source, group, originator, key, bodies, fieldIn, sameKind, codeOf, hasField}
 use Rattle.nlri.specs.Reading.{Laid, addressField, fixedField, fieldSize, laidAt, laidSingle, keyField, cut, fieldsOf}
 use Rattle.nlri.specs.Layouts.{layoutOf}
-use Rattle.nlri.specs.Inner.{withSourceAs, sourceStart, distinguisherAt, sourceAsAt, fieldsAt, LayoutWithin}
+use Rattle.nlri.specs.Inner.{withKey, withSourceAs, sourceStart, distinguisherAt, sourceAsAt, fieldsAt, LayoutWithin}
 use Rattle.nlri.proofs.Definitions.FieldRecords.{fields-same}
 use Rattle.nlri.proofs.Definitions.Sizes.{fixed-is, address-is, originator-given}
 use Rattle.nlri.proofs.Definitions.Lengths.{originator-sized}
-use Rattle.nlri.proofs.Definitions.Table.{order, every, every-row, known, lacks, most}
-use Rattle.nlri.proofs.Definitions.Judged.{field-within, field-most}
+use Rattle.nlri.proofs.Definitions.Table.{order, every, every-row, known, known-octet, agree, agree-same, lacks}
+use Rattle.nlri.proofs.Definitions.Judged.{field-within, address-most}
 use Rattle.nlri.proofs.Definitions.Starts.{before, sumOf, StandsAt, sizeIn, startIn, starts, body-stands, body-piece, body-all}
 use Rattle.nlri.proofs.Definitions.Whole.{LaidOut, laid-out, part-whole, single-laid-out}
-use Rattle.nlri.proofs.Definitions.Keys.{key-within, key-most}
-
--- the types whose body has a source and a group
-unfoldable pub flows : ℕ → Bool
-flows type = not (either (eqb type 1) (either (eqb type 2) (eqb type 4)))
-
--- the tests of a type by which the functions go say which kinds its body has
-agree : Bool → Bool → Bool
-agree a b = pick a b (not b)
-
-agree-same : (a b : Bool) → agree a b ≡ true → a ≡ b
-unfolding agree pick
-agree-same true b e = sym e
-agree-same false true e = e
-agree-same false false e = refl
+use Rattle.nlri.proofs.Definitions.Keys.{key-within}
 
 -- parts of an NLRI
 drop-take : (a : ℕ) (x : List ℕ) → drop 1 (take a x) ≡ take (a - 1) (drop 1 x)
@@ -67,31 +51,20 @@ module _ (bits : ℕ) (s : List ℕ) (laid : Laid) (e : laidAt bits s ≡ given 
   abbrev z : FieldKind → ℕ
   z k = sizeIn (laid .body) (laid .sizes) k
 
-  has-is : (k : FieldKind) (test : ℕ → Bool) → every (λ n body. agree (hasField k body) (test n)) bodies ≡ true → hasField k (laid .body) ≡ test (laid .type)
-  has-is k test e = rw (out .body) (agree-same _ _ (every-row _ e (laid .type) (known (laid .type) (out .row .low) (out .row .high))))
+  -- the tests of a type by which the functions go say which kinds its body has
+  pub has-is : (k : FieldKind) (test : ℕ → Bool) → every (λ n body. agree (hasField k body) (test n)) bodies ≡ true → hasField k (laid .body) ≡ test (laid .type)
+  has-is k test e = rw (out .body) (agree-same _ _ (every-row _ e (laid .type) (known (laid .type) (out .row .known))))
 
-  has-key : hasField key (laid .body) ≡ eqb (laid .type) 4
-  unfolding every bodies both agree pick hasField either sameKind codeOf
-  has-key = has-is key (λ n. eqb n 4) refl
-
-  has-distinguisher : hasField distinguisher (laid .body) ≡ not (eqb (laid .type) 4)
-  unfolding every bodies both agree pick hasField either sameKind codeOf
-  has-distinguisher = has-is distinguisher (λ n. not (eqb n 4)) refl
+  pub has-key : hasField key (laid .body) ≡ withKey (laid .type)
+  unfolding every bodies both agree pick hasField either sameKind codeOf withKey
+  has-key = has-is key withKey refl
 
   has-source-as : hasField sourceAs (laid .body) ≡ withSourceAs (laid .type)
   unfolding every bodies both agree pick hasField either sameKind codeOf withSourceAs
   has-source-as = has-is sourceAs withSourceAs refl
 
-  has-source : hasField source (laid .body) ≡ flows (laid .type)
-  unfolding every bodies both agree pick hasField either sameKind codeOf flows
-  has-source = has-is source flows refl
-
-  has-group : hasField group (laid .body) ≡ flows (laid .type)
-  unfolding every bodies both agree pick hasField either sameKind codeOf flows
-  has-group = has-is group flows refl
-
-  lacked : (k : FieldKind) (b : Bool) → hasField k (laid .body) ≡ b → b ≡ false → z k ≡ 0
-  lacked k b p q = lacks 0 k (laid .body) (laid .sizes) (p ∙ q)
+  pub lacked : (k : FieldKind) → hasField k (laid .body) ≡ false → z k ≡ 0
+  lacked k h = lacks 0 k (laid .body) (laid .sizes) h
 
   length-body : length (part s 2 (laid .size)) ≡ laid .size
   length-body = length-part s 2 (laid .size) (omega (arith, out .fits, out .enough))
@@ -109,7 +82,7 @@ module _ (bits : ℕ) (s : List ℕ) (laid : Laid) (e : laidAt bits s ≡ given 
   unfolding sumOf order
   total =
       let all = body-all _ (laid .body) (part s 2 (laid .size)) (laid .sizes) (rw (out .body) (out .row .distinct)) (rw (out .body) (out .row .ordered)) (rw (out .body) (out .sizes))
-      (field-within (keyField bits) bits (λ y n q. key-within bits y n q .1) (laid .type)) in
+      (field-within (keyField bits) bits (λ t y n q. key-within bits t y n q .1) (laid .type)) in
       omega (arith, length-body)
 
   octet : (i : ℕ) → i < laid .size → getD (drop i (part s 2 (laid .size))) 0 0 ≡ getD s (2 + i) 0
@@ -129,34 +102,41 @@ module _ (bits : ℕ) (s : List ℕ) (laid : Laid) (e : laidAt bits s ≡ given 
       let first : getD (drop start (part s 2 (laid .size))) 0 0 ≡ getD s (2 + start) 0 = octet start (omega (arith, p .0, p .1, length-body)) in
       p .0 ∙ ap (λ (n : ℕ). 1 + n / 8) first
 
-  -- the most octets that a kind of field takes
-  pub kind-most : bits ≤ 128 → (k : FieldKind) → z k ≤ most 60 k
-  kind-most small k =
-      tested (hasField k (laid .body)) (λ yes. field-most (keyField bits) bits 60 (key-most bits small) small (laid .type) k _ (z k) (kind-stands k yes .read)) (λ no. omega (arith, lacked k false no refl))
+  -- the octets that an address takes, and an originator
+  pub address-short : bits ≤ 128 → (k : FieldKind) → ((y : List ℕ) → fieldSize (keyField bits) bits (laid .type) k y ≡ addressField bits (laid .type) y) → z k ≤ 17
+  address-short small k is =
+      tested (hasField k (laid .body)) (λ yes. address-most (laid .type) _ (z k) small (sym (is _) ∙ kind-stands k yes .read)) (λ no. omega (arith, lacked k no))
+
+  originator-range : hasField originator (laid .body) ≡ true → (4 ≤ z originator) × (z originator ≤ 16)
+  unfolding fieldSize
+  originator-range h = let p = originator-given _ _ (kind-stands originator h .read) in omega (arith, p .1, originator-sized _ (p .0))
 
   pub originator-least : hasField originator (laid .body) ≡ true → 4 ≤ z originator
-  unfolding fieldSize
-  originator-least h = let p = originator-given _ _ (kind-stands originator h .read) in omega (arith, p .1, originator-sized _ (p .0))
+  originator-least h = originator-range h .0
 
-  -- a Leaf: a key and an originator
+  pub originator-short : z originator ≤ 16
+  originator-short = tested (hasField originator (laid .body)) (λ yes. originator-range yes .1) (λ no. omega (arith, lacked originator no))
+
+  -- an NLRI with a key: behind it an originator
   pub record LeafSizes : Type 0 where
     pub rest : (z distinguisher ≡ 0) × (z sourceAs ≡ 0) × (z source ≡ 0) × (z group ≡ 0)
     pub keyed : (z key ≡ 2 + getD s 3 0) × (2 ≤ z key)
 
-  pub leaf-sizes : laid .type ≡ 4 → LeafSizes
-  unfolding fieldSize sumOf before order sameKind codeOf pick withSourceAs flows either
+  pub leaf-sizes : withKey (laid .type) ≡ true → LeafSizes
+  unfolding fieldSize sumOf before order sameKind codeOf pick hasField either
   leaf-sizes t =
-      let k = key-within bits _ (z key) (kind-stands key (has-key ∙ eq-eqb _ _ t) .read) in
+      let k = key-within bits _ _ (z key) (kind-stands key (has-key ∙ t) .read) in
+      let body : laid .body ≡ key ∷ originator ∷ [] = out .body ∙ out .row .keyed (ap (hasField key) (sym (out .body)) ∙ has-key ∙ t) in
+      let none : (k : FieldKind) → hasField k (key ∷ originator ∷ []) ≡ false → z k ≡ 0 = λ k h. lacked k (ap (hasField k) body ∙ h) in
       let second : getD (part s 2 (laid .size)) 1 0 ≡ getD s 3 0 = sym (getD-drop 1 (part s 2 (laid .size)) 0 0) ∙ octet 1 (omega (arith, length-body, k .0, k .1)) in
       record {
-        rest = (
-          lacked distinguisher _ has-distinguisher (ap (λ (n : ℕ). not (eqb n 4)) t),
-          lacked sourceAs _ has-source-as (ap withSourceAs t),
-          lacked source _ has-source (ap flows t),
-          lacked group _ has-group (ap flows t),
-        );
+        rest = (none distinguisher refl, none sourceAs refl, none source refl, none group refl);
         keyed = (k .2 ∙ ap (λ (n : ℕ). 2 + n) second, k .0);
       }
+
+  pub unnumbered : withKey (laid .type) ≡ true → withSourceAs (laid .type) ≡ false
+  unfolding hasField sameKind codeOf either
+  unnumbered t = sym has-source-as ∙ ap (hasField sourceAs) (out .body ∙ out .row .keyed (ap (hasField key) (sym (out .body)) ∙ has-key ∙ t))
 
   -- any other NLRI begins with a route distinguisher
   pub record OtherSizes : Type 0 where
@@ -165,23 +145,26 @@ module _ (bits : ℕ) (s : List ℕ) (laid : Laid) (e : laidAt bits s ≡ given 
     pub numbered : z sourceAs ≡ pick (withSourceAs (laid .type)) 4 0
     pub start : sourceStart (laid .type) ≡ 3 + (z distinguisher + z sourceAs)
 
-  pub other-sizes : (laid .type ≡ 4 → ⊥) → OtherSizes
+  -- its route distinguisher, and its group by its source
+  unkeyed-row : withKey (laid .type) ≡ false → (hasField distinguisher (laid .body) ≡ true) × (hasField group (laid .body) ≡ hasField source (laid .body))
+  unkeyed-row n = rw (out .body) (out .row .unkeyed (ap (hasField key) (sym (out .body)) ∙ has-key ∙ n))
+
+  pub other-sizes : withKey (laid .type) ≡ false → OtherSizes
   unfolding fieldSize sourceStart
   other-sizes n =
-      let four : eqb (laid .type) 4 ≡ false = ne-eqb _ _ n in
-      let d : z distinguisher ≡ 8 = fixed distinguisher 8 (λ y. refl) (has-distinguisher ∙ ap not four) in
+      let d : z distinguisher ≡ 8 = fixed distinguisher 8 (λ y. refl) (unkeyed-row n .0) in
       let a : (z sourceAs ≡ pick (withSourceAs (laid .type)) 4 0) × (pick (withSourceAs (laid .type)) 15 11 ≡ 3 + (z distinguisher + z sourceAs)) =
       tested (withSourceAs (laid .type))
       (λ yes. let h : z sourceAs ≡ 4 = fixed sourceAs 4 (λ y. refl) (has-source-as ∙ yes) in (h ∙ sym (pick-true _ _ _ yes), pick-true _ _ _ yes ∙ omega arith))
-      (λ no. let h : z sourceAs ≡ 0 = lacked sourceAs _ has-source-as no in (h ∙ sym (pick-false _ _ _ no), pick-false _ _ _ no ∙ omega arith)) in
-      record { unkeyed = lacked key _ has-key four; eight = d; numbered = a .0; start = a .1 }
+      (λ no. let h : z sourceAs ≡ 0 = lacked sourceAs (has-source-as ∙ no) in (h ∙ sym (pick-false _ _ _ no), pick-false _ _ _ no ∙ omega arith)) in
+      record { unkeyed = lacked key (has-key ∙ n); eight = d; numbered = a .0; start = a .1 }
 
   -- a source and a group, each behind its length octet in bits
   pub record FlowSizes : Type 0 where
     pub first : z source ≡ 1 + getD s (sourceStart (laid .type) - 1) 0 / 8
     pub second : z group ≡ 1 + getD s (sourceStart (laid .type) - 1 + z source) 0 / 8
 
-  pub flow-sizes : (laid .type ≡ 4 → ⊥) → flows (laid .type) ≡ true → FlowSizes
+  pub flow-sizes : withKey (laid .type) ≡ false → hasField source (laid .body) ≡ true → FlowSizes
   unfolding fieldSize
   flow-sizes n f =
       let st = starts (laid .body) (laid .sizes) in
@@ -189,12 +172,12 @@ module _ (bits : ℕ) (s : List ℕ) (laid : Laid) (e : laidAt bits s ≡ given 
       let at : 2 + (z distinguisher + z sourceAs) ≡ sourceStart (laid .type) - 1 = omega (arith, o .start) in
       let next : 2 + (z distinguisher + z sourceAs + z source) ≡ sourceStart (laid .type) - 1 + z source = omega (arith, o .start) in
       record {
-        first = rw at at (address source (z distinguisher + z sourceAs) (λ y. refl) (omega (arith, o .unkeyed)) (has-source ∙ f));
-        second = rw next at (address group (z distinguisher + z sourceAs + z source) (λ y. refl) (omega (arith, o .unkeyed)) (has-group ∙ f));
+        first = rw at at (address source (z distinguisher + z sourceAs) (λ y. refl) (omega (arith, o .unkeyed)) f);
+        second = rw next at (address group (z distinguisher + z sourceAs + z source) (λ y. refl) (omega (arith, o .unkeyed)) (unkeyed-row n .1 ∙ f));
       }
 
-  pub no-flow : flows (laid .type) ≡ false → (z source ≡ 0) × (z group ≡ 0)
-  no-flow f = (lacked source _ has-source f, lacked group _ has-group f)
+  pub no-flow : withKey (laid .type) ≡ false → hasField source (laid .body) ≡ false → (z source ≡ 0) × (z group ≡ 0)
+  no-flow n f = (lacked source f, lacked group (unkeyed-row n .1 ∙ f))
 
 -- what a single NLRI's layout says of it
 pub record Shaped (laid : Laid) (s : List ℕ) : Type 0 where
@@ -238,9 +221,9 @@ module _ (bits : ℕ) (small : bits ≤ 128) (s : List ℕ) (laid : Laid) (e : l
   -- by what the type says of its fields
   shape : (w source ≡ 0) ⊎ (3 + start source ≡ sourceStart (laid .type))
       → (w group ≡ 0) ⊎ (3 + start group ≡ sourceStart (laid .type) + (w source - 1) + 1)
-      → (field distinguisher ≡ distinguisherAt (laid .type) s) × ((laid .type ≡ 4 → ⊥) → 10 ≤ length s)
+      → (field distinguisher ≡ distinguisherAt (laid .type) s) × (withKey (laid .type) ≡ false → 10 ≤ length s)
       → (numberIn (field sourceAs) 0 ≡ sourceAsAt (laid .type) s) × (withSourceAs (laid .type) ≡ true → 14 ≤ length s) → Shaped laid s
-  unfolding fieldsOf fieldsAt layoutOf field most
+  unfolding fieldsOf fieldsAt layoutOf field fieldSize
   shape a b d n =
       let at = starts (laid .body) (laid .sizes) in
       let first : 2 + start key ≡ 2 = omega arith in
@@ -249,33 +232,35 @@ module _ (bits : ℕ) (small : bits ≤ 128) (s : List ℕ) (laid : Laid) (e : l
         fields = fields-same refl (d .0) (n .0) (address-at source _ a) (address-at group _ b) (piece originator ∙ ap (λ (i : ℕ). part s i (w originator)) last)
             (piece key ∙ ap (λ (i : ℕ). part s i (w key)) first);
         within = record {
-          typed = out bits s laid e .row .high;
+          typed = known-octet (laid .type) (out bits s laid e .row .known);
           distinguished = d .1;
           numbered = n .1;
-          source = (omega (arith, kind-most bits s laid e small source), address-ends source _ (omega (arith, all)) a);
-          group = (omega (arith, kind-most bits s laid e small group), address-ends group _ (omega (arith, all)) b);
-          originator = (kind-most bits s laid e small originator, omega (arith, long, all));
+          source = (omega (arith, address-short bits s laid e small source (λ y. refl)), address-ends source _ (omega (arith, all)) a);
+          group = (omega (arith, address-short bits s laid e small group (λ y. refl)), address-ends group _ (omega (arith, all)) b);
+          originator = (originator-short bits s laid e, omega (arith, long, all));
           key = omega (arith, long, all);
+          keyed = ap (hasField key) (sym (out bits s laid e .body)) ∙ has-key bits s laid e;
         };
       }
 
-  leaf-shaped : laid .type ≡ 4 → Shaped laid s
-  unfolding distinguisherAt sourceAsAt numberIn withSourceAs either
+  leaf-shaped : withKey (laid .type) ≡ true → Shaped laid s
+  unfolding distinguisherAt sourceAsAt numberIn
   leaf-shaped t =
       let l = leaf-sizes bits s laid e t in
+      let none : withSourceAs (laid .type) ≡ false = unnumbered bits s laid e t in
       shape (inl (l .rest .2)) (inl (l .rest .3))
-      (no-piece distinguisher (l .rest .0) ∙ sym (pick-true _ _ _ (eq-eqb _ _ t)), λ n. absurd (n t))
-      (ap (λ (x : List ℕ). numberIn x 0) (no-piece sourceAs (l .rest .1)) ∙ sym (pick-false _ _ _ (ap withSourceAs t)), λ n. absurd (opposite {b = true} refl (sym (ap withSourceAs (sym t) ∙ n))))
+      (no-piece distinguisher (l .rest .0) ∙ sym (pick-true _ _ _ t), λ n. absurd (opposite t n))
+      (ap (λ (x : List ℕ). numberIn x 0) (no-piece sourceAs (l .rest .1)) ∙ sym (pick-false _ _ _ none), λ n. absurd (opposite n none))
 
-  other-shaped : (laid .type ≡ 4 → ⊥) → Shaped laid s
+  other-shaped : withKey (laid .type) ≡ false → Shaped laid s
   unfolding distinguisherAt sourceAsAt numberIn
   other-shaped t =
       let at = starts (laid .body) (laid .sizes) in
       let o = other-sizes bits s laid e t in
       let flow : (w group ≡ 0) ⊎ (3 + start group ≡ sourceStart (laid .type) + (w source - 1) + 1) =
-      tested (flows (laid .type))
+      tested (hasField source (laid .body))
       (λ yes. inr (omega (arith, o .unkeyed, o .start, flow-sizes bits s laid e t yes .first)))
-      (λ no. inl (no-flow bits s laid e no .1)) in
+      (λ no. inl (no-flow bits s laid e t no .1)) in
       let number : (numberIn (field sourceAs) 0 ≡ pick (withSourceAs (laid .type)) (numberIn (part s 10 4) 0) 0) × (withSourceAs (laid .type) ≡ true → 14 ≤ length s) =
       tested (withSourceAs (laid .type))
       (λ yes.
@@ -285,10 +270,10 @@ module _ (bits : ℕ) (small : bits ≤ 128) (s : List ℕ) (laid : Laid) (e : l
       (λ no. (ap (λ (x : List ℕ). numberIn x 0) (no-piece sourceAs (o .numbered ∙ pick-false _ _ _ no)) ∙ sym (pick-false _ _ _ no), λ yes. absurd (opposite yes no))) in
       let two : 2 + start distinguisher ≡ 2 = omega (arith, o .unkeyed) in
       shape (inr (omega (arith, o .unkeyed, o .start))) flow
-      (piece distinguisher ∙ ap₂ (part s) two (o .eight) ∙ sym (pick-false _ _ _ (ne-eqb _ _ t)), λ _. omega (arith, long, all, o .eight))
+      (piece distinguisher ∙ ap₂ (part s) two (o .eight) ∙ sym (pick-false _ _ _ t), λ _. omega (arith, long, all, o .eight))
       number
 
 pub shaped : (bits : ℕ) (s : List ℕ) (laid : Laid) → bits ≤ 128 → laidSingle bits s ≡ given laid → Shaped laid s
 shaped bits s laid small e =
     let o = single-laid-out bits s laid e in
-    tested (eqb (laid .type) 4) (λ yes. leaf-shaped bits small s laid (o .front) (o .all) (eqb-true _ _ yes)) (λ no. other-shaped bits small s laid (o .front) (o .all) (eqb-false _ _ no))
+    tested (withKey (laid .type)) (leaf-shaped bits small s laid (o .front) (o .all)) (other-shaped bits small s laid (o .front) (o .all))

@@ -1,14 +1,15 @@
 -- A single NLRI: its layout, and its fields by its layout.
-use mathlib.Core.Path.{_≡_, sym, _∙_, ap, ap₂, subst}
+use mathlib.Core.Path.{_≡_, refl, sym, _∙_, ap, ap₂, subst}
 use mathlib.Core.Bool.{true}
 use mathlib.Core.List.{List}
 use Prim.Native.Nat.{ℕ, _+_, _-_, _≤_}
 use lib.ListN.{length, getD}
-use lib.Dec.{eqb}
 use Rattle.octets.specs.Numbers.{DONE}
 use Rattle.octets.specs.Choice.{pick}
 use Rattle.octets.specs.Outcome.{Outcome, given, refused, andThen, onOutcome}
+use Rattle.octets.specs.Octets.{part}
 use Rattle.octets.specs.declared.Span.{Span}
+use Rattle.octets.proofs.Choice.{pick-true, tested}
 use Rattle.octets.proofs.Outcome.{goes, and-assoc, and-cong, and-pick, and-given, and-refused, passed, given-same, refused-alike}
 use Rattle.nlri.specs.declared.layout.Layout.{Layout}
 use Rattle.nlri.specs.declared.address.Address.{Address}
@@ -18,13 +19,13 @@ use Rattle.nlri.specs.declared.fields.NlriReading.{NlriReading}
 use Rattle.nlri.specs.Family.{familyBits}
 use Rattle.nlri.specs.Bodies.{originator, bodyOf, hasField}
 use Rattle.nlri.specs.Fields.{Fields}
-use Rattle.nlri.specs.Reading.{Laid, laidSingle, fieldsOf, readNlri}
+use Rattle.nlri.specs.Reading.{Laid, laidAt, laidSingle, fieldsOf, readNlri}
 use Rattle.nlri.specs.Layouts.{layoutOf, layoutAt, layoutSingle}
 use Rattle.nlri.specs.Answers.{nlriStruct, keySpan, nlriAnswer}
-use Rattle.nlri.specs.Inner.{layoutIn, Stands, fieldsAt, keyAt, LayoutWithin, endsWith, single}
+use Rattle.nlri.specs.Inner.{withKey, layoutIn, Stands, fieldsAt, keyAt, LayoutWithin, endsWith, single}
 use Rattle.nlri.proofs.Definitions.Lengths.{family-octets}
 use Rattle.octets.proofs.Lists.{length-part}
-use Rattle.nlri.proofs.Functions.Shapes.{shaped, originator-least}
+use Rattle.nlri.proofs.Functions.Shapes.{shaped, originator-least, other-sizes}
 use Rattle.nlri.proofs.Functions.Standing.{stands, laid-as}
 use Rattle.nlri.proofs.Definitions.Whole.{single-laid-out}
 
@@ -86,9 +87,24 @@ pub nlri-same : (d d′ : RouteDistinguisher) (a a′ g g′ o o′ : Address) (
     → _≡_ {A = Nlri} (record { distinguisher = d; source = a; group = g; originator = o; «source_as» = x; «route_type» = t }) (record { distinguisher = d′; source = a′; group = g′; originator = o′; «source_as» = x′; «route_type» = t′ })
 nlri-same d d′ a a′ g g′ o o′ x x′ t t′ pd pa pg po px pt = λ i. record { distinguisher = pd i; source = pa i; group = pg i; originator = po i; «source_as» = px i; «route_type» = pt i }
 
-pub key-same : (l : Layout) (s : List ℕ) → 2 + l .key ≤ length s → keyAt l ≡ keySpan (fieldsAt l s)
+pub key-same : (l : Layout) (s : List ℕ) → LayoutWithin l s → keyAt l ≡ keySpan (fieldsAt l s)
 unfolding keyAt keySpan fieldsAt
-key-same l s h = λ i. record { start = pick (eqb (l .«route_type») 4) 2 0; size = sym (length-part s 2 (l .key) h) i }
+key-same l s w = λ i. record { start = pick (sym (w .keyed) i) 2 0; size = sym (length-part s 2 (l .key) (w .key)) i }
+
+-- a key stands where its span says; where there is none, any start will do
+key-start : (bits : ℕ) (s : List ℕ) (laid : Laid) → laidAt bits s ≡ given laid → part s (keyAt (layoutOf laid) .start) (layoutOf laid .key) ≡ part s 2 (layoutOf laid .key)
+unfolding keyAt layoutOf part
+key-start bits s laid e =
+    tested (withKey (laid .type)) (λ yes. ap (λ (n : ℕ). part s n (layoutOf laid .key)) (pick-true _ 2 0 yes)) (λ no. rw (other-sizes bits s laid e no .unkeyed) refl)
+
+pub key-spanned : (afi : ℕ) (s : List ℕ) (f : Fields) → readNlri afi s ≡ given f → part s (keySpan f .start) (keySpan f .size) ≡ f .key
+unfolding readNlri fieldsAt keyAt layoutOf part
+key-spanned afi s f e =
+    let p = passed _ _ _ e in
+    let q = passed _ _ _ (p .second) in
+    let shape = shaped (p .value) s (q .value) (family-octets afi (p .value) (p .first) .1) (q .first) in
+    subst (λ (g : Fields). part s (keySpan g .start) (keySpan g .size) ≡ g .key) (sym (shape .fields) ∙ given-same (q .second))
+    (ap (λ (k : Span). part s (k .start) (k .size)) (sym (key-same (layoutOf (q .value)) s (shape .within))) ∙ key-start (p .value) s (q .value) (single-laid-out (p .value) s (q .value) (q .first) .front))
 
 pub answer-given : (afi : ℕ) (s : List ℕ) (f : Fields) (nlri : Nlri) (key : Span) → readNlri afi s ≡ given f → nlri ≡ nlriStruct f → key ≡ keySpan f → record { number = DONE; nlri = nlri; key = key } ≡ nlriAnswer (readNlri afi s)
 unfolding nlriAnswer onOutcome

@@ -1,13 +1,13 @@
 -- An accepted NLRI is laid out as its octets say.
-use mathlib.Core.Path.{_≡_, sym, _∙_, ap}
-use mathlib.Core.Bool.{true, not}
+use mathlib.Core.Path.{_≡_, refl, sym, _∙_, ap}
+use mathlib.Core.Bool.{true, false, not}
 use mathlib.Core.List.{List}
 use Prim.Native.Nat.{ℕ, _+_, _-_, _/_, _≤_}
 use native.Mathlib.Omega.{arith}
 use borrow.Author.Tests.{eqb-true, eqb-false, ne-eqb}
 use lib.ListN.{length, getD}
 use lib.Dec.{eqb}
-use Rattle.octets.specs.Choice.{pick, either}
+use Rattle.octets.specs.Choice.{pick, either, both}
 use Rattle.octets.specs.Numbers.{DONE}
 use Rattle.octets.specs.Outcome.{given, numberOf}
 use Rattle.octets.proofs.Choice.{picks, skips, tested, either-false}
@@ -15,11 +15,11 @@ use Rattle.octets.proofs.Outcome.{passed, given-same}
 use Rattle.nlri.specs.Bodies.{FieldKind, distinguisher, sourceAs, source, group, originator, key, bodies, onBody, bodyOf, codeOf, sameKind, hasField}
 use Rattle.nlri.specs.Reading.{Laid, laidAt}
 use Rattle.nlri.specs.Layouts.{layoutOf, layoutAt}
-use Rattle.nlri.specs.Inner.{layoutWith, withSourceAs, sourceStart, sizeAt, flowLayout, leafLayout, layoutIn, FlowStands, Stands}
-use Rattle.nlri.proofs.Definitions.Table.{lacks}
+use Rattle.nlri.specs.Inner.{layoutWith, withKey, withSourceAs, sourceStart, sizeAt, flowLayout, leafLayout, layoutIn, FlowStands, Stands}
+use Rattle.nlri.proofs.Definitions.Table.{every, agree}
 use Rattle.nlri.proofs.Definitions.ReadNumbers.{refuses-done, refuses-layout}
 use Rattle.nlri.proofs.Definitions.Starts.{sizeIn}
-use Rattle.nlri.proofs.Functions.Shapes.{out, total, flows, leaf-sizes, other-sizes, flow-sizes, no-flow}
+use Rattle.nlri.proofs.Functions.Shapes.{out, total, has-is, lacked, leaf-sizes, other-sizes, flow-sizes, no-flow}
 
 module _ (bits : ℕ) (s : List ℕ) (laid : Laid) (e : laidAt bits s ≡ given laid) where
   abbrev z : FieldKind → ℕ
@@ -37,11 +37,14 @@ module _ (bits : ℕ) (s : List ℕ) (laid : Laid) (e : laidAt bits s ≡ given 
   all : z key + (z distinguisher + (z sourceAs + (z source + (z group + z originator)))) ≡ laid .size
   all = total bits s laid e
 
-  flowing : (laid .type ≡ 1 → ⊥) → (laid .type ≡ 2 → ⊥) → (laid .type ≡ 4 → ⊥) → flows (laid .type) ≡ true
-  unfolding flows
-  flowing one two four = ap not (either-false _ _ (ne-eqb (laid .type) 1 one) (either-false _ _ (ne-eqb (laid .type) 2 two) (ne-eqb (laid .type) 4 four)))
+  -- every other type has a source and a group
+  flowing : (laid .type ≡ 1 → ⊥) → (laid .type ≡ 2 → ⊥) → withKey (laid .type) ≡ false → hasField source (laid .body) ≡ true
+  unfolding every bodies both agree pick hasField sameKind codeOf either withKey
+  flowing one two unkeyed =
+      has-is bits s laid e source (λ n. not (either (eqb n 1) (either (eqb n 2) (withKey n)))) refl
+      ∙ ap not (either-false _ _ (ne-eqb (laid .type) 1 one) (either-false _ _ (ne-eqb (laid .type) 2 two) unkeyed))
 
-  flow-stands : (laid .type ≡ 4 → ⊥) → flows (laid .type) ≡ true → FlowStands (sourceStart (laid .type) - 1) s × (layoutOf laid ≡ flowLayout (laid .type) (sourceStart (laid .type) - 1) s)
+  flow-stands : withKey (laid .type) ≡ false → hasField source (laid .body) ≡ true → FlowStands (sourceStart (laid .type) - 1) s × (layoutOf laid ≡ flowLayout (laid .type) (sourceStart (laid .type) - 1) s)
   unfolding flowLayout layoutWith layoutOf sizeAt
   flow-stands n f =
       let o = other-sizes bits s laid e n in
@@ -61,32 +64,33 @@ module _ (bits : ℕ) (s : List ℕ) (laid : Laid) (e : laidAt bits s ≡ given 
   unfolding layoutWith layoutOf
   plain-layout n o t f p k q = λ i. record { «route_type» = t i; length = size i; source = f .0 i - 1; group = f .1 i - 1; originator = p i; key = q i }
 
-  no-originator : laid .type ≡ 2 → z originator ≡ 0
-  unfolding bodyOf bodies onBody pick hasField sameKind codeOf either
-  no-originator t = lacks 0 originator (laid .body) (laid .sizes) (ap (hasField originator) (out bits s laid e .body ∙ ap bodyOf t))
+  -- the body of a type that is given
+  body-of : (n : ℕ) → laid .type ≡ n → (k : FieldKind) → hasField k (laid .body) ≡ hasField k (bodyOf n)
+  body-of n t k = ap (hasField k) (out bits s laid e .body ∙ ap bodyOf t)
 
   pub stands : Stands s
+  unfolding withKey
   stands =
       record {
         header = out bits s laid e .enough;
-        intraAs = λ q. omega (arith, other-sizes bits s laid e (λ four. omega (arith, type)) .eight, all, size);
-        leaf = λ q. let l = leaf-sizes bits s laid e (type ∙ q) in (omega (arith, l .keyed, all, long), omega (arith, l .keyed, all, size));
-        flow = λ one two four. rw type at (flow-stands (λ q. four (sym type ∙ q)) (flowing (λ q. one (sym type ∙ q)) (λ q. two (sym type ∙ q)) (λ q. four (sym type ∙ q))) .0);
+        intraAs = λ q. omega (arith, other-sizes bits s laid e (ap withKey (type ∙ q)) .eight, all, size);
+        leaf = λ q. let l = leaf-sizes bits s laid e (ap withKey type ∙ q) in (omega (arith, l .keyed, all, long), omega (arith, l .keyed, all, size));
+        flow = λ one two unkeyed. let n = ap withKey type ∙ unkeyed in rw type at (flow-stands n (flowing (λ q. one (sym type ∙ q)) (λ q. two (sym type ∙ q)) n) .0);
       }
 
   pub laid-as : layoutOf laid ≡ layoutIn s
-  unfolding layoutIn leafLayout flows withSourceAs either pick
+  unfolding layoutIn leafLayout withKey withSourceAs either pick bodyOf bodies onBody hasField sameKind codeOf
   laid-as =
       tested (eqb (getD s 0 0) 1)
-      (λ t₁. let t : laid .type ≡ 1 = type ∙ eqb-true _ _ t₁ in let o = other-sizes bits s laid e (λ q. omega (arith, t)) in let f = no-flow bits s laid e (ap flows t) in
+      (λ t₁. let t : laid .type ≡ 1 = type ∙ eqb-true _ _ t₁ in let o = other-sizes bits s laid e (ap withKey t) in let f = no-flow bits s laid e (ap withKey t) (body-of 1 t source) in
       picks _ _ _ _ t₁ (plain-layout 1 (getD s 1 0 - 8) t f (omega (arith, o .unkeyed, o .eight, o .numbered ∙ ap (λ (n : ℕ). pick (withSourceAs n) 4 0) t, f .0, f .1, all, size)) 0 (o .unkeyed)))
       (λ n₁. tested (eqb (getD s 0 0) 2)
-      (λ t₂. let t : laid .type ≡ 2 = type ∙ eqb-true _ _ t₂ in skips _ _ _ _ n₁ (picks _ _ _ _ t₂ (plain-layout 2 0 t (no-flow bits s laid e (ap flows t)) (no-originator t) 0 (other-sizes bits s laid e (λ q. omega (arith, t)) .unkeyed))))
-      (λ n₂. skips _ _ _ _ n₁ (skips _ _ _ _ n₂ (tested (eqb (getD s 0 0) 4)
-      (λ t₄. let t : laid .type ≡ 4 = type ∙ eqb-true _ _ t₄ in let l = leaf-sizes bits s laid e t in
-      picks _ _ _ _ t₄ (plain-layout 4 (getD s 1 0 - (2 + getD s 3 0)) t (l .rest .2, l .rest .3) (omega (arith, l .rest, l .keyed .0, all, size)) (2 + getD s 3 0) (l .keyed .0)))
-      (λ n₄. skips _ _ _ _ n₄ (flow-stands (λ q. eqb-false _ _ n₄ (sym type ∙ q))
-      (flowing (λ q. eqb-false _ _ n₁ (sym type ∙ q)) (λ q. eqb-false _ _ n₂ (sym type ∙ q)) (λ q. eqb-false _ _ n₄ (sym type ∙ q))) .1
+      (λ t₂. let t : laid .type ≡ 2 = type ∙ eqb-true _ _ t₂ in skips _ _ _ _ n₁ (picks _ _ _ _ t₂ (plain-layout 2 0 t (no-flow bits s laid e (ap withKey t) (body-of 2 t source)) (lacked bits s laid e originator (body-of 2 t originator)) 0 (other-sizes bits s laid e (ap withKey t) .unkeyed))))
+      (λ n₂. skips _ _ _ _ n₁ (skips _ _ _ _ n₂ (tested (withKey (getD s 0 0))
+      (λ keyed. let l = leaf-sizes bits s laid e (ap withKey type ∙ keyed) in
+      picks _ _ _ _ keyed (plain-layout (getD s 0 0) (getD s 1 0 - (2 + getD s 3 0)) type (l .rest .2, l .rest .3) (omega (arith, l .rest, l .keyed .0, all, size)) (2 + getD s 3 0) (l .keyed .0)))
+      (λ unkeyed. skips _ _ _ _ unkeyed (flow-stands (ap withKey type ∙ unkeyed)
+      (flowing (λ q. eqb-false _ _ n₁ (sym type ∙ q)) (λ q. eqb-false _ _ n₂ (sym type ∙ q)) (ap withKey type ∙ unkeyed)) .1
       ∙ ap (λ (k : ℕ). flowLayout k (sourceStart k - 1) s) type))))))
 
 -- by the number

@@ -1,8 +1,8 @@
--- The writer's verdict on an NLRI, and what it then writes, is document 01's, row by row of the table of bodies.
-use mathlib.Core.Path.{_≡_, refl, sym, _∙_, ap, ap₂, subst}
-use mathlib.Core.Bool.{Bool, true, false}
+-- The writer's verdict on an NLRI, and what it then writes, is document 01's, by the kinds of fields that its type has.
+use mathlib.Core.Path.{_≡_, refl, sym, _∙_, ap, ap₂}
+use mathlib.Core.Bool.{Bool, true, false, not}
 use mathlib.Core.Logic.{_⊎_, inl, inr}
-use mathlib.Core.List.{List, [], _∷_, append-nil, append-assoc}
+use mathlib.Core.List.{List, [], _∷_, _++_, append-nil, append-assoc}
 use Prim.Native.Nat.{ℕ, _*_, _≤_, _<_}
 use native.Mathlib.Omega.{arith}
 use borrow.Author.Tests.{eqb-true, ltb-true, ltb-false, eq-eqb, lt-ltb, le-ltb}
@@ -12,127 +12,133 @@ use Rattle.octets.specs.Numbers.{DONE, TYPE, WIDTH, KEY, SPACE}
 use Rattle.octets.specs.Choice.{pick, both, either}
 use Rattle.octets.specs.Outcome.{Outcome, given, refused, andThen, numberOf}
 use Rattle.octets.proofs.AllOctets.{octets-of}
-use Rattle.octets.proofs.Choice.{opposite, both-true-left, both-true-right, either-true, pick-true, pick-false}
+use Rattle.octets.proofs.Choice.{opposite, both-assoc, both-true-left, both-true-right, either-true, pick-true, pick-false, pick-cong}
 use Rattle.octets.proofs.Outcome.{given-otherwise, given-unless, and-cong, goes, stops, refused-of}
 use Rattle.nlri.specs.declared.fields.Nlri.{Nlri}
 use Rattle.nlri.specs.Family.{familyBits, allowed, isOriginatorSize}
-use Rattle.nlri.specs.Bodies.{FieldKind, Row, row, bodies, onBody, bodyOf}
+use Rattle.nlri.specs.Bodies.{FieldKind, distinguisher, sourceAs, source, group, originator, key, bodies, onBody, bodyOf, codeOf, sameKind}
 use Rattle.nlri.specs.Fields.{Fields, encodeField, encodeBody, encodeNlri}
 use Rattle.nlri.specs.Writing.{widthFits, widthsFit, keyFits, keysFit, isKey, writeNlri}
 use Rattle.nlri.specs.Answers.{addressOctets, structFields}
 use Rattle.nlri.specs.Inner.{withSourceAs}
 use Rattle.nlri.specs.InnerWriting.{hasFlow, hasOriginator, flowFits, originatorFits, leafFits, fitting, sizeOf, sourceAsOctets, fixedOctets, flowOctets, originatorOctets, bodyOctets, nlriOctets, AddressSize, AddressesSized, writeUnder}
-use Rattle.nlri.proofs.Definitions.Table.{listed, on-body, known, unlisted}
+use Rattle.nlri.proofs.Definitions.Table.{listed, on-body, known, unlisted, every, every-row, kept, order, sameKinds, same-kinds}
 use Rattle.nlri.proofs.Definitions.Keys.{octets-key}
-use Rattle.nlri.proofs.Definitions.Writes.{key-judged}
+use Rattle.nlri.proofs.Definitions.Writes.{all, widths-all, keys-all, key-judged}
 use Rattle.nlri.proofs.Functions.Puts.{length-octets, size-is, fixed-short, flow-short, originator-short}
 
--- a property of each row of a table, and so of every type that it lists
-abbrev EachRow : (ℕ → List FieldKind → Type 0) → List Row → Type 0
-EachRow P [] = Unit {0}
-EachRow P (row n body ∷ rows) = P n body × EachRow P rows
+-- the tests of a type by which the writer goes say which kinds its body has
+hasKind : ℕ → FieldKind → Bool
+hasKind type distinguisher = not (eqb type 4)
+hasKind type sourceAs = withSourceAs type
+hasKind type source = hasFlow type
+hasKind type group = hasFlow type
+hasKind type originator = hasOriginator type
+hasKind type key = eqb type 4
 
-each-listed : (P : ℕ → List FieldKind → Type 0) (table : List Row) (type : ℕ) → EachRow P table → listed table type ≡ true → P type (onBody table type [] (λ body. body))
-unfolding listed onBody either pick
-each-listed P [] type each l = absurd (opposite l refl)
-each-listed P (row n body ∷ rows) type each l = go (eqb type n) refl l (each-listed P rows type (each .1))
-  where
-    go : (b : Bool) → eqb type n ≡ b → either b (listed rows type) ≡ true → (listed rows type ≡ true → P type (onBody rows type [] (λ body. body))) → P type (pick b body (onBody rows type [] (λ body. body)))
-    go true same l later = subst (λ (m : ℕ). P m body) (sym (eqb-true type n same)) (each .0)
-    go false other l later = later l
+body-told : every (λ n body. sameKinds body (kept (hasKind n) order)) bodies ≡ true
+unfolding every bodies both sameKinds kept order hasKind sameKind codeOf pick either withSourceAs hasFlow hasOriginator
+body-told = refl
 
--- the tests of a body, joined as the writer joins them
-widths-3 : (x y z : Bool) (A : Type 0) (u w : A) → pick (both true (both x (both y (both z true)))) u w ≡ pick (both x y) (pick z u w) w
+body-kinds : (type : ℕ) → listed bodies type ≡ true → bodyOf type ≡ kept (hasKind type) order
+body-kinds type l = same-kinds _ _ (every-row _ body-told type l)
+
+-- of kinds that a test keeps: what they are written as, and a test of each
+written : Fields → (FieldKind → Bool) → List FieldKind → List ℕ
+written f has [] = []
+written f has (k ∷ kinds) = pick (has k) (encodeField f k) [] ++ written f has kinds
+
+written-first : (f : Fields) (b : Bool) (k : FieldKind) (rest : List FieldKind) → encodeBody f (pick b (k ∷ rest) rest) ≡ pick b (encodeField f k) [] ++ encodeBody f rest
+unfolding encodeBody pick
+written-first f true k rest = refl
+written-first f false k rest = refl
+
+written-kept : (f : Fields) (has : FieldKind → Bool) (kinds : List FieldKind) → encodeBody f (kept has kinds) ≡ written f has kinds
+unfolding encodeBody kept written
+written-kept f has [] = refl
+written-kept f has (k ∷ kinds) = written-first f (has k) k (kept has kinds) ∙ ap (λ (x : List ℕ). pick (has k) (encodeField f k) [] ++ x) (written-kept f has kinds)
+
+passes : (FieldKind → Bool) → (FieldKind → Bool) → List FieldKind → Bool
+passes test has [] = true
+passes test has (k ∷ kinds) = both (pick (has k) (test k) true) (passes test has kinds)
+
+passes-first : (test : FieldKind → Bool) (b : Bool) (k : FieldKind) (rest : List FieldKind) → all test (pick b (k ∷ rest) rest) ≡ both (pick b (test k) true) (all test rest)
+unfolding all pick both
+passes-first test true k rest = refl
+passes-first test false k rest = refl
+
+passes-kept : (test has : FieldKind → Bool) (kinds : List FieldKind) → all test (kept has kinds) ≡ passes test has kinds
+unfolding all kept passes
+passes-kept test has [] = refl
+passes-kept test has (k ∷ kinds) = passes-first test (has k) k (kept has kinds) ∙ ap (both (pick (has k) (test k) true)) (passes-kept test has kinds)
+
+-- pieces and tests, joined as the writer joins them
+fixed-joined : (keyed numbered : Bool) (k d a rest : List ℕ) → (keyed ≡ true → numbered ≡ false)
+    → pick keyed k [] ++ (pick (not keyed) d [] ++ (pick numbered a [] ++ rest)) ≡ pick keyed k (d ++ pick numbered a []) ++ rest
+unfolding pick
+fixed-joined true true k d a rest h = absurd (opposite {b = true} refl (h refl))
+fixed-joined true false k d a rest h = refl
+fixed-joined false numbered k d a rest h = sym (append-assoc d (pick numbered a []) rest)
+
+flow-joined : (flow : Bool) (s g rest : List ℕ) → pick flow s [] ++ (pick flow g [] ++ rest) ≡ pick flow (s ++ g) [] ++ rest
+unfolding pick
+flow-joined true s g rest = sym (append-assoc s g rest)
+flow-joined false s g rest = refl
+
+free : (b x : Bool) → both (pick b true true) x ≡ x
 unfolding pick both
-widths-3 true true true A u w = refl
-widths-3 true true false A u w = refl
-widths-3 true false true A u w = refl
-widths-3 true false false A u w = refl
-widths-3 false y z A u w = refl
+free true x = refl
+free false x = refl
 
-widths-2 : (x y : Bool) (A : Type 0) (u w : A) → pick (both x (both y true)) u w ≡ pick (both x y) (pick true u w) w
+both-end : (b : Bool) → both b true ≡ b
+unfolding both
+both-end true = refl
+both-end false = refl
+
+flow-tests : (flow s g x : Bool) → both (pick flow s true) (both (pick flow g true) x) ≡ both (pick flow (both s g) true) x
 unfolding pick both
-widths-2 true true A u w = refl
-widths-2 true false A u w = refl
-widths-2 false y A u w = refl
+flow-tests true s g x = sym (both-assoc s g x)
+flow-tests false s g x = refl
 
-widths-1 : (z : Bool) (A : Type 0) (u w : A) → pick (both true (both z true)) u w ≡ pick true (pick z u w) w
+pick-both : {A : Type 0} (a b : Bool) (u w : A) → pick (both a b) u w ≡ pick a (pick b u w) w
 unfolding pick both
-widths-1 true A u w = refl
-widths-1 false A u w = refl
+pick-both true b u w = refl
+pick-both false b u w = refl
 
-leaf-tests : (z k : Bool) (A : Type 0) (u s w : A) → pick (both true (both z true)) (pick (both k (both true true)) u s) w ≡ pick true (pick z (pick k u s) w) w
-unfolding pick both
-leaf-tests true true A u s w = refl
-leaf-tests true false A u s w = refl
-leaf-tests false k A u s w = refl
+module _ (nlri : Nlri) (keyOctets : List ℕ) (l : listed bodies (nlri .«route_type») ≡ true) where
+  -- the body that is written is document 01's
+  body-is : encodeBody (structFields nlri keyOctets) (bodyOf (nlri .«route_type»)) ≡ bodyOctets nlri keyOctets
+  unfolding written hasKind order encodeField structFields bodyOctets fixedOctets sourceAsOctets flowOctets originatorOctets withSourceAs either
+  body-is =
+      let f : Fields = structFields nlri keyOctets in
+      let type : ℕ = nlri .«route_type» in
+      ap (encodeBody f) (body-kinds type l)
+      ∙ written-kept f (hasKind type) order
+      ∙ fixed-joined (eqb type 4) (withSourceAs type) _ _ _ _ (λ four. ap withSourceAs (eqb-true type 4 four))
+      ∙ ap (λ (x : List ℕ). fixedOctets nlri keyOctets ++ x) (flow-joined (hasFlow type) _ _ _ ∙ ap (λ (x : List ℕ). flowOctets nlri ++ x) (append-nil (originatorOctets nlri)))
 
-module _ (nlri : Nlri) (key : List ℕ) where
-  -- the body that is written is document 01's, for each type
-  body-at : (type : ℕ) → listed bodies type ≡ true → nlri .«route_type» ≡ type → encodeBody (structFields nlri key) (bodyOf type) ≡ bodyOctets nlri key
-  unfolding encodeBody encodeField structFields bodyOf bodies pick either bodyOctets fixedOctets sourceAsOctets flowOctets originatorOctets withSourceAs hasFlow hasOriginator
-  body-at type l =
-      each-listed (λ (n : ℕ) (body : List FieldKind). nlri .«route_type» ≡ n → encodeBody (structFields nlri key) body ≡ bodyOctets nlri key) bodies type (
-        (λ e. rw e (simp (append-nil, append-assoc))),
-        (
-          (λ e. rw e (simp (append-nil, append-assoc))),
-          (
-            (λ e. rw e (simp (append-nil, append-assoc))),
-            (
-              (λ e. rw e (simp (append-nil, append-assoc))),
-              (
-                (λ e. rw e (simp (append-nil, append-assoc))),
-                (
-                  (λ e. rw e (simp (append-nil, append-assoc))),
-                  (
-                    (λ e. rw e (simp (append-nil, append-assoc))),
-                    tt,
-                  ),
-                ),
-              ),
-            ),
-          ),
-        ),
-      )
-      l
-
-  all-is : listed bodies (nlri .«route_type») ≡ true → encodeNlri (structFields nlri key) ≡ nlriOctets nlri key
+  all-is : encodeNlri (structFields nlri keyOctets) ≡ nlriOctets nlri keyOctets
   unfolding encodeNlri nlriOctets structFields
-  all-is l = ap (λ (b : List ℕ). nlri .«route_type» ∷ length b ∷ b) (body-at (nlri .«route_type») l refl)
+  all-is = ap (λ (b : List ℕ). nlri .«route_type» ∷ length b ∷ b) body-is
 
 -- the verdict on a body: document 01's is the writer's
-module _ (bits : ℕ) (f : Fields) (A : Type 0) (done short wide : A) where
-  mine : ℕ → A
-  mine type =
-      pick (flowFits bits type (length (f .source)) (length (f .group)))
-      (pick (originatorFits type (length (f .originator))) (pick (leafFits bits type (f .key)) done short) wide) wide
+module _ (bits : ℕ) (f : Fields) (l : listed bodies (f .type) ≡ true) where
+  widths-are : widthsFit bits f (bodyOf (f .type)) ≡ both (flowFits bits (f .type) (length (f .source)) (length (f .group))) (originatorFits (f .type) (length (f .originator)))
+  unfolding passes hasKind order widthFits flowFits originatorFits
+  widths-are =
+      ap (widthsFit bits f) (body-kinds (f .type) l) ∙ widths-all bits f _ ∙ passes-kept (widthFits bits f) (hasKind (f .type)) order
+      ∙ free _ _ ∙ free _ _ ∙ free _ _ ∙ flow-tests (hasFlow (f .type)) _ _ _ ∙ ap (both _) (both-end _)
 
-  verdict-at : (type : ℕ) → listed bodies type ≡ true → f .type ≡ type → pick (widthsFit bits f (bodyOf type)) (pick (keysFit bits f (bodyOf type)) done short) wide ≡ mine type
-  unfolding mine widthsFit widthFits keysFit keyFits bodyOf bodies pick either both flowFits originatorFits leafFits hasFlow hasOriginator
-  verdict-at type l =
-      each-listed (λ (n : ℕ) (body : List FieldKind). f .type ≡ n → pick (widthsFit bits f body) (pick (keysFit bits f body) done short) wide ≡ mine n) bodies type (
-        (λ e. widths-1 (isOriginatorSize (length (f .originator))) A done wide),
-        (
-          (λ e. refl),
-          (
-            (λ e. rw e (widths-3 (allowed bits 3 (8 * length (f .source))) (allowed bits 3 (8 * length (f .group))) (isOriginatorSize (length (f .originator))) A done wide)),
-            (
-              (λ e. leaf-tests (isOriginatorSize (length (f .originator))) (isKey bits (f .key)) A done short wide),
-              (
-                (λ e. rw e (widths-2 (allowed bits 5 (8 * length (f .source))) (allowed bits 5 (8 * length (f .group))) A done wide)),
-                (
-                  (λ e. rw e (widths-2 (allowed bits 6 (8 * length (f .source))) (allowed bits 6 (8 * length (f .group))) A done wide)),
-                  (
-                    (λ e. rw e (widths-2 (allowed bits 7 (8 * length (f .source))) (allowed bits 7 (8 * length (f .group))) A done wide)),
-                    tt,
-                  ),
-                ),
-              ),
-            ),
-          ),
-        ),
-      )
-      l
+  keys-are : keysFit bits f (bodyOf (f .type)) ≡ leafFits bits (f .type) (f .key)
+  unfolding passes hasKind order keyFits leafFits
+  keys-are =
+      ap (keysFit bits f) (body-kinds (f .type) l) ∙ keys-all bits f _ ∙ passes-kept (keyFits bits f) (hasKind (f .type)) order
+      ∙ ap (both _) (free _ _ ∙ free _ _ ∙ free _ _ ∙ free _ _ ∙ free _ _) ∙ both-end _
+      ∙ pick-cong _ _ _ _ _ (λ four. ap (λ (n : ℕ). isKey bits n (f .key)) (eqb-true (f .type) 4 four)) (λ _. refl)
+
+  verdict-is : {A : Type 0} (done short wide : A) → pick (widthsFit bits f (bodyOf (f .type))) (pick (keysFit bits f (bodyOf (f .type))) done short) wide
+      ≡ pick (flowFits bits (f .type) (length (f .source)) (length (f .group))) (pick (originatorFits (f .type) (length (f .originator))) (pick (leafFits bits (f .type) (f .key)) done short) wide) wide
+  verdict-is done short wide = ap₂ (λ a b. pick a (pick b done short) wide) widths-are keys-are ∙ pick-both _ _ _ _
 
 -- the writer's verdict, and what comes after it
 verdict : {A : Type 0} (b d flow origin leaf : Bool) → Outcome A → Outcome A
@@ -156,54 +162,54 @@ verdict-done false false true false leaf a e = absurd (omega arith)
 verdict-done false false true true false a e = absurd (omega arith)
 verdict-done false false true true true a e = refl
 
-module _ (nlri : Nlri) (key : List ℕ) (space bits : ℕ) (eight : length (nlri .distinguisher .octets) ≡ 8) where
+module _ (nlri : Nlri) (keyOctets : List ℕ) (space bits : ℕ) (eight : length (nlri .distinguisher .octets) ≡ 8) where
   f : Fields
-  f = structFields nlri key
+  f = structFields nlri keyOctets
 
   -- what is written, by document 01 and by the writer
   page : Outcome (List ℕ)
   page = pick (ltb space (length (encodeNlri f))) (refused SPACE) (given (encodeNlri f))
 
   ours : Outcome (List ℕ)
-  ours = pick (ltb space (sizeOf nlri (length key))) (refused SPACE) (given (nlriOctets nlri key))
+  ours = pick (ltb space (sizeOf nlri (length keyOctets))) (refused SPACE) (given (nlriOctets nlri keyOctets))
 
   same-octets : listed bodies (nlri .«route_type») ≡ true → page ≡ ours
   unfolding page ours f
   same-octets l =
-      ap (λ (e : List ℕ). pick (ltb space (length e)) (refused SPACE) (given e)) (all-is nlri key l)
-      ∙ ap (λ (n : ℕ). pick (ltb space n) (refused SPACE) (given (nlriOctets nlri key))) (sym (size-is nlri key eight))
+      ap (λ (e : List ℕ). pick (ltb space (length e)) (refused SPACE) (given e)) (all-is nlri keyOctets l)
+      ∙ ap (λ (n : ℕ). pick (ltb space n) (refused SPACE) (given (nlriOctets nlri keyOctets))) (sym (size-is nlri keyOctets eight))
 
   -- what stands after the test of the type
   judged : Outcome (List ℕ) → Outcome (List ℕ)
   judged o =
-      pick (flowFits bits (nlri .«route_type») (nlri .source .size) (nlri .group .size)) (pick (originatorFits (nlri .«route_type») (nlri .originator .size)) (pick (leafFits bits (nlri .«route_type») key) o (refused KEY)) (refused WIDTH)) (refused WIDTH)
+      pick (flowFits bits (nlri .«route_type») (nlri .source .size) (nlri .group .size)) (pick (originatorFits (nlri .«route_type») (nlri .originator .size)) (pick (leafFits bits (nlri .«route_type») keyOctets) o (refused KEY)) (refused WIDTH)) (refused WIDTH)
 
   row-is : List FieldKind → Outcome (List ℕ)
   row-is body = pick (widthsFit bits f body) (pick (keysFit bits f body) page (refused KEY)) (refused WIDTH)
 
   within : listed bodies (nlri .«route_type») ≡ true → row-is (bodyOf (nlri .«route_type»)) ≡ judged ours
-  unfolding row-is judged mine f structFields
+  unfolding row-is judged f structFields
   within l =
       let type : ℕ = nlri .«route_type» in
-      verdict-at bits (structFields nlri key) (Outcome (List ℕ)) page (refused KEY) (refused WIDTH) type l refl
-      ∙ ap₂ (λ (a b : ℕ). pick (flowFits bits type a b) (pick (originatorFits type (length (addressOctets (nlri .originator)))) (pick (leafFits bits type key) page (refused KEY)) (refused WIDTH)) (refused WIDTH)) (length-octets (nlri .source)) (length-octets (nlri .group))
-      ∙ ap₂ (λ (c : ℕ) (o : Outcome (List ℕ)). pick (flowFits bits type (nlri .source .size) (nlri .group .size)) (pick (originatorFits type c) (pick (leafFits bits type key) o (refused KEY)) (refused WIDTH)) (refused WIDTH)) (length-octets (nlri .originator)) (same-octets l)
+      verdict-is bits (structFields nlri keyOctets) l page (refused KEY) (refused WIDTH)
+      ∙ ap₂ (λ (a b : ℕ). pick (flowFits bits type a b) (pick (originatorFits type (length (addressOctets (nlri .originator)))) (pick (leafFits bits type keyOctets) page (refused KEY)) (refused WIDTH)) (refused WIDTH)) (length-octets (nlri .source)) (length-octets (nlri .group))
+      ∙ ap₂ (λ (c : ℕ) (o : Outcome (List ℕ)). pick (flowFits bits type (nlri .source .size) (nlri .group .size)) (pick (originatorFits type c) (pick (leafFits bits type keyOctets) o (refused KEY)) (refused WIDTH)) (refused WIDTH)) (length-octets (nlri .originator)) (same-octets l)
 
   -- a type that the table lists, or not, by the writer's tests
   by-tests : (b d : Bool) → ltb (nlri .«route_type») 1 ≡ b → ltb 7 (nlri .«route_type») ≡ d → pick (listed bodies (nlri .«route_type»)) (row-is (bodyOf (nlri .«route_type»))) (refused TYPE) ≡ pick b (refused TYPE) (pick d (refused TYPE) (judged ours))
   unfolding pick
   by-tests true d p q = pick-false _ _ _ (unlisted _ (λ h. omega (arith, ltb-true (nlri .«route_type») 1 p)))
   by-tests false true p q = pick-false _ _ _ (unlisted _ (λ h. omega (arith, ltb-true 7 (nlri .«route_type») q)))
-  by-tests false false p q = let l = known (nlri .«route_type») (ltb-false (nlri .«route_type») 1 p) (ltb-false 7 (nlri .«route_type») q) in pick-true _ _ _ l ∙ within l
+  by-tests false false p q = let l = known (nlri .«route_type») (ltb-false (nlri .«route_type») 1 p, ltb-false 7 (nlri .«route_type») q) in pick-true _ _ _ l ∙ within l
 
-  under-is : onBody bodies (nlri .«route_type») (refused TYPE) row-is ≡ writeUnder bits nlri key space
+  under-is : onBody bodies (nlri .«route_type») (refused TYPE) row-is ≡ writeUnder bits nlri keyOctets space
   unfolding writeUnder fitting judged ours verdict
   under-is = on-body _ _ _ ∙ by-tests _ _ refl refl ∙ sym (verdict-then _ _ _ _ _ _ _)
 
-pub write-is : (afi : ℕ) (nlri : Nlri) (key : List ℕ) (space : ℕ) → length (nlri .distinguisher .octets) ≡ 8
-    → andThen (familyBits afi) (λ bits. writeUnder bits nlri key space) ≡ writeNlri afi (structFields nlri key) space
+pub write-is : (afi : ℕ) (nlri : Nlri) (keyOctets : List ℕ) (space : ℕ) → length (nlri .distinguisher .octets) ≡ 8
+    → andThen (familyBits afi) (λ bits. writeUnder bits nlri keyOctets space) ≡ writeNlri afi (structFields nlri keyOctets) space
 unfolding writeNlri row-is page f structFields
-write-is afi nlri key space eight = and-cong _ _ _ (λ bits e. sym (under-is nlri key space bits eight))
+write-is afi nlri keyOctets space eight = and-cong _ _ _ (λ bits e. sym (under-is nlri keyOctets space bits eight))
 
 -- what follows where the writer finds no fault
 octets-size : (bits type size : ℕ) → (bits ≡ 32) ⊎ (bits ≡ 128) → allowed bits type (8 * size) ≡ true → AddressSize size
@@ -223,12 +229,12 @@ originator-octets size h = go (either-true _ _ h)
     go (inl e) = let q : size ≡ 4 = eqb-true _ _ e in (omega arith, λ four sixteen. omega arith)
     go (inr e) = let q : size ≡ 16 = eqb-true _ _ e in (omega arith, λ four sixteen. omega arith)
 
-module _ (bits : ℕ) (nlri : Nlri) (key : List ℕ) (fits : fitting bits nlri key ≡ given nlri) where
+module _ (bits : ℕ) (nlri : Nlri) (keyOctets : List ℕ) (fits : fitting bits nlri keyOctets ≡ given nlri) where
   record Faultless : Type 0 where
     typed : nlri .«route_type» ≤ 7
     flow : flowFits bits (nlri .«route_type») (nlri .source .size) (nlri .group .size) ≡ true
     origin : originatorFits (nlri .«route_type») (nlri .originator .size) ≡ true
-    leaf : leafFits bits (nlri .«route_type») key ≡ true
+    leaf : leafFits bits (nlri .«route_type») keyOctets ≡ true
 
   faultless : Faultless
   unfolding fitting
@@ -249,38 +255,38 @@ module _ (bits : ℕ) (nlri : Nlri) (key : List ℕ) (fits : fitting bits nlri k
         originator = λ h. originator-octets _ (sym (pick-true _ _ _ h) ∙ faultless .origin);
       }
 
-  pub keyed : nlri .«route_type» ≡ 4 → isKey bits key ≡ true
+  pub keyed : nlri .«route_type» ≡ 4 → isKey bits 4 keyOctets ≡ true
   unfolding leafFits
   keyed e = sym (pick-true _ _ _ (eq-eqb _ _ e)) ∙ faultless .leaf
 
-  pub size-short : (bits ≡ 32) ⊎ (bits ≡ 128) → (nlri .«route_type» ≡ 4 → length key ≤ 60) → sizeOf nlri (length key) < 258
+  pub size-short : (bits ≡ 32) ⊎ (bits ≡ 128) → (nlri .«route_type» ≡ 4 → length keyOctets ≤ 60) → sizeOf nlri (length keyOctets) < 258
   unfolding sizeOf
   size-short f bound =
-      let a = fixed-short (nlri .«route_type») (length key) bound in
+      let a = fixed-short (nlri .«route_type») (length keyOctets) bound in
       let b = flow-short (nlri .«route_type») (nlri .source .size) (nlri .group .size) (λ h. sized-nlri f .source h .0) (λ h. sized-nlri f .group h .0) in
       let c = originator-short (nlri .«route_type») (nlri .originator .size) (λ h. sized-nlri f .originator h .0) in
       omega arith
 
 -- the fields fit where the number is DONE
-pub fits-done : (bits : ℕ) (nlri : Nlri) (key : List ℕ) (n : ℕ) → n ≡ numberOf (fitting bits nlri key) → n ≡ DONE → fitting bits nlri key ≡ given nlri
+pub fits-done : (bits : ℕ) (nlri : Nlri) (keyOctets : List ℕ) (n : ℕ) → n ≡ numberOf (fitting bits nlri keyOctets) → n ≡ DONE → fitting bits nlri keyOctets ≡ given nlri
 unfolding fitting verdict
-fits-done bits nlri key n p q = verdict-done _ _ _ _ _ _ (sym p ∙ q)
+fits-done bits nlri keyOctets n p q = verdict-done _ _ _ _ _ _ (sym p ∙ q)
 
-module _ (bits : ℕ) (nlri : Nlri) (key : List ℕ) (space : ℕ) where
-  pub refused-under : (n : ℕ) → n ≡ numberOf (fitting bits nlri key) → (n ≡ DONE → ⊥) → refused n ≡ writeUnder bits nlri key space
+module _ (bits : ℕ) (nlri : Nlri) (keyOctets : List ℕ) (space : ℕ) where
+  pub refused-under : (n : ℕ) → n ≡ numberOf (fitting bits nlri keyOctets) → (n ≡ DONE → ⊥) → refused n ≡ writeUnder bits nlri keyOctets space
   unfolding writeUnder
   refused-under n p h = stops _ n _ (refused-of _ n p h)
 
-  pub space-under : fitting bits nlri key ≡ given nlri → space < sizeOf nlri (length key) → refused SPACE ≡ writeUnder bits nlri key space
+  pub space-under : fitting bits nlri keyOctets ≡ given nlri → space < sizeOf nlri (length keyOctets) → refused SPACE ≡ writeUnder bits nlri keyOctets space
   unfolding writeUnder
   space-under e h = goes _ _ _ _ e (sym (pick-true _ _ _ (lt-ltb _ _ h)))
 
-  pub given-under : fitting bits nlri key ≡ given nlri → sizeOf nlri (length key) ≤ space → given (nlriOctets nlri key) ≡ writeUnder bits nlri key space
+  pub given-under : fitting bits nlri keyOctets ≡ given nlri → sizeOf nlri (length keyOctets) ≤ space → given (nlriOctets nlri keyOctets) ≡ writeUnder bits nlri keyOctets space
   unfolding writeUnder
   given-under e h = goes _ _ _ _ e (sym (pick-false _ _ _ (le-ltb _ _ h)))
 
--- a key that the writer takes is short
-pub key-short : (bits : ℕ) (key : List ℕ) → (bits ≡ 32) ⊎ (bits ≡ 128) → ((i : ℕ) → getD key i 0 < 256) → isKey bits key ≡ true → length key ≤ 60
+-- a keyOctets that the writer takes is short
+pub key-short : (bits : ℕ) (keyOctets : List ℕ) → (bits ≡ 32) ⊎ (bits ≡ 128) → ((i : ℕ) → getD keyOctets i 0 < 256) → isKey bits 4 keyOctets ≡ true → length keyOctets ≤ 60
 unfolding familyBits pick
-key-short bits key (inl e) octets h = octets-key bits (omega arith) (omega arith) key (key-judged 1 bits (ap given (sym e)) key (octets-of key octets) h) .0
-key-short bits key (inr e) octets h = octets-key bits (omega arith) (omega arith) key (key-judged 2 bits (ap given (sym e)) key (octets-of key octets) h) .0
+key-short bits keyOctets (inl e) octets h = octets-key bits (omega arith) (omega arith) 4 keyOctets (key-judged 1 bits (ap given (sym e)) 4 keyOctets (octets-of keyOctets octets) h) .0
+key-short bits keyOctets (inr e) octets h = octets-key bits (omega arith) (omega arith) 4 keyOctets (key-judged 2 bits (ap given (sym e)) 4 keyOctets (octets-of keyOctets octets) h) .0

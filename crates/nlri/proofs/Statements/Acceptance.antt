@@ -1,26 +1,28 @@
 -- Reading accepts exactly the encodings of well-formed fields (document 01, "NLRI on the wire").
 use mathlib.Core.Path.{_≡_, refl, sym, _∙_, ap, subst}
-use mathlib.Core.Bool.{Bool, true, false}
+use mathlib.Core.Bool.{Bool, true, false, not}
+use mathlib.Core.Logic.{⊎-elim}
 use mathlib.Core.List.{List, [], _∷_, _++_, append-nil}
 use Prim.Native.Nat.{ℕ, suc, _+_, _*_, _/_, _-_, _^_, _≤_, _<_}
 use native.Mathlib.Omega.{arith}
-use borrow.Author.Tests.{eq-eqb}
+use borrow.Author.Tests.{eqb-true, eq-eqb, not-true}
 use lib.ListN.{length, drop, take-append-drop}
 use lib.Seq.{take-all}
-use Rattle.octets.specs.Choice.{pick, either}
+use lib.Dec.{eqb}
+use Rattle.octets.specs.Choice.{pick, both, either}
 use Rattle.octets.specs.Outcome.{given, andThen}
 use Rattle.octets.specs.Octets.{AllOctets, numberIn, bigEndian}
-use Rattle.octets.proofs.Choice.{pick-true, opposite}
+use Rattle.octets.proofs.Choice.{pick-true, opposite, either-true}
 use Rattle.octets.proofs.Outcome.{goes, passed, given-same}
 use Rattle.octets.proofs.Lists.{length-part}
 use Rattle.octets.proofs.NetworkOrder.{number-of-big-endian}
 use Rattle.nlri.specs.Family.{familyBits}
-use Rattle.nlri.specs.Bodies.{FieldKind, distinguisher, sourceAs, source, group, originator, key, bodyOf, fieldIn, sameKind, hasField}
+use Rattle.nlri.specs.Bodies.{FieldKind, distinguisher, sourceAs, source, group, originator, key, KnownType, bodies, bodyOf, fieldIn, codeOf, sameKind, hasField}
 use Rattle.nlri.specs.Fields.{Fields, encodeAddress, encodeField, encodeBody, encodeNlri, WellFormedField, WellFormedBody, WellFormed, KeyOf, restricted}
 use Rattle.nlri.specs.Reading.{Laid, keyField, laidAt, laidSingle, cut, fieldsOf, readNlri}
 use Rattle.nlri.specs.Statements.{ReadAs, Acceptance}
 use Rattle.nlri.proofs.Definitions.FieldRecords.{fields-same}
-use Rattle.nlri.proofs.Definitions.Table.{RowOf, rowOf, known, mostIn, field-of-map, lacks, same-kind}
+use Rattle.nlri.proofs.Definitions.Table.{RowOf, rowOf, known, every, every-row, mostIn, field-of-map, lacks, same-kind}
 use Rattle.nlri.proofs.Definitions.Judged.{fieldsFrom}
 use Rattle.nlri.proofs.Definitions.Lengths.{family-octets}
 use Rattle.nlri.proofs.Definitions.Whole.{piecesOf, sizesIn, laidOf, cut-body, laid-out, fieldsLaid, single-laid-out, sizes-most, laid-encoded, laid-sound, laid-complete, octets-nlri}
@@ -42,7 +44,7 @@ restricted-from type body pieces e =
     (pick-none _ _ _ (λ h. ap (drop 1) (none group h))) (pick-none _ _ _ (none originator)) (pick-none _ _ _ (none key))
 
 -- a field of a well-formed body
-pub field-in-body : (Key : List ℕ → Type 0) (bits : ℕ) (f : Fields) (kind : FieldKind) (body : List FieldKind) → WellFormedBody Key bits f body → hasField kind body ≡ true → WellFormedField Key bits f kind
+pub field-in-body : (Key : ℕ → List ℕ → Type 0) (bits : ℕ) (f : Fields) (kind : FieldKind) (body : List FieldKind) → WellFormedBody Key bits f body → hasField kind body ≡ true → WellFormedField Key bits f kind
 unfolding hasField either
 field-in-body Key bits f kind [] w h = absurd (opposite h refl)
 field-in-body Key bits f kind (k ∷ body) w h = go (sameKind kind k) refl h (λ later. field-in-body Key bits f kind body (w .1) later)
@@ -63,7 +65,7 @@ drop-pick-address true x = refl
 drop-pick-address false x = refl
 
 -- the fields that the pieces of an encoding give
-fields-encoded : (Key : List ℕ → Type 0) (bits : ℕ) (f : Fields) → WellFormedBody Key bits f (bodyOf (f .type))
+fields-encoded : (Key : ℕ → List ℕ → Type 0) (bits : ℕ) (f : Fields) → WellFormedBody Key bits f (bodyOf (f .type))
     → fieldsFrom (f .type) (λ kind. fieldIn [] kind (bodyOf (f .type)) (piecesOf f (bodyOf (f .type)))) ≡ restricted f
 unfolding restricted encodeField
 fields-encoded Key bits f w =
@@ -89,7 +91,7 @@ module _ (afi bits : ℕ) (ofFamily : familyBits afi ≡ given bits) where
       let r = laid-sound (keyField bits) (KeyOf bits) (key-judges bits whole) bits whole s laid a e in
       record {
         fields = fieldsLaid s laid;
-        wellFormed = record { typed = (o .row .low, o .row .high); body = r };
+        wellFormed = record { typed = o .row .known; body = r };
         is = sym (take-append-drop (2 + laid .size) s) ∙ ap (λ (x : List ℕ). x ++ drop (2 + laid .size) s) (laid-encoded (keyField bits) bits whole s laid (λ _. a) e);
       }
 
@@ -109,7 +111,7 @@ module _ (afi bits : ℕ) (ofFamily : familyBits afi ≡ given bits) where
       record {
         bits = bits;
         ofFamily = ofFamily;
-        wellFormed = record { typed = (o .row .low, o .row .high); body = subst (λ (f : Fields). WellFormedBody (KeyOf bits) bits f (bodyOf (laid .type))) (single .fields) r };
+        wellFormed = record { typed = o .row .known; body = subst (λ (f : Fields). WellFormedBody (KeyOf bits) bits f (bodyOf (laid .type))) (single .fields) r };
         whole = restricted-from (laid .type) (laid .body) _ (o .body);
         encoded = single-is-encoded s laid (λ _. a) e;
       }
@@ -133,10 +135,19 @@ module _ (afi bits : ℕ) (ofFamily : familyBits afi ≡ given bits) where
   octets-encoded : (f : Fields) → WellFormed bits f → (most : ℕ) → mostIn 60 (bodyOf (f .type)) ≤ most → most < 256 → (length (encodeNlri f) ≤ 2 + most) × AllOctets (encodeNlri f)
   octets-encoded f w most within fits =
       let small = family-octets afi bits ofFamily .1 in
-      octets-nlri (keyField bits) (KeyOf bits) (key-judges bits whole) bits whole 60 (key-most bits small) (λ k of. octets-key bits whole small k of .1) small f (w .typed) (w .body) most within fits
+      octets-nlri (keyField bits) (KeyOf bits) (key-judges bits whole) bits whole 60 f (key-most bits small (f .type)) (λ type k of. octets-key bits whole small type k of .1) small (w .typed) (w .body) most within fits
 
   row-encoded : (f : Fields) → WellFormed bits f → RowOf (f .type)
-  row-encoded f w = rowOf (f .type) (known (f .type) (w .typed .0) (w .typed .1))
+  row-encoded f w = rowOf (f .type) (known (f .type) (w .typed))
+
+-- only a Leaf has a key
+keyless-rows : every (λ n body. either (eqb n 4) (not (hasField key body))) bodies ≡ true
+unfolding every bodies both either hasField sameKind codeOf
+keyless-rows = refl
+
+keyless : (type : ℕ) → KnownType type → (type ≡ 4 → ⊥) → hasField key (bodyOf type) ≡ false
+keyless type k other =
+    ⊎-elim (λ leaf. absurd (other (eqb-true _ _ leaf))) (λ none. not-true _ none) (either-true _ _ (every-row _ keyless-rows type (known type k)))
 
 -- what is read encodes to the octets
 pub read-is-encoded : (afi : ℕ) (s : List ℕ) (f : Fields) → (hasField sourceAs (bodyOf (f .type)) ≡ true → AllOctets s) → readNlri afi s ≡ given f → s ≡ encodeNlri f
@@ -148,10 +159,10 @@ read-is-encoded afi s f a e =
     let type : q .value .type ≡ f .type = ap (λ (x : Fields). x .type) same in
     single-is-encoded afi (p .value) (p .first) s (q .value) (λ h. a (ap (λ (n : ℕ). hasField sourceAs (bodyOf n)) (sym type) ∙ h)) (q .first) ∙ ap encodeNlri same
 
--- an NLRI other than a Leaf has at most 60 octets
-pub read-short : (afi : ℕ) (s : List ℕ) (f : Fields) → readNlri afi s ≡ given f → (f .type ≡ 4 → ⊥) → (2 ≤ length s) × (length s ≤ 60)
+-- an NLRI without a key has at most 60 octets
+pub read-short : (afi : ℕ) (s : List ℕ) (f : Fields) → readNlri afi s ≡ given f → hasField key (bodyOf (f .type)) ≡ false → (2 ≤ length s) × (length s ≤ 60)
 unfolding readNlri fieldsOf
-read-short afi s f e other =
+read-short afi s f e unkeyed =
     let p = passed _ _ _ e in
     let q = passed _ _ _ (p .second) in
     let laid : Laid = q .value in
@@ -159,8 +170,8 @@ read-short afi s f e other =
     let o = single-laid-out (p .value) s laid (q .first) in
     let type : laid .type ≡ f .type = ap (λ (x : Fields). x .type) (given-same (q .second)) in
     let l = length-part s 2 (laid .size) (omega (arith, o .out .fits, o .out .enough)) in
-    let most = sizes-most (keyField (p .value)) (p .value) 60 (key-most (p .value) small) small (laid .type) (bodyOf (laid .type)) _ _ (o .out .sizes) in
-    (o .out .enough, omega (arith, o .all, o .out .row .plain (λ four. other (sym type ∙ four)) .1))
+    let most = sizes-most (keyField (p .value)) (p .value) 60 (laid .type) (key-most (p .value) small (laid .type)) small (bodyOf (laid .type)) _ _ (o .out .sizes) in
+    (o .out .enough, omega (arith, o .all, o .out .row .plain (ap (λ (n : ℕ). hasField key (bodyOf n)) type ∙ unkeyed)))
 
 pub read-sound : (afi : ℕ) (s : List ℕ) (f : Fields) → AllOctets s → readNlri afi s ≡ given f → ReadAs afi s f
 unfolding readNlri
@@ -180,6 +191,6 @@ acceptance =
       encoded = read-encoded;
       octets = λ afi bits f ofFamily w. octets-encoded afi bits ofFamily f w 76 (row-encoded afi bits ofFamily f w .most) (omega arith) .1;
       most = λ afi bits f ofFamily w. octets-encoded afi bits ofFamily f w 76 (row-encoded afi bits ofFamily f w .most) (omega arith) .0;
-      plain = λ afi bits f ofFamily w other. octets-encoded afi bits ofFamily f w 58 (row-encoded afi bits ofFamily f w .plain other .1) (omega arith) .0;
+      plain = λ afi bits f ofFamily w other. octets-encoded afi bits ofFamily f w 58 (row-encoded afi bits ofFamily f w .plain (keyless (f .type) (w .typed) other)) (omega arith) .0;
       same = λ afi bits f g ofFamily w v e. given-same (sym (read-encoded afi bits f ofFamily w) ∙ ap (readNlri afi) e ∙ read-encoded afi bits g ofFamily v);
     }

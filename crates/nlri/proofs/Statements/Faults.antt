@@ -92,7 +92,7 @@ module _ (bits : ℕ) (whole : 8 * (bits / 8) ≡ bits) where
   field-refused type group s n e = address-refused bits type n s e
   field-refused type originator s n e = originator-refused n s e
   field-refused type key s n e =
-      (λ size fits of. never (ap (keyField bits) (sym (take-append-drop size s)) ∙ judges .complete (take size s) (drop size s) of) e, judges .refuses s n e)
+      (λ size fits of. never (ap (keyField bits type) (sym (take-append-drop size s)) ∙ judges .complete type (take size s) (drop size s) of) e, judges .refuses type s n e)
 
   fault-refuses : (type : ℕ) (k : FieldKind) (s : List ℕ) (n : ℕ) → AllOctets s → Fault bits type k s n → fieldSize (keyField bits) bits type k s ≡ refused n
   unfolding fieldSize
@@ -102,8 +102,8 @@ module _ (bits : ℕ) (whole : 8 * (bits / 8) ≡ bits) where
   fault-refuses type group s n a h = address-refuses bits type n s h
   fault-refuses type originator s n a h = originator-refuses n s h
   fault-refuses type key s n a h =
-      ⊎-elim (λ yes. let p = judges .sound s (yes .0) a (yes .1) in absurd (h .0 (yes .0) (p .0) (p .1)))
-      (λ no. no .1 ∙ ap refused (judges .refuses s (no .0) (no .1) ∙ sym (h .1))) (outcome (keyField bits s))
+      ⊎-elim (λ yes. let p = judges .sound type s (yes .0) a (yes .1) in absurd (h .0 (yes .0) (p .0) (p .1)))
+      (λ no. no .1 ∙ ap refused (judges .refuses type s (no .0) (no .1) ∙ sym (h .1))) (outcome (keyField bits type s))
 
   -- a field that was read stands at the front
   field-at : (type : ℕ) (k : FieldKind) (s : List ℕ) (n : ℕ) → AllOctets s → fieldSize (keyField bits) bits type k s ≡ given n → FieldAt bits type k (take n s) (drop n s)
@@ -115,7 +115,7 @@ module _ (bits : ℕ) (whole : 8 * (bits / 8) ≡ bits) where
   field-at type originator s n a e =
       let p = originator-given n s e in
       (rw (p .1, take-length) (p .0), ap (λ (m : ℕ). drop m s) (p .1) ∙ drop-length s)
-  field-at type key s n a e = judges .sound s n a e .1
+  field-at type key s n a e = judges .sound type s n a e .1
 
   -- and a field that stands at the front is read
   field-reads : (type : ℕ) (k : FieldKind) (x t : List ℕ) → FieldAt bits type k x t → fieldSize (keyField bits) bits type k (x ++ t) ≡ given (length x)
@@ -125,7 +125,7 @@ module _ (bits : ℕ) (whole : 8 * (bits / 8) ≡ bits) where
   field-reads type source x t h = address-reads bits type x t h
   field-reads type group x t h = address-reads bits type x t h
   field-reads type originator x t h = rw (h .1, append-nil) (pick-true _ _ _ (h .0))
-  field-reads type key x t h = judges .complete x t h
+  field-reads type key x t h = judges .complete type x t h
 
   pub body-refused : (type : ℕ) (body : List FieldKind) (s : List ℕ) (n : ℕ) → AllOctets s → sizesOf (fieldSize (keyField bits) bits type) body s ≡ refused n → Faulty bits type body s n
   unfolding sizesOf

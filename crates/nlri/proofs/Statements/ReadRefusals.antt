@@ -15,10 +15,10 @@ use Rattle.octets.proofs.Choice.{pick-true, pick-false, opposite, picked, is-fa
 use Rattle.octets.proofs.Outcome.{goes, stops, never, refused-same, stopped, outcome}
 use Rattle.octets.proofs.AllOctets.{octets-part}
 use Rattle.nlri.specs.Family.{familyBits}
-use Rattle.nlri.specs.Bodies.{bodies, bodyOf}
+use Rattle.nlri.specs.Bodies.{KnownType, bodies, bodyOf}
 use Rattle.nlri.specs.Fields.{Fields, encodeBody, encodeNlri, WellFormed, KeyOf}
 use Rattle.nlri.specs.Reading.{Laid, keyField, laidWith, laidAt, laidSingle, readNlri}
-use Rattle.nlri.specs.Statements.{TooShort, KnownType, Faulty, FrontRefusal, short, badType, badBody, ReadRefusal, badFamily, front, after, ReadRefusals}
+use Rattle.nlri.specs.Statements.{TooShort, Faulty, FrontRefusal, short, badType, badBody, ReadRefusal, badFamily, front, after, ReadRefusals}
 use Rattle.nlri.proofs.Definitions.Table.{on-body, known, rowOf, unlisted}
 use Rattle.nlri.proofs.Definitions.Lengths.{family-octets}
 use Rattle.nlri.proofs.Definitions.Whole.{laid-out, laid-complete}
@@ -43,10 +43,10 @@ module _ (afi bits : ℕ) (ofFamily : familyBits afi ≡ given bits) (s : List �
       ⊎-elim
       (λ good.
       let row = rowOf (getD s 0 0) (good .0) in
-      badBody (not-short (enough .0) (fits .0)) (row .low, row .high)
+      badBody (not-short (enough .0) (fits .0)) (row .known)
       (body-refused bits whole (getD s 0 0) (bodyOf (getD s 0 0)) (part s 2 (getD s 1 0)) n (octets-part 2 (getD s 1 0) a)
       (⊎-elim (λ first. first) (λ none. absurd (never refl (none .second))) (stopped _ _ _ (good .1)))))
-      (λ bad. subst (FrontRefusal bits s) (refused-same {A = Laid} (bad .1)) (badType (not-short (enough .0) (fits .0)) (λ typed. opposite (known _ (typed .0) (typed .1)) (bad .0))))
+      (λ bad. subst (FrontRefusal bits s) (refused-same {A = Laid} (bad .1)) (badType (not-short (enough .0) (fits .0)) (λ typed. opposite (known _ typed) (bad .0))))
       (picked _ _ _ _ (sym (on-body _ _ _) ∙ fits .1)))
       (picked _ _ _ _ (enough .1)))
       (picked _ _ _ _ e)
@@ -90,7 +90,7 @@ module _ (afi bits : ℕ) (ofFamily : familyBits afi ≡ given bits) (s : List �
   laid-faulty : (n : ℕ) → (TooShort s → ⊥) → KnownType (getD s 0 0) → Faulty bits (getD s 0 0) (bodyOf (getD s 0 0)) (part s 2 (getD s 1 0)) n → laidAt bits s ≡ refused n
   unfolding laidAt laidWith
   laid-faulty n h t fault =
-      pick-false _ _ _ (enough h) ∙ pick-false _ _ _ (fits h) ∙ on-body _ _ _ ∙ pick-true _ _ _ (known (getD s 0 0) (t .0) (t .1))
+      pick-false _ _ _ (enough h) ∙ pick-false _ _ _ (fits h) ∙ on-body _ _ _ ∙ pick-true _ _ _ (known (getD s 0 0) t)
       ∙ sym (stops _ _ _ (faulty-refuses bits whole (getD s 0 0) (bodyOf (getD s 0 0)) (part s 2 (getD s 1 0)) n (octets-part 2 (getD s 1 0) a) fault))
 
   single-after : (f : Fields) (t : List ℕ) → WellFormed bits f → s ≡ encodeNlri f ++ t → 0 < length t → laidSingle bits s ≡ refused LENGTH

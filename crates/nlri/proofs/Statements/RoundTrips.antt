@@ -24,13 +24,13 @@ use Rattle.nlri.specs.Writing.{writeNlri}
 use Rattle.nlri.specs.Answers.{addressStruct, distinguisherStruct, addressOctets, nlriStruct, structFields, keySpan, nlriAnswer}
 use Rattle.nlri.specs.declared.fields.Nlri.{Nlri}
 use Rattle.nlri.specs.Statements.{ReadAs, HoldsOctets, StructHoldsOctets, RoundTrips}
-use Rattle.nlri.proofs.Definitions.Table.{rowOf, known}
 use Rattle.nlri.proofs.Definitions.Keys.{octets-key}
 use Rattle.nlri.proofs.Statements.ReadRefusals.{readRefusals, refusal-not-done}
 use Rattle.nlri.proofs.Definitions.Lengths.{allowed-most, originator-sized, family-octets}
 use Rattle.nlri.proofs.Statements.Acceptance.{field-in-body, read-sound, read-encoded}
 use Rattle.nlri.proofs.Definitions.FieldRecords.{fields-same}
 use Rattle.nlri.proofs.Definitions.Writes.{write-is, write-well, write-restricted, written}
+use Rattle.nlri.proofs.Functions.Singles.{key-spanned}
 
 write-read : (afi : ℕ) (s : List ℕ) (f : Fields) (space : ℕ) → AllOctets s → readNlri afi s ≡ given f → length s ≤ space → writeNlri afi f space ≡ given s
 write-read afi s f space a e room =
@@ -69,7 +69,7 @@ held-read afi s f a e =
       source = octets-pick _ _ (ap (λ (g : Fields). g .source) (r .whole)) (λ h. at source h .1);
       group = octets-pick _ _ (ap (λ (g : Fields). g .group) (r .whole)) (λ h. at group h .1);
       originator = octets-pick _ _ (ap (λ (g : Fields). g .originator) (r .whole)) (λ h. at originator h .1);
-      key = octets-pick _ _ (ap (λ (g : Fields). g .key) (r .whole)) (λ h. octets-key (r .bits) (family-octets afi (r .bits) (r .ofFamily) .0) small (f .key) (at key h) .1);
+      key = octets-pick _ _ (ap (λ (g : Fields). g .key) (r .whole)) (λ h. octets-key (r .bits) (family-octets afi (r .bits) (r .ofFamily) .0) small (f .type) (f .key) (at key h) .1);
     }
 
 -- an address as a struct, and back
@@ -112,28 +112,6 @@ held-struct nlri octets h k =
       key = k;
     }
 
-take-none : (x y : List ℕ) → x ≡ [] → take (length x) y ≡ x
-take-none x y e = rw e
-
-encode-leaf : (f : Fields) → f .type ≡ 4 → encodeBody f (bodyOf (f .type)) ≡ f .key ++ (f .originator ++ [])
-unfolding encodeBody encodeField bodyOf bodies onBody pick
-encode-leaf f e = ap (λ (n : ℕ). encodeBody f (bodyOf n)) e
-
-part-key-span : (afi : ℕ) (s : List ℕ) (f : Fields) → AllOctets s → readNlri afi s ≡ given f → part s (keySpan f .start) (keySpan f .size) ≡ f .key
-unfolding part keySpan restricted encodeNlri
-part-key-span afi s f a e = go (eqb (f .type) 4) refl
-  where
-    r : ReadAs afi s f
-    r = read-sound afi s f a e
-
-    go : (b : Bool) → eqb (f .type) 4 ≡ b → take (length (f .key)) (drop (pick (eqb (f .type) 4) 2 0) s) ≡ f .key
-    go true leaf =
-        ap (λ (n : ℕ). take (length (f .key)) (drop n s)) (pick-true _ _ _ leaf) ∙ ap (λ (x : List ℕ). take (length (f .key)) (drop 2 x)) (r .encoded)
-        ∙ ap (take (length (f .key))) (encode-leaf f (eqb-true _ _ leaf)) ∙ take-append-seam (f .key) (f .originator ++ [])
-    go false other =
-        let row = rowOf (f .type) (known (f .type) (r .wellFormed .typed .0) (r .wellFormed .typed .1)) in
-        take-none (f .key) _ (ap (λ (g : Fields). g .key) (sym (r .whole)) ∙ pick-false _ _ _ (row .plain (eqb-false _ _ other) .0))
-
 -- what the call of reading answers where it is DONE
 answered : (afi : ℕ) (s : List ℕ) (space : ℕ) → AllOctets s → nlriAnswer (readNlri afi s) .number ≡ DONE → length s ≤ space
     → writeNlri afi (structFields (nlriAnswer (readNlri afi s) .nlri) (part s (nlriAnswer (readNlri afi s) .key .start) (nlriAnswer (readNlri afi s) .key .size))) space ≡ given s
@@ -142,7 +120,7 @@ answered afi s space a done room = go (readNlri afi s) refl done
   where
     go : (o : Outcome Fields) → readNlri afi s ≡ o → nlriAnswer o .number ≡ DONE
         → writeNlri afi (structFields (nlriAnswer o .nlri) (part s (nlriAnswer o .key .start) (nlriAnswer o .key .size))) space ≡ given s
-    go (given f) e done = ap (λ (k : List ℕ). writeNlri afi (structFields (nlriStruct f) k) space) (part-key-span afi s f a e) ∙ write-struct afi s f space a e room
+    go (given f) e done = ap (λ (k : List ℕ). writeNlri afi (structFields (nlriStruct f) k) space) (key-spanned afi s f e) ∙ write-struct afi s f space a e room
     go (refused n) e done = absurd (refusal-not-done afi s n (readRefusals .exactly afi s n a .0 e) done)
 
 pub roundTrips : RoundTrips
@@ -153,7 +131,7 @@ roundTrips =
       held = held-read;
       unseen = write-restricted;
       struct = fields-struct-read;
-      spanned = part-key-span;
+      spanned = λ afi s f a e. key-spanned afi s f e;
       structWritten = write-struct;
       answered = answered;
       structRead = λ afi nlri octets space e h k w. read-written afi (structFields nlri octets) space e (held-struct nlri octets h k) w;

@@ -13,18 +13,13 @@ use Rattle.octets.specs.Outcome.{Outcome, given, refused}
 use Rattle.octets.proofs.Choice.{pick-true, pick-false, opposite, both-true-left, both-true-right, picked, is-false, is-true}
 use Rattle.octets.proofs.Outcome.{goes, stops, never, passed, given-otherwise, refused-same, stopped}
 use Rattle.nlri.specs.Family.{familyBits}
-use Rattle.nlri.specs.Bodies.{FieldKind, distinguisher, sourceAs, source, group, originator, key, bodyOf, sameKind, hasField}
+use Rattle.nlri.specs.Bodies.{FieldKind, distinguisher, sourceAs, source, group, originator, key, KnownType, bodyOf, sameKind, hasField}
 use Rattle.nlri.specs.Fields.{Fields, encodeNlri, WellFormed, KeyOf}
 use Rattle.nlri.specs.Writing.{widthFits, widthsFit, isKey, keyFits, keysFit, writeNlri}
-use Rattle.nlri.specs.Statements.{HoldsOctets, KnownType, WidthFault, WriteRefusal, badFamily, badType, badWidth, badKey, noSpace, WriteRefusals}
+use Rattle.nlri.specs.Statements.{HoldsOctets, WidthFault, WriteRefusal, badFamily, badType, badWidth, badKey, noSpace, WriteRefusals}
 use Rattle.nlri.proofs.Definitions.Table.{known, rowOf, same-kind, has-first, has-later, unlisted}
-use Rattle.nlri.proofs.Definitions.Writes.{verdict, verdictOf, write-is, write-well, written, key-judged, key-fits, well-fits}
+use Rattle.nlri.proofs.Definitions.Writes.{all, widths-all, keys-all, verdict, verdictOf, write-is, write-well, written, key-judged, key-fits, well-fits}
 use Rattle.nlri.proofs.Statements.Faults.{family-refused, family-refuses}
-
--- a test of every kind of field along a body
-all : (FieldKind → Bool) → List FieldKind → Bool
-all test [] = true
-all test (k ∷ body) = both (test k) (all test body)
 
 all-true : (test : FieldKind → Bool) (body : List FieldKind) → all test body ≡ true → (kind : FieldKind) → hasField kind body ≡ true → test kind ≡ true
 unfolding all hasField either
@@ -53,16 +48,6 @@ all-fails test body kind h fails = is-false _ (λ e. opposite (all-true test bod
 all-holds : (test : FieldKind → Bool) (body : List FieldKind) → ((kind : FieldKind) → hasField kind body ≡ true → test kind ≡ false → ⊥) → all test body ≡ true
 all-holds test body h = is-true _ (λ e. let r = all-false test body e in h (r .0) (r .1) (r .2))
 
-widths-all : (bits : ℕ) (f : Fields) (body : List FieldKind) → widthsFit bits f body ≡ all (widthFits bits f) body
-unfolding widthsFit all
-widths-all bits f [] = refl
-widths-all bits f (k ∷ body) = ap (both (widthFits bits f k)) (widths-all bits f body)
-
-keys-all : (bits : ℕ) (f : Fields) (body : List FieldKind) → keysFit bits f body ≡ all (keyFits bits f) body
-unfolding keysFit all
-keys-all bits f [] = refl
-keys-all bits f (k ∷ body) = ap (both (keyFits bits f k)) (keys-all bits f body)
-
 width-fault : (bits : ℕ) (f : Fields) (k : FieldKind) → widthFits bits f k ≡ false → WidthFault bits f k
 unfolding widthFits
 width-fault bits f distinguisher e = opposite refl e
@@ -81,7 +66,7 @@ fault-width bits f group h = h
 fault-width bits f originator h = h
 fault-width bits f key h = absurd h
 
-key-fault : (bits : ℕ) (f : Fields) (k : FieldKind) → keyFits bits f k ≡ false → (k ≡ key) × (isKey bits (f .key) ≡ false)
+key-fault : (bits : ℕ) (f : Fields) (k : FieldKind) → keyFits bits f k ≡ false → (k ≡ key) × (isKey bits (f .type) (f .key) ≡ false)
 unfolding keyFits
 key-fault bits f distinguisher e = absurd (opposite refl e)
 key-fault bits f sourceAs e = absurd (opposite refl e)
@@ -111,7 +96,7 @@ module _ (afi bits : ℕ) (ofFamily : familyBits afi ≡ given bits) (f : Fields
       let q = key-fault bits f (r .0) (r .2) in
       subst (WriteRefusal afi f space) (same KEY (bad .1))
       (badKey bits ofFamily typed (λ k h fault. opposite (all-true (widthFits bits f) body (sym (widths-all bits f body) ∙ widths .0) k h) (fault-width bits f k fault))
-      (ap (λ (k : FieldKind). hasField k body) (sym (q .0)) ∙ r .1) (λ of. opposite (key-fits afi bits ofFamily (f .key) of) (q .1))))
+      (ap (λ (k : FieldKind). hasField k body) (sym (q .0)) ∙ r .1) (λ of. opposite (key-fits afi bits ofFamily (f .type) (f .key) of) (q .1))))
       (picked _ _ _ _ (widths .1)))
       (λ bad.
       let r = all-false (widthFits bits f) body (sym (widths-all bits f body) ∙ bad .0) in
@@ -120,25 +105,25 @@ module _ (afi bits : ℕ) (ofFamily : familyBits afi ≡ given bits) (f : Fields
 
   -- a verdict of a known type is the call's
   typed-stops : (o : Outcome (List ℕ)) → KnownType (f .type) → verdictOf bits f space ≡ o → writeNlri afi f space ≡ o
-  typed-stops o typed e = write-is afi f space ∙ sym (goes _ _ _ _ ofFamily (sym (pick-true _ _ _ (known (f .type) (typed .0) (typed .1)) ∙ e)))
+  typed-stops o typed e = write-is afi f space ∙ sym (goes _ _ _ _ ofFamily (sym (pick-true _ _ _ (known (f .type) typed) ∙ e)))
 
   width-stops : KnownType (f .type) → (k : FieldKind) → hasField k (bodyOf (f .type)) ≡ true → WidthFault bits f k → writeNlri afi f space ≡ refused WIDTH
   unfolding verdictOf verdict
   width-stops typed k h fault = typed-stops _ typed (pick-false _ _ _ (widths-all bits f _ ∙ all-fails (widthFits bits f) _ k h (fault-width bits f k fault)))
 
-  key-stops : KnownType (f .type) → ((k : FieldKind) → hasField k (bodyOf (f .type)) ≡ true → WidthFault bits f k → ⊥) → hasField key (bodyOf (f .type)) ≡ true → (KeyOf bits (f .key) → ⊥)
+  key-stops : KnownType (f .type) → ((k : FieldKind) → hasField k (bodyOf (f .type)) ≡ true → WidthFault bits f k → ⊥) → hasField key (bodyOf (f .type)) ≡ true → (KeyOf bits (f .type) (f .key) → ⊥)
       → writeNlri afi f space ≡ refused KEY
   unfolding verdictOf verdict keyFits
   key-stops typed widths h none =
       typed-stops _ typed (pick-true _ _ _ (widths-all bits f _ ∙ all-holds (widthFits bits f) _ (λ k h e. widths k h (width-fault bits f k e)))
-      ∙ pick-false _ _ _ (keys-all bits f _ ∙ all-fails (keyFits bits f) _ key h (is-false _ (λ e. none (key-judged afi bits ofFamily (f .key) (held .key) e)))))
+      ∙ pick-false _ _ _ (keys-all bits f _ ∙ all-fails (keyFits bits f) _ key h (is-false _ (λ e. none (key-judged afi bits ofFamily (f .type) (f .key) (held .key) e)))))
 
 refusal-sound : (afi : ℕ) (f : Fields) (space n : ℕ) → HoldsOctets f → writeNlri afi f space ≡ refused n → WriteRefusal afi f space n
 refusal-sound afi f space n held e =
     ⊎-elim (λ first. let p = family-refused afi n first in subst (WriteRefusal afi f space) (sym (p .0)) (badFamily (p .1 .0) (p .1 .1)))
     (λ next.
-    ⊎-elim (λ good. let row = rowOf (f .type) (good .0) in verdict-refused afi (next .value) (next .first) f held space n (row .low, row .high) (good .1))
-    (λ bad. subst (WriteRefusal afi f space) (refused-same {A = List ℕ} (bad .1)) (badType (next .value) (next .first) (λ typed. opposite (known (f .type) (typed .0) (typed .1)) (bad .0))))
+    ⊎-elim (λ good. let row = rowOf (f .type) (good .0) in verdict-refused afi (next .value) (next .first) f held space n (row .known) (good .1))
+    (λ bad. subst (WriteRefusal afi f space) (refused-same {A = List ℕ} (bad .1)) (badType (next .value) (next .first) (λ typed. opposite (known (f .type) typed) (bad .0))))
     (picked _ _ _ _ (next .second)))
     (stopped _ _ _ (sym (write-is afi f space) ∙ e))
 

@@ -1,14 +1,16 @@
 -- Sizes of what install accepts: an S-PMSI NLRI has 2 to 60 octets, an attribute at most 64, so that a place holds both.
 use Prim.Native.Nat.{ℕ, _≤_}
-use mathlib.Core.Path.{_≡_, refl, sym}
+use mathlib.Core.Path.{_≡_, refl, sym, ap}
 use mathlib.Core.Bool.{true, false}
 use mathlib.Core.List.{List}
 use native.Mathlib.Omega.{arith}
 use borrow.Author.Tests.{eqb-true, ltb-false}
 use lib.ListN.{length}
+use Rattle.octets.specs.Choice.{pick, either}
 use Rattle.octets.specs.Outcome.{Outcome, given, refused, onOutcome}
 use Rattle.octets.proofs.Choice.{opposite}
 use Rattle.octets.proofs.Outcome.{given-otherwise, given-unless, passed, given-same}
+use Rattle.nlri.specs.Bodies.{key, bodies, onBody, bodyOf, codeOf, sameKind, hasField}
 use Rattle.nlri.specs.Fields.{Fields}
 use Rattle.nlri.proofs.Statements.Acceptance.{read-short}
 use Rattle.tunnel.specs.Attribute.{readAttribute}
@@ -60,10 +62,10 @@ pub record Sized (r : Route) : Type 0 where
   pub attribute : length (attributeOf r) ≤ 64
 
 pub nlri-size : (afi : ℕ) (nlri : List ℕ) (f : Fields) → readSPmsi afi nlri ≡ given f → (2 ≤ length nlri) × (length nlri ≤ 60)
-unfolding readSPmsi
+unfolding readSPmsi bodyOf onBody bodies pick hasField sameKind codeOf either
 nlri-size afi nlri f e =
     let p = passed _ _ _ e in
-    read-short afi nlri (p .value) (p .first) (λ four. omega (arith, eqb-true (p .value .type) 3 (given-unless _ _ _ _ (p .second) .0)))
+    read-short afi nlri (p .value) (p .first) (ap (λ (n : ℕ). hasField key (bodyOf n)) (eqb-true (p .value .type) 3 (given-unless _ _ _ _ (p .second) .0)))
 
 labelled-size : (attribute : List ℕ) (f : AttributeFields) → readLabelled attribute ≡ given f → length attribute ≤ 64
 unfolding readLabelled

@@ -14,7 +14,7 @@ returns-2 : tie.Need-returns-2
 returns-2 c =
     let a = c .before .before .before .before .before .before .before .args in
     let h = read-by-layout (a .afi) (now (a .s)) _ (nlri-given _ _ _ (c .before .before .before .before .before .read-layout .ensures) (c .before .before .before .layout .given .1)) in
-    answer-given (a .afi) (now (a .s)) _ _ _ (h .0) (c .before .nlri-in .ensures) (c .key-in .ensures ∙ key-same _ _ (h .1 .key))
+    answer-given (a .afi) (now (a .s)) _ _ _ (h .0) (c .before .nlri-in .ensures) (c .key-in .ensures ∙ key-same _ _ (h .1))
 
 pub read-nlri-spec : {M : Type 1} → statement M
 read-nlri-spec =
