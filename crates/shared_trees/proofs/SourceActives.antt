@@ -22,8 +22,9 @@ use Rattle.nlri.specs.declared.layout.Reading.{Reading}
 use Rattle.nlri.specs.declared.layout.Reading.the-variants.{Nlri, Refused}
 use Rattle.nlri.specs.Fields.{Fields}
 use Rattle.nlri.specs.Layouts.{readingOf, layoutSingle}
-use Rattle.nlri.specs.Inner.{layoutWith, flowLayout, layoutIn, sizeAt, withSourceAs, sourceStart, fieldsAt, FlowStands}
+use Rattle.nlri.specs.Inner.{layoutWith, flowLayout, sizeAt, withSourceAs, sourceStart, fieldsAt, FlowStands}
 use Rattle.nlri.proofs.Definitions.ReadNumbers.{refuses-nlri}
+use Rattle.nlri.proofs.Functions.Standing.{source-active-layout, source-active-stands}
 use Rattle.nlri.proofs.Functions.Singles.{ReadAt, read-at, read-by-layout, read-refused}
 use Rattle.nlri.proofs.Functions.Via.{nlri-given, reading-refused}
 use Rattle.routes.specs.Arguments.{readOfType}
@@ -75,12 +76,8 @@ module _ (afi : ℕ) (s : List ℕ) (f : Fields) (e : readOfType 5 afi s ≡ giv
   typed : getD s 0 0 ≡ 5
   typed = fifth .0 .typed ∙ fifth .1
 
-  layout-is : layoutIn s ≡ flowLayout 5 10 s
-  unfolding layoutIn sourceStart withSourceAs either pick
-  layout-is = rw typed
-
   fields-are : f ≡ fieldsAt (flowLayout 5 10 s) s
-  fields-are = sym (fifth .0 .fields) ∙ ap (λ (l : Layout). fieldsAt l s) layout-is
+  fields-are = sym (fifth .0 .fields) ∙ ap (λ (l : Layout). fieldsAt l s) (source-active-layout s typed)
 
   pub source-read : f .source ≡ sourceIn s
   unfolding fieldsAt flowLayout layoutWith sourceStart withSourceAs either pick sourceIn
@@ -93,8 +90,7 @@ module _ (afi : ℕ) (s : List ℕ) (f : Fields) (e : readOfType 5 afi s ≡ giv
       ap (λ (x : Fields). x .group) fields-are ∙ ap (λ (k : ℕ). part s k (sizeAt s (11 + sizeAt s 10))) next
 
   stands : FlowStands 10 s
-  unfolding sourceStart withSourceAs either pick
-  stands = rw typed at (fifth .0 .stands .flow (λ q. omega (arith, typed)) (λ q. omega (arith, typed)) (λ q. omega (arith, typed)))
+  stands = source-active-stands s typed (fifth .0 .stands)
 
   pub stands-within : groupEnd s ≤ length s
   unfolding groupEnd

@@ -13,16 +13,12 @@ use Rattle.octets.proofs.Outcome.{given-unless, passed, given-same}
 use Rattle.nlri.specs.declared.layout.Layout.{Layout}
 use Rattle.nlri.specs.Bodies.{originator, bodies, onBody, bodyOf, codeOf, sameKind, hasField}
 use Rattle.nlri.specs.Fields.{Fields}
-use Rattle.nlri.specs.Inner.{layoutWith, sizeAt, flowLayout, layoutIn, withSourceAs, sourceStart, distinguisherAt, sourceAsAt, fieldsAt}
+use Rattle.nlri.specs.Inner.{layoutWith, sizeAt, flowLayout, layoutIn, withKey, withSourceAs, sourceStart, distinguisherAt, sourceAsAt, fieldsAt}
 use Rattle.nlri.proofs.Definitions.FieldRecords.{fields-same}
+use Rattle.nlri.proofs.Functions.Standing.{s-pmsi-layout}
 use Rattle.nlri.proofs.Functions.Singles.{ReadAt, read-at}
 use Rattle.routes.specs.Arguments.{readSPmsi}
 use Rattle.table.specs.Scanning.{sourceSize, groupSize, originatorStart, standing, Bounded}
-
--- a layout of type 3 by its octets
-third-layout : (s : List ℕ) → getD s 0 0 ≡ 3 → layoutIn s ≡ flowLayout 3 10 s
-unfolding layoutIn sourceStart withSourceAs either pick
-third-layout s t = rw t
 
 -- what the octets are left with behind the group
 third-rest : (s : List ℕ) → 2 ≤ length s → length s - 2 ≡ getD s 1 0 → flowLayout 3 10 s .originator ≡ length s - originatorStart s
@@ -33,7 +29,7 @@ third-rest s long all = rest (length s) (getD s 1 0) _ _ all
     rest n m a b e = omega arith
 
 fields-standing : (s : List ℕ) → flowLayout 3 10 s .originator ≡ length s - originatorStart s → originatorStart s ≤ length s → fieldsAt (flowLayout 3 10 s) s ≡ standing s
-unfolding fieldsAt flowLayout layoutWith sizeAt standing distinguisherAt sourceAsAt withSourceAs sourceStart pick either part sourceSize groupSize
+unfolding fieldsAt flowLayout layoutWith sizeAt standing distinguisherAt withKey sourceAsAt withSourceAs sourceStart pick either part sourceSize groupSize
 fields-standing s e h =
     let next : 11 + sourceSize s + 1 ≡ 12 + sourceSize s = omega arith in
     let start : length s - (length s - originatorStart s) ≡ originatorStart s = omega arith in
@@ -50,7 +46,7 @@ module _ (afi : ℕ) (s : List ℕ) (f : Fields) (e : readSPmsi afi s ≡ given 
       (read-at afi s f (p .first ∙ ap given same), ap (λ (x : Fields). x .type) (sym same) ∙ eqb-true _ _ (q .0))
 
   layout-is : layoutIn s ≡ flowLayout 3 10 s
-  layout-is = third-layout s (third .0 .typed ∙ third .1)
+  layout-is = s-pmsi-layout s (third .0 .typed ∙ third .1)
 
   rest : flowLayout 3 10 s .originator ≡ length s - originatorStart s
   rest = third-rest s (third .0 .long .0) (third .0 .long .1)

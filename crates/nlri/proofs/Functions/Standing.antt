@@ -93,6 +93,19 @@ module _ (bits : ℕ) (s : List ℕ) (laid : Laid) (e : laidAt bits s ≡ given 
       (flowing (λ q. eqb-false _ _ n₁ (sym type ∙ q)) (λ q. eqb-false _ _ n₂ (sym type ∙ q)) (ap withKey type ∙ unkeyed)) .1
       ∙ ap (λ (k : ℕ). flowLayout k (sourceStart k - 1) s) type))))))
 
+-- in types 3 and 5 the source stands straight behind the route distinguisher
+pub s-pmsi-layout : (s : List ℕ) → getD s 0 0 ≡ 3 → layoutIn s ≡ flowLayout 3 10 s
+unfolding layoutIn withKey sourceStart withSourceAs either pick
+s-pmsi-layout s t = rw t
+
+pub source-active-layout : (s : List ℕ) → getD s 0 0 ≡ 5 → layoutIn s ≡ flowLayout 5 10 s
+unfolding layoutIn withKey sourceStart withSourceAs either pick
+source-active-layout s t = rw t
+
+pub source-active-stands : (s : List ℕ) → getD s 0 0 ≡ 5 → Stands s → FlowStands 10 s
+unfolding withKey sourceStart withSourceAs either pick
+source-active-stands s t b = rw t at (b .flow (λ q. omega arith) (λ q. omega arith) (ap withKey t))
+
 -- by the number
 pub laid-in : (bits : ℕ) (s : List ℕ) (n : ℕ) → n ≡ numberOf (layoutAt bits s) → n ≡ DONE → Stands s × (given (layoutIn s) ≡ layoutAt bits s)
 unfolding layoutAt
