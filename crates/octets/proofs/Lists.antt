@@ -4,7 +4,7 @@ use mathlib.Core.Path.{_≡_, refl, sym, ap, ap₂, _∙_}
 use mathlib.Core.List.{List, [], _∷_, _++_, append-assoc, append-nil}
 use native.Mathlib.Nat.{zero-add, add-sub-cancel-left}
 use native.Mathlib.Omega.{arith}
-use lib.ListN.{length, getD, take, drop, replicate, length-append, length-take, length-drop, length-replicate, replicate-append-replicate, drop-of-length-le}
+use lib.ListN.{length, getD, take, drop, replicate, length-append, length-take, length-drop, length-replicate, replicate-append-replicate, drop-of-length-le, take-append-drop}
 use lib.Seq.{take-all, take-at, drop-at, drop-drop, length-take-le, take-append-le, take-length, take-append-add, take-add, take-take, take-append-seam}
 use Rattle.octets.specs.Octets.{part, placed, front, sized}
 use Rattle.octets.specs.Order.{zeros}
@@ -109,6 +109,11 @@ part-then s start m n = rw (take-add m n (drop start s), drop-drop m start s)
 pub take-then : (s : List ℕ) (at n : ℕ) → take (at + n) s ≡ take at s ++ part s at n
 unfolding part
 take-then s at n = take-add at n s
+
+-- from a place on: a part, and what follows it
+pub drop-part : (s : List ℕ) (at n : ℕ) → drop at s ≡ part s at n ++ drop (at + n) s
+unfolding part
+drop-part s at n = sym (rw (← drop-drop n at s) (take-append-drop n (drop at s)))
 
 -- no elements
 pub empty-list : {A : Type 0} (s : List A) → length s ≡ 0 → s ≡ []

@@ -68,3 +68,7 @@ FLOW = 15
 -- output buffer too small
 abbrev pub SPACE : ℕ
 SPACE = 16
+
+-- FECs that hold one another are more than four: the fourth from outside has opaque type 7 or 8
+abbrev pub DEEP : ℕ
+DEEP = 17

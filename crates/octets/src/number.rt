@@ -32,3 +32,5 @@ pub const ABSENT: u32 = 14;
 pub const FLOW: u32 = 15;
 
 pub const SPACE: u32 = 16;
+// the fourth FEC from outside holds another (request W-207)
+pub const DEEP: u32 = 17;

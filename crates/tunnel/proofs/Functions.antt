@@ -1,6 +1,5 @@
 -- Laws by which the functions' proofs use the definitions.
 pub mod Copies
-pub mod FecTests
 pub mod Rows
 pub mod Answers
 pub mod Writes

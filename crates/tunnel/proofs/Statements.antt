@@ -1,5 +1,4 @@
 -- The proofs of the statements.
-pub mod FecRule
 pub mod ReadRule
 pub mod WriteRule
 pub mod AnswerRule

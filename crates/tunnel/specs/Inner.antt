@@ -3,11 +3,8 @@ use Prim.Native.Nat.{ℕ, _+_, _-_, _≤_}
 use mathlib.Core.Path.{_≡_}
 use mathlib.Core.Bool.{Bool, true, false}
 use mathlib.Core.List.{List, [], _∷_}
-use lib.Dec.{leb, eqb}
 use lib.ListN.{length}
-use Rattle.octets.specs.Choice.{both}
 use Rattle.octets.specs.Outcome.{onOutcome, numberOf}
-use Rattle.octets.specs.Octets.{part, numberIn}
 use Rattle.tunnel.specs.Identifier.{sizes, onForm, formOf, oneOf, judged, readIdentifier}
 
 -- a tunnel type that the table lacks
@@ -21,10 +18,6 @@ mldp t = onOutcome (λ _. false) (onForm (λ _. false) (λ _. true)) (formOf t)
 -- the FEC types that such a tunnel type takes
 unfoldable pub typeSuits : (t fecType : ℕ) → Bool
 typeSuits t fecType = onOutcome (λ _. false) (onForm (λ _. false) (oneOf fecType)) (formOf t)
-
--- from `start` on as many octets as the opaque length before it says
-unfoldable pub endsFrom : List ℕ → (start : ℕ) → Bool
-endsFrom i start = both (leb start (length i)) (eqb (start + numberIn (part i (start - 2) 2) 0) (length i))
 
 -- a tunnel type whose identifiers have one of two sizes
 abbrev pub TakesSizes : (t first second : ℕ) → Type 0

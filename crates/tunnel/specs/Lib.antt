@@ -1,6 +1,5 @@
--- Definitions of the PMSI Tunnel attribute: `Fec`, `Identifier`, `Attribute` are document 01's; `Answers` says what the public calls answer;
+-- Definitions of the PMSI Tunnel attribute: `Identifier`, `Attribute` are document 01's; `Answers` says what the public calls answer;
 -- `Inner` has what only inner functions cite; `Statements` has what is proved of the definitions.
-pub mod Fec
 pub mod Identifier
 pub mod Attribute
 pub mod Answers

@@ -1,7 +1,6 @@
 -- What holds of the definitions as a whole, in document 01's notions. Stated here, proved in the files that `proofs/Theorems.antt` names.
 use Prim.Native.Nat.{ℕ, _+_, _/_, _%_, _<_, _≤_}
 use mathlib.Core.Path.{_≡_}
-use mathlib.Core.Bool.{true}
 use mathlib.Core.Logic.{_↔_, _≢_}
 use mathlib.Core.List.{List}
 use lib.ListN.{length, getD, drop}
@@ -13,14 +12,10 @@ use Rattle.octets.specs.declared.Span.{Span}
 use Rattle.tunnel.specs.declared.Reading.{Reading}
 use Rattle.tunnel.specs.declared.Attribute.{Attribute}
 use Rattle.tunnel.specs.declared.fec.Fec.{Fec}
-use Rattle.tunnel.specs.Fec.{FecFields, WellFormedFec, encodeFec, wholeFec, fecIn}
+use Rattle.fec_elements.specs.Element.{FecFields, encodeFec, WellFormedFec}
 use Rattle.tunnel.specs.Identifier.{IdentifierForm, sizes, fecTypes, rowOf, identifierForms, OfType}
 use Rattle.tunnel.specs.Attribute.{AttributeFields, WellFormedAttribute, encodeAttribute, readAttribute, writeAttribute}
 use Rattle.tunnel.specs.Answers.{outcomeOf, readStruct, argumentFields}
-
--- FECs: octets are one exactly when they are the encoding of a well-formed FEC, and the fields where they stand are that FEC's
-pub record FecRule : Type 0 where
-  pub accepted : (i : List ℕ) (f : FecFields) → AllOctets i → ((wholeFec i ≡ true) × (fecIn i ≡ f)) ↔ (WellFormedFec f × (i ≡ encodeFec f))
 
 -- a tunnel type that the table lacks
 pub record Unknown (t : ℕ) : Type 0 where

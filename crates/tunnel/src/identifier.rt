@@ -7,9 +7,10 @@ ghost use lib.ListN.{length};
 ghost use Rattle.octets.specs.Outcome.{numberOf};
 ghost use Rattle.tunnel.specs.Identifier.{sizes, judged, readIdentifier};
 ghost use Rattle.tunnel.specs.Inner.{unknown, mldp, typeSuits, TakesSizes};
-use crate::fec::FecType;
 use crate::sizes::Sizes;
 use crate::tunnel_type::TunnelType;
+use fec_elements::shape;
+use fec_elements::shape::FecType;
 use octets::number;
 
 // The two sizes of an identifier, the same where it has one.
@@ -105,7 +106,7 @@ fn of_fec(tunnel_type: u8, identifier: &[u8]) -> u32
     requires { ⌜ (mldp «tunnel_type» ≡ true) × (length (now identifier) < 256) ⌝ }
     ensures { λ r. ⌜ r ≡ numberOf (readIdentifier «tunnel_type» (now (identifier .entry))) ⌝ }
 {
-    if crate::fec::whole(identifier) {
+    if shape::is_short(identifier) {
         if type_suits(tunnel_type, identifier[0]) {
             return number::DONE;
         }

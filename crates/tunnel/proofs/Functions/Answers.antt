@@ -10,12 +10,12 @@ use Rattle.octets.proofs.Choice.{opposite}
 use Rattle.octets.proofs.Outcome.{refused-of}
 use Rattle.tunnel.specs.declared.Attribute.{Attribute}
 use Rattle.tunnel.specs.declared.fec.Fec.{Fec}
-use Rattle.tunnel.specs.Fec.{wholeFec, fecIn}
+use Rattle.fec_elements.specs.Reading.{fecIn, wholeFec}
 use Rattle.tunnel.specs.Identifier.{IdentifierForm, sizes, fecTypes, onForm, formOf, readIdentifier}
 use Rattle.tunnel.specs.Attribute.{AttributeFields, fieldsIn, readAttribute}
 use Rattle.tunnel.specs.Answers.{fecSpans, noFec, fecOf, attributeStruct, readStruct}
 use Rattle.tunnel.specs.Inner.{mldp}
-use Rattle.tunnel.proofs.Definitions.Fecs.{length-fec}
+use Rattle.fec_elements.proofs.Wholes.{length-fec}
 use Rattle.tunnel.proofs.Definitions.Identifiers.{read-whole, judged-done}
 use Rattle.tunnel.proofs.Functions.Rows.{mldp-form}
 use Rattle.tunnel.proofs.Definitions.Attributes.{read-done}

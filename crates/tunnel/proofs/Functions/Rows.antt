@@ -13,7 +13,7 @@ use Rattle.octets.specs.Order.{same}
 use Rattle.octets.proofs.Choice.{tested, opposite, either-true}
 use Rattle.octets.proofs.Outcome.{number-of-refused, number-unless}
 use Rattle.octets.proofs.Orders.{same-equal}
-use Rattle.tunnel.specs.Fec.{wholeFec}
+use Rattle.fec_elements.specs.Reading.{wholeFec}
 use Rattle.tunnel.specs.Identifier.{IdentifierForm, sizes, fecTypes, onForm, identifierForms, formIn, formOf, oneOf, isIdentifier, readIdentifier}
 use Rattle.tunnel.specs.Inner.{unknown, mldp, typeSuits, TakesSizes}
 use Rattle.tunnel.proofs.Definitions.Identifiers.{agreeing, agree-below, unknown-form, read-known, read-unknown}

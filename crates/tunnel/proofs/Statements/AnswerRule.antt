@@ -15,12 +15,14 @@ use Rattle.octets.proofs.AllOctets.{octets-drop}
 use Rattle.tunnel.specs.declared.Reading.{Reading}
 use Rattle.tunnel.specs.declared.Reading.the-variants.{Attribute as read, Refused as no}
 use Rattle.tunnel.specs.declared.Attribute.{Attribute}
-use Rattle.tunnel.specs.Fec.{WellFormedFec, encodeFec, wholeFec, fecIn}
+use Rattle.fec_elements.specs.Element.{encodeFec, WellFormedFec}
+use Rattle.fec_elements.specs.Reading.{opaqueStart, opaqueSize, fecIn, wholeFec}
 use Rattle.tunnel.specs.Identifier.{IdentifierForm, sizes, fecTypes, formOf}
 use Rattle.tunnel.specs.Attribute.{AttributeFields, WellFormedAttribute, labelOf, leafInformationRequired, encodeAttribute, fieldsIn, readAttribute, writeAttribute}
 use Rattle.tunnel.specs.Answers.{outcomeOf, span, fecSpans, fecOf, attributeStruct, readStruct}
 use Rattle.tunnel.specs.Statements.{octetsAt, fieldsTold, fecTold, AttributeRoundTrips, AnsweredFec, AnsweredForm, notFec, isFec, AnsweredAttribute, AttributeAnswerRule}
-use Rattle.tunnel.proofs.Definitions.Fecs.{length-fec, length-root, length-opaque, whole-fields, fields-encode, length-encode}
+use Rattle.fec_elements.proofs.Fecs.{start-is, length-root, length-opaque, length-encode}
+use Rattle.fec_elements.proofs.Wholes.{whole-within, length-fec, opaque-size, whole-fields, fields-encode}
 use Rattle.tunnel.proofs.Definitions.Identifiers.{form-among, read-whole}
 use Rattle.tunnel.proofs.Functions.Answers.{fec-sizes, fec-types}
 use Rattle.tunnel.proofs.Definitions.Attributes.{Accepted, read-given, length-attribute}
@@ -42,7 +44,7 @@ spans-root i = omega arith
 
 spans-opaque : (i : List ℕ) → wholeFec i ≡ true → fecSpans (fecIn i) .opaque .start + fecSpans (fecIn i) .opaque .size ≡ 5 + length i
 unfolding fecSpans fecIn
-spans-opaque i w = omega (arith, length-root i w, length-opaque i, length-fec i w)
+spans-opaque i w = omega (arith, length-root i (whole-within i w), length-opaque i (whole-within i w), opaque-size i w, length-fec i w)
 
 -- what the answer tells of the octets are the fields and the FEC that stand in them
 told-identifier : (s : List ℕ) → octetsAt s (attributeStruct (fieldsIn s) .identifier) ≡ drop 5 s
@@ -53,19 +55,21 @@ told-fields : (s : List ℕ) → fieldsTold s (attributeStruct (fieldsIn s)) ≡
 unfolding attributeStruct fieldsIn
 told-fields s = rw (told-identifier s)
 
+part-after : (s : List ℕ) (from at size : ℕ) → part s (from + at) size ≡ part (drop from s) at size
+unfolding part
+part-after s from at size = rw drop-drop
+
 module _ (s : List ℕ) (w : wholeFec (drop 5 s) ≡ true) where
   told-root : octetsAt s (fecSpans (fecIn (drop 5 s)) .root) ≡ fecIn (drop 5 s) .root
-  unfolding fecSpans fecIn part
-  told-root = rw (length-root (drop 5 s) w, drop-drop 4 5 s)
+  unfolding fecSpans fecIn
+  told-root = rw (length-root (drop 5 s) (whole-within (drop 5 s) w)) (part-after s 5 4 (getD (drop 5 s) 3 0))
 
   told-opaque : octetsAt s (fecSpans (fecIn (drop 5 s)) .opaque) ≡ fecIn (drop 5 s) .opaqueValue
-  unfolding fecSpans fecIn part
+  unfolding fecSpans fecIn
   told-opaque =
-      let size = getD (drop 5 s) 3 0 in
-      let n : 9 + (size + 2) ≡ 11 + size = omega arith in
-      let d : drop (size + 2) (drop 4 (drop 5 s)) ≡ drop (11 + size) s =
-      ap (drop (size + 2)) (drop-drop 4 5 s) ∙ drop-drop (size + 2) 9 s ∙ ap (λ (k : ℕ). drop k s) n in
-      rw (length-root (drop 5 s) w, d) (take-length (drop (11 + size) s))
+      let i : List ℕ = drop 5 s in
+      let at : 11 + getD i 3 0 ≡ 5 + opaqueStart i = omega (arith, start-is i) in
+      rw (length-root i (whole-within i w), length-opaque i (whole-within i w), at) (part-after s 5 (opaqueStart i) (opaqueSize i))
 
   told-fec : fecTold s (fecSpans (fecIn (drop 5 s))) ≡ fecIn (drop 5 s)
   unfolding fecSpans
@@ -134,7 +138,7 @@ module _ (s : List ℕ) (a : Attribute) (w : AnsweredAttribute s a) where
       let opaque = a .fec .opaque in
       let n : length (octetsAt s root) ≡ root .size = length-part s (root .start) (root .size) (omega (arith, k .rootEnds, k .opaqueEnds)) in
       let m : length (octetsAt s opaque) ≡ opaque .size = length-part s (opaque .start) (opaque .size) (omega (arith, k .opaqueEnds)) in
-      let total : length (octetsAt s (a .identifier)) ≡ 6 + length (octetsAt s root) + length (octetsAt s opaque) = ap length (k .encoded) ∙ length-encode (fecTold s (a .fec)) (k .wellFormed) in
+      let total : length (octetsAt s (a .identifier)) ≡ 6 + length (octetsAt s root) + length (octetsAt s opaque) = ap length (k .encoded) ∙ length-encode (fecTold s (a .fec)) in
       let first : 9 ≡ root .start = omega (arith, k .rootEnds, k .opaqueEnds, length-told) in
       let second : 11 + length (octetsAt s root) ≡ opaque .start = omega (arith, k .rootEnds, k .opaqueEnds, length-told) in
       rw (second, first, n, m)

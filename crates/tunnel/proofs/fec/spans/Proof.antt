@@ -1,8 +1,9 @@
 -- `tunnel::fec::spans` meets its contract: a FEC has the octets that are read of it.
 use native.Mathlib.Omega.{arith}
 use denote.Ref.{now}
-use Rattle.tunnel.proofs.Definitions.Fecs.{length-root, length-opaque}
-use Rattle.tunnel.specs.Fec.{fecIn}
+use Rattle.fec_elements.specs.Reading.{fecIn}
+use Rattle.fec_elements.proofs.Fecs.{length-root, length-opaque}
+use Rattle.fec_elements.proofs.Wholes.{whole-within, opaque-size}
 use Rattle.tunnel.specs.Answers.{fecSpans}
 use borrow.Author.Needs.{needs}
 use Rattle.tunnel.proofs.fec.spans.Statement.{statement}
@@ -15,7 +16,9 @@ returns : tie.Need-returns
 unfolding fecSpans fecIn
 returns c =
     let start = c .before .before .before .before in
-    rw (length-root (now (start .args .identifier)) (start .pre .0), length-opaque (now (start .args .identifier)), c .two .ensures .0)
+    let i = now (start .args .identifier) in
+    let w = start .pre .0 in
+    rw (length-root i (whole-within i w), length-opaque i (whole-within i w), opaque-size i w, c .two .ensures .0)
 
 pub spans-spec : {M : Type 1} → statement M
 spans-spec =

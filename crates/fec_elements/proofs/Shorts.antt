@@ -1,47 +1,34 @@
--- The tests that the code makes of a FEC are the definition's.
+-- `shortFec` by the tests that the code makes: address family and address length as one number, the opaque length as another.
 use Prim.Native.Nat.{ℕ, _+_, _-_, _*_, _/_, _≤_, _<_}
 use mathlib.Core.Path.{_≡_, refl, sym, ap, _∙_}
 use mathlib.Core.Logic.{_↔_}
 use mathlib.Core.Bool.{Bool, false}
 use mathlib.Core.List.{List}
 use native.Mathlib.Omega.{arith}
-use lib.Dec.{leb, eqb}
-use lib.ListN.{length, getD, take, drop, length-drop}
-use lib.Seq.{drop-drop}
-use borrow.Author.Tests.{leb-true, eqb-true, eq-eqb, le-leb}
+use lib.Dec.{eqb}
+use lib.ListN.{length, getD}
+use borrow.Author.Tests.{eqb-true, eq-eqb, le-leb, lt-ltb}
 use Rattle.octets.specs.Choice.{both}
 use Rattle.octets.specs.Octets.{AllOctets, part, numberIn, lowFirst}
-use Rattle.octets.proofs.Choice.{is-false, test-same}
+use Rattle.octets.proofs.Choice.{is-false, test-same, both-true, both-held, both-last}
 use Rattle.octets.proofs.AllOctets.{octet-at}
 use Rattle.octets.proofs.NetworkOrder.{number-two}
 use Rattle.octets.proofs.LowFirst.{low-two, low-then, low-number}
-use Rattle.tunnel.specs.Fec.{Suits, ipv4, ipv6, opaqueFills, wholeFec}
-use Rattle.tunnel.specs.Inner.{endsFrom}
-use Rattle.tunnel.proofs.Definitions.Fecs.{suits-computed, fec-tests}
+use Rattle.fec_elements.specs.Element.{Suits, ipv4, ipv6}
+use Rattle.fec_elements.specs.Reading.{opaqueStart, opaqueSize, fecSize, wholeFec, shortFec}
+use Rattle.fec_elements.specs.Inner.{endsFrom}
+use Rattle.fec_elements.proofs.Fecs.{start-is, start-in, size-before}
+use Rattle.fec_elements.proofs.Wholes.{whole-tests, tests-whole}
 
 suits-least : {addressFamily size : ℕ} → Suits addressFamily size → 4 ≤ size
 suits-least ipv4 = omega arith
 suits-least ipv6 = omega arith
 
 -- no FEC has fewer octets than one with an IPv4 root and no opaque value
-pub whole-short : (i : List ℕ) → length i < 10 → false ≡ wholeFec i
-whole-short i h = sym (is-false (wholeFec i) (λ w. let t = fec-tests i w in omega (arith, suits-least (t .suits), length-drop 4 i)))
-
-ends-fills : (i : List ℕ) (size start : ℕ) → 4 ≤ length i → start ≡ size + 6 → endsFrom i start ≡ opaqueFills (drop 4 i) size
-unfolding endsFrom opaqueFills part
-ends-fills i size start h e =
-    let rest = drop 4 i in
-    let l : length rest ≡ length i - 4 = length-drop 4 i in
-    let at : drop (start - 2) i ≡ drop size rest = ap (λ (n : ℕ). drop n i) (place start size e) ∙ sym (drop-drop size 4 i) in
-    let n = numberIn (take 2 (drop size rest)) 0 in
-    let room : leb start (length i) ≡ leb (size + 2) (length rest) =
-    test-same (leb start (length i)) (leb (size + 2) (length rest)) (λ p. le-leb (size + 2) (length rest) (omega (arith, leb-true))) (λ p. le-leb start (length i) (omega (arith, leb-true))) in
-    let end : eqb (start + n) (length i) ≡ eqb (size + 2 + n) (length rest) =
-    test-same (eqb (start + n) (length i)) (eqb (size + 2 + n) (length rest)) (λ p. eq-eqb (size + 2 + n) (length rest) (omega (arith, eqb-true))) (λ p. eq-eqb (start + n) (length i) (omega (arith, eqb-true))) in
-    rw (at, room, end)
-  where
-    place : (start size : ℕ) → start ≡ size + 6 → start - 2 ≡ 4 + size
-    place start size e = omega arith
+pub short-least : (i : List ℕ) → length i < 10 → false ≡ shortFec i
+unfolding shortFec
+short-least i h =
+    sym (is-false _ (λ w. let t = whole-tests i (both-held _ _ w .1) .0 in omega (arith, suits-least (t .suits), start-in i (t .whole), start-is i)))
 
 -- the opaque length, as the code reads it
 pub ends-low : {i : List ℕ} → AllOctets i → (start x : ℕ) → 2 ≤ start → start ≤ length i → length i < 256 → x ≡ lowFirst (part i (start - 2) 2) → eqb x ((length i - start) * 256) ≡ endsFrom i start
@@ -52,11 +39,24 @@ ends-low {i} a start x two fits small e =
     test-same (eqb n (length i - start)) (eqb (start + n) (length i)) (λ p. eq-eqb (start + n) (length i) (omega (arith, eqb-true))) (λ p. eq-eqb n (length i - start) (omega (arith, eqb-true))) in
     rw (e, le-leb start (length i) fits) (low-number a (start - 2) (length i - start) (omega arith) (omega arith) ∙ shifted)
 
+-- and what it ends
+ends-whole : (i : List ℕ) → 4 ≤ length i → Suits (numberIn (part i 1 2) 0) (getD i 3 0) → endsFrom i (opaqueStart i) ≡ wholeFec i
+unfolding endsFrom fecSize
+ends-whole i h t =
+    rw (size-before i)
+    (test-same _ _
+    (λ x.
+    let whole = eqb-true (opaqueStart i + opaqueSize i) (length i) (both-held _ _ x .1) in
+    tests-whole i (record { least = h; suits = t; whole = omega arith }) whole)
+    (λ x.
+    let whole = whole-tests i x .1 in
+    both-true _ _ (le-leb (opaqueStart i) (length i) (omega arith)) (eq-eqb (opaqueStart i + opaqueSize i) (length i) whole)))
+
 low-apart : {x u : ℕ} (y v : ℕ) → x < 256 → u < 256 → x + 256 * y ≡ u + 256 * v → (x ≡ u) × (y ≡ v)
 low-apart y v h k e = (omega arith, omega arith)
 
 -- address family and address length as one number, as the code reads them
-module _ {i : List ℕ} (a : AllOctets i) (h : 4 ≤ length i) (low : ℕ) (e : low ≡ lowFirst (part i 0 4)) where
+module _ {i : List ℕ} (a : AllOctets i) (h : 4 ≤ length i) (l : length i < 256) (low : ℕ) (e : low ≡ lowFirst (part i 0 4)) where
   root-octets : low / 256 ≡ getD i 1 0 + 256 * getD i 2 0 + 65536 * getD i 3 0
   root-octets =
       let first = low-two i 0 (omega arith) in
@@ -78,14 +78,16 @@ module _ {i : List ℕ} (a : AllOctets i) (h : 4 ≤ length i) (low : ℕ) (e : 
         λ q. let first : getD i 1 0 ≡ 0 = omega arith in omega arith,
       )
 
-  pub whole-rooted : (addressFamily size : ℕ) → Suits addressFamily size → addressFamily < 256 → size < 256 → low / 256 ≡ 256 * addressFamily + 65536 * size → (r : Bool) → r ≡ endsFrom i (size + 6) → r ≡ wholeFec i
-  unfolding wholeFec both
-  whole-rooted addressFamily size t f s z r q =
+  pub short-rooted : (addressFamily size : ℕ) → Suits addressFamily size → addressFamily < 256 → size < 256 → low / 256 ≡ 256 * addressFamily + 65536 * size → (r : Bool) → r ≡ endsFrom i (4 + size + 2) → r ≡ shortFec i
+  unfolding shortFec
+  short-rooted addressFamily size t f s z r q =
       let p = root-is addressFamily size f s .0 z in
-      q ∙ sym (rw (le-leb 4 (length i) h, p .0, p .1, suits-computed t) (sym (ends-fills i size (size + 6) h refl)))
+      let start : 4 + size + 2 ≡ opaqueStart i = omega (arith, start-is i, p .1) in
+      both-last _ _ r (lt-ltb (length i) 256 l) (q ∙ ap (endsFrom i) start ∙ ends-whole i h (rw (p .0, p .1) t))
 
-  pub whole-unrooted : (low / 256 ≡ 262400 → ⊥) → (low / 256 ≡ 1049088 → ⊥) → false ≡ wholeFec i
-  whole-unrooted p q = sym (is-false (wholeFec i) (λ w. go (fec-tests i w .suits) refl refl))
+  pub short-unrooted : (low / 256 ≡ 262400 → ⊥) → (low / 256 ≡ 1049088 → ⊥) → false ≡ shortFec i
+  unfolding shortFec
+  short-unrooted p q = sym (is-false _ (λ w. go (whole-tests i (both-held _ _ w .1) .0 .suits) refl refl))
     where
       go : {addressFamily size : ℕ} → Suits addressFamily size → numberIn (part i 1 2) 0 ≡ addressFamily → getD i 3 0 ≡ size → ⊥
       go ipv4 x y = p (root-is 1 4 (omega arith) (omega arith) .1 (x, y))
