@@ -217,13 +217,29 @@ static mvpn_walked read_run(const route_run *routes, size_t piece_size, kept_nlr
 
 typedef enum { INSTALL, WITHDRAW } change;
 
+/* The FEC elements of an NLRI for mLDP (RFC 7441); a Leaf has them in its key. */
+static void print_fecs_of(uint16_t afi, octets nlri)
+{
+    mvpn_nlri_reading reading = mvpn_nlri_read(afi, nlri.at, nlri.size);
+    if (reading.key.size > 0) {
+        nlri = (octets){ nlri.at + reading.key.start, reading.key.size };
+        reading = mvpn_nlri_read(afi, nlri.at, nlri.size);
+    }
+    if (reading.fec.size > 0) {
+        printf(", ");
+        print_fecs(nlri.at + reading.fec.start);
+    }
+}
+
 /* S-PMSI A-D routes go into the table, Source Active A-D routes are kept beside it; others are named and counted. */
 static void use_nlri(customer_vrf *vrf, change what, const route_run *routes, octets nlri, octets tunnel)
 {
     uint8_t route_type = nlri.at[0];
     if (route_type != MVPN_S_PMSI && route_type != MVPN_SOURCE_ACTIVE) {
         vrf->other++;
-        printf("route type %u, %s: not used", route_type, route_type_name(route_type));
+        printf("route type %u, %s", route_type, route_type_name(route_type));
+        print_fecs_of(routes->afi, nlri);
+        printf(": not used");
         return;
     }
     mvpn_nlri route = mvpn_nlri_read(routes->afi, nlri.at, nlri.size).nlri;

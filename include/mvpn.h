@@ -1,5 +1,5 @@
 /*
- * mvpn.h: MCAST-VPN NLRI (RFC 6514, RFC 6625) and the PMSI Tunnel attribute (RFC 6514, RFC 8556), read and written; one
+ * mvpn.h: MCAST-VPN NLRI (RFC 6514, RFC 6625, RFC 7441) and the PMSI Tunnel attribute (RFC 6514, RFC 8556), read and written; one
  * VRF's S-PMSI A-D routes for one address family, kept in memory that the caller lends, and the route that a customer
  * flow (C-S,C-G) or a shared tree (C-*,C-G) takes; of a flow also why.
  *
@@ -28,9 +28,9 @@
 #include <stdint.h>
 
 /* The version of this header and its archive; before 1.0.0 a new minor version may change calls. */
-#define MVPN_VERSION "0.9.0"
+#define MVPN_VERSION "0.10.0"
 #define MVPN_VERSION_MAJOR 0
-#define MVPN_VERSION_MINOR 9
+#define MVPN_VERSION_MINOR 10
 #define MVPN_VERSION_PATCH 0
 
 #ifdef __cplusplus
@@ -41,13 +41,13 @@ extern "C" {
 enum {
     MVPN_DONE = 0,    /* the work was done */
     MVPN_SHORT = 1,   /* fewer octets than the header, or than the Length field, asks; a list that ends before its items do */
-    MVPN_TYPE = 2,    /* route type not 1 to 7 */
+    MVPN_TYPE = 2,    /* route type not 1 to 7, 0x43, 0x44 or 0x47 */
     MVPN_LENGTH = 3,  /* the body ends inside a field, or what remains is not the last field, or octets follow a single NLRI */
     MVPN_WIDTH = 4,   /* an address length that the type and family do not allow; at writing also an originator not of 4 or 16 octets */
-    MVPN_KEY = 5,     /* a Leaf's key is not a well-formed NLRI of type 1, 2 or 3 */
+    MVPN_KEY = 5,     /* a Leaf's key is not a well-formed NLRI of type 1, 2 or 3; in type 0x44: of type 0x43 */
     MVPN_TUNNEL = 6,  /* tunnel type not 0 to 7 or 11 */
-    MVPN_IDENT = 7,   /* identifier not of that tunnel type's form */
-    MVPN_LONG = 8,    /* attribute over 64 octets, run over 4,096, or list of more items than the call takes */
+    MVPN_IDENT = 7,   /* identifier not of that tunnel type's form; in an NLRI a bad FEC element */
+    MVPN_LONG = 8,    /* attribute over 64 octets, run over 4,096, list of more items than the call takes; at writing a body for mLDP over 255 */
     MVPN_LABEL = 9,   /* BIER with label 0 at install; a label field over 16,777,215 at writing */
     MVPN_FAMILY = 10, /* AFI not 1 or 2 */
     MVPN_TABLE = 11,  /* lent memory is not a sound table; for making one: not of a table's size */
@@ -55,7 +55,8 @@ enum {
     MVPN_ROOM = 13,   /* new NLRI and every place taken */
     MVPN_ABSENT = 14, /* withdrawn NLRI not in the table */
     MVPN_FLOW = 15,   /* router or originator address not 4 or 16 octets, source or group not of the family's size, or group asked not multicast */
-    MVPN_SPACE = 16   /* output buffer too small */
+    MVPN_SPACE = 16,  /* output buffer too small */
+    MVPN_DEEP = 17    /* the fourth FEC element from outside has an opaque value of type 7 or 8 */
 };
 
 /* Address families. */
@@ -64,7 +65,7 @@ enum { MVPN_AFI_IPV4 = 1, MVPN_AFI_IPV6 = 2 };
 /* The octets of an NLRI before its body: route type and Length. */
 enum { MVPN_NLRI_HEADER = 2 };
 
-/* Route types (RFC 6514, section 4). */
+/* Route types (RFC 6514, section 4), and those for customers that run mLDP (RFC 7441, section 3). */
 enum {
     MVPN_INTRA_AS_I_PMSI = 1,
     MVPN_INTER_AS_I_PMSI = 2,
@@ -72,7 +73,10 @@ enum {
     MVPN_LEAF = 4,
     MVPN_SOURCE_ACTIVE = 5,
     MVPN_SHARED_TREE_JOIN = 6,
-    MVPN_SOURCE_TREE_JOIN = 7
+    MVPN_SOURCE_TREE_JOIN = 7,
+    MVPN_MLDP_S_PMSI = 0x43,
+    MVPN_MLDP_LEAF = 0x44,
+    MVPN_MLDP_SOURCE_TREE_JOIN = 0x47
 };
 
 /* Tunnel types (RFC 6514, section 5; RFC 8556, section 2), with the octets of the identifier. */
@@ -108,20 +112,32 @@ typedef struct { uint8_t octets[8]; } mvpn_route_distinguisher;
 typedef struct { uint8_t octets[16]; uint8_t size; } mvpn_address;
 
 /* The fields of an NLRI. In an answer the fields that the route type lacks are 0; in an argument they are not looked at.
- * A Leaf's key is not among them: reading gives its span, writing takes its octets. */
+ * A Leaf's key and a FEC element are not among them: reading gives their spans, writing takes their octets. */
 typedef struct {
-    mvpn_route_distinguisher distinguisher; /* types 1, 2, 3, 5, 6, 7 */
+    mvpn_route_distinguisher distinguisher; /* types 1, 2, 3, 5, 6, 7, 0x43, 0x47 */
     mvpn_address source;                    /* types 3, 5, 6, 7 */
     mvpn_address group;                     /* types 3, 5, 6, 7 */
-    mvpn_address originator;                /* types 1, 3, 4 */
-    uint32_t source_as;                     /* types 2, 6, 7 */
+    mvpn_address originator;                /* types 1, 3, 4, 0x43, 0x44 */
+    uint32_t source_as;                     /* types 2, 6, 7, 0x47 */
     uint8_t route_type;
 } mvpn_nlri;
 
+/*
+ * The FEC element of types 0x43 and 0x47 (RFC 6388, section 2.2): type 1 (6, 7 or 8), address family 2, address length 1 (4 or 16
+ * to suit), root, opaque length 2, opaque value. The family is the AFI (RFC 7441, section 3).
+ *
+ * An opaque value that opens with 7 or 8 holds another FEC element (RFC 6512): type 1, length 2, in type 8 a route
+ * distinguisher 8, then the FEC element, of family 1 or 2, which fills the rest and may hold another, to four elements deep. Other
+ * opaque values, and none, are kept as octets. The first fault from left to right is told:
+ *   LENGTH  the body ends inside the outermost FEC element, whose opaque length is judged before its opaque value
+ *   IDENT   a field is wrong, or inside an opaque value there are too few octets or too many
+ *   DEEP    the fourth FEC element from outside has an opaque value that opens with 7 or 8, whatever follows
+ */
 typedef struct {
     uint32_t number;
     mvpn_nlri nlri;
-    mvpn_span key; /* type 4: where in the NLRI read its key stands */
+    mvpn_span key; /* types 4, 0x44: where in the NLRI read its key stands */
+    mvpn_span fec; /* types 0x43, 0x47: where in the NLRI read its FEC element stands, with all that it holds */
 } mvpn_nlri_reading;
 
 typedef struct {
@@ -130,16 +146,19 @@ typedef struct {
 } mvpn_written;
 
 /*
- * Reads a single NLRI. FAMILY, SHORT, TYPE, then the body left to right (LENGTH, WIDTH, KEY), then LENGTH for octets
- * after it.
+ * Reads a single NLRI. FAMILY, SHORT, TYPE, then the body left to right (LENGTH, WIDTH, KEY, IDENT, DEEP), then LENGTH for
+ * octets after it. Any fault inside a key is KEY, and so is a key of another kind: type 0x43 in type 4, types 1 to 3 in type 0x44.
  */
 mvpn_nlri_reading mvpn_nlri_read(uint16_t afi, const uint8_t *nlri, size_t nlri_len);
 
 /*
- * Writes an NLRI at the front of the output. FAMILY, TYPE, WIDTH, KEY, SPACE. `key` is a Leaf's key: exactly one NLRI of
- * type 1, 2 or 3 under the same AFI; it is not looked at for other types.
+ * Writes an NLRI at the front of the output. FAMILY, TYPE, WIDTH, IDENT and DEEP, LONG (a body of type 0x43, 0x44 or 0x47 over
+ * 255 octets, by the sizes given), KEY, SPACE. `key` is a Leaf's key: exactly one NLRI under the same AFI, of type 1, 2 or 3 for
+ * type 4, of type 0x43 for type 0x44. `fec` is the FEC element of types 0x43 and 0x47: exactly one, else IDENT. Neither is looked
+ * at for other types.
  */
-mvpn_written mvpn_nlri_write(uint16_t afi, mvpn_nlri nlri, const uint8_t *key, size_t key_len, uint8_t *output, size_t output_len);
+mvpn_written mvpn_nlri_write(uint16_t afi, mvpn_nlri nlri, const uint8_t *key, size_t key_len,
+                             const uint8_t *fec, size_t fec_len, uint8_t *output, size_t output_len);
 
 /* How an NLRI is laid out: its route type, its Length field, and the size in octets of each field whose size varies (0
  * for a wildcard and for a field that the type lacks). */
@@ -150,6 +169,7 @@ typedef struct {
     size_t group;
     size_t originator;
     size_t key; /* with its header */
+    size_t fec;
 } mvpn_layout;
 
 typedef struct {
@@ -249,8 +269,8 @@ typedef struct { uint32_t number, group_class; } mvpn_group;
 /* The class of a customer group. FAMILY, FLOW. */
 mvpn_group mvpn_group_class(uint16_t afi, const uint8_t *group, size_t group_len);
 
-/* The shape of an mLDP FEC element (RFC 6388, section 2.2): its type (6, 7 or 8), its address family (1 or 2), and where
- * in the attribute read its root address and its opaque value stand. */
+/* The shape of an attribute's mLDP FEC element (RFC 6388, section 2.2): its type (6, 7 or 8), its address family (1 or 2), and
+ * where in the attribute read its root address and its opaque value stand. The opaque value is not read. */
 typedef struct {
     uint32_t fec_type, address_family;
     mvpn_span root, opaque;

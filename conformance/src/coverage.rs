@@ -39,6 +39,8 @@ pub enum Seen {
     Leaf(u16, u8, usize),
     /// Unknown route types that a walk skipped; 3 stands for more.
     Skipped(u32),
+    /// An accepted FEC element: AFI, elements one inside the other.
+    Nest(u16, usize),
     /// A step at the run's end.
     End,
     /// Feeds that it took to give an NLRI; 3 stands for more.
@@ -76,21 +78,21 @@ pub enum Seen {
 
 /// The numbers that each call can give (document 01, "The numbers a call gives back"; document 02).
 const NUMBERS: [(Call, &[u32]); 15] = [
-    (Call::NlriRead, &[0, 1, 2, 3, 4, 5, 10]),
-    (Call::NlriWrite, &[0, 2, 4, 5, 10, 16]),
-    (Call::Step, &[0, 1, 2, 3, 4, 5, 8, 10]),
-    (Call::Walk, &[0, 1, 2, 3, 4, 5, 8, 10]),
+    (Call::NlriRead, &[0, 1, 2, 3, 4, 5, 7, 10, 17]),
+    (Call::NlriWrite, &[0, 2, 4, 5, 7, 8, 10, 16, 17]),
+    (Call::Step, &[0, 1, 2, 3, 4, 5, 7, 8, 10, 17]),
+    (Call::Walk, &[0, 1, 2, 3, 4, 5, 7, 8, 10, 17]),
     (Call::PiecesStart, &[0, 10]),
-    (Call::PiecesFinish, &[0, 1, 2, 3, 4, 5, 8, 10]),
+    (Call::PiecesFinish, &[0, 1, 2, 3, 4, 5, 7, 8, 10, 17]),
     (Call::GroupClass, &[0, 10, 15]),
     (Call::AttributeRead, &[0, 1, 6, 7, 8]),
     (Call::AttributeWrite, &[0, 6, 7, 8, 9, 16]),
     (Call::Make, &[0, 10, 11]),
-    (Call::Install, &[0, 1, 2, 3, 4, 5, 6, 7, 8, 9, 11, 12, 13]),
-    (Call::Withdraw, &[0, 1, 2, 3, 4, 5, 11, 12, 14]),
+    (Call::Install, &[0, 1, 2, 3, 4, 5, 6, 7, 8, 9, 11, 12, 13, 17]),
+    (Call::Withdraw, &[0, 1, 2, 3, 4, 5, 7, 11, 12, 14, 17]),
     (Call::Match, &[0, 11, 15, 16]),
     (Call::Explain, &[0, 11, 15, 16]),
-    (Call::MatchShared, &[0, 1, 2, 3, 4, 5, 8, 11, 12, 15, 16]),
+    (Call::MatchShared, &[0, 1, 2, 3, 4, 5, 7, 8, 11, 12, 15, 16, 17]),
 ];
 
 /// The numbers of places that sequences and table cases use.
@@ -174,13 +176,15 @@ fn required_of_tables(afi: u16) -> Vec<(Call, Seen)> {
 fn required_of_family(afi: u16) -> Vec<(Call, Seen)> {
     let mut rows = vec![(Call::GroupClass, Seen::Class(afi, 1)), (Call::GroupClass, Seen::Class(afi, 2))];
     for call in [Call::NlriRead, Call::NlriWrite, Call::Step, Call::PiecesFeed] {
-        rows.extend((1..=7).map(|route_type| (call, Seen::Route(route_type, afi))));
+        let types = (1..=7).chain([0x43, 0x44, 0x47]);
+        rows.extend(types.map(|route_type| (call, Seen::Route(route_type, afi))));
     }
+    rows.extend((1..=4).map(|depth| (Call::NlriRead, Seen::Nest(afi, depth))));
     for originator in [4, 16] {
         for (source, group) in [(false, false), (false, true), (true, false), (true, true)] {
             rows.push((Call::NlriRead, Seen::SPmsi(afi, source, group, originator)));
         }
-        rows.extend((1..=3).map(|key| (Call::NlriRead, Seen::Leaf(afi, key, originator))));
+        rows.extend([1, 2, 3, 0x43].map(|key| (Call::NlriRead, Seen::Leaf(afi, key, originator))));
     }
     rows
 }

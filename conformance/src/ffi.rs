@@ -59,6 +59,7 @@ pub struct NlriReading {
     pub number: u32,
     pub nlri: Nlri,
     pub key: Span,
+    pub fec: Span,
 }
 
 #[repr(C)]
@@ -77,6 +78,7 @@ pub struct Layout {
     pub group: usize,
     pub originator: usize,
     pub key: usize,
+    pub fec: usize,
 }
 
 #[repr(C)]
@@ -191,8 +193,8 @@ pub struct SharedTree {
 const _: () = assert!(
     size_of::<Address>() == 17
         && size_of::<Nlri>() == 68
-        && size_of::<NlriReading>() == 88
-        && size_of::<Stepped>() == 64
+        && size_of::<NlriReading>() == 104
+        && size_of::<Stepped>() == 72
         && size_of::<Walked>() == 16
         && size_of::<Pieces>() == 36
         && size_of::<Fed>() == 56
@@ -208,7 +210,7 @@ pub mod raw {
     use super::*;
 
     pub type NlriRead = unsafe extern "C" fn(u16, *const u8, usize) -> NlriReading;
-    pub type NlriWrite = unsafe extern "C" fn(u16, Nlri, *const u8, usize, *mut u8, usize) -> Written;
+    pub type NlriWrite = unsafe extern "C" fn(u16, Nlri, *const u8, usize, *const u8, usize, *mut u8, usize) -> Written;
     pub type Step = unsafe extern "C" fn(u16, *const u8, usize, usize) -> Stepped;
     pub type Walk = unsafe extern "C" fn(u16, u32, *const u8, usize) -> Walked;
     pub type PiecesStart = unsafe extern "C" fn(u16, u32) -> Pieces;
@@ -241,6 +243,8 @@ pub mod raw {
             nlri: Nlri,
             key: *const u8,
             key_len: usize,
+            fec: *const u8,
+            fec_len: usize,
             output: *mut u8,
             output_len: usize,
         ) -> Written;
@@ -318,8 +322,9 @@ pub fn nlri_read(afi: u16, nlri: &mut Lent) -> NlriReading {
     unsafe { raw::mvpn_nlri_read(afi, nlri.pointer(), nlri.len()) }
 }
 
-pub fn nlri_write(afi: u16, nlri: Nlri, key: &mut Lent, output: &mut Lent) -> Written {
-    unsafe { raw::mvpn_nlri_write(afi, nlri, key.pointer(), key.len(), output.pointer(), output.len()) }
+pub fn nlri_write(afi: u16, nlri: Nlri, key: &mut Lent, fec: &mut Lent, output: &mut Lent) -> Written {
+    let (element, size) = (fec.pointer(), fec.len());
+    unsafe { raw::mvpn_nlri_write(afi, nlri, key.pointer(), key.len(), element, size, output.pointer(), output.len()) }
 }
 
 pub fn step(afi: u16, run: &mut Lent, cursor: usize) -> Stepped {

@@ -86,6 +86,7 @@ fn finds(options: &Options, fault: Fault) -> bool {
         ShownBy::SharedTrees => cases::of_shared_trees(&mut harness, options),
         ShownBy::Encodings => cases::of_encodings(&mut harness, options),
         ShownBy::Skips => cases::of_skips(&mut harness, options),
+        ShownBy::Fecs => cases::of_fecs(&mut harness, options),
         ShownBy::Pieces => cases::of_pieces(&mut harness, options),
     };
     let name = fault.name();

@@ -6,7 +6,7 @@ use crate::second::fault::Fault;
 pub const SEED: u64 = 65_146_625;
 
 /// Random cases of a run that names no number.
-pub const CASES: u64 = 3_000_000;
+pub const CASES: u64 = 2_500_000;
 
 #[derive(Clone, Debug)]
 pub struct Options {

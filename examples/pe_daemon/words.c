@@ -4,6 +4,7 @@
 #include <inttypes.h>
 #include <stdbool.h>
 #include <stdio.h>
+#include <string.h>
 
 #define COUNT(list) (sizeof(list) / sizeof((list)[0]))
 
@@ -19,9 +20,9 @@ static const number_words numbers[] = {
     WORDS(MVPN_TYPE, "unknown route type"),
     WORDS(MVPN_LENGTH, "the fields do not end where the Length field says"),
     WORDS(MVPN_WIDTH, "an address length that the route type and family do not allow"),
-    WORDS(MVPN_KEY, "a Leaf's key is not a well-formed NLRI of type 1, 2 or 3"),
+    WORDS(MVPN_KEY, "a Leaf's key is not a well-formed NLRI of a type that the Leaf may have"),
     WORDS(MVPN_TUNNEL, "unknown tunnel type"),
-    WORDS(MVPN_IDENT, "the tunnel identifier is not of the tunnel type's form"),
+    WORDS(MVPN_IDENT, "a tunnel identifier that is not of its type's form, or a bad FEC element"),
     WORDS(MVPN_LONG, "more octets or items than the library takes"),
     WORDS(MVPN_LABEL, "BIER with label 0"),
     WORDS(MVPN_FAMILY, "the AFI is not 1 or 2"),
@@ -31,6 +32,7 @@ static const number_words numbers[] = {
     WORDS(MVPN_ABSENT, "the table does not hold this route"),
     WORDS(MVPN_FLOW, "an address of the wrong size, or a group that is not multicast"),
     WORDS(MVPN_SPACE, "the output is too small"),
+    WORDS(MVPN_DEEP, "FEC elements in FEC elements, over four deep"),
 };
 
 const char *number_name(uint32_t number)
@@ -65,6 +67,9 @@ const char *route_type_name(size_t route_type)
         [MVPN_SOURCE_ACTIVE] = "Source Active A-D",
         [MVPN_SHARED_TREE_JOIN] = "Shared Tree Join",
         [MVPN_SOURCE_TREE_JOIN] = "Source Tree Join",
+        [MVPN_MLDP_S_PMSI] = "S-PMSI A-D for mLDP",
+        [MVPN_MLDP_LEAF] = "Leaf A-D for mLDP",
+        [MVPN_MLDP_SOURCE_TREE_JOIN] = "Source Tree Join for mLDP",
     };
     return listed(names, COUNT(names), route_type, "unknown route type");
 }
@@ -204,6 +209,56 @@ void print_route(const mvpn_nlri *route)
     }
 }
 
+/* ---- mLDP FEC elements (RFC 6388, section 2.2) */
+
+static void print_fec_root(uint32_t fec_type, const uint8_t *root, size_t size)
+{
+    static const char *const names[] = {
+        [MVPN_FEC_P2MP] = "P2MP",
+        [MVPN_FEC_MP2MP_UP] = "MP2MP upstream",
+        [MVPN_FEC_MP2MP_DOWN] = "MP2MP downstream",
+    };
+    printf("%s FEC, root ", listed(names, COUNT(names), fec_type, "unknown"));
+    print_address(root, size);
+}
+
+static void print_opaque(const uint8_t *opaque, size_t size)
+{
+    printf(", opaque value ");
+    if (size == 0)
+        printf("empty");
+    print_hexadecimal(opaque, size);
+}
+
+/* Opaque values that hold a FEC element (RFC 6512): a type, a length of two octets, in the second a route distinguisher, the FEC
+ * element. */
+enum { RECURSIVE = 7, VPN_RECURSIVE = 8, OPAQUE_HEADER = 3 };
+
+/* Type 1, address family 2, address length 1, root, opaque length 2, opaque value. The library has read the FEC element and those
+ * that it holds, so every length in it is right. */
+void print_fecs(const uint8_t *fec)
+{
+    for (;;) {
+        const uint8_t *root = fec + 4, *opaque = root + fec[3] + 2;
+        size_t size = big_endian(opaque - 2, 2);
+        print_fec_root(fec[0], root, fec[3]);
+        if (size == 0 || (opaque[0] != RECURSIVE && opaque[0] != VPN_RECURSIVE)) {
+            print_opaque(opaque, size);
+            return;
+        }
+        fec = opaque + OPAQUE_HEADER;
+        printf(", which holds ");
+        if (opaque[0] == VPN_RECURSIVE) {
+            mvpn_route_distinguisher distinguisher;
+            memcpy(distinguisher.octets, fec, sizeof distinguisher.octets);
+            printf("in RD ");
+            print_distinguisher(distinguisher);
+            printf(" ");
+            fec += sizeof distinguisher.octets;
+        }
+    }
+}
+
 /* ---- tunnels (RFC 6514, section 5; RFC 8556, section 2) */
 
 void print_tunnel(const mvpn_attribute_reading *tunnel)
@@ -239,13 +294,8 @@ static void print_pim(const char *first, const uint8_t *identifier, size_t size)
 /* The library has taken the FEC element apart; its spans stand in the whole attribute. */
 static void print_fec(const mvpn_fec *fec, const uint8_t *attribute)
 {
-    static const char *const names[] = { [MVPN_FEC_P2MP] = "P2MP", [MVPN_FEC_MP2MP_UP] = "MP2MP upstream", [MVPN_FEC_MP2MP_DOWN] = "MP2MP downstream" };
-    printf("%s FEC, root ", listed(names, COUNT(names), fec->fec_type, "unknown"));
-    print_address(attribute + fec->root.start, fec->root.size);
-    printf(", opaque value ");
-    if (fec->opaque.size == 0)
-        printf("empty");
-    print_hexadecimal(attribute + fec->opaque.start, fec->opaque.size);
+    print_fec_root(fec->fec_type, attribute + fec->root.start, fec->root.size);
+    print_opaque(attribute + fec->opaque.start, fec->opaque.size);
 }
 
 /* Sub-domain 1, BFR-id 2, BFR-prefix 4 or 16. */

@@ -30,6 +30,9 @@ void print_pair(const mvpn_address *source, const mvpn_address *group);
 /* An S-PMSI A-D or Source Active A-D route; the latter has no originator field. */
 void print_route(const mvpn_nlri *route);
 
+/* The FEC element of an NLRI for mLDP, at its first octet, and those that it holds: the roots, and the last one's opaque value. */
+void print_fecs(const uint8_t *fec);
+
 /* Tunnel type, label and flags; then the tunnel identifier. `tunnel` is what reading the attribute gave. */
 void print_tunnel(const mvpn_attribute_reading *tunnel);
 void print_identifier(const mvpn_attribute_reading *tunnel, const uint8_t *attribute);

@@ -77,7 +77,48 @@ source_active() {
     nlri 5 "$(rd "$1")$(field "$2")$(field "$3")"
 }
 
-# one_of_each: an NLRI of each route type but S-PMSI A-D, and one of a route type that is not defined.
+# ---- NLRIs for mLDP (RFC 7441, section 3; RFC 6388, section 2.2; RFC 6512)
+
+# fec TYPE ROOT OPAQUE: an mLDP FEC element.
+fec() {
+    local root family=0001
+    root=$(address "$2")
+    [ ${#root} -eq 8 ] || family=0002
+    printf '%s%s' "$1" "$family"
+    sized 1 "$root"
+    sized 2 "$3"
+}
+
+# generic NUMBER: the opaque value that is a number of four octets; recursive FEC, vpn_recursive RD FEC: one that holds a FEC element.
+generic() {
+    printf '01'
+    sized 2 "$(number 4 "$1")"
+}
+
+recursive() {
+    printf '07'
+    sized 2 "$1"
+}
+
+vpn_recursive() {
+    printf '08'
+    sized 2 "$(rd "$1")$2"
+}
+
+# mldp_s_pmsi RD FEC ORIGINATOR, mldp_leaf KEY ORIGINATOR, mldp_join RD AS FEC
+mldp_s_pmsi() {
+    nlri 67 "$(rd "$1")$2$(address "$3")"
+}
+
+mldp_leaf() {
+    nlri 68 "$1$(address "$2")"
+}
+
+mldp_join() {
+    nlri 71 "$(rd "$1")$(number 4 "$2")$3"
+}
+
+# one_of_each: an NLRI of each route type of RFC 6514 but S-PMSI A-D, and one of a route type that is not defined.
 one_of_each() {
     local rd as=0000FDE8
     rd=$(rd 0:100:7)
@@ -165,22 +206,6 @@ rsvp_te() {
     tunnel 00 1 0 "$(address "$1")0000$(number 2 "$2")$(number 4 "$3")"
 }
 
-# fec TYPE ROOT OPAQUE: an mLDP FEC element (RFC 6388, section 2.2).
-fec() {
-    local root family=0001
-    root=$(address "$2")
-    [ ${#root} -eq 8 ] || family=0002
-    printf '%s%s' "$1" "$family"
-    sized 1 "$root"
-    sized 2 "$3"
-}
-
-# generic NUMBER: the opaque value that is a number of four octets.
-generic() {
-    printf '01'
-    sized 2 "$(number 4 "$1")"
-}
-
 # mldp_p2mp ROOT OPAQUE, mldp_mp2mp FEC_TYPE ROOT OPAQUE
 mldp_p2mp() {
     tunnel 00 2 0 "$(fec 06 "$1" "$2")"
@@ -229,6 +254,8 @@ unicast_update() {
 # ---- the samples
 
 ipv4() {
+    local mldp deep
+
     # OPEN (version 4, AS 100, hold time 90), KEEPALIVE, ROUTE-REFRESH: no routes in them
     message 1 "04$(number 2 100)$(number 2 90)$(address 10.0.0.1)00"
     message 4 ''
@@ -268,6 +295,16 @@ ipv4() {
     update "$(extended 80 15 "$(unreach_value 1 "$(nlri 8 "$(printf '%0510d' 0)")$(s_pmsi 0:100:7 192.0.2.8 232.7.7.7 10.0.0.1)")")"
     update "$(unreach 1 "$(nlri 9 ABCDEF)")"
 
+    # one of each type for mLDP; then FEC elements four deep, one of them with an IPv6 root, and an opaque value that holds none
+    mldp=$(mldp_s_pmsi 0:100:7 "$(fec 06 192.0.2.11 "$(generic 42)")" 10.0.0.1)
+    update "$(usual)" "$(reach 1 "$mldp" "$(mldp_leaf "$mldp" 10.0.0.2)" "$(mldp_join 0:100:7 65000 "$(fec 08 192.0.2.11 '')")")" \
+        "$(bier 00 1001 0 1 10.0.0.1)"
+    deep=$(fec 08 192.0.2.14 "$(generic 43)")
+    deep=$(fec 07 2001:db8:1::13 "$(recursive "$deep")")
+    deep=$(fec 06 192.0.2.12 "$(vpn_recursive 0:100:8 "$deep")")
+    update "$(usual)" "$(reach 1 "$(mldp_s_pmsi 0:100:7 "$(fec 06 192.0.2.11 "$(recursive "$deep")")" 10.0.0.1)" \
+        "$(mldp_join 0:100:7 65000 "$(fec 07 192.0.2.11 06ABCD)")")" "$(bier 00 1001 0 1 10.0.0.1)"
+
     # another tunnel for a route that is held, and two routes less
     update "$(usual)" "$(reach 1 "$(s_pmsi 0:100:7 '*' 239.1.1.1 10.0.0.1)")" "$(bier 01 1000 0 1 10.0.0.1)"
     update "$(unreach 1 "$(s_pmsi 0:100:7 192.0.2.9 '*' 10.0.0.1)" "$(s_pmsi 0:100:7 192.0.2.3 239.1.1.2 10.0.0.1)")"
@@ -278,7 +315,7 @@ ipv4() {
 }
 
 ipv6() {
-    local source=2001:db8:1::1 pe=2001:db8::1
+    local source=2001:db8:1::1 pe=2001:db8::1 mldp
     update "$(usual)" "$(reach 2 "$(s_pmsi 0:100:7 $source ff3e::1 $pe)")" "$(mldp_p2mp $pe "$(generic 42)")"
     update "$(usual)" "$(reach 2 "$(s_pmsi 0:100:7 $source '*' $pe)" "$(s_pmsi 0:100:7 2001:db8:1::9 '*' $pe)")" \
         "$(pim 3 $pe ff3e::8000:1)"
@@ -295,6 +332,10 @@ ipv6() {
 
     update "$(usual)" "$(reach 2 "$(s_pmsi 0:100:7 '*' ff0e::1 $pe)")" "$(pim 4 $pe ff0e::8000:2)"
     update "$(unreach 2 "$(s_pmsi 0:100:7 2001:db8:1::9 '*' $pe)")"
+
+    # routes for mLDP, a Leaf among them
+    mldp=$(mldp_s_pmsi 0:100:7 "$(fec 06 2001:db8:1::11 "$(recursive "$(fec 06 192.0.2.12 '')")")" $pe)
+    update "$(usual)" "$(reach 2 "$mldp" "$(mldp_leaf "$mldp" $pe)" "$(mldp_join 0:100:7 65000 "$(fec 08 2001:db8:1::11 '')")")"
 }
 
 both() {
@@ -374,6 +415,23 @@ damaged_nlris() {
     update "$(unreach 1 "$(s_pmsi 0:100:7 '*' '*' 10.0.0.1)" 03)"                 # a withdrawal, and half a header
 }
 
+damaged_mldp_nlris() {
+    local rd fec tunnel=$1 good key held root
+    rd=$(rd 0:100:7) fec=$(fec 06 192.0.2.11 "$(generic 42)") good=$(s_pmsi 0:100:7 192.0.2.1 239.1.1.1 10.0.0.1)
+    key=$(mldp_s_pmsi 0:100:7 "$fec" 10.0.0.1)
+    held=$(fec 06 192.0.2.15 '')
+    for root in 192.0.2.14 192.0.2.13 192.0.2.12; do
+        held=$(fec 06 $root "$(recursive "$held")")
+    done
+    announce "$good$(mldp_s_pmsi 0:100:7 "$(fec 06 2001:db8:1::11 '')" 10.0.0.1)" "$tunnel"  # a root of the other family
+    announce "$(nlri 71 "${rd}0000FDE8${fec}00")" "$tunnel"                              # an octet behind the FEC element
+    announce "$(nlri 71 "${rd}0000FDE8${fec%??}")" "$tunnel"                                # a body that ends inside it
+    announce "$(mldp_join 0:100:7 65000 "$(fec 06 192.0.2.11 "$(recursive "$fec")00")")" "$tunnel" # an octet behind one that is held
+    announce "$(mldp_join 0:100:7 65000 "$(fec 06 192.0.2.11 "$(recursive "$held")")")" "$tunnel"  # five deep
+    announce "$(mldp_leaf "$good" 10.0.0.1)" "$tunnel"                                      # keys of the other kind
+    announce "$(nlri 4 "$key$(address 10.0.0.1)")" "$tunnel"
+}
+
 damaged_tunnels() {
     local route=$1
     announce "$route" "$(tunnel 00 1 0 "$(address 10.0.0.1)00000005000000")" # an RSVP-TE identifier of 11 octets
@@ -401,6 +459,7 @@ damaged() {
     held=$(s_pmsi 0:100:7 192.0.2.1 232.1.1.1 10.0.0.1) bier=$(bier 00 1000 0 1 10.0.0.1)
     announce "$held$(s_pmsi 0:100:7 '*' '*' 10.0.0.1)" "$bier"
     damaged_nlris "$(s_pmsi 0:100:7 192.0.2.1 239.1.1.1 10.0.0.1)" "$bier"
+    damaged_mldp_nlris "$bier"
     damaged_tunnels "$(s_pmsi 0:100:7 192.0.2.2 232.1.1.1 10.0.0.1)"
     announce "$held" "$(bier 00 0 0 1 10.0.0.1)" # BIER needs a label; the route was held
     update "$(unreach 1 "$held")"                # and is gone

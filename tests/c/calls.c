@@ -1,6 +1,6 @@
 /*
- * Every call of mvpn.h but the table's, accepted and refused. The expected answers are written from document 01, not from
- * any program.
+ * Every call of mvpn.h but the table's, accepted and refused; mldp.c has the route types for mLDP. The expected answers are written
+ * from document 01, not from any program.
  *
  * Each table row gives all fields of the answer; a field left out is expected to be 0.
  */
@@ -73,6 +73,7 @@ static const nlri_row refused_nlris[] = {
     { .shows = "body shorter than Length, unknown type", .afi = 1, .octets = "0905 01020304", .number = MVPN_SHORT },
     { .shows = "type 0", .afi = 1, .octets = "0000", .number = MVPN_TYPE },
     { .shows = "type 8", .afi = 2, .octets = "0800", .number = MVPN_TYPE },
+    { .shows = "type 0x42", .afi = 1, .octets = "4200", .number = MVPN_TYPE },
     { .shows = "P9: Length 13", .afi = 1, .octets = "030D " RD "00 00 0A0000", .number = MVPN_LENGTH },
     { .shows = "an octet after a single NLRI", .afi = 1, .octets = WILDCARDS "00", .number = MVPN_LENGTH },
     { .shows = "body ends inside the RD", .afi = 1, .octets = "0104 00000064", .number = MVPN_LENGTH },
@@ -112,6 +113,7 @@ static void read_nlri(const nlri_row *row)
     same_address(row->shows, "group", r.nlri.group, row->nlri.group);
     same_address(row->shows, "originator", r.nlri.originator, row->nlri.originator);
     same_span(row->shows, "key", r.key, row->key);
+    same_span(row->shows, "fec", r.fec, (mvpn_span){ 0, 0 });
     free(nlri.at);
 }
 
@@ -130,10 +132,12 @@ static void same_refusal(const char *shows, mvpn_written w, lent output, uint32_
     untouched(shows, output);
 }
 
-/* Writes the row's fields, with its key where its octets have it. */
+/* Writes the row's fields, with its key where its octets have it. These types have no FEC element: what is lent as one is not
+ * looked at. */
 static mvpn_written write_nlri(const nlri_row *row, lent nlri, lent output)
 {
-    return mvpn_nlri_write(row->afi, row->nlri, nlri.at + row->key.start, row->key.size, output.at, output.size);
+    return mvpn_nlri_write(row->afi, row->nlri, nlri.at + row->key.start, row->key.size, nlri.at, nlri.size, output.at,
+                           output.size);
 }
 
 /* The row's fields are written back to its octets, into an output with an octet to spare, and refused one short. */
@@ -175,20 +179,20 @@ static const refused_writing refused_writings[] = {
 static void refuse_writing(const refused_writing *row)
 {
     lent key = hex(row->key), output = lent_of(row->output, FILL);
-    mvpn_written w = mvpn_nlri_write(row->afi, row->nlri, key.at, key.size, output.at, output.size);
+    mvpn_written w = mvpn_nlri_write(row->afi, row->nlri, key.at, key.size, key.at, 0, output.at, output.size);
     same_refusal(row->shows, w, output, row->number);
     free(key.at);
     free(output.at);
 }
 
-/* A writer does not look at fields that the type lacks: type 2 has no address and no key. */
+/* A writer does not look at fields that the type lacks: type 2 has no address, no key and no FEC element. */
 static void ignore_lacked_fields(void)
 {
     const char *shows = "writing type 2 with bad fields that it lacks";
     lent expected = hex("020C " RD "0000FDE8"), key = hex("0900"), output = lent_of(expected.size, FILL);
     mvpn_nlri nlri = { .route_type = 2, .distinguisher = RD_FIELD, .source_as = 65000,
                        .source = { .size = 255 }, .group = { .size = 3 }, .originator = { .size = 5 } };
-    same_writing(shows, mvpn_nlri_write(1, nlri, key.at, key.size, output.at, output.size), output, expected);
+    same_writing(shows, mvpn_nlri_write(1, nlri, key.at, key.size, key.at, key.size, output.at, output.size), output, expected);
     free(expected.at);
     free(key.at);
     free(output.at);
@@ -231,6 +235,7 @@ static void same_layout(const char *shows, mvpn_layout got, mvpn_layout expected
     same(shows, "layout.group", got.group, expected.group);
     same(shows, "layout.originator", got.originator, expected.originator);
     same(shows, "layout.key", got.key, expected.key);
+    same(shows, "layout.fec", got.fec, expected.fec);
 }
 
 static void step(const step_row *row)

@@ -7,10 +7,10 @@ static_assert(sizeof(mvpn_span) == 16, "mvpn_span");
 static_assert(sizeof(mvpn_route_distinguisher) == 8, "mvpn_route_distinguisher");
 static_assert(sizeof(mvpn_address) == 17, "mvpn_address");
 static_assert(sizeof(mvpn_nlri) == 68, "mvpn_nlri");
-static_assert(sizeof(mvpn_nlri_reading) == 88, "mvpn_nlri_reading");
+static_assert(sizeof(mvpn_nlri_reading) == 104, "mvpn_nlri_reading");
 static_assert(sizeof(mvpn_written) == 16, "mvpn_written");
-static_assert(sizeof(mvpn_layout) == 48, "mvpn_layout");
-static_assert(sizeof(mvpn_stepped) == 64, "mvpn_stepped");
+static_assert(sizeof(mvpn_layout) == 56, "mvpn_layout");
+static_assert(sizeof(mvpn_stepped) == 72, "mvpn_stepped");
 static_assert(sizeof(mvpn_walked) == 16, "mvpn_walked");
 static_assert(sizeof(mvpn_pieces) == 36, "mvpn_pieces");
 static_assert(sizeof(mvpn_fed) == 56, "mvpn_fed");
@@ -40,7 +40,7 @@ int main()
     mvpn_fed fed = mvpn_pieces_feed(mvpn_pieces_start(1, MVPN_SKIP), unfinished, octets, 0);
     // With no octets: DONE of step, walk and pieces, and each other call's first refusal.
     bool as_expected = mvpn_nlri_read(1, octets, 0).number == MVPN_SHORT &&
-                       mvpn_nlri_write(1, mvpn_nlri{}, octets, 0, output, 0).number == MVPN_TYPE &&
+                       mvpn_nlri_write(1, mvpn_nlri{}, octets, 0, octets, 0, output, 0).number == MVPN_TYPE &&
                        mvpn_step(1, octets, 0, 0).number == MVPN_DONE &&
                        mvpn_walk(1, MVPN_SKIP, octets, 0).number == MVPN_DONE &&
                        fed.size == 0 && mvpn_pieces_finish(fed.pieces).walked.number == MVPN_DONE &&

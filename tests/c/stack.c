@@ -26,6 +26,17 @@ static const uint8_t leaf[] = { 4, 76, S_PMSI, ORIGINATOR }, active[] = { 5, 42,
 static const uint8_t join[] = { 7, 46, RD, 0, 0, 0, 1, 128, SOURCE, 128, GROUP };
 static const uint8_t run[] = { 4, 76, S_PMSI, ORIGINATOR, S_PMSI, 1, 24, RD, ORIGINATOR };
 
+/* FEC elements four deep, every root of 16 octets; the innermost has an opaque value of one octet, its type. */
+#define FEC_HEAD 6, 0, 2, 16, ORIGINATOR, 0
+#define HELD(size) 8, 0, size, RD
+#define FECS(innermost_opaque) \
+    FEC_HEAD, 100, HELD(97), FEC_HEAD, 67, HELD(64), FEC_HEAD, 34, HELD(31), FEC_HEAD, 1, innermost_opaque
+
+static const uint8_t fecs[] = { FECS(9) }, too_deep[] = { 0x47, 12 + sizeof fecs, RD, 0, 0, 0, 1, FECS(7) };
+static const uint8_t mldp_s_pmsi[] = { 0x43, 8 + sizeof fecs + 16, RD, FECS(9), ORIGINATOR };
+static const uint8_t mldp_leaf[] = { 0x44, sizeof mldp_s_pmsi + 16, 0x43, 8 + sizeof fecs + 16, RD, FECS(9), ORIGINATOR, ORIGINATOR };
+static const uint8_t mldp_join[] = { 0x47, 12 + sizeof fecs, RD, 0, 0, 0, 1, FECS(9) };
+
 static const uint8_t mldp[] = { 0, 2, 0, 0, 0, 6, 0, 2, 16, ORIGINATOR, 0, 3, 1, 2, 3 };
 static const uint8_t bier[] = { 0, 11, 0, 0, 16, 1, 0, 2, ORIGINATOR }, pim[] = { 0, 3, 0, 0, 0, SOURCE, GROUP };
 
@@ -34,7 +45,7 @@ static const uint8_t bier[] = { 0, 11, 0, 0, 16, 1, 0, 2, ORIGINATOR }, pim[] = 
 
 static const uint8_t unknown[] = { UNKNOWN }, mixed[] = { 1, 24, RD, ORIGINATOR, UNKNOWN, S_PMSI };
 
-static uint8_t output[MVPN_MATCH_OUTPUT], unfinished[MVPN_UNFINISHED];
+static uint8_t output[MVPN_MATCH_OUTPUT], unfinished[MVPN_UNFINISHED], written[MVPN_UNFINISHED];
 
 /* What NLRI writing takes; a type lacks some of it. */
 static mvpn_nlri fields = { .distinguisher = { { RD } }, .source = { { SOURCE }, 16 }, .group = { { GROUP }, 16 },
@@ -84,21 +95,33 @@ RUN(read_s_pmsi, READS(s_pmsi))
 RUN(read_leaf, READS(leaf))
 RUN(read_active, READS(active))
 RUN(read_join, READS(join))
+RUN(read_mldp_s_pmsi, READS(mldp_s_pmsi))
+RUN(read_mldp_leaf, READS(mldp_leaf))
+RUN(read_mldp_join, READS(mldp_join))
+RUN(read_too_deep, mvpn_nlri_read(2, too_deep, sizeof too_deep).number == MVPN_DEEP)
 
-#define WRITES(nlri) \
+#define WRITES_WITH(nlri, key) \
     (fields.route_type = nlri[0], \
-     mvpn_nlri_write(2, fields, s_pmsi, sizeof s_pmsi, output, sizeof output).size == sizeof nlri)
+     mvpn_nlri_write(2, fields, key, sizeof key, fecs, sizeof fecs, written, sizeof written).size == sizeof nlri)
+#define WRITES(nlri) WRITES_WITH(nlri, s_pmsi)
 RUN(write_intra, WRITES(intra))
 RUN(write_inter, WRITES(inter))
 RUN(write_s_pmsi, WRITES(s_pmsi))
 RUN(write_leaf, WRITES(leaf))
 RUN(write_active, WRITES(active))
 RUN(write_join, WRITES(join))
+RUN(write_mldp_s_pmsi, WRITES(mldp_s_pmsi))
+RUN(write_mldp_leaf, WRITES_WITH(mldp_leaf, mldp_s_pmsi))
+RUN(write_mldp_join, WRITES(mldp_join))
 
 RUN(step_leaf, mvpn_step(2, run, sizeof run, 0).layout.key == sizeof s_pmsi)
 RUN(step_s_pmsi, mvpn_step(2, run, sizeof run, sizeof leaf).layout.group == 16)
+RUN(step_mldp_leaf, mvpn_step(2, mldp_leaf, sizeof mldp_leaf, 0).layout.key == sizeof mldp_s_pmsi)
+RUN(step_mldp_join, mvpn_step(2, mldp_join, sizeof mldp_join, 0).layout.fec == sizeof fecs)
 RUN(walk_run, mvpn_walk(2, MVPN_SKIP, run, sizeof run).count == 3)
 RUN(walk_skipping, mvpn_walk(2, MVPN_SKIP, mixed, sizeof mixed).skipped == 1)
+RUN(walk_mldp_leaf, mvpn_walk(2, MVPN_SKIP, mldp_leaf, sizeof mldp_leaf).count == 1)
+RUN(walk_too_deep, mvpn_walk(2, MVPN_SKIP, too_deep, sizeof too_deep).number == MVPN_DEEP)
 RUN(walk_stopping, mvpn_walk(2, MVPN_OLD, mixed, sizeof mixed).number == MVPN_TYPE)
 
 RUN(start_pieces, mvpn_pieces_start(2, MVPN_SKIP).walked.number == MVPN_DONE)
@@ -123,6 +146,8 @@ RUN(feed_whole, FEEDS(started, run, sizeof run, sizeof leaf, sizeof leaf))
 RUN(feed_part, FEEDS(started, leaf, 20, 20, 0))
 RUN(feed_skipped, FEEDS(started, unknown, sizeof unknown, sizeof unknown, 0))
 RUN(feed_stopped, FEEDS(started_old, unknown, sizeof unknown, sizeof unknown, 0))
+RUN(feed_mldp_leaf, FEEDS(started, mldp_leaf, sizeof mldp_leaf, sizeof mldp_leaf, sizeof mldp_leaf))
+RUN(feed_too_deep, FEEDS(started, too_deep, sizeof too_deep, sizeof too_deep, 0))
 RUN(feed_long, FEEDS(started, full, sizeof full, sizeof full, 0))
 RUN(finish_whole, mvpn_pieces_finish(started).walked.number == MVPN_DONE)
 RUN(finish_part, mvpn_pieces_finish(inside).walked.number == MVPN_SHORT)
@@ -147,12 +172,14 @@ RUN(install_first, INSTALL(first, mldp).outcome == MVPN_NEW)
 RUN(install_last, INSTALL(last, bier).outcome == MVPN_REPLACED)
 RUN(install_without_room, INSTALL(absent, pim).number == MVPN_ROOM)
 RUN(install_leaf, INSTALL(leaf, mldp).number == MVPN_KIND)
+RUN(install_mldp_leaf, INSTALL(mldp_leaf, mldp).number == MVPN_KIND)
 
 #define WITHDRAW(nlri) mvpn_withdraw(table, sizeof table, nlri, sizeof nlri)
 RUN(withdraw_first, WITHDRAW(first) == MVPN_DONE)
 RUN(withdraw_last, WITHDRAW(last) == MVPN_DONE)
 RUN(withdraw_absent, WITHDRAW(absent) == MVPN_ABSENT)
 RUN(withdraw_leaf, WITHDRAW(leaf) == MVPN_KIND)
+RUN(withdraw_mldp_leaf, WITHDRAW(mldp_leaf) == MVPN_KIND)
 
 static mvpn_matched matched;
 
@@ -228,17 +255,28 @@ static const struct {
     { "mvpn_nlri_read", read_leaf, full },
     { "mvpn_nlri_read", read_active, full },
     { "mvpn_nlri_read", read_join, full },
+    { "mvpn_nlri_read", read_mldp_s_pmsi, full },
+    { "mvpn_nlri_read", read_mldp_leaf, full },
+    { "mvpn_nlri_read", read_mldp_join, full },
+    { "mvpn_nlri_read", read_too_deep, full },
     { "mvpn_nlri_write", write_intra, full },
     { "mvpn_nlri_write", write_inter, full },
     { "mvpn_nlri_write", write_s_pmsi, full },
     { "mvpn_nlri_write", write_leaf, full },
     { "mvpn_nlri_write", write_active, full },
     { "mvpn_nlri_write", write_join, full },
+    { "mvpn_nlri_write", write_mldp_s_pmsi, full },
+    { "mvpn_nlri_write", write_mldp_leaf, full },
+    { "mvpn_nlri_write", write_mldp_join, full },
     { "mvpn_step", step_leaf, full },
     { "mvpn_step", step_s_pmsi, full },
+    { "mvpn_step", step_mldp_leaf, full },
+    { "mvpn_step", step_mldp_join, full },
     { "mvpn_walk", walk_run, full },
     { "mvpn_walk", walk_skipping, full },
     { "mvpn_walk", walk_stopping, full },
+    { "mvpn_walk", walk_mldp_leaf, full },
+    { "mvpn_walk", walk_too_deep, full },
     { "mvpn_pieces_start", start_pieces, full },
     { "mvpn_pieces_start", start_old, full },
     { "mvpn_pieces_start", start_no_family, full },
@@ -246,6 +284,8 @@ static const struct {
     { "mvpn_pieces_feed", feed_part, full },
     { "mvpn_pieces_feed", feed_skipped, full },
     { "mvpn_pieces_feed", feed_stopped, full },
+    { "mvpn_pieces_feed", feed_mldp_leaf, full },
+    { "mvpn_pieces_feed", feed_too_deep, full },
     { "mvpn_pieces_feed", feed_long, full },
     { "mvpn_pieces_finish", finish_whole, full },
     { "mvpn_pieces_finish", finish_part, full },
@@ -261,10 +301,12 @@ static const struct {
     { "mvpn_install", install_last, full },
     { "mvpn_install", install_without_room, full },
     { "mvpn_install", install_leaf, full },
+    { "mvpn_install", install_mldp_leaf, full },
     { "mvpn_withdraw", withdraw_first, full },
     { "mvpn_withdraw", withdraw_last, full },
     { "mvpn_withdraw", withdraw_absent, full },
     { "mvpn_withdraw", withdraw_leaf, full },
+    { "mvpn_withdraw", withdraw_mldp_leaf, full },
     { "mvpn_match", match_found, full },
     { "mvpn_match", match_none, full },
     { "mvpn_explain", explain_found, full },

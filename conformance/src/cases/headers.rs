@@ -27,6 +27,10 @@ fn with_bodies(harness: &mut Harness, random: &mut Random, afi: u16, header: [u8
         let place = [10, 11, 15, 19, 14, 31][random.below(6)];
         octets[place] = bits;
     }
+    // A FEC element, where the type has one.
+    if let Some(place) = [(0x43, 10), (0x47, 14)].iter().find_map(|(it, place)| (*it == header[0]).then_some(*place)) {
+        octets[place..place + 4].copy_from_slice(&[6, 0, afi as u8, bits / 8]);
+    }
     for size in SIZES {
         compare(harness, afi, Input::cut(&octets, 2 + size))?;
     }

@@ -3,7 +3,7 @@
 
 use super::{
     document::{in_papers, LISTED},
-    near,
+    fecs, near,
     samples::nlris,
     skips::LISTINGS,
 };
@@ -21,8 +21,19 @@ use std::{
     time::Duration,
 };
 
-/// A run for each refusal, 1 to 5, behind one well-formed NLRI.
-const REFUSALS: [&str; 8] = ["03", "0305 00", "0900", "0300", "0309 0000006400000007 18", "0400", "0401 05", "0905 00"];
+/// A run for each refusal, 1 to 5 and 7, behind one well-formed NLRI.
+const REFUSALS: [&str; 10] = [
+    "03",
+    "0305 00",
+    "0900",
+    "0300",
+    "0309 0000006400000007 18",
+    "0400",
+    "0401 05",
+    "0905 00",
+    "470D 0000006400000007 0000FDE8 09",
+    "4400",
+];
 
 const RANDOM_RUNS: usize = 250;
 
@@ -31,6 +42,8 @@ pub fn all(harness: &mut Harness, random: &mut Random, program: &str) -> Checked
         let listed = output(program, arguments, &octets(run), &Pace::Whole)?;
         in_papers(format!("document 02, W-206, listing, {shows}"), listed, text.to_string())?;
     }
+    let listed = output(program, SKIPPING, &octets(fecs::LISTED), &Pace::Whole)?;
+    in_papers("document 02, W-207, the listing".into(), listed, fecs::LISTED_TEXT.to_string())?;
     let whole = nlris(1).into_iter().flat_map(|sample| sample.octets).collect::<Vec<u8>>();
     for (number, run) in fixed_runs(random, &whole).into_iter().enumerate() {
         let mut ways = [SKIPPING, OLD];

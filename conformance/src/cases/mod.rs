@@ -4,6 +4,7 @@ pub mod attribute_writing;
 pub mod damage;
 pub mod document;
 pub mod explanations;
+pub mod fecs;
 pub mod flows;
 pub mod groups;
 pub mod headers;
@@ -37,6 +38,7 @@ use crate::{
 pub fn all(harness: &mut Harness, options: &Options) -> Checked {
     of_encodings(harness, options)?;
     of_skips(harness, options)?;
+    of_fecs(harness, options)?;
     of_pieces(harness, options)?;
     of_shared_trees(harness, options)?;
     of_explanations(harness, options)?;
@@ -65,6 +67,11 @@ pub fn of_encodings(harness: &mut Harness, options: &Options) -> Checked {
 /// Unknown route types.
 pub fn of_skips(harness: &mut Harness, options: &Options) -> Checked {
     skips::all(harness, &mut Random::new(options.seed), options.cases)
+}
+
+/// FEC elements in NLRIs.
+pub fn of_fecs(harness: &mut Harness, options: &Options) -> Checked {
+    fecs::all(harness, &mut Random::new(options.seed), options.cases)
 }
 
 /// Runs that arrive in pieces.

@@ -31,12 +31,13 @@ fn sample_itself(harness: &mut Harness, sample: &Sample) -> Checked {
     if !harness.nlri_round_trip(sample.afi, &sample.octets)? {
         return refused(&sample.octets);
     }
-    let NlriReading { nlri, key, .. } = harness.nlri_reading(sample.afi, &sample.octets)?;
-    match nlri == sample.nlri && sample.octets[key.start..][..key.size] == sample.key {
+    let NlriReading { nlri, key, fec, .. } = harness.nlri_reading(sample.afi, &sample.octets)?;
+    let [key_read, fec_read] = [key, fec].map(|span| &sample.octets[span.start..][..span.size]);
+    match nlri == sample.nlri && key_read == sample.key && fec_read == sample.fec {
         true => Ok(()),
         false => disagree(
             format!("fields of a sample (afi {}, nlri {})", sample.afi, encode(&sample.octets)),
-            format!("{nlri:?} {key:?}"),
+            format!("{nlri:?} {key:?} {fec:?}"),
             format!("{:?}", sample.nlri),
         ),
     }

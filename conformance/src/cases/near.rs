@@ -1,6 +1,6 @@
 //! Octets near to well-formed ones: composed from fields, then now and then disturbed.
 
-use super::samples::{fec, nlris, GOOD_AFIS};
+use super::samples::{fec, holding, nlris, Sample, GOOD_AFIS};
 use crate::random::Random;
 
 /// Octets at which the rules turn.
@@ -15,7 +15,12 @@ pub fn afi(random: &mut Random) -> u16 {
 
 /// A whole NLRI of the family; mostly well-formed.
 pub fn nlri(random: &mut Random, afi: u16) -> Vec<u8> {
-    let route_type = random.pick(&[1, 2, 3, 3, 3, 4, 4, 4, 5, 6, 7]);
+    let route_type = random.pick(&[1, 2, 3, 3, 3, 4, 4, 4, 5, 6, 7, 0x43, 0x44, 0x47]);
+    of_type(random, afi, route_type)
+}
+
+/// An NLRI of one type; mostly well-formed.
+pub fn of_type(random: &mut Random, afi: u16, route_type: u8) -> Vec<u8> {
     let body = body(random, afi, route_type);
     [&[route_type, body.len() as u8], &body[..]].concat()
 }
@@ -52,6 +57,9 @@ fn body(random: &mut Random, afi: u16, route_type: u8) -> Vec<u8> {
         2 => [distinguisher, source_as].concat(),
         3 => [distinguisher, source, group, originator].concat(),
         4 => [key(random, afi), originator].concat(),
+        0x43 => [distinguisher, nest(random, afi), originator].concat(),
+        0x44 => [mldp_key(random, afi), originator].concat(),
+        0x47 => [distinguisher, source_as, nest(random, afi)].concat(),
         5 => [distinguisher, source, group].concat(),
         _ => [distinguisher, source_as, source, group].concat(),
     }
@@ -61,8 +69,36 @@ fn body(random: &mut Random, afi: u16, route_type: u8) -> Vec<u8> {
 pub fn key(random: &mut Random, afi: u16) -> Vec<u8> {
     let allowed = [1, 2, 3, 3, 3];
     let route_type = if random.once_in(16) { random.pick(&[5, 6, 7, 8]) } else { random.pick(&allowed) };
-    let body = body(random, afi, route_type);
-    [&[route_type, body.len() as u8], &body[..]].concat()
+    of_type(random, afi, route_type)
+}
+
+/// The key of an mLDP Leaf, seldom of a type that it may not have.
+pub fn mldp_key(random: &mut Random, afi: u16) -> Vec<u8> {
+    let route_type = if random.once_in(16) { random.pick(&[1, 3, 0x45, 0x47]) } else { 0x43 };
+    of_type(random, afi, route_type)
+}
+
+/// A FEC element of an NLRI with others inside it; seldom too many, or one of another type, family or form.
+pub fn nest(random: &mut Random, afi: u16) -> Vec<u8> {
+    let depth = random.pick(&[1, 1, 1, 2, 2, 3, 4, 4, 5]);
+    let size = random.below(9);
+    let mut opaque = random.octets(size);
+    for level in (0..depth).rev() {
+        let fec_type = if random.once_in(48) { random.octet() } else { random.pick(&[6, 7, 8]) };
+        let family = match level {
+            0 if !random.once_in(32) => afi.min(2) as u8,
+            _ => random.pick(&[1, 2]),
+        };
+        let element = fec(fec_type, family, &opaque);
+        opaque = match level {
+            0 => element,
+            _ => holding(random.pick(&[7, 8]), &element),
+        };
+        if random.once_in(64) {
+            edit(random, &mut opaque);
+        }
+    }
+    opaque
 }
 
 /// A length octet and its address; seldom of another length.
@@ -85,7 +121,11 @@ fn originator(random: &mut Random) -> Vec<u8> {
 
 /// Well-formed NLRIs of every type, one after the other, cut at exactly `size` octets.
 pub fn run_of(random: &mut Random, afi: u16, size: usize) -> Vec<u8> {
-    let samples = nlris(if afi == 1 { 1 } else { 2 });
+    run_among(random, &nlris(if afi == 1 { 1 } else { 2 }), size)
+}
+
+/// The same with these NLRIs.
+pub fn run_among(random: &mut Random, samples: &[Sample], size: usize) -> Vec<u8> {
     let mut run = Vec::with_capacity(size + 100);
     while run.len() < size {
         run.extend_from_slice(&samples[random.below(samples.len())].octets);

@@ -1,4 +1,5 @@
-//! Writing NLRIs: every output size, every address size, junk in fields that the type lacks, good and bad keys.
+//! Writing NLRIs: every output size, every address size, junk in fields that the type lacks, good and bad keys. Those that
+//! only FEC elements have stand in `fecs.rs`.
 
 use super::{
     near,
@@ -15,7 +16,7 @@ pub fn all(harness: &mut Harness, random: &mut Random) -> Checked {
         outputs(harness, random, &sample)?;
         address_sizes(harness, &sample)?;
         route_types(harness, random, &sample)?;
-        if sample.nlri.route_type == 4 {
+        if !sample.key.is_empty() {
             keys(harness, &sample)?;
         }
     }
@@ -26,37 +27,39 @@ pub fn all(harness: &mut Harness, random: &mut Random) -> Checked {
 fn outputs(harness: &mut Harness, random: &mut Random, sample: &Sample) -> Checked {
     for room in 0..=sample.octets.len() + 2 {
         harness.inputs += 2;
-        harness.nlri_write(sample.afi, sample.nlri, &sample.key, room)?;
-        let (nlri, key) = with_junk(random, sample);
-        harness.nlri_write(sample.afi, nlri, &key, room)?;
+        harness.nlri_write(sample.afi, sample.nlri, &sample.key, &sample.fec, room)?;
+        let (nlri, key, fec) = with_junk(random, sample);
+        harness.nlri_write(sample.afi, nlri, &key, &fec, room)?;
     }
     for room in [100, 255, 4_096] {
-        harness.nlri_write(sample.afi, sample.nlri, &sample.key, room)?;
+        harness.nlri_write(sample.afi, sample.nlri, &sample.key, &sample.fec, room)?;
     }
     Ok(())
 }
 
 /// The sample with junk in the fields that its type lacks and in the octets past an address's size.
-fn with_junk(random: &mut Random, sample: &Sample) -> (Nlri, Vec<u8>) {
+fn with_junk(random: &mut Random, sample: &Sample) -> (Nlri, Vec<u8>, Vec<u8>) {
     let (mut nlri, read) = (fields(random), sample.nlri);
     let route_type = read.route_type;
     nlri.route_type = route_type;
-    if route_type != 4 {
+    if sample.key.is_empty() {
         nlri.distinguisher = read.distinguisher;
     }
-    if matches!(route_type, 2 | 6 | 7) {
+    if matches!(route_type, 2 | 6 | 7 | 0x47) {
         nlri.source_as = read.source_as;
     }
     if matches!(route_type, 3 | 5..=7) {
         nlri.source = padded(random, read.source);
         nlri.group = padded(random, read.group);
     }
-    if matches!(route_type, 1 | 3 | 4) {
+    if matches!(route_type, 1 | 3 | 4 | 0x43 | 0x44) {
         nlri.originator = padded(random, read.originator);
     }
-    let junk = random.below(40);
-    let key = if route_type == 4 { sample.key.clone() } else { random.octets(junk) };
-    (nlri, key)
+    let [key, fec] = [&sample.key, &sample.fec].map(|octets| match octets.is_empty() {
+        true => (0..random.below(40)).map(|_| random.octet()).collect(),
+        false => octets.clone(),
+    });
+    (nlri, key, fec)
 }
 
 /// The address with junk past its size.
@@ -77,8 +80,8 @@ fn address_sizes(harness: &mut Harness, sample: &Sample) -> Checked {
             let mut nlri = sample.nlri;
             address(&mut nlri).size = size;
             harness.inputs += 1;
-            harness.nlri_write(sample.afi, nlri, &sample.key, room + 16)?;
-            harness.nlri_write(sample.afi, nlri, &[], room)?;
+            harness.nlri_write(sample.afi, nlri, &sample.key, &sample.fec, room + 16)?;
+            harness.nlri_write(sample.afi, nlri, &[], &[], room)?;
         }
     }
     Ok(())
@@ -91,7 +94,7 @@ fn route_types(harness: &mut Harness, random: &mut Random, sample: &Sample) -> C
         let room = random.below(90);
         for afi in GOOD_AFIS.into_iter().chain(BAD_AFIS) {
             harness.inputs += 1;
-            harness.nlri_write(afi, nlri, &sample.key, room)?;
+            harness.nlri_write(afi, nlri, &sample.key, &sample.fec, room)?;
         }
     }
     Ok(())
@@ -103,19 +106,19 @@ fn keys(harness: &mut Harness, sample: &Sample) -> Checked {
     let mut bad_originator = nlri;
     bad_originator.originator.size = 5;
     for size in 0..=sample.key.len() {
-        harness.nlri_write(afi, nlri, Input::cut(&sample.key, size), room)?;
-        harness.nlri_write(afi, bad_originator, Input::cut(&sample.key, size), 0)?;
+        harness.nlri_write(afi, nlri, Input::cut(&sample.key, size), &[], room)?;
+        harness.nlri_write(afi, bad_originator, Input::cut(&sample.key, size), &[], 0)?;
     }
     for extra in [1, 2, 16, 254, 255, 256, 512, 65_536] {
         let key = [sample.key.clone(), vec![0; extra]].concat();
-        harness.nlri_write(afi, nlri, &key, room + 600)?;
+        harness.nlri_write(afi, nlri, &key, &[], room + 600)?;
     }
     for place in 0..sample.key.len() {
         for value in 0..=255 {
             let mut key = sample.key.clone();
             key[place] = value;
             harness.inputs += 1;
-            harness.nlri_write(afi, nlri, &key, room)?;
+            harness.nlri_write(afi, nlri, &key, &[], room)?;
         }
     }
     Ok(())
@@ -129,7 +132,10 @@ pub fn fields(random: &mut Random) -> Nlri {
         group: address(random),
         originator: address(random),
         source_as: random.number() as u32,
-        route_type: random.octet() % 9,
+        route_type: match random.below(12) {
+            route_type @ 0..=8 => route_type as u8,
+            new => [0x43, 0x44, 0x47][new - 9],
+        },
     }
 }
 
@@ -149,10 +155,20 @@ pub fn random_case(harness: &mut Harness, random: &mut Random) -> Checked {
             address.size = size;
         }
     }
-    let mut key = near::key(random, afi);
+    let (mut key, mut fec) = lent(random, afi, nlri.route_type);
     if random.once_in(3) {
         near::disturb_nlri(random, &mut key);
+        near::disturb(random, &mut fec);
     }
-    let room = random.below(96);
-    harness.nlri_write(afi, nlri, &key, room)
+    let room = random.below(if nlri.route_type > 0x40 { 300 } else { 96 });
+    harness.nlri_write(afi, nlri, &key, &fec, room)
+}
+
+/// A key and a FEC element that suit the route type, mostly; both are lent whatever it has.
+pub fn lent(random: &mut Random, afi: u16, route_type: u8) -> (Vec<u8>, Vec<u8>) {
+    let key = match route_type {
+        0x44 => near::mldp_key(random, afi),
+        _ => near::key(random, afi),
+    };
+    (key, near::nest(random, afi))
 }

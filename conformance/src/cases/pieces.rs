@@ -4,7 +4,7 @@
 use super::{
     document::{in_papers, RD},
     near,
-    samples::{nlris, BAD_AFIS, GOOD_AFIS},
+    samples::{mldp, nlris, BAD_AFIS, GOOD_AFIS},
 };
 use crate::{
     compare::{pieces::Reader, run::MODES, Checked, Disagreement, Harness, Input},
@@ -61,8 +61,8 @@ const SHORT_RUNS: [(u16, &str); 10] = [
     (2, "0905 0102030405 0118 RD 20010DB8000000000000000000000001"),
 ];
 
-/// Octets that are refused, 2 to 5.
-const REFUSED: [&str; 4] = ["0900", "0300", "0309 0000006400000007 18", "0400"];
+/// Octets that are refused, 2 to 5 and 7.
+const REFUSED: [&str; 5] = ["0900", "0300", "0309 0000006400000007 18", "0400", "470D 0000006400000007 0000FDE8 09"];
 
 /// Octets of the run that stand behind a piece.
 const AFTER: usize = 40;
@@ -87,6 +87,7 @@ pub fn all(harness: &mut Harness, random: &mut Random, cases: u64) -> Checked {
     }
     for afi in GOOD_AFIS {
         samples(harness, random, afi)?;
+        elements(harness, random, afi)?;
         octet_by_octet(harness, random, afi)?;
     }
     for round in 0..ROUNDS + cases / CASES_A_ROUND {
@@ -198,6 +199,18 @@ fn samples(harness: &mut Harness, random: &mut Random, afi: u16) -> Checked {
     for end in 0..=run.len() {
         let middle = random.below(end + 1);
         read_any_mode(harness, random, afi, pieces(&run, &[middle, end]))?;
+    }
+    Ok(())
+}
+
+/// FEC elements, and one too many, between other NLRIs.
+fn elements(harness: &mut Harness, random: &mut Random, afi: u16) -> Checked {
+    for sample in [4, 5].into_iter().flat_map(|depth| mldp(afi, depth)) {
+        let run = [near::of_type(random, afi, 2), sample.octets, near::item(random, afi)].concat();
+        for _ in 0..20 {
+            let ends = any_ends(random, run.len());
+            read_any_mode(harness, random, afi, pieces(&run, &ends))?;
+        }
     }
     Ok(())
 }

@@ -1,6 +1,6 @@
 //! S-PMSI A-D routes and flows over few addresses, so that they meet, and arguments that install and match refuse.
 
-use super::samples::{attributes, nlris};
+use super::samples::{attributes, mldp, nlris};
 use crate::{
     hexadecimal::octets,
     random::Random,
@@ -164,7 +164,8 @@ pub fn bad_attributes() -> Vec<Vec<u8>> {
     texts.iter().map(|text| octets(text)).chain([long]).collect()
 }
 
-/// NLRIs that install and withdraw refuse: SHORT, TYPE, LENGTH, WIDTH, KEY; well-formed ones of every other type, KIND.
+/// NLRIs that install and withdraw refuse: SHORT, TYPE, LENGTH, WIDTH, KEY, IDENT, DEEP; well-formed ones of every other type,
+/// KIND.
 pub fn bad_nlris(afi: u16) -> Vec<Vec<u8>> {
     let texts = [
         "",
@@ -179,9 +180,14 @@ pub fn bad_nlris(afi: u16) -> Vec<Vec<u8>> {
         "030E 0000006400000007 00 21 0A000001",
         "0404 0A000001",
         "0400",
+        "4316 0000006400000007 05 0001 04 0A000001 0000 0A000001",
+        "4309 0000006400000007 06",
+        "470D 0000006400000007 0000FDE8 09",
+        "4400",
     ];
+    let deep = [4, 5].into_iter().flat_map(|depth| mldp(afi, depth)).map(|sample| sample.octets);
     let others = nlris(afi).into_iter().filter(|sample| sample.nlri.route_type != 3).map(|sample| sample.octets);
     let other_family = nlris(3 - afi).into_iter().map(|sample| sample.octets);
     let refused = other_family.filter(|nlri| Second::sound().answer_nlri_read(afi, nlri).number != 0);
-    texts.iter().map(|text| octets(text)).chain(others).chain(refused).collect()
+    texts.iter().map(|text| octets(text)).chain(deep).chain(others).chain(refused).collect()
 }

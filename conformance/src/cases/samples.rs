@@ -18,12 +18,13 @@ pub struct Sample {
     pub octets: Vec<u8>,
     pub nlri: Nlri,
     pub key: Vec<u8>,
+    pub fec: Vec<u8>,
 }
 
 impl Sample {
     fn new(afi: u16, route_type: u8) -> Self {
         let nlri = Nlri { route_type, ..Default::default() };
-        Sample { afi, octets: vec![route_type, 0], nlri, key: Vec::new() }
+        Sample { afi, octets: vec![route_type, 0], nlri, key: Vec::new(), fec: Vec::new() }
     }
 
     fn push(mut self, octets: &[u8]) -> Self {
@@ -60,6 +61,11 @@ impl Sample {
     fn key(mut self, key: &[u8]) -> Self {
         self.key = key.to_vec();
         self.push(key)
+    }
+
+    fn fec(mut self, fec: &[u8]) -> Self {
+        self.fec = fec.to_vec();
+        self.push(fec)
     }
 }
 
@@ -104,7 +110,38 @@ pub fn nlris(afi: u16) -> Vec<Sample> {
         .flat_map(|key| originators().map(|originator| Sample::new(afi, 4).key(&key.octets).originator(&originator)));
     let join = |route_type| Sample::new(afi, route_type).distinguisher().source_as().source(&source).group(&group);
     let active = Sample::new(afi, 5).distinguisher().source(&source).group(&group);
-    keys.iter().cloned().chain(leaves).chain([active, join(6), join(7)]).collect()
+    let with_fecs = mldp(afi, 1).into_iter().chain(mldp(afi, 2).into_iter().take(1));
+    keys.iter().cloned().chain(leaves).chain([active, join(6), join(7)]).chain(with_fecs).collect()
+}
+
+/// The route types of mLDP customers, with so many FEC elements one inside the other.
+pub fn mldp(afi: u16, depth: usize) -> Vec<Sample> {
+    let element = nested(afi, depth, &[1, 0, 4, 0x0A, 0x0B, 0x0C, 0x0D]);
+    let join = Sample::new(afi, 0x47).distinguisher().source_as().fec(&element);
+    let mut samples = vec![join];
+    for originator in originators() {
+        let s_pmsi = Sample::new(afi, 0x43).distinguisher().fec(&element).originator(&originator);
+        samples.extend([Sample::new(afi, 0x44).key(&s_pmsi.octets).originator(&originator), s_pmsi]);
+    }
+    samples
+}
+
+/// So many FEC elements one inside the other, the innermost with these opaque octets: of every type, of both families, and
+/// with distinguishers or not.
+fn nested(afi: u16, depth: usize, innermost: &[u8]) -> Vec<u8> {
+    let family = |level: usize| if level.is_multiple_of(2) { afi as u8 } else { 3 - afi as u8 };
+    let mut element = fec(6 + (depth % 3) as u8, family(depth - 1), innermost);
+    for level in (0..depth - 1).rev() {
+        element = fec(6 + (level % 3) as u8, family(level), &holding(8 - (level % 2) as u8, &element));
+    }
+    element
+}
+
+/// An opaque value of type 7 or 8 that holds a FEC element (RFC 6512, sections 2.2 and 3.2).
+pub fn holding(opaque_type: u8, element: &[u8]) -> Vec<u8> {
+    let distinguisher = if opaque_type == 8 { &DISTINGUISHER[..] } else { &[] };
+    let length = (distinguisher.len() + element.len()) as u16;
+    [&[opaque_type], &length.to_be_bytes()[..], distinguisher, element].concat()
 }
 
 /// Every route type of both families.

@@ -81,6 +81,7 @@ pub struct Harness {
     output: Lent,
     table: Lent,
     attribute: Lent,
+    fec: Lent,
     /// Router, source and group.
     flow: [Lent; 3],
     /// Source Active routes and states.
@@ -148,7 +149,7 @@ impl Harness {
         }
     }
 
-    fn buffers(&self) -> [(&'static str, &Lent); 10] {
+    fn buffers(&self) -> [(&'static str, &Lent); 11] {
         let [router, source, group] = &self.flow;
         let [source_actives, states] = &self.lists;
         [
@@ -156,6 +157,7 @@ impl Harness {
             ("output", &self.output),
             ("table", &self.table),
             ("attribute", &self.attribute),
+            ("FEC", &self.fec),
             ("router", router),
             ("source", source),
             ("group", group),

@@ -5,6 +5,10 @@ use crate::{
     coverage::{Call, Seen},
     ffi::{self, Nlri, NlriReading},
     hexadecimal::encode,
+    second::{
+        fec::Outermost,
+        rows::{Family, LEAF, MLDP_LEAF},
+    },
 };
 
 impl Harness {
@@ -35,18 +39,34 @@ impl Harness {
             let (source, group) = (nlri.source.size == 0, nlri.group.size == 0);
             self.coverage.count(Call::NlriRead, Seen::SPmsi(afi, source, group, originator));
         }
-        if nlri.route_type == 4 {
+        if matches!(nlri.route_type, LEAF | MLDP_LEAF) {
             self.coverage.count(Call::NlriRead, Seen::Leaf(afi, octets[2], originator));
+        }
+        if let Some(fec) = octets.get(reading.fec.start..).filter(|_| reading.fec.size > 0) {
+            let family = if afi == 1 { Family::Ipv4 } else { Family::Ipv6 };
+            let depth = self.second.nest(family, Outermost::InBody, fec).map_or(0, |nest| nest.depth);
+            self.coverage.count(Call::NlriRead, Seen::Nest(afi, depth));
         }
     }
 
-    pub fn nlri_write<'a>(&mut self, afi: u16, nlri: Nlri, key: impl Into<Input<'a>>, room: usize) -> Checked {
-        let key = key.into();
+    pub fn nlri_write<'a>(
+        &mut self,
+        afi: u16,
+        nlri: Nlri,
+        key: impl Into<Input<'a>>,
+        fec: impl Into<Input<'a>>,
+        room: usize,
+    ) -> Checked {
+        let (key, fec) = (key.into(), fec.into());
         self.lend(key);
+        self.fec.place(fec.octets, fec.after, (self.calls % 227) as u8);
         self.lend_output(room);
-        let archive = ffi::nlri_write(afi, nlri, &mut self.input, &mut self.output);
-        let encoding = self.second.nlri_write(afi, &nlri, key.octets, room);
-        let shown = || format!("mvpn_nlri_write(afi {afi}, {nlri:?}, key {}, output of {room})", encode(key.octets));
+        let archive = ffi::nlri_write(afi, nlri, &mut self.input, &mut self.fec, &mut self.output);
+        let encoding = self.second.nlri_write(afi, &nlri, key.octets, fec.octets, room);
+        let shown = || {
+            let [key, fec] = [key, fec].map(|input| encode(input.octets));
+            format!("mvpn_nlri_write(afi {afi}, {nlri:?}, key {key}, fec {fec}, output of {room})")
+        };
         self.agree_on_writing(Call::NlriWrite, shown, &archive, &encoding)?;
         if archive.number == 0 {
             self.coverage.count(Call::NlriWrite, Seen::Route(nlri.route_type.into(), afi));
@@ -60,8 +80,8 @@ impl Harness {
         if reading.number != 0 {
             return Ok(false);
         }
-        let key = octets[reading.key.start..][..reading.key.size].to_vec();
-        self.nlri_write(afi, reading.nlri, &key, octets.len())?;
+        let [key, fec] = [reading.key, reading.fec].map(|span| &octets[span.start..][..span.size]);
+        self.nlri_write(afi, reading.nlri, key, fec, octets.len())?;
         self.agree_on_writing_back(format_args!("afi {afi}, nlri"), octets)?;
         Ok(true)
     }

@@ -14,6 +14,7 @@
 
 mod attribute;
 mod explain;
+mod fec;
 mod flow;
 mod group;
 mod nlri_read;
@@ -59,6 +60,7 @@ const ROOM: u32 = 13;
 const ABSENT: u32 = 14;
 const FLOW: u32 = 15;
 const SPACE: u32 = 16;
+const DEEP: u32 = 17;
 
 /// The octets of a customer address under an AFI; 0 for a bad AFI.
 #[inline(always)]

@@ -27,12 +27,12 @@ pub unsafe extern "C" fn nlri_read(afi: u16, nlri: *const u8, nlri_len: usize) -
 fn reading(body: &[u8], shape: &Shape) -> NlriReading {
     let route_type = shape.route_type;
     let (distinguisher, start, key) = match route_type {
-        4 => ([0; 8], shape.key, Span { start: 2, size: shape.key }),
+        4 | 0x44 => ([0; 8], shape.key, Span { start: 2, size: shape.key }),
         _ => (fixed(body), 8, Span::default()),
     };
     let rest = &body[start..];
     let (source_as, rest) = match route_type {
-        2 | 6 | 7 => (u32::from_be_bytes(fixed(rest)), &rest[4..]),
+        2 | 6 | 7 | 0x47 => (u32::from_be_bytes(fixed(rest)), &rest[4..]),
         _ => (0, rest),
     };
     let (source, group, rest) = match route_type {
@@ -43,10 +43,14 @@ fn reading(body: &[u8], shape: &Shape) -> NlriReading {
         }
         _ => (Address::default(), Address::default(), rest),
     };
+    let (fec, rest) = match route_type {
+        0x43 | 0x47 => (Span { start: 2 + body.len() - rest.len(), size: shape.fec }, &rest[shape.fec..]),
+        _ => (Span::default(), rest),
+    };
     let (originator, _) = address(rest, shape.originator);
     let distinguisher = RouteDistinguisher { octets: distinguisher };
     let nlri = Nlri { distinguisher, source, group, originator, source_as, route_type };
-    NlriReading { number: DONE, nlri, key }
+    NlriReading { number: DONE, nlri, key, fec }
 }
 
 #[inline(always)]

@@ -1,6 +1,6 @@
 //! `mvpn_nlri_write` in plain Rust.
 
-use super::{family_size, lent, shape::shape, FAMILY, KEY, SPACE, TYPE, WIDTH};
+use super::{family_size, fec::alone, lent, shape::shape, FAMILY, KEY, LONG, SPACE, TYPE, WIDTH};
 use crate::ffi::{Address, Nlri, Written};
 
 /// # Safety
@@ -11,29 +11,31 @@ pub unsafe extern "C" fn nlri_write(
     nlri: Nlri,
     key: *const u8,
     key_len: usize,
+    fec: *const u8,
+    fec_len: usize,
     output: *mut u8,
     output_len: usize,
 ) -> Written {
     let output = std::slice::from_raw_parts_mut(output, output_len);
-    match encode(family_size(afi), &nlri, lent(key, key_len), output) {
+    match encode(family_size(afi), &nlri, lent(key, key_len), lent(fec, fec_len), output) {
         Ok(size) => Written { number: 0, size },
         Err(number) => Written { number, size: 0 },
     }
 }
 
 #[inline(always)]
-fn encode(family: usize, nlri: &Nlri, key: &[u8], output: &mut [u8]) -> Result<usize, u32> {
-    let length = body_length(family, nlri, key)?;
+fn encode(family: usize, nlri: &Nlri, key: &[u8], fec: &[u8], output: &mut [u8]) -> Result<usize, u32> {
+    let length = body_length(family, nlri, key, fec)?;
     let Some(output) = output.get_mut(..length + 2) else { return Err(SPACE) };
     output[0] = nlri.route_type;
     output[1] = length as u8;
     let mut rest = &mut output[2..];
-    if nlri.route_type == 4 {
+    if matches!(nlri.route_type, 4 | 0x44) {
         put(&mut rest, key);
     } else {
         put(&mut rest, &nlri.distinguisher.octets);
     }
-    if matches!(nlri.route_type, 2 | 6 | 7) {
+    if matches!(nlri.route_type, 2 | 6 | 7 | 0x47) {
         put(&mut rest, &nlri.source_as.to_be_bytes());
     }
     if matches!(nlri.route_type, 3 | 5..=7) {
@@ -42,15 +44,18 @@ fn encode(family: usize, nlri: &Nlri, key: &[u8], output: &mut [u8]) -> Result<u
         put(&mut rest, &[nlri.group.size * 8]);
         put_address(&mut rest, &nlri.group);
     }
-    if matches!(nlri.route_type, 1 | 3 | 4) {
+    if matches!(nlri.route_type, 0x43 | 0x47) {
+        put(&mut rest, fec);
+    }
+    if matches!(nlri.route_type, 1 | 3 | 4 | 0x43 | 0x44) {
         put_address(&mut rest, &nlri.originator);
     }
     Ok(length + 2)
 }
 
-/// The Length field, or FAMILY, TYPE, WIDTH, KEY.
+/// The Length field, or FAMILY, TYPE, WIDTH, IDENT, DEEP, LONG, KEY.
 #[inline(always)]
-fn body_length(family: usize, nlri: &Nlri, key: &[u8]) -> Result<usize, u32> {
+fn body_length(family: usize, nlri: &Nlri, key: &[u8], fec: &[u8]) -> Result<usize, u32> {
     if family == 0 {
         return Err(FAMILY);
     }
@@ -68,7 +73,13 @@ fn body_length(family: usize, nlri: &Nlri, key: &[u8]) -> Result<usize, u32> {
         },
         5 if customer(&nlri.source) && customer(&nlri.group) => Ok(10 + 2 * family),
         6 | 7 if customer(&nlri.source) && customer(&nlri.group) => Ok(14 + 2 * family),
-        1..=7 => Err(WIDTH),
+        0x43 if originated => alone(family, fec).and_then(|()| short(8 + fec.len() + originator)),
+        0x44 if originated => match short(key.len() + originator)? {
+            length if is_mldp_key(family, key) => Ok(length),
+            _ => Err(KEY),
+        },
+        0x47 => alone(family, fec).and_then(|()| short(12 + fec.len())),
+        1..=7 | 0x43 | 0x44 => Err(WIDTH),
         _ => Err(TYPE),
     }
 }
@@ -76,6 +87,21 @@ fn body_length(family: usize, nlri: &Nlri, key: &[u8]) -> Result<usize, u32> {
 #[inline(always)]
 fn is_key(family: usize, key: &[u8]) -> bool {
     matches!(key.first(), Some(1..=3)) && shape(family, key).is_ok_and(|shape| shape.length + 2 == key.len())
+}
+
+#[inline(always)]
+fn is_mldp_key(family: usize, key: &[u8]) -> bool {
+    key.first() == Some(&0x43) && shape(family, key).is_ok_and(|shape| shape.length + 2 == key.len())
+}
+
+/// LONG where a Length field cannot say so many octets.
+#[inline(always)]
+fn short(length: usize) -> Result<usize, u32> {
+    if length > 255 {
+        Err(LONG)
+    } else {
+        Ok(length)
+    }
 }
 
 #[inline(always)]

@@ -35,6 +35,7 @@ pub unsafe extern "C" fn step(afi: u16, run: *const u8, run_len: usize, cursor: 
                     group: shape.group,
                     originator: shape.originator,
                     key: shape.key,
+                    fec: shape.fec,
                 },
             },
         },

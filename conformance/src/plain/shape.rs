@@ -1,6 +1,6 @@
 //! The sizes of an NLRI's fields, found without copying any.
 
-use super::{KEY, LENGTH, SHORT, TYPE, WIDTH};
+use super::{fec, KEY, LENGTH, SHORT, TYPE, WIDTH};
 
 #[derive(Clone, Copy)]
 pub struct Shape {
@@ -10,6 +10,7 @@ pub struct Shape {
     pub group: usize,
     pub originator: usize,
     pub key: usize,
+    pub fec: usize,
 }
 
 /// The NLRI at the front; `family` is the size of a customer address.
@@ -20,11 +21,14 @@ pub fn shape(family: usize, octets: &[u8]) -> Result<Shape, u32> {
     };
     let length = usize::from(*length);
     let Some(body) = rest.get(..length) else { return Err(SHORT) };
-    let bare = Shape { route_type: *route_type, length, source: 0, group: 0, originator: 0, key: 0 };
+    let bare = Shape { route_type: *route_type, length, source: 0, group: 0, originator: 0, key: 0, fec: 0 };
     match route_type {
         4 => leaf(family, body, bare),
         5 => pair(family, body, 8, bare),
         6 | 7 => pair(family, body, 12, bare),
+        0x43 => mldp_s_pmsi(family, body, bare),
+        0x44 => mldp_leaf(family, body, bare),
+        0x47 => mldp_join(family, body, bare),
         _ => keyed(family, body, bare),
     }
 }
@@ -33,7 +37,7 @@ pub fn shape(family: usize, octets: &[u8]) -> Result<Shape, u32> {
 #[inline(always)]
 pub fn is_s_pmsi(family: usize, octets: &[u8]) -> bool {
     let [3, length, body @ ..] = octets else { return false };
-    let bare = Shape { route_type: 3, length: body.len(), source: 0, group: 0, originator: 0, key: 0 };
+    let bare = Shape { route_type: 3, length: body.len(), source: 0, group: 0, originator: 0, key: 0, fec: 0 };
     usize::from(*length) == body.len() && s_pmsi(family, body, bare).is_ok()
 }
 
@@ -91,16 +95,52 @@ fn pair(family: usize, body: &[u8], before: usize, bare: Shape) -> Result<Shape,
 
 #[inline(always)]
 fn leaf(family: usize, body: &[u8], bare: Shape) -> Result<Shape, u32> {
-    let [route_type, length, rest @ ..] = body else {
-        return Err(KEY);
-    };
-    let length = usize::from(*length);
-    let Some(inner) = rest.get(..length) else { return Err(KEY) };
-    if keyed(family, inner, Shape { route_type: *route_type, ..bare }).is_err() {
+    let Some((route_type, key, rest)) = divided(body) else { return Err(KEY) };
+    if keyed(family, key, Shape { route_type, ..bare }).is_err() {
         return Err(KEY);
     }
-    match rest.len() - length {
-        originator @ (4 | 16) => Ok(Shape { originator, key: length + 2, ..bare }),
+    with_key(key, rest, bare)
+}
+
+/// The route type and the body of the key at the front of a Leaf's body, and what follows it.
+#[inline(always)]
+fn divided(body: &[u8]) -> Option<(u8, &[u8], &[u8])> {
+    let [route_type, length, rest @ ..] = body else { return None };
+    let (key, rest) = rest.split_at_checked(usize::from(*length))?;
+    Some((*route_type, key, rest))
+}
+
+#[inline(always)]
+fn with_key(key: &[u8], rest: &[u8], bare: Shape) -> Result<Shape, u32> {
+    match rest.len() {
+        originator @ (4 | 16) => Ok(Shape { originator, key: key.len() + 2, ..bare }),
+        _ => Err(LENGTH),
+    }
+}
+
+#[inline(always)]
+fn mldp_s_pmsi(family: usize, body: &[u8], bare: Shape) -> Result<Shape, u32> {
+    let Some(rest) = body.get(8..) else { return Err(LENGTH) };
+    let fec = fec::in_body(family, rest)?;
+    match rest.len() - fec {
+        originator @ (4 | 16) => Ok(Shape { originator, fec, ..bare }),
+        _ => Err(LENGTH),
+    }
+}
+
+#[inline(always)]
+fn mldp_leaf(family: usize, body: &[u8], bare: Shape) -> Result<Shape, u32> {
+    match divided(body) {
+        Some((0x43, key, rest)) if mldp_s_pmsi(family, key, bare).is_ok() => with_key(key, rest, bare),
+        _ => Err(KEY),
+    }
+}
+
+#[inline(always)]
+fn mldp_join(family: usize, body: &[u8], bare: Shape) -> Result<Shape, u32> {
+    let Some(rest) = body.get(12..) else { return Err(LENGTH) };
+    match fec::in_body(family, rest)? {
+        fec if fec == rest.len() => Ok(Shape { fec, ..bare }),
         _ => Err(LENGTH),
     }
 }

@@ -1,7 +1,10 @@
 //! The plain calls do the same work as the archive only if they refuse the same inputs.
 
 use crate::{
-    cases::{near, nlri_writing::fields},
+    cases::{
+        near,
+        nlri_writing::{fields, lent},
+    },
     compare::run::MODES,
     ffi::UNFINISHED,
     plain,
@@ -37,12 +40,15 @@ fn writing_as_the_second_decoder() {
     let (second, mut random) = (Second::sound(), Random::new(2));
     for _ in 0..CASES {
         let afi = near::afi(&mut random);
-        let (nlri, mut key) = (fields(&mut random), near::key(&mut random, afi));
+        let nlri = fields(&mut random);
+        let (mut key, mut fec) = lent(&mut random, afi, nlri.route_type);
         near::disturb_nlri(&mut random, &mut key);
-        let mut output = vec![0; random.below(90)];
-        let encoding = second.nlri_write(afi, &nlri, &key, output.len());
+        near::disturb(&mut random, &mut fec);
+        let mut output = vec![0; random.below(200)];
+        let encoding = second.nlri_write(afi, &nlri, &key, &fec, output.len());
         let (pointer, room) = (output.as_mut_ptr(), output.len());
-        let answer = unsafe { plain::nlri_write(afi, nlri, key.as_ptr(), key.len(), pointer, room) };
+        let (element, size) = (fec.as_ptr(), fec.len());
+        let answer = unsafe { plain::nlri_write(afi, nlri, key.as_ptr(), key.len(), element, size, pointer, room) };
         assert_eq!(answer, written(&encoding));
         assert_eq!(output[..answer.size], encoding.unwrap_or_default());
         let tunnel_type = near::tunnel_type(&mut random);

@@ -11,6 +11,9 @@ use super::{
 };
 use crate::ffi;
 
+/// Octets of an NLRI's header.
+const HEADER: usize = 2;
+
 /// Where an identifier starts, and a FEC's root in it (RFC 6514, section 5; RFC 6388, section 2.2).
 const IDENTIFIER: usize = 5;
 const ROOT: usize = IDENTIFIER + 4;
@@ -18,7 +21,13 @@ const ROOT: usize = IDENTIFIER + 4;
 impl Second {
     pub fn answer_nlri_read(&self, afi: u16, octets: &[u8]) -> ffi::NlriReading {
         match self.single(afi, octets) {
-            Ok(reading) => nlri_reading(&reading),
+            Ok(reading) => {
+                let mut answer = nlri_reading(&reading);
+                if answer.fec.size > 0 && self.has(Fault::FEC_SPAN_IN_BODY) {
+                    answer.fec.start -= HEADER;
+                }
+                answer
+            }
             Err(number) => {
                 let mut refusal = ffi::NlriReading { number: number.value(), ..Default::default() };
                 if self.has(Fault::REFUSAL_KEEPS_TYPE) {
@@ -135,6 +144,9 @@ fn nlri_reading(reading: &Reading) -> ffi::NlriReading {
     let distinguisher = reading.octets(Field::Distinguisher).try_into().unwrap_or_default();
     let source_as = reading.octets(Field::SourceAs).try_into().unwrap_or_default();
     let key = reading.octets(Field::Key);
+    let fec = reading.octets(Field::Fec);
+    // What stands before a FEC in the body.
+    let before: usize = [Field::Distinguisher, Field::SourceAs].map(|field| reading.octets(field).len()).iter().sum();
     ffi::NlriReading {
         number: 0,
         nlri: ffi::Nlri {
@@ -146,7 +158,8 @@ fn nlri_reading(reading: &Reading) -> ffi::NlriReading {
             route_type: reading.route_type,
         },
         // A key stands right behind the header.
-        key: if key.is_empty() { ffi::Span::default() } else { span(2, key) },
+        key: if key.is_empty() { ffi::Span::default() } else { span(HEADER, key) },
+        fec: if fec.is_empty() { ffi::Span::default() } else { span(HEADER + before, fec) },
     }
 }
 
@@ -158,5 +171,6 @@ fn layout(reading: &Reading) -> ffi::Layout {
         group: reading.octets(Field::Group).len(),
         originator: reading.octets(Field::Originator).len(),
         key: reading.octets(Field::Key).len(),
+        fec: reading.octets(Field::Fec).len(),
     }
 }

@@ -2,8 +2,10 @@
 
 use super::{
     fault::Fault,
+    fec::Outermost,
     forms::{form, Form, BIER_SIZES, PIM_SIZES},
     number::Number,
+    rows::Family,
     Second,
 };
 
@@ -72,7 +74,10 @@ impl Second {
         let length = usize::from(u16::from_be_bytes([*high, *low]));
         let ends = length == opaque.len() || self.has(Fault::OPAQUE_NOT_TO_THE_END) && length < opaque.len();
         let empty_refused = length == 0 && self.has(Fault::OPAQUE_EMPTY_REFUSED);
-        (ends && !empty_refused).then_some(Fec {
+        let family_of = if *family == 1 { Family::Ipv4 } else { Family::Ipv6 };
+        let read = self.has(Fault::ATTRIBUTE_OPAQUE_READ);
+        let inside_bad = read && self.nest(family_of, Outermost::Alone, identifier).is_err();
+        (ends && !empty_refused && !inside_bad).then_some(Fec {
             fec_type: *fec_type,
             address_family: u16::from(*family),
             root,

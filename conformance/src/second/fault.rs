@@ -2,11 +2,13 @@
 //! is too weak.
 
 /// The calls that show a fault; those on a table alone show the faults of the table and of the books, and the others each
-/// those of one call or rule alone: unknown route types, readers of pieces, explanations, matches for shared trees.
+/// those of one call or rule alone: unknown route types, FEC elements in NLRIs, readers of pieces, explanations, matches for
+/// shared trees.
 #[derive(Clone, Copy, Debug, PartialEq, Eq)]
 pub enum ShownBy {
     Encodings,
     Skips,
+    Fecs,
     Pieces,
     Tables,
     Explanations,
@@ -103,6 +105,48 @@ faults! {
         LISTED_OLD_ANYWHERE: "the listing takes `old` among other arguments",
         LISTED_OLD_FRONT: "the listing takes an argument that begins with `old`",
     }
+    Fecs {
+        DEPTH_UNCOUNTED: "FEC elements may nest to any depth",
+        DEPTH_FROM_INSIDE: "the depth is counted from the inside, when the innermost FEC has been read",
+        DEPTH_THREE: "the third FEC may hold no other",
+        DEPTH_FIVE: "the fourth FEC may hold another",
+        DEEP_AS_IDENT: "a FEC too many is IDENT",
+        DEEP_WHERE_WHOLE: "a FEC too many is DEEP only where the length before it is right",
+        INNER_SHORT_LENGTH: "an opaque value that ends inside a field is LENGTH",
+        FEC_SHORT_IDENT: "a body that ends inside the outermost FEC is IDENT",
+        FEC_FAMILY_FREE: "the outermost root need not be of the AFI's family",
+        FEC_FAMILY_LOW_OCTET: "only the low octet of a root's family is compared",
+        FEC_MULTI_TOPOLOGY: "roots of the families of several topologies are read",
+        INNER_FAMILY_TIED: "inner roots must be of the AFI's family",
+        INNER_TYPE_TIED: "an inner FEC must be of the outer one's type",
+        INNER_NOT_FILLING: "octets may follow an inner FEC",
+        HELD_NOT_FILLING: "octets may follow what an opaque value holds",
+        OPAQUE_UNREAD: "opaque values are not read",
+        OPAQUE_8_KEPT: "opaque type 8 is kept as octets",
+        OPAQUE_8_WITHOUT_RD: "opaque type 8 has no distinguisher",
+        OPAQUE_CUT_KEPT: "an opaque value of type 7 or 8 whose length is wrong is kept as octets",
+        OPAQUE_LENGTH_CLAMPED: "an opaque value whose length is past the body ends with the body",
+        ROOT_BEFORE_ITS_LENGTH: "a bad address length with too few octets behind it is LENGTH",
+        FEC_SPAN_IN_BODY: "a FEC's span is counted from the body",
+        MLDP_LEAF_ANY_KEY: "the key of 0x44 may be of type 1, 2 or 3",
+        MLDP_LEAF_OF_JOIN: "the key of 0x44 may be of type 0x47",
+        LEAF_OF_MLDP: "the key of type 4 may be of type 0x43",
+        MLDP_LEAF_UNKNOWN: "0x44 is no route type",
+        MLDP_SHARED_TREE: "0x46 is a route type",
+        MLDP_SIX_BITS: "0xC3 is read as 0x43",
+        FEC_BEFORE_WIDTH: "writing finds a bad FEC before a bad originator size",
+        FEC_ALWAYS_JUDGED: "writing judges a FEC that the type lacks",
+        FEC_TRAILING_ALLOWED: "octets may follow a FEC at writing",
+        WRITTEN_DEEP_UNJUDGED: "writing does not find a FEC too many",
+        LONG_BODY_254: "a body of 255 octets is LONG",
+        LONG_BODY_256: "a body of 256 octets is not LONG",
+        LONG_UNJUDGED: "a body over 255 octets is written with what its Length field can hold",
+        LONG_OF_OLD_TYPES: "a type 4 body over 255 octets is LONG, not KEY",
+        LONG_OF_FEC_ONLY: "a 0x44 body over 255 octets is not LONG",
+        LONG_BEFORE_FEC: "writing finds a long body before a bad FEC",
+        KEY_BEFORE_LONG: "writing finds a bad key before a long body",
+        ATTRIBUTE_OPAQUE_READ: "opaque values of attributes are read",
+    }
     Pieces {
         PIECES_GIVE_NONE: "no NLRI is given",
         PIECES_GIVE_TWICE: "an NLRI that came in several pieces is given twice",
@@ -147,6 +191,7 @@ faults! {
         ROOM_BEFORE_LABEL: "a full table is found before BIER with label 0",
         REPLACEMENT_NEEDS_ROOM: "a full table refuses a replacement",
         REPLACEMENT_KEEPS_OLD: "a replacement leaves the old attribute",
+        TABLE_TAKES_MLDP: "the table takes S-PMSI routes of mLDP customers",
         FIRST_INSTALL_ONLY: "later installs are answered but not done",
         REFUSED_INSTALL_WITHDRAWS: "a refused install takes the held NLRI out",
         REFUSED_INSTALL_NEW: "a refused install answers with the outcome new",

@@ -1,4 +1,4 @@
-//! The second decoder and encoder, written from RFC 6514, RFC 6625, RFC 8556, RFC 4607 and documents 01 and 02: tables of
+//! The second decoder and encoder, written from RFC 6514, RFC 6625, RFC 7441, RFC 8556, RFC 4607 and documents 01 and 02: tables of
 //! rows that one routine interprets. A route table is a map of attributes by NLRI, and its octets are the image of that map.
 
 pub mod answers;
@@ -7,6 +7,7 @@ pub mod attribute_writing;
 pub mod books;
 pub mod choice;
 pub mod fault;
+pub mod fec;
 pub mod forms;
 pub mod group;
 pub mod listing;

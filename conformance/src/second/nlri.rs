@@ -2,8 +2,9 @@
 
 use super::{
     fault::Fault,
+    fec::Outermost,
     number::Number,
-    rows::{row, Family, Field, S_PMSI},
+    rows::{row, Family, Field, MLDP_LEAF, MLDP_SOURCE_TREE_JOIN, MLDP_S_PMSI, S_PMSI},
     Second,
 };
 
@@ -65,9 +66,18 @@ impl Second {
             return Err(Number::Type);
         }
         let (body, after) = rest.split_at_checked(usize::from(*length)).ok_or(Number::Short)?;
-        let fields = row(*route_type).ok_or(Number::Type)?;
+        let fields = self.row(*route_type).ok_or(Number::Type)?;
         let parts = self.parts(family, *route_type, fields, body)?;
         Ok(Reading { route_type: *route_type, length: *length, parts, after })
+    }
+
+    pub(super) fn row(&self, route_type: u8) -> Option<&'static [Field]> {
+        match route_type {
+            MLDP_LEAF if self.has(Fault::MLDP_LEAF_UNKNOWN) => None,
+            0x46 if self.has(Fault::MLDP_SHARED_TREE) => row(MLDP_SOURCE_TREE_JOIN),
+            0xC3 if self.has(Fault::MLDP_SIX_BITS) => row(MLDP_S_PMSI),
+            _ => row(route_type),
+        }
     }
 
     /// Splits a body into the fields of its row.
@@ -98,7 +108,8 @@ impl Second {
             Field::SourceAs => rest.split_at_checked(4).ok_or(Number::Length),
             Field::Source | Field::Group => self.take_address(family, route_type, field, rest),
             Field::Originator => self.take_originator(family, rest),
-            Field::Key => self.take_key(family, rest),
+            Field::Key => self.take_key(family, route_type, rest),
+            Field::Fec => Ok(rest.split_at(self.nest(family, Outermost::InBody, rest)?.size)),
         }
     }
 
@@ -133,32 +144,40 @@ impl Second {
         }
     }
 
-    /// A whole NLRI of type 1, 2 or 3 (RFC 6514, section 4.4); any fault inside it is KEY.
-    fn take_key<'a>(&self, family: Family, rest: &'a [u8]) -> Taken<'a> {
+    /// A whole NLRI of type 1, 2 or 3 (RFC 6514, section 4.4), or for mLDP of type 0x43 (RFC 7441, section 3); any fault inside
+    /// it is KEY.
+    fn take_key<'a>(&self, family: Family, leaf: u8, rest: &'a [u8]) -> Taken<'a> {
         let key = self.front(family, rest).map_err(|inner| match self.has(Fault::KEY_FAULT_INNER) {
             true => inner,
             false => Number::Key,
         })?;
-        if !self.key_type_allowed(key.route_type) || self.has(Fault::WILDCARD_REFUSED_IN_KEY) && key.has_wildcard() {
+        if !self.key_type_allowed(leaf, key.route_type)
+            || self.has(Fault::WILDCARD_REFUSED_IN_KEY) && key.has_wildcard()
+        {
             return Err(Number::Key);
         }
         Ok(rest.split_at(rest.len() - key.after.len()))
     }
 
-    fn key_type_allowed(&self, route_type: u8) -> bool {
-        match route_type {
-            1..=3 => true,
-            4..=7 => self.has(Fault::KEY_TYPES_TO_SEVEN),
+    fn key_type_allowed(&self, leaf: u8, route_type: u8) -> bool {
+        match (leaf, route_type) {
+            (MLDP_LEAF, MLDP_S_PMSI) => true,
+            (MLDP_LEAF, 1..=3) => self.has(Fault::MLDP_LEAF_ANY_KEY),
+            (MLDP_LEAF, MLDP_SOURCE_TREE_JOIN) => self.has(Fault::MLDP_LEAF_OF_JOIN),
+            (MLDP_LEAF, _) => false,
+            (_, 1..=3) => true,
+            (_, 4..=7) => self.has(Fault::KEY_TYPES_TO_SEVEN),
+            (_, MLDP_S_PMSI) => self.has(Fault::LEAF_OF_MLDP),
             _ => false,
         }
     }
 
-    /// True where the octets are exactly one NLRI that a Leaf may carry as its key.
-    pub(super) fn is_key(&self, family: Family, octets: &[u8]) -> bool {
+    /// True where the octets are exactly one NLRI that a Leaf of this type may carry as its key.
+    pub(super) fn is_key(&self, family: Family, leaf: u8, octets: &[u8]) -> bool {
         let reading = match self.has(Fault::KEY_TRAILING_ALLOWED) {
             true => self.front(family, octets),
             false => self.whole(family, octets),
         };
-        reading.is_ok_and(|key| self.key_type_allowed(key.route_type))
+        reading.is_ok_and(|key| self.key_type_allowed(leaf, key.route_type))
     }
 }

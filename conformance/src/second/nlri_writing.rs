@@ -1,24 +1,32 @@
-//! Writing one NLRI: FAMILY, TYPE, WIDTH, KEY, SPACE.
+//! Writing one NLRI: FAMILY, TYPE, WIDTH, IDENT and DEEP, LONG, KEY, SPACE.
 
 use super::{
     fault::Fault,
+    fec::Outermost,
     number::Number,
-    rows::{row, Family, Field, S_PMSI},
+    rows::{Family, Field, MLDP_LEAF, MLDP_SOURCE_TREE_JOIN, S_PMSI},
     Second,
 };
 use crate::ffi::{Address, Nlri};
 
-/// The longest NLRI: an IPv6 Leaf whose key is an S-PMSI route with two addresses and a 16-octet originator.
-const LONGEST: usize = 78;
+/// The longest NLRI: one with an mLDP FEC element that leaves no room in its body.
+const LONGEST: usize = 257;
+
+/// The most octets of a body.
+const LONGEST_BODY: usize = 255;
 
 impl Second {
-    /// The encoding of the fields, if `room` octets of output hold it.
-    pub fn nlri_write(&self, afi: u16, nlri: &Nlri, key: &[u8], room: usize) -> Result<Vec<u8>, Number> {
+    /// The encoding of the fields, if `room` octets of output hold it. A key and a FEC element are lent beside them.
+    pub fn nlri_write(&self, afi: u16, nlri: &Nlri, key: &[u8], fec: &[u8], room: usize) -> Result<Vec<u8>, Number> {
         let family = self.family(afi)?;
-        let fields = row(nlri.route_type).ok_or(Number::Type)?;
-        let bad_key = fields.contains(&Field::Key) && !self.is_key(family, key);
+        let fields = self.row(nlri.route_type).ok_or(Number::Type)?;
+        let bad_key = fields.contains(&Field::Key) && !self.is_key(family, nlri.route_type, key);
         if bad_key && self.has(Fault::KEY_BEFORE_WIDTH) {
             return Err(Number::Key);
+        }
+        let bad_fec = self.fec_refusal(family, fields, fec);
+        if self.has(Fault::FEC_BEFORE_WIDTH) {
+            bad_fec?;
         }
         if self.has(Fault::LACKING_FIELDS_JUDGED) && lacking_fields_bad(nlri) {
             return Err(Number::Width);
@@ -26,12 +34,48 @@ impl Second {
         if !fields.iter().all(|field| self.width_allowed(family, *field, nlri)) {
             return Err(Number::Width);
         }
+        let body: Vec<u8> = fields.iter().flat_map(|field| self.field_octets(*field, nlri, key, fec)).collect();
+        if self.has(Fault::LONG_BEFORE_FEC) {
+            self.long_refusal(nlri.route_type, body.len())?;
+        }
+        bad_fec?;
+        if bad_key && self.has(Fault::KEY_BEFORE_LONG) {
+            return Err(Number::Key);
+        }
+        self.long_refusal(nlri.route_type, body.len())?;
         if bad_key {
             return Err(Number::Key);
         }
-        let body: Vec<u8> = fields.iter().flat_map(|field| self.field_octets(*field, nlri, key)).collect();
         let encoding = [&[nlri.route_type, body.len() as u8], &body[..]].concat();
         self.fitted(encoding, LONGEST, room)
+    }
+
+    /// IDENT or DEEP for octets that are not exactly one FEC element of the family.
+    fn fec_refusal(&self, family: Family, fields: &[Field], fec: &[u8]) -> Result<(), Number> {
+        let judged = fields.contains(&Field::Fec) || self.has(Fault::FEC_ALWAYS_JUDGED);
+        match self.nest(family, Outermost::Alone, fec) {
+            Err(number) if judged => match self.has(Fault::WRITTEN_DEEP_UNJUDGED) && number == Number::Deep {
+                true => Ok(()),
+                false => Err(number),
+            },
+            _ => Ok(()),
+        }
+    }
+
+    /// LONG where a body of a new type has more octets than its Length field can say; of the others a key decides.
+    fn long_refusal(&self, route_type: u8, size: usize) -> Result<(), Number> {
+        let most = match LONGEST_BODY {
+            _ if self.has(Fault::LONG_BODY_254) => 254,
+            _ if self.has(Fault::LONG_BODY_256) => 256,
+            _ if self.has(Fault::LONG_UNJUDGED) => usize::MAX,
+            most => most,
+        };
+        let leaf_judged = route_type != MLDP_LEAF || !self.has(Fault::LONG_OF_FEC_ONLY);
+        let judged = (0x43..=MLDP_SOURCE_TREE_JOIN).contains(&route_type) && leaf_judged;
+        match (judged || self.has(Fault::LONG_OF_OLD_TYPES)) && size > most {
+            true => Err(Number::Long),
+            false => Ok(()),
+        }
     }
 
     /// Whether the size of an address suits its place; other fields have no size of their own.
@@ -44,11 +88,11 @@ impl Second {
             Field::Source => customer(&nlri.source),
             Field::Group => customer(&nlri.group),
             Field::Originator => matches!(nlri.originator.size, 4 | 16),
-            Field::Distinguisher | Field::SourceAs | Field::Key => true,
+            Field::Distinguisher | Field::SourceAs | Field::Key | Field::Fec => true,
         }
     }
 
-    fn field_octets(&self, field: Field, nlri: &Nlri, key: &[u8]) -> Vec<u8> {
+    fn field_octets(&self, field: Field, nlri: &Nlri, key: &[u8], fec: &[u8]) -> Vec<u8> {
         match field {
             Field::Distinguisher => nlri.distinguisher.octets.to_vec(),
             Field::SourceAs if self.has(Fault::SOURCE_AS_LITTLE_ENDIAN) => nlri.source_as.to_le_bytes().to_vec(),
@@ -57,6 +101,7 @@ impl Second {
             Field::Group => customer_octets(&nlri.group),
             Field::Originator => address_octets(&nlri.originator).to_vec(),
             Field::Key => key.to_vec(),
+            Field::Fec => fec.to_vec(),
         }
     }
 }

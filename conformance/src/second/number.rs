@@ -1,4 +1,4 @@
-//! The numbers a call gives back (document 01, "The numbers a call gives back").
+//! The numbers a call gives back (document 01, "The numbers a call gives back"; document 02).
 
 #[derive(Clone, Copy, Debug, PartialEq, Eq)]
 pub enum Number {
@@ -19,6 +19,7 @@ pub enum Number {
     Absent = 14,
     Flow = 15,
     Space = 16,
+    Deep = 17,
 }
 
 impl Number {

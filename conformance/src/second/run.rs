@@ -1,12 +1,6 @@
 //! Stepping and walking through a run of NLRIs (document 01, "NLRI on the wire"; document 02, W-206).
 
-use super::{
-    fault::Fault,
-    nlri::Reading,
-    number::Number,
-    rows::{row, Family},
-    Second,
-};
+use super::{fault::Fault, nlri::Reading, number::Number, rows::Family, Second};
 use std::collections::VecDeque;
 
 /// What a walk does where an NLRI is refused with TYPE.
@@ -159,9 +153,13 @@ impl Second {
         match (number, rest) {
             (Number::Type, [0, ..]) => !self.has(Fault::SKIP_NOT_TYPE_0),
             (Number::Type, _) => true,
-            (Number::Short, [route_type, _, ..]) => row(*route_type).is_none() && self.has(Fault::SKIP_PAST_THE_RUN),
-            (Number::Key, [_, _, key, _, ..]) => row(*key).is_none() && self.has(Fault::SKIP_INSIDE_KEY),
-            (Number::Length | Number::Width | Number::Key, _) => self.has(Fault::SKIP_ANY_REFUSAL),
+            (Number::Short, [route_type, _, ..]) => {
+                self.row(*route_type).is_none() && self.has(Fault::SKIP_PAST_THE_RUN)
+            }
+            (Number::Key, [_, _, key, _, ..]) => self.row(*key).is_none() && self.has(Fault::SKIP_INSIDE_KEY),
+            (Number::Length | Number::Width | Number::Key | Number::Ident | Number::Deep, _) => {
+                self.has(Fault::SKIP_ANY_REFUSAL)
+            }
             _ => false,
         }
     }

@@ -1,6 +1,13 @@
 //! A route table as a map of attributes by NLRI, and its one image in octets (document 01, "The table memory").
 
-use super::{attribute::Attribute, fault::Fault, nlri::Reading, number::Number, rows::S_PMSI, Second};
+use super::{
+    attribute::Attribute,
+    fault::Fault,
+    nlri::Reading,
+    number::Number,
+    rows::{MLDP_S_PMSI, S_PMSI},
+    Second,
+};
 use std::collections::BTreeMap;
 
 /// Octets of the header and of a place, and the most places.
@@ -126,6 +133,7 @@ impl Second {
         let reading = self.single(afi, nlri)?;
         match reading.route_type {
             S_PMSI => Ok(reading),
+            MLDP_S_PMSI if self.has(Fault::TABLE_TAKES_MLDP) => Ok(reading),
             _ => Err(Number::Kind),
         }
     }

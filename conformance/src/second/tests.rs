@@ -4,7 +4,8 @@ use super::{fault::Fault, number::Number, rows::Field, Second};
 use crate::{
     cases::{
         document::{ATTRIBUTES, GROUPS, LISTED, LISTED_TEXT, NLRIS, RD},
-        samples::{all_nlris, identifiers},
+        fecs::{self, examples},
+        samples::{all_nlris, identifiers, mldp},
         skips::LISTINGS,
     },
     ffi::{Group, Span},
@@ -73,14 +74,36 @@ fn samples_are_read_and_written_back() {
         let reading = second.answer_nlri_read(sample.afi, &sample.octets);
         assert_eq!((reading.number, reading.nlri), (0, sample.nlri));
         let size = sample.octets.len();
-        assert_eq!(second.nlri_write(sample.afi, &sample.nlri, &sample.key, size), Ok(sample.octets));
-        assert_eq!(second.nlri_write(sample.afi, &sample.nlri, &sample.key, size - 1), Err(Number::Space));
+        let write = |room| second.nlri_write(sample.afi, &sample.nlri, &sample.key, &sample.fec, room);
+        assert_eq!((write(size), write(size - 1)), (Ok(sample.octets), Err(Number::Space)));
     }
     for (tunnel_type, identifier) in identifiers() {
         let size = 5 + identifier.len();
         let attribute = second.attribute_write(0xFE, tunnel_type, 0xAB_CDEF, &identifier, size).expect("room");
         assert_eq!(attribute[..5], [0xFE, tunnel_type, 0xAB, 0xCD, 0xEF]);
         assert_eq!(second.attribute(&attribute).expect("well-formed").identifier, identifier);
+    }
+}
+
+/// Document 02, W-207.
+#[test]
+fn fec_elements_in_nlris() {
+    let second = Second::sound();
+    for example in examples() {
+        let reading = second.answer_nlri_read(example.afi, &example.nlri());
+        assert_eq!(reading.number, example.number, "{}", example.shows);
+    }
+    let nlri = octets("4716 0000006400000007 0000FDE8 06 0001 04 0A000001 0000");
+    let reading = second.answer_nlri_read(1, &nlri);
+    assert_eq!((reading.key, reading.fec), (Span::default(), Span { start: 14, size: 10 }));
+    assert_eq!(second.answer_step(1, &nlri, 0).layout.fec, 10);
+    assert_eq!(second.listing(&[], &octets(fecs::LISTED)), fecs::LISTED_TEXT);
+    for (afi, depth) in [(1, 1), (2, 2), (1, 3), (2, 4)] {
+        for sample in mldp(afi, depth) {
+            let room = sample.octets.len();
+            assert_eq!(second.single(afi, &sample.octets).map(|reading| reading.length), Ok(room as u8 - 2));
+            assert_eq!(second.nlri_write(afi, &sample.nlri, &sample.key, &sample.fec, room), Ok(sample.octets));
+        }
     }
 }
 

@@ -11,6 +11,7 @@ use Rattle.nlri.specs.Fields.{Fields, encodeNlri}
 use Rattle.nlri.specs.Layouts.{noLayout}
 use Rattle.runs.specs.Walking.{readTo, endedAt, refusedAt}
 use Rattle.nlri.specs.Statements.{layoutFor}
+use Rattle.nlri.proofs.Definitions.Table.{known-least}
 use Rattle.runs.specs.Statements.{EncodedAt, EndAt, StepRefusal}
 use Rattle.runs.proofs.Theorems.{stepRule}
 use Rattle.mvpn.specs.declared.StepAnswer.{StepAnswer}
@@ -49,7 +50,7 @@ module _ (afi : ℕ) (run : List ℕ) (cursor : ℕ) where
     -- and its route type
     type-read : (f : Fields) → EncodedAt afi run cursor f → mvpnStep afi run cursor .layout .«route_type» ≡ 0 → ⊥
     unfolding layoutFor
-    type-read f n e = omega (arith, n .wellFormed .typed .0, sym (ap (λ (s : StepAnswer). s .layout .«route_type») (answer-read f n)) ∙ e)
+    type-read f n e = omega (arith, known-least (f .type) (n .wellFormed .typed), sym (ap (λ (s : StepAnswer). s .layout .«route_type») (answer-read f n)) ∙ e)
 
     type-end : EndAt afi run cursor → mvpnStep afi run cursor .layout .«route_type» ≡ 0
     unfolding noLayout

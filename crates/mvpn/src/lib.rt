@@ -115,12 +115,18 @@ pub extern "C" fn mvpn_nlri_read(afi: u16, nlri: &[u8]) -> NlriReading
     nlri::read_nlri(afi, nlri)
 }
 
-// Writes an NLRI at the front of the output; the key is that of a Leaf.
+// Writes an NLRI at the front of the output; the key is that of a Leaf, the FEC that of an mLDP customer's route.
 #[no_mangle]
-pub extern "C" fn mvpn_nlri_write(afi: u16, nlri: Nlri, key: &[u8], output: &mut [u8]) -> Written
-    ensures { λ r. ⌜ Wrote (writeNlri afi (structFields nlri (now (key .entry))) (length (now (output .entry)))) (now (output .entry)) r (now (output .exit)) ⌝ }
+pub extern "C" fn mvpn_nlri_write(
+    afi: u16,
+    nlri: Nlri,
+    key: &[u8],
+    fec: &[u8],
+    output: &mut [u8],
+) -> Written
+    ensures { λ r. ⌜ Wrote (writeNlri afi (structFields nlri (now (key .entry)) (now (fec .entry))) (length (now (output .entry)))) (now (output .entry)) r (now (output .exit)) ⌝ }
 {
-    nlri::write_nlri(afi, nlri, key, output)
+    nlri::write_nlri(afi, nlri, key, fec, output)
 }
 
 // The NLRI of a run at the cursor: DONE with its layout; DONE with route type 0 at the run's end; or a refusal.

@@ -5,6 +5,7 @@ use Prim.Native.Nat.{ℕ, zero, suc, _+_, _*_, _^_, _≤_, _<_}
 use native.Mathlib.Omega.{arith}
 use lib.ListN.{length, length-append}
 use Rattle.octets.specs.Numbers.{DONE}
+use Rattle.nlri.proofs.Definitions.Table.{known-octet}
 use Rattle.runs.specs.declared.turning.Turn.{Turn}
 use Rattle.runs.specs.declared.turning.Turn.the-variants.{Read, Skipped, Stopped}
 use Rattle.runs.specs.Walking.{Stepped, readTo}
@@ -21,11 +22,11 @@ length-fieldOf : (k n ending : ℕ) → n < 10 ^ suc k → length (fieldOf n end
 unfolding fieldOf
 length-fieldOf k n ending h = omega (arith, length-append (decimalOf n) (ending ∷ []), length-decimalOf k n h)
 
-length-lineOf : (offset type size : ℕ) → offset ≤ 4096 → type ≤ 7 → size ≤ 4096 → length (lineOf offset type size) ≤ 12
+length-lineOf : (offset type size : ℕ) → offset ≤ 4096 → type < 256 → size ≤ 4096 → length (lineOf offset type size) ≤ 14
 unfolding lineOf
 length-lineOf offset type size h k l =
     let a = length-fieldOf 3 offset 32 (omega arith) in
-    let b = length-fieldOf 0 type 32 (omega arith) in
+    let b = length-fieldOf 2 type 32 (omega arith) in
     let d = length-fieldOf 3 size 10 (omega arith) in
     simp length-append (omega arith)
 
@@ -47,7 +48,7 @@ length-lastLine mode n offset skipped h k l =
 
 module _ (mode : ℕ) (run : List ℕ) where
   abbrev Within : (left at count skipped : ℕ) → Type 0
-  Within left at count skipped = length (linesFrom left mode run at count skipped) + 6 * at ≤ 6 * 4096 + 18
+  Within left at count skipped = length (linesFrom left mode run at count skipped) + 7 * at ≤ 7 * 4096 + 18
 
   length-linesFrom : (left at count skipped : ℕ) → at ≤ 4096 → skipped ≤ at → Within left at count skipped
   unfolding linesFrom nlrisByFrom walkByFrom nlriLines readTo
@@ -62,7 +63,7 @@ module _ (mode : ℕ) (run : List ℕ) where
           let typed = ap (λ (s : Stepped). s .layout .«route_type») is in
           let moved = reads-stepFrom 1 run at (ap (λ (s : Stepped). s .read) is) .cursor in
           let sized = ap (λ (s : Stepped). s .layout .length) is in
-          let one : length (layoutLine at l) ≤ 12 = length-lineOf _ _ _ (omega arith) (omega (arith, known .1)) (omega (arith, ap (λ (s : Stepped). s .cursor) is)) in
+          let one : length (layoutLine at l) ≤ 14 = length-lineOf _ _ _ (omega arith) (omega (arith, known-octet _ known)) (omega (arith, ap (λ (s : Stepped). s .cursor) is)) in
           let rest = later (c .at) (count + 1) skipped (omega arith) (omega arith) in
           let n = ap length (linesFrom-read left mode run at count skipped l c e) ∙ length-append (layoutLine at l) (linesFrom left mode run (c .at) (count + 1) skipped) in
           omega arith
@@ -75,7 +76,7 @@ module _ (mode : ℕ) (run : List ℕ) where
           omega (arith, ap length (linesFrom-stopped left mode run at count skipped n e))
 
   -- the listing of every run
-  length-listingOf : length (listingOf mode run) ≤ 24610
+  length-listingOf : length (listingOf mode run) ≤ 28705
   unfolding listingOf linesOf linesFrom nlrisBy walkBy headerLine
   length-listingOf = omega (arith, length-append headerLine (linesOf mode run), length-linesFrom (suc (length run)) 0 0 0 (omega arith) (omega arith))
 

@@ -1,4 +1,4 @@
--- What every turn comes to: an NLRI of a known type whose Length is at most the next cursor, or one that is skipped, or a stop whose number has at most
+-- What every turn comes to: an NLRI whose type is an octet and whose Length is at most the next cursor, or one that is skipped, or a stop whose number has at most
 -- two digits; and how the lines go on by it.
 use mathlib.Core.Path.{_≡_, _∙_, ap, ap₂}
 use mathlib.Core.List.{List, _∷_, [], _++_, append-assoc}

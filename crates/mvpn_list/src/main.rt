@@ -17,7 +17,7 @@ fn asked_mode() -> u32 {
     arguments::mode_of(os::arg_count(), &argument[..size])
 }
 
-// A listing has at most 24,610 octets, so that the output's 65,536 suffice.
+// A listing has at most 28,705 octets, so that the output's 65,536 suffice.
 fn main() {
     let mode = asked_mode();
     let mut run = [0u8; SEEN];

@@ -1,6 +1,7 @@
 -- Laws of document 01's definitions.
 pub mod Families
 pub mod FieldRecords
+pub mod Fecs
 pub mod Sizes
 pub mod ReadNumbers
 pub mod Table

@@ -10,3 +10,4 @@ pub mod Singles
 pub mod SPmsis
 pub mod Puts
 pub mod Verdicts
+pub mod MldpVerdicts

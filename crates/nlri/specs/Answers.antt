@@ -12,7 +12,7 @@ use Rattle.nlri.specs.declared.address.Address.{Address}
 use Rattle.nlri.specs.declared.address.RouteDistinguisher.{RouteDistinguisher}
 use Rattle.nlri.specs.declared.fields.Nlri.{Nlri}
 use Rattle.nlri.specs.declared.fields.NlriReading.{NlriReading}
-use Rattle.nlri.specs.Bodies.{key, bodyOf, hasField}
+use Rattle.nlri.specs.Bodies.{FieldKind, sourceAs, key, fec, bodyOf, hasField}
 use Rattle.nlri.specs.Fields.{Fields}
 
 -- an address as a struct: its octets, then zeros, and its size
@@ -31,7 +31,7 @@ distinguisherStruct octets = record { octets = sized 8 octets }
 unfoldable pub addressOctets : Address → List ℕ
 addressOctets address = sized (address .size) (address .octets)
 
--- fields as a struct; the key is told by its span
+-- fields as a struct; key and FEC are told by their spans
 unfoldable pub nlriStruct : Fields → Nlri
 nlriStruct f =
     record {
@@ -43,9 +43,9 @@ nlriStruct f =
       «route_type» = f .type;
     }
 
--- the fields that an NLRI struct and a key's octets stand for
-unfoldable pub structFields : Nlri → List ℕ → Fields
-structFields nlri keyOctets =
+-- the fields that an NLRI struct and the octets of a key and of a FEC stand for
+unfoldable pub structFields : Nlri → (keyOctets fecOctets : List ℕ) → Fields
+structFields nlri keyOctets fecOctets =
     record {
       type = nlri .«route_type»;
       distinguisher = nlri .distinguisher .octets;
@@ -54,18 +54,25 @@ structFields nlri keyOctets =
       group = addressOctets (nlri .group);
       originator = addressOctets (nlri .originator);
       key = keyOctets;
+      fec = fecOctets;
     }
 
 -- no fields
 unfoldable pub noFields : Fields
-noFields = record { type = 0; distinguisher = []; sourceAs = 0; source = []; group = []; originator = []; key = [] }
+noFields = record { type = 0; distinguisher = []; sourceAs = 0; source = []; group = []; originator = []; key = []; fec = [] }
 
 -- a key stands straight after the header
 unfoldable pub keySpan : Fields → Span
 keySpan f = record { start = pick (hasField key (bodyOf (f .type))) 2 0; size = length (f .key) }
 
+-- a FEC stands behind the route distinguisher, or behind the source AS where the type has one
+unfoldable pub fecSpan : Fields → Span
+fecSpan f =
+    let body : List FieldKind = bodyOf (f .type) in
+    record { start = pick (hasField fec body) (pick (hasField sourceAs body) 14 10) 0; size = length (f .fec) }
+
 -- the answer of reading a single NLRI: on a refusal its number and empty fields
 unfoldable pub nlriAnswer : Outcome Fields → NlriReading
 nlriAnswer outcome =
-    onOutcome (λ number. record { number = number; nlri = nlriStruct noFields; key = keySpan noFields })
-    (λ f. record { number = DONE; nlri = nlriStruct f; key = keySpan f }) outcome
+    onOutcome (λ number. record { number = number; nlri = nlriStruct noFields; key = keySpan noFields; fec = fecSpan noFields })
+    (λ f. record { number = DONE; nlri = nlriStruct f; key = keySpan f; fec = fecSpan f }) outcome

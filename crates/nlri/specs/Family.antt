@@ -10,6 +10,10 @@ use Rattle.octets.specs.Outcome.{Outcome, given, refused}
 unfoldable pub familyBits : ℕ → Outcome ℕ
 familyBits afi = pick (eqb afi 1) (given 32) (pick (eqb afi 2) (given 128) (refused FAMILY))
 
+-- the address family of the family's roots, as a FEC has it (RFC 7441, section 3): 1 for addresses of 32 bits, 2 for those of 128
+unfoldable pub rootFamily : (bits : ℕ) → ℕ
+rootFamily bits = pick (eqb bits 32) 1 2
+
 -- a source or group length is the family's; in type 3 only it may be 0, the wildcard
 unfoldable pub allowed : (bits type octet : ℕ) → Bool
 allowed bits type octet = either (eqb octet bits) (both (eqb type 3) (eqb octet 0))

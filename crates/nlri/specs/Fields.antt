@@ -1,4 +1,4 @@
--- An NLRI's fields, their encoding, and which are well-formed (document 01, "NLRI on the wire"). Nothing here reads or writes.
+-- An NLRI's fields, their encoding, and which are well-formed (document 01, "NLRI on the wire"; W-207). Nothing here reads or writes.
 use Prim.Native.Nat.{ℕ, _*_, _^_, _≤_, _<_}
 use mathlib.Core.Path.{_≡_}
 use mathlib.Core.Bool.{true}
@@ -6,8 +6,9 @@ use mathlib.Core.List.{List, [], _∷_, _++_}
 use lib.ListN.{length}
 use Rattle.octets.specs.Choice.{pick}
 use Rattle.octets.specs.Octets.{AllOctets, bigEndian}
-use Rattle.nlri.specs.Family.{allowed, isOriginatorSize}
-use Rattle.nlri.specs.Bodies.{FieldKind, distinguisher, sourceAs, source, group, originator, key, KnownType, bodyOf, hasField}
+use Rattle.fec_elements.specs.Nested.{Element, headOf, encodeElement, WellFormedElement, KeptOctets}
+use Rattle.nlri.specs.Family.{rootFamily, allowed, isOriginatorSize}
+use Rattle.nlri.specs.Bodies.{FieldKind, distinguisher, sourceAs, source, group, originator, key, fec, KnownType, bodyOf, hasField}
 
 -- the fields of an NLRI as lists of octets; a wildcard is no octets, and so is a field that the type lacks
 pub record Fields : Type 0 where
@@ -18,6 +19,7 @@ pub record Fields : Type 0 where
   pub group : List ℕ
   pub originator : List ℕ
   pub key : List ℕ
+  pub fec : List ℕ
 
 -- a source or group: a length octet in bits, then that many bits
 unfoldable pub encodeAddress : List ℕ → List ℕ
@@ -31,6 +33,7 @@ encodeField f source = encodeAddress (f .source)
 encodeField f group = encodeAddress (f .group)
 encodeField f originator = f .originator
 encodeField f key = f .key
+encodeField f fec = f .fec
 
 -- the fields of a body, one after the other
 unfoldable pub encodeBody : Fields → List FieldKind → List ℕ
@@ -41,6 +44,15 @@ encodeBody f (k ∷ body) = encodeField f k ++ encodeBody f body
 unfoldable pub encodeNlri : Fields → List ℕ
 encodeNlri f = f .type ∷ length (encodeBody f (bodyOf (f .type))) ∷ encodeBody f (bodyOf (f .type))
 
+-- octets that are one FEC, which may hold others, at most four deep, its root of the family's addresses (RFC 7441, section 3)
+pub record FecOf (bits : ℕ) (octets : List ℕ) : Type 0 where
+  pub element : Element
+  pub depth : ℕ
+  pub shallow : depth ≤ 4
+  pub wellFormed : WellFormedElement KeptOctets depth element
+  pub family : headOf element .addressFamily ≡ rootFamily bits
+  pub encoded : octets ≡ encodeElement element
+
 -- a field of the size that the type and the family's bits allow, its octets octets; of a key, what `Key` says of it in that type
 abbrev pub WellFormedField : (ℕ → List ℕ → Type 0) → ℕ → Fields → FieldKind → Type 0
 WellFormedField Key bits f distinguisher = (length (f .distinguisher) ≡ 8) × AllOctets (f .distinguisher)
@@ -49,31 +61,39 @@ WellFormedField Key bits f source = (allowed bits (f .type) (8 * length (f .sour
 WellFormedField Key bits f group = (allowed bits (f .type) (8 * length (f .group)) ≡ true) × AllOctets (f .group)
 WellFormedField Key bits f originator = (isOriginatorSize (length (f .originator)) ≡ true) × AllOctets (f .originator)
 WellFormedField Key bits f key = Key (f .type) (f .key)
+WellFormedField Key bits f fec = FecOf bits (f .fec)
 
 -- every field of a body is well-formed
 abbrev pub WellFormedBody : (ℕ → List ℕ → Type 0) → ℕ → Fields → List FieldKind → Type 0
 WellFormedBody Key bits f [] = Unit {0}
 WellFormedBody Key bits f (k ∷ body) = WellFormedField Key bits f k × WellFormedBody Key bits f body
 
+-- the Length of the body fits its octet
+abbrev pub LengthFits : Fields → Type 0
+LengthFits f = length (encodeBody f (bodyOf (f .type))) < 256
+
 -- no octets are a key: of the NLRIs that may stand in a key, none has a key
 abbrev pub NoKey : ℕ → List ℕ → Type 0
 NoKey type octets = ⊥
 
--- the types of NLRIs that may stand in the key of a type: in a Leaf's 1, 2 and 3
+-- the types of NLRIs that may stand in the key of a type: in a Leaf's 1, 2 and 3, in a 0x44's 0x43
 pub data KeyType : (type inKey : ℕ) → Type 0 where
   leaf : {inKey : ℕ} → 1 ≤ inKey → inKey ≤ 3 → KeyType 4 inKey
+  mldpLeaf : KeyType 68 67
 
 -- octets that are the key of an NLRI of a type: a whole NLRI of the same family, header included
 pub record KeyOf (bits type : ℕ) (octets : List ℕ) : Type 0 where
   pub fields : Fields
   pub typed : KeyType type (fields .type)
   pub wellFormed : WellFormedBody NoKey bits fields (bodyOf (fields .type))
+  pub fits : LengthFits fields
   pub encoded : octets ≡ encodeNlri fields
 
 -- fields of an NLRI of a known type of which every field of its body is well-formed
 pub record WellFormed (bits : ℕ) (f : Fields) : Type 0 where
   pub typed : KnownType (f .type)
   pub body : WellFormedBody (KeyOf bits) bits f (bodyOf (f .type))
+  pub fits : LengthFits f
 
 -- f with the fields that its type lacks emptied
 unfoldable pub restricted : Fields → Fields
@@ -87,4 +107,5 @@ restricted f =
       group = pick (hasField group body) (f .group) [];
       originator = pick (hasField originator body) (f .originator) [];
       key = pick (hasField key body) (f .key) [];
+      fec = pick (hasField fec body) (f .fec) [];
     }

@@ -10,12 +10,13 @@ use Rattle.octets.specs.Choice.{pick, either, both}
 use Rattle.octets.specs.Outcome.{Outcome, given, refused, unless, andThen, numberOf}
 use Rattle.octets.specs.Octets.{part, numberIn}
 use Rattle.octets.specs.declared.Span.{Span}
+use Rattle.fec_elements.specs.Reading.{frontSize}
 use Rattle.nlri.specs.declared.layout.Layout.{Layout}
 use Rattle.nlri.specs.declared.family.Family.{Family}
 use Rattle.nlri.specs.declared.family.Family.the-variants.{Known, Unknown}
 use Rattle.nlri.specs.declared.read.Header.{Header}
 use Rattle.nlri.specs.declared.read.Header.the-variants.{Typed, Unread}
-use Rattle.nlri.specs.Bodies.{FieldKind, source, group, originator, key, bodies, onBody, bodyOf, hasField}
+use Rattle.nlri.specs.Bodies.{FieldKind, sourceAs, source, group, originator, key, fec, bodies, onBody, bodyOf, hasField}
 use Rattle.nlri.specs.Fields.{Fields}
 use Rattle.nlri.specs.Reading.{fieldSize, sizesOf, keyField}
 use Rattle.nlri.specs.Layouts.{layoutAt}
@@ -36,8 +37,8 @@ keyOutcome (Typed type size) = given (2 + size)
 keyOutcome (Unread number) = refused KEY
 
 -- a layout by its type, Length and sizes
-unfoldable pub layoutWith : (type size source group originator key : ℕ) → Layout
-layoutWith type size a b o k = record { «route_type» = type; length = size; source = a; group = b; originator = o; key = k }
+unfoldable pub layoutWith : (type size source group originator key fec : ℕ) → Layout
+layoutWith type size a b o k c = record { «route_type» = type; length = size; source = a; group = b; originator = o; key = k; fec = c }
 
 -- the number of the fields that are left of a body, `kinds`, where those before them end at `at`: LENGTH where they end past the octets
 unfoldable pub leftFault : (bits type : ℕ) → List FieldKind → (at : ℕ) → List ℕ → ℕ
@@ -52,6 +53,10 @@ bodyFault bits type s = onBody bodies type TYPE (λ body. leftFault bits type bo
 unfoldable pub afterFlow : ℕ → List FieldKind
 afterFlow type = pick (eqb type 3) (originator ∷ []) []
 
+-- what follows a FEC: in 0x43 the originator, else nothing
+unfoldable pub afterFec : ℕ → List FieldKind
+afterFec type = pick (eqb type 67) (originator ∷ []) []
+
 -- what begins with a key: a key alone, or a Leaf's body
 unfoldable pub keyedKinds : (alone : Bool) → List FieldKind
 keyedKinds alone = key ∷ pick alone [] (originator ∷ [])
@@ -62,13 +67,17 @@ headerAt s =
     pick (ltb (length s) 2) (refused SHORT)
     (pick (ltb (length s - 2) (getD s 1 0)) (refused SHORT) (given (getD s 0 0, getD s 1 0)))
 
--- whether a key stands first
+-- whether a key stands first: in 4 and 0x44
 unfoldable pub withKey : ℕ → Bool
-withKey type = eqb type 4
+withKey type = either (eqb type 4) (eqb type 68)
+
+-- whether there is a FEC: in 0x43 and 0x47
+unfoldable pub withFec : ℕ → Bool
+withFec type = either (eqb type 67) (eqb type 71)
 
 -- whether a source AS stands behind the route distinguisher
 unfoldable pub withSourceAs : ℕ → Bool
-withSourceAs type = either (eqb type 2) (either (eqb type 6) (eqb type 7))
+withSourceAs type = either (eqb type 2) (either (eqb type 6) (either (eqb type 7) (eqb type 71)))
 
 -- where the octets of a source begin in an NLRI, behind its length octet
 unfoldable pub sourceStart : ℕ → ℕ
@@ -81,30 +90,50 @@ sizeAt s at = getD s at 0 / 8
 -- the layout of an accepted NLRI with source and group by its octets, where the source's length octet stands at `at`
 unfoldable pub flowLayout : (type at : ℕ) → List ℕ → Layout
 flowLayout type at s =
-    layoutWith type (getD s 1 0) (sizeAt s at) (sizeAt s (at + 1 + sizeAt s at)) (getD s 1 0 - at - sizeAt s at - sizeAt s (at + 1 + sizeAt s at)) 0
+    layoutWith type (getD s 1 0) (sizeAt s at) (sizeAt s (at + 1 + sizeAt s at)) (getD s 1 0 - at - sizeAt s at - sizeAt s (at + 1 + sizeAt s at)) 0 0
 
 -- the layout of an accepted NLRI with a key by its octets
 unfoldable pub leafLayout : ℕ → List ℕ → Layout
-leafLayout type s = layoutWith type (getD s 1 0) 0 0 (getD s 1 0 - (2 + getD s 3 0)) (2 + getD s 3 0)
+leafLayout type s = layoutWith type (getD s 1 0) 0 0 (getD s 1 0 - (2 + getD s 3 0)) (2 + getD s 3 0) 0
+
+-- where a FEC starts in an NLRI
+unfoldable pub fecStart : ℕ → ℕ
+fecStart type = sourceStart type - 1
+
+-- the octets of the NLRI from there on
+unfoldable pub fromFec : ℕ → List ℕ → List ℕ
+fromFec type s = part s (fecStart type) (2 + getD s 1 0 - fecStart type)
+
+-- the layout of an accepted NLRI with a FEC by its octets
+unfoldable pub fecLayout : ℕ → List ℕ → Layout
+fecLayout type s = layoutWith type (getD s 1 0) 0 0 (2 + getD s 1 0 - fecStart type - frontSize (fromFec type s)) 0 (frontSize (fromFec type s))
 
 -- the layout of an accepted NLRI by its octets
 unfoldable pub layoutIn : List ℕ → Layout
 layoutIn s =
-    pick (eqb (getD s 0 0) 1) (layoutWith 1 (getD s 1 0) 0 0 (getD s 1 0 - 8) 0)
-    (pick (eqb (getD s 0 0) 2) (layoutWith 2 (getD s 1 0) 0 0 0 0)
-    (pick (withKey (getD s 0 0)) (leafLayout (getD s 0 0) s) (flowLayout (getD s 0 0) (sourceStart (getD s 0 0) - 1) s)))
+    pick (eqb (getD s 0 0) 1) (layoutWith 1 (getD s 1 0) 0 0 (getD s 1 0 - 8) 0 0)
+    (pick (eqb (getD s 0 0) 2) (layoutWith 2 (getD s 1 0) 0 0 0 0 0)
+    (pick (withKey (getD s 0 0)) (leafLayout (getD s 0 0) s)
+    (pick (withFec (getD s 0 0)) (fecLayout (getD s 0 0) s) (flowLayout (getD s 0 0) (sourceStart (getD s 0 0) - 1) s))))
 
 -- source and group lie within the body
 pub record FlowStands (at : ℕ) (s : List ℕ) : Type 0 where
   pub group : at + 1 + sizeAt s at < length s
   pub sizes : at + sizeAt s at + sizeAt s (at + 1 + sizeAt s at) ≤ getD s 1 0
 
+-- a FEC lies within the body, and the body within the octets
+pub record FecStands (type : ℕ) (s : List ℕ) : Type 0 where
+  pub body : 2 + getD s 1 0 ≤ length s
+  pub start : fecStart type ≤ 2 + getD s 1 0
+  pub sizes : frontSize (fromFec type s) ≤ 2 + getD s 1 0 - fecStart type
+
 -- the octets that a layout goes by stand there
 pub record Stands (s : List ℕ) : Type 0 where
   pub header : 2 ≤ length s
   pub intraAs : getD s 0 0 ≡ 1 → 8 ≤ getD s 1 0
   pub leaf : withKey (getD s 0 0) ≡ true → (4 ≤ length s) × (2 + getD s 3 0 ≤ getD s 1 0)
-  pub flow : (getD s 0 0 ≡ 1 → ⊥) → (getD s 0 0 ≡ 2 → ⊥) → withKey (getD s 0 0) ≡ false → FlowStands (sourceStart (getD s 0 0) - 1) s
+  pub fec : withFec (getD s 0 0) ≡ true → FecStands (getD s 0 0) s
+  pub flow : (getD s 0 0 ≡ 1 → ⊥) → (getD s 0 0 ≡ 2 → ⊥) → withKey (getD s 0 0) ≡ false → withFec (getD s 0 0) ≡ false → FlowStands (sourceStart (getD s 0 0) - 1) s
 
 -- the route distinguisher of an NLRI; one with a key has none
 unfoldable pub distinguisherAt : ℕ → List ℕ → List ℕ
@@ -125,11 +154,16 @@ fieldsAt l s =
       group = part s (sourceStart (l .«route_type») + l .source + 1) (l .group);
       originator = part s (length s - l .originator) (l .originator);
       key = part s 2 (l .key);
+      fec = part s (fecStart (l .«route_type»)) (l .fec);
     }
 
 -- a key stands straight after the header
 unfoldable pub keyAt : Layout → Span
 keyAt l = record { start = pick (withKey (l .«route_type»)) 2 0; size = l .key }
+
+-- a FEC stands behind the route distinguisher or the source AS
+unfoldable pub fecAt : Layout → Span
+fecAt l = record { start = pick (withFec (l .«route_type»)) (fecStart (l .«route_type»)) 0; size = l .fec }
 
 -- a layout's fields lie within the NLRI, and have the sizes of addresses
 pub record LayoutWithin (l : Layout) (s : List ℕ) : Type 0 where
@@ -139,7 +173,10 @@ pub record LayoutWithin (l : Layout) (s : List ℕ) : Type 0 where
   pub source : (l .source ≤ 16) × (0 < l .source → sourceStart (l .«route_type») + l .source ≤ length s)
   pub group : (l .group ≤ 16) × (0 < l .group → sourceStart (l .«route_type») + l .source + 1 + l .group ≤ length s)
   pub originator : (l .originator ≤ 16) × (l .originator ≤ length s)
-  pub keyed : hasField key (bodyOf (l .«route_type»)) ≡ withKey (l .«route_type»)
+  pub sourceAsKind : hasField sourceAs (bodyOf (l .«route_type»)) ≡ withSourceAs (l .«route_type»)
+  pub fecKind : hasField fec (bodyOf (l .«route_type»)) ≡ withFec (l .«route_type»)
+  pub fecEnd : 0 < l .fec → fecStart (l .«route_type») + l .fec ≤ length s
+  pub keyKind : hasField key (bodyOf (l .«route_type»)) ≡ withKey (l .«route_type»)
   pub key : 2 + l .key ≤ length s
 
 -- nothing stands behind the NLRI

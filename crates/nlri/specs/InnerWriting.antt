@@ -105,9 +105,9 @@ pub record Putting (nlri : Nlri) (key : List ℕ) (size : ℕ) (output : List �
   pub short : size < 258
   pub room : size ≤ length output
 
--- the octets written under a family: the fields' refusals, then SPACE
-unfoldable pub writeUnder : ℕ → Nlri → List ℕ → (space : ℕ) → Outcome (List ℕ)
-writeUnder bits nlri key space =
+-- the octets written under a family, of types 1 to 7: the fields' refusals, then SPACE
+unfoldable pub writtenToSeven : ℕ → Nlri → List ℕ → (space : ℕ) → Outcome (List ℕ)
+writtenToSeven bits nlri key space =
     andThen (fitting bits nlri key)
     (λ fits. pick (ltb space (sizeOf fits (length key))) (refused SPACE)
     (given (nlriOctets fits key)))

@@ -6,7 +6,7 @@ use Rattle.nlri.specs.declared.layout.Layout.{Layout}
 use Rattle.nlri.specs.declared.layout.Reading.{Reading}
 use Rattle.nlri.specs.declared.layout.Reading.the-variants.{Nlri, Refused}
 use Rattle.nlri.specs.Family.{familyBits}
-use Rattle.nlri.specs.Bodies.{source, group, originator, key, fieldIn}
+use Rattle.nlri.specs.Bodies.{source, group, originator, key, fec, fieldIn}
 use Rattle.nlri.specs.Reading.{Laid, laidAt, laidSingle}
 
 -- an NLRI's layout, or the refusal's number
@@ -24,6 +24,7 @@ layoutOf laid =
       group = fieldIn 0 group (laid .body) (laid .sizes) - 1;
       originator = fieldIn 0 originator (laid .body) (laid .sizes);
       key = fieldIn 0 key (laid .body) (laid .sizes);
+      fec = fieldIn 0 fec (laid .body) (laid .sizes);
     }
 
 -- the layout of the NLRI at the front of s
@@ -36,4 +37,4 @@ layoutSingle afi s = andThen (familyBits afi) (λ bits. andThen (laidSingle bits
 
 -- no layout: every number 0
 unfoldable pub noLayout : Layout
-noLayout = record { «route_type» = 0; length = 0; source = 0; group = 0; originator = 0; key = 0 }
+noLayout = record { «route_type» = 0; length = 0; source = 0; group = 0; originator = 0; key = 0; fec = 0 }

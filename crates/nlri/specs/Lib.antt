@@ -9,4 +9,5 @@ pub mod Writing
 pub mod Answers
 pub mod Inner
 pub mod InnerWriting
+pub mod InnerMldp
 pub mod Statements

@@ -1,4 +1,4 @@
--- Reading an NLRI (document 01, "NLRI on the wire" and the order of NLRI reading): first where its fields lie, then the fields.
+-- Reading an NLRI (document 01, "NLRI on the wire" and the order of NLRI reading; W-207): first where its fields lie, then the fields.
 use Prim.Native.Nat.{ℕ, _+_, _-_, _/_}
 use mathlib.Core.Bool.{Bool, false}
 use mathlib.Core.List.{List, [], _∷_}
@@ -8,8 +8,10 @@ use Rattle.octets.specs.Numbers.{SHORT, TYPE, LENGTH, WIDTH, KEY}
 use Rattle.octets.specs.Choice.{pick}
 use Rattle.octets.specs.Outcome.{Outcome, given, refused, onOutcome, unless, andThen}
 use Rattle.octets.specs.Octets.{part, numberIn}
-use Rattle.nlri.specs.Family.{familyBits, allowed, isOriginatorSize}
-use Rattle.nlri.specs.Bodies.{FieldKind, distinguisher, sourceAs, source, group, originator, key, keyable, bodies, onBody, fieldIn}
+use Rattle.fec_elements.specs.declared.Standing.the-variants.{InBody}
+use Rattle.fec_elements.specs.Reading.{readFec}
+use Rattle.nlri.specs.Family.{familyBits, rootFamily, allowed, isOriginatorSize}
+use Rattle.nlri.specs.Bodies.{FieldKind, distinguisher, sourceAs, source, group, originator, key, fec, keyable, bodies, onBody, fieldIn}
 use Rattle.nlri.specs.Fields.{Fields}
 
 -- a field of n octets, n known
@@ -39,6 +41,7 @@ fieldSize keyField bits type source s = addressField bits type s
 fieldSize keyField bits type group s = addressField bits type s
 fieldSize keyField bits type originator s = originatorField s
 fieldSize keyField bits type key s = keyField type s
+fieldSize keyField bits type fec s = readFec (InBody (rootFamily bits)) s
 
 -- the sizes of a body's fields from left to right, the first fault deciding; nothing may remain
 unfoldable pub sizesOf : (FieldKind → List ℕ → Outcome ℕ) → List FieldKind → List ℕ → Outcome (List ℕ)
@@ -92,6 +95,7 @@ fieldsOf laid s =
       group = drop 1 (field group);
       originator = field originator;
       key = field key;
+      fec = field fec;
     }
 
 -- a single NLRI under a family: reading, then LENGTH for octets after it

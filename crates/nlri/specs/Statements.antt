@@ -5,12 +5,14 @@ use mathlib.Core.Bool.{true, false}
 use mathlib.Core.List.{List, [], _∷_, _++_}
 use mathlib.Core.Logic.{_↔_, _≢_, _⊎_}
 use lib.ListN.{length, getD, take}
-use Rattle.octets.specs.Numbers.{DONE, SHORT, TYPE, LENGTH, WIDTH, KEY, FAMILY, FLOW, SPACE}
+use Rattle.octets.specs.Numbers.{DONE, SHORT, TYPE, LENGTH, WIDTH, KEY, IDENT, LONG, FAMILY, FLOW, SPACE, DEEP}
 use Rattle.octets.specs.Outcome.{given, refused}
 use Rattle.octets.specs.Octets.{AllOctets, part}
-use Rattle.nlri.specs.Family.{familyBits, allowed, isOriginatorSize}
-use Rattle.nlri.specs.Bodies.{FieldKind, distinguisher, sourceAs, source, group, originator, key, KnownType, bodyOf, hasField}
-use Rattle.nlri.specs.Fields.{Fields, encodeNlri, WellFormed, KeyOf, restricted}
+use Rattle.fec_elements.specs.declared.Standing.the-variants.{InBody, Lent}
+use Rattle.fec_elements.specs.Statements.{FirstFault}
+use Rattle.nlri.specs.Family.{familyBits, rootFamily, allowed, isOriginatorSize}
+use Rattle.nlri.specs.Bodies.{FieldKind, distinguisher, sourceAs, source, group, originator, key, fec, KnownType, bodyOf, hasField}
+use Rattle.nlri.specs.Fields.{Fields, encodeBody, encodeNlri, FecOf, WellFormed, KeyOf, restricted}
 use Rattle.nlri.specs.Reading.{laidAt, readNlri}
 use Rattle.nlri.specs.Layouts.{readingOf, layoutSingle}
 use Rattle.nlri.specs.Writing.{writeNlri}
@@ -18,7 +20,7 @@ use Rattle.nlri.specs.Groups.{ASM, SSM, classOf}
 use Rattle.nlri.specs.declared.fields.Nlri.{Nlri}
 use Rattle.nlri.specs.declared.layout.Layout.{Layout}
 use Rattle.nlri.specs.declared.layout.Reading.{Reading}
-use Rattle.nlri.specs.Answers.{nlriStruct, structFields, keySpan, nlriAnswer}
+use Rattle.nlri.specs.Answers.{nlriStruct, structFields, keySpan, fecSpan, nlriAnswer}
 
 -- "NLRI on the wire": the lengths
 pub record Lengths : Type 0 where
@@ -45,9 +47,10 @@ pub record Acceptance : Type 0 where
   pub encoded : (afi bits : ℕ) (f : Fields) → familyBits afi ≡ given bits → WellFormed bits f → readNlri afi (encodeNlri f) ≡ given (restricted f)
   -- an encoding is octets: its Length fits one
   pub octets : (afi bits : ℕ) (f : Fields) → familyBits afi ≡ given bits → WellFormed bits f → AllOctets (encodeNlri f)
-  -- an encoding has at most 78 octets, and at most 60 where it is no Leaf's
-  pub most : (afi bits : ℕ) (f : Fields) → familyBits afi ≡ given bits → WellFormed bits f → length (encodeNlri f) ≤ 78
-  pub plain : (afi bits : ℕ) (f : Fields) → familyBits afi ≡ given bits → WellFormed bits f → f .type ≢ 4 → length (encodeNlri f) ≤ 60
+  -- an encoding has at most 257 octets, of types 1 to 7 at most 78, and of these at most 60 where it is no Leaf's
+  pub longest : (afi bits : ℕ) (f : Fields) → familyBits afi ≡ given bits → WellFormed bits f → length (encodeNlri f) ≤ 257
+  pub most : (afi bits : ℕ) (f : Fields) → familyBits afi ≡ given bits → WellFormed bits f → f .type ≤ 7 → length (encodeNlri f) ≤ 78
+  pub plain : (afi bits : ℕ) (f : Fields) → familyBits afi ≡ given bits → WellFormed bits f → f .type ≤ 7 → f .type ≢ 4 → length (encodeNlri f) ≤ 60
   -- one encoding is of one NLRI
   pub same : (afi bits : ℕ) (f g : Fields) → familyBits afi ≡ given bits → WellFormed bits f → WellFormed bits g → encodeNlri f ≡ encodeNlri g → restricted f ≡ restricted g
 
@@ -60,6 +63,7 @@ pub record HoldsOctets (f : Fields) : Type 0 where
   pub group : AllOctets (f .group)
   pub originator : AllOctets (f .originator)
   pub key : AllOctets (f .key)
+  pub fec : AllOctets (f .fec)
 
 -- an NLRI struct that holds octets and a 32-bit number
 pub record StructHoldsOctets (nlri : Nlri) : Type 0 where
@@ -79,18 +83,21 @@ pub record RoundTrips : Type 0 where
   pub held : (afi : ℕ) (s : List ℕ) (f : Fields) → AllOctets s → readNlri afi s ≡ given f → HoldsOctets f
   -- a writer does not look at fields that the type lacks
   pub unseen : (afi : ℕ) (f : Fields) (space : ℕ) → writeNlri afi (restricted f) space ≡ writeNlri afi f space
-  -- the struct and the key's octets that reading answers stand for the fields read
-  pub struct : (afi : ℕ) (s : List ℕ) (f : Fields) → AllOctets s → readNlri afi s ≡ given f → restricted (structFields (nlriStruct f) (f .key)) ≡ f
+  -- the struct and the octets of key and FEC that reading answers stand for the fields read
+  pub struct : (afi : ℕ) (s : List ℕ) (f : Fields) → AllOctets s → readNlri afi s ≡ given f → restricted (structFields (nlriStruct f) (f .key) (f .fec)) ≡ f
   -- the key's octets stand where the answer's span says
   pub spanned : (afi : ℕ) (s : List ℕ) (f : Fields) → AllOctets s → readNlri afi s ≡ given f → part s (keySpan f .start) (keySpan f .size) ≡ f .key
-  -- writing the struct and the key's octets gives the same octets
-  pub structWritten : (afi : ℕ) (s : List ℕ) (f : Fields) (space : ℕ) → AllOctets s → readNlri afi s ≡ given f → length s ≤ space → writeNlri afi (structFields (nlriStruct f) (f .key)) space ≡ given s
-  -- so writing what the call of reading answers, the key taken from the octets read, gives these octets
+  -- and so do the FEC's
+  pub fecSpanned : (afi : ℕ) (s : List ℕ) (f : Fields) → AllOctets s → readNlri afi s ≡ given f → part s (fecSpan f .start) (fecSpan f .size) ≡ f .fec
+  -- writing the struct and the octets of key and FEC gives the same octets
+  pub structWritten : (afi : ℕ) (s : List ℕ) (f : Fields) (space : ℕ) → AllOctets s → readNlri afi s ≡ given f → length s ≤ space → writeNlri afi (structFields (nlriStruct f) (f .key) (f .fec)) space ≡ given s
+  -- so writing what the call of reading answers, key and FEC taken from the octets read, gives these octets
   pub answered : (afi : ℕ) (s : List ℕ) (space : ℕ) → AllOctets s → nlriAnswer (readNlri afi s) .number ≡ DONE → length s ≤ space
-      → writeNlri afi (structFields (nlriAnswer (readNlri afi s) .nlri) (part s (nlriAnswer (readNlri afi s) .key .start) (nlriAnswer (readNlri afi s) .key .size))) space ≡ given s
-  -- what a struct and a key's octets stand for comes back when it was written
-  pub structRead : (afi : ℕ) (nlri : Nlri) (key : List ℕ) (space : ℕ) (e : List ℕ) → StructHoldsOctets nlri → AllOctets key → writeNlri afi (structFields nlri key) space ≡ given e
-      → readNlri afi e ≡ given (restricted (structFields nlri key))
+      → writeNlri afi (structFields (nlriAnswer (readNlri afi s) .nlri) (part s (nlriAnswer (readNlri afi s) .key .start) (nlriAnswer (readNlri afi s) .key .size))
+      (part s (nlriAnswer (readNlri afi s) .fec .start) (nlriAnswer (readNlri afi s) .fec .size))) space ≡ given s
+  -- what a struct and the octets of key and FEC stand for comes back when it was written
+  pub structRead : (afi : ℕ) (nlri : Nlri) (key fec : List ℕ) (space : ℕ) (e : List ℕ) → StructHoldsOctets nlri → AllOctets key → AllOctets fec → writeNlri afi (structFields nlri key fec) space ≡ given e
+      → readNlri afi e ≡ given (restricted (structFields nlri key fec))
 
 -- octets that are a source or group: a length octet that the type and family allow, and that many bits
 abbrev pub AddressAt : (bits type : ℕ) → List ℕ → Type 0
@@ -104,6 +111,7 @@ FieldAt bits type source x t = AddressAt bits type x
 FieldAt bits type group x t = AddressAt bits type x
 FieldAt bits type originator x t = (isOriginatorSize (length x) ≡ true) × (t ≡ [])
 FieldAt bits type key x t = KeyOf bits type x
+FieldAt bits type fec x t = FecOf bits x
 
 -- the fault of a source or group where s is what remains of the body: a missing length octet; a bad one, before its address is looked for; an end inside the address
 pub data AddressFault (bits type : ℕ) (s : List ℕ) : ℕ → Type 0 where
@@ -111,7 +119,7 @@ pub data AddressFault (bits type : ℕ) (s : List ℕ) : ℕ → Type 0 where
   width : 1 ≤ length s → allowed bits type (getD s 0 0) ≡ false → AddressFault bits type s WIDTH
   ends : 1 ≤ length s → allowed bits type (getD s 0 0) ≡ true → length s < 1 + getD s 0 0 / 8 → AddressFault bits type s LENGTH
 
--- the fault of a field where s is what remains of the body, and its number; a key's is that no octets at the front are a key
+-- the fault of a field where s is what remains of the body, and its number; a key's is that no octets at the front are a key, and a FEC's its first from left to right
 abbrev pub Fault : (bits type : ℕ) → FieldKind → List ℕ → ℕ → Type 0
 Fault bits type distinguisher s n = (length s < 8) × (n ≡ LENGTH)
 Fault bits type sourceAs s n = (length s < 4) × (n ≡ LENGTH)
@@ -119,6 +127,7 @@ Fault bits type source s n = AddressFault bits type s n
 Fault bits type group s n = AddressFault bits type s n
 Fault bits type originator s n = (isOriginatorSize (length s) ≡ false) × (n ≡ LENGTH)
 Fault bits type key s n = ((size : ℕ) → size ≤ length s → KeyOf bits type (take size s) → ⊥) × (n ≡ KEY)
+Fault bits type fec s n = FirstFault 3 (InBody (rootFamily bits)) s n
 
 -- the first fault of a body from left to right: octets remain after its last field, its first field faults, or its first field stands and a later one faults
 pub data Faulty (bits type : ℕ) : List FieldKind → List ℕ → ℕ → Type 0 where
@@ -142,6 +151,10 @@ pub data ReadRefusal (afi : ℕ) (s : List ℕ) : ℕ → Type 0 where
   front : (bits : ℕ) {n : ℕ} → familyBits afi ≡ given bits → FrontRefusal bits s n → ReadRefusal afi s n
   after : (bits : ℕ) (f : Fields) (t : List ℕ) → familyBits afi ≡ given bits → WellFormed bits f → s ≡ encodeNlri f ++ t → 0 < length t → ReadRefusal afi s LENGTH
 
+-- the numbers of bodies
+abbrev pub BodyFault : ℕ → Type 0
+BodyFault n = (n ≡ LENGTH) ⊎ (n ≡ WIDTH) ⊎ (n ≡ KEY) ⊎ (n ≡ IDENT) ⊎ (n ≡ DEEP)
+
 -- "The numbers a call gives back", at NLRI reading: every list of octets is accepted or refused by one number, each given exactly when document 01 says
 pub record ReadRefusals : Type 0 where
   -- each number exactly when document 01 says
@@ -154,8 +167,8 @@ pub record ReadRefusals : Type 0 where
   pub never : (afi : ℕ) (s : List ℕ) (f : Fields) (n : ℕ) → AllOctets s → ReadAs afi s f → ReadRefusal afi s n → ⊥
   -- no refusal is DONE
   pub done : (afi : ℕ) (s : List ℕ) → ReadRefusal afi s DONE → ⊥
-  -- a body's fault is LENGTH, WIDTH or KEY
-  pub bodies : (bits type : ℕ) (body : List FieldKind) (s : List ℕ) (n : ℕ) → Faulty bits type body s n → (n ≡ LENGTH) ⊎ (n ≡ WIDTH) ⊎ (n ≡ KEY)
+  -- a body's fault is LENGTH, WIDTH, KEY, IDENT or DEEP
+  pub bodies : (bits type : ℕ) (body : List FieldKind) (s : List ℕ) (n : ℕ) → Faulty bits type body s n → BodyFault n
 
 -- the layout of an NLRI's encoding: its type, its Length, and the sizes that vary, of addresses without their length octet
 unfoldable pub layoutFor : Fields → Layout
@@ -167,6 +180,7 @@ layoutFor f =
       group = length (restricted f .group);
       originator = length (restricted f .originator);
       key = length (restricted f .key);
+      fec = length (restricted f .fec);
     }
 
 -- the layout of a single NLRI: octets that are accepted have that of the fields encoded, and any others are refused as reading refuses them
@@ -184,13 +198,29 @@ WidthFault bits f source = allowed bits (f .type) (8 * length (f .source)) ≡ f
 WidthFault bits f group = allowed bits (f .type) (8 * length (f .group)) ≡ false
 WidthFault bits f originator = isOriginatorSize (length (f .originator)) ≡ false
 WidthFault bits f key = ⊥
+WidthFault bits f fec = ⊥
 
--- why writing refuses, in the order FAMILY, TYPE, WIDTH, KEY, SPACE; only fields of the type's body are judged
+-- no address of the type's body has a wrong width
+abbrev pub WidthsFit : ℕ → Fields → Type 0
+WidthsFit bits f = (k : FieldKind) → hasField k (bodyOf (f .type)) ≡ true → WidthFault bits f k → ⊥
+
+-- the FEC of the type's body, if it has one, is one
+abbrev pub FecFits : ℕ → Fields → Type 0
+FecFits bits f = hasField fec (bodyOf (f .type)) ≡ true → FecOf bits (f .fec)
+
+-- a body of RFC 7441 of more than 255 octets
+abbrev pub TooLong : Fields → Type 0
+TooLong f = (7 < f .type) × (255 < length (encodeBody f (bodyOf (f .type))))
+
+-- why writing refuses, in the order FAMILY, TYPE, WIDTH, IDENT and DEEP, LONG, KEY, SPACE; only fields of the type's body are judged
 pub data WriteRefusal (afi : ℕ) (f : Fields) (space : ℕ) : ℕ → Type 0 where
   badFamily : afi ≢ 1 → afi ≢ 2 → WriteRefusal afi f space FAMILY
   badType : (bits : ℕ) → familyBits afi ≡ given bits → (KnownType (f .type) → ⊥) → WriteRefusal afi f space TYPE
   badWidth : (bits : ℕ) → familyBits afi ≡ given bits → KnownType (f .type) → (k : FieldKind) → hasField k (bodyOf (f .type)) ≡ true → WidthFault bits f k → WriteRefusal afi f space WIDTH
-  badKey : (bits : ℕ) → familyBits afi ≡ given bits → KnownType (f .type) → ((k : FieldKind) → hasField k (bodyOf (f .type)) ≡ true → WidthFault bits f k → ⊥)
+  badFec : (bits : ℕ) {n : ℕ} → familyBits afi ≡ given bits → KnownType (f .type) → WidthsFit bits f → hasField fec (bodyOf (f .type)) ≡ true → FirstFault 3 (Lent (rootFamily bits)) (f .fec) n
+      → WriteRefusal afi f space n
+  long : (bits : ℕ) → familyBits afi ≡ given bits → KnownType (f .type) → WidthsFit bits f → FecFits bits f → TooLong f → WriteRefusal afi f space LONG
+  badKey : (bits : ℕ) → familyBits afi ≡ given bits → KnownType (f .type) → WidthsFit bits f → FecFits bits f → (TooLong f → ⊥)
       → hasField key (bodyOf (f .type)) ≡ true → (KeyOf bits (f .type) (f .key) → ⊥) → WriteRefusal afi f space KEY
   noSpace : (bits : ℕ) → familyBits afi ≡ given bits → WellFormed bits f → space < length (encodeNlri f) → WriteRefusal afi f space SPACE
 

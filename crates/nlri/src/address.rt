@@ -3,6 +3,7 @@ ghost use mathlib.Core.Path.{_≡_};
 ghost use mathlib.Core.List.{[]};
 ghost use Prim.Native.Nat.{_/_, _≤_};
 ghost use lib.ListN.{length, take};
+ghost use Rattle.nlri.specs.Family.{rootFamily};
 ghost use Rattle.nlri.specs.Answers.{addressStruct, kindOctets};
 
 // A route distinguisher: eight octets, kept as they came.
@@ -77,6 +78,16 @@ impl AddressKind {
         AddressKind {
             bits: AddressKind::IPV6,
         }
+    }
+
+    // The address family of a root of the kind, as a FEC has it.
+    pub(crate) fn root_family(self) -> u32
+        ensures { λ r. ⌜ r ≡ rootFamily (self .bits) ⌝ }
+    {
+        if self.bits == AddressKind::IPV4 {
+            return 1;
+        }
+        2
     }
 
     // The octets of an address of the kind.

@@ -122,15 +122,12 @@ pub(crate) fn keyable_body_fault(kind: AddressKind, route_type: usize, s: &[u8])
     TYPE
 }
 
-// A body of a type above a Leaf's: a source and a group, and nothing behind them. All are judged as type 5 is, a constant, so that the
+// A body of type 5, 6 or 7: a source and a group, and nothing behind them. All are judged as type 5 is, a constant, so that the
 // judge is compiled for it.
 pub(crate) fn flow_body_fault(kind: AddressKind, route_type: usize, s: &[u8]) -> u32
-    requires { ⌜ 4 < «route_type» ⌝ }
+    requires { ⌜ (4 < «route_type») × («route_type» ≤ 7) ⌝ }
     ensures { λ r. ⌜ r ≡ bodyFault (kind .bits) «route_type» (now (s .entry)) ⌝ }
 {
-    if RouteType::SOURCE_TREE_JOIN < route_type {
-        return TYPE;
-    }
     flow_fault(
         kind,
         RouteType::SOURCE_ACTIVE,

@@ -7,7 +7,7 @@ ghost use Rattle.octets.specs.Octets.{part};
 ghost use Rattle.octets.specs.Outcome.{refused};
 ghost use Rattle.nlri.specs.Reading.{readNlri};
 ghost use Rattle.nlri.specs.Answers.{addressStruct, distinguisherStruct, nlriStruct, nlriAnswer};
-ghost use Rattle.nlri.specs.Inner.{withKey, withSourceAs, sourceStart, distinguisherAt, sourceAsAt, fieldsAt, keyAt, LayoutWithin};
+ghost use Rattle.nlri.specs.Inner.{withKey, withFec, withSourceAs, sourceStart, distinguisherAt, sourceAsAt, fieldsAt, keyAt, fecStart, fecAt, LayoutWithin};
 use crate::address::Address;
 use crate::address::AddressKind;
 use crate::address::RouteDistinguisher;
@@ -30,12 +30,13 @@ pub struct Nlri {
     pub route_type: u8,
 }
 
-// What reading a single NLRI answers: the number, the fields, and where a Leaf's key stands.
+// What reading a single NLRI answers: the number, the fields, and where a Leaf's key and an mLDP customer's FEC stand.
 #[repr(C)]
 pub struct NlriReading {
     pub number: u32,
     pub nlri: Nlri,
     pub key: Span,
+    pub fec: Span,
 }
 
 // The address of `size` octets that begins at `start`; no octets are the wildcard.
@@ -52,11 +53,24 @@ fn address_at(s: &[u8], start: usize, size: usize) -> Address
     AddressKind::ipv6().address(octets::parts::between(s, start, size))
 }
 
-// A Leaf has a key, straight after the header, and no route distinguisher.
+// A Leaf, of either kind, has a key, straight after the header, and no route distinguisher.
 pub(crate) fn has_key(route_type: usize) -> bool
     ensures { λ r. ⌜ r ≡ withKey «route_type» ⌝ }
 {
-    route_type == RouteType::LEAF
+    if route_type == RouteType::LEAF {
+        return true;
+    }
+    route_type == RouteType::MLDP_LEAF
+}
+
+// Types 0x43 and 0x47 have a FEC.
+pub(crate) fn has_fec(route_type: usize) -> bool
+    ensures { λ r. ⌜ r ≡ withFec «route_type» ⌝ }
+{
+    if route_type == RouteType::MLDP_S_PMSI {
+        return true;
+    }
+    route_type == RouteType::MLDP_SOURCE_TREE_JOIN
 }
 
 // The route distinguisher, which stands behind the header; zeros where the type has a key instead.
@@ -85,7 +99,14 @@ pub(crate) fn source_start(route_type: usize) -> usize
     HEADER + RouteDistinguisher::OCTETS + 1
 }
 
-// Types 2, 6 and 7 have a source AS, behind the route distinguisher.
+// Where a FEC starts: where the source's length octet stands in other types.
+pub(crate) fn fec_start(route_type: usize) -> usize
+    ensures { λ r. ⌜ r ≡ fecStart «route_type» ⌝ }
+{
+    source_start(route_type) - 1
+}
+
+// Types 2, 6, 7 and 0x47 have a source AS, behind the route distinguisher.
 pub(crate) fn has_source_as(route_type: usize) -> bool
     ensures { λ r. ⌜ r ≡ withSourceAs «route_type» ⌝ }
 {
@@ -95,7 +116,10 @@ pub(crate) fn has_source_as(route_type: usize) -> bool
     if route_type == RouteType::SHARED_TREE_JOIN {
         return true;
     }
-    route_type == RouteType::SOURCE_TREE_JOIN
+    if route_type == RouteType::SOURCE_TREE_JOIN {
+        return true;
+    }
+    route_type == RouteType::MLDP_SOURCE_TREE_JOIN
 }
 
 // The source AS, or 0 where the type has none.
@@ -145,6 +169,7 @@ fn refusal(number: u32) -> NlriReading
             route_type: 0,
         },
         key: Span { start: 0, size: 0 },
+        fec: Span { start: 0, size: 0 },
     }
 }
 
@@ -164,6 +189,22 @@ fn key_in(layout: Layout) -> Span
     }
 }
 
+// A FEC stands behind the route distinguisher or the source AS.
+fn fec_in(layout: Layout) -> Span
+    ensures { λ r. ⌜ r ≡ fecAt layout ⌝ }
+{
+    if has_fec(layout.route_type) {
+        return Span {
+            start: fec_start(layout.route_type),
+            size: layout.fec,
+        };
+    }
+    Span {
+        start: 0,
+        size: layout.fec,
+    }
+}
+
 // Reads a single NLRI: FAMILY, SHORT, TYPE, then the body left to right, then LENGTH for octets after it.
 pub fn read_nlri(afi: u16, s: &[u8]) -> NlriReading
     ensures { λ r. ⌜ r ≡ nlriAnswer (readNlri afi (now (s .entry))) ⌝ }
@@ -176,6 +217,7 @@ pub fn read_nlri(afi: u16, s: &[u8]) -> NlriReading
                 number: DONE,
                 nlri,
                 key: key_in(layout),
+                fec: fec_in(layout),
             }
         }
     }

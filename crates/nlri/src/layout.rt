@@ -12,6 +12,7 @@ pub struct Layout {
     pub group: usize,
     pub originator: usize,
     pub key: usize,
+    pub fec: usize,
 }
 
 impl Layout {
@@ -27,6 +28,7 @@ impl Layout {
             group: 0,
             originator: 0,
             key: 0,
+            fec: 0,
         }
     }
 }

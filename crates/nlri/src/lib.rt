@@ -1,10 +1,12 @@
-// MCAST-VPN NLRI (RFC 6514, section 4; RFC 6625): read and written.
+// MCAST-VPN NLRI (RFC 6514, section 4; RFC 6625; RFC 7441): read and written.
 mod address;
 mod body;
 mod family;
 mod fields;
 mod group;
 mod layout;
+mod mldp;
+mod mldp_write;
 mod read;
 mod route;
 mod write;

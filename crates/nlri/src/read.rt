@@ -1,6 +1,6 @@
 // Reading an NLRI: header, body, and the key of a Leaf are judged by a number alone, and an accepted NLRI is laid out by its octets.
 ghost use mathlib.Core.Path.{_≡_};
-ghost use Prim.Native.Nat.{_+_, _≤_};
+ghost use Prim.Native.Nat.{_+_, _≤_, _<_};
 ghost use lib.ListN.{length, getD};
 ghost use Rattle.octets.specs.Outcome.{numberOf};
 ghost use Rattle.nlri.specs.Reading.{isSPmsi, keyField};
@@ -14,6 +14,7 @@ use crate::family::Family;
 use crate::fields;
 use crate::layout::Layout;
 use crate::layout::Reading;
+use crate::mldp;
 use crate::route::RouteType;
 use octets::number::DONE;
 use octets::number::KEY;
@@ -30,7 +31,7 @@ pub(crate) enum Header {
 }
 
 // Type and Length of the NLRI at the front of `s`. SHORT.
-fn read_header(s: &[u8]) -> Header
+pub(crate) fn read_header(s: &[u8]) -> Header
     ensures { λ r. ⌜ headerOutcome r ≡ headerAt (now (s .entry)) ⌝ }
 {
     if s.len() < HEADER {
@@ -86,9 +87,20 @@ fn body_fault(kind: AddressKind, route_type: usize, s: &[u8]) -> u32
         return keyed_fault(kind, false, s);
     }
     if RouteType::LEAF < route_type {
-        return body::flow_body_fault(kind, route_type, s);
+        return later_body_fault(kind, route_type, s);
     }
     body::keyable_body_fault(kind, route_type, s)
+}
+
+// A body of a type above a Leaf's.
+fn later_body_fault(kind: AddressKind, route_type: usize, s: &[u8]) -> u32
+    requires { ⌜ 4 < «route_type» ⌝ }
+    ensures { λ r. ⌜ r ≡ bodyFault (kind .bits) «route_type» (now (s .entry)) ⌝ }
+{
+    if RouteType::SOURCE_TREE_JOIN < route_type {
+        return mldp::body_fault(kind, route_type, s);
+    }
+    body::flow_body_fault(kind, route_type, s)
 }
 
 // The number of the NLRI at the front of `s`, under the family of a kind of addresses.
@@ -119,6 +131,7 @@ fn flow_layout(route_type: usize, at: usize, s: &[u8]) -> Layout
         group,
         originator: length - at - source - group,
         key: 0,
+        fec: 0,
     }
 }
 
@@ -136,13 +149,14 @@ fn leaf_layout(route_type: usize, s: &[u8]) -> Layout
         group: 0,
         originator: length - key,
         key,
+        fec: 0,
     }
 }
 
-// The layout of an NLRI without source, group and key.
+// The layout of an NLRI without source, group, key and FEC.
 fn plain_layout(route_type: usize, originator: usize, s: &[u8]) -> Layout
     requires { ⌜ 2 ≤ length (now s) ⌝ }
-    ensures { λ r. ⌜ r ≡ layoutWith «route_type» (getD (now (s .entry)) 1 0) 0 0 originator 0 ⌝ }
+    ensures { λ r. ⌜ r ≡ layoutWith «route_type» (getD (now (s .entry)) 1 0) 0 0 originator 0 0 ⌝ }
 {
     let length = s[1] as usize;
     Layout {
@@ -152,6 +166,7 @@ fn plain_layout(route_type: usize, originator: usize, s: &[u8]) -> Layout
         group: 0,
         originator,
         key: 0,
+        fec: 0,
     }
 }
 
@@ -174,6 +189,9 @@ fn layout_in(s: &[u8]) -> Layout
     }
     if fields::has_key(route_type) {
         return leaf_layout(route_type, s);
+    }
+    if fields::has_fec(route_type) {
+        return mldp::layout(route_type, s);
     }
     flow_layout(route_type, fields::source_start(route_type) - 1, s)
 }

@@ -1,4 +1,4 @@
-// Route types (RFC 6514, section 4): their code points, named once.
+// Route types (RFC 6514, section 4; RFC 7441, section 3): their code points, named once.
 pub struct RouteType {}
 
 impl RouteType {
@@ -15,4 +15,10 @@ impl RouteType {
     pub const SHARED_TREE_JOIN: usize = 6;
 
     pub const SOURCE_TREE_JOIN: usize = 7;
+
+    pub const MLDP_S_PMSI: usize = 0x43;
+
+    pub const MLDP_LEAF: usize = 0x44;
+
+    pub const MLDP_SOURCE_TREE_JOIN: usize = 0x47;
 }

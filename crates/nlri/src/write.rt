@@ -1,7 +1,8 @@
-// Writing an NLRI: FAMILY, TYPE, WIDTH, KEY, SPACE. Fields that the route type lacks are not looked at.
+// Writing an NLRI: FAMILY, TYPE, WIDTH, IDENT and DEEP, LONG, KEY, SPACE; here types 1 to 7, which have no FEC and are never long. Fields that
+// the route type lacks are not looked at.
 ghost use mathlib.Core.Path.{_≡_};
 ghost use mathlib.Core.Logic.{_⊎_};
-ghost use mathlib.Core.List.{[], _∷_};
+ghost use mathlib.Core.List.{[], _∷_, _++_};
 ghost use Prim.Native.Nat.{_+_, _≤_, _<_};
 ghost use lib.ListN.{length};
 ghost use Rattle.octets.specs.Outcome.{given, numberOf};
@@ -9,7 +10,8 @@ ghost use Rattle.octets.specs.Outputs.{Put, Wrote};
 ghost use Rattle.nlri.specs.Fields.{encodeAddress};
 ghost use Rattle.nlri.specs.Writing.{isKey, writeNlri};
 ghost use Rattle.nlri.specs.Answers.{addressOctets, structFields};
-ghost use Rattle.nlri.specs.InnerWriting.{hasFlow, hasOriginator, flowFits, originatorFits, leafFits, fitting, fixedSize, flowSize, originatorLength, sizeOf, sourceAsOctets, fixedOctets, flowOctets, originatorOctets, bodyOctets, nlriOctets, AddressSize, AddressesSized, Putting, writeUnder};
+ghost use Rattle.nlri.specs.InnerWriting.{hasFlow, hasOriginator, flowFits, originatorFits, leafFits, fitting, fixedSize, flowSize, originatorLength, sizeOf, sourceAsOctets, fixedOctets, flowOctets, originatorOctets, bodyOctets, nlriOctets, AddressSize, AddressesSized, Putting, writtenToSeven};
+ghost use Rattle.nlri.specs.InnerMldp.{writeUnder};
 use crate::address::Address;
 use crate::address::AddressKind;
 use crate::address::RouteDistinguisher;
@@ -18,6 +20,7 @@ use crate::family;
 use crate::family::Family;
 use crate::fields;
 use crate::fields::Nlri;
+use crate::mldp_write;
 use crate::read;
 use crate::read::HEADER;
 use crate::route::RouteType;
@@ -167,7 +170,7 @@ fn size_of(nlri: Nlri, key: usize) -> usize
 }
 
 // The octets of an address, from `at` on: copies of a known size are single moves.
-fn put_octets(address: Address, output: &mut [u8], at: usize) -> usize
+pub(crate) fn put_octets(address: Address, output: &mut [u8], at: usize) -> usize
     requires { ⌜ AddressSize (address .size) × (at + length (addressOctets address) ≤ length (now output)) ⌝ }
     ensures { λ r. ⌜ Put at (addressOctets address) (now (output .entry)) r (now (output .exit)) ⌝ }
 {
@@ -193,7 +196,7 @@ fn put_address(address: Address, output: &mut [u8], at: usize) -> usize
 }
 
 // Route Type and Length at the front of the output.
-fn put_header(route_type: u8, size: u8, output: &mut [u8]) -> usize
+pub(crate) fn put_header(route_type: u8, size: u8, output: &mut [u8]) -> usize
     requires { ⌜ 2 ≤ length (now output) ⌝ }
     ensures { λ r. ⌜ Put 0 («route_type» ∷ size ∷ []) (now (output .entry)) r (now (output .exit)) ⌝ }
 {
@@ -212,6 +215,17 @@ fn put_source_as(nlri: Nlri, output: &mut [u8], at: usize) -> usize
     at
 }
 
+// The route distinguisher, with a source AS where the type has one.
+pub(crate) fn put_distinguisher(nlri: Nlri, output: &mut [u8], at: usize) -> usize
+    requires { ⌜ at + length (nlri .distinguisher .octets ++ sourceAsOctets nlri) ≤ length (now output) ⌝ }
+    ensures { λ r. ⌜ Put at (nlri .distinguisher .octets ++ sourceAsOctets nlri) (now (output .entry)) r (now (output .exit)) ⌝ }
+{
+    let distinguisher = nlri.distinguisher;
+    let octets = distinguisher.octets;
+    let next = octets::parts::place(&octets, output, at);
+    put_source_as(nlri, output, next)
+}
+
 // What stands before source and group: the key, or the route distinguisher with a source AS.
 fn put_fixed(nlri: Nlri, key: &[u8], output: &mut [u8], at: usize) -> usize
     requires { ⌜ at + length (fixedOctets nlri (now key)) ≤ length (now output) ⌝ }
@@ -220,10 +234,7 @@ fn put_fixed(nlri: Nlri, key: &[u8], output: &mut [u8], at: usize) -> usize
     if nlri.route_type as usize == RouteType::LEAF {
         return octets::parts::place(key, output, at);
     }
-    let distinguisher = nlri.distinguisher;
-    let octets = distinguisher.octets;
-    let next = octets::parts::place(&octets, output, at);
-    put_source_as(nlri, output, next)
+    put_distinguisher(nlri, output, at)
 }
 
 // Source and group from `at` on, where the type has them.
@@ -272,10 +283,10 @@ fn put(nlri: Nlri, key: &[u8], size: usize, output: &mut [u8]) -> Written
     Written { number: DONE, size }
 }
 
-// Writing under the family of a kind of addresses. TYPE, WIDTH, KEY, SPACE.
-fn write_under(kind: AddressKind, nlri: Nlri, key: &[u8], output: &mut [u8]) -> Written
+// Writing types 1 to 7 under the family of a kind of addresses. TYPE, WIDTH, KEY, SPACE.
+fn write_to_seven(kind: AddressKind, nlri: Nlri, key: &[u8], output: &mut [u8]) -> Written
     requires { ⌜ (kind .bits ≡ 32) ⊎ (kind .bits ≡ 128) ⌝ }
-    ensures { λ r. ⌜ Wrote (writeUnder (kind .bits) nlri (now (key .entry)) (length (now (output .entry)))) (now (output .entry)) r (now (output .exit)) ⌝ }
+    ensures { λ r. ⌜ Wrote (writtenToSeven (kind .bits) nlri (now (key .entry)) (length (now (output .entry)))) (now (output .entry)) r (now (output .exit)) ⌝ }
 {
     let fault = judge(kind, nlri, key);
     if fault != DONE {
@@ -288,12 +299,24 @@ fn write_under(kind: AddressKind, nlri: Nlri, key: &[u8], output: &mut [u8]) -> 
     put(nlri, key, size, output)
 }
 
-// Writes an NLRI at the front of the output; `key` is a Leaf's key. FAMILY, TYPE, WIDTH, KEY, SPACE.
-pub fn write_nlri(afi: u16, nlri: Nlri, key: &[u8], output: &mut [u8]) -> Written
-    ensures { λ r. ⌜ Wrote (writeNlri afi (structFields nlri (now (key .entry))) (length (now (output .entry)))) (now (output .entry)) r (now (output .exit)) ⌝ }
+// Writing under the family of a kind of addresses: the types above 7 apart, so that the others are compiled as they were.
+fn write_under(kind: AddressKind, nlri: Nlri, key: &[u8], fec: &[u8], output: &mut [u8]) -> Written
+    requires { ⌜ (kind .bits ≡ 32) ⊎ (kind .bits ≡ 128) ⌝ }
+    ensures { λ r. ⌜ Wrote (writeUnder (kind .bits) nlri (now (key .entry)) (now (fec .entry)) (length (now (output .entry)))) (now (output .entry)) r (now (output .exit)) ⌝ }
+{
+    if RouteType::SOURCE_TREE_JOIN < nlri.route_type as usize {
+        return mldp_write::write(kind, nlri, key, fec, output);
+    }
+    write_to_seven(kind, nlri, key, output)
+}
+
+// Writes an NLRI at the front of the output; `key` is a Leaf's key, `fec` an mLDP customer's FEC. FAMILY, TYPE, WIDTH, IDENT and DEEP, LONG, KEY,
+// SPACE.
+pub fn write_nlri(afi: u16, nlri: Nlri, key: &[u8], fec: &[u8], output: &mut [u8]) -> Written
+    ensures { λ r. ⌜ Wrote (writeNlri afi (structFields nlri (now (key .entry)) (now (fec .entry))) (length (now (output .entry)))) (now (output .entry)) r (now (output .exit)) ⌝ }
 {
     match family::family_of(afi) {
         Family::Unknown(number) => Written::refused(number),
-        Family::Known(kind) => write_under(kind, nlri, key, output),
+        Family::Known(kind) => write_under(kind, nlri, key, fec, output),
     }
 }

@@ -9,7 +9,7 @@ DONE = 0
 abbrev pub SHORT : ℕ
 SHORT = 1
 
--- route type not 1 to 7
+-- route type not 1 to 7, 0x43, 0x44 or 0x47
 abbrev pub TYPE : ℕ
 TYPE = 2
 
@@ -21,7 +21,7 @@ LENGTH = 3
 abbrev pub WIDTH : ℕ
 WIDTH = 4
 
--- a Leaf's key is not a well-formed NLRI of type 1, 2 or 3
+-- a Leaf's key is not a well-formed NLRI of type 1, 2 or 3; in type 0x44: of type 0x43
 abbrev pub KEY : ℕ
 KEY = 5
 
@@ -29,11 +29,11 @@ KEY = 5
 abbrev pub TUNNEL : ℕ
 TUNNEL = 6
 
--- identifier not of that type's form
+-- identifier not of that tunnel type's form; in an NLRI a bad FEC element
 abbrev pub IDENT : ℕ
 IDENT = 7
 
--- attribute over 64 octets, run over 4,096, or list of more items than the call takes
+-- attribute over 64 octets, run over 4,096, list of more items than the call takes; at writing a body for mLDP over 255
 abbrev pub LONG : ℕ
 LONG = 8
 
@@ -69,6 +69,6 @@ FLOW = 15
 abbrev pub SPACE : ℕ
 SPACE = 16
 
--- FECs that hold one another are more than four: the fourth from outside has opaque type 7 or 8
+-- the fourth FEC element from outside has an opaque value of type 7 or 8
 abbrev pub DEEP : ℕ
 DEEP = 17

@@ -1,4 +1,4 @@
-// The numbers a call gives back (document 01, "The numbers a call gives back").
+// The numbers a call gives back (document 01, "The numbers a call gives back"; W-207).
 pub const DONE: u32 = 0;
 
 pub const SHORT: u32 = 1;
@@ -32,5 +32,5 @@ pub const ABSENT: u32 = 14;
 pub const FLOW: u32 = 15;
 
 pub const SPACE: u32 = 16;
-// the fourth FEC from outside holds another (request W-207)
+
 pub const DEEP: u32 = 17;

@@ -19,6 +19,7 @@ use Rattle.nlri.specs.Layouts.{layoutOf, layoutAt}
 use Rattle.nlri.specs.Statements.{FrontRefusal, short, badType, badBody}
 use Rattle.nlri.proofs.Statements.Layouts.{layout-refused}
 use Rattle.nlri.proofs.Statements.ReadRefusals.{readRefusals}
+use Rattle.runs.proofs.Turns.{bodyFault-past}
 use Rattle.pieces.specs.Feeding.{sizeIn}
 
 -- the size that octets tell of the NLRI at their front
@@ -94,5 +95,4 @@ whole-not-short bits s n all (short why) e =
     let two : 2 ≤ length s = omega (arith, size-least s) in
     ⊎-elim (λ few. omega arith) (λ few. omega (arith, size-known s two)) why
 whole-not-short bits s n all (badType enough type) e = omega arith
-whole-not-short bits s n all (badBody enough type fault) e =
-    ⊎-elim (λ a. omega arith) (λ b. ⊎-elim (λ c. omega arith) (λ d. omega arith) b) (readRefusals .bodies bits _ _ _ n fault)
+whole-not-short bits s n all (badBody enough type fault) e = omega (arith, bodyFault-past n (readRefusals .bodies bits _ _ _ n fault))

@@ -52,7 +52,7 @@ someSource = 192 ∷ 0 ∷ 2 ∷ 1 ∷ []
 
 -- a route for every flow of the router
 abbrev pub everyFlow : Fields
-everyFlow = record { type = 3; distinguisher = someRd; sourceAs = 0; source = []; group = []; originator = someRouter; key = [] }
+everyFlow = record { type = 3; distinguisher = someRd; sourceAs = 0; source = []; group = []; originator = someRouter; key = []; fec = [] }
 
 -- an S-PMSI NLRI of the router: its Length, and a source and a group, each behind its length octet
 abbrev pub someSPmsi : (size : ℕ) (source group : List ℕ) → List ℕ

@@ -21,7 +21,8 @@ use Rattle.octets.proofs.Lists.{empty-list, take-two, length-part}
 use Rattle.nlri.specs.Family.{familyBits}
 use Rattle.nlri.specs.Fields.{encodeNlri}
 use Rattle.nlri.specs.Reading.{Laid, laidAt}
-use Rattle.nlri.specs.Statements.{FrontRefusal, short, badType, badBody, KnownType, layoutFor}
+use Rattle.nlri.specs.Bodies.{KnownType}
+use Rattle.nlri.specs.Statements.{FrontRefusal, short, badType, badBody, layoutFor}
 use Rattle.nlri.proofs.Statements.Acceptance.{front-sound}
 use Rattle.nlri.proofs.Statements.ReadRefusals.{readRefusals}
 use Rattle.nlri.proofs.Statements.Layouts.{length-encoded, layout-refused}
@@ -36,7 +37,7 @@ use Rattle.runs.proofs.Steps.{Stops, stops-refusedAt}
 use Rattle.runs.proofs.Nlris.{walkFrom-stops, nlrisFrom-stops}
 use Rattle.runs.proofs.StepRule.{stepRule}
 use Rattle.runs.proofs.WalkRule.{stops-follow}
-use Rattle.runs.proofs.Turns.{not-skipped, refused-whole, turn-read, turn-reads, turn-skips, turn-stops, walkByFrom-read, walkByFrom-skipped, walkByFrom-stopped, nlrisByFrom-read, nlrisByFrom-skipped, nlrisByFrom-stopped}
+use Rattle.runs.proofs.Turns.{bodyFault-past, not-skipped, refused-whole, turn-read, turn-reads, turn-skips, turn-stops, walkByFrom-read, walkByFrom-skipped, walkByFrom-stopped, nlrisByFrom-read, nlrisByFrom-skipped, nlrisByFrom-stopped}
 use Rattle.runs.proofs.Going.{walk-first}
 
 -- the walk as it was, where that walk meets no refusal that the mode skips
@@ -187,7 +188,7 @@ module _ (bits at : ℕ) (s : List ℕ) where
         tested (eqb (length s) 0) (λ t. empty-split (eqb-true _ _ t)) (λ f. end-split n (refusal (omega (arith, eqb-false (length s) 0 f)) (short why)) (λ z. omega arith))
     refused-split n e (badType enough strange) = unknown-split (refused-whole bits s n (layout-refused bits s n e) (λ z. omega arith)) strange
     refused-split n e (badBody enough typed fault) =
-        let other : n ≢ TYPE = λ z. ⊎-elim (λ a. omega arith) (⊎-elim (λ b. omega arith) (λ c. omega arith)) (readRefusals .bodies bits _ _ _ n fault) in
+        let other : n ≢ TYPE = λ z. omega (arith, bodyFault-past n (readRefusals .bodies bits _ _ _ n fault)) in
         tested (eqb (length s) 0) (λ t. empty-split (eqb-true _ _ t)) (λ f. end-split n (refusal (omega (arith, eqb-false (length s) 0 f)) (badBody enough typed fault)) other)
 
 module _ (afi bits : ℕ) (ofFamily : familyBits afi ≡ given bits) where

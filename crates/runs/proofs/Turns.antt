@@ -3,7 +3,7 @@ use mathlib.Core.Path.{_≡_, refl, sym, _∙_, ap, ap₂}
 use mathlib.Core.Bool.{true, false}
 use mathlib.Core.List.{List, [], _∷_}
 use mathlib.Core.Logic.{⊎-elim}
-use Prim.Native.Nat.{ℕ, suc, _+_, _-_, _≤_}
+use Prim.Native.Nat.{ℕ, suc, _+_, _-_, _≤_, _<_}
 use native.Mathlib.Omega.{arith}
 use borrow.Author.Tests.{eqb-true, ltb-false}
 use lib.ListN.{length, getD, drop, length-drop}
@@ -16,6 +16,7 @@ use Rattle.octets.proofs.Outcome.{never, stopped, refused-same}
 use Rattle.nlri.specs.declared.layout.Layout.{Layout}
 use Rattle.nlri.specs.Reading.{Laid, laidWith, laidAt}
 use Rattle.nlri.specs.Layouts.{layoutAt}
+use Rattle.nlri.specs.Statements.{BodyFault}
 use Rattle.nlri.proofs.Statements.Faults.{family-refused}
 use Rattle.runs.specs.declared.stepping.Cursor.{Cursor}
 use Rattle.runs.specs.declared.turning.Turn.the-variants.{Read, Skipped, Stopped}
@@ -30,6 +31,10 @@ skipped-number mode number h = let b = both-held _ _ h in (eqb-true _ _ (b .0), 
 
 pub not-skipped : (mode number : ℕ) → (mode ≡ SKIP → number ≡ TYPE → ⊥) → isSkipped mode number ≡ false
 not-skipped mode number h = is-false _ (λ t. let s = skipped-number mode number t in h (s .0) (s .1))
+
+-- the numbers of bodies come behind SHORT and TYPE
+pub bodyFault-past : (n : ℕ) → BodyFault n → TYPE < n
+bodyFault-past n = ⊎-elim (λ a. omega arith) (⊎-elim (λ b. omega arith) (⊎-elim (λ c. omega arith) (⊎-elim (λ d. omega arith) (λ g. omega arith))))
 
 -- an NLRI refused otherwise than by SHORT is whole
 pub refused-whole : (bits : ℕ) (s : List ℕ) (n : ℕ) → layoutAt bits s ≡ refused n → (n ≡ SHORT → ⊥) → 2 + getD s 1 0 ≤ length s

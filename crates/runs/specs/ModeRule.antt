@@ -9,7 +9,7 @@ use Rattle.octets.specs.Outcome.{given}
 use Rattle.octets.specs.Octets.{AllOctets}
 use Rattle.nlri.specs.Family.{familyBits}
 use Rattle.nlri.specs.Fields.{Fields, encodeNlri, WellFormed}
-use Rattle.nlri.specs.Statements.{KnownType}
+use Rattle.nlri.specs.Bodies.{KnownType}
 use Rattle.runs.specs.Walking.{walkedWith, walkedTo, walkOf, NlriRead, nlrisOf}
 use Rattle.runs.specs.Statements.{RunEnd, StepRefusal}
 use Rattle.runs.specs.Modes.{SKIP, walkBy, nlrisBy}

@@ -48,7 +48,7 @@ pub record StepRule : Type 0 where
   pub decided : (afi : ℕ) (run : List ℕ) (at : ℕ) → AllOctets run → ((f : Fields) × EncodedAt afi run at f) ⊎ EndAt afi run at ⊎ ((n : ℕ) × StepRefusal afi run at n)
   -- no refusal is DONE
   pub done : (afi : ℕ) (run : List ℕ) (at : ℕ) → StepRefusal afi run at DONE → ⊥
-  -- an NLRI read has a route type of 1 to 7, where a step that reads none has 0
+  -- an NLRI read has a route type that there is, where a step that reads none has 0
   pub typed : (afi : ℕ) (run : List ℕ) (at : ℕ) → stepFrom afi run at .read ≡ true → KnownType (stepFrom afi run at .layout .«route_type»)
   -- a step that reads moves the cursor just past the NLRI, within the run
   pub moves : (afi : ℕ) (run : List ℕ) (at : ℕ) → stepFrom afi run at .read ≡ true

@@ -34,7 +34,7 @@ fields-standing s e h =
     let next : 11 + sourceSize s + 1 ≡ 12 + sourceSize s = omega arith in
     let start : length s - (length s - originatorStart s) ≡ originatorStart s = omega arith in
     fields-same refl refl refl refl (ap (λ (k : ℕ). part s k (groupSize s)) next)
-    (ap (λ (o : ℕ). part s (length s - o) o) e ∙ ap (λ (k : ℕ). part s k (length s - originatorStart s)) start ∙ take-all (length s - originatorStart s) (drop (originatorStart s) s) (rw length-drop (omega arith))) refl
+    (ap (λ (o : ℕ). part s (length s - o) o) e ∙ ap (λ (k : ℕ). part s k (length s - originatorStart s)) start ∙ take-all (length s - originatorStart s) (drop (originatorStart s) s) (rw length-drop (omega arith))) refl refl
 
 module _ (afi : ℕ) (s : List ℕ) (f : Fields) (e : readSPmsi afi s ≡ given f) where
   third : ReadAt s f × (f .type ≡ 3)

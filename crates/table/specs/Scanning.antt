@@ -47,6 +47,7 @@ standing s =
       group = part s (12 + sourceSize s) (groupSize s);
       originator = drop (originatorStart s) s;
       key = [];
+      fec = [];
     }
 
 -- they lie within the NLRI, and the originator has four octets or more

@@ -24,7 +24,7 @@ mod unlearnt;
 use conformance::{
     cases::{
         near,
-        samples::{attributes, nlris, Sample, GOOD_AFIS},
+        samples::{attributes, mldp, nlris, Sample, GOOD_AFIS},
     },
     ffi::{raw, Stepped},
     options::SEED,
@@ -47,7 +47,7 @@ extern "C" {
 }
 
 /// Octets of a writer's output, more than any encoding.
-const ROOM: usize = 128;
+const ROOM: usize = 256;
 
 /// Octets of the runs, the most that a run may have.
 const RUN: usize = 4_096;
@@ -85,7 +85,12 @@ fn all_rows(task: Task) -> ExitCode {
         walk(&mut report, &format!("walk of {RUN} octets with unknown types, afi {afi}"), afi, &run_with_unknown);
         pieces::rows(&mut report, afi, &run);
         for sample in one_of_each_type(afi) {
-            nlri(&mut report, &sample);
+            nlri(&mut report, &sample, "");
+        }
+        for depth in [1, 4] {
+            for sample in longest_of(mldp(afi, depth), [0x43, 0x44, 0x47]) {
+                nlri(&mut report, &sample, &format!("depth {depth}, "));
+            }
         }
     }
     for attribute in one_of_each_form() {
@@ -139,10 +144,11 @@ fn steps(call: raw::Step, afi: u16, run: &[u8]) -> Stepped {
     }
 }
 
-/// Well-formed NLRIs of mixed types that fill the run exactly, so that the walk reaches its end.
+/// Well-formed NLRIs of types 1 to 7 that fill the run exactly, so that the walk reaches its end.
 fn whole_run(random: &mut Random, afi: u16) -> Vec<u8> {
+    let samples: Vec<Sample> = nlris(afi).into_iter().filter(|sample| sample.nlri.route_type <= 7).collect();
     loop {
-        let run = near::run_of(random, afi, RUN);
+        let run = near::run_among(random, &samples, RUN);
         if unsafe { plain::walk(afi, SKIP, run.as_ptr(), run.len()) }.number == 0 {
             return run;
         }
@@ -163,10 +169,10 @@ fn unknown_among(random: &mut Random, afi: u16) -> Vec<u8> {
     run
 }
 
-fn nlri(report: &mut Report, sample: &Sample) {
-    let Sample { afi, octets, nlri, key } = sample;
-    let (afi, nlri, octets, key) = (*afi, *nlri, &octets[..], &key[..]);
-    let name = format!("afi {afi}, type {}, {} octets", nlri.route_type, octets.len());
+fn nlri(report: &mut Report, sample: &Sample, depth: &str) {
+    let Sample { afi, octets, nlri, key, fec } = sample;
+    let (afi, nlri, octets, key, fec) = (*afi, *nlri, &octets[..], &key[..], &fec[..]);
+    let name = format!("afi {afi}, type {}, {depth}{} octets", nlri.route_type, octets.len());
     let calls = black_box([raw::mvpn_nlri_read as raw::NlriRead, plain::nlri_read]);
     report.counted(
         &format!("nlri_read {name}"),
@@ -175,8 +181,12 @@ fn nlri(report: &mut Report, sample: &Sample) {
     let mut buffer = [0u8; ROOM];
     let output = buffer.as_mut_ptr();
     let calls = black_box([raw::mvpn_nlri_write as raw::NlriWrite, plain::nlri_write]);
-    let writes = calls
-        .map(|call| move || unsafe { call(afi, nlri, key.as_ptr(), black_box(key.len()), black_box(output), ROOM) });
+    let writes = calls.map(|call| {
+        move || unsafe {
+            let (key, key_size) = (key.as_ptr(), black_box(key.len()));
+            call(afi, nlri, key, key_size, fec.as_ptr(), black_box(fec.len()), black_box(output), ROOM)
+        }
+    });
     report.counted(&format!("nlri_write {name}"), writes);
     report.check_output(&writes, output, ROOM, octets, &name);
 }
@@ -214,13 +224,18 @@ fn groups(report: &mut Report) {
     }
 }
 
-/// The longest sample of each route type.
+/// The longest sample of each route type without a FEC element.
 fn one_of_each_type(afi: u16) -> Vec<Sample> {
+    longest_of(nlris(afi), 1..=7)
+}
+
+/// The longest of these samples of each route type.
+fn longest_of(samples: Vec<Sample>, types: impl IntoIterator<Item = u8>) -> Vec<Sample> {
     let longest = |route_type| {
-        let samples = nlris(afi).into_iter().filter(|sample| sample.nlri.route_type == route_type);
-        samples.max_by_key(|sample| sample.octets.len())
+        let samples = samples.iter().filter(|sample| sample.nlri.route_type == route_type);
+        samples.max_by_key(|sample| sample.octets.len()).cloned()
     };
-    (1..=7).filter_map(longest).collect()
+    types.into_iter().filter_map(longest).collect()
 }
 
 /// The first and the last sample of each tunnel type: its shortest and longest identifier.

@@ -1,6 +1,6 @@
 -- A field is read exactly where it stands encoded and well-formed, for every judge of keys.
 use mathlib.Core.Path.{_≡_, refl, sym, _∙_, ap, subst}
-use mathlib.Core.Bool.{true}
+use mathlib.Core.Bool.{true, false}
 use mathlib.Core.List.{List, [], _∷_, _++_, append-nil}
 use Prim.Native.Nat.{ℕ, suc, _+_, _*_, _/_, _-_, _≤_, _<_}
 use native.Mathlib.Omega.{arith}
@@ -10,15 +10,17 @@ use lib.Seq.{length-take-le, getD-take}
 use Rattle.octets.specs.Numbers.{KEY}
 use Rattle.octets.specs.Outcome.{Outcome, given, refused}
 use Rattle.octets.specs.Octets.{AllOctets, one, numberIn, bigEndian}
-use Rattle.octets.proofs.Choice.{pick-true, pick-false}
+use Rattle.octets.proofs.Choice.{pick-true, pick-false, opposite}
 use Rattle.octets.proofs.AllOctets.{octets-take, octets-drop, number-fits}
 use Rattle.octets.proofs.Lists.{front-rest}
 use Rattle.octets.proofs.NetworkOrder.{length-bigEndian, octets-bigEndian, big-endian-of-number}
+use Rattle.fec_elements.proofs.Nesting.{size-read}
 use Rattle.nlri.specs.Family.{allowed}
-use Rattle.nlri.specs.Bodies.{FieldKind, distinguisher, sourceAs, source, group, originator, key, sameKind, codeOf}
-use Rattle.nlri.specs.Fields.{Fields, encodeAddress, encodeField, WellFormedField}
+use Rattle.nlri.specs.Bodies.{FieldKind, distinguisher, sourceAs, source, group, originator, key, fec, sameKind, codeOf}
+use Rattle.nlri.specs.Fields.{Fields, encodeAddress, encodeField, FecOf, WellFormedField}
 use Rattle.nlri.specs.Reading.{fixedField, addressEnd, addressField, originatorField, fieldSize}
 use Rattle.nlri.proofs.Definitions.Table.{most}
+use Rattle.nlri.proofs.Definitions.Fecs.{fec-sound, fec-complete, octets-fec}
 use Rattle.nlri.proofs.Definitions.Sizes.{fixed-is, address-is, originator-given}
 use Rattle.nlri.proofs.Definitions.Lengths.{whole-octets, allowed-most, originator-sized}
 
@@ -37,6 +39,7 @@ Closes source t = Unit {0}
 Closes group t = Unit {0}
 Closes originator t = t ≡ []
 Closes key t = Unit {0}
+Closes fec t = Unit {0}
 
 -- the fields whose encodings a function gives
 abbrev pub fieldsFrom : ℕ → (FieldKind → List ℕ) → Fields
@@ -49,6 +52,7 @@ fieldsFrom type field =
       group = drop 1 (field group);
       originator = field originator;
       key = field key;
+      fec = field fec;
     }
 
 pub fixed-stands : (m : ℕ) (x t : List ℕ) → length x ≡ m → fixedField m (x ++ t) ≡ given (length x)
@@ -95,15 +99,17 @@ module _ (judge : ℕ → List ℕ → Outcome ℕ) (bits : ℕ) where
   field-within within type group s n e = address-is bits type s n e .1
   field-within within type originator s n e = omega (arith, originator-given n s e .1)
   field-within within type key s n e = within type s n e
+  field-within within type fec s n e = size-read _ s n e .1
 
-  pub field-most : (w type : ℕ) → ((s : List ℕ) (n : ℕ) → judge type s ≡ given n → n ≤ w) → bits ≤ 128 → (k : FieldKind) (s : List ℕ) (n : ℕ) → fieldSize judge bits type k s ≡ given n → n ≤ most w k
-  unfolding fieldSize most
-  field-most w type bound small distinguisher s n e = omega (arith, fixed-is 8 n s e)
-  field-most w type bound small sourceAs s n e = omega (arith, fixed-is 4 n s e)
-  field-most w type bound small source s n e = address-most type s n small e
-  field-most w type bound small group s n e = address-most type s n small e
-  field-most w type bound small originator s n e = let p = originator-given n s e in omega (arith, p .1, originator-sized (length s) (p .0))
-  field-most w type bound small key s n e = bound s n e
+  pub field-most : (w type : ℕ) → ((s : List ℕ) (n : ℕ) → judge type s ≡ given n → n ≤ w) → bits ≤ 128 → (k : FieldKind) → sameKind k fec ≡ false → (s : List ℕ) (n : ℕ) → fieldSize judge bits type k s ≡ given n → n ≤ most w k
+  unfolding fieldSize most sameKind codeOf
+  field-most w type bound small distinguisher h s n e = omega (arith, fixed-is 8 n s e)
+  field-most w type bound small sourceAs h s n e = omega (arith, fixed-is 4 n s e)
+  field-most w type bound small source h s n e = address-most type s n small e
+  field-most w type bound small group h s n e = address-most type s n small e
+  field-most w type bound small originator h s n e = let p = originator-given n s e in omega (arith, p .1, originator-sized (length s) (p .0))
+  field-most w type bound small key h s n e = bound s n e
+  field-most w type bound small fec h s n e = absurd (opposite refl h)
 
   -- a field read is its encoding; the number in a source AS must be one of octets
   pub field-encoded : 8 * (bits / 8) ≡ bits → (type : ℕ) (k : FieldKind) (s : List ℕ) (n : ℕ) (field : FieldKind → List ℕ) → (sameKind sourceAs k ≡ true → AllOctets s)
@@ -118,6 +124,7 @@ module _ (judge : ℕ → List ℕ → Outcome ℕ) (bits : ℕ) where
   field-encoded whole type group s n field a e at = rw at (address-given bits type n s whole e .encoded)
   field-encoded whole type originator s n field a e at = at
   field-encoded whole type key s n field a e at = at
+  field-encoded whole type fec s n field a e at = at
 
 module _ (judge : ℕ → List ℕ → Outcome ℕ) (Key : ℕ → List ℕ → Type 0) (judges : Judges judge Key) (bits : ℕ) (whole : 8 * (bits / 8) ≡ bits) where
   -- a field read is well-formed
@@ -137,6 +144,7 @@ module _ (judge : ℕ → List ℕ → Outcome ℕ) (Key : ℕ → List ℕ → 
       let p = originator-given n s e in
       let l : length (field originator) ≡ length s = ap length at ∙ length-take-le n s (omega arith) ∙ p .1 in
       (rw l (p .0), subst AllOctets (sym at) (octets-take n a))
+  field-sound type fec s n field a e at = subst (FecOf bits) (sym at) (fec-sound bits s n a e)
   field-sound type key s n field a e at = subst (Key type) (sym at) (judges .sound type s n a e .1)
 
   -- a well-formed field that stands encoded is read
@@ -149,6 +157,7 @@ module _ (judge : ℕ → List ℕ → Outcome ℕ) (Key : ℕ → List ℕ → 
   field-complete f group t w c = address-stands bits (f .type) (f .group) t (w .0)
   field-complete f originator t w c = rw (c, append-nil) (pick-true _ _ _ (w .0))
   field-complete f key t w c = judges .complete (f .type) (f .key) t w
+  field-complete f fec t w c = fec-complete bits (f .fec) t w
 
   pub octets-field : ((type : ℕ) (k : List ℕ) → Key type k → AllOctets k) → bits ≤ 128 → (f : Fields) (k : FieldKind) → WellFormedField Key bits f k → AllOctets (encodeField f k)
   unfolding encodeField encodeAddress
@@ -158,3 +167,4 @@ module _ (judge : ℕ → List ℕ → Outcome ℕ) (Key : ℕ → List ℕ → 
   octets-field ofKey small f group h = octets-address bits (f .type) (f .group) small (h .0) (h .1)
   octets-field ofKey small f originator h = h .1
   octets-field ofKey small f key h = ofKey (f .type) (f .key) h
+  octets-field ofKey small f fec h = octets-fec bits (f .fec) h

@@ -1,25 +1,33 @@
--- The numbers by which reading an NLRI refuses: SHORT to FAMILY, so that none is DONE.
+-- The numbers by which reading an NLRI refuses: SHORT to FAMILY and DEEP, so that none is DONE or one that a table decides.
 use mathlib.Core.Path.{_≡_, refl}
 use mathlib.Core.List.{List, [], _∷_}
+use mathlib.Core.Logic.{⊎-elim}
 use Prim.Native.Nat.{ℕ, _≤_}
 use native.Mathlib.Omega.{arith}
 use lib.ListN.{drop}
-use Rattle.octets.specs.Numbers.{DONE, SHORT, KEY, FAMILY}
+use Rattle.octets.specs.Numbers.{DONE, SHORT, KEY, TABLE, ROOM, ABSENT, DEEP}
 use Rattle.octets.specs.Outcome.{Outcome, given, refused, numberOf}
 use Rattle.octets.proofs.Outcome.{Refuses, value, number, refuses-pick, refuses-then, refuses-turned}
+use Rattle.fec_elements.specs.declared.Standing.{Standing}
+use Rattle.fec_elements.specs.Reading.{readFec}
+use Rattle.fec_elements.proofs.Nesting.{read-number}
 use Rattle.nlri.specs.Family.{familyBits}
-use Rattle.nlri.specs.Bodies.{FieldKind, distinguisher, sourceAs, source, group, originator, key, Row, row, bodies, onBody}
+use Rattle.nlri.specs.Bodies.{FieldKind, distinguisher, sourceAs, source, group, originator, key, fec, Row, row, bodies, onBody}
 use Rattle.nlri.specs.Reading.{fixedField, addressEnd, addressField, originatorField, fieldSize, sizesOf, laidWith, noKey, keyField, laidAt, laidSingle, readNlri}
 use Rattle.nlri.specs.Layouts.{layoutAt}
 
 abbrev pub ByReading : ℕ → Type 0
-ByReading n = (SHORT ≤ n) × (n ≤ FAMILY)
+ByReading n = (SHORT ≤ n) × (n ≤ DEEP) × (n ≡ TABLE → ⊥) × (n ≡ ROOM → ⊥) × (n ≡ ABSENT → ⊥)
 
 -- reading that answers DONE gives a value
 pub refuses-done : {A : Type 0} (o : Outcome A) → Refuses ByReading o → numberOf o ≡ DONE → (a : A) × (o ≡ given a)
 unfolding numberOf
 refuses-done (given a) u e = (a, refl)
 refuses-done (refused n) (number p) e = absurd (omega arith)
+
+refuses-each : {A : Type 0} {P : ℕ → Type 0} (o : Outcome A) → ((n : ℕ) → o ≡ refused n → P n) → Refuses P o
+refuses-each (given a) h = value
+refuses-each (refused n) h = number (h n refl)
 
 refuses-body : {A : Type 0} (rows : List Row) (type n : ℕ) (next : List FieldKind → Outcome A) → ByReading n → ((body : List FieldKind) → Refuses ByReading (next body)) → Refuses ByReading (onBody rows type (refused n) next)
 unfolding onBody
@@ -34,6 +42,9 @@ refuses-address : (bits type : ℕ) (s : List ℕ) → Refuses ByReading (addres
 unfolding addressField addressEnd
 refuses-address bits type s = refuses-pick _ _ _ (number (omega arith)) (refuses-pick _ _ _ (refuses-pick _ _ _ (number (omega arith)) value) (number (omega arith)))
 
+refuses-fec : (p : Standing) (s : List ℕ) → Refuses ByReading (readFec p s)
+refuses-fec p s = refuses-each _ (λ n e. ⊎-elim (λ q. omega arith) (λ rest. ⊎-elim (λ q. omega arith) (λ q. omega arith) rest) (read-number p s n e))
+
 module _ (judge : ℕ → List ℕ → Outcome ℕ) (judge-refuses : (type : ℕ) (s : List ℕ) → Refuses ByReading (judge type s)) (bits : ℕ) where
   refuses-field : (type : ℕ) (k : FieldKind) (s : List ℕ) → Refuses ByReading (fieldSize judge bits type k s)
   unfolding fieldSize originatorField
@@ -43,6 +54,7 @@ module _ (judge : ℕ → List ℕ → Outcome ℕ) (judge-refuses : (type : ℕ
   refuses-field type group s = refuses-address bits type s
   refuses-field type originator s = refuses-pick _ _ _ value (number (omega arith))
   refuses-field type key s = judge-refuses type s
+  refuses-field type fec s = refuses-fec _ s
 
   refuses-sizes : (type : ℕ) (body : List FieldKind) (s : List ℕ) → Refuses ByReading (sizesOf (fieldSize judge bits type) body s)
   unfolding sizesOf

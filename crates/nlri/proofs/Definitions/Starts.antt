@@ -13,7 +13,7 @@ use Rattle.octets.specs.Outcome.{Outcome, given, andThen}
 use Rattle.octets.specs.Octets.{part}
 use Rattle.octets.proofs.Choice.{pick-true, pick-false, tested, opposite}
 use Rattle.octets.proofs.Outcome.{given-unless, passed, given-same, and-cong}
-use Rattle.nlri.specs.Bodies.{FieldKind, distinguisher, sourceAs, source, group, originator, key, fieldIn, codeOf, sameKind, hasField}
+use Rattle.nlri.specs.Bodies.{FieldKind, distinguisher, sourceAs, source, group, originator, key, fec, fieldIn, codeOf, sameKind, hasField}
 use Rattle.nlri.specs.Reading.{sizesOf, cut}
 use Rattle.nlri.proofs.Definitions.Table.{kept, order, distinct, same-kind, same-self, has-first, has-later, Along, along-fields, lacks}
 
@@ -108,6 +108,7 @@ has-order source = refl
 has-order group = refl
 has-order originator = refl
 has-order key = refl
+has-order fec = refl
 
 -- the size of a kind of field in a body, and where it starts: behind the fields before it in the order of kinds, of which those that the body lacks take nothing
 abbrev pub sizeIn : List FieldKind → List ℕ → FieldKind → ℕ
@@ -119,10 +120,10 @@ startIn body sizes k = sumOf (sizeIn body sizes) (before k order)
 -- the starts as sums
 pub starts : (body : List FieldKind) (sizes : List ℕ) → let z : FieldKind → ℕ = sizeIn body sizes in
     (startIn body sizes key ≡ 0) × (startIn body sizes distinguisher ≡ z key) × (startIn body sizes sourceAs ≡ z key + z distinguisher)
-    × (startIn body sizes source ≡ z key + z distinguisher + z sourceAs) × (startIn body sizes group ≡ z key + z distinguisher + z sourceAs + z source)
-    × (startIn body sizes originator ≡ z key + z distinguisher + z sourceAs + z source + z group)
+    × (startIn body sizes fec ≡ z key + z distinguisher + z sourceAs) × (startIn body sizes source ≡ z key + z distinguisher + z sourceAs + z fec)
+    × (startIn body sizes group ≡ z key + z distinguisher + z sourceAs + z fec + z source) × (startIn body sizes originator ≡ z key + z distinguisher + z sourceAs + z fec + z source + z group)
 unfolding sumOf before order sameKind codeOf pick
-starts body sizes = (refl, omega arith, omega arith, omega arith, omega arith, omega arith)
+starts body sizes = (refl, omega arith, omega arith, omega arith, omega arith, omega arith, omega arith)
 
 module _ (size : FieldKind → List ℕ → Outcome ℕ) (body : List FieldKind) (x sizes : List ℕ) (once : distinct body ≡ true) (ordered : body ≡ kept (λ k. hasField k body) order) (e : sizesOf size body x ≡ given sizes) where
   none : (k : FieldKind) → hasField k body ≡ false → sizeIn body sizes k ≡ 0

@@ -2,14 +2,15 @@
 use mathlib.Core.Path.{_≡_, refl, sym, _∙_, ap, ap₂, subst}
 use mathlib.Core.Bool.{Bool, true, false, not}
 use mathlib.Core.List.{List, [], _∷_, map}
+use mathlib.Core.Logic.{_⊎_, inl, inr, ⊎-elim}
 use Prim.Native.Nat.{ℕ, zero, suc, _+_, _≤_, _<_}
 use native.Mathlib.Omega.{arith}
-use borrow.Author.Tests.{eqb-true, eq-eqb, leb-true, not-true}
+use borrow.Author.Tests.{eqb-true, eq-eqb, leb-true, le-leb, not-true}
 use lib.ListN.{length}
 use lib.Dec.{eqb, leb}
 use Rattle.octets.specs.Choice.{pick, both, either}
-use Rattle.octets.proofs.Choice.{pick-true, pick-false, either-left, either-false-left, either-false-right, either-second, is-false, opposite, both-true-left, both-true-right}
-use Rattle.nlri.specs.Bodies.{FieldKind, distinguisher, sourceAs, source, group, originator, key, KnownType, Row, row, bodies, onBody, bodyOf, codeOf, sameKind, fieldIn, hasField}
+use Rattle.octets.proofs.Choice.{pick-true, pick-false, either-left, either-false-left, either-false-right, either-second, is-false, opposite, both-true, both-true-left, both-true-right, either-true}
+use Rattle.nlri.specs.Bodies.{FieldKind, distinguisher, sourceAs, source, group, originator, key, fec, KnownType, toSeven, mldpSPmsi, mldpLeaf, mldpSourceTreeJoin, Row, row, bodies, onBody, bodyOf, codeOf, sameKind, fieldIn, hasField}
 
 unfoldable pub listed : List Row → ℕ → Bool
 listed [] type = false
@@ -48,18 +49,42 @@ to-seven (suc (suc (suc (suc (suc (suc (suc (suc n)))))))) low high = absurd (om
 
 -- the types that there are are those that the table lists
 pub known : (type : ℕ) → KnownType type → listed bodies type ≡ true
-known type k = to-seven type (k .0) (k .1)
+unfolding listed bodies either
+known type (toSeven low high) = to-seven type low high
+known type mldpSPmsi = refl
+known type mldpLeaf = refl
+known type mldpSourceTreeJoin = refl
 
-knownTest : ℕ → Bool
-knownTest type = both (leb 1 type) (leb type 7)
+unfoldable pub knownTest : ℕ → Bool
+knownTest type = either (both (leb 1 type) (leb type 7)) (either (eqb type 67) (either (eqb type 68) (eqb type 71)))
 
-test-known : (type : ℕ) → knownTest type ≡ true → KnownType type
+pub test-known : (type : ℕ) → knownTest type ≡ true → KnownType type
 unfolding knownTest
-test-known type h = (leb-true _ _ (both-true-left _ _ h), leb-true _ _ (both-true-right _ _ h))
+test-known type h =
+    ⊎-elim (λ low. toSeven (leb-true _ _ (both-true-left _ _ low)) (leb-true _ _ (both-true-right _ _ low)))
+    (λ high. ⊎-elim (λ e. subst KnownType (sym (eqb-true type 67 e)) mldpSPmsi)
+    (λ rest. ⊎-elim (λ e. subst KnownType (sym (eqb-true type 68 e)) mldpLeaf) (λ e. subst KnownType (sym (eqb-true type 71 e)) mldpSourceTreeJoin) (either-true _ _ rest))
+    (either-true _ _ high))
+    (either-true _ _ h)
 
 -- a route type is an octet
 pub known-octet : (type : ℕ) → KnownType type → type < 256
-known-octet type k = omega (arith, k)
+known-octet type (toSeven low high) = omega arith
+known-octet type mldpSPmsi = omega arith
+known-octet type mldpLeaf = omega arith
+known-octet type mldpSourceTreeJoin = omega arith
+
+pub known-above : (type : ℕ) → KnownType type → 7 < type → (type ≡ 67) ⊎ (type ≡ 68) ⊎ (type ≡ 71)
+known-above type (toSeven low high) h = absurd (omega arith)
+known-above type mldpSPmsi h = inl refl
+known-above type mldpLeaf h = inr (inl refl)
+known-above type mldpSourceTreeJoin h = inr (inr refl)
+
+pub known-least : (type : ℕ) → KnownType type → 1 ≤ type
+known-least type (toSeven low high) = low
+known-least type mldpSPmsi = omega arith
+known-least type mldpLeaf = omega arith
+known-least type mldpSourceTreeJoin = omega arith
 
 -- a test that every row passes
 unfoldable pub every : (ℕ → List FieldKind → Bool) → List Row → Bool
@@ -96,12 +121,13 @@ closes group body = true
 closes originator [] = true
 closes originator (k ∷ body) = false
 closes key body = true
+closes fec body = true
 
 unfoldable pub closed : List FieldKind → Bool
 closed [] = true
 closed (k ∷ body) = both (closes k body) (closed body)
 
--- the most octets that a body takes, where a key takes at most `w`
+-- the most octets that a body takes, where a key takes at most `w`; a FEC is not bounded
 unfoldable pub most : ℕ → FieldKind → ℕ
 most w distinguisher = 8
 most w sourceAs = 4
@@ -109,6 +135,7 @@ most w source = 17
 most w group = 17
 most w originator = 16
 most w key = w
+most w fec = 0
 
 unfoldable pub mostIn : ℕ → List FieldKind → ℕ
 mostIn w [] = 0
@@ -121,7 +148,7 @@ kept has (k ∷ kinds) = pick (has k) (k ∷ kept has kinds) (kept has kinds)
 
 -- one order of the kinds: every body has its fields in it
 unfoldable pub order : List FieldKind
-order = key ∷ distinguisher ∷ sourceAs ∷ source ∷ group ∷ originator ∷ []
+order = key ∷ distinguisher ∷ sourceAs ∷ fec ∷ source ∷ group ∷ originator ∷ []
 
 unfoldable pub sameKinds : List FieldKind → List FieldKind → Bool
 sameKinds [] [] = true
@@ -135,7 +162,7 @@ unfolding sameKind
 same-self k = eq-eqb (codeOf k) (codeOf k) refl
 
 kindAt : ℕ → FieldKind
-kindAt n = pick (eqb n 0) distinguisher (pick (eqb n 1) sourceAs (pick (eqb n 2) source (pick (eqb n 3) group (pick (eqb n 4) originator key))))
+kindAt n = pick (eqb n 0) distinguisher (pick (eqb n 1) sourceAs (pick (eqb n 2) source (pick (eqb n 3) group (pick (eqb n 4) originator (pick (eqb n 5) key fec)))))
 
 by-code : (k : FieldKind) → k ≡ kindAt (codeOf k)
 unfolding kindAt codeOf pick
@@ -145,6 +172,7 @@ by-code source = refl
 by-code group = refl
 by-code originator = refl
 by-code key = refl
+by-code fec = refl
 
 pub same-kind : (a b : FieldKind) → sameKind a b ≡ true → a ≡ b
 unfolding sameKind
@@ -170,15 +198,21 @@ agree-same false false e = refl
 shapeTest : List FieldKind → Bool
 shapeTest body = both (distinct body) (both (closed body) (sameKinds body (kept (λ k. hasField k body) order)))
 
--- the fields of a body with a key; in any other a route distinguisher, and a group where there is a source
+-- the fields of a body with a key; in any other a route distinguisher, and a group where there is a source, or a FEC in their place
 kindsTest : List FieldKind → Bool
-kindsTest body = pick (hasField key body) (sameKinds body (key ∷ originator ∷ [])) (both (hasField distinguisher body) (agree (hasField group body) (hasField source body)))
+kindsTest body = pick (hasField key body) (sameKinds body (key ∷ originator ∷ [])) (both (hasField distinguisher body) (both (agree (hasField group body) (hasField source body)) (not (both (hasField fec body) (hasField source body)))))
 
+-- the sizes of bodies of types 1 to 7, which have no FEC
 sizeTest : List FieldKind → Bool
-sizeTest body = both (leb (mostIn 60 body) 76) (pick (hasField key body) true (leb (mostIn 60 body) 58))
+sizeTest body = both (not (hasField fec body)) (both (leb (mostIn 60 body) 76) (pick (hasField key body) true (leb (mostIn 60 body) 58)))
 
 rowTest : ℕ → List FieldKind → Bool
-rowTest n body = both (knownTest n) (both (shapeTest body) (both (kindsTest body) (sizeTest body)))
+rowTest n body = both (knownTest n) (both (shapeTest body) (both (kindsTest body) (pick (leb n 7) (sizeTest body) true)))
+
+pub record SizesOf (body : List FieldKind) : Type 0 where
+  pub bare : hasField fec body ≡ false
+  pub most : mostIn 60 body ≤ 76
+  pub plain : hasField key body ≡ false → mostIn 60 body ≤ 58
 
 -- what holds of the row of a type
 pub record RowOf (type : ℕ) : Type 0 where
@@ -188,8 +222,8 @@ pub record RowOf (type : ℕ) : Type 0 where
   pub ordered : bodyOf type ≡ kept (λ k. hasField k (bodyOf type)) order
   pub keyed : hasField key (bodyOf type) ≡ true → bodyOf type ≡ key ∷ originator ∷ []
   pub unkeyed : hasField key (bodyOf type) ≡ false → (hasField distinguisher (bodyOf type) ≡ true) × (hasField group (bodyOf type) ≡ hasField source (bodyOf type))
-  pub most : mostIn 60 (bodyOf type) ≤ 76
-  pub plain : hasField key (bodyOf type) ≡ false → mostIn 60 (bodyOf type) ≤ 58
+      × (hasField fec (bodyOf type) ≡ true → hasField source (bodyOf type) ≡ false)
+  pub sizes : type ≤ 7 → SizesOf (bodyOf type)
 
 tested : every rowTest bodies ≡ true
 unfolding every rowTest knownTest shapeTest kindsTest sizeTest agree bodies both distinct closed closes sameKinds kept order pick mostIn most hasField either sameKind codeOf
@@ -209,9 +243,14 @@ rowOf type l =
       closed = both-true-left _ _ (both-true-right _ _ shape);
       ordered = same-kinds _ _ (both-true-right _ _ (both-true-right _ _ shape));
       keyed = λ yes. same-kinds _ _ (sym (pick-true _ _ _ yes) ∙ kinds);
-      unkeyed = λ no. let other = sym (pick-false _ _ _ no) ∙ kinds in (both-true-left _ _ other, agree-same _ _ (both-true-right _ _ other));
-      most = leb-true _ _ (both-true-left _ _ size);
-      plain = λ no. leb-true _ _ (sym (pick-false _ _ _ no) ∙ both-true-right _ _ size);
+      unkeyed = λ no.
+          let other = sym (pick-false _ _ _ no) ∙ kinds in
+          let flow = both-true-right _ _ other in
+          (both-true-left _ _ other, agree-same _ _ (both-true-left _ _ flow), λ held. is-false _ (λ yes. opposite (both-true _ _ held yes) (not-true _ (both-true-right _ _ flow))));
+      sizes = λ low.
+          let h = sym (pick-true _ _ _ (le-leb type 7 low)) ∙ size in
+          let bounds = both-true-right _ _ h in
+          record { bare = not-true _ (both-true-left _ _ h); most = leb-true _ _ (both-true-left _ _ bounds); plain = λ no. leb-true _ _ (sym (pick-false _ _ _ no) ∙ both-true-right _ _ bounds) };
     }
 
 pub unlisted : (type : ℕ) → (KnownType type → ⊥) → listed bodies type ≡ false

@@ -1,24 +1,35 @@
 -- A body, and a whole NLRI, is read exactly where it stands encoded and well-formed, for every judge of keys.
 use mathlib.Core.Path.{_≡_, refl, sym, _∙_, ap, ap₂, subst}
-use mathlib.Core.Bool.{true}
+use mathlib.Core.Bool.{Bool, true, false}
 use mathlib.Core.List.{List, [], _∷_, _++_, map, append-assoc}
 use Prim.Native.Nat.{ℕ, suc, _+_, _*_, _/_, _-_, _≤_, _<_}
 use native.Mathlib.Omega.{arith}
 use borrow.Author.Tests.{eqb-true, ltb-false, le-ltb}
 use lib.ListN.{length, getD, take, drop, length-append, length-drop, take-append-drop}
-use lib.Seq.{take-all, take-append-seam, drop-append-seam}
+use lib.Seq.{take-all, take-append-seam, drop-append-seam, length-take-le}
+use Rattle.octets.specs.Choice.{either}
 use Rattle.octets.specs.Outcome.{Outcome, given}
 use Rattle.octets.specs.Octets.{AllOctets, none, one, part}
-use Rattle.octets.proofs.Choice.{pick-true, pick-false, opposite, both-true-left, both-true-right, either-left, either-second}
+use Rattle.octets.proofs.Choice.{pick-true, pick-false, opposite, both-true-left, both-true-right, either-left, either-second, either-false-right}
 use Rattle.octets.proofs.Outcome.{goes, given-otherwise, given-unless, passed, given-same}
-use Rattle.octets.proofs.AllOctets.{octets-drop, octets-part, octets-append}
+use Rattle.octets.proofs.AllOctets.{octet-at, octets-drop, octets-part, octets-append}
 use Rattle.octets.proofs.Lists.{empty-list, take-two, length-part}
-use Rattle.nlri.specs.Bodies.{FieldKind, distinguisher, sourceAs, source, group, originator, key, KnownType, bodies, bodyOf, fieldIn, hasField}
-use Rattle.nlri.specs.Fields.{Fields, encodeField, encodeBody, encodeNlri, WellFormedBody}
+use Rattle.nlri.specs.Bodies.{FieldKind, distinguisher, sourceAs, source, group, originator, key, fec, KnownType, bodies, bodyOf, fieldIn, sameKind, hasField}
+use Rattle.nlri.specs.Fields.{Fields, encodeField, encodeBody, encodeNlri, LengthFits, WellFormedField, WellFormedBody}
 use Rattle.nlri.specs.Reading.{Laid, fieldSize, sizesOf, laidWith, keyField, laidAt, laidSingle, cut, fieldsOf}
-use Rattle.nlri.proofs.Definitions.Table.{listed, on-body, known, known-octet, RowOf, rowOf, closes, closed, most, mostIn, Along, along-fields}
+use Rattle.nlri.proofs.Definitions.Table.{listed, on-body, known, known-octet, RowOf, rowOf, closes, closed, most, mostIn, same-kind, has-first, apart, Along, along-fields}
 use Rattle.nlri.proofs.Definitions.Starts.{sizes-first, length-sizes}
 use Rattle.nlri.proofs.Definitions.Judged.{Judges, Closes, fieldsFrom, field-most, field-encoded, field-sound, field-complete, octets-field}
+
+-- a field of a well-formed body
+pub field-in-body : (Key : ℕ → List ℕ → Type 0) (bits : ℕ) (f : Fields) (kind : FieldKind) (body : List FieldKind) → WellFormedBody Key bits f body → hasField kind body ≡ true → WellFormedField Key bits f kind
+unfolding hasField either
+field-in-body Key bits f kind [] w h = absurd (opposite h refl)
+field-in-body Key bits f kind (k ∷ body) w h = go (sameKind kind k) refl h (λ later. field-in-body Key bits f kind body (w .1) later)
+  where
+    go : (b : Bool) → sameKind kind k ≡ b → either b (hasField kind body) ≡ true → (hasField kind body ≡ true → WellFormedField Key bits f kind) → WellFormedField Key bits f kind
+    go true same h later = subst (WellFormedField Key bits f) (sym (same-kind kind k same)) (w .0)
+    go false other h later = later h
 
 -- the encodings of the fields of a body, and their sizes
 abbrev pub piecesOf : Fields → List FieldKind → List (List ℕ)
@@ -51,6 +62,7 @@ closes-body f group body h = tt
 closes-body f originator [] h = refl
 closes-body f originator (k ∷ body) h = absurd (opposite h refl)
 closes-body f key body h = tt
+closes-body f fec body h = tt
 
 -- what was laid out
 pub record LaidOut (judge : ℕ → List ℕ → Outcome ℕ) (bits : ℕ) (s : List ℕ) (laid : Laid) : Type 0 where
@@ -112,13 +124,13 @@ single-laid-out bits s laid e =
 
 module _ (judge : ℕ → List ℕ → Outcome ℕ) (bits : ℕ) where
   -- a body has at most so many octets
-  pub sizes-most : (w type : ℕ) → ((s : List ℕ) (n : ℕ) → judge type s ≡ given n → n ≤ w) → bits ≤ 128 → (body : List FieldKind) (s sizes : List ℕ)
+  pub sizes-most : (w type : ℕ) → ((s : List ℕ) (n : ℕ) → judge type s ≡ given n → n ≤ w) → bits ≤ 128 → (body : List FieldKind) → hasField fec body ≡ false → (s sizes : List ℕ)
       → sizesOf (fieldSize judge bits type) body s ≡ given sizes → length s ≤ mostIn w body
-  unfolding sizesOf mostIn
-  sizes-most w type bound small [] s sizes e = let h : length s ≡ 0 = eqb-true _ _ (given-unless _ _ _ _ e .0) in omega arith
-  sizes-most w type bound small (k ∷ body) s sizes e =
+  unfolding sizesOf mostIn hasField
+  sizes-most w type bound small [] bare s sizes e = let h : length s ≡ 0 = eqb-true _ _ (given-unless _ _ _ _ e .0) in omega arith
+  sizes-most w type bound small (k ∷ body) bare s sizes e =
       sizes-first (λ _. length s ≤ most w k + mostIn w body) _ k body s sizes e
-      (λ n rest here left. let l = length-drop n s in omega (arith, field-most judge bits w type bound small k s n here, sizes-most w type bound small body (drop n s) rest left))
+      (λ n rest here left. let l = length-drop n s in omega (arith, field-most judge bits w type bound small k (apart k fec (k ∷ body) (has-first k body) bare) s n here, sizes-most w type bound small body (either-false-right _ _ bare) (drop n s) rest left))
 
   -- a body read is its encoding
   body-encoded : 8 * (bits / 8) ≡ bits → (type : ℕ) (body : List FieldKind) (s sizes : List ℕ) (field : FieldKind → List ℕ) → (hasField sourceAs body ≡ true → AllOctets s)
@@ -146,6 +158,15 @@ module _ (judge : ℕ → List ℕ → Outcome ℕ) (bits : ℕ) where
       let b = body-encoded whole (laid .type) (bodyOf (laid .type)) (part s 2 (laid .size)) (laid .sizes) _ (λ h. octets-part 2 (laid .size) (a h)) (o .sizes) (along-laid s laid o) in
       let len : laid .size ≡ length (encodeBody (fieldsLaid s laid) (bodyOf (laid .type))) = sym (ap length b ∙ length-part s 2 (laid .size) (omega (arith, o .fits, o .enough))) in
       take-two s (laid .size) (o .enough) ∙ ap₂ (λ (x : ℕ) (y : List ℕ). x ∷ y) (sym (o .typed)) (ap₂ (λ (x : ℕ) (y : List ℕ). x ∷ y) (sym (o .sized) ∙ len) (sym b))
+
+-- what was laid out in octets has a Length that fits one
+pub laid-fits : (judge : ℕ → List ℕ → Outcome ℕ) (bits : ℕ) → 8 * (bits / 8) ≡ bits → (s : List ℕ) (laid : Laid) → AllOctets s → laidWith judge bits s ≡ given laid → LengthFits (fieldsLaid s laid)
+unfolding encodeNlri
+laid-fits judge bits whole s laid a e =
+    let o = laid-out judge bits s laid e in
+    let l = ap length (laid-encoded judge bits whole s laid (λ _. a) e) in
+    let n = length-take-le (2 + laid .size) s (omega (arith, o .fits, o .enough)) in
+    omega (arith, o .sized, octet-at a 1)
 
 module _ (judge : ℕ → List ℕ → Outcome ℕ) (Key : ℕ → List ℕ → Type 0) (judges : Judges judge Key) (bits : ℕ) (whole : 8 * (bits / 8) ≡ bits) where
   -- a body read is well-formed
@@ -189,13 +210,15 @@ module _ (judge : ℕ → List ℕ → Outcome ℕ) (Key : ℕ → List ℕ → 
       ∙ pick-true _ _ _ l
       ∙ sym (goes _ _ _ _ (ap (sizesOf (fieldSize judge bits (f .type)) body) (take-append-seam (encodeBody f body) t) ∙ body-complete f body (rowOf (f .type) l .closed) w) refl)
 
-  -- a well-formed NLRI in octets: its Length fits an octet
-  pub octets-nlri : (w : ℕ) (f : Fields) → ((s : List ℕ) (n : ℕ) → judge (f .type) s ≡ given n → n ≤ w) → ((type : ℕ) (k : List ℕ) → Key type k → AllOctets k) → bits ≤ 128 → KnownType (f .type) → WellFormedBody Key bits f (bodyOf (f .type))
-      → (most : ℕ) → mostIn w (bodyOf (f .type)) ≤ most → most < 256 → (length (encodeNlri f) ≤ 2 + most) × AllOctets (encodeNlri f)
+  -- a well-formed NLRI in octets
+  pub octets-nlri : ((type : ℕ) (k : List ℕ) → Key type k → AllOctets k) → bits ≤ 128 → (f : Fields) → KnownType (f .type) → WellFormedBody Key bits f (bodyOf (f .type)) → LengthFits f → AllOctets (encodeNlri f)
   unfolding encodeNlri
-  octets-nlri w f bound ofKey small range h most within fits =
-      let row = rowOf (f .type) (known (f .type) range) in
-      let len = sizes-most judge bits w (f .type) bound small (bodyOf (f .type)) _ _ (body-complete f (bodyOf (f .type)) (row .closed) h) in
-      let first : f .type < 256 = known-octet (f .type) range in
-      let second : length (encodeBody f (bodyOf (f .type))) < 256 = omega arith in
-      (omega arith, one first (one second (octets-body ofKey small f (bodyOf (f .type)) h)))
+  octets-nlri ofKey small f range h fits = one (known-octet (f .type) range) (one fits (octets-body ofKey small f (bodyOf (f .type)) h))
+
+  -- its octets, where it has no FEC
+  pub length-most : (w : ℕ) (f : Fields) → ((s : List ℕ) (n : ℕ) → judge (f .type) s ≡ given n → n ≤ w) → bits ≤ 128 → KnownType (f .type) → WellFormedBody Key bits f (bodyOf (f .type)) → hasField fec (bodyOf (f .type)) ≡ false
+      → length (encodeNlri f) ≤ 2 + mostIn w (bodyOf (f .type))
+  unfolding encodeNlri
+  length-most w f bound small range h bare =
+      let len = sizes-most judge bits w (f .type) bound small (bodyOf (f .type)) bare _ _ (body-complete f (bodyOf (f .type)) (rowOf (f .type) (known (f .type) range) .closed) h) in
+      omega arith

@@ -12,12 +12,15 @@ use lib.Dec.{ltb, leb, eqb}
 use Rattle.octets.specs.Numbers.{DONE, TYPE, LENGTH, WIDTH}
 use Rattle.octets.specs.Choice.{pick, either}
 use Rattle.octets.specs.Outcome.{Outcome, given, refused, andThen, numberOf}
-use Rattle.octets.proofs.Choice.{pick-true, pick-false, pick-case, picks, skips, tested, either-false, opposite}
-use Rattle.octets.proofs.Outcome.{number-goes, number-stops}
-use Rattle.nlri.specs.Family.{allowed, isOriginatorSize}
-use Rattle.nlri.specs.Bodies.{FieldKind, distinguisher, sourceAs, source, group, originator, key, KnownType, bodies, onBody, codeOf, sameKind, hasField}
+use Rattle.octets.proofs.Choice.{pick-true, pick-false, pick-case, picks, skips, tested, either-false, either-false-left, either-false-right, opposite}
+use Rattle.octets.proofs.Outcome.{number-goes, number-stops, refused-of, done-given}
+use Rattle.fec_elements.specs.declared.Standing.the-variants.{InBody}
+use Rattle.fec_elements.specs.Reading.{frontSize, readFec}
+use Rattle.fec_elements.proofs.Nesting.{read-refused, size-read}
+use Rattle.nlri.specs.Family.{rootFamily, allowed, isOriginatorSize}
+use Rattle.nlri.specs.Bodies.{FieldKind, distinguisher, sourceAs, source, group, originator, key, fec, KnownType, bodies, onBody, codeOf, sameKind, hasField}
 use Rattle.nlri.specs.Reading.{fixedField, addressEnd, addressField, originatorField, fieldSize, sizesOf, keyField}
-use Rattle.nlri.specs.Inner.{leftFault, bodyFault, afterFlow, withSourceAs, sourceStart}
+use Rattle.nlri.specs.Inner.{leftFault, bodyFault, afterFlow, afterFec, withSourceAs, sourceStart}
 use Rattle.nlri.proofs.Definitions.Table.{listed, on-body, unlisted, apart}
 use Rattle.nlri.proofs.Definitions.Starts.{sizes-same}
 
@@ -130,6 +133,11 @@ module _ (bits type : ℕ) where
         (λ inside. left-refused originator [] at s LENGTH (ltb-false _ _ inside) (pick-false _ _ _ (either-false _ _
         (ne-eqb (length (drop at s)) 4 (λ h. p (omega (arith, ltb-false)))) (ne-eqb (length (drop at s)) 16 (λ h. q (omega (arith, ltb-false)))))))
 
+  pub left-other-originator : (at : ℕ) (s : List ℕ) (rest : ℕ) → length s ≡ at + rest → isOriginatorSize rest ≡ false → LENGTH ≡ leftFault bits type (originator ∷ []) at s
+  unfolding isOriginatorSize
+  left-other-originator at s rest e h =
+      left-no-originator at s (λ q. eqb-false rest 4 (either-false-left _ _ h) (omega arith)) (λ q. eqb-false rest 16 (either-false-right _ _ h) (omega arith))
+
   -- a key, which stands first
   module _ (kinds : List FieldKind) (s : List ℕ) where
     pub left-keyed : (n : ℕ) → n ≤ length s → keyField bits type s ≡ given n → leftFault bits type kinds n s ≡ leftFault bits type (key ∷ kinds) 0 s
@@ -139,6 +147,31 @@ module _ (bits type : ℕ) where
     pub left-unkeyed : (m : ℕ) → keyField bits type s ≡ refused m → m ≡ leftFault bits type (key ∷ kinds) 0 s
     unfolding fieldSize
     left-unkeyed m e = left-refused key kinds 0 s m (omega arith) e
+
+  -- a FEC, and what is left behind it
+  module _ (kinds : List FieldKind) (at : ℕ) (s : List ℕ) where
+    pub left-fec-past : length s < at → LENGTH ≡ leftFault bits type (fec ∷ kinds) at s
+    left-fec-past h = left-past (fec ∷ kinds) at s h
+
+    module _ (inside : at ≤ length s) (rest : List ℕ) (is : rest ≡ drop at s) (n : ℕ) (e : n ≡ numberOf (readFec (InBody (rootFamily bits)) rest)) where
+      pub left-fec-bad : (n ≡ DONE → ⊥) → n ≡ leftFault bits type (fec ∷ kinds) at s
+      unfolding fieldSize
+      left-fec-bad faulty = left-refused fec kinds at s n inside (ap (readFec (InBody (rootFamily bits))) (sym is) ∙ refused-of _ n e faulty)
+
+      fec-read : n ≡ DONE → (size : ℕ) × (readFec (InBody (rootFamily bits)) rest ≡ given size)
+      fec-read done = done-given _ (λ m q. read-refused _ rest m q .1) (sym e ∙ done)
+
+      -- the FEC lies within what it stands in
+      pub fec-left : n ≡ DONE → frontSize rest ≤ length rest
+      fec-left done = let r = fec-read done in let f = size-read _ rest (r .0) (r .1) in omega (arith, f .0, f .1)
+
+      pub left-fec-good : n ≡ DONE → (r left : ℕ) → left ≡ length rest - frontSize rest → ((i : ℕ) → length s ≡ i + left → r ≡ leftFault bits type kinds i s) → r ≡ leftFault bits type (fec ∷ kinds) at s
+      unfolding fieldSize
+      left-fec-good done r left el next =
+          let q = fec-read done in
+          let f = size-read _ rest (q .0) (q .1) in
+          let l : length rest ≡ length s - at = ap length is ∙ length-drop at s in
+          next (at + q .0) (omega (arith, f .0, f .1)) ∙ left-given fec kinds at s (q .0) (omega (arith, f .1)) (ap (readFec (InBody (rootFamily bits))) (sym is) ∙ q .1)
 
 -- where a source may start
 start-case : (P : ℕ → Type 0) (type : ℕ) → P 15 → P 11 → P (sourceStart type)
@@ -160,6 +193,7 @@ field-other bits m n p q source h s = rw (p, q)
 field-other bits m n p q group h s = rw (p, q)
 field-other bits m n p q originator h s = refl
 field-other bits m n p q key h s = absurd (opposite refl h)
+field-other bits m n p q fec h s = refl
 
 left-other : (bits m n : ℕ) (kinds : List FieldKind) (at : ℕ) (s : List ℕ) → hasField key kinds ≡ false → eqb m 3 ≡ false → eqb n 3 ≡ false → leftFault bits m kinds at s ≡ leftFault bits n kinds at s
 unfolding leftFault
@@ -179,6 +213,15 @@ module _ (bits type : ℕ) (s : List ℕ) where
   unfolding bodyFault leftFault
   body-number =
       on-body type _ _ ∙ ap (λ (n : ℕ). pick (listed bodies type) n TYPE) (pick-false (ltb (length s) 0) LENGTH _ (le-ltb (length s) 0 (omega arith))) ∙ number-typed _ _ ∙ sym (ap numberOf (on-body type _ _))
+
+  -- 0x43 and 0x47: fixed octets, a FEC, and what follows it
+  pub body-mldp-s-pmsi : type ≡ 67 → leftFault bits 67 (fec ∷ afterFec 67) 8 s ≡ bodyFault bits type s
+  unfolding bodyFault onBody bodies afterFec pick fieldSize
+  body-mldp-s-pmsi e = left-fixed bits 67 distinguisher _ 8 0 s (λ y. refl) ∙ body-is 67 e
+
+  pub body-mldp-join : type ≡ 71 → leftFault bits 71 (fec ∷ afterFec 71) 12 s ≡ bodyFault bits type s
+  unfolding bodyFault onBody bodies afterFec pick fieldSize
+  body-mldp-join e = left-fixed bits 71 sourceAs _ 4 8 s (λ y. refl) ∙ left-fixed bits 71 distinguisher _ 8 0 s (λ y. refl) ∙ body-is 71 e
 
   -- types 5 to 7: fixed octets, a source and a group
   pub body-flow : 4 < type → type ≤ 7 → leftFault bits 5 (source ∷ group ∷ afterFlow 5) (sourceStart type - 3) s ≡ bodyFault bits type s

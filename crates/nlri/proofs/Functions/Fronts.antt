@@ -13,7 +13,7 @@ use Rattle.octets.specs.Octets.{part}
 use Rattle.octets.proofs.Choice.{pick-true, pick-false, tested, opposite}
 use Rattle.octets.proofs.Outcome.{and-pick, and-given, and-refused, on-given, on-refused, outcome, passed, given-otherwise, given-same, number-goes, number-stops, refused-of}
 use Rattle.nlri.specs.declared.layout.Layout.{Layout}
-use Rattle.nlri.specs.Bodies.{FieldKind, distinguisher, sourceAs, source, group, originator, key, keyable, bodies, onBody, bodyOf, codeOf, sameKind, hasField}
+use Rattle.nlri.specs.Bodies.{FieldKind, distinguisher, sourceAs, source, group, originator, key, fec, keyable, bodies, onBody, bodyOf, codeOf, sameKind, hasField}
 use Rattle.nlri.specs.Reading.{Laid, fieldSize, sizesOf, laidWith, laidAt, noKey, keyField}
 use Rattle.nlri.specs.Layouts.{layoutOf, layoutAt}
 use Rattle.nlri.specs.Inner.{headerAt, bodyFault}
@@ -72,6 +72,7 @@ module _ (judge judge′ : ℕ → List ℕ → Outcome ℕ) (bits type : ℕ) w
   field-unkeyed group h s = refl
   field-unkeyed originator h s = refl
   field-unkeyed key h s = absurd (opposite refl h)
+  field-unkeyed fec h s = refl
 
   sizes-unkeyed : (body : List FieldKind) (s : List ℕ) → hasField key body ≡ false → sizesOf (fieldSize judge bits type) body s ≡ sizesOf (fieldSize judge′ bits type) body s
   sizes-unkeyed body s h = sizes-same _ _ body (λ k has. field-unkeyed k (apart k key body has h)) s

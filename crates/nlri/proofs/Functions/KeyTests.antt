@@ -21,32 +21,32 @@ use Rattle.nlri.proofs.Definitions.Keys.{key-within}
 use Rattle.nlri.proofs.Definitions.ReadNumbers.{refuses-key}
 use Rattle.nlri.proofs.Functions.Ends.{left-keyed, left-unkeyed, left-none, left-some}
 
-module _ (bits : ℕ) (alone : Bool) (s : List ℕ) where
-  pub keyed-none : (m : ℕ) → keyField bits 4 s ≡ refused m → m ≡ leftFault bits 4 (keyedKinds alone) 0 s
+module _ (bits type : ℕ) (alone : Bool) (s : List ℕ) where
+  pub keyed-none : (m : ℕ) → keyField bits type s ≡ refused m → m ≡ leftFault bits type (keyedKinds alone) 0 s
   unfolding keyedKinds
-  keyed-none m e = left-unkeyed bits 4 _ s m e
+  keyed-none m e = left-unkeyed bits type _ s m e
 
-  module _ (r n : ℕ) (e : keyField bits 4 s ≡ given n) where
-    keyed-by : (kinds : List FieldKind) → kinds ≡ pick alone [] (originator ∷ []) → r ≡ leftFault bits 4 kinds n s → r ≡ leftFault bits 4 (keyedKinds alone) 0 s
+  module _ (r n : ℕ) (e : keyField bits type s ≡ given n) where
+    keyed-by : (kinds : List FieldKind) → kinds ≡ pick alone [] (originator ∷ []) → r ≡ leftFault bits type kinds n s → r ≡ leftFault bits type (keyedKinds alone) 0 s
     unfolding keyedKinds
-    keyed-by kinds k q = q ∙ left-keyed bits 4 kinds s n (key-within bits 4 s n e .1) e ∙ ap (λ (rest : List FieldKind). leftFault bits 4 (key ∷ rest) 0 s) k
+    keyed-by kinds k q = q ∙ left-keyed bits type kinds s n (key-within bits type s n e .1) e ∙ ap (λ (rest : List FieldKind). leftFault bits type (key ∷ rest) 0 s) k
 
-    pub keyed-alone : alone ≡ true → r ≡ leftFault bits 4 [] n s → r ≡ leftFault bits 4 (keyedKinds alone) 0 s
+    pub keyed-alone : alone ≡ true → r ≡ leftFault bits type [] n s → r ≡ leftFault bits type (keyedKinds alone) 0 s
     keyed-alone t = keyed-by [] (sym (pick-true _ _ _ t))
 
-    pub keyed-followed : alone ≡ false → r ≡ leftFault bits 4 (originator ∷ []) n s → r ≡ leftFault bits 4 (keyedKinds alone) 0 s
+    pub keyed-followed : alone ≡ false → r ≡ leftFault bits type (originator ∷ []) n s → r ≡ leftFault bits type (keyedKinds alone) 0 s
     keyed-followed f = keyed-by (originator ∷ []) (sym (pick-false _ _ _ f))
 
 -- exactly one key
-pub key-alone : (bits : ℕ) (s : List ℕ) (n : ℕ) → n ≡ leftFault bits 4 (keyedKinds true) 0 s → eqb n DONE ≡ isKey bits 4 s
+pub key-alone : (bits type : ℕ) (s : List ℕ) (n : ℕ) → n ≡ leftFault bits type (keyedKinds true) 0 s → eqb n DONE ≡ isKey bits type s
 unfolding isKey
-key-alone bits s n e =
+key-alone bits type s n e =
     ⊎-elim
     (λ g. on-given _ _ (g .0) _ _ (g .1) (tested (eqb (g .0) (length s))
-    (λ same. eq-eqb n DONE (e ∙ sym (keyed-alone bits true s DONE (g .0) (g .1) refl (left-none bits 4 (g .0) s (sym (eqb-true _ _ same))))) ∙ sym same)
-    (λ other. ne-eqb n DONE (λ done. longer (sym done ∙ e ∙ sym (keyed-alone bits true s LENGTH (g .0) (g .1) refl (left-some bits 4 (g .0) s (λ q. eqb-false _ _ other (sym q)))))) ∙ sym other)))
-    (λ r. on-refused _ _ (r .0) _ _ (r .1) (ne-eqb n DONE (λ done. let p = refuses-by _ (r .0) (refuses-key bits 4 s) (r .1) in let q = keyed-none bits true s (r .0) (r .1) ∙ sym e ∙ done in omega arith)))
-    (outcome (keyField bits 4 s))
+    (λ same. eq-eqb n DONE (e ∙ sym (keyed-alone bits type true s DONE (g .0) (g .1) refl (left-none bits type (g .0) s (sym (eqb-true _ _ same))))) ∙ sym same)
+    (λ other. ne-eqb n DONE (λ done. longer (sym done ∙ e ∙ sym (keyed-alone bits type true s LENGTH (g .0) (g .1) refl (left-some bits type (g .0) s (λ q. eqb-false _ _ other (sym q)))))) ∙ sym other)))
+    (λ r. on-refused _ _ (r .0) _ _ (r .1) (ne-eqb n DONE (λ done. let p = refuses-by _ (r .0) (refuses-key bits type s) (r .1) in let q = keyed-none bits type true s (r .0) (r .1) ∙ sym e ∙ done in omega arith)))
+    (outcome (keyField bits type s))
   where
     longer : DONE ≡ LENGTH → ⊥
     longer q = omega arith

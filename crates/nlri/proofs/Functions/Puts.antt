@@ -57,7 +57,7 @@ module _ (nlri : Nlri) (key : List ℕ) where
   all-put n e = ap (λ (m : ℕ). nlri .«route_type» ∷ m ∷ bodyOctets nlri key) e
 
 -- sizes without their octets
-under : (b : Bool) (x y n : ℕ) → (b ≡ true → x ≤ n) → y ≤ n → pick b x y ≤ n
+pub under : (b : Bool) (x y n : ℕ) → (b ≡ true → x ≤ n) → y ≤ n → pick b x y ≤ n
 unfolding pick
 under true x y n h k = h refl
 under false x y n h k = k
@@ -80,7 +80,7 @@ pub fixed-most : (type k : ℕ) → (type ≡ 4 → k < 1024) → fixedSize type
 unfolding fixedSize
 fixed-most type k h = fixed-other (eqb type 4) (withSourceAs type) k (λ e. h (eqb-true type 4 e))
 
-eight-and : (b : Bool) → 8 + pick b 4 0 ≡ pick b 12 8
+pub eight-and : (b : Bool) → 8 + pick b 4 0 ≡ pick b 12 8
 unfolding pick
 eight-and true = refl
 eight-and false = refl
@@ -98,7 +98,7 @@ pub originator-short : (type o : ℕ) → (hasOriginator type ≡ true → o ≤
 unfolding originatorLength
 originator-short type o h = under (hasOriginator type) _ _ 16 h (omega arith)
 
-length-pick : (b : Bool) (x y : List ℕ) → length (pick b x y) ≡ pick b (length x) (length y)
+pub length-pick : (b : Bool) (x y : List ℕ) → length (pick b x y) ≡ pick b (length x) (length y)
 unfolding pick
 length-pick true x y = refl
 length-pick false x y = refl

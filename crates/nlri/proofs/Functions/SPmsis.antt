@@ -8,7 +8,7 @@ use borrow.Author.Tests.{leb-true, eqb-true, eqb-false, eq-eqb, le-ltb, le-leb}
 use lib.ListN.{length, getD, drop}
 use lib.Dec.{eqb}
 use Rattle.octets.specs.Numbers.{DONE}
-use Rattle.octets.specs.Choice.{pick, both}
+use Rattle.octets.specs.Choice.{pick, both, either}
 use Rattle.octets.specs.Outcome.{Outcome, given, refused, andThen, onOutcome, numberOf}
 use Rattle.octets.proofs.Choice.{pick-true, tested, opposite}
 use Rattle.octets.proofs.Outcome.{on-mapped, goes, stops, on-given, on-refused, refused-of}
@@ -42,7 +42,7 @@ none-of (given laid) h = tested (eqb (laid .type) 3) (λ t. absurd (h laid refl 
 module _ (bits : ℕ) (s : List ℕ) where
   -- the octets of a single NLRI of type 3
   opens : (laid : Laid) → laidSingle bits s ≡ given laid → laid .type ≡ 3 → (getD s 0 0 ≡ 3) × (getD s 1 0 ≡ length s - 2) × (10 ≤ length s)
-  unfolding withKey
+  unfolding withKey either
   opens laid e three =
       let o = single-laid-out bits s laid e in
       let z = other-sizes bits s laid (o .front) (ap withKey three) in

@@ -1,22 +1,25 @@
 -- Where the fields of an accepted NLRI stand, for every route type at once: each behind those before it in the order of kinds.
 use mathlib.Core.Path.{_≡_, refl, sym, _∙_, ap, ap₂}
 use mathlib.Core.Bool.{Bool, true, false}
-use mathlib.Core.Logic.{_⊎_, inl, inr}
+use mathlib.Core.Logic.{_⊎_, inl, inr, ⊎-elim}
 use mathlib.Core.List.{List, [], _∷_}
 use Prim.Native.Nat.{ℕ, zero, suc, _+_, _-_, _/_, _≤_, _<_}
 use native.Mathlib.Nat.{add-zero}
 use native.Mathlib.Omega.{arith}
+use borrow.Author.Tests.{eqb-true}
 use lib.ListN.{length, getD, take, drop, length-drop}
 use lib.Seq.{drop-drop, take-nil, getD-take, getD-drop}
 use Rattle.octets.specs.Choice.{pick, either, both}
 use Rattle.octets.specs.Outcome.{given}
 use Rattle.octets.specs.Octets.{part, numberIn}
-use Rattle.octets.proofs.Choice.{pick-true, pick-false, tested, opposite}
+use Rattle.octets.proofs.Choice.{pick-true, pick-false, tested, opposite, is-false, either-true}
 use Rattle.octets.proofs.Lists.{length-part}
-use Rattle.nlri.specs.Bodies.{FieldKind, distinguisher, sourceAs, source, group, originator, key, bodies, fieldIn, sameKind, codeOf, hasField}
+use Rattle.fec_elements.specs.Reading.{frontSize}
+use Rattle.fec_elements.proofs.Nesting.{size-read}
+use Rattle.nlri.specs.Bodies.{FieldKind, distinguisher, sourceAs, source, group, originator, key, fec, bodies, bodyOf, fieldIn, sameKind, codeOf, hasField}
 use Rattle.nlri.specs.Reading.{Laid, addressField, fixedField, fieldSize, laidAt, laidSingle, keyField, cut, fieldsOf}
 use Rattle.nlri.specs.Layouts.{layoutOf}
-use Rattle.nlri.specs.Inner.{withKey, withSourceAs, sourceStart, distinguisherAt, sourceAsAt, fieldsAt, LayoutWithin}
+use Rattle.nlri.specs.Inner.{withKey, withFec, withSourceAs, sourceStart, fecStart, fromFec, distinguisherAt, sourceAsAt, fieldsAt, LayoutWithin}
 use Rattle.nlri.proofs.Definitions.FieldRecords.{fields-same}
 use Rattle.nlri.proofs.Definitions.Sizes.{fixed-is, address-is, originator-given}
 use Rattle.nlri.proofs.Definitions.Lengths.{originator-sized}
@@ -39,9 +42,25 @@ part-drop : (s : List ℕ) (k start size : ℕ) → part (drop k s) start size �
 unfolding part
 part-drop s k start size = ap (take size) (drop-drop start k s)
 
+drop-taken : (k n : ℕ) (x : List ℕ) → k ≤ n → drop k (take n x) ≡ take (n - k) (drop k x)
+drop-taken zero n x h = let same : n ≡ n - 0 = omega arith in ap (λ (m : ℕ). take m x) same
+drop-taken (suc k) zero x h = absurd (omega arith)
+drop-taken (suc k) (suc n) [] h = sym (take-nil (suc n - suc k))
+drop-taken (suc k) (suc n) (y ∷ ys) h = let same : n - k ≡ suc n - suc k = omega arith in drop-taken k n ys (omega arith) ∙ ap (λ (m : ℕ). take m (drop k ys)) same
+
 address-part : (s : List ℕ) (start size : ℕ) → drop 1 (part s start size) ≡ part s (start + 1) (size - 1)
 unfolding part
 address-part s start size = drop-take size (drop start s) ∙ ap (take (size - 1)) (drop-drop 1 start s)
+
+drop-part : (s : List ℕ) (start size k : ℕ) → k ≤ size → drop k (part s start size) ≡ part s (start + k) (size - k)
+unfolding part
+drop-part s start size k h = drop-taken k size (drop start s) h ∙ ap (take (size - k)) (drop-drop k start s)
+
+-- a type has no key where it has a FEC
+pub unkeyed-fec : (type : ℕ) → withFec type ≡ true → withKey type ≡ false
+unfolding withFec withKey either
+unkeyed-fec type h =
+    ⊎-elim (λ e. ap withKey (eqb-true type 67 e)) (λ e. ap withKey (eqb-true type 71 e)) (either-true _ _ h)
 
 module _ (bits : ℕ) (s : List ℕ) (laid : Laid) (e : laidAt bits s ≡ given laid) where
   pub out : LaidOut (keyField bits) bits s laid
@@ -59,7 +78,11 @@ module _ (bits : ℕ) (s : List ℕ) (laid : Laid) (e : laidAt bits s ≡ given 
   unfolding every bodies both agree pick hasField either sameKind codeOf withKey
   has-key = has-is key withKey refl
 
-  has-source-as : hasField sourceAs (laid .body) ≡ withSourceAs (laid .type)
+  pub has-fec : hasField fec (laid .body) ≡ withFec (laid .type)
+  unfolding every bodies both agree pick hasField either sameKind codeOf withFec
+  has-fec = has-is fec withFec refl
+
+  pub has-source-as : hasField sourceAs (laid .body) ≡ withSourceAs (laid .type)
   unfolding every bodies both agree pick hasField either sameKind codeOf withSourceAs
   has-source-as = has-is sourceAs withSourceAs refl
 
@@ -78,7 +101,7 @@ module _ (bits : ℕ) (s : List ℕ) (laid : Laid) (e : laidAt bits s ≡ given 
   kind-piece k = body-piece (fieldSize (keyField bits) bits (laid .type)) (laid .body) (part s 2 (laid .size)) (laid .sizes) (rw (out .body) (out .row .distinct)) (rw (out .body) (out .row .ordered)) (rw (out .body) (out .sizes)) k
 
   -- the fields take all of the body
-  pub total : z key + (z distinguisher + (z sourceAs + (z source + (z group + z originator)))) ≡ laid .size
+  pub total : z key + (z distinguisher + (z sourceAs + (z fec + (z source + (z group + z originator))))) ≡ laid .size
   unfolding sumOf order
   total =
       let all = body-all _ (laid .body) (part s 2 (laid .size)) (laid .sizes) (rw (out .body) (out .row .distinct)) (rw (out .body) (out .row .ordered)) (rw (out .body) (out .sizes))
@@ -119,7 +142,7 @@ module _ (bits : ℕ) (s : List ℕ) (laid : Laid) (e : laidAt bits s ≡ given 
 
   -- an NLRI with a key: behind it an originator
   pub record LeafSizes : Type 0 where
-    pub rest : (z distinguisher ≡ 0) × (z sourceAs ≡ 0) × (z source ≡ 0) × (z group ≡ 0)
+    pub rest : (z distinguisher ≡ 0) × (z sourceAs ≡ 0) × (z source ≡ 0) × (z group ≡ 0) × (z fec ≡ 0)
     pub keyed : (z key ≡ 2 + getD s 3 0) × (2 ≤ z key)
 
   pub leaf-sizes : withKey (laid .type) ≡ true → LeafSizes
@@ -130,7 +153,7 @@ module _ (bits : ℕ) (s : List ℕ) (laid : Laid) (e : laidAt bits s ≡ given 
       let none : (k : FieldKind) → hasField k (key ∷ originator ∷ []) ≡ false → z k ≡ 0 = λ k h. lacked k (ap (hasField k) body ∙ h) in
       let second : getD (part s 2 (laid .size)) 1 0 ≡ getD s 3 0 = sym (getD-drop 1 (part s 2 (laid .size)) 0 0) ∙ octet 1 (omega (arith, length-body, k .0, k .1)) in
       record {
-        rest = (none distinguisher refl, none sourceAs refl, none source refl, none group refl);
+        rest = (none distinguisher refl, none sourceAs refl, none source refl, none group refl, none fec refl);
         keyed = (k .2 ∙ ap (λ (n : ℕ). 2 + n) second, k .0);
       }
 
@@ -145,8 +168,8 @@ module _ (bits : ℕ) (s : List ℕ) (laid : Laid) (e : laidAt bits s ≡ given 
     pub numbered : z sourceAs ≡ pick (withSourceAs (laid .type)) 4 0
     pub start : sourceStart (laid .type) ≡ 3 + (z distinguisher + z sourceAs)
 
-  -- its route distinguisher, and its group by its source
-  unkeyed-row : withKey (laid .type) ≡ false → (hasField distinguisher (laid .body) ≡ true) × (hasField group (laid .body) ≡ hasField source (laid .body))
+  -- its route distinguisher, and its group by its source, in whose place a FEC stands
+  unkeyed-row : withKey (laid .type) ≡ false → (hasField distinguisher (laid .body) ≡ true) × (hasField group (laid .body) ≡ hasField source (laid .body)) × (hasField fec (laid .body) ≡ true → hasField source (laid .body) ≡ false)
   unkeyed-row n = rw (out .body) (out .row .unkeyed (ap (hasField key) (sym (out .body)) ∙ has-key ∙ n))
 
   pub other-sizes : withKey (laid .type) ≡ false → OtherSizes
@@ -164,16 +187,47 @@ module _ (bits : ℕ) (s : List ℕ) (laid : Laid) (e : laidAt bits s ≡ given 
     pub first : z source ≡ 1 + getD s (sourceStart (laid .type) - 1) 0 / 8
     pub second : z group ≡ 1 + getD s (sourceStart (laid .type) - 1 + z source) 0 / 8
 
+  -- beside a source there is no FEC
+  pub flow-bare : withKey (laid .type) ≡ false → hasField source (laid .body) ≡ true → z fec ≡ 0
+  flow-bare n f = lacked fec (is-false _ (λ yes. opposite f (unkeyed-row n .2 yes)))
+
   pub flow-sizes : withKey (laid .type) ≡ false → hasField source (laid .body) ≡ true → FlowSizes
   unfolding fieldSize
   flow-sizes n f =
       let st = starts (laid .body) (laid .sizes) in
       let o = other-sizes n in
+      let bare = flow-bare n f in
       let at : 2 + (z distinguisher + z sourceAs) ≡ sourceStart (laid .type) - 1 = omega (arith, o .start) in
       let next : 2 + (z distinguisher + z sourceAs + z source) ≡ sourceStart (laid .type) - 1 + z source = omega (arith, o .start) in
       record {
         first = rw at at (address source (z distinguisher + z sourceAs) (λ y. refl) (omega (arith, o .unkeyed)) f);
         second = rw next at (address group (z distinguisher + z sourceAs + z source) (λ y. refl) (omega (arith, o .unkeyed)) (unkeyed-row n .1 ∙ f));
+      }
+
+  -- a FEC, whose size is what its own lengths say, behind the route distinguisher or the source AS
+  pub record FecSizes : Type 0 where
+    pub none : (z source ≡ 0) × (z group ≡ 0)
+    pub start : fecStart (laid .type) ≡ 2 + (z distinguisher + z sourceAs)
+    pub size : frontSize (fromFec (laid .type) s) ≡ z fec
+
+  pub fec-sizes : withFec (laid .type) ≡ true → FecSizes
+  unfolding fieldSize fecStart fromFec
+  fec-sizes h =
+      let n : withKey (laid .type) ≡ false = unkeyed-fec (laid .type) h in
+      let st = starts (laid .body) (laid .sizes) in
+      let o = other-sizes n in
+      let yes : hasField fec (laid .body) ≡ true = has-fec ∙ h in
+      let begin : sourceStart (laid .type) - 1 ≡ 2 + (z distinguisher + z sourceAs) = omega (arith, o .start) in
+      let at : startIn (laid .body) (laid .sizes) fec ≡ z distinguisher + z sourceAs = omega (arith, o .unkeyed) in
+      let within : z distinguisher + z sourceAs ≤ laid .size = omega (arith, total) in
+      let from : drop (z distinguisher + z sourceAs) (part s 2 (laid .size)) ≡ part s (sourceStart (laid .type) - 1) (2 + getD s 1 0 - (sourceStart (laid .type) - 1)) =
+      drop-part s 2 (laid .size) (z distinguisher + z sourceAs) within
+      ∙ ap₂ (part s) (sym begin) (omega (arith, begin, out .sized)) in
+      let read = rw at at (kind-stands fec yes .read) in
+      record {
+        none = (lacked source (unkeyed-row n .2 yes), lacked group (unkeyed-row n .1 ∙ unkeyed-row n .2 yes));
+        start = begin;
+        size = ap frontSize (sym from) ∙ size-read _ _ (z fec) read .0;
       }
 
   pub no-flow : withKey (laid .type) ≡ false → hasField source (laid .body) ≡ false → (z source ≡ 0) × (z group ≡ 0)
@@ -194,7 +248,7 @@ module _ (bits : ℕ) (small : bits ≤ 128) (s : List ℕ) (laid : Laid) (e : l
   abbrev start : FieldKind → ℕ
   start k = startIn (laid .body) (laid .sizes) k
 
-  all : w key + (w distinguisher + (w sourceAs + (w source + (w group + w originator)))) ≡ laid .size
+  all : w key + (w distinguisher + (w sourceAs + (w fec + (w source + (w group + w originator))))) ≡ laid .size
   all = total bits s laid e
 
   -- each field is the part of the NLRI at its start; where a field takes nothing, any start will do
@@ -218,19 +272,28 @@ module _ (bits : ℕ) (small : bits ≤ 128) (s : List ℕ) (laid : Laid) (e : l
   address-ends k at h (inl q) some = absurd (omega arith)
   address-ends k at h (inr p) some = omega (arith, long)
 
+  fec-at : (at : ℕ) → (w fec ≡ 0) ⊎ (2 + start fec ≡ at) → field fec ≡ part s at (w fec)
+  unfolding part
+  fec-at at (inl q) = no-piece fec q ∙ ap (part s at) (sym q)
+  fec-at at (inr p) = piece fec ∙ ap (λ (i : ℕ). part s i (w fec)) p
+
+  fec-ends : (at : ℕ) → (w fec ≡ 0) ⊎ (2 + start fec ≡ at) → 0 < w fec → at + w fec ≤ length s
+  fec-ends at (inl q) some = absurd (omega arith)
+  fec-ends at (inr p) some = let st = starts (laid .body) (laid .sizes) in omega (arith, long, all)
+
   -- by what the type says of its fields
   shape : (w source ≡ 0) ⊎ (3 + start source ≡ sourceStart (laid .type))
       → (w group ≡ 0) ⊎ (3 + start group ≡ sourceStart (laid .type) + (w source - 1) + 1)
       → (field distinguisher ≡ distinguisherAt (laid .type) s) × (withKey (laid .type) ≡ false → 10 ≤ length s)
-      → (numberIn (field sourceAs) 0 ≡ sourceAsAt (laid .type) s) × (withSourceAs (laid .type) ≡ true → 14 ≤ length s) → Shaped laid s
+      → (numberIn (field sourceAs) 0 ≡ sourceAsAt (laid .type) s) × (withSourceAs (laid .type) ≡ true → 14 ≤ length s) → (w fec ≡ 0) ⊎ (2 + start fec ≡ fecStart (laid .type)) → Shaped laid s
   unfolding fieldsOf fieldsAt layoutOf field fieldSize
-  shape a b d n =
+  shape a b d n c =
       let at = starts (laid .body) (laid .sizes) in
       let first : 2 + start key ≡ 2 = omega arith in
       let last : 2 + start originator ≡ length s - w originator = omega (arith, long, all) in
       record {
         fields = fields-same refl (d .0) (n .0) (address-at source _ a) (address-at group _ b) (piece originator ∙ ap (λ (i : ℕ). part s i (w originator)) last)
-            (piece key ∙ ap (λ (i : ℕ). part s i (w key)) first);
+            (piece key ∙ ap (λ (i : ℕ). part s i (w key)) first) (fec-at (fecStart (laid .type)) c);
         within = record {
           typed = known-octet (laid .type) (out bits s laid e .row .known);
           distinguished = d .1;
@@ -239,7 +302,10 @@ module _ (bits : ℕ) (small : bits ≤ 128) (s : List ℕ) (laid : Laid) (e : l
           group = (omega (arith, address-short bits s laid e small group (λ y. refl)), address-ends group _ (omega (arith, all)) b);
           originator = (originator-short bits s laid e, omega (arith, long, all));
           key = omega (arith, long, all);
-          keyed = ap (hasField key) (sym (out bits s laid e .body)) ∙ has-key bits s laid e;
+          sourceAsKind = ap (hasField sourceAs) (sym (out bits s laid e .body)) ∙ has-source-as bits s laid e;
+          fecKind = ap (hasField fec) (sym (out bits s laid e .body)) ∙ has-fec bits s laid e;
+          fecEnd = fec-ends (fecStart (laid .type)) c;
+          keyKind = ap (hasField key) (sym (out bits s laid e .body)) ∙ has-key bits s laid e;
         };
       }
 
@@ -251,16 +317,21 @@ module _ (bits : ℕ) (small : bits ≤ 128) (s : List ℕ) (laid : Laid) (e : l
       shape (inl (l .rest .2)) (inl (l .rest .3))
       (no-piece distinguisher (l .rest .0) ∙ sym (pick-true _ _ _ t), λ n. absurd (opposite t n))
       (ap (λ (x : List ℕ). numberIn x 0) (no-piece sourceAs (l .rest .1)) ∙ sym (pick-false _ _ _ none), λ n. absurd (opposite n none))
+      (inl (l .rest .4))
 
   other-shaped : withKey (laid .type) ≡ false → Shaped laid s
-  unfolding distinguisherAt sourceAsAt numberIn
+  unfolding distinguisherAt sourceAsAt numberIn fecStart
   other-shaped t =
       let at = starts (laid .body) (laid .sizes) in
       let o = other-sizes bits s laid e t in
       let flow : (w group ≡ 0) ⊎ (3 + start group ≡ sourceStart (laid .type) + (w source - 1) + 1) =
       tested (hasField source (laid .body))
-      (λ yes. inr (omega (arith, o .unkeyed, o .start, flow-sizes bits s laid e t yes .first)))
+      (λ yes. inr (omega (arith, o .unkeyed, o .start, flow-bare bits s laid e t yes, flow-sizes bits s laid e t yes .first)))
       (λ no. inl (no-flow bits s laid e t no .1)) in
+      let first : (w source ≡ 0) ⊎ (3 + start source ≡ sourceStart (laid .type)) =
+      tested (hasField source (laid .body))
+      (λ yes. inr (omega (arith, o .unkeyed, o .start, flow-bare bits s laid e t yes)))
+      (λ no. inl (no-flow bits s laid e t no .0)) in
       let number : (numberIn (field sourceAs) 0 ≡ pick (withSourceAs (laid .type)) (numberIn (part s 10 4) 0) 0) × (withSourceAs (laid .type) ≡ true → 14 ≤ length s) =
       tested (withSourceAs (laid .type))
       (λ yes.
@@ -269,9 +340,11 @@ module _ (bits : ℕ) (small : bits ≤ 128) (s : List ℕ) (laid : Laid) (e : l
       (ap (λ (x : List ℕ). numberIn x 0) (piece sourceAs ∙ ap₂ (part s) ten four) ∙ sym (pick-true _ _ _ yes), λ _. omega (arith, long, all, o .eight)))
       (λ no. (ap (λ (x : List ℕ). numberIn x 0) (no-piece sourceAs (o .numbered ∙ pick-false _ _ _ no)) ∙ sym (pick-false _ _ _ no), λ yes. absurd (opposite yes no))) in
       let two : 2 + start distinguisher ≡ 2 = omega (arith, o .unkeyed) in
-      shape (inr (omega (arith, o .unkeyed, o .start))) flow
+      let begin : 2 + start fec ≡ sourceStart (laid .type) - 1 = omega (arith, o .unkeyed, o .start) in
+      shape first flow
       (piece distinguisher ∙ ap₂ (part s) two (o .eight) ∙ sym (pick-false _ _ _ t), λ _. omega (arith, long, all, o .eight))
       number
+      (inr begin)
 
 pub shaped : (bits : ℕ) (s : List ℕ) (laid : Laid) → bits ≤ 128 → laidSingle bits s ≡ given laid → Shaped laid s
 shaped bits s laid small e =

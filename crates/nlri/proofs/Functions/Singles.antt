@@ -1,8 +1,9 @@
 -- A single NLRI: its layout, and its fields by its layout.
 use mathlib.Core.Path.{_≡_, refl, sym, _∙_, ap, ap₂, subst}
-use mathlib.Core.Bool.{true}
+use mathlib.Core.Bool.{Bool, true, false}
 use mathlib.Core.List.{List}
-use Prim.Native.Nat.{ℕ, _+_, _-_, _≤_}
+use Prim.Native.Nat.{ℕ, zero, suc, _+_, _-_, _≤_, _<_}
+use native.Mathlib.Omega.{arith}
 use lib.ListN.{length, getD}
 use Rattle.octets.specs.Numbers.{DONE}
 use Rattle.octets.specs.Choice.{pick}
@@ -17,15 +18,15 @@ use Rattle.nlri.specs.declared.address.RouteDistinguisher.{RouteDistingu
 use Rattle.nlri.specs.declared.fields.Nlri.{Nlri}
 use Rattle.nlri.specs.declared.fields.NlriReading.{NlriReading}
 use Rattle.nlri.specs.Family.{familyBits}
-use Rattle.nlri.specs.Bodies.{originator, bodyOf, hasField}
+use Rattle.nlri.specs.Bodies.{sourceAs, originator, fec, bodyOf, hasField}
 use Rattle.nlri.specs.Fields.{Fields}
 use Rattle.nlri.specs.Reading.{Laid, laidAt, laidSingle, fieldsOf, readNlri}
 use Rattle.nlri.specs.Layouts.{layoutOf, layoutAt, layoutSingle}
-use Rattle.nlri.specs.Answers.{nlriStruct, keySpan, nlriAnswer}
-use Rattle.nlri.specs.Inner.{withKey, layoutIn, Stands, fieldsAt, keyAt, LayoutWithin, endsWith, single}
+use Rattle.nlri.specs.Answers.{nlriStruct, keySpan, fecSpan, nlriAnswer}
+use Rattle.nlri.specs.Inner.{withKey, withFec, withSourceAs, sourceStart, fecStart, layoutIn, Stands, fieldsAt, keyAt, fecAt, LayoutWithin, endsWith, single}
 use Rattle.nlri.proofs.Definitions.Lengths.{family-octets}
 use Rattle.octets.proofs.Lists.{length-part}
-use Rattle.nlri.proofs.Functions.Shapes.{shaped, originator-least, other-sizes}
+use Rattle.nlri.proofs.Functions.Shapes.{shaped, originator-least, other-sizes, lacked, has-fec}
 use Rattle.nlri.proofs.Functions.Standing.{stands, laid-as}
 use Rattle.nlri.proofs.Definitions.Whole.{single-laid-out}
 
@@ -89,7 +90,39 @@ nlri-same d d′ a a′ g g′ o o′ x x′ t t′ pd pa pg po px pt = λ i. re
 
 pub key-same : (l : Layout) (s : List ℕ) → LayoutWithin l s → keyAt l ≡ keySpan (fieldsAt l s)
 unfolding keyAt keySpan fieldsAt
-key-same l s w = λ i. record { start = pick (sym (w .keyed) i) 2 0; size = sym (length-part s 2 (l .key) (w .key)) i }
+key-same l s w = λ i. record { start = pick (sym (w .keyKind) i) 2 0; size = sym (length-part s 2 (l .key) (w .key)) i }
+
+-- a FEC starts where the length octet of a source would stand
+start-pick : (b : Bool) → pick b 15 11 - 1 ≡ pick b 14 10
+unfolding pick
+start-pick true = refl
+start-pick false = refl
+
+fec-long : (n at : ℕ) (s : List ℕ) → (0 < n → at + n ≤ length s) → length (part s at n) ≡ n
+unfolding part
+fec-long zero at s h = refl
+fec-long (suc n) at s h = length-part s at (suc n) (h (omega arith))
+
+pub fec-same : (l : Layout) (s : List ℕ) → LayoutWithin l s → fecAt l ≡ fecSpan (fieldsAt l s)
+unfolding fecAt fecSpan fieldsAt fecStart sourceStart
+fec-same l s w =
+    let start : pick (withSourceAs (l .«route_type»)) 15 11 - 1 ≡ pick (hasField sourceAs (bodyOf (l .«route_type»))) 14 10 = start-pick _ ∙ ap (λ (b : Bool). pick b 14 10) (sym (w .sourceAsKind)) in
+    λ i. record { start = pick (sym (w .fecKind) i) (start i) 0; size = sym (fec-long (l .fec) _ s (w .fecEnd)) i }
+
+fec-begin : (bits : ℕ) (s : List ℕ) (laid : Laid) → laidAt bits s ≡ given laid → part s (fecAt (layoutOf laid) .start) (layoutOf laid .fec) ≡ part s (fecStart (laid .type)) (layoutOf laid .fec)
+unfolding fecAt layoutOf part
+fec-begin bits s laid e =
+    tested (withFec (laid .type)) (λ yes. ap (λ (n : ℕ). part s n (layoutOf laid .fec)) (pick-true _ _ 0 yes)) (λ no. rw (lacked bits s laid e fec (has-fec bits s laid e ∙ no)) refl)
+
+-- it stands where its span says
+pub fec-spanned : (afi : ℕ) (s : List ℕ) (f : Fields) → readNlri afi s ≡ given f → part s (fecSpan f .start) (fecSpan f .size) ≡ f .fec
+unfolding readNlri fieldsAt fecAt layoutOf part
+fec-spanned afi s f e =
+    let p = passed _ _ _ e in
+    let q = passed _ _ _ (p .second) in
+    let shape = shaped (p .value) s (q .value) (family-octets afi (p .value) (p .first) .1) (q .first) in
+    subst (λ (g : Fields). part s (fecSpan g .start) (fecSpan g .size) ≡ g .fec) (sym (shape .fields) ∙ given-same (q .second))
+    (ap (λ (k : Span). part s (k .start) (k .size)) (sym (fec-same (layoutOf (q .value)) s (shape .within))) ∙ fec-begin (p .value) s (q .value) (single-laid-out (p .value) s (q .value) (q .first) .front))
 
 -- a key stands where its span says; where there is none, any start will do
 key-start : (bits : ℕ) (s : List ℕ) (laid : Laid) → laidAt bits s ≡ given laid → part s (keyAt (layoutOf laid) .start) (layoutOf laid .key) ≡ part s 2 (layoutOf laid .key)
@@ -106,9 +139,10 @@ key-spanned afi s f e =
     subst (λ (g : Fields). part s (keySpan g .start) (keySpan g .size) ≡ g .key) (sym (shape .fields) ∙ given-same (q .second))
     (ap (λ (k : Span). part s (k .start) (k .size)) (sym (key-same (layoutOf (q .value)) s (shape .within))) ∙ key-start (p .value) s (q .value) (single-laid-out (p .value) s (q .value) (q .first) .front))
 
-pub answer-given : (afi : ℕ) (s : List ℕ) (f : Fields) (nlri : Nlri) (key : Span) → readNlri afi s ≡ given f → nlri ≡ nlriStruct f → key ≡ keySpan f → record { number = DONE; nlri = nlri; key = key } ≡ nlriAnswer (readNlri afi s)
+pub answer-given : (afi : ℕ) (s : List ℕ) (f : Fields) (nlri : Nlri) (key fec : Span) → readNlri afi s ≡ given f → nlri ≡ nlriStruct f → key ≡ keySpan f → fec ≡ fecSpan f
+    → record { number = DONE; nlri = nlri; key = key; fec = fec } ≡ nlriAnswer (readNlri afi s)
 unfolding nlriAnswer onOutcome
-answer-given afi s f nlri key e p q = (λ i. record { number = DONE; nlri = p i; key = q i }) ∙ ap nlriAnswer (sym e)
+answer-given afi s f nlri key held e p q c = (λ i. record { number = DONE; nlri = p i; key = q i; fec = c i }) ∙ ap nlriAnswer (sym e)
 
 pub answer-refused : (r : NlriReading) (afi : ℕ) (s : List ℕ) (n : ℕ) → r ≡ nlriAnswer (refused n) → readNlri afi s ≡ refused n → r ≡ nlriAnswer (readNlri afi s)
 answer-refused r afi s n p e = p ∙ ap nlriAnswer (sym e)

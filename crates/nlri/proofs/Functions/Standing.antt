@@ -12,14 +12,15 @@ use Rattle.octets.specs.Numbers.{DONE}
 use Rattle.octets.specs.Outcome.{given, numberOf}
 use Rattle.octets.proofs.Choice.{picks, skips, tested, either-false}
 use Rattle.octets.proofs.Outcome.{passed, given-same}
-use Rattle.nlri.specs.Bodies.{FieldKind, distinguisher, sourceAs, source, group, originator, key, bodies, onBody, bodyOf, codeOf, sameKind, hasField}
+use Rattle.fec_elements.specs.Reading.{frontSize}
+use Rattle.nlri.specs.Bodies.{FieldKind, distinguisher, sourceAs, source, group, originator, key, fec, bodies, onBody, bodyOf, codeOf, sameKind, hasField}
 use Rattle.nlri.specs.Reading.{Laid, laidAt}
 use Rattle.nlri.specs.Layouts.{layoutOf, layoutAt}
-use Rattle.nlri.specs.Inner.{layoutWith, withKey, withSourceAs, sourceStart, sizeAt, flowLayout, leafLayout, layoutIn, FlowStands, Stands}
+use Rattle.nlri.specs.Inner.{layoutWith, withKey, withFec, withSourceAs, sourceStart, sizeAt, flowLayout, leafLayout, fecStart, fromFec, fecLayout, layoutIn, FlowStands, FecStands, Stands}
 use Rattle.nlri.proofs.Definitions.Table.{every, agree}
 use Rattle.nlri.proofs.Definitions.ReadNumbers.{refuses-done, refuses-layout}
 use Rattle.nlri.proofs.Definitions.Starts.{sizeIn}
-use Rattle.nlri.proofs.Functions.Shapes.{out, total, has-is, lacked, leaf-sizes, other-sizes, flow-sizes, no-flow}
+use Rattle.nlri.proofs.Functions.Shapes.{out, total, has-is, lacked, leaf-sizes, other-sizes, flow-bare, flow-sizes, unkeyed-fec, fec-sizes, no-flow}
 
 module _ (bits : ℕ) (s : List ℕ) (laid : Laid) (e : laidAt bits s ≡ given laid) where
   abbrev z : FieldKind → ℕ
@@ -34,21 +35,22 @@ module _ (bits : ℕ) (s : List ℕ) (laid : Laid) (e : laidAt bits s ≡ given 
   long : 2 + laid .size ≤ length s
   long = omega (arith, out bits s laid e .enough, out bits s laid e .fits)
 
-  all : z key + (z distinguisher + (z sourceAs + (z source + (z group + z originator)))) ≡ laid .size
+  all : z key + (z distinguisher + (z sourceAs + (z fec + (z source + (z group + z originator))))) ≡ laid .size
   all = total bits s laid e
 
   -- every other type has a source and a group
-  flowing : (laid .type ≡ 1 → ⊥) → (laid .type ≡ 2 → ⊥) → withKey (laid .type) ≡ false → hasField source (laid .body) ≡ true
-  unfolding every bodies both agree pick hasField sameKind codeOf either withKey
-  flowing one two unkeyed =
-      has-is bits s laid e source (λ n. not (either (eqb n 1) (either (eqb n 2) (withKey n)))) refl
-      ∙ ap not (either-false _ _ (ne-eqb (laid .type) 1 one) (either-false _ _ (ne-eqb (laid .type) 2 two) unkeyed))
+  flowing : (laid .type ≡ 1 → ⊥) → (laid .type ≡ 2 → ⊥) → withKey (laid .type) ≡ false → withFec (laid .type) ≡ false → hasField source (laid .body) ≡ true
+  unfolding every bodies both agree pick hasField sameKind codeOf either withKey withFec
+  flowing one two unkeyed bare =
+      has-is bits s laid e source (λ n. not (either (eqb n 1) (either (eqb n 2) (either (withKey n) (withFec n))))) refl
+      ∙ ap not (either-false _ _ (ne-eqb (laid .type) 1 one) (either-false _ _ (ne-eqb (laid .type) 2 two) (either-false _ _ unkeyed bare)))
 
   flow-stands : withKey (laid .type) ≡ false → hasField source (laid .body) ≡ true → FlowStands (sourceStart (laid .type) - 1) s × (layoutOf laid ≡ flowLayout (laid .type) (sourceStart (laid .type) - 1) s)
   unfolding flowLayout layoutWith layoutOf sizeAt
   flow-stands n f =
       let o = other-sizes bits s laid e n in
       let w = flow-sizes bits s laid e n f in
+      let bare = flow-bare bits s laid e n f in
       let at : ℕ = sourceStart (laid .type) - 1 in
       let next : at + z source ≡ at + 1 + getD s at 0 / 8 = omega (arith, w .first) in
       let second : z group ≡ 1 + getD s (at + 1 + getD s at 0 / 8) 0 / 8 = w .second ∙ ap (λ (i : ℕ). 1 + getD s i 0 / 8) next in
@@ -56,55 +58,68 @@ module _ (bits : ℕ) (s : List ℕ) (laid : Laid) (e : laidAt bits s ≡ given 
       let b : z group - 1 ≡ getD s (at + 1 + getD s at 0 / 8) 0 / 8 = omega arith in
       let rest : z originator ≡ getD s 1 0 - at - getD s at 0 / 8 - getD s (at + 1 + getD s at 0 / 8) 0 / 8 = omega (arith, o .unkeyed, o .start, w .first, all, size) in (
         record { group = omega (arith, o .start, w .first, all, long); sizes = omega (arith, o .unkeyed, o .start, w .first, all, size) },
-        λ i. record { «route_type» = laid .type; length = size i; source = a i; group = b i; originator = rest i; key = o .unkeyed i },
+        λ i. record { «route_type» = laid .type; length = size i; source = a i; group = b i; originator = rest i; key = o .unkeyed i; fec = bare i },
       )
 
   -- the layout of a type without source and group
-  plain-layout : (n o : ℕ) → laid .type ≡ n → (z source ≡ 0) × (z group ≡ 0) → z originator ≡ o → (k : ℕ) → z key ≡ k → layoutOf laid ≡ layoutWith n (getD s 1 0) 0 0 o k
+  plain-layout : (n o : ℕ) → laid .type ≡ n → (z source ≡ 0) × (z group ≡ 0) → z originator ≡ o → (k : ℕ) → z key ≡ k → (c : ℕ) → z fec ≡ c → layoutOf laid ≡ layoutWith n (getD s 1 0) 0 0 o k c
   unfolding layoutWith layoutOf
-  plain-layout n o t f p k q = λ i. record { «route_type» = t i; length = size i; source = f .0 i - 1; group = f .1 i - 1; originator = p i; key = q i }
+  plain-layout n o t f p k q c r = λ i. record { «route_type» = t i; length = size i; source = f .0 i - 1; group = f .1 i - 1; originator = p i; key = q i; fec = r i }
 
   -- the body of a type that is given
   body-of : (n : ℕ) → laid .type ≡ n → (k : FieldKind) → hasField k (laid .body) ≡ hasField k (bodyOf n)
   body-of n t k = ap (hasField k) (out bits s laid e .body ∙ ap bodyOf t)
 
+  fec-stands : withFec (laid .type) ≡ true → FecStands (laid .type) s × (layoutOf laid ≡ fecLayout (laid .type) s)
+  unfolding fecLayout
+  fec-stands h =
+      let c = fec-sizes bits s laid e h in
+      let key : z key ≡ 0 = other-sizes bits s laid e (unkeyed-fec (laid .type) h) .unkeyed in
+      let left : z originator ≡ 2 + getD s 1 0 - fecStart (laid .type) - frontSize (fromFec (laid .type) s) = omega (arith, c .none, c .start, c .size, all, size) in (
+        record { body = omega (arith, long, size); start = omega (arith, c .start, all, size); sizes = omega (arith, c .start, c .size, all, size) },
+        plain-layout (laid .type) _ refl (c .none) left 0 key _ (sym (c .size)),
+      )
+
   pub stands : Stands s
-  unfolding withKey
+  unfolding withKey either
   stands =
       record {
         header = out bits s laid e .enough;
         intraAs = λ q. omega (arith, other-sizes bits s laid e (ap withKey (type ∙ q)) .eight, all, size);
         leaf = λ q. let l = leaf-sizes bits s laid e (ap withKey type ∙ q) in (omega (arith, l .keyed, all, long), omega (arith, l .keyed, all, size));
-        flow = λ one two unkeyed. let n = ap withKey type ∙ unkeyed in rw type at (flow-stands n (flowing (λ q. one (sym type ∙ q)) (λ q. two (sym type ∙ q)) n) .0);
+        fec = λ q. rw type at (fec-stands (ap withFec type ∙ q) .0);
+        flow = λ one two unkeyed bare. let n = ap withKey type ∙ unkeyed in rw type at (flow-stands n (flowing (λ q. one (sym type ∙ q)) (λ q. two (sym type ∙ q)) n (ap withFec type ∙ bare)) .0);
       }
 
   pub laid-as : layoutOf laid ≡ layoutIn s
-  unfolding layoutIn leafLayout withKey withSourceAs either pick bodyOf bodies onBody hasField sameKind codeOf
+  unfolding layoutIn leafLayout withKey withFec withSourceAs either pick bodyOf bodies onBody hasField sameKind codeOf
   laid-as =
       tested (eqb (getD s 0 0) 1)
       (λ t₁. let t : laid .type ≡ 1 = type ∙ eqb-true _ _ t₁ in let o = other-sizes bits s laid e (ap withKey t) in let f = no-flow bits s laid e (ap withKey t) (body-of 1 t source) in
-      picks _ _ _ _ t₁ (plain-layout 1 (getD s 1 0 - 8) t f (omega (arith, o .unkeyed, o .eight, o .numbered ∙ ap (λ (n : ℕ). pick (withSourceAs n) 4 0) t, f .0, f .1, all, size)) 0 (o .unkeyed)))
+      picks _ _ _ _ t₁ (plain-layout 1 (getD s 1 0 - 8) t f (omega (arith, o .unkeyed, o .eight, o .numbered ∙ ap (λ (n : ℕ). pick (withSourceAs n) 4 0) t, f .0, f .1, lacked bits s laid e fec (body-of 1 t fec), all, size)) 0 (o .unkeyed) 0 (lacked bits s laid e fec (body-of 1 t fec))))
       (λ n₁. tested (eqb (getD s 0 0) 2)
-      (λ t₂. let t : laid .type ≡ 2 = type ∙ eqb-true _ _ t₂ in skips _ _ _ _ n₁ (picks _ _ _ _ t₂ (plain-layout 2 0 t (no-flow bits s laid e (ap withKey t) (body-of 2 t source)) (lacked bits s laid e originator (body-of 2 t originator)) 0 (other-sizes bits s laid e (ap withKey t) .unkeyed))))
+      (λ t₂. let t : laid .type ≡ 2 = type ∙ eqb-true _ _ t₂ in skips _ _ _ _ n₁ (picks _ _ _ _ t₂ (plain-layout 2 0 t (no-flow bits s laid e (ap withKey t) (body-of 2 t source)) (lacked bits s laid e originator (body-of 2 t originator)) 0 (other-sizes bits s laid e (ap withKey t) .unkeyed) 0 (lacked bits s laid e fec (body-of 2 t fec)))))
       (λ n₂. skips _ _ _ _ n₁ (skips _ _ _ _ n₂ (tested (withKey (getD s 0 0))
       (λ keyed. let l = leaf-sizes bits s laid e (ap withKey type ∙ keyed) in
-      picks _ _ _ _ keyed (plain-layout (getD s 0 0) (getD s 1 0 - (2 + getD s 3 0)) type (l .rest .2, l .rest .3) (omega (arith, l .rest, l .keyed .0, all, size)) (2 + getD s 3 0) (l .keyed .0)))
-      (λ unkeyed. skips _ _ _ _ unkeyed (flow-stands (ap withKey type ∙ unkeyed)
-      (flowing (λ q. eqb-false _ _ n₁ (sym type ∙ q)) (λ q. eqb-false _ _ n₂ (sym type ∙ q)) (ap withKey type ∙ unkeyed)) .1
-      ∙ ap (λ (k : ℕ). flowLayout k (sourceStart k - 1) s) type))))))
+      picks _ _ _ _ keyed (plain-layout (getD s 0 0) (getD s 1 0 - (2 + getD s 3 0)) type (l .rest .2, l .rest .3) (omega (arith, l .rest, l .keyed .0, all, size)) (2 + getD s 3 0) (l .keyed .0) 0 (l .rest .4)))
+      (λ unkeyed. skips _ _ _ _ unkeyed (tested (withFec (getD s 0 0))
+      (λ held. picks _ _ _ _ held (fec-stands (ap withFec type ∙ held) .1 ∙ ap (λ (k : ℕ). fecLayout k s) type))
+      (λ bare. skips _ _ _ _ bare (flow-stands (ap withKey type ∙ unkeyed)
+      (flowing (λ q. eqb-false _ _ n₁ (sym type ∙ q)) (λ q. eqb-false _ _ n₂ (sym type ∙ q)) (ap withKey type ∙ unkeyed) (ap withFec type ∙ bare)) .1
+      ∙ ap (λ (k : ℕ). flowLayout k (sourceStart k - 1) s) type))))))))
 
 -- in types 3 and 5 the source stands straight behind the route distinguisher
 pub s-pmsi-layout : (s : List ℕ) → getD s 0 0 ≡ 3 → layoutIn s ≡ flowLayout 3 10 s
-unfolding layoutIn withKey sourceStart withSourceAs either pick
+unfolding layoutIn withKey withFec sourceStart withSourceAs either pick
 s-pmsi-layout s t = rw t
 
 pub source-active-layout : (s : List ℕ) → getD s 0 0 ≡ 5 → layoutIn s ≡ flowLayout 5 10 s
-unfolding layoutIn withKey sourceStart withSourceAs either pick
+unfolding layoutIn withKey withFec sourceStart withSourceAs either pick
 source-active-layout s t = rw t
 
 pub source-active-stands : (s : List ℕ) → getD s 0 0 ≡ 5 → Stands s → FlowStands 10 s
-unfolding withKey sourceStart withSourceAs either pick
-source-active-stands s t b = rw t at (b .flow (λ q. omega arith) (λ q. omega arith) (ap withKey t))
+unfolding withKey withFec sourceStart withSourceAs either pick
+source-active-stands s t b = rw t at (b .flow (λ q. omega arith) (λ q. omega arith) (ap withKey t) (ap withFec t))
 
 -- by the number
 pub laid-in : (bits : ℕ) (s : List ℕ) (n : ℕ) → n ≡ numberOf (layoutAt bits s) → n ≡ DONE → Stands s × (given (layoutIn s) ≡ layoutAt bits s)

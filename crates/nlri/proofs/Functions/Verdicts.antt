@@ -1,30 +1,31 @@
--- The writer's verdict on an NLRI, and what it then writes, is document 01's, by the kinds of fields that its type has.
+-- The writer's verdict on an NLRI of types 1 to 7, and what it then writes, is document 01's, by the kinds of fields that its type has.
 use mathlib.Core.Path.{_≡_, refl, sym, _∙_, ap, ap₂}
 use mathlib.Core.Bool.{Bool, true, false, not}
 use mathlib.Core.Logic.{_⊎_, inl, inr}
 use mathlib.Core.List.{List, [], _∷_, _++_, append-nil, append-assoc}
 use Prim.Native.Nat.{ℕ, _*_, _≤_, _<_}
 use native.Mathlib.Omega.{arith}
-use borrow.Author.Tests.{eqb-true, ltb-true, ltb-false, eq-eqb, lt-ltb, le-ltb}
-use lib.ListN.{length, getD}
-use lib.Dec.{eqb, ltb}
+use borrow.Author.Tests.{eqb-true, ltb-true, ltb-false, eq-eqb, lt-ltb, le-ltb, le-leb}
+use lib.ListN.{length}
+use lib.Dec.{eqb, ltb, leb}
 use Rattle.octets.specs.Numbers.{DONE, TYPE, WIDTH, KEY, SPACE}
 use Rattle.octets.specs.Choice.{pick, both, either}
-use Rattle.octets.specs.Outcome.{Outcome, given, refused, andThen, numberOf}
-use Rattle.octets.proofs.AllOctets.{octets-of}
-use Rattle.octets.proofs.Choice.{opposite, both-assoc, both-true-left, both-true-right, either-true, pick-true, pick-false, pick-cong}
-use Rattle.octets.proofs.Outcome.{given-otherwise, given-unless, and-cong, goes, stops, refused-of}
+use Rattle.octets.specs.Outcome.{Outcome, given, refused, onOutcome, andThen, numberOf}
+use Rattle.octets.proofs.Choice.{opposite, both-left, both-assoc, both-true-left, both-true-right, either-true, pick-true, pick-false, pick-cong}
+use Rattle.octets.proofs.Outcome.{given-otherwise, given-unless, goes, stops, refused-of}
 use Rattle.nlri.specs.declared.fields.Nlri.{Nlri}
-use Rattle.nlri.specs.Family.{familyBits, allowed, isOriginatorSize}
-use Rattle.nlri.specs.Bodies.{FieldKind, distinguisher, sourceAs, source, group, originator, key, bodies, onBody, bodyOf, codeOf, sameKind}
+use Rattle.nlri.specs.Family.{allowed, isOriginatorSize}
+use Rattle.nlri.specs.Bodies.{FieldKind, distinguisher, sourceAs, source, group, originator, key, fec, toSeven, bodies, bodyOf, codeOf, sameKind}
 use Rattle.nlri.specs.Fields.{Fields, encodeField, encodeBody, encodeNlri}
-use Rattle.nlri.specs.Writing.{widthFits, widthsFit, keyFits, keysFit, isKey, writeNlri}
+use Rattle.nlri.specs.Reading.{keyField}
+use Rattle.nlri.specs.Writing.{widthFits, widthsFit, fecNumber, isLong, keyFits, keysFit, isKey}
 use Rattle.nlri.specs.Answers.{addressOctets, structFields}
 use Rattle.nlri.specs.Inner.{withSourceAs}
-use Rattle.nlri.specs.InnerWriting.{hasFlow, hasOriginator, flowFits, originatorFits, leafFits, fitting, sizeOf, sourceAsOctets, fixedOctets, flowOctets, originatorOctets, bodyOctets, nlriOctets, AddressSize, AddressesSized, writeUnder}
-use Rattle.nlri.proofs.Definitions.Table.{listed, on-body, known, unlisted, every, every-row, kept, order, sameKinds, same-kinds}
-use Rattle.nlri.proofs.Definitions.Keys.{octets-key}
-use Rattle.nlri.proofs.Definitions.Writes.{all, widths-all, keys-all, key-judged}
+use Rattle.nlri.specs.InnerWriting.{hasFlow, hasOriginator, flowFits, originatorFits, leafFits, fitting, sizeOf, sourceAsOctets, fixedOctets, flowOctets, originatorOctets, bodyOctets, nlriOctets, AddressSize, AddressesSized, writtenToSeven}
+use Rattle.nlri.proofs.Definitions.Table.{listed, known, known-least, rowOf, unlisted, every, every-row, kept, order, sameKinds, same-kinds}
+use Rattle.nlri.proofs.Definitions.Keys.{key-most}
+use Rattle.nlri.proofs.Definitions.Writes.{all, widths-all, keys-all, verdictOf}
+use Rattle.nlri.proofs.Definitions.Writes as writes
 use Rattle.nlri.proofs.Functions.Puts.{length-octets, size-is, fixed-short, flow-short, originator-short}
 
 -- the tests of a type by which the writer goes say which kinds its body has
@@ -35,16 +36,17 @@ hasKind type source = hasFlow type
 hasKind type group = hasFlow type
 hasKind type originator = hasOriginator type
 hasKind type key = eqb type 4
+hasKind type fec = false
 
-body-told : every (λ n body. sameKinds body (kept (hasKind n) order)) bodies ≡ true
+body-told : every (λ n body. pick (leb n 7) (sameKinds body (kept (hasKind n) order)) true) bodies ≡ true
 unfolding every bodies both sameKinds kept order hasKind sameKind codeOf pick either withSourceAs hasFlow hasOriginator
 body-told = refl
 
-body-kinds : (type : ℕ) → listed bodies type ≡ true → bodyOf type ≡ kept (hasKind type) order
-body-kinds type l = same-kinds _ _ (every-row _ body-told type l)
+body-kinds : (type : ℕ) → listed bodies type ≡ true → type ≤ 7 → bodyOf type ≡ kept (hasKind type) order
+body-kinds type l low = same-kinds _ _ (sym (pick-true _ _ _ (le-leb type 7 low)) ∙ every-row _ body-told type l)
 
 -- of kinds that a test keeps: what they are written as, and a test of each
-written : Fields → (FieldKind → Bool) → List FieldKind → List ℕ
+unfoldable pub written : Fields → (FieldKind → Bool) → List FieldKind → List ℕ
 written f has [] = []
 written f has (k ∷ kinds) = pick (has k) (encodeField f k) [] ++ written f has kinds
 
@@ -53,12 +55,12 @@ unfolding encodeBody pick
 written-first f true k rest = refl
 written-first f false k rest = refl
 
-written-kept : (f : Fields) (has : FieldKind → Bool) (kinds : List FieldKind) → encodeBody f (kept has kinds) ≡ written f has kinds
+pub written-kept : (f : Fields) (has : FieldKind → Bool) (kinds : List FieldKind) → encodeBody f (kept has kinds) ≡ written f has kinds
 unfolding encodeBody kept written
 written-kept f has [] = refl
 written-kept f has (k ∷ kinds) = written-first f (has k) k (kept has kinds) ∙ ap (λ (x : List ℕ). pick (has k) (encodeField f k) [] ++ x) (written-kept f has kinds)
 
-passes : (FieldKind → Bool) → (FieldKind → Bool) → List FieldKind → Bool
+unfoldable pub passes : (FieldKind → Bool) → (FieldKind → Bool) → List FieldKind → Bool
 passes test has [] = true
 passes test has (k ∷ kinds) = both (pick (has k) (test k) true) (passes test has kinds)
 
@@ -67,7 +69,7 @@ unfolding all pick both
 passes-first test true k rest = refl
 passes-first test false k rest = refl
 
-passes-kept : (test has : FieldKind → Bool) (kinds : List FieldKind) → all test (kept has kinds) ≡ passes test has kinds
+pub passes-kept : (test has : FieldKind → Bool) (kinds : List FieldKind) → all test (kept has kinds) ≡ passes test has kinds
 unfolding all kept passes
 passes-kept test has [] = refl
 passes-kept test has (k ∷ kinds) = passes-first test (has k) k (kept has kinds) ∙ ap (both (pick (has k) (test k) true)) (passes-kept test has kinds)
@@ -80,17 +82,21 @@ fixed-joined true true k d a rest h = absurd (opposite {b = true} refl (h refl))
 fixed-joined true false k d a rest h = refl
 fixed-joined false numbered k d a rest h = sym (append-assoc d (pick numbered a []) rest)
 
+no-piece : (x rest : List ℕ) → pick false x [] ++ rest ≡ rest
+unfolding pick
+no-piece x rest = refl
+
 flow-joined : (flow : Bool) (s g rest : List ℕ) → pick flow s [] ++ (pick flow g [] ++ rest) ≡ pick flow (s ++ g) [] ++ rest
 unfolding pick
 flow-joined true s g rest = sym (append-assoc s g rest)
 flow-joined false s g rest = refl
 
-free : (b x : Bool) → both (pick b true true) x ≡ x
+pub free : (b x : Bool) → both (pick b true true) x ≡ x
 unfolding pick both
 free true x = refl
 free false x = refl
 
-both-end : (b : Bool) → both b true ≡ b
+pub both-end : (b : Bool) → both b true ≡ b
 unfolding both
 both-end true = refl
 both-end false = refl
@@ -105,35 +111,35 @@ unfolding pick both
 pick-both true b u w = refl
 pick-both false b u w = refl
 
-module _ (nlri : Nlri) (keyOctets : List ℕ) (l : listed bodies (nlri .«route_type») ≡ true) where
+module _ (nlri : Nlri) (keyOctets fecOctets : List ℕ) (l : listed bodies (nlri .«route_type») ≡ true) (low : nlri .«route_type» ≤ 7) where
   -- the body that is written is document 01's
-  body-is : encodeBody (structFields nlri keyOctets) (bodyOf (nlri .«route_type»)) ≡ bodyOctets nlri keyOctets
+  body-is : encodeBody (structFields nlri keyOctets fecOctets) (bodyOf (nlri .«route_type»)) ≡ bodyOctets nlri keyOctets
   unfolding written hasKind order encodeField structFields bodyOctets fixedOctets sourceAsOctets flowOctets originatorOctets withSourceAs either
   body-is =
-      let f : Fields = structFields nlri keyOctets in
+      let f : Fields = structFields nlri keyOctets fecOctets in
       let type : ℕ = nlri .«route_type» in
-      ap (encodeBody f) (body-kinds type l)
+      ap (encodeBody f) (body-kinds type l low)
       ∙ written-kept f (hasKind type) order
       ∙ fixed-joined (eqb type 4) (withSourceAs type) _ _ _ _ (λ four. ap withSourceAs (eqb-true type 4 four))
-      ∙ ap (λ (x : List ℕ). fixedOctets nlri keyOctets ++ x) (flow-joined (hasFlow type) _ _ _ ∙ ap (λ (x : List ℕ). flowOctets nlri ++ x) (append-nil (originatorOctets nlri)))
+      ∙ ap (λ (x : List ℕ). fixedOctets nlri keyOctets ++ x) (no-piece _ _ ∙ flow-joined (hasFlow type) _ _ _ ∙ ap (λ (x : List ℕ). flowOctets nlri ++ x) (append-nil (originatorOctets nlri)))
 
-  all-is : encodeNlri (structFields nlri keyOctets) ≡ nlriOctets nlri keyOctets
+  all-is : encodeNlri (structFields nlri keyOctets fecOctets) ≡ nlriOctets nlri keyOctets
   unfolding encodeNlri nlriOctets structFields
   all-is = ap (λ (b : List ℕ). nlri .«route_type» ∷ length b ∷ b) body-is
 
 -- the verdict on a body: document 01's is the writer's
-module _ (bits : ℕ) (f : Fields) (l : listed bodies (f .type) ≡ true) where
+module _ (bits : ℕ) (f : Fields) (l : listed bodies (f .type) ≡ true) (low : f .type ≤ 7) where
   widths-are : widthsFit bits f (bodyOf (f .type)) ≡ both (flowFits bits (f .type) (length (f .source)) (length (f .group))) (originatorFits (f .type) (length (f .originator)))
   unfolding passes hasKind order widthFits flowFits originatorFits
   widths-are =
-      ap (widthsFit bits f) (body-kinds (f .type) l) ∙ widths-all bits f _ ∙ passes-kept (widthFits bits f) (hasKind (f .type)) order
-      ∙ free _ _ ∙ free _ _ ∙ free _ _ ∙ flow-tests (hasFlow (f .type)) _ _ _ ∙ ap (both _) (both-end _)
+      ap (widthsFit bits f) (body-kinds (f .type) l low) ∙ widths-all bits f _ ∙ passes-kept (widthFits bits f) (hasKind (f .type)) order
+      ∙ free _ _ ∙ free _ _ ∙ free _ _ ∙ free _ _ ∙ flow-tests (hasFlow (f .type)) _ _ _ ∙ ap (both _) (both-end _)
 
   keys-are : keysFit bits f (bodyOf (f .type)) ≡ leafFits bits (f .type) (f .key)
   unfolding passes hasKind order keyFits leafFits
   keys-are =
-      ap (keysFit bits f) (body-kinds (f .type) l) ∙ keys-all bits f _ ∙ passes-kept (keyFits bits f) (hasKind (f .type)) order
-      ∙ ap (both _) (free _ _ ∙ free _ _ ∙ free _ _ ∙ free _ _ ∙ free _ _) ∙ both-end _
+      ap (keysFit bits f) (body-kinds (f .type) l low) ∙ keys-all bits f _ ∙ passes-kept (keyFits bits f) (hasKind (f .type)) order
+      ∙ ap (both _) (free _ _ ∙ free _ _ ∙ free _ _ ∙ free _ _ ∙ free _ _ ∙ free _ _) ∙ both-end _
       ∙ pick-cong _ _ _ _ _ (λ four. ap (λ (n : ℕ). isKey bits n (f .key)) (eqb-true (f .type) 4 four)) (λ _. refl)
 
   verdict-is : {A : Type 0} (done short wide : A) → pick (widthsFit bits f (bodyOf (f .type))) (pick (keysFit bits f (bodyOf (f .type))) done short) wide
@@ -162,9 +168,9 @@ verdict-done false false true false leaf a e = absurd (omega arith)
 verdict-done false false true true false a e = absurd (omega arith)
 verdict-done false false true true true a e = refl
 
-module _ (nlri : Nlri) (keyOctets : List ℕ) (space bits : ℕ) (eight : length (nlri .distinguisher .octets) ≡ 8) where
+module _ (nlri : Nlri) (keyOctets fecOctets : List ℕ) (space bits : ℕ) (eight : length (nlri .distinguisher .octets) ≡ 8) (low : nlri .«route_type» ≤ 7) where
   f : Fields
-  f = structFields nlri keyOctets
+  f = structFields nlri keyOctets fecOctets
 
   -- what is written, by document 01 and by the writer
   page : Outcome (List ℕ)
@@ -176,7 +182,7 @@ module _ (nlri : Nlri) (keyOctets : List ℕ) (space bits : ℕ) (eight : length
   same-octets : listed bodies (nlri .«route_type») ≡ true → page ≡ ours
   unfolding page ours f
   same-octets l =
-      ap (λ (e : List ℕ). pick (ltb space (length e)) (refused SPACE) (given e)) (all-is nlri keyOctets l)
+      ap (λ (e : List ℕ). pick (ltb space (length e)) (refused SPACE) (given e)) (all-is nlri keyOctets fecOctets l low)
       ∙ ap (λ (n : ℕ). pick (ltb space n) (refused SPACE) (given (nlriOctets nlri keyOctets))) (sym (size-is nlri keyOctets eight))
 
   -- what stands after the test of the type
@@ -184,32 +190,34 @@ module _ (nlri : Nlri) (keyOctets : List ℕ) (space bits : ℕ) (eight : length
   judged o =
       pick (flowFits bits (nlri .«route_type») (nlri .source .size) (nlri .group .size)) (pick (originatorFits (nlri .«route_type») (nlri .originator .size)) (pick (leafFits bits (nlri .«route_type») keyOctets) o (refused KEY)) (refused WIDTH)) (refused WIDTH)
 
-  row-is : List FieldKind → Outcome (List ℕ)
-  row-is body = pick (widthsFit bits f body) (pick (keysFit bits f body) page (refused KEY)) (refused WIDTH)
+  -- there is no FEC, and no body is long
+  row-is : Outcome (List ℕ)
+  row-is = pick (widthsFit bits f (bodyOf (nlri .«route_type»))) (pick (keysFit bits f (bodyOf (nlri .«route_type»))) page (refused KEY)) (refused WIDTH)
 
-  within : listed bodies (nlri .«route_type») ≡ true → row-is (bodyOf (nlri .«route_type»)) ≡ judged ours
+  verdict-row : listed bodies (nlri .«route_type») ≡ true → verdictOf bits f space ≡ row-is
+  unfolding verdictOf writes.verdict row-is page f structFields fecNumber isLong
+  verdict-row l =
+      ap (λ (o : Outcome (List ℕ)). pick (widthsFit bits f (bodyOf (nlri .«route_type»))) o (refused WIDTH))
+      (pick-true _ _ _ (eq-eqb _ _ (pick-false _ _ _ (rowOf (nlri .«route_type») l .sizes low .bare))) ∙ pick-false _ _ _ (both-left _ _ (le-ltb 7 (nlri .«route_type») low)))
+
+  within : listed bodies (nlri .«route_type») ≡ true → row-is ≡ judged ours
   unfolding row-is judged f structFields
   within l =
       let type : ℕ = nlri .«route_type» in
-      verdict-is bits (structFields nlri keyOctets) l page (refused KEY) (refused WIDTH)
+      verdict-is bits (structFields nlri keyOctets fecOctets) l low page (refused KEY) (refused WIDTH)
       ∙ ap₂ (λ (a b : ℕ). pick (flowFits bits type a b) (pick (originatorFits type (length (addressOctets (nlri .originator)))) (pick (leafFits bits type keyOctets) page (refused KEY)) (refused WIDTH)) (refused WIDTH)) (length-octets (nlri .source)) (length-octets (nlri .group))
       ∙ ap₂ (λ (c : ℕ) (o : Outcome (List ℕ)). pick (flowFits bits type (nlri .source .size) (nlri .group .size)) (pick (originatorFits type c) (pick (leafFits bits type keyOctets) o (refused KEY)) (refused WIDTH)) (refused WIDTH)) (length-octets (nlri .originator)) (same-octets l)
 
   -- a type that the table lists, or not, by the writer's tests
-  by-tests : (b d : Bool) → ltb (nlri .«route_type») 1 ≡ b → ltb 7 (nlri .«route_type») ≡ d → pick (listed bodies (nlri .«route_type»)) (row-is (bodyOf (nlri .«route_type»))) (refused TYPE) ≡ pick b (refused TYPE) (pick d (refused TYPE) (judged ours))
+  by-tests : (b d : Bool) → ltb (nlri .«route_type») 1 ≡ b → ltb 7 (nlri .«route_type») ≡ d → pick (listed bodies (nlri .«route_type»)) (verdictOf bits f space) (refused TYPE) ≡ pick b (refused TYPE) (pick d (refused TYPE) (judged ours))
   unfolding pick
-  by-tests true d p q = pick-false _ _ _ (unlisted _ (λ h. omega (arith, ltb-true (nlri .«route_type») 1 p)))
-  by-tests false true p q = pick-false _ _ _ (unlisted _ (λ h. omega (arith, ltb-true 7 (nlri .«route_type») q)))
-  by-tests false false p q = let l = known (nlri .«route_type») (ltb-false (nlri .«route_type») 1 p, ltb-false 7 (nlri .«route_type») q) in pick-true _ _ _ l ∙ within l
+  by-tests true d p q = pick-false _ _ _ (unlisted _ (λ h. omega (arith, ltb-true (nlri .«route_type») 1 p, known-least _ h)))
+  by-tests false true p q = absurd (omega (arith, ltb-true 7 (nlri .«route_type») q))
+  by-tests false false p q = let l = known (nlri .«route_type») (toSeven (ltb-false (nlri .«route_type») 1 p) low) in pick-true _ _ _ l ∙ verdict-row l ∙ within l
 
-  under-is : onBody bodies (nlri .«route_type») (refused TYPE) row-is ≡ writeUnder bits nlri keyOctets space
-  unfolding writeUnder fitting judged ours verdict
-  under-is = on-body _ _ _ ∙ by-tests _ _ refl refl ∙ sym (verdict-then _ _ _ _ _ _ _)
-
-pub write-is : (afi : ℕ) (nlri : Nlri) (keyOctets : List ℕ) (space : ℕ) → length (nlri .distinguisher .octets) ≡ 8
-    → andThen (familyBits afi) (λ bits. writeUnder bits nlri keyOctets space) ≡ writeNlri afi (structFields nlri keyOctets) space
-unfolding writeNlri row-is page f structFields
-write-is afi nlri keyOctets space eight = and-cong _ _ _ (λ bits e. sym (under-is nlri keyOctets space bits eight))
+  pub to-seven-is : pick (listed bodies (nlri .«route_type»)) (verdictOf bits (structFields nlri keyOctets fecOctets) space) (refused TYPE) ≡ writtenToSeven bits nlri keyOctets space
+  unfolding writtenToSeven fitting judged ours verdict f
+  to-seven-is = by-tests _ _ refl refl ∙ sym (verdict-then _ _ _ _ _ _ _)
 
 -- what follows where the writer finds no fault
 octets-size : (bits type size : ℕ) → (bits ≡ 32) ⊎ (bits ≡ 128) → allowed bits type (8 * size) ≡ true → AddressSize size
@@ -221,7 +229,7 @@ octets-size bits type size f h = go f (either-true _ _ h)
     go (inr e) (inl b) = let q : 8 * size ≡ bits = eqb-true _ _ b in (omega arith, λ four sixteen. omega arith)
     go g (inr b) = let q : 8 * size ≡ 0 = eqb-true _ _ (both-true-right _ _ b) in (omega arith, λ four sixteen. omega arith)
 
-originator-octets : (size : ℕ) → isOriginatorSize size ≡ true → AddressSize size
+pub originator-octets : (size : ℕ) → isOriginatorSize size ≡ true → AddressSize size
 unfolding isOriginatorSize
 originator-octets size h = go (either-true _ _ h)
   where
@@ -273,20 +281,27 @@ unfolding fitting verdict
 fits-done bits nlri keyOctets n p q = verdict-done _ _ _ _ _ _ (sym p ∙ q)
 
 module _ (bits : ℕ) (nlri : Nlri) (keyOctets : List ℕ) (space : ℕ) where
-  pub refused-under : (n : ℕ) → n ≡ numberOf (fitting bits nlri keyOctets) → (n ≡ DONE → ⊥) → refused n ≡ writeUnder bits nlri keyOctets space
-  unfolding writeUnder
+  pub refused-under : (n : ℕ) → n ≡ numberOf (fitting bits nlri keyOctets) → (n ≡ DONE → ⊥) → refused n ≡ writtenToSeven bits nlri keyOctets space
+  unfolding writtenToSeven
   refused-under n p h = stops _ n _ (refused-of _ n p h)
 
-  pub space-under : fitting bits nlri keyOctets ≡ given nlri → space < sizeOf nlri (length keyOctets) → refused SPACE ≡ writeUnder bits nlri keyOctets space
-  unfolding writeUnder
+  pub space-under : fitting bits nlri keyOctets ≡ given nlri → space < sizeOf nlri (length keyOctets) → refused SPACE ≡ writtenToSeven bits nlri keyOctets space
+  unfolding writtenToSeven
   space-under e h = goes _ _ _ _ e (sym (pick-true _ _ _ (lt-ltb _ _ h)))
 
-  pub given-under : fitting bits nlri keyOctets ≡ given nlri → sizeOf nlri (length keyOctets) ≤ space → given (nlriOctets nlri keyOctets) ≡ writeUnder bits nlri keyOctets space
-  unfolding writeUnder
+  pub given-under : fitting bits nlri keyOctets ≡ given nlri → sizeOf nlri (length keyOctets) ≤ space → given (nlriOctets nlri keyOctets) ≡ writtenToSeven bits nlri keyOctets space
+  unfolding writtenToSeven
   given-under e h = goes _ _ _ _ e (sym (pick-false _ _ _ (le-ltb _ _ h)))
 
--- a keyOctets that the writer takes is short
-pub key-short : (bits : ℕ) (keyOctets : List ℕ) → (bits ≡ 32) ⊎ (bits ≡ 128) → ((i : ℕ) → getD keyOctets i 0 < 256) → isKey bits 4 keyOctets ≡ true → length keyOctets ≤ 60
-unfolding familyBits pick
-key-short bits keyOctets (inl e) octets h = octets-key bits (omega arith) (omega arith) 4 keyOctets (key-judged 1 bits (ap given (sym e)) 4 keyOctets (octets-of keyOctets octets) h) .0
-key-short bits keyOctets (inr e) octets h = octets-key bits (omega arith) (omega arith) 4 keyOctets (key-judged 2 bits (ap given (sym e)) 4 keyOctets (octets-of keyOctets octets) h) .0
+-- a key that the writer takes is short
+pub key-short : (bits : ℕ) (keyOctets : List ℕ) → (bits ≡ 32) ⊎ (bits ≡ 128) → isKey bits 4 keyOctets ≡ true → length keyOctets ≤ 60
+unfolding isKey onOutcome
+key-short bits keyOctets family h = go (keyField bits 4 keyOctets) refl h
+  where
+    small : (bits ≡ 32) ⊎ (bits ≡ 128) → bits ≤ 128
+    small (inl e) = omega arith
+    small (inr e) = omega arith
+
+    go : (o : Outcome ℕ) → keyField bits 4 keyOctets ≡ o → onOutcome (λ fault. false) (λ size. eqb size (length keyOctets)) o ≡ true → length keyOctets ≤ 60
+    go (given n) p q = omega (arith, eqb-true n (length keyOctets) q, key-most bits (small family) 4 (omega arith) keyOctets n p)
+    go (refused n) p q = absurd (opposite q refl)

@@ -5,10 +5,10 @@ use mathlib.Core.Logic.{⊎-elim}
 use mathlib.Core.List.{List, [], _∷_, _++_, append-nil}
 use Prim.Native.Nat.{ℕ, suc, _+_, _*_, _/_, _-_, _^_, _≤_, _<_}
 use native.Mathlib.Omega.{arith}
-use borrow.Author.Tests.{eqb-true, eq-eqb, not-true}
+use borrow.Author.Tests.{eqb-true, eq-eqb, ltb-true, not-true}
 use lib.ListN.{length, drop, take-append-drop}
 use lib.Seq.{take-all}
-use lib.Dec.{eqb}
+use lib.Dec.{eqb, ltb}
 use Rattle.octets.specs.Choice.{pick, both, either}
 use Rattle.octets.specs.Outcome.{given, andThen}
 use Rattle.octets.specs.Octets.{AllOctets, numberIn, bigEndian}
@@ -17,15 +17,15 @@ use Rattle.octets.proofs.Outcome.{goes, passed, given-same}
 use Rattle.octets.proofs.Lists.{length-part}
 use Rattle.octets.proofs.NetworkOrder.{number-of-big-endian}
 use Rattle.nlri.specs.Family.{familyBits}
-use Rattle.nlri.specs.Bodies.{FieldKind, distinguisher, sourceAs, source, group, originator, key, KnownType, bodies, bodyOf, fieldIn, codeOf, sameKind, hasField}
-use Rattle.nlri.specs.Fields.{Fields, encodeAddress, encodeField, encodeBody, encodeNlri, WellFormedField, WellFormedBody, WellFormed, KeyOf, restricted}
+use Rattle.nlri.specs.Bodies.{FieldKind, distinguisher, sourceAs, source, group, originator, key, fec, KnownType, bodies, bodyOf, fieldIn, codeOf, sameKind, hasField}
+use Rattle.nlri.specs.Fields.{Fields, encodeAddress, encodeField, encodeBody, encodeNlri, LengthFits, WellFormedField, WellFormedBody, WellFormed, KeyOf, restricted}
 use Rattle.nlri.specs.Reading.{Laid, keyField, laidAt, laidSingle, cut, fieldsOf, readNlri}
 use Rattle.nlri.specs.Statements.{ReadAs, Acceptance}
 use Rattle.nlri.proofs.Definitions.FieldRecords.{fields-same}
-use Rattle.nlri.proofs.Definitions.Table.{RowOf, rowOf, known, every, every-row, mostIn, field-of-map, lacks, same-kind}
+use Rattle.nlri.proofs.Definitions.Table.{SizesOf, rowOf, known, every, every-row, mostIn, field-of-map, lacks, same-kind}
 use Rattle.nlri.proofs.Definitions.Judged.{fieldsFrom}
 use Rattle.nlri.proofs.Definitions.Lengths.{family-octets}
-use Rattle.nlri.proofs.Definitions.Whole.{piecesOf, sizesIn, laidOf, cut-body, laid-out, fieldsLaid, single-laid-out, sizes-most, laid-encoded, laid-sound, laid-complete, octets-nlri}
+use Rattle.nlri.proofs.Definitions.Whole.{piecesOf, sizesIn, laidOf, cut-body, laid-out, fieldsLaid, single-laid-out, field-in-body, sizes-most, laid-encoded, laid-fits, laid-sound, laid-complete, octets-nlri, length-most}
 use Rattle.nlri.proofs.Definitions.Keys.{key-judges, key-most, octets-key}
 
 -- what is nothing where a test fails
@@ -41,17 +41,7 @@ unfolding restricted numberIn
 restricted-from type body pieces e =
     let none : (kind : FieldKind) → hasField kind (bodyOf type) ≡ false → fieldIn [] kind body pieces ≡ [] = λ kind h. lacks [] kind body pieces (ap (hasField kind) e ∙ h) in
     fields-same refl (pick-none _ _ _ (none distinguisher)) (pick-none _ _ _ (λ h. ap (λ (x : List ℕ). numberIn x 0) (none sourceAs h))) (pick-none _ _ _ (λ h. ap (drop 1) (none source h)))
-    (pick-none _ _ _ (λ h. ap (drop 1) (none group h))) (pick-none _ _ _ (none originator)) (pick-none _ _ _ (none key))
-
--- a field of a well-formed body
-pub field-in-body : (Key : ℕ → List ℕ → Type 0) (bits : ℕ) (f : Fields) (kind : FieldKind) (body : List FieldKind) → WellFormedBody Key bits f body → hasField kind body ≡ true → WellFormedField Key bits f kind
-unfolding hasField either
-field-in-body Key bits f kind [] w h = absurd (opposite h refl)
-field-in-body Key bits f kind (k ∷ body) w h = go (sameKind kind k) refl h (λ later. field-in-body Key bits f kind body (w .1) later)
-  where
-    go : (b : Bool) → sameKind kind k ≡ b → either b (hasField kind body) ≡ true → (hasField kind body ≡ true → WellFormedField Key bits f kind) → WellFormedField Key bits f kind
-    go true same h later = subst (WellFormedField Key bits f) (sym (same-kind kind k same)) (w .0)
-    go false other h later = later h
+    (pick-none _ _ _ (λ h. ap (drop 1) (none group h))) (pick-none _ _ _ (none originator)) (pick-none _ _ _ (none key)) (pick-none _ _ _ (none fec))
 
 -- a number in four octets, where the body has it
 number-pick : (b : Bool) (x : ℕ) → (b ≡ true → x < 2 ^ 32) → numberIn (pick b (bigEndian 4 x) []) 0 ≡ pick b x 0
@@ -72,7 +62,7 @@ fields-encoded Key bits f w =
     let body : List FieldKind = bodyOf (f .type) in
     let at : (kind : FieldKind) → fieldIn [] kind body (piecesOf f body) ≡ pick (hasField kind body) (encodeField f kind) [] = λ kind. field-of-map [] (encodeField f) kind body in
     fields-same refl (at distinguisher) (ap (λ (x : List ℕ). numberIn x 0) (at sourceAs) ∙ number-pick _ _ (field-in-body Key bits f sourceAs body w))
-    (ap (drop 1) (at source) ∙ drop-pick-address _ _) (ap (drop 1) (at group) ∙ drop-pick-address _ _) (at originator) (at key)
+    (ap (drop 1) (at source) ∙ drop-pick-address _ _) (ap (drop 1) (at group) ∙ drop-pick-address _ _) (at originator) (at key) (at fec)
 
 -- an NLRI at the front of octets: well-formed fields that stand encoded there
 pub record Front (bits : ℕ) (s : List ℕ) (laid : Laid) : Type 0 where
@@ -91,7 +81,7 @@ module _ (afi bits : ℕ) (ofFamily : familyBits afi ≡ given bits) where
       let r = laid-sound (keyField bits) (KeyOf bits) (key-judges bits whole) bits whole s laid a e in
       record {
         fields = fieldsLaid s laid;
-        wellFormed = record { typed = o .row .known; body = r };
+        wellFormed = record { typed = o .row .known; body = r; fits = laid-fits (keyField bits) bits whole s laid a e };
         is = sym (take-append-drop (2 + laid .size) s) ∙ ap (λ (x : List ℕ). x ++ drop (2 + laid .size) s) (laid-encoded (keyField bits) bits whole s laid (λ _. a) e);
       }
 
@@ -111,7 +101,7 @@ module _ (afi bits : ℕ) (ofFamily : familyBits afi ≡ given bits) where
       record {
         bits = bits;
         ofFamily = ofFamily;
-        wellFormed = record { typed = o .row .known; body = subst (λ (f : Fields). WellFormedBody (KeyOf bits) bits f (bodyOf (laid .type))) (single .fields) r };
+        wellFormed = record { typed = o .row .known; body = subst (λ (f : Fields). WellFormedBody (KeyOf bits) bits f (bodyOf (laid .type))) (single .fields) r; fits = subst LengthFits (single .fields) (laid-fits (keyField bits) bits whole s laid a (single .front)) };
         whole = restricted-from (laid .type) (laid .body) _ (o .body);
         encoded = single-is-encoded s laid (λ _. a) e;
       }
@@ -132,22 +122,34 @@ module _ (afi bits : ℕ) (ofFamily : familyBits afi ≡ given bits) where
       let cuts : cut (sizesIn f body) (encodeBody f body) ≡ piecesOf f body = ap (cut (sizesIn f body)) (sym (append-nil (encodeBody f body))) ∙ cut-body f body [] in
       sym (goes _ _ _ _ (laid-single f w) (ap given (sym (ap (λ (x : List (List ℕ)). fieldsFrom (f .type) (λ kind. fieldIn [] kind body x)) cuts ∙ fields-encoded (KeyOf bits) bits f (w .body)))))
 
-  octets-encoded : (f : Fields) → WellFormed bits f → (most : ℕ) → mostIn 60 (bodyOf (f .type)) ≤ most → most < 256 → (length (encodeNlri f) ≤ 2 + most) × AllOctets (encodeNlri f)
-  octets-encoded f w most within fits =
+  octets-encoded : (f : Fields) → WellFormed bits f → AllOctets (encodeNlri f)
+  octets-encoded f w =
       let small = family-octets afi bits ofFamily .1 in
-      octets-nlri (keyField bits) (KeyOf bits) (key-judges bits whole) bits whole 60 f (key-most bits small (f .type)) (λ type k of. octets-key bits whole small type k of .1) small (w .typed) (w .body) most within fits
+      octets-nlri (keyField bits) (KeyOf bits) (key-judges bits whole) bits whole (octets-key bits whole small) small f (w .typed) (w .body) (w .fits)
 
-  row-encoded : (f : Fields) → WellFormed bits f → RowOf (f .type)
-  row-encoded f w = rowOf (f .type) (known (f .type) (w .typed))
+  length-encoded : (f : Fields) → WellFormed bits f → length (encodeNlri f) ≤ 257
+  unfolding encodeNlri
+  length-encoded f w = omega (arith, w .fits)
 
--- only a Leaf has a key
-keyless-rows : every (λ n body. either (eqb n 4) (not (hasField key body))) bodies ≡ true
+  -- of types 1 to 7
+  sizes-encoded : (f : Fields) → WellFormed bits f → f .type ≤ 7 → SizesOf (bodyOf (f .type))
+  sizes-encoded f w low = rowOf (f .type) (known (f .type) (w .typed)) .sizes low
+
+  most-encoded : (f : Fields) (w : WellFormed bits f) → f .type ≤ 7 → length (encodeNlri f) ≤ 2 + mostIn 60 (bodyOf (f .type))
+  most-encoded f w low =
+      let small = family-octets afi bits ofFamily .1 in
+      length-most (keyField bits) (KeyOf bits) (key-judges bits whole) bits whole 60 f (key-most bits small (f .type) low) small (w .typed) (w .body) (sizes-encoded f w low .bare)
+
+-- of types 1 to 7 only a Leaf has a key
+keyless-rows : every (λ n body. either (ltb 7 n) (either (eqb n 4) (not (hasField key body)))) bodies ≡ true
 unfolding every bodies both either hasField sameKind codeOf
 keyless-rows = refl
 
-keyless : (type : ℕ) → KnownType type → (type ≡ 4 → ⊥) → hasField key (bodyOf type) ≡ false
-keyless type k other =
-    ⊎-elim (λ leaf. absurd (other (eqb-true _ _ leaf))) (λ none. not-true _ none) (either-true _ _ (every-row _ keyless-rows type (known type k)))
+keyless : (type : ℕ) → KnownType type → type ≤ 7 → (type ≡ 4 → ⊥) → hasField key (bodyOf type) ≡ false
+keyless type k low other =
+    ⊎-elim (λ high. absurd (omega (arith, ltb-true 7 type high)))
+    (λ rest. ⊎-elim (λ leaf. absurd (other (eqb-true _ _ leaf))) (λ none. not-true _ none) (either-true _ _ rest))
+    (either-true _ _ (every-row _ keyless-rows type (known type k)))
 
 -- what is read encodes to the octets
 pub read-is-encoded : (afi : ℕ) (s : List ℕ) (f : Fields) → (hasField sourceAs (bodyOf (f .type)) ≡ true → AllOctets s) → readNlri afi s ≡ given f → s ≡ encodeNlri f
@@ -159,10 +161,10 @@ read-is-encoded afi s f a e =
     let type : q .value .type ≡ f .type = ap (λ (x : Fields). x .type) same in
     single-is-encoded afi (p .value) (p .first) s (q .value) (λ h. a (ap (λ (n : ℕ). hasField sourceAs (bodyOf n)) (sym type) ∙ h)) (q .first) ∙ ap encodeNlri same
 
--- an NLRI without a key has at most 60 octets
-pub read-short : (afi : ℕ) (s : List ℕ) (f : Fields) → readNlri afi s ≡ given f → hasField key (bodyOf (f .type)) ≡ false → (2 ≤ length s) × (length s ≤ 60)
+-- an NLRI of types 1 to 7 without a key has at most 60 octets
+pub read-short : (afi : ℕ) (s : List ℕ) (f : Fields) → readNlri afi s ≡ given f → f .type ≤ 7 → hasField key (bodyOf (f .type)) ≡ false → (2 ≤ length s) × (length s ≤ 60)
 unfolding readNlri fieldsOf
-read-short afi s f e unkeyed =
+read-short afi s f e low unkeyed =
     let p = passed _ _ _ e in
     let q = passed _ _ _ (p .second) in
     let laid : Laid = q .value in
@@ -170,8 +172,10 @@ read-short afi s f e unkeyed =
     let o = single-laid-out (p .value) s laid (q .first) in
     let type : laid .type ≡ f .type = ap (λ (x : Fields). x .type) (given-same (q .second)) in
     let l = length-part s 2 (laid .size) (omega (arith, o .out .fits, o .out .enough)) in
-    let most = sizes-most (keyField (p .value)) (p .value) 60 (laid .type) (key-most (p .value) small (laid .type)) small (bodyOf (laid .type)) _ _ (o .out .sizes) in
-    (o .out .enough, omega (arith, o .all, o .out .row .plain (ap (λ (n : ℕ). hasField key (bodyOf n)) type ∙ unkeyed)))
+    let seven : laid .type ≤ 7 = omega arith in
+    let sizes = o .out .row .sizes seven in
+    let most = sizes-most (keyField (p .value)) (p .value) 60 (laid .type) (key-most (p .value) small (laid .type) seven) small (bodyOf (laid .type)) (sizes .bare) _ _ (o .out .sizes) in
+    (o .out .enough, omega (arith, o .all, sizes .plain (ap (λ (n : ℕ). hasField key (bodyOf n)) type ∙ unkeyed)))
 
 pub read-sound : (afi : ℕ) (s : List ℕ) (f : Fields) → AllOctets s → readNlri afi s ≡ given f → ReadAs afi s f
 unfolding readNlri
@@ -189,8 +193,9 @@ acceptance =
     record {
       exactly = λ afi s f a. (read-sound afi s f a, λ r. ap (readNlri afi) (r .encoded) ∙ read-encoded afi (r .bits) f (r .ofFamily) (r .wellFormed) ∙ ap given (r .whole));
       encoded = read-encoded;
-      octets = λ afi bits f ofFamily w. octets-encoded afi bits ofFamily f w 76 (row-encoded afi bits ofFamily f w .most) (omega arith) .1;
-      most = λ afi bits f ofFamily w. octets-encoded afi bits ofFamily f w 76 (row-encoded afi bits ofFamily f w .most) (omega arith) .0;
-      plain = λ afi bits f ofFamily w other. octets-encoded afi bits ofFamily f w 58 (row-encoded afi bits ofFamily f w .plain (keyless (f .type) (w .typed) other)) (omega arith) .0;
+      octets = λ afi bits f ofFamily w. octets-encoded afi bits ofFamily f w;
+      longest = λ afi bits f ofFamily w. length-encoded afi bits ofFamily f w;
+      most = λ afi bits f ofFamily w low. omega (arith, most-encoded afi bits ofFamily f w low, sizes-encoded afi bits ofFamily f w low .most);
+      plain = λ afi bits f ofFamily w low other. omega (arith, most-encoded afi bits ofFamily f w low, sizes-encoded afi bits ofFamily f w low .plain (keyless (f .type) (w .typed) low other));
       same = λ afi bits f g ofFamily w v e. given-same (sym (read-encoded afi bits f ofFamily w) ∙ ap (readNlri afi) e ∙ read-encoded afi bits g ofFamily v);
     }

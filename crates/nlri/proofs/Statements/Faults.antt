@@ -8,7 +8,7 @@ use native.Mathlib.Omega.{arith}
 use borrow.Author.Tests.{eqb-true, eqb-false, eq-eqb, ne-eqb, ltb-true, lt-ltb, leb-true, le-leb}
 use lib.ListN.{length, getD, take, drop, length-drop, take-append-drop}
 use lib.Seq.{length-take-le, take-length, drop-append-seam, drop-length}
-use Rattle.octets.specs.Numbers.{LENGTH, WIDTH, KEY, FAMILY}
+use Rattle.octets.specs.Numbers.{DONE, LENGTH, WIDTH, KEY, IDENT, FAMILY, DEEP}
 use Rattle.octets.specs.Outcome.{given, refused}
 use Rattle.octets.specs.Octets.{AllOctets}
 use Rattle.octets.proofs.Choice.{pick-true, pick-false, picked}
@@ -16,12 +16,14 @@ use Rattle.octets.proofs.Outcome.{goes, stops, never, refused-same, stopped, ou
 use Rattle.octets.proofs.AllOctets.{octets-drop}
 use Rattle.octets.proofs.Lists.{front-rest}
 use Rattle.nlri.specs.Family.{familyBits, allowed, isOriginatorSize}
-use Rattle.nlri.specs.Bodies.{FieldKind, distinguisher, sourceAs, source, group, originator, key}
+use Rattle.nlri.specs.Bodies.{FieldKind, distinguisher, sourceAs, source, group, originator, key, fec}
 use Rattle.nlri.specs.Fields.{encodeAddress, KeyOf}
 use Rattle.nlri.specs.Reading.{fixedField, addressEnd, addressField, originatorField, fieldSize, sizesOf, keyField}
-use Rattle.nlri.specs.Statements.{AddressAt, FieldAt, AddressFault, missing, width, ends, Fault, Faulty, remains, here, later}
+use Rattle.nlri.specs.Statements.{AddressAt, FieldAt, AddressFault, missing, width, ends, Fault, Faulty, remains, here, later, BodyFault}
 use Rattle.nlri.proofs.Definitions.Sizes.{fixed-is, originator-given}
 use Rattle.nlri.proofs.Definitions.Judged.{Judges, AddressRead, address-given, address-stands, fixed-stands}
+use Rattle.fec_elements.proofs.Theorems.{nestedFecRule}
+use Rattle.nlri.proofs.Definitions.Fecs.{fec-sound, fec-complete, fault-number}
 use Rattle.nlri.proofs.Definitions.Keys.{key-judges}
 
 fixed-refused : (m n : ℕ) (s : List ℕ) → fixedField m s ≡ refused n → (length s < m) × (n ≡ LENGTH)
@@ -84,14 +86,15 @@ module _ (bits : ℕ) (whole : 8 * (bits / 8) ≡ bits) where
   judges : Judges (keyField bits) (KeyOf bits)
   judges = key-judges bits whole
 
-  field-refused : (type : ℕ) (k : FieldKind) (s : List ℕ) (n : ℕ) → fieldSize (keyField bits) bits type k s ≡ refused n → Fault bits type k s n
+  field-refused : (type : ℕ) (k : FieldKind) (s : List ℕ) (n : ℕ) → AllOctets s → fieldSize (keyField bits) bits type k s ≡ refused n → Fault bits type k s n
   unfolding fieldSize
-  field-refused type distinguisher s n e = fixed-refused 8 n s e
-  field-refused type sourceAs s n e = fixed-refused 4 n s e
-  field-refused type source s n e = address-refused bits type n s e
-  field-refused type group s n e = address-refused bits type n s e
-  field-refused type originator s n e = originator-refused n s e
-  field-refused type key s n e =
+  field-refused type distinguisher s n a e = fixed-refused 8 n s e
+  field-refused type sourceAs s n a e = fixed-refused 4 n s e
+  field-refused type source s n a e = address-refused bits type n s e
+  field-refused type group s n a e = address-refused bits type n s e
+  field-refused type originator s n a e = originator-refused n s e
+  field-refused type fec s n a e = nestedFecRule .exactly _ s n a .0 e
+  field-refused type key s n a e =
       (λ size fits of. never (ap (keyField bits type) (sym (take-append-drop size s)) ∙ judges .complete type (take size s) (drop size s) of) e, judges .refuses type s n e)
 
   fault-refuses : (type : ℕ) (k : FieldKind) (s : List ℕ) (n : ℕ) → AllOctets s → Fault bits type k s n → fieldSize (keyField bits) bits type k s ≡ refused n
@@ -101,6 +104,7 @@ module _ (bits : ℕ) (whole : 8 * (bits / 8) ≡ bits) where
   fault-refuses type source s n a h = address-refuses bits type n s h
   fault-refuses type group s n a h = address-refuses bits type n s h
   fault-refuses type originator s n a h = originator-refuses n s h
+  fault-refuses type fec s n a h = nestedFecRule .exactly _ s n a .1 h
   fault-refuses type key s n a h =
       ⊎-elim (λ yes. let p = judges .sound type s (yes .0) a (yes .1) in absurd (h .0 (yes .0) (p .0) (p .1)))
       (λ no. no .1 ∙ ap refused (judges .refuses type s (no .0) (no .1) ∙ sym (h .1))) (outcome (keyField bits type s))
@@ -115,6 +119,7 @@ module _ (bits : ℕ) (whole : 8 * (bits / 8) ≡ bits) where
   field-at type originator s n a e =
       let p = originator-given n s e in
       (rw (p .1, take-length) (p .0), ap (λ (m : ℕ). drop m s) (p .1) ∙ drop-length s)
+  field-at type fec s n a e = fec-sound bits s n a e
   field-at type key s n a e = judges .sound type s n a e .1
 
   -- and a field that stands at the front is read
@@ -125,6 +130,7 @@ module _ (bits : ℕ) (whole : 8 * (bits / 8) ≡ bits) where
   field-reads type source x t h = address-reads bits type x t h
   field-reads type group x t h = address-reads bits type x t h
   field-reads type originator x t h = rw (h .1, append-nil) (pick-true _ _ _ (h .0))
+  field-reads type fec x t h = fec-complete bits x t h
   field-reads type key x t h = judges .complete type x t h
 
   pub body-refused : (type : ℕ) (body : List FieldKind) (s : List ℕ) (n : ℕ) → AllOctets s → sizesOf (fieldSize (keyField bits) bits type) body s ≡ refused n → Faulty bits type body s n
@@ -134,7 +140,7 @@ module _ (bits : ℕ) (whole : 8 * (bits / 8) ≡ bits) where
       let some : 0 < length s = omega (arith, eqb-false (length s) 0 (p .0)) in
       subst (Faulty bits type [] s) (sym (p .1)) (remains some)
   body-refused type (k ∷ body) s n a e =
-      ⊎-elim (λ first. here (field-refused type k s n first))
+      ⊎-elim (λ first. here (field-refused type k s n a first))
       (λ next.
       let m : ℕ = next .value in
       later (take m s) (drop m s) (sym (take-append-drop m s)) (field-at type k s m a (next .first))
@@ -151,23 +157,29 @@ module _ (bits : ℕ) (whole : 8 * (bits / 8) ≡ bits) where
       let o : AllOctets t = subst AllOctets remainder (octets-drop (length x) a) in
       sym (goes _ _ _ _ size (stops _ _ _ (ap (sizesOf (fieldSize (keyField bits) bits type) rest) remainder ∙ faulty-refuses type rest t n o fault)))
 
-address-numbers : (bits type : ℕ) (s : List ℕ) (n : ℕ) → AddressFault bits type s n → (n ≡ LENGTH) ⊎ (n ≡ WIDTH) ⊎ (n ≡ KEY)
+address-numbers : (bits type : ℕ) (s : List ℕ) (n : ℕ) → AddressFault bits type s n → BodyFault n
 address-numbers bits type s n (missing h) = inl refl
 address-numbers bits type s n (width some bad) = inr (inl refl)
 address-numbers bits type s n (ends some good h) = inl refl
 
-pub faulty-numbers : (bits type : ℕ) (body : List FieldKind) (s : List ℕ) (n : ℕ) → Faulty bits type body s n → (n ≡ LENGTH) ⊎ (n ≡ WIDTH) ⊎ (n ≡ KEY)
+pub faulty-numbers : (bits type : ℕ) (body : List FieldKind) (s : List ℕ) (n : ℕ) → Faulty bits type body s n → BodyFault n
 faulty-numbers bits type body s n (remains h) = inl refl
 faulty-numbers bits type body s n (here {k = k} fault) = at k fault
   where
-    at : (k : FieldKind) → Fault bits type k s n → (n ≡ LENGTH) ⊎ (n ≡ WIDTH) ⊎ (n ≡ KEY)
+    at : (k : FieldKind) → Fault bits type k s n → BodyFault n
     at distinguisher h = inl (h .1)
     at sourceAs h = inl (h .1)
     at source h = address-numbers bits type s n h
     at group h = address-numbers bits type s n h
     at originator h = inl (h .1)
-    at key h = inr (inr (h .1))
+    at key h = inr (inr (inl (h .1)))
+    at fec h = ⊎-elim inl (λ rest. inr (inr (inr rest))) (fault-number h)
 faulty-numbers bits type body s n (later {body = rest} x t e at fault) = faulty-numbers bits type rest t n fault
+
+-- and none is DONE
+pub fault-not-done : (n : ℕ) → BodyFault n → n ≡ DONE → ⊥
+fault-not-done n h e =
+    ⊎-elim (λ p. omega arith) (λ a. ⊎-elim (λ p. omega arith) (λ b. ⊎-elim (λ p. omega arith) (λ c. ⊎-elim (λ p. omega arith) (λ p. omega arith) c) b) a) h
 
 -- the families
 pub family-refused : (afi n : ℕ) → familyBits afi ≡ refused n → (n ≡ FAMILY) × ((afi ≡ 1 → ⊥) × (afi ≡ 2 → ⊥))

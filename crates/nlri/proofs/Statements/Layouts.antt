@@ -13,7 +13,7 @@ use Rattle.nlri.specs.declared.layout.Layout.{Layout}
 use Rattle.nlri.specs.declared.layout.Reading.{Reading}
 use Rattle.nlri.specs.declared.layout.Reading.the-variants as reading
 use Rattle.nlri.specs.Family.{familyBits}
-use Rattle.nlri.specs.Bodies.{FieldKind, source, group, originator, key, bodyOf, fieldIn, hasField}
+use Rattle.nlri.specs.Bodies.{FieldKind, source, group, originator, key, fec, bodyOf, fieldIn, hasField}
 use Rattle.nlri.specs.Fields.{Fields, encodeAddress, encodeField, encodeBody, encodeNlri, restricted, WellFormed, KeyOf}
 use Rattle.nlri.specs.Reading.{keyField, laidAt, laidSingle, fieldsOf, readNlri}
 use Rattle.nlri.specs.Layouts.{readingOf, layoutOf, layoutAt, layoutSingle}
@@ -46,7 +46,8 @@ layout-laid f =
     let g = ap (λ (n : ℕ). n - 1) (at group) ∙ length-pick-address (hasField group body) (f .group) in
     let o = at originator ∙ length-pick (hasField originator body) (f .originator) in
     let k = at key ∙ length-pick (hasField key body) (f .key) in
-    λ i. record { «route_type» = f .type; length = len i; source = s i; group = g i; originator = o i; key = k i }
+    let c = at fec ∙ length-pick (hasField fec body) (f .fec) in
+    λ i. record { «route_type» = f .type; length = len i; source = s i; group = g i; originator = o i; key = k i; fec = c i }
 
 pub length-encoded : (f : Fields) → 2 + length (encodeBody f (bodyOf (f .type))) ≡ length (encodeNlri f)
 unfolding encodeNlri

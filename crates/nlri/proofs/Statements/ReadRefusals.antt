@@ -24,7 +24,7 @@ use Rattle.nlri.proofs.Definitions.Lengths.{family-octets}
 use Rattle.nlri.proofs.Definitions.Whole.{laid-out, laid-complete}
 use Rattle.nlri.proofs.Definitions.Keys.{key-judges}
 use Rattle.nlri.proofs.Statements.Acceptance.{acceptance, front-sound}
-use Rattle.nlri.proofs.Statements.Faults.{body-refused, faulty-refuses, faulty-numbers, family-refused, family-refuses}
+use Rattle.nlri.proofs.Statements.Faults.{body-refused, faulty-refuses, faulty-numbers, fault-not-done, family-refused, family-refuses}
 
 module _ (afi bits : ℕ) (ofFamily : familyBits afi ≡ given bits) (s : List ℕ) (a : AllOctets s) where
   whole : 8 * (bits / 8) ≡ bits
@@ -132,7 +132,7 @@ refusal-complete afi s n a (after bits f t ofFamily w e some) = read-stops afi b
 pub front-not-done : (bits : ℕ) (s : List ℕ) (n : ℕ) → FrontRefusal bits s n → n ≡ DONE → ⊥
 front-not-done bits s n (short h) e = omega arith
 front-not-done bits s n (badType h t) e = omega arith
-front-not-done bits s n (badBody h t fault) e = ⊎-elim (λ p. omega arith) (λ rest. ⊎-elim (λ p. omega arith) (λ p. omega arith) rest) (faulty-numbers bits _ _ _ n fault)
+front-not-done bits s n (badBody h t fault) e = fault-not-done n (faulty-numbers bits _ _ _ n fault) e
 
 pub refusal-not-done : (afi : ℕ) (s : List ℕ) (n : ℕ) → ReadRefusal afi s n → n ≡ DONE → ⊥
 refusal-not-done afi s n (badFamily one two) e = omega arith

@@ -1,5 +1,5 @@
 -- Reading and writing undo each other.
-use mathlib.Core.Path.{_≡_, refl, sym, _∙_, ap, subst}
+use mathlib.Core.Path.{_≡_, refl, sym, _∙_, ap, ap₂, subst}
 use mathlib.Core.Bool.{Bool, true, false}
 use mathlib.Core.List.{List, [], _++_}
 use Prim.Native.Nat.{ℕ, _*_, _^_, _≤_, _<_}
@@ -17,7 +17,7 @@ use Rattle.octets.proofs.Outcome.{passed}
 use Rattle.octets.proofs.AllOctets.{octets-sized}
 use Rattle.octets.proofs.Lists.{sized-same, sized-back}
 use Rattle.nlri.specs.Family.{familyBits}
-use Rattle.nlri.specs.Bodies.{FieldKind, distinguisher, sourceAs, source, group, originator, key, bodies, onBody, bodyOf, hasField}
+use Rattle.nlri.specs.Bodies.{FieldKind, distinguisher, sourceAs, source, group, originator, key, fec, bodyOf, hasField}
 use Rattle.nlri.specs.Fields.{Fields, encodeField, encodeBody, encodeNlri, WellFormedField, WellFormed, KeyOf, restricted}
 use Rattle.nlri.specs.Reading.{readNlri}
 use Rattle.nlri.specs.Writing.{writeNlri}
@@ -27,10 +27,12 @@ use Rattle.nlri.specs.Statements.{ReadAs, HoldsOctets, StructHoldsOctets
 use Rattle.nlri.proofs.Definitions.Keys.{octets-key}
 use Rattle.nlri.proofs.Statements.ReadRefusals.{readRefusals, refusal-not-done}
 use Rattle.nlri.proofs.Definitions.Lengths.{allowed-most, originator-sized, family-octets}
-use Rattle.nlri.proofs.Statements.Acceptance.{field-in-body, read-sound, read-encoded}
+use Rattle.nlri.proofs.Statements.Acceptance.{read-sound, read-encoded}
+use Rattle.nlri.proofs.Definitions.Whole.{field-in-body}
+use Rattle.nlri.proofs.Definitions.Fecs.{octets-fec}
 use Rattle.nlri.proofs.Definitions.FieldRecords.{fields-same}
 use Rattle.nlri.proofs.Definitions.Writes.{write-is, write-well, write-restricted, written}
-use Rattle.nlri.proofs.Functions.Singles.{key-spanned}
+use Rattle.nlri.proofs.Functions.Singles.{key-spanned, fec-spanned}
 
 write-read : (afi : ℕ) (s : List ℕ) (f : Fields) (space : ℕ) → AllOctets s → readNlri afi s ≡ given f → length s ≤ space → writeNlri afi f space ≡ given s
 write-read afi s f space a e room =
@@ -69,7 +71,8 @@ held-read afi s f a e =
       source = octets-pick _ _ (ap (λ (g : Fields). g .source) (r .whole)) (λ h. at source h .1);
       group = octets-pick _ _ (ap (λ (g : Fields). g .group) (r .whole)) (λ h. at group h .1);
       originator = octets-pick _ _ (ap (λ (g : Fields). g .originator) (r .whole)) (λ h. at originator h .1);
-      key = octets-pick _ _ (ap (λ (g : Fields). g .key) (r .whole)) (λ h. octets-key (r .bits) (family-octets afi (r .bits) (r .ofFamily) .0) small (f .type) (f .key) (at key h) .1);
+      key = octets-pick _ _ (ap (λ (g : Fields). g .key) (r .whole)) (λ h. octets-key (r .bits) (family-octets afi (r .bits) (r .ofFamily) .0) small (f .type) (f .key) (at key h));
+      fec = octets-pick _ _ (ap (λ (g : Fields). g .fec) (r .whole)) (λ h. octets-fec (r .bits) (f .fec) (at fec h));
     }
 
 -- an address as a struct, and back
@@ -77,7 +80,7 @@ octets-address-struct : (x : List ℕ) → length x ≤ 16 → addressOctets (ad
 unfolding addressOctets addressStruct
 octets-address-struct x h = sized-back 16 x h
 
-fields-struct : (afi bits : ℕ) (f : Fields) → familyBits afi ≡ given bits → WellFormed bits f → restricted f ≡ f → restricted (structFields (nlriStruct f) (f .key)) ≡ f
+fields-struct : (afi bits : ℕ) (f : Fields) → familyBits afi ≡ given bits → WellFormed bits f → restricted f ≡ f → restricted (structFields (nlriStruct f) (f .key) (f .fec)) ≡ f
 unfolding restricted structFields nlriStruct distinguisherStruct
 fields-struct afi bits f ofFamily w whole =
     let body : List FieldKind = bodyOf (f .type) in
@@ -90,18 +93,19 @@ fields-struct afi bits f ofFamily w whole =
     (pick-cong _ _ _ _ _ (λ h. octets-address-struct (f .group) (omega (arith, allowed-most bits (f .type) (8 * length (f .group)) small (at group h .0)))) (λ _. refl))
     (pick-cong _ _ _ _ _ (λ h. octets-address-struct (f .originator) (originator-sized (length (f .originator)) (at originator h .0) .1)) (λ _. refl))
     refl
+    refl
     ∙ whole
 
-fields-struct-read : (afi : ℕ) (s : List ℕ) (f : Fields) → AllOctets s → readNlri afi s ≡ given f → restricted (structFields (nlriStruct f) (f .key)) ≡ f
+fields-struct-read : (afi : ℕ) (s : List ℕ) (f : Fields) → AllOctets s → readNlri afi s ≡ given f → restricted (structFields (nlriStruct f) (f .key) (f .fec)) ≡ f
 fields-struct-read afi s f a e = let r = read-sound afi s f a e in fields-struct afi (r .bits) f (r .ofFamily) (r .wellFormed) (r .whole)
 
-write-struct : (afi : ℕ) (s : List ℕ) (f : Fields) (space : ℕ) → AllOctets s → readNlri afi s ≡ given f → length s ≤ space → writeNlri afi (structFields (nlriStruct f) (f .key)) space ≡ given s
+write-struct : (afi : ℕ) (s : List ℕ) (f : Fields) (space : ℕ) → AllOctets s → readNlri afi s ≡ given f → length s ≤ space → writeNlri afi (structFields (nlriStruct f) (f .key) (f .fec)) space ≡ given s
 write-struct afi s f space a e room =
-    sym (write-restricted afi (structFields (nlriStruct f) (f .key)) space) ∙ ap (λ (g : Fields). writeNlri afi g space) (fields-struct-read afi s f a e) ∙ write-read afi s f space a e room
+    sym (write-restricted afi (structFields (nlriStruct f) (f .key) (f .fec)) space) ∙ ap (λ (g : Fields). writeNlri afi g space) (fields-struct-read afi s f a e) ∙ write-read afi s f space a e room
 
-held-struct : (nlri : Nlri) (octets : List ℕ) → StructHoldsOctets nlri → AllOctets octets → HoldsOctets (structFields nlri octets)
+held-struct : (nlri : Nlri) (keyOctets fecOctets : List ℕ) → StructHoldsOctets nlri → AllOctets keyOctets → AllOctets fecOctets → HoldsOctets (structFields nlri keyOctets fecOctets)
 unfolding structFields addressOctets
-held-struct nlri octets h k =
+held-struct nlri keyOctets fecOctets h k c =
     record {
       distinguisherSize = λ _. h .distinguisher .0;
       distinguisher = h .distinguisher .1;
@@ -110,17 +114,19 @@ held-struct nlri octets h k =
       group = octets-sized _ (h .group);
       originator = octets-sized _ (h .originator);
       key = k;
+      fec = c;
     }
 
 -- what the call of reading answers where it is DONE
 answered : (afi : ℕ) (s : List ℕ) (space : ℕ) → AllOctets s → nlriAnswer (readNlri afi s) .number ≡ DONE → length s ≤ space
-    → writeNlri afi (structFields (nlriAnswer (readNlri afi s) .nlri) (part s (nlriAnswer (readNlri afi s) .key .start) (nlriAnswer (readNlri afi s) .key .size))) space ≡ given s
+    → writeNlri afi (structFields (nlriAnswer (readNlri afi s) .nlri) (part s (nlriAnswer (readNlri afi s) .key .start) (nlriAnswer (readNlri afi s) .key .size))
+    (part s (nlriAnswer (readNlri afi s) .fec .start) (nlriAnswer (readNlri afi s) .fec .size))) space ≡ given s
 unfolding nlriAnswer onOutcome
 answered afi s space a done room = go (readNlri afi s) refl done
   where
     go : (o : Outcome Fields) → readNlri afi s ≡ o → nlriAnswer o .number ≡ DONE
-        → writeNlri afi (structFields (nlriAnswer o .nlri) (part s (nlriAnswer o .key .start) (nlriAnswer o .key .size))) space ≡ given s
-    go (given f) e done = ap (λ (k : List ℕ). writeNlri afi (structFields (nlriStruct f) k) space) (key-spanned afi s f e) ∙ write-struct afi s f space a e room
+        → writeNlri afi (structFields (nlriAnswer o .nlri) (part s (nlriAnswer o .key .start) (nlriAnswer o .key .size)) (part s (nlriAnswer o .fec .start) (nlriAnswer o .fec .size))) space ≡ given s
+    go (given f) e done = ap₂ (λ (k c : List ℕ). writeNlri afi (structFields (nlriStruct f) k c) space) (key-spanned afi s f e) (fec-spanned afi s f e) ∙ write-struct afi s f space a e room
     go (refused n) e done = absurd (refusal-not-done afi s n (readRefusals .exactly afi s n a .0 e) done)
 
 pub roundTrips : RoundTrips
@@ -132,7 +138,8 @@ roundTrips =
       unseen = write-restricted;
       struct = fields-struct-read;
       spanned = λ afi s f a e. key-spanned afi s f e;
+      fecSpanned = λ afi s f a e. fec-spanned afi s f e;
       structWritten = write-struct;
       answered = answered;
-      structRead = λ afi nlri octets space e h k w. read-written afi (structFields nlri octets) space e (held-struct nlri octets h k) w;
+      structRead = λ afi nlri keyOctets fecOctets space e h k c w. read-written afi (structFields nlri keyOctets fecOctets) space e (held-struct nlri keyOctets fecOctets h k c) w;
     }

@@ -5,20 +5,25 @@ use mathlib.Core.Logic.{⊎-elim}
 use mathlib.Core.List.{List, [], _∷_}
 use Prim.Native.Nat.{ℕ, _≤_}
 use native.Mathlib.Omega.{arith}
-use borrow.Author.Tests.{ltb-true, ltb-false, lt-ltb, le-ltb}
+use borrow.Author.Tests.{eqb-true, eqb-false, eq-eqb, ne-eqb, ltb-true, ltb-false, lt-ltb, le-ltb}
 use lib.ListN.{length}
-use Rattle.octets.specs.Numbers.{WIDTH, KEY, SPACE}
+use Rattle.octets.specs.Numbers.{DONE, WIDTH, KEY, LONG, SPACE}
 use Rattle.octets.specs.Choice.{both, either}
 use Rattle.octets.specs.Outcome.{Outcome, given, refused}
-use Rattle.octets.proofs.Choice.{pick-true, pick-false, opposite, both-true-left, both-true-right, picked, is-false, is-true}
-use Rattle.octets.proofs.Outcome.{goes, stops, never, passed, given-otherwise, refused-same, stopped}
-use Rattle.nlri.specs.Family.{familyBits}
-use Rattle.nlri.specs.Bodies.{FieldKind, distinguisher, sourceAs, source, group, originator, key, KnownType, bodyOf, sameKind, hasField}
+use Rattle.octets.proofs.Choice.{pick-true, pick-false, tested, opposite, both-true, both-true-left, both-true-right, picked, is-false, is-true}
+use Rattle.octets.proofs.Outcome.{goes, stops, never, passed, given-otherwise, refused-same, stopped, refused-of, number-refused}
+use Rattle.fec_elements.specs.declared.Standing.the-variants.{Lent}
+use Rattle.fec_elements.specs.Statements.{FirstFault}
+use Rattle.fec_elements.proofs.Nesting.{read-refused}
+use Rattle.fec_elements.proofs.Theorems.{nestedFecRule}
+use Rattle.nlri.specs.Family.{familyBits, rootFamily}
+use Rattle.nlri.specs.Bodies.{FieldKind, distinguisher, sourceAs, source, group, originator, key, fec, KnownType, bodyOf, sameKind, hasField}
 use Rattle.nlri.specs.Fields.{Fields, encodeNlri, WellFormed, KeyOf}
-use Rattle.nlri.specs.Writing.{widthFits, widthsFit, isKey, keyFits, keysFit, writeNlri}
-use Rattle.nlri.specs.Statements.{HoldsOctets, WidthFault, WriteRefusal, badFamily, badType, badWidth, badKey, noSpace, WriteRefusals}
+use Rattle.nlri.specs.Writing.{widthFits, widthsFit, fecNumber, isLong, isKey, keyFits, keysFit, writeNlri}
+use Rattle.nlri.specs.Statements.{HoldsOctets, WidthFault, WidthsFit, FecFits, TooLong, WriteRefusal, badFamily, badType, badWidth, badFec, long, badKey, noSpace, WriteRefusals}
 use Rattle.nlri.proofs.Definitions.Table.{known, rowOf, same-kind, has-first, has-later, unlisted}
-use Rattle.nlri.proofs.Definitions.Writes.{all, widths-all, keys-all, verdict, verdictOf, write-is, write-well, written, key-judged, key-fits, well-fits}
+use Rattle.nlri.proofs.Definitions.Writes.{all, widths-all, keys-all, verdict, verdictOf, write-is, write-well, written, key-judged, key-fits, well-passed}
+use Rattle.nlri.proofs.Definitions.Fecs.{fec-lent, lent-fec}
 use Rattle.nlri.proofs.Statements.Faults.{family-refused, family-refuses}
 
 all-true : (test : FieldKind → Bool) (body : List FieldKind) → all test body ≡ true → (kind : FieldKind) → hasField kind body ≡ true → test kind ≡ true
@@ -56,6 +61,7 @@ width-fault bits f source e = e
 width-fault bits f group e = e
 width-fault bits f originator e = e
 width-fault bits f key e = opposite refl e
+width-fault bits f fec e = opposite refl e
 
 fault-width : (bits : ℕ) (f : Fields) (k : FieldKind) → WidthFault bits f k → widthFits bits f k ≡ false
 unfolding widthFits
@@ -65,6 +71,7 @@ fault-width bits f source h = h
 fault-width bits f group h = h
 fault-width bits f originator h = h
 fault-width bits f key h = absurd h
+fault-width bits f fec h = absurd h
 
 key-fault : (bits : ℕ) (f : Fields) (k : FieldKind) → keyFits bits f k ≡ false → (k ≡ key) × (isKey bits (f .type) (f .key) ≡ false)
 unfolding keyFits
@@ -73,9 +80,47 @@ key-fault bits f sourceAs e = absurd (opposite refl e)
 key-fault bits f source e = absurd (opposite refl e)
 key-fault bits f group e = absurd (opposite refl e)
 key-fault bits f originator e = absurd (opposite refl e)
+key-fault bits f fec e = absurd (opposite refl e)
 key-fault bits f key e = (refl, e)
 
 module _ (afi bits : ℕ) (ofFamily : familyBits afi ≡ given bits) (f : Fields) (held : HoldsOctets f) (space : ℕ) where
+  -- what the writer's tests of widths, of the FEC and of the Length say, and the other way
+  widths-fit : widthsFit bits f (bodyOf (f .type)) ≡ true → WidthsFit bits f
+  widths-fit h k has fault = opposite (all-true (widthFits bits f) _ (sym (widths-all bits f _) ∙ h) k has) (fault-width bits f k fault)
+
+  fit-widths : WidthsFit bits f → widthsFit bits f (bodyOf (f .type)) ≡ true
+  fit-widths w = widths-all bits f _ ∙ all-holds (widthFits bits f) _ (λ k h e. w k h (width-fault bits f k e))
+
+  fec-fits : fecNumber bits f (bodyOf (f .type)) ≡ DONE → FecFits bits f
+  unfolding fecNumber
+  fec-fits e has = lent-fec bits (f .fec) (held .fec) (sym (pick-true _ _ _ has) ∙ e)
+
+  fit-fec : FecFits bits f → fecNumber bits f (bodyOf (f .type)) ≡ DONE
+  unfolding fecNumber
+  fit-fec c =
+      tested (hasField fec (bodyOf (f .type))) (λ yes. pick-true _ _ _ yes ∙ fec-lent bits (f .fec) (c yes)) (λ no. pick-false _ _ _ no)
+
+  fec-faulty : (fecNumber bits f (bodyOf (f .type)) ≡ DONE → ⊥) → (hasField fec (bodyOf (f .type)) ≡ true) × FirstFault 3 (Lent (rootFamily bits)) (f .fec) (fecNumber bits f (bodyOf (f .type)))
+  unfolding fecNumber
+  fec-faulty h =
+      tested (hasField fec (bodyOf (f .type)))
+      (λ yes. (yes, nestedFecRule .exactly (Lent (rootFamily bits)) (f .fec) _ (held .fec) .0 (refused-of _ _ (pick-true _ _ _ yes) h)))
+      (λ no. absurd (h (pick-false _ _ _ no)))
+
+  faulty-fec : (n : ℕ) → hasField fec (bodyOf (f .type)) ≡ true → FirstFault 3 (Lent (rootFamily bits)) (f .fec) n → (fecNumber bits f (bodyOf (f .type)) ≡ n) × (n ≡ DONE → ⊥)
+  unfolding fecNumber
+  faulty-fec n has fault =
+      let r = nestedFecRule .exactly (Lent (rootFamily bits)) (f .fec) n (held .fec) .1 fault in
+      (pick-true _ _ _ has ∙ number-refused r, read-refused _ (f .fec) n r .1)
+
+  long-is : isLong f (bodyOf (f .type)) ≡ true → TooLong f
+  unfolding isLong
+  long-is h = (ltb-true _ _ (both-true-left _ _ h), ltb-true _ _ (both-true-right _ _ h))
+
+  is-long : TooLong f → isLong f (bodyOf (f .type)) ≡ true
+  unfolding isLong
+  is-long h = both-true _ _ (lt-ltb _ _ (h .0)) (lt-ltb _ _ (h .1))
+
   verdict-refused : (n : ℕ) → KnownType (f .type) → verdictOf bits f space ≡ refused n → WriteRefusal afi f space n
   unfolding verdictOf verdict
   verdict-refused n typed e =
@@ -84,19 +129,28 @@ module _ (afi bits : ℕ) (ofFamily : familyBits afi ≡ given bits) (f : Fields
       ⊎-elim
       (λ widths.
       ⊎-elim
+      (λ fecs.
+      let whole : fecNumber bits f body ≡ DONE = eqb-true _ _ (fecs .0) in
+      ⊎-elim
+      (λ over. subst (WriteRefusal afi f space) (same LONG (over .1)) (long bits ofFamily typed (widths-fit (widths .0)) (fec-fits whole) (long-is (over .0))))
+      (λ short.
+      ⊎-elim
       (λ keys.
       ⊎-elim
-      (λ few.
-      subst (WriteRefusal afi f space) (same SPACE (few .1))
-      (noSpace bits ofFamily (record { typed = typed; body = well-fits afi bits ofFamily f held body (λ kind h. h) (widths .0) (keys .0) }) (ltb-true _ _ (few .0))))
+      (λ few. subst (WriteRefusal afi f space) (same SPACE (few .1)) (noSpace bits ofFamily (well-passed afi bits ofFamily f held typed (widths .0) whole (short .0) (keys .0)) (ltb-true _ _ (few .0))))
       (λ room. absurd (never refl (room .1)))
       (picked _ _ _ _ (keys .1)))
       (λ bad.
       let r = all-false (keyFits bits f) body (sym (keys-all bits f body) ∙ bad .0) in
       let q = key-fault bits f (r .0) (r .2) in
       subst (WriteRefusal afi f space) (same KEY (bad .1))
-      (badKey bits ofFamily typed (λ k h fault. opposite (all-true (widthFits bits f) body (sym (widths-all bits f body) ∙ widths .0) k h) (fault-width bits f k fault))
+      (badKey bits ofFamily typed (widths-fit (widths .0)) (fec-fits whole) (λ over. opposite (is-long over) (short .0))
       (ap (λ (k : FieldKind). hasField k body) (sym (q .0)) ∙ r .1) (λ of. opposite (key-fits afi bits ofFamily (f .type) (f .key) of) (q .1))))
+      (picked _ _ _ _ (short .1)))
+      (picked _ _ _ _ (fecs .1)))
+      (λ bad.
+      let c = fec-faulty (eqb-false _ _ (bad .0)) in
+      subst (WriteRefusal afi f space) (same _ (bad .1)) (badFec bits ofFamily typed (widths-fit (widths .0)) (c .0) (c .1)))
       (picked _ _ _ _ (widths .1)))
       (λ bad.
       let r = all-false (widthFits bits f) body (sym (widths-all bits f body) ∙ bad .0) in
@@ -111,11 +165,20 @@ module _ (afi bits : ℕ) (ofFamily : familyBits afi ≡ given bits) (f : Fields
   unfolding verdictOf verdict
   width-stops typed k h fault = typed-stops _ typed (pick-false _ _ _ (widths-all bits f _ ∙ all-fails (widthFits bits f) _ k h (fault-width bits f k fault)))
 
-  key-stops : KnownType (f .type) → ((k : FieldKind) → hasField k (bodyOf (f .type)) ≡ true → WidthFault bits f k → ⊥) → hasField key (bodyOf (f .type)) ≡ true → (KeyOf bits (f .type) (f .key) → ⊥)
-      → writeNlri afi f space ≡ refused KEY
+  fec-stops : (n : ℕ) → KnownType (f .type) → WidthsFit bits f → hasField fec (bodyOf (f .type)) ≡ true → FirstFault 3 (Lent (rootFamily bits)) (f .fec) n → writeNlri afi f space ≡ refused n
+  unfolding verdictOf verdict
+  fec-stops n typed widths has fault =
+      let c = faulty-fec n has fault in
+      typed-stops _ typed (pick-true _ _ _ (fit-widths widths) ∙ pick-false _ _ _ (ne-eqb _ _ (λ done. c .1 (sym (c .0) ∙ done))) ∙ ap refused (c .0))
+
+  long-stops : KnownType (f .type) → WidthsFit bits f → FecFits bits f → TooLong f → writeNlri afi f space ≡ refused LONG
+  unfolding verdictOf verdict
+  long-stops typed widths fecs over = typed-stops _ typed (pick-true _ _ _ (fit-widths widths) ∙ pick-true _ _ _ (eq-eqb _ _ (fit-fec fecs)) ∙ pick-true _ _ _ (is-long over))
+
+  key-stops : KnownType (f .type) → WidthsFit bits f → FecFits bits f → (TooLong f → ⊥) → hasField key (bodyOf (f .type)) ≡ true → (KeyOf bits (f .type) (f .key) → ⊥) → writeNlri afi f space ≡ refused KEY
   unfolding verdictOf verdict keyFits
-  key-stops typed widths h none =
-      typed-stops _ typed (pick-true _ _ _ (widths-all bits f _ ∙ all-holds (widthFits bits f) _ (λ k h e. widths k h (width-fault bits f k e)))
+  key-stops typed widths fecs short h none =
+      typed-stops _ typed (pick-true _ _ _ (fit-widths widths) ∙ pick-true _ _ _ (eq-eqb _ _ (fit-fec fecs)) ∙ pick-false _ _ _ (is-false _ (λ over. short (long-is over)))
       ∙ pick-false _ _ _ (keys-all bits f _ ∙ all-fails (keyFits bits f) _ key h (is-false _ (λ e. none (key-judged afi bits ofFamily (f .type) (f .key) (held .key) e)))))
 
 refusal-sound : (afi : ℕ) (f : Fields) (space n : ℕ) → HoldsOctets f → writeNlri afi f space ≡ refused n → WriteRefusal afi f space n
@@ -131,7 +194,9 @@ refusal-complete : (afi : ℕ) (f : Fields) (space n : ℕ) → HoldsOctets f �
 refusal-complete afi f space n held (badFamily one two) = write-is afi f space ∙ sym (stops _ _ _ (family-refuses afi one two))
 refusal-complete afi f space n held (badType bits ofFamily untyped) = write-is afi f space ∙ sym (goes _ _ _ _ ofFamily (sym (pick-false _ _ _ (unlisted (f .type) untyped))))
 refusal-complete afi f space n held (badWidth bits ofFamily typed k h fault) = width-stops afi bits ofFamily f held space typed k h fault
-refusal-complete afi f space n held (badKey bits ofFamily typed widths h none) = key-stops afi bits ofFamily f held space typed widths h none
+refusal-complete afi f space n held (badFec bits ofFamily typed widths h fault) = fec-stops afi bits ofFamily f held space n typed widths h fault
+refusal-complete afi f space n held (long bits ofFamily typed widths fecs over) = long-stops afi bits ofFamily f held space typed widths fecs over
+refusal-complete afi f space n held (badKey bits ofFamily typed widths fecs short h none) = key-stops afi bits ofFamily f held space typed widths fecs short h none
 refusal-complete afi f space n held (noSpace bits ofFamily w few) = write-well afi bits ofFamily f space w ∙ pick-true _ _ _ (lt-ltb space (length (encodeNlri f)) few)
 
 accepted : (afi : ℕ) (f : Fields) (space : ℕ) (e : List ℕ) → HoldsOctets f

@@ -65,7 +65,8 @@ pub nlri-size : (afi : ℕ) (nlri : List ℕ) (f : Fields) → readSPmsi afi nlr
 unfolding readSPmsi bodyOf onBody bodies pick hasField sameKind codeOf either
 nlri-size afi nlri f e =
     let p = passed _ _ _ e in
-    read-short afi nlri (p .value) (p .first) (ap (λ (n : ℕ). hasField key (bodyOf n)) (eqb-true (p .value .type) 3 (given-unless _ _ _ _ (p .second) .0)))
+    let three : p .value .type ≡ 3 = eqb-true _ _ (given-unless _ _ _ _ (p .second) .0) in
+    read-short afi nlri (p .value) (p .first) (omega arith) (ap (λ (n : ℕ). hasField key (bodyOf n)) three)
 
 labelled-size : (attribute : List ℕ) (f : AttributeFields) → readLabelled attribute ≡ given f → length attribute ≤ 64
 unfolding readLabelled

@@ -6,4 +6,4 @@ use Rattle.nlri.proofs.fields.has_key.Tie as tie
 
 pub has-key-spec : {M : Type 1} → statement M
 unfolding withKey
-has-key-spec = tie.close (tie.spec (λ c. search flags))
+has-key-spec = tie.close (tie.spec (λ c. search flags) (λ c. search flags))

@@ -6,4 +6,4 @@ use Rattle.nlri.proofs.fields.has_source_as.Tie as tie
 
 pub has-source-as-spec : {M : Type 1} → statement M
 unfolding withSourceAs
-has-source-as-spec = tie.close (tie.spec (λ c. search flags) (λ c. search flags) (λ c. search flags))
+has-source-as-spec = tie.close (tie.spec (λ c. search flags) (λ c. search flags) (λ c. search flags) (λ c. search flags))

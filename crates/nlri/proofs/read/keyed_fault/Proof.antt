@@ -35,10 +35,10 @@ keyed-fault-spec =
     (search needs)
     (search needs)
     (search needs)
-    (λ c. keyed-none _ _ _ _ (sym (read (c .before .before)) ∙ ap keyOutcome (c .enum-told .given .1)))
+    (λ c. keyed-none _ 4 _ _ _ (sym (read (c .before .before)) ∙ ap keyOutcome (c .enum-told .given .1)))
     (λ c. let h = key-within _ 4 _ _ (key (c .before)) in omega arith)
     (search needs)
-    (λ c. keyed-alone _ _ _ _ _ (key (c .before .before)) (c .before .if1 .taken) (c .end-fault .ensures _ _ _ refl))
+    (λ c. keyed-alone _ 4 _ _ _ _ (key (c .before .before)) (c .before .if1 .taken) (c .end-fault .ensures _ _ _ refl))
     (λ c. let h = key-within _ 4 _ _ (key (c .before)) in omega arith)
     originator-fault-requires
-    (λ c. keyed-followed _ _ _ _ _ (key (c .before .before)) (c .before .if1 .left) (c .originator-fault .ensures _ _ _ refl)))
+    (λ c. keyed-followed _ 4 _ _ _ _ (key (c .before .before)) (c .before .if1 .left) (c .originator-fault .ensures _ _ _ refl)))

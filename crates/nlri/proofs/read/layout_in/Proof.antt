@@ -12,13 +12,16 @@ use Rattle.nlri.proofs.read.layout_in.Statement.{statement}
 use Rattle.nlri.proofs.read.layout_in.Tie as tie
 
 flow-layout-requires : tie.Need-flow-layout-requires
-flow-layout-requires c κs = subst (λ (k : ℕ). FlowStands (k - 1) (now (c .before .before .before .before .before .before .before .before .args .s))) (sym (c .source-start .ensures)) (c .before .before .before .before .before .before .before .before .pre .flow (c .before .before .before .before .if1 .left) (c .before .before .before .if2 .left) (sym (c .before .before .has-key .ensures) ∙ c .before .if3 .left))
+flow-layout-requires c κs =
+    subst (λ (k : ℕ). FlowStands (k - 1) (now (c .before .before .before .before .before .before .before .before .before .before .args .s))) (sym (c .source-start .ensures))
+    (c .before .before .before .before .before .before .before .before .before .before .pre .flow (c .before .before .before .before .before .before .if1 .left) (c .before .before .before .before .before .if2 .left) (sym (c .before .before .before .before .has-key .ensures) ∙ c .before .before .before .if3 .left) (sym (c .before .before .has-fec .ensures) ∙ c .before .if4 .left))
 
-returns-4 : tie.Need-returns-4
+returns-5 : tie.Need-returns-5
 unfolding layoutIn
-returns-4 c =
-    let moved = c .flow-layout .ensures ∙ ap (λ (k : ℕ). flowLayout (getD (now (c .before .before .before .before .before .before .before .before .before .args .s)) 0 0) (k - 1) (now (c .before .before .before .before .before .before .before .before .before .args .s))) (c .before .source-start .ensures) in
-    search flags
+returns-5 c =
+    let s = now (c .before .before .before .before .before .before .before .before .before .before .before .args .s) in
+    let moved = c .flow-layout .ensures ∙ ap (λ (k : ℕ). flowLayout (getD s 0 0) (k - 1) s) (c .before .source-start .ensures) in
+    search flags depth 10
 
 pub layout-in-spec : {M : Type 1} → statement M
 unfolding layoutIn
@@ -38,6 +41,9 @@ layout-in-spec =
     (λ c κs. c .before .before .before .before .before .before .before .pre .leaf (sym (c .before .has-key .ensures) ∙ c .if3 .taken))
     (λ c. search flags)
     (search needs)
-    (λ c. omega (arith, c .source-start .ensures, start-least (getD (now (c .before .before .before .before .before .before .before .before .args .s)) 0 0)))
+    (λ c κs. c .before .before .before .before .before .before .before .before .before .pre .fec (sym (c .before .has-fec .ensures) ∙ c .if4 .taken))
+    (λ c. search flags depth 10)
+    (search needs)
+    (λ c. omega (arith, c .source-start .ensures, start-least (getD (now (c .before .before .before .before .before .before .before .before .before .before .args .s)) 0 0)))
     flow-layout-requires
-    returns-4)
+    returns-5)

@@ -8,7 +8,7 @@ keyed-fault-requires : tie.Need-keyed-fault-requires
 keyed-fault-requires c κs = search needs
 
 returns : tie.Need-returns
-returns c = key-alone _ _ _ (c .keyed-fault .ensures)
+returns c = key-alone _ 4 _ _ (c .keyed-fault .ensures)
 
 pub is-key-spec : {M : Type 1} → statement M
 is-key-spec = tie.close (tie.spec keyed-fault-requires returns)

@@ -2,7 +2,7 @@
 use mathlib.Core.List.{_++_}
 use denote.Ref.{now}
 use borrow.Author.Tests.{eq-eqb, ne-eqb}
-use Rattle.octets.proofs.Outputs.{put-then, put-picks, put-skips, room-picks, room-skips, room-first, room-next}
+use Rattle.octets.proofs.Outputs.{put-picks, put-skips, room-picks, room-skips}
 use Rattle.nlri.specs.InnerWriting.{sourceAsOctets, fixedOctets}
 use borrow.Author.Needs.{needs}
 use Rattle.nlri.proofs.write.put_fixed.Statement.{statement}
@@ -19,33 +19,16 @@ returns : tie.Need-returns
 unfolding fixedOctets
 returns c = put-picks _ _ _ _ _ _ _ (eq-eqb _ _ (c .before .before .before .before .if1 .taken)) (c .before .before .place .ensures)
 
-slice-aggregate-place : tie.Need-slice-aggregate-place
-slice-aggregate-place c = search needs
-
-place-requires-2 : tie.Need-place-requires-2
+put-distinguisher-requires : tie.Need-put-distinguisher-requires
 unfolding fixedOctets
-place-requires-2 c κs =
-    let start = c .before .before .before .before .before .before .before .before in
+put-distinguisher-requires c κs =
+    let start = c .before .before .before .before .before in
     let a = start .args in
-    let room = room-skips (a .at) _ (now (a .key)) (a .nlri .distinguisher .octets ++ sourceAsOctets (a .nlri)) (now (a .output)) (ne-eqb _ _ (c .before .before .before .before .if1 .left)) (start .pre) in
-    room-first (a .at) (a .nlri .distinguisher .octets) (sourceAsOctets (a .nlri)) (now (a .output)) room
-
-put-source-as-requires : tie.Need-put-source-as-requires
-unfolding fixedOctets
-put-source-as-requires c κs =
-    let start = c .before .before .before .before .before .before .before .before .before .before .before .before in
-    let a = start .args in
-    let room = room-skips (a .at) _ (now (a .key)) (a .nlri .distinguisher .octets ++ sourceAsOctets (a .nlri)) (now (a .output)) (ne-eqb _ _ (c .before .before .before .before .before .before .before .before .if1 .left)) (start .pre) in
-    room-next (a .at) (a .nlri .distinguisher .octets) (sourceAsOctets (a .nlri)) (now (a .output)) room _ _ (c .before .before .before .place2 .ensures)
+    room-skips (a .at) _ (now (a .key)) (a .nlri .distinguisher .octets ++ sourceAsOctets (a .nlri)) (now (a .output)) (ne-eqb _ _ (c .before .if1 .left)) (start .pre)
 
 returns-2 : tie.Need-returns-2
 unfolding fixedOctets
-returns-2 c =
-    let start = c .before .before .before .before .before .before .before .before .before .before .before .before .before .before .before in
-    let a = start .args in
-    let other = ne-eqb _ _ (c .before .before .before .before .before .before .before .before .before .before .before .if1 .left) in
-    let room = room-skips (a .at) _ (now (a .key)) (a .nlri .distinguisher .octets ++ sourceAsOctets (a .nlri)) (now (a .output)) other (start .pre) in
-    put-skips _ _ _ _ _ _ _ other (put-then (a .at) (a .nlri .distinguisher .octets) (sourceAsOctets (a .nlri)) (now (a .output)) room _ _ (c .before .before .before .before .before .before .place2 .ensures) _ _ (c .before .before .put-source-as .ensures))
+returns-2 c = put-skips _ _ _ _ _ _ _ (ne-eqb _ _ (c .before .before .before .before .if1 .left)) (c .before .before .put-distinguisher .ensures)
 
 pub put-fixed-spec : {M : Type 1} → statement M
 put-fixed-spec =
@@ -55,8 +38,6 @@ put-fixed-spec =
     place-requires
     (search needs)
     returns
-    slice-aggregate-place
-    place-requires-2
-    put-source-as-requires
+    put-distinguisher-requires
     (search needs)
     returns-2)

@@ -1,5 +1,5 @@
 -- `nlri::write::write_nlri` meets its contract.
-use Rattle.nlri.proofs.Functions.Verdicts.{write-is}
+use Rattle.nlri.proofs.Functions.MldpVerdicts.{write-by}
 use Rattle.nlri.proofs.Functions.Via.{known-given, unknown-given}
 use Rattle.nlri.proofs.Definitions.Families.{family-is}
 use Rattle.octets.proofs.Outcome.{stops, goes}
@@ -17,15 +17,15 @@ write-under-requires c κs =
 
 returns : tie.Need-returns
 returns c =
-    let eight : length (c .before .before .before .before .before .before .before .args .nlri .distinguisher .octets) ≡ 8 = search needs in
-    let a = c .before .before .before .before .before .before .before .args in
-    wrote-refused _ _ _ _ (stops _ _ _ (unknown-given _ _ _ (c .before .before .before .before .family-of .ensures) (c .before .before .number .given .1)) ∙ write-is (a .afi) (a .nlri) (now (a .key)) (length (now (a .output))) eight) (c .refused .ensures)
+    let eight : length (c .before .before .before .before .before .before .before .before .args .nlri .distinguisher .octets) ≡ 8 = search needs in
+    let a = c .before .before .before .before .before .before .before .before .args in
+    wrote-refused _ _ _ _ (stops _ _ _ (unknown-given _ _ _ (c .before .before .before .before .family-of .ensures) (c .before .before .number .given .1)) ∙ write-by (a .afi) (a .nlri) (now (a .key)) (now (a .fec)) (length (now (a .output))) eight) (c .refused .ensures)
 
 returns-2 : tie.Need-returns-2
 returns-2 c =
-    let eight : length (c .before .before .before .before .before .before .before .before .before .before .args .nlri .distinguisher .octets) ≡ 8 = search needs in
-    let a = c .before .before .before .before .before .before .before .before .before .before .args in
-    wrote-as _ _ _ _ _ (goes _ _ _ _ (known-given _ _ _ (c .before .before .before .before .before .before .before .family-of .ensures) (c .before .before .before .before .before .kind .given .1)) refl ∙ write-is (a .afi) (a .nlri) (now (a .key)) (length (now (a .output))) eight) (c .before .before .write-under .ensures)
+    let eight : length (c .before .before .before .before .before .before .before .before .before .before .before .args .nlri .distinguisher .octets) ≡ 8 = search needs in
+    let a = c .before .before .before .before .before .before .before .before .before .before .before .args in
+    wrote-as _ _ _ _ _ (goes _ _ _ _ (known-given _ _ _ (c .before .before .before .before .before .before .before .family-of .ensures) (c .before .before .before .before .before .kind .given .1)) refl ∙ write-by (a .afi) (a .nlri) (now (a .key)) (now (a .fec)) (length (now (a .output))) eight) (c .before .before .write-under .ensures)
 
 pub write-nlri-spec : {M : Type 1} → statement M
 write-nlri-spec =
