@@ -46,34 +46,40 @@ figures: archive
 sizes:
 	tools/sizes
 
-# Where `make install` puts things; DESTDIR, if given, goes before each.
+# Where `make install` puts things; DESTDIR, if given, goes before each. They may have blanks in them.
 PREFIX = /usr/local
 BINDIR = $(PREFIX)/bin
 INCLUDEDIR = $(PREFIX)/include
 LIBDIR = $(PREFIX)/lib
 PKGCONFIGDIR = $(LIBDIR)/pkgconfig
 MANDIR = $(PREFIX)/share/man
+DOCDIR = $(PREFIX)/share/doc/mvpn
 
 # The calls; the manual page of each leads to mvpn(3).
 calls = ${shell sed -n 's/^[a-z].* \(mvpn_[a-z_]*\)(.*/\1/p' include/mvpn.h}
 
-# A directory as mvpn.pc writes it.
-in_prefix = $(patsubst $(PREFIX)/%,$${prefix}/%,$(1))
+# The examples, with the README that goes with them.
+examples = ${shell find examples -type f}
+
+# In a recipe: the prefix, and a directory as mvpn.pc writes it.
+in_prefix = prefix='$(PREFIX)'; \
+    in_prefix() { case $$1 in "$$prefix"/*) echo "\$${prefix}/$${1\#"$$prefix"/}" ;; *) echo "$$1" ;; esac; }
 
 # Installs what `make` has built. It builds nothing, so that it can run where the toolchain is not.
 install:
 	@test -f target/staticlib/libmvpn.a && test -x target/bin/mvpn_list || \
 	    { echo "make install: nothing is built; run 'make' first" >&2; exit 1; }
 	install -d '$(DESTDIR)$(BINDIR)' '$(DESTDIR)$(INCLUDEDIR)' '$(DESTDIR)$(LIBDIR)' '$(DESTDIR)$(PKGCONFIGDIR)' \
-	    '$(DESTDIR)$(MANDIR)/man1' '$(DESTDIR)$(MANDIR)/man3'
+	    '$(DESTDIR)$(MANDIR)/man1' '$(DESTDIR)$(MANDIR)/man3' '$(DESTDIR)$(DOCDIR)'
 	install -m 755 target/bin/mvpn_list '$(DESTDIR)$(BINDIR)'
 	install -m 644 include/mvpn.h '$(DESTDIR)$(INCLUDEDIR)'
 	install -m 644 target/staticlib/libmvpn.a '$(DESTDIR)$(LIBDIR)'
 	install -m 644 man/mvpn_list.1 '$(DESTDIR)$(MANDIR)/man1'
 	install -m 644 man/mvpn.3 '$(DESTDIR)$(MANDIR)/man3'
 	for call in $(calls); do install -m 644 man/call.3 '$(DESTDIR)$(MANDIR)/man3/'$$call.3; done
-	sed -e 's|@PREFIX@|$(abspath $(PREFIX))|' -e 's|@INCLUDEDIR@|$(call in_prefix,$(INCLUDEDIR))|' \
-	    -e 's|@LIBDIR@|$(call in_prefix,$(LIBDIR))|' -e "s|@VERSION@|$$(cat VERSION)|" \
+	for file in $(examples); do install -D -m 644 $$file '$(DESTDIR)$(DOCDIR)/'$$file; done
+	$(in_prefix); sed -e "s|@PREFIX@|$$(realpath -ms "$$prefix")|" -e "s|@INCLUDEDIR@|$$(in_prefix '$(INCLUDEDIR)')|" \
+	    -e "s|@LIBDIR@|$$(in_prefix '$(LIBDIR)')|" -e "s|@VERSION@|$$(cat VERSION)|" \
 	    mvpn.pc.in >'$(DESTDIR)$(PKGCONFIGDIR)/mvpn.pc'
 	chmod 644 '$(DESTDIR)$(PKGCONFIGDIR)/mvpn.pc'
 
@@ -81,6 +87,8 @@ uninstall:
 	rm -f '$(DESTDIR)$(BINDIR)/mvpn_list' '$(DESTDIR)$(INCLUDEDIR)/mvpn.h' '$(DESTDIR)$(LIBDIR)/libmvpn.a' \
 	    '$(DESTDIR)$(PKGCONFIGDIR)/mvpn.pc' '$(DESTDIR)$(MANDIR)/man1/mvpn_list.1' '$(DESTDIR)$(MANDIR)/man3/mvpn.3'
 	for call in $(calls); do rm -f '$(DESTDIR)$(MANDIR)/man3/'$$call.3; done
+	for file in $(examples); do rm -f '$(DESTDIR)$(DOCDIR)/'$$file; done
+	test ! -d '$(DESTDIR)$(DOCDIR)' || find '$(DESTDIR)$(DOCDIR)' -type d -empty -delete
 
 clean:
 	rm -rf target

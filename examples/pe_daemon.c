@@ -1,7 +1,7 @@
 /*
  * A provider edge router's use of mvpn.h. It reads BGP UPDATE messages, keeps the S-PMSI A-D and Source Active A-D routes of
  * one VRF in them, and tells which route and which tunnel a customer flow (C-S,C-G) or a shared tree (C-*,C-G) takes, and of a
- * flow also why.
+ * flow also why. At the end it lists its tables.
  *
  *     pe_daemon [--pieces OCTETS] FILE [REQUEST]...
  *
@@ -39,8 +39,8 @@ typedef struct {
     customer_states states;
 } customer_family;
 
-/* NLRIs, by what became of them. */
-typedef struct { size_t added, replaced, withdrawn, refused; } changes;
+/* NLRIs, by what became of them. A withdrawal of a route that is not there is no refusal: nothing is wrong with it. */
+typedef struct { size_t added, replaced, withdrawn, absent, refused; } changes;
 
 /* NLRIs of a run, each where it stands in the run, kept until it is known that nothing of the run is damaged. Those of unknown
  * route types are not among them. */
@@ -57,6 +57,14 @@ typedef struct {
     changes routes, sources;                /* of S-PMSI A-D and Source Active A-D routes */
     size_t other, skipped;                  /* NLRIs of other route types; of unknown ones */
 } customer_vrf;
+
+/* ---- what is refused: its octets, on lines of their own, each begun by a line feed */
+
+static void print_refused(const char *what, octets refused)
+{
+    printf("\n      %s: ", what);
+    print_octets(refused.at, refused.size);
+}
 
 /* ---- the table of a family */
 
@@ -84,10 +92,15 @@ static void withdraw(customer_vrf *vrf, uint16_t afi, octets nlri)
     if (number == MVPN_DONE) {
         vrf->routes.withdrawn++;
         printf("withdrawn");
-    } else {
+        return;
+    }
+    printf("not withdrawn, ");
+    print_number(number);
+    if (number == MVPN_ABSENT)
+        vrf->routes.absent++;
+    else {
         vrf->routes.refused++;
-        printf("not withdrawn, ");
-        print_number(number);
+        print_refused("NLRI", nlri);
     }
 }
 
@@ -100,6 +113,7 @@ static void treat_as_withdrawn(customer_vrf *vrf, uint16_t afi, octets nlri)
         vrf->routes.withdrawn++;
         printf("; treated as withdrawn");
     }
+    print_refused("NLRI", nlri);
 }
 
 /* A route of tunnel type 0 asks for tracking: the table holds it, and no match takes it (RFC 8556, section 4.1). */
@@ -120,6 +134,7 @@ static void install(customer_vrf *vrf, uint16_t afi, octets nlri, octets tunnel)
         printf("not installed, ");
         print_number(installed.number);
         treat_as_withdrawn(vrf, afi, nlri);
+        print_refused("attribute", tunnel);
         return;
     }
     bool is_new = installed.outcome == MVPN_NEW;
@@ -146,12 +161,15 @@ static void keep_source(customer_vrf *vrf, const route_run *routes, octets nlri)
             vrf->sources.withdrawn++;
             printf("; treated as withdrawn");
         }
+        print_refused("NLRI", nlri);
+        print_refused("next hop", originator);
         return;
     }
     keeping kept = keep_source_active(sources, nlri, originator);
     if (kept == NOT_KEPT) {
         vrf->sources.refused++;
         printf("not kept, there are %d", MVPN_MOST_ITEMS);
+        print_refused("NLRI", nlri);
         return;
     }
     *(kept == KEPT_NEW ? &vrf->sources.added : &vrf->sources.replaced) += 1;
@@ -162,7 +180,7 @@ static void keep_source(customer_vrf *vrf, const route_run *routes, octets nlri)
 static void forget_source(customer_vrf *vrf, uint16_t afi, octets nlri)
 {
     bool forgotten = forget_source_active(&family_of(vrf, afi)->sources, nlri);
-    *(forgotten ? &vrf->sources.withdrawn : &vrf->sources.refused) += 1;
+    *(forgotten ? &vrf->sources.withdrawn : &vrf->sources.absent) += 1;
     printf("%s", forgotten ? "withdrawn" : "not withdrawn, it was not kept");
 }
 
@@ -217,35 +235,32 @@ static mvpn_walked read_run(const route_run *routes, size_t piece_size, kept_nlr
 
 typedef enum { INSTALL, WITHDRAW } change;
 
-/* The FEC elements of an NLRI for mLDP (RFC 7441); a Leaf has them in its key. */
-static void print_fecs_of(uint16_t afi, octets nlri)
+/* The fields of an NLRI; those for mLDP (RFC 7441) have a FEC element among them, and a Leaf's key is an NLRI too. */
+static void print_nlri(uint16_t afi, octets nlri)
 {
     mvpn_nlri_reading reading = mvpn_nlri_read(afi, nlri.at, nlri.size);
-    if (reading.key.size > 0) {
-        nlri = (octets){ nlri.at + reading.key.start, reading.key.size };
-        reading = mvpn_nlri_read(afi, nlri.at, nlri.size);
-    }
+    print_route(&reading.nlri);
     if (reading.fec.size > 0) {
         printf(", ");
         print_fecs(nlri.at + reading.fec.start);
     }
+    if (reading.key.size > 0) {
+        printf(", key [");
+        print_nlri(afi, (octets){ nlri.at + reading.key.start, reading.key.size });
+        printf("]");
+    }
 }
 
-/* S-PMSI A-D routes go into the table, Source Active A-D routes are kept beside it; others are named and counted. */
+/* S-PMSI A-D routes go into the table, Source Active A-D routes are kept beside it; others are counted. */
 static void use_nlri(customer_vrf *vrf, change what, const route_run *routes, octets nlri, octets tunnel)
 {
     uint8_t route_type = nlri.at[0];
+    print_nlri(routes->afi, nlri);
+    printf(": ");
     if (route_type != MVPN_S_PMSI && route_type != MVPN_SOURCE_ACTIVE) {
         vrf->other++;
-        printf("route type %u, %s", route_type, route_type_name(route_type));
-        print_fecs_of(routes->afi, nlri);
-        printf(": not used");
-        return;
-    }
-    mvpn_nlri route = mvpn_nlri_read(routes->afi, nlri.at, nlri.size).nlri;
-    print_route(&route);
-    printf(": ");
-    if (route_type == MVPN_SOURCE_ACTIVE && what == INSTALL)
+        printf("not used");
+    } else if (route_type == MVPN_SOURCE_ACTIVE && what == INSTALL)
         keep_source(vrf, routes, nlri);
     else if (route_type == MVPN_SOURCE_ACTIVE)
         forget_source(vrf, routes->afi, nlri);
@@ -272,6 +287,13 @@ static void print_walked(mvpn_walked walked)
     printf("\n");
 }
 
+/* What there is of the NLRI at the front of octets, which may end inside it. */
+static octets damaged_nlri(octets rest)
+{
+    size_t size = rest.size < MVPN_NLRI_HEADER ? rest.size : MVPN_NLRI_HEADER + (size_t)rest.at[1];
+    return (octets){ rest.at, size < rest.size ? size : rest.size };
+}
+
 /* The whole run is read before any of it is used. Where an NLRI is damaged, nobody can tell which routes were meant, so
  * nothing of that run is installed or withdrawn, not even the NLRIs before the damage, and what the table holds stays.
  * (RFC 7606, section 3, asks for more then: to reset the session or to give up the family. Here there is no session.) */
@@ -289,16 +311,32 @@ static void use_run(customer_vrf *vrf, change what, const route_run *routes, oct
         vrf->damaged_runs++;
         printf("nothing of it is used\n    octet %u: damaged NLRI, ", (unsigned)walked.offset);
         print_number(walked.number);
+        print_refused("NLRI", damaged_nlri(behind(routes->run, walked.offset)));
         printf("\n");
     }
 }
 
 /* ---- messages */
 
-static void drop(customer_vrf *vrf, fault damage)
+/* `from` are the octets of the message from the damaged one on, none where they were not read. */
+static void drop(customer_vrf *vrf, fault damage, octets from)
 {
     vrf->dropped++;
-    printf("dropped, octet %zu: %s\n", damage.offset, damage.text);
+    printf("dropped, octet %zu: %s", damage.offset, damage.text);
+    if (from.size > 0)
+        print_refused("from there", from);
+    printf("\n");
+}
+
+/* End-of-RIB: the peer has sent all its routes of a family. It is an UPDATE that has none: of IPv4 unicast nothing at all, of
+ * another family only MP_UNREACH_NLRI (RFC 4724, section 2). */
+static bool print_end_of_rib(const update *found)
+{
+    bool is_unicast = found->attributes == 0, is_ours = found->attributes == 1 && found->unreach.afi;
+    if (found->unicast > 0 || found->unreach.run.size > 0 || !(is_unicast || is_ours))
+        return false;
+    printf("End-of-RIB, %s %s\n", is_unicast ? "IPv4" : family_name(found->unreach.afi), is_unicast ? "unicast" : "MCAST-VPN");
+    return true;
 }
 
 /* Withdrawals come first: a route that is in both attributes is announced. */
@@ -307,9 +345,11 @@ static void use_update(customer_vrf *vrf, octets message)
     update found;
     fault damage = update_read(message, &found);
     if (damage.text) {
-        drop(vrf, damage);
+        drop(vrf, damage, behind(message, damage.offset));
         return;
     }
+    if (print_end_of_rib(&found))
+        return;
     printf("path attributes %zu, skipped %zu\n", found.attributes, found.skipped);
     if (found.unreach.afi)
         use_run(vrf, WITHDRAW, &found.unreach, found.tunnel);
@@ -329,7 +369,7 @@ static void use_message(customer_vrf *vrf, octets message)
         printf("\n");
     else {
         printf(": ");
-        drop(vrf, (fault){ "the type is not 1 to 5", BGP_HEADER - 1 });
+        drop(vrf, (fault){ "the type is not 1 to 5", BGP_HEADER - 1 }, behind(message, BGP_HEADER - 1));
     }
 }
 
@@ -345,7 +385,7 @@ static bool use_messages(customer_vrf *vrf, FILE *input)
         vrf->messages++;
         printf("message %zu: ", vrf->messages);
         if (damage.text) {
-            drop(vrf, damage);
+            drop(vrf, damage, (octets){ NULL, 0 });
             printf("where the next message begins cannot be told: no more are read\n");
             return false;
         }
@@ -355,8 +395,8 @@ static bool use_messages(customer_vrf *vrf, FILE *input)
 
 static void print_changes(const char *of, const changes *made)
 {
-    printf("%s: new %zu, replaced %zu, withdrawn %zu, refused %zu\n", of, made->added, made->replaced, made->withdrawn,
-           made->refused);
+    printf("%s: new %zu, replaced %zu, withdrawn %zu, absent %zu, refused %zu\n", of, made->added, made->replaced,
+           made->withdrawn, made->absent, made->refused);
 }
 
 static void print_counts(const customer_vrf *vrf)
@@ -494,6 +534,42 @@ static void answer_shared_tree(customer_vrf *vrf, const request *tree)
     }
 }
 
+/* ---- the tables */
+
+/* A route as a match writes it: its NLRI and, straight after it, its attribute. */
+static void print_held(uint16_t afi, const uint8_t *route, mvpn_following sizes)
+{
+    const uint8_t *attribute = route + sizes.nlri_size;
+    mvpn_attribute_reading tunnel = mvpn_attribute_read(attribute, sizes.attribute_size);
+    printf("  ");
+    print_nlri(afi, (octets){ route, sizes.nlri_size });
+    printf("\n    ");
+    print_tunnel(&tunnel);
+    if (tunnel.identifier.size > 0) {
+        printf("; ");
+        print_identifier(&tunnel, attribute);
+    }
+    printf("\n");
+}
+
+/* Lists a table: the loop of mvpn.h. It goes from NLRI to NLRI, so that a daemon may do it in parts, between its messages. */
+static void print_table(const uint8_t *table)
+{
+    uint8_t nlri[MVPN_MATCH_OUTPUT], route[MVPN_MATCH_OUTPUT];
+    mvpn_table info = mvpn_table_info(table, TABLE_SIZE);
+    size_t size = 0;
+    printf("\n%s table: %u route%s in %u places\n", family_name((uint16_t)info.afi), (unsigned)info.routes,
+           info.routes == 1 ? "" : "s", (unsigned)info.places);
+    for (;;) {
+        mvpn_following next = mvpn_next(table, TABLE_SIZE, nlri, size, route, sizeof route);
+        if (next.nlri_size == 0)
+            break;
+        print_held((uint16_t)info.afi, route, next);
+        size = next.nlri_size;
+        memcpy(nlri, route, size);
+    }
+}
+
 /* ---- requests */
 
 static void take_state(customer_vrf *vrf, const request *told)
@@ -575,6 +651,8 @@ int main(int argc, char **argv)
         words += parse_request(words, &asked);
         answer(&vrf, &asked);
     }
+    print_table(table_of(&vrf, MVPN_AFI_IPV4));
+    print_table(table_of(&vrf, MVPN_AFI_IPV6));
     fclose(input);
     return whole ? 0 : 1;
 }

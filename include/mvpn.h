@@ -1,7 +1,7 @@
 /*
  * mvpn.h: MCAST-VPN NLRI (RFC 6514, RFC 6625, RFC 7441) and the PMSI Tunnel attribute (RFC 6514, RFC 8556), read and written; one
  * VRF's S-PMSI A-D routes for one address family, kept in memory that the caller lends, and the route that a customer
- * flow (C-S,C-G) or a shared tree (C-*,C-G) takes; of a flow also why.
+ * flow (C-S,C-G) or a shared tree (C-*,C-G) takes; of a flow also why; the routes of a table, one after another.
  *
  * Best paths, Route Targets, BGP sessions and joining tunnels are the daemon's. So is the knowledge of a shared tree that its
  * match is told: which PE is upstream, which groups are BIDIR-PIM, the Source Active routes and the (C-S,C-G) states.
@@ -11,13 +11,13 @@
  * what a reader of pieces keeps.
  *
  * What the caller owes: a pointer is valid for the length given beside it, which is at most PTRDIFF_MAX; where the length
- * is 0 the pointer may be any non-null address. No alignment is asked. A buffer that is written overlaps no other argument.
+ * is 0 the pointer may be anything, null too. No alignment is asked. A buffer that is written overlaps no other argument.
  *
  * Threads: the library keeps nothing between calls, has no state of its own, and takes no memory and no lock, so any
- * thread may make any call, and an answer depends on the call's arguments alone. Octets that are only read, a table apart,
- * may be lent to several calls at once; a buffer that a call writes is used by nobody else until the call ends. Calls on
- * different tables are independent; one table is used by one thread at a time, and handing it on is the caller's.
- * A call takes at most 2 KiB of stack.
+ * thread may make any call, and an answer depends on the call's arguments alone. Octets that are only read may be lent to
+ * several calls at once; a buffer that a call writes is used by nobody else until the call ends. A table is written by make,
+ * install and withdraw alone: matches, explanations and listings may run at once on one table while none of those does, and
+ * seeing to that is the caller's. Calls on different tables are independent. A call takes at most 2 KiB of stack.
  *
  * Octets are in network order, as on the wire. AFI is 1 (IPv4) or 2 (IPv6), the whole 16-bit number.
  */
@@ -28,10 +28,13 @@
 #include <stdint.h>
 
 /* The version of this header and its archive; before 1.0.0 a new minor version may change calls. */
-#define MVPN_VERSION "0.10.0"
+#define MVPN_VERSION "0.11.0"
 #define MVPN_VERSION_MAJOR 0
-#define MVPN_VERSION_MINOR 10
+#define MVPN_VERSION_MINOR 11
 #define MVPN_VERSION_PATCH 0
+
+/* The version as one number, an octet for each part: what mvpn_version gives, where header and archive are of one version. */
+#define MVPN_VERSION_NUMBER (MVPN_VERSION_MAJOR * 65536 + MVPN_VERSION_MINOR * 256 + MVPN_VERSION_PATCH)
 
 #ifdef __cplusplus
 extern "C" {
@@ -64,6 +67,10 @@ enum { MVPN_AFI_IPV4 = 1, MVPN_AFI_IPV6 = 2 };
 
 /* The octets of an NLRI before its body: route type and Length. */
 enum { MVPN_NLRI_HEADER = 2 };
+
+/* The most octets of an NLRI, which are its header and a Length of 255, of an attribute, and of a run. An output of so many
+ * octets holds every NLRI, or every attribute, that is written. */
+enum { MVPN_LONGEST_NLRI = 257, MVPN_LONGEST_ATTRIBUTE = 64, MVPN_LONGEST_RUN = 4096 };
 
 /* Route types (RFC 6514, section 4), and those for customers that run mLDP (RFC 7441, section 3). */
 enum {
@@ -144,6 +151,9 @@ typedef struct {
     uint32_t number;
     size_t size; /* octets written at the front of the output; those past it are untouched */
 } mvpn_written;
+
+/* The version of the archive; it is that of this header where it equals MVPN_VERSION_NUMBER. It refuses nothing. */
+uint32_t mvpn_version(void);
 
 /*
  * Reads a single NLRI. FAMILY, SHORT, TYPE, then the body left to right (LENGTH, WIDTH, KEY, IDENT, DEEP), then LENGTH for
@@ -302,8 +312,11 @@ mvpn_written mvpn_attribute_write(uint8_t flags, uint8_t tunnel_type, uint32_t l
  * PMSI Tunnel attribute. Routes stand in the order of their NLRIs, octet by octet, and every octet behind them is 0, so for
  * one family and number of places a set of routes has one image. A table may be copied, stored and lent again anywhere.
  *
- * Install, withdraw, both matches and explain look at every octet of the table, and refuse one that is not sound; beyond that,
- * their cost grows with the places that are taken.
+ * Install, withdraw, both matches, explain, next and table_info look at every octet of the table, and refuse one that is not
+ * sound; beyond that, their cost grows with the places that are taken.
+ *
+ * A daemon with more than 500 routes keeps a table for each originator: the candidates of a match are those of the router that
+ * it asks about, so the answers are those of one table that holds all routes.
  */
 enum {
     MVPN_TABLE_HEADER = 8,
@@ -475,6 +488,38 @@ mvpn_matched mvpn_match_shared(const uint8_t *table, size_t table_len, const uin
                                const uint8_t *group, size_t group_len, mvpn_shared_tree facts,
                                const uint8_t *source_actives, size_t source_actives_len,
                                const uint8_t *states, size_t states_len, uint8_t *output, size_t output_len);
+
+typedef struct {
+    uint32_t number;
+    uint32_t nlri_size, attribute_size; /* 0: no route comes after */
+} mvpn_following;
+
+/*
+ * The route that comes next in the table after an NLRI, in the order of NLRIs, octet by octet: the first of all after no octets,
+ * none after the last. It goes by NLRI and not by place, so that a route that comes or goes between two calls shifts no other;
+ * `nlri` is any octets, and need not be held. TABLE, SPACE (an output under MVPN_MATCH_OUTPUT octets, also where no route comes
+ * after).
+ *
+ * The NLRI is written at the front of the output and the attribute straight after it, as by a match; octets past them are
+ * untouched. Where no route comes after: DONE with both sizes 0 and the output untouched. The loop that lists a table:
+ *
+ *     uint8_t nlri[MVPN_MATCH_OUTPUT], route[MVPN_MATCH_OUTPUT];
+ *     size_t size = 0;
+ *     for (;;) {
+ *         mvpn_following next = mvpn_next(table, table_len, nlri, size, route, sizeof route);
+ *         if (next.nlri_size == 0) break;
+ *         show_route(route, next.nlri_size, route + next.nlri_size, next.attribute_size);
+ *         size = next.nlri_size;
+ *         memcpy(nlri, route, size);
+ *     }
+ */
+mvpn_following mvpn_next(const uint8_t *table, size_t table_len, const uint8_t *nlri, size_t nlri_len,
+                         uint8_t *output, size_t output_len);
+
+typedef struct { uint32_t number, afi, places, routes; } mvpn_table;
+
+/* What a table says of itself: its AFI, its places, and how many routes are in them. TABLE. */
+mvpn_table mvpn_table_info(const uint8_t *table, size_t table_len);
 
 #ifdef __cplusplus
 }

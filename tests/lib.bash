@@ -65,6 +65,16 @@ callers_loop() {
     sed -n "/The caller's loop:/,/\*\//s/^ \*     //p" "$header"
 }
 
+# The loop that the header shows to callers who list a table.
+listing_loop() {
+    sed -n "/The loop that lists a table:/,/\*\//s/^ \*     //p" "$header"
+}
+
+# Where mvpn(3) ends the first part of a run that is too long.
+first_part() {
+    sed -n "/^The first part of a run ends here:/,/^\.fi/p" man/mvpn.3 | sed -e 1d -e '/^\./d' -e 's/\\-/-/g'
+}
+
 # blocks LANGUAGE FILE: the lines of the fenced blocks of that language.
 blocks() {
     awk -v fence="\`\`\`$1" '$0 == fence { inside = 1; next } /^```/ { inside = 0 } inside' "$2"

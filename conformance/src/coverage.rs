@@ -23,6 +23,8 @@ pub enum Call {
     Withdraw,
     Match,
     Explain,
+    Next,
+    TableInfo,
     MatchShared,
     /// A call in a sequence on one table.
     Sequence,
@@ -56,12 +58,14 @@ pub enum Seen {
     Tunnel(u32),
     /// Tunnel type, FEC type and address family.
     Fec(u32, u32, u32),
-    /// A table made or a route withdrawn: AFI.
+    /// A table made or looked into, or a route withdrawn: AFI.
     Family(u16),
     /// AFI and outcome of an install.
     Outcome(u16, u32),
     /// AFI and tier of a match of any kind.
     Tier(u16, u32),
+    /// AFI, and whether a route comes next.
+    Follows(u16, bool),
     /// A tier and the reason told of it.
     Reason(u32, u32),
     /// AFI and tier of a match of either kind that passes a route over which names no tunnel.
@@ -77,7 +81,7 @@ pub enum Seen {
 }
 
 /// The numbers that each call can give (document 01, "The numbers a call gives back"; document 02).
-const NUMBERS: [(Call, &[u32]); 15] = [
+const NUMBERS: [(Call, &[u32]); 17] = [
     (Call::NlriRead, &[0, 1, 2, 3, 4, 5, 7, 10, 17]),
     (Call::NlriWrite, &[0, 2, 4, 5, 7, 8, 10, 16, 17]),
     (Call::Step, &[0, 1, 2, 3, 4, 5, 7, 8, 10, 17]),
@@ -92,6 +96,8 @@ const NUMBERS: [(Call, &[u32]); 15] = [
     (Call::Withdraw, &[0, 1, 2, 3, 4, 5, 7, 11, 12, 14, 17]),
     (Call::Match, &[0, 11, 15, 16]),
     (Call::Explain, &[0, 11, 15, 16]),
+    (Call::Next, &[0, 11, 16]),
+    (Call::TableInfo, &[0, 11]),
     (Call::MatchShared, &[0, 1, 2, 3, 4, 5, 7, 8, 11, 12, 15, 16, 17]),
 ];
 
@@ -156,7 +162,8 @@ fn required() -> Vec<(Call, Seen)> {
 }
 
 fn required_of_tables(afi: u16) -> Vec<(Call, Seen)> {
-    let mut rows = vec![(Call::Make, Seen::Family(afi)), (Call::Withdraw, Seen::Family(afi))];
+    let mut rows: Vec<_> = [Call::Make, Call::Withdraw, Call::TableInfo].map(|call| (call, Seen::Family(afi))).to_vec();
+    rows.extend([true, false].map(|follows| (Call::Next, Seen::Follows(afi, follows))));
     rows.extend((1..=2).map(|outcome| (Call::Install, Seen::Outcome(afi, outcome))));
     for tier in 0..=4 {
         rows.extend([Seen::Tier(afi, tier), Seen::PassedOver(afi, tier)].map(|seen| (Call::Match, seen)));

@@ -179,6 +179,24 @@ pub struct Explained {
     pub reasons: [u32; 4],
 }
 
+#[repr(C)]
+#[derive(Clone, Copy, Debug, Default, PartialEq, Eq)]
+pub struct Following {
+    pub number: u32,
+    /// Both 0 where no route comes next.
+    pub nlri_size: u32,
+    pub attribute_size: u32,
+}
+
+#[repr(C)]
+#[derive(Clone, Copy, Debug, Default, PartialEq, Eq)]
+pub struct TableInfo {
+    pub number: u32,
+    pub afi: u32,
+    pub places: u32,
+    pub routes: u32,
+}
+
 /// What the daemon knows of a shared tree and the PE asked; each is 0 or not.
 #[repr(C)]
 #[derive(Clone, Copy, Debug, Default, PartialEq, Eq)]
@@ -202,6 +220,8 @@ const _: () = assert!(
         && size_of::<Installed>() == 8
         && size_of::<Matched>() == 16
         && size_of::<Explained>() == 32
+        && size_of::<Following>() == 12
+        && size_of::<TableInfo>() == 16
         && size_of::<SharedTree>() == 12
 );
 
@@ -230,6 +250,8 @@ pub mod raw {
     pub type Explain = unsafe extern "C" fn(
         *const u8, usize, *const u8, usize, *const u8, usize, *const u8, usize, *mut u8, usize,
     ) -> Explained;
+    pub type Next = unsafe extern "C" fn(*const u8, usize, *const u8, usize, *mut u8, usize) -> Following;
+    pub type ReadTableInfo = unsafe extern "C" fn(*const u8, usize) -> TableInfo;
     #[rustfmt::skip]
     pub type MatchShared = unsafe extern "C" fn(
         *const u8, usize, *const u8, usize, *const u8, usize, SharedTree, *const u8, usize, *const u8, usize,
@@ -298,6 +320,15 @@ pub mod raw {
             output: *mut u8,
             output_len: usize,
         ) -> Explained;
+        pub fn mvpn_next(
+            table: *const u8,
+            table_len: usize,
+            nlri: *const u8,
+            nlri_len: usize,
+            output: *mut u8,
+            output_len: usize,
+        ) -> Following;
+        pub fn mvpn_table_info(table: *const u8, table_len: usize) -> TableInfo;
         pub fn mvpn_match_shared(
             table: *const u8,
             table_len: usize,
@@ -419,6 +450,15 @@ pub fn explain(table: &mut Lent, flow: &mut [Lent; 3], output: &mut Lent) -> Exp
             room,
         )
     }
+}
+
+pub fn next(table: &mut Lent, nlri: &mut Lent, output: &mut Lent) -> Following {
+    let (octets, size) = (nlri.pointer(), nlri.len());
+    unsafe { raw::mvpn_next(table.pointer(), table.len(), octets, size, output.pointer(), output.len()) }
+}
+
+pub fn table_info(table: &mut Lent) -> TableInfo {
+    unsafe { raw::mvpn_table_info(table.pointer(), table.len()) }
 }
 
 /// `tree` is the router and the group; `lists` are the Source Active routes and the states.

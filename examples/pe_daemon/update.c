@@ -187,6 +187,7 @@ fault update_read(octets message, update *found)
     offset = (size_t)(rest.at - message.at);
     if (!take_sized(&rest, 2, &attributes))
         return (fault){ "the path attributes run past the message's end", offset };
+    found->unicast = withdrawn.size + rest.size;
     while (!wrong && attributes.size > 0) {
         offset = (size_t)(attributes.at - message.at);
         wrong = read_attribute(&attributes, found);

@@ -6,6 +6,9 @@
 #include <stdio.h>
 #include <string.h>
 
+/* The most octets of what was refused that are printed: those of an attribute that the library takes. */
+enum { MOST_OCTETS = MVPN_LONGEST_ATTRIBUTE };
+
 #define COUNT(list) (sizeof(list) / sizeof((list)[0]))
 
 /* ---- names of numbers */
@@ -153,6 +156,16 @@ static void print_hexadecimal(const uint8_t *octets, size_t size)
         printf("%s%02X", i ? " " : "", octets[i]);
 }
 
+void print_octets(const uint8_t *octets, size_t size)
+{
+    size_t shown = size < MOST_OCTETS ? size : MOST_OCTETS;
+    if (size == 0)
+        printf("none");
+    print_hexadecimal(octets, shown);
+    if (shown < size)
+        printf(" and %zu more", size - shown);
+}
+
 void print_number(uint32_t number)
 {
     printf("%s (%s)", number_name(number), number_meaning(number));
@@ -197,12 +210,36 @@ static void print_distinguisher(mvpn_route_distinguisher distinguisher)
     }
 }
 
+/* Route types by the fields that they have (RFC 6514, section 4; RFC 7441, section 3). */
+static bool has_distinguisher(uint8_t type)
+{
+    return type != MVPN_LEAF && type != MVPN_MLDP_LEAF;
+}
+
+static bool has_source_as(uint8_t type)
+{
+    return type == MVPN_INTER_AS_I_PMSI || type == MVPN_SHARED_TREE_JOIN || type == MVPN_SOURCE_TREE_JOIN ||
+           type == MVPN_MLDP_SOURCE_TREE_JOIN;
+}
+
+static bool has_pair(uint8_t type)
+{
+    return type == MVPN_S_PMSI || type == MVPN_SOURCE_ACTIVE || type == MVPN_SHARED_TREE_JOIN || type == MVPN_SOURCE_TREE_JOIN;
+}
+
 void print_route(const mvpn_nlri *route)
 {
-    printf("%s, RD ", route_type_name(route->route_type));
-    print_distinguisher(route->distinguisher);
-    printf(", ");
-    print_pair(&route->source, &route->group);
+    printf("%s", route_type_name(route->route_type));
+    if (has_distinguisher(route->route_type)) {
+        printf(", RD ");
+        print_distinguisher(route->distinguisher);
+    }
+    if (has_source_as(route->route_type))
+        printf(", source AS %" PRIu32, route->source_as);
+    if (has_pair(route->route_type)) {
+        printf(", ");
+        print_pair(&route->source, &route->group);
+    }
     if (route->originator.size > 0) {
         printf(", originator ");
         print_address(route->originator.octets, route->originator.size);

@@ -22,12 +22,15 @@ void print_number(uint32_t number);
 /* Why a tier was taken, or was not. */
 void print_reason(uint32_t tier, uint32_t reason);
 
+/* In hexadecimal; of many octets the first ones, and how many more there are. */
+void print_octets(const uint8_t *octets, size_t size);
+
 void print_address(const uint8_t *address, size_t size);
 
 /* "(192.0.2.1, 232.1.1.1)" */
 void print_pair(const mvpn_address *source, const mvpn_address *group);
 
-/* An S-PMSI A-D or Source Active A-D route; the latter has no originator field. */
+/* The fields that the route type has; the key of a Leaf and a FEC element are not among them. */
 void print_route(const mvpn_nlri *route);
 
 /* The FEC element of an NLRI for mLDP, at its first octet, and those that it holds: the roots, and the last one's opaque value. */

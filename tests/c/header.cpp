@@ -21,6 +21,8 @@ static_assert(sizeof(mvpn_installed) == 8, "mvpn_installed");
 static_assert(sizeof(mvpn_matched) == 16, "mvpn_matched");
 static_assert(sizeof(mvpn_explained) == 32, "mvpn_explained");
 static_assert(sizeof(mvpn_shared_tree) == 12, "mvpn_shared_tree");
+static_assert(sizeof(mvpn_following) == 12, "mvpn_following");
+static_assert(sizeof(mvpn_table) == 16, "mvpn_table");
 static_assert(sizeof mvpn_no_items == 2, "mvpn_no_items");
 static_assert(MVPN_TABLE_SIZE(MVPN_MOST_PLACES) == 64008, "MVPN_TABLE_SIZE");
 
@@ -53,6 +55,8 @@ int main()
                        mvpn_match(octets, 0, octets, 0, octets, 0, octets, 0, output, 0).number == MVPN_TABLE &&
                        mvpn_explain(octets, 0, octets, 0, octets, 0, octets, 0, output, 0).matched.number == MVPN_TABLE &&
                        mvpn_match_shared(octets, 0, octets, 0, octets, 0, mvpn_shared_tree{}, octets, 0, octets, 0, output, 0)
-                               .number == MVPN_TABLE;
+                               .number == MVPN_TABLE &&
+                       mvpn_next(octets, 0, octets, 0, output, 0).number == MVPN_TABLE &&
+                       mvpn_table_info(octets, 0).number == MVPN_TABLE && mvpn_version() == MVPN_VERSION_NUMBER;
     return as_expected && lists() ? 0 : 1;
 }

@@ -88,6 +88,8 @@ static bool as_expected;
 
 RUN(nothing, true)
 
+RUN(give_version, mvpn_version() == MVPN_VERSION_NUMBER)
+
 #define READS(nlri) mvpn_nlri_read(2, nlri, sizeof nlri).number == MVPN_DONE
 RUN(read_intra, READS(intra))
 RUN(read_inter, READS(inter))
@@ -199,6 +201,18 @@ static mvpn_explained explained;
 RUN(explain_found, EXPLAINS(originator, 1, MVPN_TAKEN))
 RUN(explain_none, EXPLAINS(source, 0, MVPN_NO_SUCH_ROUTE))
 
+static mvpn_following following;
+
+#define FOLLOWS(nlri, nlri_len, wanted) \
+    (following = mvpn_next(table, sizeof table, nlri, nlri_len, output, sizeof output), \
+     following.number == MVPN_DONE && following.nlri_size == (wanted))
+RUN(next_first, FOLLOWS(NULL, 0, sizeof first))
+RUN(next_of_first, FOLLOWS(first, sizeof first, sizeof first))
+RUN(next_of_absent, FOLLOWS(absent, sizeof absent, 0))
+
+RUN(info_of_table, mvpn_table_info(table, sizeof table).routes == MVPN_MOST_PLACES)
+RUN(info_of_no_table, mvpn_table_info(table, sizeof table - 1).number == MVPN_TABLE)
+
 /* ---- shared trees: a table of (C-*,C-G) and (C-*,C-*) routes of one PE, and the longest lists */
 
 #define SHARED_GROUP 0xFF, 0x0E, 0, 0, 0, 0, 0, 0, 0, 0, 0, 0, 0, 0, 0, 1
@@ -249,6 +263,7 @@ static const struct {
     void (*run)(void);
     const uint8_t *before; /* what the table holds */
 } runs[] = {
+    { "mvpn_version", give_version, full },
     { "mvpn_nlri_read", read_intra, full },
     { "mvpn_nlri_read", read_inter, full },
     { "mvpn_nlri_read", read_s_pmsi, full },
@@ -315,6 +330,11 @@ static const struct {
     { "mvpn_match_shared", shared_any_route, any_trees },
     { "mvpn_match_shared", shared_none, shared_trees },
     { "mvpn_match_shared", shared_short, shared_trees },
+    { "mvpn_next", next_first, full },
+    { "mvpn_next", next_of_first, full },
+    { "mvpn_next", next_of_absent, full },
+    { "mvpn_table_info", info_of_table, full },
+    { "mvpn_table_info", info_of_no_table, full },
 };
 
 /* ---- the painted stack */

@@ -6,6 +6,7 @@ pub mod document;
 pub mod explanations;
 pub mod fecs;
 pub mod flows;
+pub mod following;
 pub mod groups;
 pub mod headers;
 pub mod limits;
@@ -41,6 +42,7 @@ pub fn all(harness: &mut Harness, options: &Options) -> Checked {
     of_fecs(harness, options)?;
     of_pieces(harness, options)?;
     of_shared_trees(harness, options)?;
+    of_following(harness, options)?;
     of_explanations(harness, options)?;
     of_tables(harness, options)
 }
@@ -83,6 +85,11 @@ pub fn of_pieces(harness: &mut Harness, options: &Options) -> Checked {
 pub fn of_shared_trees(harness: &mut Harness, options: &Options) -> Checked {
     no_tunnel::shared_trees(harness)?;
     shared::all(harness, &mut Random::new(options.seed), options.cases)
+}
+
+/// Looking into a table.
+pub fn of_following(harness: &mut Harness, options: &Options) -> Checked {
+    following::all(harness, &mut Random::new(options.seed))
 }
 
 /// Explanations alone.

@@ -146,7 +146,10 @@ fn each_call(
     let attribute = picked(random, &attributes);
     harness.table_call(memory, TableCall::Install { nlri: &nlri, attribute })?;
     harness.table_call(memory, TableCall::Withdraw { nlri: &nlri })?;
-    Ok(())
+    match random.once_in(2) {
+        true => harness.next(memory, &nlri, &OUTPUT).map(drop),
+        false => harness.table_info(memory).map(drop),
+    }
 }
 
 /// A match of one flow, which a (C-*,C-*) route of its router takes too.

@@ -1,6 +1,7 @@
 //! Each call of the archive beside the second decoder: all fields of the answer, and every lent octet afterwards.
 
 pub mod attribute;
+pub mod following;
 pub mod group;
 pub mod nlri;
 pub mod pieces;

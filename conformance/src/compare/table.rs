@@ -64,7 +64,7 @@ impl Harness {
         self.table.octets()
     }
 
-    fn lend_table(&mut self, memory: Input) {
+    pub(super) fn lend_table(&mut self, memory: Input) {
         self.table.place(memory.octets, memory.after, (self.calls % 241) as u8);
     }
 

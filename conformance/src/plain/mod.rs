@@ -1,8 +1,8 @@
 //! The calls of `mvpn.h` in plain Rust: what the archive's speed is held against.
 //!
 //! Each does the whole work of the archive's call, no more and no less. It has the same C arguments and gives its answer by
-//! value; it refuses the same inputs with the same numbers, in document 01's order, before it writes anything; install,
-//! withdraw and match test every octet of the table for soundness each time; and every octet that the call promises is
+//! value; it refuses the same inputs with the same numbers, in document 01's order, before it writes anything; every
+//! call on a table but making one tests every octet of it for soundness each time; and every octet that the call promises is
 //! written, those behind a route included. Nothing is allocated or kept between calls. `tests.rs` and `table_tests.rs`
 //! compare all of this with the second decoder and the second table.
 //!
@@ -16,6 +16,7 @@ mod attribute;
 mod explain;
 mod fec;
 mod flow;
+mod following;
 mod group;
 mod nlri_read;
 mod nlri_write;
@@ -35,6 +36,7 @@ mod tests;
 pub use attribute::{attribute_read, attribute_write};
 pub use explain::explain;
 pub use flow::match_flow;
+pub use following::{next, table_info};
 pub use group::group_class;
 pub use nlri_read::nlri_read;
 pub use nlri_write::nlri_write;

@@ -7,7 +7,7 @@ use crate::{
         routes::{bad_attributes, bad_nlris, good_attributes, picked, s_pmsi, Addresses},
         shared::any_facts,
     },
-    ffi::{Explained, Installed, Matched},
+    ffi::{Explained, Following, Installed, Matched, TableInfo},
     plain::{self, shared_tests::matched_shared},
     random::Random,
     second::{
@@ -65,6 +65,15 @@ impl Table {
                 TableAnswer::Matched(matched_shared(&self.0, reception, &mut output), output)
             }
         }
+    }
+
+    /// What looking into the table gives, and the output of `next` afterwards.
+    fn looked_into(&self, nlri: &[u8], output: &[u8]) -> (TableInfo, (Following, Vec<u8>)) {
+        let (table, size) = (self.0.as_ptr(), self.0.len());
+        let mut output = output.to_vec();
+        let (place, room) = (output.as_mut_ptr(), output.len());
+        let next = unsafe { plain::next(table, size, nlri.as_ptr(), nlri.len(), place, room) };
+        (unsafe { plain::table_info(table, size) }, (next, output))
     }
 
     fn install(&mut self, nlri: &[u8], attribute: &[u8]) -> (u32, u32) {
@@ -318,6 +327,9 @@ fn mixed_calls_as_the_second_table() {
             let count = u16::from_be_bytes([damaged.0[6], damaged.0[7]]);
             DAMAGES[random.below(DAMAGES.len())](&mut random, &mut damaged.0, usize::from(count));
             for table in [&mut damaged, &mut table] {
+                let (asked, output) = (picked(&mut random, &stock.nlris), &[0x5A; 130][random.below(9)..]);
+                let looked_into = (second.answer_table_info(&table.0), second.answer_next(&table.0, asked, output));
+                assert_eq!(table.looked_into(asked, output), looked_into);
                 let (answer, after) = second.on_memory(&table.0, &call);
                 assert_eq!(table.answer(&call), answer, "{call:?}");
                 assert_eq!(table.0, after, "{call:?}");

@@ -2,8 +2,8 @@
 //! is too weak.
 
 /// The calls that show a fault; those on a table alone show the faults of the table and of the books, and the others each
-/// those of one call or rule alone: unknown route types, FEC elements in NLRIs, readers of pieces, explanations, matches for
-/// shared trees.
+/// those of one call or rule alone: unknown route types, FEC elements in NLRIs, readers of pieces, explanations, looking into
+/// a table, matches for shared trees.
 #[derive(Clone, Copy, Debug, PartialEq, Eq)]
 pub enum ShownBy {
     Encodings,
@@ -12,6 +12,7 @@ pub enum ShownBy {
     Pieces,
     Tables,
     Explanations,
+    Following,
     SharedTrees,
 }
 
@@ -243,6 +244,29 @@ faults! {
         REASON_CLASS_UNTOLD: "a wrong class is told as no such route",
         EXPLAINED_UNWRITTEN: "an explanation does not write the route",
         EXPLAINED_NO_ROOM: "an explanation asks for no room where no route matches",
+    }
+    Following {
+        NEXT_FIRST: "the first route always comes next",
+        NEXT_SAME: "a route comes next after itself",
+        NEXT_HELD_ONLY: "nothing comes next after octets that are not held",
+        NEXT_EMPTY_NONE: "nothing comes next after no octets",
+        NEXT_READS_NLRI: "octets that are no S-PMSI route's NLRI are refused",
+        NEXT_BY_SIZE: "shorter NLRIs come before longer ones",
+        NEXT_BY_COMMON_FRONT: "octets are compared as far as both have some",
+        NEXT_BY_BODY: "octets are compared without their first two",
+        NEXT_SIGNED: "octets are compared as signed ones",
+        NEXT_WRAPS: "the first route comes next after the last",
+        NEXT_LAST_LOST: "the last route never comes next",
+        NEXT_PASSES_NO_TUNNEL: "routes that name no tunnel are passed over",
+        NEXT_UNWRITTEN: "the next route is not written",
+        NEXT_CLEARS: "the output past the next route is cleared",
+        NEXT_NONE_CLEARS: "the output is cleared where no route comes next",
+        NEXT_SPACE_FIRST: "a small output is found before an unsound table",
+        NEXT_SPACE_WHEN_NEEDED: "SPACE is given only where the next route does not fit",
+        INFO_PLACES_FOR_ROUTES: "every place is told as a route",
+        INFO_ROUTES_WITH_TUNNEL: "routes that name no tunnel are not told",
+        INFO_FREE_PLACES: "the places told are the free ones",
+        INFO_OF_UNSOUND: "an unsound table's family is told",
     }
     SharedTrees {
         LIST_OF_NO_OCTETS: "a list of no octets is one of no items",

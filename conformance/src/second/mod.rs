@@ -8,6 +8,7 @@ pub mod books;
 pub mod choice;
 pub mod fault;
 pub mod fec;
+pub mod following;
 pub mod forms;
 pub mod group;
 pub mod listing;

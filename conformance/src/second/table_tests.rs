@@ -19,7 +19,7 @@ use crate::{
         samples::GOOD_AFIS,
         shared::any_facts,
     },
-    ffi::{Installed, Matched},
+    ffi::{Following, Installed, Matched, TableInfo},
     hexadecimal::octets,
     random::Random,
 };
@@ -227,4 +227,27 @@ fn reasons() {
         let answer = example.ask(|call| second.on_table(&mut table, call));
         assert_eq!(Some(answer), example.asked(), "{}", example.shows);
     }
+}
+
+/// The routes of the document's table come one after the other in the order of their NLRIs.
+#[test]
+fn following() {
+    let (second, image) = (Second::sound(), table_image());
+    let mut last = Vec::new();
+    for name in ORDER {
+        let (nlri, attribute) = route(name);
+        let (following, output) = second.answer_next(&image, &last, &[7; 124]);
+        let [nlri_size, attribute_size] = [&nlri, &attribute].map(|octets| octets.len() as u32);
+        assert_eq!(following, Following { number: 0, nlri_size, attribute_size }, "{name}");
+        assert!(output.starts_with(&[&nlri[..], &attribute].concat()) && output.ends_with(&[7]), "{name}");
+        // What stands between two NLRIs is followed by the second.
+        assert_eq!(second.answer_next(&image, &[&last[..], &[0]].concat(), &[7; 124]).0, following, "{name}");
+        last = nlri;
+    }
+    assert_eq!(second.answer_next(&image, &last, &[7; 124]), (Following::default(), vec![7; 124]));
+    let refused = |number| Following { number, ..Default::default() };
+    assert_eq!(second.answer_next(&image, &last, &[7; 123]).0, refused(16));
+    assert_eq!(second.answer_next(&image[1..], &[], &[]).0, refused(11));
+    assert_eq!(second.answer_table_info(&image), TableInfo { number: 0, afi: 1, places: 6, routes: 5 });
+    assert_eq!(second.answer_table_info(&image[1..]), TableInfo { number: 11, ..Default::default() });
 }

@@ -1,5 +1,6 @@
 // The calls from C, as include/mvpn.h declares them. Each calls one function, and its contract cites the same definition.
 ghost use mathlib.Core.Path.{_≡_};
+ghost use Prim.Native.Nat.{_+_, _*_};
 ghost use lib.ListN.{length};
 ghost use Rattle.octets.specs.Outputs.{Wrote};
 ghost use Rattle.nlri.specs.Reading.{readNlri};
@@ -14,6 +15,8 @@ ghost use Rattle.routes.specs.Query.{flowOf};
 ghost use Rattle.routes.specs.Asked.{ofFlow, ofSharedTree};
 ghost use Rattle.routes.specs.Calls.{makeOf, installOf, withdrawOf, matchOf};
 ghost use Rattle.routes.specs.Reasons.{explainOf};
+ghost use Rattle.routes.specs.Next.{nextOf};
+ghost use Rattle.routes.specs.Info.{infoOf};
 ghost use Rattle.shared_trees.specs.Told.{treeOf};
 ghost use Rattle.mvpn.specs.Answers.{stepAnswer, attributeGiven, attributeRefused, attributeAnswer};
 use nlri::Group;
@@ -27,8 +30,10 @@ use pieces::Fed;
 use pieces::Pieces;
 use pieces::UnfinishedNlri;
 use routes::Explained;
+use routes::Following;
 use routes::Installed;
 use routes::Matched;
+use routes::TableInfo;
 use runs::Cursor;
 use runs::Step;
 use runs::Walked;
@@ -105,6 +110,14 @@ impl AttributeAnswer {
             fec: Fec::none(),
         }
     }
+}
+
+// The version of the library, as the file VERSION has it: major, minor and patch, each an octet of the number.
+#[no_mangle]
+pub extern "C" fn mvpn_version() -> u32
+    ensures { λ r. ⌜ r ≡ 0 * 65536 + 11 * 256 + 0 ⌝ }
+{
+    0 * 65536 + 11 * 256 + 0
 }
 
 // Reads a single NLRI.
@@ -295,4 +308,21 @@ pub extern "C" fn mvpn_match_shared(
     ensures { λ r. ⌜ now (output .exit) ≡ matchOf (now (table .entry)) (ofSharedTree (treeOf (now (router .entry)) (now (group .entry)) facts (now («source_actives» .entry)) (now (states .entry)))) (now (output .entry)) .octets ⌝ }
 {
     table::match_shared(table, router, group, facts, source_actives, states, output)
+}
+
+// Finds the route that comes next after an NLRI in the table's order, and writes it at the front of the output.
+#[no_mangle]
+pub extern "C" fn mvpn_next(table: &[u8], nlri: &[u8], output: &mut [u8]) -> Following
+    ensures { λ r. ⌜ r ≡ nextOf (now (table .entry)) (now (nlri .entry)) (now (output .entry)) .answer ⌝ }
+    ensures { λ r. ⌜ now (output .exit) ≡ nextOf (now (table .entry)) (now (nlri .entry)) (now (output .entry)) .octets ⌝ }
+{
+    table::next(table, nlri, output)
+}
+
+// Tells a table's family, places and number of routes.
+#[no_mangle]
+pub extern "C" fn mvpn_table_info(table: &[u8]) -> TableInfo
+    ensures { λ r. ⌜ r ≡ infoOf (now (table .entry)) ⌝ }
+{
+    table::info(table)
 }

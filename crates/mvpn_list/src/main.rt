@@ -2,9 +2,9 @@
 // argument an unknown route type stops the walk; else it is skipped.
 mod arguments;
 mod format;
+mod input;
 mod listing;
 
-use libc::STDIN_FILENO;
 use libc::STDOUT_FILENO;
 
 // One octet more than a run may have, so that a longer one is seen to be so.
@@ -17,12 +17,23 @@ fn asked_mode() -> u32 {
     arguments::mode_of(os::arg_count(), &argument[..size])
 }
 
-// A listing has at most 28,705 octets, so that the output's 65,536 suffice.
+// Prints the listing of a run. It has at most 28,705 octets, so that the output's 65,536 suffice.
+fn print_listing(mode: u32, run: &[u8]) {
+    let mut output = io::large_buffer();
+    let end = listing::list(mode, run, &mut output);
+    if !io::write_all(STDOUT_FILENO, &output[..end]) {
+        os::fail(b"mvpn_list: standard output");
+    }
+}
+
+// A run that cannot be read to its end has no listing: nothing is printed, and standard error has the reason.
 fn main() {
     let mode = asked_mode();
     let mut run = [0u8; SEEN];
-    let mut output = io::large_buffer();
-    let size = io::read_full(STDIN_FILENO, &mut run);
-    let end = listing::list(mode, &run[..size], &mut output);
-    io::write_all(STDOUT_FILENO, &output[..end]);
+    let read = input::read(&mut run);
+    if read.failed {
+        os::fail(b"mvpn_list: standard input");
+        return;
+    }
+    print_listing(mode, &run[..read.size]);
 }

@@ -5,6 +5,7 @@ pub mod Lowest
 pub mod Conditions
 pub mod First
 pub mod OpenTiers
+pub mod Nexts
 pub mod MatchSame
 pub mod OnePass
 pub mod Flows

@@ -3,6 +3,9 @@ pub mod Taken
 pub mod MatchRule
 pub mod SharedTreeRule
 pub mod ReasonRule
+pub mod NextRule
+pub mod InTurn
+pub mod InfoRule
 pub mod Marked
 pub mod Images
 pub mod ArgumentRules

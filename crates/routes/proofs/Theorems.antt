@@ -9,6 +9,11 @@ pub use Rattle.routes.proofs.Statements.MatchRule.{matchRule}
 pub use Rattle.routes.proofs.Statements.SharedTreeRule.{sharedTreeRule}
 -- ReasonRule
 pub use Rattle.routes.proofs.Statements.ReasonRule.{reasonRule}
+-- NextRule
+pub use Rattle.routes.proofs.Statements.NextRule.{nextRule}
+pub use Rattle.routes.proofs.Statements.InTurn.{inTurnRule}
+-- InfoRule
+pub use Rattle.routes.proofs.Statements.InfoRule.{infoRule}
 -- MixedCalls
 pub use Rattle.routes.proofs.Statements.MixedCalls.{mixedCalls}
 pub use Rattle.routes.proofs.Statements.Premise.{premise}

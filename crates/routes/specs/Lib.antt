@@ -1,5 +1,5 @@
 -- Route tables. Definitions, in document 01's order: routes, arguments, the table memory, which route a flow takes, the calls on octets, why
--- a tier was taken or not; then mixed calls, each router's book, and runs.
+-- a tier was taken or not, and by which a table is looked into; then mixed calls, each router's book, and runs.
 pub mod Route
 pub mod Query
 pub mod Arguments
@@ -12,6 +12,8 @@ pub mod OnePass
 pub mod Answers
 pub mod Calls
 pub mod Reasons
+pub mod Next
+pub mod Info
 pub mod Call
 pub mod Book
 pub mod Run
@@ -22,6 +24,8 @@ pub mod CallRules
 pub mod MatchRule
 pub mod SharedTreeRule
 pub mod ReasonRule
+pub mod NextRule
+pub mod InfoRule
 pub mod LastInstalled
 pub mod BookRules
 pub mod MixedCalls

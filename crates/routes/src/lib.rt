@@ -2,6 +2,8 @@
 ghost use mathlib.Core.Path.{_≡_};
 ghost use Rattle.routes.specs.Answers.{refusedInstall, doneInstall, emptyMatch};
 ghost use Rattle.routes.specs.Reasons.{refusedExplanation};
+ghost use Rattle.routes.specs.Next.{emptyNext};
+ghost use Rattle.routes.specs.Info.{emptyInfo};
 use octets::number::DONE;
 
 // What install answers: DONE with NEW or REPLACED, or the refusal's number and 0.
@@ -87,6 +89,57 @@ impl Explained {
         Explained {
             matched: Matched::refused(number),
             reasons: [0; 4],
+        }
+    }
+}
+
+// What next answers: DONE with both sizes, 0 where no route comes after, or the refusal's number and 0.
+#[repr(C)]
+pub struct Following {
+    pub number: u32,
+    pub nlri_size: u32,
+    pub attribute_size: u32,
+}
+
+impl Following {
+    // A call that is refused.
+    pub fn refused(number: u32) -> Following
+        ensures { λ r. ⌜ r ≡ emptyNext number ⌝ }
+    {
+        Following {
+            number,
+            nlri_size: 0,
+            attribute_size: 0,
+        }
+    }
+
+    // No route comes after.
+    pub fn none() -> Following
+        ensures { λ r. ⌜ r ≡ emptyNext 0 ⌝ }
+    {
+        Following::refused(DONE)
+    }
+}
+
+// What a table says of itself: DONE with its family, its places and how many routes are in them, or the refusal's number and 0.
+#[repr(C)]
+pub struct TableInfo {
+    pub number: u32,
+    pub afi: u32,
+    pub places: u32,
+    pub routes: u32,
+}
+
+impl TableInfo {
+    // A call that is refused.
+    pub fn refused(number: u32) -> TableInfo
+        ensures { λ r. ⌜ r ≡ emptyInfo number ⌝ }
+    {
+        TableInfo {
+            number,
+            afi: 0,
+            places: 0,
+            routes: 0,
         }
     }
 }

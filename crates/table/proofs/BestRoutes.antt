@@ -120,7 +120,7 @@ module _ (afi : ℕ) (flow : Flow) (tiers : Tiers) (source : 0 < length (flow .s
 
 -- what the scan of a sound table's taken places finds is the match, and where it finds a route, its place is taken
 module _ (t : List ℕ) (is : soundOf t ≡ true) where
-  table-taken : (k : ℕ) → k < countIn t → Taken (afiIn t) t (8 + 128 * k)
+  pub table-taken : (k : ℕ) → k < countIn t → Taken (afiIn t) t (8 + 128 * k)
   table-taken =
       let s = sound t is in
       places-taken (afiIn t) [] (countIn t) t 8 (s .places) (omega arith)

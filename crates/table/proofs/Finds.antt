@@ -44,7 +44,7 @@ unfolding part
 place-part i t = ap (take 128) (drop-drop (128 * i) 8 t)
 
 -- the routes of a table from an index on begin with the route there
-routes-from-index : (t : List ℕ) (i : ℕ) → i < countIn t → drop i (routesOf t) ≡ routeAt i t ∷ drop (suc i) (routesOf t)
+pub routes-from-index : (t : List ℕ) (i : ℕ) → i < countIn t → drop i (routesOf t) ≡ routeAt i t ∷ drop (suc i) (routesOf t)
 unfolding routesOf routeAt
 routes-from-index t i h =
     from-index i (countIn t) (drop 8 t) h ∙ ap (λ (x : List ℕ). routeIn x ∷ drop (suc i) (routesFrom (countIn t) (drop 8 t))) (place-part i t)

@@ -20,3 +20,4 @@ pub mod FlowClasses
 pub mod Matches
 pub mod SharedMatches
 pub mod Explanations
+pub mod Followings

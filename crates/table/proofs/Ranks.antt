@@ -12,11 +12,11 @@ use Rattle.routes.specs.Route.{Route, nlriOf, holds, inserted, removed, Increas
 use Rattle.routes.proofs.Definitions.Lookups.{lookup-first, lookup-later, lookup-early, holds-held, holds-absent, holds-alike, lookup-none}
 use Rattle.table.specs.Changing.{rank, firstIs}
 
-rank-more : (n : List ℕ) (q : Route) (rs : List Route) → before (nlriOf q) n ≡ true → rank n (q ∷ rs) ≡ suc (rank n rs)
+pub rank-more : (n : List ℕ) (q : Route) (rs : List Route) → before (nlriOf q) n ≡ true → rank n (q ∷ rs) ≡ suc (rank n rs)
 unfolding rank
 rank-more n q rs h = pick-true _ _ _ h
 
-rank-none : (n : List ℕ) (q : Route) (rs : List Route) → before (nlriOf q) n ≡ false → rank n (q ∷ rs) ≡ 0
+pub rank-none : (n : List ℕ) (q : Route) (rs : List Route) → before (nlriOf q) n ≡ false → rank n (q ∷ rs) ≡ 0
 unfolding rank
 rank-none n q rs h = pick-false _ _ _ h
 

@@ -10,6 +10,7 @@ use Rattle.octets.specs.Order.{same, before, zeros}
 use Rattle.routes.specs.Route.{Route, nlriOf}
 use Rattle.routes.specs.Place.{PLACE, routeIn}
 use Rattle.routes.specs.Table.{HEADER, headerOf, afiIn}
+use Rattle.routes.specs.Matching.{Found, nothing, found}
 use Rattle.routes.specs.Answers.{Changed}
 
 -- the route in the place of an index
@@ -25,6 +26,11 @@ rank nlri (q ∷ rs) = pick (before (nlriOf q) nlri) (suc (rank nlri rs)) 0
 unfoldable pub firstIs : (nlri : List ℕ) → List Route → Bool
 firstIs nlri [] = false
 firstIs nlri (q ∷ rs) = same nlri (nlriOf q)
+
+-- the first route, found with no tier
+unfoldable pub firstFound : List Route → Found
+firstFound [] = nothing
+firstFound (q ∷ rs) = found 0 q
 
 -- the octets from `start` to `end` moved up by one place, the last place of them falling off
 unfoldable pub opened : (start end : ℕ) → List ℕ → List ℕ

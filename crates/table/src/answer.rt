@@ -51,7 +51,7 @@ fn write_attribute(attribute: &[u8], output: &mut [u8], at: usize) -> usize
 }
 
 // NLRI and attribute, one straight after the other.
-fn write_route(tier: u32, place: &[u8], output: &mut [u8]) -> Matched
+pub(crate) fn write_route(tier: u32, place: &[u8], output: &mut [u8]) -> Matched
     requires { ⌜ RouteFits (now place) (now output) ⌝ }
     ensures { λ r. ⌜ Leaves (matchedBy (given (found tier (routeIn (now (place .entry))))) (now (output .entry))) r (now (output .exit)) ⌝ }
 {

@@ -14,7 +14,7 @@ use crate::geometry::PLACE;
 use crate::geometry::ROUTE;
 
 // The place of an index.
-fn place_at(table: &[u8], index: usize) -> &[u8]
+pub(crate) fn place_at(table: &[u8], index: usize) -> &[u8]
     requires { ⌜ 8 + 128 * index + 128 ≤ length (now table) ⌝ }
     ensures { λ r. ⌜ now r ≡ part (now (table .entry)) (8 + 128 * index) 128 ⌝ }
 {

@@ -16,7 +16,7 @@ use std::{
 pub const COUNTING: &str = "--counting";
 
 /// The functions that callgrind looks inside. None of them calls another one.
-const COUNTED: [&str; 13] = [
+const COUNTED: [&str; 15] = [
     "mvpn_*",
     "conformance::plain::nlri_read::nlri_read",
     "conformance::plain::nlri_write::nlri_write",
@@ -30,6 +30,8 @@ const COUNTED: [&str; 13] = [
     "conformance::plain::table::withdraw",
     "conformance::plain::flow::match_flow",
     "conformance::plain::explain::explain",
+    "conformance::plain::following::next",
+    "conformance::plain::following::table_info",
 ];
 
 /// The instructions of archive and plain Rust for each counted row, by its name.

@@ -13,6 +13,7 @@
 
 mod count;
 mod explain;
+mod following;
 mod measure;
 mod pieces;
 mod report;
@@ -99,6 +100,7 @@ fn all_rows(task: Task) -> ExitCode {
     groups(&mut report);
     table::rows(&mut report);
     explain::rows(&mut report);
+    following::rows(&mut report);
     shared::rows(&mut report);
     unlearnt::rows(&mut report);
     if report.end() {

@@ -58,16 +58,22 @@ unfolding matchedBy onOutcome foundAnswer
 found-number output nothing = refl
 found-number output (found tier r) = refl
 
+-- the number by the outcome
+pub matched-number : (output : List ℕ) (o : Outcome Found) → matchedBy o output .answer .number ≡ numberOf o
+unfolding matchedBy onOutcome numberOf
+matched-number output (given f) = found-number output f
+matched-number output (refused n) = refl
+
 -- a query that asks of a router what the conditions of its tiers say
 pub record Asks (afi : ℕ) (router : List ℕ) (In : (tier : ℕ) → Fields → Type 0) (q : Query) : Type 0 where
   pub of : q .router ≡ router
   pub exactly : (tier : ℕ) (f : Fields) → (meets (wantedAt 1 tier (q .tiers)) f ≡ true) ↔ In tier f
 
-nothing-untold : (output : List ℕ) → Untold output (matchedBy (given nothing) output)
+pub nothing-untold : (output : List ℕ) → Untold output (matchedBy (given nothing) output)
 unfolding matchedBy onOutcome foundAnswer foundOutput
 nothing-untold output = record { tierless = refl; sizes = (refl, refl); untouched = refl }
 
-found-told : (output : List ℕ) → 124 ≤ length output → (tier : ℕ) (r : Route) → Sized r → Told tier r output (matchedBy (given (found tier r)) output)
+pub found-told : (output : List ℕ) → 124 ≤ length output → (tier : ℕ) (r : Route) → Sized r → Told tier r output (matchedBy (given (found tier r)) output)
 unfolding matchedBy onOutcome foundAnswer foundOutput
 found-told output enough tier r sized =
     let fits : length (nlriOf r) + length (attributeOf r) ≤ 124 = omega (arith, sized .nlri, sized .attribute) in
@@ -115,14 +121,9 @@ module _ {asked : Asked} {router : List ℕ} {Good : (afi : ℕ) → Type 0} {Re
 
   -- over a table
   module _ (t output : List ℕ) where
-    -- the number by the outcome
     number : matchOf t asked output .answer .number ≡ numberOf (matchOutcome t asked output)
-    unfolding matchOf matchedBy onOutcome numberOf
-    number = go (matchOutcome t asked output)
-      where
-        go : (o : Outcome Found) → matchedBy o output .answer .number ≡ numberOf o
-        go (given f) = found-number output f
-        go (refused n) = refl
+    unfolding matchOf
+    number = matched-number output (matchOutcome t asked output)
 
     refusal : (n : ℕ) → matchOutcome t asked output ≡ refused n → MatchRefusal (Refusal output) t n
     unfolding matchOutcome

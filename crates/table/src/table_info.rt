@@ -1,0 +1,22 @@
+// What a table says of itself.
+ghost use mathlib.Core.Path.{_≡_};
+ghost use Rattle.routes.specs.Info.{infoOf};
+use crate::sound;
+use octets::number::DONE;
+use octets::number::TABLE;
+use routes::TableInfo;
+
+// The family, the places that the memory has, and how many routes are in them: TABLE.
+pub fn info(table: &[u8]) -> TableInfo
+    ensures { λ r. ⌜ r ≡ infoOf (now (table .entry)) ⌝ }
+{
+    if !sound::is_sound(table) {
+        return TableInfo::refused(TABLE);
+    }
+    TableInfo {
+        number: DONE,
+        afi: sound::afi_of(table) as u32,
+        places: sound::places_of(table) as u32,
+        routes: sound::count_of(table) as u32,
+    }
+}

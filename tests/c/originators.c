@@ -1,0 +1,203 @@
+/*
+ * One table for each originator gives the answers of one table that holds all routes: of matches, explanations and matches for
+ * shared trees, with their outputs. So a daemon with more than 500 routes keeps several tables. The routes are drawn, from few
+ * sources, groups and route distinguishers, so that every tier, ties, and routes that name no tunnel are met.
+ */
+#include "checks.h"
+
+#include <stdbool.h>
+
+enum { ORIGINATORS = 5, SOURCES = 4, GROUPS = 6, ROUTES = MVPN_MOST_PLACES / ORIGINATORS };
+
+/* ---- drawn numbers, the same in each run */
+
+static uint32_t state = 19;
+
+static uint32_t drawn(uint32_t below)
+{
+    state = state * 1664525 + 1013904223;
+    return (state >> 16) % below;
+}
+
+/* ---- addresses of a family; the originators are of both sizes, whatever the family */
+
+static size_t address_size(uint16_t afi)
+{
+    return afi == MVPN_AFI_IPV4 ? 4 : 16;
+}
+
+static mvpn_address address_of(size_t size, uint8_t first, uint8_t second, size_t number)
+{
+    mvpn_address address = { { first, second }, (uint8_t)size };
+    address.octets[size - 1] = (uint8_t)number;
+    return address;
+}
+
+/* The same last four octets stand in originators of both sizes. */
+static mvpn_address originator(size_t number)
+{
+    return number % 2 ? address_of(16, 0x20, 0x01, 1 + number / 2) : address_of(4, 0, 0, 1 + number / 2);
+}
+
+static mvpn_address source(uint16_t afi, size_t number)
+{
+    return address_of(address_size(afi), 0xC0, 0, number);
+}
+
+/* Half of the groups are SSM. */
+static mvpn_address group(uint16_t afi, size_t number)
+{
+    bool is_ssm = number % 2;
+    if (afi == MVPN_AFI_IPV4)
+        return address_of(4, is_ssm ? 232 : 239, 1, number);
+    return address_of(16, 0xFF, is_ssm ? 0x3E : 0x0E, number);
+}
+
+/* ---- tables: all routes in the first, and one for each originator */
+
+typedef struct { lent all, own[ORIGINATORS]; } tables;
+
+/* A length octet in bits, and the address; the wildcard half of the time. */
+static void put_address(lent *nlri, const mvpn_address *address)
+{
+    bool is_wildcard = drawn(2);
+    nlri->at[nlri->size++] = (uint8_t)(is_wildcard ? 0 : 8 * address->size);
+    memcpy(nlri->at + nlri->size, address->octets, is_wildcard ? 0 : address->size);
+    nlri->size += is_wildcard ? 0 : address->size;
+}
+
+static lent drawn_nlri(uint16_t afi, size_t of)
+{
+    mvpn_address from = source(afi, drawn(SOURCES)), to = group(afi, drawn(GROUPS)), by = originator(of);
+    lent nlri = lent_of(MVPN_LONGEST_NLRI, 0);
+    nlri.at[0] = MVPN_S_PMSI;
+    nlri.at[9] = (uint8_t)drawn(4); /* the last octet of the route distinguisher */
+    nlri.size = 10;
+    put_address(&nlri, &from);
+    put_address(&nlri, &to);
+    memcpy(nlri.at + nlri.size, by.octets, by.size);
+    nlri.size += by.size;
+    nlri.at[1] = (uint8_t)(nlri.size - MVPN_NLRI_HEADER);
+    return nlri;
+}
+
+static lent drawn_attribute(void)
+{
+    lent attribute = lent_of(MVPN_LONGEST_ATTRIBUTE, 0);
+    uint8_t endpoint[] = { 10, 0, 0, (uint8_t)drawn(256) };
+    bool names_tunnel = drawn(4) > 0;
+    attribute.size = mvpn_attribute_write(0, names_tunnel ? MVPN_TUNNEL_INGRESS_REPLICATION : MVPN_TUNNEL_NONE, 16, endpoint,
+                                          names_tunnel ? sizeof endpoint : 0, attribute.at, attribute.size).size;
+    return attribute;
+}
+
+/* The same install in both, with the same answer. */
+static void install_in_both(tables *t, uint16_t afi, size_t of)
+{
+    lent nlri = drawn_nlri(afi, of), attribute = drawn_attribute();
+    mvpn_installed in_all = mvpn_install(t->all.at, t->all.size, nlri.at, nlri.size, attribute.at, attribute.size);
+    mvpn_installed in_own = mvpn_install(t->own[of].at, t->own[of].size, nlri.at, nlri.size, attribute.at, attribute.size);
+    same("install", "number", in_all.number, MVPN_DONE);
+    same("install", "number in the originator's own table", in_own.number, in_all.number);
+    same("install", "outcome in the originator's own table", in_own.outcome, in_all.outcome);
+    free(nlri.at);
+    free(attribute.at);
+}
+
+static tables filled(uint16_t afi)
+{
+    tables t = { .all = made(afi, MVPN_MOST_PLACES) };
+    for (size_t of = 0; of < ORIGINATORS; of++)
+        t.own[of] = made(afi, ROUTES);
+    for (size_t i = 0; i < ROUTES; i++)
+        for (size_t of = 0; of < ORIGINATORS; of++)
+            install_in_both(&t, afi, of);
+    return t;
+}
+
+/* Together they hold as many routes. */
+static void same_count(const tables *t)
+{
+    uint32_t routes = 0;
+    for (size_t of = 0; of < ORIGINATORS; of++)
+        routes += mvpn_table_info(t->own[of].at, t->own[of].size).routes;
+    same("the tables", "routes", routes, mvpn_table_info(t->all.at, t->all.size).routes);
+}
+
+/* ---- answers of both */
+
+typedef struct { mvpn_address router, source, group; } asked;
+
+static mvpn_explained explain(lent table, const asked *a, lent output)
+{
+    return mvpn_explain(table.at, table.size, a->router.octets, a->router.size, a->source.octets, a->source.size,
+                        a->group.octets, a->group.size, output.at, output.size);
+}
+
+static mvpn_matched match_flow(lent table, const asked *a, lent output)
+{
+    return mvpn_match(table.at, table.size, a->router.octets, a->router.size, a->source.octets, a->source.size,
+                      a->group.octets, a->group.size, output.at, output.size);
+}
+
+static mvpn_matched match_shared(lent table, const asked *a, lent output)
+{
+    return mvpn_match_shared(table.at, table.size, a->router.octets, a->router.size, a->group.octets, a->group.size,
+                             (mvpn_shared_tree){ 1, 0, 0 }, mvpn_no_items, sizeof mvpn_no_items, mvpn_no_items,
+                             sizeof mvpn_no_items, output.at, output.size);
+}
+
+static unsigned tiers_met[5];
+
+static void same_answer(const char *shows, mvpn_matched own, lent own_output, mvpn_matched all, lent all_output)
+{
+    same(shows, "number", own.number, all.number);
+    same(shows, "tier", own.tier, all.tier);
+    same(shows, "nlri_size", own.nlri_size, all.nlri_size);
+    same(shows, "attribute_size", own.attribute_size, all.attribute_size);
+    same_octets(shows, "output", own_output.at, all_output.at, own_output.size);
+    tiers_met[all.tier]++;
+}
+
+static void same_answers(lent own, lent all, const asked *a)
+{
+    lent own_output = lent_of(MVPN_MATCH_OUTPUT, FILL), all_output = lent_of(MVPN_MATCH_OUTPUT, FILL);
+    mvpn_matched own_match = match_flow(own, a, own_output), all_match = match_flow(all, a, all_output);
+    same_answer("a match", own_match, own_output, all_match, all_output);
+    mvpn_explained own_reasons = explain(own, a, own_output), all_reasons = explain(all, a, all_output);
+    same_answer("an explanation", own_reasons.matched, own_output, all_reasons.matched, all_output);
+    for (size_t i = 0; i < 4; i++)
+        same("an explanation", "reason", own_reasons.reasons[i], all_reasons.reasons[i]);
+    own_match = match_shared(own, a, own_output), all_match = match_shared(all, a, all_output);
+    same_answer("a match for a shared tree", own_match, own_output, all_match, all_output);
+    free(own_output.at);
+    free(all_output.at);
+}
+
+/* Every router, source and group, one more of each than the routes have. A router that has no table has no route. */
+static void same_for_each_flow(const tables *t, uint16_t afi)
+{
+    lent none = made(afi, 0);
+    for (size_t of = 0; of <= ORIGINATORS; of++)
+        for (size_t s = 0; s <= SOURCES; s++)
+            for (size_t g = 0; g <= GROUPS; g++) {
+                asked a = { originator(of), source(afi, s), group(afi, g) };
+                same_answers(of < ORIGINATORS ? t->own[of] : none, t->all, &a);
+            }
+    free(none.at);
+}
+
+int main(void)
+{
+    for (uint16_t afi = MVPN_AFI_IPV4; afi <= MVPN_AFI_IPV6; afi++) {
+        tables t = filled(afi);
+        same_count(&t);
+        same_for_each_flow(&t, afi);
+        free(t.all.at);
+        for (size_t of = 0; of < ORIGINATORS; of++)
+            free(t.own[of].at);
+    }
+    for (size_t tier = 0; tier <= 4; tier++)
+        same("the flows", "a tier that is met", tiers_met[tier] > 0, true);
+    return verdict("C originators");
+}

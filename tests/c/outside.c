@@ -1,0 +1,108 @@
+/*
+ * A program of somebody else's, who has what `make install` has put there and no more: it makes every call of mvpn.h, and uses each
+ * helper for lists. It prints nothing where all answers are as expected.
+ */
+#include <mvpn.h>
+
+#include <stdio.h>
+#include <string.h>
+
+static int failures;
+
+static void expect(const char *what, int holds)
+{
+    if (!holds) {
+        printf("outside: %s: another answer than expected\n", what);
+        failures++;
+    }
+}
+
+#define OF(octets) octets, sizeof octets
+
+/* S-PMSI A-D (C-*,C-*), route distinguisher 100:7, originator 10.0.0.1; then an Intra-AS I-PMSI A-D route of the same */
+static const uint8_t run[] = { 3, 14, 0, 0, 0, 100, 0, 0, 0, 7, 0, 0, 10, 0, 0, 1, 1, 12, 0, 0, 0, 100, 0, 0, 0, 7, 10, 0, 0, 1 };
+enum { ANY_SIZE = 16, INTRA_SIZE = 14 };
+
+/* Source Active A-D, route distinguisher 100:7, source 192.0.2.1, group 239.1.1.1 */
+static const uint8_t active[] = { 5, 18, 0, 0, 0, 100, 0, 0, 0, 7, 32, 192, 0, 2, 1, 32, 239, 1, 1, 1 };
+
+/* no flags, ingress replication, label 1, end point 10.0.0.1 */
+static const uint8_t attribute[] = { 0, 6, 0, 0, 16, 10, 0, 0, 1 };
+
+static const uint8_t router[] = { 10, 0, 0, 1 }, source[] = { 192, 0, 2, 1 }, group[] = { 239, 1, 1, 1 };
+
+static uint8_t table[MVPN_TABLE_SIZE(3)];
+
+static void codecs(void)
+{
+    uint8_t output[MVPN_LONGEST_NLRI];
+    mvpn_nlri_reading reading = mvpn_nlri_read(MVPN_AFI_IPV4, run, ANY_SIZE);
+    expect("nlri_read", reading.number == MVPN_DONE && reading.nlri.originator.size == 4);
+    mvpn_written written = mvpn_nlri_write(MVPN_AFI_IPV4, reading.nlri, NULL, 0, NULL, 0, OF(output));
+    expect("nlri_write", written.size == ANY_SIZE && memcmp(output, run, ANY_SIZE) == 0);
+    mvpn_attribute_reading tunnel = mvpn_attribute_read(OF(attribute));
+    expect("attribute_read", tunnel.number == MVPN_DONE && tunnel.tunnel_type == MVPN_TUNNEL_INGRESS_REPLICATION);
+    written = mvpn_attribute_write((uint8_t)tunnel.flags, (uint8_t)tunnel.tunnel_type, tunnel.label_field,
+                                   attribute + tunnel.identifier.start, tunnel.identifier.size, OF(output));
+    expect("attribute_write", written.size == sizeof attribute && memcmp(output, attribute, sizeof attribute) == 0);
+    expect("group_class", mvpn_group_class(MVPN_AFI_IPV4, OF(group)).group_class == MVPN_ASM);
+}
+
+static void runs(void)
+{
+    uint8_t unfinished[MVPN_UNFINISHED];
+    mvpn_stepped step = mvpn_step(MVPN_AFI_IPV4, OF(run), ANY_SIZE);
+    expect("step", step.layout.route_type == MVPN_INTRA_AS_I_PMSI && step.cursor == sizeof run);
+    expect("walk", mvpn_walk(MVPN_AFI_IPV4, MVPN_SKIP, OF(run)).count == 2);
+    mvpn_pieces pieces = mvpn_pieces_start(MVPN_AFI_IPV4, MVPN_SKIP);
+    mvpn_fed fed = mvpn_pieces_feed(pieces, unfinished, OF(run));
+    expect("pieces_feed, the first", fed.size == ANY_SIZE && fed.taken == ANY_SIZE);
+    fed = mvpn_pieces_feed(fed.pieces, unfinished, run + ANY_SIZE, INTRA_SIZE);
+    expect("pieces_feed, the second", fed.size == INTRA_SIZE);
+    expect("pieces_finish", mvpn_pieces_finish(fed.pieces).walked.count == 2);
+}
+
+static void changes(void)
+{
+    expect("make", mvpn_make(MVPN_AFI_IPV4, OF(table)) == MVPN_DONE);
+    expect("install", mvpn_install(OF(table), run, ANY_SIZE, OF(attribute)).outcome == MVPN_NEW);
+    mvpn_table info = mvpn_table_info(OF(table));
+    expect("table_info", info.afi == MVPN_AFI_IPV4 && info.places == 3 && info.routes == 1);
+}
+
+static void questions(void)
+{
+    uint8_t output[MVPN_MATCH_OUTPUT], actives[64], states[64];
+    mvpn_matched match = mvpn_match(OF(table), OF(router), OF(source), OF(group), OF(output));
+    expect("match", match.tier == MVPN_ANY_SOURCE_ANY_GROUP && match.nlri_size == ANY_SIZE);
+    mvpn_explained why = mvpn_explain(OF(table), OF(router), OF(source), OF(group), OF(output));
+    expect("explain", why.matched.tier == match.tier && why.reasons[3] == MVPN_TAKEN && why.reasons[1] == MVPN_WRONG_GROUP_CLASS);
+
+    size_t size = mvpn_list_start(OF(actives), 1);
+    size = mvpn_list_field(OF(actives), size, OF(router));
+    size = mvpn_list_field(OF(actives), size, OF(active));
+    match = mvpn_match_shared(OF(table), OF(router), OF(group), (mvpn_shared_tree){ 0, 0, 0 }, actives, size, OF(mvpn_no_items),
+                              OF(output));
+    expect("match_shared, no state", match.tier == MVPN_ANY_SOURCE_ANY_GROUP);
+    size_t held = mvpn_list_start(OF(states), 1);
+    held = mvpn_list_field(OF(states), held, OF(source));
+    held = mvpn_list_field(OF(states), held, OF(group));
+    match = mvpn_match_shared(OF(table), OF(router), OF(group), (mvpn_shared_tree){ 0, 0, 0 }, actives, size, states, held,
+                              OF(output));
+    expect("match_shared, a state", match.number == MVPN_DONE && match.tier == MVPN_NO_TIER);
+
+    expect("next, the first", mvpn_next(OF(table), NULL, 0, OF(output)).nlri_size == ANY_SIZE);
+    expect("next, none", mvpn_next(OF(table), run, ANY_SIZE, OF(output)).nlri_size == 0);
+}
+
+int main(void)
+{
+    expect("version", mvpn_version() == MVPN_VERSION_NUMBER);
+    codecs();
+    runs();
+    changes();
+    questions();
+    expect("withdraw", mvpn_withdraw(OF(table), run, ANY_SIZE) == MVPN_DONE);
+    expect("withdraw again", mvpn_withdraw(OF(table), run, ANY_SIZE) == MVPN_ABSENT);
+    return failures != 0;
+}
