@@ -18,15 +18,4 @@ pub mod Call
 pub mod Book
 pub mod Run
 -- What is stated of them, in document 01's notions.
-pub mod ArgumentRules
-pub mod Images
-pub mod CallRules
-pub mod MatchRule
-pub mod SharedTreeRule
-pub mod ReasonRule
-pub mod NextRule
-pub mod InfoRule
-pub mod LastInstalled
-pub mod BookRules
-pub mod MixedCalls
-pub mod Examples
+pub mod Rules

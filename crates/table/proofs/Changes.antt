@@ -11,7 +11,7 @@ use Rattle.octets.specs.Order.{zeros}
 use Rattle.routes.specs.Route.{Route, route, nlriOf, inserted, removed}
 use Rattle.routes.specs.Place.{placeOf, AllAcceptable, none, one}
 use Rattle.routes.specs.Table.{headerOf, placesOf, imageOf}
-use Rattle.routes.specs.Images.{Holdable}
+use Rattle.routes.specs.Rules.Images.{Holdable}
 use Rattle.routes.proofs.Definitions.Headers.{length-header, past-header}
 use Rattle.routes.proofs.Statements.Images.{afi-image}
 use Rattle.routes.proofs.Definitions.Places.{length-zeros, length-acceptable-place, length-places, places-append}

@@ -19,7 +19,7 @@ use Rattle.routes.specs.Table.{afiIn, routesOf, soundOf}
 use Rattle.routes.specs.Matching.{Found, matchIn}
 use Rattle.routes.specs.Answers.{emptyMatch, matchedBy}
 use Rattle.routes.specs.Calls.{matchOutcome, matchOf}
-use Rattle.routes.specs.ArgumentRules.{KnownFamily}
+use Rattle.routes.specs.Rules.ArgumentRules.{KnownFamily}
 use Rattle.routes.proofs.Definitions.Headers.{sound-family}
 use Rattle.routes.proofs.Statements.Images.{sound}
 use Rattle.table.specs.Scanning.{openTiers, openQuery, flowClass}

@@ -9,8 +9,8 @@ use Rattle.octets.proofs.Choice.{opposite, tested, is-true}
 use Rattle.octets.proofs.Orders.{same-equal, same-of-equal, other-unequal}
 use Rattle.routes.specs.Route.{Route, nlriOf, Held, absent, held, lookup, arranged, Distinct, Increasing}
 use Rattle.routes.specs.Place.{AllAcceptable}
-use Rattle.routes.specs.ArgumentRules.{KnownFamily}
-use Rattle.routes.specs.Images.{Holdable}
+use Rattle.routes.specs.Rules.ArgumentRules.{KnownFamily}
+use Rattle.routes.specs.Rules.Images.{Holdable}
 use Rattle.routes.specs.Call.{Call, Owner, nobody, owner, originatorOf, ownerOf, owns}
 use Rattle.routes.specs.Book.{bookAfter, fed, ownCalls, bookOf, isAmong, onceEach, withOwner, routersOf, gathered, allBooks}
 use Rattle.routes.specs.Run.{namedIn, namedBy, Fits}

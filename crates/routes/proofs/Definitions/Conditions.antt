@@ -15,7 +15,7 @@ use Rattle.routes.specs.Route.{Route, nlriOf, attributeOf}
 use Rattle.routes.specs.Query.{Wanted, noRoute, these, meets}
 use Rattle.routes.specs.Arguments.{readSPmsi}
 use Rattle.routes.specs.Matching.{ofFields, namesTunnel, candidate, eligible, distinguisherOf}
-use Rattle.routes.specs.MatchRule.{NamesTunnel}
+use Rattle.routes.specs.Rules.MatchRule.{NamesTunnel}
 use Rattle.routes.proofs.Definitions.SPmsi.{same-s-pmsi}
 
 -- fields are of a tier exactly when source and group are those wanted

@@ -14,7 +14,7 @@ use Rattle.octets.specs.Lists.{Among}
 use Rattle.routes.specs.Route.{Route, attributeOf, Distinct}
 use Rattle.routes.specs.Query.{Wanted, noRoute, meets, Query}
 use Rattle.routes.specs.Matching.{eligible, Found, nothing, found, orElse, firstOf, matchIn}
-use Rattle.routes.specs.MatchRule.{NamesTunnel}
+use Rattle.routes.specs.Rules.MatchRule.{NamesTunnel}
 use Rattle.routes.proofs.Definitions.Lookups.{one-member}
 use Rattle.routes.proofs.Definitions.Lowest.{None, Least, Lowest, lowest-is, lowest-ignored}
 use Rattle.routes.proofs.Definitions.Conditions.{qualified, same-nlri}

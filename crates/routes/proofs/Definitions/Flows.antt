@@ -17,7 +17,7 @@ use Rattle.nlri.proofs.Theorems.{lengths, groupRule}
 use Rattle.nlri.proofs.Definitions.Lengths.{family-good}
 use Rattle.routes.specs.Query.{Query, Flow, flowQuery}
 use Rattle.routes.specs.Arguments.{readFlow}
-use Rattle.routes.specs.ArgumentRules.{KnownFamily, FamilySized, GoodFlow}
+use Rattle.routes.specs.Rules.ArgumentRules.{KnownFamily, FamilySized, GoodFlow}
 
 pub class-under : (afi bits : ℕ) (g : List ℕ) → familyBits afi ≡ given bits → classUnder bits g ≡ classOf afi g
 unfolding classOf

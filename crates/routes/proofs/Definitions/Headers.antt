@@ -12,7 +12,7 @@ use Rattle.octets.specs.Octets.{AllOctets, part, numberIn, bigEndian}
 use Rattle.octets.proofs.Choice.{both-true-left, both-true-right, either-true, either-second, both-true, either-left}
 use Rattle.octets.proofs.NetworkOrder.{length-bigEndian, number-of-big-endian, part-number}
 use Rattle.octets.proofs.Orders.{same-equal, same-itself}
-use Rattle.routes.specs.ArgumentRules.{KnownFamily}
+use Rattle.routes.specs.Rules.ArgumentRules.{KnownFamily}
 use Rattle.routes.specs.Table.{headerStart, headerOf, afiIn, countIn, placesIn, tableSize, headerSound}
 
 pub length-header : (afi count : ℕ) → length (headerOf afi count) ≡ 8

@@ -10,7 +10,7 @@ use Rattle.octets.proofs.Choice.{opposite, tested}
 use Rattle.octets.proofs.Orders.{before-none}
 use Rattle.routes.specs.Route.{Route, nlriOf, holds, inserted, removed}
 use Rattle.routes.specs.Place.{acceptable}
-use Rattle.routes.specs.Images.{Holdable}
+use Rattle.routes.specs.Rules.Images.{Holdable}
 use Rattle.routes.proofs.Definitions.Bounds.{sizes-of}
 use Rattle.routes.proofs.Definitions.Lookups.{absent-holds, increasing-inserted, increasing-removed, acceptable-inserted, acceptable-removed, length-inserted-new, length-inserted-held, length-removed-held, removed-absent}
 

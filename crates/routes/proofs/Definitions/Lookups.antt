@@ -15,7 +15,7 @@ use Rattle.octets.proofs.Orders.{same-itself, same-equal, same-of-equal, same-s
 use Rattle.routes.specs.Route.{Route, nlriOf, Held, absent, held, lookup, isHeld, holds, inserted, arranged, removed, Distinct, none, one, Increasing, last, next}
 use Rattle.routes.specs.Place.{acceptable, AllAcceptable}
 use Rattle.routes.specs.Book.{entered}
-use Rattle.routes.specs.CallRules.{LookupRule, HeldNow}
+use Rattle.routes.specs.Rules.CallRules.{LookupRule, HeldNow}
 
 pub held-same : {r q : Route} {h : Held} → h ≡ held r → h ≡ held q → r ≡ q
 held-same p q = cc

@@ -7,7 +7,7 @@ use Rattle.octets.specs.Outcome.{Outcome, given, refused, onOutcome}
 use Rattle.nlri.specs.Fields.{Fields}
 use Rattle.octets.specs.Lists.{Among, first, later}
 use Rattle.routes.specs.Arguments.{readSPmsi}
-use Rattle.routes.specs.ArgumentRules.{SPmsi}
+use Rattle.routes.specs.Rules.ArgumentRules.{SPmsi}
 use Rattle.routes.specs.Call.{Call, install, withdraw, match}
 use Rattle.routes.specs.Run.{namedIn, namedBy}
 use Rattle.routes.proofs.Statements.ArgumentRules.{nlri-accepted, nlri-accepts}

@@ -15,7 +15,7 @@ use Rattle.tunnel.specs.Attribute.{AttributeFields, labelOf}
 use Rattle.routes.specs.Route.{route}
 use Rattle.routes.specs.Query.{Query, Flow}
 use Rattle.routes.specs.Arguments.{readOfType, readSPmsi, readLabelled, readRoute, readFlow, readMatch}
-use Rattle.routes.specs.ArgumentRules.{KnownFamily, SPmsi, Labelled, GoodFlow, TypeRefusal, NlriRefusal, unreadNlri, otherKind, RouteRefusal, badNlri, unreadAttribute, noLabel, FlowRefusal, badFlow, noSpace, ArgumentRule}
+use Rattle.routes.specs.Rules.ArgumentRules.{KnownFamily, SPmsi, Labelled, GoodFlow, TypeRefusal, NlriRefusal, unreadNlri, otherKind, RouteRefusal, badNlri, unreadAttribute, noLabel, FlowRefusal, badFlow, noSpace, ArgumentRule}
 use Rattle.routes.proofs.Definitions.Flows.{flow-asked, flow-given, flow-refused}
 
 -- an NLRI of one route type

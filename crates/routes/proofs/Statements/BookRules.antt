@@ -12,12 +12,12 @@ use Rattle.nlri.specs.Fields.{Fields}
 use Rattle.nlri.proofs.Theorems.{lengths}
 use Rattle.routes.specs.Route.{Route, nlriOf, held, lookup, arranged}
 use Rattle.routes.specs.Arguments.{readSPmsi}
-use Rattle.routes.specs.ArgumentRules.{KnownFamily, SPmsiOf}
+use Rattle.routes.specs.Rules.ArgumentRules.{KnownFamily, SPmsiOf}
 use Rattle.routes.specs.Asked.{ofFlow, ofSharedTree, askedRouter}
 use Rattle.routes.specs.Call.{Call, install, withdraw, match, Owner, nobody, owner, originatorOf, ownerOf, ownedBy, owns, Act, argued, refusalOf}
 use Rattle.routes.specs.Book.{bookAfter, fed, ownCalls, bookOf, allBooks, dueAnswer}
 use Rattle.routes.specs.Run.{imageOfBooks, namedBy, Fits}
-use Rattle.routes.specs.BookRules.{BelongsTo, ownInstall, ownWithdrawal, ownMatch, ownSharedMatch, Nobodys, OwnerRule, PremiseRule, RefusedCall, BookStep, BookRule, ImageRule}
+use Rattle.routes.specs.Rules.BookRules.{BelongsTo, ownInstall, ownWithdrawal, ownMatch, ownSharedMatch, Nobodys, OwnerRule, PremiseRule, RefusedCall, BookStep, BookRule, ImageRule}
 use Rattle.routes.proofs.Definitions.Lookups.{held-absent, lookup-arranged, lookup-member, lookup-of-member, distinct-increasing}
 use Rattle.routes.proofs.Statements.ArgumentRules.{argumentRule, nlri-accepts}
 use Rattle.routes.proofs.Statements.Images.{images}

@@ -15,9 +15,9 @@ use Rattle.routes.specs.Place.{AllAcceptable}
 use Rattle.routes.specs.Answers.{NEW, REPLACED, installedOf, matchedBy}
 use Rattle.routes.specs.Call.{Call, install, withdraw, match, Act, enter, leave, ask, argued, refusalAnswer}
 use Rattle.routes.specs.Book.{entered, actAnswer, actAfter, bookAnswer, bookAfter}
-use Rattle.routes.specs.ArgumentRules.{KnownFamily, SPmsi, Labelled}
-use Rattle.routes.specs.CallRules.{HeldNow}
-use Rattle.routes.specs.BookRules.{RefusedCall, refusedInstall, refusedWithdrawal, refusedFlow, refusedTree, BookStep, refusal, replacedRoute, newRoute, takenOut, notInBook, matchedFlow, matchedTree}
+use Rattle.routes.specs.Rules.ArgumentRules.{KnownFamily, SPmsi, Labelled}
+use Rattle.routes.specs.Rules.CallRules.{HeldNow}
+use Rattle.routes.specs.Rules.BookRules.{RefusedCall, refusedInstall, refusedWithdrawal, refusedFlow, refusedTree, BookStep, refusal, replacedRoute, newRoute, takenOut, notInBook, matchedFlow, matchedTree}
 use Rattle.routes.proofs.Definitions.Lookups.{lookup-entered, held-now, removed-now, held-holds, absent-holds, removed-absent}
 use Rattle.routes.proofs.Definitions.Bounds.{route-read}
 use Rattle.routes.proofs.Statements.ArgumentRules.{argumentRule, nlri-accepted}

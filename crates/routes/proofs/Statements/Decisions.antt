@@ -16,7 +16,7 @@ use Rattle.routes.specs.Route.{route, Held, absent, held}
 use Rattle.routes.specs.Calls.{installOf, withdrawOf}
 use Rattle.routes.specs.Call.{Call, install, withdraw, match}
 use Rattle.routes.specs.Run.{stepOf, endOf}
-use Rattle.routes.specs.LastInstalled.{Decides, byInstall, byWithdrawal, Undecided, LastInstall}
+use Rattle.routes.specs.Rules.LastInstalled.{Decides, byInstall, byWithdrawal, Undecided, LastInstall}
 use Rattle.routes.proofs.Definitions.Lookups.{held-absent}
 
 -- whether a call on a table is an accepted install or withdrawal of an NLRI

@@ -18,8 +18,8 @@ use Rattle.routes.specs.Arguments.{readSPmsi, readRoute}
 use Rattle.routes.specs.Asked.{Asked, readAsked}
 use Rattle.routes.specs.Table.{imageOf}
 use Rattle.routes.specs.Place.{acceptable}
-use Rattle.routes.specs.ArgumentRules.{KnownFamily}
-use Rattle.routes.specs.Images.{TableOf}
+use Rattle.routes.specs.Rules.ArgumentRules.{KnownFamily}
+use Rattle.routes.specs.Rules.Images.{TableOf}
 use Rattle.routes.specs.Matching.{matchIn}
 use Rattle.routes.specs.Answers.{NEW, REPLACED, installedOf, matchedBy}
 use Rattle.routes.specs.Calls.{entering, installOutcome, installOf, leaving, withdrawOutcome, withdrawOf, matchOutcome, matchOf}

@@ -12,10 +12,10 @@ use Rattle.octets.proofs.Choice.{pick-true, pick-false, tested}
 use Rattle.routes.specs.declared.TableInfo.{TableInfo}
 use Rattle.routes.specs.Route.{Route}
 use Rattle.routes.specs.Table.{afiIn, placesIn, routesOf, soundOf}
-use Rattle.routes.specs.Images.{TableOf}
+use Rattle.routes.specs.Rules.Images.{TableOf}
 use Rattle.routes.specs.Info.{emptyInfo, infoOf}
-use Rattle.routes.specs.NextRule.{toldInTurn}
-use Rattle.routes.specs.InfoRule.{InfoRule}
+use Rattle.routes.specs.Rules.NextRule.{toldInTurn}
+use Rattle.routes.specs.Rules.InfoRule.{InfoRule}
 use Rattle.routes.proofs.Statements.Images.{sound}
 use Rattle.routes.proofs.Statements.InTurn.{inTurnRule}
 

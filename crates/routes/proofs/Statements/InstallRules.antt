@@ -17,8 +17,8 @@ use Rattle.routes.specs.Arguments.{readRoute}
 use Rattle.routes.specs.Table.{imageOf, afiIn, placesIn, routesOf, soundOf}
 use Rattle.routes.specs.Answers.{NEW, REPLACED, installedOf}
 use Rattle.routes.specs.Calls.{entering, installOutcome, installOf}
-use Rattle.routes.specs.Images.{Holdable, TableOf}
-use Rattle.routes.specs.CallRules.{IsHeld, HeldNow, Installable, Full, Free, InstallRefusal, installUnsound, badRoute, noRoom, InstallDone, isReplaced, isNew, InstallRule}
+use Rattle.routes.specs.Rules.Images.{Holdable, TableOf}
+use Rattle.routes.specs.Rules.CallRules.{IsHeld, HeldNow, Installable, Full, Free, InstallRefusal, installUnsound, badRoute, noRoom, InstallDone, isReplaced, isNew, InstallRule}
 use Rattle.routes.proofs.Statements.ArgumentRules.{argumentRule}
 use Rattle.routes.proofs.Definitions.Bounds.{route-read, read-acceptable}
 use Rattle.routes.proofs.Definitions.ByArguments.{number-route}

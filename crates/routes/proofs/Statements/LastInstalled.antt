@@ -18,9 +18,9 @@ use Rattle.routes.specs.Table.{imageOf, afiIn, placesIn, routesOf, sound
 use Rattle.routes.specs.Calls.{makeOf, installOf, withdrawOf}
 use Rattle.routes.specs.Call.{Call, install, withdraw, match}
 use Rattle.routes.specs.Run.{stepOf, endOf}
-use Rattle.routes.specs.Images.{TableOf}
-use Rattle.routes.specs.CallRules.{HeldNow}
-use Rattle.routes.specs.LastInstalled.{LastInstall, Kept, LastInstalled}
+use Rattle.routes.specs.Rules.Images.{TableOf}
+use Rattle.routes.specs.Rules.CallRules.{HeldNow}
+use Rattle.routes.specs.Rules.LastInstalled.{LastInstall, Kept, LastInstalled}
 use Rattle.routes.proofs.Statements.ArgumentRules.{argumentRule}
 use Rattle.routes.proofs.Statements.Decisions.{decides, leftBy, lastFrom, last-exactly}
 use Rattle.routes.proofs.Statements.Images.{images, sound-holdable}

@@ -20,7 +20,7 @@ use Rattle.routes.specs.Asked.{readAsked}
 use Rattle.routes.specs.Matching.{ofFields, namesTunnel, candidate, eligible, distinguisherOf, lower, lowestIn, orElse, firstOf, matchIn}
 use Rattle.routes.specs.Answers.{installedOf, foundAnswer, foundOutput, matchedBy}
 use Rattle.routes.specs.Calls.{makeOutcome, makeOf, entering, installOutcome, installOf, matchOutcome, matchOf}
-use Rattle.routes.specs.Examples.{emptyTable, afterInstalls, someTable, MarkedExamples}
+use Rattle.routes.specs.Rules.Examples.{emptyTable, afterInstalls, someTable, MarkedExamples}
 
 pub markedExamples : MarkedExamples
 unfolding someTable emptyTable afterInstalls pick both either onOutcome andThen numberOf part front numberIn bigEndian same before zeros allZero familyBits allowed isOriginatorSize bodies onBody codeOf sameKind fieldIn fixedField addressEnd addressField originatorField fieldSize sizesOf laidWith laidAt cut fieldsOf laidSingle readNlri opaqueStart opaqueSize fecSize runsOut mustFill takesFamily familySuits lengthFault rootFault familyFault wholeFec identifierForms formIn formOf oneOf isIdentifier readIdentifier labelOf fieldsIn readAttribute nlriOf attributeOf lookup isHeld holds inserted readSPmsi readLabelled readRoute placeOf endIn routeIn acceptable placeSound headerStart headerOf placesOf imageOf afiIn countIn placesIn routesFrom routesOf tableSize headerSound placesSound soundOf makeOutcome makeOf installedOf entering installOutcome installOf multicast sourceSpecific classUnder classOf readFlow readMatch readAsked tiersOf flowQuery meets ofFields namesTunnel candidate eligible distinguisherOf lower lowestIn orElse firstOf matchIn foundAnswer foundOutput matchedBy matchOutcome matchOf

@@ -22,8 +22,8 @@ use Rattle.routes.specs.Table.{afiIn, routesOf, soundOf}
 use Rattle.routes.specs.Matching.{Found, nothing, found, matchIn}
 use Rattle.routes.specs.Answers.{foundAnswer, foundOutput, matchedBy}
 use Rattle.routes.specs.Calls.{matchOutcome, matchOf}
-use Rattle.routes.specs.ArgumentRules.{KnownFamily, GoodFlow, FlowRefusal}
-use Rattle.routes.specs.MatchRule.{InTier, Taken, NoneTaken, Told, Untold, MatchAnswer, oneTold, noneTold, MatchRefusal, matchUnsound, badMatch, TableMatch, MatchRule}
+use Rattle.routes.specs.Rules.ArgumentRules.{KnownFamily, GoodFlow, FlowRefusal}
+use Rattle.routes.specs.Rules.MatchRule.{InTier, Taken, NoneTaken, Told, Untold, MatchAnswer, oneTold, noneTold, MatchRefusal, matchUnsound, badMatch, TableMatch, MatchRule}
 use Rattle.routes.proofs.Statements.ArgumentRules.{argumentRule, flow-passed}
 use Rattle.routes.proofs.Definitions.ByArguments.{number-asked}
 use Rattle.routes.proofs.Definitions.Lookups.{acceptable-member, distinct-increasing}

@@ -10,8 +10,8 @@ use Rattle.routes.specs.Calls.{makeOf}
 use Rattle.routes.specs.Call.{Call, install, withdraw, match}
 use Rattle.routes.specs.Book.{ownCalls, onceEach, routersOf, gathered, allBooks}
 use Rattle.routes.specs.Run.{Step, stepOf, runFrom, endOf, answersIn, ownAnswers, imageOfBooks, dueFrom, Fits}
-use Rattle.routes.specs.ArgumentRules.{KnownFamily}
-use Rattle.routes.specs.MixedCalls.{Alone, Reordered, Alike, Claim, MixedCalls}
+use Rattle.routes.specs.Rules.ArgumentRules.{KnownFamily}
+use Rattle.routes.specs.Rules.MixedCalls.{Alone, Reordered, Alike, Claim, MixedCalls}
 use Rattle.routes.proofs.Statements.Images.{images}
 use Rattle.routes.proofs.Statements.MakeRules.{made-holdable}
 use Rattle.octets.proofs.Chosen.{chosen-among}

@@ -18,8 +18,8 @@ use Rattle.routes.specs.Table.{afiIn, routesOf, soundOf}
 use Rattle.routes.specs.Matching.{Found, nothing, found}
 use Rattle.routes.specs.Answers.{Changed, foundAnswer, foundOutput, matchedBy}
 use Rattle.routes.specs.Next.{nextIn, nextOutcome, withoutTier, nextOf}
-use Rattle.routes.specs.MatchRule.{Told, Untold}
-use Rattle.routes.specs.NextRule.{ComesNext, NoneNext, asMatched, Tells, NextRefusal, nextUnsound, nextSpace, NextRule, toldRoute}
+use Rattle.routes.specs.Rules.MatchRule.{Told, Untold}
+use Rattle.routes.specs.Rules.NextRule.{ComesNext, NoneNext, asMatched, Tells, NextRefusal, nextUnsound, nextSpace, NextRule, toldRoute}
 use Rattle.routes.proofs.Definitions.Lookups.{acceptable-member}
 use Rattle.routes.proofs.Definitions.Bounds.{Sized, sizes-of}
 use Rattle.routes.proofs.Definitions.Nexts.{IsNext, next-is, comes-found, none-found}

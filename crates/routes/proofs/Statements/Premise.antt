@@ -23,7 +23,7 @@ use Rattle.routes.specs.Calls.{makeOutcome, makeOf, entering, installOut
 use Rattle.routes.specs.Call.{Answer, installed, withdrawn, matched, originatorOf, ownerOf, ownedBy, argued}
 use Rattle.routes.specs.Book.{entered, actAnswer, actAfter, bookAnswer, bookAfter, fed, bookOf, isAmong, onceEach, dueBy, dueAnswer}
 use Rattle.routes.specs.Run.{Step, stepOf, runFrom, dueStep, dueFrom, namedIn, namedBy}
-use Rattle.routes.specs.MixedCalls.{anySource, twoInstalls, Premise}
+use Rattle.routes.specs.Rules.MixedCalls.{anySource, twoInstalls, Premise}
 
 -- the number in an answer
 numberAnswered : Answer → ℕ

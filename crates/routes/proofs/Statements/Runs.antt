@@ -3,7 +3,7 @@ use Prim.Native.Nat.{ℕ, _≤_}
 use mathlib.Core.Path.{_≡_, refl, ap, ap₂, _∙_}
 use mathlib.Core.List.{List, [], _∷_, _++_, append-assoc, append-nil}
 use native.Mathlib.Nat.{le-trans}
-use Rattle.routes.specs.ArgumentRules.{KnownFamily}
+use Rattle.routes.specs.Rules.ArgumentRules.{KnownFamily}
 use Rattle.routes.specs.Call.{Call, install}
 use Rattle.routes.specs.Run.{Step, stepOf, runFrom, endOf, imageOfBooks, dueStep, dueFrom, namedBy, Fits}
 use Rattle.octets.specs.Lists.{Among}

@@ -12,7 +12,7 @@ use Rattle.nlri.specs.Statements.{SourceSpecific}
 use Rattle.routes.specs.Query.{meets, Query}
 use Rattle.routes.specs.SharedTree.{SharedTree, treeOpen, treeQuery, readTree}
 use Rattle.routes.specs.Asked.{ofSharedTree, readAsked}
-use Rattle.routes.specs.SharedTreeRule.{Condition, InSharedTier, sharedGroup, sharedWildcard, GoodTree, SharedTreeRefusal, SharedTreeRule}
+use Rattle.routes.specs.Rules.SharedTreeRule.{Condition, InSharedTier, sharedGroup, sharedWildcard, GoodTree, SharedTreeRefusal, SharedTreeRule}
 use Rattle.routes.proofs.Definitions.OpenTiers.{Opened, opened1, opened2, opened3, opened4, tiers-exactly}
 use Rattle.routes.proofs.Definitions.First.{wantedAt}
 use Rattle.routes.proofs.Definitions.SharedTrees.{AskedTree, asked-tree-router, tree-asked, tree-given, tree-refused, condition-exactly}

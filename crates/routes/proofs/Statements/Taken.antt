@@ -15,7 +15,7 @@ use Rattle.nlri.specs.Groups.{ASM, SSM}
 use Rattle.routes.specs.Route.{Route, nlriOf, Distinct}
 use Rattle.routes.specs.Query.{Wanted, meets, Query, Flow, flowQuery}
 use Rattle.routes.specs.Matching.{eligible, distinguisherOf, Found, nothing, found, matchIn}
-use Rattle.routes.specs.MatchRule.{InTier, bothEqual, sourceEqual, groupEqual, bothWildcard, Eligible, Taken, NoneTaken}
+use Rattle.routes.specs.Rules.MatchRule.{InTier, bothEqual, sourceEqual, groupEqual, bothWildcard, Eligible, Taken, NoneTaken}
 use Rattle.routes.proofs.Definitions.Lookups.{one-member}
 use Rattle.routes.proofs.Definitions.Conditions.{qualified, qualifies, distinguisher-is, same-nlri}
 use Rattle.routes.proofs.Definitions.First.{First, wantedAt, first-none, first-least, first-below, first-is}

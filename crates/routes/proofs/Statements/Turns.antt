@@ -10,7 +10,7 @@ use Rattle.octets.proofs.Orders.{same-equal, other-unequal}
 use Rattle.octets.specs.Lists.{Among, first, later, Once, Rearranged, chosen}
 use Rattle.routes.specs.Call.{Call, ownerOf}
 use Rattle.routes.specs.Book.{ownCalls, nobodysCalls, isAmong, onceEach, routersOf}
-use Rattle.routes.specs.MixedCalls.{turns, inTurn, Reordered}
+use Rattle.routes.specs.Rules.MixedCalls.{turns, inTurn, Reordered}
 use Rattle.octets.proofs.Among.{among-none, among-cases, rearranged-among, rearranged-itself, once-rearranged}
 use Rattle.routes.proofs.Definitions.OnceEach.{is-among-true, among-is-among, among-once-each, once-once-each}
 use Rattle.octets.proofs.Chosen.{chosen-append, chosen-passes, chosen-all, chosen-none}

@@ -12,8 +12,8 @@ use Rattle.octets.proofs.Outcome.{given-unless, passed, given-same, outcome, st
 use Rattle.routes.specs.Route.{absent, removed}
 use Rattle.routes.specs.Table.{imageOf, afiIn, placesIn, routesOf}
 use Rattle.routes.specs.Calls.{leaving, withdrawOutcome, withdrawOf}
-use Rattle.routes.specs.Images.{Holdable, TableOf}
-use Rattle.routes.specs.CallRules.{IsHeld, HeldNow, Withdrawable, WithdrawRefusal, withdrawUnsound, badName, notHeld, WithdrawRule}
+use Rattle.routes.specs.Rules.Images.{Holdable, TableOf}
+use Rattle.routes.specs.Rules.CallRules.{IsHeld, HeldNow, Withdrawable, WithdrawRefusal, withdrawUnsound, badName, notHeld, WithdrawRule}
 use Rattle.routes.proofs.Statements.ArgumentRules.{argumentRule, nlri-accepted, nlri-accepts}
 use Rattle.routes.proofs.Definitions.ByArguments.{number-s-pmsi}
 use Rattle.routes.proofs.Definitions.Holding.{holdable-removed}

@@ -13,8 +13,8 @@ use Rattle.routes.specs.Calls.{makeOf}
 use Rattle.routes.specs.Call.{Call, install}
 use Rattle.routes.specs.Book.{ownCalls, nobodysCalls, onceEach, routersOf}
 use Rattle.routes.specs.Run.{stepOf, runFrom, endOf, answersIn, ownAnswers, dueFrom, Fits}
-use Rattle.routes.specs.ArgumentRules.{KnownFamily}
-use Rattle.routes.specs.BookRules.{OwnerRule, PremiseRule, BookRule, ImageRule}
+use Rattle.routes.specs.Rules.ArgumentRules.{KnownFamily}
+use Rattle.routes.specs.Rules.BookRules.{OwnerRule, PremiseRule, BookRule, ImageRule}
 
 -- a run: each call is answered on the octets that the last one left, which are the end of the calls before it
 pub record RunRule : Type 0 where

@@ -13,8 +13,8 @@ use Rattle.routes.specs.Table.{imageOf, afiIn, placesIn, routesOf, sound
 use Rattle.routes.specs.Calls.{makeOf, installOf, withdrawOf}
 use Rattle.routes.specs.Call.{Call, install, withdraw}
 use Rattle.routes.specs.Run.{endOf}
-use Rattle.routes.specs.ArgumentRules.{ArgumentRule}
-use Rattle.routes.specs.CallRules.{LookupRule, MakeRule, InstallRule, WithdrawRule}
+use Rattle.routes.specs.Rules.ArgumentRules.{ArgumentRule}
+use Rattle.routes.specs.Rules.CallRules.{LookupRule, MakeRule, InstallRule, WithdrawRule}
 
 -- an accepted install or withdrawal of an NLRI on a table: it answers DONE
 pub data Decides (nlri t : List ℕ) : Call → Type 0 where

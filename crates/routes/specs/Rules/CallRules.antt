@@ -12,8 +12,8 @@ use Rattle.routes.specs.Route.{Route, route, nlriOf, Held, absent, held,
 use Rattle.routes.specs.Table.{afiIn, placesIn, routesOf, soundOf}
 use Rattle.routes.specs.Answers.{NEW, REPLACED}
 use Rattle.routes.specs.Calls.{makeOf, installOf, withdrawOf}
-use Rattle.routes.specs.ArgumentRules.{KnownFamily, SPmsi, Labelled, NlriRefusal, RouteRefusal}
-use Rattle.routes.specs.Images.{TableOf}
+use Rattle.routes.specs.Rules.ArgumentRules.{KnownFamily, SPmsi, Labelled, NlriRefusal, RouteRefusal}
+use Rattle.routes.specs.Rules.Images.{TableOf}
 
 -- what routes hold of an NLRI: nothing exactly when none of them has it; a route, where no two have the same NLRI, exactly when it is the one
 -- of them that has it

@@ -16,11 +16,11 @@ use Rattle.routes.specs.Answers.{Changed, NEW, REPLACED}
 use Rattle.routes.specs.Call.{Call, install, withdraw, match, Answer, installed, withdrawn, matched, nobody, owner, ownerOf}
 use Rattle.routes.specs.Book.{ownCalls, bookOf, allBooks, dueAnswer}
 use Rattle.routes.specs.Run.{imageOfBooks, counted}
-use Rattle.routes.specs.ArgumentRules.{RouterSized, SPmsi, SPmsiOf, Labelled, GoodFlow, NlriRefusal, RouteRefusal, FlowRefusal}
-use Rattle.routes.specs.Images.{Holdable, TableOf}
-use Rattle.routes.specs.CallRules.{IsHeld, HeldNow}
-use Rattle.routes.specs.MatchRule.{InTier, Untold, MatchAnswer}
-use Rattle.routes.specs.SharedTreeRule.{InSharedTier, GoodTree, SharedTreeRefusal}
+use Rattle.routes.specs.Rules.ArgumentRules.{RouterSized, SPmsi, SPmsiOf, Labelled, GoodFlow, NlriRefusal, RouteRefusal, FlowRefusal}
+use Rattle.routes.specs.Rules.Images.{Holdable, TableOf}
+use Rattle.routes.specs.Rules.CallRules.{IsHeld, HeldNow}
+use Rattle.routes.specs.Rules.MatchRule.{InTier, Untold, MatchAnswer}
+use Rattle.routes.specs.Rules.SharedTreeRule.{InSharedTier, GoodTree, SharedTreeRefusal}
 
 -- a call belongs to a router: an install or withdrawal of a well-formed S-PMSI NLRI to its originator; a match, of a flow or for a shared tree, to
 -- the router address that it gives, if that has 4 or 16 octets

@@ -8,9 +8,9 @@ use lib.ListN.{length, replicate}
 use Rattle.octets.specs.Numbers.{DONE, TABLE}
 use Rattle.routes.specs.Route.{Route}
 use Rattle.routes.specs.Table.{soundOf}
-use Rattle.routes.specs.Images.{TableOf}
+use Rattle.routes.specs.Rules.Images.{TableOf}
 use Rattle.routes.specs.Info.{infoOf}
-use Rattle.routes.specs.NextRule.{toldInTurn}
+use Rattle.routes.specs.Rules.NextRule.{toldInTurn}
 
 -- info: each answer exactly when
 pub record InfoRule : Type 0 where

@@ -17,8 +17,8 @@ use Rattle.routes.specs.Query.{Query}
 use Rattle.routes.specs.SharedTree.{SharedTree, readTree}
 use Rattle.routes.specs.Asked.{ofSharedTree}
 use Rattle.routes.specs.Matching.{nothing, found, matchIn}
-use Rattle.routes.specs.ArgumentRules.{RouterSized, FamilySized, NlriOfType, TypeRefusal}
-use Rattle.routes.specs.MatchRule.{Taken, NoneTaken, TableMatch}
+use Rattle.routes.specs.Rules.ArgumentRules.{RouterSized, FamilySized, NlriOfType, TypeRefusal}
+use Rattle.routes.specs.Rules.MatchRule.{Taken, NoneTaken, TableMatch}
 
 -- a well-formed Source Active NLRI: of type 5
 abbrev pub SourceActive : (afi : ℕ) → (nlri : List ℕ) → Type 0

@@ -17,7 +17,7 @@ use Rattle.routes.specs.Route.{Route, route, nlriOf, Increasing}
 use Rattle.routes.specs.Table.{routesOf, soundOf}
 use Rattle.routes.specs.Answers.{Changed}
 use Rattle.routes.specs.Next.{nextOf}
-use Rattle.routes.specs.MatchRule.{Told, Untold}
+use Rattle.routes.specs.Rules.MatchRule.{Told, Untold}
 
 -- of some routes the one that comes next after octets: its NLRI comes after them, and that of no route comes between
 pub record ComesNext (nlri : List ℕ) (rs : List Route) (r : Route) : Type 0 where

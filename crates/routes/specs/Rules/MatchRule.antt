@@ -23,7 +23,7 @@ use Rattle.routes.specs.Table.{afiIn, routesOf, soundOf}
 use Rattle.routes.specs.Matching.{nothing, found, matchIn}
 use Rattle.routes.specs.Answers.{Changed}
 use Rattle.routes.specs.Calls.{matchOf}
-use Rattle.routes.specs.ArgumentRules.{SPmsiOf, GoodFlow, FlowRefusal}
+use Rattle.routes.specs.Rules.ArgumentRules.{SPmsiOf, GoodFlow, FlowRefusal}
 
 -- the condition of each tier, 1 to 4; a wildcard is no octets, and a multicast group that is not SSM is ASM
 pub data InTier (afi : ℕ) (flow : Flow) : (tier : ℕ) → Fields → Type 0 where

@@ -16,7 +16,7 @@ use Rattle.routes.specs.Table.{afiIn, routesOf}
 use Rattle.routes.specs.Answers.{Changed}
 use Rattle.routes.specs.Calls.{matchOf}
 use Rattle.routes.specs.Reasons.{explainOf}
-use Rattle.routes.specs.MatchRule.{InTier, Eligible, Taken, Told}
+use Rattle.routes.specs.Rules.MatchRule.{InTier, Eligible, Taken, Told}
 
 -- the class of a group rules a tier out: tier 2 where it is not SSM, tier 3 where it is
 pub data RuledOut (afi : ℕ) (group : List ℕ) : (tier : ℕ) → Type 0 where

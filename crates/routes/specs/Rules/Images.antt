@@ -11,7 +11,7 @@ use Rattle.octets.specs.Lists.{Among}
 use Rattle.routes.specs.Route.{Route, Increasing}
 use Rattle.routes.specs.Place.{AllAcceptable}
 use Rattle.routes.specs.Table.{imageOf, afiIn, placesIn, routesOf, soundOf}
-use Rattle.routes.specs.ArgumentRules.{KnownFamily}
+use Rattle.routes.specs.Rules.ArgumentRules.{KnownFamily}
 use Rattle.routes.specs.Calls.{makeOf}
 
 -- routes that a table of a family and so many places can hold, in the order in which it holds them

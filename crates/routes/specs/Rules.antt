@@ -1,0 +1,13 @@
+-- What is stated of the definitions, in document 01's notions.
+pub mod ArgumentRules
+pub mod Images
+pub mod CallRules
+pub mod MatchRule
+pub mod SharedTreeRule
+pub mod ReasonRule
+pub mod NextRule
+pub mod InfoRule
+pub mod LastInstalled
+pub mod BookRules
+pub mod MixedCalls
+pub mod Examples
