@@ -19,7 +19,7 @@ use Rattle.runs.specs.declared.walking.Walked.{Walked}
 use Rattle.runs.specs.Walking.{walkedWith, NlriRead}
 use Rattle.runs.specs.Statements.{encodeRun, encodedFrom, RunOf}
 use Rattle.runs.specs.Modes.{SKIP, walkBy, nlrisBy}
-use Rattle.runs.specs.ModeRule.{FieldsAt, encodings, Split}
+use Rattle.runs.specs.ModeRule.{EncodedNlri, encodings, Split}
 use Rattle.runs.proofs.Theorems.{walkRule, modeRule}
 use Rattle.mvpn_list.specs.Listing.{decimalOf, fieldOf, lineOf, nlriLine, nlriLines, openingOf, lastFields, lastLine, linesOf}
 use Rattle.mvpn_list.specs.ListingRule.{NumberLine, Opening, fieldsFrom, RunLines}
@@ -51,7 +51,7 @@ unfolding encodeNlri
 encoded-header f = (refl, omega arith)
 
 -- a line for each encoding, and a last line after them
-runLines-encodings : {number : ℕ} {figures last : List ℕ} → RunLines number figures [] last → (fs : List FieldsAt) → RunLines number figures fs (nlriLines (encodings fs) ++ last)
+runLines-encodings : {number : ℕ} {figures last : List ℕ} → RunLines number figures [] last → (fs : List EncodedNlri) → RunLines number figures fs (nlriLines (encodings fs) ++ last)
 unfolding nlriLines encodings
 runLines-encodings end [] = end
 runLines-encodings {number} {figures} {last} end (f ∷ fs) =
@@ -70,7 +70,7 @@ encodedFrom-encodings at (f ∷ fs) = ap (λ (ns : List NlriRead). record { offs
 
 module _ (run : List ℕ) (octets : AllOctets run) (short : length run ≤ 4096) where
   -- the lines by what the walk of the mode reads, and where and why it stops
-  lines-walked : (mode number count offset skipped : ℕ) (fs : List FieldsAt) → walkBy 1 mode run ≡ walkedWith number count offset skipped → nlrisBy 1 mode run ≡ encodings fs
+  lines-walked : (mode number count offset skipped : ℕ) (fs : List EncodedNlri) → walkBy 1 mode run ≡ walkedWith number count offset skipped → nlrisBy 1 mode run ≡ encodings fs
       → linesOf mode run ≡ nlriLines (encodings fs) ++ lastLine mode number offset skipped
   unfolding linesOf
   lines-walked mode number count offset skipped fs w e = ap₂ (λ (ns : List NlriRead) (x : Walked). nlriLines ns ++ lastLine mode (x .number) (x .offset) (x .skipped)) e w
@@ -86,7 +86,7 @@ module _ (run : List ℕ) (octets : AllOctets run) (short : length run ≤ 4096)
   unfolding lastLine lastFields
   runLines-old mode other r =
       let same = modeRule .old 1 mode run other in
-      let fs : List FieldsAt = fieldsFrom 0 (r .nlris) in
+      let fs : List EncodedNlri = fieldsFrom 0 (r .nlris) in
       let offset : ℕ = length (encodeRun (r .nlris)) in
       let lines =
       lines-walked mode (r .number) (length (r .nlris)) offset 0 fs (same .0 ∙ walkRule .counts 1 32 run r familyBits-1 octets short)
@@ -112,7 +112,7 @@ opening-only Opening.end (Opening.stop other) e = absurd (other (sym e))
 opening-only (Opening.stop other) Opening.end e = absurd (other e)
 opening-only (Opening.stop other) (Opening.stop other′) e = refl
 
-pub runLines-only : {number : ℕ} {figures : List ℕ} {fs : List FieldsAt} {s t : List ℕ} → RunLines number figures fs s → RunLines number figures fs t → s ≡ t
+pub runLines-only : {number : ℕ} {figures : List ℕ} {fs : List EncodedNlri} {s t : List ℕ} → RunLines number figures fs s → RunLines number figures fs t → s ≡ t
 runLines-only (RunLines.nlri line later a lines is) (RunLines.nlri line′ later′ a′ lines′ is′) =
     is ∙ ap₂ (λ (x y : List ℕ). x ++ y) (numberLine-only a a′) (runLines-only lines lines′) ∙ sym is′
 runLines-only (RunLines.last opening line o a is) (RunLines.last opening′ line′ o′ a′ is′) =

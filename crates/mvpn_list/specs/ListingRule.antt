@@ -10,7 +10,7 @@ use Rattle.octets.specs.Octets.{AllOctets}
 use Rattle.nlri.specs.Fields.{Fields, encodeNlri}
 use Rattle.runs.specs.Statements.{encodeRun, RunOf}
 use Rattle.runs.specs.Modes.{SKIP, OLD}
-use Rattle.runs.specs.ModeRule.{FieldsAt, Split}
+use Rattle.runs.specs.ModeRule.{EncodedNlri, Split}
 use Rattle.mvpn_list.specs.Listing.{decimalOf, linesOf, listingOf, modeOf}
 
 -- the number that ASCII digits stand for, the most significant first
@@ -41,13 +41,13 @@ pub data Opening : ℕ → List ℕ → Type 0 where
   stop : {number : ℕ} → number ≢ DONE → Opening number (115 ∷ 116 ∷ 111 ∷ 112 ∷ 32 ∷ [])
 
 -- NLRIs that follow each other, each with the offset where its encoding begins, the first at an offset
-unfoldable pub fieldsFrom : (offset : ℕ) → List Fields → List FieldsAt
+unfoldable pub fieldsFrom : (offset : ℕ) → List Fields → List EncodedNlri
 fieldsFrom offset [] = []
 fieldsFrom offset (f ∷ fs) = record { offset = offset; fields = f } ∷ fieldsFrom (offset + length (encodeNlri f)) fs
 
 -- the lines: one for each NLRI in order, with the offset where its encoding begins, its type and its Length; and the last, with its figures
-pub data RunLines (number : ℕ) (figures : List ℕ) : List FieldsAt → List ℕ → Type 0 where
-  nlri : {f : FieldsAt} {fs : List FieldsAt} {text : List ℕ} (line later : List ℕ) → NumberLine (f .offset ∷ f .fields .type ∷ (length (encodeNlri (f .fields)) - 2) ∷ []) line
+pub data RunLines (number : ℕ) (figures : List ℕ) : List EncodedNlri → List ℕ → Type 0 where
+  nlri : {f : EncodedNlri} {fs : List EncodedNlri} {text : List ℕ} (line later : List ℕ) → NumberLine (f .offset ∷ f .fields .type ∷ (length (encodeNlri (f .fields)) - 2) ∷ []) line
       → RunLines number figures fs later → text ≡ line ++ later → RunLines number figures (f ∷ fs) text
   last : {text : List ℕ} (opening line : List ℕ) → Opening number opening → NumberLine figures line → text ≡ opening ++ line → RunLines number figures [] text
 

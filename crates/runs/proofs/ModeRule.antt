@@ -32,7 +32,7 @@ use Rattle.runs.specs.declared.turning.Turn.the-variants.{Read, Skipped,
 use Rattle.runs.specs.Walking.{stepFrom, walkedWith, walkFrom, walkOf, NlriRead, nlrisFrom, nlrisOf}
 use Rattle.runs.specs.Statements.{front, encodeRun, RunEnd, nothing, refusal}
 use Rattle.runs.specs.Modes.{SKIP, isSkipped, pastNlri, turnFrom, walkByFrom, walkBy, nlrisByFrom, nlrisBy}
-use Rattle.runs.specs.ModeRule.{FieldsAt, encodings, SkippingRun, end, nlri, unknown, Split, ModeRule}
+use Rattle.runs.specs.ModeRule.{EncodedNlri, encodings, SkippingRun, end, nlri, unknown, Split, ModeRule}
 use Rattle.runs.proofs.Steps.{Stops, stops-refusedAt}
 use Rattle.runs.proofs.Nlris.{walkFrom-stops, nlrisFrom-stops}
 use Rattle.runs.proofs.StepRule.{stepRule}
@@ -116,11 +116,11 @@ module _ (afi bits : ℕ) (ofFamily : familyBits afi ≡ given bits) (run : List
   past-front : (at n : ℕ) (s t : List ℕ) → length s ≡ n → drop at run ≡ s ++ t → at + length (s ++ t) ≡ length run → (drop (at + n) run ≡ t) × (at + n + length t ≡ length run)
   past-front at n s t is here size = (sym (drop-drop n at run) ∙ ap (drop n) here ∙ drop-at s t n is, omega (arith, length-append s t))
 
-  abbrev Figures : (left at count skipped : ℕ) (nlris : List FieldsAt) (number offset more : ℕ) → Type 0
+  abbrev Figures : (left at count skipped : ℕ) (nlris : List EncodedNlri) (number offset more : ℕ) → Type 0
   Figures left at count skipped nlris number offset more =
       (walkByFrom left afi SKIP run at count skipped ≡ walkedWith number (count + length nlris) offset (skipped + more)) × (nlrisByFrom left afi SKIP run at ≡ encodings nlris)
 
-  figures : (left at count skipped : ℕ) {s : List ℕ} {nlris : List FieldsAt} {number offset more : ℕ} → SkippingRun bits at s nlris number offset more → drop at run ≡ s → at + length s ≡ length run
+  figures : (left at count skipped : ℕ) {s : List ℕ} {nlris : List EncodedNlri} {number offset more : ℕ} → SkippingRun bits at s nlris number offset more → drop at run ≡ s → at + length s ≡ length run
       → length run < left + at → Figures left at count skipped nlris number offset more
   unfolding encodings part encodeRun
   figures zero at count skipped r here size enough = absurd (omega arith)
@@ -201,7 +201,7 @@ module _ (afi bits : ℕ) (ofFamily : familyBits afi ≡ given bits) where
       let laid : Laid = yes .0 in
       let r = front-sound afi bits ofFamily s laid a (yes .1) in
       let later = split left (at + length (encodeNlri (r .fields))) (drop (2 + laid .size) s) (rw length-drop (omega arith)) (octets-drop (2 + laid .size) a) in
-      let nlris : List FieldsAt = record { offset = at; fields = r .fields } ∷ later .nlris in
+      let nlris : List EncodedNlri = record { offset = at; fields = r .fields } ∷ later .nlris in
       record {
         nlris = nlris;
         number = later .number;

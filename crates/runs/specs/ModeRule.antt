@@ -15,29 +15,29 @@ use Rattle.runs.specs.Statements.{RunEnd, StepRefusal}
 use Rattle.runs.specs.Modes.{SKIP, walkBy, nlrisBy}
 
 -- an NLRI of a run: its fields, and the offset where their encoding begins
-pub record FieldsAt : Type 0 where
+pub record EncodedNlri : Type 0 where
   pub offset : ℕ
   pub fields : Fields
 
 -- their encodings
-unfoldable pub encodings : List FieldsAt → List NlriRead
+unfoldable pub encodings : List EncodedNlri → List NlriRead
 encodings [] = []
 encodings (f ∷ fs) = record { offset = f .offset; octets = encodeNlri (f .fields) } ∷ encodings fs
 
 -- a run from an offset on, with its figures: its NLRIs; how many unknown types stand between them, each with its Length and that many octets; and
 -- where and why it ends: with nothing, or with octets that NLRI reading refuses otherwise
-pub data SkippingRun (bits : ℕ) : (at : ℕ) → List ℕ → (nlris : List FieldsAt) → (number offset skipped : ℕ) → Type 0 where
+pub data SkippingRun (bits : ℕ) : (at : ℕ) → List ℕ → (nlris : List EncodedNlri) → (number offset skipped : ℕ) → Type 0 where
   end : {at number : ℕ} {run : List ℕ} → RunEnd bits run number → number ≢ TYPE → SkippingRun bits at run [] number at 0
-  nlri : {at number offset skipped : ℕ} {rest : List ℕ} {nlris : List FieldsAt} (f : Fields) → WellFormed bits f
+  nlri : {at number offset skipped : ℕ} {rest : List ℕ} {nlris : List EncodedNlri} (f : Fields) → WellFormed bits f
       → SkippingRun bits (at + length (encodeNlri f)) rest nlris number offset skipped
       → SkippingRun bits at (encodeNlri f ++ rest) (record { offset = at; fields = f } ∷ nlris) number offset skipped
-  unknown : {at number offset skipped : ℕ} {rest : List ℕ} {nlris : List FieldsAt} (type : ℕ) (body : List ℕ) → (KnownType type → ⊥)
+  unknown : {at number offset skipped : ℕ} {rest : List ℕ} {nlris : List EncodedNlri} (type : ℕ) (body : List ℕ) → (KnownType type → ⊥)
       → SkippingRun bits (at + (2 + length body)) rest nlris number offset skipped
       → SkippingRun bits at (type ∷ (length body ∷ (body ++ rest))) nlris number offset (skipped + 1)
 
 -- such a run, whatever its figures
 pub record Split (bits at : ℕ) (run : List ℕ) : Type 0 where
-  pub nlris : List FieldsAt
+  pub nlris : List EncodedNlri
   pub number : ℕ
   pub offset : ℕ
   pub skipped : ℕ
