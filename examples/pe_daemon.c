@@ -556,18 +556,21 @@ static void print_held(uint16_t afi, const uint8_t *route, mvpn_following sizes)
 static void print_table(const uint8_t *table)
 {
     uint8_t nlri[MVPN_MATCH_OUTPUT], route[MVPN_MATCH_OUTPUT];
-    mvpn_table info = mvpn_table_info(table, TABLE_SIZE);
+    mvpn_table_facts info = mvpn_table_info(table, TABLE_SIZE);
+    mvpn_following next;
     size_t size = 0;
     printf("\n%s table: %u route%s in %u places\n", family_name((uint16_t)info.afi), (unsigned)info.routes,
            info.routes == 1 ? "" : "s", (unsigned)info.places);
     for (;;) {
-        mvpn_following next = mvpn_next(table, TABLE_SIZE, nlri, size, route, sizeof route);
+        next = mvpn_next(table, TABLE_SIZE, nlri, size, route, sizeof route);
         if (next.nlri_size == 0)
             break;
         print_held((uint16_t)info.afi, route, next);
         size = next.nlri_size;
         memcpy(nlri, route, size);
     }
+    if (next.number != MVPN_DONE)
+        printf("  not listed: %s\n", number_name(next.number));
 }
 
 /* ---- requests */

@@ -8,7 +8,7 @@
  *
  * Every call ends with a stated answer on any octets. A call that refuses returns its number, changes no octet of any
  * buffer, and leaves every other field of its answer 0, but for what a walk counts and its offset, the cursor of a step, and
- * what a reader of pieces keeps.
+ * what a reader of pieces keeps: its `unfinished` is written by every feed that reads, also where the NLRI is then refused.
  *
  * What the caller owes: a pointer is valid for the length given beside it, which is at most PTRDIFF_MAX; where the length
  * is 0 the pointer may be anything, null too. No alignment is asked. A buffer that is written overlaps no other argument.
@@ -242,7 +242,7 @@ mvpn_walked mvpn_walk(uint16_t afi, uint32_t mode, const uint8_t *run, size_t ru
 enum { MVPN_UNFINISHED = 257 }; /* the longest NLRI: its header and a Length of 255 */
 
 typedef struct {
-    mvpn_walked walked; /* after finish: the walk's answer */
+    mvpn_walked walked; /* the walk's answer to what was taken so far, but for SHORT; after finish the walk's answer */
     uint32_t afi, mode, stage, total, kept;
 } mvpn_pieces;
 
@@ -258,7 +258,8 @@ mvpn_pieces mvpn_pieces_start(uint16_t afi, uint32_t mode);
 /*
  * Hands over a piece, or the rest of one: octets of it are taken up to the end of one NLRI, and of a piece that is not empty at
  * least one. `unfinished` is MVPN_UNFINISHED octets; what they hold before the first feed is no matter. An NLRI that is given
- * stands there until the next feed. No number is told before finish:
+ * stands there until the next feed. SHORT is told at finish alone; the number of a stop, and LONG, stand in pieces.walked from the
+ * feed on that meets them:
  *   - an NLRI of unknown route type that is whole is skipped in the mode MVPN_SKIP: it is taken, and not given;
  *   - at the first NLRI that is whole, refused and not skipped the reading stops: pieces are taken whole and counted, and no
  *     NLRI is given;
@@ -504,22 +505,24 @@ typedef struct {
  * untouched. Where no route comes after: DONE with both sizes 0 and the output untouched. The loop that lists a table:
  *
  *     uint8_t nlri[MVPN_MATCH_OUTPUT], route[MVPN_MATCH_OUTPUT];
+ *     mvpn_following next;
  *     size_t size = 0;
  *     for (;;) {
- *         mvpn_following next = mvpn_next(table, table_len, nlri, size, route, sizeof route);
+ *         next = mvpn_next(table, table_len, nlri, size, route, sizeof route);
  *         if (next.nlri_size == 0) break;
  *         show_route(route, next.nlri_size, route + next.nlri_size, next.attribute_size);
  *         size = next.nlri_size;
  *         memcpy(nlri, route, size);
  *     }
+ *     if (next.number != MVPN_DONE) table_refused(next.number);
  */
 mvpn_following mvpn_next(const uint8_t *table, size_t table_len, const uint8_t *nlri, size_t nlri_len,
                          uint8_t *output, size_t output_len);
 
-typedef struct { uint32_t number, afi, places, routes; } mvpn_table;
+typedef struct { uint32_t number, afi, places, routes; } mvpn_table_facts;
 
 /* What a table says of itself: its AFI, its places, and how many routes are in them. TABLE. */
-mvpn_table mvpn_table_info(const uint8_t *table, size_t table_len);
+mvpn_table_facts mvpn_table_info(const uint8_t *table, size_t table_len);
 
 #ifdef __cplusplus
 }

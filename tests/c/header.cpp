@@ -22,7 +22,7 @@ static_assert(sizeof(mvpn_matched) == 16, "mvpn_matched");
 static_assert(sizeof(mvpn_explained) == 32, "mvpn_explained");
 static_assert(sizeof(mvpn_shared_tree) == 12, "mvpn_shared_tree");
 static_assert(sizeof(mvpn_following) == 12, "mvpn_following");
-static_assert(sizeof(mvpn_table) == 16, "mvpn_table");
+static_assert(sizeof(mvpn_table_facts) == 16, "mvpn_table_facts");
 static_assert(sizeof mvpn_no_items == 2, "mvpn_no_items");
 static_assert(MVPN_TABLE_SIZE(MVPN_MOST_PLACES) == 64008, "MVPN_TABLE_SIZE");
 

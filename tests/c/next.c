@@ -10,8 +10,8 @@
 /* Callers are built with these. */
 _Static_assert(sizeof(mvpn_following) == 12 && offsetof(mvpn_following, nlri_size) == 4 &&
                    offsetof(mvpn_following, attribute_size) == 8, "mvpn_following");
-_Static_assert(sizeof(mvpn_table) == 16 && offsetof(mvpn_table, afi) == 4 && offsetof(mvpn_table, places) == 8 &&
-                   offsetof(mvpn_table, routes) == 12, "mvpn_table");
+_Static_assert(sizeof(mvpn_table_facts) == 16 && offsetof(mvpn_table_facts, afi) == 4 && offsetof(mvpn_table_facts, places) == 8 &&
+                   offsetof(mvpn_table_facts, routes) == 12, "mvpn_table_facts");
 
 /* Routes in the order of their NLRIs: by Length, then by route distinguisher, and so on; one names no tunnel. */
 #define RD(n) "00000064000000" n " "
@@ -60,7 +60,7 @@ static void refuse_next(const char *shows, lent table, const char *nlri, size_t 
 
 static void same_info(const char *shows, lent table, uint32_t number, uint32_t afi, size_t places, size_t routes)
 {
-    mvpn_table info = mvpn_table_info(table.at, table.size);
+    mvpn_table_facts info = mvpn_table_info(table.at, table.size);
     same(shows, "number", info.number, number);
     same(shows, "AFI", info.afi, afi);
     same(shows, "places", info.places, places);
@@ -88,6 +88,14 @@ static void show_route(const uint8_t *nlri, size_t nlri_size, const uint8_t *att
     shown_count++;
 }
 
+/* What the loop tells of a table that is refused. */
+static uint32_t told_refusal;
+
+static void table_refused(uint32_t number)
+{
+    told_refusal = number;
+}
+
 static void list(const uint8_t *table, size_t table_len)
 {
 #include "listing_loop.h"
@@ -99,10 +107,25 @@ static void lists(const char *shows, lent table, const route *routes, size_t cou
     lent before = copy_of(table);
     shown = routes;
     shown_count = 0;
+    told_refusal = MVPN_DONE;
     list(table.at, table.size);
     same(shows, "routes listed", shown_count, count);
+    same(shows, "number", told_refusal, MVPN_DONE);
     same_table(shows, table, before);
     free(before.at);
+}
+
+/* A table that is not sound is told, and not taken for an empty one. */
+static void unsound_is_told(void)
+{
+    lent table = made(1, 1);
+    table.at[0] ^= 1;
+    shown_count = 0;
+    told_refusal = MVPN_DONE;
+    list(table.at, table.size);
+    same("a table that is not sound", "routes listed", shown_count, 0);
+    same("a table that is not sound", "number", told_refusal, MVPN_TABLE);
+    free(table.at);
 }
 
 /* ---- what comes next */
@@ -243,6 +266,7 @@ static void refusals(void)
 int main(void)
 {
     each_once_in_order();
+    unsound_is_told();
     what_comes_next();
     by_nlri_and_not_by_place();
     other_tables();

@@ -66,7 +66,7 @@ static void changes(void)
 {
     expect("make", mvpn_make(MVPN_AFI_IPV4, OF(table)) == MVPN_DONE);
     expect("install", mvpn_install(OF(table), run, ANY_SIZE, OF(attribute)).outcome == MVPN_NEW);
-    mvpn_table info = mvpn_table_info(OF(table));
+    mvpn_table_facts info = mvpn_table_info(OF(table));
     expect("table_info", info.afi == MVPN_AFI_IPV4 && info.places == 3 && info.routes == 1);
 }
 

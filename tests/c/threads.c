@@ -93,7 +93,7 @@ typedef struct {
     mvpn_explained explained[FLOWS];
     mvpn_matched matched[FLOWS], of_tree[FLOWS];
     uint8_t outputs[3][FLOWS][MVPN_MATCH_OUTPUT];
-    mvpn_table info;
+    mvpn_table_facts info;
     uint8_t listed[PLACES][MVPN_MATCH_OUTPUT];
     size_t listed_count;
 } answers;

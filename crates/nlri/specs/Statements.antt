@@ -30,6 +30,8 @@ pub record Lengths : Type 0 where
   pub addresses : (bits type octet : ℕ) → (allowed bits type octet ≡ true) ↔ ((octet ≡ bits) ⊎ ((type ≡ 3) × (octet ≡ 0)))
   -- an originator has 4 or 16 octets
   pub originators : (size : ℕ) → (isOriginatorSize size ≡ true) ↔ ((size ≡ 4) ⊎ (size ≡ 16))
+  -- the roots of a family's FECs are of the AFI (RFC 7441, section 3)
+  pub roots : (afi bits : ℕ) → familyBits afi ≡ given bits → rootFamily bits ≡ afi
 
 -- octets that are the encoding of well-formed fields of the AFI's family, fields that the type lacks being empty
 pub record ReadAs (afi : ℕ) (s : List ℕ) (f : Fields) : Type 0 where

@@ -1,5 +1,5 @@
 // The route types of RFC 7441, read (W-207): bodies with an mLDP FEC element, and the Leaf whose key is such an NLRI. They are judged apart and
-// last, so that those of RFC 6514 are compiled as they were.
+// last, so that those of RFC 6514 need no test for them.
 ghost use mathlib.Core.Path.{_≡_};
 ghost use mathlib.Core.List.{List, _∷_};
 ghost use Prim.Native.Nat.{ℕ, _+_, _<_};

@@ -299,7 +299,7 @@ fn write_to_seven(kind: AddressKind, nlri: Nlri, key: &[u8], output: &mut [u8]) 
     put(nlri, key, size, output)
 }
 
-// Writing under the family of a kind of addresses: the types above 7 apart, so that the others are compiled as they were.
+// Writing under the family of a kind of addresses: the types above 7 apart, which have a FEC or a key of their own.
 fn write_under(kind: AddressKind, nlri: Nlri, key: &[u8], fec: &[u8], output: &mut [u8]) -> Written
     requires { ⌜ (kind .bits ≡ 32) ⊎ (kind .bits ≡ 128) ⌝ }
     ensures { λ r. ⌜ Wrote (writeUnder (kind .bits) nlri (now (key .entry)) (now (fec .entry)) (length (now (output .entry)))) (now (output .entry)) r (now (output .exit)) ⌝ }

@@ -9,13 +9,14 @@ use lib.ListN.{length, getD, take}
 use lib.Seq.{getD-take, length-take-le, take-take, take-all}
 use lib.Dec.{ltb, eqb}
 use Rattle.octets.specs.Numbers.{DONE}
-use Rattle.octets.specs.Octets.{placed}
+use Rattle.octets.specs.Octets.{AllOctets, placed}
+use Rattle.octets.proofs.AllOctets.{octets-take, octets-append}
 use Rattle.octets.proofs.Choice.{tested, pick-true, pick-false, pick-case, either-left, either-false, either-false-left, either-false-right}
 use Rattle.runs.specs.Modes.{isSkipped}
 use Rattle.pieces.specs.declared.state.Pieces.{Pieces}
 use Rattle.pieces.specs.declared.feeding.Fed.{Fed}
 use Rattle.pieces.specs.Feeding.{READING, STOPPED, AfterFeed, passedOf, longOf, countedOf, overOf, sizeIn, wantedOf, shareOf, numberUnder, keptOf, readOf, skippedOf, stoppedOf, judgedOf, settledOf, takenOf, readOnOf, feedOf, Within}
-use Rattle.pieces.proofs.Sizes.{size-known, size-least, length-together, take-together}
+use Rattle.pieces.proofs.Sizes.{size-known, size-least, size-most, length-together, take-together}
 
 -- what is over, and what is not
 module _ (p : Pieces) (size : ℕ) where
@@ -104,6 +105,12 @@ taken-share p unfinished piece wanted share =
     let is : Fed → Type 0 = λ f. f .taken ≡ share in
     pick-case is _ _ _ (λ _. refl) (λ _. pick-case is _ _ _ (λ _. refl) (λ _. pick-case is _ _ _ (λ _. refl) (λ _. refl)))
 
+pub size-wanted : (p : Pieces) (unfinished piece : List ℕ) (wanted share : ℕ) → takenOf p unfinished piece wanted share .answer .size ≤ wanted
+unfolding takenOf settledOf judgedOf
+size-wanted p unfinished piece wanted share =
+    let is : Fed → Type 0 = λ f. f .size ≤ wanted in
+    pick-case is _ _ _ (λ _. omega arith) (λ _. pick-case is _ _ _ (λ _. omega arith) (λ _. pick-case is _ _ _ (λ _. omega arith) (λ _. omega arith)))
+
 -- what holds in every case of a feed
 pub feed-case : (P : AfterFeed → Type 0) (p : Pieces) (unfinished piece : List ℕ) → ((q : Pieces) → P (passedOf q unfinished piece))
     → (p .stage ≡ READING → overOf p (length piece) ≡ false → P (readOnOf p unfinished piece)) → P (feedOf p unfinished piece)
@@ -121,6 +128,14 @@ taken-most p unfinished piece =
     let wanted : ℕ = wantedOf (p .kept) unfinished piece in
     let share : ℕ = shareOf wanted (p .kept) (length piece) in
     omega (arith, taken-share p unfinished piece wanted share, share-most wanted (p .kept) (length piece)))
+
+pub given-most : (p : Pieces) (unfinished piece : List ℕ) → AllOctets unfinished → AllOctets piece → feedOf p unfinished piece .answer .size ≤ 257
+unfolding readOnOf wantedOf
+given-most p unfinished piece lent handed =
+    feed-case (λ (a : AfterFeed). a .answer .size ≤ 257) p unfinished piece (λ _. omega arith)
+    (λ _ _.
+    let wanted : ℕ = wantedOf (p .kept) unfinished piece in
+    omega (arith, size-wanted p unfinished piece wanted (shareOf wanted (p .kept) (length piece)), size-most (take (p .kept) unfinished ++ piece) (octets-append (octets-take (p .kept) lent) handed)))
 
 -- octets past the end of the NLRI are not looked at
 module _ (p : Pieces) (unfinished piece : List ℕ) (room : p .kept ≤ length unfinished) (wanted few : ℕ) (h : wanted ≤ p .kept + length piece) (rest : few ≡ wanted - p .kept) where

@@ -162,7 +162,7 @@ module _ (afi mode n : ℕ) (bad : familyBits afi ≡ refused n) where
       subst (λ (a : AfterFeed). Refused afi mode (afterFeed c a)) (sym (fed-refused c piece r)) (record { stays = r .stays; gave = append-nil (c .nlris) ∙ r .gave })
 
 -- some octets are taken of a piece that has some
-takes-some : {afi mode : ℕ} {run : List ℕ} {c : Caller} → Moment afi mode run c → (piece : List ℕ) → AllOctets piece → 0 < length piece → 0 < fedBy c piece .answer .taken
+pub takes-some : {afi mode : ℕ} {run : List ℕ} {c : Caller} → Moment afi mode run c → (piece : List ℕ) → AllOctets piece → 0 < length piece → 0 < fedBy c piece .answer .taken
 takes-some {afi} {mode} {run} {c} m piece o some =
     ⊎-elim
     (λ good.

@@ -23,9 +23,9 @@ use Rattle.pieces.specs.declared.state.Pieces.{Pieces}
 use Rattle.pieces.specs.Feeding.{READING, STOPPED, FINISHED, AfterFeed, startedAs, answerAtEnd, finishOf, passedOf, longOf, countedOf, overOf, feedOf}
 use Rattle.pieces.specs.Handing.{Caller, fedBy, Moment, first}
 use Rattle.pieces.specs.PiecesRule.{PiecesClaim, AtMoment, Stays, PiecesRule}
-use Rattle.pieces.proofs.Feeds.{feed-finished, feed-over, feed-counts, feed-front}
+use Rattle.pieces.proofs.Feeds.{taken-most, given-most, feed-finished, feed-over, feed-counts, feed-front}
 use Rattle.pieces.proofs.Means.{Means, kept-most, ended}
-use Rattle.pieces.proofs.Moments.{octets-moment, Held, sound-now, means-total, held, Refused, start-refused, fed-refused, refused-moment, fed-over, moment-pieces}
+use Rattle.pieces.proofs.Moments.{octets-moment, Held, sound-now, means-total, held, Refused, start-refused, fed-refused, refused-moment, fed-over, takes-some, moment-pieces}
 
 -- the answer of a reader that does not read is what it has
 end-stopped : (p : Pieces) → p .stage ≢ READING → answerAtEnd p ≡ p .walked
@@ -76,6 +76,7 @@ module _ (afi mode bits : ℕ) (ofFamily : familyBits afi ≡ given bits) (run :
         counts = λ _ _ few. means-total afi mode bits run c (means-now few);
         keeps = keeps-known;
         passes = λ piece many. ap (λ (a : AfterFeed). a .answer .size) (fed-over afi mode bits run c (octets-moment m) state piece many);
+        goes = takes-some m;
       }
 
 -- under a bad AFI
@@ -110,6 +111,7 @@ module _ (afi mode n : ℕ) (bad : familyBits afi ≡ refused n) (run : List ℕ
         counts = λ bits good _. absurd (never good bad);
         keeps = λ stage. absurd (finishes stage);
         passes = λ piece _. ap (λ (a : AfterFeed). a .answer .size) (fed-refused afi mode n bad c piece refusal);
+        goes = takes-some m;
       }
 
 claims : (afi mode : ℕ) (run : List ℕ) (c : Caller) → Moment afi mode run c → PiecesClaim afi mode run c
@@ -144,6 +146,8 @@ piecesRule =
       moments = moments;
       loop = λ afi mode unfinished pieces room o. moment-pieces pieces (first unfinished room) o;
       family = λ afi mode one two. start-refused afi mode FAMILY (family-refuses afi one two);
+      most = taken-most;
+      fits = given-most;
       stopped = stays;
       finished = λ p unfinished piece. feed-finished (finishOf p) unfinished piece (omega arith);
       again = again;

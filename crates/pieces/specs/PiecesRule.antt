@@ -33,6 +33,8 @@ pub record AtMoment (afi mode : ℕ) (run : List ℕ) (c : Caller) : Type 0 wher
   pub keeps : c .pieces .stage ≡ READING → (take (c .pieces .kept) (c .unfinished) ≡ drop (walkBy afi mode run .offset) run) × (c .pieces .kept ≤ 256)
   -- a piece that passes 4,096 in all gives no NLRI, whatever its first octets complete
   pub passes : (piece : List ℕ) → 4096 < length run + length piece → fedBy c piece .answer .size ≡ 0
+  -- of a piece that has octets some are taken, so that a caller's loop ends
+  pub goes : (piece : List ℕ) → AllOctets piece → 0 < length piece → 0 < fedBy c piece .answer .taken
 
 -- a reader that has stopped, and a piece: no NLRI is given, all of it is taken, the lent octets stay, and so does the stop
 pub record Stays (p : Pieces) (unfinished piece : List ℕ) : Type 0 where
@@ -52,7 +54,11 @@ pub record PiecesRule : Type 0 where
   pub loop : (afi mode : ℕ) (unfinished : List ℕ) (pieces : List (List ℕ)) → length unfinished ≡ 257 → AllOctets (joined pieces) → Moment afi mode (joined pieces) (feedPieces (startedWith afi mode unfinished) pieces)
   -- a bad AFI is told at the start, and the reader is then finished
   pub family : (afi mode : ℕ) → afi ≢ 1 → afi ≢ 2 → startOf afi mode ≡ startedAs afi mode FINISHED FAMILY
-  -- of every state, also of one that no call made. After a stop no NLRI is given
+  -- of every state, also of one that no call made: a feed takes no more than the piece has
+  pub most : (p : Pieces) (unfinished piece : List ℕ) → feedOf p unfinished piece .answer .taken ≤ length piece
+  -- and gives no more than the lent octets have
+  pub fits : (p : Pieces) (unfinished piece : List ℕ) → AllOctets unfinished → AllOctets piece → feedOf p unfinished piece .answer .size ≤ 257
+  -- after a stop no NLRI is given
   pub stopped : (p : Pieces) (unfinished piece : List ℕ) → p .stage ≡ STOPPED → Stays p unfinished piece
   -- after finish every call repeats the answer, and leaves the lent octets
   pub finished : (p : Pieces) (unfinished piece : List ℕ) → feedOf (finishOf p) unfinished piece ≡ passedOf (finishOf p) unfinished piece

@@ -18,7 +18,7 @@ use Rattle.routes.specs.Calls.{matchOf}
 abbrev pub TAKEN : ℕ
 TAKEN = 1
 
--- no route of the router asked meets its condition
+-- no candidate meets its condition, which the group's class allows
 abbrev pub NO_SUCH_ROUTE : ℕ
 NO_SUCH_ROUTE = 2
 

@@ -45,7 +45,7 @@ pub record Split (bits at : ℕ) (run : List ℕ) : Type 0 where
 
 -- "Unknown route types are stepped over"
 pub record ModeRule : Type 0 where
-  -- every mode but SKIP is the walk as it was, of which `walkRule` speaks
+  -- every mode but SKIP is the walk that stops at every refusal, of which `walkRule` speaks
   pub old : (afi mode : ℕ) (run : List ℕ) → mode ≢ SKIP → (walkBy afi mode run ≡ walkOf afi run) × (nlrisBy afi mode run ≡ nlrisOf afi run)
   -- which skips nothing
   pub none : (afi : ℕ) (run : List ℕ) → walkOf afi run .skipped ≡ 0
@@ -54,7 +54,7 @@ pub record ModeRule : Type 0 where
   -- the walk that skips has exactly the figures of such a run, and reads its NLRIs where they stand
   pub skips : (afi bits : ℕ) (run : List ℕ) (s : Split bits 0 run) → familyBits afi ≡ given bits → AllOctets run → length run ≤ 4096
       → (walkBy afi SKIP run ≡ walkedWith (s .number) (length (s .nlris)) (s .offset) (s .skipped)) × (nlrisBy afi SKIP run ≡ encodings (s .nlris))
-  -- where the walk as it was meets no unknown type, each mode is that walk
+  -- where that walk meets no unknown type, each mode is that walk
   pub agree : (afi mode : ℕ) (run : List ℕ) → walkOf afi run .number ≢ TYPE → (walkBy afi mode run ≡ walkOf afi run) × (nlrisBy afi mode run ≡ nlrisOf afi run)
   -- where the first step refuses otherwise, as it does a bad AFI and a run that is too long, nothing is read or skipped
   pub refuses : (afi mode : ℕ) (run : List ℕ) (n : ℕ) → AllOctets run → StepRefusal afi run 0 n → n ≢ TYPE → walkBy afi mode run ≡ walkedTo n 0 0

@@ -8,7 +8,7 @@ use borrow.Author.Tests.{eqb-true, eq-eqb, ne-eqb}
 use Rattle.octets.specs.Outcome.{given}
 use Rattle.octets.proofs.Choice.{pick-true, pick-false, both-true, either-left, either-true, both-true-left, both-true-right, picked, either-second}
 use Rattle.octets.proofs.Outcome.{given-unless, given-same}
-use Rattle.nlri.specs.Family.{familyBits, allowed, isOriginatorSize}
+use Rattle.nlri.specs.Family.{familyBits, rootFamily, allowed, isOriginatorSize}
 use Rattle.nlri.specs.Statements.{Lengths}
 
 family-exactly : (afi bits : ℕ) → (familyBits afi ≡ given bits) ↔ (((afi ≡ 1) × (bits ≡ 32)) ⊎ ((afi ≡ 2) × (bits ≡ 128)))
@@ -35,8 +35,14 @@ originator-exactly size = (
   λ h. ⊎-elim (λ four. either-left _ _ (eq-eqb size 4 four)) (λ sixteen. either-second _ _ (eq-eqb size 16 sixteen)) h,
 )
 
+root-family : (afi bits : ℕ) → familyBits afi ≡ given bits → rootFamily bits ≡ afi
+unfolding rootFamily
+root-family afi bits e =
+    ⊎-elim (λ one. pick-true _ _ _ (eq-eqb bits 32 (one .1)) ∙ sym (one .0)) (λ two. pick-false _ _ _ (ne-eqb bits 32 (λ z. omega (arith, two .1))) ∙ sym (two .0))
+    (family-exactly afi bits .0 e)
+
 pub lengths : Lengths
-lengths = record { families = family-exactly; addresses = allowed-exactly; originators = originator-exactly }
+lengths = record { families = family-exactly; addresses = allowed-exactly; originators = originator-exactly; roots = root-family }
 
 -- a family is that of AFI 1 or 2
 pub good-family : (afi bits : ℕ) → familyBits afi ≡ given bits → (afi ≡ 1) ⊎ (afi ≡ 2)

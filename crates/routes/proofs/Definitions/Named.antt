@@ -1,4 +1,4 @@
--- What installs name (specs/BookRules.antt, `PremiseRule`).
+-- What installs name (specs/Rules/BookRules.antt, `PremiseRule`).
 use Prim.Native.Nat.{ℕ}
 use mathlib.Core.Path.{_≡_, refl}
 use mathlib.Core.List.{List, [], _∷_}

@@ -1,4 +1,4 @@
--- How arguments are refused, and what is accepted (specs/ArgumentRules.antt).
+-- How arguments are refused, and what is accepted (specs/Rules/ArgumentRules.antt).
 use Prim.Native.Nat.{ℕ, _≤_}
 use mathlib.Core.Path.{_≡_, refl, sym, ap, subst, _∙_}
 use mathlib.Core.Logic.{_↔_, ⊎-elim}

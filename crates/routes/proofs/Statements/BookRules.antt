@@ -1,4 +1,4 @@
--- Owners, the premise, and the books with their image (specs/BookRules.antt).
+-- Owners, the premise, and the books with their image (specs/Rules/BookRules.antt).
 use Prim.Native.Nat.{ℕ, _≤_}
 use mathlib.Core.Path.{_≡_, refl, sym, ap, subst, subst₂, _∙_}
 use mathlib.Core.Bool.{true, false}

@@ -1,4 +1,4 @@
--- What a book answers to a call, and the book after it (specs/BookRules.antt, `BookStep`).
+-- What a book answers to a call, and the book after it (specs/Rules/BookRules.antt, `BookStep`).
 use Prim.Native.Nat.{ℕ}
 use mathlib.Core.Path.{_≡_, refl, sym, ap, _∙_}
 use mathlib.Core.List.{List}

@@ -1,4 +1,4 @@
--- The last accepted install among calls: by a fold over the calls, and by where it stands (specs/LastInstalled.antt).
+-- The last accepted install among calls: by a fold over the calls, and by where it stands (specs/Rules/LastInstalled.antt).
 use Prim.Native.Nat.{ℕ}
 use mathlib.Core.Path.{_≡_, refl, sym, ap, subst, _∙_}
 use mathlib.Core.Bool.{Bool, true, false}

@@ -1,4 +1,4 @@
--- Tables and images (specs/Images.antt).
+-- Tables and images (specs/Rules/Images.antt).
 use Prim.Native.Nat.{ℕ, _+_, _*_, _-_, _≤_, _<_}
 use mathlib.Core.Path.{_≡_, refl, sym, ap, ap₂, _∙_}
 use mathlib.Core.Bool.{true, false}

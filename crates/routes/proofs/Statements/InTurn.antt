@@ -1,4 +1,4 @@
--- Going on by next (specs/NextRule.antt, `InTurnRule`).
+-- Going on by next (specs/Rules/NextRule.antt, `InTurnRule`).
 use Prim.Native.Nat.{ℕ, zero, suc, _≤_, _<_}
 use mathlib.Core.Path.{_≡_, refl, _∙_, ap, subst}
 use mathlib.Core.Bool.{true, false}

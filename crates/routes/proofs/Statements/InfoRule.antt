@@ -1,4 +1,4 @@
--- Info (specs/InfoRule.antt).
+-- Info (specs/Rules/InfoRule.antt).
 use Prim.Native.Nat.{ℕ, _+_, _*_, _≤_}
 use mathlib.Core.Path.{_≡_, sym, _∙_, ap}
 use mathlib.Core.Bool.{true, false}

@@ -1,4 +1,4 @@
--- Install (specs/CallRules.antt, `InstallRule`).
+-- Install (specs/Rules/CallRules.antt, `InstallRule`).
 use Prim.Native.Nat.{ℕ}
 use mathlib.Core.Path.{_≡_, refl, sym, ap, subst, _∙_}
 use mathlib.Core.Bool.{true}

@@ -1,4 +1,4 @@
--- What a table holds after calls (specs/LastInstalled.antt).
+-- What a table holds after calls (specs/Rules/LastInstalled.antt).
 use Prim.Native.Nat.{ℕ}
 use mathlib.Core.Path.{_≡_, refl, sym, ap, ap₂, subst, _∙_}
 use mathlib.Core.Bool.{true}

@@ -1,4 +1,4 @@
--- Making a table (specs/CallRules.antt, `MakeRule`).
+-- Making a table (specs/Rules/CallRules.antt, `MakeRule`).
 use Prim.Native.Nat.{ℕ}
 use mathlib.Core.Path.{_≡_, refl, sym, ap, subst, _∙_}
 use mathlib.Core.Bool.{true}

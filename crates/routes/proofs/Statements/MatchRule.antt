@@ -1,4 +1,4 @@
--- Match (specs/MatchRule.antt): the route that a flow takes, each answer exactly when, and what is told.
+-- Match (specs/Rules/MatchRule.antt): the route that a flow takes, each answer exactly when, and what is told.
 use Prim.Native.Nat.{ℕ, _+_, _-_, _≤_}
 use mathlib.Core.Path.{_≡_, refl, sym, _∙_, ap, subst}
 use mathlib.Core.Bool.{true}

@@ -1,4 +1,4 @@
--- The claim on mixed calls (specs/MixedCalls.antt).
+-- The claim on mixed calls (specs/Rules/MixedCalls.antt).
 use Prim.Native.Nat.{ℕ, _≤_}
 use mathlib.Core.Path.{_≡_, refl, sym, ap, subst₂, _∙_}
 use mathlib.Core.List.{List, [], _∷_, _++_}

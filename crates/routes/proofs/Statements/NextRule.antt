@@ -1,4 +1,4 @@
--- Next (specs/NextRule.antt, `NextRule`): each answer exactly when, and what is told.
+-- Next (specs/Rules/NextRule.antt, `NextRule`): each answer exactly when, and what is told.
 use Prim.Native.Nat.{ℕ, _≤_}
 use mathlib.Core.Path.{_≡_, refl, sym, _∙_, ap, ap₂, subst}
 use mathlib.Core.Bool.{true}

@@ -1,4 +1,4 @@
--- The reasons (specs/ReasonRule.antt): each is true of its tier, and no other is.
+-- The reasons (specs/Rules/ReasonRule.antt): each is true of its tier, and no other is.
 use Prim.Native.Nat.{ℕ, zero, suc, _+_, _<_}
 use mathlib.Core.Path.{_≡_, refl, sym, _∙_, subst}
 use mathlib.Core.Bool.{Bool, true, false}

@@ -1,4 +1,4 @@
--- The match for a shared tree (specs/SharedTreeRule.antt): the route that it takes, each answer exactly when, and what is told.
+-- The match for a shared tree (specs/Rules/SharedTreeRule.antt): the route that it takes, each answer exactly when, and what is told.
 use Prim.Native.Nat.{ℕ}
 use mathlib.Core.Path.{_≡_, refl, sym, subst}
 use mathlib.Core.Bool.{Bool, true, false}

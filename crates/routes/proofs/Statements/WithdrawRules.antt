@@ -1,4 +1,4 @@
--- Withdraw (specs/CallRules.antt, `WithdrawRule`).
+-- Withdraw (specs/Rules/CallRules.antt, `WithdrawRule`).
 use Prim.Native.Nat.{ℕ, suc}
 use mathlib.Core.Path.{_≡_, refl, sym, ap, subst, _∙_}
 use mathlib.Core.Logic.{_≢_, ⊎-elim}

@@ -1,5 +1,5 @@
 -- What a call's arguments and the table's family come to, in document 01's notions ("The numbers a call gives back", "Mixed calls and each
--- router's book"). Stated here, proved in proofs/ArgumentRules.antt.
+-- router's book"). Stated here, proved in proofs/Statements/ArgumentRules.antt.
 use Prim.Native.Nat.{ℕ, _≤_, _<_}
 use mathlib.Core.Path.{_≡_}
 use mathlib.Core.List.{List}

@@ -1,5 +1,5 @@
 -- What routes hold of an NLRI, and what making a table, install and withdraw answer and leave, in document 01's notions ("The numbers a call
--- gives back", "The table memory"). Proved in proofs/Lookups, MakeRules, InstallRules and WithdrawRules; specs/MatchRule.antt is on match.
+-- gives back", "The table memory"). Proved in proofs/Definitions/Lookups and in MakeRules, InstallRules and WithdrawRules of proofs/Statements; MatchRule.antt is on match.
 use Prim.Native.Nat.{ℕ, suc, _+_, _*_, _≤_, _<_}
 use mathlib.Core.Path.{_≡_}
 use mathlib.Core.Bool.{true, false}

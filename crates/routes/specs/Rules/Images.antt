@@ -1,4 +1,4 @@
--- What holds of tables and images (document 01, "The table memory"). Stated here, proved in proofs/Images.antt.
+-- What holds of tables and images (document 01, "The table memory"). Stated here, proved in proofs/Statements/Images.antt.
 use Prim.Native.Nat.{ℕ, _≤_}
 use mathlib.Core.Path.{_≡_}
 use mathlib.Core.Bool.{true}

@@ -1,5 +1,5 @@
 -- What a table holds after calls (document 01, "The table memory"; demand 2: the last accepted install of each NLRI not since withdrawn).
--- Stated here, proved in proofs/LastInstalled.antt.
+-- Stated here, proved in proofs/Statements/LastInstalled.antt.
 use Prim.Native.Nat.{ℕ}
 use mathlib.Core.Path.{_≡_}
 use mathlib.Core.Bool.{true}

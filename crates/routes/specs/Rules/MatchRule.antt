@@ -1,5 +1,5 @@
 -- What holds of match (document 01, "Which route a flow takes"; demand 2: a flow gets the first route in RFC 6625's order, and none only when
--- no route matches). Stated here, proved in proofs/MatchRule.antt.
+-- no route matches). Stated here, proved in proofs/Statements/MatchRule.antt.
 use Prim.Native.Nat.{ℕ, _+_, _≤_, _<_}
 use mathlib.Core.Path.{_≡_}
 use mathlib.Core.Bool.{true, false}

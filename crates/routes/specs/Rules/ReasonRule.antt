@@ -1,5 +1,5 @@
 -- What holds of the reasons (request W-204): what each says of table and flow, and that of a tier no other can be told. Stated here, proved in
--- proofs/ReasonRule.antt.
+-- proofs/Statements/ReasonRule.antt.
 use Prim.Native.Nat.{ℕ, _+_, _<_}
 use mathlib.Core.Path.{_≡_}
 use mathlib.Core.List.{List, [], _∷_}

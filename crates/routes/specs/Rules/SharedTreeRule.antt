@@ -1,5 +1,5 @@
 -- What holds of the match for a shared tree (RFC 6625, section 3.2.2; request W-201), said by what the lent lists hold: the section's conditions,
--- each refusal in its order, and what is chosen and answered. Stated here, proved in proofs/SharedTreeRule.antt.
+-- each refusal in its order, and what is chosen and answered. Stated here, proved in proofs/Statements/SharedTreeRule.antt.
 use Prim.Native.Nat.{ℕ, _≤_, _<_}
 use mathlib.Core.Path.{_≡_}
 use mathlib.Core.Bool.{true}
