@@ -7,15 +7,15 @@ use mathlib.Core.List.{List, _∷_, _++_, append-assoc}
 use native.Mathlib.Omega.{arith}
 use lib.ListN.{length, getD, drop, length-append}
 use lib.Seq.{drop-cons, drop-drop, take-append-seam, drop-append-seam, take-at, drop-at}
-use borrow.Author.Tests.{eqb-true, lt-ltb}
+use borrow.Author.Tests.{eqb-true}
 use Rattle.octets.specs.Choice.{both, either}
 use Rattle.octets.specs.Octets.{AllOctets, one, part, numberIn, bigEndian}
-use Rattle.octets.proofs.Choice.{both-held, either-true, picks}
+use Rattle.octets.proofs.Choice.{both-held, either-true}
 use Rattle.octets.proofs.Lists.{length-part, drop-part}
 use Rattle.octets.proofs.AllOctets.{octet-at, octets-part, octets-append}
 use Rattle.octets.proofs.NetworkOrder.{length-bigEndian, octets-bigEndian, number-of-big-endian, part-number, part-fits}
-use Rattle.fec_elements.specs.Element.{FecFields, encodeFec, Suits, ipv4, ipv6, WellFormedFec}
-use Rattle.fec_elements.specs.Reading.{opaqueStart, opaqueSize, fecSize, frontSize, fecIn, familySuits}
+use Rattle.fec_elements.specs.Fields.{FecFields, encodeFec, Suits, ipv4, ipv6, WellFormedFec}
+use Rattle.fec_elements.specs.Reading.{opaqueStart, opaqueSize, fecSize, fecIn, familySuits}
 
 -- `Suits`, computed
 pub suits-of : (addressFamily size : ℕ) → familySuits addressFamily size ≡ true → Suits addressFamily size
@@ -194,11 +194,7 @@ module _ (f : FecFields) (rest : List ℕ) (w : WellFormedFec f) where
   unfolding front
   encode-fields = fields-front
 
--- the opaque value as the code cuts it, and the size as it tells it
+-- the opaque value as the code cuts it
 pub opaque-cut : (s : List ℕ) (start end : ℕ) → start ≡ opaqueStart s → end ≡ fecSize s → part s start (end - start) ≡ part s (opaqueStart s) (opaqueSize s)
 unfolding fecSize
 opaque-cut s start end p q = let e : end - start ≡ opaqueSize s = omega arith in rw (e, p)
-
-pub front-none : (s : List ℕ) → length s < 4 → 0 ≡ frontSize s
-unfolding frontSize
-front-none s h = picks 0 _ _ _ (lt-ltb (length s) (opaqueStart s) (omega (arith, start-is s))) refl

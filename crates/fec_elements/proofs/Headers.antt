@@ -15,7 +15,7 @@ use Rattle.octets.proofs.Choice.{tested, opposite, is-false, pick-true, pick-fa
 use Rattle.octets.proofs.Lists.{empty-list}
 use Rattle.fec_elements.specs.declared.Standing.{Standing}
 use Rattle.fec_elements.specs.declared.Standing.the-variants.{InBody, Lent, Filling}
-use Rattle.fec_elements.specs.Element.{FecType, p2mp, mp2mpUp, mp2mpDown}
+use Rattle.fec_elements.specs.Fields.{FecType, p2mp, mp2mpUp, mp2mpDown}
 use Rattle.fec_elements.specs.Reading.{opaqueStart, opaqueSize, fecSize, runsOut, mustFill, takesFamily, familySuits, isFecType, lengthFault, rootFault, familyFault, headerFault}
 use Rattle.fec_elements.specs.Statements.{OfFamily, inBody, lent, filling, Followed, anything, nothingLent, nothing, Ended, inside, insideLent, insideFilling, TypeStands, FamilyStands, SizeStands, opaqueLength, HeaderFault, typeEnds, badType, familyEnds, badFamily, sizeEnds, badSize, rootEnds, opaqueEnds, overfull}
 use Rattle.fec_elements.proofs.Fecs.{suits-of, suits-computed, FecTests, start-is, start-in}

@@ -8,7 +8,7 @@ use native.Mathlib.Omega.{arith}
 use lib.Dec.{eqb}
 use lib.ListN.{length, getD, drop}
 use lib.Seq.{drop-append-seam}
-use borrow.Author.Tests.{eqb-true, eqb-false, eq-eqb, ne-eqb, le-ltb}
+use borrow.Author.Tests.{eqb-true, eqb-false, eq-eqb, ne-eqb}
 use Rattle.octets.specs.Choice.{pick}
 use Rattle.octets.specs.Numbers.{DONE, LENGTH, IDENT, DEEP}
 use Rattle.octets.specs.Outcome.{given, refused, numberOf}
@@ -18,9 +18,9 @@ use Rattle.octets.proofs.Outcome.{never, given-same, refused-same}
 use Rattle.octets.proofs.AllOctets.{octets-drop}
 use Rattle.fec_elements.specs.declared.Standing.{Standing}
 use Rattle.fec_elements.specs.declared.Standing.the-variants.{InBody, Lent, Filling}
-use Rattle.fec_elements.specs.Element.{FecFields, encodeFec}
+use Rattle.fec_elements.specs.Fields.{FecFields, encodeFec}
 use Rattle.fec_elements.specs.Nested.{Holder, withOpaque, encodeHolder, Opens, WellFormedHolder, KeptOctets}
-use Rattle.fec_elements.specs.Reading.{opaqueStart, fecSize, frontSize, fecIn, runsOut, lengthFault, rootFault, familyFault, headerFault, opens, heldStart, holdsFec, fecWith, opaqueFault, fecFault, mostDeep, readFec}
+use Rattle.fec_elements.specs.Reading.{opaqueStart, fecSize, fecIn, runsOut, lengthFault, rootFault, familyFault, headerFault, opens, heldStart, holdsFec, fecWith, opaqueFault, fecFault, mostDeep, readFec}
 use Rattle.fec_elements.specs.Statements.{FecAt, HeaderFault, Ended, inside, insideLent, insideFilling, typeEnds, badType, familyEnds, badFamily, sizeEnds, badSize, rootEnds, opaqueEnds, overfull}
 use Rattle.fec_elements.proofs.Fecs.{FecTests, start-in, fields-formed, fields-octets, encode-size, encode-tests, encode-fields}
 use Rattle.fec_elements.proofs.Headers.{fault-told, fault-stands, header-passes, passes-header}
@@ -181,12 +181,11 @@ fault-header : (depth : ℕ) (p : Standing) (s : List ℕ) → fecFault depth p 
 unfolding fecFault fecWith
 fault-header depth p s e = ⊎-elim (λ yes. eqb-true (headerFault p s) DONE (yes .0)) (λ no. no .1) (picked _ _ _ _ e)
 
-pub size-read : (p : Standing) (s : List ℕ) (size : ℕ) → readFec p s ≡ given size → (frontSize s ≡ size) × (size ≤ length s)
-unfolding frontSize
+pub size-read : (p : Standing) (s : List ℕ) (size : ℕ) → readFec p s ≡ given size → (fecSize s ≡ size) × (size ≤ length s) × (opaqueStart s ≤ length s)
 size-read p s size e =
     let q = read-given p s size e in
     let whole = header-passes p s (fault-header mostDeep p s (q .0)) .1 .tests .whole in
-    (pick-false _ _ _ (le-ltb (length s) (opaqueStart s) (start-in s whole)) ∙ q .1, omega (arith, q .1))
+    (q .1, omega (arith, q .1), start-in s whole)
 
 -- the numbers that refuse a FEC
 Told : ℕ → Type 0

@@ -14,7 +14,7 @@ use Rattle.octets.proofs.Choice.{is-false, test-same, both-true, both-held, bot
 use Rattle.octets.proofs.AllOctets.{octet-at}
 use Rattle.octets.proofs.NetworkOrder.{number-two}
 use Rattle.octets.proofs.LowFirst.{low-two, low-then, low-number}
-use Rattle.fec_elements.specs.Element.{Suits, ipv4, ipv6}
+use Rattle.fec_elements.specs.Fields.{Suits, ipv4, ipv6}
 use Rattle.fec_elements.specs.Reading.{opaqueStart, opaqueSize, fecSize, wholeFec, shortFec}
 use Rattle.fec_elements.specs.Inner.{endsFrom}
 use Rattle.fec_elements.proofs.Fecs.{start-is, start-in, size-before}

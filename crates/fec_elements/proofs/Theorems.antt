@@ -10,10 +10,10 @@ use Rattle.octets.specs.Outcome.{given, refused}
 use Rattle.octets.specs.Octets.{AllOctets}
 use Rattle.fec_elements.specs.declared.Standing.{Standing}
 use Rattle.fec_elements.specs.declared.Standing.the-variants.{Lent, Filling}
-use Rattle.fec_elements.specs.Element.{FecFields, encodeFec, WellFormedFec}
+use Rattle.fec_elements.specs.Fields.{FecFields, encodeFec, WellFormedFec}
 use Rattle.fec_elements.specs.Nested.{Element, keeping, holding, headOf, withOpaque, encodeHolder, encodeElement, Opens, WellFormedElement, innermost, around, KeptOctets}
 use Rattle.fec_elements.specs.Reading.{fecSize, fecWith, opaqueFault, fecFault, mostDeep, readFec}
-use Rattle.fec_elements.specs.Statements.{FecRule, OfFamily, lent, filling, Followed, nothing, nothingLent, BeginsFec, FecAt, FirstFault, header, tooDeep, badHolder, held, NestedFecRule}
+use Rattle.fec_elements.specs.Statements.{FecRule, OfFamily, lent, filling, Followed, nothing, nothingLent, BeginsFec, FecAt, FirstFault, NestedFault, header, tooDeep, badHolder, held, NestedFecRule}
 use Rattle.fec_elements.proofs.Fecs.{octets-encode, encode-size}
 use Rattle.fec_elements.proofs.Headers.{filling-rest}
 use Rattle.fec_elements.proofs.Wholes.{whole-fields, whole-encode, fields-encode}
@@ -127,7 +127,7 @@ nested-accepted p s size a = (
   λ x. begins-read p s size (x .0) (x .1) (x .2),
 )
 
-nested-exactly : (p : Standing) (s : List ℕ) (n : ℕ) → AllOctets s → (readFec p s ≡ refused n) ↔ FirstFault 3 p s n
+nested-exactly : (p : Standing) (s : List ℕ) (n : ℕ) → AllOctets s → (readFec p s ≡ refused n) ↔ NestedFault p s n
 nested-exactly p s n a = (
   λ e. let q = read-refused p s n e in judged-fault (q .1) (number-judged p s n a (q .0)),
   λ f. let x = fault-judged f in refused-read p s n (fault-four p s ∙ judged-told (x .0)) (x .1),

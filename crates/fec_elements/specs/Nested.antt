@@ -4,7 +4,7 @@ use mathlib.Core.Path.{_≡_}
 use mathlib.Core.List.{List, [], _∷_, _++_}
 use lib.ListN.{length}
 use Rattle.octets.specs.Octets.{AllOctets, bigEndian}
-use Rattle.fec_elements.specs.Element.{FecFields, encodeFec, WellFormedFec, FecType}
+use Rattle.fec_elements.specs.Fields.{FecFields, encodeFec, WellFormedFec, FecType}
 
 -- what stands in a FEC before its opaque value
 pub record Head : Type 0 where

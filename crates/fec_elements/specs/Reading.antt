@@ -10,7 +10,7 @@ use Rattle.octets.specs.Outcome.{Outcome, given, refused}
 use Rattle.octets.specs.Octets.{part, numberIn}
 use Rattle.fec_elements.specs.declared.Standing.{Standing}
 use Rattle.fec_elements.specs.declared.Standing.the-variants.{InBody, Lent, Filling}
-use Rattle.fec_elements.specs.Element.{FecFields}
+use Rattle.fec_elements.specs.Fields.{FecFields}
 
 -- where the opaque value of the FEC at the front starts: after its header of 4 octets, its root and the opaque length of 2
 unfoldable pub opaqueStart : List ℕ → ℕ
@@ -23,10 +23,6 @@ opaqueSize s = numberIn (part s (4 + getD s 3 0) 2) 0
 -- the octets that the FEC says that it has
 unfoldable pub fecSize : List ℕ → ℕ
 fecSize s = opaqueStart s + opaqueSize s
-
--- the same by lengths that are there; else 0
-unfoldable pub frontSize : List ℕ → ℕ
-frontSize s = pick (ltb (length s) (opaqueStart s)) 0 (fecSize s)
 
 -- the fields of the FEC at the front, where they stand
 unfoldable pub fecIn : List ℕ → FecFields

@@ -10,7 +10,7 @@ use Rattle.octets.specs.Outcome.{given, refused}
 use Rattle.octets.specs.Octets.{AllOctets, part, numberIn}
 use Rattle.fec_elements.specs.declared.Standing.{Standing}
 use Rattle.fec_elements.specs.declared.Standing.the-variants.{InBody, Lent, Filling}
-use Rattle.fec_elements.specs.Element.{FecFields, encodeFec, Suits, WellFormedFec, FecType}
+use Rattle.fec_elements.specs.Fields.{FecFields, encodeFec, Suits, WellFormedFec, FecType}
 use Rattle.fec_elements.specs.Nested.{Head, Holder, Element, headOf, withOpaque, encodeHolder, encodeElement, Opens, WellFormedHolder, WellFormedHead, WellFormedElement, KeptOctets}
 use Rattle.fec_elements.specs.Reading.{fecIn, wholeFec, readFec}
 
@@ -100,6 +100,10 @@ pub data FirstFault : (depth : ℕ) → Standing → List ℕ → ℕ → Type 0
   -- a fault of the FEC held
   held : {depth : ℕ} {p : Standing} {s fec : List ℕ} {n : ℕ} (k : Holder) → WellFormedHolder k → FecAt p s (encodeHolder k fec) → FirstFault depth Filling fec n → FirstFault (suc depth) p s n
 
+-- the same of a FEC inside which FECs may stand three deep, so that four stand in one another
+abbrev pub NestedFault : Standing → List ℕ → ℕ → Type 0
+NestedFault p s n = FirstFault 3 p s n
+
 -- FECs that hold one another, to four deep.
 pub record NestedFecRule : Type 0 where
   -- octets are accepted exactly when they begin with the encoding of FECs at most four deep that stand so, and the size told is that encoding's
@@ -108,7 +112,7 @@ pub record NestedFecRule : Type 0 where
   pub lent : (afi : ℕ) (s : List ℕ) → AllOctets s
       → (readFec (Lent afi) s ≡ given (length s)) ↔ ((depth : ℕ) × (depth ≤ 4) × (e : Element) × WellFormedElement KeptOctets depth e × (headOf e .addressFamily ≡ afi) × (s ≡ encodeElement e))
   -- any others are refused by the number of the first fault from left to right
-  pub exactly : (p : Standing) (s : List ℕ) (n : ℕ) → AllOctets s → (readFec p s ≡ refused n) ↔ FirstFault 3 p s n
+  pub exactly : (p : Standing) (s : List ℕ) (n : ℕ) → AllOctets s → (readFec p s ≡ refused n) ↔ NestedFault p s n
   -- DEEP exactly where four FECs are well-formed but that the opaque value of the fourth opens as one that holds a FEC
   pub deep : (p : Standing) (s : List ℕ) → AllOctets s → (readFec p s ≡ refused DEEP) ↔ ((size : ℕ) × BeginsFec Opens 4 p s size)
   -- there are no other numbers

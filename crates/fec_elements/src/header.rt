@@ -75,11 +75,8 @@ fn length_fault(s: &[u8], standing: Standing) -> u32
     if s.len() < end {
         return runs_out(standing);
     }
-    if end < s.len() {
-        if must_fill(standing) {
-            return IDENT;
-        }
-        return DONE;
+    if end < s.len() && must_fill(standing) {
+        return IDENT;
     }
     DONE
 }

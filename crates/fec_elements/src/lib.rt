@@ -2,7 +2,7 @@
 // request W-207).
 ghost use mathlib.Core.Path.{_≡_};
 ghost use Rattle.octets.specs.Outcome.{numberOf};
-ghost use Rattle.fec_elements.specs.Reading.{frontSize, readFec};
+ghost use Rattle.fec_elements.specs.Reading.{readFec};
 
 mod header;
 mod nested;
@@ -24,17 +24,4 @@ pub fn fault(standing: Standing, octets: &[u8]) -> u32
     ensures { λ r. ⌜ r ≡ numberOf (readFec standing (now (octets .entry))) ⌝ }
 {
     nested::fec_fault(octets, standing, nested::MOST_DEEP)
-}
-
-// The octets that the FEC at the front takes, by its address length and opaque length; 0 where these are not there.
-pub fn size(octets: &[u8]) -> usize
-    ensures { λ r. ⌜ r ≡ frontSize (now (octets .entry)) ⌝ }
-{
-    if octets.len() < shape::FIXED {
-        return 0;
-    }
-    if octets.len() < shape::opaque_start(octets) {
-        return 0;
-    }
-    shape::fec_size(octets)
 }

@@ -70,7 +70,7 @@ fn holds(s: &[u8]) -> bool
     if s.len() < held_start(s) {
         return false;
     }
-    octets::wide::two(s, 1) as usize + 3 == s.len()
+    octets::wide::two(s, 1) as usize + Recursive::START == s.len()
 }
 
 // The FEC that an opaque value holds.

@@ -52,8 +52,8 @@ pub(crate) fn opaque_start(s: &[u8]) -> usize
     s[3] as usize + WITH_LENGTH
 }
 
-// The octets of the FEC at the front.
-pub(crate) fn fec_size(s: &[u8]) -> usize
+// The octets of the FEC at the front, by its address length and opaque length, which are there.
+pub fn fec_size(s: &[u8]) -> usize
     requires { ⌜ opaqueStart (now s) ≤ length (now s) ⌝ }
     ensures { λ r. ⌜ r ≡ fecSize (now (s .entry)) ⌝ }
 {

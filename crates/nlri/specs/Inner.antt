@@ -10,13 +10,13 @@ use Rattle.octets.specs.Choice.{pick, either, both}
 use Rattle.octets.specs.Outcome.{Outcome, given, refused, unless, andThen, numberOf}
 use Rattle.octets.specs.Octets.{part, numberIn}
 use Rattle.octets.specs.declared.Span.{Span}
-use Rattle.fec_elements.specs.Reading.{frontSize}
+use Rattle.fec_elements.specs.Reading.{opaqueStart, fecSize}
 use Rattle.nlri.specs.declared.layout.Layout.{Layout}
 use Rattle.nlri.specs.declared.family.Family.{Family}
 use Rattle.nlri.specs.declared.family.Family.the-variants.{Known, Unknown}
 use Rattle.nlri.specs.declared.read.Header.{Header}
 use Rattle.nlri.specs.declared.read.Header.the-variants.{Typed, Unread}
-use Rattle.nlri.specs.Bodies.{FieldKind, sourceAs, source, group, originator, key, fec, bodies, onBody, bodyOf, hasField}
+use Rattle.nlri.specs.Bodies.{FieldKind, source, group, originator, key, fec, bodies, onBody, bodyOf, hasField}
 use Rattle.nlri.specs.Fields.{Fields}
 use Rattle.nlri.specs.Reading.{fieldSize, sizesOf, keyField}
 use Rattle.nlri.specs.Layouts.{layoutAt}
@@ -57,10 +57,6 @@ afterFlow type = pick (eqb type 3) (originator ∷ []) []
 unfoldable pub afterFec : ℕ → List FieldKind
 afterFec type = pick (eqb type 67) (originator ∷ []) []
 
--- what begins with a key: a key alone, or a Leaf's body
-unfoldable pub keyedKinds : (alone : Bool) → List FieldKind
-keyedKinds alone = key ∷ pick alone [] (originator ∷ [])
-
 -- type and Length of the NLRI at the front of s
 unfoldable pub headerAt : List ℕ → Outcome (ℕ × ℕ)
 headerAt s =
@@ -71,6 +67,10 @@ headerAt s =
 unfoldable pub withKey : ℕ → Bool
 withKey type = either (eqb type 4) (eqb type 68)
 
+-- the types of RFC 7441: 0x43, 0x44 and 0x47
+unfoldable pub isMldp : ℕ → Bool
+isMldp type = either (eqb type 67) (either (eqb type 68) (eqb type 71))
+
 -- whether there is a FEC: in 0x43 and 0x47
 unfoldable pub withFec : ℕ → Bool
 withFec type = either (eqb type 67) (eqb type 71)
@@ -79,9 +79,9 @@ withFec type = either (eqb type 67) (eqb type 71)
 unfoldable pub withSourceAs : ℕ → Bool
 withSourceAs type = either (eqb type 2) (either (eqb type 6) (either (eqb type 7) (eqb type 71)))
 
--- where the octets of a source begin in an NLRI, behind its length octet
+-- where the octets of a source begin in an NLRI, behind its length octet: in types 6 and 7 the source AS stands before that
 unfoldable pub sourceStart : ℕ → ℕ
-sourceStart type = pick (withSourceAs type) 15 11
+sourceStart type = pick (either (eqb type 6) (eqb type 7)) 15 11
 
 -- an address's size by its length octet
 unfoldable pub sizeAt : List ℕ → ℕ → ℕ
@@ -96,9 +96,9 @@ flowLayout type at s =
 unfoldable pub leafLayout : ℕ → List ℕ → Layout
 leafLayout type s = layoutWith type (getD s 1 0) 0 0 (getD s 1 0 - (2 + getD s 3 0)) (2 + getD s 3 0) 0
 
--- where a FEC starts in an NLRI
+-- where a FEC starts in an NLRI: in 0x47 behind the source AS
 unfoldable pub fecStart : ℕ → ℕ
-fecStart type = sourceStart type - 1
+fecStart type = pick (eqb type 71) 14 10
 
 -- the octets of the NLRI from there on
 unfoldable pub fromFec : ℕ → List ℕ → List ℕ
@@ -106,15 +106,19 @@ fromFec type s = part s (fecStart type) (2 + getD s 1 0 - fecStart type)
 
 -- the layout of an accepted NLRI with a FEC by its octets
 unfoldable pub fecLayout : ℕ → List ℕ → Layout
-fecLayout type s = layoutWith type (getD s 1 0) 0 0 (2 + getD s 1 0 - fecStart type - frontSize (fromFec type s)) 0 (frontSize (fromFec type s))
+fecLayout type s = layoutWith type (getD s 1 0) 0 0 (2 + getD s 1 0 - fecStart type - fecSize (fromFec type s)) 0 (fecSize (fromFec type s))
+
+-- the layout of an accepted NLRI of a type above 7
+unfoldable pub mldpLayout : ℕ → List ℕ → Layout
+mldpLayout type s = pick (eqb type 68) (leafLayout type s) (fecLayout type s)
 
 -- the layout of an accepted NLRI by its octets
 unfoldable pub layoutIn : List ℕ → Layout
 layoutIn s =
     pick (eqb (getD s 0 0) 1) (layoutWith 1 (getD s 1 0) 0 0 (getD s 1 0 - 8) 0 0)
     (pick (eqb (getD s 0 0) 2) (layoutWith 2 (getD s 1 0) 0 0 0 0 0)
-    (pick (withKey (getD s 0 0)) (leafLayout (getD s 0 0) s)
-    (pick (withFec (getD s 0 0)) (fecLayout (getD s 0 0) s) (flowLayout (getD s 0 0) (sourceStart (getD s 0 0) - 1) s))))
+    (pick (eqb (getD s 0 0) 4) (leafLayout 4 s)
+    (pick (ltb 7 (getD s 0 0)) (mldpLayout (getD s 0 0) s) (flowLayout (getD s 0 0) (sourceStart (getD s 0 0) - 1) s))))
 
 -- source and group lie within the body
 pub record FlowStands (at : ℕ) (s : List ℕ) : Type 0 where
@@ -125,15 +129,25 @@ pub record FlowStands (at : ℕ) (s : List ℕ) : Type 0 where
 pub record FecStands (type : ℕ) (s : List ℕ) : Type 0 where
   pub body : 2 + getD s 1 0 ≤ length s
   pub start : fecStart type ≤ 2 + getD s 1 0
-  pub sizes : frontSize (fromFec type s) ≤ 2 + getD s 1 0 - fecStart type
+  pub opaque : opaqueStart (fromFec type s) ≤ length (fromFec type s)
+  pub sizes : fecSize (fromFec type s) ≤ 2 + getD s 1 0 - fecStart type
+
+-- a key lies within the body, and its header within the octets
+abbrev pub KeyStands : List ℕ → Type 0
+KeyStands s = (4 ≤ length s) × (2 + getD s 3 0 ≤ getD s 1 0)
+
+-- the key or FEC of an NLRI of a type above 7
+pub record MldpStands (type : ℕ) (s : List ℕ) : Type 0 where
+  pub leaf : type ≡ 68 → KeyStands s
+  pub fec : (type ≡ 68 → ⊥) → FecStands type s
 
 -- the octets that a layout goes by stand there
 pub record Stands (s : List ℕ) : Type 0 where
   pub header : 2 ≤ length s
   pub intraAs : getD s 0 0 ≡ 1 → 8 ≤ getD s 1 0
-  pub leaf : withKey (getD s 0 0) ≡ true → (4 ≤ length s) × (2 + getD s 3 0 ≤ getD s 1 0)
-  pub fec : withFec (getD s 0 0) ≡ true → FecStands (getD s 0 0) s
-  pub flow : (getD s 0 0 ≡ 1 → ⊥) → (getD s 0 0 ≡ 2 → ⊥) → withKey (getD s 0 0) ≡ false → withFec (getD s 0 0) ≡ false → FlowStands (sourceStart (getD s 0 0) - 1) s
+  pub leaf : getD s 0 0 ≡ 4 → KeyStands s
+  pub mldp : 7 < getD s 0 0 → MldpStands (getD s 0 0) s
+  pub flow : (getD s 0 0 ≡ 1 → ⊥) → (getD s 0 0 ≡ 2 → ⊥) → (getD s 0 0 ≡ 4 → ⊥) → getD s 0 0 ≤ 7 → FlowStands (sourceStart (getD s 0 0) - 1) s
 
 -- the route distinguisher of an NLRI; one with a key has none
 unfoldable pub distinguisherAt : ℕ → List ℕ → List ℕ
@@ -173,19 +187,14 @@ pub record LayoutWithin (l : Layout) (s : List ℕ) : Type 0 where
   pub source : (l .source ≤ 16) × (0 < l .source → sourceStart (l .«route_type») + l .source ≤ length s)
   pub group : (l .group ≤ 16) × (0 < l .group → sourceStart (l .«route_type») + l .source + 1 + l .group ≤ length s)
   pub originator : (l .originator ≤ 16) × (l .originator ≤ length s)
-  pub sourceAsKind : hasField sourceAs (bodyOf (l .«route_type»)) ≡ withSourceAs (l .«route_type»)
   pub fecKind : hasField fec (bodyOf (l .«route_type»)) ≡ withFec (l .«route_type»)
   pub fecEnd : 0 < l .fec → fecStart (l .«route_type») + l .fec ≤ length s
   pub keyKind : hasField key (bodyOf (l .«route_type»)) ≡ withKey (l .«route_type»)
   pub key : 2 + l .key ≤ length s
 
--- nothing stands behind the NLRI
-unfoldable pub endsWith : Layout → List ℕ → Outcome Layout
-endsWith l s = unless (eqb (length s - 2) (l .length)) LENGTH (given l)
-
--- a single NLRI's layout by the layout at its front
+-- a single NLRI's layout by the layout at its front: nothing stands behind it
 unfoldable pub single : ℕ → List ℕ → Outcome Layout
-single bits s = andThen (layoutAt bits s) (λ l. endsWith l s)
+single bits s = andThen (layoutAt bits s) (λ l. unless (eqb (length s - 2) (l .length)) LENGTH (given l))
 
 -- a single NLRI of type 3 by its octets: the header, then source, group and what remains
 unfoldable pub sPmsiUnder : ℕ → List ℕ → Bool

@@ -6,7 +6,7 @@ use mathlib.Core.List.{List, [], _∷_, _++_}
 use lib.ListN.{length}
 use lib.Dec.{ltb, eqb}
 use Rattle.octets.specs.Numbers.{DONE, TYPE, WIDTH, KEY, LONG, SPACE}
-use Rattle.octets.specs.Choice.{pick, either}
+use Rattle.octets.specs.Choice.{pick}
 use Rattle.octets.specs.Outcome.{Outcome, given, refused, unless, andThen, numberOf}
 use Rattle.fec_elements.specs.declared.Standing.the-variants.{Lent}
 use Rattle.fec_elements.specs.Reading.{readFec}
@@ -14,12 +14,8 @@ use Rattle.nlri.specs.declared.fields.Nlri.{Nlri}
 use Rattle.nlri.specs.Family.{rootFamily, isOriginatorSize}
 use Rattle.nlri.specs.Writing.{isKey}
 use Rattle.nlri.specs.Answers.{addressOctets}
-use Rattle.nlri.specs.Inner.{withSourceAs}
+use Rattle.nlri.specs.Inner.{withSourceAs, isMldp}
 use Rattle.nlri.specs.InnerWriting.{sourceAsOctets, AddressSize, writtenToSeven}
-
--- 0x43, 0x44 and 0x47
-unfoldable pub isMldp : ℕ → Bool
-isMldp type = either (eqb type 67) (either (eqb type 68) (eqb type 71))
 
 -- an originator has 4 or 16 octets, where the type has one: all but 0x47
 unfoldable pub mldpOriginatorFits : (type size : ℕ) → Bool
@@ -42,12 +38,12 @@ unfoldable pub lentSize : (type key fec : ℕ) → ℕ
 lentSize type key fec = pick (eqb type 68) key fec
 
 -- the octets of the originator
-unfoldable pub mldpOriginatorSize : (type size : ℕ) → ℕ
-mldpOriginatorSize type size = pick (eqb type 71) 0 size
+unfoldable pub mldpOriginatorLength : (type size : ℕ) → ℕ
+mldpOriginatorLength type size = pick (eqb type 71) 0 size
 
 -- the octets of the body
-unfoldable pub mldpSize : Nlri → (key fec : ℕ) → ℕ
-mldpSize nlri key fec = mldpFixedSize (nlri .«route_type») + lentSize (nlri .«route_type») key fec + mldpOriginatorSize (nlri .«route_type») (nlri .originator .size)
+unfoldable pub mldpBodySize : Nlri → (key fec : ℕ) → ℕ
+mldpBodySize nlri key fec = mldpFixedSize (nlri .«route_type») + lentSize (nlri .«route_type») key fec + mldpOriginatorLength (nlri .«route_type») (nlri .originator .size)
 
 -- an NLRI whose fields fit: TYPE, WIDTH, IDENT and DEEP, LONG, KEY
 unfoldable pub mldpFitting : ℕ → Nlri → (key fec : List ℕ) → Outcome Nlri
@@ -55,7 +51,7 @@ mldpFitting bits nlri key fec =
     unless (isMldp (nlri .«route_type»)) TYPE
     (unless (mldpOriginatorFits (nlri .«route_type») (nlri .originator .size)) WIDTH
     (unless (eqb (mldpFecNumber bits (nlri .«route_type») fec) DONE) (mldpFecNumber bits (nlri .«route_type») fec)
-    (pick (ltb 255 (mldpSize nlri (length key) (length fec))) (refused LONG)
+    (pick (ltb 255 (mldpBodySize nlri (length key) (length fec))) (refused LONG)
     (unless (mldpKeyFits bits (nlri .«route_type») key) KEY
     (given nlri)))))
 
@@ -90,7 +86,7 @@ pub record MldpPutting (nlri : Nlri) (key fec : List ℕ) (size : ℕ) (output :
 unfoldable pub mldpWritten : ℕ → Nlri → (key fec : List ℕ) → (space : ℕ) → Outcome (List ℕ)
 mldpWritten bits nlri key fec space =
     andThen (mldpFitting bits nlri key fec)
-    (λ fits. pick (ltb space (2 + mldpSize fits (length key) (length fec))) (refused SPACE)
+    (λ fits. pick (ltb space (2 + mldpBodySize fits (length key) (length fec))) (refused SPACE)
     (given (mldpOctets fits key fec)))
 
 -- the octets written under a family, of every type

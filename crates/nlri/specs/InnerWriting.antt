@@ -36,15 +36,14 @@ originatorFits type size = pick (hasOriginator type) (isOriginatorSize size) tru
 unfoldable pub leafFits : (bits type : ℕ) → List ℕ → Bool
 leafFits bits type key = pick (eqb type 4) (isKey bits 4 key) true
 
--- an NLRI whose fields fit: TYPE, WIDTH, KEY
+-- an NLRI of a type up to 7 whose fields fit: TYPE, WIDTH, KEY
 unfoldable pub fitting : ℕ → Nlri → List ℕ → Outcome Nlri
 fitting bits nlri key =
     pick (ltb (nlri .«route_type») 1) (refused TYPE)
-    (pick (ltb 7 (nlri .«route_type»)) (refused TYPE)
     (unless (flowFits bits (nlri .«route_type») (nlri .source .size) (nlri .group .size)) WIDTH
     (unless (originatorFits (nlri .«route_type») (nlri .originator .size)) WIDTH
     (unless (leafFits bits (nlri .«route_type») key) KEY
-    (given nlri)))))
+    (given nlri))))
 
 -- the octets before source and group: of the key, or of the route distinguisher with a source AS
 unfoldable pub fixedSize : (type key : ℕ) → ℕ

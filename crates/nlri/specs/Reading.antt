@@ -4,7 +4,7 @@ use mathlib.Core.Bool.{Bool, false}
 use mathlib.Core.List.{List, [], _∷_}
 use lib.ListN.{length, getD, take, drop}
 use lib.Dec.{ltb, leb, eqb}
-use Rattle.octets.specs.Numbers.{SHORT, TYPE, LENGTH, WIDTH, KEY}
+use Rattle.octets.specs.Numbers.{SHORT, TYPE, LENGTH, WIDTH, KEY, KIND}
 use Rattle.octets.specs.Choice.{pick}
 use Rattle.octets.specs.Outcome.{Outcome, given, refused, onOutcome, unless, andThen}
 use Rattle.octets.specs.Octets.{part, numberIn}
@@ -105,6 +105,10 @@ laidSingle bits s = andThen (laidAt bits s) (λ laid. unless (eqb (length s - 2)
 -- the fields of a single NLRI; FAMILY first
 unfoldable pub readNlri : ℕ → List ℕ → Outcome Fields
 readNlri afi s = andThen (familyBits afi) (λ bits. andThen (laidSingle bits s) (λ laid. given (fieldsOf laid s)))
+
+-- the fields of a single NLRI of one type: NLRI reading, then KIND for any other type
+abbrev pub readOfType : (type afi : ℕ) → List ℕ → Outcome Fields
+readOfType type afi s = andThen (readNlri afi s) (λ f. unless (eqb (f .type) type) KIND (given f))
 
 -- whether octets are a single NLRI of type 3
 unfoldable pub isSPmsi : ℕ → List ℕ → Bool

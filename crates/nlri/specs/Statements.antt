@@ -9,7 +9,7 @@ use Rattle.octets.specs.Numbers.{DONE, SHORT, TYPE, LENGTH, WIDTH, KEY, IDENT, 
 use Rattle.octets.specs.Outcome.{given, refused}
 use Rattle.octets.specs.Octets.{AllOctets, part}
 use Rattle.fec_elements.specs.declared.Standing.the-variants.{InBody, Lent}
-use Rattle.fec_elements.specs.Statements.{FirstFault}
+use Rattle.fec_elements.specs.Statements.{NestedFault}
 use Rattle.nlri.specs.Family.{familyBits, rootFamily, allowed, isOriginatorSize}
 use Rattle.nlri.specs.Bodies.{FieldKind, distinguisher, sourceAs, source, group, originator, key, fec, KnownType, bodyOf, hasField}
 use Rattle.nlri.specs.Fields.{Fields, encodeBody, encodeNlri, FecOf, WellFormed, KeyOf, restricted}
@@ -129,7 +129,7 @@ Fault bits type source s n = AddressFault bits type s n
 Fault bits type group s n = AddressFault bits type s n
 Fault bits type originator s n = (isOriginatorSize (length s) ≡ false) × (n ≡ LENGTH)
 Fault bits type key s n = ((size : ℕ) → size ≤ length s → KeyOf bits type (take size s) → ⊥) × (n ≡ KEY)
-Fault bits type fec s n = FirstFault 3 (InBody (rootFamily bits)) s n
+Fault bits type fec s n = NestedFault (InBody (rootFamily bits)) s n
 
 -- the first fault of a body from left to right: octets remain after its last field, its first field faults, or its first field stands and a later one faults
 pub data Faulty (bits type : ℕ) : List FieldKind → List ℕ → ℕ → Type 0 where
@@ -157,9 +157,9 @@ pub data ReadRefusal (afi : ℕ) (s : List ℕ) : ℕ → Type 0 where
 abbrev pub BodyFault : ℕ → Type 0
 BodyFault n = (n ≡ LENGTH) ⊎ (n ≡ WIDTH) ⊎ (n ≡ KEY) ⊎ (n ≡ IDENT) ⊎ (n ≡ DEEP)
 
--- "The numbers a call gives back", at NLRI reading: every list of octets is accepted or refused by one number, each given exactly when document 01 says
+-- "The numbers a call gives back", at NLRI reading: every list of octets is accepted or refused by one number, each given exactly when document 01 and W-207 say
 pub record ReadRefusals : Type 0 where
-  -- each number exactly when document 01 says
+  -- each number exactly when document 01 and W-207 say
   pub exactly : (afi : ℕ) (s : List ℕ) (n : ℕ) → AllOctets s → (readNlri afi s ≡ refused n) ↔ ReadRefusal afi s n
   -- the NLRI at the front of octets, whatever stands after it
   pub front : (afi bits : ℕ) (s : List ℕ) (n : ℕ) → familyBits afi ≡ given bits → AllOctets s → (laidAt bits s ≡ refused n) ↔ FrontRefusal bits s n
@@ -219,7 +219,7 @@ pub data WriteRefusal (afi : ℕ) (f : Fields) (space : ℕ) : ℕ → Type 0 wh
   badFamily : afi ≢ 1 → afi ≢ 2 → WriteRefusal afi f space FAMILY
   badType : (bits : ℕ) → familyBits afi ≡ given bits → (KnownType (f .type) → ⊥) → WriteRefusal afi f space TYPE
   badWidth : (bits : ℕ) → familyBits afi ≡ given bits → KnownType (f .type) → (k : FieldKind) → hasField k (bodyOf (f .type)) ≡ true → WidthFault bits f k → WriteRefusal afi f space WIDTH
-  badFec : (bits : ℕ) {n : ℕ} → familyBits afi ≡ given bits → KnownType (f .type) → WidthsFit bits f → hasField fec (bodyOf (f .type)) ≡ true → FirstFault 3 (Lent (rootFamily bits)) (f .fec) n
+  badFec : (bits : ℕ) {n : ℕ} → familyBits afi ≡ given bits → KnownType (f .type) → WidthsFit bits f → hasField fec (bodyOf (f .type)) ≡ true → NestedFault (Lent (rootFamily bits)) (f .fec) n
       → WriteRefusal afi f space n
   long : (bits : ℕ) → familyBits afi ≡ given bits → KnownType (f .type) → WidthsFit bits f → FecFits bits f → TooLong f → WriteRefusal afi f space LONG
   badKey : (bits : ℕ) → familyBits afi ≡ given bits → KnownType (f .type) → WidthsFit bits f → FecFits bits f → (TooLong f → ⊥)
@@ -228,7 +228,7 @@ pub data WriteRefusal (afi : ℕ) (f : Fields) (space : ℕ) : ℕ → Type 0 wh
 
 -- "The numbers a call gives back", at NLRI writing: well-formed fields are written where there is space, and any others are refused by one number
 pub record WriteRefusals : Type 0 where
-  -- each number exactly when document 01 says
+  -- each number exactly when document 01 and W-207 say
   pub exactly : (afi : ℕ) (f : Fields) (space n : ℕ) → HoldsOctets f → (writeNlri afi f space ≡ refused n) ↔ WriteRefusal afi f space n
   -- the octets given are the encoding, exactly when the fields are well-formed and it fits
   pub accepted : (afi : ℕ) (f : Fields) (space : ℕ) (e : List ℕ) → HoldsOctets f

@@ -55,7 +55,7 @@ pub(crate) fn originator_fault(at: usize, size: usize) -> u32
 }
 
 // Nothing stands from `at` on.
-pub(crate) fn end_fault(at: usize, size: usize) -> u32
+fn end_fault(at: usize, size: usize) -> u32
     ensures { λ r. ⌜ ((bits type : ℕ) (s : List ℕ) → length s ≡ size → r ≡ leftFault bits type [] at s) ⌝ }
 {
     if size == at {

@@ -54,7 +54,7 @@ fn address_at(s: &[u8], start: usize, size: usize) -> Address
 }
 
 // A Leaf, of either kind, has a key, straight after the header, and no route distinguisher.
-pub(crate) fn has_key(route_type: usize) -> bool
+fn has_key(route_type: usize) -> bool
     ensures { λ r. ⌜ r ≡ withKey «route_type» ⌝ }
 {
     if route_type == RouteType::LEAF {
@@ -64,7 +64,7 @@ pub(crate) fn has_key(route_type: usize) -> bool
 }
 
 // Types 0x43 and 0x47 have a FEC.
-pub(crate) fn has_fec(route_type: usize) -> bool
+fn has_fec(route_type: usize) -> bool
     ensures { λ r. ⌜ r ≡ withFec «route_type» ⌝ }
 {
     if route_type == RouteType::MLDP_S_PMSI {
@@ -89,21 +89,27 @@ fn distinguisher_in(route_type: usize, s: &[u8]) -> RouteDistinguisher
     RouteDistinguisher { octets }
 }
 
-// Where the octets of a source begin, behind its length octet.
+// Where the octets of a source begin, behind its length octet: in types 6 and 7 the source AS stands before that.
 pub(crate) fn source_start(route_type: usize) -> usize
     ensures { λ r. ⌜ r ≡ sourceStart «route_type» ⌝ }
 {
-    if has_source_as(route_type) {
+    if route_type == RouteType::SHARED_TREE_JOIN {
+        return HEADER + RouteDistinguisher::WITH_SOURCE_AS + 1;
+    }
+    if route_type == RouteType::SOURCE_TREE_JOIN {
         return HEADER + RouteDistinguisher::WITH_SOURCE_AS + 1;
     }
     HEADER + RouteDistinguisher::OCTETS + 1
 }
 
-// Where a FEC starts: where the source's length octet stands in other types.
+// Where a FEC starts: in 0x47 behind the source AS.
 pub(crate) fn fec_start(route_type: usize) -> usize
     ensures { λ r. ⌜ r ≡ fecStart «route_type» ⌝ }
 {
-    source_start(route_type) - 1
+    if route_type == RouteType::MLDP_SOURCE_TREE_JOIN {
+        return HEADER + RouteDistinguisher::WITH_SOURCE_AS;
+    }
+    HEADER + RouteDistinguisher::OCTETS
 }
 
 // Types 2, 6, 7 and 0x47 have a source AS, behind the route distinguisher.

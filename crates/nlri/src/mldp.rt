@@ -1,12 +1,13 @@
 // The route types of RFC 7441, read (W-207): bodies with an mLDP FEC element, and the Leaf whose key is such an NLRI. They are judged apart and
 // last, so that those of RFC 6514 need no test for them.
 ghost use mathlib.Core.Path.{_≡_};
+ghost use mathlib.Core.Bool.{true};
 ghost use mathlib.Core.List.{List, _∷_};
 ghost use Prim.Native.Nat.{ℕ, _+_, _<_};
 ghost use lib.ListN.{length};
 ghost use Rattle.nlri.specs.Bodies.{fec};
 ghost use Rattle.nlri.specs.Reading.{keyField};
-ghost use Rattle.nlri.specs.Inner.{keyOutcome, leftFault, bodyFault, afterFec, keyedKinds, fecLayout, FecStands};
+ghost use Rattle.nlri.specs.Inner.{keyOutcome, leftFault, bodyFault, afterFec, isMldp, fecLayout, mldpLayout, FecStands, MldpStands};
 use crate::address::AddressKind;
 use crate::address::RouteDistinguisher;
 use crate::body;
@@ -17,10 +18,10 @@ use crate::read::HEADER;
 use crate::read::Header;
 use crate::route::RouteType;
 use fec_elements::Standing;
+use fec_elements::shape;
 use octets::number::DONE;
 use octets::number::KEY;
 use octets::number::LENGTH;
-use octets::number::TYPE;
 
 // What the octets that are left behind a FEC are: in 0x43 the originator, else nothing.
 fn fec_end_fault(route_type: usize, left: usize) -> u32
@@ -50,26 +51,36 @@ fn fec_fault(kind: AddressKind, route_type: usize, at: usize, s: &[u8]) -> u32
     if fault != DONE {
         return fault;
     }
-    fec_end_fault(route_type, rest.len() - fec_elements::size(rest))
+    fec_end_fault(route_type, rest.len() - shape::fec_size(rest))
+}
+
+// The types of RFC 7441.
+pub(crate) fn is_mldp(route_type: usize) -> bool
+    ensures { λ r. ⌜ r ≡ isMldp «route_type» ⌝ }
+{
+    if route_type == RouteType::MLDP_S_PMSI {
+        return true;
+    }
+    if route_type == RouteType::MLDP_LEAF {
+        return true;
+    }
+    route_type == RouteType::MLDP_SOURCE_TREE_JOIN
 }
 
 // A body with a FEC, behind a route distinguisher and, in 0x47, a source AS.
 fn fec_body_fault(kind: AddressKind, route_type: usize, s: &[u8]) -> u32
-    requires { ⌜ (7 < «route_type») × («route_type» ≡ 68 → ⊥) ⌝ }
+    requires { ⌜ (isMldp «route_type» ≡ true) × («route_type» ≡ 68 → ⊥) ⌝ }
     ensures { λ r. ⌜ r ≡ bodyFault (kind .bits) «route_type» (now (s .entry)) ⌝ }
 {
     if route_type == RouteType::MLDP_S_PMSI {
         return fec_fault(kind, RouteType::MLDP_S_PMSI, RouteDistinguisher::OCTETS, s);
     }
-    if route_type == RouteType::MLDP_SOURCE_TREE_JOIN {
-        return fec_fault(
-            kind,
-            RouteType::MLDP_SOURCE_TREE_JOIN,
-            RouteDistinguisher::WITH_SOURCE_AS,
-            s,
-        );
-    }
-    TYPE
+    fec_fault(
+        kind,
+        RouteType::MLDP_SOURCE_TREE_JOIN,
+        RouteDistinguisher::WITH_SOURCE_AS,
+        s,
+    )
 }
 
 // The key of a 0x44 at the front of `s`, a whole NLRI of type 0x43: its type and Length, or a number that refuses it.
@@ -97,38 +108,38 @@ fn read_key(kind: AddressKind, s: &[u8]) -> Header
     }
 }
 
-// What begins with such a key: a key alone, or a body of 0x44, where an originator follows the key. Any fault inside the key is KEY.
-pub(crate) fn keyed_fault(kind: AddressKind, alone: bool, s: &[u8]) -> u32
-    ensures { λ r. ⌜ r ≡ leftFault (kind .bits) 68 (keyedKinds alone) 0 (now (s .entry)) ⌝ }
+// A body of 0x44: such a key, then an originator. Any fault inside the key is KEY.
+fn leaf_body_fault(kind: AddressKind, s: &[u8]) -> u32
+    ensures { λ r. ⌜ r ≡ bodyFault (kind .bits) 68 (now (s .entry)) ⌝ }
 {
+    // a part handed on, so that the slice reaches this function in registers
     let Header::Typed(_, length) = read_key(kind, &s[0..]) else {
         return KEY;
     };
-    if alone {
-        return body::end_fault(HEADER + length, s.len());
-    }
     body::originator_fault(HEADER + length, s.len())
 }
 
-// A body of a type above 7.
+// A body of one of these types.
 pub(crate) fn body_fault(kind: AddressKind, route_type: usize, s: &[u8]) -> u32
-    requires { ⌜ 7 < «route_type» ⌝ }
+    requires { ⌜ isMldp «route_type» ≡ true ⌝ }
     ensures { λ r. ⌜ r ≡ bodyFault (kind .bits) «route_type» (now (s .entry)) ⌝ }
 {
+    // a part handed on, so that the slice reaches this function in registers
+    let body = &s[0..];
     if route_type == RouteType::MLDP_LEAF {
-        return keyed_fault(kind, false, s);
+        return leaf_body_fault(kind, body);
     }
-    fec_body_fault(kind, route_type, s)
+    fec_body_fault(kind, route_type, body)
 }
 
 // The layout of an NLRI with a FEC, by its Length and the lengths in the FEC.
-pub(crate) fn layout(route_type: usize, s: &[u8]) -> Layout
+fn fec_layout(route_type: usize, s: &[u8]) -> Layout
     requires { ⌜ FecStands «route_type» (now s) ⌝ }
     ensures { λ r. ⌜ r ≡ fecLayout «route_type» (now (s .entry)) ⌝ }
 {
     let length = s[1] as usize;
     let left = HEADER + length - fields::fec_start(route_type);
-    let fec = fec_elements::size(octets::parts::between(s, fields::fec_start(route_type), left));
+    let fec = shape::fec_size(octets::parts::between(s, fields::fec_start(route_type), left));
     Layout {
         route_type,
         length,
@@ -138,4 +149,15 @@ pub(crate) fn layout(route_type: usize, s: &[u8]) -> Layout
         key: 0,
         fec,
     }
+}
+
+// The layout of an NLRI of one of these types.
+pub(crate) fn layout(route_type: usize, s: &[u8]) -> Layout
+    requires { ⌜ MldpStands «route_type» (now s) ⌝ }
+    ensures { λ r. ⌜ r ≡ mldpLayout «route_type» (now (s .entry)) ⌝ }
+{
+    if route_type == RouteType::MLDP_LEAF {
+        return read::leaf_layout(route_type, s);
+    }
+    fec_layout(route_type, s)
 }

@@ -1,6 +1,5 @@
 // The route types of RFC 7441, written (W-207): TYPE, WIDTH, IDENT and DEEP, LONG, KEY, SPACE. Fields that the route type lacks are not looked at.
 ghost use mathlib.Core.Path.{_≡_};
-ghost use mathlib.Core.Logic.{_⊎_};
 ghost use Prim.Native.Nat.{_+_, _≤_};
 ghost use lib.Dec.{ltb};
 ghost use lib.ListN.{length};
@@ -8,14 +7,16 @@ ghost use Rattle.octets.specs.Outcome.{given, numberOf};
 ghost use Rattle.octets.specs.Outputs.{Put, Wrote};
 ghost use Rattle.nlri.specs.Writing.{isKey};
 ghost use Rattle.nlri.specs.InnerWriting.{AddressSize};
-ghost use Rattle.nlri.specs.InnerMldp.{isMldp, mldpOriginatorFits, mldpFecNumber, mldpKeyFits, mldpFixedSize, lentSize, mldpOriginatorSize, mldpSize, mldpFitting, mldpFixed, lentOctets, mldpOriginator, mldpBody, mldpOctets, MldpPutting, mldpWritten};
+ghost use Rattle.nlri.specs.InnerMldp.{mldpOriginatorFits, mldpFecNumber, mldpKeyFits, mldpFixedSize, lentSize, mldpOriginatorLength, mldpBodySize, mldpFitting, mldpFixed, lentOctets, mldpOriginator, mldpBody, mldpOctets, MldpPutting, mldpWritten};
 use crate::address::AddressKind;
 use crate::address::RouteDistinguisher;
 use crate::body;
 use crate::fields;
 use crate::fields::Nlri;
 use crate::mldp;
+use crate::read;
 use crate::read::HEADER;
+use crate::read::Header;
 use crate::route::RouteType;
 use crate::write;
 use fec_elements::Standing;
@@ -29,19 +30,6 @@ use octets::number::WIDTH;
 
 // The most octets of a body: its Length is one octet.
 const MOST: usize = 255;
-
-// Types 0x43, 0x44 and 0x47.
-fn is_mldp(route_type: usize) -> bool
-    ensures { λ r. ⌜ r ≡ isMldp «route_type» ⌝ }
-{
-    if route_type == RouteType::MLDP_S_PMSI {
-        return true;
-    }
-    if route_type == RouteType::MLDP_LEAF {
-        return true;
-    }
-    route_type == RouteType::MLDP_SOURCE_TREE_JOIN
-}
 
 // An originator has 4 or 16 octets, where the type has one.
 fn originator_fits(route_type: usize, size: usize) -> bool
@@ -73,11 +61,22 @@ fn key_fits(kind: AddressKind, route_type: usize, key: &[u8]) -> bool
     true
 }
 
-// Octets that are exactly one key, judged as a key is when it is read.
+// Octets that are exactly one key, a whole NLRI of type 0x43. Its body is judged by a call of its own, so that this judge, with two callers,
+// is compiled into neither (docs/DECISIONS.md, "Speed").
 fn is_key(kind: AddressKind, key: &[u8]) -> bool
     ensures { λ r. ⌜ r ≡ isKey (kind .bits) 68 (now (key .entry)) ⌝ }
 {
-    mldp::keyed_fault(kind, true, key) == DONE
+    let Header::Typed(route_type, length) = read::read_header(key) else {
+        return false;
+    };
+    if route_type != RouteType::MLDP_S_PMSI {
+        return false;
+    }
+    let body = octets::parts::between(key, HEADER, length);
+    if mldp::body_fault(kind, route_type, body) != DONE {
+        return false;
+    }
+    HEADER + length == key.len()
 }
 
 // The octets before key or FEC.
@@ -104,8 +103,8 @@ fn lent_size(route_type: usize, key: usize, fec: usize) -> usize
 }
 
 // The octets of the originator.
-fn originator_size(route_type: usize, size: usize) -> usize
-    ensures { λ r. ⌜ r ≡ mldpOriginatorSize «route_type» size ⌝ }
+fn originator_length(route_type: usize, size: usize) -> usize
+    ensures { λ r. ⌜ r ≡ mldpOriginatorLength «route_type» size ⌝ }
 {
     if route_type == RouteType::MLDP_SOURCE_TREE_JOIN {
         return 0;
@@ -114,24 +113,24 @@ fn originator_size(route_type: usize, size: usize) -> usize
 }
 
 // The octets of the body.
-fn size_of(nlri: Nlri, key: usize, fec: usize) -> usize
+fn body_size(nlri: Nlri, key: usize, fec: usize) -> usize
     requires { ⌜ lentSize (nlri .«route_type») key fec ≤ 255 ⌝ }
-    ensures { λ r. ⌜ r ≡ mldpSize nlri key fec ⌝ }
+    ensures { λ r. ⌜ r ≡ mldpBodySize nlri key fec ⌝ }
 {
     let route_type = nlri.route_type as usize;
     let originator = nlri.originator;
     let lent = fixed_size(route_type) + lent_size(route_type, key, fec);
-    lent + originator_size(route_type, originator.size as usize)
+    lent + originator_length(route_type, originator.size as usize)
 }
 
 // A body that its Length cannot tell, by the sizes given.
 fn is_long(nlri: Nlri, key: usize, fec: usize) -> bool
-    ensures { λ r. ⌜ r ≡ ltb 255 (mldpSize nlri key fec) ⌝ }
+    ensures { λ r. ⌜ r ≡ ltb 255 (mldpBodySize nlri key fec) ⌝ }
 {
     if MOST < lent_size(nlri.route_type as usize, key, fec) {
         return true;
     }
-    MOST < size_of(nlri, key, fec)
+    MOST < body_size(nlri, key, fec)
 }
 
 // DONE, or the first of TYPE, WIDTH, IDENT and DEEP, LONG and KEY.
@@ -140,7 +139,7 @@ fn judge(kind: AddressKind, nlri: Nlri, key: &[u8], fec: &[u8]) -> u32
 {
     let route_type = nlri.route_type as usize;
     let originator = nlri.originator;
-    if !is_mldp(route_type) {
+    if !mldp::is_mldp(route_type) {
         return TYPE;
     }
     if !originator_fits(route_type, originator.size as usize) {
@@ -230,7 +229,7 @@ pub(crate) fn write(
     if fault != DONE {
         return Written::refused(fault);
     }
-    let size = size_of(nlri, key.len(), fec.len());
+    let size = body_size(nlri, key.len(), fec.len());
     if output.len() < HEADER + size {
         return Written::refused(SPACE);
     }

@@ -1,11 +1,11 @@
 // Reading an NLRI: header, body, and the key of a Leaf are judged by a number alone, and an accepted NLRI is laid out by its octets.
 ghost use mathlib.Core.Path.{_≡_};
-ghost use Prim.Native.Nat.{_+_, _≤_, _<_};
+ghost use Prim.Native.Nat.{_≤_, _<_};
 ghost use lib.ListN.{length, getD};
 ghost use Rattle.octets.specs.Outcome.{numberOf};
-ghost use Rattle.nlri.specs.Reading.{isSPmsi, keyField};
+ghost use Rattle.nlri.specs.Reading.{isSPmsi, readOfType, keyField};
 ghost use Rattle.nlri.specs.Layouts.{readingOf, layoutAt, layoutSingle};
-ghost use Rattle.nlri.specs.Inner.{headerOutcome, keyOutcome, headerAt, leftFault, bodyFault, keyedKinds, layoutWith, flowLayout, leafLayout, layoutIn, FlowStands, Stands, endsWith, single, sPmsiUnder};
+ghost use Rattle.nlri.specs.Inner.{headerOutcome, keyOutcome, headerAt, bodyFault, layoutWith, flowLayout, leafLayout, layoutIn, FlowStands, KeyStands, Stands, single, sPmsiUnder};
 use crate::address::AddressKind;
 use crate::address::RouteDistinguisher;
 use crate::body;
@@ -17,9 +17,12 @@ use crate::layout::Reading;
 use crate::mldp;
 use crate::route::RouteType;
 use octets::number::DONE;
+use octets::number::FAMILY;
 use octets::number::KEY;
+use octets::number::KIND;
 use octets::number::LENGTH;
 use octets::number::SHORT;
+use octets::number::TYPE;
 
 // Route Type and Length.
 pub const HEADER: usize = 2;
@@ -44,8 +47,9 @@ pub(crate) fn read_header(s: &[u8]) -> Header
     Header::Typed(s[0] as usize, length)
 }
 
-// The key at the front of `s`, a whole NLRI of type 1, 2 or 3: its type and Length, or a number that refuses it.
-fn read_key(kind: AddressKind, s: &[u8]) -> Header
+// The key at the front of `s`, a whole NLRI of type 1, 2 or 3: its type and Length, or a number that refuses it. Reading and writing judge a
+// key by this.
+pub(crate) fn read_key(kind: AddressKind, s: &[u8]) -> Header
     ensures { λ r. ⌜ keyOutcome r ≡ keyField (kind .bits) 4 (now (s .entry)) ⌝ }
 {
     match read_header(s) {
@@ -64,18 +68,14 @@ fn read_key(kind: AddressKind, s: &[u8]) -> Header
     }
 }
 
-// What begins with a key: a key alone, or a Leaf's body, where an originator follows the key. Any fault inside the key is KEY.
-// Reading and writing judge a key by this.
-pub(crate) fn keyed_fault(kind: AddressKind, alone: bool, s: &[u8]) -> u32
-    ensures { λ r. ⌜ r ≡ leftFault (kind .bits) 4 (keyedKinds alone) 0 (now (s .entry)) ⌝ }
+// A Leaf's body: a key, then an originator. Any fault inside the key is KEY.
+fn leaf_body_fault(kind: AddressKind, s: &[u8]) -> u32
+    ensures { λ r. ⌜ r ≡ bodyFault (kind .bits) 4 (now (s .entry)) ⌝ }
 {
     // a part handed on, so that the slice reaches this function in registers
     let Header::Typed(_, length) = read_key(kind, &s[0..]) else {
         return KEY;
     };
-    if alone {
-        return body::end_fault(HEADER + length, s.len());
-    }
     body::originator_fault(HEADER + length, s.len())
 }
 
@@ -84,7 +84,7 @@ fn body_fault(kind: AddressKind, route_type: usize, s: &[u8]) -> u32
     ensures { λ r. ⌜ r ≡ bodyFault (kind .bits) «route_type» (now (s .entry)) ⌝ }
 {
     if route_type == RouteType::LEAF {
-        return keyed_fault(kind, false, s);
+        return leaf_body_fault(kind, s);
     }
     if RouteType::LEAF < route_type {
         return later_body_fault(kind, route_type, s);
@@ -97,10 +97,13 @@ fn later_body_fault(kind: AddressKind, route_type: usize, s: &[u8]) -> u32
     requires { ⌜ 4 < «route_type» ⌝ }
     ensures { λ r. ⌜ r ≡ bodyFault (kind .bits) «route_type» (now (s .entry)) ⌝ }
 {
-    if RouteType::SOURCE_TREE_JOIN < route_type {
-        return mldp::body_fault(kind, route_type, s);
+    if route_type <= RouteType::SOURCE_TREE_JOIN {
+        return body::flow_body_fault(kind, route_type, s);
     }
-    body::flow_body_fault(kind, route_type, s)
+    if !mldp::is_mldp(route_type) {
+        return TYPE;
+    }
+    mldp::body_fault(kind, route_type, s)
 }
 
 // The number of the NLRI at the front of `s`, under the family of a kind of addresses.
@@ -136,8 +139,8 @@ fn flow_layout(route_type: usize, at: usize, s: &[u8]) -> Layout
 }
 
 // The layout of an NLRI with a key, by its Length and that of its key.
-fn leaf_layout(route_type: usize, s: &[u8]) -> Layout
-    requires { ⌜ (4 ≤ length (now s)) × (2 + getD (now s) 3 0 ≤ getD (now s) 1 0) ⌝ }
+pub(crate) fn leaf_layout(route_type: usize, s: &[u8]) -> Layout
+    requires { ⌜ KeyStands (now s) ⌝ }
     ensures { λ r. ⌜ r ≡ leafLayout «route_type» (now (s .entry)) ⌝ }
 {
     let length = s[1] as usize;
@@ -187,10 +190,10 @@ fn layout_in(s: &[u8]) -> Layout
     if route_type == RouteType::INTER_AS_I_PMSI {
         return plain_layout(RouteType::INTER_AS_I_PMSI, 0, s);
     }
-    if fields::has_key(route_type) {
-        return leaf_layout(route_type, s);
+    if route_type == RouteType::LEAF {
+        return leaf_layout(RouteType::LEAF, s);
     }
-    if fields::has_fec(route_type) {
+    if RouteType::SOURCE_TREE_JOIN < route_type {
         return mldp::layout(route_type, s);
     }
     flow_layout(route_type, fields::source_start(route_type) - 1, s)
@@ -207,29 +210,50 @@ pub fn read_front(kind: AddressKind, s: &[u8]) -> Reading
     Reading::Nlri(layout_in(s))
 }
 
-// A single NLRI: octets after it are LENGTH.
+// The number of a single NLRI: octets after it are LENGTH.
+fn single_fault(kind: AddressKind, s: &[u8]) -> u32
+    ensures { λ r. ⌜ r ≡ numberOf (single (kind .bits) (now (s .entry))) ⌝ }
+{
+    let fault = front_fault(kind, s);
+    if fault != DONE {
+        return fault;
+    }
+    if s.len() - HEADER != s[1] as usize {
+        return LENGTH;
+    }
+    DONE
+}
+
+// A single NLRI.
 fn read_single(kind: AddressKind, s: &[u8]) -> Reading
     ensures { λ r. ⌜ readingOf r ≡ single (kind .bits) (now (s .entry)) ⌝ }
 {
-    match read_front(kind, s) {
-        Reading::Refused(number) => Reading::Refused(number),
-        Reading::Nlri(layout) => ends_at(layout, s),
+    let fault = single_fault(kind, s);
+    if fault != DONE {
+        return Reading::Refused(fault);
     }
+    Reading::Nlri(layout_in(s))
 }
 
-// The layout of an NLRI that nothing follows. LENGTH.
-fn ends_at(layout: Layout, s: &[u8]) -> Reading
-    requires { ⌜ 2 ≤ length (now s) ⌝ }
-    ensures { λ r. ⌜ readingOf r ≡ endsWith layout (now (s .entry)) ⌝ }
+// The number of a single NLRI of one route type: any other type is KIND. No layout is made.
+pub fn fault_of_type(afi: u16, route_type: usize, s: &[u8]) -> u32
+    ensures { λ r. ⌜ r ≡ numberOf (readOfType «route_type» afi (now (s .entry))) ⌝ }
 {
-    if s.len() - HEADER == layout.length {
-        return Reading::Nlri(layout);
+    let Family::Known(kind) = family::family_of(afi) else {
+        return FAMILY;
+    };
+    let fault = single_fault(kind, s);
+    if fault != DONE {
+        return fault;
     }
-    Reading::Refused(LENGTH)
+    if s[0] as usize != route_type {
+        return KIND;
+    }
+    DONE
 }
 
 // The layout of a single NLRI.
-pub fn read_layout(afi: u16, s: &[u8]) -> Reading
+pub(crate) fn read_layout(afi: u16, s: &[u8]) -> Reading
     ensures { λ r. ⌜ readingOf r ≡ layoutSingle afi (now (s .entry)) ⌝ }
 {
     match family::family_of(afi) {

@@ -23,6 +23,7 @@ use crate::fields::Nlri;
 use crate::mldp_write;
 use crate::read;
 use crate::read::HEADER;
+use crate::read::Header;
 use crate::route::RouteType;
 use octets::Written;
 use octets::number::DONE;
@@ -88,14 +89,17 @@ fn key_fits(kind: AddressKind, route_type: usize, key: &[u8]) -> bool
     true
 }
 
-// Octets that are exactly one key, judged as a Leaf's key is when it is read.
+// Octets that are exactly one key.
 fn is_key(kind: AddressKind, key: &[u8]) -> bool
     ensures { λ r. ⌜ r ≡ isKey (kind .bits) 4 (now (key .entry)) ⌝ }
 {
-    read::keyed_fault(kind, true, key) == DONE
+    let Header::Typed(_, length) = read::read_key(kind, key) else {
+        return false;
+    };
+    HEADER + length == key.len()
 }
 
-// DONE, or the first of TYPE, WIDTH and KEY.
+// DONE, or the first of TYPE, WIDTH and KEY, for a type up to 7.
 fn judge(kind: AddressKind, nlri: Nlri, key: &[u8]) -> u32
     ensures { λ r. ⌜ r ≡ numberOf (fitting (kind .bits) nlri (now (key .entry))) ⌝ }
 {
@@ -104,9 +108,6 @@ fn judge(kind: AddressKind, nlri: Nlri, key: &[u8]) -> u32
     let group = nlri.group;
     let originator = nlri.originator;
     if route_type < RouteType::INTRA_AS_I_PMSI {
-        return TYPE;
-    }
-    if RouteType::SOURCE_TREE_JOIN < route_type {
         return TYPE;
     }
     if !flow_fits(kind, route_type, source.size as usize, group.size as usize) {

@@ -2,7 +2,7 @@
 use mathlib.Core.Path.{_≡_, refl, sym, _∙_, ap}
 use mathlib.Core.List.{List, [], append-nil}
 use mathlib.Core.Logic.{⊎-elim, _≢_}
-use Prim.Native.Nat.{ℕ, _+_, _≤_, _<_}
+use Prim.Native.Nat.{ℕ, _≤_, _<_}
 use native.Mathlib.Omega.{arith}
 use borrow.Author.Tests.{eq-eqb, ne-eqb, ltb-true, ltb-false}
 use lib.ListN.{length, take, drop}
@@ -12,7 +12,7 @@ use Rattle.octets.specs.Outcome.{given, refused}
 use Rattle.octets.proofs.Choice.{tested, pick-true, pick-false}
 use Rattle.octets.proofs.Outcome.{outcome, never}
 use Rattle.nlri.specs.Family.{familyBits}
-use Rattle.nlri.proofs.Statements.Faults.{family-refused, family-refuses}
+use Rattle.nlri.proofs.Definitions.Families.{family-refused, family-refuses}
 use Rattle.runs.specs.declared.walking.Walked.{Walked}
 use Rattle.runs.specs.Walking.{walkedTo}
 use Rattle.runs.specs.Modes.{walkBy, nlrisBy}
@@ -21,7 +21,7 @@ use Rattle.runs.proofs.Turns.{not-skipped, turn-stops, nlrisByFrom-stopped}
 use Rattle.runs.proofs.Going.{walk-family, walk-long}
 use Rattle.pieces.specs.declared.state.Pieces.{Pieces}
 use Rattle.pieces.specs.Feeding.{READING, STOPPED, FINISHED, AfterFeed, startedAs, answerAtEnd, finishOf, passedOf, longOf, countedOf, overOf, feedOf}
-use Rattle.pieces.specs.Handing.{Caller, fedBy, Moment, first}
+use Rattle.pieces.specs.Handing.{Caller, Moment, first}
 use Rattle.pieces.specs.PiecesRule.{PiecesClaim, AtMoment, Stays, PiecesRule}
 use Rattle.pieces.proofs.Feeds.{taken-most, given-most, feed-finished, feed-over, feed-counts, feed-front}
 use Rattle.pieces.proofs.Means.{Means, kept-most, ended}

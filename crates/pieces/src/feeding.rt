@@ -1,7 +1,7 @@
 // Feeding: the octets of a piece up to the end of one NLRI are taken, judged and given.
 ghost use mathlib.Core.Path.{_≡_};
 ghost use Prim.Native.Nat.{_+_, _≤_};
-ghost use lib.ListN.{length, take};
+ghost use lib.ListN.{length};
 ghost use Rattle.pieces.specs.Feeding.{feedOf, readOnOf, settledOf, judgedOf, keptOf, readOf, skippedOf, stoppedOf, Within};
 use crate::reading;
 use crate::reading::UnfinishedNlri;
@@ -21,72 +21,72 @@ pub struct Fed {
 }
 
 // Hands over a piece: octets of it are taken up to the end of one NLRI.
-pub fn feed(p: Pieces, unfinished: &mut UnfinishedNlri, piece: &[u8]) -> Fed
-    ensures { λ r. ⌜ r ≡ feedOf p (now (unfinished .entry)) (now (piece .entry)) .answer ⌝ }
-    ensures { λ r. ⌜ now (unfinished .exit) ≡ feedOf p (now (unfinished .entry)) (now (piece .entry)) .octets ⌝ }
+pub fn feed(reader: Pieces, unfinished: &mut UnfinishedNlri, piece: &[u8]) -> Fed
+    ensures { λ r. ⌜ r ≡ feedOf reader (now (unfinished .entry)) (now (piece .entry)) .answer ⌝ }
+    ensures { λ r. ⌜ now (unfinished .exit) ≡ feedOf reader (now (unfinished .entry)) (now (piece .entry)) .octets ⌝ }
 {
-    if Stage::STOPPED < p.stage {
-        return passed(p, piece.len());
+    if Stage::STOPPED < reader.stage {
+        return passed(reader, piece.len());
     }
-    if state::is_over(p, piece.len()) {
-        return passed(state::too_long(p), piece.len());
+    if state::is_over(reader, piece.len()) {
+        return passed(state::too_long(reader), piece.len());
     }
-    if p.stage == Stage::READING {
-        return read_on(p, unfinished, piece);
+    if reader.stage == Stage::READING {
+        return read_on(reader, unfinished, piece);
     }
-    passed(state::counted(p, piece.len()), piece.len())
+    passed(state::counted(reader, piece.len()), piece.len())
 }
 
 // All `size` octets of a piece are taken, and no NLRI is given.
-fn passed(p: Pieces, size: usize) -> Fed
-    ensures { λ r. ⌜ r ≡ record { pieces = p; taken = size; size = 0 } ⌝ }
+fn passed(reader: Pieces, size: usize) -> Fed
+    ensures { λ r. ⌜ r ≡ record { pieces = reader; taken = size; size = 0 } ⌝ }
 {
     Fed {
-        pieces: p,
+        pieces: reader,
         taken: size,
         size: 0,
     }
 }
 
 // A feed while reading.
-fn read_on(p: Pieces, unfinished: &mut [u8], piece: &[u8]) -> Fed
-    requires { ⌜ (length (now unfinished) ≡ 257) × Within p (length (now piece)) ⌝ }
-    ensures { λ r. ⌜ r ≡ readOnOf p (now (unfinished .entry)) (now (piece .entry)) .answer ⌝ }
-    ensures { λ r. ⌜ now (unfinished .exit) ≡ readOnOf p (now (unfinished .entry)) (now (piece .entry)) .octets ⌝ }
+fn read_on(reader: Pieces, unfinished: &mut [u8], piece: &[u8]) -> Fed
+    requires { ⌜ (length (now unfinished) ≡ 257) × Within reader (length (now piece)) ⌝ }
+    ensures { λ r. ⌜ r ≡ readOnOf reader (now (unfinished .entry)) (now (piece .entry)) .answer ⌝ }
+    ensures { λ r. ⌜ now (unfinished .exit) ≡ readOnOf reader (now (unfinished .entry)) (now (piece .entry)) .octets ⌝ }
 {
-    let kept = p.kept as usize;
+    let kept = reader.kept as usize;
     let wanted = reading::wanted(unfinished, kept, piece);
     let share = reading::share(wanted, kept, piece.len());
     reading::keep(unfinished, kept, piece, share);
-    settle(p, unfinished, piece.len(), wanted, share)
+    settle(reader, unfinished, piece.len(), wanted, share)
 }
 
 // The answer once the octets taken are kept: whether the NLRI is whole, and its number if it is.
-fn settle(p: Pieces, unfinished: &[u8], size: usize, wanted: usize, share: usize) -> Fed
-    requires { ⌜ (length (now unfinished) ≡ 257) × (wanted ≤ 257) × (share ≤ size) × Within p size ⌝ }
-    ensures { λ r. ⌜ r ≡ settledOf p (now (unfinished .entry)) size wanted share ⌝ }
+fn settle(reader: Pieces, unfinished: &[u8], size: usize, wanted: usize, share: usize) -> Fed
+    requires { ⌜ (length (now unfinished) ≡ 257) × (wanted ≤ 257) × (share ≤ size) × Within reader size ⌝ }
+    ensures { λ r. ⌜ r ≡ settledOf reader (now (unfinished .entry)) size wanted share ⌝ }
 {
-    if p.kept as usize + size < wanted {
-        return unsettled(p, share);
+    if reader.kept as usize + size < wanted {
+        return unsettled(reader, share);
     }
-    let number = reading::fault(p.afi, octets::parts::between(unfinished, 0, wanted));
-    judged(p, number, wanted, share)
+    let number = reading::fault(reader.afi, octets::parts::between(unfinished, 0, wanted));
+    judged(reader, number, wanted, share)
 }
 
 // The piece ends inside the NLRI.
-fn unsettled(p: Pieces, share: usize) -> Fed
-    requires { ⌜ (p .total + share ≤ 4096) × (p .kept ≤ 256) ⌝ }
-    ensures { λ r. ⌜ r ≡ keptOf p share ⌝ }
+fn unsettled(reader: Pieces, share: usize) -> Fed
+    requires { ⌜ (reader .total + share ≤ 4096) × (reader .kept ≤ 256) ⌝ }
+    ensures { λ r. ⌜ r ≡ keptOf reader share ⌝ }
 {
-    let walked = p.walked;
+    let walked = reader.walked;
     Fed {
         pieces: Pieces {
             walked,
-            afi: p.afi,
-            mode: p.mode,
+            afi: reader.afi,
+            mode: reader.mode,
             stage: Stage::READING,
-            total: p.total + share as u32,
-            kept: p.kept + share as u32,
+            total: reader.total + share as u32,
+            kept: reader.kept + share as u32,
         },
         taken: share,
         size: 0,
@@ -94,26 +94,26 @@ fn unsettled(p: Pieces, share: usize) -> Fed
 }
 
 // The NLRI is whole, and has this number.
-fn judged(p: Pieces, number: u32, wanted: usize, share: usize) -> Fed
-    requires { ⌜ (p .total + share ≤ 4096) × (p .walked .count ≤ 4096) × (p .walked .skipped ≤ 4096) ⌝ }
-    ensures { λ r. ⌜ r ≡ judgedOf p number wanted share ⌝ }
+fn judged(reader: Pieces, number: u32, wanted: usize, share: usize) -> Fed
+    requires { ⌜ (reader .total + share ≤ 4096) × (reader .walked .count ≤ 4096) × (reader .walked .skipped ≤ 4096) ⌝ }
+    ensures { λ r. ⌜ r ≡ judgedOf reader number wanted share ⌝ }
 {
     if number == DONE {
-        return read(p, wanted, share);
+        return read(reader, wanted, share);
     }
-    if runs::is_skipped(p.mode, number) {
-        return skipped(p, share);
+    if runs::is_skipped(reader.mode, number) {
+        return skipped(reader, share);
     }
-    stopped(p, number, share)
+    stopped(reader, number, share)
 }
 
 // An NLRI that is read is given and counted; the next one begins after it.
-fn read(p: Pieces, wanted: usize, share: usize) -> Fed
-    requires { ⌜ (p .total + share ≤ 4096) × (p .walked .count ≤ 4096) ⌝ }
-    ensures { λ r. ⌜ r ≡ readOf p wanted share ⌝ }
+fn read(reader: Pieces, wanted: usize, share: usize) -> Fed
+    requires { ⌜ (reader .total + share ≤ 4096) × (reader .walked .count ≤ 4096) ⌝ }
+    ensures { λ r. ⌜ r ≡ readOf reader wanted share ⌝ }
 {
-    let walked = p.walked;
-    let total = p.total + share as u32;
+    let walked = reader.walked;
+    let total = reader.total + share as u32;
     Fed {
         pieces: Pieces {
             walked: Walked {
@@ -122,8 +122,8 @@ fn read(p: Pieces, wanted: usize, share: usize) -> Fed
                 offset: total,
                 skipped: walked.skipped,
             },
-            afi: p.afi,
-            mode: p.mode,
+            afi: reader.afi,
+            mode: reader.mode,
             stage: Stage::READING,
             total,
             kept: 0,
@@ -134,12 +134,12 @@ fn read(p: Pieces, wanted: usize, share: usize) -> Fed
 }
 
 // An NLRI that is skipped is counted apart, and not given; the next one begins after it.
-fn skipped(p: Pieces, share: usize) -> Fed
-    requires { ⌜ (p .total + share ≤ 4096) × (p .walked .skipped ≤ 4096) ⌝ }
-    ensures { λ r. ⌜ r ≡ skippedOf p share ⌝ }
+fn skipped(reader: Pieces, share: usize) -> Fed
+    requires { ⌜ (reader .total + share ≤ 4096) × (reader .walked .skipped ≤ 4096) ⌝ }
+    ensures { λ r. ⌜ r ≡ skippedOf reader share ⌝ }
 {
-    let walked = p.walked;
-    let total = p.total + share as u32;
+    let walked = reader.walked;
+    let total = reader.total + share as u32;
     Fed {
         pieces: Pieces {
             walked: Walked {
@@ -148,8 +148,8 @@ fn skipped(p: Pieces, share: usize) -> Fed
                 offset: total,
                 skipped: walked.skipped + 1,
             },
-            afi: p.afi,
-            mode: p.mode,
+            afi: reader.afi,
+            mode: reader.mode,
             stage: Stage::READING,
             total,
             kept: 0,
@@ -160,11 +160,11 @@ fn skipped(p: Pieces, share: usize) -> Fed
 }
 
 // An NLRI that is refused stops the reading where it begins.
-fn stopped(p: Pieces, number: u32, share: usize) -> Fed
-    requires { ⌜ p .total + share ≤ 4096 ⌝ }
-    ensures { λ r. ⌜ r ≡ stoppedOf p number share ⌝ }
+fn stopped(reader: Pieces, number: u32, share: usize) -> Fed
+    requires { ⌜ reader .total + share ≤ 4096 ⌝ }
+    ensures { λ r. ⌜ r ≡ stoppedOf reader number share ⌝ }
 {
-    let walked = p.walked;
+    let walked = reader.walked;
     Fed {
         pieces: Pieces {
             walked: Walked {
@@ -173,10 +173,10 @@ fn stopped(p: Pieces, number: u32, share: usize) -> Fed
                 offset: walked.offset,
                 skipped: walked.skipped,
             },
-            afi: p.afi,
-            mode: p.mode,
+            afi: reader.afi,
+            mode: reader.mode,
             stage: Stage::STOPPED,
-            total: p.total + share as u32,
+            total: reader.total + share as u32,
             kept: 0,
         },
         taken: share,

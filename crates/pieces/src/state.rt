@@ -6,10 +6,8 @@ use nlri::Family;
 use octets::number::DONE;
 use octets::number::LONG;
 use octets::number::SHORT;
+use runs::RUN;
 use runs::Walked;
-
-// The most octets of a run.
-const RUN: usize = 4096;
 
 // The most octets of an NLRI that is not yet whole.
 const LEFT: u32 = 256;
@@ -67,14 +65,14 @@ fn started(afi: u16, mode: u32, stage: u32, number: u32) -> Pieces
 }
 
 // The walk's answer where the run ends.
-fn end(p: Pieces) -> Walked
-    ensures { λ r. ⌜ r ≡ answerAtEnd p ⌝ }
+fn end(reader: Pieces) -> Walked
+    ensures { λ r. ⌜ r ≡ answerAtEnd reader ⌝ }
 {
-    let walked = p.walked;
-    if p.stage != Stage::READING {
+    let walked = reader.walked;
+    if reader.stage != Stage::READING {
         return walked;
     }
-    if p.kept == 0 {
+    if reader.kept == 0 {
         return Walked {
             number: DONE,
             count: walked.count,
@@ -91,42 +89,42 @@ fn end(p: Pieces) -> Walked
 }
 
 // The run has ended: the reader has the walk's answer, and only repeats it from now on.
-pub fn finish(p: Pieces) -> Pieces
-    ensures { λ r. ⌜ r ≡ finishOf p ⌝ }
+pub fn finish(reader: Pieces) -> Pieces
+    ensures { λ r. ⌜ r ≡ finishOf reader ⌝ }
 {
     Pieces {
-        walked: end(p),
-        afi: p.afi,
-        mode: p.mode,
+        walked: end(reader),
+        afi: reader.afi,
+        mode: reader.mode,
         stage: Stage::FINISHED,
-        total: p.total,
-        kept: p.kept,
+        total: reader.total,
+        kept: reader.kept,
     }
 }
 
 // More than 4,096 octets in all with `size` more; or numbers that these calls never give.
-pub(crate) fn is_over(p: Pieces, size: usize) -> bool
-    ensures { λ r. ⌜ r ≡ overOf p size ⌝ }
+pub(crate) fn is_over(reader: Pieces, size: usize) -> bool
+    ensures { λ r. ⌜ r ≡ overOf reader size ⌝ }
 {
     if RUN < size {
         return true;
     }
-    if RUN - size < p.total as usize {
+    if RUN - size < reader.total as usize {
         return true;
     }
-    let walked = p.walked;
+    let walked = reader.walked;
     if RUN < walked.count as usize {
         return true;
     }
     if RUN < walked.skipped as usize {
         return true;
     }
-    LEFT < p.kept
+    LEFT < reader.kept
 }
 
 // The reader of a run of more than 4,096 octets. Its total stays over.
-pub(crate) fn too_long(p: Pieces) -> Pieces
-    ensures { λ r. ⌜ r ≡ longOf p ⌝ }
+pub(crate) fn too_long(reader: Pieces) -> Pieces
+    ensures { λ r. ⌜ r ≡ longOf reader ⌝ }
 {
     Pieces {
         walked: Walked {
@@ -135,8 +133,8 @@ pub(crate) fn too_long(p: Pieces) -> Pieces
             offset: 0,
             skipped: 0,
         },
-        afi: p.afi,
-        mode: p.mode,
+        afi: reader.afi,
+        mode: reader.mode,
         stage: Stage::STOPPED,
         total: RUN as u32 + 1,
         kept: 0,
@@ -144,17 +142,17 @@ pub(crate) fn too_long(p: Pieces) -> Pieces
 }
 
 // A reader that has stopped, with `size` more octets counted.
-pub(crate) fn counted(p: Pieces, size: usize) -> Pieces
-    requires { ⌜ p .total + size ≤ 4096 ⌝ }
-    ensures { λ r. ⌜ r ≡ countedOf p size ⌝ }
+pub(crate) fn counted(reader: Pieces, size: usize) -> Pieces
+    requires { ⌜ reader .total + size ≤ 4096 ⌝ }
+    ensures { λ r. ⌜ r ≡ countedOf reader size ⌝ }
 {
-    let walked = p.walked;
+    let walked = reader.walked;
     Pieces {
         walked,
-        afi: p.afi,
-        mode: p.mode,
+        afi: reader.afi,
+        mode: reader.mode,
         stage: Stage::STOPPED,
-        total: p.total + size as u32,
+        total: reader.total + size as u32,
         kept: 0,
     }
 }

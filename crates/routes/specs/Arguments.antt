@@ -3,20 +3,16 @@ use Prim.Native.Nat.{ℕ, _*_}
 use mathlib.Core.List.{List}
 use lib.ListN.{length}
 use lib.Dec.{ltb, eqb}
-use Rattle.octets.specs.Numbers.{LABEL, KIND, FLOW, SPACE}
+use Rattle.octets.specs.Numbers.{LABEL, FLOW, SPACE}
 use Rattle.octets.specs.Choice.{pick, both}
 use Rattle.octets.specs.Outcome.{Outcome, given, refused, unless, andThen}
 use Rattle.nlri.specs.Family.{familyBits, isOriginatorSize}
 use Rattle.nlri.specs.Fields.{Fields}
-use Rattle.nlri.specs.Reading.{readNlri}
+use Rattle.nlri.specs.Reading.{readOfType}
 use Rattle.nlri.specs.Groups.{classUnder}
 use Rattle.tunnel.specs.Attribute.{AttributeFields, labelOf, readAttribute}
 use Rattle.routes.specs.Route.{Route, route}
 use Rattle.routes.specs.Query.{Query, Flow, flowQuery}
-
--- an NLRI of one route type: NLRI reading under the table's AFI with no octets after it, then KIND for any other type
-abbrev pub readOfType : (type afi : ℕ) → List ℕ → Outcome Fields
-readOfType type afi nlri = andThen (readNlri afi nlri) (λ f. unless (eqb (f .type) type) KIND (given f))
 
 -- "A well-formed S-PMSI NLRI": of type 3
 unfoldable pub readSPmsi : ℕ → List ℕ → Outcome Fields

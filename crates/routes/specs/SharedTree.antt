@@ -12,9 +12,9 @@ use Rattle.octets.specs.Order.{same}
 use Rattle.lists.specs.LentLists.{Item, itemField, listCount, listItems, readList, firstItem, everyItem, someItem}
 use Rattle.nlri.specs.Family.{familyBits, isOriginatorSize}
 use Rattle.nlri.specs.Fields.{Fields}
+use Rattle.nlri.specs.Reading.{readOfType}
 use Rattle.nlri.specs.Groups.{ASM, classUnder}
 use Rattle.routes.specs.Query.{tiersOf, Query}
-use Rattle.routes.specs.Arguments.{readOfType}
 
 -- a shared tree and the PE asked, with what the daemon tells: the PE is upstream for the C-RP of the group; the group is a BIDIR-PIM group; Source
 -- Active routes are not being used; the Source Active routes, a lent list of originator and NLRI; the states held, one of source and group

@@ -12,7 +12,7 @@ use Rattle.octets.proofs.Outcome.{refused-of}
 use Rattle.nlri.specs.declared.layout.Layout.{Layout}
 use Rattle.nlri.specs.Family.{familyBits}
 use Rattle.nlri.specs.Layouts.{layoutAt}
-use Rattle.nlri.proofs.Statements.Faults.{family-refused}
+use Rattle.nlri.proofs.Definitions.Families.{family-refused}
 use Rattle.runs.specs.Walking.{readTo, stepFrom, walkedTo, walkedWith}
 use Rattle.runs.specs.Modes.{isSkipped, pastNlri, walkByFrom, walkBy}
 use Rattle.runs.proofs.Steps.{Stops, stops-endedAt, stops-refusedAt, step-family, step-long, step-end, step-unlaid, step-octet, step-moves}

@@ -20,7 +20,7 @@ use Rattle.nlri.specs.Layouts.{layoutOf, layoutAt}
 use Rattle.nlri.specs.Statements.{layoutFor}
 use Rattle.nlri.proofs.Definitions.Lengths.{good-family, family-good}
 use Rattle.nlri.proofs.Definitions.Whole.{laid-out}
-use Rattle.nlri.proofs.Statements.Faults.{family-refused, family-refuses}
+use Rattle.nlri.proofs.Definitions.Families.{family-refused, family-refuses}
 use Rattle.nlri.proofs.Statements.Acceptance.{front-sound}
 use Rattle.nlri.proofs.Statements.ReadRefusals.{readRefusals, front-not-done}
 use Rattle.nlri.proofs.Statements.Layouts.{length-encoded, layout-encoded, layout-refused}

@@ -17,7 +17,7 @@ use Rattle.nlri.specs.declared.layout.Layout.{Layout}
 use Rattle.nlri.specs.Reading.{Laid, laidWith, laidAt}
 use Rattle.nlri.specs.Layouts.{layoutAt}
 use Rattle.nlri.specs.Statements.{BodyFault}
-use Rattle.nlri.proofs.Statements.Faults.{family-refused}
+use Rattle.nlri.proofs.Definitions.Families.{family-refused}
 use Rattle.runs.specs.declared.stepping.Cursor.{Cursor}
 use Rattle.runs.specs.declared.turning.Turn.the-variants.{Read, Skipped, Stopped}
 use Rattle.runs.specs.Walking.{Stepped, readTo, endedAt, refusedAt, stepFrom, walkedWith}

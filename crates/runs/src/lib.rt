@@ -4,6 +4,7 @@ mod turning;
 mod walking;
 
 pub use stepping::Cursor;
+pub use stepping::RUN;
 pub use stepping::Step;
 pub use turning::Mode;
 pub use turning::Turn;

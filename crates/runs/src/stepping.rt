@@ -11,7 +11,7 @@ use octets::number::LONG;
 use octets::number::SHORT;
 
 // The most octets of a run.
-pub(crate) const RUN: usize = 4096;
+pub const RUN: usize = 4096;
 
 // A place in a run. The run itself is lent to each step.
 pub struct Cursor {

@@ -5,46 +5,27 @@ use mathlib.Core.Bool.{Bool, true, false, not}
 use mathlib.Core.List.{List, [], _∷_}
 use native.Mathlib.Omega.{arith}
 use borrow.Author.Tests.{eqb-true, eqb-false, eq-eqb, ne-eqb, leb-true, le-leb}
-use lib.ListN.{length, getD, drop}
-use lib.Dec.{leb, eqb}
-use Rattle.octets.specs.Numbers.{DONE, KIND}
-use Rattle.octets.specs.Choice.{pick, both, either}
-use Rattle.octets.specs.Outcome.{Outcome, given, refused, numberOf}
+use lib.ListN.{length, getD}
+use lib.Dec.{eqb}
+use Rattle.octets.specs.Numbers.{DONE}
+use Rattle.octets.specs.Choice.{pick, either}
+use Rattle.octets.specs.Outcome.{given, numberOf}
 use Rattle.octets.specs.Octets.{part}
 use Rattle.octets.specs.Order.{same}
-use Rattle.octets.proofs.Choice.{pick-true, pick-false, tested, opposite, is-true, both-left, both-last, either-left, either-second, either-false, either-last, flag-off, flag-on}
-use Rattle.octets.proofs.Outcome.{value, number, Refuses, refuses-also, refuses-pick, refuses-then, refuses-by, done-given, given-unless, passed, given-same, number-picks, number-skips, number-goes, number-stops, on-given}
+use Rattle.octets.proofs.Choice.{pick-true, pick-false, opposite, is-true, both-left, both-last, either-left, either-second, either-false, either-last, flag-off, flag-on}
+use Rattle.octets.proofs.Outcome.{value, number, Refuses, refuses-also, refuses-pick, refuses-then, refuses-by, done-given, given-unless, passed, given-same, on-given}
 use Rattle.lists.specs.LentLists.{Item, itemField, frontItem, afterItem, listItems, firstItem, everyItem, someItem}
 use Rattle.lists.proofs.Going.{Going, going-next, going-stop}
 use Rattle.lists.proofs.Fields.{item-field-of}
 use Rattle.nlri.specs.declared.layout.Layout.{Layout}
-use Rattle.nlri.specs.declared.layout.Reading.{Reading}
-use Rattle.nlri.specs.declared.layout.Reading.the-variants.{Nlri, Refused}
 use Rattle.nlri.specs.Fields.{Fields}
-use Rattle.nlri.specs.Layouts.{readingOf, layoutSingle}
 use Rattle.nlri.specs.Inner.{layoutWith, flowLayout, sizeAt, withSourceAs, sourceStart, fieldsAt, FlowStands}
 use Rattle.nlri.proofs.Definitions.ReadNumbers.{refuses-nlri}
 use Rattle.nlri.proofs.Functions.Standing.{source-active-layout, source-active-stands}
-use Rattle.nlri.proofs.Functions.Singles.{ReadAt, read-at, read-by-layout, read-refused}
-use Rattle.nlri.proofs.Functions.Via.{nlri-given, reading-refused}
-use Rattle.routes.specs.Arguments.{readOfType}
+use Rattle.nlri.proofs.Functions.Singles.{ReadAt, read-at}
+use Rattle.nlri.specs.Reading.{readOfType}
 use Rattle.routes.specs.SharedTree.{SharedTree, readSourceActive, sourceActiveFault, isState, lacksState, conditionHolds}
 use Rattle.shared_trees.specs.Told.{sourceIn, groupIn, groupEnd, FieldsWithin, fieldsWithin, withoutState, withoutStateAt}
-
--- the number of an NLRI that is to be of a type, by what reading its layout answers
-module _ (type afi : ℕ) (s : List ℕ) (r : Reading) (e : readingOf r ≡ layoutSingle afi s) where
-  pub of-type-refused : (n : ℕ) → r ≡ Refused n → n ≡ numberOf (readOfType type afi s)
-  of-type-refused n q = number-stops n _ _ (read-refused afi s n (reading-refused r _ n e q))
-
-  pub of-type-given : (l : Layout) → r ≡ Nlri l → l .«route_type» ≡ type → DONE ≡ numberOf (readOfType type afi s)
-  unfolding fieldsAt numberOf
-  of-type-given l q t =
-      number-goes DONE _ (fieldsAt l s) _ (read-by-layout afi s l (nlri-given r _ l e q) .0) (number-picks DONE _ _ _ (eq-eqb (l .«route_type») type t) refl)
-
-  pub of-type-other : (l : Layout) → r ≡ Nlri l → (l .«route_type» ≡ type → ⊥) → KIND ≡ numberOf (readOfType type afi s)
-  unfolding fieldsAt numberOf
-  of-type-other l q t =
-      number-goes KIND _ (fieldsAt l s) _ (read-by-layout afi s l (nlri-given r _ l e q) .0) (number-skips KIND _ _ _ (ne-eqb (l .«route_type») type t) refl)
 
 -- the number of an item's NLRI
 pub number-of : (afi n : ℕ) (nlri s : List ℕ) → n ≡ numberOf (readOfType 5 afi nlri) → nlri ≡ itemField 1 (frontItem 2 s) → n ≡ numberOf (readOfType 5 afi (itemField 1 (frontItem 2 s)))

@@ -6,7 +6,6 @@ ghost use lib.ListN.{drop};
 ghost use Rattle.octets.specs.Outcome.{numberOf};
 ghost use Rattle.lists.specs.LentLists.{frontItem, wholeItem, wholeList, listItems, everyItem};
 ghost use Rattle.nlri.specs.Groups.{groupOf};
-ghost use Rattle.routes.specs.Arguments.{readOfType};
 ghost use Rattle.routes.specs.SharedTree.{originatorSized, stateSized, readSourceActive, sourceActiveFault, judgedTree};
 ghost use Rattle.shared_trees.specs.declared.Facts.{Facts};
 ghost use Rattle.shared_trees.specs.Told.{treeOf, listsFault, addressesSized, judgedWhole};
@@ -14,11 +13,9 @@ use crate::FIELDS;
 use lists::FIRST;
 use nlri::Family;
 use nlri::Group;
-use nlri::Reading;
 use nlri::RouteType;
 use octets::number::DONE;
 use octets::number::FLOW;
-use octets::number::KIND;
 use octets::number::LONG;
 use octets::number::SHORT;
 
@@ -111,27 +108,16 @@ fn are_addresses_sized(size: usize, router: &[u8], source_actives: &[u8], states
     are_states_sized(states, size)
 }
 
-// NLRI reading with no octets after it, then KIND where it is not type 5.
-fn nlri_fault(afi: u16, nlri: &[u8]) -> u32
-    ensures { λ r. ⌜ r ≡ numberOf (readOfType 5 afi (now (nlri .entry))) ⌝ }
-{
-    match nlri::read_layout(afi, nlri) {
-        Reading::Refused(number) => number,
-        Reading::Nlri(layout) => {
-            if layout.route_type != RouteType::SOURCE_ACTIVE {
-                return KIND;
-            }
-            DONE
-        }
-    }
-}
-
 // The NLRI of an item that is to be a Source Active route.
 fn item_fault(afi: u16, list: &[u8], at: usize) -> u32
     requires { ⌜ wholeItem 2 (drop at (now list)) ≡ true ⌝ }
     ensures { λ r. ⌜ r ≡ numberOf (readSourceActive afi (frontItem 2 (drop at (now (list .entry))))) ⌝ }
 {
-    nlri_fault(afi, lists::item_field(list, at, 1))
+    nlri::fault_of_type(
+        afi,
+        RouteType::SOURCE_ACTIVE,
+        lists::item_field(list, at, 1),
+    )
 }
 
 // The number of the first of them that is refused, or DONE.

@@ -17,15 +17,8 @@ use Rattle.octets.proofs.Choice.{both-true, both-left, both-right, both-last, p
 use Rattle.octets.proofs.Outcome.{number-goes, number-stops, refused-of, done-given, number-kept, number-picks, number-skips}
 use Rattle.octets.proofs.LowFirst.{low-zero}
 use Rattle.octets.proofs.Orders.{zero-covered}
-use Rattle.nlri.specs.declared.layout.Layout.{Layout}
-use Rattle.nlri.specs.declared.layout.Reading.{Reading}
-use Rattle.nlri.specs.declared.layout.Reading.the-variants.{Nlri, Refused}
 use Rattle.nlri.specs.Fields.{Fields}
 use Rattle.nlri.specs.Reading.{readNlri, isSPmsi}
-use Rattle.nlri.specs.Layouts.{readingOf, layoutSingle}
-use Rattle.nlri.specs.Inner.{fieldsAt}
-use Rattle.nlri.proofs.Functions.Via.{nlri-given, reading-refused}
-use Rattle.nlri.proofs.Functions.Singles.{read-by-layout, read-refused}
 use Rattle.tunnel.specs.Attribute.{readAttribute, fieldsIn, labelOf}
 use Rattle.tunnel.proofs.Definitions.Attributes.{read-done}
 use Rattle.routes.specs.Route.{route, nlriOf, attributeOf}
@@ -37,22 +30,6 @@ use Rattle.routes.proofs.Definitions.Bounds.{route-read, read-acceptable}
 use Rattle.routes.proofs.Definitions.Headers.{SizeOf, sound-size}
 use Rattle.table.specs.Passing.{risesAt}
 use Rattle.table.proofs.Neighbours.{NlriAt, nlri-at, rises-first, rises-next}
-
--- the number of an S-PMSI NLRI, by what reading its layout answers
-module _ (afi : ℕ) (s : List ℕ) (r : Reading) (e : readingOf r ≡ layoutSingle afi s) where
-  pub s-pmsi-refused : (n : ℕ) → r ≡ Refused n → n ≡ numberOf (readSPmsi afi s)
-  unfolding readSPmsi
-  s-pmsi-refused n q = number-stops n _ _ (read-refused afi s n (reading-refused r _ n e q))
-
-  pub s-pmsi-given : (l : Layout) → r ≡ Nlri l → l .«route_type» ≡ 3 → 0 ≡ numberOf (readSPmsi afi s)
-  unfolding readSPmsi fieldsAt numberOf
-  s-pmsi-given l q t =
-      number-goes 0 _ (fieldsAt l s) _ (read-by-layout afi s l (nlri-given r _ l e q) .0) (number-picks 0 _ _ _ (eq-eqb (l .«route_type») 3 t) refl)
-
-  pub s-pmsi-other : (l : Layout) → r ≡ Nlri l → (l .«route_type» ≡ 3 → ⊥) → KIND ≡ numberOf (readSPmsi afi s)
-  unfolding readSPmsi fieldsAt numberOf
-  s-pmsi-other l q t =
-      number-goes KIND _ (fieldsAt l s) _ (read-by-layout afi s l (nlri-given r _ l e q) .0) (number-skips KIND _ _ _ (ne-eqb (l .«route_type») 3 t) refl)
 
 -- the number of an attribute, by that of reading it
 module _ (s : List ℕ) (n : ℕ) (e : n ≡ numberOf (readAttribute s)) where

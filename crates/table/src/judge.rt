@@ -6,7 +6,6 @@ ghost use Rattle.tunnel.specs.Attribute.{readAttribute};
 ghost use Rattle.routes.specs.Arguments.{readSPmsi, readLabelled, readRoute};
 use nlri::RouteType;
 use octets::number::DONE;
-use octets::number::KIND;
 use octets::number::LABEL;
 use tunnel::TunnelType;
 
@@ -14,15 +13,7 @@ use tunnel::TunnelType;
 pub(crate) fn s_pmsi_fault(afi: u16, nlri: &[u8]) -> u32
     ensures { λ r. ⌜ r ≡ numberOf (readSPmsi afi (now (nlri .entry))) ⌝ }
 {
-    match nlri::read_layout(afi, nlri) {
-        nlri::Reading::Refused(number) => number,
-        nlri::Reading::Nlri(layout) => {
-            if layout.route_type != RouteType::S_PMSI {
-                return KIND;
-            }
-            DONE
-        }
-    }
+    nlri::fault_of_type(afi, RouteType::S_PMSI, nlri)
 }
 
 // LABEL, or DONE, for an attribute that reading accepts.

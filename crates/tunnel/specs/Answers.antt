@@ -8,7 +8,7 @@ use Rattle.tunnel.specs.declared.Reading.{Reading}
 use Rattle.tunnel.specs.declared.Reading.the-variants.{Attribute as read, Refused as no}
 use Rattle.tunnel.specs.declared.Attribute.{Attribute}
 use Rattle.tunnel.specs.declared.fec.Fec.{Fec}
-use Rattle.fec_elements.specs.Element.{FecFields}
+use Rattle.fec_elements.specs.Fields.{FecFields}
 use Rattle.fec_elements.specs.Reading.{fecIn}
 use Rattle.tunnel.specs.Identifier.{onForm, formOf}
 use Rattle.tunnel.specs.Attribute.{AttributeFields, labelOf, leafInformationRequired, readAttribute, writeAttribute}

@@ -8,7 +8,7 @@ use Rattle.octets.specs.Choice.{pick, both, either}
 use Rattle.octets.specs.Lists.{Among}
 use Rattle.octets.specs.Numbers.{TUNNEL, IDENT}
 use Rattle.octets.specs.Outcome.{Outcome, given, refused, unless, andThen}
-use Rattle.fec_elements.specs.Element.{FecFields, encodeFec, WellFormedFec}
+use Rattle.fec_elements.specs.Fields.{FecFields, encodeFec, WellFormedFec}
 use Rattle.fec_elements.specs.Reading.{wholeFec}
 
 -- a form of identifiers: of one of these sizes; or a FEC whose first octet is one of these

@@ -12,7 +12,7 @@ use Rattle.octets.specs.declared.Span.{Span}
 use Rattle.tunnel.specs.declared.Reading.{Reading}
 use Rattle.tunnel.specs.declared.Attribute.{Attribute}
 use Rattle.tunnel.specs.declared.fec.Fec.{Fec}
-use Rattle.fec_elements.specs.Element.{FecFields, encodeFec, WellFormedFec}
+use Rattle.fec_elements.specs.Fields.{FecFields, encodeFec, WellFormedFec}
 use Rattle.tunnel.specs.Identifier.{IdentifierForm, sizes, fecTypes, rowOf, identifierForms, OfType}
 use Rattle.tunnel.specs.Attribute.{AttributeFields, WellFormedAttribute, encodeAttribute, readAttribute, writeAttribute}
 use Rattle.tunnel.specs.Answers.{outcomeOf, readStruct, argumentFields}

@@ -1,6 +1,7 @@
 -- The number of the fields that are left of a body, by the first of them; and the number of a body by its route type.
 use mathlib.Core.Path.{_≡_, refl, sym, _∙_, ap, ap₂}
 use mathlib.Core.Bool.{Bool, true, false}
+use mathlib.Core.Logic.{_⊎_, inl, inr, ⊎-elim}
 use mathlib.Core.List.{List, [], _∷_}
 use Prim.Native.Nat.{ℕ, _+_, _-_, _/_, _≤_, _<_}
 use native.Mathlib.Nat.{add-zero, zero-add}
@@ -12,15 +13,15 @@ use lib.Dec.{ltb, leb, eqb}
 use Rattle.octets.specs.Numbers.{DONE, TYPE, LENGTH, WIDTH}
 use Rattle.octets.specs.Choice.{pick, either}
 use Rattle.octets.specs.Outcome.{Outcome, given, refused, andThen, numberOf}
-use Rattle.octets.proofs.Choice.{pick-true, pick-false, pick-case, picks, skips, tested, either-false, either-false-left, either-false-right, opposite}
+use Rattle.octets.proofs.Choice.{pick-true, pick-false, pick-case, picks, skips, tested, either-true, either-false, either-false-left, either-false-right, opposite}
 use Rattle.octets.proofs.Outcome.{number-goes, number-stops, refused-of, done-given}
 use Rattle.fec_elements.specs.declared.Standing.the-variants.{InBody}
-use Rattle.fec_elements.specs.Reading.{frontSize, readFec}
+use Rattle.fec_elements.specs.Reading.{opaqueStart, fecSize, readFec}
 use Rattle.fec_elements.proofs.Nesting.{read-refused, size-read}
 use Rattle.nlri.specs.Family.{rootFamily, allowed, isOriginatorSize}
-use Rattle.nlri.specs.Bodies.{FieldKind, distinguisher, sourceAs, source, group, originator, key, fec, KnownType, bodies, onBody, codeOf, sameKind, hasField}
+use Rattle.nlri.specs.Bodies.{FieldKind, distinguisher, sourceAs, source, group, originator, key, fec, KnownType, toSeven, mldpSPmsi, mldpLeaf, mldpSourceTreeJoin, bodies, onBody, codeOf, sameKind, hasField}
 use Rattle.nlri.specs.Reading.{fixedField, addressEnd, addressField, originatorField, fieldSize, sizesOf, keyField}
-use Rattle.nlri.specs.Inner.{leftFault, bodyFault, afterFlow, afterFec, withSourceAs, sourceStart}
+use Rattle.nlri.specs.Inner.{leftFault, bodyFault, afterFlow, afterFec, sourceStart, isMldp}
 use Rattle.nlri.proofs.Definitions.Table.{listed, on-body, unlisted, apart}
 use Rattle.nlri.proofs.Definitions.Starts.{sizes-same}
 
@@ -161,11 +162,11 @@ module _ (bits type : ℕ) where
       fec-read : n ≡ DONE → (size : ℕ) × (readFec (InBody (rootFamily bits)) rest ≡ given size)
       fec-read done = done-given _ (λ m q. read-refused _ rest m q .1) (sym e ∙ done)
 
-      -- the FEC lies within what it stands in
-      pub fec-left : n ≡ DONE → frontSize rest ≤ length rest
-      fec-left done = let r = fec-read done in let f = size-read _ rest (r .0) (r .1) in omega (arith, f .0, f .1)
+      -- the FEC, with its lengths, lies within what it stands in
+      pub fec-left : n ≡ DONE → (fecSize rest ≤ length rest) × (opaqueStart rest ≤ length rest)
+      fec-left done = let r = fec-read done in let f = size-read _ rest (r .0) (r .1) in (omega (arith, f .0, f .1), f .2)
 
-      pub left-fec-good : n ≡ DONE → (r left : ℕ) → left ≡ length rest - frontSize rest → ((i : ℕ) → length s ≡ i + left → r ≡ leftFault bits type kinds i s) → r ≡ leftFault bits type (fec ∷ kinds) at s
+      pub left-fec-good : n ≡ DONE → (r left : ℕ) → left ≡ length rest - fecSize rest → ((i : ℕ) → length s ≡ i + left → r ≡ leftFault bits type kinds i s) → r ≡ leftFault bits type (fec ∷ kinds) at s
       unfolding fieldSize
       left-fec-good done r left el next =
           let q = fec-read done in
@@ -200,6 +201,18 @@ unfolding leftFault
 left-other bits m n kinds at s none p q =
     ap (λ (o : Outcome (List ℕ)). pick (ltb (length s) at) LENGTH (numberOf o)) (sizes-same _ _ kinds (λ k h. field-other bits m n p q k (apart k key kinds h none)) (drop at s))
 
+-- the types of RFC 7441
+pub known-mldp : (type : ℕ) → 7 < type → KnownType type → isMldp type ≡ true
+unfolding isMldp either
+known-mldp type h (toSeven low most) = absurd (omega arith)
+known-mldp type h mldpSPmsi = refl
+known-mldp type h mldpLeaf = refl
+known-mldp type h mldpSourceTreeJoin = refl
+
+pub mldp-types : (type : ℕ) → isMldp type ≡ true → (type ≡ 67) ⊎ (type ≡ 68) ⊎ (type ≡ 71)
+unfolding isMldp
+mldp-types type h = ⊎-elim (λ e. inl (eqb-true _ _ e)) (λ r. inr (⊎-elim (λ e. inl (eqb-true _ _ e)) (λ e. inr (eqb-true _ _ e)) (either-true _ _ r))) (either-true _ _ h)
+
 -- the body of a route type
 module _ (bits type : ℕ) (s : List ℕ) where
   pub body-is : (n : ℕ) → type ≡ n → bodyFault bits n s ≡ bodyFault bits type s
@@ -225,7 +238,7 @@ module _ (bits type : ℕ) (s : List ℕ) where
 
   -- types 5 to 7: fixed octets, a source and a group
   pub body-flow : 4 < type → type ≤ 7 → leftFault bits 5 (source ∷ group ∷ afterFlow 5) (sourceStart type - 3) s ≡ bodyFault bits type s
-  unfolding bodyFault onBody bodies afterFlow sourceStart withSourceAs either pick fieldSize hasField sameKind codeOf
+  unfolding bodyFault onBody bodies afterFlow sourceStart either pick fieldSize hasField sameKind codeOf
   body-flow low high =
       tested (eqb type 5) (λ t. at 5 (eqb-true _ _ t) (left-fixed bits 5 distinguisher _ 8 0 s (λ y. refl)))
       (λ n₅. tested (eqb type 6) (λ t. at 6 (eqb-true _ _ t) (both 6 (alike 6 refl))) (λ n₆. at 7 (omega (arith, eqb-false)) (both 7 (alike 7 refl))))

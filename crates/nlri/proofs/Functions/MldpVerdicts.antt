@@ -17,16 +17,17 @@ use Rattle.fec_elements.specs.declared.Standing.the-variants.{Lent}
 use Rattle.fec_elements.specs.Reading.{readFec}
 use Rattle.nlri.specs.declared.fields.Nlri.{Nlri}
 use Rattle.nlri.specs.Family.{familyBits, rootFamily, isOriginatorSize}
-use Rattle.nlri.specs.Bodies.{FieldKind, distinguisher, sourceAs, source, group, originator, key, fec, KnownType, toSeven, mldpSPmsi, mldpLeaf, mldpSourceTreeJoin, bodies, bodyOf, codeOf, sameKind, hasField}
+use Rattle.nlri.specs.Bodies.{FieldKind, distinguisher, sourceAs, source, group, originator, key, fec, bodies, bodyOf, codeOf, sameKind, hasField}
 use Rattle.nlri.specs.Fields.{Fields, encodeField, encodeBody, encodeNlri}
 use Rattle.nlri.specs.Writing.{widthFits, widthsFit, fecNumber, isLong, keyFits, keysFit, isKey, writeNlri}
-use Rattle.nlri.specs.Answers.{addressOctets, structFields}
-use Rattle.nlri.specs.Inner.{withSourceAs}
+use Rattle.nlri.specs.Answers.{structFields}
+use Rattle.nlri.specs.Inner.{isMldp, withSourceAs}
 use Rattle.nlri.specs.InnerWriting.{sourceAsOctets, AddressSize}
-use Rattle.nlri.specs.InnerMldp.{isMldp, mldpOriginatorFits, mldpFecNumber, mldpKeyFits, mldpFixedSize, lentSize, mldpOriginatorSize, mldpSize, mldpFitting, mldpFixed, lentOctets, mldpOriginator, mldpBody, mldpOctets, mldpWritten, writeUnder}
+use Rattle.nlri.specs.InnerMldp.{mldpOriginatorFits, mldpFecNumber, mldpKeyFits, mldpFixedSize, lentSize, mldpOriginatorLength, mldpBodySize, mldpFitting, mldpFixed, lentOctets, mldpOriginator, mldpBody, mldpOctets, mldpWritten, writeUnder}
 use Rattle.nlri.proofs.Definitions.Table.{listed, known, knownTest, test-known, unlisted, every, every-row, agree, agree-same, kept, order, sameKinds, same-kinds}
-use Rattle.nlri.proofs.Definitions.Writes.{all, widths-all, keys-all, verdict, verdictOf, verdict-same, write-is}
+use Rattle.nlri.proofs.Definitions.Writes.{widths-all, keys-all, verdict, verdictOf, verdict-same, write-is}
 use Rattle.nlri.proofs.Functions.Puts.{length-octets, length-pick, eight-and, under}
+use Rattle.nlri.proofs.Functions.Ends.{known-mldp}
 use Rattle.nlri.proofs.Functions.Verdicts.{written, written-kept, passes, passes-kept, free, both-end, originator-octets, to-seven-is}
 
 -- the tests of a type by which the writer goes say which kinds its body has
@@ -91,12 +92,12 @@ module _ (nlri : Nlri) (keyOctets fecOctets : List ℕ) (eight : length (nlri .d
   unfolding lentOctets lentSize
   lent-size = length-pick _ _ _
 
-  end-size : length (mldpOriginator nlri) ≡ mldpOriginatorSize (nlri .«route_type») (nlri .originator .size)
-  unfolding mldpOriginator mldpOriginatorSize
+  end-size : length (mldpOriginator nlri) ≡ mldpOriginatorLength (nlri .«route_type») (nlri .originator .size)
+  unfolding mldpOriginator mldpOriginatorLength
   end-size = length-pick _ _ _ ∙ ap (pick (eqb (nlri .«route_type») 71) 0) (length-octets (nlri .originator))
 
-  pub body-size : length (mldpBody nlri keyOctets fecOctets) ≡ mldpSize nlri (length keyOctets) (length fecOctets)
-  unfolding mldpBody mldpSize
+  pub body-size : length (mldpBody nlri keyOctets fecOctets) ≡ mldpBodySize nlri (length keyOctets) (length fecOctets)
+  unfolding mldpBody mldpBodySize
   body-size =
       let a = length-append (mldpFixed nlri) (lentOctets nlri keyOctets fecOctets ++ mldpOriginator nlri) in
       let b = length-append (lentOctets nlri keyOctets fecOctets) (mldpOriginator nlri) in
@@ -121,13 +122,6 @@ module _ (type : ℕ) (l : listed bodies type ≡ true) (high : 7 < type) where
 mldp-listed : (type : ℕ) → isMldp type ≡ true → listed bodies type ≡ true
 unfolding isMldp knownTest
 mldp-listed type h = known type (test-known type (either-second _ _ h))
-
-known-mldp : (type : ℕ) → 7 < type → KnownType type → isMldp type ≡ true
-unfolding isMldp either
-known-mldp type h (toSeven low most) = absurd (omega arith)
-known-mldp type h mldpSPmsi = refl
-known-mldp type h mldpLeaf = refl
-known-mldp type h mldpSourceTreeJoin = refl
 
 module _ (nlri : Nlri) (keyOctets fecOctets : List ℕ) (space bits : ℕ) (eight : length (nlri .distinguisher .octets) ≡ 8) (high : 7 < nlri .«route_type») where
   abbrev type : ℕ
@@ -166,11 +160,11 @@ module _ (nlri : Nlri) (keyOctets fecOctets : List ℕ) (space bits : ℕ) (eigh
     unfolding fecNumber mldpFecNumber structFields
     fec-is = ap (λ (b : Bool). pick b (numberOf (readFec (Lent (rootFamily bits)) fecOctets)) DONE) (has-fec type l high) ∙ pick-not _ _ _
 
-    long-is : isLong f (bodyOf type) ≡ ltb 255 (mldpSize nlri (length keyOctets) (length fecOctets))
+    long-is : isLong f (bodyOf type) ≡ ltb 255 (mldpBodySize nlri (length keyOctets) (length fecOctets))
     unfolding isLong structFields
     long-is = sym (both-last _ _ _ (lt-ltb 7 type high) refl) ∙ ap (ltb 255) (ap length body-is ∙ body-size nlri keyOctets fecOctets eight)
 
-    space-is : pick (ltb space (length (mldpOctets nlri keyOctets fecOctets))) (refused SPACE) (given (mldpOctets nlri keyOctets fecOctets)) ≡ pick (ltb space (2 + mldpSize nlri (length keyOctets) (length fecOctets))) (refused SPACE) (given (mldpOctets nlri keyOctets fecOctets))
+    space-is : pick (ltb space (length (mldpOctets nlri keyOctets fecOctets))) (refused SPACE) (given (mldpOctets nlri keyOctets fecOctets)) ≡ pick (ltb space (2 + mldpBodySize nlri (length keyOctets) (length fecOctets))) (refused SPACE) (given (mldpOctets nlri keyOctets fecOctets))
     space-is =
         ap (λ (n : ℕ). pick (ltb space n) (refused SPACE) (given (mldpOctets nlri keyOctets fecOctets))) (length-mldp nlri keyOctets fecOctets ∙ ap (λ (n : ℕ). 2 + n) (body-size nlri keyOctets fecOctets eight))
 
@@ -182,7 +176,7 @@ module _ (nlri : Nlri) (keyOctets fecOctets : List ℕ) (space bits : ℕ) (eigh
       let l = mldp-listed type yes in
       pick-true _ _ _ l
       ∙ verdict-same space (all-is l) (widths-are l) (fec-is l) (long-is l) (keys-are l)
-      ∙ ap (λ (o : Outcome (List ℕ)). pick (mldpOriginatorFits type (nlri .originator .size)) (pick (eqb (mldpFecNumber bits type fecOctets) DONE) (pick (ltb 255 (mldpSize nlri (length keyOctets) (length fecOctets))) (refused LONG) (pick (mldpKeyFits bits type keyOctets) o (refused KEY))) (refused (mldpFecNumber bits type fecOctets))) (refused WIDTH)) (space-is l)
+      ∙ ap (λ (o : Outcome (List ℕ)). pick (mldpOriginatorFits type (nlri .originator .size)) (pick (eqb (mldpFecNumber bits type fecOctets) DONE) (pick (ltb 255 (mldpBodySize nlri (length keyOctets) (length fecOctets))) (refused LONG) (pick (mldpKeyFits bits type keyOctets) o (refused KEY))) (refused (mldpFecNumber bits type fecOctets))) (refused WIDTH)) (space-is l)
       ∙ sym (pick-true (isMldp type) _ (refused TYPE) yes) ∙ sym (fitting-then _ _ _ _ _ _ _ _))
       (λ no. pick-false _ _ _ (unlisted type (λ k. opposite (known-mldp type high k) no)) ∙ sym (pick-false (isMldp type) _ (refused TYPE) no) ∙ sym (fitting-then _ _ _ _ _ _ _ _))
 
@@ -240,13 +234,13 @@ module _ (bits : ℕ) (nlri : Nlri) (keyOctets fecOctets : List ℕ) where
   pub fits-done : (n : ℕ) → n ≡ numberOf (mldpFitting bits nlri keyOctets fecOctets) → n ≡ DONE → mldpFitting bits nlri keyOctets fecOctets ≡ given nlri
   unfolding mldpFitting
   fits-done n p q =
-      done-tests (isMldp (nlri .«route_type»)) (mldpOriginatorFits (nlri .«route_type») (nlri .originator .size)) _ (mldpFecNumber bits (nlri .«route_type») fecOctets) (ltb 255 (mldpSize nlri (length keyOctets) (length fecOctets)))
+      done-tests (isMldp (nlri .«route_type»)) (mldpOriginatorFits (nlri .«route_type») (nlri .originator .size)) _ (mldpFecNumber bits (nlri .«route_type») fecOctets) (ltb 255 (mldpBodySize nlri (length keyOctets) (length fecOctets)))
       (mldpKeyFits bits (nlri .«route_type») keyOctets) nlri (λ no. eqb-false _ _ no) (sym p ∙ q)
 
   module _ (fits : mldpFitting bits nlri keyOctets fecOctets ≡ given nlri) where
     record Faultless : Type 0 where
       origin : mldpOriginatorFits (nlri .«route_type») (nlri .originator .size) ≡ true
-      short : mldpSize nlri (length keyOctets) (length fecOctets) ≤ 255
+      short : mldpBodySize nlri (length keyOctets) (length fecOctets) ≤ 255
 
     faultless : Faultless
     unfolding mldpFitting
@@ -257,11 +251,11 @@ module _ (bits : ℕ) (nlri : Nlri) (keyOctets fecOctets : List ℕ) where
         let s = given-otherwise _ _ _ _ (c .1) in
         record { origin = w .0; short = ltb-false _ _ (s .0) }
 
-    pub body-short : mldpSize nlri (length keyOctets) (length fecOctets) ≤ 255
+    pub body-short : mldpBodySize nlri (length keyOctets) (length fecOctets) ≤ 255
     body-short = faultless .short
 
     pub lent-short : lentSize (nlri .«route_type») (length keyOctets) (length fecOctets) ≤ 255
-    unfolding mldpSize
+    unfolding mldpBodySize
     lent-short = omega (arith, faultless .short)
 
     pub sized-originator : (nlri .«route_type» ≡ 71 → ⊥) → AddressSize (nlri .originator .size)
@@ -273,25 +267,25 @@ module _ (bits : ℕ) (nlri : Nlri) (keyOctets fecOctets : List ℕ) where
     unfolding mldpWritten
     refused-mldp n p h = stops _ n _ (refused-of _ n p h)
 
-    pub space-mldp : mldpFitting bits nlri keyOctets fecOctets ≡ given nlri → space < 2 + mldpSize nlri (length keyOctets) (length fecOctets) → refused SPACE ≡ mldpWritten bits nlri keyOctets fecOctets space
+    pub space-mldp : mldpFitting bits nlri keyOctets fecOctets ≡ given nlri → space < 2 + mldpBodySize nlri (length keyOctets) (length fecOctets) → refused SPACE ≡ mldpWritten bits nlri keyOctets fecOctets space
     unfolding mldpWritten
     space-mldp e h = goes _ _ _ _ e (sym (pick-true _ _ _ (lt-ltb _ _ h)))
 
-    pub given-mldp : mldpFitting bits nlri keyOctets fecOctets ≡ given nlri → 2 + mldpSize nlri (length keyOctets) (length fecOctets) ≤ space → given (mldpOctets nlri keyOctets fecOctets) ≡ mldpWritten bits nlri keyOctets fecOctets space
+    pub given-mldp : mldpFitting bits nlri keyOctets fecOctets ≡ given nlri → 2 + mldpBodySize nlri (length keyOctets) (length fecOctets) ≤ space → given (mldpOctets nlri keyOctets fecOctets) ≡ mldpWritten bits nlri keyOctets fecOctets space
     unfolding mldpWritten
     given-mldp e h = goes _ _ _ _ e (sym (pick-false _ _ _ (le-ltb _ _ h)))
 
 -- a size that one of its parts passes, and bounds of the others
-pub lent-most : (nlri : Nlri) (keySize fecSize : ℕ) → 255 < lentSize (nlri .«route_type») keySize fecSize → ltb 255 (mldpSize nlri keySize fecSize) ≡ true
-unfolding mldpSize
+pub lent-most : (nlri : Nlri) (keySize fecSize : ℕ) → 255 < lentSize (nlri .«route_type») keySize fecSize → ltb 255 (mldpBodySize nlri keySize fecSize) ≡ true
+unfolding mldpBodySize
 lent-most nlri keySize fecSize h =
-    let over : 255 < mldpFixedSize (nlri .«route_type») + lentSize (nlri .«route_type») keySize fecSize + mldpOriginatorSize (nlri .«route_type») (nlri .originator .size) = omega arith in
+    let over : 255 < mldpFixedSize (nlri .«route_type») + lentSize (nlri .«route_type») keySize fecSize + mldpOriginatorLength (nlri .«route_type») (nlri .originator .size) = omega arith in
     lt-ltb _ _ over
 
 pub fixed-most : (type : ℕ) → mldpFixedSize type ≤ 12
 unfolding mldpFixedSize
 fixed-most type = under _ _ _ 12 (λ _. omega arith) (under _ _ _ 12 (λ _. omega arith) (omega arith))
 
-pub originator-most : (type size : ℕ) → mldpOriginatorSize type size ≤ size
-unfolding mldpOriginatorSize
+pub originator-most : (type size : ℕ) → mldpOriginatorLength type size ≤ size
+unfolding mldpOriginatorLength
 originator-most type size = under _ _ _ size (λ _. omega arith) (omega arith)

@@ -7,6 +7,7 @@ use Prim.Native.Nat.{ℕ, zero, suc, _+_, _-_, _/_, _≤_, _<_}
 use native.Mathlib.Nat.{add-zero}
 use native.Mathlib.Omega.{arith}
 use borrow.Author.Tests.{eqb-true}
+use lib.Dec.{eqb}
 use lib.ListN.{length, getD, take, drop, length-drop}
 use lib.Seq.{drop-drop, take-nil, getD-take, getD-drop}
 use Rattle.octets.specs.Choice.{pick, either, both}
@@ -14,9 +15,9 @@ use Rattle.octets.specs.Outcome.{given}
 use Rattle.octets.specs.Octets.{part, numberIn}
 use Rattle.octets.proofs.Choice.{pick-true, pick-false, tested, opposite, is-false, either-true}
 use Rattle.octets.proofs.Lists.{length-part}
-use Rattle.fec_elements.specs.Reading.{frontSize}
+use Rattle.fec_elements.specs.Reading.{opaqueStart, fecSize}
 use Rattle.fec_elements.proofs.Nesting.{size-read}
-use Rattle.nlri.specs.Bodies.{FieldKind, distinguisher, sourceAs, source, group, originator, key, fec, bodies, bodyOf, fieldIn, sameKind, codeOf, hasField}
+use Rattle.nlri.specs.Bodies.{FieldKind, distinguisher, sourceAs, source, group, originator, key, fec, bodies, fieldIn, sameKind, codeOf, hasField}
 use Rattle.nlri.specs.Reading.{Laid, addressField, fixedField, fieldSize, laidAt, laidSingle, keyField, cut, fieldsOf}
 use Rattle.nlri.specs.Layouts.{layoutOf}
 use Rattle.nlri.specs.Inner.{withKey, withFec, withSourceAs, sourceStart, fecStart, fromFec, distinguisherAt, sourceAsAt, fieldsAt, LayoutWithin}
@@ -70,9 +71,13 @@ module _ (bits : ℕ) (s : List ℕ) (laid : Laid) (e : laidAt bits s ≡ given 
   abbrev z : FieldKind → ℕ
   z k = sizeIn (laid .body) (laid .sizes) k
 
+  -- what a test of every row says of the type and its body
+  row-is : (test : ℕ → List FieldKind → Bool) → every test bodies ≡ true → test (laid .type) (laid .body) ≡ true
+  row-is test e = rw (out .body) (every-row test e (laid .type) (known (laid .type) (out .row .known)))
+
   -- the tests of a type by which the functions go say which kinds its body has
   pub has-is : (k : FieldKind) (test : ℕ → Bool) → every (λ n body. agree (hasField k body) (test n)) bodies ≡ true → hasField k (laid .body) ≡ test (laid .type)
-  has-is k test e = rw (out .body) (agree-same _ _ (every-row _ e (laid .type) (known (laid .type) (out .row .known))))
+  has-is k test e = agree-same _ _ (row-is _ e)
 
   pub has-key : hasField key (laid .body) ≡ withKey (laid .type)
   unfolding every bodies both agree pick hasField either sameKind codeOf withKey
@@ -166,21 +171,42 @@ module _ (bits : ℕ) (s : List ℕ) (laid : Laid) (e : laidAt bits s ≡ given 
     pub unkeyed : z key ≡ 0
     pub eight : z distinguisher ≡ 8
     pub numbered : z sourceAs ≡ pick (withSourceAs (laid .type)) 4 0
-    pub start : sourceStart (laid .type) ≡ 3 + (z distinguisher + z sourceAs)
 
   -- its route distinguisher, and its group by its source, in whose place a FEC stands
   unkeyed-row : withKey (laid .type) ≡ false → (hasField distinguisher (laid .body) ≡ true) × (hasField group (laid .body) ≡ hasField source (laid .body)) × (hasField fec (laid .body) ≡ true → hasField source (laid .body) ≡ false)
   unkeyed-row n = rw (out .body) (out .row .unkeyed (ap (hasField key) (sym (out .body)) ∙ has-key ∙ n))
 
   pub other-sizes : withKey (laid .type) ≡ false → OtherSizes
-  unfolding fieldSize sourceStart
+  unfolding fieldSize
   other-sizes n =
-      let d : z distinguisher ≡ 8 = fixed distinguisher 8 (λ y. refl) (unkeyed-row n .0) in
-      let a : (z sourceAs ≡ pick (withSourceAs (laid .type)) 4 0) × (pick (withSourceAs (laid .type)) 15 11 ≡ 3 + (z distinguisher + z sourceAs)) =
-      tested (withSourceAs (laid .type))
-      (λ yes. let h : z sourceAs ≡ 4 = fixed sourceAs 4 (λ y. refl) (has-source-as ∙ yes) in (h ∙ sym (pick-true _ _ _ yes), pick-true _ _ _ yes ∙ omega arith))
-      (λ no. let h : z sourceAs ≡ 0 = lacked sourceAs (has-source-as ∙ no) in (h ∙ sym (pick-false _ _ _ no), pick-false _ _ _ no ∙ omega arith)) in
-      record { unkeyed = lacked key (has-key ∙ n); eight = d; numbered = a .0; start = a .1 }
+      record {
+        unkeyed = lacked key (has-key ∙ n);
+        eight = fixed distinguisher 8 (λ y. refl) (unkeyed-row n .0);
+        numbered = tested (withSourceAs (laid .type))
+            (λ yes. fixed sourceAs 4 (λ y. refl) (has-source-as ∙ yes) ∙ sym (pick-true _ _ _ yes))
+            (λ no. lacked sourceAs (has-source-as ∙ no) ∙ sym (pick-false _ _ _ no));
+      }
+
+  -- a kind of field that starts `near` octets, and those of the route distinguisher and the source AS, from the front
+  start-is : (k : FieldKind) (start : ℕ → ℕ) (near : ℕ) → every (λ n body. pick (hasField k body) (eqb (start n) (near + pick (hasField sourceAs body) 12 8)) true) bodies ≡ true
+      → withKey (laid .type) ≡ false → hasField k (laid .body) ≡ true → start (laid .type) ≡ near + (z distinguisher + z sourceAs)
+  unfolding fieldSize
+  start-is k start near e n h =
+      let row : eqb (start (laid .type)) (near + pick (hasField sourceAs (laid .body)) 12 8) ≡ true = sym (pick-true _ _ true h) ∙ row-is (λ n body. pick (hasField k body) (eqb (start n) (near + pick (hasField sourceAs body) 12 8)) true) e in
+      let o = other-sizes n in
+      let sizes : pick (hasField sourceAs (laid .body)) 12 8 ≡ z distinguisher + z sourceAs =
+      tested (hasField sourceAs (laid .body))
+      (λ yes. pick-true _ _ _ yes ∙ omega (arith, o .eight, fixed sourceAs 4 (λ y. refl) yes))
+      (λ no. pick-false _ _ _ no ∙ omega (arith, o .eight, lacked sourceAs no)) in
+      eqb-true _ _ row ∙ ap (λ (m : ℕ). near + m) sizes
+
+  pub flow-start : withKey (laid .type) ≡ false → hasField source (laid .body) ≡ true → sourceStart (laid .type) ≡ 3 + (z distinguisher + z sourceAs)
+  unfolding every bodies both pick hasField sameKind codeOf either sourceStart
+  flow-start n f = start-is source sourceStart 3 refl n f
+
+  fec-begins : withFec (laid .type) ≡ true → fecStart (laid .type) ≡ 2 + (z distinguisher + z sourceAs)
+  unfolding every bodies both pick hasField sameKind codeOf either fecStart
+  fec-begins h = start-is fec fecStart 2 refl (unkeyed-fec (laid .type) h) (has-fec ∙ h)
 
   -- a source and a group, each behind its length octet in bits
   pub record FlowSizes : Type 0 where
@@ -197,8 +223,8 @@ module _ (bits : ℕ) (s : List ℕ) (laid : Laid) (e : laidAt bits s ≡ given 
       let st = starts (laid .body) (laid .sizes) in
       let o = other-sizes n in
       let bare = flow-bare n f in
-      let at : 2 + (z distinguisher + z sourceAs) ≡ sourceStart (laid .type) - 1 = omega (arith, o .start) in
-      let next : 2 + (z distinguisher + z sourceAs + z source) ≡ sourceStart (laid .type) - 1 + z source = omega (arith, o .start) in
+      let at : 2 + (z distinguisher + z sourceAs) ≡ sourceStart (laid .type) - 1 = omega (arith, flow-start n f) in
+      let next : 2 + (z distinguisher + z sourceAs + z source) ≡ sourceStart (laid .type) - 1 + z source = omega (arith, flow-start n f) in
       record {
         first = rw at at (address source (z distinguisher + z sourceAs) (λ y. refl) (omega (arith, o .unkeyed)) f);
         second = rw next at (address group (z distinguisher + z sourceAs + z source) (λ y. refl) (omega (arith, o .unkeyed)) (unkeyed-row n .1 ∙ f));
@@ -208,26 +234,28 @@ module _ (bits : ℕ) (s : List ℕ) (laid : Laid) (e : laidAt bits s ≡ given 
   pub record FecSizes : Type 0 where
     pub none : (z source ≡ 0) × (z group ≡ 0)
     pub start : fecStart (laid .type) ≡ 2 + (z distinguisher + z sourceAs)
-    pub size : frontSize (fromFec (laid .type) s) ≡ z fec
+    pub size : fecSize (fromFec (laid .type) s) ≡ z fec
+    pub opaque : opaqueStart (fromFec (laid .type) s) ≤ length (fromFec (laid .type) s)
 
   pub fec-sizes : withFec (laid .type) ≡ true → FecSizes
-  unfolding fieldSize fecStart fromFec
+  unfolding fieldSize fromFec
   fec-sizes h =
       let n : withKey (laid .type) ≡ false = unkeyed-fec (laid .type) h in
       let st = starts (laid .body) (laid .sizes) in
       let o = other-sizes n in
       let yes : hasField fec (laid .body) ≡ true = has-fec ∙ h in
-      let begin : sourceStart (laid .type) - 1 ≡ 2 + (z distinguisher + z sourceAs) = omega (arith, o .start) in
+      let begin = fec-begins h in
       let at : startIn (laid .body) (laid .sizes) fec ≡ z distinguisher + z sourceAs = omega (arith, o .unkeyed) in
       let within : z distinguisher + z sourceAs ≤ laid .size = omega (arith, total) in
-      let from : drop (z distinguisher + z sourceAs) (part s 2 (laid .size)) ≡ part s (sourceStart (laid .type) - 1) (2 + getD s 1 0 - (sourceStart (laid .type) - 1)) =
+      let from : drop (z distinguisher + z sourceAs) (part s 2 (laid .size)) ≡ part s (fecStart (laid .type)) (2 + getD s 1 0 - fecStart (laid .type)) =
       drop-part s 2 (laid .size) (z distinguisher + z sourceAs) within
       ∙ ap₂ (part s) (sym begin) (omega (arith, begin, out .sized)) in
-      let read = rw at at (kind-stands fec yes .read) in
+      let read = size-read _ _ (z fec) (rw at at (kind-stands fec yes .read)) in
       record {
         none = (lacked source (unkeyed-row n .2 yes), lacked group (unkeyed-row n .1 ∙ unkeyed-row n .2 yes));
         start = begin;
-        size = ap frontSize (sym from) ∙ size-read _ _ (z fec) read .0;
+        size = ap fecSize (sym from) ∙ read .0;
+        opaque = rw (sym from) (read .2);
       }
 
   pub no-flow : withKey (laid .type) ≡ false → hasField source (laid .body) ≡ false → (z source ≡ 0) × (z group ≡ 0)
@@ -302,7 +330,6 @@ module _ (bits : ℕ) (small : bits ≤ 128) (s : List ℕ) (laid : Laid) (e : l
           group = (omega (arith, address-short bits s laid e small group (λ y. refl)), address-ends group _ (omega (arith, all)) b);
           originator = (originator-short bits s laid e, omega (arith, long, all));
           key = omega (arith, long, all);
-          sourceAsKind = ap (hasField sourceAs) (sym (out bits s laid e .body)) ∙ has-source-as bits s laid e;
           fecKind = ap (hasField fec) (sym (out bits s laid e .body)) ∙ has-fec bits s laid e;
           fecEnd = fec-ends (fecStart (laid .type)) c;
           keyKind = ap (hasField key) (sym (out bits s laid e .body)) ∙ has-key bits s laid e;
@@ -320,17 +347,17 @@ module _ (bits : ℕ) (small : bits ≤ 128) (s : List ℕ) (laid : Laid) (e : l
       (inl (l .rest .4))
 
   other-shaped : withKey (laid .type) ≡ false → Shaped laid s
-  unfolding distinguisherAt sourceAsAt numberIn fecStart
+  unfolding distinguisherAt sourceAsAt numberIn
   other-shaped t =
       let at = starts (laid .body) (laid .sizes) in
       let o = other-sizes bits s laid e t in
       let flow : (w group ≡ 0) ⊎ (3 + start group ≡ sourceStart (laid .type) + (w source - 1) + 1) =
       tested (hasField source (laid .body))
-      (λ yes. inr (omega (arith, o .unkeyed, o .start, flow-bare bits s laid e t yes, flow-sizes bits s laid e t yes .first)))
+      (λ yes. inr (omega (arith, o .unkeyed, flow-start bits s laid e t yes, flow-bare bits s laid e t yes, flow-sizes bits s laid e t yes .first)))
       (λ no. inl (no-flow bits s laid e t no .1)) in
       let first : (w source ≡ 0) ⊎ (3 + start source ≡ sourceStart (laid .type)) =
       tested (hasField source (laid .body))
-      (λ yes. inr (omega (arith, o .unkeyed, o .start, flow-bare bits s laid e t yes)))
+      (λ yes. inr (omega (arith, o .unkeyed, flow-start bits s laid e t yes, flow-bare bits s laid e t yes)))
       (λ no. inl (no-flow bits s laid e t no .0)) in
       let number : (numberIn (field sourceAs) 0 ≡ pick (withSourceAs (laid .type)) (numberIn (part s 10 4) 0) 0) × (withSourceAs (laid .type) ≡ true → 14 ≤ length s) =
       tested (withSourceAs (laid .type))
@@ -340,11 +367,14 @@ module _ (bits : ℕ) (small : bits ≤ 128) (s : List ℕ) (laid : Laid) (e : l
       (ap (λ (x : List ℕ). numberIn x 0) (piece sourceAs ∙ ap₂ (part s) ten four) ∙ sym (pick-true _ _ _ yes), λ _. omega (arith, long, all, o .eight)))
       (λ no. (ap (λ (x : List ℕ). numberIn x 0) (no-piece sourceAs (o .numbered ∙ pick-false _ _ _ no)) ∙ sym (pick-false _ _ _ no), λ yes. absurd (opposite yes no))) in
       let two : 2 + start distinguisher ≡ 2 = omega (arith, o .unkeyed) in
-      let begin : 2 + start fec ≡ sourceStart (laid .type) - 1 = omega (arith, o .unkeyed, o .start) in
+      let held : (w fec ≡ 0) ⊎ (2 + start fec ≡ fecStart (laid .type)) =
+      tested (withFec (laid .type))
+      (λ yes. inr (omega (arith, o .unkeyed, fec-sizes bits s laid e yes .start)))
+      (λ no. inl (lacked bits s laid e fec (has-fec bits s laid e ∙ no))) in
       shape first flow
       (piece distinguisher ∙ ap₂ (part s) two (o .eight) ∙ sym (pick-false _ _ _ t), λ _. omega (arith, long, all, o .eight))
       number
-      (inr begin)
+      held
 
 pub shaped : (bits : ℕ) (s : List ℕ) (laid : Laid) → bits ≤ 128 → laidSingle bits s ≡ given laid → Shaped laid s
 shaped bits s laid small e =

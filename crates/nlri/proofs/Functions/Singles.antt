@@ -1,39 +1,74 @@
--- A single NLRI: its layout, and its fields by its layout.
+-- A single NLRI: its number, also where it is to be of a type, its layout, and its fields by its layout.
 use mathlib.Core.Path.{_≡_, refl, sym, _∙_, ap, ap₂, subst}
-use mathlib.Core.Bool.{Bool, true, false}
+use mathlib.Core.Bool.{true}
+use mathlib.Core.Logic.{⊎-elim}
 use mathlib.Core.List.{List}
 use Prim.Native.Nat.{ℕ, zero, suc, _+_, _-_, _≤_, _<_}
 use native.Mathlib.Omega.{arith}
+use borrow.Author.Tests.{eqb-true, eq-eqb, ne-eqb}
 use lib.ListN.{length, getD}
-use Rattle.octets.specs.Numbers.{DONE}
-use Rattle.octets.specs.Choice.{pick}
-use Rattle.octets.specs.Outcome.{Outcome, given, refused, andThen, onOutcome}
+use Rattle.octets.specs.Numbers.{DONE, LENGTH, FAMILY, KIND}
+use Rattle.octets.specs.Choice.{pick, either}
+use Rattle.octets.specs.Outcome.{Outcome, given, refused, andThen, onOutcome, numberOf}
 use Rattle.octets.specs.Octets.{part}
 use Rattle.octets.specs.declared.Span.{Span}
-use Rattle.octets.proofs.Choice.{pick-true, tested}
-use Rattle.octets.proofs.Outcome.{goes, and-assoc, and-cong, and-pick, and-given, and-refused, passed, given-same, refused-alike}
+use Rattle.octets.proofs.Choice.{pick-true, pick-false, tested, either-true}
+use Rattle.octets.proofs.Outcome.{goes, stops, and-assoc, and-cong, and-pick, and-given, and-refused, passed, given-unless, given-same, refused-alike, refused-of, number-given, number-goes, number-stops, number-picks, number-skips, value, number, refuses-then, refuses-pick}
 use Rattle.nlri.specs.declared.layout.Layout.{Layout}
 use Rattle.nlri.specs.declared.address.Address.{Address}
 use Rattle.nlri.specs.declared.address.RouteDistinguisher.{RouteDistinguisher}
 use Rattle.nlri.specs.declared.fields.Nlri.{Nlri}
 use Rattle.nlri.specs.declared.fields.NlriReading.{NlriReading}
 use Rattle.nlri.specs.Family.{familyBits}
-use Rattle.nlri.specs.Bodies.{sourceAs, originator, fec, bodyOf, hasField}
+use Rattle.nlri.specs.Bodies.{sourceAs, originator, fec, bodies, onBody, bodyOf, codeOf, sameKind, hasField}
 use Rattle.nlri.specs.Fields.{Fields}
-use Rattle.nlri.specs.Reading.{Laid, laidAt, laidSingle, fieldsOf, readNlri}
+use Rattle.nlri.specs.Reading.{Laid, laidAt, laidSingle, fieldsOf, readNlri, readOfType}
 use Rattle.nlri.specs.Layouts.{layoutOf, layoutAt, layoutSingle}
 use Rattle.nlri.specs.Answers.{nlriStruct, keySpan, fecSpan, nlriAnswer}
-use Rattle.nlri.specs.Inner.{withKey, withFec, withSourceAs, sourceStart, fecStart, layoutIn, Stands, fieldsAt, keyAt, fecAt, LayoutWithin, endsWith, single}
+use Rattle.nlri.specs.Inner.{withKey, withFec, fecStart, layoutIn, Stands, fieldsAt, keyAt, fecAt, LayoutWithin, single}
 use Rattle.nlri.proofs.Definitions.Lengths.{family-octets}
 use Rattle.octets.proofs.Lists.{length-part}
 use Rattle.nlri.proofs.Functions.Shapes.{shaped, originator-least, other-sizes, lacked, has-fec}
-use Rattle.nlri.proofs.Functions.Standing.{stands, laid-as}
+use Rattle.nlri.proofs.Functions.Standing.{stands, laid-as, laid-in}
+use Rattle.nlri.proofs.Functions.Fronts.{layout-octets}
+use Rattle.nlri.proofs.Definitions.Families.{family-refused}
+use Rattle.nlri.proofs.Definitions.ReadNumbers.{refuses-done, refuses-layout}
 use Rattle.nlri.proofs.Definitions.Whole.{single-laid-out}
 
 pub single-laid : (bits : ℕ) (s : List ℕ) → single bits s ≡ andThen (laidSingle bits s) (λ laid. given (layoutOf laid))
-unfolding single endsWith layoutAt laidSingle layoutOf
+unfolding single layoutAt laidSingle layoutOf
 single-laid bits s =
     and-assoc _ _ _ ∙ and-cong _ _ _ (λ laid e. and-given _ _ ∙ sym (and-pick _ _ _ _ ∙ ap₂ (pick _) (and-given _ _) (and-refused _ _))) ∙ sym (and-assoc _ _ _)
+
+-- the number of a single NLRI, by that of the NLRI at its front
+module _ (bits : ℕ) (s : List ℕ) (n : ℕ) (e : n ≡ numberOf (layoutAt bits s)) where
+  pub front-refused : (n ≡ DONE → ⊥) → n ≡ numberOf (single bits s)
+  unfolding single
+  front-refused faulty = number-stops n _ _ (refused-of _ n e faulty)
+
+  module _ (done : n ≡ DONE) where
+    front : layoutAt bits s ≡ given (layoutIn s)
+    front = sym (laid-in bits s n e done .1)
+
+    pub front-octets : (2 ≤ length s) × (layoutIn s .length ≡ getD s 1 0)
+    front-octets = let o = layout-octets bits s _ front in (o .0, o .3)
+
+    pub front-alone : length s - 2 ≡ getD s 1 0 → DONE ≡ numberOf (single bits s)
+    unfolding single numberOf
+    front-alone all = number-goes DONE _ (layoutIn s) _ front (number-picks DONE _ _ _ (eq-eqb _ _ (all ∙ sym (front-octets .1))) refl)
+
+    pub front-followed : (length s - 2 ≡ getD s 1 0 → ⊥) → LENGTH ≡ numberOf (single bits s)
+    unfolding single numberOf
+    front-followed more = number-goes LENGTH _ (layoutIn s) _ front (number-skips LENGTH _ _ _ (ne-eqb _ _ (λ q. more (q ∙ front-octets .1))) refl)
+
+-- by its number, a single NLRI stands there, laid out as its octets say
+pub single-in : (bits : ℕ) (s : List ℕ) (n : ℕ) → n ≡ numberOf (single bits s) → n ≡ DONE → Stands s × (given (layoutIn s) ≡ single bits s)
+unfolding single
+single-in bits s n e done =
+    let r = refuses-done (single bits s) (refuses-then _ _ (refuses-layout bits s) (λ l. refuses-pick _ _ _ value (number {n = LENGTH} (omega arith)))) (sym e ∙ done) in
+    let w = passed _ _ _ (r .1) in
+    let l = laid-in bits s _ refl (number-given (w .first)) in
+    (l .0, l .1 ∙ w .first ∙ given-unless _ _ _ _ (w .second) .1 ∙ sym (r .1))
 
 pub single-is : (o : Outcome Layout) (afi : ℕ) (s : List ℕ) → o ≡ andThen (familyBits afi) (λ bits. single bits s) → o ≡ layoutSingle afi s
 unfolding layoutSingle
@@ -55,6 +90,32 @@ module _ (afi : ℕ) (s : List ℕ) where
   pub read-refused : (n : ℕ) → layoutSingle afi s ≡ refused n → readNlri afi s ≡ refused n
   unfolding layoutSingle readNlri
   read-refused n e = refused-alike (familyBits afi) (λ bits. laidSingle bits s) (λ bits laid. layoutOf laid) (λ bits laid. fieldsOf laid s) n e
+
+-- the number of an NLRI that is to be of a type: by its family, and by the number of the single NLRI
+module _ (type afi : ℕ) (s : List ℕ) where
+  pub of-no-family : (n : ℕ) → familyBits afi ≡ refused n → FAMILY ≡ numberOf (readOfType type afi s)
+  unfolding readNlri
+  of-no-family n e = sym (family-refused afi n e .0) ∙ number-stops n _ _ (sym (stops _ n _ e))
+
+  module _ (bits : ℕ) (family : familyBits afi ≡ given bits) (n : ℕ) (e : n ≡ numberOf (single bits s)) where
+    pub of-type-refused : (n ≡ DONE → ⊥) → n ≡ numberOf (readOfType type afi s)
+    of-type-refused faulty = number-stops n _ _ (read-refused afi s n (sym (single-is (refused n) afi s (goes (refused n) _ bits _ family (sym (refused-of _ n e faulty))))))
+
+    module _ (done : n ≡ DONE) where
+      read : readNlri afi s ≡ given (fieldsAt (layoutIn s) s)
+      read = read-by-layout afi s (layoutIn s) (sym (single-is (given (layoutIn s)) afi s (goes (given (layoutIn s)) _ bits _ family (single-in bits s n e done .1)))) .0
+
+      typed : layoutIn s .«route_type» ≡ getD s 0 0
+      unfolding single
+      typed = layout-octets bits s (layoutIn s) (sym (laid-in bits s _ refl (number-given (passed _ _ _ (sym (single-in bits s n e done .1)) .first)) .1)) .2
+
+      pub of-type-given : getD s 0 0 ≡ type → DONE ≡ numberOf (readOfType type afi s)
+      unfolding fieldsAt numberOf
+      of-type-given t = number-goes DONE _ (fieldsAt (layoutIn s) s) _ read (number-picks DONE _ _ _ (eq-eqb _ type (typed ∙ t)) refl)
+
+      pub of-type-other : (getD s 0 0 ≡ type → ⊥) → KIND ≡ numberOf (readOfType type afi s)
+      unfolding fieldsAt numberOf
+      of-type-other t = number-goes KIND _ (fieldsAt (layoutIn s) s) _ read (number-skips KIND _ _ _ (ne-eqb _ type (λ q. t (sym typed ∙ q))) refl)
 
 -- what is read of a single NLRI, by the octets where its fields stand
 pub record ReadAt (s : List ℕ) (f : Fields) : Type 0 where
@@ -92,22 +153,25 @@ pub key-same : (l : Layout) (s : List ℕ) → LayoutWithin l s → keyAt l ≡ 
 unfolding keyAt keySpan fieldsAt
 key-same l s w = λ i. record { start = pick (sym (w .keyKind) i) 2 0; size = sym (length-part s 2 (l .key) (w .key)) i }
 
--- a FEC starts where the length octet of a source would stand
-start-pick : (b : Bool) → pick b 15 11 - 1 ≡ pick b 14 10
-unfolding pick
-start-pick true = refl
-start-pick false = refl
-
 fec-long : (n at : ℕ) (s : List ℕ) → (0 < n → at + n ≤ length s) → length (part s at n) ≡ n
 unfolding part
 fec-long zero at s h = refl
 fec-long (suc n) at s h = length-part s at (suc n) (h (omega arith))
 
+fec-start : (type : ℕ) → hasField fec (bodyOf type) ≡ withFec type → pick (withFec type) (fecStart type) 0 ≡ pick (hasField fec (bodyOf type)) (pick (hasField sourceAs (bodyOf type)) 14 10) 0
+unfolding withFec fecStart bodyOf onBody bodies hasField sameKind codeOf either pick
+fec-start type k =
+    tested (withFec type)
+    (λ yes. ⊎-elim (λ t. at 67 (eqb-true _ _ t) refl) (λ t. at 71 (eqb-true _ _ t) refl) (either-true _ _ yes))
+    (λ no. pick-false _ _ 0 no ∙ sym (pick-false _ (pick (hasField sourceAs (bodyOf type)) 14 10) 0 (k ∙ no)))
+  where
+    at : (n : ℕ) → type ≡ n → pick (withFec n) (fecStart n) 0 ≡ pick (hasField fec (bodyOf n)) (pick (hasField sourceAs (bodyOf n)) 14 10) 0
+        → pick (withFec type) (fecStart type) 0 ≡ pick (hasField fec (bodyOf type)) (pick (hasField sourceAs (bodyOf type)) 14 10) 0
+    at n e h = rw e h
+
 pub fec-same : (l : Layout) (s : List ℕ) → LayoutWithin l s → fecAt l ≡ fecSpan (fieldsAt l s)
-unfolding fecAt fecSpan fieldsAt fecStart sourceStart
-fec-same l s w =
-    let start : pick (withSourceAs (l .«route_type»)) 15 11 - 1 ≡ pick (hasField sourceAs (bodyOf (l .«route_type»))) 14 10 = start-pick _ ∙ ap (λ (b : Bool). pick b 14 10) (sym (w .sourceAsKind)) in
-    λ i. record { start = pick (sym (w .fecKind) i) (start i) 0; size = sym (fec-long (l .fec) _ s (w .fecEnd)) i }
+unfolding fecAt fecSpan fieldsAt
+fec-same l s w = λ i. record { start = fec-start (l .«route_type») (w .fecKind) i; size = sym (fec-long (l .fec) _ s (w .fecEnd)) i }
 
 fec-begin : (bits : ℕ) (s : List ℕ) (laid : Laid) → laidAt bits s ≡ given laid → part s (fecAt (layoutOf laid) .start) (layoutOf laid .fec) ≡ part s (fecStart (laid .type)) (layoutOf laid .fec)
 unfolding fecAt layoutOf part

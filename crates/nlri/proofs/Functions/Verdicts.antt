@@ -147,26 +147,24 @@ module _ (bits : ℕ) (f : Fields) (l : listed bodies (f .type) ≡ true) (low :
   verdict-is done short wide = ap₂ (λ a b. pick a (pick b done short) wide) widths-are keys-are ∙ pick-both _ _ _ _
 
 -- the writer's verdict, and what comes after it
-verdict : {A : Type 0} (b d flow origin leaf : Bool) → Outcome A → Outcome A
-verdict b d flow origin leaf o = pick b (refused TYPE) (pick d (refused TYPE) (pick flow (pick origin (pick leaf o (refused KEY)) (refused WIDTH)) (refused WIDTH)))
+verdict : {A : Type 0} (b flow origin leaf : Bool) → Outcome A → Outcome A
+verdict b flow origin leaf o = pick b (refused TYPE) (pick flow (pick origin (pick leaf o (refused KEY)) (refused WIDTH)) (refused WIDTH))
 
-verdict-then : {A B : Type 0} (b d flow origin leaf : Bool) (a : A) (next : A → Outcome B) → andThen (verdict b d flow origin leaf (given a)) next ≡ verdict b d flow origin leaf (next a)
+verdict-then : {A B : Type 0} (b flow origin leaf : Bool) (a : A) (next : A → Outcome B) → andThen (verdict b flow origin leaf (given a)) next ≡ verdict b flow origin leaf (next a)
 unfolding verdict pick andThen
-verdict-then true d flow origin leaf a next = refl
-verdict-then false true flow origin leaf a next = refl
-verdict-then false false false origin leaf a next = refl
-verdict-then false false true false leaf a next = refl
-verdict-then false false true true false a next = refl
-verdict-then false false true true true a next = refl
+verdict-then true flow origin leaf a next = refl
+verdict-then false false origin leaf a next = refl
+verdict-then false true false leaf a next = refl
+verdict-then false true true false a next = refl
+verdict-then false true true true a next = refl
 
-verdict-done : {A : Type 0} (b d flow origin leaf : Bool) (a : A) → numberOf (verdict b d flow origin leaf (given a)) ≡ DONE → verdict b d flow origin leaf (given a) ≡ given a
+verdict-done : {A : Type 0} (b flow origin leaf : Bool) (a : A) → numberOf (verdict b flow origin leaf (given a)) ≡ DONE → verdict b flow origin leaf (given a) ≡ given a
 unfolding verdict pick numberOf
-verdict-done true d flow origin leaf a e = absurd (omega arith)
-verdict-done false true flow origin leaf a e = absurd (omega arith)
-verdict-done false false false origin leaf a e = absurd (omega arith)
-verdict-done false false true false leaf a e = absurd (omega arith)
-verdict-done false false true true false a e = absurd (omega arith)
-verdict-done false false true true true a e = refl
+verdict-done true flow origin leaf a e = absurd (omega arith)
+verdict-done false false origin leaf a e = absurd (omega arith)
+verdict-done false true false leaf a e = absurd (omega arith)
+verdict-done false true true false a e = absurd (omega arith)
+verdict-done false true true true a e = refl
 
 module _ (nlri : Nlri) (keyOctets fecOctets : List ℕ) (space bits : ℕ) (eight : length (nlri .distinguisher .octets) ≡ 8) (low : nlri .«route_type» ≤ 7) where
   f : Fields
@@ -208,16 +206,15 @@ module _ (nlri : Nlri) (keyOctets fecOctets : List ℕ) (space bits : ℕ) (eigh
       ∙ ap₂ (λ (a b : ℕ). pick (flowFits bits type a b) (pick (originatorFits type (length (addressOctets (nlri .originator)))) (pick (leafFits bits type keyOctets) page (refused KEY)) (refused WIDTH)) (refused WIDTH)) (length-octets (nlri .source)) (length-octets (nlri .group))
       ∙ ap₂ (λ (c : ℕ) (o : Outcome (List ℕ)). pick (flowFits bits type (nlri .source .size) (nlri .group .size)) (pick (originatorFits type c) (pick (leafFits bits type keyOctets) o (refused KEY)) (refused WIDTH)) (refused WIDTH)) (length-octets (nlri .originator)) (same-octets l)
 
-  -- a type that the table lists, or not, by the writer's tests
-  by-tests : (b d : Bool) → ltb (nlri .«route_type») 1 ≡ b → ltb 7 (nlri .«route_type») ≡ d → pick (listed bodies (nlri .«route_type»)) (verdictOf bits f space) (refused TYPE) ≡ pick b (refused TYPE) (pick d (refused TYPE) (judged ours))
+  -- a type that the table lists, or not, by the writer's test
+  by-test : (b : Bool) → ltb (nlri .«route_type») 1 ≡ b → pick (listed bodies (nlri .«route_type»)) (verdictOf bits f space) (refused TYPE) ≡ pick b (refused TYPE) (judged ours)
   unfolding pick
-  by-tests true d p q = pick-false _ _ _ (unlisted _ (λ h. omega (arith, ltb-true (nlri .«route_type») 1 p, known-least _ h)))
-  by-tests false true p q = absurd (omega (arith, ltb-true 7 (nlri .«route_type») q))
-  by-tests false false p q = let l = known (nlri .«route_type») (toSeven (ltb-false (nlri .«route_type») 1 p) low) in pick-true _ _ _ l ∙ verdict-row l ∙ within l
+  by-test true p = pick-false _ _ _ (unlisted _ (λ h. omega (arith, ltb-true (nlri .«route_type») 1 p, known-least _ h)))
+  by-test false p = let l = known (nlri .«route_type») (toSeven (ltb-false (nlri .«route_type») 1 p) low) in pick-true _ _ _ l ∙ verdict-row l ∙ within l
 
   pub to-seven-is : pick (listed bodies (nlri .«route_type»)) (verdictOf bits (structFields nlri keyOctets fecOctets) space) (refused TYPE) ≡ writtenToSeven bits nlri keyOctets space
   unfolding writtenToSeven fitting judged ours verdict f
-  to-seven-is = by-tests _ _ refl refl ∙ sym (verdict-then _ _ _ _ _ _ _)
+  to-seven-is = by-test _ refl ∙ sym (verdict-then _ _ _ _ _ _)
 
 -- what follows where the writer finds no fault
 octets-size : (bits type size : ℕ) → (bits ≡ 32) ⊎ (bits ≡ 128) → allowed bits type (8 * size) ≡ true → AddressSize size
@@ -239,7 +236,6 @@ originator-octets size h = go (either-true _ _ h)
 
 module _ (bits : ℕ) (nlri : Nlri) (keyOctets : List ℕ) (fits : fitting bits nlri keyOctets ≡ given nlri) where
   record Faultless : Type 0 where
-    typed : nlri .«route_type» ≤ 7
     flow : flowFits bits (nlri .«route_type») (nlri .source .size) (nlri .group .size) ≡ true
     origin : originatorFits (nlri .«route_type») (nlri .originator .size) ≡ true
     leaf : leafFits bits (nlri .«route_type») keyOctets ≡ true
@@ -248,11 +244,10 @@ module _ (bits : ℕ) (nlri : Nlri) (keyOctets : List ℕ) (fits : fitting bits 
   unfolding fitting
   faultless =
       let p = given-otherwise _ _ _ _ fits in
-      let q = given-otherwise _ _ _ _ (p .1) in
-      let r = given-unless _ _ _ _ (q .1) in
+      let r = given-unless _ _ _ _ (p .1) in
       let s = given-unless _ _ _ _ (r .1) in
       let t = given-unless _ _ _ _ (s .1) in
-      record { typed = ltb-false 7 (nlri .«route_type») (q .0); flow = r .0; origin = s .0; leaf = t .0 }
+      record { flow = r .0; origin = s .0; leaf = t .0 }
 
   pub sized-nlri : (bits ≡ 32) ⊎ (bits ≡ 128) → AddressesSized nlri
   unfolding flowFits originatorFits
@@ -278,7 +273,7 @@ module _ (bits : ℕ) (nlri : Nlri) (keyOctets : List ℕ) (fits : fitting bits 
 -- the fields fit where the number is DONE
 pub fits-done : (bits : ℕ) (nlri : Nlri) (keyOctets : List ℕ) (n : ℕ) → n ≡ numberOf (fitting bits nlri keyOctets) → n ≡ DONE → fitting bits nlri keyOctets ≡ given nlri
 unfolding fitting verdict
-fits-done bits nlri keyOctets n p q = verdict-done _ _ _ _ _ _ (sym p ∙ q)
+fits-done bits nlri keyOctets n p q = verdict-done _ _ _ _ _ (sym p ∙ q)
 
 module _ (bits : ℕ) (nlri : Nlri) (keyOctets : List ℕ) (space : ℕ) where
   pub refused-under : (n : ℕ) → n ≡ numberOf (fitting bits nlri keyOctets) → (n ≡ DONE → ⊥) → refused n ≡ writtenToSeven bits nlri keyOctets space

@@ -17,7 +17,7 @@ use Rattle.nlri.specs.Family.{familyBits}
 use Rattle.nlri.specs.Groups.{ASM, SSM, multicast, sourceSpecific, classUnder, classOf}
 use Rattle.nlri.specs.Statements.{Multicast, SourceSpecific, GroupRefusal, badFamily, badGroup, GroupRule}
 use Rattle.nlri.proofs.Definitions.Lengths.{good-family, family-good}
-use Rattle.nlri.proofs.Statements.Faults.{family-refused}
+use Rattle.nlri.proofs.Definitions.Families.{family-refused}
 
 -- a class by three tests: the size, the multicast range, the range of SSM
 shape : (sized multi spec : Bool) → Outcome ℕ

@@ -8,14 +8,14 @@ use native.Mathlib.Omega.{arith}
 use borrow.Author.Tests.{eqb-true, eqb-false, eq-eqb, ne-eqb, ltb-true, lt-ltb, leb-true, le-leb}
 use lib.ListN.{length, getD, take, drop, length-drop, take-append-drop}
 use lib.Seq.{length-take-le, take-length, drop-append-seam, drop-length}
-use Rattle.octets.specs.Numbers.{DONE, LENGTH, WIDTH, KEY, IDENT, FAMILY, DEEP}
+use Rattle.octets.specs.Numbers.{DONE, LENGTH}
 use Rattle.octets.specs.Outcome.{given, refused}
 use Rattle.octets.specs.Octets.{AllOctets}
 use Rattle.octets.proofs.Choice.{pick-true, pick-false, picked}
 use Rattle.octets.proofs.Outcome.{goes, stops, never, refused-same, stopped, outcome, refuses-where, refuses-unless}
 use Rattle.octets.proofs.AllOctets.{octets-drop}
 use Rattle.octets.proofs.Lists.{front-rest}
-use Rattle.nlri.specs.Family.{familyBits, allowed, isOriginatorSize}
+use Rattle.nlri.specs.Family.{allowed, isOriginatorSize}
 use Rattle.nlri.specs.Bodies.{FieldKind, distinguisher, sourceAs, source, group, originator, key, fec}
 use Rattle.nlri.specs.Fields.{encodeAddress, KeyOf}
 use Rattle.nlri.specs.Reading.{fixedField, addressEnd, addressField, originatorField, fieldSize, sizesOf, keyField}
@@ -180,15 +180,3 @@ faulty-numbers bits type body s n (later {body = rest} x t e at fault) = faulty-
 pub fault-not-done : (n : ℕ) → BodyFault n → n ≡ DONE → ⊥
 fault-not-done n h e =
     ⊎-elim (λ p. omega arith) (λ a. ⊎-elim (λ p. omega arith) (λ b. ⊎-elim (λ p. omega arith) (λ c. ⊎-elim (λ p. omega arith) (λ p. omega arith) c) b) a) h
-
--- the families
-pub family-refused : (afi n : ℕ) → familyBits afi ≡ refused n → (n ≡ FAMILY) × ((afi ≡ 1 → ⊥) × (afi ≡ 2 → ⊥))
-unfolding familyBits
-family-refused afi n e =
-    ⊎-elim (λ one. absurd (never refl (one .1)))
-    (λ other. let p = refuses-unless _ _ _ _ (other .1) in (p .1, (eqb-false afi 1 (other .0), eqb-false afi 2 (p .0))))
-    (picked _ _ _ _ e)
-
-pub family-refuses : (afi : ℕ) → (afi ≡ 1 → ⊥) → (afi ≡ 2 → ⊥) → familyBits afi ≡ refused FAMILY
-unfolding familyBits
-family-refuses afi one two = pick-false _ _ _ (ne-eqb afi 1 one) ∙ pick-false _ _ _ (ne-eqb afi 2 two)

@@ -24,7 +24,8 @@ use Rattle.nlri.proofs.Definitions.Lengths.{family-octets}
 use Rattle.nlri.proofs.Definitions.Whole.{laid-out, laid-complete}
 use Rattle.nlri.proofs.Definitions.Keys.{key-judges}
 use Rattle.nlri.proofs.Statements.Acceptance.{acceptance, front-sound}
-use Rattle.nlri.proofs.Statements.Faults.{body-refused, faulty-refuses, faulty-numbers, fault-not-done, family-refused, family-refuses}
+use Rattle.nlri.proofs.Definitions.Families.{family-refused, family-refuses}
+use Rattle.nlri.proofs.Statements.Faults.{body-refused, faulty-refuses, faulty-numbers, fault-not-done}
 
 module _ (afi bits : ℕ) (ofFamily : familyBits afi ≡ given bits) (s : List ℕ) (a : AllOctets s) where
   whole : 8 * (bits / 8) ≡ bits

@@ -13,18 +13,18 @@ use Rattle.octets.specs.Outcome.{Outcome, given, refused}
 use Rattle.octets.proofs.Choice.{pick-true, pick-false, tested, opposite, both-true, both-true-left, both-true-right, picked, is-false, is-true}
 use Rattle.octets.proofs.Outcome.{goes, stops, never, passed, given-otherwise, refused-same, stopped, refused-of, number-refused}
 use Rattle.fec_elements.specs.declared.Standing.the-variants.{Lent}
-use Rattle.fec_elements.specs.Statements.{FirstFault}
+use Rattle.fec_elements.specs.Statements.{NestedFault}
 use Rattle.fec_elements.proofs.Nesting.{read-refused}
 use Rattle.fec_elements.proofs.Theorems.{nestedFecRule}
 use Rattle.nlri.specs.Family.{familyBits, rootFamily}
 use Rattle.nlri.specs.Bodies.{FieldKind, distinguisher, sourceAs, source, group, originator, key, fec, KnownType, bodyOf, sameKind, hasField}
 use Rattle.nlri.specs.Fields.{Fields, encodeNlri, WellFormed, KeyOf}
-use Rattle.nlri.specs.Writing.{widthFits, widthsFit, fecNumber, isLong, isKey, keyFits, keysFit, writeNlri}
+use Rattle.nlri.specs.Writing.{widthFits, widthsFit, fecNumber, isLong, isKey, keyFits, writeNlri}
 use Rattle.nlri.specs.Statements.{HoldsOctets, WidthFault, WidthsFit, FecFits, TooLong, WriteRefusal, badFamily, badType, badWidth, badFec, long, badKey, noSpace, WriteRefusals}
 use Rattle.nlri.proofs.Definitions.Table.{known, rowOf, same-kind, has-first, has-later, unlisted}
 use Rattle.nlri.proofs.Definitions.Writes.{all, widths-all, keys-all, verdict, verdictOf, write-is, write-well, written, key-judged, key-fits, well-passed}
 use Rattle.nlri.proofs.Definitions.Fecs.{fec-lent, lent-fec}
-use Rattle.nlri.proofs.Statements.Faults.{family-refused, family-refuses}
+use Rattle.nlri.proofs.Definitions.Families.{family-refused, family-refuses}
 
 all-true : (test : FieldKind → Bool) (body : List FieldKind) → all test body ≡ true → (kind : FieldKind) → hasField kind body ≡ true → test kind ≡ true
 unfolding all hasField either
@@ -100,14 +100,14 @@ module _ (afi bits : ℕ) (ofFamily : familyBits afi ≡ given bits) (f : Fields
   fit-fec c =
       tested (hasField fec (bodyOf (f .type))) (λ yes. pick-true _ _ _ yes ∙ fec-lent bits (f .fec) (c yes)) (λ no. pick-false _ _ _ no)
 
-  fec-faulty : (fecNumber bits f (bodyOf (f .type)) ≡ DONE → ⊥) → (hasField fec (bodyOf (f .type)) ≡ true) × FirstFault 3 (Lent (rootFamily bits)) (f .fec) (fecNumber bits f (bodyOf (f .type)))
+  fec-faulty : (fecNumber bits f (bodyOf (f .type)) ≡ DONE → ⊥) → (hasField fec (bodyOf (f .type)) ≡ true) × NestedFault (Lent (rootFamily bits)) (f .fec) (fecNumber bits f (bodyOf (f .type)))
   unfolding fecNumber
   fec-faulty h =
       tested (hasField fec (bodyOf (f .type)))
       (λ yes. (yes, nestedFecRule .exactly (Lent (rootFamily bits)) (f .fec) _ (held .fec) .0 (refused-of _ _ (pick-true _ _ _ yes) h)))
       (λ no. absurd (h (pick-false _ _ _ no)))
 
-  faulty-fec : (n : ℕ) → hasField fec (bodyOf (f .type)) ≡ true → FirstFault 3 (Lent (rootFamily bits)) (f .fec) n → (fecNumber bits f (bodyOf (f .type)) ≡ n) × (n ≡ DONE → ⊥)
+  faulty-fec : (n : ℕ) → hasField fec (bodyOf (f .type)) ≡ true → NestedFault (Lent (rootFamily bits)) (f .fec) n → (fecNumber bits f (bodyOf (f .type)) ≡ n) × (n ≡ DONE → ⊥)
   unfolding fecNumber
   faulty-fec n has fault =
       let r = nestedFecRule .exactly (Lent (rootFamily bits)) (f .fec) n (held .fec) .1 fault in
@@ -165,7 +165,7 @@ module _ (afi bits : ℕ) (ofFamily : familyBits afi ≡ given bits) (f : Fields
   unfolding verdictOf verdict
   width-stops typed k h fault = typed-stops _ typed (pick-false _ _ _ (widths-all bits f _ ∙ all-fails (widthFits bits f) _ k h (fault-width bits f k fault)))
 
-  fec-stops : (n : ℕ) → KnownType (f .type) → WidthsFit bits f → hasField fec (bodyOf (f .type)) ≡ true → FirstFault 3 (Lent (rootFamily bits)) (f .fec) n → writeNlri afi f space ≡ refused n
+  fec-stops : (n : ℕ) → KnownType (f .type) → WidthsFit bits f → hasField fec (bodyOf (f .type)) ≡ true → NestedFault (Lent (rootFamily bits)) (f .fec) n → writeNlri afi f space ≡ refused n
   unfolding verdictOf verdict
   fec-stops n typed widths has fault =
       let c = faulty-fec n has fault in

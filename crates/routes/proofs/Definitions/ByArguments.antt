@@ -12,11 +12,12 @@ use Rattle.octets.proofs.Outcome.{Refuses, value, number, refuses-pick, refuses
 use Rattle.octets.proofs.Choice.{opposite, pick-case}
 use Rattle.lists.specs.LentLists.{Item, itemField, readList}
 use Rattle.lists.proofs.Items.{first-item-case}
+use Rattle.nlri.specs.Reading.{readOfType}
 use Rattle.nlri.specs.Groups.{classUnder}
 use Rattle.nlri.proofs.Definitions.ReadNumbers.{ByReading, refuses-family, refuses-nlri}
 use Rattle.tunnel.specs.Attribute.{readAttribute}
 use Rattle.tunnel.specs.Identifier.{TableRow, identifierForms, formIn, formOf, readIdentifier}
-use Rattle.routes.specs.Arguments.{readOfType, readSPmsi, readLabelled, readRoute, readFlow, readMatch}
+use Rattle.routes.specs.Arguments.{readSPmsi, readLabelled, readRoute, readFlow, readMatch}
 use Rattle.routes.specs.SharedTree.{SharedTree, readSourceActive, sourceActiveFault, judgedTree, readTree}
 use Rattle.routes.specs.Asked.{Asked, ofFlow, ofSharedTree, readAsked}
 use Rattle.routes.specs.Call.{Call, install, withdraw, match, argued}

@@ -10,11 +10,11 @@ use Rattle.octets.specs.Outcome.{given, refused}
 use Rattle.octets.proofs.Choice.{opposite, both-true-left, both-true-right, pick-true, pick-false, is-false, both-true}
 use Rattle.octets.proofs.Outcome.{never, given-same, given-otherwise, given-unless, passed, outcome, stopped, refuses-unless, refuses-where, goes, stops}
 use Rattle.nlri.specs.Fields.{Fields}
-use Rattle.nlri.specs.Reading.{readNlri}
+use Rattle.nlri.specs.Reading.{readNlri, readOfType}
 use Rattle.tunnel.specs.Attribute.{AttributeFields, labelOf}
 use Rattle.routes.specs.Route.{route}
 use Rattle.routes.specs.Query.{Query, Flow}
-use Rattle.routes.specs.Arguments.{readOfType, readSPmsi, readLabelled, readRoute, readFlow, readMatch}
+use Rattle.routes.specs.Arguments.{readSPmsi, readLabelled, readRoute, readFlow, readMatch}
 use Rattle.routes.specs.Rules.ArgumentRules.{KnownFamily, SPmsi, Labelled, GoodFlow, TypeRefusal, NlriRefusal, unreadNlri, otherKind, RouteRefusal, badNlri, unreadAttribute, noLabel, FlowRefusal, badFlow, noSpace, ArgumentRule}
 use Rattle.routes.proofs.Definitions.Flows.{flow-asked, flow-given, flow-refused}
 

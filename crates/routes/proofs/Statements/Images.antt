@@ -13,7 +13,7 @@ use Rattle.octets.specs.Order.{zeros}
 use Rattle.octets.specs.Outcome.{Outcome, given, refused, onOutcome, numberOf}
 use Rattle.octets.proofs.Choice.{both-true-left, both-true-right, both-true}
 use Rattle.octets.proofs.Outcome.{given-same, given-unless, passed, refuses-unless, stopped}
-use Rattle.nlri.proofs.Statements.Faults.{family-refused}
+use Rattle.nlri.proofs.Definitions.Families.{family-refused}
 use Rattle.nlri.proofs.Definitions.Lengths.{good-family}
 use Rattle.octets.specs.Lists.{Among}
 use Rattle.routes.specs.Route.{Route}

@@ -10,7 +10,7 @@ use Rattle.octets.specs.Numbers.{DONE}
 use Rattle.octets.specs.Outcome.{Outcome, given, refused, onOutcome, numberOf}
 use Rattle.octets.proofs.Choice.{opposite, pick-true, pick-false, is-false}
 use Rattle.octets.proofs.Outcome.{goes, stops, refused-of, number-refused, number-given, done-given}
-use Rattle.nlri.proofs.Statements.Faults.{family-refuses}
+use Rattle.nlri.proofs.Definitions.Families.{family-refuses}
 use Rattle.nlri.proofs.Definitions.Lengths.{family-good}
 use Rattle.routes.specs.Place.{none}
 use Rattle.routes.specs.Route.{last}

@@ -16,7 +16,7 @@ use Rattle.octets.specs.Outcome.{Outcome, given, refused, onOutcome, andThen, n
 use Rattle.octets.specs.Octets.{AllOctets}
 use Rattle.octets.proofs.Choice.{both-true, either-left, tested, pick-true, pick-false, pick-case, pick-passed, opposite, is-false, both-held, picked, either-second}
 use Rattle.octets.proofs.Outcome.{never, given-same, refused-same, given-unless, and-case, passed, done-given, Refuses, value, number, refuses-by, refuses-also}
-use Rattle.fec_elements.specs.Element.{encodeFec}
+use Rattle.fec_elements.specs.Fields.{encodeFec}
 use Rattle.fec_elements.specs.Reading.{fecIn, wholeFec}
 use Rattle.tunnel.specs.Identifier.{IdentifierForm, sizes, fecTypes, TableRow, rowOf, identifierForms, formIn, formOf, IsIdentifier, ofSize, ofFec, OfType, oneOf, isIdentifier, judged, readIdentifier}
 use Rattle.tunnel.specs.Inner.{unknown}

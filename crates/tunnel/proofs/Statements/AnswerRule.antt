@@ -15,7 +15,7 @@ use Rattle.octets.proofs.AllOctets.{octets-drop}
 use Rattle.tunnel.specs.declared.Reading.{Reading}
 use Rattle.tunnel.specs.declared.Reading.the-variants.{Attribute as read, Refused as no}
 use Rattle.tunnel.specs.declared.Attribute.{Attribute}
-use Rattle.fec_elements.specs.Element.{encodeFec, WellFormedFec}
+use Rattle.fec_elements.specs.Fields.{encodeFec, WellFormedFec}
 use Rattle.fec_elements.specs.Reading.{opaqueStart, opaqueSize, fecIn, wholeFec}
 use Rattle.tunnel.specs.Identifier.{IdentifierForm, sizes, fecTypes, formOf}
 use Rattle.tunnel.specs.Attribute.{AttributeFields, WellFormedAttribute, labelOf, leafInformationRequired, encodeAttribute, fieldsIn, readAttribute, writeAttribute}

@@ -3,7 +3,7 @@ use borrow.Author.Needs.{needs}
 use Rattle.octets.proofs.Tests.{flags}
 use denote.Ref.{now}
 use Rattle.octets.proofs.AllOctets.{octets-of}
-use Rattle.fec_elements.specs.Element.{ipv4, ipv6}
+use Rattle.fec_elements.specs.Fields.{ipv4, ipv6}
 use Rattle.fec_elements.specs.Reading.{shortFec}
 use Rattle.fec_elements.proofs.Shorts.{short-least, short-rooted, short-unrooted}
 use Rattle.fec_elements.proofs.shape.is_short.Statement.{statement}

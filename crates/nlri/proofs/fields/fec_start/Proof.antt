@@ -1,9 +1,6 @@
 -- `nlri::fields::fec_start` meets its contract.
-use mathlib.Core.Path.{ap}
-use Prim.Native.Nat.{ℕ, _-_}
-use native.Mathlib.Omega.{arith}
+use Rattle.octets.proofs.Tests.{tests}
 use Rattle.nlri.specs.Inner.{fecStart}
-use Rattle.nlri.proofs.Functions.Ends.{start-least}
 use borrow.Author.Needs.{needs}
 use Rattle.nlri.proofs.fields.fec_start.Statement.{statement}
 use Rattle.nlri.proofs.fields.fec_start.Tie as tie
@@ -14,5 +11,6 @@ fec-start-spec =
     tie.close
     (tie.spec
     (search needs)
-    (λ c. omega (arith, c .source-start .ensures, start-least (c .before .args .route-type)))
-    (λ c. ap (λ (n : ℕ). n - 1) (c .source-start .ensures)))
+    (λ c. search tests)
+    (search needs)
+    (λ c. search tests))

@@ -1,6 +1,5 @@
 -- `nlri::fields::source_start` meets its contract.
-use mathlib.Core.Path.{sym, _∙_}
-use Rattle.octets.proofs.Choice.{pick-true, pick-false}
+use Rattle.octets.proofs.Tests.{tests}
 use Rattle.nlri.specs.Inner.{sourceStart}
 use borrow.Author.Needs.{needs}
 use Rattle.nlri.proofs.fields.source_start.Statement.{statement}
@@ -13,8 +12,10 @@ source-start-spec =
     (tie.spec
     (search needs)
     (search needs)
+    (λ c. search tests)
     (search needs)
-    (λ c. sym (pick-true _ _ _ (sym (c .before .has-source-as .ensures) ∙ c .if1 .taken)))
+    (search needs)
+    (λ c. search tests)
     (search needs)
     (search needs)
-    (λ c. sym (pick-false _ _ _ (sym (c .before .has-source-as .ensures) ∙ c .if1 .left))))
+    (λ c. search tests))

@@ -16,4 +16,4 @@ returns c =
     sym (lent-most (a .nlri) (a .key) (a .fec) over)
 
 pub is-long-spec : {M : Type 1} → statement M
-is-long-spec = tie.close (tie.spec (search needs) (search needs) returns (search needs) (λ c. ap (ltb 255) (c .size-of .ensures)))
+is-long-spec = tie.close (tie.spec (search needs) (search needs) returns (search needs) (λ c. ap (ltb 255) (c .body-size .ensures)))

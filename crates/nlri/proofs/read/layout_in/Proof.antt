@@ -4,7 +4,7 @@ use Prim.Native.Nat.{ℕ, _-_}
 use native.Mathlib.Omega.{arith}
 use denote.Ref.{now}
 use lib.ListN.{getD}
-use Rattle.octets.proofs.Tests.{tests, flags}
+use Rattle.octets.proofs.Tests.{tests}
 use Rattle.nlri.specs.Inner.{flowLayout, layoutIn, FlowStands}
 use Rattle.nlri.proofs.Functions.Ends.{start-least}
 use borrow.Author.Needs.{needs}
@@ -13,15 +13,15 @@ use Rattle.nlri.proofs.read.layout_in.Tie as tie
 
 flow-layout-requires : tie.Need-flow-layout-requires
 flow-layout-requires c κs =
-    subst (λ (k : ℕ). FlowStands (k - 1) (now (c .before .before .before .before .before .before .before .before .before .before .args .s))) (sym (c .source-start .ensures))
-    (c .before .before .before .before .before .before .before .before .before .before .pre .flow (c .before .before .before .before .before .before .if1 .left) (c .before .before .before .before .before .if2 .left) (sym (c .before .before .before .before .has-key .ensures) ∙ c .before .before .before .if3 .left) (sym (c .before .before .has-fec .ensures) ∙ c .before .if4 .left))
+    subst (λ (k : ℕ). FlowStands (k - 1) (now (c .before .before .before .before .before .before .before .before .args .s))) (sym (c .source-start .ensures))
+    (c .before .before .before .before .before .before .before .before .pre .flow (c .before .before .before .before .if1 .left) (c .before .before .before .if2 .left) (c .before .before .if3 .left) (c .before .if4 .left))
 
 returns-5 : tie.Need-returns-5
 unfolding layoutIn
 returns-5 c =
-    let s = now (c .before .before .before .before .before .before .before .before .before .before .before .args .s) in
+    let s = now (c .before .before .before .before .before .before .before .before .before .args .s) in
     let moved = c .flow-layout .ensures ∙ ap (λ (k : ℕ). flowLayout (getD s 0 0) (k - 1) s) (c .before .source-start .ensures) in
-    search flags depth 10
+    search tests depth 10
 
 pub layout-in-spec : {M : Type 1} → statement M
 unfolding layoutIn
@@ -37,13 +37,11 @@ layout-in-spec =
     (λ c. search tests)
     (search needs)
     (λ c. search tests)
+    (λ c κs. c .before .before .before .before .before .before .pre .leaf (c .if3 .taken))
+    (λ c. search tests)
+    (λ c κs. c .before .before .before .before .before .before .before .pre .mldp (c .if4 .taken))
+    (λ c. search tests depth 10)
     (search needs)
-    (λ c κs. c .before .before .before .before .before .before .before .pre .leaf (sym (c .before .has-key .ensures) ∙ c .if3 .taken))
-    (λ c. search flags)
-    (search needs)
-    (λ c κs. c .before .before .before .before .before .before .before .before .before .pre .fec (sym (c .before .has-fec .ensures) ∙ c .if4 .taken))
-    (λ c. search flags depth 10)
-    (search needs)
-    (λ c. omega (arith, c .source-start .ensures, start-least (getD (now (c .before .before .before .before .before .before .before .before .before .before .args .s)) 0 0)))
+    (λ c. omega (arith, c .source-start .ensures, start-least (getD (now (c .before .before .before .before .before .before .before .before .args .s)) 0 0)))
     flow-layout-requires
     returns-5)

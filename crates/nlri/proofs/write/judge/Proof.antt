@@ -13,36 +13,32 @@ returns c = search (tests, by-refusal) depth 10
 
 returns-2 : tie.Need-returns-2
 unfolding fitting
-returns-2 c = search (tests, by-refusal) depth 10
+returns-2 c =
+    let flow = flag-off _ _ (c .before .flow-fits .ensures) (c .if2 .taken) in
+    search (tests, by-refusal) depth 10
 
 returns-3 : tie.Need-returns-3
 unfolding fitting
 returns-3 c =
-    let flow = flag-off _ _ (c .before .flow-fits .ensures) (c .if3 .taken) in
+    let originator = flag-off _ _ (c .before .originator-fits .ensures) (c .if3 .taken) in
+    let flow = flag-on _ _ (c .before .before .before .before .flow-fits .ensures) (c .before .before .before .if2 .left) in
     search (tests, by-refusal) depth 10
 
 returns-4 : tie.Need-returns-4
 unfolding fitting
 returns-4 c =
-    let originator = flag-off _ _ (c .before .originator-fits .ensures) (c .if4 .taken) in
-    let flow = flag-on _ _ (c .before .before .before .before .flow-fits .ensures) (c .before .before .before .if3 .left) in
+    let key = flag-off _ _ (c .before .key-fits .ensures) (c .if4 .taken) in
+    let originator = flag-on _ _ (c .before .before .before .originator-fits .ensures) (c .before .before .if3 .left) in
+    let flow = flag-on _ _ (c .before .before .before .before .before .before .flow-fits .ensures) (c .before .before .before .before .before .if2 .left) in
     search (tests, by-refusal) depth 10
 
 returns-5 : tie.Need-returns-5
 unfolding fitting
 returns-5 c =
-    let key = flag-off _ _ (c .before .key-fits .ensures) (c .if5 .taken) in
-    let originator = flag-on _ _ (c .before .before .before .originator-fits .ensures) (c .before .before .if4 .left) in
-    let flow = flag-on _ _ (c .before .before .before .before .before .before .flow-fits .ensures) (c .before .before .before .before .before .if3 .left) in
-    search (tests, by-refusal) depth 10
-
-returns-6 : tie.Need-returns-6
-unfolding fitting
-returns-6 c =
-    let key = flag-on _ _ (c .before .key-fits .ensures) (c .if5 .left) in
-    let originator = flag-on _ _ (c .before .before .before .originator-fits .ensures) (c .before .before .if4 .left) in
-    let flow = flag-on _ _ (c .before .before .before .before .before .before .flow-fits .ensures) (c .before .before .before .before .before .if3 .left) in
-    by-value (c .before .before .before .before .before .before .before .before .before .before .before .before .before .before .before .before .args .nlri) _ (search tests depth 10)
+    let key = flag-on _ _ (c .before .key-fits .ensures) (c .if4 .left) in
+    let originator = flag-on _ _ (c .before .before .before .originator-fits .ensures) (c .before .before .if3 .left) in
+    let flow = flag-on _ _ (c .before .before .before .before .before .before .flow-fits .ensures) (c .before .before .before .before .before .if2 .left) in
+    by-value (c .before .before .before .before .before .before .before .before .before .before .before .before .before .before .before .args .nlri) _ (search tests depth 10)
 
 pub judge-spec : {M : Type 1} → statement M
 judge-spec =
@@ -50,14 +46,13 @@ judge-spec =
     (tie.spec
     (search needs)
     returns
-    returns-2
     (search needs)
+    (search needs)
+    (search needs)
+    returns-2
     (search needs)
     (search needs)
     returns-3
     (search needs)
-    (search needs)
     returns-4
-    (search needs)
-    returns-5
-    returns-6)
+    returns-5)

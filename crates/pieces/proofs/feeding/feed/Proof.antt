@@ -22,7 +22,7 @@ returns-2 c =
 read-on-requires : tie.Need-read-on-requires
 read-on-requires c κs =
     let a = c .before .before .before .before .before .before .before .before .args in
-    (search needs, within-not-over (a .p) (length (now (a .piece))) (sym (c .before .before .before .before .is-over .ensures) ∙ c .before .before .before .if2 .left))
+    (search needs, within-not-over (a .reader) (length (now (a .piece))) (sym (c .before .before .before .before .is-over .ensures) ∙ c .before .before .before .if2 .left))
 
 returns-3 : tie.Need-returns-3
 returns-3 c =
@@ -32,7 +32,7 @@ returns-3 c =
 counted-requires : tie.Need-counted-requires
 counted-requires c κs =
     let a = c .before .before .before .before .before .before .before .args in
-    within-not-over (a .p) (length (now (a .piece))) (sym (c .before .before .before .is-over .ensures) ∙ c .before .before .if2 .left) .total
+    within-not-over (a .reader) (length (now (a .piece))) (sym (c .before .before .before .is-over .ensures) ∙ c .before .before .if2 .left) .total
 
 returns-4 : tie.Need-returns-4
 returns-4 c =

@@ -8,7 +8,7 @@ use Rattle.pieces.proofs.feeding.read_on.Tie as tie
 returns : tie.Need-returns
 returns c =
     let a = c .before .before .before .before .before .before .before .before .before .before .before .before .args in
-    reads-as (a .p) (now (a .unfinished)) (now (a .piece)) (c .before .before .before .before .keep .last .0) _ _ _ (c .before .before .before .before .before .before .before .wanted .ensures .0)
+    reads-as (a .reader) (now (a .unfinished)) (now (a .piece)) (c .before .before .before .before .keep .last .0) _ _ _ (c .before .before .before .before .before .before .before .wanted .ensures .0)
     (c .before .before .before .before .before .before .share .ensures .0) (c .before .before .before .before .keep .ensures) (c .settle .ensures)
 
 pub read-on-spec : {M : Type 1} → statement M

@@ -2,7 +2,7 @@
 use mathlib.Core.Path.{sym}
 use native.Mathlib.Omega.{arith}
 use borrow.Author.Needs.{needs}
-use Rattle.nlri.proofs.Statements.Faults.{family-refuses}
+use Rattle.nlri.proofs.Definitions.Families.{family-refuses}
 use Rattle.pieces.proofs.reading.family_in.Statement.{statement}
 use Rattle.pieces.proofs.reading.family_in.Tie as tie
 

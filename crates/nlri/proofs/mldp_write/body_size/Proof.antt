@@ -1,10 +1,10 @@
--- `nlri::mldp_write::size_of` meets its contract.
+-- `nlri::mldp_write::body_size` meets its contract.
 use native.Mathlib.Omega.{arith}
-use Rattle.nlri.specs.InnerMldp.{mldpSize}
+use Rattle.nlri.specs.InnerMldp.{mldpBodySize}
 use Rattle.nlri.proofs.Functions.MldpVerdicts.{fixed-most, originator-most}
 use borrow.Author.Needs.{needs}
-use Rattle.nlri.proofs.mldp_write.size_of.Statement.{statement}
-use Rattle.nlri.proofs.mldp_write.size_of.Tie as tie
+use Rattle.nlri.proofs.mldp_write.body_size.Statement.{statement}
+use Rattle.nlri.proofs.mldp_write.body_size.Tie as tie
 
 add-lent : tie.Need-add-lent
 add-lent c =
@@ -17,14 +17,14 @@ add-result c =
     let start = c .before .before .before .before .before .before in
     let h = fixed-most (start .args .nlri .«route_type») in
     let o = originator-most (start .args .nlri .«route_type») (start .args .nlri .originator .size) in
-    omega (arith, c .before .before .before .fixed-size .ensures, c .before .before .lent-size .ensures, c .originator-size .ensures, start .pre)
+    omega (arith, c .before .before .before .fixed-size .ensures, c .before .before .lent-size .ensures, c .originator-length .ensures, start .pre)
 
 returns : tie.Need-returns
-unfolding mldpSize
-returns c = omega (arith, c .before .before .before .fixed-size .ensures, c .before .before .lent-size .ensures, c .originator-size .ensures)
+unfolding mldpBodySize
+returns c = omega (arith, c .before .before .before .fixed-size .ensures, c .before .before .lent-size .ensures, c .originator-length .ensures)
 
-pub size-of-spec : {M : Type 1} → statement M
-size-of-spec =
+pub body-size-spec : {M : Type 1} → statement M
+body-size-spec =
     tie.close
     (tie.spec
     (search needs)
