@@ -350,7 +350,7 @@ static void use_update(customer_vrf *vrf, octets message)
     }
     if (print_end_of_rib(&found))
         return;
-    printf("path attributes %zu, skipped %zu\n", found.attributes, found.skipped);
+    printf("path attributes %zu, of them not used %zu\n", found.attributes, found.unused);
     if (found.unreach.afi)
         use_run(vrf, WITHDRAW, &found.unreach, found.tunnel);
     if (found.reach.afi)

@@ -103,14 +103,14 @@ const char *message_type_name(uint8_t type)
 
 /* ---- path attributes: NULL, or what is wrong with the attribute */
 
-/* Keeps the NLRIs of a family that we use; counts the attribute as skipped otherwise. */
+/* Keeps the NLRIs of a family that we use; counts the attribute as not used otherwise. */
 static void keep_run(update *found, route_run *kept, size_t afi, size_t safi, octets run)
 {
     if (safi == SAFI_MCAST_VPN && (afi == MVPN_AFI_IPV4 || afi == MVPN_AFI_IPV6)) {
         kept->afi = (uint16_t)afi;
         kept->run = run;
     } else
-        found->skipped++;
+        found->unused++;
 }
 
 /* AFI, SAFI, the next hop with its size, a reserved octet, then NLRIs. */
@@ -156,7 +156,7 @@ static const char *keep_attribute(update *found, size_t type, octets value)
             found->tunnel = value;
         return NULL;
     default:
-        found->skipped++;
+        found->unused++;
         return NULL;
     }
 }

@@ -27,7 +27,7 @@ typedef struct {
 } route_run;
 
 typedef struct {
-    size_t attributes, skipped; /* path attributes in the message, and those that are not used here */
+    size_t attributes, unused;  /* path attributes in the message, and those that are not used here */
     size_t unicast;             /* octets of IPv4 unicast routes, withdrawn and announced, which are not ours */
     route_run reach, unreach;
     octets tunnel; /* the value of the PMSI Tunnel attribute; `at` is NULL where it is not given */

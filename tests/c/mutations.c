@@ -24,7 +24,7 @@ static void take_apart(octets message)
         lies_inside("its next hop lies in it", found.reach.next_hop, message);
         lies_inside("MP_UNREACH_NLRI lies in it", found.unreach.run, message);
         lies_inside("PMSI Tunnel lies in it", found.tunnel, message);
-        same("a changed message", "skipped attributes are attributes", found.skipped <= found.attributes, true);
+        same("a changed message", "attributes that are not used are attributes", found.unused <= found.attributes, true);
     }
 }
 
