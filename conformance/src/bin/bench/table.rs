@@ -200,7 +200,7 @@ impl Rows<'_> {
             });
             self.report.count(&name, calls);
         } else if let Some(clock) = self.report.clock() {
-            self.report.time(&name, clock.best_on_copies(before, &calls), self.memory);
+            self.report.time(&name, clock.best_changing(before, after, &calls), self.memory);
         }
     }
 
