@@ -6,3 +6,4 @@ pub mod ReadRefusals
 pub mod WriteRefusals
 pub mod Layouts
 pub mod Classes
+pub mod AnswerRules

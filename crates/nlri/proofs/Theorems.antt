@@ -1,4 +1,4 @@
--- What is proved of the definitions as a whole; specs/Statements.antt says what each states.
+-- What is proved of the definitions as a whole; specs/Statements.antt and specs/AnswerRules.antt say what each states.
 pub use Rattle.nlri.proofs.Definitions.Lengths.{lengths}
 pub use Rattle.nlri.proofs.Statements.Acceptance.{acceptance}
 pub use Rattle.nlri.proofs.Statements.RoundTrips.{roundTrips}
@@ -6,3 +6,4 @@ pub use Rattle.nlri.proofs.Statements.ReadRefusals.{readRefusals}
 pub use Rattle.nlri.proofs.Statements.WriteRefusals.{writeRefusals}
 pub use Rattle.nlri.proofs.Statements.Layouts.{layoutRule}
 pub use Rattle.nlri.proofs.Statements.Classes.{groupRule}
+pub use Rattle.nlri.proofs.Statements.AnswerRules.{nlriAnswers}

@@ -12,19 +12,12 @@ use Rattle.octets.specs.Octets.{part, numberIn}
 use Rattle.octets.specs.declared.Span.{Span}
 use Rattle.fec_elements.specs.Reading.{opaqueStart, fecSize}
 use Rattle.nlri.specs.declared.layout.Layout.{Layout}
-use Rattle.nlri.specs.declared.family.Family.{Family}
-use Rattle.nlri.specs.declared.family.Family.the-variants.{Known, Unknown}
 use Rattle.nlri.specs.declared.read.Header.{Header}
 use Rattle.nlri.specs.declared.read.Header.the-variants.{Typed, Unread}
 use Rattle.nlri.specs.Bodies.{FieldKind, source, group, originator, key, fec, bodies, onBody, bodyOf, hasField}
 use Rattle.nlri.specs.Fields.{Fields}
 use Rattle.nlri.specs.Reading.{fieldSize, sizesOf, keyField}
 use Rattle.nlri.specs.Layouts.{layoutAt}
-
--- the bits of a family's addresses, or the refusal's number
-abbrev pub familyOutcome : Family → Outcome ℕ
-familyOutcome (Known kind) = given (kind .bits)
-familyOutcome (Unknown number) = refused number
 
 -- a route type and a Length, or the refusal's number
 abbrev pub headerOutcome : Header → Outcome (ℕ × ℕ)

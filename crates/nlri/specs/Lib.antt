@@ -1,4 +1,4 @@
--- MCAST-VPN NLRI: definitions in document 01's order, then what the calls answer, then what inner functions cite, then the statements of the theorems.
+-- MCAST-VPN NLRI: definitions in document 01's order, then what the calls answer, then what inner functions cite, then the statements of the theorems, of the definitions and of the answers.
 pub mod Family
 pub mod Bodies
 pub mod Fields
@@ -11,3 +11,4 @@ pub mod Inner
 pub mod InnerWriting
 pub mod InnerMldp
 pub mod Statements
+pub mod AnswerRules

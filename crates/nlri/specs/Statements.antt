@@ -10,13 +10,14 @@ use Rattle.octets.specs.Outcome.{given, refused}
 use Rattle.octets.specs.Octets.{AllOctets, part}
 use Rattle.fec_elements.specs.declared.Standing.the-variants.{InBody, Lent}
 use Rattle.fec_elements.specs.Statements.{NestedFault}
-use Rattle.nlri.specs.Family.{familyBits, rootFamily, allowed, isOriginatorSize}
+use Rattle.nlri.specs.Family.{familyBits, familyOutcome, rootFamily, allowed, isOriginatorSize}
 use Rattle.nlri.specs.Bodies.{FieldKind, distinguisher, sourceAs, source, group, originator, key, fec, KnownType, bodyOf, hasField}
 use Rattle.nlri.specs.Fields.{Fields, encodeBody, encodeNlri, FecOf, WellFormed, KeyOf, restricted}
 use Rattle.nlri.specs.Reading.{laidAt, readNlri}
 use Rattle.nlri.specs.Layouts.{readingOf, layoutSingle}
 use Rattle.nlri.specs.Writing.{writeNlri}
-use Rattle.nlri.specs.Groups.{ASM, SSM, classOf}
+use Rattle.nlri.specs.Groups.{classOf}
+use Rattle.nlri.specs.declared.family.Family.{Family}
 use Rattle.nlri.specs.declared.fields.Nlri.{Nlri}
 use Rattle.nlri.specs.declared.layout.Layout.{Layout}
 use Rattle.nlri.specs.declared.layout.Reading.{Reading}
@@ -32,6 +33,8 @@ pub record Lengths : Type 0 where
   pub originators : (size : ℕ) → (isOriginatorSize size ≡ true) ↔ ((size ≡ 4) ⊎ (size ≡ 16))
   -- the roots of a family's FECs are of the AFI (RFC 7441, section 3)
   pub roots : (afi bits : ℕ) → familyBits afi ≡ given bits → rootFamily bits ≡ afi
+  -- families of the same number and bits are equal
+  pub apart : (a b : Family) → familyOutcome a ≡ familyOutcome b → a ≡ b
 
 -- octets that are the encoding of well-formed fields of the AFI's family, fields that the type lacks being empty
 pub record ReadAs (afi : ℕ) (s : List ℕ) (f : Fields) : Type 0 where
@@ -249,8 +252,8 @@ pub data GroupRefusal (afi : ℕ) (g : List ℕ) : ℕ → Type 0 where
   badFamily : afi ≢ 1 → afi ≢ 2 → GroupRefusal afi g FAMILY
   badGroup : (bits : ℕ) → familyBits afi ≡ given bits → (Multicast afi g → ⊥) → GroupRefusal afi g FLOW
 
--- the class of a group: each number exactly when document 01 says, SSM by its ranges, and ASM for any other multicast group
+-- the class of a group: each number exactly when document 01 says, SSM, 2, by its ranges, and ASM, 1, for any other multicast group
 pub record GroupRule : Type 0 where
   pub refuses : (afi : ℕ) (g : List ℕ) (n : ℕ) → (classOf afi g ≡ refused n) ↔ GroupRefusal afi g n
-  pub ssm : (afi : ℕ) (g : List ℕ) → (classOf afi g ≡ given SSM) ↔ SourceSpecific afi g
-  pub asm : (afi : ℕ) (g : List ℕ) → (classOf afi g ≡ given ASM) ↔ (Multicast afi g × (SourceSpecific afi g → ⊥))
+  pub ssm : (afi : ℕ) (g : List ℕ) → (classOf afi g ≡ given 2) ↔ SourceSpecific afi g
+  pub asm : (afi : ℕ) (g : List ℕ) → (classOf afi g ≡ given 1) ↔ (Multicast afi g × (SourceSpecific afi g → ⊥))

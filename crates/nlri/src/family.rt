@@ -1,7 +1,6 @@
 // Address families: every function below the calls goes by the kind of the family's addresses.
 ghost use mathlib.Core.Path.{_≡_};
-ghost use Rattle.nlri.specs.Family.{familyBits};
-ghost use Rattle.nlri.specs.Inner.{familyOutcome};
+ghost use Rattle.nlri.specs.Family.{familyBits, familyOutcome};
 use crate::address::AddressKind;
 use octets::number::FAMILY;
 

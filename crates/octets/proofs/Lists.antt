@@ -1,11 +1,11 @@
 -- Laws of `part`, `placed`, `front` and `sized`.
-use Prim.Native.Nat.{ℕ, suc, _+_, _-_, _≤_}
+use Prim.Native.Nat.{ℕ, zero, suc, _+_, _-_, _≤_, _<_}
 use mathlib.Core.Path.{_≡_, refl, sym, ap, ap₂, _∙_}
 use mathlib.Core.List.{List, [], _∷_, _++_, append-assoc, append-nil}
 use native.Mathlib.Nat.{zero-add, add-sub-cancel-left}
 use native.Mathlib.Omega.{arith}
 use lib.ListN.{length, getD, take, drop, replicate, length-append, length-take, length-drop, length-replicate, replicate-append-replicate, drop-of-length-le, take-append-drop}
-use lib.Seq.{take-all, take-at, drop-at, drop-drop, length-take-le, take-append-le, take-length, take-append-add, take-add, take-take, take-append-seam}
+use lib.Seq.{take-all, take-at, drop-at, drop-drop, length-take-le, take-append-le, take-length, take-append-add, take-add, take-take, take-append-seam, getD-append-add, getD-take, getD-drop}
 use Rattle.octets.specs.Octets.{part, placed, front, sized}
 use Rattle.octets.specs.Order.{zeros}
 
@@ -27,6 +27,20 @@ length-placed at e d h = simp (length-append, length-take, length-drop) (omega a
 pub front-is-placed : (e d : List ℕ) → front e d ≡ placed 0 e d
 unfolding front placed
 front-is-placed e d = rw zero-add
+
+pub length-front : (e d : List ℕ) → length e ≤ length d → length (front e d) ≡ length d
+unfolding front
+length-front e d h = simp (length-append, length-drop) (omega arith)
+
+pub take-front : (e d : List ℕ) → take (length e) (front e d) ≡ e
+unfolding front
+take-front e d = take-append-seam e (drop (length e) d)
+
+pub past-front : (e d : List ℕ) (i : ℕ) → length e ≤ i → getD (front e d) i 0 ≡ getD d i 0
+unfolding front
+past-front e d i h =
+    let k : i ≡ length e + (i - length e) = omega arith in
+    ap (λ (n : ℕ). getD (e ++ drop (length e) d) n 0) k ∙ getD-append-add e (drop (length e) d) (i - length e) 0 ∙ getD-drop (length e) d (i - length e) 0 ∙ ap (λ (n : ℕ). getD d n 0) (sym k)
 
 -- what a copy to the front of a part leaves, the part having been lent from `at` to the end
 pub lent-placed : (at : ℕ) (e d y : List ℕ) → at + length e ≤ length d → y ≡ take (length e) e ++ drop (length e) (take (length d - at) (drop at d))
@@ -65,24 +79,39 @@ pub sized-taken : (n : ℕ) (xs : List ℕ) → n ≤ length xs → sized n xs �
 unfolding sized
 sized-taken n xs h = take-append-le n xs (replicate n 0) h
 
+-- a list with the zeros that it lacks
+pub sized-zeros : (n : ℕ) (xs : List ℕ) → length xs ≤ n → sized n xs ≡ xs ++ zeros (n - length xs)
+unfolding sized zeros
+sized-zeros n xs h =
+    let k : ℕ = n - length xs in
+    let sum : n ≡ length xs + k = omega arith in
+    let turned : n ≡ k + length xs = omega arith in
+    let high : zeros n ≡ zeros k ++ zeros (length xs) = ap (λ (m : ℕ). zeros m) turned ∙ sym (replicate-append-replicate k (length xs) 0) in
+    let taken : take k (zeros n) ≡ zeros k = ap (take k) high ∙ take-at (zeros k) (zeros (length xs)) k (length-replicate k 0) in
+    ap (λ (m : ℕ). take m (xs ++ zeros n)) sum ∙ take-append-add xs (zeros n) k ∙ ap (λ (l : List ℕ). xs ++ l) taken
+
 -- zeros with xs copied over their front
 pub copied-sized : (n : ℕ) (xs : List ℕ) → length xs ≤ n → take (length xs) xs ++ drop (length xs) (replicate n 0) ≡ sized n xs
-unfolding sized zeros
+unfolding zeros
 copied-sized n xs h =
     let k : ℕ = n - length xs in
-    let low : zeros n ≡ zeros (length xs) ++ zeros k = ap (λ (m : ℕ). zeros m) (split (length xs) n h) ∙ sym (replicate-append-replicate (length xs) k 0) in
-    let high : zeros n ≡ zeros k ++ zeros (length xs) = ap (λ (m : ℕ). zeros m) (split′ (length xs) n h) ∙ sym (replicate-append-replicate k (length xs) 0) in
+    let sum : n ≡ length xs + k = omega arith in
+    let low : zeros n ≡ zeros (length xs) ++ zeros k = ap (λ (m : ℕ). zeros m) sum ∙ sym (replicate-append-replicate (length xs) k 0) in
     let dropped : drop (length xs) (zeros n) ≡ zeros k = ap (drop (length xs)) low ∙ drop-at (zeros (length xs)) (zeros k) (length xs) (length-replicate (length xs) 0) in
-    let taken : take k (zeros n) ≡ zeros k = ap (take k) high ∙ take-at (zeros k) (zeros (length xs)) k (length-replicate k 0) in
-    ap₂ (λ (a b : List ℕ). a ++ b) (take-length xs) (dropped ∙ sym taken)
-    ∙ sym (take-append-add xs (zeros n) k)
-    ∙ ap (λ (m : ℕ). take m (xs ++ zeros n)) (sym (split (length xs) n h))
-  where
-    split : (a b : ℕ) → a ≤ b → b ≡ a + (b - a)
-    split a b q = omega arith
+    ap₂ (λ (a b : List ℕ). a ++ b) (take-length xs) dropped ∙ sym (sized-zeros n xs h)
 
-    split′ : (a b : ℕ) → a ≤ b → b ≡ (b - a) + a
-    split′ a b q = omega arith
+-- zeros behind a list change no element of it, where a missing one is 0
+getD-zeros : (xs : List ℕ) (n i : ℕ) → getD (xs ++ replicate n 0) i 0 ≡ getD xs i 0
+getD-zeros [] zero i = refl
+getD-zeros [] (suc n) zero = refl
+getD-zeros [] (suc n) (suc i) = getD-zeros [] n i
+getD-zeros (x ∷ xs) n zero = refl
+getD-zeros (x ∷ xs) n (suc i) = getD-zeros xs n i
+
+-- an element of a sized list: that of the list, and 0 where it has no more
+pub getD-sized : (n : ℕ) (xs : List ℕ) (i : ℕ) → i < n → getD (sized n xs) i 0 ≡ getD xs i 0
+unfolding sized
+getD-sized n xs i h = getD-take n (xs ++ replicate n 0) i 0 h ∙ getD-zeros xs n i
 
 -- a list by its first element and the rest
 pub front-rest : (s : List ℕ) → 1 ≤ length s → s ≡ getD s 0 0 ∷ drop 1 s

@@ -1,8 +1,9 @@
--- Definitions that the crates above share: the numbers, choices by a test, lists, outcomes, lists of octets, what writers leave, and the order of octets.
+-- Definitions that the crates above share: the numbers, choices by a test, lists, outcomes, lists of octets, what writers leave, what a caller sees of an answer, and the order of octets.
 pub mod Numbers
 pub mod Choice
 pub mod Lists
 pub mod Outcome
 pub mod Octets
 pub mod Outputs
+pub mod Answering
 pub mod Order

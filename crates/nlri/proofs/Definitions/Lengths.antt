@@ -7,8 +7,10 @@ use native.Mathlib.Omega.{arith}
 use borrow.Author.Tests.{eqb-true, eq-eqb, ne-eqb}
 use Rattle.octets.specs.Outcome.{given}
 use Rattle.octets.proofs.Choice.{pick-true, pick-false, both-true, either-left, either-true, both-true-left, both-true-right, picked, either-second}
-use Rattle.octets.proofs.Outcome.{given-unless, given-same}
-use Rattle.nlri.specs.Family.{familyBits, rootFamily, allowed, isOriginatorSize}
+use Rattle.octets.proofs.Outcome.{given-unless, given-same, refused-same, never}
+use Rattle.nlri.specs.declared.family.Family.{Family}
+use Rattle.nlri.specs.declared.family.Family.the-variants.{Known, Unknown}
+use Rattle.nlri.specs.Family.{familyBits, familyOutcome, rootFamily, allowed, isOriginatorSize}
 use Rattle.nlri.specs.Statements.{Lengths}
 
 family-exactly : (afi bits : ℕ) → (familyBits afi ≡ given bits) ↔ (((afi ≡ 1) × (bits ≡ 32)) ⊎ ((afi ≡ 2) × (bits ≡ 128)))
@@ -41,8 +43,14 @@ root-family afi bits e =
     ⊎-elim (λ one. pick-true _ _ _ (eq-eqb bits 32 (one .1)) ∙ sym (one .0)) (λ two. pick-false _ _ _ (ne-eqb bits 32 (λ z. omega (arith, two .1))) ∙ sym (two .0))
     (family-exactly afi bits .0 e)
 
+family-apart : (a b : Family) → familyOutcome a ≡ familyOutcome b → a ≡ b
+family-apart (Known a) (Known b) e = let same : a .bits ≡ b .bits = given-same e in λ i. Known (record { bits = same i })
+family-apart (Known a) (Unknown n) e = absurd (never {o = given (a .bits)} refl e)
+family-apart (Unknown m) (Known b) e = absurd (never {o = given (b .bits)} refl (sym e))
+family-apart (Unknown m) (Unknown n) e = ap Unknown (refused-same {A = ℕ} e)
+
 pub lengths : Lengths
-lengths = record { families = family-exactly; addresses = allowed-exactly; originators = originator-exactly; roots = root-family }
+lengths = record { families = family-exactly; addresses = allowed-exactly; originators = originator-exactly; roots = root-family; apart = family-apart }
 
 -- a family is that of AFI 1 or 2
 pub good-family : (afi bits : ℕ) → familyBits afi ≡ given bits → (afi ≡ 1) ⊎ (afi ≡ 2)

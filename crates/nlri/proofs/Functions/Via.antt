@@ -14,9 +14,10 @@ use Rattle.nlri.specs.declared.family.Family.the-variants.{Known, Unknow
 use Rattle.nlri.specs.declared.read.Header.{Header}
 use Rattle.nlri.specs.declared.read.Header.the-variants.{Typed, Unread}
 use Rattle.nlri.specs.declared.group.Group.{Group}
+use Rattle.nlri.specs.Family.{familyOutcome}
 use Rattle.nlri.specs.Groups.{groupOf}
 use Rattle.nlri.specs.Layouts.{readingOf}
-use Rattle.nlri.specs.Inner.{familyOutcome, headerOutcome}
+use Rattle.nlri.specs.Inner.{headerOutcome}
 
 -- the case of an answer, as the definition's outcome: for any enum, by the function from the enum
 told : {E A : Type 0} (f : E → A) (e : E) {r : E} {o : A} → f r ≡ o → r ≡ e → o ≡ f e

@@ -103,7 +103,7 @@ write-struct : (afi : ℕ) (s : List ℕ) (f : Fields) (space : ℕ) → AllOcte
 write-struct afi s f space a e room =
     sym (write-restricted afi (structFields (nlriStruct f) (f .key) (f .fec)) space) ∙ ap (λ (g : Fields). writeNlri afi g space) (fields-struct-read afi s f a e) ∙ write-read afi s f space a e room
 
-held-struct : (nlri : Nlri) (keyOctets fecOctets : List ℕ) → StructHoldsOctets nlri → AllOctets keyOctets → AllOctets fecOctets → HoldsOctets (structFields nlri keyOctets fecOctets)
+pub held-struct : (nlri : Nlri) (keyOctets fecOctets : List ℕ) → StructHoldsOctets nlri → AllOctets keyOctets → AllOctets fecOctets → HoldsOctets (structFields nlri keyOctets fecOctets)
 unfolding structFields addressOctets
 held-struct nlri keyOctets fecOctets h k c =
     record {

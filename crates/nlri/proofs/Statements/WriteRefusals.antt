@@ -199,6 +199,17 @@ refusal-complete afi f space n held (long bits ofFamily typed widths fecs over) 
 refusal-complete afi f space n held (badKey bits ofFamily typed widths fecs short h none) = key-stops afi bits ofFamily f held space typed widths fecs short h none
 refusal-complete afi f space n held (noSpace bits ofFamily w few) = write-well afi bits ofFamily f space w ∙ pick-true _ _ _ (lt-ltb space (length (encodeNlri f)) few)
 
+-- no refusal is DONE
+pub write-not-done : (afi : ℕ) (f : Fields) (space n : ℕ) → HoldsOctets f → WriteRefusal afi f space n → n ≡ DONE → ⊥
+write-not-done afi f space n held (badFamily one two) e = omega arith
+write-not-done afi f space n held (badType bits ofFamily untyped) e = omega arith
+write-not-done afi f space n held (badWidth bits ofFamily typed k h fault) e = omega arith
+write-not-done afi f space n held (badFec bits ofFamily typed widths h fault) e =
+    read-refused _ (f .fec) n (nestedFecRule .exactly (Lent (rootFamily bits)) (f .fec) n (held .fec) .1 fault) .1 e
+write-not-done afi f space n held (long bits ofFamily typed widths fecs over) e = omega arith
+write-not-done afi f space n held (badKey bits ofFamily typed widths fecs short h none) e = omega arith
+write-not-done afi f space n held (noSpace bits ofFamily w few) e = omega arith
+
 accepted : (afi : ℕ) (f : Fields) (space : ℕ) (e : List ℕ) → HoldsOctets f
     → writeNlri afi f space ≡ given e → (bits : ℕ) × (familyBits afi ≡ given bits) × WellFormed bits f × (length e ≤ space) × (e ≡ encodeNlri f)
 accepted afi f space e held w =

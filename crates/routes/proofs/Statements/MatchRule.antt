@@ -33,11 +33,6 @@ use Rattle.routes.proofs.Definitions.Flows.{asked-router, flow-asked}
 use Rattle.routes.proofs.Definitions.First.{wantedAt, match-ignored}
 use Rattle.routes.proofs.Statements.Taken.{found-taken, nothing-taken, flow-exactly}
 
-past-front : (e d : List ℕ) (i : ℕ) → length e ≤ i → getD (e ++ drop (length e) d) i 0 ≡ getD d i 0
-past-front e d i h =
-    let sum : i ≡ length e + (i - length e) = omega arith in
-    ap (λ (k : ℕ). getD (e ++ drop (length e) d) k 0) sum ∙ getD-append-add e (drop (length e) d) (i - length e) 0 ∙ getD-drop (length e) d (i - length e) 0 ∙ ap (λ (k : ℕ). getD d k 0) (sym sum)
-
 -- two lists at the front of a third, one straight after the other
 front-two : (n a d : List ℕ) → length n + length a ≤ length d
     → (length (front (n ++ a) d) ≡ length d)
