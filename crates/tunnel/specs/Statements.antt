@@ -8,14 +8,17 @@ use Rattle.octets.specs.Lists.{Among}
 use Rattle.octets.specs.Numbers.{SHORT, TUNNEL, IDENT, LONG, LABEL, SPACE}
 use Rattle.octets.specs.Outcome.{given, refused}
 use Rattle.octets.specs.Octets.{AllOctets, part}
+use Rattle.octets.specs.Outputs.{Wrote}
+use Rattle.octets.specs.Answering.{Answering, WrittenAtFront, NothingWritten}
 use Rattle.octets.specs.declared.Span.{Span}
+use Rattle.octets.specs.declared.Written.{Written}
 use Rattle.tunnel.specs.declared.Reading.{Reading}
 use Rattle.tunnel.specs.declared.Attribute.{Attribute}
 use Rattle.tunnel.specs.declared.fec.Fec.{Fec}
 use Rattle.fec_elements.specs.Fields.{FecFields, encodeFec, WellFormedFec}
 use Rattle.tunnel.specs.Identifier.{IdentifierForm, sizes, fecTypes, rowOf, identifierForms, OfType}
 use Rattle.tunnel.specs.Attribute.{AttributeFields, WellFormedAttribute, encodeAttribute, readAttribute, writeAttribute}
-use Rattle.tunnel.specs.Answers.{outcomeOf, readStruct, argumentFields}
+use Rattle.tunnel.specs.Answers.{outcomeOf, readStruct, argumentFields, writeOutcome}
 
 -- a tunnel type that the table lacks
 pub record Unknown (t : ℕ) : Type 0 where
@@ -53,12 +56,22 @@ pub data AttributeWriteRefusal (f : AttributeFields) (space : ℕ) : ℕ → Typ
   badLabel : length (f .identifier) ≤ 59 → OfType (f .tunnelType) (f .identifier) → 16777215 < f .labelField → AttributeWriteRefusal f space LABEL
   noSpace : WellFormedAttribute f → space < length (encodeAttribute f) → AttributeWriteRefusal f space SPACE
 
+-- an attribute written: well-formed fields, their encoding at the front of the output
+pub record AttributeWritten (f : AttributeFields) (before : List ℕ) (answer : Written) (after : List ℕ) : Type 0 where
+  pub wellFormed : WellFormedAttribute f
+  pub encoded : WrittenAtFront (encodeAttribute f) before answer after
+
 -- Writing: the encoding is given exactly of well-formed fields that there is space for; any others are refused by one
 -- number, each exactly when document 01 says.
 pub record AttributeWriteRule : Type 0 where
   pub accepted : (f : AttributeFields) (space : ℕ) (e : List ℕ) → OctetFields f
       → (writeAttribute f space ≡ given e) ↔ (WellFormedAttribute f × (length (encodeAttribute f) ≤ space) × (e ≡ encodeAttribute f))
   pub exactly : (f : AttributeFields) (space n : ℕ) → OctetFields f → (writeAttribute f space ≡ refused n) ↔ AttributeWriteRefusal f space n
+  -- the call of writing, by its own arguments: whatever answer and output its contract allows
+  pub writes : (flags type label : ℕ) (identifier before : List ℕ) (answer : Written) (after : List ℕ) → flags < 256 → AllOctets identifier
+      → Wrote (writeOutcome flags type label identifier before) before answer after
+      → let f : AttributeFields = record { flags = flags; tunnelType = type; labelField = label; identifier = identifier } in
+      Answering (answer .number) (AttributeWriteRefusal f (length before)) (AttributeWritten f before answer after) (NothingWritten before answer after)
 
 -- the octets of s at a span
 abbrev pub octetsAt : List ℕ → Span → List ℕ
