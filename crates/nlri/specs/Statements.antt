@@ -14,7 +14,7 @@ use Rattle.nlri.specs.Family.{familyBits, familyOutcome, rootFamily, all
 use Rattle.nlri.specs.Bodies.{FieldKind, distinguisher, sourceAs, source, group, originator, key, fec, KnownType, bodyOf, hasField}
 use Rattle.nlri.specs.Fields.{Fields, encodeBody, encodeNlri, FecOf, WellFormed, KeyOf, restricted}
 use Rattle.nlri.specs.Reading.{laidAt, readNlri}
-use Rattle.nlri.specs.Layouts.{readingOf, layoutSingle}
+use Rattle.nlri.specs.Layouts.{readingOf, layoutSingle, noLayout}
 use Rattle.nlri.specs.Writing.{writeNlri}
 use Rattle.nlri.specs.Groups.{classOf}
 use Rattle.nlri.specs.declared.family.Family.{Family}
@@ -192,6 +192,8 @@ layoutFor f =
 pub record LayoutRule : Type 0 where
   pub exactly : (afi : ℕ) (s : List ℕ) (l : Layout) → AllOctets s → (layoutSingle afi s ≡ given l) ↔ ((f : Fields) × ReadAs afi s f × (l ≡ layoutFor f))
   pub refuses : (afi : ℕ) (s : List ℕ) (n : ℕ) → AllOctets s → (layoutSingle afi s ≡ refused n) ↔ ReadRefusal afi s n
+  -- no layout has every number 0
+  pub none : noLayout ≡ record { «route_type» = 0; length = 0; source = 0; group = 0; originator = 0; key = 0; fec = 0 }
   -- answers with the same number and values are equal
   pub apart : (a b : Reading) → readingOf a ≡ readingOf b → a ≡ b
 

@@ -5,5 +5,6 @@ pub mod Turns
 pub mod Going
 pub mod StepRule
 pub mod WalkRule
+pub mod TurnRule
 pub mod ModeRule
 pub mod Theorems

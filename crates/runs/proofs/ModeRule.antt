@@ -11,7 +11,7 @@ use lib.ListN.{length, getD, take, drop, length-append, length-drop, take-append
 use lib.Seq.{getD-drop, drop-drop, drop-at, take-append-seam}
 use lib.Dec.{eqb}
 use Rattle.octets.specs.Numbers.{DONE, TYPE}
-use Rattle.octets.specs.Choice.{pick, both}
+use Rattle.octets.specs.Choice.{pick}
 use Rattle.octets.specs.Outcome.{given, refused}
 use Rattle.octets.specs.Octets.{AllOctets, part}
 use Rattle.octets.proofs.Choice.{tested, pick-true}
@@ -37,7 +37,7 @@ use Rattle.runs.proofs.Steps.{Stops, stops-refusedAt}
 use Rattle.runs.proofs.Nlris.{walkFrom-stops, nlrisFrom-stops}
 use Rattle.runs.proofs.StepRule.{stepRule}
 use Rattle.runs.proofs.WalkRule.{stops-follow}
-use Rattle.runs.proofs.Turns.{bodyFault-past, not-skipped, refused-whole, turn-read, turn-reads, turn-skips, turn-stops, walkByFrom-read, walkByFrom-skipped, walkByFrom-stopped, nlrisByFrom-read, nlrisByFrom-skipped, nlrisByFrom-stopped}
+use Rattle.runs.proofs.Turns.{bodyFault-past, not-skipped, refused-whole, skips-type, turn-read, turn-reads, turn-skips, turn-stops, walkByFrom-read, walkByFrom-skipped, walkByFrom-stopped, nlrisByFrom-read, nlrisByFrom-skipped, nlrisByFrom-stopped}
 use Rattle.runs.proofs.Going.{walk-first}
 
 -- the walk as it was, where that walk meets no refusal that the mode skips
@@ -105,10 +105,6 @@ none afi run = none-skipped (suc (length run)) afi run 0 0
 
 walked-same : (n c c′ o s s′ : ℕ) → c ≡ c′ → s ≡ s′ → _≡_ {A = Walked} (walkedWith n c o s) (walkedWith n c′ o s′)
 walked-same n c c′ o s s′ p q = λ i. walkedWith n (p i) o (q i)
-
-skips-type : isSkipped SKIP TYPE ≡ true
-unfolding isSkipped both
-skips-type = refl
 
 -- the figures of a run from a cursor on are those of the walk from there
 module _ (afi bits : ℕ) (ofFamily : familyBits afi ≡ given bits) (run : List ℕ) (a : AllOctets run) (few : length run ≤ 4096) where

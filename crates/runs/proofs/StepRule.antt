@@ -102,8 +102,8 @@ step-not-done afi run at n (long bits f h) e = omega arith
 step-not-done afi run at n (past bits f few far) e = omega arith
 step-not-done afi run at n (front bits f few before why) e = front-not-done bits (drop at run) n why e
 
--- answers with the same number and values are equal
-cursor-same : (c d : Cursor) → c .at ≡ d .at → c ≡ d
+-- cursors at the same place are equal, and so are answers with the same number and values
+pub cursor-same : (c d : Cursor) → c .at ≡ d .at → c ≡ d
 cursor-same c d e = λ i. record { at = e i }
 
 steps-apart : (a b : Step) → steppedOf a ≡ steppedOf b → a ≡ b

@@ -1,4 +1,5 @@
 -- What is proved of steps and walks as a whole; specs/Statements.antt and specs/ModeRule.antt say what each states.
 pub use Rattle.runs.proofs.StepRule.{stepRule}
 pub use Rattle.runs.proofs.WalkRule.{walkRule}
+pub use Rattle.runs.proofs.TurnRule.{turnRule}
 pub use Rattle.runs.proofs.ModeRule.{modeRule}

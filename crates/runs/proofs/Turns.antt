@@ -9,6 +9,7 @@ use borrow.Author.Tests.{eqb-true, ltb-false}
 use lib.ListN.{length, getD, drop, length-drop}
 use lib.Seq.{getD-drop}
 use Rattle.octets.specs.Numbers.{SHORT, TYPE}
+use Rattle.octets.specs.Choice.{both}
 use Rattle.octets.specs.Outcome.{refused}
 use Rattle.octets.specs.Octets.{part}
 use Rattle.octets.proofs.Choice.{opposite, is-false, both-held, picked, pick-true, pick-false}
@@ -25,6 +26,10 @@ use Rattle.runs.specs.Modes.{SKIP, isSkipped, pastNlri, turnFrom, onTurn
 use Rattle.runs.proofs.Steps.{Stops, Comes, family, tooLong, end, beyond, unlaid, laid, comes-stepFrom}
 
 -- the refusals that are skipped
+pub skips-type : isSkipped SKIP TYPE ≡ true
+unfolding isSkipped both
+skips-type = refl
+
 pub skipped-number : (mode number : ℕ) → isSkipped mode number ≡ true → (mode ≡ SKIP) × (number ≡ TYPE)
 unfolding isSkipped
 skipped-number mode number h = let b = both-held _ _ h in (eqb-true _ _ (b .0), eqb-true _ _ (b .1))

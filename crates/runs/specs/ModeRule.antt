@@ -2,17 +2,21 @@
 use Prim.Native.Nat.{ℕ, _+_, _≤_}
 use mathlib.Core.Path.{_≡_}
 use mathlib.Core.List.{List, [], _∷_, _++_}
-use mathlib.Core.Logic.{_≢_}
-use lib.ListN.{length}
+use mathlib.Core.Bool.{true, false}
+use mathlib.Core.Logic.{_≢_, _⊎_}
+use lib.ListN.{length, getD}
 use Rattle.octets.specs.Numbers.{TYPE}
 use Rattle.octets.specs.Outcome.{given}
 use Rattle.octets.specs.Octets.{AllOctets}
 use Rattle.nlri.specs.Family.{familyBits}
 use Rattle.nlri.specs.Fields.{Fields, encodeNlri, WellFormed}
 use Rattle.nlri.specs.Bodies.{KnownType}
-use Rattle.runs.specs.Walking.{walkedWith, walkedTo, walkOf, NlriRead, nlrisOf}
-use Rattle.runs.specs.Statements.{RunEnd, StepRefusal}
-use Rattle.runs.specs.Modes.{SKIP, walkBy, nlrisBy}
+use Rattle.nlri.specs.Layouts.{noLayout}
+use Rattle.nlri.specs.Statements.{layoutFor}
+use Rattle.runs.specs.declared.turning.Turn.{Turn}
+use Rattle.runs.specs.Walking.{walkOf, NlriRead, nlrisOf}
+use Rattle.runs.specs.Statements.{EncodedAt, EndAt, StepRefusal, RunEnd}
+use Rattle.runs.specs.Modes.{turnFrom, turnedOf, walkBy, nlrisBy}
 
 -- an NLRI of a run: its fields, and the offset where their encoding begins
 pub record EncodedNlri : Type 0 where
@@ -43,20 +47,36 @@ pub record Split (bits at : ℕ) (run : List ℕ) : Type 0 where
   pub skipped : ℕ
   pub is : SkippingRun bits at run nlris number offset skipped
 
+-- a turn of the walk, in the words of its number and values
+pub record TurnRule : Type 0 where
+  -- an NLRI at the cursor is read in every mode: its layout, and the cursor just past it
+  pub reads : (afi mode : ℕ) (run : List ℕ) (at : ℕ) (f : Fields) → EncodedAt afi run at f
+      → turnedOf (turnFrom afi mode run at) ≡ record { number = 0; read = true; skipped = false; layout = layoutFor f; cursor = at + length (encodeNlri f) }
+  -- one whose route type is unknown is skipped in mode 0: the cursor just past it, by its Length
+  pub skips : (afi : ℕ) (run : List ℕ) (at : ℕ) → AllOctets run → StepRefusal afi run at TYPE
+      → turnedOf (turnFrom afi 0 run at) ≡ record { number = TYPE; read = false; skipped = true; layout = noLayout; cursor = at + (2 + getD run (at + 1) 0) }
+  -- the walk stops at the run's end, and at any other refusal; in every other mode at this one too
+  pub ends : (afi mode : ℕ) (run : List ℕ) (at : ℕ) → EndAt afi run at
+      → turnedOf (turnFrom afi mode run at) ≡ record { number = 0; read = false; skipped = false; layout = noLayout; cursor = 0 }
+  pub stops : (afi mode : ℕ) (run : List ℕ) (at n : ℕ) → AllOctets run → StepRefusal afi run at n → (mode ≢ 0) ⊎ (n ≢ TYPE)
+      → turnedOf (turnFrom afi mode run at) ≡ record { number = n; read = false; skipped = false; layout = noLayout; cursor = 0 }
+  -- turns with the same number and values are equal
+  pub apart : (a b : Turn) → turnedOf a ≡ turnedOf b → a ≡ b
+
 -- "Unknown route types are stepped over"
 pub record ModeRule : Type 0 where
-  -- every mode but SKIP is the walk that stops at every refusal, of which `walkRule` speaks
-  pub old : (afi mode : ℕ) (run : List ℕ) → mode ≢ SKIP → (walkBy afi mode run ≡ walkOf afi run) × (nlrisBy afi mode run ≡ nlrisOf afi run)
+  -- every mode but 0, SKIP, is the walk that stops at every refusal, of which `walkRule` speaks
+  pub old : (afi mode : ℕ) (run : List ℕ) → mode ≢ 0 → (walkBy afi mode run ≡ walkOf afi run) × (nlrisBy afi mode run ≡ nlrisOf afi run)
   -- which skips nothing
   pub none : (afi : ℕ) (run : List ℕ) → walkOf afi run .skipped ≡ 0
   -- every run of octets is NLRIs and unknown types, and then its end
   pub splits : (afi bits : ℕ) (run : List ℕ) → familyBits afi ≡ given bits → AllOctets run → Split bits 0 run
   -- the walk that skips has exactly the figures of such a run, and reads its NLRIs where they stand
   pub skips : (afi bits : ℕ) (run : List ℕ) (s : Split bits 0 run) → familyBits afi ≡ given bits → AllOctets run → length run ≤ 4096
-      → (walkBy afi SKIP run ≡ walkedWith (s .number) (length (s .nlris)) (s .offset) (s .skipped)) × (nlrisBy afi SKIP run ≡ encodings (s .nlris))
+      → (walkBy afi 0 run ≡ record { number = s .number; count = length (s .nlris); offset = s .offset; skipped = s .skipped }) × (nlrisBy afi 0 run ≡ encodings (s .nlris))
   -- where that walk meets no unknown type, each mode is that walk
   pub agree : (afi mode : ℕ) (run : List ℕ) → walkOf afi run .number ≢ TYPE → (walkBy afi mode run ≡ walkOf afi run) × (nlrisBy afi mode run ≡ nlrisOf afi run)
   -- where the first step refuses otherwise, as it does a bad AFI and a run that is too long, nothing is read or skipped
-  pub refuses : (afi mode : ℕ) (run : List ℕ) (n : ℕ) → AllOctets run → StepRefusal afi run 0 n → n ≢ TYPE → walkBy afi mode run ≡ walkedTo n 0 0
+  pub refuses : (afi mode : ℕ) (run : List ℕ) (n : ℕ) → AllOctets run → StepRefusal afi run 0 n → n ≢ TYPE → walkBy afi mode run ≡ record { number = n; count = 0; offset = 0; skipped = 0 }
   -- of every run each mode reads as many NLRIs as it counts
   pub counted : (afi mode : ℕ) (run : List ℕ) → walkBy afi mode run .count ≡ length (nlrisBy afi mode run)

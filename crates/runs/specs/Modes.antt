@@ -1,12 +1,14 @@
 -- The walk by its mode (document 02, W-206): an NLRI whose route type is unknown is skipped, or stops the walk as any other refusal does.
 use Prim.Native.Nat.{ℕ, zero, suc, _+_, _-_}
-use mathlib.Core.Bool.{Bool}
+use mathlib.Core.Bool.{Bool, true, false}
 use mathlib.Core.List.{List, [], _∷_}
 use lib.ListN.{length, getD}
 use lib.Dec.{eqb}
 use Rattle.octets.specs.Numbers.{DONE, TYPE}
 use Rattle.octets.specs.Choice.{pick, both}
 use Rattle.octets.specs.Octets.{part}
+use Rattle.nlri.specs.declared.layout.Layout.{Layout}
+use Rattle.nlri.specs.Layouts.{noLayout}
 use Rattle.runs.specs.declared.turning.Turn.{Turn}
 use Rattle.runs.specs.declared.turning.Turn.the-variants.{Read, Skipped, Stopped}
 use Rattle.runs.specs.declared.walking.Walked.{Walked}
@@ -34,6 +36,20 @@ turnFrom afi mode run at =
     pick (stepFrom afi run at .read) (Read (stepFrom afi run at .layout) (record { at = stepFrom afi run at .cursor }))
     (pick (isSkipped mode (stepFrom afi run at .number)) (Skipped (record { at = pastNlri run at }))
     (Stopped (stepFrom afi run at .number)))
+
+-- what a turn answers: the number, whether an NLRI was read, whether one was skipped, the layout of the NLRI read, and the next cursor
+pub record Turned : Type 0 where
+  pub number : ℕ
+  pub read : Bool
+  pub skipped : Bool
+  pub layout : Layout
+  pub cursor : ℕ
+
+-- the number and values of each case of `Turn`; an NLRI is skipped by TYPE, and a stop has no cursor
+unfoldable pub turnedOf : Turn → Turned
+turnedOf (Read layout cursor) = record { number = DONE; read = true; skipped = false; layout = layout; cursor = cursor .at }
+turnedOf (Skipped cursor) = record { number = TYPE; read = false; skipped = true; layout = noLayout; cursor = cursor .at }
+turnedOf (Stopped number) = record { number = number; read = false; skipped = false; layout = noLayout; cursor = 0 }
 
 -- by what a turn does, and the next cursor or the number
 unfoldable pub onTurn : {A : Type 0} → (ℕ → A) → (ℕ → A) → (ℕ → A) → Turn → A

@@ -14,7 +14,7 @@ use Rattle.nlri.specs.Bodies.{KnownType}
 use Rattle.nlri.specs.Statements.{FrontRefusal, layoutFor}
 use Rattle.runs.specs.declared.stepping.Step.{Step}
 use Rattle.runs.specs.declared.walking.Walked.{Walked}
-use Rattle.runs.specs.Walking.{readTo, endedAt, refusedAt, advanced, stepFrom, steppedOf, walkedTo, walkOf, NlriRead, nlrisOf}
+use Rattle.runs.specs.Walking.{readTo, endedAt, refusedAt, advanced, stepFrom, steppedOf, walkOf, NlriRead, nlrisOf}
 
 -- a step that reads: fields well-formed under the AFI's family stand encoded at the cursor of a run that is not too long
 pub record EncodedAt (afi : ℕ) (run : List ℕ) (at : ℕ) (f : Fields) : Type 0 where
@@ -58,7 +58,7 @@ pub record StepRule : Type 0 where
 
 -- the walk from a cursor as the iteration of the step: it goes on from the cursor that a step that read hands back, and stops at any other step
 pub data Walks (afi : ℕ) (run : List ℕ) : (at count : ℕ) → Walked → Type 0 where
-  stopping : {at count : ℕ} → stepFrom afi run at .read ≡ false → Walks afi run at count (walkedTo (stepFrom afi run at .number) count at)
+  stopping : {at count : ℕ} → stepFrom afi run at .read ≡ false → Walks afi run at count (record { number = stepFrom afi run at .number; count = count; offset = at; skipped = 0 })
   going : {at count : ℕ} {w : Walked} → stepFrom afi run at .read ≡ true → Walks afi run (stepFrom afi run at .cursor) (count + 1) w → Walks afi run at count w
 
 -- NLRIs that follow each other
@@ -96,13 +96,13 @@ pub record WalkRule : Type 0 where
   pub splits : (afi bits : ℕ) (run : List ℕ) → familyBits afi ≡ given bits → AllOctets run → RunOf bits run
   -- the walk counts these NLRIs, and stops where they end with the number there
   pub counts : (afi bits : ℕ) (run : List ℕ) (r : RunOf bits run) → familyBits afi ≡ given bits → AllOctets run → length run ≤ 4096
-      → walkOf afi run ≡ walkedTo (r .number) (length (r .nlris)) (length (encodeRun (r .nlris)))
+      → walkOf afi run ≡ record { number = r .number; count = length (r .nlris); offset = length (encodeRun (r .nlris)); skipped = 0 }
   -- what it reads is the encodings of these NLRIs, where they stand
   pub reads : (afi bits : ℕ) (run : List ℕ) (r : RunOf bits run) → familyBits afi ≡ given bits → AllOctets run → length run ≤ 4096 → nlrisOf afi run ≡ encodedFrom 0 (r .nlris)
   -- of every run it reads as many NLRIs as it counts
   pub counted : (afi : ℕ) (run : List ℕ) → walkOf afi run .count ≡ length (nlrisOf afi run)
   -- where the first step refuses, as it does a bad AFI and a run that is too long, nothing is read
-  pub refuses : (afi : ℕ) (run : List ℕ) (n : ℕ) → AllOctets run → StepRefusal afi run 0 n → walkOf afi run ≡ walkedTo n 0 0
+  pub refuses : (afi : ℕ) (run : List ℕ) (n : ℕ) → AllOctets run → StepRefusal afi run 0 n → walkOf afi run ≡ record { number = n; count = 0; offset = 0; skipped = 0 }
   -- the walk is the iteration of the step, and nothing else is
   pub iterates : (afi : ℕ) (run : List ℕ) → Walks afi run 0 0 (walkOf afi run)
   pub only : (afi : ℕ) (run : List ℕ) (at count : ℕ) (v w : Walked) → Walks afi run at count v → Walks afi run at count w → v ≡ w

@@ -16,7 +16,7 @@ use Rattle.nlri.specs.Family.{familyBits}
 use Rattle.nlri.specs.Bodies.{FieldKind, source, group, originator, key, fec, bodyOf, fieldIn, hasField}
 use Rattle.nlri.specs.Fields.{Fields, encodeAddress, encodeField, encodeBody, encodeNlri, restricted, WellFormed, KeyOf}
 use Rattle.nlri.specs.Reading.{keyField, laidAt, laidSingle, fieldsOf, readNlri}
-use Rattle.nlri.specs.Layouts.{readingOf, layoutOf, layoutAt, layoutSingle}
+use Rattle.nlri.specs.Layouts.{readingOf, layoutOf, layoutAt, layoutSingle, noLayout}
 use Rattle.nlri.specs.Statements.{ReadAs, layoutFor, LayoutRule}
 use Rattle.nlri.proofs.Definitions.Lengths.{family-octets}
 use Rattle.nlri.proofs.Definitions.Table.{field-of-map}
@@ -98,9 +98,11 @@ readings-apart (reading.Refused n) (reading.Nlri l) e = absurd (never refl (sym 
 readings-apart (reading.Refused n) (reading.Refused m) e = ap reading.Refused (refused-same {A = Layout} e)
 
 pub layoutRule : LayoutRule
+unfolding noLayout
 layoutRule =
     record {
       exactly = λ afi s l a. (layout-single-given afi s l a, λ h. layout-single-encoded afi s (h .0) (h .1) ∙ ap given (sym (h .2)));
       refuses = λ afi s n a. (λ e. readRefusals .exactly afi s n a .0 (layout-single-refused afi s n e), λ h. layout-single-refuses afi s n (readRefusals .exactly afi s n a .1 h));
+      none = refl;
       apart = readings-apart;
     }
