@@ -1,36 +1,62 @@
--- What holds of the answers as a caller from C sees them, in document 01's notions. Stated here, proved in proofs/.
+-- What a caller from C sees of the answers that this crate makes, in document 01's notions; those of other calls are stated where their definitions are.
+-- Stated here, proved in proofs/.
 use Prim.Native.Nat.{ℕ, _+_}
 use mathlib.Core.Path.{_≡_}
 use mathlib.Core.List.{List}
-use mathlib.Core.Logic.{_↔_, _≢_, _⊎_}
+use mathlib.Core.Logic.{_≢_}
 use lib.ListN.{length}
-use Rattle.octets.specs.Numbers.{DONE}
 use Rattle.octets.specs.Octets.{AllOctets}
+use Rattle.octets.specs.Answering.{Answering}
 use Rattle.nlri.specs.Fields.{Fields, encodeNlri}
-use Rattle.nlri.specs.Layouts.{noLayout}
-use Rattle.runs.specs.Walking.{stepFrom}
 use Rattle.nlri.specs.Statements.{layoutFor}
+use Rattle.runs.specs.Walking.{stepFrom}
 use Rattle.runs.specs.Statements.{EncodedAt, EndAt, StepRefusal}
+use Rattle.tunnel.specs.declared.Attribute.{Attribute}
+use Rattle.tunnel.specs.Answers.{readStruct}
+use Rattle.tunnel.specs.Statements.{AttributeReadRefusal, AnsweredAttribute}
 use Rattle.mvpn.specs.declared.StepAnswer.{StepAnswer}
-use Rattle.mvpn.specs.Answers.{stepAnswer}
+use Rattle.mvpn.specs.declared.AttributeAnswer.{AttributeAnswer}
+use Rattle.mvpn.specs.Answers.{stepAnswer, attributeAnswer}
 
--- what `mvpn_step` answers
-abbrev pub mvpnStep : (afi : ℕ) → List ℕ → (cursor : ℕ) → StepAnswer
-mvpnStep afi run cursor = stepAnswer (stepFrom afi run cursor)
+-- what a step that is done tells, which its route type tells apart: the NLRI at the cursor, its layout and the cursor just past it; or the run's end,
+-- with every number of the layout 0, and the cursor given
+pub data StepTold (afi : ℕ) (run : List ℕ) (cursor : ℕ) : StepAnswer → Type 0 where
+  anNlri : (f : Fields) → EncodedAt afi run cursor f → f .type ≢ 0 → StepTold afi run cursor (record { cursor = cursor + length (encodeNlri f); number = 0; layout = layoutFor f })
+  theEnd : EndAt afi run cursor
+      → StepTold afi run cursor (record { cursor = cursor; number = 0; layout = record { «route_type» = 0; length = 0; source = 0; group = 0; originator = 0; key = 0; fec = 0 } })
 
--- `mvpn_step`: its number and the route type tell an NLRI, the run's end and a refusal apart
-pub record StepAnswers : Type 0 where
-  -- DONE with a route type other than 0 exactly where an NLRI stands at the cursor
-  pub reads : (afi : ℕ) (run : List ℕ) (cursor : ℕ) → AllOctets run
-      → ((mvpnStep afi run cursor .number ≡ DONE) × (mvpnStep afi run cursor .layout .«route_type» ≢ 0)) ↔ ((f : Fields) × EncodedAt afi run cursor f)
-  -- then the answer has its layout, and the cursor just past it
-  pub layout : (afi : ℕ) (run : List ℕ) (cursor : ℕ) (f : Fields) → EncodedAt afi run cursor f
-      → mvpnStep afi run cursor ≡ record { cursor = cursor + length (encodeNlri f); number = DONE; layout = layoutFor f }
-  -- DONE with route type 0 exactly at the run's end, where neither FAMILY nor LONG refuses
-  pub ends : (afi : ℕ) (run : List ℕ) (cursor : ℕ) → AllOctets run
-      → ((mvpnStep afi run cursor .number ≡ DONE) × (mvpnStep afi run cursor .layout .«route_type» ≡ 0)) ↔ EndAt afi run cursor
-  -- another number exactly where the step refuses with it
-  pub refuses : (afi : ℕ) (run : List ℕ) (cursor n : ℕ) → AllOctets run → ((mvpnStep afi run cursor .number ≡ n) × (n ≢ DONE)) ↔ StepRefusal afi run cursor n
-  -- at the run's end and at a refusal the layout is empty, and the cursor is that given
-  pub stays : (afi : ℕ) (run : List ℕ) (cursor : ℕ) → AllOctets run → (mvpnStep afi run cursor .number ≢ DONE) ⊎ (mvpnStep afi run cursor .layout .«route_type» ≡ 0)
-      → (mvpnStep afi run cursor .layout ≡ noLayout) × (mvpnStep afi run cursor .cursor ≡ cursor)
+-- a refused step tells no NLRI, and hands back the cursor given
+pub record StepUntold (cursor : ℕ) (answer : StepAnswer) : Type 0 where
+  pub layout : answer .layout ≡ record { «route_type» = 0; length = 0; source = 0; group = 0; originator = 0; key = 0; fec = 0 }
+  pub given : answer .cursor ≡ cursor
+
+-- an attribute told: each field of the answer is that of the one attribute that says of the octets what it is to say
+pub record AttributeTold (s : List ℕ) (answer : AttributeAnswer) : Type 0 where
+  pub attribute : Attribute
+  pub answered : AnsweredAttribute s attribute
+  pub flags : answer .flags ≡ attribute .flags
+  pub tunnelType : answer .«tunnel_type» ≡ attribute .«tunnel_type»
+  pub labelField : answer .«label_field» ≡ attribute .«label_field»
+  pub label : answer .label ≡ attribute .label
+  pub leafInformationRequired : answer .«leaf_information_required» ≡ attribute .«leaf_information_required»
+  pub identifier : answer .identifier ≡ attribute .identifier
+  pub fec : answer .fec ≡ attribute .fec
+
+-- no attribute told: every field but the number is 0
+pub record AttributeUntold (answer : AttributeAnswer) : Type 0 where
+  pub flags : answer .flags ≡ 0
+  pub tunnelType : answer .«tunnel_type» ≡ 0
+  pub labelField : answer .«label_field» ≡ 0
+  pub label : answer .label ≡ 0
+  pub leafInformationRequired : answer .«leaf_information_required» ≡ 0
+  pub identifier : answer .identifier ≡ record { start = 0; size = 0 }
+  pub fec : answer .fec ≡ record { «fec_type» = 0; «address_family» = 0; root = record { start = 0; size = 0 }; opaque = record { start = 0; size = 0 } }
+
+-- the answers, as the contracts have them
+pub record CallAnswers : Type 0 where
+  -- `mvpn_step`
+  pub steps : (afi : ℕ) (run : List ℕ) (cursor : ℕ) → AllOctets run
+      → let answer : StepAnswer = stepAnswer (stepFrom afi run cursor) in Answering (answer .number) (StepRefusal afi run cursor) (StepTold afi run cursor answer) (StepUntold cursor answer)
+  -- `mvpn_attribute_read`
+  pub attributes : (s : List ℕ) → AllOctets s
+      → let answer : AttributeAnswer = attributeAnswer (readStruct s) in Answering (answer .number) (AttributeReadRefusal s) (AttributeTold s answer) (AttributeUntold answer)

@@ -1,15 +1,16 @@
 -- Match (specs/Rules/MatchRule.antt): the route that a flow takes, each answer exactly when, and what is told.
-use Prim.Native.Nat.{ℕ, _+_, _-_, _≤_}
+use Prim.Native.Nat.{ℕ, _+_, _≤_}
 use mathlib.Core.Path.{_≡_, refl, sym, _∙_, ap, subst}
 use mathlib.Core.Bool.{true}
 use mathlib.Core.List.{List, _++_, append-assoc}
 use mathlib.Core.Logic.{_↔_, _≢_, ⊎-elim}
 use native.Mathlib.Omega.{arith}
-use lib.ListN.{length, getD, drop, length-append, length-drop}
-use lib.Seq.{take-append-seam, drop-append-seam, getD-append-add, getD-drop}
+use lib.ListN.{length, getD, drop, length-append}
+use lib.Seq.{take-append-seam, drop-append-seam}
 use Rattle.octets.specs.Numbers.{DONE}
 use Rattle.octets.specs.Outcome.{Outcome, given, refused, onOutcome, numberOf}
 use Rattle.octets.specs.Octets.{part, front}
+use Rattle.octets.proofs.Lists.{length-front, past-front}
 use Rattle.octets.proofs.Choice.{pick-true, pick-false, picked}
 use Rattle.octets.proofs.Outcome.{never, given-unless, passed, stopped, refused-same, goes, stops, refused-of, number-refused, number-given, done-given}
 use Rattle.nlri.specs.Fields.{Fields}
@@ -42,7 +43,7 @@ front-two : (n a d : List ℕ) → length n + length a ≤ length d
 unfolding front part
 front-two n a d h =
     let rest : List ℕ = drop (length (n ++ a)) d in (
-      simp (length-append, length-drop) (omega arith),
+      length-front (n ++ a) d (omega (arith, length-append n a)),
       rw append-assoc (take-append-seam n (a ++ rest)),
       rw (append-assoc, drop-append-seam n (a ++ rest)) (take-append-seam a rest),
       λ i low. past-front (n ++ a) d i (rw length-append low),
