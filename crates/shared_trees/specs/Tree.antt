@@ -24,10 +24,15 @@ treeOf router group facts sourceActives states =
 
 -- the shared tree of every call's arguments
 pub record TreeRule : Type 0 where
-  -- the PE is upstream, the group is BIDIR-PIM, Source Active routes are not used: each exactly when the number told of it is not 0
-  pub upstream : (router group : List ℕ) (facts : Facts) (sourceActives states : List ℕ) → (treeOf router group facts sourceActives states .upstream ≡ true) ↔ (facts .upstream ≢ 0)
-  pub bidirectional : (router group : List ℕ) (facts : Facts) (sourceActives states : List ℕ) → (treeOf router group facts sourceActives states .bidirectional ≡ true) ↔ (facts .bidirectional ≢ 0)
-  pub unused : (router group : List ℕ) (facts : Facts) (sourceActives states : List ℕ) → (treeOf router group facts sourceActives states .unused ≡ true) ↔ (facts .«source_active_unused» ≢ 0)
+  -- the PE is upstream for the C-RP exactly when the number told of it is not 0
+  pub upstream : (router group : List ℕ) (facts : Facts) (sourceActives states : List ℕ)
+      → (treeOf router group facts sourceActives states .upstream ≡ true) ↔ (facts .upstream ≢ 0)
+  -- so is the group a BIDIR-PIM group
+  pub bidirectional : (router group : List ℕ) (facts : Facts) (sourceActives states : List ℕ)
+      → (treeOf router group facts sourceActives states .bidirectional ≡ true) ↔ (facts .bidirectional ≢ 0)
+  -- and so are Source Active routes not being used
+  pub unused : (router group : List ℕ) (facts : Facts) (sourceActives states : List ℕ)
+      → (treeOf router group facts sourceActives states .unused ≡ true) ↔ (facts .«source_active_unused» ≢ 0)
   -- the PE asked, the group and both lists are those of the call
   pub router : (router group : List ℕ) (facts : Facts) (sourceActives states : List ℕ) → treeOf router group facts sourceActives states .router ≡ router
   pub group : (router group : List ℕ) (facts : Facts) (sourceActives states : List ℕ) → treeOf router group facts sourceActives states .group ≡ group

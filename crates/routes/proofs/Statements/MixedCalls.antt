@@ -59,7 +59,10 @@ module _ (afi places : ℕ) (bits : KnownFamily afi) (most : places ≤ 500) (t 
         record {
           fits = more;
           answers = subst₂ (λ (x y : List Answered). Rearranged x y) here there (same-answers afi calls others (order .kept) (order .rearranged));
-          own = λ router. subst₂ (λ (x y : List Answered). chosen (λ a. owns afi router (a .call)) y ≡ chosen (λ a. owns afi router (a .call)) x) here there (same-own afi calls others (order .kept) router);
+          own =
+              λ router.
+              subst₂ (λ (x y : List Answered). chosen (λ a. owns afi router (a .call)) y ≡ chosen (λ a. owns afi router (a .call)) x) here there
+              (same-own afi calls others (order .kept) router);
           end = ends others more ∙ same-books afi places others calls (order .kept) ∙ sym (ends calls fits);
         }
 
@@ -75,10 +78,10 @@ mixed afi memory calls done fits =
     claim afi (placesIn memory) (made .family) (made .most) (makeOf afi memory .octets) (images .made afi memory done ∙ made-books afi (placesIn memory)) calls fits
 
 -- one more call
-end-next : (t : List ℕ) (earlier : List Call) (c : Call) → endOf t (earlier ++ (c ∷ [])) ≡ stepOf (endOf t earlier) c .octets
+end-then : (t : List ℕ) (earlier : List Call) (c : Call) → endOf t (earlier ++ (c ∷ [])) ≡ stepOf (endOf t earlier) c .octets
 unfolding endOf
-end-next t [] c = refl
-end-next t (b ∷ earlier) c = end-next (stepOf t b .octets) earlier c
+end-then t [] c = refl
+end-then t (b ∷ earlier) c = end-then (stepOf t b .octets) earlier c
 
 -- a list of calls as one call after others and before others
 each : (t : List ℕ) (earlier : List Call) (c : Call) (later : List Call)
@@ -103,7 +106,7 @@ run-rule =
       withdrawals = λ t nlri. refl;
       matches = λ t asked output. refl;
       start = λ t. refl;
-      end = end-next;
+      end = end-then;
       none = λ t. refl;
       each = each;
       unanswered = refl;

@@ -38,7 +38,8 @@ module _ (afi : ℕ) (router : List ℕ) where
   own-not earlier c f = chosen-append _ earlier (c ∷ []) ∙ ap (λ (l : List Call). ownCalls afi router earlier ++ l) (chosen-later (owns afi router) c [] f) ∙ append-nil (ownCalls afi router earlier)
 
   -- what is due to a router's own calls is what is due to them alone
-  pub own-answers : (earlier calls : List Call) → chosen (λ a. owns afi router (a .call)) (dueAnswers afi earlier calls) ≡ dueAnswers afi (ownCalls afi router earlier) (ownCalls afi router calls)
+  pub own-answers : (earlier calls : List Call)
+      → chosen (λ a. owns afi router (a .call)) (dueAnswers afi earlier calls) ≡ dueAnswers afi (ownCalls afi router earlier) (ownCalls afi router calls)
   unfolding dueAnswers chosen
   own-answers earlier [] = refl
   own-answers earlier (c ∷ cs) =

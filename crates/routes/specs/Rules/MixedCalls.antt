@@ -19,20 +19,25 @@ use Rattle.routes.specs.Rules.BookRules.{OwnerRule, PremiseRule, BookRul
 
 -- a run of calls on a table
 pub record RunRule : Type 0 where
-  -- what a call of each kind answers and leaves: what the definition says that its contract cites; a match leaves the table
+  -- an install answers and leaves what the definition says that its contract cites
   pub installs : (t nlri attribute : List ℕ)
       → stepOf t (install nlri attribute) ≡ record { call = install nlri attribute; answer = installed (installOf t nlri attribute .answer); octets = installOf t nlri attribute .octets }
+  -- so does a withdrawal
   pub withdrawals : (t nlri : List ℕ) → stepOf t (withdraw nlri) ≡ record { call = withdraw nlri; answer = withdrawn (withdrawOf t nlri .answer); octets = withdrawOf t nlri .octets }
+  -- so does a match, which leaves the table
   pub matches : (t : List ℕ) (asked : Asked) (output : List ℕ) → stepOf t (match asked output) ≡ record { call = match asked output; answer = matched (matchOf t asked output); octets = t }
-  -- the octets after no call are those before, and after one more call those that it leaves
+  -- the octets after no call are those before
   pub start : (t : List ℕ) → endOf t [] ≡ t
+  -- after one more call they are those that it leaves
   pub end : (t : List ℕ) (earlier : List Call) (c : Call) → endOf t (earlier ++ (c ∷ [])) ≡ stepOf (endOf t earlier) c .octets
-  -- each call is answered on the octets that the last one left, which are the end of the calls before it
+  -- no call, no step
   pub none : (t : List ℕ) → runFrom t [] ≡ []
+  -- each call is answered on the octets that the last one left, which are the end of the calls before it
   pub each : (t : List ℕ) (earlier : List Call) (c : Call) (later : List Call)
       → runFrom t (earlier ++ (c ∷ later)) ≡ runFrom t earlier ++ (stepOf (endOf t earlier) c ∷ runFrom (endOf t (earlier ++ (c ∷ []))) later)
-  -- its answers, each with its call, in order
+  -- no step, no answer
   pub unanswered : answersIn [] ≡ []
+  -- the answers of a run, each with its call, in order
   pub answers : (t : List ℕ) (c : Call) (cs : List Call)
       → answersIn (runFrom t (c ∷ cs)) ≡ record { call = c; answer = stepOf t c .answer } ∷ answersIn (runFrom (stepOf t c .octets) cs)
 
