@@ -14,12 +14,12 @@ use Rattle.routes.specs.Rules.ArgumentRules.{KnownFamily}
 use Rattle.routes.specs.Rules.MixedCalls.{RunRule, Alone, Reordered, Alike, Claim, MixedCalls}
 use Rattle.routes.proofs.Statements.Images.{images}
 use Rattle.routes.proofs.Statements.MakeRules.{made-holdable}
-use Rattle.octets.proofs.Chosen.{chosen-among}
+use Rattle.octets.proofs.Chosen.{chosen-among, chosen-first, chosen-later}
 use Rattle.octets.proofs.Among.{among-rearranged}
 use Rattle.routes.proofs.Statements.Runs.{fits-drawn, fits-earlier, next-step, answers-due, end-due}
 use Rattle.routes.proofs.Statements.DueSteps.{dueStep, dueAnswers}
 use Rattle.routes.proofs.Statements.Reorders.{own-answers, same-own, same-answers, same-books}
-use Rattle.routes.proofs.Statements.BookRules.{ownerRule, premiseRule, bookRule, image-rule}
+use Rattle.routes.proofs.Statements.BookRules.{owns-true, owns-false, ownerRule, premiseRule, bookRule, image-rule}
 use Rattle.routes.proofs.Statements.Turns.{in-turn}
 
 -- a table just made holds the books of no call
@@ -99,7 +99,7 @@ answered t (match asked output) cs = refl
 
 -- steps, ends and runs
 run-rule : RunRule
-unfolding stepOf endOf runFrom answersIn
+unfolding stepOf endOf runFrom answersIn chosen
 run-rule =
     record {
       installs = λ t nlri attribute. refl;
@@ -111,6 +111,9 @@ run-rule =
       each = each;
       unanswered = refl;
       answers = answered;
+      noneOwn = λ afi router. refl;
+      own = λ afi router s steps b. chosen-first _ (record { call = s .call; answer = s .answer }) (answersIn steps) (owns-true b);
+      foreign = λ afi router s steps h. chosen-later _ (record { call = s .call; answer = s .answer }) (answersIn steps) (owns-false afi router (s .call) h);
     }
 
 pub mixedCalls : MixedCalls

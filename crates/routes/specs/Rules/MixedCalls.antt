@@ -13,9 +13,9 @@ use Rattle.routes.specs.Asked.{Asked}
 use Rattle.routes.specs.Calls.{makeOf, installOf, withdrawOf, matchOf}
 use Rattle.routes.specs.Call.{Call, install, withdraw, match, installed, withdrawn, matched}
 use Rattle.routes.specs.Book.{ownCalls, nobodysCalls, onceEach, routersOf, dueAnswer}
-use Rattle.routes.specs.Run.{stepOf, runFrom, endOf, answersIn, ownAnswers, imageOfBooks, Fits}
+use Rattle.routes.specs.Run.{Step, stepOf, runFrom, endOf, answersIn, ownAnswers, imageOfBooks, Fits}
 use Rattle.routes.specs.Rules.ArgumentRules.{KnownFamily}
-use Rattle.routes.specs.Rules.BookRules.{OwnerRule, PremiseRule, BookRule, ImageRule}
+use Rattle.routes.specs.Rules.BookRules.{BelongsTo, OwnerRule, PremiseRule, BookRule, ImageRule}
 
 -- a run of calls on a table
 pub record RunRule : Type 0 where
@@ -40,6 +40,13 @@ pub record RunRule : Type 0 where
   -- the answers of a run, each with its call, in order
   pub answers : (t : List ℕ) (c : Call) (cs : List Call)
       → answersIn (runFrom t (c ∷ cs)) ≡ record { call = c; answer = stepOf t c .answer } ∷ answersIn (runFrom (stepOf t c .octets) cs)
+  -- no step, no answer of a router's own
+  pub noneOwn : (afi : ℕ) (router : List ℕ) → ownAnswers afi router [] ≡ []
+  -- a step whose call belongs to the router gives its answer
+  pub own : (afi : ℕ) (router : List ℕ) (s : Step) (steps : List Step) → BelongsTo afi router (s .call)
+      → ownAnswers afi router (s ∷ steps) ≡ record { call = s .call; answer = s .answer } ∷ ownAnswers afi router steps
+  -- any other step gives none
+  pub foreign : (afi : ℕ) (router : List ℕ) (s : Step) (steps : List Step) → (BelongsTo afi router (s .call) → ⊥) → ownAnswers afi router (s ∷ steps) ≡ ownAnswers afi router steps
 
 -- as if no other router had called: a router's own calls get the answers of a run of their own on the same table
 pub record Alone (afi places : ℕ) (table : List ℕ) (calls : List Call) (router : List ℕ) : Type 0 where
