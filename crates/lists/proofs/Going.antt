@@ -12,8 +12,7 @@
 -- where `is_asked` requires `wholeItem FIELDS (drop at list) ≡ true` and is a test of `frontItem FIELDS (drop at list)`, by `item_field`. The loop is
 -- `firstItem asked (λ x. true) false` of `listItems FIELDS list`, its measure is `left`, and its invariant
 --     Going FIELDS list (firstItem asked (λ x. true) false) (firstItem asked (λ x. true) false) left (drop at list)
--- A loop that answers the first fault's number, or whether every item meets a test, has another `firstItem`. One that calls a step for each item is
--- `eachItem step output`, and its invariant has that and then `eachItem step` of the output as it is now. Every need is `(λ c. search going)`.
+-- A loop that answers the first fault's number, or whether every item meets a test, has another `firstItem`. Every need is `(λ c. search going)`.
 use Prim.Native.Nat.{ℕ, _-_, _≤_, _<_}
 use mathlib.Core.Path.{_≡_, refl, sym, _∙_, ap}
 use mathlib.Core.Bool.{Bool, true, false, not}
@@ -26,7 +25,7 @@ use Rattle.octets.specs.Choice.{both}
 use Rattle.octets.proofs.Choice.{pick-true, pick-false, both-true-left, both-true-right, flag-not, not-is}
 use Rattle.octets.proofs.Orders.{same-is, same-on, same-off}
 use Rattle.octets.proofs.Tests.{refusals}
-use Rattle.lists.specs.LentLists.{Item, frontItem, afterItem, wholeItem, frontItems, wholeItems, listCount, wholeList, listItems, firstItem, eachItem}
+use Rattle.lists.specs.LentLists.{Item, frontItem, afterItem, wholeItem, frontItems, wholeItems, listCount, wholeList, listItems, firstItem}
 use Rattle.lists.proofs.Fields.{item-field-of, whole-item-less}
 use Rattle.lists.proofs.Walks.{left-some, left-none}
 
@@ -75,16 +74,6 @@ module _ {A : Type 0} (test : Item → Bool) (found : Item → A) (none : A) {fi
   unfolding firstItem
   going-last end = sym (none-left going end)
 
--- a loop that goes through all the items
-module _ {A : Type 0} (step : A → Item → A) (start a : A) {fields : ℕ} {list : List ℕ} {left : ℕ} {t : List ℕ} (going : Going fields list (eachItem step start) (eachItem step a) left t) where
-  pub going-through : 0 < left → (a′ : A) → a′ ≡ step a (frontItem fields t) → (t′ : List ℕ) → t′ ≡ afterItem fields t → Going fields list (eachItem step start) (eachItem step a′) (left - 1) t′
-  unfolding eachItem
-  going-through more a′ f t′ e = turned going (eachItem step a′) t′ more e (λ xs. ap (λ (x : A). eachItem step x xs) (sym f))
-
-  pub going-done : left ≤ 0 → a ≡ eachItem step start (listItems fields list)
-  unfolding eachItem
-  going-done end = sym (none-left going end)
-
 -- an item's number, by which it is refused or not
 pub fault-some : (n m : ℕ) → n ≡ m → (n ≡ DONE → ⊥) → not (eqb m DONE) ≡ true
 fault-some n m e h = ap not (ne-eqb m DONE (λ z. h (e ∙ z)))
@@ -93,4 +82,4 @@ pub fault-none : (n m : ℕ) → n ≡ m → n ≡ DONE → not (eqb m DONE) ≡
 fault-none n m e z = ap not (eq-eqb m DONE (sym e ∙ z))
 
 pub ruleset going =
-    (refusals, whole-item-less, item-field-of, going-first, going-here, going-next, going-stop, going-last, going-through, going-done, flag-not, not-is, fault-some, fault-none, same-is, same-on, same-off)
+    (refusals, whole-item-less, item-field-of, going-first, going-here, going-next, going-stop, going-last, flag-not, not-is, fault-some, fault-none, same-is, same-on, same-off)

@@ -87,8 +87,3 @@ everyItem test items = firstItem (λ x. not (test x)) (λ x. false) true items
 -- some item meets a test
 unfoldable pub someItem : (Item → Bool) → List Item → Bool
 someItem test items = firstItem test (λ x. true) false items
-
--- what all the items come to, one after the other
-unfoldable pub eachItem : {A : Type 0} → (step : A → Item → A) → A → List Item → A
-eachItem step a [] = a
-eachItem step a (x ∷ xs) = eachItem step (step a x) xs

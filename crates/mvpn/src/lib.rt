@@ -17,7 +17,7 @@ ghost use Rattle.routes.specs.Calls.{makeOf, installOf, withdrawOf, matchOf};
 ghost use Rattle.routes.specs.Reasons.{explainOf};
 ghost use Rattle.routes.specs.Next.{nextOf};
 ghost use Rattle.routes.specs.Info.{infoOf};
-ghost use Rattle.shared_trees.specs.Told.{treeOf};
+ghost use Rattle.shared_trees.specs.Tree.{treeOf};
 ghost use Rattle.mvpn.specs.Answers.{stepAnswer, attributeGiven, attributeRefused, attributeAnswer};
 use nlri::Group;
 use nlri::Layout;

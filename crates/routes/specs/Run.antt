@@ -1,4 +1,4 @@
--- Lists of calls on one table, and what is due to them (document 01, "Mixed calls and each router's book").
+-- Lists of calls on one table, the image of all books, and what the premise counts (document 01, "Mixed calls and each router's book").
 use Prim.Native.Nat.{ℕ, _≤_}
 use mathlib.Core.List.{List, [], _∷_, _++_}
 use lib.ListN.{length}
@@ -9,7 +9,7 @@ use Rattle.routes.specs.Arguments.{readSPmsi}
 use Rattle.routes.specs.Table.{imageOf}
 use Rattle.routes.specs.Calls.{installOf, withdrawOf, matchOf}
 use Rattle.routes.specs.Call.{Call, install, withdraw, match, Answer, installed, withdrawn, matched, owns}
-use Rattle.routes.specs.Book.{onceEach, allBooks, dueAnswer}
+use Rattle.routes.specs.Book.{onceEach, allBooks}
 
 -- a call, its answer, and the table octets after it
 pub record Step : Type 0 where
@@ -50,15 +50,6 @@ ownAnswers afi router steps = chosen (λ a. owns afi router (a .call)) (answersI
 -- the one image of the routes in all books
 unfoldable pub imageOfBooks : (afi places : ℕ) → List Call → List ℕ
 imageOfBooks afi places calls = imageOf afi places (arranged (allBooks afi calls))
-
--- what is due to a call that comes after others: its due answer, and the image of all books
-unfoldable pub dueStep : (afi places : ℕ) (earlier : List Call) → Call → Step
-dueStep afi places earlier c = record { call = c; answer = dueAnswer afi earlier c; octets = imageOfBooks afi places (earlier ++ (c ∷ [])) }
-
--- and to calls one after the other
-unfoldable pub dueFrom : (afi places : ℕ) (earlier : List Call) → List Call → List Step
-dueFrom afi places earlier [] = []
-dueFrom afi places earlier (c ∷ cs) = dueStep afi places earlier c ∷ dueFrom afi places (earlier ++ (c ∷ [])) cs
 
 -- the well-formed S-PMSI NLRI that an install names, a refused one included
 unfoldable pub namedIn : ℕ → Call → List (List ℕ)

@@ -21,7 +21,8 @@ use Rattle.nlri.proofs.Definitions.Families.{family-least}
 use Rattle.routes.specs.SharedTree.{SharedTree, MOST_ITEMS, originatorSized, stateSized, sourceActiveFault, judgedTree}
 use Rattle.routes.proofs.Definitions.Flows.{class-under}
 use Rattle.shared_trees.specs.declared.Facts.{Facts}
-use Rattle.shared_trees.specs.Told.{treeOf, listsFault, addressesSized, classUnless, judgedWhole, Judged}
+use Rattle.shared_trees.specs.Tree.{treeOf}
+use Rattle.shared_trees.specs.Told.{listsFault, addressesSized, classUnless, judgedWhole, Judged}
 use Rattle.shared_trees.proofs.SourceActives.{all-bounded}
 
 -- no refusal of a group's class is DONE
@@ -185,11 +186,13 @@ module _ (afi : ℕ) (router group sourceActives states : List ℕ) (r : Group) 
 
   module _ (bits : ℕ) (ofFamily : familyBits afi ≡ given bits) (fault : ℕ) (told : fault ≡ listsFault sourceActives states) where
     pub tree-lists : (fault ≡ DONE → ⊥) → r ≡ groupOf (refused fault) → (facts : Facts) → r ≡ groupOf (judgedTree afi (treeOf router group facts sourceActives states))
+    unfolding treeOf
     tree-lists h q facts =
         q ∙ ap groupOf (ap refused told ∙ sym (judged-is afi bits (treeOf router group facts sourceActives states) ofFamily ∙ pick-false _ _ _ (ne-eqb _ _ (λ e. h (told ∙ e)))))
 
     pub tree-rest : fault ≡ DONE → (size : ℕ) → size ≡ bits / 8 → r ≡ groupOf (judgedWhole afi (8 * size) router group sourceActives states)
         → (facts : Facts) → r ≡ groupOf (judgedTree afi (treeOf router group facts sourceActives states))
+    unfolding treeOf
     tree-rest h size is q facts =
         let all : 8 * size ≡ bits = omega (arith, family-octets afi bits ofFamily .0) in
         q ∙ ap groupOf (ap (λ (n : ℕ). judgedWhole afi n router group sourceActives states) all

@@ -1,2 +1,3 @@
 -- What a daemon tells of a shared tree, as the functions take it.
+pub mod Tree
 pub mod Told

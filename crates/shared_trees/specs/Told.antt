@@ -1,4 +1,4 @@
--- A shared tree by a call's arguments, and definitions that mirror the functions; laws tie them to those of `routes`.
+-- Definitions that mirror the inner functions; laws tie them to those of `routes`.
 use Prim.Native.Nat.{ℕ, _+_, _*_, _-_, _≤_}
 use mathlib.Core.Path.{_≡_}
 use mathlib.Core.Bool.{Bool, true, not}
@@ -14,21 +14,7 @@ use Rattle.lists.specs.LentLists.{Item, itemField, frontItem, wholeItem, listCo
 use Rattle.nlri.specs.Family.{isOriginatorSize}
 use Rattle.nlri.specs.Groups.{classOf}
 use Rattle.nlri.specs.Inner.{sizeAt}
-use Rattle.routes.specs.SharedTree.{SharedTree, MOST_ITEMS, originatorSized, stateSized, sourceActiveFault, isState}
-use Rattle.shared_trees.specs.declared.Facts.{Facts}
-
--- the shared tree of a call's arguments: a fact holds where it is not 0
-abbrev pub treeOf : (router group : List ℕ) → Facts → (sourceActives states : List ℕ) → SharedTree
-treeOf router group facts sourceActives states =
-    record {
-      router = router;
-      group = group;
-      upstream = not (eqb (facts .upstream) 0);
-      bidirectional = not (eqb (facts .bidirectional) 0);
-      unused = not (eqb (facts .«source_active_unused») 0);
-      sourceActives = sourceActives;
-      states = states;
-    }
+use Rattle.routes.specs.SharedTree.{MOST_ITEMS, originatorSized, stateSized, sourceActiveFault, isState}
 
 -- the number of the two lists as lists
 unfoldable pub listsFault : (sourceActives states : List ℕ) → ℕ

@@ -8,7 +8,8 @@ ghost use Rattle.lists.specs.LentLists.{frontItem, wholeItem, wholeList, listIt
 ghost use Rattle.nlri.specs.Groups.{groupOf};
 ghost use Rattle.routes.specs.SharedTree.{originatorSized, stateSized, readSourceActive, sourceActiveFault, judgedTree};
 ghost use Rattle.shared_trees.specs.declared.Facts.{Facts};
-ghost use Rattle.shared_trees.specs.Told.{treeOf, listsFault, addressesSized, judgedWhole};
+ghost use Rattle.shared_trees.specs.Tree.{treeOf};
+ghost use Rattle.shared_trees.specs.Told.{listsFault, addressesSized, judgedWhole};
 use crate::FIELDS;
 use lists::FIRST;
 use nlri::Family;

@@ -75,10 +75,12 @@ nobodys-owner afi c h = go (ownerOf afi c) refl
     go nobody e = e
     go (owner router) e = absurd (h router (belongs afi router c e))
 
-owns-true : {afi : ℕ} {router : List ℕ} {c : Call} → BelongsTo afi router c → owns afi router c ≡ true
+-- a call that belongs to a router is one of its own
+pub owns-true : {afi : ℕ} {router : List ℕ} {c : Call} → BelongsTo afi router c → owns afi router c ≡ true
 owns-true {afi} {router} {c} b = owned-itself router (ownerOf afi c) (belonging b)
 
-owns-false : (afi : ℕ) (router : List ℕ) (c : Call) → (BelongsTo afi router c → ⊥) → owns afi router c ≡ false
+-- and one that does not is not
+pub owns-false : (afi : ℕ) (router : List ℕ) (c : Call) → (BelongsTo afi router c → ⊥) → owns afi router c ≡ false
 owns-false afi router c h = is-false _ (λ t. h (belongs afi router c (owned-by router (ownerOf afi c) t)))
 
 pub ownerRule : OwnerRule

@@ -25,7 +25,7 @@ use Rattle.routes.specs.Answers.{NEW, REPLACED, installedOf, matchedBy}
 use Rattle.routes.specs.Calls.{entering, installOutcome, installOf, leaving, withdrawOutcome, withdrawOf, matchOutcome, matchOf}
 use Rattle.routes.specs.Call.{Call, install, withdraw, match, Answer, installed, withdrawn, matched, Owner, nobody, owner, originatorOf, ownerOf, Act, enter, leave, ask, argued, refusalOf, refusalAnswer}
 use Rattle.routes.specs.Book.{bookOf, actAnswer, bookAnswer, allBooks, dueBy, dueAnswer}
-use Rattle.routes.specs.Run.{Step, stepOf, imageOfBooks, dueStep, Fits}
+use Rattle.routes.specs.Run.{Step, stepOf, Answered, imageOfBooks, Fits}
 use Rattle.routes.proofs.Definitions.Lookups.{lookup-inserted, lookup-removed, lookup-arranged, holds-alike, increasing-equal, increasing-inserted, increasing-removed, distinct-increasing, length-inserted-new, absent-holds, removed-absent}
 use Rattle.routes.proofs.Definitions.Bounds.{route-read}
 use Rattle.routes.proofs.Statements.Images.{images}
@@ -34,6 +34,15 @@ use Rattle.routes.proofs.Definitions.Ownership.{acceptable-after-none, 
 use Rattle.routes.proofs.Definitions.Acts.{Known, enters, leaves, asks, argued-cases}
 use Rattle.routes.proofs.Definitions.Books.{heldBy, heldAfter}
 use Rattle.routes.proofs.Definitions.AllBooks.{distinct-book, lookup-all, lookup-all-next, increasing-books, holdable-books}
+
+-- what is due to a call that comes after others: its due answer, and the image of all books
+unfoldable pub dueStep : (afi places : ℕ) (earlier : List Call) → Call → Step
+dueStep afi places earlier c = record { call = c; answer = dueAnswer afi earlier c; octets = imageOfBooks afi places (earlier ++ (c ∷ [])) }
+
+-- calls that come one after the other after others, each with the answer that is due to it
+unfoldable pub dueAnswers : ℕ → (earlier : List Call) → List Call → List Answered
+dueAnswers afi earlier [] = []
+dueAnswers afi earlier (c ∷ cs) = record { call = c; answer = dueAnswer afi earlier c } ∷ dueAnswers afi (earlier ++ (c ∷ [])) cs
 
 -- the routes of all books, as the table holds them
 abbrev tableRoutes : ℕ → List Call → List Route

@@ -1,7 +1,6 @@
 -- The premise of the claim on mixed calls can be met and is needed, by computation.
 use Prim.Native.Nat.{ℕ}
 use mathlib.Core.Path.{_≡_, refl, ap}
-use mathlib.Core.List.{List, [], _∷_}
 use native.Mathlib.Omega.{arith}
 use Rattle.octets.specs.Numbers.{DONE, ROOM}
 use Rattle.octets.specs.Choice.{pick, both, either}
@@ -22,8 +21,8 @@ use Rattle.routes.specs.Answers.{installedOf}
 use Rattle.routes.specs.Calls.{makeOutcome, makeOf, entering, installOutcome, installOf}
 use Rattle.routes.specs.Call.{Answer, installed, withdrawn, matched, originatorOf, ownerOf, ownedBy, argued}
 use Rattle.routes.specs.Book.{entered, actAnswer, actAfter, bookAnswer, bookAfter, fed, bookOf, isAmong, onceEach, dueBy, dueAnswer}
-use Rattle.routes.specs.Run.{Step, stepOf, runFrom, dueStep, dueFrom, namedIn, namedBy}
-use Rattle.routes.specs.Rules.MixedCalls.{anySource, twoInstalls, Premise}
+use Rattle.routes.specs.Run.{stepOf, endOf, namedIn, namedBy}
+use Rattle.routes.specs.Rules.MixedCalls.{anySource, oneInstall, twoInstalls, Premise}
 
 -- the number in an answer
 numberAnswered : Answer → ℕ
@@ -31,18 +30,12 @@ numberAnswered (installed i) = i .number
 numberAnswered (withdrawn number) = number
 numberAnswered (matched m) = m .answer .number
 
--- the number that the second call is answered
-second : List Step → ℕ
-second [] = DONE
-second (a ∷ []) = DONE
-second (a ∷ (b ∷ steps)) = numberAnswered (b .answer)
-
 pub premise : Premise
-unfolding pick both either onOutcome andThen numberOf part numberIn bigEndian same before zeros allZero familyBits allowed isOriginatorSize bodies onBody codeOf sameKind fieldIn fixedField addressEnd addressField originatorField fieldSize sizesOf laidWith laidAt cut fieldsOf laidSingle readNlri identifierForms formIn formOf oneOf isIdentifier readIdentifier labelOf fieldsIn readAttribute nlriOf attributeOf lookup isHeld holds inserted arranged readSPmsi readLabelled readRoute placeOf endIn routeIn acceptable placeSound headerStart headerOf placesOf imageOf afiIn countIn placesIn routesFrom routesOf tableSize headerSound placesSound soundOf makeOutcome makeOf installedOf entering installOutcome installOf originatorOf ownerOf ownedBy argued entered actAnswer actAfter bookAnswer bookAfter fed chosen bookOf isAmong onceEach dueBy dueAnswer stepOf runFrom dueStep dueFrom namedIn namedBy anySource twoInstalls numberAnswered second
+unfolding pick both either onOutcome andThen numberOf part numberIn bigEndian same before zeros allZero familyBits allowed isOriginatorSize bodies onBody codeOf sameKind fieldIn fixedField addressEnd addressField originatorField fieldSize sizesOf laidWith laidAt cut fieldsOf laidSingle readNlri identifierForms formIn formOf oneOf isIdentifier readIdentifier labelOf fieldsIn readAttribute nlriOf attributeOf lookup isHeld holds inserted arranged readSPmsi readLabelled readRoute placeOf endIn routeIn acceptable placeSound headerStart headerOf placesOf imageOf afiIn countIn placesIn routesFrom routesOf tableSize headerSound placesSound soundOf makeOutcome makeOf installedOf entering installOutcome installOf originatorOf ownerOf ownedBy argued entered actAnswer actAfter bookAnswer bookAfter fed chosen bookOf isAmong onceEach dueBy dueAnswer stepOf endOf namedIn namedBy anySource oneInstall twoInstalls numberAnswered
 premise =
     record {
       made = refl;
       met = omega arith;
       madeSmaller = refl;
-      needed = λ e. let z : _≡_ {A = ℕ} ROOM DONE = ap second e in omega arith;
+      needed = λ e. let z : _≡_ {A = ℕ} ROOM DONE = ap numberAnswered e in omega arith;
     }

@@ -10,11 +10,11 @@ use Rattle.routes.specs.Route.{lookup}
 use Rattle.routes.specs.Table.{imageOf}
 use Rattle.routes.specs.Call.{Call, Answer, Owner, nobody, owner, originatorOf, ownerOf, owns, isNobody, refusalOf, refusalAnswer}
 use Rattle.routes.specs.Book.{fed, ownCalls, nobodysCalls, bookOf, bookAnswer, allBooks, dueAnswer}
-use Rattle.routes.specs.Run.{Answered, answersIn, ownAnswers, imageOfBooks, dueStep, dueFrom}
+use Rattle.routes.specs.Run.{Answered, imageOfBooks}
 use Rattle.routes.proofs.Definitions.Lookups.{lookup-arranged, increasing-equal}
 use Rattle.routes.proofs.Definitions.Ownership.{owned-by}
 use Rattle.routes.proofs.Definitions.AllBooks.{lookup-all, lookup-nobody, increasing-books}
-use Rattle.routes.proofs.Statements.DueSteps.{due-owned, due-nobody}
+use Rattle.routes.proofs.Statements.DueSteps.{dueAnswers, due-owned, due-nobody}
 use Rattle.octets.proofs.Chosen.{chosen-first, chosen-later, chosen-append, chosen-passes, chosen-all, chosen-rearranged}
 use Rattle.routes.proofs.Definitions.ByOwner.{is-nobody, by-owner}
 
@@ -37,24 +37,24 @@ module _ (afi : ℕ) (router : List ℕ) where
   unfolding chosen
   own-not earlier c f = chosen-append _ earlier (c ∷ []) ∙ ap (λ (l : List Call). ownCalls afi router earlier ++ l) (chosen-later (owns afi router) c [] f) ∙ append-nil (ownCalls afi router earlier)
 
-  module _ (places : ℕ) where
-    -- a router's own answers are those of its own calls alone
-    pub own-answers : (earlier calls : List Call) → ownAnswers afi router (dueFrom afi places earlier calls) ≡ answersIn (dueFrom afi places (ownCalls afi router earlier) (ownCalls afi router calls))
-    unfolding dueFrom dueStep answersIn chosen
-    own-answers earlier [] = refl
-    own-answers earlier (c ∷ cs) =
-        let rest = own-answers (earlier ++ (c ∷ [])) cs in
-        tested (owns afi router c)
-        (λ t.
-        chosen-first _ (record { call = c; answer = dueAnswer afi earlier c }) (answersIn (dueFrom afi places (earlier ++ (c ∷ [])) cs)) t
-        ∙ ap₂ (λ (a : Answer) (l : List Answered). record { call = c; answer = a } ∷ l) (due-own earlier c t)
-        (rest ∙ ap (λ (l : List Call). answersIn (dueFrom afi places l (ownCalls afi router cs))) (own-then earlier c t))
-        ∙ sym (ap (λ (l : List Call). answersIn (dueFrom afi places (ownCalls afi router earlier) l)) (chosen-first _ c cs t)))
-        (λ f.
-        chosen-later _ (record { call = c; answer = dueAnswer afi earlier c }) (answersIn (dueFrom afi places (earlier ++ (c ∷ [])) cs)) f
-        ∙ rest
-        ∙ ap (λ (l : List Call). answersIn (dueFrom afi places l (ownCalls afi router cs))) (own-not earlier c f)
-        ∙ sym (ap (λ (l : List Call). answersIn (dueFrom afi places (ownCalls afi router earlier) l)) (chosen-later _ c cs f)))
+  -- what is due to a router's own calls is what is due to them alone
+  pub own-answers : (earlier calls : List Call)
+      → chosen (λ a. owns afi router (a .call)) (dueAnswers afi earlier calls) ≡ dueAnswers afi (ownCalls afi router earlier) (ownCalls afi router calls)
+  unfolding dueAnswers chosen
+  own-answers earlier [] = refl
+  own-answers earlier (c ∷ cs) =
+      let rest = own-answers (earlier ++ (c ∷ [])) cs in
+      tested (owns afi router c)
+      (λ t.
+      chosen-first _ (record { call = c; answer = dueAnswer afi earlier c }) (dueAnswers afi (earlier ++ (c ∷ [])) cs) t
+      ∙ ap₂ (λ (a : Answer) (l : List Answered). record { call = c; answer = a } ∷ l) (due-own earlier c t)
+      (rest ∙ ap (λ (l : List Call). dueAnswers afi l (ownCalls afi router cs)) (own-then earlier c t))
+      ∙ sym (ap (dueAnswers afi (ownCalls afi router earlier)) (chosen-first _ c cs t)))
+      (λ f.
+      chosen-later _ (record { call = c; answer = dueAnswer afi earlier c }) (dueAnswers afi (earlier ++ (c ∷ [])) cs) f
+      ∙ rest
+      ∙ ap (λ (l : List Call). dueAnswers afi l (ownCalls afi router cs)) (own-not earlier c f)
+      ∙ sym (ap (dueAnswers afi (ownCalls afi router earlier)) (chosen-later _ c cs f)))
 
 -- nobody's answers are their refusals
 
@@ -72,31 +72,33 @@ unfolding refusals
 rearranged-refusals afi Rearranged.none = Rearranged.none
 rearranged-refusals afi (Rearranged.one p r) = Rearranged.one (put-refusals afi p) (rearranged-refusals afi r)
 
-nobodys-answers : (afi places : ℕ) (earlier calls : List Call) → chosen (λ a. isNobody (ownerOf afi (a .call))) (answersIn (dueFrom afi places earlier calls)) ≡ refusals afi (nobodysCalls afi calls)
-unfolding dueFrom dueStep answersIn chosen refusals
-nobodys-answers afi places earlier [] = refl
-nobodys-answers afi places earlier (c ∷ cs) =
-    let rest = nobodys-answers afi places (earlier ++ (c ∷ [])) cs in
+nobodys-answers : (afi : ℕ) (earlier calls : List Call) → chosen (λ a. isNobody (ownerOf afi (a .call))) (dueAnswers afi earlier calls) ≡ refusals afi (nobodysCalls afi calls)
+unfolding dueAnswers chosen refusals
+nobodys-answers afi earlier [] = refl
+nobodys-answers afi earlier (c ∷ cs) =
+    let rest = nobodys-answers afi (earlier ++ (c ∷ [])) cs in
     tested (isNobody (ownerOf afi c))
     (λ t.
-    chosen-first _ (record { call = c; answer = dueAnswer afi earlier c }) (answersIn (dueFrom afi places (earlier ++ (c ∷ [])) cs)) t
+    chosen-first _ (record { call = c; answer = dueAnswer afi earlier c }) (dueAnswers afi (earlier ++ (c ∷ [])) cs) t
     ∙ ap₂ (λ (a : Answer) (l : List Answered). record { call = c; answer = a } ∷ l) (due-nobody afi earlier c (is-nobody (ownerOf afi c) t)) rest
     ∙ sym (ap (refusals afi) (chosen-first _ c cs t)))
-    (λ f. chosen-later _ (record { call = c; answer = dueAnswer afi earlier c }) (answersIn (dueFrom afi places (earlier ++ (c ∷ [])) cs)) f ∙ rest ∙ sym (ap (refusals afi) (chosen-later _ c cs f)))
+    (λ f. chosen-later _ (record { call = c; answer = dueAnswer afi earlier c }) (dueAnswers afi (earlier ++ (c ∷ [])) cs) f ∙ rest ∙ sym (ap (refusals afi) (chosen-later _ c cs f)))
 
 -- another order
 
-module _ (afi places : ℕ) (calls others : List Call) (kept : (router : List ℕ) → ownCalls afi router others ≡ ownCalls afi router calls) where
-  pub same-own : (router : List ℕ) → ownAnswers afi router (dueFrom afi places [] others) ≡ ownAnswers afi router (dueFrom afi places [] calls)
+module _ (afi : ℕ) (calls others : List Call) (kept : (router : List ℕ) → ownCalls afi router others ≡ ownCalls afi router calls) where
+  -- the same is due to each router's own calls
+  pub same-own : (router : List ℕ) → chosen (λ a. owns afi router (a .call)) (dueAnswers afi [] others) ≡ chosen (λ a. owns afi router (a .call)) (dueAnswers afi [] calls)
   same-own router =
-      own-answers afi router places [] others
-      ∙ ap (λ (l : List Call). answersIn (dueFrom afi places (ownCalls afi router []) l)) (kept router)
-      ∙ sym (own-answers afi router places [] calls)
+      own-answers afi router [] others
+      ∙ ap (dueAnswers afi (ownCalls afi router [])) (kept router)
+      ∙ sym (own-answers afi router [] calls)
 
-  pub same-answers : Rearranged calls others → Rearranged (answersIn (dueFrom afi places [] calls)) (answersIn (dueFrom afi places [] others))
+  -- and to all calls, rearranged
+  pub same-answers : Rearranged calls others → Rearranged (dueAnswers afi [] calls) (dueAnswers afi [] others)
   same-answers order =
       by-owner (λ (a : Answered). ownerOf afi (a .call)) _ _ (λ router. sym (same-own router))
-      (subst₂ (λ (x y : List Answered). Rearranged x y) (sym (nobodys-answers afi places [] calls)) (sym (nobodys-answers afi places [] others)) (rearranged-refusals afi (chosen-rearranged _ order)))
+      (subst₂ (λ (x y : List Answered). Rearranged x y) (sym (nobodys-answers afi [] calls)) (sym (nobodys-answers afi [] others)) (rearranged-refusals afi (chosen-rearranged _ order)))
 
 -- calls with the same own calls for every router have the same books
 pub same-books : (afi places : ℕ) (xs ys : List Call) → ((router : List ℕ) → ownCalls afi router xs ≡ ownCalls afi router ys) → imageOfBooks afi places xs ≡ imageOfBooks afi places ys

@@ -12,7 +12,7 @@ use Rattle.routes.specs.Route.{Route, route, absent, held, lookup, Disti
 use Rattle.routes.specs.Query.{Flow}
 use Rattle.routes.specs.SharedTree.{SharedTree}
 use Rattle.routes.specs.Asked.{ofFlow, ofSharedTree}
-use Rattle.routes.specs.Answers.{Changed, NEW, REPLACED}
+use Rattle.routes.specs.Answers.{Changed}
 use Rattle.routes.specs.Call.{Call, install, withdraw, match, Answer, installed, withdrawn, matched, nobody, owner, ownerOf}
 use Rattle.routes.specs.Book.{ownCalls, bookOf, allBooks, dueAnswer}
 use Rattle.routes.specs.Run.{imageOfBooks, counted}
@@ -62,11 +62,11 @@ pub data RefusedCall (afi : ℕ) : Call → Answer → Type 0 where
 pub data BookStep (afi : ℕ) (book : List Route) : Call → Answer → (after : List Route) → Type 0 where
   -- a call that its arguments and the family refuse gets the first such number in its order; the book stays
   refusal : {c : Call} {answer : Answer} → RefusedCall afi c answer → BookStep afi book c answer book
-  -- any other install gives the NLRI this attribute: DONE, "replaced" if the book held the NLRI, else "new"
+  -- any other install gives the NLRI this attribute: DONE with 2, "replaced", if the book held the NLRI, else with 1, "new"
   replacedRoute : {nlri attribute : List ℕ} {after : List Route} → SPmsi afi nlri → Labelled attribute → IsHeld nlri book → HeldNow nlri (held (route nlri attribute)) book after
-      → BookStep afi book (install nlri attribute) (installed (record { number = DONE; outcome = REPLACED })) after
+      → BookStep afi book (install nlri attribute) (installed (record { number = DONE; outcome = 2 })) after
   newRoute : {nlri attribute : List ℕ} {after : List Route} → SPmsi afi nlri → Labelled attribute → lookup nlri book ≡ absent → HeldNow nlri (held (route nlri attribute)) book after
-      → BookStep afi book (install nlri attribute) (installed (record { number = DONE; outcome = NEW })) after
+      → BookStep afi book (install nlri attribute) (installed (record { number = DONE; outcome = 1 })) after
   -- any other withdrawal takes the NLRI out: DONE; if the book does not hold it: ABSENT
   takenOut : {nlri : List ℕ} {after : List Route} → SPmsi afi nlri → IsHeld nlri book → HeldNow nlri absent book after
       → BookStep afi book (withdraw nlri) (withdrawn DONE) after

@@ -10,7 +10,6 @@ use Rattle.octets.specs.Numbers.{DONE, FAMILY, TABLE, ROOM, ABSENT}
 use Rattle.octets.specs.Lists.{Among}
 use Rattle.routes.specs.Route.{Route, route, nlriOf, Held, absent, held, lookup, inserted, removed, Distinct}
 use Rattle.routes.specs.Table.{afiIn, placesIn, routesOf, soundOf}
-use Rattle.routes.specs.Answers.{NEW, REPLACED}
 use Rattle.routes.specs.Calls.{makeOf, installOf, withdrawOf}
 use Rattle.routes.specs.Rules.ArgumentRules.{KnownFamily, SPmsi, Labelled, NlriRefusal, RouteRefusal}
 use Rattle.routes.specs.Rules.Images.{TableOf}
@@ -72,10 +71,10 @@ pub data InstallRefusal (t nlri attribute : List ℕ) : ℕ → Type 0 where
   badRoute : {n : ℕ} → soundOf t ≡ true → RouteRefusal (afiIn t) nlri attribute n → InstallRefusal t nlri attribute n
   noRoom : Installable t nlri attribute → Full t nlri → InstallRefusal t nlri attribute ROOM
 
--- what an install that is done answers besides DONE: "replaced" where the NLRI is held, "new" where it is not and a place is free
+-- what an install that is done answers besides DONE: 2, "replaced", where the NLRI is held; 1, "new", where it is not and a place is free
 pub data InstallDone (t nlri attribute : List ℕ) : (outcome : ℕ) → Type 0 where
-  isReplaced : Installable t nlri attribute → IsHeld nlri (routesOf t) → InstallDone t nlri attribute REPLACED
-  isNew : Installable t nlri attribute → Free t nlri → InstallDone t nlri attribute NEW
+  isReplaced : Installable t nlri attribute → IsHeld nlri (routesOf t) → InstallDone t nlri attribute 2
+  isNew : Installable t nlri attribute → Free t nlri → InstallDone t nlri attribute 1
 
 -- install: each answer exactly when, and what it leaves
 pub record InstallRule : Type 0 where

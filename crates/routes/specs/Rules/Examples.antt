@@ -1,5 +1,5 @@
 -- Document 01, "Marked examples", P1 to P12: one table of cases, each a call of a definition with all that it comes to.
-use Prim.Native.Nat.{ℕ, _+_, _*_}
+use Prim.Native.Nat.{ℕ}
 use mathlib.Core.Path.{_≡_}
 use mathlib.Core.List.{List, [], _∷_, _++_}
 use lib.ListN.{replicate}
@@ -8,15 +8,14 @@ use Rattle.octets.specs.Outcome.{Outcome, given, refused}
 use Rattle.octets.specs.Order.{zeros}
 use Rattle.nlri.specs.Fields.{Fields}
 use Rattle.nlri.specs.Reading.{readNlri}
-use Rattle.nlri.specs.Groups.{ASM, SSM, classOf}
+use Rattle.nlri.specs.Groups.{classOf}
 use Rattle.routes.specs.declared.Installed.{Installed}
 use Rattle.routes.specs.declared.Matched.{Matched}
 use Rattle.routes.specs.Route.{Route, route, nlriOf, attributeOf}
 use Rattle.routes.specs.Query.{Flow, flowOf}
 use Rattle.routes.specs.Asked.{ofFlow}
-use Rattle.routes.specs.Place.{PLACE}
-use Rattle.routes.specs.Table.{HEADER, imageOf}
-use Rattle.routes.specs.Answers.{Changed, NEW}
+use Rattle.routes.specs.Table.{imageOf}
+use Rattle.routes.specs.Answers.{Changed}
 use Rattle.routes.specs.Calls.{makeOf, installOf, matchOf}
 
 -- a case: the class of a group, or the reading of a single NLRI, under an AFI; a match, or an install, on a table
@@ -90,9 +89,9 @@ routeD = route (someSPmsi 14 (0 ∷ []) (0 ∷ [])) (tunnelBy 6 someLabel someRo
 abbrev pub routeE : Route
 routeE = route (someSPmsi 18 (0 ∷ []) (32 ∷ 232 ∷ 9 ∷ 9 ∷ 9 ∷ [])) (tunnelBy 11 someLabel someBier)
 
--- a table just made, of AFI 1 and 5 places
+-- a table just made, of AFI 1 and 5 places: 8 + 5 * 128 octets
 unfoldable pub emptyTable : List ℕ
-emptyTable = makeOf 1 (zeros (HEADER + 5 * PLACE)) .octets
+emptyTable = makeOf 1 (zeros 648) .octets
 
 -- the octets after installs, one after the other
 unfoldable pub afterInstalls : List ℕ → List Route → List ℕ
@@ -130,14 +129,14 @@ examples =
     ∷ matching someTable (flowOf someRouter (192 ∷ 0 ∷ 2 ∷ 2 ∷ []) (232 ∷ 9 ∷ 9 ∷ 9 ∷ [])) someOutput (tells 4 routeD 16 9 99)
     -- P6: asked of 10.0.0.2
     ∷ matching someTable (flowOf (10 ∷ 0 ∷ 0 ∷ 2 ∷ []) someSource (232 ∷ 1 ∷ 1 ∷ 1 ∷ [])) someOutput tellsNone
-    -- P7
-    ∷ grouped 1 (231 ∷ 255 ∷ 255 ∷ 255 ∷ []) (given ASM)
-    ∷ grouped 1 (233 ∷ 0 ∷ 0 ∷ 0 ∷ []) (given ASM)
+    -- P7: ASM is 1
+    ∷ grouped 1 (231 ∷ 255 ∷ 255 ∷ 255 ∷ []) (given 1)
+    ∷ grouped 1 (233 ∷ 0 ∷ 0 ∷ 0 ∷ []) (given 1)
     ∷ grouped 1 (223 ∷ 255 ∷ 255 ∷ 255 ∷ []) (refused FLOW)
     ∷ grouped 1 (240 ∷ 0 ∷ 0 ∷ 0 ∷ []) (refused FLOW)
-    -- P8
-    ∷ grouped 2 (255 ∷ 62 ∷ 0 ∷ 0 ∷ 0 ∷ 0 ∷ 0 ∷ 0 ∷ 0 ∷ 0 ∷ 0 ∷ 0 ∷ 0 ∷ 0 ∷ 0 ∷ 1 ∷ []) (given SSM)
-    ∷ grouped 2 (255 ∷ 62 ∷ 0 ∷ 1 ∷ 0 ∷ 0 ∷ 0 ∷ 0 ∷ 0 ∷ 0 ∷ 0 ∷ 0 ∷ 0 ∷ 0 ∷ 0 ∷ 1 ∷ []) (given ASM)
+    -- P8: SSM is 2
+    ∷ grouped 2 (255 ∷ 62 ∷ 0 ∷ 0 ∷ 0 ∷ 0 ∷ 0 ∷ 0 ∷ 0 ∷ 0 ∷ 0 ∷ 0 ∷ 0 ∷ 0 ∷ 0 ∷ 1 ∷ []) (given 2)
+    ∷ grouped 2 (255 ∷ 62 ∷ 0 ∷ 1 ∷ 0 ∷ 0 ∷ 0 ∷ 0 ∷ 0 ∷ 0 ∷ 0 ∷ 0 ∷ 0 ∷ 0 ∷ 0 ∷ 1 ∷ []) (given 1)
     -- P9: Length 14, and 13
     ∷ reading 1 (3 ∷ 14 ∷ someRd ++ (0 ∷ 0 ∷ someRouter)) (given everyFlow)
     ∷ reading 1 (3 ∷ 13 ∷ someRd ++ (0 ∷ 0 ∷ 10 ∷ 0 ∷ 0 ∷ [])) (refused LENGTH)
@@ -146,10 +145,10 @@ examples =
     ∷ reading 1 (3 ∷ 30 ∷ someRd ++ (128 ∷ 255 ∷ 62 ∷ 0 ∷ 0 ∷ 0 ∷ 0 ∷ 0 ∷ 0 ∷ 0 ∷ 0 ∷ 0 ∷ 0 ∷ 0 ∷ 0 ∷ 0 ∷ 1 ∷ 0 ∷ someRouter)) (refused WIDTH)
     -- P11
     ∷ reading 1 (7 ∷ 18 ∷ someRd ++ (0 ∷ 0 ∷ 0 ∷ 100 ∷ 0 ∷ 32 ∷ 232 ∷ 1 ∷ 1 ∷ 1 ∷ [])) (refused WIDTH)
-    -- P12: label field 00 00 0F, and 00 00 10
+    -- P12: label field 00 00 0F, and 00 00 10, which is "new", 1
     ∷ installing emptyTable (nlriOf routeE) (tunnelBy 11 (0 ∷ 0 ∷ 15 ∷ []) someBier) (record { answer = record { number = LABEL; outcome = 0 }; octets = emptyTable })
     ∷ installing emptyTable (nlriOf routeE) (tunnelBy 11 (0 ∷ 0 ∷ 16 ∷ []) someBier)
-    (record { answer = record { number = DONE; outcome = NEW }; octets = imageOf 1 5 (route (nlriOf routeE) (tunnelBy 11 (0 ∷ 0 ∷ 16 ∷ []) someBier) ∷ []) })
+    (record { answer = record { number = DONE; outcome = 1 }; octets = imageOf 1 5 (route (nlriOf routeE) (tunnelBy 11 (0 ∷ 0 ∷ 16 ∷ []) someBier) ∷ []) })
     ∷ []
 
 -- every case of the table holds

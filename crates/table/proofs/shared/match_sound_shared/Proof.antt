@@ -1,6 +1,7 @@
 -- `table::shared::match_sound_shared` meets its contract.
 use borrow.Author.Needs.{needs}
 use Rattle.shared_trees.specs.declared.Facts.{Facts}
+use Rattle.shared_trees.specs.Tree.{treeOf}
 use Rattle.table.proofs.Finds.{header-within}
 use Rattle.table.proofs.SharedMatches.{shared-refused, shared-space, shared-search, shared-accepted}
 use Rattle.table.proofs.shared.match_sound_shared.Statement.{statement}
@@ -20,14 +21,17 @@ returns-2 : tie.Need-returns-2
 returns-2 c = shared-space _ _ _ _ (c .before .before .before .before .before .before .before .before .before .before .before .before .pre) _ (c .before .before .before .before .before .afi-of .ensures .0) _ (c .before .before .before .before .tree-class .ensures (c .before .before .before .before .before .before .before .before .before .before .before .before .args .facts)) (c .before .before .if1 .left) (c .before .if2 .taken) (c .refused2 .ensures)
 
 open-tiers-requires : tie.Need-open-tiers-requires
+unfolding treeOf
 open-tiers-requires c κs = shared-accepted _ _ _ (c .before .before .before .before .afi-of .ensures .0) _ (c .before .before .before .tree-class .ensures no-facts) (c .before .if1 .left) .judged
 
 search-requires : tie.Need-search-requires
+unfolding treeOf
 search-requires c κs =
     let accepted = shared-accepted _ _ _ (c .before .before .before .before .before .before .afi-of .ensures .0) _ (c .before .before .before .before .before .tree-class .ensures no-facts) (c .before .before .before .if1 .left) in
     (c .before .before .before .before .before .before .before .before .before .before .before .before .before .pre, c .before .before .if2 .left, accepted .grouped, accepted .grouped, accepted .routed)
 
 returns-3 : tie.Need-returns-3
+unfolding treeOf
 returns-3 c =
     shared-search _ _ _ _ (c .before .before .before .before .before .before .before .before .before .before .before .before .before .before .before .before .pre) _ (c .before .before .before .before .before .before .before .before .before .afi-of .ensures .0) _ (c .before .before .before .before .before .before .before .before .tree-class .ensures (c .before .before .before .before .before .before .before .before .before .before .before .before .before .before .before .before .args .facts)) (c .before .before .before .before .before .before .if1 .left) (c .before .before .before .before .before .if2 .left) _ _
     (c .before .before .before .before .open-tiers .ensures _ (shared-accepted _ _ _ (c .before .before .before .before .before .before .before .before .before .afi-of .ensures .0) _ (c .before .before .before .before .before .before .before .before .tree-class .ensures no-facts) (c .before .before .before .before .before .before .if1 .left) .read)) (c .before .before .search .ensures)
