@@ -119,7 +119,7 @@ function read_type(m, what, i,    name, end, j) {
             if (token[m, j + 1] ~ /^[({]$/) j = closing(m, j + 1)
             if (token[m, j + 1] == ",") j++
         }
-    return end + 1
+    return end + (token[m, end + 1] == ";" ? 2 : 1)
 }
 
 function semicolon(m, i) {
