@@ -237,7 +237,8 @@ mvpn_walked mvpn_walk(uint16_t afi, uint32_t mode, const uint8_t *run, size_t ru
  *
  * A reader's state is plain numbers, and only these calls write it; between two feeds nobody else writes `unfinished`. Of a
  * state that these calls did not make, or of `unfinished` that somebody else wrote, the answer means nothing, and is still safe:
- * no octet is touched but of `unfinished`, no more octets are taken than were lent, no more given than `unfinished` has.
+ * no octet is touched but of `unfinished`, no more octets are taken than were lent, no more given than `unfinished` has. A
+ * feed may then take nothing of a piece, and the loop not end.
  */
 enum { MVPN_UNFINISHED = 257 }; /* the longest NLRI: its header and a Length of 255 */
 
@@ -257,14 +258,15 @@ mvpn_pieces mvpn_pieces_start(uint16_t afi, uint32_t mode);
 
 /*
  * Hands over a piece, or the rest of one: octets of it are taken up to the end of one NLRI, and of a piece that is not empty at
- * least one. `unfinished` is MVPN_UNFINISHED octets; what they hold before the first feed is no matter. An NLRI that is given
- * stands there until the next feed. SHORT is told at finish alone; the number of a stop, and LONG, stand in pieces.walked from the
- * feed on that meets them:
+ * least one, where the reader was started and only these calls have written it and, since then, `unfinished`. `unfinished` is
+ * MVPN_UNFINISHED octets; what they hold before the first feed is no matter. An NLRI that is given stands there until the next
+ * feed. While the reader reads, it tells DONE; SHORT is told at finish alone; the number of a stop, and LONG, stand in
+ * pieces.walked from the feed on that meets them:
  *   - an NLRI of unknown route type that is whole is skipped in the mode MVPN_SKIP: it is taken, and not given;
  *   - at the first NLRI that is whole, refused and not skipped the reading stops: pieces are taken whole and counted, and no
  *     NLRI is given;
- *   - where the octets taken before and the piece are over 4,096 together, stop or no stop, the run is LONG: the piece is taken
- *     whole and gives no NLRI, those given before are void, and so it stays;
+ *   - where the octets taken before and the piece are over 4,096 together, stop or no stop, the run is LONG, with the others 0:
+ *     the piece is taken whole and gives no NLRI, those given before are void, and so it stays;
  *   - after finish a piece is taken whole, and nothing is counted, given or written.
  */
 mvpn_fed mvpn_pieces_feed(mvpn_pieces pieces, uint8_t *unfinished, const uint8_t *piece, size_t piece_len);

@@ -1,14 +1,20 @@
 # Reads the Rattle source and follows calls. Its files are crates.txt and every src/*.rt of a repository. Variables:
 #
 #   from   names of functions, with blanks between them, as octets::order::comes_before
-#   show   what is printed of them and of all that they call, to the leaves:
-#            arrays   "FUNCTION: what is wrong", one line each: an array, alone or in a struct or enum, behind a reference too,
-#                     among its parameters, its result, its locals and what else its body makes; and what cannot be followed
-#            calls    "FUNCTION CALLED", one line for each, and "FUNCTION" alone for one that calls none
+#   show   what is printed of them and of all that they call, to the leaves, one or more of:
+#            arrays    "FUNCTION: what is wrong", one line each: an array, alone or in a struct or enum, behind a reference too,
+#                      among its parameters, its result, its locals and what else its body makes; how many arrays its body makes
+#                      if it makes more than one; and what cannot be followed
+#            types     "FUNCTION: has `TYPE`, with N numbers", one line for each struct or enum among the same, with those in it;
+#                      "FUNCTION: has `&mut`" and "FUNCTION: has `&`" for a reference to write by, and one to other than octets
+#            calls     "FUNCTION CALLED", one line for each, and "FUNCTION" alone for one that calls none
+#            reaches   "NAME reaches FUNCTION", one line for each that a name of `from` gets to
 #
-# Rattle has no generics, no closures and no macros, and every local gets its value from a parameter, a call, a constant, a literal
-# or an operator. So the types of parameters, results and constants, and the array and struct literals of a body, are all that
-# an array can come from. What this reader does not know it reports: it takes nothing on trust.
+# Rattle has no generics, no closures, no macros and no tuples, and every local gets its value from a parameter, a call, a
+# constant, a literal, a field or an operator. So the types of parameters, results, constants and fields, and the array and struct
+# literals of a body, are all that a local's type can be. What this reader does not know it reports: it takes nothing on trust.
+
+function shows(what) { return index(" " show " ", " " what " ") }
 
 # ---- files: the text of each module, without comments
 
@@ -113,7 +119,7 @@ function read_type(m, what, i,    name, end, j) {
             if (token[m, j + 1] ~ /^[({]$/) j = closing(m, j + 1)
             if (token[m, j + 1] == ",") j++
         }
-    return end + 1
+    return end + (token[m, end + 1] == ";" ? 2 : 1)
 }
 
 function semicolon(m, i) {
@@ -186,10 +192,17 @@ function find(path, m, self,    seg, n, i, at) {
 
 # ---- types
 
-function is_plain(name) { return name ~ /^(u8|u16|u32|u64|usize|i8|i16|i32|i64|isize|bool|f32|f64|mut|pub|crate|self)$/ }
+function is_number(name) { return name ~ /^(u8|u16|u32|u64|usize|i8|i16|i32|i64|isize|bool|f32|f64)$/ }
 
-# What is wrong with the types that stand from i to the end; "" for nothing. Names are passed over: of parameters and fields, which
-# a colon follows, and of variants, which stand right in the braces of an enum.
+function is_plain(name) { return is_number(name) || name ~ /^(mut|pub|crate|self)$/ }
+
+# A path to a type begins at i. Names are passed over: of parameters and fields, which a colon follows, and of variants.
+function is_type_name(m, i, is_variant,    t) {
+    t = token[m, i]
+    return is_name(t) && token[m, i + 1] != ":" && !is_variant && !(is_plain(t) && token[m, i + 1] != "::")
+}
+
+# What is wrong with the types that stand from i to the end; "" for nothing. Variants stand right in the braces of an enum.
 function wrong_types(m, self, i, end, is_enum,    t, depth, j, next_place, item, wrong) {
     for (; i <= end; i++) {
         t = token[m, i]
@@ -199,7 +212,7 @@ function wrong_types(m, self, i, end, is_enum,    t, depth, j, next_place, item,
             for (j = i + 1; j < closing(m, i); j++) if (token[m, j] == ";") return "an array"
         } else if (t == "self" && self != "") {
             if ((wrong = wrong_item(self)) != "") return wrong
-        } else if (is_name(t) && token[m, i + 1] != ":" && !(is_enum && depth == 1) && !(is_plain(t) && token[m, i + 1] != "::")) {
+        } else if (is_type_name(m, i, is_enum && depth == 1)) {
             t = path_at(m, i)
             next_place = past
             item = find(t, m, self)
@@ -228,9 +241,59 @@ function wrong_result(f,    wrong) {
     return wrong == "an array" ? "an array, from `" f "`" : wrong
 }
 
+# Tells of a function the structs, enums and references among the types that stand from i to the end.
+function tell_types(f, m, self, i, end, is_enum,    t, depth, next_place) {
+    for (; i <= end; i++) {
+        t = token[m, i]
+        if (t ~ /^[({]$/) depth++
+        else if (t ~ /^[)}]$/) depth--
+        else if (t == "&") {
+            if (token[m, i + 1] == "mut") tell(f, "has `&mut`")
+            else if (token[m, i + 1] != "[" || token[m, i + 2] != "u8" || token[m, i + 3] != "]") tell(f, "has `&`")
+        } else if (t == "self" && self != "") tell_item(f, self)
+        else if (is_type_name(m, i, is_enum && depth == 1)) {
+            t = path_at(m, i)
+            next_place = past
+            tell_item(f, find(t, m, self))
+            i = next_place - 1
+        }
+    }
+}
+
+# Tells of a function a struct or an enum, by one of its variants too, and what is in it; of a constant what its type has.
+function tell_item(f, item) {
+    if (kind[item] == "variant") item = self_of[item]
+    if ((f, item) in has) return
+    has[f, item]
+    if (kind[item] ~ /^(struct|enum)$/) tell(f, "has `" item "`, with " numbers_of(item) " numbers")
+    tell_types(f, home[item], self_of[item], first_type[item], last_type[item], kind[item] == "enum")
+}
+
+# The numbers in a struct, an enum or what a name stands for, those of its arrays left out.
+function numbers_of(item,    m, i, is_enum, t, depth, next_place, n) {
+    m = home[item]
+    is_enum = kind[item] == "enum"
+    for (i = first_type[item]; i <= last_type[item]; i++) {
+        t = token[m, i]
+        if (t ~ /^[({]$/) depth++
+        else if (t ~ /^[)}]$/) depth--
+        else if (t == "[") i = closing(m, i)
+        else if (is_number(t) && token[m, i + 1] != ":") n++
+        else if (is_type_name(m, i, is_enum && depth == 1)) {
+            t = path_at(m, i)
+            next_place = past
+            n += numbers_of(find(t, m, self_of[item]))
+            i = next_place - 1
+        }
+    }
+    return n + 0
+}
+
+function tell(f, what) { if (shows("types") && !((f, what) in told)) print f ": " what; told[f, what] }
+
 # ---- bodies
 
-function problem(where, what) { if (show == "arrays" && !((where, what) in told)) print where ": " what; told[where, what] }
+function problem(where, what) { if (shows("arrays") && !((where, what) in told)) print where ": " what; told[where, what] }
 
 function is_keyword(t) {
     return t ~ /^(as|break|continue|else|false|for|if|in|let|loop|match|mut|return|true|while|_)$/
@@ -253,15 +316,22 @@ function use_path(f, path,    item, wrong) {
         call(f, item)
     } else if (kind[item] == "fn") call(f, item)
     else if (item == "" || kind[item] == "mod") problem(f, "cannot find `" path "`")
-    else if ((wrong = wrong_item(item)) != "") problem(f, wrong)
+    else {
+        if ((wrong = wrong_item(item)) != "") problem(f, wrong)
+        tell_item(f, item)
+    }
 }
 
-function read_body(f,    m, i, t, before, path, next_place) {
+function read_body(f,    m, i, t, before, path, next_place, made) {
     m = home[f]
     for (i = first_body[f]; i <= last_body[f]; i++) {
         t = token[m, i]
         before = token[m, i - 1]
-        if (t == "[" && !(before ~ /^[])]$/ || (is_name(before) && !is_keyword(before)))) problem(f, "an array")
+        if (t == "[" && !(before ~ /^[])]$/ || (is_name(before) && !is_keyword(before)))) {
+            problem(f, "an array")
+            made++
+        }
+        if (t == "&" && token[m, i + 1] == "mut") tell(f, "has `&mut`")
         if (t ~ /^b?"/) problem(f, "a byte string")
         if (!is_name(t) || is_keyword(t) || before == "'") continue
         path = path_at(m, i)
@@ -272,16 +342,20 @@ function read_body(f,    m, i, t, before, path, next_place) {
         else if (token[m, next_place] == "(" || path ~ /::/ || path ~ /^[A-Z]/) use_path(f, path)
         i = next_place - 1
     }
+    if (made > 1) problem(f, made " arrays")
 }
 
 # ---- calls
 
 function call(caller, f,    wrong) {
-    if (show == "calls" && !((caller, f) in edge)) print caller, f
+    if (!((caller, f) in edge)) {
+        if (shows("calls")) print caller, f
+        calls[caller] = calls[caller] " " f
+    }
     edge[caller, f]
-    calls[caller]
     if (is_of_toolchain(f)) return
     if ((wrong = wrong_result(f)) != "") problem(caller, wrong)
+    tell_types(caller, home[f], self_of[f], result[f], last_type[f], 0)
     reach(f)
 }
 
@@ -294,8 +368,21 @@ function reach(f) {
 function follow(f,    wrong) {
     wrong = wrong_types(home[f], self_of[f], first_type[f], last_type[f], 0)
     if (wrong != "") problem(f, wrong)
+    tell_types(f, home[f], self_of[f], first_type[f], last_type[f], 0)
     read_body(f)
-    if (show == "calls" && !(f in calls)) print f
+    if (shows("calls") && !(f in calls)) print f
+}
+
+# Prints of a name each function that its function gets to.
+function print_reached(name, item,    list, n, at, called, count_called, i, seen) {
+    list[n = 1] = item
+    for (at = 1; at <= n; at++) {
+        count_called = split(calls[list[at]], called, " ")
+        for (i = 1; i <= count_called; i++) {
+            if (!(called[i] in seen)) print name " reaches " (list[++n] = called[i])
+            seen[called[i]]
+        }
+    }
 }
 
 END {
@@ -304,8 +391,9 @@ END {
     n = split(from, names, " ")
     for (i = 1; i <= n; i++) {
         item = find("crate" substr(names[i], index(names[i], "::")), crate_of(names[i]), "")
-        if (kind[item] == "fn") reach(item)
+        if (kind[item] == "fn") reach(starts[i] = item)
         else problem(names[i], "there is no such function")
     }
     for (next_one = 1; next_one <= last; next_one++) follow(waiting[next_one])
+    if (shows("reaches")) for (i = 1; i <= n; i++) if (i in starts) print_reached(names[i], starts[i])
 }

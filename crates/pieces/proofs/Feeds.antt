@@ -5,7 +5,7 @@ use mathlib.Core.List.{List, _++_}
 use Prim.Native.Nat.{ℕ, _+_, _-_, _≤_, _<_}
 use native.Mathlib.Omega.{arith}
 use borrow.Author.Tests.{eqb-true, eqb-false, eq-eqb, ne-eqb, ltb-true, ltb-false, lt-ltb, le-ltb}
-use lib.ListN.{length, getD, take}
+use lib.ListN.{length, getD, take, List·getD-append}
 use lib.Seq.{getD-take, length-take-le, take-take, take-all}
 use lib.Dec.{ltb, eqb}
 use Rattle.octets.specs.Numbers.{DONE}
@@ -58,7 +58,7 @@ module _ (p : Pieces) (unfinished piece : List ℕ) where
       feed-counts s = pick-false _ _ _ (le-ltb STOPPED (p .stage) going) ∙ pick-false _ _ _ o ∙ pick-false _ _ _ (ne-eqb (p .stage) READING s)
 
 -- how much of the piece is taken
-pub share-all : (wanted kept size : ℕ) → kept + size < wanted → shareOf wanted kept size ≡ size
+share-all : (wanted kept size : ℕ) → kept + size < wanted → shareOf wanted kept size ≡ size
 unfolding shareOf
 share-all wanted kept size h = pick-true _ _ _ (lt-ltb (kept + size) wanted h)
 
@@ -68,6 +68,11 @@ share-rest wanted kept size h = pick-false _ _ _ (le-ltb (kept + size) wanted h)
 
 pub share-most : (wanted kept size : ℕ) → shareOf wanted kept size ≤ size
 share-most wanted kept size =
+    tested (ltb (kept + size) wanted) (λ t. omega (arith, share-all wanted kept size (ltb-true _ _ t)))
+    (λ f. let h : wanted ≤ kept + size = ltb-false _ _ f in omega (arith, share-rest wanted kept size h))
+
+pub share-some : (wanted kept size : ℕ) → kept < wanted → 0 < size → 0 < shareOf wanted kept size
+share-some wanted kept size more some =
     tested (ltb (kept + size) wanted) (λ t. omega (arith, share-all wanted kept size (ltb-true _ _ t)))
     (λ f. let h : wanted ≤ kept + size = ltb-false _ _ f in omega (arith, share-rest wanted kept size h))
 
@@ -128,6 +133,23 @@ taken-most p unfinished piece =
     let wanted : ℕ = wantedOf (p .kept) unfinished piece in
     let share : ℕ = shareOf wanted (p .kept) (length piece) in
     omega (arith, taken-share p unfinished piece wanted share, share-most wanted (p .kept) (length piece)))
+
+-- octets kept that want more, by their Length octet or before they have one
+pub taken-some : (p : Pieces) (unfinished piece : List ℕ) → length unfinished ≡ 257 → p .kept < 2 + getD unfinished 1 0 → 0 < length piece → 0 < feedOf p unfinished piece .answer .taken
+unfolding readOnOf wantedOf
+taken-some p unfinished piece room more some =
+    feed-case (λ (a : AfterFeed). 0 < a .answer .taken) p unfinished piece (λ _. some)
+    (λ _ o.
+    let kept : ℕ = p .kept in
+    let all : List ℕ = take kept unfinished ++ piece in
+    let enough : kept ≤ length unfinished = omega (arith, within-not-over p (length piece) o .kept) in
+    let wants : kept < sizeIn all =
+    tested (ltb kept 2) (λ t. omega (arith, ltb-true kept 2 t, size-least all))
+    (λ f.
+    let two : 2 ≤ kept = ltb-false _ _ f in
+    let len = length-take-le kept unfinished enough in
+    omega (arith, size-known all (omega (arith, length-together kept unfinished piece enough)), List·getD-append (take kept unfinished) piece 0 1 (omega arith), getD-take kept unfinished 1 0 (omega arith))) in
+    omega (arith, taken-share p unfinished piece (sizeIn all) (shareOf (sizeIn all) kept (length piece)), share-some (sizeIn all) kept (length piece) wants some))
 
 pub given-most : (p : Pieces) (unfinished piece : List ℕ) → AllOctets unfinished → AllOctets piece → feedOf p unfinished piece .answer .size ≤ 257
 unfolding readOnOf wantedOf

@@ -31,7 +31,7 @@ use Rattle.pieces.specs.declared.feeding.Fed.{Fed}
 use Rattle.pieces.specs.Feeding.{READING, STOPPED, AfterFeed, answerAtEnd, passedOf, countedOf, sizeIn, wantedOf, shareOf, numberUnder, keptOf, judgedOf, takenOf, readOnOf, Within}
 use Rattle.pieces.specs.Handing.{Caller, givenBy, fedBy, afterFeed}
 use Rattle.pieces.proofs.Sizes.{size-known, size-least, size-most, size-grows, layout-alone, layout-short, whole-not-short}
-use Rattle.pieces.proofs.Feeds.{not-over, feed-reads, feed-counts, share-all, share-rest, taken-kept, taken-judged, judged-read, judged-skipped, judged-stopped, taken-share}
+use Rattle.pieces.proofs.Feeds.{not-over, feed-reads, feed-counts, share-rest, share-some, taken-kept, taken-judged, judged-read, judged-skipped, judged-stopped, taken-share}
 
 -- the NLRI that is unfinished: its octets so far
 abbrev pub front-of : Caller → List ℕ
@@ -369,11 +369,7 @@ module _ (afi mode bits : ℕ) (run : List ℕ) (octets : AllOctets run) where
   -- some octets are taken of a piece that has some
   progress-reading : (piece : List ℕ) (c : Caller) (r : Reading afi mode bits run piece c) → 0 < length piece → 0 < fedBy c piece .answer .taken
   progress-reading piece c r some =
-      let size : ℕ = sizeIn (front-of c ++ piece) in
-      let taken = shares piece c r piece (omega arith) in
-      let more = wants-more piece c r piece in
-      tested (ltb (c .pieces .kept + length piece) size) (λ t. omega (arith, share-all size (c .pieces .kept) (length piece) (ltb-true _ _ t)))
-      (λ f. let h : size ≤ c .pieces .kept + length piece = ltb-false _ _ f in omega (arith, share-rest size (c .pieces .kept) (length piece) h))
+      omega (arith, shares piece c r piece (omega arith), share-some (sizeIn (front-of c ++ piece)) (c .pieces .kept) (length piece) (wants-more piece c r piece) some)
 
   pub progress : (piece : List ℕ) (c : Caller) → Means afi mode bits run piece c → 0 < length piece → 0 < fedBy c piece .answer .taken
   progress piece c m some =

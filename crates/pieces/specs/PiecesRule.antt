@@ -2,16 +2,14 @@
 use Prim.Native.Nat.{ℕ, _+_, _≤_, _<_}
 use mathlib.Core.Path.{_≡_}
 use mathlib.Core.List.{List}
-use mathlib.Core.Logic.{_≢_}
-use lib.ListN.{length, take, drop}
-use Rattle.octets.specs.Numbers.{SHORT, LONG, FAMILY}
-use Rattle.octets.specs.Outcome.{given}
+use mathlib.Core.Logic.{_≢_, _⊎_}
+use lib.ListN.{length, getD, take, drop}
+use Rattle.octets.specs.Numbers.{DONE, SHORT, LONG, FAMILY}
 use Rattle.octets.specs.Octets.{AllOctets}
-use Rattle.nlri.specs.Family.{familyBits}
-use Rattle.runs.specs.Walking.{walkedTo}
+use Rattle.runs.specs.Walking.{walkedTo, walkedWith}
 use Rattle.runs.specs.Modes.{walkBy, nlrisBy}
 use Rattle.pieces.specs.declared.state.Pieces.{Pieces}
-use Rattle.pieces.specs.Feeding.{READING, STOPPED, FINISHED, startedAs, startOf, finishOf, feedOf, passedOf}
+use Rattle.pieces.specs.Feeding.{READING, STOPPED, FINISHED, AfterFeed, startedAs, startOf, finishOf, feedOf, passedOf}
 use Rattle.pieces.specs.Handing.{Caller, startedWith, fedBy, feedPieces, joined, Moment}
 
 -- a caller whose reader has taken a run
@@ -21,27 +19,33 @@ pub record PiecesClaim (afi mode : ℕ) (run : List ℕ) (c : Caller) : Type 0 w
   -- within 4,096 octets the NLRIs given are those that the walk reads: their octets, in order, and where each begins
   pub gives : length run ≤ 4096 → c .nlris ≡ nlrisBy afi mode run
   -- over 4,096 in all, wherever the cut lies and stop or no stop: 0, 0, LONG and 0 skipped, before finish and after
-  pub long : (bits : ℕ) → familyBits afi ≡ given bits → 4096 < length run → (c .pieces .walked ≡ walkedTo LONG 0 0) × (finishOf (c .pieces) .walked ≡ walkedTo LONG 0 0)
+  pub long : (afi ≡ 1) ⊎ (afi ≡ 2) → 4096 < length run → (c .pieces .walked ≡ walkedTo LONG 0 0) × (finishOf (c .pieces) .walked ≡ walkedTo LONG 0 0)
+
+-- an answer that takes a piece whole: no NLRI is given, whatever the piece's first octets complete, and the lent octets stay
+pub record TakenWhole (unfinished piece : List ℕ) (a : AfterFeed) : Type 0 where
+  pub none : a .answer .size ≡ 0
+  pub all : a .answer .taken ≡ length piece
+  pub lent : a .octets ≡ unfinished
 
 -- at a moment of a reader that has taken a run
 pub record AtMoment (afi mode : ℕ) (run : List ℕ) (c : Caller) : Type 0 where
+  -- while it reads it tells DONE, with the count, offset and number skipped of the walk over what was taken
+  pub reads : c .pieces .stage ≡ READING → c .pieces .walked ≡ walkedWith DONE (walkBy afi mode run .count) (walkBy afi mode run .offset) (walkBy afi mode run .skipped)
+  -- after a stop, and under a bad AFI, it tells that walk's answer
+  pub tells : c .pieces .stage ≢ READING → c .pieces .walked ≡ walkBy afi mode run
   -- SHORT is not told before finish
   pub early : c .pieces .walked .number ≢ SHORT
   -- every octet is counted, after a stop too
-  pub counts : (bits : ℕ) → familyBits afi ≡ given bits → length run ≤ 4096 → c .pieces .total ≡ length run
+  pub counts : (afi ≡ 1) ⊎ (afi ≡ 2) → length run ≤ 4096 → c .pieces .total ≡ length run
   -- while it reads it keeps what the run has after the last whole NLRI, at most 256 octets
   pub keeps : c .pieces .stage ≡ READING → (take (c .pieces .kept) (c .unfinished) ≡ drop (walkBy afi mode run .offset) run) × (c .pieces .kept ≤ 256)
-  -- a piece that passes 4,096 in all gives no NLRI, whatever its first octets complete
-  pub passes : (piece : List ℕ) → 4096 < length run + length piece → fedBy c piece .answer .size ≡ 0
+  -- a piece that passes 4,096 in all, stop or no stop, is taken whole, and at once the answer is 0, 0, LONG and 0 skipped
+  pub passes : (afi ≡ 1) ⊎ (afi ≡ 2) → (piece : List ℕ) → 4096 < length run + length piece
+      → TakenWhole (c .unfinished) piece (fedBy c piece) × (fedBy c piece .answer .pieces .walked ≡ walkedTo LONG 0 0)
+  -- under a bad AFI every piece is taken whole, and the answer stays 0, 0, FAMILY and 0 skipped
+  pub refuses : afi ≢ 1 → afi ≢ 2 → (piece : List ℕ) → TakenWhole (c .unfinished) piece (fedBy c piece) × (fedBy c piece .answer .pieces .walked ≡ walkedTo FAMILY 0 0)
   -- of a piece that has octets some are taken, so that a caller's loop ends
   pub goes : (piece : List ℕ) → AllOctets piece → 0 < length piece → 0 < fedBy c piece .answer .taken
-
--- a reader that has stopped, and a piece: no NLRI is given, all of it is taken, the lent octets stay, and so does the stop
-pub record Stays (p : Pieces) (unfinished piece : List ℕ) : Type 0 where
-  pub none : feedOf p unfinished piece .answer .size ≡ 0
-  pub all : feedOf p unfinished piece .answer .taken ≡ length piece
-  pub lent : feedOf p unfinished piece .octets ≡ unfinished
-  pub stage : feedOf p unfinished piece .answer .pieces .stage ≡ STOPPED
 
 -- "Updates that arrive in bits"
 pub record PiecesRule : Type 0 where
@@ -56,10 +60,12 @@ pub record PiecesRule : Type 0 where
   pub family : (afi mode : ℕ) → afi ≢ 1 → afi ≢ 2 → startOf afi mode ≡ startedAs afi mode FINISHED FAMILY
   -- of every state, also of one that no call made: a feed takes no more than the piece has
   pub most : (p : Pieces) (unfinished piece : List ℕ) → feedOf p unfinished piece .answer .taken ≤ length piece
-  -- and gives no more than the lent octets have
+  -- of a piece that has octets it takes some, where fewer octets are kept than the NLRI at the front of the lent octets has by its Length
+  pub some : (p : Pieces) (unfinished piece : List ℕ) → length unfinished ≡ 257 → p .kept < 2 + getD unfinished 1 0 → 0 < length piece → 0 < feedOf p unfinished piece .answer .taken
+  -- and it gives no more than the lent octets have
   pub fits : (p : Pieces) (unfinished piece : List ℕ) → AllOctets unfinished → AllOctets piece → feedOf p unfinished piece .answer .size ≤ 257
-  -- after a stop no NLRI is given
-  pub stopped : (p : Pieces) (unfinished piece : List ℕ) → p .stage ≡ STOPPED → Stays p unfinished piece
+  -- after a stop pieces are taken whole, and the stop stays
+  pub stopped : (p : Pieces) (unfinished piece : List ℕ) → p .stage ≡ STOPPED → TakenWhole unfinished piece (feedOf p unfinished piece) × (feedOf p unfinished piece .answer .pieces .stage ≡ STOPPED)
   -- after finish every call repeats the answer, and leaves the lent octets
   pub finished : (p : Pieces) (unfinished piece : List ℕ) → feedOf (finishOf p) unfinished piece ≡ passedOf (finishOf p) unfinished piece
   pub again : (p : Pieces) → finishOf (finishOf p) ≡ finishOf p
