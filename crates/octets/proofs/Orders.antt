@@ -147,6 +147,19 @@ unfolding zeros allZero
 all-zeros [] h = refl
 all-zeros (x ∷ s) h = ap₂ (λ (a : ℕ) (l : List ℕ). a ∷ l) (eqb-true x 0 (both-true-left _ _ h)) (all-zeros s (both-true-right _ _ h))
 
+-- zeros, octet by octet
+pub zero-at : (s : List ℕ) → allZero s ≡ true → (i : ℕ) → getD s i 0 ≡ 0
+unfolding allZero
+zero-at [] h i = refl
+zero-at (x ∷ s) h zero = eqb-true x 0 (both-true-left _ _ h)
+zero-at (x ∷ s) h (suc i) = zero-at s (both-true-right _ _ h) i
+
+-- octets of which each is 0
+pub zero-each : (s : List ℕ) → ((i : ℕ) → getD s i 0 ≡ 0) → allZero s ≡ true
+unfolding allZero
+zero-each [] h = refl
+zero-each (x ∷ s) h = both-true _ _ (eq-eqb x 0 (h 0)) (zero-each s (λ i. h (suc i)))
+
 -- lists of different lengths
 pub lengths-differ : (xs ys : List ℕ) → (length xs ≡ length ys → ⊥) → same xs ys ≡ false
 lengths-differ xs ys h = unequal-other xs ys (λ e. h (ap length e))
@@ -202,7 +215,7 @@ before-first (x ∷ xs) (y ∷ ys) p q h n =
 number-lower : {xs : List ℕ} → AllOctets xs → (ys : List ℕ) (h k : ℕ) → length xs ≡ length ys → h < k → numberIn xs h < numberIn ys k
 number-lower {xs} a ys h k l m = rw (number-high ys k, ← l) (omega (arith, number-below a h k m))
 
-number-before : {xs ys : List ℕ} → AllOctets xs → AllOctets ys → (high : ℕ) → length xs ≡ length ys → ltb (numberIn xs high) (numberIn ys high) ≡ before xs ys
+pub number-before : {xs ys : List ℕ} → AllOctets xs → AllOctets ys → (high : ℕ) → length xs ≡ length ys → ltb (numberIn xs high) (numberIn ys high) ≡ before xs ys
 unfolding before numberIn
 number-before none none high l = le-ltb high high (omega arith)
 number-before none (one p a) high l = absurd (omega arith)

@@ -82,12 +82,6 @@ up-last n at d s h k =
     let f : at + n ≡ n = omega arith in
     rw (h .2, f, e)
 
--- a part without its first n octets
-pub drop-taken : (n m : ℕ) (x : List ℕ) → n ≤ m → m ≤ length x → drop n (take m x) ≡ take (m - n) (drop n x)
-drop-taken n m x h k =
-    let sum : m ≡ n + (m - n) = omega arith in
-    ap (λ (i : ℕ). drop n (take i x)) sum ∙ ap (drop n) (take-add n (m - n) x) ∙ drop-at (take n x) (take (m - n) (drop n x)) n (length-take-le n x (omega arith))
-
 -- what stands after a part
 after-part : (start end : ℕ) (t : List ℕ) → start ≤ end → drop (end - start) (drop start t) ≡ drop end t
 after-part start end t h =
@@ -111,7 +105,7 @@ pub lent-down : (n start end : ℕ) (t y z : List ℕ) → start + n ≤ end →
     → take start t ++ (y ++ drop (end - start) (drop start t)) ≡ take start t ++ (take (end - start - n) (drop (start + n) t) ++ (z ++ drop end t))
 lent-down n start end t y z h k e =
     let x : List ℕ = drop start t in
-    rw (e, drop-taken n (end - start) x (omega arith) (simp length-drop (omega arith)), drop-drop n start t, after-part start end t (omega arith))
+    rw (e, drop-taken n (end - start) x (omega arith), drop-drop n start t, after-part start end t (omega arith))
     (ap (λ (l : List ℕ). take start t ++ l) (append-assoc (take (end - start - n) (drop (start + n) t)) z (drop end t)))
 
 -- a part lent to be written over
