@@ -15,13 +15,13 @@ pub data ComesBefore (a b : List ℕ) : Type 0 where
   -- behind a common front a has the lower octet
   lower : (front : List ℕ) (x y : ℕ) (xs ys : List ℕ) → a ≡ front ++ (x ∷ xs) → b ≡ front ++ (y ∷ ys) → x < y → ComesBefore a b
 
--- equality, order and zeros: what each test says
+-- equality, order and zeros: when each test holds
 pub record OrderRule : Type 0 where
   -- the same size and octets
   pub equal : (a b : List ℕ) → (same a b ≡ true) ↔ (a ≡ b)
   -- strictly increasing octet by octet, whatever the sizes
-  pub decides : (a b : List ℕ) → (before a b ≡ true) ↔ ComesBefore a b
+  pub order : (a b : List ℕ) → (before a b ≡ true) ↔ ComesBefore a b
   -- octets of one size, as those of two distinguishers, come in the order of the numbers that they make
   pub numbers : (a b : List ℕ) → AllOctets a → AllOctets b → length a ≡ length b → (before a b ≡ true) ↔ (numberIn a 0 < numberIn b 0)
   -- each octet is 0
-  pub nothing : (s : List ℕ) → (allZero s ≡ true) ↔ ((i : ℕ) → getD s i 0 ≡ 0)
+  pub zeros : (s : List ℕ) → (allZero s ≡ true) ↔ ((i : ℕ) → getD s i 0 ≡ 0)

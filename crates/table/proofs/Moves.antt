@@ -5,9 +5,10 @@ use mathlib.Core.List.{List, [], _∷_, _++_, append-assoc, append-nil}
 use native.Mathlib.Numerals.{add-one}
 use native.Mathlib.Omega.{arith}
 use lib.ListN.{length, getD, take, drop, set, replicate, length-take, length-drop, drop-of-length-le, List·getD-append}
-use lib.Seq.{take-suc, drop-cons, append-snoc, set-at, take-all, getD-take, getD-drop, getD-append-add, length-take-le, take-take, take-add, take-at, drop-at, drop-drop, drop-length}
+use lib.Seq.{take-suc, drop-cons, append-snoc, set-at, take-all, getD-take, getD-drop, getD-append-add, length-take-le, take-take, take-at, drop-drop, drop-length}
 use Rattle.octets.specs.Octets.{placed}
 use Rattle.octets.specs.Order.{zeros}
+use Rattle.octets.proofs.Lists.{drop-taken}
 
 -- all octets filled with zeros
 pub filled : (n : ℕ) (d s : List ℕ) → length d ≤ n → n ≤ length d → s ≡ replicate n 0 ++ drop n d → s ≡ zeros (length d)
