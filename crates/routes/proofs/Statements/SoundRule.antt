@@ -138,13 +138,15 @@ module _ (afi : ℕ) (t : List ℕ) where
   places-less : (previous : List ℕ) (count at : ℕ) → PlacesHold afi t previous (suc count) at → PlaceHolds afi t at × PlacesHold afi t (nlriAt t at) count (at + 128)
   places-less previous count at p =
       let here : at + 128 * 0 ≡ at = omega arith in
-      let next : (i : ℕ) → at + 128 * (i + 1) ≡ at + 128 + 128 * i = λ i. omega arith in
-      (subst (PlaceHolds afi t) here (p .held 0 (omega arith)), record {
-        held = λ i less. subst (PlaceHolds afi t) (next i) (p .held (i + 1) (omega arith));
-        first = λ some. before-at t (at + 128 * 0) (at + 128 * (0 + 1)) at (at + 128) (omega arith) (omega arith) (p .increasing 0 (omega arith));
-        increasing = λ i less. before-at t _ _ _ _ (next i) (next (i + 1)) (p .increasing (i + 1) (omega arith));
-        free = λ i least. p .free i (omega arith);
-      })
+      let next : (i : ℕ) → at + 128 * (i + 1) ≡ at + 128 + 128 * i = λ i. omega arith in (
+        subst (PlaceHolds afi t) here (p .held 0 (omega arith)),
+        record {
+          held = λ i less. subst (PlaceHolds afi t) (next i) (p .held (i + 1) (omega arith));
+          first = λ some. before-at t (at + 128 * 0) (at + 128 * (0 + 1)) at (at + 128) (omega arith) (omega arith) (p .increasing 0 (omega arith));
+          increasing = λ i less. before-at t _ _ _ _ (next i) (next (i + 1)) (p .increasing (i + 1) (omega arith));
+          free = λ i least. p .free i (omega arith);
+        },
+      )
 
   -- the test of places begins with the first
   places-next : (previous : List ℕ) (count at : ℕ) → placesSound afi previous (suc count) (drop at t)
