@@ -80,8 +80,9 @@ smallTable version count label behind =
     ∷ 0 ∷ 11 ∷ 0 ∷ 0 ∷ label ∷ 0 ∷ 0 ∷ 1 ∷ 10 ∷ 0 ∷ 0 ∷ 2
     ∷ behind ∷ zeros 225
 
--- version 1, one route, label 1, and zeros behind it: sound; with any of these octets another, not
+-- version 1, one route, label 1, and zeros behind it: sound, with this route; each of the others differs from it in one octet, and is not sound
 pub record SoundExamples : Type 0 where
+  -- what it is, says and holds
   pub sound : soundOf (smallTable 1 1 16 0) ≡ true
   pub family : afiIn (smallTable 1 1 16 0) ≡ 1
   pub places : placesIn (smallTable 1 1 16 0) ≡ 2
