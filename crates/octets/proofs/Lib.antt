@@ -1,4 +1,4 @@
--- Laws of the definitions, for every crate above.
+-- Laws of the definitions, for every crate above, and the rule of the order of octets.
 pub mod Choice
 pub mod Outcome
 pub mod Tests
@@ -9,5 +9,6 @@ pub mod NetworkOrder
 pub mod LowFirst
 pub mod AllOctets
 pub mod Orders
+pub mod OrderRule
 pub mod Among
 pub mod Chosen

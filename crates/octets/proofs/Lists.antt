@@ -5,7 +5,7 @@ use mathlib.Core.List.{List, [], _∷_, _++_, append-assoc, append-nil}
 use native.Mathlib.Nat.{zero-add, add-sub-cancel-left}
 use native.Mathlib.Omega.{arith}
 use lib.ListN.{length, getD, take, drop, replicate, length-append, length-take, length-drop, length-replicate, replicate-append-replicate, drop-of-length-le, take-append-drop}
-use lib.Seq.{take-all, take-at, drop-at, drop-drop, length-take-le, take-append-le, take-length, take-append-add, take-add, take-take, take-append-seam, getD-append-add, getD-take, getD-drop}
+use lib.Seq.{take-all, take-at, drop-at, drop-drop, length-take-le, take-append-le, take-length, take-append-add, take-add, take-take, take-append-seam, take-nil, getD-append-add, getD-take, getD-drop}
 use Rattle.octets.specs.Octets.{part, placed, front, sized}
 use Rattle.octets.specs.Order.{zeros}
 
@@ -138,6 +138,24 @@ part-then s start m n = rw (take-add m n (drop start s), drop-drop m start s)
 pub take-then : (s : List ℕ) (at n : ℕ) → take (at + n) s ≡ take at s ++ part s at n
 unfolding part
 take-then s at n = take-add at n s
+
+-- what is taken, without its first k elements
+pub drop-taken : (k n : ℕ) (s : List ℕ) → k ≤ n → drop k (take n s) ≡ take (n - k) (drop k s)
+drop-taken zero n s h = let same : n ≡ n - 0 = omega arith in ap (λ (m : ℕ). take m s) same
+drop-taken (suc k) zero s h = absurd (omega arith)
+drop-taken (suc k) (suc n) [] h = sym (take-nil (suc n - suc k))
+drop-taken (suc k) (suc n) (x ∷ s) h = let same : n - k ≡ suc n - suc k = omega arith in drop-taken k n s (omega arith) ∙ ap (λ (m : ℕ). take m (drop k s)) same
+
+-- an element of a part
+pub part-octet : (s : List ℕ) (start size i : ℕ) → i < size → getD (part s start size) i 0 ≡ getD s (start + i) 0
+unfolding part
+part-octet s start size i h = getD-take size (drop start s) i 0 h ∙ getD-drop start s i 0
+
+-- a part of a part
+pub part-within : (s : List ℕ) (at n start size : ℕ) → start + size ≤ n → part (part s at n) start size ≡ part s (at + start) size
+unfolding part
+part-within s at n start size h =
+    ap (take size) (drop-taken start n (drop at s) (omega arith)) ∙ take-take size (n - start) (drop start (drop at s)) (omega arith) ∙ ap (take size) (drop-drop start at s)
 
 -- from a place on: a part, and what follows it
 pub drop-part : (s : List ℕ) (at n : ℕ) → drop at s ≡ part s at n ++ drop (at + n) s

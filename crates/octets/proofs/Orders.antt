@@ -8,7 +8,7 @@ use native.Mathlib.Numerals.{add-one}
 use native.Mathlib.Omega.{arith}
 use lib.Bits.{bitOr, or-add-and, and-le-l, and-le-r}
 use lib.ListN.{length, getD, take, drop, length-drop, take-append-drop, drop-of-length-le}
-use lib.Seq.{drop-cons, drop-drop, take-suc, take-all, take-take}
+use lib.Seq.{drop-cons, drop-drop, take-suc, take-all, take-take, getD-drop}
 use lib.Dec.{ltb, eqb}
 use borrow.Author.Tests.{ltb-true, ltb-false, eqb-true, eqb-false, eq-eqb, ne-eqb, lt-ltb, le-ltb}
 use Rattle.octets.specs.Choice.{both}
@@ -147,6 +147,29 @@ unfolding zeros allZero
 all-zeros [] h = refl
 all-zeros (x ∷ s) h = ap₂ (λ (a : ℕ) (l : List ℕ). a ∷ l) (eqb-true x 0 (both-true-left _ _ h)) (all-zeros s (both-true-right _ _ h))
 
+-- zeros, octet by octet
+pub zero-at : (s : List ℕ) → allZero s ≡ true → (i : ℕ) → getD s i 0 ≡ 0
+unfolding allZero
+zero-at [] h i = refl
+zero-at (x ∷ s) h zero = eqb-true x 0 (both-true-left _ _ h)
+zero-at (x ∷ s) h (suc i) = zero-at s (both-true-right _ _ h) i
+
+-- octets of which each is 0
+pub zero-each : (s : List ℕ) → ((i : ℕ) → getD s i 0 ≡ 0) → allZero s ≡ true
+unfolding allZero
+zero-each [] h = refl
+zero-each (x ∷ s) h = both-true _ _ (eq-eqb x 0 (h 0)) (zero-each s (λ i. h (suc i)))
+
+-- zeros from n on
+pub zero-past : (n : ℕ) (s : List ℕ) → allZero (drop n s) ≡ true → (i : ℕ) → n ≤ i → getD s i 0 ≡ 0
+zero-past n s h i least =
+    let sum : n + (i - n) ≡ i = omega arith in
+    ap (λ (k : ℕ). getD s k 0) (sym sum) ∙ sym (getD-drop n s (i - n) 0) ∙ zero-at (drop n s) h (i - n)
+
+-- octets of which each from n on is 0
+pub zero-each-past : (n : ℕ) (s : List ℕ) → ((i : ℕ) → n ≤ i → getD s i 0 ≡ 0) → allZero (drop n s) ≡ true
+zero-each-past n s h = zero-each (drop n s) (λ i. getD-drop n s i 0 ∙ h (n + i) (omega arith))
+
 -- lists of different lengths
 pub lengths-differ : (xs ys : List ℕ) → (length xs ≡ length ys → ⊥) → same xs ys ≡ false
 lengths-differ xs ys h = unequal-other xs ys (λ e. h (ap length e))
@@ -202,7 +225,7 @@ before-first (x ∷ xs) (y ∷ ys) p q h n =
 number-lower : {xs : List ℕ} → AllOctets xs → (ys : List ℕ) (h k : ℕ) → length xs ≡ length ys → h < k → numberIn xs h < numberIn ys k
 number-lower {xs} a ys h k l m = rw (number-high ys k, ← l) (omega (arith, number-below a h k m))
 
-number-before : {xs ys : List ℕ} → AllOctets xs → AllOctets ys → (high : ℕ) → length xs ≡ length ys → ltb (numberIn xs high) (numberIn ys high) ≡ before xs ys
+pub number-before : {xs ys : List ℕ} → AllOctets xs → AllOctets ys → (high : ℕ) → length xs ≡ length ys → ltb (numberIn xs high) (numberIn ys high) ≡ before xs ys
 unfolding before numberIn
 number-before none none high l = le-ltb high high (omega arith)
 number-before none (one p a) high l = absurd (omega arith)

@@ -1,4 +1,5 @@
--- Definitions that the crates above share: the numbers, choices by a test, lists, outcomes, lists of octets, what writers leave, what a caller sees of an answer, and the order of octets.
+-- Definitions that the crates above share: the numbers, choices by a test, lists, outcomes, lists of octets, what writers leave, what a caller sees of an
+-- answer, and the order of octets; and what is stated of that order.
 pub mod Numbers
 pub mod Choice
 pub mod Lists
@@ -7,3 +8,4 @@ pub mod Octets
 pub mod Outputs
 pub mod Answering
 pub mod Order
+pub mod OrderRule

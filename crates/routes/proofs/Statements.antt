@@ -8,6 +8,7 @@ pub mod InTurn
 pub mod InfoRule
 pub mod Marked
 pub mod Images
+pub mod SoundRule
 pub mod ArgumentRules
 pub mod MakeRules
 pub mod InstallRules

@@ -1,4 +1,6 @@
 -- What is proved of the definitions as a whole; the file of specs/ named above each says what it states.
+-- SoundRule
+pub use Rattle.routes.proofs.Statements.SoundRule.{soundRule, soundExamples}
 -- Images
 pub use Rattle.routes.proofs.Statements.Images.{images}
 -- LastInstalled, CallRules

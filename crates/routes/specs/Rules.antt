@@ -1,5 +1,6 @@
 -- What is stated of the definitions, in document 01's notions.
 pub mod ArgumentRules
+pub mod SoundRule
 pub mod Images
 pub mod CallRules
 pub mod MatchRule

@@ -5,9 +5,10 @@ use mathlib.Core.List.{List, [], _∷_, _++_, append-assoc, append-nil}
 use native.Mathlib.Numerals.{add-one}
 use native.Mathlib.Omega.{arith}
 use lib.ListN.{length, getD, take, drop, set, replicate, length-take, length-drop, drop-of-length-le, List·getD-append}
-use lib.Seq.{take-suc, drop-cons, append-snoc, set-at, take-all, getD-take, getD-drop, getD-append-add, length-take-le, take-take, take-add, take-at, drop-at, drop-drop, drop-length}
+use lib.Seq.{take-suc, drop-cons, append-snoc, set-at, take-all, getD-take, getD-drop, getD-append-add, length-take-le, take-take, take-at, drop-drop, drop-length}
 use Rattle.octets.specs.Octets.{placed}
 use Rattle.octets.specs.Order.{zeros}
+use Rattle.octets.proofs.Lists.{drop-taken}
 
 -- all octets filled with zeros
 pub filled : (n : ℕ) (d s : List ℕ) → length d ≤ n → n ≤ length d → s ≡ replicate n 0 ++ drop n d → s ≡ zeros (length d)
@@ -82,12 +83,6 @@ up-last n at d s h k =
     let f : at + n ≡ n = omega arith in
     rw (h .2, f, e)
 
--- a part without its first n octets
-pub drop-taken : (n m : ℕ) (x : List ℕ) → n ≤ m → m ≤ length x → drop n (take m x) ≡ take (m - n) (drop n x)
-drop-taken n m x h k =
-    let sum : m ≡ n + (m - n) = omega arith in
-    ap (λ (i : ℕ). drop n (take i x)) sum ∙ ap (drop n) (take-add n (m - n) x) ∙ drop-at (take n x) (take (m - n) (drop n x)) n (length-take-le n x (omega arith))
-
 -- what stands after a part
 after-part : (start end : ℕ) (t : List ℕ) → start ≤ end → drop (end - start) (drop start t) ≡ drop end t
 after-part start end t h =
@@ -111,7 +106,7 @@ pub lent-down : (n start end : ℕ) (t y z : List ℕ) → start + n ≤ end →
     → take start t ++ (y ++ drop (end - start) (drop start t)) ≡ take start t ++ (take (end - start - n) (drop (start + n) t) ++ (z ++ drop end t))
 lent-down n start end t y z h k e =
     let x : List ℕ = drop start t in
-    rw (e, drop-taken n (end - start) x (omega arith) (simp length-drop (omega arith)), drop-drop n start t, after-part start end t (omega arith))
+    rw (e, drop-taken n (end - start) x (omega arith), drop-drop n start t, after-part start end t (omega arith))
     (ap (λ (l : List ℕ). take start t ++ l) (append-assoc (take (end - start - n) (drop (start + n) t)) z (drop end t)))
 
 -- a part lent to be written over

@@ -7,13 +7,13 @@ use mathlib.Core.List.{List, []}
 use native.Mathlib.Omega.{arith}
 use borrow.Author.Tests.{eqb-true, eqb-false, leb-true, lt-ltb, le-ltb}
 use lib.Dec.{ltb, eqb}
-use lib.ListN.{length, getD, take, drop, length-drop}
-use lib.Seq.{getD-take, getD-drop, take-all, take-take, drop-drop}
+use lib.ListN.{length, getD, take}
+use lib.Seq.{take-all}
 use Rattle.octets.specs.Choice.{pick}
 use Rattle.octets.specs.Octets.{AllOctets, part, numberIn}
 use Rattle.octets.specs.Order.{before}
 use Rattle.octets.proofs.Choice.{tested, pick-true, pick-false, both-true-left, both-true-right, either-left, either-last}
-use Rattle.octets.proofs.Lists.{length-part}
+use Rattle.octets.proofs.Lists.{length-part, part-octet, part-within}
 use Rattle.octets.proofs.NetworkOrder.{same-number}
 use Rattle.octets.proofs.Orders.{parts-decide, parts-differ, parts-alike, octet-alike, octet-decides, before-itself, before-none}
 use Rattle.routes.specs.Route.{nlriOf}
@@ -21,7 +21,6 @@ use Rattle.routes.specs.Place.{endIn, routeIn, placeSound}
 use Rattle.routes.proofs.Definitions.Bounds.{accepted}
 use Rattle.table.specs.Scanning.{originatorStart}
 use Rattle.table.specs.Passing.{risesAt}
-use Rattle.table.proofs.Moves.{drop-taken}
 use Rattle.table.proofs.FieldStarts.{fields-bounded, length-told}
 
 -- octets of one size that begin alike: the last n of each decide, whether or not they differ
@@ -47,10 +46,6 @@ first-two a b la lb n =
     (λ t. pick-true _ _ _ t ∙ octet-decides a b 1 (octet-alike a b 0 refl (omega arith) (omega arith) (eqb-true _ _ t)) (omega arith) (omega arith) n)
     (λ f. pick-false _ _ _ f ∙ octet-decides a b 0 refl (omega arith) (omega arith) (eqb-false _ _ f))
 
-part-octet : (t : List ℕ) (start n i : ℕ) → i < n → getD (part t start n) i 0 ≡ getD t (start + i) 0
-unfolding part
-part-octet t start n i h = getD-take n (drop start t) i 0 h ∙ getD-drop start t i 0
-
 -- m octets and n octets from one start on, against n others, where each Length octet tells how many there are
 before-as-far : (t b : List ℕ) (start m n : ℕ) → start + m ≤ length t → start + n ≤ length t → length b ≡ n → 2 ≤ m → 2 ≤ n
     → getD (part t start m) 1 0 ≡ m - 2 → getD b 1 0 ≡ n - 2 → before (part t start m) b ≡ before (part t start n) b
@@ -72,12 +67,6 @@ before-as-far t b start m n hm hn lb m2 n2 em en =
     back : (m n : ℕ) → 2 ≤ m → 2 ≤ n → m - 2 ≡ n - 2 → m ≡ n
     back m n p q e = omega arith
 
--- a part of a part
-part-within : (s : List ℕ) (at n start size : ℕ) → at + n ≤ length s → start + size ≤ n → part (part s at n) start size ≡ part s (at + start) size
-unfolding part
-part-within s at n start size h k =
-    ap (take size) (drop-taken start n (drop at s) (omega arith) (simp length-drop (omega arith))) ∙ take-take size (n - start) (drop start (drop at s)) (omega arith) ∙ ap (take size) (drop-drop start at s)
-
 -- the NLRI of a sound place from `at` on: where it lies, and that its Length octet tells its size
 pub record NlriAt (t : List ℕ) (at : ℕ) : Type 0 where
   pub within : at + 128 ≤ length t
@@ -94,7 +83,7 @@ nlri-at afi t at h sound =
     let at₀ : at + 0 ≡ at = omega arith in
     let first : getD place 0 0 ≡ size = part-octet t at 128 0 (omega arith) ∙ ap (λ (i : ℕ). getD t i 0) at₀ in
     let most : size ≤ 126 = omega (arith, leb-true (endIn place) 128 (both-true-left _ _ sound)) in
-    let is : nlriOf (routeIn place) ≡ part t (at + 2) size = ap (part place 2) first ∙ part-within t at 128 2 size h (omega arith) in
+    let is : nlriOf (routeIn place) ≡ part t (at + 2) size = ap (part place 2) first ∙ part-within t at 128 2 size (omega arith) in
     let long : length (part t (at + 2) size) ≡ size = length-part t (at + 2) size (omega arith) in
     let a = accepted afi (routeIn place) (both-true-left _ _ (both-true-right _ _ sound)) in
     let nlri : List ℕ = nlriOf (routeIn place) in

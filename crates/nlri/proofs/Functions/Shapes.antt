@@ -14,7 +14,7 @@ use Rattle.octets.specs.Choice.{pick, either, both}
 use Rattle.octets.specs.Outcome.{given}
 use Rattle.octets.specs.Octets.{part, numberIn}
 use Rattle.octets.proofs.Choice.{pick-true, pick-false, tested, opposite, is-false, either-true}
-use Rattle.octets.proofs.Lists.{length-part}
+use Rattle.octets.proofs.Lists.{length-part, drop-taken}
 use Rattle.fec_elements.specs.Reading.{opaqueStart, fecSize}
 use Rattle.fec_elements.proofs.Nesting.{size-read}
 use Rattle.nlri.specs.Bodies.{FieldKind, distinguisher, sourceAs, source, group, originator, key, fec, bodies, fieldIn, sameKind, codeOf, hasField}
@@ -42,12 +42,6 @@ drop-take (suc m) (y ∷ ys) = ap (λ (k : ℕ). take k ys) (sym (sub m))
 part-drop : (s : List ℕ) (k start size : ℕ) → part (drop k s) start size ≡ part s (k + start) size
 unfolding part
 part-drop s k start size = ap (take size) (drop-drop start k s)
-
-drop-taken : (k n : ℕ) (x : List ℕ) → k ≤ n → drop k (take n x) ≡ take (n - k) (drop k x)
-drop-taken zero n x h = let same : n ≡ n - 0 = omega arith in ap (λ (m : ℕ). take m x) same
-drop-taken (suc k) zero x h = absurd (omega arith)
-drop-taken (suc k) (suc n) [] h = sym (take-nil (suc n - suc k))
-drop-taken (suc k) (suc n) (y ∷ ys) h = let same : n - k ≡ suc n - suc k = omega arith in drop-taken k n ys (omega arith) ∙ ap (λ (m : ℕ). take m (drop k ys)) same
 
 address-part : (s : List ℕ) (start size : ℕ) → drop 1 (part s start size) ≡ part s (start + 1) (size - 1)
 unfolding part

@@ -29,7 +29,7 @@ unfolding nlriOf attributeOf
 route-acceptable afi nlri attribute r e = rw (route-read afi nlri attribute r e) (read-acceptable afi (route nlri attribute) r e)
 
 -- no well-formed S-PMSI NLRI is empty
-named-after-none : (afi : ℕ) (nlri : List ℕ) (f : Fields) → readSPmsi afi nlri ≡ given f → before [] nlri ≡ true
+pub named-after-none : (afi : ℕ) (nlri : List ℕ) (f : Fields) → readSPmsi afi nlri ≡ given f → before [] nlri ≡ true
 named-after-none afi nlri f e = before-none nlri (omega (arith, nlri-size afi nlri f e))
 
 pub acceptable-after-none : (afi : ℕ) (r : Route) → acceptable afi r ≡ true → before [] (nlriOf r) ≡ true

@@ -63,7 +63,7 @@ module _ (afi : ℕ) (nlri : List ℕ) where
   nlri-accepts s = nlri-exactly (s .fields) .1 (s .read, s .kind)
 
 module _ (attribute : List ℕ) where
-  labelled : (f : AttributeFields) → readLabelled attribute ≡ given f → Labelled attribute
+  pub labelled : (f : AttributeFields) → readLabelled attribute ≡ given f → Labelled attribute
   unfolding readLabelled
   labelled f e =
       let p = passed _ _ _ e in

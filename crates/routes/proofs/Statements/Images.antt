@@ -26,13 +26,13 @@ use Rattle.routes.proofs.Definitions.Lookups.{increasing-members}
 use Rattle.routes.proofs.Definitions.Places.{length-zeros, length-places, routes-from, length-from, sound-placesOf, from-acceptable, increasing-routesFrom, from-places}
 
 -- what a sound table's tests say
-pub record Sound (t : List ℕ) : Type 0 where
+pub record SoundTests (t : List ℕ) : Type 0 where
   pub size : SizeOf (length t) (placesIn t)
   pub header : headerSound t ≡ true
   pub within : countIn t ≤ placesIn t
   pub places : placesSound (afiIn t) [] (countIn t) (drop 8 t) ≡ true
 
-pub sound : (t : List ℕ) → soundOf t ≡ true → Sound t
+pub sound : (t : List ℕ) → soundOf t ≡ true → SoundTests t
 unfolding soundOf
 sound t h =
     let later = both-true-right _ _ h in

@@ -17,8 +17,9 @@ use Rattle.routes.specs.Route.{last}
 use Rattle.routes.specs.Table.{imageOf, placesIn, tableSize}
 use Rattle.routes.specs.Calls.{makeOutcome, makeOf}
 use Rattle.routes.specs.Rules.ArgumentRules.{KnownFamily}
+use Rattle.routes.specs.Rules.SoundRule.{TableSize}
 use Rattle.routes.specs.Rules.Images.{Holdable, TableOf}
-use Rattle.routes.specs.Rules.CallRules.{TableSize, MakeRefusal, noFamily, badSize, MakeRule}
+use Rattle.routes.specs.Rules.CallRules.{MakeRefusal, noFamily, badSize, MakeRule}
 use Rattle.routes.proofs.Definitions.Headers.{size-sound, sound-size}
 use Rattle.routes.proofs.Statements.Images.{images, make-given, make-refused, length-image}
 

@@ -1,6 +1,6 @@
 -- What routes hold of an NLRI, and what making a table, install and withdraw answer and leave, in document 01's notions ("The numbers a call
 -- gives back", "The table memory"). Proved in proofs/Definitions/Lookups and in MakeRules, InstallRules and WithdrawRules of proofs/Statements; MatchRule.antt is on match.
-use Prim.Native.Nat.{ℕ, suc, _+_, _*_, _≤_, _<_}
+use Prim.Native.Nat.{ℕ, suc, _<_}
 use mathlib.Core.Path.{_≡_}
 use mathlib.Core.Bool.{true, false}
 use mathlib.Core.List.{List, []}
@@ -12,6 +12,7 @@ use Rattle.routes.specs.Route.{Route, route, nlriOf, Held, absent, held,
 use Rattle.routes.specs.Table.{afiIn, placesIn, routesOf, soundOf}
 use Rattle.routes.specs.Calls.{makeOf, installOf, withdrawOf}
 use Rattle.routes.specs.Rules.ArgumentRules.{KnownFamily, SPmsi, Labelled, NlriRefusal, RouteRefusal}
+use Rattle.routes.specs.Rules.SoundRule.{TableSize}
 use Rattle.routes.specs.Rules.Images.{TableOf}
 
 -- what routes hold of an NLRI: nothing exactly when none of them has it; a route, where no two have the same NLRI, exactly when it is the one
@@ -28,12 +29,6 @@ IsHeld nlri rs = (r : Route) × (lookup nlri rs ≡ held r)
 pub record HeldNow (nlri : List ℕ) (now : Held) (old new : List Route) : Type 0 where
   pub own : lookup nlri new ≡ now
   pub others : (other : List ℕ) → other ≢ nlri → lookup other new ≡ lookup other old
-
--- a table's size: 8 octets and 0 to 500 places of 128
-pub record TableSize (size : ℕ) : Type 0 where
-  pub places : ℕ
-  pub most : places ≤ 500
-  pub is : size ≡ 8 + 128 * places
 
 -- why making a table is refused: FAMILY, TABLE
 pub data MakeRefusal (afi : ℕ) (memory : List ℕ) : ℕ → Type 0 where
