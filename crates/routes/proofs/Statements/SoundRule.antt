@@ -27,7 +27,7 @@ use Rattle.routes.specs.Place.{endIn, routeIn, acceptable, placeSound}
 use Rattle.routes.specs.Table.{headerStart, afiIn, countIn, placesIn, routesFrom, routesOf, tableSize, headerSound, placesSound, soundOf}
 use Rattle.routes.specs.Arguments.{readSPmsi, readLabelled, readRoute}
 use Rattle.routes.specs.Rules.ArgumentRules.{KnownFamily, SPmsi, Labelled}
-use Rattle.routes.specs.Rules.SoundRule.{countAt, nlriAt, attributeAt, PlaceHolds, Sound, SoundRule, smallTable, SoundExamples}
+use Rattle.routes.specs.Rules.SoundRule.{countAt, nlriInPlace, attributeInPlace, PlaceHolds, Sound, SoundRule, smallTable, SoundExamples}
 use Rattle.routes.proofs.Definitions.Bounds.{accepted, read-acceptable}
 use Rattle.routes.proofs.Definitions.Ownership.{named-after-none}
 use Rattle.routes.proofs.Definitions.Headers.{sound-family, size-sound, places-in}
@@ -61,7 +61,7 @@ module _ (t : List ℕ) (at : ℕ) where
   end-at = rw (nlri-sized, attribute-sized) (omega arith)
 
   -- the route in it
-  route-at : 2 + getD t at 0 + getD t (at + 1) 0 ≤ 128 → routeIn (part t at 128) ≡ route (nlriAt t at) (attributeAt t at)
+  route-at : 2 + getD t at 0 + getD t (at + 1) 0 ≤ 128 → routeIn (part t at 128) ≡ route (nlriInPlace t at) (attributeInPlace t at)
   unfolding routeIn
   route-at fits =
       let behind : at + (2 + getD t at 0) ≡ at + 2 + getD t at 0 = omega arith in
@@ -84,7 +84,7 @@ module _ (t : List ℕ) (at : ℕ) where
     place-held h =
         let end = end-at in
         let fits : 2 + getD t at 0 + getD t (at + 1) 0 ≤ 128 = omega (arith, leb-true (endIn (part t at 128)) 128 (both-true-left _ _ h)) in
-        let taken = acceptable-taken afi (nlriAt t at) (attributeAt t at) (rw (route-at fits) at (both-true-left _ _ (both-true-right _ _ h))) in
+        let taken = acceptable-taken afi (nlriInPlace t at) (attributeInPlace t at) (rw (route-at fits) at (both-true-left _ _ (both-true-right _ _ h))) in
         let zeroed = zero-past (endIn (part t at 128)) (part t at 128) (both-true-right _ _ (both-true-right _ _ h)) in
         record {
           fits = fits;
@@ -100,23 +100,23 @@ module _ (t : List ℕ) (at : ℕ) where
         let end = end-at in
         let fits = p .fits in
         both-true _ _ (le-leb (endIn (part t at 128)) 128 (omega arith))
-        (both-true _ _ (ap (acceptable afi) (route-at (p .fits)) ∙ acceptable-of-taken afi (nlriAt t at) (attributeAt t at) (p .named) (p .labelled))
+        (both-true _ _ (ap (acceptable afi) (route-at (p .fits)) ∙ acceptable-of-taken afi (nlriInPlace t at) (attributeInPlace t at) (p .named) (p .labelled))
         (zero-each-past (endIn (part t at 128)) (part t at 128) (λ i least. filled-at (endIn (part t at 128)) (λ j more less. p .filled j (omega arith) less) i least)))
 
 -- so many places from `at` on hold routes, the first with an NLRI after `previous`, and everything after them is zero
 record PlacesHold (afi : ℕ) (t previous : List ℕ) (count at : ℕ) : Type 0 where
   held : (i : ℕ) → i < count → PlaceHolds afi t (at + 128 * i)
-  first : 0 < count → before previous (nlriAt t at) ≡ true
-  increasing : (i : ℕ) → i + 1 < count → before (nlriAt t (at + 128 * i)) (nlriAt t (at + 128 * (i + 1))) ≡ true
+  first : 0 < count → before previous (nlriInPlace t at) ≡ true
+  increasing : (i : ℕ) → i + 1 < count → before (nlriInPlace t (at + 128 * i)) (nlriInPlace t (at + 128 * (i + 1))) ≡ true
   free : (i : ℕ) → at + 128 * count ≤ i → getD t i 0 ≡ 0
 
 -- where two NLRIs stand, told in other numbers
-before-at : (t : List ℕ) (i j k l : ℕ) → i ≡ k → j ≡ l → before (nlriAt t i) (nlriAt t j) ≡ true → before (nlriAt t k) (nlriAt t l) ≡ true
-before-at t i j k l p q h = sym (ap₂ (λ (x y : ℕ). before (nlriAt t x) (nlriAt t y)) p q) ∙ h
+before-at : (t : List ℕ) (i j k l : ℕ) → i ≡ k → j ≡ l → before (nlriInPlace t i) (nlriInPlace t j) ≡ true → before (nlriInPlace t k) (nlriInPlace t l) ≡ true
+before-at t i j k l p q h = sym (ap₂ (λ (x y : ℕ). before (nlriInPlace t x) (nlriInPlace t y)) p q) ∙ h
 
 module _ (afi : ℕ) (t : List ℕ) where
   -- one place more in front
-  places-more : (previous : List ℕ) (count at : ℕ) → PlaceHolds afi t at → before previous (nlriAt t at) ≡ true → PlacesHold afi t (nlriAt t at) count (at + 128) → PlacesHold afi t previous (suc count) at
+  places-more : (previous : List ℕ) (count at : ℕ) → PlaceHolds afi t at → before previous (nlriInPlace t at) ≡ true → PlacesHold afi t (nlriInPlace t at) count (at + 128) → PlacesHold afi t previous (suc count) at
   places-more previous count at here after later =
       record {
         held = held;
@@ -129,13 +129,13 @@ module _ (afi : ℕ) (t : List ℕ) where
       held zero less = let e : at ≡ at + 128 * 0 = omega arith in subst (PlaceHolds afi t) e here
       held (suc i) less = let e : at + 128 + 128 * i ≡ at + 128 * suc i = omega arith in subst (PlaceHolds afi t) e (later .held i (omega arith))
 
-      increasing : (i : ℕ) → i + 1 < suc count → before (nlriAt t (at + 128 * i)) (nlriAt t (at + 128 * (i + 1))) ≡ true
+      increasing : (i : ℕ) → i + 1 < suc count → before (nlriInPlace t (at + 128 * i)) (nlriInPlace t (at + 128 * (i + 1))) ≡ true
       increasing zero less = before-at t at (at + 128) (at + 128 * 0) (at + 128 * (0 + 1)) (omega arith) (omega arith) (later .first (omega arith))
       increasing (suc i) less =
           before-at t (at + 128 + 128 * i) (at + 128 + 128 * (i + 1)) (at + 128 * suc i) (at + 128 * (suc i + 1)) (omega arith) (omega arith) (later .increasing i (omega arith))
 
   -- and without it
-  places-less : (previous : List ℕ) (count at : ℕ) → PlacesHold afi t previous (suc count) at → PlaceHolds afi t at × PlacesHold afi t (nlriAt t at) count (at + 128)
+  places-less : (previous : List ℕ) (count at : ℕ) → PlacesHold afi t previous (suc count) at → PlaceHolds afi t at × PlacesHold afi t (nlriInPlace t at) count (at + 128)
   places-less previous count at p =
       let here : at + 128 * 0 ≡ at = omega arith in
       let next : (i : ℕ) → at + 128 * (i + 1) ≡ at + 128 + 128 * i = λ i. omega arith in (
@@ -155,7 +155,7 @@ module _ (afi : ℕ) (t : List ℕ) where
   places-next previous count at = rw (← drop-drop 128 at t)
 
   -- the NLRI of the route in a place
-  nlri-at : (at : ℕ) → PlaceHolds afi t at → nlriOf (routeIn (part t at 128)) ≡ nlriAt t at
+  nlri-at : (at : ℕ) → PlaceHolds afi t at → nlriOf (routeIn (part t at 128)) ≡ nlriInPlace t at
   unfolding nlriOf
   nlri-at at p = ap nlriOf (route-at t at (p .fits))
 
@@ -173,7 +173,7 @@ module _ (afi : ℕ) (t : List ℕ) where
       let tests = sym (places-next previous count at) ∙ h in
       let here = place-held t at afi (both-true-left _ _ tests) in
       let others = rw (nlri-at at here) at (both-true-right _ _ tests) in
-      places-more previous count at here (both-true-left _ _ others) (places-held (nlriAt t at) count (at + 128) (both-true-right _ _ others))
+      places-more previous count at here (both-true-left _ _ others) (places-held (nlriInPlace t at) count (at + 128) (both-true-right _ _ others))
 
   -- places that hold routes in order are sound
   places-sound : (previous : List ℕ) (count at : ℕ) → PlacesHold afi t previous count at → placesSound afi previous count (drop at t) ≡ true
@@ -182,7 +182,7 @@ module _ (afi : ℕ) (t : List ℕ) where
   places-sound previous (suc count) at p =
       let q = places-less previous count at p in
       places-next previous count at
-      ∙ both-true _ _ (place-sound t at afi (q .0)) (rw (nlri-at at (q .0)) (both-true _ _ (p .first (omega arith)) (places-sound (nlriAt t at) count (at + 128) (q .1))))
+      ∙ both-true _ _ (place-sound t at afi (q .0)) (rw (nlri-at at (q .0)) (both-true _ _ (p .first (omega arith)) (places-sound (nlriInPlace t at) count (at + 128) (q .1))))
 
 -- the count, by its octets
 count-at : (t : List ℕ) → 8 ≤ length t → countIn t ≡ countAt t
@@ -225,8 +225,8 @@ is-sound t s =
     let least : 8 ≤ length t = omega (arith, s .size .is) in
     let count : countIn t ≡ countAt t = count-at t least in
     let places : placesIn t ≡ s .size .places = places-in t (s .size .places) (s .size .is) in
-    let first : 0 < countAt t → before [] (nlriAt t 8) ≡ true =
-    λ some. let named = s .held 0 some .named in named-after-none (getD t 5 0) (nlriAt t 8) (named .fields) (nlri-accepts (getD t 5 0) (nlriAt t 8) named) in
+    let first : 0 < countAt t → before [] (nlriInPlace t 8) ≡ true =
+    λ some. let named = s .held 0 some .named in named-after-none (getD t 5 0) (nlriInPlace t 8) (named .fields) (nlri-accepts (getD t 5 0) (nlriInPlace t 8) named) in
     both-true _ _ (size-sound (length t) (s .size .places) (s .size .is) (s .size .most))
     (both-true _ _ (header-sound t least (s .version) (s .family))
     (rw (count, places)
@@ -258,7 +258,7 @@ module _ (t : List ℕ) (s : Sound t) where
   places-at = rw (places-in t (s .size .places) (s .size .is)) (s .size .is)
 
   -- its route number i
-  route-held : (missing : Route) (i : ℕ) → i < countAt t → getD (routesOf t) i missing ≡ route (nlriAt t (8 + 128 * i)) (attributeAt t (8 + 128 * i))
+  route-held : (missing : Route) (i : ℕ) → i < countAt t → getD (routesOf t) i missing ≡ route (nlriInPlace t (8 + 128 * i)) (attributeInPlace t (8 + 128 * i))
   unfolding routesOf
   route-held missing i less = rw counted (routes-at t missing (countAt t) 8 i less ∙ route-at t (8 + 128 * i) (s .held i less .fits))
 

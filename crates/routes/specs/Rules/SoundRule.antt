@@ -23,21 +23,21 @@ abbrev pub countAt : (t : List ℕ) → ℕ
 countAt t = 256 * getD t 6 0 + getD t 7 0
 
 -- the NLRI of the place from `at` on: of so many octets as the place's first says, behind both sizes
-abbrev pub nlriAt : (t : List ℕ) (at : ℕ) → List ℕ
-nlriAt t at = part t (at + 2) (getD t at 0)
+abbrev pub nlriInPlace : (t : List ℕ) (at : ℕ) → List ℕ
+nlriInPlace t at = part t (at + 2) (getD t at 0)
 
 -- its attribute: of so many octets as the place's second says, straight after the NLRI
-abbrev pub attributeAt : (t : List ℕ) (at : ℕ) → List ℕ
-attributeAt t at = part t (at + 2 + getD t at 0) (getD t (at + 1) 0)
+abbrev pub attributeInPlace : (t : List ℕ) (at : ℕ) → List ℕ
+attributeInPlace t at = part t (at + 2 + getD t at 0) (getD t (at + 1) 0)
 
 -- the 128 octets from `at` on are a taken place
 pub record PlaceHolds (afi : ℕ) (t : List ℕ) (at : ℕ) : Type 0 where
   -- both sizes, the NLRI and the attribute fit it
   pub fits : 2 + getD t at 0 + getD t (at + 1) 0 ≤ 128
   -- a type 3 NLRI that install would accept
-  pub named : SPmsi afi (nlriAt t at)
+  pub named : SPmsi afi (nlriInPlace t at)
   -- an attribute that install would accept
-  pub labelled : Labelled (attributeAt t at)
+  pub labelled : Labelled (attributeInPlace t at)
   -- zeros to the end
   pub filled : (i : ℕ) → 2 + getD t at 0 + getD t (at + 1) 0 ≤ i → i < 128 → getD t (at + i) 0 ≡ 0
 
@@ -54,7 +54,7 @@ pub record Sound (t : List ℕ) : Type 0 where
   -- the first so many places each hold a route
   pub held : (i : ℕ) → i < countAt t → PlaceHolds (getD t 5 0) t (8 + 128 * i)
   -- NLRIs strictly increasing
-  pub increasing : (i : ℕ) → i + 1 < countAt t → before (nlriAt t (8 + 128 * i)) (nlriAt t (8 + 128 * (i + 1))) ≡ true
+  pub increasing : (i : ℕ) → i + 1 < countAt t → before (nlriInPlace t (8 + 128 * i)) (nlriInPlace t (8 + 128 * (i + 1))) ≡ true
   -- everything after them zero
   pub free : (i : ℕ) → 8 + 128 * countAt t ≤ i → getD t i 0 ≡ 0
 
@@ -68,7 +68,7 @@ pub record SoundRule : Type 0 where
   pub count : (t : List ℕ) → Sound t → length (routesOf t) ≡ countAt t
   -- route number i is the one in place number i; what stands for a missing route does not matter
   pub routes : (t : List ℕ) → Sound t → (missing : Route) (i : ℕ) → i < countAt t
-      → getD (routesOf t) i missing ≡ route (nlriAt t (8 + 128 * i)) (attributeAt t (8 + 128 * i))
+      → getD (routesOf t) i missing ≡ route (nlriInPlace t (8 + 128 * i)) (attributeInPlace t (8 + 128 * i))
 
 -- a table of AFI 1 with two places, octet by octet, and four octets to choose: the version's, the count's, the last of a BIER attribute's label
 -- field, and the one behind that attribute. The NLRI in the first place is (C-*,C-*) with RD 100:7 and originator 10.0.0.1
