@@ -8,7 +8,8 @@
  *
  * Every call ends with a stated answer on any octets. A call that refuses returns its number, changes no octet of any
  * buffer, and leaves every other field of its answer 0, but for what a walk counts and its offset, the cursor of a step, and
- * what a reader of pieces keeps: its `unfinished` is written by every feed that reads, also where the NLRI is then refused.
+ * a reader of pieces: its own numbers stand for its state, and its `unfinished` is written by every feed that reads, also where
+ * the NLRI is then refused.
  *
  * What the caller owes: a pointer is valid for the length given beside it, which is at most PTRDIFF_MAX; where the length
  * is 0 the pointer may be anything, null too. No alignment is asked. A buffer that is written overlaps no other argument.

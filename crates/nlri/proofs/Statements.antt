@@ -1,4 +1,5 @@
 -- Proofs of what specs/Statements.antt states.
+pub mod Bodies
 pub mod Acceptance
 pub mod RoundTrips
 pub mod Faults

@@ -1,5 +1,6 @@
 -- What is proved of the definitions as a whole; specs/Statements.antt and specs/AnswerRules.antt say what each states.
 pub use Rattle.nlri.proofs.Definitions.Lengths.{lengths}
+pub use Rattle.nlri.proofs.Statements.Bodies.{bodyRule}
 pub use Rattle.nlri.proofs.Statements.Acceptance.{acceptance}
 pub use Rattle.nlri.proofs.Statements.RoundTrips.{roundTrips}
 pub use Rattle.nlri.proofs.Statements.ReadRefusals.{readRefusals}

@@ -5,6 +5,7 @@ use mathlib.Core.Bool.{true, false}
 use mathlib.Core.List.{List, [], _∷_, _++_}
 use mathlib.Core.Logic.{_↔_, _≢_, _⊎_}
 use lib.ListN.{length, getD, take}
+use Rattle.octets.specs.Lists.{Among}
 use Rattle.octets.specs.Numbers.{DONE, SHORT, TYPE, LENGTH, WIDTH, KEY, IDENT, LONG, FAMILY, FLOW, SPACE, DEEP}
 use Rattle.octets.specs.Outcome.{given, refused}
 use Rattle.octets.specs.Octets.{AllOctets, part}
@@ -35,6 +36,40 @@ pub record Lengths : Type 0 where
   pub roots : (afi bits : ℕ) → familyBits afi ≡ given bits → rootFamily bits ≡ afi
   -- families of the same number and bits are equal
   pub apart : (a b : Family) → familyOutcome a ≡ familyOutcome b → a ≡ b
+
+-- a field where the body may lack it: as it is where the body has it, else empty
+pub data KeptIf {A : Type 0} (Has : Type 0) (field empty : A) : A → Type 0 where
+  has : Has → KeptIf Has field empty field
+  lacks : (Has → ⊥) → KeptIf Has field empty empty
+
+-- fields without those that their type lacks
+pub record RestrictedTo (f g : Fields) : Type 0 where
+  pub type : g .type ≡ f .type
+  pub distinguisher : KeptIf (Among distinguisher (bodyOf (f .type))) (f .distinguisher) [] (g .distinguisher)
+  pub sourceAs : KeptIf (Among sourceAs (bodyOf (f .type))) (f .sourceAs) 0 (g .sourceAs)
+  pub source : KeptIf (Among source (bodyOf (f .type))) (f .source) [] (g .source)
+  pub group : KeptIf (Among group (bodyOf (f .type))) (f .group) [] (g .group)
+  pub originator : KeptIf (Among originator (bodyOf (f .type))) (f .originator) [] (g .originator)
+  pub key : KeptIf (Among key (bodyOf (f .type))) (f .key) [] (g .key)
+  pub fec : KeptIf (Among fec (bodyOf (f .type))) (f .fec) [] (g .fec)
+
+-- "NLRI on the wire": the bodies
+pub record BodyRule : Type 0 where
+  -- the fields of each route type, in their order
+  pub one : bodyOf 1 ≡ distinguisher ∷ (originator ∷ [])
+  pub two : bodyOf 2 ≡ distinguisher ∷ (sourceAs ∷ [])
+  pub three : bodyOf 3 ≡ distinguisher ∷ (source ∷ (group ∷ (originator ∷ [])))
+  pub four : bodyOf 4 ≡ key ∷ (originator ∷ [])
+  pub five : bodyOf 5 ≡ distinguisher ∷ (source ∷ (group ∷ []))
+  pub six : bodyOf 6 ≡ distinguisher ∷ (sourceAs ∷ (source ∷ (group ∷ [])))
+  pub seven : bodyOf 7 ≡ distinguisher ∷ (sourceAs ∷ (source ∷ (group ∷ [])))
+  pub mldpSPmsi : bodyOf 67 ≡ distinguisher ∷ (fec ∷ (originator ∷ []))
+  pub mldpLeaf : bodyOf 68 ≡ key ∷ (originator ∷ [])
+  pub mldpSourceTreeJoin : bodyOf 71 ≡ distinguisher ∷ (sourceAs ∷ (fec ∷ []))
+  -- a body has a kind of field exactly when it is among its fields
+  pub has : (kind : FieldKind) (body : List FieldKind) → (hasField kind body ≡ true) ↔ Among kind body
+  -- what is read, and told, of an NLRI has the fields of its type and no others
+  pub restricts : (f : Fields) → RestrictedTo f (restricted f)
 
 -- octets that are the encoding of well-formed fields of the AFI's family, fields that the type lacks being empty
 pub record ReadAs (afi : ℕ) (s : List ℕ) (f : Fields) : Type 0 where

@@ -4,7 +4,7 @@ use mathlib.Core.Path.{_≡_, refl, sym, ap, ap₂, _∙_}
 use mathlib.Core.List.{List, [], _∷_, _++_, append-assoc, append-nil}
 use native.Mathlib.Nat.{zero-add, add-sub-cancel-left}
 use native.Mathlib.Omega.{arith}
-use lib.ListN.{length, getD, take, drop, replicate, length-append, length-take, length-drop, length-replicate, replicate-append-replicate, drop-of-length-le, take-append-drop}
+use lib.ListN.{length, getD, take, drop, replicate, length-append, length-take, length-drop, length-replicate, replicate-append-replicate, drop-of-length-le, take-append-drop, List·getD-append}
 use lib.Seq.{take-all, take-at, drop-at, drop-drop, length-take-le, take-append-le, take-length, take-append-add, take-add, take-take, take-append-seam, take-nil, getD-append-add, getD-take, getD-drop}
 use Rattle.octets.specs.Octets.{part, placed, front, sized}
 use Rattle.octets.specs.Order.{zeros}
@@ -23,6 +23,28 @@ lent-whole s = lent-rest 0 s
 pub length-placed : (at : ℕ) (e d : List ℕ) → at + length e ≤ length d → length (placed at e d) ≡ length d
 unfolding placed
 length-placed at e d h = simp (length-append, length-take, length-drop) (omega arith)
+
+-- what stands in d with e put in from `at` on: e there, and every other element as it was
+module _ (at : ℕ) (e d : List ℕ) (room : at ≤ length d) where
+  pub placed-before : (i : ℕ) → i < at → getD (placed at e d) i 0 ≡ getD d i 0
+  unfolding placed
+  placed-before i h = List·getD-append (take at d) (e ++ drop (at + length e) d) 0 i (omega (arith, length-take-le at d room)) ∙ getD-take at d i 0 h
+
+  pub placed-past : (i : ℕ) → at + length e ≤ i → getD (placed at e d) i 0 ≡ getD d i 0
+  unfolding placed
+  placed-past i h =
+      let k : ℕ = i - (at + length e) in
+      let sum : i ≡ length (take at d) + (length e + k) = omega (arith, length-take-le at d room) in
+      let back : at + length e + k ≡ i = omega arith in
+      ap (λ (n : ℕ). getD (take at d ++ (e ++ drop (at + length e) d)) n 0) sum
+      ∙ getD-append-add (take at d) (e ++ drop (at + length e) d) (length e + k) 0
+      ∙ getD-append-add e (drop (at + length e) d) k 0
+      ∙ getD-drop (at + length e) d k 0
+      ∙ ap (λ (n : ℕ). getD d n 0) back
+
+  pub part-placed : part (placed at e d) at (length e) ≡ e
+  unfolding placed part
+  part-placed = ap (take (length e)) (drop-at (take at d) (e ++ drop (at + length e) d) at (length-take-le at d room)) ∙ take-append-seam e (drop (at + length e) d)
 
 pub front-is-placed : (e d : List ℕ) → front e d ≡ placed 0 e d
 unfolding front placed

@@ -9,13 +9,16 @@ use lib.ListN.{length, getD, take, List·getD-append}
 use lib.Seq.{getD-take, length-take-le, take-take, take-all}
 use lib.Dec.{ltb, eqb}
 use Rattle.octets.specs.Numbers.{DONE}
-use Rattle.octets.specs.Octets.{AllOctets, placed}
+use mathlib.Core.Logic.{inl, inr, ⊎-elim}
+use Rattle.octets.specs.Octets.{AllOctets, part, placed}
+use Rattle.octets.proofs.Lists.{placed-before, placed-past, part-placed}
 use Rattle.octets.proofs.AllOctets.{octets-take, octets-append}
 use Rattle.octets.proofs.Choice.{tested, pick-true, pick-false, pick-case, either-left, either-false, either-false-left, either-false-right}
 use Rattle.runs.specs.Modes.{isSkipped}
 use Rattle.pieces.specs.declared.state.Pieces.{Pieces}
 use Rattle.pieces.specs.declared.feeding.Fed.{Fed}
 use Rattle.pieces.specs.Feeding.{READING, STOPPED, AfterFeed, passedOf, longOf, countedOf, overOf, sizeIn, wantedOf, shareOf, numberUnder, keptOf, readOf, skippedOf, stoppedOf, judgedOf, settledOf, takenOf, readOnOf, feedOf, Within}
+use Rattle.pieces.specs.PiecesRule.{LentAfter}
 use Rattle.pieces.proofs.Sizes.{size-known, size-least, size-most, length-together, take-together}
 
 -- what is over, and what is not
@@ -104,6 +107,13 @@ module _ (p : Pieces) (number wanted share : ℕ) where
     unfolding judgedOf
     judged-stopped e = pick-false _ _ _ (ne-eqb number DONE other) ∙ pick-false _ _ _ e
 
+-- of which nothing is kept
+judged-kept : (p : Pieces) (number wanted share : ℕ) → judgedOf p number wanted share .pieces .kept ≡ 0
+unfolding judgedOf
+judged-kept p number wanted share =
+    let is : Fed → Type 0 = λ f. f .pieces .kept ≡ 0 in
+    pick-case is _ _ _ (λ _. refl) (λ _. pick-case is _ _ _ (λ _. refl) (λ _. refl))
+
 pub taken-share : (p : Pieces) (unfinished piece : List ℕ) (wanted share : ℕ) → takenOf p unfinished piece wanted share .answer .taken ≡ share
 unfolding takenOf settledOf judgedOf
 taken-share p unfinished piece wanted share =
@@ -150,6 +160,37 @@ taken-some p unfinished piece room more some =
     let len = length-take-le kept unfinished enough in
     omega (arith, size-known all (omega (arith, length-together kept unfinished piece enough)), List·getD-append (take kept unfinished) piece 0 1 (omega arith), getD-take kept unfinished 1 0 (omega arith))) in
     omega (arith, taken-share p unfinished piece (sizeIn all) (shareOf (sizeIn all) kept (length piece)), share-some (sizeIn all) kept (length piece) wants some))
+
+-- what is taken short of a piece's end ends an NLRI: while reading nothing is then kept
+pub taken-ends : (p : Pieces) (unfinished piece : List ℕ) → (feedOf p unfinished piece .answer .taken ≡ length piece → ⊥) → feedOf p unfinished piece .answer .pieces .kept ≡ 0
+unfolding readOnOf
+taken-ends p unfinished piece =
+    let ends : AfterFeed → Type 0 = λ a. (a .answer .taken ≡ length piece → ⊥) → a .answer .pieces .kept ≡ 0 in
+    feed-case ends p unfinished piece (λ _ short. absurd (short refl))
+    (λ _ _.
+    let wanted : ℕ = wantedOf (p .kept) unfinished piece in
+    let share : ℕ = shareOf wanted (p .kept) (length piece) in
+    tested (ltb (p .kept + length piece) wanted)
+    (λ t short. absurd (short (taken-share p unfinished piece wanted share ∙ share-all wanted (p .kept) (length piece) (ltb-true _ _ t))))
+    (λ f short. ap (λ (a : AfterFeed). a .answer .pieces .kept) (taken-judged p unfinished piece wanted share (ltb-false _ _ f)) ∙ judged-kept p _ wanted share))
+
+-- the lent octets after a feed
+pub lent-after : (p : Pieces) (unfinished piece : List ℕ) → length unfinished ≡ 257 → LentAfter p unfinished piece (feedOf p unfinished piece)
+unfolding readOnOf takenOf
+lent-after p unfinished piece room =
+    feed-case (LentAfter p unfinished piece) p unfinished piece (λ _. record { others = λ i h. refl; behind = inl refl })
+    (λ _ o.
+    let wanted : ℕ = wantedOf (p .kept) unfinished piece in
+    let share : ℕ = shareOf wanted (p .kept) (length piece) in
+    let is : takenOf p unfinished piece wanted share .answer .taken ≡ share = taken-share p unfinished piece wanted share in
+    let long : length (take share piece) ≡ share = length-take-le share piece (share-most wanted (p .kept) (length piece)) in
+    let within : p .kept ≤ length unfinished = omega (arith, within-not-over p (length piece) o .kept) in
+    record {
+      others = λ i h. ⊎-elim (placed-before (p .kept) (take share piece) unfinished within i) (λ past. placed-past (p .kept) (take share piece) unfinished within i (omega arith)) h;
+      behind = inr (
+        ap (part (placed (p .kept) (take share piece) unfinished) (p .kept)) (is ∙ sym long) ∙ part-placed (p .kept) (take share piece) unfinished within ∙ ap (λ (n : ℕ). take n piece) (sym is)
+      );
+    })
 
 pub given-most : (p : Pieces) (unfinished piece : List ℕ) → AllOctets unfinished → AllOctets piece → feedOf p unfinished piece .answer .size ≤ 257
 unfolding readOnOf wantedOf

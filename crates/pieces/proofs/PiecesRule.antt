@@ -23,7 +23,7 @@ use Rattle.pieces.specs.declared.state.Pieces.{Pieces}
 use Rattle.pieces.specs.Feeding.{READING, STOPPED, FINISHED, AfterFeed, startedAs, answerAtEnd, finishOf, passedOf, longOf, countedOf, overOf, feedOf}
 use Rattle.pieces.specs.Handing.{Caller, Moment, first}
 use Rattle.pieces.specs.PiecesRule.{PiecesClaim, TakenWhole, AtMoment, PiecesRule}
-use Rattle.pieces.proofs.Feeds.{taken-most, taken-some, given-most, feed-finished, feed-over, feed-counts, feed-front}
+use Rattle.pieces.proofs.Feeds.{taken-most, taken-some, taken-ends, lent-after, given-most, feed-finished, feed-over, feed-counts, feed-front}
 use Rattle.pieces.proofs.Means.{Reading, Means, kept-most, ended}
 use Rattle.pieces.proofs.Moments.{octets-moment, Held, sound-now, means-total, held, Refused, start-refused, fed-refused, refused-moment, fed-over, takes-some, moment-pieces}
 
@@ -176,9 +176,11 @@ piecesRule =
       family = λ afi mode one two. start-refused afi mode FAMILY (family-refuses afi one two);
       most = taken-most;
       some = taken-some;
+      ends = taken-ends;
+      lent = lent-after;
       fits = given-most;
       stopped = stays;
-      finished = λ p unfinished piece. feed-finished (finishOf p) unfinished piece (omega arith);
+      finished = λ p unfinished piece. let is = feed-finished (finishOf p) unfinished piece (omega arith) in (passed-whole (finishOf p) unfinished piece _ is, ap (λ (a : AfterFeed). a .answer .pieces) is);
       again = again;
       rest = feed-front;
     }

@@ -5,11 +5,11 @@ use mathlib.Core.List.{List}
 use mathlib.Core.Logic.{_≢_, _⊎_}
 use lib.ListN.{length, getD, take, drop}
 use Rattle.octets.specs.Numbers.{DONE, SHORT, LONG, FAMILY}
-use Rattle.octets.specs.Octets.{AllOctets}
+use Rattle.octets.specs.Octets.{AllOctets, part}
 use Rattle.runs.specs.Walking.{walkedTo, walkedWith}
 use Rattle.runs.specs.Modes.{walkBy, nlrisBy}
 use Rattle.pieces.specs.declared.state.Pieces.{Pieces}
-use Rattle.pieces.specs.Feeding.{READING, STOPPED, FINISHED, AfterFeed, startedAs, startOf, finishOf, feedOf, passedOf}
+use Rattle.pieces.specs.Feeding.{READING, STOPPED, FINISHED, AfterFeed, startOf, finishOf, feedOf}
 use Rattle.pieces.specs.Handing.{Caller, startedWith, fedBy, feedPieces, joined, Moment}
 
 -- a caller whose reader has taken a run
@@ -47,6 +47,11 @@ pub record AtMoment (afi mode : ℕ) (run : List ℕ) (c : Caller) : Type 0 wher
   -- of a piece that has octets some are taken, so that a caller's loop ends
   pub goes : (piece : List ℕ) → AllOctets piece → 0 < length piece → 0 < fedBy c piece .answer .taken
 
+-- the lent octets after a feed: behind those kept the octets that it took, where it reads; every other octet as it was
+pub record LentAfter (p : Pieces) (unfinished piece : List ℕ) (a : AfterFeed) : Type 0 where
+  pub others : (i : ℕ) → (i < p .kept) ⊎ (p .kept + a .answer .taken ≤ i) → getD (a .octets) i 0 ≡ getD unfinished i 0
+  pub behind : (a .octets ≡ unfinished) ⊎ (part (a .octets) (p .kept) (a .answer .taken) ≡ take (a .answer .taken) piece)
+
 -- "Updates that arrive in bits"
 pub record PiecesRule : Type 0 where
   -- the claim, for every run and every way to cut it, pieces of no octets included, by the loop that a caller writes
@@ -57,17 +62,23 @@ pub record PiecesRule : Type 0 where
   -- a moment of the loop is one of these
   pub loop : (afi mode : ℕ) (unfinished : List ℕ) (pieces : List (List ℕ)) → length unfinished ≡ 257 → AllOctets (joined pieces) → Moment afi mode (joined pieces) (feedPieces (startedWith afi mode unfinished) pieces)
   -- a bad AFI is told at the start, and the reader is then finished
-  pub family : (afi mode : ℕ) → afi ≢ 1 → afi ≢ 2 → startOf afi mode ≡ startedAs afi mode FINISHED FAMILY
+  pub family : (afi mode : ℕ) → afi ≢ 1 → afi ≢ 2
+      → startOf afi mode ≡ record { walked = record { number = FAMILY; count = 0; offset = 0; skipped = 0 }; afi = afi; mode = mode; stage = FINISHED; total = 0; kept = 0 }
   -- of every state, also of one that no call made: a feed takes no more than the piece has
   pub most : (p : Pieces) (unfinished piece : List ℕ) → feedOf p unfinished piece .answer .taken ≤ length piece
   -- of a piece that has octets it takes some, where fewer octets are kept than the NLRI at the front of the lent octets has by its Length
   pub some : (p : Pieces) (unfinished piece : List ℕ) → length unfinished ≡ 257 → p .kept < 2 + getD unfinished 1 0 → 0 < length piece → 0 < feedOf p unfinished piece .answer .taken
+  -- where it does not take all of a piece, it takes up to the end of an NLRI, and nothing is kept
+  pub ends : (p : Pieces) (unfinished piece : List ℕ) → feedOf p unfinished piece .answer .taken ≢ length piece → feedOf p unfinished piece .answer .pieces .kept ≡ 0
+  -- it writes no lent octet but those where it puts what it takes
+  pub lent : (p : Pieces) (unfinished piece : List ℕ) → length unfinished ≡ 257 → LentAfter p unfinished piece (feedOf p unfinished piece)
   -- and it gives no more than the lent octets have
   pub fits : (p : Pieces) (unfinished piece : List ℕ) → AllOctets unfinished → AllOctets piece → feedOf p unfinished piece .answer .size ≤ 257
   -- after a stop pieces are taken whole, and the stop stays
   pub stopped : (p : Pieces) (unfinished piece : List ℕ) → p .stage ≡ STOPPED → TakenWhole unfinished piece (feedOf p unfinished piece) × (feedOf p unfinished piece .answer .pieces .stage ≡ STOPPED)
   -- after finish every call repeats the answer, and leaves the lent octets
-  pub finished : (p : Pieces) (unfinished piece : List ℕ) → feedOf (finishOf p) unfinished piece ≡ passedOf (finishOf p) unfinished piece
+  pub finished : (p : Pieces) (unfinished piece : List ℕ)
+      → TakenWhole unfinished piece (feedOf (finishOf p) unfinished piece) × (feedOf (finishOf p) unfinished piece .answer .pieces ≡ finishOf p)
   pub again : (p : Pieces) → finishOf (finishOf p) ≡ finishOf p
   -- octets past those that a feed takes are not looked at: the rest of a piece is another piece
   pub rest : (p : Pieces) (unfinished piece : List ℕ) → length unfinished ≡ 257 → feedOf p unfinished (take (feedOf p unfinished piece .answer .taken) piece) ≡ feedOf p unfinished piece

@@ -64,21 +64,21 @@ module _ (afi : ℕ) (nlri : List ℕ) where
 
 module _ (attribute : List ℕ) where
   pub labelled : (f : AttributeFields) → readLabelled attribute ≡ given f → Labelled attribute
-  unfolding readLabelled
+  unfolding readLabelled labelOf
   labelled f e =
       let p = passed _ _ _ e in
       let q = given-otherwise _ _ _ _ (p .second) in
       record { fields = p .value; read = p .first; label = λ bier zero. opposite (both-true _ _ (eq-eqb (p .value .tunnelType) 11 bier) (eq-eqb (labelOf (p .value)) 0 zero)) (q .0) }
 
   takes-labelled : (l : Labelled attribute) → readLabelled attribute ≡ given (l .fields)
-  unfolding readLabelled
+  unfolding readLabelled labelOf
   takes-labelled l =
       sym (goes _ _ _ _ (l .read)
       (sym (pick-false _ _ _ (is-false _ (λ t. l .label (eqb-true _ _ (both-true-left _ _ t)) (eqb-true _ _ (both-true-right _ _ t)))))))
 
 module _ (afi : ℕ) (nlri attribute : List ℕ) where
   route-refused : (n : ℕ) → readRoute afi nlri attribute ≡ refused n → RouteRefusal afi nlri attribute n
-  unfolding readRoute readLabelled
+  unfolding readRoute readLabelled labelOf
   route-refused n e =
       ⊎-elim (λ first. badNlri (nlri-refused afi nlri n .0 first))
       (λ later.
@@ -96,7 +96,7 @@ module _ (afi : ℕ) (nlri attribute : List ℕ) where
       (stopped _ _ _ e)
 
   route-refuses : {n : ℕ} → RouteRefusal afi nlri attribute n → readRoute afi nlri attribute ≡ refused n
-  unfolding readRoute readLabelled
+  unfolding readRoute readLabelled labelOf
   route-refuses (badNlri r) = sym (stops _ _ _ (nlri-refused afi nlri _ .1 r))
   route-refuses (unreadAttribute s e) = sym (goes _ _ _ _ (nlri-accepts afi nlri s) (stops _ _ _ (sym (stops _ _ _ e))))
   route-refuses (noLabel f s e bier zero) =

@@ -201,6 +201,7 @@ served-flow flow =
 pub matchRule : MatchRule
 matchRule =
     record {
+      arguments = λ router source group. (refl, refl, refl);
       ignored = match-ignored;
       chosen = λ afi flow q rs e. asks-found (flow-asks afi flow q e) rs;
       none = λ afi flow q rs e. asks-nothing (flow-asks afi flow q e) rs;

@@ -1,6 +1,6 @@
 -- What a call's arguments and the table's family come to, in document 01's notions ("The numbers a call gives back", "Mixed calls and each
 -- router's book"). Stated here, proved in proofs/Statements/ArgumentRules.antt.
-use Prim.Native.Nat.{ℕ, _≤_, _<_}
+use Prim.Native.Nat.{ℕ, _/_, _≤_, _<_}
 use mathlib.Core.Path.{_≡_}
 use mathlib.Core.List.{List}
 use mathlib.Core.Logic.{_↔_, _≢_, _⊎_}
@@ -10,7 +10,7 @@ use Rattle.octets.specs.Outcome.{given, refused}
 use Rattle.nlri.specs.Fields.{Fields}
 use Rattle.nlri.specs.Reading.{readNlri}
 use Rattle.nlri.specs.Statements.{Multicast}
-use Rattle.tunnel.specs.Attribute.{AttributeFields, labelOf, readAttribute}
+use Rattle.tunnel.specs.Attribute.{AttributeFields, readAttribute}
 use Rattle.routes.specs.Route.{route}
 use Rattle.routes.specs.Query.{Query, Flow}
 use Rattle.routes.specs.Arguments.{readSPmsi, readRoute, readMatch}
@@ -46,7 +46,7 @@ pub record SPmsiOf (afi : ℕ) (router nlri : List ℕ) : Type 0 where
 pub record Labelled (attribute : List ℕ) : Type 0 where
   pub fields : AttributeFields
   pub read : readAttribute attribute ≡ given fields
-  pub label : fields .tunnelType ≡ 11 → labelOf fields ≢ 0
+  pub label : fields .tunnelType ≡ 11 → fields .labelField / 16 ≢ 0
 
 -- a flow that a match takes: a router address of 4 or 16 octets, a source of the family's size, a multicast group of that size
 pub record GoodFlow (afi : ℕ) (flow : Flow) : Type 0 where
@@ -67,7 +67,7 @@ NlriRefusal afi nlri n = TypeRefusal 3 afi nlri n
 pub data RouteRefusal (afi : ℕ) (nlri attribute : List ℕ) : ℕ → Type 0 where
   badNlri : {n : ℕ} → NlriRefusal afi nlri n → RouteRefusal afi nlri attribute n
   unreadAttribute : {n : ℕ} → SPmsi afi nlri → readAttribute attribute ≡ refused n → RouteRefusal afi nlri attribute n
-  noLabel : (f : AttributeFields) → SPmsi afi nlri → readAttribute attribute ≡ given f → f .tunnelType ≡ 11 → labelOf f ≡ 0 → RouteRefusal afi nlri attribute LABEL
+  noLabel : (f : AttributeFields) → SPmsi afi nlri → readAttribute attribute ≡ given f → f .tunnelType ≡ 11 → f .labelField / 16 ≡ 0 → RouteRefusal afi nlri attribute LABEL
 
 -- why match refuses its arguments: FLOW, then SPACE for an output under 124 octets
 pub data FlowRefusal (afi : ℕ) (flow : Flow) (output : List ℕ) : ℕ → Type 0 where

@@ -16,7 +16,7 @@ use Rattle.nlri.specs.Statements.{SourceSpecific}
 use Rattle.tunnel.specs.Attribute.{AttributeFields, readAttribute}
 use Rattle.routes.specs.declared.Matched.{Matched}
 use Rattle.routes.specs.Route.{Route, nlriOf, attributeOf, Distinct}
-use Rattle.routes.specs.Query.{Query, Flow}
+use Rattle.routes.specs.Query.{Query, Flow, flowOf}
 use Rattle.routes.specs.Arguments.{readFlow}
 use Rattle.routes.specs.Asked.{Asked, ofFlow}
 use Rattle.routes.specs.Table.{afiIn, routesOf, soundOf}
@@ -105,6 +105,8 @@ pub record TableMatch (asked : Asked) (router : List ℕ) (Good : (afi : ℕ) �
 
 -- the match for a flow: what it chooses, and what it answers
 pub record MatchRule : Type 0 where
+  -- the flow of a call's arguments: its router, its source and its group
+  pub arguments : (router source group : List ℕ) → (flowOf router source group .router ≡ router) × (flowOf router source group .source ≡ source) × (flowOf router source group .group ≡ group)
   -- a route that names no tunnel is ignored (RFC 8556, section 4.1), whatever a match of any kind asks and wherever the route stands
   pub ignored : (afi : ℕ) (q : Query) (earlier later : List Route) (r : Route) → (NamesTunnel (attributeOf r) → ⊥) → matchIn afi q (earlier ++ (r ∷ later)) ≡ matchIn afi q (earlier ++ later)
   -- over any routes with no NLRI twice, in any order
