@@ -188,8 +188,8 @@ lent-after p unfinished piece room =
     record {
       others = λ i h. ⊎-elim (placed-before (p .kept) (take share piece) unfinished within i) (λ past. placed-past (p .kept) (take share piece) unfinished within i (omega arith)) h;
       behind = inr (
-        ap (part (placed (p .kept) (take share piece) unfinished) (p .kept)) (is ∙ sym long) ∙ part-placed (p .kept) (take share piece) unfinished within ∙ ap (λ (n : ℕ). take n piece) (sym is)
-      );
+          ap (part (placed (p .kept) (take share piece) unfinished) (p .kept)) (is ∙ sym long) ∙ part-placed (p .kept) (take share piece) unfinished within ∙ ap (λ (n : ℕ). take n piece) (sym is)
+          );
     })
 
 pub given-most : (p : Pieces) (unfinished piece : List ℕ) → AllOctets unfinished → AllOctets piece → feedOf p unfinished piece .answer .size ≤ 257
