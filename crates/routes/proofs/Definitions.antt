@@ -1,19 +1,12 @@
 -- Laws of document 01's definitions.
 pub mod Lookups
 pub mod SPmsi
-pub mod Lowest
-pub mod Conditions
-pub mod First
-pub mod OpenTiers
+pub mod Matching
 pub mod Nexts
-pub mod MatchSame
-pub mod OnePass
-pub mod Flows
 pub mod Bounds
 pub mod Places
 pub mod Headers
 pub mod ByArguments
-pub mod SharedTrees
 pub mod Holding
 pub mod OnceEach
 pub mod Named

@@ -15,11 +15,4 @@ pub mod InstallRules
 pub mod WithdrawRules
 pub mod Decisions
 pub mod LastInstalled
-pub mod DueSteps
-pub mod Runs
-pub mod Reorders
-pub mod Turns
-pub mod Premise
-pub mod BookSteps
-pub mod BookRules
-pub mod MixedCalls
+pub mod Mixed

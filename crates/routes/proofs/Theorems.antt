@@ -17,7 +17,7 @@ pub use Rattle.routes.proofs.Statements.InTurn.{inTurnRule}
 -- InfoRule
 pub use Rattle.routes.proofs.Statements.InfoRule.{infoRule}
 -- MixedCalls
-pub use Rattle.routes.proofs.Statements.MixedCalls.{mixedCalls}
-pub use Rattle.routes.proofs.Statements.Premise.{premise}
+pub use Rattle.routes.proofs.Statements.Mixed.MixedCalls.{mixedCalls}
+pub use Rattle.routes.proofs.Statements.Mixed.Premise.{premise}
 -- Examples
 pub use Rattle.routes.proofs.Statements.Marked.{markedExamples}

@@ -1,4 +1,4 @@
--- A match in one pass: mirrors the scan, which keeps the best route so far. proofs/Definitions/OnePass.antt ties it to the rule in `Matching`.
+-- A match in one pass: mirrors the scan, which keeps the best route so far. proofs/Definitions/Matching/OnePass.antt ties it to the rule in `Matching`.
 use Prim.Native.Nat.{ℕ, suc}
 use mathlib.Core.Bool.{Bool}
 use mathlib.Core.List.{List, [], _∷_}

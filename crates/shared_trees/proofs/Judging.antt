@@ -19,7 +19,7 @@ use Rattle.nlri.specs.Groups.{classUnder, classOf, groupOf}
 use Rattle.nlri.proofs.Definitions.Lengths.{family-octets, originator-sized}
 use Rattle.nlri.proofs.Definitions.Families.{family-least}
 use Rattle.routes.specs.SharedTree.{SharedTree, MOST_ITEMS, originatorSized, stateSized, sourceActiveFault, judgedTree}
-use Rattle.routes.proofs.Definitions.Flows.{class-under}
+use Rattle.routes.proofs.Definitions.Matching.Flows.{class-under}
 use Rattle.shared_trees.specs.declared.Facts.{Facts}
 use Rattle.shared_trees.specs.Tree.{treeOf}
 use Rattle.shared_trees.specs.Told.{listsFault, addressesSized, classUnless, judgedWhole, Judged}

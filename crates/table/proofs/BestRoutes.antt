@@ -23,7 +23,7 @@ use Rattle.routes.specs.Answers.{matchedBy}
 use Rattle.routes.specs.OnePass.{tierOf, ahead, against, better, scanned}
 use Rattle.routes.proofs.Definitions.Places.{increasing-routesFrom}
 use Rattle.routes.proofs.Definitions.Lookups.{distinct-increasing}
-use Rattle.routes.proofs.Definitions.OnePass.{one-pass}
+use Rattle.routes.proofs.Definitions.Matching.OnePass.{one-pass}
 use Rattle.routes.proofs.Statements.Images.{sound}
 use Rattle.table.specs.declared.scan.Best.{Best}
 use Rattle.table.specs.Scanning.{standing, tierAt, nlriAt, Readable, aheadAt, betterAt, scanAt, noneYet, bestIn, Answerable, openQuery}

@@ -19,7 +19,7 @@ use Rattle.nlri.proofs.Definitions.Lengths.{family-octets, family-good}
 use Rattle.routes.specs.Query.{tiersOf, Query, Flow, flowQuery}
 use Rattle.routes.specs.Arguments.{readFlow}
 use Rattle.routes.specs.Rules.ArgumentRules.{KnownFamily}
-use Rattle.routes.proofs.Definitions.Flows.{class-under, flow-asked, flow-refused}
+use Rattle.routes.proofs.Definitions.Matching.Flows.{class-under, flow-asked, flow-refused}
 use Rattle.table.specs.Scanning.{openTiers, openQuery, flowClass}
 
 -- a group of another size than the family's

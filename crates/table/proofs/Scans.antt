@@ -17,7 +17,7 @@ use Rattle.routes.specs.Route.{attributeOf}
 use Rattle.routes.specs.Place.{endIn, routeIn}
 use Rattle.octets.specs.Outcome.{given, onOutcome}
 use Rattle.routes.specs.Matching.{namesTunnel, nothing, found}
-use Rattle.routes.proofs.Definitions.Conditions.{tunnel-of}
+use Rattle.routes.proofs.Definitions.Matching.Conditions.{tunnel-of}
 use Rattle.routes.specs.declared.Matched.{Matched}
 use Rattle.routes.specs.Answers.{emptyMatch, foundAnswer, foundOutput, matchedBy}
 use Rattle.table.specs.Changing.{Leaves}

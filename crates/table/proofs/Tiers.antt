@@ -19,7 +19,7 @@ use Rattle.routes.specs.Query.{Wanted, noRoute, meets, tiersOf, Flow}
 use Rattle.routes.specs.Arguments.{readSPmsi}
 use Rattle.routes.specs.Matching.{namesTunnel, candidate, eligible, distinguisherOf}
 use Rattle.routes.specs.OnePass.{tierFrom, tierOf}
-use Rattle.routes.proofs.Definitions.Conditions.{fields-of, distinguisher-is}
+use Rattle.routes.proofs.Definitions.Matching.Conditions.{fields-of, distinguisher-is}
 use Rattle.table.proofs.FieldStarts.{fields-stand}
 use Rattle.table.specs.Scanning.{sourceSize, groupSize, originatorStart, Bounded, standing, openQuery, wildcard, sourceTier, anySourceTier, flowTier, tierAt}
 use Rattle.table.specs.declared.tier.Tiers.{Tiers}

@@ -18,8 +18,8 @@ use Rattle.routes.specs.Asked.{Asked, ofFlow, ofSharedTree, askedRouter,
 use Rattle.routes.specs.Place.{acceptable}
 use Rattle.routes.specs.Call.{match, Owner, nobody, owner, originatorOf, ownerOf, ownedBy}
 use Rattle.nlri.proofs.Theorems.{lengths}
-use Rattle.routes.proofs.Definitions.Flows.{asked-router, flow-asked}
-use Rattle.routes.proofs.Definitions.SharedTrees.{asked-tree-router, tree-asked}
+use Rattle.routes.proofs.Definitions.Matching.Flows.{asked-router, flow-asked}
+use Rattle.routes.proofs.Definitions.Matching.SharedTrees.{asked-tree-router, tree-asked}
 use Rattle.routes.proofs.Statements.ArgumentRules.{flow-passed}
 use Rattle.routes.proofs.Definitions.Bounds.{accepted, route-read, read-acceptable, nlri-size}
 

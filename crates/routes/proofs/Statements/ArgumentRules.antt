@@ -16,7 +16,7 @@ use Rattle.routes.specs.Route.{route}
 use Rattle.routes.specs.Query.{Query, Flow}
 use Rattle.routes.specs.Arguments.{readSPmsi, readLabelled, readRoute, readFlow, readMatch}
 use Rattle.routes.specs.Rules.ArgumentRules.{KnownFamily, SPmsi, Labelled, GoodFlow, TypeRefusal, NlriRefusal, unreadNlri, otherKind, RouteRefusal, badNlri, unreadAttribute, noLabel, FlowRefusal, badFlow, noSpace, ArgumentRule}
-use Rattle.routes.proofs.Definitions.Flows.{flow-asked, flow-given, flow-refused}
+use Rattle.routes.proofs.Definitions.Matching.Flows.{flow-asked, flow-given, flow-refused}
 
 -- an NLRI of one route type
 module _ (type afi : ℕ) (nlri : List ℕ) where

@@ -30,8 +30,8 @@ use Rattle.routes.proofs.Definitions.ByArguments.{number-asked}
 use Rattle.routes.proofs.Definitions.Lookups.{acceptable-member, distinct-increasing}
 use Rattle.routes.proofs.Definitions.Bounds.{Sized, sizes-of}
 use Rattle.routes.proofs.Statements.Images.{sound-holdable}
-use Rattle.routes.proofs.Definitions.Flows.{asked-router, flow-asked}
-use Rattle.routes.proofs.Definitions.First.{wantedAt, match-ignored}
+use Rattle.routes.proofs.Definitions.Matching.Flows.{asked-router, flow-asked}
+use Rattle.routes.proofs.Definitions.Matching.First.{wantedAt, match-ignored}
 use Rattle.routes.proofs.Statements.Taken.{found-taken, nothing-taken, flow-exactly}
 
 -- two lists at the front of a third, one straight after the other

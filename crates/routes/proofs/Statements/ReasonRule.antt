@@ -26,7 +26,7 @@ use Rattle.routes.specs.Calls.{matchOf}
 use Rattle.routes.specs.Reasons.{reasonOf, reasonsOf, noReasons, explained, explainOf}
 use Rattle.routes.specs.Rules.MatchRule.{InTier, bothEqual, sourceEqual, groupEqual, bothWildcard, Taken, Told, MatchAnswer, oneTold, noneTold}
 use Rattle.routes.specs.Rules.ReasonRule.{RuledOut, anyGroup, anySource, Met, MetEarlier, Reason, wasTaken, noSuchRoute, wrongClass, earlierWon, ReasonRule}
-use Rattle.routes.proofs.Definitions.Flows.{Classed, class-under, class-given, classed, multicast-classed, multicast-family}
+use Rattle.routes.proofs.Definitions.Matching.Flows.{Classed, class-under, class-given, classed, multicast-classed, multicast-family}
 use Rattle.routes.proofs.Statements.MatchRule.{matchRule}
 
 -- a tier whose condition is met is one of the tiers, and is not ruled out

@@ -13,9 +13,9 @@ use Rattle.routes.specs.Query.{meets, Query}
 use Rattle.routes.specs.SharedTree.{SharedTree, treeOpen, treeQuery, readTree}
 use Rattle.routes.specs.Asked.{ofSharedTree, readAsked}
 use Rattle.routes.specs.Rules.SharedTreeRule.{Condition, InSharedTier, sharedGroup, sharedWildcard, GoodTree, SharedTreeRefusal, SharedTreeRule}
-use Rattle.routes.proofs.Definitions.OpenTiers.{Opened, opened1, opened2, opened3, opened4, tiers-exactly}
-use Rattle.routes.proofs.Definitions.First.{wantedAt}
-use Rattle.routes.proofs.Definitions.SharedTrees.{AskedTree, asked-tree-router, tree-asked, tree-given, tree-refused, condition-exactly}
+use Rattle.routes.proofs.Definitions.Matching.OpenTiers.{Opened, opened1, opened2, opened3, opened4, tiers-exactly}
+use Rattle.routes.proofs.Definitions.Matching.First.{wantedAt}
+use Rattle.routes.proofs.Definitions.Matching.SharedTrees.{AskedTree, asked-tree-router, tree-asked, tree-given, tree-refused, condition-exactly}
 use Rattle.routes.proofs.Statements.MatchRule.{Asks, asks-found, asks-nothing, Served, table-match}
 
 -- a tree's query wants what the conditions of the tiers say

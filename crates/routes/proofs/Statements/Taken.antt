@@ -17,10 +17,10 @@ use Rattle.routes.specs.Query.{Wanted, meets, Query, Flow, flowQuery}
 use Rattle.routes.specs.Matching.{eligible, distinguisherOf, Found, nothing, found, matchIn}
 use Rattle.routes.specs.Rules.MatchRule.{InTier, bothEqual, sourceEqual, groupEqual, bothWildcard, Eligible, Taken, NoneTaken}
 use Rattle.routes.proofs.Definitions.Lookups.{one-member}
-use Rattle.routes.proofs.Definitions.Conditions.{qualified, qualifies, distinguisher-is, same-nlri}
-use Rattle.routes.proofs.Definitions.First.{First, wantedAt, first-none, first-least, first-below, first-is}
-use Rattle.routes.proofs.Definitions.OpenTiers.{Opened, opened1, opened2, opened3, opened4, tiers-exactly}
-use Rattle.routes.proofs.Definitions.Flows.{AskedFlow}
+use Rattle.routes.proofs.Definitions.Matching.Conditions.{qualified, qualifies, distinguisher-is, same-nlri}
+use Rattle.routes.proofs.Definitions.Matching.First.{First, wantedAt, first-none, first-least, first-below, first-is}
+use Rattle.routes.proofs.Definitions.Matching.OpenTiers.{Opened, opened1, opened2, opened3, opened4, tiers-exactly}
+use Rattle.routes.proofs.Definitions.Matching.Flows.{AskedFlow}
 use Rattle.routes.proofs.Statements.ArgumentRules.{argumentRule, nlri-accepts}
 
 -- a query whose tiers want exactly what their conditions say

@@ -1,5 +1,5 @@
 -- Whom calls belong to, what the premise counts, and what books answer and hold, in document 01's notions ("Mixed calls and each router's
--- book"). Stated here, proved in proofs/Statements/BookRules.antt.
+-- book"). Stated here, proved in proofs/Statements/Mixed/BookRules.antt.
 use Prim.Native.Nat.{ℕ, _≤_}
 use mathlib.Core.Path.{_≡_}
 use mathlib.Core.List.{List, [], _∷_, _++_}

@@ -1,6 +1,6 @@
 -- The claim on mixed calls (document 01, "Mixed calls and each router's book"; demand 3: on one table each router's calls get the answers of
 -- its own book, as if no other router had called). Stated here over what specs/Rules/BookRules.antt says of owners, premise and
--- books; proved in proofs/Statements/MixedCalls.antt.
+-- books; proved in proofs/Statements/Mixed/MixedCalls.antt.
 use Prim.Native.Nat.{ℕ}
 use mathlib.Core.Path.{_≡_}
 use mathlib.Core.List.{List, [], _∷_, _++_}

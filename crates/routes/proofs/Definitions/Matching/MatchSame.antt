@@ -12,8 +12,8 @@ use Rattle.routes.specs.Arguments.{readSPmsi}
 use Rattle.routes.specs.Matching.{matchIn}
 use Rattle.routes.specs.Call.{originatorOf, ownedBy}
 use Rattle.routes.proofs.Definitions.Lookups.{lookup-member, lookup-of-member}
-use Rattle.routes.proofs.Definitions.Conditions.{qualified}
-use Rattle.routes.proofs.Definitions.First.{Carried, first-is, first-unique}
+use Rattle.routes.proofs.Definitions.Matching.Conditions.{qualified}
+use Rattle.routes.proofs.Definitions.Matching.First.{Carried, first-is, first-unique}
 
 module _ (afi : ℕ) (router : List ℕ) where
   own-nlri : (nlri : List ℕ) (f : Fields) → readSPmsi afi nlri ≡ given f → f .originator ≡ router → ownedBy router (originatorOf afi nlri) ≡ true

@@ -27,7 +27,7 @@ use Rattle.routes.specs.Query.{Query}
 use Rattle.routes.specs.SharedTree.{SharedTree, originatorSized, stateSized, readSourceActive, sourceActiveFault, judgedTree, isState, lacksState, conditionHolds, treeQuery, readTree}
 use Rattle.routes.specs.Rules.ArgumentRules.{KnownFamily, RouterSized, FamilySized}
 use Rattle.routes.specs.Rules.SharedTreeRule.{SourceActive, Lent, WithoutState, Condition, isUpstream, isWithoutState, isBidirectional, isUnused, FewItems, Addressed, AllRead, GoodTree, FirstRefused, SharedTreeRefusal, longList, shortList, badAddress, badSourceActive, tooSmall}
-use Rattle.routes.proofs.Definitions.Flows.{class-under, class-given, class-refused, Classed, classed, family-sized, multicast-classed, multicast-family}
+use Rattle.routes.proofs.Definitions.Matching.Flows.{class-under, class-given, class-refused, Classed, classed, family-sized, multicast-classed, multicast-family}
 use Rattle.routes.proofs.Definitions.ByArguments.{number-source-active}
 use Rattle.routes.proofs.Statements.ArgumentRules.{type-exactly, type-refused-exactly}
 

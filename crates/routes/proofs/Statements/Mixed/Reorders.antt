@@ -14,7 +14,7 @@ use Rattle.routes.specs.Run.{Answered, imageOfBooks}
 use Rattle.routes.proofs.Definitions.Lookups.{lookup-arranged, increasing-equal}
 use Rattle.routes.proofs.Definitions.Ownership.{owned-by}
 use Rattle.routes.proofs.Definitions.AllBooks.{lookup-all, lookup-nobody, increasing-books}
-use Rattle.routes.proofs.Statements.DueSteps.{dueAnswers, due-owned, due-nobody}
+use Rattle.routes.proofs.Statements.Mixed.DueSteps.{dueAnswers, due-owned, due-nobody}
 use Rattle.octets.proofs.Chosen.{chosen-first, chosen-later, chosen-append, chosen-passes, chosen-all, chosen-rearranged}
 use Rattle.routes.proofs.Definitions.ByOwner.{is-nobody, by-owner}
 

@@ -16,8 +16,8 @@ use Rattle.routes.specs.Query.{Wanted, noRoute, meets, Query}
 use Rattle.routes.specs.Matching.{eligible, Found, nothing, found, orElse, firstOf, matchIn}
 use Rattle.routes.specs.Rules.MatchRule.{NamesTunnel}
 use Rattle.routes.proofs.Definitions.Lookups.{one-member}
-use Rattle.routes.proofs.Definitions.Lowest.{None, Least, Lowest, lowest-is, lowest-ignored}
-use Rattle.routes.proofs.Definitions.Conditions.{qualified, same-nlri}
+use Rattle.routes.proofs.Definitions.Matching.Lowest.{None, Least, Lowest, lowest-is, lowest-ignored}
+use Rattle.routes.proofs.Definitions.Matching.Conditions.{qualified, same-nlri}
 
 module _ (afi : ℕ) (router : List ℕ) where
   -- the answer of these tiers, numbered from `tier` on

@@ -15,8 +15,8 @@ use Rattle.routes.specs.Route.{Route, Distinct}
 use Rattle.routes.specs.Query.{Wanted, Query}
 use Rattle.routes.specs.Matching.{eligible, distinguisherOf, Found, nothing, found, matchIn}
 use Rattle.routes.specs.OnePass.{tierFrom, ahead, against, better, scanned}
-use Rattle.routes.proofs.Definitions.Lowest.{Least}
-use Rattle.routes.proofs.Definitions.First.{First, nowhere, here, past, first-range, first-is, first-unique}
+use Rattle.routes.proofs.Definitions.Matching.Lowest.{Least}
+use Rattle.routes.proofs.Definitions.Matching.First.{First, nowhere, here, past, first-range, first-is, first-unique}
 
 better-nowhere : (afi : ℕ) (r : Route) → better afi 0 r nothing ≡ nothing
 unfolding better

@@ -29,7 +29,7 @@ use Rattle.routes.specs.Run.{Step, stepOf, Answered, imageOfBooks, Fits}
 use Rattle.routes.proofs.Definitions.Lookups.{lookup-inserted, lookup-removed, lookup-arranged, holds-alike, increasing-equal, increasing-inserted, increasing-removed, distinct-increasing, length-inserted-new, absent-holds, removed-absent}
 use Rattle.routes.proofs.Definitions.Bounds.{route-read}
 use Rattle.routes.proofs.Statements.Images.{images}
-use Rattle.routes.proofs.Definitions.MatchSame.{match-same}
+use Rattle.routes.proofs.Definitions.Matching.MatchSame.{match-same}
 use Rattle.routes.proofs.Definitions.Ownership.{acceptable-after-none, owned-by}
 use Rattle.routes.proofs.Definitions.Acts.{Known, enters, leaves, asks, argued-cases}
 use Rattle.routes.proofs.Definitions.Books.{heldBy, heldAfter}

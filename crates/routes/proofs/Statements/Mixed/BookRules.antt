@@ -27,9 +27,9 @@ use Rattle.routes.proofs.Definitions.Ownership.{owner-read, owner-nobod
 use Rattle.routes.proofs.Definitions.Acts.{owned}
 use Rattle.routes.proofs.Definitions.Named.{named-exactly}
 use Rattle.routes.proofs.Definitions.AllBooks.{distinct-book, acceptable-book, lookup-foreign, lookup-all, lookup-nobody, distinct-all, increasing-books, holdable-books}
-use Rattle.routes.proofs.Statements.DueSteps.{due-owned, due-nobody}
-use Rattle.routes.proofs.Statements.Reorders.{own-then, own-not}
-use Rattle.routes.proofs.Statements.BookSteps.{refused-call, book-step}
+use Rattle.routes.proofs.Statements.Mixed.DueSteps.{due-owned, due-nobody}
+use Rattle.routes.proofs.Statements.Mixed.Reorders.{own-then, own-not}
+use Rattle.routes.proofs.Statements.Mixed.BookSteps.{refused-call, book-step}
 
 -- owners
 

@@ -10,8 +10,8 @@ use Rattle.octets.specs.Choice.{pick}
 use Rattle.octets.proofs.Choice.{opposite, pick-case}
 use Rattle.nlri.specs.Fields.{Fields}
 use Rattle.routes.specs.Query.{Wanted, noRoute, wantedIf, meets, tiersOf}
-use Rattle.routes.proofs.Definitions.Conditions.{meets-exactly}
-use Rattle.routes.proofs.Definitions.First.{wantedAt}
+use Rattle.routes.proofs.Definitions.Matching.Conditions.{meets-exactly}
+use Rattle.routes.proofs.Definitions.Matching.First.{wantedAt}
 
 module _ (source group : List ℕ) (exact anyGroup anySource any : Bool) (f : Fields) where
   -- fields of a tier that is open

@@ -16,11 +16,11 @@ use Rattle.routes.proofs.Statements.Images.{images}
 use Rattle.routes.proofs.Statements.MakeRules.{made-holdable}
 use Rattle.octets.proofs.Chosen.{chosen-among, chosen-first, chosen-later}
 use Rattle.octets.proofs.Among.{among-rearranged}
-use Rattle.routes.proofs.Statements.Runs.{fits-drawn, fits-earlier, next-step, answers-due, end-due}
-use Rattle.routes.proofs.Statements.DueSteps.{dueStep, dueAnswers}
-use Rattle.routes.proofs.Statements.Reorders.{own-answers, same-own, same-answers, same-books}
-use Rattle.routes.proofs.Statements.BookRules.{owns-true, owns-false, ownerRule, premiseRule, bookRule, image-rule}
-use Rattle.routes.proofs.Statements.Turns.{in-turn}
+use Rattle.routes.proofs.Statements.Mixed.Runs.{fits-drawn, fits-earlier, next-step, answers-due, end-due}
+use Rattle.routes.proofs.Statements.Mixed.DueSteps.{dueStep, dueAnswers}
+use Rattle.routes.proofs.Statements.Mixed.Reorders.{own-answers, same-own, same-answers, same-books}
+use Rattle.routes.proofs.Statements.Mixed.BookRules.{owns-true, owns-false, ownerRule, premiseRule, bookRule, image-rule}
+use Rattle.routes.proofs.Statements.Mixed.Turns.{in-turn}
 
 -- a table just made holds the books of no call
 made-books : (afi places : ℕ) → imageOf afi places [] ≡ imageOfBooks afi places []

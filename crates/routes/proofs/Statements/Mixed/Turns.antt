@@ -17,7 +17,7 @@ use Rattle.octets.proofs.Chosen.{chosen-append, chosen-passes, chosen-all, chos
 use Rattle.routes.proofs.Definitions.Ownership.{owner-nobody, owners-same, owned-by}
 use Rattle.routes.proofs.Definitions.AllBooks.{own-none}
 use Rattle.routes.proofs.Definitions.ByOwner.{is-nobody, by-owner}
-use Rattle.routes.proofs.Statements.Reorders.{own-again}
+use Rattle.routes.proofs.Statements.Mixed.Reorders.{own-again}
 
 module _ (afi : ℕ) (calls : List Call) where
   -- those of one are not those of another

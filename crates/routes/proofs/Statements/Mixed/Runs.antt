@@ -10,7 +10,7 @@ use Rattle.octets.specs.Lists.{Among}
 use Rattle.octets.proofs.Among.{among-left}
 use Rattle.routes.proofs.Definitions.OnceEach.{once-each-fewer}
 use Rattle.routes.proofs.Definitions.Named.{named-exactly}
-use Rattle.routes.proofs.Statements.DueSteps.{dueStep, dueAnswers, due-step}
+use Rattle.routes.proofs.Statements.Mixed.DueSteps.{dueStep, dueAnswers, due-step}
 
 -- the premise
 

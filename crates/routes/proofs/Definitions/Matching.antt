@@ -1,0 +1,9 @@
+-- Which route a match takes, of a flow and for a shared tree.
+pub mod Lowest
+pub mod Conditions
+pub mod First
+pub mod OpenTiers
+pub mod MatchSame
+pub mod OnePass
+pub mod Flows
+pub mod SharedTrees
