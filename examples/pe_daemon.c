@@ -1,7 +1,7 @@
 /*
  * A provider edge router's use of mvpn.h. It reads BGP UPDATE messages, keeps the S-PMSI A-D and Source Active A-D routes of
- * one VRF in them, and tells which route and which tunnel a customer flow (C-S,C-G) or a shared tree (C-*,C-G) takes, and of a
- * flow also why. At the end it lists its tables.
+ * one VRF in them, also while the session is down by which they come (RFC 4724), and tells which route and which tunnel a
+ * customer flow (C-S,C-G) or a shared tree (C-*,C-G) takes, and of a flow also why. At the end it lists its tables.
  *
  *     pe_daemon [--pieces OCTETS] FILE [REQUEST]...
  *
@@ -17,7 +17,8 @@
  *
  * Only this file calls the library; pe_daemon/update.c takes BGP messages apart, requests.c the command line, lists.c keeps
  * what is lent in lists, words.c prints. There is one peer and one VRF, so every route is the best path and every route is
- * imported; a router with more chooses first and then installs.
+ * imported; a router with more chooses first and then installs. An OPEN behind routes says that the session was lost and is
+ * opened again.
  */
 #include "mvpn.h"
 #include "pe_daemon/lists.h"
@@ -30,7 +31,7 @@
 #include <string.h>
 
 /* The memory of a family's table, for 64 routes. A call looks at all of it, so it is made no larger than needed. */
-enum { TABLE_SIZE = MVPN_TABLE_SIZE(64) };
+enum { PLACES = 64, TABLE_SIZE = MVPN_TABLE_SIZE(PLACES) };
 
 /* One address family of a VRF. */
 typedef struct {
@@ -39,8 +40,9 @@ typedef struct {
     customer_states states;
 } customer_family;
 
-/* NLRIs, by what became of them. A withdrawal of a route that is not there is no refusal: nothing is wrong with it. */
-typedef struct { size_t added, replaced, withdrawn, absent, refused; } changes;
+/* NLRIs, by what became of them. A withdrawal of a route that is not there is no refusal: nothing is wrong with it. Routes that
+ * were stale and went are of no NLRI that came. */
+typedef struct { size_t added, replaced, withdrawn, absent, refused, gone; } changes;
 
 /* NLRIs of a run, each where it stands in the run, kept until it is known that nothing of the run is damaged. Those of unknown
  * route types are not among them. */
@@ -182,6 +184,93 @@ static void forget_source(customer_vrf *vrf, uint16_t afi, octets nlri)
     bool forgotten = forget_source_active(&family_of(vrf, afi)->sources, nlri);
     *(forgotten ? &vrf->sources.withdrawn : &vrf->sources.absent) += 1;
     printf("%s", forgotten ? "withdrawn" : "not withdrawn, it was not kept");
+}
+
+/* ---- graceful restart (RFC 4724, section 4.2) */
+
+/* Routers, each once. */
+typedef struct {
+    mvpn_address of[PLACES];
+    size_t count;
+} routers;
+
+/* An address that the library gives has zeros behind its octets. */
+static void add_router(routers *known, const mvpn_address *router)
+{
+    for (size_t i = 0; i < known->count; i++)
+        if (memcmp(&known->of[i], router, sizeof *router) == 0)
+            return;
+    known->of[known->count++] = *router;
+}
+
+/* The originators of a table's routes, which are no more than its places. The peer may be a route reflector, and have sent routes
+ * of many. It is the only one here; a router with several peers keeps for each the originators whose routes came from it. */
+static routers originators_in(uint16_t afi, const uint8_t *table)
+{
+    uint8_t nlri[MVPN_MATCH_OUTPUT], route[MVPN_MATCH_OUTPUT];
+    routers found = { .count = 0 };
+    mvpn_following next;
+    size_t size = 0;
+    while ((next = mvpn_next(table, TABLE_SIZE, nlri, size, route, sizeof route)).nlri_size > 0) {
+        size = next.nlri_size;
+        memcpy(nlri, route, size);
+        mvpn_nlri fields = mvpn_nlri_read(afi, nlri, size).nlri;
+        add_router(&found, &fields.originator);
+    }
+    return found;
+}
+
+static void print_restarted(bool lost, size_t gone)
+{
+    if (gone > 0)
+        printf("%zu went, %s", gone, lost ? "stale since the session was lost before; any others are " : "not announced again");
+    printf("%s\n", lost ? "stale from now on" : "");
+}
+
+/* Where the session was lost, marks the routes of each originator, once; else sweeps what is still marked. The tables are sound
+ * and originators have 4 or 16 octets, so no call is refused. */
+static void restart_family(customer_vrf *vrf, uint16_t afi, bool lost)
+{
+    routers originators = originators_in(afi, table_of(vrf, afi));
+    source_actives *sources = &family_of(vrf, afi)->sources;
+    bool has_sources = sources->count > 0;
+    for (size_t i = 0; i < originators.count; i++) {
+        const mvpn_address *router = &originators.of[i];
+        mvpn_restarted restarted = (lost ? mvpn_mark : mvpn_sweep)(table_of(vrf, afi), TABLE_SIZE, router->octets, router->size);
+        vrf->routes.gone += restarted.gone;
+        if (lost || restarted.gone > 0) {
+            printf("  %s, S-PMSI A-D routes of ", family_name(afi));
+            print_address(router->octets, router->size);
+            printf(": ");
+            print_restarted(lost, restarted.gone);
+        }
+    }
+    size_t gone = restart_source_actives(sources, lost);
+    vrf->sources.gone += gone;
+    if (gone > 0 || (lost && has_sources)) {
+        printf("  %s, Source Active A-D routes: ", family_name(afi));
+        print_restarted(lost, gone);
+    }
+}
+
+static bool holds_routes(customer_vrf *vrf, uint16_t afi)
+{
+    return mvpn_table_info(table_of(vrf, afi), TABLE_SIZE).routes > 0 || family_of(vrf, afi)->sources.count > 0;
+}
+
+/* What is held came by the session before. A router keeps the families that the peer's Graceful Restart Capability named in the
+ * OPEN before, sweeps at once those of which this one does not say that their forwarding state was kept, and sweeps all if the
+ * session is down for longer than the Restart Time. Here the capability is not read and there is no clock: both families are kept
+ * until their End-of-RIB. */
+static void use_open(customer_vrf *vrf)
+{
+    if (!holds_routes(vrf, MVPN_AFI_IPV4) && !holds_routes(vrf, MVPN_AFI_IPV6)) {
+        printf("\n");
+        return;
+    }
+    printf(": the session was lost and is opened again\n");
+    restart_family(vrf, MVPN_AFI_IPV4, true);
+    restart_family(vrf, MVPN_AFI_IPV6, true);
 }
 
 /* ---- the NLRIs of an attribute */
@@ -328,14 +417,16 @@ static void drop(customer_vrf *vrf, fault damage, octets from)
     printf("\n");
 }
 
-/* End-of-RIB: the peer has sent all its routes of a family. It is an UPDATE that has none: of IPv4 unicast nothing at all, of
- * another family only MP_UNREACH_NLRI (RFC 4724, section 2). */
-static bool print_end_of_rib(const update *found)
+/* End-of-RIB: the peer has sent all its routes of a family, so what is still stale of them goes. It is an UPDATE that has none:
+ * of IPv4 unicast nothing at all, of another family only MP_UNREACH_NLRI (RFC 4724, section 2). Whether it is one. */
+static bool use_end_of_rib(customer_vrf *vrf, const update *found)
 {
     bool is_unicast = found->attributes == 0, is_ours = found->attributes == 1 && found->unreach.afi;
     if (found->unicast > 0 || found->unreach.run.size > 0 || !(is_unicast || is_ours))
         return false;
     printf("End-of-RIB, %s %s\n", is_unicast ? "IPv4" : family_name(found->unreach.afi), is_unicast ? "unicast" : "MCAST-VPN");
+    if (is_ours)
+        restart_family(vrf, found->unreach.afi, false);
     return true;
 }
 
@@ -348,7 +439,7 @@ static void use_update(customer_vrf *vrf, octets message)
         drop(vrf, damage, behind(message, damage.offset));
         return;
     }
-    if (print_end_of_rib(&found))
+    if (use_end_of_rib(vrf, &found))
         return;
     printf("path attributes %zu, of them not used %zu\n", found.attributes, found.unused);
     if (found.unreach.afi)
@@ -365,7 +456,9 @@ static void use_message(customer_vrf *vrf, octets message)
     if (type == BGP_UPDATE) {
         printf(": ");
         use_update(vrf, message);
-    } else if (name)
+    } else if (type == BGP_OPEN)
+        use_open(vrf);
+    else if (name)
         printf("\n");
     else {
         printf(": ");
@@ -395,8 +488,8 @@ static bool use_messages(customer_vrf *vrf, FILE *input)
 
 static void print_changes(const char *of, const changes *made)
 {
-    printf("%s: new %zu, replaced %zu, withdrawn %zu, absent %zu, refused %zu\n", of, made->added, made->replaced,
-           made->withdrawn, made->absent, made->refused);
+    printf("%s: new %zu, replaced %zu, withdrawn %zu, absent %zu, refused %zu, gone as stale %zu\n", of, made->added,
+           made->replaced, made->withdrawn, made->absent, made->refused, made->gone);
 }
 
 static void print_counts(const customer_vrf *vrf)
@@ -537,13 +630,13 @@ static void answer_shared_tree(customer_vrf *vrf, const request *tree)
 /* ---- the tables */
 
 /* A route as a match writes it: its NLRI and, straight after it, its attribute. */
-static void print_held(uint16_t afi, const uint8_t *route, mvpn_following sizes)
+static void print_held(uint16_t afi, const uint8_t *route, mvpn_following told)
 {
-    const uint8_t *attribute = route + sizes.nlri_size;
-    mvpn_attribute_reading tunnel = mvpn_attribute_read(attribute, sizes.attribute_size);
+    const uint8_t *attribute = route + told.nlri_size;
+    mvpn_attribute_reading tunnel = mvpn_attribute_read(attribute, told.attribute_size);
     printf("  ");
-    print_nlri(afi, (octets){ route, sizes.nlri_size });
-    printf("\n    ");
+    print_nlri(afi, (octets){ route, told.nlri_size });
+    printf("%s\n    ", told.stale ? ": stale, not announced again since the session was lost" : "");
     print_tunnel(&tunnel);
     if (tunnel.identifier.size > 0) {
         printf("; ");

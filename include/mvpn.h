@@ -1,10 +1,12 @@
 /*
  * mvpn.h: MCAST-VPN NLRI (RFC 6514, RFC 6625, RFC 7441) and the PMSI Tunnel attribute (RFC 6514, RFC 8556), read and written; one
  * VRF's S-PMSI A-D routes for one address family, kept in memory that the caller lends, and the route that a customer
- * flow (C-S,C-G) or a shared tree (C-*,C-G) takes; of a flow also why; the routes of a table, one after another.
+ * flow (C-S,C-G) or a shared tree (C-*,C-G) takes; of a flow also why; the routes of a table, one after another; a router's
+ * routes kept while it restarts (RFC 4724).
  *
- * Best paths, Route Targets, BGP sessions and joining tunnels are the daemon's. So is the knowledge of a shared tree that its
- * match is told: which PE is upstream, which groups are BIDIR-PIM, the Source Active routes and the (C-S,C-G) states.
+ * Best paths, Route Targets, BGP sessions with their timers, and joining tunnels are the daemon's. So is the knowledge of a
+ * shared tree that its match is told: which PE is upstream, which groups are BIDIR-PIM, the Source Active routes and the
+ * (C-S,C-G) states.
  *
  * Every call ends with a stated answer on any octets. A call that refuses returns its number, changes no octet of any
  * buffer, and leaves every other field of its answer 0, but for what a walk counts and its offset, the cursor of a step, and
@@ -17,8 +19,8 @@
  * Threads: the library keeps nothing between calls, has no state of its own, and takes no memory and no lock, so any
  * thread may make any call, and an answer depends on the call's arguments alone. Octets that are only read may be lent to
  * several calls at once; a buffer that a call writes is used by nobody else until the call ends. A table is written by make,
- * install and withdraw alone: matches, explanations and listings may run at once on one table while none of those does, and
- * seeing to that is the caller's. Calls on different tables are independent. A call takes at most 2 KiB of stack.
+ * install, withdraw, mark and sweep alone: matches, explanations and listings may run at once on one table while none of those
+ * does, and seeing to that is the caller's. Calls on different tables are independent. A call takes at most 2 KiB of stack.
  *
  * Octets are in network order, as on the wire. AFI is 1 (IPv4) or 2 (IPv6), the whole 16-bit number.
  */
@@ -29,10 +31,10 @@
 #include <stdint.h>
 
 /* The version of this header and its archive; before 1.0.0 a new minor version may change calls. */
-#define MVPN_VERSION "0.11.1"
+#define MVPN_VERSION "0.12.0"
 #define MVPN_VERSION_MAJOR 0
-#define MVPN_VERSION_MINOR 11
-#define MVPN_VERSION_PATCH 1
+#define MVPN_VERSION_MINOR 12
+#define MVPN_VERSION_PATCH 0
 
 /* The version as one number, an octet for each part: what mvpn_version gives, where header and archive are of one version. */
 #define MVPN_VERSION_NUMBER (MVPN_VERSION_MAJOR * 65536 + MVPN_VERSION_MINOR * 256 + MVPN_VERSION_PATCH)
@@ -313,11 +315,13 @@ mvpn_written mvpn_attribute_write(uint8_t flags, uint8_t tunnel_type, uint32_t l
 
 /*
  * A table: 8 octets of header, then 0 to 500 places of 128 octets. A place holds one S-PMSI A-D route, its NLRI with its
- * PMSI Tunnel attribute. Routes stand in the order of their NLRIs, octet by octet, and every octet behind them is 0, so for
- * one family and number of places a set of routes has one image. A table may be copied, stored and lent again anywhere.
+ * PMSI Tunnel attribute, and in its last octet the route's mark: 1 where it is stale (mvpn_mark), else 0. Routes stand in the
+ * order of their NLRIs, octet by octet, and every octet behind them is 0, so for one family and number of places a set of routes
+ * with their marks has one image. A table may be copied, stored and lent again anywhere; one of an earlier version of the
+ * library is a table whose routes have no marks.
  *
- * Install, withdraw, both matches, explain, next and table_info look at every octet of the table, and refuse one that is not
- * sound; beyond that, their cost grows with the places that are taken.
+ * Install, withdraw, mark, sweep, both matches, explain, next and table_info look at every octet of the table, and refuse one
+ * that is not sound; beyond that, their cost grows with the places that are taken.
  *
  * A daemon with more than 500 routes keeps a table for each originator: the candidates of a match are those of the router that
  * it asks about, so the answers are those of one table that holds all routes.
@@ -397,24 +401,75 @@ uint32_t mvpn_make(uint16_t afi, uint8_t *table, size_t table_len);
 /*
  * Installs an S-PMSI A-D route with its attribute, or gives a route that the table holds this attribute. TABLE, then NLRI
  * reading under the table's AFI (LENGTH for octets after it), KIND, attribute reading, LABEL, ROOM. A route that the table
- * holds is replaced in a full table too. A refusal leaves the attribute that the route had: a daemon that treats a bad
- * update as a withdrawal withdraws it itself.
+ * holds is replaced in a full table too, and its mark goes, also where it has this attribute already. A refusal leaves the
+ * attribute and the mark that the route had: a daemon that treats a bad update as a withdrawal withdraws it itself.
  */
 mvpn_installed mvpn_install(uint8_t *table, size_t table_len, const uint8_t *nlri, size_t nlri_len,
                             const uint8_t *attribute, size_t attribute_len);
 
 /*
- * Takes the route with this NLRI out of the table; its room is used again. TABLE, then NLRI reading under the table's AFI
- * (LENGTH for octets after it), KIND, ABSENT.
+ * Takes the route with this NLRI out of the table, marked or not; its room is used again. TABLE, then NLRI reading under the
+ * table's AFI (LENGTH for octets after it), KIND, ABSENT.
  */
 uint32_t mvpn_withdraw(uint8_t *table, size_t table_len, const uint8_t *nlri, size_t nlri_len);
+
+/*
+ * Graceful restart (RFC 4724, section 4.2): while the session is down by which a router's routes come, they stay in the table,
+ * marked as stale, and are matched as before.
+ *   - The session is lost: mvpn_mark for each originator whose routes came by it, once each. A route that is marked already was
+ *     not advertised again since the session was lost before, and goes; so a second mark for the same loss would take all.
+ *   - A route is advertised again: mvpn_install takes its mark off. One that is withdrawn goes, marked or not.
+ *   - End-of-RIB of the table's family comes; or the peer's Restart Time, or a timer of the daemon's, runs out; or the session
+ *     comes back without the family's forwarding state: mvpn_sweep for each of these originators.
+ * Where routes went, the daemon matches anew the flows of that router. Of a table all of whose routes come by one session,
+ * these lines mark every originator's where `lost`, else sweep them:
+ *
+ *     uint8_t nlri[MVPN_MATCH_OUTPUT], route[MVPN_MATCH_OUTPUT];
+ *     mvpn_address originators[MVPN_MOST_PLACES];
+ *     mvpn_following next;
+ *     mvpn_restarted restarted;
+ *     size_t count = 0, size = 0, i;
+ *     for (;;) {
+ *         next = mvpn_next(table, table_len, nlri, size, route, sizeof route);
+ *         if (next.nlri_size == 0) break;
+ *         size = next.nlri_size;
+ *         memcpy(nlri, route, size);
+ *         originators[count] = mvpn_nlri_read(afi, nlri, size).nlri.originator;
+ *         i = 0;
+ *         while (memcmp(&originators[i], &originators[count], sizeof originators[i]) != 0) i++;
+ *         if (i == count) count++;
+ *     }
+ *     if (next.number != MVPN_DONE) table_refused(next.number);
+ *     for (i = 0; i < count; i++) {
+ *         restarted = (lost ? mvpn_mark : mvpn_sweep)(table, table_len, originators[i].octets, originators[i].size);
+ *         if (restarted.gone > 0) match_anew(&originators[i]);
+ *     }
+ *
+ * A mark knows originators, and no sessions. Where one session carries the routes of several originators, as a route reflector's
+ * does, each of them is marked. Where the routes of one originator come by two sessions, a mark cannot tell by which of them a
+ * route came: after the mark for the one that was lost the daemon installs again what it has by the other one, so that what is
+ * swept is what it has by neither; and before a mark for the other one's loss it installs again what is marked and is to stay.
+ */
+typedef struct { uint32_t number, gone; } mvpn_restarted; /* how many routes went */
+
+/*
+ * Marks the routes whose originator equals `router` in size and octets as stale; those of them that are marked already go, and
+ * their room is used again. TABLE, FLOW (a router address not of 4 or 16 octets). A router without routes: DONE, and 0 went.
+ */
+mvpn_restarted mvpn_mark(uint8_t *table, size_t table_len, const uint8_t *router, size_t router_len);
+
+/*
+ * Takes the routes out of the table that are still marked, of those whose originator equals `router` in size and octets; their
+ * room is used again. TABLE, FLOW (a router address not of 4 or 16 octets). A router without such routes: DONE, and 0 went.
+ */
+mvpn_restarted mvpn_sweep(uint8_t *table, size_t table_len, const uint8_t *router, size_t router_len);
 
 /*
  * The route that the flow (source, group) takes (RFC 6625, section 3), among those whose originator equals `router` in size
  * and octets, ourselves for sending, the upstream PE for receiving, and whose tunnel type is not 0. A route of tunnel type 0
  * asks for tracking and names no tunnel: it is installed, replaced and withdrawn like others, and passed over here (RFC 8556,
- * section 4.1). TABLE, FLOW, SPACE (an output under MVPN_MATCH_OUTPUT octets, also where the answer would fit or nothing
- * matches).
+ * section 4.1). A route that is marked as stale is matched as one that is not, here and by the calls below. TABLE, FLOW, SPACE
+ * (an output under MVPN_MATCH_OUTPUT octets, also where the answer would fit or nothing matches).
  *
  * The lowest tier that has such a route wins:
  *   1  source and group both equal
@@ -496,6 +551,7 @@ mvpn_matched mvpn_match_shared(const uint8_t *table, size_t table_len, const uin
 typedef struct {
     uint32_t number;
     uint32_t nlri_size, attribute_size; /* 0: no route comes after */
+    uint32_t stale;                     /* 1: the route told is marked as stale; else 0 */
 } mvpn_following;
 
 /*
@@ -505,7 +561,7 @@ typedef struct {
  * after).
  *
  * The NLRI is written at the front of the output and the attribute straight after it, as by a match; octets past them are
- * untouched. Where no route comes after: DONE with both sizes 0 and the output untouched. The loop that lists a table:
+ * untouched. Where no route comes after: DONE with the other fields 0, and the output untouched. The loop that lists a table:
  *
  *     uint8_t nlri[MVPN_MATCH_OUTPUT], route[MVPN_MATCH_OUTPUT];
  *     mvpn_following next;

@@ -70,6 +70,11 @@ listing_loop() {
     sed -n "/The loop that lists a table:/,/\*\//s/^ \*     //p" "$header"
 }
 
+# The lines that the header shows to callers whose session was lost, or has sent all its routes again.
+restart_lines() {
+    sed -n "/else sweep them:/,/\*\//s/^ \*     //p" "$header"
+}
+
 # Where mvpn(3) ends the first part of a run that is too long.
 first_part() {
     sed -n "/^The first part of a run ends here:/,/^\.fi/p" man/mvpn.3 | sed -e 1d -e '/^\./d' -e 's/\\-/-/g'

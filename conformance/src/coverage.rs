@@ -1,5 +1,5 @@
-//! What the comparison has met: the numbers of each call, route types, families, tunnel types, group classes, outcomes,
-//! tiers and kinds of sequence.
+//! What the comparison has met: the numbers of each call, route types, families, tunnel types, group classes, outcomes, routes
+//! that went, marks, tiers and kinds of sequence.
 
 use std::collections::BTreeMap;
 
@@ -21,6 +21,8 @@ pub enum Call {
     Make,
     Install,
     Withdraw,
+    Mark,
+    Sweep,
     Match,
     Explain,
     Next,
@@ -66,6 +68,12 @@ pub enum Seen {
     Tier(u16, u32),
     /// AFI, and whether a route comes next.
     Follows(u16, bool),
+    /// AFI, and the mark of the route that comes next.
+    Stale(u16, u32),
+    /// AFI, and how many routes went with a mark or a sweep; 3 stands for more.
+    Gone(u16, u32),
+    /// AFI and tier of a match of any kind that takes a marked route.
+    StaleTaken(u16, u32),
     /// A tier and the reason told of it.
     Reason(u32, u32),
     /// AFI and tier of a match of either kind that passes a route over which names no tunnel.
@@ -76,12 +84,18 @@ pub enum Seen {
     Places(u16, usize, bool),
     /// A call of a sequence that belongs to nobody.
     Nobody,
+    /// AFI, whether the premise of demand 3 holds, and an install that took a mark off or, where it was refused, did not.
+    Renewed(u16, bool, bool),
+    /// AFI, whether the premise holds, and a withdrawal of a marked route.
+    StaleWithdrawn(u16, bool),
+    /// AFI, whether the premise holds, whether by a mark, and whether routes went.
+    Restarted(u16, bool, bool, bool),
     /// AFI and tier of a sequence's match for a shared tree.
     SharedTree(u16, u32),
 }
 
 /// The numbers that each call can give (document 01, "The numbers a call gives back"; document 02).
-const NUMBERS: [(Call, &[u32]); 17] = [
+const NUMBERS: [(Call, &[u32]); 19] = [
     (Call::NlriRead, &[0, 1, 2, 3, 4, 5, 7, 10, 17]),
     (Call::NlriWrite, &[0, 2, 4, 5, 7, 8, 10, 16, 17]),
     (Call::Step, &[0, 1, 2, 3, 4, 5, 7, 8, 10, 17]),
@@ -94,6 +108,8 @@ const NUMBERS: [(Call, &[u32]); 17] = [
     (Call::Make, &[0, 10, 11]),
     (Call::Install, &[0, 1, 2, 3, 4, 5, 6, 7, 8, 9, 11, 12, 13, 17]),
     (Call::Withdraw, &[0, 1, 2, 3, 4, 5, 7, 11, 12, 14, 17]),
+    (Call::Mark, &[0, 11, 15]),
+    (Call::Sweep, &[0, 11, 15]),
     (Call::Match, &[0, 11, 15, 16]),
     (Call::Explain, &[0, 11, 15, 16]),
     (Call::Next, &[0, 11, 16]),
@@ -164,7 +180,23 @@ fn required() -> Vec<(Call, Seen)> {
 fn required_of_tables(afi: u16) -> Vec<(Call, Seen)> {
     let mut rows: Vec<_> = [Call::Make, Call::Withdraw, Call::TableInfo].map(|call| (call, Seen::Family(afi))).to_vec();
     rows.extend([true, false].map(|follows| (Call::Next, Seen::Follows(afi, follows))));
+    rows.extend([0, 1].map(|mark| (Call::Next, Seen::Stale(afi, mark))));
     rows.extend((1..=2).map(|outcome| (Call::Install, Seen::Outcome(afi, outcome))));
+    for gone in 0..=3 {
+        rows.extend([Call::Mark, Call::Sweep].map(|call| (call, Seen::Gone(afi, gone))));
+    }
+    for tier in 1..=4 {
+        rows.extend([Call::Match, Call::Explain].map(|call| (call, Seen::StaleTaken(afi, tier))));
+    }
+    rows.extend([3, 4].map(|tier| (Call::MatchShared, Seen::StaleTaken(afi, tier))));
+    for premise in [true, false] {
+        let changes =
+            [Seen::Renewed(afi, premise, true), Seen::Renewed(afi, premise, false), Seen::StaleWithdrawn(afi, premise)];
+        rows.extend(changes.map(|seen| (Call::Sequence, seen)));
+        for (mark, went) in [(true, true), (true, false), (false, true), (false, false)] {
+            rows.push((Call::Sequence, Seen::Restarted(afi, premise, mark, went)));
+        }
+    }
     for tier in 0..=4 {
         rows.extend([Seen::Tier(afi, tier), Seen::PassedOver(afi, tier)].map(|seen| (Call::Match, seen)));
         rows.push((Call::Explain, Seen::Tier(afi, tier)));

@@ -162,6 +162,15 @@ pub struct Installed {
     pub outcome: u32,
 }
 
+/// What mark and sweep answer.
+#[repr(C)]
+#[derive(Clone, Copy, Debug, Default, PartialEq, Eq)]
+pub struct Restarted {
+    pub number: u32,
+    /// How many routes went.
+    pub gone: u32,
+}
+
 #[repr(C)]
 #[derive(Clone, Copy, Debug, Default, PartialEq, Eq)]
 pub struct Matched {
@@ -186,6 +195,8 @@ pub struct Following {
     /// Both 0 where no route comes next.
     pub nlri_size: u32,
     pub attribute_size: u32,
+    /// 1 where the route is marked.
+    pub stale: u32,
 }
 
 #[repr(C)]
@@ -220,7 +231,8 @@ const _: () = assert!(
         && size_of::<Installed>() == 8
         && size_of::<Matched>() == 16
         && size_of::<Explained>() == 32
-        && size_of::<Following>() == 12
+        && size_of::<Restarted>() == 8
+        && size_of::<Following>() == 16
         && size_of::<TableInfo>() == 16
         && size_of::<SharedTree>() == 12
 );
@@ -242,6 +254,7 @@ pub mod raw {
     pub type Make = unsafe extern "C" fn(u16, *mut u8, usize) -> u32;
     pub type Install = unsafe extern "C" fn(*mut u8, usize, *const u8, usize, *const u8, usize) -> Installed;
     pub type Withdraw = unsafe extern "C" fn(*mut u8, usize, *const u8, usize) -> u32;
+    pub type Restart = unsafe extern "C" fn(*mut u8, usize, *const u8, usize) -> Restarted;
     #[rustfmt::skip]
     pub type Match = unsafe extern "C" fn(
         *const u8, usize, *const u8, usize, *const u8, usize, *const u8, usize, *mut u8, usize,
@@ -296,6 +309,8 @@ pub mod raw {
             attribute_len: usize,
         ) -> Installed;
         pub fn mvpn_withdraw(table: *mut u8, table_len: usize, nlri: *const u8, nlri_len: usize) -> u32;
+        pub fn mvpn_mark(table: *mut u8, table_len: usize, router: *const u8, router_len: usize) -> Restarted;
+        pub fn mvpn_sweep(table: *mut u8, table_len: usize, router: *const u8, router_len: usize) -> Restarted;
         pub fn mvpn_match(
             table: *const u8,
             table_len: usize,
@@ -410,6 +425,14 @@ pub fn install(table: &mut Lent, nlri: &mut Lent, attribute: &mut Lent) -> Insta
 
 pub fn withdraw(table: &mut Lent, nlri: &mut Lent) -> u32 {
     unsafe { raw::mvpn_withdraw(table.pointer(), table.len(), nlri.pointer(), nlri.len()) }
+}
+
+pub fn mark(table: &mut Lent, router: &mut Lent) -> Restarted {
+    unsafe { raw::mvpn_mark(table.pointer(), table.len(), router.pointer(), router.len()) }
+}
+
+pub fn sweep(table: &mut Lent, router: &mut Lent) -> Restarted {
+    unsafe { raw::mvpn_sweep(table.pointer(), table.len(), router.pointer(), router.len()) }
 }
 
 /// `flow` is the router, the source and the group.

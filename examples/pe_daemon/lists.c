@@ -25,6 +25,7 @@ keeping keep_source_active(source_actives *routes, octets nlri, octets originato
     route->nlri_size = nlri.size;
     memcpy(route->originator.octets, originator.at, originator.size);
     route->originator.size = (uint8_t)originator.size;
+    route->stale = false;
     routes->count += !again;
     return again ? KEPT_AGAIN : KEPT_NEW;
 }
@@ -37,6 +38,18 @@ bool forget_source_active(source_actives *routes, octets nlri)
         return false;
     routes->kept[place] = routes->kept[--routes->count];
     return true;
+}
+
+size_t restart_source_actives(source_actives *routes, bool lost)
+{
+    size_t before = routes->count;
+    routes->count = 0;
+    for (size_t i = 0; i < before; i++)
+        if (!routes->kept[i].stale) {
+            routes->kept[routes->count] = routes->kept[i];
+            routes->kept[routes->count++].stale = lost;
+        }
+    return before - routes->count;
 }
 
 /* ---- states */

@@ -15,6 +15,7 @@ typedef struct {
     mvpn_address originator;
     uint8_t nlri[LONGEST_SOURCE_ACTIVE];
     size_t nlri_size;
+    bool stale; /* not announced again since the session was lost */
 } source_active;
 
 /* No more than a list may have. No NLRI stands twice. */
@@ -31,6 +32,10 @@ keeping keep_source_active(source_actives *routes, octets nlri, octets originato
 
 /* Whether the route was kept. */
 bool forget_source_active(source_actives *routes, octets nlri);
+
+/* What the library does with the routes of a table: those that are stale go, and where the session was lost the others are then
+ * stale, until they are kept again. How many went. */
+size_t restart_source_actives(source_actives *routes, bool lost);
 
 /* ---- states */
 

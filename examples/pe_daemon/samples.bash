@@ -74,6 +74,17 @@ run shared.bin \
     state 2001:db8:1::1 239.1.1.1 \
     shared 10.0.0.1 239.1.1.1 upstream
 
+# A route that was announced again after each loss; one that went at the second loss; one that went at End-of-RIB, and one that
+# was announced again after it had gone; a shared tree whose Source Active routes have gone, one at a loss and one at End-of-RIB;
+# a route that is still stale, and is matched.
+run restart.bin \
+    10.0.0.1 192.0.2.1 232.1.1.1 \
+    10.0.0.1 192.0.2.9 232.1.1.1 \
+    10.0.0.1 192.0.2.1 232.1.1.2 \
+    10.0.0.2 192.0.2.1 232.1.1.1 \
+    shared 10.0.0.1 239.1.1.1 \
+    2001:db8::1 2001:db8:1::1 ff3e::1
+
 # Nothing was installed for the first flow, and what was installed for the second is gone again.
 run damaged.bin 10.0.0.1 192.0.2.1 239.1.1.1 10.0.0.1 192.0.2.1 232.1.1.1
 

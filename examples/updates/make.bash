@@ -239,6 +239,14 @@ message() {
     printf '%s%s%s%s' "$marker" "$(number 2 $((19 + ${#2} / 2)))" "$(number 1 "$1")" "$2"
 }
 
+# graceful_open FLAGS_AND_TIME: an OPEN (version 4, AS 100, hold time 90) with the Graceful Restart Capability (RFC 5492; RFC
+# 4724, section 3) for MCAST-VPN of IPv4 and IPv6, whose forwarding state was kept.
+graceful_open() {
+    local capability
+    capability=40$(sized 1 "${1}0001058000020580")
+    message 1 "04$(number 2 100)$(number 2 90)$(address 10.0.0.9)$(sized 1 "02$(sized 1 "$capability")")"
+}
+
 # update ATTRIBUTE...
 update() {
     local IFS=
@@ -398,6 +406,44 @@ shared() {
         "$(source_active 1:10.0.0.1:7 2001:db8:1::2 ff0e::1)")" "$(bier 00 1001 0 1 10.0.0.1)"
 }
 
+restart() {
+    local held every reflected tracked one another ipv6 pe=2001:db8::1
+    held=$(s_pmsi 0:100:7 192.0.2.1 232.1.1.1 10.0.0.1) every=$(s_pmsi 0:100:7 '*' '*' 10.0.0.1)
+    reflected=$(s_pmsi 0:100:8 '*' '*' 10.0.0.2) tracked=$(s_pmsi 0:100:7 192.0.2.3 239.1.1.1 10.0.0.1)
+    one=$(source_active 0:100:7 192.0.2.1 239.1.1.1) another=$(source_active 0:100:7 192.0.2.2 239.1.1.1)
+    ipv6=$(s_pmsi 0:100:7 '*' '*' $pe)
+
+    # a route reflector sends the routes of two PEs, for IPv6 those of a third and one of the first, and that is all
+    graceful_open 0078
+    update "$(usual)" "$(reach 1 "$held")" "$(mldp_p2mp 10.0.0.1 "$(generic 42)")"
+    update "$(usual)" "$(reach 1 "$every" "$(s_pmsi 0:100:7 '*' 239.1.1.1 10.0.0.1)")" "$(bier 00 1000 0 1 10.0.0.1)"
+    update "$(usual)" "$(reach 1 "$tracked")" "$(no_tunnel 01)"
+    update "$(usual)" "$(reach_by 10.0.0.2 1 "$reflected")" "$(ingress_replication 00 3000 10.0.0.2)"
+    update "$(usual)" "$(reach 1 "$one" "$another")"
+    update "$(usual)" "$(reach 2 "$ipv6" "$(s_pmsi 1:10.0.0.1:7 '*' '*' 10.0.0.1)")" "$(bier 01 1000 1 258 $pe)"
+    update "$(unreach 1)"
+    update "$(unreach 2)"
+
+    # lost: one route comes again as it was, one with another tunnel, one that is new; one that is stale is withdrawn; one source
+    # comes again; and for IPv6 one route, and that is all
+    graceful_open 8078
+    update "$(usual)" "$(reach 1 "$held")" "$(mldp_p2mp 10.0.0.1 "$(generic 42)")"
+    update "$(usual)" "$(reach 1 "$(s_pmsi 0:100:7 '*' 239.1.1.1 10.0.0.1)" "$(s_pmsi 0:100:7 192.0.2.1 '*' 10.0.0.1)")" \
+        "$(pim 3 10.0.0.1 232.0.0.1)"
+    update "$(unreach 1 "$tracked")"
+    update "$(usual)" "$(reach 1 "$one")"
+    update "$(usual)" "$(reach 2 "$ipv6")" "$(bier 01 1000 1 258 $pe)"
+    update "$(unreach 2)"
+
+    # lost again before the end of IPv4: the other PE's route, one for everything and one source did not come since, and go; then
+    # three routes come, and the end of IPv4, but not that of IPv6
+    graceful_open 8078
+    update "$(usual)" "$(reach 1 "$held")" "$(mldp_p2mp 10.0.0.1 "$(generic 42)")"
+    update "$(usual)" "$(reach 1 "$(s_pmsi 0:100:7 '*' 239.1.1.1 10.0.0.1)")" "$(pim 3 10.0.0.1 232.0.0.1)"
+    update "$(usual)" "$(reach_by 10.0.0.2 1 "$reflected")" "$(ingress_replication 00 3000 10.0.0.2)"
+    update "$(unreach 1)"
+}
+
 # Announces a route with a tunnel: announce NLRI TUNNEL.
 announce() {
     update "$(usual)" "$(reach 1 "$1")" "$2"
@@ -473,6 +519,6 @@ octets() {
     printf "$("$1" | sed 's/../\\x&/g')" >"$folder/$1.bin"
 }
 
-for sample in ipv4 ipv6 both shared damaged; do
+for sample in ipv4 ipv6 both shared restart damaged; do
     octets "$sample"
 done

@@ -21,7 +21,8 @@ static_assert(sizeof(mvpn_installed) == 8, "mvpn_installed");
 static_assert(sizeof(mvpn_matched) == 16, "mvpn_matched");
 static_assert(sizeof(mvpn_explained) == 32, "mvpn_explained");
 static_assert(sizeof(mvpn_shared_tree) == 12, "mvpn_shared_tree");
-static_assert(sizeof(mvpn_following) == 12, "mvpn_following");
+static_assert(sizeof(mvpn_restarted) == 8, "mvpn_restarted");
+static_assert(sizeof(mvpn_following) == 16, "mvpn_following");
 static_assert(sizeof(mvpn_table_facts) == 16, "mvpn_table_facts");
 static_assert(sizeof mvpn_no_items == 2, "mvpn_no_items");
 static_assert(MVPN_TABLE_SIZE(MVPN_MOST_PLACES) == 64008, "MVPN_TABLE_SIZE");
@@ -52,6 +53,8 @@ int main()
                        mvpn_make(1, output, 0) == MVPN_TABLE &&
                        mvpn_install(output, 0, octets, 0, octets, 0).number == MVPN_TABLE &&
                        mvpn_withdraw(output, 0, octets, 0) == MVPN_TABLE &&
+                       mvpn_mark(output, 0, octets, 0).number == MVPN_TABLE &&
+                       mvpn_sweep(output, 0, octets, 0).number == MVPN_TABLE &&
                        mvpn_match(octets, 0, octets, 0, octets, 0, octets, 0, output, 0).number == MVPN_TABLE &&
                        mvpn_explain(octets, 0, octets, 0, octets, 0, octets, 0, output, 0).matched.number == MVPN_TABLE &&
                        mvpn_match_shared(octets, 0, octets, 0, octets, 0, mvpn_shared_tree{}, octets, 0, octets, 0, output, 0)

@@ -8,8 +8,8 @@
 #include <stddef.h>
 
 /* Callers are built with these. */
-_Static_assert(sizeof(mvpn_following) == 12 && offsetof(mvpn_following, nlri_size) == 4 &&
-                   offsetof(mvpn_following, attribute_size) == 8, "mvpn_following");
+_Static_assert(sizeof(mvpn_following) == 16 && offsetof(mvpn_following, nlri_size) == 4 &&
+                   offsetof(mvpn_following, attribute_size) == 8 && offsetof(mvpn_following, stale) == 12, "mvpn_following");
 _Static_assert(sizeof(mvpn_table_facts) == 16 && offsetof(mvpn_table_facts, afi) == 4 && offsetof(mvpn_table_facts, places) == 8 &&
                    offsetof(mvpn_table_facts, routes) == 12, "mvpn_table_facts");
 
@@ -40,14 +40,20 @@ static mvpn_following next(lent table, const char *nlri_text, lent output)
     return n;
 }
 
-/* The route is the one expected, or none is. */
-static void same_next(const char *shows, lent table, const char *nlri, const route *expected)
+/* The route is the one expected, with this mark, or none is. */
+static void same_marked_next(const char *shows, lent table, const char *nlri, const route *expected, uint32_t stale)
 {
     lent output = lent_of(MVPN_MATCH_OUTPUT + 1, FILL);
     mvpn_following n = next(table, nlri, output);
     mvpn_matched as_matched = { n.number, 0, n.nlri_size, n.attribute_size };
     same_matched(shows, as_matched, output, 0, expected);
+    same(shows, "stale", n.stale, stale);
     free(output.at);
+}
+
+static void same_next(const char *shows, lent table, const char *nlri, const route *expected)
+{
+    same_marked_next(shows, table, nlri, expected, 0);
 }
 
 static void refuse_next(const char *shows, lent table, const char *nlri, size_t output_size, uint32_t number)
@@ -55,6 +61,7 @@ static void refuse_next(const char *shows, lent table, const char *nlri, size_t 
     lent output = lent_of(output_size, FILL);
     mvpn_following n = next(table, nlri, output);
     refused_matched(shows, (mvpn_matched){ n.number, 0, n.nlri_size, n.attribute_size }, output, number);
+    same(shows, "stale", n.stale, 0);
     free(output.at);
 }
 
@@ -199,6 +206,29 @@ static void by_nlri_and_not_by_place(void)
     free(table.at);
 }
 
+/* Of the routes in order, those of 10.0.0.1 are marked: all but the second and the last. They come in their order, and a
+ * table that is marked is told as any other. */
+static void stale_routes(void)
+{
+    lent table = holding(1, ROWS(in_order), in_order, ROWS(in_order)), router = hex("0A000001");
+    same("a mark", "number", mvpn_mark(table.at, table.size, router.at, router.size).number, MVPN_DONE);
+    for (size_t i = 0; i < ROWS(in_order); i++)
+        same_marked_next("a route with its mark", table, i == 0 ? "" : in_order[i - 1].nlri, &in_order[i],
+                         i != 1 && i != ROWS(in_order) - 1);
+    same_next("none after the last", table, in_order[ROWS(in_order) - 1].nlri, NULL);
+    lists("marked routes are listed", table, in_order, ROWS(in_order));
+    same_info("marked routes are counted", table, MVPN_DONE, 1, ROWS(in_order), ROWS(in_order));
+    refuse_next("an output of 123 octets, and the next is marked", table, "", MVPN_MATCH_OUTPUT - 1, MVPN_SPACE);
+    install(table, in_order[3].nlri, in_order[3].attribute);
+    same_next("the mark is gone", table, in_order[2].nlri, &in_order[3]);
+    same_marked_next("the one after it keeps its own", table, in_order[3].nlri, &in_order[4], 1);
+    table.at[MVPN_TABLE_SIZE(1) - 1] = 2;
+    refuse_next("a mark of 2", table, "", MVPN_MATCH_OUTPUT, MVPN_TABLE);
+    same_info("a mark of 2", table, MVPN_TABLE, 0, 0, 0);
+    free(table.at);
+    free(router.at);
+}
+
 /* ---- tables of other kinds */
 
 static void other_tables(void)
@@ -269,6 +299,7 @@ int main(void)
     unsound_is_told();
     what_comes_next();
     by_nlri_and_not_by_place();
+    stale_routes();
     other_tables();
     most_places();
     refusals();

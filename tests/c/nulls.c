@@ -85,6 +85,17 @@ static void changes(void)
     same(shows, "withdraw, both", mvpn_withdraw(NO_OCTETS, NO_OCTETS), MVPN_TABLE);
 }
 
+static void restarts(void)
+{
+    const char *shows = "null";
+    same(shows, "mark, the table", mvpn_mark(NO_OCTETS, OF(router)).number, MVPN_TABLE);
+    same(shows, "mark, the router", mvpn_mark(OF(table), NO_OCTETS).number, MVPN_FLOW);
+    same(shows, "mark, both", mvpn_mark(NO_OCTETS, NO_OCTETS).number, MVPN_TABLE);
+    same(shows, "sweep, the table", mvpn_sweep(NO_OCTETS, OF(router)).number, MVPN_TABLE);
+    same(shows, "sweep, the router", mvpn_sweep(OF(table), NO_OCTETS).number, MVPN_FLOW);
+    same(shows, "sweep, both", mvpn_sweep(NO_OCTETS, NO_OCTETS).number, MVPN_TABLE);
+}
+
 static void matches(void)
 {
     const char *shows = "null";
@@ -161,6 +172,7 @@ int main(void)
     codecs();
     runs();
     changes();
+    restarts();
     matches();
     shared_trees();
     listings();

@@ -95,6 +95,18 @@ static void questions(void)
     expect("next, none", mvpn_next(OF(table), run, ANY_SIZE, OF(output)).nlri_size == 0);
 }
 
+/* The router restarts, and its route comes back. */
+static void restart(void)
+{
+    uint8_t output[MVPN_MATCH_OUTPUT];
+    mvpn_restarted marked = mvpn_mark(OF(table), OF(router));
+    expect("mark", marked.number == MVPN_DONE && marked.gone == 0);
+    expect("next, stale", mvpn_next(OF(table), NULL, 0, OF(output)).stale == 1);
+    expect("install again", mvpn_install(OF(table), run, ANY_SIZE, OF(attribute)).outcome == MVPN_REPLACED);
+    expect("next, not stale", mvpn_next(OF(table), NULL, 0, OF(output)).stale == 0);
+    expect("sweep", mvpn_sweep(OF(table), OF(router)).gone == 0);
+}
+
 int main(void)
 {
     expect("version", mvpn_version() == MVPN_VERSION_NUMBER);
@@ -102,6 +114,7 @@ int main(void)
     runs();
     changes();
     questions();
+    restart();
     expect("withdraw", mvpn_withdraw(OF(table), run, ANY_SIZE) == MVPN_DONE);
     expect("withdraw again", mvpn_withdraw(OF(table), run, ANY_SIZE) == MVPN_ABSENT);
     return failures != 0;

@@ -183,6 +183,36 @@ RUN(withdraw_absent, WITHDRAW(absent) == MVPN_ABSENT)
 RUN(withdraw_leaf, WITHDRAW(leaf) == MVPN_KIND)
 RUN(withdraw_mldp_leaf, WITHDRAW(mldp_leaf) == MVPN_KIND)
 
+/* ---- restarts: a table whose every route is marked, and one whose every second route is */
+
+static uint8_t stale[sizeof full], half_stale[sizeof full];
+
+static void fill_stale(void)
+{
+    memcpy(stale, full, sizeof stale);
+    mvpn_mark(stale, sizeof stale, originator, sizeof originator);
+    memcpy(half_stale, stale, sizeof half_stale);
+    for (size_t i = 1; i <= MVPN_MOST_PLACES; i += 2)
+        half_stale[MVPN_TABLE_SIZE(i) - 1] = 0;
+}
+
+static mvpn_restarted restarted;
+
+#define RESTARTS(call, router, wanted_number, wanted_gone) \
+    (restarted = call(table, sizeof table, router, sizeof router), \
+     restarted.number == (wanted_number) && restarted.gone == (wanted_gone))
+RUN(mark_all, RESTARTS(mvpn_mark, originator, MVPN_DONE, 0))
+RUN(mark_marked, RESTARTS(mvpn_mark, originator, MVPN_DONE, MVPN_MOST_PLACES))
+RUN(mark_half, RESTARTS(mvpn_mark, originator, MVPN_DONE, MVPN_MOST_PLACES / 2))
+RUN(mark_none, RESTARTS(mvpn_mark, source, MVPN_DONE, 0))
+RUN(mark_nobody, RESTARTS(mvpn_mark, s_pmsi, MVPN_FLOW, 0))
+RUN(sweep_all, RESTARTS(mvpn_sweep, originator, MVPN_DONE, MVPN_MOST_PLACES))
+RUN(sweep_half, RESTARTS(mvpn_sweep, originator, MVPN_DONE, MVPN_MOST_PLACES / 2))
+RUN(sweep_none, RESTARTS(mvpn_sweep, source, MVPN_DONE, 0))
+RUN(sweep_nobody, RESTARTS(mvpn_sweep, s_pmsi, MVPN_FLOW, 0))
+
+/* ---- matches */
+
 static mvpn_matched matched;
 
 #define MATCHES(router, wanted) \
@@ -209,6 +239,7 @@ static mvpn_following following;
 RUN(next_first, FOLLOWS(NULL, 0, sizeof first))
 RUN(next_of_first, FOLLOWS(first, sizeof first, sizeof first))
 RUN(next_of_absent, FOLLOWS(absent, sizeof absent, 0))
+RUN(next_stale, FOLLOWS(first, sizeof first, sizeof first) && following.stale == 1)
 
 RUN(info_of_table, mvpn_table_info(table, sizeof table).routes == MVPN_MOST_PLACES)
 RUN(info_of_no_table, mvpn_table_info(table, sizeof table - 1).number == MVPN_TABLE)
@@ -314,15 +345,27 @@ static const struct {
     { "mvpn_make", make_table, full },
     { "mvpn_install", install_first, roomy },
     { "mvpn_install", install_last, full },
+    { "mvpn_install", install_last, stale },
     { "mvpn_install", install_without_room, full },
     { "mvpn_install", install_leaf, full },
     { "mvpn_install", install_mldp_leaf, full },
     { "mvpn_withdraw", withdraw_first, full },
     { "mvpn_withdraw", withdraw_last, full },
+    { "mvpn_withdraw", withdraw_last, stale },
     { "mvpn_withdraw", withdraw_absent, full },
     { "mvpn_withdraw", withdraw_leaf, full },
     { "mvpn_withdraw", withdraw_mldp_leaf, full },
+    { "mvpn_mark", mark_all, full },
+    { "mvpn_mark", mark_marked, stale },
+    { "mvpn_mark", mark_half, half_stale },
+    { "mvpn_mark", mark_none, stale },
+    { "mvpn_mark", mark_nobody, full },
+    { "mvpn_sweep", sweep_all, stale },
+    { "mvpn_sweep", sweep_half, half_stale },
+    { "mvpn_sweep", sweep_none, stale },
+    { "mvpn_sweep", sweep_nobody, full },
     { "mvpn_match", match_found, full },
+    { "mvpn_match", match_found, stale },
     { "mvpn_match", match_none, full },
     { "mvpn_explain", explain_found, full },
     { "mvpn_explain", explain_none, full },
@@ -333,6 +376,7 @@ static const struct {
     { "mvpn_next", next_first, full },
     { "mvpn_next", next_of_first, full },
     { "mvpn_next", next_of_absent, full },
+    { "mvpn_next", next_stale, stale },
     { "mvpn_table_info", info_of_table, full },
     { "mvpn_table_info", info_of_no_table, full },
 };
@@ -401,6 +445,7 @@ int main(void)
     number_nlri(absent, MVPN_MOST_PLACES);
     fill(full, 0);
     fill(roomy, 1);
+    fill_stale();
     fill_shared_trees();
     read_part();
     size_t base = depth(nothing, full), greatest = 0;

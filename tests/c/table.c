@@ -303,9 +303,11 @@ static const damage damages[] = {
     { "tunnel type", 163, 8 },
     { "BIER with label 0", 166, 0x0F },
     { "an octet after the attribute", 174, 1 },
-    { "the last octet of a taken place", 263, 1 },
+    { "the last octet but one of a taken place", 262, 1 },
+    { "a mark of 2", 263, 2 },
+    { "a mark of 255", 263, 255 },
     { "the first octet of a free place", 264, 1 },
-    { "the last octet", 391, 1 },
+    { "a mark in a free place", 391, 1 },
 };
 
 /* Every other argument is refused as well: TABLE comes first. */
@@ -316,6 +318,11 @@ static void refuse_table(const char *shows, lent table)
     same(shows, "number of install", installed.number, MVPN_TABLE);
     same(shows, "outcome", installed.outcome, 0);
     same(shows, "number of withdrawal", withdraw(table, ""), MVPN_TABLE);
+    mvpn_restarted marked = mvpn_mark(table.at, table.size, table.at, 0), swept = mvpn_sweep(table.at, table.size, table.at, 0);
+    same(shows, "number of mark", marked.number, MVPN_TABLE);
+    same(shows, "gone by mark", marked.gone, 0);
+    same(shows, "number of sweep", swept.number, MVPN_TABLE);
+    same(shows, "gone by sweep", swept.gone, 0);
     refuse_match(shows, table, (flow){ "", "", "" }, 0, MVPN_TABLE);
     same_table(shows, table, before);
     free(before.at);

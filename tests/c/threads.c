@@ -113,7 +113,7 @@ static void ask_flow(answers *got, size_t i)
 static void list(answers *got)
 {
     const uint8_t *nlri = NULL;
-    mvpn_following next = { 0, 0, 0 };
+    mvpn_following next = { 0, 0, 0, 0 };
     got->listed_count = 0;
     while (got->listed_count < PLACES &&
            (next = mvpn_next(shared->table, sizeof shared->table, nlri, next.nlri_size, got->listed[got->listed_count],

@@ -1,4 +1,4 @@
-//! What can be wrong with a table, one thing at a time (document 01, "The table memory": what sound means).
+//! What can be wrong with a table, one thing at a time (document 01, "The table memory": what sound means; document 02, W-208).
 
 use super::routes::{bad_attributes, picked};
 use crate::{
@@ -10,7 +10,7 @@ use crate::{
 /// have nothing to change.
 type Damage = fn(&mut Random, &mut Vec<u8>, usize);
 
-pub const DAMAGES: [Damage; 27] = [
+pub const DAMAGES: [Damage; 33] = [
     // Size.
     |_, memory, _| memory.truncate(memory.len() - 1),
     |_, memory, _| memory.push(0),
@@ -46,12 +46,19 @@ pub const DAMAGES: [Damage; 27] = [
     |random, memory, count| {
         in_place(random, memory, count, |random, place| {
             let end = usize::from(place[0]) + usize::from(place[1]) + 2;
-            place[random.pick(&[end, PLACE - 1])] = 1;
+            place[random.pick(&[end, PLACE - 2])] = 1;
         })
     },
     |random, memory, count| past_last_place(memory, count, |rest| rest[random.below(rest.len())] = 1),
     |_, memory, count| past_last_place(memory, count, |rest| rest[0] = 14),
     |_, memory, count| past_last_place(memory, count, |rest| rest[rest.len() - 1] = 0x80),
+    // Marks: other values, the other of the two, in a free place, in the octet before.
+    |random, memory, count| in_place(random, memory, count, |_, place| place[PLACE - 1] = 2),
+    |random, memory, count| in_place(random, memory, count, |random, place| place[PLACE - 1] = random.octet().max(2)),
+    |random, memory, count| in_place(random, memory, count, |_, place| place[PLACE - 1] ^= 1),
+    |_, memory, count| past_last_place(memory, count, |rest| rest[PLACE - 1] = 1),
+    |_, memory, count| past_last_place(memory, count, |rest| rest[rest.len() - 1] = 1),
+    |random, memory, count| in_place(random, memory, count, |_, place| place[PLACE - 2..].copy_from_slice(&[1, 0])),
 ];
 
 fn set_count(memory: &mut [u8], count: usize) {

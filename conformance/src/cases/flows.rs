@@ -47,7 +47,7 @@ fn tiers(harness: &mut Harness, random: &mut Random, addresses: &Addresses, asks
                 routes.insert(nlri, picked(random, &attributes).to_vec());
             }
         }
-        let memory = Table { afi: addresses.afi, places: 8, routes }.image();
+        let memory = Table::holding(addresses.afi, 8, routes).image();
         for (router, source) in [(0, 0), (0, 1), (1, 0), (2, 0), (3, 0)] {
             let flow = Flow { router: &addresses.routers[router], source: &addresses.sources[source], group };
             harness.table_call(&memory, asks(flow, &OUTPUT))?;
@@ -66,7 +66,7 @@ fn outputs(harness: &mut Harness, random: &mut Random, addresses: &Addresses, as
         let attribute = attributes.iter().find(|attribute| attribute.len() == size).expect("an attribute of that size");
         routes.insert(nlri, attribute.clone());
     }
-    let memory = Table { afi: addresses.afi, places: 2, routes }.image();
+    let memory = Table::holding(addresses.afi, 2, routes).image();
     for room in (0..=LEAST_OUTPUT + 10).chain([200, 256 + 60, 65_536]) {
         let output = random.octets(room);
         for router in [4, 0, 1] {
@@ -103,7 +103,7 @@ fn groups(harness: &mut Harness, random: &mut Random, addresses: &Addresses, ask
     let source = s_pmsi(&addresses.distinguishers[0], &addresses.sources[0], &[], &addresses.routers[0]);
     let attributes = good_attributes();
     let routes = [any, source].into_iter().zip(attributes).collect();
-    let memory = Table { afi: addresses.afi, places: 3, routes }.image();
+    let memory = Table::holding(addresses.afi, 3, routes).image();
     let (router, source) = (&addresses.routers[0], &addresses.sources[0]);
     for (first, second) in (0..=255).flat_map(|first| [0, 0x2F, 0x30, 0x3F, 0x40, 0xFF].map(|second| (first, second))) {
         let mut group = random.octets(addresses.groups[0].len());

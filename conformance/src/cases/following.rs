@@ -50,34 +50,42 @@ fn examples(harness: &mut Harness) -> Checked {
         let mut output = [&nlri[..], &attribute].concat();
         output.resize(OUTPUT.len(), OUTPUT[0]);
         let answer = harness.next(&image, &last, &OUTPUT)?;
-        in_papers(format!("{name} comes next"), answer, (Following { number: 0, nlri_size, attribute_size }, output))?;
+        in_papers(
+            format!("{name} comes next"),
+            answer,
+            (Following { number: 0, nlri_size, attribute_size, stale: 0 }, output),
+        )?;
         last = nlri;
     }
     Ok(())
 }
 
+/// An NLRI, its attribute, and its mark.
+pub type Listed = (Vec<u8>, Vec<u8>, u32);
+
 /// The routes that come one after the other, from no octets on.
-fn listed(harness: &mut Harness, memory: &[u8]) -> Result<Vec<[Vec<u8>; 2]>, Disagreement> {
-    let mut routes: Vec<[Vec<u8>; 2]> = Vec::new();
+pub fn listed(harness: &mut Harness, memory: &[u8]) -> Result<Vec<Listed>, Disagreement> {
+    let mut routes: Vec<Listed> = Vec::new();
     loop {
-        let last = routes.last().map_or(&[][..], |[nlri, _]| nlri);
-        let (Following { nlri_size, attribute_size, .. }, mut output) = harness.next(memory, last, &OUTPUT)?;
+        let last = routes.last().map_or(&[][..], |(nlri, _, _)| nlri);
+        let (Following { nlri_size, attribute_size, stale, .. }, mut output) = harness.next(memory, last, &OUTPUT)?;
         // More routes than there are places never end.
         if nlri_size == 0 || routes.len() > MOST_PLACES {
             return Ok(routes);
         }
         let mut attribute = output.split_off(nlri_size as usize);
         attribute.truncate(attribute_size as usize);
-        routes.push([output, attribute]);
+        routes.push((output, attribute, stale));
     }
 }
 
-/// A table listed to its end: each of its routes once, in order.
+/// A table listed to its end: each of its routes once, in order, with its mark.
 fn whole(harness: &mut Harness, table: &Table) -> Checked {
     let memory = table.image();
     let routes = listed(harness, &memory)?;
-    let held: Vec<[Vec<u8>; 2]> =
-        table.routes.iter().map(|(nlri, attribute)| [nlri.clone(), attribute.clone()]).collect();
+    let mark = |nlri| u32::from(table.stale.contains(nlri));
+    let held = table.routes.iter().map(|(nlri, attribute)| (nlri.clone(), attribute.clone(), mark(nlri)));
+    let held: Vec<Listed> = held.collect();
     if routes != held {
         return disagree("a table listed to its end".into(), format!("{routes:?}"), format!("{held:?}"));
     }
@@ -179,7 +187,7 @@ fn come_and_go(harness: &mut Harness, random: &mut Random, addresses: &Addresses
     let attributes = good_attributes();
     for _ in 0..20 {
         let mut memory = addresses.table(random, 40, 20).image();
-        let stay: Vec<Vec<u8>> = listed(harness, &memory)?.into_iter().map(|[nlri, _]| nlri).step_by(2).collect();
+        let stay: Vec<Vec<u8>> = listed(harness, &memory)?.into_iter().map(|(nlri, _, _)| nlri).step_by(2).collect();
         let mut given: Vec<Vec<u8>> = Vec::new();
         loop {
             let last = given.last().cloned().unwrap_or_default();

@@ -19,6 +19,7 @@ pub mod no_tunnel;
 pub mod outside;
 pub mod pieces;
 pub mod random_cases;
+pub mod restarts;
 pub mod routes;
 pub mod samples;
 pub mod sequences;
@@ -44,6 +45,7 @@ pub fn all(harness: &mut Harness, options: &Options) -> Checked {
     of_shared_trees(harness, options)?;
     of_following(harness, options)?;
     of_explanations(harness, options)?;
+    of_restarts(harness, options)?;
     of_tables(harness, options)
 }
 
@@ -95,6 +97,11 @@ pub fn of_following(harness: &mut Harness, options: &Options) -> Checked {
 /// Explanations alone.
 pub fn of_explanations(harness: &mut Harness, options: &Options) -> Checked {
     explanations::all(harness, &mut Random::new(options.seed))
+}
+
+/// Routers that restart.
+pub fn of_restarts(harness: &mut Harness, options: &Options) -> Checked {
+    restarts::all(harness, &mut Random::new(options.seed), options.cases)
 }
 
 /// The table calls, mixed ones with matches for shared trees among them.

@@ -79,7 +79,7 @@ fn named(name: &str) -> (Vec<u8>, Vec<u8>) {
 /// The image of a table that holds these routes.
 pub fn table_of(names: &str) -> Vec<u8> {
     let routes = names.split_whitespace().map(named).collect();
-    Table { afi: 1, places: 7, routes }.image()
+    Table::holding(1, 7, routes).image()
 }
 
 /// The whole answer of a match that takes this route.

@@ -104,12 +104,13 @@ impl Addresses {
         }
     }
 
-    /// A table with so many places taken.
+    /// A table with so many places taken, about a quarter of them marked.
     pub fn table(&self, random: &mut Random, places: usize, count: usize) -> Table {
         let attributes = good_attributes();
         let routes = self.nlris(random, count).into_iter();
         let routes: Routes = routes.map(|nlri| (nlri, picked(random, &attributes).to_vec())).collect();
-        Table { afi: self.afi, places, routes }
+        let stale = routes.keys().filter(|_| random.once_in(4)).cloned().collect();
+        Table { stale, ..Table::holding(self.afi, places, routes) }
     }
 }
 

@@ -1,7 +1,8 @@
 //! Mixed calls of several routers on one table, in several orders (document 01, "Mixed calls and each router's book").
 //!
 //! Where the installs name no more well-formed NLRIs than there are places, each call is compared with its router's
-//! book, and the list is run again in other orders that keep each router's own. Elsewhere it is compared with the table.
+//! book, and the list is run again in other orders that keep each router's own. Elsewhere it is compared with the table. What a
+//! list leaves in the table is compared with what its calls and their answers say of each NLRI (document 02, W-208).
 
 use super::{
     lists::EMPTY,
@@ -17,9 +18,10 @@ use crate::{
     second::{
         books::{Books, Router},
         choice::{Flow, LEAST_OUTPUT},
+        history::Made,
         rows::Field,
         shared::Reception,
-        table::{size, Table, MOST_PLACES},
+        table::{size, Table, HEADER, MOST_PLACES, PLACE},
         table_calls::{TableAnswer, TableCall},
         Second,
     },
@@ -39,6 +41,24 @@ const SOURCE_LENGTH: usize = 10;
 /// Calls of sequences on small tables: one for so many random cases.
 const CASES_A_CALL: u64 = 10;
 
+/// Marks and sweeps beside twenty other calls, where routers restart now and then, and where they do so again and again.
+const SELDOM: usize = 2;
+const OFTEN: usize = 10;
+
+/// Lists in which routers restart again and again, the numbers of places in turn.
+pub fn restarting(harness: &mut Harness, random: &mut Random, cases: u64) -> Checked {
+    let before = harness.sequence_calls;
+    while harness.sequence_calls - before < cases / CASES_A_CALL {
+        for (afi, places) in GOOD_AFIS.into_iter().flat_map(|afi| [1, 2, 5, 16].map(|places| (afi, places))) {
+            let length = 10 + random.below(70);
+            both(harness, random, afi, places, OFTEN, length)?;
+            // A list that keeps the premise is run in several orders, so there are more of the others.
+            (0..3).try_for_each(|_| beyond(harness, random, afi, places, OFTEN, length))?;
+        }
+    }
+    Ok(())
+}
+
 pub fn all(harness: &mut Harness, random: &mut Random, cases: u64) -> Checked {
     for afi in GOOD_AFIS {
         [0, 1, 2].into_iter().try_for_each(|places| short_lists(harness, random, afi, places))?;
@@ -48,11 +68,11 @@ pub fn all(harness: &mut Harness, random: &mut Random, cases: u64) -> Checked {
         for afi in GOOD_AFIS {
             for places in PLACES.into_iter().filter(|places| *places < MOST_PLACES) {
                 let length = 10 + random.below(70);
-                both(harness, random, afi, places, length)?;
+                both(harness, random, afi, places, SELDOM, length)?;
             }
         }
     }
-    GOOD_AFIS.into_iter().try_for_each(|afi| both(harness, random, afi, MOST_PLACES, 1_200))
+    GOOD_AFIS.into_iter().try_for_each(|afi| both(harness, random, afi, MOST_PLACES, SELDOM, 1_200))
 }
 
 /// Every list of three calls, of these: installs, withdrawals and matches of two routers, also for a shared tree, and
@@ -96,13 +116,32 @@ fn short_lists(harness: &mut Harness, random: &mut Random, afi: u16, places: usi
     Ok(())
 }
 
-/// A list that keeps the premise of demand 3 and one that has NLRIs for more than the places.
-fn both(harness: &mut Harness, random: &mut Random, afi: u16, places: usize, length: usize) -> Checked {
-    let within = Stock::new(random, afi, places);
+/// A list that keeps the premise of demand 3 and one that does not.
+fn both(
+    harness: &mut Harness,
+    random: &mut Random,
+    afi: u16,
+    places: usize,
+    restarts: usize,
+    length: usize,
+) -> Checked {
+    let within = Stock::new(random, afi, places, restarts);
     Sequence::new(&within, random, places, length).compare(harness, random)?;
+    beyond(harness, random, afi, places, restarts, length)
+}
+
+/// A list that has NLRIs for more than the places.
+fn beyond(
+    harness: &mut Harness,
+    random: &mut Random,
+    afi: u16,
+    places: usize,
+    restarts: usize,
+    length: usize,
+) -> Checked {
     let over = places + 1 + random.below(places + 2);
-    let beyond = Stock::new(random, afi, over);
-    Sequence::new(&beyond, random, places, length).compare(harness, random)
+    let stock = Stock::new(random, afi, over, restarts);
+    Sequence::new(&stock, random, places, length).compare(harness, random)
 }
 
 /// What the calls of a list draw from.
@@ -121,10 +160,12 @@ struct Stock {
     source_actives: Vec<Vec<u8>>,
     states: Vec<Vec<u8>>,
     outputs: Vec<Vec<u8>>,
+    /// Marks and sweeps beside twenty other calls.
+    restarts: usize,
 }
 
 impl Stock {
-    fn new(random: &mut Random, afi: u16, installed: usize) -> Self {
+    fn new(random: &mut Random, afi: u16, installed: usize, restarts: usize) -> Self {
         let addresses = Addresses::of_family(afi);
         let installed = addresses.nlris(random, installed);
         Stock {
@@ -138,11 +179,12 @@ impl Stock {
             states: (0..LISTS).map(|_| addresses.states(random)).collect(),
             outputs: [0, 60, 123, 124, 124, 124, 130, 200].map(|size| random.octets(size)).to_vec(),
             addresses,
+            restarts,
         }
     }
 
     fn call(&self, random: &mut Random) -> TableCall<'_> {
-        match random.below(20) {
+        match random.below(20 + self.restarts) {
             0..=7 => TableCall::Install {
                 nlri: self.nlri(random, &self.installed),
                 attribute: match random.once_in(6) {
@@ -154,8 +196,26 @@ impl Stock {
                 let well_formed = if random.once_in(6) { &self.absent } else { &self.installed };
                 TableCall::Withdraw { nlri: self.nlri(random, well_formed) }
             }
-            13..=16 => TableCall::Match { flow: self.flow(random), output: picked(random, &self.outputs) },
-            _ => TableCall::MatchShared { reception: self.reception(random), output: picked(random, &self.outputs) },
+            13..=15 => TableCall::Match { flow: self.flow(random), output: picked(random, &self.outputs) },
+            16 => TableCall::Explain { flow: self.flow(random), output: picked(random, &self.outputs) },
+            17..=19 => {
+                TableCall::MatchShared { reception: self.reception(random), output: picked(random, &self.outputs) }
+            }
+            other if other % 2 == 0 => TableCall::Mark { router: self.router(random) },
+            _ => TableCall::Sweep { router: self.router(random) },
+        }
+    }
+
+    /// A router that restarts, mostly one that may have routes; now and then an address of another size.
+    fn router(&self, random: &mut Random) -> &[u8] {
+        let any = self.addresses.flow(random);
+        let router = match self.installed.is_empty() || random.once_in(4) {
+            true => any.router,
+            false => self.towards(any, picked(random, &self.installed)).router,
+        };
+        match random.once_in(12) {
+            true => &router[..random.pick(&[0, 3, router.len() - 1])],
+            false => router,
         }
     }
 
@@ -212,7 +272,7 @@ impl Stock {
 }
 
 /// A list of calls on a table just made.
-struct Sequence<'a> {
+pub struct Sequence<'a> {
     afi: u16,
     places: usize,
     calls: Vec<TableCall<'a>>,
@@ -222,7 +282,7 @@ struct Sequence<'a> {
 }
 
 /// Each call's answer, in the order of the list, and the table octets at the end.
-type Outcome = (Vec<TableAnswer>, Vec<u8>);
+pub type Outcome = (Vec<TableAnswer>, Vec<u8>);
 
 impl<'a> Sequence<'a> {
     /// At first mostly an install of each NLRI in turn, so that the table fills, then any calls.
@@ -236,7 +296,7 @@ impl<'a> Sequence<'a> {
         Sequence::of(stock.addresses.afi, places, calls)
     }
 
-    fn of(afi: u16, places: usize, calls: Vec<TableCall<'a>>) -> Self {
+    pub fn of(afi: u16, places: usize, calls: Vec<TableCall<'a>>) -> Self {
         let routers: Vec<_> = calls.iter().map(|call| Second::sound().router(afi, call)).collect();
         let installed = calls.iter().zip(&routers).filter_map(|(call, router)| match call {
             TableCall::Install { nlri, .. } if router.is_some() => Some(nlri),
@@ -266,7 +326,7 @@ impl<'a> Sequence<'a> {
 
     /// Makes a table and the calls in this order. Each call must get the answer it got in an earlier order, at first that
     /// of its book or of the table; after it the table octets are compared.
-    fn run(
+    pub fn run(
         &self,
         harness: &mut Harness,
         random: &mut Random,
@@ -284,11 +344,39 @@ impl<'a> Sequence<'a> {
                 false => (harness.second.on_table(&mut table, call), table.image()),
             };
             let answer = earlier.map_or(&answer, |answers| &answers[*occurrence]);
+            let marked = is_marked(harness.table(), call);
             let answer = harness.next_call(call, answer, &image)?;
             self.count(harness, *occurrence, &answer);
+            self.count_restarts(harness, *occurrence, marked, &answer);
             answers.insert(*occurrence, answer);
         }
+        let made: Vec<Made> = order.iter().map(|occurrence| (&self.calls[*occurrence], &answers[occurrence])).collect();
+        let left = harness.second.left_by(self.afi, self.places, &made);
+        if left != harness.table() {
+            return Err(Disagreement {
+                call: format!("what these leave in a table of {} places: {made:?}", self.places),
+                archive: encode(harness.table()),
+                second: encode(&left),
+            });
+        }
         Ok((answers.into_values().collect(), harness.table().to_vec()))
+    }
+
+    /// Counts what is done to marked routes; `marked` is whether the call's NLRI was.
+    fn count_restarts(&self, harness: &mut Harness, occurrence: usize, marked: bool, answer: &TableAnswer) {
+        let (afi, premise) = (self.afi, self.premise);
+        let seen = match (self.calls[occurrence], answer) {
+            (_, TableAnswer::Installed(installed)) if marked => Seen::Renewed(afi, premise, installed.number == 0),
+            (_, TableAnswer::Withdrawn(0)) if marked => Seen::StaleWithdrawn(afi, premise),
+            (TableCall::Mark { .. }, TableAnswer::Restarted(restarted)) if restarted.number == 0 => {
+                Seen::Restarted(afi, premise, true, restarted.gone > 0)
+            }
+            (_, TableAnswer::Restarted(restarted)) if restarted.number == 0 => {
+                Seen::Restarted(afi, premise, false, restarted.gone > 0)
+            }
+            _ => return,
+        };
+        harness.coverage.count(Call::Sequence, seen);
     }
 
     fn count(&self, harness: &mut Harness, occurrence: usize, answer: &TableAnswer) {
@@ -331,6 +419,13 @@ impl<'a> Sequence<'a> {
     }
 }
 
+/// Whether the route that an install or a withdrawal names is held and marked.
+fn is_marked(table: &[u8], call: &TableCall) -> bool {
+    let (TableCall::Install { nlri, .. } | TableCall::Withdraw { nlri }) = call else { return false };
+    let mut places = table[HEADER..].chunks(PLACE);
+    places.any(|place| place[PLACE - 1] == 1 && place[2..][..usize::from(place[0])] == **nlri)
+}
+
 /// The calls by rank, the lowest first; calls of equal rank stay in order.
 fn sorted(ranks: Vec<u64>) -> Vec<usize> {
     let mut order: Vec<usize> = (0..ranks.len()).collect();
@@ -351,7 +446,7 @@ mod tests {
     #[test]
     fn orders_keep_each_routers_own() {
         let mut random = Random::new(3);
-        let stock = Stock::new(&mut random, 1, 16);
+        let stock = Stock::new(&mut random, 1, 16, SELDOM);
         let sequence = Sequence::new(&stock, &mut random, 16, 200);
         let listed: Vec<usize> = (0..200).collect();
         let routers: BTreeSet<Router> = sequence.routers.iter().flatten().cloned().collect();

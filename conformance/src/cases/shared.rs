@@ -65,7 +65,7 @@ pub fn table_of_all(random: &mut Random, addresses: &Addresses) -> Vec<u8> {
         (nlri, picked(random, &attributes).to_vec())
     };
     let routes: Routes = shapes.map(route).collect();
-    Table { afi: addresses.afi, places: routes.len() + 1, routes }.image()
+    Table::holding(addresses.afi, routes.len() + 1, routes).image()
 }
 
 /// Every choice among the four conditions and among the kinds of route held, each kind with two distinguishers, for SSM
@@ -100,7 +100,7 @@ fn table_of(random: &mut Random, addresses: &Addresses, router: &[u8], group: &[
         (nlri, picked(random, &attributes).to_vec())
     };
     let routes = chosen.map(route).collect();
-    Table { afi: addresses.afi, places: 8, routes }.image()
+    Table::holding(addresses.afi, 8, routes).image()
 }
 
 /// Facts of any value: 0 is no, every other value yes.
@@ -220,7 +220,7 @@ fn outputs(harness: &mut Harness, random: &mut Random, addresses: &Addresses) ->
         let attribute = attributes.iter().find(|attribute| attribute.len() == size).expect("an attribute of that size");
         routes.insert(nlri, attribute.clone());
     }
-    let memory = Table { afi: addresses.afi, places: 2, routes }.image();
+    let memory = Table::holding(addresses.afi, 2, routes).image();
     for room in (0..=LEAST_OUTPUT + 10).chain([200, 256 + 60, 65_536]) {
         let output = random.octets(room);
         for (router, group, bits) in [(4, 2, 1), (0, 2, 2), (0, 2, 0), (1, 2, 4), (0, 0, 7)] {

@@ -137,6 +137,8 @@ fn each_call(
     let Flow { router, group, .. } = flow;
     let reception = Reception { router, group, facts: UPSTREAM, source_actives: EMPTY, states: EMPTY };
     harness.table_call(memory, TableCall::MatchShared { reception, output: &OUTPUT })?;
+    let restart = if random.once_in(2) { TableCall::Mark { router } } else { TableCall::Sweep { router } };
+    harness.table_call(memory, restart)?;
     let held: Vec<_> = table.routes.keys().cloned().collect();
     let nlri = match held.is_empty() || random.once_in(2) {
         true => addresses.nlri(random),

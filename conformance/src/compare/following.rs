@@ -32,6 +32,9 @@ impl Harness {
         if archive.number == 0 {
             let afi = memory.octets[5].into();
             self.coverage.count(Call::Next, Seen::Follows(afi, archive.nlri_size > 0));
+            if archive.nlri_size > 0 {
+                self.coverage.count(Call::Next, Seen::Stale(afi, archive.stale));
+            }
         }
         Ok((archive, after))
     }

@@ -1,11 +1,14 @@
-//! `mvpn_make`, `mvpn_install`, `mvpn_withdraw`, `mvpn_match`, `mvpn_explain` and `mvpn_match_shared`.
+//! `mvpn_make`, `mvpn_install`, `mvpn_withdraw`, `mvpn_mark`, `mvpn_sweep`, `mvpn_match`, `mvpn_explain` and `mvpn_match_shared`.
 
 use super::{Disagreement, Harness, Input};
 use crate::{
     coverage::{Call, Seen},
     ffi::{self, Explained},
     hexadecimal::encode,
-    second::table_calls::{TableAnswer, TableCall},
+    second::{
+        table::{HEADER, PLACE},
+        table_calls::{TableAnswer, TableCall},
+    },
 };
 
 impl Harness {
@@ -96,6 +99,7 @@ impl Harness {
                 self.attribute.place(attribute, after, pattern);
             }
             TableCall::Withdraw { nlri } => self.lend(Input { octets: nlri, after }),
+            TableCall::Mark { router } | TableCall::Sweep { router } => self.flow[0].place(router, after, pattern),
             TableCall::Match { flow, output } | TableCall::Explain { flow, output } => {
                 for (lent, octets) in self.flow.iter_mut().zip([flow.router, flow.source, flow.group]) {
                     lent.place(octets, after, pattern);
@@ -120,6 +124,8 @@ impl Harness {
                 TableAnswer::Installed(ffi::install(&mut self.table, &mut self.input, &mut self.attribute))
             }
             TableCall::Withdraw { .. } => TableAnswer::Withdrawn(ffi::withdraw(&mut self.table, &mut self.input)),
+            TableCall::Mark { .. } => TableAnswer::Restarted(ffi::mark(&mut self.table, &mut self.flow[0])),
+            TableCall::Sweep { .. } => TableAnswer::Restarted(ffi::sweep(&mut self.table, &mut self.flow[0])),
             TableCall::Match { .. } => {
                 let matched = ffi::match_flow(&mut self.table, &mut self.flow, &mut self.output);
                 TableAnswer::Matched(matched, self.output.octets().to_vec())
@@ -143,6 +149,7 @@ impl Harness {
         let (number, seen) = match answer {
             TableAnswer::Installed(installed) => (installed.number, Seen::Outcome(afi, installed.outcome)),
             TableAnswer::Withdrawn(number) => (*number, Seen::Family(afi)),
+            TableAnswer::Restarted(restarted) => (restarted.number, Seen::Gone(afi, restarted.gone.min(3))),
             TableAnswer::Matched(matched, _) | TableAnswer::Explained(Explained { matched, .. }, _) => {
                 (matched.number, Seen::Tier(afi, matched.tier))
             }
@@ -150,6 +157,8 @@ impl Harness {
         let call = match call {
             TableCall::Install { .. } => Call::Install,
             TableCall::Withdraw { .. } => Call::Withdraw,
+            TableCall::Mark { .. } => Call::Mark,
+            TableCall::Sweep { .. } => Call::Sweep,
             TableCall::Match { .. } => Call::Match,
             TableCall::Explain { .. } => Call::Explain,
             TableCall::MatchShared { .. } => Call::MatchShared,
@@ -158,9 +167,20 @@ impl Harness {
         if number == 0 {
             self.coverage.count(call, seen);
         }
+        if let Some(tier) = self.stale_taken(answer) {
+            self.coverage.count(call, Seen::StaleTaken(afi, tier));
+        }
         if let TableAnswer::Explained(Explained { reasons, .. }, _) = answer {
             let told = reasons.iter().zip(1..).filter(|(reason, _)| **reason != 0);
             told.for_each(|(reason, tier)| self.coverage.count(call, Seen::Reason(tier, *reason)));
         }
+    }
+
+    /// The tier of a match of any kind whose route is marked.
+    fn stale_taken(&self, answer: &TableAnswer) -> Option<u32> {
+        let (matched, output) = answer.matched().filter(|(matched, _)| matched.tier != 0)?;
+        let nlri = &output[..matched.nlri_size as usize];
+        let mut places = self.table.octets()[HEADER..].chunks(PLACE);
+        places.any(|place| place[2..].starts_with(nlri) && place[PLACE - 1] == 1).then_some(matched.tier)
     }
 }

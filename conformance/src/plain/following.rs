@@ -3,7 +3,7 @@
 use super::{
     flow::OUTPUT,
     lent,
-    sound::{divided, nlri_of, sound, Sound},
+    sound::{divided, nlri_of, sound, Sound, MARK},
     DONE, SPACE, TABLE,
 };
 use crate::ffi::{Following, TableInfo};
@@ -32,7 +32,7 @@ pub unsafe extern "C" fn next(
     let [nlri_size, attribute_size] = [place[0], place[1]].map(u32::from);
     let size = (nlri_size + attribute_size) as usize;
     output[..size].copy_from_slice(&place[2..][..size]);
-    Following { number: DONE, nlri_size, attribute_size }
+    Following { number: DONE, nlri_size, attribute_size, stale: u32::from(place[MARK]) }
 }
 
 /// # Safety

@@ -1,4 +1,4 @@
-//! What makes lent memory a sound table (document 01, "The table memory").
+//! What makes lent memory a sound table (document 01, "The table memory"; document 02, W-208).
 
 use super::{attribute::installable, shape::is_s_pmsi};
 
@@ -6,10 +6,13 @@ pub const HEADER: usize = 8;
 pub const PLACE: usize = 128;
 const MOST_PLACES: usize = 500;
 
+/// The octet of a taken place that says whether its route is marked stale: the last one, 0 or 1.
+pub const MARK: usize = PLACE - 1;
+
 /// A part of a place: large enough that the loop over them costs little beside reading them.
 const BLOCK: usize = 64;
 
-/// NLRI size, attribute size, NLRI, attribute, zeros.
+/// NLRI size, attribute size, NLRI, attribute, zeros, mark.
 pub type Place = [u8; PLACE];
 
 /// A sound table: its AFI, and its routes in the order of their NLRIs.
@@ -56,7 +59,7 @@ fn are_routes<const FAMILY: usize>(taken: &[Place]) -> bool {
     let mut last = None;
     for place in taken {
         let Some((nlri, attribute, rest)) = parts(place) else { return false };
-        let accepted = is_s_pmsi(FAMILY, nlri) && installable(attribute).is_ok();
+        let accepted = place[MARK] <= 1 && is_s_pmsi(FAMILY, nlri) && installable(attribute).is_ok();
         if !accepted || !is_zero(rest) || last.is_some_and(|last| last >= nlri) {
             return false;
         }
@@ -65,10 +68,10 @@ fn are_routes<const FAMILY: usize>(taken: &[Place]) -> bool {
     true
 }
 
-/// The NLRI, the attribute and the octets behind them, as the place's two sizes divide it.
+/// The NLRI, the attribute and the octets between them and the mark, as the place's two sizes divide it.
 #[inline(always)]
 fn parts(place: &Place) -> Option<(&[u8], &[u8], &[u8])> {
-    let [nlri_size, attribute_size, octets @ ..] = place;
+    let [nlri_size, attribute_size, octets @ .., _] = place;
     let (nlri, rest) = octets.split_at_checked(usize::from(*nlri_size))?;
     let (attribute, rest) = rest.split_at_checked(usize::from(*attribute_size))?;
     Some((nlri, attribute, rest))

@@ -108,7 +108,7 @@ fn search(taken: &[Place], nlri: &[u8]) -> Result<usize, usize> {
 
 /// The places of a table that is sound.
 #[inline(always)]
-fn places_of(table: &mut [u8]) -> &mut [Place] {
+pub fn places_of(table: &mut [u8]) -> &mut [Place] {
     table[HEADER..].as_chunks_mut().0
 }
 
@@ -122,6 +122,6 @@ fn lay_out(place: &mut Place, nlri: &[u8], attribute: &[u8]) {
 }
 
 #[inline(always)]
-fn set_count(table: &mut [u8], count: usize) {
+pub fn set_count(table: &mut [u8], count: usize) {
     table[HEADER - 2..HEADER].copy_from_slice(&(count as u16).to_be_bytes());
 }

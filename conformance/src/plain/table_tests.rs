@@ -52,6 +52,12 @@ impl Table {
             TableCall::Withdraw { nlri } => {
                 TableAnswer::Withdrawn(unsafe { plain::withdraw(table, size, nlri.as_ptr(), nlri.len()) })
             }
+            TableCall::Mark { router } => {
+                TableAnswer::Restarted(unsafe { plain::mark(table, size, router.as_ptr(), router.len()) })
+            }
+            TableCall::Sweep { router } => {
+                TableAnswer::Restarted(unsafe { plain::sweep(table, size, router.as_ptr(), router.len()) })
+            }
             TableCall::Match { flow, output } => {
                 let mut output = output.to_vec();
                 TableAnswer::Matched(matched(&self.0, flow, &mut output), output)
@@ -363,12 +369,22 @@ impl Stock {
     fn call(&self, random: &mut Random) -> TableCall<'_> {
         let nlri = picked(random, &self.nlris);
         let (flow, output) = (self.addresses.flow(random), &[0x5A; 130][random.below(9)..]);
-        match random.below(5) {
+        match random.below(7) {
             0 => TableCall::Install { nlri, attribute: picked(random, &self.attributes) },
             1 => TableCall::Withdraw { nlri },
             2 => TableCall::Match { flow, output },
             3 => TableCall::Explain { flow, output },
+            4 => TableCall::Mark { router: self.router(random, flow) },
+            5 => TableCall::Sweep { router: self.router(random, flow) },
             _ => TableCall::MatchShared { reception: self.reception(random, flow), output },
+        }
+    }
+
+    /// The flow's router; now and then of another size.
+    fn router<'a>(&'a self, random: &mut Random, flow: Flow<'a>) -> &'a [u8] {
+        match random.below(10) {
+            0 => &flow.router[..random.below(4)],
+            _ => flow.router,
         }
     }
 

@@ -2,8 +2,8 @@
 //! is too weak.
 
 /// The calls that show a fault; those on a table alone show the faults of the table and of the books, and the others each
-/// those of one call or rule alone: unknown route types, FEC elements in NLRIs, readers of pieces, explanations, looking into
-/// a table, matches for shared trees.
+/// those of one call or rule alone: unknown route types, FEC elements in NLRIs, readers of pieces, routers that restart,
+/// explanations, looking into a table, matches for shared trees.
 #[derive(Clone, Copy, Debug, PartialEq, Eq)]
 pub enum ShownBy {
     Encodings,
@@ -11,6 +11,7 @@ pub enum ShownBy {
     Fecs,
     Pieces,
     Tables,
+    Restarts,
     Explanations,
     Following,
     SharedTrees,
@@ -226,6 +227,54 @@ faults! {
         NO_TUNNEL_IN_BOOKS: "a book's match may take a route that names no tunnel",
         ONE_BOOK: "all routers share one book",
         BOOK_TAKES_REFUSED: "a refused install enters its router's book",
+    }
+    Restarts {
+        MARK_2_SOUND: "a mark of 2 is sound",
+        MARK_ANY_SOUND: "any last octet of a taken place is sound, and a mark where it is not 0",
+        MARK_UNSOUND: "a marked place is not sound",
+        MARK_IN_FREE_PLACE: "a free place may have a mark",
+        MARK_OF_TWO_OCTETS: "the octet before the mark need not be zero",
+        MARK_IDLE: "a mark does nothing",
+        MARK_LEAVES_MARKED: "a mark leaves the routes that are marked already",
+        MARK_UNMARKS: "a mark takes the marks off the routes that are marked already",
+        MARK_TAKES_ALL_MARKED: "with a mark the marked routes of every router go",
+        MARK_ONLY_SWEEPS: "a mark takes the marked routes out and marks none",
+        MARK_OF_ALL: "a mark is done for every router",
+        MARK_COUNTS_MARKED: "a mark tells how many it marked",
+        MARK_UNCOUNTED: "a mark tells that none went",
+        SWEEP_IDLE: "a sweep does nothing",
+        SWEEP_UNMARKED: "a sweep takes unmarked routes out too",
+        SWEEP_UNMARKS: "a sweep takes the marks off and leaves the routes",
+        SWEEP_MARKS: "a sweep marks the routes that it leaves",
+        SWEEP_ONE: "a sweep takes one route out at the most",
+        SWEEP_OF_ALL: "a sweep is done for every router",
+        SWEEP_COUNTS_OWN: "a sweep tells how many routes its router had",
+        SWEEP_COUNTS_LEFT: "a sweep tells how many routes are left",
+        GONE_LOW_OCTET: "only the low octet of how many went is told",
+        RESTART_SIZE_UNJUDGED: "a router that restarts may have an address of any size but none",
+        RESTART_OF_NO_OCTETS: "a router that restarts may have an address of no octets",
+        RESTART_OF_FAMILY: "a router that restarts must have an address of the family's size",
+        RESTART_ABSENT: "a router that has no routes cannot restart: ABSENT",
+        INSTALL_KEEPS_MARK: "an install leaves the mark",
+        SAME_INSTALL_KEEPS_MARK: "an install of the attribute that the route has leaves the mark",
+        REFUSED_INSTALL_UNMARKS: "a refused install takes the mark off",
+        INSTALL_UNMARKS_ALL: "an install takes every mark off",
+        MARKED_INSTALL_NEW: "an install of a marked route is new",
+        MARKED_MAKES_ROOM: "a full table takes a new route for a marked one",
+        MARKED_ABSENT: "a withdrawal does not find a marked route",
+        WITHDRAWAL_UNMARKS: "a withdrawal takes the mark off and leaves the route",
+        MARKED_TAKES_NO_FLOW: "a marked route takes no flow",
+        MARKED_TAKES_LAST: "a marked route is taken only where its router has no others",
+        MARKED_UNEXPLAINED: "a marked route is none that a tier has",
+        MARKED_TAKES_NO_TREE: "a marked route takes no shared tree",
+        NEXT_WITHOUT_MARK: "the next route is told without its mark",
+        NEXT_MARK_OF_ASKED: "the next route is told with the mark of the one asked about",
+        NEXT_PASSES_MARKED: "marked routes never come next",
+        INFO_ROUTES_UNMARKED: "marked routes are not told",
+        BOOK_KEEPS_MARK: "a book's install leaves the mark",
+        BOOK_UNMARKED: "books keep no marks",
+        RESTART_OF_NOBODY: "a mark or a sweep belongs to nobody",
+        LEFT_UNMARKED: "a mark since the last install does not count in what the calls leave",
     }
     Explanations {
         REASONS_ALL_ABSENT: "every tier says that it has no such route",

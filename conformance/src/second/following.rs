@@ -18,7 +18,7 @@ impl Second {
                 }
                 (Following::default(), after)
             }
-            Ok(Some((nlri, attribute))) => {
+            Ok(Some(((nlri, attribute), stale))) => {
                 let written = [&nlri[..], &attribute].concat();
                 if !self.has(Fault::NEXT_UNWRITTEN) {
                     after[..written.len()].copy_from_slice(&written);
@@ -27,13 +27,15 @@ impl Second {
                     after[written.len()..].fill(0);
                 }
                 let [nlri_size, attribute_size] = [nlri, attribute].map(|octets| octets.len() as u32);
-                (Following { number: 0, nlri_size, attribute_size }, after)
+                let stale = (stale && !self.has(Fault::NEXT_WITHOUT_MARK)).into();
+                (Following { number: 0, nlri_size, attribute_size, stale }, after)
             }
             Err(number) => (Following { number: number.value(), ..Default::default() }, after),
         }
     }
 
-    fn next(&self, memory: &[u8], nlri: &[u8], room: usize) -> Result<Option<Held>, Number> {
+    /// The next route, and whether it is stale.
+    fn next(&self, memory: &[u8], nlri: &[u8], room: usize) -> Result<Option<(Held, bool)>, Number> {
         let small = room < LEAST_OUTPUT && !self.has(Fault::NEXT_SPACE_WHEN_NEEDED);
         if small && self.has(Fault::NEXT_SPACE_FIRST) {
             return Err(Number::Space);
@@ -45,10 +47,15 @@ impl Second {
         if small {
             return Err(Number::Space);
         }
+        let stale = table.stale.clone();
         match self.behind(table, nlri) {
             // Only under `NextSpaceWhenNeeded` has a smaller output come this far.
             Some((nlri, attribute)) if nlri.len() + attribute.len() > room => Err(Number::Space),
-            follows => Ok(follows),
+            follows => Ok(follows.map(|follows| {
+                let told = if self.has(Fault::NEXT_MARK_OF_ASKED) { nlri } else { &follows.0 };
+                let marked = stale.contains(told);
+                (follows, marked)
+            })),
         }
     }
 
@@ -64,6 +71,9 @@ impl Second {
         }
         if self.has(Fault::NEXT_PASSES_NO_TUNNEL) {
             routes.retain(|(_, attribute)| self.names_tunnel(attribute));
+        }
+        if self.has(Fault::NEXT_PASSES_MARKED) {
+            routes.retain(|(nlri, _)| !table.stale.contains(nlri));
         }
         let first = routes.first().cloned();
         let mut rows: Vec<_> = routes.into_iter().map(|(nlri, attribute)| (nlri, Some(attribute))).collect();
@@ -100,11 +110,12 @@ impl Second {
     /// TABLE, or the family, the places and the routes of a sound table.
     pub fn answer_table_info(&self, memory: &[u8]) -> TableInfo {
         match self.table(memory) {
-            Ok(Table { afi, places, routes }) => {
+            Ok(Table { afi, places, routes, stale }) => {
                 let named = routes.values().filter(|attribute| self.names_tunnel(attribute)).count();
                 let routes = match routes.len() {
                     _ if self.has(Fault::INFO_PLACES_FOR_ROUTES) => places,
                     _ if self.has(Fault::INFO_ROUTES_WITH_TUNNEL) => named,
+                    all if self.has(Fault::INFO_ROUTES_UNMARKED) => all - stale.len(),
                     routes => routes,
                 };
                 let places = if self.has(Fault::INFO_FREE_PLACES) { places - routes.min(places) } else { places };

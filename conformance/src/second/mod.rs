@@ -1,5 +1,6 @@
 //! The second decoder and encoder, written from RFC 6514, RFC 6625, RFC 7441, RFC 8556, RFC 4607 and documents 01 and 02: tables of
-//! rows that one routine interprets. A route table is a map of attributes by NLRI, and its octets are the image of that map.
+//! rows that one routine interprets. A route table is a map of attributes by NLRI and a set of stale NLRIs, and its octets are the
+//! image of both.
 
 pub mod answers;
 pub mod attribute;
@@ -11,6 +12,7 @@ pub mod fec;
 pub mod following;
 pub mod forms;
 pub mod group;
+pub mod history;
 pub mod listing;
 pub mod lists;
 pub mod nlri;
@@ -20,6 +22,7 @@ pub mod pieces;
 #[cfg(test)]
 mod pieces_tests;
 pub mod reasons;
+pub mod restarts;
 pub mod rows;
 pub mod run;
 pub mod shared;

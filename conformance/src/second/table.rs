@@ -1,4 +1,5 @@
-//! A route table as a map of attributes by NLRI, and its one image in octets (document 01, "The table memory").
+//! A route table as a map of attributes by NLRI and the set of NLRIs that are marked stale, and its one image in octets
+//! (document 01, "The table memory"; document 02, W-208).
 
 use super::{
     attribute::Attribute,
@@ -8,7 +9,7 @@ use super::{
     rows::{MLDP_S_PMSI, S_PMSI},
     Second,
 };
-use std::collections::BTreeMap;
+use std::collections::{BTreeMap, BTreeSet};
 
 /// Octets of the header and of a place, and the most places.
 pub const HEADER: usize = 8;
@@ -20,20 +21,30 @@ const BIER: u8 = 11;
 /// Installed S-PMSI A-D routes: the attribute of each NLRI. The map's order is that of the places.
 pub type Routes = BTreeMap<Vec<u8>, Vec<u8>>;
 
+/// The NLRIs of installed routes that are marked stale.
+pub type Stale = BTreeSet<Vec<u8>>;
+
 #[derive(Clone, Debug, PartialEq, Eq)]
 pub struct Table {
     pub afi: u16,
     pub places: usize,
     pub routes: Routes,
+    pub stale: Stale,
 }
 
 impl Table {
     pub fn new(afi: u16, places: usize) -> Self {
-        Table { afi, places, routes: Routes::new() }
+        Table::holding(afi, places, Routes::new())
+    }
+
+    /// A table that holds these routes, none of them marked.
+    pub fn holding(afi: u16, places: usize, routes: Routes) -> Self {
+        Table { afi, places, routes, stale: Stale::new() }
     }
 
     pub fn image(&self) -> Vec<u8> {
-        image(self.afi, size(self.places), self.routes.iter())
+        let placed = self.routes.iter().map(|(nlri, attribute)| (nlri, attribute, self.stale.contains(nlri)));
+        image(self.afi, size(self.places), placed)
     }
 }
 
@@ -45,8 +56,11 @@ pub fn size(places: usize) -> usize {
 /// A route's NLRI and attribute.
 pub type Route<'a> = (&'a Vec<u8>, &'a Vec<u8>);
 
+/// A route's NLRI and attribute, and whether it is marked stale.
+pub type Placed<'a> = (&'a Vec<u8>, &'a Vec<u8>, bool);
+
 /// The octets of a table that holds these routes.
-pub fn image<'a>(afi: u16, size: usize, routes: impl Iterator<Item = Route<'a>>) -> Vec<u8> {
+pub fn image<'a>(afi: u16, size: usize, routes: impl Iterator<Item = Placed<'a>>) -> Vec<u8> {
     let taken: Vec<Vec<u8>> = routes.map(place).collect();
     let [_, family] = afi.to_be_bytes();
     let [high, low] = (taken.len() as u16).to_be_bytes();
@@ -56,10 +70,11 @@ pub fn image<'a>(afi: u16, size: usize, routes: impl Iterator<Item = Route<'a>>)
     image
 }
 
-/// A taken place: both sizes, the NLRI, the attribute, zeros to the end.
-fn place((nlri, attribute): Route) -> Vec<u8> {
+/// A taken place: both sizes, the NLRI, the attribute, zeros, and the mark in the last octet.
+fn place((nlri, attribute, stale): Placed) -> Vec<u8> {
     let mut place = [&[nlri.len() as u8, attribute.len() as u8], &nlri[..], attribute].concat();
-    place.resize(PLACE, 0);
+    place.resize(PLACE - 1, 0);
+    place.push(stale.into());
     place
 }
 
@@ -91,9 +106,11 @@ impl Second {
             false => pair[0].0 < pair[1].0,
         });
         let ordered = increasing || self.has(Fault::ORDER_UNCHECKED);
-        let expected = image(afi, memory.len(), listed.iter().map(|(nlri, attribute)| (nlri, attribute)));
-        let same = self.same_octets(memory, &expected, count);
-        (ordered && same).then(|| Table { afi, places, routes: listed.into_iter().collect() })
+        let placed = listed.iter().map(|(nlri, attribute, stale)| (nlri, attribute, *stale));
+        let same = self.same_octets(memory, &image(afi, memory.len(), placed), count);
+        let stale = listed.iter().filter(|(_, _, stale)| *stale).map(|(nlri, _, _)| nlri.clone()).collect();
+        let routes = listed.into_iter().map(|(nlri, attribute, _)| (nlri, attribute)).collect();
+        (ordered && same).then_some(Table { afi, places, routes, stale })
     }
 
     /// AFI and count of a good header.
@@ -104,9 +121,10 @@ impl Second {
         (name == b"MVT" && version && family).then(|| (u16::from(*afi), usize::from(u16::from_be_bytes([*high, *low]))))
     }
 
-    /// The route of a taken place; none where install would not accept it.
-    fn route(&self, afi: u16, place: &[u8]) -> Option<(Vec<u8>, Vec<u8>)> {
+    /// The route of a taken place, and whether it is marked; none where install would not accept it.
+    fn route(&self, afi: u16, place: &[u8]) -> Option<(Vec<u8>, Vec<u8>, bool)> {
         let [nlri_size, attribute_size, rest @ ..] = place else { return None };
+        let mark = rest.last().copied().unwrap_or(0);
         let (nlri, rest) = rest.split_at_checked(usize::from(*nlri_size))?;
         let (attribute, _) = rest.split_at_checked(usize::from(*attribute_size))?;
         let reading = self.single(afi, nlri).ok()?;
@@ -115,7 +133,7 @@ impl Second {
         let label = tunnel.is_some_and(|tunnel| self.labelled(&tunnel) || self.has(Fault::PLACE_LABEL_UNCHECKED));
         let unnamed = self.has(Fault::NO_TUNNEL_UNSOUND) && !self.names_tunnel(attribute);
         let accepted = kind && (label || self.has(Fault::PLACE_ATTRIBUTE_UNCHECKED)) && !unnamed;
-        accepted.then(|| (nlri.to_vec(), attribute.to_vec()))
+        accepted.then(|| (nlri.to_vec(), attribute.to_vec(), self.is_mark(mark)))
     }
 
     /// Whether the memory behind the header is that of the image: with it every octet that must be zero.
@@ -124,8 +142,29 @@ impl Second {
         let (memory, image) = (&memory[HEADER..end], &image[HEADER..]);
         match self.has(Fault::PADDING_UNCHECKED) {
             true => memory.chunks(PLACE).skip(count).flatten().all(|octet| *octet == 0),
-            false => memory.iter().eq(image.iter().take(memory.len())),
+            false => memory == &image[..memory.len()] || self.same_but_for_marks(memory, image, count),
         }
+    }
+
+    /// Whether the last octet of a taken place says that its route is stale. With any other value than 0 and 1 the place does
+    /// not come out the same when it is laid out again.
+    fn is_mark(&self, octet: u8) -> bool {
+        match octet {
+            1 => !self.has(Fault::MARK_UNSOUND),
+            2 => self.has(Fault::MARK_2_SOUND) || self.has(Fault::MARK_ANY_SOUND),
+            other => other != 0 && self.has(Fault::MARK_ANY_SOUND),
+        }
+    }
+
+    /// The wrong answers of faults about the octets that hold a mark, or might.
+    fn same_but_for_marks(&self, memory: &[u8], image: &[u8], count: usize) -> bool {
+        let overlooked = |at: usize| match (at / PLACE < count, at % PLACE) {
+            (true, 127) => self.is_mark(memory[at]) && image[at] == 1,
+            (false, 127) => self.has(Fault::MARK_IN_FREE_PLACE) && memory[at] == 1,
+            (true, 126) => self.has(Fault::MARK_OF_TWO_OCTETS),
+            _ => false,
+        };
+        (0..memory.len()).all(|at| memory[at] == image[at] || overlooked(at))
     }
 
     /// NLRI reading with no octets after it, then KIND.

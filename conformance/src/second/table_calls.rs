@@ -1,4 +1,4 @@
-//! Making a table, install, withdraw, both matches and explain, on a table and on lent memory.
+//! Making a table, install, withdraw, mark, sweep, both matches and explain, on a table and on lent memory.
 
 use super::{
     choice::{Choice, Flow},
@@ -10,7 +10,7 @@ use super::{
     Second,
 };
 use crate::{
-    ffi::{Explained, Installed, Matched},
+    ffi::{Explained, Installed, Matched, Restarted},
     hexadecimal::encode,
 };
 use std::fmt::{self, Debug, Formatter};
@@ -24,6 +24,12 @@ pub enum TableCall<'a> {
     },
     Withdraw {
         nlri: &'a [u8],
+    },
+    Mark {
+        router: &'a [u8],
+    },
+    Sweep {
+        router: &'a [u8],
     },
     /// `output` is what the output holds beforehand.
     Match {
@@ -47,6 +53,8 @@ pub enum TableCall<'a> {
 pub enum TableAnswer {
     Installed(Installed),
     Withdrawn(u32),
+    /// Of a mark and of a sweep.
+    Restarted(Restarted),
     Matched(Matched, Vec<u8>),
     Explained(Explained, Vec<u8>),
 }
@@ -57,7 +65,7 @@ impl TableAnswer {
         match self {
             TableAnswer::Matched(matched, output) => Some((matched, output)),
             TableAnswer::Explained(explained, output) => Some((&explained.matched, output)),
-            TableAnswer::Installed(_) | TableAnswer::Withdrawn(_) => None,
+            TableAnswer::Installed(_) | TableAnswer::Withdrawn(_) | TableAnswer::Restarted(_) => None,
         }
     }
 }
@@ -69,6 +77,8 @@ impl Debug for TableCall<'_> {
                 write!(formatter, "mvpn_install(nlri {}, attribute {})", encode(nlri), encode(attribute))
             }
             TableCall::Withdraw { nlri } => write!(formatter, "mvpn_withdraw(nlri {})", encode(nlri)),
+            TableCall::Mark { router } => write!(formatter, "mvpn_mark(router {})", encode(router)),
+            TableCall::Sweep { router } => write!(formatter, "mvpn_sweep(router {})", encode(router)),
             TableCall::Match { flow, output } => write!(formatter, "mvpn_match({flow:?}, output of {})", output.len()),
             TableCall::Explain { flow, output } => {
                 write!(formatter, "mvpn_explain({flow:?}, output of {})", output.len())
@@ -89,6 +99,7 @@ impl Debug for TableAnswer {
         match self {
             TableAnswer::Installed(installed) => write!(formatter, "{installed:?}"),
             TableAnswer::Withdrawn(number) => write!(formatter, "number {number}"),
+            TableAnswer::Restarted(restarted) => write!(formatter, "{restarted:?}"),
             TableAnswer::Matched(matched, output) => write!(formatter, "{matched:?}, output {}", encode(output)),
             TableAnswer::Explained(explained, output) => write!(formatter, "{explained:?}, output {}", encode(output)),
         }
@@ -144,6 +155,7 @@ impl Second {
         match *call {
             TableCall::Install { nlri, attribute } => self.accepted(afi, nlri, attribute).err(),
             TableCall::Withdraw { nlri } => self.s_pmsi(afi, nlri).err(),
+            TableCall::Mark { router } | TableCall::Sweep { router } => self.restarting(afi, router).err(),
             TableCall::Match { flow, output } | TableCall::Explain { flow, output } => {
                 self.flow_class(afi, &flow, output.len()).err()
             }
@@ -156,6 +168,7 @@ impl Second {
         match call {
             TableCall::Install { .. } => self.installed(Err(number)),
             TableCall::Withdraw { .. } => withdrawn(Err(number)),
+            TableCall::Mark { .. } | TableCall::Sweep { .. } => self.restarted(Err(number)),
             TableCall::Match { output, .. } | TableCall::MatchShared { output, .. } => {
                 self.matched(Err(number), output)
             }
@@ -168,16 +181,18 @@ impl Second {
         match *call {
             TableCall::Install { nlri, attribute } => self.installed(self.install(table, nlri, attribute)),
             TableCall::Withdraw { nlri } => withdrawn(self.withdraw(table, nlri)),
+            TableCall::Mark { router } => self.restarted(self.mark(table, router)),
+            TableCall::Sweep { router } => self.restarted(self.sweep(table, router)),
             TableCall::Match { flow, output } => {
-                let candidates = self.candidates(table, flow.router);
+                let candidates = self.candidates(table, flow.router, Fault::MARKED_TAKES_NO_FLOW);
                 self.matched(self.choice(table.afi, &flow, output.len(), candidates), output)
             }
             TableCall::Explain { flow, output } => {
-                let candidates = self.candidates(table, flow.router).collect();
+                let candidates = self.candidates(table, flow.router, Fault::MARKED_UNEXPLAINED).collect();
                 self.explained(self.explanation(table.afi, &flow, output.len(), candidates), output)
             }
             TableCall::MatchShared { reception, output } => {
-                let candidates = self.candidates(table, reception.router);
+                let candidates = self.candidates(table, reception.router, Fault::MARKED_TAKES_NO_TREE);
                 self.matched(self.shared_choice(table.afi, &reception, output.len(), candidates), output)
             }
         }
@@ -185,6 +200,7 @@ impl Second {
 
     fn install(&self, table: &mut Table, nlri: &[u8], attribute: &[u8]) -> Result<Outcome, Number> {
         let held = table.routes.contains_key(nlri);
+        let marked = table.stale.contains(nlri);
         let full = table.routes.len() >= table.places && (!held || self.has(Fault::REPLACEMENT_NEEDS_ROOM));
         if full && self.has(Fault::ROOM_BEFORE_NLRI) {
             return Err(Number::Room);
@@ -197,16 +213,36 @@ impl Second {
         if room_first {
             return Err(Number::Room);
         }
+        if accepted.is_err() && self.has(Fault::REFUSED_INSTALL_UNMARKS) {
+            table.stale.remove(nlri);
+        }
         accepted?;
-        if full {
+        if full && self.has(Fault::MARKED_MAKES_ROOM) {
+            if let Some(marked) = table.stale.pop_first() {
+                table.routes.remove(&marked);
+            }
+        }
+        if full && table.routes.len() >= table.places {
             return Err(Number::Room);
         }
         let nods = self.has(Fault::FIRST_INSTALL_ONLY) && !table.routes.is_empty();
         let keeps = self.has(Fault::REPLACEMENT_KEEPS_OLD) && held;
-        if !nods && !keeps {
-            table.routes.insert(nlri.to_vec(), attribute.to_vec());
+        let before = match nods || keeps {
+            true => None,
+            false => table.routes.insert(nlri.to_vec(), attribute.to_vec()),
+        };
+        let same = before.is_some_and(|before| before == attribute);
+        let keeps_mark = self.has(Fault::INSTALL_KEEPS_MARK) || same && self.has(Fault::SAME_INSTALL_KEEPS_MARK);
+        if !keeps_mark {
+            table.stale.remove(nlri);
         }
-        Ok(if held { Outcome::Replaced } else { Outcome::New })
+        if self.has(Fault::INSTALL_UNMARKS_ALL) {
+            table.stale.clear();
+        }
+        match held && !(marked && self.has(Fault::MARKED_INSTALL_NEW)) {
+            true => Ok(Outcome::Replaced),
+            false => Ok(Outcome::New),
+        }
     }
 
     fn withdraw(&self, table: &mut Table, nlri: &[u8]) -> Result<(), Number> {
@@ -218,19 +254,35 @@ impl Second {
         if unnamed && self.has(Fault::NO_TUNNEL_ABSENT) {
             return Err(Number::Absent);
         }
+        if self.has(Fault::MARKED_ABSENT) && table.stale.contains(nlri) {
+            return Err(Number::Absent);
+        }
+        if self.has(Fault::WITHDRAWAL_UNMARKS) && table.stale.remove(nlri) {
+            return Ok(());
+        }
+        table.stale.remove(nlri);
         match table.routes.remove(nlri) {
             None if !self.has(Fault::ABSENT_DONE) => Err(Number::Absent),
             _ => Ok(()),
         }
     }
 
-    /// The routes whose originator is the router asked about, those that name no tunnel among them.
-    fn candidates<'a>(&'a self, table: &'a Table, router: &'a [u8]) -> impl Iterator<Item = Route<'a>> {
-        table.routes.iter().filter(|(nlri, _)| self.originates(table.afi, nlri, router))
+    /// The routes whose originator is the router asked about, those that name no tunnel and those that are marked among them.
+    /// `unmarked` is the fault that leaves the marked ones out.
+    fn candidates<'a>(
+        &'a self,
+        table: &'a Table,
+        router: &'a [u8],
+        unmarked: Fault,
+    ) -> impl Iterator<Item = Route<'a>> {
+        let own = table.routes.iter().filter(|(nlri, _)| self.originates(table.afi, nlri, router));
+        let marked = |(nlri, _): &Route| table.stale.contains(*nlri);
+        let leaves_out = self.has(unmarked) || self.has(Fault::MARKED_TAKES_LAST) && !own.clone().all(|it| marked(&it));
+        own.filter(move |route| !(leaves_out && marked(route)))
     }
 
     /// Whether the route's originator is the router, in size and octets.
-    fn originates(&self, afi: u16, nlri: &[u8], router: &[u8]) -> bool {
+    pub(super) fn originates(&self, afi: u16, nlri: &[u8], router: &[u8]) -> bool {
         let originator = self.single(afi, nlri).map_or(&[][..], |reading| reading.octets(Field::Originator));
         let mapped = [&[0; 10][..], &[0xFF; 2], router].concat();
         originator == router

@@ -14,7 +14,7 @@ use crate::{
         damage::DAMAGES,
         document::{route, table_image, FLOWS, LABELS, ORDER, RD},
         explanations::EXAMPLES,
-        no_tunnel,
+        no_tunnel, restarts,
         routes::{bad_attributes, good_attributes, picked, Addresses},
         samples::GOOD_AFIS,
         shared::any_facts,
@@ -78,7 +78,7 @@ fn sound_memory() {
     // An octet behind the last place taken, one behind an attribute, and the first place repeated or moved.
     let changes: [fn(&mut [u8]); 5] = [
         |memory| memory[8 + 5 * 128] = 1,
-        |memory| memory[8 + 127] = 1,
+        |memory| memory[8 + 126] = 1,
         |memory| memory.copy_within(8..8 + 128, 8 + 128),
         |memory| memory[8..8 + 256].rotate_left(128),
         |memory| memory[7] = 4,
@@ -166,11 +166,13 @@ fn books_and_table() {
             let [source_actives, states] = [addresses.source_actives(&mut random), addresses.states(&mut random)];
             let (facts, source_actives, states) = (any_facts(&mut random), &source_actives[..], &states[..]);
             let reception = Reception { router: flow.router, group: flow.group, facts, source_actives, states };
-            let call = match random.below(5) {
+            let call = match random.below(7) {
                 0 => TableCall::Install { nlri, attribute: picked(&mut random, &attributes) },
                 1 => TableCall::Withdraw { nlri },
                 2 => TableCall::Match { flow, output: &[9; 124] },
                 3 => TableCall::Explain { flow, output: &[9; 124] },
+                4 => TableCall::Mark { router: flow.router },
+                5 => TableCall::Sweep { router: flow.router },
                 _ => TableCall::MatchShared { reception, output: &[9; 124] },
             };
             assert_eq!(books.answer(&call), second.on_table(&mut table, &call), "{call:?}");
@@ -238,7 +240,7 @@ fn following() {
         let (nlri, attribute) = route(name);
         let (following, output) = second.answer_next(&image, &last, &[7; 124]);
         let [nlri_size, attribute_size] = [&nlri, &attribute].map(|octets| octets.len() as u32);
-        assert_eq!(following, Following { number: 0, nlri_size, attribute_size }, "{name}");
+        assert_eq!(following, Following { number: 0, nlri_size, attribute_size, stale: 0 }, "{name}");
         assert!(output.starts_with(&[&nlri[..], &attribute].concat()) && output.ends_with(&[7]), "{name}");
         // What stands between two NLRIs is followed by the second.
         assert_eq!(second.answer_next(&image, &[&last[..], &[0]].concat(), &[7; 124]).0, following, "{name}");
@@ -250,4 +252,44 @@ fn following() {
     assert_eq!(second.answer_next(&image[1..], &[], &[]).0, refused(11));
     assert_eq!(second.answer_table_info(&image), TableInfo { number: 0, afi: 1, places: 6, routes: 5 });
     assert_eq!(second.answer_table_info(&image[1..]), TableInfo { number: 11, ..Default::default() });
+}
+
+/// Document 02, W-208, on a table, on memory, in the books and by the calls alone.
+#[test]
+fn restarts() {
+    let second = Second::sound();
+    let (mut table, mut memory, mut books) = (Table::new(1, 4), restarts::table_of(""), Books::new(second, 1, 4));
+    for (shows, step, number, told, held) in &restarts::EXAMPLE {
+        let asked = step.answer(*number, *told);
+        assert_eq!(step.ask(|call| second.on_table(&mut table, call)), asked, "{shows}");
+        let (answer, after) = step.ask(|call| second.on_memory(&memory, call));
+        assert_eq!((answer, &after), (asked.clone(), &restarts::table_of(held)), "{shows}");
+        assert_eq!(table.image(), after, "{shows}");
+        memory = after;
+        // A book has no places: it knows no ROOM.
+        if *number != 13 {
+            assert_eq!(step.ask(|call| books.answer(call)), asked, "{shows}");
+            assert_eq!(books.image(), memory, "{shows}");
+        }
+    }
+}
+
+/// Document 02, W-208: the last octet of a taken place is 0 or 1, and that of a free one 0.
+#[test]
+fn marks() {
+    let second = Second::sound();
+    for (value, at) in (0..=255).flat_map(|value| [126, 127, 4 * 128 + 126, 5 * 128 + 127].map(|at| (value, at))) {
+        let mut memory = table_image();
+        memory[8 + at] = value;
+        match (value, at) {
+            (0, _) => assert_eq!(second.table(&memory), Ok(document_table())),
+            (1, 127) => {
+                let mut marked = document_table();
+                marked.stale.insert(route("D").0);
+                assert_eq!(second.table(&memory), Ok(marked));
+                assert_eq!(second.answer_next(&memory, &[], &[7; 124]).0.stale, 1);
+            }
+            _ => assert_eq!(second.table(&memory), Err(Number::Table), "{value} at {at}"),
+        }
+    }
 }

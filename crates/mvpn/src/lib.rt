@@ -13,7 +13,7 @@ ghost use Rattle.nlri.specs.Answers.{structFields, nlriAnswer};
 ghost use Rattle.tunnel.specs.Answers.{readStruct, writeOutcome};
 ghost use Rattle.routes.specs.Query.{flowOf};
 ghost use Rattle.routes.specs.Asked.{ofFlow, ofSharedTree};
-ghost use Rattle.routes.specs.Calls.{makeOf, installOf, withdrawOf, matchOf};
+ghost use Rattle.routes.specs.Calls.{makeOf, installOf, withdrawOf, markOf, sweepOf, matchOf};
 ghost use Rattle.routes.specs.Reasons.{explainOf};
 ghost use Rattle.routes.specs.Next.{nextOf};
 ghost use Rattle.routes.specs.Info.{infoOf};
@@ -33,6 +33,7 @@ use routes::Explained;
 use routes::Following;
 use routes::Installed;
 use routes::Matched;
+use routes::Restarted;
 use routes::TableInfo;
 use runs::Cursor;
 use runs::Step;
@@ -115,9 +116,9 @@ impl AttributeAnswer {
 // The version of the library, as the file VERSION has it: major, minor and patch, each an octet of the number.
 #[no_mangle]
 pub extern "C" fn mvpn_version() -> u32
-    ensures { λ r. ⌜ r ≡ 0 * 65536 + 11 * 256 + 1 ⌝ }
+    ensures { λ r. ⌜ r ≡ 0 * 65536 + 12 * 256 + 0 ⌝ }
 {
-    0 * 65536 + 11 * 256 + 1
+    0 * 65536 + 12 * 256 + 0
 }
 
 // Reads a single NLRI.
@@ -261,6 +262,24 @@ pub extern "C" fn mvpn_withdraw(table: &mut [u8], nlri: &[u8]) -> u32
     ensures { λ r. ⌜ now (table .exit) ≡ withdrawOf (now (table .entry)) (now (nlri .entry)) .octets ⌝ }
 {
     table::withdraw(table, nlri)
+}
+
+// Marks a router's routes stale; those already marked go.
+#[no_mangle]
+pub extern "C" fn mvpn_mark(table: &mut [u8], router: &[u8]) -> Restarted
+    ensures { λ r. ⌜ r ≡ markOf (now (table .entry)) (now (router .entry)) .answer ⌝ }
+    ensures { λ _. ⌜ now (table .exit) ≡ markOf (now (table .entry)) (now (router .entry)) .octets ⌝ }
+{
+    table::mark(table, router)
+}
+
+// Takes out what is still marked of a router's routes.
+#[no_mangle]
+pub extern "C" fn mvpn_sweep(table: &mut [u8], router: &[u8]) -> Restarted
+    ensures { λ r. ⌜ r ≡ sweepOf (now (table .entry)) (now (router .entry)) .answer ⌝ }
+    ensures { λ _. ⌜ now (table .exit) ≡ sweepOf (now (table .entry)) (now (router .entry)) .octets ⌝ }
+{
+    table::sweep(table, router)
 }
 
 // Finds the route of a router that a flow takes, and writes it at the front of the output.

@@ -24,6 +24,29 @@ pub length-placed : (at : ℕ) (e d : List ℕ) → at + length e ≤ length d �
 unfolding placed
 length-placed at e d h = simp (length-append, length-take, length-drop) (omega arith)
 
+-- what a write leaves as far as its end
+pub take-placed : (at : ℕ) (e d : List ℕ) → at ≤ length d → take (at + length e) (placed at e d) ≡ take at d ++ e
+unfolding placed
+take-placed at e d h =
+    ap (take (at + length e)) (sym (append-assoc (take at d) e (drop (at + length e) d)))
+    ∙ take-at (take at d ++ e) (drop (at + length e) d) (at + length e) (length-append (take at d) e ∙ ap (λ (n : ℕ). n + length e) (length-take-le at d h))
+
+-- what it leaves behind its end
+pub drop-placed : (at : ℕ) (e d : List ℕ) → at ≤ length d → (n : ℕ) → at + length e ≤ n → drop n (placed at e d) ≡ drop n d
+unfolding placed
+drop-placed at e d h n past =
+    let end : ℕ = at + length e in
+    let on : end + (n - end) ≡ n = omega arith in
+    let size : length (take at d ++ e) ≡ end = length-append (take at d) e ∙ ap (λ (k : ℕ). k + length e) (length-take-le at d h) in
+    rw (← on, ← drop-drop (n - end) end (take at d ++ (e ++ drop end d)), ← drop-drop (n - end) end d)
+    (ap (drop (n - end)) (ap (drop end) (sym (append-assoc (take at d) e (drop end d))) ∙ drop-at (take at d ++ e) (drop end d) end size))
+
+-- a part written where it stands
+pub placed-part : (at size : ℕ) (d : List ℕ) → at + size ≤ length d → placed at (part d at size) d ≡ d
+unfolding placed part
+placed-part at size d h =
+    rw (length-take-le size (drop at d) (simp length-drop (omega arith)), ← drop-drop size at d, take-append-drop size (drop at d)) (take-append-drop at d)
+
 -- what stands in d with e put in from `at` on: e there, and every other element as it was
 module _ (at : ℕ) (e d : List ℕ) (room : at ≤ length d) where
   pub placed-before : (i : ℕ) → i < at → getD (placed at e d) i 0 ≡ getD d i 0
@@ -31,16 +54,10 @@ module _ (at : ℕ) (e d : List ℕ) (room : at ≤ length d) where
   placed-before i h = List·getD-append (take at d) (e ++ drop (at + length e) d) 0 i (omega (arith, length-take-le at d room)) ∙ getD-take at d i 0 h
 
   pub placed-past : (i : ℕ) → at + length e ≤ i → getD (placed at e d) i 0 ≡ getD d i 0
-  unfolding placed
   placed-past i h =
-      let k : ℕ = i - (at + length e) in
-      let sum : i ≡ length (take at d) + (length e + k) = omega (arith, length-take-le at d room) in
-      let back : at + length e + k ≡ i = omega arith in
-      ap (λ (n : ℕ). getD (take at d ++ (e ++ drop (at + length e) d)) n 0) sum
-      ∙ getD-append-add (take at d) (e ++ drop (at + length e) d) (length e + k) 0
-      ∙ getD-append-add e (drop (at + length e) d) k 0
-      ∙ getD-drop (at + length e) d k 0
-      ∙ ap (λ (n : ℕ). getD d n 0) back
+      let none : i ≡ i + 0 = omega arith in
+      ap (λ (n : ℕ). getD (placed at e d) n 0) none ∙ sym (getD-drop i (placed at e d) 0 0) ∙ ap (λ (l : List ℕ). getD l 0 0) (drop-placed at e d room i h) ∙ getD-drop i d 0 0
+      ∙ ap (λ (n : ℕ). getD d n 0) (sym none)
 
   pub part-placed : part (placed at e d) at (length e) ≡ e
   unfolding placed part

@@ -7,7 +7,7 @@ use Prim.Native.Nat.{ℕ, suc, _+_, _-_, _≤_, _<_}
 use native.Mathlib.Omega.{arith}
 use borrow.Author.Tests.{eqb-true, eqb-false, eq-eqb, ne-eqb, ltb-true, ltb-false}
 use lib.ListN.{length, getD, take, drop, length-append, length-drop, List·getD-append}
-use lib.Seq.{length-take-le, take-all, take-at, take-append-seam, getD-drop, drop-drop, drop-append-seam}
+use lib.Seq.{length-take-le, take-all, take-append-seam, getD-drop, drop-drop, drop-append-seam}
 use lib.Dec.{ltb, eqb}
 use Rattle.octets.specs.Numbers.{DONE, SHORT}
 use Rattle.octets.specs.Choice.{pick}
@@ -15,7 +15,7 @@ use Rattle.octets.specs.Outcome.{given, numberOf, andThen}
 use Rattle.octets.specs.Octets.{AllOctets, part, placed}
 use Rattle.octets.proofs.Choice.{tested, pick-true, pick-false}
 use Rattle.octets.proofs.Outcome.{and-given, refused-of, number-refused}
-use Rattle.octets.proofs.Lists.{length-placed}
+use Rattle.octets.proofs.Lists.{length-placed, take-placed}
 use Rattle.octets.proofs.AllOctets.{octets-take, octets-drop}
 use Rattle.nlri.specs.Family.{familyBits}
 use Rattle.nlri.specs.Layouts.{layoutAt}
@@ -66,13 +66,6 @@ pub record Stopped (afi mode : ℕ) (run rest : List ℕ) (c : Caller) : Type 0 
 
 abbrev pub Means : (afi mode bits : ℕ) (run rest : List ℕ) → Caller → Type 0
 Means afi mode bits run rest c = Reading afi mode bits run rest c ⊎ Stopped afi mode run rest c
-
--- octets put behind the first k
-take-placed : (k : ℕ) (e d : List ℕ) → k ≤ length d → take (k + length e) (placed k e d) ≡ take k d ++ e
-unfolding placed
-take-placed k e d h =
-    ap (take (k + length e)) (sym (append-assoc (take k d) e (drop (k + length e) d)))
-    ∙ take-at (take k d ++ e) (drop (k + length e) d) (k + length e) (length-append (take k d) e ∙ ap (λ (n : ℕ). n + length e) (length-take-le k d h))
 
 -- the number of an NLRI under a family
 number-under : (afi bits : ℕ) (s : List ℕ) → familyBits afi ≡ given bits → numberUnder afi s ≡ numberOf (layoutAt bits s)

@@ -11,6 +11,7 @@ pub mod Holding
 pub mod OnceEach
 pub mod Named
 pub mod Ownership
+pub mod Restarts
 pub mod Acts
 pub mod Books
 pub mod AllBooks

@@ -13,6 +13,7 @@ pub mod ArgumentRules
 pub mod MakeRules
 pub mod InstallRules
 pub mod WithdrawRules
+pub mod RestartRules
 pub mod Decisions
 pub mod LastInstalled
 pub mod Mixed

@@ -8,6 +8,7 @@ use Rattle.octets.specs.Outcome.{Outcome, onOutcome}
 use Rattle.octets.specs.Octets.{front}
 use Rattle.routes.specs.declared.Installed.{Installed}
 use Rattle.routes.specs.declared.Matched.{Matched}
+use Rattle.routes.specs.declared.Restarted.{Restarted}
 use Rattle.routes.specs.Route.{nlriOf, attributeOf}
 use Rattle.routes.specs.Matching.{Found, nothing, found}
 
@@ -35,6 +36,14 @@ doneInstall outcome = record { number = DONE; outcome = outcome }
 -- what an install answers
 unfoldable pub installedOf : Outcome ℕ → Installed
 installedOf outcome = onOutcome refusedInstall doneInstall outcome
+
+-- a refusal's number and empty fields
+abbrev pub refusedRestart : ℕ → Restarted
+refusedRestart number = record { number = number; gone = 0 }
+
+-- what a mark or sweep answers: DONE with how many went
+unfoldable pub restartedOf : Outcome ℕ → Restarted
+restartedOf outcome = onOutcome refusedRestart (λ gone. record { number = DONE; gone = gone }) outcome
 
 -- a number and empty fields: of a refusal, and DONE where no route matches
 abbrev pub emptyMatch : ℕ → Matched

@@ -10,8 +10,9 @@ use Rattle.octets.specs.Order.{same}
 use Rattle.octets.specs.Lists.{chosen}
 use Rattle.routes.specs.Route.{Route, nlriOf, holds, removed}
 use Rattle.routes.specs.Matching.{matchIn}
-use Rattle.routes.specs.Answers.{NEW, REPLACED, matchedBy}
-use Rattle.routes.specs.Call.{Call, Answer, installed, withdrawn, matched, Owner, nobody, owner, ownerOf, owns, isNobody, Act, enter, leave, ask, argued, refusalOf, refusalAnswer}
+use Rattle.routes.specs.Restart.{renewed, goneOf}
+use Rattle.routes.specs.Answers.{NEW, REPLACED, restartedOf, matchedBy}
+use Rattle.routes.specs.Call.{Call, Answer, installed, withdrawn, restarted, matched, Owner, nobody, owner, ownerOf, owns, isNobody, Act, enter, leave, renew, ask, argued, refusalOf, refusalAnswer}
 
 -- a book with an NLRI given this attribute
 unfoldable pub entered : Route → List Route → List Route
@@ -19,17 +20,20 @@ entered r [] = r ∷ []
 entered r (q ∷ rs) = pick (same (nlriOf r) (nlriOf q)) (r ∷ rs) (q ∷ entered r rs)
 
 -- what a book answers to an act. Install: DONE, "replaced" if the book held the NLRI, else "new"; withdrawal: DONE, ABSENT if the book does
--- not hold it; match: by the rule over the book's routes
+-- not hold it; mark and sweep: DONE with how many went; match: by the rule over the book's routes
 unfoldable pub actAnswer : (afi : ℕ) (book : List Route) → Act → Answer
 actAnswer afi book (enter r) = installed (record { number = DONE; outcome = pick (holds (nlriOf r) book) REPLACED NEW })
 actAnswer afi book (leave nlri) = withdrawn (pick (holds nlri book) DONE ABSENT)
+actAnswer afi book (renew which router) = restarted (restartedOf (given (goneOf afi router book)))
 actAnswer afi book (ask q output) = matched (matchedBy (given (matchIn afi q book)) output)
 
--- the book after an act: an install gives the NLRI this attribute, a withdrawal takes the NLRI out, a match leaves the book
-unfoldable pub actAfter : (book : List Route) → Act → List Route
-actAfter book (enter r) = entered r book
-actAfter book (leave nlri) = removed nlri book
-actAfter book (ask q output) = book
+-- the book after an act: an install gives the NLRI this attribute, a withdrawal takes the NLRI out, a mark or sweep takes out those marked and
+-- leaves its mark on the others, a match leaves the book
+unfoldable pub actAfter : (afi : ℕ) (book : List Route) → Act → List Route
+actAfter afi book (enter r) = entered r book
+actAfter afi book (leave nlri) = removed nlri book
+actAfter afi book (renew which router) = renewed afi which router book
+actAfter afi book (ask q output) = book
 
 -- what a book answers to a call: the first refusal that arguments and family cause, else what it answers to the act
 unfoldable pub bookAnswer : (afi : ℕ) (book : List Route) → Call → Answer
@@ -37,7 +41,7 @@ bookAnswer afi book c = onOutcome (refusalAnswer c) (actAnswer afi book) (argued
 
 -- the book afterwards: a refusal leaves it
 unfoldable pub bookAfter : (afi : ℕ) (book : List Route) → Call → List Route
-bookAfter afi book c = onOutcome (λ number. book) (actAfter book) (argued afi c)
+bookAfter afi book c = onOutcome (λ number. book) (actAfter afi book) (argued afi c)
 
 -- a book fed calls, in order
 unfoldable pub fed : (afi : ℕ) (book : List Route) → List Call → List Route

@@ -10,12 +10,14 @@ use Rattle.octets.specs.Outcome.{Outcome, given, onOutcome, unless, andThen, nu
 use Rattle.nlri.specs.Family.{familyBits}
 use Rattle.routes.specs.declared.Installed.{Installed}
 use Rattle.routes.specs.declared.Matched.{Matched}
+use Rattle.routes.specs.declared.Restarted.{Restarted}
 use Rattle.routes.specs.Route.{Route, route, nlriOf, holds, inserted, removed}
 use Rattle.routes.specs.Arguments.{readSPmsi, readRoute}
 use Rattle.routes.specs.Asked.{Asked, readAsked}
 use Rattle.routes.specs.Table.{imageOf, afiIn, placesIn, routesOf, tableSize, soundOf}
 use Rattle.routes.specs.Matching.{Found, matchIn}
-use Rattle.routes.specs.Answers.{Changed, NEW, REPLACED, installedOf, matchedBy}
+use Rattle.routes.specs.Restart.{RestartCall, marking, sweeping, renewed, goneOf, readRouter}
+use Rattle.routes.specs.Answers.{Changed, NEW, REPLACED, installedOf, restartedOf, matchedBy}
 
 -- making a table: FAMILY, TABLE; then every octet is written
 unfoldable pub makeOutcome : ℕ → List ℕ → Outcome (List ℕ)
@@ -56,6 +58,26 @@ withdrawOf t nlri =
       answer = numberOf (withdrawOutcome t nlri);
       octets = onOutcome (λ number. t) (λ n. imageOf (afiIn t) (placesIn t) (removed n (routesOf t))) (withdrawOutcome t nlri);
     }
+
+-- mark and sweep: TABLE, then FLOW; how many went
+unfoldable pub restartOutcome : (table router : List ℕ) → Outcome ℕ
+restartOutcome t router = unless (soundOf t) TABLE (andThen (readRouter router) (λ named. given (goneOf (afiIn t) named (routesOf t))))
+
+-- the answer, and the table afterwards
+unfoldable pub restartOf : RestartCall → (table router : List ℕ) → Changed Restarted
+restartOf which t router =
+    record {
+      answer = restartedOf (restartOutcome t router);
+      octets = onOutcome (λ number. t) (λ gone. imageOf (afiIn t) (placesIn t) (renewed (afiIn t) which router (routesOf t))) (restartOutcome t router);
+    }
+
+-- a router's routes marked stale; those already marked go
+abbrev pub markOf : (table router : List ℕ) → Changed Restarted
+markOf t router = restartOf marking t router
+
+-- what is still marked of a router's routes goes
+abbrev pub sweepOf : (table router : List ℕ) → Changed Restarted
+sweepOf t router = restartOf sweeping t router
 
 -- a match of any kind: TABLE, then its arguments
 unfoldable pub matchOutcome : (table : List ℕ) → Asked → (output : List ℕ) → Outcome Found

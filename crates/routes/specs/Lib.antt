@@ -8,6 +8,7 @@ pub mod Asked
 pub mod Place
 pub mod Table
 pub mod Matching
+pub mod Restart
 pub mod OnePass
 pub mod Answers
 pub mod Calls

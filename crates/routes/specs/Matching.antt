@@ -20,9 +20,13 @@ ofFields afi r test = onOutcome (λ number. false) test (readSPmsi afi (nlriOf r
 unfoldable pub namesTunnel : Route → Bool
 namesTunnel r = onOutcome (λ number. false) (λ f. not (eqb (f .tunnelType) 0)) (readAttribute (attributeOf r))
 
--- a candidate: its originator equals the router asked about, in size and octets, and it names a tunnel (RFC 8556, section 4.1; request W-202)
+-- a route is one of the router's: its originator equals the router, in size and octets
+abbrev pub ofRouter : ℕ → (router : List ℕ) → Route → Bool
+ofRouter afi router r = ofFields afi r (λ f. same (f .originator) router)
+
+-- a candidate: one of the router asked about that names a tunnel (RFC 8556, section 4.1; request W-202)
 unfoldable pub candidate : ℕ → (router : List ℕ) → Route → Bool
-candidate afi router r = both (ofFields afi r (λ f. same (f .originator) router)) (namesTunnel r)
+candidate afi router r = both (ofRouter afi router r) (namesTunnel r)
 
 -- a candidate of a tier
 unfoldable pub eligible : ℕ → (router : List ℕ) → Wanted → Route → Bool

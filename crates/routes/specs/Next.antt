@@ -6,11 +6,11 @@ use lib.ListN.{length}
 use lib.Dec.{ltb}
 use Rattle.octets.specs.Numbers.{TABLE, SPACE}
 use Rattle.octets.specs.Choice.{pick}
-use Rattle.octets.specs.Outcome.{Outcome, given, refused, unless}
+use Rattle.octets.specs.Outcome.{Outcome, given, refused, onOutcome, unless}
 use Rattle.octets.specs.Order.{before}
-use Rattle.routes.specs.declared.Matched.{Matched}
 use Rattle.routes.specs.declared.Following.{Following}
-use Rattle.routes.specs.Route.{Route, nlriOf}
+use Rattle.routes.specs.Route.{Route, nlriOf, staleOf}
+use Rattle.routes.specs.Place.{markOctet}
 use Rattle.routes.specs.Table.{routesOf, soundOf}
 use Rattle.routes.specs.Matching.{Found, nothing, found}
 use Rattle.routes.specs.Answers.{Changed, matchedBy}
@@ -26,16 +26,26 @@ nextOutcome t nlri output = unless (soundOf t) TABLE (pick (ltb (length output) 
 
 -- a number and empty fields: of a refusal, and DONE where no route comes after
 abbrev pub emptyNext : ℕ → Following
-emptyNext number = record { number = number; «nlri_size» = 0; «attribute_size» = 0 }
+emptyNext number = record { number = number; «nlri_size» = 0; «attribute_size» = 0; stale = 0 }
 
--- what a match answers and leaves, but for its tier
-abbrev pub withoutTier : Changed Matched → Changed Following
-withoutTier m =
+-- the mark of a route that was found, as next tells it
+unfoldable pub foundMark : Found → ℕ
+foundMark nothing = 0
+foundMark (found tier r) = markOctet (staleOf r)
+
+-- what a match answers and leaves, with a mark for its tier
+abbrev pub followingBy : Outcome Found → (output : List ℕ) → Changed Following
+followingBy outcome output =
     record {
-      answer = record { number = m .answer .number; «nlri_size» = m .answer .«nlri_size»; «attribute_size» = m .answer .«attribute_size» };
-      octets = m .octets;
+      answer = record {
+        number = matchedBy outcome output .answer .number;
+        «nlri_size» = matchedBy outcome output .answer .«nlri_size»;
+        «attribute_size» = matchedBy outcome output .answer .«attribute_size»;
+        stale = onOutcome (λ number. 0) foundMark outcome;
+      };
+      octets = matchedBy outcome output .octets;
     }
 
 -- the answer, and the output afterwards: as a match tells a route, or none
 unfoldable pub nextOf : (table nlri output : List ℕ) → Changed Following
-nextOf t nlri output = withoutTier (matchedBy (nextOutcome t nlri output) output)
+nextOf t nlri output = followingBy (nextOutcome t nlri output) output

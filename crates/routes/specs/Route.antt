@@ -6,17 +6,29 @@ use mathlib.Core.List.{List, [], _∷_}
 use Rattle.octets.specs.Choice.{pick}
 use Rattle.octets.specs.Order.{same, before}
 
--- a route: the octets of its NLRI, header included, and of its attribute
+-- a route: the octets of its NLRI, header included, and of its attribute; and whether it is marked stale (request W-208)
 pub data Route : Type 0 where
-  route : (nlri attribute : List ℕ) → Route
+  entry : (nlri attribute : List ℕ) (stale : Bool) → Route
+
+-- a route as install gives it: not marked
+abbrev pub route : (nlri attribute : List ℕ) → Route
+route nlri attribute = entry nlri attribute false
 
 -- its NLRI
 unfoldable pub nlriOf : Route → List ℕ
-nlriOf (route nlri attribute) = nlri
+nlriOf (entry nlri attribute stale) = nlri
 
 -- its attribute
 unfoldable pub attributeOf : Route → List ℕ
-attributeOf (route nlri attribute) = attribute
+attributeOf (entry nlri attribute stale) = attribute
+
+-- its mark
+unfoldable pub staleOf : Route → Bool
+staleOf (entry nlri attribute stale) = stale
+
+-- the same route with this mark
+abbrev pub withMark : Bool → Route → Route
+withMark stale r = entry (nlriOf r) (attributeOf r) stale
 
 -- what routes hold of an NLRI: a route, or nothing
 pub data Held : Type 0 where

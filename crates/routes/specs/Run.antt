@@ -7,8 +7,8 @@ use Rattle.octets.specs.Lists.{chosen}
 use Rattle.routes.specs.Route.{arranged}
 use Rattle.routes.specs.Arguments.{readSPmsi}
 use Rattle.routes.specs.Table.{imageOf}
-use Rattle.routes.specs.Calls.{installOf, withdrawOf, matchOf}
-use Rattle.routes.specs.Call.{Call, install, withdraw, match, Answer, installed, withdrawn, matched, owns}
+use Rattle.routes.specs.Calls.{installOf, withdrawOf, restartOf, matchOf}
+use Rattle.routes.specs.Call.{Call, install, withdraw, restart, match, Answer, installed, withdrawn, restarted, matched, owns}
 use Rattle.routes.specs.Book.{onceEach, allBooks}
 
 -- a call, its answer, and the table octets after it
@@ -21,6 +21,7 @@ pub record Step : Type 0 where
 unfoldable pub stepOf : List ℕ → Call → Step
 stepOf t (install nlri attribute) = record { call = install nlri attribute; answer = installed (installOf t nlri attribute .answer); octets = installOf t nlri attribute .octets }
 stepOf t (withdraw nlri) = record { call = withdraw nlri; answer = withdrawn (withdrawOf t nlri .answer); octets = withdrawOf t nlri .octets }
+stepOf t (restart which router) = record { call = restart which router; answer = restarted (restartOf which t router .answer); octets = restartOf which t router .octets }
 stepOf t (match asked output) = record { call = match asked output; answer = matched (matchOf t asked output); octets = t }
 
 -- calls one after the other, each on the octets that the last one left
@@ -55,6 +56,7 @@ imageOfBooks afi places calls = imageOf afi places (arranged (allBooks afi calls
 unfoldable pub namedIn : ℕ → Call → List (List ℕ)
 namedIn afi (install nlri attribute) = onOutcome (λ number. []) (λ f. nlri ∷ []) (readSPmsi afi nlri)
 namedIn afi (withdraw nlri) = []
+namedIn afi (restart which router) = []
 namedIn afi (match asked output) = []
 
 -- those that calls name

@@ -1,6 +1,6 @@
 // What calls on a route table answer. The definitions and theorems about tables stand in specs/ and proofs/.
 ghost use mathlib.Core.Path.{_≡_};
-ghost use Rattle.routes.specs.Answers.{refusedInstall, doneInstall, emptyMatch};
+ghost use Rattle.routes.specs.Answers.{refusedInstall, doneInstall, refusedRestart, emptyMatch};
 ghost use Rattle.routes.specs.Reasons.{refusedExplanation};
 ghost use Rattle.routes.specs.Next.{emptyNext};
 ghost use Rattle.routes.specs.Info.{emptyInfo};
@@ -33,6 +33,22 @@ impl Installed {
             number: DONE,
             outcome,
         }
+    }
+}
+
+// What mark and sweep answer: DONE with how many routes went, or the refusal's number and 0.
+#[repr(C)]
+pub struct Restarted {
+    pub number: u32,
+    pub gone: u32,
+}
+
+impl Restarted {
+    // A call that is refused.
+    pub fn refused(number: u32) -> Restarted
+        ensures { λ r. ⌜ r ≡ refusedRestart number ⌝ }
+    {
+        Restarted { number, gone: 0 }
     }
 }
 
@@ -93,12 +109,14 @@ impl Explained {
     }
 }
 
-// What next answers: DONE with both sizes, 0 where no route comes after, or the refusal's number and 0.
+// What next answers: DONE with both sizes and the mark, 1 where the route is marked stale, all 0 where no route comes after, or the
+// refusal's number and 0.
 #[repr(C)]
 pub struct Following {
     pub number: u32,
     pub nlri_size: u32,
     pub attribute_size: u32,
+    pub stale: u32,
 }
 
 impl Following {
@@ -110,6 +128,7 @@ impl Following {
             number,
             nlri_size: 0,
             attribute_size: 0,
+            stale: 0,
         }
     }
 

@@ -1,11 +1,12 @@
 -- The route that comes next, found by the place where an NLRI stands or belongs, and what next answers, case by case.
 use Prim.Native.Nat.{ℕ, suc, _+_, _*_, _≤_, _<_}
-use mathlib.Core.Path.{_≡_, refl, sym, _∙_, ap}
+use mathlib.Core.Path.{_≡_, refl, sym, _∙_, ap, ap₂}
 use mathlib.Core.Bool.{true, false}
 use mathlib.Core.List.{List}
 use native.Mathlib.Omega.{arith}
 use borrow.Author.Tests.{lt-ltb, le-ltb}
-use lib.ListN.{length, drop, drop-of-length-le}
+use lib.ListN.{length, getD, drop, drop-of-length-le}
+use lib.Dec.{eqb}
 use Rattle.octets.specs.Numbers.{TABLE, SPACE}
 use Rattle.octets.specs.Outcome.{given, refused, onOutcome}
 use Rattle.octets.specs.Octets.{part}
@@ -14,16 +15,18 @@ use Rattle.octets.proofs.Choice.{opposite, pick-true, pick-false, tested}
 use Rattle.octets.proofs.Orders.{same-equal, same-swapped, before-itself, before-other, before-once}
 use Rattle.routes.specs.declared.Matched.{Matched}
 use Rattle.routes.specs.declared.Following.{Following}
-use Rattle.routes.specs.Route.{Route, nlriOf, Increasing, last, next}
-use Rattle.routes.specs.Place.{routeIn}
+use Rattle.routes.specs.Route.{Route, nlriOf, staleOf, Increasing, last, next}
+use Rattle.routes.specs.Place.{markOctet, routeIn}
 use Rattle.routes.specs.Table.{afiIn, countIn, routesOf, soundOf}
 use Rattle.routes.specs.Matching.{found}
 use Rattle.routes.specs.Answers.{foundAnswer, foundOutput, matchedBy}
-use Rattle.routes.specs.Next.{nextIn, nextOutcome, emptyNext, withoutTier, nextOf}
+use Rattle.routes.specs.Next.{nextIn, nextOutcome, emptyNext, foundMark, followingBy, nextOf}
+use Rattle.routes.proofs.Definitions.Places.{mark-octet}
 use Rattle.routes.proofs.Definitions.Nexts.{next-here, next-later}
 use Rattle.routes.proofs.Statements.Images.{length-routes, sound-holdable}
 use Rattle.table.specs.Changing.{routeAt, rank, firstIs, firstFound, Leaves}
 use Rattle.table.specs.Scanning.{RouteFits}
+use Rattle.table.proofs.Sounds.{sound-mark}
 use Rattle.table.proofs.Ranks.{rank-more, rank-none}
 use Rattle.table.proofs.Finds.{routes-from-index}
 use Rattle.table.proofs.Taken.{taken-writable}
@@ -78,21 +81,22 @@ module _ (t n : List ℕ) (k : ℕ) (is : soundOf t ≡ true) (e : k ≡ rank n 
 -- the route at an index, told, or none
 module _ (t : List ℕ) (i count : ℕ) (counted : count ≡ countIn t) where
   pub first-none : count ≤ i → (output : List ℕ) (answer : Following) → answer ≡ emptyNext 0
-      → Leaves (withoutTier (matchedBy (given (firstFound (drop i (routesOf t)))) output)) answer output
-  unfolding firstFound matchedBy onOutcome foundAnswer foundOutput
+      → Leaves (followingBy (given (firstFound (drop i (routesOf t)))) output) answer output
+  unfolding firstFound matchedBy onOutcome foundAnswer foundOutput foundMark
   first-none past output answer a = rw (drop-of-length-le (routesOf t) {i = i} (omega (arith, length-routes t))) (a, refl)
 
   module _ (here : i < count) (place : List ℕ) (is : place ≡ part t (8 + 128 * i) 128) where
     pub first-fits : soundOf t ≡ true → (output : List ℕ) → 124 ≤ length output → RouteFits place output
     first-fits sound output room = rw is (taken-writable (afiIn t) t (8 + 128 * i) (table-taken t sound i (omega arith)) output room)
 
-    pub first-told : (output left : List ℕ) (told : Matched) → Leaves (matchedBy (given (found 0 (routeIn place))) output) told left
-        → Leaves (withoutTier (matchedBy (given (firstFound (drop i (routesOf t)))) output))
-        (record { number = told .number; «nlri_size» = told .«nlri_size»; «attribute_size» = told .«attribute_size» }) left
-    unfolding firstFound routeAt
-    first-told output left told l =
+    pub first-told : soundOf t ≡ true → (output left : List ℕ) (told : Matched) → Leaves (matchedBy (given (found 0 (routeIn place))) output) told left
+        → Leaves (followingBy (given (firstFound (drop i (routesOf t)))) output)
+        (record { number = told .number; «nlri_size» = told .«nlri_size»; «attribute_size» = told .«attribute_size»; stale = getD place 127 0 }) left
+    unfolding firstFound routeAt onOutcome foundMark staleOf routeIn
+    first-told sound output left told l =
         let first : firstFound (drop i (routesOf t)) ≡ found 0 (routeIn place) = ap firstFound (routes-from-index t i (omega arith)) ∙ ap (λ (x : List ℕ). found 0 (routeIn x)) (sym is) in
-        rw first (ap (λ (m : Matched). withoutTier (record { answer = m; octets = left }) .answer) (l .0), l .1)
+        let mark : getD place 127 0 ≡ markOctet (eqb (getD place 127 0) 1) = sym (mark-octet _ (rw is (sound-mark (afiIn t) _ (table-taken t sound i (omega arith) .sound)))) in
+        rw first (ap₂ (λ (m : Matched) (k : ℕ). record { number = m .number; «nlri_size» = m .«nlri_size»; «attribute_size» = m .«attribute_size»; stale = k }) (l .0) mark, l .1)
 
 -- what next answers
 module _ (t n output : List ℕ) (answer : Following) where
@@ -112,7 +116,7 @@ module _ (t n output : List ℕ) (answer : Following) where
 
   -- the route at the index of the one that comes next
   pub next-told : soundOf t ≡ true → 124 ≤ length output → (i : ℕ) → firstFound (drop i (routesOf t)) ≡ nextIn n (routesOf t) → (left : List ℕ)
-      → Leaves (withoutTier (matchedBy (given (firstFound (drop i (routesOf t)))) output)) answer left → Leaves (nextOf t n output) answer left
+      → Leaves (followingBy (given (firstFound (drop i (routesOf t)))) output) answer left → Leaves (nextOf t n output) answer left
   unfolding nextOf nextOutcome
   next-told s h i e left l =
       let given-next : nextOutcome t n output ≡ given (firstFound (drop i (routesOf t))) = pick-true _ _ _ s ∙ pick-false _ _ _ (le-ltb _ _ h) ∙ ap given (sym e) in

@@ -47,7 +47,7 @@ unfolding installOutcome andThen
 install-faulty t n a m h e d = refuses t n a m (pick-true _ _ _ h ∙ rw (refused-of (readRoute (afiIn t) n a) m e d))
 
 -- a route that is acceptable fits a place
-pub route-fits : (afi : ℕ) (n a : List ℕ) → numberOf (readRoute afi n a) ≡ DONE → length n + length a ≤ 126
+pub route-fits : (afi : ℕ) (n a : List ℕ) → numberOf (readRoute afi n a) ≡ DONE → length n + length a ≤ 125
 unfolding nlriOf attributeOf
 route-fits afi n a e =
     let s = sizes-of afi (route n a) (read-acceptable afi (route n a) (route n a) (route-fault-none afi n a e)) in

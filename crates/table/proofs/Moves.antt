@@ -109,6 +109,11 @@ lent-down n start end t y z h k e =
     rw (e, drop-taken n (end - start) x (omega arith), drop-drop n start t, after-part start end t (omega arith))
     (ap (λ (l : List ℕ). take start t ++ l) (append-assoc (take (end - start - n) (drop (start + n) t)) z (drop end t)))
 
+-- a part lent to be cleared
+pub part-cleared : (start end : ℕ) (t z : List ℕ) → start ≤ end → end ≤ length t → z ≡ zeros (length (take (end - start) (drop start t)))
+    → take start t ++ (z ++ drop (end - start) (drop start t)) ≡ take start t ++ (zeros (end - start) ++ drop end t)
+part-cleared start end t z h k f = rw (f, part-size start end t h k, after-part start end t h)
+
 -- a part lent to be written over
 pub lent-over : (n start : ℕ) (t p : List ℕ) → length p ≡ n → take start t ++ (p ++ drop (start + n - start) (drop start t)) ≡ placed start p t
 unfolding placed

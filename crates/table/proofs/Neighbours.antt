@@ -12,13 +12,14 @@ use lib.Seq.{take-all}
 use Rattle.octets.specs.Choice.{pick}
 use Rattle.octets.specs.Octets.{AllOctets, part, numberIn}
 use Rattle.octets.specs.Order.{before}
-use Rattle.octets.proofs.Choice.{tested, pick-true, pick-false, both-true-left, both-true-right, either-left, either-last}
+use Rattle.octets.proofs.Choice.{tested, pick-true, pick-false, both-true-left, either-left, either-last}
 use Rattle.octets.proofs.Lists.{length-part, part-octet, part-within}
 use Rattle.octets.proofs.NetworkOrder.{same-number}
 use Rattle.octets.proofs.Orders.{parts-decide, parts-differ, parts-alike, octet-alike, octet-decides, before-itself, before-none}
 use Rattle.routes.specs.Route.{nlriOf}
 use Rattle.routes.specs.Place.{endIn, routeIn, placeSound}
 use Rattle.routes.proofs.Definitions.Bounds.{accepted}
+use Rattle.routes.proofs.Definitions.Places.{sound-acceptable}
 use Rattle.table.specs.Scanning.{originatorStart}
 use Rattle.table.specs.Passing.{risesAt}
 use Rattle.table.proofs.FieldStarts.{fields-bounded, length-told}
@@ -82,10 +83,10 @@ nlri-at afi t at h sound =
     let size : ℕ = getD t at 0 in
     let at₀ : at + 0 ≡ at = omega arith in
     let first : getD place 0 0 ≡ size = part-octet t at 128 0 (omega arith) ∙ ap (λ (i : ℕ). getD t i 0) at₀ in
-    let most : size ≤ 126 = omega (arith, leb-true (endIn place) 128 (both-true-left _ _ sound)) in
+    let most : size ≤ 126 = omega (arith, leb-true (endIn place) 127 (both-true-left _ _ sound)) in
     let is : nlriOf (routeIn place) ≡ part t (at + 2) size = ap (part place 2) first ∙ part-within t at 128 2 size (omega arith) in
     let long : length (part t (at + 2) size) ≡ size = length-part t (at + 2) size (omega arith) in
-    let a = accepted afi (routeIn place) (both-true-left _ _ (both-true-right _ _ sound)) in
+    let a = accepted afi (routeIn place) (sound-acceptable afi place sound) in
     let nlri : List ℕ = nlriOf (routeIn place) in
     let sized : length nlri ≡ size = ap length is ∙ long in
     let told : getD nlri 1 0 ≡ length nlri - 2 = length-told afi nlri (a .fields) (a .read) in

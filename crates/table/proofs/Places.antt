@@ -8,10 +8,11 @@ use lib.ListN.{length, length-append, drop, replicate-append-replicate}
 use lib.Seq.{drop-at}
 use Rattle.octets.specs.Octets.{placed}
 use Rattle.octets.specs.Order.{zeros}
+use Rattle.octets.specs.Choice.{pick}
 use Rattle.octets.specs.Outputs.{Put}
 use Rattle.octets.proofs.Outputs.{put-then}
 use Rattle.routes.specs.Route.{route}
-use Rattle.routes.specs.Place.{placeOf}
+use Rattle.routes.specs.Place.{markOctet, placeOf}
 use Rattle.routes.proofs.Definitions.Places.{length-zeros}
 
 pub zeros-split : (m n : ℕ) → zeros (m + n) ≡ zeros m ++ zeros n
@@ -28,8 +29,8 @@ over-zeros size e h =
     rw (zero-add (length e), rest)
 
 -- sizes, NLRI and attribute put into zeros one after the other
-pub place-written : (n a z x y w : List ℕ) (i j k : ℕ) → length n + length a ≤ 126 → z ≡ zeros 128 → Put 0 (length n ∷ (length a ∷ [])) z i x → Put i n x j y → Put j a y k w → w ≡ placeOf (route n a)
-unfolding placeOf
+pub place-written : (n a z x y w : List ℕ) (i j k : ℕ) → length n + length a ≤ 125 → z ≡ zeros 128 → Put 0 (length n ∷ (length a ∷ [])) z i x → Put i n x j y → Put j a y k w → w ≡ placeOf (route n a)
+unfolding placeOf markOctet pick zeros
 place-written n a z x y w i j k h e p q r =
     let lz : length z ≡ 128 = ap length e ∙ length-zeros 128 in
     let sizes : List ℕ = length n ∷ (length a ∷ []) in
@@ -37,5 +38,7 @@ place-written n a z x y w i j k h e p q r =
     let whole : Put 0 ((sizes ++ n) ++ a) z k w = put-then 0 (sizes ++ n) a z (omega (arith, length-append n a)) j y first k w r in
     let over : placed 0 ((sizes ++ n) ++ a) (zeros 128) ≡ ((sizes ++ n) ++ a) ++ zeros (128 - length ((sizes ++ n) ++ a)) = over-zeros 128 ((sizes ++ n) ++ a) (omega arith) in
     let left : 128 - length ((sizes ++ n) ++ a) ≡ 126 - (length n + length a) = omega arith in
+    let last : 126 - (length n + length a) ≡ 125 - (length n + length a) + 1 = omega arith in
     whole .1 ∙ ap (placed 0 ((sizes ++ n) ++ a)) e ∙ over ∙ ap (λ (m : ℕ). ((sizes ++ n) ++ a) ++ zeros m) left
-    ∙ ap (λ (l : List ℕ). length n ∷ (length a ∷ l)) (append-assoc n a (zeros (126 - (length n + length a))))
+    ∙ ap (λ (l : List ℕ). length n ∷ (length a ∷ l)) (append-assoc n a (zeros (126 - (length n + length a)))
+    ∙ ap (λ (l : List ℕ). n ++ (a ++ l)) (ap zeros last ∙ zeros-split (125 - (length n + length a)) 1))

@@ -13,7 +13,7 @@ use Rattle.octets.specs.Choice.{pick, both, either}
 use Rattle.octets.specs.Outcome.{Outcome, given, refused, onOutcome, andThen, numberOf}
 use Rattle.octets.specs.Octets.{part, numberIn, lowFirst}
 use Rattle.octets.specs.Order.{same, before, allZero}
-use Rattle.octets.proofs.Choice.{both-true, both-left, both-right, both-last, pick-true, pick-false, opposite, both-true-left}
+use Rattle.octets.proofs.Choice.{both-true, both-left, both-right, both-last, pick-true, pick-false, opposite, both-true-left, both-true-right}
 use Rattle.octets.proofs.Outcome.{number-goes, number-stops, refused-of, done-given, number-kept, number-picks, number-skips}
 use Rattle.octets.proofs.LowFirst.{low-zero}
 use Rattle.octets.proofs.Orders.{zero-covered}
@@ -128,18 +128,23 @@ other-unacceptable afi nlri attribute e = rw (s-pmsi-unread afi nlri e .1)
 
 -- a place, by the tests of it
 module _ (afi : ℕ) (place : List ℕ) where
-  pub place-over : 128 < endIn place → false ≡ placeSound afi place
+  pub place-over : 127 < endIn place → false ≡ placeSound afi place
   unfolding placeSound
-  place-over h = sym (both-left _ _ (lt-leb (endIn place) 128 h))
+  place-over h = sym (both-left _ _ (lt-leb (endIn place) 127 h))
 
-  module _ (within : endIn place ≤ 128) (nlri : List ℕ) (flag : Bool) (n : nlri ≡ part place 2 (getD place 0 0)) (e : flag ≡ isSPmsi afi nlri) where
-    route-is : (attribute : List ℕ) → attribute ≡ part place (2 + getD place 0 0) (getD place 1 0) → route nlri attribute ≡ routeIn place
-    unfolding routeIn
-    route-is attribute a = ap₂ route n a
+  -- a mark that is neither 0 nor 1
+  pub place-mismarked : endIn place ≤ 127 → 1 < getD place 127 0 → false ≡ placeSound afi place
+  unfolding placeSound
+  place-mismarked within h = sym (both-right _ _ (le-leb (endIn place) 127 within) (both-left _ _ (lt-leb (getD place 127 0) 1 h)))
+
+  module _ (within : endIn place ≤ 127) (mark : getD place 127 0 ≤ 1) (nlri : List ℕ) (flag : Bool) (n : nlri ≡ part place 2 (getD place 0 0)) (e : flag ≡ isSPmsi afi nlri) where
+    route-is : (attribute : List ℕ) → attribute ≡ part place (2 + getD place 0 0) (getD place 1 0) → acceptable afi (route nlri attribute) ≡ acceptable afi (routeIn place)
+    unfolding routeIn acceptable nlriOf attributeOf
+    route-is attribute a = ap₂ (λ (x y : List ℕ). acceptable afi (route x y)) n a
 
     unacceptable : (attribute : List ℕ) → attribute ≡ part place (2 + getD place 0 0) (getD place 1 0) → acceptable afi (route nlri attribute) ≡ false → false ≡ placeSound afi place
     unfolding placeSound
-    unacceptable attribute a q = sym (both-right _ _ (le-leb (endIn place) 128 within) (both-left _ _ (ap (acceptable afi) (sym (route-is attribute a)) ∙ q)))
+    unacceptable attribute a q = sym (both-right _ _ (le-leb (endIn place) 127 within) (both-right _ _ (le-leb (getD place 127 0) 1 mark) (both-left _ _ (sym (route-is attribute a) ∙ q))))
 
     pub place-other : flag ≡ false → false ≡ placeSound afi place
     place-other h = unacceptable _ refl (other-unacceptable afi nlri _ (sym e ∙ h))
@@ -151,15 +156,21 @@ module _ (afi : ℕ) (place : List ℕ) where
       pub place-refused : (fault ≡ DONE → ⊥) → false ≡ placeSound afi place
       place-refused q = unacceptable attribute a (fault-unacceptable afi nlri attribute fault judged-place q)
 
-      pub place-accepted : fault ≡ DONE → (r : Bool) → r ≡ allZero (drop (endIn place) place) → r ≡ placeSound afi place
-      unfolding placeSound
-      place-accepted q r z =
-          both-last _ _ r (le-leb (endIn place) 128 within)
-          (both-last _ _ r (ap (acceptable afi) (sym (route-is attribute a)) ∙ fault-acceptable afi nlri attribute (sym judged-place ∙ q)) z)
+      pub place-accepted : fault ≡ DONE → (body : List ℕ) (r : Bool) → body ≡ part place 0 127 → r ≡ allZero (drop (endIn place) body) → r ≡ placeSound afi place
+      unfolding placeSound part
+      place-accepted q body r b z =
+          both-last _ _ r (le-leb (endIn place) 127 within)
+          (both-last _ _ r (le-leb (getD place 127 0) 1 mark)
+          (both-last _ _ r (sym (route-is attribute a) ∙ fault-acceptable afi nlri attribute (sym judged-place ∙ q)) (z ∙ ap (λ (l : List ℕ). allZero (drop (endIn place) l)) b)))
 
   pub sound-end : placeSound afi place ≡ true → endIn place ≤ 128
   unfolding placeSound
-  sound-end h = leb-true _ _ (both-true-left _ _ h)
+  sound-end h = let e : endIn place ≤ 127 = leb-true _ _ (both-true-left _ _ h) in omega (arith, e)
+
+  -- the mark of a sound place
+  pub sound-mark : placeSound afi place ≡ true → getD place 127 0 ≤ 1
+  unfolding placeSound
+  sound-mark h = leb-true _ _ (both-true-left _ _ (both-true-right _ _ h))
 
 -- zeros from `at` on: those behind the first n octets, then these, by the number in them
 module _ (t : List ℕ) (at n : ℕ) (rest : List ℕ) (flag : Bool) (d : rest ≡ drop (at + n) t) (z : flag ≡ allZero rest) where

@@ -8,7 +8,7 @@ use Rattle.octets.specs.Octets.{part, placed}
 use Rattle.octets.specs.Choice.{pick}
 use Rattle.octets.specs.Order.{same, before, zeros}
 use Rattle.routes.specs.Route.{Route, nlriOf}
-use Rattle.routes.specs.Place.{PLACE, routeIn}
+use Rattle.routes.specs.Place.{PLACE, MARK, routeIn}
 use Rattle.routes.specs.Table.{HEADER, headerOf, afiIn}
 use Rattle.routes.specs.Matching.{Found, nothing, found}
 use Rattle.routes.specs.Answers.{Changed}
@@ -52,6 +52,10 @@ addedAt index count place t =
 -- the place of an index taken out
 unfoldable pub takenAt : (index count : ℕ) (table : List ℕ) → List ℕ
 takenAt index count t = headerOf (afiIn t) (count - 1) ++ drop HEADER (closed (HEADER + PLACE * index) (HEADER + PLACE * count) t)
+
+-- a place with another mark
+unfoldable pub remarked : (mark : ℕ) (place : List ℕ) → List ℕ
+remarked mark place = take MARK place ++ (mark ∷ [])
 
 -- a call of which this is due answers r and leaves u
 abbrev pub Leaves : {A : Type 0} → Changed A → A → List ℕ → Type 0

@@ -2,3 +2,4 @@
 pub mod Changing
 pub mod Scanning
 pub mod Passing
+pub mod Renewing

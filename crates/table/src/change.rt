@@ -1,13 +1,16 @@
 // Places written, opened and closed in a table's octets.
 ghost use mathlib.Core.Path.{_≡_};
 ghost use mathlib.Core.List.{_++_};
-ghost use Prim.Native.Nat.{_+_, _-_, _*_, _≤_, _<_};
-ghost use lib.ListN.{length, take, drop};
+ghost use Prim.Native.Nat.{_+_, _-_, _*_, _/_, _≤_, _<_};
+ghost use Rattle.routes.specs.Table.{headerOf};
+ghost use lib.ListN.{length, take, drop, set};
+ghost use Rattle.octets.specs.Octets.{part, placed};
 ghost use Rattle.octets.specs.Order.{zeros};
 ghost use Rattle.routes.specs.Route.{route};
 ghost use Rattle.routes.specs.Place.{placeOf};
-ghost use Rattle.table.specs.Changing.{opened, closed, replacedAt, addedAt, takenAt};
+ghost use Rattle.table.specs.Changing.{opened, closed, replacedAt, addedAt, takenAt, remarked};
 use crate::geometry::HEADER;
+use crate::geometry::MARK;
 use crate::geometry::PLACE;
 use crate::header;
 use crate::sound;
@@ -34,7 +37,7 @@ pub(crate) fn clear_places(table: &mut [u8])
 // The sizes, the NLRI and the attribute of a route, and zeros to the end.
 fn write_place(place: &mut [u8], nlri: &[u8], attribute: &[u8])
     requires { ⌜ length (now place) ≡ 128 ⌝ }
-    requires { ⌜ length (now nlri) + length (now attribute) ≤ 126 ⌝ }
+    requires { ⌜ length (now nlri) + length (now attribute) ≤ 125 ⌝ }
     ensures { λ _. ⌜ now (place .exit) ≡ placeOf (route (now (nlri .entry)) (now (attribute .entry))) ⌝ }
 {
     clear(place);
@@ -56,15 +59,15 @@ fn move_up(tail: &mut [u8])
     }
 }
 
-// Moves all octets down by one place; the first place's octets fall off, and the last place's stay.
-fn move_down(tail: &mut [u8])
-    requires { ⌜ 128 ≤ length (now tail) ⌝ }
-    ensures { λ _. ⌜ now (tail .exit) ≡ drop 128 (now (tail .entry)) ++ drop (length (now (tail .entry)) - 128) (now (tail .entry)) ⌝ }
+// Moves all octets down by so many; as many fall off at the front, and as many stay at the end.
+fn move_down(tail: &mut [u8], by: usize)
+    requires { ⌜ by ≤ length (now tail) ⌝ }
+    ensures { λ _. ⌜ now (tail .exit) ≡ drop by (now (tail .entry)) ++ drop (length (now (tail .entry)) - by) (now (tail .entry)) ⌝ }
 {
-    let moved = tail.len() - PLACE;
+    let moved = tail.len() - by;
     let mut at = 0;
     while at < moved {
-        tail[at] = tail[at + PLACE];
+        tail[at] = tail[at + by];
         at += 1;
     }
 }
@@ -74,15 +77,63 @@ fn close_gap(tail: &mut [u8])
     requires { ⌜ 128 ≤ length (now tail) ⌝ }
     ensures { λ _. ⌜ now (tail .exit) ≡ drop 128 (now (tail .entry)) ++ zeros 128 ⌝ }
 {
-    move_down(tail);
+    move_down(tail, PLACE);
     let last = tail.len() - PLACE;
     clear(&mut tail[last..]);
+}
+
+// The place that starts at `at` written over the one that starts at `to`, which is the same or comes before it.
+pub(crate) fn keep(table: &mut [u8], at: usize, to: usize)
+    requires { ⌜ (to ≤ at) × (at + 128 ≤ length (now table)) ⌝ }
+    ensures { λ _. ⌜ now (table .exit) ≡ placed to (part (now (table .entry)) at 128) (now (table .entry)) ⌝ }
+{
+    if to == at {
+        return;
+    }
+    move_down(&mut table[to..at + PLACE], at - to);
+}
+
+// The mark of the place that starts at `at`.
+fn set_mark(table: &mut [u8], at: usize, mark: u8)
+    requires { ⌜ at + 128 ≤ length (now table) ⌝ }
+    ensures { λ _. ⌜ now (table .exit) ≡ set (now (table .entry)) (at + 127) mark ⌝ }
+{
+    table[at + MARK] = mark;
+}
+
+// The place that starts at `at` kept at `to`, with this mark.
+pub(crate) fn keep_marked(table: &mut [u8], at: usize, to: usize, mark: u8)
+    requires { ⌜ (to ≤ at) × (at + 128 ≤ length (now table)) ⌝ }
+    ensures { λ _. ⌜ now (table .exit) ≡ placed to (remarked mark (part (now (table .entry)) at 128)) (now (table .entry)) ⌝ }
+{
+    keep(table, at, to);
+    set_mark(table, to, mark);
+}
+
+// The octets from `to` to `end` become 0.
+fn clear_part(table: &mut [u8], to: usize, end: usize)
+    requires { ⌜ (to ≤ end) × (end ≤ length (now table)) ⌝ }
+    ensures { λ _. ⌜ now (table .exit) ≡ take to (now (table .entry)) ++ (zeros (end - to) ++ drop end (now (table .entry))) ⌝ }
+{
+    clear(&mut table[to..end]);
+}
+
+// The places that end at `to` are those taken; those behind them become free.
+pub(crate) fn close_from(table: &mut [u8], afi: u16, to: usize, count: usize) -> usize
+    requires { ⌜ (afi < 256) × (8 ≤ to) × (to ≤ 8 + 128 * count) × (8 + 128 * count ≤ length (now table)) × (count ≤ 500) ⌝ }
+    ensures { λ r. ⌜ r ≡ (to - 8) / 128 ⌝ }
+    ensures { λ r. ⌜ now (table .exit) ≡ headerOf afi r ++ drop 8 (take to (now (table .entry)) ++ (zeros (8 + 128 * count - to) ++ drop (8 + 128 * count) (now (table .entry)))) ⌝ }
+{
+    clear_part(table, to, HEADER + PLACE * count);
+    let kept = (to - HEADER) / PLACE;
+    header::write_header(afi, kept, table);
+    kept
 }
 
 // A route's place written over that of an index.
 pub(crate) fn replace(table: &mut [u8], index: usize, nlri: &[u8], attribute: &[u8])
     requires { ⌜ 8 + 128 * index + 128 ≤ length (now table) ⌝ }
-    requires { ⌜ length (now nlri) + length (now attribute) ≤ 126 ⌝ }
+    requires { ⌜ length (now nlri) + length (now attribute) ≤ 125 ⌝ }
     ensures { λ _. ⌜ now (table .exit) ≡ replacedAt index (placeOf (route (now (nlri .entry)) (now (attribute .entry)))) (now (table .entry)) ⌝ }
 {
     let start = HEADER + PLACE * index;
@@ -108,7 +159,7 @@ fn close_place(table: &mut [u8], start: usize, end: usize)
 // A route's place put in at an index, before the other places from there on.
 pub(crate) fn add(table: &mut [u8], index: usize, count: usize, nlri: &[u8], attribute: &[u8])
     requires { ⌜ (index ≤ count) × (8 + 128 * (count + 1) ≤ length (now table)) ⌝ }
-    requires { ⌜ length (now nlri) + length (now attribute) ≤ 126 ⌝ }
+    requires { ⌜ length (now nlri) + length (now attribute) ≤ 125 ⌝ }
     ensures { λ _. ⌜ now (table .exit) ≡ addedAt index count (placeOf (route (now (nlri .entry)) (now (attribute .entry)))) (now (table .entry)) ⌝ }
 {
     let afi = sound::afi_of(table);

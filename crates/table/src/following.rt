@@ -5,11 +5,11 @@ ghost use Prim.Native.Nat.{_≤_};
 ghost use lib.ListN.{length, drop};
 ghost use Rattle.octets.specs.Outcome.{given};
 ghost use Rattle.routes.specs.Table.{countIn, routesOf, soundOf};
-ghost use Rattle.routes.specs.Answers.{matchedBy};
-ghost use Rattle.routes.specs.Next.{nextIn, withoutTier, nextOf};
+ghost use Rattle.routes.specs.Next.{nextIn, followingBy, nextOf};
 ghost use Rattle.table.specs.Changing.{firstFound, Leaves};
 use crate::answer;
 use crate::find;
+use crate::geometry::MARK;
 use crate::matching::LEAST_OUTPUT;
 use crate::sound;
 use octets::number::SPACE;
@@ -28,19 +28,22 @@ fn index_after(table: &[u8], count: usize, nlri: &[u8]) -> usize
     index
 }
 
-// The route at an index, told as a match tells it, but for the tier; none behind the last.
+// The route at an index, told as a match tells it, with its mark for the tier; none behind the last.
 fn tell_at(table: &[u8], index: usize, count: usize, output: &mut [u8]) -> Following
     requires { ⌜ (soundOf (now table) ≡ true) × (count ≡ countIn (now table)) × (124 ≤ length (now output)) ⌝ }
-    ensures { λ r. ⌜ Leaves (withoutTier (matchedBy (given (firstFound (drop index (routesOf (now (table .entry)))))) (now (output .entry)))) r (now (output .exit)) ⌝ }
+    ensures { λ r. ⌜ Leaves (followingBy (given (firstFound (drop index (routesOf (now (table .entry)))))) (now (output .entry))) r (now (output .exit)) ⌝ }
 {
     if count <= index {
         return Following::none();
     }
-    let told = answer::write_route(0, find::place_at(table, index), output);
+    let place = find::place_at(table, index);
+    let stale = place[MARK] as u32;
+    let told = answer::write_route(0, place, output);
     Following {
         number: told.number,
         nlri_size: told.nlri_size,
         attribute_size: told.attribute_size,
+        stale,
     }
 }
 

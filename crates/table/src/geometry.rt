@@ -18,3 +18,6 @@ pub(crate) const NLRI_SIZE: usize = 0;
 pub(crate) const ATTRIBUTE_SIZE: usize = 1;
 
 pub(crate) const ROUTE: usize = 2;
+
+// Its last octet: 1 where its route is marked stale, else 0.
+pub(crate) const MARK: usize = 127;

@@ -25,7 +25,7 @@ pub(crate) struct Best {
 }
 
 // The NLRI in the place that starts there.
-fn nlri_from(table: &[u8], at: usize) -> &[u8]
+pub(crate) fn nlri_from(table: &[u8], at: usize) -> &[u8]
     requires { ⌜ Readable (now table) at ⌝ }
     ensures { λ r. ⌜ now r ≡ nlriAt (now (table .entry)) at ⌝ }
 {

@@ -11,6 +11,7 @@ use crate::geometry::AFI;
 use crate::geometry::ATTRIBUTE_SIZE;
 use crate::geometry::COUNT;
 use crate::geometry::HEADER;
+use crate::geometry::MARK;
 use crate::geometry::MOST_PLACES;
 use crate::geometry::NLRI_SIZE;
 use crate::geometry::PLACE;
@@ -66,37 +67,37 @@ pub(crate) fn is_table_size(size: usize) -> bool
     (size - HEADER) / PLACE <= MOST_PLACES
 }
 
-// The octets of a place from `end` on are zeros, by two blocks of one size: the place's last octets and those that follow the route.
-// They leave nothing out between them, and may overlap.
+// The octets from `end` on are zeros, of a place without its mark, by two blocks of one size: its last octets and those that follow the
+// route. They leave nothing out between them, and may overlap.
 fn is_tail_zero_by(block: usize, place: &[u8], end: usize) -> bool
-    requires { ⌜ (length (now place) ≡ 128) × (end + block ≤ 128) × (128 ≤ end + 2 * block) ⌝ }
+    requires { ⌜ (length (now place) ≡ 127) × (end + block ≤ 127) × (127 ≤ end + 2 * block) ⌝ }
     ensures { λ r. ⌜ r ≡ allZero (drop end (now (place .entry))) ⌝ }
 {
     octets::order::are_each_zero(
-        octets::parts::between(place, PLACE - block, block),
+        octets::parts::between(place, MARK - block, block),
         octets::parts::between(place, end, block),
     )
 }
 
-// The octets of a place from `end` on are zeros, by the largest blocks of a fixed size that fit behind the route.
+// The octets from `end` on are zeros, of a place without its mark, by the largest blocks of a fixed size that fit behind the route.
 fn is_tail_zero(place: &[u8], end: usize) -> bool
-    requires { ⌜ (length (now place) ≡ 128) × (end ≤ 128) ⌝ }
+    requires { ⌜ (length (now place) ≡ 127) × (end ≤ 127) ⌝ }
     ensures { λ r. ⌜ r ≡ allZero (drop end (now (place .entry))) ⌝ }
 {
-    if end <= PLACE - LARGE_BLOCK {
+    if end <= MARK - LARGE_BLOCK {
         return is_tail_zero_by(LARGE_BLOCK, place, end);
     }
-    if end <= PLACE - MIDDLE_BLOCK {
+    if end <= MARK - MIDDLE_BLOCK {
         return is_tail_zero_by(MIDDLE_BLOCK, place, end);
     }
-    if end <= PLACE - SMALL_BLOCK {
+    if end <= MARK - SMALL_BLOCK {
         return is_tail_zero_by(SMALL_BLOCK, place, end);
     }
     octets::order::is_zero(octets::parts::after(place, end))
 }
 
-// A place holds a route that install would accept and then zeros. Nothing is copied out of it. The attribute's two judges are
-// called one by one: each is small enough that the compiler puts it into the loop over the places.
+// A place holds a route that install would accept, then zeros, and 0 or 1 as its mark. Nothing is copied out of it. The attribute's two
+// judges are called one by one: each is small enough that the compiler puts it into the loop over the places.
 fn is_place_sound(afi: u16, place: &[u8]) -> bool
     requires { ⌜ length (now place) ≡ 128 ⌝ }
     ensures { λ r. ⌜ r ≡ placeSound afi (now (place .entry)) ⌝ }
@@ -104,7 +105,10 @@ fn is_place_sound(afi: u16, place: &[u8]) -> bool
     let nlri_size = place[NLRI_SIZE] as usize;
     let attribute_size = place[ATTRIBUTE_SIZE] as usize;
     let end = ROUTE + (nlri_size + attribute_size);
-    if PLACE < end {
+    if MARK < end {
+        return false;
+    }
+    if 1 < place[MARK] {
         return false;
     }
     if !nlri::is_s_pmsi(afi, octets::parts::between(place, ROUTE, nlri_size)) {
@@ -117,7 +121,7 @@ fn is_place_sound(afi: u16, place: &[u8]) -> bool
     if judge::label_fault(attribute) != DONE {
         return false;
     }
-    is_tail_zero(place, end)
+    is_tail_zero(octets::parts::between(place, 0, MARK), end)
 }
 
 // The order of octets of one size, at least a word: the first words that differ decide, as big-endian numbers. The last word may

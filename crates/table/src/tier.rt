@@ -155,6 +155,14 @@ fn ends_otherwise(nlri: &[u8], router: &[u8]) -> bool
         != wide::four_low_first(router, router.len() - ENDING)
 }
 
+// The route is one of the router's, by its originator.
+pub(crate) fn is_of(nlri: &[u8], router: &[u8]) -> bool
+    requires { ⌜ Bounded (now nlri) ⌝ }
+    ensures { λ r. ⌜ r ≡ same (standing (now (nlri .entry)) .originator) (now (router .entry)) ⌝ }
+{
+    order::is_same(originator_in(nlri), router)
+}
+
 // The tier of a route of the router asked; 0 for one of another router, or where no tier's condition is met.
 pub(crate) fn tier_of(nlri: &[u8], router: &[u8], source: &[u8], group: &[u8], tiers: Tiers) -> u32
     requires { ⌜ Bounded (now nlri) × (4 ≤ length (now router)) ⌝ }

@@ -54,7 +54,7 @@ fn next(report: &mut Report, name: &str, table: &[u8], nlri: &[u8], route: Optio
         move || unsafe { call(table.as_ptr(), table.len(), nlri.as_ptr(), black_box(nlri.len()), output, LEAST_OUTPUT) }
     });
     report.check_output(&calls, output, LEAST_OUTPUT, &written, name);
-    row(report, name, table, calls, &Following { number: 0, nlri_size, attribute_size });
+    row(report, name, table, calls, &Following { number: 0, nlri_size, attribute_size, stale: 0 });
 }
 
 fn row<Answer: PartialEq + Debug>(

@@ -17,6 +17,7 @@ mod following;
 mod measure;
 mod pieces;
 mod report;
+mod restarts;
 mod routes;
 mod shared;
 mod table;
@@ -99,6 +100,7 @@ fn all_rows(task: Task) -> ExitCode {
     }
     groups(&mut report);
     table::rows(&mut report);
+    restarts::rows(&mut report);
     explain::rows(&mut report);
     following::rows(&mut report);
     shared::rows(&mut report);

@@ -81,7 +81,7 @@ fn matching<'a>(
 /// A table of the most places that holds these routes.
 fn table_of(afi: u16, routes: &[Route]) -> Vec<u8> {
     let routes = routes.iter().map(|route| (route.nlri.clone(), route.attribute.clone())).collect();
-    Table { afi, places: MOST_PLACES, routes }.image()
+    Table::holding(afi, MOST_PLACES, routes).image()
 }
 
 /// So many Source Active routes of the flow's router for its group, and so many states: every route but the last has one.

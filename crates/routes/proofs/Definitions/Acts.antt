@@ -1,6 +1,6 @@
 -- What calls come to by their arguments: whose act it is, and what is known of it.
 use Prim.Native.Nat.{ℕ}
-use mathlib.Core.Path.{_≡_, refl, ap, subst, _∙_}
+use mathlib.Core.Path.{_≡_, refl, sym, ap, subst, _∙_}
 use mathlib.Core.Bool.{true}
 use mathlib.Core.List.{List}
 use Rattle.octets.specs.Outcome.{Outcome, given, refused}
@@ -10,17 +10,19 @@ use Rattle.routes.specs.Route.{Route, nlriOf}
 use Rattle.routes.specs.Query.{Query}
 use Rattle.routes.specs.Asked.{askedRouter}
 use Rattle.routes.specs.Place.{acceptable}
-use Rattle.routes.specs.Call.{Call, install, withdraw, match, owner, originatorOf, ownerOf, Act, enter, leave, ask, argued}
+use Rattle.routes.specs.Restart.{RestartCall}
+use Rattle.routes.specs.Call.{Call, install, withdraw, restart, match, owner, originatorOf, ownerOf, Act, enter, leave, renew, ask, argued}
 use Rattle.routes.specs.Run.{namedIn}
 use Rattle.routes.proofs.Definitions.Bounds.{route-accepted, route-read}
 use Rattle.routes.proofs.Statements.ArgumentRules.{nlri-accepted}
 use Rattle.routes.proofs.Definitions.Named.{named-in}
-use Rattle.routes.proofs.Definitions.Ownership.{route-acceptable, owner-read, match-owner, query-router}
+use Rattle.routes.proofs.Definitions.Ownership.{route-acceptable, owner-read, address-owner, match-owner, query-router, router-read}
 
 -- what is known of an act that a router's call comes to
 pub data Known (afi : ℕ) (c : Call) (router : List ℕ) : Act → Type 0 where
   enters : {r : Route} → acceptable afi r ≡ true → originatorOf afi (nlriOf r) ≡ owner router → Among (nlriOf r) (namedIn afi c) → Known afi c router (enter r)
   leaves : {nlri : List ℕ} → originatorOf afi nlri ≡ owner router → Known afi c router (leave nlri)
+  renews : {which : RestartCall} → Known afi c router (renew which router)
   asks : {q : Query} {output : List ℕ} → q .router ≡ router → Known afi c router (ask q output)
 
 -- an act is a router's
@@ -44,6 +46,10 @@ owned afi (withdraw nlri) act e =
     let p = passed _ _ _ e in
     let own : originatorOf afi nlri ≡ owner (p .value .originator) = owner-read afi nlri (p .value) (p .first) in
     subst (Owned afi (withdraw nlri)) (given-same (p .second)) (record { router = p .value .originator; own = own; known = leaves own })
+owned afi (restart which router) act e =
+    let p = passed _ _ _ e in
+    let q = router-read router (p .value) (p .first) in
+    subst (Owned afi (restart which router)) (ap (renew which) (sym (q .0)) ∙ given-same (p .second)) (record { router = router; own = address-owner router (q .1); known = renews })
 owned afi (match asked output) act e =
     let p = passed _ _ _ e in
     let q = query-router afi asked output (p .value) (p .first) in

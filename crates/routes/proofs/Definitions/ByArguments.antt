@@ -20,7 +20,8 @@ use Rattle.tunnel.specs.Identifier.{TableRow, identifierForms, formIn, formOf, 
 use Rattle.routes.specs.Arguments.{readSPmsi, readLabelled, readRoute, readFlow, readMatch}
 use Rattle.routes.specs.SharedTree.{SharedTree, readSourceActive, sourceActiveFault, judgedTree, readTree}
 use Rattle.routes.specs.Asked.{Asked, ofFlow, ofSharedTree, readAsked}
-use Rattle.routes.specs.Call.{Call, install, withdraw, match, argued}
+use Rattle.routes.specs.Restart.{readRouter}
+use Rattle.routes.specs.Call.{Call, install, withdraw, restart, match, argued}
 
 -- a number that the table does not decide
 abbrev pub ByArguments : ℕ → Type 0
@@ -107,10 +108,16 @@ number-asked afi asked output n e = refuses-by _ n (asked-argued afi asked outpu
 pub number-route : (afi : ℕ) (nlri attribute : List ℕ) (n : ℕ) → readRoute afi nlri attribute ≡ refused n → ByArguments n
 number-route afi nlri attribute n e = refuses-by _ n (route-argued afi nlri attribute) e
 
+-- a router address of another size
+pub router-argued : (router : List ℕ) → Refuses ByArguments (readRouter router)
+unfolding readRouter
+router-argued router = refuses-pick _ _ _ value (number (omega arith))
+
 refuses-argued : (afi : ℕ) (c : Call) → Refuses ByArguments (argued afi c)
 unfolding argued
 refuses-argued afi (install nlri attribute) = refuses-then _ _ (route-argued afi nlri attribute) (λ r. value)
 refuses-argued afi (withdraw nlri) = refuses-then _ _ (s-pmsi-argued afi nlri) (λ f. value)
+refuses-argued afi (restart which router) = refuses-then _ _ (router-argued router) (λ named. value)
 refuses-argued afi (match asked output) = refuses-then _ _ (asked-argued afi asked output) (λ q. value)
 
 pub number-argued : (afi : ℕ) (c : Call) (n : ℕ) → argued afi c ≡ refused n → ByArguments n

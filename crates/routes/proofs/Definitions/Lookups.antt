@@ -211,7 +211,7 @@ lookup-members {rs} {us} d e m nlri =
 
 -- increasing NLRIs
 
-increasing-from : (p q : List ℕ) {rs : List Route} → before p q ≡ true → Increasing q rs → Increasing p rs
+pub increasing-from : (p q : List ℕ) {rs : List Route} → before p q ≡ true → Increasing q rs → Increasing p rs
 increasing-from p q b last = last
 increasing-from p q b (next {r} h i) = next (before-then p q (nlriOf r) b h) i
 

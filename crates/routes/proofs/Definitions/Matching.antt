@@ -4,6 +4,7 @@ pub mod Conditions
 pub mod First
 pub mod OpenTiers
 pub mod MatchSame
+pub mod MatchMarks
 pub mod OnePass
 pub mod Flows
 pub mod SharedTrees

@@ -8,7 +8,7 @@ use Rattle.nlri.specs.Fields.{Fields}
 use Rattle.octets.specs.Lists.{Among, first, later}
 use Rattle.routes.specs.Arguments.{readSPmsi}
 use Rattle.routes.specs.Rules.ArgumentRules.{SPmsi}
-use Rattle.routes.specs.Call.{Call, install, withdraw, match}
+use Rattle.routes.specs.Call.{Call, install, withdraw, restart, match}
 use Rattle.routes.specs.Run.{namedIn, namedBy}
 use Rattle.routes.proofs.Statements.ArgumentRules.{nlri-accepted, nlri-accepts}
 use Rattle.octets.proofs.Among.{among-none, among-cases, among-left, among-right, among-either}
@@ -31,6 +31,7 @@ module _ (afi : ℕ) (nlri : List ℕ) where
       go (given f) e a = ⊎-elim (λ h. (rw h (nlri-accepted afi named f e), (attribute, first (rw h)))) (λ b. absurd (among-none b)) (among-cases a)
       go (refused n) e a = absurd (among-none a)
   named-first (withdraw named) cs m = absurd (among-none m)
+  named-first (restart which router) cs m = absurd (among-none m)
   named-first (match asked output) cs m = absurd (among-none m)
 
   named-install : (calls : List Call) → Among nlri (namedBy afi calls) → Named calls

@@ -39,7 +39,7 @@ module _ (t : List ℕ) (ts : List (List ℕ)) (n output : List ℕ) (room : 124
   goes-on r s c =
       let tells = comes-told t n output s room r c in
       let other : nextOf t n output .answer .«nlri_size» ≡ 0 → ⊥ = λ e. let some = tells .some in omega arith in
-      let is : toldRoute (nextOf t n output) ≡ r = told-route (nextOf t n output) output r (tells .told) in
+      let is : toldRoute (nextOf t n output) ≡ r = told-route (nextOf t n output) output r tells in
       given r s c (nextOf t n output .octets) (let size = tells .told .size in omega arith)
       (pick-false _ _ _ (ne-eqb _ _ other) ∙ ap (λ (q : Route). q ∷ toldInTurn ts (nlriOf q) (nextOf t n output .octets)) is)
 

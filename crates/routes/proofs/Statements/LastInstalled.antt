@@ -1,32 +1,30 @@
 -- What a table holds after calls (specs/Rules/LastInstalled.antt).
 use Prim.Native.Nat.{ℕ}
 use mathlib.Core.Path.{_≡_, refl, sym, ap, ap₂, subst, _∙_}
-use mathlib.Core.Bool.{true}
-use mathlib.Core.Logic.{_↔_, _≢_}
+use mathlib.Core.Bool.{Bool, true}
+use mathlib.Core.Logic.{_↔_}
 use mathlib.Core.List.{List, [], _∷_}
 use borrow.Author.Tests.{eqb-true, eqb-false}
 use lib.ListN.{length}
 use lib.Dec.{eqb}
 use Rattle.octets.specs.Numbers.{DONE}
-use Rattle.octets.specs.Choice.{pick, both}
-use Rattle.octets.specs.Order.{same}
-use Rattle.octets.proofs.Orders.{same-equal, other-unequal}
-use Rattle.octets.proofs.Choice.{pick-true, pick-false, tested, both-true, both-left, both-right}
+use Rattle.octets.proofs.Choice.{tested}
 use Rattle.octets.specs.Lists.{Among}
-use Rattle.routes.specs.Route.{Route, route, nlriOf, Held, absent, held, lookup, inserted, removed}
+use Rattle.routes.specs.Route.{Route, entry, route, nlriOf, lookup, inserted, removed}
 use Rattle.routes.specs.Table.{imageOf, afiIn, placesIn, routesOf, soundOf}
-use Rattle.routes.specs.Calls.{makeOf, installOf, withdrawOf}
-use Rattle.routes.specs.Call.{Call, install, withdraw, match}
+use Rattle.routes.specs.Restart.{renewed}
+use Rattle.routes.specs.Calls.{makeOf, installOf, withdrawOf, restartOf}
+use Rattle.routes.specs.Call.{Call, install, withdraw, restart, match}
 use Rattle.routes.specs.Run.{stepOf, endOf}
 use Rattle.routes.specs.Rules.Images.{TableOf}
-use Rattle.routes.specs.Rules.CallRules.{HeldNow}
-use Rattle.routes.specs.Rules.LastInstalled.{LastInstall, Kept, LastInstalled}
+use Rattle.routes.specs.Rules.LastInstalled.{Came, LastInstall, Kept, LastInstalled}
 use Rattle.routes.proofs.Statements.ArgumentRules.{argumentRule}
-use Rattle.routes.proofs.Statements.Decisions.{decides, leftBy, lastFrom, last-exactly}
+use Rattle.routes.proofs.Statements.Decisions.{last-exactly}
 use Rattle.routes.proofs.Statements.Images.{images, sound-holdable}
 use Rattle.routes.proofs.Statements.InstallRules.{installRule, install-done, install-octets}
 use Rattle.routes.proofs.Definitions.Lookups.{lookupRule, lookup-none, lookup-member, lookup-of-member, distinct-increasing}
 use Rattle.routes.proofs.Statements.MakeRules.{makeRule}
+use Rattle.routes.proofs.Statements.RestartRules.{restartRule, markRule, sweepRule, restart-octets}
 use Rattle.routes.proofs.Statements.WithdrawRules.{withdrawRule, withdraw-done, withdraw-octets}
 
 -- octets that a call on a sound table leaves
@@ -48,29 +46,6 @@ own-image afi places rs t h e = e ∙ ap (λ (a : ℕ). imageOf a places rs) (sy
 next-image : (t u : List ℕ) (rs : List Route) → length u ≡ length t → u ≡ imageOf (afiIn t) (placesIn t) rs → TableOf (afiIn t) (placesIn t) rs u → Next t u
 next-image t u rs l e h = record { sound = h .sound; family = h .family; size = l; image = λ i. own-image (afiIn t) (placesIn t) rs u h e }
 
--- what an NLRI has after a call that an answer's number decides
-decided : (other : List ℕ) (left : Held) (number : ℕ) (t u : List ℕ) → (number ≡ DONE → HeldNow other left (routesOf t) (routesOf u)) → (number ≢ DONE → u ≡ t)
-    → (nlri : List ℕ) → lookup nlri (routesOf u) ≡ pick (both (same nlri other) (eqb number DONE)) left (lookup nlri (routesOf t))
-decided other left number t u set untouched nlri =
-    tested (eqb number DONE)
-    (λ done.
-    let now = set (eqb-true number DONE done) in
-    tested (same nlri other)
-    (λ own. ap (λ (x : List ℕ). lookup x (routesOf u)) (same-equal nlri other own) ∙ now .own ∙ sym (pick-true _ _ _ (both-true _ _ own done)))
-    (λ foreign. now .others nlri (other-unequal nlri other foreign) ∙ sym (pick-false _ _ _ (both-left _ _ foreign))))
-    (λ bad.
-    ap (λ (x : List ℕ). lookup nlri (routesOf x)) (untouched (eqb-false number DONE bad))
-    ∙ sym (pick-false _ _ _ (tested (same nlri other) (λ own. both-right _ _ own bad) (λ foreign. both-left _ _ foreign))))
-
-step-lookups : (t : List ℕ) (c : Call) (nlri : List ℕ) → lookup nlri (routesOf (stepOf t c .octets)) ≡ pick (decides nlri t c) (leftBy c) (lookup nlri (routesOf t))
-unfolding stepOf decides leftBy pick
-step-lookups t (install other attribute) nlri =
-    decided other (held (route other attribute)) (installOf t other attribute .answer .number) t (installOf t other attribute .octets)
-    (installRule .installed t other attribute) (installRule .untouched t other attribute) nlri
-step-lookups t (withdraw other) nlri =
-    decided other absent (withdrawOf t other .answer) t (withdrawOf t other .octets) (withdrawRule .withdrawn t other) (withdrawRule .untouched t other) nlri
-step-lookups t (match asked output) nlri = refl
-
 step-next : (t : List ℕ) (c : Call) → soundOf t ≡ true → Next t (stepOf t c .octets)
 unfolding stepOf
 step-next t (install nlri attribute) s =
@@ -86,6 +61,12 @@ step-next t (withdraw nlri) s =
     let d = eqb-true _ _ done in
     next-image t _ (removed nlri (routesOf t)) (withdrawRule .size t nlri) (withdraw-octets t nlri (withdraw-done t nlri d)) (withdrawRule .after t nlri d))
     (λ bad. next-same t _ s (withdrawRule .untouched t nlri (eqb-false _ _ bad)))
+step-next t (restart which router) s =
+    tested (eqb (restartOf which t router .answer .number) DONE)
+    (λ done.
+    let d = eqb-true _ _ done in
+    next-image t _ (renewed (afiIn t) which router (routesOf t)) (restartRule which .size t router) (restart-octets t router which d) (restartRule which .after t router d))
+    (λ bad. next-same t _ s (restartRule which .untouched t router (eqb-false _ _ bad)))
 step-next t (match asked output) s = next-same t t s refl
 
 next-then : {t u v : List ℕ} → Next t u → Next u v → Next t v
@@ -95,11 +76,6 @@ end-next : (calls : List Call) (t : List ℕ) → soundOf t ≡ true → Next t 
 unfolding endOf
 end-next [] t s = next-same t t s refl
 end-next (c ∷ cs) t s = let n = step-next t c s in next-then n (end-next cs (stepOf t c .octets) (n .sound))
-
-end-lookups : (calls : List Call) (t nlri : List ℕ) → lookup nlri (routesOf (endOf t calls)) ≡ lastFrom nlri (lookup nlri (routesOf t)) t calls
-unfolding endOf lastFrom
-end-lookups [] t nlri = refl
-end-lookups (c ∷ cs) t nlri = end-lookups cs (stepOf t c .octets) nlri ∙ ap (λ (h : Held). lastFrom nlri h (stepOf t c .octets) cs) (step-lookups t c nlri)
 
 places-alike : (t u : List ℕ) → length t ≡ length u → placesIn t ≡ placesIn u
 unfolding placesIn
@@ -112,18 +88,14 @@ module _ (afi : ℕ) (memory : List ℕ) (calls : List Call) (done : makeOf afi 
   next : Next (makeOf afi memory .octets) (endOf (makeOf afi memory .octets) calls)
   next = end-next calls (makeOf afi memory .octets) (made .sound)
 
-  lookups : (nlri : List ℕ) → lookup nlri (routesOf (endOf (makeOf afi memory .octets) calls)) ≡ lastFrom nlri absent (makeOf afi memory .octets) calls
-  lookups nlri =
-      end-lookups calls (makeOf afi memory .octets) nlri
-      ∙ ap (λ (h : Held). lastFrom nlri h (makeOf afi memory .octets) calls) (ap (lookup nlri) (made .routes) ∙ lookup-none nlri)
-
-  exactly : (nlri attribute : List ℕ) → Among (route nlri attribute) (routesOf (endOf (makeOf afi memory .octets) calls)) ↔ LastInstall nlri attribute (makeOf afi memory .octets) calls
+  exactly : (nlri attribute : List ℕ) (stale : Bool)
+      → Among (entry nlri attribute stale) (routesOf (endOf (makeOf afi memory .octets) calls)) ↔ Came (LastInstall nlri attribute stale) (makeOf afi memory .octets) calls
   unfolding nlriOf
-  exactly nlri attribute =
-      let last = last-exactly nlri attribute (makeOf afi memory .octets) calls in
+  exactly nlri attribute stale =
+      let last = last-exactly nlri attribute stale (makeOf afi memory .octets) calls (ap (lookup nlri) (made .routes) ∙ lookup-none nlri) in
       let order = sound-holdable (endOf (makeOf afi memory .octets) calls) (next .sound) .increasing in (
-        λ m. last .0 (sym (lookups nlri) ∙ lookup-of-member (distinct-increasing order) m),
-        λ l. lookup-member _ (lookups nlri ∙ last .1 l) .0,
+        λ m. last .0 (lookup-of-member (distinct-increasing order) m),
+        λ l. lookup-member _ (last .1 l) .0,
       )
 
   kept : Kept afi memory calls
@@ -142,4 +114,4 @@ module _ (afi : ℕ) (memory : List ℕ) (calls : List Call) (done : makeOf afi 
 
 pub lastInstalled : LastInstalled
 lastInstalled =
-    record { arguments = argumentRule; lookups = lookupRule; make = makeRule; install = installRule; withdraw = withdrawRule; kept = kept }
+    record { arguments = argumentRule; lookups = lookupRule; make = makeRule; install = installRule; withdraw = withdrawRule; mark = markRule; sweep = sweepRule; kept = kept }

@@ -8,7 +8,7 @@ use native.Mathlib.Omega.{arith}
 use lib.ListN.{length, getD, drop, length-append}
 use lib.Seq.{take-append-seam, drop-append-seam}
 use Rattle.octets.specs.Numbers.{DONE}
-use Rattle.octets.specs.Outcome.{Outcome, given, refused, onOutcome, numberOf}
+use Rattle.octets.specs.Outcome.{Outcome, given, refused, onOutcome, andThen, numberOf}
 use Rattle.octets.specs.Octets.{part, front}
 use Rattle.octets.proofs.Lists.{length-front, past-front}
 use Rattle.octets.proofs.Choice.{pick-true, pick-false, picked}
@@ -24,7 +24,7 @@ use Rattle.routes.specs.Matching.{Found, nothing, found, matchIn}
 use Rattle.routes.specs.Answers.{foundAnswer, foundOutput, matchedBy}
 use Rattle.routes.specs.Calls.{matchOutcome, matchOf}
 use Rattle.routes.specs.Rules.ArgumentRules.{KnownFamily, GoodFlow, FlowRefusal}
-use Rattle.routes.specs.Rules.MatchRule.{InTier, Taken, NoneTaken, Told, Untold, MatchAnswer, oneTold, noneTold, MatchRefusal, matchUnsound, badMatch, TableMatch, MatchRule}
+use Rattle.routes.specs.Rules.MatchRule.{InTier, Taken, NoneTaken, Told, Untold, MatchAnswer, oneTold, noneTold, MatchRefusal, matchUnsound, badMatch, TableMatch, TablesDifferInMarks, MatchRule}
 use Rattle.routes.proofs.Statements.ArgumentRules.{argumentRule, flow-passed}
 use Rattle.routes.proofs.Definitions.ByArguments.{number-asked}
 use Rattle.routes.proofs.Definitions.Lookups.{acceptable-member, distinct-increasing}
@@ -32,6 +32,7 @@ use Rattle.routes.proofs.Definitions.Bounds.{Sized, sizes-of}
 use Rattle.routes.proofs.Statements.Images.{sound-holdable}
 use Rattle.routes.proofs.Definitions.Matching.Flows.{asked-router, flow-asked}
 use Rattle.routes.proofs.Definitions.Matching.First.{wantedAt, match-ignored}
+use Rattle.routes.proofs.Definitions.Matching.MatchMarks.{matched-marks}
 use Rattle.routes.proofs.Statements.Taken.{found-taken, nothing-taken, flow-exactly}
 
 -- two lists at the front of a third, one straight after the other
@@ -198,11 +199,25 @@ served-flow flow =
       asks = λ afi output q e. flow-asks afi flow q (flow-passed afi flow output q e .0);
     }
 
+-- marks change no answer
+pub match-marks : (t u : List ℕ) (asked : Asked) (output : List ℕ) → TablesDifferInMarks t u → matchOf t asked output ≡ matchOf u asked output
+unfolding matchOf matchOutcome andThen onOutcome
+match-marks t u asked output d =
+    ap (λ (o : Outcome Found). matchedBy o output) (pick-true _ _ _ (d .sound .0))
+    ∙ ap (λ (o : Outcome Query). matchedBy (andThen o (λ q. given (matchIn (afiIn t) q (routesOf t)))) output) (ap (λ (afi : ℕ). readAsked afi asked output) (d .family))
+    ∙ go (readAsked (afiIn u) asked output)
+    ∙ ap (λ (o : Outcome Found). matchedBy o output) (sym (pick-true _ _ _ (d .sound .1)))
+  where
+    go : (o : Outcome Query) → matchedBy (andThen o (λ q. given (matchIn (afiIn t) q (routesOf t)))) output ≡ matchedBy (andThen o (λ q. given (matchIn (afiIn u) q (routesOf u)))) output
+    go (refused n) = refl
+    go (given q) = matched-marks (afiIn t) q output (d .routes) ∙ ap (λ (afi : ℕ). matchedBy (given (matchIn afi q (routesOf u))) output) (d .family)
+
 pub matchRule : MatchRule
 matchRule =
     record {
       arguments = λ router source group. (refl, refl, refl);
       ignored = match-ignored;
+      marks = match-marks;
       chosen = λ afi flow q rs e. asks-found (flow-asks afi flow q e) rs;
       none = λ afi flow q rs e. asks-nothing (flow-asks afi flow q e) rs;
       table = λ flow. table-match (served-flow flow);

@@ -1,24 +1,26 @@
 -- Next (specs/Rules/NextRule.antt, `NextRule`): each answer exactly when, and what is told.
 use Prim.Native.Nat.{ℕ, _≤_}
 use mathlib.Core.Path.{_≡_, refl, sym, _∙_, ap, ap₂, subst}
-use mathlib.Core.Bool.{true}
+use mathlib.Core.Bool.{Bool, true, false}
 use mathlib.Core.List.{List}
 use mathlib.Core.Logic.{_≢_, _⊎_, ⊎-elim}
 use native.Mathlib.Omega.{arith}
 use borrow.Author.Tests.{lt-ltb, le-ltb, ltb-true, ltb-false}
 use lib.ListN.{length}
+use lib.Dec.{eqb}
 use Rattle.octets.specs.Numbers.{DONE, SPACE}
 use Rattle.octets.specs.Outcome.{Outcome, given, refused, onOutcome, numberOf}
 use Rattle.octets.specs.Octets.{part}
 use Rattle.octets.proofs.Choice.{pick-true, pick-false, picked}
 use Rattle.octets.proofs.Outcome.{outcome, given-unless, given-otherwise, refuses-where, refused-same, refused-of, number-refused, number-given, done-given}
 use Rattle.routes.specs.declared.Following.{Following}
-use Rattle.routes.specs.Route.{Route, route, nlriOf, attributeOf}
+use Rattle.routes.specs.Route.{Route, entry, nlriOf, attributeOf, staleOf}
+use Rattle.routes.specs.Place.{markOctet}
 use Rattle.routes.specs.Table.{afiIn, routesOf, soundOf}
 use Rattle.routes.specs.Matching.{Found, nothing, found}
 use Rattle.routes.specs.Answers.{Changed, foundAnswer, foundOutput, matchedBy}
-use Rattle.routes.specs.Next.{nextIn, nextOutcome, withoutTier, nextOf}
-use Rattle.routes.specs.Rules.MatchRule.{Told, Untold}
+use Rattle.routes.specs.Next.{nextIn, nextOutcome, foundMark, followingBy, nextOf}
+use Rattle.routes.specs.Rules.MatchRule.{Untold}
 use Rattle.routes.specs.Rules.NextRule.{ComesNext, NoneNext, asMatched, Tells, NextRefusal, nextUnsound, nextSpace, NextRule, toldRoute}
 use Rattle.routes.proofs.Definitions.Lookups.{acceptable-member}
 use Rattle.routes.proofs.Definitions.Bounds.{Sized, sizes-of}
@@ -26,17 +28,27 @@ use Rattle.routes.proofs.Definitions.Nexts.{IsNext, next-is, comes-foun
 use Rattle.routes.proofs.Statements.Images.{sound-holdable}
 use Rattle.routes.proofs.Statements.MatchRule.{matched-number, nothing-untold, found-told}
 
--- a route told is the one that stands in the output
-pub told-route : (changed : Changed Following) (output : List ℕ) (r : Route) → Told 0 r output (asMatched changed) → toldRoute changed ≡ r
-unfolding nlriOf attributeOf
-told-route changed output (route n a) told =
-    ap₂ route (ap (part (changed .octets) 0) (told .sizes .0) ∙ told .nlri)
-    (ap₂ (part (changed .octets)) (told .sizes .0) (told .sizes .1) ∙ told .attribute)
+-- a route told is the one that stands in the output, with its mark
+pub told-route : (changed : Changed Following) (output : List ℕ) (r : Route) → Tells r output changed → toldRoute changed ≡ r
+unfolding nlriOf attributeOf staleOf
+told-route changed output (entry n a s) tells =
+    let told = tells .told in
+    let nlri : part (changed .octets) 0 (changed .answer .«nlri_size») ≡ n = ap (part (changed .octets) 0) (told .sizes .0) ∙ told .nlri in
+    let attribute : part (changed .octets) (changed .answer .«nlri_size») (changed .answer .«attribute_size») ≡ a =
+    ap₂ (part (changed .octets)) (told .sizes .0) (told .sizes .1) ∙ told .attribute in
+    let mark : eqb (changed .answer .stale) 1 ≡ s = by-mark s (tells .mark .0) (tells .mark .1) in
+    λ i. entry (nlri i) (attribute i) (mark i)
+  where
+    -- the mark told, by the mark of the route
+    by-mark : (b : Bool) → (b ≡ true → changed .answer .stale ≡ 1) → (b ≡ false → changed .answer .stale ≡ 0) → eqb (changed .answer .stale) 1 ≡ b
+    by-mark true x y = rw (x refl)
+    by-mark false x y = rw (y refl)
 
 -- what is answered where a route comes next
-next-tells : (output : List ℕ) → 124 ≤ length output → (r : Route) → Sized r → Tells r output (withoutTier (matchedBy (given (found 0 r)) output))
-unfolding matchedBy onOutcome foundAnswer foundOutput
-next-tells output room r sized = record { some = omega (arith, sized .least); told = found-told output room 0 r sized }
+next-tells : (output : List ℕ) → 124 ≤ length output → (r : Route) → Sized r → Tells r output (followingBy (given (found 0 r)) output)
+unfolding matchedBy onOutcome foundAnswer foundOutput foundMark markOctet
+next-tells output room r sized =
+    record { some = omega (arith, sized .least); told = found-told output room 0 r sized; mark = (λ t. pick-true _ _ _ t, λ f. pick-false _ _ _ f) }
 
 module _ (t nlri output : List ℕ) where
   number : nextOf t nlri output .answer .number ≡ numberOf (nextOutcome t nlri output)
@@ -75,9 +87,9 @@ module _ (t nlri output : List ℕ) where
 
   -- on a sound table, with an output that every route fits into
   module _ (s : soundOf t ≡ true) (room : 124 ≤ length output) where
-    answered : (f : Found) → nextIn nlri (routesOf t) ≡ f → nextOf t nlri output ≡ withoutTier (matchedBy (given f) output)
+    answered : (f : Found) → nextIn nlri (routesOf t) ≡ f → nextOf t nlri output ≡ followingBy (given f) output
     unfolding nextOf
-    answered f e = ap (λ (o : Outcome Found). withoutTier (matchedBy o output)) (serves s room ∙ ap given e)
+    answered f e = ap (λ (o : Outcome Found). followingBy o output) (serves s room ∙ ap given e)
 
     is-next : IsNext nlri (routesOf t) (nextIn nlri (routesOf t))
     is-next = next-is nlri (sound-holdable t s .increasing)
@@ -96,7 +108,7 @@ module _ (t nlri output : List ℕ) where
         go : (f : Found) → nextIn nlri (routesOf t) ≡ f → IsNext nlri (routesOf t) f → ComesNext nlri (routesOf t) r
         go nothing e none = let some = subst (Tells r output) (answered nothing e) tells .some in absurd (omega arith)
         go (found tier q) e next =
-            let same : q ≡ r = sym (told-route (nextOf t nlri output) output q (comes-told q (next .1) .told)) ∙ told-route (nextOf t nlri output) output r (tells .told) in
+            let same : q ≡ r = sym (told-route (nextOf t nlri output) output q (comes-told q (next .1))) ∙ told-route (nextOf t nlri output) output r tells in
             subst (ComesNext nlri (routesOf t)) same (next .1)
 
     pub none-told : NoneNext nlri (routesOf t) → nextOf t nlri output .answer .«nlri_size» ≡ 0
@@ -110,16 +122,27 @@ module _ (t nlri output : List ℕ) where
         go nothing e none = (e, none)
         go (found tier q) e next = let some = comes-told q (next .1) .some in absurd (omega arith)
 
-  untold : (nextOf t nlri output .answer .number ≢ DONE) ⊎ (nextOf t nlri output .answer .«nlri_size» ≡ 0) → Untold output (asMatched (nextOf t nlri output))
-  unfolding nextOf matchedBy onOutcome foundAnswer foundOutput
-  untold h =
+  -- what holds where none is told, and of a refusal
+  untold-by : (P : Changed Following → Type 0) → P (followingBy (given nothing) output) → ((n : ℕ) → P (followingBy (refused n) output))
+      → (nextOf t nlri output .answer .number ≢ DONE) ⊎ (nextOf t nlri output .answer .«nlri_size» ≡ 0) → P (nextOf t nlri output)
+  unfolding nextOf
+  untold-by P none bad h =
       ⊎-elim
       (λ p.
       let s = served (p .0) (p .1) in
       let zero = ⊎-elim (λ no. absurd (no (number ∙ number-given (p .1)))) (λ zero. zero) h in
-      subst (λ (c : Changed Following). Untold output (asMatched c)) (sym (answered (s .0) (s .1) nothing (untold-none (s .0) (s .1) zero .0))) (nothing-untold output))
-      (λ p. rw (p .1) (record { tierless = refl; sizes = (refl, refl); untouched = refl }))
+      subst P (sym (answered (s .0) (s .1) nothing (untold-none (s .0) (s .1) zero .0))) none)
+      (λ p. subst (λ (o : Outcome Found). P (followingBy o output)) (sym (p .1)) (bad (p .0)))
       (outcome (nextOutcome t nlri output))
+
+  untold : (nextOf t nlri output .answer .number ≢ DONE) ⊎ (nextOf t nlri output .answer .«nlri_size» ≡ 0) → Untold output (asMatched (nextOf t nlri output))
+  unfolding matchedBy onOutcome foundAnswer foundOutput
+  untold h = untold-by (λ (c : Changed Following). Untold output (asMatched c)) (nothing-untold output) (λ n. record { tierless = refl; sizes = (refl, refl); untouched = refl }) h
+
+  -- no mark where no route is told
+  no-mark : (nextOf t nlri output .answer .number ≢ DONE) ⊎ (nextOf t nlri output .answer .«nlri_size» ≡ 0) → nextOf t nlri output .answer .stale ≡ 0
+  unfolding onOutcome foundMark
+  no-mark h = untold-by (λ (c : Changed Following). c .answer .stale ≡ 0) refl (λ n. refl) h
 
 pub nextRule : NextRule
 nextRule =
@@ -129,4 +152,5 @@ nextRule =
       tells = λ t nlri output r e. let h = done t nlri output e in (told-comes t nlri output (h .0) (h .1) r, comes-told t nlri output (h .0) (h .1) r);
       none = λ t nlri output e. let h = done t nlri output e in (λ zero. untold-none t nlri output (h .0) (h .1) zero .1, none-told t nlri output (h .0) (h .1));
       untold = untold;
+      unmarked = no-mark;
     }

@@ -24,10 +24,10 @@ use Rattle.routes.specs.Table.{afiIn, routesOf}
 use Rattle.routes.specs.Answers.{Changed}
 use Rattle.routes.specs.Calls.{matchOf}
 use Rattle.routes.specs.Reasons.{reasonOf, reasonsOf, noReasons, explained, explainOf}
-use Rattle.routes.specs.Rules.MatchRule.{InTier, bothEqual, sourceEqual, groupEqual, bothWildcard, Taken, Told, MatchAnswer, oneTold, noneTold}
+use Rattle.routes.specs.Rules.MatchRule.{InTier, bothEqual, sourceEqual, groupEqual, bothWildcard, Taken, Told, MatchAnswer, oneTold, noneTold, TablesDifferInMarks}
 use Rattle.routes.specs.Rules.ReasonRule.{RuledOut, anyGroup, anySource, Met, MetEarlier, Reason, wasTaken, noSuchRoute, wrongClass, earlierWon, ReasonRule}
 use Rattle.routes.proofs.Definitions.Matching.Flows.{Classed, class-under, class-given, classed, multicast-classed, multicast-family}
-use Rattle.routes.proofs.Statements.MatchRule.{matchRule}
+use Rattle.routes.proofs.Statements.MatchRule.{match-marks, matchRule}
 
 -- a tier whose condition is met is one of the tiers, and is not ruled out
 tier-counted : {afi : ℕ} {flow : Flow} {tier : ℕ} {f : Fields} → InTier afi flow tier f → 0 < tier
@@ -174,11 +174,19 @@ module _ (t : List ℕ) (flow : Flow) (output : List ℕ) where
     told : (i : ℕ) → i < 4 → Of (i + 1) (getD reasons i 0)
     told i h = rw are (by-tier i h)
 
+-- marks change no reason
+marks : (t u : List ℕ) (flow : Flow) (output : List ℕ) → TablesDifferInMarks t u → explainOf t flow output ≡ explainOf u flow output
+unfolding explainOf
+marks t u flow output d =
+    let changed = match-marks t u (ofFlow flow) output d in
+    λ i. record { answer = explained (groupOf (classOf (d .family i) (flow .group)) .«group_class») (changed i .answer); octets = changed i .octets }
+
 pub reasonRule : ReasonRule
 unfolding explainOf explained
 reasonRule =
     record {
       match = λ t flow output. (refl, refl);
+      marks = marks;
       four = four;
       refused = refused;
       told = told;

@@ -1,12 +1,12 @@
 -- Sound tables, octet by octet (specs/Rules/SoundRule.antt).
 use Prim.Native.Nat.{ℕ, zero, suc, _+_, _*_, _≤_, _<_}
 use mathlib.Core.Path.{_≡_, refl, sym, ap, ap₂, subst, _∙_}
-use mathlib.Core.Bool.{true}
+use mathlib.Core.Bool.{Bool, true}
 use mathlib.Core.Logic.{⊎-elim}
 use mathlib.Core.List.{List, [], _∷_, _++_}
 use native.Mathlib.Omega.{arith}
 use borrow.Author.Tests.{leb-true, le-leb, ltb-true, ltb-false, eq-eqb}
-use lib.Dec.{ltb}
+use lib.Dec.{ltb, eqb}
 use lib.ListN.{length, getD, take, drop, length-take, List·getD-eq-default}
 use lib.Seq.{take-suc, take-take, drop-drop}
 use Rattle.octets.specs.Choice.{pick, both, either}
@@ -22,7 +22,7 @@ use Rattle.nlri.specs.Bodies.{bodies, onBody, codeOf, sameKind, fieldIn}
 use Rattle.nlri.specs.Reading.{fixedField, addressEnd, addressField, originatorField, fieldSize, sizesOf, laidWith, laidAt, cut, fieldsOf, laidSingle, readNlri}
 use Rattle.tunnel.specs.Identifier.{identifierForms, formIn, formOf, oneOf, isIdentifier, readIdentifier}
 use Rattle.tunnel.specs.Attribute.{labelOf, fieldsIn, readAttribute}
-use Rattle.routes.specs.Route.{Route, route, nlriOf, attributeOf}
+use Rattle.routes.specs.Route.{Route, entry, nlriOf, attributeOf}
 use Rattle.routes.specs.Place.{endIn, routeIn, acceptable, placeSound}
 use Rattle.routes.specs.Table.{headerStart, afiIn, countIn, placesIn, routesFrom, routesOf, tableSize, headerSound, placesSound, soundOf}
 use Rattle.routes.specs.Arguments.{readSPmsi, readLabelled, readRoute}
@@ -34,17 +34,17 @@ use Rattle.routes.proofs.Definitions.Headers.{sound-family, size-sound,
 use Rattle.routes.proofs.Statements.ArgumentRules.{nlri-accepted, nlri-accepts, labelled, argumentRule}
 use Rattle.routes.proofs.Statements.Images.{sound, length-routes}
 
--- acceptable is an NLRI and an attribute that install takes
-acceptable-taken : (afi : ℕ) (nlri attribute : List ℕ) → acceptable afi (route nlri attribute) ≡ true → SPmsi afi nlri × Labelled attribute
+-- acceptable is an NLRI and an attribute that install takes, whatever the mark
+acceptable-taken : (afi : ℕ) (nlri attribute : List ℕ) (stale : Bool) → acceptable afi (entry nlri attribute stale) ≡ true → SPmsi afi nlri × Labelled attribute
 unfolding nlriOf attributeOf
-acceptable-taken afi nlri attribute h =
-    let a = accepted afi (route nlri attribute) h in
+acceptable-taken afi nlri attribute stale h =
+    let a = accepted afi (entry nlri attribute stale) h in
     (nlri-accepted afi nlri (a .fields) (a .read), labelled attribute (a .attributeFields) (a .labelled))
 
 -- and the other way
-acceptable-of-taken : (afi : ℕ) (nlri attribute : List ℕ) → SPmsi afi nlri → Labelled attribute → acceptable afi (route nlri attribute) ≡ true
+acceptable-of-taken : (afi : ℕ) (nlri attribute : List ℕ) (stale : Bool) → SPmsi afi nlri → Labelled attribute → acceptable afi (entry nlri attribute stale) ≡ true
 unfolding nlriOf attributeOf
-acceptable-of-taken afi nlri attribute n a = read-acceptable afi (route nlri attribute) _ (argumentRule .acceptedRoute afi nlri attribute .1 (n, a))
+acceptable-of-taken afi nlri attribute stale n a = read-acceptable afi (entry nlri attribute stale) _ (argumentRule .acceptedRoute afi nlri attribute .1 (n, a))
 
 -- the place from `at` on
 module _ (t : List ℕ) (at : ℕ) where
@@ -55,27 +55,40 @@ module _ (t : List ℕ) (at : ℕ) where
   attribute-sized : getD (part t at 128) 1 0 ≡ getD t (at + 1) 0
   attribute-sized = part-octet t at 128 1 (omega arith)
 
+  -- its mark
+  mark-at : getD (part t at 128) 127 0 ≡ getD t (at + 127) 0
+  mark-at = part-octet t at 128 127 (omega arith)
+
   -- where its attribute ends
   end-at : endIn (part t at 128) ≡ 2 + getD t at 0 + getD t (at + 1) 0
   unfolding endIn
   end-at = rw (nlri-sized, attribute-sized) (omega arith)
 
+  -- the route that it holds
+  abbrev routeInPlace : Route
+  routeInPlace = entry (nlriInPlace t at) (attributeInPlace t at) (eqb (getD t (at + 127) 0) 1)
+
   -- the route in it
-  route-at : 2 + getD t at 0 + getD t (at + 1) 0 ≤ 128 → routeIn (part t at 128) ≡ route (nlriInPlace t at) (attributeInPlace t at)
+  route-at : 2 + getD t at 0 + getD t (at + 1) 0 ≤ 127 → routeIn (part t at 128) ≡ routeInPlace
   unfolding routeIn
   route-at fits =
       let behind : at + (2 + getD t at 0) ≡ at + 2 + getD t at 0 = omega arith in
-      rw (nlri-sized, attribute-sized)
-      (ap₂ route (part-within t at 128 2 (getD t at 0) (omega arith))
+      rw (nlri-sized, attribute-sized, mark-at)
+      (ap₂ (λ (nlri attribute : List ℕ). entry nlri attribute (eqb (getD t (at + 127) 0) 1)) (part-within t at 128 2 (getD t at 0) (omega arith))
       (part-within t at 128 (2 + getD t at 0) (getD t (at + 1) 0) (omega arith) ∙ ap (λ (i : ℕ). part t i (getD t (at + 1) 0)) behind))
 
-  -- zeros to its end, and nothing behind it
-  filled-at : (n : ℕ) → ((i : ℕ) → n ≤ i → i < 128 → getD t (at + i) 0 ≡ 0) → (i : ℕ) → n ≤ i → getD (part t at 128) i 0 ≡ 0
+  -- the octets before its mark
+  unmarked-at : take 127 (part t at 128) ≡ part t at 127
+  unfolding part
+  unmarked-at = take-take 127 128 (drop at t) (omega arith)
+
+  -- zeros to the mark, and nothing behind them
+  filled-at : (n : ℕ) → ((i : ℕ) → n ≤ i → i < 127 → getD t (at + i) 0 ≡ 0) → (i : ℕ) → n ≤ i → getD (part t at 127) i 0 ≡ 0
   unfolding part
   filled-at n h i least =
-      tested (ltb i 128)
-      (λ yes. let less : i < 128 = ltb-true i 128 yes in part-octet t at 128 i less ∙ h i least less)
-      (λ none. let past : 128 ≤ i = ltb-false i 128 none in List·getD-eq-default (take 128 (drop at t)) 0 {n = i} (omega (arith, length-take 128 (drop at t))))
+      tested (ltb i 127)
+      (λ yes. let less : i < 127 = ltb-true i 127 yes in part-octet t at 127 i less ∙ h i least less)
+      (λ none. let past : 127 ≤ i = ltb-false i 127 none in List·getD-eq-default (take 127 (drop at t)) 0 {n = i} (omega (arith, length-take 127 (drop at t))))
 
   module _ (afi : ℕ) where
     -- a sound place holds a route
@@ -83,14 +96,16 @@ module _ (t : List ℕ) (at : ℕ) where
     unfolding placeSound
     place-held h =
         let end = end-at in
-        let fits : 2 + getD t at 0 + getD t (at + 1) 0 ≤ 128 = omega (arith, leb-true (endIn (part t at 128)) 128 (both-true-left _ _ h)) in
-        let taken = acceptable-taken afi (nlriInPlace t at) (attributeInPlace t at) (rw (route-at fits) at (both-true-left _ _ (both-true-right _ _ h))) in
-        let zeroed = zero-past (endIn (part t at 128)) (part t at 128) (both-true-right _ _ (both-true-right _ _ h)) in
+        let fits : 2 + getD t at 0 + getD t (at + 1) 0 ≤ 127 = omega (arith, leb-true (endIn (part t at 128)) 127 (both-true-left _ _ h)) in
+        let others = both-true-right _ _ (both-true-right _ _ h) in
+        let taken = acceptable-taken afi (nlriInPlace t at) (attributeInPlace t at) _ (rw (route-at fits) at (both-true-left _ _ others)) in
+        let zeroed = zero-past (endIn (part t at 128)) (part t at 127) (rw unmarked-at at (both-true-right _ _ others)) in
         record {
           fits = fits;
           named = taken .0;
           labelled = taken .1;
-          filled = λ i least less. sym (part-octet t at 128 i less) ∙ zeroed i (omega arith);
+          filled = λ i least less. sym (part-octet t at 127 i less) ∙ zeroed i (omega arith);
+          marked = rw mark-at at (leb-true (getD (part t at 128) 127 0) 1 (both-true-left _ _ (both-true-right _ _ h)));
         }
 
     -- a place that holds a route is sound
@@ -99,9 +114,11 @@ module _ (t : List ℕ) (at : ℕ) where
     place-sound p =
         let end = end-at in
         let fits = p .fits in
-        both-true _ _ (le-leb (endIn (part t at 128)) 128 (omega arith))
-        (both-true _ _ (ap (acceptable afi) (route-at (p .fits)) ∙ acceptable-of-taken afi (nlriInPlace t at) (attributeInPlace t at) (p .named) (p .labelled))
-        (zero-each-past (endIn (part t at 128)) (part t at 128) (λ i least. filled-at (endIn (part t at 128)) (λ j more less. p .filled j (omega arith) less) i least)))
+        let mark = mark-at in
+        both-true _ _ (le-leb (endIn (part t at 128)) 127 (omega arith))
+        (both-true _ _ (le-leb (getD (part t at 128) 127 0) 1 (omega (arith, p .marked)))
+        (both-true _ _ (ap (acceptable afi) (route-at (p .fits)) ∙ acceptable-of-taken afi (nlriInPlace t at) (attributeInPlace t at) _ (p .named) (p .labelled))
+        (rw unmarked-at (zero-each-past (endIn (part t at 128)) (part t at 127) (filled-at (endIn (part t at 128)) (λ j more less. p .filled j (omega arith) less))))))
 
 -- so many places from `at` on hold routes, the first with an NLRI after `previous`, and everything after them is zero
 record PlacesHold (afi : ℕ) (t previous : List ℕ) (count at : ℕ) : Type 0 where
@@ -258,7 +275,7 @@ module _ (t : List ℕ) (s : Sound t) where
   places-at = rw (places-in t (s .size .places) (s .size .is)) (s .size .is)
 
   -- its route number i
-  route-held : (missing : Route) (i : ℕ) → i < countAt t → getD (routesOf t) i missing ≡ route (nlriInPlace t (8 + 128 * i)) (attributeInPlace t (8 + 128 * i))
+  route-held : (missing : Route) (i : ℕ) → i < countAt t → getD (routesOf t) i missing ≡ routeInPlace t (8 + 128 * i)
   unfolding routesOf
   route-held missing i less = rw counted (routes-at t missing (countAt t) 8 i less ∙ route-at t (8 + 128 * i) (s .held i less .fits))
 
@@ -281,10 +298,14 @@ soundExamples =
       family = refl;
       places = refl;
       routes = refl;
+      soundMarked = refl;
+      marked = refl;
       otherVersion = refl;
       uncounted = refl;
       untaken = refl;
       overcounted = refl;
       unlabelled = refl;
       unfilled = refl;
+      unfilledLast = refl;
+      otherMark = refl;
     }

@@ -2,31 +2,34 @@
 -- book"). Stated here, proved in proofs/Statements/Mixed/BookRules.antt.
 use Prim.Native.Nat.{ℕ, _≤_}
 use mathlib.Core.Path.{_≡_}
+use mathlib.Core.Bool.{true, false}
 use mathlib.Core.List.{List, [], _∷_, _++_}
 use mathlib.Core.Logic.{_↔_, _≢_}
 use lib.ListN.{length}
-use Rattle.octets.specs.Numbers.{DONE, ABSENT}
+use Rattle.octets.specs.Numbers.{DONE, ABSENT, FLOW}
 use Rattle.octets.specs.Lists.{Among, Once}
 use Rattle.routes.specs.declared.Matched.{Matched}
 use Rattle.routes.specs.Route.{Route, route, absent, held, lookup, Distinct}
 use Rattle.routes.specs.Query.{Flow}
 use Rattle.routes.specs.SharedTree.{SharedTree}
 use Rattle.routes.specs.Asked.{ofFlow, ofSharedTree}
+use Rattle.routes.specs.Restart.{RestartCall, marking, sweeping}
 use Rattle.routes.specs.Answers.{Changed}
-use Rattle.routes.specs.Call.{Call, install, withdraw, match, Answer, installed, withdrawn, matched, nobody, owner, ownerOf}
+use Rattle.routes.specs.Call.{Call, install, withdraw, restart, match, Answer, installed, withdrawn, restarted, matched, nobody, owner, ownerOf}
 use Rattle.routes.specs.Book.{ownCalls, bookOf, allBooks, dueAnswer}
 use Rattle.routes.specs.Run.{imageOfBooks, counted}
 use Rattle.routes.specs.Rules.ArgumentRules.{RouterSized, SPmsi, SPmsiOf, Labelled, GoodFlow, NlriRefusal, RouteRefusal, FlowRefusal}
 use Rattle.routes.specs.Rules.Images.{Holdable, TableOf}
-use Rattle.routes.specs.Rules.CallRules.{IsHeld, HeldNow}
+use Rattle.routes.specs.Rules.CallRules.{IsHeld, HeldNow, Renewed}
 use Rattle.routes.specs.Rules.MatchRule.{InTier, Untold, MatchAnswer}
 use Rattle.routes.specs.Rules.SharedTreeRule.{InSharedTier, GoodTree, SharedTreeRefusal}
 
--- a call belongs to a router: an install or withdrawal of a well-formed S-PMSI NLRI to its originator; a match, of a flow or for a shared tree, to
--- the router address that it gives, if that has 4 or 16 octets
+-- a call belongs to a router: an install or withdrawal of a well-formed S-PMSI NLRI to its originator; a mark, a sweep, and a match, of a flow or for
+-- a shared tree, to the router address that it gives, if that has 4 or 16 octets
 pub data BelongsTo (afi : ℕ) (router : List ℕ) : Call → Type 0 where
   ownInstall : {nlri attribute : List ℕ} → SPmsiOf afi router nlri → BelongsTo afi router (install nlri attribute)
   ownWithdrawal : {nlri : List ℕ} → SPmsiOf afi router nlri → BelongsTo afi router (withdraw nlri)
+  ownRestart : {which : RestartCall} → RouterSized router → BelongsTo afi router (restart which router)
   ownMatch : {flow : Flow} {output : List ℕ} → flow .router ≡ router → RouterSized router → BelongsTo afi router (match (ofFlow flow) output)
   ownSharedMatch : {tree : SharedTree} {output : List ℕ} → tree .router ≡ router → RouterSized router → BelongsTo afi router (match (ofSharedTree tree) output)
 
@@ -53,6 +56,7 @@ pub data RefusedCall (afi : ℕ) : Call → Answer → Type 0 where
   refusedInstall : {nlri attribute : List ℕ} {n : ℕ} → n ≢ DONE → RouteRefusal afi nlri attribute n
       → RefusedCall afi (install nlri attribute) (installed (record { number = n; outcome = 0 }))
   refusedWithdrawal : {nlri : List ℕ} {n : ℕ} → n ≢ DONE → NlriRefusal afi nlri n → RefusedCall afi (withdraw nlri) (withdrawn n)
+  refusedRestart : {which : RestartCall} {router : List ℕ} → (RouterSized router → ⊥) → RefusedCall afi (restart which router) (restarted (record { number = FLOW; gone = 0 }))
   refusedFlow : {flow : Flow} {output : List ℕ} {changed : Changed Matched} → FlowRefusal afi flow output (changed .answer .number) → Untold output changed
       → RefusedCall afi (match (ofFlow flow) output) (matched changed)
   refusedTree : {tree : SharedTree} {output : List ℕ} {changed : Changed Matched} → SharedTreeRefusal afi tree output (changed .answer .number) → Untold output changed
@@ -71,6 +75,11 @@ pub data BookStep (afi : ℕ) (book : List Route) : Call → Answer → (after :
   takenOut : {nlri : List ℕ} {after : List Route} → SPmsi afi nlri → IsHeld nlri book → HeldNow nlri absent book after
       → BookStep afi book (withdraw nlri) (withdrawn DONE) after
   notInBook : {nlri : List ℕ} → SPmsi afi nlri → lookup nlri book ≡ absent → BookStep afi book (withdraw nlri) (withdrawn ABSENT) book
+  -- any other mark takes out those already marked, and marks the others; any other sweep takes out those marked: DONE with how many went
+  markedBook : {router : List ℕ} {after : List Route} {gone : ℕ} → RouterSized router → Renewed afi router true book after gone
+      → BookStep afi book (restart marking router) (restarted (record { number = DONE; gone = gone })) after
+  sweptBook : {router : List ℕ} {after : List Route} {gone : ℕ} → RouterSized router → Renewed afi router false book after gone
+      → BookStep afi book (restart sweeping router) (restarted (record { number = DONE; gone = gone })) after
   -- any other match answers by the rule over the book's routes; the book stays
   matchedFlow : {flow : Flow} {output : List ℕ} {changed : Changed Matched} → GoodFlow afi flow → 124 ≤ length output
       → MatchAnswer afi (flow .router) (InTier afi flow) output book changed → BookStep afi book (match (ofFlow flow) output) (matched changed) book

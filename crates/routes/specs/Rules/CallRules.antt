@@ -1,17 +1,18 @@
--- What routes hold of an NLRI, and what making a table, install and withdraw answer and leave, in document 01's notions ("The numbers a call
--- gives back", "The table memory"). Proved in proofs/Definitions/Lookups and in MakeRules, InstallRules and WithdrawRules of proofs/Statements; MatchRule.antt is on match.
-use Prim.Native.Nat.{ℕ, suc, _<_}
+-- What routes hold of an NLRI, and what making a table, install, withdraw, mark and sweep answer and leave, in document 01's notions ("The numbers a call
+-- gives back", "The table memory"). Proved in proofs/Definitions/Lookups and in MakeRules, InstallRules, WithdrawRules and RestartRules of proofs/Statements; MatchRule.antt is on match.
+use Prim.Native.Nat.{ℕ, suc, _+_, _<_}
 use mathlib.Core.Path.{_≡_}
-use mathlib.Core.Bool.{true, false}
+use mathlib.Core.Bool.{Bool, true, false}
 use mathlib.Core.List.{List, []}
 use mathlib.Core.Logic.{_↔_, _≢_}
 use lib.ListN.{length}
-use Rattle.octets.specs.Numbers.{DONE, FAMILY, TABLE, ROOM, ABSENT}
+use Rattle.octets.specs.Numbers.{DONE, FAMILY, TABLE, ROOM, ABSENT, FLOW}
 use Rattle.octets.specs.Lists.{Among}
-use Rattle.routes.specs.Route.{Route, route, nlriOf, Held, absent, held, lookup, inserted, removed, Distinct}
+use Rattle.routes.specs.Route.{Route, entry, route, nlriOf, Held, absent, held, lookup, inserted, removed, Distinct}
 use Rattle.routes.specs.Table.{afiIn, placesIn, routesOf, soundOf}
-use Rattle.routes.specs.Calls.{makeOf, installOf, withdrawOf}
-use Rattle.routes.specs.Rules.ArgumentRules.{KnownFamily, SPmsi, Labelled, NlriRefusal, RouteRefusal}
+use Rattle.routes.specs.Restart.{RestartCall, renewed}
+use Rattle.routes.specs.Calls.{makeOf, installOf, withdrawOf, restartOf}
+use Rattle.routes.specs.Rules.ArgumentRules.{KnownFamily, RouterSized, SPmsi, SPmsiOf, Labelled, NlriRefusal, RouteRefusal}
 use Rattle.routes.specs.Rules.SoundRule.{TableSize}
 use Rattle.routes.specs.Rules.Images.{TableOf}
 
@@ -107,3 +108,33 @@ pub record WithdrawRule : Type 0 where
   pub size : (t nlri : List ℕ) → length (withdrawOf t nlri .octets) ≡ length t
   -- a refusal changes no octet
   pub untouched : (t nlri : List ℕ) → withdrawOf t nlri .answer ≢ DONE → withdrawOf t nlri .octets ≡ t
+
+-- routes of which a router's were marked, or swept, and how many went
+pub record Renewed (afi : ℕ) (router : List ℕ) (mark : Bool) (old new : List Route) (gone : ℕ) : Type 0 where
+  -- of its routes there are those that were not marked, each with this mark and no other
+  pub own : (nlri attribute : List ℕ) (stale : Bool) → SPmsiOf afi router nlri → Among (entry nlri attribute stale) new ↔ ((stale ≡ mark) × Among (entry nlri attribute false) old)
+  -- of others all that there were, with their marks
+  pub others : (r : Route) → (SPmsiOf afi router (nlriOf r) → ⊥) → Among r new ↔ Among r old
+  -- there are as many fewer as are told to have gone
+  pub went : length new + gone ≡ length old
+
+-- why mark and sweep refuse: TABLE, FLOW
+pub data RestartRefusal (t router : List ℕ) : ℕ → Type 0 where
+  restartUnsound : soundOf t ≡ false → RestartRefusal t router TABLE
+  badRouter : soundOf t ≡ true → (RouterSized router → ⊥) → RestartRefusal t router FLOW
+
+-- mark, or sweep, by the mark that it leaves: each answer exactly when, and what it leaves
+pub record RestartRule (which : RestartCall) (mark : Bool) : Type 0 where
+  -- each refusal exactly when, and DONE where there is none: also for a router that has no route
+  pub refuses : (t router : List ℕ) (n : ℕ) → n ≢ DONE → (restartOf which t router .answer .number ≡ n) ↔ RestartRefusal t router n
+  pub done : (t router : List ℕ) → (restartOf which t router .answer .number ≡ DONE) ↔ ((soundOf t ≡ true) × RouterSized router)
+  -- of the router's routes those already marked went, as many as told; the others have this mark; every other route is as it was
+  pub renews : (t router : List ℕ) → restartOf which t router .answer .number ≡ DONE
+      → Renewed (afiIn t) router mark (routesOf t) (routesOf (restartOf which t router .octets)) (restartOf which t router .answer .gone)
+  -- the table is sound, of the same family and size
+  pub after : (t router : List ℕ) → restartOf which t router .answer .number ≡ DONE
+      → TableOf (afiIn t) (placesIn t) (renewed (afiIn t) which router (routesOf t)) (restartOf which t router .octets)
+  pub size : (t router : List ℕ) → length (restartOf which t router .octets) ≡ length t
+  -- a refusal has empty fields and changes no octet
+  pub empty : (t router : List ℕ) → restartOf which t router .answer .number ≢ DONE → restartOf which t router .answer .gone ≡ 0
+  pub untouched : (t router : List ℕ) → restartOf which t router .answer .number ≢ DONE → restartOf which t router .octets ≡ t

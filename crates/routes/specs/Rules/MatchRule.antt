@@ -2,7 +2,7 @@
 -- no route matches). Stated here, proved in proofs/Statements/MatchRule.antt.
 use Prim.Native.Nat.{ℕ, _+_, _≤_, _<_}
 use mathlib.Core.Path.{_≡_}
-use mathlib.Core.Bool.{true, false}
+use mathlib.Core.Bool.{Bool, true, false}
 use mathlib.Core.List.{List, [], _∷_, _++_}
 use mathlib.Core.Logic.{_↔_, _≢_}
 use lib.ListN.{length, getD}
@@ -15,7 +15,7 @@ use Rattle.nlri.specs.Fields.{Fields}
 use Rattle.nlri.specs.Statements.{SourceSpecific}
 use Rattle.tunnel.specs.Attribute.{AttributeFields, readAttribute}
 use Rattle.routes.specs.declared.Matched.{Matched}
-use Rattle.routes.specs.Route.{Route, nlriOf, attributeOf, Distinct}
+use Rattle.routes.specs.Route.{Route, entry, nlriOf, attributeOf, Distinct}
 use Rattle.routes.specs.Query.{Query, Flow, flowOf}
 use Rattle.routes.specs.Arguments.{readFlow}
 use Rattle.routes.specs.Asked.{Asked, ofFlow}
@@ -103,12 +103,25 @@ pub record TableMatch (asked : Asked) (router : List ℕ) (Good : (afi : ℕ) �
   -- a refusal has empty fields and changes no octet
   pub untold : (t output : List ℕ) → matchOf t asked output .answer .number ≢ DONE → Untold output (matchOf t asked output)
 
+-- routes that differ in marks alone: the same NLRIs with the same attributes, one after the other
+pub data DifferInMarks : List Route → List Route → Type 0 where
+  none : DifferInMarks [] []
+  one : {nlri attribute : List ℕ} {stale mark : Bool} {rs us : List Route} → DifferInMarks rs us → DifferInMarks (entry nlri attribute stale ∷ rs) (entry nlri attribute mark ∷ us)
+
+-- sound tables of one family whose routes differ in marks alone
+pub record TablesDifferInMarks (t u : List ℕ) : Type 0 where
+  pub sound : (soundOf t ≡ true) × (soundOf u ≡ true)
+  pub family : afiIn t ≡ afiIn u
+  pub routes : DifferInMarks (routesOf t) (routesOf u)
+
 -- the match for a flow: what it chooses, and what it answers
 pub record MatchRule : Type 0 where
   -- the flow of a call's arguments: its router, its source and its group
   pub arguments : (router source group : List ℕ) → (flowOf router source group .router ≡ router) × (flowOf router source group .source ≡ source) × (flowOf router source group .group ≡ group)
   -- a route that names no tunnel is ignored (RFC 8556, section 4.1), whatever a match of any kind asks and wherever the route stands
   pub ignored : (afi : ℕ) (q : Query) (earlier later : List Route) (r : Route) → (NamesTunnel (attributeOf r) → ⊥) → matchIn afi q (earlier ++ (r ∷ later)) ≡ matchIn afi q (earlier ++ later)
+  -- a marked route still matches (request W-208): whatever a match of any kind asks, marks change neither its answer nor the output octets
+  pub marks : (t u : List ℕ) (asked : Asked) (output : List ℕ) → TablesDifferInMarks t u → matchOf t asked output ≡ matchOf u asked output
   -- over any routes with no NLRI twice, in any order
   pub chosen : (afi : ℕ) (flow : Flow) (q : Query) (rs : List Route) → readFlow afi flow ≡ given q → Distinct rs
       → (tier : ℕ) (r : Route) → (matchIn afi q rs ≡ found tier r) ↔ Taken afi (flow .router) (InTier afi flow) rs tier r

@@ -10,8 +10,9 @@ use Rattle.octets.specs.Order.{zeros}
 use Rattle.octets.specs.Lists.{Rearranged}
 use Rattle.routes.specs.Table.{placesIn}
 use Rattle.routes.specs.Asked.{Asked}
-use Rattle.routes.specs.Calls.{makeOf, installOf, withdrawOf, matchOf}
-use Rattle.routes.specs.Call.{Call, install, withdraw, match, installed, withdrawn, matched}
+use Rattle.routes.specs.Restart.{marking, sweeping}
+use Rattle.routes.specs.Calls.{makeOf, installOf, withdrawOf, markOf, sweepOf, matchOf}
+use Rattle.routes.specs.Call.{Call, install, withdraw, restart, match, installed, withdrawn, restarted, matched}
 use Rattle.routes.specs.Book.{ownCalls, nobodysCalls, onceEach, routersOf, dueAnswer}
 use Rattle.routes.specs.Run.{Step, stepOf, runFrom, endOf, answersIn, ownAnswers, imageOfBooks, Fits}
 use Rattle.routes.specs.Rules.ArgumentRules.{KnownFamily}
@@ -24,6 +25,10 @@ pub record RunRule : Type 0 where
       → stepOf t (install nlri attribute) ≡ record { call = install nlri attribute; answer = installed (installOf t nlri attribute .answer); octets = installOf t nlri attribute .octets }
   -- so does a withdrawal
   pub withdrawals : (t nlri : List ℕ) → stepOf t (withdraw nlri) ≡ record { call = withdraw nlri; answer = withdrawn (withdrawOf t nlri .answer); octets = withdrawOf t nlri .octets }
+  -- so does a mark
+  pub marks : (t router : List ℕ) → stepOf t (restart marking router) ≡ record { call = restart marking router; answer = restarted (markOf t router .answer); octets = markOf t router .octets }
+  -- so does a sweep
+  pub sweeps : (t router : List ℕ) → stepOf t (restart sweeping router) ≡ record { call = restart sweeping router; answer = restarted (sweepOf t router .answer); octets = sweepOf t router .octets }
   -- so does a match, which leaves the table
   pub matches : (t : List ℕ) (asked : Asked) (output : List ℕ) → stepOf t (match asked output) ≡ record { call = match asked output; answer = matched (matchOf t asked output); octets = t }
   -- the octets after no call are those before

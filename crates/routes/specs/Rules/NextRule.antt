@@ -13,7 +13,7 @@ use Rattle.octets.specs.Order.{before}
 use Rattle.octets.specs.Lists.{Among}
 use Rattle.routes.specs.declared.Matched.{Matched}
 use Rattle.routes.specs.declared.Following.{Following}
-use Rattle.routes.specs.Route.{Route, route, nlriOf, Increasing}
+use Rattle.routes.specs.Route.{Route, entry, nlriOf, staleOf, Increasing}
 use Rattle.routes.specs.Table.{routesOf, soundOf}
 use Rattle.routes.specs.Answers.{Changed}
 use Rattle.routes.specs.Next.{nextOf}
@@ -37,10 +37,12 @@ asMatched c =
       octets = c .octets;
     }
 
--- a route is told as a match tells it: sizes that are not 0, its NLRI and its attribute at the front of the output, the octets past them as they were
+-- a route is told as a match tells it: sizes that are not 0, its NLRI and its attribute at the front of the output, the octets past them as they
+-- were; and its mark, 1 exactly where it is marked stale, else 0
 pub record Tells (r : Route) (output : List ℕ) (changed : Changed Following) : Type 0 where
   pub some : 0 < changed .answer .«nlri_size»
   pub told : Told 0 r output (asMatched changed)
+  pub mark : (staleOf r ≡ true → changed .answer .stale ≡ 1) × (staleOf r ≡ false → changed .answer .stale ≡ 0)
 
 -- why next refuses: TABLE, then SPACE, also where no route comes after
 pub data NextRefusal (t output : List ℕ) : ℕ → Type 0 where
@@ -56,10 +58,13 @@ pub record NextRule : Type 0 where
   pub none : (t nlri output : List ℕ) → nextOf t nlri output .answer .number ≡ DONE → (nextOf t nlri output .answer .«nlri_size» ≡ 0) ↔ NoneNext nlri (routesOf t)
   -- none told, and a refusal, have empty fields and leave the output
   pub untold : (t nlri output : List ℕ) → (nextOf t nlri output .answer .number ≢ DONE) ⊎ (nextOf t nlri output .answer .«nlri_size» ≡ 0) → Untold output (asMatched (nextOf t nlri output))
+  -- nor is a mark told
+  pub unmarked : (t nlri output : List ℕ) → (nextOf t nlri output .answer .number ≢ DONE) ⊎ (nextOf t nlri output .answer .«nlri_size» ≡ 0) → nextOf t nlri output .answer .stale ≡ 0
 
--- the route that an answer tells, as a caller takes it out of the output by its sizes
+-- the route that an answer tells, as a caller takes it out of the output by its sizes, with its mark
 abbrev pub toldRoute : Changed Following → Route
-toldRoute c = route (part (c .octets) 0 (c .answer .«nlri_size»)) (part (c .octets) (c .answer .«nlri_size») (c .answer .«attribute_size»))
+toldRoute c =
+    entry (part (c .octets) 0 (c .answer .«nlri_size»)) (part (c .octets) (c .answer .«nlri_size») (c .answer .«attribute_size»)) (eqb (c .answer .stale) 1)
 
 -- the routes that a caller's loop is told, with a table for each call: it asks on with the NLRI that stands in the output, and ends where none is told
 unfoldable pub toldInTurn : (tables : List (List ℕ)) (nlri output : List ℕ) → List Route

@@ -16,7 +16,7 @@ use Rattle.routes.specs.Table.{afiIn, routesOf}
 use Rattle.routes.specs.Answers.{Changed}
 use Rattle.routes.specs.Calls.{matchOf}
 use Rattle.routes.specs.Reasons.{explainOf}
-use Rattle.routes.specs.Rules.MatchRule.{InTier, Eligible, Taken, Told}
+use Rattle.routes.specs.Rules.MatchRule.{InTier, Eligible, Taken, Told, TablesDifferInMarks}
 
 -- the class of a group rules a tier out: tier 2 where it is not SSM, tier 3 where it is
 pub data RuledOut (afi : ℕ) (group : List ℕ) : (tier : ℕ) → Type 0 where
@@ -52,6 +52,8 @@ pub record ReasonRule : Type 0 where
   -- the answer has match's own, and the output is match's
   pub match : (t : List ℕ) (flow : Flow) (output : List ℕ)
       → (explainOf t flow output .answer .matched ≡ matchOf t (ofFlow flow) output .answer) × (explainOf t flow output .octets ≡ matchOf t (ofFlow flow) output .octets)
+  -- marks change nothing of it (request W-208)
+  pub marks : (t u : List ℕ) (flow : Flow) (output : List ℕ) → TablesDifferInMarks t u → explainOf t flow output ≡ explainOf u flow output
   -- there are four reasons
   pub four : (t : List ℕ) (flow : Flow) (output : List ℕ) → length (explainOf t flow output .answer .reasons) ≡ 4
   -- on a refusal each is 0

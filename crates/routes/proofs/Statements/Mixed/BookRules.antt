@@ -5,25 +5,22 @@ use mathlib.Core.Bool.{true, false}
 use mathlib.Core.List.{List, [], _∷_, _++_}
 use mathlib.Core.Logic.{⊎-elim}
 use lib.ListN.{length}
-use Rattle.octets.specs.Outcome.{Outcome, given, refused, onOutcome, numberOf}
+use Rattle.octets.specs.Outcome.{Outcome, given, refused, numberOf}
 use Rattle.octets.specs.Lists.{Among, chosen}
 use Rattle.octets.proofs.Choice.{opposite, tested, picked, is-false}
-use Rattle.nlri.specs.Fields.{Fields}
 use Rattle.nlri.proofs.Theorems.{lengths}
 use Rattle.routes.specs.Route.{Route, nlriOf, held, lookup, arranged}
-use Rattle.routes.specs.Arguments.{readSPmsi}
-use Rattle.routes.specs.Rules.ArgumentRules.{KnownFamily, SPmsiOf}
+use Rattle.routes.specs.Rules.ArgumentRules.{KnownFamily}
 use Rattle.routes.specs.Asked.{ofFlow, ofSharedTree, askedRouter}
-use Rattle.routes.specs.Call.{Call, install, withdraw, match, Owner, nobody, owner, originatorOf, ownerOf, ownedBy, owns, Act, argued, refusalOf}
+use Rattle.routes.specs.Call.{Call, install, withdraw, restart, match, Owner, nobody, owner, originatorOf, addressOwner, ownerOf, ownedBy, owns, Act, argued, refusalOf}
 use Rattle.routes.specs.Book.{bookAfter, fed, ownCalls, bookOf, allBooks, dueAnswer}
 use Rattle.routes.specs.Run.{imageOfBooks, namedBy, Fits}
-use Rattle.routes.specs.Rules.BookRules.{BelongsTo, ownInstall, ownWithdrawal, ownMatch, ownSharedMatch, Nobodys, OwnerRule, PremiseRule, RefusedCall, BookStep, BookRule, ImageRule}
+use Rattle.routes.specs.Rules.BookRules.{BelongsTo, ownInstall, ownWithdrawal, ownRestart, ownMatch, ownSharedMatch, Nobodys, OwnerRule, PremiseRule, RefusedCall, BookStep, BookRule, ImageRule}
 use Rattle.routes.proofs.Definitions.Lookups.{held-absent, lookup-arranged, lookup-member, lookup-of-member, distinct-increasing}
-use Rattle.routes.proofs.Statements.ArgumentRules.{argumentRule, nlri-accepts}
 use Rattle.routes.proofs.Statements.Images.{images}
 use Rattle.routes.proofs.Definitions.OnceEach.{once-each-among, among-once-each, once-once-each}
 use Rattle.octets.proofs.Chosen.{chosen-first, chosen-later}
-use Rattle.routes.proofs.Definitions.Ownership.{owner-read, owner-nobody, owners-same, owned-by, owned-itself, match-owner}
+use Rattle.routes.proofs.Definitions.Ownership.{owner-nobody, owners-same, owned-by, owned-itself, address-owner, match-owner, originated, originator}
 use Rattle.routes.proofs.Definitions.Acts.{owned}
 use Rattle.routes.proofs.Definitions.Named.{named-exactly}
 use Rattle.routes.proofs.Definitions.AllBooks.{distinct-book, acceptable-book, lookup-foreign, lookup-all, lookup-nobody, distinct-all, increasing-books, holdable-books}
@@ -33,23 +30,17 @@ use Rattle.routes.proofs.Statements.Mixed.BookSteps.{refused-call, book
 
 -- owners
 
-originated : (afi : ℕ) (router nlri : List ℕ) → originatorOf afi nlri ≡ owner router → SPmsiOf afi router nlri
-unfolding originatorOf onOutcome
-originated afi router nlri h = go (readSPmsi afi nlri) refl
-  where
-    go : (o : Outcome Fields) → readSPmsi afi nlri ≡ o → SPmsiOf afi router nlri
-    go (given f) e =
-        let p = argumentRule .acceptedNlri afi nlri f .0 e in
-        record { named = record { fields = f; read = p .0; kind = p .1 }; originator = owners-same (owner-read afi nlri f e) h }
-    go (refused n) e = absurd (owner-nobody refl (rw e at h))
-
-originator : (afi : ℕ) (router nlri : List ℕ) → SPmsiOf afi router nlri → originatorOf afi nlri ≡ owner router
-originator afi router nlri s = owner-read afi nlri (s .named .fields) (nlri-accepts afi nlri (s .named)) ∙ ap owner (s .originator)
-
 pub belongs : (afi : ℕ) (router : List ℕ) (c : Call) → ownerOf afi c ≡ owner router → BelongsTo afi router c
-unfolding ownerOf askedRouter
+unfolding ownerOf askedRouter addressOwner
 belongs afi router (install nlri attribute) h = ownInstall (originated afi router nlri h)
 belongs afi router (withdraw nlri) h = ownWithdrawal (originated afi router nlri h)
+belongs afi router (restart which named) h =
+    ⊎-elim
+    (λ p.
+    let is : named ≡ router = owners-same refl (p .1) in
+    subst (λ (x : List ℕ). BelongsTo afi router (restart which x)) (sym is) (ownRestart (rw is at (lengths .originators (length named) .0 (p .0)))))
+    (λ p. absurd (owner-nobody refl (p .1)))
+    (picked _ _ _ _ h)
 belongs afi router (match (ofFlow flow) output) h =
     ⊎-elim
     (λ p. let is : flow .router ≡ router = owners-same refl (p .1) in ownMatch is (rw is at (lengths .originators (length (flow .router)) .0 (p .0))))
@@ -65,6 +56,7 @@ belonging : {afi : ℕ} {router : List ℕ} {c : Call} → BelongsTo afi router 
 unfolding ownerOf askedRouter
 belonging {afi} {router} (ownInstall {nlri} s) = originator afi router nlri s
 belonging {afi} {router} (ownWithdrawal {nlri} s) = originator afi router nlri s
+belonging {afi} {router} (ownRestart size) = address-owner router (lengths .originators (length router) .1 size)
 belonging {afi} {router} (ownMatch {flow} {output} is size) = match-owner afi (ofFlow flow) output (rw is (lengths .originators (length router) .1 size)) ∙ ap owner is
 belonging {afi} {router} (ownSharedMatch {tree} {output} is size) = match-owner afi (ofSharedTree tree) output (rw is (lengths .originators (length router) .1 size)) ∙ ap owner is
 

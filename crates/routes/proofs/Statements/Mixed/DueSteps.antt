@@ -21,17 +21,19 @@ use Rattle.routes.specs.Place.{acceptable}
 use Rattle.routes.specs.Rules.ArgumentRules.{KnownFamily}
 use Rattle.routes.specs.Rules.Images.{TableOf}
 use Rattle.routes.specs.Matching.{matchIn}
-use Rattle.routes.specs.Answers.{NEW, REPLACED, installedOf, matchedBy}
-use Rattle.routes.specs.Calls.{entering, installOutcome, installOf, leaving, withdrawOutcome, withdrawOf, matchOutcome, matchOf}
-use Rattle.routes.specs.Call.{Call, install, withdraw, match, Answer, installed, withdrawn, matched, Owner, nobody, owner, originatorOf, ownerOf, Act, enter, leave, ask, argued, refusalOf, refusalAnswer}
+use Rattle.routes.specs.Restart.{RestartCall, renewed, goneOf, readRouter}
+use Rattle.routes.specs.Answers.{NEW, REPLACED, installedOf, restartedOf, matchedBy}
+use Rattle.routes.specs.Calls.{entering, installOutcome, installOf, leaving, withdrawOutcome, withdrawOf, restartOutcome, restartOf, matchOutcome, matchOf}
+use Rattle.routes.specs.Call.{Call, install, withdraw, restart, match, Answer, installed, withdrawn, restarted, matched, Owner, nobody, owner, originatorOf, ownerOf, Act, enter, leave, renew, ask, argued, refusalOf, refusalAnswer}
 use Rattle.routes.specs.Book.{bookOf, actAnswer, bookAnswer, allBooks, dueBy, dueAnswer}
 use Rattle.routes.specs.Run.{Step, stepOf, Answered, imageOfBooks, Fits}
 use Rattle.routes.proofs.Definitions.Lookups.{lookup-inserted, lookup-removed, lookup-arranged, holds-alike, increasing-equal, increasing-inserted, increasing-removed, distinct-increasing, length-inserted-new, absent-holds, removed-absent}
 use Rattle.routes.proofs.Definitions.Bounds.{route-read}
 use Rattle.routes.proofs.Statements.Images.{images}
 use Rattle.routes.proofs.Definitions.Matching.MatchSame.{match-same}
-use Rattle.routes.proofs.Definitions.Ownership.{acceptable-after-none, owned-by}
-use Rattle.routes.proofs.Definitions.Acts.{Known, enters, leaves, asks, argued-cases}
+use Rattle.routes.proofs.Definitions.Ownership.{acceptable-after-none, owned-by, router-read}
+use Rattle.routes.proofs.Definitions.Restarts.{lookup-renewed, increasing-renewed, gone-same}
+use Rattle.routes.proofs.Definitions.Acts.{Known, enters, leaves, renews, asks, argued-cases}
 use Rattle.routes.proofs.Definitions.Books.{heldBy, heldAfter}
 use Rattle.routes.proofs.Definitions.AllBooks.{distinct-book, lookup-all, lookup-all-next, increasing-books, holdable-books}
 
@@ -56,6 +58,8 @@ actStep afi places rs t c (enter r) =
     record { call = c; answer = installed (installedOf (entering places rs r)); octets = onOutcome (λ number. t) (λ o. imageOf afi places (inserted r rs)) (entering places rs r) }
 actStep afi places rs t c (leave nlri) =
     record { call = c; answer = withdrawn (numberOf (leaving rs nlri)); octets = onOutcome (λ number. t) (λ n. imageOf afi places (removed n rs)) (leaving rs nlri) }
+actStep afi places rs t c (renew which router) =
+    record { call = c; answer = restarted (restartedOf (given (goneOf afi router rs))); octets = imageOf afi places (renewed afi which router rs) }
 actStep afi places rs t c (ask q output) = record { call = c; answer = matched (matchedBy (given (matchIn afi q rs)) output); octets = t }
 
 module _ (afi places : ℕ) (rs : List Route) (t : List ℕ) (of : TableOf afi places rs t) where
@@ -67,6 +71,11 @@ module _ (afi places : ℕ) (rs : List Route) (t : List ℕ) (of : TableOf afi p
   unfolding withdrawOutcome
   withdraw-on nlri = rw (of .family, of .routes) (pick-true _ _ _ (of .sound))
 
+  -- a mark or sweep on a sound table
+  restart-on : (router : List ℕ) → restartOutcome t router ≡ andThen (readRouter router) (λ named. given (goneOf afi named rs))
+  unfolding restartOutcome
+  restart-on router = rw (of .family, of .routes) (pick-true _ _ _ (of .sound))
+
   match-on : (asked : Asked) (output : List ℕ) → matchOutcome t asked output ≡ andThen (readAsked afi asked output) (λ q. given (matchIn afi q rs))
   unfolding matchOutcome
   match-on asked output = rw (of .family, of .routes) (pick-true _ _ _ (of .sound))
@@ -76,7 +85,7 @@ module _ (afi places : ℕ) (rs : List Route) (t : List ℕ) (of : TableOf afi p
   argued-step c o = onOutcome (λ number. record { call = c; answer = refusalAnswer c number; octets = t }) (actStep afi places rs t c) o
 
   step-on : (c : Call) → stepOf t c ≡ argued-step c (argued afi c)
-  unfolding stepOf installOf withdrawOf matchOf argued andThen onOutcome numberOf actStep refusalAnswer
+  unfolding stepOf installOf withdrawOf restartOf matchOf argued andThen onOutcome numberOf actStep refusalAnswer
   step-on (install nlri attribute) = go (readRoute afi nlri attribute) refl
     where
       go : (o : Outcome Route) → readRoute afi nlri attribute ≡ o → stepOf t (install nlri attribute) ≡ argued-step (install nlri attribute) (andThen o (λ r. given (enter r)))
@@ -89,6 +98,13 @@ module _ (afi places : ℕ) (rs : List Route) (t : List ℕ) (of : TableOf afi p
       go : (o : Outcome Fields) → readSPmsi afi nlri ≡ o → stepOf t (withdraw nlri) ≡ argued-step (withdraw nlri) (andThen o (λ f. given (leave nlri)))
       go (given f) e = let x : withdrawOutcome t nlri ≡ leaving rs nlri = withdraw-on nlri ∙ rw e in rw (x, of .family, of .size, of .routes)
       go (refused n) e = let x : withdrawOutcome t nlri ≡ refused n = withdraw-on nlri ∙ rw e in rw x
+  step-on (restart which router) = go (readRouter router) refl
+    where
+      go : (o : Outcome (List ℕ)) → readRouter router ≡ o → stepOf t (restart which router) ≡ argued-step (restart which router) (andThen o (λ named. given (renew which named)))
+      go (given named) e =
+          let x : restartOutcome t router ≡ given (goneOf afi named rs) = restart-on router ∙ rw e in
+          rw (x, of .family, of .size, of .routes, router-read router named e .0)
+      go (refused n) e = let x : restartOutcome t router ≡ refused n = restart-on router ∙ rw e in rw x
   step-on (match asked output) = go (readAsked afi asked output) refl
     where
       go : (o : Outcome Query) → readAsked afi asked output ≡ o
@@ -144,7 +160,7 @@ module _ (afi places : ℕ) (earlier : List Call) (c : Call) where
       go (owner router) w = due-owned afi earlier c router w ∙ rw e
 
   -- routes in increasing order that hold what an act leaves
-  next-act : (act : Act) → argued afi c ≡ given act → (us : List Route) → Increasing [] us → ((nlri : List ℕ) → lookup nlri us ≡ heldBy act nlri (lookup nlri (tableRoutes afi earlier)))
+  next-act : (act : Act) → argued afi c ≡ given act → (us : List Route) → Increasing [] us → ((nlri : List ℕ) → lookup nlri us ≡ heldBy afi act nlri (lookup nlri (tableRoutes afi earlier)))
       → us ≡ tableRoutes afi (earlier ++ (c ∷ []))
   unfolding heldAfter onOutcome
   next-act act e us i h = table-next us i (λ nlri. rw e (h nlri))
@@ -159,6 +175,13 @@ module _ (afi places : ℕ) (earlier : List Call) (c : Call) where
   unfolding heldBy
   next-left nlri e =
       next-act (leave nlri) e (removed nlri (tableRoutes afi earlier)) (increasing-removed nlri (increasing-books afi earlier)) (λ n. lookup-removed n nlri (distinct-increasing (increasing-books afi earlier)))
+
+  -- the routes of all books after a mark or sweep
+  next-renewed : (which : RestartCall) (router : List ℕ) → argued afi c ≡ given (renew which router) → renewed afi which router (tableRoutes afi earlier) ≡ tableRoutes afi (earlier ++ (c ∷ []))
+  unfolding heldBy
+  next-renewed which router e =
+      next-act (renew which router) e (renewed afi which router (tableRoutes afi earlier)) (increasing-renewed afi which router (increasing-books afi earlier))
+      (λ nlri. lookup-renewed afi which router nlri (distinct-increasing (increasing-books afi earlier)))
 
   next-asked : (q : Query) (output : List ℕ) → argued afi c ≡ given (ask q output) → tableRoutes afi earlier ≡ tableRoutes afi (earlier ++ (c ∷ []))
   unfolding heldBy
@@ -191,6 +214,12 @@ module _ (afi places : ℕ) (earlier : List Call) (c : Call) where
         match-same afi q (bookOf afi router earlier) (tableRoutes afi earlier) (distinct-book afi router earlier) (distinct-increasing (increasing-books afi earlier))
         (λ nlri h. sym (lookup-arranged nlri (allBooks afi earlier) ∙ lookup-all afi router nlri earlier (owned-by (q .router) (originatorOf afi nlri) h ∙ ap owner mine)))
 
+    -- as many went of its book as of the table
+    gone-book : goneOf afi router (bookOf afi router earlier) ≡ goneOf afi router (tableRoutes afi earlier)
+    gone-book =
+        gone-same afi router (bookOf afi router earlier) (tableRoutes afi earlier) (distinct-book afi router earlier) (distinct-increasing (increasing-books afi earlier))
+        (λ nlri h. sym (lookup-arranged nlri (allBooks afi earlier) ∙ lookup-all afi router nlri earlier (owned-by router (originatorOf afi nlri) h)))
+
     acted : {act : Act} (t : List ℕ) → t ≡ imageOf afi places (tableRoutes afi earlier) → KnownFamily afi → places ≤ 500 → Fits afi places (earlier ++ (c ∷ [])) → argued afi c ≡ given act → Known afi c router act
         → actStep afi places (tableRoutes afi earlier) t c act ≡ dueStep afi places earlier c
     unfolding actStep actAnswer leaving installedOf onOutcome numberOf pick
@@ -206,6 +235,9 @@ module _ (afi places : ℕ) (earlier : List Call) (c : Call) where
         (λ n.
         let due : dueAnswer afi earlier c ≡ withdrawn ABSENT = due-act (leave nlri) e ∙ rw (table-book nlri mine, n) in
         rw n (as-due _ (tableRoutes afi earlier) t due (sym (removed-absent nlri (tableRoutes afi earlier) (absent-holds nlri (tableRoutes afi earlier) n)) ∙ next-left nlri e) is))
+    acted t is bits most fits e (renews {which}) =
+        let due : dueAnswer afi earlier c ≡ restarted (restartedOf (given (goneOf afi router (tableRoutes afi earlier)))) = due-act (renew which router) e ∙ rw gone-book in
+        as-due _ (renewed afi which router (tableRoutes afi earlier)) _ due (next-renewed which router e) refl
     acted t is bits most fits e (asks {q} {output} mine) =
         let due : dueAnswer afi earlier c ≡ matched (matchedBy (given (matchIn afi q (tableRoutes afi earlier))) output) =
         due-act (ask q output) e ∙ rw (match-book q mine) in

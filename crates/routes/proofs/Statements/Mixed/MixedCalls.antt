@@ -7,7 +7,7 @@ use Rattle.octets.specs.Lists.{Rearranged, chosen}
 use Rattle.routes.specs.Route.{arranged}
 use Rattle.routes.specs.Table.{imageOf, placesIn}
 use Rattle.routes.specs.Calls.{makeOf}
-use Rattle.routes.specs.Call.{Call, install, withdraw, match, owns}
+use Rattle.routes.specs.Call.{Call, install, withdraw, restart, match, owns}
 use Rattle.routes.specs.Book.{ownCalls, onceEach, routersOf, gathered, allBooks}
 use Rattle.routes.specs.Run.{Step, stepOf, runFrom, endOf, Answered, answersIn, imageOfBooks, Fits}
 use Rattle.routes.specs.Rules.ArgumentRules.{KnownFamily}
@@ -95,6 +95,7 @@ answered : (t : List ℕ) (c : Call) (cs : List Call) → answersIn (runFrom t (
 unfolding runFrom answersIn stepOf
 answered t (install nlri attribute) cs = refl
 answered t (withdraw nlri) cs = refl
+answered t (restart which router) cs = refl
 answered t (match asked output) cs = refl
 
 -- steps, ends and runs
@@ -104,6 +105,8 @@ run-rule =
     record {
       installs = λ t nlri attribute. refl;
       withdrawals = λ t nlri. refl;
+      marks = λ t router. refl;
+      sweeps = λ t router. refl;
       matches = λ t asked output. refl;
       start = λ t. refl;
       end = end-then;

@@ -15,11 +15,11 @@ use Rattle.tunnel.specs.Attribute.{labelOf, fieldsIn, readAttribute}
 use Rattle.octets.specs.Lists.{chosen}
 use Rattle.routes.specs.Route.{nlriOf, attributeOf, lookup, isHeld, holds, inserted, arranged}
 use Rattle.routes.specs.Arguments.{readSPmsi, readLabelled, readRoute}
-use Rattle.routes.specs.Place.{placeOf, endIn, routeIn, acceptable, placeSound}
+use Rattle.routes.specs.Place.{markOctet, placeOf, endIn, routeIn, acceptable, placeSound}
 use Rattle.routes.specs.Table.{headerStart, headerOf, placesOf, imageOf, afiIn, countIn, placesIn, routesFrom, routesOf, tableSize, headerSound, placesSound, soundOf}
 use Rattle.routes.specs.Answers.{installedOf}
 use Rattle.routes.specs.Calls.{makeOutcome, makeOf, entering, installOutcome, installOf}
-use Rattle.routes.specs.Call.{Answer, installed, withdrawn, matched, originatorOf, ownerOf, ownedBy, argued}
+use Rattle.routes.specs.Call.{Answer, installed, withdrawn, restarted, matched, originatorOf, ownerOf, ownedBy, argued}
 use Rattle.routes.specs.Book.{entered, actAnswer, actAfter, bookAnswer, bookAfter, fed, bookOf, isAmong, onceEach, dueBy, dueAnswer}
 use Rattle.routes.specs.Run.{stepOf, endOf, namedIn, namedBy}
 use Rattle.routes.specs.Rules.MixedCalls.{anySource, oneInstall, twoInstalls, Premise}
@@ -28,10 +28,11 @@ use Rattle.routes.specs.Rules.MixedCalls.{anySource, oneInstall, twoInst
 numberAnswered : Answer → ℕ
 numberAnswered (installed i) = i .number
 numberAnswered (withdrawn number) = number
+numberAnswered (restarted r) = r .number
 numberAnswered (matched m) = m .answer .number
 
 pub premise : Premise
-unfolding pick both either onOutcome andThen numberOf part numberIn bigEndian same before zeros allZero familyBits allowed isOriginatorSize bodies onBody codeOf sameKind fieldIn fixedField addressEnd addressField originatorField fieldSize sizesOf laidWith laidAt cut fieldsOf laidSingle readNlri identifierForms formIn formOf oneOf isIdentifier readIdentifier labelOf fieldsIn readAttribute nlriOf attributeOf lookup isHeld holds inserted arranged readSPmsi readLabelled readRoute placeOf endIn routeIn acceptable placeSound headerStart headerOf placesOf imageOf afiIn countIn placesIn routesFrom routesOf tableSize headerSound placesSound soundOf makeOutcome makeOf installedOf entering installOutcome installOf originatorOf ownerOf ownedBy argued entered actAnswer actAfter bookAnswer bookAfter fed chosen bookOf isAmong onceEach dueBy dueAnswer stepOf endOf namedIn namedBy anySource oneInstall twoInstalls numberAnswered
+unfolding pick both either onOutcome andThen numberOf part numberIn bigEndian same before zeros allZero familyBits allowed isOriginatorSize bodies onBody codeOf sameKind fieldIn fixedField addressEnd addressField originatorField fieldSize sizesOf laidWith laidAt cut fieldsOf laidSingle readNlri identifierForms formIn formOf oneOf isIdentifier readIdentifier labelOf fieldsIn readAttribute nlriOf attributeOf lookup isHeld holds inserted arranged readSPmsi readLabelled readRoute markOctet placeOf endIn routeIn acceptable placeSound headerStart headerOf placesOf imageOf afiIn countIn placesIn routesFrom routesOf tableSize headerSound placesSound soundOf makeOutcome makeOf installedOf entering installOutcome installOf originatorOf ownerOf ownedBy argued entered actAnswer actAfter bookAnswer bookAfter fed chosen bookOf isAmong onceEach dueBy dueAnswer stepOf endOf namedIn namedBy anySource oneInstall twoInstalls numberAnswered
 premise =
     record {
       made = refl;

@@ -8,10 +8,10 @@ use Rattle.table.proofs.change.move_down.Statement.{statement}
 use Rattle.table.proofs.change.move_down.Tie as tie
 
 abbrev Inv-loop : tie.InvT-loop
-Inv-loop tail₀ moved at₀ tail at = Down 128 at tail₀ tail
+Inv-loop tail₀ by moved at₀ tail at = Down by at tail₀ tail
 
 abbrev μ-loop : tie.MeasureT-loop
-μ-loop tail₀ moved at₀ tail at = moved - at
+μ-loop tail₀ by moved at₀ tail at = moved - at
 
 sub-moved : tie.Need-sub-moved Inv-loop μ-loop
 sub-moved c = search needs
@@ -37,7 +37,7 @@ loop-less c = search needs
 loop-again : tie.Need-loop-again Inv-loop μ-loop
 loop-again c =
     let l = c .before .before .loop in
-    (search needs, search needs, down-next 128 (l .at) (now (c .before .before .before .args .tail)) (l .tail) (omega arith) (l .inv .2))
+    (search needs, search needs, down-next (c .before .before .before .args .by) (l .at) (now (c .before .before .before .args .tail)) (l .tail) (omega arith) (l .inv .2))
 
 same-length : tie.Need-same-length Inv-loop μ-loop
 same-length c = search needs
@@ -45,7 +45,7 @@ same-length c = search needs
 returns : tie.Need-returns Inv-loop μ-loop
 returns c =
     let l = c .before .loop in
-    down-last 128 (l .at) (now (c .before .before .args .tail)) (l .tail) (l .inv) (omega arith)
+    down-last (c .before .before .args .by) (l .at) (now (c .before .before .args .tail)) (l .tail) (l .inv) (omega arith)
 
 pub move-down-spec : {M : Type 1} → statement M
 move-down-spec =
