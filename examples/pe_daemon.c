@@ -3,10 +3,11 @@
  * one VRF in them, also while the session is down by which they come (RFC 4724), and tells which route and which tunnel a
  * customer flow (C-S,C-G) or a shared tree (C-*,C-G) takes, and of a flow also why. At the end it lists its tables.
  *
- *     pe_daemon [--pieces OCTETS] FILE [REQUEST]...
+ *     pe_daemon [--pieces OCTETS] [--ssm ADDRESS/LENGTH]... FILE [REQUEST]...
  *
  * FILE holds whole messages, one after another; `-` is standard input. The NLRIs of a message are handed to the library in
- * pieces of so many octets, as a session may deliver them; what is printed is the same for every size. A request is one of
+ * pieces of so many octets, as a session may deliver them; what is printed is the same for every size. The prefixes, at most eight
+ * of each family, are SSM ranges that replace its standard one. A request is one of
  *
  *     ROUTER SOURCE GROUP                              a flow; ROUTER is the PE that it comes from: ourselves for sending,
  *                                                      the upstream PE for receiving
@@ -36,6 +37,7 @@ enum { PLACES = 64, TABLE_SIZE = MVPN_TABLE_SIZE(PLACES) };
 /* One address family of a VRF. */
 typedef struct {
     uint8_t table[TABLE_SIZE];
+    group_prefixes prefixes; /* its SSM ranges; where there are none, the standard range decides */
     source_actives sources;
     customer_states states;
 } customer_family;
@@ -83,7 +85,6 @@ static uint8_t *table_of(customer_vrf *vrf, uint16_t afi)
 /* The AFIs and the size are right, so neither call is refused. */
 static void make_tables(customer_vrf *vrf)
 {
-    memset(vrf, 0, sizeof *vrf);
     mvpn_make(MVPN_AFI_IPV4, table_of(vrf, MVPN_AFI_IPV4), TABLE_SIZE);
     mvpn_make(MVPN_AFI_IPV6, table_of(vrf, MVPN_AFI_IPV6), TABLE_SIZE);
 }
@@ -501,17 +502,53 @@ static void print_counts(const customer_vrf *vrf)
     printf("other NLRIs: %zu; skipped, of unknown route type: %zu\n", vrf->other, vrf->skipped);
 }
 
-/* ---- answers */
+/* ---- SSM ranges */
 
-/* The group tells the family, and with it the table. */
-static uint16_t afi_of(const request *asked)
+static uint16_t afi_of(const mvpn_address *address)
 {
-    return asked->group.size == 4 ? MVPN_AFI_IPV4 : MVPN_AFI_IPV6;
+    return address->size == 4 ? MVPN_AFI_IPV4 : MVPN_AFI_IPV6;
 }
 
-static void print_asked(const char *what, const request *asked)
+/* The class of a group, by the prefixes of its family. */
+static mvpn_group class_of(customer_vrf *vrf, const mvpn_address *group)
 {
-    mvpn_group group = mvpn_group_class(afi_of(asked), asked->group.octets, asked->group.size);
+    uint8_t list[PREFIXES_SPACE];
+    octets prefixes = list_prefixes(&family_of(vrf, afi_of(group))->prefixes, list);
+    return mvpn_group_class(afi_of(group), prefixes.at, prefixes.size, group->octets, group->size);
+}
+
+/* Takes one more prefix, if the library does, which judges prefixes wherever it is asked for the class of a group: of one that is
+ * multicast it refuses nothing else. What it refuses here, each match would refuse. */
+static bool take_prefix(customer_vrf *vrf, const char *text, const group_prefix *prefix)
+{
+    mvpn_address multicast = { { prefix->address.size == 4 ? 224 : 0xFF }, prefix->address.size };
+    group_prefixes *prefixes = &family_of(vrf, afi_of(&prefix->address))->prefixes;
+    prefixes->held[prefixes->count++] = *prefix;
+    uint32_t number = class_of(vrf, &multicast).number;
+    if (number != MVPN_DONE)
+        fprintf(stderr, "pe_daemon: the prefix %s is refused, %s (%s)\n", text, number_name(number), number_meaning(number));
+    return number == MVPN_DONE;
+}
+
+static void print_prefixes(customer_vrf *vrf, uint16_t afi)
+{
+    const group_prefixes *prefixes = &family_of(vrf, afi)->prefixes;
+    if (prefixes->count == 0)
+        return;
+    printf("%s, SSM ranges instead of the standard one:", family_name(afi));
+    for (size_t i = 0; i < prefixes->count; i++) {
+        printf("%s ", i ? "," : "");
+        print_address(prefixes->held[i].address.octets, prefixes->held[i].address.size);
+        printf("/%u", prefixes->held[i].length);
+    }
+    printf("\n");
+}
+
+/* ---- answers: the group tells the family, and with it the table and the prefixes */
+
+static void print_asked(customer_vrf *vrf, const char *what, const request *asked)
+{
+    mvpn_group group = class_of(vrf, &asked->group);
     printf("\n%s ", what);
     print_pair(&asked->source, &asked->group);
     printf(" of router ");
@@ -561,11 +598,13 @@ static void print_reasons(const request *flow, const uint32_t reasons[4])
 
 static void answer_flow(customer_vrf *vrf, const request *flow)
 {
-    uint8_t output[MVPN_MATCH_OUTPUT];
-    mvpn_explained found = mvpn_explain(table_of(vrf, afi_of(flow)), TABLE_SIZE, flow->router.octets, flow->router.size,
-                                        flow->source.octets, flow->source.size, flow->group.octets, flow->group.size,
-                                        output, sizeof output);
-    print_asked("flow", flow);
+    uint8_t output[MVPN_MATCH_OUTPUT], prefixes_list[PREFIXES_SPACE];
+    uint16_t afi = afi_of(&flow->group);
+    octets prefixes = list_prefixes(&family_of(vrf, afi)->prefixes, prefixes_list);
+    mvpn_explained found = mvpn_explain(table_of(vrf, afi), TABLE_SIZE, prefixes.at, prefixes.size, flow->router.octets,
+                                        flow->router.size, flow->source.octets, flow->source.size, flow->group.octets,
+                                        flow->group.size, output, sizeof output);
+    print_asked(vrf, "flow", flow);
     if (found.matched.number != MVPN_DONE) {
         print_refusal(found.matched.number);
         return;
@@ -573,7 +612,7 @@ static void answer_flow(customer_vrf *vrf, const request *flow)
     if (found.matched.tier == MVPN_NO_TIER)
         printf("  no route\n");
     else
-        print_match(afi_of(flow), found.matched, output);
+        print_match(afi, found.matched, output);
     print_reasons(flow, found.reasons);
 }
 
@@ -583,11 +622,12 @@ static void answer_flow(customer_vrf *vrf, const request *flow)
 static mvpn_matched match_shared(customer_vrf *vrf, const request *tree, mvpn_shared_tree facts,
                                  uint8_t output[MVPN_MATCH_OUTPUT])
 {
-    uint8_t sources_list[SOURCE_ACTIVES_SPACE], states_list[STATES_SPACE];
-    customer_family *family = family_of(vrf, afi_of(tree));
+    uint8_t prefixes_list[PREFIXES_SPACE], sources_list[SOURCE_ACTIVES_SPACE], states_list[STATES_SPACE];
+    customer_family *family = family_of(vrf, afi_of(&tree->group));
+    octets prefixes = list_prefixes(&family->prefixes, prefixes_list);
     octets sources = list_source_actives(&family->sources, sources_list), states = list_states(&family->states, states_list);
-    return mvpn_match_shared(family->table, TABLE_SIZE, tree->router.octets, tree->router.size, tree->group.octets,
-                             tree->group.size, facts, sources.at, sources.size, states.at, states.size,
+    return mvpn_match_shared(family->table, TABLE_SIZE, prefixes.at, prefixes.size, tree->router.octets, tree->router.size,
+                             tree->group.octets, tree->group.size, facts, sources.at, sources.size, states.at, states.size,
                              output, MVPN_MATCH_OUTPUT);
 }
 
@@ -616,14 +656,14 @@ static void answer_shared_tree(customer_vrf *vrf, const request *tree)
 {
     uint8_t output[MVPN_MATCH_OUTPUT];
     mvpn_matched match = match_shared(vrf, tree, tree->facts, output);
-    print_asked("shared tree", tree);
+    print_asked(vrf, "shared tree", tree);
     if (match.number != MVPN_DONE)
         print_refusal(match.number);
     else if (match.tier == MVPN_NO_TIER)
         printf("  no route%s\n", has_route(vrf, tree, (mvpn_shared_tree){ 1, 0, 0 }) ? ", as no condition holds" : "");
     else {
         print_conditions(vrf, tree);
-        print_match(afi_of(tree), match, output);
+        print_match(afi_of(&tree->group), match, output);
     }
 }
 
@@ -672,7 +712,7 @@ static void take_state(customer_vrf *vrf, const request *told)
 {
     printf("\nstate ");
     print_pair(&told->source, &told->group);
-    if (hold_state(&family_of(vrf, afi_of(told))->states, &told->source, &told->group))
+    if (hold_state(&family_of(vrf, afi_of(&told->group))->states, &told->source, &told->group))
         printf(": held\n");
     else
         printf(": not held, there are %d\n", MVPN_MOST_ITEMS);
@@ -716,21 +756,34 @@ static FILE *open_input(const char *name)
     return input;
 }
 
+/* Takes the option that the words begin with. How many words it has: 0 where there is none, -1 where it is wrong. */
+static int take_option(customer_vrf *vrf, char **words)
+{
+    group_prefix prefix;
+    int count = parse_pieces(words, BGP_LONGEST_MESSAGE, &vrf->piece_size);
+    if (count != 0)
+        return count;
+    count = parse_ssm(words, &prefix);
+    return count > 0 && !take_prefix(vrf, words[1], &prefix) ? -1 : count;
+}
+
 /* 0: all was read and answered; 1: the input could not be read to its end; 2: the command line is wrong. */
 int main(int argc, char **argv)
 {
     static customer_vrf vrf;
-    size_t piece_size = BGP_LONGEST_MESSAGE;
+    char **words = argv + (argc > 0);
     request asked;
-    int option = parse_pieces(argv + 1, BGP_LONGEST_MESSAGE, &piece_size);
+    int option;
+    vrf.piece_size = BGP_LONGEST_MESSAGE;
+    while ((option = take_option(&vrf, words)) > 0)
+        words += option;
     if (option < 0)
         return 2;
-    if (argc < 2 + option) {
+    if (!*words) {
         print_usage();
         return 2;
     }
-    const char *file = argv[1 + option];
-    char **words = argv + 2 + option;
+    const char *file = *words++;
     if (!requests_are_right(words))
         return 2;
     FILE *input = open_input(file);
@@ -738,7 +791,8 @@ int main(int argc, char **argv)
         return 1;
 
     make_tables(&vrf);
-    vrf.piece_size = piece_size;
+    print_prefixes(&vrf, MVPN_AFI_IPV4);
+    print_prefixes(&vrf, MVPN_AFI_IPV6);
     bool whole = use_messages(&vrf, input);
     if (ferror(input))
         fprintf(stderr, "pe_daemon: %s cannot be read\n", file);

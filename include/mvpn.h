@@ -4,9 +4,9 @@
  * flow (C-S,C-G) or a shared tree (C-*,C-G) takes; of a flow also why; the routes of a table, one after another; a router's
  * routes kept while it restarts (RFC 4724).
  *
- * Best paths, Route Targets, BGP sessions with their timers, and joining tunnels are the daemon's. So is the knowledge of a
- * shared tree that its match is told: which PE is upstream, which groups are BIDIR-PIM, the Source Active routes and the
- * (C-S,C-G) states.
+ * Best paths, Route Targets, BGP sessions with their timers, and joining tunnels are the daemon's. So are SSM ranges other than
+ * the standard one, and the knowledge of a shared tree that its match is told: which PE is upstream, which groups are BIDIR-PIM,
+ * the Source Active routes and the (C-S,C-G) states.
  *
  * Every call ends with a stated answer on any octets. A call that refuses returns its number, changes no octet of any
  * buffer, and leaves every other field of its answer 0, but for what a walk counts and its offset, the cursor of a step, and
@@ -31,9 +31,9 @@
 #include <stdint.h>
 
 /* The version of this header and its archive; before 1.0.0 a new minor version may change calls. */
-#define MVPN_VERSION "0.12.0"
+#define MVPN_VERSION "0.13.0"
 #define MVPN_VERSION_MAJOR 0
-#define MVPN_VERSION_MINOR 12
+#define MVPN_VERSION_MINOR 13
 #define MVPN_VERSION_PATCH 0
 
 /* The version as one number, an octet for each part: what mvpn_version gives, where header and archive are of one version. */
@@ -53,7 +53,7 @@ enum {
     MVPN_KEY = 5,     /* a Leaf's key is not a well-formed NLRI of type 1, 2 or 3; in type 0x44: of type 0x43 */
     MVPN_TUNNEL = 6,  /* tunnel type not 0 to 7 or 11 */
     MVPN_IDENT = 7,   /* identifier not of that tunnel type's form; in an NLRI a bad FEC element */
-    MVPN_LONG = 8,    /* attribute over 64 octets, run over 4,096, list of more items than the call takes; at writing a body for mLDP over 255 */
+    MVPN_LONG = 8,    /* attribute over 64 octets, run over 4,096, list of more items than the call takes, prefixes apart; at writing a body for mLDP over 255 */
     MVPN_LABEL = 9,   /* BIER with label 0 at install; a label field over 16,777,215 at writing */
     MVPN_FAMILY = 10, /* AFI not 1 or 2 */
     MVPN_TABLE = 11,  /* lent memory is not a sound table; for making one: not of a table's size */
@@ -62,7 +62,8 @@ enum {
     MVPN_ABSENT = 14, /* withdrawn NLRI not in the table */
     MVPN_FLOW = 15,   /* router or originator address not 4 or 16 octets, source or group not of the family's size, or group asked not multicast */
     MVPN_SPACE = 16,  /* output buffer too small */
-    MVPN_DEEP = 17    /* the fourth FEC element from outside has an opaque value of type 7 or 8 */
+    MVPN_DEEP = 17,   /* the fourth FEC element from outside has an opaque value of type 7 or 8 */
+    MVPN_RANGE = 18   /* more than eight prefixes; a prefix with an address not of the family's size, a length over it, or a bit set past the length */
 };
 
 /* Address families. */
@@ -108,7 +109,8 @@ enum { MVPN_LEAF_INFORMATION_REQUIRED = 1 };
 /* Types of FEC elements (RFC 6388). */
 enum { MVPN_FEC_P2MP = 6, MVPN_FEC_MP2MP_UP = 7, MVPN_FEC_MP2MP_DOWN = 8 };
 
-/* Group classes (RFC 4607): 232.0.0.0/8 and FF3x::/32 are SSM, any other multicast group is ASM. */
+/* Group classes (RFC 4607): SSM are 232.0.0.0/8 and FF3x::/32, or what the caller's own prefixes hold; any other multicast group
+ * is ASM. */
 enum { MVPN_ASM = 1, MVPN_SSM = 2 };
 
 /* A part of a buffer: `size` octets from octet `start`. */
@@ -280,10 +282,83 @@ mvpn_fed mvpn_pieces_feed(mvpn_pieces pieces, uint8_t *unfinished, const uint8_t
  */
 mvpn_pieces mvpn_pieces_finish(mvpn_pieces pieces);
 
+/*
+ * A list, as calls take it: a count of items (2 octets), then the items. An item is a fixed number of fields, which the call
+ * names; a field is its size (2 octets) and that many octets. A list that ends before its items do is SHORT, and the count of
+ * one of fewer than two octets is 0. Octets after the last item are not looked at.
+ */
+enum { MVPN_LIST_COUNT = 2, MVPN_FIELD_SIZE = 2 };
+
+/* The list that has no items. */
+static const uint8_t mvpn_no_items[MVPN_LIST_COUNT] = {0, 0};
+
+/* Starts a list of `count` items in `list`, a buffer of `space` octets: the octets it has so far, or 0 where there is no space. */
+static inline size_t
+mvpn_list_start(uint8_t *list, size_t space, uint16_t count)
+{
+    if (space < MVPN_LIST_COUNT) return 0;
+    list[0] = (uint8_t)(count >> 8);
+    list[1] = (uint8_t)(count & 255);
+    return MVPN_LIST_COUNT;
+}
+
+/*
+ * Appends a field to a list that has `size` octets: the octets it has then. 0, and nothing written, where there is no space,
+ * where the field has over 65,535 octets, and where `size` is 0, so that a caller may test the last answer alone.
+ */
+static inline size_t
+mvpn_list_field(uint8_t *list, size_t space, size_t size, const uint8_t *field, size_t field_len)
+{
+    size_t i;
+    if (size < MVPN_LIST_COUNT || space < size || 65535 < field_len) return 0;
+    if (space - size < MVPN_FIELD_SIZE + field_len) return 0;
+    list[size] = (uint8_t)(field_len >> 8);
+    list[size + 1] = (uint8_t)(field_len & 255);
+    for (i = 0; i < field_len; i++) list[size + MVPN_FIELD_SIZE + i] = field[i];
+    return size + MVPN_FIELD_SIZE + field_len;
+}
+
+/*
+ * Prefixes are the SSM ranges of a network that has its own. A call takes them as a list of at most eight items of one field: a
+ * length in bits (1 octet), and behind it an address of the family's size, with no bit set past the length. They may overlap, and
+ * their order does not matter.
+ *   - None is given (mvpn_no_items): the standard range decides, and 232.0.0.0/8 and FF3x::/32 are SSM.
+ *   - One or more are given: they replace the standard range. A multicast group is SSM exactly when one of them holds it, that is,
+ *     when its first bits are the prefix's, as many as the length says. A prefix of length 0 holds every group.
+ * Multicast groups are those of 224.0.0.0/4 and FF00::/8, whatever is given: a prefix outside of these is accepted, and holds no
+ * multicast group.
+ *
+ * A caller that wants the standard range beside its own lists it with them: 232.0.0.0/8. FF3x::/32 is sixteen prefixes, one for
+ * each scope x, of which the caller lists those that it uses.
+ *
+ * Refusals, in turn: RANGE, there are more than eight; SHORT, the list ends before its items do, as one of no octets does, so that
+ * a null pointer is not "none given"; RANGE, a prefix has an address of another size than the family's, a length over it, or a bit
+ * set past the length.
+ */
+
+/* The most prefixes that a call takes, and the octets of the longest list of them, which is one for IPv6. */
+enum { MVPN_MOST_PREFIXES = 8, MVPN_LONGEST_PREFIXES = 154 };
+
+/*
+ * Appends a prefix, of `length` bits, to a list that has `size` octets: the octets it has then. 0, and nothing written, where
+ * mvpn_list_field gives 0, and where the address has over 16 octets. Nothing else of the prefix is judged here; the call that
+ * takes the list does that.
+ */
+static inline size_t
+mvpn_list_prefix(uint8_t *list, size_t space, size_t size, const uint8_t *address, size_t address_len, uint8_t length)
+{
+    uint8_t prefix[1 + 16];
+    size_t i;
+    if (16 < address_len) return 0;
+    prefix[0] = length;
+    for (i = 0; i < address_len; i++) prefix[1 + i] = address[i];
+    return mvpn_list_field(list, space, size, prefix, 1 + address_len);
+}
+
 typedef struct { uint32_t number, group_class; } mvpn_group;
 
-/* The class of a customer group. FAMILY, FLOW. */
-mvpn_group mvpn_group_class(uint16_t afi, const uint8_t *group, size_t group_len);
+/* The class of a customer group by these prefixes. FAMILY, RANGE and SHORT of the prefixes, FLOW. */
+mvpn_group mvpn_group_class(uint16_t afi, const uint8_t *prefixes, size_t prefixes_len, const uint8_t *group, size_t group_len);
 
 /* The shape of an attribute's mLDP FEC element (RFC 6388, section 2.2): its type (6, 7 or 8), its address family (1 or 2), and
  * where in the attribute read its root address and its opaque value stand. The opaque value is not read. */
@@ -335,42 +410,6 @@ enum {
 
 /* The octets of a table of `places` places. */
 #define MVPN_TABLE_SIZE(places) ((size_t)MVPN_TABLE_HEADER + (size_t)MVPN_PLACE * (size_t)(places))
-
-/*
- * A list, as calls take it: a count of items (2 octets), then the items. An item is a fixed number of fields, which the call
- * names; a field is its size (2 octets) and that many octets. A list that ends before its items do is SHORT, and the count of
- * one of fewer than two octets is 0. Octets after the last item are not looked at.
- */
-enum { MVPN_LIST_COUNT = 2, MVPN_FIELD_SIZE = 2 };
-
-/* The list that has no items. */
-static const uint8_t mvpn_no_items[MVPN_LIST_COUNT] = {0, 0};
-
-/* Starts a list of `count` items in `list`, a buffer of `space` octets: the octets it has so far, or 0 where there is no space. */
-static inline size_t
-mvpn_list_start(uint8_t *list, size_t space, uint16_t count)
-{
-    if (space < MVPN_LIST_COUNT) return 0;
-    list[0] = (uint8_t)(count >> 8);
-    list[1] = (uint8_t)(count & 255);
-    return MVPN_LIST_COUNT;
-}
-
-/*
- * Appends a field to a list that has `size` octets: the octets it has then. 0, and nothing written, where there is no space,
- * where the field has over 65,535 octets, and where `size` is 0, so that a caller may test the last answer alone.
- */
-static inline size_t
-mvpn_list_field(uint8_t *list, size_t space, size_t size, const uint8_t *field, size_t field_len)
-{
-    size_t i;
-    if (size < MVPN_LIST_COUNT || space < size || 65535 < field_len) return 0;
-    if (space - size < MVPN_FIELD_SIZE + field_len) return 0;
-    list[size] = (uint8_t)(field_len >> 8);
-    list[size + 1] = (uint8_t)(field_len & 255);
-    for (i = 0; i < field_len; i++) list[size + MVPN_FIELD_SIZE + i] = field[i];
-    return size + MVPN_FIELD_SIZE + field_len;
-}
 
 /* Tiers of a match, in the order in which they are tried; no tier where no route matches. */
 enum {
@@ -468,10 +507,11 @@ mvpn_restarted mvpn_sweep(uint8_t *table, size_t table_len, const uint8_t *route
  * The route that the flow (source, group) takes (RFC 6625, section 3), among those whose originator equals `router` in size
  * and octets, ourselves for sending, the upstream PE for receiving, and whose tunnel type is not 0. A route of tunnel type 0
  * asks for tracking and names no tunnel: it is installed, replaced and withdrawn like others, and passed over here (RFC 8556,
- * section 4.1). A route that is marked as stale is matched as one that is not, here and by the calls below. TABLE, FLOW, SPACE
- * (an output under MVPN_MATCH_OUTPUT octets, also where the answer would fit or nothing matches).
+ * section 4.1). A route that is marked as stale is matched as one that is not, here and by the calls below. TABLE, RANGE and
+ * SHORT of the prefixes, FLOW, SPACE (an output under MVPN_MATCH_OUTPUT octets, also where the answer would fit or nothing
+ * matches).
  *
- * The lowest tier that has such a route wins:
+ * The lowest tier that has such a route wins. SSM and ASM are as mvpn_group_class tells with these prefixes and the table's AFI:
  *   1  source and group both equal
  *   2  source equal, group wildcard, and the group SSM
  *   3  source wildcard, group equal, and the group ASM
@@ -482,9 +522,9 @@ mvpn_restarted mvpn_sweep(uint8_t *table, size_t table_len, const uint8_t *route
  * The NLRI is written at the front of the output and the attribute straight after it; octets past them are untouched. No
  * place number is given. Where no route matches: DONE with tier 0, both sizes 0 and the output untouched.
  */
-mvpn_matched mvpn_match(const uint8_t *table, size_t table_len, const uint8_t *router, size_t router_len,
-                        const uint8_t *source, size_t source_len, const uint8_t *group, size_t group_len,
-                        uint8_t *output, size_t output_len);
+mvpn_matched mvpn_match(const uint8_t *table, size_t table_len, const uint8_t *prefixes, size_t prefixes_len,
+                        const uint8_t *router, size_t router_len, const uint8_t *source, size_t source_len,
+                        const uint8_t *group, size_t group_len, uint8_t *output, size_t output_len);
 
 /* Why a tier was taken, or was not. */
 enum {
@@ -505,11 +545,11 @@ typedef struct {
  * turn, has a reason. Every tier after the one taken says MVPN_EARLIER_TIER_WON, whatever its class and routes; any other that
  * is not taken says MVPN_WRONG_GROUP_CLASS before MVPN_NO_SUCH_ROUTE.
  */
-mvpn_explained mvpn_explain(const uint8_t *table, size_t table_len, const uint8_t *router, size_t router_len,
-                            const uint8_t *source, size_t source_len, const uint8_t *group, size_t group_len,
-                            uint8_t *output, size_t output_len);
+mvpn_explained mvpn_explain(const uint8_t *table, size_t table_len, const uint8_t *prefixes, size_t prefixes_len,
+                            const uint8_t *router, size_t router_len, const uint8_t *source, size_t source_len,
+                            const uint8_t *group, size_t group_len, uint8_t *output, size_t output_len);
 
-/* The most items of each list of a match for a shared tree. */
+/* The most items of each list that is told of a shared tree. */
 enum { MVPN_MOST_ITEMS = 256 };
 
 /* What the daemon knows of a shared tree (C-*,C-G) and the PE asked (RFC 6625, section 3.2.2); each is 0 or not. */
@@ -533,19 +573,19 @@ typedef struct {
  * `source_actives`: at most 256 items of two fields, the originator (4 or 16 octets) and the NLRI of a Source Active A-D
  * route. `states`: at most 256 items of two fields, source and group of a (C-S,C-G) state, each of the family's size.
  *
- * TABLE; LONG (a count over 256, of either list); SHORT (either list ends before its items do); FLOW (router or an originator
- * not of 4 or 16 octets, a state's source or group not of the family's size, a group not multicast or not of the family's
- * size; only the group asked must be multicast); then for each Source Active route in turn NLRI reading under the table's AFI
- * (LENGTH for octets after it) and KIND (not type 5); SPACE (an output under MVPN_MATCH_OUTPUT octets, also where nothing
- * matches).
+ * TABLE; RANGE and SHORT of the prefixes; LONG (a count over 256, of either of these two lists); SHORT (either of them ends
+ * before its items do); FLOW (router or an originator not of 4 or 16 octets, a state's source or group not of the family's size, a
+ * group not multicast or not of the family's size; only the group asked must be multicast); then for each Source Active route in
+ * turn NLRI reading under the table's AFI (LENGTH for octets after it) and KIND (not type 5); SPACE (an output under
+ * MVPN_MATCH_OUTPUT octets, also where nothing matches).
  *
  * The answer and the output are as those of a match: tier 3 with an eligible route of a wildcard source and this group, else
  * tier 4 with an eligible route of both wildcards, else tier 0; ties go to the lowest route distinguisher. An SSM group gets
  * tier 0, whatever is told.
  */
-mvpn_matched mvpn_match_shared(const uint8_t *table, size_t table_len, const uint8_t *router, size_t router_len,
-                               const uint8_t *group, size_t group_len, mvpn_shared_tree facts,
-                               const uint8_t *source_actives, size_t source_actives_len,
+mvpn_matched mvpn_match_shared(const uint8_t *table, size_t table_len, const uint8_t *prefixes, size_t prefixes_len,
+                               const uint8_t *router, size_t router_len, const uint8_t *group, size_t group_len,
+                               mvpn_shared_tree facts, const uint8_t *source_actives, size_t source_actives_len,
                                const uint8_t *states, size_t states_len, uint8_t *output, size_t output_len);
 
 typedef struct {

@@ -1,6 +1,7 @@
 //! What the comparison has met: the numbers of each call, route types, families, tunnel types, group classes, outcomes, routes
 //! that went, marks, tiers and kinds of sequence.
 
+use crate::second::ranges::MOST_PREFIXES;
 use std::collections::BTreeMap;
 
 /// Each row must be met this often.
@@ -55,8 +56,8 @@ pub enum Seen {
     Finished,
     /// A reader's state that no call made.
     Forged,
-    /// AFI and class.
-    Class(u16, u32),
+    /// AFI, prefixes given, and class.
+    Class(u16, usize, u32),
     Tunnel(u32),
     /// Tunnel type, FEC type and address family.
     Fec(u32, u32, u32),
@@ -74,6 +75,10 @@ pub enum Seen {
     Gone(u16, u32),
     /// AFI and tier of a match of any kind that takes a marked route.
     StaleTaken(u16, u32),
+    /// AFI and tiers of a match of any kind: by the standard range, and another one by its prefixes.
+    Turned(u16, u32, u32),
+    /// AFI, whether the premise of demand 3 holds, and a match of a sequence with other prefixes than its router's match before.
+    OtherPrefixes(u16, bool),
     /// A tier and the reason told of it.
     Reason(u32, u32),
     /// AFI and tier of a match of either kind that passes a route over which names no tunnel.
@@ -102,7 +107,7 @@ const NUMBERS: [(Call, &[u32]); 19] = [
     (Call::Walk, &[0, 1, 2, 3, 4, 5, 7, 8, 10, 17]),
     (Call::PiecesStart, &[0, 10]),
     (Call::PiecesFinish, &[0, 1, 2, 3, 4, 5, 7, 8, 10, 17]),
-    (Call::GroupClass, &[0, 10, 15]),
+    (Call::GroupClass, &[0, 1, 10, 15, 18]),
     (Call::AttributeRead, &[0, 1, 6, 7, 8]),
     (Call::AttributeWrite, &[0, 6, 7, 8, 9, 16]),
     (Call::Make, &[0, 10, 11]),
@@ -110,11 +115,11 @@ const NUMBERS: [(Call, &[u32]); 19] = [
     (Call::Withdraw, &[0, 1, 2, 3, 4, 5, 7, 11, 12, 14, 17]),
     (Call::Mark, &[0, 11, 15]),
     (Call::Sweep, &[0, 11, 15]),
-    (Call::Match, &[0, 11, 15, 16]),
-    (Call::Explain, &[0, 11, 15, 16]),
+    (Call::Match, &[0, 1, 11, 15, 16, 18]),
+    (Call::Explain, &[0, 1, 11, 15, 16, 18]),
     (Call::Next, &[0, 11, 16]),
     (Call::TableInfo, &[0, 11]),
-    (Call::MatchShared, &[0, 1, 2, 3, 4, 5, 7, 8, 11, 12, 15, 16, 17]),
+    (Call::MatchShared, &[0, 1, 2, 3, 4, 5, 7, 8, 11, 12, 15, 16, 17, 18]),
 ];
 
 /// The numbers of places that sequences and table cases use.
@@ -124,6 +129,10 @@ const TUNNELS: [u32; 9] = [0, 1, 2, 3, 4, 5, 6, 7, 11];
 
 /// The reasons that can be told of each tier: no class is wrong for the first and the last, and none is before the first.
 const REASONS: [(u32, &[u32]); 4] = [(1, &[1, 2]), (2, &[1, 2, 3, 4]), (3, &[1, 2, 3, 4]), (4, &[1, 2, 4])];
+
+/// The tiers between which prefixes can turn a flow's match, and a shared tree's.
+const TURNS: [(u32, u32); 10] = [(2, 3), (2, 4), (2, 0), (4, 3), (0, 3), (3, 2), (3, 4), (3, 0), (4, 2), (0, 2)];
+const SHARED_TURNS: [(u32, u32); 4] = [(3, 0), (4, 0), (0, 3), (0, 4)];
 
 #[derive(Default)]
 pub struct Coverage {
@@ -189,7 +198,14 @@ fn required_of_tables(afi: u16) -> Vec<(Call, Seen)> {
         rows.extend([Call::Match, Call::Explain].map(|call| (call, Seen::StaleTaken(afi, tier))));
     }
     rows.extend([3, 4].map(|tier| (Call::MatchShared, Seen::StaleTaken(afi, tier))));
+    for (before, after) in TURNS {
+        rows.extend([Call::Match, Call::Explain].map(|call| (call, Seen::Turned(afi, before, after))));
+    }
+    for (before, after) in SHARED_TURNS {
+        rows.push((Call::MatchShared, Seen::Turned(afi, before, after)));
+    }
     for premise in [true, false] {
+        rows.push((Call::Sequence, Seen::OtherPrefixes(afi, premise)));
         let changes =
             [Seen::Renewed(afi, premise, true), Seen::Renewed(afi, premise, false), Seen::StaleWithdrawn(afi, premise)];
         rows.extend(changes.map(|seen| (Call::Sequence, seen)));
@@ -213,7 +229,8 @@ fn required_of_tables(afi: u16) -> Vec<(Call, Seen)> {
 }
 
 fn required_of_family(afi: u16) -> Vec<(Call, Seen)> {
-    let mut rows = vec![(Call::GroupClass, Seen::Class(afi, 1)), (Call::GroupClass, Seen::Class(afi, 2))];
+    let classes = (0..=MOST_PREFIXES).flat_map(|given| [1, 2].map(|class| Seen::Class(afi, given, class)));
+    let mut rows: Vec<_> = classes.map(|seen| (Call::GroupClass, seen)).collect();
     for call in [Call::NlriRead, Call::NlriWrite, Call::Step, Call::PiecesFeed] {
         let types = (1..=7).chain([0x43, 0x44, 0x47]);
         rows.extend(types.map(|route_type| (call, Seen::Route(route_type, afi))));

@@ -248,7 +248,7 @@ pub mod raw {
     pub type PiecesStart = unsafe extern "C" fn(u16, u32) -> Pieces;
     pub type PiecesFeed = unsafe extern "C" fn(Pieces, *mut u8, *const u8, usize) -> Fed;
     pub type PiecesFinish = unsafe extern "C" fn(Pieces) -> Pieces;
-    pub type GroupClass = unsafe extern "C" fn(u16, *const u8, usize) -> Group;
+    pub type GroupClass = unsafe extern "C" fn(u16, *const u8, usize, *const u8, usize) -> Group;
     pub type AttributeRead = unsafe extern "C" fn(*const u8, usize) -> AttributeReading;
     pub type AttributeWrite = unsafe extern "C" fn(u8, u8, u32, *const u8, usize, *mut u8, usize) -> Written;
     pub type Make = unsafe extern "C" fn(u16, *mut u8, usize) -> u32;
@@ -257,18 +257,18 @@ pub mod raw {
     pub type Restart = unsafe extern "C" fn(*mut u8, usize, *const u8, usize) -> Restarted;
     #[rustfmt::skip]
     pub type Match = unsafe extern "C" fn(
-        *const u8, usize, *const u8, usize, *const u8, usize, *const u8, usize, *mut u8, usize,
+        *const u8, usize, *const u8, usize, *const u8, usize, *const u8, usize, *const u8, usize, *mut u8, usize,
     ) -> Matched;
     #[rustfmt::skip]
     pub type Explain = unsafe extern "C" fn(
-        *const u8, usize, *const u8, usize, *const u8, usize, *const u8, usize, *mut u8, usize,
+        *const u8, usize, *const u8, usize, *const u8, usize, *const u8, usize, *const u8, usize, *mut u8, usize,
     ) -> Explained;
     pub type Next = unsafe extern "C" fn(*const u8, usize, *const u8, usize, *mut u8, usize) -> Following;
     pub type ReadTableInfo = unsafe extern "C" fn(*const u8, usize) -> TableInfo;
     #[rustfmt::skip]
     pub type MatchShared = unsafe extern "C" fn(
-        *const u8, usize, *const u8, usize, *const u8, usize, SharedTree, *const u8, usize, *const u8, usize,
-        *mut u8, usize,
+        *const u8, usize, *const u8, usize, *const u8, usize, *const u8, usize, SharedTree, *const u8, usize,
+        *const u8, usize, *mut u8, usize,
     ) -> Matched;
 
     extern "C" {
@@ -288,7 +288,13 @@ pub mod raw {
         pub fn mvpn_pieces_start(afi: u16, mode: u32) -> Pieces;
         pub fn mvpn_pieces_feed(pieces: Pieces, unfinished: *mut u8, piece: *const u8, piece_len: usize) -> Fed;
         pub fn mvpn_pieces_finish(pieces: Pieces) -> Pieces;
-        pub fn mvpn_group_class(afi: u16, group: *const u8, group_len: usize) -> Group;
+        pub fn mvpn_group_class(
+            afi: u16,
+            prefixes: *const u8,
+            prefixes_len: usize,
+            group: *const u8,
+            group_len: usize,
+        ) -> Group;
         pub fn mvpn_attribute_read(attribute: *const u8, attribute_len: usize) -> AttributeReading;
         pub fn mvpn_attribute_write(
             flags: u8,
@@ -314,6 +320,8 @@ pub mod raw {
         pub fn mvpn_match(
             table: *const u8,
             table_len: usize,
+            prefixes: *const u8,
+            prefixes_len: usize,
             router: *const u8,
             router_len: usize,
             source: *const u8,
@@ -326,6 +334,8 @@ pub mod raw {
         pub fn mvpn_explain(
             table: *const u8,
             table_len: usize,
+            prefixes: *const u8,
+            prefixes_len: usize,
             router: *const u8,
             router_len: usize,
             source: *const u8,
@@ -347,6 +357,8 @@ pub mod raw {
         pub fn mvpn_match_shared(
             table: *const u8,
             table_len: usize,
+            prefixes: *const u8,
+            prefixes_len: usize,
             router: *const u8,
             router_len: usize,
             group: *const u8,
@@ -395,8 +407,8 @@ pub fn pieces_finish(pieces: Pieces) -> Pieces {
     unsafe { raw::mvpn_pieces_finish(pieces) }
 }
 
-pub fn group_class(afi: u16, group: &mut Lent) -> Group {
-    unsafe { raw::mvpn_group_class(afi, group.pointer(), group.len()) }
+pub fn group_class(afi: u16, prefixes: &mut Lent, group: &mut Lent) -> Group {
+    unsafe { raw::mvpn_group_class(afi, prefixes.pointer(), prefixes.len(), group.pointer(), group.len()) }
 }
 
 pub fn attribute_read(attribute: &mut Lent) -> AttributeReading {
@@ -436,13 +448,15 @@ pub fn sweep(table: &mut Lent, router: &mut Lent) -> Restarted {
 }
 
 /// `flow` is the router, the source and the group.
-pub fn match_flow(table: &mut Lent, flow: &mut [Lent; 3], output: &mut Lent) -> Matched {
+pub fn match_flow(table: &mut Lent, prefixes: &mut Lent, flow: &mut [Lent; 3], output: &mut Lent) -> Matched {
     let [router, source, group] = flow.each_mut().map(|field| (field.pointer(), field.len()));
     let (place, room) = (output.pointer(), output.len());
     unsafe {
         raw::mvpn_match(
             table.pointer(),
             table.len(),
+            prefixes.pointer(),
+            prefixes.len(),
             router.0,
             router.1,
             source.0,
@@ -456,13 +470,15 @@ pub fn match_flow(table: &mut Lent, flow: &mut [Lent; 3], output: &mut Lent) -> 
 }
 
 /// `flow` as of a match.
-pub fn explain(table: &mut Lent, flow: &mut [Lent; 3], output: &mut Lent) -> Explained {
+pub fn explain(table: &mut Lent, prefixes: &mut Lent, flow: &mut [Lent; 3], output: &mut Lent) -> Explained {
     let [router, source, group] = flow.each_mut().map(|field| (field.pointer(), field.len()));
     let (place, room) = (output.pointer(), output.len());
     unsafe {
         raw::mvpn_explain(
             table.pointer(),
             table.len(),
+            prefixes.pointer(),
+            prefixes.len(),
             router.0,
             router.1,
             source.0,
@@ -487,6 +503,7 @@ pub fn table_info(table: &mut Lent) -> TableInfo {
 /// `tree` is the router and the group; `lists` are the Source Active routes and the states.
 pub fn match_shared(
     table: &mut Lent,
+    prefixes: &mut Lent,
     tree: [&mut Lent; 2],
     facts: SharedTree,
     lists: &mut [Lent; 2],
@@ -499,6 +516,8 @@ pub fn match_shared(
         raw::mvpn_match_shared(
             table.pointer(),
             table.len(),
+            prefixes.pointer(),
+            prefixes.len(),
             router.0,
             router.1,
             group.0,

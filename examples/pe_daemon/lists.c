@@ -64,6 +64,17 @@ bool hold_state(customer_states *states, const mvpn_address *source, const mvpn_
 
 /* ---- the lists: there is space for each, so no answer of a helper is 0 */
 
+/* Where there are none, the list has no items, and the standard range decides. */
+octets list_prefixes(const group_prefixes *prefixes, uint8_t list[PREFIXES_SPACE])
+{
+    size_t size = mvpn_list_start(list, PREFIXES_SPACE, (uint16_t)prefixes->count);
+    for (size_t i = 0; i < prefixes->count; i++) {
+        const group_prefix *prefix = &prefixes->held[i];
+        size = mvpn_list_prefix(list, PREFIXES_SPACE, size, prefix->address.octets, prefix->address.size, prefix->length);
+    }
+    return (octets){ list, size };
+}
+
 octets list_source_actives(const source_actives *routes, uint8_t list[SOURCE_ACTIVES_SPACE])
 {
     size_t size = mvpn_list_start(list, SOURCE_ACTIVES_SPACE, (uint16_t)routes->count);

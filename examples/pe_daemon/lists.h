@@ -1,10 +1,19 @@
-/* What a match for a shared tree is told of one family: the Source Active A-D routes of the VRF, its (C-S,C-G) states, and
- * both as the lists that the library is lent. */
+/* What matches are told of one family: the VRF's SSM ranges, its Source Active A-D routes and its (C-S,C-G) states; and each of
+ * these as the list that the library is lent. */
 #ifndef LISTS_H
 #define LISTS_H
 
 #include "mvpn.h"
+#include "requests.h"
 #include "update.h"
+
+/* ---- SSM ranges */
+
+/* There is room for one more than the library takes, so that it is the library that refuses it. */
+typedef struct {
+    group_prefix held[MVPN_MOST_PREFIXES + 1];
+    size_t count;
+} group_prefixes;
 
 /* ---- Source Active A-D routes */
 
@@ -51,12 +60,14 @@ bool hold_state(customer_states *states, const mvpn_address *source, const mvpn_
 
 /* ---- the lists */
 
-/* The octets of the longest lists: a count, and for each item two fields, each with its size. */
+/* The octets of the longest lists: a count, and for each item its fields, each with its size. */
 enum {
+    PREFIXES_SPACE = MVPN_LONGEST_PREFIXES + MVPN_FIELD_SIZE + 1 + 16,
     SOURCE_ACTIVES_SPACE = MVPN_LIST_COUNT + MVPN_MOST_ITEMS * (MVPN_FIELD_SIZE + 16 + MVPN_FIELD_SIZE + LONGEST_SOURCE_ACTIVE),
     STATES_SPACE = MVPN_LIST_COUNT + MVPN_MOST_ITEMS * (MVPN_FIELD_SIZE + 16 + MVPN_FIELD_SIZE + 16)
 };
 
+octets list_prefixes(const group_prefixes *prefixes, uint8_t list[PREFIXES_SPACE]);
 octets list_source_actives(const source_actives *routes, uint8_t list[SOURCE_ACTIVES_SPACE]);
 octets list_states(const customer_states *states, uint8_t list[STATES_SPACE]);
 

@@ -1,6 +1,7 @@
 #include "requests.h"
 
 #include <arpa/inet.h>
+#include <ctype.h>
 #include <stdbool.h>
 #include <stdio.h>
 #include <stdlib.h>
@@ -8,7 +9,7 @@
 
 void print_usage(void)
 {
-    fprintf(stderr, "usage: pe_daemon [--pieces OCTETS] FILE [REQUEST]...\n"
+    fprintf(stderr, "usage: pe_daemon [--pieces OCTETS] [--ssm ADDRESS/LENGTH]... FILE [REQUEST]...\n"
                     "a request is one of\n"
                     "  ROUTER SOURCE GROUP\n"
                     "  shared ROUTER GROUP [upstream] [bidir] [unused]\n"
@@ -20,18 +21,57 @@ static bool is(const char *word, const char *name)
     return word && strcmp(word, name) == 0;
 }
 
+/* Whether a word is a number, of digits alone and not over `most`. */
+static bool is_number(const char *word, size_t most, size_t *number)
+{
+    char *end;
+    if (!word || !isdigit((unsigned char)word[0]))
+        return false;
+    *number = strtoul(word, &end, 10);
+    return !*end && *number <= most;
+}
+
+static bool is_address(const char *text, mvpn_address *address)
+{
+    address->size = strchr(text, ':') ? 16 : 4;
+    return inet_pton(address->size == 4 ? AF_INET : AF_INET6, text, address->octets) == 1;
+}
+
+/* The address ends at the slash, behind which the length stands. */
+static bool is_prefix(const char *word, group_prefix *prefix)
+{
+    char address[INET6_ADDRSTRLEN];
+    size_t size = word ? strcspn(word, "/") : 0, length;
+    if (size == 0 || !word[size] || size >= sizeof address || !is_number(word + size + 1, UINT8_MAX, &length))
+        return false;
+    memcpy(address, word, size);
+    address[size] = '\0';
+    prefix->length = (uint8_t)length;
+    return is_address(address, &prefix->address);
+}
+
 int parse_pieces(char **words, size_t most, size_t *octets)
 {
+    size_t number;
     if (!is(words[0], "--pieces"))
         return 0;
-    char *end = words[1];
-    unsigned long number = words[1] ? strtoul(words[1], &end, 10) : 0;
-    if (!end || *end || number < 1 || number > most) {
+    if (!is_number(words[1], most, &number) || number < 1) {
         fprintf(stderr, "pe_daemon: a piece has 1 to %zu octets\n", most);
         return -1;
     }
     *octets = number;
     return 2;
+}
+
+int parse_ssm(char **words, group_prefix *prefix)
+{
+    memset(prefix, 0, sizeof *prefix);
+    if (!is(words[0], "--ssm"))
+        return 0;
+    if (is_prefix(words[1], prefix))
+        return 2;
+    fprintf(stderr, "pe_daemon: a prefix is an address, a slash, and a length of at most %d\n", UINT8_MAX);
+    return -1;
 }
 
 static bool parse_address(const char *text, mvpn_address *address)
@@ -40,8 +80,7 @@ static bool parse_address(const char *text, mvpn_address *address)
         print_usage();
         return false;
     }
-    address->size = strchr(text, ':') ? 16 : 4;
-    if (inet_pton(address->size == 4 ? AF_INET : AF_INET6, text, address->octets) == 1)
+    if (is_address(text, address))
         return true;
     fprintf(stderr, "pe_daemon: %s is not an address\n", text);
     return false;

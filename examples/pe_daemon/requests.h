@@ -11,6 +11,12 @@ void print_usage(void);
  * not given, and -1, after standard error has been told why, where it is wrong. */
 int parse_pieces(char **words, size_t most, size_t *octets);
 
+/* Groups that begin alike, as 239.232.0.0/16; the length is in bits. */
+typedef struct { mvpn_address address; uint8_t length; } group_prefix;
+
+/* Reads the option `--ssm ADDRESS/LENGTH` likewise. Whether the length suits the address is for the library to say. */
+int parse_ssm(char **words, group_prefix *prefix);
+
 typedef enum { FLOW, SHARED_TREE, STATE } request_kind;
 
 typedef struct {

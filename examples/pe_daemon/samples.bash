@@ -12,6 +12,17 @@ run() {
     "$program" "${pieces[@]}" "$@" || echo "exit status $?"
 }
 
+# ranges 'PREFIX...' FILE [REQUEST]...: the same with these SSM ranges. What is printed of the messages and of the tables, which is
+# as without them, is left out.
+ranges() {
+    local prefix options=()
+    for prefix in $1; do
+        options+=(--ssm "$prefix")
+    done
+    printf '\n==== pe_daemon %s %s\n\n' "${options[*]}" "$2"
+    "$program" "${options[@]}" "${pieces[@]}" "${@:2}" | sed -e '/^message 1:/,/^other NLRIs:/d' -e '/^IPv4 table:/,$d'
+}
+
 # The tiers in turn; a route that was withdrawn, so the next tier has it; (C-*,C-G) is not for SSM groups; a tie, in which a
 # tracking route has the lowest route distinguisher; a flow for which a tracking route stands in tier 1; the other kinds of
 # tunnel; a router that has only a tracking route; a router without routes; a group that is not multicast; a source of the other
@@ -85,6 +96,36 @@ run restart.bin \
     shared 10.0.0.1 239.1.1.1 \
     2001:db8::1 2001:db8:1::1 ff3e::1
 
+# A flow to a group of the range takes tier 2, where it took tier 3; of flows to groups of the standard range one no longer takes tier
+# 2, and one takes tier 3.
+ranges 239.1.0.0/16 ipv4.bin \
+    10.0.0.1 192.0.2.1 239.1.1.1 \
+    10.0.0.1 192.0.2.1 232.1.1.2 \
+    10.0.0.1 192.0.2.2 232.9.9.9
+
+# Ranges of which one is inside another and one is a single group, and the standard range with them: what they hold is SSM, and
+# nothing else.
+ranges '239.0.0.0/8 239.1.1.0/24 225.1.1.1/32 232.0.0.0/8' ipv4.bin \
+    10.0.0.1 192.0.2.1 239.1.1.1 \
+    10.0.0.1 192.0.2.1 225.1.1.1 \
+    10.0.0.1 192.0.2.1 225.1.1.2 \
+    10.0.0.1 192.0.2.1 232.1.1.2
+
+# With length 0 every group is SSM; with a range outside of multicast no group is, and an address in it is still no group.
+ranges 0.0.0.0/0 ipv4.bin 10.0.0.1 192.0.2.1 239.1.1.1
+ranges 10.0.0.0/8 ipv4.bin 10.0.0.1 192.0.2.1 232.1.1.2 10.0.0.1 192.0.2.1 10.1.1.1
+
+# The most ranges of one family, and one of the other, which has its own.
+ranges "239.1.0.0/16 $(printf 'ff3e:%d::/32 ' {8..1})" ipv6.bin \
+    2001:db8::1 2001:db8:1::1 ff3e:1::1 \
+    2001:db8::1 2001:db8:1::1 ff3e::2 \
+    10.0.0.1 192.0.2.1 239.1.1.1
+
+# A shared tree to a group of the range has no route, whatever is told; one to a group of the standard range has one.
+ranges 239.1.1.0/24 shared.bin \
+    shared 10.0.0.1 239.1.1.1 upstream bidir unused \
+    shared 10.0.0.1 232.9.9.9 upstream
+
 # Nothing was installed for the first flow, and what was installed for the second is gone again.
 run damaged.bin 10.0.0.1 192.0.2.1 239.1.1.1 10.0.0.1 192.0.2.1 232.1.1.1
 
@@ -124,8 +165,12 @@ run ipv4.bin shared 10.0.0.1 2>&1
 run ipv4.bin shared 10.0.0.1 239.1.1.1 downstream 2>&1
 run ipv4.bin state 192.0.2.1 2>&1
 
-# Pieces of no octets, of more than a message has, of what is no number, and of nothing; no file.
-for words in '--pieces 0 ipv4.bin' '--pieces 4097 ipv4.bin' '--pieces 1O ipv4.bin' '--pieces' '--pieces 1' ''; do
+# Pieces of no octets, of more than a message has, of what is no number, and of nothing; SSM ranges that the library refuses, for a
+# bit past the length, a length over the address, or as the ninth of a family; words that are no prefix, and none; no file.
+for words in '--pieces 0 ipv4.bin' '--pieces 4097 ipv4.bin' '--pieces 1O ipv4.bin' '--pieces' '--pieces 1' \
+    '--ssm 239.232.1.0/16 ipv4.bin' '--ssm 239.232.0.0/33 ipv4.bin' '--ssm ff3e::/129 ipv6.bin' \
+    "$(printf -- '--ssm 239.%d.0.0/16 ' {1..9})ipv4.bin" "$(printf -- '--ssm ff3e:%d::/32 ' {1..9})ipv6.bin" \
+    '--ssm 239.232.0.0 ipv4.bin' '--ssm 239.232.0.0/256 ipv4.bin' '--ssm 239.232/16 ipv4.bin' '--ssm' '--ssm 239.232.0.0/16' ''; do
     printf '\n==== pe_daemon%s\n\n' "${words:+ $words}"
     # The words are several.
     # shellcheck disable=SC2086

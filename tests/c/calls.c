@@ -400,7 +400,7 @@ static const group_row groups[] = {
 static void group_class(const group_row *row)
 {
     lent group = hex(row->group);
-    mvpn_group g = mvpn_group_class(row->afi, group.at, group.size);
+    mvpn_group g = mvpn_group_class(row->afi, mvpn_no_items, sizeof mvpn_no_items, group.at, group.size);
     same(row->shows, "number", g.number, row->number);
     same(row->shows, "group_class", g.group_class, row->group_class);
     free(group.at);

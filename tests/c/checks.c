@@ -82,6 +82,15 @@ lent hex(const char *text)
     return l;
 }
 
+lent list_of(const char *text)
+{
+    if (text)
+        return hex(text);
+    lent list = lent_of(sizeof mvpn_no_items, 0);
+    memcpy(list.at, mvpn_no_items, sizeof mvpn_no_items);
+    return list;
+}
+
 void same_output(const char *shows, lent output, const uint8_t *written, size_t size)
 {
     lent expected = lent_of(output.size, FILL);
@@ -147,15 +156,21 @@ void same_table(const char *shows, lent table, lent expected)
 
 /* ---- matches */
 
-mvpn_matched match(lent table, flow f, lent output)
+mvpn_matched match_by(lent table, const char *prefixes_text, flow f, lent output)
 {
-    lent router = hex(f.router), source = hex(f.source), group = hex(f.group);
-    mvpn_matched m = mvpn_match(table.at, table.size, router.at, router.size, source.at, source.size, group.at, group.size,
-                                output.at, output.size);
+    lent prefixes = list_of(prefixes_text), router = hex(f.router), source = hex(f.source), group = hex(f.group);
+    mvpn_matched m = mvpn_match(table.at, table.size, prefixes.at, prefixes.size, router.at, router.size, source.at, source.size,
+                                group.at, group.size, output.at, output.size);
+    free(prefixes.at);
     free(router.at);
     free(source.at);
     free(group.at);
     return m;
+}
+
+mvpn_matched match(lent table, flow f, lent output)
+{
+    return match_by(table, NULL, f, output);
 }
 
 void same_match(const char *shows, lent table, flow f, uint32_t tier, const route *expected)

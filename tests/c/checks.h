@@ -28,6 +28,9 @@ lent lent_of(size_t size, uint8_t value);
 /* Octets in hexadecimal, with blanks between them. */
 lent hex(const char *text);
 
+/* The same of a list; NULL is the list that has no items. */
+lent list_of(const char *text);
+
 /* What an output holds before a call. */
 enum { FILL = 0xA5 };
 
@@ -53,6 +56,8 @@ void same_table(const char *shows, lent table, lent expected);
 
 typedef struct { const char *router, *source, *group; } flow;
 
+/* By these prefixes, a list as `list_of` takes it; or with none given. */
+mvpn_matched match_by(lent table, const char *prefixes_text, flow f, lent output);
 mvpn_matched match(lent table, flow f, lent output);
 
 /* No tier and no route: nothing matches. */

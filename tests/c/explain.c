@@ -18,8 +18,8 @@ enum { TAKEN = MVPN_TAKEN, NO_ROUTE = MVPN_NO_SUCH_ROUTE, CLASS = MVPN_WRONG_GRO
 static mvpn_explained explain(lent table, flow f, lent output)
 {
     lent router = hex(f.router), source = hex(f.source), group = hex(f.group);
-    mvpn_explained e = mvpn_explain(table.at, table.size, router.at, router.size, source.at, source.size, group.at, group.size,
-                                    output.at, output.size);
+    mvpn_explained e = mvpn_explain(table.at, table.size, mvpn_no_items, sizeof mvpn_no_items, router.at, router.size, source.at,
+                                    source.size, group.at, group.size, output.at, output.size);
     free(router.at);
     free(source.at);
     free(group.at);

@@ -47,7 +47,8 @@ int main()
                        mvpn_step(1, octets, 0, 0).number == MVPN_DONE &&
                        mvpn_walk(1, MVPN_SKIP, octets, 0).number == MVPN_DONE &&
                        fed.size == 0 && mvpn_pieces_finish(fed.pieces).walked.number == MVPN_DONE &&
-                       mvpn_group_class(1, octets, 0).number == MVPN_FLOW &&
+                       mvpn_group_class(1, octets, 0, octets, 0).number == MVPN_SHORT &&
+                       mvpn_group_class(1, mvpn_no_items, sizeof mvpn_no_items, octets, 0).number == MVPN_FLOW &&
                        mvpn_attribute_read(octets, 0).number == MVPN_SHORT &&
                        mvpn_attribute_write(0, 0, 0, octets, 0, output, 0).number == MVPN_SPACE &&
                        mvpn_make(1, output, 0) == MVPN_TABLE &&
@@ -55,9 +56,11 @@ int main()
                        mvpn_withdraw(output, 0, octets, 0) == MVPN_TABLE &&
                        mvpn_mark(output, 0, octets, 0).number == MVPN_TABLE &&
                        mvpn_sweep(output, 0, octets, 0).number == MVPN_TABLE &&
-                       mvpn_match(octets, 0, octets, 0, octets, 0, octets, 0, output, 0).number == MVPN_TABLE &&
-                       mvpn_explain(octets, 0, octets, 0, octets, 0, octets, 0, output, 0).matched.number == MVPN_TABLE &&
-                       mvpn_match_shared(octets, 0, octets, 0, octets, 0, mvpn_shared_tree{}, octets, 0, octets, 0, output, 0)
+                       mvpn_match(octets, 0, octets, 0, octets, 0, octets, 0, octets, 0, output, 0).number == MVPN_TABLE &&
+                       mvpn_explain(octets, 0, octets, 0, octets, 0, octets, 0, octets, 0, output, 0).matched.number ==
+                           MVPN_TABLE &&
+                       mvpn_match_shared(octets, 0, octets, 0, octets, 0, octets, 0, mvpn_shared_tree{}, octets, 0, octets, 0,
+                                         output, 0)
                                .number == MVPN_TABLE &&
                        mvpn_next(octets, 0, octets, 0, output, 0).number == MVPN_TABLE &&
                        mvpn_table_info(octets, 0).number == MVPN_TABLE && mvpn_version() == MVPN_VERSION_NUMBER;

@@ -565,9 +565,9 @@ static void in_a_list(const char *shows, const char *text, uint32_t number)
     size_t size = mvpn_list_start(list, sizeof list, 1);
     size = mvpn_list_field(list, sizeof list, size, router, sizeof router);
     size = mvpn_list_field(list, sizeof list, size, nlri.at, nlri.size);
-    mvpn_matched got = mvpn_match_shared(table.at, table.size, router, sizeof router, group, sizeof group,
-                                         (mvpn_shared_tree){ 1, 0, 0 }, list, size, mvpn_no_items, sizeof mvpn_no_items,
-                                         output.at, output.size);
+    mvpn_matched got = mvpn_match_shared(table.at, table.size, mvpn_no_items, sizeof mvpn_no_items, router, sizeof router, group,
+                                         sizeof group, (mvpn_shared_tree){ 1, 0, 0 }, list, size, mvpn_no_items,
+                                         sizeof mvpn_no_items, output.at, output.size);
     refused_matched(shows, got, output, number);
     free(table.at);
     free(nlri.at);

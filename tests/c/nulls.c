@@ -19,6 +19,7 @@ static const uint8_t bier[] = { 0, 11, 0, 0, 16, 0, 0, 1, 10, 0, 0, 1 };
 static uint8_t table[MVPN_TABLE_SIZE(2)], output[MVPN_LONGEST_NLRI];
 
 #define OF(octets) octets, sizeof octets
+#define NO_ITEMS OF(mvpn_no_items)
 
 /* ---- NLRIs, runs and attributes */
 
@@ -36,7 +37,9 @@ static void codecs(void)
     same(shows, "nlri_write, no key", mvpn_nlri_write(1, join, NO_OCTETS, OF(fec), OF(output)).size, 24);
     same(shows, "nlri_write, the output", mvpn_nlri_write(1, leaf, OF(any), OF(fec), NO_OCTETS).number, MVPN_SPACE);
     same(shows, "nlri_write, all", mvpn_nlri_write(1, intra, NO_OCTETS, NO_OCTETS, NO_OCTETS).number, MVPN_SPACE);
-    same(shows, "group_class", mvpn_group_class(1, NO_OCTETS).number, MVPN_FLOW);
+    same(shows, "group_class, the prefixes", mvpn_group_class(1, NO_OCTETS, OF(group)).number, MVPN_SHORT);
+    same(shows, "group_class, the group", mvpn_group_class(1, NO_ITEMS, NO_OCTETS).number, MVPN_FLOW);
+    same(shows, "group_class, both", mvpn_group_class(1, NO_OCTETS, NO_OCTETS).number, MVPN_SHORT);
     same(shows, "attribute_read", mvpn_attribute_read(NO_OCTETS).number, MVPN_SHORT);
     same(shows, "attribute_write, no identifier", mvpn_attribute_write(0, MVPN_TUNNEL_NONE, 0, NO_OCTETS, OF(output)).size, 5);
     same(shows, "attribute_write, the identifier", mvpn_attribute_write(0, MVPN_TUNNEL_BIER, 16, NO_OCTETS, OF(output)).number,
@@ -99,40 +102,59 @@ static void restarts(void)
 static void matches(void)
 {
     const char *shows = "null";
-    same(shows, "match, the table", mvpn_match(NO_OCTETS, OF(router), OF(source), OF(group), OF(output)).number, MVPN_TABLE);
-    same(shows, "match, the router", mvpn_match(OF(table), NO_OCTETS, OF(source), OF(group), OF(output)).number, MVPN_FLOW);
-    same(shows, "match, the source", mvpn_match(OF(table), OF(router), NO_OCTETS, OF(group), OF(output)).number, MVPN_FLOW);
-    same(shows, "match, the group", mvpn_match(OF(table), OF(router), OF(source), NO_OCTETS, OF(output)).number, MVPN_FLOW);
-    same(shows, "match, the output", mvpn_match(OF(table), OF(router), OF(source), OF(group), NO_OCTETS).number, MVPN_SPACE);
-    same(shows, "match, all", mvpn_match(NO_OCTETS, NO_OCTETS, NO_OCTETS, NO_OCTETS, NO_OCTETS).number, MVPN_TABLE);
-    same(shows, "explain, the table", mvpn_explain(NO_OCTETS, OF(router), OF(source), OF(group), OF(output)).matched.number, MVPN_TABLE);
-    same(shows, "explain, the router", mvpn_explain(OF(table), NO_OCTETS, OF(source), OF(group), OF(output)).matched.number, MVPN_FLOW);
-    same(shows, "explain, the source", mvpn_explain(OF(table), OF(router), NO_OCTETS, OF(group), OF(output)).matched.number, MVPN_FLOW);
-    same(shows, "explain, the group", mvpn_explain(OF(table), OF(router), OF(source), NO_OCTETS, OF(output)).matched.number, MVPN_FLOW);
-    same(shows, "explain, the output", mvpn_explain(OF(table), OF(router), OF(source), OF(group), NO_OCTETS).matched.number, MVPN_SPACE);
-    same(shows, "explain, all", mvpn_explain(NO_OCTETS, NO_OCTETS, NO_OCTETS, NO_OCTETS, NO_OCTETS).matched.number, MVPN_TABLE);
+    same(shows, "match, the table", mvpn_match(NO_OCTETS, NO_ITEMS, OF(router), OF(source), OF(group), OF(output)).number,
+         MVPN_TABLE);
+    same(shows, "match, the prefixes", mvpn_match(OF(table), NO_OCTETS, OF(router), OF(source), OF(group), OF(output)).number,
+         MVPN_SHORT);
+    same(shows, "match, the router", mvpn_match(OF(table), NO_ITEMS, NO_OCTETS, OF(source), OF(group), OF(output)).number,
+         MVPN_FLOW);
+    same(shows, "match, the source", mvpn_match(OF(table), NO_ITEMS, OF(router), NO_OCTETS, OF(group), OF(output)).number,
+         MVPN_FLOW);
+    same(shows, "match, the group", mvpn_match(OF(table), NO_ITEMS, OF(router), OF(source), NO_OCTETS, OF(output)).number,
+         MVPN_FLOW);
+    same(shows, "match, the output", mvpn_match(OF(table), NO_ITEMS, OF(router), OF(source), OF(group), NO_OCTETS).number,
+         MVPN_SPACE);
+    same(shows, "match, all", mvpn_match(NO_OCTETS, NO_OCTETS, NO_OCTETS, NO_OCTETS, NO_OCTETS, NO_OCTETS).number, MVPN_TABLE);
+    same(shows, "explain, the table", mvpn_explain(NO_OCTETS, NO_ITEMS, OF(router), OF(source), OF(group), OF(output)).matched.number,
+         MVPN_TABLE);
+    same(shows, "explain, the prefixes", mvpn_explain(OF(table), NO_OCTETS, OF(router), OF(source), OF(group), OF(output)).matched.number,
+         MVPN_SHORT);
+    same(shows, "explain, the router", mvpn_explain(OF(table), NO_ITEMS, NO_OCTETS, OF(source), OF(group), OF(output)).matched.number,
+         MVPN_FLOW);
+    same(shows, "explain, the source", mvpn_explain(OF(table), NO_ITEMS, OF(router), NO_OCTETS, OF(group), OF(output)).matched.number,
+         MVPN_FLOW);
+    same(shows, "explain, the group", mvpn_explain(OF(table), NO_ITEMS, OF(router), OF(source), NO_OCTETS, OF(output)).matched.number,
+         MVPN_FLOW);
+    same(shows, "explain, the output", mvpn_explain(OF(table), NO_ITEMS, OF(router), OF(source), OF(group), NO_OCTETS).matched.number,
+         MVPN_SPACE);
+    same(shows, "explain, all", mvpn_explain(NO_OCTETS, NO_OCTETS, NO_OCTETS, NO_OCTETS, NO_OCTETS, NO_OCTETS).matched.number,
+         MVPN_TABLE);
 }
 
 static void shared_trees(void)
 {
     const char *shows = "null";
     const mvpn_shared_tree facts = { 1, 0, 0 };
-#define SHARED(table, router, group, actives, states, output) \
-    mvpn_match_shared(table, router, group, facts, actives, states, output)
-    same(shows, "match_shared, nothing", SHARED(OF(table), OF(router), OF(group), OF(mvpn_no_items), OF(mvpn_no_items), OF(output)).tier, 4);
-    same(shows, "match_shared, the table", SHARED(NO_OCTETS, OF(router), OF(group), OF(mvpn_no_items), OF(mvpn_no_items), OF(output)).number,
+#define SHARED(table, prefixes, router, group, actives, states, output) \
+    mvpn_match_shared(table, prefixes, router, group, facts, actives, states, output)
+    same(shows, "match_shared, nothing", SHARED(OF(table), NO_ITEMS, OF(router), OF(group), NO_ITEMS, NO_ITEMS, OF(output)).tier,
+         4);
+    same(shows, "match_shared, the table", SHARED(NO_OCTETS, NO_ITEMS, OF(router), OF(group), NO_ITEMS, NO_ITEMS, OF(output)).number,
          MVPN_TABLE);
-    same(shows, "match_shared, the router", SHARED(OF(table), NO_OCTETS, OF(group), OF(mvpn_no_items), OF(mvpn_no_items), OF(output)).number,
-         MVPN_FLOW);
-    same(shows, "match_shared, the group", SHARED(OF(table), OF(router), NO_OCTETS, OF(mvpn_no_items), OF(mvpn_no_items), OF(output)).number,
-         MVPN_FLOW);
-    same(shows, "match_shared, the first list", SHARED(OF(table), OF(router), OF(group), NO_OCTETS, OF(mvpn_no_items), OF(output)).number,
+    same(shows, "match_shared, the prefixes", SHARED(OF(table), NO_OCTETS, OF(router), OF(group), NO_ITEMS, NO_ITEMS, OF(output)).number,
          MVPN_SHORT);
-    same(shows, "match_shared, the second list", SHARED(OF(table), OF(router), OF(group), OF(mvpn_no_items), NO_OCTETS, OF(output)).number,
+    same(shows, "match_shared, the router", SHARED(OF(table), NO_ITEMS, NO_OCTETS, OF(group), NO_ITEMS, NO_ITEMS, OF(output)).number,
+         MVPN_FLOW);
+    same(shows, "match_shared, the group", SHARED(OF(table), NO_ITEMS, OF(router), NO_OCTETS, NO_ITEMS, NO_ITEMS, OF(output)).number,
+         MVPN_FLOW);
+    same(shows, "match_shared, the first list", SHARED(OF(table), NO_ITEMS, OF(router), OF(group), NO_OCTETS, NO_ITEMS, OF(output)).number,
          MVPN_SHORT);
-    same(shows, "match_shared, the output", SHARED(OF(table), OF(router), OF(group), OF(mvpn_no_items), OF(mvpn_no_items), NO_OCTETS).number,
+    same(shows, "match_shared, the second list", SHARED(OF(table), NO_ITEMS, OF(router), OF(group), NO_ITEMS, NO_OCTETS, OF(output)).number,
+         MVPN_SHORT);
+    same(shows, "match_shared, the output", SHARED(OF(table), NO_ITEMS, OF(router), OF(group), NO_ITEMS, NO_ITEMS, NO_OCTETS).number,
          MVPN_SPACE);
-    same(shows, "match_shared, all", SHARED(NO_OCTETS, NO_OCTETS, NO_OCTETS, NO_OCTETS, NO_OCTETS, NO_OCTETS).number, MVPN_TABLE);
+    same(shows, "match_shared, all", SHARED(NO_OCTETS, NO_OCTETS, NO_OCTETS, NO_OCTETS, NO_OCTETS, NO_OCTETS, NO_OCTETS).number,
+         MVPN_TABLE);
 #undef SHARED
 }
 
@@ -154,6 +176,8 @@ static void lists(void)
     same("null", "list_start", mvpn_list_start(NO_OCTETS, 1), 0);
     same("null", "list_field, the list", mvpn_list_field(NO_OCTETS, 0, OF(router)), 0);
     same("null", "list_field, the field", mvpn_list_field(OF(list), mvpn_list_start(OF(list), 1), NO_OCTETS), sizeof list);
+    same("null", "list_prefix, the list", mvpn_list_prefix(NO_OCTETS, 0, OF(router), 8), 0);
+    same("null", "list_prefix, the address", mvpn_list_prefix(OF(output), mvpn_list_start(OF(output), 1), NO_OCTETS, 0), 5);
 }
 
 /* ---- the version: the archive's number, the header's number, the header's text */

@@ -1,7 +1,8 @@
 /*
  * One table for each originator gives the answers of one table that holds all routes: of matches, explanations and matches for
- * shared trees, with their outputs. So a daemon with more than 500 routes keeps several tables. The routes are drawn, from few
- * sources, groups and route distinguishers, so that every tier, ties, and routes that name no tunnel are met.
+ * shared trees, with their outputs, with no prefixes and by some. So a daemon with more than 500 routes keeps several tables. The
+ * routes are drawn, from few sources, groups and route distinguishers, so that every tier, ties, and routes that name no tunnel
+ * are met.
  */
 #include "checks.h"
 
@@ -126,25 +127,25 @@ static void same_count(const tables *t)
 
 /* ---- answers of both */
 
-typedef struct { mvpn_address router, source, group; } asked;
+typedef struct { lent prefixes; mvpn_address router, source, group; } asked;
 
 static mvpn_explained explain(lent table, const asked *a, lent output)
 {
-    return mvpn_explain(table.at, table.size, a->router.octets, a->router.size, a->source.octets, a->source.size,
-                        a->group.octets, a->group.size, output.at, output.size);
+    return mvpn_explain(table.at, table.size, a->prefixes.at, a->prefixes.size, a->router.octets, a->router.size,
+                        a->source.octets, a->source.size, a->group.octets, a->group.size, output.at, output.size);
 }
 
 static mvpn_matched match_flow(lent table, const asked *a, lent output)
 {
-    return mvpn_match(table.at, table.size, a->router.octets, a->router.size, a->source.octets, a->source.size,
-                      a->group.octets, a->group.size, output.at, output.size);
+    return mvpn_match(table.at, table.size, a->prefixes.at, a->prefixes.size, a->router.octets, a->router.size,
+                      a->source.octets, a->source.size, a->group.octets, a->group.size, output.at, output.size);
 }
 
 static mvpn_matched match_shared(lent table, const asked *a, lent output)
 {
-    return mvpn_match_shared(table.at, table.size, a->router.octets, a->router.size, a->group.octets, a->group.size,
-                             (mvpn_shared_tree){ 1, 0, 0 }, mvpn_no_items, sizeof mvpn_no_items, mvpn_no_items,
-                             sizeof mvpn_no_items, output.at, output.size);
+    return mvpn_match_shared(table.at, table.size, a->prefixes.at, a->prefixes.size, a->router.octets, a->router.size,
+                             a->group.octets, a->group.size, (mvpn_shared_tree){ 1, 0, 0 }, mvpn_no_items, sizeof mvpn_no_items,
+                             mvpn_no_items, sizeof mvpn_no_items, output.at, output.size);
 }
 
 static unsigned tiers_met[5];
@@ -175,16 +176,27 @@ static void same_answers(lent own, lent all, const asked *a)
 }
 
 /* Every router, source and group, one more of each than the routes have. A router that has no table has no route. */
-static void same_for_each_flow(const tables *t, uint16_t afi)
+static void same_for_each_flow(const tables *t, uint16_t afi, lent prefixes)
 {
     lent none = made(afi, 0);
     for (size_t of = 0; of <= ORIGINATORS; of++)
         for (size_t s = 0; s <= SOURCES; s++)
             for (size_t g = 0; g <= GROUPS; g++) {
-                asked a = { originator(of), source(afi, s), group(afi, g) };
+                asked a = { prefixes, originator(of), source(afi, s), group(afi, g) };
                 same_answers(of < ORIGINATORS ? t->own[of] : none, t->all, &a);
             }
     free(none.at);
+}
+
+/* No prefixes; and one by which the ASM groups are SSM, and the others ASM. */
+static void same_by_prefixes(const tables *t, uint16_t afi)
+{
+    lent none = list_of(NULL), own = hex(afi == MVPN_AFI_IPV4 ? "0001 0005 08 EF000000"
+                                                              : "0001 0011 10 FF0E0000 00000000 00000000 00000000");
+    same_for_each_flow(t, afi, none);
+    same_for_each_flow(t, afi, own);
+    free(none.at);
+    free(own.at);
 }
 
 int main(void)
@@ -192,7 +204,7 @@ int main(void)
     for (uint16_t afi = MVPN_AFI_IPV4; afi <= MVPN_AFI_IPV6; afi++) {
         tables t = filled(afi);
         same_count(&t);
-        same_for_each_flow(&t, afi);
+        same_by_prefixes(&t, afi);
         free(t.all.at);
         for (size_t of = 0; of < ORIGINATORS; of++)
             free(t.own[of].at);

@@ -45,7 +45,7 @@ static void codecs(void)
     written = mvpn_attribute_write((uint8_t)tunnel.flags, (uint8_t)tunnel.tunnel_type, tunnel.label_field,
                                    attribute + tunnel.identifier.start, tunnel.identifier.size, OF(output));
     expect("attribute_write", written.size == sizeof attribute && memcmp(output, attribute, sizeof attribute) == 0);
-    expect("group_class", mvpn_group_class(MVPN_AFI_IPV4, OF(group)).group_class == MVPN_ASM);
+    expect("group_class", mvpn_group_class(MVPN_AFI_IPV4, OF(mvpn_no_items), OF(group)).group_class == MVPN_ASM);
 }
 
 static void runs(void)
@@ -73,26 +73,37 @@ static void changes(void)
 static void questions(void)
 {
     uint8_t output[MVPN_MATCH_OUTPUT], actives[64], states[64];
-    mvpn_matched match = mvpn_match(OF(table), OF(router), OF(source), OF(group), OF(output));
+    mvpn_matched match = mvpn_match(OF(table), OF(mvpn_no_items), OF(router), OF(source), OF(group), OF(output));
     expect("match", match.tier == MVPN_ANY_SOURCE_ANY_GROUP && match.nlri_size == ANY_SIZE);
-    mvpn_explained why = mvpn_explain(OF(table), OF(router), OF(source), OF(group), OF(output));
+    mvpn_explained why = mvpn_explain(OF(table), OF(mvpn_no_items), OF(router), OF(source), OF(group), OF(output));
     expect("explain", why.matched.tier == match.tier && why.reasons[3] == MVPN_TAKEN && why.reasons[1] == MVPN_WRONG_GROUP_CLASS);
 
     size_t size = mvpn_list_start(OF(actives), 1);
     size = mvpn_list_field(OF(actives), size, OF(router));
     size = mvpn_list_field(OF(actives), size, OF(active));
-    match = mvpn_match_shared(OF(table), OF(router), OF(group), (mvpn_shared_tree){ 0, 0, 0 }, actives, size, OF(mvpn_no_items),
-                              OF(output));
+    match = mvpn_match_shared(OF(table), OF(mvpn_no_items), OF(router), OF(group), (mvpn_shared_tree){ 0, 0, 0 }, actives, size,
+                              OF(mvpn_no_items), OF(output));
     expect("match_shared, no state", match.tier == MVPN_ANY_SOURCE_ANY_GROUP);
     size_t held = mvpn_list_start(OF(states), 1);
     held = mvpn_list_field(OF(states), held, OF(source));
     held = mvpn_list_field(OF(states), held, OF(group));
-    match = mvpn_match_shared(OF(table), OF(router), OF(group), (mvpn_shared_tree){ 0, 0, 0 }, actives, size, states, held,
-                              OF(output));
+    match = mvpn_match_shared(OF(table), OF(mvpn_no_items), OF(router), OF(group), (mvpn_shared_tree){ 0, 0, 0 }, actives, size,
+                              states, held, OF(output));
     expect("match_shared, a state", match.number == MVPN_DONE && match.tier == MVPN_NO_TIER);
 
     expect("next, the first", mvpn_next(OF(table), NULL, 0, OF(output)).nlri_size == ANY_SIZE);
     expect("next, none", mvpn_next(OF(table), run, ANY_SIZE, OF(output)).nlri_size == 0);
+}
+
+/* Prefixes of which one holds the group. */
+static void ranges(void)
+{
+    static const uint8_t inside[] = { 239, 1, 0, 0 }, outside[] = { 232, 0, 0, 0 };
+    uint8_t prefixes[MVPN_LONGEST_PREFIXES];
+    size_t size = mvpn_list_start(OF(prefixes), 2);
+    size = mvpn_list_prefix(OF(prefixes), size, OF(outside), 8);
+    size = mvpn_list_prefix(OF(prefixes), size, OF(inside), 16);
+    expect("group_class, by prefixes", mvpn_group_class(MVPN_AFI_IPV4, prefixes, size, OF(group)).group_class == MVPN_SSM);
 }
 
 /* The router restarts, and its route comes back. */
@@ -114,6 +125,7 @@ int main(void)
     runs();
     changes();
     questions();
+    ranges();
     restart();
     expect("withdraw", mvpn_withdraw(OF(table), run, ANY_SIZE) == MVPN_DONE);
     expect("withdraw again", mvpn_withdraw(OF(table), run, ANY_SIZE) == MVPN_ABSENT);

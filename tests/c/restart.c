@@ -185,16 +185,16 @@ static void marked_routes_match(void)
     lent before = copy_of(table);
     same_match("a marked route of tier 1", table, f, 1, &both);
     same_match("a marked route of tier 4", table, g, 4, &any);
-    mvpn_explained why = mvpn_explain(table.at, table.size, router.at, router.size, source.at, source.size, group.at, group.size,
-                                      output.at, output.size);
+    mvpn_explained why = mvpn_explain(table.at, table.size, mvpn_no_items, sizeof mvpn_no_items, router.at, router.size, source.at,
+                                      source.size, group.at, group.size, output.at, output.size);
     same_matched("a marked route explained", why.matched, output, 1, &both);
     same("a marked route explained", "tier 1", why.reasons[0], MVPN_TAKEN);
     same("a marked route explained", "tier 2", why.reasons[1], MVPN_EARLIER_TIER_WON);
     same("a marked route explained", "tier 4", why.reasons[3], MVPN_EARLIER_TIER_WON);
     memset(output.at, FILL, output.size);
-    mvpn_matched shared = mvpn_match_shared(table.at, table.size, router.at, router.size, group.at, group.size, upstream,
-                                            mvpn_no_items, sizeof mvpn_no_items, mvpn_no_items, sizeof mvpn_no_items, output.at,
-                                            output.size);
+    mvpn_matched shared = mvpn_match_shared(table.at, table.size, mvpn_no_items, sizeof mvpn_no_items, router.at, router.size,
+                                            group.at, group.size, upstream, mvpn_no_items, sizeof mvpn_no_items, mvpn_no_items,
+                                            sizeof mvpn_no_items, output.at, output.size);
     same_matched("a marked route of a shared tree", shared, output, 4, &any);
     same_table("they leave the marks", table, before);
 

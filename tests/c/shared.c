@@ -69,20 +69,12 @@ typedef struct {
 static mvpn_matched match_lists(lent table, const tree *t, lent actives, lent states, lent output)
 {
     lent router = hex(t->router), group = hex(t->group);
-    mvpn_matched m = mvpn_match_shared(table.at, table.size, router.at, router.size, group.at, group.size, t->facts,
-                                       actives.at, actives.size, states.at, states.size, output.at, output.size);
+    mvpn_matched m = mvpn_match_shared(table.at, table.size, mvpn_no_items, sizeof mvpn_no_items, router.at, router.size,
+                                       group.at, group.size, t->facts, actives.at, actives.size, states.at, states.size,
+                                       output.at, output.size);
     free(router.at);
     free(group.at);
     return m;
-}
-
-static lent list_of(const char *text)
-{
-    if (text)
-        return hex(text);
-    lent list = lent_of(sizeof mvpn_no_items, 0);
-    memcpy(list.at, mvpn_no_items, sizeof mvpn_no_items);
-    return list;
 }
 
 static mvpn_matched match_shared(lent table, const tree *t, lent output)
@@ -377,6 +369,32 @@ static void longest_field(void)
     free(field.at);
 }
 
+static void list_prefixes(void)
+{
+    static const uint8_t address[17] = { 239, 232, 4 };
+    static const uint8_t expected[] = { 0, 2, 0, 5, 22, 239, 232, 4, 0, 0, 1, 255 };
+    lent list = lent_of(14, FILL), longest = lent_of(MVPN_LONGEST_PREFIXES, FILL);
+    size_t size;
+    same("a prefix of a list that was not started", "size", mvpn_list_prefix(list.at, 13, 0, address, 4, 22), 0);
+    same("a prefix one octet too long", "size", mvpn_list_prefix(list.at, 8, 2, address, 4, 22), 0);
+    same("a prefix of 17 octets", "size", mvpn_list_prefix(longest.at, longest.size, 2, address, 17, 22), 0);
+    same("a prefix of SIZE_MAX octets", "size", mvpn_list_prefix(longest.at, longest.size, 2, address, SIZE_MAX, 22), 0);
+    untouched("a prefix that is not written", list);
+    untouched("a prefix that is not written", longest);
+    size = mvpn_list_start(list.at, 12, 2);
+    size = mvpn_list_prefix(list.at, 12, size, address, 4, 22);
+    same("a prefix", "size", size, 9);
+    size = mvpn_list_prefix(list.at, 12, size, address, 0, 255);
+    same("a length alone", "size", size, 12);
+    same_output("prefixes", list, expected, sizeof expected);
+    size = mvpn_list_start(longest.at, longest.size, MVPN_MOST_PREFIXES);
+    for (unsigned i = 0; i < MVPN_MOST_PREFIXES; i++)
+        size = mvpn_list_prefix(longest.at, longest.size, size, address, 16, 22);
+    same("the longest prefixes", "size", size, MVPN_LONGEST_PREFIXES);
+    free(list.at);
+    free(longest.at);
+}
+
 /* ---- the most items, by the helpers */
 
 /* 256 items of two fields; the octet of an item that `numbered` says, counted from its first field, is the item's number. */
@@ -423,6 +441,7 @@ int main(void)
     ipv6();
     list_starts();
     list_fields();
+    list_prefixes();
     longest_field();
     return verdict("C shared trees");
 }

@@ -154,7 +154,30 @@ RUN(feed_long, FEEDS(started, full, sizeof full, sizeof full, 0))
 RUN(finish_whole, mvpn_pieces_finish(started).walked.number == MVPN_DONE)
 RUN(finish_part, mvpn_pieces_finish(inside).walked.number == MVPN_SHORT)
 
-RUN(class_group, mvpn_group_class(2, group, sizeof group).group_class == MVPN_SSM)
+/* ---- prefixes: the most, of which the last alone holds the SSM groups; the same with a bit set past the last one's length */
+
+static uint8_t prefixes[2 + 8 * (2 + 1 + 16)], bad_prefixes[sizeof prefixes];
+
+static void fill_prefixes(void)
+{
+    uint8_t field[1 + 16] = { 127, 0xFF, 0x3D };
+    size_t size = mvpn_list_start(prefixes, sizeof prefixes, 8);
+    for (size_t i = 1; i < 8; i++)
+        size = mvpn_list_field(prefixes, sizeof prefixes, size, field, sizeof field);
+    field[0] = 15;
+    field[2] = 0x3E;
+    mvpn_list_field(prefixes, sizeof prefixes, size, field, sizeof field);
+    memcpy(bad_prefixes, prefixes, sizeof bad_prefixes);
+    bad_prefixes[sizeof bad_prefixes - 1] = 1;
+}
+
+#define NO_PREFIXES mvpn_no_items, sizeof mvpn_no_items
+#define PREFIXES prefixes, sizeof prefixes
+#define BAD_PREFIXES bad_prefixes, sizeof bad_prefixes
+
+RUN(class_group, mvpn_group_class(2, NO_PREFIXES, group, sizeof group).group_class == MVPN_SSM)
+RUN(class_by_prefixes, mvpn_group_class(2, PREFIXES, group, sizeof group).group_class == MVPN_SSM)
+RUN(class_by_bad_prefixes, mvpn_group_class(2, BAD_PREFIXES, group, sizeof group).number == MVPN_RANGE)
 
 #define READS_ATTRIBUTE(octets) mvpn_attribute_read(octets, sizeof octets).number == MVPN_DONE
 RUN(read_mldp, READS_ATTRIBUTE(mldp))
@@ -215,21 +238,26 @@ RUN(sweep_nobody, RESTARTS(mvpn_sweep, s_pmsi, MVPN_FLOW, 0))
 
 static mvpn_matched matched;
 
-#define MATCHES(router, wanted) \
-    (matched = mvpn_match(table, sizeof table, router, sizeof router, source, sizeof source, group, sizeof group, output, \
+#define MATCHES(given, router, wanted_number, wanted_tier) \
+    (matched = mvpn_match(table, sizeof table, given, router, sizeof router, source, sizeof source, group, sizeof group, output, \
                           sizeof output), \
-     matched.number == MVPN_DONE && matched.tier == (wanted))
-RUN(match_found, MATCHES(originator, 1))
-RUN(match_none, MATCHES(source, 0))
+     matched.number == (wanted_number) && matched.tier == (wanted_tier))
+RUN(match_found, MATCHES(NO_PREFIXES, originator, MVPN_DONE, 1))
+RUN(match_none, MATCHES(NO_PREFIXES, source, MVPN_DONE, 0))
+RUN(match_by_prefixes, MATCHES(PREFIXES, originator, MVPN_DONE, 1))
+RUN(match_by_bad_prefixes, MATCHES(BAD_PREFIXES, originator, MVPN_RANGE, 0))
 
 static mvpn_explained explained;
 
-#define EXPLAINS(router, wanted, first_reason) \
-    (explained = mvpn_explain(table, sizeof table, router, sizeof router, source, sizeof source, group, sizeof group, output, \
-                              sizeof output), \
-     explained.matched.number == MVPN_DONE && explained.matched.tier == (wanted) && explained.reasons[0] == (first_reason))
-RUN(explain_found, EXPLAINS(originator, 1, MVPN_TAKEN))
-RUN(explain_none, EXPLAINS(source, 0, MVPN_NO_SUCH_ROUTE))
+#define EXPLAINS(given, router, wanted_number, wanted_tier, first_reason) \
+    (explained = mvpn_explain(table, sizeof table, given, router, sizeof router, source, sizeof source, group, sizeof group, \
+                              output, sizeof output), \
+     explained.matched.number == (wanted_number) && explained.matched.tier == (wanted_tier) && \
+         explained.reasons[0] == (first_reason))
+RUN(explain_found, EXPLAINS(NO_PREFIXES, originator, MVPN_DONE, 1, MVPN_TAKEN))
+RUN(explain_none, EXPLAINS(NO_PREFIXES, source, MVPN_DONE, 0, MVPN_NO_SUCH_ROUTE))
+RUN(explain_by_prefixes, EXPLAINS(PREFIXES, originator, MVPN_DONE, 1, MVPN_TAKEN))
+RUN(explain_by_bad_prefixes, EXPLAINS(BAD_PREFIXES, originator, MVPN_RANGE, 0, 0))
 
 static mvpn_following following;
 
@@ -278,15 +306,18 @@ static void fill_shared_trees(void)
     fill_list(states, sizeof states, source, sizeof source, group, sizeof group);
 }
 
-#define MATCHES_SHARED(asked, states_len, wanted_number, wanted_tier) \
-    (matched = mvpn_match_shared(table, sizeof table, originator, sizeof originator, asked, sizeof asked, \
+#define MATCHES_SHARED(given, asked, states_len, wanted_number, wanted_tier) \
+    (matched = mvpn_match_shared(table, sizeof table, given, originator, sizeof originator, asked, sizeof asked, \
                                  (mvpn_shared_tree){ 0, 0, 0 }, source_actives, sizeof source_actives, states, states_len, \
                                  output, sizeof output), \
      matched.number == (wanted_number) && matched.tier == (wanted_tier))
-RUN(shared_group_route, MATCHES_SHARED(shared_group, sizeof states, MVPN_DONE, 3))
-RUN(shared_any_route, MATCHES_SHARED(shared_group, sizeof states, MVPN_DONE, 4))
-RUN(shared_none, MATCHES_SHARED(group, sizeof states, MVPN_DONE, 0))
-RUN(shared_short, MATCHES_SHARED(shared_group, sizeof states - 1, MVPN_SHORT, 0))
+RUN(shared_group_route, MATCHES_SHARED(NO_PREFIXES, shared_group, sizeof states, MVPN_DONE, 3))
+RUN(shared_any_route, MATCHES_SHARED(NO_PREFIXES, shared_group, sizeof states, MVPN_DONE, 4))
+RUN(shared_none, MATCHES_SHARED(NO_PREFIXES, group, sizeof states, MVPN_DONE, 0))
+RUN(shared_short, MATCHES_SHARED(NO_PREFIXES, shared_group, sizeof states - 1, MVPN_SHORT, 0))
+RUN(shared_by_prefixes, MATCHES_SHARED(PREFIXES, shared_group, sizeof states, MVPN_DONE, 3))
+RUN(shared_none_by_prefixes, MATCHES_SHARED(PREFIXES, group, sizeof states, MVPN_DONE, 0))
+RUN(shared_by_bad_prefixes, MATCHES_SHARED(BAD_PREFIXES, shared_group, sizeof states, MVPN_RANGE, 0))
 
 /* Runs of one call stand together. */
 static const struct {
@@ -336,6 +367,8 @@ static const struct {
     { "mvpn_pieces_finish", finish_whole, full },
     { "mvpn_pieces_finish", finish_part, full },
     { "mvpn_group_class", class_group, full },
+    { "mvpn_group_class", class_by_prefixes, full },
+    { "mvpn_group_class", class_by_bad_prefixes, full },
     { "mvpn_attribute_read", read_mldp, full },
     { "mvpn_attribute_read", read_bier, full },
     { "mvpn_attribute_read", read_pim, full },
@@ -367,12 +400,19 @@ static const struct {
     { "mvpn_match", match_found, full },
     { "mvpn_match", match_found, stale },
     { "mvpn_match", match_none, full },
+    { "mvpn_match", match_by_prefixes, full },
+    { "mvpn_match", match_by_bad_prefixes, full },
     { "mvpn_explain", explain_found, full },
     { "mvpn_explain", explain_none, full },
+    { "mvpn_explain", explain_by_prefixes, full },
+    { "mvpn_explain", explain_by_bad_prefixes, full },
     { "mvpn_match_shared", shared_group_route, shared_trees },
     { "mvpn_match_shared", shared_any_route, any_trees },
     { "mvpn_match_shared", shared_none, shared_trees },
     { "mvpn_match_shared", shared_short, shared_trees },
+    { "mvpn_match_shared", shared_by_prefixes, shared_trees },
+    { "mvpn_match_shared", shared_none_by_prefixes, shared_trees },
+    { "mvpn_match_shared", shared_by_bad_prefixes, shared_trees },
     { "mvpn_next", next_first, full },
     { "mvpn_next", next_of_first, full },
     { "mvpn_next", next_of_absent, full },
@@ -446,6 +486,7 @@ int main(void)
     fill(full, 0);
     fill(roomy, 1);
     fill_stale();
+    fill_prefixes();
     fill_shared_trees();
     read_part();
     size_t base = depth(nothing, full), greatest = 0;

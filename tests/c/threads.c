@@ -17,8 +17,8 @@ enum { THREADS = 8, TIMES = 200, PLACES = 200, FLOWS = 14, GROUPS = 10 };
 typedef struct {
     uint8_t table[MVPN_TABLE_SIZE(PLACES)];
     uint8_t router[4], sources[FLOWS][4], groups[FLOWS][4];
-    uint8_t active[20], actives[64], states[64];
-    size_t actives_size, states_size;
+    uint8_t active[20], actives[64], states[64], prefixes[64];
+    size_t actives_size, states_size, prefixes_size;
 } read_only;
 
 static read_only *shared;
@@ -69,6 +69,9 @@ static void fill_lists(void)
     size_t size = mvpn_list_start(shared->actives, sizeof shared->actives, 1);
     size = mvpn_list_field(shared->actives, sizeof shared->actives, size, shared->router, sizeof shared->router);
     shared->actives_size = mvpn_list_field(shared->actives, sizeof shared->actives, size, shared->active, sizeof shared->active);
+    uint8_t in_239[] = { 8, 239, 0, 0, 0 };
+    size = mvpn_list_start(shared->prefixes, sizeof shared->prefixes, 1);
+    shared->prefixes_size = mvpn_list_field(shared->prefixes, sizeof shared->prefixes, size, in_239, sizeof in_239);
     size = mvpn_list_start(shared->states, sizeof shared->states, 1);
     size = mvpn_list_field(shared->states, sizeof shared->states, size, shared->sources[3], 4);
     shared->states_size = mvpn_list_field(shared->states, sizeof shared->states, size, shared->groups[3], 4);
@@ -87,26 +90,32 @@ static void fill(void)
     same("the memory", "is only read from now on", mprotect(shared, sizeof *shared, PROT_READ), 0);
 }
 
-/* ---- what a thread gets, all its answers and outputs */
+/* ---- what a thread gets, all its answers and outputs: of each flow with no prefixes, then of each by prefixes */
+
+enum { ASKED = 2 * FLOWS };
 
 typedef struct {
-    mvpn_explained explained[FLOWS];
-    mvpn_matched matched[FLOWS], of_tree[FLOWS];
-    uint8_t outputs[3][FLOWS][MVPN_MATCH_OUTPUT];
+    mvpn_explained explained[ASKED];
+    mvpn_matched matched[ASKED], of_tree[ASKED];
+    uint8_t outputs[3][ASKED][MVPN_MATCH_OUTPUT];
     mvpn_table_facts info;
     uint8_t listed[PLACES][MVPN_MATCH_OUTPUT];
     size_t listed_count;
 } answers;
 
-static void ask_flow(answers *got, size_t i)
+/* The flow of number i, or of i - FLOWS. */
+static void ask_flow(answers *got, size_t i, const uint8_t *prefixes, size_t prefixes_len)
 {
-    got->matched[i] = mvpn_match(shared->table, sizeof shared->table, shared->router, 4, shared->sources[i], 4,
-                                 shared->groups[i], 4, got->outputs[0][i], MVPN_MATCH_OUTPUT);
-    got->explained[i] = mvpn_explain(shared->table, sizeof shared->table, shared->router, 4, shared->sources[i], 4,
-                                     shared->groups[i], 4, got->outputs[1][i], MVPN_MATCH_OUTPUT);
-    got->of_tree[i] = mvpn_match_shared(shared->table, sizeof shared->table, shared->router, 4, shared->groups[i], 4,
-                                        (mvpn_shared_tree){ 0, 0, 0 }, shared->actives, shared->actives_size, shared->states,
-                                        shared->states_size, got->outputs[2][i], MVPN_MATCH_OUTPUT);
+    got->matched[i] = mvpn_match(shared->table, sizeof shared->table, prefixes, prefixes_len, shared->router, 4,
+                                 shared->sources[i % FLOWS], 4, shared->groups[i % FLOWS], 4, got->outputs[0][i],
+                                 MVPN_MATCH_OUTPUT);
+    got->explained[i] = mvpn_explain(shared->table, sizeof shared->table, prefixes, prefixes_len, shared->router, 4,
+                                     shared->sources[i % FLOWS], 4, shared->groups[i % FLOWS], 4, got->outputs[1][i],
+                                     MVPN_MATCH_OUTPUT);
+    got->of_tree[i] = mvpn_match_shared(shared->table, sizeof shared->table, prefixes, prefixes_len, shared->router, 4,
+                                        shared->groups[i % FLOWS], 4, (mvpn_shared_tree){ 0, 0, 0 }, shared->actives,
+                                        shared->actives_size, shared->states, shared->states_size, got->outputs[2][i],
+                                        MVPN_MATCH_OUTPUT);
 }
 
 /* The NLRI that is asked about next lies in the answer before. */
@@ -124,8 +133,10 @@ static void list(answers *got)
 static void ask(answers *got)
 {
     memset(got, 0, sizeof *got);
-    for (size_t i = 0; i < FLOWS; i++)
-        ask_flow(got, i);
+    for (size_t i = 0; i < FLOWS; i++) {
+        ask_flow(got, i, mvpn_no_items, sizeof mvpn_no_items);
+        ask_flow(got, FLOWS + i, shared->prefixes, shared->prefixes_size);
+    }
     list(got);
     got->info = mvpn_table_info(shared->table, sizeof shared->table);
 }
@@ -163,11 +174,16 @@ static void at_once(void)
 static void kinds_are_met(void)
 {
     bool met[5] = { false }, tree_met[5] = { false };
-    for (size_t i = 0; i < FLOWS; i++) {
+    unsigned turned = 0, trees_turned = 0;
+    for (size_t i = 0; i < ASKED; i++) {
         same("a flow", "number", alone.matched[i].number, MVPN_DONE);
         same("a shared tree", "number", alone.of_tree[i].number, MVPN_DONE);
         met[alone.matched[i].tier] = tree_met[alone.of_tree[i].tier] = true;
+        turned += alone.matched[i].tier != alone.matched[i % FLOWS].tier;
+        trees_turned += alone.of_tree[i].tier != alone.of_tree[i % FLOWS].tier;
     }
+    same("the flows", "one takes another tier by the prefixes", turned > 0, true);
+    same("the shared trees", "one takes another tier by the prefixes", trees_turned > 0, true);
     for (size_t tier = 1; tier <= 4; tier++)
         same("the flows", "a tier that is met", met[tier], true);
     same("the shared trees", "one has a route", tree_met[3] || tree_met[4], true);

@@ -1,6 +1,6 @@
 //! Document 01's marked examples and the points settled beside it, with the answers written from document 01.
 
-use super::{samples::BAD_AFIS, tables::OUTPUT};
+use super::{lists::EMPTY, samples::BAD_AFIS, tables::OUTPUT};
 use crate::{
     compare::{disagree, Checked, Disagreement, Harness},
     ffi::{Group, Installed, Matched, Walked},
@@ -154,7 +154,7 @@ pub fn in_papers<Answer: PartialEq + Debug>(shows: String, answer: Answer, asked
 
 fn groups(harness: &mut Harness) -> Checked {
     for (afi, group, number, group_class) in GROUPS {
-        in_document(group, harness.group_class(afi, &octets(group))?, Group { number, group_class })?;
+        in_document(group, harness.group_class(afi, EMPTY, &octets(group))?, Group { number, group_class })?;
     }
     Ok(())
 }
@@ -225,7 +225,7 @@ fn installed(harness: &mut Harness, names: &[&str]) -> Result<Vec<u8>, Disagreem
 fn flows(harness: &mut Harness, image: &[u8]) -> Checked {
     for (shows, router, source, group, tier, name) in FLOWS {
         let [router, source, group] = [router, source, group].map(octets);
-        let flow = Flow { router: &router, source: &source, group: &group };
+        let flow = Flow { prefixes: EMPTY, router: &router, source: &source, group: &group };
         let (nlri, attribute) = route(name);
         let [nlri_size, attribute_size] = [&nlri, &attribute].map(|octets| octets.len() as u32);
         let mut output = [nlri, attribute].concat();

@@ -1,6 +1,6 @@
 //! Why a flow takes its route (document 02, W-204): examples with their reasons, and all that is asked of matches.
 
-use super::{document::in_papers, flows, no_tunnel, tables::OUTPUT};
+use super::{document::in_papers, flows, lists::EMPTY, no_tunnel, tables::OUTPUT};
 use crate::{
     compare::{Checked, Harness},
     ffi::Explained,
@@ -68,7 +68,7 @@ impl Example {
     /// Makes the call.
     pub fn ask<Answer>(&self, ask: impl FnOnce(&TableCall) -> Answer) -> Answer {
         let [router, source, group] = [self.router, self.source, self.group].map(octets);
-        let flow = Flow { router: &router, source: &source, group: &group };
+        let flow = Flow { prefixes: EMPTY, router: &router, source: &source, group: &group };
         ask(&explain(flow, &OUTPUT))
     }
 

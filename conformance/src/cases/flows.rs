@@ -1,6 +1,7 @@
 //! Matching, and explaining a match: wildcards of each tier, ties, routers, flows that are refused, and every output size.
 
 use super::{
+    lists::EMPTY,
     routes::{good_attributes, picked, s_pmsi, Addresses},
     samples::GOOD_AFIS,
     tables::OUTPUT,
@@ -49,7 +50,8 @@ fn tiers(harness: &mut Harness, random: &mut Random, addresses: &Addresses, asks
         }
         let memory = Table::holding(addresses.afi, 8, routes).image();
         for (router, source) in [(0, 0), (0, 1), (1, 0), (2, 0), (3, 0)] {
-            let flow = Flow { router: &addresses.routers[router], source: &addresses.sources[source], group };
+            let (router, source) = (&addresses.routers[router], &addresses.sources[source]);
+            let flow = Flow { prefixes: EMPTY, router, source, group };
             harness.table_call(&memory, asks(flow, &OUTPUT))?;
         }
     }
@@ -70,7 +72,7 @@ fn outputs(harness: &mut Harness, random: &mut Random, addresses: &Addresses, as
     for room in (0..=LEAST_OUTPUT + 10).chain([200, 256 + 60, 65_536]) {
         let output = random.octets(room);
         for router in [4, 0, 1] {
-            let flow = Flow { router: &addresses.routers[router], source, group };
+            let flow = Flow { prefixes: EMPTY, router: &addresses.routers[router], source, group };
             harness.table_call(&memory, asks(flow, &output))?;
         }
     }
@@ -83,14 +85,14 @@ fn sizes(harness: &mut Harness, random: &mut Random, addresses: &Addresses, asks
     let memory = table.image();
     let whole = |octets: &[u8]| [octets, &[0; 65_556]].concat();
     for size in (0..=40).chain([256, 260, 272, 65_540, 65_552]) {
-        let Flow { router, source, group } = addresses.flow(random);
+        let Flow { prefixes, router, source, group } = addresses.flow(random);
         for changed in 0..3 {
             let mut fields = [router, source, group].map(<[u8]>::to_vec);
             let mut sized = whole(&fields[changed]);
             let after = sized.split_off(size);
             fields[changed] = sized;
             let [router, source, group] = &fields;
-            let flow = Flow { router, source, group };
+            let flow = Flow { prefixes, router, source, group };
             harness.table_call_before(&memory, asks(flow, &OUTPUT), &after[..after.len().min(16)])?;
         }
     }
@@ -108,7 +110,7 @@ fn groups(harness: &mut Harness, random: &mut Random, addresses: &Addresses, ask
     for (first, second) in (0..=255).flat_map(|first| [0, 0x2F, 0x30, 0x3F, 0x40, 0xFF].map(|second| (first, second))) {
         let mut group = random.octets(addresses.groups[0].len());
         group[..4].copy_from_slice(&[first, second, 0, random.pick(&[0, 0, 1])]);
-        harness.table_call(&memory, asks(Flow { router, source, group: &group }, &OUTPUT))?;
+        harness.table_call(&memory, asks(Flow { prefixes: EMPTY, router, source, group: &group }, &OUTPUT))?;
     }
     Ok(())
 }
@@ -118,7 +120,8 @@ fn refusals(harness: &mut Harness, random: &mut Random, addresses: &Addresses, a
     let table = addresses.table(random, 16, 12);
     let mut unsound = table.image();
     unsound[7] += 1;
-    let good = Flow { router: &addresses.routers[0], source: &addresses.sources[0], group: &addresses.groups[0] };
+    let (router, source, group) = (&addresses.routers[0], &addresses.sources[0], &addresses.groups[0]);
+    let good = Flow { prefixes: EMPTY, router, source, group };
     let flows = [
         good,
         Flow { router: &[10, 0, 0], ..good },
@@ -145,7 +148,7 @@ fn every_flow(harness: &mut Harness, random: &mut Random, addresses: &Addresses,
     for router in &addresses.routers {
         for source in &addresses.sources {
             for group in &addresses.groups {
-                harness.table_call(&memory, asks(Flow { router, source, group }, &OUTPUT))?;
+                harness.table_call(&memory, asks(Flow { prefixes: EMPTY, router, source, group }, &OUTPUT))?;
             }
         }
     }

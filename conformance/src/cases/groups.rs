@@ -1,6 +1,9 @@
-//! Group classes: all leading octets that decide, every size, and random groups.
+//! Group classes by the standard range: all leading octets that decide, every size, and random groups.
 
-use super::samples::{BAD_AFIS, GOOD_AFIS};
+use super::{
+    lists::EMPTY,
+    samples::{BAD_AFIS, GOOD_AFIS},
+};
 use crate::{
     compare::{Checked, Harness, Input},
     random::Random,
@@ -12,14 +15,14 @@ pub fn all(harness: &mut Harness, random: &mut Random) -> Checked {
     for group in [[0xFF; 300], [0xE8; 300], [0; 300]] {
         for afi in GOOD_AFIS.into_iter().chain(BAD_AFIS) {
             for size in 0..=300 {
-                harness.group_class(afi, Input::cut(&group, size))?;
+                harness.group_class(afi, EMPTY, Input::cut(&group, size))?;
             }
         }
     }
     // Sizes that are 4 and 16 in their low 16 bits.
     for (afi, size) in [(1, 65_540), (2, 65_552)] {
-        harness.group_class(afi, &vec![0xFF; size])?;
-        harness.group_class(afi, &vec![0xE8; size])?;
+        harness.group_class(afi, EMPTY, &vec![0xFF; size])?;
+        harness.group_class(afi, EMPTY, &vec![0xE8; size])?;
     }
     Ok(())
 }
@@ -33,7 +36,7 @@ fn ssm_changes(harness: &mut Harness) -> Checked {
             let kept = group[place];
             for value in 0..=255 {
                 group[place] = value;
-                harness.group_class(afi, &group)?;
+                harness.group_class(afi, EMPTY, &group)?;
             }
             group[place] = kept;
         }
@@ -45,13 +48,13 @@ fn ssm_changes(harness: &mut Harness) -> Checked {
 fn leading_octets(harness: &mut Harness, random: &mut Random) -> Checked {
     for pair in 0..=u16::MAX {
         let [first, second] = pair.to_be_bytes();
-        harness.group_class(1, &[first, second, random.octet(), random.octet()])?;
+        harness.group_class(1, EMPTY, &[first, second, random.octet(), random.octet()])?;
         let mut group = random.array::<16>();
         group[..4].copy_from_slice(&[first, second, 0, 0]);
-        harness.group_class(2, &group)?;
+        harness.group_class(2, EMPTY, &group)?;
         group[..2].copy_from_slice(&[0xFF, 0x30 | second & 0x0F]);
         group[2..4].copy_from_slice(&[first, second]);
-        harness.group_class(2, &group)?;
+        harness.group_class(2, EMPTY, &group)?;
     }
     Ok(())
 }

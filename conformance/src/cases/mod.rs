@@ -19,6 +19,9 @@ pub mod no_tunnel;
 pub mod outside;
 pub mod pieces;
 pub mod random_cases;
+pub mod ranges;
+pub mod ranges_examples;
+pub mod ranges_matches;
 pub mod restarts;
 pub mod routes;
 pub mod samples;
@@ -46,6 +49,7 @@ pub fn all(harness: &mut Harness, options: &Options) -> Checked {
     of_following(harness, options)?;
     of_explanations(harness, options)?;
     of_restarts(harness, options)?;
+    of_ranges(harness, options)?;
     of_tables(harness, options)
 }
 
@@ -102,6 +106,11 @@ pub fn of_explanations(harness: &mut Harness, options: &Options) -> Checked {
 /// Routers that restart.
 pub fn of_restarts(harness: &mut Harness, options: &Options) -> Checked {
     restarts::all(harness, &mut Random::new(options.seed), options.cases)
+}
+
+/// Prefixes for source-specific groups, in the class call and in matches of every kind.
+pub fn of_ranges(harness: &mut Harness, options: &Options) -> Checked {
+    ranges::all(harness, &mut Random::new(options.seed), options.cases)
 }
 
 /// The table calls, mixed ones with matches for shared trees among them.

@@ -93,13 +93,14 @@ pub fn answer(tier: u32, name: &str) -> TableAnswer {
 
 pub fn ask_flow<Answer>(source: &str, group: &str, ask: impl FnOnce(&TableCall) -> Answer) -> Answer {
     let [source, group] = [source, group].map(octets);
-    let flow = Flow { router: &ROUTER, source: &source, group: &group };
+    let flow = Flow { prefixes: EMPTY, router: &ROUTER, source: &source, group: &group };
     ask(&TableCall::Match { flow, output: &OUTPUT })
 }
 
 pub fn ask_shared_tree<Answer>(ask: impl FnOnce(&TableCall) -> Answer) -> Answer {
     let group = &[239, 1, 1, 1];
-    let reception = Reception { router: &ROUTER, group, facts: UPSTREAM, source_actives: EMPTY, states: EMPTY };
+    let (prefixes, source_actives, states) = (EMPTY, EMPTY, EMPTY);
+    let reception = Reception { prefixes, router: &ROUTER, group, facts: UPSTREAM, source_actives, states };
     ask(&TableCall::MatchShared { reception, output: &OUTPUT })
 }
 
@@ -117,7 +118,7 @@ pub fn flows(harness: &mut Harness, distinguishers: usize, asks: Asks) -> Checke
         let addresses = Addresses::of_family(afi);
         let source = &addresses.sources[0];
         for group in [&addresses.groups[0], &addresses.groups[2]] {
-            let flow = Flow { router: &addresses.routers[0], source, group };
+            let flow = Flow { prefixes: EMPTY, router: &addresses.routers[0], source, group };
             let shapes = [[source, &group[..]], [source, &[]], [&[], group], [&[], &[]]];
             every_choice(harness, &addresses, &shapes, distinguishers, asks(flow, &OUTPUT))?;
         }
@@ -133,8 +134,8 @@ pub fn shared_trees(harness: &mut Harness) -> Checked {
     for afi in GOOD_AFIS {
         let addresses = Addresses::of_family(afi);
         for group in &addresses.groups[2..4] {
-            let router = &addresses.routers[0];
-            let reception = Reception { router, group, facts: UPSTREAM, source_actives: EMPTY, states: EMPTY };
+            let (router, prefixes, source_actives, states) = (&addresses.routers[0], EMPTY, EMPTY, EMPTY);
+            let reception = Reception { prefixes, router, group, facts: UPSTREAM, source_actives, states };
             let call = TableCall::MatchShared { reception, output: &OUTPUT };
             every_choice(harness, &addresses, &[[&[], group], [&[], &[]]], 3, call)?;
         }

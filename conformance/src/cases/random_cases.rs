@@ -1,6 +1,6 @@
 //! Random and near-valid inputs for every call.
 
-use super::{attribute_writing, near, nlri_writing};
+use super::{attribute_writing, lists::EMPTY, near, nlri_writing};
 use crate::{
     compare::{Checked, Harness},
     random::Random,
@@ -91,5 +91,5 @@ fn group(harness: &mut Harness, random: &mut Random) -> Checked {
         *third = random.pick(&[0, 0, 0, 1]);
         *fourth = random.pick(&[0, 0, 0, 1]);
     }
-    harness.group_class(afi, &octets).map(|_| ())
+    harness.group_class(afi, EMPTY, &octets).map(|_| ())
 }

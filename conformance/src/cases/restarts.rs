@@ -171,7 +171,7 @@ fn examples(harness: &mut Harness) -> Checked {
 fn matches(harness: &mut Harness, memory: &[u8], held: &str) -> Checked {
     let [source, group] = ["C0000201", "E8010101"].map(octets);
     for (router, name, tier) in [(ONE, 'A', 1), (TWO, 'F', 4)] {
-        let flow = Flow { router: &octets(router), source: &source, group: &group };
+        let flow = Flow { prefixes: EMPTY, router: &octets(router), source: &source, group: &group };
         let answer = harness.table_call(memory, TableCall::Match { flow, output: &OUTPUT })?;
         let got = answer.matched().map(|(matched, _)| (matched.number, matched.tier == tier));
         in_papers(format!("document 02, W-208, {name} of {held:?} matches"), got, Some((0, held.contains(name))))?;
@@ -223,10 +223,11 @@ fn every_call(harness: &mut Harness, addresses: &Addresses, memory: &[u8], table
 fn asked(harness: &mut Harness, addresses: &Addresses, memory: &[u8], router: &[u8]) -> Checked {
     let (source, output) = (&addresses.sources[0], &OUTPUT);
     for group in &addresses.groups[..4] {
-        let flow = Flow { router, source, group };
+        let flow = Flow { prefixes: EMPTY, router, source, group };
         harness.table_call(memory, TableCall::Match { flow, output })?;
         harness.table_call(memory, TableCall::Explain { flow, output })?;
-        let reception = Reception { router, group, facts: UPSTREAM, source_actives: EMPTY, states: EMPTY };
+        let (prefixes, source_actives, states) = (EMPTY, EMPTY, EMPTY);
+        let reception = Reception { prefixes, router, group, facts: UPSTREAM, source_actives, states };
         harness.table_call(memory, TableCall::MatchShared { reception, output })?;
     }
     Ok(())
@@ -324,7 +325,7 @@ fn short_lists(harness: &mut Harness, random: &mut Random, addresses: &Addresses
     });
     let (good, bad) = (good_attributes(), bad_attributes());
     let install = |nlri: usize, attribute| TableCall::Install { nlri: &nlris[nlri], attribute };
-    let flow = Flow { router: &routers[0], source: &sources[0], group: &groups[0] };
+    let flow = Flow { prefixes: EMPTY, router: &routers[0], source: &sources[0], group: &groups[0] };
     let calls = [
         install(0, &good[1]),
         install(0, &good[2]),

@@ -1,6 +1,9 @@
 //! S-PMSI A-D routes and flows over few addresses, so that they meet, and arguments that install and match refuse.
 
-use super::samples::{attributes, mldp, nlris};
+use super::{
+    lists::EMPTY,
+    samples::{attributes, mldp, nlris},
+};
 use crate::{
     hexadecimal::octets,
     random::Random,
@@ -19,6 +22,8 @@ pub struct Addresses {
     pub sources: Vec<Vec<u8>>,
     pub groups: Vec<Vec<u8>>,
     pub routers: Vec<Vec<u8>>,
+    /// Lists of prefixes, none of them bad.
+    pub prefixes: Vec<Vec<u8>>,
 }
 
 /// Distinguishers that differ in their first, their last or their highest bit.
@@ -59,6 +64,31 @@ const GROUPS: [[&str; 5]; 2] = [
     ],
 ];
 
+/// Lists of prefixes by which the first, the second, the third, all and none of the groups are SSM, and one of eight whose last
+/// holds the fourth.
+const PREFIXES: [[&str; 6]; 2] = [
+    [
+        "0001 0005 10 E8010000",
+        "0001 0005 20 E8FFFFFF",
+        "0001 0005 08 EF000000",
+        "0001 0005 00 00000000",
+        "0001 0005 08 0A000000",
+        "0008 0005 20E8020202 0005 18E8030300 0005 10E8040000 0005 20E8050505 0005 09EA800000 0005 14EB001000
+         0005 20EF010102 0005 08E7000000",
+    ],
+    [
+        "0001 0011 40 FF3E0000000000000000000000000000",
+        "0001 0011 80 FF30000000000000FFFFFFFFFFFFFFFF",
+        "0001 0011 20 FF3E0001000000000000000000000000",
+        "0001 0011 00 00000000000000000000000000000000",
+        "0001 0011 10 FE300000000000000000000000000000",
+        "0008 0011 40FF3E0000000000010000000000000000 0011 20FF320000000000000000000000000000
+         0011 80FF3E0000000000000000000000000002 0011 30FF3E0000000200000000000000000000
+         0011 1DFF350008000000000000000000000000 0011 7FFF3E0001000000000000000000000002
+         0011 14FF3E1000000000000000000000000000 0011 10FF0E0000000000000000000000000000",
+    ],
+];
+
 impl Addresses {
     pub fn of_family(afi: u16) -> Self {
         let family = usize::from(afi) - 1;
@@ -69,6 +99,7 @@ impl Addresses {
             sources: decoded(&SOURCES[family]),
             groups: decoded(&GROUPS[family]),
             routers: decoded(&ROUTERS),
+            prefixes: decoded(&PREFIXES[family]),
         }
     }
 
@@ -96,8 +127,10 @@ impl Addresses {
         nlris
     }
 
+    /// Half the flows have no prefixes.
     pub fn flow(&self, random: &mut Random) -> Flow<'_> {
         Flow {
+            prefixes: if random.once_in(2) { EMPTY } else { picked(random, &self.prefixes) },
             router: picked(random, &self.routers),
             source: picked(random, &self.sources),
             group: picked(random, &self.groups),

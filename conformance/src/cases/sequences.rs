@@ -91,7 +91,7 @@ fn short_lists(harness: &mut Harness, random: &mut Random, afi: u16, places: usi
         calls.push(TableCall::Withdraw { nlri });
     }
     for router in [&routers[0][..], &routers[1], &[10, 0, 0]] {
-        let flow = Flow { router, source: &sources[0], group: &groups[0] };
+        let flow = Flow { prefixes: EMPTY, router, source: &sources[0], group: &groups[0] };
         calls.push(TableCall::Match { flow, output: &output });
     }
     let wildcards = s_pmsi(&distinguishers[1], &[], &[], &routers[0]);
@@ -101,8 +101,8 @@ fn short_lists(harness: &mut Harness, random: &mut Random, afi: u16, places: usi
         TableCall::Withdraw { nlri: &wildcards },
     ]);
     for router in [&routers[0][..], &routers[1], &[10, 0, 0]] {
-        let (group, source_actives, states) = (&groups[2], EMPTY, EMPTY);
-        let reception = Reception { router, group, facts: UPSTREAM, source_actives, states };
+        let (prefixes, group, source_actives, states) = (EMPTY, &groups[2], EMPTY, EMPTY);
+        let reception = Reception { prefixes, router, group, facts: UPSTREAM, source_actives, states };
         calls.push(TableCall::MatchShared { reception, output: &output });
     }
     let cut = &nlris[0][..20];
@@ -156,7 +156,8 @@ struct Stock {
     bad_nlris: Vec<Vec<u8>>,
     attributes: Vec<Vec<u8>>,
     bad_attributes: Vec<Vec<u8>>,
-    /// Lists of Source Active routes and of states.
+    /// Lists of prefixes, of Source Active routes and of states.
+    prefixes: Vec<Vec<u8>>,
     source_actives: Vec<Vec<u8>>,
     states: Vec<Vec<u8>>,
     outputs: Vec<Vec<u8>>,
@@ -175,6 +176,7 @@ impl Stock {
             bad_nlris: bad_nlris(afi),
             attributes: good_attributes(),
             bad_attributes: bad_attributes(),
+            prefixes: (0..LISTS).map(|_| addresses.any_prefixes(random)).collect(),
             source_actives: (0..LISTS).map(|_| addresses.source_actives(random)).collect(),
             states: (0..LISTS).map(|_| addresses.states(random)).collect(),
             outputs: [0, 60, 123, 124, 124, 124, 130, 200].map(|size| random.octets(size)).to_vec(),
@@ -227,9 +229,13 @@ impl Stock {
         }
     }
 
-    /// A flow, half the time one that an installed NLRI may take; now and then one field has another size.
+    /// A flow, half the time one that an installed NLRI may take; now and then one field has another size. Of four flows two have no
+    /// prefixes, and one has any.
     fn flow(&self, random: &mut Random) -> Flow<'_> {
         let mut flow = self.addresses.flow(random);
+        if flow.prefixes != EMPTY && random.once_in(2) {
+            flow.prefixes = picked(random, &self.prefixes);
+        }
         if !self.installed.is_empty() && random.once_in(2) {
             flow = self.towards(flow, picked(random, &self.installed));
         }
@@ -248,8 +254,9 @@ impl Stock {
         if !self.shared.is_empty() && random.once_in(2) {
             flow = self.towards(flow, picked(random, &self.shared));
         }
-        let Flow { router, group, .. } = flow;
+        let Flow { prefixes, router, group, .. } = flow;
         Reception {
+            prefixes,
             router,
             group,
             facts: any_facts(random),
@@ -264,6 +271,7 @@ impl Stock {
         let Ok(reading) = second.single(self.addresses.afi, nlri) else { return flow };
         let of = |field, own| Some(reading.octets(field)).filter(|octets| !octets.is_empty()).unwrap_or(own);
         Flow {
+            prefixes: flow.prefixes,
             router: reading.octets(Field::Originator),
             source: of(Field::Source, flow.source),
             group: of(Field::Group, flow.group),
@@ -337,6 +345,7 @@ impl<'a> Sequence<'a> {
         let mut books = Books::new(harness.second, self.afi, self.places);
         let mut table = Table::new(self.afi, self.places);
         let mut answers = BTreeMap::new();
+        let mut prefixes = BTreeMap::new();
         for occurrence in order {
             let call = &self.calls[*occurrence];
             let (answer, image) = match self.premise {
@@ -348,6 +357,7 @@ impl<'a> Sequence<'a> {
             let answer = harness.next_call(call, answer, &image)?;
             self.count(harness, *occurrence, &answer);
             self.count_restarts(harness, *occurrence, marked, &answer);
+            self.count_prefixes(harness, *occurrence, &mut prefixes);
             answers.insert(*occurrence, answer);
         }
         let made: Vec<Made> = order.iter().map(|occurrence| (&self.calls[*occurrence], &answers[occurrence])).collect();
@@ -377,6 +387,16 @@ impl<'a> Sequence<'a> {
             _ => return,
         };
         harness.coverage.count(Call::Sequence, seen);
+    }
+
+    /// Counts a match that has other prefixes than its router's match before, whose prefixes `last` keeps.
+    fn count_prefixes(&self, harness: &mut Harness, occurrence: usize, last: &mut BTreeMap<Router, &'a [u8]>) {
+        let (Some(router), Some(prefixes)) = (&self.routers[occurrence], prefixes(&self.calls[occurrence])) else {
+            return;
+        };
+        if last.insert(router.clone(), prefixes).is_some_and(|before| before != prefixes) {
+            harness.coverage.count(Call::Sequence, Seen::OtherPrefixes(self.afi, self.premise));
+        }
     }
 
     fn count(&self, harness: &mut Harness, occurrence: usize, answer: &TableAnswer) {
@@ -424,6 +444,15 @@ fn is_marked(table: &[u8], call: &TableCall) -> bool {
     let (TableCall::Install { nlri, .. } | TableCall::Withdraw { nlri }) = call else { return false };
     let mut places = table[HEADER..].chunks(PLACE);
     places.any(|place| place[PLACE - 1] == 1 && place[2..][..usize::from(place[0])] == **nlri)
+}
+
+/// The prefixes of a match of any kind.
+fn prefixes<'a>(call: &TableCall<'a>) -> Option<&'a [u8]> {
+    match call {
+        TableCall::Match { flow, .. } | TableCall::Explain { flow, .. } => Some(flow.prefixes),
+        TableCall::MatchShared { reception, .. } => Some(reception.prefixes),
+        _ => None,
+    }
 }
 
 /// The calls by rank, the lowest first; calls of equal rank stay in order.

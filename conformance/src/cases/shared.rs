@@ -81,7 +81,7 @@ fn conditions(harness: &mut Harness, random: &mut Random, addresses: &Addresses)
                 let active = list(&[[router.clone(), nlri]]);
                 let source_actives = if conditions & 8 == 0 { EMPTY } else { &active };
                 let facts = told(conditions & 7);
-                let reception = Reception { router, group, facts, source_actives, states: EMPTY };
+                let reception = Reception { prefixes: EMPTY, router, group, facts, source_actives, states: EMPTY };
                 matched(harness, &memory, reception, &OUTPUT)?;
             }
         }
@@ -111,7 +111,7 @@ fn facts(harness: &mut Harness, random: &mut Random, addresses: &Addresses) -> C
         for source_active_unused in values {
             let facts = SharedTree { upstream, bidirectional, source_active_unused };
             let (router, group) = (&addresses.routers[0], &addresses.groups[2]);
-            let reception = Reception { router, group, facts, source_actives: EMPTY, states: EMPTY };
+            let reception = Reception { prefixes: EMPTY, router, group, facts, source_actives: EMPTY, states: EMPTY };
             matched(harness, &memory, reception, &OUTPUT)?;
         }
     }
@@ -140,7 +140,14 @@ fn source_actives(harness: &mut Harness, random: &mut Random, addresses: &Addres
             let [source_actives, states] = [list(&items), list(&states.collect::<Vec<_>>())];
             let (group, facts) = (&groups[2], SharedTree::default());
             for router in [&routers[0], &routers[4]] {
-                let reception = Reception { router, group, facts, source_actives: &source_actives, states: &states };
+                let reception = Reception {
+                    prefixes: EMPTY,
+                    router,
+                    group,
+                    facts,
+                    source_actives: &source_actives,
+                    states: &states,
+                };
                 matched(harness, &memory, reception, &OUTPUT)?;
             }
         }
@@ -165,7 +172,7 @@ fn every_octet(harness: &mut Harness, random: &mut Random, addresses: &Addresses
             let state = list(&[[state_source.clone(), state_group.clone()]]);
             let none = SharedTree::default();
             for (facts, states) in [(none, &state[..]), (none, EMPTY), (UPSTREAM, EMPTY)] {
-                let reception = Reception { router, group, facts, source_actives: &active, states };
+                let reception = Reception { prefixes: EMPTY, router, group, facts, source_actives: &active, states };
                 matched(harness, &memory, reception, &OUTPUT)?;
             }
         }
@@ -197,7 +204,8 @@ fn full_lists(harness: &mut Harness, random: &mut Random, addresses: &Addresses)
         ] {
             let [source_actives, states] = [routes, states].map(list);
             let (router, facts) = (&routers[0], SharedTree::default());
-            let reception = Reception { router, group, facts, source_actives: &source_actives, states: &states };
+            let reception =
+                Reception { prefixes: EMPTY, router, group, facts, source_actives: &source_actives, states: &states };
             matched(harness, &memory, reception, &OUTPUT)?;
         }
     }
@@ -225,7 +233,7 @@ fn outputs(harness: &mut Harness, random: &mut Random, addresses: &Addresses) ->
         let output = random.octets(room);
         for (router, group, bits) in [(4, 2, 1), (0, 2, 2), (0, 2, 0), (1, 2, 4), (0, 0, 7)] {
             let (router, group, facts) = (&routers[router], &groups[group], told(bits));
-            let reception = Reception { router, group, facts, source_actives: EMPTY, states: EMPTY };
+            let reception = Reception { prefixes: EMPTY, router, group, facts, source_actives: EMPTY, states: EMPTY };
             matched(harness, &memory, reception, &output)?;
         }
     }
@@ -239,7 +247,8 @@ fn groups(harness: &mut Harness, random: &mut Random, addresses: &Addresses) -> 
         let mut group = random.octets(addresses.groups[0].len());
         group[..4].copy_from_slice(&[first, second, 0, random.pick(&[0, 0, 1])]);
         let (router, facts) = (&addresses.routers[0], told(1 << random.below(3)));
-        let reception = Reception { router, group: &group, facts, source_actives: EMPTY, states: EMPTY };
+        let reception =
+            Reception { prefixes: EMPTY, router, group: &group, facts, source_actives: EMPTY, states: EMPTY };
         matched(harness, &memory, reception, &OUTPUT)?;
     }
     Ok(())
@@ -255,7 +264,8 @@ fn any(harness: &mut Harness, random: &mut Random, addresses: &Addresses, round:
     let facts = any_facts(random);
     let router = if random.once_in(2) { &addresses.routers[0] } else { flow.router };
     let group = if random.once_in(2) { &addresses.groups[2] } else { flow.group };
-    let reception = Reception { router, group, facts, source_actives: &source_actives, states: &states };
+    let prefixes = flow.prefixes;
+    let reception = Reception { prefixes, router, group, facts, source_actives: &source_actives, states: &states };
     let room = if random.once_in(12) { random.below(LEAST_OUTPUT) } else { OUTPUT.len() };
     matched(harness, &memory, reception, &OUTPUT[..room])
 }

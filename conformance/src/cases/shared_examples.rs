@@ -3,6 +3,7 @@
 
 use super::{
     document::{in_papers, route, table_image, RD},
+    lists::EMPTY,
     tables::OUTPUT,
 };
 use crate::{
@@ -217,6 +218,7 @@ impl Example {
             [self.router, self.group, self.source_actives, self.states].map(|text| octets(&text.replace("RD", RD)));
         let [upstream, bidirectional, source_active_unused] = self.facts;
         let reception = Reception {
+            prefixes: EMPTY,
             router: &router,
             group: &group,
             facts: SharedTree { upstream, bidirectional, source_active_unused },

@@ -42,7 +42,8 @@ impl Good<'_> {
     /// A reception of the first router and an ASM group, to which a route is eligible.
     fn reception<'a>(&'a self, source_actives: &'a [u8], states: &'a [u8]) -> Reception<'a> {
         let Addresses { routers, groups, .. } = self.addresses;
-        Reception { router: &routers[0], group: &groups[2], facts: UPSTREAM, source_actives, states }
+        let (prefixes, router, group) = (EMPTY, &routers[0], &groups[2]);
+        Reception { prefixes, router, group, facts: UPSTREAM, source_actives, states }
     }
 
     /// A reception with these lists, each also with the other one empty, and `after` right behind each.

@@ -134,8 +134,8 @@ fn each_call(
     let output = &OUTPUT;
     let asked = if random.once_in(3) { TableCall::Explain { flow, output } } else { TableCall::Match { flow, output } };
     harness.table_call(memory, asked)?;
-    let Flow { router, group, .. } = flow;
-    let reception = Reception { router, group, facts: UPSTREAM, source_actives: EMPTY, states: EMPTY };
+    let Flow { prefixes, router, group, .. } = flow;
+    let reception = Reception { prefixes, router, group, facts: UPSTREAM, source_actives: EMPTY, states: EMPTY };
     harness.table_call(memory, TableCall::MatchShared { reception, output: &OUTPUT })?;
     let restart = if random.once_in(2) { TableCall::Mark { router } } else { TableCall::Sweep { router } };
     harness.table_call(memory, restart)?;
@@ -156,7 +156,8 @@ fn each_call(
 
 /// A match of one flow, which a (C-*,C-*) route of its router takes too.
 fn match_any(harness: &mut Harness, addresses: &Addresses, memory: Input) -> Checked {
-    let flow = Flow { router: &addresses.routers[0], source: &addresses.sources[0], group: &addresses.groups[0] };
+    let (router, source, group) = (&addresses.routers[0], &addresses.sources[0], &addresses.groups[0]);
+    let flow = Flow { prefixes: EMPTY, router, source, group };
     harness.table_call(memory, TableCall::Match { flow, output: &OUTPUT }).map(drop)
 }
 

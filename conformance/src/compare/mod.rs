@@ -83,6 +83,7 @@ pub struct Harness {
     table: Lent,
     attribute: Lent,
     fec: Lent,
+    prefixes: Lent,
     /// Router, source and group.
     flow: [Lent; 3],
     /// Source Active routes and states.
@@ -150,7 +151,7 @@ impl Harness {
         }
     }
 
-    fn buffers(&self) -> [(&'static str, &Lent); 11] {
+    fn buffers(&self) -> [(&'static str, &Lent); 12] {
         let [router, source, group] = &self.flow;
         let [source_actives, states] = &self.lists;
         [
@@ -159,6 +160,7 @@ impl Harness {
             ("table", &self.table),
             ("attribute", &self.attribute),
             ("FEC", &self.fec),
+            ("list of prefixes", &self.prefixes),
             ("router", router),
             ("source", source),
             ("group", group),

@@ -101,6 +101,7 @@ impl Harness {
             TableCall::Withdraw { nlri } => self.lend(Input { octets: nlri, after }),
             TableCall::Mark { router } | TableCall::Sweep { router } => self.flow[0].place(router, after, pattern),
             TableCall::Match { flow, output } | TableCall::Explain { flow, output } => {
+                self.prefixes.place(flow.prefixes, after, pattern);
                 for (lent, octets) in self.flow.iter_mut().zip([flow.router, flow.source, flow.group]) {
                     lent.place(octets, after, pattern);
                 }
@@ -109,6 +110,7 @@ impl Harness {
             TableCall::MatchShared { reception, output } => {
                 let [router, _, group] = &mut self.flow;
                 let [source_actives, states] = &mut self.lists;
+                self.prefixes.place(reception.prefixes, after, pattern);
                 router.place(reception.router, after, pattern);
                 group.place(reception.group, after, pattern);
                 source_actives.place(reception.source_actives, after, pattern);
@@ -127,17 +129,18 @@ impl Harness {
             TableCall::Mark { .. } => TableAnswer::Restarted(ffi::mark(&mut self.table, &mut self.flow[0])),
             TableCall::Sweep { .. } => TableAnswer::Restarted(ffi::sweep(&mut self.table, &mut self.flow[0])),
             TableCall::Match { .. } => {
-                let matched = ffi::match_flow(&mut self.table, &mut self.flow, &mut self.output);
+                let Harness { table, prefixes, flow, output, .. } = self;
+                let matched = ffi::match_flow(table, prefixes, flow, output);
                 TableAnswer::Matched(matched, self.output.octets().to_vec())
             }
             TableCall::Explain { .. } => {
-                let explained = ffi::explain(&mut self.table, &mut self.flow, &mut self.output);
+                let Harness { table, prefixes, flow, output, .. } = self;
+                let explained = ffi::explain(table, prefixes, flow, output);
                 TableAnswer::Explained(explained, self.output.octets().to_vec())
             }
             TableCall::MatchShared { reception, .. } => {
-                let [router, _, group] = &mut self.flow;
-                let (tree, lists) = ([router, group], &mut self.lists);
-                let matched = ffi::match_shared(&mut self.table, tree, reception.facts, lists, &mut self.output);
+                let Harness { table, prefixes, flow: [router, _, group], lists, output, .. } = self;
+                let matched = ffi::match_shared(table, prefixes, [router, group], reception.facts, lists, output);
                 TableAnswer::Matched(matched, self.output.octets().to_vec())
             }
         }

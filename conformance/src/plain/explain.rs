@@ -20,6 +20,8 @@ const EARLIER_TIER_WON: u32 = 4;
 pub unsafe extern "C" fn explain(
     table: *const u8,
     table_len: usize,
+    prefixes: *const u8,
+    prefixes_len: usize,
     router: *const u8,
     router_len: usize,
     source: *const u8,
@@ -31,7 +33,8 @@ pub unsafe extern "C" fn explain(
 ) -> Explained {
     let (router, source, group) = (lent(router, router_len), lent(source, source_len), lent(group, group_len));
     let output = std::slice::from_raw_parts_mut(output, output_len);
-    let (taken, class) = taken_by(lent(table, table_len), router, source, group, output.len());
+    let (table, prefixes) = (lent(table, table_len), lent(prefixes, prefixes_len));
+    let (taken, class) = taken_by(table, prefixes, [router, source, group], output.len());
     let reasons = match taken {
         Err(_) => [0; 4],
         Ok(taken) => reasons(class, taken.map_or(0, |(tier, _)| tier)),

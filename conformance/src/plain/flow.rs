@@ -25,6 +25,8 @@ const TUNNEL_TYPE: usize = 1;
 pub unsafe extern "C" fn match_flow(
     table: *const u8,
     table_len: usize,
+    prefixes: *const u8,
+    prefixes_len: usize,
     router: *const u8,
     router_len: usize,
     source: *const u8,
@@ -36,7 +38,8 @@ pub unsafe extern "C" fn match_flow(
 ) -> Matched {
     let (router, source, group) = (lent(router, router_len), lent(source, source_len), lent(group, group_len));
     let output = std::slice::from_raw_parts_mut(output, output_len);
-    let (taken, _) = taken_by(lent(table, table_len), router, source, group, output.len());
+    let (table, prefixes) = (lent(table, table_len), lent(prefixes, prefixes_len));
+    let (taken, _) = taken_by(table, prefixes, [router, source, group], output.len());
     answer(taken, output)
 }
 
@@ -55,12 +58,17 @@ pub fn answer(taken: Taken, output: &mut [u8]) -> Matched {
     }
 }
 
-/// The tier and the route that the flow takes, or TABLE, FLOW, SPACE; and the group's class where there is an answer.
+/// The tier and the route that the flow takes, router, source and group, or TABLE, RANGE or SHORT of the prefixes, FLOW, SPACE; and
+/// the group's class where there is an answer.
 #[inline(always)]
-pub fn taken_by<'a>(table: &'a [u8], router: &[u8], source: &[u8], group: &[u8], room: usize) -> (Taken<'a>, u32) {
+pub fn taken_by<'a>(table: &'a [u8], prefixes: &[u8], flow: [&[u8]; 3], room: usize) -> (Taken<'a>, u32) {
     let Some(Sound { afi, taken }) = sound(table) else { return (Err(TABLE), 0) };
-    let (number, class) = class(afi, group);
-    if !matches!(router.len(), 4 | 16) || source.len() != family_size(afi) || number != DONE {
+    let [router, source, group] = flow;
+    let (number, class) = class(afi, prefixes, group);
+    if number != DONE {
+        return (Err(number), 0);
+    }
+    if !matches!(router.len(), 4 | 16) || source.len() != family_size(afi) {
         return (Err(FLOW), 0);
     }
     if room < OUTPUT {

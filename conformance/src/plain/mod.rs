@@ -18,6 +18,7 @@ mod fec;
 mod flow;
 mod following;
 mod group;
+mod list;
 mod nlri_read;
 mod nlri_write;
 mod pieces;
@@ -65,6 +66,7 @@ const ABSENT: u32 = 14;
 const FLOW: u32 = 15;
 const SPACE: u32 = 16;
 const DEEP: u32 = 17;
+const RANGE: u32 = 18;
 
 /// The octets of a customer address under an AFI; 0 for a bad AFI.
 #[inline(always)]

@@ -5,6 +5,7 @@ use super::{
     flow::{answer, lowest, Taken, OUTPUT},
     group::{class, SSM},
     lent,
+    list::{count, field},
     shape::shape,
     sound::{sound, Sound},
     DONE, FLOW, KIND, LENGTH, LONG, SHORT, SPACE, TABLE,
@@ -22,6 +23,8 @@ const SOURCE_ACTIVE: u8 = 5;
 pub unsafe extern "C" fn match_shared(
     table: *const u8,
     table_len: usize,
+    prefixes: *const u8,
+    prefixes_len: usize,
     router: *const u8,
     router_len: usize,
     group: *const u8,
@@ -36,6 +39,7 @@ pub unsafe extern "C" fn match_shared(
 ) -> Matched {
     let output = std::slice::from_raw_parts_mut(output, output_len);
     let told = Told {
+        prefixes: lent(prefixes, prefixes_len),
         router: lent(router, router_len),
         group: lent(group, group_len),
         facts,
@@ -48,6 +52,7 @@ pub unsafe extern "C" fn match_shared(
 
 /// The arguments but for the table and the output.
 struct Told<'a> {
+    prefixes: &'a [u8],
     router: &'a [u8],
     group: &'a [u8],
     facts: SharedTree,
@@ -55,12 +60,16 @@ struct Told<'a> {
     states: &'a [u8],
 }
 
-/// The tier and the route that the shared tree takes, or TABLE, LONG, SHORT, FLOW, a reading number or KIND, SPACE.
+/// The tier and the route that the shared tree takes, or TABLE, RANGE or SHORT of the prefixes, LONG, SHORT, FLOW, a reading number
+/// or KIND, SPACE.
 #[inline(always)]
 fn received<'a>(table: &'a [u8], told: &Told, room: usize) -> Taken<'a> {
     let Sound { afi, taken } = sound(table).ok_or(TABLE)?;
     let family = family_size(afi);
-    let (number, class) = class(afi, told.group);
+    let (number, class) = class(afi, told.prefixes, told.group);
+    if !matches!(number, DONE | FLOW) {
+        return Err(number);
+    }
     if !judge_lists(family, told)? || number != DONE || !is_router(told.router) {
         return Err(FLOW);
     }
@@ -121,15 +130,6 @@ fn is_without_state<const FAMILY: usize>(told: &Told) -> bool {
     })
 }
 
-/// The count of a list; 0 where it is shorter than two octets.
-#[inline(always)]
-fn count(list: &[u8]) -> usize {
-    match list {
-        [high, low, ..] => usize::from(u16::from_be_bytes([*high, *low])),
-        _ => 0,
-    }
-}
-
 /// Whether each item of a list is as asked; none where the list ends before its items do.
 #[inline(always)]
 fn every(list: &[u8], asked: impl Fn([&[u8]; 2]) -> bool) -> Option<bool> {
@@ -146,13 +146,4 @@ fn every(list: &[u8], asked: impl Fn([&[u8]; 2]) -> bool) -> Option<bool> {
 fn items(list: &[u8]) -> impl Iterator<Item = [&[u8]; 2]> {
     let mut rest = &list[2..];
     (0..count(list)).map_while(move |_| Some([field(&mut rest)?, field(&mut rest)?]))
-}
-
-/// The field at the front, which is taken off.
-#[inline(always)]
-fn field<'a>(rest: &mut &'a [u8]) -> Option<&'a [u8]> {
-    let (size, after) = rest.split_first_chunk()?;
-    let (field, after) = after.split_at_checked(usize::from(u16::from_be_bytes(*size)))?;
-    *rest = after;
-    Some(field)
 }

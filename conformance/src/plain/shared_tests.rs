@@ -15,11 +15,13 @@ use crate::{
 const CASES: usize = 40_000;
 
 pub fn matched_shared(table: &[u8], reception: Reception, output: &mut [u8]) -> Matched {
-    let Reception { router, group, facts, source_actives, states } = reception;
+    let Reception { prefixes, router, group, facts, source_actives, states } = reception;
     unsafe {
         plain::match_shared(
             table.as_ptr(),
             table.len(),
+            prefixes.as_ptr(),
+            prefixes.len(),
             router.as_ptr(),
             router.len(),
             group.as_ptr(),
@@ -57,8 +59,8 @@ fn any_lists_as_the_second_decoder() {
         let table = addresses.table(&mut random, 12, round % 12).image();
         let [source_actives, states] = [addresses.source_actives(&mut random), addresses.states(&mut random)];
         let (flow, facts) = (addresses.flow(&mut random), any_facts(&mut random));
-        let (source_actives, states) = (&source_actives[..], &states[..]);
-        let reception = Reception { router: flow.router, group: flow.group, facts, source_actives, states };
+        let (prefixes, source_actives, states) = (flow.prefixes, &source_actives[..], &states[..]);
+        let reception = Reception { prefixes, router: flow.router, group: flow.group, facts, source_actives, states };
         let output = &[0x5A; 130][random.below(9)..];
         let call = TableCall::MatchShared { reception, output };
         assert_eq!(answer(&table, &call), second.on_memory(&table, &call).0, "{call:?}");

@@ -4,6 +4,10 @@
 use crate::{
     cases::{
         damage::DAMAGES,
+        no_tunnel::table_of,
+        ranges_examples::{
+            ask_flow, ask_shared_tree, flow_answers, shared_tree_answer, ASKS, FLOWS, HELD, SHARED_TREES,
+        },
         routes::{bad_attributes, bad_nlris, good_attributes, picked, s_pmsi, Addresses},
         shared::any_facts,
     },
@@ -12,6 +16,7 @@ use crate::{
     random::Random,
     second::{
         choice::Flow,
+        ranges::NO_PREFIXES,
         shared::Reception,
         table_calls::{TableAnswer, TableCall},
         Second,
@@ -99,7 +104,7 @@ impl Table {
     /// The number and the tier, and the NLRI and attribute that stand in an output of `room` octets.
     fn matched(&self, [router, source, group]: [&[u8]; 3], room: usize) -> (u32, u32, [Vec<u8>; 2]) {
         let mut output = vec![0x5A; room];
-        let flow = Flow { router, source, group };
+        let flow = Flow { prefixes: NO_PREFIXES, router, source, group };
         let Matched { number, tier, nlri_size, attribute_size } = matched(&self.0, flow, &mut output);
         let mut attribute = output.split_off(nlri_size as usize);
         let rest = attribute.split_off(attribute_size as usize);
@@ -108,11 +113,13 @@ impl Table {
     }
 }
 
-fn matched(table: &[u8], Flow { router, source, group }: Flow, output: &mut [u8]) -> Matched {
+fn matched(table: &[u8], Flow { prefixes, router, source, group }: Flow, output: &mut [u8]) -> Matched {
     unsafe {
         plain::match_flow(
             table.as_ptr(),
             table.len(),
+            prefixes.as_ptr(),
+            prefixes.len(),
             router.as_ptr(),
             router.len(),
             source.as_ptr(),
@@ -125,11 +132,13 @@ fn matched(table: &[u8], Flow { router, source, group }: Flow, output: &mut [u8]
     }
 }
 
-fn explained(table: &[u8], Flow { router, source, group }: Flow, output: &mut [u8]) -> Explained {
+fn explained(table: &[u8], Flow { prefixes, router, source, group }: Flow, output: &mut [u8]) -> Explained {
     unsafe {
         plain::explain(
             table.as_ptr(),
             table.len(),
+            prefixes.as_ptr(),
+            prefixes.len(),
             router.as_ptr(),
             router.len(),
             source.as_ptr(),
@@ -270,6 +279,21 @@ fn refusals_of_install_and_withdraw_in_their_order() {
     assert_eq!(Table(vec![0; 8]).withdraw(&[]), 11);
 }
 
+/// Document 02, W-209.
+#[test]
+fn matches_by_prefixes() {
+    for row in &FLOWS {
+        for (asks, asked) in ASKS.into_iter().zip(flow_answers(row)) {
+            let answer = ask_flow(row, asks, |call| Table(table_of(row.1)).answer(call));
+            assert_eq!(answer, asked, "{}", row.0);
+        }
+    }
+    for row in &SHARED_TREES {
+        let answer = ask_shared_tree(row, |call| Table(table_of(HELD)).answer(call));
+        assert_eq!(answer, shared_tree_answer(row), "{}", row.0);
+    }
+}
+
 #[test]
 fn unsound_memory() {
     let sound = sound_table();
@@ -349,6 +373,7 @@ struct Stock {
     addresses: Addresses,
     nlris: Vec<Vec<u8>>,
     attributes: Vec<Vec<u8>>,
+    prefixes: Vec<Vec<u8>>,
     source_actives: Vec<Vec<u8>>,
     states: Vec<Vec<u8>>,
 }
@@ -360,6 +385,7 @@ impl Stock {
         Stock {
             nlris,
             attributes: [good_attributes(), bad_attributes()].concat(),
+            prefixes: (0..40).map(|_| addresses.any_prefixes(random)).collect(),
             source_actives: (0..20).map(|_| addresses.source_actives(random)).collect(),
             states: (0..20).map(|_| addresses.states(random)).collect(),
             addresses,
@@ -368,7 +394,10 @@ impl Stock {
 
     fn call(&self, random: &mut Random) -> TableCall<'_> {
         let nlri = picked(random, &self.nlris);
-        let (flow, output) = (self.addresses.flow(random), &[0x5A; 130][random.below(9)..]);
+        let (mut flow, output) = (self.addresses.flow(random), &[0x5A; 130][random.below(9)..]);
+        if random.once_in(2) {
+            flow.prefixes = picked(random, &self.prefixes);
+        }
         match random.below(7) {
             0 => TableCall::Install { nlri, attribute: picked(random, &self.attributes) },
             1 => TableCall::Withdraw { nlri },
@@ -390,6 +419,7 @@ impl Stock {
 
     fn reception<'a>(&'a self, random: &mut Random, flow: Flow<'a>) -> Reception<'a> {
         Reception {
+            prefixes: flow.prefixes,
             router: flow.router,
             group: flow.group,
             facts: any_facts(random),

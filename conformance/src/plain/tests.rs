@@ -2,11 +2,15 @@
 
 use crate::{
     cases::{
+        lists::EMPTY,
         near,
         nlri_writing::{fields, lent},
+        ranges_examples::CLASSES,
+        routes::{picked, Addresses},
     },
     compare::run::MODES,
-    ffi::UNFINISHED,
+    ffi::{Group, UNFINISHED},
+    hexadecimal::octets,
     plain,
     random::Random,
     second::{answers::written, Second},
@@ -27,11 +31,32 @@ fn reading_as_the_second_decoder() {
         assert_eq!(unsafe { plain::walk(afi, mode, pointer, size) }, second.answer_walk(afi, mode, &octets));
         let cursor = random.below(3);
         assert_eq!(unsafe { plain::step(afi, pointer, size, cursor) }, second.answer_step(afi, &octets, cursor));
-        assert_eq!(unsafe { plain::group_class(afi, pointer, size) }, second.answer_group_class(afi, &octets));
+        assert_eq!(class(afi, EMPTY, &octets), second.answer_group_class(afi, EMPTY, &octets));
         let mut octets = near::attribute(&mut random);
         near::disturb(&mut random, &mut octets);
         let reading = unsafe { plain::attribute_read(octets.as_ptr(), octets.len()) };
         assert_eq!(reading, second.answer_attribute_read(&octets));
+    }
+}
+
+fn class(afi: u16, prefixes: &[u8], group: &[u8]) -> Group {
+    unsafe { plain::group_class(afi, prefixes.as_ptr(), prefixes.len(), group.as_ptr(), group.len()) }
+}
+
+/// Any prefixes, mostly good, and groups that they hold or not.
+#[test]
+fn prefixes_as_the_second_decoder() {
+    for (shows, afi, prefixes, group, number, group_class) in CLASSES {
+        assert_eq!(class(afi, &octets(prefixes), &octets(group)), Group { number, group_class }, "{shows}");
+    }
+    let (second, mut random) = (Second::sound(), Random::new(6));
+    let families = [1, 2].map(Addresses::of_family);
+    for _ in 0..CASES {
+        let addresses = &families[random.below(2)];
+        let (afi, prefixes) = (near::afi(&mut random), addresses.any_prefixes(&mut random));
+        let mut group = picked(&mut random, &addresses.groups).to_vec();
+        near::disturb(&mut random, &mut group);
+        assert_eq!(class(afi, &prefixes, &group), second.answer_group_class(afi, &prefixes, &group));
     }
 }
 

@@ -83,8 +83,8 @@ impl Second {
         ffi::Walked { number: walk.number.value(), count, offset, skipped }
     }
 
-    pub fn answer_group_class(&self, afi: u16, group: &[u8]) -> ffi::Group {
-        match self.group_class(afi, group) {
+    pub fn answer_group_class(&self, afi: u16, prefixes: &[u8], group: &[u8]) -> ffi::Group {
+        match self.group_class(afi, prefixes, group) {
             Ok(class) => ffi::Group { number: 0, group_class: class as u32 },
             Err(number) => ffi::Group { number: number.value(), group_class: 0 },
         }

@@ -1,4 +1,5 @@
-//! Each router's book, fed by that router's calls only (document 01, "Mixed calls and each router's book"; document 02, W-208).
+//! Each router's book, fed by that router's calls only (document 01, "Mixed calls and each router's book"; document 02, W-208
+//! and W-209).
 
 use super::{
     choice::Flow,
@@ -27,6 +28,8 @@ struct Entry {
 struct Book {
     entries: BTreeMap<Vec<u8>, Entry>,
     marks: u32,
+    /// The prefixes of the first match, which only a fault looks at.
+    prefixes: Option<Vec<u8>>,
 }
 
 impl Book {
@@ -71,7 +74,10 @@ impl Books {
     pub fn answer(&mut self, call: &TableCall) -> TableAnswer {
         let Some(router) = self.second.router(self.afi, call) else {
             // Such a call has a bad NLRI or router address, so there is a refusal.
-            let number = self.second.refusal(self.afi, call).unwrap_or(Number::Done);
+            let number = match self.second.refusal(self.afi, call) {
+                Some(Number::Range | Number::Short) if self.second.has(Fault::PREFIXES_OF_NOBODY) => Number::Flow,
+                number => number.unwrap_or(Number::Done),
+            };
             return self.second.refused(call, number);
         };
         let second = self.second;
@@ -114,9 +120,10 @@ impl Second {
             }
             return self.refused(call, number);
         }
-        let judge = match self.has(Fault::NO_TUNNEL_IN_BOOKS) {
-            true => Second::with_fault(Fault::NO_TUNNEL_TAKEN),
-            false => *self,
+        let judge = match () {
+            _ if self.has(Fault::NO_TUNNEL_IN_BOOKS) => Second::with_fault(Fault::NO_TUNNEL_TAKEN),
+            _ if self.has(Fault::PREFIXES_IGNORED_IN_BOOKS) => Second::with_fault(Fault::MATCHED_BY_STANDARD),
+            _ => *self,
         };
         match *call {
             TableCall::Install { nlri, attribute } => {
@@ -131,7 +138,11 @@ impl Second {
             }
             TableCall::Sweep { .. } => self.restarted(Ok(book.sweep())),
             TableCall::Match { flow, output } => {
-                self.matched(judge.choice(afi, &flow, output.len(), book.routes()), output)
+                let prefixes = book.prefixes.get_or_insert_with(|| flow.prefixes.to_vec()).clone();
+                let prefixes = if self.has(Fault::PREFIXES_KEPT_IN_BOOKS) { &prefixes } else { flow.prefixes };
+                let flow = Flow { prefixes, ..flow };
+                let choice = judge.choice(afi, &flow, output.len(), book.routes(), Fault::MATCHED_BY_STANDARD);
+                self.matched(choice, output)
             }
             TableCall::Explain { flow, output } => {
                 self.explained(self.explanation(afi, &flow, output.len(), book.routes().collect()), output)

@@ -1,5 +1,5 @@
 //! The route that a customer flow takes (RFC 6625, sections 3.1 and 3.2; document 01, "Which route a flow takes"; RFC 8556,
-//! section 4.1, and document 02, W-202).
+//! section 4.1, and document 02, W-202 and W-209).
 
 use super::{
     attribute::Attribute,
@@ -14,9 +14,10 @@ use super::{
 use crate::hexadecimal::encode;
 use std::fmt::{self, Debug, Formatter};
 
-/// A router asked about and a flow (C-S,C-G).
+/// A router asked about and a flow (C-S,C-G), with the list of prefixes by which its group has its class.
 #[derive(Clone, Copy, PartialEq, Eq)]
 pub struct Flow<'a> {
+    pub prefixes: &'a [u8],
     pub router: &'a [u8],
     pub source: &'a [u8],
     pub group: &'a [u8],
@@ -24,8 +25,8 @@ pub struct Flow<'a> {
 
 impl Debug for Flow<'_> {
     fn fmt(&self, formatter: &mut Formatter) -> fmt::Result {
-        let [router, source, group] = [self.router, self.source, self.group].map(encode);
-        write!(formatter, "router {router}, source {source}, group {group}")
+        let [prefixes, router, source, group] = [self.prefixes, self.router, self.source, self.group].map(encode);
+        write!(formatter, "prefixes {prefixes}, router {router}, source {source}, group {group}")
     }
 }
 
@@ -41,37 +42,62 @@ pub struct Choice<'a> {
 pub const LEAST_OUTPUT: usize = 124;
 
 impl Second {
-    /// What match refuses for its arguments and the family alone: FLOW, SPACE. Gives the group's class.
-    pub(super) fn flow_class(&self, afi: u16, flow: &Flow, room: usize) -> Result<Class, Number> {
+    /// What match refuses for its arguments and the family alone: RANGE and SHORT of the prefixes, FLOW, SPACE.
+    pub(super) fn flow_refusal(&self, afi: u16, flow: &Flow, room: usize) -> Option<Number> {
+        let family = match self.family(afi) {
+            Ok(family) => family,
+            Err(number) => return Some(number),
+        };
         let small = room < LEAST_OUTPUT && !self.has(Fault::SPACE_WHEN_NEEDED);
-        if small && self.has(Fault::SPACE_BEFORE_FLOW) {
-            return Err(Number::Space);
+        let mut refusals = [
+            self.stretches(family, flow.prefixes, flow.group).err(),
+            self.bad_flow(family, flow),
+            small.then_some(Number::Space),
+        ];
+        match () {
+            _ if self.has(Fault::PREFIXES_AFTER_FLOW) => refusals.swap(0, 1),
+            _ if self.has(Fault::SPACE_BEFORE_FLOW) => refusals.swap(1, 2),
+            _ if self.has(Fault::SPACE_BEFORE_PREFIXES) => refusals.rotate_right(1),
+            _ => {}
         }
-        let width = self.family(afi).map(Family::octets)?;
+        refusals.into_iter().flatten().next()
+    }
+
+    /// A router of neither size, a source of another size than the family's, a group of another size or not multicast.
+    fn bad_flow(&self, family: Family, flow: &Flow) -> Option<Number> {
+        let width = family.octets();
         let router = matches!(flow.router.len(), 4 | 16) || self.has(Fault::ROUTER_SIZE_UNJUDGED);
         let source = flow.source.len() == width || self.has(Fault::SOURCE_SIZE_UNJUDGED);
-        if !router || !source {
-            return Err(Number::Flow);
-        }
-        let class = match self.group_class(afi, flow.group) {
-            Err(_) if self.has(Fault::GROUP_NOT_JUDGED) && flow.group.len() == width => Class::Asm,
-            class => class?,
-        };
-        match small {
-            true => Err(Number::Space),
-            false => Ok(class),
+        let unjudged = self.has(Fault::GROUP_NOT_JUDGED) && flow.group.len() == width;
+        let among = self.stretches(family, flow.prefixes, flow.group).unwrap_or_default();
+        let group = unjudged || self.class_among(&among, family, flow.group).is_ok();
+        (!router || !source || !group).then_some(Number::Flow)
+    }
+
+    /// The class of a flow's group. `standard` is the fault that takes the standard range, whatever prefixes are given.
+    pub(super) fn flow_class(&self, afi: u16, flow: &Flow, standard: Fault) -> Result<Class, Number> {
+        let family = self.family(afi)?;
+        let among = self.stretches(family, flow.prefixes, flow.group)?;
+        let among = if self.has(standard) { &[] } else { &among[..] };
+        match self.class_among(among, family, flow.group) {
+            Err(_) if self.has(Fault::GROUP_NOT_JUDGED) && flow.group.len() == family.octets() => Ok(Class::Asm),
+            class => class,
         }
     }
 
-    /// The route of these that the flow takes. FLOW, SPACE.
+    /// The route of these that the flow takes; the refusals first. `standard` as of the class.
     pub(super) fn choice<'a>(
         &self,
         afi: u16,
         flow: &Flow,
         room: usize,
         routes: impl Iterator<Item = Route<'a>>,
+        standard: Fault,
     ) -> Result<Option<Choice<'a>>, Number> {
-        let class = self.flow_class(afi, flow, room)?;
+        if let Some(number) = self.flow_refusal(afi, flow, room) {
+            return Err(number);
+        }
+        let class = self.flow_class(afi, flow, standard)?;
         let chosen = self.first(afi, routes, Fault::NO_TUNNEL_TAKEN, |route| self.tier(route, flow, class));
         // Only under `SpaceWhenNeeded` has a smaller output come this far.
         match chosen {

@@ -21,6 +21,9 @@ pub mod number;
 pub mod pieces;
 #[cfg(test)]
 mod pieces_tests;
+pub mod ranges;
+#[cfg(test)]
+mod ranges_tests;
 pub mod reasons;
 pub mod restarts;
 pub mod rows;

@@ -20,6 +20,7 @@ pub enum Number {
     Flow = 15,
     Space = 16,
     Deep = 17,
+    Range = 18,
 }
 
 impl Number {

@@ -46,7 +46,7 @@ const REASONS: [(u32, Reason); 4] =
 pub type Explanation<'a> = (Option<Choice<'a>>, [u32; 4]);
 
 impl Second {
-    /// The choice among these routes of the router, and why. FLOW, SPACE.
+    /// The choice among these routes of the router, and why; the refusals of match first.
     pub(super) fn explanation<'a>(
         &self,
         afi: u16,
@@ -54,12 +54,14 @@ impl Second {
         room: usize,
         routes: Vec<Route<'a>>,
     ) -> Result<Explanation<'a>, Number> {
-        let choice_in = |room| self.choice(afi, flow, room, routes.iter().copied());
+        let standard = Fault::EXPLAINED_BY_STANDARD;
+        let choice_in = |room| self.choice(afi, flow, room, routes.iter().copied(), standard);
         let choice = match choice_in(room) {
             Err(Number::Space) if self.has(Fault::EXPLAINED_NO_ROOM) && choice_in(LEAST_OUTPUT) == Ok(None) => None,
             choice => choice?,
         };
-        let class = match self.group_class(afi, flow.group)? {
+        let standard = if self.has(standard) { standard } else { Fault::REASONS_BY_STANDARD };
+        let class = match self.flow_class(afi, flow, standard)? {
             Class::Asm if self.has(Fault::REASONS_OF_OTHER_CLASS) => Class::Ssm,
             Class::Ssm if self.has(Fault::REASONS_OF_OTHER_CLASS) => Class::Asm,
             class => class,

@@ -1,5 +1,5 @@
-//! The match for a shared tree (RFC 6625, section 3.2.2; document 02, W-201): refusals, conditions and kinds of route as
-//! rows, each tried in turn.
+//! The match for a shared tree (RFC 6625, section 3.2.2; document 02, W-201 and W-209): refusals, conditions and kinds of route
+//! as rows, each tried in turn.
 
 use super::{
     choice::{Choice, LEAST_OUTPUT},
@@ -8,15 +8,18 @@ use super::{
     lists::List,
     nlri::Reading,
     number::Number,
+    ranges::Stretch,
     rows::{Family, Field, SOURCE_ACTIVE},
     table::Route,
     Second,
 };
 use crate::ffi::SharedTree;
 
-/// A shared tree (C-*,C-G) to be received from a PE: what the daemon tells of it, and the two lists as they are lent.
+/// A shared tree (C-*,C-G) to be received from a PE: what the daemon tells of it, and the lists as they are lent, that of the
+/// prefixes by which the group has its class and the two others.
 #[derive(Clone, Copy, Debug, PartialEq, Eq)]
 pub struct Reception<'a> {
+    pub prefixes: &'a [u8],
     pub router: &'a [u8],
     pub group: &'a [u8],
     pub facts: SharedTree,
@@ -34,6 +37,7 @@ struct Arguments<'a> {
     afi: u16,
     family: Family,
     reception: Reception<'a>,
+    prefixes: Result<Vec<Stretch>, Number>,
     /// Originator and NLRI of each.
     source_actives: List<'a, 2>,
     /// Source and group of each.
@@ -45,14 +49,25 @@ struct Arguments<'a> {
 type Refusal = fn(&Second, &Arguments) -> Option<Number>;
 
 /// What the arguments and the family can cause, in the order of the call.
-const REFUSALS: [Refusal; 5] = [Second::long, Second::short, Second::bad_address, Second::bad_route, Second::small];
+const REFUSALS: [Refusal; 6] = [
+    |_, arguments| arguments.prefixes.as_ref().err().copied(),
+    Second::long,
+    Second::short,
+    Second::bad_address,
+    Second::bad_route,
+    Second::small,
+];
 
-/// Faults that try two of them, by place, in the other order.
-const EXCHANGED: [(Fault, usize, usize); 4] = [
-    (Fault::LONG_AFTER_SHORT, 0, 1),
-    (Fault::SHORT_AFTER_FLOW, 1, 2),
-    (Fault::FLOW_AFTER_ROUTES, 2, 3),
-    (Fault::SPACE_BEFORE_ROUTES, 3, 4),
+/// Faults that try one of them, by place, only after another.
+const POSTPONED: [(Fault, usize, usize); 8] = [
+    (Fault::PREFIXES_AFTER_LONG, 0, 1),
+    (Fault::PREFIXES_AFTER_LISTS, 0, 2),
+    (Fault::PREFIXES_AFTER_ADDRESSES, 0, 3),
+    (Fault::PREFIXES_LAST, 0, 5),
+    (Fault::LONG_AFTER_SHORT, 1, 2),
+    (Fault::SHORT_AFTER_FLOW, 2, 3),
+    (Fault::FLOW_AFTER_ROUTES, 3, 4),
+    (Fault::SPACE_BEFORE_ROUTES, 4, 5),
 ];
 
 type Condition = fn(&Second, &Arguments) -> bool;
@@ -68,12 +83,13 @@ const CONDITIONS: [(Condition, Fault); 4] = [
 impl Second {
     fn arguments<'a>(&self, afi: u16, reception: &Reception<'a>, room: usize) -> Result<Arguments<'a>, Number> {
         let family = self.family(afi)?;
+        let prefixes = self.stretches(family, reception.prefixes, reception.group);
         let [source_actives, states] = [reception.source_actives, reception.states].map(|octets| self.list(octets));
-        Ok(Arguments { afi, family, reception: *reception, source_actives, states, room })
+        Ok(Arguments { afi, family, reception: *reception, prefixes, source_actives, states, room })
     }
 
-    /// What the call refuses for its arguments and the family alone: LONG, SHORT, FLOW, of each Source Active route its
-    /// reading number or KIND, SPACE.
+    /// What the call refuses for its arguments and the family alone: RANGE and SHORT of the prefixes, LONG, SHORT, FLOW, of each
+    /// Source Active route its reading number or KIND, SPACE.
     pub(super) fn reception_refusal(&self, afi: u16, reception: &Reception, room: usize) -> Option<Number> {
         match self.arguments(afi, reception, room) {
             Ok(arguments) => self.first_refusal(&arguments),
@@ -83,8 +99,8 @@ impl Second {
 
     fn first_refusal(&self, arguments: &Arguments) -> Option<Number> {
         let mut refusals = REFUSALS;
-        for (_, left, right) in EXCHANGED.iter().filter(|(fault, _, _)| self.has(*fault)) {
-            refusals.swap(*left, *right);
+        for (_, first, last) in POSTPONED.iter().filter(|(fault, _, _)| self.has(*fault)) {
+            refusals[*first..=*last].rotate_left(1);
         }
         refusals.iter().find_map(|refusal| refusal(self, arguments))
     }
@@ -107,8 +123,8 @@ impl Second {
 
     /// An address of a size that it may not have. Only the group asked must be multicast.
     fn bad_address(&self, arguments: &Arguments) -> Option<Number> {
-        let Arguments { afi, family, reception, source_actives, states, .. } = arguments;
-        let multicast = |group: &[u8]| self.group_class(*afi, group).is_ok();
+        let Arguments { family, reception, source_actives, states, .. } = arguments;
+        let multicast = |group: &[u8]| self.standard_class(*family, group).is_ok();
         let family_sizes = &[family.octets()][..];
         let originator_sizes = if self.has(Fault::ORIGINATORS_BY_FAMILY) { family_sizes } else { ROUTER_SIZES };
         let originators = source_actives.items.iter().map(|[originator, _]| (*originator, originator_sizes));
@@ -117,7 +133,7 @@ impl Second {
         let asked = [(reception.router, ROUTER_SIZES), (reception.group, family_sizes)];
         let sized = asked.into_iter().chain(listed).all(|(address, sizes)| sizes.contains(&address.len()));
         let groups = !self.has(Fault::STATES_MULTICAST) || states.items.iter().all(|[_, group]| multicast(group));
-        (!sized || !groups || !multicast(reception.group)).then_some(Number::Flow)
+        (!sized || !groups || self.class(arguments).is_none()).then_some(Number::Flow)
     }
 
     /// The first Source Active route that is not read, or is of another type.
@@ -165,7 +181,11 @@ impl Second {
 
     /// The class of the group asked.
     fn class(&self, arguments: &Arguments) -> Option<Class> {
-        self.group_class(arguments.afi, arguments.reception.group).ok()
+        let prefixes = match &arguments.prefixes {
+            Ok(prefixes) if !self.has(Fault::SHARED_BY_STANDARD) => &prefixes[..],
+            _ => &[],
+        };
+        self.class_among(prefixes, arguments.family, arguments.reception.group).ok()
     }
 
     /// A fact is 0 or not.

@@ -2,6 +2,7 @@
 
 use super::{
     lists::List,
+    ranges::NO_PREFIXES,
     shared::Reception,
     table::Table,
     table_calls::{TableAnswer, TableCall},
@@ -66,7 +67,7 @@ fn written_examples() {
 #[test]
 fn no_table() {
     let (router, group, facts) = (&[][..], &[][..], SharedTree::default());
-    let reception = Reception { router, group, facts, source_actives: &[1, 1], states: &[] };
+    let reception = Reception { prefixes: NO_PREFIXES, router, group, facts, source_actives: &[1, 1], states: &[] };
     let (answer, _) = Second::sound().on_memory(&[], &TableCall::MatchShared { reception, output: &[] });
     assert_eq!(answer, TableAnswer::Matched(Matched { number: 11, ..Default::default() }, vec![]));
 }
@@ -91,7 +92,8 @@ fn ties() {
     }
     let facts = SharedTree { bidirectional: 7, ..Default::default() };
     let mut tier_and_route = |router: &[u8], group: &[u8]| {
-        let reception = Reception { router, group, facts, source_actives: &[0, 0], states: &[0, 0] };
+        let (prefixes, source_actives, states) = (NO_PREFIXES, &[0, 0], &[0, 0]);
+        let reception = Reception { prefixes, router, group, facts, source_actives, states };
         match second.on_table(&mut table, &TableCall::MatchShared { reception, output: &[0; 124] }) {
             TableAnswer::Matched(matched, output) => (matched.tier, output[..matched.nlri_size as usize].to_vec()),
             other => panic!("{other:?}"),
@@ -109,7 +111,7 @@ fn ties() {
 fn routers_of_calls() {
     let asked = |router| {
         let facts = SharedTree::default();
-        let reception = Reception { router, group: &[], facts, source_actives: &[], states: &[] };
+        let reception = Reception { prefixes: &[], router, group: &[], facts, source_actives: &[], states: &[] };
         Second::sound().router(1, &TableCall::MatchShared { reception, output: &[] })
     };
     assert_eq!(asked(&[10, 0, 0, 2]), Some(vec![10, 0, 0, 2]));

@@ -84,10 +84,13 @@ impl Debug for TableCall<'_> {
                 write!(formatter, "mvpn_explain({flow:?}, output of {})", output.len())
             }
             TableCall::MatchShared { reception, output } => {
-                let Reception { router, group, facts, source_actives, states } = reception;
-                let [router, group, source_actives, states] =
-                    [router, group, source_actives, states].map(|it| encode(it));
-                write!(formatter, "mvpn_match_shared(router {router}, group {group}, {facts:?}, ")?;
+                let Reception { prefixes, router, group, facts, source_actives, states } = reception;
+                let [prefixes, router, group, source_actives, states] =
+                    [prefixes, router, group, source_actives, states].map(|it| encode(it));
+                write!(
+                    formatter,
+                    "mvpn_match_shared(prefixes {prefixes}, router {router}, group {group}, {facts:?}, "
+                )?;
                 write!(formatter, "source_actives {source_actives}, states {states}, output of {})", output.len())
             }
         }
@@ -146,6 +149,9 @@ impl Second {
     fn unsound(&self, memory: &[u8], call: &TableCall, number: Number) -> Number {
         match memory.get(5) {
             Some(afi) if self.has(Fault::TABLE_LAST) => self.refusal(u16::from(*afi), call).unwrap_or(number),
+            Some(afi) if self.has(Fault::PREFIXES_BEFORE_TABLE) => {
+                self.refusal(u16::from(*afi), call).filter(|first| *first == Number::Range).unwrap_or(number)
+            }
             _ => number,
         }
     }
@@ -157,7 +163,7 @@ impl Second {
             TableCall::Withdraw { nlri } => self.s_pmsi(afi, nlri).err(),
             TableCall::Mark { router } | TableCall::Sweep { router } => self.restarting(afi, router).err(),
             TableCall::Match { flow, output } | TableCall::Explain { flow, output } => {
-                self.flow_class(afi, &flow, output.len()).err()
+                self.flow_refusal(afi, &flow, output.len())
             }
             TableCall::MatchShared { reception, output } => self.reception_refusal(afi, &reception, output.len()),
         }
@@ -185,7 +191,8 @@ impl Second {
             TableCall::Sweep { router } => self.restarted(self.sweep(table, router)),
             TableCall::Match { flow, output } => {
                 let candidates = self.candidates(table, flow.router, Fault::MARKED_TAKES_NO_FLOW);
-                self.matched(self.choice(table.afi, &flow, output.len(), candidates), output)
+                let choice = self.choice(table.afi, &flow, output.len(), candidates, Fault::MATCHED_BY_STANDARD);
+                self.matched(choice, output)
             }
             TableCall::Explain { flow, output } => {
                 let candidates = self.candidates(table, flow.router, Fault::MARKED_UNEXPLAINED).collect();

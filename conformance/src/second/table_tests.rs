@@ -4,6 +4,7 @@ use super::{
     books::Books,
     choice::Flow,
     number::Number,
+    ranges::NO_PREFIXES,
     shared::Reception,
     table::Table,
     table_calls::{TableAnswer, TableCall},
@@ -44,7 +45,7 @@ fn document_examples() {
     for (shows, router, source, group, tier, name) in FLOWS {
         let [router, source, group] = [router, source, group].map(octets);
         let (nlri, attribute) = route(name);
-        let flow = Flow { router: &router, source: &source, group: &group };
+        let flow = Flow { prefixes: NO_PREFIXES, router: &router, source: &source, group: &group };
         let asked = Matched { number: 0, tier, nlri_size: nlri.len() as u32, attribute_size: attribute.len() as u32 };
         let mut output = [nlri, attribute].concat();
         output.resize(124, 7);
@@ -165,7 +166,8 @@ fn books_and_table() {
             let (nlri, flow) = (picked(&mut random, &nlris), addresses.flow(&mut random));
             let [source_actives, states] = [addresses.source_actives(&mut random), addresses.states(&mut random)];
             let (facts, source_actives, states) = (any_facts(&mut random), &source_actives[..], &states[..]);
-            let reception = Reception { router: flow.router, group: flow.group, facts, source_actives, states };
+            let Flow { prefixes, router, group, .. } = flow;
+            let reception = Reception { prefixes, router, group, facts, source_actives, states };
             let call = match random.below(7) {
                 0 => TableCall::Install { nlri, attribute: picked(&mut random, &attributes) },
                 1 => TableCall::Withdraw { nlri },
@@ -194,7 +196,10 @@ fn routers_of_calls() {
         router(TableCall::Install { nlri: &[1, 12, 0, 0, 0, 0, 0, 0, 0, 0, 10, 0, 0, 1], attribute: &attribute }),
         None
     );
-    let asked = |router| TableCall::Match { flow: Flow { router, source: &[], group: &[] }, output: &[] };
+    let asked = |router| {
+        let flow = Flow { prefixes: &[], router, source: &[], group: &[] };
+        TableCall::Match { flow, output: &[] }
+    };
     assert_eq!(router(asked(&[10, 0, 0, 2])), Some(vec![10, 0, 0, 2]));
     assert_eq!(router(asked(&[10, 0, 0, 2, 0])), None);
 }

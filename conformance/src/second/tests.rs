@@ -1,6 +1,6 @@
 //! The second decoder on document 01's examples, and on layouts spelled out from the RFCs.
 
-use super::{fault::Fault, number::Number, rows::Field, Second};
+use super::{fault::Fault, number::Number, ranges::NO_PREFIXES, rows::Field, Second};
 use crate::{
     cases::{
         document::{ATTRIBUTES, GROUPS, LISTED, LISTED_TEXT, NLRIS, RD},
@@ -16,7 +16,11 @@ use crate::{
 fn document_examples() {
     let second = Second::sound();
     for (afi, group, number, group_class) in GROUPS {
-        assert_eq!(second.answer_group_class(afi, &octets(group)), Group { number, group_class }, "{group}");
+        assert_eq!(
+            second.answer_group_class(afi, NO_PREFIXES, &octets(group)),
+            Group { number, group_class },
+            "{group}"
+        );
     }
     for (shows, afi, text, number) in NLRIS {
         let nlri = octets(&text.replace("RD", RD));

@@ -13,6 +13,8 @@
 -- `firstItem asked (λ x. true) false` of `listItems FIELDS list`, its measure is `left`, and its invariant
 --     Going FIELDS list (firstItem asked (λ x. true) false) (firstItem asked (λ x. true) false) left (drop at list)
 -- A loop that answers the first fault's number, or whether every item meets a test, has another `firstItem`. Every need is `(λ c. search going)`.
+-- Where a loop carries a value along, what the items come to from that value on takes the place of the second `firstItem`: a turn is then `turned`,
+-- and what is returned in it and at the end `first-left` and `none-left`.
 use Prim.Native.Nat.{ℕ, _-_, _≤_, _<_}
 use mathlib.Core.Path.{_≡_, refl, sym, _∙_, ap}
 use mathlib.Core.Bool.{Bool, true, false, not}
@@ -48,15 +50,15 @@ module _ {A : Type 0} {fields : ℕ} {list : List ℕ} {all rest : List Item →
   going-here more = both-true-left _ _ (whole-first more)
 
   -- a turn: the item at the cursor, and those after it
-  first-left : 0 < left → all (listItems fields list) ≡ rest (frontItem fields t ∷ frontItems fields (left - 1) (afterItem fields t))
+  pub first-left : 0 < left → all (listItems fields list) ≡ rest (frontItem fields t ∷ frontItems fields (left - 1) (afterItem fields t))
   unfolding frontItems
   first-left more = going .same ∙ ap (λ (n : ℕ). rest (frontItems fields n t)) (left-some left more)
 
-  none-left : left ≤ 0 → all (listItems fields list) ≡ rest []
+  pub none-left : left ≤ 0 → all (listItems fields list) ≡ rest []
   unfolding frontItems
   none-left end = going .same ∙ ap (λ (n : ℕ). rest (frontItems fields n t)) (left-none left end)
 
-  turned : (rest′ : List Item → A) (t′ : List ℕ) → 0 < left → t′ ≡ afterItem fields t → ((xs : List Item) → rest (frontItem fields t ∷ xs) ≡ rest′ xs) → Going fields list all rest′ (left - 1) t′
+  pub turned : (rest′ : List Item → A) (t′ : List ℕ) → 0 < left → t′ ≡ afterItem fields t → ((xs : List Item) → rest (frontItem fields t ∷ xs) ≡ rest′ xs) → Going fields list all rest′ (left - 1) t′
   turned rest′ t′ more e f = rw e (record { whole = both-true-right _ _ (whole-first more); same = first-left more ∙ f _ })
 
 -- a loop that ends at the first item that meets a test

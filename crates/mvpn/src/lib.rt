@@ -8,7 +8,8 @@ ghost use Rattle.nlri.specs.Writing.{writeNlri};
 ghost use Rattle.runs.specs.Walking.{stepFrom, refusedAt};
 ghost use Rattle.runs.specs.Modes.{walkBy};
 ghost use Rattle.pieces.specs.Feeding.{startOf, feedOf, finishOf};
-ghost use Rattle.nlri.specs.Groups.{classOf, groupOf};
+ghost use Rattle.nlri.specs.Groups.{groupOf};
+ghost use Rattle.groups.specs.Classes.{classBy};
 ghost use Rattle.nlri.specs.Answers.{structFields, nlriAnswer};
 ghost use Rattle.tunnel.specs.Answers.{readStruct, writeOutcome};
 ghost use Rattle.routes.specs.Query.{flowOf};
@@ -116,9 +117,9 @@ impl AttributeAnswer {
 // The version of the library, as the file VERSION has it: major, minor and patch, each an octet of the number.
 #[no_mangle]
 pub extern "C" fn mvpn_version() -> u32
-    ensures { λ r. ⌜ r ≡ 0 * 65536 + 12 * 256 + 0 ⌝ }
+    ensures { λ r. ⌜ r ≡ 0 * 65536 + 13 * 256 + 0 ⌝ }
 {
-    0 * 65536 + 12 * 256 + 0
+    0 * 65536 + 13 * 256 + 0
 }
 
 // Reads a single NLRI.
@@ -201,10 +202,10 @@ pub extern "C" fn mvpn_pieces_finish(reader: Pieces) -> Pieces
 
 // The class of a customer group.
 #[no_mangle]
-pub extern "C" fn mvpn_group_class(afi: u16, group: &[u8]) -> Group
-    ensures { λ r. ⌜ r ≡ groupOf (classOf afi (now (group .entry))) ⌝ }
+pub extern "C" fn mvpn_group_class(afi: u16, prefixes: &[u8], group: &[u8]) -> Group
+    ensures { λ r. ⌜ r ≡ groupOf (classBy afi (now (prefixes .entry)) (now (group .entry))) ⌝ }
 {
-    nlri::group_class(afi, group)
+    groups::group_class(afi, prefixes, group)
 }
 
 // Reads a PMSI Tunnel attribute.
@@ -286,36 +287,39 @@ pub extern "C" fn mvpn_sweep(table: &mut [u8], router: &[u8]) -> Restarted
 #[no_mangle]
 pub extern "C" fn mvpn_match(
     table: &[u8],
+    prefixes: &[u8],
     router: &[u8],
     source: &[u8],
     group: &[u8],
     output: &mut [u8],
 ) -> Matched
-    ensures { λ r. ⌜ r ≡ matchOf (now (table .entry)) (ofFlow (flowOf (now (router .entry)) (now (source .entry)) (now (group .entry)))) (now (output .entry)) .answer ⌝ }
-    ensures { λ r. ⌜ now (output .exit) ≡ matchOf (now (table .entry)) (ofFlow (flowOf (now (router .entry)) (now (source .entry)) (now (group .entry)))) (now (output .entry)) .octets ⌝ }
+    ensures { λ r. ⌜ r ≡ matchOf (now (table .entry)) (ofFlow (flowOf (now (prefixes .entry)) (now (router .entry)) (now (source .entry)) (now (group .entry)))) (now (output .entry)) .answer ⌝ }
+    ensures { λ r. ⌜ now (output .exit) ≡ matchOf (now (table .entry)) (ofFlow (flowOf (now (prefixes .entry)) (now (router .entry)) (now (source .entry)) (now (group .entry)))) (now (output .entry)) .octets ⌝ }
 {
-    table::match_flow(table, router, source, group, output)
+    table::match_flow(table, prefixes, router, source, group, output)
 }
 
 // The same, and why each tier was taken or not.
 #[no_mangle]
 pub extern "C" fn mvpn_explain(
     table: &[u8],
+    prefixes: &[u8],
     router: &[u8],
     source: &[u8],
     group: &[u8],
     output: &mut [u8],
 ) -> Explained
-    ensures { λ r. ⌜ r ≡ explainOf (now (table .entry)) (flowOf (now (router .entry)) (now (source .entry)) (now (group .entry))) (now (output .entry)) .answer ⌝ }
-    ensures { λ r. ⌜ now (output .exit) ≡ explainOf (now (table .entry)) (flowOf (now (router .entry)) (now (source .entry)) (now (group .entry))) (now (output .entry)) .octets ⌝ }
+    ensures { λ r. ⌜ r ≡ explainOf (now (table .entry)) (flowOf (now (prefixes .entry)) (now (router .entry)) (now (source .entry)) (now (group .entry))) (now (output .entry)) .answer ⌝ }
+    ensures { λ r. ⌜ now (output .exit) ≡ explainOf (now (table .entry)) (flowOf (now (prefixes .entry)) (now (router .entry)) (now (source .entry)) (now (group .entry))) (now (output .entry)) .octets ⌝ }
 {
-    table::explain(table, router, source, group, output)
+    table::explain(table, prefixes, router, source, group, output)
 }
 
 // Finds the route that a shared tree takes.
 #[no_mangle]
 pub extern "C" fn mvpn_match_shared(
     table: &[u8],
+    prefixes: &[u8],
     router: &[u8],
     group: &[u8],
     facts: Facts,
@@ -323,10 +327,19 @@ pub extern "C" fn mvpn_match_shared(
     states: &[u8],
     output: &mut [u8],
 ) -> Matched
-    ensures { λ r. ⌜ r ≡ matchOf (now (table .entry)) (ofSharedTree (treeOf (now (router .entry)) (now (group .entry)) facts (now («source_actives» .entry)) (now (states .entry)))) (now (output .entry)) .answer ⌝ }
-    ensures { λ r. ⌜ now (output .exit) ≡ matchOf (now (table .entry)) (ofSharedTree (treeOf (now (router .entry)) (now (group .entry)) facts (now («source_actives» .entry)) (now (states .entry)))) (now (output .entry)) .octets ⌝ }
+    ensures { λ r. ⌜ r ≡ matchOf (now (table .entry)) (ofSharedTree (treeOf (now (prefixes .entry)) (now (router .entry)) (now (group .entry)) facts (now («source_actives» .entry)) (now (states .entry)))) (now (output .entry)) .answer ⌝ }
+    ensures { λ r. ⌜ now (output .exit) ≡ matchOf (now (table .entry)) (ofSharedTree (treeOf (now (prefixes .entry)) (now (router .entry)) (now (group .entry)) facts (now («source_actives» .entry)) (now (states .entry)))) (now (output .entry)) .octets ⌝ }
 {
-    table::match_shared(table, router, group, facts, source_actives, states, output)
+    table::match_shared(
+        table,
+        prefixes,
+        router,
+        group,
+        facts,
+        source_actives,
+        states,
+        output,
+    )
 }
 
 // Finds the route that comes next after an NLRI in the table's order, and writes it at the front of the output.

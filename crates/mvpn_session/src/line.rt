@@ -86,8 +86,10 @@ fn match_of(text: &[u8], at: usize, table: &[u8], router: &[u8], output: &mut [u
     let mut group = [0u8; FIELD];
     let source_size = script::decode(text, at, &mut source);
     let group_size = script::decode(text, script::past(text, at, b' '), &mut group);
+    let prefixes = [0u8; 2];
     let answer = table::match_flow(
         table,
+        &prefixes,
         router,
         between(&source, 0, source_size),
         between(&group, 0, group_size),

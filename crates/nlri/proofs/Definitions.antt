@@ -11,3 +11,4 @@ pub mod Starts
 pub mod Whole
 pub mod Keys
 pub mod Writes
+pub mod Groups

@@ -1,5 +1,5 @@
--- What a caller sees of the answers of reading, of writing and of the class of a group, from the call's own arguments (document 01, "The numbers a
--- call gives back"; W-207). Stated here, proved in proofs/Statements/AnswerRules.antt.
+-- What a caller sees of the answers of reading and of writing, from the call's own arguments (document 01, "The numbers a call gives back";
+-- W-207). Stated here, proved in proofs/Statements/AnswerRules.antt.
 use Prim.Native.Nat.{ℕ, _-_, _≤_, _<_}
 use mathlib.Core.Path.{_≡_}
 use mathlib.Core.List.{List, _++_}
@@ -18,9 +18,8 @@ use Rattle.nlri.specs.Family.{familyBits}
 use Rattle.nlri.specs.Fields.{Fields, encodeNlri, WellFormed}
 use Rattle.nlri.specs.Reading.{readNlri}
 use Rattle.nlri.specs.Writing.{writeNlri}
-use Rattle.nlri.specs.Groups.{classOf, groupOf}
 use Rattle.nlri.specs.Answers.{structFields, nlriAnswer}
-use Rattle.nlri.specs.Statements.{ReadAs, StructHoldsOctets, ReadRefusal, WriteRefusal, Multicast, SourceSpecific, GroupRefusal}
+use Rattle.nlri.specs.Statements.{ReadAs, StructHoldsOctets, ReadRefusal, WriteRefusal}
 
 -- an address in an answer: how many octets it has, and these octets with zeros to the end of the sixteen
 pub record AddressTold (told : List ℕ) (address : Address) : Type 0 where
@@ -104,11 +103,6 @@ pub record WriteAnswer (afi : ℕ) (nlri : Nlri) (keyOctets fecOctets before : L
   pub argued : NlriGiven nlri keyOctets fecOctets fields
   pub answering : Answering (answer .number) (WriteRefusal afi fields (length before)) (NlriWritten afi fields before answer after) (NothingWritten before answer after)
 
--- the class of a multicast group: ASM is 1, SSM is 2
-pub data ClassTold (afi : ℕ) (group : List ℕ) : (class : ℕ) → Type 0 where
-  asm : Multicast afi group → (SourceSpecific afi group → ⊥) → ClassTold afi group 1
-  ssm : SourceSpecific afi group → ClassTold afi group 2
-
 -- the answers, as the contracts have them
 pub record NlriAnswers : Type 0 where
   -- reading a single NLRI
@@ -117,6 +111,3 @@ pub record NlriAnswers : Type 0 where
   -- writing one: whatever answer and output its contract allows, of arguments that hold octets
   pub writes : (afi : ℕ) (nlri : Nlri) (keyOctets fecOctets before : List ℕ) (answer : Written) (after : List ℕ) → StructHoldsOctets nlri → AllOctets keyOctets → AllOctets fecOctets
       → Wrote (writeNlri afi (structFields nlri keyOctets fecOctets) (length before)) before answer after → WriteAnswer afi nlri keyOctets fecOctets before answer after
-  -- the class of a group
-  pub classes : (afi : ℕ) (group : List ℕ)
-      → Answering (groupOf (classOf afi group) .number) (GroupRefusal afi group) (ClassTold afi group (groupOf (classOf afi group) .«group_class»)) (groupOf (classOf afi group) .«group_class» ≡ 0)

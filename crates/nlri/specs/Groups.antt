@@ -1,4 +1,4 @@
--- The class of a customer group (document 01, "Which route a flow takes"; RFC 4607).
+-- The class of a customer group by the standard range (document 01, "Which route a flow takes"; RFC 4607), and how a class is answered.
 use Prim.Native.Nat.{ℕ, _/_}
 use mathlib.Core.Bool.{Bool}
 use mathlib.Core.List.{List}
@@ -39,6 +39,6 @@ classUnder bits g =
 unfoldable pub classOf : ℕ → List ℕ → Outcome ℕ
 classOf afi g = andThen (familyBits afi) (λ bits. classUnder bits g)
 
--- the call's answer: on a refusal its number and class 0
+-- a class as it is answered: on a refusal the number, and class 0
 unfoldable pub groupOf : Outcome ℕ → Group
 groupOf class = record { number = numberOf class; «group_class» = onOutcome (λ number. 0) (λ c. c) class }

@@ -289,7 +289,7 @@ pub data GroupRefusal (afi : ℕ) (g : List ℕ) : ℕ → Type 0 where
   badFamily : afi ≢ 1 → afi ≢ 2 → GroupRefusal afi g FAMILY
   badGroup : (bits : ℕ) → familyBits afi ≡ given bits → (Multicast afi g → ⊥) → GroupRefusal afi g FLOW
 
--- the class of a group: each number exactly when document 01 says, SSM, 2, by its ranges, and ASM, 1, for any other multicast group
+-- the class of a group by the standard range: each number exactly when document 01 says, SSM, 2, by its ranges, and ASM, 1, for any other multicast group
 pub record GroupRule : Type 0 where
   pub refuses : (afi : ℕ) (g : List ℕ) (n : ℕ) → (classOf afi g ≡ refused n) ↔ GroupRefusal afi g n
   pub ssm : (afi : ℕ) (g : List ℕ) → (classOf afi g ≡ given 2) ↔ SourceSpecific afi g

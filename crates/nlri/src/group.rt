@@ -94,7 +94,7 @@ fn class_under(kind: AddressKind, group: &[u8]) -> Group
     Group::given(Group::ASM)
 }
 
-// The class of a group. FAMILY, FLOW.
+// The class of a group by the standard range. FAMILY, FLOW.
 pub fn group_class(afi: u16, group: &[u8]) -> Group
     ensures { λ r. ⌜ r ≡ groupOf (classOf afi (now (group .entry))) ⌝ }
 {

@@ -72,3 +72,7 @@ SPACE = 16
 -- the fourth FEC element from outside has an opaque value of type 7 or 8
 abbrev pub DEEP : ℕ
 DEEP = 17
+
+-- more than eight prefixes, an address in one of another size than the family's, a length over it, or a set bit past the length
+abbrev pub RANGE : ℕ
+RANGE = 18

@@ -1,4 +1,4 @@
-// The numbers a call gives back (document 01, "The numbers a call gives back"; W-207).
+// The numbers a call gives back (document 01, "The numbers a call gives back"; W-207, W-209).
 pub const DONE: u32 = 0;
 
 pub const SHORT: u32 = 1;
@@ -34,3 +34,5 @@ pub const FLOW: u32 = 15;
 pub const SPACE: u32 = 16;
 
 pub const DEEP: u32 = 17;
+
+pub const RANGE: u32 = 18;

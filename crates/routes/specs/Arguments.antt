@@ -9,7 +9,8 @@ use Rattle.octets.specs.Outcome.{Outcome, given, refused, unless, andThen}
 use Rattle.nlri.specs.Family.{familyBits, isOriginatorSize}
 use Rattle.nlri.specs.Fields.{Fields}
 use Rattle.nlri.specs.Reading.{readOfType}
-use Rattle.nlri.specs.Groups.{classUnder}
+use Rattle.groups.specs.Prefixes.{readPrefixes}
+use Rattle.groups.specs.Classes.{classIn}
 use Rattle.tunnel.specs.Attribute.{AttributeFields, labelOf, readAttribute}
 use Rattle.routes.specs.Route.{Route, route}
 use Rattle.routes.specs.Query.{Query, Flow, flowQuery}
@@ -26,14 +27,15 @@ readLabelled attribute = andThen (readAttribute attribute) (λ f. pick (both (eq
 unfoldable pub readRoute : ℕ → List ℕ → List ℕ → Outcome Route
 readRoute afi nlri attribute = andThen (readSPmsi afi nlri) (λ f. andThen (readLabelled attribute) (λ g. given (route nlri attribute)))
 
--- FLOW: a router address not of 4 or 16 octets, a source or group not of the family's size, a group not multicast
+-- RANGE and SHORT of the prefixes, then FLOW: a router address not of 4 or 16 octets, a source or group not of the family's size, a group not multicast
 unfoldable pub readFlow : (afi : ℕ) → Flow → Outcome Query
 readFlow afi flow =
     andThen (familyBits afi) (λ bits.
+    andThen (readPrefixes bits (flow .prefixes)) (λ items.
     unless (isOriginatorSize (length (flow .router))) FLOW
     (unless (eqb (8 * length (flow .source)) bits) FLOW
-    (andThen (classUnder bits (flow .group)) (λ class. given (flowQuery flow class)))))
+    (andThen (classIn bits items (flow .group)) (λ class. given (flowQuery flow class))))))
 
--- match: FLOW, then SPACE for an output under 124 octets
+-- match: RANGE, SHORT, FLOW, then SPACE for an output under 124 octets
 unfoldable pub readMatch : (afi : ℕ) → Flow → (output : List ℕ) → Outcome Query
 readMatch afi flow output = andThen (readFlow afi flow) (λ query. pick (ltb (length output) 124) (refused SPACE) (given query))

@@ -5,7 +5,8 @@ use mathlib.Core.List.{List, [], _∷_}
 use lib.Dec.{ltb, eqb}
 use Rattle.octets.specs.Numbers.{DONE}
 use Rattle.octets.specs.Choice.{pick, both}
-use Rattle.nlri.specs.Groups.{ASM, SSM, classOf, groupOf}
+use Rattle.nlri.specs.Groups.{ASM, SSM, groupOf}
+use Rattle.groups.specs.Classes.{classBy}
 use Rattle.routes.specs.declared.Matched.{Matched}
 use Rattle.routes.specs.declared.Explained.{Explained}
 use Rattle.routes.specs.Query.{Flow}
@@ -58,6 +59,6 @@ explained class matched = record { matched = matched; reasons = pick (eqb (match
 unfoldable pub explainOf : (table : List ℕ) → Flow → (output : List ℕ) → Changed Explained
 explainOf t flow output =
     record {
-      answer = explained (groupOf (classOf (afiIn t) (flow .group)) .«group_class») (matchOf t (ofFlow flow) output .answer);
+      answer = explained (groupOf (classBy (afiIn t) (flow .prefixes) (flow .group)) .«group_class») (matchOf t (ofFlow flow) output .answer);
       octets = matchOf t (ofFlow flow) output .octets;
     }

@@ -13,12 +13,16 @@ use Rattle.lists.specs.LentLists.{Item, itemField, listCount, listItems, readLi
 use Rattle.nlri.specs.Family.{familyBits, isOriginatorSize}
 use Rattle.nlri.specs.Fields.{Fields}
 use Rattle.nlri.specs.Reading.{readOfType}
-use Rattle.nlri.specs.Groups.{ASM, classUnder}
+use Rattle.nlri.specs.Groups.{ASM}
+use Rattle.groups.specs.Prefixes.{readPrefixes}
+use Rattle.groups.specs.Classes.{classIn}
 use Rattle.routes.specs.Query.{tiersOf, Query}
 
--- a shared tree and the PE asked, with what the daemon tells: the PE is upstream for the C-RP of the group; the group is a BIDIR-PIM group; Source
--- Active routes are not being used; the Source Active routes, a lent list of originator and NLRI; the states held, one of source and group
+-- a shared tree, the PE asked, the prefixes by which its group's class is told (request W-209), and what the daemon tells: the PE is upstream for the
+-- C-RP of the group; the group is a BIDIR-PIM group; Source Active routes are not being used; the Source Active routes, a lent list of originator
+-- and NLRI; the states held, one of source and group
 pub record SharedTree : Type 0 where
+  pub prefixes : List ℕ
   pub router : List ℕ
   pub group : List ℕ
   pub upstream : Bool
@@ -47,11 +51,12 @@ readSourceActive afi x = readOfType 5 afi (itemField 1 x)
 unfoldable pub sourceActiveFault : (afi : ℕ) → List Item → ℕ
 sourceActiveFault afi items = firstItem (λ x. not (eqb (numberOf (readSourceActive afi x)) DONE)) (λ x. numberOf (readSourceActive afi x)) DONE items
 
--- LONG over 256 of either, SHORT for either, FLOW for any address of a wrong size and a group not multicast, then each Source Active route in
--- turn; else the group's class
+-- RANGE and SHORT of the prefixes, LONG over 256 of either, SHORT for either, FLOW for any address of a wrong size and a group not multicast, then
+-- each Source Active route in turn; else the group's class
 unfoldable pub judgedTree : (afi : ℕ) → SharedTree → Outcome ℕ
 judgedTree afi tree =
     andThen (familyBits afi) (λ bits.
+    andThen (readPrefixes bits (tree .prefixes)) (λ items.
     unless (leb (listCount (tree .sourceActives)) MOST_ITEMS) LONG
     (unless (leb (listCount (tree .states)) MOST_ITEMS) LONG
     (andThen (readList 2 (tree .sourceActives)) (λ sourceActives.
@@ -59,8 +64,8 @@ judgedTree afi tree =
     unless (isOriginatorSize (length (tree .router))) FLOW
     (unless (everyItem originatorSized sourceActives) FLOW
     (unless (everyItem (stateSized bits) states) FLOW
-    (andThen (classUnder bits (tree .group)) (λ class.
-    pick (eqb (sourceActiveFault afi sourceActives) DONE) (given class) (refused (sourceActiveFault afi sourceActives)))))))))))
+    (andThen (classIn bits items (tree .group)) (λ class.
+    pick (eqb (sourceActiveFault afi sourceActives) DONE) (given class) (refused (sourceActiveFault afi sourceActives))))))))))))
 
 -- a state has this source and this group
 unfoldable pub isState : (source group : List ℕ) → Item → Bool

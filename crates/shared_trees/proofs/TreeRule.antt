@@ -16,11 +16,12 @@ pub treeRule : TreeRule
 unfolding treeOf
 treeRule =
     record {
-      upstream = λ router group facts sourceActives states. fact-exactly (facts .upstream);
-      bidirectional = λ router group facts sourceActives states. fact-exactly (facts .bidirectional);
-      unused = λ router group facts sourceActives states. fact-exactly (facts .«source_active_unused»);
-      router = λ router group facts sourceActives states. refl;
-      group = λ router group facts sourceActives states. refl;
-      sourceActives = λ router group facts sourceActives states. refl;
-      states = λ router group facts sourceActives states. refl;
+      upstream = λ prefixes router group facts sourceActives states. fact-exactly (facts .upstream);
+      bidirectional = λ prefixes router group facts sourceActives states. fact-exactly (facts .bidirectional);
+      unused = λ prefixes router group facts sourceActives states. fact-exactly (facts .«source_active_unused»);
+      prefixes = λ prefixes router group facts sourceActives states. refl;
+      router = λ prefixes router group facts sourceActives states. refl;
+      group = λ prefixes router group facts sourceActives states. refl;
+      sourceActives = λ prefixes router group facts sourceActives states. refl;
+      states = λ prefixes router group facts sourceActives states. refl;
     }

@@ -7,12 +7,10 @@ use lib.ListN.{length}
 use lib.Dec.{leb, eqb}
 use Rattle.octets.specs.Numbers.{DONE, SHORT, LONG, FLOW}
 use Rattle.octets.specs.Choice.{pick, both}
-use Rattle.octets.specs.Outcome.{Outcome, given, refused, unless, andThen}
 use Rattle.octets.specs.Octets.{part, lowFirst}
 use Rattle.octets.specs.Order.{same}
 use Rattle.lists.specs.LentLists.{Item, itemField, frontItem, wholeItem, listCount, wholeList, listItems, everyItem, someItem}
 use Rattle.nlri.specs.Family.{isOriginatorSize}
-use Rattle.nlri.specs.Groups.{classOf}
 use Rattle.nlri.specs.Inner.{sizeAt}
 use Rattle.routes.specs.SharedTree.{MOST_ITEMS, originatorSized, stateSized, sourceActiveFault, isState}
 
@@ -31,15 +29,13 @@ addressesSized bits router sourceActives states =
     (both (everyItem originatorSized (listItems 2 sourceActives))
     (everyItem (stateSized bits) (listItems 2 states)))
 
--- the group's class by the Source Active routes' number
-unfoldable pub classUnless : (fault : ℕ) → (class : ℕ) → Outcome ℕ
-classUnless fault class = pick (eqb fault DONE) (given class) (refused fault)
+-- the number once both lists are whole: of the addresses but for the group asked, then of each Source Active route in turn
+unfoldable pub wholeFault : (afi bits : ℕ) → (router sourceActives states : List ℕ) → ℕ
+wholeFault afi bits router sourceActives states = pick (addressesSized bits router sourceActives states) (sourceActiveFault afi (listItems 2 sourceActives)) FLOW
 
--- what follows once both lists are whole
-unfoldable pub judgedWhole : (afi bits : ℕ) → (router group sourceActives states : List ℕ) → Outcome ℕ
-judgedWhole afi bits router group sourceActives states =
-    unless (addressesSized bits router sourceActives states) FLOW
-    (andThen (classOf afi group) (classUnless (sourceActiveFault afi (listItems 2 sourceActives))))
+-- the number of a group's class stands before the lists': it is neither DONE nor FLOW
+unfoldable pub isEarly : (number : ℕ) → Bool
+isEarly number = both (not (eqb number DONE)) (not (eqb number FLOW))
 
 -- Where source and group stand in a Source Active NLRI: behind the distinguisher, each behind its length octet in bits.
 

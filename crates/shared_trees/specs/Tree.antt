@@ -10,9 +10,10 @@ use Rattle.routes.specs.SharedTree.{SharedTree}
 use Rattle.shared_trees.specs.declared.Facts.{Facts}
 
 -- the shared tree of a call's arguments: a fact holds where it is not 0
-unfoldable pub treeOf : (router group : List ℕ) → Facts → (sourceActives states : List ℕ) → SharedTree
-treeOf router group facts sourceActives states =
+unfoldable pub treeOf : (prefixes router group : List ℕ) → Facts → (sourceActives states : List ℕ) → SharedTree
+treeOf prefixes router group facts sourceActives states =
     record {
+      prefixes = prefixes;
       router = router;
       group = group;
       upstream = not (eqb (facts .upstream) 0);
@@ -25,16 +26,17 @@ treeOf router group facts sourceActives states =
 -- the shared tree of every call's arguments
 pub record TreeRule : Type 0 where
   -- the PE is upstream for the C-RP exactly when the number told of it is not 0
-  pub upstream : (router group : List ℕ) (facts : Facts) (sourceActives states : List ℕ)
-      → (treeOf router group facts sourceActives states .upstream ≡ true) ↔ (facts .upstream ≢ 0)
+  pub upstream : (prefixes router group : List ℕ) (facts : Facts) (sourceActives states : List ℕ)
+      → (treeOf prefixes router group facts sourceActives states .upstream ≡ true) ↔ (facts .upstream ≢ 0)
   -- so is the group a BIDIR-PIM group
-  pub bidirectional : (router group : List ℕ) (facts : Facts) (sourceActives states : List ℕ)
-      → (treeOf router group facts sourceActives states .bidirectional ≡ true) ↔ (facts .bidirectional ≢ 0)
+  pub bidirectional : (prefixes router group : List ℕ) (facts : Facts) (sourceActives states : List ℕ)
+      → (treeOf prefixes router group facts sourceActives states .bidirectional ≡ true) ↔ (facts .bidirectional ≢ 0)
   -- and so are Source Active routes not being used
-  pub unused : (router group : List ℕ) (facts : Facts) (sourceActives states : List ℕ)
-      → (treeOf router group facts sourceActives states .unused ≡ true) ↔ (facts .«source_active_unused» ≢ 0)
-  -- the PE asked, the group and both lists are those of the call
-  pub router : (router group : List ℕ) (facts : Facts) (sourceActives states : List ℕ) → treeOf router group facts sourceActives states .router ≡ router
-  pub group : (router group : List ℕ) (facts : Facts) (sourceActives states : List ℕ) → treeOf router group facts sourceActives states .group ≡ group
-  pub sourceActives : (router group : List ℕ) (facts : Facts) (sourceActives states : List ℕ) → treeOf router group facts sourceActives states .sourceActives ≡ sourceActives
-  pub states : (router group : List ℕ) (facts : Facts) (sourceActives states : List ℕ) → treeOf router group facts sourceActives states .states ≡ states
+  pub unused : (prefixes router group : List ℕ) (facts : Facts) (sourceActives states : List ℕ)
+      → (treeOf prefixes router group facts sourceActives states .unused ≡ true) ↔ (facts .«source_active_unused» ≢ 0)
+  -- the prefixes, the PE asked, the group and both lists are those of the call
+  pub prefixes : (prefixes router group : List ℕ) (facts : Facts) (sourceActives states : List ℕ) → treeOf prefixes router group facts sourceActives states .prefixes ≡ prefixes
+  pub router : (prefixes router group : List ℕ) (facts : Facts) (sourceActives states : List ℕ) → treeOf prefixes router group facts sourceActives states .router ≡ router
+  pub group : (prefixes router group : List ℕ) (facts : Facts) (sourceActives states : List ℕ) → treeOf prefixes router group facts sourceActives states .group ≡ group
+  pub sourceActives : (prefixes router group : List ℕ) (facts : Facts) (sourceActives states : List ℕ) → treeOf prefixes router group facts sourceActives states .sourceActives ≡ sourceActives
+  pub states : (prefixes router group : List ℕ) (facts : Facts) (sourceActives states : List ℕ) → treeOf prefixes router group facts sourceActives states .states ≡ states

@@ -1,5 +1,6 @@
 // Whether one of the conditions of RFC 6625, section 3.2.2, makes routes eligible, of a shared tree that was judged.
 ghost use mathlib.Core.Path.{_≡_};
+ghost use mathlib.Core.List.{List};
 ghost use mathlib.Core.Bool.{true};
 ghost use Prim.Native.Nat.{ℕ, _+_};
 ghost use lib.ListN.{length, drop};
@@ -144,7 +145,7 @@ pub fn is_eligible(
     states: &[u8],
 ) -> bool
     requires { ⌜ Judged (length (now group)) (now «source_actives») (now states) ⌝ }
-    ensures { λ r. ⌜ ((afi : ℕ) → sourceActiveFault afi (listItems 2 (now («source_actives» .entry))) ≡ DONE → r ≡ conditionHolds afi (treeOf (now (router .entry)) (now (group .entry)) facts (now («source_actives» .entry)) (now (states .entry)))) ⌝ }
+    ensures { λ r. ⌜ ((afi : ℕ) (prefixes : List ℕ) → sourceActiveFault afi (listItems 2 (now («source_actives» .entry))) ≡ DONE → r ≡ conditionHolds afi (treeOf prefixes (now (router .entry)) (now (group .entry)) facts (now («source_actives» .entry)) (now (states .entry)))) ⌝ }
 {
     if facts.upstream != 0 {
         return true;

@@ -9,10 +9,9 @@ ghost use Rattle.nlri.specs.Groups.{groupOf};
 ghost use Rattle.routes.specs.SharedTree.{originatorSized, stateSized, readSourceActive, sourceActiveFault, judgedTree};
 ghost use Rattle.shared_trees.specs.declared.Facts.{Facts};
 ghost use Rattle.shared_trees.specs.Tree.{treeOf};
-ghost use Rattle.shared_trees.specs.Told.{listsFault, addressesSized, judgedWhole};
+ghost use Rattle.shared_trees.specs.Told.{listsFault, addressesSized, wholeFault, isEarly};
 use crate::FIELDS;
 use lists::FIRST;
-use nlri::Family;
 use nlri::Group;
 use nlri::RouteType;
 use octets::number::DONE;
@@ -139,50 +138,50 @@ fn source_active_fault(afi: u16, list: &[u8]) -> u32
     DONE
 }
 
-// The group's class under a family of `size` octets, after the lists were found whole: FLOW, then each Source Active route in turn.
-fn class_of_whole(
+// The number once both lists are whole: FLOW, then that of each Source Active route in turn; or DONE.
+fn whole_fault(afi: u16, size: usize, router: &[u8], source_actives: &[u8], states: &[u8]) -> u32
+    requires { ⌜ (wholeList 2 (now «source_actives») ≡ true) × (wholeList 2 (now states) ≡ true) ⌝ }
+    ensures { λ r. ⌜ r ≡ wholeFault afi (8 * size) (now (router .entry)) (now («source_actives» .entry)) (now (states .entry)) ⌝ }
+{
+    if !are_addresses_sized(size, router, source_actives, states) {
+        return FLOW;
+    }
+    source_active_fault(afi, source_actives)
+}
+
+// The number of a group's class stands before the lists': FLOW waits for them.
+fn is_early(number: u32) -> bool
+    ensures { λ r. ⌜ r ≡ isEarly number ⌝ }
+{
+    number != DONE && number != FLOW
+}
+
+// The class of the group asked, or the first refusal: FAMILY, RANGE, SHORT, LONG, SHORT, FLOW, then each Source Active route in turn. A group
+// that has a class is of the family's size.
+pub fn tree_class(
     afi: u16,
-    size: usize,
+    prefixes: &[u8],
     router: &[u8],
     group: &[u8],
     source_actives: &[u8],
     states: &[u8],
 ) -> Group
-    requires { ⌜ (wholeList 2 (now «source_actives») ≡ true) × (wholeList 2 (now states) ≡ true) ⌝ }
-    ensures { λ r. ⌜ r ≡ groupOf (judgedWhole afi (8 * size) (now (router .entry)) (now (group .entry)) (now («source_actives» .entry)) (now (states .entry))) ⌝ }
+    ensures { λ r. ⌜ ((facts : Facts) → r ≡ groupOf (judgedTree afi (treeOf (now (prefixes .entry)) (now (router .entry)) (now (group .entry)) facts (now («source_actives» .entry)) (now (states .entry))))) ⌝ }
 {
-    if !are_addresses_sized(size, router, source_actives, states) {
-        return Group::refused(FLOW);
+    let class = groups::class_by_prefixes(afi, prefixes, group);
+    if is_early(class.number) {
+        return class;
     }
-    let class = nlri::group_class(afi, group);
+    let of_lists = lists_fault(source_actives, states);
+    if of_lists != DONE {
+        return Group::refused(of_lists);
+    }
     if class.number != DONE {
         return class;
     }
-    let fault = source_active_fault(afi, source_actives);
+    let fault = whole_fault(afi, group.len(), router, source_actives, states);
     if fault != DONE {
         return Group::refused(fault);
     }
     class
-}
-
-// The class of the group asked, or the first refusal: LONG, SHORT, FLOW, then each Source Active route in turn.
-pub fn tree_class(
-    afi: u16,
-    router: &[u8],
-    group: &[u8],
-    source_actives: &[u8],
-    states: &[u8],
-) -> Group
-    ensures { λ r. ⌜ ((facts : Facts) → r ≡ groupOf (judgedTree afi (treeOf (now (router .entry)) (now (group .entry)) facts (now («source_actives» .entry)) (now (states .entry))))) ⌝ }
-{
-    match nlri::family_of(afi) {
-        Family::Unknown(number) => Group::refused(number),
-        Family::Known(kind) => {
-            let fault = lists_fault(source_actives, states);
-            if fault != DONE {
-                return Group::refused(fault);
-            }
-            class_of_whole(afi, kind.octets(), router, group, source_actives, states)
-        }
-    }
 }

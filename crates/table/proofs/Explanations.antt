@@ -11,6 +11,7 @@ use Rattle.octets.specs.Outcome.{given}
 use Rattle.octets.proofs.Choice.{pick-true, pick-false}
 use Rattle.nlri.specs.declared.group.Group.{Group}
 use Rattle.nlri.specs.Groups.{groupOf}
+use Rattle.groups.specs.Classes.{classBy}
 use Rattle.routes.specs.declared.Matched.{Matched}
 use Rattle.routes.specs.declared.Explained.{Explained}
 use Rattle.routes.specs.Query.{Flow}
@@ -23,11 +24,10 @@ use Rattle.routes.specs.Reasons.{reasonsOf, refusedExplanation, explained, expl
 use Rattle.routes.proofs.Definitions.Headers.{sound-family}
 use Rattle.routes.proofs.Statements.Images.{sound}
 use Rattle.routes.proofs.Statements.MatchRule.{found-number}
-use Rattle.table.specs.Scanning.{openTiers, openQuery, flowClass}
+use Rattle.table.specs.Scanning.{openTiers, soughtOf, openQuery, sizedFault}
 use Rattle.table.specs.Changing.{Leaves}
 use Rattle.table.specs.declared.tier.Tiers.{Tiers}
-use Rattle.table.proofs.FlowClasses.{flow-classed}
-use Rattle.table.proofs.Matches.{match-unsound, answers-flow, answers-space, answers-search}
+use Rattle.table.proofs.Matches.{match-unsound, classed-its, answers-flow, answers-space, answers-search}
 
 module _ (t : List ℕ) (flow : Flow) (output : List ℕ) where
   -- by a match that refuses
@@ -39,20 +39,21 @@ module _ (t : List ℕ) (flow : Flow) (output : List ℕ) where
   pub explains-unsound : soundOf t ≡ false → (answer : Explained) → answer ≡ refusedExplanation TABLE → Leaves (explainOf t flow output) answer output
   explains-unsound h answer a = by-refusal TABLE (λ e. omega arith) answer a (match-unsound t (ofFlow flow) output (emptyMatch TABLE) h refl)
 
-  -- the branches on a sound table, by what judging the flow answered
-  module _ (is : soundOf t ≡ true) (afi : ℕ) (class : Group) (bits : afi ≡ afiIn t) (judges : class ≡ groupOf (flowClass afi flow)) where
-    pub explains-flow : (class .number ≡ 0 → ⊥) → (answer : Explained) → answer ≡ refusedExplanation (class .number) → Leaves (explainOf t flow output) answer output
-    explains-flow some answer a = by-refusal _ some answer a (answers-flow t flow is afi class bits judges output (emptyMatch (class .number)) some refl)
+  -- the branches on a sound table, by what the class call and the function of sizes answered
+  module _ (is : soundOf t ≡ true) (afi : ℕ) (class : Group) (bits : afi ≡ afiIn t) (classed : class ≡ groupOf (classBy afi (flow .prefixes) (flow .group)))
+      (fault : ℕ) (told : fault ≡ sizedFault (class .number) (length (flow .router)) (length (flow .source)) (length (flow .group))) where
+    pub explains-flow : (fault ≡ 0 → ⊥) → (answer : Explained) → answer ≡ refusedExplanation fault → Leaves (explainOf t flow output) answer output
+    explains-flow some answer a = by-refusal _ some answer a (answers-flow t flow is afi class bits classed fault told output (emptyMatch fault) some refl)
 
-    pub explains-space : class .number ≡ 0 → length output < 124 → (answer : Explained) → answer ≡ refusedExplanation SPACE → Leaves (explainOf t flow output) answer output
-    explains-space done h answer a = by-refusal SPACE (λ e. omega arith) answer a (answers-space t flow is afi class bits judges output (emptyMatch SPACE) done h refl)
+    pub explains-space : fault ≡ 0 → length output < 124 → (answer : Explained) → answer ≡ refusedExplanation SPACE → Leaves (explainOf t flow output) answer output
+    explains-space done h answer a = by-refusal SPACE (λ e. omega arith) answer a (answers-space t flow is afi class bits classed fault told output (emptyMatch SPACE) done h refl)
 
-    pub explains-search : class .number ≡ 0 → 124 ≤ length output → (left : List ℕ) (tiers : Tiers) → tiers ≡ openTiers (class .«group_class») → (matched : Matched)
-        → Leaves (matchedBy (given (matchIn (afiIn t) (openQuery flow tiers) (routesOf t))) output) matched left → (reasons : List ℕ) → reasons ≡ reasonsOf (matched .tier) (class .«group_class»)
+    pub explains-search : fault ≡ 0 → 124 ≤ length output → (left : List ℕ) (tiers : Tiers) → tiers ≡ openTiers (class .«group_class») → (matched : Matched)
+        → Leaves (matchedBy (given (matchIn (afiIn t) (openQuery (soughtOf (flow .router) (flow .source) (flow .group)) tiers) (routesOf t))) output) matched left → (reasons : List ℕ) → reasons ≡ reasonsOf (matched .tier) (class .«group_class»)
         → Leaves (explainOf t flow output) (record { matched = matched; reasons = reasons }) left
     unfolding explainOf explained
     explains-search done h left tiers shows matched a reasons why =
-        let m = answers-search t flow is afi class bits judges output matched done h left tiers shows a in
+        let m = answers-search t flow is afi class bits classed fault told output matched done h left tiers shows a in
         let number : matched .number ≡ 0 = ap (λ (x : Matched). x .number) (a .0) ∙ found-number output _ in
-        let of-group = flow-classed (afiIn t) flow (sound-family t (sound t is .header)) class (judges ∙ ap (λ (x : ℕ). groupOf (flowClass x flow)) bits) done in
+        let of-group : groupOf (classBy (afiIn t) (flow .prefixes) (flow .group)) .«group_class» ≡ class .«group_class» = sym (ap (λ (c : Group). c .«group_class») (classed-its t flow is afi class bits classed fault told)) in
         (rw (← m .0, of-group) (ap (λ (l : List ℕ). record { matched = matched; reasons = l }) (why ∙ sym (pick-true _ _ _ (eq-eqb _ _ number)))), m .1)

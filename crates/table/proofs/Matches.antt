@@ -11,6 +11,7 @@ use Rattle.octets.proofs.Choice.{pick-true, pick-false, picks, skips}
 use Rattle.octets.proofs.Outcome.{goes, stops}
 use Rattle.nlri.specs.declared.group.Group.{Group}
 use Rattle.nlri.specs.Groups.{groupOf}
+use Rattle.groups.specs.Classes.{classBy}
 use Rattle.routes.specs.declared.Matched.{Matched}
 use Rattle.routes.specs.Arguments.{readMatch}
 use Rattle.routes.specs.Asked.{Asked, ofFlow, readAsked}
@@ -22,10 +23,10 @@ use Rattle.routes.specs.Calls.{matchOutcome, matchOf}
 use Rattle.routes.specs.Rules.ArgumentRules.{KnownFamily}
 use Rattle.routes.proofs.Definitions.Headers.{sound-family}
 use Rattle.routes.proofs.Statements.Images.{sound}
-use Rattle.table.specs.Scanning.{openTiers, openQuery, flowClass}
+use Rattle.table.specs.Scanning.{openTiers, soughtOf, openQuery, sizedFault}
 use Rattle.table.specs.Changing.{Leaves}
 use Rattle.table.specs.declared.tier.Tiers.{Tiers}
-use Rattle.table.proofs.FlowClasses.{flow-stopped, flow-taken, flow-some}
+use Rattle.table.proofs.FlowClasses.{flow-stopped, flow-taken}
 
 by-refusal : (o : Outcome Found) (n : ℕ) (output : List ℕ) (answer : Matched) → o ≡ refused n → answer ≡ emptyMatch n → Leaves (matchedBy o output) answer output
 unfolding matchedBy onOutcome
@@ -54,29 +55,24 @@ module _ (t : List ℕ) (asked : Asked) (output : List ℕ) (answer : Matched) w
     unfolding matchOf
     match-searched q e left a = rw (judged ∙ sym (goes _ _ _ _ e refl)) a
 
--- the branches of a match of a sound table, by what judging its flow answered
-module _ (t : List ℕ) (flow : Flow) (is : soundOf t ≡ true) (afi : ℕ) (class : Group) (bits : afi ≡ afiIn t) (judges : class ≡ groupOf (flowClass afi flow)) where
-  good : KnownFamily (afiIn t)
-  good = sound-family t (sound t is .header)
-
-  judges-its : class ≡ groupOf (flowClass (afiIn t) flow)
-  judges-its = judges ∙ ap (λ (a : ℕ). groupOf (flowClass a flow)) bits
-
-  pub some-flow : class .number ≡ 0 → (0 < length (flow .source)) × (0 < length (flow .group)) × (4 ≤ length (flow .router))
-  some-flow done = flow-some (afiIn t) flow good class judges-its done
+-- the branches of a match of a sound table, by what the class call and the function of sizes answered
+module _ (t : List ℕ) (flow : Flow) (is : soundOf t ≡ true) (afi : ℕ) (class : Group) (bits : afi ≡ afiIn t) (classed : class ≡ groupOf (classBy afi (flow .prefixes) (flow .group)))
+    (fault : ℕ) (told : fault ≡ sizedFault (class .number) (length (flow .router)) (length (flow .source)) (length (flow .group))) where
+  pub classed-its : class ≡ groupOf (classBy (afiIn t) (flow .prefixes) (flow .group))
+  classed-its = classed ∙ ap (λ (a : ℕ). groupOf (classBy a (flow .prefixes) (flow .group))) bits
 
   module _ (output : List ℕ) (answer : Matched) where
-    pub answers-flow : (class .number ≡ 0 → ⊥) → answer ≡ emptyMatch (class .number) → Leaves (matchOf t (ofFlow flow) output) answer output
+    pub answers-flow : (fault ≡ 0 → ⊥) → answer ≡ emptyMatch fault → Leaves (matchOf t (ofFlow flow) output) answer output
     unfolding readAsked readMatch
-    answers-flow some a = match-stopped t (ofFlow flow) output answer is (class .number) (sym (stops _ _ _ (flow-stopped (afiIn t) flow good class judges-its some))) a
+    answers-flow some a = match-stopped t (ofFlow flow) output answer is fault (sym (stops _ _ _ (flow-stopped (afiIn t) flow class classed-its fault told some))) a
 
-    pub answers-space : class .number ≡ 0 → length output < 124 → answer ≡ emptyMatch SPACE → Leaves (matchOf t (ofFlow flow) output) answer output
+    pub answers-space : fault ≡ 0 → length output < 124 → answer ≡ emptyMatch SPACE → Leaves (matchOf t (ofFlow flow) output) answer output
     unfolding readAsked readMatch
     answers-space done h a =
-        match-stopped t (ofFlow flow) output answer is SPACE (sym (goes _ _ _ _ (flow-taken (afiIn t) flow good class judges-its done) (picks _ _ _ _ (lt-ltb _ _ h) refl))) a
+        match-stopped t (ofFlow flow) output answer is SPACE (sym (goes _ _ _ _ (flow-taken (afiIn t) flow class classed-its fault told done) (picks _ _ _ _ (lt-ltb _ _ h) refl))) a
 
-    pub answers-search : class .number ≡ 0 → 124 ≤ length output → (left : List ℕ) (tiers : Tiers) → tiers ≡ openTiers (class .«group_class»)
-        → Leaves (matchedBy (given (matchIn (afiIn t) (openQuery flow tiers) (routesOf t))) output) answer left → Leaves (matchOf t (ofFlow flow) output) answer left
-    unfolding readAsked readMatch
+    pub answers-search : fault ≡ 0 → 124 ≤ length output → (left : List ℕ) (tiers : Tiers) → tiers ≡ openTiers (class .«group_class»)
+        → Leaves (matchedBy (given (matchIn (afiIn t) (openQuery (soughtOf (flow .router) (flow .source) (flow .group)) tiers) (routesOf t))) output) answer left → Leaves (matchOf t (ofFlow flow) output) answer left
+    unfolding readAsked readMatch openQuery
     answers-search done h left tiers shows a =
-        match-searched t (ofFlow flow) output answer is _ (sym (goes _ _ _ _ (flow-taken (afiIn t) flow good class judges-its done) (skips _ _ _ _ (le-ltb _ _ h) refl))) left (rw shows at a)
+        match-searched t (ofFlow flow) output answer is _ (sym (goes _ _ _ _ (flow-taken (afiIn t) flow class classed-its fault told done) (skips _ _ _ _ (le-ltb _ _ h) refl))) left (rw shows at a)

@@ -13,7 +13,7 @@ use Rattle.octets.proofs.Outcome.{goes, stops}
 use Rattle.nlri.specs.declared.group.Group.{Group}
 use Rattle.nlri.specs.Groups.{ASM, groupOf}
 use Rattle.routes.specs.declared.Matched.{Matched}
-use Rattle.routes.specs.Query.{tiersOf, flowOf}
+use Rattle.routes.specs.Query.{tiersOf}
 use Rattle.routes.specs.SharedTree.{SharedTree, judgedTree, conditionHolds, treeOpen, treeQuery, readTree}
 use Rattle.routes.specs.Asked.{ofSharedTree, readAsked}
 use Rattle.routes.specs.Table.{afiIn, routesOf, soundOf}
@@ -21,13 +21,13 @@ use Rattle.routes.specs.Matching.{matchIn}
 use Rattle.routes.specs.Answers.{emptyMatch, matchedBy}
 use Rattle.routes.specs.Calls.{matchOf}
 use Rattle.shared_trees.proofs.Judging.{Accepted, tree-refused, tree-given, tree-accepted}
-use Rattle.table.specs.Scanning.{treeTiers, openQuery}
+use Rattle.table.specs.Scanning.{soughtOf, treeTiers, openQuery}
 use Rattle.table.specs.Changing.{Leaves}
 use Rattle.table.specs.declared.tier.Tiers.{Tiers}
 use Rattle.table.proofs.Matches.{match-stopped, match-searched}
 
 -- what a shared tree asks, as tiers that are open; its group stands for a source, which no open tier looks at
-tree-query : (afi : ℕ) (tree : SharedTree) (class : ℕ) → treeQuery afi tree class ≡ openQuery (flowOf (tree .router) (tree .group) (tree .group)) (treeTiers (treeOpen afi tree class))
+tree-query : (afi : ℕ) (tree : SharedTree) (class : ℕ) → treeQuery afi tree class ≡ openQuery (soughtOf (tree .router) (tree .group) (tree .group)) (treeTiers (treeOpen afi tree class))
 unfolding treeQuery openQuery tiersOf pick
 tree-query afi tree class = refl
 
@@ -54,7 +54,7 @@ module _ (t : List ℕ) (tree : SharedTree) (output : List ℕ) (answer : Matche
     shared-space done h a = match-stopped t (ofSharedTree tree) output answer is SPACE (sym (goes _ _ _ _ (tree-given (afiIn t) tree class judges-its done) (picks _ _ _ _ (lt-ltb _ _ h) refl))) a
 
     pub shared-search : class .number ≡ 0 → 124 ≤ length output → (left : List ℕ) (tiers : Tiers) → tiers ≡ treeTiers (treeOpen (afiIn t) tree (class .«group_class»))
-        → Leaves (matchedBy (given (matchIn (afiIn t) (openQuery (flowOf (tree .router) (tree .group) (tree .group)) tiers) (routesOf t))) output) answer left → Leaves (matchOf t (ofSharedTree tree) output) answer left
+        → Leaves (matchedBy (given (matchIn (afiIn t) (openQuery (soughtOf (tree .router) (tree .group) (tree .group)) tiers) (routesOf t))) output) answer left → Leaves (matchOf t (ofSharedTree tree) output) answer left
     unfolding readAsked readTree
     shared-search done h left tiers shows a =
         match-searched t (ofSharedTree tree) output answer is (treeQuery (afiIn t) tree (class .«group_class»)) (sym (goes _ _ _ _ (tree-given (afiIn t) tree class judges-its done) (skips _ _ _ _ (le-ltb _ _ h) refl))) left

@@ -5,17 +5,17 @@ use mathlib.Core.Bool.{Bool, true, false, not}
 use mathlib.Core.List.{List, []}
 use lib.Dec.{ltb, eqb}
 use lib.ListN.{length, getD, drop}
-use Rattle.octets.specs.Numbers.{FLOW}
+use Rattle.octets.specs.Numbers.{DONE, FLOW}
 use Rattle.octets.specs.Choice.{pick}
-use Rattle.octets.specs.Outcome.{Outcome, given, unless}
+use Rattle.octets.specs.Outcome.{given}
 use Rattle.octets.specs.Octets.{part}
 use Rattle.octets.specs.Order.{same, before}
 use Rattle.nlri.specs.Fields.{Fields}
 use Rattle.nlri.specs.Family.{isOriginatorSize}
-use Rattle.nlri.specs.Groups.{ASM, SSM, classOf}
+use Rattle.nlri.specs.Groups.{ASM, SSM}
 use Rattle.tunnel.specs.Attribute.{fieldsIn, readAttribute}
 use Rattle.routes.specs.Route.{nlriOf, attributeOf}
-use Rattle.routes.specs.Query.{tiersOf, Query, Flow}
+use Rattle.routes.specs.Query.{tiersOf, Query, Flow, flowOf}
 use Rattle.routes.specs.Place.{PLACE, endIn, routeIn}
 use Rattle.routes.specs.Matching.{namesTunnel, Found, nothing, found}
 use Rattle.table.specs.declared.scan.Best.{Best}
@@ -139,7 +139,15 @@ bestIn t best = pick (eqb (best .tier) 0) nothing (found (best .tier) (routeIn (
 abbrev pub Answerable : (table : List ℕ) → Best → (output : List ℕ) → Type 0
 Answerable t best output = (best .tier ≡ 0 → ⊥) → (best .start + PLACE ≤ length t) × RouteFits (part t (best .start) PLACE) output
 
--- the class of a flow's group under a good AFI; FLOW for a flow that a match does not take
-unfoldable pub flowClass : (afi : ℕ) → Flow → Outcome ℕ
-flowClass afi flow =
-    unless (isOriginatorSize (length (flow .router))) FLOW (unless (eqb (length (flow .source)) (length (flow .group))) FLOW (classOf afi (flow .group)))
+-- what a scan looks for: the flow, whose prefixes have told the class by then
+abbrev pub soughtOf : (router source group : List ℕ) → Flow
+soughtOf router source group = flowOf [] router source group
+
+-- the number of a flow, by that of its group's class and by the sizes of router, source and group: the class first, since the others are FLOW too
+unfoldable pub sizedFault : (number router source group : ℕ) → ℕ
+sizedFault number router source group =
+    pick (eqb number DONE)
+    (pick (isOriginatorSize router)
+    (pick (eqb source group) DONE FLOW)
+    FLOW)
+    number

@@ -56,45 +56,48 @@ fn reasons(won: u32, class: u32) -> [u32; 4]
     ]
 }
 
-// FLOW, SPACE, then the search, whose tier and the group's class give the reasons.
+// RANGE, SHORT, FLOW, SPACE, then the search, whose tier and the group's class give the reasons.
 fn explain_sound(
     table: &[u8],
+    prefixes: &[u8],
     router: &[u8],
     source: &[u8],
     group: &[u8],
     output: &mut [u8],
 ) -> Explained
     requires { ⌜ soundOf (now table) ≡ true ⌝ }
-    ensures { λ r. ⌜ Leaves (explainOf (now (table .entry)) (flowOf (now (router .entry)) (now (source .entry)) (now (group .entry))) (now (output .entry))) r (now (output .exit)) ⌝ }
+    ensures { λ r. ⌜ Leaves (explainOf (now (table .entry)) (flowOf (now (prefixes .entry)) (now (router .entry)) (now (source .entry)) (now (group .entry))) (now (output .entry))) r (now (output .exit)) ⌝ }
 {
-    let flow = flow::flow_class(sound::afi_of(table), router, source, group);
-    if flow.number != DONE {
-        return Explained::refused(flow.number);
+    let class = groups::group_class(sound::afi_of(table), prefixes, group);
+    let fault = flow::sized_fault(class.number, router.len(), source.len(), group.len());
+    if fault != DONE {
+        return Explained::refused(fault);
     }
     if output.len() < LEAST_OUTPUT {
         return Explained::refused(SPACE);
     }
-    let tiers = Tiers::of_class(flow.group_class);
+    let tiers = Tiers::of_class(class.group_class);
     let matched = matching::search(table, router, source, group, tiers, output);
     Explained {
         matched,
-        reasons: reasons(matched.tier, flow.group_class),
+        reasons: reasons(matched.tier, class.group_class),
     }
 }
 
-// Match's whole answer, and why each tier was taken or not: TABLE, FLOW, SPACE.
+// Match's whole answer, and why each tier was taken or not: TABLE, RANGE, SHORT, FLOW, SPACE.
 pub fn explain(
     table: &[u8],
+    prefixes: &[u8],
     router: &[u8],
     source: &[u8],
     group: &[u8],
     output: &mut [u8],
 ) -> Explained
-    ensures { λ r. ⌜ r ≡ explainOf (now (table .entry)) (flowOf (now (router .entry)) (now (source .entry)) (now (group .entry))) (now (output .entry)) .answer ⌝ }
-    ensures { λ r. ⌜ now (output .exit) ≡ explainOf (now (table .entry)) (flowOf (now (router .entry)) (now (source .entry)) (now (group .entry))) (now (output .entry)) .octets ⌝ }
+    ensures { λ r. ⌜ r ≡ explainOf (now (table .entry)) (flowOf (now (prefixes .entry)) (now (router .entry)) (now (source .entry)) (now (group .entry))) (now (output .entry)) .answer ⌝ }
+    ensures { λ r. ⌜ now (output .exit) ≡ explainOf (now (table .entry)) (flowOf (now (prefixes .entry)) (now (router .entry)) (now (source .entry)) (now (group .entry))) (now (output .entry)) .octets ⌝ }
 {
     if !sound::is_sound(table) {
         return Explained::refused(TABLE);
     }
-    explain_sound(table, router, source, group, output)
+    explain_sound(table, prefixes, router, source, group, output)
 }

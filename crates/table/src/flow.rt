@@ -1,21 +1,22 @@
 // The flow that a match asks about, judged.
 ghost use mathlib.Core.Path.{_≡_};
-ghost use Rattle.nlri.specs.Groups.{groupOf};
-ghost use Rattle.routes.specs.Query.{flowOf};
-ghost use Rattle.table.specs.Scanning.{flowClass};
-use nlri::Group;
+ghost use Rattle.table.specs.Scanning.{sizedFault};
+use octets::number::DONE;
 use octets::number::FLOW;
 
-// The class of the flow's group, or FLOW. A router's address has an originator's size. The group is judged by the family's size, and
-// the source has the group's.
-pub(crate) fn flow_class(afi: u16, router: &[u8], source: &[u8], group: &[u8]) -> Group
-    ensures { λ r. ⌜ r ≡ groupOf (flowClass afi (flowOf (now (router .entry)) (now (source .entry)) (now (group .entry)))) ⌝ }
+// The number of a flow: that of its group's class, or FLOW by the sizes of its addresses, or DONE. A router's address has an originator's
+// size, and the source has the group's, which has the family's where it has a class. By numbers alone, which costs a match least.
+pub(crate) fn sized_fault(number: u32, router: usize, source: usize, group: usize) -> u32
+    ensures { λ r. ⌜ r ≡ sizedFault number router source group ⌝ }
 {
-    if !nlri::is_originator_size(router.len()) {
-        return Group::refused(FLOW);
+    if number != DONE {
+        return number;
     }
-    if source.len() != group.len() {
-        return Group::refused(FLOW);
+    if !nlri::is_originator_size(router) {
+        return FLOW;
     }
-    nlri::group_class(afi, group)
+    if source != group {
+        return FLOW;
+    }
+    DONE
 }

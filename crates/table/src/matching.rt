@@ -11,7 +11,7 @@ ghost use Rattle.routes.specs.Query.{flowOf};
 ghost use Rattle.routes.specs.Asked.{ofFlow};
 ghost use Rattle.octets.specs.Outcome.{given};
 ghost use Rattle.table.specs.Changing.{Leaves};
-ghost use Rattle.table.specs.Scanning.{openQuery};
+ghost use Rattle.table.specs.Scanning.{soughtOf, openQuery};
 use crate::answer;
 use crate::flow;
 use crate::scan;
@@ -35,27 +35,29 @@ pub(crate) fn search(
     output: &mut [u8],
 ) -> Matched
     requires { ⌜ (soundOf (now table) ≡ true) × (124 ≤ length (now output)) × (0 < length (now source)) × (0 < length (now group)) × (4 ≤ length (now router)) ⌝ }
-    ensures { λ r. ⌜ Leaves (matchedBy (given (matchIn (afiIn (now (table .entry))) (openQuery (flowOf (now (router .entry)) (now (source .entry)) (now (group .entry))) tiers) (routesOf (now (table .entry))))) (now (output .entry))) r (now (output .exit)) ⌝ }
+    ensures { λ r. ⌜ Leaves (matchedBy (given (matchIn (afiIn (now (table .entry))) (openQuery (soughtOf (now (router .entry)) (now (source .entry)) (now (group .entry))) tiers) (routesOf (now (table .entry))))) (now (output .entry))) r (now (output .exit)) ⌝ }
 {
     let count = sound::count_of(table);
     let best = scan::scan(table, count, router, source, group, tiers);
     answer::answer(table, best, output)
 }
 
-// FLOW, SPACE, then the search.
+// RANGE, SHORT, FLOW, SPACE, then the search.
 fn match_sound(
     table: &[u8],
+    prefixes: &[u8],
     router: &[u8],
     source: &[u8],
     group: &[u8],
     output: &mut [u8],
 ) -> Matched
     requires { ⌜ soundOf (now table) ≡ true ⌝ }
-    ensures { λ r. ⌜ Leaves (matchOf (now (table .entry)) (ofFlow (flowOf (now (router .entry)) (now (source .entry)) (now (group .entry)))) (now (output .entry))) r (now (output .exit)) ⌝ }
+    ensures { λ r. ⌜ Leaves (matchOf (now (table .entry)) (ofFlow (flowOf (now (prefixes .entry)) (now (router .entry)) (now (source .entry)) (now (group .entry)))) (now (output .entry))) r (now (output .exit)) ⌝ }
 {
-    let flow = flow::flow_class(sound::afi_of(table), router, source, group);
-    if flow.number != DONE {
-        return Matched::refused(flow.number);
+    let class = groups::group_class(sound::afi_of(table), prefixes, group);
+    let fault = flow::sized_fault(class.number, router.len(), source.len(), group.len());
+    if fault != DONE {
+        return Matched::refused(fault);
     }
     if output.len() < LEAST_OUTPUT {
         return Matched::refused(SPACE);
@@ -65,24 +67,25 @@ fn match_sound(
         router,
         source,
         group,
-        Tiers::of_class(flow.group_class),
+        Tiers::of_class(class.group_class),
         output,
     )
 }
 
-// Finds the route that a flow takes, and writes it at the front of the output: TABLE, FLOW, SPACE.
+// Finds the route that a flow takes, and writes it at the front of the output: TABLE, RANGE, SHORT, FLOW, SPACE.
 pub fn match_flow(
     table: &[u8],
+    prefixes: &[u8],
     router: &[u8],
     source: &[u8],
     group: &[u8],
     output: &mut [u8],
 ) -> Matched
-    ensures { λ r. ⌜ r ≡ matchOf (now (table .entry)) (ofFlow (flowOf (now (router .entry)) (now (source .entry)) (now (group .entry)))) (now (output .entry)) .answer ⌝ }
-    ensures { λ r. ⌜ now (output .exit) ≡ matchOf (now (table .entry)) (ofFlow (flowOf (now (router .entry)) (now (source .entry)) (now (group .entry)))) (now (output .entry)) .octets ⌝ }
+    ensures { λ r. ⌜ r ≡ matchOf (now (table .entry)) (ofFlow (flowOf (now (prefixes .entry)) (now (router .entry)) (now (source .entry)) (now (group .entry)))) (now (output .entry)) .answer ⌝ }
+    ensures { λ r. ⌜ now (output .exit) ≡ matchOf (now (table .entry)) (ofFlow (flowOf (now (prefixes .entry)) (now (router .entry)) (now (source .entry)) (now (group .entry)))) (now (output .entry)) .octets ⌝ }
 {
     if !sound::is_sound(table) {
         return Matched::refused(TABLE);
     }
-    match_sound(table, router, source, group, output)
+    match_sound(table, prefixes, router, source, group, output)
 }

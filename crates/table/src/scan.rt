@@ -4,7 +4,7 @@ ghost use Prim.Native.Nat.{ℕ, _+_, _*_, _≤_, _<_};
 ghost use lib.ListN.{length};
 ghost use Rattle.octets.specs.Octets.{part};
 ghost use Rattle.octets.specs.Order.{before};
-ghost use Rattle.routes.specs.Query.{flowOf};
+ghost use Rattle.table.specs.Scanning.{soughtOf};
 ghost use Rattle.routes.specs.Place.{routeIn};
 ghost use Rattle.routes.specs.Matching.{namesTunnel};
 ghost use Rattle.table.specs.Scanning.{standing, nlriAt, Readable, aheadAt, betterAt, scanAt, noneYet};
@@ -82,7 +82,7 @@ fn better(
 ) -> Best
     requires { ⌜ Readable (now table) at × ((best .tier ≡ 0 → ⊥) → Readable (now table) (best .start)) ⌝ }
     requires { ⌜ 4 ≤ length (now router) ⌝ }
-    ensures { λ r. ⌜ r ≡ betterAt (flowOf (now (router .entry)) (now (source .entry)) (now (group .entry))) tiers (now (table .entry)) best at ⌝ }
+    ensures { λ r. ⌜ r ≡ betterAt (soughtOf (now (router .entry)) (now (source .entry)) (now (group .entry))) tiers (now (table .entry)) best at ⌝ }
 {
     let tier = tier::tier_of(nlri_from(table, at), router, source, group, tiers);
     if tier == 0 {
@@ -108,7 +108,7 @@ pub(crate) fn scan(
 ) -> Best
     requires { ⌜ ((k : ℕ) → k < count → Readable (now table) (8 + 128 * k)) ⌝ }
     requires { ⌜ 4 ≤ length (now router) ⌝ }
-    ensures { λ r. ⌜ r ≡ scanAt (flowOf (now (router .entry)) (now (source .entry)) (now (group .entry))) tiers (now (table .entry)) count 8 noneYet ⌝ }
+    ensures { λ r. ⌜ r ≡ scanAt (soughtOf (now (router .entry)) (now (source .entry)) (now (group .entry))) tiers (now (table .entry)) count 8 noneYet ⌝ }
 {
     let mut best = Best { tier: 0, start: 0 };
     let mut at = HEADER;

@@ -2,6 +2,7 @@
 ghost use mathlib.Core.Path.{_≡_};
 ghost use mathlib.Core.Bool.{true};
 ghost use Prim.Native.Nat.{ℕ};
+ghost use mathlib.Core.List.{List};
 ghost use lib.ListN.{length};
 ghost use Rattle.octets.specs.Numbers.{DONE};
 ghost use Rattle.lists.specs.LentLists.{listItems};
@@ -34,7 +35,7 @@ fn open_tiers(
     states: &[u8],
 ) -> Tiers
     requires { ⌜ Judged (length (now group)) (now «source_actives») (now states) ⌝ }
-    ensures { λ r. ⌜ ((afi : ℕ) → sourceActiveFault afi (listItems 2 (now («source_actives» .entry))) ≡ DONE → r ≡ treeTiers (treeOpen afi (treeOf (now (router .entry)) (now (group .entry)) facts (now («source_actives» .entry)) (now (states .entry))) class)) ⌝ }
+    ensures { λ r. ⌜ ((afi : ℕ) (prefixes : List ℕ) → sourceActiveFault afi (listItems 2 (now («source_actives» .entry))) ≡ DONE → r ≡ treeTiers (treeOpen afi (treeOf prefixes (now (router .entry)) (now (group .entry)) facts (now («source_actives» .entry)) (now (states .entry))) class)) ⌝ }
 {
     if class != Group::ASM {
         return Tiers::of_tree(false);
@@ -45,6 +46,7 @@ fn open_tiers(
 // The refusals between TABLE and SPACE, SPACE, then the search. Tiers 1 and 2 are closed, so that the group serves as source.
 fn match_sound_shared(
     table: &[u8],
+    prefixes: &[u8],
     router: &[u8],
     group: &[u8],
     facts: Facts,
@@ -53,10 +55,11 @@ fn match_sound_shared(
     output: &mut [u8],
 ) -> Matched
     requires { ⌜ soundOf (now table) ≡ true ⌝ }
-    ensures { λ r. ⌜ Leaves (matchOf (now (table .entry)) (ofSharedTree (treeOf (now (router .entry)) (now (group .entry)) facts (now («source_actives» .entry)) (now (states .entry)))) (now (output .entry))) r (now (output .exit)) ⌝ }
+    ensures { λ r. ⌜ Leaves (matchOf (now (table .entry)) (ofSharedTree (treeOf (now (prefixes .entry)) (now (router .entry)) (now (group .entry)) facts (now («source_actives» .entry)) (now (states .entry)))) (now (output .entry))) r (now (output .exit)) ⌝ }
 {
     let class = shared_trees::tree_class(
         sound::afi_of(table),
+        prefixes,
         router,
         group,
         source_actives,
@@ -79,10 +82,11 @@ fn match_sound_shared(
     matching::search(table, router, group, group, tiers, output)
 }
 
-// Finds the route that a shared tree takes, and writes it at the front of the output: TABLE, LONG, SHORT, FLOW, each Source Active
-// route in turn, SPACE.
+// Finds the route that a shared tree takes, and writes it at the front of the output: TABLE, RANGE, SHORT, LONG, SHORT, FLOW, each Source
+// Active route in turn, SPACE.
 pub fn match_shared(
     table: &[u8],
+    prefixes: &[u8],
     router: &[u8],
     group: &[u8],
     facts: Facts,
@@ -90,11 +94,20 @@ pub fn match_shared(
     states: &[u8],
     output: &mut [u8],
 ) -> Matched
-    ensures { λ r. ⌜ r ≡ matchOf (now (table .entry)) (ofSharedTree (treeOf (now (router .entry)) (now (group .entry)) facts (now («source_actives» .entry)) (now (states .entry)))) (now (output .entry)) .answer ⌝ }
-    ensures { λ r. ⌜ now (output .exit) ≡ matchOf (now (table .entry)) (ofSharedTree (treeOf (now (router .entry)) (now (group .entry)) facts (now («source_actives» .entry)) (now (states .entry)))) (now (output .entry)) .octets ⌝ }
+    ensures { λ r. ⌜ r ≡ matchOf (now (table .entry)) (ofSharedTree (treeOf (now (prefixes .entry)) (now (router .entry)) (now (group .entry)) facts (now («source_actives» .entry)) (now (states .entry)))) (now (output .entry)) .answer ⌝ }
+    ensures { λ r. ⌜ now (output .exit) ≡ matchOf (now (table .entry)) (ofSharedTree (treeOf (now (prefixes .entry)) (now (router .entry)) (now (group .entry)) facts (now («source_actives» .entry)) (now (states .entry)))) (now (output .entry)) .octets ⌝ }
 {
     if !sound::is_sound(table) {
         return Matched::refused(TABLE);
     }
-    match_sound_shared(table, router, group, facts, source_actives, states, output)
+    match_sound_shared(
+        table,
+        prefixes,
+        router,
+        group,
+        facts,
+        source_actives,
+        states,
+        output,
+    )
 }

@@ -5,7 +5,7 @@ ghost use Prim.Native.Nat.{_+_, _≤_};
 ghost use lib.ListN.{length};
 ghost use Rattle.octets.specs.Order.{same};
 ghost use Rattle.octets.specs.Choice.{pick};
-ghost use Rattle.routes.specs.Query.{flowOf};
+ghost use Rattle.table.specs.Scanning.{soughtOf};
 ghost use Rattle.table.specs.Scanning.{Bounded, sourceSize, standing, openTiers, treeTiers, sourceTier, anySourceTier, flowTier, tierAt};
 use nlri::Group;
 use nlri::RouteDistinguisher;
@@ -166,7 +166,7 @@ pub(crate) fn is_of(nlri: &[u8], router: &[u8]) -> bool
 // The tier of a route of the router asked; 0 for one of another router, or where no tier's condition is met.
 pub(crate) fn tier_of(nlri: &[u8], router: &[u8], source: &[u8], group: &[u8], tiers: Tiers) -> u32
     requires { ⌜ Bounded (now nlri) × (4 ≤ length (now router)) ⌝ }
-    ensures { λ r. ⌜ r ≡ tierAt (flowOf (now (router .entry)) (now (source .entry)) (now (group .entry))) tiers (now (nlri .entry)) ⌝ }
+    ensures { λ r. ⌜ r ≡ tierAt (soughtOf (now (router .entry)) (now (source .entry)) (now (group .entry))) tiers (now (nlri .entry)) ⌝ }
 {
     if ends_otherwise(nlri, router) {
         return 0;

@@ -12,6 +12,7 @@ use conformance::{
     plain,
     second::{
         choice::LEAST_OUTPUT,
+        ranges::NO_PREFIXES,
         table::{size, MOST_PLACES},
     },
 };
@@ -65,7 +66,7 @@ fn row(report: &mut Report, name: &str, table: &[u8], flow: &[Vec<u8>; 3], route
     report.beside(&format!("{name}, to match"), archive, || unsafe { matched(match_flow, table, flow, output) });
 }
 
-/// An explanation with the least output.
+/// An explanation with the least output, and no prefixes.
 ///
 /// # Safety
 /// The output has `LEAST_OUTPUT` octets and overlaps nothing.
@@ -73,6 +74,19 @@ fn row(report: &mut Report, name: &str, table: &[u8], flow: &[Vec<u8>; 3], route
 unsafe fn explained(call: raw::Explain, table: &[u8], flow: &[Vec<u8>; 3], output: *mut u8) -> Explained {
     let [(router, router_size), (source, source_size), (group, group_size)] =
         flow.each_ref().map(|octets| (octets.as_ptr(), octets.len()));
-    let (table, size) = (table.as_ptr(), table.len());
-    call(table, size, router, router_size, source, source_size, group, group_size, output, LEAST_OUTPUT)
+    let (table, size, prefixes, prefixes_size) = (table.as_ptr(), table.len(), NO_PREFIXES.as_ptr(), NO_PREFIXES.len());
+    call(
+        table,
+        size,
+        prefixes,
+        prefixes_size,
+        router,
+        router_size,
+        source,
+        source_size,
+        group,
+        group_size,
+        output,
+        LEAST_OUTPUT,
+    )
 }

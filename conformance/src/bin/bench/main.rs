@@ -16,6 +16,7 @@ mod explain;
 mod following;
 mod measure;
 mod pieces;
+mod ranges;
 mod report;
 mod restarts;
 mod routes;
@@ -98,8 +99,8 @@ fn all_rows(task: Task) -> ExitCode {
     for attribute in one_of_each_form() {
         tunnel(&mut report, &attribute);
     }
-    groups(&mut report);
     table::rows(&mut report);
+    ranges::rows(&mut report);
     restarts::rows(&mut report);
     explain::rows(&mut report);
     following::rows(&mut report);
@@ -215,17 +216,6 @@ fn tunnel(report: &mut Report, attribute: &[u8]) {
     });
     report.counted(&format!("attribute_write {name}"), writes);
     report.check_output(&writes, output, ROOM, attribute, &name);
-}
-
-fn groups(report: &mut Report) {
-    for (afi, group) in [(1, vec![232, 1, 1, 1]), (2, [&[0xFF, 0x3E][..], &[0; 14]].concat())] {
-        let group = &group[..];
-        let calls = black_box([raw::mvpn_group_class as raw::GroupClass, plain::group_class]);
-        report.counted(
-            &format!("group_class, afi {afi}"),
-            calls.map(|call| move || unsafe { call(afi, group.as_ptr(), black_box(group.len())) }),
-        );
-    }
 }
 
 /// The longest sample of each route type without a FEC element.

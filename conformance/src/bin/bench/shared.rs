@@ -15,6 +15,7 @@ use conformance::{
     plain,
     second::{
         choice::LEAST_OUTPUT,
+        ranges::NO_PREFIXES,
         shared::{Reception, MOST_ITEMS},
         table::{Table, MOST_PLACES},
     },
@@ -41,7 +42,8 @@ fn row(report: &mut Report, afi: u16, held: usize, items: usize) {
     let table = table_of(afi, &all[..held]);
     let [source_actives, states] = &lists(flow, items);
     let facts = SharedTree { upstream: u32::from(items == 0), ..Default::default() };
-    let reception = Reception { router: &flow[0], group: &flow[2], facts, source_actives, states };
+    let (prefixes, router, group) = (NO_PREFIXES, &flow[0], &flow[2]);
+    let reception = Reception { prefixes, router, group, facts, source_actives, states };
     let mut buffer = [0u8; LEAST_OUTPUT];
     let output = buffer.as_mut_ptr();
     let calls = black_box([raw::mvpn_match_shared as raw::MatchShared, plain::match_shared]);
@@ -59,10 +61,12 @@ fn matching<'a>(
     output: *mut u8,
 ) -> impl Fn() -> Matched + 'a {
     move || unsafe {
-        let Reception { router, group, facts, source_actives, states } = reception;
+        let Reception { prefixes, router, group, facts, source_actives, states } = reception;
         call(
             table.as_ptr(),
             table.len(),
+            prefixes.as_ptr(),
+            prefixes.len(),
             router.as_ptr(),
             router.len(),
             group.as_ptr(),

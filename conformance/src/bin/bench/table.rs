@@ -11,6 +11,7 @@ use conformance::{
     plain,
     second::{
         choice::LEAST_OUTPUT,
+        ranges::NO_PREFIXES,
         table::{size, MOST_PLACES},
     },
 };
@@ -143,16 +144,44 @@ pub const INSTALLS: [raw::Install; 2] = [raw::mvpn_install, plain::install];
 pub const WITHDRAWALS: [raw::Withdraw; 2] = [raw::mvpn_withdraw, plain::withdraw];
 pub const MATCHES: [raw::Match; 2] = [raw::mvpn_match, plain::match_flow];
 
-/// A match with the least output.
+/// A match with the least output, and no prefixes.
 ///
 /// # Safety
 /// The output has `LEAST_OUTPUT` octets and overlaps nothing.
 #[inline(always)]
 pub unsafe fn matched(call: raw::Match, table: &[u8], flow: &[Vec<u8>; 3], output: *mut u8) -> Matched {
+    matched_by(call, table, NO_PREFIXES, flow, output)
+}
+
+/// The same by these prefixes.
+///
+/// # Safety
+/// As above.
+#[inline(always)]
+pub unsafe fn matched_by(
+    call: raw::Match,
+    table: &[u8],
+    prefixes: &[u8],
+    flow: &[Vec<u8>; 3],
+    output: *mut u8,
+) -> Matched {
     let [(router, router_size), (source, source_size), (group, group_size)] =
         flow.each_ref().map(|octets| (octets.as_ptr(), octets.len()));
-    let (table, size) = (table.as_ptr(), table.len());
-    call(table, size, router, router_size, source, source_size, group, group_size, output, LEAST_OUTPUT)
+    let (table, size, prefixes, prefixes_size) = (table.as_ptr(), table.len(), prefixes.as_ptr(), prefixes.len());
+    call(
+        table,
+        size,
+        prefixes,
+        prefixes_size,
+        router,
+        router_size,
+        source,
+        source_size,
+        group,
+        group_size,
+        output,
+        LEAST_OUTPUT,
+    )
 }
 
 impl Rows<'_> {

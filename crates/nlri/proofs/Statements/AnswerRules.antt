@@ -1,8 +1,7 @@
--- What a caller sees of the answers of reading, of writing and of the class of a group.
+-- What a caller sees of the answers of reading and of writing.
 use Prim.Native.Nat.{ℕ, _*_, _≤_}
 use mathlib.Core.Path.{_≡_, refl, sym, _∙_, ap, subst}
 use mathlib.Core.Bool.{Bool, true, false}
-use mathlib.Core.Logic.{⊎-elim}
 use mathlib.Core.List.{List, []}
 use native.Mathlib.Omega.{arith}
 use borrow.Author.Tests.{eqb-true, eqb-false, ne-eqb}
@@ -15,18 +14,16 @@ use Rattle.octets.specs.Order.{zeros}
 use Rattle.octets.specs.Outputs.{Wrote, writtenOf}
 use Rattle.octets.specs.Answering.{Answering}
 use Rattle.octets.specs.declared.Written.{Written}
-use Rattle.octets.proofs.Choice.{tested, pick-false, picked, both-true-left, both-true-right, either-false}
-use Rattle.octets.proofs.Outcome.{given-same, given-unless, passed}
+use Rattle.octets.proofs.Choice.{tested, pick-false, both-true-left, both-true-right, either-false}
 use Rattle.octets.proofs.Lists.{length-sized, getD-sized, sized-zeros}
 use Rattle.octets.proofs.Answering.{answering, wroteRule}
 use Rattle.nlri.specs.Bodies.{FieldKind, distinguisher, sourceAs, source, group, originator, key, fec, KnownType, bodies, onBody, bodyOf, codeOf, sameKind, hasField}
 use Rattle.nlri.specs.Fields.{Fields, WellFormedField, KeyOf, WellFormed, restricted}
 use Rattle.nlri.specs.Reading.{readNlri}
 use Rattle.nlri.specs.Writing.{writeNlri}
-use Rattle.nlri.specs.Groups.{ASM, SSM, classUnder, classOf, groupOf}
 use Rattle.nlri.specs.Answers.{addressStruct, distinguisherStruct, addressOctets, nlriStruct, structFields, noFields, keySpan, fecSpan, nlriAnswer}
-use Rattle.nlri.specs.Statements.{ReadAs, StructHoldsOctets, ReadRefusal, WriteRefusal, GroupRefusal, badFamily, badGroup}
-use Rattle.nlri.specs.AnswerRules.{AddressTold, KeyStart, leafKey, mldpLeafKey, keyless, FecStart, sPmsiFec, joinFec, fecless, NlriTold, NoAddress, NlriUntold, AddressGiven, NlriGiven, NlriWritten, WriteAnswer, ClassTold, asm, ssm, NlriAnswers}
+use Rattle.nlri.specs.Statements.{ReadAs, StructHoldsOctets, ReadRefusal, WriteRefusal}
+use Rattle.nlri.specs.AnswerRules.{AddressTold, KeyStart, leafKey, mldpLeafKey, keyless, FecStart, sPmsiFec, joinFec, fecless, NlriTold, NoAddress, NlriUntold, AddressGiven, NlriGiven, NlriWritten, WriteAnswer, NlriAnswers}
 use Rattle.nlri.specs.declared.address.Address.{Address}
 use Rattle.nlri.specs.declared.fields.Nlri.{Nlri}
 use Rattle.nlri.proofs.Definitions.Lengths.{allowed-most, originator-sized, family-octets}
@@ -37,7 +34,6 @@ use Rattle.nlri.proofs.Statements.Acceptance.{acceptance}
 use Rattle.nlri.proofs.Statements.RoundTrips.{held-struct}
 use Rattle.nlri.proofs.Statements.ReadRefusals.{readRefusals}
 use Rattle.nlri.proofs.Statements.WriteRefusals.{writeRefusals, write-not-done}
-use Rattle.nlri.proofs.Statements.Classes.{groupRule}
 
 -- every row of document 01's table has a key in types 4 and 68 alone, and a FEC in types 67 and 71 alone
 spansTest : ℕ → List FieldKind → Bool
@@ -182,34 +178,5 @@ writes afi nlri keyOctets fecOctets before answer after h k c w =
           (λ n q. wroteRule .refuses n before answer after (subst (λ (x : Outcome (List ℕ)). Wrote x before answer after) q w) .1);
     }
 
--- no reason for which a group has no class is DONE
-class-not-done : (afi n : ℕ) (g : List ℕ) → GroupRefusal afi g n → n ≡ 0 → ⊥
-class-not-done afi n g (badFamily one two) e = omega arith
-class-not-done afi n g (badGroup bits ofFamily none) e = omega arith
-
--- a class is one of two, each by document 01's ranges
-class-told : (afi c : ℕ) (g : List ℕ) → classOf afi g ≡ given c → ClassTold afi g c
-unfolding classOf classUnder
-class-told afi c g e =
-    let p = passed _ _ _ e in
-    let sized = given-unless _ _ _ _ (p .second) in
-    let multicast = given-unless _ _ _ _ (sized .1) in
-    ⊎-elim (λ s. let q : SSM ≡ c = given-same (s .1) in subst (ClassTold afi g) q (ssm (groupRule .ssm afi g .0 (e ∙ ap given (sym q)))))
-    (λ a. let q : ASM ≡ c = given-same (a .1) in let r = groupRule .asm afi g .0 (e ∙ ap given (sym q)) in subst (ClassTold afi g) q (asm (r .0) (r .1)))
-    (picked _ _ _ _ (multicast .1))
-
-told-class : (afi c : ℕ) (g : List ℕ) → ClassTold afi g c → (d : ℕ) × (classOf afi g ≡ given d)
-told-class afi c g (asm m none) = (1, groupRule .asm afi g .1 (m, none))
-told-class afi c g (ssm s) = (2, groupRule .ssm afi g .1 s)
-
-classes : (afi : ℕ) (g : List ℕ)
-    → Answering (groupOf (classOf afi g) .number) (GroupRefusal afi g) (ClassTold afi g (groupOf (classOf afi g) .«group_class»)) (groupOf (classOf afi g) .«group_class» ≡ 0)
-unfolding groupOf onOutcome
-classes afi g =
-    answering (classOf afi g) _ (GroupRefusal afi g) refl (groupRule .refuses afi g) (λ why. class-not-done afi 0 g why refl) _ _
-    (λ c e. subst (λ (o : Outcome ℕ). ClassTold afi g (groupOf o .«group_class»)) (sym e) (class-told afi c g e))
-    (λ t. told-class afi _ g t)
-    (λ n e. ap (λ (o : Outcome ℕ). groupOf o .«group_class») e)
-
 pub nlriAnswers : NlriAnswers
-nlriAnswers = record { reads = reads; writes = writes; classes = classes }
+nlriAnswers = record { reads = reads; writes = writes }

@@ -14,6 +14,8 @@ use Rattle.lists.specs.LentLists.{Item, itemField, readList}
 use Rattle.lists.proofs.Items.{first-item-case}
 use Rattle.nlri.specs.Reading.{readOfType}
 use Rattle.nlri.specs.Groups.{classUnder}
+use Rattle.groups.specs.Prefixes.{readPrefixes}
+use Rattle.groups.specs.Classes.{classIn}
 use Rattle.nlri.proofs.Definitions.ReadNumbers.{ByReading, refuses-family, refuses-nlri}
 use Rattle.tunnel.specs.Attribute.{readAttribute}
 use Rattle.tunnel.specs.Identifier.{TableRow, identifierForms, formIn, formOf, readIdentifier}
@@ -58,9 +60,17 @@ class-argued : (bits : ℕ) (g : List ℕ) → Refuses ByArguments (classUnder b
 unfolding classUnder
 class-argued bits g = refuses-pick _ _ _ (refuses-pick _ _ _ (refuses-pick _ _ _ value value) (number (omega arith))) (number (omega arith))
 
+class-in-argued : (bits : ℕ) (items : List Item) (g : List ℕ) → Refuses ByArguments (classIn bits items g)
+unfolding classIn
+class-in-argued bits items g = refuses-then _ _ (class-argued bits g) (λ standard. value)
+
 list-argued : (fields : ℕ) (list : List ℕ) → Refuses ByArguments (readList fields list)
 unfolding readList
 list-argued fields list = refuses-pick _ _ _ value (number (omega arith))
+
+prefixes-argued : (bits : ℕ) (prefixes : List ℕ) → Refuses ByArguments (readPrefixes bits prefixes)
+unfolding readPrefixes
+prefixes-argued bits prefixes = refuses-pick _ _ _ (refuses-then _ _ (list-argued 1 prefixes) (λ items. refuses-pick _ _ _ value (number (omega arith)))) (number (omega arith))
 
 pub number-source-active : (afi : ℕ) (x : Item) (n : ℕ) → readSourceActive afi x ≡ refused n → ByArguments n
 unfolding readSourceActive
@@ -76,26 +86,27 @@ tree-argued : (afi : ℕ) (tree : SharedTree) → Refuses ByArguments (judgedTre
 unfolding judgedTree
 tree-argued afi tree =
     refuses-then _ _ (refuses-also by-reading (refuses-family afi))
-    (λ bits. refuses-pick _ _ _
+    (λ bits. refuses-then _ _ (prefixes-argued bits (tree .prefixes))
+    (λ items. refuses-pick _ _ _
     (refuses-pick _ _ _
     (refuses-then _ _ (list-argued 2 (tree .sourceActives))
     (λ sourceActives. refuses-then _ _ (list-argued 2 (tree .states))
     (λ states. refuses-pick _ _ _
     (refuses-pick _ _ _
     (refuses-pick _ _ _
-    (refuses-then _ _ (class-argued bits (tree .group)) (λ class. pick-case (Refuses ByArguments) _ _ _ (λ done. value) (λ fault. number (fault-argued afi sourceActives fault))))
+    (refuses-then _ _ (class-in-argued bits items (tree .group)) (λ class. pick-case (Refuses ByArguments) _ _ _ (λ done. value) (λ fault. number (fault-argued afi sourceActives fault))))
     (number (omega arith)))
     (number (omega arith)))
     (number (omega arith)))))
     (number (omega arith)))
-    (number (omega arith)))
+    (number (omega arith))))
 
 asked-argued : (afi : ℕ) (asked : Asked) (output : List ℕ) → Refuses ByArguments (readAsked afi asked output)
 unfolding readAsked readMatch readFlow readTree
 asked-argued afi (ofFlow flow) output =
     refuses-then _ _
     (refuses-then _ _ (refuses-also by-reading (refuses-family afi))
-    (λ bits. refuses-pick _ _ _ (refuses-pick _ _ _ (refuses-then _ _ (class-argued bits (flow .group)) (λ class. value)) (number (omega arith))) (number (omega arith))))
+    (λ bits. refuses-then _ _ (prefixes-argued bits (flow .prefixes)) (λ items. refuses-pick _ _ _ (refuses-pick _ _ _ (refuses-then _ _ (class-in-argued bits items (flow .group)) (λ class. value)) (number (omega arith))) (number (omega arith)))))
     (λ query. refuses-pick _ _ _ (number (omega arith)) value)
 asked-argued afi (ofSharedTree tree) output = refuses-then _ _ (tree-argued afi tree) (λ class. refuses-pick _ _ _ (number (omega arith)) value)
 

@@ -15,8 +15,10 @@ use Rattle.tunnel.specs.Attribute.{AttributeFields, labelOf}
 use Rattle.routes.specs.Route.{route}
 use Rattle.routes.specs.Query.{Query, Flow}
 use Rattle.routes.specs.Arguments.{readSPmsi, readLabelled, readRoute, readFlow, readMatch}
-use Rattle.routes.specs.Rules.ArgumentRules.{KnownFamily, SPmsi, Labelled, GoodFlow, TypeRefusal, NlriRefusal, unreadNlri, otherKind, RouteRefusal, badNlri, unreadAttribute, noLabel, FlowRefusal, badFlow, noSpace, ArgumentRule}
-use Rattle.routes.proofs.Definitions.Matching.Flows.{flow-asked, flow-given, flow-refused}
+use Rattle.routes.specs.Rules.ArgumentRules.{KnownFamily, SPmsi, Labelled, GoodFlow, TypeRefusal, NlriRefusal, unreadNlri, otherKind, RouteRefusal, badNlri, unreadAttribute, noLabel, FlowRefusal, badFlowPrefixes, badFlow, noSpace, ArgumentRule}
+use Rattle.routes.proofs.Definitions.Matching.Flows.{flow-asked, flow-given, flow-refused, flow-prefixes}
+use Rattle.groups.specs.ClassRule.{GoodPrefixes}
+use Rattle.groups.proofs.Prefixes.{prefixes-either}
 
 -- an NLRI of one route type
 module _ (type afi : ℕ) (nlri : List ℕ) where
@@ -120,22 +122,24 @@ module _ (afi : ℕ) (flow : Flow) (output : List ℕ) where
   flow-refusal n bits e =
       ⊎-elim
       (λ first.
-      subst (FlowRefusal afi flow output) (sym (flow-refused afi flow n bits first))
-      (badFlow (λ good. never (flow-given afi flow good .1) first)))
+      ⊎-elim (λ r. badFlowPrefixes r)
+      (λ f. subst (FlowRefusal afi flow output) (sym (f .1)) (badFlow (f .0) (λ good. never (flow-given afi flow good .1) first)))
+      (flow-refused afi flow n bits first))
       (λ later.
       let p = refuses-where SPACE n _ _ (later .second) in
       subst (FlowRefusal afi flow output) (sym (p .1)) (noSpace (flow-asked afi flow (later .value) (later .first) .good) (ltb-true _ _ (p .0))))
       (stopped _ _ _ e)
 
-  bad-flow : KnownFamily afi → (GoodFlow afi flow → ⊥) → readFlow afi flow ≡ refused FLOW
-  bad-flow bits bad =
+  bad-flow : KnownFamily afi → GoodPrefixes afi (flow .prefixes) → (GoodFlow afi flow → ⊥) → readFlow afi flow ≡ refused FLOW
+  bad-flow bits prefixed bad =
       ⊎-elim (λ p. absurd (bad (flow-asked afi flow (p .0) (p .1) .good)))
-      (λ p. p .1 ∙ ap refused (flow-refused afi flow (p .0) bits (p .1)))
+      (λ p. p .1 ∙ ap refused (⊎-elim (λ r. absurd (prefixes-either afi bits (flow .prefixes) prefixed r)) (λ f. f .1) (flow-refused afi flow (p .0) bits (p .1))))
       (outcome (readFlow afi flow))
 
   flow-refuses : {n : ℕ} → KnownFamily afi → FlowRefusal afi flow output n → readMatch afi flow output ≡ refused n
   unfolding readMatch
-  flow-refuses bits (badFlow bad) = sym (stops _ _ _ (bad-flow bits bad))
+  flow-refuses bits (badFlowPrefixes r) = sym (stops _ _ _ (flow-prefixes afi flow _ bits r))
+  flow-refuses bits (badFlow prefixed bad) = sym (stops _ _ _ (bad-flow bits prefixed bad))
   flow-refuses bits (noSpace good less) = sym (goes _ _ _ _ (flow-given afi flow good .1) (sym (pick-true _ _ _ (lt-ltb (length output) 124 less))))
 
   pub flow-passed : (q : Query) → readMatch afi flow output ≡ given q → (readFlow afi flow ≡ given q) × (124 ≤ length output)

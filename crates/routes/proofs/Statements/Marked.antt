@@ -11,6 +11,9 @@ use Rattle.nlri.specs.Groups.{multicast, sourceSpecific, classUnder, classOf}
 use Rattle.fec_elements.specs.Reading.{opaqueStart, opaqueSize, fecSize, runsOut, mustFill, takesFamily, familySuits, lengthFault, rootFault, familyFault, wholeFec}
 use Rattle.tunnel.specs.Identifier.{identifierForms, formIn, formOf, oneOf, isIdentifier, readIdentifier}
 use Rattle.tunnel.specs.Attribute.{labelOf, fieldsIn, readAttribute}
+use Rattle.lists.specs.LentLists.{frontNumber, frontItems, wholeItems, listCount, wholeList, listItems, readList, firstItem, everyItem}
+use Rattle.groups.specs.Prefixes.{readPrefixes}
+use Rattle.groups.specs.Classes.{classAmong, classIn, classBy}
 use Rattle.routes.specs.Place.{markOctet, placeOf, endIn, routeIn, acceptable, placeSound}
 use Rattle.routes.specs.Table.{headerStart, headerOf, placesOf, imageOf, afiIn, countIn, placesIn, routesFrom, routesOf, tableSize, headerSound, placesSound, soundOf}
 use Rattle.routes.specs.Route.{nlriOf, attributeOf, lookup, isHeld, holds, inserted}
@@ -23,5 +26,5 @@ use Rattle.routes.specs.Calls.{makeOutcome, makeOf, entering, installOut
 use Rattle.routes.specs.Rules.Examples.{emptyTable, afterInstalls, someTable, MarkedExamples}
 
 pub markedExamples : MarkedExamples
-unfolding someTable emptyTable afterInstalls pick both either onOutcome andThen numberOf part front numberIn bigEndian same before zeros allZero familyBits allowed isOriginatorSize bodies onBody codeOf sameKind fieldIn fixedField addressEnd addressField originatorField fieldSize sizesOf laidWith laidAt cut fieldsOf laidSingle readNlri opaqueStart opaqueSize fecSize runsOut mustFill takesFamily familySuits lengthFault rootFault familyFault wholeFec identifierForms formIn formOf oneOf isIdentifier readIdentifier labelOf fieldsIn readAttribute nlriOf attributeOf lookup isHeld holds inserted readSPmsi readLabelled readRoute markOctet placeOf endIn routeIn acceptable placeSound headerStart headerOf placesOf imageOf afiIn countIn placesIn routesFrom routesOf tableSize headerSound placesSound soundOf makeOutcome makeOf installedOf entering installOutcome installOf multicast sourceSpecific classUnder classOf readFlow readMatch readAsked tiersOf flowQuery meets ofFields namesTunnel candidate eligible distinguisherOf lower lowestIn orElse firstOf matchIn foundAnswer foundOutput matchedBy matchOutcome matchOf
+unfolding someTable emptyTable afterInstalls pick both either onOutcome andThen numberOf part front numberIn bigEndian same before zeros allZero familyBits allowed isOriginatorSize bodies onBody codeOf sameKind fieldIn fixedField addressEnd addressField originatorField fieldSize sizesOf laidWith laidAt cut fieldsOf laidSingle readNlri opaqueStart opaqueSize fecSize runsOut mustFill takesFamily familySuits lengthFault rootFault familyFault wholeFec identifierForms formIn formOf oneOf isIdentifier readIdentifier labelOf fieldsIn readAttribute nlriOf attributeOf lookup isHeld holds inserted readSPmsi readLabelled readRoute markOctet placeOf endIn routeIn acceptable placeSound headerStart headerOf placesOf imageOf afiIn countIn placesIn routesFrom routesOf tableSize headerSound placesSound soundOf makeOutcome makeOf installedOf entering installOutcome installOf multicast sourceSpecific classUnder classOf frontNumber frontItems wholeItems listCount wholeList listItems readList firstItem everyItem readPrefixes classAmong classIn classBy readFlow readMatch readAsked tiersOf flowQuery meets ofFields namesTunnel candidate eligible distinguisherOf lower lowestIn orElse firstOf matchIn foundAnswer foundOutput matchedBy matchOutcome matchOf
 markedExamples = record { all = (refl, (refl, (refl, (refl, (refl, (refl, (refl, (refl, (refl, (refl, (refl, (refl, (refl, (refl, (refl, (refl, (refl, (refl, (refl, tt))))))))))))))))))) }

@@ -215,7 +215,7 @@ match-marks t u asked output d =
 pub matchRule : MatchRule
 matchRule =
     record {
-      arguments = λ router source group. (refl, refl, refl);
+      arguments = λ prefixes router source group. (refl, refl, refl, refl);
       ignored = match-ignored;
       marks = match-marks;
       chosen = λ afi flow q rs e. asks-found (flow-asks afi flow q e) rs;

@@ -13,9 +13,11 @@ use Rattle.octets.specs.Choice.{pick}
 use Rattle.octets.specs.Outcome.{given, onOutcome}
 use Rattle.octets.proofs.Choice.{opposite, pick-true, pick-false, pick-case, both-held, both-true}
 use Rattle.nlri.specs.Fields.{Fields}
-use Rattle.nlri.specs.Groups.{ASM, SSM, classOf, groupOf}
+use Rattle.nlri.specs.Groups.{ASM, SSM, groupOf}
 use Rattle.nlri.specs.Statements.{Multicast}
-use Rattle.nlri.proofs.Definitions.Lengths.{family-good}
+use Rattle.groups.specs.Classes.{classBy}
+use Rattle.groups.specs.ClassRule.{GoodPrefixes}
+use Rattle.groups.proofs.ClassRule.{Classed, has}
 use Rattle.routes.specs.declared.Matched.{Matched}
 use Rattle.routes.specs.Route.{Route}
 use Rattle.routes.specs.Query.{Flow}
@@ -24,9 +26,9 @@ use Rattle.routes.specs.Table.{afiIn, routesOf}
 use Rattle.routes.specs.Answers.{Changed}
 use Rattle.routes.specs.Calls.{matchOf}
 use Rattle.routes.specs.Reasons.{reasonOf, reasonsOf, noReasons, explained, explainOf}
+use Rattle.routes.specs.Rules.ArgumentRules.{GoodFlow}
 use Rattle.routes.specs.Rules.MatchRule.{InTier, bothEqual, sourceEqual, groupEqual, bothWildcard, Taken, Told, MatchAnswer, oneTold, noneTold, TablesDifferInMarks}
 use Rattle.routes.specs.Rules.ReasonRule.{RuledOut, anyGroup, anySource, Met, MetEarlier, Reason, wasTaken, noSuchRoute, wrongClass, earlierWon, ReasonRule}
-use Rattle.routes.proofs.Definitions.Matching.Flows.{Classed, class-under, class-given, classed, multicast-classed, multicast-family}
 use Rattle.routes.proofs.Statements.MatchRule.{match-marks, matchRule}
 
 -- a tier whose condition is met is one of the tiers, and is not ruled out
@@ -36,7 +38,7 @@ tier-counted (sourceEqual s g ssm) = omega arith
 tier-counted (groupEqual s g asm) = omega arith
 tier-counted (bothWildcard s g) = omega arith
 
-tier-allowed : {afi : ℕ} {flow : Flow} {tier : ℕ} {f : Fields} → InTier afi flow tier f → RuledOut afi (flow .group) tier → ⊥
+tier-allowed : {afi : ℕ} {flow : Flow} {tier : ℕ} {f : Fields} → InTier afi flow tier f → RuledOut afi (flow .prefixes) (flow .group) tier → ⊥
 tier-allowed (sourceEqual s g ssm) (anyGroup h) = h ssm
 tier-allowed (groupEqual s g asm) (anySource h) = asm h
 
@@ -53,7 +55,7 @@ module _ (afi : ℕ) (flow : Flow) (rs : List Route) (output : List ℕ) (change
   none-earlier : {tier : ℕ} {r : Route} → Takes tier r → MetEarlier afi flow rs tier → ⊥
   none-earlier t e = t .lowest (e .earlier) (e .met .route) (e .less) (e .met .member) (e .met .eligible)
 
-  allowed-of : {tier : ℕ} {r : Route} → Takes tier r → RuledOut afi (flow .group) tier → ⊥
+  allowed-of : {tier : ℕ} {r : Route} → Takes tier r → RuledOut afi (flow .prefixes) (flow .group) tier → ⊥
   allowed-of t out = tier-allowed (t .eligible .met) out
 
   one-reason : (tier m n : ℕ) → Says tier m → Says tier n → m ≡ n
@@ -75,7 +77,7 @@ module _ (afi : ℕ) (flow : Flow) (rs : List Route) (output : List ℕ) (change
   one-reason tier m n (earlierWon _) (earlierWon _) = refl
 
   -- the reason of a tier, by what a match answered and whether the class lets the tier
-  module _ (tier : ℕ) (low : 0 < tier) (allowed : Bool) (lets : allowed ≡ true → RuledOut afi (flow .group) tier → ⊥) (rules : allowed ≡ false → RuledOut afi (flow .group) tier) where
+  module _ (tier : ℕ) (low : 0 < tier) (allowed : Bool) (lets : allowed ≡ true → RuledOut afi (flow .prefixes) (flow .group) tier → ⊥) (rules : allowed ≡ false → RuledOut afi (flow .prefixes) (flow .group) tier) where
     -- no candidate of it or of an earlier tier
     unmet : (MetEarlier afi flow rs tier → ⊥) → (Met afi flow rs tier → ⊥) → Says tier (pick allowed 2 3)
     unmet earlier here = pick-case (Says tier) _ _ _ (λ on. noSuchRoute earlier (lets on) here) (λ off. wrongClass earlier (rules off))
@@ -103,33 +105,31 @@ module _ (afi : ℕ) (flow : Flow) (rs : List Route) (output : List ℕ) (change
         (λ not-after. unmet (λ e. none (e .earlier) (e .met .route) (e .met .member) (e .met .eligible)) (λ m. none tier (m .route) (m .member) (m .eligible))))
 
 -- the class that a multicast group has rules out what it should
-module _ (afi : ℕ) (g : List ℕ) (m : Multicast afi g) where
+module _ (afi : ℕ) (p g : List ℕ) (good : GoodPrefixes afi p) (m : Multicast afi g) where
   abbrev class : ℕ
-  class = groupOf (classOf afi g) .«group_class»
+  class = groupOf (classBy afi p g) .«group_class»
 
-  class-told : Classed afi g class × ((class ≡ SSM) ⊎ (class ≡ ASM))
+  class-told : Classed afi p g class × ((class ≡ SSM) ⊎ (class ≡ ASM))
   unfolding groupOf onOutcome
   class-told =
-      let bits = family-good afi (multicast-family m) in
-      let c = multicast-classed afi (bits .0) g (bits .1) m in
-      let e : classOf afi g ≡ given (c .0) = sym (class-under afi (bits .0) g (bits .1)) ∙ c .1 in
-      let either = class-given (bits .0) (c .0) g (c .1) in
-      rw e (classed afi g (c .0) e either, either)
+      let c = has afi p g good m in
+      let e : classBy afi p g ≡ given (c .0) = c .1 in
+      rw e (c .2, c .2 .either)
 
-  lets2 : eqb class SSM ≡ true → RuledOut afi g 2 → ⊥
+  lets2 : eqb class SSM ≡ true → RuledOut afi p g 2 → ⊥
   lets2 on (anyGroup other) = other (class-told .0 .specific .0 (eqb-true _ _ on))
 
-  rules2 : eqb class SSM ≡ false → RuledOut afi g 2
+  rules2 : eqb class SSM ≡ false → RuledOut afi p g 2
   rules2 off = anyGroup (λ s. eqb-false _ _ off (class-told .0 .specific .1 s))
 
-  lets3 : eqb class ASM ≡ true → RuledOut afi g 3 → ⊥
+  lets3 : eqb class ASM ≡ true → RuledOut afi p g 3 → ⊥
   lets3 on (anySource s) = class-told .0 .other .0 (eqb-true _ _ on) s
 
-  rules3 : eqb class ASM ≡ false → RuledOut afi g 3
+  rules3 : eqb class ASM ≡ false → RuledOut afi p g 3
   rules3 off = anySource (class-told .0 .specific .0 (⊎-elim (λ s. s) (λ a. absurd (eqb-false _ _ off a)) (class-told .1)))
 
 -- tiers 1 and 4 are for every class
-always : {afi tier : ℕ} {g : List ℕ} → (tier ≡ 2 → ⊥) → (tier ≡ 3 → ⊥) → RuledOut afi g tier → ⊥
+always : {afi tier : ℕ} {p g : List ℕ} → (tier ≡ 2 → ⊥) → (tier ≡ 3 → ⊥) → RuledOut afi p g tier → ⊥
 always two three (anyGroup _) = two refl
 always two three (anySource _) = three refl
 
@@ -149,25 +149,25 @@ module _ (t : List ℕ) (flow : Flow) (output : List ℕ) where
   refused h = pick-false _ _ _ (ne-eqb _ _ h)
 
   module _ (done : matching .answer .number ≡ DONE) where
-    are : reasons ≡ reasonsOf (matching .answer .tier) (groupOf (classOf (afiIn t) (flow .group)) .«group_class»)
+    are : reasons ≡ reasonsOf (matching .answer .tier) (groupOf (classBy (afiIn t) (flow .prefixes) (flow .group)) .«group_class»)
     unfolding explainOf explained
     are = pick-true _ _ _ (eq-eqb _ _ done)
 
-    multicast : Multicast (afiIn t) (flow .group)
-    multicast = matchRule .table flow .done t output .0 done .1 .multicast
+    good : GoodFlow (afiIn t) flow
+    good = matchRule .table flow .done t output .0 done .1
 
     abbrev Of : ℕ → ℕ → Type 0
     Of tier reason = Reason (afiIn t) flow (routesOf t) output matching tier reason
 
-    of-tier : (tier : ℕ) → 0 < tier → (allowed : Bool) → (allowed ≡ true → RuledOut (afiIn t) (flow .group) tier → ⊥) → (allowed ≡ false → RuledOut (afiIn t) (flow .group) tier)
+    of-tier : (tier : ℕ) → 0 < tier → (allowed : Bool) → (allowed ≡ true → RuledOut (afiIn t) (flow .prefixes) (flow .group) tier → ⊥) → (allowed ≡ false → RuledOut (afiIn t) (flow .prefixes) (flow .group) tier)
         → Of tier (reasonOf (matching .answer .tier) tier allowed)
     of-tier tier low allowed lets rules = says (afiIn t) flow (routesOf t) output matching tier low allowed lets rules (matchRule .table flow .answers t output done)
 
-    by-tier : (i : ℕ) → i < 4 → Of (i + 1) (getD (reasonsOf (matching .answer .tier) (groupOf (classOf (afiIn t) (flow .group)) .«group_class»)) i 0)
+    by-tier : (i : ℕ) → i < 4 → Of (i + 1) (getD (reasonsOf (matching .answer .tier) (groupOf (classBy (afiIn t) (flow .prefixes) (flow .group)) .«group_class»)) i 0)
     unfolding reasonsOf
     by-tier zero h = of-tier 1 (omega arith) true (λ _. always (λ e. omega arith) (λ e. omega arith)) (λ e. absurd (opposite {b = true} refl e))
-    by-tier (suc zero) h = of-tier 2 (omega arith) _ (lets2 (afiIn t) (flow .group) multicast) (rules2 (afiIn t) (flow .group) multicast)
-    by-tier (suc (suc zero)) h = of-tier 3 (omega arith) _ (lets3 (afiIn t) (flow .group) multicast) (rules3 (afiIn t) (flow .group) multicast)
+    by-tier (suc zero) h = of-tier 2 (omega arith) _ (lets2 (afiIn t) (flow .prefixes) (flow .group) (good .prefixed) (good .multicast)) (rules2 (afiIn t) (flow .prefixes) (flow .group) (good .prefixed) (good .multicast))
+    by-tier (suc (suc zero)) h = of-tier 3 (omega arith) _ (lets3 (afiIn t) (flow .prefixes) (flow .group) (good .prefixed) (good .multicast)) (rules3 (afiIn t) (flow .prefixes) (flow .group) (good .prefixed) (good .multicast))
     by-tier (suc (suc (suc zero))) h = of-tier 4 (omega arith) true (λ _. always (λ e. omega arith) (λ e. omega arith)) (λ e. absurd (opposite {b = true} refl e))
     by-tier (suc (suc (suc (suc i)))) h = absurd (omega arith)
 
@@ -179,7 +179,7 @@ marks : (t u : List ℕ) (flow : Flow) (output : List ℕ) → TablesDifferInMar
 unfolding explainOf
 marks t u flow output d =
     let changed = match-marks t u (ofFlow flow) output d in
-    λ i. record { answer = explained (groupOf (classOf (d .family i) (flow .group)) .«group_class») (changed i .answer); octets = changed i .octets }
+    λ i. record { answer = explained (groupOf (classBy (d .family i) (flow .prefixes) (flow .group)) .«group_class») (changed i .answer); octets = changed i .octets }
 
 pub reasonRule : ReasonRule
 unfolding explainOf explained

@@ -8,7 +8,7 @@ use borrow.Author.Tests.{eqb-true, eq-eqb}
 use Rattle.octets.specs.Outcome.{given}
 use Rattle.octets.proofs.Choice.{opposite, both-held, both-true}
 use Rattle.nlri.specs.Fields.{Fields}
-use Rattle.nlri.specs.Statements.{SourceSpecific}
+use Rattle.groups.specs.ClassRule.{Specific}
 use Rattle.routes.specs.Query.{meets, Query}
 use Rattle.routes.specs.SharedTree.{SharedTree, treeOpen, treeQuery, readTree}
 use Rattle.routes.specs.Asked.{ofSharedTree, readAsked}
@@ -23,10 +23,10 @@ module _ (afi : ℕ) (tree : SharedTree) (output : List ℕ) (q : Query) (a : As
   abbrev on : Bool
   on = treeOpen afi tree (a .class)
 
-  meant : on ≡ true → (SourceSpecific afi (tree .group) → ⊥) × Condition afi tree
+  meant : on ≡ true → (Specific afi (tree .prefixes) (tree .group) → ⊥) × Condition afi tree
   meant h = let b = both-held _ _ h in (a .classes .other .0 (eqb-true _ _ (b .0)), condition-exactly afi tree (a .good .lent) .0 (b .1))
 
-  holds : (SourceSpecific afi (tree .group) → ⊥) → Condition afi tree → on ≡ true
+  holds : (Specific afi (tree .prefixes) (tree .group) → ⊥) → Condition afi tree → on ≡ true
   holds asm c = both-true _ _ (eq-eqb _ _ (a .classes .other .1 asm)) (condition-exactly afi tree (a .good .lent) .1 c)
 
   in-tier : {tier : ℕ} → Opened [] (tree .group) false false on on f tier → InSharedTier afi tree tier f

@@ -10,6 +10,7 @@ use Rattle.octets.specs.Outcome.{given, refused}
 use Rattle.nlri.specs.Fields.{Fields}
 use Rattle.nlri.specs.Reading.{readNlri}
 use Rattle.nlri.specs.Statements.{Multicast}
+use Rattle.groups.specs.ClassRule.{GoodPrefixes, PrefixRefusal}
 use Rattle.tunnel.specs.Attribute.{AttributeFields, readAttribute}
 use Rattle.routes.specs.Route.{route}
 use Rattle.routes.specs.Query.{Query, Flow}
@@ -48,8 +49,9 @@ pub record Labelled (attribute : List ℕ) : Type 0 where
   pub read : readAttribute attribute ≡ given fields
   pub label : fields .tunnelType ≡ 11 → fields .labelField / 16 ≢ 0
 
--- a flow that a match takes: a router address of 4 or 16 octets, a source of the family's size, a multicast group of that size
+-- a flow that a match takes: good prefixes, a router address of 4 or 16 octets, a source of the family's size, a multicast group of that size
 pub record GoodFlow (afi : ℕ) (flow : Flow) : Type 0 where
+  pub prefixed : GoodPrefixes afi (flow .prefixes)
   pub addressed : RouterSized (flow .router)
   pub sourced : FamilySized afi (flow .source)
   pub multicast : Multicast afi (flow .group)
@@ -69,9 +71,10 @@ pub data RouteRefusal (afi : ℕ) (nlri attribute : List ℕ) : ℕ → Type 0 w
   unreadAttribute : {n : ℕ} → SPmsi afi nlri → readAttribute attribute ≡ refused n → RouteRefusal afi nlri attribute n
   noLabel : (f : AttributeFields) → SPmsi afi nlri → readAttribute attribute ≡ given f → f .tunnelType ≡ 11 → f .labelField / 16 ≡ 0 → RouteRefusal afi nlri attribute LABEL
 
--- why match refuses its arguments: FLOW, then SPACE for an output under 124 octets
+-- why match refuses its arguments: its prefixes, FLOW, then SPACE for an output under 124 octets
 pub data FlowRefusal (afi : ℕ) (flow : Flow) (output : List ℕ) : ℕ → Type 0 where
-  badFlow : (GoodFlow afi flow → ⊥) → FlowRefusal afi flow output FLOW
+  badFlowPrefixes : {n : ℕ} → PrefixRefusal afi (flow .prefixes) n → FlowRefusal afi flow output n
+  badFlow : GoodPrefixes afi (flow .prefixes) → (GoodFlow afi flow → ⊥) → FlowRefusal afi flow output FLOW
   noSpace : GoodFlow afi flow → length output < 124 → FlowRefusal afi flow output SPACE
 
 -- arguments are accepted, or refused by the first number in the call's order: each exactly when

@@ -8,7 +8,7 @@ use Rattle.octets.specs.Outcome.{Outcome, given, refused}
 use Rattle.octets.specs.Order.{zeros}
 use Rattle.nlri.specs.Fields.{Fields}
 use Rattle.nlri.specs.Reading.{readNlri}
-use Rattle.nlri.specs.Groups.{classOf}
+use Rattle.groups.specs.Classes.{classBy}
 use Rattle.routes.specs.declared.Installed.{Installed}
 use Rattle.routes.specs.declared.Matched.{Matched}
 use Rattle.routes.specs.Route.{Route, route, nlriOf, attributeOf}
@@ -25,9 +25,13 @@ pub data Example : Type 0 where
   matching : (table : List ℕ) → Flow → (output : List ℕ) → Changed Matched → Example
   installing : (table nlri attribute : List ℕ) → Changed Installed → Example
 
+-- no prefixes: a list of no items
+abbrev pub noPrefixes : List ℕ
+noPrefixes = 0 ∷ 0 ∷ []
+
 -- what a case says
 abbrev pub ExampleHolds : Example → Type 0
-ExampleHolds (grouped afi g class) = classOf afi g ≡ class
+ExampleHolds (grouped afi g class) = classBy afi noPrefixes g ≡ class
 ExampleHolds (reading afi s fields) = readNlri afi s ≡ fields
 ExampleHolds (matching t flow output answer) = matchOf t (ofFlow flow) output ≡ answer
 ExampleHolds (installing t nlri attribute answer) = installOf t nlri attribute ≡ answer
@@ -122,13 +126,13 @@ tellsNone = record { answer = record { number = DONE; tier = 0; «nlri_size» = 
 abbrev pub examples : List Example
 examples =
     -- P1 to P5: A, B, C and not B, D, D and not E
-    matching someTable (flowOf someRouter someSource (232 ∷ 1 ∷ 1 ∷ 1 ∷ [])) someOutput (tells 1 routeA 24 17 83)
-    ∷ matching someTable (flowOf someRouter someSource (232 ∷ 1 ∷ 1 ∷ 2 ∷ [])) someOutput (tells 2 routeB 20 13 91)
-    ∷ matching someTable (flowOf someRouter someSource (239 ∷ 1 ∷ 1 ∷ 1 ∷ [])) someOutput (tells 3 routeC 20 22 82)
-    ∷ matching someTable (flowOf someRouter (192 ∷ 0 ∷ 2 ∷ 2 ∷ []) (232 ∷ 1 ∷ 1 ∷ 1 ∷ [])) someOutput (tells 4 routeD 16 9 99)
-    ∷ matching someTable (flowOf someRouter (192 ∷ 0 ∷ 2 ∷ 2 ∷ []) (232 ∷ 9 ∷ 9 ∷ 9 ∷ [])) someOutput (tells 4 routeD 16 9 99)
+    matching someTable (flowOf noPrefixes someRouter someSource (232 ∷ 1 ∷ 1 ∷ 1 ∷ [])) someOutput (tells 1 routeA 24 17 83)
+    ∷ matching someTable (flowOf noPrefixes someRouter someSource (232 ∷ 1 ∷ 1 ∷ 2 ∷ [])) someOutput (tells 2 routeB 20 13 91)
+    ∷ matching someTable (flowOf noPrefixes someRouter someSource (239 ∷ 1 ∷ 1 ∷ 1 ∷ [])) someOutput (tells 3 routeC 20 22 82)
+    ∷ matching someTable (flowOf noPrefixes someRouter (192 ∷ 0 ∷ 2 ∷ 2 ∷ []) (232 ∷ 1 ∷ 1 ∷ 1 ∷ [])) someOutput (tells 4 routeD 16 9 99)
+    ∷ matching someTable (flowOf noPrefixes someRouter (192 ∷ 0 ∷ 2 ∷ 2 ∷ []) (232 ∷ 9 ∷ 9 ∷ 9 ∷ [])) someOutput (tells 4 routeD 16 9 99)
     -- P6: asked of 10.0.0.2
-    ∷ matching someTable (flowOf (10 ∷ 0 ∷ 0 ∷ 2 ∷ []) someSource (232 ∷ 1 ∷ 1 ∷ 1 ∷ [])) someOutput tellsNone
+    ∷ matching someTable (flowOf noPrefixes (10 ∷ 0 ∷ 0 ∷ 2 ∷ []) someSource (232 ∷ 1 ∷ 1 ∷ 1 ∷ [])) someOutput tellsNone
     -- P7: ASM is 1
     ∷ grouped 1 (231 ∷ 255 ∷ 255 ∷ 255 ∷ []) (given 1)
     ∷ grouped 1 (233 ∷ 0 ∷ 0 ∷ 0 ∷ []) (given 1)

@@ -12,7 +12,7 @@ use Rattle.octets.specs.Octets.{part}
 use Rattle.octets.specs.Order.{before}
 use Rattle.octets.specs.Lists.{Among}
 use Rattle.nlri.specs.Fields.{Fields}
-use Rattle.nlri.specs.Statements.{SourceSpecific}
+use Rattle.groups.specs.ClassRule.{Specific}
 use Rattle.tunnel.specs.Attribute.{AttributeFields, readAttribute}
 use Rattle.routes.specs.declared.Matched.{Matched}
 use Rattle.routes.specs.Route.{Route, entry, nlriOf, attributeOf, Distinct}
@@ -28,8 +28,8 @@ use Rattle.routes.specs.Rules.ArgumentRules.{SPmsiOf, GoodFlow, FlowRefu
 -- the condition of each tier, 1 to 4; a wildcard is no octets, and a multicast group that is not SSM is ASM
 pub data InTier (afi : ℕ) (flow : Flow) : (tier : ℕ) → Fields → Type 0 where
   bothEqual : {f : Fields} → f .source ≡ flow .source → f .group ≡ flow .group → InTier afi flow 1 f
-  sourceEqual : {f : Fields} → f .source ≡ flow .source → f .group ≡ [] → SourceSpecific afi (flow .group) → InTier afi flow 2 f
-  groupEqual : {f : Fields} → f .source ≡ [] → f .group ≡ flow .group → (SourceSpecific afi (flow .group) → ⊥) → InTier afi flow 3 f
+  sourceEqual : {f : Fields} → f .source ≡ flow .source → f .group ≡ [] → Specific afi (flow .prefixes) (flow .group) → InTier afi flow 2 f
+  groupEqual : {f : Fields} → f .source ≡ [] → f .group ≡ flow .group → (Specific afi (flow .prefixes) (flow .group) → ⊥) → InTier afi flow 3 f
   bothWildcard : {f : Fields} → f .source ≡ [] → f .group ≡ [] → InTier afi flow 4 f
 
 -- an attribute that names a tunnel: attribute reading accepts it, and its tunnel type is not 0, "no tunnel information"
@@ -116,8 +116,10 @@ pub record TablesDifferInMarks (t u : List ℕ) : Type 0 where
 
 -- the match for a flow: what it chooses, and what it answers
 pub record MatchRule : Type 0 where
-  -- the flow of a call's arguments: its router, its source and its group
-  pub arguments : (router source group : List ℕ) → (flowOf router source group .router ≡ router) × (flowOf router source group .source ≡ source) × (flowOf router source group .group ≡ group)
+  -- the flow of a call's arguments: its prefixes, its router, its source and its group
+  pub arguments : (prefixes router source group : List ℕ)
+      → (flowOf prefixes router source group .prefixes ≡ prefixes) × (flowOf prefixes router source group .router ≡ router)
+      × (flowOf prefixes router source group .source ≡ source) × (flowOf prefixes router source group .group ≡ group)
   -- a route that names no tunnel is ignored (RFC 8556, section 4.1), whatever a match of any kind asks and wherever the route stands
   pub ignored : (afi : ℕ) (q : Query) (earlier later : List Route) (r : Route) → (NamesTunnel (attributeOf r) → ⊥) → matchIn afi q (earlier ++ (r ∷ later)) ≡ matchIn afi q (earlier ++ later)
   -- a marked route still matches (request W-208): whatever a match of any kind asks, marks change neither its answer nor the output octets

@@ -7,7 +7,7 @@ use mathlib.Core.Logic.{_≢_}
 use lib.ListN.{length, getD}
 use Rattle.octets.specs.Numbers.{DONE}
 use Rattle.octets.specs.Lists.{Among}
-use Rattle.nlri.specs.Statements.{SourceSpecific}
+use Rattle.groups.specs.ClassRule.{Specific}
 use Rattle.routes.specs.declared.Matched.{Matched}
 use Rattle.routes.specs.Route.{Route}
 use Rattle.routes.specs.Query.{Flow}
@@ -19,9 +19,9 @@ use Rattle.routes.specs.Reasons.{explainOf}
 use Rattle.routes.specs.Rules.MatchRule.{InTier, Eligible, Taken, Told, TablesDifferInMarks}
 
 -- the class of a group rules a tier out: tier 2 where it is not SSM, tier 3 where it is
-pub data RuledOut (afi : ℕ) (group : List ℕ) : (tier : ℕ) → Type 0 where
-  anyGroup : (SourceSpecific afi group → ⊥) → RuledOut afi group 2
-  anySource : SourceSpecific afi group → RuledOut afi group 3
+pub data RuledOut (afi : ℕ) (prefixes group : List ℕ) : (tier : ℕ) → Type 0 where
+  anyGroup : (Specific afi prefixes group → ⊥) → RuledOut afi prefixes group 2
+  anySource : Specific afi prefixes group → RuledOut afi prefixes group 3
 
 module _ (afi : ℕ) (flow : Flow) (rs : List Route) where
   -- a candidate meets the condition of a tier
@@ -41,9 +41,9 @@ module _ (afi : ℕ) (flow : Flow) (rs : List Route) where
     -- a route is taken with this tier, and it is the one told
     wasTaken : (r : Route) → Taken afi (flow .router) (InTier afi flow) rs tier r → Told tier r output changed → Reason output changed tier 1
     -- no earlier tier won, the class lets the tier, and no candidate meets its condition
-    noSuchRoute : (MetEarlier tier → ⊥) → (RuledOut afi (flow .group) tier → ⊥) → (Met tier → ⊥) → Reason output changed tier 2
+    noSuchRoute : (MetEarlier tier → ⊥) → (RuledOut afi (flow .prefixes) (flow .group) tier → ⊥) → (Met tier → ⊥) → Reason output changed tier 2
     -- no earlier tier won, and the class rules the tier out
-    wrongClass : (MetEarlier tier → ⊥) → RuledOut afi (flow .group) tier → Reason output changed tier 3
+    wrongClass : (MetEarlier tier → ⊥) → RuledOut afi (flow .prefixes) (flow .group) tier → Reason output changed tier 3
     -- an earlier tier won
     earlierWon : MetEarlier tier → Reason output changed tier 4
 

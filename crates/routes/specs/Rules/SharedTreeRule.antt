@@ -11,7 +11,8 @@ use Rattle.octets.specs.Outcome.{given, refused}
 use Rattle.octets.specs.Lists.{Among}
 use Rattle.lists.specs.LentLists.{Item, listCount, readList}
 use Rattle.nlri.specs.Fields.{Fields}
-use Rattle.nlri.specs.Statements.{Multicast, SourceSpecific}
+use Rattle.nlri.specs.Statements.{Multicast}
+use Rattle.groups.specs.ClassRule.{GoodPrefixes, PrefixRefusal, Specific}
 use Rattle.routes.specs.Route.{Route, Distinct}
 use Rattle.routes.specs.Query.{Query}
 use Rattle.routes.specs.SharedTree.{SharedTree, readTree}
@@ -54,8 +55,8 @@ pub data Condition (afi : ℕ) (tree : SharedTree) : Type 0 where
 -- the conditions of the tiers: (C-*,C-G) as tier 3 and (C-*,C-*) as tier 4, each where the group, which is multicast, is ASM, that is not SSM, and
 -- a condition of section 3.2.2 holds. No route is of another tier
 pub data InSharedTier (afi : ℕ) (tree : SharedTree) : (tier : ℕ) → Fields → Type 0 where
-  sharedGroup : {f : Fields} → f .source ≡ [] → f .group ≡ tree .group → (SourceSpecific afi (tree .group) → ⊥) → Condition afi tree → InSharedTier afi tree 3 f
-  sharedWildcard : {f : Fields} → f .source ≡ [] → f .group ≡ [] → (SourceSpecific afi (tree .group) → ⊥) → Condition afi tree → InSharedTier afi tree 4 f
+  sharedGroup : {f : Fields} → f .source ≡ [] → f .group ≡ tree .group → (Specific afi (tree .prefixes) (tree .group) → ⊥) → Condition afi tree → InSharedTier afi tree 3 f
+  sharedWildcard : {f : Fields} → f .source ≡ [] → f .group ≡ [] → (Specific afi (tree .prefixes) (tree .group) → ⊥) → Condition afi tree → InSharedTier afi tree 4 f
 
 -- neither list says more than 256 items
 pub record FewItems (tree : SharedTree) : Type 0 where
@@ -76,6 +77,7 @@ AllRead afi items = (originator nlri : List ℕ) → Among (originator ∷ (nlri
 
 -- a shared tree that the match takes
 pub record GoodTree (afi : ℕ) (tree : SharedTree) : Type 0 where
+  pub prefixed : GoodPrefixes afi (tree .prefixes)
   pub few : FewItems tree
   pub lent : Lent tree
   pub addressed : Addressed afi tree lent
@@ -91,13 +93,14 @@ pub record FirstRefused (afi : ℕ) (items : List Item) (n : ℕ) : Type 0 where
   pub read : AllRead afi earlier
   pub refuses : TypeRefusal 5 afi nlri n
 
--- why the match for a shared tree refuses its arguments, in order: LONG for either list, SHORT for either, FLOW for any address, then each Source
+-- why the match for a shared tree refuses its arguments, in order: its prefixes, LONG for either list, SHORT for either, FLOW for any address, then each Source
 -- Active route in turn by NLRI reading and KIND, and SPACE for an output under 124 octets
 pub data SharedTreeRefusal (afi : ℕ) (tree : SharedTree) (output : List ℕ) : ℕ → Type 0 where
-  longList : (256 < listCount (tree .sourceActives)) ⊎ (256 < listCount (tree .states)) → SharedTreeRefusal afi tree output LONG
-  shortList : FewItems tree → (readList 2 (tree .sourceActives) ≡ refused SHORT) ⊎ (readList 2 (tree .states) ≡ refused SHORT) → SharedTreeRefusal afi tree output SHORT
-  badAddress : FewItems tree → (lent : Lent tree) → (Addressed afi tree lent → ⊥) → SharedTreeRefusal afi tree output FLOW
-  badSourceActive : {n : ℕ} → FewItems tree → (lent : Lent tree) → Addressed afi tree lent → FirstRefused afi (lent .sourceActives) n → SharedTreeRefusal afi tree output n
+  badTreePrefixes : {n : ℕ} → PrefixRefusal afi (tree .prefixes) n → SharedTreeRefusal afi tree output n
+  longList : GoodPrefixes afi (tree .prefixes) → (256 < listCount (tree .sourceActives)) ⊎ (256 < listCount (tree .states)) → SharedTreeRefusal afi tree output LONG
+  shortList : GoodPrefixes afi (tree .prefixes) → FewItems tree → (readList 2 (tree .sourceActives) ≡ refused SHORT) ⊎ (readList 2 (tree .states) ≡ refused SHORT) → SharedTreeRefusal afi tree output SHORT
+  badAddress : GoodPrefixes afi (tree .prefixes) → FewItems tree → (lent : Lent tree) → (Addressed afi tree lent → ⊥) → SharedTreeRefusal afi tree output FLOW
+  badSourceActive : {n : ℕ} → GoodPrefixes afi (tree .prefixes) → FewItems tree → (lent : Lent tree) → Addressed afi tree lent → FirstRefused afi (lent .sourceActives) n → SharedTreeRefusal afi tree output n
   tooSmall : GoodTree afi tree → length output < 124 → SharedTreeRefusal afi tree output SPACE
 
 -- the match for a shared tree: what it chooses, and what it answers

@@ -13,21 +13,25 @@ use Rattle.octets.specs.Outcome.{Outcome, given, refused, onOutcome, unless, an
 use Rattle.octets.specs.Order.{same}
 use Rattle.octets.specs.Lists.{Among, first}
 use Rattle.octets.proofs.Choice.{opposite, tested, is-false, pick-true, pick-false, pick-case, both-held, both-true, either-true, either-left, either-second}
-use Rattle.octets.proofs.Outcome.{never, given-same, given-otherwise, refuses-where, passed, stopped, goes, stops, and-case, outcome, refused-of, number-given, number-refused, done-given}
+use Rattle.octets.proofs.Outcome.{never, given-same, refused-same, given-otherwise, refuses-where, passed, stopped, goes, stops, and-case, outcome, refused-of, number-given, number-refused, done-given}
 use Rattle.octets.proofs.Among.{among-left, among-right}
 use Rattle.octets.proofs.Orders.{same-equal, same-of-equal}
 use Rattle.lists.specs.LentLists.{Item, itemField, listCount, listItems, readList, everyItem, someItem}
 use Rattle.lists.proofs.Items.{first-met, first-item-met, first-item-unmet, some-item-exactly, read-list-given, read-list-refused, Pairs, pairs-each, every-pair, read-list-pairs}
 use Rattle.nlri.specs.Family.{familyBits, isOriginatorSize}
 use Rattle.nlri.specs.Fields.{Fields}
-use Rattle.nlri.specs.Groups.{classUnder}
+use Rattle.groups.specs.Prefixes.{readPrefixes}
+use Rattle.groups.specs.Classes.{classIn}
+use Rattle.groups.specs.ClassRule.{GoodPrefixes}
+use Rattle.groups.proofs.Prefixes.{prefixes-good, good-prefixes, prefixes-refused, refused-prefixes, prefixes-either}
+use Rattle.groups.proofs.ClassRule.{Classed, classed, class-refused, multicast-family}
 use Rattle.nlri.proofs.Theorems.{lengths}
-use Rattle.nlri.proofs.Definitions.Lengths.{family-good}
+use Rattle.nlri.proofs.Definitions.Lengths.{family-good, good-family}
 use Rattle.routes.specs.Query.{Query}
 use Rattle.routes.specs.SharedTree.{SharedTree, originatorSized, stateSized, readSourceActive, sourceActiveFault, judgedTree, isState, lacksState, conditionHolds, treeQuery, readTree}
 use Rattle.routes.specs.Rules.ArgumentRules.{KnownFamily, RouterSized, FamilySized}
-use Rattle.routes.specs.Rules.SharedTreeRule.{SourceActive, Lent, WithoutState, Condition, isUpstream, isWithoutState, isBidirectional, isUnused, FewItems, Addressed, AllRead, GoodTree, FirstRefused, SharedTreeRefusal, longList, shortList, badAddress, badSourceActive, tooSmall}
-use Rattle.routes.proofs.Definitions.Matching.Flows.{class-under, class-given, class-refused, Classed, classed, family-sized, multicast-classed, multicast-family}
+use Rattle.routes.specs.Rules.SharedTreeRule.{SourceActive, Lent, WithoutState, Condition, isUpstream, isWithoutState, isBidirectional, isUnused, FewItems, Addressed, AllRead, GoodTree, FirstRefused, SharedTreeRefusal, badTreePrefixes, longList, shortList, badAddress, badSourceActive, tooSmall}
+use Rattle.routes.proofs.Definitions.Matching.Flows.{family-sized}
 use Rattle.routes.proofs.Definitions.ByArguments.{number-source-active}
 use Rattle.routes.proofs.Statements.ArgumentRules.{type-exactly, type-refused-exactly}
 
@@ -124,25 +128,28 @@ module _ (afi : ℕ) (tree : SharedTree) where
   states-pairs : (lent : Lent tree) → Pairs (lent .states)
   states-pairs lent = read-list-pairs _ _ (lent .statesRead)
 
-  module _ (bits : ℕ) (ofFamily : familyBits afi ≡ given bits) where
+  module _ (bits : ℕ) (ofFamily : familyBits afi ≡ given bits) (items : List Item) (prefixed : readPrefixes bits (tree .prefixes) ≡ given items) where
+    good-prefixed : GoodPrefixes afi (tree .prefixes)
+    good-prefixed = prefixes-good afi bits ofFamily (tree .prefixes) items prefixed .0
+
     -- what follows the reading of both lists
     abbrev addresses : (sourceActives states : List Item) → Outcome ℕ
     addresses sourceActives states =
         unless (isOriginatorSize (length (tree .router))) FLOW
         (unless (everyItem originatorSized sourceActives) FLOW
         (unless (everyItem (stateSized bits) states) FLOW
-        (andThen (classUnder bits (tree .group)) (λ class. inTurn afi sourceActives class))))
+        (andThen (classIn bits items (tree .group)) (λ class. inTurn afi sourceActives class))))
 
     addresses-case : (P : Outcome ℕ → Type 0) (lent : Lent tree) → ((Addressed afi tree lent → ⊥) → P (refused FLOW))
-        → (Addressed afi tree lent → (class : ℕ) → Classed afi (tree .group) class → P (inTurn afi (lent .sourceActives) class)) → P (addresses (lent .sourceActives) (lent .states))
+        → (Addressed afi tree lent → (class : ℕ) → Classed afi (tree .prefixes) (tree .group) class → P (inTurn afi (lent .sourceActives) class)) → P (addresses (lent .sourceActives) (lent .states))
     addresses-case P lent bad good =
         pick-case P _ _ _
         (λ r. pick-case P _ _ _
         (λ o. pick-case P _ _ _
         (λ s. and-case P _ _
-        (λ n e. subst (λ (k : ℕ). P (refused k)) (sym (class-refused bits n (tree .group) e)) (bad (λ a. never (multicast-classed afi bits (tree .group) ofFamily (a .multicast) .1) e)))
+        (λ n e. subst (λ (k : ℕ). P (refused k)) (sym (class-refused afi bits ofFamily (tree .prefixes) items prefixed (tree .group) n e .0)) (bad (λ a. class-refused afi bits ofFamily (tree .prefixes) items prefixed (tree .group) n e .1 (a .multicast))))
         (λ class e.
-        let k = classed afi (tree .group) class (sym (class-under afi bits (tree .group) ofFamily) ∙ e) (class-given bits class (tree .group) e) in
+        let k = classed afi bits ofFamily (tree .prefixes) items prefixed (tree .group) class e in
         good (record { router = lengths .originators (length (tree .router)) .0 r; originators = routes .0 o; states = states .0 s; multicast = k .multicast }) class k))
         (λ f. bad (λ a. opposite (states .1 (a .states)) f)))
         (λ f. bad (λ a. opposite (routes .1 (a .originators)) f)))
@@ -160,14 +167,14 @@ module _ (afi : ℕ) (tree : SharedTree) where
 
     judged-few : FewItems tree → judgedTree afi tree ≡ lists
     unfolding judgedTree
-    judged-few few = sym (goes _ _ _ _ ofFamily (sym (pick-true _ _ _ (le-leb _ _ (few .sourceActives)) ∙ pick-true _ _ _ (le-leb _ _ (few .states)))))
+    judged-few few = sym (goes _ _ _ _ ofFamily (goes _ _ _ _ prefixed (sym (pick-true _ _ _ (le-leb _ _ (few .sourceActives)) ∙ pick-true _ _ _ (le-leb _ _ (few .states))))))
 
     judged-lent : FewItems tree → (lent : Lent tree) → judgedTree afi tree ≡ addresses (lent .sourceActives) (lent .states)
     judged-lent few lent = judged-few few ∙ sym (goes _ _ _ _ (lent .routesRead) (goes _ _ _ _ (lent .statesRead) refl))
 
     judged-long : (256 < listCount (tree .sourceActives)) ⊎ (256 < listCount (tree .states)) → judgedTree afi tree ≡ refused LONG
     unfolding judgedTree
-    judged-long h = sym (goes _ _ _ _ ofFamily (sym (⊎-elim (λ routes. pick-false _ _ _ (lt-leb _ _ routes)) (λ states. pick-case (λ o. o ≡ refused LONG) _ _ _ (λ few. pick-false _ _ _ (lt-leb _ _ states)) (λ many. refl)) h)))
+    judged-long h = sym (goes _ _ _ _ ofFamily (goes _ _ _ _ prefixed (sym (⊎-elim (λ routes. pick-false _ _ _ (lt-leb _ _ routes)) (λ states. pick-case (λ o. o ≡ refused LONG) _ _ _ (λ few. pick-false _ _ _ (lt-leb _ _ states)) (λ many. refl)) h))))
 
     judged-short : FewItems tree → (readList 2 (tree .sourceActives) ≡ refused SHORT) ⊎ (readList 2 (tree .states) ≡ refused SHORT) → judgedTree afi tree ≡ refused SHORT
     judged-short few h =
@@ -177,10 +184,11 @@ module _ (afi : ℕ) (tree : SharedTree) where
         h
 
     pub judged-refuses : {output : List ℕ} {n : ℕ} → SharedTreeRefusal afi tree output n → (judgedTree afi tree ≡ refused n) ⊎ (GoodTree afi tree × (length output < 124) × (n ≡ SPACE))
-    judged-refuses (longList h) = inl (judged-long h)
-    judged-refuses (shortList few h) = inl (judged-short few h)
-    judged-refuses (badAddress few lent bad) = inl (judged-lent few lent ∙ addresses-case (λ o. o ≡ refused FLOW) lent (λ none. refl) (λ a. absurd (bad a)))
-    judged-refuses (badSourceActive {n} few lent good r) =
+    judged-refuses (badTreePrefixes r) = absurd (prefixes-either afi (good-family afi bits ofFamily) (tree .prefixes) good-prefixed r)
+    judged-refuses (longList ok h) = inl (judged-long h)
+    judged-refuses (shortList ok few h) = inl (judged-short few h)
+    judged-refuses (badAddress ok few lent bad) = inl (judged-lent few lent ∙ addresses-case (λ o. o ≡ refused FLOW) lent (λ none. refl) (λ a. absurd (bad a)))
+    judged-refuses (badSourceActive {n} ok few lent good r) =
         inl (judged-lent few lent
         ∙ addresses-case (λ o. o ≡ refused n) lent (λ bad. absurd (bad good)) (λ a class k. in-turn-refused afi (lent .sourceActives) (routes-pairs lent) class n r))
     judged-refuses (tooSmall good less) = inr (good, less, refl)
@@ -194,7 +202,7 @@ module _ (afi : ℕ) (tree : SharedTree) where
     -- what judging comes to
     pub data Judged (output : List ℕ) : Outcome ℕ → Type 0 where
       refuses : {n : ℕ} → SharedTreeRefusal afi tree output n → Judged output (refused n)
-      takes : {class : ℕ} → GoodTree afi tree → Classed afi (tree .group) class → Judged output (given class)
+      takes : {class : ℕ} → GoodTree afi tree → Classed afi (tree .prefixes) (tree .group) class → Judged output (given class)
 
     pub judged-is : (output : List ℕ) → Judged output (judgedTree afi tree)
     judged-is output =
@@ -203,18 +211,18 @@ module _ (afi : ℕ) (tree : SharedTree) where
         (λ r. long (inl (leb-false _ _ r)))
       where
         long : (256 < listCount (tree .sourceActives)) ⊎ (256 < listCount (tree .states)) → Judged output (judgedTree afi tree)
-        long h = subst (Judged output) (sym (judged-long h)) (refuses (longList h))
+        long h = subst (Judged output) (sym (judged-long h)) (refuses (longList good-prefixed h))
 
         short : FewItems tree → (readList 2 (tree .sourceActives) ≡ refused SHORT) ⊎ (readList 2 (tree .states) ≡ refused SHORT) → Judged output (judgedTree afi tree)
-        short few h = subst (Judged output) (sym (judged-short few h)) (refuses (shortList few h))
+        short few h = subst (Judged output) (sym (judged-short few h)) (refuses (shortList good-prefixed few h))
 
         whole : FewItems tree → (lent : Lent tree) → Judged output (judgedTree afi tree)
         whole few lent =
             subst (Judged output) (sym (judged-lent few lent))
-            (addresses-case (Judged output) lent (λ bad. refuses (badAddress few lent bad))
+            (addresses-case (Judged output) lent (λ bad. refuses (badAddress good-prefixed few lent bad))
             (λ a class k. ⊎-elim
-            (λ r. subst (Judged output) (sym (in-turn-refused afi (lent .sourceActives) (routes-pairs lent) class (r .0) (r .1))) (refuses (badSourceActive few lent a (r .1))))
-            (λ all. subst (Judged output) (sym (in-turn-read afi (lent .sourceActives) (routes-pairs lent) class all)) (takes (record { few = few; lent = lent; addressed = a; read = all }) k))
+            (λ r. subst (Judged output) (sym (in-turn-refused afi (lent .sourceActives) (routes-pairs lent) class (r .0) (r .1))) (refuses (badSourceActive good-prefixed few lent a (r .1))))
+            (λ all. subst (Judged output) (sym (in-turn-read afi (lent .sourceActives) (routes-pairs lent) class all)) (takes (record { prefixed = good-prefixed; few = few; lent = lent; addressed = a; read = all }) k))
             (in-turn afi (lent .sourceActives) (routes-pairs lent))))
 
         read : FewItems tree → Judged output (judgedTree afi tree)
@@ -232,7 +240,7 @@ pub record AskedTree (afi : ℕ) (tree : SharedTree) (output : List ℕ) (q : Qu
   pub good : GoodTree afi tree
   pub enough : 124 ≤ length output
   pub class : ℕ
-  pub classes : Classed afi (tree .group) class
+  pub classes : Classed afi (tree .prefixes) (tree .group) class
   pub is : q ≡ treeQuery afi tree class
 
 pub asked-tree-router : {afi : ℕ} {tree : SharedTree} {output : List ℕ} {q : Query} → AskedTree afi tree output q → q .router ≡ tree .router
@@ -241,15 +249,18 @@ asked-tree-router a = ap (λ (x : Query). x .router) (a .is)
 
 module _ (afi : ℕ) (tree : SharedTree) (output : List ℕ) where
   -- a refusal by judging, and a class that it gives
-  judged-refused : (bits : ℕ) (ofFamily : familyBits afi ≡ given bits) {n : ℕ} → Judged afi tree bits ofFamily output (refused n) → SharedTreeRefusal afi tree output n
-  judged-refused bits ofFamily (refuses r) = r
+  judged-refused : (bits : ℕ) (ofFamily : familyBits afi ≡ given bits) (items : List Item) (prefixed : readPrefixes bits (tree .prefixes) ≡ given items) {n : ℕ} → Judged afi tree bits ofFamily items prefixed output (refused n) → SharedTreeRefusal afi tree output n
+  judged-refused bits ofFamily items prefixed (refuses r) = r
 
-  judged-taken : (bits : ℕ) (ofFamily : familyBits afi ≡ given bits) {class : ℕ} → Judged afi tree bits ofFamily output (given class) → GoodTree afi tree × Classed afi (tree .group) class
-  judged-taken bits ofFamily (takes g k) = (g, k)
+  judged-taken : (bits : ℕ) (ofFamily : familyBits afi ≡ given bits) (items : List Item) (prefixed : readPrefixes bits (tree .prefixes) ≡ given items) {class : ℕ} → Judged afi tree bits ofFamily items prefixed output (given class) → GoodTree afi tree × Classed afi (tree .prefixes) (tree .group) class
+  judged-taken bits ofFamily items prefixed (takes g k) = (g, k)
 
-  judged-good : (class : ℕ) → judgedTree afi tree ≡ given class → GoodTree afi tree × Classed afi (tree .group) class
+  judged-good : (class : ℕ) → judgedTree afi tree ≡ given class → GoodTree afi tree × Classed afi (tree .prefixes) (tree .group) class
   unfolding judgedTree
-  judged-good class e = let p = passed _ _ _ e in judged-taken (p .value) (p .first) (subst (Judged afi tree (p .value) (p .first) output) e (judged-is afi tree (p .value) (p .first) output))
+  judged-good class e =
+      let p = passed _ _ _ e in
+      let l = passed _ _ _ (p .second) in
+      judged-taken (p .value) (p .first) (l .value) (l .first) (subst (Judged afi tree (p .value) (p .first) (l .value) (l .first) output) e (judged-is afi tree (p .value) (p .first) (l .value) (l .first) output))
 
   pub tree-asked : (q : Query) → readTree afi tree output ≡ given q → AskedTree afi tree output q
   unfolding readTree
@@ -263,23 +274,49 @@ module _ (afi : ℕ) (tree : SharedTree) (output : List ℕ) where
   unfolding readTree
   tree-given g enough =
       let bits = family-good afi (multicast-family (g .addressed .multicast)) in
-      let j = judged-given afi tree (bits .0) (bits .1) g in
+      let j = judged-given afi tree (bits .0) (bits .1) (g .prefixed .items) (good-prefixes afi (bits .0) (bits .1) (tree .prefixes) (g .prefixed)) g in
       (treeQuery afi tree (j .0), sym (goes _ _ _ _ (j .1) (sym (pick-false _ _ _ (le-ltb (length output) 124 enough)))))
+
+  -- the refusals by the prefixes, and those that follow
+  module _ (bits : ℕ) (ofFamily : familyBits afi ≡ given bits) where
+    prefixes-refuse : (n : ℕ) → readPrefixes bits (tree .prefixes) ≡ refused n → judgedTree afi tree ≡ refused n
+    unfolding judgedTree
+    prefixes-refuse n e = sym (goes _ _ _ _ ofFamily (stops _ _ _ e))
+
+    refusal : (n : ℕ) → judgedTree afi tree ≡ refused n → SharedTreeRefusal afi tree output n
+    refusal n e =
+        ⊎-elim (λ l. judged-refused bits ofFamily (l .0) (l .1) (subst (Judged afi tree bits ofFamily (l .0) (l .1) output) e (judged-is afi tree bits ofFamily (l .0) (l .1) output)))
+        (λ r. badTreePrefixes (prefixes-refused afi bits ofFamily (tree .prefixes) n (r .1 ∙ refused-alike (sym (prefixes-refuse (r .0) (r .1)) ∙ e))))
+        (outcome (readPrefixes bits (tree .prefixes)))
+      where
+        refused-alike : {m : ℕ} → _≡_ {A = Outcome ℕ} (refused m) (refused n) → _≡_ {A = Outcome (List Item)} (refused m) (refused n)
+        refused-alike q = ap refused (refused-same {A = ℕ} q)
+
+    with-prefixes : GoodPrefixes afi (tree .prefixes) → {n : ℕ} → SharedTreeRefusal afi tree output n → (judgedTree afi tree ≡ refused n) ⊎ (GoodTree afi tree × (length output < 124) × (n ≡ SPACE))
+    with-prefixes ok r = judged-refuses afi tree bits ofFamily (ok .items) (good-prefixes afi bits ofFamily (tree .prefixes) ok) r
+
+    refuses-by : {n : ℕ} → SharedTreeRefusal afi tree output n → (judgedTree afi tree ≡ refused n) ⊎ (GoodTree afi tree × (length output < 124) × (n ≡ SPACE))
+    refuses-by (badTreePrefixes r) = inl (prefixes-refuse _ (refused-prefixes afi bits ofFamily (tree .prefixes) r))
+    refuses-by (longList ok h) = with-prefixes ok (longList ok h)
+    refuses-by (shortList ok few h) = with-prefixes ok (shortList ok few h)
+    refuses-by (badAddress ok few lent bad) = with-prefixes ok (badAddress ok few lent bad)
+    refuses-by (badSourceActive ok few lent good r) = with-prefixes ok (badSourceActive ok few lent good r)
+    refuses-by (tooSmall good less) = inr (good, less, refl)
 
   pub tree-refused : (n : ℕ) → KnownFamily afi → (readTree afi tree output ≡ refused n) ↔ SharedTreeRefusal afi tree output n
   unfolding readTree
   tree-refused n known =
       let bits = family-good afi known in (
         λ e.
-            ⊎-elim (λ r. judged-refused (bits .0) (bits .1) (subst (Judged afi tree (bits .0) (bits .1) output) r (judged-is afi tree (bits .0) (bits .1) output)))
+            ⊎-elim (λ r. refusal (bits .0) (bits .1) n r)
             (λ later.
             let p = refuses-where SPACE n _ _ (later .second) in
             subst (SharedTreeRefusal afi tree output) (sym (p .1)) (tooSmall (judged-good (later .value) (later .first) .0) (ltb-true _ _ (p .0))))
             (stopped _ _ _ e),
         λ r.
             ⊎-elim (λ j. sym (stops _ _ _ j))
-            (λ s. sym (goes _ _ _ _ (judged-given afi tree (bits .0) (bits .1) (s .0) .1) (sym (pick-true _ _ _ (lt-ltb (length output) 124 (s .1)) ∙ ap refused (sym (s .2))))))
-            (judged-refuses afi tree (bits .0) (bits .1) r),
+            (λ s. sym (goes _ _ _ _ (judged-given afi tree (bits .0) (bits .1) (s .0 .prefixed .items) (good-prefixes afi (bits .0) (bits .1) (tree .prefixes) (s .0 .prefixed)) (s .0) .1) (sym (pick-true _ _ _ (lt-ltb (length output) 124 (s .1)) ∙ ap refused (sym (s .2))))))
+            (refuses-by (bits .0) (bits .1) r),
       )
 
 -- what makes a route eligible

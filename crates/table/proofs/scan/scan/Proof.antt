@@ -1,12 +1,12 @@
 -- `table::scan::scan` meets its contract.
 use native.Mathlib.Omega.{arith}
-use Rattle.routes.specs.Query.{flowOf}
+use Rattle.table.specs.Scanning.{soughtOf}
 use Rattle.table.proofs.Scans.{Going, going-first, going-here, going-next, going-last}
 use Rattle.table.proofs.scan.scan.Statement.{statement}
 use Rattle.table.proofs.scan.scan.Tie as tie
 
 abbrev Inv-loop : tie.InvT-loop
-Inv-loop table count router source group tiers best₀ at₀ left₀ best at left = Going (flowOf router source group) tiers table count best at left
+Inv-loop table count router source group tiers best₀ at₀ left₀ best at left = Going (soughtOf router source group) tiers table count best at left
 
 abbrev μ-loop : tie.MeasureT-loop
 μ-loop table count router source group tiers best₀ at₀ left₀ best at left = left

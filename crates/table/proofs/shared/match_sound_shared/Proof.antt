@@ -12,13 +12,13 @@ no-facts : Facts
 no-facts = record { upstream = 0; bidirectional = 0; «source_active_unused» = 0 }
 
 afi-of-requires : tie.Need-afi-of-requires
-afi-of-requires c κs = header-within _ (c .before .before .before .before .before .before .pre)
+afi-of-requires c κs = header-within _ (c .before .before .before .before .before .before .before .pre)
 
 returns : tie.Need-returns
-returns c = shared-refused _ _ _ _ (c .before .before .before .before .before .before .before .before .before .before .before .pre) _ (c .before .before .before .before .afi-of .ensures .0) _ (c .before .before .before .tree-class .ensures (c .before .before .before .before .before .before .before .before .before .before .before .args .facts)) (c .before .if1 .taken) (c .refused .ensures)
+returns c = shared-refused _ _ _ _ (c .before .before .before .before .before .before .before .before .before .before .before .before .pre) _ (c .before .before .before .before .afi-of .ensures .0) _ (c .before .before .before .tree-class .ensures (c .before .before .before .before .before .before .before .before .before .before .before .before .args .facts)) (c .before .if1 .taken) (c .refused .ensures)
 
 returns-2 : tie.Need-returns-2
-returns-2 c = shared-space _ _ _ _ (c .before .before .before .before .before .before .before .before .before .before .before .before .pre) _ (c .before .before .before .before .before .afi-of .ensures .0) _ (c .before .before .before .before .tree-class .ensures (c .before .before .before .before .before .before .before .before .before .before .before .before .args .facts)) (c .before .before .if1 .left) (c .before .if2 .taken) (c .refused2 .ensures)
+returns-2 c = shared-space _ _ _ _ (c .before .before .before .before .before .before .before .before .before .before .before .before .before .pre) _ (c .before .before .before .before .before .afi-of .ensures .0) _ (c .before .before .before .before .tree-class .ensures (c .before .before .before .before .before .before .before .before .before .before .before .before .before .args .facts)) (c .before .before .if1 .left) (c .before .if2 .taken) (c .refused2 .ensures)
 
 open-tiers-requires : tie.Need-open-tiers-requires
 unfolding treeOf
@@ -28,13 +28,13 @@ search-requires : tie.Need-search-requires
 unfolding treeOf
 search-requires c κs =
     let accepted = shared-accepted _ _ _ (c .before .before .before .before .before .before .afi-of .ensures .0) _ (c .before .before .before .before .before .tree-class .ensures no-facts) (c .before .before .before .if1 .left) in
-    (c .before .before .before .before .before .before .before .before .before .before .before .before .before .pre, c .before .before .if2 .left, accepted .grouped, accepted .grouped, accepted .routed)
+    (c .before .before .before .before .before .before .before .before .before .before .before .before .before .before .pre, c .before .before .if2 .left, accepted .grouped, accepted .grouped, accepted .routed)
 
 returns-3 : tie.Need-returns-3
 unfolding treeOf
 returns-3 c =
-    shared-search _ _ _ _ (c .before .before .before .before .before .before .before .before .before .before .before .before .before .before .before .before .pre) _ (c .before .before .before .before .before .before .before .before .before .afi-of .ensures .0) _ (c .before .before .before .before .before .before .before .before .tree-class .ensures (c .before .before .before .before .before .before .before .before .before .before .before .before .before .before .before .before .args .facts)) (c .before .before .before .before .before .before .if1 .left) (c .before .before .before .before .before .if2 .left) _ _
-    (c .before .before .before .before .open-tiers .ensures _ (shared-accepted _ _ _ (c .before .before .before .before .before .before .before .before .before .afi-of .ensures .0) _ (c .before .before .before .before .before .before .before .before .tree-class .ensures no-facts) (c .before .before .before .before .before .before .if1 .left) .read)) (c .before .before .search .ensures)
+    shared-search _ _ _ _ (c .before .before .before .before .before .before .before .before .before .before .before .before .before .before .before .before .before .pre) _ (c .before .before .before .before .before .before .before .before .before .afi-of .ensures .0) _ (c .before .before .before .before .before .before .before .before .tree-class .ensures (c .before .before .before .before .before .before .before .before .before .before .before .before .before .before .before .before .before .args .facts)) (c .before .before .before .before .before .before .if1 .left) (c .before .before .before .before .before .if2 .left) _ _
+    (c .before .before .before .before .open-tiers .ensures _ _ (shared-accepted _ _ _ (c .before .before .before .before .before .before .before .before .before .afi-of .ensures .0) _ (c .before .before .before .before .before .before .before .before .tree-class .ensures no-facts) (c .before .before .before .before .before .before .if1 .left) .read)) (c .before .before .search .ensures)
 
 pub match-sound-shared-spec : {M : Type 1} → statement M
 match-sound-shared-spec =

@@ -5,10 +5,10 @@ use Rattle.table.proofs.shared.open_tiers.Statement.{statement}
 use Rattle.table.proofs.shared.open_tiers.Tie as tie
 
 returns : tie.Need-returns
-returns c afi none = tiers-closed afi _ _ _ (c .before .if1 .taken) (c .of-tree .ensures)
+returns c afi prefixes none = tiers-closed afi _ _ _ (c .before .if1 .taken) (c .of-tree .ensures)
 
 returns-2 : tie.Need-returns-2
-returns-2 c afi none = tiers-open afi _ _ _ (c .before .before .if1 .left) _ (c .before .is-eligible .ensures afi none) (c .of-tree2 .ensures)
+returns-2 c afi prefixes none = tiers-open afi _ _ _ (c .before .before .if1 .left) _ (c .before .is-eligible .ensures afi prefixes none) (c .of-tree2 .ensures)
 
 pub open-tiers-spec : {M : Type 1} → statement M
 open-tiers-spec = tie.close (tie.spec (search needs) returns (λ c κs. search needs) (search needs) returns-2)
