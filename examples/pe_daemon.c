@@ -1,7 +1,8 @@
 /*
  * A provider edge router's use of mvpn.h. It reads BGP UPDATE messages, keeps the S-PMSI A-D and Source Active A-D routes of
  * one VRF in them, also while the session is down by which they come (RFC 4724), and tells which route and which tunnel a
- * customer flow (C-S,C-G) or a shared tree (C-*,C-G) takes, and of a flow also why. At the end it lists its tables.
+ * customer flow (C-S,C-G) or a shared tree (C-*,C-G) takes, and of a flow also why. It follows the flows while messages come, and
+ * after each change of its tables asks only those again whose answer may be another. At the end it lists its tables.
  *
  *     pe_daemon [--pieces OCTETS] [--ssm ADDRESS/LENGTH]... FILE [REQUEST]...
  *
@@ -42,6 +43,21 @@ typedef struct {
     customer_states states;
 } customer_family;
 
+/* A flow, and its answer: the route that it takes, as a match writes it; tier 0 where it takes none. */
+typedef struct {
+    request flow;
+    mvpn_matched match;
+    uint8_t route[MVPN_MATCH_OUTPUT];
+} followed_flow;
+
+/* The flows that are followed while messages come: the first ones of the command line. And how often, after a change of a table,
+ * one was asked again, was answered otherwise then, and was not asked. */
+enum { MOST_FOLLOWED = 64 };
+typedef struct {
+    followed_flow of[MOST_FOLLOWED];
+    size_t count, asked, other, not_asked;
+} followed_flows;
+
 /* NLRIs, by what became of them. A withdrawal of a route that is not there is no refusal: nothing is wrong with it. Routes that
  * were stale and went are of no NLRI that came. */
 typedef struct { size_t added, replaced, withdrawn, absent, refused, gone; } changes;
@@ -59,6 +75,7 @@ typedef struct {
     size_t piece_size;                      /* the octets of a run that are handed over at once */
     size_t messages, dropped, damaged_runs; /* a run is the NLRIs of one attribute */
     changes routes, sources;                /* of S-PMSI A-D and Source Active A-D routes */
+    followed_flows flows;
     size_t other, skipped;                  /* NLRIs of other route types; of unknown ones */
 } customer_vrf;
 
@@ -82,6 +99,11 @@ static uint8_t *table_of(customer_vrf *vrf, uint16_t afi)
     return family_of(vrf, afi)->table;
 }
 
+static uint16_t afi_of(const mvpn_address *address)
+{
+    return address->size == 4 ? MVPN_AFI_IPV4 : MVPN_AFI_IPV6;
+}
+
 /* The AFIs and the size are right, so neither call is refused. */
 static void make_tables(customer_vrf *vrf)
 {
@@ -89,12 +111,106 @@ static void make_tables(customer_vrf *vrf)
     mvpn_make(MVPN_AFI_IPV6, table_of(vrf, MVPN_AFI_IPV6), TABLE_SIZE);
 }
 
+/* ---- flows that are followed: which of them are asked again after a change of a table, as mvpn(3) says under "What to ask again".
+ * The answers of all others are as they were. */
+
+/* Shared trees are not followed: their answers also depend on Source Active routes and states. */
+static void follow(followed_flows *flows, const request *asked)
+{
+    if (asked->kind == FLOW && flows->count < MOST_FOLLOWED)
+        flows->of[flows->count++].flow = *asked;
+}
+
+static mvpn_matched match_flow(customer_vrf *vrf, const uint8_t *table, size_t table_size, const request *flow,
+                               uint8_t output[MVPN_MATCH_OUTPUT])
+{
+    uint8_t list[PREFIXES_SPACE];
+    octets prefixes = list_prefixes(&family_of(vrf, afi_of(&flow->group))->prefixes, list);
+    return mvpn_match(table, table_size, prefixes.at, prefixes.size, flow->router.octets, flow->router.size,
+                      flow->source.octets, flow->source.size, flow->group.octets, flow->group.size, output, MVPN_MATCH_OUTPUT);
+}
+
+static void print_followed(const followed_flow *followed)
+{
+    printf("\n      flow ");
+    print_pair(&followed->flow.source, &followed->flow.group);
+    printf(" of router ");
+    print_address(followed->flow.router.octets, followed->flow.router.size);
+    if (followed->match.tier == MVPN_NO_TIER) {
+        printf(": no route");
+        return;
+    }
+    const uint8_t *attribute = followed->route + followed->match.nlri_size;
+    mvpn_attribute_reading tunnel = mvpn_attribute_read(attribute, followed->match.attribute_size);
+    printf(": tier %u, ", (unsigned)followed->match.tier);
+    print_tunnel(&tunnel);
+}
+
+/* Where the answer is another one, a router would leave the tunnel and join the new one. */
+static void ask_again(customer_vrf *vrf, followed_flow *followed)
+{
+    followed_flow now = { .flow = followed->flow };
+    now.match = match_flow(vrf, table_of(vrf, afi_of(&now.flow.group)), TABLE_SIZE, &now.flow, now.route);
+    vrf->flows.asked++;
+    if (memcmp(&now.match, &followed->match, sizeof now.match) == 0 && memcmp(now.route, followed->route, sizeof now.route) == 0)
+        return;
+    vrf->flows.other++;
+    *followed = now;
+    print_followed(followed);
+}
+
+static void ask_or_not(customer_vrf *vrf, followed_flow *followed, bool asks)
+{
+    if (asks)
+        ask_again(vrf, followed);
+    else
+        vrf->flows.not_asked++;
+}
+
+/* The flows that the route would take if it were the only one, in a tier that is not after that of their answer. */
+static void ask_after_install(customer_vrf *vrf, uint16_t afi, octets nlri)
+{
+    static const uint8_t tunnel[] = { 0, MVPN_TUNNEL_INGRESS_REPLICATION, 0, 0, 0, 0, 0, 0, 0 };
+    uint8_t one[MVPN_TABLE_SIZE(1)], output[MVPN_MATCH_OUTPUT];
+    mvpn_make(afi, one, sizeof one);
+    mvpn_install(one, sizeof one, nlri.at, nlri.size, tunnel, sizeof tunnel);
+    for (size_t i = 0; i < vrf->flows.count; i++) {
+        followed_flow *followed = &vrf->flows.of[i];
+        uint32_t tier = followed->match.tier, alone = match_flow(vrf, one, sizeof one, &followed->flow, output).tier;
+        ask_or_not(vrf, followed, alone != MVPN_NO_TIER && (tier == MVPN_NO_TIER || alone <= tier));
+    }
+}
+
+/* The flows that took the route. Routes of two families may have the same NLRI. */
+static void ask_after_withdrawal(customer_vrf *vrf, uint16_t afi, octets nlri)
+{
+    for (size_t i = 0; i < vrf->flows.count; i++) {
+        followed_flow *followed = &vrf->flows.of[i];
+        bool is_answered = followed->match.nlri_size == nlri.size && memcmp(followed->route, nlri.at, nlri.size) == 0;
+        ask_or_not(vrf, followed, is_answered && afi_of(&followed->flow.group) == afi);
+    }
+}
+
+/* Where routes of a router went with a mark or a sweep, the flows that took a route of it. */
+static void ask_after_restart(customer_vrf *vrf, uint16_t afi, const mvpn_address *router, uint32_t gone)
+{
+    for (size_t i = 0; i < vrf->flows.count; i++) {
+        followed_flow *followed = &vrf->flows.of[i];
+        bool is_of_router = memcmp(&followed->flow.router, router, sizeof *router) == 0;
+        bool has_route = followed->match.tier != MVPN_NO_TIER && afi_of(&followed->flow.group) == afi;
+        ask_or_not(vrf, followed, gone > 0 && is_of_router && has_route);
+    }
+}
+
+/* ---- changes of a table */
+
 static void withdraw(customer_vrf *vrf, uint16_t afi, octets nlri)
 {
     uint32_t number = mvpn_withdraw(table_of(vrf, afi), TABLE_SIZE, nlri.at, nlri.size);
     if (number == MVPN_DONE) {
         vrf->routes.withdrawn++;
         printf("withdrawn");
+        ask_after_withdrawal(vrf, afi, nlri);
         return;
     }
     printf("not withdrawn, ");
@@ -109,14 +225,17 @@ static void withdraw(customer_vrf *vrf, uint16_t afi, octets nlri)
 
 /* A route that is refused is no longer offered in a form that we can use, so what the table holds for it must go as well
  * ("treat-as-withdraw", RFC 7606, section 2). The library leaves that to us: a refusal changes nothing. */
-static void treat_as_withdrawn(customer_vrf *vrf, uint16_t afi, octets nlri)
+static void treat_as_withdrawn(customer_vrf *vrf, uint16_t afi, octets nlri, octets tunnel)
 {
+    bool is_gone = mvpn_withdraw(table_of(vrf, afi), TABLE_SIZE, nlri.at, nlri.size) == MVPN_DONE;
     vrf->routes.refused++;
-    if (mvpn_withdraw(table_of(vrf, afi), TABLE_SIZE, nlri.at, nlri.size) == MVPN_DONE) {
-        vrf->routes.withdrawn++;
-        printf("; treated as withdrawn");
-    }
+    vrf->routes.withdrawn += is_gone;
+    printf("%s", is_gone ? "; treated as withdrawn" : "");
     print_refused("NLRI", nlri);
+    if (tunnel.at)
+        print_refused("attribute", tunnel);
+    if (is_gone)
+        ask_after_withdrawal(vrf, afi, nlri);
 }
 
 /* A route of tunnel type 0 asks for tracking: the table holds it, and no match takes it (RFC 8556, section 4.1). */
@@ -129,15 +248,14 @@ static void install(customer_vrf *vrf, uint16_t afi, octets nlri, octets tunnel)
 {
     if (!tunnel.at) {
         printf("not installed, no PMSI Tunnel attribute");
-        treat_as_withdrawn(vrf, afi, nlri);
+        treat_as_withdrawn(vrf, afi, nlri, tunnel);
         return;
     }
     mvpn_installed installed = mvpn_install(table_of(vrf, afi), TABLE_SIZE, nlri.at, nlri.size, tunnel.at, tunnel.size);
     if (installed.number != MVPN_DONE) {
         printf("not installed, ");
         print_number(installed.number);
-        treat_as_withdrawn(vrf, afi, nlri);
-        print_refused("attribute", tunnel);
+        treat_as_withdrawn(vrf, afi, nlri, tunnel);
         return;
     }
     bool is_new = installed.outcome == MVPN_NEW;
@@ -145,6 +263,7 @@ static void install(customer_vrf *vrf, uint16_t afi, octets nlri, octets tunnel)
     printf("installed, %s", is_new ? "new" : "replaces the attribute it had");
     if (names_no_tunnel(tunnel))
         printf("; it names no tunnel, so no match takes it");
+    ask_after_install(vrf, afi, nlri);
 }
 
 /* ---- Source Active A-D routes */
@@ -225,7 +344,7 @@ static void print_restarted(bool lost, size_t gone)
 {
     if (gone > 0)
         printf("%zu went, %s", gone, lost ? "stale since the session was lost before; any others are " : "not announced again");
-    printf("%s\n", lost ? "stale from now on" : "");
+    printf("%s", lost ? "stale from now on" : "");
 }
 
 /* Where the session was lost, marks the routes of each originator, once; else sweeps what is still marked. The tables are sound
@@ -244,6 +363,8 @@ static void restart_family(customer_vrf *vrf, uint16_t afi, bool lost)
             print_address(router->octets, router->size);
             printf(": ");
             print_restarted(lost, restarted.gone);
+            ask_after_restart(vrf, afi, router, restarted.gone);
+            printf("\n");
         }
     }
     size_t gone = restart_source_actives(sources, lost);
@@ -251,6 +372,7 @@ static void restart_family(customer_vrf *vrf, uint16_t afi, bool lost)
     if (gone > 0 || (lost && has_sources)) {
         printf("  %s, Source Active A-D routes: ", family_name(afi));
         print_restarted(lost, gone);
+        printf("\n");
     }
 }
 
@@ -500,14 +622,12 @@ static void print_counts(const customer_vrf *vrf)
     print_changes("S-PMSI A-D routes", &vrf->routes);
     print_changes("Source Active A-D routes", &vrf->sources);
     printf("other NLRIs: %zu; skipped, of unknown route type: %zu\n", vrf->other, vrf->skipped);
+    if (vrf->flows.count > 0)
+        printf("flows followed: %zu; after changes asked again %zu, of these answered otherwise %zu; not asked %zu\n",
+               vrf->flows.count, vrf->flows.asked, vrf->flows.other, vrf->flows.not_asked);
 }
 
 /* ---- SSM ranges */
-
-static uint16_t afi_of(const mvpn_address *address)
-{
-    return address->size == 4 ? MVPN_AFI_IPV4 : MVPN_AFI_IPV6;
-}
 
 /* The class of a group, by the prefixes of its family. */
 static mvpn_group class_of(customer_vrf *vrf, const mvpn_address *group)
@@ -733,14 +853,15 @@ static void answer(customer_vrf *vrf, const request *asked)
     }
 }
 
-/* Whether every request of the command line is right. */
-static bool requests_are_right(char **words)
+/* Whether every request of the command line is right; its flows are followed from now on. */
+static bool take_requests(customer_vrf *vrf, char **words)
 {
     request asked;
     while (*words) {
         int count = parse_request(words, &asked);
         if (count == 0)
             return false;
+        follow(&vrf->flows, &asked);
         words += count;
     }
     return true;
@@ -784,7 +905,7 @@ int main(int argc, char **argv)
         return 2;
     }
     const char *file = *words++;
-    if (!requests_are_right(words))
+    if (!take_requests(&vrf, words))
         return 2;
     FILE *input = open_input(file);
     if (!input)

@@ -31,10 +31,10 @@
 #include <stdint.h>
 
 /* The version of this header and its archive; before 1.0.0 a new minor version may change calls. */
-#define MVPN_VERSION "0.13.0"
+#define MVPN_VERSION "0.13.1"
 #define MVPN_VERSION_MAJOR 0
 #define MVPN_VERSION_MINOR 13
-#define MVPN_VERSION_PATCH 0
+#define MVPN_VERSION_PATCH 1
 
 /* The version as one number, an octet for each part: what mvpn_version gives, where header and archive are of one version. */
 #define MVPN_VERSION_NUMBER (MVPN_VERSION_MAJOR * 65536 + MVPN_VERSION_MINOR * 256 + MVPN_VERSION_PATCH)
@@ -398,8 +398,13 @@ mvpn_written mvpn_attribute_write(uint8_t flags, uint8_t tunnel_type, uint32_t l
  * Install, withdraw, mark, sweep, both matches, explain, next and table_info look at every octet of the table, and refuse one
  * that is not sound; beyond that, their cost grows with the places that are taken.
  *
- * A daemon with more than 500 routes keeps a table for each originator: the candidates of a match are those of the router that
- * it asks about, so the answers are those of one table that holds all routes.
+ * A daemon with more than 500 routes keeps several tables, and gets the answers of one that holds all routes: a table for each
+ * originator, since the candidates of a match are those of the router that it asks about; or, with more than 500 routes of one
+ * originator, (C-S,C-G) routes in small tables by a hash of originator, source and group. mvpn(3) shows the lines.
+ *
+ * A change leaves most answers as they were: a withdrawal all but those of the NLRI withdrawn, an install all but those of the NLRI
+ * installed and those that are the route installed afterwards, a mark or a sweep all but those whose route went, a refused call all.
+ * mvpn(3) shows, under "What to ask again", how a daemon that keeps the answers of its flows finds which to ask.
  */
 enum {
     MVPN_TABLE_HEADER = 8,
@@ -460,8 +465,8 @@ uint32_t mvpn_withdraw(uint8_t *table, size_t table_len, const uint8_t *nlri, si
  *   - A route is advertised again: mvpn_install takes its mark off. One that is withdrawn goes, marked or not.
  *   - End-of-RIB of the table's family comes; or the peer's Restart Time, or a timer of the daemon's, runs out; or the session
  *     comes back without the family's forwarding state: mvpn_sweep for each of these originators.
- * Where routes went, the daemon matches anew the flows of that router. Of a table all of whose routes come by one session,
- * these lines mark every originator's where `lost`, else sweep them:
+ * Where routes went, the daemon matches anew the flows of that router that have a route. Of a table all of whose routes come by one
+ * session, these lines mark every originator's where `lost`, else sweep them:
  *
  *     uint8_t nlri[MVPN_MATCH_OUTPUT], route[MVPN_MATCH_OUTPUT];
  *     mvpn_address originators[MVPN_MOST_PLACES];

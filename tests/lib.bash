@@ -80,6 +80,24 @@ first_part() {
     sed -n "/^The first part of a run ends here:/,/^\.fi/p" man/mvpn.3 | sed -e 1d -e '/^\./d' -e 's/\\-/-/g'
 }
 
+# shown_after PATTERN: the lines that mvpn(3) shows behind a line that the pattern meets.
+shown_after() {
+    sed -n "/$1/,/^\.fi/p" man/mvpn.3 | sed -e '1,/^\.nf/d' -e '/^\./d' -e 's/\\-/-/g'
+}
+
+# The lines of mvpn(3) for callers who keep answers, and for those with more than 500 routes: where a route stands, and a match.
+ask_again_lines() {
+    shown_after '^is the tier of a flow.s answer:$'
+}
+
+place_lines() {
+    shown_after '^A route that is installed or withdrawn, .* stands in this table:$'
+}
+
+several_lines() {
+    shown_after '^And a flow is matched thus:$'
+}
+
 # blocks LANGUAGE FILE: the lines of the fenced blocks of that language.
 blocks() {
     awk -v fence="\`\`\`$1" '$0 == fence { inside = 1; next } /^```/ { inside = 0 } inside' "$2"

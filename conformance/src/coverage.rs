@@ -1,7 +1,7 @@
 //! What the comparison has met: the numbers of each call, route types, families, tunnel types, group classes, outcomes, routes
-//! that went, marks, tiers and kinds of sequence.
+//! that went, marks, tiers, kinds of sequence, what changes do to answers, and answers of several tables.
 
-use crate::second::ranges::MOST_PREFIXES;
+use crate::second::{disturbance::Effect, ranges::MOST_PREFIXES};
 use std::collections::BTreeMap;
 
 /// Each row must be met this often.
@@ -31,6 +31,19 @@ pub enum Call {
     MatchShared,
     /// A call in a sequence on one table.
     Sequence,
+    /// A match before a change of its table and after it.
+    Disturbance,
+    /// A match, or a change, where routes stand in several tables.
+    Splitting,
+}
+
+/// The calls that change a table that is made.
+#[derive(Clone, Copy, Debug, PartialEq, Eq, PartialOrd, Ord)]
+pub enum Change {
+    Install,
+    Withdraw,
+    Mark,
+    Sweep,
 }
 
 #[derive(Clone, Copy, Debug, PartialEq, Eq, PartialOrd, Ord)]
@@ -97,6 +110,18 @@ pub enum Seen {
     Restarted(u16, bool, bool, bool),
     /// AFI and tier of a sequence's match for a shared tree.
     SharedTree(u16, u32),
+    /// AFI, whether of a shared tree, and what a change does to the answer.
+    Effect(u16, bool, Change, Effect),
+    /// AFI, a change, whether by it one asks again, and whether the answer is another.
+    AskedAgain(u16, Change, bool, bool),
+    /// AFI, and whether the group has another class by other prefixes, and whether the answer is another.
+    OtherClass(u16, bool, bool),
+    /// AFI, tier of a match of any kind, and how many of several tables were asked for it.
+    OfTables(u16, u32, usize),
+    /// A full table that was made larger: AFI.
+    Grown(u16),
+    /// AFI, and a mark or a sweep on several tables, by which routes went.
+    WentOfTables(u16, Change),
 }
 
 /// The numbers that each call can give (document 01, "The numbers a call gives back"; document 02).
@@ -225,7 +250,50 @@ fn required_of_tables(afi: u16) -> Vec<(Call, Seen)> {
     for places in PLACES {
         rows.extend([true, false].map(|premise| (Call::Sequence, Seen::Places(afi, places, premise))));
     }
+    rows.extend(required_of_changes(afi));
+    rows.extend(required_of_several(afi));
     rows
+}
+
+/// What each change can do to an answer, and who asks again.
+fn required_of_changes(afi: u16) -> Vec<(Call, Seen)> {
+    let changes: [(Change, &[Effect]); 4] = [
+        (Change::Install, &[Effect::Refused, Effect::Unfelt, Effect::Unnamed]),
+        (Change::Withdraw, &[Effect::Refused, Effect::Unfelt, Effect::Withdrawn]),
+        (Change::Mark, &[Effect::Refused, Effect::Unfelt, Effect::Went]),
+        (Change::Sweep, &[Effect::Refused, Effect::Unfelt, Effect::Went]),
+    ];
+    let mut rows = Vec::new();
+    for (change, effects) in changes {
+        for shared in [true, false] {
+            rows.extend(effects.iter().map(|effect| Seen::Effect(afi, shared, change, *effect)));
+        }
+        rows.extend([(true, true), (false, false)].map(|(asks, other)| Seen::AskedAgain(afi, change, asks, other)));
+        // Who has the answer withdrawn has always another one afterwards.
+        if change != Change::Withdraw {
+            rows.push(Seen::AskedAgain(afi, change, true, false));
+        }
+    }
+    for tier in 1..=4 {
+        for shared in [true, false].into_iter().filter(|shared| !shared || tier >= 3) {
+            let effects = [Effect::Becomes(tier), Effect::Replaced(tier)];
+            rows.extend(effects.map(|effect| Seen::Effect(afi, shared, Change::Install, effect)));
+        }
+    }
+    rows.extend(
+        [(true, true), (true, false), (false, false)].map(|(class, other)| Seen::OtherClass(afi, class, other)),
+    );
+    rows.into_iter().map(|seen| (Call::Disturbance, seen)).collect()
+}
+
+/// What several tables answer: a flow's route comes from the small one in tier 1, and else from the other.
+fn required_of_several(afi: u16) -> Vec<(Call, Seen)> {
+    let flows = [(1, 1), (2, 2), (3, 2), (4, 2), (0, 2)];
+    let trees = [(3, 1), (4, 1), (0, 1)];
+    let asked = flows.into_iter().chain(trees).map(|(tier, tables)| Seen::OfTables(afi, tier, tables));
+    let others =
+        [Seen::Grown(afi)].into_iter().chain([Change::Mark, Change::Sweep].map(|it| Seen::WentOfTables(afi, it)));
+    asked.chain(others).map(|seen| (Call::Splitting, seen)).collect()
 }
 
 fn required_of_family(afi: u16) -> Vec<(Call, Seen)> {

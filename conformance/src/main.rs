@@ -87,6 +87,8 @@ fn finds(options: &Options, fault: Fault) -> bool {
         ShownBy::Explanations => cases::of_explanations(&mut harness, options),
         ShownBy::Following => cases::of_following(&mut harness, options),
         ShownBy::SharedTrees => cases::of_shared_trees(&mut harness, options),
+        ShownBy::Disturbance => cases::of_disturbance(&mut harness, options),
+        ShownBy::Splitting => cases::of_splitting(&mut harness, options),
         ShownBy::Encodings => cases::of_encodings(&mut harness, options),
         ShownBy::Skips => cases::of_skips(&mut harness, options),
         ShownBy::Fecs => cases::of_fecs(&mut harness, options),

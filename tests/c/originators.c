@@ -1,8 +1,9 @@
 /*
  * One table for each originator gives the answers of one table that holds all routes: of matches, explanations and matches for
- * shared trees, with their outputs, with no prefixes and by some. So a daemon with more than 500 routes keeps several tables. The
- * routes are drawn, from few sources, groups and route distinguishers, so that every tier, ties, and routes that name no tunnel
- * are met.
+ * shared trees, with their outputs, with no prefixes and by some. So do, for matches, small tables and tables of wildcards by the
+ * lines that mvpn(3) shows: place_lines.h and several_lines.h are cut out of it. So a daemon with more than 500 routes keeps several
+ * tables. The routes are drawn, from few sources, groups and route distinguishers, so that every tier, ties, and routes that name no
+ * tunnel are met.
  */
 #include "checks.h"
 
@@ -54,6 +55,82 @@ static mvpn_address group(uint16_t afi, size_t number)
     return address_of(16, 0xFF, is_ssm ? 0x3E : 0x0E, number);
 }
 
+/* ---- small tables, by a hash of originator, source and group, and a table of wildcards for each originator; each has no place
+ * at first */
+
+enum { SMALL = 16 };
+
+typedef struct { uint8_t *octets; size_t size; } memory;
+
+static memory small[SMALL], wildcards[ORIGINATORS + 1];
+
+static void make_several(uint16_t afi)
+{
+    for (size_t i = 0; i < SMALL + ORIGINATORS + 1; i++) {
+        lent none = made(afi, 0);
+        *(i < SMALL ? &small[i] : &wildcards[i - SMALL]) = (memory){ none.at, none.size };
+    }
+}
+
+static void free_several(void)
+{
+    for (size_t i = 0; i < SMALL + ORIGINATORS + 1; i++)
+        free((i < SMALL ? small[i] : wildcards[i - SMALL]).octets);
+}
+
+static size_t sum_of(const mvpn_address *address)
+{
+    size_t sum = address->size;
+    for (size_t i = 0; i < address->size; i++)
+        sum = 31 * sum + address->octets[i];
+    return sum;
+}
+
+static memory *small_table(const mvpn_address *by, const mvpn_address *from, const mvpn_address *to)
+{
+    return &small[(sum_of(by) + 3 * sum_of(from) + 7 * sum_of(to)) % SMALL];
+}
+
+/* The last one, which stays empty, is that of a router without routes. */
+static memory *wildcards_of(const mvpn_address *by)
+{
+    size_t of = 0;
+    mvpn_address known;
+    for (; of < ORIGINATORS; of++) {
+        known = originator(of);
+        if (known.size == by->size && memcmp(known.octets, by->octets, by->size) == 0)
+            break;
+    }
+    return &wildcards[of];
+}
+
+static memory *table_of_route(uint16_t afi, const uint8_t *nlri, size_t nlri_len)
+{
+    mvpn_nlri fields;
+    memory *table;
+#include "place_lines.h"
+    return table;
+}
+
+/* Its octets, and zeros behind them, are a larger table. */
+static void make_larger(memory *table)
+{
+    size_t larger = table->size + 4 * MVPN_PLACE;
+    table->octets = realloc(table->octets, larger);
+    memset(table->octets + table->size, 0, larger - table->size);
+    table->size = larger;
+}
+
+static mvpn_installed install_in_several(uint16_t afi, lent nlri, lent attribute)
+{
+    memory *table = table_of_route(afi, nlri.at, nlri.size);
+    mvpn_installed installed = mvpn_install(table->octets, table->size, nlri.at, nlri.size, attribute.at, attribute.size);
+    if (installed.number != MVPN_ROOM)
+        return installed;
+    make_larger(table);
+    return mvpn_install(table->octets, table->size, nlri.at, nlri.size, attribute.at, attribute.size);
+}
+
 /* ---- tables: all routes in the first, and one for each originator */
 
 typedef struct { lent all, own[ORIGINATORS]; } tables;
@@ -92,15 +169,18 @@ static lent drawn_attribute(void)
     return attribute;
 }
 
-/* The same install in both, with the same answer. */
-static void install_in_both(tables *t, uint16_t afi, size_t of)
+/* The same install in each, with the same answer. */
+static void install_in_each(tables *t, uint16_t afi, size_t of)
 {
     lent nlri = drawn_nlri(afi, of), attribute = drawn_attribute();
+    mvpn_installed in_several = install_in_several(afi, nlri, attribute);
     mvpn_installed in_all = mvpn_install(t->all.at, t->all.size, nlri.at, nlri.size, attribute.at, attribute.size);
     mvpn_installed in_own = mvpn_install(t->own[of].at, t->own[of].size, nlri.at, nlri.size, attribute.at, attribute.size);
     same("install", "number", in_all.number, MVPN_DONE);
     same("install", "number in the originator's own table", in_own.number, in_all.number);
     same("install", "outcome in the originator's own table", in_own.outcome, in_all.outcome);
+    same("install", "number in several tables", in_several.number, in_all.number);
+    same("install", "outcome in several tables", in_several.outcome, in_all.outcome);
     free(nlri.at);
     free(attribute.at);
 }
@@ -108,11 +188,12 @@ static void install_in_both(tables *t, uint16_t afi, size_t of)
 static tables filled(uint16_t afi)
 {
     tables t = { .all = made(afi, MVPN_MOST_PLACES) };
+    make_several(afi);
     for (size_t of = 0; of < ORIGINATORS; of++)
         t.own[of] = made(afi, ROUTES);
     for (size_t i = 0; i < ROUTES; i++)
         for (size_t of = 0; of < ORIGINATORS; of++)
-            install_in_both(&t, afi, of);
+            install_in_each(&t, afi, of);
     return t;
 }
 
@@ -148,6 +229,20 @@ static mvpn_matched match_shared(lent table, const asked *a, lent output)
                              mvpn_no_items, sizeof mvpn_no_items, output.at, output.size);
 }
 
+static mvpn_matched match_several(const asked *a, lent output)
+{
+    mvpn_address router = a->router, source = a->source, group = a->group;
+    const uint8_t *prefixes = a->prefixes.at;
+    size_t prefixes_len = a->prefixes.size;
+    uint8_t route[MVPN_MATCH_OUTPUT];
+    mvpn_matched match;
+    memory *table;
+    memset(route, FILL, sizeof route);
+#include "several_lines.h"
+    memcpy(output.at, route, sizeof route);
+    return match;
+}
+
 static unsigned tiers_met[5];
 
 static void same_answer(const char *shows, mvpn_matched own, lent own_output, mvpn_matched all, lent all_output)
@@ -165,6 +260,8 @@ static void same_answers(lent own, lent all, const asked *a)
     lent own_output = lent_of(MVPN_MATCH_OUTPUT, FILL), all_output = lent_of(MVPN_MATCH_OUTPUT, FILL);
     mvpn_matched own_match = match_flow(own, a, own_output), all_match = match_flow(all, a, all_output);
     same_answer("a match", own_match, own_output, all_match, all_output);
+    own_match = match_several(a, own_output);
+    same_answer("a match in several tables", own_match, own_output, all_match, all_output);
     mvpn_explained own_reasons = explain(own, a, own_output), all_reasons = explain(all, a, all_output);
     same_answer("an explanation", own_reasons.matched, own_output, all_reasons.matched, all_output);
     for (size_t i = 0; i < 4; i++)
@@ -208,6 +305,7 @@ int main(void)
         free(t.all.at);
         for (size_t of = 0; of < ORIGINATORS; of++)
             free(t.own[of].at);
+        free_several();
     }
     for (size_t tier = 0; tier <= 4; tier++)
         same("the flows", "a tier that is met", tiers_met[tier] > 0, true);

@@ -2,6 +2,7 @@
 
 pub mod attribute_writing;
 pub mod damage;
+pub mod disturbance;
 pub mod document;
 pub mod explanations;
 pub mod fecs;
@@ -30,6 +31,7 @@ pub mod shared;
 pub mod shared_examples;
 pub mod shared_refusals;
 pub mod skips;
+pub mod splitting;
 pub mod tables;
 
 use crate::{
@@ -50,6 +52,8 @@ pub fn all(harness: &mut Harness, options: &Options) -> Checked {
     of_explanations(harness, options)?;
     of_restarts(harness, options)?;
     of_ranges(harness, options)?;
+    of_disturbance(harness, options)?;
+    of_splitting(harness, options)?;
     of_tables(harness, options)
 }
 
@@ -111,6 +115,16 @@ pub fn of_restarts(harness: &mut Harness, options: &Options) -> Checked {
 /// Prefixes for source-specific groups, in the class call and in matches of every kind.
 pub fn of_ranges(harness: &mut Harness, options: &Options) -> Checked {
     ranges::all(harness, &mut Random::new(options.seed), options.cases)
+}
+
+/// What one change of a table disturbs, and who asks again after it.
+pub fn of_disturbance(harness: &mut Harness, options: &Options) -> Checked {
+    disturbance::all(harness, &mut Random::new(options.seed), options.cases)
+}
+
+/// Routes in several tables.
+pub fn of_splitting(harness: &mut Harness, options: &Options) -> Checked {
+    splitting::all(harness, &mut Random::new(options.seed), options.cases)
 }
 
 /// The table calls, mixed ones with matches for shared trees among them.

@@ -64,7 +64,7 @@ const ROUTER: [u8; 4] = [10, 0, 0, 1];
 const DISTINGUISHER_END: usize = 9;
 
 /// NLRI and attribute of a route as the examples name it; no octets where the name has none.
-fn named(name: &str) -> (Vec<u8>, Vec<u8>) {
+pub fn named(name: &str) -> (Vec<u8>, Vec<u8>) {
     let letter = name.get(..1).unwrap_or("");
     let (mut nlri, mut attribute) = route(&letter.to_uppercase());
     if name.ends_with('2') {

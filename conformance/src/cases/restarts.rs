@@ -50,8 +50,8 @@ pub enum Step {
 }
 
 /// Two routers of the same four octets, one of them with twelve more, and another.
-const ONE: &str = "0A000001";
-const TWO: &str = "0A000002";
+pub const ONE: &str = "0A000001";
+pub const TWO: &str = "0A000002";
 const WIDE: &str = "0A000001 00000000 00000000 00000000";
 
 /// (C-*,C-*) routes of the other two routers; A to E are of the first.
@@ -96,7 +96,7 @@ pub const EXAMPLE: [(&str, Step, u32, u32, &str); 29] = [
 ];
 
 /// The NLRI and the attribute of one of A to G.
-fn named(name: &str) -> (Vec<u8>, Vec<u8>) {
+pub fn named(name: &str) -> (Vec<u8>, Vec<u8>) {
     match OTHERS.iter().find(|(known, _, _)| *known == name) {
         Some((_, front, router)) => {
             (octets(&[&front.replace("RD", RD), *router].concat()), octets("00 06 000060 0A000001"))

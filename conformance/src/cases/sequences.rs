@@ -145,7 +145,7 @@ fn beyond(
 }
 
 /// What the calls of a list draw from.
-struct Stock {
+pub struct Stock {
     addresses: Addresses,
     /// The well-formed NLRIs that installs name.
     installed: Vec<Vec<u8>>,
@@ -166,7 +166,7 @@ struct Stock {
 }
 
 impl Stock {
-    fn new(random: &mut Random, afi: u16, installed: usize, restarts: usize) -> Self {
+    pub fn new(random: &mut Random, afi: u16, installed: usize, restarts: usize) -> Self {
         let addresses = Addresses::of_family(afi);
         let installed = addresses.nlris(random, installed);
         Stock {
@@ -205,6 +205,37 @@ impl Stock {
             }
             other if other % 2 == 0 => TableCall::Mark { router: self.router(random) },
             _ => TableCall::Sweep { router: self.router(random) },
+        }
+    }
+
+    /// An install, a withdrawal, a mark or a sweep.
+    pub fn change(&self, random: &mut Random) -> TableCall<'_> {
+        loop {
+            match self.call(random) {
+                TableCall::Match { .. } | TableCall::Explain { .. } | TableCall::MatchShared { .. } => {}
+                change => return change,
+            }
+        }
+    }
+
+    /// A match of any kind; now and then one with an output of any size.
+    pub fn asked(&self, random: &mut Random) -> TableCall<'_> {
+        let output = match random.once_in(20) {
+            true => picked(random, &self.outputs),
+            false => self.outputs.iter().find(|output| output.len() >= LEAST_OUTPUT).expect("an output with room"),
+        };
+        match random.below(5) {
+            0 => TableCall::Explain { flow: self.flow(random), output },
+            1 | 2 => TableCall::Match { flow: self.flow(random), output },
+            _ => TableCall::MatchShared { reception: self.reception(random), output },
+        }
+    }
+
+    /// A list of prefixes, seldom one that is not well-formed; one in three has none.
+    pub fn prefixes(&self, random: &mut Random) -> &[u8] {
+        match random.once_in(3) {
+            true => EMPTY,
+            false => picked(random, &self.prefixes),
         }
     }
 
@@ -265,17 +296,21 @@ impl Stock {
         }
     }
 
-    /// The flow with the originator and the addresses of a well-formed NLRI; its wildcards leave the flow's own.
     fn towards<'a>(&'a self, flow: Flow<'a>, nlri: &'a [u8]) -> Flow<'a> {
-        let second = Second::sound();
-        let Ok(reading) = second.single(self.addresses.afi, nlri) else { return flow };
-        let of = |field, own| Some(reading.octets(field)).filter(|octets| !octets.is_empty()).unwrap_or(own);
-        Flow {
-            prefixes: flow.prefixes,
-            router: reading.octets(Field::Originator),
-            source: of(Field::Source, flow.source),
-            group: of(Field::Group, flow.group),
-        }
+        towards(self.addresses.afi, flow, nlri)
+    }
+}
+
+/// The flow with the originator and the addresses of a well-formed NLRI; its wildcards leave the flow's own.
+pub fn towards<'a>(afi: u16, flow: Flow<'a>, nlri: &'a [u8]) -> Flow<'a> {
+    let second = Second::sound();
+    let Ok(reading) = second.single(afi, nlri) else { return flow };
+    let of = |field, own| Some(reading.octets(field)).filter(|octets| !octets.is_empty()).unwrap_or(own);
+    Flow {
+        prefixes: flow.prefixes,
+        router: reading.octets(Field::Originator),
+        source: of(Field::Source, flow.source),
+        group: of(Field::Group, flow.group),
     }
 }
 

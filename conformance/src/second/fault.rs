@@ -3,7 +3,8 @@
 
 /// The calls that show a fault; those on a table alone show the faults of the table and of the books, and the others each
 /// those of one call or rule alone: unknown route types, FEC elements in NLRIs, readers of pieces, routers that restart,
-/// prefixes for source-specific groups, explanations, looking into a table, matches for shared trees.
+/// prefixes for source-specific groups, explanations, looking into a table, matches for shared trees; what one change disturbs, and
+/// routes in several tables.
 #[derive(Clone, Copy, Debug, PartialEq, Eq)]
 pub enum ShownBy {
     Encodings,
@@ -16,6 +17,8 @@ pub enum ShownBy {
     Explanations,
     Following,
     SharedTrees,
+    Disturbance,
+    Splitting,
 }
 
 #[derive(Clone, Copy, Debug, PartialEq, Eq)]
@@ -436,6 +439,54 @@ faults! {
         SHARED_SOURCE_AND_GROUP: "(C-S,C-G) takes a shared tree",
         SHARED_SOURCE_ANY_GROUP: "(C-S,C-*) takes a shared tree",
         NO_TUNNEL_TAKEN_SHARED: "a shared tree may take a route that names no tunnel",
+    }
+    Disturbance {
+        WITHDRAWAL_UNFELT: "a withdrawal changes no answer",
+        WITHDRAWAL_FELT_BY_ROUTER: "a withdrawal changes every answer of its router",
+        WITHDRAWAL_FELT_BY_FLOW: "a withdrawal changes the answers that differ from its NLRI in the distinguisher alone",
+        REFUSED_INSTALL_FELT: "a refused install of the route answered changes the answer",
+        INSTALL_FELT_ALWAYS: "an install that takes the flow is the new answer, whatever the answer was",
+        INSTALL_FELT_WHERE_NONE: "an install is the new answer only where there was none",
+        INSTALL_FELT_WHERE_ANSWERED: "an install is the new answer only where there was one",
+        INSTALL_TIE_STAYS: "of one tier the answer stays, whatever the distinguishers",
+        INSTALL_TIE_CHANGES: "of one tier an install is the new answer, whatever the distinguishers",
+        INSTALL_FELT_BY_OTHERS: "an install changes the answers of other routers",
+        INSTALL_FELT_UNNAMED: "an install that names no tunnel is the new answer",
+        INSTALL_FELT_BY_STANDARD: "whether an install is a flow's new answer goes by the standard range",
+        INSTALL_FELT_INELIGIBLE: "an install is the new answer of a shared tree for which no condition holds",
+        INSTALL_FELT_BY_TREES: "a (C-S,C-G) install is the new answer of a shared tree",
+        REPLACEMENT_UNFELT: "an install that replaces the route answered changes nothing",
+        REPLACEMENT_FELT_UNCHANGED: "an install of the attribute that the route answered has changes the answer",
+        REPLACEMENT_STAYS_UNNAMED: "a route answered whose new attribute names no tunnel stays the answer",
+        MARK_FELT: "a mark changes every answer of its router",
+        MARK_UNFELT: "a mark changes no answer, though marked routes go",
+        SWEEP_UNFELT: "a sweep changes no answer",
+        SWEEP_FELT_BY_ROUTER: "a sweep changes every answer of its router",
+        RESTART_FELT_BY_OTHERS: "a mark or a sweep changes every answer whose route is marked",
+        PREFIXES_UNFELT: "other prefixes change no answer",
+        PREFIXES_FELT_BY_SSM: "other prefixes change the answers of groups that become SSM alone",
+        ALONE_AS_INSTALLED: "the table of one place holds the attribute installed",
+        ALONE_BY_STANDARD: "the table of one place is asked without prefixes",
+        ASKED_WHERE_ANSWERED: "who had no answer does not ask again after an install",
+        ASKED_BEFORE_ALONE: "who has an answer of the same tier does not ask again after an install",
+        ASKED_AFTER_ALONE: "who has an answer of a later tier does not ask again after an install",
+        ASKED_NOT_WHERE_WITHDRAWN: "nobody asks again after a withdrawal",
+        ASKED_NOT_AFTER_MARKS: "nobody asks again after a mark",
+        ASKED_NOT_AFTER_SWEEPS: "nobody asks again after a sweep",
+        ASKED_WHERE_TWO_WENT: "nobody asks again after a mark or a sweep with which one route went",
+    }
+    Splitting {
+        SPLIT_WITHOUT_ROUTER: "a route's small table is told without its originator, and a flow's with it",
+        SPLIT_WITHOUT_SOURCE: "a route's small table is told without its source, and a flow's with it",
+        SPLIT_WITHOUT_GROUP: "a route's small table is told without its group, and a flow's with it",
+        SPLIT_BY_NLRI: "a route's small table is told by its distinguisher too",
+        SPLIT_SOURCES_SMALL: "(C-S,C-*) routes stand in small tables",
+        SPLIT_WILDCARDS_FIRST: "the table of wildcards is asked first, and the small one where that has no route",
+        SPLIT_FIRST_ANY_TIER: "a route of any tier that the small table gives is taken",
+        SPLIT_FIRST_ONLY: "only the first table is asked",
+        SPLIT_LAST_ONLY: "only the table of wildcards is asked",
+        SPLIT_TREES_SMALL: "a shared tree is asked of a small table",
+        SPLIT_RESTART_WILDCARDS: "a mark or a sweep is made on the table of wildcards alone",
     }
 }
 

@@ -7,6 +7,7 @@ pub mod attribute;
 pub mod attribute_writing;
 pub mod books;
 pub mod choice;
+pub mod disturbance;
 pub mod fault;
 pub mod fec;
 pub mod following;
@@ -31,6 +32,7 @@ pub mod run;
 pub mod shared;
 #[cfg(test)]
 mod shared_tests;
+pub mod splitting;
 pub mod table;
 pub mod table_calls;
 #[cfg(test)]

@@ -3,6 +3,7 @@
 use super::{
     books::Books,
     choice::Flow,
+    disturbance::Effect,
     number::Number,
     ranges::NO_PREFIXES,
     shared::Reception,
@@ -13,6 +14,7 @@ use super::{
 use crate::{
     cases::{
         damage::DAMAGES,
+        disturbance,
         document::{route, table_image, FLOWS, LABELS, ORDER, RD},
         explanations::EXAMPLES,
         no_tunnel, restarts,
@@ -296,5 +298,27 @@ fn marks() {
             }
             _ => assert_eq!(second.table(&memory), Err(Number::Table), "{value} at {at}"),
         }
+    }
+}
+
+/// Document 02, W-213: what a change does to an answer, and who asks again.
+#[test]
+fn disturbance() {
+    let second = Second::sound();
+    for example in &disturbance::EXAMPLES {
+        let (before, mut table) = (example.table(), example.table());
+        let held = example.ask(|call| second.on_table(&mut table, call));
+        let number = example.change(|change| second.on_table(&mut table, change)).number();
+        let now = example.ask(|call| second.on_table(&mut table, call));
+        assert_eq!(now, no_tunnel::answer(example.after.0, example.after.1), "{}", example.shows);
+        example.ask(|call| {
+            example.change(|change| {
+                let effect = second.effect(&before, change, number, call, held.route());
+                assert_eq!(effect, example.effect, "{}", example.shows);
+                assert!(second.agrees_with(effect, change, call, &held, &now), "{}", example.shows);
+                let unchanged = matches!(effect, Effect::Refused | Effect::Unfelt);
+                assert_eq!(now == held, unchanged, "{}", example.shows);
+            })
+        });
     }
 }

@@ -1,5 +1,6 @@
 -- Proofs of what the rules in specs/ state.
 pub mod Taken
+pub mod MatchOver
 pub mod MatchRule
 pub mod SharedTreeRule
 pub mod ReasonRule
@@ -14,6 +15,9 @@ pub mod MakeRules
 pub mod InstallRules
 pub mod WithdrawRules
 pub mod RestartRules
+pub mod AskedRules
+pub mod DisturbanceRule
+pub mod SplitRule
 pub mod Decisions
 pub mod LastInstalled
 pub mod Mixed

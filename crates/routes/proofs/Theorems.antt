@@ -16,8 +16,12 @@ pub use Rattle.routes.proofs.Statements.NextRule.{nextRule}
 pub use Rattle.routes.proofs.Statements.InTurn.{inTurnRule}
 -- InfoRule
 pub use Rattle.routes.proofs.Statements.InfoRule.{infoRule}
+-- DisturbanceRule
+pub use Rattle.routes.proofs.Statements.DisturbanceRule.{disturbanceRule}
+-- SplitRule
+pub use Rattle.routes.proofs.Statements.SplitRule.{splitRule}
 -- MixedCalls
 pub use Rattle.routes.proofs.Statements.Mixed.MixedCalls.{mixedCalls}
 pub use Rattle.routes.proofs.Statements.Mixed.Premise.{premise}
--- Examples
-pub use Rattle.routes.proofs.Statements.Marked.{markedExamples}
+-- Examples, DisturbanceRule
+pub use Rattle.routes.proofs.Statements.Marked.{markedExamples, disturbanceExamples}

@@ -8,6 +8,8 @@ pub mod SharedTreeRule
 pub mod ReasonRule
 pub mod NextRule
 pub mod InfoRule
+pub mod DisturbanceRule
+pub mod SplitRule
 pub mod LastInstalled
 pub mod BookRules
 pub mod MixedCalls

@@ -16,6 +16,7 @@ mod explain;
 mod following;
 mod measure;
 mod pieces;
+mod planning;
 mod ranges;
 mod report;
 mod restarts;
@@ -105,6 +106,7 @@ fn all_rows(task: Task) -> ExitCode {
     explain::rows(&mut report);
     following::rows(&mut report);
     shared::rows(&mut report);
+    planning::rows(&mut report);
     unlearnt::rows(&mut report);
     if report.end() {
         ExitCode::SUCCESS

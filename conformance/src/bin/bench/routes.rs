@@ -39,6 +39,21 @@ pub fn routes(afi: u16, count: usize) -> Vec<Route> {
     routes
 }
 
+/// (C-S,C-G) routes of so many originators, each with so many.
+pub fn of_many(afi: u16, originators: usize, count: usize) -> Vec<Vec<Route>> {
+    let attributes = tunnels();
+    let route = |router: usize, index: usize| {
+        let [high, low] = [(index / 250) as u8, (index % 250) as u8];
+        let flow = [
+            address(afi, [0x20, 1, 0x0D, 0xB8], [10, 0, 1, router as u8]),
+            address(afi, [0x20, 1, 0x0D, 0xB8], [192, 0, high, low]),
+            address(afi, [0xFF, 0x3E, 0, 0], [232, 1, high, low]),
+        ];
+        of_flow(&distinguisher(router as u8), flow, 1, attributes[index % attributes.len()].clone())
+    };
+    (0..originators).map(|router| (0..count).map(|index| route(router, index)).collect()).collect()
+}
+
 /// Attributes of every tunnel type: a route that names no tunnel takes no flow.
 fn tunnels() -> Vec<Vec<u8>> {
     let second = Second::sound();

@@ -92,7 +92,7 @@ lookup-cases nlri q rs x y = tested (same nlri (nlriOf q)) (λ t. x (same-equal 
 -- inserted and entered: the lookups are those with the route in front
 
 -- by where the route goes
-inserted-case : (P : List Route → Type 0) (r q : Route) (rs : List Route)
+pub inserted-case : (P : List Route → Type 0) (r q : Route) (rs : List Route)
     → (nlriOf r ≡ nlriOf q → P (r ∷ rs)) → (before (nlriOf r) (nlriOf q) ≡ true → P (r ∷ (q ∷ rs)))
     → (same (nlriOf r) (nlriOf q) ≡ false → before (nlriOf q) (nlriOf r) ≡ true → P (q ∷ inserted r rs)) → P (inserted r (q ∷ rs))
 unfolding inserted

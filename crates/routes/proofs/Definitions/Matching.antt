@@ -5,6 +5,7 @@ pub mod First
 pub mod OpenTiers
 pub mod MatchSame
 pub mod MatchMarks
+pub mod Without
 pub mod OnePass
 pub mod Flows
 pub mod SharedTrees

@@ -61,7 +61,7 @@ renewed-held which (held (entry x y false)) n a s e = (cc, cc)
 
 module _ (afi : ℕ) (which : RestartCall) (router : List ℕ) where
   -- by what becomes of the first route
-  renewed-case : (P : List Route → Type 0) (r : Route) (rs : List Route)
+  pub renewed-case : (P : List Route → Type 0) (r : Route) (rs : List Route)
       → (ofRouter afi router r ≡ true → staleOf r ≡ true → P (renewed afi which router rs))
       → (ofRouter afi router r ≡ true → staleOf r ≡ false → P (withMark (markLeft which) r ∷ renewed afi which router rs))
       → (ofRouter afi router r ≡ false → P (r ∷ renewed afi which router rs)) → P (renewed afi which router (r ∷ rs))

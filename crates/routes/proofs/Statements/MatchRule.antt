@@ -1,15 +1,16 @@
 -- Match (specs/Rules/MatchRule.antt): the route that a flow takes, each answer exactly when, and what is told.
-use Prim.Native.Nat.{ℕ, _+_, _≤_}
-use mathlib.Core.Path.{_≡_, refl, sym, _∙_, ap, subst}
+use Prim.Native.Nat.{ℕ, _+_, _≤_, _<_}
+use mathlib.Core.Path.{_≡_, refl, sym, _∙_, subst}
 use mathlib.Core.Bool.{true}
-use mathlib.Core.List.{List, _++_, append-assoc}
+use mathlib.Core.List.{List, _∷_, _++_, append-assoc}
 use mathlib.Core.Logic.{_↔_, _≢_, ⊎-elim}
 use native.Mathlib.Omega.{arith}
 use lib.ListN.{length, getD, drop, length-append}
 use lib.Seq.{take-append-seam, drop-append-seam}
 use Rattle.octets.specs.Numbers.{DONE}
-use Rattle.octets.specs.Outcome.{Outcome, given, refused, onOutcome, andThen, numberOf}
+use Rattle.octets.specs.Outcome.{Outcome, given, refused, onOutcome, numberOf}
 use Rattle.octets.specs.Octets.{part, front}
+use Rattle.octets.specs.Lists.{Among}
 use Rattle.octets.proofs.Lists.{length-front, past-front}
 use Rattle.octets.proofs.Choice.{pick-true, pick-false, picked}
 use Rattle.octets.proofs.Outcome.{never, given-unless, passed, stopped, refused-same, goes, stops, refused-of, number-refused, number-given, done-given}
@@ -24,16 +25,17 @@ use Rattle.routes.specs.Matching.{Found, nothing, found, matchIn}
 use Rattle.routes.specs.Answers.{foundAnswer, foundOutput, matchedBy}
 use Rattle.routes.specs.Calls.{matchOutcome, matchOf}
 use Rattle.routes.specs.Rules.ArgumentRules.{KnownFamily, GoodFlow, FlowRefusal}
-use Rattle.routes.specs.Rules.MatchRule.{InTier, Taken, NoneTaken, Told, Untold, MatchAnswer, oneTold, noneTold, MatchRefusal, matchUnsound, badMatch, TableMatch, TablesDifferInMarks, MatchRule}
+use Rattle.routes.specs.Rules.MatchRule.{InTier, Eligible, Taken, NoneTaken, Told, Untold, MatchAnswer, oneTold, noneTold, MatchRefusal, matchUnsound, badMatch, TableMatch, TablesDifferInMarks, MatchRule}
 use Rattle.routes.proofs.Statements.ArgumentRules.{argumentRule, flow-passed}
 use Rattle.routes.proofs.Definitions.ByArguments.{number-asked}
 use Rattle.routes.proofs.Definitions.Lookups.{acceptable-member, distinct-increasing}
 use Rattle.routes.proofs.Definitions.Bounds.{Sized, sizes-of}
 use Rattle.routes.proofs.Statements.Images.{sound-holdable}
 use Rattle.routes.proofs.Definitions.Matching.Flows.{asked-router, flow-asked}
-use Rattle.routes.proofs.Definitions.Matching.First.{wantedAt, match-ignored}
+use Rattle.routes.proofs.Definitions.Matching.First.{wantedAt, match-without, put-behind, match-tunnel}
 use Rattle.routes.proofs.Definitions.Matching.MatchMarks.{matched-marks}
-use Rattle.routes.proofs.Statements.Taken.{found-taken, nothing-taken, flow-exactly}
+use Rattle.routes.proofs.Statements.MatchOver.{tables-same}
+use Rattle.routes.proofs.Statements.Taken.{found-first, found-taken, nothing-taken, flow-exactly}
 
 -- two lists at the front of a third, one straight after the other
 front-two : (n a d : List ℕ) → length n + length a ≤ length d
@@ -90,6 +92,12 @@ found-told output enough tier r sized =
 module _ {afi : ℕ} {router : List ℕ} {In : (tier : ℕ) → Fields → Type 0} {q : Query} (asks : Asks afi router In q) (rs : List Route) where
   pub asks-found : Distinct rs → (tier : ℕ) (r : Route) → (matchIn afi q rs ≡ found tier r) ↔ Taken afi router In rs tier r
   asks-found d tier r = subst (λ (x : List ℕ). (matchIn afi q rs ≡ found tier r) ↔ Taken afi x In rs tier r) (asks .of) (found-taken afi q In (asks .exactly) rs d tier r)
+
+  pub asks-first : (tier : ℕ) (r : Route) → matchIn afi q rs ≡ found tier r
+      → Among r rs × Eligible afi router In tier r × ((other : ℕ) (u : Route) → other < tier → Among u rs → Eligible afi router In other u → ⊥)
+  asks-first tier r e =
+      subst (λ (x : List ℕ). Among r rs × Eligible afi x In tier r × ((other : ℕ) (u : Route) → other < tier → Among u rs → Eligible afi x In other u → ⊥)) (asks .of)
+      (found-first afi q In (asks .exactly) rs tier r e)
 
   pub asks-nothing : (matchIn afi q rs ≡ nothing) ↔ NoneTaken afi router In rs
   asks-nothing = subst (λ (x : List ℕ). (matchIn afi q rs ≡ nothing) ↔ NoneTaken afi x In rs) (asks .of) (nothing-taken afi q In (asks .exactly) rs)
@@ -201,22 +209,19 @@ served-flow flow =
 
 -- marks change no answer
 pub match-marks : (t u : List ℕ) (asked : Asked) (output : List ℕ) → TablesDifferInMarks t u → matchOf t asked output ≡ matchOf u asked output
-unfolding matchOf matchOutcome andThen onOutcome
-match-marks t u asked output d =
-    ap (λ (o : Outcome Found). matchedBy o output) (pick-true _ _ _ (d .sound .0))
-    ∙ ap (λ (o : Outcome Query). matchedBy (andThen o (λ q. given (matchIn (afiIn t) q (routesOf t)))) output) (ap (λ (afi : ℕ). readAsked afi asked output) (d .family))
-    ∙ go (readAsked (afiIn u) asked output)
-    ∙ ap (λ (o : Outcome Found). matchedBy o output) (sym (pick-true _ _ _ (d .sound .1)))
-  where
-    go : (o : Outcome Query) → matchedBy (andThen o (λ q. given (matchIn (afiIn t) q (routesOf t)))) output ≡ matchedBy (andThen o (λ q. given (matchIn (afiIn u) q (routesOf u)))) output
-    go (refused n) = refl
-    go (given q) = matched-marks (afiIn t) q output (d .routes) ∙ ap (λ (afi : ℕ). matchedBy (given (matchIn afi q (routesOf u))) output) (d .family)
+match-marks t u asked output d = tables-same asked output t u (d .sound .0) (d .sound .1) (d .family) (λ q e. matched-marks (afiIn u) q output (d .routes))
+
+-- a route that is not taken may come or go
+match-untaken : (afi : ℕ) (q : Query) (earlier later : List Route) (r : Route) → ((tier : ℕ) → matchIn afi q (earlier ++ (r ∷ later)) ≢ found tier r)
+    → matchIn afi q (earlier ++ (r ∷ later)) ≡ matchIn afi q (earlier ++ later)
+match-untaken afi q earlier later r other = ⊎-elim (λ p. absurd (other (p .0) (p .1))) (λ same. same) (match-without afi q (put-behind r earlier later))
 
 pub matchRule : MatchRule
 matchRule =
     record {
       arguments = λ prefixes router source group. (refl, refl, refl, refl);
-      ignored = match-ignored;
+      untaken = match-untaken;
+      ignored = λ afi q earlier later r none. match-untaken afi q earlier later r (λ tier e. none (match-tunnel afi q (earlier ++ (r ∷ later)) tier r e));
       marks = match-marks;
       chosen = λ afi flow q rs e. asks-found (flow-asks afi flow q e) rs;
       none = λ afi flow q rs e. asks-nothing (flow-asks afi flow q e) rs;

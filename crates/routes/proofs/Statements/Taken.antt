@@ -8,6 +8,7 @@ use native.Mathlib.Omega.{arith}
 use lib.Dec.{eqb}
 use borrow.Author.Tests.{eqb-true, eq-eqb}
 use Rattle.octets.specs.Order.{before}
+use Rattle.octets.specs.Lists.{Among}
 use Rattle.octets.proofs.Choice.{opposite}
 use Rattle.octets.proofs.Orders.{before-neither}
 use Rattle.nlri.specs.Fields.{Fields}
@@ -62,6 +63,14 @@ module _ (afi : ℕ) (q : Query) (In : (tier : ℕ) → Fields → Type 0) (exac
           first = λ u m e. sym (ap₂ before (rd u e) (rd r own)) ∙ l .least u m (eligible-is tier u e);
           only = λ u m e same. one-member u r d m (l .member) (same-nlri afi (q .router) (wanted tier) u r (eligible-is tier u e) (l .good) (rd u e ∙ same ∙ sym (rd r own)));
         }
+
+    -- what is known of it among any routes
+    pub found-first : (tier : ℕ) (r : Route) → matchIn afi q rs ≡ found tier r
+        → Among r rs × Eligible afi (q .router) In tier r × ((other : ℕ) (u : Route) → other < tier → Among u rs → Eligible afi (q .router) In other u → ⊥)
+    found-first tier r e =
+        let f = subst IsFirst e (first-is afi q rs) in
+        let l = first-least f in
+        (l .member, is-eligible tier r (l .good), λ other u less m o. opposite (eligible-is other u o) (first-below f other less u m))
 
     -- one route is taken
     taken-unique : {tier other : ℕ} {r u : Route} → Taken afi (q .router) In rs tier r → Taken afi (q .router) In rs other u → found other u ≡ found tier r

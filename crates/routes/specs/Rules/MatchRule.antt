@@ -120,7 +120,10 @@ pub record MatchRule : Type 0 where
   pub arguments : (prefixes router source group : List ℕ)
       → (flowOf prefixes router source group .prefixes ≡ prefixes) × (flowOf prefixes router source group .router ≡ router)
       × (flowOf prefixes router source group .source ≡ source) × (flowOf prefixes router source group .group ≡ group)
-  -- a route that names no tunnel is ignored (RFC 8556, section 4.1), whatever a match of any kind asks and wherever the route stands
+  -- a route that is not taken may come or go, whatever a match of any kind asks and wherever the route stands (request W-213)
+  pub untaken : (afi : ℕ) (q : Query) (earlier later : List Route) (r : Route) → ((tier : ℕ) → matchIn afi q (earlier ++ (r ∷ later)) ≢ found tier r)
+      → matchIn afi q (earlier ++ (r ∷ later)) ≡ matchIn afi q (earlier ++ later)
+  -- so may one that names no tunnel, which is never taken (RFC 8556, section 4.1; request W-202)
   pub ignored : (afi : ℕ) (q : Query) (earlier later : List Route) (r : Route) → (NamesTunnel (attributeOf r) → ⊥) → matchIn afi q (earlier ++ (r ∷ later)) ≡ matchIn afi q (earlier ++ later)
   -- a marked route still matches (request W-208): whatever a match of any kind asks, marks change neither its answer nor the output octets
   pub marks : (t u : List ℕ) (asked : Asked) (output : List ℕ) → TablesDifferInMarks t u → matchOf t asked output ≡ matchOf u asked output

@@ -1,22 +1,23 @@
 -- Which route `matchIn` is: of the first tier that has a candidate, and in it of the lowest route distinguisher. Among routes with no NLRI
 -- twice there is one such answer.
 use Prim.Native.Nat.{ℕ, suc, _≤_, _<_}
-use mathlib.Core.Path.{_≡_, refl, sym, ap, ap₂, subst, _∙_}
-use mathlib.Core.Bool.{true, false}
+use mathlib.Core.Path.{_≡_, refl, sym, ap, subst, _∙_}
+use mathlib.Core.Bool.{true}
 use mathlib.Core.List.{List, [], _∷_, _++_}
+use mathlib.Core.Logic.{_⊎_, inl, inr, ⊎-elim}
 use native.Mathlib.Omega.{arith}
 use lib.Dec.{eqb}
 use borrow.Author.Tests.{eq-eqb, ne-eqb}
 use Rattle.octets.specs.Choice.{pick}
 use Rattle.octets.proofs.Choice.{opposite, pick-true, pick-false, pick-case, is-false}
 use Rattle.octets.proofs.Orders.{before-neither}
-use Rattle.octets.specs.Lists.{Among}
+use Rattle.octets.specs.Lists.{Among, PutIn, front, behind}
 use Rattle.routes.specs.Route.{Route, attributeOf, Distinct}
 use Rattle.routes.specs.Query.{Wanted, noRoute, meets, Query}
-use Rattle.routes.specs.Matching.{eligible, Found, nothing, found, orElse, firstOf, matchIn}
+use Rattle.routes.specs.Matching.{eligible, Found, nothing, found, orElse, lowestIn, firstOf, matchIn}
 use Rattle.routes.specs.Rules.MatchRule.{NamesTunnel}
 use Rattle.routes.proofs.Definitions.Lookups.{one-member}
-use Rattle.routes.proofs.Definitions.Matching.Lowest.{None, Least, Lowest, lowest-is, lowest-ignored}
+use Rattle.routes.proofs.Definitions.Matching.Lowest.{None, Least, Lowest, lowest-is, lowest-without}
 use Rattle.routes.proofs.Definitions.Matching.Conditions.{qualified, same-nlri}
 
 module _ (afi : ℕ) (router : List ℕ) where
@@ -97,13 +98,40 @@ pub first-is : (afi : ℕ) (q : Query) (rs : List Route) → First afi (q .route
 unfolding matchIn
 first-is afi q rs = first-from afi (q .router) rs 1 (q .tiers)
 
--- a route that is no candidate of any tier is ignored
-module _ (afi : ℕ) (router : List ℕ) (earlier rest : List Route) (r : Route) (bad : (w : Wanted) → eligible afi router w r ≡ false) where
-  first-ignored : (tier : ℕ) (ws : List Wanted) → firstOf afi router tier ws (earlier ++ (r ∷ rest)) ≡ firstOf afi router tier ws (earlier ++ rest)
-  unfolding firstOf
-  first-ignored tier [] = refl
-  first-ignored tier (w ∷ ws) = ap₂ orElse (lowest-ignored afi router tier w earlier rest r (bad w)) (first-ignored (suc tier) ws)
+-- of fewer routes, which still have what is taken, the same is taken
+module _ (afi : ℕ) (router : List ℕ) {rs us : List Route} (fewer : (r : Route) → Among r us → Among r rs) where
+  first-fewer : {tier : ℕ} {ws : List Wanted} {best : Found} → First afi router rs tier ws best → ((t : ℕ) (r : Route) → best ≡ found t r → Among r us) → First afi router us tier ws best
+  first-fewer nowhere kept = nowhere
+  first-fewer (here {tier = tier} {r = r} l) kept = here (record { member = kept tier r refl; good = l .good; least = λ u m. l .least u (fewer u m) })
+  first-fewer (past n f) kept = past (λ u m. n u (fewer u m)) (first-fewer f kept)
 
-pub match-ignored : (afi : ℕ) (q : Query) (earlier rest : List Route) (r : Route) → (NamesTunnel (attributeOf r) → ⊥) → matchIn afi q (earlier ++ (r ∷ rest)) ≡ matchIn afi q (earlier ++ rest)
+pub match-fewer : (afi : ℕ) (q : Query) (rs us : List Route) → Distinct us → ((r : Route) → Among r us → Among r rs) → ((t : ℕ) (r : Route) → matchIn afi q rs ≡ found t r → Among r us)
+    → matchIn afi q rs ≡ matchIn afi q us
+match-fewer afi q rs us d fewer kept = first-unique afi (q .router) {rs = us} d (λ w r h m. m) (λ w r h m. m) (first-fewer afi (q .router) fewer (first-is afi q rs) kept) (first-is afi q us)
+
+-- a route put in anywhere is taken; or what is taken is the same without it
+module _ (afi : ℕ) (router : List ℕ) {r : Route} {rs us : List Route} (p : PutIn r us rs) where
+  abbrev Passed : Found → Found → Type 0
+  Passed all less = ((t : ℕ) × (all ≡ found t r)) ⊎ (all ≡ less)
+
+  first-without : (tier : ℕ) (ws : List Wanted) → Passed (firstOf afi router tier ws rs) (firstOf afi router tier ws us)
+  unfolding firstOf orElse
+  first-without tier [] = inr refl
+  first-without tier (w ∷ ws) = ⊎-elim (λ is. inl (tier, rw is)) (λ same. rw same (go (lowestIn afi router tier w us) (first-without (suc tier) ws))) (lowest-without afi router tier w p)
+    where
+      go : {all less : Found} (best : Found) → Passed all less → Passed (orElse best all) (orElse best less)
+      go nothing passed = passed
+      go (found t u) passed = inr refl
+
+pub match-without : (afi : ℕ) (q : Query) {r : Route} {rs us : List Route} → PutIn r us rs → ((t : ℕ) × (matchIn afi q rs ≡ found t r)) ⊎ (matchIn afi q rs ≡ matchIn afi q us)
 unfolding matchIn
-match-ignored afi q earlier rest r none = first-ignored afi (q .router) earlier rest r (λ w. is-false _ (λ h. none (qualified afi (q .router) w r h .tunnel))) 1 (q .tiers)
+match-without afi q p = first-without afi (q .router) p 1 (q .tiers)
+
+-- a route put in behind some
+pub put-behind : (r : Route) (earlier later : List Route) → PutIn r (earlier ++ later) (earlier ++ (r ∷ later))
+put-behind r [] later = front
+put-behind r (q ∷ earlier) later = behind (put-behind r earlier later)
+
+-- a route that is taken names a tunnel
+pub match-tunnel : (afi : ℕ) (q : Query) (rs : List Route) (tier : ℕ) (r : Route) → matchIn afi q rs ≡ found tier r → NamesTunnel (attributeOf r)
+match-tunnel afi q rs tier r e = qualified afi (q .router) _ r (first-least (subst (First afi (q .router) rs 1 (q .tiers)) e (first-is afi q rs)) .good) .tunnel

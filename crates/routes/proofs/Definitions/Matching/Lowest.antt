@@ -1,14 +1,15 @@
 -- Which route `lowestIn` is: a candidate of the tier, with no candidate of a lower route distinguisher.
 use Prim.Native.Nat.{ℕ}
-use mathlib.Core.Path.{_≡_, refl, ap}
+use mathlib.Core.Path.{_≡_, refl, sym, _∙_, ap, subst}
 use mathlib.Core.Bool.{true, false}
-use mathlib.Core.List.{List, [], _∷_, _++_}
+use mathlib.Core.List.{List, [], _∷_}
+use mathlib.Core.Logic.{_⊎_, inl, inr, ⊎-elim}
 use Rattle.octets.specs.Order.{before}
-use Rattle.octets.specs.Lists.{Among, first, later}
+use Rattle.octets.specs.Lists.{Among, first, later, PutIn, front, behind, one}
 use Rattle.octets.specs.Choice.{pick}
-use Rattle.octets.proofs.Choice.{opposite, pick-case, pick-false}
+use Rattle.octets.proofs.Choice.{opposite, tested, pick-case, pick-true, pick-false}
 use Rattle.octets.proofs.Orders.{before-itself, before-once, before-not}
-use Rattle.octets.proofs.Among.{among-none, among-each}
+use Rattle.octets.proofs.Among.{among-none, among-each, rearranged-itself, rearranged-among}
 use Rattle.routes.specs.Route.{Route}
 use Rattle.routes.specs.Query.{Wanted}
 use Rattle.routes.specs.Matching.{eligible, distinguisherOf, Found, nothing, found, lower, lowestIn}
@@ -48,8 +49,31 @@ module _ (afi : ℕ) (router : List ℕ) (tier : ℕ) (w : Wanted) where
   lowest-is [] = λ u m. absurd (among-none m)
   lowest-is (r ∷ rs) = pick-case (Lowest (r ∷ rs)) _ _ _ (λ good. compared r rs _ good (lowest-is rs)) (λ bad. passed-over r rs (lowestIn afi router tier w rs) bad (lowest-is rs))
 
-  -- a route that is no candidate of the tier, wherever it stands
-  pub lowest-ignored : (earlier rest : List Route) (r : Route) → eligible afi router w r ≡ false → lowestIn afi router tier w (earlier ++ (r ∷ rest)) ≡ lowestIn afi router tier w (earlier ++ rest)
-  unfolding lowestIn
-  lowest-ignored [] rest r bad = pick-false _ _ _ bad
-  lowest-ignored (q ∷ earlier) rest r bad = ap (λ best. pick (eligible afi router w q) (lower afi tier q best) best) (lowest-ignored earlier rest r bad)
+  -- where a route is the lowest of some, and others are fewer, then with one more in front of both it still is, or they have the same lowest
+  one-more : (q r : Route) (rs us : List Route) → ((u : Route) → Among u us → Among u rs) → lowestIn afi router tier w rs ≡ found tier r
+      → (lowestIn afi router tier w (q ∷ rs) ≡ found tier r) ⊎ (lowestIn afi router tier w (q ∷ rs) ≡ lowestIn afi router tier w (q ∷ us))
+  unfolding lowestIn lower
+  one-more q r rs us fewer is =
+      tested (eligible afi router w q)
+      (λ good.
+      let lowest = pick-true _ _ _ good ∙ ap (lower afi tier q) is in
+      tested (before (distinguisherOf afi r) (distinguisherOf afi q)) (λ b. inl (lowest ∙ pick-true _ _ _ b))
+      (λ b. inr (lowest ∙ pick-false _ _ _ b ∙ sym (pick-true _ _ _ good ∙ stays b (lowestIn afi router tier w us) (lowest-is us)))))
+      (λ bad. inl (pick-false _ _ _ bad ∙ is))
+    where
+      stays : before (distinguisherOf afi r) (distinguisherOf afi q) ≡ false → (best : Found) → Lowest us best → lower afi tier q best ≡ found tier q
+      stays b nothing l = refl
+      stays b (found t u) l = pick-false _ _ _ (before-not _ _ _ (subst (Lowest rs) is (lowest-is rs) .1 .least u (fewer u (l .1 .member)) (l .1 .good)) b)
+
+  -- a route put in anywhere is the lowest; or the lowest is the same without it
+  pub lowest-without : {r : Route} {rs us : List Route} → PutIn r us rs
+      → (lowestIn afi router tier w rs ≡ found tier r) ⊎ (lowestIn afi router tier w rs ≡ lowestIn afi router tier w us)
+  unfolding lowestIn lower
+  lowest-without {r} (front {ys = us}) = pick-case (λ best. (best ≡ found tier r) ⊎ (best ≡ lowestIn afi router tier w us)) _ _ _ (λ good. go (lowestIn afi router tier w us)) (λ bad. inr refl)
+    where
+      go : (best : Found) → (lower afi tier r best ≡ found tier r) ⊎ (lower afi tier r best ≡ best)
+      go nothing = inl refl
+      go (found t u) = pick-case (λ next. (next ≡ found tier r) ⊎ (next ≡ found t u)) _ _ _ (λ b. inr refl) (λ b. inl refl)
+  lowest-without {r} (behind {y = q} {ys = us} {zs = rs} p) =
+      ⊎-elim (one-more q r rs us (λ u m. rearranged-among (one p (rearranged-itself us)) (later m)))
+      (λ same. inr (ap (λ best. pick (eligible afi router w q) (lower afi tier q best) best) same)) (lowest-without p)
