@@ -4,10 +4,13 @@ use mathlib.Core.Path.{_≡_, refl, sym, ap, ap₂, _∙_}
 use mathlib.Core.List.{List, [], _∷_, _++_, append-assoc, append-nil}
 use native.Mathlib.Nat.{zero-add, add-sub-cancel-left}
 use native.Mathlib.Omega.{arith}
-use lib.ListN.{length, getD, take, drop, replicate, length-append, length-take, length-drop, length-replicate, replicate-append-replicate, drop-of-length-le, take-append-drop, List·getD-append}
+use borrow.Author.Tests.{ltb-true, ltb-false}
+use lib.ListN.{length, getD, take, drop, replicate, length-append, length-take, length-drop, length-replicate, replicate-append-replicate, drop-of-length-le, take-append-drop, List·getD-append, List·getD-eq-default}
+use lib.Dec.{ltb}
 use lib.Seq.{take-all, take-at, drop-at, drop-drop, length-take-le, take-append-le, take-length, take-append-add, take-add, take-take, take-append-seam, take-nil, getD-append-add, getD-take, getD-drop}
 use Rattle.octets.specs.Octets.{part, placed, front, sized}
 use Rattle.octets.specs.Order.{zeros}
+use Rattle.octets.proofs.Choice.{tested}
 
 -- what a slice hands on: its part from `start` on, all of it from `at` on, and all of it
 pub lent-part : (start size : ℕ) (s : List ℕ) → take (start + size - start) (drop start s) ≡ part s start size
@@ -189,6 +192,14 @@ drop-taken (suc k) (suc n) (x ∷ s) h = let same : n - k ≡ suc n - suc k = om
 pub part-octet : (s : List ℕ) (start size i : ℕ) → i < size → getD (part s start size) i 0 ≡ getD s (start + i) 0
 unfolding part
 part-octet s start size i h = getD-take size (drop start s) i 0 h ∙ getD-drop start s i 0
+
+-- a part whose elements from n on are 0 has 0 there, and past its end
+pub part-filled : (s : List ℕ) (start size n : ℕ) → ((i : ℕ) → n ≤ i → i < size → getD s (start + i) 0 ≡ 0) → (i : ℕ) → n ≤ i → getD (part s start size) i 0 ≡ 0
+unfolding part
+part-filled s start size n h i least =
+    tested (ltb i size)
+    (λ yes. let less : i < size = ltb-true i size yes in part-octet s start size i less ∙ h i least less)
+    (λ none. let past : size ≤ i = ltb-false i size none in List·getD-eq-default (take size (drop start s)) 0 {n = i} (omega (arith, length-take size (drop start s))))
 
 -- a part of a part
 pub part-within : (s : List ℕ) (at n start size : ℕ) → start + size ≤ n → part (part s at n) start size ≡ part s (at + start) size

@@ -6,16 +6,16 @@ use mathlib.Core.List.{List, [], _∷_, _++_, append-assoc}
 use native.Mathlib.Omega.{arith}
 use lib.ListN.{length, getD, take, drop, length-append, take-append-drop}
 use lib.Seq.{length-take-le, split-at}
-use Rattle.octets.specs.Octets.{placed}
+use Rattle.octets.specs.Octets.{AllOctets, placed}
 use Rattle.octets.specs.Order.{zeros}
 use Rattle.routes.specs.Route.{Route, route, nlriOf, inserted, removed}
 use Rattle.routes.specs.Place.{placeOf, AllAcceptable, none, one}
-use Rattle.routes.specs.Table.{headerOf, placesOf, imageOf}
+use Rattle.routes.specs.Table.{headerOf, placesOf, imageOf, afiIn, countIn, placesIn, routesOf, soundOf}
 use Rattle.routes.specs.Rules.Images.{Holdable}
 use Rattle.routes.proofs.Definitions.Headers.{length-header, past-header}
-use Rattle.routes.proofs.Statements.Images.{afi-image}
+use Rattle.routes.proofs.Statements.Images.{afi-image, length-routes, sound-holdable, sound-image}
 use Rattle.routes.proofs.Definitions.Places.{length-zeros, length-acceptable-place, length-places, places-append}
-use Rattle.table.specs.Changing.{rank, firstIs, opened, closed, replacedAt, addedAt, takenAt}
+use Rattle.table.specs.Changing.{rank, firstIs, opened, closed, replacedAt, openedAt, addedAt, takenAt}
 use Rattle.table.proofs.Places.{zeros-split}
 use Rattle.table.proofs.Ranks.{rank-most, first-within, inserted-held, inserted-new, removed-held}
 use Rattle.table.proofs.Gaps.{over, gap-filled, gap-closed-over}
@@ -69,27 +69,25 @@ image-replaced afi places xs ys q r a p =
 -- a place for one route more
 image-added : (afi places : ℕ) (xs ys : List Route) (r : Route) → AllAcceptable afi (xs ++ ys) → length (placeOf r) ≡ 128 → length (xs ++ ys) < places
     → addedAt (length xs) (length (xs ++ ys)) (placeOf r) (imageOf afi places (xs ++ ys)) ≡ imageOf afi places (xs ++ (r ∷ ys))
-unfolding addedAt replacedAt placesOf
+unfolding addedAt openedAt replacedAt placesOf
 image-added afi places xs ys r a p h =
     let n : ℕ = length (xs ++ ys) in
-    let x : List ℕ = headerOf afi n ++ placesOf xs in
+    let x : List ℕ = headerOf afi (n + 1) ++ placesOf xs in
     let w : List ℕ = zeros (128 * (places - (n + 1))) in
     let b : List ℕ = placesOf ys in
     let start : ℕ = 8 + 128 * length xs in
     let end : ℕ = 8 + 128 * (n + 1) in
     let free : 128 * (places - n) ≡ 128 + 128 * (places - (n + 1)) = omega arith in
-    let spaced : imageOf afi places (xs ++ ys) ≡ x ++ (b ++ (zeros 128 ++ w)) =
-    image-split afi places n xs ys refl ∙ ap (λ (l : List ℕ). x ++ (b ++ l)) (ap zeros free ∙ zeros-split 128 (128 * (places - (n + 1)))) in
+    let spaced : headerOf (afiIn (imageOf afi places (xs ++ ys))) (n + 1) ++ drop 8 (imageOf afi places (xs ++ ys)) ≡ x ++ (b ++ (zeros 128 ++ w)) =
+    ap₂ (λ (i : ℕ) (l : List ℕ). headerOf i (n + 1) ++ drop 8 l) (afi-image afi places (xs ++ ys))
+    (image-split afi places n xs ys refl ∙ ap (λ (l : List ℕ). (headerOf afi n ++ placesOf xs) ++ (b ++ l)) (ap zeros free ∙ zeros-split 128 (128 * (places - (n + 1)))))
+    ∙ header-over afi (n + 1) n (placesOf xs) (b ++ (zeros 128 ++ w)) ∙ sym (append-assoc (headerOf afi (n + 1)) (placesOf xs) (b ++ (zeros 128 ++ w))) in
     let rest : length b ≡ 128 * length ys = length-places afi ys (acceptable-rest xs ys a) in
     let both : n ≡ length xs + length ys = length-append xs ys in
-    let filled : placed start (placeOf r) (opened start end (imageOf afi places (xs ++ ys))) ≡ x ++ (placeOf r ++ (b ++ w)) =
-    ap (λ (l : List ℕ). placed start (placeOf r) (opened start end l)) spaced
-    ∙ gap-filled start end x b (zeros 128) w (placeOf r) (front-size afi n xs (acceptable-front xs ys a)) (length-zeros 128) p (omega arith) in
     let more : length (xs ++ (r ∷ ys)) ≡ n + 1 = length-append xs (r ∷ ys) ∙ longer (length xs) (length ys) n both in
-    ap₂ (λ (i : ℕ) (l : List ℕ). headerOf i (n + 1) ++ drop 8 l) (afi-image afi places (xs ++ ys)) filled
-    ∙ header-over afi (n + 1) n (placesOf xs) (placeOf r ++ (b ++ w))
-    ∙ sym (image-of afi places (n + 1) (xs ++ (r ∷ ys)) (placesOf xs ++ (placeOf r ++ b)) more (places-append xs (r ∷ ys))
-    ∙ ap (λ (l : List ℕ). headerOf afi (n + 1) ++ l) (append-assoc (placesOf xs) (placeOf r ++ b) w ∙ ap (λ (l : List ℕ). placesOf xs ++ l) (append-assoc (placeOf r) b w)))
+    ap (λ (l : List ℕ). placed start (placeOf r) (opened start end l)) spaced
+    ∙ gap-filled start end x b (zeros 128) w (placeOf r) (front-size afi (n + 1) xs (acceptable-front xs ys a)) (length-zeros 128) p (omega arith)
+    ∙ sym (image-split afi places (n + 1) xs (r ∷ ys) more ∙ ap (λ (l : List ℕ). x ++ l) (append-assoc (placeOf r) b w))
   where
     longer : (i j n : ℕ) → n ≡ i + j → i + suc j ≡ n + 1
     longer i j n e = omega arith
@@ -139,7 +137,7 @@ image-entered-held afi places rs r h p f =
     ∙ ap (imageOf afi places) (sym (inserted-held r rs f))
 
 -- with a route of another NLRI entered where it belongs
-pub image-entered-new : (afi places : ℕ) (rs : List Route) (r : Route) → Holdable afi places rs → length (placeOf r) ≡ 128 → firstIs (nlriOf r) (drop (rank (nlriOf r) rs) rs) ≡ false → length rs < places
+image-entered-new : (afi places : ℕ) (rs : List Route) (r : Route) → Holdable afi places rs → length (placeOf r) ≡ 128 → firstIs (nlriOf r) (drop (rank (nlriOf r) rs) rs) ≡ false → length rs < places
     → addedAt (rank (nlriOf r) rs) (length rs) (placeOf r) (imageOf afi places rs) ≡ imageOf afi places (inserted r rs)
 image-entered-new afi places rs r h p f room =
     let k : ℕ = rank (nlriOf r) rs in
@@ -148,6 +146,16 @@ image-entered-new afi places rs r h p f room =
     ap₂ (λ (i : ℕ) (l : List Route). addedAt i (length l) (placeOf r) (imageOf afi places l)) (sym size) split
     ∙ image-added afi places (take k rs) (drop k rs) r (subst (AllAcceptable afi) split (h .acceptable)) p (subst (λ (l : List Route). length l < places) split room)
     ∙ ap (imageOf afi places) (sym (inserted-new r rs f))
+
+-- of a sound table, by the index that is found for it
+pub entered-new : (t u : List ℕ) (k : ℕ) (r : Route) → AllOctets t → soundOf t ≡ true → length (placeOf r) ≡ 128 → k ≡ rank (nlriOf r) (routesOf t) → firstIs (nlriOf r) (drop k (routesOf t)) ≡ false
+    → countIn t < placesIn t → u ≡ addedAt k (countIn t) (placeOf r) t → u ≡ imageOf (afiIn t) (placesIn t) (inserted r (routesOf t))
+entered-new t u k r o h l e f room q =
+    let here : firstIs (nlriOf r) (drop (rank (nlriOf r) (routesOf t)) (routesOf t)) ≡ false = ap (λ (i : ℕ). firstIs (nlriOf r) (drop i (routesOf t))) (sym e) ∙ f in
+    let free : length (routesOf t) < placesIn t = rw (length-routes t) room in
+    q ∙ ap (λ (i : ℕ). addedAt i (countIn t) (placeOf r) t) e
+    ∙ ap₂ (λ (c : ℕ) (x : List ℕ). addedAt (rank (nlriOf r) (routesOf t)) c (placeOf r) x) (sym (length-routes t)) (sound-image t o h)
+    ∙ image-entered-new (afiIn t) (placesIn t) (routesOf t) r (sound-holdable t h) l here free
 
 -- with an NLRI taken out
 pub image-left : (afi places : ℕ) (rs : List Route) (n : List ℕ) → Holdable afi places rs → firstIs n (drop (rank n rs) rs) ≡ true

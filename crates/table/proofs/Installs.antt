@@ -23,7 +23,7 @@ use Rattle.routes.proofs.Definitions.Places.{length-place}
 use Rattle.table.specs.Changing.{rank, firstIs, replacedAt, addedAt, Leaves}
 use Rattle.table.proofs.Sounds.{route-fault-none}
 use Rattle.table.proofs.Finds.{held-by}
-use Rattle.table.proofs.Changes.{image-entered-held, image-entered-new}
+use Rattle.table.proofs.Changes.{image-entered-held, entered-new}
 
 -- an answer that is the one that a call is known to leave
 pub leaves-as : {A : Type 0} {due : Changed A} {r s : A} {u : List ℕ} → r ≡ s → Leaves due s u → Leaves due r u
@@ -81,9 +81,6 @@ pub install-adds : (t n a u : List ℕ) (k : ℕ) → AllOctets t → soundOf t 
     → firstIs n (drop k (routesOf t)) ≡ false → countIn t < placesIn t → u ≡ addedAt k (countIn t) (placeOf (route n a)) t → Leaves (installOf t n a) (doneInstall NEW) u
 unfolding entering nlriOf
 install-adds t n a u k o h e r f room q =
-    let here : firstIs n (drop (rank n (routesOf t)) (routesOf t)) ≡ false = ap (λ (i : ℕ). firstIs n (drop i (routesOf t))) (sym r) ∙ f in
     let free : length (routesOf t) < placesIn t = rw (length-routes t) room in
     does t n a u NEW (outcome-enters t n a h e ∙ pick-false _ _ _ (held-by t n k false h r f) ∙ pick-true _ _ _ (lt-ltb (length (routesOf t)) (placesIn t) free))
-    (q ∙ ap (λ (i : ℕ). addedAt i (countIn t) (placeOf (route n a)) t) r
-    ∙ ap₂ (λ (c : ℕ) (l : List ℕ). addedAt (rank n (routesOf t)) c (placeOf (route n a)) l) (sym (length-routes t)) (sound-image t o h)
-    ∙ image-entered-new (afiIn t) (placesIn t) (routesOf t) (route n a) (sound-holdable t h) (fits-place (afiIn t) n a e) here free)
+    (entered-new t u k (route n a) o h (fits-place (afiIn t) n a e) r f room q)

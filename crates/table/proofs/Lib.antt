@@ -21,4 +21,4 @@ pub mod Matches
 pub mod SharedMatches
 pub mod Explanations
 pub mod Followings
-pub mod Renews
+pub mod Passes

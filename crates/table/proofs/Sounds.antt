@@ -137,7 +137,7 @@ module _ (afi : ℕ) (place : List ℕ) where
   unfolding placeSound
   place-mismarked within h = sym (both-right _ _ (le-leb (endIn place) 127 within) (both-left _ _ (lt-leb (getD place 127 0) 1 h)))
 
-  module _ (within : endIn place ≤ 127) (mark : getD place 127 0 ≤ 1) (nlri : List ℕ) (flag : Bool) (n : nlri ≡ part place 2 (getD place 0 0)) (e : flag ≡ isSPmsi afi nlri) where
+  module _ (within : endIn place ≤ 127) (mark : getD place 127 0 ≤ 1) (nlri : List ℕ) (n : nlri ≡ part place 2 (getD place 0 0)) where
     route-is : (attribute : List ℕ) → attribute ≡ part place (2 + getD place 0 0) (getD place 1 0) → acceptable afi (route nlri attribute) ≡ acceptable afi (routeIn place)
     unfolding routeIn acceptable nlriOf attributeOf
     route-is attribute a = ap₂ (λ (x y : List ℕ). acceptable afi (route x y)) n a
@@ -146,22 +146,29 @@ module _ (afi : ℕ) (place : List ℕ) where
     unfolding placeSound
     unacceptable attribute a q = sym (both-right _ _ (le-leb (endIn place) 127 within) (both-right _ _ (le-leb (getD place 127 0) 1 mark) (both-left _ _ (sym (route-is attribute a) ∙ q))))
 
-    pub place-other : flag ≡ false → false ≡ placeSound afi place
-    place-other h = unacceptable _ refl (other-unacceptable afi nlri _ (sym e ∙ h))
+    -- by the number of its route
+    module _ (attribute : List ℕ) (fault : ℕ) (a : attribute ≡ part place (2 + getD place 0 0) (getD place 1 0)) (f : fault ≡ numberOf (readRoute afi nlri attribute)) where
+      pub route-refused : (fault ≡ DONE → ⊥) → false ≡ placeSound afi place
+      route-refused q = unacceptable attribute a (fault-unacceptable afi nlri attribute fault f q)
 
-    module _ (h : flag ≡ true) (attribute : List ℕ) (fault : ℕ) (a : attribute ≡ part place (2 + getD place 0 0) (getD place 1 0)) (f : fault ≡ numberOf (readLabelled attribute)) where
-      judged-place : fault ≡ numberOf (readRoute afi nlri attribute)
-      judged-place = judged-route afi nlri (sym e ∙ h) attribute fault f
-
-      pub place-refused : (fault ≡ DONE → ⊥) → false ≡ placeSound afi place
-      place-refused q = unacceptable attribute a (fault-unacceptable afi nlri attribute fault judged-place q)
-
-      pub place-accepted : fault ≡ DONE → (body : List ℕ) (r : Bool) → body ≡ part place 0 127 → r ≡ allZero (drop (endIn place) body) → r ≡ placeSound afi place
+      pub route-accepted : fault ≡ DONE → (body : List ℕ) (r : Bool) → body ≡ part place 0 127 → r ≡ allZero (drop (endIn place) body) → r ≡ placeSound afi place
       unfolding placeSound part
-      place-accepted q body r b z =
+      route-accepted q body r b z =
           both-last _ _ r (le-leb (endIn place) 127 within)
           (both-last _ _ r (le-leb (getD place 127 0) 1 mark)
-          (both-last _ _ r (sym (route-is attribute a) ∙ fault-acceptable afi nlri attribute (sym judged-place ∙ q)) (z ∙ ap (λ (l : List ℕ). allZero (drop (endIn place) l)) b)))
+          (both-last _ _ r (sym (route-is attribute a) ∙ fault-acceptable afi nlri attribute (sym f ∙ q)) (z ∙ ap (λ (l : List ℕ). allZero (drop (endIn place) l)) b)))
+
+    -- by the tests of its NLRI and its attribute
+    module _ (flag : Bool) (e : flag ≡ isSPmsi afi nlri) where
+      pub place-other : flag ≡ false → false ≡ placeSound afi place
+      place-other h = unacceptable _ refl (other-unacceptable afi nlri _ (sym e ∙ h))
+
+      module _ (h : flag ≡ true) (attribute : List ℕ) (fault : ℕ) (a : attribute ≡ part place (2 + getD place 0 0) (getD place 1 0)) (f : fault ≡ numberOf (readLabelled attribute)) where
+        pub place-refused : (fault ≡ DONE → ⊥) → false ≡ placeSound afi place
+        place-refused q = route-refused attribute fault a (judged-route afi nlri (sym e ∙ h) attribute fault f) q
+
+        pub place-accepted : fault ≡ DONE → (body : List ℕ) (r : Bool) → body ≡ part place 0 127 → r ≡ allZero (drop (endIn place) body) → r ≡ placeSound afi place
+        place-accepted q body r b z = route-accepted attribute fault a (judged-route afi nlri (sym e ∙ h) attribute fault f) q body r b z
 
   pub sound-end : placeSound afi place ≡ true → endIn place ≤ 128
   unfolding placeSound

@@ -44,10 +44,13 @@ closed start end t = take start t ++ (part t (start + PLACE) (end - start - PLAC
 unfoldable pub replacedAt : (index : ℕ) (place table : List ℕ) → List ℕ
 replacedAt index place t = placed (HEADER + PLACE * index) place t
 
+-- a gap of one place at an index, before the other places from there on, and the count one more
+unfoldable pub openedAt : (index count : ℕ) (table : List ℕ) → List ℕ
+openedAt index count t = opened (HEADER + PLACE * index) (HEADER + PLACE * (count + 1)) (headerOf (afiIn t) (count + 1) ++ drop HEADER t)
+
 -- a place put in at an index, before the other places from there on
 unfoldable pub addedAt : (index count : ℕ) (place table : List ℕ) → List ℕ
-addedAt index count place t =
-    headerOf (afiIn t) (count + 1) ++ drop HEADER (replacedAt index place (opened (HEADER + PLACE * index) (HEADER + PLACE * (count + 1)) t))
+addedAt index count place t = replacedAt index place (openedAt index count t)
 
 -- the place of an index taken out
 unfoldable pub takenAt : (index count : ℕ) (table : List ℕ) → List ℕ

@@ -8,7 +8,7 @@ ghost use Rattle.octets.specs.Octets.{part, placed};
 ghost use Rattle.octets.specs.Order.{zeros};
 ghost use Rattle.routes.specs.Route.{route};
 ghost use Rattle.routes.specs.Place.{placeOf};
-ghost use Rattle.table.specs.Changing.{opened, closed, replacedAt, addedAt, takenAt, remarked};
+ghost use Rattle.table.specs.Changing.{opened, closed, replacedAt, openedAt, addedAt, takenAt, remarked};
 use crate::geometry::HEADER;
 use crate::geometry::MARK;
 use crate::geometry::PLACE;
@@ -156,16 +156,24 @@ fn close_place(table: &mut [u8], start: usize, end: usize)
     close_gap(&mut table[start..end]);
 }
 
+// A gap of one place opened at an index, before the other places from there on, and the count one more.
+fn open_at(table: &mut [u8], index: usize, count: usize)
+    requires { ⌜ (index ≤ count) × (8 + 128 * (count + 1) ≤ length (now table)) ⌝ }
+    ensures { λ _. ⌜ now (table .exit) ≡ openedAt index count (now (table .entry)) ⌝ }
+{
+    let afi = sound::afi_of(table);
+    header::write_header(afi, count + 1, table);
+    open_place(table, HEADER + PLACE * index, HEADER + PLACE * (count + 1));
+}
+
 // A route's place put in at an index, before the other places from there on.
 pub(crate) fn add(table: &mut [u8], index: usize, count: usize, nlri: &[u8], attribute: &[u8])
     requires { ⌜ (index ≤ count) × (8 + 128 * (count + 1) ≤ length (now table)) ⌝ }
     requires { ⌜ length (now nlri) + length (now attribute) ≤ 125 ⌝ }
     ensures { λ _. ⌜ now (table .exit) ≡ addedAt index count (placeOf (route (now (nlri .entry)) (now (attribute .entry)))) (now (table .entry)) ⌝ }
 {
-    let afi = sound::afi_of(table);
-    open_place(table, HEADER + PLACE * index, HEADER + PLACE * (count + 1));
+    open_at(table, index, count);
     replace(table, index, nlri, attribute);
-    header::write_header(afi, count + 1, table);
 }
 
 // The place of an index taken out.

@@ -5,16 +5,16 @@ use mathlib.Core.Bool.{Bool, true}
 use mathlib.Core.Logic.{⊎-elim}
 use mathlib.Core.List.{List, [], _∷_, _++_}
 use native.Mathlib.Omega.{arith}
-use borrow.Author.Tests.{leb-true, le-leb, ltb-true, ltb-false, eq-eqb}
-use lib.Dec.{ltb, eqb}
-use lib.ListN.{length, getD, take, drop, length-take, List·getD-eq-default}
+use borrow.Author.Tests.{leb-true, le-leb, eq-eqb}
+use lib.Dec.{eqb}
+use lib.ListN.{length, getD, take, drop}
 use lib.Seq.{take-suc, take-take, drop-drop}
 use Rattle.octets.specs.Choice.{pick, both, either}
 use Rattle.octets.specs.Outcome.{onOutcome, andThen}
 use Rattle.octets.specs.Octets.{part, numberIn}
 use Rattle.octets.specs.Order.{same, before, zeros, allZero}
-use Rattle.octets.proofs.Choice.{tested, both-true, both-true-left, both-true-right, either-left, either-second}
-use Rattle.octets.proofs.Lists.{part-octet, part-within}
+use Rattle.octets.proofs.Choice.{both-true, both-true-left, both-true-right, either-left, either-second}
+use Rattle.octets.proofs.Lists.{part-octet, part-filled, part-within}
 use Rattle.octets.proofs.NetworkOrder.{number-two}
 use Rattle.octets.proofs.Orders.{same-equal, same-of-equal, zero-past, zero-each-past}
 use Rattle.nlri.specs.Family.{familyBits, allowed, isOriginatorSize}
@@ -27,7 +27,7 @@ use Rattle.routes.specs.Place.{endIn, routeIn, acceptable, placeSound}
 use Rattle.routes.specs.Table.{headerStart, afiIn, countIn, placesIn, routesFrom, routesOf, tableSize, headerSound, placesSound, soundOf}
 use Rattle.routes.specs.Arguments.{readSPmsi, readLabelled, readRoute}
 use Rattle.routes.specs.Rules.ArgumentRules.{KnownFamily, SPmsi, Labelled}
-use Rattle.routes.specs.Rules.SoundRule.{countAt, nlriInPlace, attributeInPlace, PlaceHolds, Sound, SoundRule, smallTable, SoundExamples}
+use Rattle.routes.specs.Rules.SoundRule.{countAt, nlriInPlace, attributeInPlace, routeInPlace, PlaceHolds, Sound, SoundRule, smallTable, SoundExamples}
 use Rattle.routes.proofs.Definitions.Bounds.{accepted, read-acceptable}
 use Rattle.routes.proofs.Definitions.Ownership.{named-after-none}
 use Rattle.routes.proofs.Definitions.Headers.{sound-family, size-sound, places-in}
@@ -64,12 +64,8 @@ module _ (t : List ℕ) (at : ℕ) where
   unfolding endIn
   end-at = rw (nlri-sized, attribute-sized) (omega arith)
 
-  -- the route that it holds
-  abbrev routeInPlace : Route
-  routeInPlace = entry (nlriInPlace t at) (attributeInPlace t at) (eqb (getD t (at + 127) 0) 1)
-
   -- the route in it
-  route-at : 2 + getD t at 0 + getD t (at + 1) 0 ≤ 127 → routeIn (part t at 128) ≡ routeInPlace
+  route-at : 2 + getD t at 0 + getD t (at + 1) 0 ≤ 127 → routeIn (part t at 128) ≡ routeInPlace t at
   unfolding routeIn
   route-at fits =
       let behind : at + (2 + getD t at 0) ≡ at + 2 + getD t at 0 = omega arith in
@@ -81,14 +77,6 @@ module _ (t : List ℕ) (at : ℕ) where
   unmarked-at : take 127 (part t at 128) ≡ part t at 127
   unfolding part
   unmarked-at = take-take 127 128 (drop at t) (omega arith)
-
-  -- zeros to the mark, and nothing behind them
-  filled-at : (n : ℕ) → ((i : ℕ) → n ≤ i → i < 127 → getD t (at + i) 0 ≡ 0) → (i : ℕ) → n ≤ i → getD (part t at 127) i 0 ≡ 0
-  unfolding part
-  filled-at n h i least =
-      tested (ltb i 127)
-      (λ yes. let less : i < 127 = ltb-true i 127 yes in part-octet t at 127 i less ∙ h i least less)
-      (λ none. let past : 127 ≤ i = ltb-false i 127 none in List·getD-eq-default (take 127 (drop at t)) 0 {n = i} (omega (arith, length-take 127 (drop at t))))
 
   module _ (afi : ℕ) where
     -- a sound place holds a route
@@ -118,7 +106,7 @@ module _ (t : List ℕ) (at : ℕ) where
         both-true _ _ (le-leb (endIn (part t at 128)) 127 (omega arith))
         (both-true _ _ (le-leb (getD (part t at 128) 127 0) 1 (omega (arith, p .marked)))
         (both-true _ _ (ap (acceptable afi) (route-at (p .fits)) ∙ acceptable-of-taken afi (nlriInPlace t at) (attributeInPlace t at) _ (p .named) (p .labelled))
-        (rw unmarked-at (zero-each-past (endIn (part t at 128)) (part t at 127) (filled-at (endIn (part t at 128)) (λ j more less. p .filled j (omega arith) less))))))
+        (rw unmarked-at (zero-each-past (endIn (part t at 128)) (part t at 127) (part-filled t at 127 (endIn (part t at 128)) (λ j more less. p .filled j (omega arith) less))))))
 
 -- so many places from `at` on hold routes, the first with an NLRI after `previous`, and everything after them is zero
 record PlacesHold (afi : ℕ) (t previous : List ℕ) (count at : ℕ) : Type 0 where

@@ -31,6 +31,10 @@ nlriInPlace t at = part t (at + 2) (getD t at 0)
 abbrev pub attributeInPlace : (t : List ℕ) (at : ℕ) → List ℕ
 attributeInPlace t at = part t (at + 2 + getD t at 0) (getD t (at + 1) 0)
 
+-- its route, marked stale where the place's last octet is 1
+abbrev pub routeInPlace : (t : List ℕ) (at : ℕ) → Route
+routeInPlace t at = entry (nlriInPlace t at) (attributeInPlace t at) (eqb (getD t (at + 127) 0) 1)
+
 -- the 128 octets from `at` on are a taken place
 pub record PlaceHolds (afi : ℕ) (t : List ℕ) (at : ℕ) : Type 0 where
   -- both sizes, the NLRI and the attribute fit it, before its last octet
@@ -69,9 +73,8 @@ pub record SoundRule : Type 0 where
   pub family : (t : List ℕ) → Sound t → afiIn t ≡ getD t 5 0
   pub places : (t : List ℕ) → Sound t → length t ≡ 8 + 128 * placesIn t
   pub count : (t : List ℕ) → Sound t → length (routesOf t) ≡ countAt t
-  -- route number i is the one in place number i, marked stale where the place's last octet is 1; what stands for a missing route does not matter
-  pub routes : (t : List ℕ) → Sound t → (missing : Route) (i : ℕ) → i < countAt t
-      → getD (routesOf t) i missing ≡ entry (nlriInPlace t (8 + 128 * i)) (attributeInPlace t (8 + 128 * i)) (eqb (getD t (8 + 128 * i + 127) 0) 1)
+  -- route number i is the one in place number i; what stands for a missing route does not matter
+  pub routes : (t : List ℕ) → Sound t → (missing : Route) (i : ℕ) → i < countAt t → getD (routesOf t) i missing ≡ routeInPlace t (8 + 128 * i)
 
 -- a table of AFI 1 with two places, octet by octet, and six octets to choose: the version's, the count's, the last of a BIER attribute's label
 -- field, the one behind that attribute, and the last two of the first place. The NLRI there is (C-*,C-*) with RD 100:7 and originator 10.0.0.1

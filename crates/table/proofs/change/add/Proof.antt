@@ -6,20 +6,12 @@ use Rattle.table.proofs.change.add.Tie as tie
 
 returns : tie.Need-returns
 unfolding addedAt
-returns c = rw (c .before .before .write-header .ensures, c .before .before .before .before .before .before .replace .ensures, c .before .before .before .before .before .before .before .before .before .before .open-place .ensures, c .before .before .before .before .before .before .before .before .before .before .before .before .afi-of .ensures .0)
+returns c = rw (c .before .before .replace .ensures, c .before .before .before .before .before .before .open-at .ensures)
 
 pub add-spec : {M : Type 1} → statement M
 add-spec =
     tie.close
     (tie.spec
-    (search needs)
-    (search needs)
-    (search needs)
-    (search needs)
-    (search needs)
-    (search needs)
-    (search needs)
-    (search needs)
     (search needs)
     (search needs)
     (search needs)

@@ -2,7 +2,7 @@
 use mathlib.Core.Path.{sym}
 use denote.Ref.{now}
 use Rattle.octets.proofs.Lists.{placed-part}
-use Rattle.table.proofs.Renews.{kept-at}
+use Rattle.table.proofs.Passes.Renews.{kept-at}
 use borrow.Author.Needs.{needs}
 use Rattle.table.proofs.change.keep.Statement.{statement}
 use Rattle.table.proofs.change.keep.Tie as tie

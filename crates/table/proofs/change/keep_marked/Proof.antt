@@ -6,7 +6,7 @@ use lib.ListN.{set}
 use denote.Ref.{now}
 use Rattle.octets.specs.Octets.{part}
 use Rattle.octets.proofs.Lists.{length-part}
-use Rattle.table.proofs.Renews.{mark-set}
+use Rattle.table.proofs.Passes.Renews.{mark-set}
 use borrow.Author.Needs.{needs}
 use Rattle.table.proofs.change.keep_marked.Statement.{statement}
 use Rattle.table.proofs.change.keep_marked.Tie as tie

@@ -48,7 +48,7 @@ is-s-pmsi-requires c κs = search needs
 returns-3 : tie.Need-returns-3
 unfolding endIn
 returns-3 c =
-    place-other _ _ (c .before .before .before .before .before .if1 .left) (c .before .before .before .if2 .left) _ _ (c .before .before .between .ensures) (c .before .is-s-pmsi .ensures)
+    place-other _ _ (c .before .before .before .before .before .if1 .left) (c .before .before .before .if2 .left) _ (c .before .before .between .ensures) _ (c .before .is-s-pmsi .ensures)
     (not-true _ (c .if3 .taken))
 
 add-between : tie.Need-add-between
@@ -64,7 +64,7 @@ returns-4 : tie.Need-returns-4
 unfolding endIn
 returns-4 c =
     let n = c .before .before .before in
-    place-refused _ _ (n .before .before .before .before .before .if1 .left) (n .before .before .before .if2 .left) _ _ (n .before .before .between .ensures) (n .before .is-s-pmsi .ensures)
+    place-refused _ _ (n .before .before .before .before .before .if1 .left) (n .before .before .before .if2 .left) _ (n .before .before .between .ensures) _ (n .before .is-s-pmsi .ensures)
     (not-false _ (n .if3 .left)) _ _ (c .before .before .between2 .ensures) (attribute-refused _ _ (c .before .fault .ensures) (c .if4 .taken)) (c .if4 .taken)
 
 label-fault-requires : tie.Need-label-fault-requires
@@ -74,7 +74,7 @@ returns-5 : tie.Need-returns-5
 unfolding endIn
 returns-5 c =
     let n = c .before .before .before .before .before in
-    place-refused _ _ (n .before .before .before .before .before .if1 .left) (n .before .before .before .if2 .left) _ _ (n .before .before .between .ensures) (n .before .is-s-pmsi .ensures)
+    place-refused _ _ (n .before .before .before .before .before .if1 .left) (n .before .before .before .if2 .left) _ (n .before .before .between .ensures) _ (n .before .is-s-pmsi .ensures)
     (not-false _ (n .if3 .left)) _ _ (c .before .before .before .before .between2 .ensures) (c .before .label-fault .ensures) (c .if5 .taken)
 
 between-requires-3 : tie.Need-between-requires-3
@@ -89,7 +89,7 @@ returns-6 : tie.Need-returns-6
 unfolding endIn
 returns-6 c =
     let n = c .before .before .before .before .before .before .before in
-    place-accepted _ _ (n .before .before .before .before .before .if1 .left) (n .before .before .before .if2 .left) _ _ (n .before .before .between .ensures) (n .before .is-s-pmsi .ensures)
+    place-accepted _ _ (n .before .before .before .before .before .if1 .left) (n .before .before .before .if2 .left) _ (n .before .before .between .ensures) _ (n .before .is-s-pmsi .ensures)
     (not-false _ (n .if3 .left)) _ _ (c .before .before .before .before .before .before .between2 .ensures) (c .before .before .before .label-fault .ensures) (c .before .before .if5 .left) _ _
     (c .before .between3 .ensures) (c .is-tail-zero .ensures)
 
