@@ -21,7 +21,7 @@ pub fn group_class(afi: u16, prefixes: &[u8], group: &[u8]) -> Group
     class_by_prefixes(afi, after(prefixes, 0), after(group, 0))
 }
 
-// The same for a caller that reads more lists, so that no prefix needs no way of its own. FAMILY.
+// The same, without the short way for no prefixes, for a caller that reads other lists anyway. FAMILY, RANGE, SHORT, FLOW.
 pub fn class_by_prefixes(afi: u16, prefixes: &[u8], group: &[u8]) -> Group
     ensures { λ r. ⌜ r ≡ groupOf (classBy afi (now (prefixes .entry)) (now (group .entry))) ⌝ }
 {
