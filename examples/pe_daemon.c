@@ -2,13 +2,15 @@
  * A provider edge router's use of mvpn.h. It reads BGP UPDATE messages, keeps the S-PMSI A-D and Source Active A-D routes of
  * one VRF in them, also while the session is down by which they come (RFC 4724), and tells which route and which tunnel a
  * customer flow (C-S,C-G) or a shared tree (C-*,C-G) takes, and of a flow also why. It follows the flows while messages come, and
- * after each change of its tables asks only those again whose answer may be another. At the end it lists its tables.
+ * after each change of its tables asks only those again whose answer may be another. At the end it lists its tables, and, where
+ * it is told to, keeps them in files.
  *
- *     pe_daemon [--pieces OCTETS] [--ssm ADDRESS/LENGTH]... FILE [REQUEST]...
+ *     pe_daemon [--pieces OCTETS] [--ssm ADDRESS/LENGTH]... [--table FAMILY FILE]... FILE [REQUEST]...
  *
  * FILE holds whole messages, one after another; `-` is standard input. The NLRIs of a message are handed to the library in
  * pieces of so many octets, as a session may deliver them; what is printed is the same for every size. The prefixes, at most eight
- * of each family, are SSM ranges that replace its standard one. A request is one of
+ * of each family, are SSM ranges that replace its standard one. The table of a family, ipv4 or ipv6, is read back from its file at the
+ * start, salvaged where it is refused, and written there at the end. A request is one of
  *
  *     ROUTER SOURCE GROUP                              a flow; ROUTER is the PE that it comes from: ourselves for sending,
  *                                                      the upstream PE for receiving
@@ -18,11 +20,12 @@
  *     state SOURCE GROUP                               a (C-S,C-G) state that we hold, for the requests behind it
  *
  * Only this file calls the library; pe_daemon/update.c takes BGP messages apart, requests.c the command line, lists.c keeps
- * what is lent in lists, words.c prints. There is one peer and one VRF, so every route is the best path and every route is
- * imported; a router with more chooses first and then installs. An OPEN behind routes says that the session was lost and is
- * opened again.
+ * what is lent in lists, files.c reads and writes files, words.c prints. There is one peer and one VRF, so every route is the
+ * best path and every route is imported; a router with more chooses first and then installs. An OPEN behind routes says that the
+ * session was lost and is opened again.
  */
 #include "mvpn.h"
+#include "pe_daemon/files.h"
 #include "pe_daemon/lists.h"
 #include "pe_daemon/requests.h"
 #include "pe_daemon/update.h"
@@ -38,6 +41,7 @@ enum { PLACES = 64, TABLE_SIZE = MVPN_TABLE_SIZE(PLACES) };
 /* One address family of a VRF. */
 typedef struct {
     uint8_t table[TABLE_SIZE];
+    const char *table_file;  /* where it is kept; NULL where it is not */
     group_prefixes prefixes; /* its SSM ranges; where there are none, the standard range decides */
     source_actives sources;
     customer_states states;
@@ -200,6 +204,13 @@ static void ask_after_restart(customer_vrf *vrf, uint16_t afi, const mvpn_addres
         bool has_route = followed->match.tier != MVPN_NO_TIER && afi_of(&followed->flow.group) == afi;
         ask_or_not(vrf, followed, gone > 0 && is_of_router && has_route);
     }
+}
+
+/* After a table was read back: all flows of its family. */
+static void ask_all(customer_vrf *vrf, uint16_t afi)
+{
+    for (size_t i = 0; i < vrf->flows.count; i++)
+        ask_or_not(vrf, &vrf->flows.of[i], afi_of(&vrf->flows.of[i].flow.group) == afi);
 }
 
 /* ---- changes of a table */
@@ -826,6 +837,83 @@ static void print_table(const uint8_t *table)
         printf("  not listed: %s\n", number_name(next.number));
 }
 
+/* ---- tables that are kept in files */
+
+/* In the list of a salvage: the number of the place, and the reason. */
+static void print_dropped(const uint8_t place[MVPN_DROPPED_PLACE])
+{
+    printf("  place %u: dropped, %s\n", place[0] * 256u + place[1], drop_reason(place[2]));
+}
+
+/* A table that is refused is salvaged, as mvpn(3) says under "After a fault". The family is the one that the command line has for the
+ * file, and the sizes are right, so the call is not refused. The peer's OPEN then marks the routes that are kept, and what it does not
+ * announce again before End-of-RIB goes. */
+static void salvage(customer_vrf *vrf, uint16_t afi, const uint8_t stored[TABLE_SIZE])
+{
+    uint8_t dropped[MVPN_DROPPED_PLACE * PLACES];
+    mvpn_salvaged salvaged =
+        mvpn_salvage(afi, stored, TABLE_SIZE, table_of(vrf, afi), TABLE_SIZE, dropped, sizeof dropped);
+    printf("refused, ");
+    print_number(MVPN_TABLE);
+    printf(", and salvaged\n");
+    for (uint32_t i = 0; i < salvaged.dropped; i++)
+        print_dropped(dropped + i * MVPN_DROPPED_PLACE);
+    printf("  %u kept, %u dropped", (unsigned)salvaged.kept, (unsigned)salvaged.dropped);
+    ask_all(vrf, afi);
+}
+
+/* Octets of a table's size: a sound table of the family, one of the other family, or a damaged one. Whether they are ours. */
+static bool take_stored(customer_vrf *vrf, uint16_t afi, const uint8_t stored[TABLE_SIZE])
+{
+    mvpn_table_facts info = mvpn_table_info(stored, TABLE_SIZE);
+    if (info.number != MVPN_DONE) {
+        salvage(vrf, afi, stored);
+        return true;
+    }
+    if (info.afi != afi) {
+        printf("not used, the file has a table of %s, and is left as it is", family_name((uint16_t)info.afi));
+        return false;
+    }
+    memcpy(table_of(vrf, afi), stored, TABLE_SIZE);
+    printf("read back, %u route%s", (unsigned)info.routes, info.routes == 1 ? "" : "s");
+    ask_all(vrf, afi);
+    return true;
+}
+
+/* A file of another size, or with a table of the other family, may be somebody else's: it is not written at the end. Whether the file
+ * could be read, where there is one. */
+static bool read_back(customer_vrf *vrf, uint16_t afi)
+{
+    customer_family *family = family_of(vrf, afi);
+    uint8_t stored[TABLE_SIZE + 1];
+    size_t size;
+    if (!family->table_file)
+        return true;
+    if (!file_read(family->table_file, stored, sizeof stored, &size))
+        return false;
+    printf("stored %s table: ", family_name(afi));
+    bool is_ours = true;
+    if (size == 0)
+        printf("there is none yet");
+    else if (size == TABLE_SIZE)
+        is_ours = take_stored(vrf, afi, stored);
+    else {
+        printf("not used, the file does not have the %d octets of a table of %d places, and is left as it is", TABLE_SIZE, PLACES);
+        is_ours = false;
+    }
+    printf("\n");
+    if (!is_ours)
+        family->table_file = NULL;
+    return true;
+}
+
+/* Whether the table was written, where it is kept in a file. */
+static bool keep_table(customer_vrf *vrf, uint16_t afi)
+{
+    const char *file = family_of(vrf, afi)->table_file;
+    return !file || file_write(file, table_of(vrf, afi), TABLE_SIZE);
+}
+
 /* ---- requests */
 
 static void take_state(customer_vrf *vrf, const request *told)
@@ -881,19 +969,42 @@ static FILE *open_input(const char *name)
 static int take_option(customer_vrf *vrf, char **words)
 {
     group_prefix prefix;
+    table_file table;
     int count = parse_pieces(words, BGP_LONGEST_MESSAGE, &vrf->piece_size);
+    if (count != 0)
+        return count;
+    count = parse_table(words, &table);
+    if (count > 0)
+        family_of(vrf, table.afi)->table_file = table.name;
     if (count != 0)
         return count;
     count = parse_ssm(words, &prefix);
     return count > 0 && !take_prefix(vrf, words[1], &prefix) ? -1 : count;
 }
 
-/* 0: all was read and answered; 1: the input could not be read to its end; 2: the command line is wrong. */
+/* Reads the messages of a file, and answers the requests. Whether the input was read to its end. */
+static bool serve(customer_vrf *vrf, const char *file, FILE *input, char **words)
+{
+    request asked;
+    bool is_whole = use_messages(vrf, input);
+    if (ferror(input))
+        fprintf(stderr, "pe_daemon: %s cannot be read\n", file);
+    print_counts(vrf);
+    while (*words) {
+        words += parse_request(words, &asked);
+        answer(vrf, &asked);
+    }
+    print_table(table_of(vrf, MVPN_AFI_IPV4));
+    print_table(table_of(vrf, MVPN_AFI_IPV6));
+    return is_whole;
+}
+
+/* 0: all was read, answered and kept; 1: the input could not be read to its end, or a table's file not read or written; 2: the command
+ * line is wrong. */
 int main(int argc, char **argv)
 {
     static customer_vrf vrf;
     char **words = argv + (argc > 0);
-    request asked;
     int option;
     vrf.piece_size = BGP_LONGEST_MESSAGE;
     while ((option = take_option(&vrf, words)) > 0)
@@ -914,16 +1025,12 @@ int main(int argc, char **argv)
     make_tables(&vrf);
     print_prefixes(&vrf, MVPN_AFI_IPV4);
     print_prefixes(&vrf, MVPN_AFI_IPV6);
-    bool whole = use_messages(&vrf, input);
-    if (ferror(input))
-        fprintf(stderr, "pe_daemon: %s cannot be read\n", file);
-    print_counts(&vrf);
-    while (*words) {
-        words += parse_request(words, &asked);
-        answer(&vrf, &asked);
+    bool is_done = read_back(&vrf, MVPN_AFI_IPV4) && read_back(&vrf, MVPN_AFI_IPV6);
+    if (is_done) {
+        is_done = serve(&vrf, file, input, words);
+        is_done = keep_table(&vrf, MVPN_AFI_IPV4) && is_done;
+        is_done = keep_table(&vrf, MVPN_AFI_IPV6) && is_done;
     }
-    print_table(table_of(&vrf, MVPN_AFI_IPV4));
-    print_table(table_of(&vrf, MVPN_AFI_IPV6));
     fclose(input);
-    return whole ? 0 : 1;
+    return is_done ? 0 : 1;
 }

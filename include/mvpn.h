@@ -2,7 +2,7 @@
  * mvpn.h: MCAST-VPN NLRI (RFC 6514, RFC 6625, RFC 7441) and the PMSI Tunnel attribute (RFC 6514, RFC 8556), read and written; one
  * VRF's S-PMSI A-D routes for one address family, kept in memory that the caller lends, and the route that a customer
  * flow (C-S,C-G) or a shared tree (C-*,C-G) takes; of a flow also why; the routes of a table, one after another; a router's
- * routes kept while it restarts (RFC 4724).
+ * routes kept while it restarts (RFC 4724); a sound table made of what is good in a damaged one.
  *
  * Best paths, Route Targets, BGP sessions with their timers, and joining tunnels are the daemon's. So are SSM ranges other than
  * the standard one, and the knowledge of a shared tree that its match is told: which PE is upstream, which groups are BIDIR-PIM,
@@ -19,8 +19,9 @@
  * Threads: the library keeps nothing between calls, has no state of its own, and takes no memory and no lock, so any
  * thread may make any call, and an answer depends on the call's arguments alone. Octets that are only read may be lent to
  * several calls at once; a buffer that a call writes is used by nobody else until the call ends. A table is written by make,
- * install, withdraw, mark and sweep alone: matches, explanations and listings may run at once on one table while none of those
- * does, and seeing to that is the caller's. Calls on different tables are independent. A call takes at most 2 KiB of stack.
+ * install, withdraw, mark, sweep and salvage alone, and the damaged one of a salvage is only read: matches, explanations and
+ * listings may run at once on one table while none of those writes it, and seeing to that is the caller's. Calls on different
+ * tables are independent. A call takes at most 2 KiB of stack.
  *
  * Octets are in network order, as on the wire. AFI is 1 (IPv4) or 2 (IPv6), the whole 16-bit number.
  */
@@ -31,10 +32,10 @@
 #include <stdint.h>
 
 /* The version of this header and its archive; before 1.0.0 a new minor version may change calls. */
-#define MVPN_VERSION "0.13.1"
+#define MVPN_VERSION "0.14.0"
 #define MVPN_VERSION_MAJOR 0
-#define MVPN_VERSION_MINOR 13
-#define MVPN_VERSION_PATCH 1
+#define MVPN_VERSION_MINOR 14
+#define MVPN_VERSION_PATCH 0
 
 /* The version as one number, an octet for each part: what mvpn_version gives, where header and archive are of one version. */
 #define MVPN_VERSION_NUMBER (MVPN_VERSION_MAJOR * 65536 + MVPN_VERSION_MINOR * 256 + MVPN_VERSION_PATCH)
@@ -56,12 +57,12 @@ enum {
     MVPN_LONG = 8,    /* attribute over 64 octets, run over 4,096, list of more items than the call takes, prefixes apart; at writing a body for mLDP over 255 */
     MVPN_LABEL = 9,   /* BIER with label 0 at install; a label field over 16,777,215 at writing */
     MVPN_FAMILY = 10, /* AFI not 1 or 2 */
-    MVPN_TABLE = 11,  /* lent memory is not a sound table; for making one: not of a table's size */
+    MVPN_TABLE = 11,  /* lent memory is not a sound table; for making or salvaging one: not of a table's size */
     MVPN_KIND = 12,   /* well-formed NLRI, but not type 3; in a list of Source Active routes: not type 5 */
     MVPN_ROOM = 13,   /* new NLRI and every place taken */
     MVPN_ABSENT = 14, /* withdrawn NLRI not in the table */
     MVPN_FLOW = 15,   /* router or originator address not 4 or 16 octets, source or group not of the family's size, or group asked not multicast */
-    MVPN_SPACE = 16,  /* output buffer too small */
+    MVPN_SPACE = 16,  /* output buffer too small; for a salvaged table: not of the damaged memory's size */
     MVPN_DEEP = 17,   /* the fourth FEC element from outside has an opaque value of type 7 or 8 */
     MVPN_RANGE = 18   /* more than eight prefixes; a prefix with an address not of the family's size, a length over it, or a bit set past the length */
 };
@@ -396,7 +397,8 @@ mvpn_written mvpn_attribute_write(uint8_t flags, uint8_t tunnel_type, uint32_t l
  * library is a table whose routes have no marks.
  *
  * Install, withdraw, mark, sweep, both matches, explain, next and table_info look at every octet of the table, and refuse one
- * that is not sound; beyond that, their cost grows with the places that are taken.
+ * that is not sound; beyond that, their cost grows with the places that are taken. Of one that is refused, mvpn_salvage takes over
+ * the routes that are still good.
  *
  * A daemon with more than 500 routes keeps several tables, and gets the answers of one that holds all routes: a table for each
  * originator, since the candidates of a match are those of the router that it asks about; or, with more than 500 routes of one
@@ -627,6 +629,34 @@ typedef struct { uint32_t number, afi, places, routes; } mvpn_table_facts;
 
 /* What a table says of itself: its AFI, its places, and how many routes are in them. TABLE. */
 mvpn_table_facts mvpn_table_info(const uint8_t *table, size_t table_len);
+
+/* Why a salvage drops a place. */
+enum { MVPN_BAD_PLACE = 1, MVPN_REPEATED_NLRI = 2 };
+
+/* The octets of a salvage's list for each place: its number (16 bits, from 0), and the reason. */
+enum { MVPN_DROPPED_PLACE = 3 };
+
+typedef struct { uint32_t number, kept, dropped; } mvpn_salvaged; /* how many places were kept, and how many dropped */
+
+/*
+ * Makes a sound table of what is still good in damaged memory, as of a table that is read back from flash after a fault. The header
+ * of `damaged` is not looked at, neither its AFI nor its count, so the caller must know the AFI. Every place is looked at. It is
+ * good if a sound table of this AFI could have it: a route that install accepts, zeros behind it, and a mark of 0 or 1.
+ *   - A good place is kept, with its mark, if no place before it that is kept has its NLRI; else it is dropped: MVPN_REPEATED_NLRI.
+ *   - A place of zeros is passed over: it is neither kept nor dropped.
+ *   - Any other place is dropped, whatever its NLRI: MVPN_BAD_PLACE.
+ * `table` is written whole, and is the sound table of the routes kept. `dropped` gets at its front the places that are dropped, in
+ * their order, MVPN_DROPPED_PLACE octets each; octets past these are untouched. A sound table of this AFI comes back unchanged, and
+ * nothing is dropped.
+ *
+ * FAMILY, TABLE (a `damaged_len` other than MVPN_TABLE_SIZE of 0 to 500), SPACE (a `table_len` other than `damaged_len`, or a
+ * `dropped_len` under MVPN_DROPPED_PLACE for each place of `damaged`, however few are dropped).
+ *
+ * A fault may also turn a route into another good one, or a place into zeros, and nobody can tell. mvpn(3) says under "After a
+ * fault" what a daemon does.
+ */
+mvpn_salvaged mvpn_salvage(uint16_t afi, const uint8_t *damaged, size_t damaged_len, uint8_t *table, size_t table_len,
+                           uint8_t *dropped, size_t dropped_len);
 
 #ifdef __cplusplus
 }

@@ -98,6 +98,11 @@ several_lines() {
     shown_after '^And a flow is matched thus:$'
 }
 
+# The lines of mvpn(3) for callers whose table was refused after a fault.
+fault_lines() {
+    shown_after '^that was refused:$'
+}
+
 # blocks LANGUAGE FILE: the lines of the fenced blocks of that language.
 blocks() {
     awk -v fence="\`\`\`$1" '$0 == fence { inside = 1; next } /^```/ { inside = 0 } inside' "$2"

@@ -1,7 +1,7 @@
 //! What the comparison has met: the numbers of each call, route types, families, tunnel types, group classes, outcomes, routes
-//! that went, marks, tiers, kinds of sequence, what changes do to answers, and answers of several tables.
+//! that went, marks, what became of places, tiers, kinds of sequence, what changes do to answers, and answers of several tables.
 
-use crate::second::{disturbance::Effect, ranges::MOST_PREFIXES};
+use crate::second::{disturbance::Effect, ranges::MOST_PREFIXES, salvage::Fate};
 use std::collections::BTreeMap;
 
 /// Each row must be met this often.
@@ -28,6 +28,7 @@ pub enum Call {
     Explain,
     Next,
     TableInfo,
+    Salvage,
     MatchShared,
     /// A call in a sequence on one table.
     Sequence,
@@ -84,6 +85,20 @@ pub enum Seen {
     Follows(u16, bool),
     /// AFI, and the mark of the route that comes next.
     Stale(u16, u32),
+    /// AFI, and what became of a place of the memory that was salvaged.
+    Fate(u16, Fate),
+    /// AFI, and places of the memory that was salvaged.
+    Salvaged(u16, usize),
+    /// AFI, and how many places a salvage dropped; 3 stands for more.
+    Dropped(u16, u32),
+    /// AFI, and the mark of a route that a salvage kept.
+    KeptMark(u16, u8),
+    /// AFI, and whether a place that was kept stands past the count of the header.
+    PastCount(u16, bool),
+    /// A salvage that puts routes into another order: AFI.
+    Reordered(u16),
+    /// A sound table that a salvage gives back unchanged: AFI.
+    Unchanged(u16),
     /// AFI, and how many routes went with a mark or a sweep; 3 stands for more.
     Gone(u16, u32),
     /// AFI and tier of a match of any kind that takes a marked route.
@@ -125,7 +140,7 @@ pub enum Seen {
 }
 
 /// The numbers that each call can give (document 01, "The numbers a call gives back"; document 02).
-const NUMBERS: [(Call, &[u32]); 19] = [
+const NUMBERS: [(Call, &[u32]); 20] = [
     (Call::NlriRead, &[0, 1, 2, 3, 4, 5, 7, 10, 17]),
     (Call::NlriWrite, &[0, 2, 4, 5, 7, 8, 10, 16, 17]),
     (Call::Step, &[0, 1, 2, 3, 4, 5, 7, 8, 10, 17]),
@@ -144,11 +159,15 @@ const NUMBERS: [(Call, &[u32]); 19] = [
     (Call::Explain, &[0, 1, 11, 15, 16, 18]),
     (Call::Next, &[0, 11, 16]),
     (Call::TableInfo, &[0, 11]),
+    (Call::Salvage, &[0, 10, 11, 16]),
     (Call::MatchShared, &[0, 1, 2, 3, 4, 5, 7, 8, 11, 12, 15, 16, 17, 18]),
 ];
 
 /// The numbers of places that sequences and table cases use.
 pub const PLACES: [usize; 5] = [0, 1, 2, 16, 500];
+
+/// The numbers of places of memory that is salvaged.
+pub const SALVAGED: [usize; 6] = [0, 1, 2, 3, 16, 500];
 
 const TUNNELS: [u32; 9] = [0, 1, 2, 3, 4, 5, 6, 7, 11];
 
@@ -250,9 +269,20 @@ fn required_of_tables(afi: u16) -> Vec<(Call, Seen)> {
     for places in PLACES {
         rows.extend([true, false].map(|premise| (Call::Sequence, Seen::Places(afi, places, premise))));
     }
+    rows.extend(required_of_salvage(afi));
     rows.extend(required_of_changes(afi));
     rows.extend(required_of_several(afi));
     rows
+}
+
+/// What can become of places, and of a table.
+fn required_of_salvage(afi: u16) -> Vec<(Call, Seen)> {
+    let fates = Fate::ALL.map(|fate| Seen::Fate(afi, fate));
+    let marks = [0, 1].map(|mark| Seen::KeptMark(afi, mark));
+    let past = [true, false].map(|past| Seen::PastCount(afi, past));
+    let rows = fates.into_iter().chain(marks).chain(past).chain([Seen::Reordered(afi), Seen::Unchanged(afi)]);
+    let rows = rows.chain(SALVAGED.map(|places| Seen::Salvaged(afi, places)));
+    rows.chain((0..=3).map(|dropped| Seen::Dropped(afi, dropped))).map(|seen| (Call::Salvage, seen)).collect()
 }
 
 /// What each change can do to an answer, and who asks again.

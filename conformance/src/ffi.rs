@@ -208,6 +208,17 @@ pub struct TableInfo {
     pub routes: u32,
 }
 
+/// What a salvage answers.
+#[repr(C)]
+#[derive(Clone, Copy, Debug, Default, PartialEq, Eq)]
+pub struct Salvaged {
+    pub number: u32,
+    /// Routes of the table written.
+    pub kept: u32,
+    /// Places that the list tells.
+    pub dropped: u32,
+}
+
 /// What the daemon knows of a shared tree and the PE asked; each is 0 or not.
 #[repr(C)]
 #[derive(Clone, Copy, Debug, Default, PartialEq, Eq)]
@@ -234,6 +245,7 @@ const _: () = assert!(
         && size_of::<Restarted>() == 8
         && size_of::<Following>() == 16
         && size_of::<TableInfo>() == 16
+        && size_of::<Salvaged>() == 12
         && size_of::<SharedTree>() == 12
 );
 
@@ -265,6 +277,7 @@ pub mod raw {
     ) -> Explained;
     pub type Next = unsafe extern "C" fn(*const u8, usize, *const u8, usize, *mut u8, usize) -> Following;
     pub type ReadTableInfo = unsafe extern "C" fn(*const u8, usize) -> TableInfo;
+    pub type Salvage = unsafe extern "C" fn(u16, *const u8, usize, *mut u8, usize, *mut u8, usize) -> Salvaged;
     #[rustfmt::skip]
     pub type MatchShared = unsafe extern "C" fn(
         *const u8, usize, *const u8, usize, *const u8, usize, *const u8, usize, SharedTree, *const u8, usize,
@@ -354,6 +367,15 @@ pub mod raw {
             output_len: usize,
         ) -> Following;
         pub fn mvpn_table_info(table: *const u8, table_len: usize) -> TableInfo;
+        pub fn mvpn_salvage(
+            afi: u16,
+            damaged: *const u8,
+            damaged_len: usize,
+            table: *mut u8,
+            table_len: usize,
+            dropped: *mut u8,
+            dropped_len: usize,
+        ) -> Salvaged;
         pub fn mvpn_match_shared(
             table: *const u8,
             table_len: usize,
@@ -498,6 +520,12 @@ pub fn next(table: &mut Lent, nlri: &mut Lent, output: &mut Lent) -> Following {
 
 pub fn table_info(table: &mut Lent) -> TableInfo {
     unsafe { raw::mvpn_table_info(table.pointer(), table.len()) }
+}
+
+pub fn salvage(afi: u16, damaged: &mut Lent, table: &mut Lent, dropped: &mut Lent) -> Salvaged {
+    let (octets, size) = (damaged.pointer(), damaged.len());
+    let (list, room) = (dropped.pointer(), dropped.len());
+    unsafe { raw::mvpn_salvage(afi, octets, size, table.pointer(), table.len(), list, room) }
 }
 
 /// `tree` is the router and the group; `lists` are the Source Active routes and the states.

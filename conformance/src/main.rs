@@ -86,6 +86,7 @@ fn finds(options: &Options, fault: Fault) -> bool {
         ShownBy::Ranges => cases::of_ranges(&mut harness, options),
         ShownBy::Explanations => cases::of_explanations(&mut harness, options),
         ShownBy::Following => cases::of_following(&mut harness, options),
+        ShownBy::Salvage => cases::of_salvage(&mut harness, options),
         ShownBy::SharedTrees => cases::of_shared_trees(&mut harness, options),
         ShownBy::Disturbance => cases::of_disturbance(&mut harness, options),
         ShownBy::Splitting => cases::of_splitting(&mut harness, options),

@@ -9,7 +9,8 @@
 
 void print_usage(void)
 {
-    fprintf(stderr, "usage: pe_daemon [--pieces OCTETS] [--ssm ADDRESS/LENGTH]... FILE [REQUEST]...\n"
+    fprintf(stderr, "usage: pe_daemon [--pieces OCTETS] [--ssm ADDRESS/LENGTH]... [--table FAMILY FILE]... FILE [REQUEST]...\n"
+                    "a family is ipv4 or ipv6\n"
                     "a request is one of\n"
                     "  ROUTER SOURCE GROUP\n"
                     "  shared ROUTER GROUP [upstream] [bidir] [unused]\n"
@@ -72,6 +73,20 @@ int parse_ssm(char **words, group_prefix *prefix)
         return 2;
     fprintf(stderr, "pe_daemon: a prefix is an address, a slash, and a length of at most %d\n", UINT8_MAX);
     return -1;
+}
+
+int parse_table(char **words, table_file *table)
+{
+    if (!is(words[0], "--table"))
+        return 0;
+    bool is_ipv4 = is(words[1], "ipv4"), is_ipv6 = is(words[1], "ipv6");
+    if ((!is_ipv4 && !is_ipv6) || !words[2]) {
+        fprintf(stderr, "pe_daemon: a table is ipv4 or ipv6, and a file\n");
+        return -1;
+    }
+    table->afi = is_ipv4 ? MVPN_AFI_IPV4 : MVPN_AFI_IPV6;
+    table->name = words[2];
+    return 3;
 }
 
 static bool parse_address(const char *text, mvpn_address *address)

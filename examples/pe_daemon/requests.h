@@ -17,6 +17,12 @@ typedef struct { mvpn_address address; uint8_t length; } group_prefix;
 /* Reads the option `--ssm ADDRESS/LENGTH` likewise. Whether the length suits the address is for the library to say. */
 int parse_ssm(char **words, group_prefix *prefix);
 
+/* The file that a family's table is kept in. */
+typedef struct { uint16_t afi; const char *name; } table_file;
+
+/* Reads the option `--table FAMILY FILE` likewise. */
+int parse_table(char **words, table_file *table);
+
 typedef enum { FLOW, SHARED_TREE, STATE } request_kind;
 
 typedef struct {

@@ -5,6 +5,8 @@ set -euo pipefail
 program=$(realpath "$1")
 pieces=(${2:+--pieces "$2"})
 cd "$(dirname "${BASH_SOURCE[0]}")/../updates"
+kept=$(mktemp -d)
+trap 'rm -rf "$kept"' EXIT
 
 # run FILE [REQUEST]...
 run() {
@@ -126,6 +128,56 @@ ranges 239.1.1.0/24 shared.bin \
     shared 10.0.0.1 239.1.1.1 upstream bidir unused \
     shared 10.0.0.1 232.9.9.9 upstream
 
+# tables 'OPTION...' [REQUEST]...: messages of standard input, with tables that are kept in files of a folder for them. What is printed
+# of the messages behind the first, and the counts, are left out.
+tables() {
+    printf '\n==== pe_daemon %s -\n\n' "$1"
+    # The options are several words.
+    # shellcheck disable=SC2086
+    { (cd "$kept" && "$program" $1 "${pieces[@]}" - "${@:2}") 2>&1 || echo "exit status $?"; } |
+        sed -e '/^message 2:/,/^$/d' -e '/^messages:/,/^other NLRIs:/d' | cat -s
+}
+
+# put FILE OFFSET: what is read in the place of octets of a file.
+put() {
+    dd of="$kept/$1" bs=1 seek="$2" conv=notrunc status=none
+}
+
+# place FILE NUMBER: the octets of a place.
+place() {
+    dd if="$kept/$1" bs=1 skip=$((8 + 128 * $2)) count=128 status=none
+}
+
+# Tables that are not there yet; the same read back, with their marks; and read back when a session is opened, by which all of it is
+# stale until it comes again.
+both='--table ipv4 ipv4.table --table ipv6 ipv6.table'
+tables "$both" 10.0.0.1 192.0.2.1 232.1.1.1 2001:db8::1 2001:db8:1::1 ff3e::1 <restart.bin
+tables "$both" 10.0.0.1 192.0.2.1 232.1.1.1 2001:db8::1 2001:db8:1::1 ff3e::1 </dev/null
+tables "$both" 10.0.0.1 192.0.2.1 232.1.1.1 <restart.bin
+
+# A header of noise, a place with a bad tunnel type, and one that is repeated. Then a header of noise, and an originator that becomes
+# another one: the place is good, and its route goes when the peer does not announce it.
+printf '\xFF\xFF\xFF\xFF\xFF\xFF\xFF\xFF' | put ipv4.table 0
+printf '\x08' | put ipv4.table $((8 + 128 + 2 + 20 + 1))
+place ipv4.table 0 | put ipv4.table $((8 + 128 * 3))
+tables '--table ipv4 ipv4.table' 10.0.0.1 192.0.2.1 232.1.1.1 10.0.0.1 192.0.2.1 239.1.1.1 </dev/null
+tables '--table ipv4 ipv4.table' <restart.bin
+printf '\xFF\xFF\xFF\xFF\xFF\xFF\xFF\xFF' | put ipv4.table 0
+printf '\xFF' | put ipv4.table $((8 + 128 + 2 + 20 - 1))
+tables '--table ipv4 ipv4.table' <restart.bin
+
+# A table of the other family; files of an octet more and of one less than a table has, and one of none; a folder; a file in a folder
+# that is not there.
+tables '--table ipv6 ipv4.table' </dev/null
+printf '\x00' | put ipv6.table 8200
+tables '--table ipv6 ipv6.table' </dev/null
+truncate -s 8199 "$kept/ipv6.table"
+tables '--table ipv6 ipv6.table' </dev/null
+truncate -s 0 "$kept/ipv6.table"
+tables '--table ipv6 ipv6.table' </dev/null
+tables '--table ipv4 .' <ipv4.bin
+tables '--table ipv4 none/ipv4.table' </dev/null
+
 # Nothing was installed for the first flow, and what was installed for the second is gone again.
 run damaged.bin 10.0.0.1 192.0.2.1 239.1.1.1 10.0.0.1 192.0.2.1 232.1.1.1
 
@@ -166,11 +218,13 @@ run ipv4.bin shared 10.0.0.1 239.1.1.1 downstream 2>&1
 run ipv4.bin state 192.0.2.1 2>&1
 
 # Pieces of no octets, of more than a message has, of what is no number, and of nothing; SSM ranges that the library refuses, for a
-# bit past the length, a length over the address, or as the ninth of a family; words that are no prefix, and none; no file.
+# bit past the length, a length over the address, or as the ninth of a family; words that are no prefix, and none; a table of no family,
+# and of no file; no file.
 for words in '--pieces 0 ipv4.bin' '--pieces 4097 ipv4.bin' '--pieces 1O ipv4.bin' '--pieces' '--pieces 1' \
     '--ssm 239.232.1.0/16 ipv4.bin' '--ssm 239.232.0.0/33 ipv4.bin' '--ssm ff3e::/129 ipv6.bin' \
     "$(printf -- '--ssm 239.%d.0.0/16 ' {1..9})ipv4.bin" "$(printf -- '--ssm ff3e:%d::/32 ' {1..9})ipv6.bin" \
-    '--ssm 239.232.0.0 ipv4.bin' '--ssm 239.232.0.0/256 ipv4.bin' '--ssm 239.232/16 ipv4.bin' '--ssm' '--ssm 239.232.0.0/16' ''; do
+    '--ssm 239.232.0.0 ipv4.bin' '--ssm 239.232.0.0/256 ipv4.bin' '--ssm 239.232/16 ipv4.bin' '--ssm' '--ssm 239.232.0.0/16' \
+    '--table ipv5 ipv5.table ipv4.bin' '--table' '--table ipv4' '--table ipv4 ipv4.table' ''; do
     printf '\n==== pe_daemon%s\n\n' "${words:+ $words}"
     # The words are several.
     # shellcheck disable=SC2086

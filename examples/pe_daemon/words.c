@@ -111,6 +111,15 @@ const char *tier_name(uint32_t tier)
     return listed(names, COUNT(names), tier, "unknown tier");
 }
 
+const char *drop_reason(uint32_t reason)
+{
+    static const char *const names[] = {
+        [MVPN_BAD_PLACE] = "bad",
+        [MVPN_REPEATED_NLRI] = "its NLRI is that of a place before it",
+    };
+    return listed(names, COUNT(names), reason, "a reason that mvpn.h does not have");
+}
+
 /* ---- reasons */
 
 /* The class that a tier is for, and the one that it is not for. */

@@ -13,6 +13,7 @@ const char *route_type_name(size_t route_type);
 const char *tunnel_type_name(uint32_t tunnel_type);
 const char *group_class_name(uint32_t group_class);
 const char *tier_name(uint32_t tier);
+const char *drop_reason(uint32_t reason); /* "bad" */
 
 /* ---- printing: no line feed before or after */
 

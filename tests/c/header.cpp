@@ -24,6 +24,7 @@ static_assert(sizeof(mvpn_shared_tree) == 12, "mvpn_shared_tree");
 static_assert(sizeof(mvpn_restarted) == 8, "mvpn_restarted");
 static_assert(sizeof(mvpn_following) == 16, "mvpn_following");
 static_assert(sizeof(mvpn_table_facts) == 16, "mvpn_table_facts");
+static_assert(sizeof(mvpn_salvaged) == 12, "mvpn_salvaged");
 static_assert(sizeof mvpn_no_items == 2, "mvpn_no_items");
 static_assert(MVPN_TABLE_SIZE(MVPN_MOST_PLACES) == 64008, "MVPN_TABLE_SIZE");
 
@@ -63,6 +64,7 @@ int main()
                                          output, 0)
                                .number == MVPN_TABLE &&
                        mvpn_next(octets, 0, octets, 0, output, 0).number == MVPN_TABLE &&
-                       mvpn_table_info(octets, 0).number == MVPN_TABLE && mvpn_version() == MVPN_VERSION_NUMBER;
+                       mvpn_table_info(octets, 0).number == MVPN_TABLE &&
+                       mvpn_salvage(1, octets, 0, output, 0, output, 0).number == MVPN_TABLE && mvpn_version() == MVPN_VERSION_NUMBER;
     return as_expected && lists() ? 0 : 1;
 }

@@ -168,6 +168,19 @@ static void listings(void)
     same(shows, "table_info", mvpn_table_info(NO_OCTETS).number, MVPN_TABLE);
 }
 
+static void salvages(void)
+{
+    static const uint8_t no_places[MVPN_TABLE_SIZE(0)];
+    const char *shows = "null";
+    uint8_t second[sizeof table], second_of_none[sizeof no_places], dropped[2 * MVPN_DROPPED_PLACE];
+    same(shows, "salvage, nothing", mvpn_salvage(1, OF(table), OF(second), OF(dropped)).kept, 1);
+    same(shows, "salvage, the memory", mvpn_salvage(1, NO_OCTETS, OF(second), OF(dropped)).number, MVPN_TABLE);
+    same(shows, "salvage, the second buffer", mvpn_salvage(1, OF(table), NO_OCTETS, OF(dropped)).number, MVPN_SPACE);
+    same(shows, "salvage, the list", mvpn_salvage(1, OF(table), OF(second), NO_OCTETS).number, MVPN_SPACE);
+    same(shows, "salvage, the list of no places", mvpn_salvage(1, OF(no_places), OF(second_of_none), NO_OCTETS).number, MVPN_DONE);
+    same(shows, "salvage, all", mvpn_salvage(1, NO_OCTETS, NO_OCTETS, NO_OCTETS).number, MVPN_TABLE);
+}
+
 /* ---- the helpers of mvpn.h for lists */
 
 static void lists(void)
@@ -200,6 +213,7 @@ int main(void)
     matches();
     shared_trees();
     listings();
+    salvages();
     lists();
     versions();
     return verdict("C nulls");

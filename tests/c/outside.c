@@ -118,6 +118,20 @@ static void restart(void)
     expect("sweep", mvpn_sweep(OF(table), OF(router)).gone == 0);
 }
 
+/* A table whose count was lost, and whose last place is not zero. */
+static void salvage(void)
+{
+    uint8_t damaged[sizeof table], dropped[3 * MVPN_DROPPED_PLACE];
+    memcpy(damaged, table, sizeof damaged);
+    damaged[7] = 0;
+    damaged[sizeof damaged - 1] = 1;
+    expect("table_info, damaged", mvpn_table_info(OF(damaged)).number == MVPN_TABLE);
+    mvpn_salvaged salvaged = mvpn_salvage(MVPN_AFI_IPV4, OF(damaged), OF(table), OF(dropped));
+    expect("salvage", salvaged.number == MVPN_DONE && salvaged.kept == 1 && salvaged.dropped == 1);
+    expect("salvage, the list", dropped[0] == 0 && dropped[1] == 2 && dropped[2] == MVPN_BAD_PLACE);
+    expect("table_info, salvaged", mvpn_table_info(OF(table)).routes == 1);
+}
+
 int main(void)
 {
     expect("version", mvpn_version() == MVPN_VERSION_NUMBER);
@@ -127,6 +141,7 @@ int main(void)
     questions();
     ranges();
     restart();
+    salvage();
     expect("withdraw", mvpn_withdraw(OF(table), run, ANY_SIZE) == MVPN_DONE);
     expect("withdraw again", mvpn_withdraw(OF(table), run, ANY_SIZE) == MVPN_ABSENT);
     return failures != 0;

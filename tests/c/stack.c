@@ -272,6 +272,32 @@ RUN(next_stale, FOLLOWS(first, sizeof first, sizeof first) && following.stale ==
 RUN(info_of_table, mvpn_table_info(table, sizeof table).routes == MVPN_MOST_PLACES)
 RUN(info_of_no_table, mvpn_table_info(table, sizeof table - 1).number == MVPN_TABLE)
 
+/* ---- salvage: the same places in reverse order, all bad for the octet before the mark, all of one NLRI, and of the other family */
+
+static uint8_t reversed[sizeof full], bad[sizeof full], repeated[sizeof full], salvaged_table[sizeof full];
+static uint8_t dropped[MVPN_DROPPED_PLACE * MVPN_MOST_PLACES];
+
+static void fill_damaged(void)
+{
+    memcpy(bad, full, sizeof bad);
+    for (size_t i = 0; i < MVPN_MOST_PLACES; i++) {
+        memcpy(reversed + MVPN_TABLE_SIZE(MVPN_MOST_PLACES - 1 - i), full + MVPN_TABLE_SIZE(i), MVPN_PLACE);
+        memcpy(repeated + MVPN_TABLE_SIZE(i), full + MVPN_TABLE_SIZE(0), MVPN_PLACE);
+        bad[MVPN_TABLE_SIZE(i + 1) - 2] = 1;
+    }
+}
+
+static mvpn_salvaged salvaged;
+
+#define SALVAGES(afi, dropped_len, wanted_number, wanted_kept, wanted_dropped) \
+    (salvaged = mvpn_salvage(afi, table, sizeof table, salvaged_table, sizeof salvaged_table, dropped, dropped_len), \
+     salvaged.number == (wanted_number) && salvaged.kept == (wanted_kept) && salvaged.dropped == (wanted_dropped))
+RUN(salvage_all, SALVAGES(2, sizeof dropped, MVPN_DONE, MVPN_MOST_PLACES, 0))
+RUN(salvage_none, SALVAGES(2, sizeof dropped, MVPN_DONE, 0, MVPN_MOST_PLACES))
+RUN(salvage_one, SALVAGES(2, sizeof dropped, MVPN_DONE, 1, MVPN_MOST_PLACES - 1))
+RUN(salvage_of_other_family, SALVAGES(1, sizeof dropped, MVPN_DONE, 0, MVPN_MOST_PLACES))
+RUN(salvage_without_space, SALVAGES(2, sizeof dropped - 1, MVPN_SPACE, 0, 0))
+
 /* ---- shared trees: a table of (C-*,C-G) and (C-*,C-*) routes of one PE, and the longest lists */
 
 #define SHARED_GROUP 0xFF, 0x0E, 0, 0, 0, 0, 0, 0, 0, 0, 0, 0, 0, 0, 0, 1
@@ -419,6 +445,13 @@ static const struct {
     { "mvpn_next", next_stale, stale },
     { "mvpn_table_info", info_of_table, full },
     { "mvpn_table_info", info_of_no_table, full },
+    { "mvpn_salvage", salvage_all, full },
+    { "mvpn_salvage", salvage_all, stale },
+    { "mvpn_salvage", salvage_all, reversed },
+    { "mvpn_salvage", salvage_none, bad },
+    { "mvpn_salvage", salvage_one, repeated },
+    { "mvpn_salvage", salvage_of_other_family, full },
+    { "mvpn_salvage", salvage_without_space, full },
 };
 
 /* ---- the painted stack */
@@ -486,6 +519,7 @@ int main(void)
     fill(full, 0);
     fill(roomy, 1);
     fill_stale();
+    fill_damaged();
     fill_prefixes();
     fill_shared_trees();
     read_part();

@@ -1,7 +1,7 @@
 /*
- * Matches, explanations, matches for shared trees and listings at once, from several threads, on one table that no call can write:
- * its memory is mapped for reading alone, as is everything else that the calls read. Each answer is the one that a thread alone
- * gets. A call that wrote any of it would end the program.
+ * Matches, explanations, matches for shared trees and listings at once, from several threads, on one table that no call can write,
+ * and salvages of one that is damaged: their memory is mapped for reading alone, as is everything else that the calls read. Each answer
+ * is the one that a thread alone gets. A call that wrote any of it would end the program.
  */
 #define _DEFAULT_SOURCE
 #include "checks.h"
@@ -15,7 +15,7 @@ enum { THREADS = 8, TIMES = 200, PLACES = 200, FLOWS = 14, GROUPS = 10 };
 /* ---- memory that is only read */
 
 typedef struct {
-    uint8_t table[MVPN_TABLE_SIZE(PLACES)];
+    uint8_t table[MVPN_TABLE_SIZE(PLACES)], damaged[MVPN_TABLE_SIZE(PLACES)];
     uint8_t router[4], sources[FLOWS][4], groups[FLOWS][4];
     uint8_t active[20], actives[64], states[64], prefixes[64];
     size_t actives_size, states_size, prefixes_size;
@@ -62,6 +62,18 @@ static void fill_table(void)
     }
 }
 
+/* The table with a place repeated, one bad, two exchanged and a count of 0. */
+static void damage(void)
+{
+    uint8_t *places = shared->damaged + MVPN_TABLE_HEADER;
+    memcpy(shared->damaged, shared->table, sizeof shared->damaged);
+    memcpy(places + MVPN_PLACE * 3, places, MVPN_PLACE);
+    memcpy(places, places + MVPN_PLACE * 7, MVPN_PLACE);
+    memcpy(places + MVPN_PLACE * 7, shared->table + MVPN_TABLE_HEADER, MVPN_PLACE);
+    places[MVPN_PLACE * 5 - 1] = 2;
+    shared->damaged[7] = 0;
+}
+
 static void fill_lists(void)
 {
     uint8_t active[] = { 5, 18, 0, 0, 0, 0, 0, 0, 0, 7, 32, 192, 0, 2, 1, 32, 239, 1, 1, 2 };
@@ -86,6 +98,7 @@ static void fill(void)
     }
     memcpy(shared->router, (uint8_t[]){ 10, 0, 0, 1 }, 4);
     fill_table();
+    damage();
     fill_lists();
     same("the memory", "is only read from now on", mprotect(shared, sizeof *shared, PROT_READ), 0);
 }
@@ -101,6 +114,8 @@ typedef struct {
     mvpn_table_facts info;
     uint8_t listed[PLACES][MVPN_MATCH_OUTPUT];
     size_t listed_count;
+    mvpn_salvaged salvaged;
+    uint8_t salvaged_table[MVPN_TABLE_SIZE(PLACES)], dropped[MVPN_DROPPED_PLACE * PLACES];
 } answers;
 
 /* The flow of number i, or of i - FLOWS. */
@@ -139,6 +154,8 @@ static void ask(answers *got)
     }
     list(got);
     got->info = mvpn_table_info(shared->table, sizeof shared->table);
+    got->salvaged = mvpn_salvage(MVPN_AFI_IPV4, shared->damaged, sizeof shared->damaged, got->salvaged_table,
+                                 sizeof got->salvaged_table, got->dropped, sizeof got->dropped);
 }
 
 /* ---- threads */
@@ -190,6 +207,9 @@ static void kinds_are_met(void)
     same("the shared trees", "one has none", tree_met[0], true);
     same("the listing", "routes", alone.listed_count, PLACES / 4);
     same("the table", "routes", alone.info.routes, PLACES / 4);
+    same("the salvage", "kept", alone.salvaged.kept, PLACES / 4 - 2);
+    same("the salvage", "dropped", alone.salvaged.dropped, 2);
+    same_octets("the salvage", "the list", alone.dropped, (uint8_t[]){ 0, 4, MVPN_BAD_PLACE, 0, 7, MVPN_REPEATED_NLRI }, 6);
 }
 
 int main(void)

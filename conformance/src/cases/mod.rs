@@ -25,6 +25,7 @@ pub mod ranges_examples;
 pub mod ranges_matches;
 pub mod restarts;
 pub mod routes;
+pub mod salvage;
 pub mod samples;
 pub mod sequences;
 pub mod shared;
@@ -49,6 +50,7 @@ pub fn all(harness: &mut Harness, options: &Options) -> Checked {
     of_pieces(harness, options)?;
     of_shared_trees(harness, options)?;
     of_following(harness, options)?;
+    of_salvage(harness, options)?;
     of_explanations(harness, options)?;
     of_restarts(harness, options)?;
     of_ranges(harness, options)?;
@@ -100,6 +102,11 @@ pub fn of_shared_trees(harness: &mut Harness, options: &Options) -> Checked {
 /// Looking into a table.
 pub fn of_following(harness: &mut Harness, options: &Options) -> Checked {
     following::all(harness, &mut Random::new(options.seed))
+}
+
+/// Salvage of a damaged table.
+pub fn of_salvage(harness: &mut Harness, options: &Options) -> Checked {
+    salvage::all(harness, &mut Random::new(options.seed), options.cases)
 }
 
 /// Explanations alone.

@@ -113,7 +113,8 @@ pub fn table_of(held: &str) -> Vec<u8> {
     table
 }
 
-fn place_of(held: &str) -> Vec<u8> {
+/// The place of one of these routes.
+pub fn place_of(held: &str) -> Vec<u8> {
     let (nlri, own) = named(&held[..1]);
     let attribute = if held.contains('*') { octets(ANOTHER) } else { own };
     let mut place = [&[nlri.len() as u8, attribute.len() as u8], &nlri[..], &attribute].concat();

@@ -6,6 +6,7 @@ pub mod group;
 pub mod nlri;
 pub mod pieces;
 pub mod run;
+pub mod salvage;
 pub mod table;
 
 use crate::{
@@ -77,8 +78,9 @@ pub struct Harness {
     pub inputs: u64,
     /// Calls compared in sequences on one table.
     pub sequence_calls: u64,
-    /// The NLRI of a table call, and the only input of the calls without a table.
+    /// The NLRI of a table call, the memory that is salvaged, and the only input of the calls without a table.
     input: Lent,
+    /// The list of dropped places too.
     output: Lent,
     table: Lent,
     attribute: Lent,

@@ -2,9 +2,9 @@
 //!
 //! Each does the whole work of the archive's call, no more and no less. It has the same C arguments and gives its answer by
 //! value; it refuses the same inputs with the same numbers, in document 01's order, before it writes anything; every
-//! call on a table but making one tests every octet of it for soundness each time; and every octet that the call promises is
-//! written, those behind a route included. Nothing is allocated or kept between calls. `tests.rs` and `table_tests.rs`
-//! compare all of this with the second decoder and the second table.
+//! call on a table but making and salvaging one tests every octet of it for soundness each time; and every octet that the call
+//! promises is written, those behind a route included. Nothing is allocated or kept between calls. `tests.rs`, `table_tests.rs` and
+//! `salvage_tests.rs` compare all of this with the second decoder and the second table.
 //!
 //! It is written from document 01 and takes nothing from the crates, so it may go another way: a match looks for one tier
 //! after another among the routes of that tier's NLRI size, where the archive passes over all routes once. It is written
@@ -24,6 +24,9 @@ mod nlri_write;
 mod pieces;
 mod restarts;
 mod run;
+mod salvage;
+#[cfg(test)]
+mod salvage_tests;
 mod shape;
 mod shared;
 #[cfg(test)]
@@ -45,6 +48,7 @@ pub use nlri_write::nlri_write;
 pub use pieces::{pieces_feed, pieces_finish, pieces_start};
 pub use restarts::{mark, sweep};
 pub use run::{step, walk};
+pub use salvage::salvage;
 pub use shared::match_shared;
 pub use table::{install, make, withdraw};
 

@@ -4,7 +4,7 @@ use super::{attribute::installable, shape::is_s_pmsi};
 
 pub const HEADER: usize = 8;
 pub const PLACE: usize = 128;
-const MOST_PLACES: usize = 500;
+pub const MOST_PLACES: usize = 500;
 
 /// The octet of a taken place that says whether its route is marked stale: the last one, 0 or 1.
 pub const MARK: usize = PLACE - 1;
@@ -58,14 +58,21 @@ fn are_free(places: &[Place]) -> bool {
 fn are_routes<const FAMILY: usize>(taken: &[Place]) -> bool {
     let mut last = None;
     for place in taken {
-        let Some((nlri, attribute, rest)) = parts(place) else { return false };
-        let accepted = place[MARK] <= 1 && is_s_pmsi(FAMILY, nlri) && installable(attribute).is_ok();
-        if !accepted || !is_zero(rest) || last.is_some_and(|last| last >= nlri) {
+        let Some(nlri) = good_nlri::<FAMILY>(place) else { return false };
+        if last.is_some_and(|last| last >= nlri) {
             return false;
         }
         last = Some(nlri);
     }
     true
+}
+
+/// The NLRI of a place that is good by itself: it holds a route that install would accept, zeros, and a mark of 0 or 1.
+#[inline(always)]
+pub fn good_nlri<const FAMILY: usize>(place: &Place) -> Option<&[u8]> {
+    let (nlri, attribute, rest) = parts(place)?;
+    let accepted = place[MARK] <= 1 && is_s_pmsi(FAMILY, nlri) && installable(attribute).is_ok();
+    (accepted && is_zero(rest)).then_some(nlri)
 }
 
 /// The NLRI, the attribute and the octets between them and the mark, as the place's two sizes divide it.

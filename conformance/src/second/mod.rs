@@ -29,6 +29,9 @@ pub mod reasons;
 pub mod restarts;
 pub mod rows;
 pub mod run;
+pub mod salvage;
+#[cfg(test)]
+mod salvage_tests;
 pub mod shared;
 #[cfg(test)]
 mod shared_tests;

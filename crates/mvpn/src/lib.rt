@@ -18,6 +18,7 @@ ghost use Rattle.routes.specs.Calls.{makeOf, installOf, withdrawOf, markOf, swe
 ghost use Rattle.routes.specs.Reasons.{explainOf};
 ghost use Rattle.routes.specs.Next.{nextOf};
 ghost use Rattle.routes.specs.Info.{infoOf};
+ghost use Rattle.routes.specs.Salvage.{salvageOf};
 ghost use Rattle.shared_trees.specs.Tree.{treeOf};
 ghost use Rattle.mvpn.specs.Answers.{stepAnswer, attributeGiven, attributeRefused, attributeAnswer};
 use nlri::Group;
@@ -35,6 +36,7 @@ use routes::Following;
 use routes::Installed;
 use routes::Matched;
 use routes::Restarted;
+use routes::Salvaged;
 use routes::TableInfo;
 use runs::Cursor;
 use runs::Step;
@@ -117,9 +119,9 @@ impl AttributeAnswer {
 // The version of the library, as the file VERSION has it: major, minor and patch, each an octet of the number.
 #[no_mangle]
 pub extern "C" fn mvpn_version() -> u32
-    ensures { λ r. ⌜ r ≡ 0 * 65536 + 13 * 256 + 1 ⌝ }
+    ensures { λ r. ⌜ r ≡ 0 * 65536 + 14 * 256 + 0 ⌝ }
 {
-    0 * 65536 + 13 * 256 + 1
+    0 * 65536 + 14 * 256 + 0
 }
 
 // Reads a single NLRI.
@@ -281,6 +283,21 @@ pub extern "C" fn mvpn_sweep(table: &mut [u8], router: &[u8]) -> Restarted
     ensures { λ _. ⌜ now (table .exit) ≡ sweepOf (now (table .entry)) (now (router .entry)) .octets ⌝ }
 {
     table::sweep(table, router)
+}
+
+// Writes a sound table of what is good in a damaged one, and lists each place dropped, with the reason.
+#[no_mangle]
+pub extern "C" fn mvpn_salvage(
+    afi: u16,
+    damaged: &[u8],
+    table: &mut [u8],
+    dropped: &mut [u8],
+) -> Salvaged
+    ensures { λ r. ⌜ r ≡ salvageOf afi (now (damaged .entry)) (now (table .entry)) (now (dropped .entry)) .answer ⌝ }
+    ensures { λ _. ⌜ now (table .exit) ≡ salvageOf afi (now (damaged .entry)) (now (table .entry)) (now (dropped .entry)) .table ⌝ }
+    ensures { λ _. ⌜ now (dropped .exit) ≡ salvageOf afi (now (damaged .entry)) (now (table .entry)) (now (dropped .entry)) .list ⌝ }
+{
+    table::salvage(afi, damaged, table, dropped)
 }
 
 // Finds the route of a router that a flow takes, and writes it at the front of the output.

@@ -1,10 +1,10 @@
 -- Laws of `Among`, `PutIn`, `Rearranged` and `Once`.
-use Prim.Native.Nat.{suc, _≤_}
+use Prim.Native.Nat.{ℕ, zero, suc, _≤_, _<_}
 use mathlib.Core.Path.{_≡_, refl, sym, ap, subst}
 use mathlib.Core.List.{List, [], _∷_, _++_}
 use mathlib.Core.Logic.{_⊎_, inl, inr, ⊎-elim}
 use native.Mathlib.Omega.{arith}
-use lib.ListN.{length}
+use lib.ListN.{length, getD}
 use Rattle.octets.specs.Lists.{Among, first, later, PutIn, front, behind, Rearranged, Once, one}
 
 module _ {A : Type 0} where
@@ -41,6 +41,16 @@ module _ {A : Type 0} where
 
   pub among-each-last : (P : A → Type 0) {x : A} (xs : List A) → ((y : A) → Among y xs → P y) → P x → (y : A) → Among y (xs ++ (x ∷ [])) → P y
   among-each-last P xs h p y m = ⊎-elim (h y) (among-each P p (λ z n. absurd (among-none n)) y) (among-either xs m)
+
+  -- an element by its index; what stands for a missing one does not matter
+  pub among-index : (missing : A) {x : A} {xs : List A} → Among x xs → (i : ℕ) × (i < length xs) × (getD xs i missing ≡ x)
+  among-index missing (first e) = (0, omega arith, sym e)
+  among-index missing (later m) = let p = among-index missing m in let h = p .1 in (suc (p .0), omega arith, p .2)
+
+  pub index-among : (missing : A) (xs : List A) (i : ℕ) → i < length xs → Among (getD xs i missing) xs
+  index-among missing [] i h = absurd (omega arith)
+  index-among missing (x ∷ xs) zero h = first refl
+  index-among missing (x ∷ xs) (suc i) h = later (index-among missing xs i (omega arith))
 
   -- an element that is put in
 

@@ -1,5 +1,6 @@
 -- Laws of document 01's definitions.
 pub mod Lookups
+pub mod Behind
 pub mod SPmsi
 pub mod Matching
 pub mod Nexts
@@ -8,6 +9,7 @@ pub mod Places
 pub mod Headers
 pub mod ByArguments
 pub mod Holding
+pub mod Salvages
 pub mod OnceEach
 pub mod Named
 pub mod Ownership

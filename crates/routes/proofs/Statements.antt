@@ -7,6 +7,8 @@ pub mod ReasonRule
 pub mod NextRule
 pub mod InTurn
 pub mod InfoRule
+pub mod Salvaging
+pub mod SalvageRule
 pub mod Marked
 pub mod Images
 pub mod SoundRule

@@ -16,6 +16,8 @@ pub use Rattle.routes.proofs.Statements.NextRule.{nextRule}
 pub use Rattle.routes.proofs.Statements.InTurn.{inTurnRule}
 -- InfoRule
 pub use Rattle.routes.proofs.Statements.InfoRule.{infoRule}
+-- SalvageRule
+pub use Rattle.routes.proofs.Statements.SalvageRule.{salvageRule, salvageExamples}
 -- DisturbanceRule
 pub use Rattle.routes.proofs.Statements.DisturbanceRule.{disturbanceRule}
 -- SplitRule

@@ -1,5 +1,5 @@
 -- Route tables. Definitions, in document 01's order: routes, arguments, the table memory, which route a flow takes, the calls on octets, why
--- a tier was taken or not, and by which a table is looked into; then mixed calls, each router's book, and runs.
+-- a tier was taken or not, by which a table is looked into, and salvage of a damaged one; then mixed calls, each router's book, and runs.
 pub mod Route
 pub mod Query
 pub mod Arguments
@@ -15,6 +15,7 @@ pub mod Calls
 pub mod Reasons
 pub mod Next
 pub mod Info
+pub mod Salvage
 pub mod Call
 pub mod Book
 pub mod Run

@@ -10,6 +10,7 @@ pub mod NextRule
 pub mod InfoRule
 pub mod DisturbanceRule
 pub mod SplitRule
+pub mod SalvageRule
 pub mod LastInstalled
 pub mod BookRules
 pub mod MixedCalls

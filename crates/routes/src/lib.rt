@@ -4,6 +4,7 @@ ghost use Rattle.routes.specs.Answers.{refusedInstall, doneInstall, refu
 ghost use Rattle.routes.specs.Reasons.{refusedExplanation};
 ghost use Rattle.routes.specs.Next.{emptyNext};
 ghost use Rattle.routes.specs.Info.{emptyInfo};
+ghost use Rattle.routes.specs.Salvage.{emptySalvage};
 use octets::number::DONE;
 
 // What install answers: DONE with NEW or REPLACED, or the refusal's number and 0.
@@ -159,6 +160,32 @@ impl TableInfo {
             afi: 0,
             places: 0,
             routes: 0,
+        }
+    }
+}
+
+// What salvage answers: DONE with how many routes are kept and how many places dropped, or the refusal's number and 0.
+#[repr(C)]
+pub struct Salvaged {
+    pub number: u32,
+    pub kept: u32,
+    pub dropped: u32,
+}
+
+impl Salvaged {
+    // The reasons for which a place is dropped.
+    pub const BAD: u8 = 1;
+
+    pub const REPEATED: u8 = 2;
+
+    // A call that is refused.
+    pub fn refused(number: u32) -> Salvaged
+        ensures { λ r. ⌜ r ≡ emptySalvage number ⌝ }
+    {
+        Salvaged {
+            number,
+            kept: 0,
+            dropped: 0,
         }
     }
 }

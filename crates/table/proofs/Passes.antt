@@ -1,2 +1,3 @@
--- Passes over all places: those of a mark or a sweep.
+-- Passes over all places: those of a salvage, and of a mark or a sweep.
+pub mod Salvages
 pub mod Renews

@@ -3,3 +3,4 @@ pub mod Changing
 pub mod Scanning
 pub mod Passing
 pub mod Renewing
+pub mod Salvaging

@@ -176,6 +176,16 @@ pub(crate) fn add(table: &mut [u8], index: usize, count: usize, nlri: &[u8], att
     replace(table, index, nlri, attribute);
 }
 
+// A place put in at an index as it is, before the other places from there on.
+pub(crate) fn add_place(table: &mut [u8], index: usize, count: usize, place: &[u8])
+    requires { ⌜ (index ≤ count) × (8 + 128 * (count + 1) ≤ length (now table)) ⌝ }
+    requires { ⌜ length (now place) ≡ 128 ⌝ }
+    ensures { λ _. ⌜ now (table .exit) ≡ addedAt index count (now (place .entry)) (now (table .entry)) ⌝ }
+{
+    open_at(table, index, count);
+    octets::parts::place(place, table, HEADER + PLACE * index);
+}
+
 // The place of an index taken out.
 pub(crate) fn remove(table: &mut [u8], index: usize, count: usize)
     requires { ⌜ (index < count) × (8 + 128 * count ≤ length (now table)) ⌝ }

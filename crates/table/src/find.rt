@@ -55,6 +55,20 @@ pub(crate) fn position(table: &[u8], count: usize, nlri: &[u8]) -> usize
     low
 }
 
+// The same, for NLRIs that mostly come in order: whether this one comes after the last is asked first.
+pub(crate) fn position_from_last(table: &[u8], count: usize, nlri: &[u8]) -> usize
+    requires { ⌜ (soundOf (now table) ≡ true) × (count ≡ countIn (now table)) ⌝ }
+    ensures { λ r. ⌜ r ≡ rank (now (nlri .entry)) (routesOf (now (table .entry))) ⌝ }
+{
+    if count == 0 {
+        return 0;
+    }
+    if octets::order::comes_before(nlri_at(table, count - 1), nlri) {
+        return count;
+    }
+    position(table, count, nlri)
+}
+
 // Whether the route at an index has this NLRI.
 pub(crate) fn stands_at(table: &[u8], index: usize, count: usize, nlri: &[u8]) -> bool
     requires { ⌜ (soundOf (now table) ≡ true) × (count ≡ countIn (now table)) ⌝ }

@@ -21,6 +21,7 @@ mod ranges;
 mod report;
 mod restarts;
 mod routes;
+mod salvage;
 mod shared;
 mod table;
 mod unlearnt;
@@ -105,6 +106,7 @@ fn all_rows(task: Task) -> ExitCode {
     restarts::rows(&mut report);
     explain::rows(&mut report);
     following::rows(&mut report);
+    salvage::rows(&mut report);
     shared::rows(&mut report);
     planning::rows(&mut report);
     unlearnt::rows(&mut report);

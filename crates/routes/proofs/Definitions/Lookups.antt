@@ -40,7 +40,7 @@ lookup-later nlri r rs f = pick-false _ _ _ f
 pub lookup-own : (r : Route) (rs : List Route) → lookup (nlriOf r) (r ∷ rs) ≡ held r
 lookup-own r rs = lookup-first (nlriOf r) r rs (same-itself (nlriOf r))
 
-lookup-behind : (nlri : List ℕ) (r : Route) (rs us : List Route) → lookup nlri rs ≡ lookup nlri us → lookup nlri (r ∷ rs) ≡ lookup nlri (r ∷ us)
+pub lookup-behind : (nlri : List ℕ) (r : Route) (rs us : List Route) → lookup nlri rs ≡ lookup nlri us → lookup nlri (r ∷ rs) ≡ lookup nlri (r ∷ us)
 unfolding lookup
 lookup-behind nlri r rs us h = ap (λ (x : Held). pick (same nlri (nlriOf r)) (held r) x) h
 

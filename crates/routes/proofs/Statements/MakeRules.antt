@@ -24,10 +24,10 @@ use Rattle.routes.proofs.Definitions.Headers.{size-sound, sound-size}
 use Rattle.routes.proofs.Statements.Images.{images, make-given, make-refused, length-image}
 
 -- a table's size, as it is tested
-size-is : (memory : List ℕ) → tableSize (length memory) ≡ true → TableSize (length memory)
+pub size-is : (memory : List ℕ) → tableSize (length memory) ≡ true → TableSize (length memory)
 size-is memory h = let s = sound-size memory h in record { places = placesIn memory; most = s .most; is = s .is }
 
-size-tested : (size : ℕ) → TableSize size → tableSize size ≡ true
+pub size-tested : (size : ℕ) → TableSize size → tableSize size ≡ true
 size-tested size s = size-sound size (s .places) (s .is) (s .most)
 
 -- no routes are what any table can hold

@@ -65,7 +65,7 @@ module _ (t : List ℕ) (at : ℕ) where
   end-at = rw (nlri-sized, attribute-sized) (omega arith)
 
   -- the route in it
-  route-at : 2 + getD t at 0 + getD t (at + 1) 0 ≤ 127 → routeIn (part t at 128) ≡ routeInPlace t at
+  pub route-at : 2 + getD t at 0 + getD t (at + 1) 0 ≤ 127 → routeIn (part t at 128) ≡ routeInPlace t at
   unfolding routeIn
   route-at fits =
       let behind : at + (2 + getD t at 0) ≡ at + 2 + getD t at 0 = omega arith in
@@ -80,7 +80,7 @@ module _ (t : List ℕ) (at : ℕ) where
 
   module _ (afi : ℕ) where
     -- a sound place holds a route
-    place-held : placeSound afi (part t at 128) ≡ true → PlaceHolds afi t at
+    pub place-held : placeSound afi (part t at 128) ≡ true → PlaceHolds afi t at
     unfolding placeSound
     place-held h =
         let end = end-at in
@@ -97,7 +97,7 @@ module _ (t : List ℕ) (at : ℕ) where
         }
 
     -- a place that holds a route is sound
-    place-sound : PlaceHolds afi t at → placeSound afi (part t at 128) ≡ true
+    pub place-sound : PlaceHolds afi t at → placeSound afi (part t at 128) ≡ true
     unfolding placeSound
     place-sound p =
         let end = end-at in
