@@ -66,8 +66,8 @@ typedef struct {
  * were stale and went are of no NLRI that came. */
 typedef struct { size_t added, replaced, withdrawn, absent, refused, gone; } changes;
 
-/* NLRIs of a run, each where it stands in the run, kept until it is known that nothing of the run is damaged. Those of unknown
- * route types are not among them. */
+/* NLRIs of a run, each where it stands in the run, kept until it is known that nothing of the run is damaged. Those that the library
+ * steps over are not among them. */
 typedef struct {
     uint8_t octets[BGP_LONGEST_MESSAGE];
     uint16_t offsets[BGP_LONGEST_MESSAGE / MVPN_NLRI_HEADER];
@@ -80,7 +80,7 @@ typedef struct {
     size_t messages, dropped, damaged_runs; /* a run is the NLRIs of one attribute */
     changes routes, sources;                /* of S-PMSI A-D and Source Active A-D routes */
     followed_flows flows;
-    size_t other, skipped;                  /* NLRIs of other route types; of unknown ones */
+    size_t other, skipped;                  /* NLRIs of other route types; those that the library steps over */
 } customer_vrf;
 
 /* ---- what is refused: its octets, on lines of their own, each begun by a line feed */
@@ -436,8 +436,9 @@ static octets next_piece(octets *run, size_t piece_size)
 }
 
 /* Reads a run in pieces, and keeps its NLRIs: the loop of mvpn.h. An NLRI of a route type that the library does not know is no
- * damage (RFC 7606, section 5.4): in this mode the library steps over it and counts it as skipped. An NLRI that is whole ends
- * where the octets taken so far end. */
+ * damage (RFC 7606, section 5.4), nor is a Source Active A-D route for an SSM group, which is to be discarded (RFC 6514): in this mode
+ * the library steps over both and counts them as skipped. So no such route is kept, or lent to a match for a shared tree. An NLRI that
+ * is whole ends where the octets taken so far end. */
 static mvpn_walked read_run(const route_run *routes, size_t piece_size, kept_nlris *kept)
 {
     uint8_t unfinished[MVPN_UNFINISHED];
@@ -493,12 +494,33 @@ static void use_nlri(customer_vrf *vrf, change what, const route_run *routes, oc
         withdraw(vrf, routes->afi, nlri);
 }
 
+/* The NLRI at the front of octets, or what there is of it where they end inside it. */
+static octets front_nlri(octets rest)
+{
+    size_t size = rest.size < MVPN_NLRI_HEADER ? rest.size : MVPN_NLRI_HEADER + (size_t)rest.at[1];
+    return (octets){ rest.at, size < rest.size ? size : rest.size };
+}
+
+/* Why an NLRI was skipped is the number that reading it alone gives. */
+static void print_skipped(uint16_t afi, octets nlri)
+{
+    printf("skipped, ");
+    print_number(mvpn_nlri_read(afi, nlri.at, nlri.size).number);
+}
+
+/* Of a run that was read to its end, what was not kept was skipped. */
 static void use_nlris(customer_vrf *vrf, change what, const route_run *routes, const kept_nlris *kept, octets tunnel)
 {
-    for (size_t i = 0; i < kept->count; i++) {
-        printf("    octet %u: ", kept->offsets[i]);
-        use_nlri(vrf, what, routes, nlri_at(kept, kept->offsets[i]), tunnel);
+    size_t used = 0, offset = 0;
+    while (offset < routes->run.size) {
+        octets nlri = front_nlri(behind(routes->run, offset));
+        printf("    octet %zu: ", offset);
+        if (used < kept->count && kept->offsets[used] == offset)
+            use_nlri(vrf, what, routes, nlri_at(kept, kept->offsets[used++]), tunnel);
+        else
+            print_skipped(routes->afi, nlri);
         printf("\n");
+        offset += nlri.size;
     }
 }
 
@@ -506,15 +528,8 @@ static void print_walked(mvpn_walked walked)
 {
     printf("%u NLRI%s", (unsigned)walked.count, walked.count == 1 ? "" : "s");
     if (walked.skipped > 0)
-        printf(", and skipped %u of unknown route type", (unsigned)walked.skipped);
+        printf(", and skipped %u", (unsigned)walked.skipped);
     printf("\n");
-}
-
-/* What there is of the NLRI at the front of octets, which may end inside it. */
-static octets damaged_nlri(octets rest)
-{
-    size_t size = rest.size < MVPN_NLRI_HEADER ? rest.size : MVPN_NLRI_HEADER + (size_t)rest.at[1];
-    return (octets){ rest.at, size < rest.size ? size : rest.size };
 }
 
 /* The whole run is read before any of it is used. Where an NLRI is damaged, nobody can tell which routes were meant, so
@@ -534,7 +549,7 @@ static void use_run(customer_vrf *vrf, change what, const route_run *routes, oct
         vrf->damaged_runs++;
         printf("nothing of it is used\n    octet %u: damaged NLRI, ", (unsigned)walked.offset);
         print_number(walked.number);
-        print_refused("NLRI", damaged_nlri(behind(routes->run, walked.offset)));
+        print_refused("NLRI", front_nlri(behind(routes->run, walked.offset)));
         printf("\n");
     }
 }
@@ -632,7 +647,7 @@ static void print_counts(const customer_vrf *vrf)
            vrf->damaged_runs);
     print_changes("S-PMSI A-D routes", &vrf->routes);
     print_changes("Source Active A-D routes", &vrf->sources);
-    printf("other NLRIs: %zu; skipped, of unknown route type: %zu\n", vrf->other, vrf->skipped);
+    printf("other NLRIs: %zu; skipped: %zu\n", vrf->other, vrf->skipped);
     if (vrf->flows.count > 0)
         printf("flows followed: %zu; after changes asked again %zu, of these answered otherwise %zu; not asked %zu\n",
                vrf->flows.count, vrf->flows.asked, vrf->flows.other, vrf->flows.not_asked);

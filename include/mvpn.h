@@ -32,9 +32,9 @@
 #include <stdint.h>
 
 /* The version of this header and its archive; before 1.0.0 a new minor version may change calls. */
-#define MVPN_VERSION "0.14.0"
+#define MVPN_VERSION "0.15.0"
 #define MVPN_VERSION_MAJOR 0
-#define MVPN_VERSION_MINOR 14
+#define MVPN_VERSION_MINOR 15
 #define MVPN_VERSION_PATCH 0
 
 /* The version as one number, an octet for each part: what mvpn_version gives, where header and archive are of one version. */
@@ -64,7 +64,8 @@ enum {
     MVPN_FLOW = 15,   /* router or originator address not 4 or 16 octets, source or group not of the family's size, or group asked not multicast */
     MVPN_SPACE = 16,  /* output buffer too small; for a salvaged table: not of the damaged memory's size */
     MVPN_DEEP = 17,   /* the fourth FEC element from outside has an opaque value of type 7 or 8 */
-    MVPN_RANGE = 18   /* more than eight prefixes; a prefix with an address not of the family's size, a length over it, or a bit set past the length */
+    MVPN_RANGE = 18,  /* more than eight prefixes; a prefix with an address not of the family's size, a length over it, or a bit set past the length */
+    MVPN_GROUP = 19   /* a Source Active route (type 5) whose group is in the standard SSM range, 232.0.0.0/8 or FF3x::/32 */
 };
 
 /* Address families. */
@@ -163,15 +164,20 @@ uint32_t mvpn_version(void);
 
 /*
  * Reads a single NLRI. FAMILY, SHORT, TYPE, then the body left to right (LENGTH, WIDTH, KEY, IDENT, DEEP), then LENGTH for
- * octets after it. Any fault inside a key is KEY, and so is a key of another kind: type 0x43 in type 4, types 1 to 3 in type 0x44.
+ * octets after it, then GROUP. Any fault inside a key is KEY, and so is a key of another kind: type 0x43 in type 4, types 1 to 3 in
+ * type 0x44.
+ *
+ * GROUP: a Source Active route for an SSM group must be discarded (RFC 6514). Here and wherever GROUP is given, SSM groups are those
+ * of the standard range, whatever prefixes other calls are given. A Source Active route for any other group is read, also for one
+ * that is not multicast, and so are other route types for SSM groups.
  */
 mvpn_nlri_reading mvpn_nlri_read(uint16_t afi, const uint8_t *nlri, size_t nlri_len);
 
 /*
  * Writes an NLRI at the front of the output. FAMILY, TYPE, WIDTH, IDENT and DEEP, LONG (a body of type 0x43, 0x44 or 0x47 over
- * 255 octets, by the sizes given), KEY, SPACE. `key` is a Leaf's key: exactly one NLRI under the same AFI, of type 1, 2 or 3 for
- * type 4, of type 0x43 for type 0x44. `fec` is the FEC element of types 0x43 and 0x47: exactly one, else IDENT. Neither is looked
- * at for other types.
+ * 255 octets, by the sizes given), KEY, GROUP, SPACE. `key` is a Leaf's key: exactly one NLRI under the same AFI, of type 1, 2 or
+ * 3 for type 4, of type 0x43 for type 0x44. `fec` is the FEC element of types 0x43 and 0x47: exactly one, else IDENT. Neither is
+ * looked at for other types.
  */
 mvpn_written mvpn_nlri_write(uint16_t afi, mvpn_nlri nlri, const uint8_t *key, size_t key_len,
                              const uint8_t *fec, size_t fec_len, uint8_t *output, size_t output_len);
@@ -195,8 +201,8 @@ typedef struct {
 } mvpn_stepped;
 
 /*
- * What a walk, and a reader of pieces, does at an NLRI of unknown route type, one that is whole and refused with TYPE. Every
- * number but MVPN_SKIP is the old mode.
+ * What a walk, and a reader of pieces, does at an NLRI that is whole and refused with TYPE, its route type being unknown, or with
+ * GROUP, as a Source Active route for an SSM group. Every number but MVPN_SKIP is the old mode.
  */
 enum {
     MVPN_SKIP = 0, /* steps over it by its Length field, and counts it as skipped */
@@ -207,13 +213,13 @@ typedef struct {
     uint32_t number;
     uint32_t count;   /* NLRIs read */
     uint32_t offset;  /* just past the last NLRI read or skipped: the run's end, or where the refused NLRI begins */
-    uint32_t skipped; /* NLRIs of unknown route types, stepped over; in the old mode 0 */
+    uint32_t skipped; /* NLRIs stepped over, refused with TYPE or GROUP; in the old mode 0 */
 } mvpn_walked;
 
 /*
  * Reads the NLRI of a run at a cursor (0 at first): run[cursor] up to run[answer.cursor]. FAMILY, LONG (a run over 4,096
- * octets), then NLRI reading. At the run's end: DONE with route type 0. With a cursor past the end: SHORT. A step skips
- * nothing: an unknown route type is TYPE, in every mode of a walk.
+ * octets), then NLRI reading; octets after it are the next NLRI. At the run's end: DONE with route type 0. With a cursor past the
+ * end: SHORT. A step skips nothing: an unknown route type is TYPE, and a Source Active route for an SSM group is GROUP.
  */
 mvpn_stepped mvpn_step(uint16_t afi, const uint8_t *run, size_t run_len, size_t cursor);
 
@@ -221,7 +227,8 @@ mvpn_stepped mvpn_step(uint16_t afi, const uint8_t *run, size_t run_len, size_t 
  * Walks a run of NLRIs up to the first refusal that its mode does not skip: how many were read, how many were skipped, the
  * offset just past the last of them, and the number of the refusal, or DONE at the run's end. FAMILY and LONG (a run over 4,096
  * octets) give 0 read, 0 skipped, offset 0. What is skipped is an NLRI alone: one whose Length goes past the run is SHORT, an
- * unknown route type inside a Leaf's key is KEY, and both stop the walk.
+ * unknown route type inside a Leaf's key is KEY, a damaged Source Active route is LENGTH or WIDTH, whatever its group, and each of
+ * these stops the walk.
  */
 mvpn_walked mvpn_walk(uint16_t afi, uint32_t mode, const uint8_t *run, size_t run_len);
 
@@ -268,7 +275,7 @@ mvpn_pieces mvpn_pieces_start(uint16_t afi, uint32_t mode);
  * MVPN_UNFINISHED octets; what they hold before the first feed is no matter. An NLRI that is given stands there until the next
  * feed. While the reader reads, it tells DONE; SHORT is told at finish alone; the number of a stop, and LONG, stand in
  * pieces.walked from the feed on that meets them:
- *   - an NLRI of unknown route type that is whole is skipped in the mode MVPN_SKIP: it is taken, and not given;
+ *   - an NLRI that is whole and refused with TYPE or GROUP is skipped in the mode MVPN_SKIP: it is taken, and not given;
  *   - at the first NLRI that is whole, refused and not skipped the reading stops: pieces are taken whole and counted, and no
  *     NLRI is given;
  *   - where the octets taken before and the piece are over 4,096 together, stop or no stop, the run is LONG, with the others 0:
@@ -331,6 +338,10 @@ mvpn_list_field(uint8_t *list, size_t space, size_t size, const uint8_t *field, 
  *
  * A caller that wants the standard range beside its own lists it with them: 232.0.0.0/8. FF3x::/32 is sixteen prefixes, one for
  * each scope x, of which the caller lists those that it uses.
+ *
+ * GROUP goes by the standard range alone. A Source Active route for a group that only the caller's prefixes hold is read; a caller
+ * that is to discard it asks mvpn_group_class. For a group of the standard range that they make ASM, mvpn_match_shared takes no
+ * Source Active route.
  *
  * Refusals, in turn: RANGE, there are more than eight; SHORT, the list ends before its items do, as one of no octets does, so that
  * a null pointer is not "none given"; RANGE, a prefix has an address of another size than the family's, a length over it, or a bit
@@ -446,7 +457,7 @@ uint32_t mvpn_make(uint16_t afi, uint8_t *table, size_t table_len);
 
 /*
  * Installs an S-PMSI A-D route with its attribute, or gives a route that the table holds this attribute. TABLE, then NLRI
- * reading under the table's AFI (LENGTH for octets after it), KIND, attribute reading, LABEL, ROOM. A route that the table
+ * reading under the table's AFI (LENGTH for octets after it, GROUP), KIND, attribute reading, LABEL, ROOM. A route that the table
  * holds is replaced in a full table too, and its mark goes, also where it has this attribute already. A refusal leaves the
  * attribute and the mark that the route had: a daemon that treats a bad update as a withdrawal withdraws it itself.
  */
@@ -455,7 +466,7 @@ mvpn_installed mvpn_install(uint8_t *table, size_t table_len, const uint8_t *nlr
 
 /*
  * Takes the route with this NLRI out of the table, marked or not; its room is used again. TABLE, then NLRI reading under the
- * table's AFI (LENGTH for octets after it), KIND, ABSENT.
+ * table's AFI (LENGTH for octets after it, GROUP), KIND, ABSENT.
  */
 uint32_t mvpn_withdraw(uint8_t *table, size_t table_len, const uint8_t *nlri, size_t nlri_len);
 
@@ -583,7 +594,7 @@ typedef struct {
  * TABLE; RANGE and SHORT of the prefixes; LONG (a count over 256, of either of these two lists); SHORT (either of them ends
  * before its items do); FLOW (router or an originator not of 4 or 16 octets, a state's source or group not of the family's size, a
  * group not multicast or not of the family's size; only the group asked must be multicast); then for each Source Active route in
- * turn NLRI reading under the table's AFI (LENGTH for octets after it) and KIND (not type 5); SPACE (an output under
+ * turn NLRI reading under the table's AFI (LENGTH for octets after it, GROUP) and KIND (not type 5); SPACE (an output under
  * MVPN_MATCH_OUTPUT octets, also where nothing matches).
  *
  * The answer and the output are as those of a match: tier 3 with an eligible route of a wildcard source and this group, else

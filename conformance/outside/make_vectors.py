@@ -436,8 +436,22 @@ OUR_NAME = {"rd": "rd", "origin_router": "originator", "source_addr": "source",
             "group_addr": "group", "route_key": "key"}
 
 
+# RFC 4607
+SSM_RANGE = [ipaddress.ip_network("232.0.0.0/8")] + [
+    ipaddress.ip_network("ff3%x::/32" % scope) for scope in range(16)]
+
+
+def is_discarded(route_type, fields):
+    """A Source Active A-D route for an SSM group (RFC 6514, section 4.5)."""
+    if route_type != 5:
+        return False
+    group = ipaddress.ip_address(bytes.fromhex(fields["group"]))
+    return any(group in network for network in SSM_RANGE)
+
+
 def nlri_line(offset, route_type, length, fields):
-    return " ".join(["nlri %d %d %d" % (offset, route_type, length)]
+    word = "discarded" if is_discarded(route_type, fields) else "nlri"
+    return " ".join(["%s %d %d %d" % (word, offset, route_type, length)]
                     + ["%s=%s" % (k, fields[k]) for k in ORDER if k in fields])
 
 
@@ -610,6 +624,8 @@ Lines
   run <afi> <octets>
   nlri <offset> <type> <length> and the fields that the type has, of
     rd= as= source= group= originator= key=
+  discarded, and the same: a Source Active A-D route (type 5) for an SSM group,
+    which a router discards (RFC 6514, section 4.5), and tshark decodes
   end <offset> <number>
   attribute <octets>
   fields flags= type= label= identifier=

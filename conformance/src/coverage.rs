@@ -56,8 +56,10 @@ pub enum Seen {
     SPmsi(u16, bool, bool, usize),
     /// An accepted Leaf: AFI, route type of its key, octets of the originator.
     Leaf(u16, u8, usize),
-    /// Unknown route types that a walk skipped; 3 stands for more.
+    /// NLRIs that a walk skipped; 3 stands for more.
     Skipped(u32),
+    /// AFI, and how many of them were discarded; 3 stands for more.
+    Discarded(u16, usize),
     /// An accepted FEC element: AFI, elements one inside the other.
     Nest(u16, usize),
     /// A step at the run's end.
@@ -141,18 +143,18 @@ pub enum Seen {
 
 /// The numbers that each call can give (document 01, "The numbers a call gives back"; document 02).
 const NUMBERS: [(Call, &[u32]); 20] = [
-    (Call::NlriRead, &[0, 1, 2, 3, 4, 5, 7, 10, 17]),
-    (Call::NlriWrite, &[0, 2, 4, 5, 7, 8, 10, 16, 17]),
-    (Call::Step, &[0, 1, 2, 3, 4, 5, 7, 8, 10, 17]),
-    (Call::Walk, &[0, 1, 2, 3, 4, 5, 7, 8, 10, 17]),
+    (Call::NlriRead, &[0, 1, 2, 3, 4, 5, 7, 10, 17, 19]),
+    (Call::NlriWrite, &[0, 2, 4, 5, 7, 8, 10, 16, 17, 19]),
+    (Call::Step, &[0, 1, 2, 3, 4, 5, 7, 8, 10, 17, 19]),
+    (Call::Walk, &[0, 1, 2, 3, 4, 5, 7, 8, 10, 17, 19]),
     (Call::PiecesStart, &[0, 10]),
-    (Call::PiecesFinish, &[0, 1, 2, 3, 4, 5, 7, 8, 10, 17]),
+    (Call::PiecesFinish, &[0, 1, 2, 3, 4, 5, 7, 8, 10, 17, 19]),
     (Call::GroupClass, &[0, 1, 10, 15, 18]),
     (Call::AttributeRead, &[0, 1, 6, 7, 8]),
     (Call::AttributeWrite, &[0, 6, 7, 8, 9, 16]),
     (Call::Make, &[0, 10, 11]),
-    (Call::Install, &[0, 1, 2, 3, 4, 5, 6, 7, 8, 9, 11, 12, 13, 17]),
-    (Call::Withdraw, &[0, 1, 2, 3, 4, 5, 7, 11, 12, 14, 17]),
+    (Call::Install, &[0, 1, 2, 3, 4, 5, 6, 7, 8, 9, 11, 12, 13, 17, 19]),
+    (Call::Withdraw, &[0, 1, 2, 3, 4, 5, 7, 11, 12, 14, 17, 19]),
     (Call::Mark, &[0, 11, 15]),
     (Call::Sweep, &[0, 11, 15]),
     (Call::Match, &[0, 1, 11, 15, 16, 18]),
@@ -160,7 +162,7 @@ const NUMBERS: [(Call, &[u32]); 20] = [
     (Call::Next, &[0, 11, 16]),
     (Call::TableInfo, &[0, 11]),
     (Call::Salvage, &[0, 10, 11, 16]),
-    (Call::MatchShared, &[0, 1, 2, 3, 4, 5, 7, 8, 11, 12, 15, 16, 17, 18]),
+    (Call::MatchShared, &[0, 1, 2, 3, 4, 5, 7, 8, 11, 12, 15, 16, 17, 18, 19]),
 ];
 
 /// The numbers of places that sequences and table cases use.
@@ -334,6 +336,9 @@ fn required_of_family(afi: u16) -> Vec<(Call, Seen)> {
         rows.extend(types.map(|route_type| (call, Seen::Route(route_type, afi))));
     }
     rows.extend((1..=4).map(|depth| (Call::NlriRead, Seen::Nest(afi, depth))));
+    for discarded in 1..=3 {
+        rows.extend([Call::Walk, Call::PiecesFinish].map(|call| (call, Seen::Discarded(afi, discarded))));
+    }
     for originator in [4, 16] {
         for (source, group) in [(false, false), (false, true), (true, false), (true, true)] {
             rows.push((Call::NlriRead, Seen::SPmsi(afi, source, group, originator)));

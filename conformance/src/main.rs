@@ -94,6 +94,7 @@ fn finds(options: &Options, fault: Fault) -> bool {
         ShownBy::Skips => cases::of_skips(&mut harness, options),
         ShownBy::Fecs => cases::of_fecs(&mut harness, options),
         ShownBy::Pieces => cases::of_pieces(&mut harness, options),
+        ShownBy::Discards => cases::of_discards(&mut harness, options),
     };
     let name = fault.name();
     match result {

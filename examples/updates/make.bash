@@ -370,9 +370,9 @@ both() {
 }
 
 shared() {
-    local one moved gone
+    local one moved gone ssm
     one=$(source_active 0:100:7 192.0.2.1 239.1.1.1) moved=$(source_active 0:100:9 192.0.2.4 239.1.1.4)
-    gone=$(source_active 0:100:7 192.0.2.5 239.1.1.5)
+    gone=$(source_active 0:100:7 192.0.2.5 239.1.1.5) ssm=$(source_active 0:100:7 192.0.2.1 232.9.9.9)
 
     # 10.0.0.1 has routes for two groups, of which one is SSM, and one for everything; 10.0.0.2 has one for everything
     update "$(usual)" "$(reach 1 "$(s_pmsi 0:100:7 '*' 239.1.1.1 10.0.0.1)" "$(s_pmsi 0:100:7 '*' 232.9.9.9 10.0.0.1)")" \
@@ -399,9 +399,16 @@ shared() {
     update "$(usual)" "$(reach_by '*' 1 "$gone")"
     update "$(usual)" "$(reach_by '*' 1 "$(source_active 0:100:7 192.0.2.6 239.1.1.1)")"
 
-    # IPv6: a PE that is known by an IPv6 address, and one that is known by an IPv4 address
-    update "$(usual)" "$(reach 2 "$(s_pmsi 0:100:7 '*' ff0e::1 2001:db8::1)" "$(source_active 0:100:7 2001:db8:1::1 ff0e::1)")" \
-        "$(pim 4 2001:db8::1 ff0e::8000:2)"
+    # a source of an SSM group, whose route is to be discarded (RFC 6514): before a route type that is not defined, between routes for
+    # other groups, of which one is the last below the SSM range; and withdrawn
+    update "$(usual)" "$(reach 1 "$(source_active 0:100:7 192.0.2.7 239.1.1.7)" "$ssm" "$(nlri 9 AB)" \
+        "$(source_active 0:100:7 192.0.2.7 231.255.255.255)")"
+    update "$(unreach 1 "$ssm")"
+
+    # IPv6: a PE that is known by an IPv6 address, with a route for an SSM group between others, and one that is known by an IPv4
+    # address
+    update "$(usual)" "$(reach 2 "$(s_pmsi 0:100:7 '*' ff0e::1 2001:db8::1)" "$(source_active 0:100:7 2001:db8:1::1 ff3e::1)" \
+        "$(source_active 0:100:7 2001:db8:1::1 ff0e::1)")" "$(pim 4 2001:db8::1 ff0e::8000:2)"
     update "$(usual)" "$(reach_by 10.0.0.1 2 "$(s_pmsi 1:10.0.0.1:7 '*' '*' 10.0.0.1)" \
         "$(source_active 1:10.0.0.1:7 2001:db8:1::2 ff0e::1)")" "$(bier 00 1001 0 1 10.0.0.1)"
 }
@@ -458,6 +465,7 @@ damaged_nlris() {
     announce "${good}0920$rd" "$tunnel"                                         # the same of a route type that is not defined
     announce "$(nlri 4 "$(nlri 9 "$rd")$(address 10.0.0.1)")" "$tunnel"         # a Leaf's key of such a type
     announce "$(nlri 4 "$(nlri 5 "$rd")$(address 10.0.0.1)")" "$tunnel"         # a Leaf's key that is Source Active
+    announce "$good$(nlri 5 "$rd$(field 192.0.2.1)$(field 232.1.1.1)00")" "$tunnel" # Source Active for an SSM group, an octet too many
     update "$(unreach 1 "$(s_pmsi 0:100:7 '*' '*' 10.0.0.1)" 03)"                 # a withdrawal, and half a header
 }
 

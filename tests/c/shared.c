@@ -155,14 +155,14 @@ static const answer_row answers[] = {
     { "a PE whose 16 octets begin as the PE's", { PE1_EXTENDED, G1, ALL, NULL, NULL }, 0, NULL },
     { "tier 3: the lowest RD, over a lower one of tier 4", { PE4, G1, UPSTREAM, NULL, NULL }, 3, &group_of_pe4 },
     { "tier 4: the lowest RD", { PE4, G2, UPSTREAM, NULL, NULL }, 4, &any_of_pe4 },
-    { "SSM, every condition", { PE1, SSM, ALL, "0001" ITEM(PE1, S1, SSM), NULL }, 0, NULL },
+    { "SSM, every condition", { PE1, SSM, ALL, "0001" ITEM(PE1, S1, G1), NULL }, 0, NULL },
     { "SSM, no condition", { PE1, SSM, NOTHING, NULL, NULL }, 0, NULL },
 
     { "octets after the last items",
       { PE1, G1, NOTHING, "0001" ITEM(PE1, S1, G1) ITEM(PE1, S2, G1) "FF", "0001" STATE(S1, G1) "0004" }, 0, NULL },
     { "octets after no items", { PE1, G1, NOTHING, "0000" ITEM(PE1, S1, G1), "0000FFFF" }, 0, NULL },
     { "a state's group is not judged", { PE1, G1, UPSTREAM, NULL, "0001" STATE(G1, S1) }, 3, &group_of_pe1 },
-    { "a Source Active route's group is not judged", { PE1, G1, UPSTREAM, "0001" ITEM(PE1, G1, S1), NULL }, 3, &group_of_pe1 },
+    { "a Source Active route's group need not be multicast", { PE1, G1, UPSTREAM, "0001" ITEM(PE1, G1, S1), NULL }, 3, &group_of_pe1 },
 };
 
 static void answer(const answer_row *row, lent table)
@@ -271,6 +271,8 @@ static const fault faults[] = {
     { "an NLRI of AFI 2", SOURCE_ACTIVES, "0001 0004" PE2 ACTIVE6(IPV6("01"), ASM6), MVPN_WIDTH },
     { "a wildcard source", SOURCE_ACTIVES, NLRI_ITEM("0010", "050E" RD("07") "00 20" G1), MVPN_WIDTH },
     { "Leaf without a key", SOURCE_ACTIVES, NLRI_ITEM("0006", "0404" PE1), MVPN_KEY },
+    { "a route for an SSM group", SOURCE_ACTIVES, NLRI_ITEM("0014", ACTIVE("07", S1, SSM)), MVPN_GROUP },
+    { "a route for an SSM group, and an octet after it", SOURCE_ACTIVES, NLRI_ITEM("0015", ACTIVE("07", S1, SSM) "00"), MVPN_LENGTH },
     { "an NLRI of type 1", SOURCE_ACTIVES, NLRI_ITEM("000E", "010C" RD("07") PE1), MVPN_KIND },
     { "an NLRI of type 3", SOURCE_ACTIVES, NLRI_ITEM("0010", ANY_ROUTE("07", PE1)), MVPN_KIND },
     { "an NLRI of type 7", SOURCE_ACTIVES, NLRI_ITEM("0018", "0716" RD("07") "0000FDE8 20" S1 "20" G1), MVPN_KIND },

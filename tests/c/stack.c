@@ -17,12 +17,14 @@ enum { MOST_OCTETS = 2048 };
 #define RD 0, 0, 0, 100, 0, 0, 0, 7
 #define SOURCE 0x20, 0x01, 0x0D, 0xB8, 0, 0, 0, 0, 0, 0, 0, 0, 0, 0, 0, 1
 #define GROUP 0xFF, 0x3E, 0, 0, 0, 0, 0, 0, 0, 0, 0, 0, 0, 0, 0, 1
+#define ASM_GROUP 0xFF, 0x0E, 0, 0, 0, 0, 0, 0, 0, 0, 0, 0, 0, 0, 0, 1
 #define ORIGINATOR 0x20, 0x01, 0x0D, 0xB8, 0, 0, 0, 0, 0, 0, 0, 0, 0, 0, 0, 2
 #define S_PMSI 3, 58, RD, 128, SOURCE, 128, GROUP, ORIGINATOR
 
 static const uint8_t source[] = { SOURCE }, group[] = { GROUP }, originator[] = { ORIGINATOR };
 static const uint8_t intra[] = { 1, 24, RD, ORIGINATOR }, inter[] = { 2, 12, RD, 0, 0, 0, 1 }, s_pmsi[] = { S_PMSI };
-static const uint8_t leaf[] = { 4, 76, S_PMSI, ORIGINATOR }, active[] = { 5, 42, RD, 128, SOURCE, 128, GROUP };
+static const uint8_t leaf[] = { 4, 76, S_PMSI, ORIGINATOR };
+static const uint8_t active[] = { 5, 42, RD, 128, SOURCE, 128, ASM_GROUP }, discarded[] = { 5, 42, RD, 128, SOURCE, 128, GROUP };
 static const uint8_t join[] = { 7, 46, RD, 0, 0, 0, 1, 128, SOURCE, 128, GROUP };
 static const uint8_t run[] = { 4, 76, S_PMSI, ORIGINATOR, S_PMSI, 1, 24, RD, ORIGINATOR };
 
@@ -50,6 +52,8 @@ static uint8_t output[MVPN_MATCH_OUTPUT], unfinished[MVPN_UNFINISHED], written[M
 /* What NLRI writing takes; a type lacks some of it. */
 static mvpn_nlri fields = { .distinguisher = { { RD } }, .source = { { SOURCE }, 16 }, .group = { { GROUP }, 16 },
                             .originator = { { ORIGINATOR }, 16 }, .source_as = 1 };
+static const mvpn_nlri active_fields = { .distinguisher = { { RD } }, .source = { { SOURCE }, 16 }, .group = { { ASM_GROUP }, 16 },
+                                         .route_type = 5 };
 
 /* ---- tables: every place taken; all but one; the one that a run works on */
 
@@ -96,6 +100,7 @@ RUN(read_inter, READS(inter))
 RUN(read_s_pmsi, READS(s_pmsi))
 RUN(read_leaf, READS(leaf))
 RUN(read_active, READS(active))
+RUN(read_discarded, mvpn_nlri_read(2, discarded, sizeof discarded).number == MVPN_GROUP)
 RUN(read_join, READS(join))
 RUN(read_mldp_s_pmsi, READS(mldp_s_pmsi))
 RUN(read_mldp_leaf, READS(mldp_leaf))
@@ -110,7 +115,11 @@ RUN(write_intra, WRITES(intra))
 RUN(write_inter, WRITES(inter))
 RUN(write_s_pmsi, WRITES(s_pmsi))
 RUN(write_leaf, WRITES(leaf))
-RUN(write_active, WRITES(active))
+RUN(write_active, mvpn_nlri_write(2, active_fields, s_pmsi, sizeof s_pmsi, fecs, sizeof fecs, written, sizeof written).size ==
+                      sizeof active)
+RUN(write_discarded, (fields.route_type = 5,
+                      mvpn_nlri_write(2, fields, s_pmsi, sizeof s_pmsi, fecs, sizeof fecs, written, sizeof written).number ==
+                          MVPN_GROUP))
 RUN(write_join, WRITES(join))
 RUN(write_mldp_s_pmsi, WRITES(mldp_s_pmsi))
 RUN(write_mldp_leaf, WRITES_WITH(mldp_leaf, mldp_s_pmsi))
@@ -120,8 +129,10 @@ RUN(step_leaf, mvpn_step(2, run, sizeof run, 0).layout.key == sizeof s_pmsi)
 RUN(step_s_pmsi, mvpn_step(2, run, sizeof run, sizeof leaf).layout.group == 16)
 RUN(step_mldp_leaf, mvpn_step(2, mldp_leaf, sizeof mldp_leaf, 0).layout.key == sizeof mldp_s_pmsi)
 RUN(step_mldp_join, mvpn_step(2, mldp_join, sizeof mldp_join, 0).layout.fec == sizeof fecs)
+RUN(step_discarded, mvpn_step(2, discarded, sizeof discarded, 0).number == MVPN_GROUP)
 RUN(walk_run, mvpn_walk(2, MVPN_SKIP, run, sizeof run).count == 3)
 RUN(walk_skipping, mvpn_walk(2, MVPN_SKIP, mixed, sizeof mixed).skipped == 1)
+RUN(walk_discarding, mvpn_walk(2, MVPN_SKIP, discarded, sizeof discarded).skipped == 1)
 RUN(walk_mldp_leaf, mvpn_walk(2, MVPN_SKIP, mldp_leaf, sizeof mldp_leaf).count == 1)
 RUN(walk_too_deep, mvpn_walk(2, MVPN_SKIP, too_deep, sizeof too_deep).number == MVPN_DEEP)
 RUN(walk_stopping, mvpn_walk(2, MVPN_OLD, mixed, sizeof mixed).number == MVPN_TYPE)
@@ -148,6 +159,7 @@ RUN(feed_whole, FEEDS(started, run, sizeof run, sizeof leaf, sizeof leaf))
 RUN(feed_part, FEEDS(started, leaf, 20, 20, 0))
 RUN(feed_skipped, FEEDS(started, unknown, sizeof unknown, sizeof unknown, 0))
 RUN(feed_stopped, FEEDS(started_old, unknown, sizeof unknown, sizeof unknown, 0))
+RUN(feed_discarded, FEEDS(started, discarded, sizeof discarded, sizeof discarded, 0))
 RUN(feed_mldp_leaf, FEEDS(started, mldp_leaf, sizeof mldp_leaf, sizeof mldp_leaf, sizeof mldp_leaf))
 RUN(feed_too_deep, FEEDS(started, too_deep, sizeof too_deep, sizeof too_deep, 0))
 RUN(feed_long, FEEDS(started, full, sizeof full, sizeof full, 0))
@@ -300,12 +312,10 @@ RUN(salvage_without_space, SALVAGES(2, sizeof dropped - 1, MVPN_SPACE, 0, 0))
 
 /* ---- shared trees: a table of (C-*,C-G) and (C-*,C-*) routes of one PE, and the longest lists */
 
-#define SHARED_GROUP 0xFF, 0x0E, 0, 0, 0, 0, 0, 0, 0, 0, 0, 0, 0, 0, 0, 1
-
-static const uint8_t shared_group[] = { SHARED_GROUP };
-static const uint8_t group_route[] = { 3, 42, RD, 0, 128, SHARED_GROUP, ORIGINATOR };
+static const uint8_t shared_group[] = { ASM_GROUP };
+static const uint8_t group_route[] = { 3, 42, RD, 0, 128, ASM_GROUP, ORIGINATOR };
 static const uint8_t any_route[] = { 3, 26, RD, 0, 0, ORIGINATOR };
-static const uint8_t shared_active[] = { 5, 42, RD, 128, SOURCE, 128, SHARED_GROUP };
+static const uint8_t shared_active[] = { 5, 42, RD, 128, SOURCE, 128, ASM_GROUP };
 
 static uint8_t shared_trees[sizeof full], any_trees[sizeof full];
 static uint8_t source_actives[2 + 256 * (2 + 16 + 2 + sizeof shared_active)], states[2 + 256 * (2 + 16 + 2 + 16)];
@@ -357,6 +367,7 @@ static const struct {
     { "mvpn_nlri_read", read_s_pmsi, full },
     { "mvpn_nlri_read", read_leaf, full },
     { "mvpn_nlri_read", read_active, full },
+    { "mvpn_nlri_read", read_discarded, full },
     { "mvpn_nlri_read", read_join, full },
     { "mvpn_nlri_read", read_mldp_s_pmsi, full },
     { "mvpn_nlri_read", read_mldp_leaf, full },
@@ -367,6 +378,7 @@ static const struct {
     { "mvpn_nlri_write", write_s_pmsi, full },
     { "mvpn_nlri_write", write_leaf, full },
     { "mvpn_nlri_write", write_active, full },
+    { "mvpn_nlri_write", write_discarded, full },
     { "mvpn_nlri_write", write_join, full },
     { "mvpn_nlri_write", write_mldp_s_pmsi, full },
     { "mvpn_nlri_write", write_mldp_leaf, full },
@@ -375,8 +387,10 @@ static const struct {
     { "mvpn_step", step_s_pmsi, full },
     { "mvpn_step", step_mldp_leaf, full },
     { "mvpn_step", step_mldp_join, full },
+    { "mvpn_step", step_discarded, full },
     { "mvpn_walk", walk_run, full },
     { "mvpn_walk", walk_skipping, full },
+    { "mvpn_walk", walk_discarding, full },
     { "mvpn_walk", walk_stopping, full },
     { "mvpn_walk", walk_mldp_leaf, full },
     { "mvpn_walk", walk_too_deep, full },
@@ -386,6 +400,7 @@ static const struct {
     { "mvpn_pieces_feed", feed_whole, full },
     { "mvpn_pieces_feed", feed_part, full },
     { "mvpn_pieces_feed", feed_skipped, full },
+    { "mvpn_pieces_feed", feed_discarded, full },
     { "mvpn_pieces_feed", feed_stopped, full },
     { "mvpn_pieces_feed", feed_mldp_leaf, full },
     { "mvpn_pieces_feed", feed_too_deep, full },

@@ -2,9 +2,10 @@
 //! decoder's text.
 
 use super::{
+    discards_examples,
     document::{in_papers, LISTED},
     fecs, near,
-    samples::nlris,
+    samples::{discarded, nlris},
     skips::LISTINGS,
 };
 use crate::{
@@ -21,8 +22,8 @@ use std::{
     time::Duration,
 };
 
-/// A run for each refusal, 1 to 5 and 7, behind one well-formed NLRI.
-const REFUSALS: [&str; 10] = [
+/// A run for each refusal, 1 to 5, 7 and 19, behind one well-formed NLRI.
+const REFUSALS: [&str; 11] = [
     "03",
     "0305 00",
     "0900",
@@ -33,14 +34,15 @@ const REFUSALS: [&str; 10] = [
     "0905 00",
     "470D 0000006400000007 0000FDE8 09",
     "4400",
+    "0512 0000006400000007 20 C0000201 20 E8010101",
 ];
 
 const RANDOM_RUNS: usize = 250;
 
 pub fn all(harness: &mut Harness, random: &mut Random, program: &str) -> Checked {
-    for (shows, arguments, run, text) in LISTINGS {
+    for (shows, arguments, run, text) in LISTINGS.iter().chain(&discards_examples::LISTINGS) {
         let listed = output(program, arguments, &octets(run), &Pace::Whole)?;
-        in_papers(format!("document 02, W-206, listing, {shows}"), listed, text.to_string())?;
+        in_papers(format!("document 02, listing, {shows}"), listed, text.to_string())?;
     }
     let listed = output(program, SKIPPING, &octets(fecs::LISTED), &Pace::Whole)?;
     in_papers("document 02, W-207, the listing".into(), listed, fecs::LISTED_TEXT.to_string())?;
@@ -63,9 +65,11 @@ pub fn all(harness: &mut Harness, random: &mut Random, program: &str) -> Checked
     Ok(())
 }
 
-/// Empty, each refusal, each sample, and sizes about the limit.
+/// Empty, each refusal, each sample, also between discarded ones, and sizes about the limit.
 fn fixed_runs(random: &mut Random, whole: &[u8]) -> Vec<Vec<u8>> {
     let mut runs = vec![Vec::new(), whole.to_vec(), octets(LISTED)];
+    let between = nlris(1).into_iter().flat_map(|sample| [discarded(1).octets, sample.octets]);
+    runs.push(between.flatten().collect());
     runs.extend(REFUSALS.map(octets));
     runs.extend(REFUSALS.map(|refused| [whole, &octets(refused)].concat()));
     for size in [4_094, 4_095, 4_096, 4_097, 4_098, 8_192, 10_000, 70_000] {

@@ -2,7 +2,8 @@
 
 use super::{
     near,
-    routes::{picked, source_active, Addresses},
+    routes::{picked, source_active, Addresses, SSM_GROUPS},
+    samples::discarded,
 };
 use crate::random::Random;
 
@@ -80,10 +81,10 @@ impl Addresses {
         [field]
     }
 
-    /// A Source Active route, with its originator.
+    /// A Source Active route that is read, with its originator.
     pub fn source_active(&self, random: &mut Random) -> Item {
-        let [distinguisher, source, group] =
-            [&self.distinguishers, &self.sources, &self.groups].map(|addresses| picked(random, addresses));
+        let [distinguisher, source, group] = [&self.distinguishers, &self.sources, &self.groups[SSM_GROUPS..]]
+            .map(|addresses| picked(random, addresses));
         [picked(random, &self.routers).to_vec(), source_active(distinguisher, source, group)]
     }
 
@@ -103,6 +104,7 @@ impl Addresses {
             0 => near::disturb(random, &mut originator),
             1 => nlri = near::nlri(random, self.afi),
             2 | 3 => near::disturb_nlri(random, &mut nlri),
+            4 => nlri = discarded(self.afi).octets,
             _ => {}
         }
         [originator, nlri]

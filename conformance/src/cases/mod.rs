@@ -2,6 +2,8 @@
 
 pub mod attribute_writing;
 pub mod damage;
+pub mod discards;
+pub mod discards_examples;
 pub mod disturbance;
 pub mod document;
 pub mod explanations;
@@ -48,6 +50,7 @@ pub fn all(harness: &mut Harness, options: &Options) -> Checked {
     of_skips(harness, options)?;
     of_fecs(harness, options)?;
     of_pieces(harness, options)?;
+    of_discards(harness, options)?;
     of_shared_trees(harness, options)?;
     of_following(harness, options)?;
     of_salvage(harness, options)?;
@@ -91,6 +94,11 @@ pub fn of_fecs(harness: &mut Harness, options: &Options) -> Checked {
 /// Runs that arrive in pieces.
 pub fn of_pieces(harness: &mut Harness, options: &Options) -> Checked {
     pieces::all(harness, &mut Random::new(options.seed), options.cases)
+}
+
+/// Source Active routes for SSM groups, which are discarded: in every call that reads or writes an NLRI.
+pub fn of_discards(harness: &mut Harness, options: &Options) -> Checked {
+    discards::all(harness, &mut Random::new(options.seed), options.cases)
 }
 
 /// The match for shared trees alone.

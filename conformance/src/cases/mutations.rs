@@ -48,7 +48,7 @@ fn refused(octets: &[u8]) -> Checked {
 }
 
 /// Every truncation, with the rest standing behind it, and extensions by up to three octets.
-fn lengths(octets: &[u8], mut compare: impl FnMut(Input) -> Checked) -> Checked {
+pub fn lengths(octets: &[u8], mut compare: impl FnMut(Input) -> Checked) -> Checked {
     for size in 0..=octets.len() {
         compare(Input::cut(octets, size))?;
     }
@@ -59,7 +59,7 @@ fn lengths(octets: &[u8], mut compare: impl FnMut(Input) -> Checked) -> Checked 
 }
 
 /// Every other value at every place.
-fn changes(octets: &[u8], mut compare: impl FnMut(&[u8]) -> Checked) -> Checked {
+pub fn changes(octets: &[u8], mut compare: impl FnMut(&[u8]) -> Checked) -> Checked {
     let mut changed = octets.to_vec();
     for place in 0..octets.len() {
         for difference in 1..=255 {

@@ -50,7 +50,10 @@ fn body(random: &mut Random, afi: u16, route_type: u8) -> Vec<u8> {
     let distinguisher = random.octets(8);
     let source_as = random.octets(4);
     let wildcards = route_type == 3;
-    let (source, group) = (customer(random, afi, wildcards), customer(random, afi, wildcards));
+    let (source, mut group) = (customer(random, afi, wildcards), customer(random, afi, wildcards));
+    if let (true, [_, group @ ..]) = (random.once_in(4), &mut group[..]) {
+        make_specific(random, group);
+    }
     let originator = originator(random);
     match route_type {
         1 => [distinguisher, originator].concat(),
@@ -112,6 +115,20 @@ fn customer(random: &mut Random, afi: u16, wildcards: bool) -> Vec<u8> {
     };
     let octets = random.octets(usize::from(bits).div_ceil(8));
     [&[bits], &octets[..]].concat()
+}
+
+/// Makes an address an SSM group, seldom one right beside the range.
+pub fn make_specific(random: &mut Random, group: &mut [u8]) {
+    let beside = random.once_in(8);
+    match group {
+        [first, _, _, _] => *first = if beside { random.pick(&[231, 233]) } else { 232 },
+        [first, second, third, fourth, ..] => {
+            [*first, *second] =
+                [0xFF, if beside { random.pick(&[0x2F, 0x3F, 0x40]) } else { 0x30 | random.octet() >> 4 }];
+            [*third, *fourth] = [0, u8::from(beside && *second == 0x3F)];
+        }
+        _ => {}
+    }
 }
 
 fn originator(random: &mut Random) -> Vec<u8> {

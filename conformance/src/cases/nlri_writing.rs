@@ -13,14 +13,19 @@ use crate::{
 
 pub fn all(harness: &mut Harness, random: &mut Random) -> Checked {
     for sample in all_nlris() {
-        outputs(harness, random, &sample)?;
-        address_sizes(harness, &sample)?;
-        route_types(harness, random, &sample)?;
+        of_sample(harness, random, &sample)?;
         if !sample.key.is_empty() {
             keys(harness, &sample)?;
         }
     }
     Ok(())
+}
+
+/// What is asked of every sample, whether it is written or not.
+pub fn of_sample(harness: &mut Harness, random: &mut Random, sample: &Sample) -> Checked {
+    outputs(harness, random, sample)?;
+    address_sizes(harness, sample)?;
+    route_types(harness, random, sample)
 }
 
 /// Every output size, with the fields as read and with junk wherever it does not count.
@@ -129,7 +134,7 @@ pub fn fields(random: &mut Random) -> Nlri {
     Nlri {
         distinguisher: RouteDistinguisher { octets: random.array() },
         source: address(random),
-        group: address(random),
+        group: group(random),
         originator: address(random),
         source_as: random.number() as u32,
         route_type: match random.below(12) {
@@ -142,6 +147,17 @@ pub fn fields(random: &mut Random) -> Nlri {
 fn address(random: &mut Random) -> Address {
     let size = if random.once_in(16) { random.octet() } else { random.pick(&[0, 4, 16]) };
     Address { octets: random.array(), size }
+}
+
+/// About a quarter of the groups are SSM.
+fn group(random: &mut Random) -> Address {
+    let mut group = address(random);
+    if random.once_in(4) {
+        let size = if random.once_in(2) { 4 } else { 16 };
+        near::make_specific(random, &mut group.octets[..size]);
+        group.size = size as u8;
+    }
+    group
 }
 
 /// One random writing call.

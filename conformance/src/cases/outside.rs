@@ -2,13 +2,20 @@
 //! both give what stands there.
 //!
 //! A block is `run <afi> <octets>`, then for each NLRI `nlri <offset> <type> <length>` with its fields as `name=value`,
-//! then `end <offset> <number>`; or `attribute <octets>`, then `fields` with `name=value`. `#` starts a comment.
+//! then `end <offset> <number>`; or `attribute <octets>`, then `fields` with `name=value`. `#` starts a comment. An NLRI that the
+//! other program decodes and document 02, W-210, discards is `discarded` in the place of `nlri`: it is refused with GROUP, and the
+//! second decoder lays it out as the other program does.
 
 use crate::{
     compare::{disagree, Checked, Disagreement, Harness},
     ffi::{Address, NlriReading, Walked},
     hexadecimal::{decode, encode},
-    second::run::OLD,
+    second::{
+        fault::Fault,
+        number::Number,
+        run::{OLD, SKIP},
+        Second,
+    },
 };
 use std::{collections::BTreeMap, fs, path::Path};
 
@@ -26,6 +33,9 @@ struct Run {
     octets: Vec<u8>,
     count: u32,
     cursor: usize,
+    discarded: u32,
+    /// What a walk in the old mode answers at the first that is discarded.
+    stop: Option<Walked>,
 }
 
 /// Compares the file where it exists; with `required` it must exist.
@@ -47,6 +57,7 @@ fn compare_text(harness: &mut Harness, text: &str) -> Checked {
         match (line.word, run.as_mut(), attribute.take()) {
             ("run", None, None) => run = Some(opened(&line)?),
             ("nlri", Some(open), None) => nlri(harness, open, &line)?,
+            ("discarded", Some(open), None) => discarded(harness, open, &line)?,
             ("end", Some(open), None) => {
                 end(harness, open, &line)?;
                 run = None;
@@ -85,7 +96,8 @@ fn octets(line: &Line, text: Option<&str>) -> Result<Vec<u8>, Disagreement> {
 
 fn opened(line: &Line) -> Result<Run, Disagreement> {
     let afi = number(line, line.plain.first().copied())? as u16;
-    Ok(Run { afi, octets: octets(line, line.plain.get(1).copied())?, count: 0, cursor: 0 })
+    let octets = octets(line, line.plain.get(1).copied())?;
+    Ok(Run { afi, octets, count: 0, cursor: 0, discarded: 0, stop: None })
 }
 
 /// Both decoders beside a value of the file.
@@ -114,11 +126,35 @@ fn nlri(harness: &mut Harness, run: &mut Run, line: &Line) -> Checked {
     Ok(())
 }
 
+/// Refused with GROUP at its place in the run and alone; laid out, it has the fields of the line.
+fn discarded(harness: &mut Harness, run: &mut Run, line: &Line) -> Checked {
+    let values = line.plain.iter().map(|text| number(line, Some(text))).collect::<Result<Vec<_>, _>>()?;
+    let (start, group) = (run.cursor, Number::Group.value());
+    let stepped = harness.step(run.afi, &run.octets, start)?;
+    same(line, (stepped.number, stepped.cursor), (group, start))?;
+    let Some([route_type, length, ..]) = run.octets.get(start..) else { return misplaced(line) };
+    let place = [start, usize::from(*route_type), usize::from(*length)].map(|value| value as u64);
+    same(line, place.to_vec(), values)?;
+    let single = run.octets[start..start + 2 + usize::from(*length)].to_vec();
+    same(line, harness.nlri_reading(run.afi, &single)?.number, group)?;
+    let laid_out = Second::with_fault(Fault::DISCARD_NEVER).answer_nlri_read(run.afi, &single);
+    same(line, named_fields(&laid_out, &single), file_fields(line)?)?;
+    run.stop = run.stop.or(Some(Walked { number: group, count: run.count, offset: start as u32, skipped: 0 }));
+    run.cursor += single.len();
+    run.discarded += 1;
+    Ok(())
+}
+
+/// The walk's answer. The file knows no modes: a run without discarded NLRIs is walked in the old one, where an unknown type ends it.
 fn end(harness: &mut Harness, run: &Run, line: &Line) -> Checked {
     let offset = number(line, line.plain.first().copied())? as u32;
     let number = number(line, line.plain.get(1).copied())? as u32;
-    let walked = harness.walk(run.afi, OLD, &run.octets)?;
-    same(line, walked, Walked { number, count: run.count, offset, skipped: 0 })?;
+    let whole = Walked { number, count: run.count, offset, skipped: run.discarded };
+    let old = harness.walk(run.afi, OLD, &run.octets)?;
+    same(line, old, run.stop.unwrap_or(whole))?;
+    if run.discarded > 0 {
+        same(line, harness.walk(run.afi, SKIP, &run.octets)?, whole)?;
+    }
     harness.walk_by_steps(run.afi, &run.octets)
 }
 
@@ -168,12 +204,15 @@ mod tests {
     use crate::second::Second;
 
     const BLOCKS: &str = "\
-        # two blocks\n\
+        # four blocks\n\
         run 1 030e000000640000000700000a0000010900\n\
         nlri 0 3 14 rd=0000006400000007 source=* group=* originator=0A000001\n\
         end 16 2\n\
         run 2 0412020c00000064000000070000fde80a000002\n\
         nlri 0 4 18 key=020c00000064000000070000fde8 originator=0a000002\n\
+        end 20 0\n\
+        run 1 0512000000640000000720c000020120e8010101\n\
+        discarded 0 5 18 rd=0000006400000007 source=c0000201 group=e8010101\n\
         end 20 0\n\
         attribute 0106000641c0000201\n\
         fields flags=1 type=6 label=100 identifier=c0000201\n";
@@ -197,6 +236,12 @@ mod tests {
             ("label=100", "label=101"),
             ("identifier=c0", "identifier=c1"),
             ("nlri 0 4 18", "# nlri 0 4 18"),
+            ("discarded 0 5", "nlri 0 5"),
+            ("discarded 0 5 18", "discarded 0 5 19"),
+            ("discarded 0 5", "# discarded 0 5"),
+            ("nlri 0 3", "discarded 0 3"),
+            ("source=c0000201", "source=c0000202"),
+            ("group=e8010101", "group=e8010102"),
         ];
         for (from, to) in changes {
             let text = BLOCKS.replacen(from, to, 1);

@@ -153,7 +153,7 @@ pub const FLOWS: [FlowRow; 21] = [
 
 /// What it shows, prefixes, group, Source Active routes as they are lent, number, tier, route: of a table that holds `HELD`, with the
 /// PE upstream.
-type SharedTreeRow = (&'static str, &'static str, &'static str, &'static str, u32, u32, &'static str);
+pub type SharedTreeRow = (&'static str, &'static str, &'static str, &'static str, u32, u32, &'static str);
 
 /// A Source Active route of an unknown type.
 const UNREAD: &str = "0001 0004 0A000001 0002 0900";

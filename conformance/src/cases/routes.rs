@@ -2,7 +2,7 @@
 
 use super::{
     lists::EMPTY,
-    samples::{attributes, mldp, nlris},
+    samples::{attributes, discarded, mldp, nlris},
 };
 use crate::{
     hexadecimal::octets,
@@ -88,6 +88,9 @@ const PREFIXES: [[&str; 6]; 2] = [
          0011 14FF3E1000000000000000000000000000 0011 10FF0E0000000000000000000000000000",
     ],
 ];
+
+/// How many of the groups are SSM; they come first.
+pub const SSM_GROUPS: usize = 2;
 
 impl Addresses {
     pub fn of_family(afi: u16) -> Self {
@@ -198,7 +201,7 @@ pub fn bad_attributes() -> Vec<Vec<u8>> {
     texts.iter().map(|text| octets(text)).chain([long]).collect()
 }
 
-/// NLRIs that install and withdraw refuse: SHORT, TYPE, LENGTH, WIDTH, KEY, IDENT, DEEP; well-formed ones of every other type,
+/// NLRIs that install and withdraw refuse: SHORT, TYPE, LENGTH, WIDTH, KEY, IDENT, DEEP, GROUP; well-formed ones of every other type,
 /// KIND.
 pub fn bad_nlris(afi: u16) -> Vec<Vec<u8>> {
     let texts = [
@@ -223,5 +226,8 @@ pub fn bad_nlris(afi: u16) -> Vec<Vec<u8>> {
     let others = nlris(afi).into_iter().filter(|sample| sample.nlri.route_type != 3).map(|sample| sample.octets);
     let other_family = nlris(3 - afi).into_iter().map(|sample| sample.octets);
     let refused = other_family.filter(|nlri| Second::sound().answer_nlri_read(afi, nlri).number != 0);
-    texts.iter().map(|text| octets(text)).chain(deep).chain(others).chain(refused).collect()
+    let discarded = discarded(afi).octets;
+    let followed = [&discarded[..], &[0]].concat();
+    let texts = texts.iter().map(|text| octets(text));
+    texts.chain(deep).chain(others).chain(refused).chain([discarded, followed]).collect()
 }

@@ -75,11 +75,19 @@ pub fn address(octets: &[u8]) -> Address {
     Address { octets: padded, size: octets.len() as u8 }
 }
 
-/// A customer source and group of the family.
+/// A customer source and group of the family; the group is SSM.
 fn customer(afi: u16) -> (Vec<u8>, Vec<u8>) {
     match afi {
         1 => (IPV4.to_vec(), vec![232, 1, 1, 1]),
         _ => (IPV6.to_vec(), [[0xFF, 0x3E, 0, 0], [0; 4], [0; 4], [9, 8, 7, 6]].concat()),
+    }
+}
+
+/// An ASM group of the family.
+fn any_source_group(afi: u16) -> Vec<u8> {
+    match afi {
+        1 => vec![239, 1, 1, 1],
+        _ => [[0xFF, 0x1E, 0, 0], [0; 4], [0; 4], [9, 8, 7, 6]].concat(),
     }
 }
 
@@ -101,17 +109,33 @@ fn keys(afi: u16) -> Vec<Sample> {
     samples
 }
 
-/// Every route type of one family.
+/// Every route type of one family; each is read.
 pub fn nlris(afi: u16) -> Vec<Sample> {
     let (source, group) = customer(afi);
     let keys = keys(afi);
     let leaves = keys
         .iter()
         .flat_map(|key| originators().map(|originator| Sample::new(afi, 4).key(&key.octets).originator(&originator)));
-    let join = |route_type| Sample::new(afi, route_type).distinguisher().source_as().source(&source).group(&group);
-    let active = Sample::new(afi, 5).distinguisher().source(&source).group(&group);
+    let join = |route_type| with_addresses(afi, route_type, &source, &group);
+    let active = with_addresses(afi, 5, &source, &any_source_group(afi));
     let with_fecs = mldp(afi, 1).into_iter().chain(mldp(afi, 2).into_iter().take(1));
     keys.iter().cloned().chain(leaves).chain([active, join(6), join(7)]).chain(with_fecs).collect()
+}
+
+/// Type 3, 5, 6 or 7 with these addresses.
+pub fn with_addresses(afi: u16, route_type: u8, source: &[u8], group: &[u8]) -> Sample {
+    let start = Sample::new(afi, route_type).distinguisher();
+    match route_type {
+        3 => start.source(source).group(group).originator(&originators()[0]),
+        5 => start.source(source).group(group),
+        _ => start.source_as().source(source).group(group),
+    }
+}
+
+/// A Source Active route for an SSM group, which is discarded.
+pub fn discarded(afi: u16) -> Sample {
+    let (source, group) = customer(afi);
+    with_addresses(afi, 5, &source, &group)
 }
 
 /// The route types of mLDP customers, with so many FEC elements one inside the other.

@@ -3,7 +3,7 @@
 
 use super::{
     lists::{list, Item, EMPTY},
-    routes::{good_attributes, picked, s_pmsi, source_active, Addresses},
+    routes::{good_attributes, picked, s_pmsi, source_active, Addresses, SSM_GROUPS},
     samples::GOOD_AFIS,
     shared_examples, shared_refusals,
     tables::OUTPUT,
@@ -69,7 +69,7 @@ pub fn table_of_all(random: &mut Random, addresses: &Addresses) -> Vec<u8> {
 }
 
 /// Every choice among the four conditions and among the kinds of route held, each kind with two distinguishers, for SSM
-/// and ASM groups and for PEs of both sizes; asked of every router.
+/// and ASM groups and for PEs of both sizes; asked of every router. A listed route is for the group asked, or for an ASM group.
 fn conditions(harness: &mut Harness, random: &mut Random, addresses: &Addresses) -> Checked {
     for (holder, group) in
         [0, 4].into_iter().flat_map(|holder| addresses.groups[..4].iter().map(move |it| (holder, it)))
@@ -77,7 +77,8 @@ fn conditions(harness: &mut Harness, random: &mut Random, addresses: &Addresses)
         for held in 0..16 {
             let memory = table_of(random, addresses, &addresses.routers[holder], group, held);
             for (conditions, router) in (0..16).flat_map(|bits| addresses.routers.iter().map(move |it| (bits, it))) {
-                let nlri = source_active(picked(random, &addresses.distinguishers), &addresses.sources[0], group);
+                let active = if addresses.groups[..SSM_GROUPS].contains(group) { &addresses.groups[2] } else { group };
+                let nlri = source_active(picked(random, &addresses.distinguishers), &addresses.sources[0], active);
                 let active = list(&[[router.clone(), nlri]]);
                 let source_actives = if conditions & 8 == 0 { EMPTY } else { &active };
                 let facts = told(conditions & 7);

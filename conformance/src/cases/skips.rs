@@ -17,7 +17,7 @@ use crate::{
 
 /// What it shows, AFI, mode, the run with `RD` for the distinguisher and bars where it is cut, the NLRIs read, and the walk's
 /// number, count, offset and number skipped.
-type Example = (&'static str, u16, u32, &'static str, &'static [&'static str], [u32; 4]);
+pub type Example = (&'static str, u16, u32, &'static str, &'static [&'static str], [u32; 4]);
 
 const READ: &str = "020C RD 0000FDE8";
 
@@ -61,7 +61,7 @@ pub const EXAMPLES: [Example; 36] = [
 ];
 
 /// What it shows, the program's arguments, the octets, and the whole text.
-type Listed = (&'static str, &'static [&'static [u8]], &'static str, &'static str);
+pub type Listed = (&'static str, &'static [&'static [u8]], &'static str, &'static str);
 
 pub const LISTINGS: [Listed; 20] = [
     ("document 01's run", &[], LISTED, "MVT list 1\n0 3 14\nend 18 0 1\n"),
@@ -100,8 +100,8 @@ const SHORT_RUNS: [(u16, &str); 5] = [
 ];
 
 pub fn all(harness: &mut Harness, random: &mut Random, cases: u64) -> Checked {
-    examples(harness, random)?;
-    listings(harness)?;
+    examples(harness, random, "W-206", &EXAMPLES)?;
+    listings(harness, "W-206", &LISTINGS)?;
     limits(harness, random)?;
     headers(harness)?;
     lengths(harness, random)?;
@@ -115,11 +115,11 @@ pub fn all(harness: &mut Harness, random: &mut Random, cases: u64) -> Checked {
     Ok(())
 }
 
-/// Each example as a whole run and in its pieces.
-fn examples(harness: &mut Harness, random: &mut Random) -> Checked {
+/// Each example of a request as a whole run and in its pieces.
+pub fn examples(harness: &mut Harness, random: &mut Random, request: &str, examples: &[Example]) -> Checked {
     let decoded = |text: &str| octets(&text.replace("RD", RD));
-    for (shows, afi, mode, text, given, [number, count, offset, skipped]) in EXAMPLES {
-        let shows = format!("document 02, W-206, {shows}");
+    for (shows, afi, mode, text, given, [number, count, offset, skipped]) in examples.iter().copied() {
+        let shows = format!("document 02, {request}, {shows}");
         let asked = Walked { number, count, offset, skipped };
         in_papers(shows.clone(), harness.walk(afi, mode, &decoded(&text.replace('|', "")))?, asked)?;
         harness.walk_by_steps(afi, &decoded(&text.replace('|', "")))?;
@@ -132,10 +132,10 @@ fn examples(harness: &mut Harness, random: &mut Random) -> Checked {
 }
 
 /// The second decoder's listing; the program's is compared with it elsewhere.
-fn listings(harness: &mut Harness) -> Checked {
-    for (shows, arguments, run, text) in LISTINGS {
+pub fn listings(harness: &mut Harness, request: &str, listings: &[Listed]) -> Checked {
+    for (shows, arguments, run, text) in listings {
         let listed = harness.second.listing(arguments, &octets(run));
-        in_papers(format!("document 02, W-206, listing, {shows}"), listed, text.to_string())?;
+        in_papers(format!("document 02, {request}, listing, {shows}"), listed, text.to_string())?;
     }
     Ok(())
 }

@@ -92,6 +92,7 @@ impl Harness {
         reader.archive = archive;
         self.coverage.count(Call::PiecesFinish, Seen::Number(second.number));
         self.coverage.count(Call::PiecesFinish, Seen::Skipped(second.skipped.min(3)));
+        self.count_discarded(Call::PiecesFinish, reader.afi, reader.second.run(), &second);
         Ok(second)
     }
 

@@ -36,7 +36,16 @@ impl Harness {
         self.agree(shown, &archive, &second)?;
         self.coverage.count(Call::Walk, Seen::Number(archive.number));
         self.coverage.count(Call::Walk, Seen::Skipped(archive.skipped.min(3)));
+        self.count_discarded(Call::Walk, afi, run.octets, &archive);
         Ok(archive)
+    }
+
+    /// How many of those that the walk of a run skipped were discarded.
+    pub(super) fn count_discarded(&mut self, call: Call, afi: u16, run: &[u8], walked: &Walked) {
+        if walked.skipped > 0 {
+            let discarded = self.second.walk(afi, SKIP, run).discarded(run);
+            self.coverage.count(call, Seen::Discarded(afi, discarded.min(3)));
+        }
     }
 
     /// A walk in each mode.
@@ -58,7 +67,7 @@ impl Harness {
             let stepped = self.step(afi, run, cursor)?;
             cursor = stepped.cursor;
             match (stepped.number, stepped.layout.route_type) {
-                (2, _) if mode == SKIP => {
+                (2 | 19, _) if mode == SKIP => {
                     cursor += 2 + usize::from(run[cursor + 1]);
                     by_steps.skipped += 1;
                 }

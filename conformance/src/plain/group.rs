@@ -49,6 +49,15 @@ fn standard(afi: u16, group: &[u8]) -> (u32, u32) {
     }
 }
 
+/// Whether an address of the family's size is a group of the standard range.
+#[inline(always)]
+pub fn is_ssm(family: usize, group: &[u8]) -> bool {
+    match family {
+        4 => group[0] == 232,
+        _ => matches!(group, [0xFF, 0x30..=0x3F, 0, 0, ..]),
+    }
+}
+
 /// The same by prefixes, where the list is not one of none.
 #[inline(never)]
 fn among(afi: u16, prefixes: &[u8], group: &[u8]) -> (u32, u32) {

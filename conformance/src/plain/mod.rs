@@ -71,6 +71,7 @@ const FLOW: u32 = 15;
 const SPACE: u32 = 16;
 const DEEP: u32 = 17;
 const RANGE: u32 = 18;
+const GROUP: u32 = 19;
 
 /// The octets of a customer address under an AFI; 0 for a bad AFI.
 #[inline(always)]

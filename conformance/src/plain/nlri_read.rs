@@ -2,8 +2,8 @@
 
 use super::{
     family_size, lent,
-    shape::{shape, Shape},
-    DONE, FAMILY, LENGTH,
+    shape::{single, Shape},
+    DONE, FAMILY,
 };
 use crate::ffi::{Address, Nlri, NlriReading, RouteDistinguisher, Span};
 
@@ -14,10 +14,9 @@ pub unsafe extern "C" fn nlri_read(afi: u16, nlri: *const u8, nlri_len: usize) -
     let octets = lent(nlri, nlri_len);
     let family = family_size(afi);
     let refusal = |number| NlriReading { number, ..Default::default() };
-    match shape(family, octets) {
+    match single(family, octets) {
         _ if family == 0 => refusal(FAMILY),
         Err(number) => refusal(number),
-        Ok(shape) if octets.len() != shape.length + 2 => refusal(LENGTH),
         Ok(shape) => reading(&octets[2..], &shape),
     }
 }

@@ -1,6 +1,6 @@
 //! `mvpn_nlri_write` in plain Rust.
 
-use super::{family_size, fec::alone, lent, shape::shape, FAMILY, KEY, LONG, SPACE, TYPE, WIDTH};
+use super::{family_size, fec::alone, group::is_ssm, lent, shape::shape, FAMILY, GROUP, KEY, LONG, SPACE, TYPE, WIDTH};
 use crate::ffi::{Address, Nlri, Written};
 
 /// # Safety
@@ -53,7 +53,7 @@ fn encode(family: usize, nlri: &Nlri, key: &[u8], fec: &[u8], output: &mut [u8])
     Ok(length + 2)
 }
 
-/// The Length field, or FAMILY, TYPE, WIDTH, IDENT, DEEP, LONG, KEY.
+/// The Length field, or FAMILY, TYPE, WIDTH, IDENT, DEEP, LONG, KEY, GROUP.
 #[inline(always)]
 fn body_length(family: usize, nlri: &Nlri, key: &[u8], fec: &[u8]) -> Result<usize, u32> {
     if family == 0 {
@@ -71,7 +71,10 @@ fn body_length(family: usize, nlri: &Nlri, key: &[u8], fec: &[u8]) -> Result<usi
             true => Ok(key.len() + originator),
             false => Err(KEY),
         },
-        5 if customer(&nlri.source) && customer(&nlri.group) => Ok(10 + 2 * family),
+        5 if customer(&nlri.source) && customer(&nlri.group) => match is_ssm(family, &nlri.group.octets) {
+            true => Err(GROUP),
+            false => Ok(10 + 2 * family),
+        },
         6 | 7 if customer(&nlri.source) && customer(&nlri.group) => Ok(14 + 2 * family),
         0x43 if originated => alone(family, fec).and_then(|()| short(8 + fec.len() + originator)),
         0x44 if originated => match short(key.len() + originator)? {

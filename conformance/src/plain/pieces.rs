@@ -4,7 +4,7 @@ use super::{
     family_size, lent,
     run::SKIP,
     shape::{shape, Shape},
-    DONE, FAMILY, LONG, SHORT, TYPE,
+    DONE, FAMILY, GROUP, LONG, SHORT, TYPE,
 };
 use crate::ffi::{Fed, Pieces, Walked, UNFINISHED};
 
@@ -61,7 +61,7 @@ pub unsafe extern "C" fn pieces_feed(pieces: Pieces, unfinished: *mut u8, piece:
             let walked = Walked { count: count + 1, offset: passed, ..pieces.walked };
             fed(Pieces { walked, total, kept: 0, ..pieces }, taken, size)
         }
-        Err(TYPE) if pieces.mode == SKIP => {
+        Err(TYPE | GROUP) if pieces.mode == SKIP => {
             let walked = Walked { offset: passed, skipped: skipped + 1, ..pieces.walked };
             fed(Pieces { walked, total, kept: 0, ..pieces }, taken, 0)
         }

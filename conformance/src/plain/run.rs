@@ -1,11 +1,11 @@
 //! `mvpn_step` and `mvpn_walk` in plain Rust.
 
-use super::{family_size, lent, shape::shape, DONE, FAMILY, LONG, SHORT, TYPE};
+use super::{family_size, lent, shape::shape, DONE, FAMILY, GROUP, LONG, SHORT, TYPE};
 use crate::ffi::{Layout, Stepped, Walked};
 
 const LONGEST: usize = 4_096;
 
-/// The mode that skips an NLRI of an unknown type.
+/// The mode that skips an NLRI of an unknown type, and one that is discarded.
 pub const SKIP: u32 = 0;
 
 /// # Safety
@@ -67,8 +67,8 @@ fn walk_family(family: usize, mode: u32, run: &[u8]) -> Walked {
             break DONE;
         }
         match shape(family, rest) {
-            // A TYPE refusal is of a whole NLRI.
-            Err(TYPE) if mode == SKIP => {
+            // Such a refusal is of a whole NLRI.
+            Err(TYPE | GROUP) if mode == SKIP => {
                 rest = &rest[2 + usize::from(rest[1])..];
                 skipped += 1;
             }

@@ -1,6 +1,6 @@
 //! The sizes of an NLRI's fields, found without copying any.
 
-use super::{fec, KEY, LENGTH, SHORT, TYPE, WIDTH};
+use super::{fec, group::is_ssm, GROUP, KEY, LENGTH, SHORT, TYPE, WIDTH};
 
 #[derive(Clone, Copy)]
 pub struct Shape {
@@ -11,6 +11,16 @@ pub struct Shape {
     pub originator: usize,
     pub key: usize,
     pub fec: usize,
+}
+
+/// Exactly one NLRI: LENGTH for octets after it comes before GROUP.
+#[inline(always)]
+pub fn single(family: usize, octets: &[u8]) -> Result<Shape, u32> {
+    match shape(family, octets) {
+        Ok(shape) if shape.length + 2 != octets.len() => Err(LENGTH),
+        Err(GROUP) if usize::from(octets[1]) + 2 != octets.len() => Err(LENGTH),
+        judged => judged,
+    }
 }
 
 /// The NLRI at the front; `family` is the size of a customer address.
@@ -24,7 +34,7 @@ pub fn shape(family: usize, octets: &[u8]) -> Result<Shape, u32> {
     let bare = Shape { route_type: *route_type, length, source: 0, group: 0, originator: 0, key: 0, fec: 0 };
     match route_type {
         4 => leaf(family, body, bare),
-        5 => pair(family, body, 8, bare),
+        5 => source_active(family, body, bare),
         6 | 7 => pair(family, body, 12, bare),
         0x43 => mldp_s_pmsi(family, body, bare),
         0x44 => mldp_leaf(family, body, bare),
@@ -90,6 +100,16 @@ fn pair(family: usize, body: &[u8], before: usize, bare: Shape) -> Result<Shape,
         Ok(Shape { source: family, group: family, ..bare })
     } else {
         Err(LENGTH)
+    }
+}
+
+/// GROUP for an SSM group.
+#[inline(always)]
+fn source_active(family: usize, body: &[u8], bare: Shape) -> Result<Shape, u32> {
+    let shape = pair(family, body, 8, bare)?;
+    match is_ssm(family, &body[10 + family..]) {
+        true => Err(GROUP),
+        false => Ok(shape),
     }
 }
 

@@ -6,9 +6,9 @@ use super::{
     group::{class, SSM},
     lent,
     list::{count, field},
-    shape::shape,
+    shape::single,
     sound::{sound, Sound},
-    DONE, FLOW, KIND, LENGTH, LONG, SHORT, SPACE, TABLE,
+    DONE, FLOW, KIND, LONG, SHORT, SPACE, TABLE,
 };
 use crate::ffi::{Matched, SharedTree};
 
@@ -110,9 +110,7 @@ fn judge_lists(family: usize, told: &Told) -> Result<bool, u32> {
 /// NLRI reading with no octets after it, then KIND.
 #[inline(always)]
 fn judge_route(family: usize, nlri: &[u8]) -> Result<(), u32> {
-    let shape = shape(family, nlri)?;
-    match shape.route_type {
-        _ if shape.length + 2 != nlri.len() => Err(LENGTH),
+    match single(family, nlri)?.route_type {
         SOURCE_ACTIVE => Ok(()),
         _ => Err(KIND),
     }

@@ -3,9 +3,9 @@
 use super::{
     attribute::installable,
     family_size, lent,
-    shape::shape,
+    shape::single,
     sound::{divided, nlri_of, sound, Place, Sound, HEADER},
-    ABSENT, DONE, FAMILY, KIND, LENGTH, ROOM, TABLE,
+    ABSENT, DONE, FAMILY, KIND, ROOM, TABLE,
 };
 use crate::ffi::Installed;
 
@@ -92,9 +92,7 @@ fn take_out(table: &mut [u8], nlri: &[u8]) -> Result<(), u32> {
 /// NLRI reading with no octets after it, then KIND.
 #[inline(always)]
 fn judge_nlri(family: usize, nlri: &[u8]) -> Result<(), u32> {
-    let shape = shape(family, nlri)?;
-    match shape.route_type {
-        _ if shape.length + 2 != nlri.len() => Err(LENGTH),
+    match single(family, nlri)?.route_type {
         3 => Ok(()),
         _ => Err(KIND),
     }

@@ -2,6 +2,7 @@
 
 use crate::{
     cases::{
+        discards_examples::{nlri, NLRIS},
         lists::EMPTY,
         near,
         nlri_writing::{fields, lent},
@@ -20,6 +21,10 @@ const CASES: usize = 60_000;
 
 #[test]
 fn reading_as_the_second_decoder() {
+    for (shows, afi, text, number) in NLRIS {
+        let octets = nlri(text);
+        assert_eq!(unsafe { plain::nlri_read(afi, octets.as_ptr(), octets.len()) }.number, number, "{shows}");
+    }
     let (second, mut random) = (Second::sound(), Random::new(1));
     for _ in 0..CASES {
         let afi = near::afi(&mut random);

@@ -30,6 +30,9 @@ impl Second {
             }
             Err(number) => {
                 let mut refusal = ffi::NlriReading { number: number.value(), ..Default::default() };
+                if let (Number::Group, true) = (number, self.has(Fault::DISCARD_KEEPS_FIELDS)) {
+                    refusal.nlri = Second::with_fault(Fault::DISCARD_NEVER).answer_nlri_read(afi, octets).nlri;
+                }
                 if self.has(Fault::REFUSAL_KEEPS_TYPE) {
                     refusal.nlri.route_type = octets.first().copied().unwrap_or(0);
                 }
@@ -43,6 +46,10 @@ impl Second {
             Ok(Some((reading, next))) => ffi::Stepped { cursor: next, number: 0, layout: layout(&reading) },
             Ok(None) => ffi::Stepped { cursor, ..Default::default() },
             Err(_) if self.has(Fault::REFUSED_STEP_REWINDS) => self.answer_step_rewound(afi, run, cursor),
+            Err(number @ Number::Group) if self.has(Fault::DISCARD_STEP_MOVES) => {
+                let cursor = cursor + 2 + usize::from(run[cursor + 1]);
+                ffi::Stepped { cursor, number: number.value(), ..Default::default() }
+            }
             Err(number) => ffi::Stepped { cursor, number: number.value(), ..Default::default() },
         }
     }
@@ -78,6 +85,15 @@ impl Second {
         }
         if walk.number == Number::Type && self.has(Fault::OLD_COUNTS_SKIPPED) {
             skipped += 1;
+        }
+        if walk.number == Number::Group && self.has(Fault::DISCARD_STOP_COUNTED) {
+            skipped += 1;
+        }
+        if self.has(Fault::DISCARD_COUNTED_AS_READ) {
+            count += walk.discarded(run);
+        }
+        if self.has(Fault::DISCARD_COUNTED_AS_READ) || self.has(Fault::DISCARD_UNCOUNTED) {
+            skipped -= walk.discarded(run);
         }
         let [count, offset, skipped] = [count, offset, skipped].map(|figure| figure as u32);
         ffi::Walked { number: walk.number.value(), count, offset, skipped }

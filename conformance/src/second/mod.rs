@@ -7,6 +7,9 @@ pub mod attribute;
 pub mod attribute_writing;
 pub mod books;
 pub mod choice;
+pub mod discards;
+#[cfg(test)]
+mod discards_tests;
 pub mod disturbance;
 pub mod fault;
 pub mod fec;

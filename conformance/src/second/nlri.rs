@@ -1,8 +1,9 @@
-//! Reading one NLRI: its row of fields taken from the body, left to right, the first fault deciding.
+//! Reading one NLRI: its row of fields taken from the body, left to right, the first fault deciding; then what is discarded.
 
 use super::{
     fault::Fault,
     fec::Outermost,
+    group::Class,
     number::Number,
     rows::{row, Family, Field, MLDP_LEAF, MLDP_SOURCE_TREE_JOIN, MLDP_S_PMSI, S_PMSI},
     Second,
@@ -40,7 +41,7 @@ impl<'a> Reading<'a> {
 type Taken<'a> = Result<(&'a [u8], &'a [u8]), Number>;
 
 impl Second {
-    /// Reads exactly one NLRI: FAMILY, SHORT, TYPE, the body, then LENGTH for octets after it.
+    /// Reads exactly one NLRI: FAMILY, SHORT, TYPE, the body, LENGTH for octets after it, then GROUP.
     pub fn single<'a>(&self, afi: u16, octets: &'a [u8]) -> Result<Reading<'a>, Number> {
         if self.has(Fault::FAMILY_AFTER_SHORT) && octets.len() < 2 {
             return Err(Number::Short);
@@ -49,16 +50,27 @@ impl Second {
     }
 
     fn whole<'a>(&self, family: Family, octets: &'a [u8]) -> Result<Reading<'a>, Number> {
-        let reading = self.front(family, octets)?;
-        if reading.after.is_empty() || self.has(Fault::OCTETS_AFTER_IGNORED) {
-            Ok(reading)
-        } else {
-            Err(Number::Length)
+        let reading = self.laid(family, octets).map_err(|number| self.unlaid(family, octets, number))?;
+        let followed = !reading.after.is_empty() && !self.has(Fault::OCTETS_AFTER_IGNORED);
+        match followed {
+            true if self.has(Fault::DISCARD_BEFORE_OCTETS_AFTER) => self.kept(family, reading).and(Err(Number::Length)),
+            true => Err(Number::Length),
+            false if self.has(Fault::DISCARD_IN_RUNS) => Ok(reading),
+            false => self.kept(family, reading),
         }
     }
 
-    /// Reads the NLRI at the front of the octets.
+    /// Reads the NLRI at the front of a run: it ends with its Length.
     pub fn front<'a>(&self, family: Family, octets: &'a [u8]) -> Result<Reading<'a>, Number> {
+        let reading = self.laid(family, octets).map_err(|number| self.unlaid(family, octets, number))?;
+        match self.has(Fault::DISCARD_SINGLE) {
+            true => Ok(reading),
+            false => self.kept(family, reading),
+        }
+    }
+
+    /// The NLRI at the front of the octets as it is laid out, whatever its group.
+    pub(super) fn laid<'a>(&self, family: Family, octets: &'a [u8]) -> Result<Reading<'a>, Number> {
         let [route_type, length, rest @ ..] = octets else {
             return Err(Number::Short);
         };
@@ -147,12 +159,15 @@ impl Second {
     /// A whole NLRI of type 1, 2 or 3 (RFC 6514, section 4.4), or for mLDP of type 0x43 (RFC 7441, section 3); any fault inside
     /// it is KEY.
     fn take_key<'a>(&self, family: Family, leaf: u8, rest: &'a [u8]) -> Taken<'a> {
-        let key = self.front(family, rest).map_err(|inner| match self.has(Fault::KEY_FAULT_INNER) {
-            true => inner,
-            false => Number::Key,
+        let key = self.front(family, rest).map_err(|inner| match inner {
+            Number::Group if self.has(Fault::DISCARD_INSIDE_KEY) => inner,
+            _ if self.has(Fault::KEY_FAULT_INNER) => inner,
+            _ => Number::Key,
         })?;
+        let specific = || self.standard_class(family, key.octets(Field::Group)) == Ok(Class::Ssm);
         if !self.key_type_allowed(leaf, key.route_type)
             || self.has(Fault::WILDCARD_REFUSED_IN_KEY) && key.has_wildcard()
+            || self.has(Fault::DISCARD_SSM_KEYS) && specific()
         {
             return Err(Number::Key);
         }

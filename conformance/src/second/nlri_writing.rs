@@ -1,4 +1,4 @@
-//! Writing one NLRI: FAMILY, TYPE, WIDTH, IDENT and DEEP, LONG, KEY, SPACE.
+//! Writing one NLRI: FAMILY, TYPE, WIDTH, IDENT and DEEP, LONG, KEY, GROUP, SPACE.
 
 use super::{
     fault::Fault,
@@ -31,6 +31,10 @@ impl Second {
         if self.has(Fault::LACKING_FIELDS_JUDGED) && lacking_fields_bad(nlri) {
             return Err(Number::Width);
         }
+        let unwritten = self.is_unwritten(family, nlri);
+        if unwritten && self.has(Fault::DISCARD_BEFORE_WRITTEN_WIDTH) {
+            return Err(Number::Group);
+        }
         if !fields.iter().all(|field| self.width_allowed(family, *field, nlri)) {
             return Err(Number::Width);
         }
@@ -46,8 +50,15 @@ impl Second {
         if bad_key {
             return Err(Number::Key);
         }
+        if unwritten && !self.has(Fault::DISCARD_AFTER_SPACE) {
+            return Err(Number::Group);
+        }
         let encoding = [&[nlri.route_type, body.len() as u8], &body[..]].concat();
-        self.fitted(encoding, LONGEST, room)
+        let encoding = self.fitted(encoding, LONGEST, room)?;
+        match unwritten {
+            true => Err(Number::Group),
+            false => Ok(encoding),
+        }
     }
 
     /// IDENT or DEEP for octets that are not exactly one FEC element of the family.

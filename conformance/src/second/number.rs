@@ -21,6 +21,7 @@ pub enum Number {
     Space = 16,
     Deep = 17,
     Range = 18,
+    Group = 19,
 }
 
 impl Number {

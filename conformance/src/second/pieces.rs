@@ -1,10 +1,11 @@
-//! A run that arrives in pieces (document 02, W-203 and W-206): a reader that keeps every octet it took, and walks them all
+//! A run that arrives in pieces (document 02, W-203, W-206 and W-210): a reader that keeps every octet it took, and walks them all
 //! each time.
 
 use super::{
     fault::Fault,
     nlri::Reading,
     number::Number,
+    rows::SOURCE_ACTIVE,
     run::{Walk, OLD},
     Second,
 };
@@ -32,6 +33,11 @@ impl Pieces {
     /// The answer of a reader that is finished.
     pub fn answer(&self) -> Option<Walked> {
         self.answer
+    }
+
+    /// Every octet taken.
+    pub fn run(&self) -> &[u8] {
+        &self.run
     }
 }
 
@@ -76,10 +82,11 @@ impl Second {
         }
         let mut whole = [&reader.run, piece].concat();
         whole.truncate(LONGEST);
-        let walk = self.walk(reader.afi, reader.mode, &whole);
+        let walk = self.in_pieces().walk(reader.afi, reader.mode, &whole);
         let next = self.read_on(reader, &whole, &walk).get(reader.given).copied();
         if let Some((start, end)) = self.skipped_next(&walk, before, next.map(|(start, _)| start)) {
-            let nlri = if self.has(Fault::SKIP_GIVEN) { &whole[start..end] } else { &[] };
+            let given = self.has(Fault::SKIP_GIVEN) || self.has(Fault::DISCARD_GIVEN) && whole[start] == SOURCE_ACTIVE;
+            let nlri = if given { &whole[start..end] } else { &[] };
             return takes(end - before..=end - before, nlri);
         }
         if let Some((start, end)) = next {
@@ -143,7 +150,8 @@ impl Second {
     }
 
     fn finished(&self, reader: &Pieces) -> Walked {
-        let walked = self.answer_walk(reader.afi, reader.mode, &reader.run[..reader.run.len().min(LONGEST)]);
+        let run = &reader.run[..reader.run.len().min(LONGEST)];
+        let walked = self.in_pieces().answer_walk(reader.afi, reader.mode, run);
         let long = Walked { number: Number::Long.value(), ..Default::default() };
         match reader.long {
             true if self.has(Fault::LONG_KEEPS_SKIPPED) => Walked { skipped: walked.skipped, ..long },

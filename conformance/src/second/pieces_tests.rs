@@ -1,11 +1,11 @@
-//! The reader of pieces on document 02's words, W-203.
+//! The reader of pieces on document 02's words, W-203, W-206 and W-210.
 
 use super::{
     run::{OLD, SKIP},
     Second,
 };
 use crate::{
-    cases::{document::RD, pieces::EXAMPLES, skips},
+    cases::{discards_examples::RUNS, document::RD, pieces::EXAMPLES, skips},
     ffi::Walked,
     hexadecimal::octets,
 };
@@ -37,7 +37,8 @@ fn written_examples() {
     let of_old_mode = EXAMPLES.iter().map(|(shows, afi, text, given, [number, count, offset])| {
         (*shows, *afi, OLD, *text, *given, [*number, *count, *offset, 0])
     });
-    for (shows, afi, mode, text, given, [number, count, offset, skipped]) in of_old_mode.chain(skips::EXAMPLES) {
+    let examples = of_old_mode.chain(skips::EXAMPLES).chain(RUNS);
+    for (shows, afi, mode, text, given, [number, count, offset, skipped]) in examples {
         let pieces: Vec<Vec<u8>> = text.split('|').map(decoded).collect();
         let given: Vec<Vec<u8>> = given.iter().map(|text| decoded(text)).collect();
         assert_eq!(read(afi, mode, &pieces), (given, Walked { number, count, offset, skipped }), "{shows}");

@@ -1,9 +1,15 @@
-//! Stepping and walking through a run of NLRIs (document 01, "NLRI on the wire"; document 02, W-206).
+//! Stepping and walking through a run of NLRIs (document 01, "NLRI on the wire"; document 02, W-206 and W-210).
 
-use super::{fault::Fault, nlri::Reading, number::Number, rows::Family, Second};
+use super::{
+    fault::Fault,
+    nlri::Reading,
+    number::Number,
+    rows::{Family, SOURCE_ACTIVE},
+    Second,
+};
 use std::collections::VecDeque;
 
-/// What a walk does where an NLRI is refused with TYPE.
+/// What a walk does where an NLRI is refused with TYPE or GROUP.
 #[derive(Clone, Copy, Debug, PartialEq, Eq)]
 pub enum Mode {
     /// Its Length field says where the next one begins.
@@ -59,6 +65,12 @@ impl<'a> Walk<'a> {
         self.stretches.iter().filter(|stretch| stretch.reading.is_none()).count()
     }
 
+    /// Those skipped that are Source Active routes: they are discarded, and every other one is of an unknown type.
+    pub fn discarded(&self, run: &[u8]) -> usize {
+        let skipped = self.places().filter(|(_, stretch)| stretch.reading.is_none());
+        skipped.filter(|(offset, _)| run[*offset] == SOURCE_ACTIVE).count()
+    }
+
     /// The offset past the last stretch.
     pub fn offset(&self) -> usize {
         self.stretches.iter().map(|stretch| stretch.size).sum()
@@ -89,6 +101,9 @@ impl Second {
             [_, 0, ..] if self.has(Fault::ZERO_LENGTH_ENDS_RUN) => Ok(None),
             _ => match self.front(family, rest) {
                 Err(Number::Type) if self.has(Fault::STEP_SKIPS) => self.step(afi, run, cursor + skipped_size(rest)),
+                Err(Number::Group) if self.has(Fault::DISCARD_STEPPED) => {
+                    self.step(afi, run, cursor + skipped_size(rest))
+                }
                 reading => {
                     let reading = reading?;
                     let next = run.len() - reading.after.len();
@@ -128,29 +143,38 @@ impl Second {
                 let (size, after) = (rest.len() - reading.after.len(), reading.after);
                 self.walk_rest(family, mode, after).behind(size, Some(reading))
             }
-            Err(number) if mode == Mode::Skip && self.skips(number, rest) => self.skip(family, rest),
+            Err(number) if self.skips(mode, number, rest) => self.skip(family, mode, rest),
             Err(number) => Walk::ended(number),
         }
     }
 
     /// The walk of what is left where the NLRI at its front is skipped.
-    fn skip<'a>(&self, family: Family, rest: &'a [u8]) -> Walk<'a> {
+    fn skip<'a>(&self, family: Family, mode: Mode, rest: &'a [u8]) -> Walk<'a> {
+        let discarded = rest[0] == SOURCE_ACTIVE;
         let size = match skipped_size(rest) {
             _ if self.has(Fault::SKIP_HEADER_ONLY) => 2,
+            _ if discarded && self.has(Fault::DISCARD_HEADER_ONLY) => 2,
             size if self.has(Fault::SKIP_WITHOUT_HEADER) && size > 2 => size - 2,
             size => size.min(rest.len()),
         };
-        let ends = self.has(Fault::SKIP_ENDS_RUN) || self.has(Fault::SKIP_LENGTH_0_ENDS) && size == 2;
+        let ends = self.has(Fault::SKIP_ENDS_RUN)
+            || self.has(Fault::SKIP_LENGTH_0_ENDS) && size == 2
+            || self.has(Fault::DISCARD_ENDS_RUN) && discarded;
         let behind = match ends {
             true => Walk::ended(Number::Done),
-            false => self.walk_rest(family, Mode::Skip, &rest[size..]),
+            false => self.walk_rest(family, mode, &rest[size..]),
         };
         behind.behind(size, None)
     }
 
-    /// Whether an NLRI that is refused with this number is skipped: a whole one of a route type that is not known.
-    fn skips(&self, number: Number, rest: &[u8]) -> bool {
+    /// Whether an NLRI that is refused with this number is skipped: a whole one of a route type that is not known, or one that is
+    /// discarded; in the old mode none.
+    fn skips(&self, mode: Mode, number: Number, rest: &[u8]) -> bool {
+        if mode == Mode::Old {
+            return number == Number::Group && self.has(Fault::DISCARD_IN_OLD);
+        }
         match (number, rest) {
+            (Number::Group, _) => !self.has(Fault::DISCARD_STOPS),
             (Number::Type, [0, ..]) => !self.has(Fault::SKIP_NOT_TYPE_0),
             (Number::Type, _) => true,
             (Number::Short, [route_type, _, ..]) => {

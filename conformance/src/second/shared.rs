@@ -1,8 +1,9 @@
-//! The match for a shared tree (RFC 6625, section 3.2.2; document 02, W-201 and W-209): refusals, conditions and kinds of route
+//! The match for a shared tree (RFC 6625, section 3.2.2; document 02, W-201, W-209 and W-210): refusals, conditions and kinds of route
 //! as rows, each tried in turn.
 
 use super::{
     choice::{Choice, LEAST_OUTPUT},
+    discards::Asked,
     fault::Fault,
     group::Class,
     lists::List,
@@ -145,6 +146,9 @@ impl Second {
         let mut refusals = items.filter_map(|item| self.source_active(arguments, item).err());
         match self.has(Fault::KIND_AFTER_READING) {
             true => refusals.clone().find(|number| *number != Number::Kind).or(refusals.next()),
+            false if self.has(Fault::DISCARD_LISTED_LAST) => {
+                refusals.clone().find(|number| *number != Number::Group).or(refusals.next())
+            }
             false => refusals.next(),
         }
     }
@@ -160,7 +164,9 @@ impl Second {
             4 => 1,
             _ => 2,
         };
-        let reading = self.single(afi, nlri)?;
+        let prefixes = arguments.prefixes.as_ref().map_or(&[][..], |prefixes| prefixes);
+        let of_pe = originator == arguments.reception.router;
+        let reading = self.listed_route(afi, nlri, Asked { prefixes, group: arguments.reception.group, of_pe })?;
         match reading.route_type {
             SOURCE_ACTIVE => Ok(Some(reading)),
             _ if self.has(Fault::SOURCE_ACTIVE_ANY_KIND) => Ok(Some(reading)),

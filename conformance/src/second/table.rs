@@ -169,7 +169,10 @@ impl Second {
 
     /// NLRI reading with no octets after it, then KIND.
     pub(super) fn s_pmsi<'a>(&self, afi: u16, nlri: &'a [u8]) -> Result<Reading<'a>, Number> {
-        let reading = self.single(afi, nlri)?;
+        let reading = self.single(afi, nlri).map_err(|number| match number {
+            Number::Group if self.has(Fault::DISCARD_AFTER_KIND) => Number::Kind,
+            number => number,
+        })?;
         match reading.route_type {
             S_PMSI => Ok(reading),
             MLDP_S_PMSI if self.has(Fault::TABLE_TAKES_MLDP) => Ok(reading),
@@ -185,7 +188,8 @@ impl Second {
 
     /// What install refuses for its arguments and the family alone: NLRI reading, KIND, attribute reading, LABEL.
     pub(super) fn accepted(&self, afi: u16, nlri: &[u8], attribute: &[u8]) -> Result<(), Number> {
-        if self.has(Fault::ATTRIBUTE_BEFORE_NLRI) {
+        let discarded = || self.single(afi, nlri) == Err(Number::Group);
+        if self.has(Fault::ATTRIBUTE_BEFORE_NLRI) || self.has(Fault::DISCARD_AFTER_ATTRIBUTE) && discarded() {
             self.attribute(attribute)?;
         }
         let reading = match self.has(Fault::KIND_AFTER_ATTRIBUTE) {

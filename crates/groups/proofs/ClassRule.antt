@@ -1,5 +1,5 @@
 -- The class of a group with prefixes (specs/ClassRule.antt).
-use Prim.Native.Nat.{ℕ, _≤_}
+use Prim.Native.Nat.{ℕ}
 use mathlib.Core.Path.{_≡_, refl, sym, _∙_, ap, subst}
 use mathlib.Core.Bool.{true}
 use mathlib.Core.List.{List, [], _∷_}
@@ -7,7 +7,7 @@ use mathlib.Core.Logic.{_↔_, _⊎_, inl, inr, ⊎-elim}
 use native.Mathlib.Omega.{arith}
 use borrow.Author.Tests.{eqb-true, eqb-false, eq-eqb, ne-eqb}
 use lib.Dec.{eqb}
-use lib.ListN.{length, getD}
+use lib.ListN.{length}
 use Rattle.octets.specs.Numbers.{FLOW}
 use Rattle.octets.specs.Choice.{pick}
 use Rattle.octets.specs.Outcome.{Outcome, given, refused, onOutcome}
@@ -21,10 +21,9 @@ use Rattle.octets.proofs.Lists.{empty-list}
 use Rattle.lists.specs.LentLists.{Item, itemField, readList, someItem}
 use Rattle.lists.proofs.Items.{some-item-exactly}
 use Rattle.nlri.specs.Family.{familyBits}
-use Rattle.nlri.specs.Groups.{ASM, SSM, classUnder, classOf, groupOf}
-use Rattle.nlri.specs.Statements.{Multicast, SourceSpecific}
+use Rattle.nlri.specs.Groups.{ASM, SSM, Multicast, SourceSpecific, classUnder, classOf, groupOf}
 use Rattle.nlri.specs.Statements as Standard
-use Rattle.nlri.proofs.Statements.Classes.{groupRule as standardRule}
+use Rattle.nlri.proofs.Statements.Classes.{specific-multicast, groupRule as standardRule}
 use Rattle.nlri.proofs.Definitions.Lengths.{family-good, good-family}
 use Rattle.nlri.proofs.Definitions.Families.{family-refused}
 use Rattle.groups.specs.Prefixes.{holdsGroup, itemHolds, readPrefixes}
@@ -59,10 +58,6 @@ standard-refused bits n g e =
     (λ sized. ⊎-elim (λ multi. ⊎-elim (λ s. absurd (never refl (s .1))) (λ a. absurd (never refl (a .1))) (picked _ _ _ _ (multi .1))) (λ other. sym (refused-same {A = ℕ} (other .1))) (picked _ _ _ _ (sized .1)))
     (λ other. sym (refused-same {A = ℕ} (other .1)))
     (picked _ _ _ _ e)
-
-specific-multicast : {afi : ℕ} {g : List ℕ} → SourceSpecific afi g → Multicast afi g
-specific-multicast (SourceSpecific.ipv4 {g} l h) = let low : 224 ≤ getD g 0 0 = omega arith in let high : getD g 0 0 ≤ 239 = omega arith in Multicast.ipv4 l low high
-specific-multicast (SourceSpecific.ipv6 l h h₁ h₂ h₃) = Multicast.ipv6 l h
 
 pub multicast-family : {afi : ℕ} {g : List ℕ} → Multicast afi g → (afi ≡ 1) ⊎ (afi ≡ 2)
 multicast-family (Multicast.ipv4 l low high) = inl refl

@@ -10,8 +10,7 @@ use Rattle.octets.specs.Outcome.{given, refused}
 use Rattle.octets.specs.Answering.{Answering}
 use Rattle.octets.specs.Lists.{Among}
 use Rattle.lists.specs.LentLists.{Item, listCount, readList}
-use Rattle.nlri.specs.Groups.{groupOf}
-use Rattle.nlri.specs.Statements.{Multicast, SourceSpecific}
+use Rattle.nlri.specs.Groups.{Multicast, SourceSpecific, groupOf}
 use Rattle.groups.specs.Prefixes.{bitAt}
 use Rattle.groups.specs.Classes.{classBy}
 

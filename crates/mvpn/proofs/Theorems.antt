@@ -59,7 +59,7 @@ module _ (afi : ℕ) (run : List ℕ) (cursor : ℕ) where
     never-done n why e = stepRule .done afi run cursor (subst (StepRefusal afi run cursor) e why)
 
     told-read : (f : Fields) → EncodedAt afi run cursor f → StepTold afi run cursor answer
-    told-read f n = subst (StepTold afi run cursor) (sym (answer-read f n)) (anNlri f n (λ e. omega (arith, known-least (f .type) (n .wellFormed .typed))))
+    told-read f n = subst (StepTold afi run cursor) (sym (answer-read f n)) (anNlri f n (λ e. omega (arith, known-least (f .type) (n .wellFormed .encodable .typed))))
 
     told-end : EndAt afi run cursor → StepTold afi run cursor answer
     unfolding noLayout

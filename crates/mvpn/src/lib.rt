@@ -119,9 +119,9 @@ impl AttributeAnswer {
 // The version of the library, as the file VERSION has it: major, minor and patch, each an octet of the number.
 #[no_mangle]
 pub extern "C" fn mvpn_version() -> u32
-    ensures { λ r. ⌜ r ≡ 0 * 65536 + 14 * 256 + 0 ⌝ }
+    ensures { λ r. ⌜ r ≡ 0 * 65536 + 15 * 256 + 0 ⌝ }
 {
-    0 * 65536 + 14 * 256 + 0
+    0 * 65536 + 15 * 256 + 0
 }
 
 // Reads a single NLRI.
@@ -165,7 +165,7 @@ pub extern "C" fn mvpn_step(afi: u16, run: &[u8], cursor: usize) -> StepAnswer
     }
 }
 
-// Walks a run to its end or its first refusal; in mode 0 unknown route types are skipped.
+// Walks a run to its end or its first refusal; in mode 0 unknown route types and Source Active routes that are discarded are skipped.
 #[no_mangle]
 pub extern "C" fn mvpn_walk(afi: u16, mode: u32, run: &[u8]) -> Walked
     ensures { λ r. ⌜ r ≡ walkBy afi mode (now (run .entry)) ⌝ }

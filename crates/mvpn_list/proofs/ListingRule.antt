@@ -16,13 +16,16 @@ use Rattle.octets.proofs.Choice.{tested, both-true, both-held, pick-true, pick-
 use Rattle.octets.proofs.Orders.{same-equal, same-of-equal}
 use Rattle.nlri.specs.Family.{familyBits, allowed, isOriginatorSize}
 use Rattle.nlri.specs.Bodies.{bodies, onBody, fieldIn, sameKind, codeOf}
-use Rattle.nlri.specs.Reading.{fixedField, addressEnd, addressField, originatorField, fieldSize, sizesOf, laidWith, laidAt}
+use Rattle.nlri.specs.Groups.{sourceSpecific, isSsm}
+use Rattle.nlri.specs.Fields.{isDiscarded}
+use Rattle.nlri.specs.Reading.{fixedField, addressEnd, addressField, originatorField, fieldSize, sizesOf, laidWith, laidAt, cut, fieldsOf, accepted, acceptedAt}
 use Rattle.nlri.specs.Layouts.{layoutOf, layoutAt}
+use Rattle.nlri.specs.DiscardExamples.{sourceActive4}
 use Rattle.runs.specs.Walking.{readTo, endedAt, refusedAt, stepUnder, stepFrom}
 use Rattle.runs.specs.Statements.{encodeRun}
 use Rattle.runs.specs.Modes.{SKIP, OLD, isSkipped, turnFrom, onTurn, walkByFrom, walkBy, nlrisByFrom, nlrisBy}
 use Rattle.runs.proofs.Steps.{stops-refusedAt, step-long}
-use Rattle.runs.proofs.Turns.{not-skipped, turn-stops}
+use Rattle.runs.proofs.Turns.{never-skipped, turn-stops}
 use Rattle.mvpn_list.specs.Listing.{lastDigit, digitsWithin, decimalOf, fieldOf, headerLine, lineOf, nlriLines, openingOf, lastFields, lastLine, linesOf, listingOf, modeOf}
 use Rattle.mvpn_list.specs.ListingRule.{Decimal, RunLines, fieldsFrom, ListingRule}
 use Rattle.mvpn_list.proofs.DecimalRule.{decimal-decimalOf, decimal-only}
@@ -45,7 +48,7 @@ linesOf-long : (mode : ℕ) (run : List ℕ) → 4096 < length run → linesOf m
 unfolding linesOf linesFrom nlrisBy walkBy
 linesOf-long mode run h =
     linesFrom-stopped (length run) mode run 0 0 0 LONG
-    (turn-stops 1 run 0 mode LONG (stops-refusedAt LONG 0 (step-long 1 run 0 32 familyBits-1 h)) (not-skipped mode LONG (λ _ t. omega arith)))
+    (turn-stops 1 run 0 mode LONG (stops-refusedAt LONG 0 (step-long 1 run 0 32 familyBits-1 h)) (never-skipped mode LONG (λ t. omega arith) (λ g. omega arith)))
 
 listingOf-long : (mode : ℕ) (run : List ℕ) → 4096 < length run → listingOf mode run ≡ headerLine ++ lastLine mode LONG 0 0
 unfolding listingOf
@@ -60,13 +63,20 @@ listingOf-take mode input =
 
 listingOf-marked : listingOf SKIP (3 ∷ 14 ∷ 0 ∷ 0 ∷ 0 ∷ 100 ∷ 0 ∷ 0 ∷ 0 ∷ 7 ∷ 0 ∷ 0 ∷ 10 ∷ 0 ∷ 0 ∷ 1 ∷ 9 ∷ 0 ∷ [])
     ≡ 77 ∷ 86 ∷ 84 ∷ 32 ∷ 108 ∷ 105 ∷ 115 ∷ 116 ∷ 32 ∷ 49 ∷ 10 ∷ 48 ∷ 32 ∷ 51 ∷ 32 ∷ 49 ∷ 52 ∷ 10 ∷ 101 ∷ 110 ∷ 100 ∷ 32 ∷ 49 ∷ 56 ∷ 32 ∷ 48 ∷ 32 ∷ 49 ∷ 10 ∷ []
-unfolding listingOf headerLine linesOf nlriLines nlrisBy nlrisByFrom walkBy walkByFrom turnFrom onTurn isSkipped lineOf lastLine lastFields openingOf fieldOf decimalOf digitsWithin lastDigit stepFrom stepUnder readTo endedAt refusedAt familyBits layoutAt laidAt laidWith bodies onBody sizesOf fieldSize fixedField addressField addressEnd originatorField isOriginatorSize allowed layoutOf fieldIn sameKind codeOf part pick both either onOutcome andThen
+unfolding listingOf headerLine linesOf nlriLines nlrisBy nlrisByFrom walkBy walkByFrom turnFrom onTurn isSkipped lineOf lastLine lastFields openingOf fieldOf decimalOf digitsWithin lastDigit stepFrom stepUnder readTo endedAt refusedAt familyBits layoutAt acceptedAt accepted isDiscarded fieldsOf laidAt laidWith bodies onBody sizesOf fieldSize fixedField addressField addressEnd originatorField isOriginatorSize allowed layoutOf fieldIn sameKind codeOf part pick both either onOutcome andThen
 listingOf-marked = refl
 
 listingOf-markedOld : listingOf OLD (3 ∷ 14 ∷ 0 ∷ 0 ∷ 0 ∷ 100 ∷ 0 ∷ 0 ∷ 0 ∷ 7 ∷ 0 ∷ 0 ∷ 10 ∷ 0 ∷ 0 ∷ 1 ∷ 9 ∷ 0 ∷ [])
     ≡ 77 ∷ 86 ∷ 84 ∷ 32 ∷ 108 ∷ 105 ∷ 115 ∷ 116 ∷ 32 ∷ 49 ∷ 10 ∷ 48 ∷ 32 ∷ 51 ∷ 32 ∷ 49 ∷ 52 ∷ 10 ∷ 115 ∷ 116 ∷ 111 ∷ 112 ∷ 32 ∷ 49 ∷ 54 ∷ 32 ∷ 50 ∷ 10 ∷ []
-unfolding listingOf headerLine linesOf nlriLines nlrisBy nlrisByFrom walkBy walkByFrom turnFrom onTurn isSkipped lineOf lastLine lastFields openingOf fieldOf decimalOf digitsWithin lastDigit stepFrom stepUnder readTo endedAt refusedAt familyBits layoutAt laidAt laidWith bodies onBody sizesOf fieldSize fixedField addressField addressEnd originatorField isOriginatorSize allowed layoutOf fieldIn sameKind codeOf part pick both either onOutcome andThen
+unfolding listingOf headerLine linesOf nlriLines nlrisBy nlrisByFrom walkBy walkByFrom turnFrom onTurn isSkipped lineOf lastLine lastFields openingOf fieldOf decimalOf digitsWithin lastDigit stepFrom stepUnder readTo endedAt refusedAt familyBits layoutAt acceptedAt accepted isDiscarded fieldsOf laidAt laidWith bodies onBody sizesOf fieldSize fixedField addressField addressEnd originatorField isOriginatorSize allowed layoutOf fieldIn sameKind codeOf part pick both either onOutcome andThen
 listingOf-markedOld = refl
+
+listingOf-discarded : (listingOf SKIP (sourceActive4 232 0 0 0 ++ sourceActive4 233 0 0 0)
+    ≡ 77 ∷ 86 ∷ 84 ∷ 32 ∷ 108 ∷ 105 ∷ 115 ∷ 116 ∷ 32 ∷ 49 ∷ 10 ∷ 50 ∷ 48 ∷ 32 ∷ 53 ∷ 32 ∷ 49 ∷ 56 ∷ 10 ∷ 101 ∷ 110 ∷ 100 ∷ 32 ∷ 52 ∷ 48 ∷ 32 ∷ 48 ∷ 32 ∷ 49 ∷ 10 ∷ [])
+    × (listingOf OLD (sourceActive4 232 0 0 0 ++ sourceActive4 233 0 0 0)
+    ≡ 77 ∷ 86 ∷ 84 ∷ 32 ∷ 108 ∷ 105 ∷ 115 ∷ 116 ∷ 32 ∷ 49 ∷ 10 ∷ 115 ∷ 116 ∷ 111 ∷ 112 ∷ 32 ∷ 48 ∷ 32 ∷ 49 ∷ 57 ∷ 10 ∷ [])
+unfolding listingOf headerLine linesOf nlriLines nlrisBy nlrisByFrom walkBy walkByFrom turnFrom onTurn isSkipped lineOf lastLine lastFields openingOf fieldOf decimalOf digitsWithin lastDigit stepFrom stepUnder readTo endedAt refusedAt familyBits layoutAt acceptedAt accepted isDiscarded isSsm sourceSpecific fieldsOf cut laidAt laidWith bodies onBody sizesOf fieldSize fixedField addressField addressEnd originatorField isOriginatorSize allowed layoutOf fieldIn sameKind codeOf part pick both either onOutcome andThen
+listingOf-discarded = (refl, refl)
 
 modeOf-asked : (count : ℕ) (argument : List ℕ) → (modeOf count argument ≡ OLD) ↔ ((count ≡ 2) × (argument ≡ 111 ∷ 108 ∷ 100 ∷ []))
 unfolding modeOf
@@ -93,6 +103,8 @@ listingRule =
       seen = listingOf-take;
       marked = listingOf-marked;
       markedOld = listingOf-markedOld;
+      discarded = listingOf-discarded .0;
+      discardedOld = listingOf-discarded .1;
       asked = modeOf-asked;
       other = modeOf-other;
     }

@@ -1,4 +1,4 @@
--- What the listing program prints for every run of AFI 1 (document 01, "Marked examples", the listing; document 02, W-206), as ASCII octets.
+-- What the listing program prints for every run of AFI 1 (document 01, "Marked examples", the listing; document 02, W-206, W-210), as ASCII octets.
 use Prim.Native.Nat.{ℕ, zero, suc, _+_, _/_, _%_}
 use mathlib.Core.List.{List, [], _∷_, _++_}
 use lib.ListN.{getD}

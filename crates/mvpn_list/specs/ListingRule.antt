@@ -1,4 +1,4 @@
--- What the listing of every run is (document 01, "Marked examples", the listing; document 02, W-206), said of its text: of a number by plain facts of
+-- What the listing of every run is (document 01, "Marked examples", the listing; document 02, W-206, W-210), said of its text: of a number by plain facts of
 -- its digits, and of the lines by the encodings of the run's NLRIs. Proved in proofs/ListingRule.antt.
 use Prim.Native.Nat.{ℕ, _+_, _*_, _-_, _≤_, _<_}
 use mathlib.Core.Path.{_≡_}
@@ -8,6 +8,7 @@ use lib.ListN.{length, getD, take}
 use Rattle.octets.specs.Numbers.{DONE}
 use Rattle.octets.specs.Octets.{AllOctets}
 use Rattle.nlri.specs.Fields.{Fields, encodeNlri}
+use Rattle.nlri.specs.DiscardExamples.{sourceActive4}
 use Rattle.runs.specs.Statements.{encodeRun, RunOf}
 use Rattle.runs.specs.Modes.{SKIP, OLD}
 use Rattle.runs.specs.ModeRule.{EncodedNlri, Split}
@@ -57,8 +58,8 @@ pub record ListingRule : Type 0 where
   pub decimal : (n : ℕ) (digits : List ℕ) → (decimalOf n ≡ digits) ↔ Decimal n digits
   -- `MVT list 1`, and then the lines of the run
   pub header : (mode : ℕ) (run : List ℕ) → listingOf mode run ≡ 77 ∷ 86 ∷ 84 ∷ 32 ∷ 108 ∷ 105 ∷ 115 ∷ 116 ∷ 32 ∷ 49 ∷ 10 ∷ linesOf mode run
-  -- within 4,096 octets exactly the lines of the run's NLRIs and of its end: offset, number, and how many unknown types were skipped; that every run is
-  -- such NLRIs, unknown types and an end is `modeRule`'s
+  -- within 4,096 octets exactly the lines of the run's NLRIs and of its end: offset, number, and how many others were skipped, unknown types and routes that
+  -- are discarded (W-210); that every run is such NLRIs, such others and an end is `modeRule`'s
   pub skips : (run : List ℕ) (s : Split 32 0 run) (text : List ℕ) → AllOctets run → length run ≤ 4096
       → (linesOf SKIP run ≡ text) ↔ RunLines (s .number) (s .offset ∷ s .number ∷ s .skipped ∷ []) (s .nlris) text
   -- in the old mode those of the NLRIs before the first refusal; the last line has offset and number alone. That every run is such NLRIs and an end is `walkRule`'s
@@ -74,6 +75,11 @@ pub record ListingRule : Type 0 where
       ≡ 77 ∷ 86 ∷ 84 ∷ 32 ∷ 108 ∷ 105 ∷ 115 ∷ 116 ∷ 32 ∷ 49 ∷ 10 ∷ 48 ∷ 32 ∷ 51 ∷ 32 ∷ 49 ∷ 52 ∷ 10 ∷ 101 ∷ 110 ∷ 100 ∷ 32 ∷ 49 ∷ 56 ∷ 32 ∷ 48 ∷ 32 ∷ 49 ∷ 10 ∷ []
   pub markedOld : listingOf OLD (3 ∷ 14 ∷ 0 ∷ 0 ∷ 0 ∷ 100 ∷ 0 ∷ 0 ∷ 0 ∷ 7 ∷ 0 ∷ 0 ∷ 10 ∷ 0 ∷ 0 ∷ 1 ∷ 9 ∷ 0 ∷ [])
       ≡ 77 ∷ 86 ∷ 84 ∷ 32 ∷ 108 ∷ 105 ∷ 115 ∷ 116 ∷ 32 ∷ 49 ∷ 10 ∷ 48 ∷ 32 ∷ 51 ∷ 32 ∷ 49 ∷ 52 ∷ 10 ∷ 115 ∷ 116 ∷ 111 ∷ 112 ∷ 32 ∷ 49 ∷ 54 ∷ 32 ∷ 50 ∷ 10 ∷ []
+  -- Source Active routes for 232.0.0.0 and 233.0.0.0 (W-210): `MVT list 1`, `20 5 18`, `end 40 0 1`; in the old mode `stop 0 19`
+  pub discarded : listingOf SKIP (sourceActive4 232 0 0 0 ++ sourceActive4 233 0 0 0)
+      ≡ 77 ∷ 86 ∷ 84 ∷ 32 ∷ 108 ∷ 105 ∷ 115 ∷ 116 ∷ 32 ∷ 49 ∷ 10 ∷ 50 ∷ 48 ∷ 32 ∷ 53 ∷ 32 ∷ 49 ∷ 56 ∷ 10 ∷ 101 ∷ 110 ∷ 100 ∷ 32 ∷ 52 ∷ 48 ∷ 32 ∷ 48 ∷ 32 ∷ 49 ∷ 10 ∷ []
+  pub discardedOld : listingOf OLD (sourceActive4 232 0 0 0 ++ sourceActive4 233 0 0 0)
+      ≡ 77 ∷ 86 ∷ 84 ∷ 32 ∷ 108 ∷ 105 ∷ 115 ∷ 116 ∷ 32 ∷ 49 ∷ 10 ∷ 115 ∷ 116 ∷ 111 ∷ 112 ∷ 32 ∷ 48 ∷ 32 ∷ 49 ∷ 57 ∷ 10 ∷ []
   -- the old mode exactly where `old` is the only argument after the name, else the mode that skips
   pub asked : (count : ℕ) (argument : List ℕ) → (modeOf count argument ≡ OLD) ↔ ((count ≡ 2) × (argument ≡ 111 ∷ 108 ∷ 100 ∷ []))
   pub other : (count : ℕ) (argument : List ℕ) → (modeOf count argument ≡ OLD) ⊎ (modeOf count argument ≡ SKIP)

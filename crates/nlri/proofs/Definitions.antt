@@ -10,5 +10,6 @@ pub mod Judged
 pub mod Starts
 pub mod Whole
 pub mod Keys
+pub mod Discards
 pub mod Writes
 pub mod Groups

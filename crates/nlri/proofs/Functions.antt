@@ -7,6 +7,7 @@ pub mod KeyTests
 pub mod Shapes
 pub mod Copies
 pub mod Singles
+pub mod Discards
 pub mod SPmsis
 pub mod Puts
 pub mod Verdicts

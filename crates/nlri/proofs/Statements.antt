@@ -8,3 +8,5 @@ pub mod WriteRefusals
 pub mod Layouts
 pub mod Classes
 pub mod AnswerRules
+pub mod Discards
+pub mod DiscardExamples

@@ -1,4 +1,4 @@
--- What is proved of the definitions as a whole; specs/Statements.antt and specs/AnswerRules.antt say what each states.
+-- What is proved of the definitions as a whole; specs/Statements.antt, specs/DiscardRule.antt, specs/DiscardExamples.antt and specs/AnswerRules.antt say what each states.
 pub use Rattle.nlri.proofs.Definitions.Lengths.{lengths}
 pub use Rattle.nlri.proofs.Statements.Bodies.{bodyRule}
 pub use Rattle.nlri.proofs.Statements.Acceptance.{acceptance}
@@ -8,3 +8,5 @@ pub use Rattle.nlri.proofs.Statements.WriteRefusals.{writeRefusals}
 pub use Rattle.nlri.proofs.Statements.Layouts.{layoutRule}
 pub use Rattle.nlri.proofs.Statements.Classes.{groupRule}
 pub use Rattle.nlri.proofs.Statements.AnswerRules.{nlriAnswers}
+pub use Rattle.nlri.proofs.Statements.Discards.{discardRule}
+pub use Rattle.nlri.proofs.Statements.DiscardExamples.{discardExamples}

@@ -1,5 +1,5 @@
 -- What a caller sees of the answers of reading and of writing, from the call's own arguments (document 01, "The numbers a call gives back";
--- W-207). Stated here, proved in proofs/Statements/AnswerRules.antt.
+-- W-207, W-210). Stated here, proved in proofs/Statements/AnswerRules.antt.
 use Prim.Native.Nat.{ℕ, _-_, _≤_, _<_}
 use mathlib.Core.Path.{_≡_}
 use mathlib.Core.List.{List, _++_}

@@ -1,13 +1,16 @@
--- An NLRI's fields, their encoding, and which are well-formed (document 01, "NLRI on the wire"; W-207). Nothing here reads or writes.
+-- An NLRI's fields, their encoding, and which are well-formed (document 01, "NLRI on the wire"; document 02, W-207, W-210). Nothing here reads or writes.
 use Prim.Native.Nat.{ℕ, _*_, _^_, _≤_, _<_}
 use mathlib.Core.Path.{_≡_}
-use mathlib.Core.Bool.{true}
+use mathlib.Core.Bool.{Bool, true}
 use mathlib.Core.List.{List, [], _∷_, _++_}
 use lib.ListN.{length}
-use Rattle.octets.specs.Choice.{pick}
+use lib.Dec.{eqb}
+use Rattle.octets.specs.Choice.{pick, both}
+use Rattle.octets.specs.Outcome.{given}
 use Rattle.octets.specs.Octets.{AllOctets, bigEndian}
 use Rattle.fec_elements.specs.Nested.{Element, headOf, encodeElement, WellFormedElement, KeptOctets}
-use Rattle.nlri.specs.Family.{rootFamily, allowed, isOriginatorSize}
+use Rattle.nlri.specs.Family.{familyBits, rootFamily, allowed, isOriginatorSize}
+use Rattle.nlri.specs.Groups.{isSsm, SourceSpecific}
 use Rattle.nlri.specs.Bodies.{FieldKind, distinguisher, sourceAs, source, group, originator, key, fec, KnownType, bodyOf, hasField}
 
 -- the fields of an NLRI as lists of octets; a wildcard is no octets, and so is a field that the type lacks
@@ -89,11 +92,27 @@ pub record KeyOf (bits type : ℕ) (octets : List ℕ) : Type 0 where
   pub fits : LengthFits fields
   pub encoded : octets ≡ encodeNlri fields
 
--- fields of an NLRI of a known type of which every field of its body is well-formed
-pub record WellFormed (bits : ℕ) (f : Fields) : Type 0 where
+-- fields of an NLRI of a known type of which every field of its body is well-formed: those whose encoding can be laid out
+pub record Encodable (bits : ℕ) (f : Fields) : Type 0 where
   pub typed : KnownType (f .type)
   pub body : WellFormedBody (KeyOf bits) bits f (bodyOf (f .type))
   pub fits : LengthFits f
+
+-- a Source Active route whose group is source-specific, by the standard range alone: it is discarded (RFC 6514, by document 02, W-210)
+pub record Discarded (bits : ℕ) (f : Fields) : Type 0 where
+  pub afi : ℕ
+  pub ofFamily : familyBits afi ≡ given bits
+  pub sourceActive : f .type ≡ 5
+  pub specific : SourceSpecific afi (f .group)
+
+-- the same of encodable fields, as a test
+unfoldable pub isDiscarded : (bits : ℕ) → Fields → Bool
+isDiscarded bits f = both (eqb (f .type) 5) (isSsm bits (f .group))
+
+-- fields of an NLRI that is accepted: encodable, and not discarded
+pub record WellFormed (bits : ℕ) (f : Fields) : Type 0 where
+  pub encodable : Encodable bits f
+  pub notDiscarded : Discarded bits f → ⊥
 
 -- f with the fields that its type lacks emptied
 unfoldable pub restricted : Fields → Fields

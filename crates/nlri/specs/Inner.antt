@@ -1,11 +1,11 @@
 -- Definitions that mirror the inner functions of reading, and those that lead from them to document 01's in `Reading`; laws tie them together.
 use Prim.Native.Nat.{ℕ, _+_, _-_, _/_, _≤_, _<_}
 use mathlib.Core.Path.{_≡_}
-use mathlib.Core.Bool.{Bool, true, false}
+use mathlib.Core.Bool.{Bool, true, false, not}
 use mathlib.Core.List.{List, [], _∷_}
 use lib.ListN.{length, getD, drop}
 use lib.Dec.{ltb, leb, eqb}
-use Rattle.octets.specs.Numbers.{DONE, SHORT, TYPE, LENGTH, KEY}
+use Rattle.octets.specs.Numbers.{DONE, SHORT, TYPE, LENGTH, KEY, GROUP}
 use Rattle.octets.specs.Choice.{pick, either, both}
 use Rattle.octets.specs.Outcome.{Outcome, given, refused, unless, andThen, numberOf}
 use Rattle.octets.specs.Octets.{part, numberIn}
@@ -17,7 +17,8 @@ use Rattle.nlri.specs.declared.read.Header.the-variants.{Typed, Unread}
 use Rattle.nlri.specs.Bodies.{FieldKind, source, group, originator, key, fec, bodies, onBody, bodyOf, hasField}
 use Rattle.nlri.specs.Fields.{Fields}
 use Rattle.nlri.specs.Reading.{fieldSize, sizesOf, keyField}
-use Rattle.nlri.specs.Layouts.{layoutAt}
+use Rattle.nlri.specs.Groups.{isSsm}
+use Rattle.nlri.specs.Layouts.{laidLayout}
 
 -- a route type and a Length, or the refusal's number
 abbrev pub headerOutcome : Header → Outcome (ℕ × ℕ)
@@ -41,6 +42,22 @@ leftFault bits type kinds at s =
 -- the number of a body
 unfoldable pub bodyFault : (bits type : ℕ) → List ℕ → ℕ
 bodyFault bits type s = onBody bodies type TYPE (λ body. leftFault bits type body 0 s)
+
+-- an address's size by its length octet
+unfoldable pub sizeAt : List ℕ → ℕ → ℕ
+sizeAt s at = getD s at 0 / 8
+
+-- the group of a body of type 5 that is laid out, behind the source's length octet and its own
+unfoldable pub bodyGroup : List ℕ → List ℕ
+bodyGroup s = part s (10 + sizeAt s 8) (sizeAt s (9 + sizeAt s 8))
+
+-- the number of a body of type 5: GROUP after every other
+unfoldable pub sourceActiveBodyFault : ℕ → List ℕ → ℕ
+sourceActiveBodyFault bits s = pick (eqb (bodyFault bits 5 s) DONE) (pick (isSsm bits (bodyGroup s)) GROUP DONE) (bodyFault bits 5 s)
+
+-- the number of a body of any type, with GROUP
+unfoldable pub acceptedFault : (bits type : ℕ) → List ℕ → ℕ
+acceptedFault bits type s = pick (eqb type 5) (sourceActiveBodyFault bits s) (bodyFault bits type s)
 
 -- what follows source and group: in type 3 the originator, else nothing
 unfoldable pub afterFlow : ℕ → List FieldKind
@@ -75,10 +92,6 @@ withSourceAs type = either (eqb type 2) (either (eqb type 6) (either (eqb type 7
 -- where the octets of a source begin in an NLRI, behind its length octet: in types 6 and 7 the source AS stands before that
 unfoldable pub sourceStart : ℕ → ℕ
 sourceStart type = pick (either (eqb type 6) (eqb type 7)) 15 11
-
--- an address's size by its length octet
-unfoldable pub sizeAt : List ℕ → ℕ → ℕ
-sizeAt s at = getD s at 0 / 8
 
 -- the layout of an accepted NLRI with source and group by its octets, where the source's length octet stands at `at`
 unfoldable pub flowLayout : (type at : ℕ) → List ℕ → Layout
@@ -117,6 +130,11 @@ layoutIn s =
 pub record FlowStands (at : ℕ) (s : List ℕ) : Type 0 where
   pub group : at + 1 + sizeAt s at < length s
   pub sizes : at + sizeAt s at + sizeAt s (at + 1 + sizeAt s at) ≤ getD s 1 0
+
+-- the group of a body of type 5 lies within it
+pub record GroupStands (s : List ℕ) : Type 0 where
+  pub group : 9 + sizeAt s 8 < length s
+  pub sizes : 10 + sizeAt s 8 + sizeAt s (9 + sizeAt s 8) ≤ length s
 
 -- a FEC lies within the body, and the body within the octets
 pub record FecStands (type : ℕ) (s : List ℕ) : Type 0 where
@@ -185,9 +203,21 @@ pub record LayoutWithin (l : Layout) (s : List ℕ) : Type 0 where
   pub keyKind : hasField key (bodyOf (l .«route_type»)) ≡ withKey (l .«route_type»)
   pub key : 2 + l .key ≤ length s
 
+-- by the octets of an NLRI that is laid out: it is discarded, being of type 5 with an SSM group behind the source's and its own length octet
+unfoldable pub isDiscardedAt : ℕ → List ℕ → Bool
+isDiscardedAt bits s = both (eqb (getD s 0 0) 5) (isSsm bits (part s (12 + sizeAt s 10) (sizeAt s (11 + sizeAt s 10))))
+
+-- octets stand behind the NLRI at the front, or too few stand there, where either answer will do
+unfoldable pub isFollowed : List ℕ → Bool
+isFollowed s = both (leb 2 (length s)) (not (eqb (length s - 2) (getD s 1 0)))
+
+-- by the number of the NLRI at the front: LENGTH for octets after it, before GROUP
+unfoldable pub followedFault : ℕ → ℕ
+followedFault number = pick (eqb number DONE) LENGTH (pick (eqb number GROUP) LENGTH number)
+
 -- a single NLRI's layout by the layout at its front: nothing stands behind it
 unfoldable pub single : ℕ → List ℕ → Outcome Layout
-single bits s = andThen (layoutAt bits s) (λ l. unless (eqb (length s - 2) (l .length)) LENGTH (given l))
+single bits s = andThen (laidLayout bits s) (λ l. unless (eqb (length s - 2) (l .length)) LENGTH (pick (isDiscardedAt bits s) (refused GROUP) (given l)))
 
 -- a single NLRI of type 3 by its octets: the header, then source, group and what remains
 unfoldable pub sPmsiUnder : ℕ → List ℕ → Bool

@@ -5,15 +5,15 @@ use mathlib.Core.Bool.{Bool, true}
 use mathlib.Core.List.{List, [], _∷_, _++_}
 use lib.ListN.{length}
 use lib.Dec.{ltb, eqb}
-use Rattle.octets.specs.Numbers.{TYPE, WIDTH, KEY, SPACE}
+use Rattle.octets.specs.Numbers.{TYPE, WIDTH, KEY, SPACE, GROUP}
 use Rattle.octets.specs.Choice.{pick, both, either}
 use Rattle.octets.specs.Outcome.{Outcome, given, refused, unless, andThen}
 use Rattle.octets.specs.Octets.{bigEndian}
 use Rattle.nlri.specs.declared.fields.Nlri.{Nlri}
 use Rattle.nlri.specs.Family.{allowed, isOriginatorSize}
-use Rattle.nlri.specs.Fields.{encodeAddress}
+use Rattle.nlri.specs.Fields.{encodeAddress, isDiscarded}
 use Rattle.nlri.specs.Writing.{isKey}
-use Rattle.nlri.specs.Answers.{addressOctets}
+use Rattle.nlri.specs.Answers.{addressOctets, structFields}
 use Rattle.nlri.specs.Inner.{withSourceAs}
 
 -- types 3, 5, 6 and 7 have a source and a group
@@ -104,9 +104,10 @@ pub record Putting (nlri : Nlri) (key : List ℕ) (size : ℕ) (output : List �
   pub short : size < 258
   pub room : size ≤ length output
 
--- the octets written under a family, of types 1 to 7: the fields' refusals, then SPACE
+-- the octets written under a family, of types 1 to 7: the fields' refusals, then GROUP, then SPACE
 unfoldable pub writtenToSeven : ℕ → Nlri → List ℕ → (space : ℕ) → Outcome (List ℕ)
 writtenToSeven bits nlri key space =
     andThen (fitting bits nlri key)
-    (λ fits. pick (ltb space (sizeOf fits (length key))) (refused SPACE)
-    (given (nlriOctets fits key)))
+    (λ fits. pick (isDiscarded bits (structFields fits [] [])) (refused GROUP)
+    (pick (ltb space (sizeOf fits (length key))) (refused SPACE)
+    (given (nlriOctets fits key))))

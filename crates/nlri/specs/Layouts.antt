@@ -7,7 +7,7 @@ use Rattle.nlri.specs.declared.layout.Reading.{Reading}
 use Rattle.nlri.specs.declared.layout.Reading.the-variants.{Nlri, Refused}
 use Rattle.nlri.specs.Family.{familyBits}
 use Rattle.nlri.specs.Bodies.{source, group, originator, key, fec, fieldIn}
-use Rattle.nlri.specs.Reading.{Laid, laidAt, laidSingle}
+use Rattle.nlri.specs.Reading.{Laid, laidAt, acceptedAt, acceptedSingle}
 
 -- an NLRI's layout, or the refusal's number
 unfoldable pub readingOf : Reading → Outcome Layout
@@ -27,13 +27,17 @@ layoutOf laid =
       fec = fieldIn 0 fec (laid .body) (laid .sizes);
     }
 
--- the layout of the NLRI at the front of s
+-- the layout of the NLRI accepted at the front of s
 unfoldable pub layoutAt : ℕ → List ℕ → Outcome Layout
-layoutAt bits s = andThen (laidAt bits s) (λ laid. given (layoutOf laid))
+layoutAt bits s = andThen (acceptedAt bits s) (λ laid. given (layoutOf laid))
+
+-- of the NLRI laid out there, whether or not it is discarded
+unfoldable pub laidLayout : ℕ → List ℕ → Outcome Layout
+laidLayout bits s = andThen (laidAt bits s) (λ laid. given (layoutOf laid))
 
 -- the layout of a single NLRI, with nothing after it
 unfoldable pub layoutSingle : ℕ → List ℕ → Outcome Layout
-layoutSingle afi s = andThen (familyBits afi) (λ bits. andThen (laidSingle bits s) (λ laid. given (layoutOf laid)))
+layoutSingle afi s = andThen (familyBits afi) (λ bits. andThen (acceptedSingle bits s) (λ laid. given (layoutOf laid)))
 
 -- no layout: every number 0
 unfoldable pub noLayout : Layout

@@ -11,4 +11,6 @@ pub mod Inner
 pub mod InnerWriting
 pub mod InnerMldp
 pub mod Statements
+pub mod DiscardRule
+pub mod DiscardExamples
 pub mod AnswerRules

@@ -1,10 +1,10 @@
--- Reading an NLRI (document 01, "NLRI on the wire" and the order of NLRI reading; W-207): first where its fields lie, then the fields.
+-- Reading an NLRI (document 01, "NLRI on the wire" and the order of NLRI reading; W-207, W-210): first where its fields lie, then whether it is accepted, then the fields.
 use Prim.Native.Nat.{ℕ, _+_, _-_, _/_}
 use mathlib.Core.Bool.{Bool, false}
 use mathlib.Core.List.{List, [], _∷_}
 use lib.ListN.{length, getD, take, drop}
 use lib.Dec.{ltb, leb, eqb}
-use Rattle.octets.specs.Numbers.{SHORT, TYPE, LENGTH, WIDTH, KEY, KIND}
+use Rattle.octets.specs.Numbers.{SHORT, TYPE, LENGTH, WIDTH, KEY, KIND, GROUP}
 use Rattle.octets.specs.Choice.{pick}
 use Rattle.octets.specs.Outcome.{Outcome, given, refused, onOutcome, unless, andThen}
 use Rattle.octets.specs.Octets.{part, numberIn}
@@ -12,7 +12,7 @@ use Rattle.fec_elements.specs.declared.Standing.the-variants.{InBody}
 use Rattle.fec_elements.specs.Reading.{readFec}
 use Rattle.nlri.specs.Family.{familyBits, rootFamily, allowed, isOriginatorSize}
 use Rattle.nlri.specs.Bodies.{FieldKind, distinguisher, sourceAs, source, group, originator, key, fec, keyable, bodies, onBody, fieldIn}
-use Rattle.nlri.specs.Fields.{Fields}
+use Rattle.nlri.specs.Fields.{Fields, isDiscarded}
 
 -- a field of n octets, n known
 unfoldable pub fixedField : ℕ → List ℕ → Outcome ℕ
@@ -98,13 +98,21 @@ fieldsOf laid s =
       fec = field fec;
     }
 
--- a single NLRI under a family: reading, then LENGTH for octets after it
-unfoldable pub laidSingle : ℕ → List ℕ → Outcome Laid
-laidSingle bits s = andThen (laidAt bits s) (λ laid. unless (eqb (length s - 2) (laid .size)) LENGTH (given laid))
+-- an NLRI laid out at the front of s is accepted, unless it is discarded: GROUP, after every other number (document 02, W-210)
+unfoldable pub accepted : (bits : ℕ) → List ℕ → Laid → Outcome Laid
+accepted bits s laid = pick (isDiscarded bits (fieldsOf laid s)) (refused GROUP) (given laid)
+
+-- the NLRI at the front of s, whatever stands after it
+unfoldable pub acceptedAt : ℕ → List ℕ → Outcome Laid
+acceptedAt bits s = andThen (laidAt bits s) (accepted bits s)
+
+-- a single NLRI under a family: laid out, then LENGTH for octets after it, then GROUP
+unfoldable pub acceptedSingle : ℕ → List ℕ → Outcome Laid
+acceptedSingle bits s = andThen (laidAt bits s) (λ laid. unless (eqb (length s - 2) (laid .size)) LENGTH (accepted bits s laid))
 
 -- the fields of a single NLRI; FAMILY first
 unfoldable pub readNlri : ℕ → List ℕ → Outcome Fields
-readNlri afi s = andThen (familyBits afi) (λ bits. andThen (laidSingle bits s) (λ laid. given (fieldsOf laid s)))
+readNlri afi s = andThen (familyBits afi) (λ bits. andThen (acceptedSingle bits s) (λ laid. given (fieldsOf laid s)))
 
 -- the fields of a single NLRI of one type: NLRI reading, then KIND for any other type
 abbrev pub readOfType : (type afi : ℕ) → List ℕ → Outcome Fields

@@ -6,18 +6,18 @@ use mathlib.Core.List.{List, [], _∷_, _++_}
 use mathlib.Core.Logic.{_↔_, _≢_, _⊎_}
 use lib.ListN.{length, getD, take}
 use Rattle.octets.specs.Lists.{Among}
-use Rattle.octets.specs.Numbers.{DONE, SHORT, TYPE, LENGTH, WIDTH, KEY, IDENT, LONG, FAMILY, FLOW, SPACE, DEEP}
+use Rattle.octets.specs.Numbers.{DONE, SHORT, TYPE, LENGTH, WIDTH, KEY, IDENT, LONG, FAMILY, FLOW, SPACE, DEEP, GROUP}
 use Rattle.octets.specs.Outcome.{given, refused}
 use Rattle.octets.specs.Octets.{AllOctets, part}
 use Rattle.fec_elements.specs.declared.Standing.the-variants.{InBody, Lent}
 use Rattle.fec_elements.specs.Statements.{NestedFault}
 use Rattle.nlri.specs.Family.{familyBits, familyOutcome, rootFamily, allowed, isOriginatorSize}
 use Rattle.nlri.specs.Bodies.{FieldKind, distinguisher, sourceAs, source, group, originator, key, fec, KnownType, bodyOf, hasField}
-use Rattle.nlri.specs.Fields.{Fields, encodeBody, encodeNlri, FecOf, WellFormed, KeyOf, restricted}
-use Rattle.nlri.specs.Reading.{laidAt, readNlri}
+use Rattle.nlri.specs.Fields.{Fields, encodeBody, encodeNlri, FecOf, Encodable, Discarded, WellFormed, KeyOf, restricted}
+use Rattle.nlri.specs.Reading.{acceptedAt, readNlri}
 use Rattle.nlri.specs.Layouts.{readingOf, layoutSingle, noLayout}
 use Rattle.nlri.specs.Writing.{writeNlri}
-use Rattle.nlri.specs.Groups.{classOf}
+use Rattle.nlri.specs.Groups.{Multicast, SourceSpecific, classOf}
 use Rattle.nlri.specs.declared.family.Family.{Family}
 use Rattle.nlri.specs.declared.fields.Nlri.{Nlri}
 use Rattle.nlri.specs.declared.layout.Layout.{Layout}
@@ -179,28 +179,34 @@ pub data Faulty (bits type : ℕ) : List FieldKind → List ℕ → ℕ → Type
 abbrev pub TooShort : List ℕ → Type 0
 TooShort s = (length s < 2) ⊎ (length s - 2 < getD s 1 0)
 
--- why reading the NLRI at the front of octets refuses: SHORT, TYPE, then the body
-pub data FrontRefusal (bits : ℕ) (s : List ℕ) : ℕ → Type 0 where
-  short : TooShort s → FrontRefusal bits s SHORT
-  badType : (TooShort s → ⊥) → (KnownType (getD s 0 0) → ⊥) → FrontRefusal bits s TYPE
-  badBody : {n : ℕ} → (TooShort s → ⊥) → KnownType (getD s 0 0) → Faulty bits (getD s 0 0) (bodyOf (getD s 0 0)) (part s 2 (getD s 1 0)) n → FrontRefusal bits s n
+-- why the NLRI at the front of octets is not laid out: SHORT, TYPE, then the body
+pub data LaidRefusal (bits : ℕ) (s : List ℕ) : ℕ → Type 0 where
+  short : TooShort s → LaidRefusal bits s SHORT
+  badType : (TooShort s → ⊥) → (KnownType (getD s 0 0) → ⊥) → LaidRefusal bits s TYPE
+  badBody : {n : ℕ} → (TooShort s → ⊥) → KnownType (getD s 0 0) → Faulty bits (getD s 0 0) (bodyOf (getD s 0 0)) (part s 2 (getD s 1 0)) n → LaidRefusal bits s n
 
--- why reading a single NLRI refuses: FAMILY, then its front, then octets after it
+-- why the NLRI at the front of octets is not accepted: it is not laid out, or it is discarded
+pub data FrontRefusal (bits : ℕ) (s : List ℕ) : ℕ → Type 0 where
+  unlaid : {n : ℕ} → LaidRefusal bits s n → FrontRefusal bits s n
+  discarded : (f : Fields) (t : List ℕ) → Encodable bits f → Discarded bits f → s ≡ encodeNlri f ++ t → FrontRefusal bits s GROUP
+
+-- why reading a single NLRI refuses: FAMILY, then its front, then octets after it, then GROUP
 pub data ReadRefusal (afi : ℕ) (s : List ℕ) : ℕ → Type 0 where
   badFamily : afi ≢ 1 → afi ≢ 2 → ReadRefusal afi s FAMILY
-  front : (bits : ℕ) {n : ℕ} → familyBits afi ≡ given bits → FrontRefusal bits s n → ReadRefusal afi s n
-  after : (bits : ℕ) (f : Fields) (t : List ℕ) → familyBits afi ≡ given bits → WellFormed bits f → s ≡ encodeNlri f ++ t → 0 < length t → ReadRefusal afi s LENGTH
+  front : (bits : ℕ) {n : ℕ} → familyBits afi ≡ given bits → LaidRefusal bits s n → ReadRefusal afi s n
+  after : (bits : ℕ) (f : Fields) (t : List ℕ) → familyBits afi ≡ given bits → Encodable bits f → s ≡ encodeNlri f ++ t → 0 < length t → ReadRefusal afi s LENGTH
+  discarded : (bits : ℕ) (f : Fields) → familyBits afi ≡ given bits → Encodable bits f → Discarded bits f → s ≡ encodeNlri f → ReadRefusal afi s GROUP
 
 -- the numbers of bodies
 abbrev pub BodyFault : ℕ → Type 0
 BodyFault n = (n ≡ LENGTH) ⊎ (n ≡ WIDTH) ⊎ (n ≡ KEY) ⊎ (n ≡ IDENT) ⊎ (n ≡ DEEP)
 
--- "The numbers a call gives back", at NLRI reading: every list of octets is accepted or refused by one number, each given exactly when document 01 and W-207 say
+-- "The numbers a call gives back", at NLRI reading: every list of octets is accepted or refused by one number, each given exactly when document 01, W-207 and W-210 say
 pub record ReadRefusals : Type 0 where
-  -- each number exactly when document 01 and W-207 say
+  -- each number exactly when document 01, W-207 and W-210 say
   pub exactly : (afi : ℕ) (s : List ℕ) (n : ℕ) → AllOctets s → (readNlri afi s ≡ refused n) ↔ ReadRefusal afi s n
   -- the NLRI at the front of octets, whatever stands after it
-  pub front : (afi bits : ℕ) (s : List ℕ) (n : ℕ) → familyBits afi ≡ given bits → AllOctets s → (laidAt bits s ≡ refused n) ↔ FrontRefusal bits s n
+  pub front : (afi bits : ℕ) (s : List ℕ) (n : ℕ) → familyBits afi ≡ given bits → AllOctets s → (acceptedAt bits s ≡ refused n) ↔ FrontRefusal bits s n
   -- octets are accepted or refused, by one number, and never both
   pub decided : (afi : ℕ) (s : List ℕ) → AllOctets s → ((f : Fields) × ReadAs afi s f) ⊎ ((n : ℕ) × ReadRefusal afi s n)
   pub one : (afi : ℕ) (s : List ℕ) (m n : ℕ) → AllOctets s → ReadRefusal afi s m → ReadRefusal afi s n → m ≡ n
@@ -254,7 +260,7 @@ FecFits bits f = hasField fec (bodyOf (f .type)) ≡ true → FecOf bits (f .fec
 abbrev pub TooLong : Fields → Type 0
 TooLong f = (7 < f .type) × (255 < length (encodeBody f (bodyOf (f .type))))
 
--- why writing refuses, in the order FAMILY, TYPE, WIDTH, IDENT and DEEP, LONG, KEY, SPACE; only fields of the type's body are judged
+-- why writing refuses, in the order FAMILY, TYPE, WIDTH, IDENT and DEEP, LONG, KEY, GROUP, SPACE; only fields of the type's body are judged
 pub data WriteRefusal (afi : ℕ) (f : Fields) (space : ℕ) : ℕ → Type 0 where
   badFamily : afi ≢ 1 → afi ≢ 2 → WriteRefusal afi f space FAMILY
   badType : (bits : ℕ) → familyBits afi ≡ given bits → (KnownType (f .type) → ⊥) → WriteRefusal afi f space TYPE
@@ -264,25 +270,16 @@ pub data WriteRefusal (afi : ℕ) (f : Fields) (space : ℕ) : ℕ → Type 0 wh
   long : (bits : ℕ) → familyBits afi ≡ given bits → KnownType (f .type) → WidthsFit bits f → FecFits bits f → TooLong f → WriteRefusal afi f space LONG
   badKey : (bits : ℕ) → familyBits afi ≡ given bits → KnownType (f .type) → WidthsFit bits f → FecFits bits f → (TooLong f → ⊥)
       → hasField key (bodyOf (f .type)) ≡ true → (KeyOf bits (f .type) (f .key) → ⊥) → WriteRefusal afi f space KEY
+  discarded : (bits : ℕ) → familyBits afi ≡ given bits → Encodable bits f → Discarded bits f → WriteRefusal afi f space GROUP
   noSpace : (bits : ℕ) → familyBits afi ≡ given bits → WellFormed bits f → space < length (encodeNlri f) → WriteRefusal afi f space SPACE
 
 -- "The numbers a call gives back", at NLRI writing: well-formed fields are written where there is space, and any others are refused by one number
 pub record WriteRefusals : Type 0 where
-  -- each number exactly when document 01 and W-207 say
+  -- each number exactly when document 01, W-207 and W-210 say
   pub exactly : (afi : ℕ) (f : Fields) (space n : ℕ) → HoldsOctets f → (writeNlri afi f space ≡ refused n) ↔ WriteRefusal afi f space n
   -- the octets given are the encoding, exactly when the fields are well-formed and it fits
   pub accepted : (afi : ℕ) (f : Fields) (space : ℕ) (e : List ℕ) → HoldsOctets f
       → (writeNlri afi f space ≡ given e) ↔ ((bits : ℕ) × (familyBits afi ≡ given bits) × WellFormed bits f × (length e ≤ space) × (e ≡ encodeNlri f))
-
--- "Which route a flow takes": 224.0.0.0/4, FF00::/8
-pub data Multicast : (afi : ℕ) → List ℕ → Type 0 where
-  ipv4 : {g : List ℕ} → length g ≡ 4 → 224 ≤ getD g 0 0 → getD g 0 0 ≤ 239 → Multicast 1 g
-  ipv6 : {g : List ℕ} → length g ≡ 16 → getD g 0 0 ≡ 255 → Multicast 2 g
-
--- 232.0.0.0/8, FF3x::/32
-pub data SourceSpecific : (afi : ℕ) → List ℕ → Type 0 where
-  ipv4 : {g : List ℕ} → length g ≡ 4 → getD g 0 0 ≡ 232 → SourceSpecific 1 g
-  ipv6 : {g : List ℕ} → length g ≡ 16 → getD g 0 0 ≡ 255 → getD g 1 0 / 16 ≡ 3 → getD g 2 0 ≡ 0 → getD g 3 0 ≡ 0 → SourceSpecific 2 g
 
 -- why a group has no class: FAMILY, then FLOW
 pub data GroupRefusal (afi : ℕ) (g : List ℕ) : ℕ → Type 0 where

@@ -1,18 +1,18 @@
--- Writing an NLRI (document 01, the order of NLRI writing; W-207): FAMILY, TYPE, WIDTH, IDENT and DEEP, LONG, KEY, SPACE. Only fields of the type's body are
--- looked at.
+-- Writing an NLRI (document 01, the order of NLRI writing; document 02, W-207, W-210): FAMILY, TYPE, WIDTH, IDENT and DEEP, LONG, KEY, GROUP, SPACE. GROUP is
+-- of type 5, which has no number between it and WIDTH. Only fields of the type's body are looked at.
 use Prim.Native.Nat.{ℕ, _*_}
 use mathlib.Core.Bool.{Bool, true, false}
 use mathlib.Core.List.{List, [], _∷_}
 use lib.ListN.{length}
 use lib.Dec.{ltb, eqb}
-use Rattle.octets.specs.Numbers.{DONE, TYPE, WIDTH, KEY, LONG, SPACE}
+use Rattle.octets.specs.Numbers.{DONE, TYPE, WIDTH, KEY, LONG, SPACE, GROUP}
 use Rattle.octets.specs.Choice.{pick, both}
 use Rattle.octets.specs.Outcome.{Outcome, given, refused, onOutcome, unless, andThen, numberOf}
 use Rattle.fec_elements.specs.declared.Standing.the-variants.{Lent}
 use Rattle.fec_elements.specs.Reading.{readFec}
 use Rattle.nlri.specs.Family.{familyBits, rootFamily, allowed, isOriginatorSize}
 use Rattle.nlri.specs.Bodies.{FieldKind, distinguisher, sourceAs, source, group, originator, key, fec, bodies, onBody, hasField}
-use Rattle.nlri.specs.Fields.{Fields, encodeBody, encodeNlri}
+use Rattle.nlri.specs.Fields.{Fields, encodeBody, encodeNlri, isDiscarded}
 use Rattle.nlri.specs.Reading.{keyField}
 
 -- an address of a length that the type and family allow; an originator of 4 or 16 octets
@@ -66,5 +66,6 @@ writeNlri afi f space =
     (unless (eqb (fecNumber bits f body) DONE) (fecNumber bits f body)
     (pick (isLong f body) (refused LONG)
     (unless (keysFit bits f body) KEY
+    (pick (isDiscarded bits f) (refused GROUP)
     (pick (ltb space (length (encodeNlri f))) (refused SPACE)
-    (given (encodeNlri f))))))))
+    (given (encodeNlri f)))))))))

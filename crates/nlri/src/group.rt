@@ -3,7 +3,7 @@ ghost use mathlib.Core.Path.{_≡_};
 ghost use Prim.Native.Nat.{_≤_};
 ghost use lib.ListN.{length};
 ghost use Rattle.octets.specs.Outcome.{given, refused};
-ghost use Rattle.nlri.specs.Groups.{multicast, sourceSpecific, classUnder, classOf, groupOf};
+ghost use Rattle.nlri.specs.Groups.{multicast, sourceSpecific, isSsm, classUnder, classOf, groupOf};
 use crate::address::AddressKind;
 use crate::family;
 use crate::family::Family;
@@ -75,6 +75,16 @@ fn is_source_specific(kind: AddressKind, group: &[u8]) -> bool
         return false;
     }
     group[3] == 0
+}
+
+// Whether octets of any number are a group of that range.
+pub(crate) fn is_ssm(kind: AddressKind, group: &[u8]) -> bool
+    ensures { λ r. ⌜ r ≡ isSsm (kind .bits) (now (group .entry)) ⌝ }
+{
+    if group.len() < 4 {
+        return false;
+    }
+    is_source_specific(kind, group)
 }
 
 // The class of a group under the family of a kind of addresses. FLOW.

@@ -5,19 +5,21 @@ ghost use lib.ListN.{length, getD};
 ghost use Rattle.octets.specs.Outcome.{numberOf};
 ghost use Rattle.nlri.specs.Reading.{isSPmsi, readOfType, keyField};
 ghost use Rattle.nlri.specs.Layouts.{readingOf, layoutAt, layoutSingle};
-ghost use Rattle.nlri.specs.Inner.{headerOutcome, keyOutcome, headerAt, bodyFault, layoutWith, flowLayout, leafLayout, layoutIn, FlowStands, KeyStands, Stands, single, sPmsiUnder};
+ghost use Rattle.nlri.specs.Inner.{headerOutcome, keyOutcome, headerAt, bodyFault, bodyGroup, sourceActiveBodyFault, acceptedFault, layoutWith, flowLayout, leafLayout, layoutIn, FlowStands, GroupStands, KeyStands, Stands, isFollowed, followedFault, single, sPmsiUnder};
 use crate::address::AddressKind;
 use crate::address::RouteDistinguisher;
 use crate::body;
 use crate::family;
 use crate::family::Family;
 use crate::fields;
+use crate::group;
 use crate::layout::Layout;
 use crate::layout::Reading;
 use crate::mldp;
 use crate::route::RouteType;
 use octets::number::DONE;
 use octets::number::FAMILY;
+use octets::number::GROUP;
 use octets::number::KEY;
 use octets::number::KIND;
 use octets::number::LENGTH;
@@ -79,9 +81,32 @@ fn leaf_body_fault(kind: AddressKind, s: &[u8]) -> u32
     body::originator_fault(HEADER + length, s.len())
 }
 
+// The group of a body of type 5 that is laid out.
+fn group_in(s: &[u8]) -> &[u8]
+    requires { ⌜ GroupStands (now s) ⌝ }
+    ensures { λ r. ⌜ now r ≡ bodyGroup (now (s .entry)) ⌝ }
+{
+    let at = 9 + s[8] as usize / 8;
+    octets::parts::between(s, at + 1, s[at] as usize / 8)
+}
+
+// A body of type 5: an SSM group is GROUP, after every other number of the body (W-210).
+fn source_active_body_fault(kind: AddressKind, s: &[u8]) -> u32
+    ensures { λ r. ⌜ r ≡ sourceActiveBodyFault (kind .bits) (now (s .entry)) ⌝ }
+{
+    let fault = body::flow_body_fault(kind, RouteType::SOURCE_ACTIVE, s);
+    if fault != DONE {
+        return fault;
+    }
+    if group::is_ssm(kind, group_in(s)) {
+        return GROUP;
+    }
+    DONE
+}
+
 // A body of any route type.
 fn body_fault(kind: AddressKind, route_type: usize, s: &[u8]) -> u32
-    ensures { λ r. ⌜ r ≡ bodyFault (kind .bits) «route_type» (now (s .entry)) ⌝ }
+    ensures { λ r. ⌜ r ≡ acceptedFault (kind .bits) «route_type» (now (s .entry)) ⌝ }
 {
     if route_type == RouteType::LEAF {
         return leaf_body_fault(kind, s);
@@ -95,8 +120,11 @@ fn body_fault(kind: AddressKind, route_type: usize, s: &[u8]) -> u32
 // A body of a type above a Leaf's.
 fn later_body_fault(kind: AddressKind, route_type: usize, s: &[u8]) -> u32
     requires { ⌜ 4 < «route_type» ⌝ }
-    ensures { λ r. ⌜ r ≡ bodyFault (kind .bits) «route_type» (now (s .entry)) ⌝ }
+    ensures { λ r. ⌜ r ≡ acceptedFault (kind .bits) «route_type» (now (s .entry)) ⌝ }
 {
+    if route_type == RouteType::SOURCE_ACTIVE {
+        return source_active_body_fault(kind, s);
+    }
     if route_type <= RouteType::SOURCE_TREE_JOIN {
         return body::flow_body_fault(kind, route_type, s);
     }
@@ -210,18 +238,38 @@ pub fn read_front(kind: AddressKind, s: &[u8]) -> Reading
     Reading::Nlri(layout_in(s))
 }
 
-// The number of a single NLRI: octets after it are LENGTH.
+// Whether octets stand behind the NLRI at the front of `s`; of one that is SHORT either answer will do.
+fn is_followed(s: &[u8]) -> bool
+    ensures { λ r. ⌜ r ≡ isFollowed (now (s .entry)) ⌝ }
+{
+    if s.len() < HEADER {
+        return false;
+    }
+    s.len() - HEADER != s[1] as usize
+}
+
+// The number of an NLRI that octets stand behind: LENGTH, which comes before GROUP.
+fn followed_fault(fault: u32) -> u32
+    ensures { λ r. ⌜ r ≡ followedFault fault ⌝ }
+{
+    if fault == DONE {
+        return LENGTH;
+    }
+    if fault == GROUP {
+        return LENGTH;
+    }
+    fault
+}
+
+// The number of a single NLRI: octets after it are LENGTH, before GROUP.
 fn single_fault(kind: AddressKind, s: &[u8]) -> u32
     ensures { λ r. ⌜ r ≡ numberOf (single (kind .bits) (now (s .entry))) ⌝ }
 {
     let fault = front_fault(kind, s);
-    if fault != DONE {
-        return fault;
+    if is_followed(s) {
+        return followed_fault(fault);
     }
-    if s.len() - HEADER != s[1] as usize {
-        return LENGTH;
-    }
-    DONE
+    fault
 }
 
 // A single NLRI.

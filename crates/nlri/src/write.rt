@@ -1,5 +1,5 @@
-// Writing an NLRI: FAMILY, TYPE, WIDTH, IDENT and DEEP, LONG, KEY, SPACE; here types 1 to 7, which have no FEC and are never long. Fields that
-// the route type lacks are not looked at.
+// Writing an NLRI: FAMILY, TYPE, WIDTH, IDENT and DEEP, LONG, KEY, GROUP, SPACE; here types 1 to 7, which have no FEC and are never long. Fields
+// that the route type lacks are not looked at.
 ghost use mathlib.Core.Path.{_≡_};
 ghost use mathlib.Core.Logic.{_⊎_};
 ghost use mathlib.Core.List.{[], _∷_, _++_};
@@ -7,7 +7,7 @@ ghost use Prim.Native.Nat.{_+_, _≤_, _<_};
 ghost use lib.ListN.{length};
 ghost use Rattle.octets.specs.Outcome.{given, numberOf};
 ghost use Rattle.octets.specs.Outputs.{Put, Wrote};
-ghost use Rattle.nlri.specs.Fields.{encodeAddress};
+ghost use Rattle.nlri.specs.Fields.{encodeAddress, isDiscarded};
 ghost use Rattle.nlri.specs.Writing.{isKey, writeNlri};
 ghost use Rattle.nlri.specs.Answers.{addressOctets, structFields};
 ghost use Rattle.nlri.specs.InnerWriting.{hasFlow, hasOriginator, flowFits, originatorFits, leafFits, fitting, fixedSize, flowSize, originatorLength, sizeOf, sourceAsOctets, fixedOctets, flowOctets, originatorOctets, bodyOctets, nlriOctets, AddressSize, AddressesSized, Putting, writtenToSeven};
@@ -20,6 +20,7 @@ use crate::family;
 use crate::family::Family;
 use crate::fields;
 use crate::fields::Nlri;
+use crate::group;
 use crate::mldp_write;
 use crate::read;
 use crate::read::HEADER;
@@ -27,6 +28,7 @@ use crate::read::Header;
 use crate::route::RouteType;
 use octets::Written;
 use octets::number::DONE;
+use octets::number::GROUP;
 use octets::number::KEY;
 use octets::number::SPACE;
 use octets::number::TYPE;
@@ -284,7 +286,21 @@ fn put(nlri: Nlri, key: &[u8], size: usize, output: &mut [u8]) -> Written
     Written { number: DONE, size }
 }
 
-// Writing types 1 to 7 under the family of a kind of addresses. TYPE, WIDTH, KEY, SPACE.
+// Whether an NLRI whose addresses fit is discarded: a Source Active route whose group is SSM (W-210).
+fn is_discarded(kind: AddressKind, nlri: Nlri) -> bool
+    requires { ⌜ AddressesSized nlri ⌝ }
+    ensures { λ r. ⌜ r ≡ isDiscarded (kind .bits) (structFields nlri [] []) ⌝ }
+{
+    if nlri.route_type as usize != RouteType::SOURCE_ACTIVE {
+        return false;
+    }
+    let address = nlri.group;
+    let octets = address.octets;
+    let size = address.size as usize;
+    group::is_ssm(kind, &octets[..size])
+}
+
+// Writing types 1 to 7 under the family of a kind of addresses. TYPE, WIDTH, KEY, GROUP, SPACE.
 fn write_to_seven(kind: AddressKind, nlri: Nlri, key: &[u8], output: &mut [u8]) -> Written
     requires { ⌜ (kind .bits ≡ 32) ⊎ (kind .bits ≡ 128) ⌝ }
     ensures { λ r. ⌜ Wrote (writtenToSeven (kind .bits) nlri (now (key .entry)) (length (now (output .entry)))) (now (output .entry)) r (now (output .exit)) ⌝ }
@@ -294,6 +310,9 @@ fn write_to_seven(kind: AddressKind, nlri: Nlri, key: &[u8], output: &mut [u8]) 
         return Written::refused(fault);
     }
     let size = size_of(nlri, key.len());
+    if is_discarded(kind, nlri) {
+        return Written::refused(GROUP);
+    }
     if output.len() < size {
         return Written::refused(SPACE);
     }
@@ -312,7 +331,7 @@ fn write_under(kind: AddressKind, nlri: Nlri, key: &[u8], fec: &[u8], output: &m
 }
 
 // Writes an NLRI at the front of the output; `key` is a Leaf's key, `fec` an mLDP customer's FEC. FAMILY, TYPE, WIDTH, IDENT and DEEP, LONG, KEY,
-// SPACE.
+// GROUP, SPACE.
 pub fn write_nlri(afi: u16, nlri: Nlri, key: &[u8], fec: &[u8], output: &mut [u8]) -> Written
     ensures { λ r. ⌜ Wrote (writeNlri afi (structFields nlri (now (key .entry)) (now (fec .entry))) (length (now (output .entry)))) (now (output .entry)) r (now (output .exit)) ⌝ }
 {

@@ -76,3 +76,7 @@ DEEP = 17
 -- more than eight prefixes, an address in one of another size than the family's, a length over it, or a set bit past the length
 abbrev pub RANGE : ℕ
 RANGE = 18
+
+-- a Source Active route whose group is source-specific, by the standard range
+abbrev pub GROUP : ℕ
+GROUP = 19

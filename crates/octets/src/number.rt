@@ -36,3 +36,5 @@ pub const SPACE: u32 = 16;
 pub const DEEP: u32 = 17;
 
 pub const RANGE: u32 = 18;
+
+pub const GROUP: u32 = 19;

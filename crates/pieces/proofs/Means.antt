@@ -23,8 +23,8 @@ use Rattle.runs.specs.declared.turning.Turn.the-variants.{Skipped}
 use Rattle.runs.specs.Walking.{walkedWith, stepFrom, readTo, refusedAt, NlriRead}
 use Rattle.runs.specs.Modes.{isSkipped, pastNlri, turnFrom, walkBy, nlrisByFrom, nlrisBy}
 use Rattle.runs.specs.Statements.{StepRefusal, badFamily, long, past, front}
-use Rattle.runs.proofs.Steps.{Stops, stops-endedAt, stops-refusedAt, step-end, step-octet, step-unlaid}
-use Rattle.runs.proofs.Turns.{not-skipped, turn-reads, turn-skips, turn-stops, nlrisByFrom-read, nlrisByFrom-skipped, nlrisByFrom-stopped}
+use Rattle.runs.proofs.Steps.{Stops, stops-endedAt, stops-refusedAt, step-end, step-octet, step-unaccepted}
+use Rattle.runs.proofs.Turns.{never-skipped, turn-reads, turn-skips, turn-stops, nlrisByFrom-read, nlrisByFrom-skipped, nlrisByFrom-stopped}
 use Rattle.runs.proofs.Going.{Going, going-last, going-refused, going-read, going-skipped}
 use Rattle.runs.proofs.Theorems.{stepRule}
 use Rattle.pieces.specs.declared.feeding.Fed.{Fed}
@@ -269,7 +269,7 @@ module _ (afi mode bits : ℕ) (run : List ℕ) (octets : AllOctets run) where
       -- it is refused
       module _ (other : numberUnder afi nlri ≢ DONE) where
         step-refused : stepFrom afi run (c .pieces .walked .offset) ≡ refusedAt (numberUnder afi nlri) (c .pieces .walked .offset)
-        step-refused = step-unlaid afi run _ bits (r .going .ofFamily) (r .going .short) before _ (refused-of _ _ number-stands other)
+        step-refused = step-unaccepted afi run _ bits (r .going .ofFamily) (r .going .short) before _ (refused-of _ _ number-stands other)
 
         -- and skipped
         skips : isSkipped mode (numberUnder afi nlri) ≡ true → Means afi mode bits run rest (afterFeed c (fedBy c piece))
@@ -389,14 +389,14 @@ module _ (afi mode bits : ℕ) (run : List ℕ) (octets : AllOctets run) where
       let none : c .pieces .kept ≡ 0 = eqb-true _ _ t in
       let last : offset ≡ length run = omega (arith, r .place) in
       ended-by c r DONE (pick-true _ _ _ t) (going-last afi mode bits run offset _ _ (r .going) (omega arith)) (stops-endedAt offset (step-end afi run offset bits (r .going .ofFamily) (r .going .short) last))
-      (not-skipped mode DONE (λ _ z. omega arith)))
+      (never-skipped mode DONE (λ t. omega arith) (λ g. omega arith)))
       (λ f.
       let some = eqb-false (c .pieces .kept) 0 f in
       let before : offset < length run = omega (arith, r .place) in
       let laid = ap (layoutAt bits) here ∙ layout-short bits (front-of c) (omega (arith, r .part-way)) in
-      let told = not-skipped mode SHORT (λ _ z. omega arith) in
+      let told = never-skipped mode SHORT (λ t. omega arith) (λ g. omega arith) in
       ended-by c r SHORT (pick-false _ _ _ f) (going-refused afi mode bits run offset _ _ (r .going) before (drop offset run) refl SHORT (sym (number-refused laid)) (λ z. omega arith) told)
-      (stops-refusedAt SHORT offset (step-unlaid afi run offset bits (r .going .ofFamily) (r .going .short) before SHORT laid)) told)
+      (stops-refusedAt SHORT offset (step-unaccepted afi run offset bits (r .going .ofFamily) (r .going .short) before SHORT laid)) told)
 
   -- where the run ends
   pub ended : (c : Caller) → Means afi mode bits run [] c → (answerAtEnd (c .pieces) ≡ walkBy afi mode run) × (c .nlris ≡ nlrisBy afi mode run)

@@ -17,7 +17,7 @@ use Rattle.runs.specs.declared.walking.Walked.{Walked}
 use Rattle.runs.specs.Walking.{walkedTo, walkedWith}
 use Rattle.runs.specs.Modes.{walkBy, nlrisBy}
 use Rattle.runs.proofs.Steps.{stops-refusedAt, step-family}
-use Rattle.runs.proofs.Turns.{not-skipped, turn-stops, nlrisByFrom-stopped}
+use Rattle.runs.proofs.Turns.{never-skipped, turn-stops, nlrisByFrom-stopped}
 use Rattle.runs.proofs.Going.{walk-family, walk-long}
 use Rattle.pieces.specs.declared.state.Pieces.{Pieces}
 use Rattle.pieces.specs.Feeding.{READING, STOPPED, FINISHED, AfterFeed, startedAs, answerAtEnd, finishOf, passedOf, longOf, countedOf, overOf, feedOf}
@@ -128,7 +128,7 @@ module _ (afi mode n : ℕ) (bad : familyBits afi ≡ refused n) (run : List ℕ
       record {
         answers = end-stopped (c .pieces) finishes ∙ ends ∙ walk-family afi mode run n bad;
         gives = λ _.
-            let told = not-skipped mode n (λ _ t. omega (arith, family-refused afi n bad .0)) in
+            let told = never-skipped mode n (λ t. omega (arith, family-refused afi n bad .0)) (λ g. omega (arith, family-refused afi n bad .0)) in
             refusal .gave ∙ sym (nlrisByFrom-stopped afi run 0 mode _ n (turn-stops afi run 0 mode n (stops-refusedAt n 0 (step-family afi run 0 n bad)) told));
         long = λ good _. absurd (unknown good);
       }

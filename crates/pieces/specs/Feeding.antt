@@ -1,4 +1,4 @@
--- A run that arrives in pieces (document 02, W-203), read by the mode of the walk (W-206): what start, feed and finish answer.
+-- A run that arrives in pieces (document 02, W-203), read by the mode of the walk (W-206, W-210): what start, feed and finish answer.
 use Prim.Native.Nat.{ℕ, _+_, _-_, _≤_}
 use mathlib.Core.Bool.{Bool}
 use mathlib.Core.List.{List, _++_}

@@ -1,4 +1,4 @@
--- What holds of a run that arrives in pieces (document 02, W-203), by the walk of the same mode (W-206) over the whole run. Proved in proofs/PiecesRule.antt.
+-- What holds of a run that arrives in pieces (document 02, W-203), by the walk of the same mode (W-206, W-210) over the whole run. Proved in proofs/PiecesRule.antt.
 use Prim.Native.Nat.{ℕ, _+_, _≤_, _<_}
 use mathlib.Core.Path.{_≡_}
 use mathlib.Core.List.{List}

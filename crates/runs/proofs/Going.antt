@@ -15,8 +15,8 @@ use Rattle.nlri.specs.Layouts.{layoutAt}
 use Rattle.nlri.proofs.Definitions.Families.{family-refused}
 use Rattle.runs.specs.Walking.{readTo, stepFrom, walkedTo, walkedWith}
 use Rattle.runs.specs.Modes.{isSkipped, pastNlri, walkByFrom, walkBy}
-use Rattle.runs.proofs.Steps.{Stops, stops-endedAt, stops-refusedAt, step-family, step-long, step-end, step-unlaid, step-octet, step-moves}
-use Rattle.runs.proofs.Turns.{skipped-number, not-skipped, within-skipped, turn-reads, turn-skips, turn-stops, walkByFrom-read, walkByFrom-skipped, walkByFrom-stopped}
+use Rattle.runs.proofs.Steps.{Stops, stops-endedAt, stops-refusedAt, step-family, step-long, step-end, step-unaccepted, step-octet, step-moves}
+use Rattle.runs.proofs.Turns.{skipped-number, skippable-apart, never-skipped, within-skipped, turn-reads, turn-skips, turn-stops, walkByFrom-read, walkByFrom-skipped, walkByFrom-stopped}
 
 -- what holds of the walk so far, under a family, at a cursor with a count read and a number skipped
 pub record Going (afi mode bits : ℕ) (run : List ℕ) (at count skipped : ℕ) : Type 0 where
@@ -35,10 +35,10 @@ module _ (afi mode : ℕ) (run : List ℕ) where
   pub walk-family : (n : ℕ) → familyBits afi ≡ refused n → walkedTo FAMILY 0 0 ≡ walkBy afi mode run
   walk-family n e =
       let is = family-refused afi n e .0 in
-      ap (λ (k : ℕ). walkedTo k 0 0) (sym is) ∙ walk-first n (stops-refusedAt n 0 (step-family afi run 0 n e)) (not-skipped mode n (λ _ t. omega arith))
+      ap (λ (k : ℕ). walkedTo k 0 0) (sym is) ∙ walk-first n (stops-refusedAt n 0 (step-family afi run 0 n e)) (never-skipped mode n (λ t. omega arith) (λ g. omega arith))
 
   pub walk-long : (bits : ℕ) → familyBits afi ≡ given bits → 4096 < length run → walkedTo LONG 0 0 ≡ walkBy afi mode run
-  walk-long bits f h = walk-first LONG (stops-refusedAt LONG 0 (step-long afi run 0 bits f h)) (not-skipped mode LONG (λ _ t. omega arith))
+  walk-long bits f h = walk-first LONG (stops-refusedAt LONG 0 (step-long afi run 0 bits f h)) (never-skipped mode LONG (λ t. omega arith) (λ g. omega arith))
 
   pub going-first : (bits : ℕ) → familyBits afi ≡ given bits → length run ≤ 4096 → Going afi mode bits run 0 0 0
   unfolding walkBy
@@ -51,7 +51,7 @@ module _ (afi mode bits : ℕ) (run : List ℕ) (at count skipped : ℕ) (so-far
 
   pub going-last : length run ≤ at → walkedWith DONE count at skipped ≡ walkBy afi mode run
   going-last h =
-      going-stop DONE (stops-endedAt at (step-end afi run at bits (so-far .ofFamily) (so-far .short) (omega (arith, so-far .within)))) (not-skipped mode DONE (λ _ t. omega arith))
+      going-stop DONE (stops-endedAt at (step-end afi run at bits (so-far .ofFamily) (so-far .short) (omega (arith, so-far .within)))) (never-skipped mode DONE (λ t. omega arith) (λ g. omega arith))
 
   -- by the number of the octets from the cursor on
   module _ (before : at < length run) (s : List ℕ) (here : s ≡ drop at run) (n : ℕ) (e : n ≡ numberOf (layoutAt bits s)) where
@@ -59,7 +59,7 @@ module _ (afi mode bits : ℕ) (run : List ℕ) (at count skipped : ℕ) (so-far
     number-here = e ∙ ap (λ (x : List ℕ). numberOf (layoutAt bits x)) here
 
     stops-here : (n ≡ DONE → ⊥) → Stops (stepFrom afi run at) n
-    stops-here h = stops-refusedAt n at (step-unlaid afi run at bits (so-far .ofFamily) (so-far .short) before n (refused-of _ n number-here h))
+    stops-here h = stops-refusedAt n at (step-unaccepted afi run at bits (so-far .ofFamily) (so-far .short) before n (refused-of _ n number-here h))
 
     pub going-refused : (n ≡ DONE → ⊥) → isSkipped mode n ≡ false → walkedWith n count at skipped ≡ walkBy afi mode run
     going-refused h f = going-stop n (stops-here h) f
@@ -94,7 +94,7 @@ module _ (afi mode bits : ℕ) (run : List ℕ) (at count skipped : ℕ) (so-far
 
     module _ (z : isSkipped mode n ≡ true) where
       stops-skipped : Stops (stepFrom afi run at) n
-      stops-skipped = stops-here (λ d. omega (arith, skipped-number mode n z .1))
+      stops-skipped = stops-here (skippable-apart n (skipped-number mode n z .1) .0)
 
       pub skipped-within : pastNlri run at ≤ length run
       skipped-within = within-skipped afi run at mode n stops-skipped z .0

@@ -7,4 +7,5 @@ pub mod StepRule
 pub mod WalkRule
 pub mod TurnRule
 pub mod ModeRule
+pub mod DiscardWalkRule
 pub mod Theorems

@@ -15,13 +15,14 @@ use Rattle.octets.proofs.AllOctets.{octets-drop}
 use Rattle.nlri.specs.declared.layout.Layout.{Layout}
 use Rattle.nlri.specs.Bodies.{KnownType}
 use Rattle.nlri.specs.Fields.{Fields, encodeNlri}
-use Rattle.nlri.specs.Reading.{keyField, laidAt}
-use Rattle.nlri.specs.Layouts.{layoutOf, layoutAt}
+use Rattle.nlri.specs.Reading.{keyField, laidAt, acceptedAt}
+use Rattle.nlri.specs.Layouts.{layoutOf, layoutAt, laidLayout}
 use Rattle.nlri.specs.Statements.{layoutFor}
 use Rattle.nlri.proofs.Definitions.Lengths.{good-family, family-good}
 use Rattle.nlri.proofs.Definitions.Whole.{laid-out}
 use Rattle.nlri.proofs.Definitions.Families.{family-refused, family-refuses}
-use Rattle.nlri.proofs.Statements.Acceptance.{front-sound}
+use Rattle.nlri.proofs.Functions.Fronts.{layout-front}
+use Rattle.nlri.proofs.Statements.Acceptance.{front-accepted}
 use Rattle.nlri.proofs.Statements.ReadRefusals.{readRefusals, front-not-done}
 use Rattle.nlri.proofs.Statements.Layouts.{length-encoded, layout-encoded, layout-refused}
 use Rattle.runs.specs.declared.stepping.Cursor.{Cursor}
@@ -29,13 +30,13 @@ use Rattle.runs.specs.declared.stepping.Step.{Step}
 use Rattle.runs.specs.declared.stepping.Step.the-variants as step
 use Rattle.runs.specs.Walking.{Stepped, readTo, endedAt, refusedAt, stepFrom, steppedOf}
 use Rattle.runs.specs.Statements.{EncodedAt, EndAt, StepRefusal, badFamily, long, past, front, StepRule}
-use Rattle.runs.proofs.Steps.{step-family, step-long, step-end, step-past, step-laid, step-unlaid, Comes, family, tooLong, end, beyond, unlaid, laid, comes-stepFrom, reads-stepFrom}
+use Rattle.runs.proofs.Steps.{step-family, step-long, step-end, step-past, step-accepted, step-unaccepted, Comes, family, tooLong, end, beyond, unaccepted, accepted, comes-stepFrom, reads-stepFrom}
 
 -- the route type of a layout is known
 layout-typed : (bits : ℕ) (s : List ℕ) (l : Layout) → layoutAt bits s ≡ given l → KnownType (l .«route_type»)
-unfolding layoutAt laidAt layoutOf
+unfolding laidLayout laidAt layoutOf
 layout-typed bits s l e =
-    let p = passed _ _ _ e in
+    let p = passed _ _ _ (layout-front bits s l e) in
     let o = laid-out (keyField bits) bits s (p .value) (p .first) in
     subst KnownType (ap (λ (x : Layout). x .«route_type») (given-same (p .second))) (o .row .known)
 
@@ -46,7 +47,7 @@ step-encoded afi run at f n =
     let size = length-encoded f in
     let len : 2 + (length (encodeNlri f) - 2) ≡ length (encodeNlri f) = omega arith in
     let before : at < length run = omega (arith, sym (length-drop at run) ∙ ap length (n .is) ∙ length-append (encodeNlri f) (n .after)) in
-    step-laid afi run at (n .bits) (n .ofFamily) (n .short) before (layoutFor f) (ap (layoutAt (n .bits)) (n .is) ∙ layout-encoded afi (n .bits) (n .ofFamily) f (n .after) (n .wellFormed))
+    step-accepted afi run at (n .bits) (n .ofFamily) (n .short) before (layoutFor f) (ap (layoutAt (n .bits)) (n .is) ∙ layout-encoded afi (n .bits) (n .ofFamily) f (n .after) (n .wellFormed))
     ∙ ap (λ (m : ℕ). readTo (layoutFor f) (at + m)) len
 
 module _ (afi : ℕ) (run : List ℕ) (at : ℕ) where
@@ -59,8 +60,8 @@ module _ (afi : ℕ) (run : List ℕ) (at : ℕ) where
   end-at (tooLong bits f h) q = absurd (opposite q refl)
   end-at (end bits f few last) q = (good-family afi bits f, few, last)
   end-at (beyond bits f few far) q = absurd (opposite q refl)
-  end-at (unlaid bits f few before n e) q = absurd (opposite q refl)
-  end-at (laid bits f few before l e) q = absurd (opposite q refl)
+  end-at (unaccepted bits f few before n e) q = absurd (opposite q refl)
+  end-at (accepted bits f few before l e) q = absurd (opposite q refl)
 
   module _ (a : AllOctets run) where
     pub step-refuses : (n : ℕ) → StepRefusal afi run at n → stepFrom afi run at ≡ refusedAt n at
@@ -68,7 +69,7 @@ module _ (afi : ℕ) (run : List ℕ) (at : ℕ) where
     step-refuses n (long bits f h) = step-long afi run at bits f h
     step-refuses n (past bits f few far) = step-past afi run at bits f few far
     step-refuses n (front bits f few before why) =
-        step-unlaid afi run at bits f few before n (layout-refused bits (drop at run) n (readRefusals .front afi bits (drop at run) n f (octets-drop at a) .1 why))
+        step-unaccepted afi run at bits f few before n (layout-refused bits (drop at run) n (readRefusals .front afi bits (drop at run) n f (octets-drop at a) .1 why))
 
     by-case : {s : Stepped} → Comes afi run at s → ((f : Fields) × EncodedAt afi run at f) ⊎ EndAt afi run at ⊎ ((n : ℕ) × StepRefusal afi run at n)
     unfolding layoutAt
@@ -76,13 +77,13 @@ module _ (afi : ℕ) (run : List ℕ) (at : ℕ) where
     by-case (tooLong bits f h) = inr (inr (LONG, long bits f h))
     by-case (end bits f few last) = inr (inl (good-family afi bits f, few, last))
     by-case (beyond bits f few far) = inr (inr (SHORT, past bits f few far))
-    by-case (unlaid bits f few before n e) =
-        let why : laidAt bits (drop at run) ≡ refused n = ⊎-elim (λ p. p) (λ later. absurd (never refl (later .second))) (stopped _ _ _ e) in
+    by-case (unaccepted bits f few before n e) =
+        let why : acceptedAt bits (drop at run) ≡ refused n = ⊎-elim (λ p. p) (λ later. absurd (never refl (later .second))) (stopped _ _ _ e) in
         inr (inr (n, front bits f few before (readRefusals .front afi bits (drop at run) n f (octets-drop at a) .0 why)))
-    by-case (laid bits f few before l e) =
+    by-case (accepted bits f few before l e) =
         let p = passed _ _ _ e in
-        let r = front-sound afi bits f (drop at run) (p .value) (octets-drop at a) (p .first) in
-        inl (r .fields, record { bits = bits; ofFamily = f; short = few; wellFormed = r .wellFormed; after = drop (2 + p .value .size) (drop at run); is = r .is })
+        let r = front-accepted afi bits f (drop at run) (p .value) (octets-drop at a) (p .first) in
+        inl (r .0, record { bits = bits; ofFamily = f; short = few; wellFormed = r .1; after = drop (2 + p .value .size) (drop at run); is = r .2 })
 
     step-decided : ((f : Fields) × EncodedAt afi run at f) ⊎ EndAt afi run at ⊎ ((n : ℕ) × StepRefusal afi run at n)
     step-decided = by-case (comes-stepFrom afi run at)

@@ -64,18 +64,18 @@ module _ (afi : ℕ) (run : List ℕ) (at : ℕ) where
         step-inside =
             step-under ∙ pick-false _ _ _ (le-ltb 4096 (length run) short) ∙ pick-false _ _ _ (ne-eqb at (length run) (λ e. omega arith)) ∙ pick-false _ _ _ (le-ltb (length run) at (omega arith))
 
-        pub step-laid : (l : Layout) → layoutAt bits (drop at run) ≡ given l → stepFrom afi run at ≡ readTo l (advanced at (l .length))
-        step-laid l e = step-inside ∙ sym (on-given _ _ _ _ _ e refl)
+        pub step-accepted : (l : Layout) → layoutAt bits (drop at run) ≡ given l → stepFrom afi run at ≡ readTo l (advanced at (l .length))
+        step-accepted l e = step-inside ∙ sym (on-given _ _ _ _ _ e refl)
 
-        pub step-unlaid : (n : ℕ) → layoutAt bits (drop at run) ≡ refused n → stepFrom afi run at ≡ refusedAt n at
-        step-unlaid n e = step-inside ∙ sym (on-refused _ _ _ _ _ e refl)
+        pub step-unaccepted : (n : ℕ) → layoutAt bits (drop at run) ≡ refused n → stepFrom afi run at ≡ refusedAt n at
+        step-unaccepted n e = step-inside ∙ sym (on-refused _ _ _ _ _ e refl)
 
         -- by the number of the NLRI there and the Length octet
         pub step-octet : numberOf (layoutAt bits (drop at run)) ≡ DONE → (l : Layout) × (stepFrom afi run at ≡ readTo l (advanced at (getD run (at + 1) 0)))
         step-octet e =
             let laid = refuses-done _ (refuses-layout bits (drop at run)) e in
             let size = layout-octets bits (drop at run) (laid .0) (laid .1) .3 ∙ getD-drop at run 1 0 in
-            (laid .0, step-laid (laid .0) (laid .1) ∙ ap (λ (n : ℕ). readTo (laid .0) (advanced at n)) size)
+            (laid .0, step-accepted (laid .0) (laid .1) ∙ ap (λ (n : ℕ). readTo (laid .0) (advanced at n)) size)
 
 -- the cases of a step, in the order of its tests
 pub data Comes (afi : ℕ) (run : List ℕ) (at : ℕ) : Stepped → Type 0 where
@@ -83,8 +83,8 @@ pub data Comes (afi : ℕ) (run : List ℕ) (at : ℕ) : Stepped → Type 0 wher
   tooLong : (bits : ℕ) → familyBits afi ≡ given bits → 4096 < length run → Comes afi run at (refusedAt LONG at)
   end : (bits : ℕ) → familyBits afi ≡ given bits → length run ≤ 4096 → at ≡ length run → Comes afi run at (endedAt at)
   beyond : (bits : ℕ) → familyBits afi ≡ given bits → length run ≤ 4096 → length run < at → Comes afi run at (refusedAt SHORT at)
-  unlaid : (bits : ℕ) → familyBits afi ≡ given bits → length run ≤ 4096 → at < length run → (n : ℕ) → layoutAt bits (drop at run) ≡ refused n → Comes afi run at (refusedAt n at)
-  laid : (bits : ℕ) → familyBits afi ≡ given bits → length run ≤ 4096 → at < length run → (l : Layout) → layoutAt bits (drop at run) ≡ given l → Comes afi run at (readTo l (advanced at (l .length)))
+  unaccepted : (bits : ℕ) → familyBits afi ≡ given bits → length run ≤ 4096 → at < length run → (n : ℕ) → layoutAt bits (drop at run) ≡ refused n → Comes afi run at (refusedAt n at)
+  accepted : (bits : ℕ) → familyBits afi ≡ given bits → length run ≤ 4096 → at < length run → (l : Layout) → layoutAt bits (drop at run) ≡ given l → Comes afi run at (readTo l (advanced at (l .length)))
 
 pub comes-stepFrom : (afi : ℕ) (run : List ℕ) (at : ℕ) → Comes afi run at (stepFrom afi run at)
 unfolding stepFrom stepUnder
@@ -95,7 +95,7 @@ comes-stepFrom afi run at =
     (λ more. pick-case (Comes afi run at) _ _ _ (λ far. beyond bits f (ltb-false _ _ few) (ltb-true _ _ far))
     (λ near.
     let before : at < length run = omega (arith, eqb-false at (length run) more, ltb-false (length run) at near) in
-    on-case (Comes afi run at) _ _ _ (unlaid bits f (ltb-false _ _ few) before) (laid bits f (ltb-false _ _ few) before)))))
+    on-case (Comes afi run at) _ _ _ (unaccepted bits f (ltb-false _ _ few) before) (accepted bits f (ltb-false _ _ few) before)))))
 
 -- a step that reads: the NLRI stands in the run, and the cursor moves past it
 pub record Reads (run : List ℕ) (at : ℕ) (s : Stepped) : Type 0 where
@@ -114,8 +114,8 @@ reads-stepFrom afi run at = go (comes-stepFrom afi run at)
     go (tooLong bits f h) r = absurd (opposite r refl)
     go (end bits f few last) r = absurd (opposite r refl)
     go (beyond bits f few far) r = absurd (opposite r refl)
-    go (unlaid bits f few before n e) r = absurd (opposite r refl)
-    go (laid bits f few before l e) r =
+    go (unaccepted bits f few before n e) r = absurd (opposite r refl)
+    go (accepted bits f few before l e) r =
         let fits = layout-octets bits (drop at run) l e .1 in
         record { bits = bits; short = few; is = e; cursor = refl; within = omega (arith, length-drop at run) }
 

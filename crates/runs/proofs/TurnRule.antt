@@ -2,9 +2,8 @@
 use mathlib.Core.Path.{_≡_, refl, sym, ap, ap₂}
 use mathlib.Core.Logic.{⊎-elim}
 use Prim.Native.Nat.{ℕ, _+_}
-use native.Mathlib.Omega.{arith}
 use lib.ListN.{length}
-use Rattle.octets.specs.Numbers.{TYPE}
+use Rattle.octets.specs.Numbers.{DONE}
 use Rattle.octets.proofs.Choice.{opposite}
 use Rattle.nlri.specs.Fields.{encodeNlri}
 use Rattle.nlri.specs.Statements.{layoutFor}
@@ -14,7 +13,7 @@ use Rattle.runs.specs.Modes.{SKIP, Turned, turnedOf}
 use Rattle.runs.specs.ModeRule.{TurnRule}
 use Rattle.runs.proofs.Steps.{stops-endedAt, stops-refusedAt}
 use Rattle.runs.proofs.StepRule.{stepRule, cursor-same}
-use Rattle.runs.proofs.Turns.{not-skipped, skips-type, turn-reads, turn-skips, turn-stops}
+use Rattle.runs.proofs.Turns.{skips, skippable-apart, not-skipped, turn-reads, turn-skips, turn-stops}
 
 turns-apart : (a b : Turn) → turnedOf a ≡ turnedOf b → a ≡ b
 unfolding turnedOf
@@ -33,11 +32,8 @@ unfolding turnedOf
 turnRule =
     record {
       reads = λ afi mode run at f h. ap turnedOf (turn-reads afi run at mode (layoutFor f) (at + length (encodeNlri f)) (stepRule .reads afi run at f h));
-      skips = λ afi run at a why. ap turnedOf (turn-skips afi run at SKIP TYPE (stops-refusedAt TYPE at (stepRule .refuses afi run at TYPE a .1 why)) skips-type);
-      ends = λ afi mode run at h. ap turnedOf (turn-stops afi run at mode 0 (stops-endedAt at (stepRule .ends afi run at .1 h)) (not-skipped mode 0 (λ _ z. absurd (never-type z))));
+      skips = λ afi run at n a why s. ap turnedOf (turn-skips afi run at SKIP n (stops-refusedAt n at (stepRule .refuses afi run at n a .1 why)) (skips n s));
+      ends = λ afi mode run at h. ap turnedOf (turn-stops afi run at mode 0 (stops-endedAt at (stepRule .ends afi run at .1 h)) (not-skipped mode DONE (λ _ z. skippable-apart DONE z .0 refl)));
       stops = λ afi mode run at n a why other. ap turnedOf (turn-stops afi run at mode n (stops-refusedAt n at (stepRule .refuses afi run at n a .1 why)) (not-skipped mode n (λ m t. ⊎-elim (λ old. old m) (λ o. o t) other)));
       apart = turns-apart;
     }
-  where
-    never-type : 0 ≡ TYPE → ⊥
-    never-type z = omega arith

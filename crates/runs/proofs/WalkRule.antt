@@ -18,9 +18,9 @@ use Rattle.octets.proofs.Lists.{empty-list}
 use Rattle.runs.specs.declared.walking.Walked.{Walked}
 use Rattle.nlri.specs.Family.{familyBits}
 use Rattle.nlri.specs.Fields.{Fields, encodeNlri, WellFormed}
-use Rattle.nlri.specs.Reading.{Laid, laidAt}
+use Rattle.nlri.specs.Reading.{Laid, acceptedAt}
 use Rattle.nlri.specs.Statements.{FrontRefusal, layoutFor}
-use Rattle.nlri.proofs.Statements.Acceptance.{front-sound}
+use Rattle.nlri.proofs.Statements.Acceptance.{front-accepted}
 use Rattle.nlri.proofs.Statements.ReadRefusals.{readRefusals}
 use Rattle.nlri.proofs.Statements.Layouts.{length-encoded}
 use Rattle.runs.specs.Walking.{Stepped, readTo, stepFrom, walkedTo, walkFrom, walkOf, NlriRead, nlrisFrom, nlrisOf}
@@ -131,20 +131,20 @@ module _ (afi bits : ℕ) (ofFamily : familyBits afi ≡ given bits) where
       ⊎-elim
       (λ yes.
       let laid : Laid = yes .0 in
-      let r = front-sound afi bits ofFamily s laid a (yes .1) in
+      let r = front-accepted afi bits ofFamily s laid a (yes .1) in
       let later = split left (drop (2 + laid .size) s) (rw length-drop (omega arith)) (octets-drop (2 + laid .size) a) in
       record {
-        nlris = r .fields ∷ later .nlris;
+        nlris = r .0 ∷ later .nlris;
         tail = later .tail;
         number = later .number;
-        wellFormed = (r .wellFormed, later .wellFormed);
+        wellFormed = (r .1, later .wellFormed);
         end = later .end;
-        is = r .is ∙ ap (λ (x : List ℕ). encodeNlri (r .fields) ++ x) (later .is) ∙ sym (append-assoc (encodeNlri (r .fields)) (encodeRun (later .nlris)) (later .tail));
+        is = r .2 ∙ ap (λ (x : List ℕ). encodeNlri (r .0) ++ x) (later .is) ∙ sym (append-assoc (encodeNlri (r .0)) (encodeRun (later .nlris)) (later .tail));
       })
       (λ bad. stop (length s) refl (bad .0) (bad .1))
-      (outcome (laidAt bits s))
+      (outcome (acceptedAt bits s))
     where
-      stop : (m : ℕ) → length s ≡ m → (n : ℕ) → laidAt bits s ≡ refused n → RunOf bits s
+      stop : (m : ℕ) → length s ≡ m → (n : ℕ) → acceptedAt bits s ≡ refused n → RunOf bits s
       stop zero e n why = record { nlris = []; tail = []; number = DONE; wellFormed = tt; end = nothing; is = empty-list s e }
       stop (suc m) e n why =
           let some : 0 < length s = omega arith in

@@ -1,11 +1,14 @@
--- The walk by its mode (document 02, W-206): an NLRI whose route type is unknown is skipped, or stops the walk as any other refusal does.
+-- The walk by its mode (document 02, W-206, W-210): an NLRI whose route type is unknown, or that is discarded, is skipped, or stops the walk as any other
+-- refusal does.
 use Prim.Native.Nat.{ℕ, zero, suc, _+_, _-_}
+use mathlib.Core.Path.{_≡_}
 use mathlib.Core.Bool.{Bool, true, false}
+use mathlib.Core.Logic.{_⊎_}
 use mathlib.Core.List.{List, [], _∷_}
 use lib.ListN.{length, getD}
 use lib.Dec.{eqb}
-use Rattle.octets.specs.Numbers.{DONE, TYPE}
-use Rattle.octets.specs.Choice.{pick, both}
+use Rattle.octets.specs.Numbers.{DONE, TYPE, GROUP}
+use Rattle.octets.specs.Choice.{pick, both, either}
 use Rattle.octets.specs.Octets.{part}
 use Rattle.nlri.specs.declared.layout.Layout.{Layout}
 use Rattle.nlri.specs.Layouts.{noLayout}
@@ -22,9 +25,13 @@ SKIP = 0
 abbrev pub OLD : ℕ
 OLD = 1
 
+-- the numbers of NLRIs that a mode may skip: an unknown route type (W-206), and a Source Active route that is discarded (W-210)
+abbrev pub SkippableNumber : ℕ → Type 0
+SkippableNumber number = (number ≡ TYPE) ⊎ (number ≡ GROUP)
+
 -- whether an NLRI refused by a number is skipped
 unfoldable pub isSkipped : (mode number : ℕ) → Bool
-isSkipped mode number = both (eqb mode SKIP) (eqb number TYPE)
+isSkipped mode number = both (eqb mode SKIP) (either (eqb number TYPE) (eqb number GROUP))
 
 -- just past the NLRI that begins at a cursor, by its Length octet
 abbrev pub pastNlri : List ℕ → (at : ℕ) → ℕ
@@ -45,10 +52,10 @@ pub record Turned : Type 0 where
   pub layout : Layout
   pub cursor : ℕ
 
--- the number and values of each case of `Turn`; an NLRI is skipped by TYPE, and a stop has no cursor
+-- the number and values of each case of `Turn`; only a stop has a number, and it has no cursor
 unfoldable pub turnedOf : Turn → Turned
 turnedOf (Read layout cursor) = record { number = DONE; read = true; skipped = false; layout = layout; cursor = cursor .at }
-turnedOf (Skipped cursor) = record { number = TYPE; read = false; skipped = true; layout = noLayout; cursor = cursor .at }
+turnedOf (Skipped cursor) = record { number = DONE; read = false; skipped = true; layout = noLayout; cursor = cursor .at }
 turnedOf (Stopped number) = record { number = number; read = false; skipped = false; layout = noLayout; cursor = 0 }
 
 -- by what a turn does, and the next cursor or the number

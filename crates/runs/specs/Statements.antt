@@ -42,7 +42,7 @@ pub record StepRule : Type 0 where
   pub reads : (afi : ℕ) (run : List ℕ) (at : ℕ) (f : Fields) → EncodedAt afi run at f → stepFrom afi run at ≡ readTo (layoutFor f) (at + length (encodeNlri f))
   -- at the run's end DONE with no NLRI, and the cursor given
   pub ends : (afi : ℕ) (run : List ℕ) (at : ℕ) → (stepFrom afi run at ≡ endedAt at) ↔ EndAt afi run at
-  -- each number, with the cursor given, exactly when document 01 says
+  -- each number, with the cursor given, exactly when document 01, W-207 and W-210 say
   pub refuses : (afi : ℕ) (run : List ℕ) (at n : ℕ) → AllOctets run → (stepFrom afi run at ≡ refusedAt n at) ↔ StepRefusal afi run at n
   -- there is no other step
   pub decided : (afi : ℕ) (run : List ℕ) (at : ℕ) → AllOctets run → ((f : Fields) × EncodedAt afi run at f) ⊎ EndAt afi run at ⊎ ((n : ℕ) × StepRefusal afi run at n)

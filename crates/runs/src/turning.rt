@@ -6,9 +6,11 @@ use crate::stepping::Cursor;
 use crate::stepping::Step;
 use nlri::Layout;
 use octets::number::DONE;
+use octets::number::GROUP;
 use octets::number::TYPE;
 
-// What a walk does at an unknown route type: it skips the NLRI, or stops as at any other refusal; so does every other mode.
+// What a walk does at an unknown route type, and at a Source Active route that is discarded: it skips the NLRI, or stops as at any other refusal; so
+// does every other mode.
 pub struct Mode {}
 
 impl Mode {
@@ -31,7 +33,10 @@ pub fn is_skipped(mode: u32, number: u32) -> bool
     if mode != Mode::SKIP {
         return false;
     }
-    number == TYPE
+    if number == TYPE {
+        return true;
+    }
+    number == GROUP
 }
 
 // One turn of the walk of a run, from a cursor on.

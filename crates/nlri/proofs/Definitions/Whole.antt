@@ -2,24 +2,26 @@
 use mathlib.Core.Path.{_≡_, refl, sym, _∙_, ap, ap₂, subst}
 use mathlib.Core.Bool.{Bool, true, false}
 use mathlib.Core.List.{List, [], _∷_, _++_, map, append-assoc}
-use Prim.Native.Nat.{ℕ, suc, _+_, _*_, _/_, _-_, _≤_, _<_}
+use Prim.Native.Nat.{ℕ, suc, _+_, _*_, _/_, _-_, _≤_}
 use native.Mathlib.Omega.{arith}
 use borrow.Author.Tests.{eqb-true, ltb-false, le-ltb}
 use lib.ListN.{length, getD, take, drop, length-append, length-drop, take-append-drop}
-use lib.Seq.{take-all, take-append-seam, drop-append-seam, length-take-le}
-use Rattle.octets.specs.Choice.{either}
+use lib.Seq.{take-all, take-append-le, drop-append-le, take-append-seam, drop-append-seam, length-take-le}
+use lib.Dec.{eqb}
+use Rattle.octets.specs.Choice.{pick, both, either}
 use Rattle.octets.specs.Outcome.{Outcome, given}
 use Rattle.octets.specs.Octets.{AllOctets, none, one, part}
-use Rattle.octets.proofs.Choice.{pick-true, pick-false, opposite, both-true-left, both-true-right, either-left, either-second, either-false-right}
+use Rattle.octets.proofs.Choice.{pick-true, pick-false, opposite, tested, both-left, both-true-left, both-true-right, either-left, either-second, either-false-right}
 use Rattle.octets.proofs.Outcome.{goes, given-otherwise, given-unless, passed, given-same}
 use Rattle.octets.proofs.AllOctets.{octet-at, octets-drop, octets-part, octets-append}
 use Rattle.octets.proofs.Lists.{empty-list, take-two, length-part}
-use Rattle.nlri.specs.Bodies.{FieldKind, distinguisher, sourceAs, source, group, originator, key, fec, KnownType, bodies, bodyOf, fieldIn, sameKind, hasField}
-use Rattle.nlri.specs.Fields.{Fields, encodeField, encodeBody, encodeNlri, LengthFits, WellFormedField, WellFormedBody}
-use Rattle.nlri.specs.Reading.{Laid, fieldSize, sizesOf, laidWith, keyField, laidAt, laidSingle, cut, fieldsOf}
-use Rattle.nlri.proofs.Definitions.Table.{listed, on-body, known, known-octet, RowOf, rowOf, closes, closed, most, mostIn, same-kind, has-first, apart, Along, along-fields}
+use Rattle.nlri.specs.Bodies.{FieldKind, distinguisher, sourceAs, source, group, originator, key, fec, KnownType, bodies, onBody, bodyOf, codeOf, fieldIn, sameKind, hasField}
+use Rattle.nlri.specs.Groups.{isSsm}
+use Rattle.nlri.specs.Fields.{Fields, encodeAddress, isDiscarded, encodeField, encodeBody, encodeNlri, LengthFits, WellFormedField, WellFormedBody}
+use Rattle.nlri.specs.Reading.{Laid, fieldSize, sizesOf, laidWith, keyField, laidAt, accepted, acceptedSingle, cut, fieldsOf}
+use Rattle.nlri.proofs.Definitions.Table.{field-of-map, listed, on-body, known, known-octet, RowOf, rowOf, closes, closed, most, mostIn, same-kind, has-first, apart, Along, along-fields}
 use Rattle.nlri.proofs.Definitions.Starts.{sizes-first, length-sizes}
-use Rattle.nlri.proofs.Definitions.Judged.{Judges, Closes, fieldsFrom, field-most, field-encoded, field-sound, field-complete, octets-field}
+use Rattle.nlri.proofs.Definitions.Judged.{Judges, Closes, fieldsFrom, field-within, field-most, field-encoded, field-sound, field-complete, octets-field}
 
 -- a field of a well-formed body
 pub field-in-body : (Key : ℕ → List ℕ → Type 0) (bits : ℕ) (f : Fields) (kind : FieldKind) (body : List FieldKind) → WellFormedBody Key bits f body → hasField kind body ≡ true → WellFormedField Key bits f kind
@@ -96,6 +98,26 @@ laid-out judge bits s laid e =
 abbrev pub fieldsLaid : List ℕ → Laid → Fields
 fieldsLaid s laid = fieldsFrom (laid .type) (λ kind. fieldIn [] kind (laid .body) (cut (laid .sizes) (part s 2 (laid .size))))
 
+-- no octet behind what the sizes say is looked at
+cut-front : (size : FieldKind → List ℕ → Outcome ℕ) → ((k : FieldKind) (x : List ℕ) (n : ℕ) → size k x ≡ given n → n ≤ length x)
+    → (body : List FieldKind) (x t sizes : List ℕ) → sizesOf size body x ≡ given sizes → cut sizes (x ++ t) ≡ cut sizes x
+unfolding cut sizesOf
+cut-front size within [] x t sizes e = let none : sizes ≡ [] = sym (given-same (given-unless _ _ _ _ e .1)) in rw none refl
+cut-front size within (k ∷ body) x t sizes e =
+    sizes-first (λ (z : List ℕ). cut z (x ++ t) ≡ cut z x) size k body x sizes e
+    (λ n rest here left.
+    let most : n ≤ length x = within k x n here in
+    ap₂ (λ (a : List ℕ) (b : List (List ℕ)). a ∷ b) (take-append-le n x t most) (ap (cut rest) (drop-append-le n x t most) ∙ cut-front size within body (drop n x) t rest left))
+
+pub fields-laid : (judge : ℕ → List ℕ → Outcome ℕ) → ((type : ℕ) (s : List ℕ) (n : ℕ) → judge type s ≡ given n → n ≤ length s) → (bits : ℕ) (s : List ℕ) (laid : Laid) → laidWith judge bits s ≡ given laid
+    → fieldsOf laid s ≡ fieldsLaid s laid
+unfolding fieldsOf part
+fields-laid judge within bits s laid e =
+    let o = laid-out judge bits s laid e in
+    ap (λ (x : List (List ℕ)). fieldsFrom (laid .type) (λ kind. fieldIn [] kind (laid .body) x))
+    (ap (cut (laid .sizes)) (sym (take-append-drop (laid .size) (drop 2 s)))
+    ∙ cut-front (fieldSize judge bits (laid .type)) (field-within judge bits within (laid .type)) (bodyOf (laid .type)) (part s 2 (laid .size)) (drop (laid .size) (drop 2 s)) (laid .sizes) (o .sizes))
+
 pub part-whole : (s : List ℕ) (n : ℕ) → length s - 2 ≡ n → part s 2 n ≡ drop 2 s
 unfolding part
 part-whole s n e = take-all n (drop 2 s) (rw length-drop (omega arith))
@@ -105,20 +127,23 @@ pub record SingleLaid (bits : ℕ) (s : List ℕ) (laid : Laid) : Type 0 where
   pub front : laidAt bits s ≡ given laid
   pub out : LaidOut (keyField bits) bits s laid
   pub all : length s - 2 ≡ laid .size
+  pub passes : isDiscarded bits (fieldsOf laid s) ≡ false
   pub fields : fieldsLaid s laid ≡ fieldsOf laid s
 
-pub single-laid-out : (bits : ℕ) (s : List ℕ) (laid : Laid) → laidSingle bits s ≡ given laid → SingleLaid bits s laid
-unfolding laidSingle laidAt fieldsOf
+pub single-laid-out : (bits : ℕ) (s : List ℕ) (laid : Laid) → acceptedSingle bits s ≡ given laid → SingleLaid bits s laid
+unfolding acceptedSingle laidAt fieldsOf accepted
 single-laid-out bits s laid e =
     let p = passed _ _ _ e in
     let q = given-unless _ _ _ _ (p .second) in
-    let same : p .value ≡ laid = given-same (q .1) in
+    let k = given-otherwise _ _ _ _ (q .1) in
+    let same : p .value ≡ laid = given-same (k .1) in
     let first : laidAt bits s ≡ given laid = p .first ∙ ap given same in
     let size : length s - 2 ≡ laid .size = eqb-true _ _ (q .0) ∙ ap (λ (x : Laid). x .size) same in
     record {
       front = first;
       out = laid-out (keyField bits) bits s laid first;
       all = size;
+      passes = ap (λ (x : Laid). isDiscarded bits (fieldsOf x s)) (sym same) ∙ k .0;
       fields = ap (λ (x : List ℕ). fieldsFrom (laid .type) (λ kind. fieldIn [] kind (laid .body) (cut (laid .sizes) x))) (part-whole s (laid .size) size);
     }
 
@@ -222,3 +247,23 @@ module _ (judge : ℕ → List ℕ → Outcome ℕ) (Key : ℕ → List ℕ → 
   length-most w f bound small range h bare =
       let len = sizes-most judge bits w (f .type) bound small (bodyOf (f .type)) bare _ _ (body-complete f (bodyOf (f .type)) (rowOf (f .type) (known (f .type) range) .closed) h) in
       omega arith
+
+drop-pick-group : (b : Bool) (x : List ℕ) → b ≡ true → drop 1 (pick b (encodeAddress x) []) ≡ x
+unfolding pick encodeAddress
+drop-pick-group true x h = refl
+drop-pick-group false x h = absurd (opposite h refl)
+
+-- the group of fields that stand encoded, and whether they are discarded
+group-encoded : (f : Fields) (t : List ℕ) → f .type ≡ 5 → fieldsOf (laidOf f) (encodeNlri f ++ t) .group ≡ f .group
+unfolding fieldsOf encodeNlri encodeField bodyOf onBody bodies hasField sameKind codeOf either pick
+group-encoded f t five =
+    let body : List FieldKind = bodyOf (f .type) in
+    ap (λ (x : List (List ℕ)). drop 1 (fieldIn [] group body x)) (cut-body f body t)
+    ∙ ap (drop 1) (field-of-map [] (encodeField f) group body)
+    ∙ drop-pick-group (hasField group body) (f .group) (ap (λ (n : ℕ). hasField group (bodyOf n)) five)
+
+pub discarded-encoded : (bits : ℕ) (f : Fields) (t : List ℕ) → isDiscarded bits (fieldsOf (laidOf f) (encodeNlri f ++ t)) ≡ isDiscarded bits f
+unfolding isDiscarded fieldsOf
+discarded-encoded bits f t =
+    tested (eqb (f .type) 5) (λ y. ap (λ (g : List ℕ). both (eqb (f .type) 5) (isSsm bits g)) (group-encoded f t (eqb-true _ _ y)))
+    (λ n. both-left _ _ n ∙ sym (both-left _ _ n))

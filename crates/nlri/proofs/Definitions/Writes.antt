@@ -8,17 +8,18 @@ use borrow.Author.Tests.{eqb-true, eq-eqb, leb-true, leb-false, ltb-true, lt-ltb
 use lib.ListN.{length}
 use lib.Seq.{take-all}
 use lib.Dec.{eqb, ltb, leb}
-use Rattle.octets.specs.Numbers.{DONE, TYPE, WIDTH, KEY, LONG, SPACE}
-use Rattle.octets.specs.Choice.{pick, both}
+use Rattle.octets.specs.Numbers.{DONE, TYPE, WIDTH, KEY, LONG, SPACE, GROUP}
+use Rattle.octets.specs.Choice.{pick, both, either}
 use Rattle.octets.specs.Outcome.{Outcome, given, refused, onOutcome, andThen, numberOf}
 use Rattle.octets.specs.Octets.{AllOctets, bigEndian}
-use Rattle.octets.proofs.Choice.{pick-true, pick-false, pick-cong, tested, is-false, both-true, opposite, both-true-left, both-true-right}
+use Rattle.octets.proofs.Choice.{pick-true, pick-false, pick-cong, tested, is-false, both-left, both-true, opposite, both-true-left, both-true-right}
 use Rattle.octets.proofs.Outcome.{and-cong, goes, on-given, given-otherwise, given-unless, passed, given-same}
 use Rattle.fec_elements.specs.declared.Standing.the-variants.{Lent}
 use Rattle.fec_elements.specs.Reading.{readFec}
 use Rattle.nlri.specs.Family.{familyBits, rootFamily, allowed, isOriginatorSize}
-use Rattle.nlri.specs.Bodies.{FieldKind, distinguisher, sourceAs, source, group, originator, key, fec, KnownType, bodies, bodyOf, hasField}
-use Rattle.nlri.specs.Fields.{Fields, encodeAddress, encodeField, encodeBody, encodeNlri, LengthFits, WellFormedField, WellFormedBody, WellFormed, KeyOf, restricted}
+use Rattle.nlri.specs.Bodies.{FieldKind, distinguisher, sourceAs, source, group, originator, key, fec, KnownType, bodies, onBody, bodyOf, codeOf, sameKind, hasField}
+use Rattle.nlri.specs.Groups.{isSsm}
+use Rattle.nlri.specs.Fields.{Fields, encodeAddress, encodeField, encodeBody, encodeNlri, LengthFits, WellFormedField, WellFormedBody, Encodable, Discarded, isDiscarded, WellFormed, KeyOf, restricted}
 use Rattle.nlri.specs.Reading.{keyField}
 use Rattle.nlri.specs.Writing.{widthFits, widthsFit, fecNumber, isLong, isKey, keyFits, keysFit, writeNlri}
 use Rattle.nlri.specs.Statements.{HoldsOctets}
@@ -27,6 +28,7 @@ use Rattle.nlri.proofs.Definitions.Lengths.{family-octets}
 use Rattle.nlri.proofs.Definitions.Fecs.{fec-lent, lent-fec}
 use Rattle.nlri.proofs.Definitions.Whole.{field-in-body, length-most}
 use Rattle.nlri.proofs.Definitions.Keys.{key-judges, key-most}
+use Rattle.nlri.proofs.Definitions.Discards.{tested-discarded, passes, well-formed}
 
 -- two fields records agree in a kind of field
 abbrev pub SameField : Fields → Fields → FieldKind → Type 0
@@ -102,21 +104,31 @@ unfolding keysFit all
 keys-all bits f [] = refl
 keys-all bits f (k ∷ body) = ap (both (keyFits bits f k)) (keys-all bits f body)
 
--- the order of writing: WIDTH, IDENT and DEEP, LONG, KEY, SPACE
-unfoldable pub verdict : ℕ → List ℕ → (widths : Bool) → (number : ℕ) → (long keys : Bool) → Outcome (List ℕ)
-verdict space e widths number long keys =
-    pick widths (pick (eqb number DONE) (pick long (refused LONG) (pick keys (pick (ltb space (length e)) (refused SPACE) (given e)) (refused KEY))) (refused number)) (refused WIDTH)
+-- the order of writing: WIDTH, IDENT and DEEP, LONG, KEY, GROUP, SPACE
+unfoldable pub verdict : ℕ → List ℕ → (widths : Bool) → (number : ℕ) → (long keys ssm : Bool) → Outcome (List ℕ)
+verdict space e widths number long keys ssm =
+    pick widths (pick (eqb number DONE) (pick long (refused LONG) (pick keys (pick ssm (refused GROUP) (pick (ltb space (length e)) (refused SPACE) (given e))) (refused KEY))) (refused number)) (refused WIDTH)
 
 unfoldable pub verdictOf : ℕ → Fields → ℕ → Outcome (List ℕ)
 verdictOf bits f space =
-    verdict space (encodeNlri f) (widthsFit bits f (bodyOf (f .type))) (fecNumber bits f (bodyOf (f .type))) (isLong f (bodyOf (f .type))) (keysFit bits f (bodyOf (f .type)))
+    verdict space (encodeNlri f) (widthsFit bits f (bodyOf (f .type))) (fecNumber bits f (bodyOf (f .type))) (isLong f (bodyOf (f .type))) (keysFit bits f (bodyOf (f .type))) (isDiscarded bits f)
 
 pub write-is : (afi : ℕ) (f : Fields) (space : ℕ) → writeNlri afi f space ≡ andThen (familyBits afi) (λ bits. pick (listed bodies (f .type)) (verdictOf bits f space) (refused TYPE))
 unfolding writeNlri verdictOf verdict
 write-is afi f space = and-cong _ _ _ (λ bits e. on-body _ _ _)
 
-pub verdict-same : (space : ℕ) {e e′ : List ℕ} {w w′ : Bool} {n n′ : ℕ} {l l′ k k′ : Bool} → e ≡ e′ → w ≡ w′ → n ≡ n′ → l ≡ l′ → k ≡ k′ → verdict space e w n l k ≡ verdict space e′ w′ n′ l′ k′
-verdict-same space p q r s t = λ i. verdict space (p i) (q i) (r i) (s i) (t i)
+pub verdict-same : (space : ℕ) {e e′ : List ℕ} {w w′ : Bool} {n n′ : ℕ} {l l′ k k′ d d′ : Bool} → e ≡ e′ → w ≡ w′ → n ≡ n′ → l ≡ l′ → k ≡ k′ → d ≡ d′ → verdict space e w n l k d ≡ verdict space e′ w′ n′ l′ k′ d′
+verdict-same space p q r s t u = λ i. verdict space (p i) (q i) (r i) (s i) (t i) (u i)
+
+restricted-discarded : (bits : ℕ) (f : Fields) → isDiscarded bits (restricted f) ≡ isDiscarded bits f
+unfolding isDiscarded restricted bodyOf onBody bodies hasField sameKind codeOf either pick
+restricted-discarded bits f =
+    tested (eqb (f .type) 5)
+    (λ y.
+    let five : f .type ≡ 5 = eqb-true _ _ y in
+    let has : hasField group (bodyOf (f .type)) ≡ true = ap (λ (n : ℕ). hasField group (bodyOf n)) five in
+    ap (λ (g : List ℕ). both (eqb (f .type) 5) (isSsm bits g)) (pick-true (hasField group (bodyOf (f .type))) (f .group) [] has))
+    (λ n. both-left _ _ n ∙ sym (both-left _ _ n))
 
 restricted-fec : (bits : ℕ) (f : Fields) → fecNumber bits (restricted f) (bodyOf (f .type)) ≡ fecNumber bits f (bodyOf (f .type))
 unfolding fecNumber restricted
@@ -130,7 +142,7 @@ write-restricted afi f space =
     ∙ and-cong _ _ _ (λ bits e.
     let same = same-body bits (restricted f) f refl (bodyOf (f .type)) (restricted-same f) in
     ap (λ (o : Outcome (List ℕ)). pick (listed bodies (f .type)) o (refused TYPE))
-    (verdict-same space (ap (λ (b : List ℕ). f .type ∷ (length b ∷ b)) (same .0)) (same .1) (restricted-fec bits f) (ap (λ (b : List ℕ). both (ltb 7 (f .type)) (ltb 255 (length b))) (same .0)) (same .2)))
+    (verdict-same space (ap (λ (b : List ℕ). f .type ∷ (length b ∷ b)) (same .0)) (same .1) (restricted-fec bits f) (ap (λ (b : List ℕ). both (ltb 7 (f .type)) (ltb 255 (length b))) (same .0)) (same .2) (restricted-discarded bits f)))
     ∙ sym (write-is afi f space)
 
 -- octets that the writer takes for a key
@@ -217,13 +229,21 @@ module _ (afi bits : ℕ) (ofFamily : familyBits afi ≡ given bits) (f : Fields
   pub write-well : (space : ℕ) → WellFormed bits f → writeNlri afi f space ≡ pick (ltb space (length (encodeNlri f))) (refused SPACE) (given (encodeNlri f))
   unfolding verdictOf verdict
   write-well space w =
+      let fits = fits-well (bodyOf (f .type)) (w .encodable .body) in
+      write-is afi f space
+      ∙ sym (goes _ _ _ _ ofFamily (sym (pick-true _ _ _ (known (f .type) (w .encodable .typed)) ∙ pick-true _ _ _ (fits .0) ∙ pick-true _ _ _ (eq-eqb _ _ (fec-well (w .encodable .body))) ∙ pick-false _ _ _ (long-well (w .encodable .fits)) ∙ pick-true _ _ _ (fits .1) ∙ pick-false _ _ _ (passes afi bits ofFamily f w))))
+
+  -- one that is discarded is not
+  pub write-discarded : (space : ℕ) → Encodable bits f → Discarded bits f → writeNlri afi f space ≡ refused GROUP
+  unfolding verdictOf verdict
+  write-discarded space w d =
       let fits = fits-well (bodyOf (f .type)) (w .body) in
       write-is afi f space
-      ∙ sym (goes _ _ _ _ ofFamily (sym (pick-true _ _ _ (known (f .type) (w .typed)) ∙ pick-true _ _ _ (fits .0) ∙ pick-true _ _ _ (eq-eqb _ _ (fec-well (w .body))) ∙ pick-false _ _ _ (long-well (w .fits)) ∙ pick-true _ _ _ (fits .1))))
+      ∙ sym (goes _ _ _ _ ofFamily (sym (pick-true _ _ _ (known (f .type) (w .typed)) ∙ pick-true _ _ _ (fits .0) ∙ pick-true _ _ _ (eq-eqb _ _ (fec-well (w .body))) ∙ pick-false _ _ _ (long-well (w .fits)) ∙ pick-true _ _ _ (fits .1) ∙ pick-true _ _ _ (tested-discarded bits f d))))
 
-  -- fields that pass the writer's tests are well-formed
+  -- fields that pass the writer's tests before GROUP are encodable
   pub well-passed : HoldsOctets f → KnownType (f .type) → widthsFit bits f (bodyOf (f .type)) ≡ true → fecNumber bits f (bodyOf (f .type)) ≡ DONE → isLong f (bodyOf (f .type)) ≡ false → keysFit bits f (bodyOf (f .type)) ≡ true
-      → WellFormed bits f
+      → Encodable bits f
   well-passed held typed widths fecs short keys =
       let body = well-fits held fecs (bodyOf (f .type)) (λ kind h. h) widths keys in
       record { typed = typed; body = body; fits = fits-well-formed typed body short }
@@ -239,8 +259,10 @@ module _ (afi bits : ℕ) (ofFamily : familyBits afi ≡ given bits) (f : Fields
       let c = given-unless _ _ _ _ (r .1) in
       let l = given-otherwise _ _ _ _ (c .1) in
       let k = given-unless _ _ _ _ (l .1) in
-      let u = given-otherwise _ _ _ _ (k .1) in
+      let d = given-otherwise _ _ _ _ (k .1) in
+      let u = given-otherwise _ _ _ _ (d .1) in
+      let stays : isDiscarded bits f ≡ false = ap (λ (n : ℕ). isDiscarded n f) (sym same) ∙ d .0 in
       let widths : widthsFit bits f (bodyOf (f .type)) ≡ true = ap (λ (n : ℕ). widthsFit n f (bodyOf (f .type))) (sym same) ∙ r .0 in
       let fecs : fecNumber bits f (bodyOf (f .type)) ≡ DONE = ap (λ (n : ℕ). fecNumber n f (bodyOf (f .type))) (sym same) ∙ eqb-true _ _ (c .0) in
       let keys : keysFit bits f (bodyOf (f .type)) ≡ true = ap (λ (n : ℕ). keysFit n f (bodyOf (f .type))) (sym same) ∙ k .0 in
-      (well-passed held (rowOf (f .type) (q .0) .known) widths fecs (l .0) keys, given-same (u .1))
+      (well-formed bits f (well-passed held (rowOf (f .type) (q .0) .known) widths fecs (l .0) keys) stays, given-same (u .1))

@@ -11,17 +11,17 @@ use Rattle.octets.specs.Choice.{pick}
 use Rattle.octets.specs.Outcome.{Outcome, given, refused, andThen, numberOf}
 use Rattle.octets.specs.Octets.{part}
 use Rattle.octets.proofs.Choice.{pick-true, pick-false, tested, opposite}
-use Rattle.octets.proofs.Outcome.{and-pick, and-given, and-refused, on-given, on-refused, outcome, passed, given-otherwise, given-same, number-goes, number-stops, refused-of}
+use Rattle.octets.proofs.Outcome.{and-pick, and-given, and-refused, on-given, on-refused, outcome, passed, given-otherwise, given-same, number-goes, number-stops, refused-of, goes}
 use Rattle.nlri.specs.declared.layout.Layout.{Layout}
 use Rattle.nlri.specs.Bodies.{FieldKind, distinguisher, sourceAs, source, group, originator, key, fec, keyable, bodies, onBody, bodyOf, codeOf, sameKind, hasField}
-use Rattle.nlri.specs.Reading.{Laid, fieldSize, sizesOf, laidWith, laidAt, noKey, keyField}
-use Rattle.nlri.specs.Layouts.{layoutOf, layoutAt}
+use Rattle.nlri.specs.Reading.{Laid, fieldSize, sizesOf, laidWith, laidAt, accepted, acceptedAt, noKey, keyField}
+use Rattle.nlri.specs.Layouts.{layoutOf, layoutAt, laidLayout}
 use Rattle.nlri.specs.Inner.{headerAt, bodyFault}
 use Rattle.nlri.proofs.Definitions.Table.{listed, on-body, apart}
 use Rattle.nlri.proofs.Definitions.Starts.{sizes-same}
 use Rattle.nlri.proofs.Definitions.Keys.{keyable-plain}
 use Rattle.nlri.proofs.Definitions.Whole.{laid-out}
-use Rattle.nlri.proofs.Definitions.ReadNumbers.{refuses-done, refuses-no-key, refuses-laid}
+use Rattle.nlri.proofs.Definitions.ReadNumbers.{laying, refuses-done, refuses-no-key, refuses-laid}
 use Rattle.nlri.proofs.Functions.Ends.{number-mapped, number-typed, body-number}
 
 -- what a body is laid out as
@@ -42,25 +42,38 @@ body-laid-number judge bits s type n =
 
 -- the number of the NLRI at the front
 module _ (bits : ℕ) (s : List ℕ) where
-  front-number : numberOf (andThen (headerAt s) (bodyLaid (keyField bits) bits s)) ≡ numberOf (layoutAt bits s)
-  unfolding layoutAt laidAt
+  front-number : numberOf (andThen (headerAt s) (bodyLaid (keyField bits) bits s)) ≡ numberOf (laidLayout bits s)
+  unfolding laidLayout laidAt
   front-number = ap numberOf (sym (laid-is (keyField bits) bits s)) ∙ sym (number-mapped _ _)
 
-  pub front-typed : (type n : ℕ) → headerAt s ≡ given (type, n) → bodyFault bits type (part s 2 n) ≡ numberOf (layoutAt bits s)
+  pub front-typed : (type n : ℕ) → headerAt s ≡ given (type, n) → bodyFault bits type (part s 2 n) ≡ numberOf (laidLayout bits s)
   front-typed type n h = number-goes _ _ _ _ h (body-number bits type _ ∙ sym (body-laid-number (keyField bits) bits s type n)) ∙ front-number
 
-  pub front-unread : (n : ℕ) → headerAt s ≡ refused n → n ≡ numberOf (layoutAt bits s)
+  pub front-unread : (n : ℕ) → headerAt s ≡ refused n → n ≡ numberOf (laidLayout bits s)
   front-unread n h = number-stops n _ _ h ∙ front-number
 
 -- type and Length of what was laid out, and that it lies within the octets
-pub layout-octets : (bits : ℕ) (s : List ℕ) (l : Layout) → layoutAt bits s ≡ given l → (2 ≤ length s) × (2 + l .length ≤ length s) × (l .«route_type» ≡ getD s 0 0) × (l .length ≡ getD s 1 0)
-unfolding layoutAt laidAt layoutOf
-layout-octets bits s l e =
+pub laid-octets : (bits : ℕ) (s : List ℕ) (l : Layout) → laidLayout bits s ≡ given l → (2 ≤ length s) × (2 + l .length ≤ length s) × (l .«route_type» ≡ getD s 0 0) × (l .length ≡ getD s 1 0)
+unfolding laidLayout laidAt layoutOf
+laid-octets bits s l e =
     let w = passed _ _ _ e in
     let same : layoutOf (w .value) ≡ l = given-same (w .second) in
     let o = laid-out (keyField bits) bits s (w .value) (w .first) in
     let n : w .value .size ≡ l .length = ap (λ (x : Layout). x .length) same in
     (o .enough, omega (arith, o .fits, o .enough), ap (λ (x : Layout). x .«route_type») (sym same) ∙ o .typed, sym n ∙ o .sized)
+
+-- the same of what a step reads
+pub layout-front : (bits : ℕ) (s : List ℕ) (l : Layout) → layoutAt bits s ≡ given l → laidLayout bits s ≡ given l
+unfolding layoutAt acceptedAt accepted laidLayout
+layout-front bits s l e =
+    let w = passed _ _ _ e in
+    let v = passed _ _ _ (w .first) in
+    let same : v .value ≡ w .value = given-same (given-otherwise _ _ _ _ (v .second) .1) in
+    let laid : laidAt bits s ≡ given (w .value) = v .first ∙ ap given same in
+    sym (goes _ _ _ _ laid refl) ∙ w .second
+
+pub layout-octets : (bits : ℕ) (s : List ℕ) (l : Layout) → layoutAt bits s ≡ given l → (2 ≤ length s) × (2 + l .length ≤ length s) × (l .«route_type» ≡ getD s 0 0) × (l .length ≡ getD s 1 0)
+layout-octets bits s l e = laid-octets bits s l (layout-front bits s l e)
 
 -- but for a key, the judge of keys does not matter
 module _ (judge judge′ : ℕ → List ℕ → Outcome ℕ) (bits type : ℕ) where
@@ -123,7 +136,7 @@ module _ (bits outer : ℕ) (s : List ℕ) where
         pub key-typed : fault ≡ DONE → given (2 + n) ≡ keyField bits outer s
         unfolding keyField
         key-typed done =
-            let r = refuses-done _ (refuses-laid noKey refuses-no-key bits s) (sym key-fault ∙ done) in
+            let r = refuses-done _ (laying (refuses-laid noKey refuses-no-key bits s)) (sym key-fault ∙ done) in
             let o = laid-out noKey bits s (r .0) (r .1) in
             on-given _ _ (r .0) _ _ (r .1)
             (sym (pick-true _ _ _ (may-type (r .0) (r .1) ∙ may) ∙ ap (λ (k : ℕ). given (2 + k)) (o .sized ∙ header-octets .1)))

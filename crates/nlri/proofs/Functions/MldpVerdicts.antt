@@ -10,7 +10,7 @@ use lib.Dec.{eqb, ltb, leb}
 use Rattle.octets.specs.Numbers.{DONE, TYPE, WIDTH, KEY, LONG, SPACE}
 use Rattle.octets.specs.Choice.{pick, both, either}
 use Rattle.octets.specs.Outcome.{Outcome, given, refused, andThen, numberOf}
-use Rattle.octets.proofs.Choice.{opposite, tested, both-last, either-second, pick-true, pick-false, pick-cong}
+use Rattle.octets.proofs.Choice.{opposite, tested, both-left, both-last, either-second, pick-true, pick-false, pick-cong}
 use Rattle.octets.proofs.Outcome.{given-otherwise, given-unless, and-cong, goes, stops, refused-of}
 use Rattle.octets.proofs.NetworkOrder.{length-bigEndian}
 use Rattle.fec_elements.specs.declared.Standing.the-variants.{Lent}
@@ -18,7 +18,7 @@ use Rattle.fec_elements.specs.Reading.{readFec}
 use Rattle.nlri.specs.declared.fields.Nlri.{Nlri}
 use Rattle.nlri.specs.Family.{familyBits, rootFamily, isOriginatorSize}
 use Rattle.nlri.specs.Bodies.{FieldKind, distinguisher, sourceAs, source, group, originator, key, fec, bodies, bodyOf, codeOf, sameKind, hasField}
-use Rattle.nlri.specs.Fields.{Fields, encodeField, encodeBody, encodeNlri}
+use Rattle.nlri.specs.Fields.{Fields, isDiscarded, encodeField, encodeBody, encodeNlri}
 use Rattle.nlri.specs.Writing.{widthFits, widthsFit, fecNumber, isLong, keyFits, keysFit, isKey, writeNlri}
 use Rattle.nlri.specs.Answers.{structFields}
 use Rattle.nlri.specs.Inner.{isMldp, withSourceAs}
@@ -169,14 +169,14 @@ module _ (nlri : Nlri) (keyOctets fecOctets : List ℕ) (space bits : ℕ) (eigh
         ap (λ (n : ℕ). pick (ltb space n) (refused SPACE) (given (mldpOctets nlri keyOctets fecOctets))) (length-mldp nlri keyOctets fecOctets ∙ ap (λ (n : ℕ). 2 + n) (body-size nlri keyOctets fecOctets eight))
 
   pub mldp-is : pick (listed bodies (nlri .«route_type»)) (verdictOf bits (structFields nlri keyOctets fecOctets) space) (refused TYPE) ≡ mldpWritten bits nlri keyOctets fecOctets space
-  unfolding mldpWritten mldpFitting verdictOf verdict structFields
+  unfolding mldpWritten mldpFitting verdictOf verdict structFields isDiscarded
   mldp-is =
       tested (isMldp type)
       (λ yes.
       let l = mldp-listed type yes in
       pick-true _ _ _ l
-      ∙ verdict-same space (all-is l) (widths-are l) (fec-is l) (long-is l) (keys-are l)
-      ∙ ap (λ (o : Outcome (List ℕ)). pick (mldpOriginatorFits type (nlri .originator .size)) (pick (eqb (mldpFecNumber bits type fecOctets) DONE) (pick (ltb 255 (mldpBodySize nlri (length keyOctets) (length fecOctets))) (refused LONG) (pick (mldpKeyFits bits type keyOctets) o (refused KEY))) (refused (mldpFecNumber bits type fecOctets))) (refused WIDTH)) (space-is l)
+      ∙ verdict-same space (all-is l) (widths-are l) (fec-is l) (long-is l) (keys-are l) (both-left _ _ (ne-eqb type 5 (λ five. omega arith)))
+      ∙ ap (λ (o : Outcome (List ℕ)). pick (mldpOriginatorFits type (nlri .originator .size)) (pick (eqb (mldpFecNumber bits type fecOctets) DONE) (pick (ltb 255 (mldpBodySize nlri (length keyOctets) (length fecOctets))) (refused LONG) (pick (mldpKeyFits bits type keyOctets) o (refused KEY))) (refused (mldpFecNumber bits type fecOctets))) (refused WIDTH)) (pick-false _ _ _ refl ∙ space-is l)
       ∙ sym (pick-true (isMldp type) _ (refused TYPE) yes) ∙ sym (fitting-then _ _ _ _ _ _ _ _))
       (λ no. pick-false _ _ _ (unlisted type (λ k. opposite (known-mldp type high k) no)) ∙ sym (pick-false (isMldp type) _ (refused TYPE) no) ∙ sym (fitting-then _ _ _ _ _ _ _ _))
 

@@ -4,21 +4,22 @@ use mathlib.Core.Bool.{Bool, true, false}
 use mathlib.Core.List.{List, _∷_}
 use Prim.Native.Nat.{ℕ, _-_, _≤_}
 use native.Mathlib.Omega.{arith}
-use borrow.Author.Tests.{leb-true, eqb-true, eqb-false, eq-eqb, le-ltb, le-leb}
+use borrow.Author.Tests.{leb-true, eqb-true, eqb-false, eq-eqb, ne-eqb, le-ltb, le-leb}
 use lib.ListN.{length, getD, drop}
 use lib.Dec.{eqb}
 use Rattle.octets.specs.Numbers.{DONE}
 use Rattle.octets.specs.Choice.{pick, both, either}
 use Rattle.octets.specs.Outcome.{Outcome, given, refused, andThen, onOutcome, numberOf}
-use Rattle.octets.proofs.Choice.{pick-true, tested, opposite}
+use Rattle.octets.proofs.Choice.{pick-true, pick-false, both-left, tested, opposite}
 use Rattle.octets.proofs.Outcome.{on-mapped, goes, stops, on-given, on-refused, refused-of}
 use Rattle.nlri.specs.Family.{familyBits}
 use Rattle.nlri.specs.Bodies.{distinguisher, source, group, bodies, onBody}
-use Rattle.nlri.specs.Reading.{Laid, fieldSize, laidAt, laidSingle, fieldsOf, readNlri, isSPmsi}
-use Rattle.nlri.specs.Layouts.{layoutAt}
+use Rattle.nlri.specs.Fields.{isDiscarded}
+use Rattle.nlri.specs.Reading.{Laid, fieldSize, laidAt, accepted, acceptedSingle, fieldsOf, readNlri, isSPmsi}
+use Rattle.nlri.specs.Layouts.{laidLayout}
 use Rattle.nlri.specs.Inner.{leftFault, bodyFault, afterFlow, headerAt, withKey, sPmsiUnder}
 use Rattle.nlri.proofs.Definitions.Whole.{part-whole, single-laid-out}
-use Rattle.nlri.proofs.Definitions.ReadNumbers.{refuses-done, refuses-front}
+use Rattle.nlri.proofs.Definitions.ReadNumbers.{laying, refuses-done, refuses-front}
 use Rattle.nlri.proofs.Functions.Ends.{number-mapped, left-fixed, left-drop}
 use Rattle.nlri.proofs.Functions.Fronts.{front-typed}
 use Rattle.nlri.proofs.Functions.Shapes.{out, total, other-sizes}
@@ -41,7 +42,7 @@ none-of (given laid) h = tested (eqb (laid .type) 3) (λ t. absurd (h laid refl 
 
 module _ (bits : ℕ) (s : List ℕ) where
   -- the octets of a single NLRI of type 3
-  opens : (laid : Laid) → laidSingle bits s ≡ given laid → laid .type ≡ 3 → (getD s 0 0 ≡ 3) × (getD s 1 0 ≡ length s - 2) × (10 ≤ length s)
+  opens : (laid : Laid) → acceptedSingle bits s ≡ given laid → laid .type ≡ 3 → (getD s 0 0 ≡ 3) × (getD s 1 0 ≡ length s - 2) × (10 ≤ length s)
   unfolding withKey either
   opens laid e three =
       let o = single-laid-out bits s laid e in
@@ -55,21 +56,21 @@ module _ (bits : ℕ) (s : List ℕ) where
 
     -- its number is that of the source, group and originator where they stand
     number : numberOf (laidAt bits s) ≡ leftFault bits 3 (source ∷ group ∷ afterFlow 3) 10 s
-    unfolding layoutAt bodyFault onBody bodies afterFlow pick fieldSize
+    unfolding laidLayout bodyFault onBody bodies afterFlow pick fieldSize
     number =
         sym (number-mapped _ _) ∙ sym (front-typed bits s 3 (length s - 2) header) ∙ ap (bodyFault bits 3) (part-whole s (length s - 2) refl)
         ∙ sym (left-fixed bits 3 distinguisher _ 8 0 (drop 2 s) (λ y. refl)) ∙ left-drop bits 3 _ 2 8 s enough
 
-    by-number : ofSPmsi (laidSingle bits s) ≡ eqb (numberOf (laidAt bits s)) DONE
-    unfolding laidSingle ofSPmsi
+    by-number : ofSPmsi (acceptedSingle bits s) ≡ eqb (numberOf (laidAt bits s)) DONE
+    unfolding acceptedSingle ofSPmsi accepted isDiscarded fieldsOf
     by-number =
         tested (eqb (numberOf (laidAt bits s)) DONE)
-        (λ yes. let r = refuses-done _ (refuses-front bits s) (eqb-true _ _ yes) in let o = out bits s (r .0) (r .1) in
-        sym (on-given true _ (r .0) _ _ (sym (goes _ _ (r .0) _ (r .1) (sym (pick-true _ _ _ (eq-eqb (length s - 2) (r .0 .size) (sym n ∙ sym (o .sized))))))) (sym (eq-eqb _ 3 (o .typed ∙ t)))) ∙ sym yes)
+        (λ yes. let r = refuses-done _ (laying (refuses-front bits s)) (eqb-true _ _ yes) in let o = out bits s (r .0) (r .1) in
+        sym (on-given true _ (r .0) _ _ (sym (goes _ _ (r .0) _ (r .1) (sym (pick-true _ _ _ (eq-eqb (length s - 2) (r .0 .size) (sym n ∙ sym (o .sized))) ∙ pick-false _ _ _ (both-left _ _ (ne-eqb (r .0 .type) 5 (λ five. omega (arith, o .typed, t)))))))) (sym (eq-eqb _ 3 (o .typed ∙ t)))) ∙ sym yes)
         (λ no. sym (on-refused false _ _ _ _ (sym (stops _ _ _ (refused-of _ _ refl (eqb-false _ _ no)))) refl) ∙ sym no)
 
   -- document 01's reading of a single NLRI, by the octets
-  s-pmsi-by-octets : ofSPmsi (laidSingle bits s) ≡ sPmsiUnder bits s
+  s-pmsi-by-octets : ofSPmsi (acceptedSingle bits s) ≡ sPmsiUnder bits s
   unfolding sPmsiUnder
   s-pmsi-by-octets =
       by-both _ _ _ (λ off. none-of _ (λ l e t. opposite (le-leb _ _ (opens l e t .2)) off))

@@ -9,25 +9,27 @@ use native.Mathlib.Omega.{arith}
 use borrow.Author.Tests.{eqb-true}
 use lib.Dec.{eqb}
 use lib.ListN.{length, getD, take, drop, length-drop}
-use lib.Seq.{drop-drop, take-nil, getD-take, getD-drop}
+use lib.Seq.{drop-drop, take-take, take-nil, getD-take, getD-drop}
 use Rattle.octets.specs.Choice.{pick, either, both}
 use Rattle.octets.specs.Outcome.{given}
 use Rattle.octets.specs.Octets.{part, numberIn}
-use Rattle.octets.proofs.Choice.{pick-true, pick-false, tested, opposite, is-false, either-true}
+use Rattle.octets.proofs.Choice.{pick-true, pick-false, tested, opposite, is-false, both-left, either-true}
 use Rattle.octets.proofs.Lists.{length-part, drop-taken}
 use Rattle.fec_elements.specs.Reading.{opaqueStart, fecSize}
 use Rattle.fec_elements.proofs.Nesting.{size-read}
-use Rattle.nlri.specs.Bodies.{FieldKind, distinguisher, sourceAs, source, group, originator, key, fec, bodies, fieldIn, sameKind, codeOf, hasField}
-use Rattle.nlri.specs.Reading.{Laid, addressField, fixedField, fieldSize, laidAt, laidSingle, keyField, cut, fieldsOf}
+use Rattle.nlri.specs.Bodies.{FieldKind, distinguisher, sourceAs, source, group, originator, key, fec, bodies, onBody, bodyOf, fieldIn, sameKind, codeOf, hasField}
+use Rattle.nlri.specs.Fields.{isDiscarded}
+use Rattle.nlri.specs.Reading.{Laid, addressField, fixedField, fieldSize, laidAt, acceptedSingle, keyField, cut, fieldsOf}
+use Rattle.nlri.specs.Groups.{isSsm}
 use Rattle.nlri.specs.Layouts.{layoutOf}
-use Rattle.nlri.specs.Inner.{withKey, withFec, withSourceAs, sourceStart, fecStart, fromFec, distinguisherAt, sourceAsAt, fieldsAt, LayoutWithin}
+use Rattle.nlri.specs.Inner.{withKey, withFec, withSourceAs, sourceStart, sizeAt, isDiscardedAt, fecStart, fromFec, distinguisherAt, sourceAsAt, fieldsAt, LayoutWithin}
 use Rattle.nlri.proofs.Definitions.FieldRecords.{fields-same}
 use Rattle.nlri.proofs.Definitions.Sizes.{fixed-is, address-is, originator-given}
 use Rattle.nlri.proofs.Definitions.Lengths.{originator-sized}
 use Rattle.nlri.proofs.Definitions.Table.{order, every, every-row, known, known-octet, agree, agree-same, lacks}
 use Rattle.nlri.proofs.Definitions.Judged.{field-within, address-most}
 use Rattle.nlri.proofs.Definitions.Starts.{before, sumOf, StandsAt, sizeIn, startIn, starts, body-stands, body-piece, body-all}
-use Rattle.nlri.proofs.Definitions.Whole.{LaidOut, laid-out, part-whole, single-laid-out}
+use Rattle.nlri.proofs.Definitions.Whole.{LaidOut, laid-out, fieldsLaid, fields-laid, part-whole, single-laid-out}
 use Rattle.nlri.proofs.Definitions.Keys.{key-within}
 
 -- parts of an NLRI
@@ -50,6 +52,20 @@ address-part s start size = drop-take size (drop start s) ∙ ap (take (size - 1
 drop-part : (s : List ℕ) (start size k : ℕ) → k ≤ size → drop k (part s start size) ≡ part s (start + k) (size - k)
 unfolding part
 drop-part s start size k h = drop-taken k size (drop start s) h ∙ ap (take (size - k)) (drop-drop k start s)
+
+pub part-part : (s : List ℕ) (start size k m : ℕ) → k + m ≤ size → part (part s start size) k m ≡ part s (start + k) m
+unfolding part
+part-part s start size k m h = ap (take m) (drop-part s start size k (omega arith)) ∙ take-take m (size - k) (drop (start + k) s) (omega arith)
+
+-- an address in a body, behind its length octet
+inner-address : (s : List ℕ) (size start m : ℕ) → start + (1 + m) ≤ size → drop 1 (part (part s 2 size) start (1 + m)) ≡ part s (3 + start) m
+unfolding part
+inner-address s size start m h =
+    let one : 1 + m - 1 ≡ m = omega arith in
+    let at : 2 + (start + 1) ≡ 3 + start = omega arith in
+    drop-take (1 + m) (drop start (part s 2 size)) ∙ ap (λ (k : ℕ). take k (drop 1 (drop start (part s 2 size)))) one
+    ∙ ap (take m) (drop-drop 1 start (part s 2 size) ∙ drop-part s 2 size (start + 1) (omega arith))
+    ∙ take-take m (size - (start + 1)) (drop (2 + (start + 1)) s) (omega arith) ∙ ap (λ (k : ℕ). take m (drop k s)) at
 
 -- a type has no key where it has a FEC
 pub unkeyed-fec : (type : ℕ) → withFec type ≡ true → withKey type ≡ false
@@ -224,6 +240,35 @@ module _ (bits : ℕ) (s : List ℕ) (laid : Laid) (e : laidAt bits s ≡ given 
         second = rw next at (address group (z distinguisher + z sourceAs + z source) (λ y. refl) (omega (arith, o .unkeyed)) (unkeyed-row n .1 ∙ f));
       }
 
+  -- the group of a type 5, by its octets (W-210)
+  group-piece : laid .type ≡ 5 → fieldsLaid s laid .group ≡ part s (12 + sizeAt s 10) (sizeAt s (11 + sizeAt s 10))
+  unfolding withKey either sourceStart pick bodyOf onBody bodies hasField sameKind codeOf sizeAt
+  group-piece five =
+      let n : withKey (laid .type) ≡ false = ap withKey five in
+      let f : hasField source (laid .body) ≡ true = ap (hasField source) (out .body ∙ ap bodyOf five) in
+      let w = flow-sizes n f in
+      let st = starts (laid .body) (laid .sizes) in
+      let o = other-sizes n in
+      let bare = flow-bare n f in
+      let begin : sourceStart (laid .type) ≡ 11 = ap sourceStart five in
+      let one : z source ≡ 1 + getD s 10 0 / 8 = w .first ∙ ap (λ (k : ℕ). 1 + getD s (k - 1) 0 / 8) begin in
+      let next : sourceStart (laid .type) - 1 + z source ≡ 11 + getD s 10 0 / 8 = omega arith in
+      let two : z group ≡ 1 + getD s (11 + getD s 10 0 / 8) 0 / 8 = w .second ∙ ap (λ (k : ℕ). 1 + getD s k 0 / 8) next in
+      let at : startIn (laid .body) (laid .sizes) group ≡ 9 + getD s 10 0 / 8 = omega (arith, o .unkeyed, flow-start n f) in
+      let within : 9 + getD s 10 0 / 8 + (1 + getD s (11 + getD s 10 0 / 8) 0 / 8) ≤ laid .size = omega (arith, total, o .eight) in
+      let sum : 3 + (9 + getD s 10 0 / 8) ≡ 12 + getD s 10 0 / 8 = omega arith in
+      ap (drop 1) (kind-piece group ∙ ap₂ (part (part s 2 (laid .size))) at two)
+      ∙ inner-address s (laid .size) (9 + getD s 10 0 / 8) (getD s (11 + getD s 10 0 / 8) 0 / 8) within
+      ∙ ap (λ (k : ℕ). part s k (getD s (11 + getD s 10 0 / 8) 0 / 8)) sum
+
+  pub discarded-laid : isDiscarded bits (fieldsOf laid s) ≡ isDiscardedAt bits s
+  unfolding isDiscarded isDiscardedAt laidAt
+  discarded-laid =
+      ap (isDiscarded bits) (fields-laid (keyField bits) (λ type x n h. key-within bits type x n h .1) bits s laid e)
+      ∙ tested (eqb (laid .type) 5)
+      (λ y. ap₂ (λ (t : ℕ) (g : List ℕ). both (eqb t 5) (isSsm bits g)) (out .typed) (group-piece (eqb-true _ _ y)))
+      (λ n. both-left _ _ n ∙ sym (both-left _ _ (ap (λ (t : ℕ). eqb t 5) (sym (out .typed)) ∙ n)))
+
   -- a FEC, whose size is what its own lengths say, behind the route distinguisher or the source AS
   pub record FecSizes : Type 0 where
     pub none : (z source ≡ 0) × (z group ≡ 0)
@@ -370,7 +415,7 @@ module _ (bits : ℕ) (small : bits ≤ 128) (s : List ℕ) (laid : Laid) (e : l
       number
       held
 
-pub shaped : (bits : ℕ) (s : List ℕ) (laid : Laid) → bits ≤ 128 → laidSingle bits s ≡ given laid → Shaped laid s
+pub shaped : (bits : ℕ) (s : List ℕ) (laid : Laid) → bits ≤ 128 → acceptedSingle bits s ≡ given laid → Shaped laid s
 shaped bits s laid small e =
     let o = single-laid-out bits s laid e in
     tested (withKey (laid .type)) (leaf-shaped bits small s laid (o .front) (o .all)) (other-shaped bits small s laid (o .front) (o .all))

@@ -1,19 +1,19 @@
 -- A single NLRI: its number, also where it is to be of a type, its layout, and its fields by its layout.
 use mathlib.Core.Path.{_≡_, refl, sym, _∙_, ap, ap₂, subst}
-use mathlib.Core.Bool.{true}
+use mathlib.Core.Bool.{Bool, true, false}
 use mathlib.Core.Logic.{⊎-elim}
 use mathlib.Core.List.{List}
 use Prim.Native.Nat.{ℕ, zero, suc, _+_, _-_, _≤_, _<_}
 use native.Mathlib.Omega.{arith}
 use borrow.Author.Tests.{eqb-true, eq-eqb, ne-eqb}
 use lib.ListN.{length, getD}
-use Rattle.octets.specs.Numbers.{DONE, LENGTH, FAMILY, KIND}
+use Rattle.octets.specs.Numbers.{DONE, LENGTH, FAMILY, KIND, GROUP}
 use Rattle.octets.specs.Choice.{pick, either}
 use Rattle.octets.specs.Outcome.{Outcome, given, refused, andThen, onOutcome, numberOf}
 use Rattle.octets.specs.Octets.{part}
 use Rattle.octets.specs.declared.Span.{Span}
 use Rattle.octets.proofs.Choice.{pick-true, pick-false, tested, either-true}
-use Rattle.octets.proofs.Outcome.{goes, stops, and-assoc, and-cong, and-pick, and-given, and-refused, passed, given-unless, given-same, refused-alike, refused-of, number-given, number-goes, number-stops, number-picks, number-skips, value, number, refuses-then, refuses-pick}
+use Rattle.octets.proofs.Outcome.{goes, stops, stopped, never, and-assoc, and-cong, and-pick, and-given, and-refused, passed, given-unless, given-otherwise, given-same, refused-alike, refused-of, number-given, number-goes, number-stops, number-picks, number-skips, value, number, refuses-then, refuses-pick}
 use Rattle.nlri.specs.declared.layout.Layout.{Layout}
 use Rattle.nlri.specs.declared.address.Address.{Address}
 use Rattle.nlri.specs.declared.address.RouteDistinguisher.{RouteDistinguisher}
@@ -21,54 +21,89 @@ use Rattle.nlri.specs.declared.fields.Nlri.{Nlri}
 use Rattle.nlri.specs.declared.fields.NlriReading.{NlriReading}
 use Rattle.nlri.specs.Family.{familyBits}
 use Rattle.nlri.specs.Bodies.{sourceAs, originator, fec, bodies, onBody, bodyOf, codeOf, sameKind, hasField}
-use Rattle.nlri.specs.Fields.{Fields}
-use Rattle.nlri.specs.Reading.{Laid, laidAt, laidSingle, fieldsOf, readNlri, readOfType}
-use Rattle.nlri.specs.Layouts.{layoutOf, layoutAt, layoutSingle}
+use Rattle.nlri.specs.Fields.{Fields, isDiscarded}
+use Rattle.nlri.specs.Reading.{Laid, laidAt, accepted, acceptedAt, acceptedSingle, fieldsOf, readNlri, readOfType}
+use Rattle.nlri.specs.Layouts.{layoutOf, layoutAt, laidLayout, layoutSingle}
 use Rattle.nlri.specs.Answers.{nlriStruct, keySpan, fecSpan, nlriAnswer}
-use Rattle.nlri.specs.Inner.{withKey, withFec, fecStart, layoutIn, Stands, fieldsAt, keyAt, fecAt, LayoutWithin, single}
+use Rattle.nlri.specs.Inner.{withKey, withFec, fecStart, layoutIn, Stands, fieldsAt, keyAt, fecAt, LayoutWithin, isDiscardedAt, single}
 use Rattle.nlri.proofs.Definitions.Lengths.{family-octets}
 use Rattle.octets.proofs.Lists.{length-part}
-use Rattle.nlri.proofs.Functions.Shapes.{shaped, originator-least, other-sizes, lacked, has-fec}
+use Rattle.nlri.proofs.Functions.Shapes.{discarded-laid, shaped, originator-least, other-sizes, lacked, has-fec}
 use Rattle.nlri.proofs.Functions.Standing.{stands, laid-as, laid-in}
-use Rattle.nlri.proofs.Functions.Fronts.{layout-octets}
+use Rattle.nlri.proofs.Functions.Fronts.{laid-octets}
 use Rattle.nlri.proofs.Definitions.Families.{family-refused}
-use Rattle.nlri.proofs.Definitions.ReadNumbers.{refuses-done, refuses-layout}
+use Rattle.nlri.proofs.Definitions.ReadNumbers.{laying, refuses-done, refuses-laid-layout, refuses-layout}
 use Rattle.nlri.proofs.Definitions.Whole.{single-laid-out}
 
-pub single-laid : (bits : ℕ) (s : List ℕ) → single bits s ≡ andThen (laidSingle bits s) (λ laid. given (layoutOf laid))
-unfolding single layoutAt laidSingle layoutOf
+pub single-laid : (bits : ℕ) (s : List ℕ) → single bits s ≡ andThen (acceptedSingle bits s) (λ laid. given (layoutOf laid))
+unfolding single laidLayout acceptedSingle layoutOf accepted
 single-laid bits s =
-    and-assoc _ _ _ ∙ and-cong _ _ _ (λ laid e. and-given _ _ ∙ sym (and-pick _ _ _ _ ∙ ap₂ (pick _) (and-given _ _) (and-refused _ _))) ∙ sym (and-assoc _ _ _)
+    and-assoc _ _ _ ∙ and-cong _ _ _ (λ laid e. and-given _ _ ∙ sym (and-pick _ _ _ _ ∙ ap₂ (pick _)
+    (and-pick _ _ _ _ ∙ ap₂ (pick (isDiscarded bits (fieldsOf laid s))) (and-refused _ _) (and-given _ _) ∙ ap (λ (b : Bool). pick b (refused GROUP) (given (layoutOf laid))) (discarded-laid bits s laid e)) (and-refused _ _))) ∙ sym (and-assoc _ _ _)
 
 -- the number of a single NLRI, by that of the NLRI at its front
-module _ (bits : ℕ) (s : List ℕ) (n : ℕ) (e : n ≡ numberOf (layoutAt bits s)) where
+module _ (bits : ℕ) (s : List ℕ) (n : ℕ) (e : n ≡ numberOf (laidLayout bits s)) where
   pub front-refused : (n ≡ DONE → ⊥) → n ≡ numberOf (single bits s)
   unfolding single
   front-refused faulty = number-stops n _ _ (refused-of _ n e faulty)
 
+  pub step-refused : (n ≡ DONE → ⊥) → n ≡ numberOf (layoutAt bits s)
+  unfolding layoutAt acceptedAt laidLayout
+  step-refused faulty =
+      let why : laidAt bits s ≡ refused n = ⊎-elim (λ p. p) (λ later. absurd (never refl (later .second))) (stopped _ _ _ (refused-of _ n e faulty)) in
+      number-stops n _ _ (sym (stops _ _ _ why))
+
   module _ (done : n ≡ DONE) where
-    front : layoutAt bits s ≡ given (layoutIn s)
+    front : laidLayout bits s ≡ given (layoutIn s)
     front = sym (laid-in bits s n e done .1)
 
     pub front-octets : (2 ≤ length s) × (layoutIn s .length ≡ getD s 1 0)
-    front-octets = let o = layout-octets bits s _ front in (o .0, o .3)
+    front-octets = let o = laid-octets bits s _ front in (o .0, o .3)
 
-    pub front-alone : length s - 2 ≡ getD s 1 0 → DONE ≡ numberOf (single bits s)
+    pub front-alone : length s - 2 ≡ getD s 1 0 → isDiscardedAt bits s ≡ false → DONE ≡ numberOf (single bits s)
     unfolding single numberOf
-    front-alone all = number-goes DONE _ (layoutIn s) _ front (number-picks DONE _ _ _ (eq-eqb _ _ (all ∙ sym (front-octets .1))) refl)
+    front-alone all h = number-goes DONE _ (layoutIn s) _ front (number-picks DONE _ _ _ (eq-eqb _ _ (all ∙ sym (front-octets .1))) (number-skips DONE _ _ _ h refl))
+
+    pub front-discarded : length s - 2 ≡ getD s 1 0 → isDiscardedAt bits s ≡ true → GROUP ≡ numberOf (single bits s)
+    unfolding single numberOf
+    front-discarded all h = number-goes GROUP _ (layoutIn s) _ front (number-picks GROUP _ _ _ (eq-eqb _ _ (all ∙ sym (front-octets .1))) (number-picks GROUP _ _ _ h refl))
+
+    -- with GROUP, as a step gives it
+    pub front-accepted-octets : isDiscardedAt bits s ≡ false → DONE ≡ numberOf (layoutAt bits s)
+    unfolding layoutAt acceptedAt accepted laidLayout numberOf
+    front-accepted-octets h =
+        let w = passed _ _ _ front in
+        number-goes DONE _ (w .value) _ (sym (goes _ _ _ _ (w .first) (sym (pick-false _ _ _ (discarded-laid bits s (w .value) (w .first) ∙ h))))) refl
+
+    pub front-ssm : isDiscardedAt bits s ≡ true → GROUP ≡ numberOf (layoutAt bits s)
+    unfolding layoutAt acceptedAt accepted laidLayout
+    front-ssm h =
+        let w = passed _ _ _ front in
+        number-stops GROUP _ _ (sym (goes _ _ _ _ (w .first) (sym (pick-true _ _ _ (discarded-laid bits s (w .value) (w .first) ∙ h)))))
 
     pub front-followed : (length s - 2 ≡ getD s 1 0 → ⊥) → LENGTH ≡ numberOf (single bits s)
     unfolding single numberOf
     front-followed more = number-goes LENGTH _ (layoutIn s) _ front (number-skips LENGTH _ _ _ (ne-eqb _ _ (λ q. more (q ∙ front-octets .1))) refl)
 
+-- the same of a step
+pub step-in : (bits : ℕ) (s : List ℕ) (n : ℕ) → n ≡ numberOf (layoutAt bits s) → n ≡ DONE → Stands s × (given (layoutIn s) ≡ layoutAt bits s)
+unfolding layoutAt acceptedAt accepted
+step-in bits s n e done =
+    let r = refuses-done (layoutAt bits s) (refuses-layout bits s) (sym e ∙ done) in
+    let w = passed _ _ _ (r .1) in
+    let v = passed _ _ _ (w .first) in
+    let same : v .value ≡ w .value = given-same (given-otherwise _ _ _ _ (v .second) .1) in
+    let laid : laidAt bits s ≡ given (w .value) = v .first ∙ ap given same in
+    (stands bits s (w .value) laid, ap given (sym (laid-as bits s (w .value) laid) ∙ given-same (w .second)) ∙ sym (r .1))
+
 -- by its number, a single NLRI stands there, laid out as its octets say
 pub single-in : (bits : ℕ) (s : List ℕ) (n : ℕ) → n ≡ numberOf (single bits s) → n ≡ DONE → Stands s × (given (layoutIn s) ≡ single bits s)
 unfolding single
 single-in bits s n e done =
-    let r = refuses-done (single bits s) (refuses-then _ _ (refuses-layout bits s) (λ l. refuses-pick _ _ _ value (number {n = LENGTH} (omega arith)))) (sym e ∙ done) in
+    let r = refuses-done (single bits s) (refuses-then _ _ (laying (refuses-laid-layout bits s)) (λ l. refuses-pick _ _ _ (refuses-pick _ _ _ (number {n = GROUP} (omega arith)) value) (number {n = LENGTH} (omega arith)))) (sym e ∙ done) in
     let w = passed _ _ _ (r .1) in
     let l = laid-in bits s _ refl (number-given (w .first)) in
-    (l .0, l .1 ∙ w .first ∙ given-unless _ _ _ _ (w .second) .1 ∙ sym (r .1))
+    (l .0, l .1 ∙ w .first ∙ given-otherwise _ _ _ _ (given-unless _ _ _ _ (w .second) .1) .1 ∙ sym (r .1))
 
 pub single-is : (o : Outcome Layout) (afi : ℕ) (s : List ℕ) → o ≡ andThen (familyBits afi) (λ bits. single bits s) → o ≡ layoutSingle afi s
 unfolding layoutSingle
@@ -89,7 +124,7 @@ module _ (afi : ℕ) (s : List ℕ) where
 
   pub read-refused : (n : ℕ) → layoutSingle afi s ≡ refused n → readNlri afi s ≡ refused n
   unfolding layoutSingle readNlri
-  read-refused n e = refused-alike (familyBits afi) (λ bits. laidSingle bits s) (λ bits laid. layoutOf laid) (λ bits laid. fieldsOf laid s) n e
+  read-refused n e = refused-alike (familyBits afi) (λ bits. acceptedSingle bits s) (λ bits laid. layoutOf laid) (λ bits laid. fieldsOf laid s) n e
 
 -- the number of an NLRI that is to be of a type: by its family, and by the number of the single NLRI
 module _ (type afi : ℕ) (s : List ℕ) where
@@ -107,7 +142,7 @@ module _ (type afi : ℕ) (s : List ℕ) where
 
       typed : layoutIn s .«route_type» ≡ getD s 0 0
       unfolding single
-      typed = layout-octets bits s (layoutIn s) (sym (laid-in bits s _ refl (number-given (passed _ _ _ (sym (single-in bits s n e done .1)) .first)) .1)) .2
+      typed = laid-octets bits s (layoutIn s) (sym (laid-in bits s _ refl (number-given (passed _ _ _ (sym (single-in bits s n e done .1)) .first)) .1)) .2
 
       pub of-type-given : getD s 0 0 ≡ type → DONE ≡ numberOf (readOfType type afi s)
       unfolding fieldsAt numberOf

@@ -16,10 +16,10 @@ use Rattle.octets.proofs.Outcome.{passed, given-same}
 use Rattle.fec_elements.specs.Reading.{fecSize}
 use Rattle.nlri.specs.Bodies.{FieldKind, distinguisher, sourceAs, source, group, originator, key, fec, bodies, onBody, bodyOf, codeOf, sameKind, hasField}
 use Rattle.nlri.specs.Reading.{Laid, laidAt}
-use Rattle.nlri.specs.Layouts.{layoutOf, layoutAt}
+use Rattle.nlri.specs.Layouts.{layoutOf, laidLayout}
 use Rattle.nlri.specs.Inner.{layoutWith, withKey, withFec, withSourceAs, sourceStart, sizeAt, flowLayout, leafLayout, fecStart, fromFec, fecLayout, mldpLayout, layoutIn, FlowStands, FecStands, KeyStands, MldpStands, Stands}
 use Rattle.nlri.proofs.Definitions.Table.{every, agree, known-above}
-use Rattle.nlri.proofs.Definitions.ReadNumbers.{refuses-done, refuses-layout}
+use Rattle.nlri.proofs.Definitions.ReadNumbers.{laying, refuses-done, refuses-laid-layout}
 use Rattle.nlri.proofs.Definitions.Starts.{sizeIn}
 use Rattle.nlri.proofs.Functions.Shapes.{out, total, has-is, lacked, leaf-sizes, other-sizes, flow-start, flow-bare, flow-sizes, unkeyed-fec, fec-sizes, no-flow}
 
@@ -150,9 +150,9 @@ unfolding sourceStart either pick
 source-active-stands s t b = rw t at (b .flow (λ q. omega arith) (λ q. omega arith) (λ q. omega arith) (omega arith))
 
 -- by the number
-pub laid-in : (bits : ℕ) (s : List ℕ) (n : ℕ) → n ≡ numberOf (layoutAt bits s) → n ≡ DONE → Stands s × (given (layoutIn s) ≡ layoutAt bits s)
-unfolding layoutAt
+pub laid-in : (bits : ℕ) (s : List ℕ) (n : ℕ) → n ≡ numberOf (laidLayout bits s) → n ≡ DONE → Stands s × (given (layoutIn s) ≡ laidLayout bits s)
+unfolding laidLayout
 laid-in bits s n p q =
-    let r = refuses-done _ (refuses-layout bits s) (sym p ∙ q) in
+    let r = refuses-done _ (laying (refuses-laid-layout bits s)) (sym p ∙ q) in
     let w = passed _ _ _ (r .1) in
     (stands bits s (w .value) (w .first), ap given (sym (laid-as bits s (w .value) (w .first)) ∙ given-same (w .second)) ∙ sym (r .1))

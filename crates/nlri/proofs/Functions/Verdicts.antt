@@ -8,7 +8,7 @@ use native.Mathlib.Omega.{arith}
 use borrow.Author.Tests.{eqb-true, ltb-true, ltb-false, eq-eqb, lt-ltb, le-ltb, le-leb}
 use lib.ListN.{length}
 use lib.Dec.{eqb, ltb, leb}
-use Rattle.octets.specs.Numbers.{DONE, TYPE, WIDTH, KEY, SPACE}
+use Rattle.octets.specs.Numbers.{DONE, TYPE, WIDTH, KEY, SPACE, GROUP}
 use Rattle.octets.specs.Choice.{pick, both, either}
 use Rattle.octets.specs.Outcome.{Outcome, given, refused, onOutcome, andThen, numberOf}
 use Rattle.octets.proofs.Choice.{opposite, both-left, both-assoc, both-true-left, both-true-right, either-true, pick-true, pick-false, pick-cong}
@@ -16,7 +16,7 @@ use Rattle.octets.proofs.Outcome.{given-otherwise, given-unless, goes, stops, r
 use Rattle.nlri.specs.declared.fields.Nlri.{Nlri}
 use Rattle.nlri.specs.Family.{allowed, isOriginatorSize}
 use Rattle.nlri.specs.Bodies.{FieldKind, distinguisher, sourceAs, source, group, originator, key, fec, toSeven, bodies, bodyOf, codeOf, sameKind}
-use Rattle.nlri.specs.Fields.{Fields, encodeField, encodeBody, encodeNlri}
+use Rattle.nlri.specs.Fields.{Fields, encodeField, encodeBody, encodeNlri, isDiscarded}
 use Rattle.nlri.specs.Reading.{keyField}
 use Rattle.nlri.specs.Writing.{widthFits, widthsFit, fecNumber, isLong, keyFits, keysFit, isKey}
 use Rattle.nlri.specs.Answers.{addressOctets, structFields}
@@ -172,16 +172,16 @@ module _ (nlri : Nlri) (keyOctets fecOctets : List ℕ) (space bits : ℕ) (eigh
 
   -- what is written, by document 01 and by the writer
   page : Outcome (List ℕ)
-  page = pick (ltb space (length (encodeNlri f))) (refused SPACE) (given (encodeNlri f))
+  page = pick (isDiscarded bits f) (refused GROUP) (pick (ltb space (length (encodeNlri f))) (refused SPACE) (given (encodeNlri f)))
 
   ours : Outcome (List ℕ)
-  ours = pick (ltb space (sizeOf nlri (length keyOctets))) (refused SPACE) (given (nlriOctets nlri keyOctets))
+  ours = pick (isDiscarded bits (structFields nlri [] [])) (refused GROUP) (pick (ltb space (sizeOf nlri (length keyOctets))) (refused SPACE) (given (nlriOctets nlri keyOctets)))
 
   same-octets : listed bodies (nlri .«route_type») ≡ true → page ≡ ours
-  unfolding page ours f
+  unfolding page ours f isDiscarded structFields
   same-octets l =
-      ap (λ (e : List ℕ). pick (ltb space (length e)) (refused SPACE) (given e)) (all-is nlri keyOctets fecOctets l low)
-      ∙ ap (λ (n : ℕ). pick (ltb space n) (refused SPACE) (given (nlriOctets nlri keyOctets))) (sym (size-is nlri keyOctets eight))
+      ap (λ (e : List ℕ). pick (isDiscarded bits (structFields nlri [] [])) (refused GROUP) (pick (ltb space (length e)) (refused SPACE) (given e))) (all-is nlri keyOctets fecOctets l low)
+      ∙ ap (λ (n : ℕ). pick (isDiscarded bits (structFields nlri [] [])) (refused GROUP) (pick (ltb space n) (refused SPACE) (given (nlriOctets nlri keyOctets)))) (sym (size-is nlri keyOctets eight))
 
   -- what stands after the test of the type
   judged : Outcome (List ℕ) → Outcome (List ℕ)
@@ -270,6 +270,11 @@ module _ (bits : ℕ) (nlri : Nlri) (keyOctets : List ℕ) (fits : fitting bits 
       let c = originator-short (nlri .«route_type») (nlri .originator .size) (λ h. sized-nlri f .originator h .0) in
       omega arith
 
+-- a Source Active route has a group
+pub flow-five : (type : ℕ) → type ≡ 5 → hasFlow type ≡ true
+unfolding hasFlow either
+flow-five type e = ap hasFlow e
+
 -- the fields fit where the number is DONE
 pub fits-done : (bits : ℕ) (nlri : Nlri) (keyOctets : List ℕ) (n : ℕ) → n ≡ numberOf (fitting bits nlri keyOctets) → n ≡ DONE → fitting bits nlri keyOctets ≡ given nlri
 unfolding fitting verdict
@@ -280,13 +285,17 @@ module _ (bits : ℕ) (nlri : Nlri) (keyOctets : List ℕ) (space : ℕ) where
   unfolding writtenToSeven
   refused-under n p h = stops _ n _ (refused-of _ n p h)
 
-  pub space-under : fitting bits nlri keyOctets ≡ given nlri → space < sizeOf nlri (length keyOctets) → refused SPACE ≡ writtenToSeven bits nlri keyOctets space
+  pub discarded-under : fitting bits nlri keyOctets ≡ given nlri → isDiscarded bits (structFields nlri [] []) ≡ true → refused GROUP ≡ writtenToSeven bits nlri keyOctets space
   unfolding writtenToSeven
-  space-under e h = goes _ _ _ _ e (sym (pick-true _ _ _ (lt-ltb _ _ h)))
+  discarded-under e h = goes _ _ _ _ e (sym (pick-true _ _ _ h))
 
-  pub given-under : fitting bits nlri keyOctets ≡ given nlri → sizeOf nlri (length keyOctets) ≤ space → given (nlriOctets nlri keyOctets) ≡ writtenToSeven bits nlri keyOctets space
+  pub space-under : fitting bits nlri keyOctets ≡ given nlri → isDiscarded bits (structFields nlri [] []) ≡ false → space < sizeOf nlri (length keyOctets) → refused SPACE ≡ writtenToSeven bits nlri keyOctets space
   unfolding writtenToSeven
-  given-under e h = goes _ _ _ _ e (sym (pick-false _ _ _ (le-ltb _ _ h)))
+  space-under e k h = goes _ _ _ _ e (sym (pick-false _ _ _ k ∙ pick-true _ _ _ (lt-ltb _ _ h)))
+
+  pub given-under : fitting bits nlri keyOctets ≡ given nlri → isDiscarded bits (structFields nlri [] []) ≡ false → sizeOf nlri (length keyOctets) ≤ space → given (nlriOctets nlri keyOctets) ≡ writtenToSeven bits nlri keyOctets space
+  unfolding writtenToSeven
+  given-under e k h = goes _ _ _ _ e (sym (pick-false _ _ _ k ∙ pick-false _ _ _ (le-ltb _ _ h)))
 
 -- a key that the writer takes is short
 pub key-short : (bits : ℕ) (keyOctets : List ℕ) → (bits ≡ 32) ⊎ (bits ≡ 128) → isKey bits 4 keyOctets ≡ true → length keyOctets ≤ 60

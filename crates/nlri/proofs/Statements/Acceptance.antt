@@ -2,31 +2,33 @@
 use mathlib.Core.Path.{_≡_, refl, sym, _∙_, ap, subst}
 use mathlib.Core.Bool.{Bool, true, false, not}
 use mathlib.Core.Logic.{⊎-elim}
-use mathlib.Core.List.{List, [], _∷_, _++_, append-nil}
+use mathlib.Core.List.{List, [], _++_, append-nil}
 use Prim.Native.Nat.{ℕ, suc, _+_, _*_, _/_, _-_, _^_, _≤_, _<_}
 use native.Mathlib.Omega.{arith}
 use borrow.Author.Tests.{eqb-true, eq-eqb, ltb-true, not-true}
 use lib.ListN.{length, drop, take-append-drop}
 use lib.Seq.{take-all}
 use lib.Dec.{eqb, ltb}
+use Rattle.octets.specs.Numbers.{GROUP}
 use Rattle.octets.specs.Choice.{pick, both, either}
-use Rattle.octets.specs.Outcome.{given, andThen}
+use Rattle.octets.specs.Outcome.{Outcome, given, refused, andThen}
 use Rattle.octets.specs.Octets.{AllOctets, numberIn, bigEndian}
-use Rattle.octets.proofs.Choice.{pick-true, opposite, either-true}
-use Rattle.octets.proofs.Outcome.{goes, passed, given-same}
+use Rattle.octets.proofs.Choice.{pick-true, pick-false, either-true}
+use Rattle.octets.proofs.Outcome.{goes, passed, given-same, given-otherwise}
 use Rattle.octets.proofs.Lists.{length-part}
 use Rattle.octets.proofs.NetworkOrder.{number-of-big-endian}
 use Rattle.nlri.specs.Family.{familyBits}
 use Rattle.nlri.specs.Bodies.{FieldKind, distinguisher, sourceAs, source, group, originator, key, fec, KnownType, bodies, bodyOf, fieldIn, codeOf, sameKind, hasField}
-use Rattle.nlri.specs.Fields.{Fields, encodeAddress, encodeField, encodeBody, encodeNlri, LengthFits, WellFormedField, WellFormedBody, WellFormed, KeyOf, restricted}
-use Rattle.nlri.specs.Reading.{Laid, keyField, laidAt, laidSingle, cut, fieldsOf, readNlri}
+use Rattle.nlri.specs.Fields.{Fields, encodeAddress, encodeField, encodeBody, encodeNlri, LengthFits, WellFormedBody, Encodable, Discarded, isDiscarded, WellFormed, KeyOf, restricted}
+use Rattle.nlri.specs.Reading.{Laid, keyField, laidAt, accepted, acceptedAt, acceptedSingle, cut, fieldsOf, readNlri}
 use Rattle.nlri.specs.Statements.{ReadAs, Acceptance}
 use Rattle.nlri.proofs.Definitions.FieldRecords.{fields-same}
-use Rattle.nlri.proofs.Definitions.Table.{SizesOf, rowOf, known, every, every-row, mostIn, field-of-map, lacks, same-kind}
+use Rattle.nlri.proofs.Definitions.Table.{SizesOf, rowOf, known, every, every-row, mostIn, field-of-map, lacks}
 use Rattle.nlri.proofs.Definitions.Judged.{fieldsFrom}
 use Rattle.nlri.proofs.Definitions.Lengths.{family-octets}
-use Rattle.nlri.proofs.Definitions.Whole.{piecesOf, sizesIn, laidOf, cut-body, laid-out, fieldsLaid, single-laid-out, field-in-body, sizes-most, laid-encoded, laid-fits, laid-sound, laid-complete, octets-nlri, length-most}
-use Rattle.nlri.proofs.Definitions.Keys.{key-judges, key-most, octets-key}
+use Rattle.nlri.proofs.Definitions.Whole.{fields-laid, discarded-encoded, piecesOf, sizesIn, laidOf, cut-body, laid-out, fieldsLaid, single-laid-out, field-in-body, sizes-most, laid-encoded, laid-fits, laid-sound, laid-complete, octets-nlri, length-most}
+use Rattle.nlri.proofs.Definitions.Keys.{key-judges, key-within, key-most, octets-key}
+use Rattle.nlri.proofs.Definitions.Discards.{tested-discarded, passes, well-formed}
 
 -- what is nothing where a test fails
 pick-none : {A : Type 0} (b : Bool) (x none : A) → (b ≡ false → x ≡ none) → pick b x none ≡ x
@@ -64,10 +66,11 @@ fields-encoded Key bits f w =
     fields-same refl (at distinguisher) (ap (λ (x : List ℕ). numberIn x 0) (at sourceAs) ∙ number-pick _ _ (field-in-body Key bits f sourceAs body w))
     (ap (drop 1) (at source) ∙ drop-pick-address _ _) (ap (drop 1) (at group) ∙ drop-pick-address _ _) (at originator) (at key) (at fec)
 
--- an NLRI at the front of octets: well-formed fields that stand encoded there
+-- an NLRI laid out at the front of octets: fields that stand encoded there
 pub record Front (bits : ℕ) (s : List ℕ) (laid : Laid) : Type 0 where
   pub fields : Fields
-  pub wellFormed : WellFormed bits fields
+  pub encodable : Encodable bits fields
+  pub same : fields ≡ fieldsOf laid s
   pub is : s ≡ encodeNlri fields ++ drop (2 + laid .size) s
 
 module _ (afi bits : ℕ) (ofFamily : familyBits afi ≡ given bits) where
@@ -81,18 +84,29 @@ module _ (afi bits : ℕ) (ofFamily : familyBits afi ≡ given bits) where
       let r = laid-sound (keyField bits) (KeyOf bits) (key-judges bits whole) bits whole s laid a e in
       record {
         fields = fieldsLaid s laid;
-        wellFormed = record { typed = o .row .known; body = r; fits = laid-fits (keyField bits) bits whole s laid a e };
+        encodable = record { typed = o .row .known; body = r; fits = laid-fits (keyField bits) bits whole s laid a e };
+        same = sym (fields-laid (keyField bits) (λ type x n h. key-within bits type x n h .1) bits s laid e);
         is = sym (take-append-drop (2 + laid .size) s) ∙ ap (λ (x : List ℕ). x ++ drop (2 + laid .size) s) (laid-encoded (keyField bits) bits whole s laid (λ _. a) e);
       }
 
+  -- an NLRI accepted at the front: well-formed fields that stand encoded there
+  pub front-accepted : (s : List ℕ) (laid : Laid) → AllOctets s → acceptedAt bits s ≡ given laid → (f : Fields) × WellFormed bits f × (s ≡ encodeNlri f ++ drop (2 + laid .size) s)
+  unfolding acceptedAt accepted
+  front-accepted s laid a e =
+      let p = passed _ _ _ e in
+      let k = given-otherwise _ _ _ _ (p .second) in
+      let same : p .value ≡ laid = given-same (k .1) in
+      let r = front-sound s laid a (p .first ∙ ap given same) in
+      (r .fields, well-formed bits (r .fields) (r .encodable) (ap (isDiscarded bits) (r .same ∙ ap (λ (x : Laid). fieldsOf x s) (sym same)) ∙ k .0), r .is)
+
   -- what a single NLRI is read as encodes to it, octets or not where it has no source AS
-  single-is-encoded : (s : List ℕ) (laid : Laid) → (hasField sourceAs (bodyOf (laid .type)) ≡ true → AllOctets s) → laidSingle bits s ≡ given laid → s ≡ encodeNlri (fieldsOf laid s)
+  single-is-encoded : (s : List ℕ) (laid : Laid) → (hasField sourceAs (bodyOf (laid .type)) ≡ true → AllOctets s) → acceptedSingle bits s ≡ given laid → s ≡ encodeNlri (fieldsOf laid s)
   unfolding laidAt
   single-is-encoded s laid a e =
       let o = single-laid-out bits s laid e in
       sym (take-all (2 + laid .size) s (omega (arith, o .out .enough, o .all))) ∙ laid-encoded (keyField bits) bits whole s laid a (o .front) ∙ ap encodeNlri (o .fields)
 
-  single-sound : (s : List ℕ) (laid : Laid) → AllOctets s → laidSingle bits s ≡ given laid → ReadAs afi s (fieldsOf laid s)
+  single-sound : (s : List ℕ) (laid : Laid) → AllOctets s → acceptedSingle bits s ≡ given laid → ReadAs afi s (fieldsOf laid s)
   unfolding laidAt fieldsOf
   single-sound s laid a e =
       let single = single-laid-out bits s laid e in
@@ -101,44 +115,70 @@ module _ (afi bits : ℕ) (ofFamily : familyBits afi ≡ given bits) where
       record {
         bits = bits;
         ofFamily = ofFamily;
-        wellFormed = record { typed = o .row .known; body = subst (λ (f : Fields). WellFormedBody (KeyOf bits) bits f (bodyOf (laid .type))) (single .fields) r; fits = subst LengthFits (single .fields) (laid-fits (keyField bits) bits whole s laid a (single .front)) };
+        wellFormed = well-formed bits (fieldsOf laid s)
+            (record { typed = o .row .known; body = subst (λ (f : Fields). WellFormedBody (KeyOf bits) bits f (bodyOf (laid .type))) (single .fields) r; fits = subst LengthFits (single .fields) (laid-fits (keyField bits) bits whole s laid a (single .front)) })
+            (single .passes);
         whole = restricted-from (laid .type) (laid .body) _ (o .body);
         encoded = single-is-encoded s laid (λ _. a) e;
       }
 
-  -- the encoding of well-formed fields lies as these say
-  pub laid-single : (f : Fields) → WellFormed bits f → laidSingle bits (encodeNlri f) ≡ given (laidOf f)
-  unfolding laidSingle laidAt encodeNlri
-  laid-single f w =
-      let body : List FieldKind = bodyOf (f .type) in
-      let laid : laidAt bits (encodeNlri f) ≡ given (laidOf f) =
-      ap (laidAt bits) (sym (append-nil (encodeNlri f))) ∙ laid-complete (keyField bits) (KeyOf bits) (key-judges bits whole) bits whole f [] (w .typed) (w .body) in
-      sym (goes _ _ _ _ laid (sym (pick-true _ _ _ (eq-eqb (suc (suc (length (encodeBody f body))) - 2) (length (encodeBody f body)) (omega arith)))))
+  -- fields that stand encoded at the front are laid out, and accepted unless they are discarded
+  pub laid-front : (f : Fields) (t : List ℕ) → Encodable bits f → laidAt bits (encodeNlri f ++ t) ≡ given (laidOf f)
+  unfolding laidAt
+  laid-front f t w = laid-complete (keyField bits) (KeyOf bits) (key-judges bits whole) bits whole f t (w .typed) (w .body)
 
-  single-encoded : (f : Fields) → WellFormed bits f → andThen (laidSingle bits (encodeNlri f)) (λ laid. given (fieldsOf laid (encodeNlri f))) ≡ given (restricted f)
+  pub accepted-front : (f : Fields) (t : List ℕ) → WellFormed bits f → acceptedAt bits (encodeNlri f ++ t) ≡ given (laidOf f)
+  unfolding acceptedAt accepted
+  accepted-front f t w = sym (goes _ _ _ _ (laid-front f t (w .encodable)) (sym (pick-false _ _ _ (discarded-encoded bits f t ∙ passes afi bits ofFamily f w))))
+
+  pub discarded-front : (f : Fields) (t : List ℕ) → Encodable bits f → Discarded bits f → acceptedAt bits (encodeNlri f ++ t) ≡ refused GROUP
+  unfolding acceptedAt accepted
+  discarded-front f t w d = sym (goes _ _ _ _ (laid-front f t w) (sym (pick-true _ _ _ (discarded-encoded bits f t ∙ tested-discarded bits f d))))
+
+  -- the encoding of encodable fields as a single NLRI, before GROUP
+  laid-alone : (f : Fields) → Encodable bits f → (o : Outcome Laid) → accepted bits (encodeNlri f) (laidOf f) ≡ o → acceptedSingle bits (encodeNlri f) ≡ o
+  unfolding acceptedSingle encodeNlri
+  laid-alone f w o e =
+      let body : List FieldKind = bodyOf (f .type) in
+      sym (goes _ _ _ _ (ap (laidAt bits) (sym (append-nil (encodeNlri f))) ∙ laid-front f [] w)
+      (sym (pick-true _ _ _ (eq-eqb (suc (suc (length (encodeBody f body))) - 2) (length (encodeBody f body)) (omega arith)) ∙ e)))
+
+  discarded-alone : (f : Fields) → isDiscarded bits (fieldsOf (laidOf f) (encodeNlri f)) ≡ isDiscarded bits f
+  discarded-alone f = ap (λ (x : List ℕ). isDiscarded bits (fieldsOf (laidOf f) x)) (sym (append-nil (encodeNlri f))) ∙ discarded-encoded bits f []
+
+  pub discarded-single : (f : Fields) → Encodable bits f → Discarded bits f → acceptedSingle bits (encodeNlri f) ≡ refused GROUP
+  unfolding accepted
+  discarded-single f w d = laid-alone f w (refused GROUP) (pick-true _ _ _ (discarded-alone f ∙ tested-discarded bits f d))
+
+  -- the encoding of well-formed fields lies as these say
+  pub laid-single : (f : Fields) → WellFormed bits f → acceptedSingle bits (encodeNlri f) ≡ given (laidOf f)
+  unfolding accepted
+  laid-single f w = laid-alone f (w .encodable) (given (laidOf f)) (pick-false _ _ _ (discarded-alone f ∙ passes afi bits ofFamily f w))
+
+  single-encoded : (f : Fields) → WellFormed bits f → andThen (acceptedSingle bits (encodeNlri f)) (λ laid. given (fieldsOf laid (encodeNlri f))) ≡ given (restricted f)
   unfolding fieldsOf encodeNlri
   single-encoded f w =
       let body : List FieldKind = bodyOf (f .type) in
       let cuts : cut (sizesIn f body) (encodeBody f body) ≡ piecesOf f body = ap (cut (sizesIn f body)) (sym (append-nil (encodeBody f body))) ∙ cut-body f body [] in
-      sym (goes _ _ _ _ (laid-single f w) (ap given (sym (ap (λ (x : List (List ℕ)). fieldsFrom (f .type) (λ kind. fieldIn [] kind body x)) cuts ∙ fields-encoded (KeyOf bits) bits f (w .body)))))
+      sym (goes _ _ _ _ (laid-single f w) (ap given (sym (ap (λ (x : List (List ℕ)). fieldsFrom (f .type) (λ kind. fieldIn [] kind body x)) cuts ∙ fields-encoded (KeyOf bits) bits f (w .encodable .body)))))
 
   octets-encoded : (f : Fields) → WellFormed bits f → AllOctets (encodeNlri f)
   octets-encoded f w =
       let small = family-octets afi bits ofFamily .1 in
-      octets-nlri (keyField bits) (KeyOf bits) (key-judges bits whole) bits whole (octets-key bits whole small) small f (w .typed) (w .body) (w .fits)
+      octets-nlri (keyField bits) (KeyOf bits) (key-judges bits whole) bits whole (octets-key bits whole small) small f (w .encodable .typed) (w .encodable .body) (w .encodable .fits)
 
   length-encoded : (f : Fields) → WellFormed bits f → length (encodeNlri f) ≤ 257
   unfolding encodeNlri
-  length-encoded f w = omega (arith, w .fits)
+  length-encoded f w = omega (arith, w .encodable .fits)
 
   -- of types 1 to 7
   sizes-encoded : (f : Fields) → WellFormed bits f → f .type ≤ 7 → SizesOf (bodyOf (f .type))
-  sizes-encoded f w low = rowOf (f .type) (known (f .type) (w .typed)) .sizes low
+  sizes-encoded f w low = rowOf (f .type) (known (f .type) (w .encodable .typed)) .sizes low
 
   most-encoded : (f : Fields) (w : WellFormed bits f) → f .type ≤ 7 → length (encodeNlri f) ≤ 2 + mostIn 60 (bodyOf (f .type))
   most-encoded f w low =
       let small = family-octets afi bits ofFamily .1 in
-      length-most (keyField bits) (KeyOf bits) (key-judges bits whole) bits whole 60 f (key-most bits small (f .type) low) small (w .typed) (w .body) (sizes-encoded f w low .bare)
+      length-most (keyField bits) (KeyOf bits) (key-judges bits whole) bits whole 60 f (key-most bits small (f .type) low) small (w .encodable .typed) (w .encodable .body) (sizes-encoded f w low .bare)
 
 -- of types 1 to 7 only a Leaf has a key
 keyless-rows : every (λ n body. either (ltb 7 n) (either (eqb n 4) (not (hasField key body)))) bodies ≡ true
@@ -196,6 +236,6 @@ acceptance =
       octets = λ afi bits f ofFamily w. octets-encoded afi bits ofFamily f w;
       longest = λ afi bits f ofFamily w. length-encoded afi bits ofFamily f w;
       most = λ afi bits f ofFamily w low. omega (arith, most-encoded afi bits ofFamily f w low, sizes-encoded afi bits ofFamily f w low .most);
-      plain = λ afi bits f ofFamily w low other. omega (arith, most-encoded afi bits ofFamily f w low, sizes-encoded afi bits ofFamily f w low .plain (keyless (f .type) (w .typed) low other));
+      plain = λ afi bits f ofFamily w low other. omega (arith, most-encoded afi bits ofFamily f w low, sizes-encoded afi bits ofFamily f w low .plain (keyless (f .type) (w .encodable .typed) low other));
       same = λ afi bits f g ofFamily w v e. given-same (sym (read-encoded afi bits f ofFamily w) ∙ ap (readNlri afi) e ∙ read-encoded afi bits g ofFamily v);
     }

@@ -83,7 +83,7 @@ told afi s f a e =
     let r = acceptance .exactly afi s f a .0 e in
     let body : List FieldKind = bodyOf (f .type) in
     let small : r .bits ≤ 128 = family-octets afi (r .bits) (r .ofFamily) .1 in
-    let at : (k : FieldKind) → hasField k body ≡ true → WellFormedField (KeyOf (r .bits)) (r .bits) f k = λ k h. field-in-body (KeyOf (r .bits)) (r .bits) f k body (r .wellFormed .body) h in
+    let at : (k : FieldKind) → hasField k body ≡ true → WellFormedField (KeyOf (r .bits)) (r .bits) f k = λ k h. field-in-body (KeyOf (r .bits)) (r .bits) f k body (r .wellFormed .encodable .body) h in
     record {
       fields = f;
       readAs = r;
@@ -93,10 +93,10 @@ told afi s f a e =
       group = address-told (f .group) (field-most 16 _ _ (ap (λ (g : Fields). g .group) (r .whole)) (λ h. omega (arith, allowed-most (r .bits) (f .type) (8 * length (f .group)) small (at group h .0))));
       originator = address-told (f .originator) (field-most 16 _ _ (ap (λ (g : Fields). g .originator) (r .whole)) (λ h. originator-sized (length (f .originator)) (at originator h .0) .1));
       sourceAs = refl;
-      keyStart = key-starts (f .type) (r .wellFormed .typed);
+      keyStart = key-starts (f .type) (r .wellFormed .encodable .typed);
       keySize = refl;
       key = key-spanned afi s f e;
-      fecStart = fec-starts (f .type) (r .wellFormed .typed);
+      fecStart = fec-starts (f .type) (r .wellFormed .encodable .typed);
       fecSize = refl;
       fec = fec-spanned afi s f e;
     }

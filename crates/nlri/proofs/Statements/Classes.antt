@@ -14,8 +14,8 @@ use Rattle.octets.specs.Outcome.{Outcome, given, refused, andThen}
 use Rattle.octets.proofs.Choice.{both-true, opposite, both-true-left, both-true-right}
 use Rattle.octets.proofs.Outcome.{stops, never, given-same, refused-same, outcome}
 use Rattle.nlri.specs.Family.{familyBits}
-use Rattle.nlri.specs.Groups.{ASM, SSM, multicast, sourceSpecific, classUnder, classOf}
-use Rattle.nlri.specs.Statements.{Multicast, SourceSpecific, GroupRefusal, badFamily, badGroup, GroupRule}
+use Rattle.nlri.specs.Groups.{ASM, SSM, multicast, sourceSpecific, Multicast, SourceSpecific, classUnder, classOf}
+use Rattle.nlri.specs.Statements.{GroupRefusal, badFamily, badGroup, GroupRule}
 use Rattle.nlri.proofs.Definitions.Lengths.{good-family, family-good}
 use Rattle.nlri.proofs.Definitions.Families.{family-refused}
 
@@ -121,6 +121,11 @@ class-family afi g =
 multicast-good : (afi : ℕ) (g : List ℕ) → Multicast afi g → (afi ≡ 1) ⊎ (afi ≡ 2)
 multicast-good afi g (Multicast.ipv4 size low high) = inl refl
 multicast-good afi g (Multicast.ipv6 size first) = inr refl
+
+-- a group of the standard range is multicast
+pub specific-multicast : {afi : ℕ} {g : List ℕ} → SourceSpecific afi g → Multicast afi g
+specific-multicast (SourceSpecific.ipv4 {g} l h) = let low : 224 ≤ getD g 0 0 = omega arith in let high : getD g 0 0 ≤ 239 = omega arith in Multicast.ipv4 l low high
+specific-multicast (SourceSpecific.ipv6 l h h₁ h₂ h₃) = Multicast.ipv6 l h
 
 specific-good : (afi : ℕ) (g : List ℕ) → SourceSpecific afi g → (afi ≡ 1) ⊎ (afi ≡ 2)
 specific-good afi g (SourceSpecific.ipv4 size first) = inl refl

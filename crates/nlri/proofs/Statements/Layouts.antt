@@ -14,15 +14,14 @@ use Rattle.nlri.specs.declared.layout.Reading.{Reading}
 use Rattle.nlri.specs.declared.layout.Reading.the-variants as reading
 use Rattle.nlri.specs.Family.{familyBits}
 use Rattle.nlri.specs.Bodies.{FieldKind, source, group, originator, key, fec, bodyOf, fieldIn, hasField}
-use Rattle.nlri.specs.Fields.{Fields, encodeAddress, encodeField, encodeBody, encodeNlri, restricted, WellFormed, KeyOf}
-use Rattle.nlri.specs.Reading.{keyField, laidAt, laidSingle, fieldsOf, readNlri}
+use Rattle.nlri.specs.Fields.{Fields, encodeAddress, encodeField, encodeBody, encodeNlri, restricted, WellFormed}
+use Rattle.nlri.specs.Reading.{acceptedAt, acceptedSingle, fieldsOf, readNlri}
 use Rattle.nlri.specs.Layouts.{readingOf, layoutOf, layoutAt, layoutSingle, noLayout}
 use Rattle.nlri.specs.Statements.{ReadAs, layoutFor, LayoutRule}
 use Rattle.nlri.proofs.Definitions.Lengths.{family-octets}
 use Rattle.nlri.proofs.Definitions.Table.{field-of-map}
-use Rattle.nlri.proofs.Definitions.Whole.{laid-complete, laidOf, sizesIn}
-use Rattle.nlri.proofs.Definitions.Keys.{key-judges}
-use Rattle.nlri.proofs.Statements.Acceptance.{acceptance, laid-single}
+use Rattle.nlri.proofs.Definitions.Whole.{laidOf, sizesIn}
+use Rattle.nlri.proofs.Statements.Acceptance.{acceptance, laid-single, accepted-front}
 use Rattle.nlri.proofs.Statements.ReadRefusals.{readRefusals}
 
 -- sizes of a field where the body has it
@@ -59,10 +58,10 @@ module _ (afi bits : ℕ) (ofFamily : familyBits afi ≡ given bits) where
   whole = family-octets afi bits ofFamily .0
 
   pub layout-encoded : (f : Fields) (t : List ℕ) → WellFormed bits f → layoutAt bits (encodeNlri f ++ t) ≡ given (layoutFor f)
-  unfolding layoutAt laidAt
-  layout-encoded f t w = sym (goes _ _ _ _ (laid-complete (keyField bits) (KeyOf bits) (key-judges bits whole) bits whole f t (w .typed) (w .body)) (ap given (sym (layout-laid f))))
+  unfolding layoutAt
+  layout-encoded f t w = sym (goes _ _ _ _ (accepted-front afi bits ofFamily f t w) (ap given (sym (layout-laid f))))
 
-pub layout-refused : (bits : ℕ) (s : List ℕ) (n : ℕ) → laidAt bits s ≡ refused n → layoutAt bits s ≡ refused n
+pub layout-refused : (bits : ℕ) (s : List ℕ) (n : ℕ) → acceptedAt bits s ≡ refused n → layoutAt bits s ≡ refused n
 unfolding layoutAt
 layout-refused bits s n e = sym (stops _ _ _ e)
 
@@ -70,7 +69,7 @@ layout-refused bits s n e = sym (stops _ _ _ e)
 layout-single-encoded : (afi : ℕ) (s : List ℕ) (f : Fields) → ReadAs afi s f → layoutSingle afi s ≡ given (layoutFor f)
 unfolding layoutSingle
 layout-single-encoded afi s f r =
-    sym (goes _ _ _ _ (r .ofFamily) (goes _ _ _ _ (ap (laidSingle (r .bits)) (r .encoded) ∙ laid-single afi (r .bits) (r .ofFamily) f (r .wellFormed)) (ap given (sym (layout-laid f)))))
+    sym (goes _ _ _ _ (r .ofFamily) (goes _ _ _ _ (ap (acceptedSingle (r .bits)) (r .encoded) ∙ laid-single afi (r .bits) (r .ofFamily) f (r .wellFormed)) (ap given (sym (layout-laid f)))))
 
 layout-single-given : (afi : ℕ) (s : List ℕ) (l : Layout) → AllOctets s → layoutSingle afi s ≡ given l → (f : Fields) × ReadAs afi s f × (l ≡ layoutFor f)
 unfolding layoutSingle readNlri
@@ -83,11 +82,11 @@ layout-single-given afi s l a e =
 
 layout-single-refused : (afi : ℕ) (s : List ℕ) (n : ℕ) → layoutSingle afi s ≡ refused n → readNlri afi s ≡ refused n
 unfolding layoutSingle readNlri
-layout-single-refused afi s n e = refused-alike (familyBits afi) (λ bits. laidSingle bits s) (λ bits laid. layoutOf laid) (λ bits laid. fieldsOf laid s) n e
+layout-single-refused afi s n e = refused-alike (familyBits afi) (λ bits. acceptedSingle bits s) (λ bits laid. layoutOf laid) (λ bits laid. fieldsOf laid s) n e
 
 layout-single-refuses : (afi : ℕ) (s : List ℕ) (n : ℕ) → readNlri afi s ≡ refused n → layoutSingle afi s ≡ refused n
 unfolding layoutSingle readNlri
-layout-single-refuses afi s n e = refused-alike (familyBits afi) (λ bits. laidSingle bits s) (λ bits laid. fieldsOf laid s) (λ bits laid. layoutOf laid) n e
+layout-single-refuses afi s n e = refused-alike (familyBits afi) (λ bits. acceptedSingle bits s) (λ bits laid. fieldsOf laid s) (λ bits laid. layoutOf laid) n e
 
 -- answers with the same number and values are equal
 readings-apart : (a b : Reading) → readingOf a ≡ readingOf b → a ≡ b

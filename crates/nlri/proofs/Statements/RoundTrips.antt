@@ -1,29 +1,27 @@
 -- Reading and writing undo each other.
 use mathlib.Core.Path.{_≡_, refl, sym, _∙_, ap, ap₂, subst}
 use mathlib.Core.Bool.{Bool, true, false}
-use mathlib.Core.List.{List, [], _++_}
+use mathlib.Core.List.{List, []}
 use Prim.Native.Nat.{ℕ, _*_, _^_, _≤_, _<_}
 use native.Mathlib.Omega.{arith}
-use borrow.Author.Tests.{le-ltb, eqb-true, eqb-false}
-use lib.ListN.{length, take, drop}
-use lib.Seq.{take-append-seam}
-use lib.Dec.{eqb}
+use borrow.Author.Tests.{le-ltb}
+use lib.ListN.{length}
 use Rattle.octets.specs.Numbers.{DONE}
 use Rattle.octets.specs.Choice.{pick}
 use Rattle.octets.specs.Outcome.{Outcome, given, refused, onOutcome}
 use Rattle.octets.specs.Octets.{AllOctets, none, part}
-use Rattle.octets.proofs.Choice.{pick-cong, pick-true, pick-false}
+use Rattle.octets.proofs.Choice.{pick-cong, pick-false}
 use Rattle.octets.proofs.Outcome.{passed}
 use Rattle.octets.proofs.AllOctets.{octets-sized}
 use Rattle.octets.proofs.Lists.{sized-same, sized-back}
 use Rattle.nlri.specs.Family.{familyBits}
 use Rattle.nlri.specs.Bodies.{FieldKind, distinguisher, sourceAs, source, group, originator, key, fec, bodyOf, hasField}
-use Rattle.nlri.specs.Fields.{Fields, encodeField, encodeBody, encodeNlri, WellFormedField, WellFormed, KeyOf, restricted}
+use Rattle.nlri.specs.Fields.{Fields, encodeNlri, WellFormedField, WellFormed, KeyOf, restricted}
 use Rattle.nlri.specs.Reading.{readNlri}
 use Rattle.nlri.specs.Writing.{writeNlri}
-use Rattle.nlri.specs.Answers.{addressStruct, distinguisherStruct, addressOctets, nlriStruct, structFields, keySpan, nlriAnswer}
+use Rattle.nlri.specs.Answers.{addressStruct, distinguisherStruct, addressOctets, nlriStruct, structFields, nlriAnswer}
 use Rattle.nlri.specs.declared.fields.Nlri.{Nlri}
-use Rattle.nlri.specs.Statements.{ReadAs, HoldsOctets, StructHoldsOctets, RoundTrips}
+use Rattle.nlri.specs.Statements.{HoldsOctets, StructHoldsOctets, RoundTrips}
 use Rattle.nlri.proofs.Definitions.Keys.{octets-key}
 use Rattle.nlri.proofs.Statements.ReadRefusals.{readRefusals, refusal-not-done}
 use Rattle.nlri.proofs.Definitions.Lengths.{allowed-most, originator-sized, family-octets}
@@ -63,7 +61,7 @@ held-read afi s f a e =
     let r = read-sound afi s f a e in
     let body : List FieldKind = bodyOf (f .type) in
     let small : r .bits ≤ 128 = family-octets afi (r .bits) (r .ofFamily) .1 in
-    let at : (k : FieldKind) → hasField k body ≡ true → WellFormedField (KeyOf (r .bits)) (r .bits) f k = λ k h. field-in-body (KeyOf (r .bits)) (r .bits) f k body (r .wellFormed .body) h in
+    let at : (k : FieldKind) → hasField k body ≡ true → WellFormedField (KeyOf (r .bits)) (r .bits) f k = λ k h. field-in-body (KeyOf (r .bits)) (r .bits) f k body (r .wellFormed .encodable .body) h in
     record {
       distinguisherSize = λ h. at distinguisher h .0;
       distinguisher = octets-pick _ _ (ap (λ (g : Fields). g .distinguisher) (r .whole)) (λ h. at distinguisher h .1);
@@ -85,7 +83,7 @@ unfolding restricted structFields nlriStruct distinguisherStruct
 fields-struct afi bits f ofFamily w whole =
     let body : List FieldKind = bodyOf (f .type) in
     let small : bits ≤ 128 = family-octets afi bits ofFamily .1 in
-    let at : (k : FieldKind) → hasField k body ≡ true → WellFormedField (KeyOf bits) bits f k = λ k h. field-in-body (KeyOf bits) bits f k body (w .body) h in
+    let at : (k : FieldKind) → hasField k body ≡ true → WellFormedField (KeyOf bits) bits f k = λ k h. field-in-body (KeyOf bits) bits f k body (w .encodable .body) h in
     fields-same refl
     (pick-cong _ _ _ _ _ (λ h. sized-same 8 (f .distinguisher) (at distinguisher h .0)) (λ _. refl))
     refl

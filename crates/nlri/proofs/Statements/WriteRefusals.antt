@@ -7,7 +7,7 @@ use Prim.Native.Nat.{ℕ, _≤_}
 use native.Mathlib.Omega.{arith}
 use borrow.Author.Tests.{eqb-true, eqb-false, eq-eqb, ne-eqb, ltb-true, ltb-false, lt-ltb, le-ltb}
 use lib.ListN.{length}
-use Rattle.octets.specs.Numbers.{DONE, WIDTH, KEY, LONG, SPACE}
+use Rattle.octets.specs.Numbers.{DONE, WIDTH, KEY, LONG, SPACE, GROUP}
 use Rattle.octets.specs.Choice.{both, either}
 use Rattle.octets.specs.Outcome.{Outcome, given, refused}
 use Rattle.octets.proofs.Choice.{pick-true, pick-false, tested, opposite, both-true, both-true-left, both-true-right, picked, is-false, is-true}
@@ -20,11 +20,12 @@ use Rattle.nlri.specs.Family.{familyBits, rootFamily}
 use Rattle.nlri.specs.Bodies.{FieldKind, distinguisher, sourceAs, source, group, originator, key, fec, KnownType, bodyOf, sameKind, hasField}
 use Rattle.nlri.specs.Fields.{Fields, encodeNlri, WellFormed, KeyOf}
 use Rattle.nlri.specs.Writing.{widthFits, widthsFit, fecNumber, isLong, isKey, keyFits, writeNlri}
-use Rattle.nlri.specs.Statements.{HoldsOctets, WidthFault, WidthsFit, FecFits, TooLong, WriteRefusal, badFamily, badType, badWidth, badFec, long, badKey, noSpace, WriteRefusals}
+use Rattle.nlri.specs.Statements.{HoldsOctets, WidthFault, WidthsFit, FecFits, TooLong, WriteRefusal, badFamily, badType, badWidth, badFec, long, badKey, discarded, noSpace, WriteRefusals}
 use Rattle.nlri.proofs.Definitions.Table.{known, rowOf, same-kind, has-first, has-later, unlisted}
-use Rattle.nlri.proofs.Definitions.Writes.{all, widths-all, keys-all, verdict, verdictOf, write-is, write-well, written, key-judged, key-fits, well-passed}
+use Rattle.nlri.proofs.Definitions.Writes.{all, widths-all, keys-all, verdict, verdictOf, write-is, write-well, written, key-judged, key-fits, well-passed, write-discarded}
 use Rattle.nlri.proofs.Definitions.Fecs.{fec-lent, lent-fec}
 use Rattle.nlri.proofs.Definitions.Families.{family-refused, family-refuses}
+use Rattle.nlri.proofs.Definitions.Discards.{discarded-fields, well-formed}
 
 all-true : (test : FieldKind → Bool) (body : List FieldKind) → all test body ≡ true → (kind : FieldKind) → hasField kind body ≡ true → test kind ≡ true
 unfolding all hasField either
@@ -136,9 +137,13 @@ module _ (afi bits : ℕ) (ofFamily : familyBits afi ≡ given bits) (f : Fields
       (λ short.
       ⊎-elim
       (λ keys.
+      let w = well-passed afi bits ofFamily f held typed (widths .0) whole (short .0) (keys .0) in
+      ⊎-elim (λ ssm. subst (WriteRefusal afi f space) (same GROUP (ssm .1)) (discarded bits ofFamily w (discarded-fields afi bits ofFamily f w (ssm .0))))
+      (λ stays.
       ⊎-elim
-      (λ few. subst (WriteRefusal afi f space) (same SPACE (few .1)) (noSpace bits ofFamily (well-passed afi bits ofFamily f held typed (widths .0) whole (short .0) (keys .0)) (ltb-true _ _ (few .0))))
+      (λ few. subst (WriteRefusal afi f space) (same SPACE (few .1)) (noSpace bits ofFamily (well-formed bits f w (stays .0)) (ltb-true _ _ (few .0))))
       (λ room. absurd (never refl (room .1)))
+      (picked _ _ _ _ (stays .1)))
       (picked _ _ _ _ (keys .1)))
       (λ bad.
       let r = all-false (keyFits bits f) body (sym (keys-all bits f body) ∙ bad .0) in
@@ -197,6 +202,7 @@ refusal-complete afi f space n held (badWidth bits ofFamily typed k h fault) = w
 refusal-complete afi f space n held (badFec bits ofFamily typed widths h fault) = fec-stops afi bits ofFamily f held space n typed widths h fault
 refusal-complete afi f space n held (long bits ofFamily typed widths fecs over) = long-stops afi bits ofFamily f held space typed widths fecs over
 refusal-complete afi f space n held (badKey bits ofFamily typed widths fecs short h none) = key-stops afi bits ofFamily f held space typed widths fecs short h none
+refusal-complete afi f space n held (discarded bits ofFamily w d) = write-discarded afi bits ofFamily f space w d
 refusal-complete afi f space n held (noSpace bits ofFamily w few) = write-well afi bits ofFamily f space w ∙ pick-true _ _ _ (lt-ltb space (length (encodeNlri f)) few)
 
 -- no refusal is DONE
@@ -208,6 +214,7 @@ write-not-done afi f space n held (badFec bits ofFamily typed widths h fault) e 
     read-refused _ (f .fec) n (nestedFecRule .exactly (Lent (rootFamily bits)) (f .fec) n (held .fec) .1 fault) .1 e
 write-not-done afi f space n held (long bits ofFamily typed widths fecs over) e = omega arith
 write-not-done afi f space n held (badKey bits ofFamily typed widths fecs short h none) e = omega arith
+write-not-done afi f space n held (discarded bits ofFamily w d) e = omega arith
 write-not-done afi f space n held (noSpace bits ofFamily w few) e = omega arith
 
 accepted : (afi : ℕ) (f : Fields) (space : ℕ) (e : List ℕ) → HoldsOctets f

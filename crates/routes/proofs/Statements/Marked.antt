@@ -6,7 +6,8 @@ use Rattle.octets.specs.Octets.{part, front, numberIn, bigEndian}
 use Rattle.octets.specs.Order.{same, before, zeros, allZero}
 use Rattle.nlri.specs.Family.{familyBits, allowed, isOriginatorSize}
 use Rattle.nlri.specs.Bodies.{bodies, onBody, codeOf, sameKind, fieldIn}
-use Rattle.nlri.specs.Reading.{fixedField, addressEnd, addressField, originatorField, fieldSize, sizesOf, laidWith, laidAt, cut, fieldsOf, laidSingle, readNlri}
+use Rattle.nlri.specs.Fields.{isDiscarded}
+use Rattle.nlri.specs.Reading.{fixedField, addressEnd, addressField, originatorField, fieldSize, sizesOf, laidWith, laidAt, cut, fieldsOf, accepted, acceptedSingle, readNlri}
 use Rattle.nlri.specs.Groups.{multicast, sourceSpecific, classUnder, classOf}
 use Rattle.fec_elements.specs.Reading.{opaqueStart, opaqueSize, fecSize, runsOut, mustFill, takesFamily, familySuits, lengthFault, rootFault, familyFault, wholeFec}
 use Rattle.tunnel.specs.Identifier.{identifierForms, formIn, formOf, oneOf, isIdentifier, readIdentifier}
@@ -29,7 +30,7 @@ use Rattle.routes.specs.Rules.Examples.{emptyTable, afterInstalls, someT
 use Rattle.routes.specs.Rules.DisturbanceRule.{DisturbanceExamples}
 
 computed : MarkedExamples × DisturbanceExamples
-unfolding someTable emptyTable afterInstalls pick both either onOutcome andThen numberOf part front numberIn bigEndian same before zeros allZero familyBits allowed isOriginatorSize bodies onBody codeOf sameKind fieldIn fixedField addressEnd addressField originatorField fieldSize sizesOf laidWith laidAt cut fieldsOf laidSingle readNlri opaqueStart opaqueSize fecSize runsOut mustFill takesFamily familySuits lengthFault rootFault familyFault wholeFec identifierForms formIn formOf oneOf isIdentifier readIdentifier labelOf fieldsIn readAttribute nlriOf attributeOf lookup isHeld holds inserted readSPmsi readLabelled readRoute markOctet placeOf endIn routeIn acceptable placeSound headerStart headerOf placesOf imageOf afiIn countIn placesIn routesFrom routesOf tableSize headerSound placesSound soundOf makeOutcome makeOf installedOf entering installOutcome installOf multicast sourceSpecific classUnder classOf frontNumber frontItems wholeItems listCount wholeList listItems readList firstItem everyItem readPrefixes classAmong classIn classBy readFlow readMatch readAsked tiersOf flowQuery meets ofFields namesTunnel candidate eligible distinguisherOf lower lowestIn orElse firstOf matchIn foundAnswer foundOutput matchedBy matchOutcome matchOf leaving withdrawOutcome withdrawOf removed markLeft renewed goneOf readRouter staleOf restartedOf restartOutcome restartOf judgedTree conditionHolds sourceActiveFault treeQuery readTree
+unfolding someTable emptyTable afterInstalls pick both either onOutcome andThen numberOf part front numberIn bigEndian same before zeros allZero familyBits allowed isOriginatorSize bodies onBody codeOf sameKind fieldIn fixedField addressEnd addressField originatorField fieldSize sizesOf laidWith laidAt cut fieldsOf isDiscarded accepted acceptedSingle readNlri opaqueStart opaqueSize fecSize runsOut mustFill takesFamily familySuits lengthFault rootFault familyFault wholeFec identifierForms formIn formOf oneOf isIdentifier readIdentifier labelOf fieldsIn readAttribute nlriOf attributeOf lookup isHeld holds inserted readSPmsi readLabelled readRoute markOctet placeOf endIn routeIn acceptable placeSound headerStart headerOf placesOf imageOf afiIn countIn placesIn routesFrom routesOf tableSize headerSound placesSound soundOf makeOutcome makeOf installedOf entering installOutcome installOf multicast sourceSpecific classUnder classOf frontNumber frontItems wholeItems listCount wholeList listItems readList firstItem everyItem readPrefixes classAmong classIn classBy readFlow readMatch readAsked tiersOf flowQuery meets ofFields namesTunnel candidate eligible distinguisherOf lower lowestIn orElse firstOf matchIn foundAnswer foundOutput matchedBy matchOutcome matchOf leaving withdrawOutcome withdrawOf removed markLeft renewed goneOf readRouter staleOf restartedOf restartOutcome restartOf judgedTree conditionHolds sourceActiveFault treeQuery readTree
 computed = (
   record { all = (refl, (refl, (refl, (refl, (refl, (refl, (refl, (refl, (refl, (refl, (refl, (refl, (refl, (refl, (refl, (refl, (refl, (refl, (refl, tt))))))))))))))))))) },
   record {

@@ -13,8 +13,7 @@ use Rattle.octets.specs.Choice.{pick}
 use Rattle.octets.specs.Outcome.{given, onOutcome}
 use Rattle.octets.proofs.Choice.{opposite, pick-true, pick-false, pick-case, both-held, both-true}
 use Rattle.nlri.specs.Fields.{Fields}
-use Rattle.nlri.specs.Groups.{ASM, SSM, groupOf}
-use Rattle.nlri.specs.Statements.{Multicast}
+use Rattle.nlri.specs.Groups.{ASM, SSM, Multicast, groupOf}
 use Rattle.groups.specs.Classes.{classBy}
 use Rattle.groups.specs.ClassRule.{GoodPrefixes}
 use Rattle.groups.proofs.ClassRule.{Classed, has}

@@ -14,7 +14,8 @@ use Rattle.octets.proofs.Answering.{answering}
 use Rattle.octets.proofs.Lists.{length-front, take-front, past-front}
 use Rattle.nlri.specs.Family.{familyBits, allowed, isOriginatorSize}
 use Rattle.nlri.specs.Bodies.{bodies, onBody, codeOf, sameKind, fieldIn}
-use Rattle.nlri.specs.Reading.{fixedField, addressEnd, addressField, originatorField, fieldSize, sizesOf, laidWith, laidAt, cut, fieldsOf, laidSingle, readNlri}
+use Rattle.nlri.specs.Fields.{isDiscarded}
+use Rattle.nlri.specs.Reading.{fixedField, addressEnd, addressField, originatorField, fieldSize, sizesOf, laidWith, laidAt, cut, fieldsOf, accepted, acceptedSingle, readNlri}
 use Rattle.tunnel.specs.Identifier.{identifierForms, formIn, formOf, oneOf, isIdentifier, readIdentifier}
 use Rattle.tunnel.specs.Attribute.{labelOf, fieldsIn, readAttribute}
 use Rattle.routes.specs.Route.{Route, nlriOf, attributeOf, staleOf, lookup, isHeld, holds, inserted, arranged}
@@ -134,7 +135,7 @@ salvageRule =
 
 -- the examples, by computation
 pub salvageExamples : SalvageExamples
-unfolding repeatedPlaces smallTable pick both either onOutcome andThen part front numberIn bigEndian same before zeros allZero familyBits allowed isOriginatorSize bodies onBody codeOf sameKind fieldIn fixedField addressEnd addressField originatorField fieldSize sizesOf laidWith laidAt cut fieldsOf laidSingle readNlri identifierForms formIn formOf oneOf isIdentifier readIdentifier labelOf fieldsIn readAttribute nlriOf attributeOf staleOf readSPmsi readLabelled readRoute endIn routeIn markOctet placeOf acceptable placeSound headerStart headerOf placesOf imageOf placesIn tableSize lookup isHeld holds inserted arranged placeAt goodOf keptRoutes reasonOf reasonAt droppedOf droppedOctets listOf salvageOutcome salvageOf
+unfolding repeatedPlaces smallTable pick both either onOutcome andThen part front numberIn bigEndian same before zeros allZero familyBits allowed isOriginatorSize bodies onBody codeOf sameKind fieldIn fixedField addressEnd addressField originatorField fieldSize sizesOf laidWith laidAt cut isDiscarded fieldsOf accepted acceptedSingle readNlri identifierForms formIn formOf oneOf isIdentifier readIdentifier labelOf fieldsIn readAttribute nlriOf attributeOf staleOf readSPmsi readLabelled readRoute endIn routeIn markOctet placeOf acceptable placeSound headerStart headerOf placesOf imageOf placesIn tableSize lookup isHeld holds inserted arranged placeAt goodOf keptRoutes reasonOf reasonAt droppedOf droppedOctets listOf salvageOutcome salvageOf
 salvageExamples =
     record {
       header = refl;

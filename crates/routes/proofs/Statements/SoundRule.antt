@@ -19,7 +19,8 @@ use Rattle.octets.proofs.NetworkOrder.{number-two}
 use Rattle.octets.proofs.Orders.{same-equal, same-of-equal, zero-past, zero-each-past}
 use Rattle.nlri.specs.Family.{familyBits, allowed, isOriginatorSize}
 use Rattle.nlri.specs.Bodies.{bodies, onBody, codeOf, sameKind, fieldIn}
-use Rattle.nlri.specs.Reading.{fixedField, addressEnd, addressField, originatorField, fieldSize, sizesOf, laidWith, laidAt, cut, fieldsOf, laidSingle, readNlri}
+use Rattle.nlri.specs.Fields.{isDiscarded}
+use Rattle.nlri.specs.Reading.{fixedField, addressEnd, addressField, originatorField, fieldSize, sizesOf, laidWith, laidAt, cut, fieldsOf, accepted, acceptedSingle, readNlri}
 use Rattle.tunnel.specs.Identifier.{identifierForms, formIn, formOf, oneOf, isIdentifier, readIdentifier}
 use Rattle.tunnel.specs.Attribute.{labelOf, fieldsIn, readAttribute}
 use Rattle.routes.specs.Route.{Route, entry, nlriOf, attributeOf}
@@ -28,7 +29,7 @@ use Rattle.routes.specs.Table.{headerStart, afiIn, countIn, placesIn, ro
 use Rattle.routes.specs.Arguments.{readSPmsi, readLabelled, readRoute}
 use Rattle.routes.specs.Rules.ArgumentRules.{KnownFamily, SPmsi, Labelled}
 use Rattle.routes.specs.Rules.SoundRule.{countAt, nlriInPlace, attributeInPlace, routeInPlace, PlaceHolds, Sound, SoundRule, smallTable, SoundExamples}
-use Rattle.routes.proofs.Definitions.Bounds.{accepted, read-acceptable}
+use Rattle.routes.proofs.Definitions.Bounds.{accepted as route-accepted, read-acceptable}
 use Rattle.routes.proofs.Definitions.Ownership.{named-after-none}
 use Rattle.routes.proofs.Definitions.Headers.{sound-family, size-sound, places-in}
 use Rattle.routes.proofs.Statements.ArgumentRules.{nlri-accepted, nlri-accepts, labelled, argumentRule}
@@ -38,7 +39,7 @@ use Rattle.routes.proofs.Statements.Images.{sound, length-routes}
 acceptable-taken : (afi : ℕ) (nlri attribute : List ℕ) (stale : Bool) → acceptable afi (entry nlri attribute stale) ≡ true → SPmsi afi nlri × Labelled attribute
 unfolding nlriOf attributeOf
 acceptable-taken afi nlri attribute stale h =
-    let a = accepted afi (entry nlri attribute stale) h in
+    let a = route-accepted afi (entry nlri attribute stale) h in
     (nlri-accepted afi nlri (a .fields) (a .read), labelled attribute (a .attributeFields) (a .labelled))
 
 -- and the other way
@@ -279,7 +280,7 @@ soundRule =
 
 -- the examples, by computation
 pub soundExamples : SoundExamples
-unfolding smallTable pick both either onOutcome andThen part numberIn same before zeros allZero familyBits allowed isOriginatorSize bodies onBody codeOf sameKind fieldIn fixedField addressEnd addressField originatorField fieldSize sizesOf laidWith laidAt cut fieldsOf laidSingle readNlri identifierForms formIn formOf oneOf isIdentifier readIdentifier labelOf fieldsIn readAttribute nlriOf attributeOf readSPmsi readLabelled readRoute endIn routeIn acceptable placeSound headerStart afiIn countIn placesIn routesFrom routesOf tableSize headerSound placesSound soundOf
+unfolding smallTable pick both either onOutcome andThen part numberIn same before zeros allZero familyBits allowed isOriginatorSize bodies onBody codeOf sameKind fieldIn fixedField addressEnd addressField originatorField fieldSize sizesOf laidWith laidAt cut fieldsOf isDiscarded accepted acceptedSingle readNlri identifierForms formIn formOf oneOf isIdentifier readIdentifier labelOf fieldsIn readAttribute nlriOf attributeOf readSPmsi readLabelled readRoute endIn routeIn acceptable placeSound headerStart afiIn countIn placesIn routesFrom routesOf tableSize headerSound placesSound soundOf
 soundExamples =
     record {
       sound = refl;

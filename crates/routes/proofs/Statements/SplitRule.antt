@@ -14,7 +14,7 @@ use Rattle.octets.specs.Outcome.{Outcome, given, refused, onOutcome, andThen}
 use Rattle.octets.specs.Lists.{Among}
 use Rattle.octets.proofs.Choice.{tested, picks, skips, pick-case}
 use Rattle.nlri.specs.Fields.{Fields}
-use Rattle.nlri.specs.Statements.{Multicast, ipv4, ipv6}
+use Rattle.nlri.specs.Groups.{Multicast, ipv4, ipv6}
 use Rattle.routes.specs.declared.Matched.{Matched}
 use Rattle.routes.specs.Route.{Route, nlriOf, Distinct}
 use Rattle.routes.specs.Query.{Query, Flow}

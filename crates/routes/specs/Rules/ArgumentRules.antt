@@ -9,7 +9,7 @@ use Rattle.octets.specs.Numbers.{LABEL, KIND, FLOW, SPACE}
 use Rattle.octets.specs.Outcome.{given, refused}
 use Rattle.nlri.specs.Fields.{Fields}
 use Rattle.nlri.specs.Reading.{readNlri}
-use Rattle.nlri.specs.Statements.{Multicast}
+use Rattle.nlri.specs.Groups.{Multicast}
 use Rattle.groups.specs.ClassRule.{GoodPrefixes, PrefixRefusal}
 use Rattle.tunnel.specs.Attribute.{AttributeFields, readAttribute}
 use Rattle.routes.specs.Route.{route}

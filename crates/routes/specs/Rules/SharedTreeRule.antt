@@ -11,7 +11,7 @@ use Rattle.octets.specs.Outcome.{given, refused}
 use Rattle.octets.specs.Lists.{Among}
 use Rattle.lists.specs.LentLists.{Item, listCount, readList}
 use Rattle.nlri.specs.Fields.{Fields}
-use Rattle.nlri.specs.Statements.{Multicast}
+use Rattle.nlri.specs.Groups.{Multicast}
 use Rattle.groups.specs.ClassRule.{GoodPrefixes, PrefixRefusal, Specific}
 use Rattle.routes.specs.Route.{Route, Distinct}
 use Rattle.routes.specs.Query.{Query}

@@ -5,9 +5,9 @@ use mathlib.Core.Path.{_≡_, _∙_, ap}
 use denote.Ref.{now}
 use lib.ListN.{length}
 use mathlib.Core.List.{List}
-use Rattle.nlri.specs.Inner.{headerOutcome, headerAt, bodyFault}
+use Rattle.nlri.specs.Inner.{headerOutcome, headerAt, acceptedFault}
 use Rattle.nlri.proofs.Definitions.Sizes.{header-within}
-use Rattle.nlri.proofs.Functions.Fronts.{front-typed, front-unread}
+use Rattle.nlri.proofs.Functions.Discards.{accepted-typed, step-unread}
 use Rattle.octets.proofs.Lists.{lent-part, lent-whole}
 use Rattle.nlri.proofs.Functions.Via.{typed-given, unread-given}
 use borrow.Author.Needs.{needs}
@@ -25,8 +25,8 @@ returns-2 : tie.Need-returns-2
 returns-2 c =
     let a = c .before .before .before .before .before .before .before .before .args in
     let h = c .before .before .before .route-type .given .0 in
-    c .body-fault .ensures ∙ ap (λ (x : List ℕ). bodyFault (a .kind .bits) (h .0) x) (lent-part 2 (h .1 .0) (now (a .s)))
-    ∙ front-typed _ _ _ _ (typed-given _ _ _ _ (headed (c .before .before .before .before .before)) (c .before .before .before .route-type .given .1))
+    c .body-fault .ensures ∙ ap (λ (x : List ℕ). acceptedFault (a .kind .bits) (h .0) x) (lent-part 2 (h .1 .0) (now (a .s)))
+    ∙ accepted-typed _ _ _ _ (typed-given _ _ _ _ (headed (c .before .before .before .before .before)) (c .before .before .before .route-type .given .1))
 
 pub front-fault-spec : {M : Type 1} → statement M
 front-fault-spec =
@@ -43,5 +43,5 @@ front-fault-spec =
     (search needs)
     (λ c. within c)
     (search needs)
-    (λ c. front-unread _ _ _ (unread-given _ _ _ (headed (c .before .before .before)) (c .before .number .given .1)))
+    (λ c. step-unread _ _ _ (unread-given _ _ _ (headed (c .before .before .before)) (c .before .number .given .1)))
     returns-2)

@@ -3,7 +3,7 @@ use mathlib.Core.Path.{sym, _∙_, ap}
 use Rattle.octets.specs.Outcome.{given}
 use Rattle.nlri.specs.Layouts.{readingOf}
 use Rattle.octets.proofs.Outcome.{refused-of}
-use Rattle.nlri.proofs.Functions.Standing.{laid-in}
+use Rattle.nlri.proofs.Functions.Singles.{step-in}
 use borrow.Author.Needs.{needs}
 use Rattle.nlri.proofs.read.read_front.Statement.{statement}
 use Rattle.nlri.proofs.read.read_front.Tie as tie
@@ -15,5 +15,5 @@ read-front-spec =
     (tie.spec
     (search needs)
     (λ c. sym (refused-of _ _ (c .before .front-fault .ensures) (c .if1 .taken)))
-    (λ c κs. laid-in _ _ _ (c .before .front-fault .ensures) (c .if1 .left) .0)
-    (λ c. ap given (c .layout-in .ensures) ∙ laid-in _ _ _ (c .before .before .front-fault .ensures) (c .before .if1 .left) .1))
+    (λ c κs. step-in _ _ _ (c .before .front-fault .ensures) (c .if1 .left) .0)
+    (λ c. ap given (c .layout-in .ensures) ∙ step-in _ _ _ (c .before .before .front-fault .ensures) (c .before .if1 .left) .1))

@@ -1,6 +1,7 @@
 -- `nlri::read::single_fault` meets its contract.
-use native.Mathlib.Omega.{arith}
-use Rattle.nlri.proofs.Functions.Singles.{front-refused, front-octets, front-alone, front-followed}
+use mathlib.Core.Path.{sym, _∙_, ap}
+use Rattle.nlri.specs.Inner.{followedFault}
+use Rattle.nlri.proofs.Functions.Discards.{is-followed, not-followed}
 use borrow.Author.Needs.{needs}
 use Rattle.nlri.proofs.read.single_fault.Statement.{statement}
 use Rattle.nlri.proofs.read.single_fault.Tie as tie
@@ -10,9 +11,7 @@ single-fault-spec =
     tie.close
     (tie.spec
     (search needs)
-    (λ c. front-refused _ _ _ (c .before .front-fault .ensures) (c .if1 .taken))
-    (λ c. let h = front-octets _ _ _ (c .before .front-fault .ensures) (c .if1 .left) in omega arith)
-    (λ c. let h = front-octets _ _ _ (c .before .before .front-fault .ensures) (c .before .if1 .left) in omega arith)
-    (λ c. omega (arith, c .shared-slice-known2 .given 1))
-    (λ c. front-followed _ _ _ (c .before .before .before .front-fault .ensures) (c .before .before .if1 .left) (c .if2 .taken))
-    (λ c. front-alone _ _ _ (c .before .before .before .front-fault .ensures) (c .before .before .if1 .left) (c .if2 .left)))
+    (search needs)
+    (search needs)
+    (λ c. c .followed-fault .ensures ∙ ap followedFault (c .before .before .before .front-fault .ensures) ∙ is-followed _ _ (sym (c .before .before .is-followed .ensures) ∙ c .before .if1 .taken))
+    (λ c. c .before .before .front-fault .ensures ∙ not-followed _ _ (sym (c .before .is-followed .ensures) ∙ c .if1 .left)))

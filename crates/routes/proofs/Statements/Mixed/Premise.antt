@@ -9,7 +9,8 @@ use Rattle.octets.specs.Octets.{part, numberIn, bigEndian}
 use Rattle.octets.specs.Order.{same, before, zeros, allZero}
 use Rattle.nlri.specs.Family.{familyBits, allowed, isOriginatorSize}
 use Rattle.nlri.specs.Bodies.{bodies, onBody, codeOf, sameKind, fieldIn}
-use Rattle.nlri.specs.Reading.{fixedField, addressEnd, addressField, originatorField, fieldSize, sizesOf, laidWith, laidAt, cut, fieldsOf, laidSingle, readNlri}
+use Rattle.nlri.specs.Fields.{isDiscarded}
+use Rattle.nlri.specs.Reading.{fixedField, addressEnd, addressField, originatorField, fieldSize, sizesOf, laidWith, laidAt, cut, fieldsOf, accepted, acceptedSingle, readNlri}
 use Rattle.tunnel.specs.Identifier.{identifierForms, formIn, formOf, oneOf, isIdentifier, readIdentifier}
 use Rattle.tunnel.specs.Attribute.{labelOf, fieldsIn, readAttribute}
 use Rattle.octets.specs.Lists.{chosen}
@@ -32,7 +33,7 @@ numberAnswered (restarted r) = r .number
 numberAnswered (matched m) = m .answer .number
 
 pub premise : Premise
-unfolding pick both either onOutcome andThen numberOf part numberIn bigEndian same before zeros allZero familyBits allowed isOriginatorSize bodies onBody codeOf sameKind fieldIn fixedField addressEnd addressField originatorField fieldSize sizesOf laidWith laidAt cut fieldsOf laidSingle readNlri identifierForms formIn formOf oneOf isIdentifier readIdentifier labelOf fieldsIn readAttribute nlriOf attributeOf lookup isHeld holds inserted arranged readSPmsi readLabelled readRoute markOctet placeOf endIn routeIn acceptable placeSound headerStart headerOf placesOf imageOf afiIn countIn placesIn routesFrom routesOf tableSize headerSound placesSound soundOf makeOutcome makeOf installedOf entering installOutcome installOf originatorOf ownerOf ownedBy argued entered actAnswer actAfter bookAnswer bookAfter fed chosen bookOf isAmong onceEach dueBy dueAnswer stepOf endOf namedIn namedBy anySource oneInstall twoInstalls numberAnswered
+unfolding pick both either onOutcome andThen numberOf part numberIn bigEndian same before zeros allZero familyBits allowed isOriginatorSize bodies onBody codeOf sameKind fieldIn fixedField addressEnd addressField originatorField fieldSize sizesOf laidWith laidAt cut fieldsOf isDiscarded accepted acceptedSingle readNlri identifierForms formIn formOf oneOf isIdentifier readIdentifier labelOf fieldsIn readAttribute nlriOf attributeOf lookup isHeld holds inserted arranged readSPmsi readLabelled readRoute markOctet placeOf endIn routeIn acceptable placeSound headerStart headerOf placesOf imageOf afiIn countIn placesIn routesFrom routesOf tableSize headerSound placesSound soundOf makeOutcome makeOf installedOf entering installOutcome installOf originatorOf ownerOf ownedBy argued entered actAnswer actAfter bookAnswer bookAfter fed chosen bookOf isAmong onceEach dueBy dueAnswer stepOf endOf namedIn namedBy anySource oneInstall twoInstalls numberAnswered
 premise =
     record {
       made = refl;

@@ -12,5 +12,9 @@ returns-2 : tie.Need-returns-2
 unfolding isSkipped
 returns-2 c = search flags
 
+returns-3 : tie.Need-returns-3
+unfolding isSkipped
+returns-3 c = search flags
+
 pub is-skipped-spec : {M : Type 1} → statement M
-is-skipped-spec = tie.close (tie.spec returns returns-2)
+is-skipped-spec = tie.close (tie.spec returns returns-2 returns-3)

@@ -7,7 +7,7 @@ use Rattle.octets.specs.Numbers.{DONE}
 use Rattle.octets.proofs.Choice.{flag-off, flag-on}
 use Rattle.runs.specs.declared.turning.Turn.the-variants.{Skipped}
 use Rattle.runs.proofs.Steps.{step-read, stops-ended, stops-refused}
-use Rattle.runs.proofs.Turns.{not-skipped, within-skipped, turn-reads, turn-skips, turn-stops}
+use Rattle.runs.proofs.Turns.{never-skipped, within-skipped, turn-reads, turn-skips, turn-stops}
 use Rattle.runs.proofs.turning.take_turn.Statement.{statement}
 use Rattle.runs.proofs.turning.take_turn.Tie as tie
 
@@ -30,7 +30,7 @@ returns-2 : tie.Need-returns-2
 returns-2 c = sym (turn-reads _ _ _ _ _ _ (step-read _ _ _ _ (c .before .before .before .step .ensures) (c .before .layout .given .1)))
 
 returns-3 : tie.Need-returns-3
-returns-3 c = sym (turn-stops _ _ _ _ DONE (stops-ended _ _ _ (c .before .before .step .ensures) (c .enum-told .given .1)) (not-skipped _ DONE (λ _ t. omega arith)))
+returns-3 c = sym (turn-stops _ _ _ _ DONE (stops-ended _ _ _ (c .before .before .step .ensures) (c .enum-told .given .1)) (never-skipped _ DONE (λ t. omega arith) (λ g. omega arith)))
 
 returns-4 : tie.Need-returns-4
 returns-4 c = ap (λ n. Skipped (record { at = n })) (c .advance .ensures) ∙ sym (turn-skips _ _ _ _ _ (stops-refused _ _ _ _ (c .before .before .before .before .before .before .before .step .ensures) (c .before .before .before .before .before .number .given .1)) (flag-on _ _ (c .before .before .before .is-skipped .ensures) (c .before .before .if1 .left)))
