@@ -27,7 +27,7 @@ use Rattle.routes.proofs.Definitions.Matching.OnePass.{one-pass}
 use Rattle.routes.proofs.Statements.Images.{sound}
 use Rattle.table.specs.declared.scan.Best.{Best}
 use Rattle.table.specs.Scanning.{standing, tierAt, nlriAt, Readable, aheadAt, betterAt, scanAt, noneYet, bestIn, Answerable, openQuery}
-use Rattle.table.specs.Changing.{Leaves}
+use Rattle.octets.specs.Outputs.{Leaves}
 use Rattle.table.specs.declared.tier.Tiers.{Tiers}
 use Rattle.table.proofs.Tiers.{tier-stands, distinguisher-stands}
 use Rattle.table.proofs.Taken.{Taken, route-accepted, taken-readable, taken-writable, places-taken}

@@ -25,7 +25,7 @@ use Rattle.routes.proofs.Definitions.Headers.{sound-family}
 use Rattle.routes.proofs.Statements.Images.{sound}
 use Rattle.routes.proofs.Statements.MatchRule.{found-number}
 use Rattle.table.specs.Scanning.{openTiers, soughtOf, openQuery, sizedFault}
-use Rattle.table.specs.Changing.{Leaves}
+use Rattle.octets.specs.Outputs.{Leaves}
 use Rattle.table.specs.declared.tier.Tiers.{Tiers}
 use Rattle.table.proofs.Matches.{match-unsound, classed-its, answers-flow, answers-space, answers-search}
 

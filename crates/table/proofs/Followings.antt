@@ -24,7 +24,8 @@ use Rattle.routes.specs.Next.{nextIn, nextOutcome, emptyNext, foundMark, follow
 use Rattle.routes.proofs.Definitions.Places.{mark-octet}
 use Rattle.routes.proofs.Definitions.Nexts.{next-here, next-later}
 use Rattle.routes.proofs.Statements.Images.{length-routes, sound-holdable}
-use Rattle.table.specs.Changing.{routeAt, rank, firstIs, firstFound, Leaves}
+use Rattle.octets.specs.Outputs.{Leaves}
+use Rattle.table.specs.Changing.{routeAt, rank, firstIs, firstFound}
 use Rattle.table.specs.Scanning.{RouteFits}
 use Rattle.table.proofs.Sounds.{sound-mark}
 use Rattle.table.proofs.Ranks.{rank-more, rank-none}

@@ -24,7 +24,7 @@ use Rattle.routes.specs.Rules.ArgumentRules.{KnownFamily}
 use Rattle.routes.proofs.Definitions.Headers.{sound-family}
 use Rattle.routes.proofs.Statements.Images.{sound}
 use Rattle.table.specs.Scanning.{openTiers, soughtOf, openQuery, sizedFault}
-use Rattle.table.specs.Changing.{Leaves}
+use Rattle.octets.specs.Outputs.{Leaves}
 use Rattle.table.specs.declared.tier.Tiers.{Tiers}
 use Rattle.table.proofs.FlowClasses.{flow-stopped, flow-taken}
 

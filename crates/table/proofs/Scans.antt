@@ -20,7 +20,7 @@ use Rattle.routes.specs.Matching.{namesTunnel, nothing, found}
 use Rattle.routes.proofs.Definitions.Matching.Conditions.{tunnel-of}
 use Rattle.routes.specs.declared.Matched.{Matched}
 use Rattle.routes.specs.Answers.{emptyMatch, foundAnswer, foundOutput, matchedBy}
-use Rattle.table.specs.Changing.{Leaves}
+use Rattle.octets.specs.Outputs.{Leaves}
 use Rattle.routes.specs.Query.{Flow}
 use Rattle.table.specs.declared.scan.Best.{Best}
 use Rattle.table.specs.declared.tier.Tiers.{Tiers}

@@ -22,7 +22,7 @@ use Rattle.routes.specs.Answers.{emptyMatch, matchedBy}
 use Rattle.routes.specs.Calls.{matchOf}
 use Rattle.shared_trees.proofs.Judging.{Accepted, tree-refused, tree-given, tree-accepted}
 use Rattle.table.specs.Scanning.{soughtOf, treeTiers, openQuery}
-use Rattle.table.specs.Changing.{Leaves}
+use Rattle.octets.specs.Outputs.{Leaves}
 use Rattle.table.specs.declared.tier.Tiers.{Tiers}
 use Rattle.table.proofs.Matches.{match-stopped, match-searched}
 

@@ -14,7 +14,8 @@ use Rattle.routes.specs.Arguments.{readSPmsi}
 use Rattle.routes.specs.Table.{afiIn, countIn, placesIn, routesOf, imageOf, soundOf}
 use Rattle.routes.specs.Calls.{leaving, withdrawOutcome, withdrawOf}
 use Rattle.routes.proofs.Statements.Images.{length-routes, sound-holdable, sound-image}
-use Rattle.table.specs.Changing.{rank, firstIs, takenAt, Leaves}
+use Rattle.octets.specs.Outputs.{Leaves}
+use Rattle.table.specs.Changing.{rank, firstIs, takenAt}
 use Rattle.table.proofs.Sounds.{s-pmsi-fault-none}
 use Rattle.table.proofs.Finds.{held-by}
 use Rattle.table.proofs.Changes.{image-left}

@@ -11,7 +11,6 @@ use Rattle.routes.specs.Route.{Route, nlriOf}
 use Rattle.routes.specs.Place.{PLACE, MARK, routeIn}
 use Rattle.routes.specs.Table.{HEADER, headerOf, afiIn}
 use Rattle.routes.specs.Matching.{Found, nothing, found}
-use Rattle.routes.specs.Answers.{Changed}
 
 -- the route in the place of an index
 unfoldable pub routeAt : (index : ℕ) (table : List ℕ) → Route
@@ -59,7 +58,3 @@ takenAt index count t = headerOf (afiIn t) (count - 1) ++ drop HEADER (closed (H
 -- a place with another mark
 unfoldable pub remarked : (mark : ℕ) (place : List ℕ) → List ℕ
 remarked mark place = take MARK place ++ (mark ∷ [])
-
--- a call of which this is due answers r and leaves u
-abbrev pub Leaves : {A : Type 0} → Changed A → A → List ℕ → Type 0
-Leaves due r u = (r ≡ due .answer) × (u ≡ due .octets)

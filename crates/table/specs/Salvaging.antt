@@ -7,12 +7,11 @@ use lib.ListN.{length}
 use lib.Dec.{eqb}
 use Rattle.octets.specs.Choice.{pick}
 use Rattle.octets.specs.Octets.{placed, front}
-use Rattle.routes.specs.declared.Salvaged.{Salvaged}
 use Rattle.routes.specs.Route.{nlriOf, holds, inserted}
 use Rattle.routes.specs.Place.{routeIn, placeSound}
 use Rattle.routes.specs.Table.{imageOf, afiIn, placesIn, routesOf, tableSize}
 use Rattle.routes.specs.Rules.ArgumentRules.{KnownFamily}
-use Rattle.routes.specs.Salvage.{keptRoutes, dropped, droppedOf, droppedOctets, listOf, Salvage}
+use Rattle.routes.specs.Salvage.{keptRoutes, dropped, droppedOf, droppedOctets, listOf}
 
 -- a table with the route of a good place, unless it holds its NLRI
 unfoldable pub withGood : (place table : List ℕ) → List ℕ
@@ -41,7 +40,3 @@ pub record Ready (afi : ℕ) (damaged list : List ℕ) : Type 0 where
   pub family : KnownFamily afi
   pub size : tableSize (length damaged) ≡ true
   pub room : 3 * placesIn damaged ≤ length list
-
--- a call of which this is due answers r and leaves u and v
-abbrev pub LeavesBoth : Salvage → Salvaged → List ℕ → List ℕ → Type 0
-LeavesBoth due r u v = (r ≡ due .answer) × (u ≡ due .table) × (v ≡ due .list)

@@ -9,7 +9,7 @@ ghost use Rattle.routes.specs.Route.{attributeOf};
 ghost use Rattle.routes.specs.Place.{endIn, routeIn};
 ghost use Rattle.routes.specs.Matching.{found};
 ghost use Rattle.routes.specs.Answers.{matchedBy};
-ghost use Rattle.table.specs.Changing.{Leaves};
+ghost use Rattle.octets.specs.Outputs.{Leaves};
 ghost use Rattle.table.specs.Scanning.{RouteFits, bestIn, Answerable};
 use crate::find;
 use crate::geometry::ATTRIBUTE_SIZE;

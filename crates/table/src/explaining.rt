@@ -6,7 +6,7 @@ ghost use Rattle.octets.specs.Choice.{both};
 ghost use Rattle.routes.specs.Query.{flowOf};
 ghost use Rattle.routes.specs.Table.{soundOf};
 ghost use Rattle.routes.specs.Reasons.{reasonOf, reasonsOf, explainOf};
-ghost use Rattle.table.specs.Changing.{Leaves};
+ghost use Rattle.octets.specs.Outputs.{Leaves};
 use crate::flow;
 use crate::matching;
 use crate::matching::LEAST_OUTPUT;
@@ -93,8 +93,7 @@ pub fn explain(
     group: &[u8],
     output: &mut [u8],
 ) -> Explained
-    ensures { λ r. ⌜ r ≡ explainOf (now (table .entry)) (flowOf (now (prefixes .entry)) (now (router .entry)) (now (source .entry)) (now (group .entry))) (now (output .entry)) .answer ⌝ }
-    ensures { λ r. ⌜ now (output .exit) ≡ explainOf (now (table .entry)) (flowOf (now (prefixes .entry)) (now (router .entry)) (now (source .entry)) (now (group .entry))) (now (output .entry)) .octets ⌝ }
+    ensures { λ r. ⌜ Leaves (explainOf (now (table .entry)) (flowOf (now (prefixes .entry)) (now (router .entry)) (now (source .entry)) (now (group .entry))) (now (output .entry))) r (now (output .exit)) ⌝ }
 {
     if !sound::is_sound(table) {
         return Explained::refused(TABLE);

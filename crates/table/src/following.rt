@@ -6,7 +6,8 @@ ghost use lib.ListN.{length, drop};
 ghost use Rattle.octets.specs.Outcome.{given};
 ghost use Rattle.routes.specs.Table.{countIn, routesOf, soundOf};
 ghost use Rattle.routes.specs.Next.{nextIn, followingBy, nextOf};
-ghost use Rattle.table.specs.Changing.{firstFound, Leaves};
+ghost use Rattle.octets.specs.Outputs.{Leaves};
+ghost use Rattle.table.specs.Changing.{firstFound};
 use crate::answer;
 use crate::find;
 use crate::geometry::MARK;
@@ -61,8 +62,7 @@ fn next_sound(table: &[u8], nlri: &[u8], output: &mut [u8]) -> Following
 
 // Finds the route that comes next after these octets, held or not, and writes it at the front of the output: TABLE, SPACE.
 pub fn next(table: &[u8], nlri: &[u8], output: &mut [u8]) -> Following
-    ensures { λ r. ⌜ r ≡ nextOf (now (table .entry)) (now (nlri .entry)) (now (output .entry)) .answer ⌝ }
-    ensures { λ r. ⌜ now (output .exit) ≡ nextOf (now (table .entry)) (now (nlri .entry)) (now (output .entry)) .octets ⌝ }
+    ensures { λ r. ⌜ Leaves (nextOf (now (table .entry)) (now (nlri .entry)) (now (output .entry))) r (now (output .exit)) ⌝ }
 {
     if !sound::is_sound(table) {
         return Following::refused(TABLE);

@@ -6,7 +6,8 @@ ghost use Rattle.octets.specs.Outcome.{numberOf};
 ghost use Rattle.routes.specs.Arguments.{readRoute};
 ghost use Rattle.routes.specs.Table.{afiIn, routesOf, soundOf};
 ghost use Rattle.routes.specs.Calls.{installOf};
-ghost use Rattle.table.specs.Changing.{rank, firstIs, Leaves};
+ghost use Rattle.octets.specs.Outputs.{Leaves};
+ghost use Rattle.table.specs.Changing.{rank, firstIs};
 use crate::change;
 use crate::find;
 use crate::judge;
@@ -61,8 +62,7 @@ fn install_sound(table: &mut [u8], nlri: &[u8], attribute: &[u8]) -> Installed
 
 // Enters a route, or gives the route of its NLRI this attribute. A refusal leaves every octet as it was.
 pub fn install(table: &mut [u8], nlri: &[u8], attribute: &[u8]) -> Installed
-    ensures { λ r. ⌜ r ≡ installOf (now (table .entry)) (now (nlri .entry)) (now (attribute .entry)) .answer ⌝ }
-    ensures { λ _. ⌜ now (table .exit) ≡ installOf (now (table .entry)) (now (nlri .entry)) (now (attribute .entry)) .octets ⌝ }
+    ensures { λ r. ⌜ Leaves (installOf (now (table .entry)) (now (nlri .entry)) (now (attribute .entry))) r (now (table .exit)) ⌝ }
 {
     if !sound::is_sound(table) {
         return Installed::refused(TABLE);

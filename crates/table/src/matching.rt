@@ -10,7 +10,7 @@ ghost use Rattle.routes.specs.Calls.{matchOf};
 ghost use Rattle.routes.specs.Query.{flowOf};
 ghost use Rattle.routes.specs.Asked.{ofFlow};
 ghost use Rattle.octets.specs.Outcome.{given};
-ghost use Rattle.table.specs.Changing.{Leaves};
+ghost use Rattle.octets.specs.Outputs.{Leaves};
 ghost use Rattle.table.specs.Scanning.{soughtOf, openQuery};
 use crate::answer;
 use crate::flow;
@@ -81,8 +81,7 @@ pub fn match_flow(
     group: &[u8],
     output: &mut [u8],
 ) -> Matched
-    ensures { λ r. ⌜ r ≡ matchOf (now (table .entry)) (ofFlow (flowOf (now (prefixes .entry)) (now (router .entry)) (now (source .entry)) (now (group .entry)))) (now (output .entry)) .answer ⌝ }
-    ensures { λ r. ⌜ now (output .exit) ≡ matchOf (now (table .entry)) (ofFlow (flowOf (now (prefixes .entry)) (now (router .entry)) (now (source .entry)) (now (group .entry)))) (now (output .entry)) .octets ⌝ }
+    ensures { λ r. ⌜ Leaves (matchOf (now (table .entry)) (ofFlow (flowOf (now (prefixes .entry)) (now (router .entry)) (now (source .entry)) (now (group .entry)))) (now (output .entry))) r (now (output .exit)) ⌝ }
 {
     if !sound::is_sound(table) {
         return Matched::refused(TABLE);

@@ -5,7 +5,7 @@ ghost use Prim.Native.Nat.{_≤_};
 ghost use Rattle.routes.specs.Table.{imageOf, afiIn, countIn, placesIn, routesOf, soundOf};
 ghost use Rattle.routes.specs.Restart.{renewed, goneOf};
 ghost use Rattle.routes.specs.Calls.{restartOf, markOf, sweepOf};
-ghost use Rattle.table.specs.Changing.{Leaves};
+ghost use Rattle.octets.specs.Outputs.{Leaves};
 ghost use Rattle.table.specs.Scanning.{Readable};
 ghost use Rattle.table.specs.Renewing.{settledEnd, settled, Renewing, restartBy};
 use crate::change;
@@ -92,16 +92,14 @@ fn restart(table: &mut [u8], router: &[u8], mark: u8) -> Restarted
 
 // Marks a router's routes stale; those already marked go. A refusal leaves every octet as it was.
 pub fn mark(table: &mut [u8], router: &[u8]) -> Restarted
-    ensures { λ r. ⌜ r ≡ markOf (now (table .entry)) (now (router .entry)) .answer ⌝ }
-    ensures { λ _. ⌜ now (table .exit) ≡ markOf (now (table .entry)) (now (router .entry)) .octets ⌝ }
+    ensures { λ r. ⌜ Leaves (markOf (now (table .entry)) (now (router .entry))) r (now (table .exit)) ⌝ }
 {
     restart(table, router, STALE)
 }
 
 // Takes out what is still marked of a router's routes. A refusal leaves every octet as it was.
 pub fn sweep(table: &mut [u8], router: &[u8]) -> Restarted
-    ensures { λ r. ⌜ r ≡ sweepOf (now (table .entry)) (now (router .entry)) .answer ⌝ }
-    ensures { λ _. ⌜ now (table .exit) ≡ sweepOf (now (table .entry)) (now (router .entry)) .octets ⌝ }
+    ensures { λ r. ⌜ Leaves (sweepOf (now (table .entry)) (now (router .entry))) r (now (table .exit)) ⌝ }
 {
     restart(table, router, 0)
 }

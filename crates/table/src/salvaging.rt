@@ -7,8 +7,8 @@ ghost use Rattle.octets.specs.Choice.{pick};
 ghost use Rattle.routes.specs.Route.{nlriOf, holds};
 ghost use Rattle.routes.specs.Place.{routeIn, placeSound};
 ghost use Rattle.routes.specs.Table.{afiIn, countIn, placesIn, routesOf, soundOf, imageOf};
-ghost use Rattle.routes.specs.Salvage.{reasonOf, keptRoutes, salvageOf};
-ghost use Rattle.table.specs.Salvaging.{withGood, withPlace, withDropped, countWith, Upto, Ready, LeavesBoth};
+ghost use Rattle.routes.specs.Salvage.{reasonOf, keptRoutes, salvageOf, LeavesBoth};
+ghost use Rattle.table.specs.Salvaging.{withGood, withPlace, withDropped, countWith, Upto, Ready};
 use crate::change;
 use crate::find;
 use crate::geometry::ATTRIBUTE_SIZE;
@@ -133,9 +133,7 @@ fn salvage_into(afi: u16, damaged: &[u8], table: &mut [u8], list: &mut [u8]) -> 
 // Writes a sound table of what is good in a damaged one, and lists each place dropped, in place order. FAMILY; TABLE for the damaged one's
 // size; SPACE for a second buffer of another size, or fewer than 3 octets a place for the list. A refusal leaves every octet as it was.
 pub fn salvage(afi: u16, damaged: &[u8], table: &mut [u8], dropped: &mut [u8]) -> Salvaged
-    ensures { λ r. ⌜ r ≡ salvageOf afi (now (damaged .entry)) (now (table .entry)) (now (dropped .entry)) .answer ⌝ }
-    ensures { λ _. ⌜ now (table .exit) ≡ salvageOf afi (now (damaged .entry)) (now (table .entry)) (now (dropped .entry)) .table ⌝ }
-    ensures { λ _. ⌜ now (dropped .exit) ≡ salvageOf afi (now (damaged .entry)) (now (table .entry)) (now (dropped .entry)) .list ⌝ }
+    ensures { λ r. ⌜ LeavesBoth (salvageOf afi (now (damaged .entry)) (now (table .entry)) (now (dropped .entry))) r (now (table .exit)) (now (dropped .exit)) ⌝ }
 {
     if !header::is_family(afi) {
         return Salvaged::refused(FAMILY);

@@ -12,7 +12,7 @@ ghost use Rattle.routes.specs.Asked.{ofSharedTree};
 ghost use Rattle.routes.specs.Calls.{matchOf};
 ghost use Rattle.shared_trees.specs.Tree.{treeOf};
 ghost use Rattle.shared_trees.specs.Told.{Judged};
-ghost use Rattle.table.specs.Changing.{Leaves};
+ghost use Rattle.octets.specs.Outputs.{Leaves};
 ghost use Rattle.table.specs.Scanning.{treeTiers};
 use crate::matching;
 use crate::matching::LEAST_OUTPUT;
@@ -94,8 +94,7 @@ pub fn match_shared(
     states: &[u8],
     output: &mut [u8],
 ) -> Matched
-    ensures { λ r. ⌜ r ≡ matchOf (now (table .entry)) (ofSharedTree (treeOf (now (prefixes .entry)) (now (router .entry)) (now (group .entry)) facts (now («source_actives» .entry)) (now (states .entry)))) (now (output .entry)) .answer ⌝ }
-    ensures { λ r. ⌜ now (output .exit) ≡ matchOf (now (table .entry)) (ofSharedTree (treeOf (now (prefixes .entry)) (now (router .entry)) (now (group .entry)) facts (now («source_actives» .entry)) (now (states .entry)))) (now (output .entry)) .octets ⌝ }
+    ensures { λ r. ⌜ Leaves (matchOf (now (table .entry)) (ofSharedTree (treeOf (now (prefixes .entry)) (now (router .entry)) (now (group .entry)) facts (now («source_actives» .entry)) (now (states .entry)))) (now (output .entry))) r (now (output .exit)) ⌝ }
 {
     if !sound::is_sound(table) {
         return Matched::refused(TABLE);

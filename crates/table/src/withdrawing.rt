@@ -5,7 +5,7 @@ ghost use Rattle.octets.specs.Outcome.{numberOf};
 ghost use Rattle.routes.specs.Arguments.{readSPmsi};
 ghost use Rattle.routes.specs.Table.{afiIn, soundOf};
 ghost use Rattle.routes.specs.Calls.{withdrawOf};
-ghost use Rattle.table.specs.Changing.{Leaves};
+ghost use Rattle.octets.specs.Outputs.{Leaves};
 use crate::change;
 use crate::find;
 use crate::judge;
@@ -43,8 +43,7 @@ fn withdraw_sound(table: &mut [u8], nlri: &[u8]) -> u32
 
 // Takes the route of an NLRI out. A refusal leaves every octet as it was.
 pub fn withdraw(table: &mut [u8], nlri: &[u8]) -> u32
-    ensures { λ r. ⌜ r ≡ withdrawOf (now (table .entry)) (now (nlri .entry)) .answer ⌝ }
-    ensures { λ _. ⌜ now (table .exit) ≡ withdrawOf (now (table .entry)) (now (nlri .entry)) .octets ⌝ }
+    ensures { λ r. ⌜ Leaves (withdrawOf (now (table .entry)) (now (nlri .entry))) r (now (table .exit)) ⌝ }
 {
     if !sound::is_sound(table) {
         return TABLE;

@@ -30,7 +30,8 @@ use Rattle.routes.proofs.Definitions.Headers.{length-header}
 use Rattle.routes.proofs.Definitions.Places.{length-places, sound-place, remarked-place}
 use Rattle.routes.proofs.Definitions.Restarts.{acceptable-renewed, length-renewed}
 use Rattle.routes.proofs.Statements.Images.{sound, sound-holdable, sound-image, length-routes}
-use Rattle.table.specs.Changing.{routeAt, remarked, Leaves}
+use Rattle.octets.specs.Outputs.{Leaves}
+use Rattle.table.specs.Changing.{routeAt, remarked}
 use Rattle.table.specs.Scanning.{standing, nlriAt, Readable}
 use Rattle.table.specs.Renewing.{ownAt, staleAt, settledEnd, settled, Renewing, restartBy}
 use Rattle.table.proofs.FieldStarts.{fields-stand}

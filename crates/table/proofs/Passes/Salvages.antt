@@ -21,7 +21,7 @@ use Rattle.routes.specs.Route.{Route, nlriOf, holds, inserted, arranged}
 use Rattle.routes.specs.Place.{endIn, routeIn, placeSound}
 use Rattle.routes.specs.Table.{afiIn, countIn, placesIn, routesOf, imageOf, tableSize, soundOf}
 use Rattle.routes.specs.Calls.{makeOf}
-use Rattle.routes.specs.Salvage.{placeAt, goodOf, keptRoutes, reasonOf, reasonAt, Dropped, dropped, droppedOf, droppedOctets, listOf, Salvage, emptySalvage, salvageOf}
+use Rattle.routes.specs.Salvage.{placeAt, goodOf, keptRoutes, reasonOf, reasonAt, Dropped, dropped, droppedOf, droppedOctets, listOf, Salvage, emptySalvage, salvageOf, LeavesBoth}
 use Rattle.routes.specs.Rules.ArgumentRules.{KnownFamily}
 use Rattle.routes.specs.Rules.Images.{TableOf}
 use Rattle.routes.specs.Rules.SoundRule.{TableSize}
@@ -33,7 +33,7 @@ use Rattle.routes.proofs.Statements.Images.{images, sound, length-routes}
 use Rattle.routes.proofs.Statements.MakeRules.{makeRule, size-is, size-tested}
 use Rattle.routes.proofs.Statements.Salvaging.Refusals.{doneSalvage, size-places, refuses, due, due-refused}
 use Rattle.table.specs.Changing.{rank, firstIs, addedAt}
-use Rattle.table.specs.Salvaging.{withGood, withPlace, withDropped, countWith, Upto, Ready, LeavesBoth}
+use Rattle.table.specs.Salvaging.{withGood, withPlace, withDropped, countWith, Upto, Ready}
 use Rattle.table.proofs.Sounds.{sound-end}
 use Rattle.table.proofs.Finds.{held-by}
 use Rattle.table.proofs.Changes.{entered-new}
@@ -210,34 +210,29 @@ salvaged-all afi damaged table list t l k d ready e u c =
 
 -- the refusals, in order
 module _ (afi : ℕ) (damaged table list : List ℕ) (flag : Bool) (f : flag ≡ either (eqb afi 1) (eqb afi 2)) where
-  left : (n : ℕ) (r : Salvaged) → r ≡ emptySalvage n → SalvageRefusal afi damaged table list n
-      → (r ≡ salvageOf afi damaged table list .answer) × ((table ≡ salvageOf afi damaged table list .table) × (list ≡ salvageOf afi damaged table list .list))
+  left : (n : ℕ) (r : Salvaged) → r ≡ emptySalvage n → SalvageRefusal afi damaged table list n → LeavesBoth (salvageOf afi damaged table list) r table list
   left n r e x =
       let is = due-refused afi damaged table list n (refuses afi damaged table list x) in
-      (e ∙ sym (ap (λ (s : Salvage). s .answer) is), (sym (ap (λ (s : Salvage). s .table) is), sym (ap (λ (s : Salvage). s .list) is)))
+      (e ∙ sym (ap (λ (s : Salvage). s .answer) is), sym (ap (λ (s : Salvage). s .table) is), sym (ap (λ (s : Salvage). s .list) is))
 
-  pub no-family : (r : Salvaged) → flag ≡ false → r ≡ emptySalvage FAMILY
-      → (r ≡ salvageOf afi damaged table list .answer) × ((table ≡ salvageOf afi damaged table list .table) × (list ≡ salvageOf afi damaged table list .list))
+  pub no-family : (r : Salvaged) → flag ≡ false → r ≡ emptySalvage FAMILY → LeavesBoth (salvageOf afi damaged table list) r table list
   no-family r n e = left FAMILY r e (noFamily (eqb-false _ _ (either-false-left _ _ (sym f ∙ n))) (eqb-false _ _ (either-false-right _ _ (sym f ∙ n))))
 
   known : flag ≡ true → KnownFamily afi
   known y = ⊎-elim (λ a. inl (eqb-true _ _ a)) (λ a. inr (eqb-true _ _ a)) (either-true _ _ (sym f ∙ y))
 
   module _ (y : flag ≡ true) (sized : Bool) (g : sized ≡ tableSize (length damaged)) where
-    pub no-size : (r : Salvaged) → sized ≡ false → r ≡ emptySalvage TABLE
-        → (r ≡ salvageOf afi damaged table list .answer) × ((table ≡ salvageOf afi damaged table list .table) × (list ≡ salvageOf afi damaged table list .list))
+    pub no-size : (r : Salvaged) → sized ≡ false → r ≡ emptySalvage TABLE → LeavesBoth (salvageOf afi damaged table list) r table list
     no-size r n e = left TABLE r e (badSize (known y) (λ s. opposite (size-tested (length damaged) s) (sym g ∙ n)))
 
     module _ (z : sized ≡ true) where
-      pub other-size : (r : Salvaged) → length table ≢ length damaged → r ≡ emptySalvage SPACE
-          → (r ≡ salvageOf afi damaged table list .answer) × ((table ≡ salvageOf afi damaged table list .table) × (list ≡ salvageOf afi damaged table list .list))
+      pub other-size : (r : Salvaged) → length table ≢ length damaged → r ≡ emptySalvage SPACE → LeavesBoth (salvageOf afi damaged table list) r table list
       other-size r d e = left SPACE r e (otherSize (known y) (size-is damaged (sym g ∙ z)) d)
 
       pub places-few : placesIn damaged ≤ 500
       places-few = sound-size damaged (sym g ∙ z) .most
 
-      pub short-list : (r : Salvaged) (p : ℕ) → length table ≡ length damaged → p ≡ placesIn damaged → length list < 3 * p → r ≡ emptySalvage SPACE
-          → (r ≡ salvageOf afi damaged table list .answer) × ((table ≡ salvageOf afi damaged table list .table) × (list ≡ salvageOf afi damaged table list .list))
+      pub short-list : (r : Salvaged) (p : ℕ) → length table ≡ length damaged → p ≡ placesIn damaged → length list < 3 * p → r ≡ emptySalvage SPACE → LeavesBoth (salvageOf afi damaged table list) r table list
       short-list r p q i h e =
           let size = size-is damaged (sym g ∙ z) in
           let places = size-places damaged size in

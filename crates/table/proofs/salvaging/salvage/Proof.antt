@@ -46,7 +46,7 @@ salvage-into-requires c κs =
     (is-ready (a .afi) (now (a .damaged)) (now (a .table)) (now (a .dropped)) _ (c .before .before .before .before .before .before .before .before .is-family .ensures) (not-false _ (c .before .before .before .before .before .before .before .if1 .left)) _ (c .before .before .before .before .before .before .is-table-size .ensures) (not-false _ (c .before .before .before .before .before .if2 .left)) _ (c .before .before .before .places-of .ensures) (omega (arith, c .before .before .if4 .left)), c .before .before .before .before .if3 .left)
 
 returns-5 : tie.Need-returns-5
-returns-5 c = let e = c .before .before .before .before .salvage-into .ensures in (e .0, (e .1, e .2))
+returns-5 c = search needs
 
 pub salvage-spec : {M : Type 1} → statement M
 salvage-spec =
