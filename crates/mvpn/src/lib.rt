@@ -289,7 +289,7 @@ pub extern "C" fn mvpn_salvage(
 ) -> Salvaged
     ensures { λ r. ⌜ LeavesBoth (salvageOf afi (now (damaged .entry)) (now (table .entry)) (now (dropped .entry))) r (now (table .exit)) (now (dropped .exit)) ⌝ }
 {
-    table::salvage(afi, damaged, table, dropped)
+    salvage::salvage(afi, damaged, table, dropped)
 }
 
 // Finds the route of a router that a flow takes, and writes it at the front of the output.
@@ -304,7 +304,7 @@ pub extern "C" fn mvpn_match(
 ) -> Matched
     ensures { λ r. ⌜ Leaves (matchOf (now (table .entry)) (ofFlow (flowOf (now (prefixes .entry)) (now (router .entry)) (now (source .entry)) (now (group .entry)))) (now (output .entry))) r (now (output .exit)) ⌝ }
 {
-    table::match_flow(table, prefixes, router, source, group, output)
+    matches::match_flow(table, prefixes, router, source, group, output)
 }
 
 // The same, and why each tier was taken or not.
@@ -319,7 +319,7 @@ pub extern "C" fn mvpn_explain(
 ) -> Explained
     ensures { λ r. ⌜ Leaves (explainOf (now (table .entry)) (flowOf (now (prefixes .entry)) (now (router .entry)) (now (source .entry)) (now (group .entry))) (now (output .entry))) r (now (output .exit)) ⌝ }
 {
-    table::explain(table, prefixes, router, source, group, output)
+    matches::explain(table, prefixes, router, source, group, output)
 }
 
 // Finds the route that a shared tree takes.
@@ -336,7 +336,7 @@ pub extern "C" fn mvpn_match_shared(
 ) -> Matched
     ensures { λ r. ⌜ Leaves (matchOf (now (table .entry)) (ofSharedTree (treeOf (now (prefixes .entry)) (now (router .entry)) (now (group .entry)) facts (now («source_actives» .entry)) (now (states .entry)))) (now (output .entry))) r (now (output .exit)) ⌝ }
 {
-    table::match_shared(
+    matches::match_shared(
         table,
         prefixes,
         router,

@@ -25,13 +25,13 @@ use Rattle.routes.proofs.Definitions.Places.{mark-octet}
 use Rattle.routes.proofs.Definitions.Nexts.{next-here, next-later}
 use Rattle.routes.proofs.Statements.Images.{length-routes, sound-holdable}
 use Rattle.octets.specs.Outputs.{Leaves}
-use Rattle.table.specs.Changing.{routeAt, rank, firstIs, firstFound}
-use Rattle.table.specs.Scanning.{RouteFits}
-use Rattle.table.proofs.Sounds.{sound-mark}
-use Rattle.table.proofs.Ranks.{rank-more, rank-none}
-use Rattle.table.proofs.Finds.{routes-from-index}
-use Rattle.table.proofs.Taken.{taken-writable}
-use Rattle.table.proofs.BestRoutes.{table-taken}
+use Rattle.places.specs.Readable.{routeAt, RouteFits}
+use Rattle.changes.specs.Changing.{rank, firstIs}
+use Rattle.table.specs.Following.{firstFound}
+use Rattle.places.proofs.Sounds.{sound-mark}
+use Rattle.changes.proofs.Ranks.{rank-more, rank-none}
+use Rattle.places.proofs.Indexes.{routes-from-index}
+use Rattle.places.proofs.Taken.{taken-writable, table-taken}
 
 -- the first of routes that all come after
 next-first : {n : List ℕ} {rs : List Route} → Increasing n rs → firstFound rs ≡ nextIn n rs

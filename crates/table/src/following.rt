@@ -7,14 +7,15 @@ ghost use Rattle.octets.specs.Outcome.{given};
 ghost use Rattle.routes.specs.Table.{countIn, routesOf, soundOf};
 ghost use Rattle.routes.specs.Next.{nextIn, followingBy, nextOf};
 ghost use Rattle.octets.specs.Outputs.{Leaves};
-ghost use Rattle.table.specs.Changing.{firstFound};
-use crate::answer;
-use crate::find;
-use crate::geometry::MARK;
-use crate::matching::LEAST_OUTPUT;
-use crate::sound;
+ghost use Rattle.table.specs.Following.{firstFound};
+use changes::find;
 use octets::number::SPACE;
 use octets::number::TABLE;
+use places::geometry::LEAST_OUTPUT;
+use places::geometry::MARK;
+use places::header;
+use places::place;
+use places::sound;
 use routes::Following;
 
 // The index of the route that comes next: that where the NLRI belongs, or the one behind it where the NLRI stands.
@@ -37,9 +38,9 @@ fn tell_at(table: &[u8], index: usize, count: usize, output: &mut [u8]) -> Follo
     if count <= index {
         return Following::none();
     }
-    let place = find::place_at(table, index);
+    let place = place::place_at(table, index);
     let stale = place[MARK] as u32;
-    let told = answer::write_route(0, place, output);
+    let told = place::write_route(0, place, output);
     Following {
         number: told.number,
         nlri_size: told.nlri_size,
@@ -56,7 +57,7 @@ fn next_sound(table: &[u8], nlri: &[u8], output: &mut [u8]) -> Following
     if output.len() < LEAST_OUTPUT {
         return Following::refused(SPACE);
     }
-    let count = sound::count_of(table);
+    let count = header::count_of(table);
     tell_at(table, index_after(table, count, nlri), count, output)
 }
 
