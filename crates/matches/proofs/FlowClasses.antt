@@ -24,7 +24,7 @@ use Rattle.nlri.proofs.Definitions.Lengths.{family-octets, originator-sized}
 use Rattle.nlri.proofs.Definitions.Groups.{group-refused, group-given}
 use Rattle.routes.specs.Query.{tiersOf, Query, Flow, flowQuery}
 use Rattle.routes.specs.Arguments.{readFlow}
-use Rattle.matches.specs.Scanning.{openTiers, openQuery, sizedFault}
+use Rattle.matches.specs.Scanning.{soughtOf, openTiers, openQuery, sizedFault}
 
 -- a group of another size than the family's
 unsized : (bits : ℕ) (items : List Item) (g : List ℕ) → (length g ≡ bits / 8 → ⊥) → classIn bits items g ≡ refused FLOW
@@ -66,7 +66,7 @@ flow-after test bits items group next =
 module _ (afi : ℕ) (flow : Flow) where
   sized-query : (class : ℕ) → Outcome Query
   sized-query class =
-      pick (isOriginatorSize (length (flow .router))) (pick (eqb (length (flow .source)) (length (flow .group))) (given (openQuery flow (openTiers class))) (refused FLOW)) (refused FLOW)
+      pick (isOriginatorSize (length (flow .router))) (pick (eqb (length (flow .source)) (length (flow .group))) (given (openQuery (soughtOf (flow .router) (flow .source) (flow .group)) (openTiers class))) (refused FLOW)) (refused FLOW)
 
   by-class : readFlow afi flow ≡ andThen (classBy afi (flow .prefixes) (flow .group)) sized-query
   unfolding readFlow classBy sized-query flowQuery openQuery tiersOf
@@ -110,7 +110,7 @@ module _ (afi : ℕ) (flow : Flow) (class : Group) (is : class ≡ groupOf (clas
       (λ o. pick-false _ _ _ o ∙ ap refused (sym (told ∙ pick-true _ _ _ d ∙ pick-false _ _ _ o))))
       (λ n. by-class afi flow ∙ sym (stops _ _ _ (group-refused _ class is (eqb-false _ _ n))) ∙ ap refused (sym (told ∙ pick-false _ _ _ n)))
 
-  pub flow-taken : fault ≡ DONE → readFlow afi flow ≡ given (openQuery flow (openTiers (class .«group_class»)))
+  pub flow-taken : fault ≡ DONE → readFlow afi flow ≡ given (openQuery (soughtOf (flow .router) (flow .source) (flow .group)) (openTiers (class .«group_class»)))
   unfolding sized-query
   flow-taken none =
       let all = sized-none _ _ _ _ (sym told ∙ none) in

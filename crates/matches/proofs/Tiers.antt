@@ -15,14 +15,14 @@ use Rattle.octets.proofs.Choice.{opposite, picks, skips}
 use Rattle.octets.proofs.Orders.{unequal-other}
 use Rattle.nlri.specs.Fields.{Fields}
 use Rattle.routes.specs.Route.{Route, nlriOf}
-use Rattle.routes.specs.Query.{Wanted, noRoute, meets, tiersOf, Flow}
+use Rattle.routes.specs.Query.{Wanted, noRoute, meets, tiersOf}
 use Rattle.routes.specs.Arguments.{readSPmsi}
 use Rattle.routes.specs.Matching.{namesTunnel, candidate, eligible, distinguisherOf}
 use Rattle.routes.specs.OnePass.{tierFrom, tierOf}
 use Rattle.routes.proofs.Definitions.Matching.Conditions.{fields-of, distinguisher-is}
 use Rattle.places.proofs.FieldStarts.{fields-stand}
 use Rattle.places.specs.Standing.{sourceSize, groupSize, originatorStart, Bounded, standing}
-use Rattle.matches.specs.Scanning.{openQuery, wildcard, sourceTier, anySourceTier, flowTier, tierAt}
+use Rattle.matches.specs.Scanning.{Sought, openQuery, wildcard, sourceTier, anySourceTier, flowTier, tierAt}
 use Rattle.matches.specs.declared.tier.Tiers.{Tiers}
 
 -- where the group and the originator stand, by the place of the group's length octet
@@ -86,18 +86,18 @@ other-end nlri router x y b p q differ =
     differ
     (p ∙ ap lowFirst (sym (end-of-rest nlri (originatorStart nlri) (b .within))) ∙ ap (λ (s : List ℕ). lowFirst (part s (length s - 4) 4)) e ∙ sym q))
 
-pub other-router : (flow : Flow) (tiers : Tiers) (nlri : List ℕ) → same (standing nlri .originator) (flow .router) ≡ false → 0 ≡ tierAt flow tiers nlri
+pub other-router : (sought : Sought) (tiers : Tiers) (nlri : List ℕ) → same (standing nlri .originator) (sought .router) ≡ false → 0 ≡ tierAt sought tiers nlri
 unfolding tierAt
-other-router flow tiers nlri fails = skips _ _ _ _ fails refl
+other-router sought tiers nlri fails = skips _ _ _ _ fails refl
 
 -- a route of the router asked about, and one of another
-module _ (flow : Flow) (tiers : Tiers) (nlri originator : List ℕ) (flag : Bool) (stands : originator ≡ standing nlri .originator) (is : flag ≡ same originator (flow .router)) where
-  pub own-tier : (tier : ℕ) → flag ≡ true → tier ≡ flowTier (flow .source) (flow .group) tiers (standing nlri) → tier ≡ tierAt flow tiers nlri
+module _ (sought : Sought) (tiers : Tiers) (nlri originator : List ℕ) (flag : Bool) (stands : originator ≡ standing nlri .originator) (is : flag ≡ same originator (sought .router)) where
+  pub own-tier : (tier : ℕ) → flag ≡ true → tier ≡ flowTier (sought .source) (sought .group) tiers (standing nlri) → tier ≡ tierAt sought tiers nlri
   unfolding tierAt
-  own-tier tier holds e = picks _ _ _ _ (ap (λ (x : List ℕ). same x (flow .router)) (sym stands) ∙ sym is ∙ holds) e
+  own-tier tier holds e = picks _ _ _ _ (ap (λ (x : List ℕ). same x (sought .router)) (sym stands) ∙ sym is ∙ holds) e
 
-  pub other-tier : flag ≡ false → 0 ≡ tierAt flow tiers nlri
-  other-tier fails = other-router flow tiers nlri (ap (λ (x : List ℕ). same x (flow .router)) (sym stands) ∙ sym is ∙ fails)
+  pub other-tier : flag ≡ false → 0 ≡ tierAt sought tiers nlri
+  other-tier fails = other-router sought tiers nlri (ap (λ (x : List ℕ). same x (sought .router)) (sym stands) ∙ sym is ∙ fails)
 
 -- a tier behind two tests
 one-test : (second first : Bool) (tier : ℕ) → pick second (pick first tier 0) 0 ≡ pick (both first second) tier 0
@@ -160,12 +160,12 @@ module _ (afi : ℕ) (r : Route) (f : Fields) (read : readSPmsi afi (nlriOf r) �
   eligible-open router b w = ap₂ both (ap (λ (own : Bool). both own (namesTunnel r)) (fields-of afi r _ f read)) (fields-of afi r _ f read ∙ meets-open f b w)
 
   -- the tier by the octets, where the route names a tunnel, is the first of which it is a candidate
-  pub tier-stands : (flow : Flow) (tiers : Tiers) → 0 < length (flow .source) → 0 < length (flow .group) → pick (namesTunnel r) (tierAt flow tiers (nlriOf r)) 0 ≡ tierOf afi (openQuery flow tiers) r
+  pub tier-stands : (sought : Sought) (tiers : Tiers) → 0 < length (sought .source) → 0 < length (sought .group) → pick (namesTunnel r) (tierAt sought tiers (nlriOf r)) 0 ≡ tierOf afi (openQuery sought tiers) r
   unfolding tierAt flowTier sourceTier anySourceTier tierFrom openQuery tiersOf meets
-  tier-stands flow tiers hs hg =
-      let router : List ℕ = flow .router in
-      ap (λ (x : Fields). pick (namesTunnel r) (pick (same (x .originator) router) (flowTier (flow .source) (flow .group) tiers x) 0) 0) (sym (fields-stand afi (nlriOf r) f read))
+  tier-stands sought tiers hs hg =
+      let router : List ℕ = sought .router in
+      ap (λ (x : Fields). pick (namesTunnel r) (pick (same (x .originator) router) (flowTier (sought .source) (sought .group) tiers x) 0) 0) (sym (fields-stand afi (nlriOf r) f read))
       ∙ one-test (namesTunnel r) (same (f .originator) router) _
       ∙ rw (eligible-open router (tiers .exact), eligible-open router (tiers .«any_group»), eligible-open router (tiers .«any_source»), eligible-open router (tiers .any), wild-same (f .source), wild-same (f .group))
-      (in-order (both (same (f .originator) router) (namesTunnel r)) (same (f .source) (flow .source)) (wildcard (f .source)) (same (f .group) (flow .group)) (wildcard (f .group)) tiers
-      (wild-other (f .source) (flow .source) hs) (wild-other (f .group) (flow .group) hg))
+      (in-order (both (same (f .originator) router) (namesTunnel r)) (same (f .source) (sought .source)) (wildcard (f .source)) (same (f .group) (sought .group)) (wildcard (f .group)) tiers
+      (wild-other (f .source) (sought .source) hs) (wild-other (f .group) (sought .group) hg))

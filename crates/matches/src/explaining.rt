@@ -14,8 +14,8 @@ use nlri::Group;
 use octets::number::DONE;
 use octets::number::SPACE;
 use octets::number::TABLE;
-use places::geometry::LEAST_OUTPUT;
 use places::header;
+use places::output::LEAST_OUTPUT;
 use places::sound;
 use routes::Explained;
 

@@ -2,9 +2,9 @@
 // calls that match and explain. Neither installed nor exported, as `octets`.
 mod answer;
 mod explaining;
-mod flow;
+pub mod flow;
 mod matching;
-mod scan;
+pub mod scan;
 mod shared;
 pub mod tier;
 

@@ -19,8 +19,10 @@ use crate::tier::Tiers;
 use octets::number::DONE;
 use octets::number::SPACE;
 use octets::number::TABLE;
-use places::geometry::LEAST_OUTPUT;
+use octets::parts;
+use places::geometry::HEADER;
 use places::header;
+use places::output::LEAST_OUTPUT;
 use places::sound;
 use routes::Matched;
 
@@ -37,8 +39,9 @@ pub fn search(
     ensures { λ r. ⌜ Leaves (matchedBy (given (matchIn (afiIn (now (table .entry))) (openQuery (soughtOf (now (router .entry)) (now (source .entry)) (now (group .entry))) tiers) (routesOf (now (table .entry))))) (now (output .entry))) r (now (output .exit)) ⌝ }
 {
     let count = header::count_of(table);
-    let best = scan::scan(table, count, router, source, group, tiers);
-    answer::answer(table, best, output)
+    let places = parts::after(table, HEADER);
+    let best = scan::scan(places, count, router, source, group, tiers);
+    answer::answer(places, best, output)
 }
 
 // RANGE, SHORT, FLOW, SPACE, then the search.

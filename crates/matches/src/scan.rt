@@ -1,4 +1,4 @@
-// The best route, found in one pass over a sound table's places.
+// The best route, found in one pass over places, of a table or of a proposal: there is no header before them.
 ghost use mathlib.Core.Path.{_≡_};
 ghost use Prim.Native.Nat.{ℕ, _+_, _*_, _≤_, _<_};
 ghost use lib.ListN.{length};
@@ -13,7 +13,6 @@ use crate::tier;
 use crate::tier::Tiers;
 use octets::order;
 use octets::parts;
-use places::geometry::HEADER;
 use places::geometry::PLACE;
 use places::place;
 use tunnel::TunnelType;
@@ -25,29 +24,29 @@ pub struct Best {
 }
 
 // The route in the place that starts there names a tunnel: its type is not "no tunnel information" (RFC 8556, section 4.1).
-fn names_tunnel(table: &[u8], at: usize) -> bool
-    requires { ⌜ Readable (now table) at ⌝ }
-    ensures { λ r. ⌜ r ≡ namesTunnel (routeIn (part (now (table .entry)) at 128)) ⌝ }
+fn names_tunnel(places: &[u8], at: usize) -> bool
+    requires { ⌜ Readable (now places) at ⌝ }
+    ensures { λ r. ⌜ r ≡ namesTunnel (routeIn (part (now (places .entry)) at 128)) ⌝ }
 {
-    let attribute = place::attribute_in(parts::between(table, at, PLACE));
+    let attribute = place::attribute_in(parts::between(places, at, PLACE));
     attribute[1] != TunnelType::NONE
 }
 
 // Route distinguishers are compared as eight octets.
-fn is_lower(table: &[u8], at: usize, other: usize) -> bool
-    requires { ⌜ Readable (now table) at × Readable (now table) other ⌝ }
-    ensures { λ r. ⌜ r ≡ before (standing (nlriAt (now (table .entry)) at) .distinguisher) (standing (nlriAt (now (table .entry)) other) .distinguisher) ⌝ }
+fn is_lower(places: &[u8], at: usize, other: usize) -> bool
+    requires { ⌜ Readable (now places) at × Readable (now places) other ⌝ }
+    ensures { λ r. ⌜ r ≡ before (standing (nlriAt (now (places .entry)) at) .distinguisher) (standing (nlriAt (now (places .entry)) other) .distinguisher) ⌝ }
 {
     order::comes_before(
-        tier::distinguisher_in(place::nlri_from(table, at)),
-        tier::distinguisher_in(place::nlri_from(table, other)),
+        tier::distinguisher_in(place::nlri_from(places, at)),
+        tier::distinguisher_in(place::nlri_from(places, other)),
     )
 }
 
 // The lower tier, then the lower route distinguisher.
-fn is_ahead(table: &[u8], tier: u32, at: usize, best: Best) -> bool
-    requires { ⌜ Readable (now table) at × ((best .tier ≡ 0 → ⊥) → Readable (now table) (best .start)) ⌝ }
-    ensures { λ r. ⌜ r ≡ aheadAt (now (table .entry)) tier at best ⌝ }
+fn is_ahead(places: &[u8], tier: u32, at: usize, best: Best) -> bool
+    requires { ⌜ Readable (now places) at × ((best .tier ≡ 0 → ⊥) → Readable (now places) (best .start)) ⌝ }
+    ensures { λ r. ⌜ r ≡ aheadAt (now (places .entry)) tier at best ⌝ }
 {
     if best.tier == 0 {
         return true;
@@ -59,12 +58,12 @@ fn is_ahead(table: &[u8], tier: u32, at: usize, best: Best) -> bool
         return false;
     }
     let start = best.start;
-    is_lower(table, at, start)
+    is_lower(places, at, start)
 }
 
 // The best so far, with the route in one more place. Few routes have a tier: of these alone it is asked whether they name a tunnel.
 fn better(
-    table: &[u8],
+    places: &[u8],
     router: &[u8],
     source: &[u8],
     group: &[u8],
@@ -72,18 +71,18 @@ fn better(
     best: Best,
     at: usize,
 ) -> Best
-    requires { ⌜ Readable (now table) at × ((best .tier ≡ 0 → ⊥) → Readable (now table) (best .start)) ⌝ }
+    requires { ⌜ Readable (now places) at × ((best .tier ≡ 0 → ⊥) → Readable (now places) (best .start)) ⌝ }
     requires { ⌜ 4 ≤ length (now router) ⌝ }
-    ensures { λ r. ⌜ r ≡ betterAt (soughtOf (now (router .entry)) (now (source .entry)) (now (group .entry))) tiers (now (table .entry)) best at ⌝ }
+    ensures { λ r. ⌜ r ≡ betterAt (soughtOf (now (router .entry)) (now (source .entry)) (now (group .entry))) tiers (now (places .entry)) best at ⌝ }
 {
-    let tier = tier::tier_of(place::nlri_from(table, at), router, source, group, tiers);
+    let tier = tier::tier_of(place::nlri_from(places, at), router, source, group, tiers);
     if tier == 0 {
         return best;
     }
-    if !names_tunnel(table, at) {
+    if !names_tunnel(places, at) {
         return best;
     }
-    if is_ahead(table, tier, at, best) {
+    if is_ahead(places, tier, at, best) {
         return Best { tier, start: at };
     }
     best
@@ -91,22 +90,22 @@ fn better(
 
 // The best route in the first `count` places.
 pub fn scan(
-    table: &[u8],
+    places: &[u8],
     count: usize,
     router: &[u8],
     source: &[u8],
     group: &[u8],
     tiers: Tiers,
 ) -> Best
-    requires { ⌜ ((k : ℕ) → k < count → Readable (now table) (8 + 128 * k)) ⌝ }
+    requires { ⌜ ((k : ℕ) → k < count → Readable (now places) (128 * k)) ⌝ }
     requires { ⌜ 4 ≤ length (now router) ⌝ }
-    ensures { λ r. ⌜ r ≡ scanAt (soughtOf (now (router .entry)) (now (source .entry)) (now (group .entry))) tiers (now (table .entry)) count 8 noneYet ⌝ }
+    ensures { λ r. ⌜ r ≡ scanAt (soughtOf (now (router .entry)) (now (source .entry)) (now (group .entry))) tiers (now (places .entry)) count 0 noneYet ⌝ }
 {
     let mut best = Best { tier: 0, start: 0 };
-    let mut at = HEADER;
+    let mut at = 0;
     let mut left = count;
     while 0 < left {
-        best = better(table, router, source, group, tiers, best, at);
+        best = better(places, router, source, group, tiers, best, at);
         at += PLACE;
         left -= 1;
     }

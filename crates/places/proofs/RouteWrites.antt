@@ -18,10 +18,8 @@ use Rattle.tunnel.specs.Answers.{argumentFields}
 use Rattle.tunnel.proofs.Theorems.{attributeRoundTrips}
 use Rattle.routes.specs.Route.{Route, nlriOf, attributeOf}
 use Rattle.routes.specs.Place.{routeIn}
-use Rattle.routes.specs.Matching.{found}
-use Rattle.routes.specs.declared.Matched.{Matched}
-use Rattle.routes.specs.Answers.{foundAnswer, foundOutput}
-use Rattle.places.specs.Readable.{RouteFits}
+use Rattle.places.specs.declared.output.RouteSizes.{RouteSizes}
+use Rattle.places.specs.Writing.{RouteFits}
 
 pub attribute-least : (s : List ℕ) (f : AttributeFields) → readAttribute s ≡ given f → 5 ≤ length s
 unfolding readAttribute
@@ -56,10 +54,9 @@ module _ (s d lent : List ℕ) (at label : ℕ) (identifier : List ℕ) (octets 
       lent-placed at s d y room (e ∙ given-output _ s lent again ∙ ap (λ (x : List ℕ). s ++ drop (length s) x) lends ∙ ap (λ (x : List ℕ). x ++ drop (length s) (take (length d - at) (drop at d))) (sym (take-length s)))
 
 -- NLRI and attribute, put one straight after the other
-pub route-written : (tier : ℕ) (r : Route) (d y z nlri attribute : List ℕ) (next : ℕ) → length (nlriOf r) + length (attributeOf r) ≤ length d
-    → nlri ≡ nlriOf r → attribute ≡ attributeOf r → next ≡ 0 + length nlri → y ≡ placed 0 nlri d → z ≡ placed next attribute y → z ≡ foundOutput (found tier r) d
-unfolding foundOutput
-route-written tier r d y z nlri attribute next room n a k p q =
+pub route-written : (r : Route) (d y z nlri attribute : List ℕ) (next : ℕ) → length (nlriOf r) + length (attributeOf r) ≤ length d
+    → nlri ≡ nlriOf r → attribute ≡ attributeOf r → next ≡ 0 + length nlri → y ≡ placed 0 nlri d → z ≡ placed next attribute y → z ≡ front (nlriOf r ++ attributeOf r) d
+route-written r d y z nlri attribute next room n a k p q =
     placed-then 0 next (nlriOf r) (attributeOf r) d y z (omega arith) (k ∙ ap (λ (x : List ℕ). 0 + length x) n) (p ∙ ap (λ (x : List ℕ). placed 0 x d) n)
     (q ∙ ap (λ (x : List ℕ). placed next x y) a)
     ∙ sym (front-is-placed (nlriOf r ++ attributeOf r) d)
@@ -87,10 +84,9 @@ module _ (place output nlri : List ℕ) (w : RouteFits place output) (n : nlri �
         let same = length-put 0 nlri output next y nlri-room p in
         (rw a (w .read), omega (arith, length-nlri, length-attribute, p .0))
 
-    pub route-answer : (tier next size : ℕ) → next ≡ 0 + length nlri → size ≡ length attribute
-        → _≡_ {A = Matched} (record { number = 0; tier = tier; «nlri_size» = next; «attribute_size» = size }) (foundAnswer (found tier (routeIn place)))
-    unfolding foundAnswer
-    route-answer tier next size k l =
+    pub route-sizes : (next size : ℕ) → next ≡ 0 + length nlri → size ≡ length attribute
+        → _≡_ {A = RouteSizes} (record { nlri = next; attribute = size }) (record { nlri = length (nlriOf (routeIn place)); attribute = length (attributeOf (routeIn place)) })
+    route-sizes next size k l =
         let p : next ≡ length (nlriOf (routeIn place)) = omega (arith, length-nlri) in
         let q : size ≡ length (attributeOf (routeIn place)) = l ∙ length-attribute in
         rw (p, q)

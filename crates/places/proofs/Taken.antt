@@ -4,7 +4,7 @@ use mathlib.Core.Path.{_≡_, sym, _∙_, ap, subst}
 use mathlib.Core.Bool.{true}
 use mathlib.Core.List.{List, []}
 use native.Mathlib.Omega.{arith}
-use lib.ListN.{length, drop}
+use lib.ListN.{length, drop, length-drop}
 use lib.Seq.{drop-drop}
 use Rattle.octets.specs.Outcome.{given}
 use Rattle.octets.specs.Octets.{part}
@@ -18,10 +18,12 @@ use Rattle.routes.specs.Place.{endIn, routeIn, placeSound}
 use Rattle.routes.specs.Table.{placesSound, soundOf, afiIn, countIn}
 use Rattle.routes.proofs.Definitions.Bounds.{Accepted, accepted, sizes-of}
 use Rattle.routes.proofs.Definitions.Places.{sound-acceptable}
-use Rattle.places.specs.Readable.{nlriAt, Readable, RouteFits}
+use Rattle.places.specs.Readable.{nlriAt, Readable}
+use Rattle.places.specs.Writing.{RouteFits}
 use Rattle.places.proofs.FieldStarts.{fields-bounded}
 use Rattle.places.proofs.Sounds.{sound-end}
 use Rattle.routes.proofs.Statements.Images.{sound}
+use native.Mathlib.Nat.{zero-add}
 
 -- a sound place starts there
 pub record Taken (afi : ℕ) (t : List ℕ) (at : ℕ) : Type 0 where
@@ -82,6 +84,12 @@ pub table-taken : (t : List ℕ) → soundOf t ≡ true → (k : ℕ) → k < co
 table-taken t is =
     let s = sound t is in
     places-taken (afiIn t) [] (countIn t) t 8 (s .places) (omega arith)
+
+-- and behind its header
+pub table-places-taken : (t : List ℕ) → soundOf t ≡ true → (k : ℕ) → k < countIn t → Taken (afiIn t) (drop 8 t) (128 * k)
+table-places-taken t is k h =
+    let s = sound t is in
+    subst (Taken (afiIn t) (drop 8 t)) (zero-add (128 * k)) (places-taken (afiIn t) [] (countIn t) (drop 8 t) 0 (s .places) (simp length-drop (omega arith)) k h)
 
 -- what a place's functions need of a place cut out of the table
 pub place-ends : (t place : List ℕ) (at : ℕ) → Readable t at → place ≡ part t at 128 → endIn place ≤ length place

@@ -15,13 +15,6 @@ use Rattle.places.specs.Standing.{Bounded}
 unfoldable pub routeAt : (index : ℕ) (table : List ℕ) → Route
 routeAt index t = routeIn (part t (HEADER + PLACE * index) PLACE)
 
--- a place whose attribute reads, and an output of a size that every route fits into
-pub record RouteFits (place output : List ℕ) : Type 0 where
-  pub within : endIn place ≤ length place
-  pub read : readAttribute (attributeOf (routeIn place)) ≡ given (fieldsIn (attributeOf (routeIn place)))
-  pub most : length (nlriOf (routeIn place)) + length (attributeOf (routeIn place)) ≤ 124
-  pub room : 124 ≤ length output
-
 -- the NLRI in the place that starts at an octet of the table
 unfoldable pub nlriAt : (table : List ℕ) (at : ℕ) → List ℕ
 nlriAt t at = nlriOf (routeIn (part t at PLACE))

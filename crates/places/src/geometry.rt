@@ -21,6 +21,3 @@ pub const ROUTE: usize = 2;
 
 // Its last octet: 1 where its route is marked stale, else 0.
 pub const MARK: usize = 127;
-
-// An output that every route fits into, NLRI and attribute.
-pub const LEAST_OUTPUT: usize = 124;

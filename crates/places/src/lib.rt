@@ -3,5 +3,6 @@
 pub mod geometry;
 pub mod header;
 pub mod judge;
+pub mod output;
 pub mod place;
 pub mod sound;

@@ -1,24 +1,17 @@
-// A place: its NLRI and its attribute read where they stand, its route written out, and a route written into it.
+// A place: its NLRI and its attribute read where they stand, and a route written into it.
 ghost use mathlib.Core.Path.{_≡_};
 ghost use Prim.Native.Nat.{_+_, _*_, _≤_};
 ghost use lib.ListN.{length};
-ghost use Rattle.octets.specs.Octets.{part, placed};
+ghost use Rattle.octets.specs.Octets.{part};
 ghost use Rattle.octets.specs.Order.{zeros};
-ghost use Rattle.octets.specs.Outcome.{given};
-ghost use Rattle.octets.specs.Outputs.{Leaves};
-ghost use Rattle.tunnel.specs.Attribute.{fieldsIn, readAttribute};
 ghost use Rattle.routes.specs.Route.{route, nlriOf, attributeOf};
 ghost use Rattle.routes.specs.Place.{endIn, placeOf, routeIn};
-ghost use Rattle.routes.specs.Matching.{found};
-ghost use Rattle.routes.specs.Answers.{matchedBy};
-ghost use Rattle.places.specs.Readable.{nlriAt, Readable, RouteFits};
+ghost use Rattle.places.specs.Readable.{nlriAt, Readable};
 use crate::geometry::ATTRIBUTE_SIZE;
 use crate::geometry::HEADER;
 use crate::geometry::NLRI_SIZE;
 use crate::geometry::PLACE;
 use crate::geometry::ROUTE;
-use octets::number::DONE;
-use routes::Matched;
 
 // The place of an index.
 pub fn place_at(table: &[u8], index: usize) -> &[u8]
@@ -54,39 +47,6 @@ pub fn nlri_from(table: &[u8], at: usize) -> &[u8]
     ensures { λ r. ⌜ now r ≡ nlriAt (now (table .entry)) at ⌝ }
 {
     nlri_in(octets::parts::between(table, at, PLACE))
-}
-
-// Writes an attribute as it was read, into the output's remaining part, and answers its size.
-fn write_attribute(attribute: &[u8], output: &mut [u8], at: usize) -> usize
-    requires { ⌜ (readAttribute (now attribute) ≡ given (fieldsIn (now attribute))) × (at + length (now attribute) ≤ length (now output)) ⌝ }
-    ensures { λ r. ⌜ r ≡ length (now (attribute .entry)) ⌝ }
-    ensures { λ r. ⌜ now (output .exit) ≡ placed at (now (attribute .entry)) (now (output .entry)) ⌝ }
-{
-    let label_field = octets::wide::three(attribute, tunnel::LABEL_FIELD);
-    let identifier = octets::parts::after(attribute, tunnel::HEADER);
-    let written = tunnel::write(
-        attribute[0],
-        attribute[1],
-        label_field,
-        identifier,
-        &mut output[at..],
-    );
-    written.size
-}
-
-// NLRI and attribute, one straight after the other.
-pub fn write_route(tier: u32, place: &[u8], output: &mut [u8]) -> Matched
-    requires { ⌜ RouteFits (now place) (now output) ⌝ }
-    ensures { λ r. ⌜ Leaves (matchedBy (given (found tier (routeIn (now (place .entry))))) (now (output .entry))) r (now (output .exit)) ⌝ }
-{
-    let nlri_size = octets::parts::place(nlri_in(place), output, 0);
-    let attribute_size = write_attribute(attribute_in(place), output, nlri_size);
-    Matched {
-        number: DONE,
-        tier,
-        nlri_size: nlri_size as u32,
-        attribute_size: attribute_size as u32,
-    }
 }
 
 // Every octet becomes 0.

@@ -9,11 +9,13 @@ ghost use Rattle.routes.specs.Next.{nextIn, followingBy, nextOf};
 ghost use Rattle.octets.specs.Outputs.{Leaves};
 ghost use Rattle.table.specs.Following.{firstFound};
 use changes::find;
+use octets::number::DONE;
 use octets::number::SPACE;
 use octets::number::TABLE;
-use places::geometry::LEAST_OUTPUT;
 use places::geometry::MARK;
 use places::header;
+use places::output;
+use places::output::LEAST_OUTPUT;
 use places::place;
 use places::sound;
 use routes::Following;
@@ -30,7 +32,7 @@ fn index_after(table: &[u8], count: usize, nlri: &[u8]) -> usize
     index
 }
 
-// The route at an index, told as a match tells it, with its mark for the tier; none behind the last.
+// The route at an index, with its mark; none behind the last.
 fn tell_at(table: &[u8], index: usize, count: usize, output: &mut [u8]) -> Following
     requires { ⌜ (soundOf (now table) ≡ true) × (count ≡ countIn (now table)) × (124 ≤ length (now output)) ⌝ }
     ensures { λ r. ⌜ Leaves (followingBy (given (firstFound (drop index (routesOf (now (table .entry)))))) (now (output .entry))) r (now (output .exit)) ⌝ }
@@ -40,11 +42,11 @@ fn tell_at(table: &[u8], index: usize, count: usize, output: &mut [u8]) -> Follo
     }
     let place = place::place_at(table, index);
     let stale = place[MARK] as u32;
-    let told = place::write_route(0, place, output);
+    let sizes = output::write_route(place, output);
     Following {
-        number: told.number,
-        nlri_size: told.nlri_size,
-        attribute_size: told.attribute_size,
+        number: DONE,
+        nlri_size: sizes.nlri,
+        attribute_size: sizes.attribute,
         stale,
     }
 }

@@ -1,4 +1,4 @@
--- `places::place::write_attribute` meets its contract. The octets that were read are written again.
+-- `places::output::write_attribute` meets its contract. The octets that were read are written again.
 use native.Mathlib.Omega.{arith}
 use borrow.Author.Needs.{needs}
 use Rattle.places.proofs.RouteWrites.{attribute-least, attribute-size, attribute-placed}
@@ -8,8 +8,8 @@ use Prim.Native.Nat.{ℕ}
 use denote.Ref.{now}
 use Rattle.octets.specs.Octets.{AllOctets}
 use Rattle.octets.proofs.AllOctets.{octets-of}
-use Rattle.places.proofs.place.write_attribute.Statement.{statement}
-use Rattle.places.proofs.place.write_attribute.Tie as tie
+use Rattle.places.proofs.output.write_attribute.Statement.{statement}
+use Rattle.places.proofs.output.write_attribute.Tie as tie
 
 three-requires : tie.Need-three-requires
 three-requires c κs = omega (arith, attribute-least _ _ (c .before .before .pre .0))
