@@ -20,7 +20,7 @@ pub fn clear_places(table: &mut [u8])
     requires { ⌜ 8 ≤ length (now table) ⌝ }
     ensures { λ _. ⌜ now (table .exit) ≡ take 8 (now (table .entry)) ++ zeros (length (now (table .entry)) - 8) ⌝ }
 {
-    place::clear(&mut table[HEADER..]);
+    octets::parts::clear(&mut table[HEADER..]);
 }
 
 // Moves all octets up by one place, from the last down; the last place's octets fall off, and the first place's stay.
@@ -55,7 +55,7 @@ fn close_gap(tail: &mut [u8])
 {
     move_down(tail, PLACE);
     let last = tail.len() - PLACE;
-    place::clear(&mut tail[last..]);
+    octets::parts::clear(&mut tail[last..]);
 }
 
 // The place that starts at `at` written over the one that starts at `to`, which is the same or comes before it.
@@ -91,7 +91,7 @@ fn clear_part(table: &mut [u8], to: usize, end: usize)
     requires { ⌜ (to ≤ end) × (end ≤ length (now table)) ⌝ }
     ensures { λ _. ⌜ now (table .exit) ≡ take to (now (table .entry)) ++ (zeros (end - to) ++ drop end (now (table .entry))) ⌝ }
 {
-    place::clear(&mut table[to..end]);
+    octets::parts::clear(&mut table[to..end]);
 }
 
 // The places that end at `to` are those taken; those behind them become free.

@@ -10,7 +10,7 @@ use places::output;
 use routes::Matched;
 
 // The best route written, or, where there is none, the output untouched.
-pub fn answer(places: &[u8], best: Best, output: &mut [u8]) -> Matched
+pub(crate) fn answer(places: &[u8], best: Best, output: &mut [u8]) -> Matched
     requires { ⌜ Answerable (now places) best (now output) ⌝ }
     ensures { λ r. ⌜ Leaves (matchedBy (given (bestIn (now (places .entry)) best)) (now (output .entry))) r (now (output .exit)) ⌝ }
 {

@@ -27,7 +27,7 @@ use places::sound;
 use routes::Matched;
 
 // The search, with these tiers open.
-pub fn search(
+pub(crate) fn search(
     table: &[u8],
     router: &[u8],
     source: &[u8],

@@ -164,7 +164,7 @@ pub fn is_of(nlri: &[u8], router: &[u8]) -> bool
 }
 
 // The tier of a route of the router asked; 0 for one of another router, or where no tier's condition is met.
-pub fn tier_of(nlri: &[u8], router: &[u8], source: &[u8], group: &[u8], tiers: Tiers) -> u32
+pub(crate) fn tier_of(nlri: &[u8], router: &[u8], source: &[u8], group: &[u8], tiers: Tiers) -> u32
     requires { ⌜ Bounded (now nlri) × (4 ≤ length (now router)) ⌝ }
     ensures { λ r. ⌜ r ≡ tierAt (soughtOf (now (router .entry)) (now (source .entry)) (now (group .entry))) tiers (now (nlri .entry)) ⌝ }
 {

@@ -1,5 +1,5 @@
 -- What functions that write answer, and what they leave in lent octets (document 01, "The numbers a call gives back").
-use Prim.Native.Nat.{ℕ, _+_}
+use Prim.Native.Nat.{ℕ, _+_, _≤_}
 use mathlib.Core.Path.{_≡_}
 use mathlib.Core.List.{List}
 use lib.ListN.{length}
@@ -18,6 +18,10 @@ outputOf outcome output = onOutcome (λ number. output) (λ octets. front octets
 -- octets put into an output from `at` on: the answer is the place just past them
 abbrev pub Put : (at : ℕ) (octets before : List ℕ) (answer : ℕ) (after : List ℕ) → Type 0
 Put at octets before answer after = (answer ≡ at + length octets) × (after ≡ placed at octets before)
+
+-- `size` octets of s from `from` on, and room for them in d from `at` on
+abbrev pub CopyWithin : (s : List ℕ) (from size : ℕ) (d : List ℕ) (at : ℕ) → Type 0
+CopyWithin s from size d at = (from + size ≤ length s) × (at + size ≤ length d)
 
 -- an outcome written: the answer, and what is left in the output
 abbrev pub Wrote : Outcome (List ℕ) → (before : List ℕ) → (answer : Written) → (after : List ℕ) → Type 0

@@ -7,15 +7,13 @@ use mathlib.Core.List.{List, []}
 use native.Mathlib.Omega.{arith}
 use borrow.Author.Tests.{eqb-true, eqb-false, leb-true, lt-ltb, le-ltb}
 use lib.Dec.{ltb, eqb}
-use lib.ListN.{length, getD, take}
-use lib.Seq.{take-all}
+use lib.ListN.{length, getD}
 use Rattle.octets.specs.Choice.{pick}
-use Rattle.octets.specs.Octets.{AllOctets, part, numberIn}
+use Rattle.octets.specs.Octets.{part}
 use Rattle.octets.specs.Order.{before}
 use Rattle.octets.proofs.Choice.{tested, pick-true, pick-false, both-true-left, either-left, either-last}
 use Rattle.octets.proofs.Lists.{length-part, part-octet, part-within}
-use Rattle.octets.proofs.NetworkOrder.{same-number}
-use Rattle.octets.proofs.Orders.{parts-decide, parts-differ, parts-alike, octet-alike, octet-decides, before-itself, before-none}
+use Rattle.octets.proofs.Orders.{octet-alike, octet-decides, before-none}
 use Rattle.routes.specs.Route.{nlriOf}
 use Rattle.routes.specs.Place.{endIn, routeIn, placeSound}
 use Rattle.routes.proofs.Definitions.Bounds.{accepted}
@@ -23,21 +21,6 @@ use Rattle.routes.proofs.Definitions.Places.{sound-acceptable}
 use Rattle.places.specs.Standing.{originatorStart}
 use Rattle.places.specs.Passing.{risesAt}
 use Rattle.places.proofs.FieldStarts.{fields-bounded, length-told}
-
--- octets of one size that begin alike: the last n of each decide, whether or not they differ
-pub parts-last : (a b : List ℕ) (i n : ℕ) → take i a ≡ take i b → AllOctets a → AllOctets b → length a ≡ i + n → length b ≡ i + n
-    → (x y : ℕ) → x ≡ numberIn (part a i n) 0 → y ≡ numberIn (part b i n) 0 → ltb x y ≡ before a b
-parts-last a b i n front each-a each-b la lb x y in-a in-b =
-    let number : List ℕ → ℕ = λ s. numberIn s 0 in
-    let fits-a : i + n ≤ length a = omega arith in
-    let fits-b : i + n ≤ length b = omega arith in
-    tested (eqb x y)
-    (λ t.
-    let e : x ≡ y = eqb-true x y t in
-    let alike : take (i + n) a ≡ take (i + n) b = parts-alike number a b i n x y in-a in-b (same-number each-a each-b i n fits-a fits-b) front e in
-    let same : a ≡ b = sym (take-all (i + n) a (omega arith)) ∙ alike ∙ take-all (i + n) b (omega arith) in
-    le-ltb x y (omega arith) ∙ sym (ap (λ (s : List ℕ). before s b) same ∙ before-itself b))
-    (λ f. parts-decide a b i n front each-a each-b fits-a fits-b x y in-a in-b (parts-differ number a b i n x y in-a in-b (eqb-false x y f)))
 
 -- lists that differ in their second octet: the first two decide
 first-two : (a b : List ℕ) → 2 ≤ length a → 2 ≤ length b → (getD a 1 0 ≡ getD b 1 0 → ⊥)

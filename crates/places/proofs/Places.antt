@@ -1,10 +1,10 @@
 -- Places as they are written.
 use Prim.Native.Nat.{ℕ, _+_, _-_, _≤_}
 use mathlib.Core.Path.{_≡_, sym, ap, _∙_}
-use mathlib.Core.List.{List, [], _∷_, _++_, append-assoc, append-nil}
+use mathlib.Core.List.{List, [], _∷_, _++_, append-assoc}
 use native.Mathlib.Nat.{zero-add}
 use native.Mathlib.Omega.{arith}
-use lib.ListN.{length, length-append, drop, replicate-append-replicate, replicate, drop-of-length-le}
+use lib.ListN.{length, length-append, drop, replicate-append-replicate}
 use lib.Seq.{drop-at}
 use Rattle.octets.specs.Octets.{placed}
 use Rattle.octets.specs.Order.{zeros}
@@ -42,10 +42,3 @@ place-written n a z x y w i j k h e p q r =
     whole .1 ∙ ap (placed 0 ((sizes ++ n) ++ a)) e ∙ over ∙ ap (λ (m : ℕ). ((sizes ++ n) ++ a) ++ zeros m) left
     ∙ ap (λ (l : List ℕ). length n ∷ (length a ∷ l)) (append-assoc n a (zeros (126 - (length n + length a)))
     ∙ ap (λ (l : List ℕ). n ++ (a ++ l)) (ap zeros last ∙ zeros-split (125 - (length n + length a)) 1))
-
--- all octets filled with zeros
-pub filled : (n : ℕ) (d s : List ℕ) → length d ≤ n → n ≤ length d → s ≡ replicate n 0 ++ drop n d → s ≡ zeros (length d)
-unfolding zeros
-filled n d s h k e =
-    let same : n ≡ length d = omega arith in
-    e ∙ ap (λ (x : List ℕ). replicate n 0 ++ x) (drop-of-length-le d h) ∙ append-nil (replicate n 0) ∙ ap (λ (m : ℕ). replicate m 0) same

@@ -43,7 +43,7 @@ pub fn is_family(afi: u16) -> bool
 }
 
 // A good header: "MVT", the version and an AFI.
-pub fn is_header_sound(table: &[u8]) -> bool
+pub(crate) fn is_header_sound(table: &[u8]) -> bool
     requires { ⌜ 8 ≤ length (now table) ⌝ }
     ensures { λ r. ⌜ r ≡ headerSound (now (table .entry)) ⌝ }
 {

@@ -17,7 +17,7 @@ pub fn s_pmsi_fault(afi: u16, nlri: &[u8]) -> u32
 }
 
 // LABEL, or DONE, for an attribute that reading accepts.
-pub fn label_fault(attribute: &[u8]) -> u32
+pub(crate) fn label_fault(attribute: &[u8]) -> u32
     requires { ⌜ numberOf (readAttribute (now attribute)) ≡ DONE ⌝ }
     ensures { λ r. ⌜ r ≡ numberOf (readLabelled (now (attribute .entry))) ⌝ }
 {

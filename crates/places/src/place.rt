@@ -3,7 +3,6 @@ ghost use mathlib.Core.Path.{_≡_};
 ghost use Prim.Native.Nat.{_+_, _*_, _≤_};
 ghost use lib.ListN.{length};
 ghost use Rattle.octets.specs.Octets.{part};
-ghost use Rattle.octets.specs.Order.{zeros};
 ghost use Rattle.routes.specs.Route.{route, nlriOf, attributeOf};
 ghost use Rattle.routes.specs.Place.{endIn, placeOf, routeIn};
 ghost use Rattle.places.specs.Readable.{nlriAt, Readable};
@@ -49,24 +48,13 @@ pub fn nlri_from(table: &[u8], at: usize) -> &[u8]
     nlri_in(octets::parts::between(table, at, PLACE))
 }
 
-// Every octet becomes 0.
-pub fn clear(octets: &mut [u8])
-    ensures { λ _. ⌜ now (octets .exit) ≡ zeros (length (now (octets .entry))) ⌝ }
-{
-    let mut at = 0;
-    while at < octets.len() {
-        octets[at] = 0;
-        at += 1;
-    }
-}
-
 // The sizes, the NLRI and the attribute of a route, and zeros to the end.
 pub fn write_place(place: &mut [u8], nlri: &[u8], attribute: &[u8])
     requires { ⌜ length (now place) ≡ 128 ⌝ }
     requires { ⌜ length (now nlri) + length (now attribute) ≤ 125 ⌝ }
     ensures { λ _. ⌜ now (place .exit) ≡ placeOf (route (now (nlri .entry)) (now (attribute .entry))) ⌝ }
 {
-    clear(place);
+    octets::parts::clear(place);
     let sizes = [nlri.len() as u8, attribute.len() as u8];
     let start = octets::parts::place(&sizes, place, 0);
     let end = octets::parts::place(nlri, place, start);

@@ -3,7 +3,7 @@ ghost use mathlib.Core.Path.{_≡_};
 ghost use mathlib.Core.List.{[]};
 ghost use Prim.Native.Nat.{_+_, _*_, _≤_, _<_};
 ghost use lib.ListN.{length, getD, drop};
-ghost use Rattle.octets.specs.Order.{before, allZero};
+ghost use Rattle.octets.specs.Order.{allZero};
 ghost use Rattle.routes.specs.Place.{placeSound};
 ghost use Rattle.routes.specs.Table.{tableSize, placesSound, soundOf};
 ghost use Rattle.places.specs.Passing.{risesAt};
@@ -98,23 +98,6 @@ fn is_place_sound(afi: u16, place: &[u8]) -> bool
     is_tail_zero(octets::parts::between(place, 0, MARK), end)
 }
 
-// The order of octets of one size, at least a word: the first words that differ decide, as big-endian numbers. The last word may
-// begin inside the one before it.
-fn rises(a: &[u8], b: &[u8]) -> bool
-    requires { ⌜ (length (now a) ≡ length (now b)) × (8 ≤ length (now b)) ⌝ }
-    ensures { λ r. ⌜ r ≡ before (now (a .entry)) (now (b .entry)) ⌝ }
-{
-    let last = b.len() - WORD;
-    let mut i = 0;
-    while i < last {
-        if octets::wide::eight_low_first(a, i) != octets::wide::eight_low_first(b, i) {
-            return octets::wide::eight(a, i) < octets::wide::eight(b, i);
-        }
-        i += WORD;
-    }
-    octets::wide::eight(a, last) < octets::wide::eight(b, last)
-}
-
 // The NLRI of the sound place from `at` on comes after that of the place before it, which is sound too. The one before is looked at
 // as far as this one goes: where their sizes differ, so do their Length octets. The first place has none before it.
 fn follows(table: &[u8], at: usize) -> bool
@@ -125,7 +108,7 @@ fn follows(table: &[u8], at: usize) -> bool
         return true;
     }
     let size = table[at] as usize;
-    rises(
+    octets::order::rises(
         octets::parts::between(table, at - PLACE + ROUTE, size),
         octets::parts::between(table, at + ROUTE, size),
     )

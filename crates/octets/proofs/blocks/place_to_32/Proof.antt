@@ -1,8 +1,8 @@
--- `tunnel::blocks::place_to_32` meets its contract.
-use Rattle.tunnel.proofs.Functions.Copies.{placed-ends}
+-- `octets::blocks::place_to_32` meets its contract.
+use Rattle.octets.proofs.Copies.{placed-ends}
 use borrow.Author.Needs.{needs}
-use Rattle.tunnel.proofs.blocks.place_to_32.Statement.{statement}
-use Rattle.tunnel.proofs.blocks.place_to_32.Tie as tie
+use Rattle.octets.proofs.blocks.place_to_32.Statement.{statement}
+use Rattle.octets.proofs.blocks.place_to_32.Tie as tie
 
 returns : tie.Need-returns
 returns c = search (needs, placed-ends)

@@ -1,16 +1,16 @@
--- `places::sound::rises` meets its contract.
+-- `octets::order::rises` meets its contract.
 use Prim.Native.Nat.{_-_}
 use mathlib.Core.Path.{_≡_, refl}
 use lib.ListN.{length, take}
 use denote.Ref.{now}
 use Rattle.octets.specs.Octets.{lowFirst}
 use Rattle.octets.proofs.AllOctets.{octets-of}
 use Rattle.octets.proofs.LowFirst.{same-low}
 use Rattle.octets.proofs.Orders.{parts-decide, parts-differ, parts-alike, alike-before}
-use Rattle.places.proofs.Neighbours.{parts-last}
+use Rattle.octets.proofs.Orders.{parts-last}
 use borrow.Author.Needs.{needs}
-use Rattle.places.proofs.sound.rises.Statement.{statement}
-use Rattle.places.proofs.sound.rises.Tie as tie
+use Rattle.octets.proofs.order.rises.Statement.{statement}
+use Rattle.octets.proofs.order.rises.Tie as tie
 
 abbrev Inv-loop : tie.InvT-loop
 Inv-loop a b last i₀ i = take i a ≡ take i b

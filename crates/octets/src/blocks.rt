@@ -3,8 +3,9 @@
 ghost use mathlib.Core.Path.{_≡_};
 ghost use Prim.Native.Nat.{_+_, _≤_};
 ghost use lib.ListN.{length};
 ghost use Rattle.octets.specs.Octets.{part, placed};
-ghost use Rattle.tunnel.specs.Inner.{CopyWithin};
+ghost use Rattle.octets.specs.Outputs.{CopyWithin};
+use crate::parts;
 
 // Puts 4 octets of `s` from `from` on into `output` from `at` on. A block's octets are all read before one is written.
 fn place_4(s: &[u8], from: usize, output: &mut [u8], at: usize)
@@ -12,7 +13,7 @@ fn place_4(s: &[u8], from: usize, output: &mut [u8], at: usize)
     ensures { λ _. ⌜ now (output .exit) ≡ placed at (part (now (s .entry)) from 4) (now (output .entry)) ⌝ }
 {
     let block = [s[from], s[from + 1], s[from + 2], s[from + 3]];
-    octets::parts::place(&block, output, at);
+    parts::place(&block, output, at);
 }
 
 // The same of 8 octets.
@@ -30,7 +31,7 @@ fn place_8(s: &[u8], from: usize, output: &mut [u8], at: usize)
         s[from + 6],
         s[from + 7],
     ];
-    octets::parts::place(&block, output, at);
+    parts::place(&block, output, at);
 }
 
 // The same of 16 octets, as two blocks of 8.
@@ -108,7 +109,7 @@ fn place_from_8(s: &[u8], output: &mut [u8], at: usize)
 }
 
 // Puts all of `s`, which has at most 64 octets, into `output` from `at` on.
-pub(crate) fn place(s: &[u8], output: &mut [u8], at: usize)
+pub fn place(s: &[u8], output: &mut [u8], at: usize)
     requires { ⌜ (length (now s) ≤ 64) × (at + length (now s) ≤ length (now output)) ⌝ }
     ensures { λ _. ⌜ now (output .exit) ≡ placed at (now (s .entry)) (now (output .entry)) ⌝ }
 {
@@ -120,5 +121,5 @@ pub(crate) fn place(s: &[u8], output: &mut [u8], at: usize)
         place_to_8(s, output, at);
         return;
     }
-    octets::parts::place(s, output, at);
+    parts::place(s, output, at);
 }

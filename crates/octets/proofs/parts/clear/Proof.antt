@@ -1,4 +1,4 @@
--- `places::place::clear` meets its contract.
+-- `octets::parts::clear` meets its contract.
 use Prim.Native.Nat.{_-_, _≤_}
 use mathlib.Core.Path.{_≡_}
 use mathlib.Core.List.{_++_}
@@ -7,9 +7,9 @@ use borrow.Author.Needs.{needs}
 use borrow.Author.Fill.{fill-more}
 use denote.Ref.{now}
 use lib.ListN.{length, drop, replicate}
-use Rattle.places.proofs.Places.{filled}
-use Rattle.places.proofs.place.clear.Statement.{statement}
-use Rattle.places.proofs.place.clear.Tie as tie
+use Rattle.octets.proofs.Lists.{filled}
+use Rattle.octets.proofs.parts.clear.Statement.{statement}
+use Rattle.octets.proofs.parts.clear.Tie as tie
 
 abbrev Inv-loop : tie.InvT-loop
 Inv-loop octets₀ at₀ octets at = (at ≤ length octets₀) × (length octets ≡ length octets₀) × (octets ≡ replicate at 0 ++ drop at octets₀)

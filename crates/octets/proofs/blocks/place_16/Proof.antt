@@ -1,8 +1,8 @@
--- `tunnel::blocks::place_16` meets its contract.
-use Rattle.tunnel.proofs.Functions.Copies.{placed-blocks}
+-- `octets::blocks::place_16` meets its contract.
+use Rattle.octets.proofs.Copies.{placed-blocks}
 use borrow.Author.Needs.{needs}
-use Rattle.tunnel.proofs.blocks.place_16.Statement.{statement}
-use Rattle.tunnel.proofs.blocks.place_16.Tie as tie
+use Rattle.octets.proofs.blocks.place_16.Statement.{statement}
+use Rattle.octets.proofs.blocks.place_16.Tie as tie
 
 returns : tie.Need-returns
 returns c = search (needs, placed-blocks)

@@ -1,9 +1,9 @@
--- `tunnel::blocks::place_4` meets its contract.
+-- `octets::blocks::place_4` meets its contract.
 use denote.Ref.{now}
-use Rattle.tunnel.proofs.Functions.Copies.{part-array}
+use Rattle.octets.proofs.Copies.{part-array}
 use borrow.Author.Needs.{needs}
-use Rattle.tunnel.proofs.blocks.place_4.Statement.{statement}
-use Rattle.tunnel.proofs.blocks.place_4.Tie as tie
+use Rattle.octets.proofs.blocks.place_4.Statement.{statement}
+use Rattle.octets.proofs.blocks.place_4.Tie as tie
 
 returns : tie.Need-returns
 returns c =
