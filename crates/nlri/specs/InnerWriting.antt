@@ -6,7 +6,7 @@ use mathlib.Core.List.{List, [], _∷_, _++_}
 use lib.ListN.{length}
 use lib.Dec.{ltb, eqb}
 use Rattle.octets.specs.Numbers.{TYPE, WIDTH, KEY, SPACE, GROUP}
-use Rattle.octets.specs.Choice.{pick, both, either}
+use Rattle.octets.specs.Choice.{pick, both}
 use Rattle.octets.specs.Outcome.{Outcome, given, refused, unless, andThen}
 use Rattle.octets.specs.Octets.{bigEndian}
 use Rattle.nlri.specs.declared.fields.Nlri.{Nlri}
@@ -14,15 +14,7 @@ use Rattle.nlri.specs.Family.{allowed, isOriginatorSize}
 use Rattle.nlri.specs.Fields.{encodeAddress, isDiscarded}
 use Rattle.nlri.specs.Writing.{isKey}
 use Rattle.nlri.specs.Answers.{addressOctets, structFields}
-use Rattle.nlri.specs.Inner.{withSourceAs}
-
--- types 3, 5, 6 and 7 have a source and a group
-unfoldable pub hasFlow : ℕ → Bool
-hasFlow type = either (eqb type 3) (ltb 4 type)
-
--- types 1, 3 and 4 have an originator
-unfoldable pub hasOriginator : ℕ → Bool
-hasOriginator type = either (eqb type 1) (either (eqb type 3) (eqb type 4))
+use Rattle.nlri.specs.Inner.{withSourceAs, hasFlow, hasOriginator}
 
 -- source and group, of so many octets, have lengths that type and family allow, where the type has them
 unfoldable pub flowFits : (bits type source group : ℕ) → Bool

@@ -11,14 +11,14 @@ ghost use Rattle.nlri.specs.InnerMldp.{mldpOriginatorFits, mldpFecNumber
 use crate::address::AddressKind;
 use crate::address::RouteDistinguisher;
 use crate::body;
-use crate::fields;
 use crate::fields::Nlri;
+use crate::header;
+use crate::header::HEADER;
+use crate::header::Header;
 use crate::mldp;
-use crate::read;
-use crate::read::HEADER;
-use crate::read::Header;
+use crate::put;
+use crate::route;
 use crate::route::RouteType;
-use crate::write;
 use fec_elements::Standing;
 use octets::Written;
 use octets::number::DONE;
@@ -66,7 +66,7 @@ fn key_fits(kind: AddressKind, route_type: usize, key: &[u8]) -> bool
 fn is_key(kind: AddressKind, key: &[u8]) -> bool
     ensures { λ r. ⌜ r ≡ isKey (kind .bits) 68 (now (key .entry)) ⌝ }
 {
-    let Header::Typed(route_type, length) = read::read_header(key) else {
+    let Header::Typed(route_type, length) = header::read_header(key) else {
         return false;
     };
     if route_type != RouteType::MLDP_S_PMSI {
@@ -86,7 +86,7 @@ fn fixed_size(route_type: usize) -> usize
     if route_type == RouteType::MLDP_LEAF {
         return 0;
     }
-    if fields::has_source_as(route_type) {
+    if route::has_source_as(route_type) {
         return RouteDistinguisher::WITH_SOURCE_AS;
     }
     RouteDistinguisher::OCTETS
@@ -139,7 +139,7 @@ fn judge(kind: AddressKind, nlri: Nlri, key: &[u8], fec: &[u8]) -> u32
 {
     let route_type = nlri.route_type as usize;
     let originator = nlri.originator;
-    if !mldp::is_mldp(route_type) {
+    if !route::is_mldp(route_type) {
         return TYPE;
     }
     if !originator_fits(route_type, originator.size as usize) {
@@ -166,7 +166,7 @@ fn put_fixed(nlri: Nlri, output: &mut [u8], at: usize) -> usize
     if nlri.route_type as usize == RouteType::MLDP_LEAF {
         return at;
     }
-    write::put_distinguisher(nlri, output, at)
+    put::put_distinguisher(nlri, output, at)
 }
 
 // The key of a 0x44, else the FEC.
@@ -189,7 +189,7 @@ fn put_originator(nlri: Nlri, output: &mut [u8], at: usize) -> usize
         return at;
     }
     let originator = nlri.originator;
-    write::put_octets(originator, output, at)
+    put::put_octets(originator, output, at)
 }
 
 // The body from `at` on.
@@ -207,7 +207,7 @@ fn put(nlri: Nlri, key: &[u8], fec: &[u8], size: usize, output: &mut [u8]) -> Wr
     requires { ⌜ MldpPutting nlri (now key) (now fec) size (now output) ⌝ }
     ensures { λ r. ⌜ Wrote (given (mldpOctets nlri (now (key .entry)) (now (fec .entry)))) (now (output .entry)) r (now (output .exit)) ⌝ }
 {
-    let at = write::put_header(nlri.route_type, size as u8, output);
+    let at = put::put_header(nlri.route_type, size as u8, output);
     put_body(nlri, key, fec, output, at);
     Written {
         number: DONE,

@@ -2,29 +2,29 @@
 // that the route type lacks are not looked at.
 ghost use mathlib.Core.Path.{_≡_};
 ghost use mathlib.Core.Logic.{_⊎_};
-ghost use mathlib.Core.List.{[], _∷_, _++_};
+ghost use mathlib.Core.List.{[]};
 ghost use Prim.Native.Nat.{_+_, _≤_, _<_};
 ghost use lib.ListN.{length};
 ghost use Rattle.octets.specs.Outcome.{given, numberOf};
 ghost use Rattle.octets.specs.Outputs.{Put, Wrote};
-ghost use Rattle.nlri.specs.Fields.{encodeAddress, isDiscarded};
+ghost use Rattle.nlri.specs.Fields.{isDiscarded};
 ghost use Rattle.nlri.specs.Writing.{isKey, writeNlri};
-ghost use Rattle.nlri.specs.Answers.{addressOctets, structFields};
-ghost use Rattle.nlri.specs.InnerWriting.{hasFlow, hasOriginator, flowFits, originatorFits, leafFits, fitting, fixedSize, flowSize, originatorLength, sizeOf, sourceAsOctets, fixedOctets, flowOctets, originatorOctets, bodyOctets, nlriOctets, AddressSize, AddressesSized, Putting, writtenToSeven};
+ghost use Rattle.nlri.specs.Answers.{structFields};
+ghost use Rattle.nlri.specs.InnerWriting.{flowFits, originatorFits, leafFits, fitting, fixedSize, flowSize, originatorLength, sizeOf, fixedOctets, flowOctets, originatorOctets, bodyOctets, nlriOctets, AddressesSized, Putting, writtenToSeven};
 ghost use Rattle.nlri.specs.InnerMldp.{writeUnder};
-use crate::address::Address;
 use crate::address::AddressKind;
 use crate::address::RouteDistinguisher;
 use crate::body;
 use crate::family;
 use crate::family::Family;
-use crate::fields;
 use crate::fields::Nlri;
 use crate::group;
+use crate::header::HEADER;
+use crate::header::Header;
 use crate::mldp_write;
+use crate::put;
 use crate::read;
-use crate::read::HEADER;
-use crate::read::Header;
+use crate::route;
 use crate::route::RouteType;
 use octets::Written;
 use octets::number::DONE;
@@ -34,35 +34,12 @@ use octets::number::SPACE;
 use octets::number::TYPE;
 use octets::number::WIDTH;
 
-// Types 3, 5, 6 and 7 have a source and a group.
-fn has_flow(route_type: usize) -> bool
-    ensures { λ r. ⌜ r ≡ hasFlow «route_type» ⌝ }
-{
-    if route_type == RouteType::S_PMSI {
-        return true;
-    }
-    RouteType::LEAF < route_type
-}
-
-// Types 1, 3 and 4 have an originator.
-fn has_originator(route_type: usize) -> bool
-    ensures { λ r. ⌜ r ≡ hasOriginator «route_type» ⌝ }
-{
-    if route_type == RouteType::INTRA_AS_I_PMSI {
-        return true;
-    }
-    if route_type == RouteType::S_PMSI {
-        return true;
-    }
-    route_type == RouteType::LEAF
-}
-
 // Source and group, of so many octets, have lengths that type and family allow, where the type has them.
 fn flow_fits(kind: AddressKind, route_type: usize, source: usize, group: usize) -> bool
     requires { ⌜ (source < 256) × (group < 256) ⌝ }
     ensures { λ r. ⌜ r ≡ flowFits (kind .bits) «route_type» source group ⌝ }
 {
-    if !has_flow(route_type) {
+    if !route::has_flow(route_type) {
         return true;
     }
     if !body::is_allowed(kind, route_type, 8 * source) {
@@ -75,7 +52,7 @@ fn flow_fits(kind: AddressKind, route_type: usize, source: usize, group: usize) 
 fn originator_fits(route_type: usize, size: usize) -> bool
     ensures { λ r. ⌜ r ≡ originatorFits «route_type» size ⌝ }
 {
-    if has_originator(route_type) {
+    if route::has_originator(route_type) {
         return body::is_originator_size(size);
     }
     true
@@ -131,7 +108,7 @@ fn fixed_size(route_type: usize, key: usize) -> usize
     if route_type == RouteType::LEAF {
         return key;
     }
-    if fields::has_source_as(route_type) {
+    if route::has_source_as(route_type) {
         return RouteDistinguisher::WITH_SOURCE_AS;
     }
     RouteDistinguisher::OCTETS
@@ -142,7 +119,7 @@ fn flow_size(route_type: usize, source: usize, group: usize) -> usize
     requires { ⌜ (source < 256) × (group < 256) ⌝ }
     ensures { λ r. ⌜ r ≡ flowSize «route_type» source group ⌝ }
 {
-    if has_flow(route_type) {
+    if route::has_flow(route_type) {
         return 2 + source + group;
     }
     0
@@ -152,7 +129,7 @@ fn flow_size(route_type: usize, source: usize, group: usize) -> usize
 fn originator_length(route_type: usize, size: usize) -> usize
     ensures { λ r. ⌜ r ≡ originatorLength «route_type» size ⌝ }
 {
-    if has_originator(route_type) {
+    if route::has_originator(route_type) {
         return size;
     }
     0
@@ -172,63 +149,6 @@ fn size_of(nlri: Nlri, key: usize) -> usize
     HEADER + fixed + flow + originator_length(route_type, originator.size as usize)
 }
 
-// The octets of an address, from `at` on: copies of a known size are single moves.
-pub(crate) fn put_octets(address: Address, output: &mut [u8], at: usize) -> usize
-    requires { ⌜ AddressSize (address .size) × (at + length (addressOctets address) ≤ length (now output)) ⌝ }
-    ensures { λ r. ⌜ Put at (addressOctets address) (now (output .entry)) r (now (output .exit)) ⌝ }
-{
-    let octets = address.octets;
-    let size = address.size as usize;
-    if size == AddressKind::IPV4_OCTETS {
-        return octets::parts::place(&octets[..AddressKind::IPV4_OCTETS], output, at);
-    }
-    if size == AddressKind::IPV6_OCTETS {
-        return octets::parts::place(&octets, output, at);
-    }
-    at
-}
-
-// A source or group with its length octet, from `at` on.
-fn put_address(address: Address, output: &mut [u8], at: usize) -> usize
-    requires { ⌜ AddressSize (address .size) × (at + length (encodeAddress (addressOctets address)) ≤ length (now output)) ⌝ }
-    ensures { λ r. ⌜ Put at (encodeAddress (addressOctets address)) (now (output .entry)) r (now (output .exit)) ⌝ }
-{
-    let bits = [8 * address.size];
-    let next = octets::parts::place(&bits, output, at);
-    put_octets(address, output, next)
-}
-
-// Route Type and Length at the front of the output.
-pub(crate) fn put_header(route_type: u8, size: u8, output: &mut [u8]) -> usize
-    requires { ⌜ 2 ≤ length (now output) ⌝ }
-    ensures { λ r. ⌜ Put 0 («route_type» ∷ size ∷ []) (now (output .entry)) r (now (output .exit)) ⌝ }
-{
-    let header = [route_type, size];
-    octets::parts::place(&header, output, 0)
-}
-
-// A source AS behind the route distinguisher, where the type has one.
-fn put_source_as(nlri: Nlri, output: &mut [u8], at: usize) -> usize
-    requires { ⌜ at + length (sourceAsOctets nlri) ≤ length (now output) ⌝ }
-    ensures { λ r. ⌜ Put at (sourceAsOctets nlri) (now (output .entry)) r (now (output .exit)) ⌝ }
-{
-    if fields::has_source_as(nlri.route_type as usize) {
-        return octets::wide::place_four(nlri.source_as, output, at);
-    }
-    at
-}
-
-// The route distinguisher, with a source AS where the type has one.
-pub(crate) fn put_distinguisher(nlri: Nlri, output: &mut [u8], at: usize) -> usize
-    requires { ⌜ at + length (nlri .distinguisher .octets ++ sourceAsOctets nlri) ≤ length (now output) ⌝ }
-    ensures { λ r. ⌜ Put at (nlri .distinguisher .octets ++ sourceAsOctets nlri) (now (output .entry)) r (now (output .exit)) ⌝ }
-{
-    let distinguisher = nlri.distinguisher;
-    let octets = distinguisher.octets;
-    let next = octets::parts::place(&octets, output, at);
-    put_source_as(nlri, output, next)
-}
-
 // What stands before source and group: the key, or the route distinguisher with a source AS.
 fn put_fixed(nlri: Nlri, key: &[u8], output: &mut [u8], at: usize) -> usize
     requires { ⌜ at + length (fixedOctets nlri (now key)) ≤ length (now output) ⌝ }
@@ -237,7 +157,7 @@ fn put_fixed(nlri: Nlri, key: &[u8], output: &mut [u8], at: usize) -> usize
     if nlri.route_type as usize == RouteType::LEAF {
         return octets::parts::place(key, output, at);
     }
-    put_distinguisher(nlri, output, at)
+    put::put_distinguisher(nlri, output, at)
 }
 
 // Source and group from `at` on, where the type has them.
@@ -245,11 +165,11 @@ fn put_flow(nlri: Nlri, output: &mut [u8], at: usize) -> usize
     requires { ⌜ AddressesSized nlri × (at + length (flowOctets nlri) ≤ length (now output)) ⌝ }
     ensures { λ r. ⌜ Put at (flowOctets nlri) (now (output .entry)) r (now (output .exit)) ⌝ }
 {
-    if has_flow(nlri.route_type as usize) {
+    if route::has_flow(nlri.route_type as usize) {
         let source = nlri.source;
         let group = nlri.group;
-        let next = put_address(source, output, at);
-        return put_address(group, output, next);
+        let next = put::put_address(source, output, at);
+        return put::put_address(group, output, next);
     }
     at
 }
@@ -259,9 +179,9 @@ fn put_originator(nlri: Nlri, output: &mut [u8], at: usize) -> usize
     requires { ⌜ AddressesSized nlri × (at + length (originatorOctets nlri) ≤ length (now output)) ⌝ }
     ensures { λ r. ⌜ Put at (originatorOctets nlri) (now (output .entry)) r (now (output .exit)) ⌝ }
 {
-    if has_originator(nlri.route_type as usize) {
+    if route::has_originator(nlri.route_type as usize) {
         let originator = nlri.originator;
-        return put_octets(originator, output, at);
+        return put::put_octets(originator, output, at);
     }
     at
 }
@@ -281,7 +201,7 @@ fn put(nlri: Nlri, key: &[u8], size: usize, output: &mut [u8]) -> Written
     requires { ⌜ Putting nlri (now key) size (now output) ⌝ }
     ensures { λ r. ⌜ Wrote (given (nlriOctets nlri (now (key .entry)))) (now (output .entry)) r (now (output .exit)) ⌝ }
 {
-    let at = put_header(nlri.route_type, (size - HEADER) as u8, output);
+    let at = put::put_header(nlri.route_type, (size - HEADER) as u8, output);
     put_body(nlri, key, output, at);
     Written { number: DONE, size }
 }

@@ -15,8 +15,8 @@ use Rattle.nlri.specs.declared.address.Address.{Address}
 use Rattle.nlri.specs.declared.fields.Nlri.{Nlri}
 use Rattle.nlri.specs.Fields.{encodeAddress}
 use Rattle.nlri.specs.Answers.{addressOctets}
-use Rattle.nlri.specs.Inner.{withSourceAs}
-use Rattle.nlri.specs.InnerWriting.{hasFlow, hasOriginator, fixedSize, flowSize, originatorLength, sizeOf, sourceAsOctets, fixedOctets, flowOctets, originatorOctets, bodyOctets, nlriOctets}
+use Rattle.nlri.specs.Inner.{withSourceAs, hasFlow, hasOriginator}
+use Rattle.nlri.specs.InnerWriting.{fixedSize, flowSize, originatorLength, sizeOf, sourceAsOctets, fixedOctets, flowOctets, originatorOctets, bodyOctets, nlriOctets}
 
 pub length-octets : (a : Address) → length (addressOctets a) ≡ a .size
 unfolding addressOctets

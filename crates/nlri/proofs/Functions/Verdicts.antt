@@ -20,8 +20,8 @@ use Rattle.nlri.specs.Fields.{Fields, encodeField, encodeBody, encodeNlr
 use Rattle.nlri.specs.Reading.{keyField}
 use Rattle.nlri.specs.Writing.{widthFits, widthsFit, fecNumber, isLong, keyFits, keysFit, isKey}
 use Rattle.nlri.specs.Answers.{addressOctets, structFields}
-use Rattle.nlri.specs.Inner.{withSourceAs}
-use Rattle.nlri.specs.InnerWriting.{hasFlow, hasOriginator, flowFits, originatorFits, leafFits, fitting, sizeOf, sourceAsOctets, fixedOctets, flowOctets, originatorOctets, bodyOctets, nlriOctets, AddressSize, AddressesSized, writtenToSeven}
+use Rattle.nlri.specs.Inner.{withSourceAs, hasFlow, hasOriginator}
+use Rattle.nlri.specs.InnerWriting.{flowFits, originatorFits, leafFits, fitting, sizeOf, sourceAsOctets, fixedOctets, flowOctets, originatorOctets, bodyOctets, nlriOctets, AddressSize, AddressesSized, writtenToSeven}
 use Rattle.nlri.proofs.Definitions.Table.{listed, known, known-least, rowOf, unlisted, every, every-row, kept, order, sameKinds, same-kinds}
 use Rattle.nlri.proofs.Definitions.Keys.{key-most}
 use Rattle.nlri.proofs.Definitions.Writes.{all, widths-all, keys-all, verdictOf}
