@@ -2,6 +2,7 @@
 pub mod Via
 pub mod Fronts
 pub mod Ends
+pub mod Leaves
 pub mod Standing
 pub mod KeyTests
 pub mod Shapes
