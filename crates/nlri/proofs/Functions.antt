@@ -4,12 +4,8 @@ pub mod Fronts
 pub mod Ends
 pub mod Leaves
 pub mod Standing
-pub mod KeyTests
 pub mod Shapes
 pub mod Copies
 pub mod Singles
 pub mod Discards
 pub mod SPmsis
-pub mod Puts
-pub mod Verdicts
-pub mod MldpVerdicts

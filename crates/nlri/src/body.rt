@@ -18,7 +18,7 @@ use octets::number::TYPE;
 use octets::number::WIDTH;
 
 // A source or group length is the family's; in type 3 only it may be 0, the wildcard.
-pub(crate) fn is_allowed(kind: AddressKind, route_type: usize, bits: usize) -> bool
+pub fn is_allowed(kind: AddressKind, route_type: usize, bits: usize) -> bool
     ensures { λ r. ⌜ r ≡ allowed (kind .bits) «route_type» bits ⌝ }
 {
     if bits == kind.bits {

@@ -7,13 +7,13 @@ use octets::number::SHORT;
 pub const HEADER: usize = 2;
 
 // A route type and a Length with as many octets behind it, or the refusal's number.
-pub(crate) enum Header {
+pub enum Header {
     Typed(usize, usize),
     Unread(u32),
 }
 
 // Type and Length of the NLRI at the front of `s`. SHORT.
-pub(crate) fn read_header(s: &[u8]) -> Header
+pub fn read_header(s: &[u8]) -> Header
     ensures { λ r. ⌜ headerOutcome r ≡ headerAt (now (s .entry)) ⌝ }
 {
     if s.len() < HEADER {

@@ -107,7 +107,7 @@ fn leaf_body_fault(kind: AddressKind, s: &[u8]) -> u32
 }
 
 // A body of one of these types.
-pub(crate) fn body_fault(kind: AddressKind, route_type: usize, s: &[u8]) -> u32
+pub fn body_fault(kind: AddressKind, route_type: usize, s: &[u8]) -> u32
     requires { ⌜ isMldp «route_type» ≡ true ⌝ }
     ensures { λ r. ⌜ r ≡ bodyFault (kind .bits) «route_type» (now (s .entry)) ⌝ }
 {

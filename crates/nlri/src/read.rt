@@ -30,7 +30,7 @@ use octets::number::TYPE;
 
 // The key at the front of `s`, a whole NLRI of type 1, 2 or 3: its type and Length, or a number that refuses it. Reading and writing judge a
 // key by this.
-pub(crate) fn read_key(kind: AddressKind, s: &[u8]) -> Header
+pub fn read_key(kind: AddressKind, s: &[u8]) -> Header
     ensures { λ r. ⌜ keyOutcome r ≡ keyField (kind .bits) 4 (now (s .entry)) ⌝ }
 {
     match header::read_header(s) {

@@ -47,7 +47,7 @@ pub(crate) fn has_fec(route_type: usize) -> bool
 }
 
 // Types 2, 6, 7 and 0x47 have a source AS, behind the route distinguisher.
-pub(crate) fn has_source_as(route_type: usize) -> bool
+pub fn has_source_as(route_type: usize) -> bool
     ensures { λ r. ⌜ r ≡ withSourceAs «route_type» ⌝ }
 {
     if route_type == RouteType::INTER_AS_I_PMSI {
@@ -63,7 +63,7 @@ pub(crate) fn has_source_as(route_type: usize) -> bool
 }
 
 // The types of RFC 7441.
-pub(crate) fn is_mldp(route_type: usize) -> bool
+pub fn is_mldp(route_type: usize) -> bool
     ensures { λ r. ⌜ r ≡ isMldp «route_type» ⌝ }
 {
     if route_type == RouteType::MLDP_S_PMSI {
@@ -76,7 +76,7 @@ pub(crate) fn is_mldp(route_type: usize) -> bool
 }
 
 // Of the types up to 7 those with a source and a group: 3, 5, 6 and 7.
-pub(crate) fn has_flow(route_type: usize) -> bool
+pub fn has_flow(route_type: usize) -> bool
     ensures { λ r. ⌜ r ≡ hasFlow «route_type» ⌝ }
 {
     if route_type == RouteType::S_PMSI {
@@ -86,7 +86,7 @@ pub(crate) fn has_flow(route_type: usize) -> bool
 }
 
 // Of the types up to 7 those with an originator: 1, 3 and 4.
-pub(crate) fn has_originator(route_type: usize) -> bool
+pub fn has_originator(route_type: usize) -> bool
     ensures { λ r. ⌜ r ≡ hasOriginator «route_type» ⌝ }
 {
     if route_type == RouteType::INTRA_AS_I_PMSI {
