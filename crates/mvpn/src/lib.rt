@@ -143,7 +143,7 @@ pub extern "C" fn mvpn_nlri_write(
 ) -> Written
     ensures { λ r. ⌜ Wrote (writeNlri afi (structFields nlri (now (key .entry)) (now (fec .entry))) (length (now (output .entry)))) (now (output .entry)) r (now (output .exit)) ⌝ }
 {
-    nlri::write_nlri(afi, nlri, key, fec, output)
+    nlri_writing::write_nlri(afi, nlri, key, fec, output)
 }
 
 // The NLRI of a run at the cursor: DONE with its layout; DONE with route type 0 at the run's end; or a refusal.
