@@ -13,6 +13,7 @@ use Rattle.octets.specs.Outcome.{given}
 use Rattle.octets.specs.Octets.{part}
 use Rattle.octets.specs.Order.{before}
 use Rattle.octets.proofs.Choice.{pick-true, pick-false, pick-cong, pick-case, tested}
+use Rattle.nlri.specs.Standing.{standing}
 use Rattle.routes.specs.Route.{Route}
 use Rattle.routes.specs.Query.{Query, Flow}
 use Rattle.routes.specs.Place.{routeIn}
@@ -26,7 +27,7 @@ use Rattle.routes.proofs.Definitions.Lookups.{distinct-increasing}
 use Rattle.routes.proofs.Definitions.Matching.OnePass.{one-pass}
 use Rattle.routes.proofs.Statements.Images.{sound}
 use Rattle.table.specs.declared.scan.Best.{Best}
-use Rattle.table.specs.Scanning.{standing, tierAt, nlriAt, Readable, aheadAt, betterAt, scanAt, noneYet, bestIn, Answerable, openQuery}
+use Rattle.table.specs.Scanning.{tierAt, nlriAt, Readable, aheadAt, betterAt, scanAt, noneYet, bestIn, Answerable, openQuery}
 use Rattle.table.specs.Changing.{Leaves}
 use Rattle.table.specs.declared.tier.Tiers.{Tiers}
 use Rattle.table.proofs.Tiers.{tier-stands, distinguisher-stands}

@@ -13,6 +13,7 @@ use Rattle.octets.specs.Order.{before}
 use Rattle.octets.proofs.Lists.{length-part}
 use Rattle.octets.proofs.Choice.{picks, skips, pick-true, pick-false, not-is}
 use Rattle.tunnel.specs.Attribute.{fieldsIn}
+use Rattle.nlri.specs.Standing.{standing}
 use Rattle.routes.specs.Route.{attributeOf}
 use Rattle.routes.specs.Place.{endIn, routeIn}
 use Rattle.octets.specs.Outcome.{given, onOutcome}
@@ -24,7 +25,7 @@ use Rattle.table.specs.Changing.{Leaves}
 use Rattle.routes.specs.Query.{Flow}
 use Rattle.table.specs.declared.scan.Best.{Best}
 use Rattle.table.specs.declared.tier.Tiers.{Tiers}
-use Rattle.table.specs.Scanning.{standing, tierAt, nlriAt, Readable, aheadAt, betterAt, scanAt, noneYet, bestIn, RouteFits, Answerable}
+use Rattle.table.specs.Scanning.{tierAt, nlriAt, Readable, aheadAt, betterAt, scanAt, noneYet, bestIn, RouteFits, Answerable}
 use Rattle.table.proofs.RouteWrites.{attribute-least}
 
 -- what a place's functions need of a place cut out of the table

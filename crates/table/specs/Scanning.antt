@@ -1,10 +1,10 @@
 -- Definitions that mirror the functions of the scan; laws tie them to those of `routes`.
-use Prim.Native.Nat.{ℕ, zero, suc, _+_, _/_, _≤_}
+use Prim.Native.Nat.{ℕ, zero, suc, _+_, _≤_}
 use mathlib.Core.Path.{_≡_}
 use mathlib.Core.Bool.{Bool, true, false, not}
 use mathlib.Core.List.{List, []}
 use lib.Dec.{ltb, eqb}
-use lib.ListN.{length, getD, drop}
+use lib.ListN.{length}
 use Rattle.octets.specs.Numbers.{DONE, FLOW}
 use Rattle.octets.specs.Choice.{pick}
 use Rattle.octets.specs.Outcome.{given}
@@ -13,6 +13,7 @@ use Rattle.octets.specs.Order.{same, before}
 use Rattle.nlri.specs.Fields.{Fields}
 use Rattle.nlri.specs.Family.{isOriginatorSize}
 use Rattle.nlri.specs.Groups.{ASM, SSM}
+use Rattle.nlri.specs.Standing.{groupEnd, standing}
 use Rattle.tunnel.specs.Attribute.{fieldsIn, readAttribute}
 use Rattle.routes.specs.Route.{nlriOf, attributeOf}
 use Rattle.routes.specs.Query.{tiersOf, Query, Flow, flowOf}
@@ -21,38 +22,9 @@ use Rattle.routes.specs.Matching.{namesTunnel, Found, nothing, found}
 use Rattle.table.specs.declared.scan.Best.{Best}
 use Rattle.table.specs.declared.tier.Tiers.{Tiers}
 
--- Where the fields of an S-PMSI NLRI stand: the distinguisher behind the header, then a source and a group, each behind its length octet
--- in bits, then the originator.
-
--- the octets of the source, by its length octet
-unfoldable pub sourceSize : List ℕ → ℕ
-sourceSize s = getD s 10 0 / 8
-
--- the octets of the group, by its length octet
-unfoldable pub groupSize : List ℕ → ℕ
-groupSize s = getD s (11 + sourceSize s) 0 / 8
-
--- where the originator begins, behind the group
-unfoldable pub originatorStart : List ℕ → ℕ
-originatorStart s = 12 + sourceSize s + groupSize s
-
--- the fields by where they stand
-unfoldable pub standing : List ℕ → Fields
-standing s =
-    record {
-      type = 3;
-      distinguisher = part s 2 8;
-      sourceAs = 0;
-      source = part s 11 (sourceSize s);
-      group = part s (12 + sourceSize s) (groupSize s);
-      originator = drop (originatorStart s) s;
-      key = [];
-      fec = [];
-    }
-
--- they lie within the NLRI, and the originator has four octets or more
+-- the fields of an S-PMSI NLRI lie within it, and the originator has four octets or more
 pub record Bounded (s : List ℕ) : Type 0 where
-  pub within : originatorStart s + 4 ≤ length s
+  pub within : groupEnd s + 4 ≤ length s
 
 -- a flow's tiers, by the class of its group
 abbrev pub openTiers : (class : ℕ) → Tiers

@@ -5,15 +5,17 @@ ghost use lib.ListN.{length};
 ghost use Rattle.octets.specs.Octets.{part};
 ghost use Rattle.octets.specs.Order.{before};
 ghost use Rattle.table.specs.Scanning.{soughtOf};
+ghost use Rattle.nlri.specs.Standing.{standing};
 ghost use Rattle.routes.specs.Place.{routeIn};
 ghost use Rattle.routes.specs.Matching.{namesTunnel};
-ghost use Rattle.table.specs.Scanning.{standing, nlriAt, Readable, aheadAt, betterAt, scanAt, noneYet};
+ghost use Rattle.table.specs.Scanning.{nlriAt, Readable, aheadAt, betterAt, scanAt, noneYet};
 use crate::answer;
 use crate::find;
 use crate::geometry::HEADER;
 use crate::geometry::PLACE;
 use crate::tier;
 use crate::tier::Tiers;
+use nlri::standing;
 use octets::order;
 use octets::parts;
 use tunnel::TunnelType;
@@ -47,8 +49,8 @@ fn is_lower(table: &[u8], at: usize, other: usize) -> bool
     ensures { λ r. ⌜ r ≡ before (standing (nlriAt (now (table .entry)) at) .distinguisher) (standing (nlriAt (now (table .entry)) other) .distinguisher) ⌝ }
 {
     order::comes_before(
-        tier::distinguisher_in(nlri_from(table, at)),
-        tier::distinguisher_in(nlri_from(table, other)),
+        standing::distinguisher_in(nlri_from(table, at)),
+        standing::distinguisher_in(nlri_from(table, other)),
     )
 }
 

@@ -17,6 +17,7 @@ use Rattle.octets.proofs.Choice.{tested, pick-true, pick-false}
 use Rattle.octets.proofs.Lists.{length-placed, take-placed, drop-placed, drop-taken}
 use Rattle.nlri.specs.Fields.{Fields}
 use Rattle.nlri.specs.Family.{isOriginatorSize}
+use Rattle.nlri.specs.Standing.{standing}
 use Rattle.routes.specs.declared.Restarted.{Restarted}
 use Rattle.routes.specs.Answers.{refusedRestart, restartedOf}
 use Rattle.routes.specs.Calls.{restartOutcome, restartOf}
@@ -31,7 +32,7 @@ use Rattle.routes.proofs.Definitions.Places.{length-places, sound-place, remark
 use Rattle.routes.proofs.Definitions.Restarts.{acceptable-renewed, length-renewed}
 use Rattle.routes.proofs.Statements.Images.{sound, sound-holdable, sound-image, length-routes}
 use Rattle.table.specs.Changing.{routeAt, remarked, Leaves}
-use Rattle.table.specs.Scanning.{standing, nlriAt, Readable}
+use Rattle.table.specs.Scanning.{nlriAt, Readable}
 use Rattle.table.specs.Renewing.{ownAt, staleAt, settledEnd, settled, Renewing, restartBy}
 use Rattle.table.proofs.FieldStarts.{fields-stand}
 use Rattle.table.proofs.Finds.{routes-from-index, places-within}
