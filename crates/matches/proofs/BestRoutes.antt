@@ -24,7 +24,7 @@ use Rattle.routes.specs.OnePass.{tierOf, ahead, against, better, scanned}
 use Rattle.routes.proofs.Definitions.Lookups.{distinct-increasing}
 use Rattle.routes.proofs.Definitions.Matching.OnePass.{one-pass}
 use Rattle.matches.specs.declared.scan.Best.{Best}
-use Rattle.places.specs.Standing.{standing}
+use Rattle.nlri.specs.Standing.{standing}
 use Rattle.matches.specs.Scanning.{Sought, tierAt, aheadAt, betterAt, scanAt, noneYet, bestIn, Answerable, openQuery}
 use Rattle.places.specs.Readable.{nlriAt, Readable}
 use Rattle.octets.specs.Outputs.{Leaves}

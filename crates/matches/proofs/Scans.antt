@@ -12,6 +12,7 @@ use Rattle.octets.specs.Octets.{part}
 use Rattle.octets.specs.Order.{before}
 use Rattle.octets.proofs.Choice.{picks, skips, pick-true, pick-false, not-is}
 use Rattle.tunnel.specs.Attribute.{fieldsIn}
+use Rattle.nlri.specs.Standing.{standing}
 use Rattle.routes.specs.Route.{attributeOf}
 use Rattle.routes.specs.Place.{routeIn}
 use Rattle.octets.specs.Outcome.{given, onOutcome}
@@ -22,7 +23,6 @@ use Rattle.routes.specs.Answers.{emptyMatch, foundAnswer, foundOutput, matchedB
 use Rattle.octets.specs.Outputs.{Leaves}
 use Rattle.matches.specs.declared.scan.Best.{Best}
 use Rattle.matches.specs.declared.tier.Tiers.{Tiers}
-use Rattle.places.specs.Standing.{standing}
 use Rattle.matches.specs.Scanning.{Sought, tierAt, aheadAt, betterAt, scanAt, noneYet, bestIn, Answerable}
 use Rattle.places.specs.Readable.{nlriAt, Readable}
 use Rattle.places.specs.Writing.{RouteFits, writtenRoute}

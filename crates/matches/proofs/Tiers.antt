@@ -1,11 +1,11 @@
 -- The tier of a route by the octets of its NLRI.
-use Prim.Native.Nat.{ℕ, _+_, _-_, _/_, _≤_, _<_}
+use Prim.Native.Nat.{ℕ, _+_, _-_, _≤_, _<_}
 use mathlib.Core.Path.{_≡_, refl, sym, _∙_, ap, ap₂}
 use mathlib.Core.Bool.{Bool, true, false}
 use mathlib.Core.List.{List, [], _∷_}
 use borrow.Author.Tests.{eq-eqb, ne-eqb, eqb-true}
 use native.Mathlib.Omega.{arith}
-use lib.ListN.{length, getD, take, drop, length-drop}
+use lib.ListN.{length, take, drop, length-drop}
 use lib.Seq.{drop-drop}
 use Rattle.octets.specs.Octets.{part, lowFirst}
 use Rattle.octets.specs.Choice.{pick, both}
@@ -14,6 +14,7 @@ use Rattle.octets.specs.Order.{same}
 use Rattle.octets.proofs.Choice.{opposite, picks, skips}
 use Rattle.octets.proofs.Orders.{unequal-other}
 use Rattle.nlri.specs.Fields.{Fields}
+use Rattle.nlri.specs.Standing.{groupEnd, standing}
 use Rattle.routes.specs.Route.{Route, nlriOf}
 use Rattle.routes.specs.Query.{Wanted, noRoute, meets, tiersOf}
 use Rattle.routes.specs.Arguments.{readSPmsi}
@@ -21,27 +22,9 @@ use Rattle.routes.specs.Matching.{namesTunnel, candidate, eligible, distinguish
 use Rattle.routes.specs.OnePass.{tierFrom, tierOf}
 use Rattle.routes.proofs.Definitions.Matching.Conditions.{fields-of, distinguisher-is}
 use Rattle.places.proofs.FieldStarts.{fields-stand}
-use Rattle.places.specs.Standing.{sourceSize, groupSize, originatorStart, Bounded, standing}
+use Rattle.places.specs.Readable.{Bounded}
 use Rattle.matches.specs.Scanning.{Sought, openQuery, wildcard, sourceTier, anySourceTier, flowTier, tierAt}
 use Rattle.matches.specs.declared.tier.Tiers.{Tiers}
-
--- where the group and the originator stand, by the place of the group's length octet
-module _ (s : List ℕ) (at : ℕ) (is : at ≡ 11 + sourceSize s) where
-  size-is : getD s at 0 / 8 ≡ groupSize s
-  unfolding groupSize
-  size-is = rw is
-
-  pub group-within : Bounded s → at + 1 + getD s at 0 / 8 ≤ length s
-  unfolding originatorStart
-  group-within b = let within = b .within in omega (arith, size-is)
-
-  pub group-stands : part s (at + 1) (getD s at 0 / 8) ≡ standing s .group
-  unfolding standing
-  group-stands = let next : at + 1 ≡ 12 + sourceSize s = omega arith in rw (size-is, next)
-
-  pub originator-stands : drop (at + 1 + getD s at 0 / 8) s ≡ standing s .originator
-  unfolding standing originatorStart
-  originator-stands = let next : at + 1 + getD s at 0 / 8 ≡ 12 + sourceSize s + groupSize s = omega (arith, size-is) in rw next
 
 -- what the branches of the function that finds the tier show
 module _ (source group : List ℕ) (tiers : Tiers) (f : Fields) (routeSource routeGroup : List ℕ) (tier : ℕ) (standsSource : routeSource ≡ f .source) where
@@ -81,10 +64,10 @@ pub other-end : (nlri router : List ℕ) (x y : ℕ) → Bounded nlri → x ≡ 
     → same (standing nlri .originator) router ≡ false
 unfolding standing
 other-end nlri router x y b p q differ =
-    unequal-other (drop (originatorStart nlri) nlri) router
+    unequal-other (drop (groupEnd nlri) nlri) router
     (λ e.
     differ
-    (p ∙ ap lowFirst (sym (end-of-rest nlri (originatorStart nlri) (b .within))) ∙ ap (λ (s : List ℕ). lowFirst (part s (length s - 4) 4)) e ∙ sym q))
+    (p ∙ ap lowFirst (sym (end-of-rest nlri (groupEnd nlri) (b .within))) ∙ ap (λ (s : List ℕ). lowFirst (part s (length s - 4) 4)) e ∙ sym q))
 
 pub other-router : (sought : Sought) (tiers : Tiers) (nlri : List ℕ) → same (standing nlri .originator) (sought .router) ≡ false → 0 ≡ tierAt sought tiers nlri
 unfolding tierAt

@@ -17,7 +17,7 @@ use Rattle.routes.specs.Place.{PLACE, routeIn}
 use Rattle.routes.specs.Matching.{namesTunnel, Found, nothing, found}
 use Rattle.matches.specs.declared.scan.Best.{Best}
 use Rattle.matches.specs.declared.tier.Tiers.{Tiers}
-use Rattle.places.specs.Standing.{standing}
+use Rattle.nlri.specs.Standing.{standing}
 use Rattle.places.specs.Readable.{nlriAt}
 use Rattle.places.specs.Writing.{RouteFits}
 

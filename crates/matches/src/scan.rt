@@ -7,10 +7,11 @@ ghost use Rattle.octets.specs.Order.{before};
 ghost use Rattle.matches.specs.Scanning.{soughtOf, aheadAt, betterAt, scanAt, noneYet};
 ghost use Rattle.routes.specs.Place.{routeIn};
 ghost use Rattle.routes.specs.Matching.{namesTunnel};
-ghost use Rattle.places.specs.Standing.{standing};
+ghost use Rattle.nlri.specs.Standing.{standing};
 ghost use Rattle.places.specs.Readable.{nlriAt, Readable};
 use crate::tier;
 use crate::tier::Tiers;
+use nlri::standing;
 use octets::order;
 use octets::parts;
 use places::geometry::PLACE;
@@ -38,8 +39,8 @@ fn is_lower(places: &[u8], at: usize, other: usize) -> bool
     ensures { λ r. ⌜ r ≡ before (standing (nlriAt (now (places .entry)) at) .distinguisher) (standing (nlriAt (now (places .entry)) other) .distinguisher) ⌝ }
 {
     order::comes_before(
-        tier::distinguisher_in(place::nlri_from(places, at)),
-        tier::distinguisher_in(place::nlri_from(places, other)),
+        standing::distinguisher_in(place::nlri_from(places, at)),
+        standing::distinguisher_in(place::nlri_from(places, other)),
     )
 }
 

@@ -1,16 +1,16 @@
 // The tier of a route (document 01, "Which route a flow takes"), by the octets of its NLRI where they stand.
 ghost use mathlib.Core.Path.{_≡_};
 ghost use mathlib.Core.Bool.{true, false};
-ghost use Prim.Native.Nat.{_+_, _≤_};
+ghost use Prim.Native.Nat.{_≤_};
 ghost use lib.ListN.{length};
 ghost use Rattle.octets.specs.Order.{same};
 ghost use Rattle.octets.specs.Choice.{pick};
 ghost use Rattle.matches.specs.Scanning.{soughtOf, openTiers, treeTiers, sourceTier, anySourceTier, flowTier, tierAt};
-ghost use Rattle.places.specs.Standing.{Bounded, sourceSize, standing};
+ghost use Rattle.nlri.specs.Standing.{standing};
+ghost use Rattle.places.specs.Readable.{Bounded};
 use nlri::Group;
-use nlri::RouteDistinguisher;
+use nlri::standing;
 use octets::order;
-use octets::parts;
 use octets::wide;
 
 // Which tiers are open; no route is of one that is not.
@@ -47,53 +47,8 @@ impl Tiers {
     }
 }
 
-// Where the source's length octet stands, in bits: behind the header and the route distinguisher.
-const SOURCE_LENGTH: usize = nlri::HEADER + RouteDistinguisher::OCTETS;
-
 // The octets at the end that are compared first.
 const ENDING: usize = 4;
-
-// The route distinguisher, by which routes of one tier are ordered.
-pub fn distinguisher_in(nlri: &[u8]) -> &[u8]
-    requires { ⌜ Bounded (now nlri) ⌝ }
-    ensures { λ r. ⌜ now r ≡ standing (now (nlri .entry)) .distinguisher ⌝ }
-{
-    parts::between(nlri, nlri::HEADER, RouteDistinguisher::OCTETS)
-}
-
-// The source; no octets are a wildcard.
-fn source_in(nlri: &[u8]) -> &[u8]
-    requires { ⌜ Bounded (now nlri) ⌝ }
-    ensures { λ r. ⌜ now r ≡ standing (now (nlri .entry)) .source ⌝ }
-{
-    parts::between(nlri, SOURCE_LENGTH + 1, nlri[SOURCE_LENGTH] as usize / 8)
-}
-
-// Where the group's length octet stands.
-fn group_length_at(nlri: &[u8]) -> usize
-    requires { ⌜ Bounded (now nlri) ⌝ }
-    ensures { λ r. ⌜ r ≡ 11 + sourceSize (now (nlri .entry)) ⌝ }
-{
-    SOURCE_LENGTH + 1 + nlri[SOURCE_LENGTH] as usize / 8
-}
-
-// The group; no octets are a wildcard.
-fn group_in(nlri: &[u8]) -> &[u8]
-    requires { ⌜ Bounded (now nlri) ⌝ }
-    ensures { λ r. ⌜ now r ≡ standing (now (nlri .entry)) .group ⌝ }
-{
-    let length_at = group_length_at(nlri);
-    parts::between(nlri, length_at + 1, nlri[length_at] as usize / 8)
-}
-
-// The originator is what remains.
-fn originator_in(nlri: &[u8]) -> &[u8]
-    requires { ⌜ Bounded (now nlri) ⌝ }
-    ensures { λ r. ⌜ now r ≡ standing (now (nlri .entry)) .originator ⌝ }
-{
-    let length_at = group_length_at(nlri);
-    parts::after(nlri, length_at + 1 + nlri[length_at] as usize / 8)
-}
 
 // A tier where it is open, else 0.
 fn where_open(is_open: bool, tier: u32) -> u32
@@ -136,14 +91,14 @@ fn flow_tier(nlri: &[u8], source: &[u8], group: &[u8], tiers: Tiers) -> u32
     requires { ⌜ Bounded (now nlri) ⌝ }
     ensures { λ r. ⌜ r ≡ flowTier (now (source .entry)) (now (group .entry)) tiers (standing (now (nlri .entry))) ⌝ }
 {
-    let route_source = source_in(nlri);
+    let route_source = standing::source_in(nlri);
     if route_source.len() == 0 {
-        return any_source_tier(group_in(nlri), group, tiers);
+        return any_source_tier(standing::group_in(nlri), group, tiers);
     }
     if !order::is_same(route_source, source) {
         return 0;
     }
-    source_tier(group_in(nlri), group, tiers)
+    source_tier(standing::group_in(nlri), group, tiers)
 }
 
 // The last four octets are not the router's: this tells most routes of other routers, and needs no field to be found.
@@ -155,14 +110,6 @@ fn ends_otherwise(nlri: &[u8], router: &[u8]) -> bool
         != wide::four_low_first(router, router.len() - ENDING)
 }
 
-// The route is one of the router's, by its originator.
-pub fn is_of(nlri: &[u8], router: &[u8]) -> bool
-    requires { ⌜ Bounded (now nlri) ⌝ }
-    ensures { λ r. ⌜ r ≡ same (standing (now (nlri .entry)) .originator) (now (router .entry)) ⌝ }
-{
-    order::is_same(originator_in(nlri), router)
-}
-
 // The tier of a route of the router asked; 0 for one of another router, or where no tier's condition is met.
 pub(crate) fn tier_of(nlri: &[u8], router: &[u8], source: &[u8], group: &[u8], tiers: Tiers) -> u32
     requires { ⌜ Bounded (now nlri) × (4 ≤ length (now router)) ⌝ }
@@ -171,7 +118,7 @@ pub(crate) fn tier_of(nlri: &[u8], router: &[u8], source: &[u8], group: &[u8], t
     if ends_otherwise(nlri, router) {
         return 0;
     }
-    if !order::is_same(originator_in(nlri), router) {
+    if !order::is_same(standing::originator_in(nlri), router) {
         return 0;
     }
     flow_tier(nlri, source, group, tiers)

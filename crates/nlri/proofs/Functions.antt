@@ -7,5 +7,6 @@ pub mod Standing
 pub mod Shapes
 pub mod Copies
 pub mod Singles
+pub mod FieldStarts
 pub mod Discards
 pub mod SPmsis

@@ -8,6 +8,7 @@ pub mod Groups
 pub mod Writing
 pub mod Answers
 pub mod Inner
+pub mod Standing
 pub mod Statements
 pub mod DiscardRule
 pub mod DiscardExamples

@@ -9,6 +9,7 @@ mod layout;
 pub mod mldp;
 mod read;
 pub mod route;
+pub mod standing;
 
 pub use address::Address;
 pub use address::AddressKind;

@@ -18,7 +18,7 @@ use Rattle.routes.specs.Route.{nlriOf}
 use Rattle.routes.specs.Place.{endIn, routeIn, placeSound}
 use Rattle.routes.proofs.Definitions.Bounds.{accepted}
 use Rattle.routes.proofs.Definitions.Places.{sound-acceptable}
-use Rattle.places.specs.Standing.{originatorStart}
+use Rattle.nlri.specs.Standing.{groupEnd}
 use Rattle.places.specs.Passing.{risesAt}
 use Rattle.places.proofs.FieldStarts.{fields-bounded, length-told}
 
@@ -60,7 +60,7 @@ pub record NlriAt (t : List ℕ) (at : ℕ) : Type 0 where
   pub told : getD (part t (at + 2) (getD t at 0)) 1 0 ≡ getD t at 0 - 2
 
 pub nlri-at : (afi : ℕ) (t : List ℕ) (at : ℕ) → at + 128 ≤ length t → placeSound afi (part t at 128) ≡ true → NlriAt t at
-unfolding placeSound endIn routeIn nlriOf originatorStart
+unfolding placeSound endIn routeIn nlriOf groupEnd
 nlri-at afi t at h sound =
     let place : List ℕ = part t at 128 in
     let size : ℕ = getD t at 0 in

@@ -9,7 +9,11 @@ use Rattle.tunnel.specs.Attribute.{fieldsIn, readAttribute}
 use Rattle.routes.specs.Route.{nlriOf, attributeOf, Route}
 use Rattle.routes.specs.Place.{PLACE, endIn, routeIn}
 use Rattle.routes.specs.Table.{HEADER}
-use Rattle.places.specs.Standing.{Bounded}
+use Rattle.nlri.specs.Standing.{groupEnd}
+
+-- the fields of an S-PMSI NLRI lie within it, and the originator has four octets or more
+pub record Bounded (s : List ℕ) : Type 0 where
+  pub within : groupEnd s + 4 ≤ length s
 
 -- the route in the place of an index
 unfoldable pub routeAt : (index : ℕ) (table : List ℕ) → Route

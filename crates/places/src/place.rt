@@ -3,9 +3,11 @@ ghost use mathlib.Core.Path.{_≡_};
 ghost use Prim.Native.Nat.{_+_, _*_, _≤_};
 ghost use lib.ListN.{length};
 ghost use Rattle.octets.specs.Octets.{part};
+ghost use Rattle.octets.specs.Order.{same};
+ghost use Rattle.nlri.specs.Standing.{standing};
 ghost use Rattle.routes.specs.Route.{route, nlriOf, attributeOf};
 ghost use Rattle.routes.specs.Place.{endIn, placeOf, routeIn};
-ghost use Rattle.places.specs.Readable.{nlriAt, Readable};
+ghost use Rattle.places.specs.Readable.{nlriAt, Bounded, Readable};
 use crate::geometry::ATTRIBUTE_SIZE;
 use crate::geometry::HEADER;
 use crate::geometry::NLRI_SIZE;
@@ -46,6 +48,14 @@ pub fn nlri_from(table: &[u8], at: usize) -> &[u8]
     ensures { λ r. ⌜ now r ≡ nlriAt (now (table .entry)) at ⌝ }
 {
     nlri_in(octets::parts::between(table, at, PLACE))
+}
+
+// The route is one of the router's, by its originator.
+pub fn is_of(nlri: &[u8], router: &[u8]) -> bool
+    requires { ⌜ Bounded (now nlri) ⌝ }
+    ensures { λ r. ⌜ r ≡ same (standing (now (nlri .entry)) .originator) (now (router .entry)) ⌝ }
+{
+    octets::order::is_same(nlri::standing::originator_in(nlri), router)
 }
 
 // The sizes, the NLRI and the attribute of a route, and zeros to the end.

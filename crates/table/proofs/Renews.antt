@@ -17,6 +17,7 @@ use Rattle.octets.proofs.Choice.{tested, pick-true, pick-false}
 use Rattle.octets.proofs.Lists.{length-placed, take-placed, drop-placed}
 use Rattle.nlri.specs.Fields.{Fields}
 use Rattle.nlri.specs.Family.{isOriginatorSize}
+use Rattle.nlri.specs.Standing.{standing}
 use Rattle.routes.specs.declared.Restarted.{Restarted}
 use Rattle.routes.specs.Answers.{refusedRestart, restartedOf}
 use Rattle.routes.specs.Calls.{restartOutcome, restartOf}
@@ -33,7 +34,6 @@ use Rattle.routes.proofs.Statements.Images.{sound, sound-holdable, sound-image,
 use Rattle.octets.specs.Outputs.{Leaves}
 use Rattle.places.specs.Readable.{routeAt, nlriAt, Readable}
 use Rattle.changes.specs.Changing.{remarked}
-use Rattle.places.specs.Standing.{standing}
 use Rattle.table.specs.Renewing.{ownAt, staleAt, settledEnd, settled, Renewing, restartBy}
 use Rattle.places.proofs.FieldStarts.{fields-stand}
 use Rattle.places.proofs.Indexes.{routes-from-index, places-within}

@@ -9,7 +9,6 @@ ghost use Rattle.octets.specs.Outputs.{Leaves};
 ghost use Rattle.places.specs.Readable.{Readable};
 ghost use Rattle.table.specs.Renewing.{settledEnd, settled, Renewing, restartBy};
 use changes::change;
-use matches::tier;
 use octets::number::DONE;
 use octets::number::FLOW;
 use octets::number::TABLE;
@@ -31,7 +30,7 @@ fn settle(table: &mut [u8], at: usize, to: usize, router: &[u8], mark: u8) -> us
     ensures { λ r. ⌜ r ≡ settledEnd (now (router .entry)) (now (table .entry)) at to ⌝ }
     ensures { λ _. ⌜ now (table .exit) ≡ settled mark (now (router .entry)) (now (table .entry)) at to ⌝ }
 {
-    if !tier::is_of(place::nlri_from(table, at), router) {
+    if !place::is_of(place::nlri_from(table, at), router) {
         change::keep(table, at, to);
         return to + PLACE;
     }

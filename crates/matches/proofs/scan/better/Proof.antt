@@ -1,7 +1,7 @@
 -- `matches::scan::better` meets its contract.
 use borrow.Author.Needs.{needs}
 use mathlib.Core.Path.{sym, subst}
-use Rattle.places.specs.Standing.{Bounded}
+use Rattle.places.specs.Readable.{Bounded}
 use Rattle.matches.proofs.Scans.{no-tier, no-tunnel, goes-ahead, stays-behind}
 use Rattle.matches.proofs.scan.better.Statement.{statement}
 use Rattle.matches.proofs.scan.better.Tie as tie

@@ -1,12 +1,12 @@
--- `matches::tier::is_of` meets its contract.
+-- `places::place::is_of` meets its contract.
 use Prim.Native.Nat.{ℕ}
 use mathlib.Core.Path.{ap, _∙_}
 use mathlib.Core.List.{List}
 use denote.Ref.{now}
 use Rattle.octets.specs.Order.{same}
 use borrow.Author.Needs.{needs}
-use Rattle.matches.proofs.tier.is_of.Statement.{statement}
-use Rattle.matches.proofs.tier.is_of.Tie as tie
+use Rattle.places.proofs.place.is_of.Statement.{statement}
+use Rattle.places.proofs.place.is_of.Tie as tie
 
 originator-in-requires : tie.Need-originator-in-requires
 originator-in-requires c κs = search needs

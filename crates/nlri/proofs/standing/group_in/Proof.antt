@@ -1,10 +1,10 @@
--- `shared_trees::eligible::group_in` meets its contract.
+-- `nlri::standing::group_in` meets its contract.
 use native.Mathlib.Omega.{arith}
 use borrow.Author.Needs.{needs}
 use mathlib.Core.Path.{_∙_}
-use Rattle.shared_trees.proofs.SourceActives.{group-within, group-stands}
-use Rattle.shared_trees.proofs.eligible.group_in.Statement.{statement}
-use Rattle.shared_trees.proofs.eligible.group_in.Tie as tie
+use Rattle.nlri.proofs.Functions.FieldStarts.{group-within, group-stands}
+use Rattle.nlri.proofs.standing.group_in.Statement.{statement}
+use Rattle.nlri.proofs.standing.group_in.Tie as tie
 
 add-between : tie.Need-add-between
 add-between c = omega (arith, group-within _ _ (c .group-length-at .ensures) (c .before .before .pre))

@@ -1,10 +1,10 @@
--- `matches::tier::originator_in` meets its contract.
+-- `nlri::standing::originator_in` meets its contract.
 use native.Mathlib.Omega.{arith}
 use borrow.Author.Needs.{needs}
 use mathlib.Core.Path.{_∙_}
-use Rattle.matches.proofs.Tiers.{group-within, originator-stands}
-use Rattle.matches.proofs.tier.originator_in.Statement.{statement}
-use Rattle.matches.proofs.tier.originator_in.Tie as tie
+use Rattle.nlri.proofs.Functions.FieldStarts.{group-within, originator-stands}
+use Rattle.nlri.proofs.standing.originator_in.Statement.{statement}
+use Rattle.nlri.proofs.standing.originator_in.Tie as tie
 
 add-after : tie.Need-add-after
 add-after c = omega (arith, group-within _ _ (c .group-length-at .ensures) (c .before .before .pre))
