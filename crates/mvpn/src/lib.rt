@@ -2,7 +2,7 @@
 ghost use mathlib.Core.Path.{_≡_};
 ghost use Prim.Native.Nat.{_+_, _*_};
 ghost use lib.ListN.{length};
-ghost use Rattle.octets.specs.Outputs.{Wrote};
+ghost use Rattle.octets.specs.Outputs.{Wrote, Leaves};
 ghost use Rattle.nlri.specs.Reading.{readNlri};
 ghost use Rattle.nlri.specs.Writing.{writeNlri};
 ghost use Rattle.runs.specs.Walking.{stepFrom, refusedAt};
@@ -18,7 +18,7 @@ ghost use Rattle.routes.specs.Calls.{makeOf, installOf, withdrawOf, markOf, swe
 ghost use Rattle.routes.specs.Reasons.{explainOf};
 ghost use Rattle.routes.specs.Next.{nextOf};
 ghost use Rattle.routes.specs.Info.{infoOf};
-ghost use Rattle.routes.specs.Salvage.{salvageOf};
+ghost use Rattle.routes.specs.Salvage.{salvageOf, LeavesBoth};
 ghost use Rattle.shared_trees.specs.Tree.{treeOf};
 ghost use Rattle.mvpn.specs.Answers.{stepAnswer, attributeGiven, attributeRefused, attributeAnswer};
 use nlri::Group;
@@ -143,7 +143,7 @@ pub extern "C" fn mvpn_nlri_write(
 ) -> Written
     ensures { λ r. ⌜ Wrote (writeNlri afi (structFields nlri (now (key .entry)) (now (fec .entry))) (length (now (output .entry)))) (now (output .entry)) r (now (output .exit)) ⌝ }
 {
-    nlri::write_nlri(afi, nlri, key, fec, output)
+    nlri_writing::write_nlri(afi, nlri, key, fec, output)
 }
 
 // The NLRI of a run at the cursor: DONE with its layout; DONE with route type 0 at the run's end; or a refusal.
@@ -188,8 +188,7 @@ pub extern "C" fn mvpn_pieces_feed(
     unfinished: &mut UnfinishedNlri,
     piece: &[u8],
 ) -> Fed
-    ensures { λ r. ⌜ r ≡ feedOf reader (now (unfinished .entry)) (now (piece .entry)) .answer ⌝ }
-    ensures { λ r. ⌜ now (unfinished .exit) ≡ feedOf reader (now (unfinished .entry)) (now (piece .entry)) .octets ⌝ }
+    ensures { λ r. ⌜ Leaves (feedOf reader (now (unfinished .entry)) (now (piece .entry))) r (now (unfinished .exit)) ⌝ }
 {
     pieces::feed(reader, unfinished, piece)
 }
@@ -243,8 +242,7 @@ pub extern "C" fn mvpn_attribute_write(
 // Makes a table with no routes.
 #[no_mangle]
 pub extern "C" fn mvpn_make(afi: u16, table: &mut [u8]) -> u32
-    ensures { λ r. ⌜ r ≡ makeOf afi (now (table .entry)) .answer ⌝ }
-    ensures { λ r. ⌜ now (table .exit) ≡ makeOf afi (now (table .entry)) .octets ⌝ }
+    ensures { λ r. ⌜ Leaves (makeOf afi (now (table .entry))) r (now (table .exit)) ⌝ }
 {
     table::make(afi, table)
 }
@@ -252,8 +250,7 @@ pub extern "C" fn mvpn_make(afi: u16, table: &mut [u8]) -> u32
 // Installs a route, or replaces the attribute of one.
 #[no_mangle]
 pub extern "C" fn mvpn_install(table: &mut [u8], nlri: &[u8], attribute: &[u8]) -> Installed
-    ensures { λ r. ⌜ r ≡ installOf (now (table .entry)) (now (nlri .entry)) (now (attribute .entry)) .answer ⌝ }
-    ensures { λ r. ⌜ now (table .exit) ≡ installOf (now (table .entry)) (now (nlri .entry)) (now (attribute .entry)) .octets ⌝ }
+    ensures { λ r. ⌜ Leaves (installOf (now (table .entry)) (now (nlri .entry)) (now (attribute .entry))) r (now (table .exit)) ⌝ }
 {
     table::install(table, nlri, attribute)
 }
@@ -261,8 +258,7 @@ pub extern "C" fn mvpn_install(table: &mut [u8], nlri: &[u8], attribute: &[u8]) 
 // Withdraws a route.
 #[no_mangle]
 pub extern "C" fn mvpn_withdraw(table: &mut [u8], nlri: &[u8]) -> u32
-    ensures { λ r. ⌜ r ≡ withdrawOf (now (table .entry)) (now (nlri .entry)) .answer ⌝ }
-    ensures { λ r. ⌜ now (table .exit) ≡ withdrawOf (now (table .entry)) (now (nlri .entry)) .octets ⌝ }
+    ensures { λ r. ⌜ Leaves (withdrawOf (now (table .entry)) (now (nlri .entry))) r (now (table .exit)) ⌝ }
 {
     table::withdraw(table, nlri)
 }
@@ -270,8 +266,7 @@ pub extern "C" fn mvpn_withdraw(table: &mut [u8], nlri: &[u8]) -> u32
 // Marks a router's routes stale; those already marked go.
 #[no_mangle]
 pub extern "C" fn mvpn_mark(table: &mut [u8], router: &[u8]) -> Restarted
-    ensures { λ r. ⌜ r ≡ markOf (now (table .entry)) (now (router .entry)) .answer ⌝ }
-    ensures { λ _. ⌜ now (table .exit) ≡ markOf (now (table .entry)) (now (router .entry)) .octets ⌝ }
+    ensures { λ r. ⌜ Leaves (markOf (now (table .entry)) (now (router .entry))) r (now (table .exit)) ⌝ }
 {
     table::mark(table, router)
 }
@@ -279,8 +274,7 @@ pub extern "C" fn mvpn_mark(table: &mut [u8], router: &[u8]) -> Restarted
 // Takes out what is still marked of a router's routes.
 #[no_mangle]
 pub extern "C" fn mvpn_sweep(table: &mut [u8], router: &[u8]) -> Restarted
-    ensures { λ r. ⌜ r ≡ sweepOf (now (table .entry)) (now (router .entry)) .answer ⌝ }
-    ensures { λ _. ⌜ now (table .exit) ≡ sweepOf (now (table .entry)) (now (router .entry)) .octets ⌝ }
+    ensures { λ r. ⌜ Leaves (sweepOf (now (table .entry)) (now (router .entry))) r (now (table .exit)) ⌝ }
 {
     table::sweep(table, router)
 }
@@ -293,11 +287,9 @@ pub extern "C" fn mvpn_salvage(
     table: &mut [u8],
     dropped: &mut [u8],
 ) -> Salvaged
-    ensures { λ r. ⌜ r ≡ salvageOf afi (now (damaged .entry)) (now (table .entry)) (now (dropped .entry)) .answer ⌝ }
-    ensures { λ _. ⌜ now (table .exit) ≡ salvageOf afi (now (damaged .entry)) (now (table .entry)) (now (dropped .entry)) .table ⌝ }
-    ensures { λ _. ⌜ now (dropped .exit) ≡ salvageOf afi (now (damaged .entry)) (now (table .entry)) (now (dropped .entry)) .list ⌝ }
+    ensures { λ r. ⌜ LeavesBoth (salvageOf afi (now (damaged .entry)) (now (table .entry)) (now (dropped .entry))) r (now (table .exit)) (now (dropped .exit)) ⌝ }
 {
-    table::salvage(afi, damaged, table, dropped)
+    salvage::salvage(afi, damaged, table, dropped)
 }
 
 // Finds the route of a router that a flow takes, and writes it at the front of the output.
@@ -310,10 +302,9 @@ pub extern "C" fn mvpn_match(
     group: &[u8],
     output: &mut [u8],
 ) -> Matched
-    ensures { λ r. ⌜ r ≡ matchOf (now (table .entry)) (ofFlow (flowOf (now (prefixes .entry)) (now (router .entry)) (now (source .entry)) (now (group .entry)))) (now (output .entry)) .answer ⌝ }
-    ensures { λ r. ⌜ now (output .exit) ≡ matchOf (now (table .entry)) (ofFlow (flowOf (now (prefixes .entry)) (now (router .entry)) (now (source .entry)) (now (group .entry)))) (now (output .entry)) .octets ⌝ }
+    ensures { λ r. ⌜ Leaves (matchOf (now (table .entry)) (ofFlow (flowOf (now (prefixes .entry)) (now (router .entry)) (now (source .entry)) (now (group .entry)))) (now (output .entry))) r (now (output .exit)) ⌝ }
 {
-    table::match_flow(table, prefixes, router, source, group, output)
+    matches::match_flow(table, prefixes, router, source, group, output)
 }
 
 // The same, and why each tier was taken or not.
@@ -326,10 +317,9 @@ pub extern "C" fn mvpn_explain(
     group: &[u8],
     output: &mut [u8],
 ) -> Explained
-    ensures { λ r. ⌜ r ≡ explainOf (now (table .entry)) (flowOf (now (prefixes .entry)) (now (router .entry)) (now (source .entry)) (now (group .entry))) (now (output .entry)) .answer ⌝ }
-    ensures { λ r. ⌜ now (output .exit) ≡ explainOf (now (table .entry)) (flowOf (now (prefixes .entry)) (now (router .entry)) (now (source .entry)) (now (group .entry))) (now (output .entry)) .octets ⌝ }
+    ensures { λ r. ⌜ Leaves (explainOf (now (table .entry)) (flowOf (now (prefixes .entry)) (now (router .entry)) (now (source .entry)) (now (group .entry))) (now (output .entry))) r (now (output .exit)) ⌝ }
 {
-    table::explain(table, prefixes, router, source, group, output)
+    matches::explain(table, prefixes, router, source, group, output)
 }
 
 // Finds the route that a shared tree takes.
@@ -344,10 +334,9 @@ pub extern "C" fn mvpn_match_shared(
     states: &[u8],
     output: &mut [u8],
 ) -> Matched
-    ensures { λ r. ⌜ r ≡ matchOf (now (table .entry)) (ofSharedTree (treeOf (now (prefixes .entry)) (now (router .entry)) (now (group .entry)) facts (now («source_actives» .entry)) (now (states .entry)))) (now (output .entry)) .answer ⌝ }
-    ensures { λ r. ⌜ now (output .exit) ≡ matchOf (now (table .entry)) (ofSharedTree (treeOf (now (prefixes .entry)) (now (router .entry)) (now (group .entry)) facts (now («source_actives» .entry)) (now (states .entry)))) (now (output .entry)) .octets ⌝ }
+    ensures { λ r. ⌜ Leaves (matchOf (now (table .entry)) (ofSharedTree (treeOf (now (prefixes .entry)) (now (router .entry)) (now (group .entry)) facts (now («source_actives» .entry)) (now (states .entry)))) (now (output .entry))) r (now (output .exit)) ⌝ }
 {
-    table::match_shared(
+    matches::match_shared(
         table,
         prefixes,
         router,
@@ -362,8 +351,7 @@ pub extern "C" fn mvpn_match_shared(
 // Finds the route that comes next after an NLRI in the table's order, and writes it at the front of the output.
 #[no_mangle]
 pub extern "C" fn mvpn_next(table: &[u8], nlri: &[u8], output: &mut [u8]) -> Following
-    ensures { λ r. ⌜ r ≡ nextOf (now (table .entry)) (now (nlri .entry)) (now (output .entry)) .answer ⌝ }
-    ensures { λ r. ⌜ now (output .exit) ≡ nextOf (now (table .entry)) (now (nlri .entry)) (now (output .entry)) .octets ⌝ }
+    ensures { λ r. ⌜ Leaves (nextOf (now (table .entry)) (now (nlri .entry)) (now (output .entry))) r (now (output .exit)) ⌝ }
 {
     table::next(table, nlri, output)
 }

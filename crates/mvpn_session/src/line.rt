@@ -87,7 +87,7 @@ fn match_of(text: &[u8], at: usize, table: &[u8], router: &[u8], output: &mut [u
     let source_size = script::decode(text, at, &mut source);
     let group_size = script::decode(text, script::past(text, at, b' '), &mut group);
     let prefixes = [0u8; 2];
-    let answer = table::match_flow(
+    let answer = matches::match_flow(
         table,
         &prefixes,
         router,

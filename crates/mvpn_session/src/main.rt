@@ -11,7 +11,7 @@ const SCRIPT: usize = 8192;
 
 const MEMORY: usize = 648;
 
-const OUTPUT: usize = table::LEAST_OUTPUT;
+const OUTPUT: usize = places::output::LEAST_OUTPUT;
 
 // The table's memory holds no table at first, so that calls before the first `make` are refused.
 fn main() {

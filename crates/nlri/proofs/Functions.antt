@@ -2,13 +2,11 @@
 pub mod Via
 pub mod Fronts
 pub mod Ends
+pub mod Leaves
 pub mod Standing
-pub mod KeyTests
 pub mod Shapes
 pub mod Copies
 pub mod Singles
+pub mod FieldStarts
 pub mod Discards
 pub mod SPmsis
-pub mod Puts
-pub mod Verdicts
-pub mod MldpVerdicts

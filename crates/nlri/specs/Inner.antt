@@ -12,8 +12,8 @@ use Rattle.octets.specs.Octets.{part, numberIn}
 use Rattle.octets.specs.declared.Span.{Span}
 use Rattle.fec_elements.specs.Reading.{opaqueStart, fecSize}
 use Rattle.nlri.specs.declared.layout.Layout.{Layout}
-use Rattle.nlri.specs.declared.read.Header.{Header}
-use Rattle.nlri.specs.declared.read.Header.the-variants.{Typed, Unread}
+use Rattle.nlri.specs.declared.header.Header.{Header}
+use Rattle.nlri.specs.declared.header.Header.the-variants.{Typed, Unread}
 use Rattle.nlri.specs.Bodies.{FieldKind, source, group, originator, key, fec, bodies, onBody, bodyOf, hasField}
 use Rattle.nlri.specs.Fields.{Fields}
 use Rattle.nlri.specs.Reading.{fieldSize, sizesOf, keyField}
@@ -88,6 +88,14 @@ withFec type = either (eqb type 67) (eqb type 71)
 -- whether a source AS stands behind the route distinguisher
 unfoldable pub withSourceAs : ℕ → Bool
 withSourceAs type = either (eqb type 2) (either (eqb type 6) (either (eqb type 7) (eqb type 71)))
+
+-- of the types up to 7 those with a source and a group: 3, 5, 6 and 7
+unfoldable pub hasFlow : ℕ → Bool
+hasFlow type = either (eqb type 3) (ltb 4 type)
+
+-- of the types up to 7 those with an originator: 1, 3 and 4
+unfoldable pub hasOriginator : ℕ → Bool
+hasOriginator type = either (eqb type 1) (either (eqb type 3) (eqb type 4))
 
 -- where the octets of a source begin in an NLRI, behind its length octet: in types 6 and 7 the source AS stands before that
 unfoldable pub sourceStart : ℕ → ℕ

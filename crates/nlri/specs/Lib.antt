@@ -8,8 +8,7 @@ pub mod Groups
 pub mod Writing
 pub mod Answers
 pub mod Inner
-pub mod InnerWriting
-pub mod InnerMldp
+pub mod Standing
 pub mod Statements
 pub mod DiscardRule
 pub mod DiscardExamples

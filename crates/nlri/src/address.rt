@@ -81,7 +81,7 @@ impl AddressKind {
     }
 
     // The address family of a root of the kind, as a FEC has it.
-    pub(crate) fn root_family(self) -> u32
+    pub fn root_family(self) -> u32
         ensures { λ r. ⌜ r ≡ rootFamily (self .bits) ⌝ }
     {
         if self.bits == AddressKind::IPV4 {

@@ -9,8 +9,8 @@ ghost use Rattle.nlri.specs.Bodies.{source, group, originator};
 ghost use Rattle.nlri.specs.Inner.{leftFault, bodyFault, afterFlow};
 use crate::address::AddressKind;
 use crate::address::RouteDistinguisher;
-use crate::fields;
-use crate::read::HEADER;
+use crate::header::HEADER;
+use crate::layout;
 use crate::route::RouteType;
 use octets::number::DONE;
 use octets::number::LENGTH;
@@ -18,7 +18,7 @@ use octets::number::TYPE;
 use octets::number::WIDTH;
 
 // A source or group length is the family's; in type 3 only it may be 0, the wildcard.
-pub(crate) fn is_allowed(kind: AddressKind, route_type: usize, bits: usize) -> bool
+pub fn is_allowed(kind: AddressKind, route_type: usize, bits: usize) -> bool
     ensures { λ r. ⌜ r ≡ allowed (kind .bits) «route_type» bits ⌝ }
 {
     if bits == kind.bits {
@@ -76,7 +76,7 @@ fn flow_end_fault(route_type: usize, at: usize, size: usize) -> u32
 }
 
 // A group, whose length octet is at `at`, and what follows it.
-fn group_fault(kind: AddressKind, route_type: usize, at: usize, s: &[u8]) -> u32
+fn group_field_fault(kind: AddressKind, route_type: usize, at: usize, s: &[u8]) -> u32
     requires { ⌜ at < 256 ⌝ }
     ensures { λ r. ⌜ r ≡ leftFault (kind .bits) «route_type» (group ∷ afterFlow «route_type») at (now (s .entry)) ⌝ }
 {
@@ -102,7 +102,7 @@ pub(crate) fn flow_fault(kind: AddressKind, route_type: usize, at: usize, s: &[u
     if !is_allowed(kind, route_type, bits) {
         return WIDTH;
     }
-    group_fault(kind, route_type, at + 1 + bits / 8, s)
+    group_field_fault(kind, route_type, at + 1 + bits / 8, s)
 }
 
 // A body of a type that a key may have: 1, 2 or 3.
@@ -131,7 +131,7 @@ pub(crate) fn flow_body_fault(kind: AddressKind, route_type: usize, s: &[u8]) ->
     flow_fault(
         kind,
         RouteType::SOURCE_ACTIVE,
-        fields::source_start(route_type) - (HEADER + 1),
+        layout::source_start(route_type) - (HEADER + 1),
         s,
     )
 }

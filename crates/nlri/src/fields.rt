@@ -7,15 +7,16 @@ ghost use Rattle.octets.specs.Octets.{part};
 ghost use Rattle.octets.specs.Outcome.{refused};
 ghost use Rattle.nlri.specs.Reading.{readNlri};
 ghost use Rattle.nlri.specs.Answers.{addressStruct, distinguisherStruct, nlriStruct, nlriAnswer};
-ghost use Rattle.nlri.specs.Inner.{withKey, withFec, withSourceAs, sourceStart, distinguisherAt, sourceAsAt, fieldsAt, keyAt, fecStart, fecAt, LayoutWithin};
+ghost use Rattle.nlri.specs.Inner.{withKey, withSourceAs, distinguisherAt, sourceAsAt, fieldsAt, keyAt, fecAt, LayoutWithin};
 use crate::address::Address;
 use crate::address::AddressKind;
 use crate::address::RouteDistinguisher;
+use crate::header::HEADER;
+use crate::layout;
 use crate::layout::Layout;
 use crate::layout::Reading;
 use crate::read;
-use crate::read::HEADER;
-use crate::route::RouteType;
+use crate::route;
 use octets::Span;
 use octets::number::DONE;
 
@@ -53,33 +54,13 @@ fn address_at(s: &[u8], start: usize, size: usize) -> Address
     AddressKind::ipv6().address(octets::parts::between(s, start, size))
 }
 
-// A Leaf, of either kind, has a key, straight after the header, and no route distinguisher.
-fn has_key(route_type: usize) -> bool
-    ensures { λ r. ⌜ r ≡ withKey «route_type» ⌝ }
-{
-    if route_type == RouteType::LEAF {
-        return true;
-    }
-    route_type == RouteType::MLDP_LEAF
-}
-
-// Types 0x43 and 0x47 have a FEC.
-fn has_fec(route_type: usize) -> bool
-    ensures { λ r. ⌜ r ≡ withFec «route_type» ⌝ }
-{
-    if route_type == RouteType::MLDP_S_PMSI {
-        return true;
-    }
-    route_type == RouteType::MLDP_SOURCE_TREE_JOIN
-}
-
 // The route distinguisher, which stands behind the header; zeros where the type has a key instead.
 fn distinguisher_in(route_type: usize, s: &[u8]) -> RouteDistinguisher
     requires { ⌜ (withKey «route_type» ≡ false → 10 ≤ length (now s)) ⌝ }
     ensures { λ r. ⌜ r ≡ distinguisherStruct (distinguisherAt «route_type» (now (s .entry))) ⌝ }
 {
     let mut octets = [0u8; 8];
-    if has_key(route_type) {
+    if route::has_key(route_type) {
         return RouteDistinguisher { octets };
     }
     bytes::copy(
@@ -89,51 +70,12 @@ fn distinguisher_in(route_type: usize, s: &[u8]) -> RouteDistinguisher
     RouteDistinguisher { octets }
 }
 
-// Where the octets of a source begin, behind its length octet: in types 6 and 7 the source AS stands before that.
-pub(crate) fn source_start(route_type: usize) -> usize
-    ensures { λ r. ⌜ r ≡ sourceStart «route_type» ⌝ }
-{
-    if route_type == RouteType::SHARED_TREE_JOIN {
-        return HEADER + RouteDistinguisher::WITH_SOURCE_AS + 1;
-    }
-    if route_type == RouteType::SOURCE_TREE_JOIN {
-        return HEADER + RouteDistinguisher::WITH_SOURCE_AS + 1;
-    }
-    HEADER + RouteDistinguisher::OCTETS + 1
-}
-
-// Where a FEC starts: in 0x47 behind the source AS.
-pub(crate) fn fec_start(route_type: usize) -> usize
-    ensures { λ r. ⌜ r ≡ fecStart «route_type» ⌝ }
-{
-    if route_type == RouteType::MLDP_SOURCE_TREE_JOIN {
-        return HEADER + RouteDistinguisher::WITH_SOURCE_AS;
-    }
-    HEADER + RouteDistinguisher::OCTETS
-}
-
-// Types 2, 6, 7 and 0x47 have a source AS, behind the route distinguisher.
-pub(crate) fn has_source_as(route_type: usize) -> bool
-    ensures { λ r. ⌜ r ≡ withSourceAs «route_type» ⌝ }
-{
-    if route_type == RouteType::INTER_AS_I_PMSI {
-        return true;
-    }
-    if route_type == RouteType::SHARED_TREE_JOIN {
-        return true;
-    }
-    if route_type == RouteType::SOURCE_TREE_JOIN {
-        return true;
-    }
-    route_type == RouteType::MLDP_SOURCE_TREE_JOIN
-}
-
 // The source AS, or 0 where the type has none.
 fn source_as_in(route_type: usize, s: &[u8]) -> u32
     requires { ⌜ (withSourceAs «route_type» ≡ true → 14 ≤ length (now s)) ⌝ }
     ensures { λ r. ⌜ r ≡ sourceAsAt «route_type» (now (s .entry)) ⌝ }
 {
-    if has_source_as(route_type) {
+    if route::has_source_as(route_type) {
         return octets::wide::four(s, HEADER + RouteDistinguisher::OCTETS);
     }
     0
@@ -145,7 +87,7 @@ fn nlri_in(layout: Layout, s: &[u8]) -> Nlri
     ensures { λ r. ⌜ r ≡ nlriStruct (fieldsAt layout (now (s .entry))) ⌝ }
 {
     let route_type = layout.route_type;
-    let start = source_start(route_type);
+    let start = layout::source_start(route_type);
     let source = address_at(s, start, layout.source);
     let group = address_at(s, start + layout.source + 1, layout.group);
     let originator = address_at(s, s.len() - layout.originator, layout.originator);
@@ -183,7 +125,7 @@ fn refusal(number: u32) -> NlriReading
 fn key_in(layout: Layout) -> Span
     ensures { λ r. ⌜ r ≡ keyAt layout ⌝ }
 {
-    if has_key(layout.route_type) {
+    if route::has_key(layout.route_type) {
         return Span {
             start: HEADER,
             size: layout.key,
@@ -199,9 +141,9 @@ fn key_in(layout: Layout) -> Span
 fn fec_in(layout: Layout) -> Span
     ensures { λ r. ⌜ r ≡ fecAt layout ⌝ }
 {
-    if has_fec(layout.route_type) {
+    if route::has_fec(layout.route_type) {
         return Span {
-            start: fec_start(layout.route_type),
+            start: layout::fec_start(layout.route_type),
             size: layout.fec,
         };
     }

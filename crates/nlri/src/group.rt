@@ -78,7 +78,7 @@ fn is_source_specific(kind: AddressKind, group: &[u8]) -> bool
 }
 
 // Whether octets of any number are a group of that range.
-pub(crate) fn is_ssm(kind: AddressKind, group: &[u8]) -> bool
+pub fn is_ssm(kind: AddressKind, group: &[u8]) -> bool
     ensures { λ r. ⌜ r ≡ isSsm (kind .bits) (now (group .entry)) ⌝ }
 {
     if group.len() < 4 {

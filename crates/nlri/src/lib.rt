@@ -1,19 +1,20 @@
-// MCAST-VPN NLRI (RFC 6514, section 4; RFC 6625; RFC 7441): read and written.
+// MCAST-VPN NLRI (RFC 6514, section 4; RFC 6625; RFC 7441): families, route types, addresses, groups, and NLRIs read.
 mod address;
 mod body;
 mod family;
 mod fields;
 mod group;
+mod header;
 mod layout;
-mod mldp;
-mod mldp_write;
+pub mod mldp;
 mod read;
-mod route;
-mod write;
+pub mod route;
+pub mod standing;
 
 pub use address::Address;
 pub use address::AddressKind;
 pub use address::RouteDistinguisher;
+pub use body::is_allowed;
 pub use body::is_originator_size;
 pub use family::AddressFamily;
 pub use family::Family;
@@ -23,12 +24,15 @@ pub use fields::NlriReading;
 pub use fields::read_nlri;
 pub use group::Group;
 pub use group::group_class;
+pub use group::is_ssm;
+pub use header::HEADER;
+pub use header::Header;
+pub use header::read_header;
 pub use layout::Layout;
 pub use layout::Reading;
-pub use read::HEADER;
 pub use read::fault_of_type;
 pub use read::front_fault;
 pub use read::is_s_pmsi;
 pub use read::read_front;
+pub use read::read_key;
 pub use route::RouteType;
-pub use write::write_nlri;

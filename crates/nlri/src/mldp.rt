@@ -11,11 +11,11 @@ ghost use Rattle.nlri.specs.Inner.{keyOutcome, leftFault, bodyFault, aft
 use crate::address::AddressKind;
 use crate::address::RouteDistinguisher;
 use crate::body;
-use crate::fields;
+use crate::header;
+use crate::header::HEADER;
+use crate::header::Header;
+use crate::layout;
 use crate::layout::Layout;
-use crate::read;
-use crate::read::HEADER;
-use crate::read::Header;
 use crate::route::RouteType;
 use fec_elements::Standing;
 use fec_elements::shape;
@@ -54,19 +54,6 @@ fn fec_fault(kind: AddressKind, route_type: usize, at: usize, s: &[u8]) -> u32
     fec_end_fault(route_type, rest.len() - shape::fec_size(rest))
 }
 
-// The types of RFC 7441.
-pub(crate) fn is_mldp(route_type: usize) -> bool
-    ensures { λ r. ⌜ r ≡ isMldp «route_type» ⌝ }
-{
-    if route_type == RouteType::MLDP_S_PMSI {
-        return true;
-    }
-    if route_type == RouteType::MLDP_LEAF {
-        return true;
-    }
-    route_type == RouteType::MLDP_SOURCE_TREE_JOIN
-}
-
 // A body with a FEC, behind a route distinguisher and, in 0x47, a source AS.
 fn fec_body_fault(kind: AddressKind, route_type: usize, s: &[u8]) -> u32
     requires { ⌜ (isMldp «route_type» ≡ true) × («route_type» ≡ 68 → ⊥) ⌝ }
@@ -87,7 +74,7 @@ fn fec_body_fault(kind: AddressKind, route_type: usize, s: &[u8]) -> u32
 fn read_key(kind: AddressKind, s: &[u8]) -> Header
     ensures { λ r. ⌜ keyOutcome r ≡ keyField (kind .bits) 68 (now (s .entry)) ⌝ }
 {
-    match read::read_header(s) {
+    match header::read_header(s) {
         Header::Unread(number) => Header::Unread(number),
         Header::Typed(route_type, length) => {
             if route_type != RouteType::MLDP_S_PMSI {
@@ -120,7 +107,7 @@ fn leaf_body_fault(kind: AddressKind, s: &[u8]) -> u32
 }
 
 // A body of one of these types.
-pub(crate) fn body_fault(kind: AddressKind, route_type: usize, s: &[u8]) -> u32
+pub fn body_fault(kind: AddressKind, route_type: usize, s: &[u8]) -> u32
     requires { ⌜ isMldp «route_type» ≡ true ⌝ }
     ensures { λ r. ⌜ r ≡ bodyFault (kind .bits) «route_type» (now (s .entry)) ⌝ }
 {
@@ -138,8 +125,8 @@ fn fec_layout(route_type: usize, s: &[u8]) -> Layout
     ensures { λ r. ⌜ r ≡ fecLayout «route_type» (now (s .entry)) ⌝ }
 {
     let length = s[1] as usize;
-    let left = HEADER + length - fields::fec_start(route_type);
-    let fec = shape::fec_size(octets::parts::between(s, fields::fec_start(route_type), left));
+    let left = HEADER + length - layout::fec_start(route_type);
+    let fec = shape::fec_size(octets::parts::between(s, layout::fec_start(route_type), left));
     Layout {
         route_type,
         length,
@@ -157,7 +144,7 @@ pub(crate) fn layout(route_type: usize, s: &[u8]) -> Layout
     ensures { λ r. ⌜ r ≡ mldpLayout «route_type» (now (s .entry)) ⌝ }
 {
     if route_type == RouteType::MLDP_LEAF {
-        return read::leaf_layout(route_type, s);
+        return layout::leaf_layout(route_type, s);
     }
     fec_layout(route_type, s)
 }

@@ -1,21 +1,24 @@
 // Reading an NLRI: header, body, and the key of a Leaf are judged by a number alone, and an accepted NLRI is laid out by its octets.
 ghost use mathlib.Core.Path.{_≡_};
-ghost use Prim.Native.Nat.{_≤_, _<_};
-ghost use lib.ListN.{length, getD};
+ghost use Prim.Native.Nat.{_<_};
 ghost use Rattle.octets.specs.Outcome.{numberOf};
 ghost use Rattle.nlri.specs.Reading.{isSPmsi, readOfType, keyField};
 ghost use Rattle.nlri.specs.Layouts.{readingOf, layoutAt, layoutSingle};
-ghost use Rattle.nlri.specs.Inner.{headerOutcome, keyOutcome, headerAt, bodyFault, bodyGroup, sourceActiveBodyFault, acceptedFault, layoutWith, flowLayout, leafLayout, layoutIn, FlowStands, GroupStands, KeyStands, Stands, isFollowed, followedFault, single, sPmsiUnder};
+ghost use Rattle.nlri.specs.Inner.{keyOutcome, bodyFault, bodyGroup, sourceActiveBodyFault, acceptedFault, layoutIn, GroupStands, Stands, isFollowed, followedFault, single, sPmsiUnder};
 use crate::address::AddressKind;
 use crate::address::RouteDistinguisher;
 use crate::body;
 use crate::family;
 use crate::family::Family;
-use crate::fields;
 use crate::group;
+use crate::header;
+use crate::header::HEADER;
+use crate::header::Header;
+use crate::layout;
 use crate::layout::Layout;
 use crate::layout::Reading;
 use crate::mldp;
+use crate::route;
 use crate::route::RouteType;
 use octets::number::DONE;
 use octets::number::FAMILY;
@@ -23,38 +26,14 @@ use octets::number::GROUP;
 use octets::number::KEY;
 use octets::number::KIND;
 use octets::number::LENGTH;
-use octets::number::SHORT;
 use octets::number::TYPE;
-
-// Route Type and Length.
-pub const HEADER: usize = 2;
-
-// A route type and a Length with as many octets behind it, or the refusal's number.
-pub(crate) enum Header {
-    Typed(usize, usize),
-    Unread(u32),
-}
-
-// Type and Length of the NLRI at the front of `s`. SHORT.
-pub(crate) fn read_header(s: &[u8]) -> Header
-    ensures { λ r. ⌜ headerOutcome r ≡ headerAt (now (s .entry)) ⌝ }
-{
-    if s.len() < HEADER {
-        return Header::Unread(SHORT);
-    }
-    let length = s[1] as usize;
-    if s.len() - HEADER < length {
-        return Header::Unread(SHORT);
-    }
-    Header::Typed(s[0] as usize, length)
-}
 
 // The key at the front of `s`, a whole NLRI of type 1, 2 or 3: its type and Length, or a number that refuses it. Reading and writing judge a
 // key by this.
-pub(crate) fn read_key(kind: AddressKind, s: &[u8]) -> Header
+pub fn read_key(kind: AddressKind, s: &[u8]) -> Header
     ensures { λ r. ⌜ keyOutcome r ≡ keyField (kind .bits) 4 (now (s .entry)) ⌝ }
 {
-    match read_header(s) {
+    match header::read_header(s) {
         Header::Unread(number) => Header::Unread(number),
         Header::Typed(route_type, length) => {
             if RouteType::S_PMSI < route_type {
@@ -128,7 +107,7 @@ fn later_body_fault(kind: AddressKind, route_type: usize, s: &[u8]) -> u32
     if route_type <= RouteType::SOURCE_TREE_JOIN {
         return body::flow_body_fault(kind, route_type, s);
     }
-    if !mldp::is_mldp(route_type) {
+    if !route::is_mldp(route_type) {
         return TYPE;
     }
     mldp::body_fault(kind, route_type, s)
@@ -139,65 +118,11 @@ pub fn front_fault(kind: AddressKind, s: &[u8]) -> u32
     ensures { λ r. ⌜ r ≡ numberOf (layoutAt (kind .bits) (now (s .entry))) ⌝ }
 {
     // parts handed on, so that the slice reaches this function in registers
-    match read_header(&s[0..]) {
+    match header::read_header(&s[0..]) {
         Header::Unread(number) => number,
         Header::Typed(route_type, length) => {
             body_fault(kind, route_type, &s[HEADER..HEADER + length])
         }
-    }
-}
-
-// The layout of an NLRI whose source has its length octet at `at`.
-fn flow_layout(route_type: usize, at: usize, s: &[u8]) -> Layout
-    requires { ⌜ FlowStands at (now s) ⌝ }
-    ensures { λ r. ⌜ r ≡ flowLayout «route_type» at (now (s .entry)) ⌝ }
-{
-    let length = s[1] as usize;
-    let source = s[at] as usize / 8;
-    let group = s[at + 1 + source] as usize / 8;
-    Layout {
-        route_type,
-        length,
-        source,
-        group,
-        originator: length - at - source - group,
-        key: 0,
-        fec: 0,
-    }
-}
-
-// The layout of an NLRI with a key, by its Length and that of its key.
-pub(crate) fn leaf_layout(route_type: usize, s: &[u8]) -> Layout
-    requires { ⌜ KeyStands (now s) ⌝ }
-    ensures { λ r. ⌜ r ≡ leafLayout «route_type» (now (s .entry)) ⌝ }
-{
-    let length = s[1] as usize;
-    let key = HEADER + s[HEADER + 1] as usize;
-    Layout {
-        route_type,
-        length,
-        source: 0,
-        group: 0,
-        originator: length - key,
-        key,
-        fec: 0,
-    }
-}
-
-// The layout of an NLRI without source, group, key and FEC.
-fn plain_layout(route_type: usize, originator: usize, s: &[u8]) -> Layout
-    requires { ⌜ 2 ≤ length (now s) ⌝ }
-    ensures { λ r. ⌜ r ≡ layoutWith «route_type» (getD (now (s .entry)) 1 0) 0 0 originator 0 0 ⌝ }
-{
-    let length = s[1] as usize;
-    Layout {
-        route_type,
-        length,
-        source: 0,
-        group: 0,
-        originator,
-        key: 0,
-        fec: 0,
     }
 }
 
@@ -209,22 +134,22 @@ fn layout_in(s: &[u8]) -> Layout
     let route_type = s[0] as usize;
     let length = s[1] as usize;
     if route_type == RouteType::INTRA_AS_I_PMSI {
-        return plain_layout(
+        return layout::plain_layout(
             RouteType::INTRA_AS_I_PMSI,
             length - RouteDistinguisher::OCTETS,
             s,
         );
     }
     if route_type == RouteType::INTER_AS_I_PMSI {
-        return plain_layout(RouteType::INTER_AS_I_PMSI, 0, s);
+        return layout::plain_layout(RouteType::INTER_AS_I_PMSI, 0, s);
     }
     if route_type == RouteType::LEAF {
-        return leaf_layout(RouteType::LEAF, s);
+        return layout::leaf_layout(RouteType::LEAF, s);
     }
     if RouteType::SOURCE_TREE_JOIN < route_type {
         return mldp::layout(route_type, s);
     }
-    flow_layout(route_type, fields::source_start(route_type) - 1, s)
+    layout::flow_layout(route_type, layout::source_start(route_type) - 1, s)
 }
 
 // The NLRI at the front of `s`.

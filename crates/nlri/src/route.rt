@@ -1,4 +1,7 @@
-// Route types (RFC 6514, section 4; RFC 7441, section 3): their code points, named once.
+// Route types (RFC 6514, section 4; RFC 7441, section 3): their code points, named once, and the tests of a type.
+ghost use mathlib.Core.Path.{_≡_};
+ghost use Rattle.nlri.specs.Inner.{withKey, withFec, withSourceAs, isMldp, hasFlow, hasOriginator};
+
 pub struct RouteType {}
 
 impl RouteType {
@@ -21,4 +24,76 @@ impl RouteType {
     pub const MLDP_LEAF: usize = 0x44;
 
     pub const MLDP_SOURCE_TREE_JOIN: usize = 0x47;
+}
+
+// A Leaf, of either kind, has a key, straight after the header, and no route distinguisher.
+pub(crate) fn has_key(route_type: usize) -> bool
+    ensures { λ r. ⌜ r ≡ withKey «route_type» ⌝ }
+{
+    if route_type == RouteType::LEAF {
+        return true;
+    }
+    route_type == RouteType::MLDP_LEAF
+}
+
+// Types 0x43 and 0x47 have a FEC.
+pub(crate) fn has_fec(route_type: usize) -> bool
+    ensures { λ r. ⌜ r ≡ withFec «route_type» ⌝ }
+{
+    if route_type == RouteType::MLDP_S_PMSI {
+        return true;
+    }
+    route_type == RouteType::MLDP_SOURCE_TREE_JOIN
+}
+
+// Types 2, 6, 7 and 0x47 have a source AS, behind the route distinguisher.
+pub fn has_source_as(route_type: usize) -> bool
+    ensures { λ r. ⌜ r ≡ withSourceAs «route_type» ⌝ }
+{
+    if route_type == RouteType::INTER_AS_I_PMSI {
+        return true;
+    }
+    if route_type == RouteType::SHARED_TREE_JOIN {
+        return true;
+    }
+    if route_type == RouteType::SOURCE_TREE_JOIN {
+        return true;
+    }
+    route_type == RouteType::MLDP_SOURCE_TREE_JOIN
+}
+
+// The types of RFC 7441.
+pub fn is_mldp(route_type: usize) -> bool
+    ensures { λ r. ⌜ r ≡ isMldp «route_type» ⌝ }
+{
+    if route_type == RouteType::MLDP_S_PMSI {
+        return true;
+    }
+    if route_type == RouteType::MLDP_LEAF {
+        return true;
+    }
+    route_type == RouteType::MLDP_SOURCE_TREE_JOIN
+}
+
+// Of the types up to 7 those with a source and a group: 3, 5, 6 and 7.
+pub fn has_flow(route_type: usize) -> bool
+    ensures { λ r. ⌜ r ≡ hasFlow «route_type» ⌝ }
+{
+    if route_type == RouteType::S_PMSI {
+        return true;
+    }
+    RouteType::LEAF < route_type
+}
+
+// Of the types up to 7 those with an originator: 1, 3 and 4.
+pub fn has_originator(route_type: usize) -> bool
+    ensures { λ r. ⌜ r ≡ hasOriginator «route_type» ⌝ }
+{
+    if route_type == RouteType::INTRA_AS_I_PMSI {
+        return true;
+    }
+    if route_type == RouteType::S_PMSI {
+        return true;
+    }
+    route_type == RouteType::LEAF
 }

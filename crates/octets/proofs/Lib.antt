@@ -4,6 +4,7 @@ pub mod Outcome
 pub mod Tests
 pub mod Lists
 pub mod Outputs
+pub mod Copies
 pub mod Answering
 pub mod NetworkOrder
 pub mod LowFirst

@@ -230,3 +230,10 @@ sized-back n xs h =
     take-append-le (length xs) (take n (xs ++ replicate n 0)) (replicate (length xs) 0) l
     ∙ take-take (length xs) n (xs ++ replicate n 0) h
     ∙ take-append-seam xs (replicate n 0)
+
+-- all octets filled with zeros
+pub filled : (n : ℕ) (d s : List ℕ) → length d ≤ n → n ≤ length d → s ≡ replicate n 0 ++ drop n d → s ≡ zeros (length d)
+unfolding zeros
+filled n d s h k e =
+    let same : n ≡ length d = omega arith in
+    e ∙ ap (λ (x : List ℕ). replicate n 0 ++ x) (drop-of-length-le d h) ∙ append-nil (replicate n 0) ∙ ap (λ (m : ℕ). replicate m 0) same

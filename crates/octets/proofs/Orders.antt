@@ -17,7 +17,7 @@ use Rattle.octets.specs.Order.{same, before, zeros, allZero}
 use Rattle.octets.proofs.Choice.{opposite, test-same, both-held, both-true-left, both-true-right, both-true, both-assoc, pick-true, pick-false, tested, is-false, is-true}
 use Rattle.octets.proofs.AllOctets.{octets-part, number-below}
 use Rattle.octets.proofs.Lists.{length-part, take-then}
-use Rattle.octets.proofs.NetworkOrder.{number-high}
+use Rattle.octets.proofs.NetworkOrder.{number-high, same-number}
 
 pub same-itself : (xs : List ℕ) → same xs xs ≡ true
 unfolding same
@@ -378,3 +378,18 @@ module _ (a b : List ℕ) (i any : ℕ) (so-far : both (eqb any 0) (both (allZer
   pub zeros-end : length a ≤ i → length b ≤ i → eqb any 0 ≡ both (allZero a) (allZero b)
   unfolding allZero both
   zeros-end h k = sym (both-then-true (eqb any 0)) ∙ ap (both (eqb any 0)) (rw (drop-of-length-le a h, drop-of-length-le b k)) ∙ so-far
+
+-- octets of one size that begin alike: the last n of each decide, whether or not they differ
+pub parts-last : (a b : List ℕ) (i n : ℕ) → take i a ≡ take i b → AllOctets a → AllOctets b → length a ≡ i + n → length b ≡ i + n
+    → (x y : ℕ) → x ≡ numberIn (part a i n) 0 → y ≡ numberIn (part b i n) 0 → ltb x y ≡ before a b
+parts-last a b i n front each-a each-b la lb x y in-a in-b =
+    let number : List ℕ → ℕ = λ s. numberIn s 0 in
+    let fits-a : i + n ≤ length a = omega arith in
+    let fits-b : i + n ≤ length b = omega arith in
+    tested (eqb x y)
+    (λ t.
+    let e : x ≡ y = eqb-true x y t in
+    let alike : take (i + n) a ≡ take (i + n) b = parts-alike number a b i n x y in-a in-b (same-number each-a each-b i n fits-a fits-b) front e in
+    let same : a ≡ b = sym (take-all (i + n) a (omega arith)) ∙ alike ∙ take-all (i + n) b (omega arith) in
+    le-ltb x y (omega arith) ∙ sym (ap (λ (s : List ℕ). before s b) same ∙ before-itself b))
+    (λ f. parts-decide a b i n front each-a each-b fits-a fits-b x y in-a in-b (parts-differ number a b i n x y in-a in-b (eqb-false x y f)))

@@ -4,6 +4,7 @@ ghost use mathlib.Core.Path.{_≡_};
 ghost use Rattle.octets.specs.Outcome.{refused};
 ghost use Rattle.octets.specs.Outputs.{writtenOf};
 
+pub mod blocks;
 pub mod number;
 pub mod order;
 pub mod parts;

@@ -4,7 +4,7 @@
 // Each public function hands on parts of its slices and not the slices themselves: the compiler then passes a slice to it by two
 // registers and not by memory.
 ghost use mathlib.Core.Path.{_≡_};
-ghost use Prim.Native.Nat.{min};
+ghost use Prim.Native.Nat.{_≤_, min};
 ghost use lib.ListN.{length};
 ghost use Rattle.octets.specs.Choice.{both};
 ghost use Rattle.octets.specs.Order.{same, before, allZero};
@@ -120,6 +120,23 @@ fn comes_each_before(a: &[u8], b: &[u8]) -> bool
         i += 1;
     }
     a.len() < b.len()
+}
+
+// The order of octets of one size, at least a word: the first words that differ decide, as big-endian numbers. The last word may
+// begin inside the one before it.
+pub fn rises(a: &[u8], b: &[u8]) -> bool
+    requires { ⌜ (length (now a) ≡ length (now b)) × (8 ≤ length (now b)) ⌝ }
+    ensures { λ r. ⌜ r ≡ before (now (a .entry)) (now (b .entry)) ⌝ }
+{
+    let last = b.len() - WORD;
+    let mut i = 0;
+    while i < last {
+        if eight_low_first(a, i) != eight_low_first(b, i) {
+            return eight(a, i) < eight(b, i);
+        }
+        i += WORD;
+    }
+    eight(a, last) < eight(b, last)
 }
 
 // Every octet is zero.

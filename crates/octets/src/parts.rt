@@ -1,8 +1,9 @@
-// Parts of a slice: cut out to read, and filled to write.
+// Parts of a slice: cut out to read, filled to write, and cleared.
 ghost use mathlib.Core.Path.{_≡_};
 ghost use Prim.Native.Nat.{_+_, _≤_};
 ghost use lib.ListN.{length, drop};
 ghost use Rattle.octets.specs.Octets.{part};
+ghost use Rattle.octets.specs.Order.{zeros};
 ghost use Rattle.octets.specs.Outputs.{Put};
 
 // The octets from `at` on.
@@ -27,4 +28,15 @@ pub fn place(octets: &[u8], output: &mut [u8], at: usize) -> usize
     ensures { λ r. ⌜ Put at (now (octets .entry)) (now (output .entry)) r (now (output .exit)) ⌝ }
 {
     at + bytes::copy(octets, &mut output[at..])
+}
+
+// Every octet becomes 0.
+pub fn clear(octets: &mut [u8])
+    ensures { λ _. ⌜ now (octets .exit) ≡ zeros (length (now (octets .entry))) ⌝ }
+{
+    let mut at = 0;
+    while at < octets.len() {
+        octets[at] = 0;
+        at += 1;
+    }
 }

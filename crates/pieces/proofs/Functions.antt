@@ -8,6 +8,7 @@ use borrow.Author.Tests.{lt-ltb, le-ltb}
 use lib.ListN.{length, getD, take, List·getD-append}
 use lib.Seq.{length-take-le, getD-take, getD-append-add}
 use lib.Dec.{ltb}
+use Rattle.octets.specs.Outputs.{Leaves}
 use Rattle.octets.specs.Choice.{either}
 use Rattle.octets.specs.Octets.{part, placed}
 use Rattle.octets.proofs.Choice.{skips, either-left, either-last}
@@ -94,18 +95,15 @@ settle-whole p unfinished s size wanted share n fed h cut is e =
     skips _ _ _ _ (le-ltb (p .kept + size) wanted h) (e ∙ ap (λ (m : ℕ). judgedOf p m wanted share) (is ∙ ap (numberUnder (p .afi)) cut))
 
 -- the answer of a feed, and the lent octets afterwards
-abbrev pub Answers : Fed → List ℕ → AfterFeed → Type 0
-Answers fed after a = (fed ≡ a .answer) × (after ≡ a .octets)
-
-pub answers-as : (fed : Fed) (after : List ℕ) (a b : AfterFeed) → b ≡ a → Answers fed after a → Answers fed after b
+pub answers-as : (fed : Fed) (after : List ℕ) (a b : AfterFeed) → b ≡ a → Leaves a fed after → Leaves b fed after
 answers-as fed after a b e h = (h .0 ∙ sym (ap (λ (x : AfterFeed). x .answer) e), h .1 ∙ sym (ap (λ (x : AfterFeed). x .octets) e))
 
-pub passes-as : (unfinished piece : List ℕ) (p q : Pieces) (fed : Fed) (b : AfterFeed) → b ≡ passedOf p unfinished piece → fed ≡ record { pieces = q; taken = length piece; size = 0 } → q ≡ p → Answers fed unfinished b
+pub passes-as : (unfinished piece : List ℕ) (p q : Pieces) (fed : Fed) (b : AfterFeed) → b ≡ passedOf p unfinished piece → fed ≡ record { pieces = q; taken = length piece; size = 0 } → q ≡ p → Leaves b fed unfinished
 passes-as unfinished piece p q fed b is e s =
     answers-as fed unfinished (passedOf p unfinished piece) b is (e ∙ ap (λ (x : Pieces). record { pieces = x; taken = length piece; size = 0 }) s, refl)
 
 pub reads-as : (p : Pieces) (unfinished piece after : List ℕ) (fed : Fed) (wanted share : ℕ) → wanted ≡ wantedOf (p .kept) unfinished piece → share ≡ shareOf wanted (p .kept) (length piece)
-    → after ≡ placed (p .kept) (take share piece) unfinished → fed ≡ settledOf p after (length piece) wanted share → Answers fed after (readOnOf p unfinished piece)
+    → after ≡ placed (p .kept) (take share piece) unfinished → fed ≡ settledOf p after (length piece) wanted share → Leaves (readOnOf p unfinished piece) fed after
 unfolding readOnOf takenOf
 reads-as p unfinished piece after fed wanted share w s m f =
     let both : takenOf p unfinished piece (wantedOf (p .kept) unfinished piece) (shareOf (wantedOf (p .kept) unfinished piece) (p .kept) (length piece)) ≡ takenOf p unfinished piece wanted share =

@@ -8,6 +8,7 @@ use Rattle.octets.specs.Numbers.{DONE, SHORT, LONG}
 use Rattle.octets.specs.Choice.{pick, either}
 use Rattle.octets.specs.Outcome.{onOutcome, andThen, numberOf}
 use Rattle.octets.specs.Octets.{placed}
+use Rattle.octets.specs.Outputs.{Changed}
 use Rattle.nlri.specs.Family.{familyBits}
 use Rattle.nlri.specs.Layouts.{layoutAt}
 use Rattle.runs.specs.declared.walking.Walked.{Walked}
@@ -45,9 +46,8 @@ abbrev pub finishOf : Pieces → Pieces
 finishOf p = record { walked = answerAtEnd p; afi = p .afi; mode = p .mode; stage = FINISHED; total = p .total; kept = p .kept }
 
 -- what a feed answers, and the lent octets afterwards
-pub record AfterFeed : Type 0 where
-  pub answer : Fed
-  pub octets : List ℕ
+abbrev pub AfterFeed : Type 0
+AfterFeed = Changed Fed
 
 -- all of a piece is taken, no NLRI is given, and the lent octets stay
 abbrev pub passedOf : Pieces → (unfinished piece : List ℕ) → AfterFeed

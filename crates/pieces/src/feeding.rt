@@ -2,6 +2,7 @@
 ghost use mathlib.Core.Path.{_≡_};
 ghost use Prim.Native.Nat.{_+_, _≤_};
 ghost use lib.ListN.{length};
+ghost use Rattle.octets.specs.Outputs.{Leaves};
 ghost use Rattle.pieces.specs.Feeding.{feedOf, readOnOf, settledOf, judgedOf, keptOf, readOf, skippedOf, stoppedOf, Within};
 use crate::reading;
 use crate::reading::UnfinishedNlri;
@@ -22,8 +23,7 @@ pub struct Fed {
 
 // Hands over a piece: octets of it are taken up to the end of one NLRI.
 pub fn feed(reader: Pieces, unfinished: &mut UnfinishedNlri, piece: &[u8]) -> Fed
-    ensures { λ r. ⌜ r ≡ feedOf reader (now (unfinished .entry)) (now (piece .entry)) .answer ⌝ }
-    ensures { λ r. ⌜ now (unfinished .exit) ≡ feedOf reader (now (unfinished .entry)) (now (piece .entry)) .octets ⌝ }
+    ensures { λ r. ⌜ Leaves (feedOf reader (now (unfinished .entry)) (now (piece .entry))) r (now (unfinished .exit)) ⌝ }
 {
     if Stage::STOPPED < reader.stage {
         return passed(reader, piece.len());
@@ -51,8 +51,7 @@ fn passed(reader: Pieces, size: usize) -> Fed
 // A feed while reading.
 fn read_on(reader: Pieces, unfinished: &mut [u8], piece: &[u8]) -> Fed
     requires { ⌜ (length (now unfinished) ≡ 257) × Within reader (length (now piece)) ⌝ }
-    ensures { λ r. ⌜ r ≡ readOnOf reader (now (unfinished .entry)) (now (piece .entry)) .answer ⌝ }
-    ensures { λ r. ⌜ now (unfinished .exit) ≡ readOnOf reader (now (unfinished .entry)) (now (piece .entry)) .octets ⌝ }
+    ensures { λ r. ⌜ Leaves (readOnOf reader (now (unfinished .entry)) (now (piece .entry))) r (now (unfinished .exit)) ⌝ }
 {
     let kept = reader.kept as usize;
     let wanted = reading::wanted(unfinished, kept, piece);

@@ -6,16 +6,12 @@ use lib.ListN.{length}
 use Rattle.octets.specs.Numbers.{DONE}
 use Rattle.octets.specs.Outcome.{Outcome, onOutcome}
 use Rattle.octets.specs.Octets.{front}
+use Rattle.octets.specs.Outputs.{Changed}
 use Rattle.routes.specs.declared.Installed.{Installed}
 use Rattle.routes.specs.declared.Matched.{Matched}
 use Rattle.routes.specs.declared.Restarted.{Restarted}
 use Rattle.routes.specs.Route.{nlriOf, attributeOf}
 use Rattle.routes.specs.Matching.{Found, nothing, found}
-
--- what a call answers, and the octets of its lent memory afterwards: the table's, or a match's output
-pub record Changed (A : Type 0) : Type 0 where
-  pub answer : A
-  pub octets : List ℕ
 
 -- what an install answers besides DONE: the NLRI was not held
 abbrev pub NEW : ℕ

@@ -16,7 +16,8 @@ use Rattle.routes.specs.Query.{Query}
 use Rattle.routes.specs.Arguments.{readSPmsi, readRoute}
 use Rattle.routes.specs.Asked.{Asked, askedRouter, readAsked}
 use Rattle.routes.specs.Restart.{RestartCall, readRouter}
-use Rattle.routes.specs.Answers.{Changed, installedOf, restartedOf, matchedBy}
+use Rattle.octets.specs.Outputs.{Changed}
+use Rattle.routes.specs.Answers.{installedOf, restartedOf, matchedBy}
 
 -- a call with every argument whole; a match with what its output holds beforehand
 pub data Call : Type 0 where

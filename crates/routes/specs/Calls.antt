@@ -17,7 +17,8 @@ use Rattle.routes.specs.Asked.{Asked, readAsked}
 use Rattle.routes.specs.Table.{imageOf, afiIn, placesIn, routesOf, tableSize, soundOf}
 use Rattle.routes.specs.Matching.{Found, matchIn}
 use Rattle.routes.specs.Restart.{RestartCall, marking, sweeping, renewed, goneOf, readRouter}
-use Rattle.routes.specs.Answers.{Changed, NEW, REPLACED, installedOf, restartedOf, matchedBy}
+use Rattle.octets.specs.Outputs.{Changed}
+use Rattle.routes.specs.Answers.{NEW, REPLACED, installedOf, restartedOf, matchedBy}
 
 -- making a table: FAMILY, TABLE; then every octet is written
 unfoldable pub makeOutcome : ℕ → List ℕ → Outcome (List ℕ)

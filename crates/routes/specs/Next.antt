@@ -13,7 +13,8 @@ use Rattle.routes.specs.Route.{Route, nlriOf, staleOf}
 use Rattle.routes.specs.Place.{markOctet}
 use Rattle.routes.specs.Table.{routesOf, soundOf}
 use Rattle.routes.specs.Matching.{Found, nothing, found}
-use Rattle.routes.specs.Answers.{Changed, matchedBy}
+use Rattle.octets.specs.Outputs.{Changed}
+use Rattle.routes.specs.Answers.{matchedBy}
 
 -- the first of some routes whose NLRI comes after these octets; no tier is asked for, so it is found with 0
 unfoldable pub nextIn : (nlri : List ℕ) → List Route → Found

@@ -12,7 +12,8 @@ use Rattle.routes.specs.declared.Explained.{Explained}
 use Rattle.routes.specs.Query.{Flow}
 use Rattle.routes.specs.Asked.{ofFlow}
 use Rattle.routes.specs.Table.{afiIn}
-use Rattle.routes.specs.Answers.{Changed, emptyMatch}
+use Rattle.octets.specs.Outputs.{Changed}
+use Rattle.routes.specs.Answers.{emptyMatch}
 use Rattle.routes.specs.Calls.{matchOf}
 
 -- the reasons: the tier was taken

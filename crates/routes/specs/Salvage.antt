@@ -1,6 +1,7 @@
 -- Salvage of a damaged table (document 02, W-212): every place is looked at, whatever the header and its count say. Which routes are kept, which places
 -- are dropped and why, and what the call answers and leaves.
 use Prim.Native.Nat.{ℕ, zero, suc, _+_, _*_}
+use mathlib.Core.Path.{_≡_}
 use mathlib.Core.List.{List, [], _∷_, _++_}
 use lib.ListN.{length}
 use lib.Dec.{ltb, eqb}
@@ -67,6 +68,10 @@ pub record Salvage : Type 0 where
   pub answer : Salvaged
   pub table : List ℕ
   pub list : List ℕ
+
+-- a call of which this is due answers r and leaves these octets in the two buffers
+abbrev pub LeavesBoth : Salvage → Salvaged → (table list : List ℕ) → Type 0
+LeavesBoth due r table list = (r ≡ due .answer) × (table ≡ due .table) × (list ≡ due .list)
 
 -- a refusal's number and empty fields
 abbrev pub emptySalvage : ℕ → Salvaged

@@ -1,81 +1,44 @@
 -- Source Active routes: the number of each, and where source and group stand in those that are read.
-use Prim.Native.Nat.{ℕ, _+_, _-_, _/_, _≤_, _<_}
+use Prim.Native.Nat.{ℕ, _-_, _≤_, _<_}
 use mathlib.Core.Path.{_≡_, refl, sym, _∙_, ap}
 use mathlib.Core.Bool.{Bool, true, false, not}
+use mathlib.Core.Logic.{inr}
 use mathlib.Core.List.{List, [], _∷_}
 use native.Mathlib.Omega.{arith}
 use borrow.Author.Tests.{eqb-true, eqb-false, eq-eqb, ne-eqb, leb-true, le-leb}
-use lib.ListN.{length, getD}
+use lib.ListN.{length}
 use lib.Dec.{eqb}
 use Rattle.octets.specs.Numbers.{DONE}
 use Rattle.octets.specs.Choice.{pick, either}
 use Rattle.octets.specs.Outcome.{given, numberOf}
-use Rattle.octets.specs.Octets.{part}
 use Rattle.octets.specs.Order.{same}
 use Rattle.octets.proofs.Choice.{pick-true, pick-false, opposite, is-true, both-left, both-last, either-left, either-second, either-false, either-last, flag-off, flag-on}
-use Rattle.octets.proofs.Outcome.{value, number, Refuses, refuses-also, refuses-pick, refuses-then, refuses-by, done-given, given-unless, passed, given-same, on-given}
+use Rattle.octets.proofs.Outcome.{value, number, Refuses, refuses-also, refuses-pick, refuses-then, refuses-by, done-given, on-given}
 use Rattle.lists.specs.LentLists.{Item, itemField, frontItem, afterItem, listItems, firstItem, everyItem, someItem}
 use Rattle.lists.proofs.Going.{Going, going-next, going-stop}
 use Rattle.lists.proofs.Fields.{item-field-of}
-use Rattle.nlri.specs.declared.layout.Layout.{Layout}
 use Rattle.nlri.specs.Fields.{Fields}
-use Rattle.nlri.specs.Inner.{layoutWith, flowLayout, sizeAt, withSourceAs, sourceStart, fieldsAt, FlowStands}
+use Rattle.nlri.specs.Standing.{groupEnd, standing}
 use Rattle.nlri.proofs.Definitions.ReadNumbers.{refuses-nlri}
-use Rattle.nlri.proofs.Functions.Standing.{source-active-layout, source-active-stands}
-use Rattle.nlri.proofs.Functions.Singles.{ReadAt, read-at}
+use Rattle.nlri.proofs.Functions.FieldStarts.{fields-within, fields-stand}
 use Rattle.nlri.specs.Reading.{readOfType}
 use Rattle.routes.specs.SharedTree.{SharedTree, readSourceActive, sourceActiveFault, isState, lacksState, conditionHolds}
-use Rattle.shared_trees.specs.Told.{sourceIn, groupIn, groupEnd, FieldsWithin, fieldsWithin, withoutState, withoutStateAt}
+use Rattle.shared_trees.specs.Told.{FieldsWithin, fieldsWithin, withoutState, withoutStateAt}
 
 -- the number of an item's NLRI
 pub number-of : (afi n : ℕ) (nlri s : List ℕ) → n ≡ numberOf (readOfType 5 afi nlri) → nlri ≡ itemField 1 (frontItem 2 s) → n ≡ numberOf (readOfType 5 afi (itemField 1 (frontItem 2 s)))
 number-of afi n nlri s e q = e ∙ ap (λ (x : List ℕ). numberOf (readOfType 5 afi x)) q
 
--- where the group stands, by the place of its length octet
-module _ (s : List ℕ) (at : ℕ) (is : at ≡ 11 + sizeAt s 10) where
-  size-is : getD s at 0 / 8 ≡ sizeAt s (11 + sizeAt s 10)
-  unfolding sizeAt
-  size-is = rw is
-
-  pub group-within : FieldsWithin s → at + 1 + getD s at 0 / 8 ≤ length s
-  unfolding groupEnd
-  group-within b = let within = b .within in omega (arith, size-is)
-
-  pub group-stands : part s (at + 1) (getD s at 0 / 8) ≡ groupIn s
-  unfolding groupIn
-  group-stands = let next : at + 1 ≡ 12 + sizeAt s 10 = omega arith in rw (size-is, next)
-
 -- the fields of a Source Active NLRI that is read are those that stand in it
 module _ (afi : ℕ) (s : List ℕ) (f : Fields) (e : readOfType 5 afi s ≡ given f) where
-  fifth : ReadAt s f × (f .type ≡ 5)
-  fifth =
-      let p = passed _ _ _ e in
-      let q = given-unless _ _ _ _ (p .second) in
-      let same : p .value ≡ f = given-same (q .1) in
-      (read-at afi s f (p .first ∙ ap given same), ap (λ (x : Fields). x .type) (sym same) ∙ eqb-true _ _ (q .0))
+  pub source-read : f .source ≡ standing s .source
+  source-read = ap (λ (x : Fields). x .source) (fields-stand 5 (inr refl) afi s f e)
 
-  typed : getD s 0 0 ≡ 5
-  typed = fifth .0 .typed ∙ fifth .1
-
-  fields-are : f ≡ fieldsAt (flowLayout 5 10 s) s
-  fields-are = sym (fifth .0 .fields) ∙ ap (λ (l : Layout). fieldsAt l s) (source-active-layout s typed)
-
-  pub source-read : f .source ≡ sourceIn s
-  unfolding fieldsAt flowLayout layoutWith sourceStart withSourceAs either pick sourceIn
-  source-read = ap (λ (x : Fields). x .source) fields-are
-
-  pub group-read : f .group ≡ groupIn s
-  unfolding fieldsAt flowLayout layoutWith sourceStart withSourceAs either pick groupIn
-  group-read =
-      let next : 11 + sizeAt s 10 + 1 ≡ 12 + sizeAt s 10 = omega arith in
-      ap (λ (x : Fields). x .group) fields-are ∙ ap (λ (k : ℕ). part s k (sizeAt s (11 + sizeAt s 10))) next
-
-  stands : FlowStands 10 s
-  stands = source-active-stands s typed (fifth .0 .stands)
+  pub group-read : f .group ≡ standing s .group
+  group-read = ap (λ (x : Fields). x .group) (fields-stand 5 (inr refl) afi s f e)
 
   pub stands-within : groupEnd s ≤ length s
-  unfolding groupEnd
-  stands-within = omega (arith, stands .group, stands .sizes, fifth .0 .long)
+  stands-within = fields-within 5 (inr refl) afi s f e
 
 -- no refusal of a Source Active route is DONE
 active-refuses : (afi : ℕ) (x : Item) → Refuses (λ n. n ≡ DONE → ⊥) (readSourceActive afi x)
@@ -139,12 +102,12 @@ unfolding fieldsWithin
 item-bounded s nlri e b = rw e (record { within = leb-true _ _ b })
 
 -- what the branches show
-module _ (group states nlri field : List ℕ) (is : field ≡ groupIn nlri) (flag : Bool) (told : flag ≡ same field group) where
+module _ (group states nlri field : List ℕ) (is : field ≡ standing nlri .group) (flag : Bool) (told : flag ≡ same field group) where
   pub without-other : not flag ≡ true → false ≡ withoutState group states nlri
   unfolding withoutState
   without-other h = sym (both-left _ _ (ap (λ (x : List ℕ). same x group) (sym is) ∙ flag-off _ _ told h))
 
-  pub without-none : not flag ≡ false → (source : List ℕ) → source ≡ sourceIn nlri → (has : Bool) → has ≡ someItem (isState source group) (listItems 2 states) → not has ≡ withoutState group states nlri
+  pub without-none : not flag ≡ false → (source : List ℕ) → source ≡ standing nlri .source → (has : Bool) → has ≡ someItem (isState source group) (listItems 2 states) → not has ≡ withoutState group states nlri
   unfolding withoutState
   without-none h source e has q =
       both-last _ _ _ (ap (λ (x : List ℕ). same x group) (sym is) ∙ flag-on _ _ told h) (ap not (q ∙ ap (λ (x : List ℕ). someItem (isState x group) (listItems 2 states)) e))

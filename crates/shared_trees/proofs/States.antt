@@ -15,9 +15,9 @@ use Rattle.octets.proofs.Choice.{both-true-left, both-true-right, both-left}
 use Rattle.octets.proofs.Lists.{length-part, part-then}
 use Rattle.octets.proofs.Orders.{unequal-other}
 use Rattle.lists.specs.LentLists.{itemField, frontNumber, frontField, afterField, wholeField, frontItem, afterItem, wholeItem}
-use Rattle.nlri.specs.Inner.{sizeAt}
+use Rattle.nlri.specs.Standing.{sourceSize, groupEnd, standing}
 use Rattle.routes.specs.SharedTree.{stateSized, isState}
-use Rattle.shared_trees.specs.Told.{sourceIn, groupEnd, FieldsWithin, Ending, StateStands}
+use Rattle.shared_trees.specs.Told.{FieldsWithin, Ending, StateStands}
 use Rattle.shared_trees.proofs.Sized.{in-octets}
 
 -- the end of a part
@@ -103,13 +103,13 @@ module _ (size : ℕ) (list : List ℕ) (at : ℕ) (stands : StateStands size (d
       differ (is ∙ ap lowFirst (sym last) ∙ sym (e .is (omega arith))))))
 
 -- the end of a Source Active NLRI's source
-pub ending-stands : (s : List ℕ) (at r : ℕ) → FieldsWithin s → at ≡ 11 + sizeAt s 10 → r ≡ lowFirst (part s (at - 4) 4) → Ending (sourceIn s) r
-unfolding sourceIn groupEnd
+pub ending-stands : (s : List ℕ) (at r : ℕ) → FieldsWithin s → at ≡ 11 + sourceSize s → r ≡ lowFirst (part s (at - 4) 4) → Ending (standing s .source) r
+unfolding standing groupEnd
 ending-stands s at r b is e =
     let within = b .within in
-    let n : length (part s 11 (sizeAt s 10)) ≡ sizeAt s 10 = length-part s 11 (sizeAt s 10) (omega arith) in
+    let n : length (part s 11 (sourceSize s)) ≡ sourceSize s = length-part s 11 (sourceSize s) (omega arith) in
     record {
       is = λ four.
-          let here : 11 + (sizeAt s 10 - 4) ≡ at - 4 = omega arith in
-          e ∙ ap lowFirst (sym (ap (λ (k : ℕ). part (part s 11 (sizeAt s 10)) (k - 4) 4) n ∙ end-of-part s 11 (sizeAt s 10) (omega arith) (omega arith) ∙ ap (λ (k : ℕ). part s k 4) here));
+          let here : 11 + (sourceSize s - 4) ≡ at - 4 = omega arith in
+          e ∙ ap lowFirst (sym (ap (λ (k : ℕ). part (part s 11 (sourceSize s)) (k - 4) 4) n ∙ end-of-part s 11 (sourceSize s) (omega arith) (omega arith) ∙ ap (λ (k : ℕ). part s k 4) here));
     }

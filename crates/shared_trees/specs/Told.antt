@@ -1,5 +1,5 @@
 -- Definitions that mirror the inner functions; laws tie them to those of `routes`.
-use Prim.Native.Nat.{ℕ, _+_, _*_, _-_, _≤_}
+use Prim.Native.Nat.{ℕ, _*_, _-_, _≤_}
 use mathlib.Core.Path.{_≡_}
 use mathlib.Core.Bool.{Bool, true, not}
 use mathlib.Core.List.{List}
@@ -11,7 +11,7 @@ use Rattle.octets.specs.Octets.{part, lowFirst}
 use Rattle.octets.specs.Order.{same}
 use Rattle.lists.specs.LentLists.{Item, itemField, frontItem, wholeItem, listCount, wholeList, listItems, everyItem, someItem}
 use Rattle.nlri.specs.Family.{isOriginatorSize}
-use Rattle.nlri.specs.Inner.{sizeAt}
+use Rattle.nlri.specs.Standing.{groupEnd, standing}
 use Rattle.routes.specs.SharedTree.{MOST_ITEMS, originatorSized, stateSized, sourceActiveFault, isState}
 
 -- the number of the two lists as lists
@@ -37,21 +37,7 @@ wholeFault afi bits router sourceActives states = pick (addressesSized bits rout
 unfoldable pub isEarly : (number : ℕ) → Bool
 isEarly number = both (not (eqb number DONE)) (not (eqb number FLOW))
 
--- Where source and group stand in a Source Active NLRI: behind the distinguisher, each behind its length octet in bits.
-
--- the source
-unfoldable pub sourceIn : List ℕ → List ℕ
-sourceIn nlri = part nlri 11 (sizeAt nlri 10)
-
--- the group
-unfoldable pub groupIn : List ℕ → List ℕ
-groupIn nlri = part nlri (12 + sizeAt nlri 10) (sizeAt nlri (11 + sizeAt nlri 10))
-
--- where the group ends
-unfoldable pub groupEnd : List ℕ → ℕ
-groupEnd nlri = 12 + sizeAt nlri 10 + sizeAt nlri (11 + sizeAt nlri 10)
-
--- they lie within the NLRI
+-- source and group of a Source Active NLRI lie within it
 pub record FieldsWithin (nlri : List ℕ) : Type 0 where
   pub within : groupEnd nlri ≤ length nlri
 
@@ -83,7 +69,7 @@ pub record Judged (size : ℕ) (sourceActives states : List ℕ) : Type 0 where
 
 -- a Source Active NLRI is for the group, and no state has its source and group
 unfoldable pub withoutState : (group states nlri : List ℕ) → Bool
-withoutState group states nlri = both (same (groupIn nlri) group) (not (someItem (isState (sourceIn nlri) group) (listItems 2 states)))
+withoutState group states nlri = both (same (standing nlri .group) group) (not (someItem (isState (standing nlri .source) group) (listItems 2 states)))
 
 -- an item's is, and its originator is the PE
 unfoldable pub withoutStateAt : (router group states : List ℕ) → Item → Bool

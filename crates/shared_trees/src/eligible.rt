@@ -2,60 +2,30 @@
 ghost use mathlib.Core.Path.{_≡_};
 ghost use mathlib.Core.List.{List};
 ghost use mathlib.Core.Bool.{true};
-ghost use Prim.Native.Nat.{ℕ, _+_};
+ghost use Prim.Native.Nat.{ℕ};
 ghost use lib.ListN.{length, drop};
 ghost use Rattle.octets.specs.Numbers.{DONE};
 ghost use Rattle.lists.specs.LentLists.{frontItem, afterItem, wholeItem, listItems, someItem};
-ghost use Rattle.nlri.specs.Inner.{sizeAt};
+ghost use Rattle.nlri.specs.Standing.{standing};
 ghost use Rattle.routes.specs.SharedTree.{sourceActiveFault, isState, conditionHolds};
 ghost use Rattle.shared_trees.specs.Tree.{treeOf};
-ghost use Rattle.shared_trees.specs.Told.{sourceIn, groupIn, FieldsWithin, fieldsWithin, Ending, StateStands, StatesSized, Judged, withoutState, withoutStateAt};
+ghost use Rattle.shared_trees.specs.Told.{FieldsWithin, fieldsWithin, Ending, StateStands, StatesSized, Judged, withoutState, withoutStateAt};
 use crate::FIELDS;
 use crate::Facts;
 use lists::FIRST;
-use nlri::HEADER;
-use nlri::RouteDistinguisher;
+use nlri::standing;
 use octets::order;
-use octets::parts;
 use octets::wide;
-
-// Where the source's length octet, in bits, stands in a Source Active NLRI.
-const SOURCE_LENGTH: usize = HEADER + RouteDistinguisher::OCTETS;
 
 // The octets at a source's end that are compared first.
 const ENDING: usize = 4;
 
-// The source of a Source Active NLRI.
-fn source_in(nlri: &[u8]) -> &[u8]
-    requires { ⌜ FieldsWithin (now nlri) ⌝ }
-    ensures { λ r. ⌜ now r ≡ sourceIn (now (nlri .entry)) ⌝ }
-{
-    parts::between(nlri, SOURCE_LENGTH + 1, nlri[SOURCE_LENGTH] as usize / 8)
-}
-
-// Where its group's length octet stands, behind the source.
-fn group_length_at(nlri: &[u8]) -> usize
-    requires { ⌜ FieldsWithin (now nlri) ⌝ }
-    ensures { λ r. ⌜ r ≡ 11 + sizeAt (now (nlri .entry)) 10 ⌝ }
-{
-    SOURCE_LENGTH + 1 + nlri[SOURCE_LENGTH] as usize / 8
-}
-
-// Its group.
-fn group_in(nlri: &[u8]) -> &[u8]
-    requires { ⌜ FieldsWithin (now nlri) ⌝ }
-    ensures { λ r. ⌜ now r ≡ groupIn (now (nlri .entry)) ⌝ }
-{
-    let length_at = group_length_at(nlri);
-    parts::between(nlri, length_at + 1, nlri[length_at] as usize / 8)
-}
-
-// The last four octets of its source, of those that have as many.
+// The last four octets of a Source Active NLRI's source, of those that have as many.
 fn ending_in(nlri: &[u8]) -> u32
     requires { ⌜ FieldsWithin (now nlri) ⌝ }
-    ensures { λ r. ⌜ Ending (sourceIn (now (nlri .entry))) r ⌝ }
+    ensures { λ r. ⌜ Ending (standing (now (nlri .entry)) .source) r ⌝ }
 {
-    wide::four_low_first(nlri, group_length_at(nlri) - ENDING)
+    wide::four_low_first(nlri, standing::group_length_at(nlri) - ENDING)
 }
 
 // Where the next state starts: source and group have so many octets.
@@ -102,10 +72,16 @@ fn is_without_state(nlri: &[u8], group: &[u8], states: &[u8]) -> bool
     requires { ⌜ FieldsWithin (now nlri) × StatesSized (length (now group)) (now states) ⌝ }
     ensures { λ r. ⌜ r ≡ withoutState (now (group .entry)) (now (states .entry)) (now (nlri .entry)) ⌝ }
 {
-    if !order::is_same(group_in(nlri), group) {
+    if !order::is_same(standing::group_in(nlri), group) {
         return false;
     }
-    !has_state(states, group.len(), source_in(nlri), ending_in(nlri), group)
+    !has_state(
+        states,
+        group.len(),
+        standing::source_in(nlri),
+        ending_in(nlri),
+        group,
+    )
 }
 
 // A Source Active route for the group, originated by the PE, to whose (C-S,C-G) no state corresponds.

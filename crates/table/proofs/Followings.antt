@@ -13,7 +13,6 @@ use Rattle.octets.specs.Octets.{part}
 use Rattle.octets.specs.Order.{same, before}
 use Rattle.octets.proofs.Choice.{opposite, pick-true, pick-false, tested}
 use Rattle.octets.proofs.Orders.{same-equal, same-swapped, before-itself, before-other, before-once}
-use Rattle.routes.specs.declared.Matched.{Matched}
 use Rattle.routes.specs.declared.Following.{Following}
 use Rattle.routes.specs.Route.{Route, nlriOf, staleOf, Increasing, last, next}
 use Rattle.routes.specs.Place.{markOctet, routeIn}
@@ -24,13 +23,16 @@ use Rattle.routes.specs.Next.{nextIn, nextOutcome, emptyNext, foundMark, follow
 use Rattle.routes.proofs.Definitions.Places.{mark-octet}
 use Rattle.routes.proofs.Definitions.Nexts.{next-here, next-later}
 use Rattle.routes.proofs.Statements.Images.{length-routes, sound-holdable}
-use Rattle.table.specs.Changing.{routeAt, rank, firstIs, firstFound, Leaves}
-use Rattle.table.specs.Scanning.{RouteFits}
-use Rattle.table.proofs.Sounds.{sound-mark}
-use Rattle.table.proofs.Ranks.{rank-more, rank-none}
-use Rattle.table.proofs.Finds.{routes-from-index}
-use Rattle.table.proofs.Taken.{taken-writable}
-use Rattle.table.proofs.BestRoutes.{table-taken}
+use Rattle.octets.specs.Outputs.{Leaves}
+use Rattle.places.specs.Readable.{routeAt}
+use Rattle.places.specs.Writing.{RouteFits, writtenRoute}
+use Rattle.places.specs.declared.output.RouteSizes.{RouteSizes}
+use Rattle.changes.specs.Changing.{rank, firstIs}
+use Rattle.table.specs.Following.{firstFound}
+use Rattle.places.proofs.Sounds.{sound-mark}
+use Rattle.changes.proofs.Ranks.{rank-more, rank-none}
+use Rattle.places.proofs.Indexes.{routes-from-index}
+use Rattle.places.proofs.Taken.{taken-writable, table-taken}
 
 -- the first of routes that all come after
 next-first : {n : List ℕ} {rs : List Route} → Increasing n rs → firstFound rs ≡ nextIn n rs
@@ -89,14 +91,13 @@ module _ (t : List ℕ) (i count : ℕ) (counted : count ≡ countIn t) where
     pub first-fits : soundOf t ≡ true → (output : List ℕ) → 124 ≤ length output → RouteFits place output
     first-fits sound output room = rw is (taken-writable (afiIn t) t (8 + 128 * i) (table-taken t sound i (omega arith)) output room)
 
-    pub first-told : soundOf t ≡ true → (output left : List ℕ) (told : Matched) → Leaves (matchedBy (given (found 0 (routeIn place))) output) told left
-        → Leaves (followingBy (given (firstFound (drop i (routesOf t)))) output)
-        (record { number = told .number; «nlri_size» = told .«nlri_size»; «attribute_size» = told .«attribute_size»; stale = getD place 127 0 }) left
-    unfolding firstFound routeAt onOutcome foundMark staleOf routeIn
-    first-told sound output left told l =
+    pub first-told : soundOf t ≡ true → (output left : List ℕ) (sizes : RouteSizes) → Leaves (writtenRoute (routeIn place) output) sizes left
+        → Leaves (followingBy (given (firstFound (drop i (routesOf t)))) output) (record { number = 0; «nlri_size» = sizes .nlri; «attribute_size» = sizes .attribute; stale = getD place 127 0 }) left
+    unfolding firstFound routeAt onOutcome matchedBy foundAnswer foundOutput foundMark staleOf routeIn writtenRoute
+    first-told sound output left sizes l =
         let first : firstFound (drop i (routesOf t)) ≡ found 0 (routeIn place) = ap firstFound (routes-from-index t i (omega arith)) ∙ ap (λ (x : List ℕ). found 0 (routeIn x)) (sym is) in
         let mark : getD place 127 0 ≡ markOctet (eqb (getD place 127 0) 1) = sym (mark-octet _ (rw is (sound-mark (afiIn t) _ (table-taken t sound i (omega arith) .sound)))) in
-        rw first (ap₂ (λ (m : Matched) (k : ℕ). record { number = m .number; «nlri_size» = m .«nlri_size»; «attribute_size» = m .«attribute_size»; stale = k }) (l .0) mark, l .1)
+        rw first (ap₂ (λ (s : RouteSizes) (k : ℕ). record { number = 0; «nlri_size» = s .nlri; «attribute_size» = s .attribute; stale = k }) (l .0) mark, l .1)
 
 -- what next answers
 module _ (t n output : List ℕ) (answer : Following) where

@@ -15,15 +15,16 @@ use Rattle.routes.specs.Route.{route, nlriOf, attributeOf, inserted}
 use Rattle.routes.specs.Arguments.{readRoute}
 use Rattle.routes.specs.Place.{placeOf}
 use Rattle.routes.specs.Table.{afiIn, countIn, placesIn, routesOf, imageOf, soundOf}
-use Rattle.routes.specs.Answers.{Changed, NEW, REPLACED, refusedInstall, doneInstall, installedOf}
+use Rattle.octets.specs.Outputs.{Changed, Leaves}
+use Rattle.routes.specs.Answers.{NEW, REPLACED, refusedInstall, doneInstall, installedOf}
 use Rattle.routes.specs.Calls.{entering, installOutcome, installOf}
 use Rattle.routes.proofs.Definitions.Bounds.{read-acceptable, sizes-of}
 use Rattle.routes.proofs.Statements.Images.{length-routes, sound-holdable, sound-image}
 use Rattle.routes.proofs.Definitions.Places.{length-place}
-use Rattle.table.specs.Changing.{rank, firstIs, replacedAt, addedAt, Leaves}
-use Rattle.table.proofs.Sounds.{route-fault-none}
-use Rattle.table.proofs.Finds.{held-by}
-use Rattle.table.proofs.Changes.{image-entered-held, entered-new}
+use Rattle.changes.specs.Changing.{rank, firstIs, replacedAt, addedAt}
+use Rattle.places.proofs.Sounds.{route-fault-none}
+use Rattle.changes.proofs.Finds.{held-by}
+use Rattle.changes.proofs.Changes.{image-entered-held, entered-new}
 
 -- an answer that is the one that a call is known to leave
 pub leaves-as : {A : Type 0} {due : Changed A} {r s : A} {u : List ℕ} → r ≡ s → Leaves due s u → Leaves due r u

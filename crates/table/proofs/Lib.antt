@@ -1,24 +1,6 @@
 -- Laws that the functions' proofs use.
-pub mod Neighbours
-pub mod Sounds
 pub mod Makes
-pub mod Moves
-pub mod Places
-pub mod Ranks
-pub mod Finds
-pub mod Gaps
-pub mod Changes
 pub mod Installs
 pub mod Withdraws
-pub mod Scans
-pub mod FieldStarts
-pub mod Tiers
-pub mod RouteWrites
-pub mod Taken
-pub mod BestRoutes
-pub mod FlowClasses
-pub mod Matches
-pub mod SharedMatches
-pub mod Explanations
 pub mod Followings
-pub mod Passes
+pub mod Renews

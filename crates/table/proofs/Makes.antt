@@ -19,7 +19,7 @@ use Rattle.nlri.proofs.Theorems.{lengths}
 use Rattle.routes.specs.Table.{headerOf, placesOf, imageOf, placesIn, tableSize}
 use Rattle.routes.specs.Calls.{makeOutcome, makeOf}
 use Rattle.routes.proofs.Definitions.Headers.{sound-size}
-use Rattle.table.proofs.Sounds.{header-room}
+use Rattle.places.proofs.Sounds.{header-room}
 
 -- memory of a table's size has room for the header, and still has it with every place free
 pub cleared-room : (memory : List ℕ) (flag : Bool) (x : List ℕ) → flag ≡ tableSize (length memory) → flag ≡ true → x ≡ take 8 memory ++ zeros (length memory - 8) → 8 ≤ length x

@@ -14,10 +14,11 @@ use Rattle.routes.specs.Arguments.{readSPmsi}
 use Rattle.routes.specs.Table.{afiIn, countIn, placesIn, routesOf, imageOf, soundOf}
 use Rattle.routes.specs.Calls.{leaving, withdrawOutcome, withdrawOf}
 use Rattle.routes.proofs.Statements.Images.{length-routes, sound-holdable, sound-image}
-use Rattle.table.specs.Changing.{rank, firstIs, takenAt, Leaves}
-use Rattle.table.proofs.Sounds.{s-pmsi-fault-none}
-use Rattle.table.proofs.Finds.{held-by}
-use Rattle.table.proofs.Changes.{image-left}
+use Rattle.octets.specs.Outputs.{Leaves}
+use Rattle.changes.specs.Changing.{rank, firstIs, takenAt}
+use Rattle.places.proofs.Sounds.{s-pmsi-fault-none}
+use Rattle.changes.proofs.Finds.{held-by}
+use Rattle.changes.proofs.Changes.{image-left}
 
 refuses : (t n : List ℕ) (m : ℕ) → withdrawOutcome t n ≡ refused m → Leaves (withdrawOf t n) m t
 unfolding withdrawOf onOutcome numberOf

@@ -1,6 +1,3 @@
 -- Definitions that mirror the inner functions; laws tie them to those of `routes`.
-pub mod Changing
-pub mod Scanning
-pub mod Passing
+pub mod Following
 pub mod Renewing
-pub mod Salvaging

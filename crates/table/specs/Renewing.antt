@@ -8,11 +8,12 @@ use lib.ListN.{length, getD, take, drop}
 use Rattle.octets.specs.Choice.{pick}
 use Rattle.octets.specs.Octets.{part, placed}
 use Rattle.octets.specs.Order.{same}
+use Rattle.nlri.specs.Standing.{standing}
 use Rattle.routes.specs.Place.{PLACE, MARK}
 use Rattle.routes.specs.Table.{placesOf, afiIn, routesOf}
 use Rattle.routes.specs.Restart.{RestartCall, marking, sweeping, renewed}
-use Rattle.table.specs.Changing.{remarked}
-use Rattle.table.specs.Scanning.{standing, nlriAt}
+use Rattle.changes.specs.Changing.{remarked}
+use Rattle.places.specs.Readable.{nlriAt}
 
 -- the route in the place from `at` on is one of the router's
 unfoldable pub ownAt : (router table : List ℕ) (at : ℕ) → Bool

@@ -6,14 +6,18 @@ ghost use lib.ListN.{length, drop};
 ghost use Rattle.octets.specs.Outcome.{given};
 ghost use Rattle.routes.specs.Table.{countIn, routesOf, soundOf};
 ghost use Rattle.routes.specs.Next.{nextIn, followingBy, nextOf};
-ghost use Rattle.table.specs.Changing.{firstFound, Leaves};
-use crate::answer;
-use crate::find;
-use crate::geometry::MARK;
-use crate::matching::LEAST_OUTPUT;
-use crate::sound;
+ghost use Rattle.octets.specs.Outputs.{Leaves};
+ghost use Rattle.table.specs.Following.{firstFound};
+use changes::find;
+use octets::number::DONE;
 use octets::number::SPACE;
 use octets::number::TABLE;
+use places::geometry::MARK;
+use places::header;
+use places::output;
+use places::output::LEAST_OUTPUT;
+use places::place;
+use places::sound;
 use routes::Following;
 
 // The index of the route that comes next: that where the NLRI belongs, or the one behind it where the NLRI stands.
@@ -28,7 +32,7 @@ fn index_after(table: &[u8], count: usize, nlri: &[u8]) -> usize
     index
 }
 
-// The route at an index, told as a match tells it, with its mark for the tier; none behind the last.
+// The route at an index, with its mark; none behind the last.
 fn tell_at(table: &[u8], index: usize, count: usize, output: &mut [u8]) -> Following
     requires { ⌜ (soundOf (now table) ≡ true) × (count ≡ countIn (now table)) × (124 ≤ length (now output)) ⌝ }
     ensures { λ r. ⌜ Leaves (followingBy (given (firstFound (drop index (routesOf (now (table .entry)))))) (now (output .entry))) r (now (output .exit)) ⌝ }
@@ -36,13 +40,13 @@ fn tell_at(table: &[u8], index: usize, count: usize, output: &mut [u8]) -> Follo
     if count <= index {
         return Following::none();
     }
-    let place = find::place_at(table, index);
+    let place = place::place_at(table, index);
     let stale = place[MARK] as u32;
-    let told = answer::write_route(0, place, output);
+    let sizes = output::write_route(place, output);
     Following {
-        number: told.number,
-        nlri_size: told.nlri_size,
-        attribute_size: told.attribute_size,
+        number: DONE,
+        nlri_size: sizes.nlri,
+        attribute_size: sizes.attribute,
         stale,
     }
 }
@@ -55,14 +59,13 @@ fn next_sound(table: &[u8], nlri: &[u8], output: &mut [u8]) -> Following
     if output.len() < LEAST_OUTPUT {
         return Following::refused(SPACE);
     }
-    let count = sound::count_of(table);
+    let count = header::count_of(table);
     tell_at(table, index_after(table, count, nlri), count, output)
 }
 
 // Finds the route that comes next after these octets, held or not, and writes it at the front of the output: TABLE, SPACE.
 pub fn next(table: &[u8], nlri: &[u8], output: &mut [u8]) -> Following
-    ensures { λ r. ⌜ r ≡ nextOf (now (table .entry)) (now (nlri .entry)) (now (output .entry)) .answer ⌝ }
-    ensures { λ r. ⌜ now (output .exit) ≡ nextOf (now (table .entry)) (now (nlri .entry)) (now (output .entry)) .octets ⌝ }
+    ensures { λ r. ⌜ Leaves (nextOf (now (table .entry)) (now (nlri .entry)) (now (output .entry))) r (now (output .exit)) ⌝ }
 {
     if !sound::is_sound(table) {
         return Following::refused(TABLE);

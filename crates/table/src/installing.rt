@@ -6,14 +6,16 @@ ghost use Rattle.octets.specs.Outcome.{numberOf};
 ghost use Rattle.routes.specs.Arguments.{readRoute};
 ghost use Rattle.routes.specs.Table.{afiIn, routesOf, soundOf};
 ghost use Rattle.routes.specs.Calls.{installOf};
-ghost use Rattle.table.specs.Changing.{rank, firstIs, Leaves};
-use crate::change;
-use crate::find;
-use crate::judge;
-use crate::sound;
+ghost use Rattle.octets.specs.Outputs.{Leaves};
+ghost use Rattle.changes.specs.Changing.{rank, firstIs};
+use changes::change;
+use changes::find;
 use octets::number::DONE;
 use octets::number::ROOM;
 use octets::number::TABLE;
+use places::header;
+use places::judge;
+use places::sound;
 use routes::Installed;
 
 // A route of an NLRI that is not held, entered at the index where it belongs.
@@ -24,8 +26,8 @@ fn enter_new(table: &mut [u8], index: usize, nlri: &[u8], attribute: &[u8]) -> I
     requires { ⌜ firstIs (now nlri) (drop index (routesOf (now table))) ≡ false ⌝ }
     ensures { λ r. ⌜ Leaves (installOf (now (table .entry)) (now (nlri .entry)) (now (attribute .entry))) r (now (table .exit)) ⌝ }
 {
-    let count = sound::count_of(table);
-    if sound::places_of(table) <= count {
+    let count = header::count_of(table);
+    if header::places_of(table) <= count {
         return Installed::refused(ROOM);
     }
     change::add(table, index, count, nlri, attribute);
@@ -38,7 +40,7 @@ fn enter(table: &mut [u8], nlri: &[u8], attribute: &[u8]) -> Installed
     requires { ⌜ numberOf (readRoute (afiIn (now table)) (now nlri) (now attribute)) ≡ 0 ⌝ }
     ensures { λ r. ⌜ Leaves (installOf (now (table .entry)) (now (nlri .entry)) (now (attribute .entry))) r (now (table .exit)) ⌝ }
 {
-    let count = sound::count_of(table);
+    let count = header::count_of(table);
     let index = find::position(table, count, nlri);
     if !find::stands_at(table, index, count, nlri) {
         return enter_new(table, index, nlri, attribute);
@@ -52,7 +54,7 @@ fn install_sound(table: &mut [u8], nlri: &[u8], attribute: &[u8]) -> Installed
     requires { ⌜ soundOf (now table) ≡ true ⌝ }
     ensures { λ r. ⌜ Leaves (installOf (now (table .entry)) (now (nlri .entry)) (now (attribute .entry))) r (now (table .exit)) ⌝ }
 {
-    let fault = judge::route_fault(sound::afi_of(table), nlri, attribute);
+    let fault = judge::route_fault(header::afi_of(table), nlri, attribute);
     if fault != DONE {
         return Installed::refused(fault);
     }
@@ -61,8 +63,7 @@ fn install_sound(table: &mut [u8], nlri: &[u8], attribute: &[u8]) -> Installed
 
 // Enters a route, or gives the route of its NLRI this attribute. A refusal leaves every octet as it was.
 pub fn install(table: &mut [u8], nlri: &[u8], attribute: &[u8]) -> Installed
-    ensures { λ r. ⌜ r ≡ installOf (now (table .entry)) (now (nlri .entry)) (now (attribute .entry)) .answer ⌝ }
-    ensures { λ _. ⌜ now (table .exit) ≡ installOf (now (table .entry)) (now (nlri .entry)) (now (attribute .entry)) .octets ⌝ }
+    ensures { λ r. ⌜ Leaves (installOf (now (table .entry)) (now (nlri .entry)) (now (attribute .entry))) r (now (table .exit)) ⌝ }
 {
     if !sound::is_sound(table) {
         return Installed::refused(TABLE);

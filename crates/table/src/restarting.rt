@@ -5,19 +5,19 @@ ghost use Prim.Native.Nat.{_≤_};
 ghost use Rattle.routes.specs.Table.{imageOf, afiIn, countIn, placesIn, routesOf, soundOf};
 ghost use Rattle.routes.specs.Restart.{renewed, goneOf};
 ghost use Rattle.routes.specs.Calls.{restartOf, markOf, sweepOf};
-ghost use Rattle.table.specs.Changing.{Leaves};
-ghost use Rattle.table.specs.Scanning.{Readable};
+ghost use Rattle.octets.specs.Outputs.{Leaves};
+ghost use Rattle.places.specs.Readable.{Readable};
 ghost use Rattle.table.specs.Renewing.{settledEnd, settled, Renewing, restartBy};
-use crate::change;
-use crate::geometry::HEADER;
-use crate::geometry::MARK;
-use crate::geometry::PLACE;
-use crate::scan;
-use crate::sound;
-use crate::tier;
+use changes::change;
 use octets::number::DONE;
 use octets::number::FLOW;
 use octets::number::TABLE;
+use places::geometry::HEADER;
+use places::geometry::MARK;
+use places::geometry::PLACE;
+use places::header;
+use places::place;
+use places::sound;
 use routes::Restarted;
 
 // The mark of a route that is stale.
@@ -30,7 +30,7 @@ fn settle(table: &mut [u8], at: usize, to: usize, router: &[u8], mark: u8) -> us
     ensures { λ r. ⌜ r ≡ settledEnd (now (router .entry)) (now (table .entry)) at to ⌝ }
     ensures { λ _. ⌜ now (table .exit) ≡ settled mark (now (router .entry)) (now (table .entry)) at to ⌝ }
 {
-    if !tier::is_of(scan::nlri_from(table, at), router) {
+    if !place::is_of(place::nlri_from(table, at), router) {
         change::keep(table, at, to);
         return to + PLACE;
     }
@@ -61,8 +61,8 @@ fn renew(table: &mut [u8], router: &[u8], mark: u8) -> usize
     ensures { λ r. ⌜ r ≡ goneOf (afiIn (now (table .entry))) (now (router .entry)) (routesOf (now (table .entry))) ⌝ }
     ensures { λ _. ⌜ now (table .exit) ≡ imageOf (afiIn (now (table .entry))) (placesIn (now (table .entry))) (renewed (afiIn (now (table .entry))) (restartBy mark) (now (router .entry)) (routesOf (now (table .entry)))) ⌝ }
 {
-    let afi = sound::afi_of(table);
-    let count = sound::count_of(table);
+    let afi = header::afi_of(table);
+    let count = header::count_of(table);
     let to = pass(table, count, router, mark);
     count - change::close_from(table, afi, to, count)
 }
@@ -92,16 +92,14 @@ fn restart(table: &mut [u8], router: &[u8], mark: u8) -> Restarted
 
 // Marks a router's routes stale; those already marked go. A refusal leaves every octet as it was.
 pub fn mark(table: &mut [u8], router: &[u8]) -> Restarted
-    ensures { λ r. ⌜ r ≡ markOf (now (table .entry)) (now (router .entry)) .answer ⌝ }
-    ensures { λ _. ⌜ now (table .exit) ≡ markOf (now (table .entry)) (now (router .entry)) .octets ⌝ }
+    ensures { λ r. ⌜ Leaves (markOf (now (table .entry)) (now (router .entry))) r (now (table .exit)) ⌝ }
 {
     restart(table, router, STALE)
 }
 
 // Takes out what is still marked of a router's routes. A refusal leaves every octet as it was.
 pub fn sweep(table: &mut [u8], router: &[u8]) -> Restarted
-    ensures { λ r. ⌜ r ≡ sweepOf (now (table .entry)) (now (router .entry)) .answer ⌝ }
-    ensures { λ _. ⌜ now (table .exit) ≡ sweepOf (now (table .entry)) (now (router .entry)) .octets ⌝ }
+    ensures { λ r. ⌜ Leaves (sweepOf (now (table .entry)) (now (router .entry))) r (now (table .exit)) ⌝ }
 {
     restart(table, router, 0)
 }

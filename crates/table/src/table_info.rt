@@ -1,9 +1,10 @@
 // What a table says of itself.
 ghost use mathlib.Core.Path.{_≡_};
 ghost use Rattle.routes.specs.Info.{infoOf};
-use crate::sound;
 use octets::number::DONE;
 use octets::number::TABLE;
+use places::header;
+use places::sound;
 use routes::TableInfo;
 
 // The family, the places that the memory has, and how many routes are in them: TABLE.
@@ -15,8 +16,8 @@ pub fn info(table: &[u8]) -> TableInfo
     }
     TableInfo {
         number: DONE,
-        afi: sound::afi_of(table) as u32,
-        places: sound::places_of(table) as u32,
-        routes: sound::count_of(table) as u32,
+        afi: header::afi_of(table) as u32,
+        places: header::places_of(table) as u32,
+        routes: header::count_of(table) as u32,
     }
 }

@@ -5,14 +5,15 @@ ghost use Rattle.octets.specs.Outcome.{numberOf};
 ghost use Rattle.routes.specs.Arguments.{readSPmsi};
 ghost use Rattle.routes.specs.Table.{afiIn, soundOf};
 ghost use Rattle.routes.specs.Calls.{withdrawOf};
-ghost use Rattle.table.specs.Changing.{Leaves};
-use crate::change;
-use crate::find;
-use crate::judge;
-use crate::sound;
+ghost use Rattle.octets.specs.Outputs.{Leaves};
+use changes::change;
+use changes::find;
 use octets::number::ABSENT;
 use octets::number::DONE;
 use octets::number::TABLE;
+use places::header;
+use places::judge;
+use places::sound;
 
 // A well-formed S-PMSI NLRI, taken out where it stands.
 fn leave(table: &mut [u8], nlri: &[u8]) -> u32
@@ -20,7 +21,7 @@ fn leave(table: &mut [u8], nlri: &[u8]) -> u32
     requires { ⌜ numberOf (readSPmsi (afiIn (now table)) (now nlri)) ≡ 0 ⌝ }
     ensures { λ r. ⌜ Leaves (withdrawOf (now (table .entry)) (now (nlri .entry))) r (now (table .exit)) ⌝ }
 {
-    let count = sound::count_of(table);
+    let count = header::count_of(table);
     let index = find::position(table, count, nlri);
     if !find::stands_at(table, index, count, nlri) {
         return ABSENT;
@@ -34,7 +35,7 @@ fn withdraw_sound(table: &mut [u8], nlri: &[u8]) -> u32
     requires { ⌜ soundOf (now table) ≡ true ⌝ }
     ensures { λ r. ⌜ Leaves (withdrawOf (now (table .entry)) (now (nlri .entry))) r (now (table .exit)) ⌝ }
 {
-    let fault = judge::s_pmsi_fault(sound::afi_of(table), nlri);
+    let fault = judge::s_pmsi_fault(header::afi_of(table), nlri);
     if fault != DONE {
         return fault;
     }
@@ -43,8 +44,7 @@ fn withdraw_sound(table: &mut [u8], nlri: &[u8]) -> u32
 
 // Takes the route of an NLRI out. A refusal leaves every octet as it was.
 pub fn withdraw(table: &mut [u8], nlri: &[u8]) -> u32
-    ensures { λ r. ⌜ r ≡ withdrawOf (now (table .entry)) (now (nlri .entry)) .answer ⌝ }
-    ensures { λ _. ⌜ now (table .exit) ≡ withdrawOf (now (table .entry)) (now (nlri .entry)) .octets ⌝ }
+    ensures { λ r. ⌜ Leaves (withdrawOf (now (table .entry)) (now (nlri .entry))) r (now (table .exit)) ⌝ }
 {
     if !sound::is_sound(table) {
         return TABLE;

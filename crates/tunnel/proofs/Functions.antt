@@ -1,5 +1,4 @@
 -- Laws by which the functions' proofs use the definitions.
-pub mod Copies
 pub mod Rows
 pub mod Answers
 pub mod Writes

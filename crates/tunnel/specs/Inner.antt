@@ -1,9 +1,8 @@
 -- These definitions mirror inner functions of src/, and no public contract cites them; laws tie them to document 01's definitions.
-use Prim.Native.Nat.{ℕ, _+_, _-_, _≤_}
+use Prim.Native.Nat.{ℕ}
 use mathlib.Core.Path.{_≡_}
 use mathlib.Core.Bool.{Bool, true, false}
 use mathlib.Core.List.{List, [], _∷_}
-use lib.ListN.{length}
 use Rattle.octets.specs.Outcome.{onOutcome, numberOf}
 use Rattle.tunnel.specs.Identifier.{sizes, onForm, formOf, oneOf, judged, readIdentifier}
 
@@ -22,7 +21,3 @@ typeSuits t fecType = onOutcome (λ _. false) (onForm (λ _. false) (oneOf fecTy
 -- a tunnel type whose identifiers have one of two sizes
 abbrev pub TakesSizes : (t first second : ℕ) → Type 0
 TakesSizes t first second = (i : List ℕ) → numberOf (readIdentifier t i) ≡ numberOf (judged (sizes (first ∷ second ∷ [])) i)
-
--- `size` octets of s from `from` on, and room for them in d from `at` on
-abbrev pub CopyWithin : (s : List ℕ) (from size : ℕ) (d : List ℕ) (at : ℕ) → Type 0
-CopyWithin s from size d at = (from + size ≤ length s) × (at + size ≤ length d)

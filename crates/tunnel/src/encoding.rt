@@ -32,7 +32,7 @@ pub(crate) fn put(
     ensures { λ r. ⌜ Wrote (given (encodeAttribute (argumentFields flags «tunnel_type» «label_field» (now (identifier .entry))))) (now (output .entry)) r (now (output .exit)) ⌝ }
 {
     let next = put_header(flags, tunnel_type, label_field, output);
-    crate::blocks::place(identifier, output, next);
+    octets::blocks::place(identifier, output, next);
     Written {
         number: number::DONE,
         size: next + identifier.len(),

@@ -9,7 +9,6 @@ use octets::Span;
 use octets::Written;
 use octets::number;
 
-mod blocks;
 mod encoding;
 pub mod fec;
 mod fields;

@@ -213,15 +213,23 @@ unfolding fecAt layoutOf part
 fec-begin bits s laid e =
     tested (withFec (laid .type)) (λ yes. ap (λ (n : ℕ). part s n (layoutOf laid .fec)) (pick-true _ _ 0 yes)) (λ no. rw (lacked bits s laid e fec (has-fec bits s laid e ∙ no)) refl)
 
--- it stands where its span says
-pub fec-spanned : (afi : ℕ) (s : List ℕ) (f : Fields) → readNlri afi s ≡ given f → part s (fecSpan f .start) (fecSpan f .size) ≡ f .fec
-unfolding readNlri fieldsAt fecAt layoutOf part
-fec-spanned afi s f e =
+-- a field of a single NLRI stands where its span says, if it does so by the layout
+spanned : (span : Fields → Span) (field : Fields → List ℕ)
+    → ((bits : ℕ) (s : List ℕ) (laid : Laid) → laidAt bits s ≡ given laid → LayoutWithin (layoutOf laid) s
+    → part s (span (fieldsAt (layoutOf laid) s) .start) (span (fieldsAt (layoutOf laid) s) .size) ≡ field (fieldsAt (layoutOf laid) s))
+    → (afi : ℕ) (s : List ℕ) (f : Fields) → readNlri afi s ≡ given f → part s (span f .start) (span f .size) ≡ field f
+unfolding readNlri
+spanned span field stands afi s f e =
     let p = passed _ _ _ e in
     let q = passed _ _ _ (p .second) in
     let shape = shaped (p .value) s (q .value) (family-octets afi (p .value) (p .first) .1) (q .first) in
-    subst (λ (g : Fields). part s (fecSpan g .start) (fecSpan g .size) ≡ g .fec) (sym (shape .fields) ∙ given-same (q .second))
-    (ap (λ (k : Span). part s (k .start) (k .size)) (sym (fec-same (layoutOf (q .value)) s (shape .within))) ∙ fec-begin (p .value) s (q .value) (single-laid-out (p .value) s (q .value) (q .first) .front))
+    subst (λ (g : Fields). part s (span g .start) (span g .size) ≡ field g) (sym (shape .fields) ∙ given-same (q .second))
+    (stands (p .value) s (q .value) (single-laid-out (p .value) s (q .value) (q .first) .front) (shape .within))
+
+pub fec-spanned : (afi : ℕ) (s : List ℕ) (f : Fields) → readNlri afi s ≡ given f → part s (fecSpan f .start) (fecSpan f .size) ≡ f .fec
+unfolding fieldsAt fecAt layoutOf part
+fec-spanned =
+    spanned fecSpan (λ (g : Fields). g .fec) (λ bits s laid e w. ap (λ (k : Span). part s (k .start) (k .size)) (sym (fec-same (layoutOf laid) s w)) ∙ fec-begin bits s laid e)
 
 -- a key stands where its span says; where there is none, any start will do
 key-start : (bits : ℕ) (s : List ℕ) (laid : Laid) → laidAt bits s ≡ given laid → part s (keyAt (layoutOf laid) .start) (layoutOf laid .key) ≡ part s 2 (layoutOf laid .key)
@@ -230,13 +238,9 @@ key-start bits s laid e =
     tested (withKey (laid .type)) (λ yes. ap (λ (n : ℕ). part s n (layoutOf laid .key)) (pick-true _ 2 0 yes)) (λ no. rw (other-sizes bits s laid e no .unkeyed) refl)
 
 pub key-spanned : (afi : ℕ) (s : List ℕ) (f : Fields) → readNlri afi s ≡ given f → part s (keySpan f .start) (keySpan f .size) ≡ f .key
-unfolding readNlri fieldsAt keyAt layoutOf part
-key-spanned afi s f e =
-    let p = passed _ _ _ e in
-    let q = passed _ _ _ (p .second) in
-    let shape = shaped (p .value) s (q .value) (family-octets afi (p .value) (p .first) .1) (q .first) in
-    subst (λ (g : Fields). part s (keySpan g .start) (keySpan g .size) ≡ g .key) (sym (shape .fields) ∙ given-same (q .second))
-    (ap (λ (k : Span). part s (k .start) (k .size)) (sym (key-same (layoutOf (q .value)) s (shape .within))) ∙ key-start (p .value) s (q .value) (single-laid-out (p .value) s (q .value) (q .first) .front))
+unfolding fieldsAt keyAt layoutOf part
+key-spanned =
+    spanned keySpan (λ (g : Fields). g .key) (λ bits s laid e w. ap (λ (k : Span). part s (k .start) (k .size)) (sym (key-same (layoutOf laid) s w)) ∙ key-start bits s laid e)
 
 pub answer-given : (afi : ℕ) (s : List ℕ) (f : Fields) (nlri : Nlri) (key fec : Span) → readNlri afi s ≡ given f → nlri ≡ nlriStruct f → key ≡ keySpan f → fec ≡ fecSpan f
     → record { number = DONE; nlri = nlri; key = key; fec = fec } ≡ nlriAnswer (readNlri afi s)

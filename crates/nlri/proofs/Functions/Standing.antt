@@ -145,6 +145,10 @@ pub source-active-layout : (s : List ℕ) → getD s 0 0 ≡ 5 → layoutIn s �
 unfolding layoutIn sourceStart either pick
 source-active-layout s t = rw t
 
+pub s-pmsi-stands : (s : List ℕ) → getD s 0 0 ≡ 3 → Stands s → FlowStands 10 s
+unfolding sourceStart either pick
+s-pmsi-stands s t b = rw t at (b .flow (λ q. omega arith) (λ q. omega arith) (λ q. omega arith) (omega arith))
+
 pub source-active-stands : (s : List ℕ) → getD s 0 0 ≡ 5 → Stands s → FlowStands 10 s
 unfolding sourceStart either pick
 source-active-stands s t b = rw t at (b .flow (λ q. omega arith) (λ q. omega arith) (λ q. omega arith) (omega arith))

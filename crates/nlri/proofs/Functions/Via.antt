@@ -11,8 +11,8 @@ use Rattle.nlri.specs.declared.layout.Reading.the-variants.{Nlri, Refuse
 use Rattle.nlri.specs.declared.address.AddressKind.{AddressKind}
 use Rattle.nlri.specs.declared.family.Family.{Family}
 use Rattle.nlri.specs.declared.family.Family.the-variants.{Known, Unknown}
-use Rattle.nlri.specs.declared.read.Header.{Header}
-use Rattle.nlri.specs.declared.read.Header.the-variants.{Typed, Unread}
+use Rattle.nlri.specs.declared.header.Header.{Header}
+use Rattle.nlri.specs.declared.header.Header.the-variants.{Typed, Unread}
 use Rattle.nlri.specs.declared.group.Group.{Group}
 use Rattle.nlri.specs.Family.{familyOutcome}
 use Rattle.nlri.specs.Groups.{groupOf}

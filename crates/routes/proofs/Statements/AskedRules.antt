@@ -16,7 +16,8 @@ use Rattle.routes.specs.Query.{Query}
 use Rattle.routes.specs.Asked.{Asked, ofFlow, ofSharedTree, askedRouter, readAsked}
 use Rattle.routes.specs.Table.{afiIn, routesOf, soundOf}
 use Rattle.routes.specs.Matching.{matchIn}
-use Rattle.routes.specs.Answers.{Changed, matchedBy}
+use Rattle.octets.specs.Outputs.{Changed}
+use Rattle.routes.specs.Answers.{matchedBy}
 use Rattle.routes.specs.Calls.{matchOf}
 use Rattle.routes.specs.Rules.ArgumentRules.{RouterSized}
 use Rattle.routes.specs.Rules.MatchRule.{bothEqual, sourceEqual, groupEqual, bothWildcard, Untold, MatchAnswer}

@@ -25,7 +25,8 @@ use Rattle.routes.specs.Asked.{Asked, askedRouter, readAsked}
 use Rattle.routes.specs.Table.{afiIn, placesIn, routesOf, soundOf}
 use Rattle.routes.specs.Matching.{Found, found, matchIn}
 use Rattle.routes.specs.Restart.{RestartCall}
-use Rattle.routes.specs.Answers.{Changed, foundAnswer, foundOutput, matchedBy}
+use Rattle.octets.specs.Outputs.{Changed}
+use Rattle.routes.specs.Answers.{foundAnswer, foundOutput, matchedBy}
 use Rattle.routes.specs.Calls.{makeOf, installOf, withdrawOf, restartOf, matchOf}
 use Rattle.routes.specs.Rules.ArgumentRules.{SPmsiOf}
 use Rattle.routes.specs.Rules.Images.{TableOf}

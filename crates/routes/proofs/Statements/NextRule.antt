@@ -18,7 +18,8 @@ use Rattle.routes.specs.Route.{Route, entry, nlriOf, attributeOf, staleO
 use Rattle.routes.specs.Place.{markOctet}
 use Rattle.routes.specs.Table.{afiIn, routesOf, soundOf}
 use Rattle.routes.specs.Matching.{Found, nothing, found}
-use Rattle.routes.specs.Answers.{Changed, foundAnswer, foundOutput, matchedBy}
+use Rattle.octets.specs.Outputs.{Changed}
+use Rattle.routes.specs.Answers.{foundAnswer, foundOutput, matchedBy}
 use Rattle.routes.specs.Next.{nextIn, nextOutcome, foundMark, followingBy, nextOf}
 use Rattle.routes.specs.Rules.MatchRule.{Untold}
 use Rattle.routes.specs.Rules.NextRule.{ComesNext, NoneNext, asMatched, Tells, NextRefusal, nextUnsound, nextSpace, NextRule, toldRoute}

@@ -22,7 +22,8 @@ use Rattle.routes.specs.SharedTree.{SharedTree}
 use Rattle.routes.specs.Asked.{Asked, ofFlow, ofSharedTree, askedRouter, readAsked}
 use Rattle.routes.specs.Table.{afiIn, routesOf}
 use Rattle.routes.specs.Matching.{Found, nothing, found, matchIn}
-use Rattle.routes.specs.Answers.{Changed, foundAnswer, matchedBy}
+use Rattle.octets.specs.Outputs.{Changed}
+use Rattle.routes.specs.Answers.{foundAnswer, matchedBy}
 use Rattle.routes.specs.Calls.{matchOf}
 use Rattle.routes.specs.Rules.ArgumentRules.{FamilySized, SPmsiOf, GoodFlow}
 use Rattle.routes.specs.Rules.MatchRule.{InTier, bothEqual, sourceEqual, groupEqual, bothWildcard, Eligible, MatchAnswer, oneTold, noneTold}

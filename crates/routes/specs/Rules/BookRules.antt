@@ -14,7 +14,7 @@ use Rattle.routes.specs.Query.{Flow}
 use Rattle.routes.specs.SharedTree.{SharedTree}
 use Rattle.routes.specs.Asked.{ofFlow, ofSharedTree}
 use Rattle.routes.specs.Restart.{RestartCall, marking, sweeping}
-use Rattle.routes.specs.Answers.{Changed}
+use Rattle.octets.specs.Outputs.{Changed}
 use Rattle.routes.specs.Call.{Call, install, withdraw, restart, match, Answer, installed, withdrawn, restarted, matched, nobody, owner, ownerOf}
 use Rattle.routes.specs.Book.{ownCalls, bookOf, allBooks, dueAnswer}
 use Rattle.routes.specs.Run.{imageOfBooks, counted}

@@ -18,7 +18,7 @@ use Rattle.routes.specs.Query.{flowOf}
 use Rattle.routes.specs.Asked.{Asked, ofFlow, ofSharedTree, askedRouter}
 use Rattle.routes.specs.Table.{afiIn, routesOf, soundOf}
 use Rattle.routes.specs.Restart.{RestartCall}
-use Rattle.routes.specs.Answers.{Changed}
+use Rattle.octets.specs.Outputs.{Changed}
 use Rattle.routes.specs.Calls.{makeOf, installOf, withdrawOf, restartOf, markOf, sweepOf, matchOf}
 use Rattle.routes.specs.Rules.MatchRule.{InTier, NamesTunnel, Taken, Told}
 use Rattle.routes.specs.Rules.SharedTreeRule.{InSharedTier}

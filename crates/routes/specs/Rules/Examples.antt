@@ -15,7 +15,7 @@ use Rattle.routes.specs.Route.{Route, route, nlriOf, attributeOf}
 use Rattle.routes.specs.Query.{Flow, flowOf}
 use Rattle.routes.specs.Asked.{ofFlow}
 use Rattle.routes.specs.Table.{imageOf}
-use Rattle.routes.specs.Answers.{Changed}
+use Rattle.octets.specs.Outputs.{Changed}
 use Rattle.routes.specs.Calls.{makeOf, installOf, matchOf}
 
 -- a case: the class of a group, or the reading of a single NLRI, under an AFI; a match, or an install, on a table

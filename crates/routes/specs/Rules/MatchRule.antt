@@ -21,7 +21,7 @@ use Rattle.routes.specs.Arguments.{readFlow}
 use Rattle.routes.specs.Asked.{Asked, ofFlow}
 use Rattle.routes.specs.Table.{afiIn, routesOf, soundOf}
 use Rattle.routes.specs.Matching.{nothing, found, matchIn}
-use Rattle.routes.specs.Answers.{Changed}
+use Rattle.octets.specs.Outputs.{Changed}
 use Rattle.routes.specs.Calls.{matchOf}
 use Rattle.routes.specs.Rules.ArgumentRules.{SPmsiOf, GoodFlow, FlowRefusal}
 

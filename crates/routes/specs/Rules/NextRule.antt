@@ -15,7 +15,7 @@ use Rattle.routes.specs.declared.Matched.{Matched}
 use Rattle.routes.specs.declared.Following.{Following}
 use Rattle.routes.specs.Route.{Route, entry, nlriOf, staleOf, Increasing}
 use Rattle.routes.specs.Table.{routesOf, soundOf}
-use Rattle.routes.specs.Answers.{Changed}
+use Rattle.octets.specs.Outputs.{Changed}
 use Rattle.routes.specs.Next.{nextOf}
 use Rattle.routes.specs.Rules.MatchRule.{Told, Untold}
 

@@ -13,7 +13,7 @@ use Rattle.routes.specs.Route.{Route}
 use Rattle.routes.specs.Query.{Flow}
 use Rattle.routes.specs.Asked.{ofFlow}
 use Rattle.routes.specs.Table.{afiIn, routesOf}
-use Rattle.routes.specs.Answers.{Changed}
+use Rattle.octets.specs.Outputs.{Changed}
 use Rattle.routes.specs.Calls.{matchOf}
 use Rattle.routes.specs.Reasons.{explainOf}
 use Rattle.routes.specs.Rules.MatchRule.{InTier, Eligible, Taken, Told, TablesDifferInMarks}

@@ -18,7 +18,8 @@ use Rattle.routes.specs.Asked.{Asked, ofFlow, ofSharedTree, askedRouter,
 use Rattle.routes.specs.Place.{AllAcceptable}
 use Rattle.routes.specs.Table.{afiIn, routesOf, soundOf}
 use Rattle.routes.specs.Matching.{matchIn}
-use Rattle.routes.specs.Answers.{Changed, matchedBy}
+use Rattle.octets.specs.Outputs.{Changed}
+use Rattle.routes.specs.Answers.{matchedBy}
 use Rattle.routes.specs.Calls.{matchOf}
 use Rattle.routes.specs.Rules.ArgumentRules.{SPmsi}
 use Rattle.routes.specs.Rules.MatchRule.{Eligible, MatchAnswer}

@@ -22,4 +22,4 @@ flow-fault-spec =
     (search needs)
     (λ c. omega (arith, c .before .before .shared-slice-known2 .given (c .before .before .before .before .before .args .at)))
     (λ c κs. omega (arith, c .before .before .shared-slice-known2 .given (c .before .before .before .before .before .args .at)))
-    (λ c. c .group-fault .ensures ∙ left-allowed _ _ source (λ y. refl) _ _ _ (search needs) (flag-on _ _ (c .before .before .is-allowed .ensures) (c .before .if2 .left))))
+    (λ c. c .group-field-fault .ensures ∙ left-allowed _ _ source (λ y. refl) _ _ _ (search needs) (flag-on _ _ (c .before .before .is-allowed .ensures) (c .before .if2 .left))))

@@ -1,7 +1,7 @@
 -- `shared_trees::eligible::ending_in` meets its contract.
 use native.Mathlib.Omega.{arith}
 use borrow.Author.Needs.{needs}
-use Rattle.shared_trees.specs.Told.{groupEnd}
+use Rattle.nlri.specs.Standing.{groupEnd}
 use Rattle.shared_trees.proofs.States.{ending-stands}
 use Rattle.shared_trees.proofs.eligible.ending_in.Statement.{statement}
 use Rattle.shared_trees.proofs.eligible.ending_in.Tie as tie

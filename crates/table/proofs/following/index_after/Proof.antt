@@ -2,7 +2,7 @@
 use mathlib.Core.Path.{sym, _∙_}
 use native.Mathlib.Omega.{arith}
 use borrow.Author.Needs.{needs}
-use Rattle.table.proofs.Finds.{held-within}
+use Rattle.changes.proofs.Finds.{held-within}
 use Rattle.table.proofs.Followings.{stands-next, belongs-next}
 use Rattle.table.proofs.following.index_after.Statement.{statement}
 use Rattle.table.proofs.following.index_after.Tie as tie

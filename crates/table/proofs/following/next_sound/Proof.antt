@@ -1,6 +1,6 @@
 -- `table::following::next_sound` meets its contract.
 use borrow.Author.Needs.{needs}
-use Rattle.table.proofs.Finds.{header-within}
+use Rattle.places.proofs.Indexes.{header-within}
 use Rattle.table.proofs.Followings.{next-space, next-told}
 use Rattle.table.proofs.following.next_sound.Statement.{statement}
 use Rattle.table.proofs.following.next_sound.Tie as tie

@@ -3,7 +3,7 @@ use mathlib.Core.Path.{ap, _∙_}
 use native.Mathlib.Omega.{arith}
 use lib.ListN.{length}
 use Rattle.octets.proofs.Lists.{length-part}
-use Rattle.table.proofs.Finds.{place-within}
+use Rattle.places.proofs.Indexes.{place-within}
 use Rattle.table.proofs.Followings.{first-none, first-fits, first-told}
 use borrow.Author.Needs.{needs}
 use Rattle.table.proofs.following.tell_at.Statement.{statement}

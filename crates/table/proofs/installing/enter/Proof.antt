@@ -3,7 +3,8 @@ use mathlib.Core.Path.{sym, _∙_}
 use denote.Ref.{now}
 use Rattle.octets.proofs.AllOctets.{octets-of}
 use Rattle.routes.specs.Table.{afiIn}
-use Rattle.table.proofs.Finds.{header-within, place-within, held-within}
+use Rattle.places.proofs.Indexes.{header-within, place-within}
+use Rattle.changes.proofs.Finds.{held-within}
 use Rattle.table.proofs.Installs.{leaves-as, route-fits, install-replaces}
 use borrow.Author.Needs.{needs}
 use borrow.Author.Tests.{not-true, not-false}

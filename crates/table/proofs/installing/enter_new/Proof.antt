@@ -8,9 +8,9 @@ use Rattle.routes.specs.Route.{route}
 use Rattle.routes.specs.Place.{placeOf}
 use Rattle.routes.specs.Table.{afiIn, routesOf}
 use Rattle.routes.proofs.Statements.Images.{length-routes}
-use Rattle.table.specs.Changing.{addedAt}
-use Rattle.table.proofs.Ranks.{rank-most}
-use Rattle.table.proofs.Finds.{header-within, places-within}
+use Rattle.changes.specs.Changing.{addedAt}
+use Rattle.changes.proofs.Ranks.{rank-most}
+use Rattle.places.proofs.Indexes.{header-within, places-within}
 use Rattle.table.proofs.Installs.{leaves-as, route-fits, install-full, install-adds}
 use borrow.Author.Needs.{needs}
 use Rattle.table.proofs.installing.enter_new.Statement.{statement}

@@ -1,7 +1,7 @@
 -- `table::making::make` meets its contract.
 use denote.Ref.{now}
 use Rattle.table.proofs.Makes.{cleared-room, afi-octet, no-family, no-table, table-made}
-use Rattle.table.proofs.Sounds.{header-room}
+use Rattle.places.proofs.Sounds.{header-room}
 use borrow.Author.Needs.{needs}
 use borrow.Author.Tests.{not-true, not-false}
 use Rattle.table.proofs.making.make.Statement.{statement}

@@ -1,8 +1,8 @@
 -- `table::restarting::renew` meets its contract.
 use denote.Ref.{now}
 use Rattle.octets.proofs.AllOctets.{octets-of}
-use Rattle.table.proofs.Finds.{header-within}
-use Rattle.table.proofs.Passes.Renews.{turn-close, turned}
+use Rattle.places.proofs.Indexes.{header-within}
+use Rattle.table.proofs.Renews.{turn-close, turned}
 use borrow.Author.Needs.{needs}
 use Rattle.table.proofs.restarting.renew.Statement.{statement}
 use Rattle.table.proofs.restarting.renew.Tie as tie

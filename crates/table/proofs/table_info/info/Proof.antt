@@ -12,7 +12,7 @@ use Rattle.routes.specs.declared.TableInfo.{TableInfo}
 use Rattle.routes.specs.Table.{afiIn, countIn, placesIn, soundOf}
 use Rattle.routes.specs.Info.{emptyInfo, infoOf}
 use Rattle.routes.proofs.Statements.Images.{sound, length-routes}
-use Rattle.table.proofs.Finds.{header-within}
+use Rattle.places.proofs.Indexes.{header-within}
 use Rattle.table.proofs.table_info.info.Statement.{statement}
 use Rattle.table.proofs.table_info.info.Tie as tie
 

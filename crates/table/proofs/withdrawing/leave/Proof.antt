@@ -5,8 +5,9 @@ use native.Mathlib.Omega.{arith}
 use denote.Ref.{now}
 use Rattle.octets.proofs.AllOctets.{octets-of}
 use Rattle.routes.proofs.Statements.Images.{sound}
-use Rattle.table.specs.Changing.{takenAt}
-use Rattle.table.proofs.Finds.{header-within, places-within, held-within}
+use Rattle.changes.specs.Changing.{takenAt}
+use Rattle.places.proofs.Indexes.{header-within, places-within}
+use Rattle.changes.proofs.Finds.{held-within}
 use Rattle.table.proofs.Withdraws.{withdraw-absent, withdraw-takes}
 use borrow.Author.Needs.{needs}
 use borrow.Author.Tests.{not-true, not-false}

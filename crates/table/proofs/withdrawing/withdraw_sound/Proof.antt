@@ -4,7 +4,7 @@ use mathlib.Core.Path.{sym, ap, _∙_}
 use denote.Ref.{now}
 use Rattle.octets.specs.Outcome.{numberOf}
 use Rattle.routes.specs.Arguments.{readSPmsi}
-use Rattle.table.proofs.Finds.{header-within}
+use Rattle.places.proofs.Indexes.{header-within}
 use Rattle.table.proofs.Withdraws.{withdraw-faulty}
 use borrow.Author.Needs.{needs}
 use Rattle.table.proofs.withdrawing.withdraw_sound.Statement.{statement}

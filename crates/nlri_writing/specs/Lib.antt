@@ -1,0 +1,3 @@
+-- What the inner functions of writing an NLRI cite.
+pub mod Inner
+pub mod InnerMldp
