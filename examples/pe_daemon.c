@@ -1,9 +1,9 @@
 /*
- * A provider edge router's use of mvpn.h. It reads BGP UPDATE messages, keeps the S-PMSI A-D and Source Active A-D routes of
- * one VRF in them, also while the session is down by which they come (RFC 4724), and tells which route and which tunnel a
- * customer flow (C-S,C-G) or a shared tree (C-*,C-G) takes, and of a flow also why. It follows the flows while messages come, and
- * after each change of its tables asks only those again whose answer may be another. At the end it lists its tables, and, where
- * it is told to, keeps them in files.
+ * A provider edge router's use of mvpn.h. It reads BGP UPDATE messages, keeps the S-PMSI A-D, Source Active A-D and Leaf A-D
+ * routes of one VRF in them, also while the session is down by which they come (RFC 4724), and tells which route and which tunnel
+ * a customer flow (C-S,C-G) or a shared tree (C-*,C-G) takes, of a flow also why, and of a BIER tunnel which egress routers must
+ * get its packets. It follows the flows while messages come, and after each change of its tables asks only those again whose
+ * answer may be another. At the end it lists its tables, and, where it is told to, keeps them in files.
  *
  *     pe_daemon [--pieces OCTETS] [--ssm ADDRESS/LENGTH]... [--table FAMILY FILE]... FILE [REQUEST]...
  *
@@ -44,6 +44,7 @@ typedef struct {
     const char *table_file;  /* where it is kept; NULL where it is not */
     group_prefixes prefixes; /* its SSM ranges; where there are none, the standard range decides */
     source_actives sources;
+    leaf_routes leaves;
     customer_states states;
 } customer_family;
 
@@ -78,7 +79,7 @@ typedef struct {
     customer_family families[2];            /* of AFI 1 and AFI 2 */
     size_t piece_size;                      /* the octets of a run that are handed over at once */
     size_t messages, dropped, damaged_runs; /* a run is the NLRIs of one attribute */
-    changes routes, sources;                /* of S-PMSI A-D and Source Active A-D routes */
+    changes routes, sources, leaves;        /* of S-PMSI A-D, Source Active A-D and Leaf A-D routes */
     followed_flows flows;
     size_t other, skipped;                  /* NLRIs of other route types; those that the library steps over */
 } customer_vrf;
@@ -317,6 +318,53 @@ static void forget_source(customer_vrf *vrf, uint16_t afi, octets nlri)
     printf("%s", forgotten ? "withdrawn" : "not withdrawn, it was not kept");
 }
 
+/* ---- Leaf A-D routes: an egress router sends one for the route that is its key (RFC 8556, section 3) */
+
+/* One that is not kept is no longer offered in a form that we can use, so what was kept of it goes. */
+static void refuse_leaf(customer_vrf *vrf, uint16_t afi, octets nlri, octets tunnel)
+{
+    bool is_gone = forget_leaf(&family_of(vrf, afi)->leaves, nlri);
+    vrf->leaves.refused++;
+    vrf->leaves.withdrawn += is_gone;
+    printf("%s", is_gone ? "; treated as withdrawn" : "");
+    print_refused("NLRI", nlri);
+    if (tunnel.at)
+        print_refused("attribute", tunnel);
+}
+
+/* What is lent to the library must be good in every Leaf, so what it would refuse is not kept. */
+static void keep_leaf_route(customer_vrf *vrf, uint16_t afi, octets nlri, octets tunnel)
+{
+    mvpn_attribute_reading reading = mvpn_attribute_read(tunnel.at, tunnel.size);
+    if (reading.number != MVPN_DONE) {
+        printf("not kept, ");
+        if (tunnel.at)
+            print_number(reading.number);
+        else
+            printf("no PMSI Tunnel attribute");
+        refuse_leaf(vrf, afi, nlri, tunnel);
+        return;
+    }
+    keeping kept = keep_leaf(&family_of(vrf, afi)->leaves, nlri, tunnel);
+    if (kept == NOT_KEPT) {
+        printf("not kept, there are %d", MVPN_MOST_LEAVES);
+        refuse_leaf(vrf, afi, nlri, tunnel);
+        return;
+    }
+    *(kept == KEPT_NEW ? &vrf->leaves.added : &vrf->leaves.replaced) += 1;
+    printf("kept, %s, ", kept == KEPT_NEW ? "new" : "replaced");
+    print_tunnel(&reading);
+    printf("; ");
+    print_identifier(&reading, tunnel.at);
+}
+
+static void forget_leaf_route(customer_vrf *vrf, uint16_t afi, octets nlri)
+{
+    bool forgotten = forget_leaf(&family_of(vrf, afi)->leaves, nlri);
+    *(forgotten ? &vrf->leaves.withdrawn : &vrf->leaves.absent) += 1;
+    printf("%s", forgotten ? "withdrawn" : "not withdrawn, it was not kept");
+}
+
 /* ---- graceful restart (RFC 4724, section 4.2) */
 
 /* Routers, each once. */
@@ -358,13 +406,23 @@ static void print_restarted(bool lost, size_t gone)
     printf("%s", lost ? "stale from now on" : "");
 }
 
+/* Routes that stand in no table. */
+static void print_restarted_list(uint16_t afi, const char *what, bool lost, bool had_any, size_t gone)
+{
+    if (gone == 0 && !(lost && had_any))
+        return;
+    printf("  %s, %s: ", family_name(afi), what);
+    print_restarted(lost, gone);
+    printf("\n");
+}
+
 /* Where the session was lost, marks the routes of each originator, once; else sweeps what is still marked. The tables are sound
  * and originators have 4 or 16 octets, so no call is refused. */
 static void restart_family(customer_vrf *vrf, uint16_t afi, bool lost)
 {
     routers originators = originators_in(afi, table_of(vrf, afi));
-    source_actives *sources = &family_of(vrf, afi)->sources;
-    bool has_sources = sources->count > 0;
+    customer_family *family = family_of(vrf, afi);
+    bool had_sources = family->sources.count > 0, had_leaves = family->leaves.count > 0;
     for (size_t i = 0; i < originators.count; i++) {
         const mvpn_address *router = &originators.of[i];
         mvpn_restarted restarted = (lost ? mvpn_mark : mvpn_sweep)(table_of(vrf, afi), TABLE_SIZE, router->octets, router->size);
@@ -378,18 +436,17 @@ static void restart_family(customer_vrf *vrf, uint16_t afi, bool lost)
             printf("\n");
         }
     }
-    size_t gone = restart_source_actives(sources, lost);
+    size_t gone = restart_source_actives(&family->sources, lost), gone_leaves = restart_leaves(&family->leaves, lost);
     vrf->sources.gone += gone;
-    if (gone > 0 || (lost && has_sources)) {
-        printf("  %s, Source Active A-D routes: ", family_name(afi));
-        print_restarted(lost, gone);
-        printf("\n");
-    }
+    vrf->leaves.gone += gone_leaves;
+    print_restarted_list(afi, "Source Active A-D routes", lost, had_sources, gone);
+    print_restarted_list(afi, "Leaf A-D routes", lost, had_leaves, gone_leaves);
 }
 
 static bool holds_routes(customer_vrf *vrf, uint16_t afi)
 {
-    return mvpn_table_info(table_of(vrf, afi), TABLE_SIZE).routes > 0 || family_of(vrf, afi)->sources.count > 0;
+    customer_family *family = family_of(vrf, afi);
+    return mvpn_table_info(family->table, TABLE_SIZE).routes > 0 || family->sources.count > 0 || family->leaves.count > 0;
 }
 
 /* What is held came by the session before. A router keeps the families that the peer's Graceful Restart Capability named in the
@@ -475,23 +532,51 @@ static void print_nlri(uint16_t afi, octets nlri)
     }
 }
 
-/* S-PMSI A-D routes go into the table, Source Active A-D routes are kept beside it; others are counted. */
-static void use_nlri(customer_vrf *vrf, change what, const route_run *routes, octets nlri, octets tunnel)
+/* S-PMSI A-D routes go into the table, Source Active A-D and Leaf A-D routes are kept beside it; others are counted. */
+static void announce_nlri(customer_vrf *vrf, const route_run *routes, octets nlri, octets tunnel)
 {
-    uint8_t route_type = nlri.at[0];
-    print_nlri(routes->afi, nlri);
-    printf(": ");
-    if (route_type != MVPN_S_PMSI && route_type != MVPN_SOURCE_ACTIVE) {
+    switch (nlri.at[0]) {
+    case MVPN_S_PMSI:
+        install(vrf, routes->afi, nlri, tunnel);
+        break;
+    case MVPN_SOURCE_ACTIVE:
+        keep_source(vrf, routes, nlri);
+        break;
+    case MVPN_LEAF:
+        keep_leaf_route(vrf, routes->afi, nlri, tunnel);
+        break;
+    default:
         vrf->other++;
         printf("not used");
-    } else if (route_type == MVPN_SOURCE_ACTIVE && what == INSTALL)
-        keep_source(vrf, routes, nlri);
-    else if (route_type == MVPN_SOURCE_ACTIVE)
-        forget_source(vrf, routes->afi, nlri);
-    else if (what == INSTALL)
-        install(vrf, routes->afi, nlri, tunnel);
+    }
+}
+
+static void withdraw_nlri(customer_vrf *vrf, uint16_t afi, octets nlri)
+{
+    switch (nlri.at[0]) {
+    case MVPN_S_PMSI:
+        withdraw(vrf, afi, nlri);
+        break;
+    case MVPN_SOURCE_ACTIVE:
+        forget_source(vrf, afi, nlri);
+        break;
+    case MVPN_LEAF:
+        forget_leaf_route(vrf, afi, nlri);
+        break;
+    default:
+        vrf->other++;
+        printf("not used");
+    }
+}
+
+static void use_nlri(customer_vrf *vrf, change what, const route_run *routes, octets nlri, octets tunnel)
+{
+    print_nlri(routes->afi, nlri);
+    printf(": ");
+    if (what == INSTALL)
+        announce_nlri(vrf, routes, nlri, tunnel);
     else
-        withdraw(vrf, routes->afi, nlri);
+        withdraw_nlri(vrf, routes->afi, nlri);
 }
 
 /* The NLRI at the front of octets, or what there is of it where they end inside it. */
@@ -647,6 +732,7 @@ static void print_counts(const customer_vrf *vrf)
            vrf->damaged_runs);
     print_changes("S-PMSI A-D routes", &vrf->routes);
     print_changes("Source Active A-D routes", &vrf->sources);
+    print_changes("Leaf A-D routes", &vrf->leaves);
     printf("other NLRIs: %zu; skipped: %zu\n", vrf->other, vrf->skipped);
     if (vrf->flows.count > 0)
         printf("flows followed: %zu; after changes asked again %zu, of these answered otherwise %zu; not asked %zu\n",
@@ -727,6 +813,33 @@ static void print_match(uint16_t afi, mvpn_matched match, const uint8_t *output)
     printf("\n");
 }
 
+/* Who must get the packets of a flow that goes out by BIER: of each set that has egress routers, its bit string. All Leaf A-D routes of
+ * the family are lent; those for other routes do not count. The Leaves were read when they were kept, and there are no more than the
+ * library takes, so a refusal says that the route has another tunnel. A router makes these strings when a Leaf A-D route comes or goes,
+ * and not for each packet. */
+static void print_egress(customer_vrf *vrf, uint16_t afi, mvpn_matched match, const uint8_t *output)
+{
+    static uint8_t list[LEAVES_SPACE];
+    uint8_t string[MVPN_BIER_STRING];
+    octets leaves = list_leaves(&family_of(vrf, afi)->leaves, list);
+    bool is_first = true;
+    for (unsigned set = 0; set <= UINT8_MAX; set++) {
+        mvpn_egress egress = mvpn_bier_string(afi, output, match.nlri_size, output + match.nlri_size, match.attribute_size,
+                                              (uint8_t)set, leaves.at, leaves.size, string, sizeof string);
+        if (egress.number != MVPN_DONE)
+            return;
+        if (egress.routers > 0) {
+            printf("  %-11s set %u, %u router%s: ", is_first ? "egress:" : "", set, (unsigned)egress.routers,
+                   egress.routers == 1 ? "" : "s");
+            print_bit_string(string);
+            printf("\n");
+            is_first = false;
+        }
+    }
+    if (is_first)
+        printf("  egress:     no router has asked for it\n");
+}
+
 /* What a tier looks for, and why it was taken or not; for the person who asks at four in the morning. */
 static void print_reasons(const request *flow, const uint32_t reasons[4])
 {
@@ -757,8 +870,10 @@ static void answer_flow(customer_vrf *vrf, const request *flow)
     }
     if (found.matched.tier == MVPN_NO_TIER)
         printf("  no route\n");
-    else
+    else {
         print_match(afi, found.matched, output);
+        print_egress(vrf, afi, found.matched, output);
+    }
     print_reasons(flow, found.reasons);
 }
 

@@ -2,7 +2,8 @@
  * mvpn.h: MCAST-VPN NLRI (RFC 6514, RFC 6625, RFC 7441) and the PMSI Tunnel attribute (RFC 6514, RFC 8556), read and written; one
  * VRF's S-PMSI A-D routes for one address family, kept in memory that the caller lends, and the route that a customer
  * flow (C-S,C-G) or a shared tree (C-*,C-G) takes; of a flow also why; the routes of a table, one after another; a router's
- * routes kept while it restarts (RFC 4724); a sound table made of what is good in a damaged one.
+ * routes kept while it restarts (RFC 4724); a sound table made of what is good in a damaged one; the bit string of the egress routers
+ * that must get a BIER packet (RFC 8556, RFC 8279).
  *
  * Best paths, Route Targets, BGP sessions with their timers, and joining tunnels are the daemon's. So are SSM ranges other than
  * the standard one, and the knowledge of a shared tree that its match is told: which PE is upstream, which groups are BIDIR-PIM,
@@ -32,9 +33,9 @@
 #include <stdint.h>
 
 /* The version of this header and its archive; before 1.0.0 a new minor version may change calls. */
-#define MVPN_VERSION "0.15.0"
+#define MVPN_VERSION "0.16.0"
 #define MVPN_VERSION_MAJOR 0
-#define MVPN_VERSION_MINOR 15
+#define MVPN_VERSION_MINOR 16
 #define MVPN_VERSION_PATCH 0
 
 /* The version as one number, an octet for each part: what mvpn_version gives, where header and archive are of one version. */
@@ -52,13 +53,13 @@ enum {
     MVPN_LENGTH = 3,  /* the body ends inside a field, or what remains is not the last field, or octets follow a single NLRI */
     MVPN_WIDTH = 4,   /* an address length that the type and family do not allow; at writing also an originator not of 4 or 16 octets */
     MVPN_KEY = 5,     /* a Leaf's key is not a well-formed NLRI of type 1, 2 or 3; in type 0x44: of type 0x43 */
-    MVPN_TUNNEL = 6,  /* tunnel type not 0 to 7 or 11 */
+    MVPN_TUNNEL = 6,  /* tunnel type not 0 to 7 or 11; of a route whose bit string is asked: not 11 */
     MVPN_IDENT = 7,   /* identifier not of that tunnel type's form; in an NLRI a bad FEC element */
     MVPN_LONG = 8,    /* attribute over 64 octets, run over 4,096, list of more items than the call takes, prefixes apart; at writing a body for mLDP over 255 */
-    MVPN_LABEL = 9,   /* BIER with label 0 at install; a label field over 16,777,215 at writing */
+    MVPN_LABEL = 9,   /* BIER with label 0 at install, and in a route whose bit string is asked; a label field over 16,777,215 at writing */
     MVPN_FAMILY = 10, /* AFI not 1 or 2 */
     MVPN_TABLE = 11,  /* lent memory is not a sound table; for making or salvaging one: not of a table's size */
-    MVPN_KIND = 12,   /* well-formed NLRI, but not type 3; in a list of Source Active routes: not type 5 */
+    MVPN_KIND = 12,   /* well-formed NLRI, but not type 3; in a list of Source Active routes: not type 5; in one of Leaf routes: not type 4 */
     MVPN_ROOM = 13,   /* new NLRI and every place taken */
     MVPN_ABSENT = 14, /* withdrawn NLRI not in the table */
     MVPN_FLOW = 15,   /* router or originator address not 4 or 16 octets, source or group not of the family's size, or group asked not multicast */
@@ -605,6 +606,38 @@ mvpn_matched mvpn_match_shared(const uint8_t *table, size_t table_len, const uin
                                const uint8_t *router, size_t router_len, const uint8_t *group, size_t group_len,
                                mvpn_shared_tree facts, const uint8_t *source_actives, size_t source_actives_len,
                                const uint8_t *states, size_t states_len, uint8_t *output, size_t output_len);
+
+/* The octets of a bit string, and the most Leaf A-D routes that a call takes. */
+enum { MVPN_BIER_STRING = 32, MVPN_MOST_LEAVES = 1024 };
+
+typedef struct { uint32_t number, routers; } mvpn_egress; /* how many egress routers are in the string, one for each BFR-id */
+
+/*
+ * Who must get the BIER packet of a matched route (RFC 8556, section 4.1): the bit string, for one Set Identifier, of the egress
+ * routers that have sent a Leaf A-D route for it. The route is given by its NLRI and its attribute, as a match writes them, and need
+ * not stand in a table. `leaves`: at most 1,024 items of two fields, the NLRI of a Leaf A-D route and its PMSI Tunnel attribute.
+ *
+ * A Leaf counts exactly when
+ *   - its key equals the route's NLRI, octet by octet,
+ *   - its tunnel is BIER in the route's sub-domain,
+ *   - and its BFR-id is not 0.
+ * Its label may be 0, as RFC 8556 has it; flags, BFR-prefix and originator make no difference.
+ *
+ * By RFC 8279 a BFR-id is of the set (id - 1) / 256, and has there the position (id - 1) % 256 + 1. Position 1 is the lowest bit of
+ * the last of the 32 octets, position 256 the highest bit of the first. A bit is set exactly when a Leaf that counts is of this set
+ * and has its position; several with one BFR-id are one egress router. All 32 octets are written at the front of the output, as
+ * zeros where no Leaf counts; octets past them are untouched.
+ *
+ * As of install: NLRI reading (FAMILY first; LENGTH for octets after it, GROUP), KIND (not type 3), attribute reading, LABEL. Then
+ * TUNNEL (the route's tunnel is not BIER); LONG (a count over 1,024); SHORT (the list ends before its items do); for each Leaf in
+ * turn, also one that does not count, NLRI reading (LENGTH for octets after it, GROUP), KIND (not type 4, so for 0x44 too), attribute
+ * reading; SPACE (an output under MVPN_BIER_STRING octets).
+ *
+ * A packet goes out once for each set that has egress routers, so a caller asks for the sets that the sub-domain uses, one after
+ * another. Leaf A-D routes that answer the flag LIR-pF (RFC 8534) have other keys than the route's NLRI, and do not count.
+ */
+mvpn_egress mvpn_bier_string(uint16_t afi, const uint8_t *nlri, size_t nlri_len, const uint8_t *attribute, size_t attribute_len,
+                             uint8_t set, const uint8_t *leaves, size_t leaves_len, uint8_t *output, size_t output_len);
 
 typedef struct {
     uint32_t number;

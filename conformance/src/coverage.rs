@@ -1,7 +1,12 @@
 //! What the comparison has met: the numbers of each call, route types, families, tunnel types, group classes, outcomes, routes
-//! that went, marks, what became of places, tiers, kinds of sequence, what changes do to answers, and answers of several tables.
+//! that went, marks, what became of places, tiers, what Leaves are to a bit string, kinds of sequence, what changes do to answers, and answers of several tables.
 
-use crate::second::{disturbance::Effect, ranges::MOST_PREFIXES, salvage::Fate};
+use crate::second::{
+    bier::{Blamed, Standing},
+    disturbance::Effect,
+    ranges::MOST_PREFIXES,
+    salvage::Fate,
+};
 use std::collections::BTreeMap;
 
 /// Each row must be met this often.
@@ -30,6 +35,7 @@ pub enum Call {
     TableInfo,
     Salvage,
     MatchShared,
+    BierString,
     /// A call in a sequence on one table.
     Sequence,
     /// A match before a change of its table and after it.
@@ -135,6 +141,20 @@ pub enum Seen {
     OtherClass(u16, bool, bool),
     /// AFI, tier of a match of any kind, and how many of several tables were asked for it.
     OfTables(u16, u32, usize),
+    /// What a refusal of a bit string blames, and its number.
+    Blamed(Blamed, u32),
+    /// AFI, and how many Leaves a bit string was made of.
+    Leaves(u16, usize),
+    /// AFI, and how many egress routers a bit string has.
+    Routers(u16, u32),
+    /// AFI, and the set of a bit string that has egress routers.
+    OfSet(u16, u8),
+    /// AFI, and whether a Leaf counts for a bit string, or why not.
+    Counting(u16, Standing),
+    /// AFI, whether a Leaf that counts is of the set asked, and whether its BFR-id came before.
+    Egress(u16, bool, bool),
+    /// Octets of the BFR-prefix of a route, and of a Leaf that counts.
+    Prefixes(usize, usize),
     /// A full table that was made larger: AFI.
     Grown(u16),
     /// AFI, and a mark or a sweep on several tables, by which routes went.
@@ -142,7 +162,7 @@ pub enum Seen {
 }
 
 /// The numbers that each call can give (document 01, "The numbers a call gives back"; document 02).
-const NUMBERS: [(Call, &[u32]); 20] = [
+const NUMBERS: [(Call, &[u32]); 21] = [
     (Call::NlriRead, &[0, 1, 2, 3, 4, 5, 7, 10, 17, 19]),
     (Call::NlriWrite, &[0, 2, 4, 5, 7, 8, 10, 16, 17, 19]),
     (Call::Step, &[0, 1, 2, 3, 4, 5, 7, 8, 10, 17, 19]),
@@ -163,6 +183,7 @@ const NUMBERS: [(Call, &[u32]); 20] = [
     (Call::TableInfo, &[0, 11]),
     (Call::Salvage, &[0, 10, 11, 16]),
     (Call::MatchShared, &[0, 1, 2, 3, 4, 5, 7, 8, 11, 12, 15, 16, 17, 18, 19]),
+    (Call::BierString, &[0, 1, 2, 3, 4, 5, 6, 7, 8, 9, 10, 12, 16, 17, 19]),
 ];
 
 /// The numbers of places that sequences and table cases use.
@@ -170,6 +191,18 @@ pub const PLACES: [usize; 5] = [0, 1, 2, 16, 500];
 
 /// The numbers of places of memory that is salvaged.
 pub const SALVAGED: [usize; 6] = [0, 1, 2, 3, 16, 500];
+
+/// The numbers of Leaves and of egress routers, and the sets, that bit strings must have had; and what each of their arguments can be
+/// refused for.
+pub const LEAVES: [usize; 7] = [0, 1, 2, 3, 64, 1_023, 1_024];
+const ROUTERS: [u32; 6] = [0, 1, 2, 3, 255, 256];
+const SETS: [u8; 6] = [0, 1, 2, 128, 254, 255];
+const BLAMED: [(Blamed, &[u32]); 4] = [
+    (Blamed::Route, &[1, 2, 3, 4, 5, 6, 7, 8, 9, 10, 12, 17, 19]),
+    (Blamed::List, &[1, 8]),
+    (Blamed::Leaf, &[1, 2, 3, 4, 5, 6, 7, 8, 12, 17, 19]),
+    (Blamed::Output, &[16]),
+];
 
 const TUNNELS: [u32; 9] = [0, 1, 2, 3, 4, 5, 6, 7, 11];
 
@@ -229,6 +262,7 @@ fn required() -> Vec<(Call, Seen)> {
         .chain(fed)
         .chain(skipped)
         .chain(told)
+        .chain(required_of_strings())
         .collect()
 }
 
@@ -285,6 +319,22 @@ fn required_of_salvage(afi: u16) -> Vec<(Call, Seen)> {
     let rows = fates.into_iter().chain(marks).chain(past).chain([Seen::Reordered(afi), Seen::Unchanged(afi)]);
     let rows = rows.chain(SALVAGED.map(|places| Seen::Salvaged(afi, places)));
     rows.chain((0..=3).map(|dropped| Seen::Dropped(afi, dropped))).map(|seen| (Call::Salvage, seen)).collect()
+}
+
+/// What bit strings are made of, and what is refused.
+fn required_of_strings() -> Vec<(Call, Seen)> {
+    let blamed = BLAMED.iter().flat_map(|(it, numbers)| numbers.iter().map(|number| Seen::Blamed(*it, *number)));
+    let prefixes = [(4, 4), (4, 16), (16, 4), (16, 16)].map(|(of_route, of_leaf)| Seen::Prefixes(of_route, of_leaf));
+    let mut rows: Vec<Seen> = blamed.chain(prefixes).collect();
+    for afi in [1, 2] {
+        rows.extend(LEAVES.map(|leaves| Seen::Leaves(afi, leaves)));
+        rows.extend(ROUTERS.map(|routers| Seen::Routers(afi, routers)));
+        rows.extend(SETS.map(|set| Seen::OfSet(afi, set)));
+        rows.extend(Standing::ALL.map(|standing| Seen::Counting(afi, standing)));
+        let egress = [(true, true), (true, false), (false, true), (false, false)];
+        rows.extend(egress.map(|(of_set, again)| Seen::Egress(afi, of_set, again)));
+    }
+    rows.into_iter().map(|seen| (Call::BierString, seen)).collect()
 }
 
 /// What each change can do to an answer, and who asks again.

@@ -219,6 +219,15 @@ pub struct Salvaged {
     pub dropped: u32,
 }
 
+/// What is answered with a bit string.
+#[repr(C)]
+#[derive(Clone, Copy, Debug, Default, PartialEq, Eq)]
+pub struct Egress {
+    pub number: u32,
+    /// Egress routers in the string.
+    pub routers: u32,
+}
+
 /// What the daemon knows of a shared tree and the PE asked; each is 0 or not.
 #[repr(C)]
 #[derive(Clone, Copy, Debug, Default, PartialEq, Eq)]
@@ -246,6 +255,7 @@ const _: () = assert!(
         && size_of::<Following>() == 16
         && size_of::<TableInfo>() == 16
         && size_of::<Salvaged>() == 12
+        && size_of::<Egress>() == 8
         && size_of::<SharedTree>() == 12
 );
 
@@ -283,6 +293,10 @@ pub mod raw {
         *const u8, usize, *const u8, usize, *const u8, usize, *const u8, usize, SharedTree, *const u8, usize,
         *const u8, usize, *mut u8, usize,
     ) -> Matched;
+    #[rustfmt::skip]
+    pub type BierString = unsafe extern "C" fn(
+        u16, *const u8, usize, *const u8, usize, u8, *const u8, usize, *mut u8, usize,
+    ) -> Egress;
 
     extern "C" {
         pub fn mvpn_nlri_read(afi: u16, nlri: *const u8, nlri_len: usize) -> NlriReading;
@@ -393,6 +407,18 @@ pub mod raw {
             output: *mut u8,
             output_len: usize,
         ) -> Matched;
+        pub fn mvpn_bier_string(
+            afi: u16,
+            nlri: *const u8,
+            nlri_len: usize,
+            attribute: *const u8,
+            attribute_len: usize,
+            set: u8,
+            leaves: *const u8,
+            leaves_len: usize,
+            output: *mut u8,
+            output_len: usize,
+        ) -> Egress;
     }
 }
 
@@ -559,4 +585,11 @@ pub fn match_shared(
             room,
         )
     }
+}
+
+/// `route` is the NLRI and the attribute.
+pub fn bier_string(afi: u16, route: [&mut Lent; 2], set: u8, leaves: &mut Lent, output: &mut Lent) -> Egress {
+    let [nlri, attribute] = route.map(|field| (field.pointer(), field.len()));
+    let ((list, size), (place, room)) = ((leaves.pointer(), leaves.len()), (output.pointer(), output.len()));
+    unsafe { raw::mvpn_bier_string(afi, nlri.0, nlri.1, attribute.0, attribute.1, set, list, size, place, room) }
 }

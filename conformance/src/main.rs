@@ -88,6 +88,7 @@ fn finds(options: &Options, fault: Fault) -> bool {
         ShownBy::Following => cases::of_following(&mut harness, options),
         ShownBy::Salvage => cases::of_salvage(&mut harness, options),
         ShownBy::SharedTrees => cases::of_shared_trees(&mut harness, options),
+        ShownBy::Bier => cases::of_bier(&mut harness, options),
         ShownBy::Disturbance => cases::of_disturbance(&mut harness, options),
         ShownBy::Splitting => cases::of_splitting(&mut harness, options),
         ShownBy::Encodings => cases::of_encodings(&mut harness, options),

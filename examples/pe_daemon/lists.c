@@ -52,6 +52,54 @@ size_t restart_source_actives(source_actives *routes, bool lost)
     return before - routes->count;
 }
 
+/* ---- Leaf A-D routes */
+
+static size_t place_of_leaf(const leaf_routes *leaves, octets nlri)
+{
+    size_t i = 0;
+    while (i < leaves->count &&
+           (leaves->kept[i].nlri_size != nlri.size || memcmp(leaves->kept[i].nlri, nlri.at, nlri.size) != 0))
+        i++;
+    return i;
+}
+
+keeping keep_leaf(leaf_routes *leaves, octets nlri, octets attribute)
+{
+    size_t place = place_of_leaf(leaves, nlri);
+    bool again = place < leaves->count;
+    if (place == MVPN_MOST_LEAVES)
+        return NOT_KEPT;
+    leaf_route *leaf = &leaves->kept[place];
+    memcpy(leaf->nlri, nlri.at, nlri.size);
+    memcpy(leaf->attribute, attribute.at, attribute.size);
+    leaf->nlri_size = nlri.size;
+    leaf->attribute_size = attribute.size;
+    leaf->stale = false;
+    leaves->count += !again;
+    return again ? KEPT_AGAIN : KEPT_NEW;
+}
+
+bool forget_leaf(leaf_routes *leaves, octets nlri)
+{
+    size_t place = place_of_leaf(leaves, nlri);
+    if (place == leaves->count)
+        return false;
+    leaves->kept[place] = leaves->kept[--leaves->count];
+    return true;
+}
+
+size_t restart_leaves(leaf_routes *leaves, bool lost)
+{
+    size_t before = leaves->count;
+    leaves->count = 0;
+    for (size_t i = 0; i < before; i++)
+        if (!leaves->kept[i].stale) {
+            leaves->kept[leaves->count] = leaves->kept[i];
+            leaves->kept[leaves->count++].stale = lost;
+        }
+    return before - leaves->count;
+}
+
 /* ---- states */
 
 bool hold_state(customer_states *states, const mvpn_address *source, const mvpn_address *group)
@@ -93,6 +141,17 @@ octets list_states(const customer_states *states, uint8_t list[STATES_SPACE])
         const customer_state *state = &states->held[i];
         size = mvpn_list_field(list, STATES_SPACE, size, state->source.octets, state->source.size);
         size = mvpn_list_field(list, STATES_SPACE, size, state->group.octets, state->group.size);
+    }
+    return (octets){ list, size };
+}
+
+octets list_leaves(const leaf_routes *leaves, uint8_t list[LEAVES_SPACE])
+{
+    size_t size = mvpn_list_start(list, LEAVES_SPACE, (uint16_t)leaves->count);
+    for (size_t i = 0; i < leaves->count; i++) {
+        const leaf_route *leaf = &leaves->kept[i];
+        size = mvpn_list_field(list, LEAVES_SPACE, size, leaf->nlri, leaf->nlri_size);
+        size = mvpn_list_field(list, LEAVES_SPACE, size, leaf->attribute, leaf->attribute_size);
     }
     return (octets){ list, size };
 }

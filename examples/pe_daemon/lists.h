@@ -1,5 +1,5 @@
-/* What matches are told of one family: the VRF's SSM ranges, its Source Active A-D routes and its (C-S,C-G) states; and each of
- * these as the list that the library is lent. */
+/* What the library is told of one family beside its table: the VRF's SSM ranges, its Source Active A-D and Leaf A-D routes and its
+ * (C-S,C-G) states; and each of these as the list that the library is lent. */
 #ifndef LISTS_H
 #define LISTS_H
 
@@ -46,6 +46,28 @@ bool forget_source_active(source_actives *routes, octets nlri);
  * stale, until they are kept again. How many went. */
 size_t restart_source_actives(source_actives *routes, bool lost);
 
+/* ---- Leaf A-D routes */
+
+/* The octets of the longest NLRI: its key is an S-PMSI A-D route of IPv6. */
+enum { LONGEST_LEAF = 78 };
+
+typedef struct {
+    uint8_t nlri[LONGEST_LEAF], attribute[MVPN_LONGEST_ATTRIBUTE];
+    size_t nlri_size, attribute_size;
+    bool stale;
+} leaf_route;
+
+/* No more than a list may have. No NLRI stands twice. */
+typedef struct {
+    leaf_route kept[MVPN_MOST_LEAVES];
+    size_t count;
+} leaf_routes;
+
+/* The same as of Source Active A-D routes. The library has read the attribute too. */
+keeping keep_leaf(leaf_routes *leaves, octets nlri, octets attribute);
+bool forget_leaf(leaf_routes *leaves, octets nlri);
+size_t restart_leaves(leaf_routes *leaves, bool lost);
+
 /* ---- states */
 
 typedef struct { mvpn_address source, group; } customer_state;
@@ -64,11 +86,13 @@ bool hold_state(customer_states *states, const mvpn_address *source, const mvpn_
 enum {
     PREFIXES_SPACE = MVPN_LONGEST_PREFIXES + MVPN_FIELD_SIZE + 1 + 16,
     SOURCE_ACTIVES_SPACE = MVPN_LIST_COUNT + MVPN_MOST_ITEMS * (MVPN_FIELD_SIZE + 16 + MVPN_FIELD_SIZE + LONGEST_SOURCE_ACTIVE),
-    STATES_SPACE = MVPN_LIST_COUNT + MVPN_MOST_ITEMS * (MVPN_FIELD_SIZE + 16 + MVPN_FIELD_SIZE + 16)
+    STATES_SPACE = MVPN_LIST_COUNT + MVPN_MOST_ITEMS * (MVPN_FIELD_SIZE + 16 + MVPN_FIELD_SIZE + 16),
+    LEAVES_SPACE = MVPN_LIST_COUNT + MVPN_MOST_LEAVES * (2 * MVPN_FIELD_SIZE + LONGEST_LEAF + MVPN_LONGEST_ATTRIBUTE)
 };
 
 octets list_prefixes(const group_prefixes *prefixes, uint8_t list[PREFIXES_SPACE]);
 octets list_source_actives(const source_actives *routes, uint8_t list[SOURCE_ACTIVES_SPACE]);
 octets list_states(const customer_states *states, uint8_t list[STATES_SPACE]);
+octets list_leaves(const leaf_routes *leaves, uint8_t list[LEAVES_SPACE]);
 
 #endif

@@ -98,6 +98,13 @@ run restart.bin \
     shared 10.0.0.1 239.1.1.1 \
     2001:db8::1 2001:db8:1::1 ff3e::1
 
+# A flow that two routers of set 0 and one of set 1 have asked for; one for everything, which nobody has asked for since the session was
+# lost; the same of IPv6, whose Leaf A-D routes are stale, in the third set and in the last.
+run leaves.bin \
+    10.0.0.1 192.0.2.1 232.1.1.1 \
+    10.0.0.1 192.0.2.9 232.1.1.1 \
+    2001:db8::1 2001:db8:1::1 ff3e::1
+
 # A flow to a group of the range takes tier 2, where it took tier 3; of flows to groups of the standard range one no longer takes tier
 # 2, and one takes tier 3.
 ranges 239.1.0.0/16 ipv4.bin \

@@ -384,3 +384,9 @@ void print_identifier(const mvpn_attribute_reading *tunnel, const uint8_t *attri
         printf("none");
     }
 }
+
+void print_bit_string(const uint8_t string[MVPN_BIER_STRING])
+{
+    for (size_t i = 0; i < MVPN_BIER_STRING; i++)
+        printf("%s%02X", i > 0 && i % 8 == 0 ? " " : "", string[i]);
+}

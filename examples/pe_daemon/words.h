@@ -41,4 +41,7 @@ void print_fecs(const uint8_t *fec);
 void print_tunnel(const mvpn_attribute_reading *tunnel);
 void print_identifier(const mvpn_attribute_reading *tunnel, const uint8_t *attribute);
 
+/* In hexadecimal, in words of eight octets. */
+void print_bit_string(const uint8_t string[MVPN_BIER_STRING]);
+
 #endif

@@ -72,6 +72,11 @@ s_pmsi() {
     nlri 3 "$(rd "$1")$(field "$2")$(field "$3")$(address "$4")"
 }
 
+# leaf KEY ORIGINATOR
+leaf() {
+    nlri 4 "$1$(address "$2")"
+}
+
 # source_active RD SOURCE GROUP
 source_active() {
     nlri 5 "$(rd "$1")$(field "$2")$(field "$3")"
@@ -124,7 +129,7 @@ one_of_each() {
     rd=$(rd 0:100:7)
     nlri 1 "$rd$(address 10.0.0.1)"
     nlri 2 "$rd$as"
-    nlri 4 "$(s_pmsi 0:100:7 '*' '*' 10.0.0.1)$(address 10.0.0.2)"
+    leaf "$(s_pmsi 0:100:7 '*' '*' 10.0.0.1)" 10.0.0.2
     source_active 0:100:7 192.0.2.1 239.1.1.1
     nlri 6 "$rd$as$(field 192.0.2.9)$(field 239.1.1.1)"
     nlri 7 "$rd$as$(field 192.0.2.1)$(field 232.1.1.1)"
@@ -451,6 +456,59 @@ restart() {
     update "$(unreach 1)"
 }
 
+# An egress router asks for a route: asks NEXT_HOP AFI KEY TUNNEL.
+asks() {
+    update "$(usual)" "$(reach_by "$1" "$2" "$(leaf "$3" "$1")")" "$4"
+}
+
+leaves() {
+    local one any ipv6 pe=2001:db8::1
+    one=$(s_pmsi 0:100:7 192.0.2.1 232.1.1.1 10.0.0.1) any=$(s_pmsi 0:100:7 '*' '*' 10.0.0.1)
+    ipv6=$(s_pmsi 0:100:7 2001:db8:1::1 ff3e::1 $pe)
+
+    # our own routes: one flow, and everything, for IPv4; one flow for IPv6; each asks for Leaf A-D routes
+    graceful_open 0078
+    update "$(usual)" "$(reach 1 "$one")" "$(bier 01 1000 0 1 10.0.0.1)"
+    update "$(usual)" "$(reach 1 "$any")" "$(bier 01 1001 0 1 10.0.0.1)"
+    update "$(usual)" "$(reach 2 "$ipv6")" "$(bier 01 1000 1 258 $pe)"
+
+    # routers that ask for the flow: of set 0, of its last position, of set 1; one BFR-id of two routers; one router for everything
+    asks 10.0.0.2 1 "$one" "$(bier 00 0 0 2 10.0.0.2)"
+    asks 10.0.0.3 1 "$one" "$(bier 00 0 0 256 10.0.0.3)"
+    asks 10.0.0.4 1 "$one" "$(bier 00 0 0 257 10.0.0.4)"
+    asks 10.0.0.5 1 "$one" "$(bier 00 0 0 2 10.0.0.2)"
+    asks 10.0.0.2 1 "$any" "$(bier 00 0 0 2 10.0.0.2)"
+
+    # what does not count: another sub-domain, no BFR-id, another tunnel, the key of another route
+    asks 10.0.0.6 1 "$one" "$(bier 00 0 1 6 10.0.0.6)"
+    asks 10.0.0.7 1 "$one" "$(bier 00 0 0 0 10.0.0.7)"
+    asks 10.0.0.8 1 "$one" "$(ingress_replication 00 3000 10.0.0.8)"
+    asks 10.0.0.9 1 "$(s_pmsi 0:100:7 192.0.2.9 232.1.1.1 10.0.0.1)" "$(bier 00 0 0 9 10.0.0.9)"
+
+    # another BFR-id for a router that has asked; one that no longer asks, and says so again; one whose attribute is damaged, and
+    # one without
+    asks 10.0.0.3 1 "$one" "$(bier 00 0 0 3 10.0.0.3)"
+    update "$(unreach 1 "$(leaf "$one" 10.0.0.4)")"
+    update "$(unreach 1 "$(leaf "$one" 10.0.0.4)")"
+    asks 10.0.0.5 1 "$one" "$(tunnel 00 11 0 000002)"
+    update "$(usual)" "$(reach_by 10.0.0.10 1 "$(leaf "$one" 10.0.0.10)")"
+
+    # IPv6: routers of two sets, which are known by an IPv6 and by an IPv4 address
+    asks 2001:db8::2 2 "$ipv6" "$(bier 00 0 1 513 2001:db8::2)"
+    asks 10.0.0.3 2 "$ipv6" "$(bier 00 0 1 65535 10.0.0.3)"
+
+    # the session is lost: our routes come again, some routers ask for the flow again and one for the first time, none for everything,
+    # and that is all of IPv4; those of IPv6 stay stale
+    graceful_open 8078
+    update "$(usual)" "$(reach 1 "$one")" "$(bier 01 1000 0 1 10.0.0.1)"
+    update "$(usual)" "$(reach 1 "$any")" "$(bier 01 1001 0 1 10.0.0.1)"
+    asks 10.0.0.2 1 "$one" "$(bier 00 0 0 2 10.0.0.2)"
+    asks 10.0.0.3 1 "$one" "$(bier 00 0 0 3 10.0.0.3)"
+    asks 10.0.0.6 1 "$one" "$(bier 00 0 1 6 10.0.0.6)"
+    asks 10.0.0.11 1 "$one" "$(bier 00 0 0 300 10.0.0.11)"
+    update "$(unreach 1)"
+}
+
 # Announces a route with a tunnel: announce NLRI TUNNEL.
 announce() {
     update "$(usual)" "$(reach 1 "$1")" "$2"
@@ -527,6 +585,6 @@ octets() {
     printf "$("$1" | sed 's/../\\x&/g')" >"$folder/$1.bin"
 }
 
-for sample in ipv4 ipv6 both shared restart damaged; do
+for sample in ipv4 ipv6 both shared restart leaves damaged; do
     octets "$sample"
 done

@@ -21,6 +21,7 @@ static_assert(sizeof(mvpn_installed) == 8, "mvpn_installed");
 static_assert(sizeof(mvpn_matched) == 16, "mvpn_matched");
 static_assert(sizeof(mvpn_explained) == 32, "mvpn_explained");
 static_assert(sizeof(mvpn_shared_tree) == 12, "mvpn_shared_tree");
+static_assert(sizeof(mvpn_egress) == 8, "mvpn_egress");
 static_assert(sizeof(mvpn_restarted) == 8, "mvpn_restarted");
 static_assert(sizeof(mvpn_following) == 16, "mvpn_following");
 static_assert(sizeof(mvpn_table_facts) == 16, "mvpn_table_facts");
@@ -63,6 +64,7 @@ int main()
                        mvpn_match_shared(octets, 0, octets, 0, octets, 0, octets, 0, mvpn_shared_tree{}, octets, 0, octets, 0,
                                          output, 0)
                                .number == MVPN_TABLE &&
+                       mvpn_bier_string(1, octets, 0, octets, 0, 0, octets, 0, output, 0).number == MVPN_SHORT &&
                        mvpn_next(octets, 0, octets, 0, output, 0).number == MVPN_TABLE &&
                        mvpn_table_info(octets, 0).number == MVPN_TABLE &&
                        mvpn_salvage(1, octets, 0, output, 0, output, 0).number == MVPN_TABLE && mvpn_version() == MVPN_VERSION_NUMBER;

@@ -158,6 +158,18 @@ static void shared_trees(void)
 #undef SHARED
 }
 
+static void strings(void)
+{
+    const char *shows = "null";
+    uint8_t string[MVPN_BIER_STRING];
+    same(shows, "bier_string, nothing", mvpn_bier_string(1, OF(any), OF(bier), 0, NO_ITEMS, OF(string)).number, MVPN_DONE);
+    same(shows, "bier_string, the NLRI", mvpn_bier_string(1, NO_OCTETS, OF(bier), 0, NO_ITEMS, OF(string)).number, MVPN_SHORT);
+    same(shows, "bier_string, the attribute", mvpn_bier_string(1, OF(any), NO_OCTETS, 0, NO_ITEMS, OF(string)).number, MVPN_SHORT);
+    same(shows, "bier_string, the list", mvpn_bier_string(1, OF(any), OF(bier), 0, NO_OCTETS, OF(string)).number, MVPN_SHORT);
+    same(shows, "bier_string, the output", mvpn_bier_string(1, OF(any), OF(bier), 0, NO_ITEMS, NO_OCTETS).number, MVPN_SPACE);
+    same(shows, "bier_string, all", mvpn_bier_string(1, NO_OCTETS, NO_OCTETS, 0, NO_OCTETS, NO_OCTETS).number, MVPN_SHORT);
+}
+
 static void listings(void)
 {
     const char *shows = "null";
@@ -212,6 +224,7 @@ int main(void)
     restarts();
     matches();
     shared_trees();
+    strings();
     listings();
     salvages();
     lists();

@@ -95,6 +95,22 @@ static void questions(void)
     expect("next, none", mvpn_next(OF(table), run, ANY_SIZE, OF(output)).nlri_size == 0);
 }
 
+/* One router has sent a Leaf A-D route for a BIER route, BFR-id 257: of set 1, and of no other. */
+static void strings(void)
+{
+    static const uint8_t bier[] = { 1, 11, 0, 0, 16, 0, 0, 1, 10, 0, 0, 1 }, of_leaf[] = { 0, 11, 0, 0, 0, 0, 1, 1, 10, 0, 0, 2 };
+    uint8_t leaf[ANY_SIZE + 6] = { 4, ANY_SIZE + 4 }, leaves[64], string[MVPN_BIER_STRING];
+    memcpy(leaf + 2, run, ANY_SIZE);
+    memcpy(leaf + 2 + ANY_SIZE, (uint8_t[]){ 10, 0, 0, 2 }, 4);
+    size_t size = mvpn_list_start(OF(leaves), 1);
+    size = mvpn_list_field(OF(leaves), size, OF(leaf));
+    size = mvpn_list_field(OF(leaves), size, OF(of_leaf));
+    mvpn_egress egress = mvpn_bier_string(MVPN_AFI_IPV4, run, ANY_SIZE, OF(bier), 1, leaves, size, OF(string));
+    expect("bier_string", egress.number == MVPN_DONE && egress.routers == 1 && string[MVPN_BIER_STRING - 1] == 1);
+    egress = mvpn_bier_string(MVPN_AFI_IPV4, run, ANY_SIZE, OF(bier), 0, leaves, size, OF(string));
+    expect("bier_string, another set", egress.number == MVPN_DONE && egress.routers == 0 && string[MVPN_BIER_STRING - 1] == 0);
+}
+
 /* Prefixes of which one holds the group. */
 static void ranges(void)
 {
@@ -139,6 +155,7 @@ int main(void)
     runs();
     changes();
     questions();
+    strings();
     ranges();
     restart();
     salvage();

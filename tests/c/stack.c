@@ -355,6 +355,45 @@ RUN(shared_by_prefixes, MATCHES_SHARED(PREFIXES, shared_group, sizeof states, MV
 RUN(shared_none_by_prefixes, MATCHES_SHARED(PREFIXES, group, sizeof states, MVPN_DONE, 0))
 RUN(shared_by_bad_prefixes, MATCHES_SHARED(BAD_PREFIXES, shared_group, sizeof states, MVPN_RANGE, 0))
 
+/* ---- bit strings: the most Leaves, each of which counts; the same with another key, and one whose last Leaf is bad */
+
+static const uint8_t other_leaf[] = { 4, 28 + 16, 3, 26, RD, 0, 0, ORIGINATOR, ORIGINATOR };
+
+static uint8_t leaves[2 + MVPN_MOST_LEAVES * (2 + sizeof leaf + 2 + sizeof bier)];
+static uint8_t other_leaves[2 + MVPN_MOST_LEAVES * (2 + sizeof other_leaf + 2 + sizeof mldp)], bad_leaves[sizeof leaves];
+static uint8_t string[MVPN_BIER_STRING];
+
+static void fill_leaves(void)
+{
+    uint8_t tunnel[sizeof bier];
+    size_t size = mvpn_list_start(leaves, sizeof leaves, MVPN_MOST_LEAVES);
+    size_t other_size = mvpn_list_start(other_leaves, sizeof other_leaves, MVPN_MOST_LEAVES);
+    memcpy(tunnel, bier, sizeof tunnel);
+    for (unsigned i = 1; i <= MVPN_MOST_LEAVES; i++) {
+        tunnel[6] = (uint8_t)(i >> 8);
+        tunnel[7] = (uint8_t)i;
+        size = mvpn_list_field(leaves, sizeof leaves, size, leaf, sizeof leaf);
+        size = mvpn_list_field(leaves, sizeof leaves, size, tunnel, sizeof tunnel);
+        other_size = mvpn_list_field(other_leaves, sizeof other_leaves, other_size, other_leaf, sizeof other_leaf);
+        other_size = mvpn_list_field(other_leaves, sizeof other_leaves, other_size, mldp, sizeof mldp);
+    }
+    memcpy(bad_leaves, leaves, sizeof bad_leaves);
+    bad_leaves[sizeof bad_leaves - sizeof tunnel + 1] = 12; /* the tunnel type of the last */
+}
+
+static mvpn_egress egress;
+
+#define STRINGS(list, list_len, tunnel, room, wanted_number, wanted_routers) \
+    (egress = mvpn_bier_string(2, s_pmsi, sizeof s_pmsi, tunnel, sizeof tunnel, 3, list, list_len, string, room), \
+     egress.number == (wanted_number) && egress.routers == (wanted_routers))
+RUN(string_of_all, STRINGS(leaves, sizeof leaves, bier, sizeof string, MVPN_DONE, 256))
+RUN(string_of_others, STRINGS(other_leaves, sizeof other_leaves, bier, sizeof string, MVPN_DONE, 0))
+RUN(string_of_none, STRINGS(mvpn_no_items, sizeof mvpn_no_items, bier, sizeof string, MVPN_DONE, 0))
+RUN(string_of_bad, STRINGS(bad_leaves, sizeof bad_leaves, bier, sizeof string, MVPN_TUNNEL, 0))
+RUN(string_short, STRINGS(leaves, sizeof leaves - 1, bier, sizeof string, MVPN_SHORT, 0))
+RUN(string_without_space, STRINGS(leaves, sizeof leaves, bier, sizeof string - 1, MVPN_SPACE, 0))
+RUN(string_of_other_tunnel, STRINGS(leaves, sizeof leaves, pim, sizeof string, MVPN_TUNNEL, 0))
+
 /* Runs of one call stand together. */
 static const struct {
     const char *name;
@@ -454,6 +493,13 @@ static const struct {
     { "mvpn_match_shared", shared_by_prefixes, shared_trees },
     { "mvpn_match_shared", shared_none_by_prefixes, shared_trees },
     { "mvpn_match_shared", shared_by_bad_prefixes, shared_trees },
+    { "mvpn_bier_string", string_of_all, full },
+    { "mvpn_bier_string", string_of_others, full },
+    { "mvpn_bier_string", string_of_none, full },
+    { "mvpn_bier_string", string_of_bad, full },
+    { "mvpn_bier_string", string_short, full },
+    { "mvpn_bier_string", string_without_space, full },
+    { "mvpn_bier_string", string_of_other_tunnel, full },
     { "mvpn_next", next_first, full },
     { "mvpn_next", next_of_first, full },
     { "mvpn_next", next_of_absent, full },
@@ -537,6 +583,7 @@ int main(void)
     fill_damaged();
     fill_prefixes();
     fill_shared_trees();
+    fill_leaves();
     read_part();
     size_t base = depth(nothing, full), greatest = 0;
     const char *greatest_name = "";

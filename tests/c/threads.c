@@ -1,6 +1,6 @@
 /*
  * Matches, explanations, matches for shared trees and listings at once, from several threads, on one table that no call can write,
- * and salvages of one that is damaged: their memory is mapped for reading alone, as is everything else that the calls read. Each answer
+ * salvages of one that is damaged, and bit strings of one list of Leaves: their memory is mapped for reading alone, as is everything else that the calls read. Each answer
  * is the one that a thread alone gets. A call that wrote any of it would end the program.
  */
 #define _DEFAULT_SOURCE
@@ -10,7 +10,7 @@
 #include <stdbool.h>
 #include <sys/mman.h>
 
-enum { THREADS = 8, TIMES = 200, PLACES = 200, FLOWS = 14, GROUPS = 10 };
+enum { THREADS = 8, TIMES = 200, PLACES = 200, FLOWS = 14, GROUPS = 10, LEAVES = 60, SETS = 4 };
 
 /* ---- memory that is only read */
 
@@ -19,6 +19,8 @@ typedef struct {
     uint8_t router[4], sources[FLOWS][4], groups[FLOWS][4];
     uint8_t active[20], actives[64], states[64], prefixes[64];
     size_t actives_size, states_size, prefixes_size;
+    uint8_t route[24], tunnel[12], leaves[LEAVES * 64];
+    size_t leaves_size;
 } read_only;
 
 static read_only *shared;
@@ -89,6 +91,24 @@ static void fill_lists(void)
     shared->states_size = mvpn_list_field(shared->states, sizeof shared->states, size, shared->groups[3], 4);
 }
 
+/* Leaves of a BIER route, BFR-ids 13, 26 and so on, of which some are of each set. */
+static void fill_leaves(void)
+{
+    uint8_t leaf[2 + sizeof shared->route + 4] = { MVPN_LEAF, sizeof shared->route + 4 };
+    uint8_t tunnel[] = { 0, MVPN_TUNNEL_BIER, 0, 0, 16, 0, 0, 0, 10, 0, 0, 2 };
+    put_nlri(shared->route, 7, shared->sources[1], shared->groups[1]);
+    memcpy(shared->tunnel, tunnel, sizeof tunnel);
+    memcpy(leaf + 2, shared->route, sizeof shared->route);
+    size_t size = mvpn_list_start(shared->leaves, sizeof shared->leaves, LEAVES);
+    for (unsigned i = 1; i <= LEAVES; i++) {
+        tunnel[6] = (uint8_t)(13 * i >> 8);
+        tunnel[7] = (uint8_t)(13 * i);
+        size = mvpn_list_field(shared->leaves, sizeof shared->leaves, size, leaf, sizeof leaf);
+        size = mvpn_list_field(shared->leaves, sizeof shared->leaves, size, tunnel, sizeof tunnel);
+    }
+    shared->leaves_size = size;
+}
+
 static void fill(void)
 {
     shared = mmap(NULL, sizeof *shared, PROT_READ | PROT_WRITE, MAP_PRIVATE | MAP_ANONYMOUS, -1, 0);
@@ -100,6 +120,7 @@ static void fill(void)
     fill_table();
     damage();
     fill_lists();
+    fill_leaves();
     same("the memory", "is only read from now on", mprotect(shared, sizeof *shared, PROT_READ), 0);
 }
 
@@ -116,6 +137,8 @@ typedef struct {
     size_t listed_count;
     mvpn_salvaged salvaged;
     uint8_t salvaged_table[MVPN_TABLE_SIZE(PLACES)], dropped[MVPN_DROPPED_PLACE * PLACES];
+    mvpn_egress egress[SETS];
+    uint8_t strings[SETS][MVPN_BIER_STRING];
 } answers;
 
 /* The flow of number i, or of i - FLOWS. */
@@ -156,6 +179,9 @@ static void ask(answers *got)
     got->info = mvpn_table_info(shared->table, sizeof shared->table);
     got->salvaged = mvpn_salvage(MVPN_AFI_IPV4, shared->damaged, sizeof shared->damaged, got->salvaged_table,
                                  sizeof got->salvaged_table, got->dropped, sizeof got->dropped);
+    for (uint8_t i = 0; i < SETS; i++)
+        got->egress[i] = mvpn_bier_string(MVPN_AFI_IPV4, shared->route, sizeof shared->route, shared->tunnel, sizeof shared->tunnel, i,
+                                          shared->leaves, shared->leaves_size, got->strings[i], MVPN_BIER_STRING);
 }
 
 /* ---- threads */
@@ -209,6 +235,12 @@ static void kinds_are_met(void)
     same("the table", "routes", alone.info.routes, PLACES / 4);
     same("the salvage", "kept", alone.salvaged.kept, PLACES / 4 - 2);
     same("the salvage", "dropped", alone.salvaged.dropped, 2);
+    /* 13 to 247, 260 to 507, 520 to 767, and 780 */
+    same("the strings", "of set 0", alone.egress[0].routers, 19);
+    same("the strings", "of set 1", alone.egress[1].routers, 20);
+    same("the strings", "of set 2", alone.egress[2].routers, 20);
+    same("the strings", "of set 3", alone.egress[3].routers, 1);
+    same("the strings", "780 is position 12 of set 3", alone.strings[3][30], 8);
     same_octets("the salvage", "the list", alone.dropped, (uint8_t[]){ 0, 4, MVPN_BAD_PLACE, 0, 7, MVPN_REPEATED_NLRI }, 6);
 }
 

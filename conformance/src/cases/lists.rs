@@ -136,7 +136,7 @@ fn few(random: &mut Random) -> usize {
 }
 
 /// The list as it is, or with octets after it, or seldom disturbed.
-fn nearly(random: &mut Random, mut list: Vec<u8>) -> Vec<u8> {
+pub fn nearly(random: &mut Random, mut list: Vec<u8>) -> Vec<u8> {
     match random.below(16) {
         0 => near::disturb(random, &mut list),
         1 => list.extend(random.octets(3)),

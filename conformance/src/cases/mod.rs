@@ -1,6 +1,9 @@
 //! The inputs of the comparison, in the order they are given.
 
 pub mod attribute_writing;
+pub mod bier;
+pub mod bier_examples;
+pub mod bier_refusals;
 pub mod damage;
 pub mod discards;
 pub mod discards_examples;
@@ -52,6 +55,7 @@ pub fn all(harness: &mut Harness, options: &Options) -> Checked {
     of_pieces(harness, options)?;
     of_discards(harness, options)?;
     of_shared_trees(harness, options)?;
+    of_bier(harness, options)?;
     of_following(harness, options)?;
     of_salvage(harness, options)?;
     of_explanations(harness, options)?;
@@ -105,6 +109,11 @@ pub fn of_discards(harness: &mut Harness, options: &Options) -> Checked {
 pub fn of_shared_trees(harness: &mut Harness, options: &Options) -> Checked {
     no_tunnel::shared_trees(harness)?;
     shared::all(harness, &mut Random::new(options.seed), options.cases)
+}
+
+/// Bit strings of BIER packets.
+pub fn of_bier(harness: &mut Harness, options: &Options) -> Checked {
+    bier::all(harness, &mut Random::new(options.seed), options.cases)
 }
 
 /// Looking into a table.

@@ -1,6 +1,7 @@
 //! Each call of the archive beside the second decoder: all fields of the answer, and every lent octet afterwards.
 
 pub mod attribute;
+pub mod bier;
 pub mod following;
 pub mod group;
 pub mod nlri;
@@ -78,7 +79,7 @@ pub struct Harness {
     pub inputs: u64,
     /// Calls compared in sequences on one table.
     pub sequence_calls: u64,
-    /// The NLRI of a table call, the memory that is salvaged, and the only input of the calls without a table.
+    /// The NLRI of a table call or of a BIER route, the memory that is salvaged, and the only input of the calls without a table.
     input: Lent,
     /// The list of dropped places too.
     output: Lent,
@@ -90,6 +91,8 @@ pub struct Harness {
     flow: [Lent; 3],
     /// Source Active routes and states.
     lists: [Lent; 2],
+    /// Leaf routes.
+    leaves: Lent,
     /// What a reader of pieces is lent.
     unfinished: Lent,
 }
@@ -153,7 +156,7 @@ impl Harness {
         }
     }
 
-    fn buffers(&self) -> [(&'static str, &Lent); 12] {
+    fn buffers(&self) -> [(&'static str, &Lent); 13] {
         let [router, source, group] = &self.flow;
         let [source_actives, states] = &self.lists;
         [
@@ -168,6 +171,7 @@ impl Harness {
             ("group", group),
             ("list of Source Active routes", source_actives),
             ("list of states", states),
+            ("list of Leaves", &self.leaves),
             ("unfinished NLRI", &self.unfinished),
         ]
     }

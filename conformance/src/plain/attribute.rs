@@ -36,17 +36,23 @@ pub unsafe extern "C" fn attribute_read(attribute: *const u8, attribute_len: usi
 /// Attribute reading, then LABEL: what install asks of an attribute.
 #[inline(always)]
 pub fn installable(attribute: &[u8]) -> Result<(), u32> {
+    readable(attribute)?;
+    match attribute {
+        [_, 11, 0, 0, 0..=15, ..] => Err(LABEL),
+        _ => Ok(()),
+    }
+}
+
+/// Attribute reading: what is asked of a Leaf's.
+#[inline(always)]
+pub fn readable(attribute: &[u8]) -> Result<(), u32> {
     if attribute.len() > LONGEST {
         return Err(LONG);
     }
-    let [_, tunnel_type, high, middle, low, identifier @ ..] = attribute else {
+    let [_, tunnel_type, _, _, _, identifier @ ..] = attribute else {
         return Err(SHORT);
     };
-    identified(*tunnel_type, identifier)?;
-    match (tunnel_type, high, middle, low) {
-        (11, 0, 0, 0..=15) => Err(LABEL),
-        _ => Ok(()),
-    }
+    identified(*tunnel_type, identifier).map(drop)
 }
 
 /// TUNNEL, IDENT, or the FEC's shape.

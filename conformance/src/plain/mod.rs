@@ -3,8 +3,8 @@
 //! Each does the whole work of the archive's call, no more and no less. It has the same C arguments and gives its answer by
 //! value; it refuses the same inputs with the same numbers, in document 01's order, before it writes anything; every
 //! call on a table but making and salvaging one tests every octet of it for soundness each time; and every octet that the call
-//! promises is written, those behind a route included. Nothing is allocated or kept between calls. `tests.rs`, `table_tests.rs` and
-//! `salvage_tests.rs` compare all of this with the second decoder and the second table.
+//! promises is written, those behind a route included. Nothing is allocated or kept between calls. `tests.rs` and the other
+//! files of tests compare all of this with the second decoder and the second table.
 //!
 //! It is written from document 01 and takes nothing from the crates, so it may go another way: a match looks for one tier
 //! after another among the routes of that tier's NLRI size, where the archive passes over all routes once. It is written
@@ -13,6 +13,9 @@
 //! slices from the caller's pointers. A call itself is not inlined into the measurement.
 
 mod attribute;
+mod bier;
+#[cfg(test)]
+mod bier_tests;
 mod explain;
 mod fec;
 mod flow;
@@ -39,6 +42,7 @@ mod table_tests;
 mod tests;
 
 pub use attribute::{attribute_read, attribute_write};
+pub use bier::bier_string;
 pub use explain::explain;
 pub use flow::match_flow;
 pub use following::{next, table_info};

@@ -149,7 +149,8 @@ impl Second {
         ])
     }
 
-    fn with_one_of(&self, faults: &[(Fault, Fault)]) -> Second {
+    /// The decoder with the second of a pair of faults, where it has the first.
+    pub(super) fn with_one_of(&self, faults: &[(Fault, Fault)]) -> Second {
         let found = faults.iter().find(|(fault, _)| self.has(*fault));
         found.map_or(*self, |(_, fault)| Second::with_fault(*fault))
     }

@@ -1,10 +1,13 @@
-//! The second decoder and encoder, written from RFC 6514, RFC 6625, RFC 7441, RFC 8556, RFC 4607 and documents 01 and 02: tables of
+//! The second decoder and encoder, written from RFC 6514, RFC 6625, RFC 7441, RFC 8556, RFC 8279, RFC 4607 and documents 01 and 02: tables of
 //! rows that one routine interprets. A route table is a map of attributes by NLRI and a set of stale NLRIs, and its octets are the
 //! image of both.
 
 pub mod answers;
 pub mod attribute;
 pub mod attribute_writing;
+pub mod bier;
+#[cfg(test)]
+mod bier_tests;
 pub mod books;
 pub mod choice;
 pub mod discards;

@@ -19,8 +19,10 @@ ghost use Rattle.routes.specs.Reasons.{explainOf};
 ghost use Rattle.routes.specs.Next.{nextOf};
 ghost use Rattle.routes.specs.Info.{infoOf};
 ghost use Rattle.routes.specs.Salvage.{salvageOf, LeavesBoth};
+ghost use Rattle.bier.specs.BierString.{egressOf};
 ghost use Rattle.shared_trees.specs.Tree.{treeOf};
 ghost use Rattle.mvpn.specs.Answers.{stepAnswer, attributeGiven, attributeRefused, attributeAnswer};
+use bier::Egress;
 use nlri::Group;
 use nlri::Layout;
 use nlri::Nlri;
@@ -119,9 +121,9 @@ impl AttributeAnswer {
 // The version of the library, as the file VERSION has it: major, minor and patch, each an octet of the number.
 #[no_mangle]
 pub extern "C" fn mvpn_version() -> u32
-    ensures { λ r. ⌜ r ≡ 0 * 65536 + 15 * 256 + 0 ⌝ }
+    ensures { λ r. ⌜ r ≡ 0 * 65536 + 16 * 256 + 0 ⌝ }
 {
-    0 * 65536 + 15 * 256 + 0
+    0 * 65536 + 16 * 256 + 0
 }
 
 // Reads a single NLRI.
@@ -346,6 +348,21 @@ pub extern "C" fn mvpn_match_shared(
         states,
         output,
     )
+}
+
+// Writes the bit string of a set for a BIER route, by Leaf routes, and tells how many egress routers are in it.
+#[no_mangle]
+pub extern "C" fn mvpn_bier_string(
+    afi: u16,
+    nlri: &[u8],
+    attribute: &[u8],
+    set: u8,
+    leaves: &[u8],
+    output: &mut [u8],
+) -> Egress
+    ensures { λ r. ⌜ Leaves (egressOf afi (now (nlri .entry)) (now (attribute .entry)) set (now (leaves .entry)) (now (output .entry))) r (now (output .exit)) ⌝ }
+{
+    bier::bier_string(afi, nlri, attribute, set, leaves, output)
 }
 
 // Finds the route that comes next after an NLRI in the table's order, and writes it at the front of the output.

@@ -2,3 +2,4 @@
 pub mod ReadRule
 pub mod WriteRule
 pub mod AnswerRule
+pub mod BierRule

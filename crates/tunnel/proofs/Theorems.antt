@@ -2,3 +2,4 @@
 pub use Rattle.tunnel.proofs.Statements.ReadRule.{attributeReadRule}
 pub use Rattle.tunnel.proofs.Statements.WriteRule.{attributeWriteRule}
 pub use Rattle.tunnel.proofs.Statements.AnswerRule.{attributeRoundTrips, attributeAnswerRule}
+pub use Rattle.tunnel.proofs.Statements.BierRule.{bierIdentifierRule}

@@ -9,6 +9,7 @@ use octets::Span;
 use octets::Written;
 use octets::number;
 
+mod bier;
 mod encoding;
 pub mod fec;
 mod fields;
@@ -16,6 +17,8 @@ mod identifier;
 mod sizes;
 mod tunnel_type;
 
+pub use bier::BierIdentifier;
+pub use bier::bier_in;
 pub use tunnel_type::TunnelType;
 
 // Flags 1, tunnel type 1, label field 3: where the label field starts, and where the identifier does.

@@ -16,7 +16,7 @@ use std::{
 pub const COUNTING: &str = "--counting";
 
 /// The functions that callgrind looks inside. None of them calls another one.
-const COUNTED: [&str; 15] = [
+const COUNTED: [&str; 16] = [
     "mvpn_*",
     "conformance::plain::nlri_read::nlri_read",
     "conformance::plain::nlri_write::nlri_write",
@@ -32,6 +32,7 @@ const COUNTED: [&str; 15] = [
     "conformance::plain::explain::explain",
     "conformance::plain::following::next",
     "conformance::plain::following::table_info",
+    "conformance::plain::bier::bier_string",
 ];
 
 /// The instructions of archive and plain Rust for each counted row, by its name.

@@ -5,12 +5,13 @@
 //! Both calls take the same buffers, through a function pointer. There are three kinds of rows:
 //!
 //! - in instructions, which `count` has from callgrind: calls of a few nanoseconds, whose time depends on where their code
-//!   lies (on one NLRI, attribute or group, and on a table of at most one place);
+//!   lies (on one NLRI, attribute or group, on a table of at most one place, and a bit string of no Leaves);
 //! - in nanoseconds, warm and learnt: the same call again and again, in batches that alternate; the best batch counts;
 //! - in nanoseconds, not learnt: many inputs in ever new orders, so that the processor cannot foretell the branches.
 //!
 //! `--rounds N` makes N rounds. The run ends with status 1 only where the two give different answers.
 
+mod bier;
 mod count;
 mod explain;
 mod following;
@@ -108,6 +109,7 @@ fn all_rows(task: Task) -> ExitCode {
     following::rows(&mut report);
     salvage::rows(&mut report);
     shared::rows(&mut report);
+    bier::rows(&mut report);
     planning::rows(&mut report);
     unlearnt::rows(&mut report);
     if report.end() {

@@ -32,7 +32,7 @@ read-given s f e =
     let p = passed _ _ _ (b .1) in
     (record { size = record { most = ltb-false 64 (length s) (a .0); least = ltb-false (length s) 5 (b .0) }; judged = p .first ∙ ap given (sym (read-fits (p .first) .1)) }, given-same (p .second))
 
-refuses-read : (s : List ℕ) → Refuses (λ n. n ≡ DONE → ⊥) (readAttribute s)
+pub refuses-read : (s : List ℕ) → Refuses (λ n. n ≡ DONE → ⊥) (readAttribute s)
 unfolding readAttribute
 refuses-read s =
     refuses-pick _ _ _ (number (λ z. omega arith)) (refuses-pick _ _ _ (number (λ z. omega arith)) (refuses-then _ _ (refuses-identifier _ _) (λ _. value)))
