@@ -15,10 +15,6 @@ use octets::number::DONE;
 use octets::number::FAMILY;
 use octets::number::SPACE;
 use octets::number::TABLE;
-use places::geometry::ATTRIBUTE_SIZE;
-use places::geometry::MARK;
-use places::geometry::NLRI_SIZE;
-use places::geometry::ROUTE;
 use places::header;
 use places::judge;
 use places::place;
@@ -45,29 +41,6 @@ fn enter_place(table: &mut [u8], place: &[u8]) -> u8
     0
 }
 
-// A place is good by itself: install would take its route, zeros follow, and its mark is 0 or 1. `is_place_sound` tells the same; it is
-// left to its one caller, the loop over a table's places, into which the compiler puts it (DECISIONS, "Who judges a place").
-fn is_good(afi: u16, place: &[u8]) -> bool
-    requires { ⌜ length (now place) ≡ 128 ⌝ }
-    ensures { λ r. ⌜ r ≡ placeSound afi (now (place .entry)) ⌝ }
-{
-    let nlri_size = place[NLRI_SIZE] as usize;
-    let attribute_size = place[ATTRIBUTE_SIZE] as usize;
-    let end = ROUTE + (nlri_size + attribute_size);
-    if MARK < end {
-        return false;
-    }
-    if 1 < place[MARK] {
-        return false;
-    }
-    let nlri = octets::parts::between(place, ROUTE, nlri_size);
-    let attribute = octets::parts::between(place, ROUTE + nlri_size, attribute_size);
-    if judge::route_fault(afi, nlri, attribute) != DONE {
-        return false;
-    }
-    octets::order::is_zero(octets::parts::after(octets::parts::between(place, 0, MARK), end))
-}
-
 // A place looked at: its route is entered where it is good and the first of its NLRI. The reason to drop it, or 0.
 fn look_at(afi: u16, place: &[u8], table: &mut [u8]) -> u8
     requires { ⌜ (soundOf (now table) ≡ true) × (countIn (now table) < placesIn (now table)) × (afi ≡ afiIn (now table)) ⌝ }
@@ -75,7 +48,7 @@ fn look_at(afi: u16, place: &[u8], table: &mut [u8]) -> u8
     ensures { λ r. ⌜ r ≡ reasonOf afi (now (place .entry)) (routesOf (now (table .entry))) ⌝ }
     ensures { λ _. ⌜ now (table .exit) ≡ withPlace afi (now (place .entry)) (now (table .entry)) ⌝ }
 {
-    if is_good(afi, place) {
+    if judge::is_good(afi, place) {
         return enter_place(table, place);
     }
     if octets::order::is_zero(place) {

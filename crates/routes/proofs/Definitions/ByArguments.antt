@@ -44,7 +44,7 @@ unfolding formIn
 form-argued [] type = number {n = TUNNEL} (omega arith)
 form-argued (r ∷ rows) type = refuses-pick _ _ _ value (form-argued rows type)
 
-attribute-argued : (s : List ℕ) → Refuses ByArguments (readAttribute s)
+pub attribute-argued : (s : List ℕ) → Refuses ByArguments (readAttribute s)
 unfolding readAttribute readIdentifier formOf
 attribute-argued s =
     refuses-pick _ _ _ (number (omega arith))

@@ -102,7 +102,7 @@ pub length-acceptable-place : (afi : ℕ) (r : Route) → acceptable afi r ≡ t
 length-acceptable-place afi r h = length-place r (acceptable-fits afi r h)
 
 -- a sound place is that of the route in it
-sound-placeOf : (afi : ℕ) (r : Route) → acceptable afi r ≡ true → placeSound afi (placeOf r) ≡ true
+pub sound-placeOf : (afi : ℕ) (r : Route) → acceptable afi r ≡ true → placeSound afi (placeOf r) ≡ true
 unfolding placeSound
 sound-placeOf afi r h =
     let s = acceptable-fits afi r h in
@@ -162,11 +162,11 @@ places-append [] ys = refl
 places-append (x ∷ xs) ys = rw (places-append xs ys) (sym (append-assoc (placeOf x) (placesOf xs) (placesOf ys)))
 
 -- the first place, and what follows it
-first-place : (afi : ℕ) (r : Route) (rs : List Route) (z : List ℕ) → acceptable afi r ≡ true → take 128 (placesOf (r ∷ rs) ++ z) ≡ placeOf r
+pub first-place : (afi : ℕ) (r : Route) (rs : List Route) (z : List ℕ) → acceptable afi r ≡ true → take 128 (placesOf (r ∷ rs) ++ z) ≡ placeOf r
 unfolding placesOf
 first-place afi r rs z h = ap (take 128) (append-assoc (placeOf r) (placesOf rs) z) ∙ take-at (placeOf r) (placesOf rs ++ z) 128 (length-acceptable-place afi r h)
 
-other-places : (afi : ℕ) (r : Route) (rs : List Route) (z : List ℕ) → acceptable afi r ≡ true → drop 128 (placesOf (r ∷ rs) ++ z) ≡ placesOf rs ++ z
+pub other-places : (afi : ℕ) (r : Route) (rs : List Route) (z : List ℕ) → acceptable afi r ≡ true → drop 128 (placesOf (r ∷ rs) ++ z) ≡ placesOf rs ++ z
 unfolding placesOf
 other-places afi r rs z h = ap (drop 128) (append-assoc (placeOf r) (placesOf rs) z) ∙ drop-at (placeOf r) (placesOf rs ++ z) 128 (length-acceptable-place afi r h)
 

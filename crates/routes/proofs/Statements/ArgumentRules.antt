@@ -72,7 +72,7 @@ module _ (attribute : List ℕ) where
       let q = given-otherwise _ _ _ _ (p .second) in
       record { fields = p .value; read = p .first; label = λ bier zero. opposite (both-true _ _ (eq-eqb (p .value .tunnelType) 11 bier) (eq-eqb (labelOf (p .value)) 0 zero)) (q .0) }
 
-  takes-labelled : (l : Labelled attribute) → readLabelled attribute ≡ given (l .fields)
+  pub takes-labelled : (l : Labelled attribute) → readLabelled attribute ≡ given (l .fields)
   unfolding readLabelled labelOf
   takes-labelled l =
       sym (goes _ _ _ _ (l .read)

@@ -42,7 +42,7 @@ tested-given test (given a) h = (a, refl, h)
 tested-given test (refused n) h = absurd (opposite h refl)
 
 -- a test of fields that holds of a route: its NLRI is a well-formed S-PMSI NLRI
-of-fields : (afi : ℕ) (r : Route) (test : Fields → Bool) → ofFields afi r test ≡ true → (f : Fields) × (readSPmsi afi (nlriOf r) ≡ given f) × (test f ≡ true)
+pub of-fields : (afi : ℕ) (r : Route) (test : Fields → Bool) → ofFields afi r test ≡ true → (f : Fields) × (readSPmsi afi (nlriOf r) ≡ given f) × (test f ≡ true)
 unfolding ofFields
 of-fields afi r test h = tested-given test (readSPmsi afi (nlriOf r)) h
 

@@ -1,14 +1,14 @@
--- `salvage::salvaging::is_good` meets its contract.
+-- `places::judge::is_good` meets its contract.
 use mathlib.Core.Path.{ap, _∙_}
 use native.Mathlib.Omega.{arith}
 use lib.ListN.{length}
 use Rattle.octets.proofs.Lists.{length-part}
 use Rattle.octets.specs.Order.{allZero}
 use Rattle.routes.specs.Place.{endIn}
 use Rattle.places.proofs.Sounds.{place-over, place-mismarked, route-refused, route-accepted}
 use borrow.Author.Needs.{needs}
-use Rattle.salvage.proofs.salvaging.is_good.Statement.{statement}
-use Rattle.salvage.proofs.salvaging.is_good.Tie as tie
+use Rattle.places.proofs.judge.is_good.Statement.{statement}
+use Rattle.places.proofs.judge.is_good.Tie as tie
 
 cast-nlri-size : tie.Need-cast-nlri-size
 cast-nlri-size c = omega (arith, c .shared-slice-known2 .given 0)
