@@ -3,7 +3,8 @@
  * VRF's S-PMSI A-D routes for one address family, kept in memory that the caller lends, and the route that a customer
  * flow (C-S,C-G) or a shared tree (C-*,C-G) takes; of a flow also why; the routes of a table, one after another; a router's
  * routes kept while it restarts (RFC 4724); a sound table made of what is good in a damaged one; the bit string of the egress routers
- * that must get a BIER packet (RFC 8556, RFC 8279).
+ * that must get a BIER packet (RFC 8556, RFC 8279); few routes, with wildcards among them, by which each of many flows takes the
+ * tunnel that is wanted for it.
  *
  * Best paths, Route Targets, BGP sessions with their timers, and joining tunnels are the daemon's. So are SSM ranges other than
  * the standard one, and the knowledge of a shared tree that its match is told: which PE is upstream, which groups are BIDIR-PIM,
@@ -33,9 +34,9 @@
 #include <stdint.h>
 
 /* The version of this header and its archive; before 1.0.0 a new minor version may change calls. */
-#define MVPN_VERSION "0.16.0"
+#define MVPN_VERSION "0.17.0"
 #define MVPN_VERSION_MAJOR 0
-#define MVPN_VERSION_MINOR 16
+#define MVPN_VERSION_MINOR 17
 #define MVPN_VERSION_PATCH 0
 
 /* The version as one number, an octet for each part: what mvpn_version gives, where header and archive are of one version. */
@@ -53,20 +54,21 @@ enum {
     MVPN_LENGTH = 3,  /* the body ends inside a field, or what remains is not the last field, or octets follow a single NLRI */
     MVPN_WIDTH = 4,   /* an address length that the type and family do not allow; at writing also an originator not of 4 or 16 octets */
     MVPN_KEY = 5,     /* a Leaf's key is not a well-formed NLRI of type 1, 2 or 3; in type 0x44: of type 0x43 */
-    MVPN_TUNNEL = 6,  /* tunnel type not 0 to 7 or 11; of a route whose bit string is asked: not 11 */
+    MVPN_TUNNEL = 6,  /* tunnel type not 0 to 7 or 11; of a route whose bit string is asked: not 11; of an attribute wanted for a flow also type 0 */
     MVPN_IDENT = 7,   /* identifier not of that tunnel type's form; in an NLRI a bad FEC element */
-    MVPN_LONG = 8,    /* attribute over 64 octets, run over 4,096, list of more items than the call takes, prefixes apart; at writing a body for mLDP over 255 */
-    MVPN_LABEL = 9,   /* BIER with label 0 at install, and in a route whose bit string is asked; a label field over 16,777,215 at writing */
+    MVPN_LONG = 8,    /* attribute over 64 octets, run over 4,096, list of more items than the call takes, prefixes apart; at writing a body for mLDP over 255; proposed places over 8,192 */
+    MVPN_LABEL = 9,   /* BIER with label 0 at install, in a route whose bit string is asked, or wanted for a flow; a label field over 16,777,215 at writing */
     MVPN_FAMILY = 10, /* AFI not 1 or 2 */
     MVPN_TABLE = 11,  /* lent memory is not a sound table; for making or salvaging one: not of a table's size */
     MVPN_KIND = 12,   /* well-formed NLRI, but not type 3; in a list of Source Active routes: not type 5; in one of Leaf routes: not type 4 */
     MVPN_ROOM = 13,   /* new NLRI and every place taken */
     MVPN_ABSENT = 14, /* withdrawn NLRI not in the table */
-    MVPN_FLOW = 15,   /* router or originator address not 4 or 16 octets, source or group not of the family's size, or group asked not multicast */
+    MVPN_FLOW = 15,   /* router or originator address not 4 or 16 octets, source or group not of the family's size, or group asked not multicast; in a plan a distinguisher not 8 octets */
     MVPN_SPACE = 16,  /* output buffer too small; for a salvaged table: not of the damaged memory's size */
     MVPN_DEEP = 17,   /* the fourth FEC element from outside has an opaque value of type 7 or 8 */
     MVPN_RANGE = 18,  /* more than eight prefixes; a prefix with an address not of the family's size, a length over it, or a bit set past the length */
-    MVPN_GROUP = 19   /* a Source Active route (type 5) whose group is in the standard SSM range, 232.0.0.0/8 or FF3x::/32 */
+    MVPN_GROUP = 19,  /* a Source Active route (type 5) whose group is in the standard SSM range, 232.0.0.0/8 or FF3x::/32 */
+    MVPN_CONFLICT = 20 /* one flow is listed with two different attributes */
 };
 
 /* Address families. */
@@ -673,6 +675,77 @@ typedef struct { uint32_t number, afi, places, routes; } mvpn_table_facts;
 
 /* What a table says of itself: its AFI, its places, and how many routes are in them. TABLE. */
 mvpn_table_facts mvpn_table_info(const uint8_t *table, size_t table_len);
+
+/*
+ * A plan: the S-PMSI A-D routes that one originator advertises with one route distinguisher, so that each of up to 64 flows takes
+ * the tunnel that is wanted for it. A route with wildcards does for many flows, so that few routes are enough.
+ *
+ * `flows`: at most 64 items of three fields, source and group, each of the family's size, and the PMSI Tunnel attribute wanted, whose
+ * tunnel type is not 0. A flow may be listed again, with the same attribute.
+ *
+ * Routes are proposed as table places, MVPN_PLACE octets each, one straight after the other, in any order. A place has the sizes of
+ * the NLRI and of the attribute, 1 octet each, the NLRI, the attribute, zeros, and in its last octet the mark; those of a full table
+ * are the octets behind its header.
+ *
+ * Both calls refuse, each number tried over all flows before the next: FAMILY; RANGE and SHORT of the prefixes; LONG (a count of
+ * flows over 64; of mvpn_judge also places over 8,192 octets); SHORT (the list of flows ends before its items do); FLOW (an
+ * originator not of 4 or 16 octets, a distinguisher not of 8, a source or group not of the family's size, a group not multicast);
+ * attribute reading, where the first flow whose attribute is refused decides; LABEL (BIER with label 0); TUNNEL (tunnel type 0);
+ * CONFLICT; and mvpn_plan alone SPACE.
+ */
+
+/* The most flows of a plan, and the most octets of the places proposed for one; the octets of the longest list of flows that is
+ * accepted, which is one for IPv6. */
+enum { MVPN_MOST_FLOWS = 64, MVPN_LONGEST_PROPOSAL = 8192, MVPN_LONGEST_FLOWS = 6530 };
+
+/*
+ * Appends a flow, with the attribute that is wanted for it, to a list that has `size` octets: the octets it has then. 0 where
+ * mvpn_list_field gives 0 for one of the three fields. Nothing of the flow is judged here; the call that takes the list does that.
+ */
+static inline size_t
+mvpn_list_flow(uint8_t *list, size_t space, size_t size, const uint8_t *source, size_t source_len,
+               const uint8_t *group, size_t group_len, const uint8_t *attribute, size_t attribute_len)
+{
+    size = mvpn_list_field(list, space, size, source, source_len);
+    size = mvpn_list_field(list, space, size, group, group_len);
+    return mvpn_list_field(list, space, size, attribute, attribute_len);
+}
+
+typedef struct { uint32_t number, accepted; } mvpn_judged; /* 1: accepted; 0: not */
+
+/*
+ * Whether the routes proposed, whoever proposes them, are a plan for these flows. They are accepted exactly when
+ *   - `places` is whole places, none or more, and each is a place that a sound table of this AFI could have: a route that install
+ *     accepts, zeros behind it, and a mark of 0 or 1. A place of zeros is not;
+ *   - every route has this originator, in size and octets, and this distinguisher;
+ *   - no two have the same NLRI;
+ *   - for each flow, a match among these routes alone, of the originator and with these prefixes, takes a route, and its attribute
+ *     is the one wanted, octet for octet.
+ * A route that no flow takes does no harm, and neither does one of tunnel type 0, which no flow takes. For no flows, no routes are
+ * accepted too. The refusals are those above; a bad proposal is none, but DONE and 0.
+ */
+mvpn_judged mvpn_judge(uint16_t afi, const uint8_t *prefixes, size_t prefixes_len,
+                       const uint8_t *originator, size_t originator_len,
+                       const uint8_t *distinguisher, size_t distinguisher_len,
+                       const uint8_t *flows, size_t flows_len, const uint8_t *places, size_t places_len);
+
+typedef struct { uint32_t number, routes; } mvpn_planned; /* how many routes are proposed, a place of MVPN_PLACE octets each */
+
+/*
+ * Proposes routes for these flows. What it proposes is accepted by mvpn_judge with the same arguments, and is few: none for no
+ * flows; else at most one more than there are different flows that do not want the commonest attribute. Different flows differ in
+ * source or group, and the commonest attribute is the one that most of them want. Which attribute that is where several are, and the
+ * order of the places, the library chooses, the same for the same arguments.
+ *
+ * The places are written at the front of the output, with marks of 0; octets past them are untouched. The refusals are those above,
+ * SPACE among them: an output under MVPN_PLACE octets for each flow as listed, one that is listed again counted again, however few
+ * routes are proposed. An output of MVPN_LONGEST_PROPOSAL octets is enough for every plan. mvpn(3) shows under "A plan for many
+ * flows" how the routes are taken from it.
+ */
+mvpn_planned mvpn_plan(uint16_t afi, const uint8_t *prefixes, size_t prefixes_len,
+                       const uint8_t *originator, size_t originator_len,
+                       const uint8_t *distinguisher, size_t distinguisher_len,
+                       const uint8_t *flows, size_t flows_len, uint8_t *output, size_t output_len);
 
 /* Why a salvage drops a place. */
 enum { MVPN_BAD_PLACE = 1, MVPN_REPEATED_NLRI = 2 };

@@ -103,6 +103,11 @@ fault_lines() {
     shown_after '^that was refused:$'
 }
 
+# The lines of mvpn(3) for callers who plan.
+plan_lines() {
+    shown_after '^flows, at most 64, and advertise the routes that it proposes:$'
+}
+
 # blocks LANGUAGE FILE: the lines of the fenced blocks of that language.
 blocks() {
     awk -v fence="\`\`\`$1" '$0 == fence { inside = 1; next } /^```/ { inside = 0 } inside' "$2"

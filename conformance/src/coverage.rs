@@ -4,6 +4,7 @@
 use crate::second::{
     bier::{Blamed, Standing},
     disturbance::Effect,
+    plan::Objection,
     ranges::MOST_PREFIXES,
     salvage::Fate,
 };
@@ -31,6 +32,8 @@ pub enum Call {
     Sweep,
     Match,
     Explain,
+    Judge,
+    Plan,
     Next,
     TableInfo,
     Salvage,
@@ -89,6 +92,20 @@ pub enum Seen {
     Outcome(u16, u32),
     /// AFI and tier of a match of any kind.
     Tier(u16, u32),
+    /// AFI, and how many routes of a proposal are accepted; 3 stands for more.
+    Accepted(u16, usize),
+    /// AFI, and why a proposal is not accepted.
+    Objected(u16, Objection),
+    /// AFI, and a proposal that is accepted by its prefixes and not by the standard range, or the other way round.
+    TurnedPlan(u16, bool),
+    /// AFI, and flows of a plan as listed.
+    Flows(u16, usize),
+    /// A plan in which a flow is listed again: AFI.
+    ListedAgain(u16),
+    /// AFI, and how many routes a planner proposed; 3 stands for more.
+    Proposed(u16, u32),
+    /// AFI, and whether these were as many as it may propose.
+    AsMany(u16, bool),
     /// AFI, and whether a route comes next.
     Follows(u16, bool),
     /// AFI, and the mark of the route that comes next.
@@ -162,7 +179,7 @@ pub enum Seen {
 }
 
 /// The numbers that each call can give (document 01, "The numbers a call gives back"; document 02).
-const NUMBERS: [(Call, &[u32]); 21] = [
+const NUMBERS: [(Call, &[u32]); 23] = [
     (Call::NlriRead, &[0, 1, 2, 3, 4, 5, 7, 10, 17, 19]),
     (Call::NlriWrite, &[0, 2, 4, 5, 7, 8, 10, 16, 17, 19]),
     (Call::Step, &[0, 1, 2, 3, 4, 5, 7, 8, 10, 17, 19]),
@@ -179,12 +196,17 @@ const NUMBERS: [(Call, &[u32]); 21] = [
     (Call::Sweep, &[0, 11, 15]),
     (Call::Match, &[0, 1, 11, 15, 16, 18]),
     (Call::Explain, &[0, 1, 11, 15, 16, 18]),
+    (Call::Judge, &[0, 1, 6, 7, 8, 9, 10, 15, 18, 20]),
+    (Call::Plan, &[0, 1, 6, 7, 8, 9, 10, 15, 16, 18, 20]),
     (Call::Next, &[0, 11, 16]),
     (Call::TableInfo, &[0, 11]),
     (Call::Salvage, &[0, 10, 11, 16]),
     (Call::MatchShared, &[0, 1, 2, 3, 4, 5, 7, 8, 11, 12, 15, 16, 17, 18, 19]),
     (Call::BierString, &[0, 1, 2, 3, 4, 5, 6, 7, 8, 9, 10, 12, 16, 17, 19]),
 ];
+
+/// The numbers of flows of which plans must be met.
+pub const FLOWS: [usize; 6] = [0, 1, 2, 3, 63, 64];
 
 /// The numbers of places that sequences and table cases use.
 pub const PLACES: [usize; 5] = [0, 1, 2, 16, 500];
@@ -305,10 +327,24 @@ fn required_of_tables(afi: u16) -> Vec<(Call, Seen)> {
     for places in PLACES {
         rows.extend([true, false].map(|premise| (Call::Sequence, Seen::Places(afi, places, premise))));
     }
+    rows.extend(required_of_plans(afi));
     rows.extend(required_of_salvage(afi));
     rows.extend(required_of_changes(afi));
     rows.extend(required_of_several(afi));
     rows
+}
+
+/// What a judge says, and by which routes; and what a planner is asked, and proposes.
+fn required_of_plans(afi: u16) -> Vec<(Call, Seen)> {
+    let objected = Objection::ALL.map(|objection| Seen::Objected(afi, objection));
+    let accepted = (0..=3).map(|routes| Seen::Accepted(afi, routes));
+    let tiers = (1..=4).map(|tier| Seen::Tier(afi, tier));
+    let turned = [true, false].map(|accepted| Seen::TurnedPlan(afi, accepted));
+    let judged = objected.into_iter().chain(accepted).chain(tiers).chain(turned).map(|seen| (Call::Judge, seen));
+    let proposed = (0..=3).map(|routes| Seen::Proposed(afi, routes));
+    let planned = FLOWS.map(|flows| Seen::Flows(afi, flows)).into_iter().chain(proposed);
+    let planned = planned.chain([Seen::ListedAgain(afi), Seen::AsMany(afi, true)]).map(|seen| (Call::Plan, seen));
+    judged.chain(planned).collect()
 }
 
 /// What can become of places, and of a table.

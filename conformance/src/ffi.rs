@@ -208,6 +208,24 @@ pub struct TableInfo {
     pub routes: u32,
 }
 
+/// What a judge of proposed routes answers.
+#[repr(C)]
+#[derive(Clone, Copy, Debug, Default, PartialEq, Eq)]
+pub struct Judged {
+    pub number: u32,
+    /// 1 or 0.
+    pub accepted: u32,
+}
+
+/// What a planner answers.
+#[repr(C)]
+#[derive(Clone, Copy, Debug, Default, PartialEq, Eq)]
+pub struct Planned {
+    pub number: u32,
+    /// How many are proposed.
+    pub routes: u32,
+}
+
 /// What a salvage answers.
 #[repr(C)]
 #[derive(Clone, Copy, Debug, Default, PartialEq, Eq)]
@@ -254,6 +272,8 @@ const _: () = assert!(
         && size_of::<Restarted>() == 8
         && size_of::<Following>() == 16
         && size_of::<TableInfo>() == 16
+        && size_of::<Judged>() == 8
+        && size_of::<Planned>() == 8
         && size_of::<Salvaged>() == 12
         && size_of::<Egress>() == 8
         && size_of::<SharedTree>() == 12
@@ -287,6 +307,14 @@ pub mod raw {
     ) -> Explained;
     pub type Next = unsafe extern "C" fn(*const u8, usize, *const u8, usize, *mut u8, usize) -> Following;
     pub type ReadTableInfo = unsafe extern "C" fn(*const u8, usize) -> TableInfo;
+    #[rustfmt::skip]
+    pub type Judge = unsafe extern "C" fn(
+        u16, *const u8, usize, *const u8, usize, *const u8, usize, *const u8, usize, *const u8, usize,
+    ) -> Judged;
+    #[rustfmt::skip]
+    pub type Plan = unsafe extern "C" fn(
+        u16, *const u8, usize, *const u8, usize, *const u8, usize, *const u8, usize, *mut u8, usize,
+    ) -> Planned;
     pub type Salvage = unsafe extern "C" fn(u16, *const u8, usize, *mut u8, usize, *mut u8, usize) -> Salvaged;
     #[rustfmt::skip]
     pub type MatchShared = unsafe extern "C" fn(
@@ -381,6 +409,32 @@ pub mod raw {
             output_len: usize,
         ) -> Following;
         pub fn mvpn_table_info(table: *const u8, table_len: usize) -> TableInfo;
+        pub fn mvpn_judge(
+            afi: u16,
+            prefixes: *const u8,
+            prefixes_len: usize,
+            originator: *const u8,
+            originator_len: usize,
+            distinguisher: *const u8,
+            distinguisher_len: usize,
+            flows: *const u8,
+            flows_len: usize,
+            places: *const u8,
+            places_len: usize,
+        ) -> Judged;
+        pub fn mvpn_plan(
+            afi: u16,
+            prefixes: *const u8,
+            prefixes_len: usize,
+            originator: *const u8,
+            originator_len: usize,
+            distinguisher: *const u8,
+            distinguisher_len: usize,
+            flows: *const u8,
+            flows_len: usize,
+            output: *mut u8,
+            output_len: usize,
+        ) -> Planned;
         pub fn mvpn_salvage(
             afi: u16,
             damaged: *const u8,
@@ -546,6 +600,46 @@ pub fn next(table: &mut Lent, nlri: &mut Lent, output: &mut Lent) -> Following {
 
 pub fn table_info(table: &mut Lent) -> TableInfo {
     unsafe { raw::mvpn_table_info(table.pointer(), table.len()) }
+}
+
+/// `wish` is the prefixes, the originator, the distinguisher and the flows.
+pub fn judge(afi: u16, wish: [&mut Lent; 4], places: &mut Lent) -> Judged {
+    let [prefixes, originator, distinguisher, flows] = wish.map(|octets| (octets.pointer(), octets.len()));
+    unsafe {
+        raw::mvpn_judge(
+            afi,
+            prefixes.0,
+            prefixes.1,
+            originator.0,
+            originator.1,
+            distinguisher.0,
+            distinguisher.1,
+            flows.0,
+            flows.1,
+            places.pointer(),
+            places.len(),
+        )
+    }
+}
+
+/// `wish` as of a judge.
+pub fn plan(afi: u16, wish: [&mut Lent; 4], output: &mut Lent) -> Planned {
+    let [prefixes, originator, distinguisher, flows] = wish.map(|octets| (octets.pointer(), octets.len()));
+    unsafe {
+        raw::mvpn_plan(
+            afi,
+            prefixes.0,
+            prefixes.1,
+            originator.0,
+            originator.1,
+            distinguisher.0,
+            distinguisher.1,
+            flows.0,
+            flows.1,
+            output.pointer(),
+            output.len(),
+        )
+    }
 }
 
 pub fn salvage(afi: u16, damaged: &mut Lent, table: &mut Lent, dropped: &mut Lent) -> Salvaged {

@@ -85,6 +85,7 @@ fn finds(options: &Options, fault: Fault) -> bool {
         ShownBy::Restarts => cases::of_restarts(&mut harness, options),
         ShownBy::Ranges => cases::of_ranges(&mut harness, options),
         ShownBy::Explanations => cases::of_explanations(&mut harness, options),
+        ShownBy::Plans => cases::of_plans(&mut harness, options),
         ShownBy::Following => cases::of_following(&mut harness, options),
         ShownBy::Salvage => cases::of_salvage(&mut harness, options),
         ShownBy::SharedTrees => cases::of_shared_trees(&mut harness, options),

@@ -38,6 +38,7 @@ static const number_words numbers[] = {
     WORDS(MVPN_DEEP, "FEC elements in FEC elements, over four deep"),
     WORDS(MVPN_RANGE, "more than eight prefixes, a wrong size or length, or a bit set past the length"),
     WORDS(MVPN_GROUP, "a Source Active route for an SSM group"),
+    WORDS(MVPN_CONFLICT, "one flow with two different tunnels"),
 };
 
 const char *number_name(uint32_t number)

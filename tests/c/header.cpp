@@ -25,6 +25,8 @@ static_assert(sizeof(mvpn_egress) == 8, "mvpn_egress");
 static_assert(sizeof(mvpn_restarted) == 8, "mvpn_restarted");
 static_assert(sizeof(mvpn_following) == 16, "mvpn_following");
 static_assert(sizeof(mvpn_table_facts) == 16, "mvpn_table_facts");
+static_assert(sizeof(mvpn_judged) == 8, "mvpn_judged");
+static_assert(sizeof(mvpn_planned) == 8, "mvpn_planned");
 static_assert(sizeof(mvpn_salvaged) == 12, "mvpn_salvaged");
 static_assert(sizeof mvpn_no_items == 2, "mvpn_no_items");
 static_assert(MVPN_TABLE_SIZE(MVPN_MOST_PLACES) == 64008, "MVPN_TABLE_SIZE");
@@ -36,6 +38,15 @@ static bool lists()
     uint8_t list[5];
     size_t size = mvpn_list_start(list, sizeof list, 1);
     return mvpn_list_field(list, sizeof list, size, field, sizeof field) == sizeof list && list[1] == 1 && list[4] == 7;
+}
+
+// A flow of three fields.
+static bool flows()
+{
+    const uint8_t field[] = {7};
+    uint8_t list[11];
+    size_t size = mvpn_list_start(list, sizeof list, 1);
+    return mvpn_list_flow(list, sizeof list, size, field, 1, field, 1, field, 1) == sizeof list && list[10] == 7;
 }
 
 int main()
@@ -67,6 +78,8 @@ int main()
                        mvpn_bier_string(1, octets, 0, octets, 0, 0, octets, 0, output, 0).number == MVPN_SHORT &&
                        mvpn_next(octets, 0, octets, 0, output, 0).number == MVPN_TABLE &&
                        mvpn_table_info(octets, 0).number == MVPN_TABLE &&
+                       mvpn_judge(1, octets, 0, octets, 0, octets, 0, octets, 0, octets, 0).number == MVPN_SHORT &&
+                       mvpn_plan(1, octets, 0, octets, 0, octets, 0, octets, 0, output, 0).number == MVPN_SHORT &&
                        mvpn_salvage(1, octets, 0, output, 0, output, 0).number == MVPN_TABLE && mvpn_version() == MVPN_VERSION_NUMBER;
-    return as_expected && lists() ? 0 : 1;
+    return as_expected && lists() && flows() ? 0 : 1;
 }

@@ -180,6 +180,38 @@ static void listings(void)
     same(shows, "table_info", mvpn_table_info(NO_OCTETS).number, MVPN_TABLE);
 }
 
+static void plans(void)
+{
+    static const uint8_t rd[8] = { 0, 0, 0, 100, 0, 0, 0, 7 };
+    const char *shows = "null";
+    uint8_t flows[64], places[MVPN_PLACE];
+    size_t size = mvpn_list_start(OF(flows), 1);
+    size = mvpn_list_flow(OF(flows), size, OF(source), OF(group), OF(bier));
+#define JUDGE(prefixes, originator, rd, flows, places) mvpn_judge(1, prefixes, originator, rd, flows, places)
+#define PLAN(prefixes, originator, rd, flows, output) mvpn_plan(1, prefixes, originator, rd, flows, output)
+#define FLOWS flows, size
+    same(shows, "plan, nothing", PLAN(NO_ITEMS, OF(router), OF(rd), FLOWS, OF(places)).routes, 1);
+    same(shows, "plan, the prefixes", PLAN(NO_OCTETS, OF(router), OF(rd), FLOWS, OF(places)).number, MVPN_SHORT);
+    same(shows, "plan, the originator", PLAN(NO_ITEMS, NO_OCTETS, OF(rd), FLOWS, OF(places)).number, MVPN_FLOW);
+    same(shows, "plan, the distinguisher", PLAN(NO_ITEMS, OF(router), NO_OCTETS, FLOWS, OF(places)).number, MVPN_FLOW);
+    same(shows, "plan, the flows", PLAN(NO_ITEMS, OF(router), OF(rd), NO_OCTETS, OF(places)).number, MVPN_SHORT);
+    same(shows, "plan, the output", PLAN(NO_ITEMS, OF(router), OF(rd), FLOWS, NO_OCTETS).number, MVPN_SPACE);
+    same(shows, "plan, no flows and no output", PLAN(NO_ITEMS, OF(router), OF(rd), NO_ITEMS, NO_OCTETS).number, MVPN_DONE);
+    same(shows, "plan, all", PLAN(NO_OCTETS, NO_OCTETS, NO_OCTETS, NO_OCTETS, NO_OCTETS).number, MVPN_SHORT);
+    same(shows, "judge, nothing", JUDGE(NO_ITEMS, OF(router), OF(rd), FLOWS, OF(places)).accepted, 1);
+    same(shows, "judge, the prefixes", JUDGE(NO_OCTETS, OF(router), OF(rd), FLOWS, OF(places)).number, MVPN_SHORT);
+    same(shows, "judge, the originator", JUDGE(NO_ITEMS, NO_OCTETS, OF(rd), FLOWS, OF(places)).number, MVPN_FLOW);
+    same(shows, "judge, the distinguisher", JUDGE(NO_ITEMS, OF(router), NO_OCTETS, FLOWS, OF(places)).number, MVPN_FLOW);
+    same(shows, "judge, the flows", JUDGE(NO_ITEMS, OF(router), OF(rd), NO_OCTETS, OF(places)).number, MVPN_SHORT);
+    same(shows, "judge, no places", JUDGE(NO_ITEMS, OF(router), OF(rd), FLOWS, NO_OCTETS).number, MVPN_DONE);
+    same(shows, "judge, no places for a flow", JUDGE(NO_ITEMS, OF(router), OF(rd), FLOWS, NO_OCTETS).accepted, 0);
+    same(shows, "judge, no places for no flows", JUDGE(NO_ITEMS, OF(router), OF(rd), NO_ITEMS, NO_OCTETS).accepted, 1);
+    same(shows, "judge, all", JUDGE(NO_OCTETS, NO_OCTETS, NO_OCTETS, NO_OCTETS, NO_OCTETS).number, MVPN_SHORT);
+#undef FLOWS
+#undef PLAN
+#undef JUDGE
+}
+
 static void salvages(void)
 {
     static const uint8_t no_places[MVPN_TABLE_SIZE(0)];
@@ -203,6 +235,8 @@ static void lists(void)
     same("null", "list_field, the field", mvpn_list_field(OF(list), mvpn_list_start(OF(list), 1), NO_OCTETS), sizeof list);
     same("null", "list_prefix, the list", mvpn_list_prefix(NO_OCTETS, 0, OF(router), 8), 0);
     same("null", "list_prefix, the address", mvpn_list_prefix(OF(output), mvpn_list_start(OF(output), 1), NO_OCTETS, 0), 5);
+    same("null", "list_flow, the list", mvpn_list_flow(NO_OCTETS, 0, OF(router), OF(router), OF(router)), 0);
+    same("null", "list_flow, the fields", mvpn_list_flow(OF(output), mvpn_list_start(OF(output), 1), NO_OCTETS, NO_OCTETS, NO_OCTETS), 8);
 }
 
 /* ---- the version: the archive's number, the header's number, the header's text */
@@ -226,6 +260,7 @@ int main(void)
     shared_trees();
     strings();
     listings();
+    plans();
     salvages();
     lists();
     versions();

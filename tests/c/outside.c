@@ -122,6 +122,24 @@ static void ranges(void)
     expect("group_class, by prefixes", mvpn_group_class(MVPN_AFI_IPV4, prefixes, size, OF(group)).group_class == MVPN_SSM);
 }
 
+/* Two flows that want two tunnels: what is proposed is accepted, and without its last place it is not. */
+static void plan(void)
+{
+    static const uint8_t rd[8] = { 0, 0, 0, 100, 0, 0, 0, 7 }, other[] = { 239, 1, 1, 2 };
+    static const uint8_t tunnel[] = { 0, 6, 0, 0, 32, 10, 0, 0, 1 };
+    uint8_t flows[64], places[2 * MVPN_PLACE];
+    size_t size = mvpn_list_start(OF(flows), 2);
+    size = mvpn_list_flow(OF(flows), size, OF(source), OF(group), OF(attribute));
+    size = mvpn_list_flow(OF(flows), size, OF(source), OF(other), OF(tunnel));
+    mvpn_planned planned =
+        mvpn_plan(MVPN_AFI_IPV4, OF(mvpn_no_items), OF(router), OF(rd), flows, size, OF(places));
+    expect("plan", planned.number == MVPN_DONE && planned.routes == 2);
+    expect("judge, accepted",
+           mvpn_judge(MVPN_AFI_IPV4, OF(mvpn_no_items), OF(router), OF(rd), flows, size, OF(places)).accepted == 1);
+    expect("judge, not accepted",
+           mvpn_judge(MVPN_AFI_IPV4, OF(mvpn_no_items), OF(router), OF(rd), flows, size, places, MVPN_PLACE).accepted == 0);
+}
+
 /* The router restarts, and its route comes back. */
 static void restart(void)
 {
@@ -157,6 +175,7 @@ int main(void)
     questions();
     strings();
     ranges();
+    plan();
     restart();
     salvage();
     expect("withdraw", mvpn_withdraw(OF(table), run, ANY_SIZE) == MVPN_DONE);

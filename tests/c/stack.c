@@ -310,6 +310,61 @@ RUN(salvage_one, SALVAGES(2, sizeof dropped, MVPN_DONE, 1, MVPN_MOST_PLACES - 1)
 RUN(salvage_of_other_family, SALVAGES(1, sizeof dropped, MVPN_DONE, 0, MVPN_MOST_PLACES))
 RUN(salvage_without_space, SALVAGES(2, sizeof dropped - 1, MVPN_SPACE, 0, 0))
 
+/* ---- plans: the most flows, that want as many attributes or one, and a route for each; the same with the last place bad, and with the
+ * first flow listed again with another attribute */
+
+static uint8_t wanted[2 + 64 * (2 + 16 + 2 + 16 + 2 + sizeof pim)], equal[sizeof wanted], torn[sizeof wanted];
+static uint8_t proposed[64 * MVPN_PLACE], bad_proposed[sizeof proposed], planned_places[sizeof proposed];
+
+static void fill_plans(void)
+{
+    uint8_t from[16], attribute[sizeof pim], *place = proposed;
+    size_t size = mvpn_list_start(wanted, sizeof wanted, MVPN_MOST_FLOWS), same_size = mvpn_list_start(equal, sizeof equal, MVPN_MOST_FLOWS);
+    memcpy(from, source, sizeof from);
+    memcpy(attribute, pim, sizeof attribute);
+    for (unsigned i = 0; i < MVPN_MOST_FLOWS; i++, place += MVPN_PLACE) {
+        from[15] = (uint8_t)i;
+        attribute[0] = (uint8_t)i;
+        size = mvpn_list_flow(wanted, sizeof wanted, size, from, sizeof from, group, sizeof group, attribute, sizeof attribute);
+        same_size = mvpn_list_flow(equal, sizeof equal, same_size, from, sizeof from, group, sizeof group, pim, sizeof pim);
+        place[0] = sizeof s_pmsi;
+        place[1] = sizeof attribute;
+        memcpy(place + 2, s_pmsi, sizeof s_pmsi);
+        place[2 + 26] = (uint8_t)i; /* the last octet of the source */
+        memcpy(place + 2 + sizeof s_pmsi, attribute, sizeof attribute);
+    }
+    memcpy(bad_proposed, proposed, sizeof bad_proposed);
+    bad_proposed[sizeof bad_proposed - 1] = 2;
+    memcpy(torn, wanted, sizeof torn);
+    torn[sizeof torn - sizeof pim - 2 - 16 - 2 - 1] = 0; /* the last octet of the last source, which is now the first one's */
+}
+
+static const uint8_t rd[] = { RD };
+static mvpn_judged judged;
+static mvpn_planned planned;
+
+#define JUDGES(given, list, list_len, places, wanted_number, wanted_accepted) \
+    (judged = mvpn_judge(2, given, originator, sizeof originator, rd, sizeof rd, list, list_len, places, sizeof places), \
+     judged.number == (wanted_number) && judged.accepted == (wanted_accepted))
+RUN(judge_accepted, JUDGES(NO_PREFIXES, wanted, sizeof wanted, proposed, MVPN_DONE, 1))
+RUN(judge_by_prefixes, JUDGES(PREFIXES, wanted, sizeof wanted, proposed, MVPN_DONE, 1))
+RUN(judge_not_accepted, JUDGES(NO_PREFIXES, equal, sizeof equal, proposed, MVPN_DONE, 0))
+RUN(judge_bad_place, JUDGES(NO_PREFIXES, wanted, sizeof wanted, bad_proposed, MVPN_DONE, 0))
+RUN(judge_conflict, JUDGES(NO_PREFIXES, torn, sizeof torn, proposed, MVPN_CONFLICT, 0))
+RUN(judge_short, JUDGES(NO_PREFIXES, wanted, sizeof wanted - 1, proposed, MVPN_SHORT, 0))
+RUN(judge_by_bad_prefixes, JUDGES(BAD_PREFIXES, wanted, sizeof wanted, proposed, MVPN_RANGE, 0))
+
+#define PLANS(given, list, list_len, room, wanted_number, wanted_routes) \
+    (planned = mvpn_plan(2, given, originator, sizeof originator, rd, sizeof rd, list, list_len, planned_places, room), \
+     planned.number == (wanted_number) && planned.routes == (wanted_routes))
+RUN(plan_many, PLANS(NO_PREFIXES, wanted, sizeof wanted, sizeof planned_places, MVPN_DONE, MVPN_MOST_FLOWS))
+RUN(plan_one, PLANS(NO_PREFIXES, equal, sizeof equal, sizeof planned_places, MVPN_DONE, 1))
+RUN(plan_by_prefixes, PLANS(PREFIXES, wanted, sizeof wanted, sizeof planned_places, MVPN_DONE, MVPN_MOST_FLOWS))
+RUN(plan_none, PLANS(NO_PREFIXES, mvpn_no_items, sizeof mvpn_no_items, 0, MVPN_DONE, 0))
+RUN(plan_conflict, PLANS(NO_PREFIXES, torn, sizeof torn, sizeof planned_places, MVPN_CONFLICT, 0))
+RUN(plan_without_space, PLANS(NO_PREFIXES, wanted, sizeof wanted, sizeof planned_places - 1, MVPN_SPACE, 0))
+RUN(plan_by_bad_prefixes, PLANS(BAD_PREFIXES, wanted, sizeof wanted, sizeof planned_places, MVPN_RANGE, 0))
+
 /* ---- shared trees: a table of (C-*,C-G) and (C-*,C-*) routes of one PE, and the longest lists */
 
 static const uint8_t shared_group[] = { ASM_GROUP };
@@ -506,6 +561,20 @@ static const struct {
     { "mvpn_next", next_stale, stale },
     { "mvpn_table_info", info_of_table, full },
     { "mvpn_table_info", info_of_no_table, full },
+    { "mvpn_judge", judge_accepted, full },
+    { "mvpn_judge", judge_by_prefixes, full },
+    { "mvpn_judge", judge_not_accepted, full },
+    { "mvpn_judge", judge_bad_place, full },
+    { "mvpn_judge", judge_conflict, full },
+    { "mvpn_judge", judge_short, full },
+    { "mvpn_judge", judge_by_bad_prefixes, full },
+    { "mvpn_plan", plan_many, full },
+    { "mvpn_plan", plan_one, full },
+    { "mvpn_plan", plan_by_prefixes, full },
+    { "mvpn_plan", plan_none, full },
+    { "mvpn_plan", plan_conflict, full },
+    { "mvpn_plan", plan_without_space, full },
+    { "mvpn_plan", plan_by_bad_prefixes, full },
     { "mvpn_salvage", salvage_all, full },
     { "mvpn_salvage", salvage_all, stale },
     { "mvpn_salvage", salvage_all, reversed },
@@ -581,6 +650,7 @@ int main(void)
     fill(roomy, 1);
     fill_stale();
     fill_damaged();
+    fill_plans();
     fill_prefixes();
     fill_shared_trees();
     fill_leaves();

@@ -24,6 +24,9 @@ pub mod nlri_writing;
 pub mod no_tunnel;
 pub mod outside;
 pub mod pieces;
+pub mod plan;
+pub mod plan_examples;
+pub mod plan_refusals;
 pub mod random_cases;
 pub mod ranges;
 pub mod ranges_examples;
@@ -59,6 +62,7 @@ pub fn all(harness: &mut Harness, options: &Options) -> Checked {
     of_following(harness, options)?;
     of_salvage(harness, options)?;
     of_explanations(harness, options)?;
+    of_plans(harness, options)?;
     of_restarts(harness, options)?;
     of_ranges(harness, options)?;
     of_disturbance(harness, options)?;
@@ -129,6 +133,11 @@ pub fn of_salvage(harness: &mut Harness, options: &Options) -> Checked {
 /// Explanations alone.
 pub fn of_explanations(harness: &mut Harness, options: &Options) -> Checked {
     explanations::all(harness, &mut Random::new(options.seed))
+}
+
+/// Plans for flows: the judge and the planner.
+pub fn of_plans(harness: &mut Harness, options: &Options) -> Checked {
+    plan::all(harness, &mut Random::new(options.seed), options.cases)
 }
 
 /// Routers that restart.

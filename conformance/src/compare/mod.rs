@@ -6,6 +6,7 @@ pub mod following;
 pub mod group;
 pub mod nlri;
 pub mod pieces;
+pub mod plan;
 pub mod run;
 pub mod salvage;
 pub mod table;
@@ -79,7 +80,8 @@ pub struct Harness {
     pub inputs: u64,
     /// Calls compared in sequences on one table.
     pub sequence_calls: u64,
-    /// The NLRI of a table call or of a BIER route, the memory that is salvaged, and the only input of the calls without a table.
+    /// The NLRI of a table call or of a BIER route, the memory that is salvaged, the places proposed, and the only input of the calls without a
+    /// table.
     input: Lent,
     /// The list of dropped places too.
     output: Lent,
@@ -87,9 +89,9 @@ pub struct Harness {
     attribute: Lent,
     fec: Lent,
     prefixes: Lent,
-    /// Router, source and group.
+    /// Router, source and group; of a plan originator and distinguisher.
     flow: [Lent; 3],
-    /// Source Active routes and states.
+    /// Source Active routes and states; the flows of a plan.
     lists: [Lent; 2],
     /// Leaf routes.
     leaves: Lent,

@@ -3,8 +3,9 @@
 //! Each does the whole work of the archive's call, no more and no less. It has the same C arguments and gives its answer by
 //! value; it refuses the same inputs with the same numbers, in document 01's order, before it writes anything; every
 //! call on a table but making and salvaging one tests every octet of it for soundness each time; and every octet that the call
-//! promises is written, those behind a route included. Nothing is allocated or kept between calls. `tests.rs` and the other
-//! files of tests compare all of this with the second decoder and the second table.
+//! promises is written, those behind a route included. Nothing is allocated or kept between calls. `tests.rs` and the other files of
+//! tests here compare all of this with the second decoder and the second table. What a planner proposes is its own choice: that of plain
+//! Rust is judged, as the archive's is.
 //!
 //! It is written from document 01 and takes nothing from the crates, so it may go another way: a match looks for one tier
 //! after another among the routes of that tier's NLRI size, where the archive passes over all routes once. It is written
@@ -25,6 +26,9 @@ mod list;
 mod nlri_read;
 mod nlri_write;
 mod pieces;
+mod plan;
+#[cfg(test)]
+mod plan_tests;
 mod restarts;
 mod run;
 mod salvage;
@@ -50,6 +54,7 @@ pub use group::group_class;
 pub use nlri_read::nlri_read;
 pub use nlri_write::nlri_write;
 pub use pieces::{pieces_feed, pieces_finish, pieces_start};
+pub use plan::{judge, plan};
 pub use restarts::{mark, sweep};
 pub use run::{step, walk};
 pub use salvage::salvage;
@@ -76,6 +81,7 @@ const SPACE: u32 = 16;
 const DEEP: u32 = 17;
 const RANGE: u32 = 18;
 const GROUP: u32 = 19;
+const CONFLICT: u32 = 20;
 
 /// The octets of a customer address under an AFI; 0 for a bad AFI.
 #[inline(always)]

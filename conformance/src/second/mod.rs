@@ -28,6 +28,9 @@ pub mod number;
 pub mod pieces;
 #[cfg(test)]
 mod pieces_tests;
+pub mod plan;
+#[cfg(test)]
+mod plan_tests;
 pub mod ranges;
 #[cfg(test)]
 mod ranges_tests;

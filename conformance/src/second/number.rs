@@ -22,6 +22,7 @@ pub enum Number {
     Deep = 17,
     Range = 18,
     Group = 19,
+    Conflict = 20,
 }
 
 impl Number {

@@ -18,7 +18,7 @@ use Rattle.octets.proofs.Choice.{pick-true, pick-false, pick-passed, both-true,
 use Rattle.octets.proofs.Outcome.{goes, done-given, refused-of, refuses-by, number-goes, number-stops, number-refuses}
 use Rattle.octets.proofs.AllOctets.{octets-of, octets-part}
 use Rattle.octets.proofs.Lists.{length-part, part-then}
-use Rattle.lists.specs.LentLists.{Item, itemField, frontItem, afterItem, listItems}
+use Rattle.lists.specs.LentLists.{Item, itemField, frontItem, afterItem, frontItems}
 use Rattle.lists.proofs.Going.{Going, going, first-left, none-left, turned}
 use Rattle.nlri.specs.Reading.{readOfType}
 use Rattle.tunnel.specs.declared.bier.BierIdentifier.{BierIdentifier}
@@ -165,17 +165,17 @@ module _ (afi : ℕ) (x : Item) (first : ℕ) (leaf : List ℕ) (is : leaf ≡ i
 pub ruleset cursor = (going, key-at, attribute-at, id-none, id-some, leaf-unnamed, leaf-tunnel)
 
 -- the loop over Leaf routes
-module _ (afi : ℕ) (nlri : List ℕ) (subDomain setNumber : ℕ) (start string : List ℕ) {list : List ℕ} {left : ℕ} {t : List ℕ}
-    (so-far : Going 2 list (gathered afi nlri subDomain setNumber start) (gathered afi nlri subDomain setNumber string) left t) where
+module _ (afi : ℕ) (nlri : List ℕ) (subDomain setNumber : ℕ) (start string : List ℕ) {items : List Item} {left : ℕ} {t : List ℕ}
+    (so-far : Going 2 items (gathered afi nlri subDomain setNumber start) (gathered afi nlri subDomain setNumber string) left t) where
   pub gather-next : 0 < left → (fault : ℕ) → fault ≡ numberOf (readLeaf afi (frontItem 2 t)) → fault ≡ DONE → (id : ℕ) → id ≡ standingId nlri subDomain (frontItem 2 t)
-      → (string′ : List ℕ) → string′ ≡ withId setNumber string id → (t′ : List ℕ) → t′ ≡ afterItem 2 t → Going 2 list (gathered afi nlri subDomain setNumber start) (gathered afi nlri subDomain setNumber string′) (left - 1) t′
+      → (string′ : List ℕ) → string′ ≡ withId setNumber string id → (t′ : List ℕ) → t′ ≡ afterItem 2 t → Going 2 items (gathered afi nlri subDomain setNumber start) (gathered afi nlri subDomain setNumber string′) (left - 1) t′
   unfolding gathered
   gather-next more fault e d id is string′ w t′ a =
       let l = leaf-done afi (frontItem 2 t) fault e d in
       turned so-far _ t′ more a
-      (λ xs. sym (goes _ _ (l .0) _ (l .1) (ap (λ (s : List ℕ). gathered afi nlri subDomain setNumber s xs) (w ∙ ap (withId setNumber string) (is ∙ sym (id-stands afi (frontItem 2 t) (l .0) (l .1) nlri subDomain))))))
+      (sym (goes _ _ (l .0) _ (l .1) (ap (λ (s : List ℕ). gathered afi nlri subDomain setNumber s (frontItems 2 (left - 1) (afterItem 2 t))) (w ∙ ap (withId setNumber string) (is ∙ sym (id-stands afi (frontItem 2 t) (l .0) (l .1) nlri subDomain))))))
 
-  pub gather-stop : 0 < left → (fault : ℕ) → fault ≡ numberOf (readLeaf afi (frontItem 2 t)) → (fault ≡ DONE → ⊥) → Yields (gathered afi nlri subDomain setNumber start (listItems 2 list)) fault string
+  pub gather-stop : 0 < left → (fault : ℕ) → fault ≡ numberOf (readLeaf afi (frontItem 2 t)) → (fault ≡ DONE → ⊥) → Yields (gathered afi nlri subDomain setNumber start items) fault string
   unfolding gathered
   gather-stop more fault e d =
       record {
@@ -183,7 +183,7 @@ module _ (afi : ℕ) (nlri : List ℕ) (subDomain setNumber : ℕ) (start string
         done = λ z. absurd (d z);
       }
 
-  pub gather-last : left ≤ 0 → Yields (gathered afi nlri subDomain setNumber start (listItems 2 list)) DONE string
+  pub gather-last : left ≤ 0 → Yields (gathered afi nlri subDomain setNumber start items) DONE string
   unfolding gathered numberOf
   gather-last end = let last = none-left so-far end in record { is = ap numberOf (sym last); done = λ z. last }
 

@@ -107,11 +107,6 @@ pub part-cleared : (start end : ℕ) (t z : List ℕ) → start ≤ end → end 
     → take start t ++ (z ++ drop (end - start) (drop start t)) ≡ take start t ++ (zeros (end - start) ++ drop end t)
 part-cleared start end t z h k f = rw (f, part-size start end t h k, after-part start end t h)
 
--- a part lent to be written over
-pub lent-over : (n start : ℕ) (t p : List ℕ) → length p ≡ n → take start t ++ (p ++ drop (start + n - start) (drop start t)) ≡ placed start p t
-unfolding placed
-lent-over n start t p e = rw (after-part start (start + n) t (omega arith), e)
-
 -- the first octets moved down by n, and then the last n cleared
 -- zeros in all octets from k on
 pub rest-cleared : (k : ℕ) (y z : List ℕ) → k ≤ length y → z ≡ zeros (length (take (length y - k) (drop k y)))

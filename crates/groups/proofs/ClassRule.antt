@@ -27,8 +27,8 @@ use Rattle.nlri.proofs.Statements.Classes.{specific-multicast, groupRule as sta
 use Rattle.nlri.proofs.Definitions.Lengths.{family-good, good-family}
 use Rattle.nlri.proofs.Definitions.Families.{family-refused}
 use Rattle.groups.specs.Prefixes.{holdsGroup, itemHolds, readPrefixes}
-use Rattle.groups.specs.Classes.{classAmong, classIn, classBy}
-use Rattle.groups.specs.ClassRule.{Prefix, GoodPrefixes, HoldsGroup, Specific, byStandard, byPrefix, ClassRefusal, badFamily, badPrefixes, badGroup, ClassTold, ssm, asm, ClassRule}
+use Rattle.groups.specs.Classes.{classAmong, classIn, prefixesUnder, classBy}
+use Rattle.groups.specs.ClassRule.{Prefix, GoodPrefixes, UnderRefusal, otherFamily, refusedPrefixes, HoldsGroup, Specific, byStandard, byPrefix, ClassRefusal, badFamily, badPrefixes, badGroup, ClassTold, ssm, asm, ClassRule}
 use Rattle.groups.proofs.Bits.{same-bits}
 use Rattle.groups.proofs.Prefixes.{item-among, prefixes-good, good-prefixes, prefixes-refused, refused-prefixes}
 use Rattle.groups.proofs.Classes.{class-not-done}
@@ -216,6 +216,30 @@ module _ (afi : ℕ) (p g : List ℕ) where
       (λ n. sym (goes _ _ _ _ (f .1) (goes _ _ _ _ r refl)) ∙ n .1 ∙ ap refused (class-refused afi (f .0) (f .1) p (good .items) r g (n .0) (n .1) .0))
       (outcome (classIn (f .0) (good .items) g))
 
+-- prefixes by themselves
+
+module _ (afi : ℕ) (p : List ℕ) where
+  why-prefixes : (n : ℕ) → prefixesUnder afi p ≡ refused n → UnderRefusal afi p n
+  unfolding prefixesUnder
+  why-prefixes n e =
+      ⊎-elim
+      (λ r. let q = family-refused afi n r in subst (UnderRefusal afi p) (sym (q .0)) (otherFamily (q .1 .0) (q .1 .1)))
+      (λ f. refusedPrefixes (good-family afi (f .value) (f .first)) (prefixes-refused afi (f .value) (f .first) p n (f .second)))
+      (stopped _ _ _ e)
+
+  prefixes-why : {n : ℕ} → UnderRefusal afi p n → prefixesUnder afi p ≡ refused n
+  unfolding prefixesUnder
+  prefixes-why (otherFamily one two) =
+      ⊎-elim (λ f. absurd (⊎-elim one two (good-family afi (f .0) (f .1)))) (λ r. sym (stops _ _ _ (r .1)) ∙ ap refused (family-refused afi (r .0) (r .1) .0)) (outcome (familyBits afi))
+  prefixes-why (refusedPrefixes family r) = let f = family-good afi family in sym (goes _ _ _ _ (f .1) (sym (refused-prefixes afi (f .0) (f .1) p r)))
+
+  prefixes-under : ((items : List Item) × (prefixesUnder afi p ≡ given items)) ↔ (((afi ≡ 1) ⊎ (afi ≡ 2)) × GoodPrefixes afi p)
+  unfolding prefixesUnder
+  prefixes-under = (
+    λ g. let f = passed _ _ _ (g .1) in (good-family afi (f .value) (f .first), prefixes-good afi (f .value) (f .first) p (g .0) (f .second) .0),
+    λ x. let f = family-good afi (x .0) in (x .1 .items, sym (goes _ _ _ _ (f .1) (sym (good-prefixes afi (f .0) (f .1) p (x .1))))),
+  )
+
 -- the class told, by what is stated of it
 
 class-told : (afi : ℕ) (p g : List ℕ) (class : ℕ) → classBy afi p g ≡ given class → ClassTold afi p g class
@@ -238,4 +262,4 @@ answers afi p g =
     (λ n e. ap (λ (o : Outcome ℕ). groupOf o .«group_class») e)
 
 pub classRule : ClassRule
-classRule = record { refuses = λ afi p g n. (refusal afi p g n, refuses afi p g); gives = λ afi p g class. (class-told afi p g class, told-class afi p g class); answers = answers }
+classRule = record { prefixesRefused = λ afi p n. (why-prefixes afi p n, prefixes-why afi p); prefixesGiven = prefixes-under; refuses = λ afi p g n. (refusal afi p g n, refuses afi p g); gives = λ afi p g class. (class-told afi p g class, told-class afi p g class); answers = answers }

@@ -11,9 +11,9 @@ use Rattle.octets.specs.Numbers.{DONE, SHORT, RANGE}
 use Rattle.octets.specs.Choice.{pick, both}
 use Rattle.octets.specs.Outcome.{Outcome, given, refused, onOutcome, andThen, numberOf}
 use Rattle.octets.proofs.Choice.{pick-true, pick-false, pick-cong, tested, both-held, both-left, both-last}
-use Rattle.octets.proofs.Outcome.{Refuses, value, number, refuses-pick, refuses-then, refuses-by, and-assoc, and-given, and-refused, and-cong, and-pick, goes, stops, given-unless}
+use Rattle.octets.proofs.Outcome.{number-stops, number-goes, Refuses, value, number, refuses-pick, refuses-then, refuses-by, and-assoc, and-given, and-refused, and-cong, and-pick, goes, stops, given-unless}
 use Rattle.lists.specs.LentLists.{Item, itemField, frontItem, afterItem, frontItems, wholeItems, listCount, wholeList, listItems, readList, firstItem, everyItem, someItem}
-use Rattle.lists.proofs.Items.{read-list-given}
+use Rattle.lists.proofs.Items.{read-list-given, list-items-count}
 use Rattle.lists.proofs.Going.{Going, going, turned, first-left, none-left}
 use Rattle.nlri.specs.declared.group.Group.{Group}
 use Rattle.nlri.specs.Family.{familyBits}
@@ -21,7 +21,7 @@ use Rattle.nlri.specs.Groups.{ASM, SSM, classUnder, classOf, groupOf}
 use Rattle.nlri.proofs.Definitions.Lengths.{family-octets}
 use Rattle.nlri.proofs.Definitions.Groups.{group-refused, group-given}
 use Rattle.groups.specs.Prefixes.{MOST_PREFIXES, holdsGroup, goodItem, itemHolds, readPrefixes}
-use Rattle.groups.specs.Classes.{classAmong, classIn, classBy}
+use Rattle.groups.specs.Classes.{classAmong, classIn, prefixesUnder, classBy}
 use Rattle.groups.specs.Inner.{noneGiven, holdsSized, classAlong, classWithin}
 
 -- no refusal is DONE
@@ -62,17 +62,6 @@ class-by-refuses afi p g =
 pub class-not-done : (afi : ℕ) (p g : List ℕ) (n : ℕ) → classBy afi p g ≡ refused n → n ≡ DONE → ⊥
 class-not-done afi p g n e = refuses-by _ n (class-by-refuses afi p g) e
 
--- a list has as many items as it says
-
-front-items-count : (fields count : ℕ) (s : List ℕ) → length (frontItems fields count s) ≡ count
-unfolding frontItems
-front-items-count fields zero s = refl
-front-items-count fields (suc count) s = ap suc (front-items-count fields count _)
-
-list-items-count : (fields : ℕ) (list : List ℕ) → length (listItems fields list) ≡ listCount list
-unfolding listItems
-list-items-count fields list = front-items-count fields (listCount list) _
-
 -- no prefix is given
 
 pub none-short : (p : List ℕ) → length p < 2 → false ≡ noneGiven p
@@ -111,17 +100,17 @@ none-by afi p g flag e h r is =
 
 -- one after the other
 
-module _ (size : ℕ) (g : List ℕ) (class : ℕ) {list : List ℕ} {left : ℕ} {t : List ℕ} (so-far : Going 1 list (classAlong size g ASM) (classAlong size g class) left t) where
+module _ (size : ℕ) (g : List ℕ) (class : ℕ) {items : List Item} {left : ℕ} {t : List ℕ} (so-far : Going 1 items (classAlong size g ASM) (classAlong size g class) left t) where
   pub along-next : 0 < left → goodItem (8 * size) (frontItem 1 t) ≡ true → (next : ℕ) → next ≡ pick (holdsSized size (itemField 0 (frontItem 1 t)) g) SSM class
-      → (t′ : List ℕ) → t′ ≡ afterItem 1 t → Going 1 list (classAlong size g ASM) (classAlong size g next) (left - 1) t′
+      → (t′ : List ℕ) → t′ ≡ afterItem 1 t → Going 1 items (classAlong size g ASM) (classAlong size g next) (left - 1) t′
   unfolding classAlong
-  along-next more good next e t′ f = rw e (turned so-far (classAlong size g _) t′ more f (λ xs. pick-true _ _ _ good))
+  along-next more good next e t′ f = rw e (turned so-far (classAlong size g _) t′ more f (pick-true _ _ _ good))
 
-  pub along-stop : 0 < left → goodItem (8 * size) (frontItem 1 t) ≡ false → (r : Group) → r ≡ groupOf (refused RANGE) → r ≡ groupOf (classAlong size g ASM (listItems 1 list))
+  pub along-stop : 0 < left → goodItem (8 * size) (frontItem 1 t) ≡ false → (r : Group) → r ≡ groupOf (refused RANGE) → r ≡ groupOf (classAlong size g ASM items)
   unfolding classAlong
   along-stop more bad r e = e ∙ ap groupOf (sym (first-left so-far more ∙ pick-false _ _ _ bad))
 
-  pub along-last : left ≤ 0 → record { number = DONE; «group_class» = class } ≡ groupOf (classAlong size g ASM (listItems 1 list))
+  pub along-last : left ≤ 0 → record { number = DONE; «group_class» = class } ≡ groupOf (classAlong size g ASM items)
   unfolding classAlong groupOf numberOf onOutcome
   along-last end = ap groupOf (sym (none-left so-far end))
 
@@ -226,6 +215,30 @@ module _ (afi size : ℕ) (ofFamily : familyBits afi ≡ given (8 * size)) (p g 
         pub class-told : (count ≡ 0 → ⊥) → told ≡ groupOf (classBy afi p g)
         unfolding where-given
         class-told some = is ∙ ap groupOf (within-given ∙ sym (by-count ∙ ap given (pick-false _ _ _ (ne-eqb _ _ (λ e. some (counted ∙ e))))))
+
+-- the number of prefixes by themselves
+
+along-number : (size : ℕ) (g : List ℕ) (items : List Item) → numberOf (classAlong size g ASM items) ≡ numberOf (pick (everyItem (goodItem (8 * size)) items) (given items) (refused RANGE))
+unfolding pick numberOf
+along-number size g items = ap numberOf (along-is size g ASM items) ∙ tested (everyItem (goodItem (8 * size)) items) (λ t. rw t) (λ f. rw f)
+
+then-number : {A B C : Type 0} (o : Outcome A) (f : A → Outcome B) (h : A → Outcome C) → ((a : A) → numberOf (f a) ≡ numberOf (h a)) → numberOf (andThen o f) ≡ numberOf (andThen o h)
+unfolding andThen numberOf
+then-number (given a) f h e = e a
+then-number (refused n) f h e = refl
+
+within-number : (size : ℕ) (p g : List ℕ) → numberOf (classWithin size p g) ≡ numberOf (readPrefixes (8 * size) p)
+unfolding classWithin readPrefixes pick numberOf
+within-number size p g =
+    tested (leb (listCount p) MOST_PREFIXES) (λ t. rw t (then-number (readList 1 p) _ _ (along-number size g))) (λ f. rw f)
+
+pub under-family : (afi : ℕ) (p : List ℕ) (n : ℕ) → familyBits afi ≡ refused n → n ≡ numberOf (prefixesUnder afi p)
+unfolding prefixesUnder
+under-family afi p n e = number-stops n _ _ e
+
+pub under-known : (afi size : ℕ) (p g : List ℕ) → familyBits afi ≡ given (8 * size) → (told : Group) → told ≡ groupOf (classWithin size p g) → told .number ≡ numberOf (prefixesUnder afi p)
+unfolding prefixesUnder groupOf
+under-known afi size p g e told is = number-goes _ _ _ _ e (ap (λ (k : Group). k .number) is ∙ within-number size p g)
 
 -- the number of a list of prefixes, and each of them in turn
 module _ (size : ℕ) (p g : List ℕ) (count : ℕ) (told : count ≡ listCount p) where

@@ -12,7 +12,7 @@ use Rattle.octets.specs.Lists.{Among}
 use Rattle.lists.specs.LentLists.{Item, listCount, readList}
 use Rattle.nlri.specs.Groups.{Multicast, SourceSpecific, groupOf}
 use Rattle.groups.specs.Prefixes.{bitAt}
-use Rattle.groups.specs.Classes.{classBy}
+use Rattle.groups.specs.Classes.{prefixesUnder, classBy}
 
 -- no bit of an address is set past its first `bits`
 abbrev pub ClearPast : (bits : ℕ) → (address : List ℕ) → Type 0
@@ -37,6 +37,11 @@ pub data PrefixRefusal (afi : ℕ) (prefixes : List ℕ) : ℕ → Type 0 where
   badPrefix : listCount prefixes ≤ 8 → (items : List Item) → readList 1 prefixes ≡ given items → (prefix : List ℕ) → Among (prefix ∷ []) items → (Prefix afi prefix → ⊥)
       → PrefixRefusal afi prefixes RANGE
 
+-- why prefixes are refused under any AFI, whatever the group: FAMILY first
+pub data UnderRefusal (afi : ℕ) (prefixes : List ℕ) : ℕ → Type 0 where
+  otherFamily : afi ≢ 1 → afi ≢ 2 → UnderRefusal afi prefixes FAMILY
+  refusedPrefixes : {n : ℕ} → (afi ≡ 1) ⊎ (afi ≡ 2) → PrefixRefusal afi prefixes n → UnderRefusal afi prefixes n
+
 -- a prefix of so many bits holds a group: the group has each of them
 abbrev pub HoldsGroup : (bits : ℕ) → (address group : List ℕ) → Type 0
 HoldsGroup bits address group = (i : ℕ) → i < bits → bitAt address i ≡ bitAt group i
@@ -60,6 +65,9 @@ pub data ClassTold (afi : ℕ) (prefixes group : List ℕ) : (class : ℕ) → T
 
 -- the class of a group: each number and each class exactly when
 pub record ClassRule : Type 0 where
+  -- prefixes by themselves
+  pub prefixesRefused : (afi : ℕ) (prefixes : List ℕ) (n : ℕ) → (prefixesUnder afi prefixes ≡ refused n) ↔ UnderRefusal afi prefixes n
+  pub prefixesGiven : (afi : ℕ) (prefixes : List ℕ) → ((items : List Item) × (prefixesUnder afi prefixes ≡ given items)) ↔ (((afi ≡ 1) ⊎ (afi ≡ 2)) × GoodPrefixes afi prefixes)
   pub refuses : (afi : ℕ) (prefixes group : List ℕ) (n : ℕ) → (classBy afi prefixes group ≡ refused n) ↔ ClassRefusal afi prefixes group n
   pub gives : (afi : ℕ) (prefixes group : List ℕ) (class : ℕ) → (classBy afi prefixes group ≡ given class) ↔ ClassTold afi prefixes group class
   -- as the call answers it: class 0 on a refusal

@@ -18,6 +18,10 @@ classAmong items group standard = pick (eqb (length items) 0) standard (pick (so
 unfoldable pub classIn : (bits : ℕ) → List Item → (group : List ℕ) → Outcome ℕ
 classIn bits items group = andThen (classUnder bits group) (λ standard. given (classAmong items group standard))
 
+-- prefixes under an AFI: FAMILY, then RANGE and SHORT
+unfoldable pub prefixesUnder : (afi : ℕ) → (prefixes : List ℕ) → Outcome (List Item)
+prefixesUnder afi prefixes = andThen (familyBits afi) (λ bits. readPrefixes bits prefixes)
+
 -- FAMILY, then RANGE and SHORT, then FLOW
 unfoldable pub classBy : (afi : ℕ) → (prefixes group : List ℕ) → Outcome ℕ
 classBy afi prefixes group = andThen (familyBits afi) (λ bits. andThen (readPrefixes bits prefixes) (λ items. classIn bits items group))

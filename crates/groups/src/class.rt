@@ -1,10 +1,10 @@
 // The class of a group, with the prefixes that a caller gives.
 ghost use mathlib.Core.Path.{_≡_};
 ghost use Prim.Native.Nat.{_*_};
-ghost use Rattle.octets.specs.Outcome.{given};
+ghost use Rattle.octets.specs.Outcome.{given, numberOf};
 ghost use Rattle.nlri.specs.Family.{familyBits};
 ghost use Rattle.nlri.specs.Groups.{groupOf};
-ghost use Rattle.groups.specs.Classes.{classBy};
+ghost use Rattle.groups.specs.Classes.{prefixesUnder, classBy};
 use crate::lent;
 use nlri::Family;
 use nlri::Group;
@@ -48,4 +48,15 @@ fn class_of_family(afi: u16, size: usize, prefixes: &[u8], group: &[u8]) -> Grou
         return standard;
     }
     by_prefixes
+}
+
+// The number of prefixes, whatever group they are for: FAMILY, RANGE, SHORT, or DONE. None of them tells of the group, for which octets
+// at hand stand in.
+pub fn prefixes_fault(afi: u16, prefixes: &[u8]) -> u32
+    ensures { λ r. ⌜ r ≡ numberOf (prefixesUnder afi (now (prefixes .entry))) ⌝ }
+{
+    match nlri::family_of(afi) {
+        Family::Unknown(number) => number,
+        Family::Known(kind) => lent::class_within(prefixes, kind.octets(), prefixes).number,
+    }
 }

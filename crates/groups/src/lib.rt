@@ -5,3 +5,4 @@ mod prefix;
 
 pub use class::class_by_prefixes;
 pub use class::group_class;
+pub use class::prefixes_fault;

@@ -5,6 +5,7 @@ use mathlib.Core.Bool.{Bool, true, false, not}
 use mathlib.Core.List.{List, [], _∷_, _++_}
 use mathlib.Core.Logic.{_↔_, _⊎_, inl, inr, ⊎-elim}
 use borrow.Author.Tests.{not-false}
+use lib.ListN.{length}
 use Rattle.octets.specs.Numbers.{SHORT}
 use Rattle.octets.specs.Outcome.{given, refused}
 use Rattle.octets.specs.Lists.{Among, first, later}
@@ -109,3 +110,14 @@ front-items-pairs (suc count) s x m = ⊎-elim (λ e. rw e) (front-items-pairs c
 pub read-list-pairs : (list : List ℕ) (items : List Item) → readList 2 list ≡ given items → Pairs items
 unfolding listItems
 read-list-pairs list items e x m = front-items-pairs (listCount list) _ x (subst (Among x) (read-list-given 2 list items e) m)
+
+-- a list has as many items as it says
+
+front-items-count : (fields count : ℕ) (s : List ℕ) → length (frontItems fields count s) ≡ count
+unfolding frontItems
+front-items-count fields zero s = refl
+front-items-count fields (suc count) s = ap suc (front-items-count fields count _)
+
+pub list-items-count : (fields : ℕ) (list : List ℕ) → length (listItems fields list) ≡ listCount list
+unfolding listItems
+list-items-count fields list = front-items-count fields (listCount list) _

@@ -21,6 +21,8 @@ ghost use Rattle.routes.specs.Info.{infoOf};
 ghost use Rattle.routes.specs.Salvage.{salvageOf, LeavesBoth};
 ghost use Rattle.bier.specs.BierString.{egressOf};
 ghost use Rattle.shared_trees.specs.Tree.{treeOf};
+ghost use Rattle.plan.specs.Flows.{vrfOf};
+ghost use Rattle.plan.specs.Calls.{judgeOf, planOf};
 ghost use Rattle.mvpn.specs.Answers.{stepAnswer, attributeGiven, attributeRefused, attributeAnswer};
 use bier::Egress;
 use nlri::Group;
@@ -33,6 +35,8 @@ use octets::number::DONE;
 use pieces::Fed;
 use pieces::Pieces;
 use pieces::UnfinishedNlri;
+use plan::Judged;
+use plan::Planned;
 use routes::Explained;
 use routes::Following;
 use routes::Installed;
@@ -121,9 +125,9 @@ impl AttributeAnswer {
 // The version of the library, as the file VERSION has it: major, minor and patch, each an octet of the number.
 #[no_mangle]
 pub extern "C" fn mvpn_version() -> u32
-    ensures { λ r. ⌜ r ≡ 0 * 65536 + 16 * 256 + 0 ⌝ }
+    ensures { λ r. ⌜ r ≡ 0 * 65536 + 17 * 256 + 0 ⌝ }
 {
-    0 * 65536 + 16 * 256 + 0
+    0 * 65536 + 17 * 256 + 0
 }
 
 // Reads a single NLRI.
@@ -379,4 +383,34 @@ pub extern "C" fn mvpn_table_info(table: &[u8]) -> TableInfo
     ensures { λ r. ⌜ r ≡ infoOf (now (table .entry)) ⌝ }
 {
     table::info(table)
+}
+
+// Whether routes proposed as table places have that originator and RD, repeat no NLRI, and give each flow its wanted attribute.
+#[no_mangle]
+pub extern "C" fn mvpn_judge(
+    afi: u16,
+    prefixes: &[u8],
+    originator: &[u8],
+    distinguisher: &[u8],
+    flows: &[u8],
+    places: &[u8],
+) -> Judged
+    ensures { λ r. ⌜ r ≡ judgeOf afi (vrfOf (now (prefixes .entry)) (now (originator .entry)) (now (distinguisher .entry))) (now (flows .entry)) (now (places .entry)) ⌝ }
+{
+    plan::judge(afi, prefixes, originator, distinguisher, flows, places)
+}
+
+// Proposes few routes for flows, as table places at the front of the output.
+#[no_mangle]
+pub extern "C" fn mvpn_plan(
+    afi: u16,
+    prefixes: &[u8],
+    originator: &[u8],
+    distinguisher: &[u8],
+    flows: &[u8],
+    output: &mut [u8],
+) -> Planned
+    ensures { λ r. ⌜ Leaves (planOf afi (vrfOf (now (prefixes .entry)) (now (originator .entry)) (now (distinguisher .entry))) (now (flows .entry)) (now (output .entry))) r (now (output .exit)) ⌝ }
+{
+    plan::plan(afi, prefixes, originator, distinguisher, flows, output)
 }

@@ -25,7 +25,7 @@ WIDTH = 4
 abbrev pub KEY : ℕ
 KEY = 5
 
--- tunnel type not in the table of identifiers
+-- tunnel type not in the table of identifiers; wanted for a flow: type 0
 abbrev pub TUNNEL : ℕ
 TUNNEL = 6
 
@@ -33,11 +33,11 @@ TUNNEL = 6
 abbrev pub IDENT : ℕ
 IDENT = 7
 
--- attribute over 64 octets, run over 4,096, list of more items than the call takes; at writing a body for mLDP over 255
+-- attribute over 64 octets, run over 4,096, list of more items than the call takes, proposed places over 8,192; at writing a body for mLDP over 255
 abbrev pub LONG : ℕ
 LONG = 8
 
--- BIER with label 0 at install; a label field over 16,777,215 at writing
+-- BIER with label 0 at install, or wanted for a flow; a label field over 16,777,215 at writing
 abbrev pub LABEL : ℕ
 LABEL = 9
 
@@ -61,7 +61,7 @@ ROOM = 13
 abbrev pub ABSENT : ℕ
 ABSENT = 14
 
--- router or originator address not 4 or 16 octets, source or group not of the family's size, or group asked not multicast
+-- router or originator address not 4 or 16 octets, distinguisher not 8, source or group not of the family's size, or group asked not multicast
 abbrev pub FLOW : ℕ
 FLOW = 15
 
@@ -80,3 +80,7 @@ RANGE = 18
 -- a Source Active route whose group is source-specific, by the standard range
 abbrev pub GROUP : ℕ
 GROUP = 19
+
+-- one flow is listed with two different wanted attributes
+abbrev pub CONFLICT : ℕ
+CONFLICT = 20

@@ -1,4 +1,4 @@
-// The numbers a call gives back (document 01, "The numbers a call gives back"; W-207, W-209).
+// The numbers a call gives back (document 01, "The numbers a call gives back"; W-207, W-209, W-210, W-214).
 pub const DONE: u32 = 0;
 
 pub const SHORT: u32 = 1;
@@ -38,3 +38,5 @@ pub const DEEP: u32 = 17;
 pub const RANGE: u32 = 18;
 
 pub const GROUP: u32 = 19;
+
+pub const CONFLICT: u32 = 20;

@@ -4,8 +4,8 @@ use mathlib.Core.Path.{_≡_, sym, ap, _∙_}
 use mathlib.Core.List.{List, [], _∷_, _++_, append-assoc}
 use native.Mathlib.Nat.{zero-add}
 use native.Mathlib.Omega.{arith}
-use lib.ListN.{length, length-append, drop, replicate-append-replicate}
-use lib.Seq.{drop-at}
+use lib.ListN.{length, length-append, take, drop, replicate-append-replicate}
+use lib.Seq.{drop-at, drop-drop}
 use Rattle.octets.specs.Octets.{placed}
 use Rattle.octets.specs.Order.{zeros}
 use Rattle.octets.specs.Choice.{pick}
@@ -42,3 +42,10 @@ place-written n a z x y w i j k h e p q r =
     whole .1 ∙ ap (placed 0 ((sizes ++ n) ++ a)) e ∙ over ∙ ap (λ (m : ℕ). ((sizes ++ n) ++ a) ++ zeros m) left
     ∙ ap (λ (l : List ℕ). length n ∷ (length a ∷ l)) (append-assoc n a (zeros (126 - (length n + length a)))
     ∙ ap (λ (l : List ℕ). n ++ (a ++ l)) (ap zeros last ∙ zeros-split (125 - (length n + length a)) 1))
+
+-- a part lent to be written over
+pub lent-over : (n start : ℕ) (t p : List ℕ) → length p ≡ n → take start t ++ (p ++ drop (start + n - start) (drop start t)) ≡ placed start p t
+unfolding placed
+lent-over n start t p e =
+    let last : start + (start + n - start) ≡ start + length p = omega arith in
+    ap (λ (x : List ℕ). take start t ++ (p ++ x)) (drop-drop (start + n - start) start t ∙ ap (λ (k : ℕ). drop k t) last)

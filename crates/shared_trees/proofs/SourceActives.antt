@@ -85,15 +85,15 @@ lacking-found afi tree (x ∷ xs) none =
     rw (here, lacking-found afi tree xs (later-none afi x xs none))
 
 -- every item of a list meets a test, and so does the one at the cursor
-module _ (test : Item → Bool) {fields : ℕ} {list : List ℕ} {left : ℕ} {t : List ℕ}
-    (going : Going fields list (firstItem (λ x. not (test x)) (λ x. false) true) (firstItem (λ x. not (test x)) (λ x. false) true) left t)
-    (all : everyItem test (listItems fields list) ≡ true) (more : 0 < left) where
+module _ (test : Item → Bool) {fields : ℕ} {items : List Item} {left : ℕ} {t : List ℕ}
+    (going : Going fields items (firstItem (λ x. not (test x)) (λ x. false) true) (firstItem (λ x. not (test x)) (λ x. false) true) left t)
+    (all : everyItem test items ≡ true) (more : 0 < left) where
   pub going-every : test (frontItem fields t) ≡ true
   unfolding everyItem
   going-every = is-true _ (λ off. opposite all (sym (going-stop (λ x. not (test x)) (λ x. false) true going false more (ap not off) refl)))
 
   pub going-every-next : (t′ : List ℕ) → t′ ≡ afterItem fields t
-      → Going fields list (firstItem (λ x. not (test x)) (λ x. false) true) (firstItem (λ x. not (test x)) (λ x. false) true) (left - 1) t′
+      → Going fields items (firstItem (λ x. not (test x)) (λ x. false) true) (firstItem (λ x. not (test x)) (λ x. false) true) (left - 1) t′
   going-every-next t′ e = going-next (λ x. not (test x)) (λ x. false) true going more (ap not going-every) t′ e
 
 -- an item's source and group stand in its NLRI

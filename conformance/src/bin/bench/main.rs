@@ -17,6 +17,7 @@ mod explain;
 mod following;
 mod measure;
 mod pieces;
+mod plan;
 mod planning;
 mod ranges;
 mod report;
@@ -106,6 +107,7 @@ fn all_rows(task: Task) -> ExitCode {
     ranges::rows(&mut report);
     restarts::rows(&mut report);
     explain::rows(&mut report);
+    plan::rows(&mut report);
     following::rows(&mut report);
     salvage::rows(&mut report);
     shared::rows(&mut report);

@@ -19,7 +19,7 @@ use Rattle.routes.specs.Route.{Route, route, nlriOf, attributeOf}
 use Rattle.routes.specs.Arguments.{readSPmsi, readLabelled, readRoute}
 use Rattle.routes.specs.Place.{acceptable}
 
-attribute-size : (s : List ℕ) (f : AttributeFields) → readAttribute s ≡ given f → length s ≤ 64
+pub attribute-size : (s : List ℕ) (f : AttributeFields) → readAttribute s ≡ given f → length s ≤ 64
 unfolding readAttribute
 attribute-size s f e = let p = given-otherwise _ _ _ _ e in omega (arith, ltb-false)
 

@@ -4,7 +4,7 @@ use denote.Ref.{now}
 use Rattle.routes.specs.Route.{route, nlriOf, attributeOf}
 use Rattle.routes.proofs.Definitions.Places.{length-place}
 use Rattle.changes.specs.Changing.{replacedAt}
-use Rattle.changes.proofs.Moves.{lent-over}
+use Rattle.places.proofs.Places.{lent-over}
 use borrow.Author.Needs.{needs}
 use Rattle.changes.proofs.change.replace.Statement.{statement}
 use Rattle.changes.proofs.change.replace.Tie as tie

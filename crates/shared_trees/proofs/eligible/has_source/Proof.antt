@@ -2,7 +2,7 @@
 use mathlib.Core.Bool.{true, false, not}
 use lib.ListN.{drop}
 use Rattle.octets.proofs.Choice.{flag-false}
-use Rattle.lists.specs.LentLists.{firstItem, everyItem, someItem}
+use Rattle.lists.specs.LentLists.{firstItem, everyItem, someItem, listItems}
 use Rattle.shared_trees.specs.Told.{fieldsWithin, withoutStateAt}
 use Rattle.lists.proofs.Going.{Going, going, going-here, going-next}
 use Rattle.shared_trees.proofs.SourceActives.{going-every, going-every-next}
@@ -11,8 +11,8 @@ use Rattle.shared_trees.proofs.eligible.has_source.Tie as tie
 
 abbrev Inv-loop : tie.InvT-loop
 Inv-loop list router group states at₀ left₀ at left =
-    Going 2 list (firstItem (withoutStateAt router group states) (λ x. true) false) (firstItem (withoutStateAt router group states) (λ x. true) false) left (drop at list)
-    × Going 2 list (firstItem (λ x. not (fieldsWithin x)) (λ x. false) true) (firstItem (λ x. not (fieldsWithin x)) (λ x. false) true) left (drop at list)
+    Going 2 (listItems 2 list) (firstItem (withoutStateAt router group states) (λ x. true) false) (firstItem (withoutStateAt router group states) (λ x. true) false) left (drop at list)
+    × Going 2 (listItems 2 list) (firstItem (λ x. not (fieldsWithin x)) (λ x. false) true) (firstItem (λ x. not (fieldsWithin x)) (λ x. false) true) left (drop at list)
 
 abbrev μ-loop : tie.MeasureT-loop
 μ-loop list router group states at₀ left₀ at left = left

@@ -3,7 +3,7 @@ use Prim.Native.Nat.{_*_}
 use mathlib.Core.Bool.{true, false, not}
 use lib.ListN.{drop}
 use Rattle.octets.proofs.Choice.{flag-false}
-use Rattle.lists.specs.LentLists.{firstItem, everyItem, someItem}
+use Rattle.lists.specs.LentLists.{firstItem, everyItem, someItem, listItems}
 use Rattle.lists.proofs.Going.{Going, going, going-here, going-next}
 use Rattle.routes.specs.SharedTree.{stateSized, isState}
 use Rattle.shared_trees.proofs.SourceActives.{going-every, going-every-next}
@@ -12,8 +12,8 @@ use Rattle.shared_trees.proofs.eligible.has_state.Tie as tie
 
 abbrev Inv-loop : tie.InvT-loop
 Inv-loop states size source ending group at₀ left₀ at left =
-    Going 2 states (firstItem (isState source group) (λ x. true) false) (firstItem (isState source group) (λ x. true) false) left (drop at states)
-    × Going 2 states (firstItem (λ x. not (stateSized (8 * size) x)) (λ x. false) true) (firstItem (λ x. not (stateSized (8 * size) x)) (λ x. false) true) left (drop at states)
+    Going 2 (listItems 2 states) (firstItem (isState source group) (λ x. true) false) (firstItem (isState source group) (λ x. true) false) left (drop at states)
+    × Going 2 (listItems 2 states) (firstItem (λ x. not (stateSized (8 * size) x)) (λ x. false) true) (firstItem (λ x. not (stateSized (8 * size) x)) (λ x. false) true) left (drop at states)
 
 abbrev μ-loop : tie.MeasureT-loop
 μ-loop states size source ending group at₀ left₀ at left = left

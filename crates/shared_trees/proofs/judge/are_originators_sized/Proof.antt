@@ -1,7 +1,7 @@
 -- `shared_trees::judge::are_originators_sized` meets its contract.
 use mathlib.Core.Bool.{true, false, not}
 use lib.ListN.{drop}
-use Rattle.lists.specs.LentLists.{firstItem, everyItem}
+use Rattle.lists.specs.LentLists.{firstItem, everyItem, listItems}
 use Rattle.routes.specs.SharedTree.{originatorSized}
 use Rattle.lists.proofs.Going.{Going, going}
 use Rattle.shared_trees.proofs.judge.are_originators_sized.Statement.{statement}
@@ -9,7 +9,7 @@ use Rattle.shared_trees.proofs.judge.are_originators_sized.Tie as tie
 
 abbrev Inv-loop : tie.InvT-loop
 Inv-loop list at₀ left₀ at left =
-    Going 2 list (firstItem (λ x. not (originatorSized x)) (λ x. false) true) (firstItem (λ x. not (originatorSized x)) (λ x. false) true) left (drop at list)
+    Going 2 (listItems 2 list) (firstItem (λ x. not (originatorSized x)) (λ x. false) true) (firstItem (λ x. not (originatorSized x)) (λ x. false) true) left (drop at list)
 
 abbrev μ-loop : tie.MeasureT-loop
 μ-loop list at₀ left₀ at left = left

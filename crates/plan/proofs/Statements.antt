@@ -1,0 +1,3 @@
+-- What is stated of the calls.
+pub mod JudgeRule
+pub mod PlanRule
