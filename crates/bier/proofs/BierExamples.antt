@@ -16,12 +16,12 @@ use Rattle.tunnel.specs.Bier.{bierIn}
 use Rattle.routes.specs.Arguments.{readSPmsi, readLabelled, readRoute}
 use Rattle.bier.specs.BitStrings.{setOf, positionOf, isOfSet, octetOf, withBit, withId, withIds, stringOf, onesOf}
 use Rattle.bier.specs.LeafRoutes.{readLeaf, readLeaves, readLeafList, bfrIdIn, countingId, countingIds}
-use Rattle.bier.specs.BierString.{readBierRoute, fitting, bierString, egressBy, egressOf}
+use Rattle.bier.specs.BierString.{readBierRoute, withRoom, bierString, egressBy, egressOf}
 use Rattle.bier.specs.BierExamples.{wildcardNlri, tunnelOf, leafOf, nineLeaves, BierExamples}
 use lib.Count.{ones}
 
 pub bierExamples : BierExamples
-unfolding pick both either onOutcome andThen numberOf outputOf part front numberIn same zeros itemField frontNumber frontField afterField wholeField frontItem afterItem wholeItem frontItems wholeItems listCount wholeList listItems readList familyBits allowed isOriginatorSize keyable bodies onBody codeOf sameKind fieldIn isDiscarded fixedField addressEnd addressField originatorField fieldSize sizesOf laidWith noKey keyField laidAt cut fieldsOf accepted acceptedSingle readNlri identifierForms formIn formOf oneOf isIdentifier readIdentifier labelOf fieldsIn readAttribute bierIn readSPmsi readLabelled readRoute setOf positionOf isOfSet octetOf withBit withId withIds stringOf onesOf readLeaf readLeaves readLeafList bfrIdIn countingId countingIds readBierRoute fitting bierString egressBy egressOf wildcardNlri tunnelOf leafOf nineLeaves ones
+unfolding pick both either onOutcome andThen numberOf outputOf part front numberIn same zeros itemField frontNumber frontField afterField wholeField frontItem afterItem wholeItem frontItems wholeItems listCount wholeList listItems readList familyBits allowed isOriginatorSize keyable bodies onBody codeOf sameKind fieldIn isDiscarded fixedField addressEnd addressField originatorField fieldSize sizesOf laidWith noKey keyField laidAt cut fieldsOf accepted acceptedSingle readNlri identifierForms formIn formOf oneOf isIdentifier readIdentifier labelOf fieldsIn readAttribute bierIn readSPmsi readLabelled readRoute setOf positionOf isOfSet octetOf withBit withId withIds stringOf onesOf readLeaf readLeaves readLeafList bfrIdIn countingId countingIds readBierRoute withRoom bierString egressBy egressOf wildcardNlri tunnelOf leafOf nineLeaves ones
 bierExamples =
     record {
       first = refl;

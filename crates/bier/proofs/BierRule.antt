@@ -19,7 +19,7 @@ use Rattle.routes.specs.Route.{route}
 use Rattle.bier.specs.declared.Egress.{Egress}
 use Rattle.bier.specs.BitStrings.{stringOf, onesOf}
 use Rattle.bier.specs.LeafRoutes.{Leaf, readLeaves, readLeafList, countingIds}
-use Rattle.bier.specs.BierString.{fitting, bierString, refusedEgress, egressBy, egressOf}
+use Rattle.bier.specs.BierString.{withRoom, bierString, refusedEgress, egressBy, egressOf}
 use Rattle.bier.specs.BierRule.{BierRoute, GoodLeaves, BierRefusal, badRoute, otherTunnel, longList, shortList, badLeaves, noSpace, CountingId, StringFor, Ones, BierDone, BierNothing, BierRule}
 use Rattle.bier.proofs.Strings.{string-for, only, positions}
 use Rattle.bier.proofs.Counted.{string-ones, distinct-ids, every}
@@ -35,7 +35,7 @@ module _ (afi : ℕ) (nlri attribute : List ℕ) (setNumber : ℕ) (leaves outpu
   due = egressOf afi nlri attribute setNumber leaves output
 
   refusal : (n : ℕ) → outcome ≡ refused n → BierRefusal afi nlri attribute leaves output n
-  unfolding bierString fitting
+  unfolding bierString withRoom
   refusal n e =
       ⊎-elim (route-refused afi nlri attribute leaves output n)
       (λ l.
@@ -48,17 +48,17 @@ module _ (afi : ℕ) (nlri attribute : List ℕ) (setNumber : ℕ) (leaves outpu
       (stopped _ _ _ e)
 
   -- past the route, and past the Leaf routes
-  past-route : BierRoute afi nlri attribute → (o : Outcome (List ℕ)) → o ≡ andThen (readLeafList afi leaves) (λ read. fitting (stringOf setNumber (countingIds nlri (getD attribute 5 0) read)) output) → outcome ≡ o
+  past-route : BierRoute afi nlri attribute → (o : Outcome (List ℕ)) → o ≡ andThen (readLeafList afi leaves) (λ read. withRoom (stringOf setNumber (countingIds nlri (getD attribute 5 0) read)) output) → outcome ≡ o
   unfolding bierString
   past-route r o e = sym (goes o _ (getD attribute 5 0) _ (given-route afi nlri attribute r) e)
 
-  past-leaves : BierRoute afi nlri attribute → (g : GoodLeaves afi leaves) → outcome ≡ fitting (stringOf setNumber (countingIds nlri (getD attribute 5 0) (leaves-good afi leaves g .0))) output
+  past-leaves : BierRoute afi nlri attribute → (g : GoodLeaves afi leaves) → outcome ≡ withRoom (stringOf setNumber (countingIds nlri (getD attribute 5 0) (leaves-good afi leaves g .0))) output
   past-leaves r g =
       let l = leaves-good afi leaves g in
       past-route r _ (goes _ _ (l .0) _ (given-list afi leaves (g .few) (g .items) (g .lent) _ (l .1)) refl)
 
   refuses : {n : ℕ} → BierRefusal afi nlri attribute leaves output n → outcome ≡ refused n
-  unfolding bierString fitting
+  unfolding bierString withRoom
   refuses (badRoute r) = sym (stops _ _ _ (bad-route afi nlri attribute _ r))
   refuses (otherTunnel s l o) = sym (stops _ _ _ (other-tunnel afi nlri attribute s l o))
   refuses (longList r h) = past-route r _ (stops _ _ _ (list-long afi leaves h))
@@ -76,7 +76,7 @@ module _ (afi : ℕ) (nlri attribute : List ℕ) (setNumber : ℕ) (leaves outpu
     is : string ≡ stringOf setNumber (countingIds nlri (getD attribute 5 0) read)
 
   string-given : (string : List ℕ) → outcome ≡ given string → Given string
-  unfolding bierString fitting
+  unfolding bierString withRoom
   string-given string e =
       let p = passed _ _ _ e in
       let q = passed _ _ _ (p .second) in
@@ -122,11 +122,11 @@ module _ (afi : ℕ) (nlri attribute : List ℕ) (setNumber : ℕ) (leaves outpu
       })
 
   made-given : BierDone afi nlri attribute setNumber leaves output due → (string : List ℕ) × (outcome ≡ given string)
-  unfolding fitting
+  unfolding withRoom
   made-given d = (_, past-leaves (d .route) (d .lent) ∙ pick-false _ _ _ (le-ltb _ _ (d .room)))
 
   never-done : BierRefusal afi nlri attribute leaves output 0 → ⊥
-  unfolding bierString fitting
+  unfolding bierString withRoom
   never-done why =
       refuses-by outcome 0
       (refuses-then _ _ (route-refuses afi nlri attribute) (λ subDomain. refuses-then _ _ (list-refuses afi leaves) (λ read. refuses-pick _ _ _ (number (λ e. omega arith)) value)))

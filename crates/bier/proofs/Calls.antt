@@ -27,8 +27,8 @@ use Rattle.places.proofs.Sounds.{route-fault-none}
 use Rattle.bier.specs.declared.Egress.{Egress}
 use Rattle.bier.specs.BitStrings.{withId, withIds, stringOf, onesOf}
 use Rattle.bier.specs.LeafRoutes.{Leaf, MOST_LEAVES, readLeaves, readLeafList, countingId, countingIds}
-use Rattle.bier.specs.BierString.{readBierRoute, fitting, bierString, refusedEgress, egressBy, egressOf}
-use Rattle.bier.specs.Inner.{listFault, gathered, Yields, AttributeStands, BierStands}
+use Rattle.bier.specs.BierString.{readBierRoute, withRoom, bierString, refusedEgress, egressBy, egressOf}
+use Rattle.bier.specs.Inner.{leafListFault, gatheredFrom, Yields, AttributeStands, BierStands}
 use Rattle.bier.proofs.Arguments.{own, route-given, route-refuses}
 use Rattle.octets.specs.Octets.{placed}
 
@@ -38,23 +38,23 @@ unfolding egressBy onOutcome outputOf
 egress-refused n o output r e q = rw e (q, refl)
 
 -- a string, where there is room for it
-pub write-small : (string output : List ℕ) (r : Egress) → length output < 32 → r ≡ refusedEgress SPACE → Leaves (egressBy (fitting string output) output) r output
-unfolding fitting
+pub write-small : (string output : List ℕ) (r : Egress) → length output < 32 → r ≡ refusedEgress SPACE → Leaves (egressBy (withRoom string output) output) r output
+unfolding withRoom
 write-small string output r h q = egress-refused SPACE _ output r (pick-true _ _ _ (lt-ltb _ _ h)) q
 
 pub write-done : (string output : List ℕ) → 32 ≤ length output → (ones : ℕ) → ones ≡ onesOf string → (after : List ℕ) → after ≡ placed 0 string output
-    → Leaves (egressBy (fitting string output) output) (record { number = DONE; routers = ones }) after
-unfolding fitting egressBy onOutcome outputOf
+    → Leaves (egressBy (withRoom string output) output) (record { number = DONE; routers = ones }) after
+unfolding withRoom egressBy onOutcome outputOf
 write-done string output h ones e after p =
-    let room : fitting string output ≡ given string = pick-false _ _ _ (le-ltb _ _ h) in
+    let room : withRoom string output ≡ given string = pick-false _ _ _ (le-ltb _ _ h) in
     rw room (ap (λ (n : ℕ). record { number = DONE; routers = n }) e, p ∙ sym (front-is-placed string output))
 
 -- the string that the Leaf routes come to
 module _ (o : Outcome (List ℕ)) (output : List ℕ) (fault : ℕ) (string : List ℕ) (g : Yields o fault string) where
-  pub send-refused : (fault ≡ DONE → ⊥) → (r : Egress) → r ≡ refusedEgress fault → Leaves (egressBy (andThen o (λ s. fitting s output)) output) r output
+  pub send-refused : (fault ≡ DONE → ⊥) → (r : Egress) → r ≡ refusedEgress fault → Leaves (egressBy (andThen o (λ s. withRoom s output)) output) r output
   send-refused h r q = egress-refused fault _ output r (sym (stops _ _ _ (refused-of o fault (g .is) h))) q
 
-  pub send-done : fault ≡ DONE → (r : Egress) (after : List ℕ) → Leaves (egressBy (fitting string output) output) r after → Leaves (egressBy (andThen o (λ s. fitting s output)) output) r after
+  pub send-done : fault ≡ DONE → (r : Egress) (after : List ℕ) → Leaves (egressBy (withRoom string output) output) r after → Leaves (egressBy (andThen o (λ s. withRoom s output)) output) r after
   send-done d r after l = subst (λ (x : Outcome (List ℕ)). Leaves (egressBy x output) r after) (goes _ _ string _ (g .done d) refl) l
 
 -- the route, by install's number
@@ -79,18 +79,18 @@ module _ (afi : ℕ) (nlri attribute : List ℕ) (fault : ℕ) (e : fault ≡ nu
 
 -- the list as a list
 module _ (leaves : List ℕ) (n : ℕ) (is : n ≡ listCount leaves) where
-  pub list-many : 1024 < n → LONG ≡ listFault leaves
-  unfolding listFault
+  pub list-many : 1024 < n → LONG ≡ leafListFault leaves
+  unfolding leafListFault
   list-many h = sym (pick-false _ _ _ (lt-leb (listCount leaves) MOST_LEAVES (omega arith)))
 
-  pub list-few : n ≤ 1024 → (r : ℕ) → r ≡ pick (wholeList 2 leaves) DONE SHORT → r ≡ listFault leaves
-  unfolding listFault
+  pub list-few : n ≤ 1024 → (r : ℕ) → r ≡ pick (wholeList 2 leaves) DONE SHORT → r ≡ leafListFault leaves
+  unfolding leafListFault
   list-few h r e = e ∙ sym (pick-true _ _ _ (le-leb (listCount leaves) MOST_LEAVES (omega arith)))
 
-module _ (leaves : List ℕ) (fault : ℕ) (e : fault ≡ listFault leaves) where
+module _ (leaves : List ℕ) (fault : ℕ) (e : fault ≡ leafListFault leaves) where
   -- it is refused as reading refuses it
   list-stops : (afi : ℕ) → (fault ≡ DONE → ⊥) → readLeafList afi leaves ≡ refused fault
-  unfolding readLeafList listFault readList
+  unfolding readLeafList leafListFault readList
   list-stops afi h =
       rw e
       (tested (leb (listCount leaves) MOST_LEAVES)
@@ -102,7 +102,7 @@ module _ (leaves : List ℕ) (fault : ℕ) (e : fault ≡ listFault leaves) wher
 
   -- or it is short enough and whole
   list-good : fault ≡ DONE → (leb (listCount leaves) MOST_LEAVES ≡ true) × (wholeList 2 leaves ≡ true)
-  unfolding listFault
+  unfolding leafListFault
   list-good d =
       ⊎-elim
       (λ few. ⊎-elim (λ whole. (few .0, whole .0)) (λ short. absurd (let z : SHORT ≡ DONE = short .1 in omega arith)) (picked _ _ _ _ (few .1)))
@@ -117,12 +117,12 @@ module _ (leaves : List ℕ) (fault : ℕ) (e : fault ≡ listFault leaves) wher
   list-goes afi d = let g = list-good d in pick-true _ _ _ (g .0) ∙ sym (goes _ _ (listItems 2 leaves) _ (pick-true _ _ _ (g .1)) refl)
 
 -- the string gathered is that of the Leaf routes read
-gathered-is : (afi : ℕ) (nlri : List ℕ) (subDomain setNumber : ℕ) (string : List ℕ) (items : List Item)
-    → gathered afi nlri subDomain setNumber string items ≡ andThen (readLeaves afi items) (λ leaves. given (withIds setNumber string (countingIds nlri subDomain leaves)))
-unfolding gathered readLeaves withIds countingIds
-gathered-is afi nlri subDomain setNumber string [] = sym (and-given _ _)
-gathered-is afi nlri subDomain setNumber string (x ∷ xs) =
-    and-cong _ _ _ (λ leaf e. gathered-is afi nlri subDomain setNumber (withId setNumber string (countingId nlri subDomain leaf)) xs ∙ and-cong _ _ _ (λ leaves f. sym (and-given _ _)) ∙ sym (and-assoc _ _ _))
+gatheredFrom-is : (afi : ℕ) (nlri : List ℕ) (subDomain setNumber : ℕ) (string : List ℕ) (items : List Item)
+    → gatheredFrom afi nlri subDomain setNumber string items ≡ andThen (readLeaves afi items) (λ leaves. given (withIds setNumber string (countingIds nlri subDomain leaves)))
+unfolding gatheredFrom readLeaves withIds countingIds
+gatheredFrom-is afi nlri subDomain setNumber string [] = sym (and-given _ _)
+gatheredFrom-is afi nlri subDomain setNumber string (x ∷ xs) =
+    and-cong _ _ _ (λ leaf e. gatheredFrom-is afi nlri subDomain setNumber (withId setNumber string (countingId nlri subDomain leaf)) xs ∙ and-cong _ _ _ (λ leaves f. sym (and-given _ _)) ∙ sym (and-assoc _ _ _))
     ∙ sym (and-assoc _ _ _)
 
 -- the call
@@ -143,19 +143,19 @@ module _ (afi : ℕ) (nlri attribute : List ℕ) (setNumber : ℕ) (leaves outpu
         let r = route-given afi nlri attribute (routed .0) (routed .1) .0 in
         record { read = r .labelled .read ∙ ap given (sym (read-given attribute (r .labelled .fields) (r .labelled .read) .1)); bier = r .bier }
 
-    module _ (second : ℕ) (f : second ≡ listFault leaves) where
+    module _ (second : ℕ) (f : second ≡ leafListFault leaves) where
       pub call-unlisted : (second ≡ DONE → ⊥) → (r : Egress) → r ≡ refusedEgress second → Leaves (egressOf afi nlri attribute setNumber leaves output) r output
       unfolding egressOf bierString
       call-unlisted h r q = egress-refused second _ output r (sym (goes _ _ _ _ on-route (stops _ _ _ (list-stops leaves second f afi h)))) q
 
       pub call-sent : second ≡ DONE → (subDomain : ℕ) → subDomain ≡ bierIn (fieldsIn attribute .identifier) .«sub_domain» → (r : Egress) (after : List ℕ)
-          → Leaves (egressBy (andThen (gathered afi nlri subDomain setNumber (zeros 32) (listItems 2 leaves)) (λ string. fitting string output)) output) r after
+          → Leaves (egressBy (andThen (gatheredFrom afi nlri subDomain setNumber (zeros 32) (listItems 2 leaves)) (λ string. withRoom string output)) output) r after
           → Leaves (egressOf afi nlri attribute setNumber leaves output) r after
       unfolding egressOf bierString stringOf
       call-sent d′ subDomain is r after l =
           subst (λ (o : Outcome (List ℕ)). Leaves (egressBy o output) r after)
           (goes _ _ subDomain _ (on-route ∙ ap given (sym is))
-          (ap (λ (o : Outcome (List ℕ)). andThen o (λ string. fitting string output)) (gathered-is afi nlri subDomain setNumber (zeros 32) (listItems 2 leaves))
+          (ap (λ (o : Outcome (List ℕ)). andThen o (λ string. withRoom string output)) (gatheredFrom-is afi nlri subDomain setNumber (zeros 32) (listItems 2 leaves))
           ∙ and-assoc _ _ _ ∙ and-cong _ _ _ (λ read q. and-given _ _)
-          ∙ ap (λ (o : Outcome (List Leaf)). andThen o (λ read. fitting (withIds setNumber (zeros 32) (countingIds nlri subDomain read)) output)) (sym (list-goes leaves second f afi d′))))
+          ∙ ap (λ (o : Outcome (List Leaf)). andThen o (λ read. withRoom (withIds setNumber (zeros 32) (countingIds nlri subDomain read)) output)) (sym (list-goes leaves second f afi d′))))
           l

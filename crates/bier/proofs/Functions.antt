@@ -27,7 +27,7 @@ use Rattle.tunnel.specs.Bier.{bierIn}
 use Rattle.tunnel.proofs.Definitions.Attributes.{read-given}
 use Rattle.bier.specs.BitStrings.{isOfSet, withId, onesOf}
 use Rattle.bier.specs.LeafRoutes.{Leaf, readLeaf, bfrIdIn}
-use Rattle.bier.specs.Inner.{gathered, Yields, keyIn, KeyWithin, AttributeStands, BierStands, LeafStands, standingId}
+use Rattle.bier.specs.Inner.{gatheredFrom, Yields, keyIn, KeyWithin, AttributeStands, BierStands, LeafStands, standingId}
 use Rattle.bier.proofs.Leaves.{type-refuses, leaf-refuses, leaf-stands, id-stands, identifier-long}
 
 -- a one shifted within an octet
@@ -166,25 +166,25 @@ pub ruleset cursor = (going, key-at, attribute-at, id-none, id-some, leaf-unname
 
 -- the loop over Leaf routes
 module _ (afi : ℕ) (nlri : List ℕ) (subDomain setNumber : ℕ) (start string : List ℕ) {items : List Item} {left : ℕ} {t : List ℕ}
-    (so-far : Going 2 items (gathered afi nlri subDomain setNumber start) (gathered afi nlri subDomain setNumber string) left t) where
+    (so-far : Going 2 items (gatheredFrom afi nlri subDomain setNumber start) (gatheredFrom afi nlri subDomain setNumber string) left t) where
   pub gather-next : 0 < left → (fault : ℕ) → fault ≡ numberOf (readLeaf afi (frontItem 2 t)) → fault ≡ DONE → (id : ℕ) → id ≡ standingId nlri subDomain (frontItem 2 t)
-      → (string′ : List ℕ) → string′ ≡ withId setNumber string id → (t′ : List ℕ) → t′ ≡ afterItem 2 t → Going 2 items (gathered afi nlri subDomain setNumber start) (gathered afi nlri subDomain setNumber string′) (left - 1) t′
-  unfolding gathered
+      → (string′ : List ℕ) → string′ ≡ withId setNumber string id → (t′ : List ℕ) → t′ ≡ afterItem 2 t → Going 2 items (gatheredFrom afi nlri subDomain setNumber start) (gatheredFrom afi nlri subDomain setNumber string′) (left - 1) t′
+  unfolding gatheredFrom
   gather-next more fault e d id is string′ w t′ a =
       let l = leaf-done afi (frontItem 2 t) fault e d in
       turned so-far _ t′ more a
-      (sym (goes _ _ (l .0) _ (l .1) (ap (λ (s : List ℕ). gathered afi nlri subDomain setNumber s (frontItems 2 (left - 1) (afterItem 2 t))) (w ∙ ap (withId setNumber string) (is ∙ sym (id-stands afi (frontItem 2 t) (l .0) (l .1) nlri subDomain))))))
+      (sym (goes _ _ (l .0) _ (l .1) (ap (λ (s : List ℕ). gatheredFrom afi nlri subDomain setNumber s (frontItems 2 (left - 1) (afterItem 2 t))) (w ∙ ap (withId setNumber string) (is ∙ sym (id-stands afi (frontItem 2 t) (l .0) (l .1) nlri subDomain))))))
 
-  pub gather-stop : 0 < left → (fault : ℕ) → fault ≡ numberOf (readLeaf afi (frontItem 2 t)) → (fault ≡ DONE → ⊥) → Yields (gathered afi nlri subDomain setNumber start items) fault string
-  unfolding gathered
+  pub gather-stop : 0 < left → (fault : ℕ) → fault ≡ numberOf (readLeaf afi (frontItem 2 t)) → (fault ≡ DONE → ⊥) → Yields (gatheredFrom afi nlri subDomain setNumber start items) fault string
+  unfolding gatheredFrom
   gather-stop more fault e d =
       record {
         is = number-stops fault _ _ (refused-of _ fault e d) ∙ ap numberOf (sym (first-left so-far more));
         done = λ z. absurd (d z);
       }
 
-  pub gather-last : left ≤ 0 → Yields (gathered afi nlri subDomain setNumber start items) DONE string
-  unfolding gathered numberOf
+  pub gather-last : left ≤ 0 → Yields (gatheredFrom afi nlri subDomain setNumber start items) DONE string
+  unfolding gatheredFrom numberOf
   gather-last end = let last = none-left so-far end in record { is = ap numberOf (sym last); done = λ z. last }
 
 pub ruleset gathering = (going, gather-stands, gather-next, gather-stop, gather-last)

@@ -31,7 +31,7 @@ use Rattle.tunnel.proofs.Theorems.{bierIdentifierRule}
 use Rattle.routes.specs.Rules.ArgumentRules.{TypeRefusal, unreadNlri, otherKind}
 use Rattle.bier.specs.LeafRoutes.{Leaf, readLeaf, readLeaves, bfrIdIn, countingId, countingIds}
 use Rattle.bier.specs.Inner.{keyIn, KeyWithin, LeafStands, standingId}
-use Rattle.bier.specs.BierRule.{LeafRoute, LeafRefusal, badLeaf, badTunnel, AllLeaves, FirstRefused, CountingLeaf, CountingId}
+use Rattle.bier.specs.BierRule.{LeafRoute, LeafRefusal, badLeaf, badTunnel, AllLeaves, FirstRefusedLeaf, CountingLeaf, CountingId}
 
 -- an NLRI of one type
 pub of-type-given : (type afi : ℕ) (s : List ℕ) (f : Fields) → readOfType type afi s ≡ given f → (readNlri afi s ≡ given f) × (f .type ≡ type)
@@ -274,7 +274,7 @@ module _ (afi : ℕ) where
   read-leaves items leaves e n a m = let r = each-given [] 0 items leaves e (n ∷ (a ∷ [])) m in leaf-route (n ∷ (a ∷ [])) (r .0) (r .1)
 
   -- the first that is refused decides
-  pub first-refused : (items : List Item) → Pairs items → (n : ℕ) → readLeaves afi items ≡ refused n → FirstRefused afi items n
+  pub first-refused : (items : List Item) → Pairs items → (n : ℕ) → readLeaves afi items ≡ refused n → FirstRefusedLeaf afi items n
   unfolding readLeaves itemField
   first-refused [] pairs n e = absurd (never refl e)
   first-refused (x ∷ xs) pairs n e =
@@ -312,7 +312,7 @@ module _ (afi : ℕ) where
   refused-first [] x behind n h e = sym (stops _ _ _ e)
   refused-first (y ∷ ys) x behind n h e = let l = h y (first refl) in sym (goes _ _ (l .0) _ (l .1) (stops _ _ _ (refused-first ys x behind n (λ z m. h z (later m)) e)))
 
-  pub leaves-refused : (items : List Item) → Pairs items → (n : ℕ) → FirstRefused afi items n → readLeaves afi items ≡ refused n
+  pub leaves-refused : (items : List Item) → Pairs items → (n : ℕ) → FirstRefusedLeaf afi items n → readLeaves afi items ≡ refused n
   unfolding itemField
   leaves-refused items pairs n f =
       let before : (y : Item) → Among y (f .earlier) → Among y items = λ y m. subst (λ (ys : List Item). Among y ys) (sym (f .is)) (among-left _ m) in

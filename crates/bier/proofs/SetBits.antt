@@ -26,13 +26,10 @@ power-other k j other =
     tested (ltb j k)
     (λ t.
     let less : j < k = ltb-true j k t in
-    let more : k ≡ 1 + (k - suc-of j) + j = omega arith in
-    let halves : 2 ^ k / 2 ^ j ≡ 2 * 2 ^ (k - suc-of j) = ap (λ (n : ℕ). 2 ^ n / 2 ^ j) more ∙ ap (λ (n : ℕ). n / 2 ^ j) (pow-add 2 (1 + (k - suc-of j)) j) ∙ shl-shr (2 ^ (1 + (k - suc-of j))) j ∙ pow-add 2 1 (k - suc-of j) in
+    let more : k ≡ 1 + (k - (j + 1)) + j = omega arith in
+    let halves : 2 ^ k / 2 ^ j ≡ 2 * 2 ^ (k - (j + 1)) = ap (λ (n : ℕ). 2 ^ n / 2 ^ j) more ∙ ap (λ (n : ℕ). n / 2 ^ j) (pow-add 2 (1 + (k - (j + 1))) j) ∙ shl-shr (2 ^ (1 + (k - (j + 1)))) j ∙ pow-add 2 1 (k - (j + 1)) in
     omega (arith, halves))
     (λ f. let less : k < j = (let h = ltb-false j k f in omega arith) in ap (λ (n : ℕ). n % 2) (div-eq-of-lt (pow-lt less)))
-  where
-    suc-of : ℕ → ℕ
-    suc-of n = n + 1
 
 -- a bit of a number with one bit set
 bit-or : (n m j : ℕ) (b : ℕ) → max (n / 2 ^ j % 2) (m / 2 ^ j % 2) ≡ b → b < 2 → bitOr n m / 2 ^ j % 2 ≡ b

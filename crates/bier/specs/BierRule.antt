@@ -41,7 +41,7 @@ abbrev pub AllLeaves : (afi : ℕ) → List Item → Type 0
 AllLeaves afi items = (nlri attribute : List ℕ) → Among (nlri ∷ (attribute ∷ [])) items → LeafRoute afi nlri attribute
 
 -- the first Leaf route that is refused decides: those before it are well-formed
-pub record FirstRefused (afi : ℕ) (items : List Item) (n : ℕ) : Type 0 where
+pub record FirstRefusedLeaf (afi : ℕ) (items : List Item) (n : ℕ) : Type 0 where
   pub earlier : List Item
   pub nlri : List ℕ
   pub attribute : List ℕ
@@ -63,7 +63,7 @@ pub data BierRefusal (afi : ℕ) (nlri attribute leaves output : List ℕ) : ℕ
   otherTunnel : SPmsi afi nlri → Labelled attribute → getD attribute 1 0 ≢ 11 → BierRefusal afi nlri attribute leaves output TUNNEL
   longList : BierRoute afi nlri attribute → 1024 < listCount leaves → BierRefusal afi nlri attribute leaves output LONG
   shortList : BierRoute afi nlri attribute → listCount leaves ≤ 1024 → readList 2 leaves ≡ refused SHORT → BierRefusal afi nlri attribute leaves output SHORT
-  badLeaves : {n : ℕ} → BierRoute afi nlri attribute → listCount leaves ≤ 1024 → (items : List Item) → readList 2 leaves ≡ given items → FirstRefused afi items n
+  badLeaves : {n : ℕ} → BierRoute afi nlri attribute → listCount leaves ≤ 1024 → (items : List Item) → readList 2 leaves ≡ given items → FirstRefusedLeaf afi items n
       → BierRefusal afi nlri attribute leaves output n
   noSpace : BierRoute afi nlri attribute → GoodLeaves afi leaves → length output < 32 → BierRefusal afi nlri attribute leaves output SPACE
 

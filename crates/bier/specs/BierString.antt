@@ -21,14 +21,14 @@ readBierRoute afi nlri attribute =
     unless (eqb (fieldsIn attribute .tunnelType) 11) TUNNEL (given (bierIn (fieldsIn attribute .identifier) .«sub_domain»)))
 
 -- where there is room for a string: SPACE for an output under 32 octets
-unfoldable pub fitting : (string output : List ℕ) → Outcome (List ℕ)
-fitting string output = pick (ltb (length output) 32) (refused SPACE) (given string)
+unfoldable pub withRoom : (string output : List ℕ) → Outcome (List ℕ)
+withRoom string output = pick (ltb (length output) 32) (refused SPACE) (given string)
 
 -- the string of a set: the route, the Leaf routes, SPACE
 unfoldable pub bierString : (afi : ℕ) (nlri attribute : List ℕ) (setNumber : ℕ) (leaves output : List ℕ) → Outcome (List ℕ)
 bierString afi nlri attribute setNumber leaves output =
     andThen (readBierRoute afi nlri attribute) (λ subDomain.
-    andThen (readLeafList afi leaves) (λ read. fitting (stringOf setNumber (countingIds nlri subDomain read)) output))
+    andThen (readLeafList afi leaves) (λ read. withRoom (stringOf setNumber (countingIds nlri subDomain read)) output))
 
 -- a refusal's number and no router
 abbrev pub refusedEgress : ℕ → Egress

@@ -15,14 +15,14 @@ use Rattle.bier.specs.BitStrings.{withId}
 use Rattle.bier.specs.LeafRoutes.{MOST_LEAVES, readLeaf, bfrIdIn, countingId}
 
 -- the number of the list as a list
-unfoldable pub listFault : (leaves : List ℕ) → ℕ
-listFault leaves = pick (leb (listCount leaves) MOST_LEAVES) (pick (wholeList 2 leaves) DONE SHORT) LONG
+unfoldable pub leafListFault : (leaves : List ℕ) → ℕ
+leafListFault leaves = pick (leb (listCount leaves) MOST_LEAVES) (pick (wholeList 2 leaves) DONE SHORT) LONG
 
 -- the string that items come to, from this string on: the first that is refused decides
-unfoldable pub gathered : (afi : ℕ) (nlri : List ℕ) (subDomain setNumber : ℕ) (string : List ℕ) → List Item → Outcome (List ℕ)
-gathered afi nlri subDomain setNumber string [] = given string
-gathered afi nlri subDomain setNumber string (x ∷ xs) =
-    andThen (readLeaf afi x) (λ leaf. gathered afi nlri subDomain setNumber (withId setNumber string (countingId nlri subDomain leaf)) xs)
+unfoldable pub gatheredFrom : (afi : ℕ) (nlri : List ℕ) (subDomain setNumber : ℕ) (string : List ℕ) → List Item → Outcome (List ℕ)
+gatheredFrom afi nlri subDomain setNumber string [] = given string
+gatheredFrom afi nlri subDomain setNumber string (x ∷ xs) =
+    andThen (readLeaf afi x) (λ leaf. gatheredFrom afi nlri subDomain setNumber (withId setNumber string (countingId nlri subDomain leaf)) xs)
 
 -- a number, and, where it is DONE, the string that an outcome gives
 pub record Yields (outcome : Outcome (List ℕ)) (number : ℕ) (string : List ℕ) : Type 0 where

@@ -9,7 +9,7 @@ ghost use Rattle.lists.specs.LentLists.{frontItem, wholeItem, wholeList, listIt
 ghost use Rattle.tunnel.specs.Attribute.{fieldsIn};
 ghost use Rattle.tunnel.specs.Bier.{bierIn};
 ghost use Rattle.bier.specs.LeafRoutes.{readLeaf, bfrIdIn};
-ghost use Rattle.bier.specs.Inner.{gathered, Yields, keyIn, KeyWithin, AttributeStands, BierStands, LeafStands, standingId};
+ghost use Rattle.bier.specs.Inner.{gatheredFrom, Yields, keyIn, KeyWithin, AttributeStands, BierStands, LeafStands, standingId};
 use crate::FIELDS;
 use crate::bits;
 use lists::FIRST;
@@ -87,7 +87,7 @@ pub(crate) fn gather(
     string: &mut [u8; 32],
 ) -> u32
     requires { ⌜ wholeList 2 (now leaves) ≡ true ⌝ }
-    ensures { λ r. ⌜ Yields (gathered afi (now (nlri .entry)) «sub_domain» set (now (string .entry)) (listItems 2 (now (leaves .entry)))) r (now (string .exit)) ⌝ }
+    ensures { λ r. ⌜ Yields (gatheredFrom afi (now (nlri .entry)) «sub_domain» set (now (string .entry)) (listItems 2 (now (leaves .entry)))) r (now (string .exit)) ⌝ }
 {
     let mut at = FIRST;
     let mut left = lists::count_of(leaves);

@@ -6,9 +6,9 @@ ghost use Rattle.octets.specs.Outcome.{andThen, numberOf};
 ghost use Rattle.octets.specs.Outputs.{Leaves};
 ghost use Rattle.lists.specs.LentLists.{wholeList, listItems};
 ghost use Rattle.octets.specs.Order.{zeros};
-ghost use Rattle.bier.specs.BierString.{readBierRoute, fitting, refusedEgress, egressBy, egressOf};
-ghost use Rattle.bier.specs.Inner.{gathered, listFault};
-use octets::blocks;
+ghost use Rattle.bier.specs.BierString.{readBierRoute, withRoom, refusedEgress, egressBy, egressOf};
+ghost use Rattle.bier.specs.Inner.{gatheredFrom, leafListFault};
+use octets::parts;
 use octets::number::DONE;
 use octets::number::LONG;
 use octets::number::SHORT;
@@ -57,7 +57,7 @@ fn route_fault(afi: u16, nlri: &[u8], attribute: &[u8]) -> u32
 
 // LONG over 1,024 Leaf routes, SHORT for a list that ends before them.
 fn list_fault(leaves: &[u8]) -> u32
-    ensures { λ r. ⌜ r ≡ listFault (now (leaves .entry)) ⌝ }
+    ensures { λ r. ⌜ r ≡ leafListFault (now (leaves .entry)) ⌝ }
 {
     if MOST_LEAVES < lists::count_of(leaves) {
         return LONG;
@@ -70,13 +70,13 @@ fn list_fault(leaves: &[u8]) -> u32
 
 // A string written at the front of an output that has room for it.
 fn write(string: &[u8; 32], output: &mut [u8]) -> Egress
-    ensures { λ r. ⌜ Leaves (egressBy (fitting (now (string .entry)) (now (output .entry))) (now (output .entry))) r (now (output .exit)) ⌝ }
+    ensures { λ r. ⌜ Leaves (egressBy (withRoom (now (string .entry)) (now (output .entry))) (now (output .entry))) r (now (output .exit)) ⌝ }
 {
     if output.len() < bits::OCTETS {
         return Egress::refused(SPACE);
     }
     let routers = bits::ones(string);
-    blocks::place(string, output, 0);
+    parts::place(string, output, 0);
     Egress {
         number: DONE,
         routers,
@@ -86,7 +86,7 @@ fn write(string: &[u8; 32], output: &mut [u8]) -> Egress
 // The string by Leaf routes in a whole list, each judged in its turn, for a route with this NLRI in this sub-domain.
 fn send(afi: u16, nlri: &[u8], sub_domain: u32, set: u8, leaves: &[u8], output: &mut [u8]) -> Egress
     requires { ⌜ wholeList 2 (now leaves) ≡ true ⌝ }
-    ensures { λ r. ⌜ Leaves (egressBy (andThen (gathered afi (now (nlri .entry)) «sub_domain» set (zeros 32) (listItems 2 (now (leaves .entry)))) (λ string. fitting string (now (output .entry)))) (now (output .entry))) r (now (output .exit)) ⌝ }
+    ensures { λ r. ⌜ Leaves (egressBy (andThen (gatheredFrom afi (now (nlri .entry)) «sub_domain» set (zeros 32) (listItems 2 (now (leaves .entry)))) (λ string. withRoom string (now (output .entry)))) (now (output .entry))) r (now (output .exit)) ⌝ }
 {
     let mut string = [0u8; 32];
     let fault = leaf::gather(afi, nlri, sub_domain, set, leaves, &mut string);

@@ -15,7 +15,7 @@ use Rattle.lists.proofs.Going.{Going, going-first, going-here, first-left, none
 use Rattle.plan.specs.declared.commonest.Leader.{Leader}
 use Rattle.plan.specs.Flows.{ListedFlow, flowIn, flowsIn, different}
 use Rattle.plan.specs.Commonest.{wanting, leading, commonest}
-use Rattle.plan.specs.Inner.{flowAt, someRelated, Behind, wantingIn, countsFor, ledBy, betterLeader}
+use Rattle.plan.specs.Inner.{flowAt, someRelated, Behind, wantingIn, countsFor, betterLeader}
 use Rattle.plan.proofs.Loops.{fields, going-behind, related-listed, related-wanted}
 
 -- counting
@@ -67,6 +67,10 @@ pub ruleset counting = (fields, counting-first, counting-behind, counting-here, 
 
 pub commonestIn : List Item → List ℕ
 commonestIn xs = commonest (flowsIn xs)
+
+-- what the leader so far wants
+unfoldable ledBy : (list : List ℕ) → Leader → List ℕ
+ledBy list leader = flowAt (drop (leader .at) list) .wanted
 
 pub leadingIn : (list : List ℕ) → Leader → List Item → List ℕ
 leadingIn list leader xs = leading (different (flowsIn (listItems 3 list))) (ledBy list leader) (leader .count) (flowsIn xs)

@@ -30,7 +30,7 @@ use Rattle.plan.specs.Flows.{Vrf, vrfOf, ListedFlow, flowIn, flowsIn, sa
 use Rattle.plan.specs.Commonest.{isWanted}
 use Rattle.plan.specs.Refusing.{orNext, firstFault, clashes, conflicts, vrfFault, flowFault, attributeFault, labelFault, typeFault, readFlows}
 use Rattle.plan.proofs.Reading.{under-some}
-use Rattle.plan.specs.Inner.{flowAt, faultIn, vrfNumber, flowNumber, wantedFault, related, someRelated, Behind, conflictsIn, listFault}
+use Rattle.plan.specs.Inner.{flowAt, faultIn, vrfNumber, flowNumber, wantedFault, related, someRelated, Behind, conflictsIn, flowListFault}
 
 -- fields of two flows, compared
 module _ (flag : Bool) (x y a b : List ℕ) (told : flag ≡ same x y) (p : x ≡ a) (q : y ≡ b) where
@@ -214,8 +214,8 @@ picked-number n a = tested (eqb n DONE) (λ t. eqb-true _ _ t ∙ ap numberOf (s
 module _ (afi : ℕ) (vrf : Vrf) (flows : List ℕ) (within : Bool) where
   -- where the prefixes are good, by the list's number
   list-read : (items : List Item) → prefixesUnder afi (vrf .prefixes) ≡ given items
-      → readFlows afi vrf flows within ≡ pick (eqb (listFault afi vrf flows within) DONE) (given (flowsIn (listItems 3 flows))) (refused (listFault afi vrf flows within))
-  unfolding readFlows listFault readList andThen pick both
+      → readFlows afi vrf flows within ≡ pick (eqb (flowListFault afi vrf flows within) DONE) (given (flowsIn (listItems 3 flows))) (refused (flowListFault afi vrf flows within))
+  unfolding readFlows flowListFault readList andThen pick both
   list-read items good =
       tested (ltb 64 (listCount flows))
       (λ l. let n : leb (listCount flows) 64 ≡ false = lt-leb (listCount flows) 64 (ltb-true 64 (listCount flows) l) in rw (good, l, n))
@@ -229,7 +229,7 @@ module _ (afi : ℕ) (vrf : Vrf) (flows : List ℕ) (within : Bool) where
   unfolding readFlows
   read-prefixes n e d = number-refuses n _ _ e d
 
-  pub read-list : (n : ℕ) → n ≡ numberOf (prefixesUnder afi (vrf .prefixes)) → n ≡ DONE → (r : ℕ) → r ≡ listFault afi vrf flows within → r ≡ numberOf (readFlows afi vrf flows within)
+  pub read-list : (n : ℕ) → n ≡ numberOf (prefixesUnder afi (vrf .prefixes)) → n ≡ DONE → (r : ℕ) → r ≡ flowListFault afi vrf flows within → r ≡ numberOf (readFlows afi vrf flows within)
   read-list n e d r is =
       let g = done-given (prefixesUnder afi (vrf .prefixes)) (λ k z. under-some (classRule .prefixesRefused afi (vrf .prefixes) k .0 z)) (sym e ∙ d) in
-      is ∙ picked-number (listFault afi vrf flows within) _ ∙ ap numberOf (sym (list-read (g .0) (g .1)))
+      is ∙ picked-number (flowListFault afi vrf flows within) _ ∙ ap numberOf (sym (list-read (g .0) (g .1)))

@@ -22,7 +22,7 @@ use Rattle.routes.specs.Place.{placeOf}
 use Rattle.routes.specs.Table.{placesOf}
 use Rattle.plan.specs.Flows.{Vrf, ListedFlow, flowIn, flowsIn, different}
 use Rattle.plan.specs.Commonest.{others, commonest}
-use Rattle.plan.specs.Planning.{routeFor, routesFor, everyFlow, planned, proposal}
+use Rattle.plan.specs.Planning.{routeFor, routesFor, wildcardFlow, planned, proposal}
 use Rattle.plan.specs.Inner.{flowAt, someRelated, Behind, standsOut, placeFor, RouteSized, VrfSized, FlowSized, AllSized, ownPlace, ownPlaces, allPlaces, Room}
 use Rattle.lists.proofs.Items.{list-items-count}
 use Rattle.plan.proofs.Counts.{commonest-wanted, different-among, others-among, routes-length}
@@ -212,10 +212,10 @@ own-routes vrf a (x ∷ xs) =
     (λ n. tested (same (flowIn x .wanted) a) (λ s. rw (n, s, listed ∙ n, s) later-ones) (λ s. rw (n, s, listed ∙ n, s) (ap₂ (λ (p q : List ℕ). p ++ q) (place-route vrf (flowIn x)) later-ones)))
 
 pub all-routes : (vrf : Vrf) (xs : List Item) → (length xs ≡ 0 → ⊥) → allPlaces (vrf .distinguisher) (vrf .originator) (commonest (flowsIn xs)) xs ≡ placesOf (proposal vrf (flowsIn xs))
-unfolding allPlaces flowsIn proposal planned routesFor placesOf everyFlow
+unfolding allPlaces flowsIn proposal planned routesFor placesOf wildcardFlow
 all-routes vrf [] some = absurd (some refl)
 all-routes vrf (x ∷ xs) some =
-    ap₂ (λ (p q : List ℕ). p ++ q) (place-route vrf (everyFlow (commonest (flowsIn (x ∷ xs))))) (own-routes vrf (commonest (flowsIn (x ∷ xs))) (x ∷ xs))
+    ap₂ (λ (p q : List ℕ). p ++ q) (place-route vrf (wildcardFlow (commonest (flowsIn (x ∷ xs))))) (own-routes vrf (commonest (flowsIn (x ∷ xs))) (x ∷ xs))
 
 -- 128 octets each
 
@@ -227,7 +227,7 @@ routes-places vrf (f ∷ fs) v sized =
     omega (arith, length-append (placeOf (routeFor vrf f)) (placesOf (routesFor vrf fs)), routes-places vrf fs v (λ g m. sized g (later m)))
 
 planned-sized : (a : List ℕ) (fs : List ListedFlow) → length a ≤ 64 → ((f : ListedFlow) → Among f fs → FlowSized f) → (f : ListedFlow) → Among f (planned a fs) → FlowSized f
-unfolding planned everyFlow
+unfolding planned wildcardFlow
 planned-sized a fs small sized f m =
     ⊎-elim (λ e. subst FlowSized (sym e) (record { sourced = omega arith; grouped = omega arith; attributed = small }))
     (λ k. sized f (different-among fs f (others-among a (different fs) f k .0)))

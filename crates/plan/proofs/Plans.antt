@@ -30,7 +30,7 @@ use Rattle.routes.proofs.Definitions.Lookups.{held-or-absent, lookup-member}
 use Rattle.groups.proofs.ClassRule.{multicast-family}
 use Rattle.plan.specs.Flows.{Vrf, ListedFlow, asking, different}
 use Rattle.plan.specs.Commonest.{others, commonest}
-use Rattle.plan.specs.Planning.{fieldsFor, routeFor, routesFor, everyFlow, planned, proposal}
+use Rattle.plan.specs.Planning.{fieldsFor, routeFor, routesFor, wildcardFlow, planned, proposal}
 use Rattle.plan.specs.JudgeRule.{Own, Served}
 use Rattle.plan.proofs.Counts.{SameFlow, Apart, among-different, different-among, others-among, among-others, others-apart, different-apart, commonest-wanted}
 
@@ -197,12 +197,12 @@ module _ (afi : ℕ) (vrf : Vrf) where
 
     -- an attribute that one of the flows wants
     module _ (a : List ℕ) (w : ListedFlow) (wm : Among w fs) (is : w .wanted ≡ a) where
-      star-entry : Entry afi vrf (everyFlow a)
-      unfolding everyFlow
-      star-entry = entry w (everyFlow a) wm (inr refl) (inr refl) AllOctets.none AllOctets.none
+      star-entry : Entry afi vrf (wildcardFlow a)
+      unfolding wildcardFlow
+      star-entry = entry w (wildcardFlow a) wm (inr refl) (inr refl) AllOctets.none AllOctets.none
 
       abbrev Sort : ListedFlow → Type 0
-      Sort h = (h ≡ everyFlow a) ⊎ (Among h fs × (h .wanted ≡ a → ⊥))
+      Sort h = (h ≡ wildcardFlow a) ⊎ (Among h fs × (h .wanted ≡ a → ⊥))
 
       sort : (h : ListedFlow) → Among h (planned a fs) → Sort h
       unfolding planned
@@ -212,7 +212,7 @@ module _ (afi : ℕ) (vrf : Vrf) where
       sort-entry h s = ⊎-elim (λ e. subst (Entry afi vrf) (sym e) star-entry) (λ k. flow-entry h (k .0)) s
 
       sort-attribute : (P : List ℕ → Type 0) → ((f : ListedFlow) → Among f fs → P (f .wanted)) → (h : ListedFlow) → Sort h → P (h .wanted)
-      unfolding everyFlow
+      unfolding wildcardFlow
       sort-attribute P each h s =
           ⊎-elim
           (λ e. subst P (is ∙ ap (λ (x : ListedFlow). x .wanted) (sym e)) (each w wm))
@@ -220,7 +220,7 @@ module _ (afi : ℕ) (vrf : Vrf) where
           s
 
       planned-apart : Apart (planned a fs)
-      unfolding planned everyFlow
+      unfolding planned wildcardFlow
       planned-apart =
           Apart.one (λ g m s. source-some g (different-among fs g (others-among a (different fs) g m .0)) (sym (s .source))) (others-apart a (different-apart fs))
 
@@ -270,7 +270,7 @@ module _ (afi : ℕ) (vrf : Vrf) where
       -- a flow that wants the attribute takes the wildcards' route
       module _ (f : ListedFlow) (fm : Among f fs) where
         not-lower : {tier : ℕ} (x : Fields) (h : ListedFlow) → f .wanted ≡ a → Sort h → View x h → tier < 4 → InTier afi (asking vrf f) tier x → ⊥
-        unfolding everyFlow
+        unfolding wildcardFlow
         not-lower x h want s v l (bothEqual p q) =
             ⊎-elim
             (λ e. source-some f fm (sym p ∙ v .source ∙ ap (λ (x : ListedFlow). x .source) e))
@@ -289,7 +289,7 @@ module _ (afi : ℕ) (vrf : Vrf) where
         not-lower x h want s v l (bothWildcard p q) = absurd (omega arith)
 
         -- in tier 4 later is one route
-        one-star : {tier : ℕ} (x : Fields) (h : ListedFlow) → Sort h → View x h → tier ≡ 4 → InTier afi (asking vrf f) tier x → h ≡ everyFlow a
+        one-star : {tier : ℕ} (x : Fields) (h : ListedFlow) → Sort h → View x h → tier ≡ 4 → InTier afi (asking vrf f) tier x → h ≡ wildcardFlow a
         one-star x h s v l (bothEqual p q) = absurd (omega arith)
         one-star x h s v l (sourceEqual p q ssm) = absurd (omega arith)
         one-star x h s v l (groupEqual p q asm) = absurd (omega arith)
@@ -297,7 +297,7 @@ module _ (afi : ℕ) (vrf : Vrf) where
 
         -- in tier 1 too
         one-flow : {tier : ℕ} (x : Fields) (h g : ListedFlow) → Among g fs → SameFlow f g → Sort h → View x h → tier ≡ 1 → InTier afi (asking vrf f) tier x → h ≡ g
-        unfolding everyFlow
+        unfolding wildcardFlow
         one-flow x h g gm e s v l (bothEqual p q) =
             ⊎-elim
             (λ k. absurd (source-some f fm (sym p ∙ v .source ∙ ap (λ (x : ListedFlow). x .source) k)))
@@ -314,15 +314,15 @@ module _ (afi : ℕ) (vrf : Vrf) where
         none-before u m tier c = rw (plan-route u m .views (c .candidate .own .named .fields) (c .candidate .own .named .read) .distinguishes) (before-itself (vrf .distinguisher))
 
         star-served : f .wanted ≡ a → Served afi vrf plan (f .source) (f .group) (f .wanted)
-        unfolding plan planned routeFor attributeOf fieldsFor everyFlow candidate for-own for-s-pmsi
+        unfolding plan planned routeFor attributeOf fieldsFor wildcardFlow candidate for-own for-s-pmsi
         star-served want =
             record {
               tier = 4;
-              taken = routeFor vrf (everyFlow a);
+              taken = routeFor vrf (wildcardFlow a);
               takes =
                   record {
-                    member = member-route (everyFlow a) (first refl);
-                    eligible = record { candidate = candidate (everyFlow a) (inl refl); met = bothWildcard refl refl };
+                    member = member-route (wildcardFlow a) (first refl);
+                    eligible = record { candidate = candidate (wildcardFlow a) (inl refl); met = bothWildcard refl refl };
                     lowest = λ other u l m c. let p = plan-route u m in not-lower (c .candidate .own .named .fields) (p .entry-flow) want (p .sorted) (p .views _ (c .candidate .own .named .read)) l (c .met);
                     first = λ u m c. none-before u m 4 c;
                     only = λ u m c e.

@@ -31,7 +31,7 @@ use Rattle.routes.proofs.Definitions.ByArguments.{ByArguments, attribute-argued
 use Rattle.routes.proofs.Statements.ArgumentRules.{labelled, takes-labelled}
 use Rattle.plan.specs.Flows.{Vrf, ListedFlow, asking, flowIn, flowsIn, sameFlow}
 use Rattle.plan.specs.Refusing.{firstFault, orNext, clashes, conflicts, flowFault, attributeFault, labelFault, typeFault, vrfFault, attributesFault, flowsFault}
-use Rattle.plan.specs.FlowsRule.{Listed, GoodSizes, AllRead, FirstUnread, here, AllLabelled, AllTunnelled, Conflict}
+use Rattle.plan.specs.FlowsRule.{Listed, GoodSizes, AllAttributesRead, FirstUnread, here, AllLabelled, AllTunnelled, Conflict}
 use Rattle.plan.proofs.Counts.{SameFlow, same-flow, flow-same}
 use Rattle.plan.proofs.Items.{Threes, flowBy, among-listed, listed-among, each}
 
@@ -259,7 +259,7 @@ unread-some (FirstUnread.later g e r) = unread-some r
 
 -- each step over the items
 module _ (items : List Item) (three : Threes items) where
-  read-step : Step (firstFault attributeFault (flowsIn items)) (AllRead items) (FirstUnread items)
+  read-step : Step (firstFault attributeFault (flowsIn items)) (AllAttributesRead items) (FirstUnread items)
   unfolding attributeFault
   read-step =
       record {
@@ -327,7 +327,7 @@ module _ (items : List Item) (three : Threes items) where
     pub data Refusal : ℕ → Type 0 where
       size : (GoodSizes afi vrf items → ⊥) → Refusal FLOW
       unread : {n : ℕ} → GoodSizes afi vrf items → FirstUnread items n → Refusal n
-      label : GoodSizes afi vrf items → AllRead items → (AllLabelled items → ⊥) → Refusal LABEL
+      label : GoodSizes afi vrf items → AllAttributesRead items → (AllLabelled items → ⊥) → Refusal LABEL
       tunnel : GoodSizes afi vrf items → AllLabelled items → (AllTunnelled items → ⊥) → Refusal TUNNEL
       conflict : GoodSizes afi vrf items → AllLabelled items → AllTunnelled items → Conflict items → Refusal CONFLICT
 
@@ -340,12 +340,12 @@ module _ (items : List Item) (three : Threes items) where
     addressed : GoodSizes afi vrf items → Addressed
     addressed g s p w m = (g .sources s p w m, g .groups s p w m)
 
-    readable : AllLabelled items → AllRead items
+    readable : AllLabelled items → AllAttributesRead items
     readable l s g w m = (l s g w m .fields, l s g w m .read)
 
     abbrev Reason : ℕ → Type 0
     Reason k =
-        ((k ≡ FLOW) × (VrfSized → ⊥)) ⊎ (VrfSized × (((k ≡ FLOW) × (Addressed → ⊥)) ⊎ (Addressed × (FirstUnread items k ⊎ (AllRead items × (((k ≡ LABEL) × (AllLabelled items → ⊥))
+        ((k ≡ FLOW) × (VrfSized → ⊥)) ⊎ (VrfSized × (((k ≡ FLOW) × (Addressed → ⊥)) ⊎ (Addressed × (FirstUnread items k ⊎ (AllAttributesRead items × (((k ≡ LABEL) × (AllLabelled items → ⊥))
         ⊎ (AllLabelled items × (((k ≡ TUNNEL) × (AllTunnelled items → ⊥)) ⊎ (AllTunnelled items × ((k ≡ CONFLICT) × Conflict items))))))))))
 
     reason : {k : ℕ} → Refusal k → Reason k

@@ -27,8 +27,8 @@ pub record GoodSizes (afi : ℕ) (vrf : Vrf) (items : List Item) : Type 0 where
   pub groups : (source group wanted : List ℕ) → Listed source group wanted items → Multicast afi group
 
 -- attribute reading accepts every wanted attribute
-abbrev pub AllRead : List Item → Type 0
-AllRead items = (source group wanted : List ℕ) → Listed source group wanted items → (fields : AttributeFields) × (readAttribute wanted ≡ given fields)
+abbrev pub AllAttributesRead : List Item → Type 0
+AllAttributesRead items = (source group wanted : List ℕ) → Listed source group wanted items → (fields : AttributeFields) × (readAttribute wanted ≡ given fields)
 
 -- it refuses one with this number, and none before that one
 pub data FirstUnread : List Item → ℕ → Type 0 where
@@ -76,7 +76,7 @@ pub data FlowsRefusal (afi : ℕ) (vrf : Vrf) (flows : List ℕ) (TooLong : Type
   endsShort : KnownFamily afi → GoodPrefixes afi (vrf .prefixes) → (TooLong → ⊥) → readList 3 flows ≡ refused SHORT → FlowsRefusal afi vrf flows TooLong SHORT
   badSize : (items : List Item) → ListTaken afi vrf flows TooLong items → (GoodSizes afi vrf items → ⊥) → FlowsRefusal afi vrf flows TooLong FLOW
   unread : (items : List Item) {n : ℕ} → ListTaken afi vrf flows TooLong items → GoodSizes afi vrf items → FirstUnread items n → FlowsRefusal afi vrf flows TooLong n
-  noLabel : (items : List Item) → ListTaken afi vrf flows TooLong items → GoodSizes afi vrf items → AllRead items → (AllLabelled items → ⊥) → FlowsRefusal afi vrf flows TooLong LABEL
+  noLabel : (items : List Item) → ListTaken afi vrf flows TooLong items → GoodSizes afi vrf items → AllAttributesRead items → (AllLabelled items → ⊥) → FlowsRefusal afi vrf flows TooLong LABEL
   noTunnel : (items : List Item) → ListTaken afi vrf flows TooLong items → GoodSizes afi vrf items → AllLabelled items → (AllTunnelled items → ⊥)
       → FlowsRefusal afi vrf flows TooLong TUNNEL
   conflict : (items : List Item) → ListTaken afi vrf flows TooLong items → GoodSizes afi vrf items → AllLabelled items → AllTunnelled items → Conflict items

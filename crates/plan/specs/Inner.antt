@@ -69,8 +69,8 @@ unfoldable pub conflictsIn : List Item → Bool
 conflictsIn items = conflicts (flowsIn items)
 
 -- LONG, SHORT, then the flows
-unfoldable pub listFault : (afi : ℕ) → Vrf → (flows : List ℕ) → (within : Bool) → ℕ
-listFault afi vrf flows within =
+unfoldable pub flowListFault : (afi : ℕ) → Vrf → (flows : List ℕ) → (within : Bool) → ℕ
+flowListFault afi vrf flows within =
     pick (ltb 64 (listCount flows)) LONG
     (pick within (pick (wholeList 3 flows) (flowsFault afi vrf (flowsIn (listItems 3 flows))) SHORT) LONG)
 
@@ -118,10 +118,6 @@ wantingIn a n items = n + wanting a (different (flowsIn items))
 unfoldable pub countsFor : List ℕ → ListedFlow → List Item → ℕ
 countsFor a f rest = pick (same (f .wanted) a) (pick (someRelated 0 f rest) 0 1) 0
 
--- what the leader so far wants
-unfoldable pub ledBy : (list : List ℕ) → Leader → List ℕ
-ledBy list leader = flowAt (drop (leader .at) list) .wanted
-
 -- the leader with one more flow
 unfoldable pub betterLeader : (list : List ℕ) → Leader → (at next left : ℕ) → Leader
 betterLeader list leader at next left =
@@ -136,16 +132,16 @@ unfoldable pub standsOut : List ℕ → ListedFlow → List Item → Bool
 standsOut a f rest = both (not (same (f .wanted) a)) (not (someRelated 0 f rest))
 
 -- source, group and originator as an S-PMSI NLRI has them
-unfoldable pub flowOctets : (source group originator : List ℕ) → List ℕ
-flowOctets source group originator = encodeAddress source ++ (encodeAddress group ++ originator)
+unfoldable pub sourceToOriginator : (source group originator : List ℕ) → List ℕ
+sourceToOriginator source group originator = encodeAddress source ++ (encodeAddress group ++ originator)
 
 -- a whole S-PMSI NLRI by its fields
-unfoldable pub nlriOctets : (distinguisher source group originator : List ℕ) → List ℕ
-nlriOctets distinguisher source group originator = (3 ∷ ((length distinguisher + length (flowOctets source group originator)) ∷ [])) ++ (distinguisher ++ flowOctets source group originator)
+unfoldable pub plannedNlri : (distinguisher source group originator : List ℕ) → List ℕ
+plannedNlri distinguisher source group originator = (3 ∷ ((length distinguisher + length (sourceToOriginator source group originator)) ∷ [])) ++ (distinguisher ++ sourceToOriginator source group originator)
 
 -- the place of its route
 unfoldable pub placeFor : (distinguisher originator source group wanted : List ℕ) → List ℕ
-placeFor distinguisher originator source group wanted = placeOf (route (nlriOctets distinguisher source group originator) wanted)
+placeFor distinguisher originator source group wanted = placeOf (route (plannedNlri distinguisher source group originator) wanted)
 
 -- the sizes of a route's fields
 pub record RouteSized (distinguisher originator source group wanted : List ℕ) : Type 0 where

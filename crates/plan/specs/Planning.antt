@@ -22,12 +22,12 @@ routesFor vrf [] = []
 routesFor vrf (f ∷ fs) = routeFor vrf f ∷ routesFor vrf fs
 
 -- wildcards for source and group
-unfoldable pub everyFlow : (wanted : List ℕ) → ListedFlow
-everyFlow wanted = record { source = []; group = []; wanted = wanted }
+unfoldable pub wildcardFlow : (wanted : List ℕ) → ListedFlow
+wildcardFlow wanted = record { source = []; group = []; wanted = wanted }
 
 -- what has a route: every flow with an attribute, and the different flows that want another
 unfoldable pub planned : (wanted : List ℕ) → List ListedFlow → List ListedFlow
-planned wanted fs = everyFlow wanted ∷ others wanted (different fs)
+planned wanted fs = wildcardFlow wanted ∷ others wanted (different fs)
 
 -- the routes that are proposed: none for no flows
 unfoldable pub proposal : Vrf → List ListedFlow → List Route

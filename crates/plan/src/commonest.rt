@@ -6,7 +6,7 @@ ghost use lib.ListN.{drop};
 ghost use Rattle.lists.specs.LentLists.{listCount, wholeItem, wholeList, listItems, frontItems};
 ghost use Rattle.plan.specs.Flows.{flowsIn};
 ghost use Rattle.plan.specs.Commonest.{commonest};
-ghost use Rattle.plan.specs.Inner.{flowAt, Behind, wantingIn, countsFor, ledBy, betterLeader};
+ghost use Rattle.plan.specs.Inner.{flowAt, Behind, wantingIn, countsFor, betterLeader};
 use crate::FIELDS;
 use crate::flows;
 use crate::flows::SAME_FLOW;

@@ -6,7 +6,7 @@ ghost use Rattle.octets.specs.Outcome.{numberOf};
 ghost use Rattle.lists.specs.LentLists.{wholeItem, wholeList, listItems};
 ghost use Rattle.plan.specs.Flows.{ListedFlow, vrfOf, flowsIn};
 ghost use Rattle.plan.specs.Refusing.{typeFault, attributesFault, flowsFault, readFlows};
-ghost use Rattle.plan.specs.Inner.{flowAt, faultIn, vrfNumber, flowNumber, wantedFault, conflictsIn, listFault};
+ghost use Rattle.plan.specs.Inner.{flowAt, faultIn, vrfNumber, flowNumber, wantedFault, conflictsIn, flowListFault};
 use crate::FIELDS;
 use crate::flows;
 use crate::flows::CLASH;
@@ -195,7 +195,7 @@ fn list_fault(
     flows: &[u8],
     is_within: bool,
 ) -> u32
-    ensures { λ r. ⌜ r ≡ listFault afi (vrfOf (now (prefixes .entry)) (now (originator .entry)) (now (distinguisher .entry))) (now (flows .entry)) «is_within» ⌝ }
+    ensures { λ r. ⌜ r ≡ flowListFault afi (vrfOf (now (prefixes .entry)) (now (originator .entry)) (now (distinguisher .entry))) (now (flows .entry)) «is_within» ⌝ }
 {
     if MOST_FLOWS < lists::count_of(flows) {
         return LONG;

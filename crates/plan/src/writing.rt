@@ -4,7 +4,7 @@ ghost use Prim.Native.Nat.{_+_, _≤_};
 ghost use lib.ListN.{length};
 ghost use Rattle.octets.specs.Outputs.{Put};
 ghost use Rattle.nlri.specs.Fields.{encodeAddress};
-ghost use Rattle.plan.specs.Inner.{flowOctets, nlriOctets, placeFor, RouteSized};
+ghost use Rattle.plan.specs.Inner.{sourceToOriginator, plannedNlri, placeFor, RouteSized};
 use nlri::RouteType;
 use octets::parts;
 use places::geometry::PLACE;
@@ -21,8 +21,8 @@ fn put_address(address: &[u8], output: &mut [u8], at: usize) -> usize
 
 // Source, group and originator, one after the other, from `at` on.
 fn put_flow(source: &[u8], group: &[u8], originator: &[u8], output: &mut [u8], at: usize) -> usize
-    requires { ⌜ (length (now source) ≤ 16) × (length (now group) ≤ 16) × (at + length (flowOctets (now source) (now group) (now originator)) ≤ length (now output)) ⌝ }
-    ensures { λ r. ⌜ Put at (flowOctets (now (source .entry)) (now (group .entry)) (now (originator .entry))) (now (output .entry)) r (now (output .exit)) ⌝ }
+    requires { ⌜ (length (now source) ≤ 16) × (length (now group) ≤ 16) × (at + length (sourceToOriginator (now source) (now group) (now originator)) ≤ length (now output)) ⌝ }
+    ensures { λ r. ⌜ Put at (sourceToOriginator (now (source .entry)) (now (group .entry)) (now (originator .entry))) (now (output .entry)) r (now (output .exit)) ⌝ }
 {
     let second = put_address(source, output, at);
     let third = put_address(group, output, second);
@@ -46,8 +46,8 @@ fn put_nlri(
     output: &mut [u8],
     at: usize,
 ) -> usize
-    requires { ⌜ (length (now source) ≤ 16) × (length (now group) ≤ 16) × (length (now originator) ≤ 16) × (length (now distinguisher) ≡ 8) × (at + length (nlriOctets (now distinguisher) (now source) (now group) (now originator)) ≤ length (now output)) ⌝ }
-    ensures { λ r. ⌜ Put at (nlriOctets (now (distinguisher .entry)) (now (source .entry)) (now (group .entry)) (now (originator .entry))) (now (output .entry)) r (now (output .exit)) ⌝ }
+    requires { ⌜ (length (now source) ≤ 16) × (length (now group) ≤ 16) × (length (now originator) ≤ 16) × (length (now distinguisher) ≡ 8) × (at + length (plannedNlri (now distinguisher) (now source) (now group) (now originator)) ≤ length (now output)) ⌝ }
+    ensures { λ r. ⌜ Put at (plannedNlri (now (distinguisher .entry)) (now (source .entry)) (now (group .entry)) (now (originator .entry))) (now (output .entry)) r (now (output .exit)) ⌝ }
 {
     let header = [
         RouteType::S_PMSI as u8,

@@ -240,7 +240,7 @@ is-sound t s =
     (places-sound (getD t 5 0) t [] (countAt t) 8 (record { held = s .held; first = first; increasing = s .increasing; free = s .free })))))
 
 -- the routes in places, by their numbers
-pub routes-at : (t : List ℕ) (missing : Route) (count at i : ℕ) → i < count → getD (routesFrom count (drop at t)) i missing ≡ routeIn (part t (at + 128 * i) 128)
+routes-at : (t : List ℕ) (missing : Route) (count at i : ℕ) → i < count → getD (routesFrom count (drop at t)) i missing ≡ routeIn (part t (at + 128 * i) 128)
 unfolding routesFrom part
 routes-at t missing zero at i less = absurd (omega arith)
 routes-at t missing (suc count) at zero less = let e : at ≡ at + 128 * 0 = omega arith in ap (λ (k : ℕ). routeIn (part t k 128)) e
