@@ -8,12 +8,12 @@ ghost use Rattle.lists.specs.LentLists.{wholeList, listItems};
 ghost use Rattle.octets.specs.Order.{zeros};
 ghost use Rattle.bier.specs.BierString.{readBierRoute, withRoom, refusedEgress, egressBy, egressOf};
 ghost use Rattle.bier.specs.Inner.{gatheredFrom, leafListFault};
-use octets::parts;
 use octets::number::DONE;
 use octets::number::LONG;
 use octets::number::SHORT;
 use octets::number::SPACE;
 use octets::number::TUNNEL;
+use octets::parts;
 use places::judge;
 use tunnel::TunnelType;
 

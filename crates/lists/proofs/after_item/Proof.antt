@@ -13,12 +13,5 @@ abbrev μ-loop : tie.MeasureT-loop
 pub after-item-spec : {M : Type 1} → statement M
 after-item-spec =
     tie.close
-    (tie.spec
-    Inv-loop
-    μ-loop
-    (λ c. search walks)
-    (λ c κs. search walks)
-    (λ c. search walks)
-    (λ c. search walks)
-    (λ c. search walks)
+    (tie.spec Inv-loop μ-loop (λ c. search walks) (λ c κs. search walks) (λ c. search walks) (λ c. search walks) (λ c. search walks)
     (λ c. search walks))

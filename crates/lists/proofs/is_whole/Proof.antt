@@ -17,17 +17,5 @@ mul c = omega (arith, product-fits (c .count-of .result) (c .before .before .bef
 pub is-whole-spec : {M : Type 1} → statement M
 is-whole-spec =
     tie.close
-    (tie.spec
-    Inv-loop
-    μ-loop
-    (λ c. search walks)
-    (λ c κs. search walks)
-    mul
-    (λ c. search walks)
-    (λ c κs. search walks)
-    (λ c. search walks)
-    (λ c κs. search walks)
-    (λ c. search walks)
-    (λ c. search walks)
-    (λ c. search walks)
-    (λ c. search walks))
+    (tie.spec Inv-loop μ-loop (λ c. search walks) (λ c κs. search walks) mul (λ c. search walks) (λ c κs. search walks) (λ c. search walks)
+    (λ c κs. search walks) (λ c. search walks) (λ c. search walks) (λ c. search walks) (λ c. search walks))

@@ -20,11 +20,4 @@ returns-2 c =
 pub mvpn-attribute-read-spec : {M : Type 1} → statement M
 mvpn-attribute-read-spec =
     tie.close
-    (tie.spec
-    (search needs)
-    (search needs)
-    (search needs)
-    returns
-    (search needs)
-    (search needs)
-    returns-2)
+    (tie.spec (search needs) (search needs) (search needs) returns (search needs) (search needs) returns-2)

@@ -17,14 +17,5 @@ slice-aggregate-write-all c = front-count _ _ _ _ (c .before .before .list .ensu
 pub print-listing-spec : {M : Type 1} → statement M
 print-listing-spec =
     tie.close
-    (tie.spec
-    (search needs)
-    (search needs)
-    list-requires
-    array-share-prefix-output
-    slice-aggregate-write-all
-    (search needs)
-    (search needs)
-    (search needs)
-    (search needs)
-    (search needs))
+    (tie.spec (search needs) (search needs) list-requires array-share-prefix-output slice-aggregate-write-all (search needs) (search needs)
+    (search needs) (search needs) (search needs))

@@ -27,12 +27,4 @@ returns-3 c =
 pub fault-spec : {M : Type 1} → statement M
 fault-spec =
     tie.close
-    (tie.spec
-    returns
-    returns-2
-    (search needs)
-    (search needs)
-    (search needs)
-    (search needs)
-    (search needs)
-    returns-3)
+    (tie.spec returns returns-2 (search needs) (search needs) (search needs) (search needs) (search needs) returns-3)

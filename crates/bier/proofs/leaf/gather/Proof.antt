@@ -17,17 +17,6 @@ abbrev μ-loop : tie.MeasureT-loop
 pub gather-spec : {M : Type 1} → statement M
 gather-spec =
     tie.close
-    (tie.spec
-    Inv-loop
-    μ-loop
-    (λ c κs. search gathering)
-    (λ c. search gathering)
-    (λ c κs. search gathering)
-    (λ c. search gathering)
-    (λ c κs. search gathering)
-    (λ c κs. search gathering)
-    (λ c κs. search gathering)
-    (λ c. search gathering)
-    (λ c. search gathering)
-    (λ c. search gathering)
-    (λ c. search gathering))
+    (tie.spec Inv-loop μ-loop (λ c κs. search gathering) (λ c. search gathering) (λ c κs. search gathering) (λ c. search gathering)
+    (λ c κs. search gathering) (λ c κs. search gathering) (λ c κs. search gathering) (λ c. search gathering) (λ c. search gathering)
+    (λ c. search gathering) (λ c. search gathering))

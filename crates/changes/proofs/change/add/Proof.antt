@@ -11,8 +11,4 @@ returns c = rw (c .before .before .replace .ensures, c .before .before .before .
 pub add-spec : {M : Type 1} → statement M
 add-spec =
     tie.close
-    (tie.spec
-    (search needs)
-    (search needs)
-    (search needs)
-    returns)
+    (tie.spec (search needs) (search needs) (search needs) returns)

@@ -11,10 +11,4 @@ returns c = rw (c .before .before .place .ensures .1, c .before .before .before 
 pub add-place-spec : {M : Type 1} → statement M
 add-place-spec =
     tie.close
-    (tie.spec
-    (search needs)
-    (search needs)
-    (search needs)
-    (search needs)
-    (search needs)
-    returns)
+    (tie.spec (search needs) (search needs) (search needs) (search needs) (search needs) returns)

@@ -28,11 +28,4 @@ returns c = (refl, rw (c .before .before .write-header .ensures, c .before .befo
 pub close-from-spec : {M : Type 1} → statement M
 close-from-spec =
     tie.close
-    (tie.spec
-    mul-clear-part
-    add-clear-part
-    clear-part-requires
-    sub-kept
-    write-header-requires
-    same-length
-    returns)
+    (tie.spec mul-clear-part add-clear-part clear-part-requires sub-kept write-header-requires same-length returns)

@@ -39,13 +39,5 @@ returns-2 c =
 pub keep-spec : {M : Type 1} → statement M
 keep-spec =
     tie.close
-    (tie.spec
-    returns
-    add-move-down
-    sub-move-down
-    part-move-down-start
-    part-move-down-end
-    sub-move-down-2
-    move-down-requires
-    same-length
+    (tie.spec returns add-move-down sub-move-down part-move-down-start part-move-down-end sub-move-down-2 move-down-requires same-length
     returns-2)

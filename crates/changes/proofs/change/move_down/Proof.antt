@@ -50,16 +50,5 @@ returns c =
 pub move-down-spec : {M : Type 1} → statement M
 move-down-spec =
     tie.close
-    (tie.spec
-    Inv-loop
-    μ-loop
-    sub-moved
-    loop-holds
-    add-tail
-    slice-read-tail
-    slice-write-tail
-    add-at
-    loop-less
-    loop-again
-    same-length
+    (tie.spec Inv-loop μ-loop sub-moved loop-holds add-tail slice-read-tail slice-write-tail add-at loop-less loop-again same-length
     returns)

@@ -11,14 +11,5 @@ returns c = rw (c .before .before .write-header .ensures, c .before .before .bef
 pub remove-spec : {M : Type 1} → statement M
 remove-spec =
     tie.close
-    (tie.spec
-    (search needs)
-    (search needs)
-    (search needs)
-    (search needs)
-    (search needs)
-    (search needs)
-    (search needs)
-    (search needs)
-    (search needs)
-    returns)
+    (tie.spec (search needs) (search needs) (search needs) (search needs) (search needs) (search needs) (search needs) (search needs)
+    (search needs) returns)

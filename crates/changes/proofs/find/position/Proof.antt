@@ -54,17 +54,5 @@ returns c = search needs
 pub position-spec : {M : Type 1} → statement M
 position-spec =
     tie.close
-    (tie.spec
-    Inv-loop
-    μ-loop
-    loop-holds
-    sub-middle
-    add-middle
-    nlri-at-requires
-    comes-before-requires
-    add-low
-    loop-less
-    loop-again
-    loop-less-2
-    loop-again-2
-    returns)
+    (tie.spec Inv-loop μ-loop loop-holds sub-middle add-middle nlri-at-requires comes-before-requires add-low loop-less loop-again
+    loop-less-2 loop-again-2 returns)

@@ -31,11 +31,4 @@ position-requires c κs = search needs
 pub position-from-last-spec : {M : Type 1} → statement M
 position-from-last-spec =
     tie.close
-    (tie.spec
-    returns
-    (search needs)
-    nlri-at-requires
-    (search needs)
-    returns-2
-    position-requires
-    (search needs))
+    (tie.spec returns (search needs) nlri-at-requires (search needs) returns-2 position-requires (search needs))

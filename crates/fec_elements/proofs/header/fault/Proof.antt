@@ -20,11 +20,4 @@ returns-3 c = search flags
 pub fault-spec : {M : Type 1} → statement M
 fault-spec =
     tie.close
-    (tie.spec
-    (search needs)
-    returns
-    (search needs)
-    (search needs)
-    (search needs)
-    returns-2
-    returns-3)
+    (tie.spec (search needs) returns (search needs) (search needs) (search needs) returns-2 returns-3)

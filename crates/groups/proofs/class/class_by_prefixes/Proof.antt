@@ -14,12 +14,5 @@ returns c = class-family _ _ _ _ (unknown-given _ _ _ (c .before .before .before
 pub class-by-prefixes-spec : {M : Type 1} → statement M
 class-by-prefixes-spec =
     tie.close
-    (tie.spec
-    (λ c κs. search needs)
-    (λ c. search needs)
-    (λ c κs. search needs)
-    (λ c. search needs)
-    (λ c κs. search needs)
-    class-of-family-requires
-    returns
-    (λ c. search needs))
+    (tie.spec (λ c κs. search needs) (λ c. search needs) (λ c κs. search needs) (λ c. search needs) (λ c κs. search needs)
+    class-of-family-requires returns (λ c. search needs))

@@ -17,17 +17,5 @@ abbrev μ-loop : tie.MeasureT-loop
 pub class-along-spec : {M : Type 1} → statement M
 class-along-spec =
     tie.close
-    (tie.spec
-    Inv-loop
-    μ-loop
-    (λ c κs. search along)
-    (λ c. search along)
-    (λ c κs. search along)
-    (λ c κs. search along)
-    (λ c. search along)
-    (λ c κs. search along)
-    (λ c κs. search along)
-    (λ c. search along)
-    (λ c. search along)
-    (λ c. search along)
-    (λ c. search along))
+    (tie.spec Inv-loop μ-loop (λ c κs. search along) (λ c. search along) (λ c κs. search along) (λ c κs. search along) (λ c. search along)
+    (λ c κs. search along) (λ c κs. search along) (λ c. search along) (λ c. search along) (λ c. search along) (λ c. search along))

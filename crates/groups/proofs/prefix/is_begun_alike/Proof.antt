@@ -24,14 +24,5 @@ returns-3 c =
 pub is-begun-alike-spec : {M : Type 1} → statement M
 is-begun-alike-spec =
     tie.close
-    (tie.spec
-    (search needs)
-    (search needs)
-    (search needs)
-    returns
-    returns-2
-    (search needs)
-    (search needs)
-    (search needs)
-    (search needs)
+    (tie.spec (search needs) (search needs) (search needs) returns returns-2 (search needs) (search needs) (search needs) (search needs)
     returns-3)

@@ -23,13 +23,4 @@ returns-3 c =
 pub is-clear-past-spec : {M : Type 1} → statement M
 is-clear-past-spec =
     tie.close
-    (tie.spec
-    returns
-    (search needs)
-    (search needs)
-    (search needs)
-    returns-2
-    (search needs)
-    (search needs)
-    (search needs)
-    returns-3)
+    (tie.spec returns (search needs) (search needs) (search needs) returns-2 (search needs) (search needs) (search needs) returns-3)

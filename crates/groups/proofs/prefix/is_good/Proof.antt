@@ -27,13 +27,4 @@ returns-4 c = prefix-last _ _ _ (c .before .before .before .before .after .ensur
 pub is-good-spec : {M : Type 1} → statement M
 is-good-spec =
     tie.close
-    (tie.spec
-    returns
-    (search needs)
-    returns-2
-    (search needs)
-    cast-bits
-    add-if3
-    returns-3
-    (search needs)
-    returns-4)
+    (tie.spec returns (search needs) returns-2 (search needs) cast-bits add-if3 returns-3 (search needs) returns-4)

@@ -28,16 +28,5 @@ returns-3 c =
 pub explain-sound-spec : {M : Type 1} → statement M
 explain-sound-spec =
     tie.close
-    (tie.spec
-    afi-of-requires
-    (λ c κs. search needs)
-    (λ c κs. search needs)
-    (search needs)
-    returns
-    (search needs)
-    returns-2
-    (search needs)
-    search-requires
-    (search needs)
-    (λ c. search needs)
-    returns-3)
+    (tie.spec afi-of-requires (λ c κs. search needs) (λ c κs. search needs) (search needs) returns (search needs) returns-2 (search needs)
+    search-requires (search needs) (λ c. search needs) returns-3)

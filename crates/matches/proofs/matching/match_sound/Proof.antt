@@ -24,15 +24,5 @@ returns-3 c = answers-search _ _ (c .before .before .before .before .before .bef
 pub match-sound-spec : {M : Type 1} → statement M
 match-sound-spec =
     tie.close
-    (tie.spec
-    afi-of-requires
-    (λ c κs. search needs)
-    (λ c κs. search needs)
-    (search needs)
-    returns
-    (search needs)
-    returns-2
-    (search needs)
-    search-requires
-    (search needs)
-    returns-3)
+    (tie.spec afi-of-requires (λ c κs. search needs) (λ c κs. search needs) (search needs) returns (search needs) returns-2 (search needs)
+    search-requires (search needs) returns-3)

@@ -26,10 +26,4 @@ returns c = lower-is _ _ _ _ _ _ _ _ (c .before .before .before .before .nlri-fr
 pub is-lower-spec : {M : Type 1} → statement M
 is-lower-spec =
     tie.close
-    (tie.spec
-    (λ c κs. search needs)
-    distinguisher-in-requires
-    (λ c κs. search needs)
-    distinguisher-in-requires-2
-    (search needs)
-    returns)
+    (tie.spec (λ c κs. search needs) distinguisher-in-requires (λ c κs. search needs) distinguisher-in-requires-2 (search needs) returns)

@@ -35,13 +35,4 @@ returns c = going-last _ _ _ _ _ _ _ (c .before .loop .inv) (c .loop-test .left)
 pub scan-spec : {M : Type 1} → statement M
 scan-spec =
     tie.close
-    (tie.spec
-    Inv-loop
-    μ-loop
-    loop-holds
-    better-requires
-    add-at
-    sub-left
-    loop-less
-    loop-again
-    returns)
+    (tie.spec Inv-loop μ-loop loop-holds better-requires add-at sub-left loop-less loop-again returns)

@@ -39,14 +39,5 @@ returns-3 c =
 pub match-sound-shared-spec : {M : Type 1} → statement M
 match-sound-shared-spec =
     tie.close
-    (tie.spec
-    afi-of-requires
-    (search needs)
-    (search needs)
-    returns
-    (search needs)
-    returns-2
-    open-tiers-requires
-    search-requires
-    (λ c. search needs)
-    returns-3)
+    (tie.spec afi-of-requires (search needs) (search needs) returns (search needs) returns-2 open-tiers-requires search-requires
+    (λ c. search needs) returns-3)

@@ -17,13 +17,4 @@ returns-3 c = tier-source _ _ _ _ _ _ _ (c .before .before .before .before .befo
 pub flow-tier-spec : {M : Type 1} → statement M
 flow-tier-spec =
     tie.close
-    (tie.spec
-    (search needs)
-    (search needs)
-    (search needs)
-    returns
-    (search needs)
-    returns-2
-    (search needs)
-    (search needs)
-    returns-3)
+    (tie.spec (search needs) (search needs) (search needs) returns (search needs) returns-2 (search needs) (search needs) returns-3)

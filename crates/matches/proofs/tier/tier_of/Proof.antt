@@ -17,11 +17,4 @@ returns-3 c = own-tier _ _ _ _ _ (c .before .before .before .originator-in .ensu
 pub tier-of-spec : {M : Type 1} → statement M
 tier-of-spec =
     tie.close
-    (tie.spec
-    (search needs)
-    returns
-    (search needs)
-    (search needs)
-    returns-2
-    (search needs)
-    returns-3)
+    (tie.spec (search needs) returns (search needs) (search needs) returns-2 (search needs) returns-3)

@@ -37,12 +37,4 @@ returns c =
 pub field-spec : {M : Type 1} → statement M
 field-spec =
     tie.close
-    (tie.spec
-    (search needs)
-    (search needs)
-    (search needs)
-    place-requires
-    (search needs)
-    place-requires-2
-    (search needs)
-    returns)
+    (tie.spec (search needs) (search needs) (search needs) place-requires (search needs) place-requires-2 (search needs) returns)

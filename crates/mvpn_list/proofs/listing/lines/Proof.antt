@@ -48,20 +48,5 @@ returns c = listed-last _ _ _ _ _ _ _ _ (c .before .before .before .before .befo
 pub lines-spec : {M : Type 1} → statement M
 lines-spec =
     tie.close
-    (tie.spec
-    Inv-loop
-    μ-loop
-    loop-holds
-    (search needs)
-    (search needs)
-    line-requires
-    loop-less
-    loop-again
-    (search needs)
-    add-skipped
-    loop-less-2
-    loop-again-2
-    (search needs)
-    last-line-requires
-    same-length
-    returns)
+    (tie.spec Inv-loop μ-loop loop-holds (search needs) (search needs) line-requires loop-less loop-again (search needs) add-skipped
+    loop-less-2 loop-again-2 (search needs) last-line-requires same-length returns)

@@ -19,14 +19,5 @@ loop-less c = omega (arith, c .past .ensures .0 (omega arith), c .past .ensures 
 pub run-all-spec : {M : Type 1} → statement M
 run-all-spec =
     tie.close
-    (tie.spec
-    Inv-loop
-    μ-loop
-    (search needs)
-    (search needs)
-    (search needs)
-    loop-less
-    (search needs)
-    (search needs)
-    (search needs)
+    (tie.spec Inv-loop μ-loop (search needs) (search needs) (search needs) loop-less (search needs) (search needs) (search needs)
     (search needs))

@@ -13,12 +13,4 @@ returns c = c .comes-before-by-words .ensures ∙ ap₂ before (lent-whole (now 
 pub comes-before-spec : {M : Type 1} → statement M
 comes-before-spec =
     tie.close
-    (tie.spec
-    (search needs)
-    (search needs)
-    (search needs)
-    (search needs)
-    (search needs)
-    (search needs)
-    (search needs)
-    returns)
+    (tie.spec (search needs) (search needs) (search needs) (search needs) (search needs) (search needs) (search needs) returns)

@@ -66,22 +66,5 @@ returns-4 c =
 pub comes-before-by-words-spec : {M : Type 1} → statement M
 comes-before-by-words-spec =
     tie.close
-    (tie.spec
-    Inv-loop
-    μ-loop
-    (search needs)
-    (search needs)
-    (λ c. search needs)
-    loop-holds
-    (search needs)
-    (search needs)
-    (search needs)
-    (search needs)
-    returns-2
-    (search needs)
-    (search needs)
-    loop-again
-    (search needs)
-    (search needs)
-    returns-3
-    returns-4)
+    (tie.spec Inv-loop μ-loop (search needs) (search needs) (λ c. search needs) loop-holds (search needs) (search needs) (search needs)
+    (search needs) returns-2 (search needs) (search needs) loop-again (search needs) (search needs) returns-3 returns-4)

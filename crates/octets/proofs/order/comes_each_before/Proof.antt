@@ -30,17 +30,5 @@ returns-3 c = let l = c .before .loop in lengths-decide _ _ (l .i) (search needs
 pub comes-each-before-spec : {M : Type 1} → statement M
 comes-each-before-spec =
     tie.close
-    (tie.spec
-    Inv-loop
-    μ-loop
-    (λ c. (search needs, search needs, refl))
-    returns
-    (search needs)
-    (search needs)
-    (search needs)
-    (search needs)
-    returns-2
-    (search needs)
-    (search needs)
-    loop-again
-    returns-3)
+    (tie.spec Inv-loop μ-loop (λ c. (search needs, search needs, refl)) returns (search needs) (search needs) (search needs) (search needs)
+    returns-2 (search needs) (search needs) loop-again returns-3)

@@ -29,12 +29,4 @@ returns c = let l = c .before .loop in zero-ends _ (l .i) (l .any) (search needs
 pub is-each-zero-spec : {M : Type 1} → statement M
 is-each-zero-spec =
     tie.close
-    (tie.spec
-    Inv-loop
-    μ-loop
-    loop-holds
-    (search needs)
-    (search needs)
-    (search needs)
-    loop-again
-    returns)
+    (tie.spec Inv-loop μ-loop loop-holds (search needs) (search needs) (search needs) loop-again returns)

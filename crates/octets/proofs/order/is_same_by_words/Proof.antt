@@ -50,20 +50,5 @@ returns-4 c =
 pub is-same-by-words-spec : {M : Type 1} → statement M
 is-same-by-words-spec =
     tie.close
-    (tie.spec
-    Inv-loop
-    μ-loop
-    returns
-    (search needs)
-    (λ c. search needs)
-    (search needs)
-    loop-holds
-    (search needs)
-    (search needs)
-    returns-3
-    (search needs)
-    (search needs)
-    loop-again
-    (search needs)
-    (search needs)
-    returns-4)
+    (tie.spec Inv-loop μ-loop returns (search needs) (λ c. search needs) (search needs) loop-holds (search needs) (search needs) returns-3
+    (search needs) (search needs) loop-again (search needs) (search needs) returns-4)

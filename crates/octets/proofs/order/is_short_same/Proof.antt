@@ -37,17 +37,5 @@ returns-3 c = let l = c .before .loop in alike-whole _ _ (l .i) (l .inv .1) (sea
 pub is-short-same-spec : {M : Type 1} → statement M
 is-short-same-spec =
     tie.close
-    (tie.spec
-    Inv-loop
-    μ-loop
-    (search needs)
-    (search needs)
-    returns
-    (λ c. (search needs, refl))
-    (search needs)
-    (search needs)
-    returns-2
-    (search needs)
-    (search needs)
-    loop-again
-    returns-3)
+    (tie.spec Inv-loop μ-loop (search needs) (search needs) returns (λ c. (search needs, refl)) (search needs) (search needs) returns-2
+    (search needs) (search needs) loop-again returns-3)

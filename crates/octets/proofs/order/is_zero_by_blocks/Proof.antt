@@ -39,19 +39,5 @@ returns-3 c =
 pub is-zero-by-blocks-spec : {M : Type 1} → statement M
 is-zero-by-blocks-spec =
     tie.close
-    (tie.spec
-    Inv-loop
-    μ-loop
-    (search needs)
-    (λ c. search needs)
-    (search needs)
-    loop-holds
-    (search needs)
-    (search needs)
-    returns-2
-    (search needs)
-    (search needs)
-    loop-again
-    (search needs)
-    (search needs)
-    returns-3)
+    (tie.spec Inv-loop μ-loop (search needs) (λ c. search needs) (search needs) loop-holds (search needs) (search needs) returns-2
+    (search needs) (search needs) loop-again (search needs) (search needs) returns-3)

@@ -23,10 +23,4 @@ returns c =
 pub place-four-spec : {M : Type 1} → statement M
 place-four-spec =
     tie.close
-    (tie.spec
-    (search needs)
-    (search needs)
-    (search needs)
-    place-requires
-    (search needs)
-    returns)
+    (tie.spec (search needs) (search needs) (search needs) place-requires (search needs) returns)

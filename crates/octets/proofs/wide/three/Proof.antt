@@ -22,11 +22,4 @@ returns c =
 pub three-spec : {M : Type 1} → statement M
 three-spec =
     tie.close
-    (tie.spec
-    (search needs)
-    (search needs)
-    (search needs)
-    (search needs)
-    cast-result
-    add-result-2
-    returns)
+    (tie.spec (search needs) (search needs) (search needs) (search needs) cast-result add-result-2 returns)

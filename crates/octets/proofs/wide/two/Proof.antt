@@ -27,12 +27,4 @@ returns c =
 pub two-spec : {M : Type 1} → statement M
 two-spec =
     tie.close
-    (tie.spec
-    (search needs)
-    cast-result
-    mul-result
-    (search needs)
-    (search needs)
-    cast-result-2
-    add-result-2
-    returns)
+    (tie.spec (search needs) cast-result mul-result (search needs) (search needs) cast-result-2 add-result-2 returns)

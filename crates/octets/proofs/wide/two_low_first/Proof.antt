@@ -27,12 +27,4 @@ returns c =
 pub two-low-first-spec : {M : Type 1} → statement M
 two-low-first-spec =
     tie.close
-    (tie.spec
-    (search needs)
-    cast-result
-    (search needs)
-    (search needs)
-    cast-result-2
-    mul-result
-    add-result-2
-    returns)
+    (tie.spec (search needs) cast-result (search needs) (search needs) cast-result-2 mul-result add-result-2 returns)

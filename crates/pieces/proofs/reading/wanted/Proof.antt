@@ -38,18 +38,5 @@ returns-4 c = (want-kept _ _ _ (search needs) (c .before .before .if2 .left) (c 
 pub wanted-spec : {M : Type 1} → statement M
 wanted-spec =
     tie.close
-    (tie.spec
-    (search needs)
-    returns
-    (search needs)
-    cast-result
-    add-result
-    returns-2
-    (search needs)
-    cast-result-2
-    add-result-2
-    returns-3
-    (search needs)
-    cast-result-3
-    add-result-3
-    returns-4)
+    (tie.spec (search needs) returns (search needs) cast-result add-result returns-2 (search needs) cast-result-2 add-result-2 returns-3
+    (search needs) cast-result-3 add-result-3 returns-4)

@@ -21,13 +21,4 @@ returns-2 c = header-good _ _ _ (c .before .before .before .before .before .betw
 pub is-header-sound-spec : {M : Type 1} → statement M
 is-header-sound-spec =
     tie.close
-    (tie.spec
-    (search needs)
-    (search needs)
-    (search needs)
-    (search needs)
-    returns
-    (search needs)
-    cast-is-family
-    (search needs)
-    returns-2)
+    (tie.spec (search needs) (search needs) (search needs) (search needs) returns (search needs) cast-is-family (search needs) returns-2)

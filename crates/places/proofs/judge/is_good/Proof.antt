@@ -61,22 +61,6 @@ returns-4 c =
 pub is-good-spec : {M : Type 1} → statement M
 is-good-spec =
     tie.close
-    (tie.spec
-    (search needs)
-    cast-nlri-size
-    (search needs)
-    cast-attribute-size
-    add-end
-    add-end-2
-    returns
-    (search needs)
-    returns-2
-    between-requires
-    (search needs)
-    between-requires-2
-    route-fault-requires
-    returns-3
-    between-requires-3
-    after-requires
-    (search needs)
+    (tie.spec (search needs) cast-nlri-size (search needs) cast-attribute-size add-end add-end-2 returns (search needs) returns-2
+    between-requires (search needs) between-requires-2 route-fault-requires returns-3 between-requires-3 after-requires (search needs)
     returns-4)

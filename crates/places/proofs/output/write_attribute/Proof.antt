@@ -40,14 +40,5 @@ returns c =
 pub write-attribute-spec : {M : Type 1} → statement M
 write-attribute-spec =
     tie.close
-    (tie.spec
-    three-requires
-    after-requires
-    shared-slice-read-write
-    shared-slice-read-write-2
-    (search needs)
-    (search needs)
-    (search needs)
-    (search needs)
-    (search needs)
-    returns)
+    (tie.spec three-requires after-requires shared-slice-read-write shared-slice-read-write-2 (search needs) (search needs) (search needs)
+    (search needs) (search needs) returns)

@@ -34,11 +34,4 @@ returns c = search needs
 pub attribute-in-spec : {M : Type 1} → statement M
 attribute-in-spec =
     tie.close
-    (tie.spec
-    shared-slice-read-between
-    cast-between
-    add-between
-    shared-slice-read-between-2
-    cast-between-2
-    between-requires
-    returns)
+    (tie.spec shared-slice-read-between cast-between add-between shared-slice-read-between-2 cast-between-2 between-requires returns)

@@ -49,19 +49,5 @@ returns-3 c = passing-ends _ _ _ _ (search needs) (c .before .before .loop .inv)
 pub are-places-sound-spec : {M : Type 1} → statement M
 are-places-sound-spec =
     tie.close
-    (tie.spec
-    Inv-loop
-    μ-loop
-    (search needs)
-    (search needs)
-    loop-holds
-    (search needs)
-    is-place-sound-requires
-    returns
-    follows-requires
-    returns-2
-    (search needs)
-    (search needs)
-    loop-again
-    is-rest-zero-requires
-    returns-3)
+    (tie.spec Inv-loop μ-loop (search needs) (search needs) loop-holds (search needs) is-place-sound-requires returns follows-requires
+    returns-2 (search needs) (search needs) loop-again is-rest-zero-requires returns-3)

@@ -32,13 +32,4 @@ returns-2 c = either-last _ _ _ (le-ltb _ 128 (c .before .before .before .before
 pub follows-spec : {M : Type 1} → statement M
 follows-spec =
     tie.close
-    (tie.spec
-    returns
-    (search needs)
-    (search needs)
-    (search needs)
-    (search needs)
-    (search needs)
-    (search needs)
-    rises-requires
-    returns-2)
+    (tie.spec returns (search needs) (search needs) (search needs) (search needs) (search needs) (search needs) rises-requires returns-2)

@@ -96,25 +96,6 @@ returns-6 c =
 pub is-place-sound-spec : {M : Type 1} → statement M
 is-place-sound-spec =
     tie.close
-    (tie.spec
-    shared-slice-read-nlri-size
-    cast-nlri-size
-    shared-slice-read-attribute-size
-    cast-attribute-size
-    add-end
-    add-end-2
-    returns
-    shared-slice-read-if2
-    returns-2
-    between-requires
-    is-s-pmsi-requires
-    returns-3
-    add-between
-    between-requires-2
-    fault-requires
-    returns-4
-    label-fault-requires
-    returns-5
-    between-requires-3
-    is-tail-zero-requires
-    returns-6)
+    (tie.spec shared-slice-read-nlri-size cast-nlri-size shared-slice-read-attribute-size cast-attribute-size add-end add-end-2 returns
+    shared-slice-read-if2 returns-2 between-requires is-s-pmsi-requires returns-3 add-between between-requires-2 fault-requires returns-4
+    label-fault-requires returns-5 between-requires-3 is-tail-zero-requires returns-6)

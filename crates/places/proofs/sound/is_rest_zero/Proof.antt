@@ -20,14 +20,5 @@ returns-3 c = rest-zero _ _ 8 _ _ (c .before .before .before .after2 .ensures) (
 pub is-rest-zero-spec : {M : Type 1} → statement M
 is-rest-zero-spec =
     tie.close
-    (tie.spec
-    (search needs)
-    (search needs)
-    (search needs)
-    returns
-    (search needs)
-    (search needs)
-    (search needs)
-    returns-2
-    (search needs)
+    (tie.spec (search needs) (search needs) (search needs) returns (search needs) (search needs) (search needs) returns-2 (search needs)
     returns-3)

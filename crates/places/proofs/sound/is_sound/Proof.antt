@@ -45,14 +45,5 @@ returns-4 c =
 pub is-sound-spec : {M : Type 1} → statement M
 is-sound-spec =
     tie.close
-    (tie.spec
-    (search needs)
-    returns
-    is-header-sound-requires
-    returns-2
-    count-of-requires
-    places-of-requires
-    returns-3
-    afi-of-requires
-    are-places-sound-requires
-    returns-4)
+    (tie.spec (search needs) returns is-header-sound-requires returns-2 count-of-requires places-of-requires returns-3 afi-of-requires
+    are-places-sound-requires returns-4)

@@ -20,16 +20,5 @@ returns-4 c = c .is-zero .ensures ∙ ap allZero (c .before .after .ensures)
 pub is-tail-zero-spec : {M : Type 1} → statement M
 is-tail-zero-spec =
     tie.close
-    (tie.spec
-    (search needs)
-    (search needs)
-    returns
-    (search needs)
-    (search needs)
-    returns-2
-    (search needs)
-    (search needs)
-    returns-3
-    (search needs)
-    (search needs)
-    returns-4)
+    (tie.spec (search needs) (search needs) returns (search needs) (search needs) returns-2 (search needs) (search needs) returns-3
+    (search needs) (search needs) returns-4)

@@ -25,9 +25,4 @@ returns c =
 pub is-tail-zero-by-spec : {M : Type 1} → statement M
 is-tail-zero-by-spec =
     tie.close
-    (tie.spec
-    (search needs)
-    (search needs)
-    (search needs)
-    are-each-zero-requires
-    returns)
+    (tie.spec (search needs) (search needs) (search needs) are-each-zero-requires returns)

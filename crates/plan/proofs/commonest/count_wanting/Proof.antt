@@ -14,16 +14,6 @@ abbrev μ-loop : tie.MeasureT-loop
 pub count-wanting-spec : {M : Type 1} → statement M
 count-wanting-spec =
     tie.close
-    (tie.spec
-    Inv-loop
-    μ-loop
-    (λ c κs. search counting)
-    (λ c. search counting)
-    (λ c κs. search counting)
-    (λ c. search counting)
-    (λ c κs. search counting)
-    (λ c. search counting)
-    (λ c. search counting)
-    (λ c. search counting)
-    (λ c. search counting)
+    (tie.spec Inv-loop μ-loop (λ c κs. search counting) (λ c. search counting) (λ c κs. search counting) (λ c. search counting)
+    (λ c κs. search counting) (λ c. search counting) (λ c. search counting) (λ c. search counting) (λ c. search counting)
     (λ c. search counting))

@@ -8,11 +8,5 @@ pub counts-spec : {M : Type 1} → statement M
 unfolding countsFor
 counts-spec =
     tie.close
-    (tie.spec
-    (λ c κs. search fields)
-    (λ c κs. search fields)
-    (λ c κs. search fields)
-    (λ c. search fields)
-    (λ c κs. search fields)
-    (λ c. search fields)
-    (λ c. search fields))
+    (tie.spec (λ c κs. search fields) (λ c κs. search fields) (λ c κs. search fields) (λ c. search fields) (λ c κs. search fields)
+    (λ c. search fields) (λ c. search fields))

@@ -14,15 +14,6 @@ abbrev μ-loop : tie.MeasureT-loop
 pub leader-of-spec : {M : Type 1} → statement M
 leader-of-spec =
     tie.close
-    (tie.spec
-    Inv-loop
-    μ-loop
-    (λ c κs. search fields)
-    (λ c. search (fields, leading-first))
-    (λ c κs. search (fields, leading-here))
-    (λ c. search fields)
-    (λ c κs. search (fields, leading-behind))
-    (λ c. search fields)
-    (λ c. search fields)
-    (λ c. search (fields, leading-next))
-    (λ c. search (fields, leading-last)))
+    (tie.spec Inv-loop μ-loop (λ c κs. search fields) (λ c. search (fields, leading-first)) (λ c κs. search (fields, leading-here))
+    (λ c. search fields) (λ c κs. search (fields, leading-behind)) (λ c. search fields) (λ c. search fields)
+    (λ c. search (fields, leading-next)) (λ c. search (fields, leading-last)))

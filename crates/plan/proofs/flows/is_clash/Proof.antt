@@ -9,10 +9,5 @@ pub is-clash-spec : {M : Type 1} → statement M
 unfolding related pick
 is-clash-spec =
     tie.close
-    (tie.spec
-    (λ c κs. search fields)
-    (λ c. search fields)
-    (λ c κs. search fields)
-    (λ c κs. search fields)
-    (λ c κs. search fields)
+    (tie.spec (λ c κs. search fields) (λ c. search fields) (λ c κs. search fields) (λ c κs. search fields) (λ c κs. search fields)
     (λ c. search fields))

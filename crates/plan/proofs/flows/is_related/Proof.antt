@@ -8,12 +8,5 @@ pub is-related-spec : {M : Type 1} → statement M
 unfolding related
 is-related-spec =
     tie.close
-    (tie.spec
-    (λ c κs. search fields)
-    (λ c. search fields)
-    (λ c κs. search fields)
-    (λ c κs. search fields)
-    (λ c κs. search fields)
-    (λ c. search fields)
-    (λ c κs. search fields)
-    (λ c. search fields))
+    (tie.spec (λ c κs. search fields) (λ c. search fields) (λ c κs. search fields) (λ c κs. search fields) (λ c κs. search fields)
+    (λ c. search fields) (λ c κs. search fields) (λ c. search fields))

@@ -8,12 +8,5 @@ pub is-same-flow-spec : {M : Type 1} → statement M
 unfolding sameFlow
 is-same-flow-spec =
     tie.close
-    (tie.spec
-    (λ c κs. search fields)
-    (λ c κs. search fields)
-    (λ c κs. search fields)
-    (λ c. search fields)
-    (λ c κs. search fields)
-    (λ c κs. search fields)
-    (λ c κs. search fields)
-    (λ c. search fields))
+    (tie.spec (λ c κs. search fields) (λ c κs. search fields) (λ c κs. search fields) (λ c. search fields) (λ c κs. search fields)
+    (λ c κs. search fields) (λ c κs. search fields) (λ c. search fields))

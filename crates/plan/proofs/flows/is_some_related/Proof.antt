@@ -20,14 +20,5 @@ pub is-some-related-spec : {M : Type 1} → statement M
 unfolding someRelated someItem flowAt
 is-some-related-spec =
     tie.close
-    (tie.spec
-    Inv-loop
-    μ-loop
-    (λ c. search (fields, behind-first))
-    (λ c κs. search fields)
-    (λ c. search fields)
-    (λ c κs. search fields)
-    (λ c. search fields)
-    (λ c. search fields)
-    (λ c. search fields)
-    (λ c. search fields))
+    (tie.spec Inv-loop μ-loop (λ c. search (fields, behind-first)) (λ c κs. search fields) (λ c. search fields) (λ c κs. search fields)
+    (λ c. search fields) (λ c. search fields) (λ c. search fields) (λ c. search fields))

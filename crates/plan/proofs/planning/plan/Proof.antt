@@ -23,17 +23,6 @@ returns-4 c =
 pub plan-spec : {M : Type 1} → statement M
 plan-spec =
     tie.close
-    (tie.spec
-    (λ c κs. search needs)
-    (λ c κs. search needs)
-    (λ c. search (needs, plan-refused))
-    (λ c κs. search needs)
-    (λ c. search needs)
-    (λ c κs. search needs)
-    (λ c. search (needs, plan-space))
-    (λ c κs. search needs)
-    (λ c. search (needs, plan-none))
-    put-all-requires
-    done-requires-2
-    (λ c. search needs)
-    returns-4)
+    (tie.spec (λ c κs. search needs) (λ c κs. search needs) (λ c. search (needs, plan-refused)) (λ c κs. search needs) (λ c. search needs)
+    (λ c κs. search needs) (λ c. search (needs, plan-space)) (λ c κs. search needs) (λ c. search (needs, plan-none)) put-all-requires
+    done-requires-2 (λ c. search needs) returns-4)

@@ -7,12 +7,5 @@ use Rattle.plan.proofs.planning.put_own.Tie as tie
 pub put-own-spec : {M : Type 1} → statement M
 put-own-spec =
     tie.close
-    (tie.spec
-    (λ c κs. search fields)
-    (λ c. search (fields, own-none))
-    (λ c κs. search fields)
-    (λ c κs. search fields)
-    (λ c κs. search fields)
-    (λ c κs. search (fields, own-room, flow-route))
-    (λ c. search fields)
-    (λ c. search (fields, own-put)))
+    (tie.spec (λ c κs. search fields) (λ c. search (fields, own-none)) (λ c κs. search fields) (λ c κs. search fields)
+    (λ c κs. search fields) (λ c κs. search (fields, own-room, flow-route)) (λ c. search fields) (λ c. search (fields, own-put)))

@@ -7,10 +7,5 @@ use Rattle.plan.proofs.planning.stands_out.Tie as tie
 pub stands-out-spec : {M : Type 1} → statement M
 stands-out-spec =
     tie.close
-    (tie.spec
-    (λ c κs. search fields)
-    (λ c κs. search fields)
-    (λ c κs. search fields)
-    (λ c. search (fields, out-same))
-    (λ c κs. search fields)
-    (λ c. search (fields, out-listed)))
+    (tie.spec (λ c κs. search fields) (λ c κs. search fields) (λ c κs. search fields) (λ c. search (fields, out-same))
+    (λ c κs. search fields) (λ c. search (fields, out-listed)))

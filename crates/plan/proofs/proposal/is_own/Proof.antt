@@ -7,10 +7,5 @@ use Rattle.plan.proofs.proposal.is_own.Tie as tie
 pub is-own-spec : {M : Type 1} → statement M
 is-own-spec =
     tie.close
-    (tie.spec
-    (λ c κs. search fields)
-    (λ c κs. search (fields, bounded-nlri))
-    (λ c. search (fields, own-not))
-    (λ c κs. search (fields, nlri-within))
-    (λ c κs. search fields)
-    (λ c. search (fields, own-is)))
+    (tie.spec (λ c κs. search fields) (λ c κs. search (fields, bounded-nlri)) (λ c. search (fields, own-not))
+    (λ c κs. search (fields, nlri-within)) (λ c κs. search fields) (λ c. search (fields, own-is)))

@@ -16,16 +16,6 @@ abbrev μ-loop : tie.MeasureT-loop
 pub conflicts-spec : {M : Type 1} → statement M
 conflicts-spec =
     tie.close
-    (tie.spec
-    Inv-loop
-    μ-loop
-    (λ c κs. search fields)
-    (λ c. search fields)
-    (λ c κs. search fields)
-    (λ c. search fields)
-    (λ c κs. search (fields, going-behind))
-    (λ c. search (fields, conflict-here))
-    (λ c. search fields)
-    (λ c. search fields)
-    (λ c. search (fields, conflict-next))
-    (λ c. search (fields, conflict-last)))
+    (tie.spec Inv-loop μ-loop (λ c κs. search fields) (λ c. search fields) (λ c κs. search fields) (λ c. search fields)
+    (λ c κs. search (fields, going-behind)) (λ c. search (fields, conflict-here)) (λ c. search fields) (λ c. search fields)
+    (λ c. search (fields, conflict-next)) (λ c. search (fields, conflict-last)))

@@ -6,9 +6,5 @@ use Rattle.plan.proofs.refusals.flow_fault_at.Tie as tie
 pub flow-fault-at-spec : {M : Type 1} → statement M
 flow-fault-at-spec =
     tie.close
-    (tie.spec
-    (λ c κs. search fields)
-    (λ c κs. search fields)
-    (λ c κs. search fields)
-    (λ c κs. search fields)
+    (tie.spec (λ c κs. search fields) (λ c κs. search fields) (λ c κs. search fields) (λ c κs. search fields)
     (λ c. search (fields, flow-number-is)))

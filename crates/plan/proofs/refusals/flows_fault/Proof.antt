@@ -7,8 +7,5 @@ use Rattle.plan.proofs.refusals.flows_fault.Tie as tie
 pub flows-fault-spec : {M : Type 1} → statement M
 flows-fault-spec =
     tie.close
-    (tie.spec
-    (λ c κs. search refusals)
-    (λ c. search (refusals, read-prefixes))
-    (λ c κs. search refusals)
+    (tie.spec (λ c κs. search refusals) (λ c. search (refusals, read-prefixes)) (λ c κs. search refusals)
     (λ c. search (refusals, read-list)))

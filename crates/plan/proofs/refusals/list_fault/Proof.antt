@@ -9,11 +9,7 @@ pub list-fault-spec : {M : Type 1} → statement M
 unfolding flowListFault
 list-fault-spec =
     tie.close
-    (tie.spec
-    (λ c κs. search (refusals, count-over, count-few))
-    (λ c. search (refusals, count-over, count-few))
-    (λ c. search (refusals, count-over, count-few))
-    (λ c κs. search (refusals, count-over, count-few))
-    (λ c. search (refusals, count-over, count-few))
-    (λ c κs. search (refusals, count-over, count-few))
+    (tie.spec (λ c κs. search (refusals, count-over, count-few)) (λ c. search (refusals, count-over, count-few))
+    (λ c. search (refusals, count-over, count-few)) (λ c κs. search (refusals, count-over, count-few))
+    (λ c. search (refusals, count-over, count-few)) (λ c κs. search (refusals, count-over, count-few))
     (λ c. search (refusals, count-over, count-few)))

@@ -8,8 +8,4 @@ pub vrf-fault-spec : {M : Type 1} → statement M
 unfolding vrfNumber
 vrf-fault-spec =
     tie.close
-    (tie.spec
-    (λ c κs. search refusals)
-    (λ c. search refusals)
-    (λ c. search refusals)
-    (λ c. search refusals))
+    (tie.spec (λ c κs. search refusals) (λ c. search refusals) (λ c. search refusals) (λ c. search refusals))

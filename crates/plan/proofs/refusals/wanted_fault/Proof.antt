@@ -22,15 +22,5 @@ pub wanted-fault-spec : {M : Type 1} → statement M
 unfolding faultIn flowAt
 wanted-fault-spec =
     tie.close
-    (tie.spec
-    Inv-loop
-    μ-loop
-    (λ c κs. search fields)
-    (λ c. search fields)
-    (λ c κs. search fields)
-    (λ c. search fields)
-    (λ c κs. search fields)
-    (λ c. search fields)
-    (λ c. search fields)
-    (λ c. search fields)
-    (λ c. search fields))
+    (tie.spec Inv-loop μ-loop (λ c κs. search fields) (λ c. search fields) (λ c κs. search fields) (λ c. search fields)
+    (λ c κs. search fields) (λ c. search fields) (λ c. search fields) (λ c. search fields) (λ c. search fields))

@@ -7,9 +7,5 @@ use Rattle.plan.proofs.writing.put_flow.Tie as tie
 pub put-flow-spec : {M : Type 1} → statement M
 put-flow-spec =
     tie.close
-    (tie.spec
-    (λ c κs. search (needs, flow-first))
-    (λ c κs. search (needs, flow-second))
-    (λ c κs. search (needs, flow-third))
-    (λ c. search needs)
-    (λ c. search (needs, flow-put)))
+    (tie.spec (λ c κs. search (needs, flow-first)) (λ c κs. search (needs, flow-second)) (λ c κs. search (needs, flow-third))
+    (λ c. search needs) (λ c. search (needs, flow-put)))

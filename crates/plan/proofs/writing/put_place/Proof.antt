@@ -7,11 +7,5 @@ use Rattle.plan.proofs.writing.put_place.Tie as tie
 pub put-place-spec : {M : Type 1} → statement M
 put-place-spec =
     tie.close
-    (tie.spec
-    (λ c. search needs)
-    (λ c. search needs)
-    (λ c. search needs)
-    (λ c. search needs)
-    (λ c κs. search needs)
-    (λ c. search needs)
+    (tie.spec (λ c. search needs) (λ c. search needs) (λ c. search needs) (λ c. search needs) (λ c κs. search needs) (λ c. search needs)
     (λ c. search (needs, part-written, place-end)))

@@ -24,15 +24,5 @@ returns c =
 pub write-place-spec : {M : Type 1} → statement M
 write-place-spec =
     tie.close
-    (tie.spec
-    (λ c κs. search needs)
-    (λ c κs. search needs)
-    (λ c. search needs)
-    (λ c. search needs)
-    (λ c. search needs)
-    (λ c. search needs)
-    (λ c κs. search needs)
-    put-nlri-requires
-    place-requires-2
-    (λ c. search needs)
-    returns)
+    (tie.spec (λ c κs. search needs) (λ c κs. search needs) (λ c. search needs) (λ c. search needs) (λ c. search needs) (λ c. search needs)
+    (λ c κs. search needs) put-nlri-requires place-requires-2 (λ c. search needs) returns)

@@ -49,13 +49,5 @@ returns-2 c =
 pub enter-place-spec : {M : Type 1} → statement M
 enter-place-spec =
     tie.close
-    (tie.spec
-    count-of-requires
-    nlri-in-requires
-    position-from-last-requires
-    stands-at-requires
-    (search needs)
-    returns
-    add-place-requires
-    (search needs)
-    returns-2)
+    (tie.spec count-of-requires nlri-in-requires position-from-last-requires stands-at-requires (search needs) returns add-place-requires
+    (search needs) returns-2)

@@ -29,11 +29,4 @@ returns-3 c =
 pub look-at-spec : {M : Type 1} → statement M
 look-at-spec =
     tie.close
-    (tie.spec
-    (search needs)
-    enter-place-requires
-    (search needs)
-    returns
-    (search needs)
-    returns-2
-    returns-3)
+    (tie.spec (search needs) enter-place-requires (search needs) returns (search needs) returns-2 returns-3)

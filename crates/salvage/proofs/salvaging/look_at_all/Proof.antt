@@ -72,17 +72,5 @@ returns c =
 pub look-at-all-spec : {M : Type 1} → statement M
 look-at-all-spec =
     tie.close
-    (tie.spec
-    Inv-loop
-    μ-loop
-    places-of-requires
-    loop-holds
-    place-at-requires
-    look-at-requires
-    enlist-requires
-    (search needs)
-    (search needs)
-    loop-again
-    same-length
-    same-length-2
-    returns)
+    (tie.spec Inv-loop μ-loop places-of-requires loop-holds place-at-requires look-at-requires enlist-requires (search needs) (search needs)
+    loop-again same-length same-length-2 returns)

@@ -51,20 +51,5 @@ returns-5 c = search needs
 pub salvage-spec : {M : Type 1} → statement M
 salvage-spec =
     tie.close
-    (tie.spec
-    is-family-requires
-    (search needs)
-    returns
-    (search needs)
-    (search needs)
-    returns-2
-    (search needs)
-    returns-3
-    places-of-requires
-    mul-if4
-    (search needs)
-    returns-4
-    salvage-into-requires
-    (search needs)
-    (search needs)
-    returns-5)
+    (tie.spec is-family-requires (search needs) returns (search needs) (search needs) returns-2 (search needs) returns-3 places-of-requires
+    mul-if4 (search needs) returns-4 salvage-into-requires (search needs) (search needs) returns-5)

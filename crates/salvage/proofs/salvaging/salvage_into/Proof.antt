@@ -34,12 +34,4 @@ returns c =
 pub salvage-into-spec : {M : Type 1} → statement M
 salvage-into-spec =
     tie.close
-    (tie.spec
-    make-requires
-    look-at-all-requires
-    count-of-requires
-    (search needs)
-    cast-t16
-    (search needs)
-    (search needs)
-    returns)
+    (tie.spec make-requires look-at-all-requires count-of-requires (search needs) cast-t16 (search needs) (search needs) returns)

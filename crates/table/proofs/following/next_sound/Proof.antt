@@ -23,11 +23,4 @@ returns-2 c = next-told _ _ _ _ (c .before .before .before .before .before .befo
 pub next-sound-spec : {M : Type 1} → statement M
 next-sound-spec =
     tie.close
-    (tie.spec
-    (search needs)
-    returns
-    count-of-requires
-    index-after-requires
-    tell-at-requires
-    (search needs)
-    returns-2)
+    (tie.spec (search needs) returns count-of-requires index-after-requires tell-at-requires (search needs) returns-2)

@@ -43,12 +43,4 @@ returns-2 c =
 pub tell-at-spec : {M : Type 1} → statement M
 tell-at-spec =
     tie.close
-    (tie.spec
-    none-requires
-    returns
-    place-at-requires
-    shared-slice-read-stale
-    cast-stale
-    write-route-requires
-    same-length
-    returns-2)
+    (tie.spec none-requires returns place-at-requires shared-slice-read-stale cast-stale write-route-requires same-length returns-2)

@@ -49,14 +49,5 @@ returns c = search needs
 pub enter-spec : {M : Type 1} → statement M
 enter-spec =
     tie.close
-    (tie.spec
-    count-of-requires
-    position-requires
-    stands-at-requires
-    enter-new-requires
-    (search needs)
-    returns
-    replace-requires
-    (search needs)
-    (search needs)
-    returns-2)
+    (tie.spec count-of-requires position-requires stands-at-requires enter-new-requires (search needs) returns replace-requires
+    (search needs) (search needs) returns-2)

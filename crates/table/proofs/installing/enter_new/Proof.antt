@@ -49,13 +49,5 @@ returns-2 c =
 pub enter-new-spec : {M : Type 1} → statement M
 enter-new-spec =
     tie.close
-    (tie.spec
-    count-of-requires
-    places-of-requires
-    (search needs)
-    (search needs)
-    returns
-    add-requires
-    (search needs)
-    (search needs)
+    (tie.spec count-of-requires places-of-requires (search needs) (search needs) returns add-requires (search needs) (search needs)
     returns-2)

@@ -21,11 +21,4 @@ returns-2 c = search needs
 pub install-spec : {M : Type 1} → statement M
 install-spec =
     tie.close
-    (tie.spec
-    (search needs)
-    (search needs)
-    (search needs)
-    returns
-    install-sound-requires
-    (search needs)
-    returns-2)
+    (tie.spec (search needs) (search needs) (search needs) returns install-sound-requires (search needs) returns-2)

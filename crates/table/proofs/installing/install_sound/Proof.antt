@@ -34,12 +34,4 @@ returns-2 c = search needs
 pub install-sound-spec : {M : Type 1} → statement M
 install-sound-spec =
     tie.close
-    (tie.spec
-    afi-of-requires
-    route-fault-requires
-    (search needs)
-    (search needs)
-    returns
-    enter-requires
-    (search needs)
-    returns-2)
+    (tie.spec afi-of-requires route-fault-requires (search needs) (search needs) returns enter-requires (search needs) returns-2)

@@ -25,12 +25,4 @@ returns-3 c = table-made _ _ (c .before .before .before .before .before .before 
 pub make-spec : {M : Type 1} → statement M
 make-spec =
     tie.close
-    (tie.spec
-    (search needs)
-    returns
-    (search needs)
-    returns-2
-    clear-places-requires
-    write-header-requires
-    (search needs)
-    returns-3)
+    (tie.spec (search needs) returns (search needs) returns-2 clear-places-requires write-header-requires (search needs) returns-3)

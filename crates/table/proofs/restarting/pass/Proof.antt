@@ -69,15 +69,4 @@ returns c =
 pub pass-spec : {M : Type 1} → statement M
 pass-spec =
     tie.close
-    (tie.spec
-    Inv-loop
-    μ-loop
-    loop-holds
-    mul-settle
-    add-settle
-    settle-requires
-    add-index
-    loop-less
-    loop-again
-    same-length
-    returns)
+    (tie.spec Inv-loop μ-loop loop-holds mul-settle add-settle settle-requires add-index loop-less loop-again same-length returns)

@@ -44,11 +44,4 @@ returns c =
 pub renew-spec : {M : Type 1} → statement M
 renew-spec =
     tie.close
-    (tie.spec
-    afi-of-requires
-    count-of-requires
-    pass-requires
-    close-from-requires
-    sub-result
-    same-length
-    returns)
+    (tie.spec afi-of-requires count-of-requires pass-requires close-from-requires sub-result same-length returns)

@@ -35,11 +35,4 @@ returns-2 c = search needs
 pub restart-spec : {M : Type 1} → statement M
 restart-spec =
     tie.close
-    (tie.spec
-    is-sound-requires
-    refused-requires
-    same-length
-    returns
-    restart-sound-requires
-    same-length-2
-    returns-2)
+    (tie.spec is-sound-requires refused-requires same-length returns restart-sound-requires same-length-2 returns-2)

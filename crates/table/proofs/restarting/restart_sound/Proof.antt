@@ -43,11 +43,4 @@ returns-2 c =
 pub restart-sound-spec : {M : Type 1} → statement M
 restart-sound-spec =
     tie.close
-    (tie.spec
-    is-originator-size-requires
-    refused-requires
-    returns
-    renew-requires
-    cast-gone
-    same-length
-    returns-2)
+    (tie.spec is-originator-size-requires refused-requires returns renew-requires cast-gone same-length returns-2)

@@ -62,18 +62,5 @@ returns-3 c =
 pub settle-spec : {M : Type 1} → statement M
 settle-spec =
     tie.close
-    (tie.spec
-    nlri-from-requires
-    is-of-requires
-    keep-requires
-    add-result
-    same-length
-    returns
-    add-if2
-    slice-read-if2
-    same-length-2
-    returns-2
-    keep-marked-requires
-    add-result-2
-    same-length-3
-    returns-3)
+    (tie.spec nlri-from-requires is-of-requires keep-requires add-result same-length returns add-if2 slice-read-if2 same-length-2 returns-2
+    keep-marked-requires add-result-2 same-length-3 returns-3)

@@ -47,14 +47,5 @@ returns-2 c =
 pub info-spec : {M : Type 1} → statement M
 info-spec =
     tie.close
-    (tie.spec
-    (search needs)
-    (search needs)
-    returns
-    afi-of-requires
-    (search needs)
-    places-of-requires
-    cast-t7
-    count-of-requires
-    (search needs)
-    returns-2)
+    (tie.spec (search needs) (search needs) returns afi-of-requires (search needs) places-of-requires cast-t7 count-of-requires
+    (search needs) returns-2)

@@ -52,12 +52,4 @@ stands-at-requires c κs = search needs
 pub leave-spec : {M : Type 1} → statement M
 leave-spec =
     tie.close
-    (tie.spec
-    count-of-requires
-    position-requires
-    stands-at-requires
-    (search needs)
-    returns
-    remove-requires
-    (search needs)
-    returns-2)
+    (tie.spec count-of-requires position-requires stands-at-requires (search needs) returns remove-requires (search needs) returns-2)

@@ -21,10 +21,4 @@ returns-2 c = search needs
 pub withdraw-spec : {M : Type 1} → statement M
 withdraw-spec =
     tie.close
-    (tie.spec
-    (search needs)
-    (search needs)
-    returns
-    withdraw-sound-requires
-    (search needs)
-    returns-2)
+    (tie.spec (search needs) (search needs) returns withdraw-sound-requires (search needs) returns-2)

@@ -40,11 +40,4 @@ returns-2 c = search needs
 pub withdraw-sound-spec : {M : Type 1} → statement M
 withdraw-sound-spec =
     tie.close
-    (tie.spec
-    afi-of-requires
-    s-pmsi-fault-requires
-    same-length
-    returns
-    leave-requires
-    same-length-2
-    returns-2)
+    (tie.spec afi-of-requires s-pmsi-fault-requires same-length returns leave-requires same-length-2 returns-2)

@@ -23,13 +23,4 @@ returns c =
 pub spans-spec : {M : Type 1} → statement M
 spans-spec =
     tie.close
-    (tie.spec
-    (search needs)
-    (search needs)
-    (search needs)
-    cast-t6
-    (search needs)
-    (search needs)
-    (search needs)
-    (search needs)
-    returns)
+    (tie.spec (search needs) (search needs) (search needs) cast-t6 (search needs) (search needs) (search needs) (search needs) returns)

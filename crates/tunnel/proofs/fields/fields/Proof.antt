@@ -21,12 +21,4 @@ returns c = rw (c .before .before .before .three .ensures .0, c .before .before 
 pub fields-spec : {M : Type 1} → statement M
 fields-spec =
     tie.close
-    (tie.spec
-    (search needs)
-    (search needs)
-    (search needs)
-    cast-flags
-    (search needs)
-    cast-tunnel-type
-    (search needs)
-    returns)
+    (tie.spec (search needs) (search needs) (search needs) cast-flags (search needs) cast-tunnel-type (search needs) returns)

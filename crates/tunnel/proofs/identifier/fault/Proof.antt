@@ -16,12 +16,5 @@ returns-3 c = c .of-sizes .ensures ∙ sym (c .before .sizes-of .ensures (now (c
 pub fault-spec : {M : Type 1} → statement M
 fault-spec =
     tie.close
-    (tie.spec
-    (search needs)
-    (λ c κs. search flags)
-    (search needs)
-    (search needs)
-    (λ c. search (flags, number-unknown) depth 8)
-    sizes-of-requires
-    (search needs)
-    returns-3)
+    (tie.spec (search needs) (λ c κs. search flags) (search needs) (search needs) (λ c. search (flags, number-unknown) depth 8)
+    sizes-of-requires (search needs) returns-3)
