@@ -23,7 +23,7 @@ use Rattle.routes.proofs.Definitions.ByArguments.{number-route}
 use Rattle.routes.proofs.Statements.ArgumentRules.{argumentRule}
 use Rattle.bier.specs.LeafRoutes.{Leaf, readLeaves, readLeafList}
 use Rattle.bier.specs.BierString.{readBierRoute}
-use Rattle.bier.specs.BierRule.{BierRoute, GoodLeaves, BierRefusal, badRoute, otherTunnel, longList, shortList, badLeaves}
+use Rattle.bier.specs.Rules.BierRule.{BierRoute, GoodLeaves, BierRefusal, badRoute, otherTunnel, longList, shortList, badLeaves}
 use Rattle.bier.proofs.Leaves.{leaves-refuse, leaves-read, read-leaves, first-refused}
 
 refuses-as : {P : ℕ → Type 0} {A : Type 0} (o : Outcome A) → ((n : ℕ) → o ≡ refused n → P n) → Refuses P o

@@ -1,4 +1,4 @@
--- Examples of bit strings (specs/BierExamples.antt), by computation.
+-- Examples of bit strings (specs/Rules/BierExamples.antt), by computation.
 use mathlib.Core.Path.{refl}
 use Rattle.octets.specs.Choice.{pick, both, either}
 use Rattle.octets.specs.Outcome.{onOutcome, andThen, numberOf}
@@ -17,7 +17,7 @@ use Rattle.routes.specs.Arguments.{readSPmsi, readLabelled, readRoute}
 use Rattle.bier.specs.BitStrings.{setOf, positionOf, isOfSet, octetOf, withBit, withId, withIds, stringOf, onesOf}
 use Rattle.bier.specs.LeafRoutes.{readLeaf, readLeaves, readLeafList, bfrIdIn, countingId, countingIds}
 use Rattle.bier.specs.BierString.{readBierRoute, withRoom, bierString, egressBy, egressOf}
-use Rattle.bier.specs.BierExamples.{wildcardNlri, tunnelOf, leafOf, nineLeaves, BierExamples}
+use Rattle.bier.specs.Rules.BierExamples.{wildcardNlri, tunnelOf, leafOf, nineLeaves, BierExamples}
 use lib.Count.{ones}
 
 pub bierExamples : BierExamples

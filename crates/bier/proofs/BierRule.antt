@@ -1,4 +1,4 @@
--- The bit string of a BIER packet (specs/BierRule.antt).
+-- The bit string of a BIER packet (specs/Rules/BierRule.antt).
 use Prim.Native.Nat.{ℕ, _≤_}
 use mathlib.Core.Path.{_≡_, refl, sym, ap, subst, _∙_}
 use mathlib.Core.List.{List}
@@ -9,7 +9,7 @@ use lib.ListN.{length, getD, take}
 use Rattle.octets.specs.Outcome.{Outcome, given, refused, onOutcome, andThen, numberOf}
 use Rattle.octets.specs.Octets.{front}
 use Rattle.octets.specs.Outputs.{Changed, outputOf}
-use Rattle.octets.specs.Answering.{Answering}
+use Rattle.octets.specs.Rules.Answering.{Answering}
 use Rattle.octets.proofs.Choice.{pick-true, pick-false}
 use Rattle.octets.proofs.Outcome.{given-same, goes, stops, passed, stopped, given-otherwise, refuses-where, value, number, refuses-pick, refuses-then, refuses-by, on-case, number-given, number-refused}
 use Rattle.octets.proofs.Answering.{answering}
@@ -20,7 +20,7 @@ use Rattle.bier.specs.declared.Egress.{Egress}
 use Rattle.bier.specs.BitStrings.{stringOf, onesOf}
 use Rattle.bier.specs.LeafRoutes.{Leaf, readLeaves, readLeafList, countingIds}
 use Rattle.bier.specs.BierString.{withRoom, bierString, refusedEgress, egressBy, egressOf}
-use Rattle.bier.specs.BierRule.{BierRoute, GoodLeaves, BierRefusal, badRoute, otherTunnel, longList, shortList, badLeaves, noSpace, CountingId, StringFor, Ones, BierDone, BierNothing, BierRule}
+use Rattle.bier.specs.Rules.BierRule.{BierRoute, GoodLeaves, BierRefusal, badRoute, otherTunnel, longList, shortList, badLeaves, noSpace, CountingId, StringFor, Ones, BierDone, BierNothing, BierRule}
 use Rattle.bier.proofs.Strings.{string-for, only, positions}
 use Rattle.bier.proofs.Counted.{string-ones, distinct-ids, every}
 use Rattle.bier.proofs.Leaves.{counting-ids, leaves-refused}

@@ -18,7 +18,7 @@ use Rattle.groups.specs.Prefixes.{bitAt}
 use Rattle.groups.proofs.BitRule.{bitRule}
 use Rattle.groups.proofs.Bits.{bit-of}
 use Rattle.bier.specs.BitStrings.{onesOf}
-use Rattle.bier.specs.BierRule.{StringFor, DistinctIds, Ones}
+use Rattle.bier.specs.Rules.BierRule.{StringFor, DistinctIds, Ones}
 
 -- the sum of the first so many
 sumTo : (ℕ → ℕ) → ℕ → ℕ

@@ -31,7 +31,7 @@ use Rattle.tunnel.proofs.Theorems.{bierIdentifierRule}
 use Rattle.routes.specs.Rules.ArgumentRules.{TypeRefusal, unreadNlri, otherKind}
 use Rattle.bier.specs.LeafRoutes.{Leaf, readLeaf, readLeaves, bfrIdIn, countingId, countingIds}
 use Rattle.bier.specs.Inner.{keyIn, KeyWithin, LeafStands, standingId}
-use Rattle.bier.specs.BierRule.{LeafRoute, LeafRefusal, badLeaf, badTunnel, AllLeaves, FirstRefusedLeaf, CountingLeaf, CountingId}
+use Rattle.bier.specs.Rules.BierRule.{LeafRoute, LeafRefusal, badLeaf, badTunnel, AllLeaves, FirstRefusedLeaf, CountingLeaf, CountingId}
 
 -- an NLRI of one type
 pub of-type-given : (type afi : ℕ) (s : List ℕ) (f : Fields) → readOfType type afi s ≡ given f → (readNlri afi s ≡ given f) × (f .type ≡ type)

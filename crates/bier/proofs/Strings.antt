@@ -20,7 +20,7 @@ use Rattle.octets.proofs.Among.{among-none, among-cases}
 use Rattle.groups.specs.Prefixes.{bitAt}
 use Rattle.groups.proofs.BitRule.{bitRule}
 use Rattle.bier.specs.BitStrings.{setOf, positionOf, isOfSet, withBit, withId, withIds, stringOf}
-use Rattle.bier.specs.BierRule.{bitAtPosition, StringFor}
+use Rattle.bier.specs.Rules.BierRule.{bitAtPosition, StringFor}
 use Rattle.bier.proofs.SetBits.{with-length, with-bit, with-octets}
 
 -- a BFR-id of a set

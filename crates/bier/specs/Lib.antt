@@ -4,5 +4,4 @@ pub mod BitStrings
 pub mod LeafRoutes
 pub mod BierString
 pub mod Inner
-pub mod BierRule
-pub mod BierExamples
+pub mod Rules

@@ -21,7 +21,7 @@ use Rattle.fec_elements.specs.declared.Standing.the-variants.{InBody, Le
 use Rattle.fec_elements.specs.Fields.{FecFields, encodeFec}
 use Rattle.fec_elements.specs.Nested.{Holder, withOpaque, encodeHolder, Opens, WellFormedHolder, KeptOctets}
 use Rattle.fec_elements.specs.Reading.{opaqueStart, fecSize, fecIn, runsOut, lengthFault, rootFault, familyFault, headerFault, opens, heldStart, holdsFec, fecWith, opaqueFault, fecFault, mostDeep, readFec}
-use Rattle.fec_elements.specs.Statements.{FecAt, HeaderFault, Ended, inside, insideLent, insideFilling, typeEnds, badType, familyEnds, badFamily, sizeEnds, badSize, rootEnds, opaqueEnds, overfull}
+use Rattle.fec_elements.specs.Rules.FecRules.{FecAt, HeaderFault, Ended, inside, insideLent, insideFilling, typeEnds, badType, familyEnds, badFamily, sizeEnds, badSize, rootEnds, opaqueEnds, overfull}
 use Rattle.fec_elements.proofs.Fecs.{FecTests, start-in, fields-formed, fields-octets, encode-size, encode-tests, encode-fields}
 use Rattle.fec_elements.proofs.Headers.{fault-told, fault-stands, header-passes, passes-header}
 use Rattle.fec_elements.proofs.Holders.{opens-of, opens-computed, held-of, opens-encode, held-encode, holds-encode}

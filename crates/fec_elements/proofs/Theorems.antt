@@ -1,4 +1,4 @@
--- What is proved of the definitions as a whole; specs/Statements.antt says what each states.
+-- What is proved of the definitions as a whole; specs/Rules/FecRules.antt says what each states.
 use Prim.Native.Nat.{ℕ, zero, suc, _+_, _-_, _≤_}
 use mathlib.Core.Path.{_≡_, refl, sym, ap, subst, _∙_}
 use mathlib.Core.Logic.{_↔_, _⊎_, inl, inr, ⊎-elim}
@@ -13,7 +13,7 @@ use Rattle.fec_elements.specs.declared.Standing.the-variants.{Lent, Fill
 use Rattle.fec_elements.specs.Fields.{FecFields, encodeFec, WellFormedFec}
 use Rattle.fec_elements.specs.Nested.{Element, keeping, holding, headOf, withOpaque, encodeHolder, encodeElement, Opens, WellFormedElement, innermost, around, KeptOctets}
 use Rattle.fec_elements.specs.Reading.{fecSize, fecWith, opaqueFault, fecFault, mostDeep, readFec}
-use Rattle.fec_elements.specs.Statements.{FecRule, OfFamily, lent, filling, Followed, nothing, nothingLent, BeginsFec, FecAt, FirstFault, NestedFault, header, tooDeep, badHolder, held, NestedFecRule}
+use Rattle.fec_elements.specs.Rules.FecRules.{FecRule, OfFamily, lent, filling, Followed, nothing, nothingLent, BeginsFec, FecAt, FirstFault, NestedFault, header, tooDeep, badHolder, held, NestedFecRule}
 use Rattle.fec_elements.proofs.Fecs.{octets-encode, encode-size}
 use Rattle.fec_elements.proofs.Headers.{filling-rest}
 use Rattle.fec_elements.proofs.Wholes.{whole-fields, whole-encode, fields-encode}

@@ -13,7 +13,7 @@ use Rattle.octets.proofs.Lists.{empty-list}
 use Rattle.fec_elements.specs.declared.Standing.the-variants.{Filling}
 use Rattle.fec_elements.specs.Fields.{FecFields, encodeFec, WellFormedFec}
 use Rattle.fec_elements.specs.Reading.{opaqueSize, fecSize, fecIn, familyFault, wholeFec, shortFec}
-use Rattle.fec_elements.specs.Statements.{filling, nothing}
+use Rattle.fec_elements.specs.Rules.FecRules.{filling, nothing}
 use Rattle.fec_elements.proofs.Fecs.{FecTests, start-is, fields-formed, fields-octets, encode-size, encode-tests, encode-fields}
 use Rattle.fec_elements.proofs.Headers.{filling-rest, family-passes, passes-family}
 

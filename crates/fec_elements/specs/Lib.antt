@@ -4,4 +4,4 @@ pub mod Fields
 pub mod Nested
 pub mod Reading
 pub mod Inner
-pub mod Statements
+pub mod Rules

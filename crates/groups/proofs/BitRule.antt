@@ -1,4 +1,4 @@
--- The bits of octets (specs/BitRule.antt).
+-- The bits of octets (specs/Rules/BitRule.antt).
 use Prim.Native.Nat.{ℕ, _+_, _*_, _/_, _%_, _^_, _≤_, _<_}
 use mathlib.Core.Path.{_≡_, sym, _∙_, ap}
 use mathlib.Core.List.{List}
@@ -8,7 +8,7 @@ use lib.Pow.{shr-shr}
 use Rattle.octets.specs.Octets.{AllOctets}
 use Rattle.octets.proofs.AllOctets.{octet-at}
 use Rattle.groups.specs.Prefixes.{bitAt}
-use Rattle.groups.specs.BitRule.{BitRule}
+use Rattle.groups.specs.Rules.BitRule.{BitRule}
 use Rattle.groups.proofs.Bits.{bit-of}
 
 bit-most : (s : List ℕ) (i : ℕ) → bitAt s i ≤ 1

@@ -1,4 +1,4 @@
--- The class of a group with prefixes (specs/ClassRule.antt).
+-- The class of a group with prefixes (specs/Rules/ClassRule.antt).
 use Prim.Native.Nat.{ℕ}
 use mathlib.Core.Path.{_≡_, refl, sym, _∙_, ap, subst}
 use mathlib.Core.Bool.{true}
@@ -11,7 +11,7 @@ use lib.ListN.{length}
 use Rattle.octets.specs.Numbers.{FLOW}
 use Rattle.octets.specs.Choice.{pick}
 use Rattle.octets.specs.Outcome.{Outcome, given, refused, onOutcome}
-use Rattle.octets.specs.Answering.{Answering}
+use Rattle.octets.specs.Rules.Answering.{Answering}
 use Rattle.octets.specs.Lists.{Among}
 use Rattle.octets.proofs.Choice.{pick-true, pick-false, picked, tested, opposite}
 use Rattle.octets.proofs.Outcome.{never, given-same, refused-same, outcome, stops, goes, given-unless, passed, stopped}
@@ -22,13 +22,13 @@ use Rattle.lists.specs.LentLists.{Item, itemField, readList, someItem}
 use Rattle.lists.proofs.Items.{some-item-exactly}
 use Rattle.nlri.specs.Family.{familyBits}
 use Rattle.nlri.specs.Groups.{ASM, SSM, Multicast, SourceSpecific, classUnder, classOf, groupOf}
-use Rattle.nlri.specs.Statements as Standard
+use Rattle.nlri.specs.Rules.NlriRules as Standard
 use Rattle.nlri.proofs.Statements.Classes.{specific-multicast, groupRule as standardRule}
 use Rattle.nlri.proofs.Definitions.Lengths.{family-good, good-family}
 use Rattle.nlri.proofs.Definitions.Families.{family-refused}
 use Rattle.groups.specs.Prefixes.{holdsGroup, itemHolds, readPrefixes}
 use Rattle.groups.specs.Classes.{classAmong, classIn, prefixesUnder, classBy}
-use Rattle.groups.specs.ClassRule.{Prefix, GoodPrefixes, UnderRefusal, otherFamily, refusedPrefixes, HoldsGroup, Specific, byStandard, byPrefix, ClassRefusal, badFamily, badPrefixes, badGroup, ClassTold, ssm, asm, ClassRule}
+use Rattle.groups.specs.Rules.ClassRule.{Prefix, GoodPrefixes, UnderRefusal, otherFamily, refusedPrefixes, HoldsGroup, Specific, byStandard, byPrefix, ClassRefusal, badFamily, badPrefixes, badGroup, ClassTold, ssm, asm, ClassRule}
 use Rattle.groups.proofs.Bits.{same-bits}
 use Rattle.groups.proofs.Prefixes.{item-among, prefixes-good, good-prefixes, prefixes-refused, refused-prefixes}
 use Rattle.groups.proofs.Classes.{class-not-done}

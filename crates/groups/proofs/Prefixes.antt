@@ -1,4 +1,4 @@
--- Laws of `goodPrefix` and `readPrefixes`: what prefixes that are read are, and why others are refused (specs/ClassRule.antt).
+-- Laws of `goodPrefix` and `readPrefixes`: what prefixes that are read are, and why others are refused (specs/Rules/ClassRule.antt).
 use Prim.Native.Nat.{ℕ, zero, suc, _+_, _*_, _-_, _≤_}
 use mathlib.Core.Path.{_≡_, refl, sym, _∙_, ap, subst}
 use mathlib.Core.Bool.{Bool, true, false, not}
@@ -18,7 +18,7 @@ use Rattle.nlri.specs.Family.{familyBits}
 use Rattle.nlri.proofs.Theorems.{lengths}
 use Rattle.nlri.proofs.Definitions.Lengths.{family-good}
 use Rattle.groups.specs.Prefixes.{goodPrefix, goodItem, readPrefixes}
-use Rattle.groups.specs.ClassRule.{ClearPast, Prefix, GoodPrefixes, PrefixRefusal, tooMany, endsShort, badPrefix}
+use Rattle.groups.specs.Rules.ClassRule.{ClearPast, Prefix, GoodPrefixes, PrefixRefusal, tooMany, endsShort, badPrefix}
 use Rattle.groups.proofs.Bits.{clear-bits}
 
 -- a good prefix, of addresses of so many bits

@@ -2,6 +2,4 @@
 pub mod Prefixes
 pub mod Classes
 pub mod Inner
-pub mod BitRule
-pub mod ClassRule
-pub mod ClassExamples
+pub mod Rules

@@ -20,7 +20,7 @@ use Rattle.octets.proofs.NetworkOrder.{length-bigEndian, number-of-big-endian, 
 use Rattle.octets.proofs.Outcome.{never, given-same, given-unless, refuses-unless}
 use Rattle.lists.specs.LentLists.{Item, frontNumber, frontField, afterField, wholeField, frontItem, afterItem, wholeItem, frontItems, wholeItems, listCount, wholeList, listItems, readList}
 use Rattle.lists.specs.Encoding.{encodeItemField, encodeItem, encodeItems, encodeList, FieldsFit, none, one, ItemsFit}
-use Rattle.lists.specs.ListRule.{Begins, CutShort, ListRule}
+use Rattle.lists.specs.Rules.ListRule.{Begins, CutShort, ListRule}
 use Rattle.lists.proofs.Fields.{whole-items-flat}
 
 -- the number in two octets

@@ -1,4 +1,4 @@
--- The statements of `specs/Statements.antt`, proved.
+-- The statements of `specs/Rules/CallAnswers.antt`, proved.
 use Prim.Native.Nat.{ℕ, _+_}
 use mathlib.Core.Path.{_≡_, refl, sym, _∙_, ap, subst}
 use mathlib.Core.List.{List}
@@ -7,23 +7,23 @@ use native.Mathlib.Omega.{arith}
 use lib.ListN.{length}
 use Rattle.octets.specs.Outcome.{Outcome, given, refused, onOutcome, numberOf}
 use Rattle.octets.specs.Octets.{AllOctets}
-use Rattle.octets.specs.Answering.{Answering}
+use Rattle.octets.specs.Rules.Answering.{Answering}
 use Rattle.octets.proofs.Answering.{answering}
 use Rattle.nlri.specs.Fields.{Fields, encodeNlri}
 use Rattle.nlri.specs.Layouts.{noLayout}
-use Rattle.nlri.specs.Statements.{layoutFor}
+use Rattle.nlri.specs.Rules.NlriRules.{layoutFor}
 use Rattle.nlri.proofs.Definitions.Table.{known-least}
 use Rattle.runs.specs.Walking.{readTo, endedAt, refusedAt, stepFrom}
-use Rattle.runs.specs.Statements.{EncodedAt, EndAt, StepRefusal}
+use Rattle.runs.specs.Rules.WalkRules.{EncodedAt, EndAt, StepRefusal}
 use Rattle.runs.proofs.Theorems.{stepRule}
 use Rattle.tunnel.specs.declared.Attribute.{Attribute}
 use Rattle.tunnel.specs.Answers.{readStruct}
-use Rattle.tunnel.specs.Statements.{AttributeReadRefusal, long, short, badTunnel, badIdentifier}
+use Rattle.tunnel.specs.Rules.AttributeRules.{AttributeReadRefusal, long, short, badTunnel, badIdentifier}
 use Rattle.tunnel.proofs.Theorems.{attributeAnswerRule}
 use Rattle.mvpn.specs.declared.StepAnswer.{StepAnswer}
 use Rattle.mvpn.specs.declared.AttributeAnswer.{AttributeAnswer}
 use Rattle.mvpn.specs.Answers.{stepAnswer, attributeAnswer}
-use Rattle.mvpn.specs.Statements.{StepTold, anNlri, theEnd, StepUntold, AttributeTold, AttributeUntold, CallAnswers}
+use Rattle.mvpn.specs.Rules.CallAnswers.{StepTold, anNlri, theEnd, StepUntold, AttributeTold, AttributeUntold, CallAnswers}
 
 module _ (afi : ℕ) (run : List ℕ) (cursor : ℕ) where
   abbrev answer : StepAnswer

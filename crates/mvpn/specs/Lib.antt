@@ -1,3 +1,3 @@
 -- What the calls from C answer, and what holds of it.
 pub mod Answers
-pub mod Statements
+pub mod Rules

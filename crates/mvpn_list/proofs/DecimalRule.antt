@@ -10,7 +10,7 @@ use lib.Dec.{ltb, leb, eqb}
 use Rattle.octets.specs.Choice.{pick}
 use Rattle.octets.proofs.Choice.{tested, pick-case}
 use Rattle.mvpn_list.specs.Listing.{lastDigit, digitsWithin, decimalOf}
-use Rattle.mvpn_list.specs.ListingRule.{decimalValue, AllDigits, none, one, Decimal}
+use Rattle.mvpn_list.specs.Rules.ListingRule.{decimalValue, AllDigits, none, one, Decimal}
 
 decimalValue-append : (digits : List ℕ) (digit high : ℕ) → decimalValue (digits ++ (digit ∷ [])) high ≡ decimalValue digits high * 10 + (digit - 48)
 unfolding decimalValue

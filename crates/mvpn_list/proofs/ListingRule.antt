@@ -1,4 +1,4 @@
--- What is printed of every run (specs/ListingRule.antt says what is stated).
+-- What is printed of every run (specs/Rules/ListingRule.antt says what is stated).
 use mathlib.Core.Path.{_≡_, refl, sym, _∙_, ap, subst}
 use mathlib.Core.List.{List, [], _∷_, _++_}
 use mathlib.Core.Logic.{_⊎_, inl, inr, ⊎-elim, _↔_, _≢_}
@@ -20,14 +20,14 @@ use Rattle.nlri.specs.Groups.{sourceSpecific, isSsm}
 use Rattle.nlri.specs.Fields.{isDiscarded}
 use Rattle.nlri.specs.Reading.{fixedField, addressEnd, addressField, originatorField, fieldSize, sizesOf, laidWith, laidAt, cut, fieldsOf, accepted, acceptedAt}
 use Rattle.nlri.specs.Layouts.{layoutOf, layoutAt}
-use Rattle.nlri.specs.DiscardExamples.{sourceActive4}
+use Rattle.nlri.specs.Rules.DiscardExamples.{sourceActive4}
 use Rattle.runs.specs.Walking.{readTo, endedAt, refusedAt, stepUnder, stepFrom}
-use Rattle.runs.specs.Statements.{encodeRun}
+use Rattle.runs.specs.Rules.WalkRules.{encodeRun}
 use Rattle.runs.specs.Modes.{SKIP, OLD, isSkipped, turnFrom, onTurn, walkByFrom, walkBy, nlrisByFrom, nlrisBy}
 use Rattle.runs.proofs.Steps.{stops-refusedAt, step-long}
 use Rattle.runs.proofs.Turns.{never-skipped, turn-stops}
 use Rattle.mvpn_list.specs.Listing.{lastDigit, digitsWithin, decimalOf, fieldOf, headerLine, lineOf, nlriLines, openingOf, lastFields, lastLine, linesOf, listingOf, modeOf}
-use Rattle.mvpn_list.specs.ListingRule.{Decimal, RunLines, fieldsFrom, ListingRule}
+use Rattle.mvpn_list.specs.Rules.ListingRule.{Decimal, RunLines, fieldsFrom, ListingRule}
 use Rattle.mvpn_list.proofs.DecimalRule.{decimal-decimalOf, decimal-only}
 use Rattle.mvpn_list.proofs.Steps.{linesFrom, linesFrom-stopped}
 use Rattle.mvpn_list.proofs.RunLines.{familyBits-1, runLines-skip, runLines-old, runLines-only}

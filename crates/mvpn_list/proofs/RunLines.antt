@@ -17,12 +17,12 @@ use Rattle.nlri.specs.Fields.{Fields, encodeNlri}
 use Rattle.nlri.proofs.Theorems.{lengths}
 use Rattle.runs.specs.declared.walking.Walked.{Walked}
 use Rattle.runs.specs.Walking.{walkedWith, NlriRead}
-use Rattle.runs.specs.Statements.{encodeRun, encodedFrom, RunOf}
+use Rattle.runs.specs.Rules.WalkRules.{encodeRun, encodedFrom, RunOf}
 use Rattle.runs.specs.Modes.{SKIP, walkBy, nlrisBy}
-use Rattle.runs.specs.ModeRule.{EncodedNlri, encodings, Split}
+use Rattle.runs.specs.Rules.ModeRule.{EncodedNlri, encodings, Split}
 use Rattle.runs.proofs.Theorems.{walkRule, modeRule}
 use Rattle.mvpn_list.specs.Listing.{decimalOf, fieldOf, lineOf, nlriLine, nlriLines, openingOf, lastFields, lastLine, linesOf}
-use Rattle.mvpn_list.specs.ListingRule.{NumberLine, Opening, fieldsFrom, RunLines}
+use Rattle.mvpn_list.specs.Rules.ListingRule.{NumberLine, Opening, fieldsFrom, RunLines}
 use Rattle.mvpn_list.proofs.DecimalRule.{decimal-decimalOf, decimal-only}
 
 numberLine-last : (n : ℕ) → NumberLine (n ∷ []) (fieldOf n 10)

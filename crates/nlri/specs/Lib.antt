@@ -9,7 +9,4 @@ pub mod Writing
 pub mod Answers
 pub mod Inner
 pub mod Standing
-pub mod Statements
-pub mod DiscardRule
-pub mod DiscardExamples
-pub mod AnswerRules
+pub mod Rules

@@ -1,4 +1,4 @@
--- The order of octets (specs/OrderRule.antt).
+-- The order of octets (specs/Rules/OrderRule.antt).
 use Prim.Native.Nat.{ℕ, _<_}
 use mathlib.Core.Path.{_≡_, refl, sym, ap, ap₂, _∙_}
 use mathlib.Core.Bool.{true, false}
@@ -9,7 +9,7 @@ use borrow.Author.Tests.{ltb-true, lt-ltb, eqb-true, eq-eqb, ne-eqb}
 use native.Mathlib.Omega.{arith}
 use Rattle.octets.specs.Octets.{AllOctets, numberIn}
 use Rattle.octets.specs.Order.{before}
-use Rattle.octets.specs.OrderRule.{ComesBefore, ends, lower, OrderRule}
+use Rattle.octets.specs.Rules.OrderRule.{ComesBefore, ends, lower, OrderRule}
 use Rattle.octets.proofs.Choice.{opposite, tested, pick-true, pick-false}
 use Rattle.octets.proofs.Orders.{same-equal, same-of-equal, number-before, zero-at, zero-each}
 

@@ -6,6 +6,5 @@ pub mod Lists
 pub mod Outcome
 pub mod Octets
 pub mod Outputs
-pub mod Answering
 pub mod Order
-pub mod OrderRule
+pub mod Rules

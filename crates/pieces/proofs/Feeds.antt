@@ -18,7 +18,7 @@ use Rattle.runs.specs.Modes.{isSkipped}
 use Rattle.pieces.specs.declared.state.Pieces.{Pieces}
 use Rattle.pieces.specs.declared.feeding.Fed.{Fed}
 use Rattle.pieces.specs.Feeding.{READING, STOPPED, AfterFeed, passedOf, longOf, countedOf, overOf, sizeIn, wantedOf, shareOf, numberUnder, keptOf, readOf, skippedOf, stoppedOf, judgedOf, settledOf, takenOf, readOnOf, feedOf, Within}
-use Rattle.pieces.specs.PiecesRule.{LentAfter}
+use Rattle.pieces.specs.Rules.PiecesRule.{LentAfter}
 use Rattle.pieces.proofs.Sizes.{size-known, size-least, size-most, length-together, take-together}
 
 -- what is over, and what is not

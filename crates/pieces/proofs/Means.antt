@@ -22,7 +22,7 @@ use Rattle.nlri.specs.Layouts.{layoutAt}
 use Rattle.runs.specs.declared.turning.Turn.the-variants.{Skipped}
 use Rattle.runs.specs.Walking.{walkedWith, stepFrom, readTo, refusedAt, NlriRead}
 use Rattle.runs.specs.Modes.{isSkipped, pastNlri, turnFrom, walkBy, nlrisByFrom, nlrisBy}
-use Rattle.runs.specs.Statements.{StepRefusal, badFamily, long, past, front}
+use Rattle.runs.specs.Rules.WalkRules.{StepRefusal, badFamily, long, past, front}
 use Rattle.runs.proofs.Steps.{Stops, stops-endedAt, stops-refusedAt, step-end, step-octet, step-unaccepted}
 use Rattle.runs.proofs.Turns.{never-skipped, turn-reads, turn-skips, turn-stops, nlrisByFrom-read, nlrisByFrom-skipped, nlrisByFrom-stopped}
 use Rattle.runs.proofs.Going.{Going, going-last, going-refused, going-read, going-skipped}

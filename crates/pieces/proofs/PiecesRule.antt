@@ -1,4 +1,4 @@
--- What holds of a run that arrives in pieces (specs/PiecesRule.antt says what is stated).
+-- What holds of a run that arrives in pieces (specs/Rules/PiecesRule.antt says what is stated).
 use mathlib.Core.Path.{_≡_, refl, sym, _∙_, ap}
 use mathlib.Core.List.{List, [], append-nil}
 use mathlib.Core.Logic.{_⊎_, inl, ⊎-elim, _≢_}
@@ -22,7 +22,7 @@ use Rattle.runs.proofs.Going.{walk-family, walk-long}
 use Rattle.pieces.specs.declared.state.Pieces.{Pieces}
 use Rattle.pieces.specs.Feeding.{READING, STOPPED, FINISHED, AfterFeed, startedAs, answerAtEnd, finishOf, passedOf, longOf, countedOf, overOf, feedOf}
 use Rattle.pieces.specs.Handing.{Caller, Moment, first}
-use Rattle.pieces.specs.PiecesRule.{PiecesClaim, TakenWhole, AtMoment, PiecesRule}
+use Rattle.pieces.specs.Rules.PiecesRule.{PiecesClaim, TakenWhole, AtMoment, PiecesRule}
 use Rattle.pieces.proofs.Feeds.{taken-most, taken-some, taken-ends, lent-after, given-most, feed-finished, feed-over, feed-counts, feed-front}
 use Rattle.pieces.proofs.Means.{Reading, Means, kept-most, ended}
 use Rattle.pieces.proofs.Moments.{octets-moment, Held, sound-now, means-total, held, Refused, start-refused, fed-refused, refused-moment, fed-over, takes-some, moment-pieces}

@@ -22,7 +22,7 @@ use Rattle.nlri.proofs.Definitions.Judged.{fieldsFrom}
 use Rattle.nlri.proofs.Definitions.Whole.{laid-out, fieldsLaid, fields-laid}
 use Rattle.nlri.proofs.Definitions.Keys.{key-within}
 use Rattle.nlri.specs.Layouts.{layoutOf, layoutAt}
-use Rattle.nlri.specs.Statements.{FrontRefusal, unlaid, discarded, short, badType, badBody}
+use Rattle.nlri.specs.Rules.NlriRules.{FrontRefusal, unlaid, discarded, short, badType, badBody}
 use Rattle.nlri.proofs.Statements.Layouts.{layout-refused}
 use Rattle.nlri.proofs.Statements.ReadRefusals.{readRefusals}
 use Rattle.runs.proofs.Turns.{bodyFault-between}

@@ -18,7 +18,7 @@ use Rattle.plan.specs.Flows.{Vrf, ListedFlow, flowsIn}
 use Rattle.plan.specs.Refusing.{readFlows}
 use Rattle.plan.specs.Judging.{acceptsPlaces}
 use Rattle.plan.specs.Calls.{judgeOutcome, judgedBy, judgeOf}
-use Rattle.plan.specs.FlowsRule.{GoodFlows}
+use Rattle.plan.specs.Rules.FlowsRule.{GoodFlows}
 use Rattle.plan.proofs.Reading.{flows-why, why-some, flows-good, long-is}
 
 -- what was read of the flows, where their number is DONE

@@ -10,7 +10,7 @@ use Rattle.octets.proofs.Among.{among-none}
 use Rattle.lists.specs.LentLists.{Item, itemField, frontItem, frontItems, listItems, readList, listCount}
 use Rattle.lists.proofs.Items.{read-list-given}
 use Rattle.plan.specs.Flows.{ListedFlow, flowIn, flowsIn}
-use Rattle.plan.specs.FlowsRule.{Listed}
+use Rattle.plan.specs.Rules.FlowsRule.{Listed}
 
 -- items of three fields each
 pub data Threes : List Item → Type 0 where

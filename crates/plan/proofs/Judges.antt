@@ -22,8 +22,8 @@ use Rattle.routes.proofs.Statements.ArgumentRules.{nlri-accepts, argumentRule}
 use Rattle.routes.proofs.Theorems.{matchRule}
 use Rattle.plan.specs.Flows.{Vrf, ListedFlow, asking, flowsIn}
 use Rattle.plan.specs.Judging.{isOwn, allOwn, noRepeat, gives, matched, serves, allServed, accepts}
-use Rattle.plan.specs.FlowsRule.{Listed}
-use Rattle.plan.specs.JudgeRule.{Own, NoneRepeated, Served}
+use Rattle.plan.specs.Rules.FlowsRule.{Listed}
+use Rattle.plan.specs.Rules.JudgeRule.{Own, NoneRepeated, Served}
 use Rattle.plan.proofs.Items.{Threes, each}
 
 own : (afi : ℕ) (vrf : Vrf) (r : Route) → (isOwn afi vrf r ≡ true) ↔ Own afi vrf r

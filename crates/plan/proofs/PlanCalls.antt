@@ -27,7 +27,7 @@ use Rattle.plan.specs.Commonest.{commonest}
 use Rattle.plan.specs.Planning.{proposal}
 use Rattle.plan.specs.Refusing.{readFlows}
 use Rattle.plan.specs.Calls.{planOutcome, refusedPlan, donePlan, plannedBy, planOf}
-use Rattle.plan.specs.FlowsRule.{GoodFlows}
+use Rattle.plan.specs.Rules.FlowsRule.{GoodFlows}
 use Rattle.plan.specs.Inner.{VrfSized, AllSized, allPlaces, Room}
 use Rattle.plan.proofs.Counts.{plan-fits}
 use Rattle.plan.proofs.Items.{list-threes, among-listed, flows-count}

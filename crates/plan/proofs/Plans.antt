@@ -31,7 +31,7 @@ use Rattle.groups.proofs.ClassRule.{multicast-family}
 use Rattle.plan.specs.Flows.{Vrf, ListedFlow, asking, different}
 use Rattle.plan.specs.Commonest.{others, commonest}
 use Rattle.plan.specs.Planning.{fieldsFor, routeFor, routesFor, wildcardFlow, planned, proposal}
-use Rattle.plan.specs.JudgeRule.{Own, Served}
+use Rattle.plan.specs.Rules.JudgeRule.{Own, Served}
 use Rattle.plan.proofs.Counts.{SameFlow, Apart, among-different, different-among, others-among, among-others, others-apart, different-apart, commonest-wanted}
 
 -- what acceptance asks of flows

@@ -18,7 +18,7 @@ use Rattle.routes.specs.Rules.ArgumentRules.{GoodFlow}
 use Rattle.routes.proofs.Statements.SoundRule.{place-held, place-sound, route-at}
 use Rattle.plan.specs.Flows.{Vrf, ListedFlow, asking, flowsIn}
 use Rattle.plan.specs.Judging.{accepts, soundPlaces, acceptsPlaces}
-use Rattle.plan.specs.JudgeRule.{Proposes, nothingMore, onePlace, Accepted}
+use Rattle.plan.specs.Rules.JudgeRule.{Proposes, nothingMore, onePlace, Accepted}
 use Rattle.plan.proofs.Items.{Threes}
 use Rattle.plan.proofs.Judges.{AcceptedRoutes, accepts-exactly}
 

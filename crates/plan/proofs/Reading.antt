@@ -14,11 +14,11 @@ use Rattle.octets.proofs.Choice.{opposite, is-true, picked, pick-true, pick-fal
 use Rattle.octets.proofs.Outcome.{given-same, given-unless, refused-same, refuses-unless, goes, stops, passed, stopped}
 use Rattle.lists.specs.LentLists.{Item, listCount}
 use Rattle.lists.proofs.Items.{read-list-refused}
-use Rattle.groups.specs.ClassRule.{PrefixRefusal, tooMany, endsShort, badPrefix, UnderRefusal, otherFamily, refusedPrefixes}
+use Rattle.groups.specs.Rules.ClassRule.{PrefixRefusal, tooMany, endsShort, badPrefix, UnderRefusal, otherFamily, refusedPrefixes}
 use Rattle.groups.proofs.Theorems.{classRule}
 use Rattle.plan.specs.Flows.{Vrf, ListedFlow, flowsIn}
 use Rattle.plan.specs.Refusing.{flowsFault, readFlows}
-use Rattle.plan.specs.FlowsRule.{ListTaken, GoodFlows, FlowsRefusal, badPrefixes, tooLong, badSize, unread, noLabel, noTunnel, conflict}
+use Rattle.plan.specs.Rules.FlowsRule.{ListTaken, GoodFlows, FlowsRefusal, badPrefixes, tooLong, badSize, unread, noLabel, noTunnel, conflict}
 use Rattle.plan.proofs.Items.{Threes, list-threes}
 use Rattle.plan.proofs.Refused.{Step, Unrefused, Refusal, unread-some, flows-step}
 

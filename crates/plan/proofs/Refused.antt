@@ -20,7 +20,7 @@ use Rattle.octets.proofs.Among.{among-none, among-cases}
 use Rattle.lists.specs.LentLists.{Item, itemField}
 use Rattle.nlri.specs.Groups.{Multicast}
 use Rattle.nlri.proofs.Theorems.{lengths}
-use Rattle.groups.specs.ClassRule.{GoodPrefixes, PrefixRefusal, refusedPrefixes}
+use Rattle.groups.specs.Rules.ClassRule.{GoodPrefixes, PrefixRefusal, refusedPrefixes}
 use Rattle.groups.proofs.Theorems.{classRule}
 use Rattle.tunnel.specs.Attribute.{AttributeFields, readAttribute}
 use Rattle.routes.specs.Arguments.{readLabelled, readFlow}
@@ -31,7 +31,7 @@ use Rattle.routes.proofs.Definitions.ByArguments.{ByArguments, attribute-argued
 use Rattle.routes.proofs.Statements.ArgumentRules.{labelled, takes-labelled}
 use Rattle.plan.specs.Flows.{Vrf, ListedFlow, asking, flowIn, flowsIn, sameFlow}
 use Rattle.plan.specs.Refusing.{firstFault, orNext, clashes, conflicts, flowFault, attributeFault, labelFault, typeFault, vrfFault, attributesFault, flowsFault}
-use Rattle.plan.specs.FlowsRule.{Listed, GoodSizes, AllAttributesRead, FirstUnread, here, AllLabelled, AllTunnelled, Conflict}
+use Rattle.plan.specs.Rules.FlowsRule.{Listed, GoodSizes, AllAttributesRead, FirstUnread, here, AllLabelled, AllTunnelled, Conflict}
 use Rattle.plan.proofs.Counts.{SameFlow, same-flow, flow-same}
 use Rattle.plan.proofs.Items.{Threes, flowBy, among-listed, listed-among, each}
 

@@ -5,7 +5,5 @@ pub mod Judging
 pub mod Planning
 pub mod Refusing
 pub mod Calls
-pub mod FlowsRule
-pub mod JudgeRule
-pub mod PlanRule
 pub mod Inner
+pub mod Rules

@@ -18,14 +18,14 @@ use Rattle.nlri.specs.Groups.{sourceSpecific, isSsm}
 use Rattle.nlri.specs.Fields.{encodeNlri, isDiscarded}
 use Rattle.nlri.specs.Reading.{fixedField, addressEnd, addressField, originatorField, fieldSize, sizesOf, laidWith, laidAt, cut, fieldsOf, accepted, acceptedAt}
 use Rattle.nlri.specs.Layouts.{layoutOf, layoutAt, noLayout}
-use Rattle.nlri.specs.Statements.{FrontRefusal}
+use Rattle.nlri.specs.Rules.NlriRules.{FrontRefusal}
 use Rattle.nlri.proofs.Statements.Discards.{discardRule}
 use Rattle.nlri.proofs.Statements.ReadRefusals.{readRefusals}
 use Rattle.nlri.proofs.Statements.Layouts.{length-encoded}
 use Rattle.runs.specs.Walking.{readTo, endedAt, refusedAt, stepUnder, stepFrom}
-use Rattle.runs.specs.Statements.{StepRefusal, badFamily, long, past, front}
+use Rattle.runs.specs.Rules.WalkRules.{StepRefusal, badFamily, long, past, front}
 use Rattle.runs.specs.Modes.{isSkipped, turnFrom, onTurn, walkByFrom, walkBy, nlrisByFrom, nlrisBy}
-use Rattle.runs.specs.DiscardWalkRule.{DiscardedAt, DiscardWalkRule, DiscardWalkExamples}
+use Rattle.runs.specs.Rules.DiscardWalkRule.{DiscardedAt, DiscardWalkRule, DiscardWalkExamples}
 use Rattle.runs.proofs.StepRule.{stepRule}
 use Rattle.runs.proofs.TurnRule.{turnRule}
 

@@ -1,4 +1,4 @@
--- Laws of steps and of walks, and how the functions' proofs use them; then the proofs of what specs/Statements.antt states.
+-- Laws of steps and of walks, and how the functions' proofs use them; then the proofs of what specs/Rules/WalkRules.antt states.
 pub mod Steps
 pub mod Nlris
 pub mod Turns

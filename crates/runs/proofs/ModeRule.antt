@@ -21,7 +21,7 @@ use Rattle.nlri.specs.Family.{familyBits}
 use Rattle.nlri.specs.Fields.{encodeNlri}
 use Rattle.nlri.specs.Reading.{Laid, acceptedAt}
 use Rattle.nlri.specs.Layouts.{layoutAt}
-use Rattle.nlri.specs.Statements.{LaidRefusal, short, badType, badBody, FrontRefusal, unlaid, layoutFor}
+use Rattle.nlri.specs.Rules.NlriRules.{LaidRefusal, short, badType, badBody, FrontRefusal, unlaid, layoutFor}
 use Rattle.nlri.proofs.Statements.Acceptance.{front-accepted}
 use Rattle.nlri.proofs.Statements.ReadRefusals.{readRefusals}
 use Rattle.nlri.proofs.Statements.Layouts.{length-encoded, layout-refused}
@@ -29,9 +29,9 @@ use Rattle.runs.specs.declared.walking.Walked.{Walked}
 use Rattle.runs.specs.declared.turning.Turn.{Turn}
 use Rattle.runs.specs.declared.turning.Turn.the-variants.{Read, Skipped, Stopped}
 use Rattle.runs.specs.Walking.{stepFrom, walkedWith, walkFrom, walkOf, NlriRead, nlrisFrom, nlrisOf}
-use Rattle.runs.specs.Statements.{front, encodeRun, RunEnd, nothing, refusal}
+use Rattle.runs.specs.Rules.WalkRules.{front, encodeRun, RunEnd, nothing, refusal}
 use Rattle.runs.specs.Modes.{SKIP, SkippableNumber, pastNlri, turnFrom, walkByFrom, walkBy, nlrisByFrom, nlrisBy}
-use Rattle.runs.specs.ModeRule.{EncodedNlri, encodings, SkippableNlri, unknown, discarded, SkippingRun, end, nlri, skip, Split, ModeRule}
+use Rattle.runs.specs.Rules.ModeRule.{EncodedNlri, encodings, SkippableNlri, unknown, discarded, SkippingRun, end, nlri, skip, Split, ModeRule}
 use Rattle.runs.proofs.Steps.{Stops, stops-refusedAt}
 use Rattle.runs.proofs.Nlris.{walkFrom-stops, nlrisFrom-stops}
 use Rattle.runs.proofs.StepRule.{stepRule}

@@ -17,7 +17,7 @@ use Rattle.nlri.specs.Bodies.{KnownType}
 use Rattle.nlri.specs.Fields.{Fields, encodeNlri}
 use Rattle.nlri.specs.Reading.{keyField, laidAt, acceptedAt}
 use Rattle.nlri.specs.Layouts.{layoutOf, layoutAt, laidLayout}
-use Rattle.nlri.specs.Statements.{layoutFor}
+use Rattle.nlri.specs.Rules.NlriRules.{layoutFor}
 use Rattle.nlri.proofs.Definitions.Lengths.{good-family, family-good}
 use Rattle.nlri.proofs.Definitions.Whole.{laid-out}
 use Rattle.nlri.proofs.Definitions.Families.{family-refused, family-refuses}
@@ -29,7 +29,7 @@ use Rattle.runs.specs.declared.stepping.Cursor.{Cursor}
 use Rattle.runs.specs.declared.stepping.Step.{Step}
 use Rattle.runs.specs.declared.stepping.Step.the-variants as step
 use Rattle.runs.specs.Walking.{Stepped, readTo, endedAt, refusedAt, stepFrom, steppedOf}
-use Rattle.runs.specs.Statements.{EncodedAt, EndAt, StepRefusal, badFamily, long, past, front, StepRule}
+use Rattle.runs.specs.Rules.WalkRules.{EncodedAt, EndAt, StepRefusal, badFamily, long, past, front, StepRule}
 use Rattle.runs.proofs.Steps.{step-family, step-long, step-end, step-past, step-accepted, step-unaccepted, Comes, family, tooLong, end, beyond, unaccepted, accepted, comes-stepFrom, reads-stepFrom}
 
 -- the route type of a layout is known

@@ -6,11 +6,11 @@ use lib.ListN.{length}
 use Rattle.octets.specs.Numbers.{DONE}
 use Rattle.octets.proofs.Choice.{opposite}
 use Rattle.nlri.specs.Fields.{encodeNlri}
-use Rattle.nlri.specs.Statements.{layoutFor}
+use Rattle.nlri.specs.Rules.NlriRules.{layoutFor}
 use Rattle.runs.specs.declared.turning.Turn.{Turn}
 use Rattle.runs.specs.declared.turning.Turn.the-variants.{Read, Skipped, Stopped}
 use Rattle.runs.specs.Modes.{SKIP, Turned, turnedOf}
-use Rattle.runs.specs.ModeRule.{TurnRule}
+use Rattle.runs.specs.Rules.ModeRule.{TurnRule}
 use Rattle.runs.proofs.Steps.{stops-endedAt, stops-refusedAt}
 use Rattle.runs.proofs.StepRule.{stepRule, cursor-same}
 use Rattle.runs.proofs.Turns.{skips, skippable-apart, not-skipped, turn-reads, turn-skips, turn-stops}

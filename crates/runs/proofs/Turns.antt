@@ -17,7 +17,7 @@ use Rattle.octets.proofs.Outcome.{never, stopped, refused-same}
 use Rattle.nlri.specs.declared.layout.Layout.{Layout}
 use Rattle.nlri.specs.Reading.{Laid, keyField, laidWith, laidAt, acceptedAt}
 use Rattle.nlri.specs.Layouts.{layoutAt}
-use Rattle.nlri.specs.Statements.{BodyFault}
+use Rattle.nlri.specs.Rules.NlriRules.{BodyFault}
 use Rattle.nlri.proofs.Definitions.Families.{family-refused}
 use Rattle.nlri.proofs.Definitions.Whole.{laid-out}
 use Rattle.runs.specs.declared.stepping.Cursor.{Cursor}

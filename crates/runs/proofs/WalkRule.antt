@@ -19,12 +19,12 @@ use Rattle.runs.specs.declared.walking.Walked.{Walked}
 use Rattle.nlri.specs.Family.{familyBits}
 use Rattle.nlri.specs.Fields.{Fields, encodeNlri, WellFormed}
 use Rattle.nlri.specs.Reading.{Laid, acceptedAt}
-use Rattle.nlri.specs.Statements.{FrontRefusal, layoutFor}
+use Rattle.nlri.specs.Rules.NlriRules.{FrontRefusal, layoutFor}
 use Rattle.nlri.proofs.Statements.Acceptance.{front-accepted}
 use Rattle.nlri.proofs.Statements.ReadRefusals.{readRefusals}
 use Rattle.nlri.proofs.Statements.Layouts.{length-encoded}
 use Rattle.runs.specs.Walking.{Stepped, readTo, stepFrom, walkedTo, walkFrom, walkOf, NlriRead, nlrisFrom, nlrisOf}
-use Rattle.runs.specs.Statements.{front, Walks, stopping, going, encodeRun, encodedFrom, AllWellFormed, RunEnd, nothing, refusal, RunOf, WalkRule}
+use Rattle.runs.specs.Rules.WalkRules.{front, Walks, stopping, going, encodeRun, encodedFrom, AllWellFormed, RunEnd, nothing, refusal, RunOf, WalkRule}
 use Rattle.runs.proofs.Steps.{Stops, step-end, stops-endedAt, stops-refusedAt}
 use Rattle.runs.proofs.Nlris.{nlrisFrom-reads, nlrisFrom-stops, length-nlrisFrom}
 use Rattle.runs.proofs.StepRule.{stepRule}

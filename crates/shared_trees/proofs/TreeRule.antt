@@ -5,7 +5,8 @@ use mathlib.Core.Bool.{true, not}
 use mathlib.Core.Logic.{_↔_, _≢_}
 use lib.Dec.{eqb}
 use Rattle.octets.proofs.Choice.{opposite}
-use Rattle.shared_trees.specs.Tree.{treeOf, TreeRule}
+use Rattle.shared_trees.specs.Tree.{treeOf}
+use Rattle.shared_trees.specs.Rules.TreeRule.{TreeRule}
 use Rattle.shared_trees.proofs.SourceActives.{fact-some, fact-none}
 
 -- a fact holds exactly when the number told of it is not 0

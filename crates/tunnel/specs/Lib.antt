@@ -5,4 +5,4 @@ pub mod Attribute
 pub mod Bier
 pub mod Answers
 pub mod Inner
-pub mod Statements
+pub mod Rules

@@ -13,7 +13,7 @@ use Rattle.fec_elements.specs.declared.Standing.{Standing}
 use Rattle.fec_elements.specs.declared.Standing.the-variants.{InBody, Lent}
 use Rattle.fec_elements.specs.Nested.{encodeElement}
 use Rattle.fec_elements.specs.Reading.{readFec}
-use Rattle.fec_elements.specs.Statements.{OfFamily, inBody, Followed, anything, nothingLent, Ended, inside, insideLent, insideFilling, HeaderFault, typeEnds, badType, familyEnds, badFamily, sizeEnds, badSize, rootEnds, opaqueEnds, overfull, FirstFault, header, tooDeep, badHolder, held}
+use Rattle.fec_elements.specs.Rules.FecRules.{OfFamily, inBody, Followed, anything, nothingLent, Ended, inside, insideLent, insideFilling, HeaderFault, typeEnds, badType, familyEnds, badFamily, sizeEnds, badSize, rootEnds, opaqueEnds, overfull, FirstFault, header, tooDeep, badHolder, held}
 use Rattle.fec_elements.proofs.Nesting.{read-refused}
 use Rattle.fec_elements.proofs.Theorems.{nestedFecRule, begins-read}
 use Rattle.nlri.specs.Family.{rootFamily}

@@ -22,7 +22,7 @@ use Rattle.nlri.specs.Groups.{isSsm}
 use Rattle.nlri.specs.Fields.{Fields, encodeAddress, encodeField, encodeBody, encodeNlri, LengthFits, WellFormedField, WellFormedBody, Encodable, Discarded, isDiscarded, WellFormed, KeyOf, restricted}
 use Rattle.nlri.specs.Reading.{keyField}
 use Rattle.nlri.specs.Writing.{widthFits, widthsFit, fecNumber, isLong, isKey, keyFits, keysFit, writeNlri}
-use Rattle.nlri.specs.Statements.{HoldsOctets}
+use Rattle.nlri.specs.Rules.NlriRules.{HoldsOctets}
 use Rattle.nlri.proofs.Definitions.Table.{listed, on-body, known, rowOf, has-first, has-later}
 use Rattle.nlri.proofs.Definitions.Lengths.{family-octets}
 use Rattle.nlri.proofs.Definitions.Fecs.{fec-lent, lent-fec}

@@ -21,7 +21,7 @@ use Rattle.nlri.specs.Family.{familyBits}
 use Rattle.nlri.specs.Bodies.{FieldKind, distinguisher, sourceAs, source, group, originator, key, fec, KnownType, bodies, bodyOf, fieldIn, codeOf, sameKind, hasField}
 use Rattle.nlri.specs.Fields.{Fields, encodeAddress, encodeField, encodeBody, encodeNlri, LengthFits, WellFormedBody, Encodable, Discarded, isDiscarded, WellFormed, KeyOf, restricted}
 use Rattle.nlri.specs.Reading.{Laid, keyField, laidAt, accepted, acceptedAt, acceptedSingle, cut, fieldsOf, readNlri}
-use Rattle.nlri.specs.Statements.{ReadAs, Acceptance}
+use Rattle.nlri.specs.Rules.NlriRules.{ReadAs, Acceptance}
 use Rattle.nlri.proofs.Definitions.FieldRecords.{fields-same}
 use Rattle.nlri.proofs.Definitions.Table.{SizesOf, rowOf, known, every, every-row, mostIn, field-of-map, lacks}
 use Rattle.nlri.proofs.Definitions.Judged.{fieldsFrom}

@@ -12,7 +12,7 @@ use Rattle.octets.specs.Outcome.{Outcome, given, refused, onOutcome, numberOf}
 use Rattle.octets.specs.Octets.{AllOctets, sized}
 use Rattle.octets.specs.Order.{zeros}
 use Rattle.octets.specs.Outputs.{Wrote, writtenOf}
-use Rattle.octets.specs.Answering.{Answering}
+use Rattle.octets.specs.Rules.Answering.{Answering}
 use Rattle.octets.specs.declared.Written.{Written}
 use Rattle.octets.proofs.Choice.{tested, pick-false, both-true-left, both-true-right, either-false}
 use Rattle.octets.proofs.Lists.{length-sized, getD-sized, sized-zeros}
@@ -22,8 +22,8 @@ use Rattle.nlri.specs.Fields.{Fields, WellFormedField, KeyOf, WellFormed
 use Rattle.nlri.specs.Reading.{readNlri}
 use Rattle.nlri.specs.Writing.{writeNlri}
 use Rattle.nlri.specs.Answers.{addressStruct, distinguisherStruct, addressOctets, nlriStruct, structFields, noFields, keySpan, fecSpan, nlriAnswer}
-use Rattle.nlri.specs.Statements.{ReadAs, StructHoldsOctets, ReadRefusal, WriteRefusal}
-use Rattle.nlri.specs.AnswerRules.{AddressTold, KeyStart, leafKey, mldpLeafKey, keyless, FecStart, sPmsiFec, joinFec, fecless, NlriTold, NoAddress, NlriUntold, AddressGiven, NlriGiven, NlriWritten, WriteAnswer, NlriAnswers}
+use Rattle.nlri.specs.Rules.NlriRules.{ReadAs, StructHoldsOctets, ReadRefusal, WriteRefusal}
+use Rattle.nlri.specs.Rules.AnswerRules.{AddressTold, KeyStart, leafKey, mldpLeafKey, keyless, FecStart, sPmsiFec, joinFec, fecless, NlriTold, NoAddress, NlriUntold, AddressGiven, NlriGiven, NlriWritten, WriteAnswer, NlriAnswers}
 use Rattle.nlri.specs.declared.address.Address.{Address}
 use Rattle.nlri.specs.declared.fields.Nlri.{Nlri}
 use Rattle.nlri.proofs.Definitions.Lengths.{allowed-most, originator-sized, family-octets}

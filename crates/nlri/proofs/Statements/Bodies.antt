@@ -9,7 +9,7 @@ use Rattle.octets.specs.Lists.{Among, first, later}
 use Rattle.octets.proofs.Choice.{opposite}
 use Rattle.nlri.specs.Bodies.{FieldKind, distinguisher, sourceAs, source, group, originator, key, fec, bodies, onBody, bodyOf, codeOf, sameKind, hasField}
 use Rattle.nlri.specs.Fields.{Fields, restricted}
-use Rattle.nlri.specs.Statements.{KeptIf, has, lacks, RestrictedTo, BodyRule}
+use Rattle.nlri.specs.Rules.NlriRules.{KeptIf, has, lacks, RestrictedTo, BodyRule}
 use Rattle.nlri.proofs.Definitions.Table.{same-kind, has-first, has-later}
 
 has-among : (kind : FieldKind) (body : List FieldKind) → hasField kind body ≡ true → Among kind body

@@ -15,7 +15,7 @@ use Rattle.octets.proofs.Choice.{both-true, opposite, both-true-left, both-true
 use Rattle.octets.proofs.Outcome.{stops, never, given-same, refused-same, outcome}
 use Rattle.nlri.specs.Family.{familyBits}
 use Rattle.nlri.specs.Groups.{ASM, SSM, multicast, sourceSpecific, Multicast, SourceSpecific, classUnder, classOf}
-use Rattle.nlri.specs.Statements.{GroupRefusal, badFamily, badGroup, GroupRule}
+use Rattle.nlri.specs.Rules.NlriRules.{GroupRefusal, badFamily, badGroup, GroupRule}
 use Rattle.nlri.proofs.Definitions.Lengths.{good-family, family-good}
 use Rattle.nlri.proofs.Definitions.Families.{family-refused}
 

@@ -9,7 +9,7 @@ use Rattle.nlri.specs.Groups.{sourceSpecific, isSsm}
 use Rattle.nlri.specs.Fields.{encodeAddress, encodeField, encodeBody, encodeNlri, isDiscarded}
 use Rattle.nlri.specs.Reading.{fixedField, addressEnd, addressField, originatorField, fieldSize, sizesOf, laidWith, laidAt, cut, fieldsOf, accepted, acceptedSingle, readNlri}
 use Rattle.nlri.specs.Writing.{widthFits, widthsFit, fecNumber, isLong, keyFits, keysFit, writeNlri}
-use Rattle.nlri.specs.DiscardExamples.{DiscardExamples}
+use Rattle.nlri.specs.Rules.DiscardExamples.{DiscardExamples}
 
 pub discardExamples : DiscardExamples
 unfolding pick both either onOutcome andThen numberOf part numberIn bigEndian familyBits allowed isOriginatorSize bodies onBody bodyOf codeOf sameKind fieldIn hasField sourceSpecific isSsm encodeAddress encodeField encodeBody encodeNlri isDiscarded fixedField addressEnd addressField originatorField fieldSize sizesOf laidWith laidAt cut fieldsOf accepted acceptedSingle readNlri widthFits widthsFit fecNumber isLong keyFits keysFit writeNlri

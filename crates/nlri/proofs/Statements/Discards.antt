@@ -16,8 +16,8 @@ use Rattle.nlri.specs.Family.{familyBits, rootFamily}
 use Rattle.nlri.specs.Groups.{SourceSpecific}
 use Rattle.nlri.specs.Fields.{Fields, encodeNlri, Encodable, Discarded, restricted}
 use Rattle.nlri.specs.Reading.{readNlri, readOfType}
-use Rattle.nlri.specs.Statements.{BodyFault, LaidRefusal, short, badType, badBody, FrontRefusal, unlaid, ReadRefusal, badFamily, front, after, HoldsOctets, WriteRefusal, badWidth, badFec, long, badKey, noSpace}
-use Rattle.nlri.specs.DiscardRule.{DiscardedFields, DiscardRule}
+use Rattle.nlri.specs.Rules.NlriRules.{BodyFault, LaidRefusal, short, badType, badBody, FrontRefusal, unlaid, ReadRefusal, badFamily, front, after, HoldsOctets, WriteRefusal, badWidth, badFec, long, badKey, noSpace}
+use Rattle.nlri.specs.Rules.DiscardRule.{DiscardedFields, DiscardRule}
 use Rattle.nlri.proofs.Definitions.Discards.{tested-discarded, discarded-tested}
 use Rattle.nlri.proofs.Statements.Classes.{specific-multicast}
 use Rattle.nlri.proofs.Statements.Acceptance.{acceptance}

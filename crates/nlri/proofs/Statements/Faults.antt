@@ -19,7 +19,7 @@ use Rattle.nlri.specs.Family.{allowed, isOriginatorSize}
 use Rattle.nlri.specs.Bodies.{FieldKind, distinguisher, sourceAs, source, group, originator, key, fec}
 use Rattle.nlri.specs.Fields.{encodeAddress, KeyOf}
 use Rattle.nlri.specs.Reading.{fixedField, addressEnd, addressField, originatorField, fieldSize, sizesOf, keyField}
-use Rattle.nlri.specs.Statements.{AddressAt, FieldAt, AddressFault, missing, width, ends, Fault, Faulty, remains, here, later, BodyFault}
+use Rattle.nlri.specs.Rules.NlriRules.{AddressAt, FieldAt, AddressFault, missing, width, ends, Fault, Faulty, remains, here, later, BodyFault}
 use Rattle.nlri.proofs.Definitions.Sizes.{fixed-is, originator-given}
 use Rattle.nlri.proofs.Definitions.Judged.{Judges, AddressRead, address-given, address-stands, fixed-stands}
 use Rattle.fec_elements.proofs.Theorems.{nestedFecRule}

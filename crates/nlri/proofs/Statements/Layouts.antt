@@ -17,7 +17,7 @@ use Rattle.nlri.specs.Bodies.{FieldKind, source, group, originator, key,
 use Rattle.nlri.specs.Fields.{Fields, encodeAddress, encodeField, encodeBody, encodeNlri, restricted, WellFormed}
 use Rattle.nlri.specs.Reading.{acceptedAt, acceptedSingle, fieldsOf, readNlri}
 use Rattle.nlri.specs.Layouts.{readingOf, layoutOf, layoutAt, layoutSingle, noLayout}
-use Rattle.nlri.specs.Statements.{ReadAs, layoutFor, LayoutRule}
+use Rattle.nlri.specs.Rules.NlriRules.{ReadAs, layoutFor, LayoutRule}
 use Rattle.nlri.proofs.Definitions.Lengths.{family-octets}
 use Rattle.nlri.proofs.Definitions.Table.{field-of-map}
 use Rattle.nlri.proofs.Definitions.Whole.{laidOf, sizesIn}

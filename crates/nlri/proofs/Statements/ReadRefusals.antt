@@ -19,7 +19,7 @@ use Rattle.nlri.specs.Family.{familyBits}
 use Rattle.nlri.specs.Bodies.{KnownType, bodies, bodyOf}
 use Rattle.nlri.specs.Fields.{Fields, encodeBody, encodeNlri, Encodable, isDiscarded, KeyOf}
 use Rattle.nlri.specs.Reading.{Laid, keyField, laidWith, laidAt, accepted, acceptedAt, acceptedSingle, readNlri}
-use Rattle.nlri.specs.Statements.{TooShort, Faulty, LaidRefusal, short, badType, badBody, FrontRefusal, unlaid, ReadRefusal, badFamily, front, after, ReadRefusals}
+use Rattle.nlri.specs.Rules.NlriRules.{TooShort, Faulty, LaidRefusal, short, badType, badBody, FrontRefusal, unlaid, ReadRefusal, badFamily, front, after, ReadRefusals}
 use Rattle.nlri.proofs.Definitions.Table.{on-body, known, rowOf, unlisted}
 use Rattle.nlri.proofs.Definitions.Lengths.{family-octets}
 use Rattle.nlri.proofs.Definitions.Whole.{laid-out, laid-complete}

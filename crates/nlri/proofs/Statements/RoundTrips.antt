@@ -21,7 +21,7 @@ use Rattle.nlri.specs.Reading.{readNlri}
 use Rattle.nlri.specs.Writing.{writeNlri}
 use Rattle.nlri.specs.Answers.{addressStruct, distinguisherStruct, addressOctets, nlriStruct, structFields, nlriAnswer}
 use Rattle.nlri.specs.declared.fields.Nlri.{Nlri}
-use Rattle.nlri.specs.Statements.{HoldsOctets, StructHoldsOctets, RoundTrips}
+use Rattle.nlri.specs.Rules.NlriRules.{HoldsOctets, StructHoldsOctets, RoundTrips}
 use Rattle.nlri.proofs.Definitions.Keys.{octets-key}
 use Rattle.nlri.proofs.Statements.ReadRefusals.{readRefusals, refusal-not-done}
 use Rattle.nlri.proofs.Definitions.Lengths.{allowed-most, originator-sized, family-octets}

@@ -13,14 +13,14 @@ use Rattle.octets.specs.Outcome.{Outcome, given, refused}
 use Rattle.octets.proofs.Choice.{pick-true, pick-false, tested, opposite, both-true, both-true-left, both-true-right, picked, is-false, is-true}
 use Rattle.octets.proofs.Outcome.{goes, stops, never, passed, given-otherwise, refused-same, stopped, refused-of, number-refused}
 use Rattle.fec_elements.specs.declared.Standing.the-variants.{Lent}
-use Rattle.fec_elements.specs.Statements.{NestedFault}
+use Rattle.fec_elements.specs.Rules.FecRules.{NestedFault}
 use Rattle.fec_elements.proofs.Nesting.{read-refused}
 use Rattle.fec_elements.proofs.Theorems.{nestedFecRule}
 use Rattle.nlri.specs.Family.{familyBits, rootFamily}
 use Rattle.nlri.specs.Bodies.{FieldKind, distinguisher, sourceAs, source, group, originator, key, fec, KnownType, bodyOf, sameKind, hasField}
 use Rattle.nlri.specs.Fields.{Fields, encodeNlri, WellFormed, KeyOf}
 use Rattle.nlri.specs.Writing.{widthFits, widthsFit, fecNumber, isLong, isKey, keyFits, writeNlri}
-use Rattle.nlri.specs.Statements.{HoldsOctets, WidthFault, WidthsFit, FecFits, TooLong, WriteRefusal, badFamily, badType, badWidth, badFec, long, badKey, discarded, noSpace, WriteRefusals}
+use Rattle.nlri.specs.Rules.NlriRules.{HoldsOctets, WidthFault, WidthsFit, FecFits, TooLong, WriteRefusal, badFamily, badType, badWidth, badFec, long, badKey, discarded, noSpace, WriteRefusals}
 use Rattle.nlri.proofs.Definitions.Table.{known, rowOf, same-kind, has-first, has-later, unlisted}
 use Rattle.nlri.proofs.Definitions.Writes.{all, widths-all, keys-all, verdict, verdictOf, write-is, write-well, written, key-judged, key-fits, well-passed, write-discarded}
 use Rattle.nlri.proofs.Definitions.Fecs.{fec-lent, lent-fec}

@@ -9,7 +9,7 @@ use lib.Dec.{leb}
 use borrow.Author.Tests.{leb-false, lt-leb}
 use Rattle.octets.specs.Choice.{both}
 use Rattle.octets.specs.Outcome.{Outcome, given, refused, onOutcome, numberOf}
-use Rattle.octets.specs.Answering.{Answering}
+use Rattle.octets.specs.Rules.Answering.{Answering}
 use Rattle.octets.specs.Lists.{Among}
 use Rattle.octets.proofs.Choice.{tested, opposite, both-true, both-left, both-right, pick-true, pick-false}
 use Rattle.octets.proofs.Outcome.{never, given-same, goes, stops, passed, stopped}
@@ -19,8 +19,8 @@ use Rattle.routes.specs.Rules.ArgumentRules.{GoodFlow}
 use Rattle.plan.specs.Flows.{Vrf, ListedFlow, asking, flowsIn}
 use Rattle.plan.specs.Judging.{acceptsPlaces}
 use Rattle.plan.specs.Calls.{judgeOutcome, judgedBy, judgeOf}
-use Rattle.plan.specs.FlowsRule.{GoodFlows, FlowsRefusal}
-use Rattle.plan.specs.JudgeRule.{Accepted, JudgeLong, JudgeDone, JudgeRule}
+use Rattle.plan.specs.Rules.FlowsRule.{GoodFlows, FlowsRefusal}
+use Rattle.plan.specs.Rules.JudgeRule.{Accepted, JudgeLong, JudgeDone, JudgeRule}
 use Rattle.plan.proofs.Items.{list-threes, among-listed}
 use Rattle.plan.proofs.Reading.{flows-why, why-flows, why-some, flows-good, good-flows}
 use Rattle.plan.proofs.Proposals.{accepted-places}

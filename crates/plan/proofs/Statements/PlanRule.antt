@@ -13,7 +13,7 @@ use Rattle.octets.specs.Choice.{pick, both}
 use Rattle.octets.specs.Outcome.{Outcome, given, refused, onOutcome, numberOf}
 use Rattle.octets.specs.Octets.{AllOctets, part, front}
 use Rattle.octets.specs.Order.{same}
-use Rattle.octets.specs.Answering.{Answering}
+use Rattle.octets.specs.Rules.Answering.{Answering}
 use Rattle.octets.specs.Lists.{Among, first, later}
 use Rattle.octets.proofs.Choice.{tested, opposite, both-true, both-left, pick-true, pick-false}
 use Rattle.octets.proofs.Outcome.{given-unless, refuses-unless, goes, stops, passed, stopped}
@@ -36,9 +36,9 @@ use Rattle.plan.specs.Commonest.{others}
 use Rattle.plan.specs.Judging.{soundPlaces}
 use Rattle.plan.specs.Planning.{routeFor, routesFor, proposal}
 use Rattle.plan.specs.Calls.{judgedBy, judgeOf, planOutcome, plannedBy, planOf}
-use Rattle.plan.specs.FlowsRule.{Listed, GoodFlows}
-use Rattle.plan.specs.JudgeRule.{Proposes, nothingMore, onePlace, Served, Accepted, JudgeLong}
-use Rattle.plan.specs.PlanRule.{HasOthers, EachOnce, DifferentOthers, PlanRefusal, badFlows, noSpace, PlanDone, PlanNothing, PlanRule}
+use Rattle.plan.specs.Rules.FlowsRule.{Listed, GoodFlows}
+use Rattle.plan.specs.Rules.JudgeRule.{Proposes, nothingMore, onePlace, Served, Accepted, JudgeLong}
+use Rattle.plan.specs.Rules.PlanRule.{HasOthers, EachOnce, DifferentOthers, PlanRefusal, badFlows, noSpace, PlanDone, PlanNothing, PlanRule}
 use Rattle.plan.proofs.Counts.{SameFlow, Apart, among-different, different-among, different-apart, others-among, among-others, plan-fits, plan-least}
 use Rattle.plan.proofs.Items.{Threes, list-threes, flowBy, among-listed, listed-among, each, flows-count}
 use Rattle.plan.proofs.Reading.{flows-why, why-flows, why-some, flows-good, good-flows}

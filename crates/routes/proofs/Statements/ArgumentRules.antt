@@ -17,7 +17,7 @@ use Rattle.routes.specs.Query.{Query, Flow}
 use Rattle.routes.specs.Arguments.{readSPmsi, readLabelled, readRoute, readFlow, readMatch}
 use Rattle.routes.specs.Rules.ArgumentRules.{KnownFamily, SPmsi, Labelled, GoodFlow, TypeRefusal, NlriRefusal, unreadNlri, otherKind, RouteRefusal, badNlri, unreadAttribute, noLabel, FlowRefusal, badFlowPrefixes, badFlow, noSpace, ArgumentRule}
 use Rattle.routes.proofs.Definitions.Matching.Flows.{flow-asked, flow-given, flow-refused, flow-prefixes}
-use Rattle.groups.specs.ClassRule.{GoodPrefixes}
+use Rattle.groups.specs.Rules.ClassRule.{GoodPrefixes}
 use Rattle.groups.proofs.Prefixes.{prefixes-either}
 
 -- an NLRI of one route type

@@ -15,7 +15,7 @@ use Rattle.octets.proofs.Choice.{opposite, pick-true, pick-false, pick-case, bo
 use Rattle.nlri.specs.Fields.{Fields}
 use Rattle.nlri.specs.Groups.{ASM, SSM, Multicast, groupOf}
 use Rattle.groups.specs.Classes.{classBy}
-use Rattle.groups.specs.ClassRule.{GoodPrefixes}
+use Rattle.groups.specs.Rules.ClassRule.{GoodPrefixes}
 use Rattle.groups.proofs.ClassRule.{Classed, has}
 use Rattle.routes.specs.declared.Matched.{Matched}
 use Rattle.routes.specs.Route.{Route}

@@ -5,7 +5,7 @@ use mathlib.Core.List.{List, []}
 use native.Mathlib.Omega.{arith}
 use lib.ListN.{length, getD}
 use Rattle.octets.specs.Choice.{pick, both, either}
-use Rattle.octets.specs.Answering.{Answering}
+use Rattle.octets.specs.Rules.Answering.{Answering}
 use Rattle.octets.specs.Octets.{part, front, numberIn, bigEndian}
 use Rattle.octets.specs.Order.{same, before, zeros, allZero}
 use Rattle.octets.specs.Outcome.{onOutcome, andThen}

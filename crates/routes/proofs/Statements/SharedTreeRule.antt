@@ -8,7 +8,7 @@ use borrow.Author.Tests.{eqb-true, eq-eqb}
 use Rattle.octets.specs.Outcome.{given}
 use Rattle.octets.proofs.Choice.{opposite, both-held, both-true}
 use Rattle.nlri.specs.Fields.{Fields}
-use Rattle.groups.specs.ClassRule.{Specific}
+use Rattle.groups.specs.Rules.ClassRule.{Specific}
 use Rattle.routes.specs.Query.{meets, Query}
 use Rattle.routes.specs.SharedTree.{SharedTree, treeOpen, treeQuery, readTree}
 use Rattle.routes.specs.Asked.{ofSharedTree, readAsked}

@@ -10,7 +10,7 @@ use Rattle.octets.specs.Outcome.{given, refused}
 use Rattle.nlri.specs.Fields.{Fields}
 use Rattle.nlri.specs.Reading.{readNlri}
 use Rattle.nlri.specs.Groups.{Multicast}
-use Rattle.groups.specs.ClassRule.{GoodPrefixes, PrefixRefusal}
+use Rattle.groups.specs.Rules.ClassRule.{GoodPrefixes, PrefixRefusal}
 use Rattle.tunnel.specs.Attribute.{AttributeFields, readAttribute}
 use Rattle.routes.specs.Route.{route}
 use Rattle.routes.specs.Query.{Query, Flow}

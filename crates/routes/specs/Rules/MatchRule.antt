@@ -12,7 +12,7 @@ use Rattle.octets.specs.Octets.{part}
 use Rattle.octets.specs.Order.{before}
 use Rattle.octets.specs.Lists.{Among}
 use Rattle.nlri.specs.Fields.{Fields}
-use Rattle.groups.specs.ClassRule.{Specific}
+use Rattle.groups.specs.Rules.ClassRule.{Specific}
 use Rattle.tunnel.specs.Attribute.{AttributeFields, readAttribute}
 use Rattle.routes.specs.declared.Matched.{Matched}
 use Rattle.routes.specs.Route.{Route, entry, nlriOf, attributeOf, Distinct}

@@ -7,7 +7,7 @@ use mathlib.Core.Logic.{_≢_}
 use lib.ListN.{length, getD}
 use Rattle.octets.specs.Numbers.{DONE}
 use Rattle.octets.specs.Lists.{Among}
-use Rattle.groups.specs.ClassRule.{Specific}
+use Rattle.groups.specs.Rules.ClassRule.{Specific}
 use Rattle.routes.specs.declared.Matched.{Matched}
 use Rattle.routes.specs.Route.{Route}
 use Rattle.routes.specs.Query.{Flow}

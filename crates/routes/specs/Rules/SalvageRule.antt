@@ -5,7 +5,7 @@ use mathlib.Core.List.{List, [], _∷_, _++_}
 use mathlib.Core.Logic.{_↔_, _≢_, _⊎_}
 use lib.ListN.{length, getD, take}
 use Rattle.octets.specs.Numbers.{FAMILY, TABLE, SPACE}
-use Rattle.octets.specs.Answering.{Answering}
+use Rattle.octets.specs.Rules.Answering.{Answering}
 use Rattle.octets.specs.Octets.{AllOctets, part}
 use Rattle.octets.specs.Order.{zeros}
 use Rattle.octets.specs.Lists.{Among}

@@ -12,7 +12,7 @@ use Rattle.octets.specs.Lists.{Among}
 use Rattle.lists.specs.LentLists.{Item, listCount, readList}
 use Rattle.nlri.specs.Fields.{Fields}
 use Rattle.nlri.specs.Groups.{Multicast}
-use Rattle.groups.specs.ClassRule.{GoodPrefixes, PrefixRefusal, Specific}
+use Rattle.groups.specs.Rules.ClassRule.{GoodPrefixes, PrefixRefusal, Specific}
 use Rattle.routes.specs.Route.{Route, Distinct}
 use Rattle.routes.specs.Query.{Query}
 use Rattle.routes.specs.SharedTree.{SharedTree, readTree}

@@ -11,7 +11,7 @@ use Rattle.octets.proofs.Outcome.{given-same, given-otherwise, passed, number-g
 use Rattle.octets.proofs.NetworkOrder.{length-bigEndian}
 use Rattle.tunnel.specs.Identifier.{readIdentifier}
 use Rattle.tunnel.specs.Attribute.{AttributeFields, encodeAttribute, fieldsIn, readAttribute, writeAttribute}
-use Rattle.tunnel.specs.Statements.{ReadableSize}
+use Rattle.tunnel.specs.Rules.AttributeRules.{ReadableSize}
 use Rattle.tunnel.proofs.Definitions.Identifiers.{read-fits, refuses-identifier}
 
 pub length-attribute : (f : AttributeFields) → length (encodeAttribute f) ≡ 5 + length (f .identifier)

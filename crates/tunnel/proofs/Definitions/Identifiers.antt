@@ -20,7 +20,7 @@ use Rattle.fec_elements.specs.Fields.{encodeFec}
 use Rattle.fec_elements.specs.Reading.{fecIn, wholeFec}
 use Rattle.tunnel.specs.Identifier.{IdentifierForm, sizes, fecTypes, TableRow, rowOf, identifierForms, formIn, formOf, IsIdentifier, ofSize, ofFec, OfType, oneOf, isIdentifier, judged, readIdentifier}
 use Rattle.tunnel.specs.Inner.{unknown}
-use Rattle.tunnel.specs.Statements.{Unknown}
+use Rattle.tunnel.specs.Rules.AttributeRules.{Unknown}
 use Rattle.fec_elements.proofs.Wholes.{whole-fields, whole-encode, type-encode}
 
 -- `Among`, computed

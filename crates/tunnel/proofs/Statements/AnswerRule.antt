@@ -20,7 +20,7 @@ use Rattle.fec_elements.specs.Reading.{opaqueStart, opaqueSize, fecIn, wholeFec
 use Rattle.tunnel.specs.Identifier.{IdentifierForm, sizes, fecTypes, formOf}
 use Rattle.tunnel.specs.Attribute.{AttributeFields, WellFormedAttribute, labelOf, leafInformationRequired, encodeAttribute, fieldsIn, readAttribute, writeAttribute}
 use Rattle.tunnel.specs.Answers.{outcomeOf, span, fecSpans, fecOf, attributeStruct, readStruct}
-use Rattle.tunnel.specs.Statements.{octetsAt, fieldsTold, fecTold, AttributeRoundTrips, AnsweredFec, AnsweredForm, notFec, isFec, AnsweredAttribute, AttributeAnswerRule}
+use Rattle.tunnel.specs.Rules.AttributeRules.{octetsAt, fieldsTold, fecTold, AttributeRoundTrips, AnsweredFec, AnsweredForm, notFec, isFec, AnsweredAttribute, AttributeAnswerRule}
 use Rattle.fec_elements.proofs.Fecs.{start-is, length-root, length-opaque, length-encode}
 use Rattle.fec_elements.proofs.Wholes.{whole-within, length-fec, opaque-size, whole-fields, fields-encode}
 use Rattle.tunnel.proofs.Definitions.Identifiers.{form-among, read-whole}

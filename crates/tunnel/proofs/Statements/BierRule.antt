@@ -14,7 +14,8 @@ use Rattle.octets.proofs.Choice.{opposite, either-true}
 use Rattle.octets.proofs.Outcome.{given-unless}
 use Rattle.tunnel.specs.Identifier.{identifierForms, formIn, formOf, oneOf, isIdentifier, readIdentifier}
 use Rattle.tunnel.specs.Attribute.{AttributeFields, fieldsIn, readAttribute}
-use Rattle.tunnel.specs.Bier.{bierIn, BierOctets, BierIdentifierRule}
+use Rattle.tunnel.specs.Bier.{bierIn}
+use Rattle.tunnel.specs.Rules.BierIdentifierRule.{BierOctets, BierIdentifierRule}
 use Rattle.tunnel.proofs.Definitions.Attributes.{read-given}
 
 -- an identifier judged as BIER's has 7 or 19 octets

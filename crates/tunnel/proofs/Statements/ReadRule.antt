@@ -15,7 +15,7 @@ use Rattle.octets.proofs.Lists.{drop-part}
 use Rattle.octets.proofs.AllOctets.{octet-at, octets-drop}
 use Rattle.octets.proofs.NetworkOrder.{number-of-big-endian, part-number, part-fits}
 use Rattle.tunnel.specs.Attribute.{AttributeFields, WellFormedAttribute, encodeAttribute, fieldsIn, readAttribute}
-use Rattle.tunnel.specs.Statements.{ReadableSize, AttributeReadRefusal, long, short, badTunnel, badIdentifier, AttributeReadRule}
+use Rattle.tunnel.specs.Rules.AttributeRules.{ReadableSize, AttributeReadRefusal, long, short, badTunnel, badIdentifier, AttributeReadRule}
 use Rattle.tunnel.proofs.Definitions.Identifiers.{IdentifierRefusal, noRow, noFit, of-type, read-fits, read-refuses, read-unknown, read-unfit, read-of-type}
 use Rattle.tunnel.proofs.Definitions.Attributes.{length-attribute, Accepted, read-given}
 

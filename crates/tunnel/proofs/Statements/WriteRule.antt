@@ -10,14 +10,14 @@ use Rattle.octets.specs.Numbers.{DONE}
 use Rattle.octets.specs.Choice.{pick}
 use Rattle.octets.specs.Outcome.{Outcome, given, refused, andThen}
 use Rattle.octets.specs.Outputs.{Wrote, writtenOf}
-use Rattle.octets.specs.Answering.{Answering, NothingWritten}
+use Rattle.octets.specs.Rules.Answering.{Answering, NothingWritten}
 use Rattle.octets.specs.declared.Written.{Written}
 use Rattle.octets.proofs.Answering.{answering, wroteRule}
 use Rattle.octets.proofs.Choice.{pick-case}
 use Rattle.octets.proofs.Outcome.{and-case, Refuses, value, number, refuses-by}
 use Rattle.tunnel.specs.Identifier.{OfType}
 use Rattle.tunnel.specs.Attribute.{AttributeFields, WellFormedAttribute, encodeAttribute, writeAttribute}
-use Rattle.tunnel.specs.Statements.{OctetFields, AttributeWriteRefusal, long, badTunnel, badIdentifier, badLabel, noSpace, AttributeWritten, AttributeWriteRule}
+use Rattle.tunnel.specs.Rules.AttributeRules.{OctetFields, AttributeWriteRefusal, long, badTunnel, badIdentifier, badLabel, noSpace, AttributeWritten, AttributeWriteRule}
 use Rattle.tunnel.specs.Answers.{argumentFields}
 use Rattle.tunnel.proofs.Definitions.Identifiers.{IdentifierRefusal, noRow, noFit, of-type, read-fits, read-refuses, read-unknown, read-unfit, read-of-type}
 use Rattle.tunnel.proofs.Definitions.Attributes.{write-given}

@@ -13,7 +13,7 @@ use Rattle.octets.proofs.Outcome.{never, given-unless, passed, given-same, stop
 use Rattle.nlri.specs.Family.{familyBits}
 use Rattle.nlri.specs.Groups.{ASM, SSM}
 use Rattle.nlri.proofs.Theorems.{lengths}
-use Rattle.groups.specs.ClassRule.{GoodPrefixes, PrefixRefusal, Specific}
+use Rattle.groups.specs.Rules.ClassRule.{GoodPrefixes, PrefixRefusal, Specific}
 use Rattle.groups.proofs.Prefixes.{prefixes-good, good-prefixes, prefixes-refused, refused-prefixes}
 use Rattle.groups.proofs.ClassRule.{classed, class-refused, multicast-classed, multicast-family}
 use Rattle.nlri.proofs.Definitions.Lengths.{family-good}

@@ -22,7 +22,7 @@ use Rattle.nlri.specs.Family.{familyBits, isOriginatorSize}
 use Rattle.nlri.specs.Fields.{Fields}
 use Rattle.groups.specs.Prefixes.{readPrefixes}
 use Rattle.groups.specs.Classes.{classIn}
-use Rattle.groups.specs.ClassRule.{GoodPrefixes}
+use Rattle.groups.specs.Rules.ClassRule.{GoodPrefixes}
 use Rattle.groups.proofs.Prefixes.{prefixes-good, good-prefixes, prefixes-refused, refused-prefixes, prefixes-either}
 use Rattle.groups.proofs.ClassRule.{Classed, classed, class-refused, multicast-family}
 use Rattle.nlri.proofs.Theorems.{lengths}

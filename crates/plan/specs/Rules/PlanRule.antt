@@ -5,7 +5,7 @@ use mathlib.Core.List.{List, [], _∷_}
 use mathlib.Core.Logic.{_≢_}
 use lib.ListN.{length, getD, take}
 use Rattle.octets.specs.Numbers.{SPACE}
-use Rattle.octets.specs.Answering.{Answering}
+use Rattle.octets.specs.Rules.Answering.{Answering}
 use Rattle.octets.specs.Octets.{AllOctets}
 use Rattle.octets.specs.Outcome.{given}
 use Rattle.octets.specs.Outputs.{Changed}
@@ -14,8 +14,8 @@ use Rattle.lists.specs.LentLists.{Item, listCount, readList}
 use Rattle.plan.specs.declared.Planned.{Planned}
 use Rattle.plan.specs.Flows.{Vrf}
 use Rattle.plan.specs.Calls.{judgeOf, planOf}
-use Rattle.plan.specs.FlowsRule.{Listed, GoodFlows, FlowsRefusal}
-use Rattle.plan.specs.JudgeRule.{Accepted}
+use Rattle.plan.specs.Rules.FlowsRule.{Listed, GoodFlows, FlowsRefusal}
+use Rattle.plan.specs.Rules.JudgeRule.{Accepted}
 
 -- every flow that wants another attribute than this stands in a list of sources and groups
 abbrev pub HasOthers : (attribute : List ℕ) → (items pairs : List Item) → Type 0

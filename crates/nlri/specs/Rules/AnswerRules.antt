@@ -9,7 +9,7 @@ use Rattle.octets.specs.Outcome.{given}
 use Rattle.octets.specs.Octets.{AllOctets, part}
 use Rattle.octets.specs.Order.{zeros}
 use Rattle.octets.specs.Outputs.{Wrote}
-use Rattle.octets.specs.Answering.{Answering, WrittenAtFront, NothingWritten}
+use Rattle.octets.specs.Rules.Answering.{Answering, WrittenAtFront, NothingWritten}
 use Rattle.octets.specs.declared.Written.{Written}
 use Rattle.nlri.specs.declared.address.Address.{Address}
 use Rattle.nlri.specs.declared.fields.Nlri.{Nlri}
@@ -19,7 +19,7 @@ use Rattle.nlri.specs.Fields.{Fields, encodeNlri, WellFormed}
 use Rattle.nlri.specs.Reading.{readNlri}
 use Rattle.nlri.specs.Writing.{writeNlri}
 use Rattle.nlri.specs.Answers.{structFields, nlriAnswer}
-use Rattle.nlri.specs.Statements.{ReadAs, StructHoldsOctets, ReadRefusal, WriteRefusal}
+use Rattle.nlri.specs.Rules.NlriRules.{ReadAs, StructHoldsOctets, ReadRefusal, WriteRefusal}
 
 -- an address in an answer: how many octets it has, and these octets with zeros to the end of the sixteen
 pub record AddressTold (told : List ℕ) (address : Address) : Type 0 where

@@ -9,7 +9,7 @@ use Rattle.octets.specs.Outcome.{given, refused}
 use Rattle.octets.specs.Lists.{Among}
 use Rattle.lists.specs.LentLists.{Item, readList}
 use Rattle.nlri.specs.Groups.{Multicast}
-use Rattle.groups.specs.ClassRule.{GoodPrefixes, UnderRefusal}
+use Rattle.groups.specs.Rules.ClassRule.{GoodPrefixes, UnderRefusal}
 use Rattle.tunnel.specs.Attribute.{AttributeFields, readAttribute}
 use Rattle.routes.specs.Rules.ArgumentRules.{KnownFamily, RouterSized, FamilySized, Labelled}
 use Rattle.routes.specs.Rules.MatchRule.{NamesTunnel}

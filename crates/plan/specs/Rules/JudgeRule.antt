@@ -4,7 +4,7 @@ use mathlib.Core.Path.{_≡_}
 use mathlib.Core.List.{List, [], _∷_}
 use mathlib.Core.Logic.{_⊎_, _≢_}
 use lib.ListN.{length}
-use Rattle.octets.specs.Answering.{Answering}
+use Rattle.octets.specs.Rules.Answering.{Answering}
 use Rattle.octets.specs.Lists.{Among}
 use Rattle.lists.specs.LentLists.{Item, listCount}
 use Rattle.routes.specs.Route.{Route, nlriOf, attributeOf}
@@ -15,7 +15,7 @@ use Rattle.routes.specs.Rules.SoundRule.{routeInPlace, PlaceHolds}
 use Rattle.plan.specs.declared.Judged.{Judged}
 use Rattle.plan.specs.Flows.{Vrf, vrfOf}
 use Rattle.plan.specs.Calls.{judgeOf}
-use Rattle.plan.specs.FlowsRule.{Listed, GoodFlows, FlowsRefusal}
+use Rattle.plan.specs.Rules.FlowsRule.{Listed, GoodFlows, FlowsRefusal}
 
 -- the octets from `at` on are whole places of 128, each of a route that install would accept by itself, with zeros after it and 0 or 1 as its mark; and
 -- these are the routes, in their order

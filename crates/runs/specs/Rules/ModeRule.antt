@@ -11,10 +11,10 @@ use Rattle.nlri.specs.Family.{familyBits}
 use Rattle.nlri.specs.Fields.{Fields, encodeNlri, Encodable, Discarded, WellFormed}
 use Rattle.nlri.specs.Bodies.{KnownType}
 use Rattle.nlri.specs.Layouts.{noLayout}
-use Rattle.nlri.specs.Statements.{layoutFor}
+use Rattle.nlri.specs.Rules.NlriRules.{layoutFor}
 use Rattle.runs.specs.declared.turning.Turn.{Turn}
 use Rattle.runs.specs.Walking.{walkOf, NlriRead, nlrisOf}
-use Rattle.runs.specs.Statements.{EncodedAt, EndAt, StepRefusal, RunEnd}
+use Rattle.runs.specs.Rules.WalkRules.{EncodedAt, EndAt, StepRefusal, RunEnd}
 use Rattle.runs.specs.Modes.{SkippableNumber, turnFrom, turnedOf, walkBy, nlrisBy}
 
 -- an NLRI of a run: its fields, and the offset where their encoding begins

@@ -6,14 +6,14 @@ use mathlib.Core.List.{List}
 use mathlib.Core.Logic.{_≢_}
 use lib.ListN.{length}
 use Rattle.octets.specs.Octets.{AllOctets}
-use Rattle.octets.specs.Answering.{Answering}
+use Rattle.octets.specs.Rules.Answering.{Answering}
 use Rattle.nlri.specs.Fields.{Fields, encodeNlri}
-use Rattle.nlri.specs.Statements.{layoutFor}
+use Rattle.nlri.specs.Rules.NlriRules.{layoutFor}
 use Rattle.runs.specs.Walking.{stepFrom}
-use Rattle.runs.specs.Statements.{EncodedAt, EndAt, StepRefusal}
+use Rattle.runs.specs.Rules.WalkRules.{EncodedAt, EndAt, StepRefusal}
 use Rattle.tunnel.specs.declared.Attribute.{Attribute}
 use Rattle.tunnel.specs.Answers.{readStruct}
-use Rattle.tunnel.specs.Statements.{AttributeReadRefusal, AnsweredAttribute}
+use Rattle.tunnel.specs.Rules.AttributeRules.{AttributeReadRefusal, AnsweredAttribute}
 use Rattle.mvpn.specs.declared.StepAnswer.{StepAnswer}
 use Rattle.mvpn.specs.declared.AttributeAnswer.{AttributeAnswer}
 use Rattle.mvpn.specs.Answers.{stepAnswer, attributeAnswer}

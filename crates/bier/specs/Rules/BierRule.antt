@@ -11,7 +11,7 @@ use Rattle.octets.specs.Outcome.{given, refused}
 use Rattle.octets.specs.Outputs.{Changed}
 use Rattle.octets.specs.Octets.{AllOctets}
 use Rattle.octets.specs.Lists.{Among, Once}
-use Rattle.octets.specs.Answering.{Answering}
+use Rattle.octets.specs.Rules.Answering.{Answering}
 use Rattle.lists.specs.LentLists.{Item, listCount, readList}
 use Rattle.groups.specs.Prefixes.{bitAt}
 use Rattle.tunnel.specs.Attribute.{AttributeFields, readAttribute}

@@ -9,7 +9,7 @@ use Rattle.octets.specs.Numbers.{SHORT, TUNNEL, IDENT, LONG, LABEL, SPACE}
 use Rattle.octets.specs.Outcome.{given, refused}
 use Rattle.octets.specs.Octets.{AllOctets, part}
 use Rattle.octets.specs.Outputs.{Wrote}
-use Rattle.octets.specs.Answering.{Answering, WrittenAtFront, NothingWritten}
+use Rattle.octets.specs.Rules.Answering.{Answering, WrittenAtFront, NothingWritten}
 use Rattle.octets.specs.declared.Span.{Span}
 use Rattle.octets.specs.declared.Written.{Written}
 use Rattle.tunnel.specs.declared.Reading.{Reading}

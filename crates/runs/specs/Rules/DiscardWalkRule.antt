@@ -9,8 +9,8 @@ use lib.ListN.{length, drop}
 use Rattle.octets.specs.Octets.{AllOctets}
 use Rattle.nlri.specs.Fields.{Fields, encodeNlri}
 use Rattle.nlri.specs.Layouts.{noLayout}
-use Rattle.nlri.specs.DiscardRule.{DiscardedFields}
-use Rattle.nlri.specs.DiscardExamples.{sourceActive4}
+use Rattle.nlri.specs.Rules.DiscardRule.{DiscardedFields}
+use Rattle.nlri.specs.Rules.DiscardExamples.{sourceActive4}
 use Rattle.runs.specs.Walking.{refusedAt, stepFrom}
 use Rattle.runs.specs.Modes.{turnFrom, turnedOf, walkBy, nlrisBy}
 

@@ -13,7 +13,7 @@ use Rattle.nlri.specs.Groups.{Multicast, SourceSpecific}
 use Rattle.nlri.specs.Fields.{Fields, encodeNlri, Encodable, isDiscarded, restricted}
 use Rattle.nlri.specs.Reading.{acceptedAt, readNlri, readOfType}
 use Rattle.nlri.specs.Writing.{writeNlri}
-use Rattle.nlri.specs.Statements.{HoldsOctets}
+use Rattle.nlri.specs.Rules.NlriRules.{HoldsOctets}
 
 -- `Encodable` and `Discarded`, from the AFI: fields of its family that can be encoded, of type 5, with a group of the standard range
 pub record DiscardedFields (afi : ℕ) (f : Fields) : Type 0 where

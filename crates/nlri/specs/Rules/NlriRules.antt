@@ -10,7 +10,7 @@ use Rattle.octets.specs.Numbers.{DONE, SHORT, TYPE, LENGTH, WIDTH, KEY, IDENT, 
 use Rattle.octets.specs.Outcome.{given, refused}
 use Rattle.octets.specs.Octets.{AllOctets, part}
 use Rattle.fec_elements.specs.declared.Standing.the-variants.{InBody, Lent}
-use Rattle.fec_elements.specs.Statements.{NestedFault}
+use Rattle.fec_elements.specs.Rules.FecRules.{NestedFault}
 use Rattle.nlri.specs.Family.{familyBits, familyOutcome, rootFamily, allowed, isOriginatorSize}
 use Rattle.nlri.specs.Bodies.{FieldKind, distinguisher, sourceAs, source, group, originator, key, fec, KnownType, bodyOf, hasField}
 use Rattle.nlri.specs.Fields.{Fields, encodeBody, encodeNlri, FecOf, Encodable, Discarded, WellFormed, KeyOf, restricted}

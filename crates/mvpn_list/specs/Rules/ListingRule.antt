@@ -8,10 +8,10 @@ use lib.ListN.{length, getD, take}
 use Rattle.octets.specs.Numbers.{DONE}
 use Rattle.octets.specs.Octets.{AllOctets}
 use Rattle.nlri.specs.Fields.{Fields, encodeNlri}
-use Rattle.nlri.specs.DiscardExamples.{sourceActive4}
-use Rattle.runs.specs.Statements.{encodeRun, RunOf}
+use Rattle.nlri.specs.Rules.DiscardExamples.{sourceActive4}
+use Rattle.runs.specs.Rules.WalkRules.{encodeRun, RunOf}
 use Rattle.runs.specs.Modes.{SKIP, OLD}
-use Rattle.runs.specs.ModeRule.{EncodedNlri, Split}
+use Rattle.runs.specs.Rules.ModeRule.{EncodedNlri, Split}
 use Rattle.mvpn_list.specs.Listing.{decimalOf, linesOf, listingOf, modeOf}
 
 -- the number that ASCII digits stand for, the most significant first

@@ -7,7 +7,7 @@ use mathlib.Core.Logic.{_↔_, _≢_, _⊎_}
 use lib.ListN.{length}
 use Rattle.octets.specs.Numbers.{SHORT, FAMILY, FLOW, RANGE}
 use Rattle.octets.specs.Outcome.{given, refused}
-use Rattle.octets.specs.Answering.{Answering}
+use Rattle.octets.specs.Rules.Answering.{Answering}
 use Rattle.octets.specs.Lists.{Among}
 use Rattle.lists.specs.LentLists.{Item, listCount, readList}
 use Rattle.nlri.specs.Groups.{Multicast, SourceSpecific, groupOf}

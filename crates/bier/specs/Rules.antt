@@ -1,0 +1,3 @@
+-- What is stated of the definitions.
+pub mod BierRule
+pub mod BierExamples

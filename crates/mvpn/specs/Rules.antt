@@ -1,0 +1,2 @@
+-- What is stated of the definitions.
+pub mod CallAnswers

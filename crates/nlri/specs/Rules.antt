@@ -1,0 +1,5 @@
+-- What is stated of the definitions.
+pub mod NlriRules
+pub mod AnswerRules
+pub mod DiscardRule
+pub mod DiscardExamples

@@ -1,0 +1,3 @@
+-- What is stated of the definitions.
+pub mod Answering
+pub mod OrderRule
