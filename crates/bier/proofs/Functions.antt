@@ -28,7 +28,8 @@ use Rattle.tunnel.proofs.Definitions.Attributes.{read-given}
 use Rattle.bier.specs.BitStrings.{isOfSet, withId, onesOf}
 use Rattle.bier.specs.LeafRoutes.{Leaf, readLeaf, bfrIdIn}
 use Rattle.bier.specs.Inner.{gatheredFrom, Yields, keyIn, KeyWithin, AttributeStands, BierStands, LeafStands, standingId}
-use Rattle.bier.proofs.Leaves.{type-refuses, leaf-refuses, leaf-stands, id-stands, identifier-long}
+use Rattle.bier.proofs.Leaves.{leaf-refuses, leaf-stands, id-stands, identifier-long}
+use Rattle.bier.proofs.OfType.{type-refuses}
 
 -- a one shifted within an octet
 pub one-shifted : (n : ℕ) → 1 * 2 ^ (n % 8) % 256 ≡ 2 ^ (n % 8)

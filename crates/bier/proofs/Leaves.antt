@@ -4,58 +4,33 @@ use mathlib.Core.Path.{_≡_, refl, sym, ap, subst, _∙_}
 use mathlib.Core.List.{List, [], _∷_, _++_}
 use mathlib.Core.Logic.{_↔_, _≢_, _⊎_, ⊎-elim}
 use native.Mathlib.Omega.{arith}
-use borrow.Author.Tests.{eqb-true, eqb-false, eq-eqb, ne-eqb}
+use borrow.Author.Tests.{eqb-true, eq-eqb}
 use lib.ListN.{length, getD, drop}
 use lib.Seq.{getD-drop}
 use Rattle.octets.specs.Numbers.{DONE}
 use Rattle.octets.specs.Choice.{pick}
 use Rattle.octets.specs.Outcome.{given, refused}
 use Rattle.octets.specs.Lists.{Among, first, later}
-use Rattle.octets.proofs.Choice.{picked, pick-true, pick-false, both-held, both-true}
-use Rattle.octets.proofs.Outcome.{never, given-same, goes, stops, passed, stopped, given-unless, refuses-unless, Refuses, value, number, refuses-pick, refuses-then, refuses-also}
+use Rattle.octets.proofs.Choice.{picked, pick-true, both-held, both-true}
+use Rattle.octets.proofs.Outcome.{never, given-same, goes, stops, passed, stopped, Refuses, value, refuses-then}
 use Rattle.octets.proofs.NetworkOrder.{number-two}
 use Rattle.octets.proofs.Orders.{same-equal, same-of-equal}
 use Rattle.octets.proofs.Among.{among-none, among-cases, among-left}
 use Rattle.lists.specs.LentLists.{Item, itemField}
 use Rattle.lists.proofs.Items.{Pairs, pairs-each}
 use Rattle.nlri.specs.Fields.{Fields}
-use Rattle.nlri.specs.Reading.{readNlri, readOfType}
+use Rattle.nlri.specs.Reading.{readNlri}
 use Rattle.nlri.specs.declared.layout.Layout.{Layout}
 use Rattle.nlri.specs.Inner.{layoutWith, leafLayout, layoutIn, fieldsAt}
-use Rattle.nlri.proofs.Definitions.ReadNumbers.{refuses-nlri}
 use Rattle.nlri.proofs.Functions.Singles.{ReadAt, read-at}
 use Rattle.tunnel.specs.Attribute.{AttributeFields, fieldsIn, readAttribute}
 use Rattle.tunnel.specs.Bier.{bierIn}
 use Rattle.tunnel.proofs.Definitions.Attributes.{read-given, refuses-read}
 use Rattle.tunnel.proofs.Theorems.{bierIdentifierRule}
-use Rattle.routes.specs.Rules.ArgumentRules.{TypeRefusal, unreadNlri, otherKind}
 use Rattle.bier.specs.LeafRoutes.{Leaf, readLeaf, readLeaves, bfrIdIn, countingId, countingIds}
 use Rattle.bier.specs.Inner.{keyIn, KeyWithin, LeafStands, standingId}
 use Rattle.bier.specs.Rules.BierRule.{LeafRoute, LeafRefusal, badLeaf, badTunnel, AllLeaves, FirstRefusedLeaf, CountingLeaf, CountingId}
-
--- an NLRI of one type
-pub of-type-given : (type afi : ℕ) (s : List ℕ) (f : Fields) → readOfType type afi s ≡ given f → (readNlri afi s ≡ given f) × (f .type ≡ type)
-of-type-given type afi s f e =
-    let p = passed _ _ _ e in
-    let q = given-unless _ _ _ _ (p .second) in
-    let is : p .value ≡ f = given-same (q .1) in
-    (p .first ∙ ap given is, ap (λ (g : Fields). g .type) (sym is) ∙ eqb-true _ _ (q .0))
-
-pub given-of-type : (type afi : ℕ) (s : List ℕ) (f : Fields) → readNlri afi s ≡ given f → f .type ≡ type → readOfType type afi s ≡ given f
-given-of-type type afi s f e t = sym (goes _ _ f _ e (sym (pick-true _ _ _ (eq-eqb _ _ t))))
-
-of-type-refused : (type afi : ℕ) (s : List ℕ) (n : ℕ) → readOfType type afi s ≡ refused n → TypeRefusal type afi s n
-of-type-refused type afi s n e =
-    ⊎-elim (λ r. unreadNlri r)
-    (λ l. let q = refuses-unless _ _ _ _ (l .second) in subst (TypeRefusal type afi s) (sym (q .1)) (otherKind (l .value) (l .first) (eqb-false _ _ (q .0))))
-    (stopped _ _ _ e)
-
-refused-of-type : (type afi : ℕ) (s : List ℕ) (n : ℕ) → TypeRefusal type afi s n → readOfType type afi s ≡ refused n
-refused-of-type type afi s n (unreadNlri e) = sym (stops _ _ _ e)
-refused-of-type type afi s n (otherKind f e o) = sym (goes _ _ f _ e (sym (pick-false _ _ _ (ne-eqb _ _ o))))
-
-pub type-refuses : (afi : ℕ) (s : List ℕ) → Refuses (λ n. n ≡ DONE → ⊥) (readOfType 4 afi s)
-type-refuses afi s = refuses-then _ _ (refuses-also (λ n p e. omega arith) (refuses-nlri afi s)) (λ f. refuses-pick _ _ _ value (number (λ e. omega arith)))
+use Rattle.bier.proofs.OfType.{of-type-given, given-of-type, of-type-refused, refused-of-type, type-refuses}
 
 -- a Leaf route: of an NLRI of type 4 and of an attribute, both read
 module _ (afi : ℕ) (x : Item) where

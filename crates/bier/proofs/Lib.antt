@@ -2,6 +2,7 @@
 pub mod SetBits
 pub mod Strings
 pub mod Counted
+pub mod OfType
 pub mod Leaves
 pub mod Arguments
 pub mod Functions

@@ -14,7 +14,7 @@ use Rattle.octets.specs.Octets.{AllOctets}
 use Rattle.octets.specs.Order.{zeros}
 use Rattle.octets.specs.Lists.{Among, first, later}
 use Rattle.octets.proofs.Choice.{tested, opposite, pick-true, pick-false, pick-passed}
-use Rattle.octets.proofs.Orders.{zero-at, zeros-all}
+use Rattle.octets.proofs.Zeros.{zero-at, zeros-all}
 use Rattle.octets.proofs.AllOctets.{octets-zeros}
 use Rattle.octets.proofs.Among.{among-none, among-cases}
 use Rattle.groups.specs.Prefixes.{bitAt}

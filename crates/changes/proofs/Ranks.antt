@@ -9,7 +9,8 @@ use Rattle.octets.specs.Order.{same, before}
 use Rattle.octets.proofs.Choice.{opposite, pick-true, pick-false, tested}
 use Rattle.octets.proofs.Orders.{same-swapped, before-other, before-then, before-differs, before-once}
 use Rattle.routes.specs.Route.{Route, nlriOf, holds, inserted, removed, Increasing, last, next}
-use Rattle.routes.proofs.Definitions.Lookups.{lookup-first, lookup-later, lookup-early, holds-held, holds-absent, holds-alike, lookup-none}
+use Rattle.routes.proofs.Definitions.Lookups.{lookup-first, lookup-later, holds-held, holds-absent, holds-alike, lookup-none}
+use Rattle.routes.proofs.Definitions.Increases.{lookup-early}
 use Rattle.changes.specs.Changing.{rank, firstIs}
 
 pub rank-more : (n : List ℕ) (q : Route) (rs : List Route) → before (nlriOf q) n ≡ true → rank n (q ∷ rs) ≡ suc (rank n rs)

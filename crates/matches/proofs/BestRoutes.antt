@@ -21,7 +21,7 @@ use Rattle.routes.specs.Matching.{namesTunnel, distinguisherOf, Found, nothing,
 use Rattle.routes.specs.declared.Matched.{Matched}
 use Rattle.routes.specs.Answers.{matchedBy}
 use Rattle.routes.specs.OnePass.{tierOf, ahead, against, better, scanned}
-use Rattle.routes.proofs.Definitions.Lookups.{distinct-increasing}
+use Rattle.routes.proofs.Definitions.Increases.{distinct-increasing}
 use Rattle.routes.proofs.Definitions.Matching.OnePass.{one-pass}
 use Rattle.matches.specs.declared.scan.Best.{Best}
 use Rattle.nlri.specs.Standing.{standing}

@@ -10,3 +10,4 @@ pub mod Classes
 pub mod AnswerRules
 pub mod Discards
 pub mod DiscardExamples
+pub mod NlriExamples

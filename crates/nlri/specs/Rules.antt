@@ -3,3 +3,4 @@ pub mod NlriRules
 pub mod AnswerRules
 pub mod DiscardRule
 pub mod DiscardExamples
+pub mod NlriExamples

@@ -10,6 +10,8 @@ pub mod NetworkOrder
 pub mod LowFirst
 pub mod AllOctets
 pub mod Orders
+pub mod Zeros
 pub mod OrderRule
+pub mod NumbersRule
 pub mod Among
 pub mod Chosen

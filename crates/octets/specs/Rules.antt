@@ -1,3 +1,4 @@
 -- What is stated of the definitions.
+pub mod NumbersRule
 pub mod Answering
 pub mod OrderRule

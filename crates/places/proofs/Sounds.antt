@@ -16,7 +16,7 @@ use Rattle.octets.specs.Order.{same, before, allZero}
 use Rattle.octets.proofs.Choice.{both-true, both-left, both-right, both-last, pick-true, pick-false, opposite, both-true-left, both-true-right}
 use Rattle.octets.proofs.Outcome.{number-goes, number-stops, refused-of, done-given, number-kept, number-picks, number-skips}
 use Rattle.octets.proofs.LowFirst.{low-zero}
-use Rattle.octets.proofs.Orders.{zero-covered}
+use Rattle.octets.proofs.Zeros.{zero-covered}
 use Rattle.nlri.specs.Fields.{Fields}
 use Rattle.nlri.specs.Reading.{readNlri, isSPmsi}
 use Rattle.tunnel.specs.Attribute.{readAttribute, fieldsIn, labelOf}

@@ -1,14 +1,18 @@
 -- Laws of the definitions, those that the functions' proofs use, and the theorems.
 pub mod Counts
 pub mod Items
+pub mod Conflicts
+pub mod OrderedRefusals
 pub mod Refused
 pub mod Reading
 pub mod Judges
 pub mod Proposals
+pub mod PlannedNlris
 pub mod Plans
 pub mod Loops
 pub mod Leaders
 pub mod JudgedPlaces
+pub mod PlaceLoops
 pub mod Called
 pub mod Puts
 pub mod OwnPlaces

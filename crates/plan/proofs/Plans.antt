@@ -1,12 +1,11 @@
 -- What the planner proposes is accepted.
-use Prim.Native.Nat.{ℕ, _+_, _*_, _<_, _≤_}
+use Prim.Native.Nat.{ℕ, _<_}
 use mathlib.Core.Path.{_≡_, refl, sym, ap, _∙_, subst}
-use mathlib.Core.Bool.{true, false}
+use mathlib.Core.Bool.{false}
 use mathlib.Core.List.{List, [], _∷_}
 use mathlib.Core.Logic.{_⊎_, inl, inr, ⊎-elim}
 use native.Mathlib.Omega.{arith}
-use lib.ListN.{length, length-append}
-use Rattle.octets.specs.Choice.{pick, either}
+use lib.ListN.{length}
 use Rattle.octets.specs.Outcome.{given}
 use Rattle.octets.specs.Octets.{AllOctets}
 use Rattle.octets.specs.Order.{same, before}
@@ -15,16 +14,13 @@ use Rattle.octets.proofs.Choice.{tested}
 use Rattle.octets.proofs.Outcome.{given-same}
 use Rattle.octets.proofs.Orders.{same-equal, before-itself}
 use Rattle.octets.proofs.Among.{among-none, among-cases}
-use Rattle.nlri.specs.Family.{familyBits, allowed, isOriginatorSize}
-use Rattle.nlri.specs.Bodies.{bodies, onBody, bodyOf, hasField, sameKind, codeOf, toSeven}
-use Rattle.nlri.specs.Fields.{Fields, encodeField, encodeAddress, encodeBody, WellFormed, restricted}
+use Rattle.nlri.specs.Fields.{Fields}
 use Rattle.nlri.specs.Reading.{readNlri}
 use Rattle.nlri.specs.Groups.{Multicast}
-use Rattle.nlri.proofs.Theorems.{lengths, acceptance}
+use Rattle.nlri.proofs.Theorems.{lengths}
 use Rattle.nlri.proofs.Definitions.Lengths.{family-good}
 use Rattle.routes.specs.Route.{Route, nlriOf, attributeOf, Distinct}
-use Rattle.routes.specs.Query.{Flow}
-use Rattle.routes.specs.Rules.ArgumentRules.{RouterSized, FamilySized, Labelled, SPmsi, SPmsiOf}
+use Rattle.routes.specs.Rules.ArgumentRules.{RouterSized, FamilySized, Labelled, SPmsiOf}
 use Rattle.routes.specs.Rules.MatchRule.{InTier, bothEqual, sourceEqual, groupEqual, bothWildcard, NamesTunnel, Candidate, Eligible}
 use Rattle.routes.proofs.Definitions.Lookups.{held-or-absent, lookup-member}
 use Rattle.groups.proofs.ClassRule.{multicast-family}
@@ -33,6 +29,7 @@ use Rattle.plan.specs.Commonest.{others, commonest}
 use Rattle.plan.specs.Planning.{fieldsFor, routeFor, routesFor, wildcardFlow, planned, proposal}
 use Rattle.plan.specs.Rules.JudgeRule.{Own, Served}
 use Rattle.plan.proofs.Counts.{SameFlow, Apart, among-different, different-among, others-among, among-others, others-apart, different-apart, commonest-wanted}
+use Rattle.plan.proofs.PlannedNlris.{Entry, for-nlri, for-s-pmsi, multicast-sized, sized-some, address-allowed, well-formed, flow-equal, address-most, in-some-tier}
 
 -- what acceptance asks of flows
 pub record Plannable (afi : ℕ) (vrf : Vrf) (fs : List ListedFlow) : Type 0 where
@@ -51,76 +48,6 @@ pub record AcceptedPlan (afi : ℕ) (vrf : Vrf) (fs : List ListedFlow) (rs : Lis
   pub labelled : (r : Route) → Among r rs → Labelled (attributeOf r)
   pub distinct : Distinct rs
   pub served : (f : ListedFlow) → Among f fs → Served afi vrf rs (f .source) (f .group) (f .wanted)
-
--- the fields have nothing that type 3 lacks
-for-whole : (vrf : Vrf) (f : ListedFlow) → restricted (fieldsFor vrf f) ≡ fieldsFor vrf f
-unfolding restricted fieldsFor bodyOf bodies onBody hasField sameKind codeOf pick either
-for-whole vrf f = refl
-
--- what a route is for: an originator, an RD and two addresses of which an NLRI is well-formed
-pub record Entry (afi : ℕ) (vrf : Vrf) (f : ListedFlow) : Type 0 where
-  pub family : ℕ
-  pub bits : familyBits afi ≡ given family
-  pub wellFormed : WellFormed family (fieldsFor vrf f)
-
-for-nlri : (afi : ℕ) (vrf : Vrf) (f : ListedFlow) → Entry afi vrf f → readNlri afi (nlriOf (routeFor vrf f)) ≡ given (fieldsFor vrf f)
-unfolding routeFor nlriOf
-for-nlri afi vrf f e = acceptance .encoded afi (e .family) (fieldsFor vrf f) (e .bits) (e .wellFormed) ∙ ap given (for-whole vrf f)
-
-for-typed : (vrf : Vrf) (f : ListedFlow) → fieldsFor vrf f .type ≡ 3
-unfolding fieldsFor
-for-typed vrf f = refl
-
-pub for-s-pmsi : (afi : ℕ) (vrf : Vrf) (f : ListedFlow) → Entry afi vrf f → SPmsi afi (nlriOf (routeFor vrf f))
-for-s-pmsi afi vrf f e = record { fields = fieldsFor vrf f; read = for-nlri afi vrf f e; kind = for-typed vrf f }
-
--- sizes
-
-multicast-sized : {afi : ℕ} {g : List ℕ} → Multicast afi g → FamilySized afi g
-multicast-sized (Multicast.ipv4 l a b) = inl (refl, l)
-multicast-sized (Multicast.ipv6 l a) = inr (refl, l)
-
-sized-some : {afi : ℕ} (x : List ℕ) → FamilySized afi x → x ≡ [] → ⊥
-sized-some x s e = let n : length x ≡ 0 = ap length e in ⊎-elim (λ a. omega (arith, a .1)) (λ a. omega (arith, a .1)) s
-
--- an address of the family's size, or a wildcard
-address-allowed : (afi family : ℕ) (x : List ℕ) → familyBits afi ≡ given family → FamilySized afi x ⊎ (x ≡ []) → allowed family 3 (8 * length x) ≡ true
-address-allowed afi family x bits s =
-    lengths .addresses family 3 (8 * length x) .1
-    (⊎-elim
-    (λ a. inl (⊎-elim
-    (λ f. ⊎-elim (λ b. omega (arith, f .1, b .1)) (λ b. absurd (omega (arith, f .0, b .0))) a)
-    (λ f. ⊎-elim (λ b. absurd (omega (arith, f .0, b .0))) (λ b. omega (arith, f .1, b .1)) a)
-    (lengths .families afi family .0 bits)))
-    (λ e. let n : length x ≡ 0 = ap length e in inr (refl, omega arith))
-    s)
-
-body-length : (vrf : Vrf) (f : ListedFlow) → length (encodeBody (fieldsFor vrf f) (bodyOf (fieldsFor vrf f .type))) ≡ length (vrf .distinguisher) + (1 + length (f .source)) + (1 + length (f .group)) + length (vrf .originator)
-unfolding fieldsFor bodyOf bodies onBody pick encodeBody encodeField encodeAddress
-body-length vrf f = simp (length-append) (omega arith)
-
-well-formed : (family : ℕ) (vrf : Vrf) (f : ListedFlow) → (length (vrf .distinguisher) ≡ 8) × AllOctets (vrf .distinguisher) → (isOriginatorSize (length (vrf .originator)) ≡ true) × AllOctets (vrf .originator)
-    → (allowed family 3 (8 * length (f .source)) ≡ true) × AllOctets (f .source) → (allowed family 3 (8 * length (f .group)) ≡ true) × AllOctets (f .group)
-    → length (f .source) ≤ 16 → length (f .group) ≤ 16 → length (vrf .originator) ≤ 16
-    → WellFormed family (fieldsFor vrf f)
-unfolding fieldsFor bodyOf bodies onBody pick
-well-formed family vrf f d o s g sl gl ol =
-    let l = body-length vrf f in
-    record { encodable = record { typed = toSeven {type = 3} (omega arith) (omega arith); body = (d, (s, (g, (o, tt)))); fits = omega (arith, l) }; notDiscarded = λ x. let t = x .sourceActive in absurd (omega arith) }
-
-flow-equal : (h k : ListedFlow) → SameFlow h k → h .wanted ≡ k .wanted → h ≡ k
-flow-equal h k s w = λ i. record { source = s .source i; group = s .group i; wanted = w i }
-
--- an address of a family or a wildcard has at most 16 octets
-address-most : {afi : ℕ} (x : List ℕ) → FamilySized afi x ⊎ (x ≡ []) → length x ≤ 16
-address-most x s = ⊎-elim (λ a. ⊎-elim (λ b. omega (arith, b .1)) (λ b. omega (arith, b .1)) a) (λ e. let n : length x ≡ 0 = ap length e in omega arith) s
-
--- no tier comes before the first
-in-some-tier : {afi tier : ℕ} {flow : Flow} {f : Fields} → InTier afi flow tier f → tier < 1 → ⊥
-in-some-tier (bothEqual p q) h = omega arith
-in-some-tier (sourceEqual p q ssm) h = omega arith
-in-some-tier (groupEqual p q asm) h = omega arith
-in-some-tier (bothWildcard p q) h = omega arith
 
 module _ (afi : ℕ) (vrf : Vrf) where
   route-of : (es : List ListedFlow) (u : Route) → Among u (routesFor vrf es) → (h : ListedFlow) × Among h es × (u ≡ routeFor vrf h)

@@ -20,7 +20,8 @@ use Rattle.plan.specs.Flows.{Vrf, ListedFlow, flowsIn}
 use Rattle.plan.specs.Refusing.{flowsFault, readFlows}
 use Rattle.plan.specs.Rules.FlowsRule.{ListTaken, GoodFlows, FlowsRefusal, badPrefixes, tooLong, badSize, unread, noLabel, noTunnel, conflict}
 use Rattle.plan.proofs.Items.{Threes, list-threes}
-use Rattle.plan.proofs.Refused.{Step, Unrefused, Refusal, unread-some, flows-step}
+use Rattle.plan.proofs.Refused.{Unrefused, Refusal, unread-some, flows-step}
+use Rattle.plan.proofs.OrderedRefusals.{Step}
 
 -- no refusal of prefixes is DONE
 pub under-some : {afi n : ℕ} {p : List ℕ} → UnderRefusal afi p n → n ≢ DONE

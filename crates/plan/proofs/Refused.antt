@@ -1,7 +1,7 @@
 -- Why flows are refused: each number over all flows before the next.
 use Prim.Native.Nat.{ℕ}
 use mathlib.Core.Path.{_≡_, refl, sym, ap, _∙_, subst}
-use mathlib.Core.Bool.{Bool, true, false, not}
+use mathlib.Core.Bool.{true, false}
 use mathlib.Core.List.{List, [], _∷_}
 use mathlib.Core.Logic.{_↔_, _⊎_, _≢_, inl, inr, ⊎-elim}
 use native.Mathlib.Omega.{arith}
@@ -9,14 +9,11 @@ use lib.ListN.{length}
 use lib.Dec.{eqb}
 use borrow.Author.Tests.{eqb-true, eqb-false, eq-eqb, ne-eqb}
 use Rattle.octets.specs.Numbers.{DONE, TUNNEL, FLOW, LABEL, CONFLICT}
-use Rattle.octets.specs.Choice.{pick, both}
+use Rattle.octets.specs.Choice.{pick}
 use Rattle.octets.specs.Outcome.{Outcome, given, refused, numberOf}
-use Rattle.octets.specs.Order.{same}
 use Rattle.octets.specs.Lists.{Among, first, later}
-use Rattle.octets.proofs.Choice.{tested, opposite, is-true, is-false, picked, pick-true, pick-false, both-held, both-true, either-true, either-false-left, either-false-right}
+use Rattle.octets.proofs.Choice.{tested, opposite, is-true, is-false, both-held, both-true, either-true}
 use Rattle.octets.proofs.Outcome.{never, given-same, outcome, refuses-where, stopped, on-given, number-given, number-refused, done-given, Refuses, value, number, refuses-pick, refuses-then, refuses-by}
-use Rattle.octets.proofs.Orders.{same-equal, same-of-equal}
-use Rattle.octets.proofs.Among.{among-none, among-cases}
 use Rattle.lists.specs.LentLists.{Item, itemField}
 use Rattle.nlri.specs.Groups.{Multicast}
 use Rattle.nlri.proofs.Theorems.{lengths}
@@ -29,79 +26,12 @@ use Rattle.routes.specs.Rules.MatchRule.{NamesTunnel}
 use Rattle.routes.proofs.Definitions.Matching.Flows.{flow-given, flow-asked, flow-refused}
 use Rattle.routes.proofs.Definitions.ByArguments.{ByArguments, attribute-argued}
 use Rattle.routes.proofs.Statements.ArgumentRules.{labelled, takes-labelled}
-use Rattle.plan.specs.Flows.{Vrf, ListedFlow, asking, flowIn, flowsIn, sameFlow}
-use Rattle.plan.specs.Refusing.{firstFault, orNext, clashes, conflicts, flowFault, attributeFault, labelFault, typeFault, vrfFault, attributesFault, flowsFault}
+use Rattle.plan.specs.Flows.{Vrf, ListedFlow, asking, flowIn, flowsIn}
+use Rattle.plan.specs.Refusing.{firstFault, conflicts, flowFault, attributeFault, labelFault, typeFault, vrfFault, attributesFault, flowsFault}
 use Rattle.plan.specs.Rules.FlowsRule.{Listed, GoodSizes, AllAttributesRead, FirstUnread, here, AllLabelled, AllTunnelled, Conflict}
-use Rattle.plan.proofs.Counts.{SameFlow, same-flow, flow-same}
 use Rattle.plan.proofs.Items.{Threes, flowBy, among-listed, listed-among, each}
-
--- Refusals in their order: a step's number is DONE exactly when what it asks holds, and any other exactly for a reason.
-pub record Step (m : ℕ) (P : Type 0) (R : ℕ → Type 0) : Type 0 where
-  pub done : (m ≡ DONE) ↔ P
-  pub fault : (k : ℕ) → k ≢ DONE → (m ≡ k) ↔ R k
-
-next-is : (m n k : ℕ) → orNext m n ≡ k → ((m ≡ k) × (m ≢ DONE)) ⊎ ((m ≡ DONE) × (n ≡ k))
-unfolding orNext
-next-is m n k h = ⊎-elim (λ a. inr (eqb-true _ _ (a .0), a .1)) (λ a. inl (a .1, eqb-false _ _ (a .0))) (picked _ _ _ _ h)
-
-stays : (m n k : ℕ) → k ≢ DONE → m ≡ k → orNext m n ≡ k
-unfolding orNext
-stays m n k d h = pick-false _ _ _ (ne-eqb _ _ (λ e. d (sym h ∙ e))) ∙ h
-
-goes-on : (m n k : ℕ) → m ≡ DONE → n ≡ k → orNext m n ≡ k
-unfolding orNext
-goes-on m n k d h = pick-true _ _ _ (eq-eqb _ _ d) ∙ h
-
-next-done : (m n : ℕ) → (orNext m n ≡ DONE) ↔ ((m ≡ DONE) × (n ≡ DONE))
-next-done m n = (λ h. ⊎-elim (λ a. absurd (a .1 (a .0))) (λ a. a) (next-is m n DONE h), λ h. goes-on m n DONE (h .0) (h .1))
-
-module _ {m n : ℕ} {P Q : Type 0} {R S : ℕ → Type 0} where
-  step-next : Step m P R → (P → Step n Q S) → Step (orNext m n) (P × Q) (λ k. R k ⊎ (P × S k))
-  step-next s t =
-      record {
-        done = (
-          λ h. let a = next-done m n .0 h in let p = s .done .0 (a .0) in (p, t p .done .0 (a .1)),
-          λ x. goes-on m n DONE (s .done .1 (x .0)) (t (x .0) .done .1 (x .1)),
-        );
-        fault = λ k d. (
-          λ h. ⊎-elim (λ a. inl (s .fault k d .0 (a .0))) (λ a. let p = s .done .0 (a .0) in inr (p, t p .fault k d .0 (a .1))) (next-is m n k h),
-          λ x. ⊎-elim (λ r. stays m n k d (s .fault k d .1 r)) (λ y. goes-on m n k (s .done .1 (y .0)) (t (y .0) .fault k d .1 (y .1))) x,
-        );
-      }
-
-step-one : (m k : ℕ) (P : Type 0) → (m ≡ DONE) ↔ P → (m ≢ DONE → m ≡ k) → Step m P (λ n. (n ≡ k) × (P → ⊥))
-step-one m k P done h =
-    record {
-      done = done;
-      fault = λ n d. (λ e. (sym e ∙ h (λ z. d (sym e ∙ z)), λ p. d (sym e ∙ done .1 p)), λ x. h (λ z. x .1 (done .0 z)) ∙ sym (x .0));
-    }
-
-step-as : {m : ℕ} {P Q : Type 0} {R S : ℕ → Type 0} → Step m P R → P ↔ Q → ((k : ℕ) → R k ↔ S k) → Step m Q S
-step-as s p r =
-    record {
-      done = (λ e. p .0 (s .done .0 e), λ q. s .done .1 (p .1 q));
-      fault = λ k d. (λ e. r k .0 (s .fault k d .0 e), λ x. s .fault k d .1 (r k .1 x));
-    }
-
-pick-done : (b : Bool) (n : ℕ) → n ≢ DONE → (pick b n DONE ≡ DONE) ↔ (b ≡ false)
-unfolding pick
-pick-done true n d = (λ h. absurd (d h), λ h. absurd (opposite {b = true} refl h))
-pick-done false n d = (λ h. refl, λ h. refl)
-
-done-pick : (b : Bool) (n : ℕ) → n ≢ DONE → (pick b DONE n ≡ DONE) ↔ (b ≡ true)
-unfolding pick
-done-pick true n d = (λ h. refl, λ h. refl)
-done-pick false n d = (λ h. absurd (d h), λ h. absurd (opposite {b = true} refl (sym h)))
-
-pick-number : (b : Bool) (k : ℕ) → pick b DONE k ≢ DONE → pick b DONE k ≡ k
-unfolding pick
-pick-number true k d = absurd (d refl)
-pick-number false k d = refl
-
-number-pick : (b : Bool) (k : ℕ) → pick b k DONE ≢ DONE → pick b k DONE ≡ k
-unfolding pick
-number-pick true k d = refl
-number-pick false k d = absurd (d refl)
+use Rattle.plan.proofs.Conflicts.{clash, agreeing}
+use Rattle.plan.proofs.OrderedRefusals.{Step, next-is, stays, goes-on, next-done, step-next, step-one, step-as, pick-done, done-pick, pick-number, number-pick}
 
 -- a test of every flow
 first-done : (fault : ListedFlow → ℕ) (fs : List ListedFlow) → firstFault fault fs ≡ DONE → (f : ListedFlow) → Among f fs → fault f ≡ DONE
@@ -129,49 +59,6 @@ step-each fault k P fs h =
     step-one (firstFault fault fs) k ((f : ListedFlow) → Among f fs → P f)
     (λ e f m. h f m .0 .0 (first-done fault fs e f m), λ p. done-first fault fs (λ f m. h f m .0 .1 (p f m)))
     (first-number fault k fs (λ f m. h f m .1))
-
--- conflicts
-
-differs : (b : Bool) → not b ≡ true → b ≡ false
-differs true e = sym e
-differs false e = refl
-
-clash : (f : ListedFlow) (fs : List ListedFlow) → clashes f fs ≡ true → (g : ListedFlow) × Among g fs × SameFlow f g × (f .wanted ≡ g .wanted → ⊥)
-unfolding clashes
-clash f [] h = absurd (opposite {b = true} refl (sym h))
-clash f (g ∷ fs) h =
-    ⊎-elim
-    (λ t. let b = both-held _ _ t in (g, first refl, same-flow f g (b .0), λ e. opposite (same-of-equal _ _ e) (differs _ (b .1))))
-    (λ t. let r = clash f fs t in (r .0, later (r .1), r .2, r .3))
-    (either-true _ _ h)
-
-no-clash : (f : ListedFlow) (fs : List ListedFlow) → clashes f fs ≡ false → (g : ListedFlow) → Among g fs → SameFlow f g → f .wanted ≡ g .wanted
-unfolding clashes
-no-clash f (k ∷ fs) n g (first e) s =
-    let at : both (sameFlow f g) (not (same (f .wanted) (g .wanted))) ≡ false = rw e (either-false-left _ _ n) in
-    tested (same (f .wanted) (g .wanted))
-    (λ t. same-equal _ _ t)
-    (λ d. absurd (opposite (both-true _ _ (flow-same f g s) (ap not d)) at))
-no-clash f (k ∷ fs) n g (later m) s = no-clash f fs (either-false-right _ _ n) g m s
-
-swapped : {f g : ListedFlow} → SameFlow f g → SameFlow g f
-swapped s = record { source = sym (s .source); group = sym (s .group) }
-
-agreeing : (fs : List ListedFlow) → conflicts fs ≡ false → (f g : ListedFlow) → Among f fs → Among g fs → SameFlow f g → f .wanted ≡ g .wanted
-unfolding conflicts
-agreeing [] n f g a b s = absurd (among-none a)
-agreeing (k ∷ fs) n f g a b s =
-    let at = no-clash k fs (either-false-left _ _ n) in
-    ⊎-elim
-    (λ e. ⊎-elim
-    (λ d. ap (λ (x : ListedFlow). x .wanted) (e ∙ sym d))
-    (λ y. ap (λ (x : ListedFlow). x .wanted) e ∙ at g y (subst (λ x. SameFlow x g) e s))
-    (among-cases b))
-    (λ x. ⊎-elim
-    (λ d. sym (ap (λ (x : ListedFlow). x .wanted) d ∙ at f x (subst (λ z. SameFlow z f) d (swapped s))))
-    (λ y. agreeing fs (either-false-right _ _ n) f g x y s)
-    (among-cases b))
-    (among-cases a)
 
 -- the steps
 

@@ -1,5 +1,6 @@
 -- Laws of document 01's definitions.
 pub mod Lookups
+pub mod Increases
 pub mod Behind
 pub mod SPmsi
 pub mod Matching

@@ -4,3 +4,4 @@ pub mod Installs
 pub mod Withdraws
 pub mod Followings
 pub mod Renews
+pub mod RenewCalls

@@ -24,6 +24,7 @@ use Rattle.plan.specs.Rules.JudgeRule.{Accepted, JudgeLong, JudgeDone, J
 use Rattle.plan.proofs.Items.{list-threes, among-listed}
 use Rattle.plan.proofs.Reading.{flows-why, why-flows, why-some, flows-good, good-flows}
 use Rattle.plan.proofs.Proposals.{accepted-places}
+use Rattle.plan.proofs.Statements.ProposedTables.{proposed-told}
 
 -- each of the good flows is one that a match takes
 pub flow-good : (afi : ℕ) (vrf : Vrf) (flows : List ℕ) (Long : Type 0) (items : List Item) → GoodFlows afi vrf flows Long items → (f : ListedFlow) → Among f (flowsIn items) → GoodFlow afi (asking vrf f)
@@ -91,4 +92,4 @@ module _ (afi : ℕ) (vrf : Vrf) (flows places : List ℕ) where
       done (λ d. (_, judged-places (d .items) (d .takes))) (λ n e. ap (λ (o : Outcome Bool). judgedBy o .accepted) e ∙ none-judged n)
 
 pub judgeRule : JudgeRule
-judgeRule = record { arguments = λ p o d. (refl, refl, refl); answers = answers }
+judgeRule = record { arguments = λ p o d. (refl, refl, refl); answers = answers; inTable = proposed-told }

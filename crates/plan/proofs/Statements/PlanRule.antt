@@ -1,20 +1,20 @@
 -- What is stated of the planner.
 use Prim.Native.Nat.{ℕ, zero, suc, _+_, _*_, _≤_, _<_}
-use mathlib.Core.Path.{_≡_, refl, sym, ap, ap₂, _∙_, subst}
+use mathlib.Core.Path.{_≡_, refl, sym, ap, _∙_, subst}
 use mathlib.Core.Bool.{Bool, true, false}
-use mathlib.Core.List.{List, [], _∷_, _++_, append-nil}
+use mathlib.Core.List.{List, [], _++_, append-nil}
 use mathlib.Core.Logic.{_↔_, _≢_, ⊎-elim}
 use native.Mathlib.Omega.{arith}
 use lib.ListN.{length, getD, take, drop}
-use lib.Dec.{leb, eqb}
-use borrow.Author.Tests.{leb-true, leb-false, le-leb, lt-leb, eqb-false}
+use lib.Dec.{leb}
+use borrow.Author.Tests.{leb-true, leb-false, le-leb, lt-leb}
 use Rattle.octets.specs.Numbers.{DONE}
 use Rattle.octets.specs.Choice.{pick, both}
 use Rattle.octets.specs.Outcome.{Outcome, given, refused, onOutcome, numberOf}
 use Rattle.octets.specs.Octets.{AllOctets, part, front}
 use Rattle.octets.specs.Order.{same}
 use Rattle.octets.specs.Rules.Answering.{Answering}
-use Rattle.octets.specs.Lists.{Among, first, later}
+use Rattle.octets.specs.Lists.{Among, first}
 use Rattle.octets.proofs.Choice.{tested, opposite, both-true, both-left, pick-true, pick-false}
 use Rattle.octets.proofs.Outcome.{given-unless, refuses-unless, goes, stops, passed, stopped}
 use Rattle.octets.proofs.Orders.{same-equal, same-of-equal}
@@ -24,28 +24,29 @@ use Rattle.octets.proofs.Lists.{length-front, take-front, past-front, part-octe
 use Rattle.octets.proofs.Answering.{answering}
 use Rattle.lists.specs.LentLists.{Item, itemField, frontNumber, frontField, afterField, frontItem, afterItem, frontItems, listCount, listItems, readList}
 use Rattle.lists.proofs.Items.{read-list-given, list-items-count}
-use Rattle.routes.specs.Route.{Route, nlriOf, attributeOf, staleOf}
-use Rattle.routes.specs.Place.{AllAcceptable, acceptable, placeSound}
+use Rattle.routes.specs.Route.{Route, nlriOf, attributeOf}
+use Rattle.routes.specs.Place.{AllAcceptable}
 use Rattle.routes.specs.Table.{placesOf, routesFrom}
-use Rattle.routes.specs.Rules.SoundRule.{routeInPlace}
 use Rattle.routes.proofs.Definitions.Bounds.{read-acceptable}
-use Rattle.routes.proofs.Definitions.Places.{length-places, routes-from, sound-placeOf, first-place, other-places}
+use Rattle.routes.proofs.Definitions.Places.{length-places, routes-from}
 use Rattle.routes.proofs.Statements.ArgumentRules.{argumentRule}
-use Rattle.plan.specs.Flows.{Vrf, ListedFlow, flowIn, flowsIn, different}
+use Rattle.plan.specs.Flows.{Vrf, ListedFlow, flowIn, flowsIn}
 use Rattle.plan.specs.Commonest.{others}
 use Rattle.plan.specs.Judging.{soundPlaces}
-use Rattle.plan.specs.Planning.{routeFor, routesFor, proposal}
+use Rattle.plan.specs.Planning.{proposal}
 use Rattle.plan.specs.Calls.{judgedBy, judgeOf, planOutcome, plannedBy, planOf}
 use Rattle.plan.specs.Rules.FlowsRule.{Listed, GoodFlows}
-use Rattle.plan.specs.Rules.JudgeRule.{Proposes, nothingMore, onePlace, Served, Accepted, JudgeLong}
-use Rattle.plan.specs.Rules.PlanRule.{HasOthers, EachOnce, DifferentOthers, PlanRefusal, badFlows, noSpace, PlanDone, PlanNothing, PlanRule}
-use Rattle.plan.proofs.Counts.{SameFlow, Apart, among-different, different-among, different-apart, others-among, among-others, plan-fits, plan-least}
-use Rattle.plan.proofs.Items.{Threes, list-threes, flowBy, among-listed, listed-among, each, flows-count}
+use Rattle.plan.specs.Rules.JudgeRule.{Proposes, Served, Accepted, JudgeLong}
+use Rattle.plan.specs.Rules.PlanRule.{PlanRefusal, badFlows, noSpace, PlanDone, PlanNothing, PlanRule}
+use Rattle.plan.proofs.Counts.{plan-fits}
+use Rattle.plan.proofs.Items.{Threes, list-threes, among-listed, each, flows-count}
 use Rattle.plan.proofs.Reading.{flows-why, why-flows, why-some, flows-good, good-flows}
 use Rattle.plan.proofs.Judges.{distinct-none}
 use Rattle.plan.proofs.Proposals.{sound-proposes, accepted-places}
 use Rattle.plan.proofs.Plans.{Plannable, AcceptedPlan, proposal-accepted}
 use Rattle.plan.proofs.Statements.JudgeRule.{flow-good, judged-places}
+use Rattle.plan.proofs.Statements.OtherFlows.{pairs-have, different-others, none-proposed}
+use Rattle.plan.proofs.Statements.ProposedPlaces.{routes-acceptable, places-sound, proposal-unmarked, unmarked}
 
 -- flows of a list of octets have octets
 
@@ -98,115 +99,6 @@ plannable afi vrf flows Long items originates distinguishes listed g =
       octets = (originates, distinguishes);
       each = flow-octets flows items (g .taken .read) listed;
     }
-
--- routes that are proposed, as places
-
-routes-acceptable : (afi : ℕ) (vrf : Vrf) (rs : List Route) → ((r : Route) → Among r rs → acceptable afi r ≡ true) → AllAcceptable afi rs
-routes-acceptable afi vrf [] h = AllAcceptable.none
-routes-acceptable afi vrf (r ∷ rs) h = AllAcceptable.one (h r (first refl)) (routes-acceptable afi vrf rs (λ q m. h q (later m)))
-
-places-sound : (afi : ℕ) (rs : List Route) (z : List ℕ) → AllAcceptable afi rs → soundPlaces afi (length rs) (placesOf rs ++ z) ≡ true
-unfolding soundPlaces
-places-sound afi [] z AllAcceptable.none = refl
-places-sound afi (r ∷ rs) z (AllAcceptable.one h a) =
-    both-true _ _ (ap (placeSound afi) (first-place afi r rs z h) ∙ sound-placeOf afi r h) (ap (soundPlaces afi (length rs)) (other-places afi r rs z h) ∙ places-sound afi rs z a)
-
-routes-unmarked : (vrf : Vrf) (fs : List ListedFlow) (r : Route) → Among r (routesFor vrf fs) → staleOf r ≡ false
-unfolding routesFor routeFor staleOf
-routes-unmarked vrf [] r m = absurd (among-none m)
-routes-unmarked vrf (f ∷ fs) r m = ⊎-elim (λ e. ap staleOf e) (λ k. routes-unmarked vrf fs r k) (among-cases m)
-
-proposal-unmarked : (vrf : Vrf) (fs : List ListedFlow) (r : Route) → Among r (proposal vrf fs) → staleOf r ≡ false
-unfolding proposal
-proposal-unmarked vrf [] r m = absurd (among-none m)
-proposal-unmarked vrf (f ∷ fs) r m = routes-unmarked vrf _ r m
-
--- no mark where no route is marked
-
-unset : (n : ℕ) → n ≤ 1 → eqb n 1 ≡ false → n ≡ 0
-unset zero h e = refl
-unset (suc n) h e = absurd (eqb-false (suc n) 1 e (omega arith))
-
-unmarked : (afi : ℕ) (s : List ℕ) {at : ℕ} {rs : List Route} → Proposes afi s at rs → ((r : Route) → Among r rs → staleOf r ≡ false) → (i : ℕ) → i < length rs → getD s (at + 128 * i + 127) 0 ≡ 0
-unfolding staleOf
-unmarked afi s (nothingMore e) off i less = absurd (omega arith)
-unmarked afi s (onePlace {at} {rs} held rest) off zero less =
-    let e : at + 128 * zero + 127 ≡ at + 127 = omega arith in
-    ap (λ (k : ℕ). getD s k 0) e ∙ unset (getD s (at + 127) 0) (held .marked) (off (routeInPlace s at) (first refl))
-unmarked afi s (onePlace {at} {rs} held rest) off (suc i) less =
-    let e : at + 128 * suc i + 127 ≡ at + 128 + 128 * i + 127 = omega arith in
-    ap (λ (k : ℕ). getD s k 0) e ∙ unmarked afi s rest (λ r m. off r (later m)) i (omega arith)
-
--- how many routes
-
-item-among : {x : Item} {xs : List Item} → Among x xs → Among (flowIn x) (flowsIn xs)
-unfolding flowsIn
-item-among (first e) = first (ap flowIn e)
-item-among (later m) = later (item-among m)
-
-pairs-have : (vrf : Vrf) (attribute : List ℕ) (items pairs : List Item) → Threes items → HasOthers attribute items pairs → length (proposal vrf (flowsIn items)) ≤ 1 + length pairs
-unfolding flowIn itemField
-pairs-have vrf attribute items pairs three has =
-    let h =
-    plan-least vrf (flowsIn items) (flowsIn pairs) attribute
-    (λ f m d. (flowIn (f .source ∷ (f .group ∷ [])), item-among (has (f .source) (f .group) (f .wanted) (among-listed three f m) d), refl, refl)) in
-    omega (arith, flows-count pairs)
-
--- the flows that want another attribute, listed each once
-
-pairOf : ListedFlow → Item
-pairOf f = f .source ∷ (f .group ∷ [])
-
-pairsOf : List ListedFlow → List Item
-pairsOf [] = []
-pairsOf (f ∷ fs) = pairOf f ∷ pairsOf fs
-
-pair-among : {f : ListedFlow} {fs : List ListedFlow} → Among f fs → Among (pairOf f) (pairsOf fs)
-unfolding pairsOf
-pair-among (first e) = first (ap pairOf e)
-pair-among (later m) = later (pair-among m)
-
-among-pair : (fs : List ListedFlow) {x : Item} → Among x (pairsOf fs) → (f : ListedFlow) × Among f fs × (x ≡ pairOf f)
-unfolding pairsOf
-among-pair [] m = absurd (among-none m)
-among-pair (f ∷ fs) {x} m =
-    ⊎-elim {C = (g : ListedFlow) × Among g (f ∷ fs) × (x ≡ pairOf g)} (λ e. (f, first refl, e)) (λ k. let r = among-pair fs k in (r .0, later (r .1), r .2)) (among-cases m)
-
-pair-same : (f g : ListedFlow) → pairOf f ≡ pairOf g → SameFlow f g
-unfolding pairOf
-pair-same f g e = record { source = ap (λ (x : Item). getD x 0 []) e; group = ap (λ (x : Item). getD x 1 []) e }
-
-same-pair : (f g : ListedFlow) → SameFlow f g → pairOf f ≡ pairOf g
-unfolding pairOf
-same-pair f g s = ap₂ (λ (x y : List ℕ). x ∷ (y ∷ [])) (s .source) (s .group)
-
-apart-once : {fs : List ListedFlow} → Apart fs → EachOnce (pairsOf fs)
-unfolding pairsOf
-apart-once Apart.none = EachOnce.none
-apart-once (Apart.one {f} {fs} h a) = EachOnce.one (λ m. let r = among-pair fs m in h (r .0) (r .1) (pair-same f (r .0) (r .2))) (apart-once a)
-
-different-others : (attribute flows : List ℕ) (items : List Item) → readList 3 flows ≡ given items → (pairs : List Item) × DifferentOthers attribute items pairs
-unfolding pairOf
-different-others attribute flows items read =
-    let three = list-threes flows items read in
-    let fs : List ListedFlow = others attribute (flowsIn items) in (
-      pairsOf (different fs),
-      record {
-        all = λ s g w m d.
-            let o = among-others attribute (flowsIn items) (flowBy s g w) (listed-among s g w m) (tested (same w attribute) (λ t. absurd (d (same-equal _ _ t))) (λ n. n)) in
-            let r = among-different fs (flowBy s g w) o in
-            subst (λ (x : Item). Among x (pairsOf (different fs))) (sym (same-pair (flowBy s g w) (r .0) (r .2))) (pair-among (r .1));
-        only = λ x m.
-            let r = among-pair (different fs) m in
-            let o = others-among attribute (flowsIn items) (r .0) (different-among fs (r .0) (r .1)) in
-            (r .0 .source, r .0 .group, r .0 .wanted, r .2, among-listed three (r .0) (o .0), o .1);
-        once = apart-once (different-apart fs);
-      },
-    )
-
-none-proposed : (vrf : Vrf) → length (proposal vrf (flowsIn [])) ≡ 0
-unfolding proposal flowsIn
-none-proposed vrf = refl
 
 -- what is answered
 

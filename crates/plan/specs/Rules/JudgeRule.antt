@@ -2,13 +2,19 @@
 use Prim.Native.Nat.{ℕ, _+_, _<_}
 use mathlib.Core.Path.{_≡_}
 use mathlib.Core.List.{List, [], _∷_}
-use mathlib.Core.Logic.{_⊎_, _≢_}
+use mathlib.Core.Logic.{_↔_, _⊎_, _≢_}
 use lib.ListN.{length}
+use Rattle.octets.specs.Octets.{part}
+use Rattle.octets.specs.Outputs.{Changed}
 use Rattle.octets.specs.Rules.Answering.{Answering}
 use Rattle.octets.specs.Lists.{Among}
 use Rattle.lists.specs.LentLists.{Item, listCount}
 use Rattle.routes.specs.Route.{Route, nlriOf, attributeOf}
+use Rattle.routes.specs.declared.Matched.{Matched}
 use Rattle.routes.specs.Query.{flowOf}
+use Rattle.routes.specs.Asked.{ofFlow}
+use Rattle.routes.specs.Table.{afiIn, routesOf}
+use Rattle.routes.specs.Calls.{matchOf}
 use Rattle.routes.specs.Rules.ArgumentRules.{SPmsiOf}
 use Rattle.routes.specs.Rules.MatchRule.{InTier, Taken}
 use Rattle.routes.specs.Rules.SoundRule.{routeInPlace, PlaceHolds}
@@ -67,3 +73,8 @@ pub record JudgeRule : Type 0 where
   pub answers : (afi : ℕ) (vrf : Vrf) (flows places : List ℕ)
       → Answering (judgeOf afi vrf flows places .number) (FlowsRefusal afi vrf flows (JudgeLong flows places)) (JudgeDone afi vrf flows places (judgeOf afi vrf flows places))
       (judgeOf afi vrf flows places .accepted ≡ 0)
+  -- in a table that has the routes of an accepted proposal and no others, each flow's match, where it is done, tells the attribute wanted
+  pub inTable : (t output : List ℕ) (vrf : Vrf) (items : List Item) (places : List ℕ) (accepted : Accepted (afiIn t) vrf items places)
+      → ((r : Route) → Among r (routesOf t) ↔ Among r (accepted .routes)) → (source group wanted : List ℕ) → Listed source group wanted items
+      → let changed : Changed Matched = matchOf t (ofFlow (flowOf (vrf .prefixes) (vrf .originator) source group)) output in
+        changed .answer .number ≡ 0 → part (changed .octets) (changed .answer .«nlri_size») (changed .answer .«attribute_size») ≡ wanted

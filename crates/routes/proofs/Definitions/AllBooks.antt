@@ -15,7 +15,8 @@ use Rattle.routes.specs.Call.{Call, Owner, nobody, owner, originatorOf, 
 use Rattle.routes.specs.Book.{bookAfter, fed, ownCalls, bookOf, isAmong, onceEach, withOwner, routersOf, gathered, allBooks}
 use Rattle.routes.specs.Run.{namedIn, namedBy, Fits}
 use Rattle.octets.specs.Lists.{Among, first, later, Once, chosen}
-use Rattle.routes.proofs.Definitions.Lookups.{lookup-none, lookup-first, lookup-later, lookup-own, lookup-cases, lookup-arranged, held-or-absent, held-absent, held-holds, increasing-arranged, distinct-increasing, acceptable-arranged, acceptable-member}
+use Rattle.routes.proofs.Definitions.Lookups.{lookup-none, lookup-first, lookup-later, lookup-own, lookup-cases, lookup-arranged, held-or-absent, held-absent, held-holds}
+use Rattle.routes.proofs.Definitions.Increases.{increasing-arranged, distinct-increasing, acceptable-arranged, acceptable-member}
 use Rattle.octets.proofs.Among.{among-left, among-right, among-cases}
 use Rattle.routes.proofs.Definitions.OnceEach.{is-among-true, among-is-among, among-once-each, once-once-each, routes-fewer}
 use Rattle.octets.proofs.Chosen.{chosen-first, chosen-later}

@@ -11,7 +11,8 @@ use Rattle.octets.proofs.Choice.{opposite, pick-case}
 use Rattle.octets.proofs.Orders.{same-of-equal}
 use Rattle.routes.specs.Route.{Route, nlriOf, held, absent, lookup, holds, inserted, arranged, Increasing}
 use Rattle.routes.specs.Place.{acceptable, AllAcceptable, none, one}
-use Rattle.routes.proofs.Definitions.Lookups.{held-absent, held-or-absent, lookup-none, lookup-own, lookup-first, lookup-later, lookup-behind, lookup-cases, lookup-inserted, lookup-arranged, holds-absent, absent-holds, increasing-equal, increasing-inserted}
+use Rattle.routes.proofs.Definitions.Lookups.{held-absent, held-or-absent, lookup-none, lookup-own, lookup-first, lookup-later, lookup-behind, lookup-cases, lookup-inserted, lookup-arranged, holds-absent, absent-holds}
+use Rattle.routes.proofs.Definitions.Increases.{increasing-equal, increasing-inserted}
 
 -- what they hold
 

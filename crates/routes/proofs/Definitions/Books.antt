@@ -13,7 +13,8 @@ use Rattle.routes.specs.Place.{AllAcceptable}
 use Rattle.routes.specs.Call.{Call, owner, originatorOf, ownerOf, Act, enter, leave, renew, ask, argued}
 use Rattle.routes.specs.Book.{actAfter, bookAfter}
 use Rattle.routes.specs.Run.{namedIn}
-use Rattle.routes.proofs.Definitions.Lookups.{held-absent, lookup-entered, lookup-removed, distinct-entered, distinct-removed, acceptable-entered, acceptable-removed}
+use Rattle.routes.proofs.Definitions.Lookups.{held-absent, lookup-entered, lookup-removed, distinct-entered, distinct-removed}
+use Rattle.routes.proofs.Definitions.Increases.{acceptable-entered, acceptable-removed}
 use Rattle.routes.proofs.Definitions.Ownership.{owned-by}
 use Rattle.routes.proofs.Definitions.Restarts.{heldRenewed, renewed-absent, lookup-renewed, distinct-renewed, acceptable-renewed}
 use Rattle.routes.proofs.Definitions.Acts.{Known, enters, leaves, renews, asks, argued-cases}

@@ -12,7 +12,8 @@ use Rattle.routes.specs.Route.{Route, nlriOf, holds, inserted, removed}
 use Rattle.routes.specs.Place.{acceptable}
 use Rattle.routes.specs.Rules.Images.{Holdable}
 use Rattle.routes.proofs.Definitions.Bounds.{sizes-of}
-use Rattle.routes.proofs.Definitions.Lookups.{absent-holds, increasing-inserted, increasing-removed, acceptable-inserted, acceptable-removed, length-inserted-new, length-inserted-held, length-removed-held, removed-absent}
+use Rattle.routes.proofs.Definitions.Lookups.{absent-holds, removed-absent}
+use Rattle.routes.proofs.Definitions.Increases.{increasing-inserted, increasing-removed, acceptable-inserted, acceptable-removed, length-inserted-new, length-inserted-held, length-removed-held}
 
 module _ (afi places : ℕ) (rs : List Route) (h : Holdable afi places rs) where
   inserted-within : (r : Route) → (holds (nlriOf r) rs ≡ true) ⊎ (length rs < places) → length (inserted r rs) ≤ places

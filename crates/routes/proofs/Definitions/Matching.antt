@@ -9,3 +9,4 @@ pub mod Without
 pub mod OnePass
 pub mod Flows
 pub mod SharedTrees
+pub mod Eligible

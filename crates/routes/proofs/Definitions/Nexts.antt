@@ -13,7 +13,8 @@ use Rattle.routes.specs.Route.{Route, nlriOf, Increasing, last, next}
 use Rattle.routes.specs.Matching.{Found, nothing, found}
 use Rattle.routes.specs.Next.{nextIn}
 use Rattle.routes.specs.Rules.NextRule.{ComesNext, NoneNext}
-use Rattle.routes.proofs.Definitions.Lookups.{one-member, distinct-increasing}
+use Rattle.routes.proofs.Definitions.Lookups.{one-member}
+use Rattle.routes.proofs.Definitions.Increases.{distinct-increasing}
 
 pub next-here : (n : List ℕ) (r : Route) (rs : List Route) → before n (nlriOf r) ≡ true → nextIn n (r ∷ rs) ≡ found 0 r
 unfolding nextIn

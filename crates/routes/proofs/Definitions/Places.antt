@@ -12,7 +12,7 @@ use Rattle.octets.specs.Octets.{part}
 use Rattle.octets.specs.Choice.{pick}
 use Rattle.octets.specs.Order.{zeros, allZero}
 use Rattle.octets.proofs.Choice.{tested, pick-true, pick-false, both-true-left, both-true-right, both-true}
-use Rattle.octets.proofs.Orders.{zeros-all, all-zeros}
+use Rattle.octets.proofs.Zeros.{zeros-all, all-zeros}
 use Rattle.routes.specs.Route.{Route, entry, nlriOf, attributeOf, staleOf, withMark, Increasing, last, next}
 use Rattle.routes.specs.Place.{PLACE, markOctet, placeOf, endIn, routeIn, acceptable, placeSound, AllAcceptable, none, one}
 use Rattle.routes.specs.Table.{placesOf, routesFrom, placesSound}

@@ -22,7 +22,8 @@ use Rattle.routes.specs.Restart.{RestartCall, markLeft, renewed, goneOf}
 use Rattle.routes.specs.Call.{nobody, owner, originatorOf, ownedBy}
 use Rattle.routes.specs.Rules.ArgumentRules.{SPmsiOf}
 use Rattle.routes.specs.Rules.CallRules.{Renewed}
-use Rattle.routes.proofs.Definitions.Lookups.{held-absent, lookup-none, lookup-first, lookup-later, lookup-own, holds-held, lookup-removed, lookup-member, lookup-of-member, distinct-removed, increasing-from, length-removed-held}
+use Rattle.routes.proofs.Definitions.Lookups.{held-absent, lookup-none, lookup-first, lookup-later, lookup-own, holds-held, lookup-removed, lookup-member, lookup-of-member, distinct-removed}
+use Rattle.routes.proofs.Definitions.Increases.{increasing-from, length-removed-held}
 use Rattle.routes.proofs.Definitions.Ownership.{owned-by, owned-itself, originated, originator}
 
 -- an NLRI is of a router

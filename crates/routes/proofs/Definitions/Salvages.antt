@@ -23,7 +23,8 @@ use Rattle.routes.specs.Rules.Images.{Holdable}
 use Rattle.routes.specs.Salvage.{placeAt, goodOf, keptRoutes, BAD, REPEATED, reasonOf, reasonAt, Dropped, dropped, droppedOf, droppedOctets, listOf}
 use Rattle.routes.proofs.Definitions.Bounds.{sizes-of}
 use Rattle.routes.proofs.Definitions.Places.{sound-acceptable}
-use Rattle.routes.proofs.Definitions.Lookups.{held-same, held-absent, held-or-absent, lookup-none, lookup-own, lookup-member, lookup-of-member, lookup-arranged, holds-alike, distinct-increasing, increasing-arranged, acceptable-member, acceptable-arranged}
+use Rattle.routes.proofs.Definitions.Lookups.{held-same, held-absent, held-or-absent, lookup-none, lookup-own, lookup-member, lookup-of-member, lookup-arranged, holds-alike}
+use Rattle.routes.proofs.Definitions.Increases.{distinct-increasing, increasing-arranged, acceptable-member, acceptable-arranged}
 use Rattle.routes.proofs.Definitions.Behind.{lookup-front, lookup-past, arranged-held, arranged-new, length-arranged, acceptable-last}
 
 -- a good place by its number

@@ -21,7 +21,8 @@ use Rattle.routes.specs.Run.{stepOf, endOf}
 use Rattle.routes.specs.Rules.ArgumentRules.{SPmsiOf}
 use Rattle.routes.specs.Rules.CallRules.{HeldNow}
 use Rattle.routes.specs.Rules.LastInstalled.{Came, here, behind, Restarts, isAccepted, Ends, byInstall, byWithdrawal, byRestart, LastInstall}
-use Rattle.routes.proofs.Definitions.Lookups.{held-absent, distinct-increasing}
+use Rattle.routes.proofs.Definitions.Lookups.{held-absent}
+use Rattle.routes.proofs.Definitions.Increases.{distinct-increasing}
 use Rattle.routes.proofs.Definitions.Ownership.{owned-by, owned-itself, originated, originator}
 use Rattle.routes.proofs.Definitions.Restarts.{mine, renewedHeld, renewed-held, lookup-renewed}
 use Rattle.routes.proofs.Statements.Images.{sound-holdable}

@@ -33,7 +33,8 @@ use Rattle.routes.specs.Rules.Images.{TableOf}
 use Rattle.routes.specs.Rules.CallRules.{IsHeld, Installable, InstallDone, isReplaced, isNew}
 use Rattle.routes.specs.Rules.MatchRule.{NamesTunnel, Eligible, Told, Untold, MatchAnswer, oneTold, noneTold}
 use Rattle.routes.specs.Rules.DisturbanceRule.{IsAnswered, Conditions, RouteAnswered, Effect, unchanged, replaces, becomes, Undisturbed, DisturbanceRule}
-use Rattle.routes.proofs.Definitions.Lookups.{held-absent, held-same, lookup-of-member, one-member, distinct-increasing}
+use Rattle.routes.proofs.Definitions.Lookups.{held-absent, held-same, lookup-of-member, one-member}
+use Rattle.routes.proofs.Definitions.Increases.{distinct-increasing}
 use Rattle.routes.proofs.Definitions.Ownership.{owners-same, originator}
 use Rattle.routes.proofs.Definitions.Matching.First.{First, first-is, first-least, first-range}
 use Rattle.routes.proofs.Definitions.Matching.Without.{TakesOther, match-removed, match-inserted, staysAt, stays-not, matched-renewed}

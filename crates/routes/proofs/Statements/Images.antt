@@ -22,7 +22,7 @@ use Rattle.routes.specs.Calls.{makeOutcome, makeOf}
 use Rattle.routes.specs.Rules.ArgumentRules.{KnownFamily}
 use Rattle.routes.specs.Rules.Images.{Holdable, TableOf, Images}
 use Rattle.routes.proofs.Definitions.Headers.{length-header, afi-in, count-in, sound-headerOf, past-header, sound-family, sound-header, SizeOf, size-sound, sound-size, places-in}
-use Rattle.routes.proofs.Definitions.Lookups.{increasing-members}
+use Rattle.routes.proofs.Definitions.Increases.{increasing-members}
 use Rattle.routes.proofs.Definitions.Places.{length-zeros, length-places, routes-from, length-from, sound-placesOf, from-acceptable, increasing-routesFrom, from-places}
 
 -- what a sound table's tests say

@@ -18,7 +18,8 @@ use Rattle.routes.specs.Table.{routesOf, soundOf}
 use Rattle.routes.specs.Matching.{Found, nothing, found}
 use Rattle.routes.specs.Next.{nextIn, nextOf}
 use Rattle.routes.specs.Rules.NextRule.{ComesNext, NoneNext, nextUnsound, toldRoute, toldInTurn, Holds, InTurnRule}
-use Rattle.routes.proofs.Definitions.Lookups.{one-member, distinct-increasing}
+use Rattle.routes.proofs.Definitions.Lookups.{one-member}
+use Rattle.routes.proofs.Definitions.Increases.{distinct-increasing}
 use Rattle.routes.proofs.Definitions.Nexts.{increasing-after, IsNext, next-is, next-unique}
 use Rattle.routes.proofs.Statements.Images.{sound-holdable}
 use Rattle.routes.proofs.Statements.NextRule.{told-route, comes-told, none-told, nextRule}

@@ -22,7 +22,8 @@ use Rattle.routes.proofs.Statements.ArgumentRules.{argumentRule}
 use Rattle.routes.proofs.Statements.Decisions.{last-exactly}
 use Rattle.routes.proofs.Statements.Images.{images, sound-holdable}
 use Rattle.routes.proofs.Statements.InstallRules.{installRule, install-done, install-octets}
-use Rattle.routes.proofs.Definitions.Lookups.{lookupRule, lookup-none, lookup-member, lookup-of-member, distinct-increasing}
+use Rattle.routes.proofs.Definitions.Lookups.{lookupRule, lookup-none, lookup-member, lookup-of-member}
+use Rattle.routes.proofs.Definitions.Increases.{distinct-increasing}
 use Rattle.routes.proofs.Statements.MakeRules.{makeRule}
 use Rattle.routes.proofs.Statements.RestartRules.{restartRule, markRule, sweepRule, restart-octets}
 use Rattle.routes.proofs.Statements.WithdrawRules.{withdrawRule, withdraw-done, withdraw-octets}

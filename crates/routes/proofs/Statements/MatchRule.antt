@@ -28,7 +28,7 @@ use Rattle.routes.specs.Rules.ArgumentRules.{KnownFamily, GoodFlow, Flow
 use Rattle.routes.specs.Rules.MatchRule.{InTier, Eligible, Taken, NoneTaken, Told, Untold, MatchAnswer, oneTold, noneTold, MatchRefusal, matchUnsound, badMatch, TableMatch, TablesDifferInMarks, MatchRule}
 use Rattle.routes.proofs.Statements.ArgumentRules.{argumentRule, flow-passed}
 use Rattle.routes.proofs.Definitions.ByArguments.{number-asked}
-use Rattle.routes.proofs.Definitions.Lookups.{acceptable-member, distinct-increasing}
+use Rattle.routes.proofs.Definitions.Increases.{acceptable-member, distinct-increasing}
 use Rattle.routes.proofs.Definitions.Bounds.{Sized, sizes-of}
 use Rattle.routes.proofs.Statements.Images.{sound-holdable}
 use Rattle.routes.proofs.Definitions.Matching.Flows.{asked-router, flow-asked}

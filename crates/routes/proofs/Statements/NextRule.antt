@@ -23,7 +23,7 @@ use Rattle.routes.specs.Answers.{foundAnswer, foundOutput, matchedBy}
 use Rattle.routes.specs.Next.{nextIn, nextOutcome, foundMark, followingBy, nextOf}
 use Rattle.routes.specs.Rules.MatchRule.{Untold}
 use Rattle.routes.specs.Rules.NextRule.{ComesNext, NoneNext, asMatched, Tells, NextRefusal, nextUnsound, nextSpace, NextRule, toldRoute}
-use Rattle.routes.proofs.Definitions.Lookups.{acceptable-member}
+use Rattle.routes.proofs.Definitions.Increases.{acceptable-member}
 use Rattle.routes.proofs.Definitions.Bounds.{Sized, sizes-of}
 use Rattle.routes.proofs.Definitions.Nexts.{IsNext, next-is, comes-found, none-found}
 use Rattle.routes.proofs.Statements.Images.{sound-holdable}

@@ -1,5 +1,5 @@
 -- The reasons (specs/Rules/ReasonRule.antt): each is true of its tier, and no other is.
-use Prim.Native.Nat.{ℕ, zero, suc, _+_, _<_}
+use Prim.Native.Nat.{ℕ, zero, suc, _+_, _-_, _≤_, _<_}
 use mathlib.Core.Path.{_≡_, refl, sym, _∙_, subst}
 use mathlib.Core.Bool.{Bool, true, false}
 use mathlib.Core.List.{List}
@@ -11,7 +11,7 @@ use borrow.Author.Tests.{eqb-true, eqb-false, eq-eqb, ne-eqb, lt-ltb, ltb-true}
 use Rattle.octets.specs.Numbers.{DONE}
 use Rattle.octets.specs.Choice.{pick}
 use Rattle.octets.specs.Outcome.{given, onOutcome}
-use Rattle.octets.proofs.Choice.{opposite, pick-true, pick-false, pick-case, both-held, both-true}
+use Rattle.octets.proofs.Choice.{opposite, tested, pick-true, pick-false, pick-case, both-held, both-true}
 use Rattle.nlri.specs.Fields.{Fields}
 use Rattle.nlri.specs.Groups.{ASM, SSM, Multicast, groupOf}
 use Rattle.groups.specs.Classes.{classBy}
@@ -36,6 +36,12 @@ tier-counted (bothEqual s g) = omega arith
 tier-counted (sourceEqual s g ssm) = omega arith
 tier-counted (groupEqual s g asm) = omega arith
 tier-counted (bothWildcard s g) = omega arith
+
+tier-most : {afi : ℕ} {flow : Flow} {tier : ℕ} {f : Fields} → InTier afi flow tier f → tier ≤ 4
+tier-most (bothEqual s g) = omega arith
+tier-most (sourceEqual s g ssm) = omega arith
+tier-most (groupEqual s g asm) = omega arith
+tier-most (bothWildcard s g) = omega arith
 
 tier-allowed : {afi : ℕ} {flow : Flow} {tier : ℕ} {f : Fields} → InTier afi flow tier f → RuledOut afi (flow .prefixes) (flow .group) tier → ⊥
 tier-allowed (sourceEqual s g ssm) (anyGroup h) = h ssm
@@ -173,6 +179,34 @@ module _ (t : List ℕ) (flow : Flow) (output : List ℕ) where
     told : (i : ℕ) → i < 4 → Of (i + 1) (getD reasons i 0)
     told i h = rw are (by-tier i h)
 
+  -- the tier that a match answers: its route is taken with it, and told
+  won : MatchAnswer (afiIn t) (flow .router) (InTier (afiIn t) flow) output (routesOf t) matching → 0 < matching .answer .tier
+      → (r : Route) × Taken (afiIn t) (flow .router) (InTier (afiIn t) flow) (routesOf t) (matching .answer .tier) r × Told (matching .answer .tier) r output matching
+  won (oneTold tier r k s) some =
+      let is : tier ≡ matching .answer .tier = sym (s .ofTier) in
+      (r, subst (λ (n : ℕ). Taken (afiIn t) (flow .router) (InTier (afiIn t) flow) (routesOf t) n r) is k, subst (λ (n : ℕ). Told n r output matching) is s)
+  won (noneTold none done u) some = let z : matching .answer .tier ≡ 0 = u .tierless in absurd (omega arith)
+
+  module _ (some : 0 < matching .answer .tier) where
+    is-done : matching .answer .number ≡ DONE
+    is-done = tested (eqb (matching .answer .number) DONE) (λ e. eqb-true _ _ e) (λ f. let z : matching .answer .tier ≡ 0 = matchRule .table flow .untold t output (eqb-false _ _ f) .tierless in absurd (omega arith))
+
+    winner : (r : Route) × Taken (afiIn t) (flow .router) (InTier (afiIn t) flow) (routesOf t) (matching .answer .tier) r × Told (matching .answer .tier) r output matching
+    winner = won (matchRule .table flow .answers t output is-done) some
+
+    -- the reason of a tier, and one that is true of it
+    same-reason : (tier n : ℕ) → 0 < tier → tier ≤ 4 → Reason (afiIn t) flow (routesOf t) output matching tier n → getD reasons (tier - 1) 0 ≡ n
+    same-reason tier n low high r =
+        let at : tier - 1 + 1 ≡ tier = omega arith in
+        one-reason (afiIn t) flow (routesOf t) output matching tier _ n (subst (λ (k : ℕ). Reason (afiIn t) flow (routesOf t) output matching k (getD reasons (tier - 1) 0)) at (told is-done (tier - 1) (omega arith))) r
+
+    reason-taken : getD reasons (matching .answer .tier - 1) 0 ≡ 1
+    reason-taken = same-reason (matching .answer .tier) 1 some (tier-most (winner .1 .eligible .met)) (wasTaken (winner .0) (winner .1) (winner .2))
+
+    reason-after : (tier : ℕ) → matching .answer .tier < tier → tier ≤ 4 → getD reasons (tier - 1) 0 ≡ 4
+    reason-after tier past high =
+        same-reason tier 4 (omega arith) high (earlierWon (record { earlier = matching .answer .tier; less = past; met = met (afiIn t) flow (routesOf t) output matching (winner .1) }))
+
 -- marks change no reason
 marks : (t u : List ℕ) (flow : Flow) (output : List ℕ) → TablesDifferInMarks t u → explainOf t flow output ≡ explainOf u flow output
 unfolding explainOf
@@ -189,5 +223,7 @@ reasonRule =
       four = four;
       refused = refused;
       told = told;
+      taken = reason-taken;
+      after = λ t flow output tier some. reason-after t flow output some tier;
       only = one-reason;
     }

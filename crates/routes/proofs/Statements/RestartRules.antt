@@ -20,7 +20,7 @@ use Rattle.routes.specs.Rules.ArgumentRules.{RouterSized}
 use Rattle.routes.specs.Rules.Images.{Holdable, TableOf}
 use Rattle.routes.specs.Rules.CallRules.{Renewed, RestartRefusal, restartUnsound, badRouter, RestartRule}
 use Rattle.routes.proofs.Definitions.Ownership.{router-read}
-use Rattle.routes.proofs.Definitions.Lookups.{distinct-increasing}
+use Rattle.routes.proofs.Definitions.Increases.{distinct-increasing}
 use Rattle.routes.proofs.Definitions.Restarts.{increasing-renewed, acceptable-renewed, length-renewed, is-renewed}
 use Rattle.routes.proofs.Statements.Images.{images, sound, sound-holdable, length-image}
 

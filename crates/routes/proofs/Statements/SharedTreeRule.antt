@@ -4,18 +4,24 @@ use mathlib.Core.Path.{_≡_, refl, sym, subst}
 use mathlib.Core.Bool.{Bool, true, false}
 use mathlib.Core.List.{List, []}
 use mathlib.Core.Logic.{_↔_}
-use borrow.Author.Tests.{eqb-true, eq-eqb}
+use lib.Dec.{eqb}
+use borrow.Author.Tests.{eqb-true, eqb-false, eq-eqb}
+use Rattle.octets.specs.Numbers.{DONE}
 use Rattle.octets.specs.Outcome.{given}
-use Rattle.octets.proofs.Choice.{opposite, both-held, both-true}
+use Rattle.octets.proofs.Choice.{opposite, tested, both-held, both-true}
 use Rattle.nlri.specs.Fields.{Fields}
 use Rattle.groups.specs.Rules.ClassRule.{Specific}
 use Rattle.routes.specs.Query.{meets, Query}
 use Rattle.routes.specs.SharedTree.{SharedTree, treeOpen, treeQuery, readTree}
 use Rattle.routes.specs.Asked.{ofSharedTree, readAsked}
+use Rattle.routes.specs.Table.{afiIn, routesOf}
+use Rattle.routes.specs.Calls.{matchOf}
+use Rattle.routes.specs.Rules.MatchRule.{MatchAnswer, oneTold, noneTold}
 use Rattle.routes.specs.Rules.SharedTreeRule.{Condition, InSharedTier, sharedGroup, sharedWildcard, GoodTree, SharedTreeRefusal, SharedTreeRule}
 use Rattle.routes.proofs.Definitions.Matching.OpenTiers.{Opened, opened1, opened2, opened3, opened4, tiers-exactly}
 use Rattle.routes.proofs.Definitions.Matching.First.{wantedAt}
-use Rattle.routes.proofs.Definitions.Matching.SharedTrees.{AskedTree, asked-tree-router, tree-asked, tree-given, tree-refused, condition-exactly}
+use Rattle.routes.proofs.Definitions.Matching.SharedTrees.{AskedTree, asked-tree-router, tree-asked, tree-given, tree-refused}
+use Rattle.routes.proofs.Definitions.Matching.Eligible.{condition-exactly}
 use Rattle.routes.proofs.Statements.MatchRule.{Asks, asks-found, asks-nothing, Served, table-match}
 
 -- a tree's query wants what the conditions of the tiers say
@@ -57,10 +63,26 @@ served-tree tree =
       asks = λ afi output q e. tree-asks afi tree output q e;
     }
 
+-- no route of any tier is eligible for an SSM group
+shared-asm : {afi tier : ℕ} {tree : SharedTree} {f : Fields} → InSharedTier afi tree tier f → Specific afi (tree .prefixes) (tree .group) → ⊥
+shared-asm (sharedGroup _ _ asm _) s = asm s
+shared-asm (sharedWildcard _ _ asm _) s = asm s
+
+none-specific : (t : List ℕ) (tree : SharedTree) (output : List ℕ) → Specific (afiIn t) (tree .prefixes) (tree .group)
+    → MatchAnswer (afiIn t) (tree .router) (InSharedTier (afiIn t) tree) output (routesOf t) (matchOf t (ofSharedTree tree) output) → matchOf t (ofSharedTree tree) output .answer .tier ≡ 0
+none-specific t tree output s (oneTold tier r k told) = absurd (shared-asm (k .eligible .met) s)
+none-specific t tree output s (noneTold none done u) = u .tierless
+
+tree-specific : (t : List ℕ) (tree : SharedTree) (output : List ℕ) → Specific (afiIn t) (tree .prefixes) (tree .group) → matchOf t (ofSharedTree tree) output .answer .tier ≡ 0
+tree-specific t tree output s =
+    let rule = table-match (served-tree tree) in
+    tested (eqb (matchOf t (ofSharedTree tree) output .answer .number) DONE) (λ e. none-specific t tree output s (rule .answers t output (eqb-true _ _ e))) (λ f. rule .untold t output (eqb-false _ _ f) .tierless)
+
 pub sharedTreeRule : SharedTreeRule
 sharedTreeRule =
     record {
       chosen = λ afi tree output q rs e. asks-found (tree-asks afi tree output q e) rs;
       none = λ afi tree output q rs e. asks-nothing (tree-asks afi tree output q e) rs;
+      specific = tree-specific;
       table = λ tree. table-match (served-tree tree);
     }

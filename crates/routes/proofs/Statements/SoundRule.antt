@@ -16,7 +16,8 @@ use Rattle.octets.specs.Order.{same, before, zeros, allZero}
 use Rattle.octets.proofs.Choice.{both-true, both-true-left, both-true-right, either-left, either-second}
 use Rattle.octets.proofs.Lists.{part-octet, part-filled, part-within}
 use Rattle.octets.proofs.NetworkOrder.{number-two}
-use Rattle.octets.proofs.Orders.{same-equal, same-of-equal, zero-past, zero-each-past}
+use Rattle.octets.proofs.Orders.{same-equal, same-of-equal}
+use Rattle.octets.proofs.Zeros.{zero-past, zero-each-past}
 use Rattle.nlri.specs.Family.{familyBits, allowed, isOriginatorSize}
 use Rattle.nlri.specs.Bodies.{bodies, onBody, codeOf, sameKind, fieldIn}
 use Rattle.nlri.specs.Fields.{isDiscarded}

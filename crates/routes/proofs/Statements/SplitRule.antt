@@ -30,7 +30,7 @@ use Rattle.routes.specs.Rules.MatchRule.{InTier, bothEqual, sourceEqual,
 use Rattle.routes.specs.Rules.SharedTreeRule.{InSharedTier, sharedGroup, sharedWildcard}
 use Rattle.routes.specs.Rules.DisturbanceRule.{Conditions}
 use Rattle.routes.specs.Rules.SplitRule.{matchOver, SomeOf, SplitRoutes, TableWithin, KeptByFields, SplitRule}
-use Rattle.routes.proofs.Definitions.Lookups.{distinct-increasing}
+use Rattle.routes.proofs.Definitions.Increases.{distinct-increasing}
 use Rattle.routes.proofs.Definitions.Matching.First.{match-fewer}
 use Rattle.routes.proofs.Statements.Images.{sound-holdable}
 use Rattle.routes.proofs.Statements.MatchRule.{Asks, asks-first, asks-nothing, served-flow}

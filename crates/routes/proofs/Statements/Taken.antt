@@ -24,6 +24,26 @@ use Rattle.routes.proofs.Definitions.Matching.OpenTiers.{Opened, opened
 use Rattle.routes.proofs.Definitions.Matching.Flows.{AskedFlow}
 use Rattle.routes.proofs.Statements.ArgumentRules.{argumentRule, nlri-accepts}
 
+-- one route is taken
+pub taken-one : {afi : ℕ} {router : List ℕ} {In : (tier : ℕ) → Fields → Type 0} {rs : List Route} {tier other : ℕ} {r u : Route} → Taken afi router In rs tier r → Taken afi router In rs other u → (other ≡ tier) × (u ≡ r)
+taken-one {afi} {router} {In} {rs} {tier} {other} {r} {u} t s =
+    let low : tier < other → ⊥ = λ h. s .lowest tier r h (t .member) (t .eligible) in
+    let high : other < tier → ⊥ = λ h. t .lowest other u h (s .member) (s .eligible) in
+    let same : other ≡ tier = omega arith in
+    let v : Taken afi router In rs tier u = subst (λ (n : ℕ). Taken afi router In rs n u) same s in
+    (same, t .only u (v .member) (v .eligible) (before-neither _ _ (t .first u (v .member) (v .eligible)) (v .first r (t .member) (t .eligible))))
+
+-- it is taken of all routes that are the same, in any order
+pub taken-among : {afi : ℕ} {router : List ℕ} {In : (tier : ℕ) → Fields → Type 0} {rs us : List Route} {tier : ℕ} {r : Route} → ((u : Route) → Among u us ↔ Among u rs) → Taken afi router In rs tier r → Taken afi router In us tier r
+taken-among {r = r} are t =
+    record {
+      member = are r .1 (t .member);
+      eligible = t .eligible;
+      lowest = λ other u less m. t .lowest other u less (are u .0 m);
+      first = λ u m. t .first u (are u .0 m);
+      only = λ u m. t .only u (are u .0 m);
+    }
+
 -- a query whose tiers want exactly what their conditions say
 module _ (afi : ℕ) (q : Query) (In : (tier : ℕ) → Fields → Type 0) (exactly : (tier : ℕ) (f : Fields) → (meets (wantedAt 1 tier (q .tiers)) f ≡ true) ↔ In tier f) where
   abbrev wanted : ℕ → Wanted
@@ -72,18 +92,9 @@ module _ (afi : ℕ) (q : Query) (In : (tier : ℕ) → Fields → Type 0) (exac
         let l = first-least f in
         (l .member, is-eligible tier r (l .good), λ other u less m o. opposite (eligible-is other u o) (first-below f other less u m))
 
-    -- one route is taken
-    taken-unique : {tier other : ℕ} {r u : Route} → Taken afi (q .router) In rs tier r → Taken afi (q .router) In rs other u → found other u ≡ found tier r
-    taken-unique {tier} {other} {r} {u} t s =
-        let low : tier < other → ⊥ = λ h. s .lowest tier r h (t .member) (t .eligible) in
-        let high : other < tier → ⊥ = λ h. t .lowest other u h (s .member) (s .eligible) in
-        let same : other ≡ tier = omega arith in
-        let v : Taken afi (q .router) In rs tier u = subst (λ (n : ℕ). Taken afi (q .router) In rs n u) same s in
-        ap₂ found same (t .only u (v .member) (v .eligible) (before-neither _ _ (t .first u (v .member) (v .eligible)) (v .first r (t .member) (t .eligible))))
-
     taken-found : Distinct rs → (tier : ℕ) (r : Route) (best : Found) → IsFirst best → Taken afi (q .router) In rs tier r → best ≡ found tier r
     taken-found d tier r nothing f t = absurd (none-taken f tier r (t .member) (t .eligible))
-    taken-found d tier r (found other u) f t = taken-unique t (first-taken d other u f)
+    taken-found d tier r (found other u) f t = let one = taken-one t (first-taken d other u f) in ap₂ found (one .0) (one .1)
 
     none-found : (best : Found) → IsFirst best → NoneTaken afi (q .router) In rs → best ≡ nothing
     none-found nothing f none = refl

@@ -18,7 +18,8 @@ use Rattle.routes.proofs.Statements.ArgumentRules.{argumentRule, nlri-a
 use Rattle.routes.proofs.Definitions.ByArguments.{number-s-pmsi}
 use Rattle.routes.proofs.Definitions.Holding.{holdable-removed}
 use Rattle.routes.proofs.Statements.Images.{images, sound, sound-holdable, length-image}
-use Rattle.routes.proofs.Definitions.Lookups.{absent-holds, holds-absent, held-holds, holds-held, removed-now, distinct-increasing, length-removed-held}
+use Rattle.routes.proofs.Definitions.Lookups.{absent-holds, holds-absent, held-holds, holds-held, removed-now}
+use Rattle.routes.proofs.Definitions.Increases.{distinct-increasing, length-removed-held}
 
 -- what a withdrawal that is not refused found
 pub record Left (t nlri : List ℕ) : Type 0 where

@@ -1,6 +1,6 @@
 -- What holds of the reasons (request W-204): what each says of table and flow, and that of a tier no other can be told. Stated here, proved in
 -- proofs/Statements/ReasonRule.antt.
-use Prim.Native.Nat.{ℕ, _+_, _<_}
+use Prim.Native.Nat.{ℕ, _+_, _-_, _≤_, _<_}
 use mathlib.Core.Path.{_≡_}
 use mathlib.Core.List.{List, [], _∷_}
 use mathlib.Core.Logic.{_≢_}
@@ -62,6 +62,11 @@ pub record ReasonRule : Type 0 where
   -- else each is true of its tier, the first of tier 1
   pub told : (t : List ℕ) (flow : Flow) (output : List ℕ) → matchOf t (ofFlow flow) output .answer .number ≡ DONE
       → (i : ℕ) → i < 4 → Reason (afiIn t) flow (routesOf t) output (matchOf t (ofFlow flow) output) (i + 1) (getD (explainOf t flow output .answer .reasons) i 0)
+  -- of the tier that the match answers it is 1, and of every tier after that 4
+  pub taken : (t : List ℕ) (flow : Flow) (output : List ℕ) → 0 < matchOf t (ofFlow flow) output .answer .tier
+      → getD (explainOf t flow output .answer .reasons) (matchOf t (ofFlow flow) output .answer .tier - 1) 0 ≡ 1
+  pub after : (t : List ℕ) (flow : Flow) (output : List ℕ) (tier : ℕ) → 0 < matchOf t (ofFlow flow) output .answer .tier → matchOf t (ofFlow flow) output .answer .tier < tier → tier ≤ 4
+      → getD (explainOf t flow output .answer .reasons) (tier - 1) 0 ≡ 4
   -- and no other is, whatever the routes
   pub only : (afi : ℕ) (flow : Flow) (rs : List Route) (output : List ℕ) (changed : Changed Matched) (tier m n : ℕ)
       → Reason afi flow rs output changed tier m → Reason afi flow rs output changed tier n → m ≡ n

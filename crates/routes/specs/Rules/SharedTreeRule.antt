@@ -17,6 +17,8 @@ use Rattle.routes.specs.Route.{Route, Distinct}
 use Rattle.routes.specs.Query.{Query}
 use Rattle.routes.specs.SharedTree.{SharedTree, readTree}
 use Rattle.routes.specs.Asked.{ofSharedTree}
+use Rattle.routes.specs.Table.{afiIn}
+use Rattle.routes.specs.Calls.{matchOf}
 use Rattle.routes.specs.Matching.{nothing, found, matchIn}
 use Rattle.routes.specs.Rules.ArgumentRules.{RouterSized, FamilySized, NlriOfType, TypeRefusal}
 use Rattle.routes.specs.Rules.MatchRule.{Taken, NoneTaken, TableMatch}
@@ -110,5 +112,7 @@ pub record SharedTreeRule : Type 0 where
       → (tier : ℕ) (r : Route) → (matchIn afi q rs ≡ found tier r) ↔ Taken afi (tree .router) (InSharedTier afi tree) rs tier r
   pub none : (afi : ℕ) (tree : SharedTree) (output : List ℕ) (q : Query) (rs : List Route) → readTree afi tree output ≡ given q
       → (matchIn afi q rs ≡ nothing) ↔ NoneTaken afi (tree .router) (InSharedTier afi tree) rs
+  -- a tree of an SSM group takes no route, whatever is told of it
+  pub specific : (t : List ℕ) (tree : SharedTree) (output : List ℕ) → Specific (afiIn t) (tree .prefixes) (tree .group) → matchOf t (ofSharedTree tree) output .answer .tier ≡ 0
   -- over a table
   pub table : (tree : SharedTree) → TableMatch (ofSharedTree tree) (tree .router) (λ afi. GoodTree afi tree) (λ output afi. SharedTreeRefusal afi tree output) (λ afi. InSharedTier afi tree)

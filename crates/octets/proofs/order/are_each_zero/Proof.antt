@@ -6,7 +6,7 @@ use lib.Dec.{eqb}
 use borrow.Author.Needs.{needs}
 use Rattle.octets.specs.Choice.{both}
 use Rattle.octets.specs.Order.{allZero}
-use Rattle.octets.proofs.Orders.{zeros-next, zeros-end}
+use Rattle.octets.proofs.Zeros.{zeros-next, zeros-end}
 use Rattle.octets.proofs.order.are_each_zero.Statement.{statement}
 use Rattle.octets.proofs.order.are_each_zero.Tie as tie
 

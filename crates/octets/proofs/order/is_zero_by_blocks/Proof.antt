@@ -7,7 +7,7 @@ use denote.Ref.{now}
 use borrow.Author.Needs.{needs}
 use borrow.Author.Tests.{not-true, not-false}
 use Rattle.octets.specs.Order.{allZero}
-use Rattle.octets.proofs.Orders.{zero-begins, zero-fails, zero-last}
+use Rattle.octets.proofs.Zeros.{zero-begins, zero-fails, zero-last}
 use Rattle.octets.proofs.order.is_zero_by_blocks.Statement.{statement}
 use Rattle.octets.proofs.order.is_zero_by_blocks.Tie as tie
 

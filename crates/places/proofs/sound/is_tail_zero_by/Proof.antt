@@ -6,7 +6,7 @@ use lib.ListN.{length}
 use Rattle.octets.specs.Choice.{both}
 use Rattle.octets.specs.Order.{allZero}
 use Rattle.octets.proofs.Lists.{length-part}
-use Rattle.octets.proofs.Orders.{zero-overlap}
+use Rattle.octets.proofs.Zeros.{zero-overlap}
 use borrow.Author.Needs.{needs}
 use Rattle.places.proofs.sound.is_tail_zero_by.Statement.{statement}
 use Rattle.places.proofs.sound.is_tail_zero_by.Tie as tie

@@ -1,7 +1,7 @@
 -- `plan::proposal::is_each_once` meets its contract.
 use native.Mathlib.Omega.{arith}
 use Rattle.plan.proofs.Loops.{fields}
-use Rattle.plan.proofs.JudgedPlaces.{Once, once-first, once-here, once-twice, once-next, once-last}
+use Rattle.plan.proofs.PlaceLoops.{Once, once-first, once-here, once-twice, once-next, once-last}
 use Rattle.plan.proofs.proposal.is_each_once.Statement.{statement}
 use Rattle.plan.proofs.proposal.is_each_once.Tie as tie
 

@@ -2,7 +2,7 @@
 use native.Mathlib.Omega.{arith}
 use Rattle.places.specs.Readable.{nlriAt}
 use Rattle.plan.proofs.Loops.{fields}
-use Rattle.plan.proofs.JudgedPlaces.{Searching, searching-first, searching-here, searching-found, searching-next, searching-last}
+use Rattle.plan.proofs.PlaceLoops.{Searching, searching-first, searching-here, searching-found, searching-next, searching-last}
 use Rattle.plan.proofs.proposal.is_repeated.Statement.{statement}
 use Rattle.plan.proofs.proposal.is_repeated.Tie as tie
 

@@ -1,6 +1,6 @@
 -- The shared trees that a match takes, and why others are refused (specs/SharedTree.antt), by what the lent lists hold; and what a tree asks.
 use Prim.Native.Nat.{ℕ, _≤_, _<_}
-use mathlib.Core.Path.{_≡_, refl, sym, _∙_, ap, ap₂, subst}
+use mathlib.Core.Path.{_≡_, refl, sym, _∙_, ap, subst}
 use mathlib.Core.Bool.{Bool, true, false, not}
 use mathlib.Core.List.{List, [], _∷_, _++_}
 use mathlib.Core.Logic.{_↔_, _⊎_, inl, inr, ⊎-elim}
@@ -8,18 +8,15 @@ use lib.ListN.{length}
 use lib.Dec.{leb, eqb}
 use borrow.Author.Tests.{eqb-true, eqb-false, eq-eqb, ne-eqb, ltb-true, ltb-false, lt-ltb, le-ltb, leb-true, leb-false, le-leb, lt-leb, not-true, not-false}
 use Rattle.octets.specs.Numbers.{DONE, LONG, SHORT, FLOW, SPACE}
-use Rattle.octets.specs.Choice.{pick, both}
-use Rattle.octets.specs.Outcome.{Outcome, given, refused, onOutcome, unless, andThen, numberOf}
-use Rattle.octets.specs.Order.{same}
+use Rattle.octets.specs.Choice.{pick}
+use Rattle.octets.specs.Outcome.{Outcome, given, refused, unless, andThen, numberOf}
 use Rattle.octets.specs.Lists.{Among, first}
-use Rattle.octets.proofs.Choice.{opposite, tested, is-false, pick-true, pick-false, pick-case, both-held, both-true, either-true, either-left, either-second}
-use Rattle.octets.proofs.Outcome.{never, given-same, refused-same, given-otherwise, refuses-where, passed, stopped, goes, stops, and-case, outcome, refused-of, number-given, number-refused, done-given}
+use Rattle.octets.proofs.Choice.{opposite, tested, pick-true, pick-false, pick-case, both-held, both-true}
+use Rattle.octets.proofs.Outcome.{given-same, refused-same, given-otherwise, refuses-where, passed, stopped, goes, stops, and-case, outcome, refused-of, number-given, number-refused, done-given}
 use Rattle.octets.proofs.Among.{among-left, among-right}
-use Rattle.octets.proofs.Orders.{same-equal, same-of-equal}
-use Rattle.lists.specs.LentLists.{Item, itemField, listCount, listItems, readList, everyItem, someItem}
-use Rattle.lists.proofs.Items.{first-met, first-item-met, first-item-unmet, some-item-exactly, read-list-given, read-list-refused, Pairs, pairs-each, every-pair, read-list-pairs}
+use Rattle.lists.specs.LentLists.{Item, itemField, listCount, readList, everyItem}
+use Rattle.lists.proofs.Items.{first-met, first-item-met, first-item-unmet, read-list-refused, Pairs, pairs-each, every-pair, read-list-pairs}
 use Rattle.nlri.specs.Family.{familyBits, isOriginatorSize}
-use Rattle.nlri.specs.Fields.{Fields}
 use Rattle.groups.specs.Prefixes.{readPrefixes}
 use Rattle.groups.specs.Classes.{classIn}
 use Rattle.groups.specs.Rules.ClassRule.{GoodPrefixes}
@@ -28,9 +25,9 @@ use Rattle.groups.proofs.ClassRule.{Classed, classed, class-refused, multicast-
 use Rattle.nlri.proofs.Theorems.{lengths}
 use Rattle.nlri.proofs.Definitions.Lengths.{family-good, good-family}
 use Rattle.routes.specs.Query.{Query}
-use Rattle.routes.specs.SharedTree.{SharedTree, originatorSized, stateSized, readSourceActive, sourceActiveFault, judgedTree, isState, lacksState, conditionHolds, treeQuery, readTree}
+use Rattle.routes.specs.SharedTree.{SharedTree, originatorSized, stateSized, readSourceActive, sourceActiveFault, judgedTree, treeQuery, readTree}
 use Rattle.routes.specs.Rules.ArgumentRules.{KnownFamily, RouterSized, FamilySized}
-use Rattle.routes.specs.Rules.SharedTreeRule.{SourceActive, Lent, WithoutState, Condition, isUpstream, isWithoutState, isBidirectional, isUnused, FewItems, Addressed, AllRead, GoodTree, FirstRefused, SharedTreeRefusal, badTreePrefixes, longList, shortList, badAddress, badSourceActive, tooSmall}
+use Rattle.routes.specs.Rules.SharedTreeRule.{SourceActive, Lent, FewItems, Addressed, AllRead, GoodTree, FirstRefused, SharedTreeRefusal, badTreePrefixes, longList, shortList, badAddress, badSourceActive, tooSmall}
 use Rattle.routes.proofs.Definitions.Matching.Flows.{family-sized}
 use Rattle.routes.proofs.Definitions.ByArguments.{number-source-active}
 use Rattle.routes.proofs.Statements.ArgumentRules.{type-exactly, type-refused-exactly}
@@ -122,10 +119,10 @@ module _ (afi : ℕ) where
 -- judging a shared tree
 
 module _ (afi : ℕ) (tree : SharedTree) where
-  routes-pairs : (lent : Lent tree) → Pairs (lent .sourceActives)
+  pub routes-pairs : (lent : Lent tree) → Pairs (lent .sourceActives)
   routes-pairs lent = read-list-pairs _ _ (lent .routesRead)
 
-  states-pairs : (lent : Lent tree) → Pairs (lent .states)
+  pub states-pairs : (lent : Lent tree) → Pairs (lent .states)
   states-pairs lent = read-list-pairs _ _ (lent .statesRead)
 
   module _ (bits : ℕ) (ofFamily : familyBits afi ≡ given bits) (items : List Item) (prefixed : readPrefixes bits (tree .prefixes) ≡ given items) where
@@ -318,76 +315,3 @@ module _ (afi : ℕ) (tree : SharedTree) (output : List ℕ) where
             (λ s. sym (goes _ _ _ _ (judged-given afi tree (bits .0) (bits .1) (s .0 .prefixed .items) (good-prefixes afi (bits .0) (bits .1) (tree .prefixes) (s .0 .prefixed)) (s .0) .1) (sym (pick-true _ _ _ (lt-ltb (length output) 124 (s .1)) ∙ ap refused (sym (s .2))))))
             (refuses-by (bits .0) (bits .1) r),
       )
-
--- what makes a route eligible
-
-module _ (afi : ℕ) (tree : SharedTree) where
-  -- a state of this source and the group
-  has-state : (lent : Lent tree) (source : List ℕ) → (someItem (isState source (tree .group)) (listItems 2 (tree .states)) ≡ true) ↔ Among (source ∷ (tree .group ∷ [])) (lent .states)
-  unfolding isState itemField
-  has-state lent source =
-      let same-items : lent .states ≡ listItems 2 (tree .states) = read-list-given 2 _ _ (lent .statesRead) in (
-        λ h.
-            let p = some-item-exactly _ _ .0 h in
-            let x : Item = p .0 in
-            let m : Among x (lent .states) = subst (λ (l : List Item). Among x l) (sym same-items) (p .1) in
-            let b = both-held _ _ (p .2) in
-            let pair : x ≡ itemField 0 x ∷ (itemField 1 x ∷ []) = states-pairs afi tree lent x m in
-            let is : x ≡ source ∷ (tree .group ∷ []) = pair ∙ ap₂ (λ (s g : List ℕ). s ∷ (g ∷ [])) (same-equal _ _ (b .0)) (same-equal _ _ (b .1)) in
-            subst (λ (z : Item). Among z (lent .states)) is m,
-        λ m. some-item-exactly _ _ .1 (source ∷ (tree .group ∷ []), subst (λ (l : List Item). Among (source ∷ (tree .group ∷ [])) l) same-items m, both-true _ _ (same-of-equal source source refl) (same-of-equal (tree .group) (tree .group) refl)),
-      )
-
-  lacking : (lent : Lent tree) (x : Item) → Among x (lent .sourceActives) → lacksState afi tree x ≡ true → WithoutState afi tree
-  unfolding lacksState onOutcome readSourceActive
-  lacking lent x m = go (readSourceActive afi x) refl
-    where
-      go : (o : Outcome Fields) → readSourceActive afi x ≡ o
-          → onOutcome (λ number. false)
-          (λ f. both (same (itemField 0 x) (tree .router)) (both (same (f .group) (tree .group)) (not (someItem (isState (f .source) (tree .group)) (listItems 2 (tree .states)))))) o ≡ true
-          → WithoutState afi tree
-      go (given f) e h =
-          let b = both-held _ _ h in
-          let c = both-held _ _ (b .1) in
-          let read = type-exactly 5 afi (itemField 1 x) f .0 e in
-          let is : x ≡ tree .router ∷ (itemField 1 x ∷ []) = routes-pairs afi tree lent x m ∙ ap (λ (o : List ℕ). o ∷ (itemField 1 x ∷ [])) (same-equal _ _ (b .0)) in
-          record {
-            lent = lent;
-            nlri = itemField 1 x;
-            installed = subst (λ (z : Item). Among z (lent .sourceActives)) is m;
-            named = record { fields = f; read = read .0; kind = read .1 };
-            ofGroup = same-equal _ _ (c .0);
-            stateless = λ k. opposite (has-state lent (f .source) .1 k) (not-true _ (c .1));
-          }
-      go (refused n) e h = absurd (opposite {b = false} h refl)
-
-  lacks : (w : WithoutState afi tree) → lacksState afi tree (tree .router ∷ (w .nlri ∷ [])) ≡ true
-  unfolding lacksState onOutcome readSourceActive itemField
-  lacks w =
-      let e = type-exactly 5 afi (w .nlri) (w .named .fields) .1 (w .named .read, w .named .kind) in
-      rw e
-      (both-true _ _ (same-of-equal (tree .router) (tree .router) refl)
-      (both-true _ _ (same-of-equal _ _ (w .ofGroup)) (ap not (is-false _ (λ h. w .stateless (has-state (w .lent) (w .named .fields .source) .0 h))))))
-
-  lacks-exactly : Lent tree → (someItem (lacksState afi tree) (listItems 2 (tree .sourceActives)) ≡ true) ↔ WithoutState afi tree
-  lacks-exactly lent = (
-    λ h. let p = some-item-exactly _ _ .0 h in lacking lent (p .0) (subst (λ (l : List Item). Among (p .0) l) (sym (read-list-given 2 _ _ (lent .routesRead))) (p .1)) (p .2),
-    λ w. let x : Item = tree .router ∷ (w .nlri ∷ []) in some-item-exactly _ _ .1 (x, subst (λ (l : List Item). Among x l) (read-list-given 2 _ _ (w .lent .routesRead)) (w .installed), lacks w),
-  )
-
-  condition-is : Lent tree → conditionHolds afi tree ≡ true → Condition afi tree
-  unfolding conditionHolds
-  condition-is lent h =
-      ⊎-elim (λ u. isUpstream u)
-      (λ r. ⊎-elim (λ w. isWithoutState (lacks-exactly lent .0 w)) (λ s. ⊎-elim (λ b. isBidirectional b) (λ n. isUnused n) (either-true _ _ s)) (either-true _ _ r))
-      (either-true _ _ h)
-
-  condition-holds : Lent tree → Condition afi tree → conditionHolds afi tree ≡ true
-  unfolding conditionHolds
-  condition-holds lent (isUpstream u) = either-left _ _ u
-  condition-holds lent (isWithoutState w) = either-second _ _ (either-left _ _ (lacks-exactly lent .1 w))
-  condition-holds lent (isBidirectional b) = either-second _ _ (either-second _ _ (either-left _ _ b))
-  condition-holds lent (isUnused n) = either-second _ _ (either-second _ _ (either-second _ _ n))
-
-  pub condition-exactly : Lent tree → (conditionHolds afi tree ≡ true) ↔ Condition afi tree
-  condition-exactly lent = (condition-is lent, condition-holds lent)

@@ -19,7 +19,8 @@ use Rattle.routes.specs.Restart.{RestartCall, renewed}
 use Rattle.routes.specs.Answers.{matchedBy}
 use Rattle.routes.specs.Call.{owner, originatorOf}
 use Rattle.routes.specs.Rules.MatchRule.{DifferInMarks, none, one}
-use Rattle.routes.proofs.Definitions.Lookups.{inserted-case, removed-absent, lookup-early}
+use Rattle.routes.proofs.Definitions.Lookups.{inserted-case, removed-absent}
+use Rattle.routes.proofs.Definitions.Increases.{lookup-early}
 use Rattle.routes.proofs.Definitions.Ownership.{owned-by}
 use Rattle.routes.proofs.Definitions.Restarts.{router-owned, renewed-case}
 use Rattle.routes.proofs.Definitions.Matching.First.{match-without, put-behind}

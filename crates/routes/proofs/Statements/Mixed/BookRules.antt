@@ -16,7 +16,8 @@ use Rattle.routes.specs.Call.{Call, install, withdraw, restart, match, O
 use Rattle.routes.specs.Book.{bookAfter, fed, ownCalls, bookOf, allBooks, dueAnswer}
 use Rattle.routes.specs.Run.{imageOfBooks, namedBy, Fits}
 use Rattle.routes.specs.Rules.BookRules.{BelongsTo, ownInstall, ownWithdrawal, ownRestart, ownMatch, ownSharedMatch, Nobodys, OwnerRule, PremiseRule, RefusedCall, BookStep, BookRule, ImageRule}
-use Rattle.routes.proofs.Definitions.Lookups.{held-absent, lookup-arranged, lookup-member, lookup-of-member, distinct-increasing}
+use Rattle.routes.proofs.Definitions.Lookups.{held-absent, lookup-arranged, lookup-member, lookup-of-member}
+use Rattle.routes.proofs.Definitions.Increases.{distinct-increasing}
 use Rattle.routes.proofs.Statements.Images.{images}
 use Rattle.routes.proofs.Definitions.OnceEach.{once-each-among, among-once-each, once-once-each}
 use Rattle.octets.proofs.Chosen.{chosen-first, chosen-later}

@@ -27,7 +27,8 @@ use Rattle.routes.specs.Calls.{entering, installOutcome, installOf, leav
 use Rattle.routes.specs.Call.{Call, install, withdraw, restart, match, Answer, installed, withdrawn, restarted, matched, Owner, nobody, owner, originatorOf, ownerOf, Act, enter, leave, renew, ask, argued, refusalOf, refusalAnswer}
 use Rattle.routes.specs.Book.{bookOf, actAnswer, bookAnswer, allBooks, dueBy, dueAnswer}
 use Rattle.routes.specs.Run.{Step, stepOf, Answered, imageOfBooks, Fits}
-use Rattle.routes.proofs.Definitions.Lookups.{lookup-inserted, lookup-removed, lookup-arranged, holds-alike, increasing-equal, increasing-inserted, increasing-removed, distinct-increasing, length-inserted-new, absent-holds, removed-absent}
+use Rattle.routes.proofs.Definitions.Lookups.{lookup-inserted, lookup-removed, lookup-arranged, holds-alike, absent-holds, removed-absent}
+use Rattle.routes.proofs.Definitions.Increases.{increasing-equal, increasing-inserted, increasing-removed, distinct-increasing, length-inserted-new}
 use Rattle.routes.proofs.Definitions.Bounds.{route-read}
 use Rattle.routes.proofs.Statements.Images.{images}
 use Rattle.routes.proofs.Definitions.Matching.MatchSame.{match-same}

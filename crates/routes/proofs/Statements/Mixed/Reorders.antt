@@ -11,7 +11,8 @@ use Rattle.routes.specs.Table.{imageOf}
 use Rattle.routes.specs.Call.{Call, Answer, Owner, nobody, owner, originatorOf, ownerOf, owns, isNobody, refusalOf, refusalAnswer}
 use Rattle.routes.specs.Book.{fed, ownCalls, nobodysCalls, bookOf, bookAnswer, allBooks, dueAnswer}
 use Rattle.routes.specs.Run.{Answered, imageOfBooks}
-use Rattle.routes.proofs.Definitions.Lookups.{lookup-arranged, increasing-equal}
+use Rattle.routes.proofs.Definitions.Lookups.{lookup-arranged}
+use Rattle.routes.proofs.Definitions.Increases.{increasing-equal}
 use Rattle.routes.proofs.Definitions.Ownership.{owned-by}
 use Rattle.routes.proofs.Definitions.AllBooks.{lookup-all, lookup-nobody, increasing-books}
 use Rattle.routes.proofs.Statements.Mixed.DueSteps.{dueAnswers, due-owned, due-nobody}

@@ -9,7 +9,7 @@ use Rattle.octets.specs.Order.{allZero}
 use Rattle.octets.specs.Lists.{Among}
 use Rattle.octets.proofs.Choice.{tested}
 use Rattle.octets.proofs.Lists.{part-octet, part-filled}
-use Rattle.octets.proofs.Orders.{zero-at, zero-each}
+use Rattle.octets.proofs.Zeros.{zero-at, zero-each}
 use Rattle.routes.specs.Route.{Route, nlriOf, absent, lookup, holds}
 use Rattle.routes.specs.Place.{routeIn, placeSound}
 use Rattle.routes.specs.Salvage.{placeAt, goodOf, keptRoutes}

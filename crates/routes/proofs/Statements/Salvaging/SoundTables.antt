@@ -18,7 +18,7 @@ use Rattle.routes.specs.Table.{routesOf}
 use Rattle.routes.specs.Salvage.{keptRoutes, reasonAt, droppedOf}
 use Rattle.routes.specs.Rules.SoundRule.{countAt, nlriInPlace, routeInPlace, Sound}
 use Rattle.routes.specs.Rules.SalvageRule.{placeStart, ZeroPlace, KeptPlace, zeroed, kept}
-use Rattle.routes.proofs.Definitions.Lookups.{increasing-members}
+use Rattle.routes.proofs.Definitions.Increases.{increasing-members}
 use Rattle.routes.proofs.Definitions.Salvages.{kept-increasing, dropped-none}
 use Rattle.routes.proofs.Statements.Images.{sound-holdable}
 use Rattle.routes.proofs.Statements.SoundRule.{soundRule}

@@ -4,7 +4,7 @@ use native.Mathlib.Omega.{arith}
 use denote.Ref.{now}
 use borrow.Author.Needs.{needs}
 use Rattle.table.specs.Renewing.{Renewing, restartBy}
-use Rattle.table.proofs.Renews.{turn-first, turn-room, turn-here, turn-next, turn-last}
+use Rattle.table.proofs.RenewCalls.{turn-first, turn-room, turn-here, turn-next, turn-last}
 use Rattle.table.proofs.restarting.pass.Statement.{statement}
 use Rattle.table.proofs.restarting.pass.Tie as tie
 

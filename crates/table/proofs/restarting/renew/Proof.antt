@@ -2,7 +2,7 @@
 use denote.Ref.{now}
 use Rattle.octets.proofs.AllOctets.{octets-of}
 use Rattle.places.proofs.Indexes.{header-within}
-use Rattle.table.proofs.Renews.{turn-close, turned}
+use Rattle.table.proofs.RenewCalls.{turn-close, turned}
 use borrow.Author.Needs.{needs}
 use Rattle.table.proofs.restarting.renew.Statement.{statement}
 use Rattle.table.proofs.restarting.renew.Tie as tie

@@ -3,7 +3,7 @@ use mathlib.Core.Path.{sym, _∙_}
 use denote.Ref.{now}
 use borrow.Author.Tests.{not-true, not-false}
 use Rattle.table.specs.Renewing.{restartBy}
-use Rattle.table.proofs.Renews.{restart-unsound}
+use Rattle.table.proofs.RenewCalls.{restart-unsound}
 use borrow.Author.Needs.{needs}
 use Rattle.table.proofs.restarting.restart.Statement.{statement}
 use Rattle.table.proofs.restarting.restart.Tie as tie

@@ -3,7 +3,7 @@ use native.Mathlib.Omega.{arith}
 use denote.Ref.{now}
 use borrow.Author.Tests.{not-true, not-false}
 use Rattle.table.specs.Renewing.{restartBy}
-use Rattle.table.proofs.Renews.{gone-most, restart-missized, restart-does}
+use Rattle.table.proofs.RenewCalls.{gone-most, restart-missized, restart-does}
 use borrow.Author.Needs.{needs}
 use Rattle.table.proofs.restarting.restart_sound.Statement.{statement}
 use Rattle.table.proofs.restarting.restart_sound.Tie as tie

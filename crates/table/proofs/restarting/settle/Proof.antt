@@ -1,7 +1,7 @@
 -- `table::restarting::settle` meets its contract.
 use borrow.Author.Tests.{not-true, not-false}
 use denote.Ref.{now}
-use Rattle.table.proofs.Renews.{settled-other, settled-gone, settled-marked}
+use Rattle.table.proofs.RenewCalls.{settled-other, settled-gone, settled-marked}
 use borrow.Author.Needs.{needs}
 use Rattle.table.proofs.restarting.settle.Statement.{statement}
 use Rattle.table.proofs.restarting.settle.Tie as tie
