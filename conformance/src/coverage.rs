@@ -2,11 +2,11 @@
 //! that went, marks, what became of places, tiers, what Leaves are to a bit string, kinds of sequence, what changes do to answers, and answers of several tables.
 
 use crate::second::{
-    bier::{Blamed, Standing},
-    disturbance::Effect,
-    plan::Objection,
-    ranges::MOST_PREFIXES,
-    salvage::Fate,
+    bier::{leaves::Standing, packet::Blamed},
+    groups::prefixes::MOST_PREFIXES,
+    matches::disturbance::Effect,
+    plan::judge::Objection,
+    table::salvage::Fate,
 };
 use std::collections::BTreeMap;
 

@@ -83,7 +83,7 @@ fn finds(options: &Options, fault: Fault) -> bool {
     let result = match fault.shown_by {
         ShownBy::Tables => cases::of_tables(&mut harness, options),
         ShownBy::Restarts => cases::of_restarts(&mut harness, options),
-        ShownBy::Ranges => cases::of_ranges(&mut harness, options),
+        ShownBy::Prefixes => cases::of_prefixes(&mut harness, options),
         ShownBy::Explanations => cases::of_explanations(&mut harness, options),
         ShownBy::Plans => cases::of_plans(&mut harness, options),
         ShownBy::Following => cases::of_following(&mut harness, options),

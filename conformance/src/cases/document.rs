@@ -1,14 +1,17 @@
 //! Document 01's marked examples and the points settled beside it, with the answers written from document 01.
 
-use super::{lists::EMPTY, samples::BAD_AFIS, tables::OUTPUT};
+use super::{
+    inputs::{lists::EMPTY, places::laid_out, samples::BAD_AFIS},
+    table::memory::OUTPUT,
+};
 use crate::{
     compare::{disagree, Checked, Disagreement, Harness},
     ffi::{Group, Installed, Matched, Walked},
     hexadecimal::octets,
     second::{
-        choice::Flow,
-        run::{OLD, SKIP},
-        table_calls::{TableAnswer, TableCall},
+        matches::choice::Flow,
+        runs::run::{OLD, SKIP},
+        table::calls::{TableAnswer, TableCall},
     },
 };
 use std::fmt::Debug;
@@ -123,9 +126,7 @@ pub fn route(name: &str) -> (Vec<u8>, Vec<u8>) {
 pub fn table_image() -> Vec<u8> {
     let places = ORDER.map(|name| {
         let (nlri, attribute) = route(name);
-        let mut place = [&[nlri.len() as u8, attribute.len() as u8], &nlri[..], &attribute].concat();
-        place.resize(128, 0);
-        place
+        laid_out(&nlri, &attribute, 0)
     });
     [b"MVT\x00\x01\x01\x00\x05", &places.concat()[..], &[0; 128]].concat()
 }

@@ -5,7 +5,11 @@ use crate::{
     coverage::{Call, Seen},
     ffi,
     hexadecimal::encode,
-    second::bier::{BitString, Packet, Standing, STRING},
+    second::bier::{
+        leaves::Standing,
+        packet::{BitString, Packet},
+        string::STRING,
+    },
 };
 
 impl Harness {

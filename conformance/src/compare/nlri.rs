@@ -5,7 +5,7 @@ use crate::{
     coverage::{Call, Seen},
     ffi::{self, Nlri, NlriReading},
     hexadecimal::encode,
-    second::{
+    second::nlri::{
         fec::Outermost,
         rows::{Family, LEAF, MLDP_LEAF},
     },

@@ -5,7 +5,7 @@ use crate::{
     coverage::{Call, Seen},
     ffi::{self, Fed, Pieces, Walked, UNFINISHED},
     hexadecimal::encode,
-    second::pieces,
+    second::runs::pieces,
 };
 use std::fmt::{self, Debug, Formatter};
 

@@ -6,11 +6,13 @@ use crate::{
     ffi::{self, Judged, Planned},
     hexadecimal::encode,
     second::{
-        choice::{Flow, LEAST_OUTPUT},
-        plan::Wish,
-        ranges::NO_PREFIXES,
-        table::{size, PLACE},
-        table_calls::TableCall,
+        groups::prefixes::NO_PREFIXES,
+        matches::choice::{Flow, LEAST_OUTPUT},
+        plan::wish::Wish,
+        table::{
+            calls::TableCall,
+            memory::{size, PLACE},
+        },
         Second,
     },
 };

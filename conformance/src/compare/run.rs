@@ -5,7 +5,7 @@ use crate::{
     coverage::{Call, Seen},
     ffi::{self, Stepped, Walked},
     hexadecimal::encode,
-    second::run::{OLD, SKIP},
+    second::runs::run::{OLD, SKIP},
 };
 
 /// Numbers of modes: every one but the first is the old mode.

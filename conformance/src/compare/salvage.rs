@@ -6,8 +6,10 @@ use crate::{
     ffi::{self, Salvaged, TableInfo},
     hexadecimal::encode,
     second::{
-        salvage::{count, is_zero, places_of, Fate, Salvage, DROPPED_PLACE, REPEATED},
-        table::PLACE,
+        table::{
+            memory::PLACE,
+            salvage::{count, is_zero, places_of, Fate, Salvage, DROPPED_PLACE, REPEATED},
+        },
         Second,
     },
 };

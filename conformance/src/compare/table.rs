@@ -5,9 +5,9 @@ use crate::{
     coverage::{Call, Seen},
     ffi::{self, Explained},
     hexadecimal::encode,
-    second::{
-        table::{HEADER, PLACE},
-        table_calls::{TableAnswer, TableCall},
+    second::table::{
+        calls::{TableAnswer, TableCall},
+        memory::{HEADER, PLACE},
     },
 };
 

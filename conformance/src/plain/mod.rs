@@ -3,8 +3,8 @@
 //! Each does the whole work of the archive's call, no more and no less. It has the same C arguments and gives its answer by
 //! value; it refuses the same inputs with the same numbers, in document 01's order, before it writes anything; every
 //! call on a table but making and salvaging one tests every octet of it for soundness each time; and every octet that the call
-//! promises is written, those behind a route included. Nothing is allocated or kept between calls. `tests.rs` and the other files of
-//! tests here compare all of this with the second decoder and the second table. What a planner proposes is its own choice: that of plain
+//! promises is written, those behind a route included. Nothing is allocated or kept between calls. `tests` compares
+//! all of this with the second decoder and the second table. What a planner proposes is its own choice: that of plain
 //! Rust is judged, as the archive's is.
 //!
 //! It is written from document 01 and takes nothing from the crates, so it may go another way: a match looks for one tier
@@ -15,8 +15,6 @@
 
 mod attribute;
 mod bier;
-#[cfg(test)]
-mod bier_tests;
 mod explain;
 mod fec;
 mod flow;
@@ -27,21 +25,13 @@ mod nlri_read;
 mod nlri_write;
 mod pieces;
 mod plan;
-#[cfg(test)]
-mod plan_tests;
 mod restarts;
 mod run;
 mod salvage;
-#[cfg(test)]
-mod salvage_tests;
 mod shape;
 mod shared;
-#[cfg(test)]
-mod shared_tests;
 mod sound;
 mod table;
-#[cfg(test)]
-mod table_tests;
 #[cfg(test)]
 mod tests;
 

@@ -2,11 +2,10 @@
 //! empty fields, but for a walk's count and offset and a step's cursor.
 
 use super::{
-    attribute::{Attribute, Fec},
+    attribute::reading::{Attribute, Fec},
     fault::Fault,
-    nlri::Reading,
+    nlri::{reading::Reading, rows::Field},
     number::Number,
-    rows::Field,
     Second,
 };
 use crate::ffi;

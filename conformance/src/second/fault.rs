@@ -14,7 +14,7 @@ pub enum ShownBy {
     Discards,
     Tables,
     Restarts,
-    Ranges,
+    Prefixes,
     Explanations,
     Plans,
     Following,
@@ -355,7 +355,7 @@ faults! {
         RESTART_OF_NOBODY: "a mark or a sweep belongs to nobody",
         LEFT_UNMARKED: "a mark since the last install does not count in what the calls leave",
     }
-    Ranges {
+    Prefixes {
         PREFIXES_BESIDE_STANDARD: "the standard range counts beside the prefixes given",
         PREFIXES_WITHIN_STANDARD: "a group that a prefix holds is SSM only in the standard range",
         PREFIXES_IGNORED: "prefixes are judged, and the standard range decides",

@@ -4,57 +4,25 @@
 
 pub mod answers;
 pub mod attribute;
-pub mod attribute_writing;
 pub mod bier;
-#[cfg(test)]
-mod bier_tests;
-pub mod books;
-pub mod choice;
-pub mod discards;
-#[cfg(test)]
-mod discards_tests;
-pub mod disturbance;
 pub mod fault;
-pub mod fec;
-pub mod following;
-pub mod forms;
-pub mod group;
-pub mod history;
-pub mod listing;
+pub mod groups;
 pub mod lists;
+pub mod matches;
 pub mod nlri;
-pub mod nlri_writing;
 pub mod number;
-pub mod pieces;
-#[cfg(test)]
-mod pieces_tests;
 pub mod plan;
-#[cfg(test)]
-mod plan_tests;
-pub mod ranges;
-#[cfg(test)]
-mod ranges_tests;
-pub mod reasons;
-pub mod restarts;
-pub mod rows;
-pub mod run;
-pub mod salvage;
-#[cfg(test)]
-mod salvage_tests;
-pub mod shared;
-#[cfg(test)]
-mod shared_tests;
-pub mod splitting;
+pub mod runs;
 pub mod table;
-pub mod table_calls;
-#[cfg(test)]
-mod table_tests;
 #[cfg(test)]
 mod tests;
 
 use fault::Fault;
+use nlri::rows::Family;
 use number::Number;
-use rows::Family;
+
+/// A fault that tries a row, by its place, at another place.
+type Moved = (Fault, usize, usize);
 
 /// The second decoder, with at most one wrong behaviour switched on.
 #[derive(Clone, Copy, Debug, Default)]
@@ -74,6 +42,23 @@ impl Second {
 
     fn has(&self, fault: Fault) -> bool {
         self.fault == Some(fault)
+    }
+
+    /// The decoder with the second of a pair of faults, where it has the first.
+    fn with_one_of(&self, faults: &[(Fault, Fault)]) -> Second {
+        let found = faults.iter().find(|(fault, _)| self.has(*fault));
+        found.map_or(*self, |(_, fault)| Second::with_fault(*fault))
+    }
+
+    /// Rows in the order in which they are tried.
+    fn ordered<Row, const ROWS: usize>(&self, mut rows: [Row; ROWS], moved: &[Moved]) -> [Row; ROWS] {
+        for (_, from, to) in moved.iter().filter(|(fault, _, _)| self.has(*fault)) {
+            match from < to {
+                true => rows[*from..=*to].rotate_left(1),
+                false => rows[*to..=*from].rotate_right(1),
+            }
+        }
+        rows
     }
 
     /// AFI 1 or 2, the whole 16-bit number.

@@ -4,14 +4,16 @@
 use crate::report::Report;
 use conformance::{
     cases::{
-        bier::{bier, leaf},
-        lists::{list, Item},
-        routes::{s_pmsi, Addresses},
-        samples::GOOD_AFIS,
+        bier::strings::{bier, leaf},
+        inputs::{
+            lists::{list, Item},
+            routes::{s_pmsi, Addresses},
+            samples::GOOD_AFIS,
+        },
     },
     ffi::{raw, Egress},
     plain,
-    second::bier::{MOST_LEAVES, STRING},
+    second::bier::{packet::MOST_LEAVES, string::STRING},
 };
 use std::hint::black_box;
 

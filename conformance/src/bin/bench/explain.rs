@@ -3,18 +3,14 @@
 
 use crate::{
     report::Report,
-    routes::{routes, Route},
-    table::{matched, table_of, COUNTED, FEW, MATCHES},
+    routes::{middle, routes, Route},
+    table::{ask, counted_or_timed, table_of, COUNTED, MATCHES, TABLES},
 };
 use conformance::{
-    cases::samples::GOOD_AFIS,
+    cases::inputs::samples::GOOD_AFIS,
     ffi::{raw, Explained, Matched},
     plain,
-    second::{
-        choice::LEAST_OUTPUT,
-        ranges::NO_PREFIXES,
-        table::{size, MOST_PLACES},
-    },
+    second::{matches::choice::LEAST_OUTPUT, table::memory::size},
 };
 use std::hint::black_box;
 
@@ -25,14 +21,12 @@ const FOUND: [u32; 4] = [1, 4, 4, 4];
 const NONE: [u32; 4] = [2, 2, 3, 2];
 
 pub fn rows(report: &mut Report) {
-    for (places, held) in [(COUNTED, 0), (COUNTED, 1), (MOST_PLACES, 0), (MOST_PLACES, FEW), (MOST_PLACES, MOST_PLACES)]
-    {
+    for (places, held) in TABLES {
         for afi in GOOD_AFIS {
             let all = routes(afi, held.max(1));
-            let longest = (all.len() / 2..all.len()).find(|at| all[*at].tier == 1).expect("a route of tier 1");
             let table = table_of(afi, places, &all[..held]);
             let name = format!("afi {afi}, places {places}, held {held}");
-            let route = &all[longest];
+            let route = middle(&all);
             if held > 0 {
                 row(report, &format!("explain found, {name}"), &table, &route.flow, Some(route));
             }
@@ -46,47 +40,17 @@ pub fn rows(report: &mut Report) {
 fn row(report: &mut Report, name: &str, table: &[u8], flow: &[Vec<u8>; 3], route: Option<&Route>) {
     let (expected, written) = match route {
         None => (Explained { matched: Matched::default(), reasons: NONE }, Vec::new()),
-        Some(Route { nlri, attribute, tier, .. }) => {
-            let [nlri_size, attribute_size] = [nlri, attribute].map(|octets| octets.len() as u32);
-            let matched = Matched { number: 0, tier: *tier, nlri_size, attribute_size };
-            (Explained { matched, reasons: FOUND }, [&nlri[..], attribute].concat())
-        }
+        Some(route) => (Explained { matched: route.matched(), reasons: FOUND }, route.octets()),
     };
     let mut buffer = [0u8; LEAST_OUTPUT];
     let output = buffer.as_mut_ptr();
-    let calls = black_box(EXPLANATIONS).map(|call| move || unsafe { explained(call, table, flow, output) });
+    let calls = black_box(EXPLANATIONS).map(|call| move || unsafe { ask(call, table, flow, output) });
     report.check(name, &calls.map(|call| call()), &expected);
     report.check_output(&calls, output, LEAST_OUTPUT, &written, name);
+    counted_or_timed(report, name, table, calls);
     if table.len() <= size(COUNTED) {
-        report.count(name, calls);
         return;
     }
-    report.timed(name, calls);
     let ([archive, _], [match_flow, _]) = (calls, black_box(MATCHES));
-    report.beside(&format!("{name}, to match"), archive, || unsafe { matched(match_flow, table, flow, output) });
-}
-
-/// An explanation with the least output, and no prefixes.
-///
-/// # Safety
-/// The output has `LEAST_OUTPUT` octets and overlaps nothing.
-#[inline(always)]
-unsafe fn explained(call: raw::Explain, table: &[u8], flow: &[Vec<u8>; 3], output: *mut u8) -> Explained {
-    let [(router, router_size), (source, source_size), (group, group_size)] =
-        flow.each_ref().map(|octets| (octets.as_ptr(), octets.len()));
-    let (table, size, prefixes, prefixes_size) = (table.as_ptr(), table.len(), NO_PREFIXES.as_ptr(), NO_PREFIXES.len());
-    call(
-        table,
-        size,
-        prefixes,
-        prefixes_size,
-        router,
-        router_size,
-        source,
-        source_size,
-        group,
-        group_size,
-        output,
-        LEAST_OUTPUT,
-    )
+    report.beside(&format!("{name}, to match"), archive, || unsafe { ask(match_flow, table, flow, output) });
 }

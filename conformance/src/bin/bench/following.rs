@@ -4,22 +4,18 @@
 use crate::{
     report::Report,
     routes::{routes, Route},
-    table::{table_of, COUNTED, FEW},
+    table::{counted_or_timed, table_of, TABLES},
 };
 use conformance::{
-    cases::samples::GOOD_AFIS,
+    cases::inputs::samples::GOOD_AFIS,
     ffi::{raw, Following, TableInfo},
     plain,
-    second::{
-        choice::LEAST_OUTPUT,
-        table::{size, MOST_PLACES},
-    },
+    second::matches::choice::LEAST_OUTPUT,
 };
 use std::{fmt::Debug, hint::black_box};
 
 pub fn rows(report: &mut Report) {
-    for (places, held) in [(COUNTED, 0), (COUNTED, 1), (MOST_PLACES, 0), (MOST_PLACES, FEW), (MOST_PLACES, MOST_PLACES)]
-    {
+    for (places, held) in TABLES {
         for afi in GOOD_AFIS {
             let all = routes(afi, held);
             let table = table_of(afi, places, &all);
@@ -45,9 +41,8 @@ pub fn rows(report: &mut Report) {
 
 /// A row of calls that must give this route, or none.
 fn next(report: &mut Report, name: &str, table: &[u8], nlri: &[u8], route: Option<&Route>) {
-    let written = route.map_or_else(Vec::new, |Route { nlri, attribute, .. }| [&nlri[..], attribute].concat());
-    let [nlri_size, attribute_size] =
-        route.map_or([0; 2], |Route { nlri, attribute, .. }| [nlri, attribute].map(|octets| octets.len() as u32));
+    let written = route.map_or_else(Vec::new, Route::octets);
+    let [nlri_size, attribute_size] = route.map_or([0; 2], Route::sizes);
     let mut buffer = [0u8; LEAST_OUTPUT];
     let output = buffer.as_mut_ptr();
     let calls = black_box([raw::mvpn_next as raw::Next, plain::next]).map(|call| {
@@ -65,8 +60,5 @@ fn row<Answer: PartialEq + Debug>(
     expected: &Answer,
 ) {
     report.check(name, &calls.each_ref().map(|call| call()), expected);
-    match table.len() <= size(COUNTED) {
-        true => report.count(name, calls),
-        false => report.timed(name, calls),
-    }
+    counted_or_timed(report, name, table, calls);
 }

@@ -19,7 +19,7 @@ mod measure;
 mod pieces;
 mod plan;
 mod planning;
-mod ranges;
+mod prefixes;
 mod report;
 mod restarts;
 mod routes;
@@ -29,7 +29,7 @@ mod table;
 mod unlearnt;
 
 use conformance::{
-    cases::{
+    cases::inputs::{
         near,
         samples::{attributes, mldp, nlris, Sample, GOOD_AFIS},
     },
@@ -37,7 +37,7 @@ use conformance::{
     options::SEED,
     plain,
     random::Random,
-    second::run::SKIP,
+    second::runs::run::SKIP,
 };
 use measure::Clock;
 use report::{Report, Task};
@@ -104,7 +104,7 @@ fn all_rows(task: Task) -> ExitCode {
         tunnel(&mut report, &attribute);
     }
     table::rows(&mut report);
-    ranges::rows(&mut report);
+    prefixes::rows(&mut report);
     restarts::rows(&mut report);
     explain::rows(&mut report);
     plan::rows(&mut report);

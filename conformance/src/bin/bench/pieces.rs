@@ -5,7 +5,7 @@ use crate::{report::Report, RUN, WALKS};
 use conformance::{
     ffi::{raw, Walked, UNFINISHED},
     plain,
-    second::run::SKIP,
+    second::runs::run::SKIP,
 };
 use std::hint::black_box;
 

@@ -4,16 +4,14 @@
 use crate::report::Report;
 use conformance::{
     cases::{
-        lists::list,
-        plan::{many_flows, wanted_attributes, Case},
-        routes::Addresses,
-        samples::GOOD_AFIS,
+        inputs::{lists::list, routes::Addresses, samples::GOOD_AFIS},
+        plan::plans::{many_flows, wanted_attributes, Case},
     },
-    ffi::{raw, Judged, Planned},
+    ffi::{raw, Judged},
     plain,
     second::{
-        plan::{Wish, LONGEST_PROPOSAL, MOST_FLOWS},
-        table::PLACE,
+        plan::wish::{Wish, LONGEST_PROPOSAL, MOST_FLOWS},
+        table::memory::PLACE,
         Second,
     },
 };
@@ -48,28 +46,17 @@ fn judge(report: &mut Report, afi: u16) {
         case.flows.iter().flat_map(|[source, group, wanted]| case.place(source, group, wanted, 0)).collect();
     let name = format!("judge, afi {afi}, {MOST_FLOWS} flows, {} places", places.len() / PLACE);
     let (wish, places) = (case.wish(&flows), &places[..]);
-    let calls = black_box([raw::mvpn_judge as raw::Judge, plain::judge]).map(|call| move || judged(call, wish, places));
+    let calls = black_box([raw::mvpn_judge as raw::Judge, plain::judge])
+        .map(|call| move || unsafe { raw::on_wish(call, afi, lent(&wish), raw::octets(places)) });
     report.check(&name, &calls.each_ref().map(|call| call()), &Judged { number: 0, accepted: 1 });
     report.timed(&name, calls);
 }
 
-fn judged(call: raw::Judge, wish: Wish, places: &[u8]) -> Judged {
-    let Wish { afi, prefixes, originator, distinguisher, flows } = wish;
-    unsafe {
-        call(
-            afi,
-            prefixes.as_ptr(),
-            prefixes.len(),
-            originator.as_ptr(),
-            originator.len(),
-            distinguisher.as_ptr(),
-            distinguisher.len(),
-            flows.as_ptr(),
-            black_box(flows.len()),
-            places.as_ptr(),
-            places.len(),
-        )
-    }
+/// The arguments of both calls but the AFI and the places.
+#[inline(always)]
+fn lent(wish: &Wish) -> [raw::Octets; 4] {
+    let flows = (wish.flows.as_ptr(), black_box(wish.flows.len()));
+    [raw::octets(wish.prefixes), raw::octets(wish.originator), raw::octets(wish.distinguisher), flows]
 }
 
 fn plan(report: &mut Report, afi: u16, attributes: usize) {
@@ -79,7 +66,8 @@ fn plan(report: &mut Report, afi: u16, attributes: usize) {
     let wish = case.wish(&flows);
     let mut buffer = vec![0u8; LONGEST_PROPOSAL];
     let output = buffer.as_mut_ptr();
-    let calls = black_box([raw::mvpn_plan as raw::Plan, plain::plan]).map(|call| move || planned(call, wish, output));
+    let calls = black_box([raw::mvpn_plan as raw::Plan, plain::plan])
+        .map(|call| move || unsafe { raw::on_wish(call, afi, lent(&wish), (output, LONGEST_PROPOSAL)) });
     let wrong = calls.each_ref().map(|call| unsafe {
         output.write_bytes(0x5A, LONGEST_PROPOSAL);
         let answer = call();
@@ -89,24 +77,5 @@ fn plan(report: &mut Report, afi: u16, attributes: usize) {
     report.check(&name, &wrong, &None);
     if let Some(clock) = report.clock() {
         report.time(&name, clock.best(&calls), None);
-    }
-}
-
-fn planned(call: raw::Plan, wish: Wish, output: *mut u8) -> Planned {
-    let Wish { afi, prefixes, originator, distinguisher, flows } = wish;
-    unsafe {
-        call(
-            afi,
-            prefixes.as_ptr(),
-            prefixes.len(),
-            originator.as_ptr(),
-            originator.len(),
-            distinguisher.as_ptr(),
-            distinguisher.len(),
-            flows.as_ptr(),
-            black_box(flows.len()),
-            output,
-            LONGEST_PROPOSAL,
-        )
     }
 }

@@ -5,12 +5,15 @@
 use crate::{
     report::Report,
     routes::{of_many, routes, Route},
-    table::{matched, table_of, COUNTED},
+    table::{ask, table_of, COUNTED},
 };
 use conformance::{
-    cases::samples::GOOD_AFIS,
+    cases::inputs::samples::GOOD_AFIS,
     ffi::{raw, Matched},
-    second::{choice::LEAST_OUTPUT, splitting::hash, table::MOST_PLACES},
+    second::{
+        matches::choice::LEAST_OUTPUT,
+        table::{memory::MOST_PLACES, splitting::hash},
+    },
 };
 use std::hint::black_box;
 
@@ -45,7 +48,7 @@ fn alone(report: &mut Report, afi: u16) {
         let one = table_of(afi, COUNTED, [&all[route]]);
         let mut buffer = [0u8; LEAST_OUTPUT];
         let output = buffer.as_mut_ptr();
-        let asks = |table| move || unsafe { matched(black_box(raw::mvpn_match), black_box(table), flow, output) };
+        let asks = |table| move || unsafe { ask(black_box(raw::mvpn_match), black_box(table), flow, output) };
         let name = format!("match, afi {afi}, places {MOST_PLACES}, held {MOST_PLACES}, to one place, {name}");
         report.check(&name, &[(asks(&full)().tier, asks(&one)().tier); 2], &(1, tier));
         report.beside(&name, asks(&full), asks(&one));
@@ -60,9 +63,9 @@ fn several(report: &mut Report, afi: u16) {
     let flows: Vec<(usize, &Route)> = (0..FLOWS).map(|at| (at % ORIGINATORS, &all[at % ORIGINATORS][at / 2])).collect();
     let mut buffer = [0u8; LEAST_OUTPUT];
     let output = buffer.as_mut_ptr();
-    let ask = |table: &[u8], route: &Route| unsafe { matched(black_box(raw::mvpn_match), table, &route.flow, output) };
-    let by_originator = |(originator, route): (usize, &Route)| ask(&originators[originator], route);
-    let by_hash = |(_, route): (usize, &Route)| ask(&small[small_of(route)], route);
+    let matched = |table: &[u8], route: &Route| unsafe { ask(black_box(raw::mvpn_match), table, &route.flow, output) };
+    let by_originator = |(originator, route): (usize, &Route)| matched(&originators[originator], route);
+    let by_hash = |(_, route): (usize, &Route)| matched(&small[small_of(route)], route);
     let routes = ORIGINATORS * MOST_PLACES;
     let name = format!("{FLOWS} matches, afi {afi}, {routes} routes by originator, to small tables");
     let agree = |flow: &(usize, &Route)| by_originator(*flow) == by_hash(*flow) && by_hash(*flow).tier == 1;

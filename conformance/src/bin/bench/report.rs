@@ -151,6 +151,23 @@ impl Report {
         self.check(name, &outputs, &expected);
     }
 
+    /// Checks that each call gives this answer and changes a table as it should, from the first of these to the second.
+    pub fn check_changing<Answer: PartialEq + Debug>(
+        &mut self,
+        name: &str,
+        calls: &[impl Fn(*mut u8) -> Answer; 2],
+        [before, after]: [&[u8]; 2],
+        expected: Answer,
+    ) {
+        let results = calls.each_ref().map(|call| {
+            let mut table = before.to_vec();
+            let answer = call(table.as_mut_ptr());
+            // Where the first octet stands that is not as it should be.
+            (answer, table.iter().zip(after).position(|(is, should)| is != should))
+        });
+        self.check(name, &results, &(expected, None));
+    }
+
     /// Checks what the archive and plain Rust gave.
     pub fn check<Answer: PartialEq + Debug>(&mut self, name: &str, got: &[Answer; 2], expected: &Answer) {
         for (whose, got) in ["archive", "plain"].into_iter().zip(got) {

@@ -7,10 +7,10 @@ use crate::{
     table::table_of,
 };
 use conformance::{
-    cases::samples::GOOD_AFIS,
+    cases::inputs::samples::GOOD_AFIS,
     ffi::{raw, Restarted},
     plain,
-    second::table::{size, MOST_PLACES, PLACE},
+    second::table::memory::{size, MOST_PLACES, PLACE},
 };
 use std::hint::black_box;
 
@@ -66,13 +66,7 @@ fn row(report: &mut Report, name: &str, calls: [raw::Restart; 2], router: &[u8],
     let calls = black_box(calls).map(|call| {
         move |table: *mut u8| unsafe { call(table, before.len(), router.as_ptr(), black_box(router.len())) }
     });
-    let results = calls.each_ref().map(|call| {
-        let mut table = before.to_vec();
-        let answer = call(table.as_mut_ptr());
-        // Where the first octet stands that is not as it should be.
-        (answer, table.iter().zip(after).position(|(is, should)| is != should))
-    });
-    report.check(name, &results, &(Restarted { number: 0, gone }, None));
+    report.check_changing(name, &calls, tables, Restarted { number: 0, gone });
     if let Some(clock) = report.clock() {
         report.time(name, clock.best_changing(before, after, &calls), None);
     }

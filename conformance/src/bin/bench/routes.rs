@@ -1,7 +1,8 @@
 //! Routes that the measured tables hold.
 
 use conformance::{
-    cases::{routes::s_pmsi, samples::attributes},
+    cases::inputs::{routes::s_pmsi, samples::attributes},
+    ffi::Matched,
     random::Random,
     second::Second,
 };
@@ -16,6 +17,30 @@ pub struct Route {
     /// Router, source and group of a flow that takes this route, in this tier.
     pub flow: [Vec<u8>; 3],
     pub tier: u32,
+}
+
+impl Route {
+    /// What a call that takes this route writes: its NLRI and its attribute.
+    pub fn octets(&self) -> Vec<u8> {
+        [&self.nlri[..], &self.attribute].concat()
+    }
+
+    /// The sizes of both.
+    pub fn sizes(&self) -> [u32; 2] {
+        [&self.nlri, &self.attribute].map(|octets| octets.len() as u32)
+    }
+
+    /// The answer of a match that takes this route.
+    pub fn matched(&self) -> Matched {
+        let [nlri_size, attribute_size] = self.sizes();
+        Matched { number: 0, tier: self.tier, nlri_size, attribute_size }
+    }
+}
+
+/// The first (C-S,C-G) route, whose NLRI is one of the longest, from the middle on.
+pub fn middle(routes: &[Route]) -> &Route {
+    let upper = &routes[routes.len() / 2..];
+    upper.iter().find(|route| route.tier == 1).expect("the longest NLRIs are of tier 1")
 }
 
 /// Different routes in the order of their NLRIs: of each router one (C-*,C-*), every eighth (C-S,C-*) and (C-*,C-G), and

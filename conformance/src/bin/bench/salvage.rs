@@ -3,12 +3,12 @@
 
 use crate::{report::Report, routes::routes, table::table_of};
 use conformance::{
-    cases::samples::GOOD_AFIS,
+    cases::inputs::samples::GOOD_AFIS,
     ffi::{raw, Salvaged},
     plain,
-    second::{
+    second::table::{
+        memory::{HEADER, MOST_PLACES, PLACE},
         salvage::{BAD, DROPPED_PLACE},
-        table::{HEADER, MOST_PLACES, PLACE},
     },
 };
 use std::hint::black_box;

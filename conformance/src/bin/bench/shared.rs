@@ -4,9 +4,10 @@
 use crate::{
     report::Report,
     routes::{routes, Route},
+    table::table_of,
 };
 use conformance::{
-    cases::{
+    cases::inputs::{
         lists::{list, Item},
         routes::source_active,
         samples::GOOD_AFIS,
@@ -14,10 +15,12 @@ use conformance::{
     ffi::{raw, Matched, SharedTree},
     plain,
     second::{
-        choice::LEAST_OUTPUT,
-        ranges::NO_PREFIXES,
-        shared::{Reception, MOST_ITEMS},
-        table::{Table, MOST_PLACES},
+        groups::prefixes::NO_PREFIXES,
+        matches::{
+            choice::LEAST_OUTPUT,
+            shared::{Reception, MOST_ITEMS},
+        },
+        table::memory::MOST_PLACES,
     },
 };
 use std::hint::black_box;
@@ -38,8 +41,9 @@ fn row(report: &mut Report, afi: u16, held: usize, items: usize) {
     let name = format!("match_shared, afi {afi}, held {held}, items {items}");
     let all = routes(afi, MOST_PLACES);
     let shared: Vec<&Route> = all.iter().filter(|route| route.tier == TIER).collect();
-    let Route { nlri, attribute, flow, .. } = shared[shared.len() / 2];
-    let table = table_of(afi, &all[..held]);
+    let route = shared[shared.len() / 2];
+    let flow = &route.flow;
+    let table = table_of(afi, MOST_PLACES, &all[..held]);
     let [source_actives, states] = &lists(flow, items);
     let facts = SharedTree { upstream: u32::from(items == 0), ..Default::default() };
     let (prefixes, router, group) = (NO_PREFIXES, &flow[0], &flow[2]);
@@ -48,7 +52,7 @@ fn row(report: &mut Report, afi: u16, held: usize, items: usize) {
     let output = buffer.as_mut_ptr();
     let calls = black_box([raw::mvpn_match_shared as raw::MatchShared, plain::match_shared]);
     let calls = calls.map(|call| matching(call, &table, reception, output));
-    let written = if held == 0 { Vec::new() } else { [&nlri[..], attribute].concat() };
+    let written = if held == 0 { Vec::new() } else { route.octets() };
     report.check_output(&calls, output, LEAST_OUTPUT, &written, &name);
     report.timed(&name, calls);
 }
@@ -60,32 +64,12 @@ fn matching<'a>(
     reception: Reception<'a>,
     output: *mut u8,
 ) -> impl Fn() -> Matched + 'a {
+    let Reception { prefixes, router, group, facts, source_actives, states } = reception;
+    let ([table, prefixes], lists) = ([table, prefixes].map(raw::octets), [source_actives, states].map(raw::octets));
     move || unsafe {
-        let Reception { prefixes, router, group, facts, source_actives, states } = reception;
-        call(
-            table.as_ptr(),
-            table.len(),
-            prefixes.as_ptr(),
-            prefixes.len(),
-            router.as_ptr(),
-            router.len(),
-            group.as_ptr(),
-            black_box(group.len()),
-            facts,
-            source_actives.as_ptr(),
-            source_actives.len(),
-            states.as_ptr(),
-            states.len(),
-            output,
-            LEAST_OUTPUT,
-        )
+        let tree = [raw::octets(router), (group.as_ptr(), black_box(group.len()))];
+        raw::on_tree(call, table, prefixes, tree, facts, lists, (output, LEAST_OUTPUT))
     }
-}
-
-/// A table of the most places that holds these routes.
-fn table_of(afi: u16, routes: &[Route]) -> Vec<u8> {
-    let routes = routes.iter().map(|route| (route.nlri.clone(), route.attribute.clone())).collect();
-    Table::holding(afi, MOST_PLACES, routes).image()
 }
 
 /// So many Source Active routes of the flow's router for its group, and so many states: every route but the last has one.

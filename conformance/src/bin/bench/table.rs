@@ -3,16 +3,16 @@
 use crate::{
     measure::Clock,
     report::{line, Memory, Report},
-    routes::{routes, Route},
+    routes::{middle, routes, Route},
 };
 use conformance::{
-    cases::samples::GOOD_AFIS,
+    cases::inputs::samples::GOOD_AFIS,
     ffi::{raw, Installed, Matched},
     plain,
     second::{
-        choice::LEAST_OUTPUT,
-        ranges::NO_PREFIXES,
-        table::{size, MOST_PLACES},
+        groups::prefixes::NO_PREFIXES,
+        matches::choice::LEAST_OUTPUT,
+        table::memory::{size, MOST_PLACES},
     },
 };
 use std::{
@@ -27,6 +27,10 @@ pub const FEW: usize = 5;
 
 /// Octets that reading the memory looks at together.
 const BLOCK: usize = 64;
+
+/// Places and routes held of the tables on which calls that change none of them are measured.
+pub const TABLES: [(usize, usize); 5] =
+    [(COUNTED, 0), (COUNTED, 1), (MOST_PLACES, 0), (MOST_PLACES, FEW), (MOST_PLACES, MOST_PLACES)];
 
 /// The most places of the tables whose rows are counted.
 pub const COUNTED: usize = 1;
@@ -112,8 +116,7 @@ fn empty(rows: &mut Rows) {
 /// The route that is matched, installed and withdrawn stands about in the middle.
 fn filled(rows: &mut Rows) {
     let all = routes(rows.afi, rows.held);
-    let middle = (all.len() / 2..all.len()).find(|at| all[*at].tier == 1).expect("the longest NLRIs are of tier 1");
-    let route = &all[middle];
+    let route = middle(&all);
     let before = table_of(rows.afi, rows.places, all.iter().filter(|other| other.nlri != route.nlri));
     let table = table_of(rows.afi, rows.places, &all);
     rows.matching("match found", &table, &route.flow, Some(route));
@@ -140,17 +143,30 @@ pub fn table_of<'a>(afi: u16, places: usize, routes: impl IntoIterator<Item = &'
     table
 }
 
+/// A row of calls on a table: in instructions where it has few places.
+pub fn counted_or_timed<Answer: PartialEq + Debug>(
+    report: &mut Report,
+    name: &str,
+    table: &[u8],
+    calls: [impl Fn() -> Answer; 2],
+) {
+    match table.len() <= size(COUNTED) {
+        true => report.count(name, calls),
+        false => report.timed(name, calls),
+    }
+}
+
 pub const INSTALLS: [raw::Install; 2] = [raw::mvpn_install, plain::install];
 pub const WITHDRAWALS: [raw::Withdraw; 2] = [raw::mvpn_withdraw, plain::withdraw];
 pub const MATCHES: [raw::Match; 2] = [raw::mvpn_match, plain::match_flow];
 
-/// A match with the least output, and no prefixes.
+/// A match or an explanation with the least output, and no prefixes.
 ///
 /// # Safety
 /// The output has `LEAST_OUTPUT` octets and overlaps nothing.
 #[inline(always)]
-pub unsafe fn matched(call: raw::Match, table: &[u8], flow: &[Vec<u8>; 3], output: *mut u8) -> Matched {
-    matched_by(call, table, NO_PREFIXES, flow, output)
+pub unsafe fn ask<Answer>(call: raw::OnFlow<Answer>, table: &[u8], flow: &[Vec<u8>; 3], output: *mut u8) -> Answer {
+    ask_by(call, table, NO_PREFIXES, flow, output)
 }
 
 /// The same by these prefixes.
@@ -158,30 +174,15 @@ pub unsafe fn matched(call: raw::Match, table: &[u8], flow: &[Vec<u8>; 3], outpu
 /// # Safety
 /// As above.
 #[inline(always)]
-pub unsafe fn matched_by(
-    call: raw::Match,
+pub unsafe fn ask_by<Answer>(
+    call: raw::OnFlow<Answer>,
     table: &[u8],
     prefixes: &[u8],
     flow: &[Vec<u8>; 3],
     output: *mut u8,
-) -> Matched {
-    let [(router, router_size), (source, source_size), (group, group_size)] =
-        flow.each_ref().map(|octets| (octets.as_ptr(), octets.len()));
-    let (table, size, prefixes, prefixes_size) = (table.as_ptr(), table.len(), prefixes.as_ptr(), prefixes.len());
-    call(
-        table,
-        size,
-        prefixes,
-        prefixes_size,
-        router,
-        router_size,
-        source,
-        source_size,
-        group,
-        group_size,
-        output,
-        LEAST_OUTPUT,
-    )
+) -> Answer {
+    let flow = flow.each_ref().map(|octets| raw::octets(octets));
+    raw::on_flow(call, raw::octets(table), raw::octets(prefixes), flow, (output, LEAST_OUTPUT))
 }
 
 impl Rows<'_> {
@@ -215,13 +216,7 @@ impl Rows<'_> {
         calls: [impl Fn(*mut u8) -> Answer; 2],
     ) {
         let name = self.name(call);
-        let results = calls.each_ref().map(|call| {
-            let mut table = before.to_vec();
-            let answer = call(table.as_mut_ptr());
-            // Where the first octet stands that is not as it should be.
-            (answer, table.iter().zip(after).position(|(is, should)| is != should))
-        });
-        self.report.check(&name, &results, &(expected, None));
+        self.report.check_changing(&name, &calls, [before, after], expected);
         if self.places <= COUNTED {
             let calls = calls.each_ref().map(|call| {
                 let mut table = before.to_vec();
@@ -238,15 +233,11 @@ impl Rows<'_> {
         let name = self.name(call);
         let (expected, written) = match route {
             None => (Matched::default(), Vec::new()),
-            Some(Route { nlri, attribute, tier, .. }) => {
-                let [nlri_size, attribute_size] = [nlri, attribute].map(|octets| octets.len() as u32);
-                let answer = Matched { number: 0, tier: *tier, nlri_size, attribute_size };
-                (answer, [&nlri[..], attribute].concat())
-            }
+            Some(route) => (route.matched(), route.octets()),
         };
         let mut buffer = [0u8; LEAST_OUTPUT];
         let output = buffer.as_mut_ptr();
-        let calls = black_box(MATCHES).map(|call| move || unsafe { matched(call, table, flow, output) });
+        let calls = black_box(MATCHES).map(|call| move || unsafe { ask(call, table, flow, output) });
         self.report.check(&name, &calls.map(|call| call()), &expected);
         self.report.check_output(&calls, output, LEAST_OUTPUT, &written, &name);
         if self.places <= COUNTED {

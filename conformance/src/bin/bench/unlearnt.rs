@@ -5,16 +5,16 @@ use crate::{
     report::Report,
     routes::{random_routes, Route},
     steps,
-    table::{matched, table_of, INSTALLS, MATCHES, NEW, WITHDRAWALS},
+    table::{ask, table_of, INSTALLS, MATCHES, NEW, WITHDRAWALS},
     whole_run, RUN, STEPS, WALKS,
 };
 use conformance::{
-    cases::samples::GOOD_AFIS,
+    cases::inputs::samples::GOOD_AFIS,
     ffi::{Installed, Matched, Stepped, Walked},
     options::SEED,
     plain,
     random::Random,
-    second::{choice::LEAST_OUTPUT, run::SKIP, table::MOST_PLACES},
+    second::{matches::choice::LEAST_OUTPUT, runs::run::SKIP, table::memory::MOST_PLACES},
 };
 use std::{fmt::Debug, hint::black_box};
 
@@ -136,7 +136,7 @@ fn matches(report: &mut Report, tables: &Tables) {
     }
     let calls = black_box(MATCHES).map(|call| {
         move |Asked { table, flow, output }: &mut Asked| {
-            let Matched { number, tier, .. } = unsafe { matched(call, table, flow, output.as_mut_ptr()) };
+            let Matched { number, tier, .. } = unsafe { ask(call, table, flow, output.as_mut_ptr()) };
             (number, tier > 0)
         }
     });

@@ -1,0 +1,5 @@
+//! Bit strings of BIER packets: written examples, strings that are made, and refusals.
+
+pub mod examples;
+pub mod refusals;
+pub mod strings;

@@ -1,0 +1,4 @@
+//! The class of a customer group, and the prefixes that decide it.
+
+pub mod class;
+pub mod prefixes;
