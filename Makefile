@@ -1,18 +1,26 @@
 # Needs the Rattle toolchain (`rt`), and `make bench` also cargo, and valgrind to count instructions. What `make test` needs is
-# in README.md. Everything that is made lies in target/, but for the README's figures and plot. `rt` itself knows what has
+# in README.md. Everything that is made lies in target/, but for the figures and the plot of docs/SPEED.md. `rt` itself knows what has
 # changed, so no target is a file.
 
-.PHONY: all archive listing list test bench figures sizes install uninstall clean
+.PHONY: all archive listing show list test bench figures sizes install uninstall clean
 .NOTPARALLEL:
 
-# The archive for C, target/staticlib/libmvpn.a, and the listing program, target/bin/mvpn_list.
-all: archive listing
+# The archive for C, target/staticlib/libmvpn.a, the listing program, target/bin/mvpn_list, and the showing program, mvpn_show.
+all: archive listing show
 
 archive:
 	rt staticlib mvpn
 
 listing:
 	rt check mvpn_list
+
+# The showing program is C, and is built of the archive that there is.
+CFLAGS = -O2
+show:
+	@test -f target/staticlib/libmvpn.a || { echo "make show: there is no archive; run 'make archive' first" >&2; exit 1; }
+	mkdir -p target/bin
+	$(CC) -std=c99 $(CFLAGS) -Iinclude -Iprograms/shared programs/mvpn_show/*.c programs/shared/*.c \
+	    target/staticlib/libmvpn.a $(LDFLAGS) -o target/bin/mvpn_show
 
 # Proves, builds, and lists the sample run.
 list: listing
@@ -32,11 +40,11 @@ run_bench = CARGO_TARGET_DIR='$(CURDIR)/target/cargo' MVPN_LIB_DIR='$(CURDIR)/ta
 bench: archive
 	$(run_bench) >target/bench.txt; status=$$?; cat target/bench.txt; exit $$status
 
-# Octets by which the code is moved in each run for the README: every place of a function, which lies at a multiple of 16, in
+# Octets by which the code is moved in each run for docs/SPEED.md: every place of a function, which lies at a multiple of 16, in
 # the 64 octets of a line of the cache.
 shifts = 0 16 32 48
 
-# The README's figures and its plot. The machine should have nothing else to do.
+# The figures and the plot of docs/SPEED.md. The machine should have nothing else to do.
 figures: archive
 	for shift in $(shifts); do BENCH_SHIFT=$$shift $(run_bench) >target/bench.$$shift.txt || exit 1; done
 	tools/figures $(shifts:%=target/bench.%.txt)
@@ -55,11 +63,12 @@ PKGCONFIGDIR = $(LIBDIR)/pkgconfig
 MANDIR = $(PREFIX)/share/man
 DOCDIR = $(PREFIX)/share/doc/mvpn
 
-# The calls; the manual page of each leads to mvpn(3).
-calls = ${shell sed -n 's/^[a-z].* \(mvpn_[a-z_]*\)(.*/\1/p' include/mvpn.h}
+# The calls, and the functions that the header defines, whose names begin a line; the manual page of each leads to mvpn(3).
+calls = ${shell sed -n -e 's/^[a-z].* \(mvpn_[a-z_]*\)(.*/\1/p' -e 's/^\(mvpn_[a-z_]*\)(.*/\1/p' include/mvpn.h}
 
-# The examples, with the README that goes with them.
+# The examples, with the README that goes with them; and what they share with the showing program, which is installed beside them.
 examples = ${shell find examples -type f}
+shared = ${shell cd programs && find shared -type f}
 
 # In a recipe: the prefix, and a directory as mvpn.pc writes it.
 in_prefix = prefix='$(PREFIX)'; \
@@ -67,17 +76,19 @@ in_prefix = prefix='$(PREFIX)'; \
 
 # Installs what `make` has built. It builds nothing, so that it can run where the toolchain is not.
 install:
-	@test -f target/staticlib/libmvpn.a && test -x target/bin/mvpn_list || \
+	@test -f target/staticlib/libmvpn.a && test -x target/bin/mvpn_list && test -x target/bin/mvpn_show || \
 	    { echo "make install: nothing is built; run 'make' first" >&2; exit 1; }
 	install -d '$(DESTDIR)$(BINDIR)' '$(DESTDIR)$(INCLUDEDIR)' '$(DESTDIR)$(LIBDIR)' '$(DESTDIR)$(PKGCONFIGDIR)' \
 	    '$(DESTDIR)$(MANDIR)/man1' '$(DESTDIR)$(MANDIR)/man3' '$(DESTDIR)$(DOCDIR)'
-	install -m 755 target/bin/mvpn_list '$(DESTDIR)$(BINDIR)'
+	install -m 755 target/bin/mvpn_list target/bin/mvpn_show '$(DESTDIR)$(BINDIR)'
 	install -m 644 include/mvpn.h '$(DESTDIR)$(INCLUDEDIR)'
 	install -m 644 target/staticlib/libmvpn.a '$(DESTDIR)$(LIBDIR)'
-	install -m 644 man/mvpn_list.1 '$(DESTDIR)$(MANDIR)/man1'
+	install -m 644 man/mvpn_list.1 man/mvpn_show.1 '$(DESTDIR)$(MANDIR)/man1'
 	install -m 644 man/mvpn.3 '$(DESTDIR)$(MANDIR)/man3'
 	for call in $(calls); do install -m 644 man/call.3 '$(DESTDIR)$(MANDIR)/man3/'$$call.3; done
+	install -m 644 docs/NUMBERS.md '$(DESTDIR)$(DOCDIR)'
 	for file in $(examples); do install -D -m 644 $$file '$(DESTDIR)$(DOCDIR)/'$$file; done
+	for file in $(shared); do install -D -m 644 programs/$$file '$(DESTDIR)$(DOCDIR)/examples/'$$file; done
 	$(in_prefix); sed -e "s|@PREFIX@|$$(realpath -ms "$$prefix")|" -e "s|@INCLUDEDIR@|$$(in_prefix '$(INCLUDEDIR)')|" \
 	    -e "s|@LIBDIR@|$$(in_prefix '$(LIBDIR)')|" -e "s|@VERSION@|$$(cat VERSION)|" \
 	    mvpn.pc.in >'$(DESTDIR)$(PKGCONFIGDIR)/mvpn.pc'
@@ -85,9 +96,12 @@ install:
 
 uninstall:
 	rm -f '$(DESTDIR)$(BINDIR)/mvpn_list' '$(DESTDIR)$(INCLUDEDIR)/mvpn.h' '$(DESTDIR)$(LIBDIR)/libmvpn.a' \
-	    '$(DESTDIR)$(PKGCONFIGDIR)/mvpn.pc' '$(DESTDIR)$(MANDIR)/man1/mvpn_list.1' '$(DESTDIR)$(MANDIR)/man3/mvpn.3'
+	    '$(DESTDIR)$(PKGCONFIGDIR)/mvpn.pc' '$(DESTDIR)$(MANDIR)/man1/mvpn_list.1' '$(DESTDIR)$(MANDIR)/man3/mvpn.3' \
+	    '$(DESTDIR)$(BINDIR)/mvpn_show' '$(DESTDIR)$(MANDIR)/man1/mvpn_show.1'
 	for call in $(calls); do rm -f '$(DESTDIR)$(MANDIR)/man3/'$$call.3; done
+	rm -f '$(DESTDIR)$(DOCDIR)/NUMBERS.md'
 	for file in $(examples); do rm -f '$(DESTDIR)$(DOCDIR)/'$$file; done
+	for file in $(shared); do rm -f '$(DESTDIR)$(DOCDIR)/examples/'$$file; done
 	test ! -d '$(DESTDIR)$(DOCDIR)' || find '$(DESTDIR)$(DOCDIR)' -type d -empty -delete
 
 clean:

@@ -22,11 +22,10 @@
  * The routes of a plan are printed in the order of their NLRIs, as a table holds them, with the flows that take them.
  */
 #include "mvpn.h"
-#include "pe_daemon/words.h"
+#include "prefixes.h"
+#include "print.h"
+#include "text.h"
 
-#include <arpa/inet.h>
-#include <ctype.h>
-#include <stdbool.h>
 #include <stdio.h>
 #include <stdlib.h>
 #include <string.h>
@@ -51,49 +50,18 @@ typedef struct {
     uint16_t afi;
     mvpn_address originator;
     mvpn_route_distinguisher distinguisher;
-    struct { mvpn_address address; uint8_t length; } ranges[MOST_LINES];
+    group_prefixes ranges;
     named_tunnel tunnels[MOST_TUNNELS];
-    size_t range_count, tunnel_count;
+    size_t tunnel_count;
     assignments flows, routes;
 } planning;
 
 /* ---- words of a line */
 
-static bool is(const char *word, const char *name)
-{
-    return word && strcmp(word, name) == 0;
-}
-
-/* Whether a word is a number, of digits alone and not over `most`; what ends it is told. */
-static bool begins_with_number(const char *word, unsigned long most, unsigned long *number, const char **end)
-{
-    char *behind;
-    if (!word || !isdigit((unsigned char)word[0]))
-        return false;
-    *number = strtoul(word, &behind, 10);
-    *end = behind;
-    return *number <= most;
-}
-
-static bool is_number(const char *word, unsigned long most, unsigned long *number)
-{
-    const char *end;
-    return begins_with_number(word, most, number, &end) && !*end;
-}
-
-static bool is_address(const char *word, mvpn_address *address)
-{
-    memset(address, 0, sizeof *address);
-    if (!word)
-        return false;
-    address->size = strchr(word, ':') ? 16 : 4;
-    return inet_pton(address->size == 4 ? AF_INET : AF_INET6, word, address->octets) == 1;
-}
-
 static bool is_wildcard_or_address(const char *word, mvpn_address *address)
 {
     memset(address, 0, sizeof *address);
-    return is(word, "*") || is_address(word, address);
+    return is_word(word, "*") || is_address(word, address);
 }
 
 /* ---- tunnels */
@@ -154,7 +122,7 @@ static bool write_octets(named_tunnel *tunnel, const char *word)
 static const named_tunnel *tunnel_named(const planning *plan, const char *name)
 {
     for (size_t i = 0; i < plan->tunnel_count; i++)
-        if (is(name, plan->tunnels[i].name))
+        if (is_word(name, plan->tunnels[i].name))
             return &plan->tunnels[i];
     return NULL;
 }
@@ -174,10 +142,10 @@ static bool add_tunnel(planning *plan, char **words)
         tunnel_named(plan, words[0]))
         return false;
     named_tunnel *tunnel = &plan->tunnels[plan->tunnel_count];
-    bool right = is(words[1], "bier") ? write_bier(tunnel, words + 2)
-               : is(words[1], "ingress") ? write_ingress(tunnel, words + 2)
-               : is(words[1], "pim-ssm") ? write_pim_ssm(tunnel, words + 2)
-               : is(words[1], "octets") && write_octets(tunnel, words[2]);
+    bool right = is_word(words[1], "bier") ? write_bier(tunnel, words + 2)
+               : is_word(words[1], "ingress") ? write_ingress(tunnel, words + 2)
+               : is_word(words[1], "pim-ssm") ? write_pim_ssm(tunnel, words + 2)
+               : is_word(words[1], "octets") && write_octets(tunnel, words[2]);
     if (right) {
         strcpy(tunnel->name, words[0]);
         plan->tunnel_count++;
@@ -188,14 +156,6 @@ static bool add_tunnel(planning *plan, char **words)
 /* ---- what is lent to the library */
 
 enum { LONGEST_LIST = 2 + MOST_LINES * (2 + 16 + 2 + 16 + 2 + MVPN_LONGEST_ATTRIBUTE + 1) };
-
-static size_t write_prefixes(const planning *plan, uint8_t *list, size_t space)
-{
-    size_t size = mvpn_list_start(list, space, (uint16_t)plan->range_count);
-    for (size_t i = 0; i < plan->range_count; i++)
-        size = mvpn_list_prefix(list, space, size, plan->ranges[i].address.octets, plan->ranges[i].address.size, plan->ranges[i].length);
-    return size;
-}
 
 static size_t write_flows(const planning *plan, uint8_t *list, size_t space)
 {
@@ -251,14 +211,10 @@ static void list_table(const planning *plan, const uint8_t *table)
         if (next.nlri_size == 0)
             break;
         const uint8_t *attribute = route + next.nlri_size;
-        mvpn_nlri fields = mvpn_nlri_read(plan->afi, route, next.nlri_size).nlri;
-        mvpn_attribute_reading tunnel = mvpn_attribute_read(attribute, next.attribute_size);
         printf("  ");
-        print_route(&fields);
+        print_nlri(plan->afi, (octets){ route, next.nlri_size });
         printf("\n    %s: ", name_of(plan, attribute, next.attribute_size));
-        print_tunnel(&tunnel);
-        printf("; ");
-        print_identifier(&tunnel, attribute);
+        print_attribute((octets){ attribute, next.attribute_size });
         printf("\n");
         size = next.nlri_size;
         memcpy(nlri, route, size);
@@ -266,11 +222,11 @@ static void list_table(const planning *plan, const uint8_t *table)
 }
 
 /* What a flow takes in the table, where it is asked for all flows or is not what is wanted. */
-static void print_flow(const planning *plan, const uint8_t *table, const assignment *flow, bool always)
+static void print_taken(const planning *plan, const uint8_t *table, const assignment *flow, bool always)
 {
-    uint8_t prefixes[LONGEST_LIST], route[MVPN_MATCH_OUTPUT];
-    size_t prefixes_len = write_prefixes(plan, prefixes, sizeof prefixes);
-    mvpn_matched match = mvpn_match(table, TABLE_SIZE, prefixes, prefixes_len, plan->originator.octets, plan->originator.size,
+    uint8_t list[PREFIXES_SPACE], route[MVPN_MATCH_OUTPUT];
+    octets prefixes = list_prefixes(&plan->ranges, list);
+    mvpn_matched match = mvpn_match(table, TABLE_SIZE, prefixes.at, prefixes.size, plan->originator.octets, plan->originator.size,
                                     flow->source.octets, flow->source.size, flow->group.octets, flow->group.size, route, sizeof route);
     const uint8_t *attribute = route + match.nlri_size;
     bool served = match.tier != MVPN_NO_TIER && match.attribute_size == flow->tunnel->size &&
@@ -294,16 +250,17 @@ static void print_flow(const planning *plan, const uint8_t *table, const assignm
 static void print_flows(const planning *plan, const uint8_t *table, bool always)
 {
     for (size_t i = 0; i < plan->flows.count; i++)
-        print_flow(plan, table, &plan->flows.of[i], always);
+        print_taken(plan, table, &plan->flows.of[i], always);
 }
 
 /* ---- what is asked */
 
 static mvpn_judged judge(const planning *plan, const uint8_t *places, size_t places_len)
 {
-    uint8_t prefixes[LONGEST_LIST], flows[LONGEST_LIST];
-    size_t prefixes_len = write_prefixes(plan, prefixes, sizeof prefixes), flows_len = write_flows(plan, flows, sizeof flows);
-    return mvpn_judge(plan->afi, prefixes, prefixes_len, plan->originator.octets, plan->originator.size, plan->distinguisher.octets,
+    uint8_t list[PREFIXES_SPACE], flows[LONGEST_LIST];
+    octets prefixes = list_prefixes(&plan->ranges, list);
+    size_t flows_len = write_flows(plan, flows, sizeof flows);
+    return mvpn_judge(plan->afi, prefixes.at, prefixes.size, plan->originator.octets, plan->originator.size, plan->distinguisher.octets,
                       sizeof plan->distinguisher.octets, flows, flows_len, places, places_len);
 }
 
@@ -317,9 +274,10 @@ static void print_refusal(uint32_t number)
 static void make_plan(const planning *plan)
 {
     static uint8_t table[TABLE_SIZE];
-    uint8_t prefixes[LONGEST_LIST], flows[LONGEST_LIST], places[MVPN_LONGEST_PROPOSAL];
-    size_t prefixes_len = write_prefixes(plan, prefixes, sizeof prefixes), flows_len = write_flows(plan, flows, sizeof flows);
-    mvpn_planned planned = mvpn_plan(plan->afi, prefixes, prefixes_len, plan->originator.octets, plan->originator.size,
+    uint8_t list[PREFIXES_SPACE], flows[LONGEST_LIST], places[MVPN_LONGEST_PROPOSAL];
+    octets prefixes = list_prefixes(&plan->ranges, list);
+    size_t flows_len = write_flows(plan, flows, sizeof flows);
+    mvpn_planned planned = mvpn_plan(plan->afi, prefixes.at, prefixes.size, plan->originator.octets, plan->originator.size,
                                      plan->distinguisher.octets, sizeof plan->distinguisher.octets, flows, flows_len, places,
                                      sizeof places);
     printf("plan, %s, flows %zu: ", family_name(plan->afi), plan->flows.count);
@@ -356,8 +314,8 @@ static void judge_routes(planning *plan)
 
 static bool set_family(planning *plan, const char *word)
 {
-    plan->afi = is(word, "ipv6") ? MVPN_AFI_IPV6 : MVPN_AFI_IPV4;
-    return is(word, "ipv4") || is(word, "ipv6");
+    plan->afi = is_word(word, "ipv6") ? MVPN_AFI_IPV6 : MVPN_AFI_IPV4;
+    return is_word(word, "ipv4") || is_word(word, "ipv6");
 }
 
 /* A route distinguisher of type 0: an autonomous system's number of two octets, and a number of four. */
@@ -373,15 +331,13 @@ static bool set_distinguisher(planning *plan, const char *word)
     return true;
 }
 
-static bool add_range(planning *plan, char *word)
+static bool add_range(planning *plan, const char *word)
 {
-    unsigned long length;
-    char *slash = word ? strchr(word, '/') : NULL;
-    if (!slash || plan->range_count == MOST_LINES || !is_number(slash + 1, 255, &length))
+    group_prefix prefix;
+    if (!is_prefix(word, &prefix))
         return false;
-    *slash = '\0';
-    plan->ranges[plan->range_count].length = (uint8_t)length;
-    return is_address(word, &plan->ranges[plan->range_count++].address);
+    hold_prefix(&plan->ranges, &prefix);
+    return true;
 }
 
 static bool add_assignment(const planning *plan, assignments *list, char **words, bool wildcards)
@@ -404,26 +360,26 @@ static bool read_line(planning *plan, char *line)
         words[count++] = word;
     if (count == 0)
         return true;
-    if (is(words[0], "family"))
+    if (is_word(words[0], "family"))
         return set_family(plan, words[1]);
-    if (is(words[0], "originator"))
+    if (is_word(words[0], "originator"))
         return is_address(words[1], &plan->originator);
-    if (is(words[0], "rd"))
+    if (is_word(words[0], "rd"))
         return set_distinguisher(plan, words[1]);
-    if (is(words[0], "ssm"))
+    if (is_word(words[0], "ssm"))
         return add_range(plan, words[1]);
-    if (is(words[0], "tunnel"))
+    if (is_word(words[0], "tunnel"))
         return add_tunnel(plan, words + 1);
-    if (is(words[0], "flow"))
+    if (is_word(words[0], "flow"))
         return add_assignment(plan, &plan->flows, words + 1, false);
-    if (is(words[0], "route"))
+    if (is_word(words[0], "route"))
         return add_assignment(plan, &plan->routes, words + 1, true);
-    if (is(words[0], "plan"))
+    if (is_word(words[0], "plan"))
         make_plan(plan);
-    else if (is(words[0], "judge"))
+    else if (is_word(words[0], "judge"))
         judge_routes(plan);
-    else if (is(words[0], "clear"))
-        plan->flows.count = plan->range_count = 0;
+    else if (is_word(words[0], "clear"))
+        plan->flows.count = plan->ranges.count = 0;
     else
         return false;
     return true;

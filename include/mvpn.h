@@ -1,31 +1,32 @@
 /*
- * mvpn.h: MCAST-VPN NLRI (RFC 6514, RFC 6625, RFC 7441) and the PMSI Tunnel attribute (RFC 6514, RFC 8556), read and written; one
- * VRF's S-PMSI A-D routes for one address family, kept in memory that the caller lends, and the route that a customer
- * flow (C-S,C-G) or a shared tree (C-*,C-G) takes; of a flow also why; the routes of a table, one after another; a router's
- * routes kept while it restarts (RFC 4724); a sound table made of what is good in a damaged one; the bit string of the egress routers
- * that must get a BIER packet (RFC 8556, RFC 8279); few routes, with wildcards among them, by which each of many flows takes the
- * tunnel that is wanted for it.
+ * mvpn.h: multicast VPN routes. The calls
+ *   - read and write MCAST-VPN NLRIs (RFC 6514, RFC 6625, RFC 7441) and the PMSI Tunnel attribute (RFC 6514, RFC 8556);
+ *   - keep one VRF's S-PMSI A-D routes for one address family in a table, in memory that the caller lends, and list them;
+ *   - find the route that a customer flow (C-S,C-G) or a shared tree (C-*,C-G) takes, and say why a flow takes it;
+ *   - keep a router's routes while it restarts (RFC 4724), and make a sound table from what is good in a damaged one;
+ *   - make the bit string of the egress routers that must get a BIER packet (RFC 8556, RFC 8279);
+ *   - propose and judge few routes, with wildcards among them, by which each of many flows takes the tunnel wanted for it.
  *
- * Best paths, Route Targets, BGP sessions with their timers, and joining tunnels are the daemon's. So are SSM ranges other than
- * the standard one, and the knowledge of a shared tree that its match is told: which PE is upstream, which groups are BIDIR-PIM,
- * the Source Active routes and the (C-S,C-G) states.
+ * The daemon does the rest: best paths, Route Targets, BGP sessions with their timers, and joining tunnels. It also supplies SSM
+ * ranges other than the standard one, and what a match for a shared tree has to know: which PE is upstream, which groups are
+ * BIDIR-PIM, the Source Active routes and the (C-S,C-G) states.
  *
- * Every call ends with a stated answer on any octets. A call that refuses returns its number, changes no octet of any
- * buffer, and leaves every other field of its answer 0, but for what a walk counts and its offset, the cursor of a step, and
- * a reader of pieces: its own numbers stand for its state, and its `unfinished` is written by every feed that reads, also where
- * the NLRI is then refused.
+ * Every call ends with a stated answer, whatever octets it is given. A call that refuses returns the refusal's number, changes no
+ * octet of any buffer, and leaves every other field of its answer 0. There are three exceptions. A walk gives its counts and its
+ * offset. A step gives its cursor. A reader of pieces keeps its state in its numbers, and each feed that reads also writes
+ * `unfinished`, even if the NLRI is then refused.
  *
- * What the caller owes: a pointer is valid for the length given beside it, which is at most PTRDIFF_MAX; where the length
- * is 0 the pointer may be anything, null too. No alignment is asked. A buffer that is written overlaps no other argument.
+ * What the caller must ensure: a pointer is valid for the length given with it, which is at most PTRDIFF_MAX. If the length is 0,
+ * the pointer may be anything, even null. No alignment is required. A buffer that is written overlaps no other argument.
  *
- * Threads: the library keeps nothing between calls, has no state of its own, and takes no memory and no lock, so any
- * thread may make any call, and an answer depends on the call's arguments alone. Octets that are only read may be lent to
- * several calls at once; a buffer that a call writes is used by nobody else until the call ends. A table is written by make,
- * install, withdraw, mark, sweep and salvage alone, and the damaged one of a salvage is only read: matches, explanations and
- * listings may run at once on one table while none of those writes it, and seeing to that is the caller's. Calls on different
- * tables are independent. A call takes at most 2 KiB of stack.
+ * Threads: the library has no state of its own, keeps nothing between calls, allocates no memory and takes no lock. So any thread
+ * may make any call, and an answer depends on the call's arguments alone. Octets that are only read may be lent to several calls at
+ * once. While a call runs, nobody else may use a buffer that it writes. Only make, install, withdraw, mark, sweep and salvage write
+ * a table, and a salvage only reads the damaged one. Matches, explanations and listings may run at once on one table while none of
+ * those calls writes it; the caller must see to that. Calls on different tables are independent. A call uses at most 2 KiB of
+ * stack.
  *
- * Octets are in network order, as on the wire. AFI is 1 (IPv4) or 2 (IPv6), the whole 16-bit number.
+ * Octets are in network order, as on the wire. An AFI is the whole 16-bit number, 1 (IPv4) or 2 (IPv6).
  */
 #ifndef MVPN_H
 #define MVPN_H
@@ -39,37 +40,99 @@
 #define MVPN_VERSION_MINOR 17
 #define MVPN_VERSION_PATCH 0
 
-/* The version as one number, an octet for each part: what mvpn_version gives, where header and archive are of one version. */
+/* The version as one number, an octet for each part. mvpn_version gives the same number if the archive is of this version. */
 #define MVPN_VERSION_NUMBER (MVPN_VERSION_MAJOR * 65536 + MVPN_VERSION_MINOR * 256 + MVPN_VERSION_PATCH)
 
 #ifdef __cplusplus
 extern "C" {
 #endif
 
-/* The numbers a call gives back. */
+/* The numbers a call gives back. mvpn_number_text gives these words. The comment of each call below lists its refusals, without
+ * MVPN_, in the order in which they are tried; the first that applies is given. */
 enum {
-    MVPN_DONE = 0,    /* the work was done */
-    MVPN_SHORT = 1,   /* fewer octets than the header, or than the Length field, asks; a list that ends before its items do */
-    MVPN_TYPE = 2,    /* route type not 1 to 7, 0x43, 0x44 or 0x47 */
-    MVPN_LENGTH = 3,  /* the body ends inside a field, or what remains is not the last field, or octets follow a single NLRI */
-    MVPN_WIDTH = 4,   /* an address length that the type and family do not allow; at writing also an originator not of 4 or 16 octets */
-    MVPN_KEY = 5,     /* a Leaf's key is not a well-formed NLRI of type 1, 2 or 3; in type 0x44: of type 0x43 */
-    MVPN_TUNNEL = 6,  /* tunnel type not 0 to 7 or 11; of a route whose bit string is asked: not 11; of an attribute wanted for a flow also type 0 */
-    MVPN_IDENT = 7,   /* identifier not of that tunnel type's form; in an NLRI a bad FEC element */
-    MVPN_LONG = 8,    /* attribute over 64 octets, run over 4,096, list of more items than the call takes, prefixes apart; at writing a body for mLDP over 255; proposed places over 8,192 */
-    MVPN_LABEL = 9,   /* BIER with label 0 at install, in a route whose bit string is asked, or wanted for a flow; a label field over 16,777,215 at writing */
-    MVPN_FAMILY = 10, /* AFI not 1 or 2 */
-    MVPN_TABLE = 11,  /* lent memory is not a sound table; for making or salvaging one: not of a table's size */
-    MVPN_KIND = 12,   /* well-formed NLRI, but not type 3; in a list of Source Active routes: not type 5; in one of Leaf routes: not type 4 */
-    MVPN_ROOM = 13,   /* new NLRI and every place taken */
-    MVPN_ABSENT = 14, /* withdrawn NLRI not in the table */
-    MVPN_FLOW = 15,   /* router or originator address not 4 or 16 octets, source or group not of the family's size, or group asked not multicast; in a plan a distinguisher not 8 octets */
-    MVPN_SPACE = 16,  /* output buffer too small; for a salvaged table: not of the damaged memory's size */
-    MVPN_DEEP = 17,   /* the fourth FEC element from outside has an opaque value of type 7 or 8 */
-    MVPN_RANGE = 18,  /* more than eight prefixes; a prefix with an address not of the family's size, a length over it, or a bit set past the length */
-    MVPN_GROUP = 19,  /* a Source Active route (type 5) whose group is in the standard SSM range, 232.0.0.0/8 or FF3x::/32 */
-    MVPN_CONFLICT = 20 /* one flow is listed with two different attributes */
+    MVPN_DONE = 0,      /* the work was done */
+    MVPN_SHORT = 1,     /* fewer octets than a header, a Length field or a list's items ask */
+    MVPN_TYPE = 2,      /* a route type that is not 1 to 7, 0x43, 0x44 or 0x47 */
+    MVPN_LENGTH = 3,    /* the body ends inside a field, or what remains is not the last field, or octets follow a single NLRI */
+    MVPN_WIDTH = 4,     /* an address length that the type and family do not allow */
+    MVPN_KEY = 5,       /* a Leaf's key is not a well-formed NLRI, or is of the wrong type */
+    MVPN_TUNNEL = 6,    /* a tunnel type that is unknown, or that the call does not take */
+    MVPN_IDENT = 7,     /* an identifier that is not of its tunnel type's form, or in an NLRI a bad FEC element */
+    MVPN_LONG = 8,      /* more octets or items than the call takes */
+    MVPN_LABEL = 9,     /* BIER with label 0, or a label field over 16,777,215 */
+    MVPN_FAMILY = 10,   /* an AFI that is not 1 or 2 */
+    MVPN_TABLE = 11,    /* the lent memory is not a sound table, or not of a table's size */
+    MVPN_KIND = 12,     /* a well-formed NLRI that is not of the type asked */
+    MVPN_ROOM = 13,     /* a new NLRI, and every place is taken */
+    MVPN_ABSENT = 14,   /* the withdrawn NLRI is not in the table */
+    MVPN_FLOW = 15,     /* an address or distinguisher of the wrong size, or a group that is not multicast */
+    MVPN_SPACE = 16,    /* an output that is too small, or not of the size asked */
+    MVPN_DEEP = 17,     /* FEC elements hold one another over four deep */
+    MVPN_RANGE = 18,    /* more than eight prefixes, or a bad one */
+    MVPN_GROUP = 19,    /* a Source Active route for a group of the standard SSM range */
+    MVPN_CONFLICT = 20  /* one flow is listed with two different attributes */
 };
+
+/* The name of a number that a call gives back, without MVPN_. This function and those below whose names end in _name or _text give
+ * constant strings for logs and listings, and "unknown" for a number that they do not know. */
+static inline const char *
+mvpn_number_name(uint32_t number)
+{
+    switch (number) {
+    case MVPN_DONE: return "DONE";
+    case MVPN_SHORT: return "SHORT";
+    case MVPN_TYPE: return "TYPE";
+    case MVPN_LENGTH: return "LENGTH";
+    case MVPN_WIDTH: return "WIDTH";
+    case MVPN_KEY: return "KEY";
+    case MVPN_TUNNEL: return "TUNNEL";
+    case MVPN_IDENT: return "IDENT";
+    case MVPN_LONG: return "LONG";
+    case MVPN_LABEL: return "LABEL";
+    case MVPN_FAMILY: return "FAMILY";
+    case MVPN_TABLE: return "TABLE";
+    case MVPN_KIND: return "KIND";
+    case MVPN_ROOM: return "ROOM";
+    case MVPN_ABSENT: return "ABSENT";
+    case MVPN_FLOW: return "FLOW";
+    case MVPN_SPACE: return "SPACE";
+    case MVPN_DEEP: return "DEEP";
+    case MVPN_RANGE: return "RANGE";
+    case MVPN_GROUP: return "GROUP";
+    case MVPN_CONFLICT: return "CONFLICT";
+    default: return "unknown";
+    }
+}
+
+/* The meaning of a number that a call gives back, in one line. */
+static inline const char *
+mvpn_number_text(uint32_t number)
+{
+    switch (number) {
+    case MVPN_DONE: return "the work was done";
+    case MVPN_SHORT: return "fewer octets than a header, a Length field or a list's items ask";
+    case MVPN_TYPE: return "a route type that is not 1 to 7, 0x43, 0x44 or 0x47";
+    case MVPN_LENGTH: return "the body ends inside a field, or what remains is not the last field, or octets follow a single NLRI";
+    case MVPN_WIDTH: return "an address length that the type and family do not allow";
+    case MVPN_KEY: return "a Leaf's key is not a well-formed NLRI, or is of the wrong type";
+    case MVPN_TUNNEL: return "a tunnel type that is unknown, or that the call does not take";
+    case MVPN_IDENT: return "an identifier that is not of its tunnel type's form, or in an NLRI a bad FEC element";
+    case MVPN_LONG: return "more octets or items than the call takes";
+    case MVPN_LABEL: return "BIER with label 0, or a label field over 16,777,215";
+    case MVPN_FAMILY: return "an AFI that is not 1 or 2";
+    case MVPN_TABLE: return "the lent memory is not a sound table, or not of a table's size";
+    case MVPN_KIND: return "a well-formed NLRI that is not of the type asked";
+    case MVPN_ROOM: return "a new NLRI, and every place is taken";
+    case MVPN_ABSENT: return "the withdrawn NLRI is not in the table";
+    case MVPN_FLOW: return "an address or distinguisher of the wrong size, or a group that is not multicast";
+    case MVPN_SPACE: return "an output that is too small, or not of the size asked";
+    case MVPN_DEEP: return "FEC elements hold one another over four deep";
+    case MVPN_RANGE: return "more than eight prefixes, or a bad one";
+    case MVPN_GROUP: return "a Source Active route for a group of the standard SSM range";
+    case MVPN_CONFLICT: return "one flow is listed with two different attributes";
+    default: return "unknown";
+    }
+}
 
 /* Address families. */
 enum { MVPN_AFI_IPV4 = 1, MVPN_AFI_IPV6 = 2 };
@@ -77,8 +140,8 @@ enum { MVPN_AFI_IPV4 = 1, MVPN_AFI_IPV6 = 2 };
 /* The octets of an NLRI before its body: route type and Length. */
 enum { MVPN_NLRI_HEADER = 2 };
 
-/* The most octets of an NLRI, which are its header and a Length of 255, of an attribute, and of a run. An output of so many
- * octets holds every NLRI, or every attribute, that is written. */
+/* The most octets that an NLRI (its header and a Length of 255), an attribute and a run may have. An output of that many octets
+ * holds any NLRI, or any attribute, that is written. */
 enum { MVPN_LONGEST_NLRI = 257, MVPN_LONGEST_ATTRIBUTE = 64, MVPN_LONGEST_RUN = 4096 };
 
 /* Route types (RFC 6514, section 4), and those for customers that run mLDP (RFC 7441, section 3). */
@@ -95,7 +158,26 @@ enum {
     MVPN_MLDP_SOURCE_TREE_JOIN = 0x47
 };
 
-/* Tunnel types (RFC 6514, section 5; RFC 8556, section 2), with the octets of the identifier. */
+/* The name of a route type in RFC 6514 or RFC 7441. */
+static inline const char *
+mvpn_route_type_name(uint32_t route_type)
+{
+    switch (route_type) {
+    case MVPN_INTRA_AS_I_PMSI: return "Intra-AS I-PMSI A-D";
+    case MVPN_INTER_AS_I_PMSI: return "Inter-AS I-PMSI A-D";
+    case MVPN_S_PMSI: return "S-PMSI A-D";
+    case MVPN_LEAF: return "Leaf A-D";
+    case MVPN_SOURCE_ACTIVE: return "Source Active A-D";
+    case MVPN_SHARED_TREE_JOIN: return "Shared Tree Join";
+    case MVPN_SOURCE_TREE_JOIN: return "Source Tree Join";
+    case MVPN_MLDP_S_PMSI: return "S-PMSI A-D for C-multicast mLDP";
+    case MVPN_MLDP_LEAF: return "Leaf A-D for C-multicast mLDP";
+    case MVPN_MLDP_SOURCE_TREE_JOIN: return "Source Tree Join for C-multicast mLDP";
+    default: return "unknown";
+    }
+}
+
+/* Tunnel types (RFC 6514, section 5; RFC 8556, section 2), with the fields of the identifier and the octets of each. */
 enum {
     MVPN_TUNNEL_NONE = 0,                /* none: the route names no tunnel, and no match takes it */
     MVPN_TUNNEL_RSVP_TE_P2MP = 1,        /* extended tunnel ID 4, reserved 2, tunnel ID 2, P2MP ID 4 */
@@ -108,28 +190,46 @@ enum {
     MVPN_TUNNEL_BIER = 11                /* sub-domain 1, BFR-id 2, BFR-prefix 4 or 16 */
 };
 
+/* The name of a tunnel type in RFC 6514 or RFC 8556. */
+static inline const char *
+mvpn_tunnel_type_name(uint32_t tunnel_type)
+{
+    switch (tunnel_type) {
+    case MVPN_TUNNEL_NONE: return "No tunnel information present";
+    case MVPN_TUNNEL_RSVP_TE_P2MP: return "RSVP-TE P2MP LSP";
+    case MVPN_TUNNEL_MLDP_P2MP: return "mLDP P2MP LSP";
+    case MVPN_TUNNEL_PIM_SSM: return "PIM-SSM Tree";
+    case MVPN_TUNNEL_PIM_SM: return "PIM-SM Tree";
+    case MVPN_TUNNEL_BIDIR_PIM: return "BIDIR-PIM Tree";
+    case MVPN_TUNNEL_INGRESS_REPLICATION: return "Ingress Replication";
+    case MVPN_TUNNEL_MLDP_MP2MP: return "mLDP MP2MP LSP";
+    case MVPN_TUNNEL_BIER: return "BIER";
+    default: return "unknown";
+    }
+}
+
 /* The flag of an attribute that asks for Leaf A-D routes (RFC 6514, section 5). */
 enum { MVPN_LEAF_INFORMATION_REQUIRED = 1 };
 
 /* Types of FEC elements (RFC 6388). */
 enum { MVPN_FEC_P2MP = 6, MVPN_FEC_MP2MP_UP = 7, MVPN_FEC_MP2MP_DOWN = 8 };
 
-/* Group classes (RFC 4607): SSM are 232.0.0.0/8 and FF3x::/32, or what the caller's own prefixes hold; any other multicast group
- * is ASM. */
+/* Group classes (RFC 4607). The groups of 232.0.0.0/8 and FF3x::/32, or those that the caller's own prefixes contain, are SSM; any
+ * other multicast group is ASM. */
 enum { MVPN_ASM = 1, MVPN_SSM = 2 };
 
 /* A part of a buffer: `size` octets from octet `start`. */
 typedef struct { size_t start, size; } mvpn_span;
 
-/* Eight octets, kept as they came. */
+/* Eight octets, kept as received. */
 typedef struct { uint8_t octets[8]; } mvpn_route_distinguisher;
 
-/* An address: 4 or 16 octets, or, in a source or group of type 3, 0 octets: the wildcard. In an answer the octets past
- * `size` are 0; in an argument they are not looked at. */
+/* An address of 4 or 16 octets, or, as a source or group of type 3, of 0 octets: the wildcard. In an answer the octets past `size`
+ * are 0; in an argument they are ignored. */
 typedef struct { uint8_t octets[16]; uint8_t size; } mvpn_address;
 
-/* The fields of an NLRI. In an answer the fields that the route type lacks are 0; in an argument they are not looked at.
- * A Leaf's key and a FEC element are not among them: reading gives their spans, writing takes their octets. */
+/* The fields of an NLRI. In an answer the fields that the route type lacks are 0; in an argument they are ignored. A Leaf's key and
+ * a FEC element are not among them: reading gives their spans, writing takes their octets. */
 typedef struct {
     mvpn_route_distinguisher distinguisher; /* types 1, 2, 3, 5, 6, 7, 0x43, 0x47 */
     mvpn_address source;                    /* types 3, 5, 6, 7 */
@@ -140,47 +240,48 @@ typedef struct {
 } mvpn_nlri;
 
 /*
- * The FEC element of types 0x43 and 0x47 (RFC 6388, section 2.2): type 1 (6, 7 or 8), address family 2, address length 1 (4 or 16
- * to suit), root, opaque length 2, opaque value. The family is the AFI (RFC 7441, section 3).
+ * The FEC element of types 0x43 and 0x47 (RFC 6388, section 2.2) is a type (1 octet: 6, 7 or 8), an address family (2 octets), an
+ * address length (1 octet: 4 or 16, to suit the family), the root, an opaque length (2 octets) and an opaque value. The family is
+ * the AFI (RFC 7441, section 3).
  *
- * An opaque value that opens with 7 or 8 holds another FEC element (RFC 6512): type 1, length 2, in type 8 a route
- * distinguisher 8, then the FEC element, of family 1 or 2, which fills the rest and may hold another, to four elements deep. Other
- * opaque values, and none, are kept as octets. The first fault from left to right is told:
- *   LENGTH  the body ends inside the outermost FEC element, whose opaque length is judged before its opaque value
- *   IDENT   a field is wrong, or inside an opaque value there are too few octets or too many
- *   DEEP    the fourth FEC element from outside has an opaque value that opens with 7 or 8, whatever follows
+ * An opaque value that begins with 7 or 8 contains another FEC element (RFC 6512): a type (1 octet), a length (2 octets), in type 8
+ * a route distinguisher (8 octets), then the FEC element. That one is of family 1 or 2, fills the rest, and may contain another, to
+ * four elements deep. Other opaque values, and empty ones, are kept as octets. The first fault from left to right decides:
+ *   LENGTH  the body ends inside the outermost FEC element; its opaque length is tested before its opaque value
+ *   IDENT   a field is wrong, or there are too few or too many octets inside an opaque value
+ *   DEEP    the fourth FEC element from outside has an opaque value that begins with 7 or 8, whatever follows
  */
 typedef struct {
     uint32_t number;
     mvpn_nlri nlri;
-    mvpn_span key; /* types 4, 0x44: where in the NLRI read its key stands */
-    mvpn_span fec; /* types 0x43, 0x47: where in the NLRI read its FEC element stands, with all that it holds */
+    mvpn_span key; /* types 4, 0x44: where the key is in the NLRI read */
+    mvpn_span fec; /* types 0x43, 0x47: where the FEC element, with all that it contains, is in the NLRI read */
 } mvpn_nlri_reading;
 
 typedef struct {
     uint32_t number;
-    size_t size; /* octets written at the front of the output; those past it are untouched */
+    size_t size; /* octets written at the front of the output; those after them are untouched */
 } mvpn_written;
 
-/* The version of the archive; it is that of this header where it equals MVPN_VERSION_NUMBER. It refuses nothing. */
+/* The version of the archive: MVPN_VERSION_NUMBER, if it is that of this header. The call refuses nothing. */
 uint32_t mvpn_version(void);
 
 /*
- * Reads a single NLRI. FAMILY, SHORT, TYPE, then the body left to right (LENGTH, WIDTH, KEY, IDENT, DEEP), then LENGTH for
- * octets after it, then GROUP. Any fault inside a key is KEY, and so is a key of another kind: type 0x43 in type 4, types 1 to 3 in
- * type 0x44.
+ * Reads a single NLRI. Refusals: FAMILY, SHORT, TYPE, then the body from left to right (LENGTH, WIDTH, KEY, IDENT, DEEP), then
+ * LENGTH for octets after it, then GROUP. Any fault inside a key is KEY. So is a key of the wrong kind: type 0x43 in type 4, types
+ * 1 to 3 in type 0x44.
  *
- * GROUP: a Source Active route for an SSM group must be discarded (RFC 6514). Here and wherever GROUP is given, SSM groups are those
- * of the standard range, whatever prefixes other calls are given. A Source Active route for any other group is read, also for one
- * that is not multicast, and so are other route types for SSM groups.
+ * GROUP: a Source Active route for an SSM group must be discarded (RFC 6514). Here and wherever GROUP is given, SSM groups are
+ * those of the standard range, whatever prefixes other calls are given. A Source Active route for any other group is read, even if
+ * the group is not multicast. Other route types for SSM groups are read too.
  */
 mvpn_nlri_reading mvpn_nlri_read(uint16_t afi, const uint8_t *nlri, size_t nlri_len);
 
 /*
- * Writes an NLRI at the front of the output. FAMILY, TYPE, WIDTH, IDENT and DEEP, LONG (a body of type 0x43, 0x44 or 0x47 over
- * 255 octets, by the sizes given), KEY, GROUP, SPACE. `key` is a Leaf's key: exactly one NLRI under the same AFI, of type 1, 2 or
- * 3 for type 4, of type 0x43 for type 0x44. `fec` is the FEC element of types 0x43 and 0x47: exactly one, else IDENT. Neither is
- * looked at for other types.
+ * Writes an NLRI at the front of the output. `key` is a Leaf's key: exactly one NLRI under the same AFI, of type 1, 2 or 3 for type
+ * 4, of type 0x43 for type 0x44. `fec` is the FEC element of types 0x43 and 0x47: exactly one, else IDENT. Each is ignored for
+ * other types. Refusals: FAMILY, TYPE, WIDTH, IDENT and DEEP, LONG (a body of type 0x43, 0x44 or 0x47 over 255 octets, by the sizes
+ * given), KEY, GROUP, SPACE.
  */
 mvpn_written mvpn_nlri_write(uint16_t afi, mvpn_nlri nlri, const uint8_t *key, size_t key_len,
                              const uint8_t *fec, size_t fec_len, uint8_t *output, size_t output_len);
@@ -204,8 +305,8 @@ typedef struct {
 } mvpn_stepped;
 
 /*
- * What a walk, and a reader of pieces, does at an NLRI that is whole and refused with TYPE, its route type being unknown, or with
- * GROUP, as a Source Active route for an SSM group. Every number but MVPN_SKIP is the old mode.
+ * The mode: what a walk or a reader of pieces does at an NLRI that is whole but refused with TYPE (its route type is unknown) or
+ * with GROUP (it is a Source Active route for an SSM group). Every number except MVPN_SKIP is the old mode.
  */
 enum {
     MVPN_SKIP = 0, /* steps over it by its Length field, and counts it as skipped */
@@ -216,94 +317,99 @@ typedef struct {
     uint32_t number;
     uint32_t count;   /* NLRIs read */
     uint32_t offset;  /* just past the last NLRI read or skipped: the run's end, or where the refused NLRI begins */
-    uint32_t skipped; /* NLRIs stepped over, refused with TYPE or GROUP; in the old mode 0 */
+    uint32_t skipped; /* NLRIs stepped over, refused with TYPE or GROUP; 0 in the old mode */
 } mvpn_walked;
 
 /*
- * Reads the NLRI of a run at a cursor (0 at first): run[cursor] up to run[answer.cursor]. FAMILY, LONG (a run over 4,096
- * octets), then NLRI reading; octets after it are the next NLRI. At the run's end: DONE with route type 0. With a cursor past the
- * end: SHORT. A step skips nothing: an unknown route type is TYPE, and a Source Active route for an SSM group is GROUP.
+ * Reads the NLRI at a cursor in a run (0 at first). Its octets are those from run[cursor] to just before run[answer.cursor]. At the
+ * run's end the answer is DONE with route type 0. Refusals: FAMILY, LONG (a run over 4,096 octets), SHORT for a cursor past the
+ * end, then those of reading an NLRI; octets after it are the next NLRI. A step skips nothing: an unknown route type is TYPE, and a
+ * Source Active route for an SSM group is GROUP.
  */
 mvpn_stepped mvpn_step(uint16_t afi, const uint8_t *run, size_t run_len, size_t cursor);
 
 /*
- * Walks a run of NLRIs up to the first refusal that its mode does not skip: how many were read, how many were skipped, the
- * offset just past the last of them, and the number of the refusal, or DONE at the run's end. FAMILY and LONG (a run over 4,096
- * octets) give 0 read, 0 skipped, offset 0. What is skipped is an NLRI alone: one whose Length goes past the run is SHORT, an
- * unknown route type inside a Leaf's key is KEY, a damaged Source Active route is LENGTH or WIDTH, whatever its group, and each of
- * these stops the walk.
+ * Walks a run of NLRIs up to the first refusal that its mode does not skip. The answer has how many were read, how many were
+ * skipped, the offset just past the last of them, and the refusal's number, or DONE at the run's end. With FAMILY and LONG (a run
+ * over 4,096 octets) the others are 0. Only a whole NLRI is skipped. One whose Length goes past the run is SHORT, an unknown route
+ * type inside a Leaf's key is KEY, and a damaged Source Active route is LENGTH or WIDTH, whatever its group. Each of these stops
+ * the walk.
  */
 mvpn_walked mvpn_walk(uint16_t afi, uint32_t mode, const uint8_t *run, size_t run_len);
 
 /*
- * A run that arrives in pieces, as a session delivers it. Wherever a run of at most 4,096 octets is cut, also with pieces of no
- * octets, a reader gives the NLRIs that the walk of its mode reads in the whole run, each once and in order, and after finish it
- * has that walk's answer. It keeps one unfinished NLRI at the most, in octets that the caller lends. The caller's loop:
+ * A run that arrives in pieces, as a session delivers it. Wherever a run of at most 4,096 octets is cut, even with empty pieces, a
+ * reader gives the NLRIs that the walk of its mode reads in the whole run, each once and in order. After finish it has that walk's
+ * answer. It keeps at most one unfinished NLRI, in octets that the caller lends. The caller's loop:
  *
  *     uint8_t unfinished[MVPN_UNFINISHED];
  *     mvpn_pieces pieces = mvpn_pieces_start(afi, mode);
+ *     mvpn_fed fed;
  *     while (next_piece(&piece, &size))
  *         while (size > 0) {
- *             mvpn_fed fed = mvpn_pieces_feed(pieces, unfinished, piece, size);
+ *             fed = mvpn_pieces_feed(pieces, unfinished, piece, size);
  *             if (fed.size > 0) keep_nlri(unfinished, fed.size);
  *             pieces = fed.pieces, piece += fed.taken, size -= fed.taken;
  *         }
  *     pieces = mvpn_pieces_finish(pieces);
  *     if (pieces.walked.number == MVPN_DONE) use_kept_nlris();
  *
- * A reader's state is plain numbers, and only these calls write it; between two feeds nobody else writes `unfinished`. Of a
- * state that these calls did not make, or of `unfinished` that somebody else wrote, the answer means nothing, and is still safe:
- * no octet is touched but of `unfinished`, no more octets are taken than were lent, no more given than `unfinished` has. A
- * feed may then take nothing of a piece, and the loop not end.
+ * A reader's state is plain numbers. Only these calls may write it, and nobody else may write `unfinished` between two feeds. If
+ * these calls did not make the state, or somebody else wrote `unfinished`, the answers mean nothing, but every call is still safe:
+ * it ends, reads only the piece and `unfinished`, writes only `unfinished`, takes no more octets than the piece has, and gives no
+ * more than `unfinished` has. An NLRI that it gives is well-formed under the state's AFI, but its octets need not have been handed
+ * over. Such a feed may take nothing from a piece; the next one, with the reader that this feed gave back, takes at least one
+ * octet, so the loop ends.
  */
 enum { MVPN_UNFINISHED = 257 }; /* the longest NLRI: its header and a Length of 255 */
 
 typedef struct {
-    mvpn_walked walked; /* the walk's answer to what was taken so far, but for SHORT; after finish the walk's answer */
+    mvpn_walked walked; /* the walk's answer for what was taken so far, except SHORT; after finish, the walk's answer */
     uint32_t afi, mode, stage, total, kept;
 } mvpn_pieces;
 
 typedef struct {
     mvpn_pieces pieces; /* the reader afterwards */
-    size_t taken;       /* octets taken of the piece; the rest is handed over next */
-    size_t size;        /* of the NLRI that is now whole at the front of `unfinished`; 0: none */
+    size_t taken;       /* octets taken from the piece; the rest is handed over next */
+    size_t size;        /* of the NLRI that is now whole at the front of `unfinished`; 0 if there is none */
 } mvpn_fed;
 
-/* Starts a reader of this mode. FAMILY: the reader is finished from the start, and has the walk's answer, all 0 but FAMILY. */
+/* Starts a reader of this mode. With a bad AFI the reader is finished from the start, and has the walk's answer: FAMILY, and the
+ * others 0. */
 mvpn_pieces mvpn_pieces_start(uint16_t afi, uint32_t mode);
 
 /*
- * Hands over a piece, or the rest of one: octets of it are taken up to the end of one NLRI, and of a piece that is not empty at
- * least one, where the reader was started and only these calls have written it and, since then, `unfinished`. `unfinished` is
- * MVPN_UNFINISHED octets; what they hold before the first feed is no matter. An NLRI that is given stands there until the next
- * feed. While the reader reads, it tells DONE; SHORT is told at finish alone; the number of a stop, and LONG, stand in
- * pieces.walked from the feed on that meets them:
- *   - an NLRI that is whole and refused with TYPE or GROUP is skipped in the mode MVPN_SKIP: it is taken, and not given;
- *   - at the first NLRI that is whole, refused and not skipped the reading stops: pieces are taken whole and counted, and no
- *     NLRI is given;
- *   - where the octets taken before and the piece are over 4,096 together, stop or no stop, the run is LONG, with the others 0:
- *     the piece is taken whole and gives no NLRI, those given before are void, and so it stays;
- *   - after finish a piece is taken whole, and nothing is counted, given or written.
+ * Hands over a piece, or the rest of one. Its octets are taken up to the end of one NLRI. At least one octet of a non-empty piece
+ * is taken, if the reader was started and only these calls have written it and, since then, `unfinished`. `unfinished` is
+ * MVPN_UNFINISHED octets; their initial content does not matter. An NLRI that is given stays there until the next feed. While the
+ * reader reads, pieces.walked has DONE. From the feed that meets a stop or LONG, it has that number. Only finish gives SHORT.
+ *   - In the mode MVPN_SKIP, an NLRI that is whole but refused with TYPE or GROUP is skipped: it is taken, but not given.
+ *   - At the first NLRI that is whole, refused and not skipped, the reading stops: pieces are then taken whole and counted, and no
+ *     NLRI is given.
+ *   - If the octets taken before and the piece are over 4,096 together, the run is LONG, with the others 0, even after a stop. The
+ *     piece is taken whole and gives no NLRI, the NLRIs given before are void, and this stays so.
+ *   - After finish a piece is taken whole, and nothing is counted, given or written.
  */
 mvpn_fed mvpn_pieces_feed(mvpn_pieces pieces, uint8_t *unfinished, const uint8_t *piece, size_t piece_len);
 
 /*
- * Ends the run: `walked` has the walk's answer to all octets handed over. SHORT where an NLRI is unfinished. A reader that is
- * finished stays as it is.
+ * Ends the run: `walked` has the walk's answer for all octets handed over, which is SHORT if an NLRI is unfinished. A finished
+ * reader stays as it is.
  */
 mvpn_pieces mvpn_pieces_finish(mvpn_pieces pieces);
 
 /*
- * A list, as calls take it: a count of items (2 octets), then the items. An item is a fixed number of fields, which the call
- * names; a field is its size (2 octets) and that many octets. A list that ends before its items do is SHORT, and the count of
- * one of fewer than two octets is 0. Octets after the last item are not looked at.
+ * A list that a call takes is a count of items (2 octets), then the items. An item is a fixed number of fields, which the call
+ * names; a field is its size (2 octets), then that many octets. A list that ends before its items do is SHORT. So is one of fewer
+ * than two octets, whose count is taken as 0. Octets after the last item are ignored.
  */
 enum { MVPN_LIST_COUNT = 2, MVPN_FIELD_SIZE = 2 };
 
 /* The list that has no items. */
 static const uint8_t mvpn_no_items[MVPN_LIST_COUNT] = {0, 0};
 
-/* Starts a list of `count` items in `list`, a buffer of `space` octets: the octets it has so far, or 0 where there is no space. */
+/* Starts a list of `count` items in `list`, a buffer of `space` octets. Gives the octets that it has so far, or 0 if there is no
+ * space. */
 static inline size_t
 mvpn_list_start(uint8_t *list, size_t space, uint16_t count)
 {
@@ -314,8 +420,8 @@ mvpn_list_start(uint8_t *list, size_t space, uint16_t count)
 }
 
 /*
- * Appends a field to a list that has `size` octets: the octets it has then. 0, and nothing written, where there is no space,
- * where the field has over 65,535 octets, and where `size` is 0, so that a caller may test the last answer alone.
+ * Appends a field to a list that has `size` octets, and gives the octets that it has then. It gives 0 and writes nothing if there
+ * is no space, if the field has over 65,535 octets, or if `size` is 0. So a caller need test only the last answer.
  */
 static inline size_t
 mvpn_list_field(uint8_t *list, size_t space, size_t size, const uint8_t *field, size_t field_len)
@@ -331,33 +437,33 @@ mvpn_list_field(uint8_t *list, size_t space, size_t size, const uint8_t *field, 
 
 /*
  * Prefixes are the SSM ranges of a network that has its own. A call takes them as a list of at most eight items of one field: a
- * length in bits (1 octet), and behind it an address of the family's size, with no bit set past the length. They may overlap, and
- * their order does not matter.
- *   - None is given (mvpn_no_items): the standard range decides, and 232.0.0.0/8 and FF3x::/32 are SSM.
- *   - One or more are given: they replace the standard range. A multicast group is SSM exactly when one of them holds it, that is,
- *     when its first bits are the prefix's, as many as the length says. A prefix of length 0 holds every group.
- * Multicast groups are those of 224.0.0.0/4 and FF00::/8, whatever is given: a prefix outside of these is accepted, and holds no
+ * length in bits (1 octet), then an address of the family's size, with no bit set past the length. They may overlap, and their
+ * order does not matter.
+ *   - If none is given (mvpn_no_items), the standard range decides: 232.0.0.0/8 and FF3x::/32 are SSM.
+ *   - If one or more are given, they replace the standard range. A multicast group is SSM exactly when one of them contains it,
+ *     that is, when its first bits, as many as the length says, are the prefix's. A prefix of length 0 contains every group.
+ * Multicast groups are those of 224.0.0.0/4 and FF00::/8, whatever is given: a prefix outside these is accepted, but contains no
  * multicast group.
  *
- * A caller that wants the standard range beside its own lists it with them: 232.0.0.0/8. FF3x::/32 is sixteen prefixes, one for
- * each scope x, of which the caller lists those that it uses.
+ * A caller that also wants the standard range lists it with its own prefixes. 232.0.0.0/8 is one prefix. FF3x::/32 is sixteen, one
+ * for each scope x, of which the caller lists those that it uses.
  *
- * GROUP goes by the standard range alone. A Source Active route for a group that only the caller's prefixes hold is read; a caller
- * that is to discard it asks mvpn_group_class. For a group of the standard range that they make ASM, mvpn_match_shared takes no
- * Source Active route.
+ * GROUP depends on the standard range alone. A Source Active route for a group that only the caller's prefixes contain is read; a
+ * caller that must discard it calls mvpn_group_class. For a group of the standard range that the prefixes make ASM,
+ * mvpn_match_shared accepts no Source Active route.
  *
- * Refusals, in turn: RANGE, there are more than eight; SHORT, the list ends before its items do, as one of no octets does, so that
- * a null pointer is not "none given"; RANGE, a prefix has an address of another size than the family's, a length over it, or a bit
- * set past the length.
+ * Refusals: RANGE (there are more than eight); SHORT (the list ends before its items do; a list of no octets does, so a null
+ * pointer does not mean that none is given); RANGE (a prefix has an address that is not of the family's size, a length over that
+ * size, or a bit set past the length).
  */
 
 /* The most prefixes that a call takes, and the octets of the longest list of them, which is one for IPv6. */
 enum { MVPN_MOST_PREFIXES = 8, MVPN_LONGEST_PREFIXES = 154 };
 
 /*
- * Appends a prefix, of `length` bits, to a list that has `size` octets: the octets it has then. 0, and nothing written, where
- * mvpn_list_field gives 0, and where the address has over 16 octets. Nothing else of the prefix is judged here; the call that
- * takes the list does that.
+ * Appends a prefix of `length` bits to a list that has `size` octets, and gives the octets that it has then. It gives 0 and writes
+ * nothing if mvpn_list_field gives 0, or if the address has over 16 octets. The call that takes the list checks the rest of the
+ * prefix.
  */
 static inline size_t
 mvpn_list_prefix(uint8_t *list, size_t space, size_t size, const uint8_t *address, size_t address_len, uint8_t length)
@@ -372,11 +478,11 @@ mvpn_list_prefix(uint8_t *list, size_t space, size_t size, const uint8_t *addres
 
 typedef struct { uint32_t number, group_class; } mvpn_group;
 
-/* The class of a customer group by these prefixes. FAMILY, RANGE and SHORT of the prefixes, FLOW. */
+/* The class of a customer group under these prefixes. Refusals: FAMILY, RANGE and SHORT for the prefixes, FLOW. */
 mvpn_group mvpn_group_class(uint16_t afi, const uint8_t *prefixes, size_t prefixes_len, const uint8_t *group, size_t group_len);
 
 /* The shape of an attribute's mLDP FEC element (RFC 6388, section 2.2): its type (6, 7 or 8), its address family (1 or 2), and
- * where in the attribute read its root address and its opaque value stand. The opaque value is not read. */
+ * where its root address and its opaque value are in the attribute read. The opaque value is not read. */
 typedef struct {
     uint32_t fec_type, address_family;
     mvpn_span root, opaque;
@@ -389,38 +495,39 @@ typedef struct {
     uint32_t label_field;               /* the whole 24-bit field */
     uint32_t label;                     /* the field divided by 16 */
     uint32_t leaf_information_required; /* 0 or 1: flag bit value 1 */
-    mvpn_span identifier;               /* where in the attribute read its tunnel identifier stands */
+    mvpn_span identifier;               /* where the tunnel identifier is in the attribute read */
     mvpn_fec fec;                       /* tunnel types 2 and 7; else 0 */
 } mvpn_attribute_reading;
 
-/* Reads a PMSI Tunnel attribute. LONG (over 64 octets), SHORT (under 5), TUNNEL, IDENT. */
+/* Reads a PMSI Tunnel attribute. Refusals: LONG (over 64 octets), SHORT (under 5), TUNNEL, IDENT. */
 mvpn_attribute_reading mvpn_attribute_read(const uint8_t *attribute, size_t attribute_len);
 
 /*
- * Writes a PMSI Tunnel attribute at the front of the output. LONG (an identifier over 59 octets), TUNNEL, IDENT, LABEL
- * (a label field over 16,777,215), SPACE.
+ * Writes a PMSI Tunnel attribute at the front of the output. Refusals: LONG (an identifier over 59 octets), TUNNEL, IDENT, LABEL (a
+ * label field over 16,777,215), SPACE.
  */
 mvpn_written mvpn_attribute_write(uint8_t flags, uint8_t tunnel_type, uint32_t label_field,
                                   const uint8_t *identifier, size_t identifier_len, uint8_t *output, size_t output_len);
 
 /*
- * A table: 8 octets of header, then 0 to 500 places of 128 octets. A place holds one S-PMSI A-D route, its NLRI with its
- * PMSI Tunnel attribute, and in its last octet the route's mark: 1 where it is stale (mvpn_mark), else 0. Routes stand in the
- * order of their NLRIs, octet by octet, and every octet behind them is 0, so for one family and number of places a set of routes
- * with their marks has one image. A table may be copied, stored and lent again anywhere; one of an earlier version of the
- * library is a table whose routes have no marks.
+ * A table is 8 octets of header, then 0 to 500 places of 128 octets. A place holds one S-PMSI A-D route, that is, its NLRI and its
+ * PMSI Tunnel attribute, and in its last octet the route's mark: 1 if it is stale (mvpn_mark), else 0. Routes are in the order of
+ * their NLRIs, octet by octet, and every octet after them is 0. So, for one family and number of places, a set of routes with their
+ * marks has one image. A table may be copied, stored and lent again anywhere. A table of an earlier version of the library is one
+ * whose routes have no marks.
  *
- * Install, withdraw, mark, sweep, both matches, explain, next and table_info look at every octet of the table, and refuse one
- * that is not sound; beyond that, their cost grows with the places that are taken. Of one that is refused, mvpn_salvage takes over
- * the routes that are still good.
+ * Install, withdraw, mark, sweep, both matches, explain, next and table_info look at every octet of the table, and refuse one that
+ * is not sound; beyond that, their cost grows with the places that are taken. mvpn_salvage recovers the routes that are still good
+ * in a refused table.
  *
- * A daemon with more than 500 routes keeps several tables, and gets the answers of one that holds all routes: a table for each
- * originator, since the candidates of a match are those of the router that it asks about; or, with more than 500 routes of one
- * originator, (C-S,C-G) routes in small tables by a hash of originator, source and group. mvpn(3) shows the lines.
+ * A daemon with more than 500 routes keeps several tables, and gets the answers of one that holds all routes. It keeps a table for
+ * each originator, since the candidates of a match are the routes of the router that it asks about. If one originator has more than
+ * 500 routes, it keeps (C-S,C-G) routes in small tables, by a hash of originator, source and group (mvpn_shard).
  *
- * A change leaves most answers as they were: a withdrawal all but those of the NLRI withdrawn, an install all but those of the NLRI
- * installed and those that are the route installed afterwards, a mark or a sweep all but those whose route went, a refused call all.
- * mvpn(3) shows, under "What to ask again", how a daemon that keeps the answers of its flows finds which to ask.
+ * A change leaves most answers as they were. A withdrawal changes only answers that had the withdrawn NLRI. An install changes only
+ * answers that had the installed NLRI, and those that are the installed route afterwards. A mark or a sweep changes only answers
+ * whose route it removed. A refused call changes none. mvpn(3) shows, under "What to ask again", how a daemon that keeps the
+ * answers of its flows finds those to ask again.
  */
 enum {
     MVPN_TABLE_HEADER = 8,
@@ -432,7 +539,36 @@ enum {
 /* The octets of a table of `places` places. */
 #define MVPN_TABLE_SIZE(places) ((size_t)MVPN_TABLE_HEADER + (size_t)MVPN_PLACE * (size_t)(places))
 
-/* Tiers of a match, in the order in which they are tried; no tier where no route matches. */
+/*
+ * Says which of `tables` small tables is for the (C-S,C-G) routes of an originator, a source and a group: a number below `tables`,
+ * or 0 if `tables` is 1 or 0. The originator's routes with wildcards are in another table. A flow is matched first in the small
+ * table that its router, source and group choose. If that answer is not of tier 1, the flow is matched in the router's table of
+ * wildcards. It is proved that this gives the answer of one table with all routes. mvpn(3) shows the lines under "More than 500
+ * routes".
+ *
+ * The number depends on these octets alone, and is the same everywhere and in every version. It is 32-bit FNV-1a over the three
+ * addresses, each as its size (its low octet) and then its octets; then MurmurHash3's last steps, because the low bits of FNV-1a
+ * depend only on the low bits of the octets; then the remainder of the division by `tables`.
+ */
+static inline size_t
+mvpn_shard(const uint8_t *originator, size_t originator_len, const uint8_t *source, size_t source_len,
+           const uint8_t *group, size_t group_len, size_t tables)
+{
+    const uint8_t *const fields[] = {originator, source, group};
+    const size_t sizes[] = {originator_len, source_len, group_len};
+    uint32_t hash = 2166136261u;
+    size_t field, i;
+    for (field = 0; field < 3; field++) {
+        hash = (hash ^ (uint8_t)sizes[field]) * 16777619u;
+        for (i = 0; i < sizes[field]; i++) hash = (hash ^ fields[field][i]) * 16777619u;
+    }
+    hash = (hash ^ (hash >> 16)) * 0x85EBCA6Bu;
+    hash = (hash ^ (hash >> 13)) * 0xC2B2AE35u;
+    hash = hash ^ (hash >> 16);
+    return tables > 1 ? hash % tables : 0;
+}
+
+/* Tiers of a match, in the order in which they are tried; no tier if no route matches. */
 enum {
     MVPN_NO_TIER = 0,
     MVPN_SOURCE_AND_GROUP = 1,
@@ -441,6 +577,20 @@ enum {
     MVPN_ANY_SOURCE_ANY_GROUP = 4
 };
 
+/* The name of a tier: the kind of its routes. */
+static inline const char *
+mvpn_tier_name(uint32_t tier)
+{
+    switch (tier) {
+    case MVPN_NO_TIER: return "none";
+    case MVPN_SOURCE_AND_GROUP: return "(C-S,C-G)";
+    case MVPN_SOURCE_ANY_GROUP: return "(C-S,C-*)";
+    case MVPN_ANY_SOURCE_GROUP: return "(C-*,C-G)";
+    case MVPN_ANY_SOURCE_ANY_GROUP: return "(C-*,C-*)";
+    default: return "unknown";
+    }
+}
+
 /* What an install did. */
 enum { MVPN_NEW = 1, MVPN_REPLACED = 2 };
 
@@ -448,41 +598,42 @@ typedef struct { uint32_t number, outcome; } mvpn_installed; /* MVPN_NEW or MVPN
 
 typedef struct {
     uint32_t number;
-    uint32_t tier; /* 1 to 4; 0 where no route matches */
+    uint32_t tier; /* 1 to 4; 0 if no route matches */
     uint32_t nlri_size, attribute_size;
 } mvpn_matched;
 
 /*
- * Makes an empty table of the lent memory, whatever it held: every octet is written. FAMILY, TABLE (a length other than
+ * Makes an empty table in the lent memory, whatever it held: every octet is written. Refusals: FAMILY, TABLE (a length other than
  * MVPN_TABLE_SIZE of 0 to 500).
  */
 uint32_t mvpn_make(uint16_t afi, uint8_t *table, size_t table_len);
 
 /*
- * Installs an S-PMSI A-D route with its attribute, or gives a route that the table holds this attribute. TABLE, then NLRI
- * reading under the table's AFI (LENGTH for octets after it, GROUP), KIND, attribute reading, LABEL, ROOM. A route that the table
- * holds is replaced in a full table too, and its mark goes, also where it has this attribute already. A refusal leaves the
- * attribute and the mark that the route had: a daemon that treats a bad update as a withdrawal withdraws it itself.
+ * Installs an S-PMSI A-D route with its attribute. A route that is already in the table gets this attribute, even in a full table,
+ * and loses its mark, even if it had this attribute before. Refusals: TABLE, then those of reading an NLRI under the table's AFI
+ * (LENGTH for octets after it, GROUP), KIND, those of reading an attribute, LABEL, ROOM. A refusal leaves the attribute and the
+ * mark that the route had: a daemon that treats a bad update as a withdrawal must withdraw the route itself.
  */
 mvpn_installed mvpn_install(uint8_t *table, size_t table_len, const uint8_t *nlri, size_t nlri_len,
                             const uint8_t *attribute, size_t attribute_len);
 
 /*
- * Takes the route with this NLRI out of the table, marked or not; its room is used again. TABLE, then NLRI reading under the
- * table's AFI (LENGTH for octets after it, GROUP), KIND, ABSENT.
+ * Removes the route with this NLRI from the table, marked or not; its place can be used again. Refusals: TABLE, then those of
+ * reading an NLRI under the table's AFI (LENGTH for octets after it, GROUP), KIND, ABSENT.
  */
 uint32_t mvpn_withdraw(uint8_t *table, size_t table_len, const uint8_t *nlri, size_t nlri_len);
 
 /*
- * Graceful restart (RFC 4724, section 4.2): while the session is down by which a router's routes come, they stay in the table,
+ * Graceful restart (RFC 4724, section 4.2): while the session that carries a router's routes is down, they stay in the table,
  * marked as stale, and are matched as before.
- *   - The session is lost: mvpn_mark for each originator whose routes came by it, once each. A route that is marked already was
- *     not advertised again since the session was lost before, and goes; so a second mark for the same loss would take all.
- *   - A route is advertised again: mvpn_install takes its mark off. One that is withdrawn goes, marked or not.
- *   - End-of-RIB of the table's family comes; or the peer's Restart Time, or a timer of the daemon's, runs out; or the session
- *     comes back without the family's forwarding state: mvpn_sweep for each of these originators.
- * Where routes went, the daemon matches anew the flows of that router that have a route. Of a table all of whose routes come by one
- * session, these lines mark every originator's where `lost`, else sweep them:
+ *   - When the session is lost, call mvpn_mark for each originator whose routes came by it, once each. A route that is already
+ *     marked was not advertised again since the session was lost before, and is removed; so a second mark for the same loss would
+ *     remove all.
+ *   - When a route is advertised again, mvpn_install removes its mark. A withdrawn route is removed, marked or not.
+ *   - When End-of-RIB of the table's family comes, when the peer's Restart Time or a timer of the daemon runs out, or when the
+ *     session comes back without the family's forwarding state, call mvpn_sweep for each of these originators.
+ * If routes were removed, the daemon matches again the flows of that router that have a route. For a table all of whose routes come
+ * by one session, these lines mark the routes of every originator if `lost`, else sweep them:
  *
  *     uint8_t nlri[MVPN_MATCH_OUTPUT], route[MVPN_MATCH_OUTPUT];
  *     mvpn_address originators[MVPN_MOST_PLACES];
@@ -490,58 +641,66 @@ uint32_t mvpn_withdraw(uint8_t *table, size_t table_len, const uint8_t *nlri, si
  *     mvpn_restarted restarted;
  *     size_t count = 0, size = 0, i;
  *     for (;;) {
- *         next = mvpn_next(table, table_len, nlri, size, route, sizeof route);
+ *         next = mvpn_next(table, table_len, nlri, size,
+ *                          route, sizeof route);
  *         if (next.nlri_size == 0) break;
  *         size = next.nlri_size;
  *         memcpy(nlri, route, size);
- *         originators[count] = mvpn_nlri_read(afi, nlri, size).nlri.originator;
+ *         originators[count] =
+ *             mvpn_nlri_read(afi, nlri, size).nlri.originator;
  *         i = 0;
- *         while (memcmp(&originators[i], &originators[count], sizeof originators[i]) != 0) i++;
+ *         while (memcmp(&originators[i], &originators[count],
+ *                       sizeof originators[i]) != 0)
+ *             i++;
  *         if (i == count) count++;
  *     }
  *     if (next.number != MVPN_DONE) table_refused(next.number);
  *     for (i = 0; i < count; i++) {
- *         restarted = (lost ? mvpn_mark : mvpn_sweep)(table, table_len, originators[i].octets, originators[i].size);
+ *         restarted = (lost ? mvpn_mark : mvpn_sweep)(
+ *             table, table_len,
+ *             originators[i].octets, originators[i].size);
  *         if (restarted.gone > 0) match_anew(&originators[i]);
  *     }
  *
- * A mark knows originators, and no sessions. Where one session carries the routes of several originators, as a route reflector's
- * does, each of them is marked. Where the routes of one originator come by two sessions, a mark cannot tell by which of them a
- * route came: after the mark for the one that was lost the daemon installs again what it has by the other one, so that what is
- * swept is what it has by neither; and before a mark for the other one's loss it installs again what is marked and is to stay.
+ * A mark knows originators, not sessions. If one session carries the routes of several originators, as a route reflector's does,
+ * each of them is marked. If the routes of one originator come by two sessions, a mark cannot tell by which of them a route came.
+ * So, after the mark for the lost session, the daemon installs again the routes that it has by the other one; a sweep then removes
+ * what it has by neither. Before a mark for the loss of the other one, it installs again the marked routes that are to stay.
  */
-typedef struct { uint32_t number, gone; } mvpn_restarted; /* how many routes went */
+typedef struct { uint32_t number, gone; } mvpn_restarted; /* how many routes were removed */
 
 /*
- * Marks the routes whose originator equals `router` in size and octets as stale; those of them that are marked already go, and
- * their room is used again. TABLE, FLOW (a router address not of 4 or 16 octets). A router without routes: DONE, and 0 went.
+ * Marks as stale the routes whose originator equals `router` in size and octets. Those of them that are already marked are removed,
+ * and their places can be used again. For a router without routes the answer is DONE, with 0 removed. Refusals: TABLE, FLOW (a
+ * router address not of 4 or 16 octets).
  */
 mvpn_restarted mvpn_mark(uint8_t *table, size_t table_len, const uint8_t *router, size_t router_len);
 
 /*
- * Takes the routes out of the table that are still marked, of those whose originator equals `router` in size and octets; their
- * room is used again. TABLE, FLOW (a router address not of 4 or 16 octets). A router without such routes: DONE, and 0 went.
+ * Removes the routes that are still marked and whose originator equals `router` in size and octets; their places can be used again.
+ * For a router without such routes the answer is DONE, with 0 removed. Refusals: TABLE, FLOW (a router address not of 4 or 16
+ * octets).
  */
 mvpn_restarted mvpn_sweep(uint8_t *table, size_t table_len, const uint8_t *router, size_t router_len);
 
 /*
- * The route that the flow (source, group) takes (RFC 6625, section 3), among those whose originator equals `router` in size
- * and octets, ourselves for sending, the upstream PE for receiving, and whose tunnel type is not 0. A route of tunnel type 0
- * asks for tracking and names no tunnel: it is installed, replaced and withdrawn like others, and passed over here (RFC 8556,
- * section 4.1). A route that is marked as stale is matched as one that is not, here and by the calls below. TABLE, RANGE and
- * SHORT of the prefixes, FLOW, SPACE (an output under MVPN_MATCH_OUTPUT octets, also where the answer would fit or nothing
+ * Finds the route that the flow (source, group) takes (RFC 6625, section 3). The candidates are the routes whose originator equals
+ * `router` in size and octets, and whose tunnel type is not 0. `router` is ourselves for sending, the upstream PE for receiving. A
+ * route of tunnel type 0 asks for tracking and names no tunnel: it is installed, replaced and withdrawn like others, but passed
+ * over here (RFC 8556, section 4.1). A stale route is matched like any other, here and by the calls below. Refusals: TABLE, RANGE
+ * and SHORT for the prefixes, FLOW, SPACE (an output under MVPN_MATCH_OUTPUT octets, even if the answer would fit or nothing
  * matches).
  *
- * The lowest tier that has such a route wins. SSM and ASM are as mvpn_group_class tells with these prefixes and the table's AFI:
+ * The lowest tier that has a candidate wins. SSM and ASM are what mvpn_group_class gives with these prefixes and the table's AFI:
  *   1  source and group both equal
- *   2  source equal, group wildcard, and the group SSM
- *   3  source wildcard, group equal, and the group ASM
+ *   2  source equal, group wildcard; for an SSM group
+ *   3  source wildcard, group equal; for an ASM group
  *   4  both wildcard
- * Ties go to the lowest route distinguisher, compared as eight octets: behind one of tunnel type 0 the next one of that tier
- * is taken, before a later tier.
+ * Ties go to the lowest route distinguisher, compared as eight octets. If that route has tunnel type 0, the next one of its tier is
+ * taken, before a later tier.
  *
- * The NLRI is written at the front of the output and the attribute straight after it; octets past them are untouched. No
- * place number is given. Where no route matches: DONE with tier 0, both sizes 0 and the output untouched.
+ * The NLRI is written at the front of the output and the attribute straight after it; octets past them are untouched. No place
+ * number is given. If no route matches, the answer is DONE with tier 0 and both sizes 0, and the output is untouched.
  */
 mvpn_matched mvpn_match(const uint8_t *table, size_t table_len, const uint8_t *prefixes, size_t prefixes_len,
                         const uint8_t *router, size_t router_len, const uint8_t *source, size_t source_len,
@@ -550,30 +709,45 @@ mvpn_matched mvpn_match(const uint8_t *table, size_t table_len, const uint8_t *p
 /* Why a tier was taken, or was not. */
 enum {
     MVPN_TAKEN = 1,             /* the route of the answer is of this tier */
-    MVPN_NO_SUCH_ROUTE = 2,     /* the group's class allows this tier, and none of its routes may be taken: there is none of
-                                   this router, or each has tunnel type 0 */
+    MVPN_NO_SUCH_ROUTE = 2,     /* the group's class allows this tier, but none of its routes may be taken: this router has
+                                   none, or each has tunnel type 0 */
     MVPN_WRONG_GROUP_CLASS = 3, /* the group's class forbids this tier: tier 2 is for SSM groups, tier 3 for ASM groups */
     MVPN_EARLIER_TIER_WON = 4   /* an earlier tier was taken */
 };
 
+/* The name of a reason; 0, which a refused call gives, is "none". */
+static inline const char *
+mvpn_reason_name(uint32_t reason)
+{
+    switch (reason) {
+    case 0: return "none";
+    case MVPN_TAKEN: return "taken";
+    case MVPN_NO_SUCH_ROUTE: return "no such route";
+    case MVPN_WRONG_GROUP_CLASS: return "wrong group class";
+    case MVPN_EARLIER_TIER_WON: return "an earlier tier won";
+    default: return "unknown";
+    }
+}
+
 typedef struct {
     mvpn_matched matched; /* the match's whole answer */
-    uint32_t reasons[4];  /* of tiers 1 to 4 in turn; 0 on a refusal */
+    uint32_t reasons[4];  /* for tiers 1 to 4 in order; 0 on a refusal */
 } mvpn_explained;
 
 /*
- * The match for a flow, and why: its arguments, refusals, answer and output are those of mvpn_match, and each tier, 1 to 4 in
- * turn, has a reason. Every tier after the one taken says MVPN_EARLIER_TIER_WON, whatever its class and routes; any other that
- * is not taken says MVPN_WRONG_GROUP_CLASS before MVPN_NO_SUCH_ROUTE.
+ * Finds the route that a flow takes, and says why. Its arguments, refusals, answer and output are those of mvpn_match, and each
+ * tier, 1 to 4 in order, has a reason. Every tier after the one taken has MVPN_EARLIER_TIER_WON, whatever its class and routes. Any
+ * other tier that is not taken has MVPN_WRONG_GROUP_CLASS if that applies, else MVPN_NO_SUCH_ROUTE.
  */
 mvpn_explained mvpn_explain(const uint8_t *table, size_t table_len, const uint8_t *prefixes, size_t prefixes_len,
                             const uint8_t *router, size_t router_len, const uint8_t *source, size_t source_len,
                             const uint8_t *group, size_t group_len, uint8_t *output, size_t output_len);
 
-/* The most items of each list that is told of a shared tree. */
+/* The most items of each list for a shared tree. */
 enum { MVPN_MOST_ITEMS = 256 };
 
-/* What the daemon knows of a shared tree (C-*,C-G) and the PE asked (RFC 6625, section 3.2.2); each is 0 or not. */
+/* What the daemon knows of a shared tree (C-*,C-G) and the PE asked about (RFC 6625, section 3.2.2). Each is 0 for no, any other
+ * number for yes. */
 typedef struct {
     uint32_t upstream;             /* the PE is the upstream PE for the C-RP of the group */
     uint32_t bidirectional;        /* the group is a BIDIR-PIM group */
@@ -581,28 +755,29 @@ typedef struct {
 } mvpn_shared_tree;
 
 /*
- * The route that a shared tree (C-*,C-G) takes (RFC 6625, section 3.2.2), among those whose originator equals `router`, the
- * PE asked, in size and octets, and whose tunnel type is not 0. For an ASM group a route is eligible exactly when one of these
- * holds:
+ * Finds the route that a shared tree (C-*,C-G) takes (RFC 6625, section 3.2.2). The candidates are the routes whose originator
+ * equals `router`, the PE asked about, in size and octets, and whose tunnel type is not 0. For an ASM group a candidate is eligible
+ * exactly when one of these holds:
  *   - facts.upstream;
- *   - one or more Source Active routes of the list are for this group and were originated by this PE, and for at least one of
- *     them no state of the list has its source and its group;
+ *   - a Source Active route of the list is for this group and was originated by this PE, and no state of the list has its source
+ *     and its group;
  *   - facts.bidirectional;
  *   - facts.source_active_unused.
- * It is told by the daemon, and not guessed from an empty list, that Source Active routes are not being used.
+ * The daemon must say that Source Active routes are not being used; an empty list does not imply it.
  *
- * `source_actives`: at most 256 items of two fields, the originator (4 or 16 octets) and the NLRI of a Source Active A-D
- * route. `states`: at most 256 items of two fields, source and group of a (C-S,C-G) state, each of the family's size.
+ * `source_actives` is a list of at most 256 items of two fields: the originator (4 or 16 octets) and the NLRI of a Source Active
+ * A-D route. `states` is a list of at most 256 items of two fields: source and group of a (C-S,C-G) state, each of the family's
+ * size.
  *
- * TABLE; RANGE and SHORT of the prefixes; LONG (a count over 256, of either of these two lists); SHORT (either of them ends
- * before its items do); FLOW (router or an originator not of 4 or 16 octets, a state's source or group not of the family's size, a
- * group not multicast or not of the family's size; only the group asked must be multicast); then for each Source Active route in
- * turn NLRI reading under the table's AFI (LENGTH for octets after it, GROUP) and KIND (not type 5); SPACE (an output under
- * MVPN_MATCH_OUTPUT octets, also where nothing matches).
+ * Refusals: TABLE; RANGE and SHORT for the prefixes; LONG (a count over 256 in either of these two lists); SHORT (either of them
+ * ends before its items do); FLOW (`router` or an originator not of 4 or 16 octets, a state's source or group not of the family's
+ * size, `group` not multicast or not of the family's size; only `group` must be multicast); then, for each Source Active route in
+ * turn, those of reading an NLRI under the table's AFI (LENGTH for octets after it, GROUP) and KIND (not type 5); SPACE (an output
+ * under MVPN_MATCH_OUTPUT octets, even if nothing matches).
  *
- * The answer and the output are as those of a match: tier 3 with an eligible route of a wildcard source and this group, else
- * tier 4 with an eligible route of both wildcards, else tier 0; ties go to the lowest route distinguisher. An SSM group gets
- * tier 0, whatever is told.
+ * The answer and the output are like those of a match: tier 3 with an eligible route of a wildcard source and this group, else tier
+ * 4 with an eligible route of both wildcards, else tier 0. Ties go to the lowest route distinguisher. An SSM group gets tier 0,
+ * whatever the facts and lists say.
  */
 mvpn_matched mvpn_match_shared(const uint8_t *table, size_t table_len, const uint8_t *prefixes, size_t prefixes_len,
                                const uint8_t *router, size_t router_len, const uint8_t *group, size_t group_len,
@@ -615,54 +790,58 @@ enum { MVPN_BIER_STRING = 32, MVPN_MOST_LEAVES = 1024 };
 typedef struct { uint32_t number, routers; } mvpn_egress; /* how many egress routers are in the string, one for each BFR-id */
 
 /*
- * Who must get the BIER packet of a matched route (RFC 8556, section 4.1): the bit string, for one Set Identifier, of the egress
- * routers that have sent a Leaf A-D route for it. The route is given by its NLRI and its attribute, as a match writes them, and need
- * not stand in a table. `leaves`: at most 1,024 items of two fields, the NLRI of a Leaf A-D route and its PMSI Tunnel attribute.
+ * Makes the bit string, for one Set Identifier, of the egress routers that must get the BIER packet of a matched route: those that
+ * have sent a Leaf A-D route for it (RFC 8556, section 4.1). The route is given by its NLRI and its attribute, as a match writes
+ * them, and need not be in a table. `leaves` is a list of at most 1,024 items of two fields: the NLRI of a Leaf A-D route and its
+ * PMSI Tunnel attribute.
  *
  * A Leaf counts exactly when
  *   - its key equals the route's NLRI, octet by octet,
  *   - its tunnel is BIER in the route's sub-domain,
  *   - and its BFR-id is not 0.
- * Its label may be 0, as RFC 8556 has it; flags, BFR-prefix and originator make no difference.
+ * Its label may be 0, as RFC 8556 says; flags, BFR-prefix and originator make no difference.
  *
- * By RFC 8279 a BFR-id is of the set (id - 1) / 256, and has there the position (id - 1) % 256 + 1. Position 1 is the lowest bit of
- * the last of the 32 octets, position 256 the highest bit of the first. A bit is set exactly when a Leaf that counts is of this set
- * and has its position; several with one BFR-id are one egress router. All 32 octets are written at the front of the output, as
- * zeros where no Leaf counts; octets past them are untouched.
+ * By RFC 8279 a BFR-id is in the set (id - 1) / 256, at the position (id - 1) % 256 + 1. Position 1 is the lowest bit of the last
+ * of the 32 octets, position 256 the highest bit of the first. A bit is set exactly when the BFR-id of a Leaf that counts is in
+ * this set, at that position; several Leaves with one BFR-id are one egress router. All 32 octets are written at the front of the
+ * output, as zeros if no Leaf counts; octets past them are untouched.
  *
- * As of install: NLRI reading (FAMILY first; LENGTH for octets after it, GROUP), KIND (not type 3), attribute reading, LABEL. Then
- * TUNNEL (the route's tunnel is not BIER); LONG (a count over 1,024); SHORT (the list ends before its items do); for each Leaf in
- * turn, also one that does not count, NLRI reading (LENGTH for octets after it, GROUP), KIND (not type 4, so for 0x44 too), attribute
- * reading; SPACE (an output under MVPN_BIER_STRING octets).
+ * Refusals: as for install, those of reading an NLRI (FAMILY first; LENGTH for octets after it, GROUP), KIND (not type 3), those of
+ * reading an attribute, LABEL; then TUNNEL (the route's tunnel is not BIER); LONG (a count over 1,024); SHORT (the list ends before
+ * its items do); for each Leaf in turn, even one that does not count, those of reading an NLRI (LENGTH for octets after it, GROUP),
+ * KIND (not type 4, so for type 0x44 too), those of reading an attribute; SPACE (an output under MVPN_BIER_STRING octets).
  *
- * A packet goes out once for each set that has egress routers, so a caller asks for the sets that the sub-domain uses, one after
- * another. Leaf A-D routes that answer the flag LIR-pF (RFC 8534) have other keys than the route's NLRI, and do not count.
+ * A packet is sent once for each set that has egress routers, so a caller asks for the sets that the sub-domain uses, one after
+ * another. Leaf A-D routes that answer the flag LIR-pF (RFC 8534) have keys other than the route's NLRI, and do not count.
  */
 mvpn_egress mvpn_bier_string(uint16_t afi, const uint8_t *nlri, size_t nlri_len, const uint8_t *attribute, size_t attribute_len,
                              uint8_t set, const uint8_t *leaves, size_t leaves_len, uint8_t *output, size_t output_len);
 
 typedef struct {
     uint32_t number;
-    uint32_t nlri_size, attribute_size; /* 0: no route comes after */
-    uint32_t stale;                     /* 1: the route told is marked as stale; else 0 */
+    uint32_t nlri_size, attribute_size; /* 0: no route follows */
+    uint32_t stale;                     /* 1: the route is marked as stale; else 0 */
 } mvpn_following;
 
 /*
- * The route that comes next in the table after an NLRI, in the order of NLRIs, octet by octet: the first of all after no octets,
- * none after the last. It goes by NLRI and not by place, so that a route that comes or goes between two calls shifts no other;
- * `nlri` is any octets, and need not be held. TABLE, SPACE (an output under MVPN_MATCH_OUTPUT octets, also where no route comes
- * after).
+ * Gives the route that follows an NLRI in the table, in the order of NLRIs, octet by octet. After no octets that is the first
+ * route; after the last there is none. The order is by NLRI and not by place, so a route that comes or goes between two calls
+ * shifts no other. `nlri` may be any octets, and need not be in the table. Refusals: TABLE, SPACE (an output under
+ * MVPN_MATCH_OUTPUT octets, even if no route follows).
  *
  * The NLRI is written at the front of the output and the attribute straight after it, as by a match; octets past them are
- * untouched. Where no route comes after: DONE with the other fields 0, and the output untouched. The loop that lists a table:
+ * untouched. If no route follows, the answer is DONE with the other fields 0, and the output is untouched.
+ * The loop that lists a table:
  *
  *     uint8_t nlri[MVPN_MATCH_OUTPUT], route[MVPN_MATCH_OUTPUT];
  *     mvpn_following next;
  *     size_t size = 0;
  *     for (;;) {
- *         next = mvpn_next(table, table_len, nlri, size, route, sizeof route);
+ *         next = mvpn_next(table, table_len, nlri, size,
+ *                          route, sizeof route);
  *         if (next.nlri_size == 0) break;
- *         show_route(route, next.nlri_size, route + next.nlri_size, next.attribute_size);
+ *         show_route(route, next.nlri_size,
+ *                    route + next.nlri_size, next.attribute_size);
  *         size = next.nlri_size;
  *         memcpy(nlri, route, size);
  *     }
@@ -671,36 +850,38 @@ typedef struct {
 mvpn_following mvpn_next(const uint8_t *table, size_t table_len, const uint8_t *nlri, size_t nlri_len,
                          uint8_t *output, size_t output_len);
 
-typedef struct { uint32_t number, afi, places, routes; } mvpn_table_facts;
+typedef struct {
+    uint32_t number, afi, places, routes;
+} mvpn_table_facts;
 
-/* What a table says of itself: its AFI, its places, and how many routes are in them. TABLE. */
+/* What a table says of itself: its AFI, its places, and how many routes are in them. Refusals: TABLE. */
 mvpn_table_facts mvpn_table_info(const uint8_t *table, size_t table_len);
 
 /*
- * A plan: the S-PMSI A-D routes that one originator advertises with one route distinguisher, so that each of up to 64 flows takes
- * the tunnel that is wanted for it. A route with wildcards does for many flows, so that few routes are enough.
+ * A plan is the S-PMSI A-D routes that one originator advertises with one route distinguisher, so that each of up to 64 flows takes
+ * the tunnel wanted for it. A route with wildcards serves many flows, so few routes are enough.
  *
- * `flows`: at most 64 items of three fields, source and group, each of the family's size, and the PMSI Tunnel attribute wanted, whose
- * tunnel type is not 0. A flow may be listed again, with the same attribute.
+ * `flows` is a list of at most 64 items of three fields: source and group, each of the family's size, and the PMSI Tunnel attribute
+ * wanted, whose tunnel type is not 0. A flow may be listed again with the same attribute.
  *
- * Routes are proposed as table places, MVPN_PLACE octets each, one straight after the other, in any order. A place has the sizes of
- * the NLRI and of the attribute, 1 octet each, the NLRI, the attribute, zeros, and in its last octet the mark; those of a full table
- * are the octets behind its header.
+ * Routes are proposed as table places, MVPN_PLACE octets each, one straight after another, in any order. A place has the sizes of
+ * the NLRI and of the attribute, 1 octet each, the NLRI, the attribute, zeros, and in its last octet the mark. The places of a full
+ * table are the octets after its header.
  *
- * Both calls refuse, each number tried over all flows before the next: FAMILY; RANGE and SHORT of the prefixes; LONG (a count of
- * flows over 64; of mvpn_judge also places over 8,192 octets); SHORT (the list of flows ends before its items do); FLOW (an
+ * Refusals of both calls, each tried over all flows before the next: FAMILY; RANGE and SHORT for the prefixes; LONG (a count of
+ * flows over 64; for mvpn_judge also places over 8,192 octets); SHORT (the list of flows ends before its items do); FLOW (an
  * originator not of 4 or 16 octets, a distinguisher not of 8, a source or group not of the family's size, a group not multicast);
- * attribute reading, where the first flow whose attribute is refused decides; LABEL (BIER with label 0); TUNNEL (tunnel type 0);
- * CONFLICT; and mvpn_plan alone SPACE.
+ * those of reading an attribute, where the first flow whose attribute is refused decides; LABEL (BIER with label 0); TUNNEL (tunnel
+ * type 0); CONFLICT; and, for mvpn_plan alone, SPACE.
  */
 
-/* The most flows of a plan, and the most octets of the places proposed for one; the octets of the longest list of flows that is
+/* The most flows of a plan, the most octets of the places proposed for one, and the octets of the longest list of flows that is
  * accepted, which is one for IPv6. */
 enum { MVPN_MOST_FLOWS = 64, MVPN_LONGEST_PROPOSAL = 8192, MVPN_LONGEST_FLOWS = 6530 };
 
 /*
- * Appends a flow, with the attribute that is wanted for it, to a list that has `size` octets: the octets it has then. 0 where
- * mvpn_list_field gives 0 for one of the three fields. Nothing of the flow is judged here; the call that takes the list does that.
+ * Appends a flow, with the attribute wanted for it, to a list that has `size` octets, and gives the octets that it has then. It
+ * gives 0 if mvpn_list_field gives 0 for one of the three fields. The call that takes the list checks the flow.
  */
 static inline size_t
 mvpn_list_flow(uint8_t *list, size_t space, size_t size, const uint8_t *source, size_t source_len,
@@ -714,15 +895,15 @@ mvpn_list_flow(uint8_t *list, size_t space, size_t size, const uint8_t *source, 
 typedef struct { uint32_t number, accepted; } mvpn_judged; /* 1: accepted; 0: not */
 
 /*
- * Whether the routes proposed, whoever proposes them, are a plan for these flows. They are accepted exactly when
- *   - `places` is whole places, none or more, and each is a place that a sound table of this AFI could have: a route that install
- *     accepts, zeros behind it, and a mark of 0 or 1. A place of zeros is not;
+ * Says whether the proposed routes, whoever proposes them, are a plan for these flows. They are accepted exactly when
+ *   - `places` is whole places, none or more, and each is one that a sound table of this AFI could have: a route that install
+ *     accepts, zeros after it, and a mark of 0 or 1. A place of zeros is not accepted;
  *   - every route has this originator, in size and octets, and this distinguisher;
  *   - no two have the same NLRI;
- *   - for each flow, a match among these routes alone, of the originator and with these prefixes, takes a route, and its attribute
- *     is the one wanted, octet for octet.
- * A route that no flow takes does no harm, and neither does one of tunnel type 0, which no flow takes. For no flows, no routes are
- * accepted too. The refusals are those above; a bad proposal is none, but DONE and 0.
+ *   - for each flow, a match among these routes alone, for the originator and with these prefixes, takes a route whose attribute is
+ *     the one wanted, octet for octet.
+ * A route that no flow takes does no harm, and neither does one of tunnel type 0, which no flow takes. If there are no flows, a
+ * proposal of no routes is accepted too. The refusals are those above. A bad proposal is not refused: the answer is DONE and 0.
  */
 mvpn_judged mvpn_judge(uint16_t afi, const uint8_t *prefixes, size_t prefixes_len,
                        const uint8_t *originator, size_t originator_len,
@@ -732,15 +913,15 @@ mvpn_judged mvpn_judge(uint16_t afi, const uint8_t *prefixes, size_t prefixes_le
 typedef struct { uint32_t number, routes; } mvpn_planned; /* how many routes are proposed, a place of MVPN_PLACE octets each */
 
 /*
- * Proposes routes for these flows. What it proposes is accepted by mvpn_judge with the same arguments, and is few: none for no
- * flows; else at most one more than there are different flows that do not want the commonest attribute. Different flows differ in
- * source or group, and the commonest attribute is the one that most of them want. Which attribute that is where several are, and the
- * order of the places, the library chooses, the same for the same arguments.
+ * Proposes routes for these flows. mvpn_judge, with the same arguments, accepts what it proposes. The routes are few: none for no
+ * flows, else at most one more than there are different flows that do not want the commonest attribute. Different flows differ in
+ * source or group, and the commonest attribute is the one that most of them want. If several are, the library chooses one of them.
+ * It also chooses the order of the places, and makes the same choices for the same arguments.
  *
- * The places are written at the front of the output, with marks of 0; octets past them are untouched. The refusals are those above,
- * SPACE among them: an output under MVPN_PLACE octets for each flow as listed, one that is listed again counted again, however few
- * routes are proposed. An output of MVPN_LONGEST_PROPOSAL octets is enough for every plan. mvpn(3) shows under "A plan for many
- * flows" how the routes are taken from it.
+ * The places are written at the front of the output, with marks of 0; octets past them are untouched. The refusals are those above.
+ * SPACE is an output under MVPN_PLACE octets for each listed flow, however few routes are proposed; a flow that is listed again
+ * counts again. An output of MVPN_LONGEST_PROPOSAL octets is enough for every plan. mvpn(3) shows under "A plan for many flows" how
+ * to take the routes from it.
  */
 mvpn_planned mvpn_plan(uint16_t afi, const uint8_t *prefixes, size_t prefixes_len,
                        const uint8_t *originator, size_t originator_len,
@@ -750,26 +931,27 @@ mvpn_planned mvpn_plan(uint16_t afi, const uint8_t *prefixes, size_t prefixes_le
 /* Why a salvage drops a place. */
 enum { MVPN_BAD_PLACE = 1, MVPN_REPEATED_NLRI = 2 };
 
-/* The octets of a salvage's list for each place: its number (16 bits, from 0), and the reason. */
+/* The octets that a salvage lists for each dropped place: its number (16 bits, from 0), and the reason. */
 enum { MVPN_DROPPED_PLACE = 3 };
 
 typedef struct { uint32_t number, kept, dropped; } mvpn_salvaged; /* how many places were kept, and how many dropped */
 
 /*
- * Makes a sound table of what is still good in damaged memory, as of a table that is read back from flash after a fault. The header
- * of `damaged` is not looked at, neither its AFI nor its count, so the caller must know the AFI. Every place is looked at. It is
- * good if a sound table of this AFI could have it: a route that install accepts, zeros behind it, and a mark of 0 or 1.
- *   - A good place is kept, with its mark, if no place before it that is kept has its NLRI; else it is dropped: MVPN_REPEATED_NLRI.
+ * Makes a sound table from what is still good in damaged memory, for example a table that is read back from flash after a fault.
+ * The header of `damaged`, with its AFI and its count, is ignored, so the caller must know the AFI. Every place is examined. It is
+ * good if a sound table of this AFI could have it: a route that install accepts, zeros after it, and a mark of 0 or 1.
+ *   - A good place is kept, with its mark, unless a place kept before it has the same NLRI; then it is dropped with
+ *     MVPN_REPEATED_NLRI.
  *   - A place of zeros is passed over: it is neither kept nor dropped.
- *   - Any other place is dropped, whatever its NLRI: MVPN_BAD_PLACE.
- * `table` is written whole, and is the sound table of the routes kept. `dropped` gets at its front the places that are dropped, in
+ *   - Any other place is dropped with MVPN_BAD_PLACE, whatever its NLRI.
+ * `table` is written whole, and is the sound table of the routes kept. The dropped places are listed at the front of `dropped`, in
  * their order, MVPN_DROPPED_PLACE octets each; octets past these are untouched. A sound table of this AFI comes back unchanged, and
  * nothing is dropped.
  *
- * FAMILY, TABLE (a `damaged_len` other than MVPN_TABLE_SIZE of 0 to 500), SPACE (a `table_len` other than `damaged_len`, or a
- * `dropped_len` under MVPN_DROPPED_PLACE for each place of `damaged`, however few are dropped).
+ * Refusals: FAMILY, TABLE (a `damaged_len` other than MVPN_TABLE_SIZE of 0 to 500), SPACE (a `table_len` other than `damaged_len`,
+ * or a `dropped_len` under MVPN_DROPPED_PLACE for each place of `damaged`, however few are dropped).
  *
- * A fault may also turn a route into another good one, or a place into zeros, and nobody can tell. mvpn(3) says under "After a
+ * A fault may also turn a route into another good one, or a place into zeros; this cannot be noticed. mvpn(3) says under "After a
  * fault" what a daemon does.
  */
 mvpn_salvaged mvpn_salvage(uint16_t afi, const uint8_t *damaged, size_t damaged_len, uint8_t *table, size_t table_len,

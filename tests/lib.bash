@@ -8,6 +8,7 @@ header=include/mvpn.h
 # What `make` builds.
 archive=target/staticlib/libmvpn.a
 listing=target/bin/mvpn_list
+showing=target/bin/mvpn_show
 
 fail() {
     echo "${0##*/}: $*" >&2
@@ -60,6 +61,11 @@ calls() {
     sed -n 's/^[a-z].* \(mvpn_[a-z_]*\)(.*/\1/p' "$header"
 }
 
+# The functions that it defines; the name of each begins a line.
+helpers() {
+    sed -n 's/^\(mvpn_[a-z_]*\)(.*/\1/p' "$header"
+}
+
 # The loop that the header shows to callers who read a run in pieces.
 callers_loop() {
     sed -n "/The caller's loop:/,/\*\//s/^ \*     //p" "$header"
@@ -96,6 +102,11 @@ place_lines() {
 
 several_lines() {
     shown_after '^And a flow is matched thus:$'
+}
+
+# The function of mvpn(3) for callers whose table is full.
+larger_lines() {
+    shown_after '^that has the same routes, with their marks\.$'
 }
 
 # The lines of mvpn(3) for callers whose table was refused after a fault.

@@ -1,10 +1,8 @@
 #include "requests.h"
 
-#include <arpa/inet.h>
-#include <ctype.h>
-#include <stdbool.h>
+#include "text.h"
+
 #include <stdio.h>
-#include <stdlib.h>
 #include <string.h>
 
 void print_usage(void)
@@ -17,44 +15,10 @@ void print_usage(void)
                     "  state SOURCE GROUP\n");
 }
 
-static bool is(const char *word, const char *name)
-{
-    return word && strcmp(word, name) == 0;
-}
-
-/* Whether a word is a number, of digits alone and not over `most`. */
-static bool is_number(const char *word, size_t most, size_t *number)
-{
-    char *end;
-    if (!word || !isdigit((unsigned char)word[0]))
-        return false;
-    *number = strtoul(word, &end, 10);
-    return !*end && *number <= most;
-}
-
-static bool is_address(const char *text, mvpn_address *address)
-{
-    address->size = strchr(text, ':') ? 16 : 4;
-    return inet_pton(address->size == 4 ? AF_INET : AF_INET6, text, address->octets) == 1;
-}
-
-/* The address ends at the slash, behind which the length stands. */
-static bool is_prefix(const char *word, group_prefix *prefix)
-{
-    char address[INET6_ADDRSTRLEN];
-    size_t size = word ? strcspn(word, "/") : 0, length;
-    if (size == 0 || !word[size] || size >= sizeof address || !is_number(word + size + 1, UINT8_MAX, &length))
-        return false;
-    memcpy(address, word, size);
-    address[size] = '\0';
-    prefix->length = (uint8_t)length;
-    return is_address(address, &prefix->address);
-}
-
 int parse_pieces(char **words, size_t most, size_t *octets)
 {
-    size_t number;
-    if (!is(words[0], "--pieces"))
+    unsigned long number;
+    if (!is_word(words[0], "--pieces"))
         return 0;
     if (!is_number(words[1], most, &number) || number < 1) {
         fprintf(stderr, "pe_daemon: a piece has 1 to %zu octets\n", most);
@@ -66,8 +30,7 @@ int parse_pieces(char **words, size_t most, size_t *octets)
 
 int parse_ssm(char **words, group_prefix *prefix)
 {
-    memset(prefix, 0, sizeof *prefix);
-    if (!is(words[0], "--ssm"))
+    if (!is_word(words[0], "--ssm"))
         return 0;
     if (is_prefix(words[1], prefix))
         return 2;
@@ -77,9 +40,9 @@ int parse_ssm(char **words, group_prefix *prefix)
 
 int parse_table(char **words, table_file *table)
 {
-    if (!is(words[0], "--table"))
+    if (!is_word(words[0], "--table"))
         return 0;
-    bool is_ipv4 = is(words[1], "ipv4"), is_ipv6 = is(words[1], "ipv6");
+    bool is_ipv4 = is_word(words[1], "ipv4"), is_ipv6 = is_word(words[1], "ipv6");
     if ((!is_ipv4 && !is_ipv6) || !words[2]) {
         fprintf(stderr, "pe_daemon: a table is ipv4 or ipv6, and a file\n");
         return -1;
@@ -106,11 +69,11 @@ static int parse_facts(char **words, mvpn_shared_tree *facts)
 {
     int count = 0;
     for (;; count++) {
-        if (is(words[count], "upstream"))
+        if (is_word(words[count], "upstream"))
             facts->upstream = 1;
-        else if (is(words[count], "bidir"))
+        else if (is_word(words[count], "bidir"))
             facts->bidirectional = 1;
-        else if (is(words[count], "unused"))
+        else if (is_word(words[count], "unused"))
             facts->source_active_unused = 1;
         else
             return count;
@@ -120,13 +83,14 @@ static int parse_facts(char **words, mvpn_shared_tree *facts)
 int parse_request(char **words, request *asked)
 {
     memset(asked, 0, sizeof *asked);
-    if (is(words[0], "shared")) {
+    customer_flow *flow = &asked->flow;
+    if (is_word(words[0], "shared")) {
         asked->kind = SHARED_TREE;
-        bool right = parse_address(words[1], &asked->router) && parse_address(words[2], &asked->group);
+        bool right = parse_address(words[1], &flow->router) && parse_address(words[2], &flow->group);
         return right ? 3 + parse_facts(words + 3, &asked->facts) : 0;
     }
-    asked->kind = is(words[0], "state") ? STATE : FLOW;
-    if (asked->kind == FLOW && !parse_address(words[0], &asked->router))
+    asked->kind = is_word(words[0], "state") ? STATE : FLOW;
+    if (asked->kind == FLOW && !parse_address(words[0], &flow->router))
         return 0;
-    return parse_address(words[1], &asked->source) && parse_address(words[2], &asked->group) ? 3 : 0;
+    return parse_address(words[1], &flow->source) && parse_address(words[2], &flow->group) ? 3 : 0;
 }

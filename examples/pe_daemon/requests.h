@@ -2,7 +2,9 @@
 #ifndef REQUESTS_H
 #define REQUESTS_H
 
+#include "flow.h"
 #include "mvpn.h"
+#include "prefixes.h"
 
 /* How the command line is written. */
 void print_usage(void);
@@ -11,13 +13,10 @@ void print_usage(void);
  * not given, and -1, after standard error has been told why, where it is wrong. */
 int parse_pieces(char **words, size_t most, size_t *octets);
 
-/* Groups that begin alike, as 239.232.0.0/16; the length is in bits. */
-typedef struct { mvpn_address address; uint8_t length; } group_prefix;
-
 /* Reads the option `--ssm ADDRESS/LENGTH` likewise. Whether the length suits the address is for the library to say. */
 int parse_ssm(char **words, group_prefix *prefix);
 
-/* The file that a family's table is kept in. */
+/* The file that a family's routes are kept in. */
 typedef struct { uint16_t afi; const char *name; } table_file;
 
 /* Reads the option `--table FAMILY FILE` likewise. */
@@ -27,9 +26,7 @@ typedef enum { FLOW, SHARED_TREE, STATE } request_kind;
 
 typedef struct {
     request_kind kind;
-    mvpn_address router;    /* of a flow and of a shared tree: the PE that is asked about */
-    mvpn_address source;    /* of a flow and of a state */
-    mvpn_address group;
+    customer_flow flow;     /* a shared tree has no source, a state no router */
     mvpn_shared_tree facts; /* of a shared tree */
 } request;
 

@@ -22,7 +22,7 @@ ranges() {
         options+=(--ssm "$prefix")
     done
     printf '\n==== pe_daemon %s %s\n\n' "${options[*]}" "$2"
-    "$program" "${options[@]}" "${pieces[@]}" "${@:2}" | sed -e '/^message 1:/,/^other NLRIs:/d' -e '/^IPv4 table:/,$d'
+    "$program" "${options[@]}" "${pieces[@]}" "${@:2}" | sed -e '/^message 1:/,/^other NLRIs:/d' -e '/^IPv4 tables:/,$d'
 }
 
 # The tiers in turn; a route that was withdrawn, so the next tier has it; (C-*,C-G) is not for SSM groups; a tie, in which a

@@ -244,6 +244,16 @@ message() {
     printf '%s%s%s%s' "$marker" "$(number 2 $((19 + ${#2} / 2)))" "$(number 1 "$1")" "$2"
 }
 
+# opened: an OPEN (version 4, AS 100, hold time 90), by which a session begins.
+opened() {
+    message 1 "04$(number 2 100)$(number 2 90)$(address 10.0.0.1)00"
+}
+
+# in_sessions: messages that are read, each of them in a session of its own.
+in_sessions() {
+    sed "s/$marker/$(opened)&/g"
+}
+
 # graceful_open FLAGS_AND_TIME: an OPEN (version 4, AS 100, hold time 90) with the Graceful Restart Capability (RFC 5492; RFC
 # 4724, section 3) for MCAST-VPN of IPv4 and IPv6, whose forwarding state was kept.
 graceful_open() {
@@ -269,8 +279,8 @@ unicast_update() {
 ipv4() {
     local mldp deep
 
-    # OPEN (version 4, AS 100, hold time 90), KEEPALIVE, ROUTE-REFRESH: no routes in them
-    message 1 "04$(number 2 100)$(number 2 90)$(address 10.0.0.1)00"
+    # OPEN, KEEPALIVE, ROUTE-REFRESH: no routes in them
+    opened
     message 4 ''
     message 5 00010005
 
@@ -517,8 +527,8 @@ announce() {
 damaged_nlris() {
     local rd good=$1 tunnel=$2
     rd=$(rd 0:100:7)
-    announce "$good$(nlri 3 "${rd}18C0000200")" "$tunnel"                       # a source of 24 bits
-    announce "$(nlri 9 AB)$(nlri 3 "$rd$(field '*')$(field '*')0A0000")" "$tunnel" # an originator of three octets
+    announce "$(nlri 1 "${rd}0A0000")" "$tunnel"                                # an originator of three octets
+    announce "$(nlri 9 AB)$(nlri 3 "$rd$(field '*')$(field '*')0A0000")" "$tunnel" # the same, behind one that is skipped
     announce "${good}0320$rd" "$tunnel"                                         # a Length past the run's end
     announce "${good}0920$rd" "$tunnel"                                         # the same of a route type that is not defined
     announce "$(nlri 4 "$(nlri 9 "$rd")$(address 10.0.0.1)")" "$tunnel"         # a Leaf's key of such a type
@@ -555,7 +565,7 @@ damaged_tunnels() {
 
 damaged_frames() {
     local announced=$1
-    update "$(usual)" "${announced}C01608"                    # an attribute past the end
+    update "$(usual)" C01608                                  # an attribute past the end, and no routes before it
     update "$(usual)" "$announced$announced"                  # MP_REACH_NLRI twice
     update "$(usual)" "$(attribute 80 14 000105040A0000)"     # a next hop past the end
     update "$(unreach 1)" "$(unreach 2)"                      # MP_UNREACH_NLRI twice
@@ -567,16 +577,47 @@ damaged_frames() {
 }
 
 damaged() {
-    local held bier
-    held=$(s_pmsi 0:100:7 192.0.2.1 232.1.1.1 10.0.0.1) bier=$(bier 00 1000 0 1 10.0.0.1)
-    announce "$held$(s_pmsi 0:100:7 '*' '*' 10.0.0.1)" "$bier"
-    damaged_nlris "$(s_pmsi 0:100:7 192.0.2.1 239.1.1.1 10.0.0.1)" "$bier"
-    damaged_mldp_nlris "$bier"
+    local held any bier ipv6
+    held=$(s_pmsi 0:100:7 192.0.2.1 232.1.1.1 10.0.0.1) any=$(s_pmsi 0:100:7 '*' '*' 10.0.0.1) bier=$(bier 00 1000 0 1 10.0.0.1)
+    ipv6=$(s_pmsi 0:100:7 2001:db8:1::1 ff3e::1 2001:db8::1)
+
+    # a damaged NLRI: the routes of IPv4 go, and it is disabled, while IPv6 is not
+    announce "$held$any$(source_active 0:100:7 192.0.2.1 239.1.1.1)$(leaf "$any" 10.0.0.2)" "$bier"
+    announce "$any$(nlri 3 "$(rd 0:100:7)18C0000200")" "$bier"
+    announce "$held" "$bier"
+    update "$(usual)" "$(reach 2 "$ipv6")" "$bier"
+    update "$(unreach 1 "$any")"
+    update "$(unreach 1)"
+
+    # others, each in a session of its own
+    damaged_nlris "$(s_pmsi 0:100:7 192.0.2.1 239.1.1.1 10.0.0.1)" "$bier" | in_sessions
+    damaged_mldp_nlris "$bier" | in_sessions
+
+    # tunnels that are refused: their routes are treated as withdrawn, those too that have no tunnel
+    opened
+    announce "$held$(source_active 0:100:7 192.0.2.1 239.1.1.1)$(leaf "$any" 10.0.0.2)" "$bier"
     damaged_tunnels "$(s_pmsi 0:100:7 192.0.2.2 232.1.1.1 10.0.0.1)"
+    announce "$(source_active 0:100:7 192.0.2.1 239.1.1.1)$(leaf "$any" 10.0.0.2)$(mldp_join 0:100:7 65000 "$(fec 06 192.0.2.11 '')")" \
+        "$(tunnel 00 8 0 '')"
     announce "$held" "$(bier 00 0 0 1 10.0.0.1)" # BIER needs a label; the route was held
     update "$(unreach 1 "$held")"                # and is gone
-    damaged_frames "$(reach 1 "$held")"
-    printf 'FE%s' "$(announce "$held" "$bier" | tail -c +3)" # a marker with a bit off: the end of what can be read
+
+    # an attribute past the end, behind routes
+    announce "$held" "$bier"
+    update "$(usual)" "$(reach 1 "$held")" "$(unreach 1 "$any")" C01608
+
+    # a tunnel that is refused, without routes that are announced: the session is reset, and messages are ignored
+    announce "$held" "$bier"
+    update "$(unreach 1 "$any")" "$(tunnel 00 8 0 '')"
+    announce "$held" "$bier"
+    message 4 ''
+    message 9 ''
+    damaged_frames "$(reach 1 "$held")" | in_sessions
+
+    # a marker with a bit off: the end of what can be read
+    opened
+    announce "$held" "$bier"
+    printf 'FE%s' "$(announce "$held" "$bier" | tail -c +3)"
     announce "$held" "$bier"
 }
 

@@ -1,7 +1,9 @@
 // mvpn.h in C++: it may be included twice, its types have the sizes that callers are built with (64-bit), its calls link,
-// and its helpers for lists compile.
+// and its functions for lists, words and small tables compile.
 #include "mvpn.h"
 #include "mvpn.h"
+
+#include <cstring>
 
 static_assert(sizeof(mvpn_span) == 16, "mvpn_span");
 static_assert(sizeof(mvpn_route_distinguisher) == 8, "mvpn_route_distinguisher");
@@ -49,6 +51,20 @@ static bool flows()
     return mvpn_list_flow(list, sizeof list, size, field, 1, field, 1, field, 1) == sizeof list && list[10] == 7;
 }
 
+static bool words()
+{
+    return std::strcmp(mvpn_number_name(MVPN_WIDTH), "WIDTH") == 0 && std::strcmp(mvpn_number_text(99), "unknown") == 0 &&
+           std::strcmp(mvpn_tier_name(1), "(C-S,C-G)") == 0 && std::strcmp(mvpn_reason_name(1), "taken") == 0 &&
+           std::strcmp(mvpn_route_type_name(4), "Leaf A-D") == 0 && std::strcmp(mvpn_tunnel_type_name(11), "BIER") == 0;
+}
+
+// The same number as in C: tests/c/shards.c.
+static bool shards()
+{
+    const uint8_t router[] = {10, 0, 0, 1}, source[] = {192, 0, 2, 1}, group[] = {232, 1, 1, 1};
+    return mvpn_shard(router, sizeof router, source, sizeof source, group, sizeof group, 4096) == 2862;
+}
+
 int main()
 {
     const uint8_t octets[] = {0};
@@ -81,5 +97,5 @@ int main()
                        mvpn_judge(1, octets, 0, octets, 0, octets, 0, octets, 0, octets, 0).number == MVPN_SHORT &&
                        mvpn_plan(1, octets, 0, octets, 0, octets, 0, octets, 0, output, 0).number == MVPN_SHORT &&
                        mvpn_salvage(1, octets, 0, output, 0, output, 0).number == MVPN_TABLE && mvpn_version() == MVPN_VERSION_NUMBER;
-    return as_expected && lists() && flows() ? 0 : 1;
+    return as_expected && lists() && flows() && words() && shards() ? 0 : 1;
 }

@@ -1,7 +1,8 @@
 /*
  * Damaged UPDATE messages for the framing of examples/pe_daemon.c: mutations OUTPUT FILE... takes every UPDATE of the files,
  * cuts it after each of its octets, and changes each octet behind its header in several ways. Each such message is taken
- * apart in memory of exactly its size, and what is found in it must lie in it; then it goes to the output, for the program.
+ * apart in memory of exactly its size, and what is found in it must lie in it; then it goes to the output, for the program, behind an
+ * OPEN, since the one before may have ended its session.
  */
 #include "checks.h"
 #include "update.h"
@@ -42,7 +43,10 @@ static lent cut(octets message, size_t size)
 
 static void use(lent message, FILE *output)
 {
+    static const uint8_t open[] = { 255, 255, 255, 255, 255, 255, 255, 255, 255, 255, 255, 255, 255, 255, 255, 255,
+                                    0, 29, BGP_OPEN, 4, 0, 100, 0, 90, 10, 0, 0, 1, 0 };
     take_apart((octets){ message.at, message.size });
+    fwrite(open, 1, sizeof open, output);
     fwrite(message.at, 1, message.size, output);
 }
 

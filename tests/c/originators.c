@@ -55,40 +55,26 @@ static mvpn_address group(uint16_t afi, size_t number)
     return address_of(16, 0xFF, is_ssm ? 0x3E : 0x0E, number);
 }
 
-/* ---- small tables, by a hash of originator, source and group, and a table of wildcards for each originator; each has no place
- * at first */
+/* ---- small tables, for (C-S,C-G) routes, and a table of wildcards for each originator; each has no place at first */
 
-enum { SMALL = 16 };
+enum { SMALL_TABLES = 16 };
 
 typedef struct { uint8_t *octets; size_t size; } memory;
 
-static memory small[SMALL], wildcards[ORIGINATORS + 1];
+static memory small[SMALL_TABLES], wildcards[ORIGINATORS + 1];
 
 static void make_several(uint16_t afi)
 {
-    for (size_t i = 0; i < SMALL + ORIGINATORS + 1; i++) {
+    for (size_t i = 0; i < SMALL_TABLES + ORIGINATORS + 1; i++) {
         lent none = made(afi, 0);
-        *(i < SMALL ? &small[i] : &wildcards[i - SMALL]) = (memory){ none.at, none.size };
+        *(i < SMALL_TABLES ? &small[i] : &wildcards[i - SMALL_TABLES]) = (memory){ none.at, none.size };
     }
 }
 
 static void free_several(void)
 {
-    for (size_t i = 0; i < SMALL + ORIGINATORS + 1; i++)
-        free((i < SMALL ? small[i] : wildcards[i - SMALL]).octets);
-}
-
-static size_t sum_of(const mvpn_address *address)
-{
-    size_t sum = address->size;
-    for (size_t i = 0; i < address->size; i++)
-        sum = 31 * sum + address->octets[i];
-    return sum;
-}
-
-static memory *small_table(const mvpn_address *by, const mvpn_address *from, const mvpn_address *to)
-{
-    return &small[(sum_of(by) + 3 * sum_of(from) + 7 * sum_of(to)) % SMALL];
+    for (size_t i = 0; i < SMALL_TABLES + ORIGINATORS + 1; i++)
+        free((i < SMALL_TABLES ? small[i] : wildcards[i - SMALL_TABLES]).octets);
 }
 
 /* The last one, which stays empty, is that of a router without routes. */

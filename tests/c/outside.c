@@ -1,6 +1,6 @@
 /*
  * A program of somebody else's, who has what `make install` has put there and no more: it makes every call of mvpn.h, and uses each
- * helper for lists. It prints nothing where all answers are as expected.
+ * of its functions. It prints nothing where all answers are as expected.
  */
 #include <mvpn.h>
 
@@ -166,6 +166,25 @@ static void salvage(void)
     expect("table_info, salvaged", mvpn_table_info(OF(table)).routes == 1);
 }
 
+/* The words for what the calls above answer. */
+static void words(void)
+{
+    expect("number_name", strcmp(mvpn_number_name(MVPN_ABSENT), "ABSENT") == 0);
+    expect("number_text", strcmp(mvpn_number_text(MVPN_ABSENT), "the withdrawn NLRI is not in the table") == 0);
+    expect("tier_name", strcmp(mvpn_tier_name(MVPN_ANY_SOURCE_ANY_GROUP), "(C-*,C-*)") == 0);
+    expect("reason_name", strcmp(mvpn_reason_name(MVPN_WRONG_GROUP_CLASS), "wrong group class") == 0);
+    expect("route_type_name", strcmp(mvpn_route_type_name(MVPN_S_PMSI), "S-PMSI A-D") == 0);
+    expect("tunnel_type_name", strcmp(mvpn_tunnel_type_name(MVPN_TUNNEL_BIER), "BIER") == 0);
+}
+
+/* The flow's routes stand in one of ten small tables, always the same. */
+static void shard(void)
+{
+    size_t of_ten = mvpn_shard(OF(router), OF(source), OF(group), 10);
+    expect("shard", of_ten < 10 && of_ten == mvpn_shard(OF(router), OF(source), OF(group), 10));
+    expect("shard, one table", mvpn_shard(OF(router), OF(source), OF(group), 1) == 0);
+}
+
 int main(void)
 {
     expect("version", mvpn_version() == MVPN_VERSION_NUMBER);
@@ -178,6 +197,8 @@ int main(void)
     plan();
     restart();
     salvage();
+    words();
+    shard();
     expect("withdraw", mvpn_withdraw(OF(table), run, ANY_SIZE) == MVPN_DONE);
     expect("withdraw again", mvpn_withdraw(OF(table), run, ANY_SIZE) == MVPN_ABSENT);
     return failures != 0;

@@ -537,6 +537,20 @@ static void two_readers(void)
 
 static const uint32_t forged_numbers[] = { 0, 1, 2, 3, 255, 256, 257, 4095, 4096, 4097, 65536, 0x80000000, UINT32_MAX };
 
+/* An NLRI that is given is one under the state's AFI, wherever its octets come from. */
+static void well_formed(mvpn_pieces forged, const uint8_t *unfinished, size_t size)
+{
+    if (size > 0)
+        same("a forged state", "number of the NLRI given", mvpn_nlri_read((uint16_t)forged.afi, unfinished, size).number, MVPN_DONE);
+}
+
+/* The feed after a forged state takes octets, so that a loop ends. */
+static void takes_some(mvpn_fed forged, uint8_t *unfinished, lent piece, size_t size)
+{
+    mvpn_fed next = safe_feed("after a forged state", forged.pieces, unfinished, piece.at, size);
+    same("after a forged state", "octets taken of a piece that has some", size == 0 || forged.taken > 0 || next.taken > 0, true);
+}
+
 static void feed_forged(mvpn_pieces forged, lent piece)
 {
     static const size_t sizes[] = { 0, 1, 2, 16, 257, 4096, 4097 };
@@ -545,7 +559,8 @@ static void feed_forged(mvpn_pieces forged, lent piece)
     for (size_t i = 0; i < ROWS(sizes) * ROWS(fills); i++) {
         memset(unfinished, fills[i % ROWS(fills)], sizeof unfinished);
         mvpn_fed fed = safe_feed("a forged state", forged, unfinished, piece.at, sizes[i / ROWS(fills)]);
-        safe_feed("after a forged state", fed.pieces, unfinished, piece.at, sizes[i / ROWS(fills)]);
+        well_formed(forged, unfinished, fed.size);
+        takes_some(fed, unfinished, piece, sizes[i / ROWS(fills)]);
         mvpn_pieces_finish(fed.pieces);
     }
     mvpn_pieces_finish(forged);
@@ -574,7 +589,7 @@ static void changed_octets(void)
             mvpn_fed fed = watched_feed(mvpn_pieces_start(1, length % 2), unfinished.at, piece.at, kept);
             unfinished.at[0] = (uint8_t)(length % 9);
             unfinished.at[1] = (uint8_t)length;
-            safe_feed("changed octets", fed.pieces, unfinished.at, piece.at, piece.size);
+            takes_some(safe_feed("changed octets", fed.pieces, unfinished.at, piece.at, piece.size), unfinished.at, piece, 1);
             safe_feed("changed octets", fed.pieces, unfinished.at, piece.at, 1);
         }
     free(unfinished.at);
