@@ -35,9 +35,9 @@
 #include <stdint.h>
 
 /* The version of this header and its archive; before 1.0.0 a new minor version may change calls. */
-#define MVPN_VERSION "0.17.0"
+#define MVPN_VERSION "0.18.0"
 #define MVPN_VERSION_MAJOR 0
-#define MVPN_VERSION_MINOR 17
+#define MVPN_VERSION_MINOR 18
 #define MVPN_VERSION_PATCH 0
 
 /* The version as one number, an octet for each part. mvpn_version gives the same number if the archive is of this version. */
@@ -51,7 +51,7 @@ extern "C" {
  * MVPN_, in the order in which they are tried; the first that applies is given. */
 enum {
     MVPN_DONE = 0,      /* the work was done */
-    MVPN_SHORT = 1,     /* fewer octets than a header, a Length field or a list's items ask */
+    MVPN_SHORT = 1,     /* fewer octets than a header, a Length field or a list's items require */
     MVPN_TYPE = 2,      /* a route type that is not 1 to 7, 0x43, 0x44 or 0x47 */
     MVPN_LENGTH = 3,    /* the body ends inside a field, or what remains is not the last field, or octets follow a single NLRI */
     MVPN_WIDTH = 4,     /* an address length that the type and family do not allow */
@@ -62,11 +62,11 @@ enum {
     MVPN_LABEL = 9,     /* BIER with label 0, or a label field over 16,777,215 */
     MVPN_FAMILY = 10,   /* an AFI that is not 1 or 2 */
     MVPN_TABLE = 11,    /* the lent memory is not a sound table, or not of a table's size */
-    MVPN_KIND = 12,     /* a well-formed NLRI that is not of the type asked */
+    MVPN_KIND = 12,     /* a well-formed NLRI that is not of the type required */
     MVPN_ROOM = 13,     /* a new NLRI, and every place is taken */
     MVPN_ABSENT = 14,   /* the withdrawn NLRI is not in the table */
     MVPN_FLOW = 15,     /* an address or distinguisher of the wrong size, or a group that is not multicast */
-    MVPN_SPACE = 16,    /* an output that is too small, or not of the size asked */
+    MVPN_SPACE = 16,    /* an output that is too small, or not of the size required */
     MVPN_DEEP = 17,     /* FEC elements hold one another over four deep */
     MVPN_RANGE = 18,    /* more than eight prefixes, or a bad one */
     MVPN_GROUP = 19,    /* a Source Active route for a group of the standard SSM range */
@@ -110,7 +110,7 @@ mvpn_number_text(uint32_t number)
 {
     switch (number) {
     case MVPN_DONE: return "the work was done";
-    case MVPN_SHORT: return "fewer octets than a header, a Length field or a list's items ask";
+    case MVPN_SHORT: return "fewer octets than a header, a Length field or a list's items require";
     case MVPN_TYPE: return "a route type that is not 1 to 7, 0x43, 0x44 or 0x47";
     case MVPN_LENGTH: return "the body ends inside a field, or what remains is not the last field, or octets follow a single NLRI";
     case MVPN_WIDTH: return "an address length that the type and family do not allow";
@@ -121,11 +121,11 @@ mvpn_number_text(uint32_t number)
     case MVPN_LABEL: return "BIER with label 0, or a label field over 16,777,215";
     case MVPN_FAMILY: return "an AFI that is not 1 or 2";
     case MVPN_TABLE: return "the lent memory is not a sound table, or not of a table's size";
-    case MVPN_KIND: return "a well-formed NLRI that is not of the type asked";
+    case MVPN_KIND: return "a well-formed NLRI that is not of the type required";
     case MVPN_ROOM: return "a new NLRI, and every place is taken";
     case MVPN_ABSENT: return "the withdrawn NLRI is not in the table";
     case MVPN_FLOW: return "an address or distinguisher of the wrong size, or a group that is not multicast";
-    case MVPN_SPACE: return "an output that is too small, or not of the size asked";
+    case MVPN_SPACE: return "an output that is too small, or not of the size required";
     case MVPN_DEEP: return "FEC elements hold one another over four deep";
     case MVPN_RANGE: return "more than eight prefixes, or a bad one";
     case MVPN_GROUP: return "a Source Active route for a group of the standard SSM range";
@@ -299,8 +299,8 @@ typedef struct {
 } mvpn_layout;
 
 typedef struct {
-    size_t cursor;      /* just past the NLRI read; else the cursor given */
     uint32_t number;
+    size_t cursor;      /* just past the NLRI read; else the cursor given */
     mvpn_layout layout; /* all 0 at the run's end, where the number is DONE */
 } mvpn_stepped;
 
@@ -421,7 +421,7 @@ mvpn_list_start(uint8_t *list, size_t space, uint16_t count)
 
 /*
  * Appends a field to a list that has `size` octets, and gives the octets that it has then. It gives 0 and writes nothing if there
- * is no space, if the field has over 65,535 octets, or if `size` is 0. So a caller need test only the last answer.
+ * is no space, if the field has over 65,535 octets, or if `size` is under 2. So a caller need test only the last answer.
  */
 static inline size_t
 mvpn_list_field(uint8_t *list, size_t space, size_t size, const uint8_t *field, size_t field_len)
@@ -752,7 +752,7 @@ typedef struct {
     uint32_t upstream;             /* the PE is the upstream PE for the C-RP of the group */
     uint32_t bidirectional;        /* the group is a BIDIR-PIM group */
     uint32_t source_active_unused; /* Source Active A-D routes are not being used */
-} mvpn_shared_tree;
+} mvpn_tree_facts;
 
 /*
  * Finds the route that a shared tree (C-*,C-G) takes (RFC 6625, section 3.2.2). The candidates are the routes whose originator
@@ -781,7 +781,7 @@ typedef struct {
  */
 mvpn_matched mvpn_match_shared(const uint8_t *table, size_t table_len, const uint8_t *prefixes, size_t prefixes_len,
                                const uint8_t *router, size_t router_len, const uint8_t *group, size_t group_len,
-                               mvpn_shared_tree facts, const uint8_t *source_actives, size_t source_actives_len,
+                               mvpn_tree_facts facts, const uint8_t *source_actives, size_t source_actives_len,
                                const uint8_t *states, size_t states_len, uint8_t *output, size_t output_len);
 
 /* The octets of a bit string, and the most Leaf A-D routes that a call takes. */

@@ -101,7 +101,7 @@ place_lines() {
 }
 
 several_lines() {
-    shown_after '^And a flow is matched thus:$'
+    shown_after '^A flow is matched like this:$'
 }
 
 # The function of mvpn(3) for callers whose table is full.

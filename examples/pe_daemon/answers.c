@@ -71,7 +71,7 @@ static void answer_flow(customer_vrf *vrf, const customer_flow *flow)
 /* ---- shared trees (RFC 6625, section 3.2.2) */
 
 /* The answer for a tree of which these facts are told. */
-static mvpn_matched match_shared(customer_vrf *vrf, const customer_flow *tree, mvpn_shared_tree facts,
+static mvpn_matched match_shared(customer_vrf *vrf, const customer_flow *tree, mvpn_tree_facts facts,
                                  uint8_t output[MVPN_MATCH_OUTPUT])
 {
     uint8_t prefixes_list[PREFIXES_SPACE], sources_list[SOURCE_ACTIVES_SPACE], states_list[STATES_SPACE];
@@ -84,7 +84,7 @@ static mvpn_matched match_shared(customer_vrf *vrf, const customer_flow *tree, m
 }
 
 /* Whether the tree would have a route if no more than this were told. */
-static bool has_route(customer_vrf *vrf, const customer_flow *tree, mvpn_shared_tree facts)
+static bool has_route(customer_vrf *vrf, const customer_flow *tree, mvpn_tree_facts facts)
 {
     uint8_t output[MVPN_MATCH_OUTPUT];
     return match_shared(vrf, tree, facts, output).tier != MVPN_NO_TIER;
@@ -96,7 +96,7 @@ static void print_conditions(customer_vrf *vrf, const request *asked)
 {
     if (asked->facts.upstream)
         printf("  condition:  the router is the upstream PE for the C-RP\n");
-    if (has_route(vrf, &asked->flow, (mvpn_shared_tree){ 0, 0, 0 }))
+    if (has_route(vrf, &asked->flow, (mvpn_tree_facts){ 0, 0, 0 }))
         printf("  condition:  the router has originated a Source Active route for which there is no state\n");
     if (asked->facts.bidirectional)
         printf("  condition:  the group is a BIDIR-PIM group\n");
@@ -113,7 +113,7 @@ static void answer_shared_tree(customer_vrf *vrf, const request *asked)
     if (match.number != MVPN_DONE)
         print_refusal(match.number);
     else if (match.tier == MVPN_NO_TIER)
-        printf("  no route%s\n", has_route(vrf, tree, (mvpn_shared_tree){ 1, 0, 0 }) ? ", as no condition holds" : "");
+        printf("  no route%s\n", has_route(vrf, tree, (mvpn_tree_facts){ 1, 0, 0 }) ? ", as no condition holds" : "");
     else {
         print_conditions(vrf, asked);
         print_match(afi_of(&tree->group), match, output);

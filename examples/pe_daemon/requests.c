@@ -65,7 +65,7 @@ static bool parse_address(const char *text, mvpn_address *address)
 }
 
 /* The words behind a shared tree that tell something of it: how many there are. */
-static int parse_facts(char **words, mvpn_shared_tree *facts)
+static int parse_facts(char **words, mvpn_tree_facts *facts)
 {
     int count = 0;
     for (;; count++) {

@@ -27,7 +27,7 @@ typedef enum { FLOW, SHARED_TREE, STATE } request_kind;
 typedef struct {
     request_kind kind;
     customer_flow flow;     /* a shared tree has no source, a state no router */
-    mvpn_shared_tree facts; /* of a shared tree */
+    mvpn_tree_facts facts; /* of a shared tree */
 } request;
 
 /* Reads the request that the words begin with; NULL stands behind the last word. How many words it has; 0, after standard

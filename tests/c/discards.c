@@ -363,7 +363,7 @@ static void match_tree(const tree_row *row, lent table)
     lent output = lent_of(row->room, FILL);
     const route *taken = row->tier == 0 ? NULL : &tree_routes[strcmp(row->group, SSM) == 0];
     mvpn_matched m = mvpn_match_shared(table.at, table.size, prefixes.at, prefixes.size, router.at, router.size, group.at,
-                                       group.size, (mvpn_shared_tree){ .upstream = 1 }, actives.at, actives.size, mvpn_no_items,
+                                       group.size, (mvpn_tree_facts){ .upstream = 1 }, actives.at, actives.size, mvpn_no_items,
                                        sizeof mvpn_no_items, output.at, output.size);
     if (row->number == MVPN_DONE)
         same_matched(row->shows, m, output, row->tier, taken);

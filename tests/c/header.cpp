@@ -22,7 +22,7 @@ static_assert(sizeof(mvpn_attribute_reading) == 80, "mvpn_attribute_reading");
 static_assert(sizeof(mvpn_installed) == 8, "mvpn_installed");
 static_assert(sizeof(mvpn_matched) == 16, "mvpn_matched");
 static_assert(sizeof(mvpn_explained) == 32, "mvpn_explained");
-static_assert(sizeof(mvpn_shared_tree) == 12, "mvpn_shared_tree");
+static_assert(sizeof(mvpn_tree_facts) == 12, "mvpn_tree_facts");
 static_assert(sizeof(mvpn_egress) == 8, "mvpn_egress");
 static_assert(sizeof(mvpn_restarted) == 8, "mvpn_restarted");
 static_assert(sizeof(mvpn_following) == 16, "mvpn_following");
@@ -88,7 +88,7 @@ int main()
                        mvpn_match(octets, 0, octets, 0, octets, 0, octets, 0, octets, 0, output, 0).number == MVPN_TABLE &&
                        mvpn_explain(octets, 0, octets, 0, octets, 0, octets, 0, octets, 0, output, 0).matched.number ==
                            MVPN_TABLE &&
-                       mvpn_match_shared(octets, 0, octets, 0, octets, 0, octets, 0, mvpn_shared_tree{}, octets, 0, octets, 0,
+                       mvpn_match_shared(octets, 0, octets, 0, octets, 0, octets, 0, mvpn_tree_facts{}, octets, 0, octets, 0,
                                          output, 0)
                                .number == MVPN_TABLE &&
                        mvpn_bier_string(1, octets, 0, octets, 0, 0, octets, 0, output, 0).number == MVPN_SHORT &&

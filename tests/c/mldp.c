@@ -566,7 +566,7 @@ static void in_a_list(const char *shows, const char *text, uint32_t number)
     size = mvpn_list_field(list, sizeof list, size, router, sizeof router);
     size = mvpn_list_field(list, sizeof list, size, nlri.at, nlri.size);
     mvpn_matched got = mvpn_match_shared(table.at, table.size, mvpn_no_items, sizeof mvpn_no_items, router, sizeof router, group,
-                                         sizeof group, (mvpn_shared_tree){ 1, 0, 0 }, list, size, mvpn_no_items,
+                                         sizeof group, (mvpn_tree_facts){ 1, 0, 0 }, list, size, mvpn_no_items,
                                          sizeof mvpn_no_items, output.at, output.size);
     refused_matched(shows, got, output, number);
     free(table.at);

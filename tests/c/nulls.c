@@ -134,7 +134,7 @@ static void matches(void)
 static void shared_trees(void)
 {
     const char *shows = "null";
-    const mvpn_shared_tree facts = { 1, 0, 0 };
+    const mvpn_tree_facts facts = { 1, 0, 0 };
 #define SHARED(table, prefixes, router, group, actives, states, output) \
     mvpn_match_shared(table, prefixes, router, group, facts, actives, states, output)
     same(shows, "match_shared, nothing", SHARED(OF(table), NO_ITEMS, OF(router), OF(group), NO_ITEMS, NO_ITEMS, OF(output)).tier,

@@ -211,7 +211,7 @@ static mvpn_matched match_flow(lent table, const asked *a, lent output)
 static mvpn_matched match_shared(lent table, const asked *a, lent output)
 {
     return mvpn_match_shared(table.at, table.size, a->prefixes.at, a->prefixes.size, a->router.octets, a->router.size,
-                             a->group.octets, a->group.size, (mvpn_shared_tree){ 1, 0, 0 }, mvpn_no_items, sizeof mvpn_no_items,
+                             a->group.octets, a->group.size, (mvpn_tree_facts){ 1, 0, 0 }, mvpn_no_items, sizeof mvpn_no_items,
                              mvpn_no_items, sizeof mvpn_no_items, output.at, output.size);
 }
 

@@ -81,13 +81,13 @@ static void questions(void)
     size_t size = mvpn_list_start(OF(actives), 1);
     size = mvpn_list_field(OF(actives), size, OF(router));
     size = mvpn_list_field(OF(actives), size, OF(active));
-    match = mvpn_match_shared(OF(table), OF(mvpn_no_items), OF(router), OF(group), (mvpn_shared_tree){ 0, 0, 0 }, actives, size,
+    match = mvpn_match_shared(OF(table), OF(mvpn_no_items), OF(router), OF(group), (mvpn_tree_facts){ 0, 0, 0 }, actives, size,
                               OF(mvpn_no_items), OF(output));
     expect("match_shared, no state", match.tier == MVPN_ANY_SOURCE_ANY_GROUP);
     size_t held = mvpn_list_start(OF(states), 1);
     held = mvpn_list_field(OF(states), held, OF(source));
     held = mvpn_list_field(OF(states), held, OF(group));
-    match = mvpn_match_shared(OF(table), OF(mvpn_no_items), OF(router), OF(group), (mvpn_shared_tree){ 0, 0, 0 }, actives, size,
+    match = mvpn_match_shared(OF(table), OF(mvpn_no_items), OF(router), OF(group), (mvpn_tree_facts){ 0, 0, 0 }, actives, size,
                               states, held, OF(output));
     expect("match_shared, a state", match.number == MVPN_DONE && match.tier == MVPN_NO_TIER);
 

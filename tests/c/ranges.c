@@ -217,7 +217,7 @@ static const match_row rows[] = {
     { "239.0.0.9, ASM behind the eighth", EIGHT, SOURCE, "EF000009", 4, &d_route, { NO_ROUTE, CLASS, NO_ROUTE, TAKEN }, 4, &d_route },
 };
 
-static const mvpn_shared_tree upstream = { 1, 0, 0 };
+static const mvpn_tree_facts upstream = { 1, 0, 0 };
 
 /* What a call is asked, as octets. */
 typedef struct { lent table, prefixes, router, source, group; } asked;

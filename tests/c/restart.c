@@ -178,7 +178,7 @@ static void marked_routes_match(void)
 {
     static const route any = { A, FLAGS("01") }, both = { "0316 " RD("07") "20 C0000201 20 EF010101 " ONE, FLAGS("02") };
     const flow f = { ONE, "C0000201", "EF010101" }, g = { ONE, "C0000202", "EF010101" };
-    const mvpn_shared_tree upstream = { 1, 0, 0 };
+    const mvpn_tree_facts upstream = { 1, 0, 0 };
     lent table = holding(1, 2, (const route[]){ any, both }, 2), output = lent_of(MVPN_MATCH_OUTPUT, FILL);
     lent router = hex(ONE), source = hex("C0000201"), group = hex("EF010101");
     same_restart("a mark", mvpn_mark, table, ONE, MVPN_DONE, 0);

@@ -7,9 +7,9 @@
 #include <stddef.h>
 
 /* Callers are built with these. */
-_Static_assert(sizeof(mvpn_shared_tree) == 12 && offsetof(mvpn_shared_tree, upstream) == 0 &&
-                   offsetof(mvpn_shared_tree, bidirectional) == 4 && offsetof(mvpn_shared_tree, source_active_unused) == 8,
-               "mvpn_shared_tree");
+_Static_assert(sizeof(mvpn_tree_facts) == 12 && offsetof(mvpn_tree_facts, upstream) == 0 &&
+                   offsetof(mvpn_tree_facts, bidirectional) == 4 && offsetof(mvpn_tree_facts, source_active_unused) == 8,
+               "mvpn_tree_facts");
 _Static_assert(MVPN_LIST_COUNT == 2 && MVPN_FIELD_SIZE == 2 && MVPN_MOST_ITEMS == 256, "lists");
 
 /* A route distinguisher and an IPv6 address that end in N; the attribute of a tunnel by ingress replication, label field N. */
@@ -62,7 +62,7 @@ static const route *const group_of_pe1 = &routes[0], *const any_of_pe1 = &routes
 /* A list left out has no items. */
 typedef struct {
     const char *router, *group;
-    mvpn_shared_tree facts;
+    mvpn_tree_facts facts;
     const char *source_actives, *states;
 } tree;
 

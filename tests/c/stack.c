@@ -399,7 +399,7 @@ static void fill_shared_trees(void)
 
 #define MATCHES_SHARED(given, asked, states_len, wanted_number, wanted_tier) \
     (matched = mvpn_match_shared(table, sizeof table, given, originator, sizeof originator, asked, sizeof asked, \
-                                 (mvpn_shared_tree){ 0, 0, 0 }, source_actives, sizeof source_actives, states, states_len, \
+                                 (mvpn_tree_facts){ 0, 0, 0 }, source_actives, sizeof source_actives, states, states_len, \
                                  output, sizeof output), \
      matched.number == (wanted_number) && matched.tier == (wanted_tier))
 RUN(shared_group_route, MATCHES_SHARED(NO_PREFIXES, shared_group, sizeof states, MVPN_DONE, 3))

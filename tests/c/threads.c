@@ -151,7 +151,7 @@ static void ask_flow(answers *got, size_t i, const uint8_t *prefixes, size_t pre
                                      shared->sources[i % FLOWS], 4, shared->groups[i % FLOWS], 4, got->outputs[1][i],
                                      MVPN_MATCH_OUTPUT);
     got->of_tree[i] = mvpn_match_shared(shared->table, sizeof shared->table, prefixes, prefixes_len, shared->router, 4,
-                                        shared->groups[i % FLOWS], 4, (mvpn_shared_tree){ 0, 0, 0 }, shared->actives,
+                                        shared->groups[i % FLOWS], 4, (mvpn_tree_facts){ 0, 0, 0 }, shared->actives,
                                         shared->actives_size, shared->states, shared->states_size, got->outputs[2][i],
                                         MVPN_MATCH_OUTPUT);
 }

@@ -156,7 +156,7 @@ static mvpn_matched match_shared(lent table, const char *group_text, lent output
 {
     lent router = hex(ROUTER), group = hex(group_text);
     mvpn_matched m = mvpn_match_shared(table.at, table.size, mvpn_no_items, sizeof mvpn_no_items, router.at, router.size,
-                                       group.at, group.size, (mvpn_shared_tree){ 1, 1, 1 }, mvpn_no_items, sizeof mvpn_no_items,
+                                       group.at, group.size, (mvpn_tree_facts){ 1, 1, 1 }, mvpn_no_items, sizeof mvpn_no_items,
                                        mvpn_no_items, sizeof mvpn_no_items, output.at, output.size);
     free(router.at);
     free(group.at);

@@ -81,8 +81,8 @@ pub struct Layout {
 #[repr(C)]
 #[derive(Clone, Copy, Debug, Default, PartialEq, Eq)]
 pub struct Stepped {
-    pub cursor: usize,
     pub number: u32,
+    pub cursor: usize,
     pub layout: Layout,
 }
 

@@ -10,7 +10,7 @@ use lib.Seq.{getD-drop}
 use Rattle.octets.specs.Numbers.{DONE, SHORT, TUNNEL, LONG}
 use Rattle.octets.specs.Outcome.{Outcome, given, refused}
 use Rattle.octets.proofs.Choice.{picked, pick-true, pick-false}
-use Rattle.octets.proofs.Outcome.{given-same, refused-same, goes, stops, passed, stopped, given-unless, refuses-unless, Refuses, value, number, refuses-pick, refuses-then}
+use Rattle.octets.proofs.Outcome.{given-same, refused-same, and-goes-on, and-stops, passed, stopped, given-unless, refuses-unless, Refuses, value, number, refuses-pick, refuses-then}
 use Rattle.lists.specs.LentLists.{Item, listCount, readList}
 use Rattle.lists.proofs.Items.{read-list-pairs, read-list-refused}
 use Rattle.tunnel.specs.Attribute.{fieldsIn}
@@ -49,7 +49,7 @@ module _ (afi : ℕ) (nlri attribute : List ℕ) where
 
   pub given-route : BierRoute afi nlri attribute → readBierRoute afi nlri attribute ≡ given (getD attribute 5 0)
   unfolding readBierRoute fieldsIn
-  given-route r = sym (goes _ _ (route nlri attribute) _ (argumentRule .acceptedRoute afi nlri attribute .1 (r .named, r .labelled)) (ap given (sym own) ∙ sym (pick-true _ _ _ (eq-eqb _ _ (r .bier)))))
+  given-route r = sym (and-goes-on _ _ (route nlri attribute) _ (argumentRule .acceptedRoute afi nlri attribute .1 (r .named, r .labelled)) (ap given (sym own) ∙ sym (pick-true _ _ _ (eq-eqb _ _ (r .bier)))))
 
   pub route-refused : (leaves output : List ℕ) (n : ℕ) → readBierRoute afi nlri attribute ≡ refused n → BierRefusal afi nlri attribute leaves output n
   unfolding readBierRoute fieldsIn
@@ -63,11 +63,11 @@ module _ (afi : ℕ) (nlri attribute : List ℕ) where
 
   pub bad-route : (n : ℕ) → RouteRefusal afi nlri attribute n → readBierRoute afi nlri attribute ≡ refused n
   unfolding readBierRoute
-  bad-route n r = sym (stops _ _ _ (argumentRule .refusedRoute afi nlri attribute n .1 r))
+  bad-route n r = sym (and-stops _ _ _ (argumentRule .refusedRoute afi nlri attribute n .1 r))
 
   pub other-tunnel : SPmsi afi nlri → Labelled attribute → getD attribute 1 0 ≢ 11 → readBierRoute afi nlri attribute ≡ refused TUNNEL
   unfolding readBierRoute fieldsIn
-  other-tunnel s l o = sym (goes _ _ (route nlri attribute) _ (argumentRule .acceptedRoute afi nlri attribute .1 (s, l)) (sym (pick-false _ _ _ (ne-eqb _ _ o))))
+  other-tunnel s l o = sym (and-goes-on _ _ (route nlri attribute) _ (argumentRule .acceptedRoute afi nlri attribute .1 (s, l)) (sym (pick-false _ _ _ (ne-eqb _ _ o))))
 
   pub route-refuses : Refuses (λ n. n ≡ DONE → ⊥) (readBierRoute afi nlri attribute)
   unfolding readBierRoute
@@ -89,7 +89,7 @@ module _ (afi : ℕ) (leaves : List ℕ) where
 
   pub given-list : listCount leaves ≤ 1024 → (items : List Item) → readList 2 leaves ≡ given items → (o : Outcome (List Leaf)) → readLeaves afi items ≡ o → readLeafList afi leaves ≡ o
   unfolding readLeafList
-  given-list few items e o r = pick-true _ _ _ (le-leb _ _ few) ∙ sym (goes o _ items _ e (sym r))
+  given-list few items e o r = pick-true _ _ _ (le-leb _ _ few) ∙ sym (and-goes-on o _ items _ e (sym r))
 
   pub leaves-good : (g : GoodLeaves afi leaves) → (read : List Leaf) × (readLeaves afi (g .items) ≡ given read)
   leaves-good g = leaves-read afi (g .items) (read-list-pairs leaves (g .items) (g .lent)) (g .read)
@@ -113,7 +113,7 @@ module _ (afi : ℕ) (leaves : List ℕ) where
 
   pub list-short : listCount leaves ≤ 1024 → readList 2 leaves ≡ refused SHORT → readLeafList afi leaves ≡ refused SHORT
   unfolding readLeafList
-  list-short few e = pick-true _ _ _ (le-leb _ _ few) ∙ sym (stops _ _ _ e)
+  list-short few e = pick-true _ _ _ (le-leb _ _ few) ∙ sym (and-stops _ _ _ e)
 
   pub list-refuses : Refuses (λ n. n ≡ DONE → ⊥) (readLeafList afi leaves)
   unfolding readLeafList

@@ -11,7 +11,7 @@ use Rattle.octets.specs.Octets.{front}
 use Rattle.octets.specs.Outputs.{Changed, outputOf}
 use Rattle.octets.specs.Rules.Answering.{Answering}
 use Rattle.octets.proofs.Choice.{pick-true, pick-false}
-use Rattle.octets.proofs.Outcome.{given-same, goes, stops, passed, stopped, given-otherwise, refuses-where, value, number, refuses-pick, refuses-then, refuses-by, on-case, number-given, number-refused}
+use Rattle.octets.proofs.Outcome.{given-same, and-goes-on, and-stops, passed, stopped, given-otherwise, refuses-where, value, number, refuses-pick, refuses-then, refuses-by, on-case, number-given, number-refused}
 use Rattle.octets.proofs.Answering.{answering}
 use Rattle.octets.proofs.Lists.{length-front, take-front, past-front}
 use Rattle.lists.proofs.Items.{read-list-pairs}
@@ -20,7 +20,7 @@ use Rattle.bier.specs.declared.Egress.{Egress}
 use Rattle.bier.specs.BitStrings.{stringOf, onesOf}
 use Rattle.bier.specs.LeafRoutes.{Leaf, readLeaves, readLeafList, countingIds}
 use Rattle.bier.specs.BierString.{withRoom, bierString, refusedEgress, egressBy, egressOf}
-use Rattle.bier.specs.Rules.BierRule.{BierRoute, GoodLeaves, BierRefusal, badRoute, otherTunnel, longList, shortList, badLeaves, noSpace, CountingId, StringFor, Ones, BierDone, BierNothing, BierRule}
+use Rattle.bier.specs.Rules.BierRule.{BierRoute, GoodLeaves, BierRefusal, badRoute, otherTunnel, longList, shortList, badLeaves, noSpace, CountedId, StringFor, Ones, BierDone, BierNothing, BierRule}
 use Rattle.bier.proofs.Strings.{string-for, only, positions}
 use Rattle.bier.proofs.Counted.{string-ones, distinct-ids, every}
 use Rattle.bier.proofs.Leaves.{counting-ids, leaves-refused}
@@ -50,20 +50,20 @@ module _ (afi : ℕ) (nlri attribute : List ℕ) (setNumber : ℕ) (leaves outpu
   -- past the route, and past the Leaf routes
   past-route : BierRoute afi nlri attribute → (o : Outcome (List ℕ)) → o ≡ andThen (readLeafList afi leaves) (λ read. withRoom (stringOf setNumber (countingIds nlri (getD attribute 5 0) read)) output) → outcome ≡ o
   unfolding bierString
-  past-route r o e = sym (goes o _ (getD attribute 5 0) _ (given-route afi nlri attribute r) e)
+  past-route r o e = sym (and-goes-on o _ (getD attribute 5 0) _ (given-route afi nlri attribute r) e)
 
   past-leaves : BierRoute afi nlri attribute → (g : GoodLeaves afi leaves) → outcome ≡ withRoom (stringOf setNumber (countingIds nlri (getD attribute 5 0) (leaves-good afi leaves g .0))) output
   past-leaves r g =
       let l = leaves-good afi leaves g in
-      past-route r _ (goes _ _ (l .0) _ (given-list afi leaves (g .few) (g .items) (g .lent) _ (l .1)) refl)
+      past-route r _ (and-goes-on _ _ (l .0) _ (given-list afi leaves (g .few) (g .items) (g .lent) _ (l .1)) refl)
 
   refuses : {n : ℕ} → BierRefusal afi nlri attribute leaves output n → outcome ≡ refused n
   unfolding bierString withRoom
-  refuses (badRoute r) = sym (stops _ _ _ (bad-route afi nlri attribute _ r))
-  refuses (otherTunnel s l o) = sym (stops _ _ _ (other-tunnel afi nlri attribute s l o))
-  refuses (longList r h) = past-route r _ (stops _ _ _ (list-long afi leaves h))
-  refuses (shortList r few e) = past-route r _ (stops _ _ _ (list-short afi leaves few e))
-  refuses (badLeaves {n} r few items e f) = past-route r _ (stops _ _ _ (given-list afi leaves few items e (refused n) (leaves-refused afi items (read-list-pairs leaves items e) n f)))
+  refuses (badRoute r) = sym (and-stops _ _ _ (bad-route afi nlri attribute _ r))
+  refuses (otherTunnel s l o) = sym (and-stops _ _ _ (other-tunnel afi nlri attribute s l o))
+  refuses (longList r h) = past-route r _ (and-stops _ _ _ (list-long afi leaves h))
+  refuses (shortList r few e) = past-route r _ (and-stops _ _ _ (list-short afi leaves few e))
+  refuses (badLeaves {n} r few items e f) = past-route r _ (and-stops _ _ _ (given-list afi leaves few items e (refused n) (leaves-refused afi items (read-list-pairs leaves items e) n f)))
   refuses (noSpace r g h) = past-leaves r g ∙ pick-true _ _ _ (lt-ltb _ _ h)
 
   -- what is given
@@ -103,7 +103,7 @@ module _ (afi : ℕ) (nlri attribute : List ℕ) (setNumber : ℕ) (leaves outpu
   done : (string : List ℕ) → outcome ≡ given string → BierDone afi nlri attribute setNumber leaves output due
   done string e =
       let g = string-given string e in
-      let Counting : ℕ → Type 0 = CountingId afi nlri attribute (g .lent .items) in
+      let Counting : ℕ → Type 0 = CountedId afi nlri attribute (g .lent .items) in
       let made : StringFor Counting setNumber string =
       subst (StringFor Counting setNumber) (sym (g .is))
       (string-for Counting setNumber (countingIds nlri (getD attribute 5 0) (g .read))
@@ -144,6 +144,6 @@ bierRule =
     record {
       answers = answers;
       positions = positions;
-      only = λ afi nlri attribute items. only (CountingId afi nlri attribute items);
-      every = λ afi nlri attribute items. every (CountingId afi nlri attribute items);
+      only = λ afi nlri attribute items. only (CountedId afi nlri attribute items);
+      every = λ afi nlri attribute items. every (CountedId afi nlri attribute items);
     }

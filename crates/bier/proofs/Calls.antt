@@ -14,7 +14,7 @@ use Rattle.octets.specs.Outcome.{Outcome, given, refused, onOutcome, andThen, n
 use Rattle.octets.specs.Outputs.{Leaves, outputOf}
 use Rattle.octets.specs.Order.{zeros}
 use Rattle.octets.proofs.Choice.{tested, picked, pick-true, pick-false}
-use Rattle.octets.proofs.Outcome.{goes, stops, and-cong, and-assoc, and-given, refused-of, done-given, refuses-by, number-goes, number-picks, number-skips, number-refuses}
+use Rattle.octets.proofs.Outcome.{and-goes-on, and-stops, and-cong, and-assoc, and-given, refused-of, done-given, refuses-by, number-goes, number-picks, number-skips, number-refuses}
 use Rattle.octets.proofs.Lists.{front-is-placed}
 use Rattle.lists.specs.LentLists.{Item, listCount, wholeList, listItems, readList}
 use Rattle.tunnel.specs.Attribute.{fieldsIn}
@@ -52,10 +52,10 @@ write-done string output h ones e after p =
 -- the string that the Leaf routes come to
 module _ (o : Outcome (List ℕ)) (output : List ℕ) (fault : ℕ) (string : List ℕ) (g : Yields o fault string) where
   pub send-refused : (fault ≡ DONE → ⊥) → (r : Egress) → r ≡ refusedEgress fault → Leaves (egressBy (andThen o (λ s. withRoom s output)) output) r output
-  send-refused h r q = egress-refused fault _ output r (sym (stops _ _ _ (refused-of o fault (g .is) h))) q
+  send-refused h r q = egress-refused fault _ output r (sym (and-stops _ _ _ (refused-of o fault (g .is) h))) q
 
   pub send-done : fault ≡ DONE → (r : Egress) (after : List ℕ) → Leaves (egressBy (withRoom string output) output) r after → Leaves (egressBy (andThen o (λ s. withRoom s output)) output) r after
-  send-done d r after l = subst (λ (x : Outcome (List ℕ)). Leaves (egressBy x output) r after) (goes _ _ string _ (g .done d) refl) l
+  send-done d r after l = subst (λ (x : Outcome (List ℕ)). Leaves (egressBy x output) r after) (and-goes-on _ _ string _ (g .done d) refl) l
 
 -- the route, by install's number
 module _ (afi : ℕ) (nlri attribute : List ℕ) (fault : ℕ) (e : fault ≡ numberOf (readRoute afi nlri attribute)) where
@@ -97,7 +97,7 @@ module _ (leaves : List ℕ) (fault : ℕ) (e : fault ≡ leafListFault leaves) 
       (λ few.
       tested (wholeList 2 leaves)
       (λ whole. absurd (h (e ∙ pick-true _ _ _ few ∙ pick-true _ _ _ whole)))
-      (λ short. pick-true _ _ _ few ∙ sym (stops _ _ _ (pick-false _ _ _ short)) ∙ ap refused (sym (pick-true _ _ _ few ∙ pick-false _ _ _ short))))
+      (λ short. pick-true _ _ _ few ∙ sym (and-stops _ _ _ (pick-false _ _ _ short)) ∙ ap refused (sym (pick-true _ _ _ few ∙ pick-false _ _ _ short))))
       (λ many. pick-false _ _ _ many ∙ ap refused (sym (pick-false _ _ _ many))))
 
   -- or it is short enough and whole
@@ -114,7 +114,7 @@ module _ (leaves : List ℕ) (fault : ℕ) (e : fault ≡ leafListFault leaves) 
 
   list-goes : (afi : ℕ) → fault ≡ DONE → readLeafList afi leaves ≡ readLeaves afi (listItems 2 leaves)
   unfolding readLeafList readList
-  list-goes afi d = let g = list-good d in pick-true _ _ _ (g .0) ∙ sym (goes _ _ (listItems 2 leaves) _ (pick-true _ _ _ (g .1)) refl)
+  list-goes afi d = let g = list-good d in pick-true _ _ _ (g .0) ∙ sym (and-goes-on _ _ (listItems 2 leaves) _ (pick-true _ _ _ (g .1)) refl)
 
 -- the string gathered is that of the Leaf routes read
 gatheredFrom-is : (afi : ℕ) (nlri : List ℕ) (subDomain setNumber : ℕ) (string : List ℕ) (items : List Item)
@@ -129,7 +129,7 @@ gatheredFrom-is afi nlri subDomain setNumber string (x ∷ xs) =
 module _ (afi : ℕ) (nlri attribute : List ℕ) (setNumber : ℕ) (leaves output : List ℕ) (fault : ℕ) (e : fault ≡ numberOf (readBierRoute afi nlri attribute)) where
   pub call-unrouted : (fault ≡ DONE → ⊥) → (r : Egress) → r ≡ refusedEgress fault → Leaves (egressOf afi nlri attribute setNumber leaves output) r output
   unfolding egressOf bierString
-  call-unrouted h r q = egress-refused fault _ output r (sym (stops _ _ _ (refused-of _ fault e h))) q
+  call-unrouted h r q = egress-refused fault _ output r (sym (and-stops _ _ _ (refused-of _ fault e h))) q
 
   module _ (d : fault ≡ DONE) where
     routed : (subDomain : ℕ) × (readBierRoute afi nlri attribute ≡ given subDomain)
@@ -146,7 +146,7 @@ module _ (afi : ℕ) (nlri attribute : List ℕ) (setNumber : ℕ) (leaves outpu
     module _ (second : ℕ) (f : second ≡ leafListFault leaves) where
       pub call-unlisted : (second ≡ DONE → ⊥) → (r : Egress) → r ≡ refusedEgress second → Leaves (egressOf afi nlri attribute setNumber leaves output) r output
       unfolding egressOf bierString
-      call-unlisted h r q = egress-refused second _ output r (sym (goes _ _ _ _ on-route (stops _ _ _ (list-stops leaves second f afi h)))) q
+      call-unlisted h r q = egress-refused second _ output r (sym (and-goes-on _ _ _ _ on-route (and-stops _ _ _ (list-stops leaves second f afi h)))) q
 
       pub call-sent : second ≡ DONE → (subDomain : ℕ) → subDomain ≡ bierIn (fieldsIn attribute .identifier) .«sub_domain» → (r : Egress) (after : List ℕ)
           → Leaves (egressBy (andThen (gatheredFrom afi nlri subDomain setNumber (zeros 32) (listItems 2 leaves)) (λ string. withRoom string output)) output) r after
@@ -154,7 +154,7 @@ module _ (afi : ℕ) (nlri attribute : List ℕ) (setNumber : ℕ) (leaves outpu
       unfolding egressOf bierString stringOf
       call-sent d′ subDomain is r after l =
           subst (λ (o : Outcome (List ℕ)). Leaves (egressBy o output) r after)
-          (goes _ _ subDomain _ (on-route ∙ ap given (sym is))
+          (and-goes-on _ _ subDomain _ (on-route ∙ ap given (sym is))
           (ap (λ (o : Outcome (List ℕ)). andThen o (λ string. withRoom string output)) (gatheredFrom-is afi nlri subDomain setNumber (zeros 32) (listItems 2 leaves))
           ∙ and-assoc _ _ _ ∙ and-cong _ _ _ (λ read q. and-given _ _)
           ∙ ap (λ (o : Outcome (List Leaf)). andThen o (λ read. withRoom (withIds setNumber (zeros 32) (countingIds nlri subDomain read)) output)) (sym (list-goes leaves second f afi d′))))

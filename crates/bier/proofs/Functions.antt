@@ -15,7 +15,7 @@ use Rattle.octets.specs.Outcome.{Outcome, given, refused, andThen, numberOf}
 use Rattle.octets.specs.Octets.{lowFirst, AllOctets, none, one, part}
 use Rattle.octets.specs.Order.{same}
 use Rattle.octets.proofs.Choice.{pick-true, pick-false, pick-passed, both-true, both-left, both-right}
-use Rattle.octets.proofs.Outcome.{goes, done-given, refused-of, refuses-by, number-goes, number-stops, number-refuses}
+use Rattle.octets.proofs.Outcome.{and-goes-on, done-given, refused-of, refuses-by, number-goes, number-stops, number-refuses}
 use Rattle.octets.proofs.AllOctets.{octets-of, octets-part}
 use Rattle.octets.proofs.Lists.{length-part, part-then}
 use Rattle.lists.specs.LentLists.{Item, itemField, frontItem, afterItem, frontItems}
@@ -174,7 +174,7 @@ module _ (afi : ℕ) (nlri : List ℕ) (subDomain setNumber : ℕ) (start string
   gather-next more fault e d id is string′ w t′ a =
       let l = leaf-done afi (frontItem 2 t) fault e d in
       turned so-far _ t′ more a
-      (sym (goes _ _ (l .0) _ (l .1) (ap (λ (s : List ℕ). gatheredFrom afi nlri subDomain setNumber s (frontItems 2 (left - 1) (afterItem 2 t))) (w ∙ ap (withId setNumber string) (is ∙ sym (id-stands afi (frontItem 2 t) (l .0) (l .1) nlri subDomain))))))
+      (sym (and-goes-on _ _ (l .0) _ (l .1) (ap (λ (s : List ℕ). gatheredFrom afi nlri subDomain setNumber s (frontItems 2 (left - 1) (afterItem 2 t))) (w ∙ ap (withId setNumber string) (is ∙ sym (id-stands afi (frontItem 2 t) (l .0) (l .1) nlri subDomain))))))
 
   pub gather-stop : 0 < left → (fault : ℕ) → fault ≡ numberOf (readLeaf afi (frontItem 2 t)) → (fault ≡ DONE → ⊥) → Yields (gatheredFrom afi nlri subDomain setNumber start items) fault string
   unfolding gatheredFrom

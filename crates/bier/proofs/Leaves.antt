@@ -12,7 +12,7 @@ use Rattle.octets.specs.Choice.{pick}
 use Rattle.octets.specs.Outcome.{given, refused}
 use Rattle.octets.specs.Lists.{Among, first, later}
 use Rattle.octets.proofs.Choice.{picked, pick-true, both-held, both-true}
-use Rattle.octets.proofs.Outcome.{never, given-same, goes, stops, passed, stopped, Refuses, value, refuses-then}
+use Rattle.octets.proofs.Outcome.{never, given-same, and-goes-on, and-stops, passed, stopped, Refuses, value, refuses-then}
 use Rattle.octets.proofs.NetworkOrder.{number-two}
 use Rattle.octets.proofs.Orders.{same-equal, same-of-equal}
 use Rattle.octets.proofs.Among.{among-none, among-cases, among-left}
@@ -29,7 +29,7 @@ use Rattle.tunnel.proofs.Definitions.Attributes.{read-given, refuses-read}
 use Rattle.tunnel.proofs.Theorems.{bierIdentifierRule}
 use Rattle.bier.specs.LeafRoutes.{Leaf, readLeaf, readLeaves, bfrIdIn, countingId, countingIds}
 use Rattle.bier.specs.Inner.{keyIn, KeyWithin, LeafStands, standingId}
-use Rattle.bier.specs.Rules.BierRule.{LeafRoute, LeafRefusal, badLeaf, badTunnel, AllLeaves, FirstRefusedLeaf, CountingLeaf, CountingId}
+use Rattle.bier.specs.Rules.BierRule.{LeafRoute, LeafRefusal, badLeaf, badTunnel, AllLeaves, FirstRefusedLeaf, CountingLeaf, CountedId}
 use Rattle.bier.proofs.OfType.{of-type-given, given-of-type, of-type-refused, refused-of-type, type-refuses}
 
 -- a Leaf route: of an NLRI of type 4 and of an attribute, both read
@@ -59,7 +59,7 @@ module _ (afi : ℕ) (x : Item) where
   pub given-leaf : (f : Fields) (g : AttributeFields) → readNlri afi (itemField 0 x) ≡ given f → f .type ≡ 4 → readAttribute (itemField 1 x) ≡ given g
       → readLeaf afi x ≡ given (record { key = f .key; attribute = g })
   unfolding readLeaf
-  given-leaf f g e t a = sym (goes _ _ f _ (given-of-type 4 afi (itemField 0 x) f e t) (goes _ _ g _ a refl))
+  given-leaf f g e t a = sym (and-goes-on _ _ f _ (given-of-type 4 afi (itemField 0 x) f e t) (and-goes-on _ _ g _ a refl))
 
   leaf-refused : (n : ℕ) → readLeaf afi x ≡ refused n → LeafRefusal afi (itemField 0 x) (itemField 1 x) n
   unfolding readLeaf
@@ -72,8 +72,8 @@ module _ (afi : ℕ) (x : Item) where
 
   refused-leaf : (n : ℕ) → LeafRefusal afi (itemField 0 x) (itemField 1 x) n → readLeaf afi x ≡ refused n
   unfolding readLeaf
-  refused-leaf n (badLeaf r) = sym (stops _ _ _ (refused-of-type 4 afi (itemField 0 x) n r))
-  refused-leaf n (badTunnel t r) = sym (goes _ _ (t .fields) _ (given-of-type 4 afi (itemField 0 x) (t .fields) (t .read) (t .kind)) (stops _ _ _ r))
+  refused-leaf n (badLeaf r) = sym (and-stops _ _ _ (refused-of-type 4 afi (itemField 0 x) n r))
+  refused-leaf n (badTunnel t r) = sym (and-goes-on _ _ (t .fields) _ (given-of-type 4 afi (itemField 0 x) (t .fields) (t .read) (t .kind)) (and-stops _ _ _ r))
 
   -- no refusal of one is DONE
   pub leaf-refuses : Refuses (λ n. n ≡ DONE → ⊥) (readLeaf afi x)
@@ -201,7 +201,7 @@ module _ (afi : ℕ) where
         (among-cases (subst (λ (l : List Leaf). Among id (countingIds nlri subDomain l)) (sym is) m))
 
     pub counting-ids : (attribute : List ℕ) → subDomain ≡ getD attribute 5 0 → (items : List Item) → Pairs items → (leaves : List Leaf) → readLeaves afi items ≡ given leaves
-        → (id : ℕ) → (Among id (countingIds nlri subDomain leaves) × (id ≢ 0)) ↔ CountingId afi nlri attribute items id
+        → (id : ℕ) → (Among id (countingIds nlri subDomain leaves) × (id ≢ 0)) ↔ CountedId afi nlri attribute items id
     unfolding itemField
     counting-ids attribute own items pairs leaves e id = (
       λ h.
@@ -226,7 +226,7 @@ module _ (afi : ℕ) where
   all-given (x ∷ xs) h =
       let l = h x (first refl) in
       let ls = all-given xs (λ y m. h y (later m)) in
-      (l .0 ∷ ls .0, sym (goes _ _ (l .0) _ (l .1) (goes _ _ (ls .0) _ (ls .1) refl)))
+      (l .0 ∷ ls .0, sym (and-goes-on _ _ (l .0) _ (l .1) (and-goes-on _ _ (ls .0) _ (ls .1) refl)))
 
   pub leaves-refuse : (items : List Item) → Refuses (λ n. n ≡ DONE → ⊥) (readLeaves afi items)
   unfolding readLeaves
@@ -284,8 +284,8 @@ module _ (afi : ℕ) where
   refused-first : (earlier : List Item) (x : Item) (later : List Item) (n : ℕ) → ((y : Item) → Among y earlier → (leaf : Leaf) × (readLeaf afi y ≡ given leaf)) → readLeaf afi x ≡ refused n
       → readLeaves afi (earlier ++ (x ∷ later)) ≡ refused n
   unfolding readLeaves
-  refused-first [] x behind n h e = sym (stops _ _ _ e)
-  refused-first (y ∷ ys) x behind n h e = let l = h y (first refl) in sym (goes _ _ (l .0) _ (l .1) (stops _ _ _ (refused-first ys x behind n (λ z m. h z (later m)) e)))
+  refused-first [] x behind n h e = sym (and-stops _ _ _ e)
+  refused-first (y ∷ ys) x behind n h e = let l = h y (first refl) in sym (and-goes-on _ _ (l .0) _ (l .1) (and-stops _ _ _ (refused-first ys x behind n (λ z m. h z (later m)) e)))
 
   pub leaves-refused : (items : List Item) → Pairs items → (n : ℕ) → FirstRefusedLeaf afi items n → readLeaves afi items ≡ refused n
   unfolding itemField

@@ -9,7 +9,7 @@ use Rattle.octets.specs.Numbers.{DONE}
 use Rattle.octets.specs.Outcome.{given, refused}
 use Rattle.octets.specs.Lists.{first}
 use Rattle.octets.proofs.Choice.{pick-true, pick-false}
-use Rattle.octets.proofs.Outcome.{given-same, goes, stops, passed, stopped, given-unless, refuses-unless, Refuses, value, number, refuses-pick, refuses-then, refuses-also}
+use Rattle.octets.proofs.Outcome.{given-same, and-goes-on, and-stops, passed, stopped, given-unless, refuses-unless, Refuses, value, number, refuses-pick, refuses-then, refuses-also}
 use Rattle.nlri.specs.Fields.{Fields}
 use Rattle.nlri.specs.Reading.{readNlri, readOfType}
 use Rattle.nlri.proofs.Definitions.ReadNumbers.{refuses-nlri}
@@ -24,7 +24,7 @@ of-type-given type afi s f e =
     (p .first ∙ ap given is, ap (λ (g : Fields). g .type) (sym is) ∙ eqb-true _ _ (q .0))
 
 pub given-of-type : (type afi : ℕ) (s : List ℕ) (f : Fields) → readNlri afi s ≡ given f → f .type ≡ type → readOfType type afi s ≡ given f
-given-of-type type afi s f e t = sym (goes _ _ f _ e (sym (pick-true _ _ _ (eq-eqb _ _ t))))
+given-of-type type afi s f e t = sym (and-goes-on _ _ f _ e (sym (pick-true _ _ _ (eq-eqb _ _ t))))
 
 pub of-type-refused : (type afi : ℕ) (s : List ℕ) (n : ℕ) → readOfType type afi s ≡ refused n → TypeRefusal type afi s n
 of-type-refused type afi s n e =
@@ -33,8 +33,8 @@ of-type-refused type afi s n e =
     (stopped _ _ _ e)
 
 pub refused-of-type : (type afi : ℕ) (s : List ℕ) (n : ℕ) → TypeRefusal type afi s n → readOfType type afi s ≡ refused n
-refused-of-type type afi s n (unreadNlri e) = sym (stops _ _ _ e)
-refused-of-type type afi s n (otherKind f e o) = sym (goes _ _ f _ e (sym (pick-false _ _ _ (ne-eqb _ _ o))))
+refused-of-type type afi s n (unreadNlri e) = sym (and-stops _ _ _ e)
+refused-of-type type afi s n (otherKind f e o) = sym (and-goes-on _ _ f _ e (sym (pick-false _ _ _ (ne-eqb _ _ o))))
 
 pub type-refuses : (afi : ℕ) (s : List ℕ) → Refuses (λ n. n ≡ DONE → ⊥) (readOfType 4 afi s)
 type-refuses afi s = refuses-then _ _ (refuses-also (λ n p e. omega arith) (refuses-nlri afi s)) (λ f. refuses-pick _ _ _ value (number (λ e. omega arith)))

@@ -32,11 +32,11 @@ pub data Ends : (left : ℕ) → List ℕ → ℕ → Type 0 where
   deepest : {o : List ℕ} → Opens o → Ends 0 o DEEP
 
 -- what judging a FEC comes to
-pub data Judged : (left : ℕ) → Standing → List ℕ → ℕ → Type 0 where
-  faulty : {left : ℕ} {p : Standing} {s : List ℕ} {n : ℕ} → HeaderFault p s n → Judged left p s n
-  ended : {left : ℕ} {p : Standing} {s o : List ℕ} {n : ℕ} → FecAt p s o → Ends left o n → Judged left p s n
-  unheld : {left : ℕ} {p : Standing} {s o : List ℕ} → FecAt p s o → Opens o → ((k : Holder) (fec : List ℕ) → WellFormedHolder k → o ≡ encodeHolder k fec → ⊥) → Judged (suc left) p s IDENT
-  nests : {left : ℕ} {p : Standing} {s fec : List ℕ} {n : ℕ} (k : Holder) → WellFormedHolder k → FecAt p s (encodeHolder k fec) → Judged left Filling fec n → Judged (suc left) p s n
+pub data FecJudged : (left : ℕ) → Standing → List ℕ → ℕ → Type 0 where
+  faulty : {left : ℕ} {p : Standing} {s : List ℕ} {n : ℕ} → HeaderFault p s n → FecJudged left p s n
+  ended : {left : ℕ} {p : Standing} {s o : List ℕ} {n : ℕ} → FecAt p s o → Ends left o n → FecJudged left p s n
+  unheld : {left : ℕ} {p : Standing} {s o : List ℕ} → FecAt p s o → Opens o → ((k : Holder) (fec : List ℕ) → WellFormedHolder k → o ≡ encodeHolder k fec → ⊥) → FecJudged (suc left) p s IDENT
+  nests : {left : ℕ} {p : Standing} {s fec : List ℕ} {n : ℕ} (k : Holder) → WellFormedHolder k → FecAt p s (encodeHolder k fec) → FecJudged left Filling fec n → FecJudged (suc left) p s n
 
 -- a header without fault, and the opaque value that is judged next
 pub fec-at : (p : Standing) {s : List ℕ} → AllOctets s → headerFault p s ≡ DONE → FecAt p s (fecIn s .opaqueValue)
@@ -116,7 +116,7 @@ ends-told (keeps {left = suc left} {o} k) = pick-false _ _ _ (kept-shut o k)
 ends-told (deepest o) = pick-true _ _ _ (opens-computed o)
 
 -- what is judged is told
-pub judged-told : {left : ℕ} {p : Standing} {s : List ℕ} {n : ℕ} → Judged left p s n → fecWith (opaqueFault left) p s ≡ n
+pub judged-told : {left : ℕ} {p : Standing} {s : List ℕ} {n : ℕ} → FecJudged left p s n → fecWith (opaqueFault left) p s ≡ n
 unfolding fecWith opaqueFault
 judged-told {p} {s} (faulty h) = pick-false _ _ _ (ne-eqb (headerFault p s) DONE (λ z. header-bad h .0 (sym (fault-told p s h) ∙ z))) ∙ fault-told p s h
 judged-told (ended {left} f e) = at-next f (opaqueFault left) ∙ ends-told e
@@ -125,28 +125,28 @@ judged-told (nests {left} {fec} k w f j) =
     at-next f (opaqueFault (suc left)) ∙ pick-true _ _ _ (opens-computed (opens-encode fec w)) ∙ pick-true _ _ _ (holds-encode fec w (at-fits f)) ∙ ap (fecWith (opaqueFault left) Filling) (held-encode fec w) ∙ judged-told j
 
 -- and every list of octets is judged so
-opaque-judged : (left : ℕ) {p : Standing} {s o : List ℕ} → FecAt p s o → ((fec : List ℕ) → AllOctets fec → Judged left Filling fec (fecWith (opaqueFault left) Filling fec)) → Judged (suc left) p s (opaqueFault (suc left) o)
+opaque-judged : (left : ℕ) {p : Standing} {s o : List ℕ} → FecAt p s o → ((fec : List ℕ) → AllOctets fec → FecJudged left Filling fec (fecWith (opaqueFault left) Filling fec)) → FecJudged (suc left) p s (opaqueFault (suc left) o)
 unfolding opaqueFault
 opaque-judged left {p} {s} {o} f next =
     let a = f .wellFormed .fields .opaqueOctets in
-    pick-case (Judged (suc left) p s) (opens o) _ _
-    (λ t. pick-case (Judged (suc left) p s) (holdsFec o) _ _
+    pick-case (FecJudged (suc left) p s) (opens o) _ _
+    (λ t. pick-case (FecJudged (suc left) p s) (holdsFec o) _ _
     (λ h.
     let x = held-of a (opens-of o t) h in
     nests (x .holder) (x .wellFormed) (subst (FecAt p s) (x .octets) f) (next (drop (heldStart o) o) (octets-drop (heldStart o) a)))
     (λ h. unheld f (opens-of o t) (λ k fec w e. opposite (rw e (holds-encode fec w (rw (← e) (at-fits f)))) h)))
     (λ t. ended f (keeps (λ x. opposite (opens-computed x) t)))
 
-deepest-judged : {p : Standing} {s o : List ℕ} → FecAt p s o → Judged 0 p s (opaqueFault 0 o)
+deepest-judged : {p : Standing} {s o : List ℕ} → FecAt p s o → FecJudged 0 p s (opaqueFault 0 o)
 unfolding opaqueFault
-deepest-judged {p} {s} {o} f = pick-case (Judged 0 p s) (opens o) _ _ (λ t. ended f (deepest (opens-of o t))) (λ t. ended f (keeps (λ x. opposite (opens-computed x) t)))
+deepest-judged {p} {s} {o} f = pick-case (FecJudged 0 p s) (opens o) _ _ (λ t. ended f (deepest (opens-of o t))) (λ t. ended f (keeps (λ x. opposite (opens-computed x) t)))
 
-fec-judged : (left : ℕ) (p : Standing) {s : List ℕ} → AllOctets s → ((o : List ℕ) → FecAt p s o → Judged left p s (opaqueFault left o)) → Judged left p s (fecWith (opaqueFault left) p s)
+fec-judged : (left : ℕ) (p : Standing) {s : List ℕ} → AllOctets s → ((o : List ℕ) → FecAt p s o → FecJudged left p s (opaqueFault left o)) → FecJudged left p s (fecWith (opaqueFault left) p s)
 unfolding fecWith
 fec-judged left p {s} a next =
-    pick-case (Judged left p s) (eqb (headerFault p s) DONE) _ _ (λ t. next _ (fec-at p a (eqb-true (headerFault p s) DONE t))) (λ t. faulty (fault-stands p s (eqb-false (headerFault p s) DONE t)))
+    pick-case (FecJudged left p s) (eqb (headerFault p s) DONE) _ _ (λ t. next _ (fec-at p a (eqb-true (headerFault p s) DONE t))) (λ t. faulty (fault-stands p s (eqb-false (headerFault p s) DONE t)))
 
-pub judged : (left : ℕ) (p : Standing) {s : List ℕ} → AllOctets s → Judged left p s (fecWith (opaqueFault left) p s)
+pub judged : (left : ℕ) (p : Standing) {s : List ℕ} → AllOctets s → FecJudged left p s (fecWith (opaqueFault left) p s)
 judged zero p a = fec-judged zero p a (λ o f. deepest-judged f)
 judged (suc left) p a = fec-judged (suc left) p a (λ o f. opaque-judged left f (λ fec b. judged left Filling b))
 

@@ -17,7 +17,7 @@ use Rattle.fec_elements.specs.Rules.FecRules.{FecRule, OfFamily, lent, f
 use Rattle.fec_elements.proofs.Fecs.{octets-encode, encode-size}
 use Rattle.fec_elements.proofs.Headers.{filling-rest}
 use Rattle.fec_elements.proofs.Wholes.{whole-fields, whole-encode, fields-encode}
-use Rattle.fec_elements.proofs.Nesting.{Ends, keeps, deepest, Judged, faulty, ended, unheld, nests, at-size, header-bad, judged, judged-told, read-done, read-given, read-refused, refused-read, read-number}
+use Rattle.fec_elements.proofs.Nesting.{Ends, keeps, deepest, FecJudged, faulty, ended, unheld, nests, at-size, header-bad, judged, judged-told, read-done, read-given, read-refused, refused-read, read-number}
 
 depth-least : {I : List ℕ → Type 0} {depth : ℕ} {e : Element} → WellFormedElement I depth e → 1 ≤ depth
 depth-least (innermost w i) = omega arith
@@ -25,7 +25,7 @@ depth-least (around w k x) = omega arith
 
 -- FECs whose innermost opaque value ends the judging, `left` deep being left there, are judged as it is
 element-judged : {I : List ℕ → Type 0} {n : ℕ} (left : ℕ) → ((o : List ℕ) → I o → Ends left o n) → {depth : ℕ} {e : Element} → WellFormedElement I depth e → (all : ℕ) → all + 1 ≡ left + depth
-    → (p : Standing) (s rest : List ℕ) → s ≡ encodeElement e ++ rest → OfFamily p (headOf e .addressFamily) → Followed p rest → Judged all p s n
+    → (p : Standing) (s rest : List ℕ) → s ≡ encodeElement e ++ rest → OfFamily p (headOf e .addressFamily) → Followed p rest → FecJudged all p s n
 unfolding encodeElement headOf
 element-judged {n = n} left b (innermost {h} {o} w i) all q p s rest x f g =
     let same : all ≡ left = omega arith in
@@ -43,7 +43,7 @@ record Nest (I : List ℕ → Type 0) (J : ℕ → Type 0) (all : ℕ) (p : Stan
   sum : all + 1 ≡ left + depth
   begins : BeginsFec I depth p s (fecSize s)
 
-judged-element : {I : List ℕ → Type 0} {J : ℕ → Type 0} {n : ℕ} → (n ≡ DONE) ⊎ (n ≡ DEEP) → ((left : ℕ) (o : List ℕ) → Ends left o n → I o × J left) → {all : ℕ} {p : Standing} {s : List ℕ} → Judged all p s n → Nest I J all p s
+judged-element : {I : List ℕ → Type 0} {J : ℕ → Type 0} {n : ℕ} → (n ≡ DONE) ⊎ (n ≡ DEEP) → ((left : ℕ) (o : List ℕ) → Ends left o n → I o × J left) → {all : ℕ} {p : Standing} {s : List ℕ} → FecJudged all p s n → Nest I J all p s
 unfolding encodeElement headOf
 judged-element v b (faulty h) = absurd (⊎-elim (header-bad h .0) (header-bad h .1) v)
 judged-element v b (ended {left} {s} {o} f e) =
@@ -69,14 +69,14 @@ judged-element v b (nests {p} {s} {fec} k w f j) =
     }
 
 -- a fault is a number other than DONE of what is judged
-judged-fault : {left : ℕ} {p : Standing} {s : List ℕ} {n : ℕ} → (n ≡ DONE → ⊥) → Judged left p s n → FirstFault left p s n
+judged-fault : {left : ℕ} {p : Standing} {s : List ℕ} {n : ℕ} → (n ≡ DONE → ⊥) → FecJudged left p s n → FirstFault left p s n
 judged-fault d (faulty h) = header h
 judged-fault d (ended f (keeps k)) = absurd (d refl)
 judged-fault d (ended f (deepest o)) = tooDeep f o
 judged-fault d (unheld f o u) = badHolder f o u
 judged-fault d (nests k w f j) = held k w f (judged-fault d j)
 
-fault-judged : {left : ℕ} {p : Standing} {s : List ℕ} {n : ℕ} → FirstFault left p s n → Judged left p s n × (n ≡ DONE → ⊥)
+fault-judged : {left : ℕ} {p : Standing} {s : List ℕ} {n : ℕ} → FirstFault left p s n → FecJudged left p s n × (n ≡ DONE → ⊥)
 fault-judged (header h) = (faulty h, header-bad h .0)
 fault-judged (tooDeep f o) = (ended f (deepest o), λ e. omega arith)
 fault-judged (badHolder f o u) = (unheld f o u, λ e. omega arith)
@@ -87,8 +87,8 @@ module _ (p : Standing) (s : List ℕ) where
   unfolding fecFault
   fault-four = refl
 
-  number-judged : (n : ℕ) → AllOctets s → fecFault mostDeep p s ≡ n → Judged 3 p s n
-  number-judged n a e = subst (Judged 3 p s) (sym fault-four ∙ e) (judged 3 p a)
+  number-judged : (n : ℕ) → AllOctets s → fecFault mostDeep p s ≡ n → FecJudged 3 p s n
+  number-judged n a e = subst (FecJudged 3 p s) (sym fault-four ∙ e) (judged 3 p a)
 
   begins-judged : {I : List ℕ → Type 0} {depth size : ℕ} (n left : ℕ) → ((o : List ℕ) → I o → Ends left o n) → 4 ≡ left + depth → BeginsFec I depth p s size → fecFault mostDeep p s ≡ n
   begins-judged n left b q x = fault-four ∙ judged-told (element-judged left b (x .wellFormed) 3 q p s (x .rest) (x .octets) (x .family) (x .followed))

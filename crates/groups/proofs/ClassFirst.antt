@@ -8,7 +8,7 @@ use borrow.Author.Tests.{eqb-true}
 use lib.ListN.{length}
 use Rattle.octets.specs.Numbers.{DONE, FLOW}
 use Rattle.octets.specs.Outcome.{Outcome, given, refused, andThen, numberOf}
-use Rattle.octets.proofs.Outcome.{Refuses, value, number, refuses-pick, refuses-then, refuses-by, refuses-also, goes, stops, outcome, number-refused, given-unless, passed}
+use Rattle.octets.proofs.Outcome.{Refuses, value, number, refuses-pick, refuses-then, refuses-by, refuses-also, and-goes-on, and-stops, outcome, number-refused, given-unless, passed}
 use Rattle.lists.specs.LentLists.{Item, readList}
 use Rattle.nlri.specs.declared.group.Group.{Group}
 use Rattle.nlri.specs.Family.{familyBits}
@@ -34,11 +34,11 @@ pub record Read (afi : ℕ) (prefixes : List ℕ) : Type 0 where
 -- whatever begins with them
 module _ {A : Type 0} (afi : ℕ) (prefixes : List ℕ) (next : ℕ → List Item → Outcome A) where
   pub early-stops : {n : ℕ} → Early afi prefixes n → refused n ≡ andThen (familyBits afi) (λ bits. andThen (readPrefixes bits prefixes) (next bits))
-  early-stops (byFamily e) = stops _ _ _ e
-  early-stops (byPrefixes bits f e) = goes _ _ _ _ f (stops _ _ _ e)
+  early-stops (byFamily e) = and-stops _ _ _ e
+  early-stops (byPrefixes bits f e) = and-goes-on _ _ _ _ f (and-stops _ _ _ e)
 
   pub read-goes : (r : Read afi prefixes) → next (r .bits) (r .items) ≡ andThen (familyBits afi) (λ bits. andThen (readPrefixes bits prefixes) (next bits))
-  read-goes r = goes _ _ _ _ (r .ofFamily) (goes _ _ _ _ (r .read) refl)
+  read-goes r = and-goes-on _ _ _ _ (r .ofFamily) (and-goes-on _ _ _ _ (r .read) refl)
 
 early-or-read : (afi : ℕ) (prefixes : List ℕ) → ((n : ℕ) × Early afi prefixes n) ⊎ Read afi prefixes
 early-or-read afi prefixes =

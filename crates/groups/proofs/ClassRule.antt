@@ -14,7 +14,7 @@ use Rattle.octets.specs.Outcome.{Outcome, given, refused, onOutcome}
 use Rattle.octets.specs.Rules.Answering.{Answering}
 use Rattle.octets.specs.Lists.{Among}
 use Rattle.octets.proofs.Choice.{pick-true, pick-false, picked, tested, opposite}
-use Rattle.octets.proofs.Outcome.{never, given-same, refused-same, outcome, stops, goes, given-unless, passed, stopped}
+use Rattle.octets.proofs.Outcome.{never, given-same, refused-same, outcome, and-stops, and-goes-on, given-unless, passed, stopped}
 use Rattle.octets.proofs.Answering.{answering}
 use Rattle.octets.proofs.Among.{among-none}
 use Rattle.octets.proofs.Lists.{empty-list}
@@ -70,7 +70,7 @@ multicast-taken (Standard.badGroup bits ofFamily none) m = none m
 
 standard-under : (afi bits : ℕ) (g : List ℕ) → familyBits afi ≡ given bits → classUnder bits g ≡ classOf afi g
 unfolding classOf
-standard-under afi bits g ofFamily = goes _ _ _ _ ofFamily refl
+standard-under afi bits g ofFamily = and-goes-on _ _ _ _ ofFamily refl
 
 -- what a group's class says
 pub record Classed (afi : ℕ) (p g : List ℕ) (class : ℕ) : Type 0 where
@@ -163,7 +163,7 @@ module _ (afi bits : ℕ) (ofFamily : familyBits afi ≡ given bits) (p : List �
 
   by-prefixes : classBy afi p g ≡ classIn bits items g
   unfolding classBy
-  by-prefixes = sym (goes _ _ _ _ ofFamily (goes _ _ _ _ read refl))
+  by-prefixes = sym (and-goes-on _ _ _ _ ofFamily (and-goes-on _ _ _ _ read refl))
 
 pub specific-multi : {afi : ℕ} {p g : List ℕ} → Specific afi p g → Multicast afi g
 specific-multi (byStandard e s) = specific-multicast s
@@ -207,13 +207,13 @@ module _ (afi : ℕ) (p g : List ℕ) where
   refuses : {n : ℕ} → ClassRefusal afi p g n → classBy afi p g ≡ refused n
   unfolding classBy
   refuses (badFamily one two) =
-      ⊎-elim (λ f. absurd (⊎-elim one two (good-family afi (f .0) (f .1)))) (λ r. sym (stops _ _ _ (r .1)) ∙ ap refused (family-refused afi (r .0) (r .1) .0)) (outcome (familyBits afi))
-  refuses (badPrefixes family r) = let f = family-good afi family in sym (goes _ _ _ _ (f .1) (stops _ _ _ (refused-prefixes afi (f .0) (f .1) p r)))
+      ⊎-elim (λ f. absurd (⊎-elim one two (good-family afi (f .0) (f .1)))) (λ r. sym (and-stops _ _ _ (r .1)) ∙ ap refused (family-refused afi (r .0) (r .1) .0)) (outcome (familyBits afi))
+  refuses (badPrefixes family r) = let f = family-good afi family in sym (and-goes-on _ _ _ _ (f .1) (and-stops _ _ _ (refused-prefixes afi (f .0) (f .1) p r)))
   refuses (badGroup family good none) =
       let f = family-good afi family in
       let r = good-prefixes afi (f .0) (f .1) p good in
       ⊎-elim (λ c. absurd (none (classed afi (f .0) (f .1) p (good .items) r g (c .0) (c .1) .multicast)))
-      (λ n. sym (goes _ _ _ _ (f .1) (goes _ _ _ _ r refl)) ∙ n .1 ∙ ap refused (class-refused afi (f .0) (f .1) p (good .items) r g (n .0) (n .1) .0))
+      (λ n. sym (and-goes-on _ _ _ _ (f .1) (and-goes-on _ _ _ _ r refl)) ∙ n .1 ∙ ap refused (class-refused afi (f .0) (f .1) p (good .items) r g (n .0) (n .1) .0))
       (outcome (classIn (f .0) (good .items) g))
 
 -- prefixes by themselves
@@ -230,14 +230,14 @@ module _ (afi : ℕ) (p : List ℕ) where
   prefixes-why : {n : ℕ} → UnderRefusal afi p n → prefixesUnder afi p ≡ refused n
   unfolding prefixesUnder
   prefixes-why (otherFamily one two) =
-      ⊎-elim (λ f. absurd (⊎-elim one two (good-family afi (f .0) (f .1)))) (λ r. sym (stops _ _ _ (r .1)) ∙ ap refused (family-refused afi (r .0) (r .1) .0)) (outcome (familyBits afi))
-  prefixes-why (refusedPrefixes family r) = let f = family-good afi family in sym (goes _ _ _ _ (f .1) (sym (refused-prefixes afi (f .0) (f .1) p r)))
+      ⊎-elim (λ f. absurd (⊎-elim one two (good-family afi (f .0) (f .1)))) (λ r. sym (and-stops _ _ _ (r .1)) ∙ ap refused (family-refused afi (r .0) (r .1) .0)) (outcome (familyBits afi))
+  prefixes-why (refusedPrefixes family r) = let f = family-good afi family in sym (and-goes-on _ _ _ _ (f .1) (sym (refused-prefixes afi (f .0) (f .1) p r)))
 
   prefixes-under : ((items : List Item) × (prefixesUnder afi p ≡ given items)) ↔ (((afi ≡ 1) ⊎ (afi ≡ 2)) × GoodPrefixes afi p)
   unfolding prefixesUnder
   prefixes-under = (
     λ g. let f = passed _ _ _ (g .1) in (good-family afi (f .value) (f .first), prefixes-good afi (f .value) (f .first) p (g .0) (f .second) .0),
-    λ x. let f = family-good afi (x .0) in (x .1 .items, sym (goes _ _ _ _ (f .1) (sym (good-prefixes afi (f .0) (f .1) p (x .1))))),
+    λ x. let f = family-good afi (x .0) in (x .1 .items, sym (and-goes-on _ _ _ _ (f .1) (sym (good-prefixes afi (f .0) (f .1) p (x .1))))),
   )
 
 -- the class told, by what is stated of it

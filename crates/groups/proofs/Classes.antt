@@ -11,7 +11,7 @@ use Rattle.octets.specs.Numbers.{DONE, SHORT, RANGE}
 use Rattle.octets.specs.Choice.{pick, both}
 use Rattle.octets.specs.Outcome.{Outcome, given, refused, onOutcome, andThen, numberOf}
 use Rattle.octets.proofs.Choice.{pick-true, pick-false, pick-cong, tested, both-held, both-left, both-last}
-use Rattle.octets.proofs.Outcome.{number-stops, number-goes, Refuses, value, number, refuses-pick, refuses-then, refuses-by, and-assoc, and-given, and-refused, and-cong, and-pick, goes, stops, given-unless}
+use Rattle.octets.proofs.Outcome.{number-stops, number-goes, Refuses, value, number, refuses-pick, refuses-then, refuses-by, and-assoc, and-given, and-refused, and-cong, and-pick, and-goes-on, and-stops, given-unless}
 use Rattle.lists.specs.LentLists.{Item, itemField, frontItem, afterItem, frontItems, wholeItems, listCount, wholeList, listItems, readList, firstItem, everyItem, someItem}
 use Rattle.lists.proofs.Items.{read-list-given, list-items-count}
 use Rattle.lists.proofs.Going.{Going, going, turned, first-left, none-left}
@@ -96,7 +96,7 @@ none-in bits g = and-itself (classUnder bits g)
 pub none-by : (afi : ℕ) (p g : List ℕ) (flag : Bool) → flag ≡ noneGiven p → flag ≡ true → (r : Group) → r ≡ groupOf (classOf afi g) → r ≡ groupOf (classBy afi p g)
 unfolding classBy classOf
 none-by afi p g flag e h r is =
-    is ∙ ap groupOf (and-cong (familyBits afi) _ _ (λ bits f. goes _ _ _ _ (none-read bits p (sym e ∙ h)) (sym (none-in bits g))))
+    is ∙ ap groupOf (and-cong (familyBits afi) _ _ (λ bits f. and-goes-on _ _ _ _ (none-read bits p (sym e ∙ h)) (sym (none-in bits g))))
 
 -- one after the other
 
@@ -166,7 +166,7 @@ module _ (afi size : ℕ) (ofFamily : familyBits afi ≡ given (8 * size)) (p g 
   unfolding classIn classOf
   among-is items read =
       and-cong (classUnder (8 * size) g) _ _ (λ standard e. ap given (among-told items read (group-sized standard e) standard))
-      ∙ ap (λ (o : Outcome ℕ). andThen o (λ standard. given (where-given (pick (someItem (λ x. holdsSized size (itemField 0 x) g) items) SSM ASM) standard))) (goes _ _ _ _ ofFamily refl)
+      ∙ ap (λ (o : Outcome ℕ). andThen o (λ standard. given (where-given (pick (someItem (λ x. holdsSized size (itemField 0 x) g) items) SSM ASM) standard))) (and-goes-on _ _ _ _ ofFamily refl)
 
   -- prefixes read and then the class, in one pass over them
   pass-is : (items : List Item) → readList 1 p ≡ given items
@@ -181,7 +181,7 @@ module _ (afi size : ℕ) (ofFamily : familyBits afi ≡ given (8 * size)) (p g 
   within-is : classBy afi p g ≡ andThen (classWithin size p g) (λ class. andThen (classOf afi g) (λ standard. given (where-given class standard)))
   unfolding classBy classWithin readPrefixes
   within-is =
-      sym (goes _ _ _ _ ofFamily refl)
+      sym (and-goes-on _ _ _ _ ofFamily refl)
       ∙ and-pick _ _ _ _
       ∙ pick-cong _ _ _ _ _ (λ few. and-assoc (readList 1 p) _ _ ∙ and-cong (readList 1 p) _ _ pass-is ∙ sym (and-assoc (readList 1 p) _ _)) (λ many. and-refused _ _ ∙ sym (and-refused _ _))
       ∙ sym (and-pick _ _ _ _)
@@ -189,24 +189,24 @@ module _ (afi size : ℕ) (ofFamily : familyBits afi ≡ given (8 * size)) (p g 
   -- what is answered: a refusal by the prefixes, then one by the group, then the standard class, or where prefixes are given the one that they tell
   module _ (told : Group) (is : told ≡ groupOf (classWithin size p g)) where
     pub class-prefixes : (told .number ≡ DONE → ⊥) → told ≡ groupOf (classBy afi p g)
-    class-prefixes h = let e = group-refused _ told is h in is ∙ ap groupOf (e ∙ stops _ _ _ e ∙ sym within-is)
+    class-prefixes h = let e = group-refused _ told is h in is ∙ ap groupOf (e ∙ and-stops _ _ _ e ∙ sym within-is)
 
     module _ (done : told .number ≡ DONE) (standard : Group) (classed : standard ≡ groupOf (classOf afi g)) where
       within-given : classWithin size p g ≡ given (told .«group_class»)
       within-given = group-given _ told is (within-refuses size p g) done
 
       by-standard : classBy afi p g ≡ andThen (classOf afi g) (λ k. given (where-given (told .«group_class») k))
-      by-standard = within-is ∙ sym (goes _ _ _ _ within-given refl)
+      by-standard = within-is ∙ sym (and-goes-on _ _ _ _ within-given refl)
 
       pub class-flow : (standard .number ≡ DONE → ⊥) → standard ≡ groupOf (classBy afi p g)
-      class-flow h = let e = group-refused _ standard classed h in classed ∙ ap groupOf (e ∙ stops _ _ _ e ∙ sym by-standard)
+      class-flow h = let e = group-refused _ standard classed h in classed ∙ ap groupOf (e ∙ and-stops _ _ _ e ∙ sym by-standard)
 
       module _ (multicast : standard .number ≡ DONE) (count : ℕ) (counted : count ≡ listCount p) where
         standard-given : classOf afi g ≡ given (standard .«group_class»)
         standard-given = group-given _ standard classed (class-of-refuses afi g) multicast
 
         by-count : classBy afi p g ≡ given (where-given (told .«group_class») (standard .«group_class»))
-        by-count = by-standard ∙ sym (goes _ _ _ _ standard-given refl)
+        by-count = by-standard ∙ sym (and-goes-on _ _ _ _ standard-given refl)
 
         pub class-standard : count ≡ 0 → standard ≡ groupOf (classBy afi p g)
         unfolding where-given
@@ -253,11 +253,11 @@ module _ (size : ℕ) (p g : List ℕ) (count : ℕ) (told : count ≡ listCount
 
     pub within-short : wholeList 1 p ≡ false → (r : Group) → r ≡ groupOf (refused SHORT) → r ≡ groupOf (classWithin size p g)
     unfolding readList
-    within-short h r e = e ∙ ap groupOf (stops _ _ _ (pick-false _ _ _ h) ∙ sym within-few)
+    within-short h r e = e ∙ ap groupOf (and-stops _ _ _ (pick-false _ _ _ h) ∙ sym within-few)
 
     pub within-along : wholeList 1 p ≡ true → (r : Group) → r ≡ groupOf (classAlong size g ASM (listItems 1 p)) → r ≡ groupOf (classWithin size p g)
     unfolding readList
-    within-along h r e = e ∙ ap groupOf (goes _ _ _ _ (pick-true _ _ _ h) refl ∙ sym within-few)
+    within-along h r e = e ∙ ap groupOf (and-goes-on _ _ _ _ (pick-true _ _ _ h) refl ∙ sym within-few)
 
 -- FAMILY first
 pub family-told : (afi bits : ℕ) → familyBits afi ≡ given bits → (size : ℕ) → size ≡ bits / 8 → familyBits afi ≡ given (8 * size)
@@ -265,7 +265,7 @@ family-told afi bits ofFamily size e = ofFamily ∙ ap given (let all : bits ≡
 
 pub class-family : (afi : ℕ) (p g : List ℕ) (n : ℕ) → familyBits afi ≡ refused n → (r : Group) → r ≡ groupOf (refused n) → r ≡ groupOf (classBy afi p g)
 unfolding classBy
-class-family afi p g n e r is = is ∙ ap groupOf (stops _ _ _ e)
+class-family afi p g n e r is = is ∙ ap groupOf (and-stops _ _ _ e)
 
 -- the whole of each slice
 pub whole-by : (afi : ℕ) (p q g k : List ℕ) → q ≡ drop 0 p → k ≡ drop 0 g → (r : Group) → r ≡ groupOf (classBy afi q k) → r ≡ groupOf (classBy afi p g)

@@ -10,7 +10,7 @@ use lib.ListN.{length}
 use Rattle.octets.specs.Outcome.{given, refused}
 use Rattle.octets.specs.Lists.{Among, first}
 use Rattle.octets.proofs.Choice.{both-true, both-held, pick-true, pick-false, picked, opposite, is-false}
-use Rattle.octets.proofs.Outcome.{never, given-same, refused-same, stops, goes, given-unless, passed, stopped}
+use Rattle.octets.proofs.Outcome.{never, given-same, refused-same, and-stops, and-goes-on, given-unless, passed, stopped}
 use Rattle.octets.proofs.Among.{among-right, among-none, among-cases}
 use Rattle.lists.specs.LentLists.{Item, itemField, frontItem, afterItem, frontItems, listCount, listItems, readList, everyItem}
 use Rattle.lists.proofs.Items.{first-met, first-item-unmet, every-item-exactly, read-list-given, read-list-refused}
@@ -117,7 +117,7 @@ module _ (afi bits : ℕ) (ofFamily : familyBits afi ≡ given bits) (p : List �
 
   pub good-prefixes : (good : GoodPrefixes afi p) → readPrefixes bits p ≡ given (good .items)
   unfolding readPrefixes
-  good-prefixes good = pick-true _ _ _ (le-leb _ _ (good .few)) ∙ sym (goes _ _ _ _ (good .read) (sym (pick-true _ _ _ (each-back (good .items) (good .read) (good .each)))))
+  good-prefixes good = pick-true _ _ _ (le-leb _ _ (good .few)) ∙ sym (and-goes-on _ _ _ _ (good .read) (sym (pick-true _ _ _ (each-back (good .items) (good .read) (good .each)))))
 
   -- and those that are refused
   pub prefixes-refused : (n : ℕ) → readPrefixes bits p ≡ refused n → PrefixRefusal afi p n
@@ -139,9 +139,9 @@ module _ (afi bits : ℕ) (ofFamily : familyBits afi ≡ given bits) (p : List �
   pub refused-prefixes : {n : ℕ} → PrefixRefusal afi p n → readPrefixes bits p ≡ refused n
   unfolding readPrefixes
   refused-prefixes (tooMany h) = pick-false _ _ _ (lt-leb _ _ h)
-  refused-prefixes (endsShort few e) = pick-true _ _ _ (le-leb _ _ few) ∙ sym (stops _ _ _ e)
+  refused-prefixes (endsShort few e) = pick-true _ _ _ (le-leb _ _ few) ∙ sym (and-stops _ _ _ e)
   refused-prefixes (badPrefix few items e prefix m bad) =
-      pick-true _ _ _ (le-leb _ _ few) ∙ sym (goes _ _ _ _ e (sym (pick-false _ _ _ (is-false _ (λ t. bad (each-there items t prefix m))))))
+      pick-true _ _ _ (le-leb _ _ few) ∙ sym (and-goes-on _ _ _ _ e (sym (pick-false _ _ _ (is-false _ (λ t. bad (each-there items t prefix m))))))
 
 -- prefixes are good or refused, and never both
 pub prefixes-either : (afi : ℕ) → (afi ≡ 1) ⊎ (afi ≡ 2) → (p : List ℕ) {n : ℕ} → GoodPrefixes afi p → PrefixRefusal afi p n → ⊥

@@ -12,7 +12,7 @@ use Rattle.octets.specs.Numbers.{DONE, FLOW}
 use Rattle.octets.specs.Choice.{pick}
 use Rattle.octets.specs.Outcome.{Outcome, given, refused, andThen}
 use Rattle.octets.proofs.Choice.{pick-true, pick-false, tested}
-use Rattle.octets.proofs.Outcome.{and-cong, and-assoc, outcome, goes, stops}
+use Rattle.octets.proofs.Outcome.{and-cong, and-assoc, outcome, and-goes-on, and-stops}
 use Rattle.nlri.specs.declared.group.Group.{Group}
 use Rattle.nlri.specs.Family.{familyBits, isOriginatorSize}
 use Rattle.lists.specs.LentLists.{Item}
@@ -29,7 +29,7 @@ use Rattle.matches.specs.Scanning.{soughtOf, openTiers, openQuery, sized
 -- a group of another size than the family's
 unsized : (bits : ℕ) (items : List Item) (g : List ℕ) → (length g ≡ bits / 8 → ⊥) → classIn bits items g ≡ refused FLOW
 unfolding classIn classUnder
-unsized bits items g h = sym (stops _ _ _ (pick-false _ _ _ (ne-eqb _ _ h)))
+unsized bits items g h = sym (and-stops _ _ _ (pick-false _ _ _ (ne-eqb _ _ h)))
 
 -- source and group of the family's size: one of it, and the other of the same
 module _ (bits : ℕ) (whole : 8 * (bits / 8) ≡ bits) (items : List Item) (source group : List ℕ) (next : ℕ → Outcome Query) where
@@ -42,13 +42,13 @@ module _ (bits : ℕ) (whole : 8 * (bits / 8) ≡ bits) (items : List Item) (sou
       tested (eqb (8 * length source) bits) (λ s. pick-true _ _ _ s ∙ sym (pick-true _ _ _ alike))
       (λ s.
       let other : 8 * length source ≡ bits → ⊥ = eqb-false _ _ s in
-      pick-false _ _ _ s ∙ sym (pick-true _ _ _ alike ∙ sym (stops _ _ next (unsized bits items group (λ g. other (omega arith)))))))
+      pick-false _ _ _ s ∙ sym (pick-true _ _ _ alike ∙ sym (and-stops _ _ next (unsized bits items group (λ g. other (omega arith)))))))
       (λ unlike.
       let other : length source ≡ length group → ⊥ = eqb-false _ _ unlike in
       tested (eqb (8 * length source) bits)
       (λ s.
       let e : 8 * length source ≡ bits = eqb-true _ _ s in
-      pick-true _ _ _ s ∙ sym (stops _ _ next (unsized bits items group (λ g. other (omega arith)))) ∙ sym (pick-false _ _ _ unlike))
+      pick-true _ _ _ s ∙ sym (and-stops _ _ next (unsized bits items group (λ g. other (omega arith)))) ∙ sym (pick-false _ _ _ unlike))
       (λ s. pick-false _ _ _ s ∙ sym (pick-false _ _ _ unlike)))
 
 -- a test that refuses with FLOW, before or after a class that is refused with FLOW
@@ -56,10 +56,10 @@ flow-after : (test : Bool) (bits : ℕ) (items : List Item) (group : List ℕ) (
     → pick test (andThen (classIn bits items group) next) (refused FLOW) ≡ andThen (classIn bits items group) (λ class. pick test (next class) (refused FLOW))
 flow-after test bits items group next =
     ⊎-elim
-    (λ g. ap (λ (o : Outcome Query). pick test o (refused FLOW)) (sym (goes _ _ _ _ (g .1) refl)) ∙ goes _ _ _ _ (g .1) refl)
+    (λ g. ap (λ (o : Outcome Query). pick test o (refused FLOW)) (sym (and-goes-on _ _ _ _ (g .1) refl)) ∙ and-goes-on _ _ _ _ (g .1) refl)
     (λ r.
     let flow : classIn bits items group ≡ refused FLOW = r .1 ∙ ap refused (class-flow bits items group _ (r .1)) in
-    ap (λ (o : Outcome Query). pick test o (refused FLOW)) (sym (stops _ _ _ flow)) ∙ tested test (λ t. pick-true _ _ _ t) (λ f. pick-false _ _ _ f) ∙ stops _ _ _ flow)
+    ap (λ (o : Outcome Query). pick test o (refused FLOW)) (sym (and-stops _ _ _ flow)) ∙ tested test (λ t. pick-true _ _ _ t) (λ f. pick-false _ _ _ f) ∙ and-stops _ _ _ flow)
     (outcome (classIn bits items group))
 
 -- what a flow asks once its group has a class, by the sizes of router and source
@@ -96,7 +96,7 @@ sized-none number router source group e =
 module _ (afi : ℕ) (flow : Flow) (class : Group) (is : class ≡ groupOf (classBy afi (flow .prefixes) (flow .group)))
     (fault : ℕ) (told : fault ≡ sizedFault (class .number) (length (flow .router)) (length (flow .source)) (length (flow .group))) where
   class-given : class .number ≡ DONE → readFlow afi flow ≡ sized-query afi flow (class .«group_class»)
-  class-given d = by-class afi flow ∙ sym (goes _ _ _ _ (group-given _ class is (class-some afi (flow .prefixes) (flow .group)) d) refl)
+  class-given d = by-class afi flow ∙ sym (and-goes-on _ _ _ _ (group-given _ class is (class-some afi (flow .prefixes) (flow .group)) d) refl)
 
   pub flow-stopped : (fault ≡ DONE → ⊥) → readFlow afi flow ≡ refused fault
   unfolding sizedFault sized-query
@@ -108,7 +108,7 @@ module _ (afi : ℕ) (flow : Flow) (class : Group) (is : class ≡ groupOf (clas
       (λ a. absurd (some (told ∙ pick-true _ _ _ d ∙ pick-true _ _ _ r ∙ pick-true _ _ _ a)))
       (λ u. pick-true _ _ _ r ∙ pick-false _ _ _ u ∙ ap refused (sym (told ∙ pick-true _ _ _ d ∙ pick-true _ _ _ r ∙ pick-false _ _ _ u))))
       (λ o. pick-false _ _ _ o ∙ ap refused (sym (told ∙ pick-true _ _ _ d ∙ pick-false _ _ _ o))))
-      (λ n. by-class afi flow ∙ sym (stops _ _ _ (group-refused _ class is (eqb-false _ _ n))) ∙ ap refused (sym (told ∙ pick-false _ _ _ n)))
+      (λ n. by-class afi flow ∙ sym (and-stops _ _ _ (group-refused _ class is (eqb-false _ _ n))) ∙ ap refused (sym (told ∙ pick-false _ _ _ n)))
 
   pub flow-taken : fault ≡ DONE → readFlow afi flow ≡ given (openQuery (soughtOf (flow .router) (flow .source) (flow .group)) (openTiers (class .«group_class»)))
   unfolding sized-query

@@ -9,7 +9,7 @@ use Rattle.octets.specs.Numbers.{SPACE}
 use Rattle.octets.specs.Choice.{pick}
 use Rattle.octets.specs.Outcome.{given}
 use Rattle.octets.proofs.Choice.{picks, skips, both-left, both-last}
-use Rattle.octets.proofs.Outcome.{goes, stops}
+use Rattle.octets.proofs.Outcome.{and-goes-on, and-stops}
 use Rattle.nlri.specs.declared.group.Group.{Group}
 use Rattle.nlri.specs.Groups.{ASM, groupOf}
 use Rattle.routes.specs.declared.Matched.{Matched}
@@ -47,17 +47,17 @@ module _ (t : List ℕ) (tree : SharedTree) (output : List ℕ) (answer : Matche
 
     pub shared-refused : (class .number ≡ 0 → ⊥) → answer ≡ emptyMatch (class .number) → Leaves (matchOf t (ofSharedTree tree) output) answer output
     unfolding readAsked readTree
-    shared-refused some a = match-stopped t (ofSharedTree tree) output answer is (class .number) (sym (stops _ _ _ (tree-refused (afiIn t) tree class judges-its some))) a
+    shared-refused some a = match-stopped t (ofSharedTree tree) output answer is (class .number) (sym (and-stops _ _ _ (tree-refused (afiIn t) tree class judges-its some))) a
 
     pub shared-space : class .number ≡ 0 → length output < 124 → answer ≡ emptyMatch SPACE → Leaves (matchOf t (ofSharedTree tree) output) answer output
     unfolding readAsked readTree
-    shared-space done h a = match-stopped t (ofSharedTree tree) output answer is SPACE (sym (goes _ _ _ _ (tree-given (afiIn t) tree class judges-its done) (picks _ _ _ _ (lt-ltb _ _ h) refl))) a
+    shared-space done h a = match-stopped t (ofSharedTree tree) output answer is SPACE (sym (and-goes-on _ _ _ _ (tree-given (afiIn t) tree class judges-its done) (picks _ _ _ _ (lt-ltb _ _ h) refl))) a
 
     pub shared-search : class .number ≡ 0 → 124 ≤ length output → (left : List ℕ) (tiers : Tiers) → tiers ≡ treeTiers (treeOpen (afiIn t) tree (class .«group_class»))
         → Leaves (matchedBy (given (matchIn (afiIn t) (openQuery (soughtOf (tree .router) (tree .group) (tree .group)) tiers) (routesOf t))) output) answer left → Leaves (matchOf t (ofSharedTree tree) output) answer left
     unfolding readAsked readTree
     shared-search done h left tiers shows a =
-        match-searched t (ofSharedTree tree) output answer is (treeQuery (afiIn t) tree (class .«group_class»)) (sym (goes _ _ _ _ (tree-given (afiIn t) tree class judges-its done) (skips _ _ _ _ (le-ltb _ _ h) refl))) left
+        match-searched t (ofSharedTree tree) output answer is (treeQuery (afiIn t) tree (class .«group_class»)) (sym (and-goes-on _ _ _ _ (tree-given (afiIn t) tree class judges-its done) (skips _ _ _ _ (le-ltb _ _ h) refl))) left
         (rw tree-query (rw shows at a))
 
 -- a tree that was judged with DONE

@@ -11,7 +11,7 @@ ghost use Rattle.routes.specs.SharedTree.{sourceActiveFault, treeOpen};
 ghost use Rattle.routes.specs.Asked.{ofSharedTree};
 ghost use Rattle.routes.specs.Calls.{matchOf};
 ghost use Rattle.shared_trees.specs.Tree.{treeOf};
-ghost use Rattle.shared_trees.specs.Told.{Judged};
+ghost use Rattle.shared_trees.specs.Told.{ListsJudged};
 ghost use Rattle.octets.specs.Outputs.{Leaves};
 ghost use Rattle.matches.specs.Scanning.{treeTiers};
 use crate::matching;
@@ -24,18 +24,18 @@ use places::header;
 use places::output::LEAST_OUTPUT;
 use places::sound;
 use routes::Matched;
-use shared_trees::Facts;
+use shared_trees::TreeFacts;
 
 // The tiers of a tree that was judged: 3 and 4 where its group is ASM and a condition holds.
 fn open_tiers(
     class: u32,
     router: &[u8],
     group: &[u8],
-    facts: Facts,
+    facts: TreeFacts,
     source_actives: &[u8],
     states: &[u8],
 ) -> Tiers
-    requires { ⌜ Judged (length (now group)) (now «source_actives») (now states) ⌝ }
+    requires { ⌜ ListsJudged (length (now group)) (now «source_actives») (now states) ⌝ }
     ensures { λ r. ⌜ ((afi : ℕ) (prefixes : List ℕ) → sourceActiveFault afi (listItems 2 (now («source_actives» .entry))) ≡ DONE → r ≡ treeTiers (treeOpen afi (treeOf prefixes (now (router .entry)) (now (group .entry)) facts (now («source_actives» .entry)) (now (states .entry))) class)) ⌝ }
 {
     if class != Group::ASM {
@@ -50,7 +50,7 @@ fn match_sound_shared(
     prefixes: &[u8],
     router: &[u8],
     group: &[u8],
-    facts: Facts,
+    facts: TreeFacts,
     source_actives: &[u8],
     states: &[u8],
     output: &mut [u8],
@@ -90,7 +90,7 @@ pub fn match_shared(
     prefixes: &[u8],
     router: &[u8],
     group: &[u8],
-    facts: Facts,
+    facts: TreeFacts,
     source_actives: &[u8],
     states: &[u8],
     output: &mut [u8],

@@ -20,13 +20,13 @@ use Rattle.tunnel.specs.declared.Attribute.{Attribute}
 use Rattle.tunnel.specs.Answers.{readStruct}
 use Rattle.tunnel.specs.Rules.AttributeRules.{AttributeReadRefusal, long, short, badTunnel, badIdentifier}
 use Rattle.tunnel.proofs.Theorems.{attributeAnswerRule}
-use Rattle.mvpn.specs.declared.StepAnswer.{StepAnswer}
-use Rattle.mvpn.specs.declared.AttributeAnswer.{AttributeAnswer}
+use Rattle.mvpn.specs.declared.Stepped.{Stepped}
+use Rattle.mvpn.specs.declared.AttributeReading.{AttributeReading}
 use Rattle.mvpn.specs.Answers.{stepAnswer, attributeAnswer}
 use Rattle.mvpn.specs.Rules.CallAnswers.{StepTold, anNlri, theEnd, StepUntold, AttributeTold, AttributeUntold, CallAnswers}
 
 module _ (afi : ℕ) (run : List ℕ) (cursor : ℕ) where
-  abbrev answer : StepAnswer
+  abbrev answer : Stepped
   answer = stepAnswer (stepFrom afi run cursor)
 
   -- the answer in each case of a step
@@ -39,7 +39,7 @@ module _ (afi : ℕ) (run : List ℕ) (cursor : ℕ) where
   answer-end h = ap stepAnswer (stepRule .ends afi run cursor .1 h)
 
   -- what is told is DONE
-  told-done : (a : StepAnswer) → StepTold afi run cursor a → a .number ≡ 0
+  told-done : (a : Stepped) → StepTold afi run cursor a → a .number ≡ 0
   told-done a (anNlri f n t) = refl
   told-done a (theEnd h) = refl
 
@@ -53,7 +53,7 @@ module _ (afi : ℕ) (run : List ℕ) (cursor : ℕ) where
     by-case read end refuse = ⊎-elim (λ r. read (r .0) (r .1)) (λ s. ⊎-elim end (λ r. refuse (r .0) (r .1)) s) (stepRule .decided afi run cursor a)
 
     number-refused : (n : ℕ) → StepRefusal afi run cursor n → answer .number ≡ n
-    number-refused n why = ap (λ (s : StepAnswer). s .number) (answer-refused n why)
+    number-refused n why = ap (λ (s : Stepped). s .number) (answer-refused n why)
 
     never-done : (n : ℕ) → StepRefusal afi run cursor n → n ≡ 0 → ⊥
     never-done n why e = stepRule .done afi run cursor (subst (StepRefusal afi run cursor) e why)
@@ -67,7 +67,7 @@ module _ (afi : ℕ) (run : List ℕ) (cursor : ℕ) where
 
     untold : (n : ℕ) → StepRefusal afi run cursor n → StepUntold cursor answer
     unfolding noLayout
-    untold n why = record { layout = ap (λ (s : StepAnswer). s .layout) (answer-refused n why); given = ap (λ (s : StepAnswer). s .cursor) (answer-refused n why) }
+    untold n why = record { layout = ap (λ (s : Stepped). s .layout) (answer-refused n why); given = ap (λ (s : Stepped). s .cursor) (answer-refused n why) }
 
     steps : Answering (answer .number) (StepRefusal afi run cursor) (StepTold afi run cursor answer) (StepUntold cursor answer)
     steps =

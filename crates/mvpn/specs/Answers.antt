@@ -2,18 +2,18 @@
 use Prim.Native.Nat.{ℕ}
 use Rattle.octets.specs.Numbers.{DONE}
 use Rattle.octets.specs.Outcome.{Outcome, onOutcome}
-use Rattle.runs.specs.Walking.{Stepped}
+use Rattle.runs.specs.Walking.{StepTaken}
 use Rattle.tunnel.specs.declared.Attribute.{Attribute}
 use Rattle.tunnel.specs.Answers.{noFec}
-use Rattle.mvpn.specs.declared.StepAnswer.{StepAnswer}
-use Rattle.mvpn.specs.declared.AttributeAnswer.{AttributeAnswer}
+use Rattle.mvpn.specs.declared.Stepped.{Stepped}
+use Rattle.mvpn.specs.declared.AttributeReading.{AttributeReading}
 
--- a step: the next cursor, the number, and the layout of the NLRI read
-unfoldable pub stepAnswer : Stepped → StepAnswer
-stepAnswer s = record { cursor = s .cursor; number = s .number; layout = s .layout }
+-- a step: the number, the next cursor, and the layout of the NLRI read
+unfoldable pub stepAnswer : StepTaken → Stepped
+stepAnswer s = record { number = s .number; cursor = s .cursor; layout = s .layout }
 
 -- an attribute read
-abbrev pub attributeGiven : Attribute → AttributeAnswer
+abbrev pub attributeGiven : Attribute → AttributeReading
 attributeGiven a =
     record {
       number = DONE;
@@ -27,7 +27,7 @@ attributeGiven a =
     }
 
 -- an attribute refused
-abbrev pub attributeRefused : ℕ → AttributeAnswer
+abbrev pub attributeRefused : ℕ → AttributeReading
 attributeRefused number =
     record {
       number = number;
@@ -41,5 +41,5 @@ attributeRefused number =
     }
 
 -- the answer of reading an attribute
-unfoldable pub attributeAnswer : Outcome Attribute → AttributeAnswer
+unfoldable pub attributeAnswer : Outcome Attribute → AttributeReading
 attributeAnswer outcome = onOutcome attributeRefused attributeGiven outcome

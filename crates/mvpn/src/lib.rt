@@ -43,31 +43,31 @@ use routes::Installed;
 use routes::Matched;
 use routes::Restarted;
 use routes::Salvaged;
-use routes::TableInfo;
+use routes::TableFacts;
 use runs::Cursor;
 use runs::Step;
 use runs::Walked;
-use shared_trees::Facts;
+use shared_trees::TreeFacts;
 use tunnel::Attribute;
 use tunnel::Reading;
 use tunnel::fec::Fec;
 
-// What a step answers: the next cursor, the number, and the layout of the NLRI read.
+// What a step answers: the number, the next cursor, and the layout of the NLRI read.
 #[repr(C)]
-pub struct StepAnswer {
-    pub cursor: usize,
+pub struct Stepped {
     pub number: u32,
+    pub cursor: usize,
     pub layout: Layout,
 }
 
-impl StepAnswer {
+impl Stepped {
     // No NLRI: a refusal, or the run's end, which the caller tells by DONE with route type 0.
-    fn stopped(cursor: usize, number: u32) -> StepAnswer
+    fn stopped(cursor: usize, number: u32) -> Stepped
         ensures { λ r. ⌜ r ≡ stepAnswer (refusedAt number cursor) ⌝ }
     {
-        StepAnswer {
-            cursor,
+        Stepped {
             number,
+            cursor,
             layout: Layout::none(),
         }
     }
@@ -75,7 +75,7 @@ impl StepAnswer {
 
 // What reading an attribute answers: the number beside the fields.
 #[repr(C)]
-pub struct AttributeAnswer {
+pub struct AttributeReading {
     pub number: u32,
     pub flags: u32,
     pub tunnel_type: u32,
@@ -86,14 +86,14 @@ pub struct AttributeAnswer {
     pub fec: Fec,
 }
 
-impl AttributeAnswer {
+impl AttributeReading {
     // An attribute that was read.
-    fn read(fields: Attribute) -> AttributeAnswer
+    fn read(fields: Attribute) -> AttributeReading
         ensures { λ r. ⌜ r ≡ attributeGiven fields ⌝ }
     {
         let identifier = fields.identifier;
         let fec = fields.fec;
-        AttributeAnswer {
+        AttributeReading {
             number: DONE,
             flags: fields.flags,
             tunnel_type: fields.tunnel_type,
@@ -106,10 +106,10 @@ impl AttributeAnswer {
     }
 
     // An attribute that was refused.
-    fn refused(number: u32) -> AttributeAnswer
+    fn refused(number: u32) -> AttributeReading
         ensures { λ r. ⌜ r ≡ attributeRefused number ⌝ }
     {
-        AttributeAnswer {
+        AttributeReading {
             number,
             flags: 0,
             tunnel_type: 0,
@@ -125,9 +125,9 @@ impl AttributeAnswer {
 // The version of the library, as the file VERSION has it: major, minor and patch, each an octet of the number.
 #[no_mangle]
 pub extern "C" fn mvpn_version() -> u32
-    ensures { λ r. ⌜ r ≡ 0 * 65536 + 17 * 256 + 0 ⌝ }
+    ensures { λ r. ⌜ r ≡ 0 * 65536 + 18 * 256 + 0 ⌝ }
 {
-    0 * 65536 + 17 * 256 + 0
+    0 * 65536 + 18 * 256 + 0
 }
 
 // Reads a single NLRI.
@@ -154,20 +154,20 @@ pub extern "C" fn mvpn_nlri_write(
 
 // The NLRI of a run at the cursor: DONE with its layout; DONE with route type 0 at the run's end; or a refusal.
 #[no_mangle]
-pub extern "C" fn mvpn_step(afi: u16, run: &[u8], cursor: usize) -> StepAnswer
+pub extern "C" fn mvpn_step(afi: u16, run: &[u8], cursor: usize) -> Stepped
     ensures { λ r. ⌜ r ≡ stepAnswer (stepFrom afi (now (run .entry)) cursor) ⌝ }
 {
     let at = Cursor { at: cursor };
     match at.step(afi, run) {
         Step::Nlri(layout, next) => {
-            return StepAnswer {
-                cursor: next.at,
+            return Stepped {
                 number: DONE,
+                cursor: next.at,
                 layout,
             };
         }
-        Step::End(last) => return StepAnswer::stopped(last.at, DONE),
-        Step::Refused(number, last) => return StepAnswer::stopped(last.at, number),
+        Step::End(last) => return Stepped::stopped(last.at, DONE),
+        Step::Refused(number, last) => return Stepped::stopped(last.at, number),
     }
 }
 
@@ -217,12 +217,12 @@ pub extern "C" fn mvpn_group_class(afi: u16, prefixes: &[u8], group: &[u8]) -> G
 
 // Reads a PMSI Tunnel attribute.
 #[no_mangle]
-pub extern "C" fn mvpn_attribute_read(attribute: &[u8]) -> AttributeAnswer
+pub extern "C" fn mvpn_attribute_read(attribute: &[u8]) -> AttributeReading
     ensures { λ r. ⌜ r ≡ attributeAnswer (readStruct (now (attribute .entry))) ⌝ }
 {
     match tunnel::read(attribute) {
-        Reading::Attribute(fields) => return AttributeAnswer::read(fields),
-        Reading::Refused(number) => return AttributeAnswer::refused(number),
+        Reading::Attribute(fields) => return AttributeReading::read(fields),
+        Reading::Refused(number) => return AttributeReading::refused(number),
     }
 }
 
@@ -335,7 +335,7 @@ pub extern "C" fn mvpn_match_shared(
     prefixes: &[u8],
     router: &[u8],
     group: &[u8],
-    facts: Facts,
+    facts: TreeFacts,
     source_actives: &[u8],
     states: &[u8],
     output: &mut [u8],
@@ -379,7 +379,7 @@ pub extern "C" fn mvpn_next(table: &[u8], nlri: &[u8], output: &mut [u8]) -> Fol
 
 // Tells a table's family, places and number of routes.
 #[no_mangle]
-pub extern "C" fn mvpn_table_info(table: &[u8]) -> TableInfo
+pub extern "C" fn mvpn_table_info(table: &[u8]) -> TableFacts
     ensures { λ r. ⌜ r ≡ infoOf (now (table .entry)) ⌝ }
 {
     table::info(table)

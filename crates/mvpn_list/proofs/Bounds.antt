@@ -8,7 +8,7 @@ use Rattle.octets.specs.Numbers.{DONE}
 use Rattle.nlri.proofs.Definitions.Table.{known-octet}
 use Rattle.runs.specs.declared.turning.Turn.{Turn}
 use Rattle.runs.specs.declared.turning.Turn.the-variants.{Read, Skipped, Stopped}
-use Rattle.runs.specs.Walking.{Stepped, readTo}
+use Rattle.runs.specs.Walking.{StepTaken, readTo}
 use Rattle.runs.specs.Modes.{turnFrom, walkByFrom, walkBy, nlrisByFrom, nlrisBy}
 use Rattle.runs.proofs.Theorems.{stepRule}
 use Rattle.runs.proofs.Steps.{step-moves, reads-stepFrom}
@@ -59,11 +59,11 @@ module _ (mode : ℕ) (run : List ℕ) where
       within-next (Read l c) e later =
           let is = read-step 1 run at mode l c e in
           let m = step-moves 1 run at l (c .at) is in
-          let known = stepRule .typed 1 run at (ap (λ (s : Stepped). s .read) is) in
-          let typed = ap (λ (s : Stepped). s .layout .«route_type») is in
-          let moved = reads-stepFrom 1 run at (ap (λ (s : Stepped). s .read) is) .cursor in
-          let sized = ap (λ (s : Stepped). s .layout .length) is in
-          let one : length (layoutLine at l) ≤ 14 = length-lineOf _ _ _ (omega arith) (omega (arith, known-octet _ known)) (omega (arith, ap (λ (s : Stepped). s .cursor) is)) in
+          let known = stepRule .typed 1 run at (ap (λ (s : StepTaken). s .read) is) in
+          let typed = ap (λ (s : StepTaken). s .layout .«route_type») is in
+          let moved = reads-stepFrom 1 run at (ap (λ (s : StepTaken). s .read) is) .cursor in
+          let sized = ap (λ (s : StepTaken). s .layout .length) is in
+          let one : length (layoutLine at l) ≤ 14 = length-lineOf _ _ _ (omega arith) (omega (arith, known-octet _ known)) (omega (arith, ap (λ (s : StepTaken). s .cursor) is)) in
           let rest = later (c .at) (count + 1) skipped (omega arith) (omega arith) in
           let n = ap length (linesFrom-read left mode run at count skipped l c e) ∙ length-append (layoutLine at l) (linesFrom left mode run (c .at) (count + 1) skipped) in
           omega arith

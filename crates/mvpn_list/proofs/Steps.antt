@@ -13,14 +13,14 @@ use Rattle.nlri.proofs.Definitions.ReadNumbers.{refuses-family, refuses-layout}
 use Rattle.runs.specs.declared.stepping.Cursor.{Cursor}
 use Rattle.runs.specs.declared.turning.Turn.the-variants.{Read, Skipped, Stopped}
 use Rattle.runs.specs.declared.walking.Walked.{Walked}
-use Rattle.runs.specs.Walking.{Stepped, readTo, endedAt, refusedAt, stepUnder, stepFrom, NlriRead}
+use Rattle.runs.specs.Walking.{StepTaken, readTo, endedAt, refusedAt, stepUnder, stepFrom, NlriRead}
 use Rattle.runs.specs.Modes.{turnFrom, walkByFrom, nlrisByFrom}
 use Rattle.runs.proofs.Nlris.{read-header}
 use Rattle.runs.proofs.Turns.{read-step, stopped-number, walkByFrom-read, walkByFrom-skipped, walkByFrom-stopped, nlrisByFrom-read, nlrisByFrom-skipped, nlrisByFrom-stopped}
 use Rattle.mvpn_list.specs.Listing.{nlriLine, nlriLines, lastLine}
 
 -- the number of a step has at most two digits
-abbrev Small : Stepped → Type 0
+abbrev Small : StepTaken → Type 0
 Small s = s .number < 100
 
 step-number : (afi : ℕ) (run : List ℕ) (at : ℕ) → stepFrom afi run at .number < 100

@@ -195,8 +195,8 @@ unfoldable pub keyAt : Layout → Span
 keyAt l = record { start = pick (withKey (l .«route_type»)) 2 0; size = l .key }
 
 -- a FEC stands behind the route distinguisher or the source AS
-unfoldable pub fecAt : Layout → Span
-fecAt l = record { start = pick (withFec (l .«route_type»)) (fecStart (l .«route_type»)) 0; size = l .fec }
+unfoldable pub fecInLayout : Layout → Span
+fecInLayout l = record { start = pick (withFec (l .«route_type»)) (fecStart (l .«route_type»)) 0; size = l .fec }
 
 -- a layout's fields lie within the NLRI, and have the sizes of addresses
 pub record LayoutWithin (l : Layout) (s : List ℕ) : Type 0 where

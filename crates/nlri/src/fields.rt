@@ -7,7 +7,7 @@ ghost use Rattle.octets.specs.Octets.{part};
 ghost use Rattle.octets.specs.Outcome.{refused};
 ghost use Rattle.nlri.specs.Reading.{readNlri};
 ghost use Rattle.nlri.specs.Answers.{addressStruct, distinguisherStruct, nlriStruct, nlriAnswer};
-ghost use Rattle.nlri.specs.Inner.{withKey, withSourceAs, distinguisherAt, sourceAsAt, fieldsAt, keyAt, fecAt, LayoutWithin};
+ghost use Rattle.nlri.specs.Inner.{withKey, withSourceAs, distinguisherAt, sourceAsAt, fieldsAt, keyAt, fecInLayout, LayoutWithin};
 use crate::address::Address;
 use crate::address::AddressKind;
 use crate::address::RouteDistinguisher;
@@ -139,7 +139,7 @@ fn key_in(layout: Layout) -> Span
 
 // A FEC stands behind the route distinguisher or the source AS.
 fn fec_in(layout: Layout) -> Span
-    ensures { λ r. ⌜ r ≡ fecAt layout ⌝ }
+    ensures { λ r. ⌜ r ≡ fecInLayout layout ⌝ }
 {
     if route::has_fec(layout.route_type) {
         return Span {

@@ -11,7 +11,7 @@ use Rattle.octets.specs.Numbers.{DONE, TYPE, WIDTH, KEY, LONG, SPACE}
 use Rattle.octets.specs.Choice.{pick, both, either}
 use Rattle.octets.specs.Outcome.{Outcome, given, refused, andThen, numberOf}
 use Rattle.octets.proofs.Choice.{opposite, tested, both-left, both-last, either-second, pick-true, pick-false, pick-cong}
-use Rattle.octets.proofs.Outcome.{given-otherwise, given-unless, and-cong, goes, stops, refused-of}
+use Rattle.octets.proofs.Outcome.{given-otherwise, given-unless, and-cong, and-goes-on, and-stops, refused-of}
 use Rattle.octets.proofs.NetworkOrder.{length-bigEndian}
 use Rattle.fec_elements.specs.declared.Standing.the-variants.{Lent}
 use Rattle.fec_elements.specs.Reading.{readFec}
@@ -30,7 +30,7 @@ use Rattle.nlri_writing.proofs.Puts.{length-octets, length-pick, eight-
 use Rattle.nlri.proofs.Functions.Ends.{known-mldp}
 use Rattle.nlri_writing.proofs.Verdicts.{written, written-kept, passes, passes-kept, free, both-end, originator-octets, to-seven-is}
 
--- the tests of a type by which the writer goes say which kinds its body has
+-- the tests of a type by which the writer and-goes-on say which kinds its body has
 hasKind : ℕ → FieldKind → Bool
 hasKind type distinguisher = not (eqb type 68)
 hasKind type sourceAs = withSourceAs type
@@ -265,15 +265,15 @@ module _ (bits : ℕ) (nlri : Nlri) (keyOctets fecOctets : List ℕ) where
   module _ (space : ℕ) where
     pub refused-mldp : (n : ℕ) → n ≡ numberOf (mldpFitting bits nlri keyOctets fecOctets) → (n ≡ DONE → ⊥) → refused n ≡ mldpWritten bits nlri keyOctets fecOctets space
     unfolding mldpWritten
-    refused-mldp n p h = stops _ n _ (refused-of _ n p h)
+    refused-mldp n p h = and-stops _ n _ (refused-of _ n p h)
 
     pub space-mldp : mldpFitting bits nlri keyOctets fecOctets ≡ given nlri → space < 2 + mldpBodySize nlri (length keyOctets) (length fecOctets) → refused SPACE ≡ mldpWritten bits nlri keyOctets fecOctets space
     unfolding mldpWritten
-    space-mldp e h = goes _ _ _ _ e (sym (pick-true _ _ _ (lt-ltb _ _ h)))
+    space-mldp e h = and-goes-on _ _ _ _ e (sym (pick-true _ _ _ (lt-ltb _ _ h)))
 
     pub given-mldp : mldpFitting bits nlri keyOctets fecOctets ≡ given nlri → 2 + mldpBodySize nlri (length keyOctets) (length fecOctets) ≤ space → given (mldpOctets nlri keyOctets fecOctets) ≡ mldpWritten bits nlri keyOctets fecOctets space
     unfolding mldpWritten
-    given-mldp e h = goes _ _ _ _ e (sym (pick-false _ _ _ (le-ltb _ _ h)))
+    given-mldp e h = and-goes-on _ _ _ _ e (sym (pick-false _ _ _ (le-ltb _ _ h)))
 
 -- a size that one of its parts passes, and bounds of the others
 pub lent-most : (nlri : Nlri) (keySize fecSize : ℕ) → 255 < lentSize (nlri .«route_type») keySize fecSize → ltb 255 (mldpBodySize nlri keySize fecSize) ≡ true

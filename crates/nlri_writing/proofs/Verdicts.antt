@@ -12,7 +12,7 @@ use Rattle.octets.specs.Numbers.{DONE, TYPE, WIDTH, KEY, SPACE, GROUP}
 use Rattle.octets.specs.Choice.{pick, both, either}
 use Rattle.octets.specs.Outcome.{Outcome, given, refused, onOutcome, andThen, numberOf}
 use Rattle.octets.proofs.Choice.{opposite, both-left, both-assoc, both-true-left, both-true-right, either-true, pick-true, pick-false, pick-cong}
-use Rattle.octets.proofs.Outcome.{given-otherwise, given-unless, goes, stops, refused-of}
+use Rattle.octets.proofs.Outcome.{given-otherwise, given-unless, and-goes-on, and-stops, refused-of}
 use Rattle.nlri.specs.declared.fields.Nlri.{Nlri}
 use Rattle.nlri.specs.Family.{allowed, isOriginatorSize}
 use Rattle.nlri.specs.Bodies.{FieldKind, distinguisher, sourceAs, source, group, originator, key, fec, toSeven, bodies, bodyOf, codeOf, sameKind}
@@ -28,7 +28,7 @@ use Rattle.nlri.proofs.Definitions.Writes.{all, widths-all, keys-all, verdictOf
 use Rattle.nlri.proofs.Definitions.Writes as writes
 use Rattle.nlri_writing.proofs.Puts.{length-octets, size-is, fixed-short, flow-short, originator-short}
 
--- the tests of a type by which the writer goes say which kinds its body has
+-- the tests of a type by which the writer and-goes-on say which kinds its body has
 hasKind : ℕ → FieldKind → Bool
 hasKind type distinguisher = not (eqb type 4)
 hasKind type sourceAs = withSourceAs type
@@ -283,19 +283,19 @@ fits-done bits nlri keyOctets n p q = verdict-done _ _ _ _ _ (sym p ∙ q)
 module _ (bits : ℕ) (nlri : Nlri) (keyOctets : List ℕ) (space : ℕ) where
   pub refused-under : (n : ℕ) → n ≡ numberOf (fitting bits nlri keyOctets) → (n ≡ DONE → ⊥) → refused n ≡ writtenToSeven bits nlri keyOctets space
   unfolding writtenToSeven
-  refused-under n p h = stops _ n _ (refused-of _ n p h)
+  refused-under n p h = and-stops _ n _ (refused-of _ n p h)
 
   pub discarded-under : fitting bits nlri keyOctets ≡ given nlri → isDiscarded bits (structFields nlri [] []) ≡ true → refused GROUP ≡ writtenToSeven bits nlri keyOctets space
   unfolding writtenToSeven
-  discarded-under e h = goes _ _ _ _ e (sym (pick-true _ _ _ h))
+  discarded-under e h = and-goes-on _ _ _ _ e (sym (pick-true _ _ _ h))
 
   pub space-under : fitting bits nlri keyOctets ≡ given nlri → isDiscarded bits (structFields nlri [] []) ≡ false → space < sizeOf nlri (length keyOctets) → refused SPACE ≡ writtenToSeven bits nlri keyOctets space
   unfolding writtenToSeven
-  space-under e k h = goes _ _ _ _ e (sym (pick-false _ _ _ k ∙ pick-true _ _ _ (lt-ltb _ _ h)))
+  space-under e k h = and-goes-on _ _ _ _ e (sym (pick-false _ _ _ k ∙ pick-true _ _ _ (lt-ltb _ _ h)))
 
   pub given-under : fitting bits nlri keyOctets ≡ given nlri → isDiscarded bits (structFields nlri [] []) ≡ false → sizeOf nlri (length keyOctets) ≤ space → given (nlriOctets nlri keyOctets) ≡ writtenToSeven bits nlri keyOctets space
   unfolding writtenToSeven
-  given-under e k h = goes _ _ _ _ e (sym (pick-false _ _ _ k ∙ pick-false _ _ _ (le-ltb _ _ h)))
+  given-under e k h = and-goes-on _ _ _ _ e (sym (pick-false _ _ _ k ∙ pick-false _ _ _ (le-ltb _ _ h)))
 
 -- a key that the writer takes is short
 pub key-short : (bits : ℕ) (keyOctets : List ℕ) → (bits ≡ 32) ⊎ (bits ≡ 128) → isKey bits 4 keyOctets ≡ true → length keyOctets ≤ 60

@@ -52,13 +52,13 @@ unfolding andThen
 and-refused n f = refl
 
 -- the same, with `andThen` where a contract has it
-pub goes : {A B : Type 0} (r : Outcome B) (o : Outcome A) (a : A) (next : A → Outcome B) → o ≡ given a → r ≡ next a → r ≡ andThen o next
+pub and-goes-on : {A B : Type 0} (r : Outcome B) (o : Outcome A) (a : A) (next : A → Outcome B) → o ≡ given a → r ≡ next a → r ≡ andThen o next
 unfolding andThen
-goes r o a next p q = rw p q
+and-goes-on r o a next p q = rw p q
 
-pub stops : {A B : Type 0} (o : Outcome A) (n : ℕ) (next : A → Outcome B) → o ≡ refused n → refused n ≡ andThen o next
+pub and-stops : {A B : Type 0} (o : Outcome A) (n : ℕ) (next : A → Outcome B) → o ≡ refused n → refused n ≡ andThen o next
 unfolding andThen
-stops o n next p = rw p
+and-stops o n next p = rw p
 
 pub and-assoc : {A B C : Type 0} (o : Outcome A) (f : A → Outcome B) (g : B → Outcome C) → andThen (andThen o f) g ≡ andThen o (λ a. andThen (f a) g)
 unfolding andThen

@@ -17,7 +17,7 @@ use Rattle.octets.proofs.Choice.{tested, pick-true, pick-false, pick-case, eith
 use Rattle.runs.specs.Modes.{isSkipped}
 use Rattle.pieces.specs.declared.state.Pieces.{Pieces}
 use Rattle.pieces.specs.declared.feeding.Fed.{Fed}
-use Rattle.pieces.specs.Feeding.{READING, STOPPED, AfterFeed, passedOf, longOf, countedOf, overOf, sizeIn, wantedOf, shareOf, numberUnder, keptOf, readOf, skippedOf, stoppedOf, judgedOf, settledOf, takenOf, readOnOf, feedOf, Within}
+use Rattle.pieces.specs.Feeding.{READING, STOPPED, FeedAnswer, passedOf, longOf, countedOf, overOf, sizeIn, wantedOf, shareOf, numberUnder, keptOf, readOf, skippedOf, stoppedOf, judgedOf, settledOf, takenOf, readOnOf, feedOf, Within}
 use Rattle.pieces.specs.Rules.PiecesRule.{LentAfter}
 use Rattle.pieces.proofs.Sizes.{size-known, size-least, size-most, length-together, take-together}
 
@@ -127,7 +127,7 @@ size-wanted p unfinished piece wanted share =
     pick-case is _ _ _ (λ _. omega arith) (λ _. pick-case is _ _ _ (λ _. omega arith) (λ _. pick-case is _ _ _ (λ _. omega arith) (λ _. omega arith)))
 
 -- what holds in every case of a feed
-pub feed-case : (P : AfterFeed → Type 0) (p : Pieces) (unfinished piece : List ℕ) → ((q : Pieces) → P (passedOf q unfinished piece))
+pub feed-case : (P : FeedAnswer → Type 0) (p : Pieces) (unfinished piece : List ℕ) → ((q : Pieces) → P (passedOf q unfinished piece))
     → (p .stage ≡ READING → overOf p (length piece) ≡ false → P (readOnOf p unfinished piece)) → P (feedOf p unfinished piece)
 unfolding feedOf
 feed-case P p unfinished piece passes reads =
@@ -138,7 +138,7 @@ feed-case P p unfinished piece passes reads =
 pub taken-most : (p : Pieces) (unfinished piece : List ℕ) → feedOf p unfinished piece .answer .taken ≤ length piece
 unfolding readOnOf
 taken-most p unfinished piece =
-    feed-case (λ (a : AfterFeed). a .answer .taken ≤ length piece) p unfinished piece (λ _. omega arith)
+    feed-case (λ (a : FeedAnswer). a .answer .taken ≤ length piece) p unfinished piece (λ _. omega arith)
     (λ _ _.
     let wanted : ℕ = wantedOf (p .kept) unfinished piece in
     let share : ℕ = shareOf wanted (p .kept) (length piece) in
@@ -148,7 +148,7 @@ taken-most p unfinished piece =
 pub taken-some : (p : Pieces) (unfinished piece : List ℕ) → length unfinished ≡ 257 → p .kept < 2 + getD unfinished 1 0 → 0 < length piece → 0 < feedOf p unfinished piece .answer .taken
 unfolding readOnOf wantedOf
 taken-some p unfinished piece room more some =
-    feed-case (λ (a : AfterFeed). 0 < a .answer .taken) p unfinished piece (λ _. some)
+    feed-case (λ (a : FeedAnswer). 0 < a .answer .taken) p unfinished piece (λ _. some)
     (λ _ o.
     let kept : ℕ = p .kept in
     let all : List ℕ = take kept unfinished ++ piece in
@@ -165,14 +165,14 @@ taken-some p unfinished piece room more some =
 pub taken-ends : (p : Pieces) (unfinished piece : List ℕ) → (feedOf p unfinished piece .answer .taken ≡ length piece → ⊥) → feedOf p unfinished piece .answer .pieces .kept ≡ 0
 unfolding readOnOf
 taken-ends p unfinished piece =
-    let ends : AfterFeed → Type 0 = λ a. (a .answer .taken ≡ length piece → ⊥) → a .answer .pieces .kept ≡ 0 in
+    let ends : FeedAnswer → Type 0 = λ a. (a .answer .taken ≡ length piece → ⊥) → a .answer .pieces .kept ≡ 0 in
     feed-case ends p unfinished piece (λ _ short. absurd (short refl))
     (λ _ _.
     let wanted : ℕ = wantedOf (p .kept) unfinished piece in
     let share : ℕ = shareOf wanted (p .kept) (length piece) in
     tested (ltb (p .kept + length piece) wanted)
     (λ t short. absurd (short (taken-share p unfinished piece wanted share ∙ share-all wanted (p .kept) (length piece) (ltb-true _ _ t))))
-    (λ f short. ap (λ (a : AfterFeed). a .answer .pieces .kept) (taken-judged p unfinished piece wanted share (ltb-false _ _ f)) ∙ judged-kept p _ wanted share))
+    (λ f short. ap (λ (a : FeedAnswer). a .answer .pieces .kept) (taken-judged p unfinished piece wanted share (ltb-false _ _ f)) ∙ judged-kept p _ wanted share))
 
 -- the lent octets after a feed
 pub lent-after : (p : Pieces) (unfinished piece : List ℕ) → length unfinished ≡ 257 → LentAfter p unfinished piece (feedOf p unfinished piece)
@@ -195,7 +195,7 @@ lent-after p unfinished piece room =
 pub given-most : (p : Pieces) (unfinished piece : List ℕ) → AllOctets unfinished → AllOctets piece → feedOf p unfinished piece .answer .size ≤ 257
 unfolding readOnOf wantedOf
 given-most p unfinished piece lent handed =
-    feed-case (λ (a : AfterFeed). a .answer .size ≤ 257) p unfinished piece (λ _. omega arith)
+    feed-case (λ (a : FeedAnswer). a .answer .size ≤ 257) p unfinished piece (λ _. omega arith)
     (λ _ _.
     let wanted : ℕ = wantedOf (p .kept) unfinished piece in
     omega (arith, size-wanted p unfinished piece wanted (shareOf wanted (p .kept) (length piece)), size-most (take (p .kept) unfinished ++ piece) (octets-append (octets-take (p .kept) lent) handed)))
@@ -247,7 +247,7 @@ feed-front-reads p unfinished piece room going o r =
     let wanted : ℕ = wantedOf (p .kept) unfinished piece in
     let share : ℕ = shareOf wanted (p .kept) (length piece) in
     let is = feed-reads p unfinished piece going o r in
-    let taken : feedOf p unfinished piece .answer .taken ≡ share = ap (λ (a : AfterFeed). a .answer .taken) is ∙ taken-share p unfinished piece wanted share in
+    let taken : feedOf p unfinished piece .answer .taken ≡ share = ap (λ (a : FeedAnswer). a .answer .taken) is ∙ taken-share p unfinished piece wanted share in
     let len : length (take share piece) ≡ share = length-take-le share piece (share-most wanted (p .kept) (length piece)) in
     let few = share-most wanted (p .kept) (length piece) in
     let o′ : overOf p (length (take share piece)) ≡ false = not-over p _ (record { total = omega (arith, within .total); count = within .count; skipped = within .skipped; kept = within .kept }) in
@@ -264,7 +264,7 @@ feed-front p unfinished piece room =
     (λ s. passing (countedOf p (length piece)) (feed-counts p unfinished piece going o (eqb-false _ _ s)))))
   where
     passing : (q : Pieces) → feedOf p unfinished piece ≡ passedOf q unfinished piece → feedOf p unfinished (take (feedOf p unfinished piece .answer .taken) piece) ≡ feedOf p unfinished piece
-    passing q e = ap (feedOf p unfinished) (ap (λ (a : AfterFeed). take (a .answer .taken) piece) e ∙ take-all (length piece) piece (omega arith))
+    passing q e = ap (feedOf p unfinished) (ap (λ (a : FeedAnswer). take (a .answer .taken) piece) e ∙ take-all (length piece) piece (omega arith))
 
     reading : p .stage ≤ STOPPED → overOf p (length piece) ≡ false → p .stage ≡ READING → feedOf p unfinished (take (feedOf p unfinished piece .answer .taken) piece) ≡ feedOf p unfinished piece
     reading going o r = feed-front-reads p unfinished piece room going o r

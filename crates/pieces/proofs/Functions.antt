@@ -15,7 +15,7 @@ use Rattle.octets.proofs.Choice.{skips, either-left, either-last}
 use Rattle.runs.specs.declared.walking.Walked.{Walked}
 use Rattle.pieces.specs.declared.state.Pieces.{Pieces}
 use Rattle.pieces.specs.declared.feeding.Fed.{Fed}
-use Rattle.pieces.specs.Feeding.{FINISHED, answerAtEnd, finishOf, AfterFeed, passedOf, overOf, wantedOf, shareOf, numberUnder, judgedOf, settledOf, takenOf, readOnOf}
+use Rattle.pieces.specs.Feeding.{FINISHED, answerAtEnd, finishOf, FeedAnswer, passedOf, overOf, wantedOf, shareOf, numberUnder, judgedOf, settledOf, takenOf, readOnOf}
 use Rattle.pieces.proofs.Sizes.{length-together, size-few, size-known}
 use Rattle.pieces.proofs.Feeds.{over-total, share-rest}
 
@@ -95,10 +95,10 @@ settle-whole p unfinished s size wanted share n fed h cut is e =
     skips _ _ _ _ (le-ltb (p .kept + size) wanted h) (e ∙ ap (λ (m : ℕ). judgedOf p m wanted share) (is ∙ ap (numberUnder (p .afi)) cut))
 
 -- the answer of a feed, and the lent octets afterwards
-pub answers-as : (fed : Fed) (after : List ℕ) (a b : AfterFeed) → b ≡ a → Leaves a fed after → Leaves b fed after
-answers-as fed after a b e h = (h .0 ∙ sym (ap (λ (x : AfterFeed). x .answer) e), h .1 ∙ sym (ap (λ (x : AfterFeed). x .octets) e))
+pub answers-as : (fed : Fed) (after : List ℕ) (a b : FeedAnswer) → b ≡ a → Leaves a fed after → Leaves b fed after
+answers-as fed after a b e h = (h .0 ∙ sym (ap (λ (x : FeedAnswer). x .answer) e), h .1 ∙ sym (ap (λ (x : FeedAnswer). x .octets) e))
 
-pub passes-as : (unfinished piece : List ℕ) (p q : Pieces) (fed : Fed) (b : AfterFeed) → b ≡ passedOf p unfinished piece → fed ≡ record { pieces = q; taken = length piece; size = 0 } → q ≡ p → Leaves b fed unfinished
+pub passes-as : (unfinished piece : List ℕ) (p q : Pieces) (fed : Fed) (b : FeedAnswer) → b ≡ passedOf p unfinished piece → fed ≡ record { pieces = q; taken = length piece; size = 0 } → q ≡ p → Leaves b fed unfinished
 passes-as unfinished piece p q fed b is e s =
     answers-as fed unfinished (passedOf p unfinished piece) b is (e ∙ ap (λ (x : Pieces). record { pieces = x; taken = length piece; size = 0 }) s, refl)
 

@@ -28,7 +28,7 @@ use Rattle.runs.proofs.Turns.{never-skipped, turn-reads, turn-skips, turn-stops
 use Rattle.runs.proofs.Going.{Going, going-last, going-refused, going-read, going-skipped}
 use Rattle.runs.proofs.Theorems.{stepRule}
 use Rattle.pieces.specs.declared.feeding.Fed.{Fed}
-use Rattle.pieces.specs.Feeding.{READING, STOPPED, AfterFeed, answerAtEnd, passedOf, countedOf, sizeIn, wantedOf, shareOf, numberUnder, keptOf, judgedOf, takenOf, readOnOf, Within}
+use Rattle.pieces.specs.Feeding.{READING, STOPPED, FeedAnswer, answerAtEnd, passedOf, countedOf, sizeIn, wantedOf, shareOf, numberUnder, keptOf, judgedOf, takenOf, readOnOf, Within}
 use Rattle.pieces.specs.Handing.{Caller, givenBy, fedBy, afterFeed}
 use Rattle.pieces.proofs.Sizes.{size-known, size-least, size-most, size-grows, layout-alone, layout-short, whole-not-short}
 use Rattle.pieces.proofs.Feeds.{not-over, feed-reads, feed-counts, share-rest, share-some, taken-kept, taken-judged, judged-read, judged-skipped, judged-stopped, taken-share}
@@ -101,7 +101,7 @@ module _ (afi mode bits : ℕ) (run : List ℕ) (octets : AllOctets run) where
 
       pub shares : fedBy c piece .answer .taken ≡ shareOf (sizeIn (front-of c ++ piece)) (c .pieces .kept) (length piece)
       unfolding readOnOf wantedOf
-      shares = ap (λ (a : AfterFeed). a .answer .taken) reads ∙ taken-share (c .pieces) (c .unfinished) piece (sizeIn (front-of c ++ piece)) (shareOf (sizeIn (front-of c ++ piece)) (c .pieces .kept) (length piece))
+      shares = ap (λ (a : FeedAnswer). a .answer .taken) reads ∙ taken-share (c .pieces) (c .unfinished) piece (sizeIn (front-of c ++ piece)) (shareOf (sizeIn (front-of c ++ piece)) (c .pieces .kept) (length piece))
 
     pub wants-more : (piece : List ℕ) → c .pieces .kept < sizeIn (front-of c ++ piece)
     wants-more piece = omega (arith, size-grows (front-of c) piece (omega (arith, length-front, r .part-way)), length-front)
@@ -158,7 +158,7 @@ module _ (afi mode bits : ℕ) (run : List ℕ) (octets : AllOctets run) where
         let is : fedBy c piece ≡ record { answer = keptOf (c .pieces) (length piece); octets = filled } =
         takes ∙ taken-kept (c .pieces) (c .unfinished) piece (sizeIn nlri) (length piece) h
         ∙ ap (λ (l : List ℕ). record { answer = keptOf (c .pieces) (length piece); octets = placed (c .pieces .kept) l (c .unfinished) }) whole-piece in
-        subst (λ (a : AfterFeed). Means afi mode bits run rest (afterFeed c a)) (sym is)
+        subst (λ (a : FeedAnswer). Means afi mode bits run rest (afterFeed c a)) (sym is)
         (inl
         (record {
           family = r .family;
@@ -259,7 +259,7 @@ module _ (afi mode bits : ℕ) (run : List ℕ) (octets : AllOctets run) where
           let nlris : (o : ℕ) → List ℕ → List NlriRead = λ o l. record { offset = o; octets = l } ∷ [] in
           let given-it : pick (eqb n 0) [] (nlris (next - n) (take n filled)) ≡ nlris offset (part run offset (next - offset)) =
           pick-false _ _ _ (ne-eqb n 0 (λ z. omega (arith, two))) ∙ ap₂ nlris began (sym octets-are) in
-          subst (λ (a : AfterFeed). Means afi mode bits run rest (afterFeed c a)) (sym (judges _ (judged-read (c .pieces) _ n (length piece) done)))
+          subst (λ (a : FeedAnswer). Means afi mode bits run rest (afterFeed c a)) (sym (judges _ (judged-read (c .pieces) _ n (length piece) done)))
           (moves-on (count + 1) skipped _
           (going-read afi mode bits run offset count skipped (r .going) before (drop offset run) refl DONE (sym done ∙ number-stands) refl next next-is (count + 1) skipped refl refl)
           (r .told ∙ ap (λ (l : List NlriRead). c .nlris ++ l) (nlrisByFrom-read afi run offset mode (length run - (count + skipped)) (read .0) _ (turn-reads afi run offset mode (read .0) next step))
@@ -281,7 +281,7 @@ module _ (afi mode bits : ℕ) (run : List ℕ) (octets : AllOctets run) where
             let number : ℕ = numberUnder afi nlri in
             let turn : turnFrom afi mode run offset ≡ Skipped (record { at = next }) =
             turn-skips afi run offset mode number (stops-refusedAt number offset step-refused) t ∙ ap (λ (k : ℕ). Skipped (record { at = k })) (sym next-is) in
-            subst (λ (a : AfterFeed). Means afi mode bits run rest (afterFeed c a)) (sym (judges _ (judged-skipped (c .pieces) number n (length piece) other (ap (λ (m : ℕ). isSkipped m number) (r .by-mode) ∙ t))))
+            subst (λ (a : FeedAnswer). Means afi mode bits run rest (afterFeed c a)) (sym (judges _ (judged-skipped (c .pieces) number n (length piece) other (ap (λ (m : ℕ). isSkipped m number) (r .by-mode) ∙ t))))
             (moves-on count (skipped + 1) _
             (going-skipped afi mode bits run offset count skipped (r .going) before (drop offset run) refl number number-stands t next next-is count (skipped + 1) refl refl)
             (r .told ∙ ap (λ (l : List NlriRead). c .nlris ++ l) (nlrisByFrom-skipped afi run offset mode (length run - (count + skipped)) _ turn)
@@ -294,7 +294,7 @@ module _ (afi mode bits : ℕ) (run : List ℕ) (octets : AllOctets run) where
             let offset : ℕ = c .pieces .walked .offset in
             let number : ℕ = numberUnder afi nlri in
             let few = within-reading (piece ++ rest) c r 0 (omega arith) in
-            subst (λ (a : AfterFeed). Means afi mode bits run rest (afterFeed c a)) (sym (judges _ (judged-stopped (c .pieces) number n (length piece) other (ap (λ (m : ℕ). isSkipped m number) (r .by-mode) ∙ f))))
+            subst (λ (a : FeedAnswer). Means afi mode bits run rest (afterFeed c a)) (sym (judges _ (judged-stopped (c .pieces) number n (length piece) other (ap (λ (m : ℕ). isSkipped m number) (r .by-mode) ∙ f))))
             (inr
             (record {
               stage = refl;
@@ -341,7 +341,7 @@ module _ (afi mode bits : ℕ) (run : List ℕ) (octets : AllOctets run) where
   unfolding afterFeed givenBy pick
   fed-stopped piece rest c s =
       let sum = length-append piece rest in
-      subst (λ (a : AfterFeed). Means afi mode bits run rest (afterFeed c a)) (sym (counts-stopped piece rest c s))
+      subst (λ (a : FeedAnswer). Means afi mode bits run rest (afterFeed c a)) (sym (counts-stopped piece rest c s))
       (inr
       (record {
         stage = refl;
@@ -367,7 +367,7 @@ module _ (afi mode bits : ℕ) (run : List ℕ) (octets : AllOctets run) where
   pub progress : (piece : List ℕ) (c : Caller) → Means afi mode bits run piece c → 0 < length piece → 0 < fedBy c piece .answer .taken
   progress piece c m some =
       ⊎-elim (λ r. progress-reading piece c r some)
-      (λ s. omega (arith, ap (λ (a : AfterFeed). a .answer .taken) (counts-stopped piece [] c (subst (λ (l : List ℕ). Stopped afi mode run l c) (sym (append-nil piece)) s)))) m
+      (λ s. omega (arith, ap (λ (a : FeedAnswer). a .answer .taken) (counts-stopped piece [] c (subst (λ (l : List ℕ). Stopped afi mode run l c) (sym (append-nil piece)) s)))) m
 
   -- the walk at the end of the run
   ended-by : (c : Caller) (r : Reading afi mode bits run [] c) (n : ℕ) → pick (eqb (c .pieces .kept) 0) DONE SHORT ≡ n → walkedWith n (c .pieces .walked .count) (c .pieces .walked .offset) (c .pieces .walked .skipped) ≡ walkBy afi mode run

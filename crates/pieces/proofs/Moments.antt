@@ -21,7 +21,7 @@ use Rattle.runs.specs.Walking.{walkedTo}
 use Rattle.runs.specs.Modes.{nlrisByFrom, nlrisBy}
 use Rattle.runs.proofs.Going.{going-first}
 use Rattle.pieces.specs.declared.state.Pieces.{Pieces}
-use Rattle.pieces.specs.Feeding.{READING, STOPPED, FINISHED, AfterFeed, startedAs, startOf, longOf, passedOf}
+use Rattle.pieces.specs.Feeding.{READING, STOPPED, FINISHED, FeedAnswer, startedAs, startOf, longOf, passedOf}
 use Rattle.pieces.specs.Handing.{Caller, startedWith, givenBy, fedBy, afterFeed, feedPiece, feedPieces, joined, Moment, first, next}
 use Rattle.pieces.proofs.Sizes.{size-least}
 use Rattle.pieces.proofs.Feeds.{over-total, feed-finished, feed-over, taken-most, feed-front}
@@ -77,12 +77,12 @@ fed-over afi mode bits run c o held piece many =
 
 long-after : (c : Caller) (piece : List ℕ) → fedBy c piece ≡ passedOf (longOf (c .pieces)) (c .unfinished) piece → Long (afterFeed c (fedBy c piece) .pieces)
 unfolding afterFeed
-long-after c piece is = subst (λ (a : AfterFeed). Long (a .answer .pieces)) (sym is) (record { stage = refl; total = refl; walked = refl })
+long-after c piece is = subst (λ (a : FeedAnswer). Long (a .answer .pieces)) (sym is) (record { stage = refl; total = refl; walked = refl })
 
 held-long : (afi mode bits : ℕ) (run : List ℕ) (c : Caller) (piece : List ℕ) → fedBy c piece ≡ passedOf (longOf (c .pieces)) (c .unfinished) piece → 4096 < length run + length piece
     → Held afi mode bits (run ++ take (fedBy c piece .answer .taken) piece) (afterFeed c (fedBy c piece))
 held-long afi mode bits run c piece is h =
-    let same : run ++ take (fedBy c piece .answer .taken) piece ≡ run ++ piece = ap (λ (a : AfterFeed). run ++ take (a .answer .taken) piece) is ∙ ap (λ (l : List ℕ). run ++ l) (take-all (length piece) piece (omega arith)) in
+    let same : run ++ take (fedBy c piece .answer .taken) piece ≡ run ++ piece = ap (λ (a : FeedAnswer). run ++ take (a .answer .taken) piece) is ∙ ap (λ (l : List ℕ). run ++ l) (take-all (length piece) piece (omega arith)) in
     record { short = λ few. absurd (omega (arith, ap length same, length-append run piece)); over = λ _. long-after c piece is }
 
 held-short : (afi mode bits : ℕ) (run : List ℕ) (c : Caller) (piece : List ℕ) → length (c .unfinished) ≡ 257 → Sound afi mode bits run c → length run + length piece ≤ 4096
@@ -92,14 +92,14 @@ held-short afi mode bits run c piece room s h =
     let front : List ℕ = take taken piece in
     let len : length front ≡ taken = length-take-le taken piece (taken-most (c .pieces) (c .unfinished) piece) in
     let same : fedBy c front ≡ fedBy c piece = feed-front (c .pieces) (c .unfinished) piece room in
-    let all : fedBy c front .answer .taken ≡ length front = ap (λ (a : AfterFeed). a .answer .taken) same ∙ sym len in
+    let all : fedBy c front .answer .taken ≡ length front = ap (λ (a : FeedAnswer). a .answer .taken) same ∙ sym len in
     record {
       short = λ _ rest o few.
           let e = append-assoc run front rest in
           let o′ : AllOctets (run ++ (front ++ rest)) = subst AllOctets e o in
           let means = fed afi mode bits (run ++ (front ++ rest)) o′ front rest c (s (front ++ rest) o′ (omega (arith, ap length e))) all in
           subst (λ (w : List ℕ). Means afi mode bits w rest (afterFeed c (fedBy c piece))) (sym e)
-          (subst (λ (a : AfterFeed). Means afi mode bits (run ++ (front ++ rest)) rest (afterFeed c a)) same means);
+          (subst (λ (a : FeedAnswer). Means afi mode bits (run ++ (front ++ rest)) rest (afterFeed c a)) same means);
       over = λ many. absurd (omega (arith, length-append run front, taken-most (c .pieces) (c .unfinished) piece));
     }
 
@@ -159,7 +159,7 @@ module _ (afi mode n : ℕ) (bad : familyBits afi ≡ refused n) where
   refused-moment (first unfinished room) = record { stays = refl; gave = refl }
   refused-moment (next {run} {c} m piece o) =
       let r = refused-moment m in
-      subst (λ (a : AfterFeed). Refused afi mode (afterFeed c a)) (sym (fed-refused c piece r)) (record { stays = r .stays; gave = append-nil (c .nlris) ∙ r .gave })
+      subst (λ (a : FeedAnswer). Refused afi mode (afterFeed c a)) (sym (fed-refused c piece r)) (record { stays = r .stays; gave = append-nil (c .nlris) ∙ r .gave })
 
 -- some octets are taken of a piece that has some
 pub takes-some : {afi mode : ℕ} {run : List ℕ} {c : Caller} → Moment afi mode run c → (piece : List ℕ) → AllOctets piece → 0 < length piece → 0 < fedBy c piece .answer .taken
@@ -176,7 +176,7 @@ takes-some {afi} {mode} {run} {c} m piece o some =
     (outcome (familyBits afi))
   where
     passes : (q : Pieces) → fedBy c piece ≡ passedOf q (c .unfinished) piece → 0 < fedBy c piece .answer .taken
-    passes q e = omega (arith, ap (λ (a : AfterFeed). a .answer .taken) e)
+    passes q e = omega (arith, ap (λ (a : FeedAnswer). a .answer .taken) e)
 
 -- the loop over a piece
 moment-piece : {afi mode : ℕ} (left : ℕ) {run : List ℕ} {c : Caller} → Moment afi mode run c → (piece : List ℕ) → AllOctets piece → length piece < left → Moment afi mode (run ++ piece) (feedPiece left c piece)

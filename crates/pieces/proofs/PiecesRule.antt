@@ -20,7 +20,7 @@ use Rattle.runs.proofs.Steps.{stops-refusedAt, step-family}
 use Rattle.runs.proofs.Turns.{never-skipped, turn-stops, nlrisByFrom-stopped}
 use Rattle.runs.proofs.Going.{walk-family, walk-long}
 use Rattle.pieces.specs.declared.state.Pieces.{Pieces}
-use Rattle.pieces.specs.Feeding.{READING, STOPPED, FINISHED, AfterFeed, startedAs, answerAtEnd, finishOf, passedOf, longOf, countedOf, overOf, feedOf}
+use Rattle.pieces.specs.Feeding.{READING, STOPPED, FINISHED, FeedAnswer, startedAs, answerAtEnd, finishOf, passedOf, longOf, countedOf, overOf, feedOf}
 use Rattle.pieces.specs.Handing.{Caller, Moment, first}
 use Rattle.pieces.specs.Rules.PiecesRule.{PiecesClaim, TakenWhole, AtMoment, PiecesRule}
 use Rattle.pieces.proofs.Feeds.{taken-most, taken-some, taken-ends, lent-after, given-most, feed-finished, feed-over, feed-counts, feed-front}
@@ -40,8 +40,8 @@ end-reading p stage =
     is ∙ ap (λ (w : Walked). walkedWith (w .number) (p .walked .count) (p .walked .offset) (p .walked .skipped)) (sym is)
 
 -- an answer that passes a piece takes it whole
-passed-whole : (q : Pieces) (unfinished piece : List ℕ) (a : AfterFeed) → a ≡ passedOf q unfinished piece → TakenWhole unfinished piece a
-passed-whole q unfinished piece a e = record { none = ap (λ (x : AfterFeed). x .answer .size) e; all = ap (λ (x : AfterFeed). x .answer .taken) e; lent = ap (λ (x : AfterFeed). x .octets) e }
+passed-whole : (q : Pieces) (unfinished piece : List ℕ) (a : FeedAnswer) → a ≡ passedOf q unfinished piece → TakenWhole unfinished piece a
+passed-whole q unfinished piece a e = record { none = ap (λ (x : FeedAnswer). x .answer .size) e; all = ap (λ (x : FeedAnswer). x .answer .taken) e; lent = ap (λ (x : FeedAnswer). x .octets) e }
 
 -- under a family
 module _ (afi mode bits : ℕ) (ofFamily : familyBits afi ≡ given bits) (run : List ℕ) (c : Caller) (m : Moment afi mode run c) where
@@ -99,7 +99,7 @@ module _ (afi mode bits : ℕ) (ofFamily : familyBits afi ≡ given bits) (run :
         keeps = keeps-known;
         passes = λ _ piece many.
             let is = fed-over afi mode bits run c (octets-moment m) state piece many in
-            (passed-whole (longOf (c .pieces)) (c .unfinished) piece _ is, ap (λ (a : AfterFeed). a .answer .pieces .walked) is);
+            (passed-whole (longOf (c .pieces)) (c .unfinished) piece _ is, ap (λ (a : FeedAnswer). a .answer .pieces .walked) is);
         refuses = λ one two _. absurd (never ofFamily (family-refuses afi one two));
         goes = takes-some m;
       }
@@ -144,7 +144,7 @@ module _ (afi mode n : ℕ) (bad : familyBits afi ≡ refused n) (run : List ℕ
         passes = λ good _ _. absurd (unknown good);
         refuses = λ _ _ piece.
             let is = fed-refused afi mode n bad c piece refusal in
-            (passed-whole (c .pieces) (c .unfinished) piece _ is, ap (λ (a : AfterFeed). a .answer .pieces .walked) is ∙ ends);
+            (passed-whole (c .pieces) (c .unfinished) piece _ is, ap (λ (a : FeedAnswer). a .answer .pieces .walked) is ∙ ends);
         goes = takes-some m;
       }
 
@@ -161,7 +161,7 @@ stays p unfinished piece stage =
     (λ o. passes (countedOf p (length piece)) (feed-counts p unfinished piece (omega arith) o (λ z. omega arith)) refl)
   where
     passes : (q : Pieces) → feedOf p unfinished piece ≡ passedOf q unfinished piece → q .stage ≡ STOPPED → TakenWhole unfinished piece (feedOf p unfinished piece) × (feedOf p unfinished piece .answer .pieces .stage ≡ STOPPED)
-    passes q e s = (passed-whole q unfinished piece _ e, ap (λ (a : AfterFeed). a .answer .pieces .stage) e ∙ s)
+    passes q e s = (passed-whole q unfinished piece _ e, ap (λ (a : FeedAnswer). a .answer .pieces .stage) e ∙ s)
 
 again : (p : Pieces) → finishOf (finishOf p) ≡ finishOf p
 again p = ap (λ (w : Walked). record { walked = w; afi = p .afi; mode = p .mode; stage = FINISHED; total = p .total; kept = p .kept }) (end-stopped (finishOf p) (λ z. omega arith))
@@ -180,7 +180,7 @@ piecesRule =
       lent = lent-after;
       fits = given-most;
       stopped = stays;
-      finished = λ p unfinished piece. let is = feed-finished (finishOf p) unfinished piece (omega arith) in (passed-whole (finishOf p) unfinished piece _ is, ap (λ (a : AfterFeed). a .answer .pieces) is);
+      finished = λ p unfinished piece. let is = feed-finished (finishOf p) unfinished piece (omega arith) in (passed-whole (finishOf p) unfinished piece _ is, ap (λ (a : FeedAnswer). a .answer .pieces) is);
       again = again;
       rest = feed-front;
     }

@@ -12,7 +12,7 @@ use Rattle.octets.specs.Numbers.{SHORT, TYPE, GROUP}
 use Rattle.octets.specs.Outcome.{Outcome, given, refused, andThen}
 use Rattle.octets.specs.Octets.{AllOctets, part}
 use Rattle.octets.specs.Choice.{pick}
-use Rattle.octets.proofs.Outcome.{stops, and-cong}
+use Rattle.octets.proofs.Outcome.{and-stops, and-cong}
 use Rattle.octets.proofs.Choice.{tested, pick-true, pick-false}
 use Rattle.octets.proofs.AllOctets.{octet-at}
 use Rattle.nlri.specs.Bodies.{bodies, onBody, fieldIn}
@@ -112,7 +112,7 @@ pub layout-short : (bits : ℕ) (s : List ℕ) → length s < sizeIn s → layou
 unfolding acceptedAt laidAt laidWith
 layout-short bits s h =
     layout-refused bits s SHORT
-    (sym (stops _ _ _ (tested (ltb (length s) 2) (λ t. pick-true _ _ _ t)
+    (sym (and-stops _ _ _ (tested (ltb (length s) 2) (λ t. pick-true _ _ _ t)
     (λ f. pick-false _ _ _ f ∙ pick-true _ _ _ (lt-ltb (length s - 2) (getD s 1 0) (omega (arith, ltb-false (length s) 2 f, size-known s (ltb-false _ _ f))))))))
 
 pub whole-not-short : (bits : ℕ) (s : List ℕ) (n : ℕ) → sizeIn s ≤ length s → FrontRefusal bits s n → n ≡ SHORT → ⊥

@@ -46,11 +46,11 @@ abbrev pub finishOf : Pieces → Pieces
 finishOf p = record { walked = answerAtEnd p; afi = p .afi; mode = p .mode; stage = FINISHED; total = p .total; kept = p .kept }
 
 -- what a feed answers, and the lent octets afterwards
-abbrev pub AfterFeed : Type 0
-AfterFeed = Changed Fed
+abbrev pub FeedAnswer : Type 0
+FeedAnswer = Changed Fed
 
 -- all of a piece is taken, no NLRI is given, and the lent octets stay
-abbrev pub passedOf : Pieces → (unfinished piece : List ℕ) → AfterFeed
+abbrev pub passedOf : Pieces → (unfinished piece : List ℕ) → FeedAnswer
 passedOf p unfinished piece = record { answer = record { pieces = p; taken = length piece; size = 0 }; octets = unfinished }
 
 -- the total passed 4,096: 0, 0, LONG, and a total that stays over
@@ -122,7 +122,7 @@ settledOf p unfinished size wanted share =
     pick (ltb (p .kept + size) wanted) (keptOf p share) (judgedOf p (numberUnder (p .afi) (take wanted unfinished)) wanted share)
 
 -- while reading: the octets taken are kept behind those kept before
-unfoldable pub takenOf : Pieces → (unfinished piece : List ℕ) → (wanted share : ℕ) → AfterFeed
+unfoldable pub takenOf : Pieces → (unfinished piece : List ℕ) → (wanted share : ℕ) → FeedAnswer
 takenOf p unfinished piece wanted share =
     record {
       answer = settledOf p (placed (p .kept) (take share piece) unfinished) (length piece) wanted share;
@@ -130,12 +130,12 @@ takenOf p unfinished piece wanted share =
     }
 
 -- while reading: the octets taken go up to the end of one NLRI
-unfoldable pub readOnOf : Pieces → (unfinished piece : List ℕ) → AfterFeed
+unfoldable pub readOnOf : Pieces → (unfinished piece : List ℕ) → FeedAnswer
 readOnOf p unfinished piece =
     takenOf p unfinished piece (wantedOf (p .kept) unfinished piece) (shareOf (wantedOf (p .kept) unfinished piece) (p .kept) (length piece))
 
 -- feed: after finish the answer is repeated; then LONG, stop or no stop; then the octets are read, or after a stop counted
-unfoldable pub feedOf : Pieces → (unfinished piece : List ℕ) → AfterFeed
+unfoldable pub feedOf : Pieces → (unfinished piece : List ℕ) → FeedAnswer
 feedOf p unfinished piece =
     pick (ltb STOPPED (p .stage)) (passedOf p unfinished piece)
     (pick (overOf p (length piece)) (passedOf (longOf p) unfinished piece)

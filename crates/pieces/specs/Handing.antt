@@ -8,7 +8,7 @@ use Rattle.octets.specs.Choice.{pick}
 use Rattle.octets.specs.Octets.{AllOctets}
 use Rattle.runs.specs.Walking.{NlriRead}
 use Rattle.pieces.specs.declared.state.Pieces.{Pieces}
-use Rattle.pieces.specs.Feeding.{AfterFeed, startOf, feedOf}
+use Rattle.pieces.specs.Feeding.{FeedAnswer, startOf, feedOf}
 
 -- a caller: the reader's state, the lent octets, and the NLRIs given so far
 pub record Caller : Type 0 where
@@ -17,7 +17,7 @@ pub record Caller : Type 0 where
   pub nlris : List NlriRead
 
 -- the NLRI that an answer gives: its octets at the front of the lent ones, where it began; none where the size is 0
-unfoldable pub givenBy : AfterFeed → List NlriRead
+unfoldable pub givenBy : FeedAnswer → List NlriRead
 givenBy a =
     pick (eqb (a .answer .size) 0) []
     (record { offset = a .answer .pieces .walked .offset - a .answer .size; octets = take (a .answer .size) (a .octets) } ∷ [])
@@ -27,11 +27,11 @@ abbrev pub startedWith : (afi mode : ℕ) (unfinished : List ℕ) → Caller
 startedWith afi mode unfinished = record { pieces = startOf afi mode; unfinished = unfinished; nlris = [] }
 
 -- what a feed answers to a caller
-abbrev pub fedBy : Caller → (piece : List ℕ) → AfterFeed
+abbrev pub fedBy : Caller → (piece : List ℕ) → FeedAnswer
 fedBy c piece = feedOf (c .pieces) (c .unfinished) piece
 
 -- the caller afterwards
-unfoldable pub afterFeed : Caller → AfterFeed → Caller
+unfoldable pub afterFeed : Caller → FeedAnswer → Caller
 afterFeed c a = record { pieces = a .answer .pieces; unfinished = a .octets; nlris = c .nlris ++ givenBy a }
 
 -- a piece is fed, then its rest, until all of it is taken: in at most so many calls

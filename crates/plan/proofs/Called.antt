@@ -10,7 +10,7 @@ use Rattle.octets.specs.Numbers.{DONE}
 use Rattle.octets.specs.Choice.{pick, both}
 use Rattle.octets.specs.Outcome.{given, refused, onOutcome, numberOf}
 use Rattle.octets.proofs.Choice.{tested, both-left}
-use Rattle.octets.proofs.Outcome.{given-unless, goes, stops, refused-of, done-given}
+use Rattle.octets.proofs.Outcome.{given-unless, and-goes-on, and-stops, refused-of, done-given}
 use Rattle.lists.specs.LentLists.{Item, listCount, wholeList, listItems, readList}
 use Rattle.lists.proofs.Items.{read-list-given}
 use Rattle.plan.specs.declared.Judged.{Judged}
@@ -53,14 +53,14 @@ module _ (afi : ℕ) (vrf : Vrf) (flows : List ℕ) (within : Bool) (fault : ℕ
 module _ (afi : ℕ) (vrf : Vrf) (flows places : List ℕ) (fault : ℕ) (told : fault ≡ numberOf (readFlows afi vrf flows (leb (length places) 8192))) where
   pub judge-refused : (fault ≡ DONE → ⊥) → (r : Judged) → r ≡ judgedBy (refused fault) → r ≡ judgeOf afi vrf flows places
   unfolding judgeOf judgeOutcome
-  judge-refused d r e = e ∙ ap judgedBy (stops _ _ _ (read-refused afi vrf flows _ fault told d))
+  judge-refused d r e = e ∙ ap judgedBy (and-stops _ _ _ (read-refused afi vrf flows _ fault told d))
 
   pub judge-whole : fault ≡ DONE → wholeList 3 flows ≡ true
   judge-whole d = read-whole afi vrf flows _ fault told d
 
   pub judge-done : fault ≡ DONE → (flag : Bool) → flag ≡ acceptsPlaces afi vrf (flowsIn (listItems 3 flows)) places → (r : Judged) → r ≡ judgedBy (given flag) → r ≡ judgeOf afi vrf flows places
   unfolding judgeOf judgeOutcome
-  judge-done d flag is r e = e ∙ ap judgedBy (goes _ _ _ _ (read-flows afi vrf flows _ fault told d) (ap given is))
+  judge-done d flag is r e = e ∙ ap judgedBy (and-goes-on _ _ _ _ (read-flows afi vrf flows _ fault told d) (ap given is))
 
 pub done-yes : (flag : Bool) → flag ≡ true → record { number = DONE; accepted = 1 } ≡ judgedBy (given flag)
 unfolding judgedBy onOutcome pick

@@ -41,7 +41,7 @@ use Rattle.matches.proofs.Scans.{best-none, best-some}
 use Rattle.matches.proofs.BestRoutes.{scan-matches, scan-taken}
 use Rattle.plan.specs.Flows.{Vrf, vrfOf, ListedFlow, flowIn, flowsIn}
 use Rattle.plan.specs.Judging.{isOwn, allOwn, noRepeat, gives, matched, serves, allServed, accepts, soundPlaces, acceptsPlaces}
-use Rattle.plan.specs.Inner.{standsAs, goodPlace, goodPlaces, Proposed, BestFor, servedBy, servedIn}
+use Rattle.plan.specs.Inner.{standsAs, ownGoodPlace, goodPlaces, Proposed, BestFor, servedBy, servedIn}
 use Rattle.plan.proofs.Judges.{repeats-not}
 
 -- a sound place: its NLRI's fields stand in it, and are those that reading gives
@@ -60,12 +60,12 @@ own-stands afi vrf place sound =
     ∙ ap (λ (f : Fields). both (same (f .originator) (vrf .originator)) (same (f .distinguisher) (vrf .distinguisher))) (fields-stand afi (nlriOf (routeIn place)) (taken .fields) (taken .read))
 
 module _ (afi : ℕ) (o d place : List ℕ) (flag : Bool) (told : flag ≡ placeSound afi place) where
-  pub good-not : not flag ≡ true → false ≡ goodPlace afi o d place
-  unfolding goodPlace
+  pub good-not : not flag ≡ true → false ≡ ownGoodPlace afi o d place
+  unfolding ownGoodPlace
   good-not h = sym (both-left _ _ (flag-off _ _ told h))
 
-  pub good-is : not flag ≡ false → (r : Bool) → r ≡ standsAs o d (nlriOf (routeIn place)) → r ≡ goodPlace afi o d place
-  unfolding goodPlace
+  pub good-is : not flag ≡ false → (r : Bool) → r ≡ standsAs o d (nlriOf (routeIn place)) → r ≡ ownGoodPlace afi o d place
+  unfolding ownGoodPlace
   good-is h r e = both-last _ _ _ (flag-on _ _ told h) e
 
 pub good-readable : (afi : ℕ) (place : List ℕ) (flag : Bool) → flag ≡ placeSound afi place → not flag ≡ false → length place ≡ 128 → (endIn place ≤ length place) × Bounded (nlriOf (routeIn place))
@@ -91,17 +91,17 @@ module _ (afi : ℕ) (o d : List ℕ) (count : ℕ) (s : List ℕ) (at left : �
   pub passing-add : 0 < left → (top : ℕ) → length s < top → at + 128 < top
   passing-add more top fits = let r = p .room in omega arith
 
-  one-more : (left : ℕ) → 0 < left → goodPlaces afi o d left (drop at s) ≡ both (goodPlace afi o d (part s at 128)) (goodPlaces afi o d (left - 1) (drop (at + 128) s))
+  one-more : (left : ℕ) → 0 < left → goodPlaces afi o d left (drop at s) ≡ both (ownGoodPlace afi o d (part s at 128)) (goodPlaces afi o d (left - 1) (drop (at + 128) s))
   unfolding goodPlaces part
   one-more zero h = absurd (omega arith)
-  one-more (suc n) h = ap₂ (λ (k : ℕ) (t : List ℕ). both (goodPlace afi o d (take 128 (drop at s))) (goodPlaces afi o d k t)) (less n) (drop-drop 128 at s)
+  one-more (suc n) h = ap₂ (λ (k : ℕ) (t : List ℕ). both (ownGoodPlace afi o d (take 128 (drop at s))) (goodPlaces afi o d k t)) (less n) (drop-drop 128 at s)
     where
       less : (n : ℕ) → n ≡ suc n - 1
       less n = omega arith
 
-  module _ (more : 0 < left) (place : List ℕ) (flag : Bool) (cut : place ≡ part s at 128) (told : flag ≡ goodPlace afi o d place) where
-    here : flag ≡ goodPlace afi o d (part s at 128)
-    here = told ∙ ap (goodPlace afi o d) cut
+  module _ (more : 0 < left) (place : List ℕ) (flag : Bool) (cut : place ≡ part s at 128) (told : flag ≡ ownGoodPlace afi o d place) where
+    here : flag ≡ ownGoodPlace afi o d (part s at 128)
+    here = told ∙ ap (ownGoodPlace afi o d) cut
 
     pub passing-bad : not flag ≡ true → false ≡ goodPlaces afi o d count s
     passing-bad h = sym (p .is ∙ one-more left more ∙ both-left _ _ (flag-off _ _ here h))
@@ -206,7 +206,7 @@ own-where-sound true own stands h = sym (h refl)
 own-where-sound false own stands h = refl
 
 good-places : (afi : ℕ) (vrf : Vrf) (count : ℕ) (s : List ℕ) → goodPlaces afi (vrf .originator) (vrf .distinguisher) count s ≡ both (soundPlaces afi count s) (allOwn afi vrf (routesFrom count s))
-unfolding goodPlaces goodPlace soundPlaces allOwn routesFrom both
+unfolding goodPlaces ownGoodPlace soundPlaces allOwn routesFrom both
 good-places afi vrf zero s = refl
 good-places afi vrf (suc count) s =
     ap₂ both (own-where-sound (placeSound afi (take 128 s)) (isOwn afi vrf (routeIn (take 128 s))) _ (own-stands afi vrf (take 128 s))) (good-places afi vrf count (drop 128 s))

@@ -28,7 +28,7 @@ use Rattle.matches.specs.Scanning.{sizedFault}
 use Rattle.matches.proofs.FlowClasses.{flow-stopped, flow-taken}
 use Rattle.plan.specs.Flows.{Vrf, vrfOf, ListedFlow, flowIn, flowsIn, sameFlow, isListed}
 use Rattle.plan.specs.Commonest.{isWanted}
-use Rattle.plan.specs.Refusing.{orNext, firstFault, clashes, conflicts, vrfFault, flowFault, attributeFault, labelFault, typeFault, readFlows}
+use Rattle.plan.specs.Refusing.{orNext, firstFlowFault, clashes, conflicts, vrfFault, flowFault, attributeFault, labelFault, typeFault, readFlows}
 use Rattle.plan.proofs.Reading.{under-some}
 use Rattle.plan.specs.Inner.{flowAt, faultIn, vrfNumber, flowNumber, wantedFault, related, someRelated, Behind, conflictsIn, flowListFault}
 
@@ -62,8 +62,8 @@ flow-number-is afi p o x y f class is ex ey fault told =
     flow = flowOf p o x y
 
 -- the first fault of the items is that of their flows
-pub fault-in : (fault : ListedFlow → ℕ) (xs : List Item) → faultIn fault xs ≡ firstFault fault (flowsIn xs)
-unfolding faultIn firstFault flowsIn firstItem orNext
+pub fault-in : (fault : ListedFlow → ℕ) (xs : List Item) → faultIn fault xs ≡ firstFlowFault fault (flowsIn xs)
+unfolding faultIn firstFlowFault flowsIn firstItem orNext
 fault-in fault [] = refl
 fault-in fault (x ∷ xs) =
     tested (eqb (fault (flowIn x)) DONE)
@@ -170,23 +170,23 @@ test-typed : (f : ListedFlow) → wantedFault 2 f ≡ typeFault f
 unfolding wantedFault pick
 test-typed f = refl
 
-first-alike : (a b : ListedFlow → ℕ) → ((f : ListedFlow) → a f ≡ b f) → (fs : List ListedFlow) → firstFault a fs ≡ firstFault b fs
-unfolding firstFault
+first-alike : (a b : ListedFlow → ℕ) → ((f : ListedFlow) → a f ≡ b f) → (fs : List ListedFlow) → firstFlowFault a fs ≡ firstFlowFault b fs
+unfolding firstFlowFault
 first-alike a b h [] = refl
 first-alike a b h (f ∷ fs) = ap₂ orNext (h f) (first-alike a b h fs)
 
 module _ (r : ℕ) (xs : List Item) where
-  pub first-flow : (afi : ℕ) (p o d : List ℕ) → r ≡ faultIn (flowNumber afi p o) xs → r ≡ firstFault (flowFault afi (vrfOf p o d)) (flowsIn xs)
+  pub first-flow : (afi : ℕ) (p o d : List ℕ) → r ≡ faultIn (flowNumber afi p o) xs → r ≡ firstFlowFault (flowFault afi (vrfOf p o d)) (flowsIn xs)
   unfolding flowNumber flowFault
   first-flow afi p o d e = e ∙ fault-in (flowNumber afi p o) xs
 
-  pub first-reads : r ≡ faultIn (wantedFault 0) xs → r ≡ firstFault attributeFault (flowsIn xs)
+  pub first-reads : r ≡ faultIn (wantedFault 0) xs → r ≡ firstFlowFault attributeFault (flowsIn xs)
   first-reads e = e ∙ fault-in (wantedFault 0) xs ∙ first-alike (wantedFault 0) attributeFault test-reads (flowsIn xs)
 
-  pub first-labelled : r ≡ faultIn (wantedFault 1) xs → r ≡ firstFault labelFault (flowsIn xs)
+  pub first-labelled : r ≡ faultIn (wantedFault 1) xs → r ≡ firstFlowFault labelFault (flowsIn xs)
   first-labelled e = e ∙ fault-in (wantedFault 1) xs ∙ first-alike (wantedFault 1) labelFault test-labelled (flowsIn xs)
 
-  pub first-typed : r ≡ faultIn (wantedFault 2) xs → r ≡ firstFault typeFault (flowsIn xs)
+  pub first-typed : r ≡ faultIn (wantedFault 2) xs → r ≡ firstFlowFault typeFault (flowsIn xs)
   first-typed e = e ∙ fault-in (wantedFault 2) xs ∙ first-alike (wantedFault 2) typeFault test-typed (flowsIn xs)
 
 pub in-conflict : (flag b : Bool) → flag ≡ b → flag ≡ true → CONFLICT ≡ pick b CONFLICT DONE

@@ -23,7 +23,7 @@ use Rattle.routes.specs.Table.{placesOf}
 use Rattle.plan.specs.Flows.{Vrf, ListedFlow, flowIn, flowsIn, different}
 use Rattle.plan.specs.Commonest.{others, commonest}
 use Rattle.plan.specs.Planning.{routeFor, routesFor, wildcardFlow, planned, proposal}
-use Rattle.plan.specs.Inner.{flowAt, someRelated, Behind, standsOut, placeFor, RouteSized, VrfSized, FlowSized, AllSized, ownPlace, ownPlaces, allPlaces, Room}
+use Rattle.plan.specs.Inner.{flowAt, someRelated, Behind, standsOut, placeFor, RouteSized, VrfSized, FlowSized, AllSized, ownPlace, ownPlaces, allPlaces, RoomFor}
 use Rattle.lists.proofs.Items.{list-items-count}
 use Rattle.plan.proofs.Counts.{commonest-wanted, different-among, others-among, routes-length}
 use Rattle.plan.proofs.Loops.{related-listed}
@@ -61,7 +61,7 @@ module _ (d o a : List ℕ) (f : ListedFlow) (rest : List Item) (flag : Bool) (t
     unfolding ownPlace
     own-some = pick-true _ _ _ (flag-on _ _ told on)
 
-    pub own-room : (at : ℕ) (output : List ℕ) → Room at (ownPlace d o a f rest) output → VrfSized d o → FlowSized f → at + 128 ≤ length output
+    pub own-room : (at : ℕ) (output : List ℕ) → RoomFor at (ownPlace d o a f rest) output → VrfSized d o → FlowSized f → at + 128 ≤ length output
     own-room at output room v z =
         omega (arith, ap length own-some, length-place-for d o (f .source) (f .group) (f .wanted) (flow-route d o _ _ _ f v z refl refl refl), room)
 
@@ -76,11 +76,11 @@ walk left t w = going-from 3 (λ xs. xs) left t w
 pub record Putting (d o a : List ℕ) (flows before : List ℕ) (start : ℕ) (output : List ℕ) (end left : ℕ) (t : List ℕ) : Type 0 where
   pub whole : wholeItems 3 left t ≡ true
   pub completes : (last : ℕ) (after : List ℕ) → Put end (ownPlaces d o a (frontItems 3 left t)) output last after → Put start (ownPlaces d o a (listItems 3 flows)) before last after
-  pub room : Room end (ownPlaces d o a (frontItems 3 left t)) output
+  pub room : RoomFor end (ownPlaces d o a (frontItems 3 left t)) output
   pub kept : length output ≡ length before
   pub sized : AllSized (frontItems 3 left t)
 
-pub putting-first : (d o a flows output : List ℕ) (start left : ℕ) → wholeList 3 flows ≡ true → left ≡ listCount flows → AllSized (listItems 3 flows) → Room start (ownPlaces d o a (listItems 3 flows)) output
+pub putting-first : (d o a flows output : List ℕ) (start left : ℕ) → wholeList 3 flows ≡ true → left ≡ listCount flows → AllSized (listItems 3 flows) → RoomFor start (ownPlaces d o a (listItems 3 flows)) output
     → Putting d o a flows output start output start left (drop 2 flows)
 unfolding listItems
 putting-first d o a flows output start left w e sized room =
@@ -88,7 +88,7 @@ putting-first d o a flows output start left w e sized room =
     record {
       whole = going-first 3 flows (λ (xs : List Item). xs) left w e .whole;
       completes = λ last after p. subst (λ (xs : List Item). Put start (ownPlaces d o a xs) output last after) is p;
-      room = subst (λ (xs : List Item). Room start (ownPlaces d o a xs) output) (sym is) room;
+      room = subst (λ (xs : List Item). RoomFor start (ownPlaces d o a xs) output) (sym is) room;
       kept = refl;
       sized = subst AllSized (sym is) sized;
     }
@@ -116,7 +116,7 @@ module _ (d o a flows before : List ℕ) (start : ℕ) (output : List ℕ) (end 
     room-both : end + length (ownPlace d o a (flowAt (drop at flows)) (frontItems 3 (left - 1) (drop next flows)) ++ ownPlaces d o a (frontItems 3 (left - 1) (drop next flows))) ≤ length output
     room-both = subst (λ (s : List ℕ). end + length s ≤ length output) places-are (p .room)
 
-    pub putting-room : Room end (ownPlace d o a (flowAt (drop at flows)) (frontItems 3 (left - 1) (drop next flows))) output
+    pub putting-room : RoomFor end (ownPlace d o a (flowAt (drop at flows)) (frontItems 3 (left - 1) (drop next flows))) output
     putting-room =
         omega (arith, room-both, length-append (ownPlace d o a (flowAt (drop at flows)) (frontItems 3 (left - 1) (drop next flows))) (ownPlaces d o a (frontItems 3 (left - 1) (drop next flows))))
 
@@ -153,7 +153,7 @@ commonest-small (x ∷ xs) some sized =
     subst (λ (a : List ℕ). length a ≤ 64) (c .2) (sized (c .0) (different-among (flowsIn (x ∷ xs)) (c .0) (c .1)) .attributed)
 
 module _ (d o flows : List ℕ) (v : VrfSized d o) (sized : AllSized (listItems 3 flows)) (counted : 0 < listCount flows) (output : List ℕ)
-    (room : Room 0 (allPlaces d o (commonest (flowsIn (listItems 3 flows))) (listItems 3 flows)) output) (led : ℕ) (leads : flowAt (drop led flows) .wanted ≡ commonest (flowsIn (listItems 3 flows))) where
+    (room : RoomFor 0 (allPlaces d o (commonest (flowsIn (listItems 3 flows))) (listItems 3 flows)) output) (led : ℕ) (leads : flowAt (drop led flows) .wanted ≡ commonest (flowsIn (listItems 3 flows))) where
   abbrev a : List ℕ
   a = flowAt (drop led flows) .wanted
 
@@ -186,7 +186,7 @@ module _ (d o flows : List ℕ) (v : VrfSized d o) (sized : AllSized (listItems 
       every-put : Put 0 (placeFor d o [] [] a) output s x
       every-put = rw (empty, wants) at p
 
-      pub others-room : Room s (ownPlaces d o a (listItems 3 flows)) x
+      pub others-room : RoomFor s (ownPlaces d o a (listItems 3 flows)) x
       others-room = omega (arith, all-room, length-append (placeFor d o [] [] a) (ownPlaces d o a (listItems 3 flows)), length-put 0 (placeFor d o [] [] a) output s x first-room every-put, every-put .0)
 
       pub all-put : (r : ℕ) (after : List ℕ) → Put s (ownPlaces d o a (listItems 3 flows)) x r after → Put 0 (allPlaces d o (commonest (flowsIn (listItems 3 flows))) (listItems 3 flows)) output r after

@@ -12,7 +12,7 @@ use Rattle.octets.specs.Outcome.{Outcome, given, refused, onOutcome, numberOf}
 use Rattle.octets.specs.Octets.{placed, front}
 use Rattle.octets.specs.Outputs.{Put, Leaves}
 use Rattle.octets.proofs.Choice.{pick-true, pick-false}
-use Rattle.octets.proofs.Outcome.{goes, stops}
+use Rattle.octets.proofs.Outcome.{and-goes-on, and-stops}
 use Rattle.octets.proofs.Lists.{front-is-placed, empty-list}
 use Rattle.lists.specs.LentLists.{Item, listCount, wholeList, listItems}
 use Rattle.lists.proofs.Items.{list-items-count}
@@ -28,7 +28,7 @@ use Rattle.plan.specs.Planning.{proposal}
 use Rattle.plan.specs.Refusing.{readFlows}
 use Rattle.plan.specs.Calls.{planOutcome, refusedPlan, donePlan, plannedBy, planOf}
 use Rattle.plan.specs.Rules.FlowsRule.{GoodFlows}
-use Rattle.plan.specs.Inner.{VrfSized, AllSized, allPlaces, Room}
+use Rattle.plan.specs.Inner.{VrfSized, AllSized, allPlaces, RoomFor}
 use Rattle.plan.proofs.Counts.{plan-fits}
 use Rattle.plan.proofs.Items.{list-threes, among-listed, flows-count}
 use Rattle.plan.proofs.OwnPlaces.{all-routes, proposal-places}
@@ -80,7 +80,7 @@ sizes-known afi vrf flows Long items g = (
 module _ (afi : ℕ) (p o d flows output : List ℕ) (fault : ℕ) (told : fault ≡ numberOf (readFlows afi (vrfOf p o d) flows true)) where
   pub plan-refused : (fault ≡ DONE → ⊥) → (r : Planned) → r ≡ refusedPlan fault → Leaves (planOf afi (vrfOf p o d) flows output) r output
   unfolding planOutcome
-  plan-refused h r e = plan-by afi (vrfOf p o d) flows output (refused fault) (sym (stops _ _ _ (read-refused afi (vrfOf p o d) flows true fault told h))) r output (refused-left fault output r e)
+  plan-refused h r e = plan-by afi (vrfOf p o d) flows output (refused fault) (sym (and-stops _ _ _ (read-refused afi (vrfOf p o d) flows true fault told h))) r output (refused-left fault output r e)
 
   module _ (none : fault ≡ DONE) (count : ℕ) (counted : count ≡ listCount flows) where
     items-count : length (flowsIn (listItems 3 flows)) ≡ count
@@ -90,7 +90,7 @@ module _ (afi : ℕ) (p o d flows output : List ℕ) (fault : ℕ) (told : fault
     unfolding planOutcome
     plan-space h r e =
         plan-by afi (vrfOf p o d) flows output (refused SPACE)
-        (sym (goes _ _ _ _ (read-flows afi (vrfOf p o d) flows true fault told none) (sym (pick-false _ _ _ (lt-leb (128 * length (flowsIn (listItems 3 flows))) (length output) (omega (arith, items-count)))))))
+        (sym (and-goes-on _ _ _ _ (read-flows afi (vrfOf p o d) flows true fault told none) (sym (pick-false _ _ _ (lt-leb (128 * length (flowsIn (listItems 3 flows))) (length output) (omega (arith, items-count)))))))
         r output (refused-left SPACE output r e)
 
     module _ (room : 128 * count ≤ length output) where
@@ -100,7 +100,7 @@ module _ (afi : ℕ) (p o d flows output : List ℕ) (fault : ℕ) (told : fault
       planned : planOutcome afi (vrfOf p o d) flows output ≡ given rs
       unfolding planOutcome rs
       planned =
-          sym (goes _ _ _ _ (read-flows afi (vrfOf p o d) flows true fault told none) (sym (pick-true _ _ _ (le-leb (128 * length (flowsIn (listItems 3 flows))) (length output) (omega (arith, items-count))))))
+          sym (and-goes-on _ _ _ _ (read-flows afi (vrfOf p o d) flows true fault told none) (sym (pick-true _ _ _ (le-leb (128 * length (flowsIn (listItems 3 flows))) (length output) (omega (arith, items-count))))))
 
       sizes : VrfSized d o × AllSized (listItems 3 flows)
       sizes = sizes-known afi (vrfOf p o d) flows (Long afi (vrfOf p o d) flows true fault told) (listItems 3 flows) (read-good afi (vrfOf p o d) flows true fault told none)
@@ -124,7 +124,7 @@ module _ (afi : ℕ) (p o d flows output : List ℕ) (fault : ℕ) (told : fault
         unfolding rs
         are = all-routes (vrfOf p o d) (listItems 3 flows) (λ z. some (counted ∙ sym (list-items-count 3 flows) ∙ z))
 
-        pub plan-requires : ((wholeList 3 flows ≡ true) × (0 < listCount flows)) × ((VrfSized d o × AllSized (listItems 3 flows)) × Room 0 (allPlaces d o (commonest (flowsIn (listItems 3 flows))) (listItems 3 flows)) output)
+        pub plan-requires : ((wholeList 3 flows ≡ true) × (0 < listCount flows)) × ((VrfSized d o × AllSized (listItems 3 flows)) × RoomFor 0 (allPlaces d o (commonest (flowsIn (listItems 3 flows))) (listItems 3 flows)) output)
         plan-requires =
             ((read-whole afi (vrfOf p o d) flows true fault told none, positive (listCount flows) (λ z. some (counted ∙ z))), (sizes, rw are (omega (arith, places-length, few))))
 

@@ -11,7 +11,7 @@ use Rattle.octets.specs.Numbers.{DONE}
 use Rattle.octets.specs.Choice.{pick, both}
 use Rattle.octets.specs.Outcome.{Outcome, given, refused}
 use Rattle.octets.proofs.Choice.{opposite, is-true, picked, pick-true, pick-false}
-use Rattle.octets.proofs.Outcome.{given-same, given-unless, refused-same, refuses-unless, goes, stops, passed, stopped}
+use Rattle.octets.proofs.Outcome.{given-same, given-unless, refused-same, refuses-unless, and-goes-on, and-stops, passed, stopped}
 use Rattle.lists.specs.LentLists.{Item, listCount}
 use Rattle.lists.proofs.Items.{read-list-refused}
 use Rattle.groups.specs.Rules.ClassRule.{PrefixRefusal, tooMany, endsShort, badPrefix, UnderRefusal, otherFamily, refusedPrefixes}
@@ -48,8 +48,8 @@ module _ (afi : ℕ) (vrf : Vrf) (flows : List ℕ) (within : Bool) (TooLong : T
     taken-read : (o : Outcome (List ListedFlow)) → pick (eqb (flowsFault afi vrf (flowsIn items)) DONE) (given (flowsIn items)) (refused (flowsFault afi vrf (flowsIn items))) ≡ o → readFlows afi vrf flows within ≡ o
     unfolding readFlows
     taken-read o e =
-        sym (goes _ _ _ _ (classRule .prefixesGiven afi (vrf .prefixes) .1 (taken .family, taken .prefixed) .1)
-        (sym (pick-true _ _ _ (is-few (taken .few)) ∙ sym (goes _ _ _ _ (taken .read) refl)))) ∙ e
+        sym (and-goes-on _ _ _ _ (classRule .prefixesGiven afi (vrf .prefixes) .1 (taken .family, taken .prefixed) .1)
+        (sym (pick-true _ _ _ (is-few (taken .few)) ∙ sym (and-goes-on _ _ _ _ (taken .read) refl)))) ∙ e
 
     refused-taken : (n : ℕ) → n ≢ DONE → Refusal items three afi vrf n → readFlows afi vrf flows within ≡ refused n
     refused-taken n d r = let e = step .fault n d .1 r in taken-read _ (pick-false _ _ _ (ne-eqb _ _ (λ z. d (sym e ∙ z))) ∙ ap refused e)
@@ -91,10 +91,10 @@ module _ (afi : ℕ) (vrf : Vrf) (flows : List ℕ) (within : Bool) (TooLong : T
 
   pub why-flows : {n : ℕ} → FlowsRefusal afi vrf flows TooLong n → readFlows afi vrf flows within ≡ refused n
   unfolding readFlows
-  why-flows (badPrefixes r) = sym (stops _ _ _ (classRule .prefixesRefused afi (vrf .prefixes) _ .1 r))
-  why-flows (tooLong family good l) = sym (goes _ _ _ _ (classRule .prefixesGiven afi (vrf .prefixes) .1 (family, good) .1) (sym (pick-false _ _ _ (long .1 l))))
+  why-flows (badPrefixes r) = sym (and-stops _ _ _ (classRule .prefixesRefused afi (vrf .prefixes) _ .1 r))
+  why-flows (tooLong family good l) = sym (and-goes-on _ _ _ _ (classRule .prefixesGiven afi (vrf .prefixes) .1 (family, good) .1) (sym (pick-false _ _ _ (long .1 l))))
   why-flows (FlowsRefusal.endsShort family good n e) =
-      sym (goes _ _ _ _ (classRule .prefixesGiven afi (vrf .prefixes) .1 (family, good) .1) (sym (pick-true _ _ _ (is-few n) ∙ sym (stops _ _ _ e))))
+      sym (and-goes-on _ _ _ _ (classRule .prefixesGiven afi (vrf .prefixes) .1 (family, good) .1) (sym (pick-true _ _ _ (is-few n) ∙ sym (and-stops _ _ _ e))))
   why-flows (badSize items t n) = refused-taken items t _ (λ z. omega (arith, z)) (Refusal.size n)
   why-flows (unread items t g r) = refused-taken items t _ (unread-some r) (Refusal.unread g r)
   why-flows (noLabel items t g r n) = refused-taken items t _ (λ z. omega (arith, z)) (Refusal.label g r n)

@@ -27,25 +27,25 @@ use Rattle.routes.proofs.Definitions.Matching.Flows.{flow-given, flow-asked, fl
 use Rattle.routes.proofs.Definitions.ByArguments.{ByArguments, attribute-argued}
 use Rattle.routes.proofs.Statements.ArgumentRules.{labelled, takes-labelled}
 use Rattle.plan.specs.Flows.{Vrf, ListedFlow, asking, flowIn, flowsIn}
-use Rattle.plan.specs.Refusing.{firstFault, conflicts, flowFault, attributeFault, labelFault, typeFault, vrfFault, attributesFault, flowsFault}
+use Rattle.plan.specs.Refusing.{firstFlowFault, conflicts, flowFault, attributeFault, labelFault, typeFault, vrfFault, attributesFault, flowsFault}
 use Rattle.plan.specs.Rules.FlowsRule.{Listed, GoodSizes, AllAttributesRead, FirstUnread, here, AllLabelled, AllTunnelled, Conflict}
 use Rattle.plan.proofs.Items.{Threes, flowBy, among-listed, listed-among, each}
 use Rattle.plan.proofs.Conflicts.{clash, agreeing}
 use Rattle.plan.proofs.OrderedRefusals.{Step, next-is, stays, goes-on, next-done, step-next, step-one, step-as, pick-done, done-pick, pick-number, number-pick}
 
 -- a test of every flow
-first-done : (fault : ListedFlow → ℕ) (fs : List ListedFlow) → firstFault fault fs ≡ DONE → (f : ListedFlow) → Among f fs → fault f ≡ DONE
-unfolding firstFault
-first-done fault (g ∷ fs) h f (first e) = rw e (next-done (fault g) (firstFault fault fs) .0 h .0)
-first-done fault (g ∷ fs) h f (later m) = first-done fault fs (next-done (fault g) (firstFault fault fs) .0 h .1) f m
+first-done : (fault : ListedFlow → ℕ) (fs : List ListedFlow) → firstFlowFault fault fs ≡ DONE → (f : ListedFlow) → Among f fs → fault f ≡ DONE
+unfolding firstFlowFault
+first-done fault (g ∷ fs) h f (first e) = rw e (next-done (fault g) (firstFlowFault fault fs) .0 h .0)
+first-done fault (g ∷ fs) h f (later m) = first-done fault fs (next-done (fault g) (firstFlowFault fault fs) .0 h .1) f m
 
-done-first : (fault : ListedFlow → ℕ) (fs : List ListedFlow) → ((f : ListedFlow) → Among f fs → fault f ≡ DONE) → firstFault fault fs ≡ DONE
-unfolding firstFault
+done-first : (fault : ListedFlow → ℕ) (fs : List ListedFlow) → ((f : ListedFlow) → Among f fs → fault f ≡ DONE) → firstFlowFault fault fs ≡ DONE
+unfolding firstFlowFault
 done-first fault [] h = refl
 done-first fault (f ∷ fs) h = next-done _ _ .1 (h f (first refl), done-first fault fs (λ g m. h g (later m)))
 
-first-number : (fault : ListedFlow → ℕ) (k : ℕ) (fs : List ListedFlow) → ((f : ListedFlow) → Among f fs → fault f ≢ DONE → fault f ≡ k) → firstFault fault fs ≢ DONE → firstFault fault fs ≡ k
-unfolding firstFault
+first-number : (fault : ListedFlow → ℕ) (k : ℕ) (fs : List ListedFlow) → ((f : ListedFlow) → Among f fs → fault f ≢ DONE → fault f ≡ k) → firstFlowFault fault fs ≢ DONE → firstFlowFault fault fs ≡ k
+unfolding firstFlowFault
 first-number fault k [] h d = absurd (d refl)
 first-number fault k (f ∷ fs) h d =
     tested (eqb (fault f) DONE)
@@ -54,9 +54,9 @@ first-number fault k (f ∷ fs) h d =
 
 -- all of whose faults have one number
 step-each : (fault : ListedFlow → ℕ) (k : ℕ) (P : ListedFlow → Type 0) (fs : List ListedFlow) → ((f : ListedFlow) → Among f fs → ((fault f ≡ DONE) ↔ P f) × (fault f ≢ DONE → fault f ≡ k))
-    → Step (firstFault fault fs) ((f : ListedFlow) → Among f fs → P f) (λ n. (n ≡ k) × (((f : ListedFlow) → Among f fs → P f) → ⊥))
+    → Step (firstFlowFault fault fs) ((f : ListedFlow) → Among f fs → P f) (λ n. (n ≡ k) × (((f : ListedFlow) → Among f fs → P f) → ⊥))
 step-each fault k P fs h =
-    step-one (firstFault fault fs) k ((f : ListedFlow) → Among f fs → P f)
+    step-one (firstFlowFault fault fs) k ((f : ListedFlow) → Among f fs → P f)
     (λ e f m. h f m .0 .0 (first-done fault fs e f m), λ p. done-first fault fs (λ f m. h f m .0 .1 (p f m)))
     (first-number fault k fs (λ f m. h f m .1))
 
@@ -126,8 +126,8 @@ vrf-step vrf =
     )
     (pick-number _ FLOW)
 
-first-unread : {items : List Item} → Threes items → (n : ℕ) → n ≢ DONE → firstFault attributeFault (flowsIn items) ≡ n → FirstUnread items n
-unfolding firstFault attributeFault flowsIn flowIn itemField
+first-unread : {items : List Item} → Threes items → (n : ℕ) → n ≢ DONE → firstFlowFault attributeFault (flowsIn items) ≡ n → FirstUnread items n
+unfolding firstFlowFault attributeFault flowsIn flowIn itemField
 first-unread Threes.none n d h = absurd (d (sym h))
 first-unread (Threes.one {source} {group} {wanted} t) n d h =
     ⊎-elim
@@ -135,8 +135,8 @@ first-unread (Threes.one {source} {group} {wanted} t) n d h =
     (λ a. let g = number-done _ (attribute-argued wanted) (a .0) in FirstUnread.later (g .0) (g .1) (first-unread t n d (a .1)))
     (next-is _ _ _ h)
 
-unread-first : {items : List Item} {n : ℕ} → FirstUnread items n → n ≢ DONE → firstFault attributeFault (flowsIn items) ≡ n
-unfolding firstFault attributeFault flowsIn flowIn itemField
+unread-first : {items : List Item} {n : ℕ} → FirstUnread items n → n ≢ DONE → firstFlowFault attributeFault (flowsIn items) ≡ n
+unfolding firstFlowFault attributeFault flowsIn flowIn itemField
 unread-first (here e) d = stays _ _ _ d (number-refused e)
 unread-first (FirstUnread.later g e r) d = goes-on _ _ _ (number-given e) (unread-first r d)
 
@@ -146,7 +146,7 @@ unread-some (FirstUnread.later g e r) = unread-some r
 
 -- each step over the items
 module _ (items : List Item) (three : Threes items) where
-  read-step : Step (firstFault attributeFault (flowsIn items)) (AllAttributesRead items) (FirstUnread items)
+  read-step : Step (firstFlowFault attributeFault (flowsIn items)) (AllAttributesRead items) (FirstUnread items)
   unfolding attributeFault
   read-step =
       record {
@@ -159,7 +159,7 @@ module _ (items : List Item) (three : Threes items) where
 
   -- a test of every flow whose faults have one number
   item-step : (fault : ListedFlow → ℕ) (k : ℕ) (P : ListedFlow → Type 0) → ((f : ListedFlow) → Among f (flowsIn items) → ((fault f ≡ DONE) ↔ P f) × (fault f ≢ DONE → fault f ≡ k))
-      → Step (firstFault fault (flowsIn items)) ((s g w : List ℕ) → Listed s g w items → P (flowBy s g w)) (λ n. (n ≡ k) × (((s g w : List ℕ) → Listed s g w items → P (flowBy s g w)) → ⊥))
+      → Step (firstFlowFault fault (flowsIn items)) ((s g w : List ℕ) → Listed s g w items → P (flowBy s g w)) (λ n. (n ≡ k) × (((s g w : List ℕ) → Listed s g w items → P (flowBy s g w)) → ⊥))
   item-step fault k P h =
       let e = each three P in
       step-as (step-each fault k P (flowsIn items) h) e (λ n. (λ r. (r .0, λ q. r .1 (e .1 q)), λ r. (r .0, λ q. r .1 (e .0 q))))

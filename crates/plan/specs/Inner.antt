@@ -81,13 +81,13 @@ unfoldable pub standsAs : (originator distinguisher nlri : List ℕ) → Bool
 standsAs originator distinguisher nlri = both (same (standing nlri .originator) originator) (same (standing nlri .distinguisher) distinguisher)
 
 -- a place is sound by itself, and its route has them
-unfoldable pub goodPlace : (afi : ℕ) → (originator distinguisher place : List ℕ) → Bool
-goodPlace afi originator distinguisher place = both (placeSound afi place) (standsAs originator distinguisher (nlriOf (routeIn place)))
+unfoldable pub ownGoodPlace : (afi : ℕ) → (originator distinguisher place : List ℕ) → Bool
+ownGoodPlace afi originator distinguisher place = both (placeSound afi place) (standsAs originator distinguisher (nlriOf (routeIn place)))
 
 -- each of so many places is
 unfoldable pub goodPlaces : (afi : ℕ) → (originator distinguisher : List ℕ) → (count : ℕ) → List ℕ → Bool
 goodPlaces afi originator distinguisher zero s = true
-goodPlaces afi originator distinguisher (suc count) s = both (goodPlace afi originator distinguisher (take PLACE s)) (goodPlaces afi originator distinguisher count (drop PLACE s))
+goodPlaces afi originator distinguisher (suc count) s = both (ownGoodPlace afi originator distinguisher (take PLACE s)) (goodPlaces afi originator distinguisher count (drop PLACE s))
 
 -- so many sound places, with no NLRI twice
 pub record Proposed (afi : ℕ) (places : List ℕ) (count : ℕ) : Type 0 where
@@ -181,5 +181,5 @@ module _ (distinguisher originator a : List ℕ) where
   allPlaces items = placeFor distinguisher originator [] [] a ++ ownPlaces items
 
 -- an output with room for such octets behind an octet
-abbrev pub Room : (at : ℕ) (octets output : List ℕ) → Type 0
-Room at octets output = at + length octets ≤ length output
+abbrev pub RoomFor : (at : ℕ) (octets output : List ℕ) → Type 0
+RoomFor at octets output = at + length octets ≤ length output

@@ -24,9 +24,9 @@ unfoldable pub orNext : ℕ → ℕ → ℕ
 orNext fault next = pick (eqb fault DONE) next fault
 
 -- the first number that refuses one of the flows
-unfoldable pub firstFault : (ListedFlow → ℕ) → List ListedFlow → ℕ
-firstFault fault [] = DONE
-firstFault fault (f ∷ fs) = orNext (fault f) (firstFault fault fs)
+unfoldable pub firstFlowFault : (ListedFlow → ℕ) → List ListedFlow → ℕ
+firstFlowFault fault [] = DONE
+firstFlowFault fault (f ∷ fs) = orNext (fault f) (firstFlowFault fault fs)
 
 -- FLOW by the sizes of originator and RD
 unfoldable pub vrfFault : Vrf → ℕ
@@ -61,14 +61,14 @@ conflicts (f ∷ fs) = either (clashes f fs) (conflicts fs)
 -- attribute reading, LABEL, TUNNEL, CONFLICT
 unfoldable pub attributesFault : List ListedFlow → ℕ
 attributesFault fs =
-    orNext (firstFault attributeFault fs)
-    (orNext (firstFault labelFault fs)
-    (orNext (firstFault typeFault fs)
+    orNext (firstFlowFault attributeFault fs)
+    (orNext (firstFlowFault labelFault fs)
+    (orNext (firstFlowFault typeFault fs)
     (pick (conflicts fs) CONFLICT DONE)))
 
 -- FLOW, then the attributes
 unfoldable pub flowsFault : (afi : ℕ) → Vrf → List ListedFlow → ℕ
-flowsFault afi vrf fs = orNext (vrfFault vrf) (orNext (firstFault (flowFault afi vrf) fs) (attributesFault fs))
+flowsFault afi vrf fs = orNext (vrfFault vrf) (orNext (firstFlowFault (flowFault afi vrf) fs) (attributesFault fs))
 
 -- the flows that are lent. FAMILY, RANGE and SHORT of the prefixes; LONG for more than 64 flows, or for what is over its limit beside them; SHORT; then
 -- the flows

@@ -8,7 +8,7 @@ ghost use Rattle.lists.specs.LentLists.{listCount, wholeItem, wholeList, frontI
 ghost use Rattle.plan.specs.Flows.{vrfOf, flowsIn};
 ghost use Rattle.plan.specs.Commonest.{commonest};
 ghost use Rattle.plan.specs.Calls.{refusedPlan, donePlan, planOf};
-ghost use Rattle.plan.specs.Inner.{flowAt, Behind, standsOut, VrfSized, FlowSized, AllSized, ownPlace, ownPlaces, allPlaces, Room};
+ghost use Rattle.plan.specs.Inner.{flowAt, Behind, standsOut, VrfSized, FlowSized, AllSized, ownPlace, ownPlaces, allPlaces, RoomFor};
 use crate::FIELDS;
 use crate::Planned;
 use crate::commonest;
@@ -68,7 +68,7 @@ fn put_own(
 ) -> usize
     requires { ⌜ Behind (now flows) at next left × (wholeItem 3 (drop led (now flows)) ≡ true) ⌝ }
     requires { ⌜ VrfSized (now distinguisher) (now originator) × FlowSized (flowAt (drop at (now flows))) ⌝ }
-    requires { ⌜ Room end (ownPlace (now distinguisher) (now originator) (flowAt (drop led (now flows)) .wanted) (flowAt (drop at (now flows))) (frontItems 3 left (drop next (now flows)))) (now output) ⌝ }
+    requires { ⌜ RoomFor end (ownPlace (now distinguisher) (now originator) (flowAt (drop led (now flows)) .wanted) (flowAt (drop at (now flows))) (frontItems 3 left (drop next (now flows)))) (now output) ⌝ }
     ensures { λ r. ⌜ Put end (ownPlace (now (distinguisher .entry)) (now (originator .entry)) (flowAt (drop led (now (flows .entry))) .wanted) (flowAt (drop at (now (flows .entry)))) (frontItems 3 left (drop next (now (flows .entry))))) (now (output .entry)) r (now (output .exit)) ⌝ }
 {
     if !stands_out(flows, led, at, next, left) {
@@ -96,7 +96,7 @@ fn put_all_own(
 ) -> usize
     requires { ⌜ (wholeList 3 (now flows) ≡ true) × (wholeItem 3 (drop led (now flows)) ≡ true) ⌝ }
     requires { ⌜ VrfSized (now distinguisher) (now originator) × AllSized (listItems 3 (now flows)) ⌝ }
-    requires { ⌜ Room start (ownPlaces (now distinguisher) (now originator) (flowAt (drop led (now flows)) .wanted) (listItems 3 (now flows))) (now output) ⌝ }
+    requires { ⌜ RoomFor start (ownPlaces (now distinguisher) (now originator) (flowAt (drop led (now flows)) .wanted) (listItems 3 (now flows))) (now output) ⌝ }
     ensures { λ r. ⌜ Put start (ownPlaces (now (distinguisher .entry)) (now (originator .entry)) (flowAt (drop led (now (flows .entry))) .wanted) (listItems 3 (now (flows .entry)))) (now (output .entry)) r (now (output .exit)) ⌝ }
 {
     let mut end = start;
@@ -125,7 +125,7 @@ fn put_all_own(
 fn put_all(flows: &[u8], distinguisher: &[u8], originator: &[u8], output: &mut [u8]) -> usize
     requires { ⌜ (wholeList 3 (now flows) ≡ true) × (0 < listCount (now flows)) ⌝ }
     requires { ⌜ VrfSized (now distinguisher) (now originator) × AllSized (listItems 3 (now flows)) ⌝ }
-    requires { ⌜ Room 0 (allPlaces (now distinguisher) (now originator) (commonest (flowsIn (listItems 3 (now flows)))) (listItems 3 (now flows))) (now output) ⌝ }
+    requires { ⌜ RoomFor 0 (allPlaces (now distinguisher) (now originator) (commonest (flowsIn (listItems 3 (now flows)))) (listItems 3 (now flows))) (now output) ⌝ }
     ensures { λ r. ⌜ Put 0 (allPlaces (now (distinguisher .entry)) (now (originator .entry)) (commonest (flowsIn (listItems 3 (now (flows .entry))))) (listItems 3 (now (flows .entry)))) (now (output .entry)) r (now (output .exit)) ⌝ }
 {
     let led = commonest::leader_of(flows);

@@ -11,7 +11,7 @@ ghost use Rattle.routes.specs.Table.{routesFrom};
 ghost use Rattle.places.specs.Readable.{nlriAt, Bounded, Readable};
 ghost use Rattle.plan.specs.Flows.{vrfOf, flowsIn};
 ghost use Rattle.plan.specs.Judging.{noRepeat, acceptsPlaces};
-ghost use Rattle.plan.specs.Inner.{flowAt, standsAs, goodPlace, goodPlaces, Proposed, BestFor, servedBy, servedIn};
+ghost use Rattle.plan.specs.Inner.{flowAt, standsAs, ownGoodPlace, goodPlaces, Proposed, BestFor, servedBy, servedIn};
 use crate::FIELDS;
 use crate::flows;
 use lists::FIRST;
@@ -41,7 +41,7 @@ fn is_own(place: &[u8], originator: &[u8], distinguisher: &[u8]) -> bool
 // A place is good by itself, and its route has this originator and RD.
 fn is_good_place(afi: u16, place: &[u8], originator: &[u8], distinguisher: &[u8]) -> bool
     requires { ⌜ length (now place) ≡ 128 ⌝ }
-    ensures { λ r. ⌜ r ≡ goodPlace afi (now (originator .entry)) (now (distinguisher .entry)) (now (place .entry)) ⌝ }
+    ensures { λ r. ⌜ r ≡ ownGoodPlace afi (now (originator .entry)) (now (distinguisher .entry)) (now (place .entry)) ⌝ }
 {
     if !judge::is_good(afi, place) {
         return false;

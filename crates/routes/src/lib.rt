@@ -143,19 +143,19 @@ impl Following {
 
 // What a table says of itself: DONE with its family, its places and how many routes are in them, or the refusal's number and 0.
 #[repr(C)]
-pub struct TableInfo {
+pub struct TableFacts {
     pub number: u32,
     pub afi: u32,
     pub places: u32,
     pub routes: u32,
 }
 
-impl TableInfo {
+impl TableFacts {
     // A call that is refused.
-    pub fn refused(number: u32) -> TableInfo
+    pub fn refused(number: u32) -> TableFacts
         ensures { λ r. ⌜ r ≡ emptyInfo number ⌝ }
     {
-        TableInfo {
+        TableFacts {
             number,
             afi: 0,
             places: 0,

@@ -10,7 +10,7 @@ use Rattle.octets.specs.Octets.{part}
 use Rattle.octets.proofs.Choice.{pick-true, pick-false, tested}
 use Rattle.nlri.specs.declared.layout.Layout.{Layout}
 use Rattle.nlri.proofs.Functions.Fronts.{layout-octets}
-use Rattle.runs.specs.Walking.{Stepped, readTo, stepFrom, walkedTo, walkFrom, nlrisFrom}
+use Rattle.runs.specs.Walking.{StepTaken, readTo, stepFrom, walkedTo, walkFrom, nlrisFrom}
 use Rattle.runs.proofs.Steps.{Stops, reads-stepFrom}
 
 module _ (left afi : ℕ) (run : List ℕ) (at : ℕ) where
@@ -21,8 +21,8 @@ module _ (left afi : ℕ) (run : List ℕ) (at : ℕ) where
   pub nlrisFrom-reads : (l : Layout) (c : ℕ) → stepFrom afi run at ≡ readTo l c → nlrisFrom (suc left) afi run at ≡ record { offset = at; octets = part run at (c - at) } ∷ nlrisFrom left afi run c
   unfolding nlrisFrom readTo
   nlrisFrom-reads l c e =
-      pick-true _ _ _ (ap (λ (s : Stepped). s .read) e)
-      ∙ ap (λ (s : Stepped). record { offset = at; octets = part run at (s .cursor - at) } ∷ nlrisFrom left afi run (s .cursor)) e
+      pick-true _ _ _ (ap (λ (s : StepTaken). s .read) e)
+      ∙ ap (λ (s : StepTaken). record { offset = at; octets = part run at (s .cursor - at) } ∷ nlrisFrom left afi run (s .cursor)) e
 
   pub nlrisFrom-stops : (n : ℕ) → Stops (stepFrom afi run at) n → nlrisFrom (suc left) afi run at ≡ []
   unfolding nlrisFrom
@@ -40,9 +40,9 @@ length-nlrisFrom (suc left) afi run at count =
 pub read-header : (afi : ℕ) (run : List ℕ) (at : ℕ) (l : Layout) (c : ℕ) → stepFrom afi run at ≡ readTo l c → (getD (part run at (c - at)) 0 0 ≡ l .«route_type») × (getD (part run at (c - at)) 1 0 ≡ l .length)
 unfolding part readTo
 read-header afi run at l c e =
-    let r = reads-stepFrom afi run at (ap (λ (s : Stepped). s .read) e) in
-    let same : stepFrom afi run at .layout ≡ l = ap (λ (s : Stepped). s .layout) e in
-    let past : stepFrom afi run at .cursor ≡ c = ap (λ (s : Stepped). s .cursor) e in
+    let r = reads-stepFrom afi run at (ap (λ (s : StepTaken). s .read) e) in
+    let same : stepFrom afi run at .layout ≡ l = ap (λ (s : StepTaken). s .layout) e in
+    let past : stepFrom afi run at .cursor ≡ c = ap (λ (s : StepTaken). s .cursor) e in
     let o = layout-octets (r .bits) (drop at run) (stepFrom afi run at .layout) (r .is) in
     let two : 2 ≤ c - at = omega (arith, r .cursor) in (
       getD-take (c - at) (drop at run) 0 0 (omega arith) ∙ sym (o .2) ∙ ap (λ (x : Layout). x .«route_type») same,

@@ -28,7 +28,7 @@ use Rattle.nlri.proofs.Statements.Layouts.{length-encoded, layout-encoded, layo
 use Rattle.runs.specs.declared.stepping.Cursor.{Cursor}
 use Rattle.runs.specs.declared.stepping.Step.{Step}
 use Rattle.runs.specs.declared.stepping.Step.the-variants as step
-use Rattle.runs.specs.Walking.{Stepped, readTo, endedAt, refusedAt, stepFrom, steppedOf}
+use Rattle.runs.specs.Walking.{StepTaken, readTo, endedAt, refusedAt, stepFrom, stepTakenOf}
 use Rattle.runs.specs.Rules.WalkRules.{EncodedAt, EndAt, StepRefusal, badFamily, long, past, front, StepRule}
 use Rattle.runs.proofs.Steps.{step-family, step-long, step-end, step-past, step-accepted, step-unaccepted, Comes, family, tooLong, end, beyond, unaccepted, accepted, comes-stepFrom, reads-stepFrom}
 
@@ -54,7 +54,7 @@ module _ (afi : ℕ) (run : List ℕ) (at : ℕ) where
   ends-at : EndAt afi run at → stepFrom afi run at ≡ endedAt at
   ends-at h = let g = family-good afi (h .0) in step-end afi run at (g .0) (g .1) (h .1) (h .2)
 
-  end-at : {s : Stepped} → Comes afi run at s → s .ended ≡ true → EndAt afi run at
+  end-at : {s : StepTaken} → Comes afi run at s → s .ended ≡ true → EndAt afi run at
   unfolding refusedAt readTo
   end-at (family n e) q = absurd (opposite q refl)
   end-at (tooLong bits f h) q = absurd (opposite q refl)
@@ -71,7 +71,7 @@ module _ (afi : ℕ) (run : List ℕ) (at : ℕ) where
     step-refuses n (front bits f few before why) =
         step-unaccepted afi run at bits f few before n (layout-refused bits (drop at run) n (readRefusals .front afi bits (drop at run) n f (octets-drop at a) .1 why))
 
-    by-case : {s : Stepped} → Comes afi run at s → ((f : Fields) × EncodedAt afi run at f) ⊎ EndAt afi run at ⊎ ((n : ℕ) × StepRefusal afi run at n)
+    by-case : {s : StepTaken} → Comes afi run at s → ((f : Fields) × EncodedAt afi run at f) ⊎ EndAt afi run at ⊎ ((n : ℕ) × StepRefusal afi run at n)
     unfolding layoutAt
     by-case (family n e) = let p = family-refused afi n e .1 in inr (inr (FAMILY, badFamily (p .0) (p .1)))
     by-case (tooLong bits f h) = inr (inr (LONG, long bits f h))
@@ -91,10 +91,10 @@ module _ (afi : ℕ) (run : List ℕ) (at : ℕ) where
     refusal-at : (n : ℕ) → stepFrom afi run at ≡ refusedAt n at → StepRefusal afi run at n
     unfolding readTo endedAt refusedAt
     refusal-at n e =
-        ⊎-elim (λ reads. absurd (opposite refl (ap (λ (s : Stepped). s .read) (sym (step-encoded afi run at (reads .0) (reads .1)) ∙ e))))
+        ⊎-elim (λ reads. absurd (opposite refl (ap (λ (s : StepTaken). s .read) (sym (step-encoded afi run at (reads .0) (reads .1)) ∙ e))))
         (λ stops.
-        ⊎-elim (λ ends. absurd (opposite refl (ap (λ (s : Stepped). s .ended) (sym (ends-at ends) ∙ e))))
-        (λ why. subst (StepRefusal afi run at) (ap (λ (s : Stepped). s .number) (sym (step-refuses (why .0) (why .1)) ∙ e)) (why .1)) stops)
+        ⊎-elim (λ ends. absurd (opposite refl (ap (λ (s : StepTaken). s .ended) (sym (ends-at ends) ∙ e))))
+        (λ why. subst (StepRefusal afi run at) (ap (λ (s : StepTaken). s .number) (sym (step-refuses (why .0) (why .1)) ∙ e)) (why .1)) stops)
         step-decided
 
 step-not-done : (afi : ℕ) (run : List ℕ) (at n : ℕ) → StepRefusal afi run at n → n ≡ DONE → ⊥
@@ -107,24 +107,24 @@ step-not-done afi run at n (front bits f few before why) e = front-not-done bits
 pub cursor-same : (c d : Cursor) → c .at ≡ d .at → c ≡ d
 cursor-same c d e = λ i. record { at = e i }
 
-steps-apart : (a b : Step) → steppedOf a ≡ steppedOf b → a ≡ b
-unfolding steppedOf readTo endedAt refusedAt
-steps-apart (step.Nlri l c) (step.Nlri m d) e = ap₂ step.Nlri (ap (λ (s : Stepped). s .layout) e) (cursor-same c d (ap (λ (s : Stepped). s .cursor) e))
-steps-apart (step.Nlri l c) (step.End d) e = absurd (opposite refl (ap (λ (s : Stepped). s .read) e))
-steps-apart (step.Nlri l c) (step.Refused n d) e = absurd (opposite refl (ap (λ (s : Stepped). s .read) e))
-steps-apart (step.End c) (step.Nlri m d) e = absurd (opposite refl (ap (λ (s : Stepped). s .read) (sym e)))
-steps-apart (step.End c) (step.End d) e = ap step.End (cursor-same c d (ap (λ (s : Stepped). s .cursor) e))
-steps-apart (step.End c) (step.Refused n d) e = absurd (opposite refl (ap (λ (s : Stepped). s .ended) e))
-steps-apart (step.Refused n c) (step.Nlri m d) e = absurd (opposite refl (ap (λ (s : Stepped). s .read) (sym e)))
-steps-apart (step.Refused n c) (step.End d) e = absurd (opposite refl (ap (λ (s : Stepped). s .ended) (sym e)))
-steps-apart (step.Refused n c) (step.Refused m d) e = ap₂ step.Refused (ap (λ (s : Stepped). s .number) e) (cursor-same c d (ap (λ (s : Stepped). s .cursor) e))
+steps-apart : (a b : Step) → stepTakenOf a ≡ stepTakenOf b → a ≡ b
+unfolding stepTakenOf readTo endedAt refusedAt
+steps-apart (step.Nlri l c) (step.Nlri m d) e = ap₂ step.Nlri (ap (λ (s : StepTaken). s .layout) e) (cursor-same c d (ap (λ (s : StepTaken). s .cursor) e))
+steps-apart (step.Nlri l c) (step.End d) e = absurd (opposite refl (ap (λ (s : StepTaken). s .read) e))
+steps-apart (step.Nlri l c) (step.Refused n d) e = absurd (opposite refl (ap (λ (s : StepTaken). s .read) e))
+steps-apart (step.End c) (step.Nlri m d) e = absurd (opposite refl (ap (λ (s : StepTaken). s .read) (sym e)))
+steps-apart (step.End c) (step.End d) e = ap step.End (cursor-same c d (ap (λ (s : StepTaken). s .cursor) e))
+steps-apart (step.End c) (step.Refused n d) e = absurd (opposite refl (ap (λ (s : StepTaken). s .ended) e))
+steps-apart (step.Refused n c) (step.Nlri m d) e = absurd (opposite refl (ap (λ (s : StepTaken). s .read) (sym e)))
+steps-apart (step.Refused n c) (step.End d) e = absurd (opposite refl (ap (λ (s : StepTaken). s .ended) (sym e)))
+steps-apart (step.Refused n c) (step.Refused m d) e = ap₂ step.Refused (ap (λ (s : StepTaken). s .number) e) (cursor-same c d (ap (λ (s : StepTaken). s .cursor) e))
 
 pub stepRule : StepRule
 unfolding endedAt
 stepRule =
     record {
       reads = step-encoded;
-      ends = λ afi run at. (λ e. end-at afi run at (comes-stepFrom afi run at) (ap (λ (s : Stepped). s .ended) e), ends-at afi run at);
+      ends = λ afi run at. (λ e. end-at afi run at (comes-stepFrom afi run at) (ap (λ (s : StepTaken). s .ended) e), ends-at afi run at);
       refuses = λ afi run at n a. (refusal-at afi run at a n, step-refuses afi run at a n);
       decided = step-decided;
       done = λ afi run at h. step-not-done afi run at DONE h refl;

@@ -19,20 +19,20 @@ use Rattle.nlri.proofs.Definitions.ReadNumbers.{refuses-done, refuses-layout}
 use Rattle.runs.specs.declared.stepping.Cursor.{Cursor}
 use Rattle.runs.specs.declared.stepping.Step.{Step}
 use Rattle.runs.specs.declared.stepping.Step.the-variants.{Nlri, End, Refused}
-use Rattle.runs.specs.Walking.{Stepped, readTo, endedAt, refusedAt, advanced, stepUnder, stepFrom, steppedOf}
+use Rattle.runs.specs.Walking.{StepTaken, readTo, endedAt, refusedAt, advanced, stepUnder, stepFrom, stepTakenOf}
 
 -- a step that reads no NLRI, and its number: the run's end, or a refusal
-pub record Stops (s : Stepped) (number : ℕ) : Type 0 where
+pub record Stops (s : StepTaken) (number : ℕ) : Type 0 where
   pub unread : s .read ≡ false
   pub numbered : s .number ≡ number
 
-pub stops-endedAt : {s : Stepped} (at : ℕ) → s ≡ endedAt at → Stops s DONE
+pub stops-endedAt : {s : StepTaken} (at : ℕ) → s ≡ endedAt at → Stops s DONE
 unfolding endedAt
-stops-endedAt at e = record { unread = ap (λ (x : Stepped). x .read) e; numbered = ap (λ (x : Stepped). x .number) e }
+stops-endedAt at e = record { unread = ap (λ (x : StepTaken). x .read) e; numbered = ap (λ (x : StepTaken). x .number) e }
 
-pub stops-refusedAt : {s : Stepped} (number at : ℕ) → s ≡ refusedAt number at → Stops s number
+pub stops-refusedAt : {s : StepTaken} (number at : ℕ) → s ≡ refusedAt number at → Stops s number
 unfolding refusedAt
-stops-refusedAt number at e = record { unread = ap (λ (x : Stepped). x .read) e; numbered = ap (λ (x : Stepped). x .number) e }
+stops-refusedAt number at e = record { unread = ap (λ (x : StepTaken). x .read) e; numbered = ap (λ (x : StepTaken). x .number) e }
 
 -- the step in each case
 module _ (afi : ℕ) (run : List ℕ) (at : ℕ) where
@@ -78,7 +78,7 @@ module _ (afi : ℕ) (run : List ℕ) (at : ℕ) where
             (laid .0, step-accepted (laid .0) (laid .1) ∙ ap (λ (n : ℕ). readTo (laid .0) (advanced at n)) size)
 
 -- the cases of a step, in the order of its tests
-pub data Comes (afi : ℕ) (run : List ℕ) (at : ℕ) : Stepped → Type 0 where
+pub data Comes (afi : ℕ) (run : List ℕ) (at : ℕ) : StepTaken → Type 0 where
   family : (n : ℕ) → familyBits afi ≡ refused n → Comes afi run at (refusedAt n at)
   tooLong : (bits : ℕ) → familyBits afi ≡ given bits → 4096 < length run → Comes afi run at (refusedAt LONG at)
   end : (bits : ℕ) → familyBits afi ≡ given bits → length run ≤ 4096 → at ≡ length run → Comes afi run at (endedAt at)
@@ -98,7 +98,7 @@ comes-stepFrom afi run at =
     on-case (Comes afi run at) _ _ _ (unaccepted bits f (ltb-false _ _ few) before) (accepted bits f (ltb-false _ _ few) before)))))
 
 -- a step that reads: the NLRI stands in the run, and the cursor moves past it
-pub record Reads (run : List ℕ) (at : ℕ) (s : Stepped) : Type 0 where
+pub record Reads (run : List ℕ) (at : ℕ) (s : StepTaken) : Type 0 where
   pub bits : ℕ
   pub short : length run ≤ 4096
   pub is : layoutAt bits (drop at run) ≡ given (s .layout)
@@ -109,7 +109,7 @@ pub reads-stepFrom : (afi : ℕ) (run : List ℕ) (at : ℕ) → stepFrom afi ru
 unfolding endedAt refusedAt readTo
 reads-stepFrom afi run at = go (comes-stepFrom afi run at)
   where
-    go : {s : Stepped} → Comes afi run at s → s .read ≡ true → Reads run at s
+    go : {s : StepTaken} → Comes afi run at s → s .read ≡ true → Reads run at s
     go (family n e) r = absurd (opposite r refl)
     go (tooLong bits f h) r = absurd (opposite r refl)
     go (end bits f few last) r = absurd (opposite r refl)
@@ -122,25 +122,25 @@ reads-stepFrom afi run at = go (comes-stepFrom afi run at)
 pub step-moves : (afi : ℕ) (run : List ℕ) (at : ℕ) (l : Layout) (c : ℕ) → stepFrom afi run at ≡ readTo l c → (at + 2 ≤ c) × (c ≤ length run) × (length run ≤ 4096)
 unfolding readTo
 step-moves afi run at l c e =
-    let r = reads-stepFrom afi run at (ap (λ (s : Stepped). s .read) e) in
-    let n = ap (λ (s : Stepped). s .cursor) e in
+    let r = reads-stepFrom afi run at (ap (λ (s : StepTaken). s .read) e) in
+    let n = ap (λ (s : StepTaken). s .cursor) e in
     (omega (arith, r .cursor), omega (arith, r .cursor, r .within), r .short)
 
 -- the cases of the answer
-pub step-read : (r : Step) (s : Stepped) (l : Layout) (c : Cursor) → steppedOf r ≡ s → r ≡ Nlri l c → s ≡ readTo l (c .at)
-unfolding steppedOf
-step-read r s l c p q = sym p ∙ ap steppedOf q
+pub step-read : (r : Step) (s : StepTaken) (l : Layout) (c : Cursor) → stepTakenOf r ≡ s → r ≡ Nlri l c → s ≡ readTo l (c .at)
+unfolding stepTakenOf
+step-read r s l c p q = sym p ∙ ap stepTakenOf q
 
-pub step-ended : (r : Step) (s : Stepped) (c : Cursor) → steppedOf r ≡ s → r ≡ End c → s ≡ endedAt (c .at)
-unfolding steppedOf
-step-ended r s c p q = sym p ∙ ap steppedOf q
+pub step-ended : (r : Step) (s : StepTaken) (c : Cursor) → stepTakenOf r ≡ s → r ≡ End c → s ≡ endedAt (c .at)
+unfolding stepTakenOf
+step-ended r s c p q = sym p ∙ ap stepTakenOf q
 
-pub step-refused : (r : Step) (s : Stepped) (n : ℕ) (c : Cursor) → steppedOf r ≡ s → r ≡ Refused n c → s ≡ refusedAt n (c .at)
-unfolding steppedOf
-step-refused r s n c p q = sym p ∙ ap steppedOf q
+pub step-refused : (r : Step) (s : StepTaken) (n : ℕ) (c : Cursor) → stepTakenOf r ≡ s → r ≡ Refused n c → s ≡ refusedAt n (c .at)
+unfolding stepTakenOf
+step-refused r s n c p q = sym p ∙ ap stepTakenOf q
 
-pub stops-ended : (r : Step) (s : Stepped) (c : Cursor) → steppedOf r ≡ s → r ≡ End c → Stops s DONE
+pub stops-ended : (r : Step) (s : StepTaken) (c : Cursor) → stepTakenOf r ≡ s → r ≡ End c → Stops s DONE
 stops-ended r s c p q = stops-endedAt (c .at) (step-ended r s c p q)
 
-pub stops-refused : (r : Step) (s : Stepped) (n : ℕ) (c : Cursor) → steppedOf r ≡ s → r ≡ Refused n c → Stops s n
+pub stops-refused : (r : Step) (s : StepTaken) (n : ℕ) (c : Cursor) → stepTakenOf r ≡ s → r ≡ Refused n c → Stops s n
 stops-refused r s n c p q = stops-refusedAt n (c .at) (step-refused r s n c p q)

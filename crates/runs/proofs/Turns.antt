@@ -22,7 +22,7 @@ use Rattle.nlri.proofs.Definitions.Families.{family-refused}
 use Rattle.nlri.proofs.Definitions.Whole.{laid-out}
 use Rattle.runs.specs.declared.stepping.Cursor.{Cursor}
 use Rattle.runs.specs.declared.turning.Turn.the-variants.{Read, Skipped, Stopped}
-use Rattle.runs.specs.Walking.{Stepped, readTo, endedAt, refusedAt, stepFrom, walkedWith}
+use Rattle.runs.specs.Walking.{StepTaken, readTo, endedAt, refusedAt, stepFrom, walkedWith}
 use Rattle.runs.specs.Modes.{SKIP, SkippableNumber, isSkipped, pastNlri, turnFrom, onTurn, walkByFrom, nlrisByFrom}
 use Rattle.runs.proofs.Steps.{Stops, Comes, family, tooLong, end, beyond, unaccepted, accepted, comes-stepFrom}
 
@@ -78,7 +78,7 @@ refused-whole bits s n e other =
 
 module _ (afi : ℕ) (run : List ℕ) (at : ℕ) where
   -- where a step refuses with TYPE or GROUP the NLRI lies within the run, which is not too long
-  within-refused : {s : Stepped} → Comes afi run at s → SkippableNumber (s .number) → (pastNlri run at ≤ length run) × (length run ≤ 4096)
+  within-refused : {s : StepTaken} → Comes afi run at s → SkippableNumber (s .number) → (pastNlri run at ≤ length run) × (length run ≤ 4096)
   unfolding endedAt refusedAt readTo
   within-refused (family n e) t = absurd (skippable-apart n t .3 (family-refused afi n e .0))
   within-refused (tooLong bits f h) t = absurd (skippable-apart LONG t .2 refl)
@@ -91,7 +91,7 @@ module _ (afi : ℕ) (run : List ℕ) (at : ℕ) where
   pub within-skipped : (mode n : ℕ) → Stops (stepFrom afi run at) n → isSkipped mode n ≡ true → (pastNlri run at ≤ length run) × (length run ≤ 4096)
   within-skipped mode n s h = within-refused (comes-stepFrom afi run at) (subst SkippableNumber (sym (s .numbered)) (skipped-number mode n h .1))
 
-  read-is : {s : Stepped} → Comes afi run at s → s .read ≡ true → s ≡ readTo (s .layout) (s .cursor)
+  read-is : {s : StepTaken} → Comes afi run at s → s .read ≡ true → s ≡ readTo (s .layout) (s .cursor)
   unfolding endedAt refusedAt readTo
   read-is (family n e) r = absurd (opposite r refl)
   read-is (tooLong bits f h) r = absurd (opposite r refl)
@@ -108,7 +108,7 @@ module _ (afi : ℕ) (run : List ℕ) (at : ℕ) where
 
     pub turn-reads : (l : Layout) (c : ℕ) → stepFrom afi run at ≡ readTo l c → turnFrom afi mode run at ≡ Read l (record { at = c })
     unfolding readTo
-    turn-reads l c e = turn-read (ap (λ (s : Stepped). s .read) e) ∙ ap (λ (s : Stepped). Read (s .layout) (record { at = s .cursor })) e
+    turn-reads l c e = turn-read (ap (λ (s : StepTaken). s .read) e) ∙ ap (λ (s : StepTaken). Read (s .layout) (record { at = s .cursor })) e
 
     module _ (n : ℕ) (s : Stops (stepFrom afi run at) n) where
       pub turn-skips : isSkipped mode n ≡ true → turnFrom afi mode run at ≡ Skipped (record { at = pastNlri run at })

@@ -23,7 +23,7 @@ use Rattle.nlri.specs.Rules.NlriRules.{FrontRefusal, layoutFor}
 use Rattle.nlri.proofs.Statements.Acceptance.{front-accepted}
 use Rattle.nlri.proofs.Statements.ReadRefusals.{readRefusals}
 use Rattle.nlri.proofs.Statements.Layouts.{length-encoded}
-use Rattle.runs.specs.Walking.{Stepped, readTo, stepFrom, walkedTo, walkFrom, walkOf, NlriRead, nlrisFrom, nlrisOf}
+use Rattle.runs.specs.Walking.{StepTaken, readTo, stepFrom, walkedTo, walkFrom, walkOf, NlriRead, nlrisFrom, nlrisOf}
 use Rattle.runs.specs.Rules.WalkRules.{front, Walks, stopping, going, encodeRun, encodedFrom, AllWellFormed, RunEnd, nothing, refusal, RunOf, WalkRule}
 use Rattle.runs.proofs.Steps.{Stops, step-end, stops-endedAt, stops-refusedAt}
 use Rattle.runs.proofs.Nlris.{nlrisFrom-reads, nlrisFrom-stops, length-nlrisFrom}
@@ -99,8 +99,8 @@ module _ (afi bits : ℕ) (ofFamily : familyBits afi ≡ given bits) (run : List
       let is = step-follow at f fs t r (w .0) in
       let later = walks-run t n end fs (at + length (encodeNlri f)) (count + 1) (w .1) (follow-next run at f fs t r) in
       subst (Walks afi run at count) (walked-same n _ _ _ _ (omega arith) (rw length-append (omega arith)))
-      (going (ap (λ (x : Stepped). x .read) is)
-      (subst (λ (c : ℕ). Walks afi run c (count + 1) (walkedTo n (count + 1 + length fs) (at + length (encodeNlri f) + length (encodeRun fs)))) (sym (ap (λ (x : Stepped). x .cursor) is)) later))
+      (going (ap (λ (x : StepTaken). x .read) is)
+      (subst (λ (c : ℕ). Walks afi run c (count + 1) (walkedTo n (count + 1 + length fs) (at + length (encodeNlri f) + length (encodeRun fs)))) (sym (ap (λ (x : StepTaken). x .cursor) is)) later))
 
   counts : (r : RunOf bits run) → walkOf afi run ≡ walkedTo (r .number) (length (r .nlris)) (length (encodeRun (r .nlris)))
   counts r =

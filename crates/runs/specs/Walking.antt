@@ -16,7 +16,7 @@ use Rattle.nlri.specs.Family.{familyBits}
 use Rattle.nlri.specs.Layouts.{layoutAt, noLayout}
 
 -- what a step answers: the number, whether an NLRI was read, whether the run ends at the cursor, the layout of the NLRI read, and the next cursor
-pub record Stepped : Type 0 where
+pub record StepTaken : Type 0 where
   pub number : ℕ
   pub read : Bool
   pub ended : Bool
@@ -24,15 +24,15 @@ pub record Stepped : Type 0 where
   pub cursor : ℕ
 
 -- an NLRI, and the cursor just past it
-unfoldable pub readTo : Layout → ℕ → Stepped
+unfoldable pub readTo : Layout → ℕ → StepTaken
 readTo layout cursor = record { number = DONE; read = true; ended = false; layout = layout; cursor = cursor }
 
 -- the run's end: DONE with no NLRI; the cursor given is handed back
-unfoldable pub endedAt : ℕ → Stepped
+unfoldable pub endedAt : ℕ → StepTaken
 endedAt cursor = record { number = DONE; read = false; ended = true; layout = noLayout; cursor = cursor }
 
 -- a refusal: no NLRI; the cursor given is handed back
-unfoldable pub refusedAt : (number cursor : ℕ) → Stepped
+unfoldable pub refusedAt : (number cursor : ℕ) → StepTaken
 refusedAt number cursor = record { number = number; read = false; ended = false; layout = noLayout; cursor = cursor }
 
 -- the place just past an NLRI that begins at a cursor, by its Length: header and body
@@ -40,7 +40,7 @@ abbrev pub advanced : (at size : ℕ) → ℕ
 advanced at size = at + (2 + size)
 
 -- under a family: LONG, then the cursor, then NLRI reading; a cursor just past the NLRI read
-unfoldable pub stepUnder : ℕ → List ℕ → ℕ → Stepped
+unfoldable pub stepUnder : ℕ → List ℕ → ℕ → StepTaken
 stepUnder bits run at =
     pick (ltb 4096 (length run)) (refusedAt LONG at)
     (pick (eqb at (length run)) (endedAt at)
@@ -48,14 +48,14 @@ stepUnder bits run at =
     (onOutcome (λ number. refusedAt number at) (λ layout. readTo layout (advanced at (layout .length))) (layoutAt bits (drop at run)))))
 
 -- FAMILY first
-unfoldable pub stepFrom : ℕ → List ℕ → ℕ → Stepped
+unfoldable pub stepFrom : ℕ → List ℕ → ℕ → StepTaken
 stepFrom afi run at = onOutcome (λ number. refusedAt number at) (λ bits. stepUnder bits run at) (familyBits afi)
 
 -- the number and values of each case of `Step`
-unfoldable pub steppedOf : Step → Stepped
-steppedOf (Nlri layout cursor) = readTo layout (cursor .at)
-steppedOf (End cursor) = endedAt (cursor .at)
-steppedOf (Refused number cursor) = refusedAt number (cursor .at)
+unfoldable pub stepTakenOf : Step → StepTaken
+stepTakenOf (Nlri layout cursor) = readTo layout (cursor .at)
+stepTakenOf (End cursor) = endedAt (cursor .at)
+stepTakenOf (Refused number cursor) = refusedAt number (cursor .at)
 
 -- what a walk answers: the number and the offset of its stop, the count of NLRIs read before it, and the number of those skipped
 abbrev pub walkedWith : (number count offset skipped : ℕ) → Walked

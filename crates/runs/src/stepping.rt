@@ -1,7 +1,7 @@
 // A step through a run of NLRIs.
 ghost use mathlib.Core.Path.{_≡_};
 ghost use Prim.Native.Nat.{_≤_};
-ghost use Rattle.runs.specs.Walking.{advanced, steppedOf, stepUnder, stepFrom};
+ghost use Rattle.runs.specs.Walking.{advanced, stepTakenOf, stepUnder, stepFrom};
 use nlri::AddressKind;
 use nlri::Family;
 use nlri::HEADER;
@@ -28,7 +28,7 @@ pub enum Step {
 impl Cursor {
     // The NLRI of the run at the cursor, with the next cursor.
     pub fn step(self, afi: u16, run: &[u8]) -> Step
-        ensures { λ r. ⌜ steppedOf r ≡ stepFrom afi (now (run .entry)) (self .at) ⌝ }
+        ensures { λ r. ⌜ stepTakenOf r ≡ stepFrom afi (now (run .entry)) (self .at) ⌝ }
     {
         match nlri::family_of(afi) {
             Family::Unknown(number) => Step::Refused(number, self),
@@ -39,7 +39,7 @@ impl Cursor {
 
 // The step from `at` under a family.
 fn step_under(kind: AddressKind, run: &[u8], at: usize) -> Step
-    ensures { λ r. ⌜ steppedOf r ≡ stepUnder (kind .bits) (now (run .entry)) at ⌝ }
+    ensures { λ r. ⌜ stepTakenOf r ≡ stepUnder (kind .bits) (now (run .entry)) at ⌝ }
 {
     if RUN < run.len() {
         return Step::Refused(LONG, Cursor { at });

@@ -12,7 +12,7 @@ use Rattle.octets.specs.Numbers.{DONE, SHORT, LONG, FLOW}
 use Rattle.octets.specs.Choice.{pick, both}
 use Rattle.octets.specs.Outcome.{Outcome, given, refused, andThen}
 use Rattle.octets.proofs.Choice.{pick-true, pick-false, pick-case, tested, opposite, both-true, both-true-left, both-true-right}
-use Rattle.octets.proofs.Outcome.{Refuses, value, number, refuses-pick, refuses-then, refuses-also, goes, stops, given-unless, passed, given-same}
+use Rattle.octets.proofs.Outcome.{Refuses, value, number, refuses-pick, refuses-then, refuses-also, and-goes-on, and-stops, given-unless, passed, given-same}
 use Rattle.lists.specs.LentLists.{Item, listCount, wholeList, listItems, readList, everyItem}
 use Rattle.nlri.specs.declared.group.Group.{Group}
 use Rattle.nlri.specs.Family.{familyBits, isOriginatorSize}
@@ -24,9 +24,9 @@ use Rattle.nlri.proofs.Definitions.Lengths.{family-octets, originator-sized}
 use Rattle.nlri.proofs.Definitions.Families.{family-least}
 use Rattle.nlri.proofs.Definitions.Groups.{group-refused, group-given}
 use Rattle.routes.specs.SharedTree.{SharedTree, MOST_ITEMS, originatorSized, stateSized, sourceActiveFault, judgedTree}
-use Rattle.shared_trees.specs.declared.Facts.{Facts}
+use Rattle.shared_trees.specs.declared.TreeFacts.{TreeFacts}
 use Rattle.shared_trees.specs.Tree.{treeOf}
-use Rattle.shared_trees.specs.Told.{listsFault, addressesSized, wholeFault, isEarly, Judged}
+use Rattle.shared_trees.specs.Told.{listsFault, treeAddressesSized, wholeFault, isEarly, ListsJudged}
 use Rattle.shared_trees.proofs.SourceActives.{all-bounded}
 
 -- no refusal of a shared tree is DONE
@@ -54,7 +54,7 @@ module _ (afi : ℕ) (tree : SharedTree) (class : Group) (is : class ≡ groupOf
 
 -- what a shared tree that is not refused is: its lists and their NLRIs as `is_eligible` asks, a group, and a router address of four octets or more
 pub record Accepted (afi : ℕ) (tree : SharedTree) : Type 0 where
-  pub judged : Judged (length (tree .group)) (tree .sourceActives) (tree .states)
+  pub judged : ListsJudged (length (tree .group)) (tree .sourceActives) (tree .states)
   pub read : sourceActiveFault afi (listItems 2 (tree .sourceActives)) ≡ DONE
   pub grouped : 0 < length (tree .group)
   pub routed : 4 ≤ length (tree .router)
@@ -116,18 +116,18 @@ module _ (afi : ℕ) (tree : SharedTree) (r : Read afi (tree .prefixes)) where
   last : ℕ → Outcome ℕ
   last class = pick (eqb (sourceActiveFault afi (listItems 2 (tree .sourceActives))) DONE) (given class) (refused (sourceActiveFault afi (listItems 2 (tree .sourceActives))))
 
-  sized-then : pick (addressesSized (r .bits) (tree .router) (tree .sourceActives) (tree .states)) (andThen (classIn (r .bits) (r .items) (tree .group)) last) (refused FLOW)
+  sized-then : pick (treeAddressesSized (r .bits) (tree .router) (tree .sourceActives) (tree .states)) (andThen (classIn (r .bits) (r .items) (tree .group)) last) (refused FLOW)
       ≡ pick (isOriginatorSize (length (tree .router)))
       (pick (everyItem originatorSized (listItems 2 (tree .sourceActives)))
       (pick (everyItem (stateSized (r .bits)) (listItems 2 (tree .states)))
       (andThen (classIn (r .bits) (r .items) (tree .group)) last)
       (refused FLOW)) (refused FLOW)) (refused FLOW)
-  unfolding addressesSized
+  unfolding treeAddressesSized
   sized-then = both-unless _ _ _ _ ∙ rw both-unless
 
   lists-then : judgedTree afi tree
       ≡ pick (eqb (listsFault (tree .sourceActives) (tree .states)) DONE)
-      (pick (addressesSized (r .bits) (tree .router) (tree .sourceActives) (tree .states)) (andThen (classIn (r .bits) (r .items) (tree .group)) last) (refused FLOW))
+      (pick (treeAddressesSized (r .bits) (tree .router) (tree .sourceActives) (tree .states)) (andThen (classIn (r .bits) (r .items) (tree .group)) last) (refused FLOW))
       (refused (listsFault (tree .sourceActives) (tree .states)))
   unfolding judgedTree listsFault readList andThen pick last
   lists-then =
@@ -147,14 +147,14 @@ module _ (afi : ℕ) (tree : SharedTree) (r : Read afi (tree .prefixes)) where
 
   module _ (none : listsFault (tree .sourceActives) (tree .states) ≡ DONE) where
     lists-done : judgedTree afi tree
-        ≡ pick (addressesSized (r .bits) (tree .router) (tree .sourceActives) (tree .states)) (andThen (classIn (r .bits) (r .items) (tree .group)) last) (refused FLOW)
+        ≡ pick (treeAddressesSized (r .bits) (tree .router) (tree .sourceActives) (tree .states)) (andThen (classIn (r .bits) (r .items) (tree .group)) last) (refused FLOW)
     lists-done = lists-then ∙ pick-true _ _ _ (eq-eqb _ _ none)
 
     -- a group without a class
     group-stop : classIn (r .bits) (r .items) (tree .group) ≡ refused FLOW → judgedTree afi tree ≡ refused FLOW
     group-stop e =
         lists-done
-        ∙ tested (addressesSized (r .bits) (tree .router) (tree .sourceActives) (tree .states)) (λ t. pick-true _ _ _ t ∙ sym (stops _ _ _ e)) (λ f. pick-false _ _ _ f)
+        ∙ tested (treeAddressesSized (r .bits) (tree .router) (tree .sourceActives) (tree .states)) (λ t. pick-true _ _ _ t ∙ sym (and-stops _ _ _ e)) (λ f. pick-false _ _ _ f)
 
     -- one with a class
     group-goes : (class : ℕ) → classIn (r .bits) (r .items) (tree .group) ≡ given class → (fault : ℕ) → fault ≡ wholeFault afi (r .bits) (tree .router) (tree .sourceActives) (tree .states)
@@ -162,10 +162,10 @@ module _ (afi : ℕ) (tree : SharedTree) (r : Read afi (tree .prefixes)) where
     unfolding wholeFault last
     group-goes class e fault told =
         lists-done
-        ∙ tested (addressesSized (r .bits) (tree .router) (tree .sourceActives) (tree .states))
+        ∙ tested (treeAddressesSized (r .bits) (tree .router) (tree .sourceActives) (tree .states))
         (λ t.
         let same : fault ≡ sourceActiveFault afi (listItems 2 (tree .sourceActives)) = told ∙ pick-true _ _ _ t in
-        pick-true _ _ _ t ∙ sym (goes _ _ _ _ e refl) ∙ ap (λ (n : ℕ). pick (eqb n DONE) (given class) (refused n)) (sym same))
+        pick-true _ _ _ t ∙ sym (and-goes-on _ _ _ _ e refl) ∙ ap (λ (n : ℕ). pick (eqb n DONE) (given class) (refused n)) (sym same))
         (λ f.
         let same : fault ≡ FLOW = told ∙ pick-false _ _ _ f in
         pick-false _ _ _ f ∙ sym (ap (λ (n : ℕ). pick (eqb n DONE) (given class) (refused n)) same ∙ pick-false _ _ _ (ne-eqb FLOW DONE (λ e. omega arith))))
@@ -179,7 +179,7 @@ early-either n flag told h =
 
 -- the branches of the function
 module _ (afi : ℕ) (prefixes router group sourceActives states : List ℕ) (class : Group) (is : class ≡ groupOf (classBy afi prefixes group)) (flag : Bool) (told : flag ≡ isEarly (class .number)) where
-  pub tree-early : flag ≡ true → (facts : Facts) → class ≡ groupOf (judgedTree afi (treeOf prefixes router group facts sourceActives states))
+  pub tree-early : flag ≡ true → (facts : TreeFacts) → class ≡ groupOf (judgedTree afi (treeOf prefixes router group facts sourceActives states))
   unfolding judgedTree treeOf isEarly
   tree-early h facts =
       let t = sym told ∙ h in
@@ -192,12 +192,12 @@ module _ (afi : ℕ) (prefixes router group sourceActives states : List ℕ) (cl
     under : (r : Read afi prefixes) × (class ≡ groupOf (classIn (r .bits) (r .items) group))
     under = class-read afi prefixes group class is (early-either _ flag told late)
 
-    pub tree-lists : (fault ≡ DONE → ⊥) → (r : Group) → r ≡ groupOf (refused fault) → (facts : Facts) → r ≡ groupOf (judgedTree afi (treeOf prefixes router group facts sourceActives states))
+    pub tree-lists : (fault ≡ DONE → ⊥) → (r : Group) → r ≡ groupOf (refused fault) → (facts : TreeFacts) → r ≡ groupOf (judgedTree afi (treeOf prefixes router group facts sourceActives states))
     unfolding treeOf
     tree-lists h r q facts = q ∙ ap groupOf (sym (lists-stop afi (treeOf prefixes router group facts sourceActives states) (under .0) fault lists h))
 
     module _ (whole : fault ≡ DONE) where
-      pub tree-group : (class .number ≡ DONE → ⊥) → (facts : Facts) → class ≡ groupOf (judgedTree afi (treeOf prefixes router group facts sourceActives states))
+      pub tree-group : (class .number ≡ DONE → ⊥) → (facts : TreeFacts) → class ≡ groupOf (judgedTree afi (treeOf prefixes router group facts sourceActives states))
       unfolding treeOf
       tree-group h facts =
           let r = under .0 in
@@ -209,15 +209,15 @@ module _ (afi : ℕ) (prefixes router group sourceActives states : List ℕ) (cl
         class-given : classIn (under .0 .bits) (under .0 .items) group ≡ given (class .«group_class»)
         class-given = let r = under .0 in group-given _ class (under .1) (refuses-also (λ n f e. omega arith) (class-refuses (r .bits) (r .items) group)) done
 
-        by-class : (facts : Facts) → judgedTree afi (treeOf prefixes router group facts sourceActives states) ≡ pick (eqb last DONE) (given (class .«group_class»)) (refused last)
+        by-class : (facts : TreeFacts) → judgedTree afi (treeOf prefixes router group facts sourceActives states) ≡ pick (eqb last DONE) (given (class .«group_class»)) (refused last)
         unfolding treeOf
         by-class facts =
             let r = under .0 in
             let all = class-sized afi (r .bits) (r .ofFamily) (r .items) group _ class-given in
             group-goes afi (treeOf prefixes router group facts sourceActives states) r (sym lists ∙ whole) _ class-given last (rest ∙ ap (λ (n : ℕ). wholeFault afi n router sourceActives states) all)
 
-        pub tree-fault : (last ≡ DONE → ⊥) → (r : Group) → r ≡ groupOf (refused last) → (facts : Facts) → r ≡ groupOf (judgedTree afi (treeOf prefixes router group facts sourceActives states))
+        pub tree-fault : (last ≡ DONE → ⊥) → (r : Group) → r ≡ groupOf (refused last) → (facts : TreeFacts) → r ≡ groupOf (judgedTree afi (treeOf prefixes router group facts sourceActives states))
         tree-fault h r q facts = q ∙ ap groupOf (sym (by-class facts ∙ pick-false _ _ _ (ne-eqb _ _ h)))
 
-        pub tree-done : last ≡ DONE → (facts : Facts) → class ≡ groupOf (judgedTree afi (treeOf prefixes router group facts sourceActives states))
+        pub tree-done : last ≡ DONE → (facts : TreeFacts) → class ≡ groupOf (judgedTree afi (treeOf prefixes router group facts sourceActives states))
         tree-done h facts = under .1 ∙ ap groupOf (class-given ∙ sym (by-class facts ∙ pick-true _ _ _ (eq-eqb _ _ h)))

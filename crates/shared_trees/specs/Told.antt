@@ -23,15 +23,15 @@ listsFault sourceActives states =
     (pick (wholeList 2 states) DONE SHORT) SHORT) LONG) LONG
 
 -- the addresses but for the group asked have their sizes
-unfoldable pub addressesSized : (bits : ℕ) → (router sourceActives states : List ℕ) → Bool
-addressesSized bits router sourceActives states =
+unfoldable pub treeAddressesSized : (bits : ℕ) → (router sourceActives states : List ℕ) → Bool
+treeAddressesSized bits router sourceActives states =
     both (isOriginatorSize (length router))
     (both (everyItem originatorSized (listItems 2 sourceActives))
     (everyItem (stateSized bits) (listItems 2 states)))
 
 -- the number once both lists are whole: of the addresses but for the group asked, then of each Source Active route in turn
 unfoldable pub wholeFault : (afi bits : ℕ) → (router sourceActives states : List ℕ) → ℕ
-wholeFault afi bits router sourceActives states = pick (addressesSized bits router sourceActives states) (sourceActiveFault afi (listItems 2 sourceActives)) FLOW
+wholeFault afi bits router sourceActives states = pick (treeAddressesSized bits router sourceActives states) (sourceActiveFault afi (listItems 2 sourceActives)) FLOW
 
 -- the number of a group's class stands before the lists': it is neither DONE nor FLOW
 unfoldable pub isEarly : (number : ℕ) → Bool
@@ -62,7 +62,7 @@ pub record StatesSized (size : ℕ) (states : List ℕ) : Type 0 where
   pub least : 4 ≤ size
 
 -- both lists are whole, the states have addresses of so many octets, and in each Source Active NLRI source and group stand
-pub record Judged (size : ℕ) (sourceActives states : List ℕ) : Type 0 where
+pub record ListsJudged (size : ℕ) (sourceActives states : List ℕ) : Type 0 where
   pub listed : wholeList 2 sourceActives ≡ true
   pub held : StatesSized size states
   pub stand : everyItem fieldsWithin (listItems 2 sourceActives) ≡ true

@@ -4,10 +4,10 @@ use mathlib.Core.Bool.{not}
 use mathlib.Core.List.{List}
 use lib.Dec.{eqb}
 use Rattle.routes.specs.SharedTree.{SharedTree}
-use Rattle.shared_trees.specs.declared.Facts.{Facts}
+use Rattle.shared_trees.specs.declared.TreeFacts.{TreeFacts}
 
 -- the shared tree of a call's arguments: a fact holds where it is not 0
-unfoldable pub treeOf : (prefixes router group : List ℕ) → Facts → (sourceActives states : List ℕ) → SharedTree
+unfoldable pub treeOf : (prefixes router group : List ℕ) → TreeFacts → (sourceActives states : List ℕ) → SharedTree
 treeOf prefixes router group facts sourceActives states =
     record {
       prefixes = prefixes;

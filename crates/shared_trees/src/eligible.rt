@@ -9,9 +9,9 @@ ghost use Rattle.lists.specs.LentLists.{frontItem, afterItem, wholeItem, listIt
 ghost use Rattle.nlri.specs.Standing.{standing};
 ghost use Rattle.routes.specs.SharedTree.{sourceActiveFault, isState, conditionHolds};
 ghost use Rattle.shared_trees.specs.Tree.{treeOf};
-ghost use Rattle.shared_trees.specs.Told.{FieldsWithin, fieldsWithin, Ending, StateStands, StatesSized, Judged, withoutState, withoutStateAt};
+ghost use Rattle.shared_trees.specs.Told.{FieldsWithin, fieldsWithin, Ending, StateStands, StatesSized, ListsJudged, withoutState, withoutStateAt};
 use crate::FIELDS;
-use crate::Facts;
+use crate::TreeFacts;
 use lists::FIRST;
 use nlri::standing;
 use octets::order;
@@ -97,7 +97,7 @@ fn lacks_state(list: &[u8], at: usize, router: &[u8], group: &[u8], states: &[u8
 
 // Some Source Active route is one.
 fn has_source(list: &[u8], router: &[u8], group: &[u8], states: &[u8]) -> bool
-    requires { ⌜ Judged (length (now group)) (now list) (now states) ⌝ }
+    requires { ⌜ ListsJudged (length (now group)) (now list) (now states) ⌝ }
     ensures { λ r. ⌜ r ≡ someItem (withoutStateAt (now (router .entry)) (now (group .entry)) (now (states .entry))) (listItems 2 (now (list .entry))) ⌝ }
 {
     let mut at = FIRST;
@@ -116,11 +116,11 @@ fn has_source(list: &[u8], router: &[u8], group: &[u8], states: &[u8]) -> bool
 pub fn is_eligible(
     router: &[u8],
     group: &[u8],
-    facts: Facts,
+    facts: TreeFacts,
     source_actives: &[u8],
     states: &[u8],
 ) -> bool
-    requires { ⌜ Judged (length (now group)) (now «source_actives») (now states) ⌝ }
+    requires { ⌜ ListsJudged (length (now group)) (now «source_actives») (now states) ⌝ }
     ensures { λ r. ⌜ ((afi : ℕ) (prefixes : List ℕ) → sourceActiveFault afi (listItems 2 (now («source_actives» .entry))) ≡ DONE → r ≡ conditionHolds afi (treeOf prefixes (now (router .entry)) (now (group .entry)) facts (now («source_actives» .entry)) (now (states .entry)))) ⌝ }
 {
     if facts.upstream != 0 {

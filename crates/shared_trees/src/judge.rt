@@ -7,9 +7,9 @@ ghost use Rattle.octets.specs.Outcome.{numberOf};
 ghost use Rattle.lists.specs.LentLists.{frontItem, wholeItem, wholeList, listItems, everyItem};
 ghost use Rattle.nlri.specs.Groups.{groupOf};
 ghost use Rattle.routes.specs.SharedTree.{originatorSized, stateSized, readSourceActive, sourceActiveFault, judgedTree};
-ghost use Rattle.shared_trees.specs.declared.Facts.{Facts};
+ghost use Rattle.shared_trees.specs.declared.TreeFacts.{TreeFacts};
 ghost use Rattle.shared_trees.specs.Tree.{treeOf};
-ghost use Rattle.shared_trees.specs.Told.{listsFault, addressesSized, wholeFault, isEarly};
+ghost use Rattle.shared_trees.specs.Told.{listsFault, treeAddressesSized, wholeFault, isEarly};
 use crate::FIELDS;
 use lists::FIRST;
 use nlri::Group;
@@ -97,7 +97,7 @@ fn are_states_sized(list: &[u8], size: usize) -> bool
 // The addresses but for the group asked: 4 or 16 octets of the PE and of every originator, `size` octets in every state.
 fn are_addresses_sized(size: usize, router: &[u8], source_actives: &[u8], states: &[u8]) -> bool
     requires { ⌜ (wholeList 2 (now «source_actives») ≡ true) × (wholeList 2 (now states) ≡ true) ⌝ }
-    ensures { λ r. ⌜ r ≡ addressesSized (8 * size) (now (router .entry)) (now («source_actives» .entry)) (now (states .entry)) ⌝ }
+    ensures { λ r. ⌜ r ≡ treeAddressesSized (8 * size) (now (router .entry)) (now («source_actives» .entry)) (now (states .entry)) ⌝ }
 {
     if !nlri::is_originator_size(router.len()) {
         return false;
@@ -166,7 +166,7 @@ pub fn tree_class(
     source_actives: &[u8],
     states: &[u8],
 ) -> Group
-    ensures { λ r. ⌜ ((facts : Facts) → r ≡ groupOf (judgedTree afi (treeOf (now (prefixes .entry)) (now (router .entry)) (now (group .entry)) facts (now («source_actives» .entry)) (now (states .entry))))) ⌝ }
+    ensures { λ r. ⌜ ((facts : TreeFacts) → r ≡ groupOf (judgedTree afi (treeOf (now (prefixes .entry)) (now (router .entry)) (now (group .entry)) facts (now («source_actives» .entry)) (now (states .entry))))) ⌝ }
 {
     let class = groups::class_by_prefixes(afi, prefixes, group);
     if is_early(class.number) {

@@ -5,16 +5,16 @@ use octets::number::DONE;
 use octets::number::TABLE;
 use places::header;
 use places::sound;
-use routes::TableInfo;
+use routes::TableFacts;
 
 // The family, the places that the memory has, and how many routes are in them: TABLE.
-pub fn info(table: &[u8]) -> TableInfo
+pub fn info(table: &[u8]) -> TableFacts
     ensures { λ r. ⌜ r ≡ infoOf (now (table .entry)) ⌝ }
 {
     if !sound::is_sound(table) {
-        return TableInfo::refused(TABLE);
+        return TableFacts::refused(TABLE);
     }
-    TableInfo {
+    TableFacts {
         number: DONE,
         afi: header::afi_of(table) as u32,
         places: header::places_of(table) as u32,

@@ -37,8 +37,8 @@ abbrev pub noFec : Fec
 noFec = record { «fec_type» = 0; «address_family» = 0; root = span 0 0; opaque = span 0 0 }
 
 -- the FEC of an attribute, by its tunnel type's row
-unfoldable pub fecOf : AttributeFields → Fec
-fecOf f = onOutcome (λ _. noFec) (onForm (λ _. noFec) (λ _. fecSpans (fecIn (f .identifier)))) (formOf (f .tunnelType))
+unfoldable pub fecAnswer : AttributeFields → Fec
+fecAnswer f = onOutcome (λ _. noFec) (onForm (λ _. noFec) (λ _. fecSpans (fecIn (f .identifier)))) (formOf (f .tunnelType))
 
 -- an attribute's fields, the identifier from octet 5 on
 unfoldable pub attributeStruct : AttributeFields → Attribute
@@ -50,7 +50,7 @@ attributeStruct f =
       label = labelOf f;
       «leaf_information_required» = leafInformationRequired f;
       identifier = span 5 (length (f .identifier));
-      fec = fecOf f;
+      fec = fecAnswer f;
     }
 
 -- what reading answers: the attribute, or the number alone

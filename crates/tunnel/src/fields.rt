@@ -6,7 +6,7 @@ ghost use Rattle.octets.specs.Numbers.{DONE};
 ghost use Rattle.octets.specs.Outcome.{numberOf};
 ghost use Rattle.tunnel.specs.Identifier.{readIdentifier};
 ghost use Rattle.tunnel.specs.Attribute.{fieldsIn};
-ghost use Rattle.tunnel.specs.Answers.{attributeStruct, fecOf};
+ghost use Rattle.tunnel.specs.Answers.{attributeStruct, fecAnswer};
 use crate::Attribute;
 use crate::fec::Fec;
 use octets::Span;
@@ -15,7 +15,7 @@ use octets::Span;
 fn fec_of(s: &[u8]) -> Fec
     requires { ⌜ 5 ≤ length (now s) ⌝ }
     requires { ⌜ numberOf (readIdentifier (getD (now s) 1 0) (drop 5 (now s))) ≡ DONE ⌝ }
-    ensures { λ r. ⌜ r ≡ fecOf (fieldsIn (now (s .entry))) ⌝ }
+    ensures { λ r. ⌜ r ≡ fecAnswer (fieldsIn (now (s .entry))) ⌝ }
 {
     if crate::identifier::is_mldp(s[1]) {
         return crate::fec::spans(octets::parts::after(s, crate::HEADER));

@@ -78,7 +78,7 @@ pub record CountingLeaf (afi : ℕ) (nlri attribute leafNlri leafAttribute : Lis
   pub some : id ≢ 0
 
 -- some Leaf route of the list counts by it
-pub record CountingId (afi : ℕ) (nlri attribute : List ℕ) (items : List Item) (id : ℕ) : Type 0 where
+pub record CountedId (afi : ℕ) (nlri attribute : List ℕ) (items : List Item) (id : ℕ) : Type 0 where
   pub leafNlri : List ℕ
   pub leafAttribute : List ℕ
   pub among : Among (leafNlri ∷ (leafAttribute ∷ [])) items
@@ -114,10 +114,10 @@ pub record BierDone (afi : ℕ) (nlri attribute : List ℕ) (setNumber : ℕ) (l
   pub route : BierRoute afi nlri attribute
   pub lent : GoodLeaves afi leaves
   pub room : 32 ≤ length output
-  pub string : StringFor (CountingId afi nlri attribute (lent .items)) setNumber (take 32 (due .octets))
+  pub string : StringFor (CountedId afi nlri attribute (lent .items)) setNumber (take 32 (due .octets))
   pub past : (i : ℕ) → 32 ≤ i → getD (due .octets) i 0 ≡ getD output i 0
   pub size : length (due .octets) ≡ length output
-  pub routers : DistinctIds (CountingId afi nlri attribute (lent .items)) setNumber (due .answer .routers)
+  pub routers : DistinctIds (CountedId afi nlri attribute (lent .items)) setNumber (due .answer .routers)
   pub ones : Ones (take 32 (due .octets)) 256 (due .answer .routers)
 
 -- a refusal tells no router and changes no octet
@@ -138,7 +138,7 @@ pub record BierRule : Type 0 where
       + 8 * bitAtPosition string (8 * k + 4) + 4 * bitAtPosition string (8 * k + 3) + 2 * bitAtPosition string (8 * k + 2) + bitAtPosition string (8 * k + 1)
   -- no other octets are the string of a set
   pub only : (afi : ℕ) (nlri attribute : List ℕ) (items : List Item) (setNumber : ℕ) (s t : List ℕ)
-      → StringFor (CountingId afi nlri attribute items) setNumber s → StringFor (CountingId afi nlri attribute items) setNumber t → s ≡ t
+      → StringFor (CountedId afi nlri attribute items) setNumber s → StringFor (CountedId afi nlri attribute items) setNumber t → s ≡ t
   -- and every list of the distinct BFR-ids has the same length
   pub every : (afi : ℕ) (nlri attribute : List ℕ) (items : List Item) (setNumber m n : ℕ)
-      → DistinctIds (CountingId afi nlri attribute items) setNumber m → DistinctIds (CountingId afi nlri attribute items) setNumber n → m ≡ n
+      → DistinctIds (CountedId afi nlri attribute items) setNumber m → DistinctIds (CountedId afi nlri attribute items) setNumber n → m ≡ n

@@ -37,7 +37,7 @@ none-judges =
 pub record KeyLaid (bits type : ℕ) (s : List ℕ) (n : ℕ) : Type 0 where
   pub laid : Laid
   pub is : laidWith noKey bits s ≡ given laid
-  pub out : LaidOut noKey bits s laid
+  pub laidOut : LaidOut noKey bits s laid
   pub may : keyable type (laid .type) ≡ true
   pub size : 2 + laid .size ≡ n
 
@@ -46,10 +46,10 @@ unfolding keyField
 key-laid bits type s n e =
     let p = on-given-given _ _ _ _ e in
     let q = given-unless _ _ _ _ (p .second) in
-    record { laid = p .value; is = p .first; out = laid-out noKey bits s (p .value) (p .first); may = q .0; size = given-same (q .1) }
+    record { laid = p .value; is = p .first; laidOut = laid-out noKey bits s (p .value) (p .first); may = q .0; size = given-same (q .1) }
 
 pub key-within : (bits type : ℕ) (s : List ℕ) (n : ℕ) → keyField bits type s ≡ given n → (2 ≤ n) × (n ≤ length s) × (n ≡ 2 + getD s 1 0)
-key-within bits type s n e = let k = key-laid bits type s n e in omega (arith, k .size, k .out .fits, k .out .enough, k .out .sized)
+key-within bits type s n e = let k = key-laid bits type s n e in omega (arith, k .size, k .laidOut .fits, k .laidOut .enough, k .laidOut .sized)
 
 -- which NLRIs may stand in a key, by the test; none of them has a key
 may-stand : (type inKey : ℕ) → KeyType type inKey → keyable type inKey ≡ true
@@ -132,9 +132,9 @@ pub key-most : (bits : ℕ) → bits ≤ 128 → (type : ℕ) → type ≤ 7 →
 unfolding noKey
 key-most bits small type seven s n e =
     let k = key-laid bits type s n e in
-    let l = length-part s 2 (k .laid .size) (omega (arith, k .out .fits, k .out .enough)) in
-    let short = leaf-short type (k .laid .type) seven (stands-in type (k .laid .type) (k .out .row .known) (k .may)) in
-    let most = sizes-most noKey bits 60 (k .laid .type) (λ s n e. absurd (never e refl)) small (bodyOf (k .laid .type)) (short .0) _ _ (k .out .sizes) in
+    let l = length-part s 2 (k .laid .size) (omega (arith, k .laidOut .fits, k .laidOut .enough)) in
+    let short = leaf-short type (k .laid .type) seven (stands-in type (k .laid .type) (k .laidOut .row .known) (k .may)) in
+    let most = sizes-most noKey bits 60 (k .laid .type) (λ s n e. absurd (never e refl)) small (bodyOf (k .laid .type)) (short .0) _ _ (k .laidOut .sizes) in
     omega (arith, k .size, short .1)
 
 module _ (bits : ℕ) (whole : 8 * (bits / 8) ≡ bits) where
@@ -144,7 +144,7 @@ module _ (bits : ℕ) (whole : 8 * (bits / 8) ≡ bits) where
         key-within bits type s n e .1,
         record {
           fields = fieldsLaid s (k .laid);
-          typed = stands-in type (k .laid .type) (k .out .row .known) (k .may);
+          typed = stands-in type (k .laid .type) (k .laidOut .row .known) (k .may);
           wellFormed = laid-sound noKey NoKey none-judges bits whole s (k .laid) a (k .is);
           fits = laid-fits noKey bits whole s (k .laid) a (k .is);
           encoded = ap (λ (m : ℕ). take m s) (sym (k .size)) ∙ laid-encoded noKey bits whole s (k .laid) (λ _. a) (k .is);

@@ -12,7 +12,7 @@ use Rattle.octets.specs.Choice.{pick, both, either}
 use Rattle.octets.specs.Outcome.{Outcome, given}
 use Rattle.octets.specs.Octets.{AllOctets, none, one, part}
 use Rattle.octets.proofs.Choice.{pick-true, pick-false, opposite, tested, both-left, both-true-left, both-true-right, either-left, either-second, either-false-right}
-use Rattle.octets.proofs.Outcome.{goes, given-otherwise, given-unless, passed, given-same}
+use Rattle.octets.proofs.Outcome.{and-goes-on, given-otherwise, given-unless, passed, given-same}
 use Rattle.octets.proofs.AllOctets.{octet-at, octets-drop, octets-part, octets-append}
 use Rattle.octets.proofs.Lists.{empty-list, take-two, length-part}
 use Rattle.nlri.specs.Bodies.{FieldKind, distinguisher, sourceAs, source, group, originator, key, fec, KnownType, bodies, onBody, bodyOf, codeOf, fieldIn, sameKind, hasField}
@@ -125,7 +125,7 @@ part-whole s n e = take-all n (drop 2 s) (rw length-drop (omega arith))
 -- a single NLRI: the one at the front, which is all of the octets
 pub record SingleLaid (bits : ℕ) (s : List ℕ) (laid : Laid) : Type 0 where
   pub front : laidAt bits s ≡ given laid
-  pub out : LaidOut (keyField bits) bits s laid
+  pub laidOut : LaidOut (keyField bits) bits s laid
   pub all : length s - 2 ≡ laid .size
   pub passes : isDiscarded bits (fieldsOf laid s) ≡ false
   pub fields : fieldsLaid s laid ≡ fieldsOf laid s
@@ -141,7 +141,7 @@ single-laid-out bits s laid e =
     let size : length s - 2 ≡ laid .size = eqb-true _ _ (q .0) ∙ ap (λ (x : Laid). x .size) same in
     record {
       front = first;
-      out = laid-out (keyField bits) bits s laid first;
+      laidOut = laid-out (keyField bits) bits s laid first;
       all = size;
       passes = ap (λ (x : Laid). isDiscarded bits (fieldsOf x s)) (sym same) ∙ k .0;
       fields = ap (λ (x : List ℕ). fieldsFrom (laid .type) (λ kind. fieldIn [] kind (laid .body) (cut (laid .sizes) x))) (part-whole s (laid .size) size);
@@ -208,8 +208,8 @@ module _ (judge : ℕ → List ℕ → Outcome ℕ) (Key : ℕ → List ℕ → 
   unfolding sizesOf encodeBody closed
   body-complete f [] c w = pick-true _ _ _ refl
   body-complete f (k ∷ body) c w =
-      sym (goes _ _ _ _ (field-complete judge Key judges bits whole f k (encodeBody f body) (w .0) (closes-body f k body (both-true-left _ _ c)))
-      (goes _ _ _ _ (ap (sizesOf (fieldSize judge bits (f .type)) body) (drop-append-seam (encodeField f k) (encodeBody f body)) ∙ body-complete f body (both-true-right (closes k body) _ c) (w .1)) refl))
+      sym (and-goes-on _ _ _ _ (field-complete judge Key judges bits whole f k (encodeBody f body) (w .0) (closes-body f k body (both-true-left _ _ c)))
+      (and-goes-on _ _ _ _ (ap (sizesOf (fieldSize judge bits (f .type)) body) (drop-append-seam (encodeField f k) (encodeBody f body)) ∙ body-complete f body (both-true-right (closes k body) _ c) (w .1)) refl))
 
   octets-body : ((type : ℕ) (k : List ℕ) → Key type k → AllOctets k) → bits ≤ 128 → (f : Fields) (body : List FieldKind) → WellFormedBody Key bits f body → AllOctets (encodeBody f body)
   unfolding encodeBody
@@ -233,7 +233,7 @@ module _ (judge : ℕ → List ℕ → Outcome ℕ) (Key : ℕ → List ℕ → 
       ∙ pick-false _ _ _ (le-ltb (suc (suc (length (encodeBody f body ++ t))) - 2) (length (encodeBody f body)) (simp length-append (omega arith)))
       ∙ on-body (f .type) _ _
       ∙ pick-true _ _ _ l
-      ∙ sym (goes _ _ _ _ (ap (sizesOf (fieldSize judge bits (f .type)) body) (take-append-seam (encodeBody f body) t) ∙ body-complete f body (rowOf (f .type) l .closed) w) refl)
+      ∙ sym (and-goes-on _ _ _ _ (ap (sizesOf (fieldSize judge bits (f .type)) body) (take-append-seam (encodeBody f body) t) ∙ body-complete f body (rowOf (f .type) l .closed) w) refl)
 
   -- a well-formed NLRI in octets
   pub octets-nlri : ((type : ℕ) (k : List ℕ) → Key type k → AllOctets k) → bits ≤ 128 → (f : Fields) → KnownType (f .type) → WellFormedBody Key bits f (bodyOf (f .type)) → LengthFits f → AllOctets (encodeNlri f)

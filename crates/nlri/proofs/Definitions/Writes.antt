@@ -13,7 +13,7 @@ use Rattle.octets.specs.Choice.{pick, both, either}
 use Rattle.octets.specs.Outcome.{Outcome, given, refused, onOutcome, andThen, numberOf}
 use Rattle.octets.specs.Octets.{AllOctets, bigEndian}
 use Rattle.octets.proofs.Choice.{pick-true, pick-false, pick-cong, tested, is-false, both-left, both-true, opposite, both-true-left, both-true-right}
-use Rattle.octets.proofs.Outcome.{and-cong, goes, on-given, given-otherwise, given-unless, passed, given-same}
+use Rattle.octets.proofs.Outcome.{and-cong, and-goes-on, on-given, given-otherwise, given-unless, passed, given-same}
 use Rattle.fec_elements.specs.declared.Standing.the-variants.{Lent}
 use Rattle.fec_elements.specs.Reading.{readFec}
 use Rattle.nlri.specs.Family.{familyBits, rootFamily, allowed, isOriginatorSize}
@@ -231,7 +231,7 @@ module _ (afi bits : ℕ) (ofFamily : familyBits afi ≡ given bits) (f : Fields
   write-well space w =
       let fits = fits-well (bodyOf (f .type)) (w .encodable .body) in
       write-is afi f space
-      ∙ sym (goes _ _ _ _ ofFamily (sym (pick-true _ _ _ (known (f .type) (w .encodable .typed)) ∙ pick-true _ _ _ (fits .0) ∙ pick-true _ _ _ (eq-eqb _ _ (fec-well (w .encodable .body))) ∙ pick-false _ _ _ (long-well (w .encodable .fits)) ∙ pick-true _ _ _ (fits .1) ∙ pick-false _ _ _ (passes afi bits ofFamily f w))))
+      ∙ sym (and-goes-on _ _ _ _ ofFamily (sym (pick-true _ _ _ (known (f .type) (w .encodable .typed)) ∙ pick-true _ _ _ (fits .0) ∙ pick-true _ _ _ (eq-eqb _ _ (fec-well (w .encodable .body))) ∙ pick-false _ _ _ (long-well (w .encodable .fits)) ∙ pick-true _ _ _ (fits .1) ∙ pick-false _ _ _ (passes afi bits ofFamily f w))))
 
   -- one that is discarded is not
   pub write-discarded : (space : ℕ) → Encodable bits f → Discarded bits f → writeNlri afi f space ≡ refused GROUP
@@ -239,7 +239,7 @@ module _ (afi bits : ℕ) (ofFamily : familyBits afi ≡ given bits) (f : Fields
   write-discarded space w d =
       let fits = fits-well (bodyOf (f .type)) (w .body) in
       write-is afi f space
-      ∙ sym (goes _ _ _ _ ofFamily (sym (pick-true _ _ _ (known (f .type) (w .typed)) ∙ pick-true _ _ _ (fits .0) ∙ pick-true _ _ _ (eq-eqb _ _ (fec-well (w .body))) ∙ pick-false _ _ _ (long-well (w .fits)) ∙ pick-true _ _ _ (fits .1) ∙ pick-true _ _ _ (tested-discarded bits f d))))
+      ∙ sym (and-goes-on _ _ _ _ ofFamily (sym (pick-true _ _ _ (known (f .type) (w .typed)) ∙ pick-true _ _ _ (fits .0) ∙ pick-true _ _ _ (eq-eqb _ _ (fec-well (w .body))) ∙ pick-false _ _ _ (long-well (w .fits)) ∙ pick-true _ _ _ (fits .1) ∙ pick-true _ _ _ (tested-discarded bits f d))))
 
   -- fields that pass the writer's tests before GROUP are encodable
   pub well-passed : HoldsOctets f → KnownType (f .type) → widthsFit bits f (bodyOf (f .type)) ≡ true → fecNumber bits f (bodyOf (f .type)) ≡ DONE → isLong f (bodyOf (f .type)) ≡ false → keysFit bits f (bodyOf (f .type)) ≡ true

@@ -11,7 +11,7 @@ use Rattle.octets.specs.Choice.{pick}
 use Rattle.octets.specs.Outcome.{Outcome, given, refused, andThen, numberOf}
 use Rattle.octets.specs.Octets.{part}
 use Rattle.octets.proofs.Choice.{pick-true, pick-false, tested, opposite}
-use Rattle.octets.proofs.Outcome.{and-pick, and-given, and-refused, on-given, on-refused, outcome, passed, given-otherwise, given-same, number-goes, number-stops, refused-of, goes}
+use Rattle.octets.proofs.Outcome.{and-pick, and-given, and-refused, on-given, on-refused, outcome, passed, given-otherwise, given-same, number-goes, number-stops, refused-of, and-goes-on}
 use Rattle.nlri.specs.declared.layout.Layout.{Layout}
 use Rattle.nlri.specs.Bodies.{FieldKind, distinguisher, sourceAs, source, group, originator, key, fec, keyable, bodies, onBody, bodyOf, codeOf, sameKind, hasField}
 use Rattle.nlri.specs.Reading.{Laid, fieldSize, sizesOf, laidWith, laidAt, accepted, acceptedAt, noKey, keyField}
@@ -70,7 +70,7 @@ layout-front bits s l e =
     let v = passed _ _ _ (w .first) in
     let same : v .value ≡ w .value = given-same (given-otherwise _ _ _ _ (v .second) .1) in
     let laid : laidAt bits s ≡ given (w .value) = v .first ∙ ap given same in
-    sym (goes _ _ _ _ laid refl) ∙ w .second
+    sym (and-goes-on _ _ _ _ laid refl) ∙ w .second
 
 pub layout-octets : (bits : ℕ) (s : List ℕ) (l : Layout) → layoutAt bits s ≡ given l → (2 ≤ length s) × (2 + l .length ≤ length s) × (l .«route_type» ≡ getD s 0 0) × (l .length ≡ getD s 1 0)
 layout-octets bits s l e = laid-octets bits s l (layout-front bits s l e)

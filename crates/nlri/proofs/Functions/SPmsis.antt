@@ -11,7 +11,7 @@ use Rattle.octets.specs.Numbers.{DONE}
 use Rattle.octets.specs.Choice.{pick, both, either}
 use Rattle.octets.specs.Outcome.{Outcome, given, refused, andThen, onOutcome, numberOf}
 use Rattle.octets.proofs.Choice.{pick-true, pick-false, both-left, tested, opposite}
-use Rattle.octets.proofs.Outcome.{on-mapped, goes, stops, on-given, on-refused, refused-of}
+use Rattle.octets.proofs.Outcome.{on-mapped, and-goes-on, and-stops, on-given, on-refused, refused-of}
 use Rattle.nlri.specs.Family.{familyBits}
 use Rattle.nlri.specs.Bodies.{distinguisher, source, group, bodies, onBody}
 use Rattle.nlri.specs.Fields.{isDiscarded}
@@ -22,7 +22,7 @@ use Rattle.nlri.proofs.Definitions.Whole.{part-whole, single-laid-out}
 use Rattle.nlri.proofs.Definitions.ReadNumbers.{laying, refuses-done, refuses-front}
 use Rattle.nlri.proofs.Functions.Ends.{number-mapped, left-fixed, left-drop}
 use Rattle.nlri.proofs.Functions.Fronts.{front-typed}
-use Rattle.nlri.proofs.Functions.Shapes.{out, total, other-sizes}
+use Rattle.nlri.proofs.Functions.Shapes.{laidOut, total, other-sizes}
 
 -- what a single NLRI comes to is of type 3
 ofSPmsi : Outcome Laid → Bool
@@ -47,7 +47,7 @@ module _ (bits : ℕ) (s : List ℕ) where
   opens laid e three =
       let o = single-laid-out bits s laid e in
       let z = other-sizes bits s laid (o .front) (ap withKey three) in
-      (sym (o .out .typed) ∙ three, sym (o .out .sized) ∙ sym (o .all), omega (arith, z .eight, total bits s laid (o .front), o .all, o .out .enough))
+      (sym (o .laidOut .typed) ∙ three, sym (o .laidOut .sized) ∙ sym (o .all), omega (arith, z .eight, total bits s laid (o .front), o .all, o .laidOut .enough))
 
   module _ (enough : 2 ≤ length s) (t : getD s 0 0 ≡ 3) (n : getD s 1 0 ≡ length s - 2) where
     header : headerAt s ≡ given (3, length s - 2)
@@ -65,9 +65,9 @@ module _ (bits : ℕ) (s : List ℕ) where
     unfolding acceptedSingle ofSPmsi accepted isDiscarded fieldsOf
     by-number =
         tested (eqb (numberOf (laidAt bits s)) DONE)
-        (λ yes. let r = refuses-done _ (laying (refuses-front bits s)) (eqb-true _ _ yes) in let o = out bits s (r .0) (r .1) in
-        sym (on-given true _ (r .0) _ _ (sym (goes _ _ (r .0) _ (r .1) (sym (pick-true _ _ _ (eq-eqb (length s - 2) (r .0 .size) (sym n ∙ sym (o .sized))) ∙ pick-false _ _ _ (both-left _ _ (ne-eqb (r .0 .type) 5 (λ five. omega (arith, o .typed, t)))))))) (sym (eq-eqb _ 3 (o .typed ∙ t)))) ∙ sym yes)
-        (λ no. sym (on-refused false _ _ _ _ (sym (stops _ _ _ (refused-of _ _ refl (eqb-false _ _ no)))) refl) ∙ sym no)
+        (λ yes. let r = refuses-done _ (laying (refuses-front bits s)) (eqb-true _ _ yes) in let o = laidOut bits s (r .0) (r .1) in
+        sym (on-given true _ (r .0) _ _ (sym (and-goes-on _ _ (r .0) _ (r .1) (sym (pick-true _ _ _ (eq-eqb (length s - 2) (r .0 .size) (sym n ∙ sym (o .sized))) ∙ pick-false _ _ _ (both-left _ _ (ne-eqb (r .0 .type) 5 (λ five. omega (arith, o .typed, t)))))))) (sym (eq-eqb _ 3 (o .typed ∙ t)))) ∙ sym yes)
+        (λ no. sym (on-refused false _ _ _ _ (sym (and-stops _ _ _ (refused-of _ _ refl (eqb-false _ _ no)))) refl) ∙ sym no)
 
   -- document 01's reading of a single NLRI, by the octets
   s-pmsi-by-octets : ofSPmsi (acceptedSingle bits s) ≡ sPmsiUnder bits s
@@ -87,4 +87,4 @@ module _ (afi : ℕ) (s : List ℕ) where
 
   pub s-pmsi-under : (bits : ℕ) (r : Bool) → familyBits afi ≡ given bits → r ≡ sPmsiUnder bits s → r ≡ isSPmsi afi s
   unfolding isSPmsi readNlri ofSPmsi fieldsOf
-  s-pmsi-under bits r e q = q ∙ sym (s-pmsi-by-octets bits s) ∙ sym (ap (onOutcome _ _) (sym (goes _ _ bits _ e refl)) ∙ on-mapped _ _ _ _)
+  s-pmsi-under bits r e q = q ∙ sym (s-pmsi-by-octets bits s) ∙ sym (ap (onOutcome _ _) (sym (and-goes-on _ _ bits _ e refl)) ∙ on-mapped _ _ _ _)

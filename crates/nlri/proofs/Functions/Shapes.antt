@@ -74,16 +74,16 @@ unkeyed-fec type h =
     ⊎-elim (λ e. ap withKey (eqb-true type 67 e)) (λ e. ap withKey (eqb-true type 71 e)) (either-true _ _ h)
 
 module _ (bits : ℕ) (s : List ℕ) (laid : Laid) (e : laidAt bits s ≡ given laid) where
-  pub out : LaidOut (keyField bits) bits s laid
+  pub laidOut : LaidOut (keyField bits) bits s laid
   unfolding laidAt
-  out = laid-out (keyField bits) bits s laid e
+  laidOut = laid-out (keyField bits) bits s laid e
 
   abbrev z : FieldKind → ℕ
   z k = sizeIn (laid .body) (laid .sizes) k
 
   -- what a test of every row says of the type and its body
   row-is : (test : ℕ → List FieldKind → Bool) → every test bodies ≡ true → test (laid .type) (laid .body) ≡ true
-  row-is test e = rw (out .body) (every-row test e (laid .type) (known (laid .type) (out .row .known)))
+  row-is test e = rw (laidOut .body) (every-row test e (laid .type) (known (laid .type) (laidOut .row .known)))
 
   -- the tests of a type by which the functions go say which kinds its body has
   pub has-is : (k : FieldKind) (test : ℕ → Bool) → every (λ n body. agree (hasField k body) (test n)) bodies ≡ true → hasField k (laid .body) ≡ test (laid .type)
@@ -105,21 +105,21 @@ module _ (bits : ℕ) (s : List ℕ) (laid : Laid) (e : laidAt bits s ≡ given 
   lacked k h = lacks 0 k (laid .body) (laid .sizes) h
 
   length-body : length (part s 2 (laid .size)) ≡ laid .size
-  length-body = length-part s 2 (laid .size) (omega (arith, out .fits, out .enough))
+  length-body = length-part s 2 (laid .size) (omega (arith, laidOut .fits, laidOut .enough))
 
   -- the field of a kind is read at its start
   pub kind-stands : (k : FieldKind) → hasField k (laid .body) ≡ true
       → StandsAt (fieldSize (keyField bits) bits (laid .type)) (sizeIn (laid .body) (laid .sizes)) k (laid .body) (startIn (laid .body) (laid .sizes) k) (part s 2 (laid .size)) (laid .sizes)
-  kind-stands k h = body-stands _ (laid .body) (part s 2 (laid .size)) (laid .sizes) (rw (out .body) (out .row .distinct)) (rw (out .body) (out .row .ordered)) (rw (out .body) (out .sizes)) k h
+  kind-stands k h = body-stands _ (laid .body) (part s 2 (laid .size)) (laid .sizes) (rw (laidOut .body) (laidOut .row .distinct)) (rw (laidOut .body) (laidOut .row .ordered)) (rw (laidOut .body) (laidOut .sizes)) k h
 
   pub kind-piece : (k : FieldKind) → fieldIn [] k (laid .body) (cut (laid .sizes) (part s 2 (laid .size))) ≡ part (part s 2 (laid .size)) (startIn (laid .body) (laid .sizes) k) (z k)
-  kind-piece k = body-piece (fieldSize (keyField bits) bits (laid .type)) (laid .body) (part s 2 (laid .size)) (laid .sizes) (rw (out .body) (out .row .distinct)) (rw (out .body) (out .row .ordered)) (rw (out .body) (out .sizes)) k
+  kind-piece k = body-piece (fieldSize (keyField bits) bits (laid .type)) (laid .body) (part s 2 (laid .size)) (laid .sizes) (rw (laidOut .body) (laidOut .row .distinct)) (rw (laidOut .body) (laidOut .row .ordered)) (rw (laidOut .body) (laidOut .sizes)) k
 
   -- the fields take all of the body
   pub total : z key + (z distinguisher + (z sourceAs + (z fec + (z source + (z group + z originator))))) ≡ laid .size
   unfolding sumOf order
   total =
-      let all = body-all _ (laid .body) (part s 2 (laid .size)) (laid .sizes) (rw (out .body) (out .row .distinct)) (rw (out .body) (out .row .ordered)) (rw (out .body) (out .sizes))
+      let all = body-all _ (laid .body) (part s 2 (laid .size)) (laid .sizes) (rw (laidOut .body) (laidOut .row .distinct)) (rw (laidOut .body) (laidOut .row .ordered)) (rw (laidOut .body) (laidOut .sizes))
       (field-within (keyField bits) bits (λ t y n q. key-within bits t y n q .1) (laid .type)) in
       omega (arith, length-body)
 
@@ -164,7 +164,7 @@ module _ (bits : ℕ) (s : List ℕ) (laid : Laid) (e : laidAt bits s ≡ given 
   unfolding fieldSize sumOf before order sameKind codeOf pick hasField either
   leaf-sizes t =
       let k = key-within bits _ _ (z key) (kind-stands key (has-key ∙ t) .read) in
-      let body : laid .body ≡ key ∷ originator ∷ [] = out .body ∙ out .row .keyed (ap (hasField key) (sym (out .body)) ∙ has-key ∙ t) in
+      let body : laid .body ≡ key ∷ originator ∷ [] = laidOut .body ∙ laidOut .row .keyed (ap (hasField key) (sym (laidOut .body)) ∙ has-key ∙ t) in
       let none : (k : FieldKind) → hasField k (key ∷ originator ∷ []) ≡ false → z k ≡ 0 = λ k h. lacked k (ap (hasField k) body ∙ h) in
       let second : getD (part s 2 (laid .size)) 1 0 ≡ getD s 3 0 = sym (getD-drop 1 (part s 2 (laid .size)) 0 0) ∙ octet 1 (omega (arith, length-body, k .0, k .1)) in
       record {
@@ -174,7 +174,7 @@ module _ (bits : ℕ) (s : List ℕ) (laid : Laid) (e : laidAt bits s ≡ given 
 
   pub unnumbered : withKey (laid .type) ≡ true → withSourceAs (laid .type) ≡ false
   unfolding hasField sameKind codeOf either
-  unnumbered t = sym has-source-as ∙ ap (hasField sourceAs) (out .body ∙ out .row .keyed (ap (hasField key) (sym (out .body)) ∙ has-key ∙ t))
+  unnumbered t = sym has-source-as ∙ ap (hasField sourceAs) (laidOut .body ∙ laidOut .row .keyed (ap (hasField key) (sym (laidOut .body)) ∙ has-key ∙ t))
 
   -- any other NLRI begins with a route distinguisher
   pub record OtherSizes : Type 0 where
@@ -184,7 +184,7 @@ module _ (bits : ℕ) (s : List ℕ) (laid : Laid) (e : laidAt bits s ≡ given 
 
   -- its route distinguisher, and its group by its source, in whose place a FEC stands
   unkeyed-row : withKey (laid .type) ≡ false → (hasField distinguisher (laid .body) ≡ true) × (hasField group (laid .body) ≡ hasField source (laid .body)) × (hasField fec (laid .body) ≡ true → hasField source (laid .body) ≡ false)
-  unkeyed-row n = rw (out .body) (out .row .unkeyed (ap (hasField key) (sym (out .body)) ∙ has-key ∙ n))
+  unkeyed-row n = rw (laidOut .body) (laidOut .row .unkeyed (ap (hasField key) (sym (laidOut .body)) ∙ has-key ∙ n))
 
   pub other-sizes : withKey (laid .type) ≡ false → OtherSizes
   unfolding fieldSize
@@ -245,7 +245,7 @@ module _ (bits : ℕ) (s : List ℕ) (laid : Laid) (e : laidAt bits s ≡ given 
   unfolding withKey either sourceStart pick bodyOf onBody bodies hasField sameKind codeOf sizeAt
   group-piece five =
       let n : withKey (laid .type) ≡ false = ap withKey five in
-      let f : hasField source (laid .body) ≡ true = ap (hasField source) (out .body ∙ ap bodyOf five) in
+      let f : hasField source (laid .body) ≡ true = ap (hasField source) (laidOut .body ∙ ap bodyOf five) in
       let w = flow-sizes n f in
       let st = starts (laid .body) (laid .sizes) in
       let o = other-sizes n in
@@ -266,8 +266,8 @@ module _ (bits : ℕ) (s : List ℕ) (laid : Laid) (e : laidAt bits s ≡ given 
   discarded-laid =
       ap (isDiscarded bits) (fields-laid (keyField bits) (λ type x n h. key-within bits type x n h .1) bits s laid e)
       ∙ tested (eqb (laid .type) 5)
-      (λ y. ap₂ (λ (t : ℕ) (g : List ℕ). both (eqb t 5) (isSsm bits g)) (out .typed) (group-piece (eqb-true _ _ y)))
-      (λ n. both-left _ _ n ∙ sym (both-left _ _ (ap (λ (t : ℕ). eqb t 5) (sym (out .typed)) ∙ n)))
+      (λ y. ap₂ (λ (t : ℕ) (g : List ℕ). both (eqb t 5) (isSsm bits g)) (laidOut .typed) (group-piece (eqb-true _ _ y)))
+      (λ n. both-left _ _ n ∙ sym (both-left _ _ (ap (λ (t : ℕ). eqb t 5) (sym (laidOut .typed)) ∙ n)))
 
   -- a FEC, whose size is what its own lengths say, behind the route distinguisher or the source AS
   pub record FecSizes : Type 0 where
@@ -288,7 +288,7 @@ module _ (bits : ℕ) (s : List ℕ) (laid : Laid) (e : laidAt bits s ≡ given 
       let within : z distinguisher + z sourceAs ≤ laid .size = omega (arith, total) in
       let from : drop (z distinguisher + z sourceAs) (part s 2 (laid .size)) ≡ part s (fecStart (laid .type)) (2 + getD s 1 0 - fecStart (laid .type)) =
       drop-part s 2 (laid .size) (z distinguisher + z sourceAs) within
-      ∙ ap₂ (part s) (sym begin) (omega (arith, begin, out .sized)) in
+      ∙ ap₂ (part s) (sym begin) (omega (arith, begin, laidOut .sized)) in
       let read = size-read _ _ (z fec) (rw at at (kind-stands fec yes .read)) in
       record {
         none = (lacked source (unkeyed-row n .2 yes), lacked group (unkeyed-row n .1 ∙ unkeyed-row n .2 yes));
@@ -310,7 +310,7 @@ module _ (bits : ℕ) (small : bits ≤ 128) (s : List ℕ) (laid : Laid) (e : l
   w k = sizeIn (laid .body) (laid .sizes) k
 
   long : length s ≡ 2 + laid .size
-  long = let h = out bits s laid e .enough in omega arith
+  long = let h = laidOut bits s laid e .enough in omega arith
 
   abbrev start : FieldKind → ℕ
   start k = startIn (laid .body) (laid .sizes) k
@@ -362,16 +362,16 @@ module _ (bits : ℕ) (small : bits ≤ 128) (s : List ℕ) (laid : Laid) (e : l
         fields = fields-same refl (d .0) (n .0) (address-at source _ a) (address-at group _ b) (piece originator ∙ ap (λ (i : ℕ). part s i (w originator)) last)
             (piece key ∙ ap (λ (i : ℕ). part s i (w key)) first) (fec-at (fecStart (laid .type)) c);
         within = record {
-          typed = known-octet (laid .type) (out bits s laid e .row .known);
+          typed = known-octet (laid .type) (laidOut bits s laid e .row .known);
           distinguished = d .1;
           numbered = n .1;
           source = (omega (arith, address-short bits s laid e small source (λ y. refl)), address-ends source _ (omega (arith, all)) a);
           group = (omega (arith, address-short bits s laid e small group (λ y. refl)), address-ends group _ (omega (arith, all)) b);
           originator = (originator-short bits s laid e, omega (arith, long, all));
           key = omega (arith, long, all);
-          fecKind = ap (hasField fec) (sym (out bits s laid e .body)) ∙ has-fec bits s laid e;
+          fecKind = ap (hasField fec) (sym (laidOut bits s laid e .body)) ∙ has-fec bits s laid e;
           fecEnd = fec-ends (fecStart (laid .type)) c;
-          keyKind = ap (hasField key) (sym (out bits s laid e .body)) ∙ has-key bits s laid e;
+          keyKind = ap (hasField key) (sym (laidOut bits s laid e .body)) ∙ has-key bits s laid e;
         };
       }
 

@@ -13,7 +13,7 @@ use Rattle.octets.specs.Outcome.{Outcome, given, refused, andThen, onOutcome, n
 use Rattle.octets.specs.Octets.{part}
 use Rattle.octets.specs.declared.Span.{Span}
 use Rattle.octets.proofs.Choice.{pick-true, pick-false, tested, either-true}
-use Rattle.octets.proofs.Outcome.{goes, stops, stopped, never, and-assoc, and-cong, and-pick, and-given, and-refused, passed, given-unless, given-otherwise, given-same, refused-alike, refused-of, number-given, number-goes, number-stops, number-picks, number-skips, value, number, refuses-then, refuses-pick}
+use Rattle.octets.proofs.Outcome.{and-goes-on, and-stops, stopped, never, and-assoc, and-cong, and-pick, and-given, and-refused, passed, given-unless, given-otherwise, given-same, refused-alike, refused-of, number-given, number-goes, number-stops, number-picks, number-skips, value, number, refuses-then, refuses-pick}
 use Rattle.nlri.specs.declared.layout.Layout.{Layout}
 use Rattle.nlri.specs.declared.address.Address.{Address}
 use Rattle.nlri.specs.declared.address.RouteDistinguisher.{RouteDistinguisher}
@@ -25,7 +25,7 @@ use Rattle.nlri.specs.Fields.{Fields, isDiscarded}
 use Rattle.nlri.specs.Reading.{Laid, laidAt, accepted, acceptedAt, acceptedSingle, fieldsOf, readNlri, readOfType}
 use Rattle.nlri.specs.Layouts.{layoutOf, layoutAt, laidLayout, layoutSingle}
 use Rattle.nlri.specs.Answers.{nlriStruct, keySpan, fecSpan, nlriAnswer}
-use Rattle.nlri.specs.Inner.{withKey, withFec, fecStart, layoutIn, Stands, fieldsAt, keyAt, fecAt, LayoutWithin, isDiscardedAt, single}
+use Rattle.nlri.specs.Inner.{withKey, withFec, fecStart, layoutIn, Stands, fieldsAt, keyAt, fecInLayout, LayoutWithin, isDiscardedAt, single}
 use Rattle.nlri.proofs.Definitions.Lengths.{family-octets}
 use Rattle.octets.proofs.Lists.{length-part}
 use Rattle.nlri.proofs.Functions.Shapes.{discarded-laid, shaped, originator-least, other-sizes, lacked, has-fec}
@@ -51,7 +51,7 @@ module _ (bits : ℕ) (s : List ℕ) (n : ℕ) (e : n ≡ numberOf (laidLayout b
   unfolding layoutAt acceptedAt laidLayout
   step-refused faulty =
       let why : laidAt bits s ≡ refused n = ⊎-elim (λ p. p) (λ later. absurd (never refl (later .second))) (stopped _ _ _ (refused-of _ n e faulty)) in
-      number-stops n _ _ (sym (stops _ _ _ why))
+      number-stops n _ _ (sym (and-stops _ _ _ why))
 
   module _ (done : n ≡ DONE) where
     front : laidLayout bits s ≡ given (layoutIn s)
@@ -73,13 +73,13 @@ module _ (bits : ℕ) (s : List ℕ) (n : ℕ) (e : n ≡ numberOf (laidLayout b
     unfolding layoutAt acceptedAt accepted laidLayout numberOf
     front-accepted-octets h =
         let w = passed _ _ _ front in
-        number-goes DONE _ (w .value) _ (sym (goes _ _ _ _ (w .first) (sym (pick-false _ _ _ (discarded-laid bits s (w .value) (w .first) ∙ h))))) refl
+        number-goes DONE _ (w .value) _ (sym (and-goes-on _ _ _ _ (w .first) (sym (pick-false _ _ _ (discarded-laid bits s (w .value) (w .first) ∙ h))))) refl
 
     pub front-ssm : isDiscardedAt bits s ≡ true → GROUP ≡ numberOf (layoutAt bits s)
     unfolding layoutAt acceptedAt accepted laidLayout
     front-ssm h =
         let w = passed _ _ _ front in
-        number-stops GROUP _ _ (sym (goes _ _ _ _ (w .first) (sym (pick-true _ _ _ (discarded-laid bits s (w .value) (w .first) ∙ h)))))
+        number-stops GROUP _ _ (sym (and-goes-on _ _ _ _ (w .first) (sym (pick-true _ _ _ (discarded-laid bits s (w .value) (w .first) ∙ h)))))
 
     pub front-followed : (length s - 2 ≡ getD s 1 0 → ⊥) → LENGTH ≡ numberOf (single bits s)
     unfolding single numberOf
@@ -118,7 +118,7 @@ module _ (afi : ℕ) (s : List ℕ) where
       let w = passed _ _ _ (f .second) in
       let same : layoutOf (w .value) ≡ l = given-same (w .second) in
       let shape = shaped (f .value) s (w .value) (family-octets afi (f .value) (f .first) .1) (w .first) in (
-        sym (goes (given (fieldsAt l s)) _ (f .value) _ (f .first) (goes (given (fieldsAt l s)) _ (w .value) _ (w .first) (ap given (ap (λ (x : Layout). fieldsAt x s) (sym same) ∙ sym (shape .fields))))),
+        sym (and-goes-on (given (fieldsAt l s)) _ (f .value) _ (f .first) (and-goes-on (given (fieldsAt l s)) _ (w .value) _ (w .first) (ap given (ap (λ (x : Layout). fieldsAt x s) (sym same) ∙ sym (shape .fields))))),
         subst (λ (x : Layout). LayoutWithin x s) same (shape .within),
       )
 
@@ -130,15 +130,15 @@ module _ (afi : ℕ) (s : List ℕ) where
 module _ (type afi : ℕ) (s : List ℕ) where
   pub of-no-family : (n : ℕ) → familyBits afi ≡ refused n → FAMILY ≡ numberOf (readOfType type afi s)
   unfolding readNlri
-  of-no-family n e = sym (family-refused afi n e .0) ∙ number-stops n _ _ (sym (stops _ n _ e))
+  of-no-family n e = sym (family-refused afi n e .0) ∙ number-stops n _ _ (sym (and-stops _ n _ e))
 
   module _ (bits : ℕ) (family : familyBits afi ≡ given bits) (n : ℕ) (e : n ≡ numberOf (single bits s)) where
     pub of-type-refused : (n ≡ DONE → ⊥) → n ≡ numberOf (readOfType type afi s)
-    of-type-refused faulty = number-stops n _ _ (read-refused afi s n (sym (single-is (refused n) afi s (goes (refused n) _ bits _ family (sym (refused-of _ n e faulty))))))
+    of-type-refused faulty = number-stops n _ _ (read-refused afi s n (sym (single-is (refused n) afi s (and-goes-on (refused n) _ bits _ family (sym (refused-of _ n e faulty))))))
 
     module _ (done : n ≡ DONE) where
       read : readNlri afi s ≡ given (fieldsAt (layoutIn s) s)
-      read = read-by-layout afi s (layoutIn s) (sym (single-is (given (layoutIn s)) afi s (goes (given (layoutIn s)) _ bits _ family (single-in bits s n e done .1)))) .0
+      read = read-by-layout afi s (layoutIn s) (sym (single-is (given (layoutIn s)) afi s (and-goes-on (given (layoutIn s)) _ bits _ family (single-in bits s n e done .1)))) .0
 
       typed : layoutIn s .«route_type» ≡ getD s 0 0
       unfolding single
@@ -173,10 +173,10 @@ read-at afi s f e =
     let layout = laid-as bits s laid (o .front) in
     record {
       fields = ap (λ (l : Layout). fieldsAt l s) (sym layout) ∙ sym (shaped bits s laid (family-octets afi bits (p .first) .1) (q .first) .fields) ∙ same;
-      typed = sym (o .out .typed) ∙ type;
-      long = (o .out .enough, o .all ∙ o .out .sized);
+      typed = sym (o .laidOut .typed) ∙ type;
+      long = (o .laidOut .enough, o .all ∙ o .laidOut .sized);
       stands = stands bits s laid (o .front);
-      originator = λ h. rw (sym layout) (originator-least bits s laid (o .front) (ap (hasField originator) (o .out .body ∙ ap bodyOf type) ∙ h));
+      originator = λ h. rw (sym layout) (originator-least bits s laid (o .front) (ap (hasField originator) (o .laidOut .body ∙ ap bodyOf type) ∙ h));
     }
 
 -- a struct by its fields
@@ -204,12 +204,12 @@ fec-start type k =
         → pick (withFec type) (fecStart type) 0 ≡ pick (hasField fec (bodyOf type)) (pick (hasField sourceAs (bodyOf type)) 14 10) 0
     at n e h = rw e h
 
-pub fec-same : (l : Layout) (s : List ℕ) → LayoutWithin l s → fecAt l ≡ fecSpan (fieldsAt l s)
-unfolding fecAt fecSpan fieldsAt
+pub fec-same : (l : Layout) (s : List ℕ) → LayoutWithin l s → fecInLayout l ≡ fecSpan (fieldsAt l s)
+unfolding fecInLayout fecSpan fieldsAt
 fec-same l s w = λ i. record { start = fec-start (l .«route_type») (w .fecKind) i; size = sym (fec-long (l .fec) _ s (w .fecEnd)) i }
 
-fec-begin : (bits : ℕ) (s : List ℕ) (laid : Laid) → laidAt bits s ≡ given laid → part s (fecAt (layoutOf laid) .start) (layoutOf laid .fec) ≡ part s (fecStart (laid .type)) (layoutOf laid .fec)
-unfolding fecAt layoutOf part
+fec-begin : (bits : ℕ) (s : List ℕ) (laid : Laid) → laidAt bits s ≡ given laid → part s (fecInLayout (layoutOf laid) .start) (layoutOf laid .fec) ≡ part s (fecStart (laid .type)) (layoutOf laid .fec)
+unfolding fecInLayout layoutOf part
 fec-begin bits s laid e =
     tested (withFec (laid .type)) (λ yes. ap (λ (n : ℕ). part s n (layoutOf laid .fec)) (pick-true _ _ 0 yes)) (λ no. rw (lacked bits s laid e fec (has-fec bits s laid e ∙ no)) refl)
 
@@ -227,7 +227,7 @@ spanned span field stands afi s f e =
     (stands (p .value) s (q .value) (single-laid-out (p .value) s (q .value) (q .first) .front) (shape .within))
 
 pub fec-spanned : (afi : ℕ) (s : List ℕ) (f : Fields) → readNlri afi s ≡ given f → part s (fecSpan f .start) (fecSpan f .size) ≡ f .fec
-unfolding fieldsAt fecAt layoutOf part
+unfolding fieldsAt fecInLayout layoutOf part
 fec-spanned =
     spanned fecSpan (λ (g : Fields). g .fec) (λ bits s laid e w. ap (λ (k : Span). part s (k .start) (k .size)) (sym (fec-same (layoutOf laid) s w)) ∙ fec-begin bits s laid e)
 

@@ -21,20 +21,20 @@ use Rattle.nlri.specs.Inner.{layoutWith, withKey, withFec, withSourceAs,
 use Rattle.nlri.proofs.Definitions.Table.{every, agree, known-above}
 use Rattle.nlri.proofs.Definitions.ReadNumbers.{laying, refuses-done, refuses-laid-layout}
 use Rattle.nlri.proofs.Definitions.Starts.{sizeIn}
-use Rattle.nlri.proofs.Functions.Shapes.{out, total, has-is, lacked, leaf-sizes, other-sizes, flow-start, flow-bare, flow-sizes, unkeyed-fec, fec-sizes, no-flow}
+use Rattle.nlri.proofs.Functions.Shapes.{laidOut, total, has-is, lacked, leaf-sizes, other-sizes, flow-start, flow-bare, flow-sizes, unkeyed-fec, fec-sizes, no-flow}
 
 module _ (bits : ℕ) (s : List ℕ) (laid : Laid) (e : laidAt bits s ≡ given laid) where
   abbrev z : FieldKind → ℕ
   z k = sizeIn (laid .body) (laid .sizes) k
 
   type : laid .type ≡ getD s 0 0
-  type = out bits s laid e .typed
+  type = laidOut bits s laid e .typed
 
   size : laid .size ≡ getD s 1 0
-  size = out bits s laid e .sized
+  size = laidOut bits s laid e .sized
 
   long : 2 + laid .size ≤ length s
-  long = omega (arith, out bits s laid e .enough, out bits s laid e .fits)
+  long = omega (arith, laidOut bits s laid e .enough, laidOut bits s laid e .fits)
 
   all : z key + (z distinguisher + (z sourceAs + (z fec + (z source + (z group + z originator))))) ≡ laid .size
   all = total bits s laid e
@@ -70,7 +70,7 @@ module _ (bits : ℕ) (s : List ℕ) (laid : Laid) (e : laidAt bits s ≡ given 
 
   -- the body of a type that is given
   body-of : (n : ℕ) → laid .type ≡ n → (k : FieldKind) → hasField k (laid .body) ≡ hasField k (bodyOf n)
-  body-of n t k = ap (hasField k) (out bits s laid e .body ∙ ap bodyOf t)
+  body-of n t k = ap (hasField k) (laidOut bits s laid e .body ∙ ap bodyOf t)
 
   fec-stands : withFec (laid .type) ≡ true → FecStands (laid .type) s × (layoutOf laid ≡ fecLayout (laid .type) s)
   unfolding fecLayout
@@ -94,7 +94,7 @@ module _ (bits : ℕ) (s : List ℕ) (laid : Laid) (e : laidAt bits s ≡ given 
   mldp-stands : 7 < laid .type → MldpStands (laid .type) s × (layoutOf laid ≡ mldpLayout (laid .type) s)
   unfolding mldpLayout withKey withFec either
   mldp-stands h =
-      let held : (laid .type ≡ 68 → ⊥) → withFec (laid .type) ≡ true = λ other. ⊎-elim (ap withFec) (⊎-elim (λ q. absurd (other q)) (ap withFec)) (known-above _ (out bits s laid e .row .known) h) in (
+      let held : (laid .type ≡ 68 → ⊥) → withFec (laid .type) ≡ true = λ other. ⊎-elim (ap withFec) (⊎-elim (λ q. absurd (other q)) (ap withFec)) (known-above _ (laidOut bits s laid e .row .known) h) in (
         record { leaf = λ q. leaf-stands (ap withKey q) .0; fec = λ other. fec-stands (held other) .0 },
         tested (eqb (laid .type) 68) (λ t. let q : laid .type ≡ 68 = eqb-true _ _ t in picks _ _ _ _ t (leaf-stands (ap withKey q) .1)) (λ n. skips _ _ _ _ n (fec-stands (held (eqb-false _ _ n)) .1)),
       )
@@ -108,7 +108,7 @@ module _ (bits : ℕ) (s : List ℕ) (laid : Laid) (e : laidAt bits s ≡ given 
   unfolding withKey either
   stands =
       record {
-        header = out bits s laid e .enough;
+        header = laidOut bits s laid e .enough;
         intraAs = λ q. omega (arith, other-sizes bits s laid e (ap withKey (type ∙ q)) .eight, all, size);
         leaf = λ q. leaf-stands (ap withKey (type ∙ q)) .0;
         mldp = λ h. rw type at (mldp-stands (omega (arith, type)) .0);

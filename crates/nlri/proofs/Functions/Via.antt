@@ -1,9 +1,9 @@
--- What a `match` on an answer tells: how a definition goes on after a step, by the case that the step's answer was.
+-- What a `match` on an answer tells: how a definition and-goes-on on after a step, by the case that the step's answer was.
 use mathlib.Core.Path.{_≡_, sym, _∙_, ap}
 use Prim.Native.Nat.{ℕ}
 use Rattle.octets.specs.Numbers.{DONE}
 use Rattle.octets.specs.Outcome.{Outcome, given, refused, onOutcome, numberOf}
-use Rattle.octets.proofs.Outcome.{goes, stops, on-given, on-refused}
+use Rattle.octets.proofs.Outcome.{and-goes-on, and-stops, on-given, on-refused}
 use Rattle.octets.proofs.Tests.{tests}
 use Rattle.nlri.specs.declared.layout.Layout.{Layout}
 use Rattle.nlri.specs.declared.layout.Reading.{Reading}
@@ -67,4 +67,4 @@ by-value a o e = ap numberOf e
 pub group-is : (g : Group) (o p : Outcome ℕ) → g ≡ groupOf o → o ≡ p → g ≡ groupOf p
 group-is g o p e q = e ∙ ap groupOf q
 
-pub ruleset reads = (tests, goes, stops, on-known, on-unknown, on-nlri, on-refusal, known-given, unknown-given, nlri-given, reading-refused)
+pub ruleset reads = (tests, and-goes-on, and-stops, on-known, on-unknown, on-nlri, on-refusal, known-given, unknown-given, nlri-given, reading-refused)

@@ -14,7 +14,7 @@ use Rattle.octets.specs.Choice.{pick, both, either}
 use Rattle.octets.specs.Outcome.{Outcome, given, refused, andThen}
 use Rattle.octets.specs.Octets.{AllOctets, numberIn, bigEndian}
 use Rattle.octets.proofs.Choice.{pick-true, pick-false, either-true}
-use Rattle.octets.proofs.Outcome.{goes, passed, given-same, given-otherwise}
+use Rattle.octets.proofs.Outcome.{and-goes-on, passed, given-same, given-otherwise}
 use Rattle.octets.proofs.Lists.{length-part}
 use Rattle.octets.proofs.NetworkOrder.{number-of-big-endian}
 use Rattle.nlri.specs.Family.{familyBits}
@@ -104,13 +104,13 @@ module _ (afi bits : ℕ) (ofFamily : familyBits afi ≡ given bits) where
   unfolding laidAt
   single-is-encoded s laid a e =
       let o = single-laid-out bits s laid e in
-      sym (take-all (2 + laid .size) s (omega (arith, o .out .enough, o .all))) ∙ laid-encoded (keyField bits) bits whole s laid a (o .front) ∙ ap encodeNlri (o .fields)
+      sym (take-all (2 + laid .size) s (omega (arith, o .laidOut .enough, o .all))) ∙ laid-encoded (keyField bits) bits whole s laid a (o .front) ∙ ap encodeNlri (o .fields)
 
   single-sound : (s : List ℕ) (laid : Laid) → AllOctets s → acceptedSingle bits s ≡ given laid → ReadAs afi s (fieldsOf laid s)
   unfolding laidAt fieldsOf
   single-sound s laid a e =
       let single = single-laid-out bits s laid e in
-      let o = single .out in
+      let o = single .laidOut in
       let r = laid-sound (keyField bits) (KeyOf bits) (key-judges bits whole) bits whole s laid a (single .front) in
       record {
         bits = bits;
@@ -129,18 +129,18 @@ module _ (afi bits : ℕ) (ofFamily : familyBits afi ≡ given bits) where
 
   pub accepted-front : (f : Fields) (t : List ℕ) → WellFormed bits f → acceptedAt bits (encodeNlri f ++ t) ≡ given (laidOf f)
   unfolding acceptedAt accepted
-  accepted-front f t w = sym (goes _ _ _ _ (laid-front f t (w .encodable)) (sym (pick-false _ _ _ (discarded-encoded bits f t ∙ passes afi bits ofFamily f w))))
+  accepted-front f t w = sym (and-goes-on _ _ _ _ (laid-front f t (w .encodable)) (sym (pick-false _ _ _ (discarded-encoded bits f t ∙ passes afi bits ofFamily f w))))
 
   pub discarded-front : (f : Fields) (t : List ℕ) → Encodable bits f → Discarded bits f → acceptedAt bits (encodeNlri f ++ t) ≡ refused GROUP
   unfolding acceptedAt accepted
-  discarded-front f t w d = sym (goes _ _ _ _ (laid-front f t w) (sym (pick-true _ _ _ (discarded-encoded bits f t ∙ tested-discarded bits f d))))
+  discarded-front f t w d = sym (and-goes-on _ _ _ _ (laid-front f t w) (sym (pick-true _ _ _ (discarded-encoded bits f t ∙ tested-discarded bits f d))))
 
   -- the encoding of encodable fields as a single NLRI, before GROUP
   laid-alone : (f : Fields) → Encodable bits f → (o : Outcome Laid) → accepted bits (encodeNlri f) (laidOf f) ≡ o → acceptedSingle bits (encodeNlri f) ≡ o
   unfolding acceptedSingle encodeNlri
   laid-alone f w o e =
       let body : List FieldKind = bodyOf (f .type) in
-      sym (goes _ _ _ _ (ap (laidAt bits) (sym (append-nil (encodeNlri f))) ∙ laid-front f [] w)
+      sym (and-goes-on _ _ _ _ (ap (laidAt bits) (sym (append-nil (encodeNlri f))) ∙ laid-front f [] w)
       (sym (pick-true _ _ _ (eq-eqb (suc (suc (length (encodeBody f body))) - 2) (length (encodeBody f body)) (omega arith)) ∙ e)))
 
   discarded-alone : (f : Fields) → isDiscarded bits (fieldsOf (laidOf f) (encodeNlri f)) ≡ isDiscarded bits f
@@ -160,7 +160,7 @@ module _ (afi bits : ℕ) (ofFamily : familyBits afi ≡ given bits) where
   single-encoded f w =
       let body : List FieldKind = bodyOf (f .type) in
       let cuts : cut (sizesIn f body) (encodeBody f body) ≡ piecesOf f body = ap (cut (sizesIn f body)) (sym (append-nil (encodeBody f body))) ∙ cut-body f body [] in
-      sym (goes _ _ _ _ (laid-single f w) (ap given (sym (ap (λ (x : List (List ℕ)). fieldsFrom (f .type) (λ kind. fieldIn [] kind body x)) cuts ∙ fields-encoded (KeyOf bits) bits f (w .encodable .body)))))
+      sym (and-goes-on _ _ _ _ (laid-single f w) (ap given (sym (ap (λ (x : List (List ℕ)). fieldsFrom (f .type) (λ kind. fieldIn [] kind body x)) cuts ∙ fields-encoded (KeyOf bits) bits f (w .encodable .body)))))
 
   octets-encoded : (f : Fields) → WellFormed bits f → AllOctets (encodeNlri f)
   octets-encoded f w =
@@ -211,11 +211,11 @@ read-short afi s f e low unkeyed =
     let small = family-octets afi (p .value) (p .first) .1 in
     let o = single-laid-out (p .value) s laid (q .first) in
     let type : laid .type ≡ f .type = ap (λ (x : Fields). x .type) (given-same (q .second)) in
-    let l = length-part s 2 (laid .size) (omega (arith, o .out .fits, o .out .enough)) in
+    let l = length-part s 2 (laid .size) (omega (arith, o .laidOut .fits, o .laidOut .enough)) in
     let seven : laid .type ≤ 7 = omega arith in
-    let sizes = o .out .row .sizes seven in
-    let most = sizes-most (keyField (p .value)) (p .value) 60 (laid .type) (key-most (p .value) small (laid .type) seven) small (bodyOf (laid .type)) (sizes .bare) _ _ (o .out .sizes) in
-    (o .out .enough, omega (arith, o .all, sizes .plain (ap (λ (n : ℕ). hasField key (bodyOf n)) type ∙ unkeyed)))
+    let sizes = o .laidOut .row .sizes seven in
+    let most = sizes-most (keyField (p .value)) (p .value) 60 (laid .type) (key-most (p .value) small (laid .type) seven) small (bodyOf (laid .type)) (sizes .bare) _ _ (o .laidOut .sizes) in
+    (o .laidOut .enough, omega (arith, o .all, sizes .plain (ap (λ (n : ℕ). hasField key (bodyOf n)) type ∙ unkeyed)))
 
 pub read-sound : (afi : ℕ) (s : List ℕ) (f : Fields) → AllOctets s → readNlri afi s ≡ given f → ReadAs afi s f
 unfolding readNlri
@@ -226,7 +226,7 @@ read-sound afi s f a e =
 
 pub read-encoded : (afi bits : ℕ) (f : Fields) → familyBits afi ≡ given bits → WellFormed bits f → readNlri afi (encodeNlri f) ≡ given (restricted f)
 unfolding readNlri
-read-encoded afi bits f ofFamily w = sym (goes _ _ _ _ ofFamily (sym (single-encoded afi bits ofFamily f w)))
+read-encoded afi bits f ofFamily w = sym (and-goes-on _ _ _ _ ofFamily (sym (single-encoded afi bits ofFamily f w)))
 
 pub acceptance : Acceptance
 acceptance =

@@ -12,7 +12,7 @@ use Rattle.octets.specs.Numbers.{FAMILY, FLOW}
 use Rattle.octets.specs.Choice.{pick, both}
 use Rattle.octets.specs.Outcome.{Outcome, given, refused, andThen}
 use Rattle.octets.proofs.Choice.{both-true, opposite, both-true-left, both-true-right}
-use Rattle.octets.proofs.Outcome.{stops, never, given-same, refused-same, outcome}
+use Rattle.octets.proofs.Outcome.{and-stops, never, given-same, refused-same, outcome}
 use Rattle.nlri.specs.Family.{familyBits}
 use Rattle.nlri.specs.Groups.{ASM, SSM, multicast, sourceSpecific, Multicast, SourceSpecific, classUnder, classOf}
 use Rattle.nlri.specs.Rules.NlriRules.{GroupRefusal, badFamily, badGroup, GroupRule}
@@ -115,7 +115,7 @@ class-family : (afi : ℕ) (g : List ℕ) → ((afi ≡ 1) ⊎ (afi ≡ 2)) ⊎ 
 unfolding classOf
 class-family afi g =
     ⊎-elim (λ good. inl (good-family afi (good .0) (good .1)))
-    (λ bad. let p = family-refused afi (bad .0) (bad .1) in inr (p .1, sym (stops _ _ _ (bad .1 ∙ ap refused (p .0)))))
+    (λ bad. let p = family-refused afi (bad .0) (bad .1) in inr (p .1, sym (and-stops _ _ _ (bad .1 ∙ ap refused (p .0)))))
     (outcome (familyBits afi))
 
 multicast-good : (afi : ℕ) (g : List ℕ) → Multicast afi g → (afi ≡ 1) ⊎ (afi ≡ 2)

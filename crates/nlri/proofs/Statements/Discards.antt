@@ -11,7 +11,7 @@ use Rattle.fec_elements.specs.declared.Standing.the-variants.{Lent}
 use Rattle.fec_elements.proofs.Nesting.{read-number}
 use Rattle.fec_elements.proofs.Theorems.{nestedFecRule}
 use Rattle.octets.proofs.Choice.{picked}
-use Rattle.octets.proofs.Outcome.{never, stops, stopped, given-same, refused-same}
+use Rattle.octets.proofs.Outcome.{never, and-stops, stopped, given-same, refused-same}
 use Rattle.nlri.specs.Family.{familyBits, rootFamily}
 use Rattle.nlri.specs.Groups.{SourceSpecific}
 use Rattle.nlri.specs.Fields.{Fields, encodeNlri, Encodable, Discarded, restricted}
@@ -77,7 +77,7 @@ read afi s a = (
 typed-group : (type afi : ℕ) (s : List ℕ) → (readOfType type afi s ≡ refused GROUP) ↔ (readNlri afi s ≡ refused GROUP)
 typed-group type afi s = (
   λ e. ⊎-elim (λ first. first) (λ next. absurd (⊎-elim (λ same. never refl (same .1)) (λ other. kind-apart (refused-same {A = Fields} (other .1))) (picked _ _ _ _ (next .second)))) (stopped _ _ _ e),
-  λ e. sym (stops _ _ _ e),
+  λ e. sym (and-stops _ _ _ e),
 )
   where
     kind-apart : KIND ≡ GROUP → ⊥

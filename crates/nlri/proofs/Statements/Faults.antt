@@ -12,7 +12,7 @@ use Rattle.octets.specs.Numbers.{DONE, LENGTH}
 use Rattle.octets.specs.Outcome.{given, refused}
 use Rattle.octets.specs.Octets.{AllOctets}
 use Rattle.octets.proofs.Choice.{pick-true, pick-false, picked}
-use Rattle.octets.proofs.Outcome.{goes, stops, never, refused-same, stopped, outcome, refuses-where, refuses-unless}
+use Rattle.octets.proofs.Outcome.{and-goes-on, and-stops, never, refused-same, stopped, outcome, refuses-where, refuses-unless}
 use Rattle.octets.proofs.AllOctets.{octets-drop}
 use Rattle.octets.proofs.Lists.{front-rest}
 use Rattle.nlri.specs.Family.{allowed, isOriginatorSize}
@@ -150,12 +150,12 @@ module _ (bits : ℕ) (whole : 8 * (bits / 8) ≡ bits) where
   pub faulty-refuses : (type : ℕ) (body : List FieldKind) (s : List ℕ) (n : ℕ) → AllOctets s → Faulty bits type body s n → sizesOf (fieldSize (keyField bits) bits type) body s ≡ refused n
   unfolding sizesOf
   faulty-refuses type body s n a (remains h) = pick-false _ _ _ (ne-eqb (length s) 0 (λ e. omega arith))
-  faulty-refuses type body s n a (here {k = k} fault) = sym (stops _ _ _ (fault-refuses type k s n a fault))
+  faulty-refuses type body s n a (here {k = k} fault) = sym (and-stops _ _ _ (fault-refuses type k s n a fault))
   faulty-refuses type body s n a (later {k = k} {body = rest} x t e at fault) =
       let size : fieldSize (keyField bits) bits type k s ≡ given (length x) = ap (fieldSize (keyField bits) bits type k) e ∙ field-reads type k x t at in
       let remainder : drop (length x) s ≡ t = ap (drop (length x)) e ∙ drop-append-seam x t in
       let o : AllOctets t = subst AllOctets remainder (octets-drop (length x) a) in
-      sym (goes _ _ _ _ size (stops _ _ _ (ap (sizesOf (fieldSize (keyField bits) bits type) rest) remainder ∙ faulty-refuses type rest t n o fault)))
+      sym (and-goes-on _ _ _ _ size (and-stops _ _ _ (ap (sizesOf (fieldSize (keyField bits) bits type) rest) remainder ∙ faulty-refuses type rest t n o fault)))
 
 address-numbers : (bits type : ℕ) (s : List ℕ) (n : ℕ) → AddressFault bits type s n → BodyFault n
 address-numbers bits type s n (missing h) = inl refl

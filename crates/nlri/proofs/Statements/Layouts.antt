@@ -8,7 +8,7 @@ use lib.ListN.{length}
 use Rattle.octets.specs.Choice.{pick}
 use Rattle.octets.specs.Outcome.{given, refused}
 use Rattle.octets.specs.Octets.{AllOctets}
-use Rattle.octets.proofs.Outcome.{goes, stops, passed, never, given-same, refused-same, refused-alike}
+use Rattle.octets.proofs.Outcome.{and-goes-on, and-stops, passed, never, given-same, refused-same, refused-alike}
 use Rattle.nlri.specs.declared.layout.Layout.{Layout}
 use Rattle.nlri.specs.declared.layout.Reading.{Reading}
 use Rattle.nlri.specs.declared.layout.Reading.the-variants as reading
@@ -59,17 +59,17 @@ module _ (afi bits : ℕ) (ofFamily : familyBits afi ≡ given bits) where
 
   pub layout-encoded : (f : Fields) (t : List ℕ) → WellFormed bits f → layoutAt bits (encodeNlri f ++ t) ≡ given (layoutFor f)
   unfolding layoutAt
-  layout-encoded f t w = sym (goes _ _ _ _ (accepted-front afi bits ofFamily f t w) (ap given (sym (layout-laid f))))
+  layout-encoded f t w = sym (and-goes-on _ _ _ _ (accepted-front afi bits ofFamily f t w) (ap given (sym (layout-laid f))))
 
 pub layout-refused : (bits : ℕ) (s : List ℕ) (n : ℕ) → acceptedAt bits s ≡ refused n → layoutAt bits s ≡ refused n
 unfolding layoutAt
-layout-refused bits s n e = sym (stops _ _ _ e)
+layout-refused bits s n e = sym (and-stops _ _ _ e)
 
 -- a single NLRI
 layout-single-encoded : (afi : ℕ) (s : List ℕ) (f : Fields) → ReadAs afi s f → layoutSingle afi s ≡ given (layoutFor f)
 unfolding layoutSingle
 layout-single-encoded afi s f r =
-    sym (goes _ _ _ _ (r .ofFamily) (goes _ _ _ _ (ap (acceptedSingle (r .bits)) (r .encoded) ∙ laid-single afi (r .bits) (r .ofFamily) f (r .wellFormed)) (ap given (sym (layout-laid f)))))
+    sym (and-goes-on _ _ _ _ (r .ofFamily) (and-goes-on _ _ _ _ (ap (acceptedSingle (r .bits)) (r .encoded) ∙ laid-single afi (r .bits) (r .ofFamily) f (r .wellFormed)) (ap given (sym (layout-laid f)))))
 
 layout-single-given : (afi : ℕ) (s : List ℕ) (l : Layout) → AllOctets s → layoutSingle afi s ≡ given l → (f : Fields) × ReadAs afi s f × (l ≡ layoutFor f)
 unfolding layoutSingle readNlri
@@ -77,7 +77,7 @@ layout-single-given afi s l a e =
     let family = passed _ _ _ e in
     let laid = passed _ _ _ (family .second) in
     let f : Fields = fieldsOf (laid .value) s in
-    let r : ReadAs afi s f = acceptance .exactly afi s f a .0 (sym (goes _ _ _ _ (family .first) (goes _ _ _ _ (laid .first) refl))) in
+    let r : ReadAs afi s f = acceptance .exactly afi s f a .0 (sym (and-goes-on _ _ _ _ (family .first) (and-goes-on _ _ _ _ (laid .first) refl))) in
     (f, r, given-same (sym e ∙ layout-single-encoded afi s f r))
 
 layout-single-refused : (afi : ℕ) (s : List ℕ) (n : ℕ) → layoutSingle afi s ≡ refused n → readNlri afi s ≡ refused n

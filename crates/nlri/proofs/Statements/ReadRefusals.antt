@@ -12,7 +12,7 @@ use Rattle.octets.specs.Numbers.{DONE, SHORT, TYPE, LENGTH}
 use Rattle.octets.specs.Outcome.{given, refused, andThen}
 use Rattle.octets.specs.Octets.{AllOctets, part}
 use Rattle.octets.proofs.Choice.{pick-true, pick-false, opposite, picked, is-false}
-use Rattle.octets.proofs.Outcome.{goes, stops, never, refused-same, stopped, outcome}
+use Rattle.octets.proofs.Outcome.{and-goes-on, and-stops, never, refused-same, stopped, outcome}
 use Rattle.octets.proofs.AllOctets.{octets-part}
 use Rattle.octets.proofs.Lists.{empty-list}
 use Rattle.nlri.specs.Family.{familyBits}
@@ -100,14 +100,14 @@ module _ (afi bits : ℕ) (ofFamily : familyBits afi ≡ given bits) (s : List �
   unfolding laidAt laidWith
   laid-faulty n h t fault =
       pick-false _ _ _ (enough h) ∙ pick-false _ _ _ (fits h) ∙ on-body _ _ _ ∙ pick-true _ _ _ (known (getD s 0 0) t)
-      ∙ sym (stops _ _ _ (faulty-refuses bits whole (getD s 0 0) (bodyOf (getD s 0 0)) (part s 2 (getD s 1 0)) n (octets-part 2 (getD s 1 0) a) fault))
+      ∙ sym (and-stops _ _ _ (faulty-refuses bits whole (getD s 0 0) (bodyOf (getD s 0 0)) (part s 2 (getD s 1 0)) n (octets-part 2 (getD s 1 0) a) fault))
 
   single-after : (f : Fields) (t : List ℕ) → Encodable bits f → s ≡ encodeNlri f ++ t → 0 < length t → acceptedSingle bits s ≡ refused LENGTH
   unfolding acceptedSingle laidAt encodeNlri
   single-after f t w e some =
       let body = bodyOf (f .type) in
       let len : length s ≡ suc (suc (length (encodeBody f body) + length t)) = ap length e ∙ ap (λ (n : ℕ). suc (suc n)) (length-append (encodeBody f body) t) in
-      sym (goes _ _ _ _ (ap (laidAt bits) e ∙ laid-complete (keyField bits) (KeyOf bits) (key-judges bits whole) bits whole f t (w .typed) (w .body))
+      sym (and-goes-on _ _ _ _ (ap (laidAt bits) e ∙ laid-complete (keyField bits) (KeyOf bits) (key-judges bits whole) bits whole f t (w .typed) (w .body))
       (sym (pick-false _ _ _ (ne-eqb (length s - 2) (length (encodeBody f body)) (λ q. omega arith)))))
 
   laid-stops : (n : ℕ) → LaidRefusal bits s n → laidAt bits s ≡ refused n
@@ -128,17 +128,17 @@ module _ (afi bits : ℕ) (ofFamily : familyBits afi ≡ given bits) (s : List �
 
   accepted-stops : (n : ℕ) → FrontRefusal bits s n → acceptedAt bits s ≡ refused n
   unfolding acceptedAt
-  accepted-stops n (unlaid h) = sym (stops _ _ _ (laid-stops n h))
+  accepted-stops n (unlaid h) = sym (and-stops _ _ _ (laid-stops n h))
   accepted-stops n (FrontRefusal.discarded f t w d e) = ap (λ (x : List ℕ). andThen (laidAt bits x) (accepted bits x)) e ∙ discarded-front afi bits ofFamily f t w d
 
   -- a refusal of the front, or of the single NLRI, is the call's
   read-stops : (n : ℕ) → acceptedSingle bits s ≡ refused n → readNlri afi s ≡ refused n
   unfolding readNlri
-  read-stops n e = sym (goes _ _ _ _ ofFamily (stops _ _ _ e))
+  read-stops n e = sym (and-goes-on _ _ _ _ ofFamily (and-stops _ _ _ e))
 
   front-stops : (n : ℕ) → LaidRefusal bits s n → readNlri afi s ≡ refused n
   unfolding acceptedSingle
-  front-stops n h = read-stops n (sym (stops _ _ _ (laid-stops n h)))
+  front-stops n h = read-stops n (sym (and-stops _ _ _ (laid-stops n h)))
 
 refusal-sound : (afi : ℕ) (s : List ℕ) (n : ℕ) → AllOctets s → readNlri afi s ≡ refused n → ReadRefusal afi s n
 unfolding readNlri
@@ -149,7 +149,7 @@ refusal-sound afi s n a e =
 
 refusal-complete : (afi : ℕ) (s : List ℕ) (n : ℕ) → AllOctets s → ReadRefusal afi s n → readNlri afi s ≡ refused n
 unfolding readNlri
-refusal-complete afi s n a (badFamily one two) = sym (stops _ _ _ (family-refuses afi one two))
+refusal-complete afi s n a (badFamily one two) = sym (and-stops _ _ _ (family-refuses afi one two))
 refusal-complete afi s n a (front bits ofFamily h) = front-stops afi bits ofFamily s a n h
 refusal-complete afi s n a (ReadRefusal.discarded bits f ofFamily w d e) = read-stops afi bits ofFamily s a _ (ap (acceptedSingle bits) e ∙ discarded-single afi bits ofFamily f w d)
 refusal-complete afi s n a (after bits f t ofFamily w e some) = read-stops afi bits ofFamily s a LENGTH (single-after afi bits ofFamily s a f t w e some)

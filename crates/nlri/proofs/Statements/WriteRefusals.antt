@@ -11,7 +11,7 @@ use Rattle.octets.specs.Numbers.{DONE, WIDTH, KEY, LONG, SPACE, GROUP}
 use Rattle.octets.specs.Choice.{both, either}
 use Rattle.octets.specs.Outcome.{Outcome, given, refused}
 use Rattle.octets.proofs.Choice.{pick-true, pick-false, tested, opposite, both-true, both-true-left, both-true-right, picked, is-false, is-true}
-use Rattle.octets.proofs.Outcome.{goes, stops, never, passed, given-otherwise, refused-same, stopped, refused-of, number-refused}
+use Rattle.octets.proofs.Outcome.{and-goes-on, and-stops, never, passed, given-otherwise, refused-same, stopped, refused-of, number-refused}
 use Rattle.fec_elements.specs.declared.Standing.the-variants.{Lent}
 use Rattle.fec_elements.specs.Rules.FecRules.{NestedFault}
 use Rattle.fec_elements.proofs.Nesting.{read-refused}
@@ -164,7 +164,7 @@ module _ (afi bits : ℕ) (ofFamily : familyBits afi ≡ given bits) (f : Fields
 
   -- a verdict of a known type is the call's
   typed-stops : (o : Outcome (List ℕ)) → KnownType (f .type) → verdictOf bits f space ≡ o → writeNlri afi f space ≡ o
-  typed-stops o typed e = write-is afi f space ∙ sym (goes _ _ _ _ ofFamily (sym (pick-true _ _ _ (known (f .type) typed) ∙ e)))
+  typed-stops o typed e = write-is afi f space ∙ sym (and-goes-on _ _ _ _ ofFamily (sym (pick-true _ _ _ (known (f .type) typed) ∙ e)))
 
   width-stops : KnownType (f .type) → (k : FieldKind) → hasField k (bodyOf (f .type)) ≡ true → WidthFault bits f k → writeNlri afi f space ≡ refused WIDTH
   unfolding verdictOf verdict
@@ -196,8 +196,8 @@ refusal-sound afi f space n held e =
     (stopped _ _ _ (sym (write-is afi f space) ∙ e))
 
 refusal-complete : (afi : ℕ) (f : Fields) (space n : ℕ) → HoldsOctets f → WriteRefusal afi f space n → writeNlri afi f space ≡ refused n
-refusal-complete afi f space n held (badFamily one two) = write-is afi f space ∙ sym (stops _ _ _ (family-refuses afi one two))
-refusal-complete afi f space n held (badType bits ofFamily untyped) = write-is afi f space ∙ sym (goes _ _ _ _ ofFamily (sym (pick-false _ _ _ (unlisted (f .type) untyped))))
+refusal-complete afi f space n held (badFamily one two) = write-is afi f space ∙ sym (and-stops _ _ _ (family-refuses afi one two))
+refusal-complete afi f space n held (badType bits ofFamily untyped) = write-is afi f space ∙ sym (and-goes-on _ _ _ _ ofFamily (sym (pick-false _ _ _ (unlisted (f .type) untyped))))
 refusal-complete afi f space n held (badWidth bits ofFamily typed k h fault) = width-stops afi bits ofFamily f held space typed k h fault
 refusal-complete afi f space n held (badFec bits ofFamily typed widths h fault) = fec-stops afi bits ofFamily f held space n typed widths h fault
 refusal-complete afi f space n held (long bits ofFamily typed widths fecs over) = long-stops afi bits ofFamily f held space typed widths fecs over

@@ -35,26 +35,29 @@ holdingFec opaque held fec = 6 ∷ 0 ∷ 1 ∷ 4 ∷ 10 ∷ 0 ∷ 0 ∷ 1 ∷ 0 
 abbrev pub vpnFec : List ℕ
 vpnFec = 6 ∷ 0 ∷ 1 ∷ 4 ∷ 10 ∷ 0 ∷ 0 ∷ 1 ∷ 0 ∷ 28 ∷ 8 ∷ 0 ∷ 25 ∷ 0 ∷ 0 ∷ 0 ∷ 100 ∷ 0 ∷ 0 ∷ 0 ∷ 7 ∷ keptFec
 
--- FEC elements two, three, four and five deep
+-- FEC elements two deep
 abbrev pub twoDeep : List ℕ
 twoDeep = holdingFec 20 17 keptFec
 
+-- three
 abbrev pub threeDeep : List ℕ
 threeDeep = holdingFec 33 30 twoDeep
 
+-- four
 abbrev pub fourDeep : List ℕ
 fourDeep = holdingFec 46 43 threeDeep
 
+-- five
 abbrev pub fiveDeep : List ℕ
 fiveDeep = holdingFec 59 56 fourDeep
 
 -- an NLRI of type 0x43 of this Length: distinguisher, FEC element, originator 10.0.0.9
-abbrev pub mldpNlri : (length : ℕ) (fec : List ℕ) → List ℕ
-mldpNlri length fec = 67 ∷ length ∷ (hundredSeven ++ (fec ++ (10 ∷ 0 ∷ 0 ∷ 9 ∷ [])))
+abbrev pub mldpNlri : (octets : ℕ) (fec : List ℕ) → List ℕ
+mldpNlri octets fec = 67 ∷ octets ∷ (hundredSeven ++ (fec ++ (10 ∷ 0 ∷ 0 ∷ 9 ∷ [])))
 
 -- (C-*,C-*) of type 3, originator 10.0.0.9
-abbrev pub wildcardNlri : List ℕ
-wildcardNlri = 3 ∷ 14 ∷ 0 ∷ 0 ∷ 0 ∷ 100 ∷ 0 ∷ 0 ∷ 0 ∷ 7 ∷ 0 ∷ 0 ∷ 10 ∷ 0 ∷ 0 ∷ 9 ∷ []
+abbrev pub bothWildcardsNlri : List ℕ
+bothWildcardsNlri = 3 ∷ 14 ∷ 0 ∷ 0 ∷ 0 ∷ 100 ∷ 0 ∷ 0 ∷ 0 ∷ 7 ∷ 0 ∷ 0 ∷ 10 ∷ 0 ∷ 0 ∷ 9 ∷ []
 
 -- each is so, by computation
 pub record NlriExamples : Type 0 where
@@ -63,10 +66,10 @@ pub record NlriExamples : Type 0 where
   pub interAs : readNlri 1 (2 ∷ 12 ∷ 0 ∷ 0 ∷ 0 ∷ 100 ∷ 0 ∷ 0 ∷ 0 ∷ 7 ∷ 0 ∷ 0 ∷ 253 ∷ 233 ∷ []) ≡ given (fieldsWith 2 65001 [] [] [] [])
   -- type 3: (10.0.0.1,232.1.1.1), (C-*,C-*), and (2001:DB8::1,FF3E::1)
   pub sPmsi : readNlri 1 (3 ∷ 22 ∷ 0 ∷ 0 ∷ 0 ∷ 100 ∷ 0 ∷ 0 ∷ 0 ∷ 7 ∷ 32 ∷ 10 ∷ 0 ∷ 0 ∷ 1 ∷ 32 ∷ 232 ∷ 1 ∷ 1 ∷ 1 ∷ 10 ∷ 0 ∷ 0 ∷ 9 ∷ []) ≡ given (fieldsWith 3 0 (10 ∷ 0 ∷ 0 ∷ 1 ∷ []) (232 ∷ 1 ∷ 1 ∷ 1 ∷ []) (10 ∷ 0 ∷ 0 ∷ 9 ∷ []) [])
-  pub wildcards : readNlri 1 wildcardNlri ≡ given (fieldsWith 3 0 [] [] (10 ∷ 0 ∷ 0 ∷ 9 ∷ []) [])
+  pub wildcards : readNlri 1 bothWildcardsNlri ≡ given (fieldsWith 3 0 [] [] (10 ∷ 0 ∷ 0 ∷ 9 ∷ []) [])
   pub sPmsi6 : readNlri 2 (3 ∷ 46 ∷ 0 ∷ 0 ∷ 0 ∷ 100 ∷ 0 ∷ 0 ∷ 0 ∷ 7 ∷ 128 ∷ 32 ∷ 1 ∷ 13 ∷ 184 ∷ 0 ∷ 0 ∷ 0 ∷ 0 ∷ 0 ∷ 0 ∷ 0 ∷ 0 ∷ 0 ∷ 0 ∷ 0 ∷ 1 ∷ 128 ∷ 255 ∷ 62 ∷ 0 ∷ 0 ∷ 0 ∷ 0 ∷ 0 ∷ 0 ∷ 0 ∷ 0 ∷ 0 ∷ 0 ∷ 0 ∷ 0 ∷ 0 ∷ 1 ∷ 10 ∷ 0 ∷ 0 ∷ 9 ∷ []) ≡ given (fieldsWith 3 0 (32 ∷ 1 ∷ 13 ∷ 184 ∷ 0 ∷ 0 ∷ 0 ∷ 0 ∷ 0 ∷ 0 ∷ 0 ∷ 0 ∷ 0 ∷ 0 ∷ 0 ∷ 1 ∷ []) (255 ∷ 62 ∷ 0 ∷ 0 ∷ 0 ∷ 0 ∷ 0 ∷ 0 ∷ 0 ∷ 0 ∷ 0 ∷ 0 ∷ 0 ∷ 0 ∷ 0 ∷ 1 ∷ []) (10 ∷ 0 ∷ 0 ∷ 9 ∷ []) [])
   -- type 4, its key the (C-*,C-*) route
-  pub leaf : readNlri 1 (4 ∷ 20 ∷ (wildcardNlri ++ (10 ∷ 0 ∷ 0 ∷ 2 ∷ []))) ≡ given (leafWith 4 wildcardNlri (10 ∷ 0 ∷ 0 ∷ 2 ∷ []))
+  pub leaf : readNlri 1 (4 ∷ 20 ∷ (bothWildcardsNlri ++ (10 ∷ 0 ∷ 0 ∷ 2 ∷ []))) ≡ given (leafWith 4 bothWildcardsNlri (10 ∷ 0 ∷ 0 ∷ 2 ∷ []))
   -- types 6 and 7, read and written; of type 5 `DiscardExamples` has some
   pub sharedTreeJoin : readNlri 1 (join4 6 232 1 1 1) ≡ given (fieldsWith 6 65001 (10 ∷ 0 ∷ 0 ∷ 1 ∷ []) (232 ∷ 1 ∷ 1 ∷ 1 ∷ []) [] [])
   pub sourceTreeJoin : readNlri 1 (join4 7 232 1 1 1) ≡ given (fieldsWith 7 65001 (10 ∷ 0 ∷ 0 ∷ 1 ∷ []) (232 ∷ 1 ∷ 1 ∷ 1 ∷ []) [] [])
@@ -86,5 +89,5 @@ pub record NlriExamples : Type 0 where
   pub mldpJoin : readNlri 1 (71 ∷ 29 ∷ (hundredSeven ++ (0 ∷ 0 ∷ 253 ∷ 233 ∷ keptFec))) ≡ given (fieldsWith 71 65001 [] [] [] keptFec)
   -- an unknown type, an AFI of 3, and a type 9 in a key
   pub unknownType : readNlri 1 (9 ∷ 0 ∷ []) ≡ refused 2
-  pub otherAfi : readNlri 3 wildcardNlri ≡ refused 10
+  pub otherAfi : readNlri 3 bothWildcardsNlri ≡ refused 10
   pub badKey : readNlri 1 (4 ∷ 6 ∷ 9 ∷ 0 ∷ 10 ∷ 0 ∷ 0 ∷ 2 ∷ []) ≡ refused 5

@@ -9,7 +9,7 @@ use Rattle.octets.specs.Octets.{AllOctets, part}
 use Rattle.runs.specs.Walking.{walkedTo, walkedWith}
 use Rattle.runs.specs.Modes.{walkBy, nlrisBy}
 use Rattle.pieces.specs.declared.state.Pieces.{Pieces}
-use Rattle.pieces.specs.Feeding.{READING, STOPPED, FINISHED, AfterFeed, startOf, finishOf, feedOf}
+use Rattle.pieces.specs.Feeding.{READING, STOPPED, FINISHED, FeedAnswer, startOf, finishOf, feedOf}
 use Rattle.pieces.specs.Handing.{Caller, startedWith, fedBy, feedPieces, joined, Moment}
 
 -- a caller whose reader has taken a run
@@ -22,7 +22,7 @@ pub record PiecesClaim (afi mode : ℕ) (run : List ℕ) (c : Caller) : Type 0 w
   pub long : (afi ≡ 1) ⊎ (afi ≡ 2) → 4096 < length run → (c .pieces .walked ≡ walkedTo LONG 0 0) × (finishOf (c .pieces) .walked ≡ walkedTo LONG 0 0)
 
 -- an answer that takes a piece whole: no NLRI is given, whatever the piece's first octets complete, and the lent octets stay
-pub record TakenWhole (unfinished piece : List ℕ) (a : AfterFeed) : Type 0 where
+pub record TakenWhole (unfinished piece : List ℕ) (a : FeedAnswer) : Type 0 where
   pub none : a .answer .size ≡ 0
   pub all : a .answer .taken ≡ length piece
   pub lent : a .octets ≡ unfinished
@@ -48,7 +48,7 @@ pub record AtMoment (afi mode : ℕ) (run : List ℕ) (c : Caller) : Type 0 wher
   pub goes : (piece : List ℕ) → AllOctets piece → 0 < length piece → 0 < fedBy c piece .answer .taken
 
 -- the lent octets after a feed: behind those kept the octets that it took, where it reads; every other octet as it was
-pub record LentAfter (p : Pieces) (unfinished piece : List ℕ) (a : AfterFeed) : Type 0 where
+pub record LentAfter (p : Pieces) (unfinished piece : List ℕ) (a : FeedAnswer) : Type 0 where
   pub others : (i : ℕ) → (i < p .kept) ⊎ (p .kept + a .answer .taken ≤ i) → getD (a .octets) i 0 ≡ getD unfinished i 0
   pub behind : (a .octets ≡ unfinished) ⊎ (part (a .octets) (p .kept) (a .answer .taken) ≡ take (a .answer .taken) piece)
 

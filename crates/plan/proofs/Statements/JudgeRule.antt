@@ -12,7 +12,7 @@ use Rattle.octets.specs.Outcome.{Outcome, given, refused, onOutcome, numberOf}
 use Rattle.octets.specs.Rules.Answering.{Answering}
 use Rattle.octets.specs.Lists.{Among}
 use Rattle.octets.proofs.Choice.{tested, opposite, both-true, both-left, both-right, pick-true, pick-false}
-use Rattle.octets.proofs.Outcome.{never, given-same, goes, stops, passed, stopped}
+use Rattle.octets.proofs.Outcome.{never, given-same, and-goes-on, and-stops, passed, stopped}
 use Rattle.octets.proofs.Answering.{answering}
 use Rattle.lists.specs.LentLists.{Item, listCount}
 use Rattle.routes.specs.Rules.ArgumentRules.{GoodFlow}
@@ -56,13 +56,13 @@ module _ (afi : ℕ) (vrf : Vrf) (flows places : List ℕ) where
   unfolding judgeOutcome
   why n = (
     λ h. flows-why afi vrf flows _ (JudgeLong flows places) tested-long n (⊎-elim (λ r. r) (λ l. absurd (never refl (l .second))) (stopped _ _ _ h)),
-    λ r. sym (stops _ _ _ (why-flows afi vrf flows _ (JudgeLong flows places) tested-long r)),
+    λ r. sym (and-stops _ _ _ (why-flows afi vrf flows _ (JudgeLong flows places) tested-long r)),
   )
 
   -- the outcome for good flows
   pub judged-places : (items : List Item) → GoodFlows afi vrf flows (JudgeLong flows places) items → outcome ≡ given (acceptsPlaces afi vrf (flowsIn items) places)
   unfolding judgeOutcome
-  judged-places items g = sym (goes _ _ _ _ (good-flows afi vrf flows _ (JudgeLong flows places) tested-long items g) refl)
+  judged-places items g = sym (and-goes-on _ _ _ _ (good-flows afi vrf flows _ (JudgeLong flows places) tested-long items g) refl)
 
   told : (items : List Item) → GoodFlows afi vrf flows (JudgeLong flows places) items → (flag : Bool) → flag ≡ acceptsPlaces afi vrf (flowsIn items) places
       → ((judgedBy (given flag) .accepted ≡ 1) × Accepted afi vrf items places) ⊎ ((judgedBy (given flag) .accepted ≡ 0) × (Accepted afi vrf items places → ⊥))

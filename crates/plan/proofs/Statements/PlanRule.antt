@@ -16,7 +16,7 @@ use Rattle.octets.specs.Order.{same}
 use Rattle.octets.specs.Rules.Answering.{Answering}
 use Rattle.octets.specs.Lists.{Among, first}
 use Rattle.octets.proofs.Choice.{tested, opposite, both-true, both-left, pick-true, pick-false}
-use Rattle.octets.proofs.Outcome.{given-unless, refuses-unless, goes, stops, passed, stopped}
+use Rattle.octets.proofs.Outcome.{given-unless, refuses-unless, and-goes-on, and-stops, passed, stopped}
 use Rattle.octets.proofs.Orders.{same-equal, same-of-equal}
 use Rattle.octets.proofs.Among.{among-none, among-cases}
 use Rattle.octets.proofs.AllOctets.{octets-drop, octets-part}
@@ -131,9 +131,9 @@ module _ (afi : ℕ) (vrf : Vrf) (flows output : List ℕ) (originates : AllOcte
 
   why-back : {n : ℕ} → PlanRefusal afi vrf flows output n → outcome ≡ refused n
   unfolding planOutcome
-  why-back (badFlows r) = sym (stops _ _ _ (why-flows afi vrf flows true Long tested-many r))
+  why-back (badFlows r) = sym (and-stops _ _ _ (why-flows afi vrf flows true Long tested-many r))
   why-back (noSpace items g l) =
-      sym (goes _ _ _ _ (good-flows afi vrf flows true Long tested-many items g) (sym (pick-false _ _ _ (lt-leb (128 * length (flowsIn items)) (length output) (omega (arith, flows-count items))))))
+      sym (and-goes-on _ _ _ _ (good-flows afi vrf flows true Long tested-many items g) (sym (pick-false _ _ _ (lt-leb (128 * length (flowsIn items)) (length output) (omega (arith, flows-count items))))))
 
   why : (n : ℕ) → (outcome ≡ refused n) ↔ PlanRefusal afi vrf flows output n
   unfolding planOutcome
@@ -214,7 +214,7 @@ module _ (afi : ℕ) (vrf : Vrf) (flows output : List ℕ) (originates : AllOcte
       planned : outcome ≡ given rs
       unfolding planOutcome rs
       planned =
-          sym (goes _ _ _ _ (good-flows afi vrf flows true Long tested-many items good) (sym (pick-true _ _ _ (le-leb (128 * length (flowsIn items)) (length output) (omega (arith, flows-count items))))))
+          sym (and-goes-on _ _ _ _ (good-flows afi vrf flows true Long tested-many items good) (sym (pick-true _ _ _ (le-leb (128 * length (flowsIn items)) (length output) (omega (arith, flows-count items))))))
 
       fits-output : length (placesOf rs) ≤ length output
       fits-output = omega (arith, places-length, few-routes)

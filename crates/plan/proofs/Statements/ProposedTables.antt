@@ -30,7 +30,7 @@ told-taken t (noneTold none done untold) = absurd (none _ _ (t .member) (t .elig
 pub proposed-told : (t output : List ℕ) (vrf : Vrf) (items : List Item) (places : List ℕ) (accepted : Accepted (afiIn t) vrf items places)
     → ((r : Route) → Among r (routesOf t) ↔ Among r (accepted .routes)) → (source group wanted : List ℕ) → Listed source group wanted items
     → let changed : Changed Matched = matchOf t (ofFlow (flowOf (vrf .prefixes) (vrf .originator) source group)) output in
-      changed .answer .number ≡ 0 → part (changed .octets) (changed .answer .«nlri_size») (changed .answer .«attribute_size») ≡ wanted
+    changed .answer .number ≡ 0 → part (changed .octets) (changed .answer .«nlri_size») (changed .answer .«attribute_size») ≡ wanted
 proposed-told t output vrf items places accepted are source group wanted listed done =
     let s = accepted .served source group wanted listed in
     told-taken (taken-among are (s .takes)) (matchRule .table (flowOf (vrf .prefixes) (vrf .originator) source group) .answers t output done) ∙ s .has

@@ -77,4 +77,4 @@ pub record JudgeRule : Type 0 where
   pub inTable : (t output : List ℕ) (vrf : Vrf) (items : List Item) (places : List ℕ) (accepted : Accepted (afiIn t) vrf items places)
       → ((r : Route) → Among r (routesOf t) ↔ Among r (accepted .routes)) → (source group wanted : List ℕ) → Listed source group wanted items
       → let changed : Changed Matched = matchOf t (ofFlow (flowOf (vrf .prefixes) (vrf .originator) source group)) output in
-        changed .answer .number ≡ 0 → part (changed .octets) (changed .answer .«nlri_size») (changed .answer .«attribute_size») ≡ wanted
+      changed .answer .number ≡ 0 → part (changed .octets) (changed .answer .«nlri_size») (changed .answer .«attribute_size») ≡ wanted

@@ -8,7 +8,7 @@ use borrow.Author.Tests.{eqb-true, eqb-false, eq-eqb, ne-eqb, ltb-true, ltb-fals
 use Rattle.octets.specs.Numbers.{LABEL, KIND, FLOW, SPACE}
 use Rattle.octets.specs.Outcome.{given, refused}
 use Rattle.octets.proofs.Choice.{opposite, both-true-left, both-true-right, pick-true, pick-false, is-false, both-true}
-use Rattle.octets.proofs.Outcome.{never, given-same, given-otherwise, given-unless, passed, outcome, stopped, refuses-unless, refuses-where, goes, stops}
+use Rattle.octets.proofs.Outcome.{never, given-same, given-otherwise, given-unless, passed, outcome, stopped, refuses-unless, refuses-where, and-goes-on, and-stops}
 use Rattle.nlri.specs.Fields.{Fields}
 use Rattle.nlri.specs.Reading.{readNlri, readOfType}
 use Rattle.tunnel.specs.Attribute.{AttributeFields, labelOf}
@@ -31,8 +31,8 @@ module _ (type afi : ℕ) (nlri : List ℕ) where
       (stopped _ _ _ e)
 
   type-refuses : {n : ℕ} → TypeRefusal type afi nlri n → readOfType type afi nlri ≡ refused n
-  type-refuses (unreadNlri e) = sym (stops _ _ _ e)
-  type-refuses (otherKind f e k) = sym (goes _ _ _ _ e (sym (pick-false _ _ _ (ne-eqb (f .type) type k))))
+  type-refuses (unreadNlri e) = sym (and-stops _ _ _ e)
+  type-refuses (otherKind f e k) = sym (and-goes-on _ _ _ _ e (sym (pick-false _ _ _ (ne-eqb (f .type) type k))))
 
   type-passed : (f : Fields) → readOfType type afi nlri ≡ given f → (readNlri afi nlri ≡ given f) × (f .type ≡ type)
   type-passed f e =
@@ -41,7 +41,7 @@ module _ (type afi : ℕ) (nlri : List ℕ) where
       (p .first ∙ q .1, ap (λ (g : Fields). g .type) (sym (given-same (q .1))) ∙ eqb-true _ _ (q .0))
 
   type-passes : (f : Fields) → (readNlri afi nlri ≡ given f) × (f .type ≡ type) → readOfType type afi nlri ≡ given f
-  type-passes f p = sym (goes _ _ _ _ (p .0) (sym (pick-true _ _ _ (eq-eqb (f .type) type (p .1)))))
+  type-passes f p = sym (and-goes-on _ _ _ _ (p .0) (sym (pick-true _ _ _ (eq-eqb (f .type) type (p .1)))))
 
   pub type-exactly : (f : Fields) → (readOfType type afi nlri ≡ given f) ↔ ((readNlri afi nlri ≡ given f) × (f .type ≡ type))
   type-exactly f = (type-passed f, type-passes f)
@@ -75,7 +75,7 @@ module _ (attribute : List ℕ) where
   pub takes-labelled : (l : Labelled attribute) → readLabelled attribute ≡ given (l .fields)
   unfolding readLabelled labelOf
   takes-labelled l =
-      sym (goes _ _ _ _ (l .read)
+      sym (and-goes-on _ _ _ _ (l .read)
       (sym (pick-false _ _ _ (is-false _ (λ t. l .label (eqb-true _ _ (both-true-left _ _ t)) (eqb-true _ _ (both-true-right _ _ t)))))))
 
 module _ (afi : ℕ) (nlri attribute : List ℕ) where
@@ -99,11 +99,11 @@ module _ (afi : ℕ) (nlri attribute : List ℕ) where
 
   route-refuses : {n : ℕ} → RouteRefusal afi nlri attribute n → readRoute afi nlri attribute ≡ refused n
   unfolding readRoute readLabelled labelOf
-  route-refuses (badNlri r) = sym (stops _ _ _ (nlri-refused afi nlri _ .1 r))
-  route-refuses (unreadAttribute s e) = sym (goes _ _ _ _ (nlri-accepts afi nlri s) (stops _ _ _ (sym (stops _ _ _ e))))
+  route-refuses (badNlri r) = sym (and-stops _ _ _ (nlri-refused afi nlri _ .1 r))
+  route-refuses (unreadAttribute s e) = sym (and-goes-on _ _ _ _ (nlri-accepts afi nlri s) (and-stops _ _ _ (sym (and-stops _ _ _ e))))
   route-refuses (noLabel f s e bier zero) =
-      sym (goes _ _ _ _ (nlri-accepts afi nlri s)
-      (stops _ _ _ (sym (goes _ _ _ _ e (sym (pick-true _ _ _ (both-true _ _ (eq-eqb (f .tunnelType) 11 bier) (eq-eqb (labelOf f) 0 zero))))))))
+      sym (and-goes-on _ _ _ _ (nlri-accepts afi nlri s)
+      (and-stops _ _ _ (sym (and-goes-on _ _ _ _ e (sym (pick-true _ _ _ (both-true _ _ (eq-eqb (f .tunnelType) 11 bier) (eq-eqb (labelOf f) 0 zero))))))))
 
   route-passed : readRoute afi nlri attribute ≡ given (route nlri attribute) → SPmsi afi nlri × Labelled attribute
   unfolding readRoute
@@ -114,7 +114,7 @@ module _ (afi : ℕ) (nlri attribute : List ℕ) where
 
   route-passes : SPmsi afi nlri × Labelled attribute → readRoute afi nlri attribute ≡ given (route nlri attribute)
   unfolding readRoute
-  route-passes a = sym (goes _ _ _ _ (nlri-accepts afi nlri (a .0)) (goes _ _ _ _ (takes-labelled attribute (a .1)) refl))
+  route-passes a = sym (and-goes-on _ _ _ _ (nlri-accepts afi nlri (a .0)) (and-goes-on _ _ _ _ (takes-labelled attribute (a .1)) refl))
 
 module _ (afi : ℕ) (flow : Flow) (output : List ℕ) where
   flow-refusal : (n : ℕ) → KnownFamily afi → readMatch afi flow output ≡ refused n → FlowRefusal afi flow output n
@@ -138,9 +138,9 @@ module _ (afi : ℕ) (flow : Flow) (output : List ℕ) where
 
   flow-refuses : {n : ℕ} → KnownFamily afi → FlowRefusal afi flow output n → readMatch afi flow output ≡ refused n
   unfolding readMatch
-  flow-refuses bits (badFlowPrefixes r) = sym (stops _ _ _ (flow-prefixes afi flow _ bits r))
-  flow-refuses bits (badFlow prefixed bad) = sym (stops _ _ _ (bad-flow bits prefixed bad))
-  flow-refuses bits (noSpace good less) = sym (goes _ _ _ _ (flow-given afi flow good .1) (sym (pick-true _ _ _ (lt-ltb (length output) 124 less))))
+  flow-refuses bits (badFlowPrefixes r) = sym (and-stops _ _ _ (flow-prefixes afi flow _ bits r))
+  flow-refuses bits (badFlow prefixed bad) = sym (and-stops _ _ _ (bad-flow bits prefixed bad))
+  flow-refuses bits (noSpace good less) = sym (and-goes-on _ _ _ _ (flow-given afi flow good .1) (sym (pick-true _ _ _ (lt-ltb (length output) 124 less))))
 
   pub flow-passed : (q : Query) → readMatch afi flow output ≡ given q → (readFlow afi flow ≡ given q) × (124 ≤ length output)
   unfolding readMatch
@@ -151,7 +151,7 @@ module _ (afi : ℕ) (flow : Flow) (output : List ℕ) where
 
   pub flow-passes : (q : Query) → readFlow afi flow ≡ given q → 124 ≤ length output → readMatch afi flow output ≡ given q
   unfolding readMatch
-  flow-passes q e enough = sym (goes _ _ _ _ e (sym (pick-false _ _ _ (le-ltb (length output) 124 enough))))
+  flow-passes q e enough = sym (and-goes-on _ _ _ _ e (sym (pick-false _ _ _ (le-ltb (length output) 124 enough))))
 
   flow-accepted : (q : Query) → readMatch afi flow output ≡ given q → GoodFlow afi flow × (124 ≤ length output)
   flow-accepted q e = let p = flow-passed q e in (flow-asked afi flow q (p .0) .good, p .1)

@@ -9,7 +9,7 @@ use lib.ListN.{length, replicate}
 use lib.Seq.{take-all}
 use Rattle.octets.specs.Numbers.{DONE, TABLE}
 use Rattle.octets.proofs.Choice.{pick-true, pick-false, tested}
-use Rattle.routes.specs.declared.TableInfo.{TableInfo}
+use Rattle.routes.specs.declared.TableFacts.{TableFacts}
 use Rattle.routes.specs.Route.{Route}
 use Rattle.routes.specs.Table.{afiIn, placesIn, routesOf, soundOf}
 use Rattle.routes.specs.Rules.Images.{TableOf}
@@ -29,10 +29,10 @@ module _ (t : List ℕ) where
   empty h = pick-false _ _ _ h
 
   number-given : soundOf t ≡ true → infoOf t .number ≡ DONE
-  number-given s = ap (λ (i : TableInfo). i .number) (given s)
+  number-given s = ap (λ (i : TableFacts). i .number) (given s)
 
   number-empty : soundOf t ≡ false → infoOf t .number ≡ TABLE
-  number-empty h = ap (λ (i : TableInfo). i .number) (empty h)
+  number-empty h = ap (λ (i : TableFacts). i .number) (empty h)
 
   refusal : (n : ℕ) → n ≢ DONE → infoOf t .number ≡ n → (soundOf t ≡ false) × (n ≡ TABLE)
   refusal n other e = tested (soundOf t) (λ s. absurd (other (sym e ∙ number-given s))) (λ h. (h, sym e ∙ number-empty h))
@@ -44,11 +44,11 @@ module _ (t : List ℕ) where
   tells afi places rs of = given (of .sound) ∙ rw (of .family, of .size, of .routes)
 
   places : soundOf t ≡ true → length t ≡ 8 + 128 * infoOf t .places
-  places s = sound t s .size .is ∙ ap (λ (i : TableInfo). 8 + 128 * i .places) (sym (given s))
+  places s = sound t s .size .is ∙ ap (λ (i : TableFacts). 8 + 128 * i .places) (sym (given s))
 
   routes : (calls : ℕ) (output : List ℕ) → soundOf t ≡ true → 124 ≤ length output → infoOf t .routes ≤ calls → length (toldInTurn (replicate calls t) [] output) ≡ infoOf t .routes
   routes calls output s room most =
-      let count : infoOf t .routes ≡ length (routesOf t) = ap (λ (i : TableInfo). i .routes) (given s) in
+      let count : infoOf t .routes ≡ length (routesOf t) = ap (λ (i : TableFacts). i .routes) (given s) in
       ap length (inTurnRule .whole calls t output s room ∙ take-all calls (routesOf t) (omega arith)) ∙ sym count
 
 pub infoRule : InfoRule

@@ -10,7 +10,7 @@ use lib.ListN.{length}
 use Rattle.octets.specs.Numbers.{DONE, ROOM}
 use Rattle.octets.specs.Outcome.{Outcome, given, refused, onOutcome, numberOf}
 use Rattle.octets.proofs.Choice.{pick-true, pick-false, picked}
-use Rattle.octets.proofs.Outcome.{never, given-unless, passed, given-same, outcome, stopped, refused-same, refuses-unless, goes, stops, refused-of, number-refused, number-given, done-given}
+use Rattle.octets.proofs.Outcome.{never, given-unless, passed, given-same, outcome, stopped, refused-same, refuses-unless, and-goes-on, and-stops, refused-of, number-refused, number-given, done-given}
 use Rattle.routes.specs.declared.Installed.{Installed}
 use Rattle.routes.specs.Route.{Route, route, nlriOf, attributeOf, held, lookup, inserted}
 use Rattle.routes.specs.Arguments.{readRoute}
@@ -75,7 +75,7 @@ module _ (t nlri attribute : List ℕ) where
   -- the outcome is what entering comes to, for what is not refused before
   entering-decides : Installable t nlri attribute → installOutcome t nlri attribute ≡ entering (placesIn t) (routesOf t) (route nlri attribute)
   unfolding installOutcome
-  entering-decides h = pick-true _ _ _ (h .sound) ∙ sym (goes _ _ _ _ (route-given h) refl)
+  entering-decides h = pick-true _ _ _ (h .sound) ∙ sym (and-goes-on _ _ _ _ (route-given h) refl)
 
   install-given : (o : ℕ) → installOutcome t nlri attribute ≡ given o → Entered t nlri attribute o
   unfolding installOutcome nlriOf
@@ -102,7 +102,7 @@ module _ (t nlri attribute : List ℕ) where
   refuses : {n : ℕ} → InstallRefusal t nlri attribute n → installOutcome t nlri attribute ≡ refused n
   unfolding installOutcome nlriOf
   refuses (installUnsound h) = pick-false _ _ _ h
-  refuses (badRoute s r) = pick-true _ _ _ s ∙ sym (stops _ _ _ (argumentRule .refusedRoute (afiIn t) nlri attribute _ .1 r))
+  refuses (badRoute s r) = pick-true _ _ _ s ∙ sym (and-stops _ _ _ (argumentRule .refusedRoute (afiIn t) nlri attribute _ .1 r))
   refuses (noRoom a full) = entering-decides a ∙ entering-full t (route nlri attribute) full
 
   not-done : {n : ℕ} → InstallRefusal t nlri attribute n → n ≢ DONE

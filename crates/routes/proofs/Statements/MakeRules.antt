@@ -9,7 +9,7 @@ use lib.ListN.{length}
 use Rattle.octets.specs.Numbers.{DONE}
 use Rattle.octets.specs.Outcome.{Outcome, given, refused, onOutcome, numberOf}
 use Rattle.octets.proofs.Choice.{opposite, pick-true, pick-false, is-false}
-use Rattle.octets.proofs.Outcome.{goes, stops, refused-of, number-refused, number-given, done-given}
+use Rattle.octets.proofs.Outcome.{and-goes-on, and-stops, refused-of, number-refused, number-given, done-given}
 use Rattle.nlri.proofs.Definitions.Families.{family-refuses}
 use Rattle.nlri.proofs.Definitions.Lengths.{family-good}
 use Rattle.routes.specs.Place.{none}
@@ -43,8 +43,8 @@ module _ (afi : ℕ) (memory : List ℕ) where
 
   refuses : {n : ℕ} → MakeRefusal afi memory n → makeOutcome afi memory ≡ refused n
   unfolding makeOutcome
-  refuses (noFamily one two) = sym (stops _ _ _ (family-refuses afi one two))
-  refuses (badSize f h) = sym (goes _ _ _ _ (family-good afi f .1) (sym (pick-false _ _ _ (is-false _ (λ t. h (size-is memory t))))))
+  refuses (noFamily one two) = sym (and-stops _ _ _ (family-refuses afi one two))
+  refuses (badSize f h) = sym (and-goes-on _ _ _ _ (family-good afi f .1) (sym (pick-false _ _ _ (is-false _ (λ t. h (size-is memory t))))))
 
   not-done : {n : ℕ} → MakeRefusal afi memory n → n ≢ DONE
   not-done (noFamily one two) e = omega arith
@@ -56,7 +56,7 @@ module _ (afi : ℕ) (memory : List ℕ) where
 
   gives : KnownFamily afi × TableSize (length memory) → makeOutcome afi memory ≡ given (imageOf afi (placesIn memory) [])
   unfolding makeOutcome
-  gives h = sym (goes _ _ _ _ (family-good afi (h .0) .1) (sym (pick-true _ _ _ (size-tested (length memory) (h .1)))))
+  gives h = sym (and-goes-on _ _ _ _ (family-good afi (h .0) .1) (sym (pick-true _ _ _ (size-tested (length memory) (h .1)))))
 
   pub made-holdable : makeOf afi memory .answer ≡ DONE → Holdable afi (placesIn memory) []
   made-holdable e = let p = made-given e in let q = make-given afi memory (p .0) (p .1) in holdable-none afi memory (q .0) (q .1)

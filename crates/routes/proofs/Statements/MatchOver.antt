@@ -5,7 +5,7 @@ use mathlib.Core.Bool.{true}
 use mathlib.Core.List.{List}
 use Rattle.octets.specs.Outcome.{Outcome, given, refused, onOutcome, andThen}
 use Rattle.octets.proofs.Choice.{pick-true}
-use Rattle.octets.proofs.Outcome.{goes}
+use Rattle.octets.proofs.Outcome.{and-goes-on}
 use Rattle.routes.specs.Route.{Route}
 use Rattle.routes.specs.Query.{Query}
 use Rattle.routes.specs.Asked.{Asked, readAsked}
@@ -24,7 +24,7 @@ module _ (asked : Asked) (output : List ℕ) where
   -- good arguments
   pub over-query : (afi : ℕ) (rs : List Route) (q : Query) → readAsked afi asked output ≡ given q → matchOver afi rs asked output ≡ matchedBy (given (matchIn afi q rs)) output
   unfolding matchOver
-  over-query afi rs q e = ap (λ (o : Outcome Found). matchedBy o output) (sym (goes _ _ _ _ e refl))
+  over-query afi rs q e = ap (λ (o : Outcome Found). matchedBy o output) (sym (and-goes-on _ _ _ _ e refl))
 
   -- routes by which every query is answered the same
   pub over-same : (afi : ℕ) (rs us : List Route) → ((q : Query) → readAsked afi asked output ≡ given q → matchedBy (given (matchIn afi q rs)) output ≡ matchedBy (given (matchIn afi q us)) output)

@@ -13,7 +13,7 @@ use Rattle.octets.specs.Octets.{part, front}
 use Rattle.octets.specs.Lists.{Among}
 use Rattle.octets.proofs.Lists.{length-front, past-front}
 use Rattle.octets.proofs.Choice.{pick-true, pick-false, picked}
-use Rattle.octets.proofs.Outcome.{never, given-unless, passed, stopped, refused-same, goes, stops, refused-of, number-refused, number-given, done-given}
+use Rattle.octets.proofs.Outcome.{never, given-unless, passed, stopped, refused-same, and-goes-on, and-stops, refused-of, number-refused, number-given, done-given}
 use Rattle.nlri.specs.Fields.{Fields}
 use Rattle.routes.specs.Route.{Route, nlriOf, attributeOf, Distinct}
 use Rattle.routes.specs.Place.{AllAcceptable}
@@ -144,7 +144,7 @@ module _ {asked : Asked} {router : List ℕ} {Good : (afi : ℕ) → Type 0} {Re
     refuses : {n : ℕ} → MatchRefusal (Refusal output) t n → matchOutcome t asked output ≡ refused n
     unfolding matchOutcome
     refuses (matchUnsound h) = pick-false _ _ _ h
-    refuses (badMatch s r) = pick-true _ _ _ s ∙ sym (stops _ _ _ (served .refuses (afiIn t) output _ (sound-holdable t s .family) .1 r))
+    refuses (badMatch s r) = pick-true _ _ _ s ∙ sym (and-stops _ _ _ (served .refuses (afiIn t) output _ (sound-holdable t s .family) .1 r))
 
     not-done : {n : ℕ} → MatchRefusal (Refusal output) t n → n ≢ DONE
     not-done (matchUnsound h) e = omega arith
@@ -153,7 +153,7 @@ module _ {asked : Asked} {router : List ℕ} {Good : (afi : ℕ) → Type 0} {Re
     -- good arguments, on a sound table
     served-outcome : (q : Query) → soundOf t ≡ true → readAsked (afiIn t) asked output ≡ given q → matchOutcome t asked output ≡ given (matchIn (afiIn t) q (routesOf t))
     unfolding matchOutcome
-    served-outcome q sound e = pick-true _ _ _ sound ∙ sym (goes _ _ _ _ e refl)
+    served-outcome q sound e = pick-true _ _ _ sound ∙ sym (and-goes-on _ _ _ _ e refl)
 
     -- a match that is done: on a sound table, with arguments that come to a query
     done : matchOf t asked output .answer .number ≡ DONE → (soundOf t ≡ true) × ((q : Query) × (readAsked (afiIn t) asked output ≡ given q))

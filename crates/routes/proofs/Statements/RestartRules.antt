@@ -9,7 +9,7 @@ use lib.ListN.{length}
 use Rattle.octets.specs.Numbers.{DONE, FLOW}
 use Rattle.octets.specs.Outcome.{Outcome, given, refused, onOutcome, numberOf}
 use Rattle.octets.proofs.Choice.{opposite, is-false, pick-true, pick-false, picked}
-use Rattle.octets.proofs.Outcome.{never, given-unless, passed, outcome, stopped, refused-same, refuses-unless, goes, stops, refused-of, number-refused, number-given, done-given}
+use Rattle.octets.proofs.Outcome.{never, given-unless, passed, outcome, stopped, refused-same, refuses-unless, and-goes-on, and-stops, refused-of, number-refused, number-given, done-given}
 use Rattle.nlri.proofs.Theorems.{lengths}
 use Rattle.routes.specs.Route.{Route}
 use Rattle.routes.specs.Table.{imageOf, afiIn, placesIn, routesOf, soundOf}
@@ -44,7 +44,7 @@ module _ (t router : List ℕ) where
   -- then it gives how many went
   gives : Restartable t router → restartOutcome t router ≡ given (goneOf (afiIn t) router (routesOf t))
   unfolding restartOutcome readRouter
-  gives h = pick-true _ _ _ (h .sound) ∙ sym (goes _ _ _ _ (pick-true _ _ _ (lengths .originators (length router) .1 (h .sized))) refl)
+  gives h = pick-true _ _ _ (h .sound) ∙ sym (and-goes-on _ _ _ _ (pick-true _ _ _ (lengths .originators (length router) .1 (h .sized))) refl)
 
   -- what gives a number is not refused
   restart-given : (g : ℕ) → restartOutcome t router ≡ given g → Restartable t router
@@ -72,7 +72,7 @@ module _ (t router : List ℕ) where
   refuses : {n : ℕ} → RestartRefusal t router n → restartOutcome t router ≡ refused n
   unfolding restartOutcome readRouter
   refuses (restartUnsound h) = pick-false _ _ _ h
-  refuses (badRouter s b) = pick-true _ _ _ s ∙ sym (stops _ _ _ (pick-false _ _ _ (is-false _ (λ y. b (lengths .originators (length router) .0 y)))))
+  refuses (badRouter s b) = pick-true _ _ _ s ∙ sym (and-stops _ _ _ (pick-false _ _ _ (is-false _ (λ y. b (lengths .originators (length router) .0 y)))))
 
   -- no refusal is DONE
   not-done : {n : ℕ} → RestartRefusal t router n → n ≢ DONE

@@ -8,7 +8,7 @@ use lib.ListN.{length}
 use Rattle.octets.specs.Numbers.{DONE, ABSENT}
 use Rattle.octets.specs.Outcome.{given, refused, onOutcome, numberOf}
 use Rattle.octets.proofs.Choice.{pick-true, pick-false, picked}
-use Rattle.octets.proofs.Outcome.{given-unless, passed, given-same, outcome, stopped, refused-same, refuses-unless, goes, stops, refused-of, number-refused, number-given, done-given}
+use Rattle.octets.proofs.Outcome.{given-unless, passed, given-same, outcome, stopped, refused-same, refuses-unless, and-goes-on, and-stops, refused-of, number-refused, number-given, done-given}
 use Rattle.routes.specs.Route.{absent, removed}
 use Rattle.routes.specs.Table.{imageOf, afiIn, placesIn, routesOf}
 use Rattle.routes.specs.Calls.{leaving, withdrawOutcome, withdrawOf}
@@ -30,7 +30,7 @@ module _ (t nlri : List ℕ) where
   -- the outcome is what leaving comes to, for what is not refused before
   leaving-decides : Withdrawable t nlri → withdrawOutcome t nlri ≡ leaving (routesOf t) nlri
   unfolding withdrawOutcome
-  leaving-decides h = pick-true _ _ _ (h .sound) ∙ sym (goes _ _ _ _ (nlri-accepts (afiIn t) nlri (h .named)) refl)
+  leaving-decides h = pick-true _ _ _ (h .sound) ∙ sym (and-goes-on _ _ _ _ (nlri-accepts (afiIn t) nlri (h .named)) refl)
 
   withdraw-given : (n : List ℕ) → withdrawOutcome t nlri ≡ given n → Left t nlri × (n ≡ nlri)
   unfolding withdrawOutcome leaving
@@ -56,7 +56,7 @@ module _ (t nlri : List ℕ) where
   refuses : {n : ℕ} → WithdrawRefusal t nlri n → withdrawOutcome t nlri ≡ refused n
   unfolding withdrawOutcome leaving
   refuses (withdrawUnsound h) = pick-false _ _ _ h
-  refuses (badName s r) = pick-true _ _ _ s ∙ sym (stops _ _ _ (argumentRule .refusedNlri (afiIn t) nlri _ .1 r))
+  refuses (badName s r) = pick-true _ _ _ s ∙ sym (and-stops _ _ _ (argumentRule .refusedNlri (afiIn t) nlri _ .1 r))
   refuses (notHeld a missing) = leaving-decides a ∙ pick-false _ _ _ (holds-absent nlri (routesOf t) missing)
 
   gives : Withdrawable t nlri → IsHeld nlri (routesOf t) → withdrawOutcome t nlri ≡ given nlri

@@ -22,7 +22,7 @@ use Rattle.octets.specs.Outputs.{Changed}
 use Rattle.routes.specs.Calls.{makeOf, installOf, withdrawOf, restartOf, markOf, sweepOf, matchOf}
 use Rattle.routes.specs.Rules.MatchRule.{InTier, NamesTunnel, Taken, Told}
 use Rattle.routes.specs.Rules.SharedTreeRule.{InSharedTier}
-use Rattle.routes.specs.Rules.Examples.{noPrefixes, someRouter, someSource, tunnelBy, someLabel, routeA, routeB, routeC, routeD, routeE, someTable, someOutput, tells, tellsNone}
+use Rattle.routes.specs.Rules.Examples.{noPrefixes, someRouter, someSource, tunnelBy, someLabel, routeA, routeB, routeC, routeD, routeE, someTable, someOutput, toldRoute, toldNone}
 
 -- the route answered has this NLRI, as a caller sees it: a tier is told, and the NLRI stands at the front of the output
 pub record IsAnswered (nlri : List ℕ) (changed : Changed Matched) : Type 0 where
@@ -101,21 +101,21 @@ someTree =
 
 -- changes that do disturb, and some that do not, on the table of the examples (Examples.antt), where A is answered to that flow and C to that tree
 pub record DisturbanceExamples : Type 0 where
-  pub flow : matchOf someTable someFlow someOutput ≡ tells 1 routeA 24 17 83
-  pub tree : matchOf someTable someTree someOutput ≡ tells 3 routeC 20 22 82
+  pub flow : matchOf someTable someFlow someOutput ≡ toldRoute 1 routeA 24 17 83
+  pub tree : matchOf someTable someTree someOutput ≡ toldRoute 3 routeC 20 22 82
   -- A withdrawn: B; and C withdrawn: D
-  pub gone : matchOf (withdrawOf someTable (nlriOf routeA) .octets) someFlow someOutput ≡ tells 2 routeB 20 13 91
-  pub treeGone : matchOf (withdrawOf someTable (nlriOf routeC) .octets) someTree someOutput ≡ tells 4 routeD 16 9 99
+  pub gone : matchOf (withdrawOf someTable (nlriOf routeA) .octets) someFlow someOutput ≡ toldRoute 2 routeB 20 13 91
+  pub treeGone : matchOf (withdrawOf someTable (nlriOf routeC) .octets) someTree someOutput ≡ toldRoute 4 routeD 16 9 99
   -- B withdrawn: A still
-  pub left : matchOf (withdrawOf someTable (nlriOf routeB) .octets) someFlow someOutput ≡ tells 1 routeA 24 17 83
+  pub left : matchOf (withdrawOf someTable (nlriOf routeB) .octets) someFlow someOutput ≡ toldRoute 1 routeA 24 17 83
   -- A replaced: A with the attribute of E; by one of tunnel type 0: B
-  pub replaced : matchOf (installOf someTable (nlriOf routeA) (attributeOf routeE) .octets) someFlow someOutput ≡ tells 1 (route (nlriOf routeA) (attributeOf routeE)) 24 12 88
-  pub tunnelless : matchOf (installOf someTable (nlriOf routeA) (tunnelBy 0 someLabel []) .octets) someFlow someOutput ≡ tells 2 routeB 20 13 91
+  pub replaced : matchOf (installOf someTable (nlriOf routeA) (attributeOf routeE) .octets) someFlow someOutput ≡ toldRoute 1 (route (nlriOf routeA) (attributeOf routeE)) 24 12 88
+  pub tunnelless : matchOf (installOf someTable (nlriOf routeA) (tunnelBy 0 someLabel []) .octets) someFlow someOutput ≡ toldRoute 2 routeB 20 13 91
   -- A withdrawn, and installed again: it becomes the answer
-  pub become : matchOf (installOf (withdrawOf someTable (nlriOf routeA) .octets) (nlriOf routeA) (attributeOf routeA) .octets) someFlow someOutput ≡ tells 1 routeA 24 17 83
+  pub become : matchOf (installOf (withdrawOf someTable (nlriOf routeA) .octets) (nlriOf routeA) (attributeOf routeA) .octets) someFlow someOutput ≡ toldRoute 1 routeA 24 17 83
   -- all marked: A still; then swept: none
-  pub marked : matchOf (markOf someTable someRouter .octets) someFlow someOutput ≡ tells 1 routeA 24 17 83
-  pub swept : matchOf (sweepOf (markOf someTable someRouter .octets) someRouter .octets) someFlow someOutput ≡ tellsNone
+  pub marked : matchOf (markOf someTable someRouter .octets) someFlow someOutput ≡ toldRoute 1 routeA 24 17 83
+  pub swept : matchOf (sweepOf (markOf someTable someRouter .octets) someRouter .octets) someFlow someOutput ≡ toldNone
   -- A alone in a table of one place: to be asked again after a change of A are that flow, and not that tree
   pub again : matchOf (installOf (makeOf 1 (zeros 136) .octets) (nlriOf routeA) (attributeOf routeA) .octets) someFlow someOutput .answer .tier ≡ 1
   pub never : matchOf (installOf (makeOf 1 (zeros 136) .octets) (nlriOf routeA) (attributeOf routeA) .octets) someTree someOutput .answer .tier ≡ 0

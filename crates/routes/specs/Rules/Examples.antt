@@ -111,28 +111,28 @@ abbrev pub someOutput : List ℕ
 someOutput = replicate 124 255
 
 -- a route told in that output, of which so many octets are left as they were
-abbrev pub tells : (tier : ℕ) → Route → (nlriSize attributeSize left : ℕ) → Changed Matched
-tells tier r nlriSize attributeSize left =
+abbrev pub toldRoute : (tier : ℕ) → Route → (nlriSize attributeSize left : ℕ) → Changed Matched
+toldRoute tier r nlriSize attributeSize left =
     record {
       answer = record { number = DONE; tier = tier; «nlri_size» = nlriSize; «attribute_size» = attributeSize };
       octets = nlriOf r ++ (attributeOf r ++ replicate left 255);
     }
 
 -- no route told: the output as it was
-abbrev pub tellsNone : Changed Matched
-tellsNone = record { answer = record { number = DONE; tier = 0; «nlri_size» = 0; «attribute_size» = 0 }; octets = someOutput }
+abbrev pub toldNone : Changed Matched
+toldNone = record { answer = record { number = DONE; tier = 0; «nlri_size» = 0; «attribute_size» = 0 }; octets = someOutput }
 
 -- P1 to P12
 abbrev pub examples : List Example
 examples =
     -- P1 to P5: A, B, C and not B, D, D and not E
-    matching someTable (flowOf noPrefixes someRouter someSource (232 ∷ 1 ∷ 1 ∷ 1 ∷ [])) someOutput (tells 1 routeA 24 17 83)
-    ∷ matching someTable (flowOf noPrefixes someRouter someSource (232 ∷ 1 ∷ 1 ∷ 2 ∷ [])) someOutput (tells 2 routeB 20 13 91)
-    ∷ matching someTable (flowOf noPrefixes someRouter someSource (239 ∷ 1 ∷ 1 ∷ 1 ∷ [])) someOutput (tells 3 routeC 20 22 82)
-    ∷ matching someTable (flowOf noPrefixes someRouter (192 ∷ 0 ∷ 2 ∷ 2 ∷ []) (232 ∷ 1 ∷ 1 ∷ 1 ∷ [])) someOutput (tells 4 routeD 16 9 99)
-    ∷ matching someTable (flowOf noPrefixes someRouter (192 ∷ 0 ∷ 2 ∷ 2 ∷ []) (232 ∷ 9 ∷ 9 ∷ 9 ∷ [])) someOutput (tells 4 routeD 16 9 99)
+    matching someTable (flowOf noPrefixes someRouter someSource (232 ∷ 1 ∷ 1 ∷ 1 ∷ [])) someOutput (toldRoute 1 routeA 24 17 83)
+    ∷ matching someTable (flowOf noPrefixes someRouter someSource (232 ∷ 1 ∷ 1 ∷ 2 ∷ [])) someOutput (toldRoute 2 routeB 20 13 91)
+    ∷ matching someTable (flowOf noPrefixes someRouter someSource (239 ∷ 1 ∷ 1 ∷ 1 ∷ [])) someOutput (toldRoute 3 routeC 20 22 82)
+    ∷ matching someTable (flowOf noPrefixes someRouter (192 ∷ 0 ∷ 2 ∷ 2 ∷ []) (232 ∷ 1 ∷ 1 ∷ 1 ∷ [])) someOutput (toldRoute 4 routeD 16 9 99)
+    ∷ matching someTable (flowOf noPrefixes someRouter (192 ∷ 0 ∷ 2 ∷ 2 ∷ []) (232 ∷ 9 ∷ 9 ∷ 9 ∷ [])) someOutput (toldRoute 4 routeD 16 9 99)
     -- P6: asked of 10.0.0.2
-    ∷ matching someTable (flowOf noPrefixes (10 ∷ 0 ∷ 0 ∷ 2 ∷ []) someSource (232 ∷ 1 ∷ 1 ∷ 1 ∷ [])) someOutput tellsNone
+    ∷ matching someTable (flowOf noPrefixes (10 ∷ 0 ∷ 0 ∷ 2 ∷ []) someSource (232 ∷ 1 ∷ 1 ∷ 1 ∷ [])) someOutput toldNone
     -- P7: ASM is 1
     ∷ grouped 1 (231 ∷ 255 ∷ 255 ∷ 255 ∷ []) (given 1)
     ∷ grouped 1 (233 ∷ 0 ∷ 0 ∷ 0 ∷ []) (given 1)

@@ -14,7 +14,7 @@ use Rattle.nlri.specs.Bodies.{KnownType}
 use Rattle.nlri.specs.Rules.NlriRules.{FrontRefusal, layoutFor}
 use Rattle.runs.specs.declared.stepping.Step.{Step}
 use Rattle.runs.specs.declared.walking.Walked.{Walked}
-use Rattle.runs.specs.Walking.{readTo, endedAt, refusedAt, advanced, stepFrom, steppedOf, walkOf, NlriRead, nlrisOf}
+use Rattle.runs.specs.Walking.{readTo, endedAt, refusedAt, advanced, stepFrom, stepTakenOf, walkOf, NlriRead, nlrisOf}
 
 -- a step that reads: fields well-formed under the AFI's family stand encoded at the cursor of a run that is not too long
 pub record EncodedAt (afi : ℕ) (run : List ℕ) (at : ℕ) (f : Fields) : Type 0 where
@@ -54,7 +54,7 @@ pub record StepRule : Type 0 where
   pub moves : (afi : ℕ) (run : List ℕ) (at : ℕ) → stepFrom afi run at .read ≡ true
       → (stepFrom afi run at .cursor ≡ advanced at (stepFrom afi run at .layout .length)) × (at < stepFrom afi run at .cursor) × (stepFrom afi run at .cursor ≤ length run)
   -- answers with the same number and values are equal
-  pub apart : (a b : Step) → steppedOf a ≡ steppedOf b → a ≡ b
+  pub apart : (a b : Step) → stepTakenOf a ≡ stepTakenOf b → a ≡ b
 
 -- the walk from a cursor as the iteration of the step: it goes on from the cursor that a step that read hands back, and stops at any other step
 pub data Walks (afi : ℕ) (run : List ℕ) : (at count : ℕ) → Walked → Type 0 where

@@ -19,7 +19,7 @@ use Rattle.fec_elements.specs.Fields.{encodeFec, WellFormedFec}
 use Rattle.fec_elements.specs.Reading.{opaqueStart, opaqueSize, fecIn, wholeFec}
 use Rattle.tunnel.specs.Identifier.{IdentifierForm, sizes, fecTypes, formOf}
 use Rattle.tunnel.specs.Attribute.{AttributeFields, WellFormedAttribute, labelOf, leafInformationRequired, encodeAttribute, fieldsIn, readAttribute, writeAttribute}
-use Rattle.tunnel.specs.Answers.{outcomeOf, span, fecSpans, fecOf, attributeStruct, readStruct}
+use Rattle.tunnel.specs.Answers.{outcomeOf, span, fecSpans, fecAnswer, attributeStruct, readStruct}
 use Rattle.tunnel.specs.Rules.AttributeRules.{octetsAt, fieldsTold, fecTold, AttributeRoundTrips, AnsweredFec, AnsweredForm, notFec, isFec, AnsweredAttribute, AttributeAnswerRule}
 use Rattle.fec_elements.proofs.Fecs.{start-is, length-root, length-opaque, length-encode}
 use Rattle.fec_elements.proofs.Wholes.{whole-within, length-fec, opaque-size, whole-fields, fields-encode}
@@ -85,8 +85,8 @@ module _ (s : List ℕ) (o : AllOctets s) (p : Accepted s) where
   answered-fec ns e =
       let w = read-whole (getD s 1 0) (drop 5 s) e (p .judged) in
       let i : List ℕ = drop 5 s in
-      let x : fecOf (fieldsIn s) ≡ fecSpans (fecIn i) = fec-types (fieldsIn s) ns e in
-      let t : fecTold s (fecOf (fieldsIn s)) ≡ fecIn i = ap (fecTold s) x ∙ told-fec s w in
+      let x : fecAnswer (fieldsIn s) ≡ fecSpans (fecIn i) = fec-types (fieldsIn s) ns e in
+      let t : fecTold s (fecAnswer (fieldsIn s)) ≡ fecIn i = ap (fecTold s) x ∙ told-fec s w in
       let z = whole-fields i (octets-drop 5 o) w in
       record {
         wellFormed = subst WellFormedFec (sym t) (z .0);
@@ -143,7 +143,7 @@ module _ (s : List ℕ) (a : Attribute) (w : AnsweredAttribute s a) where
       let second : 11 + length (octetsAt s root) ≡ opaque .start = omega (arith, k .rootEnds, k .opaqueEnds, length-told) in
       rw (second, first, n, m)
 
-  told-form : (form : IdentifierForm) → formOf (a .«tunnel_type») ≡ given form → AnsweredForm s a form → fecOf (fieldsTold s a) ≡ a .fec
+  told-form : (form : IdentifierForm) → formOf (a .«tunnel_type») ≡ given form → AnsweredForm s a form → fecAnswer (fieldsTold s a) ≡ a .fec
   told-form form e (notFec {ns} z) = fec-sizes (fieldsTold s a) ns e ∙ sym z
   told-form form e (isFec {ns} k) =
       fec-types (fieldsTold s a) ns e ∙ ap (λ (i : List ℕ). fecSpans (fecIn i)) (k .encoded) ∙ ap fecSpans (fields-encode (fecTold s (a .fec)) (k .wellFormed)) ∙ told-spans k
@@ -152,7 +152,7 @@ module _ (s : List ℕ) (a : Attribute) (w : AnsweredAttribute s a) where
   unfolding attributeStruct labelOf leafInformationRequired
   told-struct =
       let t = w .wellFormed .ofType in
-      let f : fecOf (fieldsTold s a) ≡ a .fec = told-form (t .form) (form-among (a .«tunnel_type») (t .form) (t .inTable)) (w .fec (t .form) (t .inTable)) in
+      let f : fecAnswer (fieldsTold s a) ≡ a .fec = told-form (t .form) (form-among (a .«tunnel_type») (t .form) (t .inTable)) (w .fec (t .form) (t .inTable)) in
       rw (← w .label, ← w .leafInformationRequired, told-span, f)
 
   answered-given : AllOctets s → readStruct s ≡ given a

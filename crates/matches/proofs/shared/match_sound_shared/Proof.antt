@@ -1,6 +1,6 @@
 -- `matches::shared::match_sound_shared` meets its contract.
 use borrow.Author.Needs.{needs}
-use Rattle.shared_trees.specs.declared.Facts.{Facts}
+use Rattle.shared_trees.specs.declared.TreeFacts.{TreeFacts}
 use Rattle.shared_trees.specs.Tree.{treeOf}
 use Rattle.places.proofs.Indexes.{header-within}
 use Rattle.matches.proofs.SharedMatches.{shared-refused, shared-space, shared-search, shared-accepted}
@@ -8,7 +8,7 @@ use Rattle.matches.proofs.shared.match_sound_shared.Statement.{statemen
 use Rattle.matches.proofs.shared.match_sound_shared.Tie as tie
 
 -- the lists are judged whatever else is told
-no-facts : Facts
+no-facts : TreeFacts
 no-facts = record { upstream = 0; bidirectional = 0; «source_active_unused» = 0 }
 
 afi-of-requires : tie.Need-afi-of-requires

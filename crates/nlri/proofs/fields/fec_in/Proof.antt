@@ -1,13 +1,13 @@
 -- `nlri::fields::fec_in` meets its contract.
 use mathlib.Core.Path.{sym, _∙_}
 use Rattle.octets.proofs.Choice.{pick-true, pick-false}
-use Rattle.nlri.specs.Inner.{fecStart, fecAt}
+use Rattle.nlri.specs.Inner.{fecStart, fecInLayout}
 use borrow.Author.Needs.{needs}
 use Rattle.nlri.proofs.fields.fec_in.Statement.{statement}
 use Rattle.nlri.proofs.fields.fec_in.Tie as tie
 
 pub fec-in-spec : {M : Type 1} → statement M
-unfolding fecAt
+unfolding fecInLayout
 fec-in-spec =
     tie.close
     (tie.spec

@@ -1,6 +1,6 @@
 -- `nlri::group::group_class` meets its contract.
 use mathlib.Core.Path.{refl}
-use Rattle.octets.proofs.Outcome.{goes}
+use Rattle.octets.proofs.Outcome.{and-goes-on}
 use Rattle.nlri.proofs.Definitions.Families.{family-least}
 use Rattle.nlri.proofs.Functions.Via.{reads, group-is, known-given}
 use Rattle.nlri.specs.Groups.{classOf}
@@ -19,4 +19,4 @@ group-class-spec =
     (search needs)
     (λ c κs. family-least _ _ (known-given _ _ _ (c .before .before .before .family-of .ensures) (c .before .kind .given .1)))
     (λ c. search (reads, group-is))
-    (λ c. group-is _ _ _ (c .class-in .ensures) (goes _ _ _ _ (known-given _ _ _ (c .before .before .before .before .family-of .ensures) (c .before .before .kind .given .1)) refl)))
+    (λ c. group-is _ _ _ (c .class-in .ensures) (and-goes-on _ _ _ _ (known-given _ _ _ (c .before .before .before .before .family-of .ensures) (c .before .before .kind .given .1)) refl)))

@@ -9,7 +9,7 @@ use borrow.Author.Tests.{eqb-true, eq-eqb}
 use Rattle.octets.specs.Numbers.{FLOW}
 use Rattle.octets.specs.Outcome.{given, refused}
 use Rattle.octets.proofs.Choice.{pick-true, picked}
-use Rattle.octets.proofs.Outcome.{never, given-unless, passed, given-same, stopped, refused-same, goes, stops}
+use Rattle.octets.proofs.Outcome.{never, given-unless, passed, given-same, stopped, refused-same, and-goes-on, and-stops}
 use Rattle.nlri.specs.Family.{familyBits}
 use Rattle.nlri.specs.Groups.{ASM, SSM}
 use Rattle.nlri.proofs.Theorems.{lengths}
@@ -64,9 +64,9 @@ flow-given afi flow f =
     let read = good-prefixes afi (bits .0) (bits .1) (flow .prefixes) (f .prefixed) in
     let class = multicast-classed afi (bits .0) (bits .1) (flow .prefixes) (f .prefixed .items) read (flow .group) (f .multicast) in (
       flowQuery flow (class .0),
-      sym (goes _ _ _ _ (bits .1) (goes _ _ _ _ read (sym (pick-true _ _ _ (lengths .originators (length (flow .router)) .1 (f .addressed))
+      sym (and-goes-on _ _ _ _ (bits .1) (and-goes-on _ _ _ _ read (sym (pick-true _ _ _ (lengths .originators (length (flow .router)) .1 (f .addressed))
           ∙ pick-true _ _ _ (eq-eqb _ _ (family-sized afi (bits .0) (flow .source) (bits .1) .1 (f .sourced)))
-          ∙ sym (goes _ _ _ _ (class .1) refl))))),
+          ∙ sym (and-goes-on _ _ _ _ (class .1) refl))))),
     )
 
 -- a flow is refused by its prefixes, or with FLOW where they are good
@@ -92,4 +92,4 @@ flow-refused afi flow n bits e =
 -- prefixes that are not good refuse it
 pub flow-prefixes : (afi : ℕ) (flow : Flow) (n : ℕ) → KnownFamily afi → PrefixRefusal afi (flow .prefixes) n → readFlow afi flow ≡ refused n
 unfolding readFlow
-flow-prefixes afi flow n bits r = let f = family-good afi bits in sym (goes _ _ _ _ (f .1) (stops _ _ _ (refused-prefixes afi (f .0) (f .1) (flow .prefixes) r)))
+flow-prefixes afi flow n bits r = let f = family-good afi bits in sym (and-goes-on _ _ _ _ (f .1) (and-stops _ _ _ (refused-prefixes afi (f .0) (f .1) (flow .prefixes) r)))

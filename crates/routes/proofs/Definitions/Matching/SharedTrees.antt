@@ -12,7 +12,7 @@ use Rattle.octets.specs.Choice.{pick}
 use Rattle.octets.specs.Outcome.{Outcome, given, refused, unless, andThen, numberOf}
 use Rattle.octets.specs.Lists.{Among, first}
 use Rattle.octets.proofs.Choice.{opposite, tested, pick-true, pick-false, pick-case, both-held, both-true}
-use Rattle.octets.proofs.Outcome.{given-same, refused-same, given-otherwise, refuses-where, passed, stopped, goes, stops, and-case, outcome, refused-of, number-given, number-refused, done-given}
+use Rattle.octets.proofs.Outcome.{given-same, refused-same, given-otherwise, refuses-where, passed, stopped, and-goes-on, and-stops, and-case, outcome, refused-of, number-given, number-refused, done-given}
 use Rattle.octets.proofs.Among.{among-left, among-right}
 use Rattle.lists.specs.LentLists.{Item, itemField, listCount, readList, everyItem}
 use Rattle.lists.proofs.Items.{first-met, first-item-met, first-item-unmet, read-list-refused, Pairs, pairs-each, every-pair, read-list-pairs}
@@ -164,20 +164,20 @@ module _ (afi : ℕ) (tree : SharedTree) where
 
     judged-few : FewItems tree → judgedTree afi tree ≡ lists
     unfolding judgedTree
-    judged-few few = sym (goes _ _ _ _ ofFamily (goes _ _ _ _ prefixed (sym (pick-true _ _ _ (le-leb _ _ (few .sourceActives)) ∙ pick-true _ _ _ (le-leb _ _ (few .states))))))
+    judged-few few = sym (and-goes-on _ _ _ _ ofFamily (and-goes-on _ _ _ _ prefixed (sym (pick-true _ _ _ (le-leb _ _ (few .sourceActives)) ∙ pick-true _ _ _ (le-leb _ _ (few .states))))))
 
     judged-lent : FewItems tree → (lent : Lent tree) → judgedTree afi tree ≡ addresses (lent .sourceActives) (lent .states)
-    judged-lent few lent = judged-few few ∙ sym (goes _ _ _ _ (lent .routesRead) (goes _ _ _ _ (lent .statesRead) refl))
+    judged-lent few lent = judged-few few ∙ sym (and-goes-on _ _ _ _ (lent .routesRead) (and-goes-on _ _ _ _ (lent .statesRead) refl))
 
     judged-long : (256 < listCount (tree .sourceActives)) ⊎ (256 < listCount (tree .states)) → judgedTree afi tree ≡ refused LONG
     unfolding judgedTree
-    judged-long h = sym (goes _ _ _ _ ofFamily (goes _ _ _ _ prefixed (sym (⊎-elim (λ routes. pick-false _ _ _ (lt-leb _ _ routes)) (λ states. pick-case (λ o. o ≡ refused LONG) _ _ _ (λ few. pick-false _ _ _ (lt-leb _ _ states)) (λ many. refl)) h))))
+    judged-long h = sym (and-goes-on _ _ _ _ ofFamily (and-goes-on _ _ _ _ prefixed (sym (⊎-elim (λ routes. pick-false _ _ _ (lt-leb _ _ routes)) (λ states. pick-case (λ o. o ≡ refused LONG) _ _ _ (λ few. pick-false _ _ _ (lt-leb _ _ states)) (λ many. refl)) h))))
 
     judged-short : FewItems tree → (readList 2 (tree .sourceActives) ≡ refused SHORT) ⊎ (readList 2 (tree .states) ≡ refused SHORT) → judgedTree afi tree ≡ refused SHORT
     judged-short few h =
         judged-few few
-        ∙ ⊎-elim (λ routes. sym (stops _ _ _ routes))
-        (λ states. and-case (λ o. o ≡ refused SHORT) _ _ (λ n e. ap refused (read-list-refused 2 (tree .sourceActives) n e)) (λ routes e. sym (stops _ _ _ states)))
+        ∙ ⊎-elim (λ routes. sym (and-stops _ _ _ routes))
+        (λ states. and-case (λ o. o ≡ refused SHORT) _ _ (λ n e. ap refused (read-list-refused 2 (tree .sourceActives) n e)) (λ routes e. sym (and-stops _ _ _ states)))
         h
 
     pub judged-refuses : {output : List ℕ} {n : ℕ} → SharedTreeRefusal afi tree output n → (judgedTree afi tree ≡ refused n) ⊎ (GoodTree afi tree × (length output < 124) × (n ≡ SPACE))
@@ -272,13 +272,13 @@ module _ (afi : ℕ) (tree : SharedTree) (output : List ℕ) where
   tree-given g enough =
       let bits = family-good afi (multicast-family (g .addressed .multicast)) in
       let j = judged-given afi tree (bits .0) (bits .1) (g .prefixed .items) (good-prefixes afi (bits .0) (bits .1) (tree .prefixes) (g .prefixed)) g in
-      (treeQuery afi tree (j .0), sym (goes _ _ _ _ (j .1) (sym (pick-false _ _ _ (le-ltb (length output) 124 enough)))))
+      (treeQuery afi tree (j .0), sym (and-goes-on _ _ _ _ (j .1) (sym (pick-false _ _ _ (le-ltb (length output) 124 enough)))))
 
   -- the refusals by the prefixes, and those that follow
   module _ (bits : ℕ) (ofFamily : familyBits afi ≡ given bits) where
     prefixes-refuse : (n : ℕ) → readPrefixes bits (tree .prefixes) ≡ refused n → judgedTree afi tree ≡ refused n
     unfolding judgedTree
-    prefixes-refuse n e = sym (goes _ _ _ _ ofFamily (stops _ _ _ e))
+    prefixes-refuse n e = sym (and-goes-on _ _ _ _ ofFamily (and-stops _ _ _ e))
 
     refusal : (n : ℕ) → judgedTree afi tree ≡ refused n → SharedTreeRefusal afi tree output n
     refusal n e =
@@ -311,7 +311,7 @@ module _ (afi : ℕ) (tree : SharedTree) (output : List ℕ) where
             subst (SharedTreeRefusal afi tree output) (sym (p .1)) (tooSmall (judged-good (later .value) (later .first) .0) (ltb-true _ _ (p .0))))
             (stopped _ _ _ e),
         λ r.
-            ⊎-elim (λ j. sym (stops _ _ _ j))
-            (λ s. sym (goes _ _ _ _ (judged-given afi tree (bits .0) (bits .1) (s .0 .prefixed .items) (good-prefixes afi (bits .0) (bits .1) (tree .prefixes) (s .0 .prefixed)) (s .0) .1) (sym (pick-true _ _ _ (lt-ltb (length output) 124 (s .1)) ∙ ap refused (sym (s .2))))))
+            ⊎-elim (λ j. sym (and-stops _ _ _ j))
+            (λ s. sym (and-goes-on _ _ _ _ (judged-given afi tree (bits .0) (bits .1) (s .0 .prefixed .items) (good-prefixes afi (bits .0) (bits .1) (tree .prefixes) (s .0 .prefixed)) (s .0) .1) (sym (pick-true _ _ _ (lt-ltb (length output) 124 (s .1)) ∙ ap refused (sym (s .2))))))
             (refuses-by (bits .0) (bits .1) r),
       )

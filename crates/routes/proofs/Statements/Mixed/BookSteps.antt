@@ -6,7 +6,7 @@ use mathlib.Core.Logic.{⊎-elim}
 use Rattle.octets.specs.Numbers.{DONE, ABSENT, FLOW}
 use Rattle.octets.specs.Outcome.{Outcome, given, refused, onOutcome, andThen}
 use Rattle.octets.proofs.Choice.{opposite, pick-true, pick-false, tested}
-use Rattle.octets.proofs.Outcome.{never, outcome, stopped, goes, stops, refuses-unless}
+use Rattle.octets.proofs.Outcome.{never, outcome, stopped, and-goes-on, and-stops, refuses-unless}
 use lib.ListN.{length}
 use Rattle.nlri.proofs.Theorems.{lengths}
 use Rattle.routes.specs.Route.{Route, route, nlriOf, held, holds, Distinct}
@@ -99,23 +99,23 @@ module _ (afi : ℕ) (bits : KnownFamily afi) where
         (λ p.
         let e : readRoute afi nlri attribute ≡ given (route nlri attribute) = p .1 ∙ ap given (route-read afi nlri attribute (p .0) (p .1)) in
         let ok = argumentRule .acceptedRoute afi nlri attribute .0 e in
-        by-act (install nlri attribute) (enter (route nlri attribute)) (sym (goes _ _ _ _ e refl)) (enter-step nlri attribute (ok .0) (ok .1)))
-        (λ p. by-refusal (install nlri attribute) (p .0) (sym (stops _ _ _ (p .1))))
+        by-act (install nlri attribute) (enter (route nlri attribute)) (sym (and-goes-on _ _ _ _ e refl)) (enter-step nlri attribute (ok .0) (ok .1)))
+        (λ p. by-refusal (install nlri attribute) (p .0) (sym (and-stops _ _ _ (p .1))))
         (outcome (readRoute afi nlri attribute))
     book-step (withdraw nlri) =
         ⊎-elim
-        (λ p. by-act (withdraw nlri) (leave nlri) (sym (goes _ _ _ _ (p .1) refl)) (leave-step nlri (nlri-accepted afi nlri (p .0) (p .1))))
-        (λ p. by-refusal (withdraw nlri) (p .0) (sym (stops _ _ _ (p .1))))
+        (λ p. by-act (withdraw nlri) (leave nlri) (sym (and-goes-on _ _ _ _ (p .1) refl)) (leave-step nlri (nlri-accepted afi nlri (p .0) (p .1))))
+        (λ p. by-refusal (withdraw nlri) (p .0) (sym (and-stops _ _ _ (p .1))))
         (outcome (readSPmsi afi nlri))
     book-step (restart which router) =
         ⊎-elim
         (λ p.
         let r = router-read router (p .0) (p .1) in
-        by-act (restart which router) (renew which router) (sym (goes _ _ _ _ (p .1 ∙ ap given (r .0)) refl)) (renew-step which router (lengths .originators (length router) .0 (r .1))))
-        (λ p. by-refusal (restart which router) (p .0) (sym (stops _ _ _ (p .1))))
+        by-act (restart which router) (renew which router) (sym (and-goes-on _ _ _ _ (p .1 ∙ ap given (r .0)) refl)) (renew-step which router (lengths .originators (length router) .0 (r .1))))
+        (λ p. by-refusal (restart which router) (p .0) (sym (and-stops _ _ _ (p .1))))
         (outcome (readRouter router))
     book-step (match asked output) =
         ⊎-elim
-        (λ p. by-act (match asked output) (ask (p .0) output) (sym (goes _ _ _ _ (p .1) refl)) (ask-step asked output (p .0) (p .1)))
-        (λ p. by-refusal (match asked output) (p .0) (sym (stops _ _ _ (p .1))))
+        (λ p. by-act (match asked output) (ask (p .0) output) (sym (and-goes-on _ _ _ _ (p .1) refl)) (ask-step asked output (p .0) (p .1)))
+        (λ p. by-refusal (match asked output) (p .0) (sym (and-stops _ _ _ (p .1))))
         (outcome (readAsked afi asked output))

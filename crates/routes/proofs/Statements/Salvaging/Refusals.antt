@@ -10,7 +10,7 @@ use Rattle.octets.specs.Numbers.{DONE}
 use Rattle.octets.specs.Octets.{front}
 use Rattle.octets.specs.Outcome.{given, refused, onOutcome, numberOf}
 use Rattle.octets.proofs.Choice.{opposite, pick-true, pick-false, picked, is-false}
-use Rattle.octets.proofs.Outcome.{never, passed, given-unless, given-otherwise, goes, stops, stopped, refused-same, outcome}
+use Rattle.octets.proofs.Outcome.{never, passed, given-unless, given-otherwise, and-goes-on, and-stops, stopped, refused-same, outcome}
 use Rattle.nlri.proofs.Definitions.Families.{family-refused, family-refuses}
 use Rattle.nlri.proofs.Definitions.Lengths.{good-family, family-good}
 use Rattle.routes.specs.Table.{imageOf, placesIn}
@@ -41,7 +41,7 @@ module _ (afi : ℕ) (damaged table list : List ℕ) where
   unfolding salvageOutcome
   gives s =
       let e = size-places damaged (s .size) in
-      sym (goes _ _ _ _ (family-good afi (s .family) .1)
+      sym (and-goes-on _ _ _ _ (family-good afi (s .family) .1)
       (sym (pick-true _ _ _ (size-tested (length damaged) (s .size)) ∙ pick-true _ _ _ (eq-eqb (length table) (length damaged) (s .same))
       ∙ pick-false _ _ _ (le-ltb (length list) (3 * placesIn damaged) (omega (arith, s .room))) ∙ ap given e)))
 
@@ -59,12 +59,12 @@ module _ (afi : ℕ) (damaged table list : List ℕ) where
 
   pub refuses : {n : ℕ} → SalvageRefusal afi damaged table list n → salvageOutcome afi damaged table list ≡ refused n
   unfolding salvageOutcome
-  refuses (noFamily a b) = sym (stops _ _ _ (family-refuses afi a b))
-  refuses (badSize f h) = sym (goes _ _ _ _ (family-good afi f .1) (sym (pick-false _ _ _ (is-false _ (λ t. h (size-is damaged t))))))
-  refuses (otherSize f s d) = sym (goes _ _ _ _ (family-good afi f .1) (sym (pick-true _ _ _ (size-tested (length damaged) s) ∙ pick-false _ _ _ (ne-eqb (length table) (length damaged) d))))
+  refuses (noFamily a b) = sym (and-stops _ _ _ (family-refuses afi a b))
+  refuses (badSize f h) = sym (and-goes-on _ _ _ _ (family-good afi f .1) (sym (pick-false _ _ _ (is-false _ (λ t. h (size-is damaged t))))))
+  refuses (otherSize f s d) = sym (and-goes-on _ _ _ _ (family-good afi f .1) (sym (pick-true _ _ _ (size-tested (length damaged) s) ∙ pick-false _ _ _ (ne-eqb (length table) (length damaged) d))))
   refuses (shortList f s e l) =
       let i = size-places damaged s in
-      sym (goes _ _ _ _ (family-good afi f .1)
+      sym (and-goes-on _ _ _ _ (family-good afi f .1)
       (sym (pick-true _ _ _ (size-tested (length damaged) s) ∙ pick-true _ _ _ (eq-eqb (length table) (length damaged) e) ∙ pick-true _ _ _ (lt-ltb (length list) (3 * placesIn damaged) (omega arith)))))
 
   pub refusal : (n : ℕ) → salvageOutcome afi damaged table list ≡ refused n → SalvageRefusal afi damaged table list n

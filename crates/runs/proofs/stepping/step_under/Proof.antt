@@ -5,21 +5,21 @@ use denote.Ref.{now}
 use lib.ListN.{length, length-drop}
 use Rattle.nlri.proofs.Functions.Fronts.{layout-octets}
 use Rattle.nlri.proofs.Functions.Via.{nlri-given, reads}
-use Rattle.runs.specs.Walking.{steppedOf, stepUnder}
+use Rattle.runs.specs.Walking.{stepTakenOf, stepUnder}
 use borrow.Author.Needs.{needs}
 use Rattle.runs.proofs.stepping.step_under.Statement.{statement}
 use Rattle.runs.proofs.stepping.step_under.Tie as tie
 
 returns : tie.Need-returns
-unfolding steppedOf stepUnder
+unfolding stepTakenOf stepUnder
 returns c = search reads
 
 returns-2 : tie.Need-returns-2
-unfolding steppedOf stepUnder
+unfolding stepTakenOf stepUnder
 returns-2 c = search reads
 
 returns-3 : tie.Need-returns-3
-unfolding steppedOf stepUnder
+unfolding stepTakenOf stepUnder
 returns-3 c = search reads
 
 advance-requires : tie.Need-advance-requires
@@ -30,11 +30,11 @@ advance-requires c κs =
     omega (arith, c .before .before .before .before .before .before .before .if1 .left)
 
 returns-4 : tie.Need-returns-4
-unfolding steppedOf stepUnder
+unfolding stepTakenOf stepUnder
 returns-4 c = rw (← c .before .before .before .before .after .ensures) (search reads)
 
 returns-5 : tie.Need-returns-5
-unfolding steppedOf stepUnder
+unfolding stepTakenOf stepUnder
 returns-5 c = rw (c .advance .ensures, ← c .before .before .before .before .before .after .ensures) (search reads)
 
 pub step-under-spec : {M : Type 1} → statement M

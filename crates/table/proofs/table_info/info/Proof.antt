@@ -8,7 +8,7 @@ use borrow.Author.Needs.{needs}
 use borrow.Author.Tests.{not-true, not-false}
 use Rattle.octets.specs.Numbers.{DONE, TABLE}
 use Rattle.octets.proofs.Choice.{picks, skips}
-use Rattle.routes.specs.declared.TableInfo.{TableInfo}
+use Rattle.routes.specs.declared.TableFacts.{TableFacts}
 use Rattle.routes.specs.Table.{afiIn, countIn, placesIn, soundOf}
 use Rattle.routes.specs.Info.{emptyInfo, infoOf}
 use Rattle.routes.proofs.Statements.Images.{sound, length-routes}
@@ -16,12 +16,12 @@ use Rattle.places.proofs.Indexes.{header-within}
 use Rattle.table.proofs.table_info.info.Statement.{statement}
 use Rattle.table.proofs.table_info.info.Tie as tie
 
-unsound : (t : List ℕ) (answer : TableInfo) → soundOf t ≡ false → answer ≡ emptyInfo TABLE → answer ≡ infoOf t
+unsound : (t : List ℕ) (answer : TableFacts) → soundOf t ≡ false → answer ≡ emptyInfo TABLE → answer ≡ infoOf t
 unfolding infoOf
 unsound t answer h a = skips _ _ _ _ h a
 
 told : (t : List ℕ) (afi places count : ℕ) → soundOf t ≡ true → afi ≡ afiIn t → places ≡ placesIn t → count ≡ countIn t
-    → _≡_ {A = TableInfo} (record { number = DONE; afi = afi; places = places; routes = count }) (infoOf t)
+    → _≡_ {A = TableFacts} (record { number = DONE; afi = afi; places = places; routes = count }) (infoOf t)
 unfolding infoOf
 told t afi places count s a p n = picks _ _ _ _ s (rw (a, p, n, ← length-routes t))
 

@@ -1,7 +1,7 @@
 -- `mvpn::AttributeAnswer::refused` meets its contract.
 use borrow.Author.Needs.{needs}
-use Rattle.mvpn.proofs.AttributeAnswer.refused.Statement.{statement}
-use Rattle.mvpn.proofs.AttributeAnswer.refused.Tie as tie
+use Rattle.mvpn.proofs.AttributeReading.refused.Statement.{statement}
+use Rattle.mvpn.proofs.AttributeReading.refused.Tie as tie
 
 returns : tie.Need-returns
 returns c = rw (c .none .ensures)

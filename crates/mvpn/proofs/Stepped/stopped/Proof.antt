@@ -4,14 +4,14 @@ use mathlib.Core.Path.{ap}
 use Prim.Native.Nat.{ℕ}
 use Rattle.nlri.specs.declared.layout.Layout.{Layout}
 use Rattle.runs.specs.Walking.{refusedAt}
-use Rattle.mvpn.specs.declared.StepAnswer.{StepAnswer}
+use Rattle.mvpn.specs.declared.Stepped.{Stepped}
 use Rattle.mvpn.specs.Answers.{stepAnswer}
-use Rattle.mvpn.proofs.StepAnswer.stopped.Statement.{statement}
-use Rattle.mvpn.proofs.StepAnswer.stopped.Tie as tie
+use Rattle.mvpn.proofs.Stepped.stopped.Statement.{statement}
+use Rattle.mvpn.proofs.Stepped.stopped.Tie as tie
 
 -- an answer with no NLRI
-unfoldable answered : (cursor number : ℕ) → Layout → StepAnswer
-answered cursor number layout = record { cursor = cursor; number = number; layout = layout }
+unfoldable answered : (cursor number : ℕ) → Layout → Stepped
+answered cursor number layout = record { number = number; cursor = cursor; layout = layout }
 
 returns : tie.Need-returns
 unfolding stepAnswer refusedAt answered
