@@ -2,5 +2,6 @@
 pub mod Sized
 pub mod States
 pub mod SourceActives
+pub mod Endings
 pub mod Judging
 pub mod TreeRule

@@ -17,7 +17,7 @@ use Rattle.octets.proofs.Orders.{unequal-other}
 use Rattle.lists.specs.LentLists.{itemField, frontNumber, frontField, afterField, wholeField, frontItem, afterItem, wholeItem}
 use Rattle.nlri.specs.Standing.{sourceSize, groupEnd, standing}
 use Rattle.routes.specs.SharedTree.{stateSized, isState}
-use Rattle.shared_trees.specs.Told.{FieldsWithin, Ending, StateStands}
+use Rattle.shared_trees.specs.Told.{FieldsWithin, Ending}
 use Rattle.shared_trees.proofs.Sized.{in-octets}
 
 -- the end of a part
@@ -41,7 +41,13 @@ field-size : (s : List ℕ) → wholeField s ≡ true → (length (frontField s)
 unfolding wholeField frontField
 field-size s w = let h : 2 + frontNumber s ≤ length s = leb-true _ _ w in (length-part s 2 (frontNumber s) h, h)
 
--- a state's two fields
+-- a state at a cursor, whose source and group have so many octets, four or more
+pub record StateStands (size : ℕ) (s : List ℕ) : Type 0 where
+  pub whole : wholeItem 2 s ≡ true
+  pub sized : stateSized (8 * size) (frontItem 2 s) ≡ true
+  pub least : 4 ≤ size
+
+-- its two fields
 module _ (size : ℕ) (s : List ℕ) (stands : StateStands size s) where
   whole-first : wholeField s ≡ true
   unfolding wholeItem

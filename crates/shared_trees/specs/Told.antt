@@ -1,15 +1,15 @@
 -- Definitions that mirror the inner functions; laws tie them to those of `routes`.
-use Prim.Native.Nat.{ℕ, _*_, _-_, _≤_}
+use Prim.Native.Nat.{ℕ, _+_, _*_, _-_, _≤_}
 use mathlib.Core.Path.{_≡_}
 use mathlib.Core.Bool.{Bool, true, not}
 use mathlib.Core.List.{List}
-use lib.ListN.{length}
+use lib.ListN.{length, drop}
 use lib.Dec.{leb, eqb}
 use Rattle.octets.specs.Numbers.{DONE, SHORT, LONG, FLOW}
 use Rattle.octets.specs.Choice.{pick, both}
 use Rattle.octets.specs.Octets.{part, lowFirst}
 use Rattle.octets.specs.Order.{same}
-use Rattle.lists.specs.LentLists.{Item, itemField, frontItem, wholeItem, listCount, wholeList, listItems, everyItem, someItem}
+use Rattle.lists.specs.LentLists.{Item, itemField, frontItems, wholeItems, listCount, wholeList, listItems, everyItem, someItem}
 use Rattle.nlri.specs.Family.{isOriginatorSize}
 use Rattle.nlri.specs.Standing.{groupEnd, standing}
 use Rattle.routes.specs.SharedTree.{MOST_ITEMS, originatorSized, stateSized, sourceActiveFault, isState}
@@ -49,13 +49,25 @@ fieldsWithin x = leb (groupEnd (itemField 1 x)) (length (itemField 1 x))
 pub record Ending (source : List ℕ) (r : ℕ) : Type 0 where
   pub is : 4 ≤ length source → r ≡ lowFirst (part source (length source - 4) 4)
 
--- a state at a cursor, whose source and group have so many octets, four or more
-pub record StateStands (size : ℕ) (s : List ℕ) : Type 0 where
-  pub whole : wholeItem 2 s ≡ true
-  pub sized : stateSized (8 * size) (frontItem 2 s) ≡ true
+-- where the last `left` of so many states start, behind the list's count: source and group of each have `size` octets
+unfoldable pub startOfLast : (size count left : ℕ) → ℕ
+startOfLast size count left = 2 + (count - left) * (4 + 2 * size)
+
+-- they stand there; an address has four octets or more
+pub record StatesLeft (size count left : ℕ) (states : List ℕ) : Type 0 where
+  pub among : left ≤ count
+  pub whole : wholeItems 2 left (drop (startOfLast size count left) states) ≡ true
+  pub sized : everyItem (stateSized (8 * size)) (frontItems 2 left (drop (startOfLast size count left) states)) ≡ true
   pub least : 4 ≤ size
 
--- a list of such states
+-- fewer of them: those in between are no state of a source that ends so
+pub record Passed (size count ending left left′ : ℕ) (states : List ℕ) : Type 0 where
+  pub fewer : left′ ≤ left
+  pub stand : StatesLeft size count left′ states
+  pub alike : (source group : List ℕ) → Ending source ending
+      → someItem (isState source group) (frontItems 2 left (drop (startOfLast size count left) states)) ≡ someItem (isState source group) (frontItems 2 left′ (drop (startOfLast size count left′) states))
+
+-- a list of states whose source and group have so many octets, four or more
 pub record StatesSized (size : ℕ) (states : List ℕ) : Type 0 where
   pub whole : wholeList 2 states ≡ true
   pub sized : everyItem (stateSized (8 * size)) (listItems 2 states) ≡ true

@@ -2,14 +2,14 @@
 ghost use mathlib.Core.Path.{_≡_};
 ghost use mathlib.Core.List.{List};
 ghost use mathlib.Core.Bool.{true};
-ghost use Prim.Native.Nat.{ℕ};
+ghost use Prim.Native.Nat.{ℕ, _<_};
 ghost use lib.ListN.{length, drop};
 ghost use Rattle.octets.specs.Numbers.{DONE};
-ghost use Rattle.lists.specs.LentLists.{frontItem, afterItem, wholeItem, listItems, someItem};
+ghost use Rattle.lists.specs.LentLists.{frontItem, wholeItem, listItems, someItem};
 ghost use Rattle.nlri.specs.Standing.{standing};
 ghost use Rattle.routes.specs.SharedTree.{sourceActiveFault, isState, conditionHolds};
 ghost use Rattle.shared_trees.specs.Tree.{treeOf};
-ghost use Rattle.shared_trees.specs.Told.{FieldsWithin, fieldsWithin, Ending, StateStands, StatesSized, ListsJudged, withoutState, withoutStateAt};
+ghost use Rattle.shared_trees.specs.Told.{FieldsWithin, fieldsWithin, Ending, startOfLast, StatesLeft, Passed, StatesSized, ListsJudged, withoutState, withoutStateAt};
 use crate::FIELDS;
 use crate::TreeFacts;
 use lists::FIRST;
@@ -28,40 +28,60 @@ fn ending_in(nlri: &[u8]) -> u32
     wide::four_low_first(nlri, standing::group_length_at(nlri) - ENDING)
 }
 
-// Where the next state starts: source and group have so many octets.
-fn after_state(list: &[u8], at: usize, size: usize) -> usize
-    requires { ⌜ StateStands size (drop at (now list)) ⌝ }
-    ensures { λ r. ⌜ drop r (now (list .entry)) ≡ afterItem 2 (drop at (now (list .entry))) ⌝ }
-{
-    at + 4 + 2 * size
-}
-
-// A state has this source and this group. The last four octets of its source, which tell most states apart, are compared first.
-fn is_state(list: &[u8], at: usize, size: usize, source: &[u8], ending: u32, group: &[u8]) -> bool
-    requires { ⌜ StateStands size (drop at (now list)) × Ending (now source) ending ⌝ }
+// A state has this source and this group.
+fn is_state(list: &[u8], at: usize, source: &[u8], group: &[u8]) -> bool
+    requires { ⌜ wholeItem 2 (drop at (now list)) ≡ true ⌝ }
     ensures { λ r. ⌜ r ≡ isState (now (source .entry)) (now (group .entry)) (frontItem 2 (drop at (now (list .entry)))) ⌝ }
 {
-    if wide::four_low_first(list, at + 2 + size - ENDING) != ending {
-        return false;
-    }
     if !order::is_same(lists::item_field(list, at, 0), source) {
         return false;
     }
     order::is_same(lists::item_field(list, at, 1), group)
 }
 
-// Some state does.
+// Where the last `left` of `count` states start: the source and the group of each have `size` octets.
+fn start_of_last(states: &[u8], count: usize, left: usize, size: usize) -> usize
+    requires { ⌜ StatesLeft size count left (now states) × (0 < left) ⌝ }
+    ensures { λ r. ⌜ r ≡ startOfLast size count left ⌝ }
+{
+    FIRST + (count - left) * (4 + 2 * size)
+}
+
+// Of the last states, how many are left from the first one on whose source has this ending. The ending tells most states apart, in
+// a loop that compares nothing else.
+fn left_from_ending(states: &[u8], count: usize, left: usize, size: usize, ending: u32) -> usize
+    requires { ⌜ StatesLeft size count left (now states) × (0 < left) ⌝ }
+    ensures { λ r. ⌜ Passed size count ending left r (now (states .entry)) ⌝ }
+{
+    let mut at = start_of_last(states, count, left, size);
+    let mut left = left;
+    while 0 < left {
+        if wide::four_low_first(states, at + 2 + size - ENDING) == ending {
+            return left;
+        }
+        at += 4 + 2 * size;
+        left -= 1;
+    }
+    left
+}
+
+// Some state has this source and this group. Where the last states start is counted anew in each turn: were it carried along, the
+// compiler would make one loop of both, whose numbers the registers do not hold.
 fn has_state(states: &[u8], size: usize, source: &[u8], ending: u32, group: &[u8]) -> bool
     requires { ⌜ StatesSized size (now states) × Ending (now source) ending ⌝ }
     ensures { λ r. ⌜ r ≡ someItem (isState (now (source .entry)) (now (group .entry))) (listItems 2 (now (states .entry))) ⌝ }
 {
-    let mut at = FIRST;
-    let mut left = lists::count_of(states);
+    let count = lists::count_of(states);
+    let mut left = count;
     while 0 < left {
-        if is_state(states, at, size, source, ending, group) {
+        left = left_from_ending(states, count, left, size, ending);
+        if left == 0 {
+            return false;
+        }
+        let at = start_of_last(states, count, left, size);
+        if is_state(states, at, source, group) {
             return true;
         }
-        at = after_state(states, at, size);
         left -= 1;
     }
     false
