@@ -9,4 +9,5 @@ pub mod Copies
 pub mod Singles
 pub mod FieldStarts
 pub mod Discards
+pub mod Sure
 pub mod SPmsis

@@ -234,3 +234,8 @@ sPmsiUnder bits s =
     (both (eqb (getD s 0 0) 3)
     (both (eqb (getD s 1 0) (length s - 2))
     (eqb (leftFault bits 3 (source ∷ group ∷ afterFlow 3) 10 s) DONE)))
+
+-- the NLRI at the front, whose Length is at most `most`, has the octets of a body of this type
+pub record SurelyRead (bits type most : ℕ) (s : List ℕ) : Type 0 where
+  pub short : getD s 1 0 ≤ most
+  pub good : bodyFault bits type (part s 2 (getD s 1 0)) ≡ DONE

@@ -10,6 +10,7 @@ pub mod mldp;
 mod read;
 pub mod route;
 pub mod standing;
+mod sure;
 
 pub use address::Address;
 pub use address::AddressKind;
@@ -30,6 +31,7 @@ pub use header::Header;
 pub use header::read_header;
 pub use layout::Layout;
 pub use layout::Reading;
+pub use read::fast_front_fault;
 pub use read::fault_of_type;
 pub use read::front_fault;
 pub use read::is_s_pmsi;

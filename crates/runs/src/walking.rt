@@ -47,7 +47,7 @@ pub fn walk(afi: u16, mode: u32, run: &[u8]) -> Walked
     let mut count: u32 = 0;
     let mut skipped: u32 = 0;
     while at < run.len() {
-        let number = nlri::front_fault(kind, octets::parts::after(run, at));
+        let number = nlri::fast_front_fault(kind, octets::parts::after(run, at));
         if number == DONE {
             count += 1;
         } else {

@@ -1,12 +1,13 @@
 -- Bounds on the sizes that fields come to.
-use mathlib.Core.Path.{_≡_, sym, ap}
+use mathlib.Core.Path.{_≡_, sym, _∙_, ap, ap₂}
 use mathlib.Core.Bool.{true}
 use mathlib.Core.List.{List}
-use Prim.Native.Nat.{ℕ, _+_, _/_, _≤_}
+use Prim.Native.Nat.{ℕ, _+_, _-_, _/_, _≤_}
 use native.Mathlib.Omega.{arith}
-use borrow.Author.Tests.{leb-false, ltb-false}
+use borrow.Author.Tests.{leb-false, ltb-false, le-ltb}
 use lib.ListN.{length, getD}
 use Rattle.octets.specs.Outcome.{given}
+use Rattle.octets.proofs.Choice.{pick-false}
 use Rattle.octets.proofs.Outcome.{given-otherwise, given-unless, given-same}
 use Rattle.nlri.specs.Family.{allowed, isOriginatorSize}
 use Rattle.nlri.specs.Reading.{fixedField, addressEnd, addressField, originatorField}
@@ -37,3 +38,8 @@ header-within s a b e =
     let same = given-same (q .1) in
     let eb : getD s 1 0 ≡ b = ap (λ (x : ℕ × ℕ). x .1) same in
     omega (arith, ltb-false)
+
+pub header-stands : (s : List ℕ) (a b : ℕ) → getD s 0 0 ≡ a → getD s 1 0 ≡ b → 2 + b ≤ length s → headerAt s ≡ given (a, b)
+unfolding headerAt
+header-stands s a b p q h =
+    pick-false _ _ _ (le-ltb (length s) 2 (omega arith)) ∙ pick-false _ _ _ (le-ltb (length s - 2) (getD s 1 0) (omega arith)) ∙ ap₂ (λ (x y : ℕ). given (x, y)) p q

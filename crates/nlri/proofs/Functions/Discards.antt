@@ -6,8 +6,8 @@ use mathlib.Core.List.{List, _∷_}
 use Prim.Native.Nat.{ℕ, _+_, _-_, _/_, _<_}
 use native.Mathlib.Omega.{arith}
 use borrow.Author.Tests.{eqb-true, eqb-false, eq-eqb, ne-eqb, le-ltb, le-leb}
-use lib.ListN.{length, getD, drop}
-use lib.Seq.{getD-take, getD-drop, take-length}
+use lib.ListN.{length, getD}
+use lib.Seq.{getD-drop, take-length}
 use lib.Dec.{eqb}
 use Rattle.octets.specs.Numbers.{DONE, SHORT, LENGTH, GROUP}
 use Rattle.octets.specs.Outcome.{given, refused, numberOf}
@@ -19,7 +19,7 @@ use Rattle.nlri.specs.Layouts.{layoutAt, laidLayout}
 use Rattle.nlri.specs.Inner.{headerAt, bodyFault, sizeAt, bodyGroup, sourceActiveBodyFault, acceptedFault, FlowStands, GroupStands, isDiscardedAt, isFollowed, followedFault, single}
 use Rattle.nlri.proofs.Definitions.ReadNumbers.{refuses-laid-layout}
 use Rattle.nlri.proofs.Functions.Fronts.{front-typed, front-unread}
-use Rattle.nlri.proofs.Functions.Shapes.{part-part}
+use Rattle.nlri.proofs.Functions.Shapes.{part-part, body-octet}
 use Rattle.nlri.proofs.Functions.Standing.{source-active-stands, laid-in}
 use Rattle.nlri.proofs.Functions.Singles.{front-refused, step-refused, front-octets, front-alone, front-discarded, front-followed, front-accepted-octets, front-ssm}
 
@@ -72,17 +72,13 @@ header-octets s type n e =
 
 -- the group of the body is that of the NLRI
 module _ (s : List ℕ) (n : ℕ) (f : FlowStands 10 s) (sized : getD s 1 0 ≡ n) where
-  at-body : (i : ℕ) → i < n → getD (part s 2 n) i 0 ≡ getD s (2 + i) 0
-  unfolding part
-  at-body i h = getD-take n (drop 2 s) i 0 h ∙ getD-drop 2 s i 0
-
   group-body : bodyGroup (part s 2 n) ≡ part s (12 + sizeAt s 10) (sizeAt s (11 + sizeAt s 10))
   unfolding bodyGroup sizeAt
   group-body =
       let a : ℕ = getD s 10 0 / 8 in
-      let first : getD (part s 2 n) 8 0 / 8 ≡ a = ap (λ (k : ℕ). k / 8) (at-body 8 (omega (arith, f .sizes))) in
+      let first : getD (part s 2 n) 8 0 / 8 ≡ a = ap (λ (k : ℕ). k / 8) (body-octet s n 8 (omega (arith, f .sizes))) in
       let at : 2 + (9 + a) ≡ 11 + a = omega arith in
-      let second : getD (part s 2 n) (9 + a) 0 / 8 ≡ getD s (11 + a) 0 / 8 = ap (λ (k : ℕ). k / 8) (at-body (9 + a) (omega (arith, f .sizes)) ∙ ap (λ (k : ℕ). getD s k 0) at) in
+      let second : getD (part s 2 n) (9 + a) 0 / 8 ≡ getD s (11 + a) 0 / 8 = ap (λ (k : ℕ). k / 8) (body-octet s n (9 + a) (omega (arith, f .sizes)) ∙ ap (λ (k : ℕ). getD s k 0) at) in
       let next : 2 + (10 + a) ≡ 12 + a = omega arith in
       ap (λ (x : ℕ). part (part s 2 n) (10 + x) (getD (part s 2 n) (9 + x) 0 / 8)) first
       ∙ ap (part (part s 2 n) (10 + a)) second

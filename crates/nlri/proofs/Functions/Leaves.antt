@@ -20,7 +20,7 @@ use Rattle.nlri.proofs.Definitions.Keys.{key-within}
 use Rattle.nlri.proofs.Functions.Ends.{left-keyed, left-unkeyed}
 
 -- its fields: a key and an originator
-leaf-body : (bits type : ℕ) (s : List ℕ) → withKey type ≡ true → leftFault bits type (key ∷ originator ∷ []) 0 s ≡ bodyFault bits type s
+pub leaf-body : (bits type : ℕ) (s : List ℕ) → withKey type ≡ true → leftFault bits type (key ∷ originator ∷ []) 0 s ≡ bodyFault bits type s
 unfolding withKey bodyFault onBody bodies pick
 leaf-body bits type s h = ⊎-elim (λ e. at 4 (eqb-true _ _ e) refl) (λ e. at 68 (eqb-true _ _ e) refl) (either-true _ _ h)
   where

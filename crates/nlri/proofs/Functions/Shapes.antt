@@ -57,6 +57,11 @@ pub part-part : (s : List ℕ) (start size k m : ℕ) → k + m ≤ size → par
 unfolding part
 part-part s start size k m h = ap (take m) (drop-part s start size k (omega arith)) ∙ take-take m (size - k) (drop (start + k) s) (omega arith)
 
+-- an octet of a body
+pub body-octet : (s : List ℕ) (n i : ℕ) → i < n → getD (part s 2 n) i 0 ≡ getD s (2 + i) 0
+unfolding part
+body-octet s n i h = getD-take n (drop 2 s) i 0 h ∙ getD-drop 2 s i 0
+
 -- an address in a body, behind its length octet
 inner-address : (s : List ℕ) (size start m : ℕ) → start + (1 + m) ≤ size → drop 1 (part (part s 2 size) start (1 + m)) ≡ part s (3 + start) m
 unfolding part

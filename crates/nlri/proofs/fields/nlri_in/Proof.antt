@@ -43,15 +43,5 @@ returns c =
 pub nlri-in-spec : {M : Type 1} → statement M
 nlri-in-spec =
     tie.close
-    (tie.spec
-    (search needs)
-    address-at-requires
-    add-address-at
-    add-address-at-2
-    address-at-requires-2
-    (search needs)
-    (search needs)
-    (λ c κs. search needs)
-    (λ c κs. search needs)
-    (search needs)
-    returns)
+    (tie.spec (search needs) address-at-requires add-address-at add-address-at-2 address-at-requires-2 (search needs) (search needs)
+    (λ c κs. search needs) (λ c κs. search needs) (search needs) returns)

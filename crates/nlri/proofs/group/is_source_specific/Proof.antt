@@ -9,14 +9,5 @@ pub is-source-specific-spec : {M : Type 1} → statement M
 unfolding sourceSpecific
 is-source-specific-spec =
     tie.close
-    (tie.spec
-    (search needs)
-    (λ c. search flags depth 8)
-    (search needs)
-    (λ c. search flags depth 8)
-    (search needs)
-    (λ c. search flags depth 8)
-    (search needs)
-    (λ c. search flags depth 8)
-    (search needs)
-    (λ c. search flags depth 8))
+    (tie.spec (search needs) (λ c. search flags depth 8) (search needs) (λ c. search flags depth 8) (search needs)
+    (λ c. search flags depth 8) (search needs) (λ c. search flags depth 8) (search needs) (λ c. search flags depth 8))

@@ -10,12 +10,5 @@ pub read-header-spec : {M : Type 1} → statement M
 unfolding headerAt
 read-header-spec =
     tie.close
-    (tie.spec
-    (λ c. search tests)
-    (search needs)
-    (λ c. omega (arith, c .shared-slice-known .given 1))
-    (search needs)
-    (λ c. search tests)
-    (search needs)
-    (λ c. omega (arith, c .shared-slice-known2 .given 0))
-    (λ c. search tests))
+    (tie.spec (λ c. search tests) (search needs) (λ c. omega (arith, c .shared-slice-known .given 1)) (search needs) (λ c. search tests)
+    (search needs) (λ c. omega (arith, c .shared-slice-known2 .given 0)) (λ c. search tests))

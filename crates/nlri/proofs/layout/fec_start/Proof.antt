@@ -9,8 +9,4 @@ pub fec-start-spec : {M : Type 1} → statement M
 unfolding fecStart
 fec-start-spec =
     tie.close
-    (tie.spec
-    (search needs)
-    (λ c. search tests)
-    (search needs)
-    (λ c. search tests))
+    (tie.spec (search needs) (λ c. search tests) (search needs) (λ c. search tests))

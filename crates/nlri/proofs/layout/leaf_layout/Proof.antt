@@ -10,12 +10,5 @@ pub leaf-layout-spec : {M : Type 1} → statement M
 unfolding leafLayout layoutWith
 leaf-layout-spec =
     tie.close
-    (tie.spec
-    (search needs)
-    (λ c. omega (arith, c .shared-slice-known .given 1))
-    (search needs)
-    (search needs)
-    (λ c. omega (arith, c .shared-slice-known2 .given 3))
-    (λ c. omega (arith, c .shared-slice-known2 .given 3))
-    (search needs)
-    (λ c. refl))
+    (tie.spec (search needs) (λ c. omega (arith, c .shared-slice-known .given 1)) (search needs) (search needs)
+    (λ c. omega (arith, c .shared-slice-known2 .given 3)) (λ c. omega (arith, c .shared-slice-known2 .given 3)) (search needs) (λ c. refl))

@@ -9,13 +9,5 @@ pub source-start-spec : {M : Type 1} → statement M
 unfolding sourceStart
 source-start-spec =
     tie.close
-    (tie.spec
-    (search needs)
-    (search needs)
-    (λ c. search tests)
-    (search needs)
-    (search needs)
-    (λ c. search tests)
-    (search needs)
-    (search needs)
-    (λ c. search tests))
+    (tie.spec (search needs) (search needs) (λ c. search tests) (search needs) (search needs) (λ c. search tests) (search needs)
+    (search needs) (λ c. search tests))

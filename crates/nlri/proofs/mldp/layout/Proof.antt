@@ -8,8 +8,5 @@ pub layout-spec : {M : Type 1} → statement M
 unfolding mldpLayout
 layout-spec =
     tie.close
-    (tie.spec
-    (λ c κs. c .before .before .pre .leaf (c .if1 .taken))
-    (λ c. search tests)
-    (λ c κs. c .before .before .pre .fec (c .if1 .left))
-    (λ c. search tests))
+    (tie.spec (λ c κs. c .before .before .pre .leaf (c .if1 .taken)) (λ c. search tests)
+    (λ c κs. c .before .before .pre .fec (c .if1 .left)) (λ c. search tests))

@@ -20,16 +20,6 @@ pub is-s-pmsi-under-spec : {M : Type 1} → statement M
 unfolding sPmsiUnder
 is-s-pmsi-under-spec =
     tie.close
-    (tie.spec
-    (search needs)
-    (λ c. search flags)
-    (search needs)
-    (λ c. omega (arith, c .shared-slice-known2 .given 0))
-    (λ c. search flags)
-    (search needs)
-    (λ c. omega (arith, c .shared-slice-known3 .given 1))
-    (search needs)
-    (λ c. search flags)
-    (search needs)
-    (search needs)
+    (tie.spec (search needs) (λ c. search flags) (search needs) (λ c. omega (arith, c .shared-slice-known2 .given 0)) (λ c. search flags)
+    (search needs) (λ c. omega (arith, c .shared-slice-known3 .given 1)) (search needs) (λ c. search flags) (search needs) (search needs)
     returns-4)

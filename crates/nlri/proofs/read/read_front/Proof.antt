@@ -1,5 +1,6 @@
 -- `nlri::read::read_front` meets its contract.
-use mathlib.Core.Path.{sym, _∙_, ap}
+use mathlib.Core.Path.{refl, sym, _∙_, ap}
+use Rattle.octets.specs.Numbers.{DONE}
 use Rattle.octets.specs.Outcome.{given}
 use Rattle.nlri.specs.Layouts.{readingOf}
 use Rattle.octets.proofs.Outcome.{refused-of}
@@ -14,6 +15,9 @@ read-front-spec =
     tie.close
     (tie.spec
     (search needs)
-    (λ c. sym (refused-of _ _ (c .before .front-fault .ensures) (c .if1 .taken)))
-    (λ c κs. step-in _ _ _ (c .before .front-fault .ensures) (c .if1 .left) .0)
-    (λ c. ap given (c .layout-in .ensures) ∙ step-in _ _ _ (c .before .before .front-fault .ensures) (c .before .if1 .left) .1))
+    (λ c κs. step-in _ _ DONE (sym (c .before .is-surely-to-leaf .ensures (c .if1 .taken))) refl .0)
+    (λ c. ap given (c .layout-in .ensures) ∙ step-in _ _ DONE (sym (c .before .before .is-surely-to-leaf .ensures (c .before .if1 .taken))) refl .1)
+    (search needs)
+    (λ c. sym (refused-of _ _ (c .before .front-fault .ensures) (c .if2 .taken)))
+    (λ c κs. step-in _ _ _ (c .before .front-fault .ensures) (c .if2 .left) .0)
+    (λ c. ap given (c .layout-in2 .ensures) ∙ step-in _ _ _ (c .before .before .front-fault .ensures) (c .before .if2 .left) .1))

@@ -10,10 +10,4 @@ pub read-layout-spec : {M : Type 1} → statement M
 unfolding readingOf
 read-layout-spec =
     tie.close
-    (tie.spec
-    (search needs)
-    (search needs)
-    (search needs)
-    (search needs)
-    (λ c. search (reads, single-is))
-    (λ c. search (reads, single-is)))
+    (tie.spec (search needs) (search needs) (search needs) (search needs) (λ c. search (reads, single-is)) (λ c. search (reads, single-is)))

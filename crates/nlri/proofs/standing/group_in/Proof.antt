@@ -24,10 +24,4 @@ returns c = c .between .ensures ∙ group-stands _ _ (c .before .before .group-l
 pub group-in-spec : {M : Type 1} → statement M
 group-in-spec =
     tie.close
-    (tie.spec
-    (search needs)
-    add-between
-    shared-slice-read-between
-    cast-between
-    between-requires
-    returns)
+    (tie.spec (search needs) add-between shared-slice-read-between cast-between between-requires returns)

@@ -27,11 +27,4 @@ returns c = c .after .ensures ∙ originator-stands _ _ (c .before .before .grou
 pub originator-in-spec : {M : Type 1} → statement M
 originator-in-spec =
     tie.close
-    (tie.spec
-    (search needs)
-    add-after
-    shared-slice-read-after
-    cast-after
-    add-after-2
-    after-requires
-    returns)
+    (tie.spec (search needs) add-after shared-slice-read-after cast-after add-after-2 after-requires returns)

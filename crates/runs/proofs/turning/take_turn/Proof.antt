@@ -38,17 +38,5 @@ returns-4 c = ap (λ n. Skipped (record { at = n })) (c .advance .ensures) ∙ s
 pub take-turn-spec : {M : Type 1} → statement M
 take-turn-spec =
     tie.close
-    (tie.spec
-    (search needs)
-    (search needs)
-    (search needs)
-    (search needs)
-    (search needs)
-    returns
-    add-advance
-    shared-slice-read-advance
-    cast-advance
-    advance-requires
-    returns-2
-    returns-3
-    returns-4)
+    (tie.spec (search needs) (search needs) (search needs) (search needs) (search needs) returns add-advance shared-slice-read-advance
+    cast-advance advance-requires returns-2 returns-3 returns-4)

@@ -8,10 +8,5 @@ pub is-state-spec : {M : Type 1} → statement M
 unfolding isState
 is-state-spec =
     tie.close
-    (tie.spec
-    (λ c κs. search going)
-    (λ c κs. search going)
-    (λ c. search going)
-    (λ c κs. search going)
-    (λ c κs. search going)
+    (tie.spec (λ c κs. search going) (λ c κs. search going) (λ c. search going) (λ c κs. search going) (λ c κs. search going)
     (λ c. search going))

@@ -16,11 +16,5 @@ has-state-requires c κs = (c .before .before .before .before .before .before .b
 pub is-without-state-spec : {M : Type 1} → statement M
 is-without-state-spec =
     tie.close
-    (tie.spec
-    (λ c κs. search needs)
-    (λ c κs. search needs)
-    returns
-    (λ c κs. search needs)
-    (λ c κs. search needs)
-    has-state-requires
+    (tie.spec (λ c κs. search needs) (λ c κs. search needs) returns (λ c κs. search needs) (λ c κs. search needs) has-state-requires
     returns-2)

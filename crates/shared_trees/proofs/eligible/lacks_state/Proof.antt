@@ -17,10 +17,4 @@ returns-2 c = lacks-here _ _ _ _ _ (c .before .before .before .before .item-fiel
 pub lacks-state-spec : {M : Type 1} → statement M
 lacks-state-spec =
     tie.close
-    (tie.spec
-    (λ c κs. search going)
-    (λ c κs. search going)
-    returns
-    (λ c κs. search going)
-    is-without-state-requires
-    returns-2)
+    (tie.spec (λ c κs. search going) (λ c κs. search going) returns (λ c κs. search going) is-without-state-requires returns-2)

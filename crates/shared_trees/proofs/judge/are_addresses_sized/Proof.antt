@@ -8,10 +8,5 @@ pub are-addresses-sized-spec : {M : Type 1} → statement M
 unfolding treeAddressesSized
 are-addresses-sized-spec =
     tie.close
-    (tie.spec
-    (search refusals)
-    (λ c. search refusals)
-    (λ c κs. search refusals)
-    (λ c. search refusals)
-    (λ c κs. search refusals)
+    (tie.spec (search refusals) (λ c. search refusals) (λ c κs. search refusals) (λ c. search refusals) (λ c κs. search refusals)
     (λ c. search refusals))

@@ -19,15 +19,5 @@ pub are-states-sized-spec : {M : Type 1} → statement M
 unfolding everyItem
 are-states-sized-spec =
     tie.close
-    (tie.spec
-    Inv-loop
-    μ-loop
-    (λ c κs. search going)
-    (λ c. search going)
-    (λ c κs. search going)
-    (λ c. search going)
-    (λ c κs. search going)
-    (λ c. search going)
-    (λ c. search going)
-    (λ c. search going)
-    (λ c. search going))
+    (tie.spec Inv-loop μ-loop (λ c κs. search going) (λ c. search going) (λ c κs. search going) (λ c. search going) (λ c κs. search going)
+    (λ c. search going) (λ c. search going) (λ c. search going) (λ c. search going))

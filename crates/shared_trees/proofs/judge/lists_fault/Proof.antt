@@ -9,13 +9,6 @@ pub lists-fault-spec : {M : Type 1} → statement M
 unfolding listsFault
 lists-fault-spec =
     tie.close
-    (tie.spec
-    (search refusals)
-    (λ c. search (refusals, count-over, count-within))
-    (search refusals)
-    (λ c. search (refusals, count-over, count-within))
-    (search refusals)
-    (λ c. search (refusals, count-over, count-within))
-    (search refusals)
-    (λ c. search (refusals, count-over, count-within))
-    (λ c. search (refusals, count-over, count-within)))
+    (tie.spec (search refusals) (λ c. search (refusals, count-over, count-within)) (search refusals)
+    (λ c. search (refusals, count-over, count-within)) (search refusals) (λ c. search (refusals, count-over, count-within))
+    (search refusals) (λ c. search (refusals, count-over, count-within)) (λ c. search (refusals, count-over, count-within)))

@@ -26,15 +26,5 @@ returns-5 c = tree-done _ _ _ _ _ _ _ (c .before .before .before .before .before
 pub tree-class-spec : {M : Type 1} → statement M
 tree-class-spec =
     tie.close
-    (tie.spec
-    (λ c κs. search needs)
-    (λ c κs. search needs)
-    returns
-    (λ c κs. search needs)
-    (λ c κs. search needs)
-    returns-2
-    returns-3
-    whole-fault-requires
-    (λ c κs. search needs)
-    returns-4
-    returns-5)
+    (tie.spec (λ c κs. search needs) (λ c κs. search needs) returns (λ c κs. search needs) (λ c κs. search needs) returns-2 returns-3
+    whole-fault-requires (λ c κs. search needs) returns-4 returns-5)
