@@ -1,11 +1,16 @@
 // A FEC up to its opaque value, judged field by field from left to right: the number of the first fault, or DONE.
 ghost use mathlib.Core.Path.{_≡_};
-ghost use Prim.Native.Nat.{_≤_};
+ghost use mathlib.Core.Bool.{true};
+ghost use Prim.Native.Nat.{_≤_, _<_};
 ghost use lib.ListN.{length};
 ghost use Rattle.fec_elements.specs.Reading.{runsOut, mustFill, takesFamily, isFecType, familySuits, lengthFault, rootFault, familyFault, headerFault};
+ghost use Rattle.octets.specs.Numbers.{DONE};
+ghost use Rattle.fec_elements.specs.Inner.{EndsWell};
 use crate::Standing;
 use crate::shape;
 use crate::shape::FecType;
+use crate::shape::OpaqueStart;
+use crate::shape::Root;
 use octets::number::DONE;
 use octets::number::IDENT;
 use octets::number::LENGTH;
@@ -108,7 +113,7 @@ fn family_fault(s: &[u8], standing: Standing) -> u32
 }
 
 // Type, and what follows it.
-pub(crate) fn fault(s: &[u8], standing: Standing) -> u32
+fn type_fault(s: &[u8], standing: Standing) -> u32
     ensures { λ r. ⌜ r ≡ headerFault standing (now (s .entry)) ⌝ }
 {
     if s.len() < 1 {
@@ -118,4 +123,63 @@ pub(crate) fn fault(s: &[u8], standing: Standing) -> u32
         return family_fault(s, standing);
     }
     IDENT
+}
+
+// A FEC whose opaque value starts at `start` ends with the octets, by the opaque length before that, or ends sooner where something may follow.
+fn ends_well(s: &[u8], start: usize, standing: Standing) -> bool
+    requires { ⌜ (2 ≤ start) × (start < 256) ⌝ }
+    ensures { λ r. ⌜ (r ≡ true → EndsWell standing start (now (s .entry))) ⌝ }
+{
+    if s.len() < start {
+        return false;
+    }
+    let end = start + octets::wide::two(s, start - 2) as usize;
+    if end == s.len() {
+        return true;
+    }
+    if s.len() < end {
+        return false;
+    }
+    !must_fill(standing)
+}
+
+// A FEC with a root of this family may stand so, and ends well.
+fn stands_well(s: &[u8], address_family: u32, start: usize, standing: Standing) -> bool
+    requires { ⌜ (2 ≤ start) × (start < 256) ⌝ }
+    ensures { λ r. ⌜ (r ≡ true → (takesFamily standing «address_family» ≡ true) × EndsWell standing start (now (s .entry))) ⌝ }
+{
+    if !takes_family(standing, address_family) {
+        return false;
+    }
+    ends_well(s, start, standing)
+}
+
+// A test before the judge: address family and address length are one load. That it fails says nothing.
+fn is_surely_good(s: &[u8], standing: Standing) -> bool
+    ensures { λ r. ⌜ (r ≡ true → headerFault standing (now (s .entry)) ≡ DONE) ⌝ }
+{
+    if s.len() < OpaqueStart::IPV4 {
+        return false;
+    }
+    if !is_fec_type(s[0]) {
+        return false;
+    }
+    let root = octets::wide::four_low_first(s, 0) / 256;
+    if root == Root::IPV4 {
+        return stands_well(s, 1, OpaqueStart::IPV4, standing);
+    }
+    if root == Root::IPV6 {
+        return stands_well(s, 2, OpaqueStart::IPV6, standing);
+    }
+    false
+}
+
+// The number of the first fault of a FEC up to its opaque value.
+pub(crate) fn fault(s: &[u8], standing: Standing) -> u32
+    ensures { λ r. ⌜ r ≡ headerFault standing (now (s .entry)) ⌝ }
+{
+    if is_surely_good(s, standing) {
+        return DONE;
+    }
+    type_fault(s, standing)
 }

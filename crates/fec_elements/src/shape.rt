@@ -23,25 +23,25 @@ pub(crate) const FIXED: usize = 4;
 const WITH_LENGTH: usize = 6;
 
 // Address family and address length (RFC 4760), as one number of three octets, the least significant first.
-struct Root {}
+pub(crate) struct Root {}
 
 impl Root {
     // family 1, 4 octets
-    const IPV4: u32 = 262400;
+    pub(crate) const IPV4: u32 = 262400;
     // family 2, 16 octets
-    const IPV6: u32 = 1049088;
+    pub(crate) const IPV6: u32 = 1049088;
 }
 
 // The most octets of a FEC whose opaque length is told by its second octet alone.
 const MOST_SHORT: usize = 255;
 
 // Where the opaque value starts.
-struct OpaqueStart {}
+pub(crate) struct OpaqueStart {}
 
 impl OpaqueStart {
-    const IPV4: usize = 10;
+    pub(crate) const IPV4: usize = 10;
 
-    const IPV6: usize = 22;
+    pub(crate) const IPV6: usize = 22;
 }
 
 // Where the opaque value of the FEC at the front starts.

@@ -1,23 +1,8 @@
 -- `fec_elements::header::fault` meets its contract.
-use Rattle.octets.proofs.Tests.{flags}
-use Rattle.fec_elements.specs.Reading.{headerFault}
+use mathlib.Core.Path.{sym}
 use borrow.Author.Needs.{needs}
 use Rattle.fec_elements.proofs.header.fault.Statement.{statement}
 use Rattle.fec_elements.proofs.header.fault.Tie as tie
 
-returns : tie.Need-returns
-unfolding headerFault
-returns c = search flags
-
-returns-2 : tie.Need-returns-2
-unfolding headerFault
-returns-2 c = search flags
-
-returns-3 : tie.Need-returns-3
-unfolding headerFault
-returns-3 c = search flags
-
 pub fault-spec : {M : Type 1} → statement M
-fault-spec =
-    tie.close
-    (tie.spec (search needs) returns (search needs) (search needs) (search needs) returns-2 returns-3)
+fault-spec = tie.close (tie.spec (search needs) (λ c. sym (c .before .is-surely-good .ensures (c .if1 .taken))) (search needs) (search needs))

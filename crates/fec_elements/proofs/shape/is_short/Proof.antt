@@ -20,19 +20,19 @@ returns-3 : tie.Need-returns-3
 returns-3 c =
     let known = c .before .before .before .before .before in
     let s = now (known .before .args .s) in
-    short-rooted (octets-of s (λ k. known .shared-slice-known .given k .fits)) (search needs) (search needs) _ (c .before .before .four-low-first .ensures) 1 4 ipv4 (search needs) (search needs) (search needs) _ (c .ends-from .ensures)
+    short-rooted (octets-of s (λ k. known .shared-slice-known .given k .fits)) (search needs) _ (c .before .before .four-low-first .ensures) (search needs) 1 4 ipv4 (search needs) (search needs) (search needs) _ (c .ends-from .ensures)
 
 returns-4 : tie.Need-returns-4
 returns-4 c =
     let known = c .before .before .before .before .before .before in
     let s = now (known .before .args .s) in
-    short-rooted (octets-of s (λ k. known .shared-slice-known .given k .fits)) (search needs) (search needs) _ (c .before .before .before .four-low-first .ensures) 2 16 ipv6 (search needs) (search needs) (search needs) _ (c .ends-from2 .ensures)
+    short-rooted (octets-of s (λ k. known .shared-slice-known .given k .fits)) (search needs) _ (c .before .before .before .four-low-first .ensures) (search needs) 2 16 ipv6 (search needs) (search needs) (search needs) _ (c .ends-from2 .ensures)
 
 returns-5 : tie.Need-returns-5
 returns-5 c =
     let known = c .before .before .before .before .before in
     let s = now (known .before .args .s) in
-    short-unrooted (octets-of s (λ k. known .shared-slice-known .given k .fits)) (search needs) (search needs) _ (c .before .before .four-low-first .ensures) (c .before .if3 .left) (c .if4 .left)
+    short-unrooted (octets-of s (λ k. known .shared-slice-known .given k .fits)) (search needs) _ (c .before .before .four-low-first .ensures) (c .before .if3 .left) (c .if4 .left)
 
 pub is-short-spec : {M : Type 1} → statement M
 is-short-spec = tie.close (tie.spec returns returns-2 (search needs) (search needs) returns-3 (search needs) returns-4 returns-5)
