@@ -89,14 +89,6 @@ withFec type = either (eqb type 67) (eqb type 71)
 unfoldable pub withSourceAs : ℕ → Bool
 withSourceAs type = either (eqb type 2) (either (eqb type 6) (either (eqb type 7) (eqb type 71)))
 
--- of the types up to 7 those with a source and a group: 3, 5, 6 and 7
-unfoldable pub hasFlow : ℕ → Bool
-hasFlow type = either (eqb type 3) (ltb 4 type)
-
--- of the types up to 7 those with an originator: 1, 3 and 4
-unfoldable pub hasOriginator : ℕ → Bool
-hasOriginator type = either (eqb type 1) (either (eqb type 3) (eqb type 4))
-
 -- where the octets of a source begin in an NLRI, behind its length octet: in types 6 and 7 the source AS stands before that
 unfoldable pub sourceStart : ℕ → ℕ
 sourceStart type = pick (either (eqb type 6) (eqb type 7)) 15 11

@@ -1,6 +1,6 @@
 // Route types (RFC 6514, section 4; RFC 7441, section 3): their code points, named once, and the tests of a type.
 ghost use mathlib.Core.Path.{_≡_};
-ghost use Rattle.nlri.specs.Inner.{withKey, withFec, withSourceAs, isMldp, hasFlow, hasOriginator};
+ghost use Rattle.nlri.specs.Inner.{withKey, withFec, withSourceAs, isMldp};
 
 pub struct RouteType {}
 
@@ -27,7 +27,7 @@ impl RouteType {
 }
 
 // A Leaf, of either kind, has a key, straight after the header, and no route distinguisher.
-pub(crate) fn has_key(route_type: usize) -> bool
+pub fn has_key(route_type: usize) -> bool
     ensures { λ r. ⌜ r ≡ withKey «route_type» ⌝ }
 {
     if route_type == RouteType::LEAF {
@@ -37,7 +37,7 @@ pub(crate) fn has_key(route_type: usize) -> bool
 }
 
 // Types 0x43 and 0x47 have a FEC.
-pub(crate) fn has_fec(route_type: usize) -> bool
+pub fn has_fec(route_type: usize) -> bool
     ensures { λ r. ⌜ r ≡ withFec «route_type» ⌝ }
 {
     if route_type == RouteType::MLDP_S_PMSI {
@@ -73,27 +73,4 @@ pub fn is_mldp(route_type: usize) -> bool
         return true;
     }
     route_type == RouteType::MLDP_SOURCE_TREE_JOIN
-}
-
-// Of the types up to 7 those with a source and a group: 3, 5, 6 and 7.
-pub fn has_flow(route_type: usize) -> bool
-    ensures { λ r. ⌜ r ≡ hasFlow «route_type» ⌝ }
-{
-    if route_type == RouteType::S_PMSI {
-        return true;
-    }
-    RouteType::LEAF < route_type
-}
-
-// Of the types up to 7 those with an originator: 1, 3 and 4.
-pub fn has_originator(route_type: usize) -> bool
-    ensures { λ r. ⌜ r ≡ hasOriginator «route_type» ⌝ }
-{
-    if route_type == RouteType::INTRA_AS_I_PMSI {
-        return true;
-    }
-    if route_type == RouteType::S_PMSI {
-        return true;
-    }
-    route_type == RouteType::LEAF
 }

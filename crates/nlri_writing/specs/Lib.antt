@@ -1,3 +1,2 @@
 -- What the inner functions of writing an NLRI cite.
 pub mod Inner
-pub mod InnerMldp

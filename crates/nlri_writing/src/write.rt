@@ -1,23 +1,26 @@
-// Writing an NLRI: FAMILY, TYPE, WIDTH, IDENT and DEEP, LONG, KEY, GROUP, SPACE; here types 1 to 7, which have no FEC and are never long. Fields
-// that the route type lacks are not looked at.
+// Writing an NLRI: FAMILY, TYPE, WIDTH, IDENT and DEEP, LONG, KEY, GROUP, SPACE. The type is told first: each family of types is judged, sized and
+// put by functions of its own, and asks only for what tells its types apart. Fields that the route type lacks are not looked at.
 ghost use mathlib.Core.Path.{_≡_};
+ghost use mathlib.Core.Bool.{true};
 ghost use mathlib.Core.Logic.{_⊎_};
 ghost use mathlib.Core.List.{[]};
-ghost use Prim.Native.Nat.{_+_, _≤_, _<_};
+ghost use Prim.Native.Nat.{_+_, _≤_};
 ghost use lib.ListN.{length};
-ghost use Rattle.octets.specs.Outcome.{given, numberOf};
-ghost use Rattle.octets.specs.Outputs.{Put, Wrote};
+ghost use lib.Dec.{ltb};
+ghost use Rattle.octets.specs.Choice.{both};
+ghost use Rattle.octets.specs.Outcome.{given};
+ghost use Rattle.octets.specs.Outputs.{Wrote};
 ghost use Rattle.nlri.specs.Fields.{isDiscarded};
-ghost use Rattle.nlri.specs.Writing.{isKey, writeNlri};
+ghost use Rattle.nlri.specs.Writing.{writeNlri};
 ghost use Rattle.nlri.specs.Answers.{structFields};
-ghost use Rattle.nlri_writing.specs.Inner.{flowFits, originatorFits, leafFits, fitting, fixedSize, flowSize, originatorLength, sizeOf, fixedOctets, flowOctets, originatorOctets, bodyOctets, nlriOctets, AddressesSized, Putting, writtenToSeven};
-ghost use Rattle.nlri_writing.specs.InnerMldp.{writeUnder};
-use crate::mldp_write;
+ghost use Rattle.nlri.specs.Inner.{withKey};
+ghost use Rattle.nlri_writing.specs.Inner.{writeUnder, framed, frontSize, flowOctets, endSize, bodyWith, leafBody, originatorFits, flowBody, addressesFit, iPmsiWritten, flowWritten, fecWritten, leafWritten, AddressSize, Putting};
+use crate::key::is_key;
 use crate::put;
+use fec_elements::Standing;
 use nlri::AddressKind;
 use nlri::Family;
 use nlri::HEADER;
-use nlri::Header;
 use nlri::Nlri;
 use nlri::RouteDistinguisher;
 use nlri::RouteType;
@@ -26,185 +29,83 @@ use octets::Written;
 use octets::number::DONE;
 use octets::number::GROUP;
 use octets::number::KEY;
+use octets::number::LONG;
 use octets::number::SPACE;
 use octets::number::TYPE;
 use octets::number::WIDTH;
 
-// Source and group, of so many octets, have lengths that type and family allow, where the type has them.
-fn flow_fits(kind: AddressKind, route_type: usize, source: usize, group: usize) -> bool
-    requires { ⌜ (source < 256) × (group < 256) ⌝ }
-    ensures { λ r. ⌜ r ≡ flowFits (kind .bits) «route_type» source group ⌝ }
-{
-    if !route::has_flow(route_type) {
-        return true;
-    }
-    if !nlri::is_allowed(kind, route_type, 8 * source) {
-        return false;
-    }
-    nlri::is_allowed(kind, route_type, 8 * group)
-}
+// The most octets of a body: its Length is one octet.
+const MOST: usize = 255;
 
 // An originator has 4 or 16 octets, where the type has one.
-fn originator_fits(route_type: usize, size: usize) -> bool
-    ensures { λ r. ⌜ r ≡ originatorFits «route_type» size ⌝ }
+fn originator_fits(originated: bool, size: usize) -> bool
+    ensures { λ r. ⌜ r ≡ originatorFits originated size ⌝ }
 {
-    if route::has_originator(route_type) {
+    if originated {
         return nlri::is_originator_size(size);
     }
     true
 }
 
-// A Leaf's key is exactly one NLRI of type 1, 2 or 3.
-fn key_fits(kind: AddressKind, route_type: usize, key: &[u8]) -> bool
-    ensures { λ r. ⌜ r ≡ leafFits (kind .bits) «route_type» (now (key .entry)) ⌝ }
+// The octets of the route distinguisher, with a source AS where the type has one.
+fn front_size(numbered: bool) -> usize
+    ensures { λ r. ⌜ r ≡ frontSize numbered ⌝ }
 {
-    if route_type == RouteType::LEAF {
-        return is_key(kind, key);
-    }
-    true
-}
-
-// Octets that are exactly one key.
-fn is_key(kind: AddressKind, key: &[u8]) -> bool
-    ensures { λ r. ⌜ r ≡ isKey (kind .bits) 4 (now (key .entry)) ⌝ }
-{
-    let Header::Typed(_, length) = nlri::read_key(kind, key) else {
-        return false;
-    };
-    HEADER + length == key.len()
-}
-
-// DONE, or the first of TYPE, WIDTH and KEY, for a type up to 7.
-fn judge(kind: AddressKind, nlri: Nlri, key: &[u8]) -> u32
-    ensures { λ r. ⌜ r ≡ numberOf (fitting (kind .bits) nlri (now (key .entry))) ⌝ }
-{
-    let route_type = nlri.route_type as usize;
-    let source = nlri.source;
-    let group = nlri.group;
-    let originator = nlri.originator;
-    if route_type < RouteType::INTRA_AS_I_PMSI {
-        return TYPE;
-    }
-    if !flow_fits(kind, route_type, source.size as usize, group.size as usize) {
-        return WIDTH;
-    }
-    if !originator_fits(route_type, originator.size as usize) {
-        return WIDTH;
-    }
-    if !key_fits(kind, route_type, key) {
-        return KEY;
-    }
-    DONE
-}
-
-// The octets before source and group: of the key, or of the route distinguisher with a source AS.
-fn fixed_size(route_type: usize, key: usize) -> usize
-    ensures { λ r. ⌜ r ≡ fixedSize «route_type» key ⌝ }
-{
-    if route_type == RouteType::LEAF {
-        return key;
-    }
-    if route::has_source_as(route_type) {
+    if numbered {
         return RouteDistinguisher::WITH_SOURCE_AS;
     }
     RouteDistinguisher::OCTETS
 }
 
-// The octets of source and group with their length octets.
-fn flow_size(route_type: usize, source: usize, group: usize) -> usize
-    requires { ⌜ (source < 256) × (group < 256) ⌝ }
-    ensures { λ r. ⌜ r ≡ flowSize «route_type» source group ⌝ }
+// The octets of the originator, where the type has one.
+fn end_size(originated: bool, size: usize) -> usize
+    ensures { λ r. ⌜ r ≡ endSize originated size ⌝ }
 {
-    if route::has_flow(route_type) {
-        return 2 + source + group;
-    }
-    0
-}
-
-// The octets of the originator.
-fn originator_length(route_type: usize, size: usize) -> usize
-    ensures { λ r. ⌜ r ≡ originatorLength «route_type» size ⌝ }
-{
-    if route::has_originator(route_type) {
+    if originated {
         return size;
     }
     0
 }
 
-// The octets of the whole NLRI.
-fn size_of(nlri: Nlri, key: usize) -> usize
-    requires { ⌜ (nlri .«route_type» ≡ 4 → key < 1024) ⌝ }
-    ensures { λ r. ⌜ r ≡ sizeOf nlri key ⌝ }
+// Puts an NLRI with nothing between the ends of its body, of `size` octets.
+fn put_i_pmsi(
+    numbered: bool,
+    originated: bool,
+    nlri: Nlri,
+    size: usize,
+    output: &mut [u8],
+) -> Written
+    requires { ⌜ (originated ≡ true → AddressSize (nlri .originator .size)) × Putting (bodyWith numbered originated nlri []) size (now output) ⌝ }
+    ensures { λ r. ⌜ Wrote (given (framed (nlri .«route_type») (bodyWith numbered originated nlri []))) (now (output .entry)) r (now (output .exit)) ⌝ }
 {
-    let route_type = nlri.route_type as usize;
-    let source = nlri.source;
-    let group = nlri.group;
+    let at = put::put_front(numbered, nlri, size as u8, output);
+    put::put_originator(originated, nlri, output, at);
+    Written {
+        number: DONE,
+        size: HEADER + size,
+    }
+}
+
+// Types 1 and 2: behind the route distinguisher an originator or a source AS. WIDTH, SPACE.
+fn write_i_pmsi(nlri: Nlri, output: &mut [u8]) -> Written
+    ensures { λ r. ⌜ Wrote (iPmsiWritten (nlri .«route_type») nlri (length (now (output .entry)))) (now (output .entry)) r (now (output .exit)) ⌝ }
+{
+    let numbered = nlri.route_type as usize == RouteType::INTER_AS_I_PMSI;
+    let originated = nlri.route_type as usize == RouteType::INTRA_AS_I_PMSI;
     let originator = nlri.originator;
-    let fixed = fixed_size(route_type, key);
-    let flow = flow_size(route_type, source.size as usize, group.size as usize);
-    HEADER + fixed + flow + originator_length(route_type, originator.size as usize)
-}
-
-// What stands before source and group: the key, or the route distinguisher with a source AS.
-fn put_fixed(nlri: Nlri, key: &[u8], output: &mut [u8], at: usize) -> usize
-    requires { ⌜ at + length (fixedOctets nlri (now key)) ≤ length (now output) ⌝ }
-    ensures { λ r. ⌜ Put at (fixedOctets nlri (now (key .entry))) (now (output .entry)) r (now (output .exit)) ⌝ }
-{
-    if nlri.route_type as usize == RouteType::LEAF {
-        return octets::parts::place(key, output, at);
+    if !originator_fits(originated, originator.size as usize) {
+        return Written::refused(WIDTH);
     }
-    put::put_distinguisher(nlri, output, at)
-}
-
-// Source and group from `at` on, where the type has them.
-fn put_flow(nlri: Nlri, output: &mut [u8], at: usize) -> usize
-    requires { ⌜ AddressesSized nlri × (at + length (flowOctets nlri) ≤ length (now output)) ⌝ }
-    ensures { λ r. ⌜ Put at (flowOctets nlri) (now (output .entry)) r (now (output .exit)) ⌝ }
-{
-    if route::has_flow(nlri.route_type as usize) {
-        let source = nlri.source;
-        let group = nlri.group;
-        let next = put::put_address(source, output, at);
-        return put::put_address(group, output, next);
+    let size = front_size(numbered) + end_size(originated, originator.size as usize);
+    if output.len() < HEADER + size {
+        return Written::refused(SPACE);
     }
-    at
-}
-
-// The originator from `at` on, where the type has one.
-fn put_originator(nlri: Nlri, output: &mut [u8], at: usize) -> usize
-    requires { ⌜ AddressesSized nlri × (at + length (originatorOctets nlri) ≤ length (now output)) ⌝ }
-    ensures { λ r. ⌜ Put at (originatorOctets nlri) (now (output .entry)) r (now (output .exit)) ⌝ }
-{
-    if route::has_originator(nlri.route_type as usize) {
-        let originator = nlri.originator;
-        return put::put_octets(originator, output, at);
-    }
-    at
-}
-
-// The body from `at` on.
-fn put_body(nlri: Nlri, key: &[u8], output: &mut [u8], at: usize) -> usize
-    requires { ⌜ AddressesSized nlri × (at + length (bodyOctets nlri (now key)) ≤ length (now output)) ⌝ }
-    ensures { λ r. ⌜ Put at (bodyOctets nlri (now (key .entry))) (now (output .entry)) r (now (output .exit)) ⌝ }
-{
-    let flow = put_fixed(nlri, key, output, at);
-    let originator = put_flow(nlri, output, flow);
-    put_originator(nlri, output, originator)
-}
-
-// The whole NLRI of `size` octets at the front of the output.
-fn put(nlri: Nlri, key: &[u8], size: usize, output: &mut [u8]) -> Written
-    requires { ⌜ Putting nlri (now key) size (now output) ⌝ }
-    ensures { λ r. ⌜ Wrote (given (nlriOctets nlri (now (key .entry)))) (now (output .entry)) r (now (output .exit)) ⌝ }
-{
-    let at = put::put_header(nlri.route_type, (size - HEADER) as u8, output);
-    put_body(nlri, key, output, at);
-    Written { number: DONE, size }
+    put_i_pmsi(numbered, originated, nlri, size, output)
 }
 
 // Whether an NLRI whose addresses fit is discarded: a Source Active route whose group is SSM (W-210).
 fn is_discarded(kind: AddressKind, nlri: Nlri) -> bool
-    requires { ⌜ AddressesSized nlri ⌝ }
+    requires { ⌜ nlri .group .size ≤ 16 ⌝ }
     ensures { λ r. ⌜ r ≡ isDiscarded (kind .bits) (structFields nlri [] []) ⌝ }
 {
     if nlri.route_type as usize != RouteType::SOURCE_ACTIVE {
@@ -216,34 +117,193 @@ fn is_discarded(kind: AddressKind, nlri: Nlri) -> bool
     nlri::is_ssm(kind, &octets[..size])
 }
 
-// Writing types 1 to 7 under the family of a kind of addresses. TYPE, WIDTH, KEY, GROUP, SPACE.
-fn write_to_seven(kind: AddressKind, nlri: Nlri, key: &[u8], output: &mut [u8]) -> Written
-    requires { ⌜ (kind .bits ≡ 32) ⊎ (kind .bits ≡ 128) ⌝ }
-    ensures { λ r. ⌜ Wrote (writtenToSeven (kind .bits) nlri (now (key .entry)) (length (now (output .entry)))) (now (output .entry)) r (now (output .exit)) ⌝ }
+// Puts an NLRI with a source and a group between the ends of its body, of `size` octets.
+fn put_flow(numbered: bool, originated: bool, nlri: Nlri, size: usize, output: &mut [u8]) -> Written
+    requires { ⌜ (originated ≡ true → AddressSize (nlri .originator .size)) × Putting (bodyWith numbered originated nlri (flowOctets nlri)) size (now output) ⌝ }
+    requires { ⌜ AddressSize (nlri .source .size) × AddressSize (nlri .group .size) ⌝ }
+    ensures { λ r. ⌜ Wrote (given (framed (nlri .«route_type») (bodyWith numbered originated nlri (flowOctets nlri)))) (now (output .entry)) r (now (output .exit)) ⌝ }
 {
-    let fault = judge(kind, nlri, key);
-    if fault != DONE {
-        return Written::refused(fault);
+    let at = put::put_front(numbered, nlri, size as u8, output);
+    let next = put::put_flow(nlri, output, at);
+    put::put_originator(originated, nlri, output, next);
+    Written {
+        number: DONE,
+        size: HEADER + size,
     }
-    let size = size_of(nlri, key.len());
+}
+
+// The octets of a body with a source and a group.
+fn flow_size(nlri: Nlri) -> usize
+    ensures { λ r. ⌜ r ≡ length (flowBody (nlri .«route_type») nlri) ⌝ }
+{
+    let route_type = nlri.route_type as usize;
+    let source = nlri.source;
+    let group = nlri.group;
+    let originator = nlri.originator;
+    let front = front_size(RouteType::SOURCE_ACTIVE < route_type);
+    let flow = 2 + source.size as usize + group.size as usize;
+    front + flow + end_size(route_type == RouteType::S_PMSI, originator.size as usize)
+}
+
+// Every address of such a body fits.
+fn addresses_fit(kind: AddressKind, nlri: Nlri) -> bool
+    ensures { λ r. ⌜ r ≡ addressesFit (kind .bits) (nlri .«route_type») nlri ⌝ }
+{
+    let route_type = nlri.route_type as usize;
+    let source = nlri.source;
+    let group = nlri.group;
+    let originator = nlri.originator;
+    if !nlri::is_allowed(kind, route_type, 8 * source.size as usize) {
+        return false;
+    }
+    if !nlri::is_allowed(kind, route_type, 8 * group.size as usize) {
+        return false;
+    }
+    originator_fits(route_type == RouteType::S_PMSI, originator.size as usize)
+}
+
+// Types with a source and a group: 3, 5, 6 and 7. WIDTH, GROUP, SPACE.
+fn write_flow(kind: AddressKind, nlri: Nlri, output: &mut [u8]) -> Written
+    requires { ⌜ (kind .bits ≡ 32) ⊎ (kind .bits ≡ 128) ⌝ }
+    ensures { λ r. ⌜ Wrote (flowWritten (kind .bits) (nlri .«route_type») nlri (length (now (output .entry)))) (now (output .entry)) r (now (output .exit)) ⌝ }
+{
+    if !addresses_fit(kind, nlri) {
+        return Written::refused(WIDTH);
+    }
     if is_discarded(kind, nlri) {
         return Written::refused(GROUP);
     }
-    if output.len() < size {
+    let size = flow_size(nlri);
+    if output.len() < HEADER + size {
         return Written::refused(SPACE);
     }
-    put(nlri, key, size, output)
+    let route_type = nlri.route_type as usize;
+    put_flow(
+        RouteType::SOURCE_ACTIVE < route_type,
+        route_type == RouteType::S_PMSI,
+        nlri,
+        size,
+        output,
+    )
 }
 
-// Writing under the family of a kind of addresses: the types above 7 apart, which have a FEC or a key of their own.
+// Puts an NLRI with a FEC between the ends of its body, of `size` octets.
+fn put_fec(
+    numbered: bool,
+    originated: bool,
+    nlri: Nlri,
+    fec: &[u8],
+    size: usize,
+    output: &mut [u8],
+) -> Written
+    requires { ⌜ (originated ≡ true → AddressSize (nlri .originator .size)) × Putting (bodyWith numbered originated nlri (now fec)) size (now output) ⌝ }
+    ensures { λ r. ⌜ Wrote (given (framed (nlri .«route_type») (bodyWith numbered originated nlri (now (fec .entry))))) (now (output .entry)) r (now (output .exit)) ⌝ }
+{
+    let at = put::put_front(numbered, nlri, size as u8, output);
+    let next = octets::parts::place(fec, output, at);
+    put::put_originator(originated, nlri, output, next);
+    Written {
+        number: DONE,
+        size: HEADER + size,
+    }
+}
+
+// Types with a FEC: 0x43 and 0x47. WIDTH, IDENT and DEEP, LONG, SPACE.
+fn write_fec(kind: AddressKind, nlri: Nlri, fec: &[u8], output: &mut [u8]) -> Written
+    ensures { λ r. ⌜ Wrote (fecWritten (kind .bits) (nlri .«route_type») nlri (now (fec .entry)) (length (now (output .entry)))) (now (output .entry)) r (now (output .exit)) ⌝ }
+{
+    let numbered = nlri.route_type as usize == RouteType::MLDP_SOURCE_TREE_JOIN;
+    let originated = nlri.route_type as usize == RouteType::MLDP_S_PMSI;
+    let originator = nlri.originator;
+    if !originator_fits(originated, originator.size as usize) {
+        return Written::refused(WIDTH);
+    }
+    let fault = fec_elements::fault(Standing::Lent(kind.root_family()), fec);
+    if fault != DONE {
+        return Written::refused(fault);
+    }
+    let ends = front_size(numbered) + end_size(originated, originator.size as usize);
+    if MOST - ends < fec.len() {
+        return Written::refused(LONG);
+    }
+    if output.len() < HEADER + ends + fec.len() {
+        return Written::refused(SPACE);
+    }
+    put_fec(numbered, originated, nlri, fec, ends + fec.len(), output)
+}
+
+// Puts an NLRI with a key, its body of `size` octets.
+fn put_leaf(nlri: Nlri, key: &[u8], size: usize, output: &mut [u8]) -> Written
+    requires { ⌜ AddressSize (nlri .originator .size) × Putting (leafBody nlri (now key)) size (now output) ⌝ }
+    ensures { λ r. ⌜ Wrote (given (framed (nlri .«route_type») (leafBody nlri (now (key .entry))))) (now (output .entry)) r (now (output .exit)) ⌝ }
+{
+    let originator = nlri.originator;
+    let at = put::put_header(nlri.route_type, size as u8, output);
+    let next = octets::parts::place(key, output, at);
+    put::put_octets(originator, output, next);
+    Written {
+        number: DONE,
+        size: HEADER + size,
+    }
+}
+
+// A body of a key and an originator that its Length cannot tell: of a Leaf of type 4 none is.
+fn is_leaf_long(route_type: usize, key: usize, originator: usize) -> bool
+    requires { ⌜ originator ≤ 16 ⌝ }
+    ensures { λ r. ⌜ r ≡ both (ltb 7 «route_type») (ltb 255 (key + originator)) ⌝ }
+{
+    if route_type <= RouteType::SOURCE_TREE_JOIN {
+        return false;
+    }
+    MOST - originator < key
+}
+
+// Types with a key: 4 and 0x44. WIDTH, LONG, KEY, SPACE.
+fn write_leaf(kind: AddressKind, nlri: Nlri, key: &[u8], output: &mut [u8]) -> Written
+    requires { ⌜ (kind .bits ≡ 32) ⊎ (kind .bits ≡ 128) ⌝ }
+    requires { ⌜ withKey (nlri .«route_type») ≡ true ⌝ }
+    ensures { λ r. ⌜ Wrote (leafWritten (kind .bits) (nlri .«route_type») nlri (now (key .entry)) (length (now (output .entry)))) (now (output .entry)) r (now (output .exit)) ⌝ }
+{
+    let route_type = nlri.route_type as usize;
+    let originator = nlri.originator;
+    let ending = originator.size as usize;
+    if !nlri::is_originator_size(ending) {
+        return Written::refused(WIDTH);
+    }
+    if is_leaf_long(route_type, key.len(), ending) {
+        return Written::refused(LONG);
+    }
+    if !is_key(kind, route_type, key) {
+        return Written::refused(KEY);
+    }
+    if output.len() < HEADER + key.len() + ending {
+        return Written::refused(SPACE);
+    }
+    put_leaf(nlri, key, key.len() + ending, output)
+}
+
+// Writing under the family of a kind of addresses, by the type.
 fn write_under(kind: AddressKind, nlri: Nlri, key: &[u8], fec: &[u8], output: &mut [u8]) -> Written
     requires { ⌜ (kind .bits ≡ 32) ⊎ (kind .bits ≡ 128) ⌝ }
-    ensures { λ r. ⌜ Wrote (writeUnder (kind .bits) nlri (now (key .entry)) (now (fec .entry)) (length (now (output .entry)))) (now (output .entry)) r (now (output .exit)) ⌝ }
+    ensures { λ r. ⌜ Wrote (writeUnder (kind .bits) (structFields nlri (now (key .entry)) (now (fec .entry))) (length (now (output .entry)))) (now (output .entry)) r (now (output .exit)) ⌝ }
 {
-    if RouteType::SOURCE_TREE_JOIN < nlri.route_type as usize {
-        return mldp_write::write(kind, nlri, key, fec, output);
+    let route_type = nlri.route_type as usize;
+    if route::has_key(route_type) {
+        return write_leaf(kind, nlri, key, output);
     }
-    write_to_seven(kind, nlri, key, output)
+    if route::has_fec(route_type) {
+        return write_fec(kind, nlri, fec, output);
+    }
+    if RouteType::SOURCE_TREE_JOIN < route_type {
+        return Written::refused(TYPE);
+    }
+    if RouteType::INTER_AS_I_PMSI < route_type {
+        return write_flow(kind, nlri, output);
+    }
+    if route_type < RouteType::INTRA_AS_I_PMSI {
+        return Written::refused(TYPE);
+    }
+    write_i_pmsi(nlri, output)
 }
 
 // Writes an NLRI at the front of the output; `key` is a Leaf's key, `fec` an mLDP customer's FEC. FAMILY, TYPE, WIDTH, IDENT and DEEP, LONG, KEY,

@@ -1,7 +1,6 @@
 -- What a `match` on an answer tells: how a definition and-goes-on on after a step, by the case that the step's answer was.
 use mathlib.Core.Path.{_≡_, sym, _∙_, ap}
 use Prim.Native.Nat.{ℕ}
-use Rattle.octets.specs.Numbers.{DONE}
 use Rattle.octets.specs.Outcome.{Outcome, given, refused, onOutcome, numberOf}
 use Rattle.octets.proofs.Outcome.{and-goes-on, and-stops, on-given, on-refused}
 use Rattle.octets.proofs.Tests.{tests}
@@ -55,14 +54,10 @@ on-nlri t r o l bad good p q h = on-given t o l bad good (nlri-given r o l p q) 
 pub on-refusal : {B : Type 0} (t : B) (r : Reading) (o : Outcome Layout) (n : ℕ) (bad : ℕ → B) (good : Layout → B) → readingOf r ≡ o → r ≡ Refused n → t ≡ bad n → t ≡ onOutcome bad good o
 on-refusal t r o n bad good p q h = on-refused t o n bad good (reading-refused r o n p q) h
 
--- a number by the refusal, or by the value
+-- a number by the refusal
 pub by-refusal : {A : Type 0} (n : ℕ) (o : Outcome A) → refused n ≡ o → n ≡ numberOf o
 unfolding numberOf
 by-refusal n o e = ap numberOf e
-
-pub by-value : {A : Type 0} (a : A) (o : Outcome A) → given a ≡ o → DONE ≡ numberOf o
-unfolding numberOf
-by-value a o e = ap numberOf e
 
 pub group-is : (g : Group) (o p : Outcome ℕ) → g ≡ groupOf o → o ≡ p → g ≡ groupOf p
 group-is g o p e q = e ∙ ap groupOf q

@@ -62,15 +62,5 @@ returns-3 c = put-as _ _ _ _ _ _ (octets-none (c .before .before .before .before
 pub put-octets-spec : {M : Type 1} → statement M
 put-octets-spec =
     tie.close
-    (tie.spec
-    cast-size
-    array-share-prefix-octets
-    slice-aggregate-place
-    place-requires
-    same-length
-    returns
-    slice-aggregate-place-2
-    place-requires-2
-    same-length-2
-    returns-2
-    returns-3)
+    (tie.spec cast-size array-share-prefix-octets slice-aggregate-place place-requires same-length returns slice-aggregate-place-2
+    place-requires-2 same-length-2 returns-2 returns-3)

@@ -10,7 +10,6 @@ use Rattle.nlri.specs.Groups.{isSsm}
 use Rattle.nlri.specs.Fields.{isDiscarded}
 use Rattle.nlri.specs.Answers.{structFields}
 use Rattle.nlri_writing.proofs.Puts.{octets-taken}
-use Rattle.nlri_writing.proofs.Verdicts.{flow-five}
 use borrow.Author.Needs.{needs}
 use Rattle.nlri_writing.proofs.write.is_discarded.Statement.{statement}
 use Rattle.nlri_writing.proofs.write.is_discarded.Tie as tie
@@ -24,14 +23,14 @@ array-share-prefix-octets c =
     let start = c .before .before .before .before .before in
     let h : length (start .args .nlri .group .octets) ≡ 16 = search needs in
     let five : start .args .nlri .«route_type» ≡ 5 = search needs in
-    omega (arith, start .pre .group (flow-five _ five) .0)
+    omega (arith, start .pre)
 
 slice-aggregate-is-ssm : tie.Need-slice-aggregate-is-ssm
 slice-aggregate-is-ssm c =
     let start = c .before .before .before .before .before .before in
     let h : length (start .args .nlri .group .octets) ≡ 16 = search needs in
     let five : start .args .nlri .«route_type» ≡ 5 = search needs in
-    let few : start .args .nlri .group .size ≤ length (start .args .nlri .group .octets) = omega (arith, start .pre .group (flow-five _ five) .0) in
+    let few : start .args .nlri .group .size ≤ length (start .args .nlri .group .octets) = omega (arith, start .pre) in
     sym (length-take-le _ (start .args .nlri .group .octets) few)
 
 returns-2 : tie.Need-returns-2
@@ -40,17 +39,10 @@ returns-2 c =
     let start = c .before .before .before .before .before .before .before in
     let h : length (start .args .nlri .group .octets) ≡ 16 = search needs in
     let five : start .args .nlri .«route_type» ≡ 5 = search needs in
-    let few : start .args .nlri .group .size ≤ length (start .args .nlri .group .octets) = omega (arith, start .pre .group (flow-five _ five) .0) in
+    let few : start .args .nlri .group .size ≤ length (start .args .nlri .group .octets) = omega (arith, start .pre) in
     both-last _ _ _ (eq-eqb _ 5 five) (c .is-ssm .ensures ∙ ap (isSsm (start .args .kind .bits)) (octets-taken (start .args .nlri .group) _ refl few))
 
 pub is-discarded-spec : {M : Type 1} → statement M
 is-discarded-spec =
     tie.close
-    (tie.spec
-    (search needs)
-    returns
-    (search needs)
-    array-share-prefix-octets
-    slice-aggregate-is-ssm
-    (λ c κs. search needs)
-    returns-2)
+    (tie.spec (search needs) returns (search needs) array-share-prefix-octets slice-aggregate-is-ssm (λ c κs. search needs) returns-2)

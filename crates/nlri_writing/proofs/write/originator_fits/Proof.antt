@@ -5,12 +5,6 @@ use borrow.Author.Needs.{needs}
 use Rattle.nlri_writing.proofs.write.originator_fits.Statement.{statement}
 use Rattle.nlri_writing.proofs.write.originator_fits.Tie as tie
 
-has-originator-requires : tie.Need-has-originator-requires
-has-originator-requires c κs = search needs
-
-is-originator-size-requires : tie.Need-is-originator-size-requires
-is-originator-size-requires c κs = search needs
-
 returns : tie.Need-returns
 unfolding originatorFits
 returns c = search flags
@@ -20,5 +14,4 @@ unfolding originatorFits
 returns-2 c = search flags
 
 pub originator-fits-spec : {M : Type 1} → statement M
-originator-fits-spec =
-    tie.close (tie.spec has-originator-requires is-originator-size-requires returns returns-2)
+originator-fits-spec = tie.close (tie.spec (search needs) returns returns-2)

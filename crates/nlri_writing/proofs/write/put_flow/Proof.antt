@@ -1,57 +1,41 @@
 -- `nlri_writing::write::put_flow` meets its contract.
-use mathlib.Core.List.{List, [], _++_}
-use Prim.Native.Nat.{ℕ}
+use mathlib.Core.List.{_++_}
+use native.Mathlib.Omega.{arith}
 use denote.Ref.{now}
-use Rattle.nlri.specs.declared.fields.Nlri.{Nlri}
-use Rattle.nlri.specs.Fields.{encodeAddress}
-use Rattle.nlri.specs.Answers.{addressOctets}
-use mathlib.Core.Path.{_∙_, sym}
-use Rattle.octets.proofs.Outputs.{put-none, put-then, put-picks, put-skips, room-picks, room-first, room-next}
-use Rattle.nlri_writing.specs.Inner.{flowOctets}
+use lib.ListN.{length-append}
+use Rattle.octets.proofs.Outputs.{put-then, room-next}
+use Rattle.nlri_writing.specs.Inner.{frontOctets, flowOctets, endOctets, bodyWith}
+use Rattle.nlri_writing.proofs.Puts.{room-front, room-rest, put-framed}
 use borrow.Author.Needs.{needs}
 use Rattle.nlri_writing.proofs.write.put_flow.Statement.{statement}
 use Rattle.nlri_writing.proofs.write.put_flow.Tie as tie
 
--- source and group, and the room for both
-abbrev flow : Nlri → List ℕ
-flow nlri = encodeAddress (addressOctets (nlri .source)) ++ encodeAddress (addressOctets (nlri .group))
+put-front-requires : tie.Need-put-front-requires
+unfolding bodyWith
+put-front-requires c κs =
+    let a = c .before .before .args in
+    room-front (a .nlri .«route_type») (a .size) (frontOctets (a .numbered) (a .nlri)) ((flowOctets (a .nlri)) ++ endOctets (a .originated) (a .nlri)) (now (a .output)) (c .before .before .pre .0 .1)
 
-put-address-requires : tie.Need-put-address-requires
-unfolding flowOctets
-put-address-requires c κs =
-    let start = c .before .before .before .before .before .before .before in
-    let has = sym (c .before .before .before .before .has-flow .ensures) ∙ c .before .before .before .if1 .taken in
-    let a = start .args in
-    (start .pre .0 .source has, room-first (a .at) (encodeAddress (addressOctets (a .nlri .source))) (encodeAddress (addressOctets (a .nlri .group))) (now (a .output)) (room-picks (a .at) _ (flow (a .nlri)) [] (now (a .output)) has (start .pre .1)))
+put-flow-requires : tie.Need-put-flow-requires
+unfolding bodyWith
+put-flow-requires c κs =
+    let a = c .before .before .before .before .before .before .args in
+    let room = room-rest (a .nlri .«route_type») (a .size) (frontOctets (a .numbered) (a .nlri)) ((flowOctets (a .nlri)) ++ endOctets (a .originated) (a .nlri)) (now (a .output)) (c .before .before .before .before .before .before .pre .0 .1) _ _ (c .before .before .before .put-front .ensures) in
+    (c .before .before .before .before .before .before .pre .1 .0, (c .before .before .before .before .before .before .pre .1 .1, omega (arith, length-append (flowOctets (a .nlri)) (endOctets (a .originated) (a .nlri)))))
 
-put-address-requires-2 : tie.Need-put-address-requires-2
-unfolding flowOctets
-put-address-requires-2 c κs =
-    let start = c .before .before .before .before .before .before .before .before .before .before .before in
-    let has = sym (c .before .before .before .before .before .before .before .before .has-flow .ensures) ∙ c .before .before .before .before .before .before .before .if1 .taken in
-    let a = start .args in
-    (start .pre .0 .group has, room-next (a .at) (encodeAddress (addressOctets (a .nlri .source))) (encodeAddress (addressOctets (a .nlri .group))) (now (a .output)) (room-picks (a .at) _ (flow (a .nlri)) [] (now (a .output)) has (start .pre .1)) _ _ (c .before .before .before .put-address .ensures))
+put-originator-requires : tie.Need-put-originator-requires
+unfolding bodyWith
+put-originator-requires c κs =
+    let a = c .before .before .before .before .before .before .before .before .before .before .args in
+    (c .before .before .before .before .before .before .before .before .before .before .pre .0 .0, room-next _ (flowOctets (a .nlri)) (endOctets (a .originated) (a .nlri)) _ (room-rest (a .nlri .«route_type») (a .size) (frontOctets (a .numbered) (a .nlri)) ((flowOctets (a .nlri)) ++ endOctets (a .originated) (a .nlri)) (now (a .output)) (c .before .before .before .before .before .before .before .before .before .before .pre .0 .1) _ _ (c .before .before .before .before .before .before .before .put-front .ensures)) _ _ (c .before .before .before .put-flow .ensures))
 
 returns : tie.Need-returns
-unfolding flowOctets
+unfolding bodyWith
 returns c =
-    let start = c .before .before .before .before .before .before .before .before .before .before .before .before .before .before in
-    let has = sym (c .before .before .before .before .before .before .before .before .before .before .before .has-flow .ensures) ∙ c .before .before .before .before .before .before .before .before .before .before .if1 .taken in
-    let a = start .args in
-    put-picks _ _ _ _ _ _ _ has (put-then (a .at) (encodeAddress (addressOctets (a .nlri .source))) (encodeAddress (addressOctets (a .nlri .group))) (now (a .output)) (room-picks (a .at) _ (flow (a .nlri)) [] (now (a .output)) has (start .pre .1)) _ _ (c .before .before .before .before .before .before .put-address .ensures) _ _ (c .before .before .put-address2 .ensures))
-
-returns-2 : tie.Need-returns-2
-unfolding flowOctets
-returns-2 c = put-skips _ _ _ _ _ _ _ (sym (c .before .has-flow .ensures) ∙ c .if1 .left) (put-none _ _)
+    let a = c .before .before .before .before .before .before .before .before .before .before .before .before .before .args in
+    put-framed (a .nlri .«route_type») (a .size) (frontOctets (a .numbered) (a .nlri)) ((flowOctets (a .nlri)) ++ endOctets (a .originated) (a .nlri)) (now (a .output)) (c .before .before .before .before .before .before .before .before .before .before .before .before .before .pre .0 .1) _ _ (c .before .before .before .before .before .before .before .before .before .before .put-front .ensures) _ _ (put-then _ (flowOctets (a .nlri)) (endOctets (a .originated) (a .nlri)) _ (room-rest (a .nlri .«route_type») (a .size) (frontOctets (a .numbered) (a .nlri)) ((flowOctets (a .nlri)) ++ endOctets (a .originated) (a .nlri)) (now (a .output)) (c .before .before .before .before .before .before .before .before .before .before .before .before .before .pre .0 .1) _ _ (c .before .before .before .before .before .before .before .before .before .before .put-front .ensures)) _ _ (c .before .before .before .before .before .before .put-flow .ensures) _ _ (c .before .before .put-originator .ensures))
 
 pub put-flow-spec : {M : Type 1} → statement M
 put-flow-spec =
     tie.close
-    (tie.spec
-    (search needs)
-    (search needs)
-    put-address-requires
-    put-address-requires-2
-    (search needs)
-    returns
-    returns-2)
+    (tie.spec (search needs) put-front-requires put-flow-requires put-originator-requires (search needs) (search needs) returns)

@@ -1,11 +1,12 @@
 -- `nlri_writing::write::write_nlri` meets its contract.
-use Rattle.nlri_writing.proofs.MldpVerdicts.{write-by}
+use Rattle.nlri_writing.proofs.Families.{write-by}
 use Rattle.nlri.proofs.Functions.Via.{known-given, unknown-given}
 use Rattle.nlri.proofs.Definitions.Families.{family-is}
 use Rattle.octets.proofs.Outcome.{and-stops, and-goes-on}
 use Rattle.octets.proofs.Outputs.{wrote-as, wrote-refused}
+use Rattle.nlri.specs.Answers.{structFields}
 use lib.ListN.{length}
-use mathlib.Core.Path.{_≡_, refl, _∙_}
+use mathlib.Core.Path.{refl, _∙_}
 use denote.Ref.{now}
 use borrow.Author.Needs.{needs}
 use Rattle.nlri_writing.proofs.write.write_nlri.Statement.{statement}
@@ -17,25 +18,15 @@ write-under-requires c κs =
 
 returns : tie.Need-returns
 returns c =
-    let eight : length (c .before .before .before .before .before .before .before .before .args .nlri .distinguisher .octets) ≡ 8 = search needs in
     let a = c .before .before .before .before .before .before .before .before .args in
-    wrote-refused _ _ _ _ (and-stops _ _ _ (unknown-given _ _ _ (c .before .before .before .before .family-of .ensures) (c .before .before .number .given .1)) ∙ write-by (a .afi) (a .nlri) (now (a .key)) (now (a .fec)) (length (now (a .output))) eight) (c .refused .ensures)
+    wrote-refused _ _ _ _ (and-stops _ _ _ (unknown-given _ _ _ (c .before .before .before .before .family-of .ensures) (c .before .before .number .given .1)) ∙ write-by (a .afi) (structFields (a .nlri) (now (a .key)) (now (a .fec))) (length (now (a .output)))) (c .refused .ensures)
 
 returns-2 : tie.Need-returns-2
 returns-2 c =
-    let eight : length (c .before .before .before .before .before .before .before .before .before .before .before .args .nlri .distinguisher .octets) ≡ 8 = search needs in
     let a = c .before .before .before .before .before .before .before .before .before .before .before .args in
-    wrote-as _ _ _ _ _ (and-goes-on _ _ _ _ (known-given _ _ _ (c .before .before .before .before .before .before .before .family-of .ensures) (c .before .before .before .before .before .kind .given .1)) refl ∙ write-by (a .afi) (a .nlri) (now (a .key)) (now (a .fec)) (length (now (a .output))) eight) (c .before .before .write-under .ensures)
+    wrote-as _ _ _ _ _ (and-goes-on _ _ _ _ (known-given _ _ _ (c .before .before .before .before .before .before .before .family-of .ensures) (c .before .before .before .before .before .kind .given .1)) refl ∙ write-by (a .afi) (structFields (a .nlri) (now (a .key)) (now (a .fec))) (length (now (a .output)))) (c .before .before .write-under .ensures)
 
 pub write-nlri-spec : {M : Type 1} → statement M
 write-nlri-spec =
     tie.close
-    (tie.spec
-    (search needs)
-    (search needs)
-    (search needs)
-    (search needs)
-    write-under-requires
-    returns
-    (search needs)
-    returns-2)
+    (tie.spec (search needs) (search needs) (search needs) (search needs) write-under-requires returns (search needs) returns-2)
