@@ -18,6 +18,8 @@ use Rattle.nlri.specs.Bodies.{FieldKind, source, group, originator, key,
 use Rattle.nlri.specs.Fields.{Fields}
 use Rattle.nlri.specs.Reading.{fieldSize, sizesOf, keyField}
 use Rattle.nlri.specs.Groups.{isSsm}
+use Rattle.nlri.specs.declared.fields.NlriReading.{NlriReading}
+use Rattle.nlri.specs.Answers.{nlriStruct}
 use Rattle.nlri.specs.Layouts.{laidLayout}
 
 -- a route type and a Length, or the refusal's number
@@ -150,6 +152,7 @@ KeyStands s = (4 ≤ length s) × (2 + getD s 3 0 ≤ getD s 1 0)
 -- the key or FEC of an NLRI of a type above 7
 pub record MldpStands (type : ℕ) (s : List ℕ) : Type 0 where
   pub leaf : type ≡ 68 → KeyStands s
+  pub held : (type ≡ 68 → ⊥) → withFec type ≡ true
   pub fec : (type ≡ 68 → ⊥) → FecStands type s
 
 -- the octets that a layout goes by stand there
@@ -202,6 +205,10 @@ pub record LayoutWithin (l : Layout) (s : List ℕ) : Type 0 where
   pub fecEnd : 0 < l .fec → fecStart (l .«route_type») + l .fec ≤ length s
   pub keyKind : hasField key (bodyOf (l .«route_type»)) ≡ withKey (l .«route_type»)
   pub key : 2 + l .key ≤ length s
+
+-- what reading a single NLRI answers, by its layout
+unfoldable pub answerAt : Layout → List ℕ → NlriReading
+answerAt l s = record { number = DONE; nlri = nlriStruct (fieldsAt l s); key = keyAt l; fec = fecInLayout l }
 
 -- by the octets of an NLRI that is laid out: it is discarded, being of type 5 with an SSM group behind the source's and its own length octet
 unfoldable pub isDiscardedAt : ℕ → List ℕ → Bool

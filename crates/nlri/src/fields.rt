@@ -7,18 +7,22 @@ ghost use Rattle.octets.specs.Octets.{part};
 ghost use Rattle.octets.specs.Outcome.{refused};
 ghost use Rattle.nlri.specs.Reading.{readNlri};
 ghost use Rattle.nlri.specs.Answers.{addressStruct, distinguisherStruct, nlriStruct, nlriAnswer};
-ghost use Rattle.nlri.specs.Inner.{withKey, withSourceAs, distinguisherAt, sourceAsAt, fieldsAt, keyAt, fecInLayout, LayoutWithin};
+ghost use Rattle.nlri.specs.Inner.{withKey, withFec, withSourceAs, distinguisherAt, sourceAsAt, leafLayout, fecLayout, mldpLayout, layoutIn, KeyStands, FecStands, MldpStands, Stands, fieldsAt, keyAt, fecInLayout, answerAt, LayoutWithin};
 use crate::address::Address;
 use crate::address::AddressKind;
 use crate::address::RouteDistinguisher;
+use crate::family;
+use crate::family::Family;
 use crate::header::HEADER;
 use crate::layout;
 use crate::layout::Layout;
-use crate::layout::Reading;
+use crate::mldp;
 use crate::read;
 use crate::route;
+use crate::route::RouteType;
 use octets::Span;
 use octets::number::DONE;
+use octets::number::FAMILY;
 
 // A field that the route type lacks is zeros in an answer, and is not looked at in an argument.
 #[repr(C)]
@@ -153,20 +157,106 @@ fn fec_in(layout: Layout) -> Span
     }
 }
 
+// What reading an NLRI answers, by its layout.
+fn reading_by(layout: Layout, s: &[u8]) -> NlriReading
+    requires { ⌜ LayoutWithin layout (now s) ⌝ }
+    ensures { λ r. ⌜ r ≡ answerAt layout (now (s .entry)) ⌝ }
+{
+    let nlri = nlri_in(layout, s);
+    NlriReading {
+        number: DONE,
+        nlri,
+        key: key_in(layout),
+        fec: fec_in(layout),
+    }
+}
+
+// The fields of an NLRI of a type of RFC 7441, by its layout: it has no source and no group.
+fn mldp_nlri_in(layout: Layout, s: &[u8]) -> Nlri
+    requires { ⌜ LayoutWithin layout (now s) × (layout .source ≡ 0) × (layout .group ≡ 0) ⌝ }
+    ensures { λ r. ⌜ r ≡ nlriStruct (fieldsAt layout (now (s .entry))) ⌝ }
+{
+    let route_type = layout.route_type;
+    let originator = address_at(s, s.len() - layout.originator, layout.originator);
+    let distinguisher = distinguisher_in(route_type, s);
+    Nlri {
+        distinguisher,
+        source: Address::wildcard(),
+        group: Address::wildcard(),
+        originator,
+        source_as: source_as_in(route_type, s),
+        route_type: route_type as u8,
+    }
+}
+
+// What reading an NLRI of type 0x44 answers. Its layout, made here, is numbers that no memory holds.
+fn mldp_leaf_reading(s: &[u8]) -> NlriReading
+    requires { ⌜ KeyStands (now s) × LayoutWithin (leafLayout 68 (now s)) (now s) ⌝ }
+    ensures { λ r. ⌜ r ≡ answerAt (leafLayout 68 (now (s .entry))) (now (s .entry)) ⌝ }
+{
+    let layout = layout::leaf_layout(RouteType::MLDP_LEAF, s);
+    let nlri = mldp_nlri_in(layout, s);
+    NlriReading {
+        number: DONE,
+        nlri,
+        key: key_in(layout),
+        fec: fec_in(layout),
+    }
+}
+
+// The same of a type with a FEC.
+fn fec_reading(route_type: usize, s: &[u8]) -> NlriReading
+    requires { ⌜ (withFec «route_type» ≡ true) × FecStands «route_type» (now s) × LayoutWithin (fecLayout «route_type» (now s)) (now s) ⌝ }
+    ensures { λ r. ⌜ r ≡ answerAt (fecLayout «route_type» (now (s .entry))) (now (s .entry)) ⌝ }
+{
+    let layout = mldp::fec_layout(route_type, s);
+    let nlri = mldp_nlri_in(layout, s);
+    let key = key_in(layout);
+    let start = layout::fec_start(route_type);
+    NlriReading {
+        number: DONE,
+        nlri,
+        key,
+        fec: Span {
+            start,
+            size: layout.fec,
+        },
+    }
+}
+
+// The same of any type of RFC 7441.
+fn mldp_reading(route_type: usize, s: &[u8]) -> NlriReading
+    requires { ⌜ MldpStands «route_type» (now s) × LayoutWithin (mldpLayout «route_type» (now s)) (now s) ⌝ }
+    ensures { λ r. ⌜ r ≡ answerAt (mldpLayout «route_type» (now (s .entry))) (now (s .entry)) ⌝ }
+{
+    if route_type == RouteType::MLDP_LEAF {
+        return mldp_leaf_reading(s);
+    }
+    fec_reading(route_type, s)
+}
+
+// What reading an accepted single NLRI answers.
+fn accepted_reading(s: &[u8]) -> NlriReading
+    requires { ⌜ Stands (now s) × LayoutWithin (layoutIn (now s)) (now s) ⌝ }
+    ensures { λ r. ⌜ r ≡ answerAt (layoutIn (now (s .entry))) (now (s .entry)) ⌝ }
+{
+    let route_type = s[0] as usize;
+    if RouteType::SOURCE_TREE_JOIN < route_type {
+        return mldp_reading(route_type, s);
+    }
+    reading_by(read::layout_in(s), s)
+}
+
 // Reads a single NLRI: FAMILY, SHORT, TYPE, then the body left to right, then LENGTH for octets after it.
 pub fn read_nlri(afi: u16, s: &[u8]) -> NlriReading
     ensures { λ r. ⌜ r ≡ nlriAnswer (readNlri afi (now (s .entry))) ⌝ }
 {
-    match read::read_layout(afi, s) {
-        Reading::Refused(number) => refusal(number),
-        Reading::Nlri(layout) => {
-            let nlri = nlri_in(layout, s);
-            NlriReading {
-                number: DONE,
-                nlri,
-                key: key_in(layout),
-                fec: fec_in(layout),
-            }
-        }
+    let Family::Known(kind) = family::family_of(afi) else {
+        return refusal(FAMILY);
+    };
+    let fault = read::single_fault(kind, s);
+    if fault != DONE {
+        return refusal(fault);
     }
+    accepted_reading(s)
 }

@@ -120,7 +120,7 @@ pub fn body_fault(kind: AddressKind, route_type: usize, s: &[u8]) -> u32
 }
 
 // The layout of an NLRI with a FEC, by its Length and the lengths in the FEC.
-fn fec_layout(route_type: usize, s: &[u8]) -> Layout
+pub(crate) fn fec_layout(route_type: usize, s: &[u8]) -> Layout
     requires { ⌜ FecStands «route_type» (now s) ⌝ }
     ensures { λ r. ⌜ r ≡ fecLayout «route_type» (now (s .entry)) ⌝ }
 {

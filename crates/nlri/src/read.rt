@@ -3,7 +3,7 @@ ghost use mathlib.Core.Path.{_≡_};
 ghost use Prim.Native.Nat.{_<_};
 ghost use Rattle.octets.specs.Outcome.{numberOf};
 ghost use Rattle.nlri.specs.Reading.{isSPmsi, readOfType, keyField};
-ghost use Rattle.nlri.specs.Layouts.{readingOf, layoutAt, layoutSingle};
+ghost use Rattle.nlri.specs.Layouts.{readingOf, layoutAt};
 ghost use Rattle.nlri.specs.Inner.{keyOutcome, bodyFault, bodyGroup, sourceActiveBodyFault, acceptedFault, layoutIn, GroupStands, Stands, isFollowed, followedFault, single, sPmsiUnder};
 use crate::address::AddressKind;
 use crate::address::RouteDistinguisher;
@@ -138,7 +138,7 @@ pub fn fast_front_fault(kind: AddressKind, s: &[u8]) -> u32
 }
 
 // The layout of the NLRI at the front of `s`, which `front_fault` has accepted.
-fn layout_in(s: &[u8]) -> Layout
+pub(crate) fn layout_in(s: &[u8]) -> Layout
     requires { ⌜ Stands (now s) ⌝ }
     ensures { λ r. ⌜ r ≡ layoutIn (now (s .entry)) ⌝ }
 {
@@ -201,7 +201,7 @@ fn followed_fault(fault: u32) -> u32
 }
 
 // The number of a single NLRI: octets after it are LENGTH, before GROUP.
-fn single_fault(kind: AddressKind, s: &[u8]) -> u32
+pub(crate) fn single_fault(kind: AddressKind, s: &[u8]) -> u32
     ensures { λ r. ⌜ r ≡ numberOf (single (kind .bits) (now (s .entry))) ⌝ }
 {
     let fault = front_fault(kind, s);
@@ -209,17 +209,6 @@ fn single_fault(kind: AddressKind, s: &[u8]) -> u32
         return followed_fault(fault);
     }
     fault
-}
-
-// A single NLRI.
-fn read_single(kind: AddressKind, s: &[u8]) -> Reading
-    ensures { λ r. ⌜ readingOf r ≡ single (kind .bits) (now (s .entry)) ⌝ }
-{
-    let fault = single_fault(kind, s);
-    if fault != DONE {
-        return Reading::Refused(fault);
-    }
-    Reading::Nlri(layout_in(s))
 }
 
 // The number of a single NLRI of one route type: any other type is KIND. No layout is made.
@@ -237,16 +226,6 @@ pub fn fault_of_type(afi: u16, route_type: usize, s: &[u8]) -> u32
         return KIND;
     }
     DONE
-}
-
-// The layout of a single NLRI.
-pub(crate) fn read_layout(afi: u16, s: &[u8]) -> Reading
-    ensures { λ r. ⌜ readingOf r ≡ layoutSingle afi (now (s .entry)) ⌝ }
-{
-    match family::family_of(afi) {
-        Family::Unknown(number) => Reading::Refused(number),
-        Family::Known(kind) => read_single(kind, s),
-    }
 }
 
 // A single NLRI of type 3 under a family. Its octets are judged where they stand, with no layout.

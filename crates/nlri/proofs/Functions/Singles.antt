@@ -25,7 +25,7 @@ use Rattle.nlri.specs.Fields.{Fields, isDiscarded}
 use Rattle.nlri.specs.Reading.{Laid, laidAt, accepted, acceptedAt, acceptedSingle, fieldsOf, readNlri, readOfType}
 use Rattle.nlri.specs.Layouts.{layoutOf, layoutAt, laidLayout, layoutSingle}
 use Rattle.nlri.specs.Answers.{nlriStruct, keySpan, fecSpan, nlriAnswer}
-use Rattle.nlri.specs.Inner.{withKey, withFec, fecStart, layoutIn, Stands, fieldsAt, keyAt, fecInLayout, LayoutWithin, isDiscardedAt, single}
+use Rattle.nlri.specs.Inner.{withKey, withFec, fecStart, layoutIn, Stands, fieldsAt, keyAt, fecInLayout, answerAt, LayoutWithin, isDiscardedAt, single}
 use Rattle.nlri.proofs.Definitions.Lengths.{family-octets}
 use Rattle.octets.proofs.Lists.{length-part}
 use Rattle.nlri.proofs.Functions.Shapes.{discarded-laid, shaped, originator-least, other-sizes, lacked, has-fec}
@@ -126,19 +126,31 @@ module _ (afi : ℕ) (s : List ℕ) where
   unfolding layoutSingle readNlri
   read-refused n e = refused-alike (familyBits afi) (λ bits. acceptedSingle bits s) (λ bits laid. layoutOf laid) (λ bits laid. fieldsOf laid s) n e
 
+-- by its family, and by its number
+module _ (afi : ℕ) (s : List ℕ) where
+  pub read-no-family : (n : ℕ) → familyBits afi ≡ refused n → readNlri afi s ≡ refused FAMILY
+  unfolding readNlri
+  read-no-family n e = sym (and-stops _ n _ e) ∙ ap refused (family-refused afi n e .0)
+
+  module _ (bits : ℕ) (family : familyBits afi ≡ given bits) (n : ℕ) (e : n ≡ numberOf (single bits s)) where
+    pub read-faulty : (n ≡ DONE → ⊥) → readNlri afi s ≡ refused n
+    read-faulty faulty = read-refused afi s n (sym (single-is (refused n) afi s (and-goes-on (refused n) _ bits _ family (sym (refused-of _ n e faulty)))))
+
+    pub read-laid : n ≡ DONE → (readNlri afi s ≡ given (fieldsAt (layoutIn s) s)) × LayoutWithin (layoutIn s) s
+    read-laid done = read-by-layout afi s (layoutIn s) (sym (single-is (given (layoutIn s)) afi s (and-goes-on (given (layoutIn s)) _ bits _ family (single-in bits s n e done .1))))
+
 -- the number of an NLRI that is to be of a type: by its family, and by the number of the single NLRI
 module _ (type afi : ℕ) (s : List ℕ) where
   pub of-no-family : (n : ℕ) → familyBits afi ≡ refused n → FAMILY ≡ numberOf (readOfType type afi s)
-  unfolding readNlri
-  of-no-family n e = sym (family-refused afi n e .0) ∙ number-stops n _ _ (sym (and-stops _ n _ e))
+  of-no-family n e = number-stops FAMILY _ _ (read-no-family afi s n e)
 
   module _ (bits : ℕ) (family : familyBits afi ≡ given bits) (n : ℕ) (e : n ≡ numberOf (single bits s)) where
     pub of-type-refused : (n ≡ DONE → ⊥) → n ≡ numberOf (readOfType type afi s)
-    of-type-refused faulty = number-stops n _ _ (read-refused afi s n (sym (single-is (refused n) afi s (and-goes-on (refused n) _ bits _ family (sym (refused-of _ n e faulty))))))
+    of-type-refused faulty = number-stops n _ _ (read-faulty afi s bits family n e faulty)
 
     module _ (done : n ≡ DONE) where
       read : readNlri afi s ≡ given (fieldsAt (layoutIn s) s)
-      read = read-by-layout afi s (layoutIn s) (sym (single-is (given (layoutIn s)) afi s (and-goes-on (given (layoutIn s)) _ bits _ family (single-in bits s n e done .1)))) .0
+      read = read-laid afi s bits family n e done .0
 
       typed : layoutIn s .«route_type» ≡ getD s 0 0
       unfolding single
@@ -246,6 +258,19 @@ pub answer-given : (afi : ℕ) (s : List ℕ) (f : Fields) (nlri : Nlri) (key fe
     → record { number = DONE; nlri = nlri; key = key; fec = fec } ≡ nlriAnswer (readNlri afi s)
 unfolding nlriAnswer onOutcome
 answer-given afi s f nlri key held e p q c = (λ i. record { number = DONE; nlri = p i; key = q i; fec = c i }) ∙ ap nlriAnswer (sym e)
+
+-- the answer by the parts that a function makes of a layout
+pub answer-by : (l l′ : Layout) (s : List ℕ) (nlri : Nlri) (key fec : Span) → l ≡ l′ → nlri ≡ nlriStruct (fieldsAt l s) → key ≡ keyAt l → fec ≡ fecInLayout l → record { number = DONE; nlri = nlri; key = key; fec = fec } ≡ answerAt l′ s
+unfolding answerAt
+answer-by l l′ s nlri key held e p q c = (λ i. record { number = DONE; nlri = p i; key = q i; fec = c i }) ∙ ap (λ (x : Layout). answerAt x s) e
+
+pub fec-at : (l : Layout) (type start : ℕ) → l .«route_type» ≡ type → withFec type ≡ true → start ≡ fecStart type → record { start = start; size = l .fec } ≡ fecInLayout l
+unfolding fecInLayout
+fec-at l type start t h e = λ i. record { start = (e ∙ sym (pick-true _ _ 0 h) ∙ ap (λ (n : ℕ). pick (withFec n) (fecStart n) 0) (sym t)) i; size = l .fec }
+
+pub answer-laid : (afi : ℕ) (s : List ℕ) (r : NlriReading) → r ≡ answerAt (layoutIn s) s → (readNlri afi s ≡ given (fieldsAt (layoutIn s) s)) × LayoutWithin (layoutIn s) s → r ≡ nlriAnswer (readNlri afi s)
+unfolding answerAt
+answer-laid afi s r e read = e ∙ answer-given afi s _ _ _ _ (read .0) refl (key-same _ s (read .1)) (fec-same _ s (read .1))
 
 pub answer-refused : (r : NlriReading) (afi : ℕ) (s : List ℕ) (n : ℕ) → r ≡ nlriAnswer (refused n) → readNlri afi s ≡ refused n → r ≡ nlriAnswer (readNlri afi s)
 answer-refused r afi s n p e = p ∙ ap nlriAnswer (sym e)

@@ -5,13 +5,13 @@ use mathlib.Core.Logic.{⊎-elim}
 use mathlib.Core.List.{List}
 use Prim.Native.Nat.{ℕ, _+_, _-_, _/_, _≤_, _<_}
 use native.Mathlib.Omega.{arith}
-use borrow.Author.Tests.{eqb-true, eqb-false, ne-eqb, le-ltb, ltb-true, ltb-false}
+use borrow.Author.Tests.{eq-eqb, eqb-true, eqb-false, ne-eqb, le-ltb, ltb-true, ltb-false, lt-ltb}
 use lib.ListN.{length, getD}
 use lib.Dec.{ltb, eqb}
 use Rattle.octets.specs.Choice.{pick, either, both}
 use Rattle.octets.specs.Numbers.{DONE}
 use Rattle.octets.specs.Outcome.{given, numberOf}
-use Rattle.octets.proofs.Choice.{picks, skips, tested, either-false}
+use Rattle.octets.proofs.Choice.{picks, skips, tested, either-false, pick-true, pick-false}
 use Rattle.octets.proofs.Outcome.{passed, given-same}
 use Rattle.fec_elements.specs.Reading.{fecSize}
 use Rattle.nlri.specs.Bodies.{FieldKind, distinguisher, sourceAs, source, group, originator, key, fec, bodies, onBody, bodyOf, codeOf, sameKind, hasField}
@@ -95,7 +95,7 @@ module _ (bits : ℕ) (s : List ℕ) (laid : Laid) (e : laidAt bits s ≡ given 
   unfolding mldpLayout withKey withFec either
   mldp-stands h =
       let held : (laid .type ≡ 68 → ⊥) → withFec (laid .type) ≡ true = λ other. ⊎-elim (ap withFec) (⊎-elim (λ q. absurd (other q)) (ap withFec)) (known-above _ (laidOut bits s laid e .row .known) h) in (
-        record { leaf = λ q. leaf-stands (ap withKey q) .0; fec = λ other. fec-stands (held other) .0 },
+        record { leaf = λ q. leaf-stands (ap withKey q) .0; held = held; fec = λ other. fec-stands (held other) .0 },
         tested (eqb (laid .type) 68) (λ t. let q : laid .type ≡ 68 = eqb-true _ _ t in picks _ _ _ _ t (leaf-stands (ap withKey q) .1)) (λ n. skips _ _ _ _ n (fec-stands (held (eqb-false _ _ n)) .1)),
       )
 
@@ -135,6 +135,20 @@ module _ (bits : ℕ) (s : List ℕ) (laid : Laid) (e : laidAt bits s ≡ given 
       let to-seven : laid .type ≤ 7 = omega (arith, type, ltb-false 7 (getD s 0 0) low) in
       skips _ _ _ _ low (flow-stands (unkeyed four to-seven) (flowing (λ q. eqb-false _ _ n₁ (sym type ∙ q)) (λ q. eqb-false _ _ n₂ (sym type ∙ q)) four to-seven) .1
       ∙ ap (λ (k : ℕ). flowLayout k (sourceStart k - 1) s) type))))))))
+
+pub mldp-layout : (s : List ℕ) → 7 < getD s 0 0 → layoutIn s ≡ mldpLayout (getD s 0 0) s
+unfolding layoutIn
+mldp-layout s high =
+    pick-false _ _ _ (ne-eqb (getD s 0 0) 1 (λ q. omega arith)) ∙ pick-false _ _ _ (ne-eqb (getD s 0 0) 2 (λ q. omega arith)) ∙ pick-false _ _ _ (ne-eqb (getD s 0 0) 4 (λ q. omega arith)) ∙ pick-true _ _ _ (lt-ltb 7 (getD s 0 0) high)
+
+module _ (type : ℕ) (s : List ℕ) where
+  pub mldp-leaf-layout : type ≡ 68 → mldpLayout type s ≡ leafLayout 68 s
+  unfolding mldpLayout
+  mldp-leaf-layout e = pick-true _ _ _ (eq-eqb type 68 e) ∙ ap (λ (k : ℕ). leafLayout k s) e
+
+  pub mldp-fec-layout : (type ≡ 68 → ⊥) → mldpLayout type s ≡ fecLayout type s
+  unfolding mldpLayout
+  mldp-fec-layout other = pick-false _ _ _ (ne-eqb type 68 other)
 
 -- in types 3 and 5 the source stands straight behind the route distinguisher
 pub s-pmsi-layout : (s : List ℕ) → getD s 0 0 ≡ 3 → layoutIn s ≡ flowLayout 3 10 s

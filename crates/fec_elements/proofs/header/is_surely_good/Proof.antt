@@ -25,14 +25,5 @@ returns-4 c t =
 pub is-surely-good-spec : {M : Type 1} → statement M
 is-surely-good-spec =
     tie.close
-    (tie.spec
-    (λ c t. absurd (opposite t refl))
-    (search needs)
-    (search needs)
-    (λ c t. absurd (opposite t refl))
-    (search needs)
-    (search needs)
-    returns-3
-    (search needs)
-    returns-4
-    (λ c t. absurd (opposite t refl)))
+    (tie.spec (λ c t. absurd (opposite t refl)) (search needs) (search needs) (λ c t. absurd (opposite t refl)) (search needs)
+    (search needs) returns-3 (search needs) returns-4 (λ c t. absurd (opposite t refl)))

@@ -1,20 +1,16 @@
 -- `nlri::fields::read_nlri` meets its contract.
-use denote.Ref.{now}
-use mathlib.Core.Path.{_∙_}
-use Rattle.nlri.proofs.Functions.Singles.{read-by-layout, read-refused, key-same, fec-same, answer-given, answer-refused}
-use Rattle.nlri.proofs.Functions.Via.{nlri-given, reading-refused}
+use mathlib.Core.Path.{_≡_}
+use Rattle.octets.specs.Outcome.{given}
+use Rattle.nlri.specs.Family.{familyBits}
+use Rattle.nlri.proofs.Functions.Via.{known-given, unknown-given}
+use Rattle.nlri.proofs.Functions.Singles.{single-in, read-no-family, read-faulty, read-laid, answer-laid, answer-refused}
 use borrow.Author.Needs.{needs}
 use Rattle.nlri.proofs.fields.read_nlri.Statement.{statement}
 use Rattle.nlri.proofs.fields.read_nlri.Tie as tie
 
-returns : tie.Need-returns
-returns c = answer-refused _ _ _ _ (c .refusal .ensures) (read-refused _ _ _ (reading-refused _ _ _ (c .before .before .before .before .read-layout .ensures) (c .before .before .number .given .1)))
-
-returns-2 : tie.Need-returns-2
-returns-2 c =
-    let a = c .before .before .before .before .before .before .before .before .args in
-    let h = read-by-layout (a .afi) (now (a .s)) _ (nlri-given _ _ _ (c .before .before .before .before .before .before .read-layout .ensures) (c .before .before .before .before .layout .given .1)) in
-    answer-given (a .afi) (now (a .s)) _ _ _ _ (h .0) (c .before .before .nlri-in .ensures) (c .before .key-in .ensures ∙ key-same _ _ (h .1)) (c .fec-in .ensures ∙ fec-same _ _ (h .1))
+-- the family's kind of addresses
+family : (c : tie.After-kind) → familyBits (c .before .before .before .before .args .afi) ≡ given (c .kind .given .0 .0 .bits)
+family c = known-given _ _ _ (c .before .before .family-of .ensures) (c .kind .given .1)
 
 pub read-nlri-spec : {M : Type 1} → statement M
 read-nlri-spec =
@@ -24,8 +20,9 @@ read-nlri-spec =
     (search needs)
     (search needs)
     (search needs)
-    (λ c κs. read-by-layout _ _ _ (nlri-given _ _ _ (c .before .before .before .read-layout .ensures) (c .before .layout .given .1)) .1)
+    (λ c. answer-refused _ _ _ _ (c .refusal .ensures) (read-no-family _ _ _ (unknown-given _ _ _ (c .before .before .before .family-of .ensures) (c .before .enum-told .given .1))))
     (search needs)
     (search needs)
-    returns
-    returns-2)
+    (λ c. answer-refused _ _ _ _ (c .refusal2 .ensures) (read-faulty _ _ _ (family (c .before .before .before .before)) _ (c .before .before .single-fault .ensures) (c .before .if1 .taken)))
+    (λ c κs. (single-in _ _ _ (c .before .single-fault .ensures) (c .if1 .left) .0, read-laid _ _ _ (family (c .before .before .before)) _ (c .before .single-fault .ensures) (c .if1 .left) .1))
+    (λ c. answer-laid _ _ _ (c .accepted-reading .ensures) (read-laid _ _ _ (family (c .before .before .before .before)) _ (c .before .before .single-fault .ensures) (c .before .if1 .left))))
