@@ -200,7 +200,7 @@ fn put_fec(
     ensures { λ r. ⌜ Wrote (given (framed (nlri .«route_type») (bodyWith numbered originated nlri (now (fec .entry))))) (now (output .entry)) r (now (output .exit)) ⌝ }
 {
     let at = put::put_front(numbered, nlri, size as u8, output);
-    let next = octets::parts::place(fec, output, at);
+    let next = octets::blocks::place_any(fec, output, at);
     put::put_originator(originated, nlri, output, next);
     Written {
         number: DONE,
@@ -239,7 +239,7 @@ fn put_leaf(nlri: Nlri, key: &[u8], size: usize, output: &mut [u8]) -> Written
 {
     let originator = nlri.originator;
     let at = put::put_header(nlri.route_type, size as u8, output);
-    let next = octets::parts::place(key, output, at);
+    let next = octets::blocks::place_any(key, output, at);
     put::put_octets(originator, output, next);
     Written {
         number: DONE,

@@ -7,6 +7,7 @@ use native.Mathlib.Omega.{arith}
 use lib.ListN.{length, getD, take, drop, length-append}
 use lib.Seq.{drop-cons, drop-drop, length-take-le, take-all, take-at, drop-at}
 use Rattle.octets.specs.Octets.{part, placed}
+use Rattle.octets.proofs.Outputs.{put-none}
 use Rattle.octets.proofs.Lists.{placed-placed, placed-then, length-placed, length-part, part-then}
 
 -- n octets of s, each by itself, of which the first stands at k + i
@@ -57,25 +58,42 @@ unfolding part
 part-whole s n l = take-all n s l
 
 -- the first octets and the last ones, as two calls leave them
-pub placed-ends : (s d y z : List ℕ) (at m : ℕ) → m ≤ length s → length s ≤ m + m → at + length s ≤ length d → y ≡ placed at (part s 0 m) d → z ≡ placed (at + (length s - m)) (part s (length s - m) m) y
+pub placed-last : (s d y z : List ℕ) (at m n : ℕ) → m ≤ length s → n ≤ length s → length s ≤ m + n → at + length s ≤ length d → y ≡ placed at (part s 0 m) d → z ≡ placed (at + (length s - n)) (part s (length s - n) n) y
     → z ≡ placed at s d
-placed-ends s d y z at m h l r p q =
-    let j : ℕ = length s - m in
+placed-last s d y z at m n h k l r p q =
+    let j : ℕ = length s - n in
     let e : List ℕ = part s 0 j in
     let g : List ℕ = part s (0 + j) (m - j) in
-    let f : List ℕ = part s (0 + j) m in
+    let f : List ℕ = part s (0 + j) n in
     let le : length e ≡ j = length-part s 0 j (omega arith) in
     let lg : length g ≡ m - j = length-part s (0 + j) (m - j) (omega arith) in
-    let lf : length f ≡ m = length-part s (0 + j) m (omega arith) in
+    let lf : length f ≡ n = length-part s (0 + j) n (omega arith) in
     let first : part s 0 m ≡ e ++ g = ap (part s 0) (sum j m (omega arith)) ∙ part-then s 0 j (m - j) in
-    let last : e ++ f ≡ s = sym (part-then s 0 j m) ∙ part-whole s (j + m) (omega arith) in
+    let last : e ++ f ≡ s = sym (part-then s 0 j n) ∙ part-whole s (j + n) (omega arith) in
     let x : List ℕ = placed at e d in
     let lx : length x ≡ length d = length-placed at e d (omega arith) in
     let y′ : y ≡ placed (at + length e) g x = p ∙ ap (λ (a : List ℕ). placed at a d) first ∙ sym (placed-placed at e g d (omega arith)) in
-    let start : at + j ≡ at + length e = ap (λ (n : ℕ). at + n) (sym le) in
-    let from : part s j m ≡ f = ap (λ (n : ℕ). part s n m) (sym (zero-add j)) in
+    let start : at + j ≡ at + length e = ap (λ (i : ℕ). at + i) (sym le) in
+    let from : part s j n ≡ f = ap (λ (i : ℕ). part s i n) (sym (zero-add j)) in
     q ∙ ap₂ (λ (a : ℕ) (b : List ℕ). placed a b y) start from ∙ ap (placed (at + length e) f) y′ ∙ placed-over (at + length e) g f x (omega arith) (omega arith)
     ∙ placed-placed at e f d (omega arith) ∙ ap (λ (a : List ℕ). placed at a d) last
   where
     sum : (j m : ℕ) → j ≤ m → m ≡ j + (m - j)
     sum j m l = omega arith
+
+pub placed-ends : (s d y z : List ℕ) (at m : ℕ) → m ≤ length s → length s ≤ m + m → at + length s ≤ length d → y ≡ placed at (part s 0 m) d → z ≡ placed (at + (length s - m)) (part s (length s - m) m) y
+    → z ≡ placed at s d
+placed-ends s d y z at m h l r p q = placed-last s d y z at m m h h l r p q
+
+-- one block more
+pub placed-more : (s d y z : List ℕ) (at i n : ℕ) → i + n ≤ length s → at + (i + n) ≤ length d → y ≡ placed at (part s 0 i) d → z ≡ placed (at + i) (part s i n) y → z ≡ placed at (part s 0 (i + n)) d
+placed-more s d y z at i n h r p q =
+    let l : length (part s 0 i) ≡ i = length-part s 0 i (omega arith) in
+    let l′ : length (part s (0 + i) n) ≡ n = length-part s (0 + i) n (omega arith) in
+    let from : part s i n ≡ part s (0 + i) n = ap (λ (j : ℕ). part s j n) (sym (zero-add i)) in
+    placed-then at (at + i) (part s 0 i) (part s (0 + i) n) d y z (omega arith) (omega arith) p (q ∙ ap (λ (x : List ℕ). placed (at + i) x y) from) ∙ ap (λ (x : List ℕ). placed at x d) (sym (part-then s 0 i n))
+
+-- no block yet
+pub placed-none : (s d : List ℕ) (at : ℕ) → d ≡ placed at (part s 0 0) d
+unfolding part
+placed-none s d at = put-none at d .1

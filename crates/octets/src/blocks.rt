@@ -1,10 +1,10 @@
-// Up to 64 octets copied in blocks. A copy of 4 octets or more is the first block and the last one of a size; where the two
-// overlap, the same octets are written twice.
+// Octets copied in blocks. A copy of up to 64 octets, of 4 or more, is the first block and the last one of a size, a copy of any number blocks of 8
+// and a last one; where the last one overlaps what is before it, the same octets are written twice.
 ghost use mathlib.Core.Path.{_≡_};
 ghost use Prim.Native.Nat.{_+_, _≤_};
 ghost use lib.ListN.{length};
 ghost use Rattle.octets.specs.Octets.{part, placed};
-ghost use Rattle.octets.specs.Outputs.{CopyWithin};
+ghost use Rattle.octets.specs.Outputs.{CopyWithin, Put};
 use crate::parts;
 
 // Puts 4 octets of `s` from `from` on into `output` from `at` on. A block's octets are all read before one is written.
@@ -122,4 +122,32 @@ pub fn place(s: &[u8], output: &mut [u8], at: usize)
         return;
     }
     parts::place(s, output, at);
+}
+
+// Puts octets of `s` from its front on, in blocks of 8, until at most 8 are left, and answers how many it has put.
+fn place_blocks(s: &[u8], output: &mut [u8], at: usize) -> usize
+    requires { ⌜ (8 ≤ length (now s)) × (at + length (now s) ≤ length (now output)) ⌝ }
+    ensures { λ r. ⌜ (length (now (s .entry)) ≤ r + 8) × ((r ≤ length (now (s .entry))) × (now (output .exit) ≡ placed at (part (now (s .entry)) 0 r) (now (output .entry)))) ⌝ }
+{
+    let last = s.len() - 8;
+    let mut i = 0;
+    while i < last {
+        place_8(s, i, output, at + i);
+        i += 8;
+    }
+    i
+}
+
+// Puts all of `s`, of any size, into `output` from `at` on, and answers the place just past them.
+pub fn place_any(s: &[u8], output: &mut [u8], at: usize) -> usize
+    requires { ⌜ at + length (now s) ≤ length (now output) ⌝ }
+    ensures { λ r. ⌜ Put at (now (s .entry)) (now (output .entry)) r (now (output .exit)) ⌝ }
+{
+    if s.len() < 8 {
+        return parts::place(s, output, at);
+    }
+    place_blocks(s, output, at);
+    let last = s.len() - 8;
+    place_8(s, last, output, at + last);
+    at + s.len()
 }

@@ -16,9 +16,9 @@ put-front-requires c κs =
     let a = c .before .before .before .args in
     room-front (a .nlri .«route_type») (a .size) (frontOctets (a .numbered) (a .nlri)) ((now (a .fec)) ++ endOctets (a .originated) (a .nlri)) (now (a .output)) (c .before .before .before .pre .1)
 
-place-requires : tie.Need-place-requires
+place-any-requires : tie.Need-place-any-requires
 unfolding bodyWith
-place-requires c κs =
+place-any-requires c κs =
     let a = c .before .before .before .before .before .before .before .args in
     let room = room-rest (a .nlri .«route_type») (a .size) (frontOctets (a .numbered) (a .nlri)) ((now (a .fec)) ++ endOctets (a .originated) (a .nlri)) (now (a .output)) (c .before .before .before .before .before .before .before .pre .1) _ _ (c .before .before .before .put-front .ensures) in
     omega (arith, length-append (now (a .fec)) (endOctets (a .originated) (a .nlri)))
@@ -27,15 +27,15 @@ put-originator-requires : tie.Need-put-originator-requires
 unfolding bodyWith
 put-originator-requires c κs =
     let a = c .before .before .before .before .before .before .before .before .before .before .before .args in
-    (c .before .before .before .before .before .before .before .before .before .before .before .pre .0, room-next _ (now (a .fec)) (endOctets (a .originated) (a .nlri)) _ (room-rest (a .nlri .«route_type») (a .size) (frontOctets (a .numbered) (a .nlri)) ((now (a .fec)) ++ endOctets (a .originated) (a .nlri)) (now (a .output)) (c .before .before .before .before .before .before .before .before .before .before .before .pre .1) _ _ (c .before .before .before .before .before .before .before .put-front .ensures)) _ _ (c .before .before .before .place .ensures))
+    (c .before .before .before .before .before .before .before .before .before .before .before .pre .0, room-next _ (now (a .fec)) (endOctets (a .originated) (a .nlri)) _ (room-rest (a .nlri .«route_type») (a .size) (frontOctets (a .numbered) (a .nlri)) ((now (a .fec)) ++ endOctets (a .originated) (a .nlri)) (now (a .output)) (c .before .before .before .before .before .before .before .before .before .before .before .pre .1) _ _ (c .before .before .before .before .before .before .before .put-front .ensures)) _ _ (c .before .before .before .place-any .ensures))
 
 returns : tie.Need-returns
 unfolding bodyWith
 returns c =
     let a = c .before .before .before .before .before .before .before .before .before .before .before .before .before .before .args in
-    put-framed (a .nlri .«route_type») (a .size) (frontOctets (a .numbered) (a .nlri)) ((now (a .fec)) ++ endOctets (a .originated) (a .nlri)) (now (a .output)) (c .before .before .before .before .before .before .before .before .before .before .before .before .before .before .pre .1) _ _ (c .before .before .before .before .before .before .before .before .before .before .put-front .ensures) _ _ (put-then _ (now (a .fec)) (endOctets (a .originated) (a .nlri)) _ (room-rest (a .nlri .«route_type») (a .size) (frontOctets (a .numbered) (a .nlri)) ((now (a .fec)) ++ endOctets (a .originated) (a .nlri)) (now (a .output)) (c .before .before .before .before .before .before .before .before .before .before .before .before .before .before .pre .1) _ _ (c .before .before .before .before .before .before .before .before .before .before .put-front .ensures)) _ _ (c .before .before .before .before .before .before .place .ensures) _ _ (c .before .before .put-originator .ensures))
+    put-framed (a .nlri .«route_type») (a .size) (frontOctets (a .numbered) (a .nlri)) ((now (a .fec)) ++ endOctets (a .originated) (a .nlri)) (now (a .output)) (c .before .before .before .before .before .before .before .before .before .before .before .before .before .before .pre .1) _ _ (c .before .before .before .before .before .before .before .before .before .before .put-front .ensures) _ _ (put-then _ (now (a .fec)) (endOctets (a .originated) (a .nlri)) _ (room-rest (a .nlri .«route_type») (a .size) (frontOctets (a .numbered) (a .nlri)) ((now (a .fec)) ++ endOctets (a .originated) (a .nlri)) (now (a .output)) (c .before .before .before .before .before .before .before .before .before .before .before .before .before .before .pre .1) _ _ (c .before .before .before .before .before .before .before .before .before .before .put-front .ensures)) _ _ (c .before .before .before .before .before .before .place-any .ensures) _ _ (c .before .before .put-originator .ensures))
 
 pub put-fec-spec : {M : Type 1} → statement M
 put-fec-spec =
     tie.close
-    (tie.spec (search needs) put-front-requires place-requires put-originator-requires (search needs) (search needs) returns)
+    (tie.spec (search needs) put-front-requires place-any-requires put-originator-requires (search needs) (search needs) returns)

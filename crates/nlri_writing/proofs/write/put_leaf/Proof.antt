@@ -11,9 +11,9 @@ use borrow.Author.Needs.{needs}
 use Rattle.nlri_writing.proofs.write.put_leaf.Statement.{statement}
 use Rattle.nlri_writing.proofs.write.put_leaf.Tie as tie
 
-place-requires : tie.Need-place-requires
+place-any-requires : tie.Need-place-any-requires
 unfolding leafBody
-place-requires c κs =
+place-any-requires c κs =
     let a = c .before .before .before .before .before .before .before .before .args in
     let room = room-rest (a .nlri .«route_type») (a .size) [] (now (a .key) ++ addressOctets (a .nlri .originator)) (now (a .output)) (c .before .before .before .before .before .before .before .before .pre .1) _ _ (c .before .before .before .put-header .ensures) in
     omega (arith, length-append (now (a .key)) (addressOctets (a .nlri .originator)))
@@ -22,13 +22,13 @@ put-octets-requires : tie.Need-put-octets-requires
 unfolding leafBody
 put-octets-requires c κs =
     let a = c .before .before .before .before .before .before .before .before .before .before .before .before .args in
-    (c .before .before .before .before .before .before .before .before .before .before .before .before .pre .0, room-next _ (now (a .key)) (addressOctets (a .nlri .originator)) _ (room-rest (a .nlri .«route_type») (a .size) [] (now (a .key) ++ addressOctets (a .nlri .originator)) (now (a .output)) (c .before .before .before .before .before .before .before .before .before .before .before .before .pre .1) _ _ (c .before .before .before .before .before .before .before .put-header .ensures)) _ _ (c .before .before .before .place .ensures))
+    (c .before .before .before .before .before .before .before .before .before .before .before .before .pre .0, room-next _ (now (a .key)) (addressOctets (a .nlri .originator)) _ (room-rest (a .nlri .«route_type») (a .size) [] (now (a .key) ++ addressOctets (a .nlri .originator)) (now (a .output)) (c .before .before .before .before .before .before .before .before .before .before .before .before .pre .1) _ _ (c .before .before .before .before .before .before .before .put-header .ensures)) _ _ (c .before .before .before .place-any .ensures))
 
 returns : tie.Need-returns
 unfolding leafBody
 returns c =
     let a = c .before .before .before .before .before .before .before .before .before .before .before .before .before .before .before .args in
-    put-framed (a .nlri .«route_type») (a .size) [] (now (a .key) ++ addressOctets (a .nlri .originator)) (now (a .output)) (c .before .before .before .before .before .before .before .before .before .before .before .before .before .before .before .pre .1) _ _ (c .before .before .before .before .before .before .before .before .before .before .put-header .ensures) _ _ (put-then _ (now (a .key)) (addressOctets (a .nlri .originator)) _ (room-rest (a .nlri .«route_type») (a .size) [] (now (a .key) ++ addressOctets (a .nlri .originator)) (now (a .output)) (c .before .before .before .before .before .before .before .before .before .before .before .before .before .before .before .pre .1) _ _ (c .before .before .before .before .before .before .before .before .before .before .put-header .ensures)) _ _ (c .before .before .before .before .before .before .place .ensures) _ _ (c .before .before .put-octets .ensures))
+    put-framed (a .nlri .«route_type») (a .size) [] (now (a .key) ++ addressOctets (a .nlri .originator)) (now (a .output)) (c .before .before .before .before .before .before .before .before .before .before .before .before .before .before .before .pre .1) _ _ (c .before .before .before .before .before .before .before .before .before .before .put-header .ensures) _ _ (put-then _ (now (a .key)) (addressOctets (a .nlri .originator)) _ (room-rest (a .nlri .«route_type») (a .size) [] (now (a .key) ++ addressOctets (a .nlri .originator)) (now (a .output)) (c .before .before .before .before .before .before .before .before .before .before .before .before .before .before .before .pre .1) _ _ (c .before .before .before .before .before .before .before .before .before .before .put-header .ensures)) _ _ (c .before .before .before .before .before .before .place-any .ensures) _ _ (c .before .before .put-octets .ensures))
 
 pub put-leaf-spec : {M : Type 1} → statement M
 put-leaf-spec =
@@ -36,7 +36,7 @@ put-leaf-spec =
     (tie.spec
     (search needs)
     (λ c κs. omega (arith, c .before .before .before .before .pre .1 .room))
-    place-requires
+    place-any-requires
     put-octets-requires
     (search needs)
     (search needs)
