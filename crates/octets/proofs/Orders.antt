@@ -1,4 +1,4 @@
--- Laws of `same`, `before` and `allZero`.
+-- Laws of `same` and `before`.
 use Prim.Native.Nat.{ℕ, zero, suc, _+_, _*_, _-_, _<_, _≤_, min}
 use mathlib.Core.Path.{_≡_, refl, sym, ap, ap₂, _∙_}
 use mathlib.Core.Bool.{Bool, true, false}

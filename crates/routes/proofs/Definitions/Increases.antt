@@ -1,4 +1,4 @@
--- Laws of routes in increasing NLRIs, and of what they hold.
+-- Laws of routes in increasing NLRIs: such routes are given by their lookups.
 use Prim.Native.Nat.{ℕ, suc}
 use mathlib.Core.Path.{_≡_, refl, sym, ap, ap₂, _∙_}
 use mathlib.Core.Bool.{true, false}

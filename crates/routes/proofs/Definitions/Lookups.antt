@@ -1,5 +1,4 @@
--- Laws of what routes hold: `lookup` and `holds` after `inserted`, `entered`, `removed` and `arranged`; routes in increasing order are
--- given by their lookups.
+-- Laws of what routes hold: `lookup` and `holds` after `inserted`, `entered`, `removed` and `arranged`.
 use Prim.Native.Nat.{ℕ}
 use mathlib.Core.Path.{_≡_, refl, sym, ap, _∙_}
 use mathlib.Core.Bool.{true, false}
