@@ -1,5 +1,7 @@
 // Who must get the BIER packet (request W-211; RFC 8556, section 4.1): the bit string of a set for a route, by Leaf routes that a caller
 // lends, and how many egress routers are in it.
+#![tactic(auto)]
+
 ghost use Rattle.std.specs.Prelude.{◌≡◌, true};
 ghost use Rattle.octets.specs.Outcome.{and_then, number_of};
 ghost use Rattle.octets.specs.Outputs.{Leaves};

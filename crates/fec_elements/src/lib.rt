@@ -1,5 +1,7 @@
 // mLDP FEC elements (RFC 6388, section 2.2): one alone, as an attribute has it, and those that hold one another (RFC 6512, section 3;
 // request W-207).
+#![tactic(auto)]
+
 ghost use Rattle.std.specs.Prelude.{◌≡◌};
 ghost use Rattle.octets.specs.Outcome.{number_of};
 ghost use Rattle.fec_elements.specs.Reading.{read_fec};

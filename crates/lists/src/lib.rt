@@ -1,6 +1,8 @@
 // Lists that a caller lends: their count, whether they are whole, a cursor over their items, and an item's fields as parts of the
 // list, so that no octet is copied. Neither installed nor exported to C, so its helpers may have a `requires`: a call asks
 // `count_of` and `is_whole` before it looks at items.
+#![tactic(auto)]
+
 ghost use Rattle.std.specs.Prelude.{◌≡◌, true, ◌+◌, ◌^◌, ◌<◌, drop};
 ghost use Rattle.lists.specs.LentLists.{item_field, front_field, after_field, whole_field, front_item, after_item, whole_item, list_count, whole_list};
 

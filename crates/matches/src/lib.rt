@@ -1,5 +1,7 @@
 // Which route a flow takes (document 01, "Which route a flow takes"): the flow judged, the tier of a route, the scan over places, and the
 // calls that match and explain. Neither installed nor exported, as `octets`.
+#![tactic(auto)]
+
 mod answer;
 mod explaining;
 pub mod flow;

@@ -1,4 +1,6 @@
 // The calls from C, as include/mvpn.h declares them. Each calls one function, and its contract cites the same definition.
+#![tactic(auto)]
+
 ghost use Rattle.std.specs.Prelude.{◌≡◌, ◌+◌, ◌*◌, length};
 ghost use Rattle.octets.specs.Outputs.{Wrote, Leaves};
 ghost use Rattle.nlri.specs.Reading.{read_nlri};

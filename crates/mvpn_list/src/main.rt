@@ -1,5 +1,7 @@
 // Prints where each NLRI of an AFI 1 run on standard input begins, with its type and Length, and where and why the walk stops. With `old` as its only
 // argument an unknown route type, and a Source Active route that is discarded, stops the walk; else it is skipped.
+#![tactic(auto)]
+
 mod arguments;
 mod format;
 mod input;

@@ -1,5 +1,7 @@
 // Runs calls on one table, given line by line on standard input as words and hexadecimal octets, and prints what each
 // answers. It only reads and prints; every answer is the table crate's.
+#![tactic(auto)]
+
 mod answer;
 mod line;
 mod script;

@@ -149,7 +149,8 @@ fn shorter(octets: &[u8]) -> Address
     ensures { result ≡ address_struct octets.now }
 {
     let mut held = [0u8; 16];
-    let size = bytes::copy(octets, &mut held);
+    let size = octets.len();
+    held[..size].copy_from_slice(octets);
     Address {
         octets: held,
         size: size as u8,

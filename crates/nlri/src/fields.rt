@@ -60,10 +60,11 @@ fn distinguisher_in(route_type: usize, s: &[u8]) -> RouteDistinguisher
     if route::has_key(route_type) {
         return RouteDistinguisher { octets };
     }
-    bytes::copy(
-        octets::parts::between(s, HEADER, RouteDistinguisher::OCTETS),
-        &mut octets,
-    );
+    octets.copy_from_slice(octets::parts::between(
+        s,
+        HEADER,
+        RouteDistinguisher::OCTETS,
+    ));
     RouteDistinguisher { octets }
 }
 

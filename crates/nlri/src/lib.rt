@@ -1,4 +1,6 @@
 // MCAST-VPN NLRI (RFC 6514, section 4; RFC 6625; RFC 7441): families, route types, addresses, groups, and NLRIs read.
+#![tactic(auto)]
+
 mod address;
 mod body;
 mod family;

@@ -1,5 +1,7 @@
 // Octets in slices, and the numbers that calls give back: what the codecs share. Neither installed nor exported to C, so
 // its helpers may have a `requires`.
+#![tactic(auto)]
+
 ghost use Rattle.std.specs.Prelude.{◌≡◌};
 ghost use Rattle.octets.specs.Outcome.{refused};
 ghost use Rattle.octets.specs.Outputs.{written_of};

@@ -25,7 +25,9 @@ pub fn place(octets: &[u8], output: &mut [u8], at: usize) -> usize
     requires { at + length octets.now ≤ length output.old }
     ensures { Put at octets.now output.old result output.new }
 {
-    at + bytes::copy(octets, &mut output[at..])
+    let end = at + octets.len();
+    output[at..end].copy_from_slice(octets);
+    end
 }
 
 // Every octet becomes 0.

@@ -1,4 +1,6 @@
 // Runs of MCAST-VPN NLRIs that arrive in pieces: a reader that keeps at most one unfinished NLRI, in octets that its caller lends.
+#![tactic(auto)]
+
 mod feeding;
 mod reading;
 mod state;

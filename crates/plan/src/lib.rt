@@ -1,5 +1,7 @@
 // A plan for the wildcards (request W-214): a judge of proposed routes, whoever proposes them, and a planner that proposes some. Flows and
 // places are read where they lie, and no octet of them is copied. Neither installed nor exported, as `octets`.
+#![tactic(auto)]
+
 mod commonest;
 mod flows;
 mod judging;

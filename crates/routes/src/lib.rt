@@ -1,4 +1,6 @@
 // What calls on a route table answer. The definitions and theorems about tables stand in specs/ and proofs/.
+#![tactic(auto)]
+
 ghost use Rattle.std.specs.Prelude.{◌≡◌};
 ghost use Rattle.routes.specs.Answers.{refused_install, done_install, refused_restart, empty_match};
 ghost use Rattle.routes.specs.Reasons.{refused_explanation};

@@ -1,4 +1,6 @@
 // Runs of MCAST-VPN NLRIs, as MP_REACH_NLRI and MP_UNREACH_NLRI carry them: stepped through and walked.
+#![tactic(auto)]
+
 mod stepping;
 mod turning;
 mod walking;

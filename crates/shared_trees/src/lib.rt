@@ -1,6 +1,8 @@
 // What a daemon tells of a shared tree (C-*,C-G) and the PE asked (RFC 6625, section 3.2.2): judged, and whether it makes routes
 // eligible. Lists are read where they lie, and no octet is copied. Neither installed nor exported to C, so its functions may have a
 // `requires`: the match for shared trees judges before it asks whether routes are eligible.
+#![tactic(auto)]
+
 mod eligible;
 mod judge;
 

@@ -1,4 +1,6 @@
 // S-PMSI A-D routes of one VRF in lent memory: made, installed, withdrawn, marked, swept and listed (document 01, "The table memory").
+#![tactic(auto)]
+
 mod following;
 mod installing;
 mod making;

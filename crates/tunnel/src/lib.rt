@@ -1,4 +1,6 @@
 // The PMSI Tunnel attribute (RFC 6514, section 5; RFC 8556, section 2): read and written (document 01, "PMSI Tunnel attribute").
+#![tactic(auto)]
+
 ghost use Rattle.std.specs.Prelude.{◌≡◌, ℕ};
 ghost use Rattle.octets.specs.Outcome.{number_of};
 ghost use Rattle.octets.specs.Outputs.{Wrote};
