@@ -80,6 +80,7 @@ module _ {A : Type 0} where
   rearranged-itself (x ∷ xs) = Rearranged.one front (rearranged-itself xs)
 
   pub rearranged-among : {x : A} {xs ys : List A} → Rearranged xs ys → Among x xs → Among x ys
+  rearranged-among Rearranged.none m = elim m [ ]
   rearranged-among (Rearranged.one p r) (first e) = rw e (put-itself p)
   rearranged-among (Rearranged.one p r) (later m) = put-kept p (rearranged-among r m)
 

@@ -31,7 +31,7 @@ module _ {A : Type 0} (test : A → Bool) where
   unfolding chosen
   chosen-passes [] m = absurd (among_none m)
   chosen-passes {x} (y ∷ ys) m =
-      pick-case (λ (l : List A). Among x l → test x ≡ true) (test y) _ _ (λ t. among-each (λ z. test z ≡ true) t (λ z n. chosen-passes ys n) x) (λ f. chosen-passes ys) m
+      pick-case (λ (l : List A). Among x l → test x ≡ true) (test y) _ _ (λ t. among-each (λ z. test z ≡ true) t (λ z n. chosen-passes {x = z} ys n) x) (λ f n. chosen-passes {x = x} ys n) m
 
   -- all, or none
   pub chosen-all : (xs : List A) → ((x : A) → Among x xs → test x ≡ true) → chosen test xs ≡ xs
@@ -66,8 +66,8 @@ module _ {A : Type 0} (test : A → Bool) where
   put_back [] p = elim p [ ]
   put_back {x} {zs} (y ∷ ys) p =
       tested (test y)
-      (λ t. back-first ys (rw (chosen-first test y ys t) at p) refl t (λ us q. put_back ys q))
-      (λ f. let b = put_back ys (rw (chosen-later test y ys f) at p) in back-behind y b zs (chosen-later test y b.rest f ∙ b.same))
+      (λ t. back-first ys (rw (chosen-first test y ys t) at p) refl t (λ us q. put_back {x = x} {zs = us} ys q))
+      (λ f. let b = put_back {x = x} {zs = zs} ys (rw (chosen-later test y ys f) at p) in back-behind y b zs (chosen-later test y b.rest f ∙ b.same))
 
   -- what is chosen of a list in another order
   chosen-put : {x : A} {ys zs : List A} → test x ≡ true → PutIn x ys zs → PutIn x (chosen test ys) (chosen test zs)

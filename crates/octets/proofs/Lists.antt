@@ -92,6 +92,13 @@ lent_placed at e d y h q =
     rw (q, take-length e, lent-rest at d, drop-drop (length d - at) at d, drop_of_length-le d {i = at + (length d - at)} (omega arith), append-nil)
     (rw drop-drop)
 
+-- what a copy into a part that was lent, from `at` on and as long as what is copied, leaves
+pub copied-placed : (at : ℕ) (e d y : List ℕ) → y ≡ e → take at d ++ (y ++ drop (at + length e - at) (drop at d)) ≡ placed at e d
+unfolding placed
+copied-placed at e d y q =
+    let n : at + length e - at ≡ length e = omega arith in
+    rw (q, n, drop-drop)
+
 -- two writes, one straight after the other, are one
 pub placed-placed : (at : ℕ) (e f d : List ℕ) → at + length e + length f ≤ length d → placed (at + length e) f (placed at e d) ≡ placed at (e ++ f) d
 unfolding placed
