@@ -25,7 +25,7 @@ const MOST_LEAVES: usize = 1024;
 
 // What the call answers: the number, and how many egress routers are in the string, 0 on a refusal.
 #[repr(C)]
-#[derive(Drop)]
+#[derive(Clone, Copy)]
 pub struct Egress {
     pub number: u32,
     pub routers: u32,

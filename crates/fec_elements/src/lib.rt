@@ -11,7 +11,7 @@ mod nested;
 pub mod shape;
 
 // How a FEC stands.
-#[derive(Drop)]
+#[derive(Clone, Copy)]
 pub enum Standing {
     // outermost, in a body of an NLRI of this family: other fields may follow it
     InBody(u32),

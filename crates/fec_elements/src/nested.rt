@@ -11,7 +11,7 @@ pub(crate) const MOST_DEEP: u32 = 4;
 
 // The opaque values that hold a FEC (RFC 6512, section 3): their types, and where the FEC starts, after type 1, length 2 and, in the second,
 // a route distinguisher of 8.
-#[derive(Drop)]
+#[derive(Clone, Copy)]
 struct Recursive {}
 
 impl Recursive {
@@ -20,7 +20,7 @@ impl Recursive {
     const START: usize = 3;
 }
 
-#[derive(Drop)]
+#[derive(Clone, Copy)]
 struct VpnRecursive {}
 
 impl VpnRecursive {

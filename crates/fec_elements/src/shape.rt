@@ -4,7 +4,7 @@ ghost use Rattle.fec_elements.specs.Reading.{opaque_start, fec_size, short_fec};
 ghost use Rattle.fec_elements.specs.Inner.{ends_from};
 
 // The types of FECs.
-#[derive(Drop)]
+#[derive(Clone, Copy)]
 pub struct FecType {}
 
 impl FecType {
@@ -22,7 +22,7 @@ pub(crate) const FIXED: usize = 4;
 const WITH_LENGTH: usize = 6;
 
 // Address family and address length (RFC 4760), as one number of three octets, the least significant first.
-#[derive(Drop)]
+#[derive(Clone, Copy)]
 pub(crate) struct Root {}
 
 impl Root {
@@ -36,7 +36,7 @@ impl Root {
 const MOST_SHORT: usize = 255;
 
 // Where the opaque value starts.
-#[derive(Drop)]
+#[derive(Clone, Copy)]
 pub(crate) struct OpaqueStart {}
 
 impl OpaqueStart {

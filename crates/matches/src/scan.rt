@@ -17,7 +17,7 @@ use places::place;
 use tunnel::TunnelType;
 
 // The best route so far: its tier, and where its place starts. Tier 0 is no route.
-#[derive(Drop)]
+#[derive(Clone, Copy)]
 pub struct Best {
     pub tier: u32,
     pub start: usize,

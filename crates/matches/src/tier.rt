@@ -10,7 +10,7 @@ use nlri::{Group, standing};
 use octets::{order, wide};
 
 // Which tiers are open; no route is of one that is not.
-#[derive(Drop)]
+#[derive(Clone, Copy)]
 pub struct Tiers {
     pub exact: bool,
     pub any_group: bool,

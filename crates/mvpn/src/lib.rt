@@ -39,7 +39,7 @@ use tunnel::{Attribute, Reading};
 
 // What a step answers: the number, the next cursor, and the layout of the NLRI read.
 #[repr(C)]
-#[derive(Drop)]
+#[derive(Clone, Copy)]
 pub struct Stepped {
     pub number: u32,
     pub cursor: usize,
@@ -61,7 +61,7 @@ impl Stepped {
 
 // What reading an attribute answers: the number beside the fields.
 #[repr(C)]
-#[derive(Drop)]
+#[derive(Clone, Copy)]
 pub struct AttributeReading {
     pub number: u32,
     pub flags: u32,

@@ -5,7 +5,7 @@ ghost use Rattle.nlri.specs.Answers.{address_struct, kind_octets};
 
 // A route distinguisher: eight octets, kept as they came.
 #[repr(C)]
-#[derive(Drop)]
+#[derive(Clone, Copy)]
 pub struct RouteDistinguisher {
     pub octets: [u8; 8],
 }
@@ -18,7 +18,7 @@ impl RouteDistinguisher {
 
 // An address: its octets, then zeros, and its size. No octets: the wildcard.
 #[repr(C)]
-#[derive(Drop)]
+#[derive(Clone, Copy)]
 pub struct Address {
     pub octets: [u8; 16],
     pub size: u8,
@@ -37,7 +37,7 @@ impl Address {
 }
 
 // The kind of an address: its length in bits, as a length octet has it. The three lengths are named once, here.
-#[derive(Drop)]
+#[derive(Clone, Copy)]
 pub struct AddressKind {
     pub bits: usize,
 }

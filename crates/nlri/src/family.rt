@@ -6,7 +6,7 @@ use crate::address::AddressKind;
 use octets::number::FAMILY;
 
 // Address family identifiers.
-#[derive(Drop)]
+#[derive(Clone, Copy)]
 pub struct AddressFamily {}
 
 impl AddressFamily {
@@ -16,7 +16,7 @@ impl AddressFamily {
 }
 
 // A family by the kind of its addresses, or the refusal's number.
-#[derive(Drop)]
+#[derive(Clone, Copy)]
 pub enum Family {
     Known(AddressKind),
     Unknown(u32),

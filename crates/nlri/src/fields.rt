@@ -17,7 +17,7 @@ use octets::number::{DONE, FAMILY};
 
 // A field that the route type lacks is zeros in an answer, and is not looked at in an argument.
 #[repr(C)]
-#[derive(Drop)]
+#[derive(Clone, Copy)]
 pub struct Nlri {
     pub distinguisher: RouteDistinguisher,
     pub source: Address,
@@ -29,7 +29,7 @@ pub struct Nlri {
 
 // What reading a single NLRI answers: the number, the fields, and where a Leaf's key and an mLDP customer's FEC stand.
 #[repr(C)]
-#[derive(Drop)]
+#[derive(Clone, Copy)]
 pub struct NlriReading {
     pub number: u32,
     pub nlri: Nlri,
@@ -60,11 +60,7 @@ fn distinguisher_in(route_type: usize, s: &[u8]) -> RouteDistinguisher
     if route::has_key(route_type) {
         return RouteDistinguisher { octets };
     }
-    octets.copy_from_slice(octets::parts::between(
-        s,
-        HEADER,
-        RouteDistinguisher::OCTETS,
-    ));
+    octets.copy_from_slice(octets::parts::between(s, HEADER, RouteDistinguisher::OCTETS));
     RouteDistinguisher { octets }
 }
 

@@ -10,7 +10,7 @@ use octets::number::{DONE, FLOW};
 
 // The number, and the class, or 0 on a refusal.
 #[repr(C)]
-#[derive(Drop)]
+#[derive(Clone, Copy)]
 pub struct Group {
     pub number: u32,
     pub group_class: u32,

@@ -8,7 +8,7 @@ use octets::number::SHORT;
 pub const HEADER: usize = 2;
 
 // A route type and a Length with as many octets behind it, or the refusal's number.
-#[derive(Drop)]
+#[derive(Clone, Copy)]
 pub enum Header {
     Typed(usize, usize),
     Unread(u32),

@@ -10,7 +10,7 @@ use crate::route::RouteType;
 // Route type, Length, and the size in octets of each field whose size varies: 0 for a wildcard and for a field that the
 // type lacks.
 #[repr(C)]
-#[derive(Drop)]
+#[derive(Clone, Copy)]
 pub struct Layout {
     pub route_type: usize,
     pub length: usize,
@@ -40,7 +40,7 @@ impl Layout {
 }
 
 // What reading an NLRI comes to: its layout, or the refusal's number.
-#[derive(Drop)]
+#[derive(Clone, Copy)]
 pub enum Reading {
     Nlri(Layout),
     Refused(u32),

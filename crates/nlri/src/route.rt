@@ -2,7 +2,7 @@
 ghost use Rattle.std.specs.Prelude.{◌≡◌};
 ghost use Rattle.nlri.specs.Inner.{with_key, with_fec, with_source_as, is_mldp};
 
-#[derive(Drop)]
+#[derive(Clone, Copy)]
 pub struct RouteType {}
 
 impl RouteType {

@@ -14,7 +14,7 @@ pub mod wide;
 
 // A part of a slice: `size` octets from octet `start`.
 #[repr(C)]
-#[derive(Drop)]
+#[derive(Clone, Copy)]
 pub struct Span {
     pub start: usize,
     pub size: usize,
@@ -22,7 +22,7 @@ pub struct Span {
 
 // What a writer answers: DONE and the octets written, or the refusal's number and 0.
 #[repr(C)]
-#[derive(Drop)]
+#[derive(Clone, Copy)]
 pub struct Written {
     pub number: u32,
     pub size: usize,

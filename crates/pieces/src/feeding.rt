@@ -12,7 +12,7 @@ use runs::Walked;
 // What a feed answers: the reader afterwards, the octets taken of the piece, and the size of the NLRI that is now whole at the front of the lent
 // octets, or 0.
 #[repr(C)]
-#[derive(Drop)]
+#[derive(Clone, Copy)]
 pub struct Fed {
     pub pieces: Pieces,
     pub taken: usize,

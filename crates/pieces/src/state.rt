@@ -10,7 +10,7 @@ use runs::{RUN, Walked};
 const LEFT: u32 = 256;
 
 // What a reader does with octets; any greater number is finished too.
-#[derive(Drop)]
+#[derive(Clone, Copy)]
 pub struct Stage {}
 
 impl Stage {
@@ -24,7 +24,7 @@ impl Stage {
 // A reader of a run that arrives in pieces: while it reads, `walked` is the walk's answer up to the NLRI that is unfinished; `total` counts the
 // octets taken, `kept` those of the unfinished NLRI.
 #[repr(C)]
-#[derive(Drop)]
+#[derive(Clone, Copy)]
 pub struct Pieces {
     pub walked: Walked,
     pub afi: u32,

@@ -13,7 +13,7 @@ use crate::place;
 pub const LEAST_OUTPUT: usize = 124;
 
 // The octets of a route that were written: of its NLRI, and of its attribute.
-#[derive(Drop)]
+#[derive(Clone, Copy)]
 pub struct RouteSizes {
     pub nlri: u32,
     pub attribute: u32,

@@ -11,7 +11,7 @@ use lists::FIRST;
 use octets::order;
 
 // The attribute that leads so far: how many different flows want it, and where a flow stands that does.
-#[derive(Drop)]
+#[derive(Clone, Copy)]
 pub struct Leader {
     pub count: usize,
     pub at: usize,

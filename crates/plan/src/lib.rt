@@ -19,7 +19,7 @@ pub(crate) const FIELDS: usize = 3;
 
 // What the judge answers: DONE with 1 or 0, or a refusal's number and 0.
 #[repr(C)]
-#[derive(Drop)]
+#[derive(Clone, Copy)]
 pub struct Judged {
     pub number: u32,
     pub accepted: u32,
@@ -27,7 +27,7 @@ pub struct Judged {
 
 // What the planner answers: DONE with how many routes, or a refusal's number and 0.
 #[repr(C)]
-#[derive(Drop)]
+#[derive(Clone, Copy)]
 pub struct Planned {
     pub number: u32,
     pub routes: u32,

@@ -12,7 +12,7 @@ use octets::number::DONE;
 
 // What install answers: DONE with NEW or REPLACED, or the refusal's number and 0.
 #[repr(C)]
-#[derive(Drop)]
+#[derive(Clone, Copy)]
 pub struct Installed {
     pub number: u32,
     pub outcome: u32,
@@ -43,7 +43,7 @@ impl Installed {
 
 // What mark and sweep answer: DONE with how many routes went, or the refusal's number and 0.
 #[repr(C)]
-#[derive(Drop)]
+#[derive(Clone, Copy)]
 pub struct Restarted {
     pub number: u32,
     pub gone: u32,
@@ -60,7 +60,7 @@ impl Restarted {
 
 // What match answers: DONE with the tier and both sizes, all 0 where no route matches, or the refusal's number and 0.
 #[repr(C)]
-#[derive(Drop)]
+#[derive(Clone, Copy)]
 pub struct Matched {
     pub number: u32,
     pub tier: u32,
@@ -91,7 +91,7 @@ impl Matched {
 
 // What explain answers: match's whole answer, and of tiers 1 to 4 in turn why it was taken or not; on a refusal all reasons are 0.
 #[repr(C)]
-#[derive(Drop)]
+#[derive(Clone, Copy)]
 pub struct Explained {
     pub matched: Matched,
     pub reasons: [u32; 4],
@@ -120,7 +120,7 @@ impl Explained {
 // What next answers: DONE with both sizes and the mark, 1 where the route is marked stale, all 0 where no route comes after, or the
 // refusal's number and 0.
 #[repr(C)]
-#[derive(Drop)]
+#[derive(Clone, Copy)]
 pub struct Following {
     pub number: u32,
     pub nlri_size: u32,
@@ -151,7 +151,7 @@ impl Following {
 
 // What a table says of itself: DONE with its family, its places and how many routes are in them, or the refusal's number and 0.
 #[repr(C)]
-#[derive(Drop)]
+#[derive(Clone, Copy)]
 pub struct TableFacts {
     pub number: u32,
     pub afi: u32,
@@ -175,7 +175,7 @@ impl TableFacts {
 
 // What salvage answers: DONE with how many routes are kept and how many places dropped, or the refusal's number and 0.
 #[repr(C)]
-#[derive(Drop)]
+#[derive(Clone, Copy)]
 pub struct Salvaged {
     pub number: u32,
     pub kept: u32,

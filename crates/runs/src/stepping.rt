@@ -9,13 +9,13 @@ use octets::number::{LONG, SHORT};
 pub const RUN: usize = 4096;
 
 // A place in a run. The run itself is lent to each step.
-#[derive(Drop)]
+#[derive(Clone, Copy)]
 pub struct Cursor {
     pub at: usize,
 }
 
 // The NLRI at the cursor with the cursor just past it, or the cursor given: at the run's end, or with the refusal's number.
-#[derive(Drop)]
+#[derive(Clone, Copy)]
 pub enum Step {
     Nlri(Layout, Cursor),
     End(Cursor),

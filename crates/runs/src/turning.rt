@@ -9,7 +9,7 @@ use octets::number::{DONE, GROUP, TYPE};
 
 // What a walk does at an unknown route type, and at a Source Active route that is discarded: it skips the NLRI, or stops as at any other refusal; so
 // does every other mode.
-#[derive(Drop)]
+#[derive(Clone, Copy)]
 pub struct Mode {}
 
 impl Mode {
@@ -19,7 +19,7 @@ impl Mode {
 }
 
 // The NLRI at a cursor read or skipped, with the cursor just past it; or the number of the walk's stop.
-#[derive(Drop)]
+#[derive(Clone, Copy)]
 pub enum Turn {
     Read(Layout, Cursor),
     Skipped(Cursor),

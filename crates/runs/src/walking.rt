@@ -10,7 +10,7 @@ use octets::number::{DONE, FAMILY, LONG};
 
 // What a walk answers: the number and the offset of its stop, the count of NLRIs read before it, and the number of those skipped.
 #[repr(C)]
-#[derive(Drop)]
+#[derive(Clone, Copy)]
 pub struct Walked {
     pub number: u32,
     pub count: u32,

@@ -12,7 +12,7 @@ pub use judge::tree_class;
 // What the daemon tells beside the lists, each 0 or not: the PE is upstream for the C-RP of the group; the group is a BIDIR-PIM
 // group; Source Active routes are not being used.
 #[repr(C)]
-#[derive(Drop)]
+#[derive(Clone, Copy)]
 pub struct TreeFacts {
     pub upstream: u32,
     pub bidirectional: u32,

@@ -3,7 +3,7 @@ ghost use Rattle.std.specs.Prelude.{◌≡◌, ◌≤◌, length};
 ghost use Rattle.tunnel.specs.Bier.{bier_in};
 
 // The sub-domain, and the BFR-id in it; a prefix stands behind them.
-#[derive(Drop)]
+#[derive(Clone, Copy)]
 pub struct BierIdentifier {
     pub sub_domain: u32,
     pub bfr_id: u32,

@@ -7,7 +7,7 @@ use octets::Span;
 
 // A FEC's type and address family, and where in the attribute its root address and its opaque value stand.
 #[repr(C)]
-#[derive(Drop)]
+#[derive(Clone, Copy)]
 pub struct Fec {
     pub fec_type: u32,
     pub address_family: u32,

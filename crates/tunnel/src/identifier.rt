@@ -11,7 +11,7 @@ use fec_elements::shape::FecType;
 use octets::number;
 
 // The two sizes of an identifier, the same where it has one.
-#[derive(Drop)]
+#[derive(Clone, Copy)]
 struct SizePair {
     first: usize,
     second: usize,

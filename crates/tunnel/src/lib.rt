@@ -35,7 +35,7 @@ const MOST_LABEL_FIELD: u32 = 16777215;
 
 // The fields of an attribute. Spans count from the attribute's first octet.
 #[repr(C)]
-#[derive(Drop)]
+#[derive(Clone, Copy)]
 pub struct Attribute {
     pub flags: u32,
     pub tunnel_type: u32,
@@ -51,7 +51,7 @@ pub struct Attribute {
 }
 
 // What reading answers: the attribute, or the number that refuses it.
-#[derive(Drop)]
+#[derive(Clone, Copy)]
 pub enum Reading {
     Attribute(Attribute),
     Refused(u32),

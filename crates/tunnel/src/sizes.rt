@@ -1,5 +1,5 @@
 // Sizes of addresses and identifiers, in octets.
-#[derive(Drop)]
+#[derive(Clone, Copy)]
 pub struct Sizes {}
 
 impl Sizes {

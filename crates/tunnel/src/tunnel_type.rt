@@ -1,5 +1,5 @@
 // The tunnel types (RFC 6514, section 5; RFC 8556, section 2).
-#[derive(Drop)]
+#[derive(Clone, Copy)]
 pub struct TunnelType {}
 
 impl TunnelType {

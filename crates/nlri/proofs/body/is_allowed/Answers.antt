@@ -1,0 +1,12 @@
+-- `nlri::body::is_allowed` meets its contract.
+use Rattle.octets.proofs.Tests.{flags}
+use Rattle.nlri.proofs.body.is_allowed.Goals as goal
+
+pub returns-then-bits-kind : goal.returns-then-bits-kind
+returns-then-bits-kind c = search flags
+
+pub returns-then-route_type-eq-S_PMSI : goal.returns-then-route_type-eq-S_PMSI
+returns-then-route_type-eq-S_PMSI c = search flags
+
+pub returns : goal.returns
+returns c = search flags

@@ -1,0 +1,13 @@
+-- `nlri::fields::source_as_in` meets its contract.
+use Rattle.std.proofs.Common.{sym, ◌∙◌}
+use Rattle.octets.proofs.Choice.{pick_true, pick-false}
+use Rattle.nlri.proofs.fields.source_as_in.Goals as goal
+
+pub four-requires : goal.four-requires
+four-requires c = c.requires (sym c.has_source_as.ensures ∙ c.if-has_source_as.true)
+
+pub returns-then-has_source_as : goal.returns-then-has_source_as
+returns-then-has_source_as c = c.four.ensures ∙ sym (pick_true _ _ _ (sym c.has_source_as.ensures ∙ c.if-has_source_as.true))
+
+pub returns : goal.returns
+returns c = sym (pick-false _ _ _ (sym c.has_source_as.ensures ∙ c.if-has_source_as.false))

@@ -1,0 +1,9 @@
+-- `nlri::layout::fec_start` meets its contract.
+use Rattle.octets.proofs.Tests.{tests}
+use Rattle.nlri.proofs.layout.fec_start.Goals as goal
+
+pub returns-then-route_type-eq-MLDP_SOURCE_TREE_JOIN : goal.returns-then-route_type-eq-MLDP_SOURCE_TREE_JOIN
+returns-then-route_type-eq-MLDP_SOURCE_TREE_JOIN c = search tests
+
+pub returns : goal.returns
+returns c = search tests

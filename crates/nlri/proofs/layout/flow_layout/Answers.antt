@@ -1,0 +1,28 @@
+-- `nlri::layout::flow_layout` meets its contract.
+use Rattle.std.proofs.Common.{◌+◌, ◌/◌, get_or, refl, arith}
+use Rattle.nlri.proofs.layout.flow_layout.Goals as goal
+
+pub overflow_cast-length : goal.overflow_cast-length
+overflow_cast-length c = omega (arith, c.shared_slice_known-1.given 1)
+
+pub overflow_cast-source : goal.overflow_cast-source
+overflow_cast-source c = omega (arith, c.shared_slice_known-2-1.given c.args.at)
+
+pub overflow_add-group-2 : goal.overflow_add-group-2
+overflow_add-group-2 c = omega (arith, c.requires.group)
+
+pub bounds-s-at-2 : goal.bounds-s-at-2
+bounds-s-at-2 c = omega (arith, c.requires.group)
+
+pub overflow_cast-group : goal.overflow_cast-group
+overflow_cast-group c =
+    omega (arith, c.shared_slice_known-3-1.given (c.args.at + 1 + get_or c.args.s.now c.args.at 0 / 8))
+
+pub overflow_sub-result-2 : goal.overflow_sub-result-2
+overflow_sub-result-2 c = omega (arith, c.requires.sizes)
+
+pub overflow_sub-result-3 : goal.overflow_sub-result-3
+overflow_sub-result-3 c = omega (arith, c.requires.sizes)
+
+pub returns : goal.returns
+returns c = refl

@@ -1,0 +1,15 @@
+-- `nlri::layout::leaf_layout` meets its contract.
+use Rattle.std.proofs.Common.{refl, arith}
+use Rattle.nlri.proofs.layout.leaf_layout.Goals as goal
+
+pub overflow_cast-length : goal.overflow_cast-length
+overflow_cast-length c = omega (arith, c.shared_slice_known-1.given 1)
+
+pub overflow_cast-key : goal.overflow_cast-key
+overflow_cast-key c = omega (arith, c.shared_slice_known-2-1.given 3)
+
+pub overflow_add-key-2 : goal.overflow_add-key-2
+overflow_add-key-2 c = omega (arith, c.shared_slice_known-2-1.given 3)
+
+pub returns : goal.returns
+returns c = refl

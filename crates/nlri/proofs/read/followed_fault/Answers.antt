@@ -1,0 +1,12 @@
+-- `nlri::read::followed_fault` meets its contract.
+use Rattle.octets.proofs.Tests.{tests}
+use Rattle.nlri.proofs.read.followed_fault.Goals as goal
+
+pub returns-then-fault-eq-DONE : goal.returns-then-fault-eq-DONE
+returns-then-fault-eq-DONE c = search tests
+
+pub returns-then-fault-eq-GROUP : goal.returns-then-fault-eq-GROUP
+returns-then-fault-eq-GROUP c = search tests
+
+pub returns : goal.returns
+returns c = search tests

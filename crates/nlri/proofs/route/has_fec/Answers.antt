@@ -1,0 +1,9 @@
+-- `nlri::route::has_fec` meets its contract.
+use Rattle.octets.proofs.Tests.{flags}
+use Rattle.nlri.proofs.route.has_fec.Goals as goal
+
+pub returns-then-route_type-eq-MLDP_S_PMSI : goal.returns-then-route_type-eq-MLDP_S_PMSI
+returns-then-route_type-eq-MLDP_S_PMSI c = search flags
+
+pub returns : goal.returns
+returns c = search flags

@@ -1,0 +1,12 @@
+-- `nlri::route::is_mldp` meets its contract.
+use Rattle.octets.proofs.Tests.{flags}
+use Rattle.nlri.proofs.route.is_mldp.Goals as goal
+
+pub returns-then-route_type-eq-MLDP_S_PMSI : goal.returns-then-route_type-eq-MLDP_S_PMSI
+returns-then-route_type-eq-MLDP_S_PMSI c = search flags
+
+pub returns-then-route_type-eq-MLDP_LEAF : goal.returns-then-route_type-eq-MLDP_LEAF
+returns-then-route_type-eq-MLDP_LEAF c = search flags
+
+pub returns : goal.returns
+returns c = search flags

@@ -1,0 +1,26 @@
+-- `nlri::sure::is_surely_leaf` meets its contract.
+use Rattle.std.proofs.Common.{length, refl, ap, ◌∙◌, arith, length-drop}
+use Rattle.octets.proofs.Choice.{opposite, flag-on}
+use Rattle.nlri.proofs.Functions.Sure.{leaf-sure}
+use Rattle.nlri.proofs.sure.is_surely_leaf.Goals as goal
+
+pub overflow_cast-s : goal.overflow_cast-s
+overflow_cast-s c = omega (arith, c.shared_slice_known-2-1.given 3)
+
+pub overflow_add-s : goal.overflow_add-s
+overflow_add-s c = omega (arith, c.shared_slice_known-2-1.given 3)
+
+pub overflow_cast-s-2 : goal.overflow_cast-s-2
+overflow_cast-s-2 c = omega (arith, c.shared_slice_known-3-1.given 1)
+
+pub is_originator_from-requires : goal.is_originator_from-requires
+is_originator_from-requires c = omega (arith, c.shared_slice_known-2-1.given 3)
+
+pub returns-then-not-is_originator_from : goal.returns-then-not-is_originator_from
+returns-then-not-is_originator_from c t = absurd (opposite t refl)
+
+pub is_surely_keyable-requires : goal.is_surely_keyable-requires
+is_surely_keyable-requires c = omega (arith, ap length c.after.ensures ∙ length-drop 2 c.args.s.now, c.requires)
+
+pub returns : goal.returns
+returns c t = leaf-sure _ _ c.requires _ c.after.ensures (c.is_originator_from.ensures (flag-on _ _ refl c.if-not-is_originator_from.false)) (c.is_surely_keyable.ensures t)
