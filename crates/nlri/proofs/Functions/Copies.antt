@@ -1,5 +1,5 @@
 -- What is copied out of an NLRI into structs.
-use Rattle.std.proofs.Common.{◌≡◌, ℕ, zero, suc, ◌+◌, ◌<◌, ◌≤◌, List, [], ◌∷◌, ◌++◌, length, get_or, take, drop, replicate, sym, refl, ap, ◌∙◌, arith, take_all, drop-cons, eq-eqb, ne_eqb}
+use Rattle.std.proofs.Common.{◌≡◌, ℕ, zero, suc, ◌+◌, ◌<◌, ◌≤◌, List, [], ◌∷◌, ◌++◌, length, get_or, take, drop, replicate, sym, refl, ap, ◌∙◌, arith, append-nil, take_all, drop-cons, eq-eqb, ne_eqb}
 use Rattle.octets.specs.Octets.{part, sized}
 use Rattle.octets.proofs.Choice.{pick_true, pick-false}
 use Rattle.octets.proofs.Lists.{copied-sized, length_part}
@@ -44,6 +44,13 @@ module _ (bits : ℕ) (s : List ℕ) where
 pub distinguisher-held : (held xs : List ℕ) → held ≡ take (length xs) xs ++ drop (length xs) (replicate 8 0) → length xs ≤ 8 → record { octets = held } ≡ distinguisher_struct xs
 unfolding distinguisher_struct
 distinguisher-held held xs e h = λ i. record { octets = (e ∙ copied-sized 8 xs h) i }
+
+-- a copy of all eight octets
+pub distinguisher-whole : (held xs : List ℕ) → held ≡ xs → length xs ≡ 8 → record { octets = held } ≡ distinguisher_struct xs
+distinguisher-whole held xs e l = distinguisher-held held xs (e ∙ whole) (omega arith)
+  where
+    whole : xs ≡ take (length xs) xs ++ drop (length xs) (replicate 8 0)
+    whole = rw (take_all (length xs) xs (omega arith), l) (sym (append-nil xs))
 
 pub no_address : record { octets = replicate 16 0; size = 0 } ≡ address_struct []
 unfolding address_struct sized

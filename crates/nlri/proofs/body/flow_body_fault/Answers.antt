@@ -6,10 +6,10 @@ use Rattle.nlri.proofs.Functions.Ends.{body-flow, start-least, start-most}
 use Rattle.nlri.proofs.body.flow_body_fault.Goals as goal
 
 pub overflow_sub-source_start : goal.overflow_sub-source_start
-overflow_sub-source_start c = omega (arith, c.source_start.ensures, start-least c.args.route-type)
+overflow_sub-source_start c = omega (arith, c.source_start.ensures, start-least c.args.route_type)
 
 pub flow_fault-requires : goal.flow_fault-requires
-flow_fault-requires c = omega (arith, c.source_start.ensures, start-most c.args.route-type)
+flow_fault-requires c = omega (arith, c.source_start.ensures, start-most c.args.route_type)
 
 pub returns : goal.returns
 returns c =

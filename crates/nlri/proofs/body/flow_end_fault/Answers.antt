@@ -10,13 +10,13 @@ unfolding after_flow
 returns-then-route_type-eq-S_PMSI c =
     let a = c.args in
     λ bits s l.
-    c.originator_fault.ensures bits a.route-type s l
-    ∙ ap (λ (kinds : List FieldKind). left_fault bits a.route-type kinds a.at s) (sym (pick_true _ (originator ∷ []) [] (eq-eqb _ _ c.if-route_type-eq-S_PMSI.true)))
+    c.originator_fault.ensures bits a.route_type s l
+    ∙ ap (λ (kinds : List FieldKind). left_fault bits a.route_type kinds a.at s) (sym (pick_true _ (originator ∷ []) [] (eq-eqb _ _ c.if-route_type-eq-S_PMSI.true)))
 
 pub returns : goal.returns
 unfolding after_flow
 returns c =
     let a = c.args in
     λ bits s l.
-    c.end_fault.ensures bits a.route-type s l
-    ∙ ap (λ (kinds : List FieldKind). left_fault bits a.route-type kinds a.at s) (sym (pick-false _ (originator ∷ []) [] (ne_eqb _ _ c.if-route_type-eq-S_PMSI.false)))
+    c.end_fault.ensures bits a.route_type s l
+    ∙ ap (λ (kinds : List FieldKind). left_fault bits a.route_type kinds a.at s) (sym (pick-false _ (originator ∷ []) [] (ne_eqb _ _ c.if-route_type-eq-S_PMSI.false)))

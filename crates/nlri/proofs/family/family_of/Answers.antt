@@ -18,4 +18,5 @@ returns-then-afi-eq-IPV6 c =
     search tests
 
 pub returns : goal.returns
+unfolding family_bits
 returns c = search tests

@@ -16,4 +16,4 @@ fec_body_fault-requires c = (c.requires, c.if-route_type-eq-MLDP_LEAF.false)
 pub returns : goal.returns
 returns c =
     let a = c.args in
-    c.fec_body_fault.ensures ∙ ap (body_fault a.kind.bits a.route-type) (lent-whole a.s.now)
+    c.fec_body_fault.ensures ∙ ap (body_fault a.kind.bits a.route_type) (lent-whole a.s.now)

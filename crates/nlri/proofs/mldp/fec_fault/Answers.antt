@@ -8,28 +8,20 @@ use Rattle.nlri.specs.Family.{root_family}
 use Rattle.nlri.proofs.Functions.Ends.{left-fec-past, left-fec-bad, left-fec-good, fec-left}
 use Rattle.nlri.proofs.mldp.fec_fault.Goals as goal
 
--- the number of the FEC, by the family of the kind
-number : (c : tie.After-fault) → c.fault.result ≡ number_of (read_fec (InBody (root_family c.before.before.before.before.before.args.kind.bits)) c.before.before.after.result.now)
-number c = c.fault.ensures ∙ ap (λ (family : ℕ). number_of (read_fec (InBody family) c.before.before.after.result.now)) c.before.root-family.ensures
-
--- the FEC that was judged, with its lengths, lies within the octets
-within : (c : tie.After-fault) → c.fault.result ≡ DONE → let rest : List ℕ = c.before.before.after.result.now in (fec_size rest ≤ length rest) × (opaque_start rest ≤ length rest)
-within c done = fec-left _ c.before.before.before.before.before.args.route-type [] _ _ c.before.before.before.if1.false _ c.before.before.after.ensures _ (number c) done
-
 pub returns-then-s-at : goal.returns-then-s-at
 returns-then-s-at c = left-fec-past _ _ _ _ _ c.if-s-at.true
 
 pub returns-then-fault-ne-DONE : goal.returns-then-fault-ne-DONE
-returns-then-fault-ne-DONE c = left-fec-bad _ _ _ _ _ c.if-s-at.false _ c.after-rest.ensures _ (number c) c.if-fault-ne-DONE.true
+returns-then-fault-ne-DONE c = left-fec-bad _ _ _ _ _ c.if-s-at.false _ c.after-rest.ensures _ (let it : c.fault-fault.result ≡ number_of (read_fec (InBody (root_family c.args.kind.bits)) c.after-rest.result.now) = c.fault-fault.ensures ∙ ap (λ (family : ℕ). number_of (read_fec (InBody family) c.after-rest.result.now)) c.root_family.ensures in it) c.if-fault-ne-DONE.true
 
 pub fec_size-requires : goal.fec_size-requires
-fec_size-requires c = (within c c.if-fault-ne-DONE.false).1
+fec_size-requires c = (fec-left _ c.args.route_type [] _ _ c.if-s-at.false _ c.after-rest.ensures _ (let it : c.fault-fault.result ≡ number_of (read_fec (InBody (root_family c.args.kind.bits)) c.after-rest.result.now) = c.fault-fault.ensures ∙ ap (λ (family : ℕ). number_of (read_fec (InBody family) c.after-rest.result.now)) c.root_family.ensures in it) c.if-fault-ne-DONE.false).1
 
 pub overflow_sub-rest : goal.overflow_sub-rest
-overflow_sub-rest c = omega (arith, (within c c.if-fault-ne-DONE.false).0, c.fec_size.ensures)
+overflow_sub-rest c = omega (arith, (fec-left _ c.args.route_type [] _ _ c.if-s-at.false _ c.after-rest.ensures _ (let it : c.fault-fault.result ≡ number_of (read_fec (InBody (root_family c.args.kind.bits)) c.after-rest.result.now) = c.fault-fault.ensures ∙ ap (λ (family : ℕ). number_of (read_fec (InBody family) c.after-rest.result.now)) c.root_family.ensures in it) c.if-fault-ne-DONE.false).0, c.fec_size.ensures)
 
 pub returns : goal.returns
 returns c =
     let rest = c.after-rest.result.now in
-    left-fec-good _ _ _ _ _ c.if-s-at.false _ c.after-rest.ensures _ (number c) c.if-fault-ne-DONE.false _ _
+    left-fec-good _ _ _ _ _ c.if-s-at.false _ c.after-rest.ensures _ (let it : c.fault-fault.result ≡ number_of (read_fec (InBody (root_family c.args.kind.bits)) c.after-rest.result.now) = c.fault-fault.ensures ∙ ap (λ (family : ℕ). number_of (read_fec (InBody family) c.after-rest.result.now)) c.root_family.ensures in it) c.if-fault-ne-DONE.false _ _
     (ap (λ (n : ℕ). length rest - n) c.fec_size.ensures) (λ at e. c.fec_end_fault.ensures _ at _ e)

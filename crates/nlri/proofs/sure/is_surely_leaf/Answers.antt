@@ -1,7 +1,8 @@
 -- `nlri::sure::is_surely_leaf` meets its contract.
 use Rattle.std.proofs.Common.{length, refl, ap, ◌∙◌, arith, length-drop}
-use Rattle.octets.proofs.Choice.{opposite, flag-on}
+use Rattle.octets.proofs.Choice.{opposite}
 use Rattle.nlri.proofs.Functions.Sure.{leaf-sure}
+use Rattle.std.proofs.Common.{sym}
 use Rattle.nlri.proofs.sure.is_surely_leaf.Goals as goal
 
 pub overflow_cast-s : goal.overflow_cast-s
@@ -23,4 +24,4 @@ pub is_surely_keyable-requires : goal.is_surely_keyable-requires
 is_surely_keyable-requires c = omega (arith, ap length c.after.ensures ∙ length-drop 2 c.args.s.now, c.requires)
 
 pub returns : goal.returns
-returns c t = leaf-sure _ _ c.requires _ c.after.ensures (c.is_originator_from.ensures (flag-on _ _ refl c.if-not-is_originator_from.false)) (c.is_surely_keyable.ensures t)
+returns c t = leaf-sure _ _ c.requires _ c.after.ensures (c.is_originator_from.ensures (sym refl ∙ c.if-not-is_originator_from.false)) (c.is_surely_keyable.ensures t)

@@ -1,7 +1,8 @@
 -- `nlri::sure::is_surely_s_pmsi` meets its contract.
 use Rattle.std.proofs.Common.{◌+◌, ◌/◌, get_or, refl, arith}
-use Rattle.octets.proofs.Choice.{opposite, flag-on}
+use Rattle.octets.proofs.Choice.{opposite}
 use Rattle.nlri.proofs.Functions.Sure.{s-pmsi-sure}
+use Rattle.std.proofs.Common.{sym, ◌∙◌}
 use Rattle.nlri.proofs.sure.is_surely_s_pmsi.Goals as goal
 
 pub overflow_cast-source : goal.overflow_cast-source
@@ -35,4 +36,4 @@ pub returns : goal.returns
 returns c t =
     let s = c.args.s.now in
     s-pmsi-sure _ _ c.requires _ _ refl refl (omega (arith, c.shared_slice_known-2-1.given 10)) (omega (arith, c.shared_slice_known-3-1.given (11 + get_or s 10 0 / 8)))
-    (flag-on _ _ c.is_allowed.ensures c.if-not-is_allowed.false) (flag-on _ _ c.is_allowed-2.ensures c.if-not-is_allowed-2.false) (c.is_originator_from.ensures t)
+    (sym c.is_allowed.ensures ∙ c.if-not-is_allowed.false) (sym c.is_allowed-2.ensures ∙ c.if-not-is_allowed-2.false) (c.is_originator_from.ensures t)
