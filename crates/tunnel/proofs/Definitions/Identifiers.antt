@@ -59,6 +59,7 @@ Rising n (r ∷ rs) = (n ≤ r.tunnel_type) × Rising (r.tunnel_type + 1) rs
 
 rising-among : (rows : List TableRow) (n t : ℕ) (form : IdentifierForm) → Rising n rows → Among (row_of t form) rows → n ≤ t
 unfolding Rising
+rising-among [] n t form l m = elim m [ ]
 rising-among (r ∷ rs) n t form l (first e) = rw (ap (λ (q : TableRow). q.tunnel_type) e) l.0
 rising-among (r ∷ rs) n t form l (later m) = omega (arith, rising-among rs (r.tunnel_type + 1) t form l.1 m)
 
@@ -69,6 +70,7 @@ rising = omega arith
 -- looking a tunnel type up finds exactly its row
 form-in-among : (rows : List TableRow) (n t : ℕ) (form : IdentifierForm) → Rising n rows → Among (row_of t form) rows → form_in rows t ≡ given form
 unfolding form_in Rising
+form-in-among [] n t form l m = elim m [ ]
 form-in-among (r ∷ rs) n t form l (first e) =
     let type : t ≡ r.tunnel_type = ap (λ (q : TableRow). q.tunnel_type) e in
     let same : form ≡ r.form = ap (λ (q : TableRow). q.form) e in

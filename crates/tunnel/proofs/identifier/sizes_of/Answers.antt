@@ -13,8 +13,7 @@ use Rattle.tunnel.specs.Identifier.{on_form, identifier_forms, form_in, form_of}
 use Rattle.tunnel.specs.Inner.{unknown, mldp, TakesSizes}
 use Rattle.tunnel.proofs.Definitions.Identifiers.{agreeing, agree-below}
 use Rattle.tunnel.proofs.Functions.Rows.{pair_form, takes_pair, takes-pair}
-use Rattle.tunnel.proofs.identifier.sizes_of.Statement.{statement}
-use Rattle.tunnel.proofs.identifier.sizes_of.Tie as tie
+use Rattle.tunnel.proofs.identifier.sizes_of.Goals as goal
 
 abbrev pair : (first second : ℕ) → SizePair
 pair first second = record { first = first; second = second }
@@ -33,20 +32,17 @@ takes-chosen t m n h u l e =
     let x : takes_pair t (chosen t).first (chosen t).second ≡ true = rw (u, l) at w in
     takes-pair t m n (rw (← e) at x)
 
-returns : tie.Need-returns
+pub returns-then-tunnel_type-eq-NONE : goal.returns-then-tunnel_type-eq-NONE
+returns-then-tunnel_type-eq-NONE c = takes-chosen _ _ _ (search rules) (search rules) (search rules) (search tests)
+
+pub returns-then-tunnel_type-eq-RSVP_TE_P2MP : goal.returns-then-tunnel_type-eq-RSVP_TE_P2MP
+returns-then-tunnel_type-eq-RSVP_TE_P2MP c = takes-chosen _ _ _ (search rules) (search rules) (search rules) (search tests)
+
+pub returns-then-tunnel_type-eq-INGRESS_REPLICATION : goal.returns-then-tunnel_type-eq-INGRESS_REPLICATION
+returns-then-tunnel_type-eq-INGRESS_REPLICATION c = takes-chosen _ _ _ (search rules) (search rules) (search rules) (search tests)
+
+pub returns-then-tunnel_type-eq-BIER : goal.returns-then-tunnel_type-eq-BIER
+returns-then-tunnel_type-eq-BIER c = takes-chosen _ _ _ (search rules) (search rules) (search rules) (search tests)
+
+pub returns : goal.returns
 returns c = takes-chosen _ _ _ (search rules) (search rules) (search rules) (search tests)
-
-returns-2 : tie.Need-returns-2
-returns-2 c = takes-chosen _ _ _ (search rules) (search rules) (search rules) (search tests)
-
-returns-3 : tie.Need-returns-3
-returns-3 c = takes-chosen _ _ _ (search rules) (search rules) (search rules) (search tests)
-
-returns-4 : tie.Need-returns-4
-returns-4 c = takes-chosen _ _ _ (search rules) (search rules) (search rules) (search tests)
-
-returns-5 : tie.Need-returns-5
-returns-5 c = takes-chosen _ _ _ (search rules) (search rules) (search rules) (search tests)
-
-pub sizes-of-spec : {M : Type 1} → statement M
-sizes-of-spec = tie.close (tie.spec returns returns-2 returns-3 returns-4 returns-5)

@@ -12,8 +12,7 @@ use Rattle.octets.proofs.Tests.{flags}
 use Rattle.tunnel.specs.Identifier.{on_form, identifier_forms, form_in, form_of, one_of}
 use Rattle.tunnel.specs.Inner.{mldp, type_suits}
 use Rattle.tunnel.proofs.Functions.Rows.{mldp-octet}
-use Rattle.tunnel.proofs.identifier.type_suits.Statement.{statement}
-use Rattle.tunnel.proofs.identifier.type_suits.Tie as tie
+use Rattle.tunnel.proofs.identifier.type_suits.Goals as goal
 
 either-none : (b : Bool) → b ≡ either b false
 unfolding either
@@ -28,5 +27,11 @@ suits r t fec_type h m e =
     (λ p. rw (eqb-true t 7 p) (ap (either (eqb fec_type 7)) (either-none (eqb fec_type 8))))
     (either_true (eqb t 2) (eqb t 7) (mldp-octet _ t h refl ∙ m))
 
-pub type-suits-spec : {M : Type 1} → statement M
-type-suits-spec = tie.close (tie.spec (λ c. search (flags, suits)) (λ c. search (flags, suits)) (λ c. search (flags, suits)))
+pub returns-then-tunnel_type-eq-MLDP_P2MP : goal.returns-then-tunnel_type-eq-MLDP_P2MP
+returns-then-tunnel_type-eq-MLDP_P2MP c = search (flags, suits)
+
+pub returns-then-fec_type-eq-MP2MP_UP : goal.returns-then-fec_type-eq-MP2MP_UP
+returns-then-fec_type-eq-MP2MP_UP c = search (flags, suits)
+
+pub returns : goal.returns
+returns c = search (flags, suits)
