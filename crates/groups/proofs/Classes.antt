@@ -1,5 +1,5 @@
 -- Laws of `class_by`: what it comes to where no prefix is given, and by `class_along` and `class_within`, which mirror the functions, where one is.
-use Prim.Native.Nat.{ℕ, zero, suc, ◌*◌, ◌-◌, ◌/◌, ◌≤◌, ◌<◌}
+use Prim.Native.Nat.{ℕ, ◌*◌, ◌-◌, ◌/◌, ◌≤◌, ◌<◌}
 use mathlib.Core.Path.{◌≡◌, refl, sym, ◌∙◌, ap, ap₂}
 use mathlib.Core.Bool.{Bool, true, false}
 use mathlib.Core.List.{List, [], ◌∷◌}
@@ -46,7 +46,7 @@ prefixes-refuse bits p = refuses-pick _ _ _ (refuses-then _ _ (list-refuses p) (
 along-refuses : (size : ℕ) (g : List ℕ) (class : ℕ) (items : List Item) → Refuses NotDone (class_along size g class items)
 unfolding class_along
 along-refuses size g class [] = value
-along-refuses size g class (x ∷ xs) = refuses-pick _ _ _ (along-refuses size g _ xs) (number (λ e. omega arith))
+along-refuses size g class (x ∷ xs) = refuses-pick _ _ _ (along-refuses size g (pick (holds_sized size (item_field 0 x) g) SSM class) xs) (number (λ e. omega arith))
 
 within-refuses : (size : ℕ) (p g : List ℕ) → Refuses NotDone (class_within size p g)
 unfolding class_within
@@ -130,7 +130,7 @@ along-is size g class [] = refl
 along-is size g class (x ∷ xs) =
     let later : Bool = some_item (λ y. holds_sized size (item_field 0 y) g) xs in
     tested (good_item (8 * size) x)
-    (λ t. pick_true _ _ _ t ∙ along-is size g _ xs
+    (λ t. pick_true _ _ _ t ∙ along-is size g (pick (holds_sized size (item_field 0 x) g) SSM class) xs
     ∙ rw t (ap (λ (n : ℕ). pick (every_item (good_item (8 * size)) xs) (given n) (refused RANGE)) (told-so-far (holds_sized size (item_field 0 x) g) later class)))
     (λ f. pick-false _ _ _ f ∙ rw f)
 
