@@ -5,7 +5,7 @@ use mathlib.Core.Bool.{true}
 use mathlib.Core.List.{List}
 use Rattle.octets.specs.Outcome.{Outcome, given, refused}
 use Rattle.octets.proofs.Outcome.{given-same, passed}
-use Rattle.octets.specs.Lists.{Among, first}
+use Rattle.octets.specs.Lists.{Among}
 use Rattle.routes.specs.Route.{Route, nlri_of}
 use Rattle.routes.specs.Query.{Query}
 use Rattle.routes.specs.Asked.{asked_router}

@@ -136,6 +136,7 @@ distinct-all afi calls = distinct-gathered afi calls (once-once-each (routers_of
 lookup-gathered-own : (afi : ℕ) (router nlri : List ℕ) (routers : List (List ℕ)) (calls : List Call) → originator_of afi nlri ≡ owner router → Among router routers
     → lookup nlri (gathered afi routers calls) ≡ lookup nlri (book_of afi router calls)
 unfolding gathered
+lookup-gathered-own afi router nlri [] calls own m = elim m [ ]
 lookup-gathered-own afi router nlri (other ∷ routers) calls own m =
     ⊎_elim
     (λ p.

@@ -97,6 +97,7 @@ length-removed-held nlri (q ∷ rs) h =
 
 module _ {afi : ℕ} where
   pub acceptable-member : {r : Route} {rs : List Route} → AllAcceptable afi rs → Among r rs → acceptable afi r ≡ true
+  acceptable-member AllAcceptable.none m = elim m [ ]
   acceptable-member (AllAcceptable.one h a) (first e) = rw e h
   acceptable-member (AllAcceptable.one h a) (later m) = acceptable-member a m
 

@@ -182,6 +182,7 @@ member-held {r} (first {y = q} {ys = rs} e) h = held-absent (lookup_first (nlri_
 member-held {r} (later {y = q} {ys = rs} m) h = lookup-cases (nlri_of r) q rs (λ t e. held-absent e h) (λ f e. member-held m (sym e ∙ h))
 
 pub lookup-of-member : {r : Route} {rs : List Route} → Distinct rs → Among r rs → lookup (nlri_of r) rs ≡ held r
+lookup-of-member {r} none m = elim m [ ]
 lookup-of-member {r} (one {r = q} {rs = rs} h d) (first e) = rw e (lookup-own q rs)
 lookup-of-member {r} (one {r = q} {rs = rs} h d) (later m) = lookup-cases (nlri_of r) q rs (λ t e. absurd (member-held m (rw t h))) (λ f e. e ∙ lookup-of-member d m)
 

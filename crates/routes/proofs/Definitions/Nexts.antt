@@ -26,6 +26,7 @@ next-later n r rs h = pick-false _ _ _ h
 
 -- increasing routes all come after the previous NLRI
 pub increasing-after : {p : List ℕ} {rs : List Route} {u : Route} → Increasing p rs → Among u rs → before p (nlri_of u) ≡ true
+increasing-after last m = elim m [ ]
 increasing-after (next b i) (first e) = rw e b
 increasing-after {p} {u = u} (next {r = r} b i) (later m) = before-then p (nlri_of r) (nlri_of u) b (increasing-after i m)
 

@@ -54,6 +54,7 @@ names_of (r ∷ rs) = nlri_of r ∷ names_of rs
 
 names-held : {nlri : List ℕ} (rs : List Route) → Among nlri (names_of rs) → holds nlri rs ≡ true
 unfolding names_of
+names-held {nlri} [] m = elim m [ ]
 names-held {nlri} (r ∷ rs) m =
     lookup-cases nlri r rs (λ t e. holds-held nlri (r ∷ rs) r e)
     (λ f e. holds-alike nlri (r ∷ rs) rs e ∙ names-held rs (⊎_elim (λ is. absurd (opposite (same-of-equal nlri (nlri_of r) is) f)) (λ a. a) (among_cases m)))

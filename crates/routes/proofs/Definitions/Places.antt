@@ -198,13 +198,13 @@ pub from-acceptable : (afi : ℕ) (previous : List ℕ) (count : ℕ) (s : List 
 unfolding places_sound routes_from
 from-acceptable afi previous zero s h = none
 from-acceptable afi previous (suc count) s h =
-    one (sound-acceptable afi (take PLACE s) (both-true-left _ _ h)) (from-acceptable afi _ count (drop PLACE s) (both-true-right _ _ (both-true-right _ _ h)))
+    one (sound-acceptable afi (take PLACE s) (both-true-left _ _ h)) (from-acceptable afi (nlri_of (route_in (take PLACE s))) count (drop PLACE s) (both-true-right _ _ (both-true-right _ _ h)))
 
 pub increasing-routes_from : (afi : ℕ) (previous : List ℕ) (count : ℕ) (s : List ℕ) → places_sound afi previous count s ≡ true → Increasing previous (routes_from count s)
 unfolding places_sound routes_from
 increasing-routes_from afi previous zero s h = last
 increasing-routes_from afi previous (suc count) s h =
-    next (both-true-left _ _ (both-true-right _ _ h)) (increasing-routes_from afi _ count (drop PLACE s) (both-true-right _ _ (both-true-right _ _ h)))
+    next (both-true-left _ _ (both-true-right _ _ h)) (increasing-routes_from afi (nlri_of (route_in (take PLACE s))) count (drop PLACE s) (both-true-right _ _ (both-true-right _ _ h)))
 
 -- sound places are those of their routes, then zeros
 pub from_places : (afi : ℕ) (previous : List ℕ) (count : ℕ) (s : List ℕ) → 128 * count ≤ length s → places_sound afi previous count s ≡ true
@@ -217,7 +217,7 @@ from_places afi previous zero s l h = all-zeros s h ∙ ap zeros (none-taken (le
 from_places afi previous (suc count) s l h =
     let d : length (drop PLACE s) ≡ length s - 128 = length-drop PLACE s in
     let here : take PLACE s ≡ place_of (route_in (take PLACE s)) = sound-place afi (take PLACE s) (length-take-le PLACE s (omega arith)) (both-true-left _ _ h) in
-    let later = from_places afi _ count (drop PLACE s) (omega arith) (both-true-right _ _ (both-true-right _ _ h)) in
+    let later = from_places afi (nlri_of (route_in (take PLACE s))) count (drop PLACE s) (omega arith) (both-true-right _ _ (both-true-right _ _ h)) in
     let left : length (drop PLACE s) - 128 * count ≡ length s - 128 * suc count = omega arith in
     sym (take-append-drop PLACE s) ∙ ap₂ (λ (x y : List ℕ). x ++ y) here (later ∙ ap (λ (k : ℕ). places_of (routes_from count (drop PLACE s)) ++ zeros k) left)
     ∙ sym (append_assoc (place_of (route_in (take PLACE s))) (places_of (routes_from count (drop PLACE s))) (zeros (length s - 128 * suc count)))

@@ -17,7 +17,7 @@ use Rattle.octets.proofs.Choice.{pick_true, pick-false, tested}
 use Rattle.octets.proofs.NetworkOrder.{length-big_endian}
 use Rattle.octets.proofs.Orders.{before-none}
 use Rattle.routes.specs.Route.{Route, nlri_of, held, absent, lookup, holds, inserted, arranged, Increasing}
-use Rattle.routes.specs.Place.{route_in, acceptable, place_sound, AllAcceptable, none}
+use Rattle.routes.specs.Place.{route_in, place_sound, AllAcceptable, none}
 use Rattle.routes.specs.Rules.ArgumentRules.{KnownFamily}
 use Rattle.routes.specs.Rules.Images.{Holdable}
 use Rattle.routes.specs.Salvage.{place_at, good_of, kept_routes, BAD, REPEATED, reason_of, reason_at, Dropped, dropped, dropped_of, dropped_octets, list_of}

@@ -44,6 +44,8 @@ tier-most (group_equal s g asm) = omega arith
 tier-most (both_wildcard s g) = omega arith
 
 tier-allowed : {afi : ℕ} {flow : Flow} {tier : ℕ} {f : Fields} → InTier afi flow tier f → RuledOut afi flow.prefixes flow.group tier → ⊥
+tier-allowed (both_equal s g) r = elim r [ ]
+tier-allowed (both_wildcard s g) r = elim r [ ]
 tier-allowed (source_equal s g ssm) (any_group h) = h ssm
 tier-allowed (group_equal s g asm) (any_source h) = asm h
 

@@ -14,7 +14,7 @@ use Rattle.octets.proofs.Among.{among_none, among-left, among-right, among-each-
 use Rattle.routes.specs.Route.{Route, Distinct}
 use Rattle.routes.specs.Query.{Wanted, Query}
 use Rattle.routes.specs.Matching.{eligible, distinguisher_of, Found, nothing, found, match_in}
-use Rattle.routes.specs.OnePass.{tier_from, ahead, against, better, scanned}
+use Rattle.routes.specs.OnePass.{tier_of, tier_from, ahead, against, better, scanned}
 use Rattle.routes.proofs.Definitions.Matching.Lowest.{Least}
 use Rattle.routes.proofs.Definitions.Matching.First.{First, nowhere, here, past, first_range, first-is, first-unique}
 
@@ -90,7 +90,7 @@ scanned-goes : (afi : ℕ) (q : Query) (best : Found) (seen rs : List Route) →
 unfolding scanned
 scanned-goes afi q best seen [] f = rw append-nil f
 scanned-goes afi q best seen (r ∷ rs) f =
-    rw (append_assoc seen (r ∷ []) rs) at (scanned-goes afi q _ (seen ++ (r ∷ [])) rs (better-goes afi q.router r seen f (λ e. omega arith)))
+    rw (append_assoc seen (r ∷ []) rs) at (scanned-goes afi q (better afi (tier_of afi q r) r best) (seen ++ (r ∷ [])) rs (better-goes afi q.router r seen f (λ e. omega arith)))
 
 first-none : (afi : ℕ) (router : List ℕ) (tier : ℕ) (ws : List Wanted) → First afi router [] tier ws nothing
 first-none afi router tier [] = nowhere

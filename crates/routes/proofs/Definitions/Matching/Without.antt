@@ -6,7 +6,6 @@ use mathlib.Core.List.{List, [], ◌∷◌, ◌++◌, append_assoc}
 use mathlib.Core.Logic.{◌⊎◌, inl, inr, ⊎_elim}
 use Rattle.octets.specs.Choice.{both}
 use Rattle.octets.specs.Outcome.{given}
-use Rattle.octets.specs.Order.{same}
 use Rattle.octets.specs.Lists.{PutIn, front, behind, chosen}
 use Rattle.octets.proofs.Choice.{opposite, tested, pick_true, pick-false, pick-case, both_true, both_left, both_right, both-held}
 use borrow.Author.Tests.{not-false}
