@@ -1,7 +1,7 @@
 -- What is written by the family of a type is document 01's: type by type, by computing both. And what it is by the writer's tests.
 use mathlib.Core.Path.{◌≡◌, refl, sym, ◌∙◌, ap, subst}
 use mathlib.Core.Bool.{Bool, true, false}
-use mathlib.Core.List.{List, [], ◌∷◌, ◌++◌, append-nil, append_assoc}
+use mathlib.Core.List.{List, [], ◌++◌, append-nil, append_assoc}
 use Prim.Native.Nat.{ℕ, ◌+◌, ◌*◌, ◌≤◌, ◌<◌}
 use native.Mathlib.Omega.{arith}
 use borrow.Author.Tests.{eqb-true, eqb-false, eq-eqb, ne_eqb, lt-ltb, le-ltb}
@@ -17,7 +17,7 @@ use Rattle.nlri.specs.declared.fields.Nlri.{Nlri}
 use Rattle.nlri.specs.Family.{family_bits, allowed, is_originator_size}
 use Rattle.nlri.specs.Bodies.{KnownType, to_seven, mldp_s_pmsi, mldp_leaf, mldp_source_tree_join, bodies, on_body, body_of, code_of, same_kind, has_field}
 use Rattle.nlri.specs.Fields.{Fields, encode_address, encode_field, encode_body, encode_nlri, is_discarded}
-use Rattle.nlri.specs.Writing.{width_fits, widths_fit, fec_number, is_long, is_key, key_fits, keys_fit, write_nlri}
+use Rattle.nlri.specs.Writing.{width_fits, widths_fit, fec_number, is_long, key_fits, keys_fit, write_nlri}
 use Rattle.nlri.specs.Answers.{address_octets}
 use Rattle.nlri.specs.Inner.{with_key, with_fec}
 use Rattle.nlri_writing.specs.Inner.{in_order, write_under, framed, front_octets, flow_octets, end_octets, body_with, leaf_body, originator_fits, flow_body, addresses_fit, i_pmsi_written, flow_written, fec_written, leaf_written}
