@@ -1,16 +1,13 @@
 -- States whose source and group have a size that is known: where the next one starts, and how the end of a source tells it from another.
 use Prim.Native.Nat.{ℕ, ◌+◌, ◌*◌, ◌-◌, ◌≤◌}
-use mathlib.Core.Path.{◌≡◌, refl, sym, ◌∙◌, ap, ap₂}
-use mathlib.Core.Bool.{Bool, true, false}
+use mathlib.Core.Path.{◌≡◌, sym, ◌∙◌, ap, ap₂}
+use mathlib.Core.Bool.{true, false}
 use mathlib.Core.List.{List, ◌++◌}
 use native.Mathlib.Omega.{arith}
 use borrow.Author.Tests.{eqb-true, leb-true}
 use lib.ListN.{length, take, drop, length-drop}
 use lib.Seq.{drop-drop, drop_at, take_all}
-use lib.Dec.{eqb}
-use Rattle.octets.specs.Choice.{both}
 use Rattle.octets.specs.Octets.{part, low_first}
-use Rattle.octets.specs.Order.{same}
 use Rattle.octets.proofs.Choice.{both-true-left, both-true-right, both_left}
 use Rattle.octets.proofs.Lists.{length_part, part_then}
 use Rattle.octets.proofs.Orders.{unequal-other}
