@@ -9,6 +9,7 @@ use lib.Seq.{drop-drop}
 use Rattle.octets.specs.Octets.{part}
 use Rattle.octets.proofs.Choice.{both-true-left, both-true-right}
 use Rattle.octets.proofs.Lists.{length_part}
+use Rattle.routes.specs.Route.{nlri_of}
 use Rattle.routes.specs.Place.{end_in, route_in, place_sound}
 use Rattle.routes.specs.Table.{afi_in, count_in, places_in, routes_from, routes_of, places_sound, sound_of}
 use Rattle.routes.proofs.Statements.Images.{sound}
@@ -34,7 +35,7 @@ sound-index afi previous i zero s h e = absurd (omega arith)
 sound-index afi previous zero (suc count) s h e = both-true-left _ _ e
 sound-index afi previous (suc i) (suc count) s h e =
     ap (λ (x : List ℕ). place_sound afi (take 128 x)) (sym (next_place i s))
-    ∙ sound-index afi _ i count (drop 128 s) (omega arith) (both-true-right _ _ (both-true-right _ _ e))
+    ∙ sound-index afi (nlri_of (route_in (take 128 s))) i count (drop 128 s) (omega arith) (both-true-right _ _ (both-true-right _ _ e))
 
 place-part : (i : ℕ) (t : List ℕ) → take 128 (drop (128 * i) (drop 8 t)) ≡ part t (8 + 128 * i) 128
 unfolding part

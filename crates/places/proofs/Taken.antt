@@ -12,6 +12,7 @@ use Rattle.octets.proofs.Choice.{both-true-left, both-true-right}
 use Rattle.octets.proofs.Outcome.{given-otherwise, passed, given-same}
 use Rattle.octets.proofs.Lists.{length_part}
 use Rattle.tunnel.specs.Attribute.{AttributeFields, fields_in, read_attribute}
+use lib.ListN.{take}
 use Rattle.routes.specs.Route.{nlri_of, attribute_of}
 use Rattle.routes.specs.Arguments.{read_labelled}
 use Rattle.routes.specs.Place.{end_in, route_in, place_sound}
@@ -77,7 +78,7 @@ places-taken afi previous (suc count) t at h l zero some =
 places-taken afi previous (suc count) t at h l (suc k) some =
     let e : at + 128 + 128 * k ≡ at + 128 * suc k = omega arith in
     let later = both-true-right _ _ (both-true-right _ _ h) in
-    subst (Taken afi t) e (places-taken afi _ count t (at + 128) (ap (places_sound afi _ count) (sym (drop-drop 128 at t)) ∙ later) (omega arith) k (omega arith))
+    subst (Taken afi t) e (places-taken afi (nlri_of (route_in (take 128 (drop at t)))) count t (at + 128) (ap (places_sound afi _ count) (sym (drop-drop 128 at t)) ∙ later) (omega arith) k (omega arith))
 
 -- those of a sound table
 pub table_taken : (t : List ℕ) → sound_of t ≡ true → (k : ℕ) → k < count_in t → Taken (afi_in t) t (8 + 128 * k)
