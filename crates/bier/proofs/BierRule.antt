@@ -2,7 +2,7 @@
 use Prim.Native.Nat.{ℕ, ◌≤◌}
 use mathlib.Core.Path.{◌≡◌, refl, sym, ap, subst, ◌∙◌}
 use mathlib.Core.List.{List}
-use mathlib.Core.Logic.{◌⊎◌, ⊎_elim}
+use mathlib.Core.Logic.{⊎_elim}
 use native.Mathlib.Omega.{arith}
 use borrow.Author.Tests.{ltb-true, ltb-false, lt-ltb, le-ltb}
 use lib.ListN.{length, get_or, take}
@@ -15,7 +15,6 @@ use Rattle.octets.proofs.Outcome.{given-same, and-goes-on, and-stops, passed, st
 use Rattle.octets.proofs.Answering.{answering}
 use Rattle.octets.proofs.Lists.{length_front, take-front, past-front}
 use Rattle.lists.proofs.Items.{read-list-pairs}
-use Rattle.routes.specs.Route.{route}
 use Rattle.bier.specs.declared.Egress.{Egress}
 use Rattle.bier.specs.BitStrings.{string_of, ones_of}
 use Rattle.bier.specs.LeafRoutes.{Leaf, read_leaves, read_leaf_list, counting_ids}

@@ -1,13 +1,12 @@
 -- An NLRI of one type: read, and why it is refused.
-use Prim.Native.Nat.{ℕ, ◌-◌}
+use Prim.Native.Nat.{ℕ}
 use mathlib.Core.Path.{◌≡◌, sym, ap, subst, ◌∙◌}
 use mathlib.Core.List.{List}
-use mathlib.Core.Logic.{◌⊎◌, ⊎_elim}
+use mathlib.Core.Logic.{⊎_elim}
 use native.Mathlib.Omega.{arith}
 use borrow.Author.Tests.{eqb-true, eqb-false, eq-eqb, ne_eqb}
 use Rattle.octets.specs.Numbers.{DONE}
 use Rattle.octets.specs.Outcome.{given, refused}
-use Rattle.octets.specs.Lists.{first}
 use Rattle.octets.proofs.Choice.{pick_true, pick-false}
 use Rattle.octets.proofs.Outcome.{given-same, and-goes-on, and-stops, passed, stopped, given-unless, refuses-unless, Refuses, value, number, refuses-pick, refuses-then, refuses-also}
 use Rattle.nlri.specs.Fields.{Fields}
