@@ -6,7 +6,6 @@ use native.Mathlib.Numerals.{add-one}
 use native.Mathlib.Omega.{arith}
 use lib.ListN.{length, get_or, take, drop, set, length-take, length-drop, drop_of_length-le, get_or-append}
 use lib.Seq.{take-suc, drop-cons, append_snoc, set_at, take_all, get_or-take, get_or-drop, get_or-append-add, length-take-le, take-take, take_at, drop-drop, drop-length}
-use Rattle.octets.specs.Octets.{placed}
 use Rattle.octets.specs.Order.{zeros}
 use Rattle.octets.proofs.Lists.{drop-taken}
 

@@ -5,4 +5,4 @@ use Rattle.changes.proofs.change.close_gap.Goals as goal
 pub returns : goal.returns
 returns c =
     let m = c.move_down in
-    gap-closed 128 c.args.tail.now m.new.tail c.clear.new.octets c.requires m.auto.0 m.ensures c.clear.ensures
+    gap-closed 128 c.args.tail.now m.new.tail c.clear.new.octets c.requires m.auto.tail m.ensures c.clear.ensures

@@ -1,5 +1,4 @@
 -- `changes::change::move_down` meets its contract.
-use Prim.Native.Nat.{◌-◌}
 use native.Mathlib.Omega.{arith}
 use borrow.Author.Rules.{rules}
 use Rattle.changes.proofs.Moves.{down-next, down-last}
