@@ -1,0 +1,29 @@
+-- `table::restarting::settle` meets its contract.
+use Rattle.table.proofs.RenewCalls.{settled-other, settled-gone, settled-marked}
+use Rattle.table.proofs.restarting.settle.Goals as goal
+
+pub is_of-requires : goal.is_of-requires
+is_of-requires c = rw c.nlri_from.ensures c.requires.1.bounded
+
+pub returns-then-not-is_of : goal.returns-then-not-is_of
+returns-then-not-is_of c =
+    let a = c.args in
+    let both = settled-other a.mark a.router.now a.table.now _ a.at a.to _ c.nlri_from.ensures
+    c.is_of.ensures c.if-not-is_of.true _ c.keep.ensures in
+    record { value = both.0; table_after = both.1 }
+
+pub returns-then-table-at-eq-STALE : goal.returns-then-table-at-eq-STALE
+returns-then-table-at-eq-STALE c =
+    let a = c.args in
+    let both = settled-gone a.mark a.router.now a.table.now _ a.at a.to _ c.nlri_from.ensures
+    c.is_of.ensures c.if-not-is_of.false c.if-table-at-eq-STALE.true in
+    record { value = both.0; table_after = both.1 }
+
+pub returns : goal.returns
+returns c =
+    let a = c.args in
+    let both = settled-marked a.mark a.router.now a.table.now _ a.at a.to _
+    c.nlri_from.ensures c.is_of.ensures
+    c.if-not-is_of.false c.if-table-at-eq-STALE.false _
+    c.keep_marked.ensures in
+    record { value = both.0; table_after = both.1 }
