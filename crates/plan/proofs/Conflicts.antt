@@ -2,7 +2,7 @@
 use mathlib.Core.Path.{◌≡◌, refl, sym, ap, ◌∙◌, subst}
 use mathlib.Core.Bool.{Bool, true, false, not}
 use mathlib.Core.List.{List, [], ◌∷◌}
-use mathlib.Core.Logic.{◌⊎◌, ⊎_elim}
+use mathlib.Core.Logic.{⊎_elim}
 use Rattle.octets.specs.Choice.{both}
 use Rattle.octets.specs.Order.{same}
 use Rattle.octets.specs.Lists.{Among, first, later}
@@ -30,6 +30,7 @@ clash f (g ∷ fs) h =
 
 no-clash : (f : ListedFlow) (fs : List ListedFlow) → clashes f fs ≡ false → (g : ListedFlow) → Among g fs → SameFlow f g → f.wanted ≡ g.wanted
 unfolding clashes
+no-clash f [] n g m s = elim m [ ]
 no-clash f (k ∷ fs) n g (first e) s =
     let at : both (same_flow f g) (not (same f.wanted g.wanted)) ≡ false = rw e (either-false-left _ _ n) in
     tested (same f.wanted g.wanted)

@@ -3,7 +3,7 @@ use Prim.Native.Nat.{ℕ, zero, suc, ◌+◌, ◌≤◌}
 use mathlib.Core.Path.{◌≡◌, refl, sym, ap, ◌∙◌, subst}
 use mathlib.Core.Bool.{true, false}
 use mathlib.Core.List.{List, [], ◌∷◌}
-use mathlib.Core.Logic.{◌⊎◌, ◌≢◌, ⊎_elim}
+use mathlib.Core.Logic.{◌≢◌, ⊎_elim}
 use native.Mathlib.Omega.{arith}
 use lib.ListN.{length}
 use borrow.Author.Tests.{ltb-true, ltb-false}
@@ -37,6 +37,7 @@ wanted_by a (f ∷ fs) h =
 -- what one of them wants is wanted
 pub wants-some : (fs : List ListedFlow) (f : ListedFlow) → Among f fs → 1 ≤ wanting f.wanted fs
 unfolding wanting pick
+wants-some [] f m = elim m [ ]
 wants-some (g ∷ fs) f (first e) = rw (same-of-equal g.wanted f.wanted (ap (λ (x : ListedFlow). x.wanted) (sym e))) (omega arith)
 wants-some (g ∷ fs) f (later m) =
     let h = wants-some fs f m in
@@ -74,12 +75,14 @@ listed-one f (g ∷ fs) h =
 
 pub unlisted : (f : ListedFlow) (fs : List ListedFlow) → is_listed f fs ≡ false → (g : ListedFlow) → Among g fs → SameFlow f g → ⊥
 unfolding is_listed
+unlisted f [] n g m s = elim m [ ]
 unlisted f (h ∷ fs) n g (first e) s = opposite (flow-same f g s) (rw (← e) at (either-false-left _ _ n))
 unlisted f (h ∷ fs) n g (later m) s = unlisted f fs (either-false-right _ _ n) g m s
 
 -- the different flows are among the flows
 pub different-among : (fs : List ListedFlow) (f : ListedFlow) → Among f (different fs) → Among f fs
 unfolding different pick
+different-among [] f m = elim m [ ]
 different-among (g ∷ fs) f m =
     tested (is_listed g fs)
     (λ t. later (different-among fs f (rw t at m)))
@@ -122,6 +125,7 @@ different-apart (f ∷ fs) =
 
 pub others-among : (a : List ℕ) (fs : List ListedFlow) (f : ListedFlow) → Among f (others a fs) → Among f fs × (f.wanted ≡ a → ⊥)
 unfolding others pick
+others-among a [] f m = elim m [ ]
 others-among a (g ∷ fs) f m =
     tested (same g.wanted a)
     (λ t. let r = others-among a fs f (rw t at m) in (later r.0, r.1))
@@ -133,6 +137,7 @@ others-among a (g ∷ fs) f m =
 
 pub among-others : (a : List ℕ) (fs : List ListedFlow) (f : ListedFlow) → Among f fs → same f.wanted a ≡ false → Among f (others a fs)
 unfolding others pick
+among-others a [] f m n = elim m [ ]
 among-others a (g ∷ fs) f (first e) n = rw (rw e at n) (first e)
 among-others a (g ∷ fs) f (later m) n =
     let h = among-others a fs f m n in
@@ -153,6 +158,7 @@ record Without (f : ListedFlow) (es : List ListedFlow) : Type 0 where
   kept : (g h : ListedFlow) → Among h es → SameFlow g h → (SameFlow f g → ⊥) → (k : ListedFlow) × Among k rest × SameFlow g k
 
 without : (f : ListedFlow) (es : List ListedFlow) (h : ListedFlow) → Among h es → SameFlow f h → Without f es
+without f [] h m s = elim m [ ]
 without f (k ∷ es) h (first e) s =
     record {
       rest = es;

@@ -36,7 +36,7 @@ among-listed none f m = absurd (among_none m)
 among-listed (one t) f (first e) = first (ap (λ (g : ListedFlow). g.source ∷ (g.group ∷ (g.wanted ∷ []))) e)
 among-listed (one t) f (later m) = later (among-listed t f m)
 
-pub listed-among : {items : List Item} (source group wanted : List ℕ) → Listed source group wanted items → Among (flow_by source group wanted) (flows_in items)
+pub listed-among : (source group wanted : List ℕ) {items : List Item} → Listed source group wanted items → Among (flow_by source group wanted) (flows_in items)
 unfolding flows_in flow_in item_field
 listed-among source group wanted (first e) = first (ap (λ (x : Item). flow_by (get_or x 0 []) (get_or x 1 []) (get_or x 2 [])) e)
 listed-among source group wanted (later m) = later (listed-among source group wanted m)

@@ -41,6 +41,7 @@ own afi vrf r = (
 
 all_own_lem : (afi : ℕ) (vrf : Vrf) (rs : List Route) → all_own afi vrf rs ≡ true → (r : Route) → Among r rs → Own afi vrf r
 unfolding all_own
+all_own_lem afi vrf [] h r m = elim m [ ]
 all_own_lem afi vrf (q ∷ rs) h r (first e) = rw e ((own afi vrf q).0 (both-held _ _ h).0)
 all_own_lem afi vrf (q ∷ rs) h r (later m) = all_own_lem afi vrf rs (both-held _ _ h).1 r m
 
@@ -62,6 +63,7 @@ not-repeats (Distinct.one h d) = pick-false _ _ _ (holds-absent _ _ h) ∙ not-r
 -- an NLRI that is absent is that of no route
 absent-other : (nlri : List ℕ) (rs : List Route) → lookup nlri rs ≡ absent → (q : Route) → Among q rs → nlri ≡ nlri_of q → ⊥
 unfolding lookup
+absent-other nlri [] h q m n = elim m [ ]
 absent-other nlri (u ∷ rs) h q (first e) n = held-absent refl (sym (pick_true _ _ _ (same-of-equal _ _ (n ∙ ap nlri_of e))) ∙ h)
 absent-other nlri (u ∷ rs) h q (later m) n = pick-case (λ (l : Held). l ≡ absent → ⊥) _ (held u) (lookup nlri rs) (λ t z. held-absent refl z) (λ f z. absent-other nlri rs z q m n) h
 
@@ -101,6 +103,7 @@ module _ (afi : ℕ) (vrf : Vrf) (rs : List Route) (distinct : Distinct rs) wher
 
   all-served : (fs : List ListedFlow) → ((f : ListedFlow) → Among f fs → GoodFlow afi (asking vrf f)) → all_served afi vrf rs fs ≡ true → (f : ListedFlow) → Among f fs → ServedFlow f
   unfolding all_served
+  all-served [] good h f m = elim m [ ]
   all-served (g ∷ fs) good h f (first e) = subst ServedFlow (sym e) ((served g (good g (first refl))).0 (both-held _ _ h).0)
   all-served (g ∷ fs) good h f (later m) = all-served fs (λ k n. good k (later n)) (both-held _ _ h).1 f m
 

@@ -57,7 +57,7 @@ module _ (afi : ℕ) (vrf : Vrf) where
       ⊎_elim {C = (h : ListedFlow) × Among h (f ∷ es) × (u ≡ route_for vrf h)}
       (λ e. (f, first refl, e)) (λ k. let r = route-of es u k in (r.0, later r.1, r.2)) (among_cases m)
 
-  member-route : {es : List ListedFlow} (h : ListedFlow) → Among h es → Among (route_for vrf h) (routes_for vrf es)
+  member-route : (h : ListedFlow) {es : List ListedFlow} → Among h es → Among (route_for vrf h) (routes_for vrf es)
   unfolding routes_for
   member-route h (first e) = first (ap (route_for vrf) e)
   member-route h (later m) = later (member-route h m)

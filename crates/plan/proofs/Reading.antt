@@ -14,7 +14,7 @@ use Rattle.octets.proofs.Choice.{opposite, is_true, picked, pick_true, pick-fals
 use Rattle.octets.proofs.Outcome.{given-same, given-unless, refused-same, refuses-unless, and-goes-on, and-stops, passed, stopped}
 use Rattle.lists.specs.LentLists.{Item, list_count}
 use Rattle.lists.proofs.Items.{read-list-refused}
-use Rattle.groups.specs.Rules.ClassRule.{PrefixRefusal, too_many, ends_short, bad_prefix, UnderRefusal, other_family, refused_prefixes}
+use Rattle.groups.specs.Rules.ClassRule.{PrefixRefusal, too_many, bad_prefix, UnderRefusal, other_family, refused_prefixes}
 use Rattle.groups.proofs.Theorems.{class_rule}
 use Rattle.plan.specs.Flows.{Vrf, ListedFlow, flows_in}
 use Rattle.plan.specs.Refusing.{flows_fault, read_flows}

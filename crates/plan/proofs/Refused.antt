@@ -36,6 +36,7 @@ use Rattle.plan.proofs.OrderedRefusals.{Step, next-is, stays, goes_on, next-done
 -- a test of every flow
 first_done : (fault : ListedFlow → ℕ) (fs : List ListedFlow) → first_flow_fault fault fs ≡ DONE → (f : ListedFlow) → Among f fs → fault f ≡ DONE
 unfolding first_flow_fault
+first_done fault [] h f m = elim m [ ]
 first_done fault (g ∷ fs) h f (first e) = rw e ((next-done (fault g) (first_flow_fault fault fs)).0 h).0
 first_done fault (g ∷ fs) h f (later m) = first_done fault fs ((next-done (fault g) (first_flow_fault fault fs)).0 h).1 f m
 

@@ -14,7 +14,7 @@ use Rattle.octets.specs.Outcome.{Outcome, given, refused, on_outcome, number_of}
 use Rattle.octets.specs.Octets.{AllOctets, part, front}
 use Rattle.octets.specs.Order.{same}
 use Rattle.octets.specs.Rules.Answering.{Answering}
-use Rattle.octets.specs.Lists.{Among, first}
+use Rattle.octets.specs.Lists.{Among}
 use Rattle.octets.proofs.Choice.{tested, opposite, both_true, both_left, pick_true, pick-false}
 use Rattle.octets.proofs.Outcome.{given-unless, refuses-unless, and-goes-on, and-stops, passed, stopped}
 use Rattle.octets.proofs.Orders.{same-equal, same-of-equal}
@@ -31,7 +31,6 @@ use Rattle.routes.proofs.Definitions.Bounds.{read-acceptable}
 use Rattle.routes.proofs.Definitions.Places.{length-places, routes-from}
 use Rattle.routes.proofs.Statements.ArgumentRules.{argument_rule}
 use Rattle.plan.specs.Flows.{Vrf, ListedFlow, flow_in, flows_in}
-use Rattle.plan.specs.Commonest.{others}
 use Rattle.plan.specs.Judging.{sound_places}
 use Rattle.plan.specs.Planning.{proposal}
 use Rattle.plan.specs.Calls.{judged_by, judge_of, plan_outcome, planned_by, plan_of}

@@ -1,6 +1,6 @@
 -- A table that has the routes of an accepted proposal and no others: what a flow's match tells in it.
 use Prim.Native.Nat.{ℕ}
-use mathlib.Core.Path.{◌≡◌, sym, ap, ap₂, ◌∙◌}
+use mathlib.Core.Path.{◌≡◌, ap, ap₂, ◌∙◌}
 use mathlib.Core.List.{List}
 use mathlib.Core.Logic.{◌↔◌}
 use Rattle.octets.specs.Octets.{part}
@@ -18,7 +18,7 @@ use Rattle.routes.proofs.Statements.Taken.{taken-one, taken-among}
 use Rattle.routes.proofs.Theorems.{match_rule}
 use Rattle.plan.specs.Flows.{Vrf}
 use Rattle.plan.specs.Rules.FlowsRule.{Listed}
-use Rattle.plan.specs.Rules.JudgeRule.{Served, Accepted}
+use Rattle.plan.specs.Rules.JudgeRule.{Accepted}
 
 -- what is told is the route that is taken, and no other is
 told-taken : {afi tier : ℕ} {router output : List ℕ} {flow : Flow} {rs : List Route} {r : Route} {changed : Changed Matched} → Taken afi router (InTier afi flow) rs tier r
