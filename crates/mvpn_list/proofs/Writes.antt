@@ -5,6 +5,7 @@ use Prim.Native.Nat.{ℕ, ◌+◌, ◌≤◌}
 use native.Mathlib.Omega.{arith}
 use lib.ListN.{length, length-append, take, drop}
 use lib.Seq.{length-take-le}
+use Rattle.std.proofs.lemmas.Grind.{common_steps}
 use Rattle.octets.specs.Octets.{front}
 use Rattle.octets.specs.Outputs.{Put}
 use Rattle.octets.proofs.Lists.{front-is-placed}
@@ -32,3 +33,8 @@ front-within e d r o w = omega (arith, ap length w.1, length-append e (drop (len
 
 pub front-count : (e d : List ℕ) (r : ℕ) (o : List ℕ) → (r ≡ length e) × (o ≡ front e d) → r ≡ length (take r o)
 front-count e d r o w = sym (length-take-le r o (front-within e d r o w))
+
+-- what is taken of an output as far as its front was written is what was written
+pub front-taken : (e d : List ℕ) (r : ℕ) (o : List ℕ) → (r ≡ length e) × (o ≡ front e d) → take r o ≡ e
+unfolding front
+front-taken e d r o w = grind (arith, common_steps)

@@ -1,41 +1,26 @@
-// The run, from standard input. `io::read_full` does not tell an input that ends from one that cannot be read; here it is told.
-ghost use Rattle.std.specs.Prelude.{◌≤◌, length};
+// The run, as octets that a reader gives.
+ghost use Rattle.std.specs.Prelude.{ℕ, ◌<◌, length, take, IfOk, OnErr};
 ghost use Rattle.io.specs.Counts.{IsPrefixLen};
+ghost use Rattle.std.specs.Io.{ReadsAtMost};
+ghost use Rattle.std.specs.Io.KnownBytes.{Consumes, IsAtEnd};
 
-use libc::STDIN_FILENO;
+use std::io::{self, Read};
 
-// What was read: so many octets, and whether a read failed behind them.
-#[derive(Clone, Copy)]
-pub(crate) struct Input {
-    pub size: usize,
-    pub failed: bool,
-}
-
-// One read, into `run` from `at` on: how many octets came, 0 at the input's end, a negative number where it failed.
-fn read_once(run: &mut [u8], at: usize) -> isize
-    requires { at ≤ length run.old }
-{
-    libc::read(STDIN_FILENO, &mut run[at..])
-}
-
-// Reads until `run` is full, the input ends or a read fails.
-pub(crate) fn read(run: &mut [u8]) -> Input
-    ensures { IsPrefixLen result.size run.new }
+// Reads until `run` is full or the input ends, and answers how many octets came. A read that fails is not tried again; what came before it stands at
+// the front of `run` all the same.
+pub(crate) fn read<R: Read>(from: &mut R, run: &mut [u8]) -> io::Result<usize>
+    ensures size { ReadsAtMost result run.new }
+    ensures octets { IfOk result (λ size. Consumes (R.remaining from.old) (R.remaining from.new) (take size run.new)) }
+    ensures failed { OnErr result ((size : ℕ) × IsPrefixLen size run.new × Consumes (R.remaining from.old) (R.remaining from.new) (take size run.new)) }
+    ensures end { IfOk result (λ size. size < length run.new → IsAtEnd (R.remaining from.new)) }
 {
     let mut size = 0;
     while size < run.len() {
-        let got = read_once(run, size);
-        let count = io::count(got, &run[size..]);
+        let count = from.read(&mut run[size..])?;
         if count == 0 {
-            return Input {
-                size,
-                failed: got < 0,
-            };
+            return Ok(size);
         }
         size += count;
     }
-    Input {
-        size,
-        failed: false,
-    }
+    Ok(size)
 }

@@ -7,35 +7,55 @@ mod format;
 mod input;
 mod listing;
 
-use libc::STDOUT_FILENO;
+ghost use Rattle.std.specs.Prelude.{OnOk};
+ghost use Rattle.std.specs.Io.KnownBytes.{Appends};
+ghost use Rattle.mvpn_list.specs.Listing.{listing_of};
+
+use std::env::FillError;
+use std::io::{self, Write};
+use std::rt::Env;
 
 // One octet more than a run may have, so that a longer one is seen to be so.
 const SEEN: usize = 4097;
 
-// The mode asked. An argument that is longer than `old` is not taken.
-fn asked_mode() -> u32 {
-    let mut argument = [0u8; 3];
-    let size = os::arg(1, &mut argument);
-    arguments::mode_of(os::arg_count(), &argument[..size])
+// How many arguments there are, the program's own name among them.
+fn argument_count(rt: &impl Env) -> usize {
+    for at in 0..usize::MAX {
+        if let Err(FillError::NotPresent) = rt.arg(at, &mut []) {
+            return at;
+        }
+    }
+    usize::MAX
 }
 
-// Prints the listing of a run. It has at most 28,705 octets, so that the output's 65,536 suffice.
-fn print_listing(mode: u32, run: &[u8]) {
-    let mut output = io::large_buffer();
+// The mode asked. An argument that is longer than `old` is not taken.
+fn asked_mode(rt: &impl Env) -> u32 {
+    let mut argument = [0u8; 3];
+    let size = rt.arg(1, &mut argument).unwrap_or(0);
+    arguments::mode_of(argument_count(rt), &argument[..size])
+}
+
+// Writes the listing of a run. It has at most 28,705 octets, so that the output's 65,536 suffice.
+fn print_listing<W: Write>(to: &mut W, mode: u32, run: &[u8]) -> io::Result<()>
+    ensures { OnOk result (Appends (W.contents to.old) (W.contents to.new) (listing_of mode run.now)) }
+{
+    let mut output = [0u8; 65536];
     let end = listing::list(mode, run, &mut output);
-    if !io::write_all(STDOUT_FILENO, &output[..end]) {
-        os::fail(b"mvpn_list: standard output");
-    }
+    to.write_all(&output[..end])
 }
 
 // A run that cannot be read to its end has no listing: nothing is printed, and standard error has the reason.
-fn main() {
-    let mode = asked_mode();
+fn main(rt: HostRuntime) {
+    let mode = asked_mode(&rt);
     let mut run = [0u8; SEEN];
-    let read = input::read(&mut run);
-    if read.failed {
-        os::fail(b"mvpn_list: standard input");
-        return;
+    let size = match input::read(&mut rt.stdin(), &mut run) {
+        Ok(size) => size,
+        Err(error) => {
+            let _ = eprintln!(rt; "mvpn_list: standard input: {error}");
+            return;
+        }
+    };
+    if let Err(error) = print_listing(&mut rt.stdout(), mode, &run[..size]) {
+        let _ = eprintln!(rt; "mvpn_list: standard output: {error}");
     }
-    print_listing(mode, &run[..read.size]);
 }

@@ -1,67 +1,45 @@
 // The line that tells a call's answer: its name, the number, and the other fields.
-use libc::STDOUT_FILENO;
 use routes::{Installed, Matched};
-
-// Words of the line, as they are.
-fn text(words: &[u8]) {
-    io::write_all(STDOUT_FILENO, words);
-}
-
-// A number of the line, behind a blank.
-fn number(value: u32) {
-    text(b" ");
-    io::print_decimal(STDOUT_FILENO, value as u64);
-}
+use std::io;
 
 // A call that answers a number alone.
-pub(crate) fn plain(call: &[u8], value: u32) {
-    text(call);
-    number(value);
-    text(b"\n");
+pub(crate) fn plain(rt: &impl Print, call: &str, value: u32) -> io::Result<()> {
+    println!(rt; "{call} {value}")
 }
 
 // An install's answer: the number, and whether the route is new or replaced.
-pub(crate) fn installed(answer: Installed) {
-    text(b"install");
-    number(answer.number);
-    number(answer.outcome);
-    text(b"\n");
-}
-
-// An octet as the number that is printed.
-fn wide(octet: u8) -> u64 {
-    octet as u64
+pub(crate) fn installed(rt: &impl Print, answer: Installed) -> io::Result<()> {
+    println!(rt; "install {} {}", answer.number, answer.outcome)
 }
 
 // Octets in hexadecimal, two digits each.
-fn octets_of(s: &[u8]) {
-    let mut i = 0;
-    while i < s.len() {
-        io::print_hex(STDOUT_FILENO, wide(s[i]), 2);
-        i += 1;
+fn octets_of(rt: &impl Print, s: &[u8]) -> io::Result<()> {
+    for octet in s {
+        print!(rt; "{octet:02x}")?;
     }
+    Ok(())
 }
 
 // The first `size` octets of the output, where it has so many.
-fn route(size: usize, output: &[u8]) {
+fn route(rt: &impl Print, size: usize, output: &[u8]) -> io::Result<()> {
     if size <= output.len() {
-        octets_of(octets::parts::between(output, 0, size));
+        octets_of(rt, octets::parts::between(output, 0, size))?;
     }
+    Ok(())
 }
 
 // The route's octets, which stand at the front of the output, follow the sizes.
-pub(crate) fn matched(answer: Matched, output: &[u8]) {
-    text(b"match");
-    number(answer.number);
-    number(answer.tier);
-    number(answer.nlri_size);
-    number(answer.attribute_size);
-    if 0 < answer.tier {
-        text(b" ");
-        route(
-            answer.nlri_size as usize + answer.attribute_size as usize,
-            output,
-        );
+pub(crate) fn matched(rt: &impl Print, answer: Matched, output: &[u8]) -> io::Result<()> {
+    let Matched {
+        number,
+        tier,
+        nlri_size,
+        attribute_size,
+    } = answer;
+    print!(rt; "match {number} {tier} {nlri_size} {attribute_size}")?;
+    if 0 < tier {
+        print!(rt; " ")?;
+        route(rt, nlri_size as usize + attribute_size as usize, output)?;
     }
-    text(b"\n");
+    println!(rt; "")
 }

@@ -8,79 +8,119 @@ ghost use Rattle.std.specs.Prelude.{◌<◌, length};
 use crate::script::FIELD;
 use crate::{answer, script};
 use octets::parts::between;
+use std::io;
 
 // Each line in turn.
-pub(crate) fn run_all(text: &[u8], table: &mut [u8], output: &mut [u8]) {
+pub(crate) fn run_all(
+    rt: &impl Print,
+    text: &[u8],
+    table: &mut [u8],
+    output: &mut [u8],
+) -> io::Result<()> {
     let mut at = 0;
     while at < text.len() {
-        run(text, at, table, output);
+        run(rt, text, at, table, output)?;
         at = script::past(text, at, b'\n');
     }
+    Ok(())
 }
 
 // The call that a line's first word names: by the word's size, the space behind it included.
-fn run(text: &[u8], start: usize, table: &mut [u8], output: &mut [u8])
+fn run(
+    rt: &impl Print,
+    text: &[u8],
+    start: usize,
+    table: &mut [u8],
+    output: &mut [u8],
+) -> io::Result<()>
     requires { start < length text.now }
 {
     let at = script::past(text, start, b' ');
     let word = at - start;
     if word == 5 {
-        return make(text, at, table);
+        return make(rt, text, at, table);
     }
     if word == 6 {
-        return match_flow(text, at, table, output);
+        return match_flow(rt, text, at, table, output);
     }
-    change(text, word, at, table);
+    change(rt, text, word, at, table)
 }
 
 // An install, or else a withdrawal.
-fn change(text: &[u8], word: usize, at: usize, table: &mut [u8]) {
+fn change(
+    rt: &impl Print,
+    text: &[u8],
+    word: usize,
+    at: usize,
+    table: &mut [u8],
+) -> io::Result<()> {
     if word == 8 {
-        return install(text, at, table);
+        return install(rt, text, at, table);
     }
-    withdraw(text, at, table);
+    withdraw(rt, text, at, table)
 }
 
 // Makes the table anew, for an AFI of two octets.
-fn make(text: &[u8], at: usize, table: &mut [u8]) {
+fn make(rt: &impl Print, text: &[u8], at: usize, table: &mut [u8]) -> io::Result<()> {
     let mut afi = [0u8; 2];
     script::decode(text, at, &mut afi);
     answer::plain(
-        b"make",
+        rt,
+        "make",
         table::make(octets::wide::two(&afi, 0) as u16, table),
-    );
+    )
 }
 
 // Installs the NLRI and the attribute that the line gives.
-fn install(text: &[u8], at: usize, table: &mut [u8]) {
+fn install(rt: &impl Print, text: &[u8], at: usize, table: &mut [u8]) -> io::Result<()> {
     let mut nlri = [0u8; FIELD];
     let mut attribute = [0u8; FIELD];
     let nlri_size = script::decode(text, at, &mut nlri);
     let attribute_size = script::decode(text, script::past(text, at, b' '), &mut attribute);
-    answer::installed(table::install(
-        table,
-        between(&nlri, 0, nlri_size),
-        between(&attribute, 0, attribute_size),
-    ));
+    answer::installed(
+        rt,
+        table::install(
+            table,
+            between(&nlri, 0, nlri_size),
+            between(&attribute, 0, attribute_size),
+        ),
+    )
 }
 
 // Withdraws the NLRI that the line gives.
-fn withdraw(text: &[u8], at: usize, table: &mut [u8]) {
+fn withdraw(rt: &impl Print, text: &[u8], at: usize, table: &mut [u8]) -> io::Result<()> {
     let mut nlri = [0u8; FIELD];
     let size = script::decode(text, at, &mut nlri);
-    answer::plain(b"withdraw", table::withdraw(table, between(&nlri, 0, size)));
+    answer::plain(
+        rt,
+        "withdraw",
+        table::withdraw(table, between(&nlri, 0, size)),
+    )
 }
 
 // Reads the router, and goes on to the flow.
-fn match_flow(text: &[u8], at: usize, table: &[u8], output: &mut [u8]) {
+fn match_flow(
+    rt: &impl Print,
+    text: &[u8],
+    at: usize,
+    table: &[u8],
+    output: &mut [u8],
+) -> io::Result<()> {
     let mut router = [0u8; FIELD];
     let size = script::decode(text, at, &mut router);
     let next = script::past(text, at, b' ');
-    match_of(text, next, table, between(&router, 0, size), output);
+    match_of(rt, text, next, table, between(&router, 0, size), output)
 }
 
 // Reads source and group, and matches the flow among the router's routes.
-fn match_of(text: &[u8], at: usize, table: &[u8], router: &[u8], output: &mut [u8]) {
+fn match_of(
+    rt: &impl Print,
+    text: &[u8],
+    at: usize,
+    table: &[u8],
+    router: &[u8],
+    output: &mut [u8],
+) -> io::Result<()> {
     let mut source = [0u8; FIELD];
     let mut group = [0u8; FIELD];
     let source_size = script::decode(text, at, &mut source);
@@ -94,5 +134,5 @@ fn match_of(text: &[u8], at: usize, table: &[u8], router: &[u8], output: &mut [u
         between(&group, 0, group_size),
         output,
     );
-    answer::matched(answer, output);
+    answer::matched(rt, answer, output)
 }

@@ -6,7 +6,7 @@ mod answer;
 mod line;
 mod script;
 
-use libc::STDIN_FILENO;
+use std::io;
 
 // Octets of the script, of the memory for the table (five places), and of a match's output.
 const SCRIPT: usize = 8192;
@@ -16,10 +16,10 @@ const MEMORY: usize = 648;
 const OUTPUT: usize = places::output::LEAST_OUTPUT;
 
 // The table's memory holds no table at first, so that calls before the first `make` are refused.
-fn main() {
+fn main(rt: HostRuntime) -> io::Result<()> {
     let mut text = [0u8; SCRIPT];
     let mut table = [255u8; MEMORY];
     let mut output = [0u8; OUTPUT];
-    let size = io::read_full(STDIN_FILENO, &mut text);
-    line::run_all(&text[..size], &mut table, &mut output);
+    let size = script::read(&mut rt.stdin(), &mut text)?;
+    line::run_all(&rt, &text[..size], &mut table, &mut output)
 }

@@ -1,11 +1,29 @@
-// The fields of a line: octets in hexadecimal, two digits each.
+// The script as it is read, and the fields of a line: octets in hexadecimal, two digits each.
 ghost use Rattle.std.specs.Prelude.{◌+◌, ◌<◌, ◌≤◌, length};
+ghost use Rattle.std.specs.Io.{ReadsAtMost};
+
+use std::io::{self, Read};
 
 // The most octets of a field.
 pub(crate) const FIELD: usize = 80;
 
 // No digit, or no two digits.
 const NONE: u32 = 256;
+
+// Reads until `script` is full or the input ends, and answers how many octets came.
+pub(crate) fn read<R: Read>(from: &mut R, script: &mut [u8]) -> io::Result<usize>
+    ensures { ReadsAtMost result script.new }
+{
+    let mut size = 0;
+    while size < script.len() {
+        let count = from.read(&mut script[size..])?;
+        if count == 0 {
+            return Ok(size);
+        }
+        size += count;
+    }
+    Ok(size)
+}
 
 // The value of a hexadecimal digit in lower case.
 fn digit(c: u8) -> u32
