@@ -10,9 +10,10 @@
 #            calls     "FUNCTION CALLED", one line for each, and "FUNCTION" alone for one that calls none
 #            reaches   "NAME reaches FUNCTION", one line for each that a name of `from` gets to
 #
-# Rattle has no generics, no closures, no macros and no tuples, and every local gets its value from a parameter, a call, a
-# constant, a literal, a field or an operator. So the types of parameters, results, constants and fields, and the array and struct
-# literals of a body, are all that a local's type can be. What this reader does not know it reports: it takes nothing on trust.
+# The functions that are followed have no generics, no closures, no macros and no tuples, and every local gets its value from a
+# parameter, a call, a constant, a literal, a field or an operator. So the types of parameters, results, constants and fields, and the
+# array and struct literals of a body, are all that a local's type can be. What this reader does not know in them, and in the items of
+# their crates, it reports: it takes nothing on trust.
 
 function shows(what) { return index(" " show " ", " " what " ") }
 
@@ -30,7 +31,8 @@ FNR == 1 {
 module == "" && /^[a-z]/ {
     name = $1
     sub(/:$/, "", name)
-    uses[name] = " " substr($0, length($1) + 2) " "
+    sub(/^[^:]*:/, "")
+    uses[name] = " " $0 " "
 }
 
 module != "" {
@@ -38,17 +40,13 @@ module != "" {
     text[module] = text[module] $0 "\n"
 }
 
-# ---- tokens: token[module, i], 1 to count[module]. What stands between ⌜ and ⌝ is of the proof
+# ---- tokens: token[module, i], 1 to count[module]
 
 function tokens_of(m,    rest, i) {
     rest = text[m]
     while (rest != "") {
         if (match(rest, /^[ \t\n]+/)) {
             rest = substr(rest, RLENGTH + 1)
-            continue
-        }
-        if (index(rest, "⌜") == 1) {
-            rest = substr(rest, index(rest, "⌝") + length("⌝"))
             continue
         }
         if (!match(rest, /^(b?"[^"]*"|b'(\\.|[^'\\])'|[A-Za-z_][A-Za-z0-9_]*|[0-9][A-Za-z0-9_]*)/) &&
@@ -95,13 +93,28 @@ function declare(item, what, m, self, types, types_end, body, body_end) {
     last_body[item] = body_end
 }
 
-# A function, from its name at i: the place behind it.
+# The place behind the generic parameters at i, if there are any. The `>` of an arrow is a token with its `-`.
+function behind_generics(m, i,    depth) {
+    if (token[m, i] != "<") return i
+    for (; i <= count[m]; i++) {
+        if (token[m, i] == "<") depth++
+        if (token[m, i] == ">") depth--
+        if (depth == 0) return i + 1
+    }
+    return i
+}
+
+# A function, from its name at i: the place behind it. Its clauses are of the proof, and may have names.
 function read_function(m, within, self, i,    name, types, body) {
     name = within "::" token[m, i]
-    types = i + 1
+    types = behind_generics(m, i + 1)
+    if (types != i + 1) unread(m, "generics of `" name "`")
     for (i = closing(m, types) + 1; i <= count[m] && token[m, i] != "{" && token[m, i] !~ /^(requires|ensures)$/; i++);
     body = i
-    while (token[m, body] ~ /^(requires|ensures)$/) body = closing(m, body + 1) + 1
+    while (token[m, body] ~ /^(requires|ensures)$/) {
+        while (token[m, ++body] != "{" && body < count[m]);
+        body = closing(m, body) + 1
+    }
     declare(name, "fn", m, self, types, i - 1, body + 1, closing(m, body) - 1)
     result[name] = closing(m, types) + 1
     if (self != "") methods[token[m, types - 1]] = methods[token[m, types - 1]] " " name
@@ -111,6 +124,7 @@ function read_function(m, within, self, i,    name, types, body) {
 # A struct or an enum, from its name at i: the place behind it.
 function read_type(m, what, i,    name, end, j) {
     name = m "::" token[m, i]
+    if (token[m, i + 1] == "<") unread(m, "generics of `" name "`")
     end = token[m, i + 1] == ";" ? i + 1 : closing(m, i + 1)
     declare(name, what, m, name, i + 1, end, 0, 0)
     if (what == "enum")
@@ -137,19 +151,48 @@ function read_named(m, within, self, what, i,    equals, end) {
     return end + 1
 }
 
-# `use a::b;`: one name.
-function read_use(m, i,    path) {
-    path = path_at(m, i)
-    if (token[m, past] != ";") problem(m, "a `use` that is not of one name")
-    import[m, token[m, past - 1]] = path
-    return semicolon(m, past) + 1
+# What a `use` names from i on, behind the path `before`: `a::b`, `a::b as c`, or `a::{b, c::d}`. `past` is the place behind it.
+function read_names(m, i, before,    path, name) {
+    path = before
+    for (; is_name(token[m, i]); i += 2) {
+        name = token[m, i]
+        if (name != "self" || path == "") path = path (path == "" ? "" : "::") name
+        if (token[m, i + 1] != "::") break
+    }
+    if (token[m, i] == "{") {
+        for (past = i + 1; past <= count[m] && token[m, past] != "}"; past += token[m, past] == "," ? 1 : 0)
+            if (!is_name(token[m, past]) && token[m, past] != "{") {
+                unread(m, "a `use` of `" token[m, past] "`")
+                return
+            } else read_names(m, past, path)
+        past++
+        return
+    }
+    if (!is_name(token[m, i])) unread(m, "a `use` of `" token[m, i] "`")
+    past = i + 1
+    sub(/.*::/, "", name)
+    if (name == "self") {
+        name = path
+        sub(/.*::/, "", name)
+    }
+    if (token[m, past] == "as") {
+        name = token[m, past + 1]
+        past += 2
+    }
+    import[m, name] = path
+}
+
+function read_use(m, i) {
+    read_names(m, i, "")
+    if (token[m, past] != ";") unread(m, "a `use` that ends in `" token[m, past] "`")
+    return semicolon(m, i) + 1
 }
 
 # The items from i to the end; those of an `impl` stand within its type.
 function read_items(m, within, self, i, end,    t, type) {
     while (i <= end) {
         t = token[m, i]
-        if (t == "#") i = closing(m, i + 1) + 1
+        if (t == "#") i = closing(m, i + (token[m, i + 1] == "!" ? 2 : 1)) + 1
         else if (t == "pub") i += token[m, i + 1] == "(" ? 4 : 1
         else if (t == "extern") i += 2
         else if (t == "ghost" || (t == "mod" && token[m, i + 2] == ";")) i = semicolon(m, i) + 1
@@ -157,12 +200,12 @@ function read_items(m, within, self, i, end,    t, type) {
         else if (t == "fn") i = read_function(m, within, self, i + 1)
         else if (t == "struct" || t == "enum") i = read_type(m, t, i + 1)
         else if (t == "const" || t == "type") i = read_named(m, within, self, t, i + 1)
-        else if (t == "impl") {
+        else if (t == "impl" && is_name(token[m, i + 1]) && token[m, i + 2] == "{") {
             type = m "::" token[m, i + 1]
             read_items(m, type, type, i + 3, closing(m, i + 2) - 1)
             i = closing(m, i + 2) + 1
         } else {
-            problem(m, "cannot read `" t "`")
+            unread(m, "`" t "`")
             return
         }
     }
@@ -174,6 +217,9 @@ function crate_of(m) { sub(/::.*/, "", m); return m }
 
 function is_of_toolchain(item) { return item != "" && !(crate_of(item) in uses) }
 
+# The name of a crate of the toolchain, which no line of crates.txt has.
+function is_library(name) { return name ~ /^(std|core)$/ }
+
 # The item that a path means in a module; "" where there is none. Of the toolchain's crates only the names are known.
 function find(path, m, self,    seg, n, i, at) {
     n = split(path, seg, "::")
@@ -182,7 +228,7 @@ function find(path, m, self,    seg, n, i, at) {
     else if (seg[1] == "Self") at = self
     else if ((m "::" seg[1]) in kind) at = m "::" seg[1]
     else if ((m, seg[1]) in import) at = find(import[m, seg[1]], m, self)
-    else if (index(uses[crate_of(m)], " " seg[1] " ")) at = seg[1]
+    else if (index(uses[crate_of(m)], " " seg[1] " ") || is_library(seg[1])) at = seg[1]
     for (i = 2; i <= n && at != ""; i++)
         if ((at "::" seg[i]) in kind || is_of_toolchain(at)) at = at "::" seg[i]
         else if ((at, seg[i]) in import) at = find(import[at, seg[i]], at, self)
@@ -295,15 +341,22 @@ function tell(f, what) { if (shows("types") && !((f, what) in told)) print f ": 
 
 function problem(where, what) { if (shows("arrays") && !((where, what) in told)) print where ": " what; told[where, what] }
 
+# Of a module: something in it that is not read. It is told at the end, if a function of the module's crate was followed.
+function unread(m, what) { not_read[m, ++count_not_read[m]] = what }
+
 function is_keyword(t) {
     return t ~ /^(as|break|continue|else|false|for|if|in|let|loop|match|mut|return|true|while|_)$/
 }
 
-# A call of a method, of whatever type: every method of that name is followed.
+# A call of a method, of whatever type: every method of that name is followed. One that no type of the repository has is the
+# toolchain's, and is told behind a dot.
 function use_method(f, name,    list, n, i) {
     if (name == "len") return
     n = split(methods[name], list, " ")
-    if (n == 0) problem(f, "cannot find the method `" name "`")
+    if (n == 0) {
+        problem(f, "cannot follow the method `" name "`, of the toolchain")
+        call(f, "." name)
+    }
     for (i = 1; i <= n; i++) call(f, list[i])
 }
 
@@ -395,5 +448,7 @@ END {
         else problem(names[i], "there is no such function")
     }
     for (next_one = 1; next_one <= last; next_one++) follow(waiting[next_one])
+    for (item in reached) followed[crate_of(item)]
+    for (m in text) if (crate_of(m) in followed) for (i = 1; i <= count_not_read[m]; i++) problem(m, "cannot read " not_read[m, i])
     if (shows("reaches")) for (i = 1; i <= n; i++) if (i in starts) print_reached(names[i], starts[i])
 }
