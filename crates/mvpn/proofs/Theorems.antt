@@ -2,7 +2,7 @@
 use Prim.Native.Nat.{ℕ, ◌+◌}
 use mathlib.Core.Path.{◌≡◌, refl, sym, ◌∙◌, ap, subst}
 use mathlib.Core.List.{List}
-use mathlib.Core.Logic.{◌≢◌, ⊎_elim}
+use mathlib.Core.Logic.{⊎_elim}
 use native.Mathlib.Omega.{arith}
 use lib.ListN.{length}
 use Rattle.octets.specs.Outcome.{Outcome, given, refused, on_outcome, number_of}
@@ -21,7 +21,6 @@ use Rattle.tunnel.specs.Answers.{read_struct}
 use Rattle.tunnel.specs.Rules.AttributeRules.{AttributeReadRefusal, long, short, bad_tunnel, bad_identifier}
 use Rattle.tunnel.proofs.Theorems.{attribute_answer_rule}
 use Rattle.mvpn.specs.declared.Stepped.{Stepped}
-use Rattle.mvpn.specs.declared.AttributeReading.{AttributeReading}
 use Rattle.mvpn.specs.Answers.{step_answer, attribute_answer}
 use Rattle.mvpn.specs.Rules.CallAnswers.{StepTold, an_nlri, the_end, StepUntold, AttributeTold, AttributeUntold, CallAnswers}
 

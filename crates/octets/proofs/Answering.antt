@@ -6,8 +6,8 @@ use mathlib.Core.Logic.{◌↔◌, ◌≢◌, ⊎_elim}
 use lib.ListN.{length, get_or, take}
 use Rattle.octets.specs.declared.Written.{Written}
 use Rattle.octets.specs.Outcome.{Outcome, given, refused, on_outcome, number_of}
-use Rattle.octets.specs.Outputs.{written_of, output_of, Wrote}
-use Rattle.octets.specs.Rules.Answering.{Answering, WrittenAtFront, NothingWritten, WroteRule}
+use Rattle.octets.specs.Outputs.{written_of, output_of}
+use Rattle.octets.specs.Rules.Answering.{Answering, WroteRule}
 use Rattle.octets.proofs.Outcome.{outcome, number-given, number-refused, refused-of, done-given}
 use Rattle.octets.proofs.Lists.{length_front, take-front, past-front}
 

@@ -1,8 +1,8 @@
 -- GROUP: of the body of a Source Active route, of the NLRI at the front of octets, and of a single NLRI, where LENGTH for octets after it comes first.
-use Rattle.std.proofs.Common.{◌≡◌, ℕ, ◌+◌, ◌-◌, ◌/◌, ◌<◌, Bool, true, false, not, eqb, List, ◌∷◌, length, get_or, sym, refl, ap, ◌∙◌, ⊎_elim, arith, get_or-drop, le-ltb, eq-eqb, ne_eqb, eqb-true, le-leb}
+use Rattle.std.proofs.Common.{◌≡◌, ℕ, ◌+◌, ◌-◌, ◌/◌, Bool, true, false, not, eqb, List, ◌∷◌, length, get_or, sym, refl, ap, ◌∙◌, ⊎_elim, arith, get_or-drop, le-ltb, eq-eqb, ne_eqb, eqb-true, le-leb}
 use borrow.Author.Tests.{eqb-false}
 use lib.Seq.{take-length}
-use Rattle.octets.specs.Numbers.{DONE, SHORT, LENGTH, GROUP}
+use Rattle.octets.specs.Numbers.{DONE, SHORT, GROUP}
 use Rattle.octets.specs.Outcome.{given, refused, number_of}
 use Rattle.octets.specs.Octets.{part}
 use Rattle.octets.proofs.Choice.{pick_true, pick-false, tested, both_left, both-last, both-true-right, opposite, picked}

@@ -1,10 +1,9 @@
 -- What a caller sees of the answers of reading and of writing.
-use Rattle.std.proofs.Common.{◌≡◌, ℕ, ◌*◌, ◌≤◌, Bool, true, false, eqb, List, [], length, sym, refl, ap, ◌∙◌, subst, arith, ne_eqb, eqb-true}
+use Rattle.std.proofs.Common.{◌≡◌, ℕ, ◌*◌, ◌≤◌, Bool, true, false, eqb, List, [], length, sym, refl, ap, ◌∙◌, subst, arith, eqb-true}
 use borrow.Author.Tests.{eqb-false}
 use Rattle.octets.specs.Choice.{pick, both, either}
 use Rattle.octets.specs.Outcome.{Outcome, given, refused, on_outcome, number_of}
-use Rattle.octets.specs.Octets.{AllOctets, sized}
-use Rattle.octets.specs.Order.{zeros}
+use Rattle.octets.specs.Octets.{AllOctets}
 use Rattle.octets.specs.Outputs.{Wrote, written_of}
 use Rattle.octets.specs.Rules.Answering.{Answering}
 use Rattle.octets.specs.declared.Written.{Written}
@@ -12,16 +11,16 @@ use Rattle.octets.proofs.Choice.{tested, pick-false, both-true-left, both-true-r
 use Rattle.octets.proofs.Lists.{length-sized, get_or-sized, sized-zeros}
 use Rattle.octets.proofs.Answering.{answering, wrote_rule}
 use Rattle.nlri.specs.Bodies.{FieldKind, distinguisher, source_as, source, group, originator, key, fec, KnownType, bodies, on_body, body_of, code_of, same_kind, has_field}
-use Rattle.nlri.specs.Fields.{Fields, WellFormedField, KeyOf, WellFormed, restricted}
+use Rattle.nlri.specs.Fields.{Fields, WellFormedField, KeyOf, restricted}
 use Rattle.nlri.specs.Reading.{read_nlri}
 use Rattle.nlri.specs.Writing.{write_nlri}
 use Rattle.nlri.specs.Answers.{address_struct, distinguisher_struct, address_octets, nlri_struct, struct_fields, no_fields, key_span, fec_span, nlri_answer}
-use Rattle.nlri.specs.Rules.NlriRules.{ReadAs, StructHoldsOctets, ReadRefusal, WriteRefusal}
-use Rattle.nlri.specs.Rules.AnswerRules.{AddressTold, KeyStart, leaf_key, mldp_leaf_key, keyless, FecStart, s_pmsi_fec, join_fec, fecless, NlriTold, NoAddress, NlriUntold, AddressGiven, NlriGiven, NlriWritten, WriteAnswer, NlriAnswers}
+use Rattle.nlri.specs.Rules.NlriRules.{StructHoldsOctets, ReadRefusal, WriteRefusal}
+use Rattle.nlri.specs.Rules.AnswerRules.{AddressTold, KeyStart, leaf_key, mldp_leaf_key, keyless, FecStart, s_pmsi_fec, join_fec, fecless, NlriTold, NoAddress, NlriUntold, AddressGiven, NlriGiven, WriteAnswer, NlriAnswers}
 use Rattle.nlri.specs.declared.address.Address.{Address}
 use Rattle.nlri.specs.declared.fields.Nlri.{Nlri}
 use Rattle.nlri.proofs.Definitions.Lengths.{allowed-most, originator-sized, family-octets}
-use Rattle.nlri.proofs.Definitions.Table.{listed, known, every, every-row, agree, agree_same}
+use Rattle.nlri.proofs.Definitions.Table.{known, every, every-row, agree, agree_same}
 use Rattle.nlri.proofs.Definitions.Whole.{field-in-body}
 use Rattle.nlri.proofs.Functions.Singles.{key-spanned, fec-spanned}
 use Rattle.nlri.proofs.Statements.Acceptance.{acceptance}

@@ -1,11 +1,11 @@
 -- The bodies of the route types, and fields without those that their type lacks.
-use Rattle.std.proofs.Common.{◌≡◌, ℕ, Bool, true, false, ◌↔◌, List, [], ◌∷◌, refl, ap, ◌∙◌}
+use Rattle.std.proofs.Common.{◌≡◌, Bool, true, false, List, [], ◌∷◌, refl, ap, ◌∙◌}
 use Rattle.octets.specs.Choice.{pick, either}
 use Rattle.octets.specs.Lists.{Among, first, later}
 use Rattle.octets.proofs.Choice.{opposite}
-use Rattle.nlri.specs.Bodies.{FieldKind, distinguisher, source_as, source, group, originator, key, fec, bodies, on_body, body_of, code_of, same_kind, has_field}
-use Rattle.nlri.specs.Fields.{Fields, restricted}
-use Rattle.nlri.specs.Rules.NlriRules.{KeptIf, has, lacks, RestrictedTo, BodyRule}
+use Rattle.nlri.specs.Bodies.{FieldKind, distinguisher, source_as, source, group, originator, key, fec, bodies, on_body, body_of, same_kind, has_field}
+use Rattle.nlri.specs.Fields.{restricted}
+use Rattle.nlri.specs.Rules.NlriRules.{KeptIf, has, lacks, BodyRule}
 use Rattle.nlri.proofs.Definitions.Table.{same_kind_lem, has_first, has-later}
 
 has-among : (kind : FieldKind) (body : List FieldKind) → has_field kind body ≡ true → Among kind body

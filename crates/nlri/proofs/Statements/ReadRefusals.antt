@@ -1,5 +1,5 @@
 -- Every list of octets is read, or refused by the one number that document 01 gives it.
-use Rattle.std.proofs.Common.{◌≡◌, ℕ, suc, ◌+◌, ◌-◌, ◌*◌, ◌/◌, ◌<◌, Bool, true, false, ltb, ◌⊎◌, List, ◌++◌, length, get_or, drop, sym, refl, ap, ◌∙◌, subst, inl, inr, ⊎_elim, append-nil, arith, length-append, length-drop, ltb-false, ltb-true, lt-ltb, ne_eqb, eqb-true}
+use Rattle.std.proofs.Common.{◌≡◌, ℕ, suc, ◌+◌, ◌-◌, ◌*◌, ◌/◌, ◌<◌, Bool, true, false, ltb, List, ◌++◌, length, get_or, drop, sym, refl, ap, ◌∙◌, subst, inl, inr, ⊎_elim, append-nil, arith, length-append, length-drop, ltb-false, ltb-true, lt-ltb, ne_eqb, eqb-true}
 use borrow.Author.Tests.{eqb-false}
 use Rattle.octets.specs.Numbers.{DONE, SHORT, TYPE, LENGTH}
 use Rattle.octets.specs.Outcome.{given, refused, and_then}
@@ -9,7 +9,7 @@ use Rattle.octets.proofs.Outcome.{and-goes-on, and-stops, never, refused-same, s
 use Rattle.octets.proofs.AllOctets.{octets-part}
 use Rattle.octets.proofs.Lists.{empty-list}
 use Rattle.nlri.specs.Family.{family_bits}
-use Rattle.nlri.specs.Bodies.{KnownType, bodies, body_of}
+use Rattle.nlri.specs.Bodies.{KnownType, body_of}
 use Rattle.nlri.specs.Fields.{Fields, encode_body, encode_nlri, Encodable, is_discarded, KeyOf}
 use Rattle.nlri.specs.Reading.{Laid, key_field, laid_with, laid_at, accepted, accepted_at, accepted_single, read_nlri}
 use Rattle.nlri.specs.Rules.NlriRules.{TooShort, Faulty, LaidRefusal, short, bad_type, bad_body, FrontRefusal, unlaid, ReadRefusal, bad_family, front, after, ReadRefusals}

@@ -1,6 +1,5 @@
 -- `mvpn_list::listing::lines` meets its contract. The loop's invariant: the lines of the NLRIs before the cursor are written.
 use mathlib.Core.Path.{sym, ◌∙◌}
-use Prim.Native.Nat.{◌-◌}
 use native.Mathlib.Omega.{arith}
 use Rattle.runs.proofs.Turns.{skipped-moves}
 use Rattle.mvpn_list.proofs.Lines.{listed-first, room-layout_line, read-moves, listed-read, skipped-few, listed-skipped, listed-last, room-last_line, length-listed}

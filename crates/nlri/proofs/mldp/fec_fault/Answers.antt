@@ -1,9 +1,8 @@
 -- `nlri::mldp::fec_fault` meets its contract.
-use Rattle.std.proofs.Common.{◌≡◌, ℕ, ◌-◌, ◌≤◌, List, [], length, ap, ◌∙◌, arith}
-use Rattle.octets.specs.Numbers.{DONE}
+use Rattle.std.proofs.Common.{◌≡◌, ℕ, ◌-◌, [], length, ap, ◌∙◌, arith}
 use Rattle.octets.specs.Outcome.{number_of}
 use Rattle.fec_elements.specs.declared.Standing.TheVariants.{InBody}
-use Rattle.fec_elements.specs.Reading.{opaque_start, fec_size, read_fec}
+use Rattle.fec_elements.specs.Reading.{read_fec}
 use Rattle.nlri.specs.Family.{root_family}
 use Rattle.nlri.proofs.Functions.Ends.{left-fec-past, left-fec-bad, left-fec-good, fec-left}
 use Rattle.nlri.proofs.mldp.fec_fault.Goals as goal

@@ -1,5 +1,4 @@
 -- `octets::blocks::place_blocks` meets its contract.
-use Prim.Native.Nat.{◌-◌}
 use borrow.Author.Rules.{rules}
 use Rattle.octets.proofs.Copies.{placed-more, placed-none}
 use Rattle.octets.proofs.blocks.place_blocks.Goals as goal

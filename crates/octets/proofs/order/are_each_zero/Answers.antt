@@ -1,5 +1,4 @@
 -- `octets::order::are_each_zero` meets its contract.
-use Prim.Native.Nat.{◌-◌}
 use mathlib.Core.Path.{refl}
 use borrow.Author.Rules.{rules}
 use Rattle.octets.specs.Choice.{both}

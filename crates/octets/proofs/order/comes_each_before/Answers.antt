@@ -1,5 +1,4 @@
 -- `octets::order::comes_each_before` meets its contract: as far as the loop has come, both begin alike.
-use Prim.Native.Nat.{◌-◌}
 use mathlib.Core.Path.{refl, sym}
 use lib.ListN.{length}
 use borrow.Author.Rules.{rules}

@@ -1,5 +1,4 @@
 -- `octets::order::is_short_same` meets its contract: as far as the loop has come, both begin alike.
-use Prim.Native.Nat.{◌-◌}
 use mathlib.Core.Path.{refl}
 use borrow.Author.Rules.{rules}
 use Rattle.octets.specs.Octets.{low_first}

@@ -1,7 +1,6 @@
 -- `octets::order::is_zero_by_blocks` meets its contract: as far as the loop has come, all is zeros, and the last block leaves nothing out.
 use Prim.Native.Nat.{◌-◌}
 use mathlib.Core.Path.{refl, ◌∙◌, ap}
-use mathlib.Core.Bool.{true}
 use lib.ListN.{length}
 use borrow.Author.Rules.{rules}
 use Rattle.octets.specs.Order.{all_zero}
