@@ -1,2 +1,3 @@
 -- What is stated of the definitions.
+pub mod PiecesExamples
 pub mod PiecesRule

@@ -4,3 +4,4 @@ pub mod JudgeRule
 pub mod OtherFlows
 pub mod ProposedPlaces
 pub mod PlanRule
+pub mod PlanExamples

@@ -2,3 +2,4 @@
 pub mod FlowsRule
 pub mod JudgeRule
 pub mod PlanRule
+pub mod PlanExamples

@@ -25,5 +25,5 @@ pub use Rattle.routes.proofs.Statements.SplitRule.{split_rule}
 -- MixedCalls
 pub use Rattle.routes.proofs.Statements.Mixed.MixedCalls.{mixed_calls}
 pub use Rattle.routes.proofs.Statements.Mixed.Premise.{premise}
--- Examples, DisturbanceRule
-pub use Rattle.routes.proofs.Statements.Marked.{marked_examples, disturbance_examples}
+-- Examples, DisturbanceRule, ReasonExamples, SharedTreeExamples
+pub use Rattle.routes.proofs.Statements.Marked.{marked_examples, disturbance_examples, reason_examples, shared_tree_examples}

@@ -15,3 +15,5 @@ pub mod LastInstalled
 pub mod BookRules
 pub mod MixedCalls
 pub mod Examples
+pub mod ReasonExamples
+pub mod SharedTreeExamples
