@@ -3,6 +3,7 @@ pub mod Taken
 pub mod MatchOver
 pub mod MatchRule
 pub mod SharedTreeRule
+pub mod ToldReasons
 pub mod ReasonRule
 pub mod NextRule
 pub mod InTurn

@@ -7,11 +7,11 @@ use mathlib.Core.Logic.{◌≢◌, ◌⊎◌, ⊎_elim}
 use native.Mathlib.Omega.{arith}
 use lib.Dec.{eqb}
 use lib.ListN.{length, get_or}
-use borrow.Author.Tests.{eqb-true, eqb-false, eq-eqb, ne_eqb, lt-ltb, ltb-true}
+use borrow.Author.Tests.{eqb-true, eqb-false, ne_eqb, lt-ltb, ltb-true}
 use Rattle.octets.specs.Numbers.{DONE}
 use Rattle.octets.specs.Choice.{pick}
 use Rattle.octets.specs.Outcome.{given, on_outcome}
-use Rattle.octets.proofs.Choice.{opposite, tested, pick_true, pick-false, pick-case, both-held, both_true}
+use Rattle.octets.proofs.Choice.{opposite, tested, pick-false, pick-case, both-held, both_true}
 use Rattle.nlri.specs.Fields.{Fields}
 use Rattle.nlri.specs.Groups.{ASM, SSM, Multicast, group_of}
 use Rattle.groups.specs.Classes.{class_by}
@@ -26,9 +26,10 @@ use Rattle.octets.specs.Outputs.{Changed}
 use Rattle.routes.specs.Calls.{match_of}
 use Rattle.routes.specs.Reasons.{reason_of, reasons_of, no_reasons, explained, explain_of}
 use Rattle.routes.specs.Rules.ArgumentRules.{GoodFlow}
-use Rattle.routes.specs.Rules.MatchRule.{InTier, both_equal, source_equal, group_equal, both_wildcard, Taken, Told, MatchAnswer, one_told, none_told, TablesDifferInMarks}
+use Rattle.routes.specs.Rules.MatchRule.{InTier, both_equal, source_equal, group_equal, both_wildcard, Taken, Told, MatchAnswer, one_told, none_told}
 use Rattle.routes.specs.Rules.ReasonRule.{RuledOut, any_group, any_source, Met, MetEarlier, Reason, was_taken, no_such_route, wrong_class, earlier_won, ReasonRule}
-use Rattle.routes.proofs.Statements.MatchRule.{match-marks, match_rule}
+use Rattle.routes.proofs.Statements.MatchRule.{match_rule}
+use Rattle.routes.proofs.Statements.ToldReasons.{told_class, are, marks}
 
 -- a tier whose condition is met is one of the tiers, and is not ruled out
 tier-counted : {afi : ℕ} {flow : Flow} {tier : ℕ} {f : Fields} → InTier afi flow tier f → 0 < tier
@@ -156,10 +157,6 @@ module _ (t : List ℕ) (flow : Flow) (output : List ℕ) where
   refused h = pick-false _ _ _ (ne_eqb _ _ h)
 
   module _ (done : matching.answer.number ≡ DONE) where
-    are : reasons ≡ reasons_of matching.answer.tier (group_of (class_by (afi_in t) flow.prefixes flow.group)).group_class
-    unfolding explain_of explained
-    are = pick_true _ _ _ (eq-eqb _ _ done)
-
     good : GoodFlow (afi_in t) flow
     good = (((match_rule.table flow).done t output).0 done).1
 
@@ -170,7 +167,7 @@ module _ (t : List ℕ) (flow : Flow) (output : List ℕ) where
         → Of tier (reason_of matching.answer.tier tier allowed)
     of-tier tier low allowed lets rules = says (afi_in t) flow (routes_of t) output matching tier low allowed lets rules ((match_rule.table flow).answers t output done)
 
-    by-tier : (i : ℕ) → i < 4 → Of (i + 1) (get_or (reasons_of matching.answer.tier (group_of (class_by (afi_in t) flow.prefixes flow.group)).group_class) i 0)
+    by-tier : (i : ℕ) → i < 4 → Of (i + 1) (get_or (reasons_of matching.answer.tier (told_class (afi_in t) flow)) i 0)
     unfolding reasons_of
     by-tier zero h = of-tier 1 (omega arith) true (λ _. always (λ e. omega arith) (λ e. omega arith)) (λ e. absurd (opposite {b = true} refl e))
     by-tier (suc zero) h = of-tier 2 (omega arith) _ (lets2 (afi_in t) flow.prefixes flow.group good.prefixed good.multicast) (rules2 (afi_in t) flow.prefixes flow.group good.prefixed good.multicast)
@@ -179,7 +176,7 @@ module _ (t : List ℕ) (flow : Flow) (output : List ℕ) where
     by-tier (suc (suc (suc (suc i)))) h = absurd (omega arith)
 
     told : (i : ℕ) → i < 4 → Of (i + 1) (get_or reasons i 0)
-    told i h = rw are (by-tier i h)
+    told i h = rw (are t flow output done) (by-tier i h)
 
   -- the tier that a match answers: its route is taken with it, and told
   won : MatchAnswer (afi_in t) flow.router (InTier (afi_in t) flow) output (routes_of t) matching → 0 < matching.answer.tier
@@ -208,13 +205,6 @@ module _ (t : List ℕ) (flow : Flow) (output : List ℕ) where
     reason-after : (tier : ℕ) → matching.answer.tier < tier → tier ≤ 4 → get_or reasons (tier - 1) 0 ≡ 4
     reason-after tier past high =
         same-reason tier 4 (omega arith) high (earlier_won (record { earlier = matching.answer.tier; less = past; met = met (afi_in t) flow (routes_of t) output matching winner.1 }))
-
--- marks change no reason
-marks : (t u : List ℕ) (flow : Flow) (output : List ℕ) → TablesDifferInMarks t u → explain_of t flow output ≡ explain_of u flow output
-unfolding explain_of
-marks t u flow output d =
-    let changed = match-marks t u (of_flow flow) output d in
-    λ i. record { answer = explained (group_of (class_by (d.family i) flow.prefixes flow.group)).group_class (changed i).answer; octets = (changed i).octets }
 
 pub reason_rule : ReasonRule
 unfolding explain_of explained
