@@ -1,5 +1,5 @@
 -- `nlri::mldp::fec_fault` meets its contract.
-use Rattle.std.proofs.Common.{◌≡◌, ℕ, ◌-◌, [], length, ap, ◌∙◌, arith}
+use Rattle.std.proofs.Common.{List, ◌≡◌, ℕ, ◌-◌, [], length, ap, ◌∙◌, arith}
 use Rattle.octets.specs.Outcome.{number_of}
 use Rattle.fec_elements.specs.declared.Standing.TheVariants.{InBody}
 use Rattle.fec_elements.specs.Reading.{read_fec}
@@ -7,20 +7,24 @@ use Rattle.nlri.specs.Family.{root_family}
 use Rattle.nlri.proofs.Functions.Ends.{left-fec-past, left-fec-bad, left-fec-good, fec-left}
 use Rattle.nlri.proofs.mldp.fec_fault.Goals as goal
 
+-- the number of a FEC, by the family of the kind
+of-root-family : (bits family n : ℕ) (s : List ℕ) → n ≡ number_of (read_fec (InBody family) s) → family ≡ root_family bits → n ≡ number_of (read_fec (InBody (root_family bits)) s)
+of-root-family bits family n s e is = e ∙ ap (λ (f : ℕ). number_of (read_fec (InBody f) s)) is
+
 pub returns-then-s-at : goal.returns-then-s-at
 returns-then-s-at c = left-fec-past _ _ _ _ _ c.if-s-at.true
 
 pub returns-then-fault-ne-DONE : goal.returns-then-fault-ne-DONE
-returns-then-fault-ne-DONE c = left-fec-bad _ _ _ _ _ c.if-s-at.false _ c.after-rest.ensures _ (let it : c.fault-fault.result ≡ number_of (read_fec (InBody (root_family c.args.kind.bits)) c.after-rest.result.now) = c.fault-fault.ensures ∙ ap (λ (family : ℕ). number_of (read_fec (InBody family) c.after-rest.result.now)) c.root_family.ensures in it) c.if-fault-ne-DONE.true
+returns-then-fault-ne-DONE c = left-fec-bad _ _ _ _ _ c.if-s-at.false _ c.after-rest.ensures _ (of-root-family _ _ _ _ c.fault-fault.ensures c.root_family.ensures) c.if-fault-ne-DONE.true
 
 pub fec_size-requires : goal.fec_size-requires
-fec_size-requires c = (fec-left _ c.args.route_type [] _ _ c.if-s-at.false _ c.after-rest.ensures _ (let it : c.fault-fault.result ≡ number_of (read_fec (InBody (root_family c.args.kind.bits)) c.after-rest.result.now) = c.fault-fault.ensures ∙ ap (λ (family : ℕ). number_of (read_fec (InBody family) c.after-rest.result.now)) c.root_family.ensures in it) c.if-fault-ne-DONE.false).1
+fec_size-requires c = (fec-left _ c.args.route_type [] _ _ c.if-s-at.false _ c.after-rest.ensures _ (of-root-family _ _ _ _ c.fault-fault.ensures c.root_family.ensures) c.if-fault-ne-DONE.false).1
 
 pub overflow_sub-rest : goal.overflow_sub-rest
-overflow_sub-rest c = omega (arith, (fec-left _ c.args.route_type [] _ _ c.if-s-at.false _ c.after-rest.ensures _ (let it : c.fault-fault.result ≡ number_of (read_fec (InBody (root_family c.args.kind.bits)) c.after-rest.result.now) = c.fault-fault.ensures ∙ ap (λ (family : ℕ). number_of (read_fec (InBody family) c.after-rest.result.now)) c.root_family.ensures in it) c.if-fault-ne-DONE.false).0, c.fec_size.ensures)
+overflow_sub-rest c = omega (arith, (fec-left _ c.args.route_type [] _ _ c.if-s-at.false _ c.after-rest.ensures _ (of-root-family _ _ _ _ c.fault-fault.ensures c.root_family.ensures) c.if-fault-ne-DONE.false).0, c.fec_size.ensures)
 
 pub returns : goal.returns
 returns c =
     let rest = c.after-rest.result.now in
-    left-fec-good _ _ _ _ _ c.if-s-at.false _ c.after-rest.ensures _ (let it : c.fault-fault.result ≡ number_of (read_fec (InBody (root_family c.args.kind.bits)) c.after-rest.result.now) = c.fault-fault.ensures ∙ ap (λ (family : ℕ). number_of (read_fec (InBody family) c.after-rest.result.now)) c.root_family.ensures in it) c.if-fault-ne-DONE.false _ _
+    left-fec-good _ _ _ _ _ c.if-s-at.false _ c.after-rest.ensures _ (of-root-family _ _ _ _ c.fault-fault.ensures c.root_family.ensures) c.if-fault-ne-DONE.false _ _
     (ap (λ (n : ℕ). length rest - n) c.fec_size.ensures) (λ at e. c.fec_end_fault.ensures _ at _ e)

@@ -1,7 +1,5 @@
 -- `nlri::mldp::read_key` meets its contract.
-use Rattle.std.proofs.Common.{◌≡◌, ◌∙◌}
-use Rattle.octets.specs.Outcome.{given}
-use Rattle.nlri.specs.Inner.{header_at}
+use Rattle.std.proofs.Common.{◌∙◌}
 use Rattle.nlri.proofs.Definitions.Sizes.{header-within}
 use Rattle.nlri.proofs.Definitions.Keys.{mldp-takes, mldp-refuses}
 use Rattle.nlri.proofs.Functions.Ends.{body-mldp-s-pmsi}
@@ -10,16 +8,16 @@ use Rattle.nlri.proofs.Functions.Fronts.{key-unread, key-other-type, key-refused
 use Rattle.nlri.proofs.mldp.read_key.Goals as goal
 
 pub returns-then-route_type-ne-MLDP_S_PMSI : goal.returns-then-route_type-ne-MLDP_S_PMSI
-returns-then-route_type-ne-MLDP_S_PMSI c = key-other-type _ 68 _ _ _ (let it : header_at c.args.s.now ≡ given (c.in-Typed.route_type, c.in-Typed.length) = typed-given _ _ _ _ c.read_header.ensures c.in-Typed.is in it) (mldp-refuses _ c.if-route_type-ne-MLDP_S_PMSI.true)
+returns-then-route_type-ne-MLDP_S_PMSI c = key-other-type _ 68 _ _ _ (typed-given _ _ _ _ c.read_header.ensures c.in-Typed.is) (mldp-refuses _ c.if-route_type-ne-MLDP_S_PMSI.true)
 
 pub between-body-requires : goal.between-body-requires
-between-body-requires c = header-within _ _ _ (let it : header_at c.args.s.now ≡ given (c.in-Typed.route_type, c.in-Typed.length) = typed-given _ _ _ _ c.read_header.ensures c.in-Typed.is in it)
+between-body-requires c = header-within _ _ _ (typed-given _ _ _ _ c.read_header.ensures c.in-Typed.is)
 
 pub returns-then-fault-ne-DONE : goal.returns-then-fault-ne-DONE
-returns-then-fault-ne-DONE c = key-refused _ 68 _ _ _ (let it : header_at c.args.s.now ≡ given (c.in-Typed.route_type, c.in-Typed.length) = typed-given _ _ _ _ c.read_header.ensures c.in-Typed.is in it) (mldp-takes _ c.if-route_type-ne-MLDP_S_PMSI.false) _ _ c.between-body.ensures (c.fec_fault-fault.ensures ∙ body-mldp-s-pmsi _ _ _ c.if-route_type-ne-MLDP_S_PMSI.false) c.if-fault-ne-DONE.true
+returns-then-fault-ne-DONE c = key-refused _ 68 _ _ _ (typed-given _ _ _ _ c.read_header.ensures c.in-Typed.is) (mldp-takes _ c.if-route_type-ne-MLDP_S_PMSI.false) _ _ c.between-body.ensures (c.fec_fault-fault.ensures ∙ body-mldp-s-pmsi _ _ _ c.if-route_type-ne-MLDP_S_PMSI.false) c.if-fault-ne-DONE.true
 
 pub returns-in-Unread : goal.returns-in-Unread
 returns-in-Unread c = key-unread _ 68 _ _ (unread-given _ _ _ c.read_header.ensures c.in-Unread.is)
 
 pub returns-else-fault-ne-DONE : goal.returns-else-fault-ne-DONE
-returns-else-fault-ne-DONE c = key-typed _ 68 _ _ _ (let it : header_at c.args.s.now ≡ given (c.in-Typed.route_type, c.in-Typed.length) = typed-given _ _ _ _ c.read_header.ensures c.in-Typed.is in it) (mldp-takes _ c.if-route_type-ne-MLDP_S_PMSI.false) _ _ c.between-body.ensures (c.fec_fault-fault.ensures ∙ body-mldp-s-pmsi _ _ _ c.if-route_type-ne-MLDP_S_PMSI.false) c.if-fault-ne-DONE.false
+returns-else-fault-ne-DONE c = key-typed _ 68 _ _ _ (typed-given _ _ _ _ c.read_header.ensures c.in-Typed.is) (mldp-takes _ c.if-route_type-ne-MLDP_S_PMSI.false) _ _ c.between-body.ensures (c.fec_fault-fault.ensures ∙ body-mldp-s-pmsi _ _ _ c.if-route_type-ne-MLDP_S_PMSI.false) c.if-fault-ne-DONE.false

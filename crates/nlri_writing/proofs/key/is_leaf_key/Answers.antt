@@ -1,9 +1,6 @@
 -- `nlri_writing::key::is_leaf_key` meets its contract.
-use mathlib.Core.Path.{◌≡◌, sym, ◌∙◌, ap}
-use Prim.Native.Nat.{◌+◌}
+use mathlib.Core.Path.{sym, ◌∙◌, ap}
 use native.Mathlib.Omega.{arith}
-use Rattle.octets.specs.Outcome.{given}
-use Rattle.nlri.specs.Reading.{key_field}
 use Rattle.nlri.specs.Inner.{key_outcome}
 use Rattle.nlri.proofs.Definitions.Keys.{key-within}
 use Rattle.nlri_writing.proofs.KeyTests.{key-alone, key-none}
@@ -13,7 +10,7 @@ pub returns-in_default : goal.returns-in_default
 returns-in_default c = key-none _ 4 _ _ (sym c.read_key.ensures ∙ ap key_outcome c.in_default.is)
 
 pub overflow_add-result : goal.overflow_add-result
-overflow_add-result c = let h = key-within _ 4 _ _ (let it : key_field c.args.kind.bits 4 c.args.key.now ≡ given (2 + c.in-Typed.length) = sym c.read_key.ensures ∙ ap key_outcome c.in-Typed.is in it) in omega arith
+overflow_add-result c = let h = key-within _ 4 _ _ (sym c.read_key.ensures ∙ ap key_outcome c.in-Typed.is) in omega arith
 
 pub returns : goal.returns
-returns c = key-alone _ 4 _ _ (let it : key_field c.args.kind.bits 4 c.args.key.now ≡ given (2 + c.in-Typed.length) = sym c.read_key.ensures ∙ ap key_outcome c.in-Typed.is in it)
+returns c = key-alone _ 4 _ _ (sym c.read_key.ensures ∙ ap key_outcome c.in-Typed.is)
