@@ -2,20 +2,21 @@
 ghost use Rattle.std.specs.Prelude.{◌≡◌, true, ◌≤◌, ◌<◌, length};
 ghost use Rattle.fec_elements.specs.Reading.{runs_out, must_fill, takes_family, is_fec_type, family_suits, length_fault, root_fault, family_fault, header_fault};
 ghost use Rattle.octets.specs.Numbers.{DONE};
+ghost use Rattle.octets.specs.Refusals.{refusal_number, result_number};
 ghost use Rattle.fec_elements.specs.Inner.{EndsWell};
 
 use crate::shape::{FecType, OpaqueStart, Root};
 use crate::{Standing, shape};
-use octets::number::{DONE, IDENT, LENGTH};
+use octets::refusal::Refusal;
 
 // The number where the octets end inside a FEC.
-fn runs_out(standing: Standing) -> u32
-    ensures { result ≡ runs_out standing }
+fn runs_out(standing: Standing) -> Refusal
+    ensures { refusal_number result ≡ runs_out standing }
 {
     match standing {
-        Standing::InBody(_) => LENGTH,
-        Standing::Lent(_) => IDENT,
-        Standing::Filling => IDENT,
+        Standing::InBody(_) => Refusal::Length,
+        Standing::Lent(_) => Refusal::Ident,
+        Standing::Filling => Refusal::Ident,
     }
 }
 
@@ -62,60 +63,60 @@ fn family_suits(address_family: u32, size: u8) -> bool
 }
 
 // Root, opaque length, and as many octets as that says.
-fn length_fault(s: &[u8], standing: Standing) -> u32
+fn length_fault(s: &[u8], standing: Standing) -> Result<(), Refusal>
     requires { 4 ≤ length s.now }
-    ensures { result ≡ length_fault standing s.now }
+    ensures { result_number result ≡ length_fault standing s.now }
 {
     if s.len() < shape::opaque_start(s) {
-        return runs_out(standing);
+        return Err(runs_out(standing));
     }
     let end = shape::fec_size(s);
     if s.len() < end {
-        return runs_out(standing);
+        return Err(runs_out(standing));
     }
     if end < s.len() && must_fill(standing) {
-        return IDENT;
+        return Err(Refusal::Ident);
     }
-    DONE
+    Ok(())
 }
 
 // Address length, and what follows it.
-fn root_fault(s: &[u8], standing: Standing) -> u32
-    ensures { result ≡ root_fault standing s.now }
+fn root_fault(s: &[u8], standing: Standing) -> Result<(), Refusal>
+    ensures { result_number result ≡ root_fault standing s.now }
 {
     if s.len() < shape::FIXED {
-        return runs_out(standing);
+        return Err(runs_out(standing));
     }
     if family_suits(octets::wide::two(s, 1), s[3]) {
         return length_fault(s, standing);
     }
-    IDENT
+    Err(Refusal::Ident)
 }
 
 // Address family, and what follows it.
-fn family_fault(s: &[u8], standing: Standing) -> u32
-    ensures { result ≡ family_fault standing s.now }
+fn family_fault(s: &[u8], standing: Standing) -> Result<(), Refusal>
+    ensures { result_number result ≡ family_fault standing s.now }
 {
     if s.len() < 3 {
-        return runs_out(standing);
+        return Err(runs_out(standing));
     }
     if takes_family(standing, octets::wide::two(s, 1)) {
         return root_fault(s, standing);
     }
-    IDENT
+    Err(Refusal::Ident)
 }
 
 // Type, and what follows it.
-fn type_fault(s: &[u8], standing: Standing) -> u32
-    ensures { result ≡ header_fault standing s.now }
+fn type_fault(s: &[u8], standing: Standing) -> Result<(), Refusal>
+    ensures { result_number result ≡ header_fault standing s.now }
 {
     if s.len() < 1 {
-        return runs_out(standing);
+        return Err(runs_out(standing));
     }
     if is_fec_type(s[0]) {
         return family_fault(s, standing);
     }
-    IDENT
+    Err(Refusal::Ident)
 }
 
 // A FEC whose opaque value starts at `start` ends with the octets, by the opaque length before that, or ends sooner where something may follow.
@@ -168,11 +169,11 @@ fn is_surely_good(s: &[u8], standing: Standing) -> bool
 }
 
 // The number of the first fault of a FEC up to its opaque value.
-pub(crate) fn fault(s: &[u8], standing: Standing) -> u32
-    ensures { result ≡ header_fault standing s.now }
+pub(crate) fn fault(s: &[u8], standing: Standing) -> Result<(), Refusal>
+    ensures { result_number result ≡ header_fault standing s.now }
 {
     if is_surely_good(s, standing) {
-        return DONE;
+        return Ok(());
     }
     type_fault(s, standing)
 }

@@ -1,10 +1,11 @@
 // FECs that hold one another: the FEC reader calls the opaque-value reader and that calls back, with the remaining depth falling from four
 // (document 01, "Language forms by place").
 ghost use Rattle.std.specs.Prelude.{◌≡◌, ◌≤◌, length, drop};
+ghost use Rattle.octets.specs.Refusals.{result_number};
 ghost use Rattle.fec_elements.specs.Reading.{fec_size, fec_in, opens, held_start, holds_fec, fec_fault, opaque_fault};
 
 use crate::{Standing, header, shape};
-use octets::number::{DEEP, DONE, IDENT};
+use octets::refusal::Refusal;
 
 // So many FECs may stand in one another, the outermost counted.
 pub(crate) const MOST_DEEP: u32 = 4;
@@ -80,30 +81,27 @@ fn held(s: &[u8]) -> &[u8]
 
 // The number of the first fault of a FEC that may be `depth` deep, or DONE.
 #[cycle(fec_fault_opaque_fault)]
-pub(crate) fn fec_fault(s: &[u8], standing: Standing, depth: u32) -> u32
+pub(crate) fn fec_fault(s: &[u8], standing: Standing, depth: u32) -> Result<(), Refusal>
     requires { 1 ≤ depth }
-    ensures { result ≡ fec_fault depth standing s.now }
+    ensures { result_number result ≡ fec_fault depth standing s.now }
 {
-    let number = header::fault(s, standing);
-    if number != DONE {
-        return number;
-    }
+    header::fault(s, standing)?;
     opaque_fault(opaque_of(s), depth - 1)
 }
 
 // The number of the first fault of an opaque value in which FECs may stand `depth` deep, or DONE.
 #[cycle(fec_fault_opaque_fault)]
-fn opaque_fault(s: &[u8], depth: u32) -> u32
-    ensures { result ≡ opaque_fault depth s.now }
+fn opaque_fault(s: &[u8], depth: u32) -> Result<(), Refusal>
+    ensures { result_number result ≡ opaque_fault depth s.now }
 {
     if !opens(s) {
-        return DONE;
+        return Ok(());
     }
     if depth == 0 {
-        return DEEP;
+        return Err(Refusal::Deep);
     }
     if holds(s) {
         return fec_fault(held(s), Standing::Filling, depth);
     }
-    IDENT
+    Err(Refusal::Ident)
 }

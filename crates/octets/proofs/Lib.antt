@@ -15,3 +15,4 @@ pub mod OrderRule
 pub mod NumbersRule
 pub mod Among
 pub mod Chosen
+pub mod Refusals

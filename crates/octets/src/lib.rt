@@ -5,12 +5,17 @@
 ghost use Rattle.std.specs.Prelude.{◌≡◌};
 ghost use Rattle.octets.specs.Outcome.{refused};
 ghost use Rattle.octets.specs.Outputs.{written_of};
+ghost use Rattle.octets.specs.Refusals.{written_by};
 
 pub mod blocks;
 pub mod number;
 pub mod order;
 pub mod parts;
+pub mod refusal;
 pub mod wide;
+
+use number::DONE;
+use refusal::Refusal;
 
 // A part of a slice: `size` octets from octet `start`.
 #[repr(C)]
@@ -26,6 +31,20 @@ pub struct Span {
 pub struct Written {
     pub number: u32,
     pub size: usize,
+}
+
+impl From<Result<usize, Refusal>> for Written {
+    ghost from_gives = { λ done written. written ≡ written_by done };
+
+    fn from(done: Result<usize, Refusal>) -> Written {
+        match done {
+            Ok(size) => Written { number: DONE, size },
+            Err(refusal) => Written {
+                number: refusal.number(),
+                size: 0,
+            },
+        }
+    }
 }
 
 impl Written {

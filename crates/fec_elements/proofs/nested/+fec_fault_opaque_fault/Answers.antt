@@ -1,20 +1,21 @@
 -- `fec_elements::nested::fec_fault` and `opaque_fault`, which call each other, meet their contracts: the depth that is left falls.
-use Rattle.std.proofs.Common.{rules, sym, ◌∙◌, arith}
+use Rattle.std.proofs.Common.{rules, refl, sym, ◌∙◌, arith}
+use Rattle.octets.proofs.Refusals.{refusal_number-not_done, passed_on}
 use Rattle.fec_elements.proofs.Holders.{opens-some, start-room}
 use Rattle.fec_elements.proofs.Nesting.{header-whole, fec-stops, fec-goes, opaque-kept, opaque-deep, opaque-bad, opaque-holds}
 use Rattle.fec_elements.proofs.nested.+fec_fault_opaque_fault.Goals as goal
 
-pub fec_fault-returns-then-number-ne-DONE : goal.fec_fault-returns-then-number-ne-DONE
-fec_fault-returns-then-number-ne-DONE t c = fec-stops _ _ _ _ c.fault-number.ensures c.if-number-ne-DONE.true
+pub fec_fault-returns-in_err-fault : goal.fec_fault-returns-in_err-fault
+fec_fault-returns-in_err-fault t c = passed_on _ _ c.from_residual.ensures.1 ∙ fec-stops _ _ _ _ c.in_err-fault.ensures (refusal_number-not_done _)
 
 pub fec_fault-opaque_of-requires : goal.fec_fault-opaque_of-requires
-fec_fault-opaque_of-requires t c = header-whole _ _ _ c.fault-number.ensures c.if-number-ne-DONE.false
+fec_fault-opaque_of-requires t c = header-whole _ _ _ c.in_ok-fault.ensures refl
 
 pub fec_fault-opaque_fault-requires : goal.fec_fault-opaque_fault-requires
 fec_fault-opaque_fault-requires t c = (omega arith, tt)
 
 pub fec_fault-returns : goal.fec_fault-returns
-fec_fault-returns t c = fec-goes _ _ _ _ _ _ c.fault-number.ensures c.if-number-ne-DONE.false c.opaque_of.ensures c.opaque_fault.ensures
+fec_fault-returns t c = fec-goes _ _ _ _ _ _ c.in_ok-fault.ensures refl c.opaque_of.ensures c.opaque_fault.ensures
 
 pub opaque_fault-returns-then-not-opens : goal.opaque_fault-returns-then-not-opens
 opaque_fault-returns-then-not-opens t c = opaque-kept _ _ (sym c.opens.ensures ∙ c.if-not-opens.true)
