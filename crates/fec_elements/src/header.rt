@@ -63,7 +63,7 @@ fn family_suits(address_family: u32, size: u8) -> bool
 }
 
 // Root, opaque length, and as many octets as that says.
-fn length_fault(s: &[u8], standing: Standing) -> Result<(), Refusal>
+fn check_length(s: &[u8], standing: Standing) -> Result<(), Refusal>
     requires { 4 ≤ length s.now }
     ensures { result_number result ≡ length_fault standing s.now }
 {
@@ -81,40 +81,40 @@ fn length_fault(s: &[u8], standing: Standing) -> Result<(), Refusal>
 }
 
 // Address length, and what follows it.
-fn root_fault(s: &[u8], standing: Standing) -> Result<(), Refusal>
+fn check_root(s: &[u8], standing: Standing) -> Result<(), Refusal>
     ensures { result_number result ≡ root_fault standing s.now }
 {
     if s.len() < shape::FIXED {
         return Err(runs_out(standing));
     }
     if family_suits(octets::wide::two(s, 1), s[3]) {
-        return length_fault(s, standing);
+        return check_length(s, standing);
     }
     Err(Refusal::Ident)
 }
 
 // Address family, and what follows it.
-fn family_fault(s: &[u8], standing: Standing) -> Result<(), Refusal>
+fn check_family(s: &[u8], standing: Standing) -> Result<(), Refusal>
     ensures { result_number result ≡ family_fault standing s.now }
 {
     if s.len() < 3 {
         return Err(runs_out(standing));
     }
     if takes_family(standing, octets::wide::two(s, 1)) {
-        return root_fault(s, standing);
+        return check_root(s, standing);
     }
     Err(Refusal::Ident)
 }
 
 // Type, and what follows it.
-fn type_fault(s: &[u8], standing: Standing) -> Result<(), Refusal>
+fn check_type(s: &[u8], standing: Standing) -> Result<(), Refusal>
     ensures { result_number result ≡ header_fault standing s.now }
 {
     if s.len() < 1 {
         return Err(runs_out(standing));
     }
     if is_fec_type(s[0]) {
-        return family_fault(s, standing);
+        return check_family(s, standing);
     }
     Err(Refusal::Ident)
 }
@@ -169,11 +169,11 @@ fn is_surely_good(s: &[u8], standing: Standing) -> bool
 }
 
 // The number of the first fault of a FEC up to its opaque value.
-pub(crate) fn fault(s: &[u8], standing: Standing) -> Result<(), Refusal>
+pub(crate) fn check(s: &[u8], standing: Standing) -> Result<(), Refusal>
     ensures { result_number result ≡ header_fault standing s.now }
 {
     if is_surely_good(s, standing) {
         return Ok(());
     }
-    type_fault(s, standing)
+    check_type(s, standing)
 }

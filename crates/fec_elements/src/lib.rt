@@ -26,8 +26,8 @@ pub enum Standing {
 
 // The number of the first fault from left to right of a FEC at the front of octets and of those that it holds, LENGTH, IDENT or DEEP,
 // or DONE.
-pub fn fault(standing: Standing, octets: &[u8]) -> Result<(), Refusal>
+pub fn check(standing: Standing, octets: &[u8]) -> Result<(), Refusal>
     ensures { result_number result ≡ number_of (read_fec standing octets.now) }
 {
-    nested::fec_fault(octets, standing, nested::MOST_DEEP)
+    nested::check_fec(octets, standing, nested::MOST_DEEP)
 }

@@ -80,18 +80,18 @@ fn held(s: &[u8]) -> &[u8]
 }
 
 // The number of the first fault of a FEC that may be `depth` deep, or DONE.
-#[cycle(fec_fault_opaque_fault)]
-pub(crate) fn fec_fault(s: &[u8], standing: Standing, depth: u32) -> Result<(), Refusal>
+#[cycle(checks)]
+pub(crate) fn check_fec(s: &[u8], standing: Standing, depth: u32) -> Result<(), Refusal>
     requires { 1 ≤ depth }
     ensures { result_number result ≡ fec_fault depth standing s.now }
 {
-    header::fault(s, standing)?;
-    opaque_fault(opaque_of(s), depth - 1)
+    header::check(s, standing)?;
+    check_opaque(opaque_of(s), depth - 1)
 }
 
 // The number of the first fault of an opaque value in which FECs may stand `depth` deep, or DONE.
-#[cycle(fec_fault_opaque_fault)]
-fn opaque_fault(s: &[u8], depth: u32) -> Result<(), Refusal>
+#[cycle(checks)]
+fn check_opaque(s: &[u8], depth: u32) -> Result<(), Refusal>
     ensures { result_number result ≡ opaque_fault depth s.now }
 {
     if !opens(s) {
@@ -101,7 +101,7 @@ fn opaque_fault(s: &[u8], depth: u32) -> Result<(), Refusal>
         return Err(Refusal::Deep);
     }
     if holds(s) {
-        return fec_fault(held(s), Standing::Filling, depth);
+        return check_fec(held(s), Standing::Filling, depth);
     }
     Err(Refusal::Ident)
 }

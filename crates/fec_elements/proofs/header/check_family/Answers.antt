@@ -1,7 +1,7 @@
--- `fec_elements::header::family_fault` meets its contract.
+-- `fec_elements::header::check_family` meets its contract.
 use Rattle.octets.proofs.Tests.{flags}
 use Rattle.fec_elements.specs.Reading.{family_fault}
-use Rattle.fec_elements.proofs.header.family_fault.Goals as goal
+use Rattle.fec_elements.proofs.header.check_family.Goals as goal
 
 pub returns-then-s-lt3 : goal.returns-then-s-lt3
 unfolding family_fault

@@ -1,7 +1,7 @@
--- `fec_elements::header::root_fault` meets its contract.
+-- `fec_elements::header::check_root` meets its contract.
 use Rattle.octets.proofs.Tests.{flags}
 use Rattle.fec_elements.specs.Reading.{root_fault}
-use Rattle.fec_elements.proofs.header.root_fault.Goals as goal
+use Rattle.fec_elements.proofs.header.check_root.Goals as goal
 
 pub returns-then-s-lt-FIXED : goal.returns-then-s-lt-FIXED
 unfolding root_fault

@@ -1,7 +1,7 @@
--- `fec_elements::header::type_fault` meets its contract.
+-- `fec_elements::header::check_type` meets its contract.
 use Rattle.octets.proofs.Tests.{flags}
 use Rattle.fec_elements.specs.Reading.{header_fault}
-use Rattle.fec_elements.proofs.header.type_fault.Goals as goal
+use Rattle.fec_elements.proofs.header.check_type.Goals as goal
 
 pub returns-then-s-lt1 : goal.returns-then-s-lt1
 unfolding header_fault

@@ -1,8 +1,8 @@
--- `fec_elements::header::length_fault` meets its contract.
+-- `fec_elements::header::check_length` meets its contract.
 use Rattle.octets.proofs.Tests.{flags}
 use Rattle.fec_elements.specs.Reading.{length_fault}
-use Rattle.fec_elements.proofs.header.length_fault.Goals as goal
-use Rattle.fec_elements.proofs.header.length_fault.Goals.{else-end-s-via-then-end-s+else-must_fill, else-end-s-via-else-end-s}
+use Rattle.fec_elements.proofs.header.check_length.Goals as goal
+use Rattle.fec_elements.proofs.header.check_length.Goals.{else-end-s-via-then-end-s+else-must_fill, else-end-s-via-else-end-s}
 
 pub returns-then-s-opaque_start : goal.returns-then-s-opaque_start
 unfolding length_fault
