@@ -2,15 +2,15 @@
 use Prim.Native.Nat.{ℕ, suc, ◌*◌, ◌-◌, ◌≤◌, ◌<◌}
 use mathlib.Core.Path.{◌≡◌, refl, sym, ◌∙◌, ap}
 use mathlib.Core.Bool.{true, false}
-use mathlib.Core.List.{List}
+use mathlib.Core.List.{List, [], ◌∷◌}
 use native.Mathlib.Nat.{mul-le-mul}
 use native.Mathlib.Omega.{arith}
-use borrow.Author.Tests.{le-leb, lt-leb}
+use borrow.Author.Tests.{leb-true, le-leb, lt-leb}
 use lib.ListN.{length, drop}
 use Rattle.octets.specs.Choice.{both}
 use Rattle.octets.proofs.Choice.{both_left, both-last, both-true-left, both-true-right}
 use Rattle.octets.proofs.Tests.{refusals}
-use Rattle.lists.specs.LentLists.{after_field, whole_field, after_item, whole_item, list_count, whole_list}
+use Rattle.lists.specs.LentLists.{after_field, whole_field, front_item, after_item, whole_item, front_items, whole_items, list_count, whole_list}
 use Rattle.lists.proofs.Fields.{whole-items-flat, whole-item-less, whole-item-last}
 
 -- one of those that are left, and the others; none left
@@ -79,3 +79,33 @@ product-fits a b p q = mul-le-mul {n₂ = 65536} {m₂ = 65536} (omega arith) (o
 
 pub ruleset walks =
     (refusals, whole-item-less, whole-item-last, passing-first, passing-here, passing-next, passing-last, testing-none, testing-first, testing-next, testing-stop, testing-last)
+
+-- items one after the other: the first of those that are left, and the others; none left
+module _ (fields left : ℕ) (t : List ℕ) where
+  pub items-some : 0 < left → front_items fields left t ≡ front_item fields t ∷ front_items fields (left - 1) (after_item fields t)
+  unfolding front_items
+  items-some more = ap (λ (n : ℕ). front_items fields n t) (left-some left more)
+
+  pub items-none : left ≤ 0 → front_items fields left t ≡ []
+  unfolding front_items
+  items-none end = ap (λ (n : ℕ). front_items fields n t) (left-none left end)
+
+  whole-some : 0 < left → whole_items fields left t ≡ true → both (whole_item fields t) (whole_items fields (left - 1) (after_item fields t)) ≡ true
+  unfolding whole_items
+  whole-some more w = sym (ap (λ (n : ℕ). whole_items fields n t) (left-some left more)) ∙ w
+
+  pub whole-item-first : 0 < left → whole_items fields left t ≡ true → whole_item fields t ≡ true
+  whole-item-first more w = both-true-left _ _ (whole-some more w)
+
+  pub whole-items-rest : 0 < left → whole_items fields left t ≡ true → whole_items fields (left - 1) (after_item fields t) ≡ true
+  whole-items-rest more w = both-true-right _ _ (whole-some more w)
+
+-- a list that is whole holds its count, and its items
+module _ (fields : ℕ) (list : List ℕ) (w : whole_list fields list ≡ true) where
+  pub whole-list-count : 2 ≤ length list
+  unfolding whole_list
+  whole-list-count = leb-true 2 (length list) (both-true-left _ _ w)
+
+  pub whole-list-items : whole_items fields (list_count list) (drop 2 list) ≡ true
+  unfolding whole_list
+  whole-list-items = both-true-right _ _ w

@@ -4,9 +4,13 @@
 #![tactic(auto)]
 
 ghost use Rattle.std.specs.Prelude.{◌≡◌, true, ◌+◌, ◌^◌, ◌<◌, drop};
-ghost use Rattle.lists.specs.LentLists.{item_field, front_field, after_field, whole_field, front_item, after_item, whole_item, list_count, whole_list};
+ghost use Rattle.lists.specs.LentLists.{item_field, front_field, after_field, whole_field, front_item, after_item, whole_item, list_count, whole_list, list_items};
 
-use octets::parts::between;
+mod field;
+pub mod item;
+
+use item::Items;
+use octets::parts::{after, between};
 use octets::wide::two;
 
 // Where the first item starts: after the count.
@@ -93,4 +97,15 @@ pub fn item_field(list: &[u8], at: usize, i: usize) -> &[u8]
     ensures { result.now ≡ item_field i (front_item (i + 1) (drop at list.now)) }
 {
     field_at(list, after_item(list, at, i))
+}
+
+// The items of a list that `is_whole` has accepted.
+pub fn items_of<const FIELDS: usize>(list: &[u8]) -> Items<'_, FIELDS>
+    requires { whole_list FIELDS list.now ≡ true }
+    ensures { result ≡ list_items FIELDS list.now }
+{
+    Items {
+        octets: after(list, 2),
+        left: count_of(list),
+    }
 }
