@@ -1,4 +1,5 @@
 -- Laws of document 01's definitions.
+pub mod Apart
 pub mod Families
 pub mod FieldRecords
 pub mod Fecs

@@ -3,7 +3,7 @@ ghost use Rattle.std.specs.Prelude.{◌≡◌};
 ghost use Rattle.nlri.specs.Family.{family_bits, family_outcome};
 
 use crate::address::AddressKind;
-use octets::number::FAMILY;
+use octets::refusal::Refusal;
 
 // Address family identifiers.
 #[derive(Clone, Copy)]
@@ -15,22 +15,15 @@ impl AddressFamily {
     pub const IPV6: u16 = 2;
 }
 
-// A family by the kind of its addresses, or the refusal's number.
-#[derive(Clone, Copy)]
-pub enum Family {
-    Known(AddressKind),
-    Unknown(u32),
-}
-
-// The family of an AFI.
-pub fn family_of(afi: u16) -> Family
+// The kind of the addresses of an AFI's family. FAMILY.
+pub fn family_of(afi: u16) -> Result<AddressKind, Refusal>
     ensures { family_outcome result ≡ family_bits afi }
 {
     if afi == AddressFamily::IPV4 {
-        return Family::Known(AddressKind::ipv4());
+        return Ok(AddressKind::ipv4());
     }
     if afi == AddressFamily::IPV6 {
-        return Family::Known(AddressKind::ipv6());
+        return Ok(AddressKind::ipv6());
     }
-    Family::Unknown(FAMILY)
+    Err(Refusal::Family)
 }

@@ -2,18 +2,19 @@
 ghost use Rattle.std.specs.Prelude.{◌≡◌, ◌+◌, ◌<◌, ◌≤◌, true, false, length};
 ghost use Rattle.octets.specs.Octets.{part};
 ghost use Rattle.octets.specs.Outcome.{refused};
+ghost use Rattle.octets.specs.Refusals.{refusal_number};
 ghost use Rattle.nlri.specs.Reading.{read_nlri};
 ghost use Rattle.nlri.specs.Answers.{address_struct, distinguisher_struct, nlri_struct, nlri_answer};
 ghost use Rattle.nlri.specs.Inner.{with_key, with_fec, with_source_as, distinguisher_at, source_as_at, leaf_layout, fec_layout, mldp_layout, layout_in, KeyStands, FecStands, MldpStands, Stands, fields_at, key_at, fec_in_layout, answer_at, LayoutWithin};
 
 use crate::address::{Address, AddressKind, RouteDistinguisher};
-use crate::family::Family;
 use crate::header::HEADER;
 use crate::layout::Layout;
 use crate::route::RouteType;
 use crate::{family, layout, mldp, read, route};
 use octets::Span;
-use octets::number::{DONE, FAMILY};
+use octets::number::DONE;
+use octets::refusal::Refusal;
 
 // A field that the route type lacks is zeros in an answer, and is not looked at in an argument.
 #[repr(C)]
@@ -97,11 +98,11 @@ fn nlri_in(layout: Layout, s: &[u8]) -> Nlri
 }
 
 // The answer of a refusal: its number and empty fields.
-fn refusal(number: u32) -> NlriReading
-    ensures { result ≡ nlri_answer (refused number) }
+fn refused(refusal: Refusal) -> NlriReading
+    ensures { result ≡ nlri_answer (refused (refusal_number refusal)) }
 {
     NlriReading {
-        number,
+        number: refusal.number(),
         nlri: Nlri {
             distinguisher: RouteDistinguisher { octets: [0; 8] },
             source: Address::wildcard(),
@@ -241,12 +242,11 @@ fn accepted_reading(s: &[u8]) -> NlriReading
 pub fn read_nlri(afi: u16, s: &[u8]) -> NlriReading
     ensures { result ≡ nlri_answer (read_nlri afi s.now) }
 {
-    let Family::Known(kind) = family::family_of(afi) else {
-        return refusal(FAMILY);
+    let Ok(kind) = family::family_of(afi) else {
+        return refused(Refusal::Family);
     };
-    let fault = read::single_fault(kind, s);
-    if fault != DONE {
-        return refusal(fault);
+    match read::check_single(kind, s) {
+        Ok(()) => accepted_reading(s),
+        Err(refusal) => refused(refusal),
     }
-    accepted_reading(s)
 }

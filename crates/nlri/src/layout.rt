@@ -39,13 +39,6 @@ impl Layout {
     }
 }
 
-// What reading an NLRI comes to: its layout, or the refusal's number.
-#[derive(Clone, Copy)]
-pub enum Reading {
-    Nlri(Layout),
-    Refused(u32),
-}
-
 // Where the octets of a source begin, behind its length octet: in types 6 and 7 the source AS stands before that.
 pub(crate) fn source_start(route_type: usize) -> usize
     ensures { result ≡ source_start route_type }

@@ -28,5 +28,5 @@ returns-then-s-2 c = search flags
 pub returns : goal.returns
 unfolding s_pmsi_under
 returns c =
-    let last = ap (λ (n : ℕ). eqb n DONE) c.flow_fault.ensures in
+    let last = ap (λ (n : ℕ). eqb n DONE) c.check_flow.ensures in
     search flags
