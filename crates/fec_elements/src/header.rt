@@ -43,10 +43,10 @@ fn takes_family(standing: Standing, address_family: u32) -> bool
 }
 
 // A type of mLDP FECs.
-fn is_fec_type(fec_type: u8) -> bool
-    ensures { result ≡ is_fec_type fec_type }
+fn is_fec_type(octet: u8) -> bool
+    ensures { result ≡ is_fec_type octet }
 {
-    FecType::P2MP <= fec_type && fec_type <= FecType::MP2MP_DOWN
+    FecType::try_from(octet).is_ok()
 }
 
 // An address length that suits the address family (RFC 4760).

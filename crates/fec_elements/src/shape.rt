@@ -2,17 +2,31 @@
 ghost use Rattle.std.specs.Prelude.{◌≡◌, ◌<◌, ◌≤◌, length};
 ghost use Rattle.fec_elements.specs.Reading.{opaque_start, fec_size, short_fec};
 ghost use Rattle.fec_elements.specs.Inner.{ends_from};
+ghost use Rattle.fec_elements.specs.FecTypes.{IsFecTypeOf};
+
+use octets::refusal::Refusal;
 
 // The types of FECs.
-#[derive(Clone, Copy)]
-pub struct FecType {}
+#[derive(Clone, Copy, Debug, PartialEq, Eq)]
+pub enum FecType {
+    P2mp = 6,
+    Mp2mpUp = 7,
+    Mp2mpDown = 8,
+}
 
-impl FecType {
-    pub const P2MP: u8 = 6;
+impl TryFrom<u8> for FecType {
+    type Error = Refusal;
 
-    pub const MP2MP_UP: u8 = 7;
+    ghost try_from_gives = { IsFecTypeOf };
 
-    pub const MP2MP_DOWN: u8 = 8;
+    fn try_from(octet: u8) -> Result<FecType, Refusal> {
+        match octet {
+            6 => Ok(FecType::P2mp),
+            7 => Ok(FecType::Mp2mpUp),
+            8 => Ok(FecType::Mp2mpDown),
+            _ => Err(Refusal::Ident),
+        }
+    }
 }
 
 // Type 1, address family 2, address length 1.
