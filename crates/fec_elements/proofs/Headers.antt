@@ -1,6 +1,6 @@
 -- Laws of judging a FEC up to its opaque value: what DONE says of the octets, and every other number exactly when.
 use Prim.Native.Nat.{ℕ, ◌+◌}
-use mathlib.Core.Path.{◌≡◌, refl, sym, ap, ◌∙◌}
+use mathlib.Core.Path.{◌≡◌, refl, ap, ◌∙◌}
 use mathlib.Core.Logic.{⊎_elim}
 use mathlib.Core.Bool.{Bool, true, false}
 use mathlib.Core.List.{List, [], ◌∷◌}
@@ -16,11 +16,6 @@ use Rattle.octets.proofs.Lists.{empty-list}
 use Rattle.fec_elements.specs.declared.Standing.{Standing}
 use Rattle.fec_elements.specs.declared.Standing.TheVariants.{InBody, Lent, Filling}
 use Rattle.fec_elements.specs.Fields.{FecType, p2mp, mp2mp_up, mp2mp_down}
-use Rattle.std.proofs.Common.{Result, Ok, Err, is_ok}
-use Rattle.octets.specs.declared.refusal.Refusal.{Refusal}
-use Rattle.fec_elements.specs.declared.shape.FecType.{FecType as FecTypeName}
-use Rattle.fec_elements.specs.declared.shape.FecType.TheVariants.{P2mp, Mp2mpUp, Mp2mpDown}
-use Rattle.fec_elements.specs.FecTypes.{IsFecTypeOf}
 use Rattle.fec_elements.specs.Reading.{opaque_start, opaque_size, fec_size, runs_out, must_fill, takes_family, family_suits, is_fec_type, length_fault, root_fault, family_fault, header_fault}
 use Rattle.fec_elements.specs.Rules.FecRules.{OfFamily, in_body, lent, filling, Followed, anything, nothing_lent, nothing, Ended, inside, inside_lent, inside_filling, TypeStands, FamilyStands, SizeStands, opaque_length, HeaderFault, type_ends, bad_type, family_ends, bad_family, size_ends, bad_size, root_ends, opaque_ends, overfull}
 use Rattle.fec_elements.proofs.Fecs.{suits_of, suits-computed, FecTests, start_is, start-in}
@@ -40,19 +35,6 @@ unfolding is_fec_type both
 type-computed p2mp = refl
 type-computed mp2mp_up = refl
 type-computed mp2mp_down = refl
-
--- the types that there are not
-pub no-type : (t : ℕ) → (t ≡ 6 → ⊥) → (t ≡ 7 → ⊥) → (t ≡ 8 → ⊥) → is_fec_type t ≡ false
-unfolding is_fec_type
-no-type t a b c = is_false _ (λ h. let p = both-held _ _ h in omega (arith, leb-true 6 t p.0, leb-true t 8 p.1))
-
--- a type that is found by its octet
-pub type-found : (t : ℕ) (found : Result FecTypeName Refusal) (b : Bool) → IsFecTypeOf t found → b ≡ is_ok found → b ≡ is_fec_type t
-unfolding is_fec_type both
-type-found t (Ok P2mp) b h e = rw (← h) e
-type-found t (Ok Mp2mpUp) b h e = rw (← h) e
-type-found t (Ok Mp2mpDown) b h e = rw (← h) e
-type-found t (Err refusal) b h e = e ∙ sym h.1
 
 -- how a FEC stands, computed
 family-of : (p : Standing) (address_family : ℕ) → takes_family p address_family ≡ true → OfFamily p address_family

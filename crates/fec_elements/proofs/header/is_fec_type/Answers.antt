@@ -1,5 +1,5 @@
 -- `fec_elements::header::is_fec_type` meets its contract.
-use Rattle.fec_elements.proofs.Headers.{type-found}
+use Rattle.fec_elements.proofs.FecTypes.{type-found}
 use Rattle.fec_elements.proofs.header.is_fec_type.Goals as goal
 
 pub returns : goal.returns
