@@ -5,6 +5,8 @@ use Rattle.octets.specs.Choice.{pick, both}
 use Rattle.nlri.specs.Groups.{ASM, SSM, group_of}
 use Rattle.groups.specs.Classes.{class_by}
 use Rattle.routes.specs.declared.Matched.{Matched}
+use Rattle.routes.specs.declared.Reason.{Reason}
+use Rattle.routes.specs.declared.Reason.TheVariants.{Taken, NoSuchRoute, WrongGroupClass, EarlierTierWon}
 use Rattle.routes.specs.declared.Explained.{Explained}
 use Rattle.routes.specs.Query.{Flow}
 use Rattle.routes.specs.Asked.{of_flow}
@@ -28,6 +30,13 @@ WRONG_GROUP_CLASS = 3
 -- an earlier tier already won
 abbrev pub EARLIER_TIER_WON : ℕ
 EARLIER_TIER_WON = 4
+
+-- the number of each
+abbrev pub reason_number : Reason → ℕ
+reason_number Taken = TAKEN
+reason_number NoSuchRoute = NO_SUCH_ROUTE
+reason_number WrongGroupClass = WRONG_GROUP_CLASS
+reason_number EarlierTierWon = EARLIER_TIER_WON
 
 -- the reason of a tier, by the tier that won, 0 where none did, and by whether the group's class lets the tier. Every tier after the winner says that
 -- it won; elsewhere the wrong class is said before no such route

@@ -2,15 +2,23 @@
 #![tactic(auto)]
 
 ghost use Rattle.std.specs.Prelude.{◌≡◌};
-ghost use Rattle.routes.specs.Answers.{refused_install, done_install, refused_restart, empty_match};
-ghost use Rattle.routes.specs.Reasons.{refused_explanation};
-ghost use Rattle.routes.specs.Next.{empty_next};
-ghost use Rattle.routes.specs.Info.{empty_info};
-ghost use Rattle.routes.specs.Salvage.{empty_salvage};
+ghost use Rattle.routes.specs.Answers.{installed_by, restarted_by, empty_match};
+ghost use Rattle.routes.specs.Reasons.{reason_number, refused_explanation};
+ghost use Rattle.routes.specs.Next.{empty_next, following_told};
+ghost use Rattle.routes.specs.Info.{facts_by};
+ghost use Rattle.routes.specs.Salvage.{drop_octet, salvaged_by};
 
 use octets::number::DONE;
+use octets::refusal::Refusal;
 
-// What install answers: DONE with NEW or REPLACED, or the refusal's number and 0.
+// What an install did: the NLRI was not held, or it was, and has this attribute now.
+#[derive(Clone, Copy, Debug, PartialEq, Eq)]
+pub enum Installation {
+    New = 1,
+    Replaced = 2,
+}
+
+// What install answers: DONE with the number of what it did, or the refusal's number and 0.
 #[repr(C)]
 #[derive(Clone, Copy)]
 pub struct Installed {
@@ -18,25 +26,19 @@ pub struct Installed {
     pub outcome: u32,
 }
 
-impl Installed {
-    pub const NEW: u32 = 1;
+impl From<Result<Installation, Refusal>> for Installed {
+    ghost from_gives = { λ done installed. installed ≡ installed_by done };
 
-    pub const REPLACED: u32 = 2;
-
-    // An install that is refused.
-    pub fn refused(number: u32) -> Installed
-        ensures { result ≡ refused_install number }
-    {
-        Installed { number, outcome: 0 }
-    }
-
-    // An install that is done, with NEW or REPLACED.
-    pub fn done(outcome: u32) -> Installed
-        ensures { result ≡ done_install outcome }
-    {
-        Installed {
-            number: DONE,
-            outcome,
+    fn from(done: Result<Installation, Refusal>) -> Installed {
+        match done {
+            Ok(installation) => Installed {
+                number: DONE,
+                outcome: installation as u32,
+            },
+            Err(refusal) => Installed {
+                number: refusal.number(),
+                outcome: 0,
+            },
         }
     }
 }
@@ -49,12 +51,17 @@ pub struct Restarted {
     pub gone: u32,
 }
 
-impl Restarted {
-    // A call that is refused.
-    pub fn refused(number: u32) -> Restarted
-        ensures { result ≡ refused_restart number }
-    {
-        Restarted { number, gone: 0 }
+impl From<Result<u32, Refusal>> for Restarted {
+    ghost from_gives = { λ done restarted. restarted ≡ restarted_by done };
+
+    fn from(done: Result<u32, Refusal>) -> Restarted {
+        match done {
+            Ok(gone) => Restarted { number: DONE, gone },
+            Err(refusal) => Restarted {
+                number: refusal.number(),
+                gone: 0,
+            },
+        }
     }
 }
 
@@ -89,6 +96,23 @@ impl Matched {
     }
 }
 
+// Why a tier was taken or not.
+#[derive(Clone, Copy, Debug, PartialEq, Eq)]
+pub enum Reason {
+    Taken = 1,
+    NoSuchRoute = 2,
+    WrongGroupClass = 3,
+    EarlierTierWon = 4,
+}
+
+impl From<Reason> for u32 {
+    ghost from_gives = { λ reason number. number ≡ reason_number reason };
+
+    fn from(reason: Reason) -> u32 {
+        reason as u32
+    }
+}
+
 // What explain answers: match's whole answer, and of tiers 1 to 4 in turn why it was taken or not; on a refusal all reasons are 0.
 #[repr(C)]
 #[derive(Clone, Copy)]
@@ -117,6 +141,14 @@ impl Explained {
     }
 }
 
+// The route that comes next: the sizes of its NLRI and its attribute, and whether it is marked stale.
+#[derive(Clone, Copy)]
+pub struct NextRoute {
+    pub nlri_size: u32,
+    pub attribute_size: u32,
+    pub is_stale: bool,
+}
+
 // What next answers: DONE with both sizes and the mark, 1 where the route is marked stale, all 0 where no route comes after, or the
 // refusal's number and 0.
 #[repr(C)]
@@ -129,8 +161,8 @@ pub struct Following {
 }
 
 impl Following {
-    // A call that is refused.
-    pub fn refused(number: u32) -> Following
+    // A number and empty fields.
+    fn empty(number: u32) -> Following
         ensures { result ≡ empty_next number }
     {
         Following {
@@ -140,16 +172,34 @@ impl Following {
             stale: 0,
         }
     }
+}
 
-    // No route comes after.
-    pub fn none() -> Following
-        ensures { result ≡ empty_next 0 }
-    {
-        Following::refused(DONE)
+impl From<Result<Option<NextRoute>, Refusal>> for Following {
+    ghost from_gives = { λ told following. following ≡ following_told told };
+
+    fn from(told: Result<Option<NextRoute>, Refusal>) -> Following {
+        match told {
+            Ok(Some(route)) => Following {
+                number: DONE,
+                nlri_size: route.nlri_size,
+                attribute_size: route.attribute_size,
+                stale: route.is_stale as u32,
+            },
+            Ok(None) => Following::empty(DONE),
+            Err(refusal) => Following::empty(refusal.number()),
+        }
     }
 }
 
-// What a table says of itself: DONE with its family, its places and how many routes are in them, or the refusal's number and 0.
+// A sound table's family, its places, and how many routes are in them.
+#[derive(Clone, Copy)]
+pub struct TableContents {
+    pub afi: u32,
+    pub places: u32,
+    pub routes: u32,
+}
+
+// What a table says of itself: DONE with what it has, or the refusal's number and 0.
 #[repr(C)]
 #[derive(Clone, Copy)]
 pub struct TableFacts {
@@ -159,21 +209,50 @@ pub struct TableFacts {
     pub routes: u32,
 }
 
-impl TableFacts {
-    // A call that is refused.
-    pub fn refused(number: u32) -> TableFacts
-        ensures { result ≡ empty_info number }
-    {
-        TableFacts {
-            number,
-            afi: 0,
-            places: 0,
-            routes: 0,
+impl From<Result<TableContents, Refusal>> for TableFacts {
+    ghost from_gives = { λ told facts. facts ≡ facts_by told };
+
+    fn from(told: Result<TableContents, Refusal>) -> TableFacts {
+        match told {
+            Ok(contents) => TableFacts {
+                number: DONE,
+                afi: contents.afi,
+                places: contents.places,
+                routes: contents.routes,
+            },
+            Err(refusal) => TableFacts {
+                number: refusal.number(),
+                afi: 0,
+                places: 0,
+                routes: 0,
+            },
         }
     }
 }
 
-// What salvage answers: DONE with how many routes are kept and how many places dropped, or the refusal's number and 0.
+// Why salvage drops a place: it is bad, or it repeats the NLRI of a good place before it.
+#[derive(Clone, Copy, Debug, PartialEq, Eq)]
+pub enum DropReason {
+    Bad = 1,
+    Repeated = 2,
+}
+
+impl From<DropReason> for u8 {
+    ghost from_gives = { λ reason octet. octet ≡ drop_octet reason };
+
+    fn from(reason: DropReason) -> u8 {
+        reason as u8
+    }
+}
+
+// How many routes salvage keeps, and how many places it drops.
+#[derive(Clone, Copy)]
+pub struct SalvageCounts {
+    pub kept: u32,
+    pub dropped: u32,
+}
+
+// What salvage answers: DONE with its counts, or the refusal's number and 0.
 #[repr(C)]
 #[derive(Clone, Copy)]
 pub struct Salvaged {
@@ -182,20 +261,21 @@ pub struct Salvaged {
     pub dropped: u32,
 }
 
-impl Salvaged {
-    // The reasons for which a place is dropped.
-    pub const BAD: u8 = 1;
+impl From<Result<SalvageCounts, Refusal>> for Salvaged {
+    ghost from_gives = { λ done salvaged. salvaged ≡ salvaged_by done };
 
-    pub const REPEATED: u8 = 2;
-
-    // A call that is refused.
-    pub fn refused(number: u32) -> Salvaged
-        ensures { result ≡ empty_salvage number }
-    {
-        Salvaged {
-            number,
-            kept: 0,
-            dropped: 0,
+    fn from(done: Result<SalvageCounts, Refusal>) -> Salvaged {
+        match done {
+            Ok(counts) => Salvaged {
+                number: DONE,
+                kept: counts.kept,
+                dropped: counts.dropped,
+            },
+            Err(refusal) => Salvaged {
+                number: refusal.number(),
+                kept: 0,
+                dropped: 0,
+            },
         }
     }
 }
