@@ -9,9 +9,18 @@
 --     some_item asked (list_items FIELDS l.list) ≡ some_item asked l.item-iterator
 -- A turn and each answer are `search along`. Where a loop carries a value along, what the items come to from that value on is a function of the
 -- crate's own, and a turn is `turn`.
+use Prim.Native.Nat.{ℕ}
+use Rattle.std.specs.Prelude.{◌≢◌, Result}
+use Rattle.std.specs.Result.{IsErrAnd}
 use mathlib.Core.Path.{◌≡◌, refl, sym, ◌∙◌, ap}
 use mathlib.Core.Bool.{Bool, true, false, not}
 use mathlib.Core.List.{List, [], ◌∷◌}
+use lib.Dec.{eqb}
+use borrow.Author.Tests.{eq-eqb, ne_eqb}
+use Rattle.octets.specs.Numbers.{DONE}
+use Rattle.octets.specs.declared.refusal.Refusal.{Refusal}
+use Rattle.octets.specs.Refusals.{refusal_number, result_number}
+use Rattle.octets.proofs.Refusals.{refusal_number-not_done, passed_on}
 use Rattle.octets.proofs.Choice.{pick_true, pick-false}
 use Rattle.octets.proofs.Tests.{refusals}
 use Rattle.lists.specs.LentLists.{Item, first_item, every_item, some_item}
@@ -65,4 +74,21 @@ module _ (test : Item → Bool) {all : Bool} {items : List Item} where
   unfolding some_item
   some-end e s = first-end test (λ y. true) false e s
 
-pub ruleset along = (refusals, first-next, first-found, first-end, every-next, every-stop, every-end, some-next, some-found, some-end)
+-- the first number of an item that is not DONE
+module _ (fault : Item → ℕ) {all : ℕ} {items : List Item} where
+  pub fault-next : {rest : List Item} {x : Item} → all ≡ first_item (λ y. not (eqb (fault y) DONE)) fault DONE items → items ≡ x ∷ rest → DONE ≡ fault x
+      → all ≡ first_item (λ y. not (eqb (fault y) DONE)) fault DONE rest
+  fault-next e s d = first-next (λ y. not (eqb (fault y) DONE)) fault DONE e s (ap not (eq-eqb _ DONE (sym d)))
+
+  pub fault-stop : {rest : List Item} {x : Item} → (n : ℕ) → all ≡ first_item (λ y. not (eqb (fault y) DONE)) fault DONE items → items ≡ x ∷ rest → n ≡ fault x → n ≢ DONE → n ≡ all
+  fault-stop n e s h d = first-found (λ y. not (eqb (fault y) DONE)) fault DONE n e s (ap not (ne_eqb _ DONE (λ z. d (h ∙ z)))) h
+
+  pub fault-end : all ≡ first_item (λ y. not (eqb (fault y) DONE)) fault DONE items → items ≡ [] → DONE ≡ all
+  fault-end e s = first-end (λ y. not (eqb (fault y) DONE)) fault DONE e s
+
+  -- passed on by `?`
+  pub fault-passed : {A : Type 0} {rest : List Item} {x : Item} → (result : Result A Refusal) (refusal : Refusal) → IsErrAnd result (λ y. y ≡ refusal)
+      → all ≡ first_item (λ y. not (eqb (fault y) DONE)) fault DONE items → items ≡ x ∷ rest → refusal_number refusal ≡ fault x → result_number result ≡ all
+  fault-passed result refusal is e s h = passed_on result refusal is ∙ fault-stop (refusal_number refusal) e s h (refusal_number-not_done refusal)
+
+pub ruleset along = (refusals, first-next, first-found, first-end, every-next, every-stop, every-end, some-next, some-found, some-end, fault-next, fault-stop, fault-passed, fault-end)

@@ -3,7 +3,7 @@
 // `count_of` and `is_whole` before it looks at items.
 #![tactic(auto)]
 
-ghost use Rattle.std.specs.Prelude.{◌≡◌, true, ◌+◌, ◌^◌, ◌<◌, drop};
+ghost use Rattle.std.specs.Prelude.{◌≡◌, true, ◌+◌, ◌^◌, ◌<◌, length, drop};
 ghost use Rattle.lists.specs.LentLists.{item_field, front_field, after_field, whole_field, front_item, after_item, whole_item, list_count, whole_list, list_items};
 
 mod field;
@@ -25,20 +25,6 @@ pub fn count_of(list: &[u8]) -> usize
         return 0;
     }
     two(list, 0) as usize
-}
-
-// The field at `at` does not run past the list.
-fn is_field_whole(list: &[u8], at: usize) -> bool
-    ensures { result ≡ whole_field (drop at list.now) }
-{
-    if list.len() < 2 {
-        return false;
-    }
-    let last = list.len() - 2;
-    if last < at {
-        return false;
-    }
-    two(list, at) as usize <= last - at
 }
 
 // Where what follows the field at `at` starts.
@@ -65,14 +51,12 @@ pub fn is_whole(list: &[u8], fields: usize) -> bool
     if list.len() < 2 {
         return false;
     }
-    let mut at = FIRST;
-    let mut fields_left = count_of(list) * fields;
-    while 0 < fields_left {
-        if !is_field_whole(list, at) {
+    let mut rest = after(list, FIRST);
+    for _ in 0..count_of(list) * fields {
+        if !field::is_whole(rest) {
             return false;
         }
-        at = after_field(list, at);
-        fields_left -= 1;
+        rest = field::after(rest);
     }
     true
 }
@@ -83,10 +67,8 @@ pub fn after_item(list: &[u8], at: usize, fields: usize) -> usize
     ensures { drop result list.now ≡ after_item fields (drop at list.now) }
 {
     let mut next = at;
-    let mut left = fields;
-    while 0 < left {
+    for _ in 0..fields {
         next = after_field(list, next);
-        left -= 1;
     }
     next
 }
@@ -102,7 +84,8 @@ pub fn item_field(list: &[u8], at: usize, i: usize) -> &[u8]
 // The items of a list that `is_whole` has accepted.
 pub fn items_of<const FIELDS: usize>(list: &[u8]) -> Items<'_, FIELDS>
     requires { whole_list FIELDS list.now ≡ true }
-    ensures { result ≡ list_items FIELDS list.now }
+    ensures value { result ≡ list_items FIELDS list.now }
+    ensures upper_bound { length result < 2 ^ 16 }
 {
     Items {
         octets: after(list, 2),

@@ -1,21 +1,16 @@
 -- `lists::after_item` meets its contract: what follows the item follows the fields that are left.
-use Rattle.lists.proofs.Walks.{walks}
+use native.Mathlib.Omega.{arith}
+use Rattle.lists.proofs.Walks.{passing-next, walks}
 use Rattle.lists.proofs.after_item.Goals as goal
 
-pub loop-left-init : goal.loop-left-init
-loop-left-init c = search walks
+pub loop-init : goal.loop-init
+loop-init c = search walks
 
 pub after_field-next-requires : goal.after_field-next-requires
 after_field-next-requires c = search walks
 
-pub overflow_sub-left : goal.overflow_sub-left
-overflow_sub-left c = search walks
-
-pub loop-left-smaller : goal.loop-left-smaller
-loop-left-smaller c = search walks
-
-pub loop-left-preserved : goal.loop-left-preserved
-loop-left-preserved c = search walks
+pub loop-preserved : goal.loop-preserved
+loop-preserved c = passing-next c.loop.invariant _ _ (omega arith) c.after_field-next.ensures
 
 pub returns : goal.returns
 returns c = search walks
