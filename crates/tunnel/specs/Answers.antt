@@ -1,6 +1,6 @@
 -- What the public calls answer, in document 01's numbers and values.
 use Rattle.std.specs.Prelude.{ℕ, ◌+◌, List, Result, length}
-use Rattle.octets.specs.Outcome.{Outcome, given, refused, and_then, on_outcome}
+use Rattle.octets.specs.Outcome.{Outcome, given, and_then, on_outcome}
 use Rattle.octets.specs.Refusals.{outcome_in}
 use Rattle.octets.specs.declared.Span.{Span}
 use Rattle.octets.specs.declared.refusal.Refusal.{Refusal}

@@ -1,20 +1,20 @@
 -- Laws of judging an identifier: a tunnel type is looked up in the table exactly, and reading accepts exactly the identifiers of its
 -- row's form.
-use Prim.Native.Nat.{ℕ, zero, suc, ◌+◌, ◌≤◌, ◌<◌}
+use Prim.Native.Nat.{ℕ, ◌+◌, ◌≤◌}
 use mathlib.Core.Path.{◌≡◌, refl, sym, ap, subst, ◌∙◌}
 use mathlib.Core.Logic.{⊎_elim}
-use mathlib.Core.Bool.{Bool, true, false}
+use mathlib.Core.Bool.{true}
 use mathlib.Core.List.{List, [], ◌∷◌}
 use native.Mathlib.Omega.{arith}
-use lib.Dec.{ltb, eqb}
+use lib.Dec.{eqb}
 use lib.ListN.{length, get_or}
-use borrow.Author.Tests.{ltb-true, ltb-false, eqb-true, eqb-false, eq-eqb, ne_eqb}
+use borrow.Author.Tests.{eqb-true, eqb-false, eq-eqb, ne_eqb}
 use Rattle.octets.specs.Lists.{Among, first, later}
-use Rattle.octets.specs.Choice.{pick, both, either}
+use Rattle.octets.specs.Choice.{either}
 use Rattle.octets.specs.Numbers.{DONE, TUNNEL, IDENT}
-use Rattle.octets.specs.Outcome.{Outcome, given, refused, on_outcome, and_then, number_of}
+use Rattle.octets.specs.Outcome.{Outcome, given, refused, and_then, number_of}
 use Rattle.octets.specs.Octets.{AllOctets}
-use Rattle.octets.proofs.Choice.{both_true, either_left, tested, pick_true, pick-false, pick-case, pick-passed, opposite, is_false, both-held, picked, either_second}
+use Rattle.octets.proofs.Choice.{both_true, either_left, tested, pick_true, pick-false, pick-case, opposite, is_false, both-held, picked, either_second}
 use Rattle.octets.proofs.Outcome.{never, given-same, refused-same, given-unless, and-case, passed, done-given, Refuses, value, number, refuses-by, refuses-also}
 use Rattle.fec_elements.specs.Fields.{encode_fec}
 use Rattle.fec_elements.specs.Reading.{fec_in, whole_fec}

@@ -5,7 +5,7 @@ use mathlib.Core.Bool.{true, false}
 use mathlib.Core.List.{List, [], ◌∷◌}
 use lib.ListN.{length, get_or, drop}
 use Rattle.octets.specs.Numbers.{DONE}
-use Rattle.octets.specs.Outcome.{Outcome, given, refused, on_outcome, and_then, number_of}
+use Rattle.octets.specs.Outcome.{given, refused, on_outcome, and_then, number_of}
 use Rattle.octets.specs.Choice.{pick}
 use Rattle.octets.proofs.Choice.{opposite}
 use Rattle.octets.proofs.Outcome.{refused-of}
@@ -15,7 +15,7 @@ use Rattle.tunnel.specs.TunnelTypes.{tunnel_type_octet, is_mldp}
 use Rattle.tunnel.specs.declared.Attribute.{Attribute}
 use Rattle.tunnel.specs.declared.fec.Fec.{Fec}
 use Rattle.fec_elements.specs.Reading.{fec_in, whole_fec}
-use Rattle.tunnel.specs.Identifier.{IdentifierForm, sizes, fec_types, on_form, identifier_forms, form_in, form_of, read_identifier}
+use Rattle.tunnel.specs.Identifier.{sizes, fec_types, on_form, identifier_forms, form_in, form_of, read_identifier}
 use Rattle.tunnel.specs.Attribute.{AttributeFields, fields_in, read_attribute}
 use Rattle.tunnel.specs.Answers.{fec_spans, no_fec, fec_answer, attribute_struct, read_struct}
 use Rattle.fec_elements.proofs.Wholes.{length-fec}

@@ -1,18 +1,16 @@
 -- The table's rows as the code tests them.
 use Prim.Native.Nat.{ℕ}
-use mathlib.Core.Path.{◌≡◌, refl, ◌∙◌}
-use mathlib.Core.Bool.{Bool, true, false}
+use mathlib.Core.Path.{◌≡◌}
 use mathlib.Core.List.{List, [], ◌∷◌}
 use lib.Dec.{eqb}
 use lib.ListN.{length, get_or}
-use Rattle.octets.specs.Choice.{both, either}
+use Rattle.octets.specs.Choice.{either}
 use Rattle.octets.specs.Numbers.{TUNNEL}
 use Rattle.octets.specs.Outcome.{given, refused, and_then, number_of}
 use Rattle.octets.specs.Refusals.{refusal_number}
 use Rattle.octets.specs.declared.refusal.Refusal.{Refusal}
 use Rattle.octets.specs.declared.refusal.Refusal.TheVariants.{Tunnel}
 use Rattle.octets.proofs.Choice.{tested}
-use Rattle.fec_elements.specs.Reading.{whole_fec}
 use Rattle.tunnel.specs.Identifier.{IdentifierForm, sizes, fec_types, form_of, one_of, is_identifier, judged, read_identifier}
 use Rattle.tunnel.proofs.Definitions.Identifiers.{read_known}
 

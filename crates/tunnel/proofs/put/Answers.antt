@@ -1,5 +1,5 @@
 -- `tunnel::put` meets its contract: it goes by the first fault.
-use mathlib.Core.Path.{sym, refl, ◌∙◌}
+use mathlib.Core.Path.{sym, refl}
 use lib.ListN.{length}
 use native.Mathlib.Omega.{arith}
 use Rattle.octets.proofs.Refusals.{refusal_number-not_done, refused-by}

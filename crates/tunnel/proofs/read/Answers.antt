@@ -1,5 +1,5 @@
 -- `tunnel::read` meets its contract: it goes by the number of the first fault.
-use Rattle.std.proofs.Common.{refl, sym, ◌∙◌}
+use Rattle.std.proofs.Common.{refl, ◌∙◌}
 use Rattle.octets.proofs.Refusals.{refusal_number-not_done, passed_on-outcome}
 use Rattle.tunnel.proofs.Functions.Answers.{answer-refused, answer-given}
 use Rattle.tunnel.proofs.Definitions.Attributes.{read-tests}

@@ -1,6 +1,5 @@
 -- `tunnel::identifier::check` meets its contract: TUNNEL where the table has no row, and else what its row's judge says.
-use mathlib.Core.Path.{sym, ap, ◌∙◌}
-use Rattle.octets.specs.Refusals.{refusal_number}
+use mathlib.Core.Path.{◌∙◌}
 use Rattle.octets.proofs.Refusals.{passed_on}
 use Rattle.tunnel.proofs.Functions.Rows.{no-row}
 use Rattle.tunnel.proofs.identifier.check.Goals as goal
