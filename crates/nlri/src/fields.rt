@@ -185,7 +185,7 @@ fn mldp_leaf_reading(s: &[u8]) -> NlriReading
     requires { KeyStands s.now × LayoutWithin (leaf_layout 68 s.now) s.now }
     ensures { result ≡ answer_at (leaf_layout 68 s.now) s.now }
 {
-    let layout = layout::leaf_layout(RouteType::MLDP_LEAF, s);
+    let layout = layout::leaf_layout(RouteType::MldpLeaf as usize, s);
     let nlri = mldp_nlri_in(layout, s);
     NlriReading {
         number: DONE,
@@ -220,7 +220,7 @@ fn mldp_reading(route_type: usize, s: &[u8]) -> NlriReading
     requires { MldpStands route_type s.now × LayoutWithin (mldp_layout route_type s.now) s.now }
     ensures { result ≡ answer_at (mldp_layout route_type s.now) s.now }
 {
-    if route_type == RouteType::MLDP_LEAF {
+    if route_type == RouteType::MldpLeaf as usize {
         return mldp_leaf_reading(s);
     }
     fec_reading(route_type, s)
@@ -232,7 +232,7 @@ fn accepted_reading(s: &[u8]) -> NlriReading
     ensures { result ≡ answer_at (layout_in s.now) s.now }
 {
     let route_type = s[0] as usize;
-    if RouteType::SOURCE_TREE_JOIN < route_type {
+    if (RouteType::SourceTreeJoin as usize) < route_type {
         return mldp_reading(route_type, s);
     }
     reading_by(read::layout_in(s), s)

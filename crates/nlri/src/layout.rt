@@ -43,10 +43,10 @@ impl Layout {
 pub(crate) fn source_start(route_type: usize) -> usize
     ensures { result ≡ source_start route_type }
 {
-    if route_type == RouteType::SHARED_TREE_JOIN {
+    if route_type == RouteType::SharedTreeJoin as usize {
         return HEADER + RouteDistinguisher::WITH_SOURCE_AS + 1;
     }
-    if route_type == RouteType::SOURCE_TREE_JOIN {
+    if route_type == RouteType::SourceTreeJoin as usize {
         return HEADER + RouteDistinguisher::WITH_SOURCE_AS + 1;
     }
     HEADER + RouteDistinguisher::OCTETS + 1
@@ -56,7 +56,7 @@ pub(crate) fn source_start(route_type: usize) -> usize
 pub(crate) fn fec_start(route_type: usize) -> usize
     ensures { result ≡ fec_start route_type }
 {
-    if route_type == RouteType::MLDP_SOURCE_TREE_JOIN {
+    if route_type == RouteType::MldpSourceTreeJoin as usize {
         return HEADER + RouteDistinguisher::WITH_SOURCE_AS;
     }
     HEADER + RouteDistinguisher::OCTETS

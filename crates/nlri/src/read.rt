@@ -19,7 +19,7 @@ pub fn read_key(kind: AddressKind, s: &[u8]) -> Result<Header, Refusal>
     ensures { key_outcome result ≡ key_field kind.bits 4 s.now }
 {
     let header = header::read_header(s)?;
-    if RouteType::S_PMSI < header.route_type {
+    if (RouteType::SPmsi as usize) < header.route_type {
         return Err(Refusal::Key);
     }
     let body = octets::parts::between(s, HEADER, header.length);
@@ -32,10 +32,10 @@ fn check_leaf_body(kind: AddressKind, s: &[u8]) -> Result<(), Refusal>
     ensures { result_number result ≡ body_fault kind.bits 4 s.now }
 {
     // a part handed on, so that the slice reaches this function in registers
-    let Ok(key) = read_key(kind, &s[0..]) else {
-        return Err(Refusal::Key);
-    };
-    body::check_originator(HEADER + key.length, s.len())
+    match read_key(kind, &s[0..]) {
+        Ok(key) => body::check_originator(HEADER + key.length, s.len()),
+        Err(_) => Err(Refusal::Key),
+    }
 }
 
 // The group of a body of type 5 that is laid out.
@@ -51,7 +51,7 @@ fn group_in(s: &[u8]) -> &[u8]
 fn check_source_active_body(kind: AddressKind, s: &[u8]) -> Result<(), Refusal>
     ensures { result_number result ≡ source_active_body_fault kind.bits s.now }
 {
-    body::check_flow_body(kind, RouteType::SOURCE_ACTIVE, s)?;
+    body::check_flow_body(kind, RouteType::SourceActive as usize, s)?;
     if group::is_ssm(kind, group_in(s)) {
         return Err(Refusal::Group);
     }
@@ -62,10 +62,10 @@ fn check_source_active_body(kind: AddressKind, s: &[u8]) -> Result<(), Refusal>
 fn check_body(kind: AddressKind, route_type: usize, s: &[u8]) -> Result<(), Refusal>
     ensures { result_number result ≡ accepted_fault kind.bits route_type s.now }
 {
-    if route_type == RouteType::LEAF {
+    if route_type == RouteType::Leaf as usize {
         return check_leaf_body(kind, s);
     }
-    if RouteType::LEAF < route_type {
+    if (RouteType::Leaf as usize) < route_type {
         return check_later_body(kind, route_type, s);
     }
     body::check_keyable_body(kind, route_type, s)
@@ -76,8 +76,8 @@ fn check_later_body(kind: AddressKind, route_type: usize, s: &[u8]) -> Result<()
     requires { 4 < route_type }
     ensures { result_number result ≡ accepted_fault kind.bits route_type s.now }
 {
-    if route_type <= RouteType::SOURCE_TREE_JOIN {
-        if route_type == RouteType::SOURCE_ACTIVE {
+    if route_type <= RouteType::SourceTreeJoin as usize {
+        if route_type == RouteType::SourceActive as usize {
             return check_source_active_body(kind, s);
         }
         return body::check_flow_body(kind, route_type, s);
@@ -114,20 +114,20 @@ pub(crate) fn layout_in(s: &[u8]) -> Layout
 {
     let route_type = s[0] as usize;
     let length = s[1] as usize;
-    if route_type == RouteType::INTRA_AS_I_PMSI {
+    if route_type == RouteType::IntraAsIPmsi as usize {
         return layout::plain_layout(
-            RouteType::INTRA_AS_I_PMSI,
+            RouteType::IntraAsIPmsi as usize,
             length - RouteDistinguisher::OCTETS,
             s,
         );
     }
-    if route_type == RouteType::INTER_AS_I_PMSI {
-        return layout::plain_layout(RouteType::INTER_AS_I_PMSI, 0, s);
+    if route_type == RouteType::InterAsIPmsi as usize {
+        return layout::plain_layout(RouteType::InterAsIPmsi as usize, 0, s);
     }
-    if route_type == RouteType::LEAF {
-        return layout::leaf_layout(RouteType::LEAF, s);
+    if route_type == RouteType::Leaf as usize {
+        return layout::leaf_layout(RouteType::Leaf as usize, s);
     }
-    if RouteType::SOURCE_TREE_JOIN < route_type {
+    if (RouteType::SourceTreeJoin as usize) < route_type {
         return mldp::layout(route_type, s);
     }
     layout::flow_layout(route_type, layout::source_start(route_type) - 1, s)
@@ -197,7 +197,7 @@ fn is_s_pmsi_under(kind: AddressKind, s: &[u8]) -> bool
     if s.len() < HEADER + RouteDistinguisher::OCTETS {
         return false;
     }
-    if s[0] as usize != RouteType::S_PMSI {
+    if s[0] as usize != RouteType::SPmsi as usize {
         return false;
     }
     if s[1] as usize != s.len() - HEADER {
@@ -205,7 +205,7 @@ fn is_s_pmsi_under(kind: AddressKind, s: &[u8]) -> bool
     }
     body::check_flow(
         kind,
-        RouteType::S_PMSI,
+        RouteType::SPmsi as usize,
         HEADER + RouteDistinguisher::OCTETS,
         s,
     )

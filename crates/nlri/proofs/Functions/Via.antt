@@ -54,6 +54,11 @@ pub key_passed_on : (r : Result Header Refusal) (x : Refusal) → IsErrAnd r (λ
 key_passed_on (Ok h) x p = absurd p
 key_passed_on (Err y) x p = refl
 
+-- and the family, the class
+pub family_passed_on : (r : Result AddressKind Refusal) (x : Refusal) → IsErrAnd r (λ y. y ≡ x) → family_outcome r ≡ refused (refusal_number x)
+family_passed_on (Ok h) x p = absurd p
+family_passed_on (Err y) x p = ap (λ (z : Refusal). refused (refusal_number z)) p
+
 pub class_passed_on : (r : Result GroupClass Refusal) (x : Refusal) → IsErrAnd r (λ y. y ≡ x) → class_outcome r ≡ refused (refusal_number x)
 class_passed_on (Ok h) x p = absurd p
 class_passed_on (Err y) x p = ap (λ (z : Refusal). refused (refusal_number z)) p

@@ -7,9 +7,9 @@ pub returns-then-bits-kind : goal.returns-then-bits-kind
 unfolding allowed
 returns-then-bits-kind c = search flags
 
-pub returns-then-route_type-eq-S_PMSI : goal.returns-then-route_type-eq-S_PMSI
+pub returns-then-route_type : goal.returns-then-route_type
 unfolding allowed
-returns-then-route_type-eq-S_PMSI c = search flags
+returns-then-route_type c = search flags
 
 pub returns : goal.returns
 unfolding allowed

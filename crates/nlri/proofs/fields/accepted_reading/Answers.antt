@@ -9,10 +9,10 @@ pub overflow_cast-route_type : goal.overflow_cast-route_type
 overflow_cast-route_type c = omega (arith, c.shared_slice_known-2-1.given 0)
 
 pub mldp_reading-requires : goal.mldp_reading-requires
-mldp_reading-requires c = (c.requires.0.mldp c.if-route_type-gt-SOURCE_TREE_JOIN.true, subst (λ (l : Layout). LayoutWithin l c.args.s.now) (mldp-layout _ c.if-route_type-gt-SOURCE_TREE_JOIN.true) c.requires.1)
+mldp_reading-requires c = (c.requires.0.mldp c.if-route_type.true, subst (λ (l : Layout). LayoutWithin l c.args.s.now) (mldp-layout _ c.if-route_type.true) c.requires.1)
 
-pub returns-then-route_type-gt-SOURCE_TREE_JOIN : goal.returns-then-route_type-gt-SOURCE_TREE_JOIN
-returns-then-route_type-gt-SOURCE_TREE_JOIN c = c.mldp_reading.ensures ∙ ap (λ (l : Layout). answer_at l c.args.s.now) (sym (mldp-layout _ c.if-route_type-gt-SOURCE_TREE_JOIN.true))
+pub returns-then-route_type : goal.returns-then-route_type
+returns-then-route_type c = c.mldp_reading.ensures ∙ ap (λ (l : Layout). answer_at l c.args.s.now) (sym (mldp-layout _ c.if-route_type.true))
 
 pub reading_by-requires : goal.reading_by-requires
 reading_by-requires c = rw c.layout_in.ensures c.requires.1

@@ -4,8 +4,8 @@ use Rattle.nlri.proofs.Functions.Ends.{body_is}
 use Rattle.nlri.proofs.Functions.Discards.{accepted-other}
 use Rattle.nlri.proofs.read.check_body.Goals as goal
 
-pub returns-then-route_type-eq-LEAF : goal.returns-then-route_type-eq-LEAF
-returns-then-route_type-eq-LEAF c = c.check_leaf_body.ensures ∙ body_is _ _ _ 4 c.if-route_type-eq-LEAF.true ∙ accepted-other _ _ _ (λ z. omega (arith, c.if-route_type-eq-LEAF.true))
+pub returns-then-route_type : goal.returns-then-route_type
+returns-then-route_type c = c.check_leaf_body.ensures ∙ body_is _ _ _ 4 c.if-route_type.true ∙ accepted-other _ _ _ (λ z. omega (arith, c.if-route_type.true))
 
 pub returns : goal.returns
-returns c = c.check_keyable_body.ensures ∙ accepted-other _ _ _ (λ z. omega (arith, c.if-route_type-gt-LEAF.false))
+returns c = c.check_keyable_body.ensures ∙ accepted-other _ _ _ (λ z. omega (arith, c.if-route_type-2.false))

@@ -13,17 +13,17 @@ pub overflow_cast-s : goal.overflow_cast-s
 unfolding s_pmsi_under
 overflow_cast-s c = omega (arith, c.shared_slice_known-2-1.given 0)
 
-pub returns-then-s-ne-S_PMSI : goal.returns-then-s-ne-S_PMSI
+pub returns-then-s-2 : goal.returns-then-s-2
 unfolding s_pmsi_under
-returns-then-s-ne-S_PMSI c = search flags
+returns-then-s-2 c = search flags
 
 pub overflow_cast-s-2 : goal.overflow_cast-s-2
 unfolding s_pmsi_under
 overflow_cast-s-2 c = omega (arith, c.shared_slice_known-3-1.given 1)
 
-pub returns-then-s-2 : goal.returns-then-s-2
+pub returns-then-s-3 : goal.returns-then-s-3
 unfolding s_pmsi_under
-returns-then-s-2 c = search flags
+returns-then-s-3 c = search flags
 
 pub returns : goal.returns
 unfolding s_pmsi_under

@@ -3,13 +3,13 @@ use Rattle.nlri.specs.Inner.{is_mldp}
 use Rattle.octets.proofs.Tests.{flags}
 use Rattle.nlri.proofs.route.is_mldp.Goals as goal
 
-pub returns-then-route_type-eq-MLDP_S_PMSI : goal.returns-then-route_type-eq-MLDP_S_PMSI
+pub returns-then-route_type : goal.returns-then-route_type
 unfolding is_mldp
-returns-then-route_type-eq-MLDP_S_PMSI c = search flags
+returns-then-route_type c = search flags
 
-pub returns-then-route_type-eq-MLDP_LEAF : goal.returns-then-route_type-eq-MLDP_LEAF
+pub returns-then-route_type-2 : goal.returns-then-route_type-2
 unfolding is_mldp
-returns-then-route_type-eq-MLDP_LEAF c = search flags
+returns-then-route_type-2 c = search flags
 
 pub returns : goal.returns
 unfolding is_mldp

@@ -10,8 +10,8 @@ returns-then-s-lt-ENOUGH c t = absurd (opposite t refl)
 pub overflow_cast-s : goal.overflow_cast-s
 overflow_cast-s c = omega (arith, c.shared_slice_known-2-1.given 0)
 
-pub returns-then-s-eq-LEAF : goal.returns-then-s-eq-LEAF
-returns-then-s-eq-LEAF c t = sure-number _ 4 106 _ (c.is_surely_leaf.ensures t) c.if-s-eq-LEAF.true (omega (arith, c.if-s-lt-ENOUGH.false)) (λ five. omega arith)
+pub returns-then-s : goal.returns-then-s
+returns-then-s c t = sure-number _ 4 106 _ (c.is_surely_leaf.ensures t) c.if-s.true (omega (arith, c.if-s-lt-ENOUGH.false)) (λ five. omega arith)
 
 pub returns : goal.returns
 returns c t = let key = c.is_surely_keyable.ensures t in sure-number _ _ 88 _ key.1 refl (omega (arith, c.if-s-lt-ENOUGH.false)) (λ five. omega (arith, key.0))
