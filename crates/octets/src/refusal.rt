@@ -1,6 +1,8 @@
 // Why a call refuses (document 01, "The numbers a call gives back"; W-207, W-209, W-210, W-214).
 ghost use Rattle.std.specs.Prelude.{◌≡◌};
-ghost use Rattle.octets.specs.Refusals.{refusal_number};
+ghost use Rattle.octets.specs.Refusals.{refusal_number, result_number};
+
+use crate::number::DONE;
 
 #[derive(Clone, Copy, Debug, PartialEq, Eq)]
 pub enum Refusal {
@@ -32,5 +34,15 @@ impl Refusal {
         ensures { result ≡ refusal_number self }
     {
         self as u32
+    }
+}
+
+// The number of a judgement: DONE where nothing is refused.
+pub fn number_of(judgement: Result<(), Refusal>) -> u32
+    ensures { result ≡ result_number judgement }
+{
+    match judgement {
+        Ok(()) => DONE,
+        Err(refusal) => refusal.number(),
     }
 }
