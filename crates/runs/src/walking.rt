@@ -21,6 +21,18 @@ pub struct Walked {
 }
 
 impl Walked {
+    // Nothing read and nothing skipped, at the front of a run.
+    pub fn nothing(number: u32) -> Walked
+        ensures { result ≡ walked_to number 0 0 }
+    {
+        Walked {
+            number,
+            count: 0,
+            offset: 0,
+            skipped: 0,
+        }
+    }
+
     // Goes on from the front of a run to the first stop of the mode. Each turn goes by the number of the NLRI there and its Length octet, so that no
     // layout is made.
     fn go_on(&mut self, afi: u16, mode: Mode, run: &[u8]) -> Result<(), Refusal>
@@ -53,12 +65,7 @@ impl Walked {
 pub fn walk(afi: u16, mode: u32, run: &[u8]) -> Walked
     ensures { result ≡ walk_by afi mode run.now }
 {
-    let mut walked = Walked {
-        number: DONE,
-        count: 0,
-        offset: 0,
-        skipped: 0,
-    };
+    let mut walked = Walked::nothing(DONE);
     if let Err(refusal) = walked.go_on(afi, Mode::from(mode), run) {
         walked.number = refusal.number();
     }
