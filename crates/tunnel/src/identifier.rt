@@ -3,8 +3,9 @@ ghost use Rattle.std.specs.Prelude.{◌≡◌, ◌<◌, length, [], ◌∷◌};
 ghost use Rattle.octets.specs.Outcome.{number_of};
 ghost use Rattle.octets.specs.Refusals.{result_number};
 ghost use Rattle.fec_elements.specs.FecTypes.{fec_type_octet};
-ghost use Rattle.tunnel.specs.Identifier.{sizes, fec_types, judged, read_identifier};
+ghost use Rattle.tunnel.specs.Identifier.{fec_types, is_identifier, read_identifier};
 ghost use Rattle.tunnel.specs.TunnelTypes.{tunnel_type_octet};
+ghost use Rattle.tunnel.specs.Inner.{form_told, IsRow};
 
 use crate::sizes;
 use crate::tunnel_type::TunnelType;
@@ -12,48 +13,50 @@ use fec_elements::shape;
 use fec_elements::shape::FecType;
 use octets::refusal::Refusal;
 
-// An identifier of one of two sizes.
-fn check_size(identifier: &[u8], first: usize, second: usize) -> Result<(), Refusal>
-    ensures { result_number result ≡ number_of (judged (sizes (first ∷ second ∷ [])) identifier.now) }
-{
-    if identifier.len() == first || identifier.len() == second {
-        return Ok(());
-    }
-    Err(Refusal::Ident)
+// A form of identifiers: of one of two sizes, or FECs of one of two types; the same twice where there is only one.
+#[derive(Clone, Copy)]
+enum Form {
+    Sizes(usize, usize),
+    Fecs(FecType, FecType),
 }
 
 // A FEC of one of two types; the type is its first octet.
-fn check_fec(identifier: &[u8], first: FecType, second: FecType) -> Result<(), Refusal>
+fn is_fec(identifier: &[u8], first: FecType, second: FecType) -> bool
     requires { length identifier.now < 256 }
-    ensures { result_number result ≡ number_of (judged (fec_types (fec_type_octet first ∷ fec_type_octet second ∷ [])) identifier.now) }
+    ensures { result ≡ is_identifier (fec_types (fec_type_octet first ∷ fec_type_octet second ∷ [])) identifier.now }
 {
     if !shape::is_short(identifier) {
-        return Err(Refusal::Ident);
+        return false;
     }
     let fec_type = identifier[0];
-    if fec_type == first as u8 || fec_type == second as u8 {
-        return Ok(());
-    }
-    Err(Refusal::Ident)
+    fec_type == first as u8 || fec_type == second as u8
 }
 
-// An identifier of a tunnel type.
-fn check_of_type(tunnel_type: TunnelType, identifier: &[u8]) -> Result<(), Refusal>
+// An identifier of a form.
+fn is_of_form(identifier: &[u8], form: Form) -> bool
     requires { length identifier.now < 256 }
-    ensures { result_number result ≡ number_of (read_identifier (tunnel_type_octet tunnel_type) identifier.now) }
+    ensures { result ≡ is_identifier (form_told form) identifier.now }
+{
+    match form {
+        Form::Sizes(first, second) => identifier.len() == first || identifier.len() == second,
+        Form::Fecs(first, second) => is_fec(identifier, first, second),
+    }
+}
+
+// The row of a tunnel type.
+fn form_of(tunnel_type: TunnelType) -> Form
+    ensures { IsRow (tunnel_type_octet tunnel_type) result }
 {
     match tunnel_type {
-        TunnelType::NoTunnel => check_size(identifier, 0, 0),
-        TunnelType::RsvpTeP2mp => {
-            check_size(identifier, sizes::RSVP_TE_SESSION, sizes::RSVP_TE_SESSION)
-        }
-        TunnelType::MldpP2mp => check_fec(identifier, FecType::P2mp, FecType::P2mp),
-        TunnelType::PimSsm | TunnelType::PimSm | TunnelType::BidirPim => {
-            check_size(identifier, sizes::TWO_IPV4, sizes::TWO_IPV6)
-        }
-        TunnelType::IngressReplication => check_size(identifier, sizes::IPV4, sizes::IPV6),
-        TunnelType::MldpMp2mp => check_fec(identifier, FecType::Mp2mpUp, FecType::Mp2mpDown),
-        TunnelType::Bier => check_size(identifier, sizes::BIER_IPV4, sizes::BIER_IPV6),
+        TunnelType::NoTunnel => Form::Sizes(0, 0),
+        TunnelType::RsvpTeP2mp => Form::Sizes(sizes::RSVP_TE_SESSION, sizes::RSVP_TE_SESSION),
+        TunnelType::MldpP2mp => Form::Fecs(FecType::P2mp, FecType::P2mp),
+        TunnelType::PimSsm => Form::Sizes(sizes::TWO_IPV4, sizes::TWO_IPV6),
+        TunnelType::PimSm => Form::Sizes(sizes::TWO_IPV4, sizes::TWO_IPV6),
+        TunnelType::BidirPim => Form::Sizes(sizes::TWO_IPV4, sizes::TWO_IPV6),
+        TunnelType::IngressReplication => Form::Sizes(sizes::IPV4, sizes::IPV6),
+        TunnelType::MldpMp2mp => Form::Fecs(FecType::Mp2mpUp, FecType::Mp2mpDown),
+        TunnelType::Bier => Form::Sizes(sizes::BIER_IPV4, sizes::BIER_IPV6),
     }
 }
 
@@ -62,5 +65,9 @@ pub(crate) fn check(tunnel_type: u8, identifier: &[u8]) -> Result<(), Refusal>
     requires { length identifier.now < 256 }
     ensures { result_number result ≡ number_of (read_identifier tunnel_type identifier.now) }
 {
-    check_of_type(TunnelType::try_from(tunnel_type)?, identifier)
+    let form = form_of(TunnelType::try_from(tunnel_type)?);
+    if is_of_form(identifier, form) {
+        return Ok(());
+    }
+    Err(Refusal::Ident)
 }
