@@ -7,7 +7,6 @@ ghost use Rattle.places.specs.Passing.{rises_at};
 
 use crate::geometry::{ATTRIBUTE_SIZE, HEADER, MARK, MOST_PLACES, NLRI_SIZE, PLACE, ROUTE};
 use crate::{header, judge};
-use octets::number::DONE;
 
 // The octets that are compared at once, as one number.
 const WORD: usize = 8;
@@ -34,13 +33,13 @@ pub fn is_table_size(size: usize) -> bool
 
 // The octets from `end` on are zeros, of a place without its mark, by two blocks of one size: its last octets and those that follow the
 // route. They leave nothing out between them, and may overlap.
-fn is_tail_zero_by(block: usize, place: &[u8], end: usize) -> bool
-    requires { (length place.now ≡ 127) × (end + block ≤ 127) × (127 ≤ end + 2 * block) }
+fn is_tail_zero_by<const BLOCK: usize>(place: &[u8], end: usize) -> bool
+    requires { (length place.now ≡ 127) × (end + BLOCK ≤ 127) × (127 ≤ end + 2 * BLOCK) }
     ensures { result ≡ all_zero (drop end place.now) }
 {
     octets::order::are_each_zero(
-        octets::parts::between(place, MARK - block, block),
-        octets::parts::between(place, end, block),
+        octets::parts::between(place, MARK - BLOCK, BLOCK),
+        octets::parts::between(place, end, BLOCK),
     )
 }
 
@@ -50,13 +49,13 @@ fn is_tail_zero(place: &[u8], end: usize) -> bool
     ensures { result ≡ all_zero (drop end place.now) }
 {
     if end <= MARK - LARGE_BLOCK {
-        return is_tail_zero_by(LARGE_BLOCK, place, end);
+        return is_tail_zero_by::<LARGE_BLOCK>(place, end);
     }
     if end <= MARK - MIDDLE_BLOCK {
-        return is_tail_zero_by(MIDDLE_BLOCK, place, end);
+        return is_tail_zero_by::<MIDDLE_BLOCK>(place, end);
     }
     if end <= MARK - SMALL_BLOCK {
-        return is_tail_zero_by(SMALL_BLOCK, place, end);
+        return is_tail_zero_by::<SMALL_BLOCK>(place, end);
     }
     octets::order::is_zero(octets::parts::after(place, end))
 }
@@ -80,10 +79,10 @@ fn is_place_sound(afi: u16, place: &[u8]) -> bool
         return false;
     }
     let attribute = octets::parts::between(place, ROUTE + nlri_size, attribute_size);
-    if tunnel::fault(attribute) != DONE {
+    if tunnel::check(attribute).is_err() {
         return false;
     }
-    if judge::label_fault(attribute) != DONE {
+    if judge::check_label(attribute).is_err() {
         return false;
     }
     is_tail_zero(octets::parts::between(place, 0, MARK), end)

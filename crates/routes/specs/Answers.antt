@@ -1,6 +1,6 @@
 -- The shapes of answers (document 01, "The numbers a call gives back"): number and fields of install and match, and what a match leaves in
 -- its output.
-use Rattle.std.specs.Prelude.{ℕ, Result, Ok, Err, List, ◌++◌, length}
+use Rattle.std.specs.Prelude.{ℕ, Result, Ok, Err, Option, Some, None, List, ◌++◌, length}
 use Rattle.octets.specs.Numbers.{DONE}
 use Rattle.octets.specs.Outcome.{Outcome, on_outcome}
 use Rattle.octets.specs.Octets.{front}
@@ -11,7 +11,10 @@ use Rattle.routes.specs.declared.Installation.{Installation}
 use Rattle.routes.specs.declared.Installation.TheVariants.{New, Replaced}
 use Rattle.routes.specs.declared.Installed.{Installed}
 use Rattle.routes.specs.declared.Matched.{Matched}
+use Rattle.routes.specs.declared.MatchedRoute.{MatchedRoute}
 use Rattle.routes.specs.declared.Restarted.{Restarted}
+use Rattle.routes.specs.declared.Tier.{Tier}
+use Rattle.routes.specs.declared.Tier.TheVariants.{Exact, AnyGroup, AnySource, Any}
 use Rattle.routes.specs.Route.{nlri_of, attribute_of}
 use Rattle.routes.specs.Matching.{Found, nothing, found}
 
@@ -61,6 +64,19 @@ restarted_by (Err refusal) = refused_restart (refusal_number refusal)
 -- a number and empty fields: of a refusal, and DONE where no route matches
 abbrev pub empty_match : ℕ → Matched
 empty_match number = record { number = number; tier = 0; nlri_size = 0; attribute_size = 0 }
+
+-- the number of a tier
+abbrev pub tier_number : Tier → ℕ
+tier_number Exact = 1
+tier_number AnyGroup = 2
+tier_number AnySource = 3
+tier_number Any = 4
+
+-- what a match answers, by a result
+abbrev pub matched_told : Result (Option MatchedRoute) Refusal → Matched
+matched_told (Ok (Some route)) = record { number = DONE; tier = tier_number route.tier; nlri_size = route.nlri_size; attribute_size = route.attribute_size }
+matched_told (Ok None) = empty_match DONE
+matched_told (Err refusal) = empty_match (refusal_number refusal)
 
 -- DONE with the tier and both sizes
 unfoldable pub found_answer : Found → Matched

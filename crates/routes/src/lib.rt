@@ -2,8 +2,8 @@
 #![tactic(auto)]
 
 ghost use Rattle.std.specs.Prelude.{◌≡◌};
-ghost use Rattle.routes.specs.Answers.{installed_by, restarted_by, empty_match};
-ghost use Rattle.routes.specs.Reasons.{reason_number, refused_explanation};
+ghost use Rattle.routes.specs.Answers.{installed_by, restarted_by, empty_match, matched_told};
+ghost use Rattle.routes.specs.Reasons.{reason_numbers, explained_told};
 ghost use Rattle.routes.specs.Next.{empty_next, following_told};
 ghost use Rattle.routes.specs.Info.{facts_by};
 ghost use Rattle.routes.specs.Salvage.{drop_octet, salvaged_by};
@@ -65,6 +65,23 @@ impl From<Result<u32, Refusal>> for Restarted {
     }
 }
 
+// The tiers of a flow, in the order in which they win.
+#[derive(Clone, Copy, Debug, PartialEq, Eq, PartialOrd, Ord)]
+pub enum Tier {
+    Exact = 1,
+    AnyGroup = 2,
+    AnySource = 3,
+    Any = 4,
+}
+
+// The route that a match takes: its tier, and the sizes of its NLRI and its attribute.
+#[derive(Clone, Copy)]
+pub struct MatchedRoute {
+    pub tier: Tier,
+    pub nlri_size: u32,
+    pub attribute_size: u32,
+}
+
 // What match answers: DONE with the tier and both sizes, all 0 where no route matches, or the refusal's number and 0.
 #[repr(C)]
 #[derive(Clone, Copy)]
@@ -76,8 +93,8 @@ pub struct Matched {
 }
 
 impl Matched {
-    // A match that is refused.
-    pub fn refused(number: u32) -> Matched
+    // A number and empty fields.
+    fn empty(number: u32) -> Matched
         ensures { result ≡ empty_match number }
     {
         Matched {
@@ -87,12 +104,22 @@ impl Matched {
             attribute_size: 0,
         }
     }
+}
 
-    // A match that finds no route.
-    pub fn none() -> Matched
-        ensures { result ≡ empty_match 0 }
-    {
-        Matched::refused(DONE)
+impl From<Result<Option<MatchedRoute>, Refusal>> for Matched {
+    ghost from_gives = { λ told matched. matched ≡ matched_told told };
+
+    fn from(told: Result<Option<MatchedRoute>, Refusal>) -> Matched {
+        match told {
+            Ok(Some(route)) => Matched {
+                number: DONE,
+                tier: route.tier as u32,
+                nlri_size: route.nlri_size,
+                attribute_size: route.attribute_size,
+            },
+            Ok(None) => Matched::empty(DONE),
+            Err(refusal) => Matched::empty(refusal.number()),
+        }
     }
 }
 
@@ -105,12 +132,34 @@ pub enum Reason {
     EarlierTierWon = 4,
 }
 
-impl From<Reason> for u32 {
-    ghost from_gives = { λ reason number. number ≡ reason_number reason };
+// Why each tier was taken or not.
+#[derive(Clone, Copy)]
+pub struct Reasons {
+    pub exact: Reason,
+    pub any_group: Reason,
+    pub any_source: Reason,
+    pub any: Reason,
+}
 
-    fn from(reason: Reason) -> u32 {
-        reason as u32
+impl Reasons {
+    // Their numbers, in the order of the tiers.
+    fn numbers(self) -> [u32; 4]
+        ensures { result ≡ reason_numbers self }
+    {
+        [
+            self.exact as u32,
+            self.any_group as u32,
+            self.any_source as u32,
+            self.any as u32,
+        ]
     }
+}
+
+// The route that a flow's match takes, if any, and why each tier was taken or not.
+#[derive(Clone, Copy)]
+pub struct Explanation {
+    pub route: Option<MatchedRoute>,
+    pub reasons: Reasons,
 }
 
 // What explain answers: match's whole answer, and of tiers 1 to 4 in turn why it was taken or not; on a refusal all reasons are 0.
@@ -121,22 +170,19 @@ pub struct Explained {
     pub reasons: [u32; 4],
 }
 
-impl Explained {
-    pub const TAKEN: u32 = 1;
+impl From<Result<Explanation, Refusal>> for Explained {
+    ghost from_gives = { λ told explained. explained ≡ explained_told told };
 
-    pub const NO_SUCH_ROUTE: u32 = 2;
-
-    pub const WRONG_GROUP_CLASS: u32 = 3;
-
-    pub const EARLIER_TIER_WON: u32 = 4;
-
-    // A refusal, of which there is no reason to tell.
-    pub fn refused(number: u32) -> Explained
-        ensures { result ≡ refused_explanation number }
-    {
-        Explained {
-            matched: Matched::refused(number),
-            reasons: [0; 4],
+    fn from(told: Result<Explanation, Refusal>) -> Explained {
+        match told {
+            Ok(explanation) => Explained {
+                matched: Matched::from(Ok(explanation.route)),
+                reasons: explanation.reasons.numbers(),
+            },
+            Err(refusal) => Explained {
+                matched: Matched::empty(refusal.number()),
+                reasons: [0; 4],
+            },
         }
     }
 }

@@ -5,8 +5,8 @@ use Rattle.routes.specs.Table.{afi_in}
 use Rattle.places.proofs.header.afi_of.Goals as goal
 
 pub overflow_cast-result : goal.overflow_cast-result
-overflow_cast-result c = omega (arith, c.shared_slice_known-1.given 5)
+overflow_cast-result c = omega (arith, c.type_inv.table 5)
 
 pub returns : goal.returns
 unfolding afi_in
-returns c = (refl, omega (arith, c.shared_slice_known-1.given 5))
+returns c = (refl, omega (arith, c.type_inv.table 5))

@@ -9,7 +9,7 @@ unfolding afi_in header_start
 returns-then-not-is_same c = header-bad _ _ _ c.between.ensures c.is_same.ensures c.if-not-is_same.true
 
 pub overflow_cast-table : goal.overflow_cast-table
-overflow_cast-table c = omega (arith, c.shared_slice_known-3-1.given 5)
+overflow_cast-table c = omega (arith, c.type_inv.table 5)
 
 pub returns : goal.returns
 unfolding afi_in header_start

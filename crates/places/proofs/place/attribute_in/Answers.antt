@@ -10,17 +10,17 @@ unfolding end_in
 bounds-place-0 c = omega arith
 
 pub overflow_cast-place : goal.overflow_cast-place
-overflow_cast-place c = omega (arith, c.shared_slice_known-2-1.given 0)
+overflow_cast-place c = omega (arith, c.type_inv.place 0)
 
 pub overflow_add-place : goal.overflow_add-place
-overflow_add-place c = omega (arith, c.shared_slice_known-2-1.given 0)
+overflow_add-place c = omega (arith, c.type_inv.place 0)
 
 pub bounds-place-1 : goal.bounds-place-1
 unfolding end_in
 bounds-place-1 c = omega arith
 
 pub overflow_cast-place-2 : goal.overflow_cast-place-2
-overflow_cast-place-2 c = omega (arith, c.shared_slice_known-3-1.given 1)
+overflow_cast-place-2 c = omega (arith, c.type_inv.place 1)
 
 pub between-requires : goal.between-requires
 unfolding end_in

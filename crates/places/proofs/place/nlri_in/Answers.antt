@@ -9,7 +9,7 @@ unfolding end_in
 bounds-place-0 c = omega arith
 
 pub overflow_cast-place : goal.overflow_cast-place
-overflow_cast-place c = omega (arith, c.shared_slice_known-2-1.given 0)
+overflow_cast-place c = omega (arith, c.type_inv.place 0)
 
 pub between-requires : goal.between-requires
 unfolding end_in
