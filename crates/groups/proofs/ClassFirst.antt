@@ -1,6 +1,6 @@
 -- The class of a group, asked before what stands between its prefixes and FLOW.
 use Prim.Native.Nat.{ℕ, ◌*◌, ◌/◌, ◌≤◌}
-use mathlib.Core.Path.{◌≡◌, refl, sym, ◌∙◌, ap}
+use mathlib.Core.Path.{◌≡◌, refl, sym, ◌∙◌, ap, subst}
 use mathlib.Core.List.{List}
 use mathlib.Core.Logic.{◌⊎◌, inl, inr, ⊎_elim}
 use native.Mathlib.Omega.{arith}
@@ -8,7 +8,7 @@ use borrow.Author.Tests.{eqb-true}
 use lib.ListN.{length}
 use Rattle.octets.specs.Numbers.{DONE, FLOW}
 use Rattle.octets.specs.Outcome.{Outcome, given, refused, and_then, number_of}
-use Rattle.octets.proofs.Outcome.{Refuses, value, number, refuses-pick, refuses-then, refuses-by, refuses-also, and-goes-on, and-stops, outcome, number-refused, given-unless, passed}
+use Rattle.octets.proofs.Outcome.{Refuses, value, number, refuses-pick, refuses-then, refuses-by, refuses-also, and-goes-on, and-stops, outcome, never, refused-same, number-refused, given-unless, passed}
 use Rattle.lists.specs.LentLists.{Item, read_list}
 use Rattle.nlri.specs.declared.group.Group.{Group}
 use Rattle.nlri.specs.Family.{family_bits}
@@ -87,6 +87,45 @@ unfolding class_by
 class-some afi prefixes group =
     refuses-then _ _ (refuses-also (λ n h. h.0) (family-refuses afi))
     (λ bits. refuses-then _ _ (refuses-also (λ n h. h.0) (prefixes-refuse bits prefixes)) (λ items. refuses-also (λ n h e. omega arith) (class-refuses bits items group)))
+
+-- what the class call comes to tells which it was
+module _ (afi : ℕ) (prefixes group : List ℕ) where
+  early-is : {n : ℕ} → Early afi prefixes n → class_by afi prefixes group ≡ refused n
+  unfolding class_by
+  early-is e = sym (early-stops afi prefixes (λ bits items. class_in bits items group) e)
+
+  read-is : (r : Read afi prefixes) → class_by afi prefixes group ≡ class_in r.bits r.items group
+  unfolding class_by
+  read-is r = sym (read_goes afi prefixes (λ bits items. class_in bits items group) r)
+
+  -- a refusal but FLOW: an early one
+  pub refused-early : (n : ℕ) → class_by afi prefixes group ≡ refused n → (n ≡ FLOW → ⊥) → Early afi prefixes n
+  refused-early n e other =
+      ⊎_elim (λ x. subst (Early afi prefixes) (refused-same (sym (early-is x.1) ∙ e)) x.1)
+      (λ r. absurd (other (class-flow r.bits r.items group n (sym (read-is r) ∙ e))))
+      (early-or-read afi prefixes)
+
+  -- FLOW: they were read, and the group is refused
+  pub refused-flow : class_by afi prefixes group ≡ refused FLOW → (r : Read afi prefixes) × (class_in r.bits r.items group ≡ refused FLOW)
+  refused-flow e =
+      ⊎_elim (λ x. absurd ((early-number x.1).1 (refused-same (sym (early-is x.1) ∙ e))))
+      (λ r. (r, sym (read-is r) ∙ e))
+      (early-or-read afi prefixes)
+
+  -- a class: they were read, and it is the one under them
+  pub given-read : (class : ℕ) → class_by afi prefixes group ≡ given class → (r : Read afi prefixes) × (class_in r.bits r.items group ≡ given class)
+  given-read class e =
+      ⊎_elim (λ x. absurd (never e (early-is x.1)))
+      (λ r. (r, sym (read-is r) ∙ e))
+      (early-or-read afi prefixes)
+
+  -- a group that has one has four octets or more
+  pub given-least : (class : ℕ) → class_by afi prefixes group ≡ given class → 4 ≤ length group
+  given-least class e =
+      let under = given-read class e in
+      let r = under.0 in
+      let all = class-sized afi r.bits r.of_family r.items group class under.1 in
+      omega (arith, family-least afi r.bits r.of_family)
 
 -- what the class call answers tells which it was
 module _ (afi : ℕ) (prefixes group : List ℕ) (class : Group) (is : class ≡ group_of (class_by afi prefixes group)) where

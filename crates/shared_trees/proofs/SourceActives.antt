@@ -26,8 +26,8 @@ use Rattle.routes.specs.SharedTree.{SharedTree, read_source_active, source_activ
 use Rattle.shared_trees.specs.Told.{FieldsWithin, fields_within, without_state, without_state_at}
 
 -- the number of an item's NLRI
-pub number-of : (afi n : ℕ) (nlri s : List ℕ) → n ≡ number_of (read_of_type 5 afi nlri) → nlri ≡ item_field 1 (front_item 2 s) → n ≡ number_of (read_of_type 5 afi (item_field 1 (front_item 2 s)))
-number-of afi n nlri s e q = e ∙ ap (λ (x : List ℕ). number_of (read_of_type 5 afi x)) q
+pub number-of : (afi n : ℕ) (nlri : List ℕ) (x : Item) → n ≡ number_of (read_of_type 5 afi nlri) → nlri ≡ item_field 1 x → n ≡ number_of (read_of_type 5 afi (item_field 1 x))
+number-of afi n nlri x e q = e ∙ ap (λ (s : List ℕ). number_of (read_of_type 5 afi s)) q
 
 -- the fields of a Source Active NLRI that is read are those that stand in it
 module _ (afi : ℕ) (s : List ℕ) (f : Fields) (e : read_of_type 5 afi s ≡ given f) where

@@ -1,8 +1,8 @@
--- `shared_trees::judge::lists_fault` meets its contract.
+-- `shared_trees::judge::check_lists` meets its contract.
 use Rattle.octets.proofs.Tests.{refusals}
 use Rattle.shared_trees.specs.Told.{lists_fault}
 use Rattle.shared_trees.proofs.Sized.{count-over, count-within}
-use Rattle.shared_trees.proofs.judge.lists_fault.Goals as goal
+use Rattle.shared_trees.proofs.judge.check_lists.Goals as goal
 
 pub count_of-requires : goal.count_of-requires
 unfolding lists_fault
