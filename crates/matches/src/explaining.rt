@@ -1,55 +1,57 @@
 // The call that tells, beside match's answer, why each tier was taken or not (request W-204).
-ghost use Rattle.std.specs.Prelude.{◌≡◌, true, ltb};
-ghost use Rattle.octets.specs.Choice.{both};
+ghost use Rattle.std.specs.Prelude.{◌≡◌, true};
+ghost use Rattle.octets.specs.Choice.{pick};
+ghost use Rattle.nlri.specs.Groups.{class_number};
+ghost use Rattle.routes.specs.Answers.{tier_number, matched_told};
 ghost use Rattle.routes.specs.Query.{flow_of};
 ghost use Rattle.routes.specs.Table.{sound_of};
-ghost use Rattle.routes.specs.Reasons.{reason_of, reasons_of, explain_of};
+ghost use Rattle.routes.specs.Reasons.{NO_SUCH_ROUTE, WRONG_GROUP_CLASS, reason_number, reason_numbers, reason_of, reasons_of, explain_of, explained_told};
 ghost use Rattle.octets.specs.Outputs.{Leaves};
 
-use crate::tier::Tiers;
+use crate::tier::{Sought, Tiers};
 use crate::{flow, matching};
-use nlri::Group;
-use octets::number::{DONE, SPACE, TABLE};
+use nlri::GroupClass;
+use octets::refusal::Refusal;
 use places::output::LEAST_OUTPUT;
 use places::{header, sound};
-use routes::Explained;
+use routes::{Explained, Explanation, MatchedRoute, Reason, Reasons, Tier};
 
-// An earlier tier than this one won; tier 0 is none.
-fn is_past(won: u32, tier: u32) -> bool
-    ensures { result ≡ both (ltb 0 won) (ltb won tier) }
+// The reason of a tier of which no route is taken, nor of one before it: by whether the group's class lets the tier.
+fn without_route(is_allowed: bool) -> Reason
+    ensures { reason_number result ≡ pick is_allowed NO_SUCH_ROUTE WRONG_GROUP_CLASS }
 {
-    if won == 0 {
-        return false;
-    }
-    won < tier
-}
-
-// The reason of a tier, by the tier that won and by whether the group's class lets the tier.
-fn reason(won: u32, tier: u32, is_allowed: bool) -> u32
-    ensures { result ≡ reason_of won tier is_allowed }
-{
-    if won == tier {
-        return Explained::TAKEN;
-    }
-    if is_past(won, tier) {
-        return Explained::EARLIER_TIER_WON;
-    }
     if is_allowed {
-        return Explained::NO_SUCH_ROUTE;
+        return Reason::NoSuchRoute;
     }
-    Explained::WRONG_GROUP_CLASS
+    Reason::WrongGroupClass
 }
 
-// The reasons of tiers 1 to 4.
-fn reasons(won: u32, class: u32) -> [u32; 4]
-    ensures { result ≡ reasons_of won class }
+// The reason of a tier, by the route that was taken and by whether the group's class lets the tier.
+fn reason(route: Option<MatchedRoute>, tier: Tier, is_allowed: bool) -> Reason
+    ensures { reason_number result ≡ reason_of (matched_told (Ok route)).tier (tier_number tier) is_allowed }
 {
-    [
-        reason(won, 1, true),
-        reason(won, 2, class == Group::SSM),
-        reason(won, 3, class == Group::ASM),
-        reason(won, 4, true),
-    ]
+    let Some(taken) = route else {
+        return without_route(is_allowed);
+    };
+    if taken.tier == tier {
+        return Reason::Taken;
+    }
+    if taken.tier < tier {
+        return Reason::EarlierTierWon;
+    }
+    without_route(is_allowed)
+}
+
+// The reasons of the four tiers.
+fn reasons(route: Option<MatchedRoute>, class: GroupClass) -> Reasons
+    ensures { reason_numbers result ≡ reasons_of (matched_told (Ok route)).tier (class_number class) }
+{
+    Reasons {
+        exact: reason(route, Tier::Exact, true),
+        any_group: reason(route, Tier::AnyGroup, class == GroupClass::Ssm),
+        any_source: reason(route, Tier::AnySource, class == GroupClass::Asm),
+        any: reason(route, Tier::Any, true),
+    }
 }
 
 // RANGE, SHORT, FLOW, SPACE, then the search, whose tier and the group's class give the reasons.
@@ -60,24 +62,26 @@ fn explain_sound(
     source: &[u8],
     group: &[u8],
     output: &mut [u8],
-) -> Explained
+) -> Result<Explanation, Refusal>
     requires { sound_of table.now ≡ true }
-    ensures { Leaves (explain_of table.now (flow_of prefixes.now router.now source.now group.now) output.old) result output.new }
+    ensures { Leaves (explain_of table.now (flow_of prefixes.now router.now source.now group.now) output.old) (explained_told result) output.new }
 {
-    let class = groups::group_class(header::afi_of(table), prefixes, group);
-    let fault = flow::sized_fault(class.number, router.len(), source.len(), group.len());
-    if fault != DONE {
-        return Explained::refused(fault);
-    }
+    let class = groups::group_class(header::afi_of(table), prefixes, group)?;
+    flow::check_sizes(router.len(), source.len(), group.len())?;
     if output.len() < LEAST_OUTPUT {
-        return Explained::refused(SPACE);
+        return Err(Refusal::Space);
     }
-    let tiers = Tiers::of_class(class.group_class);
-    let matched = matching::search(table, router, source, group, tiers, output);
-    Explained {
-        matched,
-        reasons: reasons(matched.tier, class.group_class),
-    }
+    let sought = Sought {
+        router,
+        source,
+        group,
+        tiers: Tiers::of_class(class),
+    };
+    let route = matching::search(table, &sought, output);
+    Ok(Explanation {
+        route,
+        reasons: reasons(route, class),
+    })
 }
 
 // Match's whole answer, and why each tier was taken or not: TABLE, RANGE, SHORT, FLOW, SPACE.
@@ -92,7 +96,7 @@ pub fn explain(
     ensures { Leaves (explain_of table.now (flow_of prefixes.now router.now source.now group.now) output.old) result output.new }
 {
     if !sound::is_sound(table) {
-        return Explained::refused(TABLE);
+        return Explained::from(Err(Refusal::Table));
     }
-    explain_sound(table, prefixes, router, source, group, output)
+    Explained::from(explain_sound(table, prefixes, router, source, group, output))
 }

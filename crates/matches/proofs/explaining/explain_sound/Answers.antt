@@ -1,24 +1,27 @@
 -- `matches::explaining::explain_sound` meets its contract.
+use Rattle.octets.proofs.Refusals.{refusal_number-not_done}
 use Rattle.places.proofs.Indexes.{header-within}
+use Rattle.std.proofs.Common.{refl}
 use Rattle.matches.proofs.FlowClasses.{flow-some}
-use Rattle.matches.proofs.Explanations.{explains-flow, explains-space, explains-search}
+use Rattle.matches.proofs.Explanations.{told-unexplained, explains-unclassed, explains-missized, explains-space, explains-search}
 use Rattle.matches.proofs.explaining.explain_sound.Goals as goal
 
 pub afi_of-requires : goal.afi_of-requires
 afi_of-requires c = header-within _ c.requires
 
-pub returns-then-fault-ne-DONE : goal.returns-then-fault-ne-DONE
-returns-then-fault-ne-DONE c = explains-flow _ _ _ c.requires _ _ c.afi_of.ensures.0 c.group_class-class.ensures _ c.sized_fault-fault.ensures c.if-fault-ne-DONE.true _ c.refused.ensures
+pub returns-in_err-class : goal.returns-in_err-class
+returns-in_err-class c = explains-unclassed _ _ _ c.requires _ c.afi_of.ensures.0 _ (refusal_number-not_done _) c.in_err-class.ensures _ (told-unexplained _ _ c.from_residual.ensures.1)
+
+pub returns-in_err-check_sizes : goal.returns-in_err-check_sizes
+returns-in_err-check_sizes c =
+    explains-missized _ _ _ c.requires _ c.afi_of.ensures.0 _ c.in_ok-class.ensures _ c.in_err-check_sizes.ensures (refusal_number-not_done _) _ (told-unexplained _ _ c.from_residual-in_err-check_sizes.ensures.1)
 
 pub returns-then-output-lt-LEAST_OUTPUT : goal.returns-then-output-lt-LEAST_OUTPUT
-returns-then-output-lt-LEAST_OUTPUT c = explains-space _ _ _ c.requires _ _ c.afi_of.ensures.0 c.group_class-class.ensures _ c.sized_fault-fault.ensures c.if-fault-ne-DONE.false c.if-output-lt-LEAST_OUTPUT.true _ c.refused-then-output-lt-LEAST_OUTPUT.ensures
+returns-then-output-lt-LEAST_OUTPUT c = explains-space _ _ _ c.requires _ c.afi_of.ensures.0 _ c.in_ok-class.ensures c.in_ok-check_sizes.ensures c.if-output-lt-LEAST_OUTPUT.true _ refl
 
-pub search-matched-requires : goal.search-matched-requires
-search-matched-requires c =
-    let some = flow-some _ _ _ _ c.group_class-class.ensures _ _ _ c.sized_fault-fault.ensures c.if-fault-ne-DONE.false in
-    (c.requires, c.if-output-lt-LEAST_OUTPUT.false, some.0, some.1, some.2)
+pub search-route-requires : goal.search-route-requires
+search-route-requires c = let some = flow-some _ _ _ _ c.in_ok-class.ensures _ _ c.in_ok-check_sizes.ensures in (c.requires, c.if-output-lt-LEAST_OUTPUT.false, some.0, some.1, some.2)
 
 pub returns : goal.returns
 returns c =
-    explains-search _ _ _ c.requires _ _ c.afi_of.ensures.0 c.group_class-class.ensures _ c.sized_fault-fault.ensures c.if-fault-ne-DONE.false c.if-output-lt-LEAST_OUTPUT.false _ _
-    c.of_class-tiers.ensures _ c.search-matched.ensures _ c.reasons.ensures
+    explains-search _ _ _ c.requires _ c.afi_of.ensures.0 _ c.in_ok-class.ensures c.in_ok-check_sizes.ensures c.if-output-lt-LEAST_OUTPUT.false _ c.of_class.ensures _ _ c.search-route.ensures _ c.reasons.ensures

@@ -1,6 +1,6 @@
--- `matches::tier::tier_of` meets its contract.
+-- `matches::tier::Sought::tier_of` meets its contract.
 use Rattle.matches.proofs.Tiers.{other-router, own-tier, other-tier}
-use Rattle.matches.proofs.tier.tier_of.Goals as goal
+use Rattle.matches.proofs.tier.Sought.tier_of.Goals as goal
 
 pub returns-then-ends_otherwise : goal.returns-then-ends_otherwise
 returns-then-ends_otherwise c = other-router _ _ _ (c.ends_otherwise.ensures c.if-ends_otherwise.true)

@@ -1,7 +1,7 @@
--- `matches::tier::source_tier` meets its contract.
+-- `matches::tier::Sought::source_tier` meets its contract.
 use Rattle.octets.proofs.Tests.{flags}
 use Rattle.matches.specs.Scanning.{wildcard, source_tier}
-use Rattle.matches.proofs.tier.source_tier.Goals as goal
+use Rattle.matches.proofs.tier.Sought.source_tier.Goals as goal
 
 pub returns-then-is_same : goal.returns-then-is_same
 unfolding source_tier wildcard

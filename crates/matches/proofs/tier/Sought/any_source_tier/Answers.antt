@@ -1,7 +1,7 @@
--- `matches::tier::any_source_tier` meets its contract.
+-- `matches::tier::Sought::any_source_tier` meets its contract.
 use Rattle.octets.proofs.Tests.{refusals}
 use Rattle.matches.specs.Scanning.{wildcard, any_source_tier}
-use Rattle.matches.proofs.tier.any_source_tier.Goals as goal
+use Rattle.matches.proofs.tier.Sought.any_source_tier.Goals as goal
 
 pub returns-then-route_group-eq0 : goal.returns-then-route_group-eq0
 unfolding any_source_tier wildcard

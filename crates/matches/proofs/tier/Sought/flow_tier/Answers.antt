@@ -1,6 +1,6 @@
--- `matches::tier::flow_tier` meets its contract.
+-- `matches::tier::Sought::flow_tier` meets its contract.
 use Rattle.matches.proofs.Tiers.{tier-any-source, tier-source, tier-none}
-use Rattle.matches.proofs.tier.flow_tier.Goals as goal
+use Rattle.matches.proofs.tier.Sought.flow_tier.Goals as goal
 
 pub returns-then-route_source-eq0 : goal.returns-then-route_source-eq0
 returns-then-route_source-eq0 c = tier-any-source _ _ _ _ _ _ _ c.source_in-route_source.ensures c.if-route_source-eq0.true c.group_in.ensures c.any_source_tier.ensures
