@@ -12,10 +12,7 @@ pub(crate) const OCTETS: usize = 32;
 fn is_of_set(set: u8, id: u32) -> bool
     ensures { result ≡ is_of_set set id }
 {
-    if id == 0 {
-        return false;
-    }
-    (id - 1) / 256 == set as u32
+    id != 0 && (id - 1) / 256 == u32::from(set)
 }
 
 // Sets the bit at a position: position 1 is the lowest bit of the last octet.
@@ -24,7 +21,7 @@ fn set_bit(string: &mut [u8; 32], position: usize)
     ensures { string.new ≡ with_bit string.old position }
 {
     let at = OCTETS - 1 - (position - 1) / 8;
-    string[at] = string[at] | (1u8 << ((position - 1) % 8));
+    string[at] |= 1u8 << ((position - 1) % 8);
 }
 
 // Sets the bit of a BFR-id that is of the set.
@@ -36,17 +33,9 @@ pub(crate) fn add(string: &mut [u8; 32], set: u8, id: u32)
     }
 }
 
-// The ones of a word, eight octets from `at` on, whatever their order in it.
-fn ones_at(s: &[u8], at: usize) -> u32
-    requires { at + 8 ≤ length s.now }
-    ensures { (result ≡ ones_of (part s.now at 8)) × (result ≤ 64) }
-{
-    u64::count_ones(wide::eight_low_first(s, at))
-}
-
-// The ones of a string: those of its four words.
+// The ones of a string.
 pub(crate) fn ones(string: &[u8; 32]) -> u32
     ensures { result ≡ ones_of string.now }
 {
-    ones_at(string, 0) + ones_at(string, 8) + ones_at(string, 16) + ones_at(string, 24)
+    string.iter().map(|octet| octet.count_ones()).sum()
 }

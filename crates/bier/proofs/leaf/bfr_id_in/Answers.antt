@@ -7,8 +7,8 @@ use Rattle.bier.proofs.leaf.bfr_id_in.Goals as goal
 pub bounds-attribute-1 : goal.bounds-attribute-1
 bounds-attribute-1 c = omega (arith, attribute-least _ c.requires)
 
-pub returns-then-attribute-ne-BIER : goal.returns-then-attribute-ne-BIER
-returns-then-attribute-ne-BIER c = search (rules, bfr-none)
+pub returns-then-attribute : goal.returns-then-attribute
+returns-then-attribute c = search (rules, bfr-none)
 
 pub after-requires : goal.after-requires
 after-requires c = search (rules, attribute-least)
