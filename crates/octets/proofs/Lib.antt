@@ -8,6 +8,7 @@ pub mod Copies
 pub mod Answering
 pub mod NetworkOrder
 pub mod LowFirst
+pub mod Bytes
 pub mod AllOctets
 pub mod Orders
 pub mod Zeros

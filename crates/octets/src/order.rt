@@ -33,12 +33,10 @@ fn is_same_by_words(a: &[u8], b: &[u8]) -> bool
         return is_short_same(a, b);
     }
     let last = a.len() - WORD;
-    let mut i = 0;
-    while i < last {
+    for i in (0..last).step_by(WORD) {
         if eight_low_first(a, i) != eight_low_first(b, i) {
             return false;
         }
-        i += WORD;
     }
     eight_low_first(a, last) == eight_low_first(b, last)
 }
@@ -51,14 +49,7 @@ fn is_short_same(a: &[u8], b: &[u8]) -> bool
     if a.len() == 4 {
         return four_low_first(a, 0) == four_low_first(b, 0);
     }
-    let mut i = 0;
-    while i < a.len() {
-        if a[i] != b[i] {
-            return false;
-        }
-        i += 1;
-    }
-    true
+    a == b
 }
 
 // The lower octet where they first differ decides; what ends there comes first.
@@ -72,17 +63,15 @@ pub fn comes_before(a: &[u8], b: &[u8]) -> bool
 fn comes_before_by_words(a: &[u8], b: &[u8]) -> bool
     ensures { result ≡ before a.now b.now }
 {
-    let size = shorter(a.len(), b.len());
+    let size = a.len().min(b.len());
     if size < WORD {
         return comes_each_before(a, b);
     }
     let last = size - WORD;
-    let mut i = 0;
-    while i < last {
+    for i in (0..last).step_by(WORD) {
         if eight_low_first(a, i) != eight_low_first(b, i) {
             return eight(a, i) < eight(b, i);
         }
-        i += WORD;
     }
     let x = eight(a, last);
     let y = eight(b, last);
@@ -92,29 +81,14 @@ fn comes_before_by_words(a: &[u8], b: &[u8]) -> bool
     a.len() < b.len()
 }
 
-// The lower of two sizes.
-fn shorter(m: usize, n: usize) -> usize
-    ensures { result ≡ min m n }
-{
-    if m < n {
-        return m;
-    }
-    n
-}
-
 // The order, octet by octet.
 fn comes_each_before(a: &[u8], b: &[u8]) -> bool
     ensures { result ≡ before a.now b.now }
 {
-    let mut i = 0;
-    while i < a.len() {
-        if b.len() <= i {
-            return false;
-        }
+    for i in 0..a.len().min(b.len()) {
         if a[i] != b[i] {
             return a[i] < b[i];
         }
-        i += 1;
     }
     a.len() < b.len()
 }
@@ -126,12 +100,10 @@ pub fn rises(a: &[u8], b: &[u8]) -> bool
     ensures { result ≡ before a.now b.now }
 {
     let last = b.len() - WORD;
-    let mut i = 0;
-    while i < last {
+    for i in (0..last).step_by(WORD) {
         if eight_low_first(a, i) != eight_low_first(b, i) {
             return eight(a, i) < eight(b, i);
         }
-        i += WORD;
     }
     eight(a, last) < eight(b, last)
 }
@@ -151,12 +123,10 @@ fn is_zero_by_blocks(s: &[u8]) -> bool
         return is_each_zero(s);
     }
     let last = s.len() - BLOCK;
-    let mut i = 0;
-    while i < last {
+    for i in (0..last).step_by(BLOCK) {
         if !is_each_zero(between(s, i, BLOCK)) {
             return false;
         }
-        i += BLOCK;
     }
     is_each_zero(between(s, last, BLOCK))
 }
@@ -165,13 +135,7 @@ fn is_zero_by_blocks(s: &[u8]) -> bool
 fn is_each_zero(s: &[u8]) -> bool
     ensures { result ≡ all_zero s.now }
 {
-    let mut any = 0;
-    let mut i = 0;
-    while i < s.len() {
-        any |= s[i];
-        i += 1;
-    }
-    any == 0
+    s.iter().fold(0, |any, octet| any | *octet) == 0
 }
 
 // Every octet of two slices of one size is zero. Both are looked at in one pass, with no early exit.
@@ -179,11 +143,5 @@ pub fn are_each_zero(a: &[u8], b: &[u8]) -> bool
     requires { length a.now ≡ length b.now }
     ensures { result ≡ both (all_zero a.now) (all_zero b.now) }
 {
-    let mut any = 0;
-    let mut i = 0;
-    while i < a.len() {
-        any |= a[i] | b[i];
-        i += 1;
-    }
-    any == 0
+    a.iter().zip(b).fold(0, |any, (x, y)| any | *x | *y) == 0
 }

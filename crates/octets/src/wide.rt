@@ -1,8 +1,12 @@
 // Numbers of several octets: in network order, and the least significant octet first, as the machine has them, to tell octets apart
 // by one load and one test.
+#![tactic(auto, using(crate::proofs::Bytes::bytes))]
+
 ghost use Rattle.std.specs.Prelude.{◌≡◌, ◌+◌, ◌^◌, ◌<◌, ◌≤◌, length};
 ghost use Rattle.octets.specs.Octets.{part, number_in, low_first, big_endian};
 ghost use Rattle.octets.specs.Outputs.{Put};
+
+use crate::parts::{block, place};
 
 // The number in two octets from `at` on.
 pub fn two(s: &[u8], at: usize) -> u32
@@ -10,7 +14,7 @@ pub fn two(s: &[u8], at: usize) -> u32
     ensures value { result ≡ number_in (part s.now at 2) 0 }
     ensures upper_bound { result < 2 ^ 16 }
 {
-    s[at] as u32 * 256 + s[at + 1] as u32
+    u16::from_be_bytes(block(s, at)) as u32
 }
 
 // The number in three octets from `at` on.
@@ -27,7 +31,7 @@ pub fn four(s: &[u8], at: usize) -> u32
     requires { at + 4 ≤ length s.now }
     ensures { result ≡ number_in (part s.now at 4) 0 }
 {
-    three(s, at) * 256 + s[at + 3] as u32
+    u32::from_be_bytes(block(s, at))
 }
 
 // The number in eight octets from `at` on.
@@ -35,7 +39,7 @@ pub fn eight(s: &[u8], at: usize) -> u64
     requires { at + 8 ≤ length s.now }
     ensures { result ≡ number_in (part s.now at 8) 0 }
 {
-    four(s, at) as u64 * 4294967296 + four(s, at + 4) as u64
+    u64::from_be_bytes(block(s, at))
 }
 
 // The number in two octets from `at` on, the least significant first.
@@ -43,7 +47,7 @@ pub fn two_low_first(s: &[u8], at: usize) -> u32
     requires { at + 2 ≤ length s.now }
     ensures { (result ≡ low_first (part s.now at 2)) × (result < 2 ^ 16) }
 {
-    s[at] as u32 + s[at + 1] as u32 * 256
+    u16::from_le_bytes(block(s, at)) as u32
 }
 
 // The number in four octets from `at` on, the least significant first.
@@ -51,7 +55,7 @@ pub fn four_low_first(s: &[u8], at: usize) -> u32
     requires { at + 4 ≤ length s.now }
     ensures { result ≡ low_first (part s.now at 4) }
 {
-    two_low_first(s, at) + two_low_first(s, at + 2) * 65536
+    u32::from_le_bytes(block(s, at))
 }
 
 // The number in eight octets from `at` on, the least significant first: one load.
@@ -59,7 +63,7 @@ pub fn eight_low_first(s: &[u8], at: usize) -> u64
     requires { at + 8 ≤ length s.now }
     ensures { result ≡ low_first (part s.now at 8) }
 {
-    four_low_first(s, at) as u64 + four_low_first(s, at + 4) as u64 * 4294967296
+    u64::from_le_bytes(block(s, at))
 }
 
 // Puts the last three octets of a number into `output` from `at` on, and answers the place just past them.
@@ -67,12 +71,7 @@ pub fn place_three(x: u32, output: &mut [u8], at: usize) -> usize
     requires { at + 3 ≤ length output.old }
     ensures { Put at (big_endian 3 x) output.old result output.new }
 {
-    let octets = [
-        (x / 256 / 256 % 256) as u8,
-        (x / 256 % 256) as u8,
-        (x % 256) as u8,
-    ];
-    crate::parts::place(&octets, output, at)
+    place(&x.to_be_bytes()[1..], output, at)
 }
 
 // Puts the four octets of a number into `output` from `at` on, and answers the place just past them.
@@ -80,7 +79,5 @@ pub fn place_four(x: u32, output: &mut [u8], at: usize) -> usize
     requires { at + 4 ≤ length output.old }
     ensures { Put at (big_endian 4 x) output.old result output.new }
 {
-    let next = place_three(x / 256, output, at);
-    let octets = [(x % 256) as u8];
-    crate::parts::place(&octets, output, next)
+    place(&x.to_be_bytes(), output, at)
 }

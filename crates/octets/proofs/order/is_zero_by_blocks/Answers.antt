@@ -1,10 +1,12 @@
 -- `octets::order::is_zero_by_blocks` meets its contract: as far as the loop has come, all is zeros, and the last block leaves nothing out.
-use Prim.Native.Nat.{◌-◌}
-use mathlib.Core.Path.{refl, ◌∙◌, ap}
+use Prim.Native.Nat.{ℕ, ◌+◌, ◌-◌}
+use mathlib.Core.Path.{◌≡◌, refl, ◌∙◌, ap}
 use lib.ListN.{length}
 use borrow.Author.Rules.{rules}
+use Rattle.octets.specs.Octets.{part}
 use Rattle.octets.specs.Order.{all_zero}
 use Rattle.octets.proofs.Zeros.{zero-begins, zero-fails, zero-last}
+use Rattle.octets.proofs.order.is_zero_by_blocks.Goals.{else-loop-i-test, then-loop-i-test+else-not-is_each_zero+else-last-i-gt64}
 use Rattle.octets.proofs.order.is_zero_by_blocks.Goals as goal
 
 pub loop-i-init : goal.loop-i-init
@@ -24,4 +26,11 @@ pub returns : goal.returns
 returns c =
     let l = c.loop-i in
     let s = c.args.s.now in
-    zero-last _ s (length s - 64) 64 l.i (search rules) (search rules) l.invariant (c.is_each_zero-2.ensures ∙ ap all_zero c.between-2.ensures)
+    let last : ℕ = length s - 64 in
+    let end : c.is_each_zero-2.result ≡ all_zero (part s last 64) = c.is_each_zero-2.ensures ∙ ap all_zero c.between-2.ensures in
+    elim c.loop-i-test.branch [
+      | else-loop-i-test w ↦ zero-last _ s last 64 l.i (search rules) (search rules) l.invariant end
+      | then-loop-i-test+else-not-is_each_zero+else-last-i-gt64 w ↦
+          zero-last _ s last 64 (l.i + 64) (search rules) (search rules)
+          (zero-begins _ s l.i 64 l.invariant (w.is_each_zero-in-loop-i.ensures ∙ ap all_zero w.between.ensures) w.if-not-is_each_zero.false) end
+    ]
