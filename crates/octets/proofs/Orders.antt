@@ -178,9 +178,6 @@ module _ (a b : List ℕ) (i : ℕ) (front : take i a ≡ take i b) where
   pub alike-whole : length a ≤ i → length b ≤ i → true ≡ same a b
   alike-whole h k = sym (same-of-equal a b (sym (take_all i a h) ∙ front ∙ take_all i b k))
 
-pub octet-other : (a b : List ℕ) (i : ℕ) → (get_or a i 0 ≡ get_or b i 0 → ⊥) → false ≡ same a b
-octet-other a b i d = sym (unequal-other a b (λ e. d (ap (λ (s : List ℕ). get_or s i 0) e)))
-
 -- lists of one length that differ decide, whatever follows them
 before-first : (xs ys p q : List ℕ) → length xs ≡ length ys → (xs ≡ ys → ⊥) → before (xs ++ p) (ys ++ q) ≡ before xs ys
 unfolding before
