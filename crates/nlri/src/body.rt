@@ -13,26 +13,19 @@ use crate::route::RouteType;
 use octets::refusal::Refusal;
 
 // A source or group length is the family's; in type 3 only it may be 0, the wildcard.
+#[tactic(auto, using(octets::proofs::Tests::flags), unfolding(crate::specs::Family::allowed))]
 pub fn is_allowed(kind: AddressKind, route_type: usize, bits: usize) -> bool
     ensures { result ≡ allowed kind.bits route_type bits }
 {
-    if bits == kind.bits {
-        return true;
-    }
-    if route_type == RouteType::SPmsi as usize {
-        return bits == AddressKind::WILDCARD;
-    }
-    false
+    bits == kind.bits || (route_type == RouteType::SPmsi as usize && bits == AddressKind::WILDCARD)
 }
 
 // An originator has 4 or 16 octets, independent of the family.
+#[tactic(auto, using(octets::proofs::Tests::flags), unfolding(crate::specs::Family::is_originator_size))]
 pub fn is_originator_size(size: usize) -> bool
     ensures { result ≡ is_originator_size size }
 {
-    if size == AddressKind::IPV4_OCTETS {
-        return true;
-    }
-    size == AddressKind::IPV6_OCTETS
+    size == AddressKind::IPV4_OCTETS || size == AddressKind::IPV6_OCTETS
 }
 
 // An originator stands from `at` to the end.

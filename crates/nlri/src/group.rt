@@ -29,6 +29,7 @@ impl Group {
     pub const SSM: u32 = 2;
 
     // A group that is refused.
+    #[tactic(auto, using(octets::proofs::Tests::tests), unfolding(crate::specs::Groups::group_of, octets::specs::Outcome::number_of, octets::specs::Outcome::on_outcome))]
     pub fn refused(number: u32) -> Group
         ensures { result ≡ group_of (refused number) }
     {
@@ -57,20 +58,19 @@ impl From<Result<GroupClass, Refusal>> for Group {
 }
 
 // 224.0.0.0/4, FF00::/8
+#[tactic(auto, using(octets::proofs::Tests::flags), unfolding(crate::specs::Groups::multicast))]
 fn is_multicast(kind: AddressKind, group: &[u8]) -> bool
     requires { 4 ≤ length group.now }
     ensures { result ≡ multicast kind.bits group.now }
 {
     if kind.bits == AddressKind::IPV4 {
-        if group[0] < 224 {
-            return false;
-        }
-        return group[0] <= 239;
+        return 224 <= group[0] && group[0] <= 239;
     }
     group[0] == 255
 }
 
 // 232.0.0.0/8, FF3x::/32
+#[tactic(auto, using(octets::proofs::Tests::flags), unfolding(crate::specs::Groups::source_specific))]
 fn is_source_specific(kind: AddressKind, group: &[u8]) -> bool
     requires { 4 ≤ length group.now }
     ensures { result ≡ source_specific kind.bits group.now }
@@ -78,26 +78,15 @@ fn is_source_specific(kind: AddressKind, group: &[u8]) -> bool
     if kind.bits == AddressKind::IPV4 {
         return group[0] == 232;
     }
-    if group[0] != 255 {
-        return false;
-    }
-    if group[1] / 16 != 3 {
-        return false;
-    }
-    if group[2] != 0 {
-        return false;
-    }
-    group[3] == 0
+    group[0] == 255 && group[1] / 16 == 3 && group[2] == 0 && group[3] == 0
 }
 
 // Whether octets of any number are a group of that range.
+#[tactic(auto, using(octets::proofs::Tests::flags), unfolding(crate::specs::Groups::is_ssm))]
 pub fn is_ssm(kind: AddressKind, group: &[u8]) -> bool
     ensures { result ≡ is_ssm kind.bits group.now }
 {
-    if group.len() < 4 {
-        return false;
-    }
-    is_source_specific(kind, group)
+    4 <= group.len() && is_source_specific(kind, group)
 }
 
 // The class of a group under the family of a kind of addresses. FLOW.

@@ -15,6 +15,7 @@ pub struct Header {
 }
 
 // The header of the NLRI at the front of `s`. SHORT.
+#[tactic(auto, using(octets::proofs::Tests::tests), unfolding(crate::specs::Inner::header_at))]
 pub fn read_header(s: &[u8]) -> Result<Header, Refusal>
     ensures { header_outcome result ≡ header_at s.now }
 {

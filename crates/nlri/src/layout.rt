@@ -40,19 +40,20 @@ impl Layout {
 }
 
 // Where the octets of a source begin, behind its length octet: in types 6 and 7 the source AS stands before that.
+#[tactic(auto, using(octets::proofs::Tests::tests), unfolding(crate::specs::Inner::source_start))]
 pub(crate) fn source_start(route_type: usize) -> usize
     ensures { result ≡ source_start route_type }
 {
-    if route_type == RouteType::SharedTreeJoin as usize {
-        return HEADER + RouteDistinguisher::WITH_SOURCE_AS + 1;
-    }
-    if route_type == RouteType::SourceTreeJoin as usize {
+    if route_type == RouteType::SharedTreeJoin as usize
+        || route_type == RouteType::SourceTreeJoin as usize
+    {
         return HEADER + RouteDistinguisher::WITH_SOURCE_AS + 1;
     }
     HEADER + RouteDistinguisher::OCTETS + 1
 }
 
 // Where a FEC starts: in 0x47 behind the source AS.
+#[tactic(auto, using(octets::proofs::Tests::tests), unfolding(crate::specs::Inner::fec_start))]
 pub(crate) fn fec_start(route_type: usize) -> usize
     ensures { result ≡ fec_start route_type }
 {

@@ -145,13 +145,11 @@ pub fn read_front(kind: AddressKind, s: &[u8]) -> Result<Layout, Refusal>
 }
 
 // Whether octets stand behind the NLRI at the front of `s`; of one that is SHORT either answer will do.
+#[tactic(auto, using(octets::proofs::Tests::flags), unfolding(crate::specs::Inner::is_followed))]
 fn is_followed(s: &[u8]) -> bool
     ensures { result ≡ is_followed s.now }
 {
-    if s.len() < HEADER {
-        return false;
-    }
-    s.len() - HEADER != s[1] as usize
+    HEADER <= s.len() && s.len() - HEADER != s[1] as usize
 }
 
 // The refusal of an NLRI that octets stand behind: those are LENGTH, which comes before GROUP.

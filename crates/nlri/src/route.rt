@@ -51,50 +51,39 @@ impl TryFrom<usize> for RouteType {
 }
 
 // A Leaf, of either kind, has a key, straight after the header, and no route distinguisher.
+#[tactic(auto, using(octets::proofs::Tests::flags), unfolding(crate::specs::Inner::with_key))]
 pub fn has_key(route_type: usize) -> bool
     ensures { result ≡ with_key route_type }
 {
-    if route_type == RouteType::Leaf as usize {
-        return true;
-    }
-    route_type == RouteType::MldpLeaf as usize
+    route_type == RouteType::Leaf as usize || route_type == RouteType::MldpLeaf as usize
 }
 
 // Types 0x43 and 0x47 have a FEC.
+#[tactic(auto, using(octets::proofs::Tests::flags), unfolding(crate::specs::Inner::with_fec))]
 pub fn has_fec(route_type: usize) -> bool
     ensures { result ≡ with_fec route_type }
 {
-    if route_type == RouteType::MldpSPmsi as usize {
-        return true;
-    }
-    route_type == RouteType::MldpSourceTreeJoin as usize
+    route_type == RouteType::MldpSPmsi as usize
+        || route_type == RouteType::MldpSourceTreeJoin as usize
 }
 
 // Types 2, 6, 7 and 0x47 have a source AS, behind the route distinguisher.
+#[tactic(auto, using(octets::proofs::Tests::flags), unfolding(crate::specs::Inner::with_source_as))]
 pub fn has_source_as(route_type: usize) -> bool
     ensures { result ≡ with_source_as route_type }
 {
-    if route_type == RouteType::InterAsIPmsi as usize {
-        return true;
-    }
-    if route_type == RouteType::SharedTreeJoin as usize {
-        return true;
-    }
-    if route_type == RouteType::SourceTreeJoin as usize {
-        return true;
-    }
-    route_type == RouteType::MldpSourceTreeJoin as usize
+    route_type == RouteType::InterAsIPmsi as usize
+        || route_type == RouteType::SharedTreeJoin as usize
+        || route_type == RouteType::SourceTreeJoin as usize
+        || route_type == RouteType::MldpSourceTreeJoin as usize
 }
 
 // The types of RFC 7441.
+#[tactic(auto, using(octets::proofs::Tests::flags), unfolding(crate::specs::Inner::is_mldp))]
 pub fn is_mldp(route_type: usize) -> bool
     ensures { result ≡ is_mldp route_type }
 {
-    if route_type == RouteType::MldpSPmsi as usize {
-        return true;
-    }
-    if route_type == RouteType::MldpLeaf as usize {
-        return true;
-    }
-    route_type == RouteType::MldpSourceTreeJoin as usize
+    route_type == RouteType::MldpSPmsi as usize
+        || route_type == RouteType::MldpLeaf as usize
+        || route_type == RouteType::MldpSourceTreeJoin as usize
 }

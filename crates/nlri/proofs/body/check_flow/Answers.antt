@@ -10,21 +10,17 @@ pub returns-then-s-at : goal.returns-then-s-at
 unfolding field_size
 returns-then-s-at c = left-missing _ _ source (λ y. refl) _ _ _ c.if-s-at.true
 
-pub overflow_cast-bits : goal.overflow_cast-bits
-unfolding field_size
-overflow_cast-bits c = omega (arith, c.shared_slice_known-2-1.given c.args.at)
-
 pub returns-then-not-is_allowed : goal.returns-then-not-is_allowed
 unfolding field_size
 returns-then-not-is_allowed c = left-wide _ _ source (λ y. refl) _ _ _ (search rules) (sym c.is_allowed.ensures ∙ c.if-not-is_allowed.true)
 
 pub overflow_add-at-2 : goal.overflow_add-at-2
 unfolding field_size
-overflow_add-at-2 c = omega (arith, c.shared_slice_known-2-1.given c.args.at)
+overflow_add-at-2 c = omega (arith, c.type_inv.s c.args.at)
 
 pub check_group_field-requires : goal.check_group_field-requires
 unfolding field_size
-check_group_field-requires c = omega (arith, c.shared_slice_known-2-1.given c.args.at)
+check_group_field-requires c = omega (arith, c.type_inv.s c.args.at)
 
 pub returns : goal.returns
 unfolding field_size

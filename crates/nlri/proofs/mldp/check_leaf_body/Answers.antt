@@ -16,7 +16,7 @@ overflow_add-key c = let h = leaf-within _ _ c.args.s.now _ c.read_key.ensures _
 pub check_originator-requires : goal.check_originator-requires
 check_originator-requires c =
     let h = leaf-within _ _ c.args.s.now _ c.read_key.ensures _ c.in-Ok.is in
-    omega (arith, c.shared_slice_known-1.given 1)
+    omega (arith, c.type_inv.s 1)
 
 pub returns-in-Ok : goal.returns-in-Ok
 unfolding with_key either

@@ -1,5 +1,5 @@
 -- `nlri::read::is_s_pmsi_under` meets its contract.
-use Rattle.std.proofs.Common.{ℕ, eqb, ap, arith}
+use Rattle.std.proofs.Common.{ℕ, eqb, ap}
 use Rattle.octets.specs.Numbers.{DONE}
 use Rattle.octets.proofs.Tests.{flags}
 use Rattle.nlri.specs.Inner.{s_pmsi_under}
@@ -9,17 +9,9 @@ pub returns-then-s : goal.returns-then-s
 unfolding s_pmsi_under
 returns-then-s c = search flags
 
-pub overflow_cast-s : goal.overflow_cast-s
-unfolding s_pmsi_under
-overflow_cast-s c = omega (arith, c.shared_slice_known-2-1.given 0)
-
 pub returns-then-s-2 : goal.returns-then-s-2
 unfolding s_pmsi_under
 returns-then-s-2 c = search flags
-
-pub overflow_cast-s-2 : goal.overflow_cast-s-2
-unfolding s_pmsi_under
-overflow_cast-s-2 c = omega (arith, c.shared_slice_known-3-1.given 1)
 
 pub returns-then-s-3 : goal.returns-then-s-3
 unfolding s_pmsi_under
