@@ -22,6 +22,7 @@ use octets::refusal::Refusal;
 const MOST: usize = 255;
 
 // An originator has 4 or 16 octets, where the type has one.
+#[tactic(auto, using(octets::proofs::Tests::flags), unfolding(crate::specs::Inner::originator_fits))]
 fn originator_fits(originated: bool, size: usize) -> bool
     ensures { result ≡ originator_fits originated size }
 {
@@ -32,6 +33,7 @@ fn originator_fits(originated: bool, size: usize) -> bool
 }
 
 // The octets of the route distinguisher, with a source AS where the type has one.
+#[tactic(auto, using(octets::proofs::Tests::tests), unfolding(crate::specs::Inner::front_size))]
 fn front_size(numbered: bool) -> usize
     ensures { result ≡ front_size numbered }
 {
@@ -42,6 +44,7 @@ fn front_size(numbered: bool) -> usize
 }
 
 // The octets of the originator, where the type has one.
+#[tactic(auto, using(octets::proofs::Tests::tests), unfolding(crate::specs::Inner::end_size))]
 fn end_size(originated: bool, size: usize) -> usize
     ensures { result ≡ end_size originated size }
 {
@@ -123,6 +126,7 @@ fn flow_size(nlri: Nlri) -> usize
 }
 
 // Every address of such a body fits.
+#[tactic(auto, using(octets::proofs::Tests::refusals), unfolding(crate::specs::Inner::addresses_fit))]
 fn addresses_fit(kind: AddressKind, nlri: Nlri) -> bool
     ensures { result ≡ addresses_fit kind.bits nlri.route_type nlri }
 {
