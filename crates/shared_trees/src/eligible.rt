@@ -9,6 +9,7 @@ ghost use Rattle.shared_trees.specs.Told.{FieldsWithin, fields_within, Ending, s
 
 use crate::{FIELDS, TreeFacts};
 use lists::FIRST;
+use lists::item::Item;
 use nlri::standing;
 use octets::{order, wide};
 
@@ -100,29 +101,25 @@ fn is_without_state(nlri: &[u8], group: &[u8], states: &[u8]) -> bool
 }
 
 // A Source Active route for the group, originated by the PE, to whose (C-S,C-G) no state corresponds.
-fn lacks_state(list: &[u8], at: usize, router: &[u8], group: &[u8], states: &[u8]) -> bool
-    requires { (whole_item 2 (drop at list.now) ≡ true) × (fields_within (front_item 2 (drop at list.now)) ≡ true) × StatesSized (length group.now) states.now }
-    ensures { result ≡ without_state_at router.now group.now states.now (front_item 2 (drop at list.now)) }
+fn lacks_state(source_active: &Item<'_, FIELDS>, router: &[u8], group: &[u8], states: &[u8]) -> bool
+    requires { (fields_within source_active.now ≡ true) × StatesSized (length group.now) states.now }
+    ensures { result ≡ without_state_at router.now group.now states.now source_active.now }
 {
-    if !order::is_same(lists::item_field(list, at, 0), router) {
+    if !order::is_same(source_active.field(0), router) {
         return false;
     }
-    is_without_state(lists::item_field(list, at, 1), group, states)
+    is_without_state(source_active.field(1), group, states)
 }
 
 // Some Source Active route is one.
-fn has_source(list: &[u8], router: &[u8], group: &[u8], states: &[u8]) -> bool
-    requires { ListsJudged (length group.now) list.now states.now }
-    ensures { result ≡ some_item (without_state_at router.now group.now states.now) (list_items 2 list.now) }
+fn has_source(source_actives: &[u8], router: &[u8], group: &[u8], states: &[u8]) -> bool
+    requires { ListsJudged (length group.now) source_actives.now states.now }
+    ensures { result ≡ some_item (without_state_at router.now group.now states.now) (list_items 2 source_actives.now) }
 {
-    let mut at = FIRST;
-    let mut left = lists::count_of(list);
-    while 0 < left {
-        if lacks_state(list, at, router, group, states) {
+    for item in lists::items_of::<FIELDS>(source_actives) {
+        if lacks_state(&item, router, group, states) {
             return true;
         }
-        at = lists::after_item(list, at, FIELDS);
-        left -= 1;
     }
     false
 }
