@@ -1,8 +1,7 @@
 // Equality and order of octets, and zeros: many octets at once, where there are many. Those left over at the end are looked
 // at together with some before them, which are then looked at twice.
 //
-// Each public function hands on parts of its slices and not the slices themselves: the compiler then passes a slice to it by two
-// registers and not by memory.
+// `is_same` and `comes_before` only call what does their work: so the compiler writes the comparison itself into their callers.
 ghost use Rattle.std.specs.Prelude.{◌≡◌, ◌≤◌, min, length};
 ghost use Rattle.octets.specs.Choice.{both};
 ghost use Rattle.octets.specs.Order.{same, before, all_zero};
@@ -19,7 +18,7 @@ const BLOCK: usize = 64;
 pub fn is_same(a: &[u8], b: &[u8]) -> bool
     ensures { result ≡ same a.now b.now }
 {
-    is_same_by_words(&a[0..], &b[0..])
+    is_same_by_words(a, b)
 }
 
 // Equality, a word at a time; the last word may begin inside the one before it.
@@ -41,7 +40,7 @@ fn is_same_by_words(a: &[u8], b: &[u8]) -> bool
     eight_low_first(a, last) == eight_low_first(b, last)
 }
 
-// Fewer octets than a word: four, as of an IPv4 address, at once; else one by one.
+// Fewer octets than a word: four, as of an IPv4 address, by one load of each.
 fn is_short_same(a: &[u8], b: &[u8]) -> bool
     requires { length a.now ≡ length b.now }
     ensures { result ≡ same a.now b.now }
@@ -56,7 +55,7 @@ fn is_short_same(a: &[u8], b: &[u8]) -> bool
 pub fn comes_before(a: &[u8], b: &[u8]) -> bool
     ensures { result ≡ before a.now b.now }
 {
-    comes_before_by_words(&a[0..], &b[0..])
+    comes_before_by_words(a, b)
 }
 
 // The order, a word at a time: the first words that differ decide, as big-endian numbers.
@@ -108,15 +107,8 @@ pub fn rises(a: &[u8], b: &[u8]) -> bool
     eight(a, last) < eight(b, last)
 }
 
-// Every octet is zero.
+// Every octet is zero, block by block; the last block may begin inside the one before it.
 pub fn is_zero(s: &[u8]) -> bool
-    ensures { result ≡ all_zero s.now }
-{
-    is_zero_by_blocks(&s[0..])
-}
-
-// Block by block; the last block may begin inside the one before it.
-fn is_zero_by_blocks(s: &[u8]) -> bool
     ensures { result ≡ all_zero s.now }
 {
     if s.len() < BLOCK {
