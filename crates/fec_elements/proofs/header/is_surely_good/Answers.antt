@@ -15,12 +15,12 @@ returns-then-not-is_fec_type c t = absurd (opposite t refl)
 
 pub returns-then-root-eq-IPV4 : goal.returns-then-root-eq-IPV4
 returns-then-root-eq-IPV4 c t =
-    surely-good (octets-of c.args.s.now (λ j. (c.shared_slice_known-1.given j).fits)) (omega (arith, c.if-s-lt-IPV4.false)) _ c.four_low_first-root.ensures 1 4 ipv4 (omega arith) (omega arith) c.if-root-eq-IPV4.true _
+    surely-good (octets-of c.args.s.now (λ j. (c.type_inv.s j).fits)) (omega (arith, c.if-s-lt-IPV4.false)) _ c.four_low_first-root.ensures 1 4 ipv4 (omega arith) (omega arith) c.if-root-eq-IPV4.true _
     (sym c.is_fec_type.ensures ∙ c.if-not-is_fec_type.false) (c.stands_well.ensures t)
 
 pub returns-then-root-eq-IPV6 : goal.returns-then-root-eq-IPV6
 returns-then-root-eq-IPV6 c t =
-    surely-good (octets-of c.args.s.now (λ j. (c.shared_slice_known-1.given j).fits)) (omega (arith, c.if-s-lt-IPV4.false)) _ c.four_low_first-root.ensures 2 16 ipv6 (omega arith) (omega arith) c.if-root-eq-IPV6.true _
+    surely-good (octets-of c.args.s.now (λ j. (c.type_inv.s j).fits)) (omega (arith, c.if-s-lt-IPV4.false)) _ c.four_low_first-root.ensures 2 16 ipv6 (omega arith) (omega arith) c.if-root-eq-IPV6.true _
     (sym c.is_fec_type.ensures ∙ c.if-not-is_fec_type.false) (c.stands_well-then-root-eq-IPV6.ensures t)
 
 pub returns : goal.returns

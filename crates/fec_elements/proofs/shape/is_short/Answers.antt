@@ -17,14 +17,14 @@ returns-then-s-gt-MOST_SHORT c = search flags
 pub returns-then-root-eq-IPV4 : goal.returns-then-root-eq-IPV4
 returns-then-root-eq-IPV4 c =
     let s = c.args.s.now in
-    short-rooted (octets-of s (λ k. (c.shared_slice_known-1.given k).fits)) (search rules) _ c.four_low_first-root.ensures (search rules) 1 4 ipv4 (search rules) (search rules) (search rules) _ c.ends_from.ensures
+    short-rooted (octets-of s (λ k. (c.type_inv.s k).fits)) (search rules) _ c.four_low_first-root.ensures (search rules) 1 4 ipv4 (search rules) (search rules) (search rules) _ c.ends_from.ensures
 
 pub returns-then-root-eq-IPV6 : goal.returns-then-root-eq-IPV6
 returns-then-root-eq-IPV6 c =
     let s = c.args.s.now in
-    short-rooted (octets-of s (λ k. (c.shared_slice_known-1.given k).fits)) (search rules) _ c.four_low_first-root.ensures (search rules) 2 16 ipv6 (search rules) (search rules) (search rules) _ c.ends_from-then-root-eq-IPV6.ensures
+    short-rooted (octets-of s (λ k. (c.type_inv.s k).fits)) (search rules) _ c.four_low_first-root.ensures (search rules) 2 16 ipv6 (search rules) (search rules) (search rules) _ c.ends_from-then-root-eq-IPV6.ensures
 
 pub returns : goal.returns
 returns c =
     let s = c.args.s.now in
-    short-unrooted (octets-of s (λ k. (c.shared_slice_known-1.given k).fits)) (search rules) _ c.four_low_first-root.ensures c.if-root-eq-IPV4.false c.if-root-eq-IPV6.false
+    short-unrooted (octets-of s (λ k. (c.type_inv.s k).fits)) (search rules) _ c.four_low_first-root.ensures c.if-root-eq-IPV4.false c.if-root-eq-IPV6.false
