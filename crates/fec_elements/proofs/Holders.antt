@@ -8,7 +8,7 @@ use native.Mathlib.Omega.{arith}
 use lib.Dec.{eqb}
 use lib.ListN.{length, get_or, drop, length-append, length-drop}
 use lib.Seq.{drop-cons, drop-drop, drop-append_seam}
-use borrow.Author.Tests.{leb-true, eqb-true, eq-eqb, le-leb}
+use borrow.Author.Tests.{leb-true, eqb-true, eq-eqb, ne_eqb, le-leb}
 use Rattle.octets.specs.Choice.{pick, either}
 use Rattle.octets.specs.Octets.{AllOctets, part, number_in, big_endian}
 use Rattle.octets.proofs.Choice.{tested, both_true, both-held, either_true}
@@ -29,7 +29,20 @@ unfolding opens either
 opens-computed seven = refl
 opens-computed eight = refl
 
-pub opens-none : (o : List ℕ) → length o ≡ 0 → false ≡ opens o
+-- by its first octet
+pub opens-recursive : (o : List ℕ) → get_or o 0 0 ≡ 7 → (opens o ≡ true) × (3 ≡ held_start o)
+unfolding opens either held_start pick
+opens-recursive o e = rw e (refl, refl)
+
+pub opens-vpn_recursive : (o : List ℕ) → get_or o 0 0 ≡ 8 → (opens o ≡ true) × (11 ≡ held_start o)
+unfolding opens either held_start pick
+opens-vpn_recursive o e = rw e (refl, refl)
+
+pub opens-else : (o : List ℕ) → (get_or o 0 0 ≡ 7 → ⊥) → (get_or o 0 0 ≡ 8 → ⊥) → opens o ≡ false
+unfolding opens either
+opens-else o a b = rw (ne_eqb _ 7 a, ne_eqb _ 8 b)
+
+pub opens-none : (o : List ℕ) → length o ≡ 0 → opens o ≡ false
 unfolding opens either
 opens-none [] h = refl
 opens-none (x ∷ o) h = absurd (omega arith)

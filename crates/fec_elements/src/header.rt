@@ -1,15 +1,15 @@
-// A FEC up to its opaque value, judged field by field from left to right: the number of the first fault, or DONE.
+// A FEC up to its opaque value, judged field by field from left to right.
 ghost use Rattle.std.specs.Prelude.{◌≡◌, true, ◌≤◌, ◌<◌, length};
 ghost use Rattle.fec_elements.specs.Reading.{runs_out, must_fill, takes_family, is_fec_type, family_suits, length_fault, root_fault, family_fault, header_fault};
 ghost use Rattle.octets.specs.Numbers.{DONE};
 ghost use Rattle.octets.specs.Refusals.{refusal_number, result_number};
 ghost use Rattle.fec_elements.specs.Inner.{EndsWell};
 
-use crate::shape::{FecType, OpaqueStart, Root};
+use crate::shape::FecType;
 use crate::{Standing, shape};
 use octets::refusal::Refusal;
 
-// The number where the octets end inside a FEC.
+// Why a FEC inside which the octets end is refused.
 fn runs_out(standing: Standing) -> Refusal
     ensures { refusal_number result ≡ runs_out standing }
 {
@@ -107,6 +107,7 @@ fn check_family(s: &[u8], standing: Standing) -> Result<(), Refusal>
 }
 
 // Type, and what follows it.
+#[cold]
 fn check_type(s: &[u8], standing: Standing) -> Result<(), Refusal>
     ensures { result_number result ≡ header_fault standing s.now }
 {
@@ -137,38 +138,22 @@ fn ends_well(s: &[u8], start: usize, standing: Standing) -> bool
     !must_fill(standing)
 }
 
-// A FEC with a root of this family may stand so, and ends well.
-fn stands_well(s: &[u8], address_family: u32, start: usize, standing: Standing) -> bool
-    requires { (2 ≤ start) × (start < 256) }
-    ensures { result ≡ true → (takes_family standing address_family ≡ true) × EndsWell standing start s.now }
-{
-    if !takes_family(standing, address_family) {
-        return false;
-    }
-    ends_well(s, start, standing)
-}
-
 // A test before the judge: address family and address length are one load. That it fails says nothing.
 fn is_surely_good(s: &[u8], standing: Standing) -> bool
     ensures { result ≡ true → header_fault standing s.now ≡ DONE }
 {
-    if s.len() < OpaqueStart::IPV4 {
+    if s.len() < shape::LEAST || !is_fec_type(s[0]) {
         return false;
     }
-    if !is_fec_type(s[0]) {
-        return false;
+    match shape::root_family(s) {
+        Some(family) => {
+            takes_family(standing, family as u32) && ends_well(s, family.opaque_start(), standing)
+        }
+        None => false,
     }
-    let root = octets::wide::four_low_first(s, 0) / 256;
-    if root == Root::IPV4 {
-        return stands_well(s, 1, OpaqueStart::IPV4, standing);
-    }
-    if root == Root::IPV6 {
-        return stands_well(s, 2, OpaqueStart::IPV6, standing);
-    }
-    false
 }
 
-// The number of the first fault of a FEC up to its opaque value.
+// The first fault of a FEC up to its opaque value.
 pub(crate) fn check(s: &[u8], standing: Standing) -> Result<(), Refusal>
     ensures { result_number result ≡ header_fault standing s.now }
 {

@@ -1,5 +1,5 @@
 -- `tunnel::identifier::check` meets its contract: TUNNEL where the table has no row, and else what its row's form says.
-use Rattle.std.proofs.Common.{sym, ◌∙◌}
+use Rattle.std.proofs.Common.{◌∙◌}
 use Rattle.octets.proofs.Refusals.{passed_on}
 use Rattle.tunnel.proofs.Functions.Rows.{no-row, fits-row, fails-row}
 use Rattle.tunnel.proofs.identifier.check.Goals as goal

@@ -1,5 +1,5 @@
 -- `tunnel::identifier::is_fec` meets its contract.
-use Rattle.std.proofs.Common.{◌∙◌, arith}
+use Rattle.std.proofs.Common.{arith}
 use Rattle.octets.proofs.Tests.{flags}
 use Rattle.fec_elements.proofs.FecTypes.{octet-cast}
 use Rattle.fec_elements.proofs.Wholes.{length-fec, short-whole}
