@@ -1,7 +1,7 @@
--- `table::making::make` meets its contract.
+-- `table::making::try_make` meets its contract.
 use Rattle.table.proofs.Makes.{cleared-room, afi-octet, no-family, no_table, table-made}
 use Rattle.places.proofs.Sounds.{header-room}
-use Rattle.table.proofs.making.make.Goals as goal
+use Rattle.table.proofs.making.try_make.Goals as goal
 
 pub returns-then-not-is_family : goal.returns-then-not-is_family
 returns-then-not-is_family c = no-family _ _ c.is_family.ensures _ c.if-not-is_family.true
