@@ -8,6 +8,7 @@ use crate::mode::Mode;
 use crate::stepping;
 use crate::stepping::RUN;
 use octets::number::DONE;
+use octets::refusal;
 use octets::refusal::Refusal;
 
 // What a walk answers: the number and the offset of its stop, the count of NLRIs read before it, and the number of those skipped.
@@ -37,7 +38,7 @@ impl Walked {
     // layout is made.
     fn go_on(&mut self, afi: u16, mode: Mode, run: &[u8]) -> Result<(), Refusal>
         requires { self.old ≡ walked_to 0 0 0 }
-        ensures { (walked_with (result_number result) self.new.count self.new.offset self.new.skipped ≡ walk_by afi (mode_number mode) run.now) × (self.new.number ≡ 0) }
+        ensures { walked_with (result_number result) self.new.count self.new.offset self.new.skipped ≡ walk_by afi (mode_number mode) run.now }
     {
         let kind = nlri::family_of(afi)?;
         if RUN < run.len() {
@@ -66,8 +67,6 @@ pub fn walk(afi: u16, mode: u32, run: &[u8]) -> Walked
     ensures { result ≡ walk_by afi mode run.now }
 {
     let mut walked = Walked::nothing(DONE);
-    if let Err(refusal) = walked.go_on(afi, Mode::from(mode), run) {
-        walked.number = refusal.number();
-    }
+    walked.number = refusal::number_of(walked.go_on(afi, Mode::from(mode), run));
     walked
 }

@@ -18,12 +18,7 @@ walked-by afi mode run =
     tested (eqb mode SKIP) (λ t. ap (λ m. walk_by afi (mode_number m) run) (pick_true _ _ _ t) ∙ ap (λ m. walk_by afi m run) (sym (eqb-true mode SKIP t)))
     (λ f. ap (λ m. walk_by afi (mode_number m) run) (pick-false _ _ _ f) ∙ (mode_rule.old afi OLD run (λ e. omega arith)).0 ∙ sym (mode_rule.old afi mode run (eqb-false mode SKIP f)).0)
 
-pub returns-in-Err : goal.returns-in-Err
-returns-in-Err c =
-    ap (λ n. walked_with n c.go_on.new.self.count c.go_on.new.self.offset c.go_on.new.self.skipped) c.number.ensures
-    ∙ c.in-Err.ensures.0 ∙ ap (λ m. walk_by c.args.afi (mode_number m) c.args.run.now) c.from.ensures ∙ walked-by _ _ _
-
-pub returns-in_default : goal.returns-in_default
-returns-in_default c =
-    ap (λ n. walked_with n c.go_on.new.self.count c.go_on.new.self.offset c.go_on.new.self.skipped) c.go_on.ensures.1
-    ∙ c.in_default.ensures.0 ∙ ap (λ m. walk_by c.args.afi (mode_number m) c.args.run.now) c.from.ensures ∙ walked-by _ _ _
+pub returns : goal.returns
+returns c =
+    ap (λ n. walked_with n c.go_on.new.self.count c.go_on.new.self.offset c.go_on.new.self.skipped) c.number_of.ensures
+    ∙ c.go_on.ensures ∙ ap (λ m. walk_by c.args.afi (mode_number m) c.args.run.now) c.from.ensures ∙ walked-by _ _ _

@@ -15,21 +15,19 @@ numbered n w = walked_with n w.count w.offset w.skipped
 
 pub returns-in_err-kind : goal.returns-in_err-kind
 unfolding numbered
-returns-in_err-kind c = (ap₂ numbered (passed_on _ _ c.from_residual.ensures.1) c.requires ∙ walk-family _ _ _ _ (sym c.in_err-kind.ensures), ap (λ (w : Walked). w.number) c.requires)
+returns-in_err-kind c = (ap₂ numbered (passed_on _ _ c.from_residual.ensures.1) c.requires ∙ walk-family _ _ _ _ (sym c.in_err-kind.ensures))
 
 pub returns-then-run-gt-RUN : goal.returns-then-run-gt-RUN
 unfolding numbered
-returns-then-run-gt-RUN c = (ap (numbered _) c.requires ∙ walk-long _ _ _ _ (sym c.in_ok-kind.ensures) c.if-run-gt-RUN.true, ap (λ (w : Walked). w.number) c.requires)
+returns-then-run-gt-RUN c = (ap (numbered _) c.requires ∙ walk-long _ _ _ _ (sym c.in_ok-kind.ensures) c.if-run-gt-RUN.true)
 
 pub loop-at-init : goal.loop-at-init
-loop-at-init c = rw c.requires (record { going = going-first _ _ _ _ (sym c.in_ok-kind.ensures) c.if-run-gt-RUN.false; offset = refl; number = refl })
+loop-at-init c = rw c.requires (record { going = going-first _ _ _ _ (sym c.in_ok-kind.ensures) c.if-run-gt-RUN.false; offset = refl })
 
 pub returns-then-not-skips : goal.returns-then-not-skips
-returns-then-not-skips c = (
-  rw c.loop-at.invariant.offset
-      (going-refused _ _ _ _ _ _ _ c.loop-at.invariant.going c.loop-at-test.true _ c.after.ensures _ c.in-Err.ensures (refusal_number-not_done _) (sym c.skips.ensures ∙ c.if-not-skips.true)),
-  c.loop-at.invariant.number,
-)
+returns-then-not-skips c =
+    rw c.loop-at.invariant.offset
+    (going-refused _ _ _ _ _ _ _ c.loop-at.invariant.going c.loop-at-test.true _ c.after.ensures _ c.in-Err.ensures (refusal_number-not_done _) (sym c.skips.ensures ∙ c.if-not-skips.true))
 
 pub bounds-run-at : goal.bounds-run-at
 bounds-run-at c =
@@ -53,15 +51,13 @@ loop-at-preserved c =
           record {
             going = going-read _ _ _ _ _ _ _ c.loop-at.invariant.going c.loop-at-test.true _ c.after.ensures _ w.in-Ok.ensures refl _ c.past-at.ensures _ _ (ap (λ (x : Walked). x.count) w.self-is) (ap (λ (x : Walked). x.skipped) w.self-is);
             offset = refl;
-            number = ap (λ (x : Walked). x.number) w.self-is ∙ c.loop-at.invariant.number;
           }
       | in-Err+else-not-skips w ↦
           record {
             going = going-skipped _ _ _ _ _ _ _ c.loop-at.invariant.going c.loop-at-test.true _ c.after.ensures _ w.in-Err.ensures (sym w.skips.ensures ∙ w.if-not-skips.false) _ c.past-at.ensures _ _ (ap (λ (x : Walked). x.count) w.self-is) (ap (λ (x : Walked). x.skipped) w.self-is);
             offset = refl;
-            number = ap (λ (x : Walked). x.number) w.self-is ∙ c.loop-at.invariant.number;
           }
     ]
 
 pub returns : goal.returns
-returns c = (rw c.loop-at.invariant.offset (going-last _ _ _ _ _ _ _ c.loop-at.invariant.going c.loop-at-test.false), c.loop-at.invariant.number)
+returns c = (rw c.loop-at.invariant.offset (going-last _ _ _ _ _ _ _ c.loop-at.invariant.going c.loop-at-test.false))

@@ -10,7 +10,6 @@ abbrev pub invariant-loop-at : goal.invariant-loop-at
 invariant-loop-at l = record {
   going : Going l.afi (mode_number l.mode) l.kind.bits l.run l.at l.self.count l.self.skipped;
   offset : l.self.offset ≡ l.at;
-  number : l.self.number ≡ 0;
 }
 
 abbrev pub decreases-loop-at : goal.decreases-loop-at
