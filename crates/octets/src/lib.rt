@@ -3,8 +3,6 @@
 #![tactic(auto)]
 
 ghost use Rattle.std.specs.Prelude.{◌≡◌};
-ghost use Rattle.octets.specs.Outcome.{refused};
-ghost use Rattle.octets.specs.Outputs.{written_of};
 ghost use Rattle.octets.specs.Refusals.{written_by};
 
 pub mod blocks;
@@ -44,14 +42,5 @@ impl From<Result<usize, Refusal>> for Written {
                 size: 0,
             },
         }
-    }
-}
-
-impl Written {
-    // The answer of a refusal: its number, and no octets written.
-    pub fn refused(number: u32) -> Written
-        ensures { result ≡ written_of (refused number) }
-    {
-        Written { number, size: 0 }
     }
 }
