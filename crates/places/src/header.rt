@@ -30,10 +30,7 @@ pub fn write_header(afi: u16, count: usize, table: &mut [u8])
 pub fn is_family(afi: u16) -> bool
     ensures { result ≡ either (eqb afi 1) (eqb afi 2) }
 {
-    if afi == AddressFamily::IPV4 {
-        return true;
-    }
-    afi == AddressFamily::IPV6
+    AddressFamily::try_from(afi).is_ok()
 }
 
 // A good header: "MVT", the version and an AFI.

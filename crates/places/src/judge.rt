@@ -7,7 +7,7 @@ ghost use Rattle.tunnel.specs.Attribute.{read_attribute};
 ghost use Rattle.routes.specs.Arguments.{read_s_pmsi, read_labelled, read_route};
 ghost use Rattle.routes.specs.Place.{place_sound};
 
-use crate::geometry::{ATTRIBUTE_SIZE, MARK, NLRI_SIZE, ROUTE};
+use crate::sound;
 use nlri::RouteType;
 use octets::refusal::Refusal;
 use tunnel::TunnelType;
@@ -49,25 +49,10 @@ pub fn check_route(afi: u16, nlri: &[u8], attribute: &[u8]) -> Result<(), Refusa
     check_attribute(attribute)
 }
 
-// A place is good by itself: install would take its route, zeros follow, and its mark is 0 or 1. `sound::is_place_sound` tells the same; it
-// is left to its one caller, the loop over a table's places, into which the compiler puts it (DECISIONS, "Who judges a place").
+// A place is good by itself: install would take its route, zeros follow, and its mark is 0 or 1.
 pub fn is_good(afi: u16, place: &[u8]) -> bool
     requires { length place.now ≡ 128 }
     ensures { result ≡ place_sound afi place.now }
 {
-    let nlri_size = place[NLRI_SIZE] as usize;
-    let attribute_size = place[ATTRIBUTE_SIZE] as usize;
-    let end = ROUTE + (nlri_size + attribute_size);
-    if MARK < end {
-        return false;
-    }
-    if 1 < place[MARK] {
-        return false;
-    }
-    let nlri = octets::parts::between(place, ROUTE, nlri_size);
-    let attribute = octets::parts::between(place, ROUTE + nlri_size, attribute_size);
-    if check_route(afi, nlri, attribute).is_err() {
-        return false;
-    }
-    octets::order::is_zero(octets::parts::after(octets::parts::between(place, 0, MARK), end))
+    sound::is_place_sound::<false>(afi, place)
 }
