@@ -103,28 +103,44 @@ impl AddressKind {
         ensures { result ≡ address_struct (kind_octets self.bits octets.now) }
     {
         if self.bits == AddressKind::IPV4 {
-            return first_octets::<{ AddressKind::IPV4_OCTETS }>(octets);
+            return four_octets(octets);
         }
         if self.bits == AddressKind::IPV6 {
-            return first_octets::<{ AddressKind::IPV6_OCTETS }>(octets);
+            return sixteen_octets(octets);
         }
         Address::wildcard()
     }
 }
 
-// The address of the first SIZE octets.
-fn first_octets<const SIZE: usize>(octets: &[u8]) -> Address
-    requires { SIZE ≤ 16 }
-    ensures { result ≡ address_struct (take SIZE octets.now) }
+// An IPv4 address: the first four octets.
+fn four_octets(octets: &[u8]) -> Address
+    ensures { result ≡ address_struct (take 4 octets.now) }
 {
-    if octets.len() < SIZE {
+    if octets.len() < AddressKind::IPV4_OCTETS {
         return shorter(octets);
     }
-    let mut held = [0u8; 16];
-    held[..SIZE].copy_from_slice(&octets[..SIZE]);
     Address {
-        octets: held,
-        size: SIZE as u8,
+        octets: [
+            octets[0], octets[1], octets[2], octets[3], 0, 0, 0, 0, 0, 0, 0, 0, 0, 0, 0, 0,
+        ],
+        size: AddressKind::IPV4_OCTETS as u8,
+    }
+}
+
+// An IPv6 address: the first sixteen octets.
+fn sixteen_octets(octets: &[u8]) -> Address
+    ensures { result ≡ address_struct (take 16 octets.now) }
+{
+    if octets.len() < AddressKind::IPV6_OCTETS {
+        return shorter(octets);
+    }
+    Address {
+        octets: [
+            octets[0], octets[1], octets[2], octets[3], octets[4], octets[5], octets[6], octets[7],
+            octets[8], octets[9], octets[10], octets[11], octets[12], octets[13], octets[14],
+            octets[15],
+        ],
+        size: AddressKind::IPV6_OCTETS as u8,
     }
 }
 

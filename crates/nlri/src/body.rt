@@ -17,7 +17,13 @@ use octets::refusal::Refusal;
 pub fn is_allowed(kind: AddressKind, route_type: usize, bits: usize) -> bool
     ensures { result ≡ allowed kind.bits route_type bits }
 {
-    bits == kind.bits || (route_type == RouteType::SPmsi as usize && bits == AddressKind::WILDCARD)
+    if bits == kind.bits {
+        return true;
+    }
+    if route_type == RouteType::SPmsi as usize {
+        return bits == AddressKind::WILDCARD;
+    }
+    false
 }
 
 // An originator has 4 or 16 octets, independent of the family.

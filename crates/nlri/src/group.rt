@@ -1,6 +1,5 @@
 // The class of a customer group (RFC 4607).
 ghost use Rattle.std.specs.Prelude.{◌≡◌, ◌≤◌, length};
-ghost use Rattle.octets.specs.Outcome.{refused};
 ghost use Rattle.nlri.specs.Groups.{multicast, source_specific, is_ssm, class_under, class_of, class_outcome, group_of};
 
 use crate::address::AddressKind;
@@ -21,23 +20,6 @@ pub enum GroupClass {
 pub struct Group {
     pub number: u32,
     pub group_class: u32,
-}
-
-impl Group {
-    pub const ASM: u32 = 1;
-
-    pub const SSM: u32 = 2;
-
-    // A group that is refused.
-    #[tactic(auto, using(octets::proofs::Tests::tests), unfolding(crate::specs::Groups::group_of, octets::specs::Outcome::number_of, octets::specs::Outcome::on_outcome))]
-    pub fn refused(number: u32) -> Group
-        ensures { result ≡ group_of (refused number) }
-    {
-        Group {
-            number,
-            group_class: 0,
-        }
-    }
 }
 
 impl From<Result<GroupClass, Refusal>> for Group {

@@ -58,34 +58,23 @@ fn check_source_active_body(kind: AddressKind, s: &[u8]) -> Result<(), Refusal>
     Ok(())
 }
 
-// A body of any route type.
+// A body of any route type. TYPE.
 fn check_body(kind: AddressKind, route_type: usize, s: &[u8]) -> Result<(), Refusal>
     ensures { result_number result ≡ accepted_fault kind.bits route_type s.now }
 {
-    if route_type == RouteType::Leaf as usize {
-        return check_leaf_body(kind, s);
-    }
-    if (RouteType::Leaf as usize) < route_type {
-        return check_later_body(kind, route_type, s);
-    }
-    body::check_keyable_body(kind, route_type, s)
-}
-
-// A body of a type above a Leaf's.
-fn check_later_body(kind: AddressKind, route_type: usize, s: &[u8]) -> Result<(), Refusal>
-    requires { 4 < route_type }
-    ensures { result_number result ≡ accepted_fault kind.bits route_type s.now }
-{
-    if route_type <= RouteType::SourceTreeJoin as usize {
-        if route_type == RouteType::SourceActive as usize {
-            return check_source_active_body(kind, s);
+    match RouteType::try_from(route_type)? {
+        RouteType::IntraAsIPmsi | RouteType::InterAsIPmsi | RouteType::SPmsi => {
+            body::check_keyable_body(kind, route_type, s)
         }
-        return body::check_flow_body(kind, route_type, s);
+        RouteType::Leaf => check_leaf_body(kind, s),
+        RouteType::SourceActive => check_source_active_body(kind, s),
+        RouteType::SharedTreeJoin | RouteType::SourceTreeJoin => {
+            body::check_flow_body(kind, route_type, s)
+        }
+        RouteType::MldpSPmsi | RouteType::MldpLeaf | RouteType::MldpSourceTreeJoin => {
+            mldp::check_body(kind, route_type, s)
+        }
     }
-    if !route::is_mldp(route_type) {
-        return Err(Refusal::Type);
-    }
-    mldp::check_body(kind, route_type, s)
 }
 
 // The NLRI at the front of `s`, under the family of a kind of addresses.
