@@ -28,16 +28,18 @@ impl fmt::Display for Listing<'_> {
         let mut skipped: u32 = 0;
         loop {
             let offset = cursor.at;
-            match cursor.turn(AFI, self.mode, self.run) {
-                Ok(Some(Turn::Read(layout))) => {
-                    let route_type = layout.route_type;
-                    let length = layout.length;
-                    writeln!(f, "{offset} {route_type} {length}")?;
-                }
-                Ok(Some(Turn::Skipped)) => skipped += 1,
+            let turn = match cursor.turn(AFI, self.mode, self.run) {
+                Ok(Some(turn)) => turn,
                 Ok(None) => return self.stop(Ok(()), offset, skipped).fmt(f),
                 Err(refusal) => return self.stop(Err(refusal), offset, skipped).fmt(f),
-            }
+            };
+            let Turn::Read(layout) = turn else {
+                skipped += 1;
+                continue;
+            };
+            let route_type = layout.route_type;
+            let length = layout.length;
+            writeln!(f, "{offset} {route_type} {length}")?;
         }
     }
 }

@@ -6,9 +6,9 @@ use Rattle.runs.specs.Modes.{mode_number}
 use Rattle.mvpn_list.proofs.Lines.{Listed}
 use Rattle.mvpn_list.proofs.listing.ListingDisplay.fmt.Given as goal
 
-abbrev pub invariant-loop-layout : goal.invariant-loop-layout
-invariant-loop-layout g l =
+abbrev pub invariant-loop-turn : goal.invariant-loop-turn
+invariant-loop-turn g l =
     Listed (mode_number l.self.mode) l.self.run.now l.cursor.at l.skipped (λ bs. IsPlainFormatter l.fn.f → HasWritten g.W.Write.write_str_gives l.fn.f bs l.f)
 
-abbrev pub decreases-loop-layout : goal.decreases-loop-layout
-decreases-loop-layout g l = length l.self.run.now - l.cursor.at
+abbrev pub decreases-loop-turn : goal.decreases-loop-turn
+decreases-loop-turn g l = length l.self.run.now - l.cursor.at
