@@ -26,6 +26,7 @@ use Rattle.nlri.proofs.Statements.Acceptance.{front-accepted}
 use Rattle.nlri.proofs.Statements.ReadRefusals.{read_refusals, front-not-done}
 use Rattle.nlri.proofs.Statements.Layouts.{length-encoded, layout-encoded, layout-refused}
 use Rattle.runs.specs.declared.stepping.Cursor.{Cursor}
+use Rattle.runs.specs.declared.stepping.Step.{Step}
 use Rattle.octets.specs.declared.refusal.Refusal.{Refusal}
 use Rattle.std.proofs.Common.{Option, Some, None, Result, Ok, Err}
 use Rattle.runs.specs.Walking.{StepTaken, read_to, ended_at, refused_at, step_from, step_taken_of}
@@ -108,17 +109,20 @@ step-not-done afi run at n (front bits f few before why) e = front-not-done bits
 pub cursor-same : (c d : Cursor) → c.at ≡ d.at → c ≡ d
 cursor-same c d e = λ i. record { at = e i }
 
-steps_apart : (a b : Result (Option Layout) Refusal) (at next : ℕ) → step_taken_of a at ≡ step_taken_of b next → (a ≡ b) × (at ≡ next)
+steps-same : (p q : Step) → p.layout ≡ q.layout → p.next.at ≡ q.next.at → p ≡ q
+steps-same p q e h = λ i. record { layout = e i; next = record { at = h i } }
+
+steps_apart : (a b : Result (Option Step) Refusal) (at : ℕ) → step_taken_of a at ≡ step_taken_of b at → a ≡ b
 unfolding step_taken_of read_to ended_at refused_at
-steps_apart (Ok (Some l)) (Ok (Some m)) at next e = (ap (λ (s : StepTaken). Ok (Some s.layout)) e, ap (λ (s : StepTaken). s.cursor) e)
-steps_apart (Ok (Some l)) (Ok None) at next e = absurd (opposite refl (ap (λ (s : StepTaken). s.read) e))
-steps_apart (Ok (Some l)) (Err r) at next e = absurd (opposite refl (ap (λ (s : StepTaken). s.read) e))
-steps_apart (Ok None) (Ok (Some m)) at next e = absurd (opposite refl (ap (λ (s : StepTaken). s.read) (sym e)))
-steps_apart (Ok None) (Ok None) at next e = (refl, ap (λ (s : StepTaken). s.cursor) e)
-steps_apart (Ok None) (Err r) at next e = absurd (opposite refl (ap (λ (s : StepTaken). s.ended) e))
-steps_apart (Err r) (Ok (Some m)) at next e = absurd (opposite refl (ap (λ (s : StepTaken). s.read) (sym e)))
-steps_apart (Err r) (Ok None) at next e = absurd (opposite refl (ap (λ (s : StepTaken). s.ended) (sym e)))
-steps_apart (Err r) (Err q) at next e = (ap Err (refusal-same r q (ap (λ (s : StepTaken). s.number) e)), ap (λ (s : StepTaken). s.cursor) e)
+steps_apart (Ok (Some p)) (Ok (Some q)) at e = ap (λ (x : Step). Ok (Some x)) (steps-same p q (ap (λ (s : StepTaken). s.layout) e) (ap (λ (s : StepTaken). s.cursor) e))
+steps_apart (Ok (Some p)) (Ok None) at e = absurd (opposite refl (ap (λ (s : StepTaken). s.read) e))
+steps_apart (Ok (Some p)) (Err r) at e = absurd (opposite refl (ap (λ (s : StepTaken). s.read) e))
+steps_apart (Ok None) (Ok (Some q)) at e = absurd (opposite refl (ap (λ (s : StepTaken). s.read) (sym e)))
+steps_apart (Ok None) (Ok None) at e = refl
+steps_apart (Ok None) (Err r) at e = absurd (opposite refl (ap (λ (s : StepTaken). s.ended) e))
+steps_apart (Err r) (Ok (Some q)) at e = absurd (opposite refl (ap (λ (s : StepTaken). s.read) (sym e)))
+steps_apart (Err r) (Ok None) at e = absurd (opposite refl (ap (λ (s : StepTaken). s.ended) (sym e)))
+steps_apart (Err r) (Err q) at e = ap Err (refusal-same r q (ap (λ (s : StepTaken). s.number) e))
 
 pub step_rule : StepRule
 unfolding ended_at

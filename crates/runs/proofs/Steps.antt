@@ -16,6 +16,7 @@ use Rattle.nlri.specs.Family.{family_bits}
 use Rattle.nlri.specs.Layouts.{layout_at}
 use Rattle.nlri.proofs.Functions.Fronts.{layout-octets}
 use Rattle.nlri.proofs.Definitions.ReadNumbers.{refuses-done, refuses-layout}
+use Rattle.runs.specs.declared.stepping.Step.{Step}
 use Rattle.octets.specs.Refusals.{refusal_number}
 use Rattle.octets.specs.declared.refusal.Refusal.{Refusal}
 use Rattle.std.proofs.Common.{Option, Some, None, Result, Ok, Err}
@@ -129,9 +130,9 @@ step-moves afi run at l c e =
 
 -- the cases of a step's result
 module _ (s : StepTaken) (cursor : ℕ) where
-  pub step-read : (l : Layout) → step_taken_of (Ok (Some l)) cursor ≡ s → s ≡ read_to l cursor
+  pub step-read : (p : Step) → step_taken_of (Ok (Some p)) cursor ≡ s → s ≡ read_to p.layout p.next.at
   unfolding step_taken_of
-  step-read l e = sym e
+  step-read p e = sym e
 
   pub step-ended : step_taken_of (Ok None) cursor ≡ s → s ≡ ended_at cursor
   unfolding step_taken_of
@@ -148,22 +149,7 @@ module _ (s : StepTaken) (cursor : ℕ) where
   stops-refused r e = stops-refused_at (refusal_number r) cursor (step-refused r e)
 
 -- a refusal that is passed on
-pub step-passed : (cursor : ℕ) (result : Result (Option Layout) Refusal) (r : Refusal) → IsErrAnd result (λ x. x ≡ r) → step_taken_of result cursor ≡ refused_at (refusal_number r) cursor
+pub step-passed : (cursor : ℕ) (result : Result (Option Step) Refusal) (r : Refusal) → IsErrAnd result (λ x. x ≡ r) → step_taken_of result cursor ≡ refused_at (refusal_number r) cursor
 unfolding step_taken_of
 step-passed cursor (Ok l) r h = absurd h
 step-passed cursor (Err q) r h = ap (λ (x : Refusal). refused_at (refusal_number x) cursor) h
-
--- the cursor stays at a refusal
-module _ (afi : ℕ) (run : List ℕ) (at : ℕ) where
-  unread-stays : {s : StepTaken} → Comes afi run at s → s.read ≡ false → s.cursor ≡ at
-  unfolding ended_at refused_at read_to
-  unread-stays (family n e) r = refl
-  unread-stays (too_long bits f h) r = refl
-  unread-stays (end bits f few last) r = refl
-  unread-stays (beyond bits f few far) r = refl
-  unread-stays (unaccepted bits f few before n e) r = refl
-  unread-stays (accepted bits f few before l e) r = absurd (opposite refl r)
-
-  pub refused-stays : (r : Refusal) (cursor : ℕ) → step_taken_of (Err r) cursor ≡ step_from afi run at → cursor ≡ at
-  unfolding step_taken_of refused_at
-  refused-stays r cursor e = ap (λ (s : StepTaken). s.cursor) e ∙ unread-stays (comes-step_from afi run at) (sym (ap (λ (s : StepTaken). s.read) e))

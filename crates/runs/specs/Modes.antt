@@ -57,12 +57,12 @@ turn_from afi mode run at =
     (pick (is_skipped mode (step_from afi run at).number) (Skipped (record { at = past_nlri run at }))
     (Stopped (step_from afi run at).number))
 
--- each case of a turn's result, with the cursor afterwards
-unfoldable pub turn_taken_of : Result (Option Turn) Refusal → (cursor : ℕ) → TurnTaken
-turn_taken_of (Ok (Some (turn.Read layout))) cursor = Read layout (record { at = cursor })
-turn_taken_of (Ok (Some turn.Skipped)) cursor = Skipped (record { at = cursor })
-turn_taken_of (Ok None) cursor = Stopped DONE
-turn_taken_of (Err refusal) cursor = Stopped (refusal_number refusal)
+-- each case of a turn's result
+unfoldable pub turn_taken_of : Result (Option Turn) Refusal → TurnTaken
+turn_taken_of (Ok (Some (turn.Read step))) = Read step.layout step.next
+turn_taken_of (Ok (Some (turn.Skipped next))) = Skipped next
+turn_taken_of (Ok None) = Stopped DONE
+turn_taken_of (Err refusal) = Stopped (refusal_number refusal)
 
 -- what a turn answers: the number, whether an NLRI was read, whether one was skipped, the layout of the NLRI read, and the next cursor
 pub record Turned : Type 0 where

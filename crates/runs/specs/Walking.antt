@@ -7,6 +7,7 @@ use Rattle.octets.specs.Octets.{part}
 use Rattle.octets.specs.Refusals.{refusal_number}
 use Rattle.octets.specs.declared.refusal.Refusal.{Refusal}
 use Rattle.nlri.specs.declared.layout.Layout.{Layout}
+use Rattle.runs.specs.declared.stepping.Step.{Step}
 use Rattle.runs.specs.declared.walking.Walked.{Walked}
 use Rattle.nlri.specs.Family.{family_bits}
 use Rattle.nlri.specs.Layouts.{layout_at, no_layout}
@@ -47,9 +48,9 @@ step_under bits run at =
 unfoldable pub step_from : ℕ → List ℕ → ℕ → StepTaken
 step_from afi run at = on_outcome (λ number. refused_at number at) (λ bits. step_under bits run at) (family_bits afi)
 
--- the number and values of each case of a step's result, with the cursor afterwards
-unfoldable pub step_taken_of : Result (Option Layout) Refusal → (cursor : ℕ) → StepTaken
-step_taken_of (Ok (Some layout)) cursor = read_to layout cursor
+-- the number and values of each case of a step's result; at the run's end and on a refusal the cursor given stays
+unfoldable pub step_taken_of : Result (Option Step) Refusal → (cursor : ℕ) → StepTaken
+step_taken_of (Ok (Some step)) cursor = read_to step.layout step.next.at
 step_taken_of (Ok None) cursor = ended_at cursor
 step_taken_of (Err refusal) cursor = refused_at (refusal_number refusal) cursor
 

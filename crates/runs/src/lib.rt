@@ -7,6 +7,6 @@ mod turning;
 mod walking;
 
 pub use mode::Mode;
-pub use stepping::{Cursor, RUN};
+pub use stepping::{Cursor, RUN, Step};
 pub use turning::Turn;
 pub use walking::{Walked, walk};

@@ -14,11 +14,18 @@ pub struct Cursor {
     pub at: usize,
 }
 
+// An NLRI that a step has read, and the cursor just past it.
+#[derive(Clone, Copy)]
+pub struct Step {
+    pub layout: Layout,
+    pub next: Cursor,
+}
+
 impl Cursor {
-    // The NLRI of the run at the cursor, which then stands just past it; none at the run's end. There, and on a refusal, the cursor stays. FAMILY,
-    // LONG, SHORT for a cursor past the end, then what reading the NLRI refuses.
-    pub fn step(&mut self, afi: u16, run: &[u8]) -> Result<Option<Layout>, Refusal>
-        ensures { step_taken_of result self.new.at ≡ step_from afi run.now self.old.at }
+    // The NLRI of the run at the cursor, with the next cursor; none at the run's end. FAMILY, LONG, SHORT for a cursor past the end, then what reading
+    // the NLRI refuses.
+    pub fn step(self, afi: u16, run: &[u8]) -> Result<Option<Step>, Refusal>
+        ensures { step_taken_of result self.at ≡ step_from afi run.now self.at }
     {
         let kind = nlri::family_of(afi)?;
         if RUN < run.len() {
@@ -31,8 +38,11 @@ impl Cursor {
             return Err(Refusal::Short);
         }
         let layout = nlri::read_front(kind, octets::parts::after(run, self.at))?;
-        self.at = past(self.at, layout.length);
-        Ok(Some(layout))
+        let at = past(self.at, layout.length);
+        Ok(Some(Step {
+            layout,
+            next: Cursor { at },
+        }))
     }
 }
 

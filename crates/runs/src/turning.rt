@@ -4,31 +4,30 @@ ghost use Rattle.runs.specs.Modes.{mode_number, turn_from, turn_taken_of};
 
 use crate::mode::Mode;
 use crate::stepping;
-use crate::stepping::Cursor;
-use nlri::Layout;
+use crate::stepping::{Cursor, Step};
 use octets::refusal::Refusal;
 
-// What a walk that goes on does with an NLRI.
+// An NLRI that a walk has read, or skipped: then the cursor just past it.
 #[derive(Clone, Copy)]
 pub enum Turn {
-    Read(Layout),
-    Skipped,
+    Read(Step),
+    Skipped(Cursor),
 }
 
 impl Cursor {
-    // Reads or skips the NLRI of the run at the cursor, which then stands just past it. The walk stops at the run's end, and at a refusal that its mode
-    // does not skip: there the cursor stays.
-    pub fn turn(&mut self, afi: u16, mode: Mode, run: &[u8]) -> Result<Option<Turn>, Refusal>
-        ensures { turn_taken_of result self.new.at ≡ turn_from afi (mode_number mode) run.now self.old.at }
+    // The walk's turn at the cursor: the NLRI of the run there is read or skipped. The walk stops at the run's end, where there is none, and at a refusal
+    // that its mode does not skip.
+    pub fn turn(self, afi: u16, mode: Mode, run: &[u8]) -> Result<Option<Turn>, Refusal>
+        ensures { turn_taken_of result ≡ turn_from afi (mode_number mode) run.now self.at }
     {
         match self.step(afi, run) {
-            Ok(layout) => Ok(layout.map(Turn::Read)),
+            Ok(step) => Ok(step.map(Turn::Read)),
             Err(refusal) => {
                 if !mode.skips(refusal) {
                     return Err(refusal);
                 }
-                self.at = stepping::past(self.at, run[self.at + 1] as usize);
-                Ok(Some(Turn::Skipped))
+                let at = stepping::past(self.at, run[self.at + 1] as usize);
+                Ok(Some(Turn::Skipped(Cursor { at })))
             }
         }
     }

@@ -4,7 +4,7 @@ use Rattle.octets.specs.Numbers.{DONE, SHORT, LONG, FAMILY}
 use Rattle.octets.specs.Outcome.{given}
 use Rattle.octets.specs.Octets.{AllOctets}
 use Rattle.octets.specs.declared.refusal.Refusal.{Refusal}
-use Rattle.nlri.specs.declared.layout.Layout.{Layout}
+use Rattle.runs.specs.declared.stepping.Step.{Step}
 use Rattle.nlri.specs.Family.{family_bits}
 use Rattle.nlri.specs.Fields.{Fields, encode_nlri, WellFormed}
 use Rattle.nlri.specs.Bodies.{KnownType}
@@ -51,8 +51,8 @@ pub record StepRule : Type 0 where
   -- a step that reads moves the cursor just past the NLRI, within the run
   pub moves : (afi : ℕ) (run : List ℕ) (at : ℕ) → (step_from afi run at).read ≡ true
       → ((step_from afi run at).cursor ≡ advanced at (step_from afi run at).layout.length) × (at < (step_from afi run at).cursor) × ((step_from afi run at).cursor ≤ length run)
-  -- results with the same number and values are equal, and so are their cursors
-  pub apart : (a b : Result (Option Layout) Refusal) (at next : ℕ) → step_taken_of a at ≡ step_taken_of b next → (a ≡ b) × (at ≡ next)
+  -- results with the same number and values are equal
+  pub apart : (a b : Result (Option Step) Refusal) (at : ℕ) → step_taken_of a at ≡ step_taken_of b at → a ≡ b
 
 -- the walk from a cursor as the iteration of the step: it goes on from the cursor that a step that read hands back, and stops at any other step
 pub data Walks (afi : ℕ) (run : List ℕ) : (at count : ℕ) → Walked → Type 0 where

@@ -26,18 +26,18 @@ pub returns-in_err-layout : goal.returns-in_err-layout
 returns-in_err-layout c =
     let a = c.args in
     step-passed _ _ _ c.from_residual-in_err-layout.ensures.1
-    ∙ sym (step-unaccepted a.afi a.run.now a.self.now.at _ (sym c.in_ok-kind.ensures) c.if-run-gt-RUN.false (omega arith) _ (rw (← c.after.ensures) (sym c.in_err-layout.ensures)))
+    ∙ sym (step-unaccepted a.afi a.run.now a.self.at _ (sym c.in_ok-kind.ensures) c.if-run-gt-RUN.false (omega arith) _ (rw (← c.after.ensures) (sym c.in_err-layout.ensures)))
 
-pub past-self-requires : goal.past-self-requires
-past-self-requires c =
+pub past-at-requires : goal.past-at-requires
+past-at-requires c =
     let a = c.args in
     let h = (layout-octets _ _ _ (sym c.in_ok-layout.ensures)).1 in
-    let s = ap length c.after.ensures ∙ length-drop a.self.now.at a.run.now in
+    let s = ap length c.after.ensures ∙ length-drop a.self.at a.run.now in
     omega (arith, c.if-run-gt-RUN.false)
 
 pub returns : goal.returns
 unfolding step_taken_of
 returns c =
     let a = c.args in
-    ap (read_to c.in_ok-layout.layout) c.past-self.ensures
-    ∙ sym (step-accepted a.afi a.run.now a.self.now.at _ (sym c.in_ok-kind.ensures) c.if-run-gt-RUN.false (omega arith) _ (rw (← c.after.ensures) (sym c.in_ok-layout.ensures)))
+    ap (read_to c.in_ok-layout.layout) c.past-at.ensures
+    ∙ sym (step-accepted a.afi a.run.now a.self.at _ (sym c.in_ok-kind.ensures) c.if-run-gt-RUN.false (omega arith) _ (rw (← c.after.ensures) (sym c.in_ok-layout.ensures)))
