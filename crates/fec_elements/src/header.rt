@@ -1,4 +1,6 @@
 // A FEC up to its opaque value, judged field by field from left to right.
+#![tactic(auto, using(octets::proofs::Tests::flags), unfolding(crate::specs::Reading::runs_out, crate::specs::Reading::must_fill, crate::specs::Reading::takes_family, crate::specs::Reading::family_suits, crate::specs::Reading::length_fault, crate::specs::Reading::root_fault, crate::specs::Reading::family_fault, crate::specs::Reading::header_fault))]
+
 ghost use Rattle.std.specs.Prelude.{◌≡◌, true, ◌≤◌, ◌<◌, length};
 ghost use Rattle.fec_elements.specs.Reading.{runs_out, must_fill, takes_family, is_fec_type, family_suits, length_fault, root_fault, family_fault, header_fault};
 ghost use Rattle.octets.specs.Numbers.{DONE};

@@ -1,5 +1,7 @@
 // FECs that hold one another: the FEC reader calls the opaque-value reader and that calls back, with the remaining depth falling from four
 // (document 01, "Language forms by place").
+#![tactic(auto, using(octets::proofs::Tests::flags), unfolding(crate::specs::Reading::opens, crate::specs::Reading::held_start, crate::specs::Reading::holds_fec, crate::specs::Reading::fec_in, crate::specs::Reading::fec_size, crate::specs::Reading::opaque_start))]
+
 ghost use Rattle.std.specs.Prelude.{◌≡◌, ◌≤◌, length};
 ghost use Rattle.octets.specs.Refusals.{result_number};
 ghost use Rattle.fec_elements.specs.Reading.{fec_size, fec_in, held_start, fec_fault, opaque_fault};

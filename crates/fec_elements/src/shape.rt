@@ -1,4 +1,6 @@
 // Where the parts of a FEC stand, and a FEC whose opaque value is not read, judged by two loads.
+#![tactic(auto, using(octets::proofs::Tests::flags), unfolding(crate::specs::Reading::opaque_start, crate::specs::Reading::fec_size, crate::specs::Inner::ends_from))]
+
 ghost use Rattle.std.specs.Prelude.{◌≡◌, ◌<◌, ◌≤◌, length};
 ghost use Rattle.fec_elements.specs.Reading.{opaque_start, fec_size, short_fec};
 ghost use Rattle.fec_elements.specs.Inner.{ends_from, start_after, IsRootFamily};
