@@ -1,4 +1,6 @@
 // The fields of an attribute, taken from where they stand.
+#![tactic(auto, unfolding(crate::specs::Answers::attribute_struct, crate::specs::Attribute::fields_in, crate::specs::Attribute::label_of, crate::specs::Attribute::leaf_information_required))]
+
 ghost use Rattle.std.specs.Prelude.{◌≡◌, ◌≤◌, length, get_or, drop};
 ghost use Rattle.octets.specs.Numbers.{DONE};
 ghost use Rattle.octets.specs.Outcome.{number_of};

@@ -1,4 +1,6 @@
 // Which identifiers each tunnel type takes (document 01, the table of "PMSI Tunnel attribute").
+#![tactic(auto, using(octets::proofs::Tests::flags), unfolding(crate::specs::Identifier::is_identifier, crate::specs::Identifier::one_of))]
+
 ghost use Rattle.std.specs.Prelude.{◌≡◌, ◌<◌, length, [], ◌∷◌};
 ghost use Rattle.octets.specs.Outcome.{number_of};
 ghost use Rattle.octets.specs.Refusals.{result_number};
