@@ -51,10 +51,10 @@ pub fn place_any(s: &[u8], output: &mut [u8], at: usize) -> usize
     if s.len() < BLOCK {
         return parts::place(s, output, at);
     }
-    let last = s.len() - BLOCK;
-    for i in (0..last).step_by(BLOCK) {
-        place_block::<BLOCK>(s, i, output, at + i);
+    for i in 0..(s.len() - 1) / BLOCK {
+        place_block::<BLOCK>(s, i * BLOCK, output, at + i * BLOCK);
     }
+    let last = s.len() - BLOCK;
     place_block::<BLOCK>(s, last, output, at + last);
     at + s.len()
 }

@@ -9,7 +9,8 @@ ghost use Rattle.octets.specs.Order.{same, before, all_zero};
 use crate::parts::between;
 use crate::wide::{eight, eight_low_first, four_low_first};
 
-// The octets that are compared at once, as one number, and those that are tested for zeros at once.
+// The octets that are compared at once, as one number, and those that are tested for zeros at once. Of n octets, (n - 1) / WORD words
+// stand before the last octet; with the word that ends there they leave nothing out.
 const WORD: usize = 8;
 
 const BLOCK: usize = 64;
@@ -31,12 +32,12 @@ fn is_same_by_words(a: &[u8], b: &[u8]) -> bool
     if a.len() < WORD {
         return is_short_same(a, b);
     }
-    let last = a.len() - WORD;
-    for i in (0..last).step_by(WORD) {
-        if eight_low_first(a, i) != eight_low_first(b, i) {
+    for i in 0..(a.len() - 1) / WORD {
+        if eight_low_first(a, i * WORD) != eight_low_first(b, i * WORD) {
             return false;
         }
     }
+    let last = a.len() - WORD;
     eight_low_first(a, last) == eight_low_first(b, last)
 }
 
@@ -66,12 +67,13 @@ fn comes_before_by_words(a: &[u8], b: &[u8]) -> bool
     if size < WORD {
         return comes_each_before(a, b);
     }
-    let last = size - WORD;
-    for i in (0..last).step_by(WORD) {
-        if eight_low_first(a, i) != eight_low_first(b, i) {
-            return eight(a, i) < eight(b, i);
+    for i in 0..(size - 1) / WORD {
+        let at = i * WORD;
+        if eight_low_first(a, at) != eight_low_first(b, at) {
+            return eight(a, at) < eight(b, at);
         }
     }
+    let last = size - WORD;
     let x = eight(a, last);
     let y = eight(b, last);
     if x != y {
@@ -98,12 +100,13 @@ pub fn rises(a: &[u8], b: &[u8]) -> bool
     requires { (length a.now ≡ length b.now) × (8 ≤ length b.now) }
     ensures { result ≡ before a.now b.now }
 {
-    let last = b.len() - WORD;
-    for i in (0..last).step_by(WORD) {
-        if eight_low_first(a, i) != eight_low_first(b, i) {
-            return eight(a, i) < eight(b, i);
+    for i in 0..(b.len() - 1) / WORD {
+        let at = i * WORD;
+        if eight_low_first(a, at) != eight_low_first(b, at) {
+            return eight(a, at) < eight(b, at);
         }
     }
+    let last = b.len() - WORD;
     eight(a, last) < eight(b, last)
 }
 
@@ -114,13 +117,12 @@ pub fn is_zero(s: &[u8]) -> bool
     if s.len() < BLOCK {
         return is_each_zero(s);
     }
-    let last = s.len() - BLOCK;
-    for i in (0..last).step_by(BLOCK) {
-        if !is_each_zero(between(s, i, BLOCK)) {
+    for i in 0..(s.len() - 1) / BLOCK {
+        if !is_each_zero(between(s, i * BLOCK, BLOCK)) {
             return false;
         }
     }
-    is_each_zero(between(s, last, BLOCK))
+    is_each_zero(between(s, s.len() - BLOCK, BLOCK))
 }
 
 // Every octet is looked at, with no early exit: so many octets are tested at once.
