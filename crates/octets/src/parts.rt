@@ -42,5 +42,7 @@ pub fn place(octets: &[u8], output: &mut [u8], at: usize) -> usize
 pub fn clear(octets: &mut [u8])
     ensures { octets.new ≡ zeros (length octets.old) }
 {
-    octets.fill(0);
+    for octet in octets {
+        *octet = 0;
+    }
 }

@@ -1,7 +1,9 @@
--- `octets::parts::clear` meets its contract.
-use Rattle.octets.specs.Order.{zeros}
+-- `octets::parts::clear` meets its contract: as far as the loop has come, the octets are zeros.
+use native.Mathlib.Omega.{arith}
+use Rattle.octets.proofs.Lists.{filled}
 use Rattle.octets.proofs.parts.clear.Goals as goal
 
 pub returns : goal.returns
-unfolding zeros
-returns c = c.fill.ensures.after (λ y e. e)
+returns c =
+    let l = c.loop-octet in
+    filled l.octet-index c.args.octets.now l.octet-items (omega arith) (omega arith) l.invariant.2
