@@ -54,16 +54,6 @@ fn end_size(originated: bool, size: usize) -> usize
     0
 }
 
-// Puts an NLRI with nothing between the ends of its body, of `size` octets.
-fn put_i_pmsi(numbered: bool, originated: bool, nlri: Nlri, size: usize, output: &mut [u8]) -> usize
-    requires { (originated ≡ true → AddressSize nlri.originator.size) × Putting (body_with numbered originated nlri []) size output.old }
-    ensures { Wrote (given (framed nlri.route_type (body_with numbered originated nlri []))) output.old (written_by (Ok result)) output.new }
-{
-    let at = put::put_front(numbered, nlri, size as u8, output);
-    put::put_originator(originated, nlri, output, at);
-    HEADER + size
-}
-
 // Types 1 and 2: behind the route distinguisher an originator or a source AS. WIDTH, SPACE.
 fn write_i_pmsi(nlri: Nlri, output: &mut [u8]) -> Result<usize, Refusal>
     ensures { Wrote (i_pmsi_written nlri.route_type nlri (length output.old)) output.old (written_by result) output.new }
@@ -78,7 +68,7 @@ fn write_i_pmsi(nlri: Nlri, output: &mut [u8]) -> Result<usize, Refusal>
     if output.len() < HEADER + size {
         return Err(Refusal::Space);
     }
-    Ok(put_i_pmsi(numbered, originated, nlri, size, output))
+    Ok(put_between(numbered, originated, nlri, &[], size, output))
 }
 
 // Whether an NLRI whose addresses fit is discarded: a Source Active route whose group is SSM (W-210).
@@ -171,20 +161,20 @@ fn write_flow(kind: AddressKind, nlri: Nlri, output: &mut [u8]) -> Result<usize,
     ))
 }
 
-// Puts an NLRI with a FEC between the ends of its body, of `size` octets.
-fn put_fec(
+// Puts an NLRI with these octets between the ends of its body, of `size` octets: a FEC or none.
+fn put_between(
     numbered: bool,
     originated: bool,
     nlri: Nlri,
-    fec: &[u8],
+    between: &[u8],
     size: usize,
     output: &mut [u8],
 ) -> usize
-    requires { (originated ≡ true → AddressSize nlri.originator.size) × Putting (body_with numbered originated nlri fec.now) size output.old }
-    ensures { Wrote (given (framed nlri.route_type (body_with numbered originated nlri fec.now))) output.old (written_by (Ok result)) output.new }
+    requires { (originated ≡ true → AddressSize nlri.originator.size) × Putting (body_with numbered originated nlri between.now) size output.old }
+    ensures { Wrote (given (framed nlri.route_type (body_with numbered originated nlri between.now))) output.old (written_by (Ok result)) output.new }
 {
     let at = put::put_front(numbered, nlri, size as u8, output);
-    let next = octets::blocks::place_any(fec, output, at);
+    let next = octets::blocks::place_any(between, output, at);
     put::put_originator(originated, nlri, output, next);
     HEADER + size
 }
@@ -207,7 +197,7 @@ fn write_fec(kind: AddressKind, nlri: Nlri, fec: &[u8], output: &mut [u8]) -> Re
     if output.len() < HEADER + ends + fec.len() {
         return Err(Refusal::Space);
     }
-    Ok(put_fec(numbered, originated, nlri, fec, ends + fec.len(), output))
+    Ok(put_between(numbered, originated, nlri, fec, ends + fec.len(), output))
 }
 
 // Puts an NLRI with a key, its body of `size` octets.

@@ -86,8 +86,8 @@ returns-then-output-ends c =
     let size = sized c.args.nlri c.args.fec.now _ _ (search rules) fits c.front_size.ensures c.end_size.ensures in
     wrote-err _ _ _ (no-space _ _ _ _ _ _ _ _ fits (sym same) (le-ltb 255 (length (body c.args.nlri c.args.fec.now)) (omega (arith, size.0, c.if-ends-fec.false))) refl refl (omega (arith, size.0, c.if-output-ends.true)))
 
-pub put_fec-requires : goal.put_fec-requires
-put_fec-requires c =
+pub put_between-requires : goal.put_between-requires
+put_between-requires c =
     let fits = sym c.originator_fits.ensures ∙ c.if-not-originator_fits.false in
     let size = sized c.args.nlri c.args.fec.now _ _ (search rules) fits c.front_size.ensures c.end_size.ensures in
     (originator-sized _ _ fits, record { exact = size.0; short = omega (arith, size.1, c.if-ends-fec.false); room = omega (arith, c.if-output-ends.false) })
@@ -98,4 +98,4 @@ returns c =
     let fits = sym c.originator_fits.ensures ∙ c.if-not-originator_fits.false in
     let same = number c.args.kind.bits _ _ c.args.fec.now c.root_family.ensures c.in_ok-check.ensures in
     let size = sized c.args.nlri c.args.fec.now _ _ (search rules) fits c.front_size.ensures c.end_size.ensures in
-    wrote_as _ _ _ _ _ (all-given _ _ _ _ _ _ _ _ fits (sym same) (le-ltb 255 (length (body c.args.nlri c.args.fec.now)) (omega (arith, size.0, c.if-ends-fec.false))) refl refl (omega (arith, size.0, c.if-output-ends.false))) c.put_fec.ensures
+    wrote_as _ _ _ _ _ (all-given _ _ _ _ _ _ _ _ fits (sym same) (le-ltb 255 (length (body c.args.nlri c.args.fec.now)) (omega (arith, size.0, c.if-ends-fec.false))) refl refl (omega (arith, size.0, c.if-output-ends.false))) c.put_between.ensures

@@ -50,8 +50,8 @@ returns-then-output-size c =
     let size = sized c.args.nlri _ _ (search rules) fits c.front_size.ensures c.end_size.ensures in
     wrote-err _ _ _ (no-space _ _ _ _ _ _ _ _ fits refl refl refl refl (omega (arith, size.0, c.if-output-size.true)))
 
-pub put_i_pmsi-requires : goal.put_i_pmsi-requires
-put_i_pmsi-requires c =
+pub put_between-requires : goal.put_between-requires
+put_between-requires c =
     let fits = sym c.originator_fits.ensures ∙ c.if-not-originator_fits.false in
     let size = sized c.args.nlri _ _ (search rules) fits c.front_size.ensures c.end_size.ensures in
     (originator-sized _ _ fits, record { exact = omega (arith, size.0); short = omega (arith, size.1); room = c.if-output-size.false })
@@ -61,4 +61,4 @@ unfolding i_pmsi_written
 returns c =
     let fits = sym c.originator_fits.ensures ∙ c.if-not-originator_fits.false in
     let size = sized c.args.nlri _ _ (search rules) fits c.front_size.ensures c.end_size.ensures in
-    wrote_as _ _ _ _ _ (all-given _ _ _ _ _ _ _ _ fits refl refl refl refl (omega (arith, size.0, c.if-output-size.false))) c.put_i_pmsi.ensures
+    wrote_as _ _ _ _ _ (all-given _ _ _ _ _ _ _ _ fits refl refl refl refl (omega (arith, size.0, c.if-output-size.false))) c.put_between.ensures
