@@ -7,9 +7,10 @@ use Rattle.octets.specs.Order.{same, before}
 use Rattle.nlri.specs.Fields.{Fields}
 use Rattle.nlri.specs.Family.{is_originator_size}
 use Rattle.nlri.specs.Groups.{ASM, SSM}
-use Rattle.routes.specs.Query.{tiers_of, Query}
+use Rattle.routes.specs.Query.{tiers_of, Query, Flow, flow_of}
 use Rattle.routes.specs.Place.{PLACE, route_in}
 use Rattle.routes.specs.Matching.{names_tunnel, Found, nothing, found}
+use Rattle.matches.specs.declared.flow.Flow.{Flow as GivenFlow}
 use Rattle.matches.specs.declared.scan.Best.{Best}
 use Rattle.routes.specs.declared.Tier.{Tier}
 use Rattle.routes.specs.declared.Tier.TheVariants.{Exact, AnyGroup, AnySource, Any}
@@ -46,6 +47,10 @@ sought_of router source group = record { router = router; source = source; group
 -- by what a function is given
 abbrev pub sought_in : Given → Sought
 sought_in given = sought_of given.router.now given.source.now given.group.now
+
+-- a flow by its octets
+abbrev pub flow_in : GivenFlow → Flow
+flow_in given = flow_of given.prefixes.now given.router.now given.source.now given.group.now
 
 -- what a match asks where these tiers are open
 unfoldable pub open_query : Sought → Tiers → Query

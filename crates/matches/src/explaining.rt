@@ -7,7 +7,9 @@ ghost use Rattle.routes.specs.Query.{flow_of};
 ghost use Rattle.routes.specs.Table.{sound_of};
 ghost use Rattle.routes.specs.Reasons.{NO_SUCH_ROUTE, WRONG_GROUP_CLASS, reason_number, reason_numbers, reason_of, reasons_of, explain_of, explained_told};
 ghost use Rattle.octets.specs.Outputs.{Leaves};
+ghost use Rattle.matches.specs.Scanning.{flow_in};
 
+use crate::flow::Flow;
 use crate::tier::{Sought, Tiers};
 use crate::{flow, matching};
 use nlri::GroupClass;
@@ -55,26 +57,19 @@ fn reasons(route: Option<MatchedRoute>, class: GroupClass) -> Reasons
 }
 
 // RANGE, SHORT, FLOW, SPACE, then the search, whose tier and the group's class give the reasons.
-fn explain_sound(
-    table: &[u8],
-    prefixes: &[u8],
-    router: &[u8],
-    source: &[u8],
-    group: &[u8],
-    output: &mut [u8],
-) -> Result<Explanation, Refusal>
+fn explain_sound(table: &[u8], flow: &Flow<'_>, output: &mut [u8]) -> Result<Explanation, Refusal>
     requires { sound_of table.now ≡ true }
-    ensures { Leaves (explain_of table.now (flow_of prefixes.now router.now source.now group.now) output.old) (explained_told result) output.new }
+    ensures { Leaves (explain_of table.now (flow_in flow.now) output.old) (explained_told result) output.new }
 {
-    let class = groups::group_class(header::afi_of(table), prefixes, group)?;
-    flow::check_sizes(router.len(), source.len(), group.len())?;
+    let class = groups::group_class(header::afi_of(table), flow.prefixes, flow.group)?;
+    flow::check_sizes(flow.router.len(), flow.source.len(), flow.group.len())?;
     if output.len() < LEAST_OUTPUT {
         return Err(Refusal::Space);
     }
     let sought = Sought {
-        router,
-        source,
-        group,
+        router: flow.router,
+        source: flow.source,
+        group: flow.group,
         tiers: Tiers::of_class(class),
     };
     let route = matching::search(table, &sought, output);
@@ -98,5 +93,11 @@ pub fn explain(
     if !sound::is_sound(table) {
         return Explained::from(Err(Refusal::Table));
     }
-    Explained::from(explain_sound(table, prefixes, router, source, group, output))
+    let flow = Flow {
+        prefixes,
+        router,
+        source,
+        group,
+    };
+    Explained::from(explain_sound(table, &flow, output))
 }

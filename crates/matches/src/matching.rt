@@ -8,8 +8,9 @@ ghost use Rattle.routes.specs.Query.{flow_of};
 ghost use Rattle.routes.specs.Asked.{of_flow};
 ghost use Rattle.octets.specs.Outcome.{given};
 ghost use Rattle.octets.specs.Outputs.{Leaves};
-ghost use Rattle.matches.specs.Scanning.{sought_in, open_query};
+ghost use Rattle.matches.specs.Scanning.{flow_in, sought_in, open_query};
 
+use crate::flow::Flow;
 use crate::tier::{Sought, Tiers};
 use crate::{answer, flow};
 use octets::parts;
@@ -32,24 +33,21 @@ pub(crate) fn search(table: &[u8], sought: &Sought<'_>, output: &mut [u8]) -> Op
 // RANGE, SHORT, FLOW, SPACE, then the search.
 fn match_sound(
     table: &[u8],
-    prefixes: &[u8],
-    router: &[u8],
-    source: &[u8],
-    group: &[u8],
+    flow: &Flow<'_>,
     output: &mut [u8],
 ) -> Result<Option<MatchedRoute>, Refusal>
     requires { sound_of table.now ≡ true }
-    ensures { Leaves (match_of table.now (of_flow (flow_of prefixes.now router.now source.now group.now)) output.old) (matched_told result) output.new }
+    ensures { Leaves (match_of table.now (of_flow (flow_in flow.now)) output.old) (matched_told result) output.new }
 {
-    let class = groups::group_class(header::afi_of(table), prefixes, group)?;
-    flow::check_sizes(router.len(), source.len(), group.len())?;
+    let class = groups::group_class(header::afi_of(table), flow.prefixes, flow.group)?;
+    flow::check_sizes(flow.router.len(), flow.source.len(), flow.group.len())?;
     if output.len() < LEAST_OUTPUT {
         return Err(Refusal::Space);
     }
     let sought = Sought {
-        router,
-        source,
-        group,
+        router: flow.router,
+        source: flow.source,
+        group: flow.group,
         tiers: Tiers::of_class(class),
     };
     Ok(search(table, &sought, output))
@@ -69,5 +67,11 @@ pub fn match_flow(
     if !sound::is_sound(table) {
         return Matched::from(Err(Refusal::Table));
     }
-    Matched::from(match_sound(table, prefixes, router, source, group, output))
+    let flow = Flow {
+        prefixes,
+        router,
+        source,
+        group,
+    };
+    Matched::from(match_sound(table, &flow, output))
 }
