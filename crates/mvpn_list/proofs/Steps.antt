@@ -12,6 +12,7 @@ use Rattle.std.proofs.Common.{Option, Some, None, Result, Ok, Err}
 use Rattle.octets.specs.Numbers.{DONE}
 use Rattle.octets.specs.Refusals.{refusal_number}
 use Rattle.octets.specs.declared.refusal.Refusal.{Refusal}
+use Rattle.runs.specs.declared.stepping.Step.{Step}
 use Rattle.runs.specs.declared.turning.Turn.{Turn}
 use Rattle.runs.specs.declared.turning.Turn.TheVariants as turn
 use Rattle.runs.specs.Modes.{TurnTaken, turn_taken_of, Read, Skipped, Stopped, turn_from, walk_by_from, nlris_by_from}
@@ -23,22 +24,22 @@ use Rattle.runs.proofs.Turns.{read_step, walk_by_from-read, walk_by_from-skipped
 use Rattle.mvpn_list.specs.Listing.{nlri_line, nlri_lines, last_line}
 
 -- a turn by the case of its result
-module _ (r : Result (Option Turn) Refusal) (cursor : ℕ) (t : TurnTaken) (e : turn_taken_of r cursor ≡ t) where
-  pub was-read : (l : Layout) → r ≡ Ok (Some (turn.Read l)) → t ≡ Read l (record { at = cursor })
+module _ (r : Result (Option Turn) Refusal) (t : TurnTaken) (e : turn_taken_of r ≡ t) where
+  pub was-read : (p : Step) → r ≡ Ok (Some (turn.Read p)) → t ≡ Read p.layout p.next
   unfolding turn_taken_of
-  was-read l q = sym e ∙ ap (λ (x : Result (Option Turn) Refusal). turn_taken_of x cursor) q
+  was-read p q = sym e ∙ ap turn_taken_of q
 
-  pub was-skipped : r ≡ Ok (Some turn.Skipped) → t ≡ Skipped (record { at = cursor })
+  pub was-skipped : (c : Cursor) → r ≡ Ok (Some (turn.Skipped c)) → t ≡ Skipped c
   unfolding turn_taken_of
-  was-skipped q = sym e ∙ ap (λ (x : Result (Option Turn) Refusal). turn_taken_of x cursor) q
+  was-skipped c q = sym e ∙ ap turn_taken_of q
 
   pub was-end : r ≡ Ok None → t ≡ Stopped DONE
   unfolding turn_taken_of
-  was-end q = sym e ∙ ap (λ (x : Result (Option Turn) Refusal). turn_taken_of x cursor) q
+  was-end q = sym e ∙ ap turn_taken_of q
 
   pub was-refused : (x : Refusal) → r ≡ Err x → t ≡ Stopped (refusal_number x)
   unfolding turn_taken_of
-  was-refused x q = sym e ∙ ap (λ (x : Result (Option Turn) Refusal). turn_taken_of x cursor) q
+  was-refused x q = sym e ∙ ap turn_taken_of q
 
 -- the numbers of a line have few digits
 pub read-small : (mode : ℕ) (run : List ℕ) (at : ℕ) (l : Layout) (c : Cursor) → turn_from 1 mode run at ≡ Read l c → (at ≤ 4096) × (l.route_type < 256) × (l.length ≤ 4096)

@@ -33,13 +33,18 @@ impl fmt::Display for Listing<'_> {
                 Ok(None) => return self.stop(Ok(()), offset, skipped).fmt(f),
                 Err(refusal) => return self.stop(Err(refusal), offset, skipped).fmt(f),
             };
-            let Turn::Read(layout) = turn else {
-                skipped += 1;
-                continue;
+            let step = match turn {
+                Turn::Read(step) => step,
+                Turn::Skipped(next) => {
+                    skipped += 1;
+                    cursor = next;
+                    continue;
+                }
             };
-            let route_type = layout.route_type;
-            let length = layout.length;
+            let route_type = step.layout.route_type;
+            let length = step.layout.length;
             writeln!(f, "{offset} {route_type} {length}")?;
+            cursor = step.next;
         }
     }
 }

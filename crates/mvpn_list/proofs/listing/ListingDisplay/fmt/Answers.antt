@@ -21,30 +21,30 @@ pub loop-turn-init : goal.loop-turn-init
 unfolding header_line
 loop-turn-init g c = listed-first _ _ _ (λ p. c.in_ok-writeln.ensures.writes p refl)
 
-pub loop-turn-smaller-in_default : goal.loop-turn-smaller-in_default
-loop-turn-smaller-in_default g c =
-    let m = skipped-moves _ _ _ _ _ (was-skipped _ _ _ c.turn.ensures (c.in-Ok-Some.is ∙ ap Ok (c.in-Ok-Some.field-0-is ∙ ap Some c.in_default.is))) in
+pub loop-turn-smaller-in-Skipped : goal.loop-turn-smaller-in-Skipped
+loop-turn-smaller-in-Skipped g c =
+    let m = skipped-moves _ _ _ _ _ (was-skipped _ _ c.turn.ensures c.in-Skipped.next (c.in-Ok-Some.is ∙ ap Ok (c.in-Ok-Some.field-0-is ∙ ap Some c.in-Skipped.is))) in
     omega arith
 
 pub overflow_add-skipped : goal.overflow_add-skipped
 overflow_add-skipped g c =
-    let few = skipped-few _ _ _ _ _ c.loop-turn.invariant _ (was-skipped _ _ _ c.turn.ensures (c.in-Ok-Some.is ∙ ap Ok (c.in-Ok-Some.field-0-is ∙ ap Some c.in_default.is))) in
+    let few = skipped-few _ _ _ _ _ c.loop-turn.invariant _ (was-skipped _ _ c.turn.ensures c.in-Skipped.next (c.in-Ok-Some.is ∙ ap Ok (c.in-Ok-Some.field-0-is ∙ ap Some c.in-Skipped.is))) in
     omega arith
 
-pub loop-turn-preserved-in_default : goal.loop-turn-preserved-in_default
-loop-turn-preserved-in_default g c =
-    listed-skipped _ _ _ _ _ c.loop-turn.invariant _ (was-skipped _ _ _ c.turn.ensures (c.in-Ok-Some.is ∙ ap Ok (c.in-Ok-Some.field-0-is ∙ ap Some c.in_default.is)))
+pub loop-turn-preserved-in-Skipped : goal.loop-turn-preserved-in-Skipped
+loop-turn-preserved-in-Skipped g c =
+    listed-skipped _ _ _ _ _ c.loop-turn.invariant _ (was-skipped _ _ c.turn.ensures c.in-Skipped.next (c.in-Ok-Some.is ∙ ap Ok (c.in-Ok-Some.field-0-is ∙ ap Some c.in-Skipped.is)))
 
 pub loop-turn-smaller : goal.loop-turn-smaller
 loop-turn-smaller g c =
-    let e = was-read _ _ _ c.turn.ensures c.in-Read.layout (c.in-Ok-Some.is ∙ ap Ok (c.in-Ok-Some.field-0-is ∙ ap Some c.in-Read.is)) in
+    let e = was-read _ _ c.turn.ensures c.in-Read.step (c.in-Ok-Some.is ∙ ap Ok (c.in-Ok-Some.field-0-is ∙ ap Some c.in-Read.is)) in
     let m = read-moves _ _ _ _ _ c.loop-turn.invariant _ _ e in
     omega arith
 
 pub loop-turn-preserved : goal.loop-turn-preserved
 loop-turn-preserved g c =
-    let l = c.in-Read.layout in
-    let e = was-read _ _ _ c.turn.ensures l (c.in-Ok-Some.is ∙ ap Ok (c.in-Ok-Some.field-0-is ∙ ap Some c.in-Read.is)) in
+    let l = c.in-Read.step.layout in
+    let e = was-read _ _ c.turn.ensures c.in-Read.step (c.in-Ok-Some.is ∙ ap Ok (c.in-Ok-Some.field-0-is ∙ ap Some c.in-Read.is)) in
     let small = read-small _ _ c.loop-turn.cursor.at l _ e in
     listed-read _ _ _ _ _ c.loop-turn.invariant _ _ e _
     (λ bs w p. has_written_append _ _ _ _ _ _ (w p)
@@ -57,11 +57,11 @@ line_of_stop s = last_line (mode_number s.mode) (result_number s.judgement) s.of
 pub returns-in-Ok-None-clause-writes : goal.returns-in-Ok-None-clause-writes
 unfolding line_of_stop
 returns-in-Ok-None-clause-writes g c = λ p ok.
-    listed-last _ _ _ _ _ c.loop-turn.invariant DONE (was-end _ _ _ c.turn.ensures (c.in-Ok-None.is ∙ ap Ok c.in-Ok-None.field-0-is)) (λ bs. HasWritten g.W.Write.write_str_gives c.args.f.now bs c.fmt.new.f)
+    listed-last _ _ _ _ _ c.loop-turn.invariant DONE (was-end _ _ c.turn.ensures (c.in-Ok-None.is ∙ ap Ok c.in-Ok-None.field-0-is)) (λ bs. HasWritten g.W.Write.write_str_gives c.args.f.now bs c.fmt.new.f)
     (λ bs w. has_written_append _ _ _ _ _ _ (w p) (has_written_of_eq _ _ _ _ _ (ap line_of_stop c.stop.ensures) (c.fmt.ensures.writes (w p).plain ok)))
 
 pub returns-in-Err-clause-writes : goal.returns-in-Err-clause-writes
 unfolding line_of_stop
 returns-in-Err-clause-writes g c = λ p ok.
-    listed-last _ _ _ _ _ c.loop-turn.invariant (refusal_number c.in-Err.refusal) (was-refused _ _ _ c.turn.ensures _ c.in-Err.is) (λ bs. HasWritten g.W.Write.write_str_gives c.args.f.now bs c.fmt-in-Err.new.f)
+    listed-last _ _ _ _ _ c.loop-turn.invariant (refusal_number c.in-Err.refusal) (was-refused _ _ c.turn.ensures _ c.in-Err.is) (λ bs. HasWritten g.W.Write.write_str_gives c.args.f.now bs c.fmt-in-Err.new.f)
     (λ bs w. has_written_append _ _ _ _ _ _ (w p) (has_written_of_eq _ _ _ _ _ (ap line_of_stop c.stop-in-Err.ensures) (c.fmt-in-Err.ensures.writes (w p).plain ok)))
