@@ -1,7 +1,7 @@
 -- Laws of `same` and `before`.
 use Prim.Native.Nat.{ℕ, zero, suc, ◌+◌, ◌*◌, ◌<◌, ◌≤◌, min}
 use mathlib.Core.Path.{◌≡◌, refl, sym, ap, ap₂, ◌∙◌}
-use mathlib.Core.Bool.{Bool, true, false, ◌&&◌}
+use mathlib.Core.Bool.{Bool, true, false}
 use mathlib.Core.List.{List, [], ◌∷◌, ◌++◌}
 use native.Mathlib.Nat.{le_of_lt}
 use native.Mathlib.Numerals.{add-one}
@@ -9,9 +9,7 @@ use native.Mathlib.Omega.{arith}
 use lib.ListN.{length, get_or, take, drop, length-drop, take-append-drop, drop_of_length-le}
 use lib.Seq.{drop-cons, take-suc, take_all, take-take}
 use lib.Dec.{ltb, eqb}
-use lib.Pointwise.{pointwise}
 use borrow.Author.Tests.{ltb-true, ltb-false, eqb-true, eqb-false, eq-eqb, ne_eqb, lt-ltb, le-ltb}
-use Rattle.octets.specs.Choice.{both}
 use Rattle.octets.specs.Octets.{AllOctets, none, one, part, number_in}
 use Rattle.octets.specs.Order.{same, before}
 use Rattle.octets.proofs.Choice.{opposite, both-true-left, both-true-right, both_true, pick_true, pick-false, tested, is_false, is_true}
@@ -46,19 +44,6 @@ same-swapped xs ys =
     tested (same xs ys)
     (λ t. let e : xs ≡ ys = same-equal xs ys t in rw e)
     (λ f. f ∙ sym (unequal-other ys xs (λ e. other-unequal xs ys f (sym e))))
-
--- equality as slices have it
-both-and : (a b : Bool) → (a && b) ≡ both a b
-unfolding both
-both-and true b = refl
-both-and false b = refl
-
-pub same-pointwise : (xs ys : List ℕ) → pointwise eqb xs ys ≡ same xs ys
-unfolding same
-same-pointwise [] [] = refl
-same-pointwise [] (y ∷ ys) = refl
-same-pointwise (x ∷ xs) [] = refl
-same-pointwise (x ∷ xs) (y ∷ ys) = both-and _ _ ∙ ap (both (eqb x y)) (same-pointwise xs ys)
 
 -- octets compared, and others that they are
 module _ (flag : Bool) (xs zs ys : List ℕ) (are : zs ≡ xs) (told : flag ≡ same zs ys) where
@@ -177,6 +162,9 @@ module _ (a b : List ℕ) (i : ℕ) (front : take i a ≡ take i b) where
 
   pub alike-whole : length a ≤ i → length b ≤ i → true ≡ same a b
   alike-whole h k = sym (same-of-equal a b (sym (take_all i a h) ∙ front ∙ take_all i b k))
+
+pub octet-other : (a b : List ℕ) (i : ℕ) → (get_or a i 0 ≡ get_or b i 0 → ⊥) → false ≡ same a b
+octet-other a b i d = sym (unequal-other a b (λ e. d (ap (λ (s : List ℕ). get_or s i 0) e)))
 
 -- lists of one length that differ decide, whatever follows them
 before-first : (xs ys p q : List ℕ) → length xs ≡ length ys → (xs ≡ ys → ⊥) → before (xs ++ p) (ys ++ q) ≡ before xs ys

@@ -41,7 +41,8 @@ fn is_same_by_words(a: &[u8], b: &[u8]) -> bool
     eight_low_first(a, last) == eight_low_first(b, last)
 }
 
-// Fewer octets than a word: four, as of an IPv4 address, by one load of each.
+// Fewer octets than a word: four, as of an IPv4 address, by one load of each; else one by one, which a caller of a known size has in one
+// or two tests.
 fn is_short_same(a: &[u8], b: &[u8]) -> bool
     requires { length a.now ≡ length b.now }
     ensures { result ≡ same a.now b.now }
@@ -49,7 +50,12 @@ fn is_short_same(a: &[u8], b: &[u8]) -> bool
     if a.len() == 4 {
         return four_low_first(a, 0) == four_low_first(b, 0);
     }
-    a == b
+    for i in 0..a.len() {
+        if a[i] != b[i] {
+            return false;
+        }
+    }
+    true
 }
 
 // The lower octet where they first differ decides; what ends there comes first.
