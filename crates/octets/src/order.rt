@@ -41,8 +41,8 @@ fn is_same_by_words(a: &[u8], b: &[u8]) -> bool
     eight_low_first(a, last) == eight_low_first(b, last)
 }
 
-// Fewer octets than a word: four, as of an IPv4 address, by one load of each; else one by one, which a caller of a known size has in one
-// or two tests.
+// Fewer octets than a word: four, as of an IPv4 address, by one load of each; else one by one, so that no loop is left where the size
+// is known.
 fn is_short_same(a: &[u8], b: &[u8]) -> bool
     requires { length a.now ≡ length b.now }
     ensures { result ≡ same a.now b.now }
