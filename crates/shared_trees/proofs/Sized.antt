@@ -16,11 +16,11 @@ use Rattle.routes.specs.SharedTree.{MOST_ITEMS, originator_sized, state_sized}
 
 -- a count by what the function answers
 module _ (count r : ℕ) (is : r ≡ count) where
-  pub count-over : MOST_ITEMS < r → leb count MOST_ITEMS ≡ false
-  count-over h = lt-leb count MOST_ITEMS (omega arith)
+  pub count_over : MOST_ITEMS < r → leb count MOST_ITEMS ≡ false
+  count_over h = lt-leb count MOST_ITEMS (omega arith)
 
-  pub count-within : r ≤ MOST_ITEMS → leb count MOST_ITEMS ≡ true
-  count-within h = le-leb count MOST_ITEMS (omega arith)
+  pub count_within : r ≤ MOST_ITEMS → leb count MOST_ITEMS ≡ true
+  count_within h = le-leb count MOST_ITEMS (omega arith)
 
 -- the originator that comes with a Source Active route
 pub originator-of : (x : Item) (field : List ℕ) (r : Bool) → r ≡ is_originator_size (length field) → field ≡ item_field 0 x → r ≡ originator_sized x

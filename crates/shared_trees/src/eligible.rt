@@ -25,6 +25,7 @@ fn ending_in(nlri: &[u8]) -> u32
 }
 
 // A state has this source and this group.
+#[tactic(auto, using(lists::proofs::Going::going), unfolding(routes::specs::SharedTree::is_state))]
 fn is_state(list: &[u8], at: usize, source: &[u8], group: &[u8]) -> bool
     requires { whole_item 2 (drop at list.now) ≡ true }
     ensures { result ≡ is_state source.now group.now (front_item 2 (drop at list.now)) }
@@ -36,6 +37,7 @@ fn is_state(list: &[u8], at: usize, source: &[u8], group: &[u8]) -> bool
 }
 
 // Where the last `left` of `count` states start: the source and the group of each have `size` octets.
+#[tactic(auto, using(crate::proofs::Endings::left_within), unfolding(crate::specs::Told::start_of_last))]
 fn start_of_last(states: &[u8], count: usize, left: usize, size: usize) -> usize
     requires { StatesLeft size count left states.now × (0 < left) }
     ensures { result ≡ start_of_last size count left }
@@ -45,6 +47,7 @@ fn start_of_last(states: &[u8], count: usize, left: usize, size: usize) -> usize
 
 // Of the last states, how many are left from the first one on whose source has this ending. The ending tells most states apart, in
 // a loop that compares nothing else.
+#[tactic(auto, using(crate::proofs::Endings::left_within))]
 fn left_from_ending(states: &[u8], count: usize, left: usize, size: usize, ending: u32) -> usize
     requires { StatesLeft size count left states.now × (0 < left) }
     ensures { Passed size count ending left result states.now }
@@ -112,6 +115,7 @@ fn lacks_state(source_active: &Item<'_, FIELDS>, router: &[u8], group: &[u8], st
 }
 
 // Some Source Active route is one.
+#[tactic(auto, using(lists::proofs::Along::along))]
 fn has_source(source_actives: &[u8], router: &[u8], group: &[u8], states: &[u8]) -> bool
     requires { ListsJudged (length group.now) source_actives.now states.now }
     ensures { result ≡ some_item (without_state_at router.now group.now states.now) (list_items 2 source_actives.now) }

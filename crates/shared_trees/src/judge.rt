@@ -18,6 +18,7 @@ use octets::refusal::Refusal;
 const MOST_ITEMS: usize = 256;
 
 // LONG for a count over the limit in either list, SHORT for either that ends before its items do.
+#[tactic(auto, using(octets::proofs::Tests::refusals, crate::proofs::Sized::count_over, crate::proofs::Sized::count_within), unfolding(crate::specs::Told::lists_fault))]
 fn check_lists(source_actives: &[u8], states: &[u8]) -> Result<(), Refusal>
     ensures { result_number result ≡ lists_fault source_actives.now states.now }
 {

@@ -7,13 +7,7 @@ use Rattle.shared_trees.proofs.eligible.has_source.Goals as goal
 pub lacks_state-requires : goal.lacks_state-requires
 lacks_state-requires c = (every-first fields_within c.loop-item.invariant.stand c.in-Some.ensures.steps, c.requires.held)
 
-pub returns-then-lacks_state : goal.returns-then-lacks_state
-returns-then-lacks_state c = search along
-
 pub loop-item-preserved : goal.loop-item-preserved
 loop-item-preserved c =
     let stands = every-first fields_within c.loop-item.invariant.stand c.in-Some.ensures.steps in
     record { found = search along; stand = every-next fields_within c.loop-item.invariant.stand c.in-Some.ensures.steps stands }
-
-pub returns : goal.returns
-returns c = search along
