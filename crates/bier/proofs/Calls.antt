@@ -12,6 +12,8 @@ use Rattle.octets.specs.Outcome.{Outcome, given, refused, on_outcome, and_then, 
 use Rattle.octets.specs.Outputs.{Leaves, output_of}
 use Rattle.octets.specs.Order.{zeros}
 use Rattle.octets.proofs.Choice.{tested, pick_true, pick-false}
+use Rattle.octets.proofs.Tests.{refusals}
+use borrow.Author.Rules.{rules}
 use Rattle.octets.proofs.Outcome.{and-goes-on, and-stops, and-cong, and_assoc, and-given, refused-of}
 use Rattle.octets.proofs.Lists.{front-is-placed}
 use Rattle.lists.specs.LentLists.{Item, list_count, whole_list, list_items, read_list}
@@ -56,6 +58,8 @@ unfolding with_room egress_by on_outcome output_of
 write_done string output h ones e after p =
     let room : with_room string output ≡ given string = pick-false _ _ _ (le-ltb _ _ h) in
     rw room (ap (λ (n : ℕ). record { number = DONE; routers = n }) e, p ∙ sym (front-is-placed string output))
+
+pub ruleset writing = (rules, write-small, write_done)
 
 -- the route, by install's number
 module _ (afi : ℕ) (nlri attribute : List ℕ) where
@@ -105,6 +109,8 @@ module _ (leaves : List ℕ) where
       tested (leb (list_count leaves) MOST_LEAVES)
       (λ few. pick_true _ _ _ few ∙ ap (λ (o : Outcome (List Item)). and_then o (λ items. read_leaves afi items)) (sym (pick_true _ _ _ few)))
       (λ many. pick-false _ _ _ many ∙ and-stops _ _ _ (pick-false _ _ _ many))
+
+pub ruleset listing = (refusals, list-many, list-few, list-short, list-whole)
 
 -- the string gathered is that of the Leaf routes read
 gathered_from-is : (afi : ℕ) (nlri : List ℕ) (sub_domain set_number : ℕ) (string : List ℕ) (items : List Item)

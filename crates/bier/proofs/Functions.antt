@@ -17,6 +17,7 @@ use Rattle.octets.specs.Outcome.{Outcome, given, refused, and_then, number_of}
 use Rattle.octets.specs.Octets.{part}
 use Rattle.octets.specs.Order.{same}
 use Rattle.octets.proofs.Choice.{pick_true, pick-false, pick-passed, both_true, both_left, both_right}
+use Rattle.octets.proofs.Tests.{flags}
 use Rattle.octets.proofs.Outcome.{and-goes-on, and-stops, done-given, refused-of, refuses-by, number-goes, number-refuses}
 use Rattle.lists.specs.LentLists.{Item, item_field}
 use Rattle.lists.proofs.Along.{turn, turned, ended}
@@ -39,6 +40,8 @@ one_shifted n = shl_exact {a = 1} 1 (n % 8) 8 (omega arith) (omega arith) ∙ on
 pub of-set-some : (flag : Bool) (set_number id : ℕ) → flag ≡ is_of_set set_number id → flag ≡ true → 1 ≤ id
 unfolding is_of_set
 of-set-some flag set_number id e f = let n : id ≡ 0 → ⊥ = eqb-false _ _ (pick-passed _ _ (sym e ∙ f)).0 in omega arith
+
+pub ruleset adding = (flags, of-set-some)
 
 -- the ones of octets as a sum
 pub ones-sum : (xs : List ℕ) → sum_by ones xs ≡ ones_of xs
@@ -73,6 +76,8 @@ module _ (a : List ℕ) (sub_domain : ℕ) where
     bfr-own own =
         ap (λ (x : BierIdentifier). x.bfr_id) told
         ∙ sym (pick_true _ _ _ (both_true _ _ (eq-eqb _ _ bier) (eq-eqb _ _ (ap (λ (x : BierIdentifier). x.sub_domain) (sym told) ∙ own))))
+
+pub ruleset identified = (rules, attribute-least, identifier-least, bfr-none, bfr-other, bfr-own)
 
 -- a Leaf's key compared
 pub key-same : (leaf nlri key : List ℕ) (flag : Bool) → flag ≡ same key nlri → key ≡ part leaf 2 (2 + get_or leaf 3 0) → flag ≡ same (key_in leaf) nlri
@@ -128,7 +133,7 @@ module _ (afi : ℕ) (x : Item) (leaf : List ℕ) (is : leaf ≡ item_field 0 x)
       let f = done-given _ (λ m r. refuses-by _ m (type-refuses afi (item_field 0 x)) r) (sym (e ∙ ap (λ (l : List ℕ). number_of (read_of_type 4 afi l)) is)) in
       number-goes n _ f.0 _ f.1 (q ∙ ap (λ (l : List ℕ). number_of (read_attribute l)) own ∙ number-after (read_attribute (item_field 1 x)) _)
 
-pub ruleset cursor = (rules, key-at, attribute-at, id-none, id-some)
+pub ruleset counting = (rules, key-at, attribute-at, id-none, id-some)
 
 -- the loop over Leaf routes
 module _ (afi : ℕ) (nlri : List ℕ) (sub_domain set_number : ℕ) (string : List ℕ) {all : Outcome (List ℕ)} {items : List Item} (so_far : all ≡ gathered_from afi nlri sub_domain set_number string items) where

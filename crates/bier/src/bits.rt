@@ -9,6 +9,7 @@ use octets::wide;
 pub(crate) const OCTETS: usize = 32;
 
 // A BFR-id has its bit in the string of a set.
+#[tactic(auto, using(octets::proofs::Tests::tests), unfolding(crate::specs::BitStrings::is_of_set, crate::specs::BitStrings::set_of))]
 fn is_of_set(set: u8, id: u32) -> bool
     ensures { result ≡ is_of_set set id }
 {
@@ -25,6 +26,7 @@ fn set_bit(string: &mut [u8; 32], position: usize)
 }
 
 // Sets the bit of a BFR-id that is of the set.
+#[tactic(auto, using(crate::proofs::Functions::adding), unfolding(crate::specs::BitStrings::with_id, crate::specs::BitStrings::position_of))]
 pub(crate) fn add(string: &mut [u8; 32], set: u8, id: u32)
     ensures { string.new ≡ with_id set string.old id }
 {

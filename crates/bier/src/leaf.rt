@@ -19,6 +19,7 @@ use tunnel::TunnelType;
 const KEY_LENGTH: usize = nlri::HEADER + 1;
 
 // The BFR-id of a tunnel that is BIER in this sub-domain.
+#[tactic(auto, using(crate::proofs::Functions::identified))]
 fn bfr_id_in(attribute: &[u8], sub_domain: u32) -> Option<u32>
     requires { AttributeStands attribute.now }
     ensures { id_in result ≡ bfr_id_in sub_domain (fields_in attribute.now) }
@@ -43,6 +44,7 @@ fn has_key(leaf: &[u8], nlri: &[u8]) -> bool
 }
 
 // The BFR-id by which a Leaf route counts, if it does.
+#[tactic(auto, using(crate::proofs::Functions::counting))]
 fn id_of(leaf: &Item<'_, FIELDS>, nlri: &[u8], sub_domain: u32) -> Option<u32>
     requires { LeafStands leaf.now }
     ensures { id_in result ≡ standing_id nlri.now sub_domain leaf.now }

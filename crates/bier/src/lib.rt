@@ -60,6 +60,7 @@ fn sub_domain_of(afi: u16, nlri: &[u8], attribute: &[u8]) -> Result<u32, Refusal
 }
 
 // The Leaf routes: LONG over 1,024 of them, SHORT for a list that ends before them.
+#[tactic(auto, using(crate::proofs::Calls::listing))]
 fn leaves_in(list: &[u8]) -> Result<Items<'_, FIELDS>, Refusal>
     ensures { outcome_in result ≡ leaf_items list.now }
 {
@@ -73,6 +74,7 @@ fn leaves_in(list: &[u8]) -> Result<Items<'_, FIELDS>, Refusal>
 }
 
 // Writes a string at the front of an output that has room for it: how many egress routers are in it.
+#[tactic(auto, using(crate::proofs::Calls::writing))]
 fn write(string: &[u8; 32], output: &mut [u8]) -> Result<u32, Refusal>
     ensures { Leaves (egress_by (with_room string.now output.old) output.old) (egress_in result) output.new }
 {
