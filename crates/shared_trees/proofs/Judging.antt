@@ -16,46 +16,20 @@ use lib.ListN.{length}
 use Rattle.octets.specs.Numbers.{DONE, SHORT, LONG, FLOW}
 use Rattle.octets.specs.Choice.{pick, both}
 use Rattle.octets.specs.Outcome.{Outcome, given, refused, and_then}
-use Rattle.octets.proofs.Choice.{pick_true, pick-false, pick-case, tested, opposite, both_true, both-true-left, both-true-right}
-use Rattle.octets.proofs.Outcome.{Refuses, value, number, refuses-pick, refuses-then, and-goes-on, and-stops, given-unless, passed, given-same, refused-same, never}
+use Rattle.octets.proofs.Choice.{pick_true, pick-false, tested, opposite, both_true, both-true-left, both-true-right}
+use Rattle.octets.proofs.Outcome.{and-goes-on, and-stops, given-unless, passed, given-same, refused-same, never}
 use Rattle.lists.specs.LentLists.{Item, list_count, whole_list, list_items, read_list, every_item}
-use Rattle.nlri.specs.declared.group.Group.{Group}
-use Rattle.nlri.specs.Family.{family_bits, is_originator_size}
-use Rattle.nlri.specs.Groups.{class_under, class_number, class_outcome, group_of}
-use Rattle.groups.specs.Prefixes.{read_prefixes}
+use Rattle.nlri.specs.Family.{is_originator_size}
+use Rattle.nlri.specs.Groups.{class_under, class_number, class_outcome}
 use Rattle.groups.specs.Classes.{class_in, class_by}
 use Rattle.groups.proofs.ClassFirst.{Read, early-stops, refused-early, refused-flow, given-read, class-sized}
 use Rattle.nlri.proofs.Definitions.Lengths.{family-octets, originator-sized}
 use Rattle.nlri.proofs.Definitions.Families.{family-least}
-use Rattle.nlri.proofs.Definitions.Groups.{group-refused, group-given}
 use Rattle.routes.specs.SharedTree.{SharedTree, MOST_ITEMS, originator_sized, state_sized, source_active_fault, judged_tree}
 use Rattle.shared_trees.specs.declared.TreeFacts.{TreeFacts}
 use Rattle.shared_trees.specs.Tree.{tree_of}
 use Rattle.shared_trees.specs.Told.{lists_fault, tree_addresses_sized, whole_fault, is_early, ListsJudged}
 use Rattle.shared_trees.proofs.SourceActives.{all-bounded}
-
--- no refusal of a shared tree is DONE
-tree-refuses : (afi : ℕ) (tree : SharedTree) → Refuses (λ n. n ≡ DONE → ⊥) (judged_tree afi tree)
-unfolding judged_tree read_prefixes read_list family_bits class_in class_under
-tree-refuses afi tree =
-    refuses-then _ _ (refuses-pick _ _ _ value (refuses-pick _ _ _ value (number (λ e. omega arith))))
-    (λ bits. refuses-then _ _ (refuses-pick _ _ _ (refuses-then _ _ (refuses-pick _ _ _ value (number (λ e. omega arith))) (λ items. refuses-pick _ _ _ value (number (λ e. omega arith)))) (number (λ e. omega arith)))
-    (λ items. refuses-pick _ _ _ (refuses-pick _ _ _
-    (refuses-then _ _ (refuses-pick _ _ _ value (number (λ e. omega arith)))
-    (λ a. refuses-then _ _ (refuses-pick _ _ _ value (number (λ e. omega arith)))
-    (λ b. refuses-pick _ _ _ (refuses-pick _ _ _ (refuses-pick _ _ _
-    (refuses-then _ _ (refuses-then _ _ (refuses-pick _ _ _ (refuses-pick _ _ _ (refuses-pick _ _ _ value value) (number (λ e. omega arith))) (number (λ e. omega arith))) (λ standard. value))
-    (λ class. pick-case (Refuses (λ n. n ≡ DONE → ⊥)) _ _ _ (λ done. value) (λ fault. number (eqb-false _ _ fault))))
-    (number (λ e. omega arith))) (number (λ e. omega arith))) (number (λ e. omega arith)))))
-    (number (λ e. omega arith))) (number (λ e. omega arith))))
-
--- what the function answers with DONE is the class, and any other number the refusal's
-module _ (afi : ℕ) (tree : SharedTree) (class : Group) (is : class ≡ group_of (judged_tree afi tree)) where
-  pub tree-refused : (class.number ≡ DONE → ⊥) → judged_tree afi tree ≡ refused class.number
-  tree-refused h = group-refused _ class is h
-
-  pub tree-given : class.number ≡ DONE → judged_tree afi tree ≡ given class.group_class
-  tree-given h = group-given _ class is (tree-refuses afi tree) h
 
 -- what a shared tree that is not refused is: its lists and their NLRIs as `is_eligible` asks, a group, and a router address of four octets or more
 pub record Accepted (afi : ℕ) (tree : SharedTree) : Type 0 where
