@@ -18,7 +18,7 @@ use Rattle.lists.specs.LentLists.{Item}
 use Rattle.nlri.specs.Groups.{class_under, group_of}
 use Rattle.groups.specs.Prefixes.{read_prefixes}
 use Rattle.groups.specs.Classes.{class_in, class_by}
-use Rattle.groups.proofs.ClassFirst.{class-flow, class-least}
+use Rattle.groups.proofs.ClassFirst.{class-flow, given-least}
 use Rattle.nlri.proofs.Definitions.Lengths.{family-octets, originator-sized}
 use Rattle.routes.specs.Query.{tiers_of, Query, Flow, flow_query}
 use Rattle.routes.specs.Arguments.{read_flow}
@@ -116,8 +116,7 @@ module _ (afi : ℕ) (flow : Flow) where
 -- a flow that is taken has a source and a group, and a router address of four octets or more
 pub flow-some : (afi : ℕ) (prefixes group : List ℕ) (class : ℕ) → given class ≡ class_by afi prefixes group
     → (router source : ℕ) → DONE ≡ sized_fault DONE router source (length group) → (0 < source) × (0 < length group) × (4 ≤ router)
-unfolding group_of number_of
 flow-some afi prefixes group class is router source none =
     let all = sized-none _ _ _ (sym none) in
-    let some = class-least afi prefixes group _ refl (ap (λ (o : Outcome ℕ). (group_of o).number) (sym is)) in
+    let some = given-least afi prefixes group class (sym is) in
     (omega (arith, all.1), omega arith, omega (arith, originator-sized router all.0))
