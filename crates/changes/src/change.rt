@@ -25,6 +25,25 @@ pub fn clear_places(table: &mut [u8])
     table[HEADER..].fill(0);
 }
 
+// Moves all octets up by one place; the last place's octets fall off, and the first place's stay.
+fn move_up(tail: &mut [u8])
+    requires { 128 ≤ length tail.old }
+    ensures { tail.new ≡ take 128 tail.old ++ take (length tail.old - 128) tail.old }
+{
+    let last = tail.len() - PLACE;
+    tail.copy_within(..last, PLACE);
+}
+
+// Moves all octets down by one place, with zeros in the last place.
+fn close_gap(tail: &mut [u8])
+    requires { 128 ≤ length tail.old }
+    ensures { tail.new ≡ drop 128 tail.old ++ zeros 128 }
+{
+    tail.copy_within(PLACE.., 0);
+    let last = tail.len() - PLACE;
+    tail[last..].fill(0);
+}
+
 // The place that starts at `at` written over the one that starts at `to`, which is the same or comes before it.
 pub fn keep(table: &mut [u8], at: usize, to: usize)
     requires { (to ≤ at) × (at + 128 ≤ length table.old) }
@@ -72,7 +91,7 @@ fn open_place(table: &mut [u8], start: usize, end: usize)
     requires { (start + 128 ≤ end) × (end ≤ length table.old) }
     ensures { table.new ≡ opened start end table.old }
 {
-    table.copy_within(start..end - PLACE, start + PLACE);
+    move_up(&mut table[start..end]);
 }
 
 // Closes the place at `start`, up to `end`.
@@ -80,8 +99,7 @@ fn close_place(table: &mut [u8], start: usize, end: usize)
     requires { (start + 128 ≤ end) × (end ≤ length table.old) }
     ensures { table.new ≡ closed start end table.old }
 {
-    table.copy_within(start + PLACE..end, start);
-    table[end - PLACE..end].fill(0);
+    close_gap(&mut table[start..end]);
 }
 
 // A gap of one place opened at an index, before the other places from there on, and the count one more.

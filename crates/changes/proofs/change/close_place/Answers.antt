@@ -1,10 +1,12 @@
 -- `changes::change::close_place` meets its contract.
+use Rattle.octets.specs.Octets.{part}
 use Rattle.octets.specs.Order.{zeros}
-use Rattle.changes.proofs.Moves.{closed_by_copy}
+use Rattle.changes.specs.Changing.{closed}
+use Rattle.changes.proofs.Moves.{lent-down}
 use Rattle.changes.proofs.change.close_place.Goals as goal
 
 pub returns : goal.returns
-unfolding zeros
+unfolding closed part
 returns c =
     let a = c.args in
-    closed_by_copy a.start a.end a.table.now _ _ c.requires.0 c.requires.1 c.copy_within.ensures.after (c.fill.ensures.after (λ y e. e))
+    lent-down 128 a.start a.end a.table.now c.close_gap.new.tail (zeros 128) c.requires.0 c.requires.1 c.close_gap.ensures

@@ -1,9 +1,11 @@
 -- `changes::change::open_place` meets its contract.
-use mathlib.Core.Path.{◌∙◌}
-use Rattle.changes.proofs.Moves.{opened_by_copy}
+use Rattle.octets.specs.Octets.{part}
+use Rattle.changes.specs.Changing.{opened}
+use Rattle.changes.proofs.Moves.{lent-up}
 use Rattle.changes.proofs.change.open_place.Goals as goal
 
 pub returns : goal.returns
+unfolding opened part
 returns c =
     let a = c.args in
-    c.copy_within.ensures.after ∙ opened_by_copy a.start a.end a.table.now c.requires.0
+    lent-up 128 a.start a.end a.table.now c.move_up.new.tail c.requires.0 c.requires.1 c.move_up.ensures
