@@ -33,7 +33,9 @@ fn position(table: &[u8], count: usize, nlri: &[u8]) -> usize
     low
 }
 
-// The index of the route with this NLRI, or else where such a route belongs, as std's `binary_search` answers.
+// The index of the route with this NLRI, or else where such a route belongs, as std's `binary_search` answers. In a table of few places the
+// call itself would cost more than the search.
+#[inline(always)]
 pub fn search(table: &[u8], nlri: &[u8]) -> Result<usize, usize>
     requires { sound_of table.now ≡ true }
     ensures { Searched nlri.now (routes_of table.now) result }
