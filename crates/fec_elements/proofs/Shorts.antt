@@ -11,7 +11,7 @@ use borrow.Author.Tests.{eqb-true, eq-eqb, le-leb, lt-ltb, le-ltb}
 use Rattle.octets.specs.Choice.{both}
 use Rattle.octets.specs.Numbers.{DONE}
 use Rattle.octets.specs.Octets.{AllOctets, part, number_in, low_first}
-use Rattle.octets.proofs.Choice.{is_false, tested, pick_true, pick-false, test-same, both_left, both_right, both_true, both-held, both-last}
+use Rattle.octets.proofs.Choice.{is_false, pick_true, pick-false, test-same, both_true, both-held, both-last}
 use Rattle.octets.proofs.AllOctets.{octet-at}
 use Rattle.octets.proofs.NetworkOrder.{number-two}
 use Rattle.octets.proofs.LowFirst.{low-two, low-then, low-number}
@@ -55,14 +55,6 @@ ends-whole i h t =
     (λ x.
     let whole = (whole-tests i x).1 in
     both_true _ _ (le-leb (opaque_start i) (length i) (omega arith)) (eq-eqb (opaque_start i + opaque_size i) (length i) whole)))
-
--- a FEC that ends with the octets, or before them
-module _ (p : Standing) (start n : ℕ) (i : List ℕ) (e : n ≡ number_in (part i (start - 2) 2) 0) (starts : start ≤ length i) where
-  pub ends-exactly : start + n ≡ length i → EndsWell p start i
-  ends-exactly h = record { starts = starts; ends = omega arith; filled = both_left _ _ (le-ltb _ (length i) (omega arith)) }
-
-  pub ends-sooner : start + n ≤ length i → must_fill p ≡ false → EndsWell p start i
-  ends-sooner h may = record { starts = starts; ends = omega arith; filled = tested _ (λ more. both_right _ _ more may) (λ none. both_left _ _ none) }
 
 low-apart : {x u : ℕ} (y v : ℕ) → x < 256 → u < 256 → x + 256 * y ≡ u + 256 * v → (x ≡ u) × (y ≡ v)
 low-apart y v h k e = (omega arith, omega arith)

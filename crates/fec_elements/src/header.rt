@@ -108,7 +108,7 @@ fn check_family(s: &[u8], standing: Standing) -> Result<(), Refusal>
     Err(Refusal::Ident)
 }
 
-// Type, and what follows it.
+// Type, and what follows it; after the quick test few octets come here that are good.
 #[cold]
 fn check_type(s: &[u8], standing: Standing) -> Result<(), Refusal>
     ensures { result_number result ≡ header_fault standing s.now }
