@@ -12,12 +12,6 @@ pub enum AddressFamily {
     Ipv6 = 2,
 }
 
-impl AddressFamily {
-    pub const IPV4: u16 = AddressFamily::Ipv4 as u16;
-
-    pub const IPV6: u16 = AddressFamily::Ipv6 as u16;
-}
-
 // By its AFI. FAMILY.
 impl TryFrom<u16> for AddressFamily {
     type Error = Refusal;

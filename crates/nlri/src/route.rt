@@ -19,14 +19,6 @@ pub enum RouteType {
     MldpSourceTreeJoin = 0x47,
 }
 
-impl RouteType {
-    pub const S_PMSI: usize = RouteType::SPmsi as usize;
-
-    pub const LEAF: usize = RouteType::Leaf as usize;
-
-    pub const SOURCE_ACTIVE: usize = RouteType::SourceActive as usize;
-}
-
 // TYPE.
 impl TryFrom<usize> for RouteType {
     type Error = Refusal;

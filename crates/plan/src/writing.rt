@@ -43,7 +43,7 @@ fn put_nlri(vrf: &Vrf<'_>, source: &[u8], group: &[u8], output: &mut [u8], at: u
     ensures { Put at (planned_nlri vrf.now.distinguisher.now source.now group.now vrf.now.originator.now) output.old result output.new }
 {
     let header = [
-        RouteType::S_PMSI as u8,
+        RouteType::SPmsi as u8,
         body_size(source, group, vrf.originator) as u8,
     ];
     let second = parts::place(&header, output, at);
