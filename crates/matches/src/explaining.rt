@@ -19,6 +19,7 @@ use places::{header, sound};
 use routes::{Explained, Explanation, MatchedRoute, Reason, Reasons, Tier};
 
 // The reason of a tier of which no route is taken, nor of one before it: by whether the group's class lets the tier.
+#[tactic(auto, using(octets::proofs::Tests::tests))]
 fn without_route(is_allowed: bool) -> Reason
     ensures { reason_number result ≡ pick is_allowed NO_SUCH_ROUTE WRONG_GROUP_CLASS }
 {

@@ -17,6 +17,7 @@ pub(crate) struct Flow<'a> {
 
 // FLOW, of a flow whose group has a class: a router's address has an originator's size, and the source has the group's, which is the
 // family's. By numbers alone, which costs a match least.
+#[tactic(auto, using(octets::proofs::Tests::flags), unfolding(crate::specs::Scanning::sized_fault))]
 pub fn check_sizes(router: usize, source: usize, group: usize) -> Result<(), Refusal>
     ensures { result_number result ≡ sized_fault DONE router source group }
 {

@@ -59,6 +59,7 @@ const ENDING: usize = 4;
 
 impl<'a> Sought<'a> {
     // The source is the one wanted: the exact tier, or that of any group.
+    #[tactic(auto, using(octets::proofs::Tests::flags), unfolding(crate::specs::Scanning::source_tier, crate::specs::Scanning::wildcard))]
     fn source_tier(&self, route_group: &[u8]) -> Option<Tier>
         ensures { result ≡ source_tier self.now.group.now self.now.tiers route_group.now }
     {
@@ -72,6 +73,7 @@ impl<'a> Sought<'a> {
     }
 
     // The source is a wildcard: the tier of any source and any group, or that of any source.
+    #[tactic(auto, using(octets::proofs::Tests::refusals), unfolding(crate::specs::Scanning::any_source_tier, crate::specs::Scanning::wildcard))]
     fn any_source_tier(&self, route_group: &[u8]) -> Option<Tier>
         ensures { result ≡ any_source_tier self.now.group.now self.now.tiers route_group.now }
     {

@@ -46,6 +46,7 @@ pub(crate) fn is_header_sound(table: &[u8]) -> bool
 }
 
 // The AFI in the header.
+#[tactic(auto, unfolding(routes::specs::Table::afi_in))]
 pub fn afi_of(table: &[u8]) -> u16
     requires { 8 ≤ length table.now }
     ensures { (result ≡ afi_in table.now) × (result < 256) }
@@ -54,6 +55,7 @@ pub fn afi_of(table: &[u8]) -> u16
 }
 
 // The count in the header: how many places are taken.
+#[tactic(auto, unfolding(routes::specs::Table::count_in))]
 pub fn count_of(table: &[u8]) -> usize
     requires { 8 ≤ length table.now }
     ensures { (result ≡ count_in table.now) × (result < 65536) }
@@ -62,6 +64,7 @@ pub fn count_of(table: &[u8]) -> usize
 }
 
 // How many places the memory has behind the header, taken or not.
+#[tactic(auto, unfolding(routes::specs::Table::places_in))]
 pub fn places_of(table: &[u8]) -> usize
     requires { 8 ≤ length table.now }
     ensures { result ≡ places_in table.now }

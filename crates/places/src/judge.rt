@@ -13,6 +13,7 @@ use octets::refusal::Refusal;
 use tunnel::TunnelType;
 
 // A well-formed S-PMSI NLRI: NLRI reading with no octets after it, then KIND.
+#[tactic(auto, unfolding(routes::specs::Arguments::read_s_pmsi))]
 pub fn check_s_pmsi(afi: u16, nlri: &[u8]) -> Result<(), Refusal>
     ensures { result_number result ≡ number_of (read_s_pmsi afi nlri.now) }
 {

@@ -19,6 +19,7 @@ const MIDDLE_BLOCK: usize = 32;
 const SMALL_BLOCK: usize = 16;
 
 // A table's size: 8 octets plus a multiple of 128, 0 to 500 places.
+#[tactic(auto, using(octets::proofs::Tests::flags), unfolding(routes::specs::Table::table_size))]
 pub fn is_table_size(size: usize) -> bool
     ensures { result ≡ table_size size }
 {
