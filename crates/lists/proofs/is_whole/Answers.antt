@@ -2,8 +2,8 @@
 use Rattle.lists.proofs.Walks.{walks}
 use Rattle.lists.proofs.is_whole.Goals as goal
 
-pub returns-then-list-lt2 : goal.returns-then-list-lt2
-returns-then-list-lt2 c = search walks
+pub returns-then-list-lt-FIRST : goal.returns-then-list-lt-FIRST
+returns-then-list-lt-FIRST c = search walks
 
 pub loop-init : goal.loop-init
 loop-init c = search walks

@@ -4,10 +4,10 @@ use Rattle.lists.proofs.Fields.{whole-field-within, front-field-is}
 use Rattle.lists.proofs.field.front.Goals as goal
 
 pub two-requires : goal.two-requires
-two-requires c = omega (arith, whole-field-within c.args.s.now 0 c.requires)
+two-requires c = omega (arith, whole-field-within c.args.s.now c.requires)
 
 pub between-requires : goal.between-requires
-between-requires c = omega (arith, whole-field-within c.args.s.now 0 c.requires)
+between-requires c = omega (arith, whole-field-within c.args.s.now c.requires)
 
 pub returns : goal.returns
-returns c = front-field-is c.args.s.now 0 _ c.two.ensures.value _ c.between.ensures
+returns c = front-field-is c.args.s.now _ c.two.ensures.value _ c.between.ensures
