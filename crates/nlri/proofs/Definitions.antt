@@ -13,4 +13,3 @@ pub mod Whole
 pub mod Keys
 pub mod Discards
 pub mod Writes
-pub mod Groups
