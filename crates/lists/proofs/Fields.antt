@@ -87,3 +87,5 @@ whole-item-within list at i w =
     let one : whole_item 1 (drop at list) ≡ true = whole-item-less 1 (i + 1) (drop at list) w (omega arith) in
     let h = whole-field-within (drop at list) (both-true-left _ _ one) in
     omega (arith, length-drop at list)
+
+pub ruleset fields = (whole-field-within, whole-field-none, whole-field-is, after-field-is, front-field-is)

@@ -1,4 +1,6 @@
 // The fields of an item, from the first octets of a slice on: each is its size in two octets, and so many octets.
+#![tactic(auto, using(crate::proofs::Fields::fields))]
+
 ghost use Rattle.std.specs.Prelude.{◌≡◌, true};
 ghost use Rattle.lists.specs.LentLists.{front_field, after_field, whole_field, after_item, whole_item};
 
@@ -32,6 +34,7 @@ pub(crate) fn after(s: &[u8]) -> &[u8]
 }
 
 // What follows so many fields.
+#[tactic(auto, using(crate::proofs::Walks::walks))]
 pub(crate) fn skip(s: &[u8], fields: usize) -> &[u8]
     requires { whole_item fields s.now ≡ true }
     ensures { result.now ≡ after_item fields s.now }

@@ -28,6 +28,7 @@ pub fn count_of(list: &[u8]) -> usize
 }
 
 // The list holds its count, and all its items, of so many fields each: fields that stand one after the other.
+#[tactic(auto, using(crate::proofs::Walks::walks))]
 pub fn is_whole(list: &[u8], fields: usize) -> bool
     requires { fields < 2 ^ 16 }
     ensures { result ≡ whole_list fields list.now }
