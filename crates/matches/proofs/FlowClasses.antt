@@ -10,12 +10,12 @@ use lib.Dec.{eqb}
 use lib.ListN.{length}
 use Rattle.octets.specs.Numbers.{DONE, FLOW}
 use Rattle.octets.specs.Choice.{pick}
-use Rattle.octets.specs.Outcome.{Outcome, given, refused, and_then, number_of}
+use Rattle.octets.specs.Outcome.{Outcome, given, refused, and_then}
 use Rattle.octets.proofs.Choice.{pick_true, pick-false, tested}
 use Rattle.octets.proofs.Outcome.{and-cong, and_assoc, outcome, and-goes-on, and-stops}
 use Rattle.nlri.specs.Family.{family_bits, is_originator_size}
 use Rattle.lists.specs.LentLists.{Item}
-use Rattle.nlri.specs.Groups.{class_under, group_of}
+use Rattle.nlri.specs.Groups.{class_under}
 use Rattle.groups.specs.Prefixes.{read_prefixes}
 use Rattle.groups.specs.Classes.{class_in, class_by}
 use Rattle.groups.proofs.ClassFirst.{class-flow, given-least}
