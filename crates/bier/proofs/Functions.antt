@@ -1,22 +1,23 @@
 -- How the functions' proofs use the laws: each `return` and each turn of the loop, over variables.
-use Prim.Native.Nat.{ℕ, ◌+◌, ◌*◌, ◌%◌, ◌^◌, ◌≤◌}
+use Prim.Native.Nat.{ℕ, ◌+◌, ◌-◌, ◌*◌, ◌%◌, ◌^◌, ◌≤◌, ◌<◌}
 use mathlib.Core.Path.{◌≡◌, refl, sym, ap, subst, ◌∙◌}
 use mathlib.Core.Bool.{Bool, true, false}
-use mathlib.Core.List.{List, [], ◌∷◌}
+use mathlib.Core.List.{List, [], ◌∷◌, ◌++◌}
 use native.Mathlib.Nat.{one-mul}
 use native.Mathlib.Omega.{arith}
 use borrow.Author.Rules.{rules}
 use borrow.Author.Tests.{eqb-false, eq-eqb, ne_eqb}
 use lib.ListN.{length, get_or, drop}
+use lib.Seq.{take_all}
 use lib.Pow.{shl_exact}
-use lib.Count.{ones}
-use Rattle.std.specs.List.{sum_by}
-use Rattle.std.proofs.lemmas.List.Sums.{sum_by-cons}
+use lib.Count.{ones, ones-le, ones_cat}
 use Rattle.octets.specs.Numbers.{DONE}
 use Rattle.octets.specs.Outcome.{Outcome, given, refused, and_then, number_of}
-use Rattle.octets.specs.Octets.{part}
+use Rattle.octets.specs.Octets.{low_first, AllOctets, none, one, part}
 use Rattle.octets.specs.Order.{same}
 use Rattle.octets.proofs.Choice.{pick_true, pick-false, pick-passed, both_true, both_left, both_right}
+use Rattle.octets.proofs.AllOctets.{octets-of, octets-part}
+use Rattle.octets.proofs.Lists.{length_part, part_then}
 use Rattle.octets.proofs.Tests.{flags}
 use Rattle.octets.proofs.Outcome.{and-goes-on, and-stops, done-given, refused-of, refuses-by, number-goes, number-refuses}
 use Rattle.lists.specs.LentLists.{Item, item_field}
@@ -43,11 +44,39 @@ of-set-some flag set_number id e f = let n : id ≡ 0 → ⊥ = eqb-false _ _ (p
 
 pub ruleset adding = (flags, of-set-some)
 
--- the ones of octets as a sum
-pub ones-sum : (xs : List ℕ) → sum_by ones xs ≡ ones_of xs
+-- the ones of a word are those of its octets, eight of each at the most
+ones_low : {xs : List ℕ} → AllOctets xs → ones (low_first xs) ≡ ones_of xs
+unfolding low_first ones_of ones
+ones_low none = refl
+ones_low (one {x} {xs} h a) =
+    let turned : x + 256 * low_first xs ≡ low_first xs * 256 + x = omega arith in
+    ap ones turned ∙ ones_cat 8 (low_first xs) x h ∙ omega (arith, ones_low a)
+
+ones-most : {xs : List ℕ} → AllOctets xs → ones_of xs ≤ 8 * length xs
 unfolding ones_of
-ones-sum [] = refl
-ones-sum (x ∷ xs) = sum_by-cons ones x xs ∙ ap (λ (n : ℕ). ones x + n) (ones-sum xs)
+ones-most none = omega arith
+ones-most (one {x} h a) = omega (arith, ones-le 8 x h, ones-most a)
+
+pub ones-word : (s : List ℕ) (at r : ℕ) → ((i : ℕ) → get_or s i 0 < 256) → at + 8 ≤ length s → r ≡ low_first (part s at 8) → (ones r ≡ ones_of (part s at 8)) × (ones r ≤ 64)
+ones-word s at r o h e =
+    let octets = octets-part at 8 (octets-of s o) in
+    let is : ones r ≡ ones_of (part s at 8) = ap ones e ∙ ones_low octets in
+    (is, omega (arith, ones-most octets, length_part s at 8 h))
+
+ones-append : (xs ys : List ℕ) → ones_of (xs ++ ys) ≡ ones_of xs + ones_of ys
+unfolding ones_of
+ones-append [] ys = omega arith
+ones-append (x ∷ xs) ys = omega (arith, ones-append xs ys)
+
+ones-then : (s : List ℕ) (at n : ℕ) → ones_of (part s 0 (at + n)) ≡ ones_of (part s 0 at) + ones_of (part s (0 + at) n)
+ones-then s at n = ap ones_of (part_then s 0 at n) ∙ ones-append (part s 0 at) (part s (0 + at) n)
+
+-- those of a string are those of its four words
+pub ones-words : (s : List ℕ) (a b c d : ℕ) → length s ≡ 32 → a ≡ ones_of (part s 0 8) → b ≡ ones_of (part s 8 8) → c ≡ ones_of (part s 16 8) → d ≡ ones_of (part s 24 8) → a + b + c + d ≡ ones_of s
+unfolding part
+ones-words s a b c d h p q u v =
+    let all : ones_of (part s 0 32) ≡ ones_of s = ap ones_of (take_all 32 s (omega arith)) in
+    omega (arith, ones-then s 8 8, ones-then s 16 8, ones-then s 24 8, all)
 
 -- an attribute that is read has a header, and, of BIER, an identifier of three octets or more
 pub attribute-least : (a : List ℕ) → AttributeStands a → 5 ≤ length a

@@ -32,9 +32,17 @@ pub(crate) fn add(string: &mut [u8; 32], set: u8, id: u32)
     }
 }
 
-// The ones of a string.
+// The ones of a word, eight octets from `at` on, whatever their order in it.
+fn ones_at(s: &[u8], at: usize) -> u32
+    requires { at + 8 ≤ length s.now }
+    ensures { (result ≡ ones_of (part s.now at 8)) × (result ≤ 64) }
+{
+    u64::count_ones(wide::eight_low_first(s, at))
+}
+
+// The ones of a string: those of its four words.
 pub(crate) fn ones(string: &[u8; 32]) -> u32
     ensures { result ≡ ones_of string.now }
 {
-    string.iter().map(|octet| octet.count_ones()).sum()
+    ones_at(string, 0) + ones_at(string, 8) + ones_at(string, 16) + ones_at(string, 24)
 }
