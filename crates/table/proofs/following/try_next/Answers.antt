@@ -9,8 +9,5 @@ returns-then-not-is_sound c = next-unsound _ _ _ (sym c.is_sound.ensures ∙ c.i
 pub returns-then-output-lt-LEAST_OUTPUT : goal.returns-then-output-lt-LEAST_OUTPUT
 returns-then-output-lt-LEAST_OUTPUT c = next-space _ _ _ (sym c.is_sound.ensures ∙ c.if-not-is_sound.false) c.if-output-lt-LEAST_OUTPUT.true
 
-pub index_after-requires : goal.index_after-requires
-index_after-requires c = sym c.is_sound.ensures ∙ c.if-not-is_sound.false
-
 pub returns : goal.returns
 returns c = next-told _ _ _ (sym c.is_sound.ensures ∙ c.if-not-is_sound.false) c.if-output-lt-LEAST_OUTPUT.false c.index_after.result c.index_after.ensures _ _ c.tell_at.ensures

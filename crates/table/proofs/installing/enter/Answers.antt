@@ -7,12 +7,6 @@ use Rattle.changes.proofs.Finds.{held-within}
 use Rattle.table.proofs.Installs.{route-fits, install-replaces}
 use Rattle.table.proofs.installing.enter.Goals as goal
 
-pub enter_new-requires : goal.enter_new-requires
-enter_new-requires c =
-    let p = c.requires in
-    let belongs = c.in-Err.ensures in
-    record { table_value = p.table_value; attribute_value = p.attribute_value; index_value = belongs.0; table_value_2 = belongs.1 }
-
 pub replace-requires : goal.replace-requires
 replace-requires c =
     let a = c.args in

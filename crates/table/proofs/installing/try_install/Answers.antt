@@ -19,8 +19,3 @@ returns-in_err-check_route c =
     let fault = c.in_err-check_route.ensures ∙ ap (λ (afi : ℕ). number_of (read_route afi c.args.nlri.now c.args.attribute.now)) c.afi_of.ensures.0 in
     leaves-as (passed_on-install _ _ c.from_residual.ensures.1)
     (install-faulty _ _ _ _ (sym c.is_sound.ensures ∙ c.if-not-is_sound.false) fault (refusal_number-not_done _))
-
-pub enter-requires : goal.enter-requires
-enter-requires c =
-    let fault = c.in_ok-check_route.ensures ∙ ap (λ (afi : ℕ). number_of (read_route afi c.args.nlri.now c.args.attribute.now)) c.afi_of.ensures.0 in
-    record { table_value = sym c.is_sound.ensures ∙ c.if-not-is_sound.false; attribute_value = sym fault }

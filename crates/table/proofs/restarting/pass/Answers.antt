@@ -1,13 +1,7 @@
 -- `table::restarting::pass` meets its contract.
 use native.Mathlib.Omega.{arith}
-use Rattle.table.proofs.RenewCalls.{turn-first, turn-room, turn-here, turn-next, turn_last}
+use Rattle.table.proofs.RenewCalls.{turn-room, turn-here, turn-next, turn_last}
 use Rattle.table.proofs.restarting.pass.Goals as goal
-
-pub loop-index-init : goal.loop-index-init
-loop-index-init c =
-    let a = c.args in
-    let p = c.requires in
-    turn-first a.mark a.router.now a.table.now p.0 a.count p.1
 
 pub overflow_mul-index : goal.overflow_mul-index
 overflow_mul-index c =

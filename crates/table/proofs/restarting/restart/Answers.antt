@@ -15,9 +15,6 @@ returns-then-not-is_originator_size c =
     restart-missized (restart_by c.args.mark) _ _ _ (sym c.is_sound.ensures ∙ c.if-not-is_sound.false) c.is_originator_size.ensures
     c.if-not-is_originator_size.true
 
-pub renew-requires : goal.renew-requires
-renew-requires c = sym c.is_sound.ensures ∙ c.if-not-is_sound.false
-
 pub overflow_cast-result : goal.overflow_cast-result
 overflow_cast-result c =
     let a = c.args in

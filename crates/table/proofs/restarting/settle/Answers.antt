@@ -3,9 +3,6 @@ use Rattle.changes.specs.Changing.{mark_number}
 use Rattle.table.proofs.RenewCalls.{settled-other, settled-gone, settled-marked}
 use Rattle.table.proofs.restarting.settle.Goals as goal
 
-pub is_of-requires : goal.is_of-requires
-is_of-requires c = rw c.nlri_from.ensures c.requires.1.bounded
-
 pub returns-then-not-is_of : goal.returns-then-not-is_of
 returns-then-not-is_of c =
     let a = c.args in

@@ -20,8 +20,3 @@ returns-in_err-check_s_pmsi c =
     let fault = c.in_err-check_s_pmsi.ensures ∙ ap (λ (afi : ℕ). number_of (read_s_pmsi afi c.args.nlri.now)) c.afi_of.ensures.0 in
     leaves-as (passed_on _ _ c.from_residual.ensures.1)
     (withdraw-faulty _ _ _ (sym c.is_sound.ensures ∙ c.if-not-is_sound.false) fault (refusal_number-not_done _))
-
-pub leave-requires : goal.leave-requires
-leave-requires c =
-    let fault = c.in_ok-check_s_pmsi.ensures ∙ ap (λ (afi : ℕ). number_of (read_s_pmsi afi c.args.nlri.now)) c.afi_of.ensures.0 in
-    record { table_value = sym c.is_sound.ensures ∙ c.if-not-is_sound.false; nlri_value = sym fault }
