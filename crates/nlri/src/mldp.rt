@@ -1,5 +1,5 @@
-// The route types of RFC 7441, read (W-207): bodies with an mLDP FEC element, and the Leaf whose key is such an NLRI. They are judged apart and
-// last, so that those of RFC 6514 need no test for them.
+// The route types of RFC 7441, read (W-207): bodies with an mLDP FEC element, and the Leaf whose key is such an NLRI. They are judged by one
+// call, so that those of RFC 6514 do not pay for the registers and the stack of these.
 ghost use Rattle.std.specs.Prelude.{◌≡◌, ℕ, ◌+◌, ◌<◌, true, List, ◌∷◌, length, ◌≢◌};
 ghost use Rattle.octets.specs.Refusals.{result_number};
 ghost use Rattle.nlri.specs.Bodies.{fec};
