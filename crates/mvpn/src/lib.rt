@@ -3,9 +3,10 @@
 
 ghost use Rattle.std.specs.Prelude.{◌≡◌, ◌+◌, ◌*◌, length};
 ghost use Rattle.octets.specs.Outputs.{Wrote, Leaves};
+ghost use Rattle.octets.specs.Refusals.{outcome_in};
 ghost use Rattle.nlri.specs.Reading.{read_nlri};
 ghost use Rattle.nlri.specs.Writing.{write_nlri};
-ghost use Rattle.runs.specs.Walking.{step_from, refused_at};
+ghost use Rattle.runs.specs.Walking.{step_taken_of, step_from, refused_at};
 ghost use Rattle.runs.specs.Modes.{walk_by};
 ghost use Rattle.pieces.specs.Feeding.{start_of, feed_of, finish_of};
 ghost use Rattle.nlri.specs.Groups.{group_of};
@@ -23,19 +24,20 @@ ghost use Rattle.bier.specs.BierString.{egress_of};
 ghost use Rattle.shared_trees.specs.Tree.{tree_of};
 ghost use Rattle.plan.specs.Flows.{vrf_of};
 ghost use Rattle.plan.specs.Calls.{judge_of, plan_of};
-ghost use Rattle.mvpn.specs.Answers.{step_answer, attribute_given, attribute_refused, attribute_answer};
+ghost use Rattle.mvpn.specs.Answers.{step_answer, attribute_answer};
 
 use bier::Egress;
 use nlri::{Group, Layout, Nlri, NlriReading};
 use octets::number::DONE;
+use octets::refusal::Refusal;
 use octets::{Span, Written};
 use pieces::{Fed, Pieces, UnfinishedNlri};
 use plan::{Judged, Planned};
 use routes::{Explained, Following, Installed, Matched, Restarted, Salvaged, TableFacts};
 use runs::{Cursor, Step, Walked};
 use shared_trees::TreeFacts;
+use tunnel::Attribute;
 use tunnel::fec::Fec;
-use tunnel::{Attribute, Reading};
 
 // What a step answers: the number, the next cursor, and the layout of the NLRI read.
 #[repr(C)]
@@ -46,6 +48,7 @@ pub struct Stepped {
     pub layout: Layout,
 }
 
+#[tactic(auto, unfolding(crate::specs::Answers::step_answer, runs::specs::Walking::step_taken_of, runs::specs::Walking::read_to, runs::specs::Walking::ended_at, runs::specs::Walking::refused_at))]
 impl Stepped {
     // No NLRI: a refusal, or the run's end, which the caller tells by DONE with route type 0.
     fn stopped(cursor: usize, number: u32) -> Stepped
@@ -55,6 +58,24 @@ impl Stepped {
             number,
             cursor,
             layout: Layout::none(),
+        }
+    }
+
+    // A step from a cursor.
+    fn new(step: Result<Option<Step>, Refusal>, cursor: usize) -> Stepped
+        ensures { result ≡ step_answer (step_taken_of step cursor) }
+    {
+        match step {
+            Ok(Some(step)) => Stepped {
+                number: DONE,
+                cursor: step.next.at,
+                layout: step.layout,
+            },
+            Ok(None) => Stepped::stopped(cursor, DONE),
+            Err(refusal) => {
+                let number = refusal.number();
+                Stepped::stopped(cursor, number)
+            }
         }
     }
 }
@@ -73,38 +94,32 @@ pub struct AttributeReading {
     pub fec: Fec,
 }
 
-impl AttributeReading {
-    // An attribute that was read.
-    fn read(fields: Attribute) -> AttributeReading
-        ensures { result ≡ attribute_given fields }
-    {
-        let identifier = fields.identifier;
-        let fec = fields.fec;
-        AttributeReading {
-            number: DONE,
-            flags: fields.flags,
-            tunnel_type: fields.tunnel_type,
-            label_field: fields.label_field,
-            label: fields.label,
-            leaf_information_required: fields.leaf_information_required,
-            identifier,
-            fec,
-        }
-    }
+#[tactic(auto, unfolding(crate::specs::Answers::attribute_answer, octets::specs::Outcome::on_outcome))]
+impl From<Result<Attribute, Refusal>> for AttributeReading {
+    ghost from_gives = { λ attribute reading. reading ≡ attribute_answer (outcome_in attribute) };
 
-    // An attribute that was refused.
-    fn refused(number: u32) -> AttributeReading
-        ensures { result ≡ attribute_refused number }
-    {
-        AttributeReading {
-            number,
-            flags: 0,
-            tunnel_type: 0,
-            label_field: 0,
-            label: 0,
-            leaf_information_required: 0,
-            identifier: Span { start: 0, size: 0 },
-            fec: Fec::none(),
+    fn from(attribute: Result<Attribute, Refusal>) -> AttributeReading {
+        match attribute {
+            Ok(fields) => AttributeReading {
+                number: DONE,
+                flags: fields.flags,
+                tunnel_type: fields.tunnel_type,
+                label_field: fields.label_field,
+                label: fields.label,
+                leaf_information_required: fields.leaf_information_required,
+                identifier: fields.identifier,
+                fec: fields.fec,
+            },
+            Err(refusal) => AttributeReading {
+                number: refusal.number(),
+                flags: 0,
+                tunnel_type: 0,
+                label_field: 0,
+                label: 0,
+                leaf_information_required: 0,
+                identifier: Span { start: 0, size: 0 },
+                fec: Fec::none(),
+            },
         }
     }
 }
@@ -145,17 +160,7 @@ pub extern "C" fn mvpn_step(afi: u16, run: &[u8], cursor: usize) -> Stepped
     ensures { result ≡ step_answer (step_from afi run.now cursor) }
 {
     let at = Cursor { at: cursor };
-    match at.step(afi, run) {
-        Step::Nlri(layout, next) => {
-            return Stepped {
-                number: DONE,
-                cursor: next.at,
-                layout,
-            };
-        }
-        Step::End(last) => return Stepped::stopped(last.at, DONE),
-        Step::Refused(number, last) => return Stepped::stopped(last.at, number),
-    }
+    Stepped::new(at.step(afi, run), cursor)
 }
 
 // Walks a run to its end or its first refusal; in mode 0 unknown route types and Source Active routes that are discarded are skipped.
@@ -171,7 +176,7 @@ pub extern "C" fn mvpn_walk(afi: u16, mode: u32, run: &[u8]) -> Walked
 pub extern "C" fn mvpn_pieces_start(afi: u16, mode: u32) -> Pieces
     ensures { result ≡ start_of afi mode }
 {
-    pieces::start(afi, mode)
+    Pieces::start(afi, mode)
 }
 
 // Hands over a piece, of which octets are taken up to the end of one NLRI.
@@ -183,7 +188,7 @@ pub extern "C" fn mvpn_pieces_feed(
 ) -> Fed
     ensures { Leaves (feed_of reader unfinished.old piece.now) result unfinished.new }
 {
-    pieces::feed(reader, unfinished, piece)
+    reader.feed(unfinished, piece)
 }
 
 // Ends the run: the reader afterwards has the walk's answer.
@@ -191,7 +196,7 @@ pub extern "C" fn mvpn_pieces_feed(
 pub extern "C" fn mvpn_pieces_finish(reader: Pieces) -> Pieces
     ensures { result ≡ finish_of reader }
 {
-    pieces::finish(reader)
+    reader.finish()
 }
 
 // The class of a customer group.
@@ -199,7 +204,7 @@ pub extern "C" fn mvpn_pieces_finish(reader: Pieces) -> Pieces
 pub extern "C" fn mvpn_group_class(afi: u16, prefixes: &[u8], group: &[u8]) -> Group
     ensures { result ≡ group_of (class_by afi prefixes.now group.now) }
 {
-    groups::group_class(afi, prefixes, group)
+    Group::from(groups::group_class(afi, prefixes, group))
 }
 
 // Reads a PMSI Tunnel attribute.
@@ -207,10 +212,7 @@ pub extern "C" fn mvpn_group_class(afi: u16, prefixes: &[u8], group: &[u8]) -> G
 pub extern "C" fn mvpn_attribute_read(attribute: &[u8]) -> AttributeReading
     ensures { result ≡ attribute_answer (read_struct attribute.now) }
 {
-    match tunnel::read(attribute) {
-        Reading::Attribute(fields) => return AttributeReading::read(fields),
-        Reading::Refused(number) => return AttributeReading::refused(number),
-    }
+    AttributeReading::from(tunnel::read(attribute))
 }
 
 // Writes a PMSI Tunnel attribute at the front of the output.
