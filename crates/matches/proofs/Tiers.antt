@@ -13,6 +13,12 @@ use Rattle.octets.specs.Outcome.{given}
 use Rattle.octets.specs.Order.{same}
 use Rattle.octets.proofs.Choice.{opposite, picks, skips}
 use Rattle.octets.proofs.Orders.{unequal-other}
+use lib.Dec.{eqb}
+use denote.Enum.Declared.{tag_of}
+use Rattle.nlri.specs.declared.group.GroupClass.{GroupClass}
+use Rattle.nlri.specs.declared.group.GroupClass.TheVariants.{Asm, Ssm}
+use Rattle.nlri.specs.contracts.group.GroupClass.{the_type as the_class}
+use Rattle.nlri.specs.Groups.{class_number}
 use Rattle.nlri.specs.Fields.{Fields}
 use Rattle.nlri.specs.Standing.{group_end, standing}
 use Rattle.routes.specs.Route.{Route, nlri_of}
@@ -27,34 +33,34 @@ use Rattle.std.proofs.Common.{Option, None}
 use Rattle.routes.specs.declared.Tier.{Tier}
 use Rattle.routes.specs.declared.Tier.TheVariants.{Exact, AnyGroup, AnySource, Any}
 use Rattle.routes.specs.Answers.{tier_number}
-use Rattle.matches.specs.Scanning.{Sought, tier_or_0, where_open, open_query, wildcard, source_tier, any_source_tier, flow_tier, tier_at}
+use Rattle.matches.specs.Scanning.{Sought, open_tiers, tier_or_0, where_open, open_query, wildcard, source_tier, any_source_tier, flow_tier, tier_at}
 use Rattle.matches.specs.declared.tier.Tiers.{Tiers}
 
 -- what the branches of the function that finds the tier show
-module _ (source group : List ℕ) (tiers : Tiers) (f : Fields) (route_source route_group : List ℕ) (tier : Option Tier) (stands_source : route_source ≡ f.source) where
-  wild : length route_source ≡ 0 → wildcard f.source ≡ true
+module _ (source group : List ℕ) (tiers : Tiers) (f : Fields) (route_source : List ℕ) (empty : Bool) (stands_source : route_source ≡ f.source) (e : empty ≡ eqb (length route_source) 0) where
+  wild-is : (b : Bool) → empty ≡ b → wildcard f.source ≡ b
   unfolding wildcard
-  wild empty = eq-eqb _ _ (ap length (sym stands_source) ∙ empty)
+  wild-is b is = ap (λ (s : List ℕ). eqb (length s) 0) (sym stands_source) ∙ sym e ∙ is
 
-  tame : (length route_source ≡ 0 → ⊥) → wildcard f.source ≡ false
-  unfolding wildcard
-  tame some = ne_eqb _ _ (λ e. some (ap length stands_source ∙ e))
+  module _ (route_group : List ℕ) (tier : Option Tier) where
+    pub tier-any-source : empty ≡ true → route_group ≡ f.group → tier ≡ any_source_tier group tiers route_group → tier ≡ flow_tier source group tiers f
+    unfolding flow_tier
+    tier-any-source wild g t = picks _ _ _ _ (wild-is true wild) (t ∙ ap (any_source_tier group tiers) g)
 
-  pub tier-any-source : length route_source ≡ 0 → route_group ≡ f.group → tier ≡ any_source_tier group tiers route_group → tier ≡ flow_tier source group tiers f
+    pub tier-source : empty ≡ false → (flag : Bool) → flag ≡ same route_source source → flag ≡ true → route_group ≡ f.group → tier ≡ source_tier group tiers route_group
+        → tier ≡ flow_tier source group tiers f
+    unfolding flow_tier
+    tier-source tame flag is holds g t =
+        skips _ _ _ _ (wild-is false tame) (picks _ _ _ _ (ap (λ (x : List ℕ). same x source) (sym stands_source) ∙ sym is ∙ holds) (t ∙ ap (source_tier group tiers) g))
+
+  pub tier-none : empty ≡ false → (flag : Bool) → flag ≡ same route_source source → flag ≡ false → None ≡ flow_tier source group tiers f
   unfolding flow_tier
-  tier-any-source empty g e = picks _ _ _ _ (wild empty) (e ∙ ap (any_source_tier group tiers) g)
+  tier-none tame flag is fails = skips _ _ _ _ (wild-is false tame) (skips _ _ _ _ (ap (λ (x : List ℕ). same x source) (sym stands_source) ∙ sym is ∙ fails) refl)
 
-  pub tier-source : (flag : Bool) → (length route_source ≡ 0 → ⊥) → flag ≡ same route_source source → flag ≡ true → route_group ≡ f.group → tier ≡ source_tier group tiers route_group
-      → tier ≡ flow_tier source group tiers f
-  unfolding flow_tier
-  tier-source flag some is holds g e =
-      skips _ _ _ _ (tame some) (picks _ _ _ _ (ap (λ (x : List ℕ). same x source) (sym stands_source) ∙ sym is ∙ holds) (e ∙ ap (source_tier group tiers) g))
-
-pub tier-none : (source group : List ℕ) (tiers : Tiers) (f : Fields) (route_source : List ℕ) (flag : Bool) → route_source ≡ f.source
-    → (length route_source ≡ 0 → ⊥) → flag ≡ same route_source source → flag ≡ false → None ≡ flow_tier source group tiers f
-unfolding flow_tier
-tier-none source group tiers f route_source flag stands some is fails =
-    skips _ _ _ _ (tame source group tiers f route_source [] None stands some) (skips _ _ _ _ (ap (λ (x : List ℕ). same x source) (sym stands) ∙ sym is ∙ fails) refl)
+-- the tiers of a class, by the number that a cast gives it
+pub class-opens : (class : GroupClass) (tiers : Tiers) → tiers ≡ open_tiers (tag_of the_class class + 1) → tiers ≡ open_tiers (class_number class)
+class-opens Asm tiers e = e
+class-opens Ssm tiers e = e
 
 -- the last four octets of what stands behind others, and of all
 end-of-rest : (s : List ℕ) (start : ℕ) → start + 4 ≤ length s → part (drop start s) (length (drop start s) - 4) 4 ≡ part s (length s - 4) 4

@@ -71,7 +71,7 @@ fn explain_sound(table: &[u8], flow: &Flow<'_>, output: &mut [u8]) -> Result<Exp
         router: flow.router,
         source: flow.source,
         group: flow.group,
-        tiers: Tiers::of_class(class),
+        tiers: Tiers::of_class(class as u32),
     };
     let route = matching::search(table, &sought, output);
     Ok(Explanation {

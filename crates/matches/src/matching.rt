@@ -48,7 +48,7 @@ fn match_sound(
         router: flow.router,
         source: flow.source,
         group: flow.group,
-        tiers: Tiers::of_class(class),
+        tiers: Tiers::of_class(class as u32),
     };
     Ok(search(table, &sought, output))
 }

@@ -1,7 +1,6 @@
 // The tier of a route (document 01, "Which route a flow takes"), by the octets of its NLRI where they stand.
 ghost use Rattle.std.specs.Prelude.{◌≡◌, true, false, ◌≤◌, length};
 ghost use Rattle.octets.specs.Order.{same};
-ghost use Rattle.nlri.specs.Groups.{class_number};
 ghost use Rattle.matches.specs.Scanning.{sought_in, open_tiers, tree_tiers, source_tier, any_source_tier, flow_tier, tier_at};
 ghost use Rattle.nlri.specs.Standing.{standing};
 ghost use Rattle.places.specs.Readable.{Bounded};
@@ -21,13 +20,13 @@ pub struct Tiers {
 
 impl Tiers {
     // A flow's tiers, by the class of its group: for any group where it is SSM, for any source where it is ASM.
-    pub fn of_class(class: GroupClass) -> Tiers
-        ensures { result ≡ open_tiers (class_number class) }
+    pub fn of_class(class: u32) -> Tiers
+        ensures { result ≡ open_tiers class }
     {
         Tiers {
             exact: true,
-            any_group: class == GroupClass::Ssm,
-            any_source: class == GroupClass::Asm,
+            any_group: class == GroupClass::Ssm as u32,
+            any_source: class == GroupClass::Asm as u32,
             any: true,
         }
     }
@@ -66,7 +65,7 @@ impl<'a> Sought<'a> {
         if order::is_same(route_group, self.group) {
             return self.tiers.exact.then_some(Tier::Exact);
         }
-        if route_group.len() != 0 {
+        if !route_group.is_empty() {
             return None;
         }
         self.tiers.any_group.then_some(Tier::AnyGroup)
@@ -77,7 +76,7 @@ impl<'a> Sought<'a> {
     fn any_source_tier(&self, route_group: &[u8]) -> Option<Tier>
         ensures { result ≡ any_source_tier self.now.group.now self.now.tiers route_group.now }
     {
-        if route_group.len() == 0 {
+        if route_group.is_empty() {
             return self.tiers.any.then_some(Tier::Any);
         }
         if !order::is_same(route_group, self.group) {
@@ -92,7 +91,7 @@ impl<'a> Sought<'a> {
         ensures { result ≡ flow_tier self.now.source.now self.now.group.now self.now.tiers (standing nlri.now) }
     {
         let route_source = standing::source_in(nlri);
-        if route_source.len() == 0 {
+        if route_source.is_empty() {
             return self.any_source_tier(standing::group_in(nlri));
         }
         if !order::is_same(route_source, self.source) {

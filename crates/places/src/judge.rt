@@ -55,5 +55,5 @@ pub fn is_good(afi: u16, place: &[u8]) -> bool
     requires { length place.now ≡ 128 }
     ensures { result ≡ place_sound afi place.now }
 {
-    sound::is_place_sound::<false>(afi, place)
+    sound::is_place_sound(afi, place)
 }

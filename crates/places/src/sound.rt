@@ -44,8 +44,10 @@ fn is_tail_zero_by<const BLOCK: usize>(place: &[u8], end: usize) -> bool
     )
 }
 
-// The octets from `end` on are zeros, of a place without its mark, by the largest blocks of a fixed size that fit behind the route.
-fn is_tail_zero<const IN_TABLE: bool>(place: &[u8], end: usize) -> bool
+// The octets from `end` on are zeros, of a place without its mark, by the largest blocks of a fixed size that fit behind the route. The
+// hint puts it where its caller stands, as that of its caller does.
+#[inline(always)]
+fn is_tail_zero(place: &[u8], end: usize) -> bool
     requires { (length place.now ≡ 127) × (end ≤ 127) }
     ensures { result ≡ all_zero (drop end place.now) }
 {
@@ -62,9 +64,10 @@ fn is_tail_zero<const IN_TABLE: bool>(place: &[u8], end: usize) -> bool
 }
 
 // A place holds a route that install would accept, then zeros, and 0 or 1 as its mark. Nothing is copied out of it. The attribute's two
-// judges are called one by one: each is small enough that the compiler puts it into the loop over the places. The parameter only tells the
-// callers apart: so each has a function of its own, and that of the loop is put into the loop (DECISIONS, "Who judges a place").
-pub(crate) fn is_place_sound<const IN_TABLE: bool>(afi: u16, place: &[u8]) -> bool
+// judges are called one by one: each is small enough that the compiler puts it into the loop over the places, and the hint puts
+// this function there, though a place is judged alone too (DECISIONS, "Who judges a place").
+#[inline(always)]
+pub(crate) fn is_place_sound(afi: u16, place: &[u8]) -> bool
     requires { length place.now ≡ 128 }
     ensures { result ≡ place_sound afi place.now }
 {
@@ -87,7 +90,7 @@ pub(crate) fn is_place_sound<const IN_TABLE: bool>(afi: u16, place: &[u8]) -> bo
     if judge::check_label(attribute).is_err() {
         return false;
     }
-    is_tail_zero::<IN_TABLE>(octets::parts::between(place, 0, MARK), end)
+    is_tail_zero(octets::parts::between(place, 0, MARK), end)
 }
 
 // The NLRI of the sound place from `at` on comes after that of the place before it, which is sound too. The one before is looked at
@@ -129,7 +132,7 @@ fn are_places_sound(afi: u16, count: usize, table: &[u8]) -> bool
     let end = HEADER + PLACE * count;
     let mut at = HEADER;
     while at < end {
-        if !is_place_sound::<true>(afi, octets::parts::between(table, at, PLACE)) {
+        if !is_place_sound(afi, octets::parts::between(table, at, PLACE)) {
             return false;
         }
         if !follows(table, at) {

@@ -97,7 +97,7 @@ fn best_for(vrf: &Vrf<'_>, flow: &Flow<'_>, places: &[u8]) -> Option<Best>
         router: vrf.originator,
         source,
         group,
-        tiers: Tiers::of_class(class),
+        tiers: Tiers::of_class(class as u32),
     };
     sought.best(places, places.len() / PLACE)
 }

@@ -2,6 +2,7 @@
 use Rattle.octets.proofs.Refusals.{refusal_number-not_done}
 use Rattle.places.proofs.Indexes.{header-within}
 use Rattle.std.proofs.Common.{refl}
+use Rattle.matches.proofs.Tiers.{class-opens}
 use Rattle.matches.proofs.FlowClasses.{flow-some}
 use Rattle.matches.proofs.Explanations.{told-unexplained, explains-unclassed, explains-missized, explains-space, explains-search}
 use Rattle.matches.proofs.explaining.explain_sound.Goals as goal
@@ -24,4 +25,4 @@ search-route-requires c = let some = flow-some _ _ _ _ c.in_ok-class.ensures _ _
 
 pub returns : goal.returns
 returns c =
-    explains-search _ _ _ c.requires _ c.afi_of.ensures.0 _ c.in_ok-class.ensures c.in_ok-check_sizes.ensures c.if-output-lt-LEAST_OUTPUT.false _ c.of_class.ensures _ _ c.search-route.ensures _ c.reasons.ensures
+    explains-search _ _ _ c.requires _ c.afi_of.ensures.0 _ c.in_ok-class.ensures c.in_ok-check_sizes.ensures c.if-output-lt-LEAST_OUTPUT.false _ (class-opens _ _ c.of_class.ensures) _ _ c.search-route.ensures _ c.reasons.ensures

@@ -2,6 +2,7 @@
 use Rattle.octets.proofs.Refusals.{refusal_number-not_done}
 use Rattle.places.proofs.Indexes.{header-within}
 use Rattle.std.proofs.Common.{refl}
+use Rattle.matches.proofs.Tiers.{class-opens}
 use Rattle.matches.proofs.FlowClasses.{flow-some}
 use Rattle.matches.proofs.Matches.{told-refused, answers-unclassed, answers-missized, answers-space, answers-search}
 use Rattle.matches.proofs.matching.match_sound.Goals as goal
@@ -23,4 +24,4 @@ pub search-requires : goal.search-requires
 search-requires c = let some = flow-some _ _ _ _ c.in_ok-class.ensures _ _ c.in_ok-check_sizes.ensures in (c.requires, c.if-output-lt-LEAST_OUTPUT.false, some.0, some.1, some.2)
 
 pub returns : goal.returns
-returns c = answers-search _ _ c.requires _ c.afi_of.ensures.0 _ _ c.in_ok-class.ensures c.in_ok-check_sizes.ensures c.if-output-lt-LEAST_OUTPUT.false _ c.of_class.ensures _ _ c.search.ensures
+returns c = answers-search _ _ c.requires _ c.afi_of.ensures.0 _ _ c.in_ok-class.ensures c.in_ok-check_sizes.ensures c.if-output-lt-LEAST_OUTPUT.false _ (class-opens _ _ c.of_class.ensures) _ _ c.search.ensures

@@ -1,4 +1,5 @@
 -- `plan::proposal::best_for` meets its contract.
+use Rattle.matches.proofs.Tiers.{class-opens}
 use Rattle.octets.proofs.Refusals.{refusal_number-not_done}
 use Rattle.plan.specs.Inner.{vrf_in}
 use Rattle.plan.proofs.JudgedPlaces.{all-readable, best-unclassed, best-missized, router-least, best-scanned}
@@ -20,4 +21,4 @@ best-requires-clause-in_bounds c =
 
 pub returns : goal.returns
 returns c =
-    best-scanned _ _ _ c.requires (vrf_in c.args.vrf.now) c.args.flow.now _ c.group-group.ensures _ c.in-Ok.ensures _ c.source-source.ensures c.in-Ok-check_sizes.ensures _ c.of_class.ensures _ c.best.ensures
+    best-scanned _ _ _ c.requires (vrf_in c.args.vrf.now) c.args.flow.now _ c.group-group.ensures _ c.in-Ok.ensures _ c.source-source.ensures c.in-Ok-check_sizes.ensures _ (class-opens _ _ c.of_class.ensures) _ c.best.ensures
