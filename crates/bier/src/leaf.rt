@@ -59,7 +59,7 @@ fn id_of(leaf: &Item<'_, FIELDS>, nlri: &[u8], sub_domain: u32) -> Option<u32>
 fn check_leaf(afi: u16, leaf: &Item<'_, FIELDS>) -> Result<(), Refusal>
     ensures { result_number result ≡ number_of (read_leaf afi leaf.now) }
 {
-    nlri::check_of_type(afi, RouteType::Leaf as usize, leaf.field(0))?;
+    nlri::check_of_type(afi, RouteType::LEAF, leaf.field(0))?;
     tunnel::check(leaf.field(1))
 }
 

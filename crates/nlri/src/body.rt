@@ -20,7 +20,7 @@ pub fn is_allowed(kind: AddressKind, route_type: usize, bits: usize) -> bool
     if bits == kind.bits {
         return true;
     }
-    if route_type == RouteType::SPmsi as usize {
+    if route_type == RouteType::S_PMSI {
         return bits == AddressKind::WILDCARD;
     }
     false
@@ -63,7 +63,7 @@ fn check_flow_end(route_type: usize, at: usize, size: usize) -> Result<(), Refus
     requires { at < 512 }
     ensures { (bits : ℕ) (s : List ℕ) → length s ≡ size → result_number result ≡ left_fault bits route_type (after_flow route_type) at s }
 {
-    if route_type == RouteType::SPmsi as usize {
+    if route_type == RouteType::S_PMSI {
         return check_originator(at, size);
     }
     check_end(at, size)
@@ -118,18 +118,13 @@ pub(crate) fn check_keyable_body(
     requires { route_type ≤ 3 }
     ensures { result_number result ≡ body_fault kind.bits route_type s.now }
 {
-    if route_type == RouteType::SPmsi as usize {
-        return check_flow(
-            kind,
-            RouteType::SPmsi as usize,
-            RouteDistinguisher::OCTETS,
-            s,
-        );
+    if route_type == RouteType::S_PMSI {
+        return check_flow(kind, RouteType::S_PMSI, RouteDistinguisher::OCTETS, s);
     }
-    if route_type == RouteType::IntraAsIPmsi as usize {
+    if route_type == RouteType::INTRA_AS_I_PMSI {
         return check_originator(RouteDistinguisher::OCTETS, s.len());
     }
-    if route_type == RouteType::InterAsIPmsi as usize {
+    if route_type == RouteType::INTER_AS_I_PMSI {
         return check_end(RouteDistinguisher::WITH_SOURCE_AS, s.len());
     }
     Err(Refusal::Type)
@@ -143,7 +138,7 @@ pub(crate) fn check_flow_body(kind: AddressKind, route_type: usize, s: &[u8]) ->
 {
     check_flow(
         kind,
-        RouteType::SourceActive as usize,
+        RouteType::SOURCE_ACTIVE,
         layout::source_start(route_type) - (HEADER + 1),
         s,
     )

@@ -44,9 +44,7 @@ impl Layout {
 pub(crate) fn source_start(route_type: usize) -> usize
     ensures { result ≡ source_start route_type }
 {
-    if route_type == RouteType::SharedTreeJoin as usize
-        || route_type == RouteType::SourceTreeJoin as usize
-    {
+    if route_type == RouteType::SHARED_TREE_JOIN || route_type == RouteType::SOURCE_TREE_JOIN {
         return HEADER + RouteDistinguisher::WITH_SOURCE_AS + 1;
     }
     HEADER + RouteDistinguisher::OCTETS + 1
@@ -57,7 +55,7 @@ pub(crate) fn source_start(route_type: usize) -> usize
 pub(crate) fn fec_start(route_type: usize) -> usize
     ensures { result ≡ fec_start route_type }
 {
-    if route_type == RouteType::MldpSourceTreeJoin as usize {
+    if route_type == RouteType::MLDP_SOURCE_TREE_JOIN {
         return HEADER + RouteDistinguisher::WITH_SOURCE_AS;
     }
     HEADER + RouteDistinguisher::OCTETS

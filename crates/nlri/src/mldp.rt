@@ -18,7 +18,7 @@ use octets::refusal::Refusal;
 fn check_fec_end(route_type: usize, left: usize) -> Result<(), Refusal>
     ensures { (bits at : ℕ) (s : List ℕ) → length s ≡ at + left → result_number result ≡ left_fault bits route_type (after_fec route_type) at s }
 {
-    if route_type == RouteType::MldpSPmsi as usize {
+    if route_type == RouteType::MLDP_S_PMSI {
         if body::is_originator_size(left) {
             return Ok(());
         }
@@ -47,17 +47,12 @@ fn check_fec_body(kind: AddressKind, route_type: usize, s: &[u8]) -> Result<(), 
     requires { (is_mldp route_type ≡ true) × (route_type ≢ 68) }
     ensures { result_number result ≡ body_fault kind.bits route_type s.now }
 {
-    if route_type == RouteType::MldpSPmsi as usize {
-        return check_fec(
-            kind,
-            RouteType::MldpSPmsi as usize,
-            RouteDistinguisher::OCTETS,
-            s,
-        );
+    if route_type == RouteType::MLDP_S_PMSI {
+        return check_fec(kind, RouteType::MLDP_S_PMSI, RouteDistinguisher::OCTETS, s);
     }
     check_fec(
         kind,
-        RouteType::MldpSourceTreeJoin as usize,
+        RouteType::MLDP_SOURCE_TREE_JOIN,
         RouteDistinguisher::WITH_SOURCE_AS,
         s,
     )
@@ -68,13 +63,13 @@ fn read_key(kind: AddressKind, s: &[u8]) -> Result<Header, Refusal>
     ensures { key_outcome result ≡ key_field kind.bits 68 s.now }
 {
     let header = header::read_header(s)?;
-    if header.route_type != RouteType::MldpSPmsi as usize {
+    if header.route_type != RouteType::MLDP_S_PMSI {
         return Err(Refusal::Key);
     }
     let body = octets::parts::between(s, HEADER, header.length);
     check_fec(
         kind,
-        RouteType::MldpSPmsi as usize,
+        RouteType::MLDP_S_PMSI,
         RouteDistinguisher::OCTETS,
         body,
     )?;
@@ -86,10 +81,10 @@ fn check_leaf_body(kind: AddressKind, s: &[u8]) -> Result<(), Refusal>
     ensures { result_number result ≡ body_fault kind.bits 68 s.now }
 {
     // a part handed on, so that the slice reaches this function in registers
-    match read_key(kind, &s[0..]) {
-        Ok(key) => body::check_originator(HEADER + key.length, s.len()),
-        Err(_) => Err(Refusal::Key),
-    }
+    let Ok(key) = read_key(kind, &s[0..]) else {
+        return Err(Refusal::Key); // whatever the fault
+    };
+    body::check_originator(HEADER + key.length, s.len())
 }
 
 // A body of one of these types.
@@ -99,7 +94,7 @@ pub fn check_body(kind: AddressKind, route_type: usize, s: &[u8]) -> Result<(), 
 {
     // a part handed on, so that the slice reaches this function in registers
     let body = &s[0..];
-    if route_type == RouteType::MldpLeaf as usize {
+    if route_type == RouteType::MLDP_LEAF {
         return check_leaf_body(kind, body);
     }
     check_fec_body(kind, route_type, body)
@@ -129,7 +124,7 @@ pub(crate) fn layout(route_type: usize, s: &[u8]) -> Layout
     requires { MldpStands route_type s.now }
     ensures { result ≡ mldp_layout route_type s.now }
 {
-    if route_type == RouteType::MldpLeaf as usize {
+    if route_type == RouteType::MLDP_LEAF {
         return layout::leaf_layout(route_type, s);
     }
     fec_layout(route_type, s)

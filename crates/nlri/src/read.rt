@@ -19,7 +19,7 @@ pub fn read_key(kind: AddressKind, s: &[u8]) -> Result<Header, Refusal>
     ensures { key_outcome result ≡ key_field kind.bits 4 s.now }
 {
     let header = header::read_header(s)?;
-    if (RouteType::SPmsi as usize) < header.route_type {
+    if RouteType::S_PMSI < header.route_type {
         return Err(Refusal::Key);
     }
     let body = octets::parts::between(s, HEADER, header.length);
@@ -32,10 +32,10 @@ fn check_leaf_body(kind: AddressKind, s: &[u8]) -> Result<(), Refusal>
     ensures { result_number result ≡ body_fault kind.bits 4 s.now }
 {
     // a part handed on, so that the slice reaches this function in registers
-    match read_key(kind, &s[0..]) {
-        Ok(key) => body::check_originator(HEADER + key.length, s.len()),
-        Err(_) => Err(Refusal::Key),
-    }
+    let Ok(key) = read_key(kind, &s[0..]) else {
+        return Err(Refusal::Key); // whatever the fault
+    };
+    body::check_originator(HEADER + key.length, s.len())
 }
 
 // The group of a body of type 5 that is laid out.
@@ -51,7 +51,7 @@ fn group_in(s: &[u8]) -> &[u8]
 fn check_source_active_body(kind: AddressKind, s: &[u8]) -> Result<(), Refusal>
     ensures { result_number result ≡ source_active_body_fault kind.bits s.now }
 {
-    body::check_flow_body(kind, RouteType::SourceActive as usize, s)?;
+    body::check_flow_body(kind, RouteType::SOURCE_ACTIVE, s)?;
     if group::is_ssm(kind, group_in(s)) {
         return Err(Refusal::Group);
     }
@@ -103,20 +103,20 @@ pub(crate) fn layout_in(s: &[u8]) -> Layout
 {
     let route_type = s[0] as usize;
     let length = s[1] as usize;
-    if route_type == RouteType::IntraAsIPmsi as usize {
+    if route_type == RouteType::INTRA_AS_I_PMSI {
         return layout::plain_layout(
-            RouteType::IntraAsIPmsi as usize,
+            RouteType::INTRA_AS_I_PMSI,
             length - RouteDistinguisher::OCTETS,
             s,
         );
     }
-    if route_type == RouteType::InterAsIPmsi as usize {
-        return layout::plain_layout(RouteType::InterAsIPmsi as usize, 0, s);
+    if route_type == RouteType::INTER_AS_I_PMSI {
+        return layout::plain_layout(RouteType::INTER_AS_I_PMSI, 0, s);
     }
-    if route_type == RouteType::Leaf as usize {
-        return layout::leaf_layout(RouteType::Leaf as usize, s);
+    if route_type == RouteType::LEAF {
+        return layout::leaf_layout(RouteType::LEAF, s);
     }
-    if (RouteType::SourceTreeJoin as usize) < route_type {
+    if RouteType::SOURCE_TREE_JOIN < route_type {
         return mldp::layout(route_type, s);
     }
     layout::flow_layout(route_type, layout::source_start(route_type) - 1, s)
@@ -184,7 +184,7 @@ fn is_s_pmsi_under(kind: AddressKind, s: &[u8]) -> bool
     if s.len() < HEADER + RouteDistinguisher::OCTETS {
         return false;
     }
-    if s[0] as usize != RouteType::SPmsi as usize {
+    if s[0] as usize != RouteType::S_PMSI {
         return false;
     }
     if s[1] as usize != s.len() - HEADER {
@@ -192,7 +192,7 @@ fn is_s_pmsi_under(kind: AddressKind, s: &[u8]) -> bool
     }
     body::check_flow(
         kind,
-        RouteType::SPmsi as usize,
+        RouteType::S_PMSI,
         HEADER + RouteDistinguisher::OCTETS,
         s,
     )

@@ -19,6 +19,29 @@ pub enum RouteType {
     MldpSourceTreeJoin = 0x47,
 }
 
+// Their code points.
+impl RouteType {
+    pub const INTRA_AS_I_PMSI: usize = RouteType::IntraAsIPmsi as usize;
+
+    pub const INTER_AS_I_PMSI: usize = RouteType::InterAsIPmsi as usize;
+
+    pub const S_PMSI: usize = RouteType::SPmsi as usize;
+
+    pub const LEAF: usize = RouteType::Leaf as usize;
+
+    pub const SOURCE_ACTIVE: usize = RouteType::SourceActive as usize;
+
+    pub const SHARED_TREE_JOIN: usize = RouteType::SharedTreeJoin as usize;
+
+    pub const SOURCE_TREE_JOIN: usize = RouteType::SourceTreeJoin as usize;
+
+    pub const MLDP_S_PMSI: usize = RouteType::MldpSPmsi as usize;
+
+    pub const MLDP_LEAF: usize = RouteType::MldpLeaf as usize;
+
+    pub const MLDP_SOURCE_TREE_JOIN: usize = RouteType::MldpSourceTreeJoin as usize;
+}
+
 // TYPE.
 impl TryFrom<usize> for RouteType {
     type Error = Refusal;
@@ -47,7 +70,7 @@ impl TryFrom<usize> for RouteType {
 pub fn has_key(route_type: usize) -> bool
     ensures { result ≡ with_key route_type }
 {
-    route_type == RouteType::Leaf as usize || route_type == RouteType::MldpLeaf as usize
+    route_type == RouteType::LEAF || route_type == RouteType::MLDP_LEAF
 }
 
 // Types 0x43 and 0x47 have a FEC.
@@ -55,8 +78,7 @@ pub fn has_key(route_type: usize) -> bool
 pub fn has_fec(route_type: usize) -> bool
     ensures { result ≡ with_fec route_type }
 {
-    route_type == RouteType::MldpSPmsi as usize
-        || route_type == RouteType::MldpSourceTreeJoin as usize
+    route_type == RouteType::MLDP_S_PMSI || route_type == RouteType::MLDP_SOURCE_TREE_JOIN
 }
 
 // Types 2, 6, 7 and 0x47 have a source AS, behind the route distinguisher.
@@ -64,10 +86,10 @@ pub fn has_fec(route_type: usize) -> bool
 pub fn has_source_as(route_type: usize) -> bool
     ensures { result ≡ with_source_as route_type }
 {
-    route_type == RouteType::InterAsIPmsi as usize
-        || route_type == RouteType::SharedTreeJoin as usize
-        || route_type == RouteType::SourceTreeJoin as usize
-        || route_type == RouteType::MldpSourceTreeJoin as usize
+    route_type == RouteType::INTER_AS_I_PMSI
+        || route_type == RouteType::SHARED_TREE_JOIN
+        || route_type == RouteType::SOURCE_TREE_JOIN
+        || route_type == RouteType::MLDP_SOURCE_TREE_JOIN
 }
 
 // The types of RFC 7441.
@@ -75,7 +97,7 @@ pub fn has_source_as(route_type: usize) -> bool
 pub fn is_mldp(route_type: usize) -> bool
     ensures { result ≡ is_mldp route_type }
 {
-    route_type == RouteType::MldpSPmsi as usize
-        || route_type == RouteType::MldpLeaf as usize
-        || route_type == RouteType::MldpSourceTreeJoin as usize
+    route_type == RouteType::MLDP_S_PMSI
+        || route_type == RouteType::MLDP_LEAF
+        || route_type == RouteType::MLDP_SOURCE_TREE_JOIN
 }

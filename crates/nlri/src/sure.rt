@@ -30,12 +30,12 @@ fn is_surely_s_pmsi(kind: AddressKind, s: &[u8]) -> bool
     ensures { result ≡ true → SurelyRead kind.bits 3 88 s.now }
 {
     let source = s[10] as usize;
-    if !body::is_allowed(kind, RouteType::SPmsi as usize, source) {
+    if !body::is_allowed(kind, RouteType::S_PMSI, source) {
         return false;
     }
     let at = 11 + source / 8;
     let group = s[at] as usize;
-    if !body::is_allowed(kind, RouteType::SPmsi as usize, group) {
+    if !body::is_allowed(kind, RouteType::S_PMSI, group) {
         return false;
     }
     is_originator_from(at - 1 + group / 8, s[1] as usize)
@@ -47,13 +47,13 @@ fn is_surely_keyable(kind: AddressKind, s: &[u8]) -> bool
     ensures { result ≡ true → (slice_index s.now 0 ≤ 3) × SurelyRead kind.bits (slice_index s.now 0) 88 s.now }
 {
     let route_type = s[0] as usize;
-    if route_type == RouteType::SPmsi as usize {
+    if route_type == RouteType::S_PMSI {
         return is_surely_s_pmsi(kind, s);
     }
-    if route_type == RouteType::IntraAsIPmsi as usize {
+    if route_type == RouteType::INTRA_AS_I_PMSI {
         return is_originator_from(RouteDistinguisher::OCTETS, s[1] as usize);
     }
-    if route_type == RouteType::InterAsIPmsi as usize {
+    if route_type == RouteType::INTER_AS_I_PMSI {
         return s[1] as usize == RouteDistinguisher::WITH_SOURCE_AS;
     }
     false
@@ -93,13 +93,13 @@ pub(crate) fn is_surely_read(kind: AddressKind, s: &[u8]) -> bool
         return false;
     }
     let route_type = s[0] as usize;
-    if route_type == RouteType::Leaf as usize {
+    if route_type == RouteType::LEAF {
         return is_surely_leaf(kind, s);
     }
-    if (RouteType::SourceTreeJoin as usize) < route_type {
+    if RouteType::SOURCE_TREE_JOIN < route_type {
         return false;
     }
-    if (RouteType::SourceActive as usize) < route_type {
+    if RouteType::SOURCE_ACTIVE < route_type {
         return is_surely_join(kind, s);
     }
     is_surely_keyable(kind, s)
@@ -112,7 +112,7 @@ pub(crate) fn is_surely_to_leaf(kind: AddressKind, s: &[u8]) -> bool
     if s.len() < ENOUGH {
         return false;
     }
-    if s[0] as usize == RouteType::Leaf as usize {
+    if s[0] as usize == RouteType::LEAF {
         return is_surely_leaf(kind, s);
     }
     is_surely_keyable(kind, s)

@@ -23,7 +23,7 @@ fn is_mldp_key(kind: AddressKind, key: &[u8]) -> bool
     let Ok(header) = nlri::read_header(key) else {
         return false;
     };
-    if header.route_type != RouteType::MldpSPmsi as usize {
+    if header.route_type != RouteType::MLDP_S_PMSI {
         return false;
     }
     let body = octets::parts::between(key, HEADER, header.length);
@@ -38,7 +38,7 @@ pub(crate) fn is_key(kind: AddressKind, route_type: usize, key: &[u8]) -> bool
     requires { with_key route_type ≡ true }
     ensures { result ≡ is_key kind.bits route_type key.now }
 {
-    if route_type == RouteType::Leaf as usize {
+    if route_type == RouteType::LEAF {
         return is_leaf_key(kind, key);
     }
     is_mldp_key(kind, key)

@@ -58,8 +58,8 @@ fn end_size(originated: bool, size: usize) -> usize
 fn write_i_pmsi(nlri: Nlri, output: &mut [u8]) -> Result<usize, Refusal>
     ensures { Wrote (i_pmsi_written nlri.route_type nlri (length output.old)) output.old (written_by result) output.new }
 {
-    let numbered = nlri.route_type as usize == RouteType::InterAsIPmsi as usize;
-    let originated = nlri.route_type as usize == RouteType::IntraAsIPmsi as usize;
+    let numbered = nlri.route_type as usize == RouteType::INTER_AS_I_PMSI;
+    let originated = nlri.route_type as usize == RouteType::INTRA_AS_I_PMSI;
     let originator = nlri.originator;
     if !originator_fits(originated, originator.size as usize) {
         return Err(Refusal::Width);
@@ -76,7 +76,7 @@ fn is_discarded(kind: AddressKind, nlri: Nlri) -> bool
     requires { nlri.group.size ≤ 16 }
     ensures { result ≡ is_discarded kind.bits (struct_fields nlri [] []) }
 {
-    if nlri.route_type as usize != RouteType::SourceActive as usize {
+    if nlri.route_type as usize != RouteType::SOURCE_ACTIVE {
         return false;
     }
     let address = nlri.group;
@@ -105,14 +105,9 @@ fn flow_size(nlri: Nlri) -> usize
     let source = nlri.source;
     let group = nlri.group;
     let originator = nlri.originator;
-    let front = front_size((RouteType::SourceActive as usize) < route_type);
+    let front = front_size(RouteType::SOURCE_ACTIVE < route_type);
     let flow = 2 + source.size as usize + group.size as usize;
-    front
-        + flow
-        + end_size(
-            route_type == RouteType::SPmsi as usize,
-            originator.size as usize,
-        )
+    front + flow + end_size(route_type == RouteType::S_PMSI, originator.size as usize)
 }
 
 // Every address of such a body fits.
@@ -130,10 +125,7 @@ fn addresses_fit(kind: AddressKind, nlri: Nlri) -> bool
     if !nlri::is_allowed(kind, route_type, 8 * group.size as usize) {
         return false;
     }
-    originator_fits(
-        route_type == RouteType::SPmsi as usize,
-        originator.size as usize,
-    )
+    originator_fits(route_type == RouteType::S_PMSI, originator.size as usize)
 }
 
 // Types with a source and a group: 3, 5, 6 and 7. WIDTH, GROUP, SPACE.
@@ -153,8 +145,8 @@ fn write_flow(kind: AddressKind, nlri: Nlri, output: &mut [u8]) -> Result<usize,
     }
     let route_type = nlri.route_type as usize;
     Ok(put_flow(
-        (RouteType::SourceActive as usize) < route_type,
-        route_type == RouteType::SPmsi as usize,
+        RouteType::SOURCE_ACTIVE < route_type,
+        route_type == RouteType::S_PMSI,
         nlri,
         size,
         output,
@@ -183,8 +175,8 @@ fn put_between(
 fn write_fec(kind: AddressKind, nlri: Nlri, fec: &[u8], output: &mut [u8]) -> Result<usize, Refusal>
     ensures { Wrote (fec_written kind.bits nlri.route_type nlri fec.now (length output.old)) output.old (written_by result) output.new }
 {
-    let numbered = nlri.route_type as usize == RouteType::MldpSourceTreeJoin as usize;
-    let originated = nlri.route_type as usize == RouteType::MldpSPmsi as usize;
+    let numbered = nlri.route_type as usize == RouteType::MLDP_SOURCE_TREE_JOIN;
+    let originated = nlri.route_type as usize == RouteType::MLDP_S_PMSI;
     let originator = nlri.originator;
     if !originator_fits(originated, originator.size as usize) {
         return Err(Refusal::Width);
@@ -217,7 +209,7 @@ fn is_leaf_long(route_type: usize, key: usize, originator: usize) -> bool
     requires { originator ≤ 16 }
     ensures { result ≡ both (ltb 7 route_type) (ltb 255 (key + originator)) }
 {
-    if route_type <= RouteType::SourceTreeJoin as usize {
+    if route_type <= RouteType::SOURCE_TREE_JOIN {
         return false;
     }
     MOST - originator < key
@@ -270,13 +262,13 @@ fn write_under(
     if route::has_fec(route_type) {
         return write_fec(kind, nlri, fec, output);
     }
-    if (RouteType::SourceTreeJoin as usize) < route_type {
+    if RouteType::SOURCE_TREE_JOIN < route_type {
         return Err(Refusal::Type);
     }
-    if (RouteType::InterAsIPmsi as usize) < route_type {
+    if RouteType::INTER_AS_I_PMSI < route_type {
         return write_flow(kind, nlri, output);
     }
-    if route_type < RouteType::IntraAsIPmsi as usize {
+    if route_type < RouteType::INTRA_AS_I_PMSI {
         return Err(Refusal::Type);
     }
     write_i_pmsi(nlri, output)

@@ -17,7 +17,7 @@ use tunnel::TunnelType;
 pub fn check_s_pmsi(afi: u16, nlri: &[u8]) -> Result<(), Refusal>
     ensures { result_number result ≡ number_of (read_s_pmsi afi nlri.now) }
 {
-    nlri::check_of_type(afi, RouteType::SPmsi as usize, nlri)
+    nlri::check_of_type(afi, RouteType::S_PMSI, nlri)
 }
 
 // LABEL, of an attribute that reading accepts.

@@ -71,7 +71,7 @@ fn are_addresses_sized(size: usize, router: &[u8], source_actives: &[u8], states
 fn check_source_active(afi: u16, item: &Item<'_, FIELDS>) -> Result<(), Refusal>
     ensures { result_number result ≡ number_of (read_source_active afi item.now) }
 {
-    nlri::check_of_type(afi, RouteType::SourceActive as usize, item.field(1))
+    nlri::check_of_type(afi, RouteType::SOURCE_ACTIVE, item.field(1))
 }
 
 // That of each is; the first of them that is refused decides.

@@ -5,9 +5,9 @@ use Rattle.nlri.specs.Inner.{with_key}
 use Rattle.nlri.proofs.Functions.Leaves.{leaf-within, leaf-keyed, leaf-unkeyed}
 use Rattle.nlri.proofs.read.check_leaf_body.Goals as goal
 
-pub returns-in-Err : goal.returns-in-Err
+pub returns-in_default : goal.returns-in_default
 unfolding with_key either
-returns-in-Err c = leaf-unkeyed _ _ _ _ c.read_key.ensures refl _ c.in-Err.is
+returns-in_default c = leaf-unkeyed _ _ _ _ c.read_key.ensures refl _ c.in_default.is
 
 pub overflow_add-key : goal.overflow_add-key
 unfolding with_key either
@@ -18,6 +18,6 @@ check_originator-requires c =
     let h = leaf-within _ _ c.args.s.now _ c.read_key.ensures _ c.in-Ok.is in
     omega (arith, c.type_inv.s 1)
 
-pub returns-in-Ok : goal.returns-in-Ok
+pub returns : goal.returns
 unfolding with_key either
-returns-in-Ok c = c.check_originator.ensures _ _ _ refl ∙ leaf-keyed _ _ _ _ c.read_key.ensures _ c.in-Ok.is refl
+returns c = c.check_originator.ensures _ _ _ refl ∙ leaf-keyed _ _ _ _ c.read_key.ensures _ c.in-Ok.is refl

@@ -5,6 +5,10 @@ use Rattle.octets.proofs.Tests.{flags}
 use Rattle.nlri.specs.Inner.{s_pmsi_under}
 use Rattle.nlri.proofs.read.is_s_pmsi_under.Goals as goal
 
+pub returns-then-s-ne-S_PMSI : goal.returns-then-s-ne-S_PMSI
+unfolding s_pmsi_under
+returns-then-s-ne-S_PMSI c = search flags
+
 pub returns-then-s : goal.returns-then-s
 unfolding s_pmsi_under
 returns-then-s c = search flags
@@ -12,10 +16,6 @@ returns-then-s c = search flags
 pub returns-then-s-2 : goal.returns-then-s-2
 unfolding s_pmsi_under
 returns-then-s-2 c = search flags
-
-pub returns-then-s-3 : goal.returns-then-s-3
-unfolding s_pmsi_under
-returns-then-s-3 c = search flags
 
 pub returns : goal.returns
 unfolding s_pmsi_under

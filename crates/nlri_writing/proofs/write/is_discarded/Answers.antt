@@ -13,9 +13,9 @@ use Rattle.nlri_writing.proofs.Puts.{octets-taken}
 use borrow.Author.Rules.{rules}
 use Rattle.nlri_writing.proofs.write.is_discarded.Goals as goal
 
-pub returns-then-nlri : goal.returns-then-nlri
+pub returns-then-nlri-ne-SOURCE_ACTIVE : goal.returns-then-nlri-ne-SOURCE_ACTIVE
 unfolding is_discarded struct_fields
-returns-then-nlri c = sym (both_left _ _ (ne_eqb _ 5 c.if-nlri.true))
+returns-then-nlri-ne-SOURCE_ACTIVE c = sym (both_left _ _ (ne_eqb _ 5 c.if-nlri-ne-SOURCE_ACTIVE.true))
 
 pub slice_bounds-octets-end : goal.slice_bounds-octets-end
 slice_bounds-octets-end c =

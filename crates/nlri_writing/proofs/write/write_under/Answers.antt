@@ -25,25 +25,25 @@ returns-then-has_fec c =
     let a = c.args in
     wrote_as _ _ _ _ _ (fec-is a.kind.bits a.nlri a.key.now a.fec.now (length a.output.now) a.nlri.route_type (flag_true _ _ c.has_fec.ensures c.if-has_fec.true)) c.write_fec.ensures
 
-pub returns-then-route_type : goal.returns-then-route_type
+pub returns-then-route_type-gt-SOURCE_TREE_JOIN : goal.returns-then-route_type-gt-SOURCE_TREE_JOIN
 unfolding struct_fields
-returns-then-route_type c = wrote-err _ _ _ (type-refused _ _ _ (no-mldp _ (flag-false _ _ c.has_key.ensures c.if-has_key.false) (flag-false _ _ c.has_fec.ensures c.if-has_fec.false) c.if-route_type.true))
+returns-then-route_type-gt-SOURCE_TREE_JOIN c = wrote-err _ _ _ (type-refused _ _ _ (no-mldp _ (flag-false _ _ c.has_key.ensures c.if-has_key.false) (flag-false _ _ c.has_fec.ensures c.if-has_fec.false) c.if-route_type-gt-SOURCE_TREE_JOIN.true))
 
 pub write_flow-requires : goal.write_flow-requires
 write_flow-requires c = c.requires
 
-pub returns-then-route_type-2 : goal.returns-then-route_type-2
+pub returns-then-route_type-gt-INTER_AS_I_PMSI : goal.returns-then-route_type-gt-INTER_AS_I_PMSI
 unfolding struct_fields
-returns-then-route_type-2 c =
+returns-then-route_type-gt-INTER_AS_I_PMSI c =
     let a = c.args in
-    wrote_as _ _ _ _ _ (flow-is a.kind.bits a.nlri a.key.now a.fec.now (length a.output.now) a.nlri.route_type c.if-route_type-2.true c.if-route_type.false (not-leaf _ (flag-false _ _ c.has_key.ensures c.if-has_key.false))) c.write_flow.ensures
+    wrote_as _ _ _ _ _ (flow-is a.kind.bits a.nlri a.key.now a.fec.now (length a.output.now) a.nlri.route_type c.if-route_type-gt-INTER_AS_I_PMSI.true c.if-route_type-gt-SOURCE_TREE_JOIN.false (not-leaf _ (flag-false _ _ c.has_key.ensures c.if-has_key.false))) c.write_flow.ensures
 
-pub returns-then-route_type-3 : goal.returns-then-route_type-3
+pub returns-then-route_type-lt-INTRA_AS_I_PMSI : goal.returns-then-route_type-lt-INTRA_AS_I_PMSI
 unfolding struct_fields
-returns-then-route_type-3 c = wrote-err _ _ _ (type-refused _ _ _ (λ h. omega (arith, known-least _ h, c.if-route_type-3.true)))
+returns-then-route_type-lt-INTRA_AS_I_PMSI c = wrote-err _ _ _ (type-refused _ _ _ (λ h. omega (arith, known-least _ h, c.if-route_type-lt-INTRA_AS_I_PMSI.true)))
 
 pub returns : goal.returns
 unfolding struct_fields
 returns c =
     let a = c.args in
-    wrote_as _ _ _ _ _ (i-pmsi-is a.kind.bits a.nlri a.key.now a.fec.now (length a.output.now) a.nlri.route_type c.if-route_type-3.false c.if-route_type-2.false) c.write_i_pmsi.ensures
+    wrote_as _ _ _ _ _ (i-pmsi-is a.kind.bits a.nlri a.key.now a.fec.now (length a.output.now) a.nlri.route_type c.if-route_type-lt-INTRA_AS_I_PMSI.false c.if-route_type-gt-INTER_AS_I_PMSI.false) c.write_i_pmsi.ensures
