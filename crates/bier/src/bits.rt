@@ -1,6 +1,9 @@
-// Strings of 256 bits, in 32 octets: the bits of BFR-ids are set, and ones are counted.
-ghost use Rattle.std.specs.Prelude.{◌≡◌, ◌≤◌};
+// Strings of 256 bits, in 32 octets: the bits of BFR-ids are set, and ones are counted over words.
+ghost use Rattle.std.specs.Prelude.{◌≡◌, ◌+◌, ◌≤◌, length};
+ghost use Rattle.octets.specs.Octets.{part};
 ghost use Rattle.bier.specs.BitStrings.{is_of_set, with_bit, with_id, ones_of};
+
+use octets::wide;
 
 // The octets of a string.
 pub(crate) const OCTETS: usize = 32;
