@@ -17,6 +17,15 @@ pub enum RouteMark {
     Stale = 1,
 }
 
+impl RouteMark {
+    // The mark's octet in a place.
+    pub fn octet(self) -> u8
+        ensures { result ≡ mark_number self }
+    {
+        self as u8
+    }
+}
+
 // Every place becomes free; the header's octets stay.
 pub fn clear_places(table: &mut [u8])
     requires { 8 ≤ length table.old }
@@ -56,12 +65,12 @@ pub fn keep(table: &mut [u8], at: usize, to: usize)
 }
 
 // The place that starts at `at` kept at `to`, with this mark.
-pub fn keep_marked(table: &mut [u8], at: usize, to: usize, mark: RouteMark)
+pub fn keep_marked(table: &mut [u8], at: usize, to: usize, mark: u8)
     requires { (to ≤ at) × (at + 128 ≤ length table.old) }
-    ensures { table.new ≡ placed to (remarked (mark_number mark) (part table.old at 128)) table.old }
+    ensures { table.new ≡ placed to (remarked mark (part table.old at 128)) table.old }
 {
     keep(table, at, to);
-    table[to + MARK] = mark as u8;
+    table[to + MARK] = mark;
 }
 
 // The places that end at `to` are those taken; those behind them become free.

@@ -30,7 +30,7 @@ fn settle(table: &mut [u8], at: usize, to: usize, router: &[u8], mark: RouteMark
     if table[at + MARK] == RouteMark::Stale as u8 {
         return to;
     }
-    change::keep_marked(table, at, to, mark);
+    change::keep_marked(table, at, to, mark.octet());
     to + PLACE
 }
 

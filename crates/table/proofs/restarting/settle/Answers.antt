@@ -23,5 +23,5 @@ returns c =
     let both = settled-marked (mark_number a.mark) a.router.now a.table.now _ a.at a.to _
     c.nlri_from.ensures c.is_of.ensures
     c.if-not-is_of.false c.if-table-at.false _
-    c.keep_marked.ensures in
+    (rw c.octet.ensures at c.keep_marked.ensures) in
     record { value = both.0; table_after = both.1 }
