@@ -1,5 +1,6 @@
 -- What a match answers, case by case.
 use Prim.Native.Nat.{ℕ, ◌≤◌, ◌<◌}
+use native.Mathlib.Omega.{arith}
 use mathlib.Core.Path.{◌≡◌, refl, sym, ◌∙◌, ap}
 use mathlib.Core.Bool.{true, false}
 use mathlib.Core.List.{List}
@@ -11,7 +12,8 @@ use Rattle.octets.specs.declared.refusal.Refusal.{Refusal}
 use Rattle.octets.specs.Refusals.{refusal_number}
 use Rattle.routes.specs.declared.MatchedRoute.{MatchedRoute}
 use Rattle.octets.specs.Outcome.{Outcome, given, refused, on_outcome, and_then}
-use Rattle.octets.proofs.Choice.{pick_true, pick-false, picks, skips}
+use Rattle.octets.specs.Choice.{pick}
+use Rattle.octets.proofs.Choice.{pick_true, pick-false, picks, skips, tested}
 use Rattle.octets.proofs.Outcome.{and-goes-on, and-stops}
 use Rattle.groups.specs.Classes.{class_by}
 use Rattle.routes.specs.declared.Matched.{Matched}
@@ -22,10 +24,11 @@ use Rattle.routes.specs.Table.{afi_in, routes_of, sound_of}
 use Rattle.routes.specs.Matching.{Found, match_in}
 use Rattle.routes.specs.Answers.{empty_match, matched_by, matched_told}
 use Rattle.routes.specs.Calls.{match_outcome, match_of}
-use Rattle.matches.specs.Scanning.{open_tiers, sought_of, open_query, sized_fault}
+use Rattle.matches.specs.Scanning.{open_tiers, Sought, sought_of, sought_in, open_query, sized_fault, Taken, Asked as FlowAsked}
+use Rattle.matches.specs.declared.tier.Sought.{Sought as Given}
 use Rattle.octets.specs.Outputs.{Leaves}
 use Rattle.matches.specs.declared.tier.Tiers.{Tiers}
-use Rattle.matches.proofs.FlowClasses.{flow-unclassed, flow-missized, flow-taken}
+use Rattle.matches.proofs.FlowClasses.{flow-unclassed, flow-missized, flow-taken, flow-some}
 
 by-refusal : (o : Outcome Found) (n : ℕ) (output : List ℕ) (answer : Matched) → o ≡ refused n → answer ≡ empty_match n → Leaves (matched_by o output) answer output
 unfolding matched_by on_outcome
@@ -88,3 +91,34 @@ module _ (t : List ℕ) (flow : Flow) (is : sound_of t ≡ true) (afi : ℕ) (bi
       unfolding read_asked read_match open_query
       answers-search h tiers shows answer left a =
           match-searched t (of_flow flow) output answer is _ (sym (and-goes-on _ _ _ _ (flow-taken (afi_in t) flow class classed-its sized) (skips _ _ _ _ (le-ltb _ _ h) refl))) left (rw shows at a)
+
+-- a memory that is tested: no table where there is a refusal
+module _ (t : List ℕ) (n : ℕ) (told : n ≡ pick (sound_of t) DONE TABLE) where
+  pub told-sound : n ≡ DONE → sound_of t ≡ true
+  told-sound none = tested (sound_of t) (λ is. is) (λ fails. let z : TABLE ≡ DONE = sym (pick-false _ _ _ fails) ∙ sym told ∙ none in absurd (omega arith))
+
+  pub told-unsound : (n ≡ DONE → ⊥) → (asked : Asked) (output : List ℕ) (answer : Matched) → answer ≡ empty_match n → Leaves (match_of t asked output) answer output
+  told-unsound some asked output answer a =
+      tested (sound_of t) (λ is. absurd (some (told ∙ pick_true _ _ _ is))) (λ fails. match-unsound t asked output answer fails (a ∙ ap empty_match (told ∙ pick-false _ _ _ fails)))
+
+-- what asking by a flow tells, by a refusal that is handed on
+pub asked-refused : (t : List ℕ) (flow : Flow) (room : ℕ) (result : Result Given Refusal) (r : Refusal) → IsErrAnd result (λ x. x ≡ r)
+    → ((output : List ℕ) → length output ≡ room → Leaves (match_of t (of_flow flow) output) (empty_match (refusal_number r)) output) → FlowAsked t flow room result
+asked-refused t flow room (Ok sought) r h f = absurd h
+asked-refused t flow room (Err x) r h f = λ output l. rw (ap refusal_number h) (f output l)
+
+-- what is sought can be searched for
+module _ (t : List ℕ) (flow : Flow) (room : ℕ) (sought : Given) (taken : Taken t flow room sought) where
+  pub taken-some : (0 < length sought.source.now) × (0 < length sought.group.now) × (4 ≤ length sought.router.now)
+  taken-some =
+      let some = flow-some (afi_in t) flow.prefixes flow.group taken.class taken.classed _ _ taken.sized in
+      let r : length sought.router.now ≡ length flow.router = ap (λ (s : Sought). length s.router) taken.its in
+      let s : length sought.source.now ≡ length flow.source = ap (λ (s : Sought). length s.source) taken.its in
+      let g : length sought.group.now ≡ length flow.group = ap (λ (s : Sought). length s.group) taken.its in
+      (omega (arith, some.0), omega (arith, some.1), omega (arith, some.2))
+
+  -- the search gives the answer
+  pub taken-search : (output : List ℕ) → length output ≡ room → (answer : Matched) (left : List ℕ)
+      → Leaves (matched_by (given (match_in (afi_in t) (open_query (sought_in sought) sought.tiers) (routes_of t))) output) answer left → Leaves (match_of t (of_flow flow) output) answer left
+  taken-search output l answer left a =
+      answers-search t flow taken.sound (afi_in t) refl output taken.class taken.classed taken.sized (omega (arith, taken.roomy)) sought.tiers taken.opens answer left (rw taken.its at a)

@@ -1,7 +1,16 @@
 -- Definitions that mirror the functions of the scan; laws tie them to those of `routes`.
-use Rattle.std.specs.Prelude.{ℕ, zero, suc, ◌+◌, ◌≤◌, Bool, true, false, List, Option, None, Some, ltb, eqb, length}
+use Rattle.std.specs.Prelude.{ℕ, zero, suc, ◌+◌, ◌≤◌, ◌≡◌, Bool, true, false, List, [], ◌∷◌, Result, Ok, Err, Option, None, Some, ltb, eqb, length}
 use Rattle.octets.specs.Numbers.{DONE, FLOW}
 use Rattle.octets.specs.Choice.{pick, both, either}
+use Rattle.octets.specs.Outcome.{given}
+use Rattle.octets.specs.Outputs.{Leaves}
+use Rattle.octets.specs.declared.refusal.Refusal.{Refusal}
+use Rattle.octets.specs.Refusals.{refusal_number}
+use Rattle.groups.specs.Classes.{class_by}
+use Rattle.routes.specs.Table.{afi_in, sound_of}
+use Rattle.routes.specs.Asked.{of_flow}
+use Rattle.routes.specs.Calls.{match_of}
+use Rattle.routes.specs.Reasons.{reason_of}
 use Rattle.octets.specs.Octets.{part}
 use Rattle.octets.specs.Order.{same, before}
 use Rattle.nlri.specs.Fields.{Fields}
@@ -14,7 +23,7 @@ use Rattle.matches.specs.declared.flow.Flow.{Flow as GivenFlow}
 use Rattle.matches.specs.declared.scan.Best.{Best}
 use Rattle.routes.specs.declared.Tier.{Tier}
 use Rattle.routes.specs.declared.Tier.TheVariants.{Exact, AnyGroup, AnySource, Any}
-use Rattle.routes.specs.Answers.{tier_number}
+use Rattle.routes.specs.Answers.{tier_number, empty_match}
 use Rattle.matches.specs.declared.tier.Sought.{Sought as Given}
 use Rattle.matches.specs.declared.tier.Tiers.{Tiers}
 use Rattle.nlri.specs.Standing.{standing}
@@ -46,11 +55,11 @@ sought_of router source group = record { router = router; source = source; group
 
 -- by what a function is given
 abbrev pub sought_in : Given → Sought
-sought_in given = sought_of given.router.now given.source.now given.group.now
+sought_in sought = sought_of sought.router.now sought.source.now sought.group.now
 
 -- a flow by its octets
 abbrev pub flow_in : GivenFlow → Flow
-flow_in given = flow_of given.prefixes.now given.router.now given.source.now given.group.now
+flow_in flow = flow_of flow.prefixes.now flow.router.now flow.source.now flow.group.now
 
 -- what a match asks where these tiers are open
 unfoldable pub open_query : Sought → Tiers → Query
@@ -131,3 +140,22 @@ sized_fault number router source group =
     (pick (eqb source group) DONE FLOW)
     FLOW)
     number
+
+-- what is sought once no argument is refused: the flow's octets, by the tiers of its group's class
+pub record Taken (t : List ℕ) (flow : Flow) (room : ℕ) (sought : Given) : Type 0 where
+  pub class : ℕ
+  pub sound : sound_of t ≡ true
+  pub classed : given class ≡ class_by (afi_in t) flow.prefixes flow.group
+  pub sized : DONE ≡ sized_fault DONE (length flow.router) (length flow.source) (length flow.group)
+  pub roomy : 124 ≤ room
+  pub its : sought_in sought ≡ sought_of flow.router flow.source flow.group
+  pub opens : sought.tiers ≡ open_tiers class
+
+-- what asking by a flow tells, where the output has so many octets: what is sought, or the refusal that its match answers
+abbrev pub Asked : (t : List ℕ) → Flow → (room : ℕ) → Result Given Refusal → Type 0
+Asked t flow room (Ok sought) = Taken t flow room sought
+Asked t flow room (Err refusal) = (output : List ℕ) → length output ≡ room → Leaves (match_of t (of_flow flow) output) (empty_match (refusal_number refusal)) output
+
+-- the reasons of the four tiers in turn, by those that are open
+abbrev pub reasons_by : (won : ℕ) → Tiers → List ℕ
+reasons_by won tiers = reason_of won 1 tiers.exact ∷ (reason_of won 2 tiers.any_group ∷ (reason_of won 3 tiers.any_source ∷ (reason_of won 4 tiers.any ∷ [])))

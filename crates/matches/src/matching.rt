@@ -8,7 +8,7 @@ ghost use Rattle.routes.specs.Query.{flow_of};
 ghost use Rattle.routes.specs.Asked.{of_flow};
 ghost use Rattle.octets.specs.Outcome.{given};
 ghost use Rattle.octets.specs.Outputs.{Leaves};
-ghost use Rattle.matches.specs.Scanning.{flow_in, sought_in, open_query};
+ghost use Rattle.matches.specs.Scanning.{flow_in, sought_in, open_query, Asked};
 
 use crate::flow::Flow;
 use crate::tier::{Sought, Tiers};
@@ -30,26 +30,30 @@ pub(crate) fn search(table: &[u8], sought: &Sought<'_>, output: &mut [u8]) -> Op
     answer::answer(places, best, output)
 }
 
-// RANGE, SHORT, FLOW, SPACE, then the search.
-fn match_sound(
-    table: &[u8],
-    flow: &Flow<'_>,
-    output: &mut [u8],
-) -> Result<Option<MatchedRoute>, Refusal>
-    requires { sound_of table.now ≡ true }
-    ensures { Leaves (match_of table.now (of_flow (flow_in flow.now)) output.old) (matched_told result) output.new }
+// TABLE, RANGE, SHORT, FLOW, SPACE, or what the flow's match looks for. The hint puts it into both calls that ask by a flow.
+#[inline(always)]
+pub(crate) fn ask<'a>(table: &[u8], flow: &Flow<'a>, room: usize) -> Result<Sought<'a>, Refusal>
+    ensures { Asked table.now (flow_in flow.now) room result }
 {
+    sound::check(table)?;
     let class = groups::group_class(header::afi_of(table), flow.prefixes, flow.group)?;
     flow::check_sizes(flow.router.len(), flow.source.len(), flow.group.len())?;
-    if output.len() < LEAST_OUTPUT {
+    if room < LEAST_OUTPUT {
         return Err(Refusal::Space);
     }
-    let sought = Sought {
+    Ok(Sought {
         router: flow.router,
         source: flow.source,
         group: flow.group,
         tiers: Tiers::of_class(class as u32),
-    };
+    })
+}
+
+// What is asked, then the search.
+fn find(table: &[u8], flow: &Flow<'_>, output: &mut [u8]) -> Result<Option<MatchedRoute>, Refusal>
+    ensures { Leaves (match_of table.now (of_flow (flow_in flow.now)) output.old) (matched_told result) output.new }
+{
+    let sought = ask(table, flow, output.len())?;
     Ok(search(table, &sought, output))
 }
 
@@ -64,14 +68,11 @@ pub fn match_flow(
 ) -> Matched
     ensures { Leaves (match_of table.now (of_flow (flow_of prefixes.now router.now source.now group.now)) output.old) result output.new }
 {
-    if !sound::is_sound(table) {
-        return Matched::from(Err(Refusal::Table));
-    }
     let flow = Flow {
         prefixes,
         router,
         source,
         group,
     };
-    Matched::from(match_sound(table, &flow, output))
+    Matched::from(find(table, &flow, output))
 }

@@ -1,9 +1,8 @@
 // The call that finds the route that a shared tree (C-*,C-G) takes from the PE asked (RFC 6625, section 3.2.2).
-ghost use Rattle.std.specs.Prelude.{◌≡◌, true, ℕ, List, length};
+ghost use Rattle.std.specs.Prelude.{◌≡◌, ℕ, List, length};
 ghost use Rattle.octets.specs.Numbers.{DONE};
 ghost use Rattle.nlri.specs.Groups.{class_number};
 ghost use Rattle.lists.specs.LentLists.{list_items};
-ghost use Rattle.routes.specs.Table.{sound_of};
 ghost use Rattle.routes.specs.Answers.{matched_told};
 ghost use Rattle.routes.specs.SharedTree.{source_active_fault, tree_open};
 ghost use Rattle.routes.specs.Asked.{of_shared_tree};
@@ -40,8 +39,8 @@ fn open_tiers(
     Tiers::of_tree(shared_trees::is_eligible(router, group, facts, source_actives, states))
 }
 
-// The refusals between TABLE and SPACE, SPACE, then the search. Tiers 1 and 2 are closed, so that the group serves as source.
-fn match_sound_shared(
+// TABLE, the refusals between it and SPACE, SPACE, then the search. Tiers 1 and 2 are closed, so that the group serves as source.
+fn find_shared(
     table: &[u8],
     prefixes: &[u8],
     router: &[u8],
@@ -51,9 +50,9 @@ fn match_sound_shared(
     states: &[u8],
     output: &mut [u8],
 ) -> Result<Option<MatchedRoute>, Refusal>
-    requires { sound_of table.now ≡ true }
     ensures { Leaves (match_of table.now (of_shared_tree (tree_of prefixes.now router.now group.now facts source_actives.now states.now)) output.old) (matched_told result) output.new }
 {
+    sound::check(table)?;
     let class = shared_trees::tree_class(
         header::afi_of(table),
         prefixes,
@@ -88,10 +87,7 @@ pub fn match_shared(
 ) -> Matched
     ensures { Leaves (match_of table.now (of_shared_tree (tree_of prefixes.now router.now group.now facts source_actives.now states.now)) output.old) result output.new }
 {
-    if !sound::is_sound(table) {
-        return Matched::from(Err(Refusal::Table));
-    }
-    Matched::from(match_sound_shared(
+    Matched::from(find_shared(
         table,
         prefixes,
         router,

@@ -1,12 +1,16 @@
 // Whether lent memory is a sound table (document 01, "The table memory").
 ghost use Rattle.std.specs.Prelude.{◌≡◌, [], ◌+◌, ◌*◌, ◌≤◌, ◌<◌, length, get_or, drop};
+ghost use Rattle.octets.specs.Choice.{pick};
+ghost use Rattle.octets.specs.Numbers.{DONE, TABLE};
 ghost use Rattle.octets.specs.Order.{all_zero};
+ghost use Rattle.octets.specs.Refusals.{result_number};
 ghost use Rattle.routes.specs.Place.{place_sound};
 ghost use Rattle.routes.specs.Table.{table_size, places_sound, sound_of};
 ghost use Rattle.places.specs.Passing.{rises_at};
 
 use crate::geometry::{ATTRIBUTE_SIZE, HEADER, MARK, MOST_PLACES, NLRI_SIZE, PLACE, ROUTE};
 use crate::{header, judge};
+use octets::refusal::Refusal;
 
 // The octets that are compared at once, as one number.
 const WORD: usize = 8;
@@ -158,4 +162,15 @@ pub fn is_sound(table: &[u8]) -> bool
         return false;
     }
     are_places_sound(header::afi_of(table), count, table)
+}
+
+// TABLE, of memory that is no sound table.
+#[tactic(auto, using(octets::proofs::Tests::flags))]
+pub fn check(table: &[u8]) -> Result<(), Refusal>
+    ensures { result_number result ≡ pick (sound_of table.now) DONE TABLE }
+{
+    if !is_sound(table) {
+        return Err(Refusal::Table);
+    }
+    Ok(())
 }
