@@ -1,29 +1,28 @@
 // The table memory's header: "MVT", version, AFI and count, big-endian (document 01, "The table memory").
 ghost use Rattle.std.specs.Prelude.{◌≡◌, ◌++◌, ◌≤◌, ◌<◌, length, drop, eqb};
 ghost use Rattle.octets.specs.Choice.{either};
-ghost use Rattle.routes.specs.Table.{header_of, header_sound, afi_in, count_in, places_in};
+ghost use Rattle.routes.specs.Table.{header_start, header_of, header_sound, afi_in, count_in, places_in};
 
 use crate::geometry::{AFI, COUNT, HEADER, PLACE};
 use nlri::AddressFamily;
 
 const VERSION: u8 = 1;
 
-// Writes the header; the places stay as they are.
+// The header before the count, by the AFI's octet.
+#[tactic(auto, unfolding(routes::specs::Table::header_start))]
+fn start_of(afi: u8) -> [u8; COUNT]
+    ensures { result ≡ header_start afi }
+{
+    [b'M', b'V', b'T', 0, VERSION, afi]
+}
+
+// Writes the header, the count as the last two octets of its number; the places stay as they are.
 pub fn write_header(afi: u16, count: usize, table: &mut [u8])
     requires { (afi < 256) × (8 ≤ length table.old) }
     ensures { table.new ≡ header_of afi count ++ drop 8 table.old }
 {
-    let header = [
-        b'M',
-        b'V',
-        b'T',
-        0,
-        VERSION,
-        afi as u8,
-        (count / 256 % 256) as u8,
-        (count % 256) as u8,
-    ];
-    octets::parts::place(&header, table, 0);
+    octets::parts::place(&start_of(afi as u8), table, 0);
+    octets::parts::place(&count.to_be_bytes()[6..], table, COUNT);
 }
 
 // An AFI that a table can have: 1 or 2.
@@ -38,11 +37,9 @@ pub(crate) fn is_header_sound(table: &[u8]) -> bool
     requires { 8 ≤ length table.now }
     ensures { result ≡ header_sound table.now }
 {
-    let start = [b'M', b'V', b'T', 0, VERSION, table[AFI]];
-    if !octets::order::is_same(octets::parts::between(table, 0, COUNT), &start) {
-        return false;
-    }
-    is_family(table[AFI] as u16)
+    let start = start_of(table[AFI]);
+    octets::order::is_same(octets::parts::between(table, 0, COUNT), &start)
+        && is_family(table[AFI] as u16)
 }
 
 // The AFI in the header.
