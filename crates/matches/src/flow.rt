@@ -21,11 +21,8 @@ pub(crate) struct Flow<'a> {
 pub fn check_sizes(router: usize, source: usize, group: usize) -> Result<(), Refusal>
     ensures { result_number result ≡ sized_fault DONE router source group }
 {
-    if !nlri::is_originator_size(router) {
-        return Err(Refusal::Flow);
+    if nlri::is_originator_size(router) && source == group {
+        return Ok(());
     }
-    if source != group {
-        return Err(Refusal::Flow);
-    }
-    Ok(())
+    Err(Refusal::Flow)
 }

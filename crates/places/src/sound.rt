@@ -27,13 +27,7 @@ const SMALL_BLOCK: usize = 16;
 pub fn is_table_size(size: usize) -> bool
     ensures { result ≡ table_size size }
 {
-    if size < HEADER {
-        return false;
-    }
-    if (size - HEADER) % PLACE != 0 {
-        return false;
-    }
-    (size - HEADER) / PLACE <= MOST_PLACES
+    HEADER <= size && (size - HEADER) % PLACE == 0 && (size - HEADER) / PLACE <= MOST_PLACES
 }
 
 // The octets from `end` on are zeros, of a place without its mark, by two blocks of one size: its last octets and those that follow the
@@ -122,10 +116,8 @@ fn is_rest_zero(table: &[u8], at: usize) -> bool
     if table.len() - at < WORD {
         return octets::order::is_zero(octets::parts::after(table, at));
     }
-    if !octets::order::is_zero(octets::parts::after(table, at + WORD)) {
-        return false;
-    }
-    octets::wide::eight_low_first(table, at) == 0
+    octets::order::is_zero(octets::parts::after(table, at + WORD))
+        && octets::wide::eight_low_first(table, at) == 0
 }
 
 // The first `count` places are sound, their NLRIs strictly increase, and everything after them is zero.
