@@ -1,25 +1,21 @@
 -- What an explanation answers, case by case: as a match, with its reasons.
-use Prim.Native.Nat.{ℕ, ◌≤◌, ◌<◌}
-use mathlib.Core.Path.{◌≡◌, refl, sym, ◌∙◌, ap}
-use mathlib.Core.Bool.{true, false}
+use Prim.Native.Nat.{ℕ}
+use mathlib.Core.Path.{◌≡◌, sym, ◌∙◌, ap}
 use mathlib.Core.List.{List}
-use native.Mathlib.Omega.{arith}
 use borrow.Author.Tests.{eq-eqb, ne_eqb}
 use lib.ListN.{length}
 use Rattle.std.proofs.Common.{Result, Ok, Err, IsErrAnd}
-use Rattle.octets.specs.Numbers.{DONE, TABLE, SPACE}
 use Rattle.octets.specs.declared.refusal.Refusal.{Refusal}
 use Rattle.octets.specs.Refusals.{refusal_number}
 use Rattle.routes.specs.declared.Explanation.{Explanation}
-use Rattle.octets.specs.Outcome.{given, refused, on_outcome}
+use Rattle.octets.specs.Outcome.{given, on_outcome}
 use Rattle.octets.proofs.Choice.{pick_true, pick-false}
 use Rattle.nlri.specs.Groups.{group_of}
-use Rattle.groups.specs.Classes.{class_by}
 use Rattle.routes.specs.declared.Matched.{Matched}
 use Rattle.routes.specs.declared.Explained.{Explained}
 use Rattle.routes.specs.Query.{Flow}
 use Rattle.routes.specs.Asked.{of_flow}
-use Rattle.routes.specs.Table.{afi_in, routes_of, sound_of}
+use Rattle.routes.specs.Table.{afi_in, routes_of}
 use Rattle.routes.specs.Matching.{match_in}
 use Rattle.routes.specs.Answers.{empty_match, matched_by}
 use Rattle.routes.specs.Calls.{match_of}
@@ -28,7 +24,6 @@ use Rattle.routes.proofs.Statements.MatchRule.{found_number}
 use Rattle.matches.specs.Scanning.{open_tiers, sought_in, open_query, reasons_by, Taken}
 use Rattle.matches.specs.declared.tier.Sought.{Sought as Given}
 use Rattle.octets.specs.Outputs.{Leaves}
-use Rattle.matches.specs.declared.tier.Tiers.{Tiers}
 use Rattle.matches.proofs.Matches.{taken-search}
 
 module _ (t : List ℕ) (flow : Flow) (output : List ℕ) where

@@ -10,7 +10,6 @@ use Rattle.octets.specs.Choice.{pick}
 use Rattle.octets.specs.Outcome.{given, refused}
 use Rattle.octets.proofs.Choice.{picks, skips, both_left, both-last}
 use Rattle.octets.proofs.Outcome.{and-goes-on, and-stops}
-use Rattle.std.proofs.Common.{not}
 use denote.Enum.Bare.{sameb}
 use Rattle.nlri.specs.declared.group.GroupClass.{GroupClass}
 use Rattle.nlri.specs.declared.group.GroupClass.TheVariants.{Asm, Ssm}
@@ -36,11 +35,11 @@ unfolding tree_query open_query tiers_of pick
 tree-query afi tree class = refl
 
 -- the tiers, by the branches of the function that opens them
-pub tiers-closed : (afi : ℕ) (tree : SharedTree) (class : GroupClass) (tiers : Tiers) → not (sameb the_class class Asm) ≡ true → tiers ≡ tree_tiers false → tiers ≡ tree_tiers (tree_open afi tree (class_number class))
+pub tiers-closed : (afi : ℕ) (tree : SharedTree) (class : GroupClass) (tiers : Tiers) → sameb the_class class Asm ≡ false → tiers ≡ tree_tiers false → tiers ≡ tree_tiers (tree_open afi tree (class_number class))
 tiers-closed afi tree Asm tiers h e = cc
 tiers-closed afi tree Ssm tiers h e = e ∙ ap tree_tiers (sym (both_left _ _ refl))
 
-pub tiers-open : (afi : ℕ) (tree : SharedTree) (class : GroupClass) (tiers : Tiers) → not (sameb the_class class Asm) ≡ false → (eligible : Bool) → eligible ≡ condition_holds afi tree → tiers ≡ tree_tiers eligible
+pub tiers-open : (afi : ℕ) (tree : SharedTree) (class : GroupClass) (tiers : Tiers) → sameb the_class class Asm ≡ true → (eligible : Bool) → eligible ≡ condition_holds afi tree → tiers ≡ tree_tiers eligible
     → tiers ≡ tree_tiers (tree_open afi tree (class_number class))
 tiers-open afi tree Asm tiers h eligible q e = e ∙ ap tree_tiers (both-last _ _ _ refl q)
 tiers-open afi tree Ssm tiers h eligible q e = cc

@@ -33,10 +33,9 @@ fn open_tiers(
     requires { ListsJudged (length group.now) source_actives.now states.now }
     ensures { (afi : ℕ) (prefixes : List ℕ) → source_active_fault afi (list_items 2 source_actives.now) ≡ DONE → result ≡ tree_tiers (tree_open afi (tree_of prefixes router.now group.now facts source_actives.now states.now) (class_number class)) }
 {
-    if class != GroupClass::Asm {
-        return Tiers::of_tree(false);
-    }
-    Tiers::of_tree(shared_trees::is_eligible(router, group, facts, source_actives, states))
+    let is_open = class == GroupClass::Asm
+        && shared_trees::is_eligible(router, group, facts, source_actives, states);
+    Tiers::of_tree(is_open)
 }
 
 // TABLE, the refusals between it and SPACE, SPACE, then the search. Tiers 1 and 2 are closed, so that the group serves as source.

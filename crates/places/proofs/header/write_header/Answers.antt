@@ -1,9 +1,8 @@
 -- `places::header::write_header` meets its contract: what it places is the header's octets.
-use Rattle.std.proofs.Common.{List, ℕ, ◌≡◌, ◌++◌, ◌/◌, ap, ◌∙◌}
+use Rattle.std.proofs.Common.{List, ℕ, ◌≡◌, ◌++◌, ap, ◌∙◌}
 use lib.Seq.{drop-drop}
 use lib.ListN.{take, drop}
 use Rattle.std.specs.Int.{w64, to_be_bytes}
-use native.Mathlib.Omega.{arith}
 use Rattle.octets.specs.Octets.{placed, big_endian}
 use Rattle.routes.specs.Table.{header_start, header_of}
 use Rattle.places.proofs.header.write_header.Goals as goal
