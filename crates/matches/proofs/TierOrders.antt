@@ -1,17 +1,13 @@
 -- The derived order of tiers is that of their numbers; a tier's reason by it.
-use Rattle.std.proofs.Common.{ℕ, Bool, true, false, not, refl, ◌≡◌, is_lt, int_cmp, [], ◌∷◌, Option, None, Some, Ok}
+use Rattle.std.proofs.Common.{Bool, true, false, not, refl, ◌≡◌, is_lt, int_cmp, [], ◌∷◌, Option, None, Some, Ok}
 use lib.IntN.{ℤ, pos}
 use lib.ListN.{get_or}
 use lib.Dec.{ltb, eqb}
 use denote.Enum.Bare.{sameb}
 use denote.Enum.Declared.{tag_of}
 use Rattle.octets.specs.Choice.{pick, both, either}
-use Rattle.nlri.specs.declared.group.GroupClass.{GroupClass}
-use Rattle.nlri.specs.declared.group.GroupClass.TheVariants.{Asm, Ssm}
-use Rattle.nlri.specs.contracts.group.GroupClass.{the_type as the_class}
-use Rattle.nlri.specs.Groups.{ASM, SSM, class_number}
 use Rattle.routes.specs.declared.MatchedRoute.{MatchedRoute}
-use Rattle.routes.specs.Reasons.{TAKEN, NO_SUCH_ROUTE, WRONG_GROUP_CLASS, EARLIER_TIER_WON, reason_of, reasons_of}
+use Rattle.routes.specs.Reasons.{TAKEN, NO_SUCH_ROUTE, WRONG_GROUP_CLASS, EARLIER_TIER_WON, reason_of}
 use Rattle.routes.specs.contracts.Tier.{the_type}
 use Rattle.routes.specs.declared.Tier.{Tier}
 use Rattle.routes.specs.declared.Tier.TheVariants.{Exact, AnyGroup, AnySource, Any}
@@ -141,18 +137,3 @@ module _ (route : Option MatchedRoute) (tier : Tier) (allowed : Bool) where
 
       pub reason-later : is_lt (int_cmp (rank taken.tier) (rank tier)) ≡ false → pick allowed NO_SUCH_ROUTE WRONG_GROUP_CLASS ≡ reason_of (matched_told (Ok route)).tier (tier_number tier) allowed
       reason-later more = rw some (later-won taken.tier tier allowed other more)
-
--- a class is one of the two, by its number
-ssm-number : (class : GroupClass) → sameb the_class class Ssm ≡ eqb (class_number class) SSM
-ssm-number Asm = refl
-ssm-number Ssm = refl
-
-asm-number : (class : GroupClass) → sameb the_class class Asm ≡ eqb (class_number class) ASM
-asm-number Asm = refl
-asm-number Ssm = refl
-
--- the reasons of the four tiers, the second and the third by tests of the class
-pub reasons-told : (won : ℕ) (class : GroupClass) (ssm asm : Bool) (a b c d : ℕ) → ssm ≡ sameb the_class class Ssm → asm ≡ sameb the_class class Asm
-    → a ≡ reason_of won 1 true → b ≡ reason_of won 2 ssm → c ≡ reason_of won 3 asm → d ≡ reason_of won 4 true → a ∷ (b ∷ (c ∷ (d ∷ []))) ≡ reasons_of won (class_number class)
-unfolding reasons_of
-reasons-told won class ssm asm a b c d s m p q r t = rw (p, q, r, t, s, m, ssm-number class, asm-number class)
