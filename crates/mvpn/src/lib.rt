@@ -3,7 +3,6 @@
 
 ghost use Rattle.std.specs.Prelude.{◌≡◌, ◌+◌, ◌*◌, length};
 ghost use Rattle.octets.specs.Outputs.{Wrote, Leaves};
-ghost use Rattle.octets.specs.Refusals.{outcome_in};
 ghost use Rattle.nlri.specs.Reading.{read_nlri};
 ghost use Rattle.nlri.specs.Writing.{write_nlri};
 ghost use Rattle.runs.specs.Walking.{step_taken_of, step_from, refused_at};
@@ -24,7 +23,7 @@ ghost use Rattle.bier.specs.BierString.{egress_of};
 ghost use Rattle.shared_trees.specs.Tree.{tree_of};
 ghost use Rattle.plan.specs.Flows.{vrf_of};
 ghost use Rattle.plan.specs.Calls.{judge_of, plan_of};
-ghost use Rattle.mvpn.specs.Answers.{step_answer, attribute_answer};
+ghost use Rattle.mvpn.specs.Answers.{step_answer, attribute_given, attribute_refused, attribute_answer};
 
 use bier::Egress;
 use nlri::{Group, Layout, Nlri, NlriReading};
@@ -62,6 +61,7 @@ impl Stepped {
     }
 
     // A step from a cursor.
+    #[inline(always)]
     fn new(step: Result<Option<Step>, Refusal>, cursor: usize) -> Stepped
         ensures { result ≡ step_answer (step_taken_of step cursor) }
     {
@@ -94,32 +94,38 @@ pub struct AttributeReading {
     pub fec: Fec,
 }
 
-#[tactic(auto, unfolding(crate::specs::Answers::attribute_answer, octets::specs::Outcome::on_outcome))]
-impl From<Result<Attribute, Refusal>> for AttributeReading {
-    ghost from_gives = { λ attribute reading. reading ≡ attribute_answer (outcome_in attribute) };
+impl AttributeReading {
+    // An attribute that was read.
+    fn read(fields: Attribute) -> AttributeReading
+        ensures { result ≡ attribute_given fields }
+    {
+        let identifier = fields.identifier;
+        let fec = fields.fec;
+        AttributeReading {
+            number: DONE,
+            flags: fields.flags,
+            tunnel_type: fields.tunnel_type,
+            label_field: fields.label_field,
+            label: fields.label,
+            leaf_information_required: fields.leaf_information_required,
+            identifier,
+            fec,
+        }
+    }
 
-    fn from(attribute: Result<Attribute, Refusal>) -> AttributeReading {
-        match attribute {
-            Ok(fields) => AttributeReading {
-                number: DONE,
-                flags: fields.flags,
-                tunnel_type: fields.tunnel_type,
-                label_field: fields.label_field,
-                label: fields.label,
-                leaf_information_required: fields.leaf_information_required,
-                identifier: fields.identifier,
-                fec: fields.fec,
-            },
-            Err(refusal) => AttributeReading {
-                number: refusal.number(),
-                flags: 0,
-                tunnel_type: 0,
-                label_field: 0,
-                label: 0,
-                leaf_information_required: 0,
-                identifier: Span { start: 0, size: 0 },
-                fec: Fec::none(),
-            },
+    // An attribute that was refused.
+    fn refused(number: u32) -> AttributeReading
+        ensures { result ≡ attribute_refused number }
+    {
+        AttributeReading {
+            number,
+            flags: 0,
+            tunnel_type: 0,
+            label_field: 0,
+            label: 0,
+            leaf_information_required: 0,
+            identifier: Span { start: 0, size: 0 },
+            fec: Fec::none(),
         }
     }
 }
@@ -212,7 +218,10 @@ pub extern "C" fn mvpn_group_class(afi: u16, prefixes: &[u8], group: &[u8]) -> G
 pub extern "C" fn mvpn_attribute_read(attribute: &[u8]) -> AttributeReading
     ensures { result ≡ attribute_answer (read_struct attribute.now) }
 {
-    AttributeReading::from(tunnel::read(attribute))
+    match tunnel::read(attribute) {
+        Ok(fields) => return AttributeReading::read(fields),
+        Err(refusal) => return AttributeReading::refused(refusal.number()),
+    }
 }
 
 // Writes a PMSI Tunnel attribute at the front of the output.

@@ -1,14 +1,38 @@
 -- Laws of copies in blocks.
-use Prim.Native.Nat.{ℕ, ◌+◌, ◌-◌, ◌≤◌}
-use mathlib.Core.Path.{◌≡◌, sym, ap, ap₂, ◌∙◌}
-use mathlib.Core.List.{List, ◌++◌, append_assoc}
-use native.Mathlib.Nat.{zero-add}
+use Prim.Native.Nat.{ℕ, zero, suc, ◌+◌, ◌-◌, ◌≤◌}
+use mathlib.Core.Path.{◌≡◌, refl, sym, ap, ap₂, ◌∙◌}
+use mathlib.Core.List.{List, [], ◌∷◌, ◌++◌, append_assoc}
+use native.Mathlib.Nat.{add-zero, zero-add}
 use native.Mathlib.Omega.{arith}
-use lib.ListN.{length, take, drop, length-append}
-use lib.Seq.{drop-drop, length-take-le, take_all, take_at, drop_at}
+use lib.ListN.{length, get_or, take, drop, length-append}
+use lib.Seq.{drop-cons, drop-drop, length-take-le, take_all, take_at, drop_at}
 use Rattle.octets.specs.Octets.{part, placed}
 use Rattle.octets.proofs.Outputs.{put-none}
 use Rattle.octets.proofs.Lists.{placed-placed, placed-then, length-placed, length_part, part_then}
+
+-- n octets of s, each by itself, of which the first stands at k + i
+abbrev octets_from : (s : List ℕ) (k i n : ℕ) → List ℕ
+octets_from s k i zero = []
+octets_from s k i (suc n) = get_or s (k + i) 0 ∷ octets_from s k (suc i) n
+
+part-octets : (s : List ℕ) (k i n : ℕ) → k + i + n ≤ length s → octets_from s k i n ≡ part s (k + i) n
+unfolding part
+part-octets s k i zero h = refl
+part-octets s k i (suc n) h =
+    let e : k + suc i ≡ suc (k + i) = omega arith in
+    rw (drop-cons s (k + i) 0 (omega arith), part-octets s k (suc i) n (omega arith), e)
+
+-- a part as an array of its octets
+pub part-array : (s : List ℕ) (k n : ℕ) → k + suc n ≤ length s → get_or s k 0 ∷ octets_from s k 1 n ≡ part s k (suc n)
+part-array s k n h = ap (λ (j : ℕ). get_or s j 0 ∷ octets_from s k 1 n) (sym (add-zero k)) ∙ part-octets s k 0 (suc n) (omega arith) ∙ ap (λ (j : ℕ). part s j (suc n)) (add-zero k)
+
+-- a part in two blocks, one straight after the other, as two calls leave them
+pub placed-blocks : (s d y z : List ℕ) (k at m n : ℕ) → y ≡ placed at (part s k m) d → z ≡ placed (at + m) (part s (k + m) m) y → n ≡ m + m → k + n ≤ length s → at + n ≤ length d
+    → z ≡ placed at (part s k n) d
+placed-blocks s d y z k at m n p q e h r =
+    let l : length (part s k m) ≡ m = length_part s k m (omega arith) in
+    let l' : length (part s (k + m) m) ≡ m = length_part s (k + m) m (omega arith) in
+    rw (e, part_then s k m m) (placed-then at (at + m) (part s k m) (part s (k + m) m) d y z (omega arith) (omega arith) p q)
 
 -- what is written over is gone
 placed-over : (at : ℕ) (e f d : List ℕ) → length e ≤ length f → at + length f ≤ length d → placed at f (placed at e d) ≡ placed at f d

@@ -1,0 +1,7 @@
+-- `octets::blocks::place_32` meets its contract.
+use Rattle.octets.proofs.Copies.{placed-blocks}
+use borrow.Author.Rules.{rules}
+use Rattle.octets.proofs.blocks.place_32.Goals as goal
+
+pub returns : goal.returns
+returns c = search (rules, placed-blocks)

@@ -1,0 +1,7 @@
+-- `octets::blocks::place_to_16` meets its contract.
+use Rattle.octets.proofs.Copies.{placed-ends}
+use borrow.Author.Rules.{rules}
+use Rattle.octets.proofs.blocks.place_to_16.Goals as goal
+
+pub returns : goal.returns
+returns c = search (rules, placed-ends)
