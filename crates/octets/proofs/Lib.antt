@@ -8,7 +8,6 @@ pub mod Copies
 pub mod Answering
 pub mod NetworkOrder
 pub mod LowFirst
-pub mod Bytes
 pub mod AllOctets
 pub mod Orders
 pub mod Zeros

@@ -7,7 +7,7 @@ use native.Mathlib.Omega.{arith}
 use lib.ListN.{length, take, drop, get_or, length-append, length-drop}
 use lib.Seq.{take-suc, get_or-drop}
 use Rattle.octets.proofs.AllOctets.{octets-part, octets-append, number_fits}
-use Rattle.octets.proofs.Lists.{length_part}
+use Rattle.octets.proofs.Lists.{length_part, part_then}
 use Rattle.octets.specs.Octets.{AllOctets, none, one, part, number_in, big_endian}
 
 pub length-big_endian : (n x : ℕ) → length (big_endian n x) ≡ n
@@ -56,6 +56,17 @@ pub number-high : (xs : List ℕ) (high : ℕ) → number_in xs high ≡ high * 
 unfolding number_in
 number-high [] high = omega arith
 number-high (x ∷ xs) high = rw (number-high xs (high * 256 + x), number-high xs (0 * 256 + x), pow-suc 256 (length xs)) (omega arith)
+
+number_append : (xs ys : List ℕ) (high : ℕ) → number_in (xs ++ ys) high ≡ number_in ys (number_in xs high)
+unfolding number_in
+number_append [] ys high = refl
+number_append (x ∷ xs) ys high = number_append xs ys (high * 256 + x)
+
+-- the number in a part, and in the part straight after it
+pub number-then : (s : List ℕ) (at m n : ℕ) → at + m + n ≤ length s → number_in (part s at m) 0 * 256 ^ n + number_in (part s (at + m) n) 0 ≡ number_in (part s at (m + n)) 0
+number-then s at m n h =
+    let l : length (part s (at + m) n) ≡ n = length_part s (at + m) n h in
+    sym (rw (part_then s at m n, number_append (part s at m) (part s (at + m) n) 0, number-high (part s (at + m) n) (number_in (part s at m) 0), l))
 
 -- the number in two octets
 pub number-two : (s : List ℕ) (at : ℕ) → at + 2 ≤ length s → get_or s at 0 * 256 + get_or s (at + 1) 0 ≡ number_in (part s at 2) 0

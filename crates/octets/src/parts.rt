@@ -20,14 +20,6 @@ pub fn between(s: &[u8], start: usize, size: usize) -> &[u8]
     &s[start..start + size]
 }
 
-// The same, where the number of them is known beforehand.
-pub fn block<const SIZE: usize>(s: &[u8], start: usize) -> [u8; SIZE]
-    requires { start + SIZE ≤ length s.now }
-    ensures { result ≡ part s.now start SIZE }
-{
-    <[u8; SIZE]>::try_from(between(s, start, SIZE)).unwrap()
-}
-
 // Puts all of `octets` into `output` from `at` on, and answers the place just past them.
 pub fn place(octets: &[u8], output: &mut [u8], at: usize) -> usize
     requires { at + length octets.now ≤ length output.old }

@@ -1,12 +1,8 @@
 // Numbers of several octets: in network order, and the least significant octet first, as the machine has them, to tell octets apart
 // by one load and one test.
-#![tactic(auto, using(crate::proofs::Bytes::bytes))]
-
 ghost use Rattle.std.specs.Prelude.{◌≡◌, ◌+◌, ◌^◌, ◌<◌, ◌≤◌, length};
 ghost use Rattle.octets.specs.Octets.{part, number_in, low_first, big_endian};
 ghost use Rattle.octets.specs.Outputs.{Put};
-
-use crate::parts::{block, place};
 
 // The number in two octets from `at` on.
 pub fn two(s: &[u8], at: usize) -> u32
@@ -14,7 +10,7 @@ pub fn two(s: &[u8], at: usize) -> u32
     ensures value { result ≡ number_in (part s.now at 2) 0 }
     ensures upper_bound { result < 2 ^ 16 }
 {
-    u16::from_be_bytes(block(s, at)) as u32
+    s[at] as u32 * 256 + s[at + 1] as u32
 }
 
 // The number in three octets from `at` on.
@@ -31,7 +27,7 @@ pub fn four(s: &[u8], at: usize) -> u32
     requires { at + 4 ≤ length s.now }
     ensures { result ≡ number_in (part s.now at 4) 0 }
 {
-    u32::from_be_bytes(block(s, at))
+    three(s, at) * 256 + s[at + 3] as u32
 }
 
 // The number in eight octets from `at` on.
@@ -39,7 +35,7 @@ pub fn eight(s: &[u8], at: usize) -> u64
     requires { at + 8 ≤ length s.now }
     ensures { result ≡ number_in (part s.now at 8) 0 }
 {
-    u64::from_be_bytes(block(s, at))
+    four(s, at) as u64 * 4294967296 + four(s, at + 4) as u64
 }
 
 // The number in two octets from `at` on, the least significant first.
@@ -47,7 +43,7 @@ pub fn two_low_first(s: &[u8], at: usize) -> u32
     requires { at + 2 ≤ length s.now }
     ensures { (result ≡ low_first (part s.now at 2)) × (result < 2 ^ 16) }
 {
-    u16::from_le_bytes(block(s, at)) as u32
+    s[at] as u32 + s[at + 1] as u32 * 256
 }
 
 // The number in four octets from `at` on, the least significant first.
@@ -55,7 +51,7 @@ pub fn four_low_first(s: &[u8], at: usize) -> u32
     requires { at + 4 ≤ length s.now }
     ensures { result ≡ low_first (part s.now at 4) }
 {
-    u32::from_le_bytes(block(s, at))
+    two_low_first(s, at) + two_low_first(s, at + 2) * 65536
 }
 
 // The number in eight octets from `at` on, the least significant first: one load.
@@ -63,7 +59,7 @@ pub fn eight_low_first(s: &[u8], at: usize) -> u64
     requires { at + 8 ≤ length s.now }
     ensures { result ≡ low_first (part s.now at 8) }
 {
-    u64::from_le_bytes(block(s, at))
+    four_low_first(s, at) as u64 + four_low_first(s, at + 4) as u64 * 4294967296
 }
 
 // Puts the last three octets of a number into `output` from `at` on, and answers the place just past them.
@@ -71,7 +67,12 @@ pub fn place_three(x: u32, output: &mut [u8], at: usize) -> usize
     requires { at + 3 ≤ length output.old }
     ensures { Put at (big_endian 3 x) output.old result output.new }
 {
-    place(&x.to_be_bytes()[1..], output, at)
+    let octets = [
+        (x / 256 / 256 % 256) as u8,
+        (x / 256 % 256) as u8,
+        (x % 256) as u8,
+    ];
+    crate::parts::place(&octets, output, at)
 }
 
 // Puts the four octets of a number into `output` from `at` on, and answers the place just past them.
@@ -79,5 +80,7 @@ pub fn place_four(x: u32, output: &mut [u8], at: usize) -> usize
     requires { at + 4 ≤ length output.old }
     ensures { Put at (big_endian 4 x) output.old result output.new }
 {
-    place(&x.to_be_bytes(), output, at)
+    let next = place_three(x / 256, output, at);
+    let octets = [(x % 256) as u8];
+    crate::parts::place(&octets, output, next)
 }

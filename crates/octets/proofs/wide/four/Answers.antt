@@ -1,0 +1,18 @@
+-- `octets::wide::four` meets its contract: the number in three octets, and one octet more.
+use Prim.Native.Nat.{◌+◌}
+use mathlib.Core.Path.{sym}
+use native.Mathlib.Omega.{arith}
+use Rattle.octets.proofs.NetworkOrder.{number-part}
+use borrow.Author.Rules.{rules}
+use Rattle.octets.proofs.wide.four.Goals as goal
+
+pub overflow_cast-result : goal.overflow_cast-result
+overflow_cast-result c = omega (arith, c.shared_slice_known-2-1.given (c.args.at + 3))
+
+pub overflow_add-result-2 : goal.overflow_add-result-2
+overflow_add-result-2 c = omega (arith, c.shared_slice_known-2-1.given (c.args.at + 3))
+
+pub returns : goal.returns
+returns c =
+    let a = c.args in
+    rw c.three.ensures.value (sym (number-part a.s.now a.at 3 (search rules)))
