@@ -38,8 +38,10 @@ fn check_fec(kind: AddressKind, route_type: usize, at: usize, s: &[u8]) -> Resul
         return Err(Refusal::Length);
     }
     let rest = octets::parts::after(s, at);
-    fec_elements::check(Standing::InBody(kind.root_family()), rest)?;
-    check_fec_end(route_type, rest.len() - shape::fec_size(rest))
+    match fec_elements::check(Standing::InBody(kind.root_family()), rest) {
+        Ok(()) => check_fec_end(route_type, rest.len() - shape::fec_size(rest)),
+        Err(refusal) => Err(refusal),
+    }
 }
 
 // A body with a FEC, behind a route distinguisher and, in 0x47, a source AS.
