@@ -6,11 +6,11 @@ use mathlib.Core.Path.{refl, ◌∙◌, sym, ap}
 use Rattle.mvpn.proofs.mvpn_attribute_read.Goals as goal
 
 pub returns-in-Ok : goal.returns-in-Ok
-unfolding outcome_of attribute_answer
+unfolding attribute_answer
 returns-in-Ok c =
     c.read-in-Ok.ensures ∙ on-given _ _ _ _ _ (sym c.read.ensures ∙ ap outcome_of c.in-Ok.is) refl
 
 pub returns-in-Err : goal.returns-in-Err
-unfolding outcome_of attribute_answer
+unfolding attribute_answer
 returns-in-Err c =
     (rw c.number.ensures at c.refused.ensures) ∙ on-refused _ _ _ _ _ (sym c.read.ensures ∙ ap outcome_of c.in-Err.is) refl
